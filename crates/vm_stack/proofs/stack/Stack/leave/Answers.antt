@@ -1,0 +1,5 @@
+use Rattle.vm_stack.proofs.ChainLemmas.{left_keeps}
+use Rattle.vm_stack.proofs.stack.Stack.leave.Goals as goal
+
+pub returns-clause-kept : goal.returns-clause-kept
+returns-clause-kept c = λ chain. rw (c.shorten.ensures, c.frame-start.ensures) (left_keeps c.args.self.now chain)
