@@ -1,6 +1,7 @@
 -- What the calls of a stack do to its chain.
 use Rattle.std.proofs.Common.{◌≡◌, ℕ, zero, suc, false, ◌+◌, ◌-◌, ◌*◌, ◌≤◌, ◌<◌, List, [], ◌∷◌, ◌++◌, length, take, drop, refl, arith, sym, ap, ◌∙◌, append_assoc, length-append, length-drop, replicate, subst, true, nat_le, inl, inr}
 use Rattle.std.proofs.lemmas.List.{length-replicate, length-take-le, append-nil, drop-append-le, take-append-drop, take-append-le}
+use Rattle.std.proofs.lemmas.Bool.{cases_Bool, leb-true}
 use Rattle.std.proofs.lemmas.Bool.Decides.{nat_tests}
 use Rattle.std.proofs.Math.Seq.{take-append-add, drop-append-add, take-append_seam}
 use Rattle.byteorder.specs.Endian.{big_bytes}
@@ -46,12 +47,31 @@ without_keeps s n le c has =
     (ap (λ (b : List ℕ). take (length b - 4 * n) b) t.bytes ∙ shorter t.before t.values (4 * n) fits)
     (t.again (take (length t.values - 4 * n) t.values) (t.count - n) (omega (arith, short, v, fits)))
 
+-- without values a frame is still there
+pub without_there : (s : StackState) (n : ℕ) → n ≤ value_bytes s → Chain s → HasFrame s → HasFrame (without s n)
+without_there s n le c has =
+    let t = top s c has in
+    let held = t.held in
+    let some = t.some in
+    let l = ap length t.bytes in
+    let a = length-append t.before t.values in
+    let short = length-take-le (length s.bytes - n) s.bytes (omega arith) in
+    omega (arith, le, held, some, l, a, short)
+
 length_rotated : (xs : List ℕ) (k : ℕ) → length (rotated xs k) ≡ length xs
 length_rotated xs k =
     let a = length-append (drop (length xs - k) xs) (take (length xs - k) xs) in
     let d = length-drop (length xs - k) xs in
     let t = length-take-le (length xs - k) xs (omega arith) in
     omega (arith, a, d, t)
+
+pub length_rolled : (xs : List ℕ) (n k : ℕ) → length (take (length xs - n) xs ++ rotated (drop (length xs - n) xs) k) ≡ length xs
+length_rolled xs n k =
+    let a = length-append (take (length xs - n) xs) (rotated (drop (length xs - n) xs) k) in
+    let short = length-take-le (length xs - n) xs (omega arith) in
+    let turned = length_rotated (drop (length xs - n) xs) k in
+    let d = length-drop (length xs - n) xs in
+    omega (arith, a, short, turned, d)
 
 pub rolled_keeps : (s : StackState) (n k : ℕ) → 4 * n ≤ value_bytes s → Chain s → HasFrame s
     → Chain (record s { bytes = take (length s.bytes - 4 * n) s.bytes ++ rotated (drop (length s.bytes - 4 * n) s.bytes) k })
@@ -107,6 +127,24 @@ left_in s (fr ∷ below) c bytes frame = record {
 pub left_keeps : (s : StackState) → Chain s → Chain (left s)
 left_keeps s c = left_in s c.frames c.linked c.bytes c.frame
 
+-- on a stub for the current frame, or on nothing, a new frame may be entered
+ready_from : (s : StackState) (frames : List Frame) → IsChain frames → IsBelow frames → s.bytes ≡ spelled frames → s.frame ≡ start frames → IsReady s
+ready_from s [] c is bytes frame = inl bytes
+ready_from s (fr ∷ below) c is bytes frame =
+    let held = held_in s fr below c.0 bytes frame in
+    let four = is.four in
+    inr (
+      omega (arith, held, four),
+      ap (λ (xs : List ℕ). number 4 xs (length xs - 4)) bytes ∙ (named_below (fr ∷ below) is c ∙ sym frame))
+
+left_ready_in : (s : StackState) (frames : List Frame) → IsChain frames → s.bytes ≡ spelled frames → s.frame ≡ start frames → IsReady (left s)
+left_ready_in s [] c bytes frame = inl (rw (bytes, frame) refl)
+left_ready_in s (fr ∷ below) c bytes frame =
+    ready_from (left s) below c.1.1 c.1.0 (left_bytes s fr below bytes frame) (left_frame s fr below c.1.0 c.1.1 bytes frame)
+
+pub left_ready : (s : StackState) → Chain s → IsReady (left s)
+left_ready s c = left_ready_in s c.frames c.linked c.bytes c.frame
+
 -- a stub for the current frame is taken
 pub taken_keeps : (s : StackState) (frame : ℕ) → 16 ≤ value_bytes s → frame ≡ s.frame → Chain s → HasFrame s → Chain (record (without s 16) { frame = frame })
 taken_keeps s frame le e c has =
@@ -136,6 +174,12 @@ length_put l new o h =
     let t = length-take-le o l (omega (arith, h)) in
     let d = length-drop (o + length new) l in
     omega (arith, a, b, t, d, h)
+
+pub length_replaced : (bytes : List ℕ) (at : ℕ) (new : List ℕ) → length (replaced bytes at new) ≡ length bytes
+length_replaced bytes at new =
+    elim (cases_Bool (nat_le (at + length new) (length bytes))) [
+      inl e ↦ rw e (length_put bytes new at (leb-true _ _ e))
+    | inr e ↦ rw e refl ]
 
 set_in : (s : StackState) (frames : List Frame) (offset : ℕ) (new : List ℕ) → IsChain frames → s.bytes ≡ spelled frames → s.frame ≡ start frames → HasFrame s
     → offset + length new ≤ frame_len s - locals_pos s → Chain (record s { bytes = replaced s.bytes (local_at s offset) new })

@@ -63,6 +63,7 @@ pub record Top (s : StackState) : Type 0 where
   pub before : List ℕ
   pub values : List ℕ
   pub count : ℕ
+  pub some : 0 < length before
   pub fours : ℕ
   pub aligns : length before ≡ 4 * fours
   pub bytes : s.bytes ≡ before ++ values
@@ -118,6 +119,10 @@ top_of s fr below h is chain bytes frame = record {
   before = before fr below;
   values = fr.values;
   count = fr.count;
+  some =
+    let b = length_before fr below h in
+    let u = aligned_up (8 + length fr.format) in
+    omega (arith, b, u);
   fours = (fours_below below chain).0 + fours_of fr.format;
   aligns =
       let low = (fours_below below chain).1 in

@@ -59,6 +59,8 @@ impl Stack {
         ensures ok { self.new ≡ frames.left self.old }
 
         ensures kept { Chain self.old → Chain self.new }
+        // a frame stands on a stub for the one below it, so another may be entered in its place
+        ensures ready { Chain self.old → IsReady self.new }
     {
         let start = self.frame();
         self.shorten(start as usize);
@@ -73,6 +75,7 @@ impl Stack {
         ensures kept { Chain self.old → tokens.ends_stub self.old to ≡ true
             → OnOk result (Chain self.new) }
         ensures own { OnOk result (EndsInOwnStub self.new) }
+        ensures there { tokens.ends_stub self.old to ≡ true → OnOk result (HasFrame self.new) }
     {
         if to > self.length() || to % 4 != 0 {
             return Err(StackFault::Underflow);

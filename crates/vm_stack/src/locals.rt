@@ -1,5 +1,5 @@
 // The locals of the current frame.
-ghost use Rattle.std.specs.Prelude.{◌≡◌, ◌<◌, ◌+◌, ◌-◌, OnErr, OnOk};
+ghost use Rattle.std.specs.Prelude.{◌≡◌, ◌<◌, ◌+◌, ◌-◌, length, OnErr, OnOk};
 ghost use Rattle.byteorder.specs.Endian.{big_bytes};
 ghost use Rattle.vm_stack.specs.Answer.{Leaves};
 ghost use Rattle.vm_stack.specs.StackState as state;
@@ -31,6 +31,7 @@ impl Stack {
         ensures err { OnErr result (self.new ≡ self.old) }
 
         ensures kept { Chain self.old → OnOk result (Chain self.new) }
+        ensures size { OnOk result (length self.new.bytes ≡ length self.old.bytes) }
     {
         if self.locals_len() < offset as usize + width as usize {
             return Err(StackFault::BadLocal);

@@ -72,8 +72,8 @@ impl Stack {
         self.buf.len()
     }
 
-    // Where the current frame begins.
-    pub(crate) fn frame(&self) -> u32
+    /// Where the current frame begins (the Glulx FramePtr), 0 where there is none.
+    pub fn frame(&self) -> u32
         ensures { result ≡ self.now.frame }
     {
         self.frame

@@ -56,6 +56,7 @@ impl Stack {
         ensures err { OnErr result (self.new ≡ self.old) }
 
         ensures kept { Chain self.old → EndsInOwnStub self.old → OnOk result (Chain self.new) }
+        ensures there { Chain self.old → OnOk result (HasFrame self.new) }
     {
         if self.value_bytes() < 16 {
             return Err(StackFault::Underflow);

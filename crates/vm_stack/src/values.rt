@@ -31,6 +31,7 @@ impl Stack {
         ensures err { OnErr result (self.new ≡ self.old) }
 
         ensures kept { Chain self.old → OnOk result (Chain self.new) }
+        ensures there { Chain self.old → OnOk result (HasFrame self.new) }
     {
         if self.value_bytes() < 4 {
             return Err(StackFault::Underflow);
@@ -68,6 +69,7 @@ impl Stack {
         ensures err { OnErr result (self.new ≡ self.old) }
 
         ensures kept { Chain self.old → OnOk result (Chain self.new) }
+        ensures size { OnOk result (length self.new.bytes ≡ length self.old.bytes) }
     {
         let needed = 4 * count as usize;
         if self.value_bytes() < needed {
