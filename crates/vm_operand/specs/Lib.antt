@@ -1,0 +1,5 @@
+pub mod Opcode
+pub mod Reading
+pub mod Mode
+pub mod Instruction
+pub mod Fault
