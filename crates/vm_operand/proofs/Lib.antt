@@ -1,2 +1,3 @@
 pub mod OpcodeLemmas
 pub mod InstructionLemmas
+mod StandardFacts

@@ -2,4 +2,6 @@ pub mod Opcode
 pub mod Reading
 pub mod Mode
 pub mod Instruction
+pub mod Arithmetic
+pub mod Branch
 pub mod Fault

@@ -1,4 +1,4 @@
-use Rattle.std.proofs.Common.{rules, arith, ◌≡◌, ◌∙◌, sym, ap, ◌+◌, ◌++◌, [], ◌∷◌, Ok, Err, take, drop, length}
+use Rattle.std.proofs.Common.{rules, arith, ◌∙◌, sym}
 use Rattle.vm_operand.proofs.InstructionLemmas.{modes_at-no_byte, modes_at-no_low, modes_at-no_high, modes_at-two, modes_at-last, modes_at-none, stops, handed_on, take-two, sofar_two, whole_last, whole_none}
 use Rattle.vm_operand.proofs.instruction.modes_at.Goals as goal
 

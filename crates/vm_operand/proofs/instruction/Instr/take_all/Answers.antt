@@ -1,5 +1,4 @@
-use Rattle.std.proofs.Common.{arith, ◌∙◌, ◌≡◌, ◌+◌, [], ◌∷◌, drop}
-use Rattle.std.proofs.Math.ListN.{get_or}
+use Rattle.std.proofs.Common.{arith, ◌∙◌}
 use Rattle.vm_operand.proofs.InstructionLemmas.{operands-one, operands-fault, operands-none, loads_in-drop, stores_in-drop, handed_on}
 use Rattle.vm_operand.proofs.instruction.Instr.take_all.Goals as goal
 
