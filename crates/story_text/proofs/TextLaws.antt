@@ -139,12 +139,12 @@ bytes_only (b ∷ c ∷ []) e =
 bytes_only (b ∷ c ∷ d ∷ rest) e =
     elim (chosen (b == 37) (is_spelled 2 (c ∷ d ∷ rest)) (is_visible b && is_spelled 0 (c ∷ d ∷ rest)) e) [
       | inl h ↦
-        let high = both (is_hex c) (is_spelled 1 (d ∷ rest)) h.1 in
-        let low = both (is_hex d) (is_spelled 0 rest) high.1 in
-        escape_step b c d rest (is_mark b h.0) high.0 low.0 (bytes_only rest low.1)
+          let high = both (is_hex c) (is_spelled 1 (d ∷ rest)) h.1 in
+          let low = both (is_hex d) (is_spelled 0 rest) high.1 in
+          escape_step b c d rest (is_mark b h.0) high.0 low.0 (bytes_only rest low.1)
       | inr h ↦
-        let parts = both (is_visible b) (is_spelled 0 (c ∷ d ∷ rest)) h.1 in
-        plain_step b (c ∷ d ∷ rest) h.0 parts.0 (bytes_only (c ∷ d ∷ rest) parts.1)
+          let parts = both (is_visible b) (is_spelled 0 (c ∷ d ∷ rest)) h.1 in
+          plain_step b (c ∷ d ∷ rest) h.0 parts.0 (bytes_only (c ∷ d ∷ rest) parts.1)
     ]
 
 -- what a word that is read tells
@@ -172,7 +172,7 @@ read_parts (mark ∷ body) text e =
       spelled = marks.1;
       utf8 = tests.0;
       text_is = same;
-      short = subst (λ cs. is_short cs ≡ true) same tests.1
+      short = subst (λ cs. is_short cs ≡ true) same tests.1;
     }
 
 pub spells_only : (word text : List ℕ) → text_of word ≡ Some text → Spells word text

@@ -34,18 +34,20 @@ fn words_are_read_or_refused(rt: HostRuntime) {
 
 #[test]
 fn a_text_has_at_most_1024_characters(rt: HostRuntime) {
-    let mut word = vec![in rt.alloc(); b'a'; 1025].unwrap();
+    let mut word = vec![in rt.alloc(); b'a'; 1025].expect(&rt, "memory");
     word[0] = b'=';
     assert!(rt; read_escaped(rt.alloc(), &word).is_ok());
-    word.push(b'a').unwrap();
+    word.push(b'a').expect(&rt, "memory");
     assert!(rt; matches!(read_escaped(rt.alloc(), &word), Err(TextFault::BadText)));
 }
 
 #[test]
 fn a_copy_has_the_same_characters(rt: HostRuntime) {
-    let text = read_escaped(rt.alloc(), b"=%C3%A9").unwrap();
-    let copy = text.copy_of(rt.alloc()).unwrap();
+    let text = read_escaped(rt.alloc(), b"=%C3%A9").expect(&rt, "memory");
+    let copy = text.copy_of(rt.alloc()).expect(&rt, "memory");
     assert!(rt; copy.as_str() == "é");
-    let bytes = Bytes::of(to_utf8(rt.alloc(), &copy).unwrap());
-    assert!(rt; bytes.copy_of(rt.alloc()).unwrap().as_slice() == [0xC3, 0xA9]);
+    let bytes = Bytes::of(to_utf8(rt.alloc(), &copy).expect(&rt, "memory"));
+    assert!(rt;
+        bytes.copy_of(rt.alloc()).expect(&rt, "memory").as_slice() == [0xC3, 0xA9].as_slice()
+    );
 }
