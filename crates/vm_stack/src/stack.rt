@@ -82,7 +82,7 @@ impl Stack {
     // Whether so many bytes are free.
     pub(crate) fn has_room(&self, count: u64) -> bool
         ensures value { result ≡ nat_le (length self.now.bytes + count) self.now.limit }
-        ensures within { result ≡ true → count ≤ MAX_STACK }
+        ensures within { result ≡ true → length self.now.bytes + count ≤ MAX_STACK }
         ensures limit { length self.now.bytes ≤ MAX_STACK }
     {
         count <= (self.buf.len() - self.len) as u64

@@ -6,7 +6,7 @@ ghost use Rattle.vm_stack.specs.Chain.{Chain, HasFrame};
 
 use crate::bytes::number;
 use crate::fault::StackFault;
-use crate::stack::Stack;
+use crate::stack::{MAX_STACK, Stack};
 
 impl Stack {
     /// Pushes a value of four bytes. Overflow where fewer than four bytes are free.
@@ -17,6 +17,7 @@ impl Stack {
         ensures kept { Chain self.old → HasFrame self.old → OnOk result (Chain self.new) }
         ensures there { OnOk result (HasFrame self.new) }
         ensures size { OnOk result (length self.new.bytes ≡ length self.old.bytes + 4) }
+        ensures within { OnOk result (length self.new.bytes ≤ MAX_STACK) }
     {
         if !self.has_room(4) {
             return Err(StackFault::Overflow);
