@@ -16,7 +16,7 @@ signed x = cast_signed w32 x
 abbrev pub unsigned : ℤ → ℕ
 unsigned z = cast_unsigned w32 z
 
--- a result of the division of these two, unless it is by zero, or of -2^31 by -1
+-- the quotient or remainder z of these two, unless the division is by zero, or of -2^31 by -1
 abbrev pub divided : ℕ → ℕ → ℤ → Result ℕ OpFault
 divided left right z =
     if right == 0 then Err DivideByZero
@@ -27,8 +27,12 @@ divided left right z =
 abbrev pub shifted : ℕ → ℕ → ℕ → ℕ
 shifted by x beyond = if nat_lt by 32 then x else beyond
 
--- what an opcode of arithmetic gives; neg and bitnot take the first value alone, a division truncates
--- to zero, and its remainder has the sign of the dividend
+-- the sign in each of 32 bits
+abbrev pub sign_bits : ℕ → ℕ
+sign_bits x = if nat_lt x (2 ^ 31) then 0 else 2 ^ 32 - 1
+
+-- what an opcode of arithmetic gives; neg and bitnot take the first value alone, a quotient is
+-- truncated to zero, and a remainder has the sign of the dividend
 unfoldable pub applied : Math → ℕ → ℕ → Result ℕ OpFault
 applied Add left right = Ok ((left + right) % 2 ^ 32)
 applied Sub left right = Ok ((left + (2 ^ 32 - right)) % 2 ^ 32)
@@ -42,7 +46,7 @@ applied Bitxor left right = Ok (bit_xor left right)
 applied Bitnot left right = Ok (2 ^ 32 - 1 - left)
 applied Shiftl left right = Ok (shifted right ((left * 2 ^ right) % 2 ^ 32) 0)
 applied Sshiftr left right =
-    Ok (shifted right (unsigned (int_shr (signed left) right)) (if nat_lt left (2 ^ 31) then 0 else 2 ^ 32 - 1))
+    Ok (shifted right (unsigned (int_shr (signed left) right)) (sign_bits left))
 applied Ushiftr left right = Ok (shifted right (left / 2 ^ right) 0)
 
 -- the arithmetic among opcodes

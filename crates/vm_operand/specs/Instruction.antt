@@ -20,17 +20,19 @@ use Rattle.vm_operand.specs.declared.instruction.Instr.{Instr}
 use Rattle.vm_operand.specs.declared.mode.Width.{Width}
 use Rattle.vm_operand.specs.declared.mode.Width.TheVariants.{One, Two, Four}
 
--- the opcode's number, and the place after it: the first byte tells whether it has 1, 2 or 4 bytes
+-- the opcode's number and the place after it: a first byte from 0x80 on has one more byte, from 0xC0
+-- on three more
 unfoldable pub number_at : MemoryMap → ℕ → Result (ℕ × ℕ) OpFault
 number_at m at = do
   first ← reads (read 1 m at)
   if nat_lt first 0x80 then Ok (first, at + 1)
-      else (if nat_lt first 0xC0
-      then reads (read 1 m (at + 1))
-      >>= (λ last. Ok ((first - 0x80) * 2 ^ 8 + last, at + 2))
-      else reads (read 1 m (at + 1))
-      >>= (λ second. reads (read 2 m (at + 2))
-      >>= (λ last. Ok ((first - 0xC0) * 2 ^ 24 + second * 2 ^ 16 + last, at + 4))))
+      else (if nat_lt first 0xC0 then (do
+        last ← reads (read 1 m (at + 1))
+        Ok ((first - 0x80) * 2 ^ 8 + last, at + 2))
+      else (do
+        second ← reads (read 1 m (at + 1))
+        last ← reads (read 2 m (at + 2))
+        Ok ((first - 0xC0) * 2 ^ 24 + second * 2 ^ 16 + last, at + 4)))
 
 -- the opcode of a number, or what is wrong with it
 abbrev pub known : ℕ → Option Op → Result Op OpFault
@@ -93,13 +95,19 @@ dest_at m (Ram w) at = do
 -- an instruction with one more load, or store
 abbrev pub with_load : Instr → l.Load × ℕ → Instr
 with_load i x = record i {
-  loads = record { count = i.loads.count + 1; items = slice_set i.loads.items i.loads.count x.0 };
+  loads = record {
+    count = i.loads.count + 1;
+    items = slice_set i.loads.items i.loads.count x.0;
+  };
   next = x.1;
 }
 
 abbrev pub with_store : Instr → d.Dest × ℕ → Instr
 with_store i x = record i {
-  stores = record { count = i.stores.count + 1; items = slice_set i.stores.items i.stores.count x.0 };
+  stores = record {
+    count = i.stores.count + 1;
+    items = slice_set i.stores.items i.stores.count x.0;
+  };
   next = x.1;
 }
 

@@ -51,6 +51,7 @@ allows Store Stack = true
 allows Store (Local w) = true
 allows Store (Ram w) = true
 
+-- a mode where the operand may have it
 abbrev pub allowed : Kind → ℕ → Option Mode → Result Mode OpFault
 allowed kind n None = Err (BadMode n)
 allowed kind n (Some mode) = if allows kind mode then Ok mode else Err (BadMode n)

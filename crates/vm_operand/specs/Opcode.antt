@@ -30,6 +30,7 @@ pub record Row : Type 0 where
   pub number : ℕ
   pub kinds : List Kind
 
+-- a row of these
 abbrev row : ℕ → List Kind → Row
 row n ks = record { number = n; kinds = ks }
 
@@ -152,6 +153,7 @@ search_row Mcopy = row 0x171 (L ∷ L ∷ L ∷ [])
 search_row Malloc = row 0x178 (L ∷ S ∷ [])
 search_row Mfree = row 0x179 (L ∷ [])
 
+-- an opcode's row
 abbrev pub row_of : Op → Row
 row_of (op.Math o) = math_row o
 row_of (op.Branch o) = branch_row o
@@ -203,12 +205,13 @@ first_with number (x ∷ xs) n = cond (n == number x) (Some x) (first_with numbe
 unfoldable pub op_of : ℕ → Option Op
 op_of n = first_with number_of opcodes n
 
--- how many are loads, and how many stores
+-- how many are loads
 abbrev pub loads_in : List Kind → ℕ
 loads_in [] = 0
 loads_in (L ∷ kinds) = 1 + loads_in kinds
 loads_in (S ∷ kinds) = loads_in kinds
 
+-- how many are stores
 abbrev pub stores_in : List Kind → ℕ
 stores_in [] = 0
 stores_in (L ∷ kinds) = stores_in kinds

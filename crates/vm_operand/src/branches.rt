@@ -36,7 +36,8 @@ impl Branch {
 /// (Glulx 3.1.3, "Branches").
 pub fn holds(op: u32, left: u32, right: u32) -> bool
     requires { IsSome (branch_of (op_of op)) }
-    ensures value { IfSome (branch_of (op_of op)) (λ branch. result ≡ spec.holds branch left right) }
+    ensures value { IfSome (branch_of (op_of op)) (λ branch.
+        result ≡ spec.holds branch left right) }
 {
     match Op::of(op) {
         Some(Op::Branch(branch)) => branch.holds(left, right),

@@ -56,7 +56,8 @@ fn known(number: u32) -> Result<Op, OpFault>
 fn modes_at(memory: &Memory<'_>, at: u32, kinds: &[Kind]) -> Result<[Mode; 8], OpFault>
     requires few { length kinds.now ≤ 8 }
     requires limit { at ≤ 16777216 }
-    ensures ok { IfOk result (λ modes. spec.modes_at memory.now at kinds.now ≡ Ok (take (length kinds.now) modes)) }
+    ensures ok { IfOk result (λ modes.
+        spec.modes_at memory.now at kinds.now ≡ Ok (take (length kinds.now) modes)) }
     ensures exact { IfErr result (λ fault. spec.modes_at memory.now at kinds.now ≡ Err fault) }
 {
     let mut modes = [Mode::Zero; 8];
@@ -153,10 +154,14 @@ impl Instr {
     fn take(&mut self, memory: &Memory<'_>, kind: Kind, mode: Mode) -> Result<(), OpFault>
         requires loads { self.old.loads.count + loads_in (kind ∷ []) ≤ 8 }
         requires stores { self.old.stores.count + stores_in (kind ∷ []) ≤ 2 }
-        ensures ok { IfOk result (λ done. spec.operand memory.now kind mode self.old ≡ Ok self.new) }
-        ensures exact { IfErr result (λ fault. spec.operand memory.now kind mode self.old ≡ Err fault) }
-        ensures loads { IfOk result (λ done. self.new.loads.count ≡ self.old.loads.count + loads_in (kind ∷ [])) }
-        ensures stores { IfOk result (λ done. self.new.stores.count ≡ self.old.stores.count + stores_in (kind ∷ [])) }
+        ensures ok { IfOk result (λ done.
+            spec.operand memory.now kind mode self.old ≡ Ok self.new) }
+        ensures exact { IfErr result (λ fault.
+            spec.operand memory.now kind mode self.old ≡ Err fault) }
+        ensures loads { IfOk result (λ done.
+            self.new.loads.count ≡ self.old.loads.count + loads_in (kind ∷ [])) }
+        ensures stores { IfOk result (λ done.
+            self.new.stores.count ≡ self.old.stores.count + stores_in (kind ∷ [])) }
     {
         match kind {
             Kind::Load => {
@@ -185,8 +190,10 @@ impl Instr {
         requires loads { self.old.loads.count + loads_in kinds.now ≤ 8 }
         requires stores { self.old.stores.count + stores_in kinds.now ≤ 2 }
         requires same { length kinds.now ≡ length modes.now }
-        ensures ok { IfOk result (λ done. spec.operands memory.now kinds.now modes.now self.old ≡ Ok self.new) }
-        ensures exact { IfErr result (λ fault. spec.operands memory.now kinds.now modes.now self.old ≡ Err fault) }
+        ensures ok { IfOk result (λ done.
+            spec.operands memory.now kinds.now modes.now self.old ≡ Ok self.new) }
+        ensures exact { IfErr result (λ fault.
+            spec.operands memory.now kinds.now modes.now self.old ≡ Err fault) }
     {
         for index in 0..kinds.len() {
             self.take(memory, kinds[index], modes[index])?;
