@@ -31,7 +31,7 @@ pub whole_pages : (rom : List ℕ) (endmem : ℕ) → length rom ≤ endmem → 
 whole_pages rom endmem inside pages =
     let zeros : length (replicate {A = ℕ} (endmem - length rom) 0) ≡ endmem - length rom = length-replicate {A = ℕ} (endmem - length rom) 0 in
     let whole : length (original rom endmem) ≡ endmem =
-        length-append rom (replicate (endmem - length rom) 0) ∙ omega (arith, zeros, inside) in
+    length-append rom (replicate (endmem - length rom) 0) ∙ omega (arith, zeros, inside) in
     subst (λ (n : ℕ). n % 256 ≡ 0) (sym whole) pages
 
 pub image_pages : (file : List ℕ) → IsLaidOut file → length (original (take (extstart file) file) (endmem file)) % 256 ≡ 0

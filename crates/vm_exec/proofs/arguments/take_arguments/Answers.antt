@@ -19,13 +19,13 @@ returns-in-Err-clause-does c =
 pub loop-preserved : goal.loop-preserved
 loop-preserved c = record {
   same =
-    c.loop.invariant.same
-    ∙ arguments-more c.loop.stack c.pop.new.self c.in-Ok.value (c.args.count - c.loop.counter) (c.args.count - (c.loop.counter + 1)) c.loop.args.items
-    (one_less c.args.count c.loop.counter c.loop-test.true) c.in-Ok.ensures.ok
-    ∙ ap (λ (ys : List ℕ). with_front ys (table.arguments c.pop.new.self (c.args.count - (c.loop.counter + 1)))) (sym c.in_ok-keep.ensures.items);
+      c.loop.invariant.same
+      ∙ arguments-more c.loop.stack c.pop.new.self c.in-Ok.value (c.args.count - c.loop.counter) (c.args.count - (c.loop.counter + 1)) c.loop.args.items
+      (one_less c.args.count c.loop.counter c.loop-test.true) c.in-Ok.ensures.ok
+      ∙ ap (λ (ys : List ℕ). with_front ys (table.arguments c.pop.new.self (c.args.count - (c.loop.counter + 1)))) (sym c.in_ok-keep.ensures.items);
   kept = λ chain there.
-    let old = c.loop.invariant.kept chain there in
-    (c.in-Ok.ensures.kept old.0, c.in-Ok.ensures.there old.0);
+      let old = c.loop.invariant.kept chain there in
+      (c.in-Ok.ensures.kept old.0, c.in-Ok.ensures.there old.0);
 }
 
 pub returns-clause-does : goal.returns-clause-does

@@ -19,12 +19,12 @@ returns-in-Err-clause-does c =
 pub loop-preserved : goal.loop-preserved
 loop-preserved c = record {
   same =
-    c.loop.invariant.same
-    ∙ copied_up-more c.loop.stack c.copy_one.new.stack (c.args.count - 1) (c.args.count - c.loop.counter) (c.args.count - (c.loop.counter + 1))
-    (one_less c.args.count c.loop.counter c.loop-test.true) c.in-Ok.ensures.does;
+      c.loop.invariant.same
+      ∙ copied_up-more c.loop.stack c.copy_one.new.stack (c.args.count - 1) (c.args.count - c.loop.counter) (c.args.count - (c.loop.counter + 1))
+      (one_less c.args.count c.loop.counter c.loop-test.true) c.in-Ok.ensures.does;
   kept = λ chain there.
-    let old = c.loop.invariant.kept chain there in
-    c.in-Ok.ensures.kept old.0 old.1;
+      let old = c.loop.invariant.kept chain there in
+      c.in-Ok.ensures.kept old.0 old.1;
 }
 
 pub returns-clause-does : goal.returns-clause-does
