@@ -1,0 +1,9 @@
+pub mod Story
+pub mod Glk
+pub mod Answer
+pub mod Arguments
+pub mod Selector
+pub mod Windows
+pub mod Output
+pub mod Events
+pub mod Call

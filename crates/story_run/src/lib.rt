@@ -1,0 +1,19 @@
+//! A story, turn by turn: it runs until it waits for its player, and what it printed is a show.
+#![tactic(auto)]
+
+mod arguments;
+mod call;
+mod events;
+mod glk;
+mod output;
+mod printed;
+mod reference;
+mod selector;
+mod setup;
+mod steps;
+mod story;
+mod windows;
+
+pub use setup::Setup;
+pub use steps::Steps;
+pub use story::Story;
