@@ -7,3 +7,6 @@ pub mod Windows
 pub mod Output
 pub mod Events
 pub mod Call
+pub mod Words
+pub mod Show
+pub mod Step

@@ -10,9 +10,13 @@ mod printed;
 mod reference;
 mod selector;
 mod setup;
+mod show;
+mod stage;
+mod step;
 mod steps;
 mod story;
 mod windows;
+mod words;
 
 pub use setup::Setup;
 pub use steps::Steps;
