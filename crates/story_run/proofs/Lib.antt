@@ -1,3 +1,4 @@
 pub mod OutputLemmas
 pub mod ArgumentLemmas
 pub mod RunLemmas
+pub mod TurnLemmas

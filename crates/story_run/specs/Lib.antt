@@ -10,3 +10,6 @@ pub mod Call
 pub mod Words
 pub mod Show
 pub mod Step
+pub mod Turn
+pub mod World
+pub mod Solo

@@ -15,9 +15,12 @@ mod stage;
 mod step;
 mod steps;
 mod story;
+mod turn;
 mod windows;
 mod words;
+mod world;
 
 pub use setup::Setup;
 pub use steps::Steps;
 pub use story::Story;
+pub use world::World;
