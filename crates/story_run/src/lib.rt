@@ -15,6 +15,8 @@ mod stage;
 mod step;
 mod steps;
 mod story;
+#[cfg(test)]
+mod tests;
 mod turn;
 mod windows;
 mod words;

@@ -1,6 +1,6 @@
 //! A count of turns that costs nothing.
 
-ghost use Rattle.std.specs.Prelude.{◌≡◌, ◌+◌};
+ghost use Rattle.std.specs.Prelude.{◌≡◌, ◌<◌, ◌+◌};
 
 use std::marker::Model;
 use std::sync::ledger::{Blank, Book, Ledger, Share};
@@ -23,11 +23,11 @@ impl<L: Ledger> Model for Steps<L> {
 }
 
 impl<L: Ledger> Steps<L> {
-    /// A count of no turns, from a ledger's blank of one part.
+    /// A count of no turns, from the blank of a ledger with parts.
     pub fn new(blank: Blank) -> Steps<L>
         requires name { blank.name ≡ L.name }
         requires parts { blank.parts ≡ L.parts }
-        requires one { L.parts ≡ 1 }
+        requires some { 0 < blank.parts }
         ensures value { result ≡ 0 }
     {
         let (book, share) = blank.open::<L>();
