@@ -1,5 +1,4 @@
 -- A turn ends: each step takes a tick, so more steps than ticks change nothing.
-use native.Mathlib.Numerals.{unary_clauses}
 use Rattle.std.proofs.Common.{◌≡◌, ℕ, zero, suc, ◌+◌, ◌-◌, ◌<◌, ◌≤◌, Bool, true, false, nat_lt, refl, ap, sym, ◌∙◌, arith, add-one, Result, Ok, Err, cond, subst, IfOk}
 use Rattle.std.specs.declared.alloc.AllocError.{AllocError}
 use Rattle.std.proofs.lemmas.Bool.Decides.{nat_tests}
@@ -9,13 +8,12 @@ use Rattle.vm_exec.specs.Work.{Work, Free, Costs}
 use Rattle.vm_exec.specs.declared.machine.Machine.{Machine}
 use Rattle.vm_exec.specs.declared.machine.Out.{Out}
 use Rattle.vm_exec.specs.declared.machine.Out.TheVariants as out
-use Rattle.vm_exec.specs.declared.machine.Step.{Step}
 use Rattle.vm_exec.specs.Rules.{Rule}
 use Rattle.vm_operand.specs.Reading.{◌>>=◌}
 use Rattle.story_run.specs.Answer.{Reached}
 use Rattle.story_run.specs.Call.{called}
 use Rattle.story_run.specs.Output.{put_code}
-use Rattle.story_run.specs.Step.{Next, Advances, Runs, Rests, Running, next, running, stepped, followed, answered, done, stored, put}
+use Rattle.story_run.specs.Step.{Next, Advances, Runs, Rests, Running, next, stepped, followed, answered, done, stored, put}
 use Rattle.story_run.specs.Turn.{Stops, after, steps, rest}
 use Rattle.story_run.specs.declared.call.Called.{Called}
 use Rattle.story_run.specs.declared.call.Called.TheVariants as call
@@ -26,7 +24,7 @@ use Rattle.vm_memory.specs.declared.fault.Trap.{Trap}
 use Rattle.vm_memory.specs.declared.fault.Trap.TheVariants as trap
 
 -- fewer ticks are left
-abbrev IsBelow : ℕ → Next → Type 0
+abbrev pub IsBelow : ℕ → Next → Type 0
 IsBelow ticks (Runs left r) = left < ticks
 IsBelow ticks (Rests g s) = Unit {0}
 
@@ -88,9 +86,10 @@ unfolding steps
 steps-enough zero k left r h i = absurd (omega arith)
 steps-enough (suc n) zero left r h i = absurd (omega arith)
 steps-enough (suc n) (suc k) left r h i =
-    elim (next left r) as (λ x. IsBelow left x → after (steps n) x ≡ after (steps k) x)
-    [ Runs l q ↦ λ b. steps-enough n k l q (omega arith) (omega arith)
-    | Rests g s ↦ λ b. refl ]
+    elim (next left r) as (λ x. IsBelow left x → after (steps n) x ≡ after (steps k) x) [
+      | Runs l q ↦ λ b. steps-enough n k l q (omega arith) (omega arith)
+      | Rests g s ↦ λ b. refl
+    ]
     (next-below left r)
 
 -- one step of what is left

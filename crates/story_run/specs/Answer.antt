@@ -48,7 +48,8 @@ Leaves should m s (Err NoMemory) = Unit {0}
 
 -- The call left this Glk state, memory and stack, as it should, unless memory ran out. After a
 -- fault nothing is said of memory and stack.
-abbrev pub Arrives : {M S : Type 0} → Reached (Glk × (M × S)) → Glk → M → S → Result (Unit {0}) Trap → Type 0
+abbrev pub Arrives : {M S : Type 0} → Reached (Glk × (M × S)) → Glk → M → S
+    → Result (Unit {0}) Trap → Type 0
 Arrives should g m s (Ok x) = should ≡ Ok (g, (m, s))
 Arrives should g m s (Err (Fault n)) = should ≡ Err (g, n)
 Arrives should g m s (Err NoMemory) = Unit {0}

@@ -1,5 +1,6 @@
 -- The arguments of a Glk call (Glulx 3.1.3, "Miscellaneous").
-use Rattle.std.specs.Prelude.{ℕ, zero, suc, ◌+◌, ◌==◌, nat_lt, if◌then◌else◌, List, length, replicate, slice_set, Result, Ok, Err}
+use Rattle.std.specs.Prelude.{ℕ, zero, suc, ◌+◌, ◌==◌, nat_lt, if◌then◌else◌, List, length}
+use Rattle.std.specs.Prelude.{replicate, slice_set, Result, Ok, Err}
 use Rattle.vm_exec.specs.Stk.{Stk}
 use Rattle.vm_exec.specs.Stk as stack
 use Rattle.story_run.specs.Answer.{◌>>=◌}

@@ -1,5 +1,5 @@
 -- A Glk call by its selector (Glk 0.7.5, "The Dispatch Layer").
-use Rattle.std.specs.Prelude.{ℕ, if◌then◌else◌, slice_index, Option, Some, None, Result, Ok, Err}
+use Rattle.std.specs.Prelude.{ℕ, if◌then◌else◌, slice_index, Option, Some, None, Ok, Err}
 use Rattle.vm_memory.specs.MemoryMap.{MemoryMap}
 use Rattle.vm_exec.specs.Stk.{Stk}
 use Rattle.story_run.specs.Answer.{Reached, ◌>>=◌, within}
@@ -11,7 +11,8 @@ use Rattle.story_run.specs.Windows.{opens, sets}
 use Rattle.story_run.specs.declared.call.Called.{Called}
 use Rattle.story_run.specs.declared.glk.Glk.{Glk}
 use Rattle.story_run.specs.declared.selector.Call as c
-use Rattle.story_run.specs.declared.selector.Call.TheVariants.{WindowOpen, SetWindow, PutBuffer, Select, RequestLineEvent}
+use Rattle.story_run.specs.declared.selector.Call.TheVariants.{WindowOpen, SetWindow, PutBuffer}
+use Rattle.story_run.specs.declared.selector.Call.TheVariants.{Select, RequestLineEvent}
 
 -- what each call does, with l 0, l 1 .. its arguments
 abbrev pub work : c.Call → Glk → MemoryMap → (ℕ → ℕ) → Reached (Glk × Called)
@@ -22,7 +23,8 @@ work Select g m l = selects g (l 0)
 work RequestLineEvent g m l = asks g (l 0) (l 1) (l 2) (l 3)
 
 -- the arguments are taken from the stack, and then the call's work is done
-abbrev pub called_with : Option c.Call → Glk → MemoryMap → Stk → ℕ → ℕ → Reached (Glk × Stk × Called)
+abbrev pub called_with : Option c.Call → Glk → MemoryMap → Stk → ℕ → ℕ
+    → Reached (Glk × Stk × Called)
 called_with (Some call) g m s selector given =
     within g (arguments s (count_of call) given) >>= (λ p.
     work call g m (slice_index p.1) >>= (λ q. Ok (q.0, p.0, q.1)))

@@ -1,5 +1,7 @@
 -- Line requests and events (Glk 0.7.5, "Line Input Events").
-use Rattle.std.specs.Prelude.{ℕ, ◌+◌, ◌%◌, ◌^◌, ◌==◌, ◌&&◌, ◌||◌, nat_le, nat_lt, Bool, false, if◌then◌else◌, List, [], ◌∷◌, ◌++◌, length, map, take, Option, Some, None, Result, Ok, Err}
+use Rattle.std.specs.Prelude.{ℕ, ◌+◌, ◌%◌, ◌^◌, ◌==◌, ◌&&◌, ◌||◌, nat_le, nat_lt, Bool, false}
+use Rattle.std.specs.Prelude.{if◌then◌else◌, List, [], ◌∷◌, length, map, take, Option, Some}
+use Rattle.std.specs.Prelude.{None, Result, Ok}
 use Rattle.glk_input.specs.declared.input.Input.{Input}
 use Rattle.glk_input.specs.declared.input.Input.TheVariants.{Line, Char, File}
 use Rattle.vm_memory.specs.MemoryMap.{MemoryMap}
@@ -29,8 +31,9 @@ asked None new = new
 abbrev pub asks : Glk → ℕ → ℕ → ℕ → ℕ → Reached (Glk × Called)
 asks g win buf max init =
     needs g (is_window g win) 21 (needs g (nat_le init max && nat_le init 1024) 22
-        (gives 0 (record g {
-          request = Some (asked g.request (record { buf = buf; max = max; init = init })) })))
+    (gives 0 (record g {
+      request = Some (asked g.request (record { buf = buf; max = max; init = init }));
+    })))
 
 -- a line is wanted that the return key ends, for the window with the request
 abbrev pub is_asked : Option LineRequest → Input → Bool
@@ -81,7 +84,8 @@ echoed g line = printed_all g 8 line >>= (λ h. printed h 8 10)
 
 -- a line is delivered: the window prints it, the array takes it, and the event is told. The
 -- request is over.
-abbrev pub delivered : Glk → MemoryMap → Stk → LineRequest → ℕ → List ℕ → Reached (Glk × (MemoryMap × Stk))
+abbrev pub delivered : Glk → MemoryMap → Stk → LineRequest → ℕ → List ℕ
+    → Reached (Glk × (MemoryMap × Stk))
 delivered g m s r event line =
     echoed (record g { request = None }) line >>= (λ h.
     within h (written_line m r.buf line) >>= (λ n.

@@ -5,7 +5,15 @@ use Rattle.story_run.specs.declared.glk.Glk.{Glk}
 -- a screen without a window
 abbrev pub fresh : ℕ → ℕ → Glk
 fresh cols rows =
-    record { cols = cols; rows = rows; window = false; current = false; text = []; chars = 0; request = None }
+    record {
+      cols = cols;
+      rows = rows;
+      window = false;
+      current = false;
+      text = [];
+      chars = 0;
+      request = None;
+    }
 
 -- what was printed is forgotten
 abbrev pub settled : Glk → Glk

@@ -13,3 +13,4 @@ pub mod Step
 pub mod Turn
 pub mod World
 pub mod Solo
+pub mod Laws

@@ -1,5 +1,6 @@
 -- Output of characters (Glk 0.7.5, "How To Print").
-use Rattle.std.specs.Prelude.{ℕ, zero, suc, ◌+◌, ◌%◌, ◌^◌, nat_le, if◌then◌else◌, List, [], ◌∷◌, ◌++◌, Result, Ok, Err}
+use Rattle.std.specs.Prelude.{ℕ, zero, suc, ◌+◌, ◌%◌, ◌^◌, nat_le, if◌then◌else◌, List, [], ◌∷◌}
+use Rattle.std.specs.Prelude.{◌++◌, Ok, Err}
 use Rattle.vm_memory.specs.MemoryMap.{MemoryMap}
 use Rattle.vm_memory.specs.Access.{read}
 use Rattle.vm_memory.specs.Fault.{coded}
@@ -14,7 +15,8 @@ printed g style code =
     if nat_le 1048576 g.chars then Err (g, 23)
     else Ok (record g {
       text = g.text ++ (record { style = style; code = code }) ∷ [];
-      chars = g.chars + 1 })
+      chars = g.chars + 1;
+    })
 
 -- characters printed one by one
 abbrev pub printed_all : Glk → ℕ → List ℕ → Reached Glk

@@ -1,7 +1,9 @@
 -- The selectors (Glk 0.7.5, "The Dispatch Layer").
-use Rattle.std.specs.Prelude.{ℕ, ◌==◌, ◌||◌, ◌&&◌, nat_le, Bool, false, if◌then◌else◌, List, [], ◌∷◌, Option, Some, None}
+use Rattle.std.specs.Prelude.{ℕ, ◌==◌, ◌||◌, ◌&&◌, nat_le, Bool, false, if◌then◌else◌, List, []}
+use Rattle.std.specs.Prelude.{◌∷◌, Option, Some, None}
 use Rattle.story_run.specs.declared.selector.Call.{Call}
-use Rattle.story_run.specs.declared.selector.Call.TheVariants.{WindowOpen, SetWindow, PutBuffer, Select, RequestLineEvent}
+use Rattle.story_run.specs.declared.selector.Call.TheVariants.{WindowOpen, SetWindow, PutBuffer}
+use Rattle.story_run.specs.declared.selector.Call.TheVariants.{Select, RequestLineEvent}
 
 -- the calls that are built
 abbrev pub call_of : ℕ → Option Call

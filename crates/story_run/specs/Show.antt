@@ -1,6 +1,6 @@
 -- A show as lines (own).
-use Rattle.std.specs.Prelude.{ℕ, zero, suc, ◌+◌, ◌==◌, nat_lt, nat_le, if◌then◌else◌, List, [], ◌∷◌, ◌++◌, length, slice_index, codes, Option, Some, None}
-use Rattle.vm_exec.specs.declared.machine.Machine.{Machine}
+use Rattle.std.specs.Prelude.{ℕ, zero, suc, ◌+◌, ◌==◌, nat_lt, if◌then◌else◌, List, [], ◌∷◌}
+use Rattle.std.specs.Prelude.{◌++◌, length, codes, map, Option, Some, None}
 use Rattle.vm_memory.specs.MemoryMap.{MemoryMap, number_at}
 use Rattle.story_run.specs.Words.{field, text}
 use Rattle.story_run.specs.declared.glk.Glk.{Glk}
@@ -31,6 +31,18 @@ joined c (r ∷ rs) =
 abbrev pub runs_of : List Cell → List Run
 runs_of [] = []
 runs_of (c ∷ cs) = joined c (runs_of cs)
+
+-- how many characters at the front have a style
+abbrev pub front : ℕ → List Cell → ℕ
+front style [] = 0
+front style (c ∷ cs) = if c.style == style then front style cs + 1 else 0
+
+abbrev pub code_of : Cell → ℕ
+code_of c = c.code
+
+-- these characters as a run
+abbrev pub run : ℕ → List Cell → Run
+run style cs = record { style = style; codes = map code_of cs }
 
 -- T id style =text
 abbrev pub run_line : Run → List ℕ
@@ -70,11 +82,3 @@ end_line g (Fault n) = fault_line n
 -- the lines of a turn that has come to rest
 abbrev pub show_of : Glk → Stage → List ℕ
 show_of g s = window_line g ++ run_lines (runs_of g.text) ++ end_line g s
-
--- how many characters at the front have a style
-abbrev pub front : ℕ → List Cell → ℕ
-front style [] = 0
-front style (c ∷ cs) = if c.style == style then front style cs + 1 else 0
-
-abbrev pub code_of : Cell → ℕ
-code_of c = c.code

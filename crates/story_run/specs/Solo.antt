@@ -1,7 +1,7 @@
 -- A story run alone: its opening, and its turns on the inputs that it wants (own).
-use Rattle.std.specs.Prelude.{ℕ, Bool, true, false, if◌then◌else◌, List, [], ◌∷◌, Option, Some, None}
+use Rattle.std.specs.Prelude.{ℕ, Bool, true, false, if◌then◌else◌, List, [], ◌∷◌, Option, Some}
 use Rattle.glk_input.specs.declared.input.Input.{Input}
-use Rattle.glk_input.specs.declared.input.Input.TheVariants.{Line, Char, File}
+use Rattle.glk_input.specs.declared.input.Input.TheVariants.{Line}
 use Rattle.vm_exec.specs.Start.{started}
 use Rattle.story_run.specs.Events.{is_asked, taken_line}
 use Rattle.story_run.specs.Glk.{fresh, settled}
@@ -22,7 +22,8 @@ rested budget x =
 -- the world after the opening turn of the story with this image
 unfoldable pub opening : List ℕ → Setup → WorldState
 opening image setup =
-    rested setup.budget (begun setup.budget (fresh setup.cols setup.rows) (started image setup.seed))
+    rested setup.budget
+    (begun setup.budget (fresh setup.cols setup.rows) (started image setup.seed))
 
 -- a story that waits wants the line that it asked for
 abbrev pub wants : Stage → Option LineRequest → Input → Bool

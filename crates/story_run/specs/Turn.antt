@@ -59,7 +59,8 @@ Stops (trap.Fault n) result = IfOk result (λ stage. stage ≡ Fault n)
 Stops trap.NoMemory result = IsErr result
 
 -- The call delivered the line and stored 0, leaving these, unless memory ran out.
-abbrev pub Resumes : Reached (Glk × (MemoryMap × Stk)) → Machine → Glk → Machine → Result (Unit {0}) Trap → Type 0
+abbrev pub Resumes : Reached (Glk × (MemoryMap × Stk)) → Machine → Glk → Machine
+    → Result (Unit {0}) Trap → Type 0
 Resumes should old g m (Ok x) = restarted should old ≡ Ok (g, m)
 Resumes should old g m (Err (trap.Fault n)) = restarted should old ≡ Err (g, n)
 Resumes should old g m (Err trap.NoMemory) = Unit {0}

@@ -1,5 +1,5 @@
 -- The calls of windows (Glk 0.7.5, "Window Opening, Closing, and Constraints").
-use Rattle.std.specs.Prelude.{ℕ, ◌==◌, not, ◌||◌, true, if◌then◌else◌, Result, Ok, Err}
+use Rattle.std.specs.Prelude.{ℕ, ◌==◌, not, ◌||◌, true, if◌then◌else◌, Ok, Err}
 use Rattle.story_run.specs.Answer.{Reached, needs}
 use Rattle.story_run.specs.Glk.{is_window}
 use Rattle.story_run.specs.declared.call.Called.{Called}
@@ -20,4 +20,5 @@ opens g split kind =
 
 -- glk_set_window win: output goes to the window, or nowhere for 0
 abbrev pub sets : Glk → ℕ → Reached (Glk × Called)
-sets g win = needs g (win == 0 || is_window g win) 21 (gives 0 (record g { current = not (win == 0) }))
+sets g win =
+    needs g (win == 0 || is_window g win) 21 (gives 0 (record g { current = not (win == 0) }))

@@ -1,6 +1,12 @@
 -- Words of a show's lines (own).
-use Rattle.std.specs.Prelude.{ℕ, ◌||◌, ◌&&◌, nat_lt, nat_le, Bool, if◌then◌else◌, List, [], ◌∷◌, ◌++◌, decimal, map}
+use Rattle.std.specs.Prelude.{◌≡◌, Result, IfOk, ℕ, ◌||◌, ◌&&◌, nat_lt, nat_le, Bool, if◌then◌else◌, List, [], ◌∷◌}
+use Rattle.std.specs.Prelude.{◌++◌, decimal, map}
+use Rattle.std.specs.declared.alloc.AllocError.{AllocError}
 use Rattle.story_text.specs.Escape.{escaped}
+
+-- The call added this text to a list of bytes, unless memory ran out.
+abbrev pub Adds : List ℕ → List ℕ → List ℕ → Result (Unit {0}) AllocError → Type 0
+Adds text old new result = IfOk result (λ _. new ≡ old ++ text)
 
 -- a space and a number
 abbrev pub field : ℕ → List ℕ

@@ -109,13 +109,16 @@ pub(crate) fn deliver(
     line: &[u32],
 ) -> Result<(), Trap>
     requires { length line.now ≤ 2 ^ 32 - 1 }
-    ensures {
-        Arrives (events.delivered glk.old memory.old stack.old request event line.now)
-            glk.new memory.new stack.new result
-    }
+    ensures { Arrives (events.delivered glk.old memory.old stack.old request event line.now)
+        glk.new memory.new stack.new result }
 {
     glk.request = None;
     echo(glk, line)?;
     write_line(memory, request.buf, line)?;
-    refer_all(memory, stack, event, &[LINE_EVENT, WINDOW, line.len() as u32, 0])
+    refer_all(
+        memory,
+        stack,
+        event,
+        &[LINE_EVENT, WINDOW, line.len() as u32, 0],
+    )
 }

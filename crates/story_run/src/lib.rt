@@ -5,6 +5,7 @@ mod arguments;
 mod call;
 mod events;
 mod glk;
+mod laws;
 mod output;
 mod printed;
 mod reference;
@@ -22,6 +23,7 @@ mod windows;
 mod words;
 mod world;
 
+pub use laws::{budgets_only_end, over_wants_nothing, turns_end, unwanted_leaves};
 pub use setup::Setup;
 pub use steps::Steps;
 pub use story::Story;

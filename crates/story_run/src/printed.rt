@@ -43,7 +43,8 @@ impl Printed {
     }
 
     pub(crate) fn push(&mut self, style: u32, code: u32) -> Result<(), AllocError>
-        ensures { IfOk result (λ _. self.new ≡ self.old ++ (record { style = style; code = code }) ∷ []) }
+        ensures { IfOk result (λ _. self.new
+            ≡ self.old ++ (record { style = style; code = code }) ∷ []) }
     {
         self.cells.push(Cell { style, code })?;
         Ok(())

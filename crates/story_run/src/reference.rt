@@ -37,7 +37,11 @@ fn refer(memory: &mut Memory, stack: &mut Stack, at: u32, value: u32) -> Result<
 fn next_field(at: u32) -> u32
     ensures { result ≡ events.next_field at }
 {
-    if at == 0 || at == STACK { at } else { at.wrapping_add(4) }
+    if at == 0 || at == STACK {
+        at
+    } else {
+        at.wrapping_add(4)
+    }
 }
 
 /// A structure's words in order at a reference: nowhere for 0, on the stack for 0xFFFFFFFF, else
@@ -48,9 +52,7 @@ pub(crate) fn refer_all(
     at: u32,
     values: &[u32],
 ) -> Result<(), Trap>
-    ensures {
-        Leaves (events.referred_all memory.old stack.old at values.now) memory.new stack.new result
-    }
+    ensures { Leaves (events.referred_all memory.old stack.old at values.now) memory.new stack.new result }
 {
     match values {
         [] => Ok(()),

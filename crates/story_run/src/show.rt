@@ -2,6 +2,7 @@
 
 ghost use Rattle.std.specs.Prelude.{◌≡◌, ◌≤◌, ◌<◌, ◌++◌, ◌+◌, ◌∷◌, [], IfOk, drop, length, map};
 ghost use Rattle.story_run.specs.Show as show;
+ghost use Rattle.story_run.specs.Words.{Adds};
 
 use crate::glk::{Glk, LineRequest};
 use crate::printed::Cell;
@@ -12,7 +13,7 @@ use vm_memory::Memory;
 
 // The line of the window.
 fn write_window(out: &mut Vec<u8>, glk: &Glk) -> Result<(), AllocError>
-    ensures { IfOk result (λ _. out.new.items ≡ out.old.items ++ show.window_line glk.now) }
+    ensures { Adds (show.window_line glk.now) out.old.items out.new.items result }
 {
     if !glk.window {
         return Ok(());
@@ -44,16 +45,8 @@ fn codes_of(alloc: Global, cells: &[Cell]) -> Result<Vec<u32>, AllocError>
 }
 
 // The line of a run of one style.
-fn write_run(
-    alloc: Global,
-    out: &mut Vec<u8>,
-    style: u32,
-    cells: &[Cell],
-) -> Result<(), AllocError>
-    ensures {
-        IfOk result (λ _. out.new.items
-            ≡ out.old.items ++ show.run_line (record { style = style; codes = map show.code_of cells.now }))
-    }
+fn write_run(alloc: Global, out: &mut Vec<u8>, style: u32, cells: &[Cell]) -> Result<(), AllocError>
+    ensures { Adds (show.run_line (show.run style cells.now)) out.old.items out.new.items result }
 {
     let codes = codes_of(alloc, cells)?;
     out.extend_from_slice(b"T 1")?;
@@ -64,10 +57,8 @@ fn write_run(
 // Writes the line of the first run, and answers how many characters it has.
 fn write_first(alloc: Global, out: &mut Vec<u8>, cells: &[Cell]) -> Result<usize, AllocError>
     requires { 0 < length cells.now }
-    ensures value {
-        IfOk result (λ n. out.new.items ++ show.run_lines (show.runs_of (drop n cells.now))
-            ≡ out.old.items ++ show.run_lines (show.runs_of cells.now))
-    }
+    ensures value { IfOk result (λ n. out.new.items ++ show.run_lines (show.runs_of (drop n cells.now))
+        ≡ out.old.items ++ show.run_lines (show.runs_of cells.now)) }
     ensures within { IfOk result (λ n. (0 < n) × (n ≤ length cells.now)) }
 {
     let style = cells[0].style;
@@ -78,9 +69,7 @@ fn write_first(alloc: Global, out: &mut Vec<u8>, cells: &[Cell]) -> Result<usize
 
 // The lines of what was printed.
 fn write_runs(alloc: Global, out: &mut Vec<u8>, cells: &[Cell]) -> Result<(), AllocError>
-    ensures {
-        IfOk result (λ _. out.new.items ≡ out.old.items ++ show.run_lines (show.runs_of cells.now))
-    }
+    ensures { Adds (show.run_lines (show.runs_of cells.now)) out.old.items out.new.items result }
 {
     let mut rest = cells;
     while !rest.is_empty() {
@@ -120,7 +109,7 @@ fn write_request(
     memory: &Memory,
     request: LineRequest,
 ) -> Result<(), AllocError>
-    ensures { IfOk result (λ _. out.new.items ≡ out.old.items ++ show.request_line memory.now request) }
+    ensures { Adds (show.request_line memory.now request) out.old.items out.new.items result }
 {
     let codes = initial(alloc, memory, request.buf, request.init)?;
     out.extend_from_slice(b"I 1 line")?;
@@ -135,7 +124,7 @@ fn write_wish(
     memory: &Memory,
     request: Option<LineRequest>,
 ) -> Result<(), AllocError>
-    ensures { IfOk result (λ _. out.new.items ≡ out.old.items ++ show.wish_line memory.now request) }
+    ensures { Adds (show.wish_line memory.now request) out.old.items out.new.items result }
 {
     match request {
         Some(request) => write_request(alloc, out, memory, request),
@@ -145,7 +134,7 @@ fn write_wish(
 
 // The line of a fault.
 fn write_fault(out: &mut Vec<u8>, code: u8) -> Result<(), AllocError>
-    ensures { IfOk result (λ _. out.new.items ≡ out.old.items ++ show.fault_line code) }
+    ensures { Adds (show.fault_line code) out.old.items out.new.items result }
 {
     out.extend_from_slice(b"E fault")?;
     write_field(out, u32::from(code))?;
@@ -160,7 +149,7 @@ fn write_end(
     glk: &Glk,
     stage: &Stage<'_>,
 ) -> Result<(), AllocError>
-    ensures { IfOk result (λ _. out.new.items ≡ out.old.items ++ show.end_line glk.now stage.now) }
+    ensures { Adds (show.end_line glk.now stage.now) out.old.items out.new.items result }
 {
     match stage {
         Stage::Waits { machine, .. } => write_wish(alloc, out, &machine.memory, glk.request),
@@ -170,11 +159,7 @@ fn write_end(
 }
 
 /// The lines of a turn that has come to rest.
-pub(crate) fn write_show(
-    alloc: Global,
-    glk: &Glk,
-    stage: &Stage<'_>,
-) -> Result<Vec<u8>, AllocError>
+pub(crate) fn write_show(alloc: Global, glk: &Glk, stage: &Stage<'_>) -> Result<Vec<u8>, AllocError>
     ensures { IfOk result (λ out. out.items ≡ show.show_of glk.now stage.now) }
 {
     let mut out = Vec::new(alloc);

@@ -57,12 +57,10 @@ fn call_glk(
     args: u32,
     left: u64,
 ) -> Result<Progress, Trap>
-    ensures {
-        Advances
-            (answered left machine.old
-                (called glk.old machine.old.memory machine.old.stack selector args))
-            glk.new machine.new result
-    }
+    ensures { Advances
+        (answered left machine.old
+        (called glk.old machine.old.memory machine.old.stack selector args))
+        glk.new machine.new result }
 {
     match call(glk, &machine.memory, &mut machine.stack, selector, args)? {
         Called::Wait { event } => Ok(Progress::Waits { event }),

@@ -53,10 +53,8 @@ fn deliver_line(
     line: &[u32],
 ) -> Result<(), Trap>
     requires { length line.now ≤ 2 ^ 32 - 1 }
-    ensures {
-        Resumes (delivered glk.old machine.old.memory machine.old.stack request event line.now)
-            machine.old glk.new machine.new result
-    }
+    ensures { Resumes (delivered glk.old machine.old.memory machine.old.stack request event line.now)
+        machine.old glk.new machine.new result }
 {
     deliver(
         glk,
@@ -80,10 +78,8 @@ pub(crate) fn resume<'i>(
     budget: u64,
 ) -> Result<Stage<'i>, AllocError>
     requires { length line.now ≤ 2 ^ 32 - 1 }
-    ensures {
-        IfOk result (λ stage. (glk.new, stage)
-            ≡ turn_on budget glk.old machine.entry request event line.now)
-    }
+    ensures { IfOk result (λ stage. (glk.new, stage)
+        ≡ turn_on budget glk.old machine.entry request event line.now) }
 {
     match deliver_line(alloc, glk, &mut machine, request, event, line) {
         Ok(()) => run(alloc, glk, machine, budget),

@@ -27,11 +27,7 @@ pub struct World<'i> {
 impl<'i> World<'i> {
     /// Begins the story and runs its opening turn. An error is want of memory.
     #[tactic(auto, unfolding(crate::specs::Solo::opening))]
-    pub fn start(
-        alloc: Global,
-        story: &Story<'i>,
-        setup: Setup,
-    ) -> Result<World<'i>, AllocError>
+    pub fn start(alloc: Global, story: &Story<'i>, setup: Setup) -> Result<World<'i>, AllocError>
         ensures value { IfOk result (λ world. world ≡ opening story.now.image setup) }
     {
         let mut glk = Glk::new(alloc, setup.cols, setup.rows);

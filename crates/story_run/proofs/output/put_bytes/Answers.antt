@@ -1,5 +1,4 @@
-use Rattle.std.proofs.Common.{rules, arith, ◌≡◌, ◌<◌, ℕ, refl, sym}
-use Rattle.story_run.specs.Output.{put_bytes}
+use Rattle.std.proofs.Common.{rules, arith, ◌≡◌, ◌<◌}
 use Rattle.story_run.proofs.OutputLemmas.{put_bytes-more, put_bytes-none}
 use Rattle.story_run.proofs.output.put_bytes.Goals as goal
 

@@ -1,4 +1,4 @@
-use Rattle.std.proofs.Common.{◌≡◌, ◌∙◌, sym}
+use Rattle.std.proofs.Common.{◌∙◌, sym}
 use Rattle.story_run.proofs.TurnLemmas.{runs-below, rest-runs, rest-rests, rest-stops}
 use Rattle.story_run.proofs.turn.run.Goals as goal
 
