@@ -1,0 +1,20 @@
+-- Lines of bytes, and those that a connection takes (own).
+use Rattle.std.specs.Prelude.{ℕ, ◌^◌, ◌==◌, if◌then◌else◌, List, [], ◌∷◌, ◌++◌, length, take, nat_le, Option, None, Some}
+
+-- the lines of bytes, cut at each LF, where the first has begun already
+abbrev pub lines_from : List ℕ → List ℕ → List (List ℕ)
+lines_from begun [] = []
+lines_from begun (byte ∷ bytes) =
+    if byte == 10 then begun ∷ lines_from [] bytes else lines_from (begun ++ byte ∷ []) bytes
+
+-- the lines of bytes without their LF; bytes after the last LF are no line
+abbrev pub lines : List ℕ → List (List ℕ)
+lines bytes = lines_from [] bytes
+
+-- the lines that a connection takes: those whole within 2^31 bytes, and at most 2^20
+abbrev pub talk : List ℕ → List (List ℕ)
+talk bytes = take (2 ^ 20) (lines (take (2 ^ 31) bytes))
+
+-- a line as it is heard; one of more than 2,048 bytes with its LF is dropped
+abbrev pub heard : List ℕ → Option (List ℕ)
+heard line = if nat_le (length line) 2047 then Some line else None
