@@ -1,0 +1,1 @@
+-- All spellings of requests (own).

@@ -1,0 +1,4 @@
+pub mod ThrowLemmas
+pub mod FormatLemmas
+pub mod ArgumentLemmas
+pub mod TokenLemmas

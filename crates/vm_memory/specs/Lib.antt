@@ -1,0 +1,3 @@
+pub mod MemoryMap
+pub mod Access
+pub mod Fault

@@ -1,0 +1,28 @@
+-- The memory map (Glulx 3.1.3, "The Memory Map").
+use Rattle.std.specs.Prelude.{ℕ, ◌+◌, ◌-◌, List, ◌++◌, length, take, drop, replicate}
+use Rattle.byteorder.specs.Endian.{big_number}
+
+-- the bytes of memory, those from RAMSTART on writable; and the original list, which is the file's
+-- bytes up to EXTSTART and then zeros up to ENDMEM
+pub record MemoryMap : Type 0 where
+  pub bytes : List ℕ
+  pub ramstart : ℕ
+  pub rom : List ℕ
+  pub endmem : ℕ
+
+-- the bytes of a file, and then zeros up to the end of memory
+abbrev pub original : List ℕ → ℕ → List ℕ
+original rom endmem = rom ++ replicate (endmem - length rom) 0
+
+-- the memory of a file as a story begins
+abbrev pub memory_of : List ℕ → ℕ → ℕ → MemoryMap
+memory_of rom ramstart endmem =
+    record { bytes = original rom endmem; ramstart = ramstart; rom = rom; endmem = endmem }
+
+-- the number in the n bytes at an address, the most significant first
+abbrev pub number_at : ℕ → List ℕ → ℕ → ℕ
+number_at n bytes at = big_number n (drop at bytes)
+
+-- the bytes with these in place of those at an address
+abbrev pub replaced : List ℕ → ℕ → List ℕ → List ℕ
+replaced bytes at new = take at bytes ++ new ++ drop (at + length new) bytes

@@ -1,0 +1,29 @@
+//! Changes of a slice of bytes at a place.
+
+ghost use Rattle.std.specs.Prelude.{◌≡◌, ◌≤◌, ◌+◌, length, take, drop, replicate};
+ghost use Rattle.vm_memory.specs.MemoryMap.{replaced};
+
+/// Writes the bytes at the place.
+pub(crate) fn put(bytes: &mut [u8], at: usize, new: &[u8])
+    requires { at + length new.now ≤ length bytes.old }
+    ensures { bytes.new ≡ replaced bytes.old at new.now }
+{
+    bytes[at..at + new.len()].copy_from_slice(new);
+}
+
+/// Makes so many bytes at the place zero.
+pub(crate) fn clear(bytes: &mut [u8], at: usize, count: usize)
+    requires { at + count ≤ length bytes.old }
+    ensures { bytes.new ≡ replaced bytes.old at (replicate count 0) }
+{
+    bytes[at..at + count].fill(0);
+}
+
+/// Copies so many bytes from one place to another; where the two overlap the bytes of before come.
+pub(crate) fn shift(bytes: &mut [u8], from: usize, to: usize, count: usize)
+    requires from { from + count ≤ length bytes.old }
+    requires to { to + count ≤ length bytes.old }
+    ensures { bytes.new ≡ replaced bytes.old to (take count (drop from bytes.old)) }
+{
+    bytes.copy_within(from..from + count, to);
+}

@@ -1,0 +1,10 @@
+//! The memory of a story: bytes, of which those from RAMSTART on can be written.
+#![tactic(auto)]
+
+mod access;
+mod bytes;
+mod fault;
+mod memory;
+
+pub use fault::{MemFault, MemStop, Trap};
+pub use memory::{MAX_SIZE, Memory};

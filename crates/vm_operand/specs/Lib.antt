@@ -1,0 +1,7 @@
+pub mod Opcode
+pub mod Reading
+pub mod Mode
+pub mod Instruction
+pub mod Arithmetic
+pub mod Branch
+pub mod Fault

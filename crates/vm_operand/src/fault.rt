@@ -1,0 +1,45 @@
+//! What can be wrong with an instruction.
+
+use vm_memory::{MemFault, Trap};
+
+/// A byte that can't be read, a number that is no opcode, one of an opcode that isn't played here,
+/// a mode that is none or is none of a store, and the two faults of a division.
+#[derive(Clone, Copy, Debug, PartialEq, Eq)]
+pub enum OpFault {
+    Read(MemFault),
+    BadOpcode(u32),
+    Unsupported(u32),
+    BadMode(u32),
+    DivideByZero,
+    DivideOverflow,
+}
+
+impl From<MemFault> for OpFault {
+    ghost use Rattle.std.specs.Prelude.{◌≡◌};
+    ghost use Rattle.vm_operand.specs.declared.fault.OpFault.TheVariants.{Read};
+
+    ghost from_gives = { λ f fault. fault ≡ Read f };
+
+    fn from(fault: MemFault) -> OpFault {
+        OpFault::Read(fault)
+    }
+}
+
+impl From<OpFault> for Trap {
+    ghost use Rattle.std.specs.Prelude.{◌≡◌};
+    ghost use Rattle.vm_memory.specs.declared.fault.Trap.TheVariants.{Fault};
+    ghost use Rattle.vm_operand.specs.Fault.{code_of};
+
+    ghost from_gives = { λ f trap. trap ≡ Fault (code_of f) };
+
+    fn from(fault: OpFault) -> Trap {
+        match fault {
+            OpFault::Read(read) => Trap::from(read),
+            OpFault::BadOpcode(_) => Trap::Fault(6),
+            OpFault::Unsupported(_) => Trap::Fault(17),
+            OpFault::BadMode(_) => Trap::Fault(7),
+            OpFault::DivideByZero => Trap::Fault(8),
+            OpFault::DivideOverflow => Trap::Fault(9),
+        }
+    }
+}

@@ -1,0 +1,20 @@
+//! Instructions: opcodes and their operands, arithmetic and the conditions of branches.
+#![tactic(auto)]
+
+mod arithmetic;
+mod branches;
+mod fault;
+mod instruction;
+mod kinds;
+mod mode;
+mod opcode;
+mod operand;
+#[cfg(test)]
+mod tests;
+
+pub use arithmetic::arith;
+pub use branches::holds;
+pub use fault::OpFault;
+pub use instruction::{Instr, decode};
+pub use opcode::{Array, Branch, Flow, Math, Move, Op, Search, State, Stream, System, Values};
+pub use operand::{Dest, Dests, Kind, Load, Loads};
