@@ -1,10 +1,12 @@
 -- How the parts of a run make the run of a story file.
 use Rattle.std.proofs.Common.{◌≡◌, ℕ, inl, inr, List, [], ◌++◌, refl, sym, ap, ◌∙◌, subst, append_assoc, Option, None, Some, Result, Ok, Err, IsOkAnd, IsErrAnd, true}
 use Rattle.std.proofs.lemmas.List.{append-nil}
-use Rattle.glulx_image.specs.Image.{image_of}
-use Rattle.glulx_image.specs.declared.ImageFault.{ImageFault}
-use Rattle.story_run.specs.Solo.{opening, is_over}
-use Rattle.story_run.specs.State.{WorldState}
+use Rattle.glulx_image.specs.Fault.{number_of}
+use Rattle.glulx_image.specs.declared.fault.ImageFault.{ImageFault}
+use Rattle.story_run.specs.Solo.{is_over}
+use Rattle.story_run.specs.Story.{story_of}
+use Rattle.story_run.specs.World.{WorldState}
+use Rattle.story_run.specs.declared.story.Story.{Story}
 use Rattle.storyhost.specs.declared.sink.Stop.{Stop}
 use Rattle.storyhost.specs.declared.sink.Stop.TheVariants as stop
 use Rattle.storyhost.specs.declared.status.Status.{Status}
@@ -15,7 +17,7 @@ use Rattle.storyhost.specs.Files.{OutsideState, IsFile}
 use Rattle.storyhost.specs.Headline.{RunLeaves, whole_text}
 use Rattle.storyhost.specs.Lines.{lines}
 use Rattle.storyhost.specs.Ran.{Played, Ran}
-use Rattle.storyhost.specs.RunText.{alone, solo, show_text, check_number, bad_line}
+use Rattle.storyhost.specs.RunText.{opened, solo, show_text, bad_line}
 use Rattle.storyhost.specs.Status.{status_of_stop}
 use Rattle.storyhost.specs.Streams.{SourceState, SinkState, Wrote}
 use Rattle.storyhost.specs.Talked.{Talked, TalkLeaves}
@@ -31,10 +33,10 @@ err_and {T} {E} {r} {x} P e p = subst (λ (r : Result T E). IsErrAnd r P) (sym e
 
 -- a story is refused
 pub refused_played : (input : SourceState) {output new : SinkState} (file : List ℕ) (budget : ℕ) (fault : ImageFault)
-    → image_of file ≡ Err fault → Wrote output new (bad_line 0 (check_number fault)) → Played input input output new file budget Refused
+    → story_of file ≡ Err fault → Wrote output new (bad_line 0 (number_of fault)) → Played input input output new file budget Refused
 refused_played input file budget fault refused wrote = record {
   read = [];
-  written = bad_line 0 (check_number fault);
+  written = bad_line 0 (number_of fault);
   gave = gave_none input;
   wrote = wrote;
   leaves = err_and _ refused refl;
@@ -42,7 +44,7 @@ refused_played input file budget fault refused wrote = record {
 }
 
 stop_leaves : (cause : Stop) (file : List ℕ) (budget : ℕ) (read : List ℕ) (now : SourceState) (written : List ℕ)
-    → IsPartOf written (whole_text (image_of file) budget (lines read)) → RunLeaves (status_of_stop cause) file budget read now written
+    → IsPartOf written (whole_text (story_of file) budget (lines read)) → RunLeaves (status_of_stop cause) file budget read now written
 stop_leaves stop.Output file budget read now written p = p
 stop_leaves stop.Memory file budget read now written p = p
 
@@ -52,7 +54,7 @@ no_read_fault stop.Memory e = cc
 
 -- a text that begins what is to be written was not written whole
 stopped_played : (input : SourceState) {output new : SinkState} (file : List ℕ) (budget : ℕ) {text : List ℕ} {cause : Stop} (rest : List ℕ)
-    → whole_text (image_of file) budget [] ≡ text ++ rest → Stopped output new text cause
+    → whole_text (story_of file) budget [] ≡ text ++ rest → Stopped output new text cause
     → Played input input output new file budget (status_of_stop cause)
 stopped_played input {output} {new} file budget {text} {cause} rest is s =
     let all : Stopped output new (text ++ rest) cause = stopped_more rest s in
@@ -67,9 +69,9 @@ stopped_played input {output} {new} file budget {text} {cause} rest is s =
 
 -- the line of a refusal was not written whole
 pub refused_stopped : (input : SourceState) {output new : SinkState} (file : List ℕ) (budget : ℕ) (fault : ImageFault) {cause : Stop}
-    → image_of file ≡ Err fault → Stopped output new (bad_line 0 (check_number fault)) cause → Played input input output new file budget (status_of_stop cause)
+    → story_of file ≡ Err fault → Stopped output new (bad_line 0 (number_of fault)) cause → Played input input output new file budget (status_of_stop cause)
 refused_stopped input file budget fault refused s =
-    stopped_played input file budget [] (ap (λ r. whole_text r budget []) refused ∙ sym (append-nil (bad_line 0 (check_number fault)))) s
+    stopped_played input file budget [] (ap (λ r. whole_text r budget []) refused ∙ sym (append-nil (bad_line 0 (number_of fault)))) s
 
 -- memory was wanted before anything was written
 pub memory_played : (input : SourceState) (output : SinkState) (file : List ℕ) (budget : ℕ) → Played input input output output file budget NoMemory
@@ -78,64 +80,64 @@ memory_played input output file budget = record {
   written = [];
   gave = gave_none input;
   wrote = wrote_none output;
-  leaves = (whole_text (image_of file) budget [], refl);
+  leaves = (whole_text (story_of file) budget [], refl);
   read_fault = λ e. cc;
 }
 
 -- the opening show was not written whole
-pub shown_stopped : (input : SourceState) {output new : SinkState} (file : List ℕ) (budget : ℕ) {cause : Stop} {image : List ℕ}
-    → image_of file ≡ Ok image → (start : WorldState) → start ≡ opening image (alone budget) → Stopped output new (show_text start) cause
+pub shown_stopped : (input : SourceState) {output new : SinkState} (file : List ℕ) (budget : ℕ) {cause : Stop} {story : Story}
+    → story_of file ≡ Ok story → (start : WorldState) → start ≡ opened story budget → Stopped output new (show_text start) cause
     → Played input input output new file budget (status_of_stop cause)
-shown_stopped input {output} {new} file budget {cause} {image} good start is s =
-    let s' : Stopped output new (show_text (opening image (alone budget))) cause = subst (λ (w : WorldState). Stopped output new (show_text w) cause) is s in
-    stopped_played input file budget (replies solo (opening image (alone budget)) []) (ap (λ r. whole_text r budget []) good) s'
+shown_stopped input {output} {new} file budget {cause} {story} good start is s =
+    let s' : Stopped output new (show_text (opened story budget)) cause = subst (λ (w : WorldState). Stopped output new (show_text w) cause) is s in
+    stopped_played input file budget (replies solo (opened story budget) []) (ap (λ r. whole_text r budget []) good) s'
 
 -- the opening turn ended the story
-pub shown_over : (input : SourceState) {output new : SinkState} (file : List ℕ) (budget : ℕ) {image : List ℕ}
-    → image_of file ≡ Ok image → (start : WorldState) → start ≡ opening image (alone budget) → is_over start ≡ true → Wrote output new (show_text start)
+pub shown_over : (input : SourceState) {output new : SinkState} (file : List ℕ) (budget : ℕ) {story : Story}
+    → story_of file ≡ Ok story → (start : WorldState) → start ≡ opened story budget → is_over start ≡ true → Wrote output new (show_text start)
     → Played input input output new file budget Done
-shown_over input {output} {new} file budget {image} good start is over wrote = record {
+shown_over input {output} {new} file budget {story} good start is over wrote = record {
   read = [];
-  written = show_text (opening image (alone budget));
+  written = show_text (opened story budget);
   gave = gave_none input;
   wrote = subst (λ (w : WorldState). Wrote output new (show_text w)) is wrote;
-  leaves = ok_and _ good (sym (append-nil (show_text (opening image (alone budget)))), inr (ap is_over (sym is) ∙ over));
+  leaves = ok_and _ good (sym (append-nil (show_text (opened story budget))), inr (ap is_over (sym is) ∙ over));
   read_fault = λ e. cc;
 }
 
 begun_part : (first part text : List ℕ) → IsPartOf part text → IsPartOf (first ++ part) (first ++ text)
 begun_part first part text p = (p.0, ap (λ t. first ++ t) p.1 ∙ sym (append_assoc first part p.0))
 
-part_of_run : (file : List ℕ) (budget : ℕ) (image read written : List ℕ) → image_of file ≡ Ok image → IsPartOf written (replies solo (opening image (alone budget)) (lines read))
-    → IsPartOf (show_text (opening image (alone budget)) ++ written) (whole_text (image_of file) budget (lines read))
-part_of_run file budget image read written good p =
-    subst (λ (r : Result (List ℕ) ImageFault). IsPartOf (show_text (opening image (alone budget)) ++ written) (whole_text r budget (lines read))) (sym good)
-    (begun_part (show_text (opening image (alone budget))) written (replies solo (opening image (alone budget)) (lines read)) p)
+part_of_run : (file : List ℕ) (budget : ℕ) (story : Story) (read written : List ℕ) → story_of file ≡ Ok story → IsPartOf written (replies solo (opened story budget) (lines read))
+    → IsPartOf (show_text (opened story budget) ++ written) (whole_text (story_of file) budget (lines read))
+part_of_run file budget story read written good p =
+    subst (λ (r : Result Story ImageFault). IsPartOf (show_text (opened story budget) ++ written) (whole_text r budget (lines read))) (sym good)
+    (begun_part (show_text (opened story budget)) written (replies solo (opened story budget) (lines read)) p)
 
-talk_leaves : (status : Status) (file : List ℕ) (budget : ℕ) (image read : List ℕ) (now : SourceState) (written : List ℕ) → image_of file ≡ Ok image
-    → TalkLeaves status solo (opening image (alone budget)) read now written
-    → RunLeaves status file budget read now (show_text (opening image (alone budget)) ++ written)
-talk_leaves Done file budget image read now written good t = ok_and _ good (ap (λ w. show_text (opening image (alone budget)) ++ w) t.0, t.1)
-talk_leaves BadWords file budget image read now written good t = absurd t
-talk_leaves Refused file budget image read now written good t = absurd t
-talk_leaves ReadFault file budget image read now written good t = ok_and _ good (ap (λ w. show_text (opening image (alone budget)) ++ w) t)
-talk_leaves WriteFault file budget image read now written good t = part_of_run file budget image read written good t
-talk_leaves NoMemory file budget image read now written good t = part_of_run file budget image read written good t
-talk_leaves LineLimit file budget image read now written good t = ok_and _ good (ap (λ w. show_text (opening image (alone budget)) ++ w) t.0, t.1)
+talk_leaves : (status : Status) (file : List ℕ) (budget : ℕ) (story : Story) (read : List ℕ) (now : SourceState) (written : List ℕ) → story_of file ≡ Ok story
+    → TalkLeaves status solo (opened story budget) read now written
+    → RunLeaves status file budget read now (show_text (opened story budget) ++ written)
+talk_leaves Done file budget story read now written good t = ok_and _ good (ap (λ w. show_text (opened story budget) ++ w) t.0, t.1)
+talk_leaves BadWords file budget story read now written good t = absurd t
+talk_leaves Refused file budget story read now written good t = absurd t
+talk_leaves ReadFault file budget story read now written good t = ok_and _ good (ap (λ w. show_text (opened story budget) ++ w) t)
+talk_leaves WriteFault file budget story read now written good t = part_of_run file budget story read written good t
+talk_leaves NoMemory file budget story read now written good t = part_of_run file budget story read written good t
+talk_leaves LineLimit file budget story read now written good t = ok_and _ good (ap (λ w. show_text (opened story budget) ++ w) t.0, t.1)
 
 -- the opening was shown, and then lines were answered
-pub shown_talked : {input now : SourceState} {output mid new : SinkState} (file : List ℕ) (budget : ℕ) (status : Status) {image : List ℕ}
-    → image_of file ≡ Ok image → (start : WorldState) → start ≡ opening image (alone budget) → Wrote output mid (show_text start)
+pub shown_talked : {input now : SourceState} {output mid new : SinkState} (file : List ℕ) (budget : ℕ) (status : Status) {story : Story}
+    → story_of file ≡ Ok story → (start : WorldState) → start ≡ opened story budget → Wrote output mid (show_text start)
     → Talked solo start input now mid new status → (status ≡ ReadFault → Rose input.faults now.faults)
     → Played input now output new file budget status
-shown_talked {input} {now} {output} {mid} {new} file budget status {image} good start is wrote talked read_fault =
-    let t : Talked solo (opening image (alone budget)) input now mid new status = subst (λ (w : WorldState). Talked solo w input now mid new status) is talked in
+shown_talked {input} {now} {output} {mid} {new} file budget status {story} good start is wrote talked read_fault =
+    let t : Talked solo (opened story budget) input now mid new status = subst (λ (w : WorldState). Talked solo w input now mid new status) is talked in
     record {
       read = t.read;
-      written = show_text (opening image (alone budget)) ++ t.written;
+      written = show_text (opened story budget) ++ t.written;
       gave = t.gave;
       wrote = wrote_then (subst (λ (w : WorldState). Wrote output mid (show_text w)) is wrote) t.wrote;
-      leaves = talk_leaves status file budget image t.read now t.written good t.leaves;
+      leaves = talk_leaves status file budget story t.read now t.written good t.leaves;
       read_fault = read_fault;
     }
 

@@ -1,5 +1,6 @@
 -- Lines of bytes, and those that a connection takes (own).
-use Rattle.std.specs.Prelude.{ℕ, ◌^◌, ◌==◌, if◌then◌else◌, List, [], ◌∷◌, ◌++◌, length, take, nat_le, Option, None, Some}
+use Rattle.std.specs.Prelude.{◌≡◌, ℕ, ◌^◌, ◌==◌, if◌then◌else◌, List, [], ◌∷◌, ◌++◌, take, false, Option, None, Some}
+use Rattle.line_words.specs.Play.{is_long}
 
 -- the lines of bytes, cut at each LF, where the first has begun already
 abbrev pub lines_from : List ℕ → List ℕ → List (List ℕ)
@@ -17,4 +18,9 @@ talk bytes = take (2 ^ 20) (lines (take (2 ^ 31) bytes))
 
 -- a line as it is heard; one of more than 2,048 bytes with its LF is dropped
 abbrev pub heard : List ℕ → Option (List ℕ)
-heard line = if nat_le (length line) 2047 then Some line else None
+heard line = if is_long line then None else Some line
+
+-- a line that is heard isn't too long
+abbrev pub IsHeard : Option (List ℕ) → Type 0
+IsHeard None = Unit {0}
+IsHeard (Some line) = is_long line ≡ false

@@ -8,6 +8,7 @@ use std::alloc::Global;
 /// One side of a conversation, which answers lines.
 pub trait Answers: Drop {
     ghost use Rattle.storyhost.specs.Conversation.{Answering};
+    ghost use Rattle.storyhost.specs.Lines.{IsHeard};
     ghost use Rattle.storyhost.specs.Streams.{Wrote};
     ghost use Rattle.storyhost.specs.Writing.{Stopped};
 
@@ -25,6 +26,7 @@ pub trait Answers: Drop {
         line: Option<&[u8]>,
         output: &mut K,
     ) -> Result<Self, Stop>
+        requires { IsHeard (option_map (λ l. l.now) line) }
         ensures next { IfOk result (λ now.
             now ≡ answering.next self (option_map (λ l. l.now) line.entry)) }
         ensures reply { OnOk result (Wrote (K.sink output.old) (K.sink output.new)

@@ -108,10 +108,7 @@ impl<'i> Answers for World<'i> {
                 write_all(output, b"NO 1\n")?;
                 Ok(self)
             }
-            Err(LineFault::LongLine) => {
-                write_all(output, b"NO 14\n")?;
-                Ok(self)
-            }
+            Err(LineFault::LongLine) => unreachable!("a line that is heard isn't too long"),
             Err(LineFault::NoMemory) => Err(Stop::Memory),
         }
     }

@@ -1,10 +1,9 @@
 //! The command `run`, which plays one story alone.
 ghost use Rattle.std.specs.Prelude.{◌≡◌, ◌<◌, ◌⊎◌, OnOk, IfOk, IfErr, length, string_bytes};
-ghost use Rattle.sha2.specs.Sha256.{sha256};
 ghost use Rattle.storyhost.specs.Causes.{Rose};
 ghost use Rattle.storyhost.specs.Streams.{Wrote};
 ghost use Rattle.storyhost.specs.Writing.{Stopped};
-ghost use Rattle.storyhost.specs.RunText.{bad_line, check_number, alone};
+ghost use Rattle.storyhost.specs.RunText.{bad_line, alone};
 ghost use Rattle.storyhost.specs.Ran.{Played, Ran};
 
 use crate::converse::converse;
@@ -14,8 +13,6 @@ use crate::sink::{Sink, Stop};
 use crate::source::Source;
 use crate::status::Status;
 use crate::write::write_all;
-use glulx_image::{Image, ImageFault};
-use sha2::{Digest, Sha256};
 use std::alloc::{AllocError, Global};
 use story_run::{Setup, Story, World};
 
@@ -31,19 +28,6 @@ fn alone(budget: u64) -> Setup
         cols: 80,
         rows: 24,
         budget,
-    }
-}
-
-/// The number of a check of a story file.
-fn check_number(fault: ImageFault) -> u8
-    ensures { result ≡ check_number fault }
-{
-    match fault {
-        ImageFault::Short => 1,
-        ImageFault::Magic => 2,
-        ImageFault::Version => 3,
-        ImageFault::Layout => 4,
-        ImageFault::TooLarge => 5,
     }
 }
 
@@ -64,13 +48,6 @@ fn refuse<K: Sink>(alloc: Global, check: u8, output: &mut K) -> Result<(), Stop>
     write_all(output, line.as_bytes())
 }
 
-/// The SHA-256 digest of a file.
-fn digest_of(bytes: &[u8]) -> [u8; 32]
-    ensures { result ≡ sha256 bytes.now }
-{
-    Sha256::digest(bytes)
-}
-
 /// Plays the story of a file.
 fn play_file<S: Source, K: Sink>(
     alloc: Global,
@@ -86,17 +63,15 @@ fn play_file<S: Source, K: Sink>(
     ensures write_fault { result ≡ Status.WriteFault
         → Rose (K.sink output.old).faults (K.sink output.new).faults }
 {
-    let image = match Image::parse(bytes) {
-        Ok(image) => image,
+    let story = match Story::of(bytes) {
+        Ok(story) => story,
         Err(fault) => {
-            return match refuse(alloc, check_number(fault), output) {
+            return match refuse(alloc, fault.number(), output) {
                 Ok(()) => Status::Refused,
                 Err(stop) => stop.status(),
             };
         }
     };
-    let digest = digest_of(bytes);
-    let story = Story { image, digest };
     let Ok(world) = World::start(alloc, &story, alone(budget)) else {
         return Status::NoMemory;
     };
