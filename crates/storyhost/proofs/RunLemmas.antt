@@ -1,5 +1,5 @@
 -- How the parts of a run make the run of a story file.
-use Rattle.std.proofs.Common.{◌≡◌, ℕ, inl, inr, List, [], ◌++◌, refl, sym, ap, ◌∙◌, subst, append_assoc, Option, None, Some, Result, Ok, Err, IsOkAnd, IsErrAnd, true}
+use Rattle.std.proofs.Common.{◌≡◌, ℕ, arith, inl, inr, List, [], ◌++◌, refl, sym, ap, ◌∙◌, subst, append_assoc, Option, None, Some, Result, Ok, Err, IsOkAnd, IsErrAnd, true}
 use Rattle.std.proofs.lemmas.List.{append-nil}
 use Rattle.glulx_image.specs.Fault.{number_of}
 use Rattle.glulx_image.specs.declared.fault.ImageFault.{ImageFault}
@@ -14,9 +14,9 @@ use Rattle.storyhost.specs.declared.status.Status.TheVariants.{Done, BadWords, R
 use Rattle.storyhost.specs.Causes.{Rose}
 use Rattle.storyhost.specs.Conversation.{replies}
 use Rattle.storyhost.specs.Files.{OutsideState, IsFile}
-use Rattle.storyhost.specs.Headline.{RunLeaves, whole_text}
+use Rattle.storyhost.specs.Headline.{whole_text}
 use Rattle.storyhost.specs.Lines.{lines}
-use Rattle.storyhost.specs.Ran.{Played, Ran}
+use Rattle.storyhost.specs.Ran.{Played, Ran, RunLeaves}
 use Rattle.storyhost.specs.RunText.{opened, solo, show_text, bad_line}
 use Rattle.storyhost.specs.Status.{status_of_stop}
 use Rattle.storyhost.specs.Streams.{SourceState, SinkState, Wrote}
@@ -38,6 +38,7 @@ refused_played input file budget fault refused wrote = record {
   read = [];
   written = bad_line 0 (number_of fault);
   gave = gave_none input;
+  within = omega arith;
   wrote = wrote;
   leaves = err_and _ refused refl;
   read_fault = λ e. cc;
@@ -62,6 +63,7 @@ stopped_played input {output} {new} file budget {text} {cause} rest is s =
       read = [];
       written = all.wrote.part;
       gave = gave_none input;
+      within = omega arith;
       wrote = all.wrote.wrote;
       leaves = stop_leaves cause file budget [] input all.wrote.part (all.rest, is ∙ all.wrote.split);
       read_fault = λ e. no_read_fault cause e;
@@ -79,6 +81,7 @@ memory_played input output file budget = record {
   read = [];
   written = [];
   gave = gave_none input;
+  within = omega arith;
   wrote = wrote_none output;
   leaves = (whole_text (story_of file) budget [], refl);
   read_fault = λ e. cc;
@@ -100,6 +103,7 @@ shown_over input {output} {new} file budget {story} good start is over wrote = r
   read = [];
   written = show_text (opened story budget);
   gave = gave_none input;
+  within = omega arith;
   wrote = subst (λ (w : WorldState). Wrote output new (show_text w)) is wrote;
   leaves = ok_and _ good (sym (append-nil (show_text (opened story budget))), inr (ap is_over (sym is) ∙ over));
   read_fault = λ e. cc;
@@ -136,6 +140,7 @@ shown_talked {input} {now} {output} {mid} {new} file budget status {story} good 
       read = t.read;
       written = show_text (opened story budget) ++ t.written;
       gave = t.gave;
+      within = t.within;
       wrote = wrote_then (subst (λ (w : WorldState). Wrote output mid (show_text w)) is wrote) t.wrote;
       leaves = talk_leaves status file budget story t.read now t.written good t.leaves;
       read_fault = read_fault;

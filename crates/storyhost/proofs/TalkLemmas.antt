@@ -11,7 +11,7 @@ use Rattle.storyhost.specs.Streams.{SourceState, SinkState, Gave, Wrote}
 use Rattle.storyhost.specs.Status.{status_of_stop}
 use Rattle.storyhost.specs.Writing.{IsPartOf, Stopped}
 use Rattle.storyhost.specs.Lines.{heard, lines_from, lines, talk}
-use Rattle.storyhost.specs.Conversation.{Answering, replies_heard, after_heard, replies}
+use Rattle.storyhost.specs.Conversation.{Answering, replies_heard, after_heard, replies, after}
 use Rattle.storyhost.specs.Hearing.{heard_from, begun_after, longer}
 use Rattle.storyhost.specs.Talked.{Talked, TalkLeaves}
 use Rattle.storyhost.proofs.StreamsLemmas.{gave_none, gave_then, wrote_none, wrote_then}
@@ -139,6 +139,13 @@ talk_small bytes few =
 count_lines : (bytes : List ℕ) → length (lines bytes) ≡ length (heard_from (Some []) bytes)
 count_lines bytes = sym (ap length (kept_lines bytes) ∙ length-map (lines bytes) heard)
 
+-- at most 2^31 bytes are read
+read_within : (xs piece : List ℕ) (room : ℕ) → length xs + room ≡ 2 ^ 31 → length piece ≤ room → length (xs ++ piece) ≤ 2 ^ 31
+read_within xs piece room fits within = omega (arith, length-append xs piece)
+
+nothing_within : (xs : List ℕ) (room : ℕ) → length xs + room ≡ 2 ^ 31 → length (xs ++ []) ≤ 2 ^ 31
+nothing_within xs room fits = omega (arith, length-append xs [])
+
 -- the source has ended
 pub talk_end : {A : Type 0} {by : Answering A} {start : A} {input : SourceState} {output : SinkState}
     {now : SourceState} {new : SinkState} {state : A} {line : Line} {count room : ℕ}
@@ -153,14 +160,17 @@ talk_end {A} {by} {start} {input} {output} {now} {new} {state} {line} {count} {r
       read = t.read ++ [];
       written = replies_heard by start (heard_from (Some []) t.read);
       gave = gave_then t.gave gave;
+      within = nothing_within t.read room t.fits;
       wrote = t.wrote;
       leaves = rw append-nil (
         ap (replies_heard by start) (kept_lines t.read),
         inl (record {
           ended = ended;
           at_end = at_end;
-          bytes = omega (arith, fits, more);
-          count = omega (arith, count_lines t.read, counts, few);
+          within = record {
+            size = omega (arith, fits, more);
+            count = omega (arith, count_lines t.read, counts, few);
+          };
         }),
       );
     }
@@ -174,6 +184,7 @@ talk_fault {A} {by} {start} {input} {output} {now} {new} {state} {line} {count} 
   read = t.read ++ [];
   written = replies_heard by start (heard_from (Some []) t.read);
   gave = gave_then t.gave gave;
+  within = nothing_within t.read room t.fits;
   wrote = t.wrote;
   leaves = rw append-nil (ap (replies_heard by start) (kept_lines t.read));
 }
@@ -194,8 +205,9 @@ talk_full {A} {by} {start} {input} {output} {now} {new} {state} {line} {count} {
       read = t.read;
       written = replies_heard by start (heard_from (Some []) t.read);
       gave = t.gave;
+      within = within;
       wrote = t.wrote;
-      leaves = (ap (replies_heard by start) (sym (talk_small t.read within ∙ take_all (2 ^ 20) (heard_from (Some []) t.read) whole)), inl all);
+      leaves = (ap (replies_heard by start) (sym (talk_small t.read within ∙ take_all (2 ^ 20) (heard_from (Some []) t.read) whole)), inl (omega (arith, all)));
     }
 
 -- what a further piece adds
@@ -217,9 +229,9 @@ more_replies {A} {by} {start} {input} {output} {now} {new} {state} {line} {count
 pub talk_over : {A : Type 0} {by : Answering A} {start : A} {input : SourceState} {output : SinkState}
     {now : SourceState} {new : SinkState} {state : A} {line : Line} {count room : ℕ}
     → Talking by start input output now new state line count room
-    → (piece : List ℕ) {now' : SourceState} {new' : SinkState} → Gave now now' piece → by.is_over (after_heard by state (heard_from line piece)) ≡ true
+    → (piece : List ℕ) {now' : SourceState} {new' : SinkState} → Gave now now' piece → length piece ≤ room → by.is_over (after_heard by state (heard_from line piece)) ≡ true
     → Wrote new new' (replies_heard by state (heard_from line piece)) → Talked by start input now' output new' Done
-talk_over {A} {by} {start} {input} {output} {now} {new} {state} {line} {count} {room} t piece {now'} {new'} gave over wrote =
+talk_over {A} {by} {start} {input} {output} {now} {new} {state} {line} {count} {room} t piece {now'} {new'} gave within over wrote =
     let more = more_lines t piece in
     let text = ap (replies_heard by start) (sym (kept_lines (t.read ++ piece)) ∙ more) ∙ more_replies t (heard_from line piece) in
     let last = ap (after_heard by start) (sym (kept_lines (t.read ++ piece)) ∙ more) ∙ after_append by start (heard_from (Some []) t.read) (heard_from line piece)
@@ -228,6 +240,7 @@ talk_over {A} {by} {start} {input} {output} {now} {new} {state} {line} {count} {
       read = t.read ++ piece;
       written = replies_heard by start (heard_from (Some []) t.read) ++ replies_heard by state (heard_from line piece);
       gave = gave_then t.gave gave;
+      within = read_within t.read piece room t.fits within;
       wrote = wrote_then t.wrote wrote;
       leaves = (sym text, inr (ap by.is_over last ∙ over));
     }
@@ -252,6 +265,7 @@ talk_limit {A} {by} {start} {input} {output} {now} {new} {state} {line} {count} 
       read = t.read ++ piece;
       written = replies_heard by start lines0 ++ replies_heard by state (take (2 ^ 20 - count) (heard_from line piece));
       gave = gave_then t.gave gave;
+      within = small;
       wrote = wrote_then t.wrote wrote;
       leaves = (
         sym (ap (replies_heard by start) taken_lines ∙ more_replies t (take (2 ^ 20 - count) (heard_from line piece))),
@@ -268,15 +282,44 @@ stop_leaves by start stop.Memory read now written p = p
 pub talk_stopped : {A : Type 0} {by : Answering A} {start : A} {input : SourceState} {output : SinkState}
     {now : SourceState} {new : SinkState} {state : A} {line : Line} {count room : ℕ}
     → Talking by start input output now new state line count room
-    → (piece : List ℕ) {now' : SourceState} {new' : SinkState} → Gave now now' piece → {cause : Stop} → Stopped new new' (replies_heard by state (heard_from line piece)) cause
+    → (piece : List ℕ) {now' : SourceState} {new' : SinkState} → Gave now now' piece → length piece ≤ room → {cause : Stop} → Stopped new new' (replies_heard by state (heard_from line piece)) cause
     → Talked by start input now' output new' (status_of_stop cause)
-talk_stopped {A} {by} {start} {input} {output} {now} {new} {state} {line} {count} {room} t piece {now'} {new'} gave {cause} s =
+talk_stopped {A} {by} {start} {input} {output} {now} {new} {state} {line} {count} {room} t piece {now'} {new'} gave within {cause} s =
     let text = ap (replies_heard by start) (sym (kept_lines (t.read ++ piece)) ∙ more_lines t piece) ∙ more_replies t (heard_from line piece) in
     let all = stopped_then t.wrote s in
     record {
       read = t.read ++ piece;
       written = all.wrote.part;
       gave = gave_then t.gave gave;
+      within = read_within t.read piece room t.fits within;
       wrote = all.wrote.wrote;
       leaves = stop_leaves by start cause (t.read ++ piece) now' all.wrote.part (all.rest, text ∙ all.wrote.split);
     }
+
+-- the lines of more bytes, as they are heard
+heard_more : (read rest : List ℕ) → (more : List Line) × (map heard (lines (read ++ rest)) ≡ map heard (lines read) ++ more)
+heard_more read rest = (
+  heard_from (begun_after (Some []) read) rest,
+  sym (kept_lines (read ++ rest)) ∙ heard_append (Some []) read rest ∙ ap (λ l. l ++ heard_from (begun_after (Some []) read) rest) (kept_lines read),
+)
+
+-- the replies to the lines of a part begin those of the whole
+pub replies_more : {A : Type 0} (by : Answering A) (start : A) (read rest : List ℕ)
+    → (more : List ℕ) × (replies by start (lines (read ++ rest)) ≡ replies by start (lines read) ++ more)
+replies_more by start read rest =
+    let h = heard_more read rest in
+    (replies_heard by (after by start (lines read)) h.0, ap (replies_heard by start) h.1 ∙ replies_append by start (map heard (lines read)) h.0)
+
+-- once no more lines are answered, more bytes change nothing
+pub replies_settled : {A : Type 0} (by : Answering A) (start : A) (read rest : List ℕ) → by.is_over (after by start (lines read)) ≡ true
+    → replies by start (lines (read ++ rest)) ≡ replies by start (lines read)
+replies_settled by start read rest over =
+    let h = heard_more read rest in
+    ap (replies_heard by start) h.1 ∙ replies_append by start (map heard (lines read)) h.0
+    ∙ ap (λ l. replies by start (lines read) ++ l) (replies_over by (after by start (lines read)) h.0 over) ∙ append-nil (replies by start (lines read))
+
+pub after_settled : {A : Type 0} (by : Answering A) (start : A) (read rest : List ℕ) → by.is_over (after by start (lines read)) ≡ true
+    → after by start (lines (read ++ rest)) ≡ after by start (lines read)
+after_settled by start read rest over =
+    let h = heard_more read rest in
+    ap (after_heard by start) h.1 ∙ after_append by start (map heard (lines read)) h.0 ∙ after_over by (after by start (lines read)) h.0 over

@@ -2,22 +2,17 @@
 use Rattle.std.specs.Prelude.{◌≡◌, ℕ, ◌^◌, ◌<◌, ◌≤◌, ◌⊎◌, List, length, true}
 use Rattle.std.specs.Io.KnownBytes.{IsAtEnd}
 use Rattle.storyhost.specs.Streams.{SourceState, SinkState, Gave, Wrote}
-use Rattle.storyhost.specs.Lines.{lines, talk}
+use Rattle.storyhost.specs.Lines.{lines, talk, IsWithinLimits, ReachesLimit}
 use Rattle.storyhost.specs.Conversation.{Answering, replies, after}
 use Rattle.storyhost.specs.Writing.{IsPartOf}
 use Rattle.storyhost.specs.declared.status.Status.{Status}
 use Rattle.storyhost.specs.declared.status.Status.TheVariants.{Done, BadWords, Refused, ReadFault, WriteFault, NoMemory, LineLimit}
 
--- the input was read to its end, and no limit of a connection was reached
+-- the input was read to its end, within the limits of a connection
 pub record IsReadToEnd (read : List ℕ) (now : SourceState) : Type 0 where
   pub ended : now.ended ≡ true
   pub at_end : IsAtEnd now.left
-  pub bytes : length read < 2 ^ 31
-  pub count : length (lines read) < 2 ^ 20
-
--- a limit of a connection was reached
-abbrev pub IsAtLimit : List ℕ → Type 0
-IsAtLimit read = (length read ≡ 2 ^ 31) ⊎ (2 ^ 20 ≤ length (lines read))
+  pub within : IsWithinLimits read
 
 -- what a conversation leaves, by the bytes read and the bytes written
 abbrev pub TalkLeaves : {S : Type 0} → Status → Answering S → S → List ℕ → SourceState → List ℕ → Type 0
@@ -27,7 +22,7 @@ TalkLeaves Done by start read now written =
 TalkLeaves ReadFault by start read now written = written ≡ replies by start (lines read)
 TalkLeaves WriteFault by start read now written = IsPartOf written (replies by start (lines read))
 TalkLeaves NoMemory by start read now written = IsPartOf written (replies by start (lines read))
-TalkLeaves LineLimit by start read now written = (written ≡ replies by start (talk read)) × IsAtLimit read
+TalkLeaves LineLimit by start read now written = (written ≡ replies by start (talk read)) × ReachesLimit read
 TalkLeaves BadWords by start read now written = ⊥
 TalkLeaves Refused by start read now written = ⊥
 
@@ -37,5 +32,6 @@ pub record Talked {S : Type 0} (by : Answering S) (start : S) (input now : Sourc
   pub read : List ℕ
   pub written : List ℕ
   pub gave : Gave input now read
+  pub within : length read ≤ 2 ^ 31
   pub wrote : Wrote output new written
   pub leaves : TalkLeaves status by start read now written

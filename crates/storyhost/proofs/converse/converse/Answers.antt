@@ -10,7 +10,7 @@ returns-in-Failed-clause-value g c = talk_fault c.loop-room.invariant c.in-Faile
 
 pub returns-in-Ok-Over-clause-value : goal.returns-in-Ok-Over-clause-value
 returns-in-Ok-Over-clause-value g c =
-    talk_over c.loop-room.invariant c.split_at.result.0.now (rw c.split_at.ensures.front c.in-Bytes.ensures.value) (rw c.in-Ok-Over.field-0-is at c.in-Ok-Over.ensures.leads) (rw c.in-Ok-Over.field-0-is at c.in-Ok-Over.ensures.said)
+    talk_over c.loop-room.invariant c.split_at.result.0.now (rw c.split_at.ensures.front c.in-Bytes.ensures.value) (omega (arith, c.split_at.ensures.front_len, c.in-Bytes.ensures.within)) (rw c.in-Ok-Over.field-0-is at c.in-Ok-Over.ensures.leads) (rw c.in-Ok-Over.field-0-is at c.in-Ok-Over.ensures.said)
 
 pub returns-in-Ok-Limit-clause-value : goal.returns-in-Ok-Limit-clause-value
 returns-in-Ok-Limit-clause-value g c =
@@ -18,7 +18,7 @@ returns-in-Ok-Limit-clause-value g c =
 
 pub returns-in-Err-clause-value : goal.returns-in-Err-clause-value
 returns-in-Err-clause-value g c =
-    rw c.status.ensures (talk_stopped c.loop-room.invariant c.split_at.result.0.now (rw c.split_at.ensures.front c.in-Bytes.ensures.value) c.in-Err.ensures.err)
+    rw c.status.ensures (talk_stopped c.loop-room.invariant c.split_at.result.0.now (rw c.split_at.ensures.front c.in-Bytes.ensures.value) (omega (arith, c.split_at.ensures.front_len, c.in-Bytes.ensures.within)) c.in-Err.ensures.err)
 
 pub returns-clause-value : goal.returns-clause-value
 returns-clause-value g c = talk_full c.loop-room.invariant (omega arith)
