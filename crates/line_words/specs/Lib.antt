@@ -5,3 +5,4 @@ pub mod Play
 pub mod Request
 pub mod Spelling
 pub mod Reply
+pub mod Laws

@@ -4,6 +4,7 @@
 mod fault;
 mod field;
 mod key;
+mod laws;
 mod number;
 mod play;
 mod read;
@@ -12,6 +13,9 @@ mod request;
 
 pub use fault::LineFault;
 pub use key::Key;
+pub use laws::{
+    prints_spellings, reads_each_play, reads_each_request, reads_plays_only, reads_requests_only,
+};
 pub use play::{Play, read_play};
 pub use read::read_request;
 pub use reply::{No, Reply, write_reply};

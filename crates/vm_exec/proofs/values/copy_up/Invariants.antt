@@ -1,0 +1,7 @@
+use Rattle.std.proofs.Common.{◌≡◌, ℕ, ◌-◌}
+use Rattle.vm_exec.specs.Rows.Values as rows
+use Rattle.vm_exec.proofs.values.copy_up.Given as goal
+
+abbrev pub invariant-loop : goal.invariant-loop
+invariant-loop l =
+    rows.copied_up l.fn.stack (l.count - 1) l.count ≡ rows.copied_up l.stack (l.count - 1) (l.count - l.counter)
