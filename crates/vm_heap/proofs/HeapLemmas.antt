@@ -67,7 +67,7 @@ pub is_heap-of : (start : ℕ) (bs : List Block) → 0 < start → IsTrue (in_or
 is_heap-of start [] l h = refl
 is_heap-of start (b ∷ bs) l h = let e : nat_lt 0 start ≡ true = grind (arith, common_steps) in rw e h
 
-positive : (start : ℕ) (b : Block) (bs : List Block) → IsTrue (is_heap start (b ∷ bs)) → 0 < start
+pub positive : (start : ℕ) (b : Block) (bs : List Block) → IsTrue (is_heap start (b ∷ bs)) → 0 < start
 positive start b bs h = grind (arith, common_steps)
 
 pub filled_heap : (start : ℕ) (bs : List Block) → 0 < start → 0 < length bs → IsTrue (in_order start bs) → IsTrue (is_heap start bs)

@@ -5,8 +5,12 @@ mod block;
 mod fault;
 mod free;
 mod heap;
+mod history;
 mod malloc;
+#[cfg(test)]
+mod tests;
 
 pub use block::{Block, MAX_SIZE, is_heap};
 pub use fault::HeapFault;
 pub use heap::Heap;
+pub use history::{Call, held_after};
