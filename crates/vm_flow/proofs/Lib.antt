@@ -2,3 +2,4 @@ pub mod ThrowLemmas
 pub mod FormatLemmas
 pub mod ArgumentLemmas
 pub mod TokenLemmas
+pub mod StandardFacts

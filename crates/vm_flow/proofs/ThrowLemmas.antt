@@ -1,5 +1,5 @@
 -- Returns and throws, step by step.
-use Rattle.std.proofs.Common.{◌≡◌, ◌≢◌, ℕ, zero, suc, ◌+◌, ◌-◌, ◌<◌, Bool, true, false, length, refl, arith, Result, Ok, Err, Option, Some, None, ap, sym, ◌∙◌}
+use Rattle.std.proofs.Common.{◌≡◌, ◌≢◌, ℕ, zero, suc, ◌-◌, ◌<◌, ◌≤◌, true, false, length, refl, arith, Result, Ok, Err, Some, ap, sym, subst}
 use Rattle.std.proofs.lemmas.Bool.{ne_eqb}
 use Rattle.vm_stack.specs.StackState.{StackState}
 use Rattle.vm_stack.specs.Frame.{left}
@@ -7,6 +7,7 @@ use Rattle.vm_stack.specs.Stub.{stub_taken}
 use Rattle.vm_stack.specs.Token.{ends_stub}
 use Rattle.vm_stack.specs.declared.stub.Stub.{Stub}
 use Rattle.vm_stack.specs.declared.fault.StackFault.{StackFault}
+use Rattle.vm_flow.specs.Answer.{Gives}
 use Rattle.vm_flow.specs.Return.{stub_or_end}
 use Rattle.vm_flow.specs.Throw.{thrown_in, taken_at}
 use Rattle.vm_flow.specs.declared.stop.FlowStop.{FlowStop}
@@ -25,3 +26,20 @@ thrown_here (suc n) s token some e = rw e refl
 pub thrown_below : (n : ℕ) (s : StackState) (token : ℕ) → 0 < n → ends_stub s token ≡ false → thrown_in n s token ≡ thrown_in (n - 1) (left s) token
 thrown_below zero s token some e = absurd (omega (arith, some))
 thrown_below (suc n) s token some e = rw e (ap (λ (k : ℕ). thrown_in k (left s) token) (omega arith))
+
+pub thrown_none : (n : ℕ) (s : StackState) (token : ℕ) → n ≤ 0 → thrown_in n s token ≡ Err (stop.BadToken token)
+thrown_none zero s token none = refl
+thrown_none (suc n) s token none = absurd (omega (arith, none))
+
+abbrev Stops : Result (StackState × Stub) FlowStop → Type 0
+Stops (Ok x) = ⊥
+Stops (Err e) = Unit {0}
+
+abbrev answered : Result (StackState × Stub) FlowStop → Result Stub FlowStop
+answered (Ok x) = Ok x.1
+answered (Err e) = Err e
+
+-- a call that should stop answers that stop
+pub gives_stop : (new : StackState) (r : Result Stub FlowStop) (e : FlowStop) → Gives (Err e) new r → r ≡ Err e
+gives_stop new (Ok x) e h = absurd (subst Stops h tt)
+gives_stop new (Err f) e h = sym (ap answered h)

@@ -46,7 +46,8 @@ pub fn tail_call(
     at: u32,
     args: &[u32],
 ) -> Result<u32, FlowStop>
-    ensures ok { GivesWithRoom (calls.called memory.now (left stack.old) at args.now) stack.new result }
+    ensures ok { GivesWithRoom (calls.called memory.now (left stack.old) at args.now)
+        stack.new result }
 
     ensures kept { Chain stack.old → OnOk result (Chain stack.new) }
     ensures there { OnOk result (HasFrame stack.new) }

@@ -59,7 +59,9 @@ fn what_is_no_function_is_refused(rt: HostRuntime) -> Result<(), Fail> {
     // a C2 at 0, a local of 3 bytes at 4, a pair 5,0 at 8, a list that runs off at 251
     let mut file = file_of(&[0xC2, 0, 0, 0, 0xC1, 3, 1, 0, 0xC1, 5, 0]);
     file[251] = 0xC0;
-    file[252..].copy_from_slice(&[1, 1, 1, 1]);
+    for at in 252..256 {
+        file[at] = 1;
+    }
     let memory = Memory::new(rt.alloc(), &file, 256, 256)?;
     let mut stack = Stack::with_size(rt.alloc(), 256)?;
     let rows = [

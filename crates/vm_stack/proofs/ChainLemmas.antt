@@ -135,7 +135,8 @@ ready_from s (fr ∷ below) c is bytes frame =
     let four = is.four in
     inr (
       omega (arith, held, four),
-      ap (λ (xs : List ℕ). number 4 xs (length xs - 4)) bytes ∙ (named_below (fr ∷ below) is c ∙ sym frame))
+      ap (λ (xs : List ℕ). number 4 xs (length xs - 4)) bytes ∙ (named_below (fr ∷ below) is c ∙ sym frame),
+    )
 
 left_ready_in : (s : StackState) (frames : List Frame) → IsChain frames → s.bytes ≡ spelled frames → s.frame ≡ start frames → IsReady (left s)
 left_ready_in s [] c bytes frame = inl (rw (bytes, frame) refl)
@@ -178,8 +179,9 @@ length_put l new o h =
 pub length_replaced : (bytes : List ℕ) (at : ℕ) (new : List ℕ) → length (replaced bytes at new) ≡ length bytes
 length_replaced bytes at new =
     elim (cases_Bool (nat_le (at + length new) (length bytes))) [
-      inl e ↦ rw e (length_put bytes new at (leb-true _ _ e))
-    | inr e ↦ rw e refl ]
+      | inl e ↦ rw e (length_put bytes new at (leb-true _ _ e))
+      | inr e ↦ rw e refl
+    ]
 
 set_in : (s : StackState) (frames : List Frame) (offset : ℕ) (new : List ℕ) → IsChain frames → s.bytes ≡ spelled frames → s.frame ≡ start frames → HasFrame s
     → offset + length new ≤ frame_len s - locals_pos s → Chain (record s { bytes = replaced s.bytes (local_at s offset) new })
@@ -317,7 +319,7 @@ frame_on_top s le = ap (λ (n : ℕ). number 4 s.bytes n) (omega (arith, le))
 sum_back : (a b : ℕ) → a ≤ b → b ≡ a + (b - a)
 sum_back a b h = omega (arith, h)
 
-number_before : (xs : List ℕ) (n : ℕ) → 4 ≤ n → n ≤ length xs → number 4 (take n xs) (n - 4) ≡ number 4 xs (n - 4)
+pub number_before : (xs : List ℕ) (n : ℕ) → 4 ≤ n → n ≤ length xs → number 4 (take n xs) (n - 4) ≡ number 4 xs (n - 4)
 number_before xs n four le =
     let size = length-take-le n xs le in
     let split = take-append-drop n xs in

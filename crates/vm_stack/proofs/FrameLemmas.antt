@@ -89,7 +89,7 @@ fours_of_is : (format : List ℕ) → frame_len_of format ≡ 4 * fours_of forma
 unfolding fours_of
 fours_of_is format = omega arith
 
-fours_below : (frames : List Frame) → IsChain frames → (n : ℕ) × (length (spelled frames) ≡ 4 * n)
+pub fours_below : (frames : List Frame) → IsChain frames → (n : ℕ) × (length (spelled frames) ≡ 4 * n)
 fours_below [] c = (0, refl)
 fours_below (fr ∷ below) c =
     let rest = fours_below below c.1.1 in
@@ -120,9 +120,9 @@ top_of s fr below h is chain bytes frame = record {
   values = fr.values;
   count = fr.count;
   some =
-    let b = length_before fr below h in
-    let u = aligned_up (8 + length fr.format) in
-    omega (arith, b, u);
+      let b = length_before fr below h in
+      let u = aligned_up (8 + length fr.format) in
+      omega (arith, b, u);
   fours = (fours_below below chain).0 + fours_of fr.format;
   aligns =
       let low = (fours_below below chain).1 in

@@ -315,8 +315,8 @@ add_back a b h = omega (arith, h)
 pub part_is : (b : List ℕ) (at end : ℕ) → at ≤ end → drop at (take end b) ≡ take (end - at) (drop at b)
 part_is b at end h = ap (λ (n : ℕ). drop at (take n b)) (add_back at end h) ∙ drop-take at (end - at) b
 
-pub low_is : (b : List ℕ) (at end : ℕ) → at ≤ end → end ≤ length b → take at (take end b) ≡ take at b
-low_is b at end h g =
+pub take_within : (b : List ℕ) (at end : ℕ) → at ≤ end → end ≤ length b → take at (take end b) ≡ take at b
+take_within b at end h g =
     let l = length-take-le end b g in
     sym (take-append-le at (take end b) (drop end b) (omega (arith, l, h))) ∙ ap (λ (ys : List ℕ). take at ys) (take-append-drop end b)
 
@@ -330,7 +330,7 @@ step_up b at end lt le e h low =
     let l = length-take-le end b le in
     link_up (take end b) at (omega (arith, l, lt)) (named_end b at end le e)
     (subst OneFrame (sym (part_is b at end (omega (arith, lt)))) h)
-    (subst LinkedFrames (sym (low_is b at end (omega (arith, lt)) le)) low)
+    (subst LinkedFrames (sym (take_within b at end (omega (arith, lt)) le)) low)
 
 pub record Step (b : List ℕ) (at end : ℕ) : Type 0 where
   pub inside : at < end
@@ -346,7 +346,7 @@ step_down b at end some le e c =
     record {
       inside = lt;
       frame = subst OneFrame (part_is b at end (omega (arith, lt))) below.frame;
-      low = subst LinkedFrames (low_is b at end (omega (arith, lt)) le) below.low;
+      low = subst LinkedFrames (take_within b at end (omega (arith, lt)) le) below.low;
     }
 
 -- what is loaded is a chain, and a chain with a stub of its own on top is one that can be loaded

@@ -28,6 +28,7 @@ impl Stack {
         ensures err { OnErr result (self.new ≡ self.old) }
 
         ensures kept { Chain self.old → HasFrame self.old → OnOk result (Chain self.new) }
+        ensures there { OnOk result (HasFrame self.new) }
         // after a stub for the current frame a new one may be entered
         ensures ready { Chain self.old → HasFrame self.old → stub.frame ≡ self.old.frame
             → OnOk result (IsReady self.new) }

@@ -1,0 +1,3 @@
+pub mod HeapMap
+pub mod FirstFit
+pub mod Allocation
