@@ -1,14 +1,14 @@
 -- More ticks leave a turn as it is, unless it wanted them.
 use Rattle.std.proofs.Common.{◌≡◌, ◌≢◌, ℕ, zero, suc, ◌+◌, ◌-◌, ◌<◌, ◌≤◌, Bool, true, false, nat_lt, refl, ap, sym, ◌∙◌, arith, Result, Ok, Err, cond, subst, ◌⊎◌, inl, inr}
 use Rattle.std.proofs.lemmas.Bool.Decides.{nat_tests}
-use Rattle.vm_exec.specs.Row.{finished, row, step_of}
+use Rattle.vm_exec.specs.Row.{row, step_of}
+use Rattle.vm_exec.specs.Start.{finished}
 use Rattle.vm_exec.specs.Rules.{Rule}
-use Rattle.vm_exec.specs.Stk.{Stk}
+use Rattle.vm_stack.specs.StackState.{StackState}
 use Rattle.vm_exec.specs.declared.machine.Machine.{Machine}
-use Rattle.vm_exec.specs.declared.machine.Out.{Out}
-use Rattle.vm_exec.specs.declared.machine.Out.TheVariants as out
-use Rattle.vm_operand.specs.Reading.{◌>>=◌}
-use Rattle.story_run.specs.Answer.{Reached}
+use Rattle.vm_exec.specs.declared.step.Out.{Out}
+use Rattle.vm_exec.specs.declared.step.Out.TheVariants as out
+use Rattle.story_run.specs.Answer.{Reached, ◌>>=◌}
 use Rattle.story_run.specs.Call.{called}
 use Rattle.story_run.specs.Output.{put_code}
 use Rattle.story_run.specs.Step.{Next, Runs, Rests, Running, next, running, stepped, followed, answered, done, stored, put}
@@ -58,7 +58,7 @@ done-shifts left more g m (call.Value value chars) =
     (later left more chars (met left chars e))
     (stored-shifts (left - chars) more g (finished m value)))
 
-answered-shifts : (left more : ℕ) (m : Machine) (x : Reached (Glk × Stk × Called)) → Shifts more (answered left m x) (answered (left + more) m x)
+answered-shifts : (left more : ℕ) (m : Machine) (x : Reached (Glk × StackState × Called)) → Shifts more (answered left m x) (answered (left + more) m x)
 answered-shifts left more m (Ok x) = done-shifts left more x.0 (record m { stack = x.1 }) x.2
 answered-shifts left more m (Err e) = inr refl
 

@@ -3,14 +3,13 @@ use Rattle.std.proofs.Common.{◌≡◌, ℕ, zero, suc, ◌+◌, ◌-◌, ◌<�
 use Rattle.std.specs.declared.alloc.AllocError.{AllocError}
 use Rattle.std.proofs.lemmas.Bool.Decides.{nat_tests}
 use Rattle.vm_exec.specs.Row.{Charged, charged, fetched, row, told, step_of}
-use Rattle.vm_exec.specs.Stk.{Stk}
-use Rattle.vm_exec.specs.Work.{Work, Free, Costs}
+use Rattle.vm_stack.specs.StackState.{StackState}
+use Rattle.vm_exec.specs.Rows.Work.{Work, Free, Costs}
 use Rattle.vm_exec.specs.declared.machine.Machine.{Machine}
-use Rattle.vm_exec.specs.declared.machine.Out.{Out}
-use Rattle.vm_exec.specs.declared.machine.Out.TheVariants as out
+use Rattle.vm_exec.specs.declared.step.Out.{Out}
+use Rattle.vm_exec.specs.declared.step.Out.TheVariants as out
 use Rattle.vm_exec.specs.Rules.{Rule}
-use Rattle.vm_operand.specs.Reading.{◌>>=◌}
-use Rattle.story_run.specs.Answer.{Reached}
+use Rattle.story_run.specs.Answer.{Reached, ◌>>=◌}
 use Rattle.story_run.specs.Call.{called}
 use Rattle.story_run.specs.Output.{put_code}
 use Rattle.story_run.specs.Step.{Next, Advances, Runs, Rests, Running, next, stepped, followed, answered, done, stored, put}
@@ -45,7 +44,7 @@ done-below ticks left g m (call.Wait event) h = tt
 done-below ticks left g m (call.Value value chars) h =
     charged-below ticks left (nat_lt left chars) g _ _ tt (stored-below ticks (left - chars) g _ (omega arith))
 
-answered-below : (ticks left : ℕ) (m : Machine) (x : Reached (Glk × Stk × Called)) → left < ticks → IsBelow ticks (answered left m x)
+answered-below : (ticks left : ℕ) (m : Machine) (x : Reached (Glk × StackState × Called)) → left < ticks → IsBelow ticks (answered left m x)
 answered-below ticks left m (Ok x) h = done-below ticks left x.0 (record m { stack = x.1 }) x.2 h
 answered-below ticks left m (Err e) h = tt
 

@@ -1,7 +1,7 @@
 -- A Glk call by its selector (Glk 0.7.5, "The Dispatch Layer").
 use Rattle.std.specs.Prelude.{ℕ, if◌then◌else◌, slice_index, Option, Some, None, Ok, Err}
 use Rattle.vm_memory.specs.MemoryMap.{MemoryMap}
-use Rattle.vm_exec.specs.Stk.{Stk}
+use Rattle.vm_stack.specs.StackState.{StackState}
 use Rattle.story_run.specs.Answer.{Reached, ◌>>=◌, within}
 use Rattle.story_run.specs.Arguments.{arguments}
 use Rattle.story_run.specs.Events.{asks, selects}
@@ -23,8 +23,8 @@ work Select g m l = selects g (l 0)
 work RequestLineEvent g m l = asks g (l 0) (l 1) (l 2) (l 3)
 
 -- the arguments are taken from the stack, and then the call's work is done
-abbrev pub called_with : Option c.Call → Glk → MemoryMap → Stk → ℕ → ℕ
-    → Reached (Glk × Stk × Called)
+abbrev pub called_with : Option c.Call → Glk → MemoryMap → StackState → ℕ → ℕ
+    → Reached (Glk × StackState × Called)
 called_with (Some call) g m s selector given =
     within g (arguments s (count_of call) given) >>= (λ p.
     work call g m (slice_index p.1) >>= (λ q. Ok (q.0, p.0, q.1)))
@@ -32,5 +32,5 @@ called_with (Some call) g m s selector given =
 called_with None g m s selector given = Err (g, if is_selector selector then 25 else 20)
 
 -- the call of this selector with so many arguments
-abbrev pub called : Glk → MemoryMap → Stk → ℕ → ℕ → Reached (Glk × Stk × Called)
+abbrev pub called : Glk → MemoryMap → StackState → ℕ → ℕ → Reached (Glk × StackState × Called)
 called g m s selector given = called_with (call_of selector) g m s selector given

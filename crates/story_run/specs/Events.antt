@@ -7,8 +7,9 @@ use Rattle.glk_input.specs.declared.input.Input.TheVariants.{Line, Char, File}
 use Rattle.vm_memory.specs.MemoryMap.{MemoryMap}
 use Rattle.vm_memory.specs.Access.{written}
 use Rattle.vm_memory.specs.Fault.{coded}
-use Rattle.vm_exec.specs.Stk.{Stk}
-use Rattle.vm_exec.specs.Stk as stack
+use Rattle.vm_stack.specs.StackState.{StackState}
+use Rattle.vm_stack.specs.Values.{pushed}
+use Rattle.vm_exec.specs.Fault.{stacked}
 use Rattle.story_run.specs.Answer.{Reached, ◌>>=◌, within, needs}
 use Rattle.story_run.specs.Glk.{is_window}
 use Rattle.story_run.specs.Output.{printed, printed_all}
@@ -57,11 +58,11 @@ written_line m at (c ∷ cs) =
     coded (written 1 m at c) >>= (λ n. written_line n ((at + 1) % 2 ^ 32) cs)
 
 -- a word at a reference: nowhere for 0, on the stack for 0xFFFFFFFF, else at the address
-abbrev pub referred : MemoryMap → Stk → ℕ → ℕ → Result (MemoryMap × Stk) ℕ
+abbrev pub referred : MemoryMap → StackState → ℕ → ℕ → Result (MemoryMap × StackState) ℕ
 referred m s at x =
     if at == 0 then Ok (m, s)
     else (if at == 4294967295
-    then stack.pushed s x >>= (λ t. Ok (m, t))
+    then stacked (pushed s x) >>= (λ t. Ok (m, t))
     else coded (written 4 m at x) >>= (λ n. Ok (n, s)))
 
 -- the reference of the next word of a structure
@@ -69,7 +70,7 @@ abbrev pub next_field : ℕ → ℕ
 next_field at = if at == 0 || at == 4294967295 then at else (at + 4) % 2 ^ 32
 
 -- a structure's words in order at a reference
-abbrev pub referred_all : MemoryMap → Stk → ℕ → List ℕ → Result (MemoryMap × Stk) ℕ
+abbrev pub referred_all : MemoryMap → StackState → ℕ → List ℕ → Result (MemoryMap × StackState) ℕ
 referred_all m s at [] = Ok (m, s)
 referred_all m s at (x ∷ xs) =
     referred m s at x >>= (λ p. referred_all p.0 p.1 (next_field at) xs)
@@ -84,8 +85,8 @@ echoed g line = printed_all g 8 line >>= (λ h. printed h 8 10)
 
 -- a line is delivered: the window prints it, the array takes it, and the event is told. The
 -- request is over.
-abbrev pub delivered : Glk → MemoryMap → Stk → LineRequest → ℕ → List ℕ
-    → Reached (Glk × (MemoryMap × Stk))
+abbrev pub delivered : Glk → MemoryMap → StackState → LineRequest → ℕ → List ℕ
+    → Reached (Glk × (MemoryMap × StackState))
 delivered g m s r event line =
     echoed (record g { request = None }) line >>= (λ h.
     within h (written_line m r.buf line) >>= (λ n.

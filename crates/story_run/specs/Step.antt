@@ -1,10 +1,11 @@
 -- One step of a story: the machine's, and then what it asks of Glk (own).
 use Rattle.std.specs.Prelude.{◌≡◌, ℕ, ◌-◌, nat_lt, if◌then◌else◌, Result, Ok, Err}
-use Rattle.vm_exec.specs.Row.{row, told, finished}
-use Rattle.vm_exec.specs.Stk.{Stk}
+use Rattle.vm_exec.specs.Row.{row, told}
+use Rattle.vm_exec.specs.Start.{finished}
+use Rattle.vm_stack.specs.StackState.{StackState}
 use Rattle.vm_exec.specs.declared.machine.Machine.{Machine}
-use Rattle.vm_exec.specs.declared.machine.Step.{Step}
-use Rattle.vm_exec.specs.declared.machine.Step.TheVariants as step
+use Rattle.vm_exec.specs.declared.step.Step.{Step}
+use Rattle.vm_exec.specs.declared.step.Step.TheVariants as step
 use Rattle.vm_memory.specs.declared.fault.Trap.{Trap}
 use Rattle.vm_memory.specs.declared.fault.Trap.TheVariants as trap
 use Rattle.story_run.specs.Answer.{Reached}
@@ -51,7 +52,7 @@ done left g m (call.Wait event) = Rests g (stage.Waits m event)
 done left g m (call.Value value chars) =
     if nat_lt left chars then faults g 24 else stored (left - chars) g (finished m value)
 
-abbrev pub answered : ℕ → Machine → Reached (Glk × Stk × Called) → Next
+abbrev pub answered : ℕ → Machine → Reached (Glk × StackState × Called) → Next
 answered left m (Ok x) = done left x.0 (record m { stack = x.1 }) x.2
 answered left m (Err e) = faults e.0 e.1
 

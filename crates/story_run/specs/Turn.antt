@@ -1,8 +1,8 @@
 -- A turn: steps until the story waits or ends, within its budget (own).
 use Rattle.std.specs.Prelude.{◌≡◌, ℕ, zero, suc, ◌+◌, List, Result, Ok, Err, IfOk, IsErr}
 use Rattle.std.specs.declared.alloc.AllocError.{AllocError}
-use Rattle.vm_exec.specs.Row.{finished}
-use Rattle.vm_exec.specs.Stk.{Stk}
+use Rattle.vm_exec.specs.Start.{finished}
+use Rattle.vm_stack.specs.StackState.{StackState}
 use Rattle.vm_exec.specs.declared.machine.Machine.{Machine}
 use Rattle.vm_memory.specs.MemoryMap.{MemoryMap}
 use Rattle.vm_memory.specs.declared.fault.Trap.{Trap}
@@ -39,7 +39,7 @@ abbrev pub stored_in : Glk → Result Machine ℕ → Reached (Glk × Machine)
 stored_in g (Ok m) = Ok (g, m)
 stored_in g (Err n) = Err (g, n)
 
-abbrev pub restarted : Reached (Glk × (MemoryMap × Stk)) → Machine → Reached (Glk × Machine)
+abbrev pub restarted : Reached (Glk × (MemoryMap × StackState)) → Machine → Reached (Glk × Machine)
 restarted (Ok x) m = stored_in x.0 (finished (record m { memory = x.1.0; stack = x.1.1 }) 0)
 restarted (Err e) m = Err e
 
@@ -59,7 +59,7 @@ Stops (trap.Fault n) result = IfOk result (λ stage. stage ≡ Fault n)
 Stops trap.NoMemory result = IsErr result
 
 -- The call delivered the line and stored 0, leaving these, unless memory ran out.
-abbrev pub Resumes : Reached (Glk × (MemoryMap × Stk)) → Machine → Glk → Machine
+abbrev pub Resumes : Reached (Glk × (MemoryMap × StackState)) → Machine → Glk → Machine
     → Result (Unit {0}) Trap → Type 0
 Resumes should old g m (Ok x) = restarted should old ≡ Ok (g, m)
 Resumes should old g m (Err (trap.Fault n)) = restarted should old ≡ Err (g, n)

@@ -1,12 +1,14 @@
 //! The arguments of a Glk call, which stand on the stack.
 
 ghost use Rattle.std.specs.Prelude.{◌≡◌, ◌≤◌, ◌+◌, length};
-ghost use Rattle.vm_exec.specs.Does.{Does};
+ghost use Rattle.vm_exec.specs.Answer.{Does};
+ghost use Rattle.vm_exec.specs.Fault.{stack_code};
+ghost use Rattle.vm_memory.specs.declared.fault.Trap.TheVariants.{Fault};
 ghost use Rattle.story_run.specs.Arguments.{arguments, popped, taken};
 
 use crate::glk::BAD_ARGUMENT;
-use vm_exec::Stack;
 use vm_memory::Trap;
+use vm_stack::{Stack, StackFault};
 
 /// The fault of a call with more arguments than there are values.
 const UNDERFLOW: Trap = Trap::Fault(4);
@@ -14,10 +16,21 @@ const UNDERFLOW: Trap = Trap::Fault(4);
 /// The most arguments of a call.
 pub(crate) const MAX_ARGUMENTS: usize = 5;
 
+/// A fault of the stack by its number.
+pub(crate) fn of_stack(fault: StackFault) -> Trap
+    ensures { result ≡ Fault (stack_code fault) }
+{
+    Trap::Fault(match fault {
+        StackFault::Overflow => 3,
+        StackFault::Underflow => 4,
+        StackFault::BadLocal => 5,
+    })
+}
+
 fn pop(stack: &mut Stack) -> Result<u32, Trap>
     ensures { Does (popped stack.old) stack.new result }
 {
-    stack.pop()
+    stack.pop().map_err(of_stack)
 }
 
 /// Takes the `given` arguments of a call that takes `count`, the first from the top.

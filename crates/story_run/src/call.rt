@@ -10,8 +10,8 @@ use crate::glk::{Glk, NOT_YET};
 use crate::output::put_buffer;
 use crate::selector::{Call, is_selector};
 use crate::windows::{open_window, set_window};
-use vm_exec::Stack;
 use vm_memory::{Memory, Trap};
+use vm_stack::Stack;
 
 /// The fault of a number that no call has.
 const BAD_SELECTOR: Trap = Trap::Fault(20);

@@ -13,8 +13,8 @@ use crate::windows::WINDOW;
 use glk_input::Input;
 use std::alloc::{AllocError, Global};
 use story_text::Text;
-use vm_exec::Stack;
 use vm_memory::{Memory, Trap};
+use vm_stack::Stack;
 
 /// The most characters with which a line may begin.
 const MAX_INITIAL: u32 = 1024;

@@ -2,11 +2,12 @@
 
 ghost use Rattle.std.specs.Prelude.{◌≡◌};
 ghost use Rattle.story_run.specs.Answer.{Leaves};
-ghost use Rattle.vm_exec.specs.Does.{Changes};
+ghost use Rattle.vm_exec.specs.Answer.{Changes};
 ghost use Rattle.story_run.specs.Events as events;
 
-use vm_exec::Stack;
+use crate::arguments::of_stack;
 use vm_memory::{Memory, Trap};
+use vm_stack::Stack;
 
 /// The reference to the stack.
 const STACK: u32 = 0xFFFF_FFFF;
@@ -29,7 +30,7 @@ fn refer(memory: &mut Memory, stack: &mut Stack, at: u32, value: u32) -> Result<
 {
     match at {
         0 => Ok(()),
-        STACK => stack.push(value),
+        STACK => stack.push(value).map_err(of_stack),
         _ => Ok(memory.write4(at, value)?),
     }
 }
