@@ -1,5 +1,5 @@
 -- Arguments, given step by step.
-use Rattle.std.proofs.Common.{◌≡◌, ◌≢◌, ◌⊎◌, inl, inr, ℕ, zero, suc, ◌+◌, ◌-◌, ◌*◌, ◌/◌, ◌<◌, ◌≤◌, Bool, true, false, ◌==◌, cond, List, [], ◌∷◌, ◌++◌, length, take, drop, slice_index, refl, arith, Result, Ok, Err, ap, sym, ◌∙◌, subst}
+use Rattle.std.proofs.Common.{◌≡◌, ◌≢◌, inl, inr, ℕ, zero, suc, ◌+◌, ◌-◌, ◌*◌, ◌<◌, ◌≤◌, List, [], ◌∷◌, length, take, drop, slice_index, refl, arith, Ok, Err, ap, ◌∙◌, subst}
 use Rattle.std.proofs.lemmas.Bool.{ne_eqb}
 use Rattle.std.proofs.lemmas.List.{drop_more}
 use Rattle.std.proofs.Math.ListN.{drop_of_length-le}
@@ -12,7 +12,6 @@ use Rattle.vm_stack.specs.Values.{pushed}
 use Rattle.vm_stack.specs.Locals.{IsWidth, local_set}
 use Rattle.vm_stack.specs.Frame.{aligned, locals_end}
 use Rattle.vm_stack.specs.Chain.{IsFormat}
-use Rattle.vm_flow.specs.Answer.{from_stack, and_then}
 use Rattle.vm_flow.specs.Call.{all_pushed, pair_set, locals_set}
 use Rattle.vm_flow.specs.declared.stop.FlowStop.{FlowStop}
 

@@ -1,5 +1,5 @@
 -- Values that the standard's rows give, so that a wrong rule in the specs does not check.
-use Rattle.std.proofs.Common.{◌≡◌, ℕ, List, [], ◌∷◌, ◌++◌, Result, Ok, Err, None, refl}
+use Rattle.std.proofs.Common.{◌≡◌, ℕ, List, [], ◌∷◌, ◌++◌, Ok, Err, None, refl}
 use Rattle.vm_memory.specs.MemoryMap.{MemoryMap}
 use Rattle.vm_memory.specs.declared.fault.MemFault.TheVariants.{BadRead}
 use Rattle.vm_stack.specs.StackState.{StackState, words}
@@ -22,11 +22,14 @@ frame_with values = record { bytes = fresh_frame (0 ∷ 0 ∷ []) ++ words value
 
 -- arguments are cut to their locals, and the fifth is dropped
 pub a_c1_gets_locals : called (of_bytes (193 ∷ 1 ∷ 3 ∷ 2 ∷ 1 ∷ 0 ∷ 0 ∷ [])) empty 0 (511 ∷ 2 ∷ 3 ∷ 74565 ∷ 9 ∷ [])
-    ≡ Ok (record {
-      bytes = 0 ∷ 0 ∷ 0 ∷ 24 ∷ 0 ∷ 0 ∷ 0 ∷ 16 ∷ 1 ∷ 3 ∷ 2 ∷ 1 ∷ 0 ∷ 0 ∷ 0 ∷ 0 ∷ 255 ∷ 2 ∷ 3 ∷ 0 ∷ 35 ∷ 69 ∷ 0 ∷ 0 ∷ [];
-      frame = 0;
-      limit = 256
-    }, 7)
+    ≡ Ok (
+      record {
+        bytes = 0 ∷ 0 ∷ 0 ∷ 24 ∷ 0 ∷ 0 ∷ 0 ∷ 16 ∷ 1 ∷ 3 ∷ 2 ∷ 1 ∷ 0 ∷ 0 ∷ 0 ∷ 0 ∷ 255 ∷ 2 ∷ 3 ∷ 0 ∷ 35 ∷ 69 ∷ 0 ∷ 0 ∷ [];
+        frame = 0;
+        limit = 256;
+      },
+      7,
+    )
 a_c1_gets_locals = refl
 
 -- arguments are pushed, the last one first, and their count on top
