@@ -13,6 +13,8 @@ mod run;
 mod sink;
 mod source;
 mod status;
+#[cfg(test)]
+mod tests;
 mod top;
 mod words;
 mod write;
