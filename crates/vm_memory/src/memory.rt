@@ -70,6 +70,13 @@ impl<'i> Memory<'i> {
         self.ramstart
     }
 
+    /// The file's bytes, up to EXTSTART.
+    pub fn rom(&self) -> &'i [u8]
+        ensures value { result.now ≡ self.now.rom }
+    {
+        self.rom
+    }
+
     /// Whether so many bytes at the address lie in memory.
     #[inline(always)]
     pub(crate) fn is_inside(&self, at: u32, width: u32) -> bool

@@ -1,0 +1,6 @@
+//! The commands that a session accepts.
+#![tactic(auto)]
+
+mod command;
+
+pub use command::Command;

@@ -1,0 +1,6 @@
+//! What a player gives a story: a line, a character or a file's name.
+#![tactic(auto)]
+
+mod input;
+
+pub use input::Input;

@@ -1,0 +1,6 @@
+use Rattle.std.proofs.Common.{◌≡◌, ◌≤◌, ◌*◌, ◌%◌, ◌^◌, length, ℕ, ◌+◌, ◌-◌, ◌<◌}
+use Rattle.glulx_image.specs.Checksum.{sum_of_words, verified}
+use Rattle.glulx_image.proofs.checksum.sum_of.Given as goal
+
+abbrev pub invariant-loop-k : goal.invariant-loop-k
+invariant-loop-k l = l.sum ≡ sum_of_words l.bytes l.k % 2 ^ 32

@@ -1,0 +1,4 @@
+pub mod Header
+pub mod Checksum
+pub mod Fault
+pub mod Image

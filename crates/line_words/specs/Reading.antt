@@ -1,0 +1,48 @@
+-- Readers of a line from left to right (own).
+use Rattle.std.specs.Prelude.{◌≡◌, ℕ, ◌==◌, if◌then◌else◌, List, length, Option, Some, None, Result, Ok, Err}
+use Rattle.line_words.specs.declared.fault.LineFault.{LineFault}
+use Rattle.line_words.specs.declared.fault.LineFault.TheVariants.{BadLine, LongLine, NoMemory}
+use Rattle.story_text.specs.declared.fault.TextFault.{TextFault}
+use Rattle.story_text.specs.declared.fault.TextFault.TheVariants as text
+
+-- a reader takes a value from the front of the bytes and hands on the rest, or reads nothing
+abbrev pub Reader : Type 0 → Type 0
+Reader A = List ℕ → Option (A × List ℕ)
+
+infixl 10 ◌>>=◌
+abbrev pub ◌>>=◌ : {A B : Type 0} → Option A → (A → Option B) → Option B
+(Some x) >>= f = f x
+None >>= f = None
+
+-- one reader, and then the other on the rest
+infixr 20 ◌then◌
+abbrev pub ◌then◌ : {A B : Type 0} → Reader A → Reader B → Reader (A × B)
+(first then second) bytes = first bytes >>= λ x. second x.1 >>= λ y. Some ((x.0, y.0), y.1)
+
+-- nothing may follow
+abbrev pub at_end : List ℕ → Option (Unit {0})
+at_end rest = if length rest == 0 then Some tt else None
+
+-- the value that all the bytes give
+abbrev pub whole : {A : Type 0} → Reader A → List ℕ → Option A
+whole read bytes = read bytes >>= λ x. at_end x.1 >>= λ _. Some x.0
+
+-- what is made of a value that was read
+abbrev pub made : {A B : Type 0} → (A → B) → Option A → Option B
+made f (Some x) = Some (f x)
+made f None = None
+
+-- a text that isn't spelled makes the line one that isn't spelled
+abbrev pub fault_of : TextFault → LineFault
+fault_of text.BadText = BadLine
+fault_of text.NoMemory = NoMemory
+
+-- what a function returned, seen by view, is what is read, unless memory ran out
+abbrev pub Fails : {Y : Type 0} → LineFault → Option Y → Type 0
+Fails BadLine read = read ≡ None
+Fails LongLine read = ⊥
+Fails NoMemory read = Unit {0}
+
+abbrev pub Gives : {X Y : Type 0} → (X → Y) → Result X LineFault → Option Y → Type 0
+Gives view (Ok x) read = read ≡ Some (view x)
+Gives view (Err e) read = Fails e read

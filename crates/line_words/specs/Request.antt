@@ -1,0 +1,72 @@
+-- Request lines, by reading them from the left (own).
+use Rattle.std.specs.Prelude.{ℕ, List, Option, None, codes}
+use Rattle.line_words.specs.declared.request.Request.{Request}
+use Rattle.line_words.specs.declared.request.Request.TheVariants.{Open, Line, Char, File, Last, Close}
+use Rattle.line_words.specs.Reading.{Reader, ◌then◌, whole, made}
+use Rattle.line_words.specs.Field.{number_at, key_at, text_at, named}
+use Rattle.line_words.specs.Play.{line_at, char_at, without_cr, unless_long}
+
+-- a session and its key
+unfoldable pub session_at : Reader (ℕ × List ℕ)
+session_at = number_at 0 4294967295 then key_at
+
+-- a session, its key and the number of a command
+unfoldable pub numbered_at : Reader (ℕ × (List ℕ × ℕ))
+numbered_at = number_at 0 4294967295 then (key_at then number_at 1 4294967295)
+
+-- the fields of OPEN behind the key: the story's number, the seed, the columns and the rows
+unfoldable pub setup_at : Reader (ℕ × (ℕ × (ℕ × ℕ)))
+setup_at =
+    number_at 0 65535
+    then (number_at 0 18446744073709551615 then (number_at 1 255 then number_at 1 255))
+
+-- a request to open a session has the budget of 50,000,000 ticks until the host sets its own
+abbrev pub made_open : (ℕ × List ℕ) × (ℕ × (ℕ × (ℕ × ℕ))) → Request
+made_open ((s, key), (story, (seed, (cols, rows)))) = Open s key story seed cols rows 50000000
+
+abbrev pub made_line : (ℕ × (List ℕ × ℕ)) × (ℕ × (List ℕ × ℕ)) → Request
+made_line ((s, (key, n)), (win, (text, term))) = Line s key n win text term
+
+abbrev pub made_char : (ℕ × (List ℕ × ℕ)) × (ℕ × ℕ) → Request
+made_char ((s, (key, n)), (win, code)) = Char s key n win code
+
+abbrev pub made_file : (ℕ × (List ℕ × ℕ)) × List ℕ → Request
+made_file ((s, (key, n)), name) = File s key n name
+
+abbrev pub made_last : ℕ × List ℕ → Request
+made_last (s, key) = Last s key
+
+abbrev pub made_close : ℕ × (List ℕ × ℕ) → Request
+made_close (s, (key, n)) = Close s key n
+
+unfoldable pub open_of : List ℕ → Option Request
+open_of bytes = made made_open (whole (session_at then setup_at) bytes)
+
+unfoldable pub line_of : List ℕ → Option Request
+line_of bytes = made made_line (whole (numbered_at then line_at) bytes)
+
+unfoldable pub char_of : List ℕ → Option Request
+char_of bytes = made made_char (whole (numbered_at then char_at) bytes)
+
+unfoldable pub file_of : List ℕ → Option Request
+file_of bytes = made made_file (whole (numbered_at then text_at) bytes)
+
+unfoldable pub last_of : List ℕ → Option Request
+last_of bytes = made made_last (whole session_at bytes)
+
+unfoldable pub close_of : List ℕ → Option Request
+close_of bytes = made made_close (whole numbered_at bytes)
+
+-- the request that a line without its CR spells
+unfoldable pub spelled_request : List ℕ → Option Request
+spelled_request line =
+    named (codes "OPEN") line open_of
+    (named (codes "LINE") line line_of
+    (named (codes "CHAR") line char_of
+    (named (codes "FILE") line file_of
+    (named (codes "LAST") line last_of
+    (named (codes "CLOSE") line close_of None)))))
+
+-- the request that a line spells, if it spells one
+abbrev pub request_of : List ℕ → Option Request
+request_of line = unless_long line (spelled_request (without_cr line))

@@ -1,0 +1,111 @@
+-- All spellings of requests and of the lines of `run` (own).
+use Rattle.std.specs.Prelude.{◌≡◌, ℕ, ◌≤◌, ◌⊎◌, true, ◌||◌, ◌==◌, if◌then◌else◌, List, [], ◌∷◌, ◌++◌, length, codes}
+use Rattle.std.specs.Fmt.{decimal}
+use Rattle.story_text.specs.Text.{IsText}
+use Rattle.story_text.specs.Escape.{escaped}
+use Rattle.story_text.specs.Escape as texts
+use Rattle.line_words.specs.declared.request.Request.{Request}
+use Rattle.line_words.specs.declared.request.Request.TheVariants.{Open, Line, Char, File, Last, Close}
+use Rattle.line_words.specs.declared.play.Play.{Play}
+use Rattle.line_words.specs.declared.play.Play.TheVariants as plays
+use Rattle.line_words.specs.Keycode.{is_code, is_terminator}
+use Rattle.line_words.specs.Field.{is_key}
+
+-- one space and the word
+abbrev pub field : List ℕ → List ℕ
+field word = 32 ∷ word
+
+-- one space and the number, decimal and without leading zeros
+abbrev pub number : ℕ → List ℕ
+number n = field (decimal n)
+
+-- a terminator key, or nothing for terminator 0
+abbrev pub terminator : ℕ → List ℕ
+terminator term = if term == 0 then [] else number term
+
+-- a session's number and its key
+abbrev pub session : ℕ → List ℕ → List ℕ
+session s key = number s ++ field key
+
+-- a session's number, its key and the number of a command
+abbrev pub numbered : ℕ → List ℕ → ℕ → List ℕ
+numbered s key n = number s ++ (field key ++ number n)
+
+-- a window, a text's word and a terminator
+abbrev pub typed : ℕ → List ℕ → ℕ → List ℕ
+typed win word term = number win ++ (field word ++ terminator term)
+
+-- a request as it stands in a line, with this word for its text
+abbrev pub line_with : Request → List ℕ → List ℕ
+line_with (Open s key story seed cols rows budget) word =
+    codes "OPEN" ++ (session s key ++ (number story ++ (number seed ++ (number cols ++ number rows))))
+line_with (Line s key n win text term) word =
+    codes "LINE" ++ (numbered s key n ++ typed win word term)
+line_with (Char s key n win code) word =
+    codes "CHAR" ++ (numbered s key n ++ (number win ++ number code))
+line_with (File s key n name) word = codes "FILE" ++ (numbered s key n ++ field word)
+line_with (Last s key) word = codes "LAST" ++ session s key
+line_with (Close s key n) word = codes "CLOSE" ++ numbered s key n
+
+-- the word spells the request's text, or is empty where it has none
+abbrev pub SpellsText : Request → List ℕ → Type 0
+SpellsText (Line s key n win text term) word = texts.Spells word text
+SpellsText (File s key n name) word = texts.Spells word name
+SpellsText _ word = word ≡ []
+
+-- the range of a session's number, and its key
+abbrev pub IsSession : ℕ → List ℕ → Type 0
+IsSession s key = (s ≤ 4294967295) × (is_key key ≡ true)
+
+-- these, and the range of a command's number
+abbrev pub IsNumbered : ℕ → List ℕ → ℕ → Type 0
+IsNumbered s key n = (s ≤ 4294967295) × (is_key key ≡ true) × (1 ≤ n) × (n ≤ 4294967295)
+
+-- 0 or a terminator key
+abbrev pub IsTerminator : ℕ → Type 0
+IsTerminator term = (term == 0 || is_terminator term) ≡ true
+
+-- the ranges of a request's fields
+abbrev pub IsRequest : Request → Type 0
+IsRequest (Open s key story seed cols rows budget) =
+    IsSession s key × (story ≤ 65535) × (seed ≤ 18446744073709551615)
+    × (1 ≤ cols) × (cols ≤ 255) × (1 ≤ rows) × (rows ≤ 255) × (budget ≡ 50000000)
+IsRequest (Line s key n win text term) =
+    IsNumbered s key n × (win ≤ 4294967295) × IsText text × IsTerminator term
+IsRequest (Char s key n win code) =
+    IsNumbered s key n × (win ≤ 4294967295) × (is_code code ≡ true)
+IsRequest (File s key n name) = IsNumbered s key n × IsText name
+IsRequest (Last s key) = IsSession s key
+IsRequest (Close s key n) = IsNumbered s key n
+
+-- bytes spell a request: its text may be spelled in any way
+abbrev pub SpellsRequest : List ℕ → Request → Type 0
+SpellsRequest bytes request =
+    IsRequest request × (word : List ℕ) × SpellsText request word × (bytes ≡ line_with request word)
+
+-- the word that is written for a request's text
+abbrev pub written_text : Request → List ℕ
+written_text (Line s key n win text term) = escaped text
+written_text (File s key n name) = escaped name
+written_text _ = []
+
+-- the one spelling that is written
+abbrev pub print_request : Request → List ℕ
+print_request request = line_with request (written_text request)
+
+-- bytes spell an input of `run`: as the request, without session, key and number
+abbrev pub SpellsPlay : List ℕ → Play → Type 0
+SpellsPlay bytes (plays.Line win text key) =
+    (word : List ℕ) × (win ≤ 4294967295) × texts.Spells word text × IsTerminator key
+    × (bytes ≡ codes "LINE" ++ typed win word key)
+SpellsPlay bytes (plays.Char win code) =
+    (win ≤ 4294967295) × (is_code code ≡ true)
+    × (bytes ≡ codes "CHAR" ++ (number win ++ number code))
+SpellsPlay bytes (plays.File name) =
+    (word : List ℕ) × texts.Spells word name × (bytes ≡ codes "FILE" ++ field word)
+
+-- a line is a spelling, with a CR behind it or without, of at most 2,047 bytes in all
+abbrev pub IsLineOf : {A : Type 0} → (List ℕ → A → Type 0) → List ℕ → A → Type 0
+IsLineOf Spells line x =
+    (spelling : List ℕ) × Spells spelling x
+    × ((line ≡ spelling) ⊎ (line ≡ spelling ++ 13 ∷ [])) × (length line ≤ 2047)

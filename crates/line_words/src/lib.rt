@@ -1,0 +1,25 @@
+//! Requests and replies as lines.
+#![tactic(auto)]
+
+mod fault;
+mod field;
+mod key;
+mod laws;
+mod number;
+mod play;
+mod read;
+mod reply;
+mod request;
+
+pub use fault::LineFault;
+pub use key::Key;
+pub use laws::{
+    prints_spellings, reads_each_play, reads_each_request, reads_plays_only, reads_requests_only,
+};
+pub use play::{Play, read_play};
+pub use read::read_request;
+pub use reply::{No, Reply, write_reply};
+pub use request::Request;
+
+#[cfg(test)]
+mod tests;

@@ -1,0 +1,110 @@
+//! The lines that `run` reads (own).
+
+ghost use Rattle.std.specs.Prelude.{◌≡◌, IfOk, IfErr, Some};
+ghost use Rattle.line_words.specs.Reading.{Gives, whole, at_end};
+ghost use Rattle.line_words.specs.Play.{line_at, char_at, line_play, char_play, file_play, spelled_play, without_cr, play_of, Refuses};
+
+use crate::fault::LineFault;
+use crate::field::{after, at_end, code_at, terminator_at, text_at, u32_at};
+use std::alloc::Global;
+use story_text::Text;
+
+/// The most bytes of a line without its LF.
+pub const MAX_LINE: usize = 2047;
+
+/// What a player gives a story, as a line of `run` spells it.
+#[derive(Debug, Drop)]
+pub enum Play {
+    /// `LINE win =text` or `LINE win =text key`, with key 0 where none is named.
+    Line { win: u32, text: Text, key: u32 },
+    /// `CHAR win code`.
+    Char { win: u32, code: u32 },
+    /// `FILE =name`.
+    File { name: Text },
+}
+
+/// The fields of LINE: a window, a text and a terminator key.
+#[tactic(auto, unfolding(crate::specs::Play::line_at))]
+pub fn line_at(alloc: Global, rest: &[u8]) -> Result<((u32, Text, u32), &[u8]), LineFault>
+    ensures { Gives (λ x. ((x.0.0, (x.0.1, x.0.2)), x.1.now)) result (line_at rest.now) }
+{
+    let (win, rest) = u32_at(0, rest)?;
+    let (text, rest) = text_at(alloc, rest)?;
+    let (key, rest) = terminator_at(rest)?;
+    Ok(((win, text, key), rest))
+}
+
+/// The fields of CHAR: a window and a code.
+#[tactic(auto, unfolding(crate::specs::Play::char_at))]
+pub fn char_at(rest: &[u8]) -> Result<((u32, u32), &[u8]), LineFault>
+    ensures { Gives (λ x. ((x.0.0, x.0.1), x.1.now)) result (char_at rest.now) }
+{
+    let (win, rest) = u32_at(0, rest)?;
+    let (code, rest) = code_at(rest)?;
+    Ok(((win, code), rest))
+}
+
+fn line_play(alloc: Global, rest: &[u8]) -> Result<Play, LineFault>
+    ensures { Gives (λ x. x) result (line_play rest.now) }
+{
+    let ((win, text, key), rest) = line_at(alloc, rest)?;
+    at_end(rest)?;
+    Ok(Play::Line { win, text, key })
+}
+
+fn char_play(rest: &[u8]) -> Result<Play, LineFault>
+    ensures { Gives (λ x. x) result (char_play rest.now) }
+{
+    let ((win, code), rest) = char_at(rest)?;
+    at_end(rest)?;
+    Ok(Play::Char { win, code })
+}
+
+fn file_play(alloc: Global, rest: &[u8]) -> Result<Play, LineFault>
+    ensures { Gives (λ x. x) result (file_play rest.now) }
+{
+    let (name, rest) = text_at(alloc, rest)?;
+    at_end(rest)?;
+    Ok(Play::File { name })
+}
+
+#[tactic(auto, unfolding(crate::specs::Play::spelled_play))]
+fn spelled_play(alloc: Global, line: &[u8]) -> Result<Play, LineFault>
+    ensures { Gives (λ x. x) result (spelled_play line.now) }
+{
+    if let Some(rest) = after(b"LINE", line) {
+        return line_play(alloc, rest);
+    }
+    if let Some(rest) = after(b"CHAR", line) {
+        return char_play(rest);
+    }
+    if let Some(rest) = after(b"FILE", line) {
+        return file_play(alloc, rest);
+    }
+    Err(LineFault::BadLine)
+}
+
+/// The line without the CR that may end it.
+#[tactic(auto, unfolding(crate::specs::Play::without_cr))]
+pub fn without_cr(line: &[u8]) -> &[u8]
+    ensures { result.now ≡ without_cr line.now }
+{
+    if !line.is_empty() && line[line.len() - 1] == b'\r' {
+        let (front, _) = line.split_at(line.len() - 1);
+        return front;
+    }
+    line
+}
+
+/// The input that the line spells. The line comes without its LF; a CR that ends it is counted and
+/// then dropped. `LongLine` exactly where the line has more than 2,047 bytes, and else `BadLine`
+/// exactly where it spells no input; `NoMemory` where memory runs out.
+pub fn read_play(alloc: Global, line: &[u8]) -> Result<Play, LineFault>
+    ensures only { IfOk result (λ play. play_of line.now ≡ Some play) }
+    ensures exact { IfErr result (Refuses line.now (play_of line.now)) }
+{
+    if line.len() > MAX_LINE {
+        return Err(LineFault::LongLine);
+    }
+    spelled_play(alloc, without_cr(line))
+}

@@ -1,0 +1,128 @@
+-- More ticks leave a turn as it is, unless it wanted them.
+use Rattle.std.proofs.Common.{◌≡◌, ◌≢◌, ℕ, zero, suc, ◌+◌, ◌-◌, ◌<◌, ◌≤◌, Bool, true, false, nat_lt, refl, ap, sym, ◌∙◌, arith, Result, Ok, Err, cond, subst, ◌⊎◌, inl, inr}
+use Rattle.std.proofs.lemmas.Bool.Decides.{nat_tests}
+use Rattle.vm_exec.specs.Row.{row, step_of}
+use Rattle.vm_exec.specs.Start.{finished}
+use Rattle.vm_exec.specs.Rules.{Rule}
+use Rattle.vm_stack.specs.StackState.{StackState}
+use Rattle.vm_exec.specs.declared.machine.Machine.{Machine}
+use Rattle.vm_exec.specs.declared.step.Out.{Out}
+use Rattle.vm_exec.specs.declared.step.Out.TheVariants as out
+use Rattle.story_run.specs.Answer.{Reached, ◌>>=◌}
+use Rattle.story_run.specs.Call.{called}
+use Rattle.story_run.specs.Output.{put_code}
+use Rattle.story_run.specs.Step.{Next, Runs, Rests, Running, next, running, stepped, followed, answered, done, stored, put}
+use Rattle.story_run.specs.Turn.{after, steps, rest}
+use Rattle.story_run.specs.declared.call.Called.{Called}
+use Rattle.story_run.specs.declared.call.Called.TheVariants as call
+use Rattle.story_run.specs.declared.glk.Glk.{Glk}
+use Rattle.story_run.specs.declared.stage.Stage.{Stage}
+use Rattle.story_run.specs.declared.stage.Stage.TheVariants.{Fault}
+use Rattle.story_run.proofs.TurnLemmas.{IsBelow, next-below, steps-enough}
+
+-- with more ticks the second comes in place of the first
+abbrev Shifts : ℕ → Next → Next → Type 0
+Shifts more (Runs left r) y = y ≡ Runs (left + more) r
+Shifts more (Rests g s) y = (s ≡ Fault 24) ⊎ (y ≡ Rests g s)
+
+put-shifts : (left more : ℕ) (m : Machine) (x : Reached Glk) → Shifts more (put left m x) (put (left + more) m x)
+put-shifts left more m (Ok g) = refl
+put-shifts left more m (Err e) = inr refl
+
+stored-shifts : (left more : ℕ) (g : Glk) (x : Result Machine ℕ) → Shifts more (stored left g x) (stored (left + more) g x)
+stored-shifts left more g (Ok m) = refl
+stored-shifts left more g (Err n) = inr refl
+
+-- a charge that is met leaves as many ticks more
+later : (left more cost : ℕ) → cost ≤ left → (left - cost) + more ≡ (left + more) - cost
+later left more cost h = omega arith
+
+kept : (left more cost : ℕ) → nat_lt left cost ≡ false → nat_lt (left + more) cost ≡ false
+kept left more cost e = grind (arith, nat_tests)
+
+met : (left cost : ℕ) → nat_lt left cost ≡ false → cost ≤ left
+met left cost e = grind (arith, nat_tests)
+
+charged-shifts : (a b : Bool) (more : ℕ) (g : Glk) (x y : Next) → (a ≡ false → b ≡ false) → (a ≡ false → Shifts more x y)
+    → Shifts more (cond a (Rests g (Fault 24)) x) (cond b (Rests g (Fault 24)) y)
+charged-shifts true b more g x y k h = inl refl
+charged-shifts false true more g x y k h = let e : true ≡ false = k refl in absurd cc
+charged-shifts false false more g x y k h = h refl
+
+done-shifts : (left more : ℕ) (g : Glk) (m : Machine) (x : Called) → Shifts more (done left g m x) (done (left + more) g m x)
+done-shifts left more g m (call.Wait event) = inr refl
+done-shifts left more g m (call.Value value chars) =
+    charged-shifts (nat_lt left chars) (nat_lt (left + more) chars) more g _ _
+    (kept left more chars)
+    (λ e. subst (λ (k : ℕ). Shifts more (stored (left - chars) g (finished m value)) (stored k g (finished m value)))
+    (later left more chars (met left chars e))
+    (stored-shifts (left - chars) more g (finished m value)))
+
+answered-shifts : (left more : ℕ) (m : Machine) (x : Reached (Glk × StackState × Called)) → Shifts more (answered left m x) (answered (left + more) m x)
+answered-shifts left more m (Ok x) = done-shifts left more x.0 (record m { stack = x.1 }) x.2
+answered-shifts left more m (Err e) = inr refl
+
+followed-shifts : (left more cost : ℕ) (g : Glk) (m : Machine) (o : Out) → cost ≤ left
+    → Shifts more (followed left g m (step_of o cost)) (followed (left + more) g m (step_of o cost))
+followed-shifts left more cost g m out.Ran h =
+    ap (λ (k : ℕ). Runs k (running g m)) (sym (later left more cost h))
+followed-shifts left more cost g m (out.Char x) h =
+    subst (λ (k : ℕ). Shifts more (put (left - cost) m (put_code g x)) (put k m (put_code g x)))
+    (later left more cost h)
+    (put-shifts (left - cost) more m (put_code g x))
+followed-shifts left more cost g m (out.Glk selector args) h =
+    let x = called g m.memory m.stack selector args in
+    subst (λ (k : ℕ). Shifts more (answered (left - cost) m x) (answered k m x))
+    (later left more cost h)
+    (answered-shifts (left - cost) more m x)
+followed-shifts left more cost g m out.Quit h = inr refl
+
+gives-shifts : (left more cost : ℕ) (g : Glk) (gives : Rule) → cost ≤ left
+    → Shifts more
+    (stepped left g (gives >>= (λ x. Ok (x.0, step_of x.1 cost))))
+    (stepped (left + more) g (gives >>= (λ x. Ok (x.0, step_of x.1 cost))))
+gives-shifts left more cost g (Ok x) h = followed-shifts left more cost g x.0 x.1 h
+gives-shifts left more cost g (Err n) h = inr refl
+
+told-cases : (a b : Bool) (left more cost : ℕ) (g : Glk) (gives : Rule) → (a ≡ false → b ≡ false) → (a ≡ false → cost ≤ left)
+    → Shifts more
+    (stepped left g (cond a (Err 24) (gives >>= (λ x. Ok (x.0, step_of x.1 cost)))))
+    (stepped (left + more) g (cond b (Err 24) (gives >>= (λ x. Ok (x.0, step_of x.1 cost)))))
+told-cases true b left more cost g gives k h = inl refl
+told-cases false true left more cost g gives k h = let e : true ≡ false = k refl in absurd cc
+told-cases false false left more cost g gives k h = gives-shifts left more cost g gives (h refl)
+
+next-shifts : (left more : ℕ) (r : Running) → Shifts more (next left r) (next (left + more) r)
+unfolding next
+next-shifts left more r =
+    let c = row r.machine in
+    told-cases (nat_lt left c.cost) (nat_lt (left + more) c.cost) left more c.cost r.glk c.gives
+    (kept left more c.cost) (met left c.cost)
+
+-- a turn that doesn't end with the budget's fault ends so with more ticks too
+rests-shift : (k more : ℕ) (g h : Glk) (s t : Stage) (y : Next) → (t ≡ Fault 24) ⊎ (y ≡ Rests h t)
+    → ◌≡◌ {A = Glk × Stage} (h, t) (g, s) → s ≢ Fault 24 → after (steps k) y ≡ (g, s)
+rests-shift k more g h s t y (inl e) p n = absurd (n (sym (ap (λ (x : Glk × Stage). x.1) p) ∙ e))
+rests-shift k more g h s t y (inr e) p n = ap (after (steps k)) e ∙ p
+
+steps-shift : (n k left more : ℕ) (r : Running) (g : Glk) (s : Stage) → left < n → left + more < k
+    → steps n left r ≡ (g, s) → s ≢ Fault 24 → steps k (left + more) r ≡ (g, s)
+unfolding steps
+steps-shift zero k left more r g s h i p f = absurd (omega arith)
+steps-shift (suc n) zero left more r g s h i p f = absurd (omega arith)
+steps-shift (suc n) (suc k) left more r g s h i p f =
+    elim (next left r) as (λ x. IsBelow left x → Shifts more x (next (left + more) r) → after (steps n) x ≡ (g, s) → after (steps k) (next (left + more) r) ≡ (g, s)) [
+      | Runs l q ↦ λ b e o. ap (after (steps k)) e ∙ steps-shift n k l more q g s (omega arith) (omega arith) o f
+      | Rests x y ↦ λ b e o. rests-shift k more g x s y (next (left + more) r) e o f
+    ]
+    (next-below left r) (next-shifts left more r) p
+
+pub rest-more : (budget more : ℕ) (r : Running) (g : Glk) (s : Stage) → rest budget r ≡ (g, s) → s ≢ Fault 24
+    → rest (budget + more) r ≡ (g, s)
+unfolding rest
+rest-more budget more r g s p f =
+    steps-shift (budget + 1) (budget + more + 1) budget more r g s (omega arith) (omega arith) p f
+
+pub steps-rest : (n budget : ℕ) (r : Running) → budget < n → steps n budget r ≡ rest budget r
+unfolding rest
+steps-rest n budget r h = steps-enough n (budget + 1) budget r h (omega arith)

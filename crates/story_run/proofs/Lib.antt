@@ -1,0 +1,6 @@
+pub mod OutputLemmas
+pub mod ArgumentLemmas
+pub mod RunLemmas
+pub mod TurnLemmas
+pub mod BudgetLemmas
+pub mod WorldLemmas

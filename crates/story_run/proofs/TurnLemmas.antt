@@ -1,0 +1,116 @@
+-- A turn ends: each step takes a tick, so more steps than ticks change nothing.
+use Rattle.std.proofs.Common.{◌≡◌, ℕ, zero, suc, ◌+◌, ◌-◌, ◌<◌, ◌≤◌, Bool, true, false, nat_lt, refl, ap, sym, ◌∙◌, arith, add-one, Result, Ok, Err, cond, subst, IfOk}
+use Rattle.std.specs.declared.alloc.AllocError.{AllocError}
+use Rattle.std.proofs.lemmas.Bool.Decides.{nat_tests}
+use Rattle.vm_exec.specs.Row.{Charged, charged, fetched, row, told, step_of}
+use Rattle.vm_stack.specs.StackState.{StackState}
+use Rattle.vm_exec.specs.Rows.Work.{Work, Free, Costs}
+use Rattle.vm_exec.specs.declared.machine.Machine.{Machine}
+use Rattle.vm_exec.specs.declared.step.Out.{Out}
+use Rattle.vm_exec.specs.declared.step.Out.TheVariants as out
+use Rattle.vm_exec.specs.Rules.{Rule}
+use Rattle.story_run.specs.Answer.{Reached, ◌>>=◌}
+use Rattle.story_run.specs.Call.{called}
+use Rattle.story_run.specs.Output.{put_code}
+use Rattle.story_run.specs.Step.{Next, Advances, Runs, Rests, Running, next, stepped, followed, answered, done, stored, put}
+use Rattle.story_run.specs.Turn.{Stops, after, steps, rest}
+use Rattle.story_run.specs.declared.call.Called.{Called}
+use Rattle.story_run.specs.declared.call.Called.TheVariants as call
+use Rattle.story_run.specs.declared.glk.Glk.{Glk}
+use Rattle.story_run.specs.declared.stage.Stage.{Stage}
+use Rattle.story_run.specs.declared.stage.Stage.TheVariants as stage
+use Rattle.vm_memory.specs.declared.fault.Trap.{Trap}
+use Rattle.vm_memory.specs.declared.fault.Trap.TheVariants as trap
+
+-- fewer ticks are left
+abbrev pub IsBelow : ℕ → Next → Type 0
+IsBelow ticks (Runs left r) = left < ticks
+IsBelow ticks (Rests g s) = Unit {0}
+
+put-below : (ticks left : ℕ) (m : Machine) (x : Reached Glk) → left < ticks → IsBelow ticks (put left m x)
+put-below ticks left m (Ok g) h = h
+put-below ticks left m (Err e) h = tt
+
+stored-below : (ticks left : ℕ) (g : Glk) (x : Result Machine ℕ) → left < ticks → IsBelow ticks (stored left g x)
+stored-below ticks left g (Ok m) h = h
+stored-below ticks left g (Err n) h = tt
+
+charged-below : (ticks left : ℕ) (b : Bool) (g : Glk) (x y : Next) → IsBelow ticks x → IsBelow ticks y → IsBelow ticks (cond b x y)
+charged-below ticks left true g x y h k = h
+charged-below ticks left false g x y h k = k
+
+done-below : (ticks left : ℕ) (g : Glk) (m : Machine) (x : Called) → left < ticks → IsBelow ticks (done left g m x)
+done-below ticks left g m (call.Wait event) h = tt
+done-below ticks left g m (call.Value value chars) h =
+    charged-below ticks left (nat_lt left chars) g _ _ tt (stored-below ticks (left - chars) g _ (omega arith))
+
+answered-below : (ticks left : ℕ) (m : Machine) (x : Reached (Glk × StackState × Called)) → left < ticks → IsBelow ticks (answered left m x)
+answered-below ticks left m (Ok x) h = done-below ticks left x.0 (record m { stack = x.1 }) x.2 h
+answered-below ticks left m (Err e) h = tt
+
+followed-below : (left cost : ℕ) (g : Glk) (m : Machine) (o : Out) → 1 ≤ cost → cost ≤ left → IsBelow left (followed left g m (step_of o cost))
+followed-below left cost g m out.Ran h k = omega arith
+followed-below left cost g m (out.Char x) h k = put-below left (left - cost) m (put_code g x) (omega arith)
+followed-below left cost g m (out.Glk selector args) h k =
+    answered-below left (left - cost) m (called g m.memory m.stack selector args) (omega arith)
+followed-below left cost g m out.Quit h k = tt
+
+-- a step of the machine takes a tick at least
+charged-some : (x : Result Work ℕ) → 1 ≤ (charged x).cost
+charged-some (Ok (Free r)) = omega arith
+charged-some (Ok (Costs n r)) = omega arith
+charged-some (Err n) = omega arith
+
+told-cases : (b : Bool) (left cost : ℕ) (g : Glk) (gives : Rule) → (b ≡ false → cost ≤ left) → 1 ≤ cost
+    → IsBelow left (stepped left g (cond b (Err 24) (gives >>= (λ x. Ok (x.0, step_of x.1 cost)))))
+told-cases true left cost g gives w h = tt
+told-cases false left cost g (Ok x) w h = followed-below left cost g x.0 x.1 h (w refl)
+told-cases false left cost g (Err n) w h = tt
+
+told-below : (left : ℕ) (g : Glk) (c : Charged) → 1 ≤ c.cost → IsBelow left (stepped left g (told left c))
+told-below left g c h =
+    told-cases (nat_lt left c.cost) left c.cost g c.gives (λ e. grind (arith, nat_tests)) h
+
+pub next-below : (left : ℕ) (r : Running) → IsBelow left (next left r)
+unfolding next
+next-below left r = told-below left r.glk (row r.machine) (charged-some (fetched r.machine))
+
+-- a step leaves fewer ticks
+pub runs-below : (left l : ℕ) (r q : Running) → next left r ≡ Runs l q → l < left
+runs-below left l r q e = subst (IsBelow left) e (next-below left r)
+
+-- any number of steps above the ticks will do
+pub steps-enough : (n k left : ℕ) (r : Running) → left < n → left < k → steps n left r ≡ steps k left r
+unfolding steps
+steps-enough zero k left r h i = absurd (omega arith)
+steps-enough (suc n) zero left r h i = absurd (omega arith)
+steps-enough (suc n) (suc k) left r h i =
+    elim (next left r) as (λ x. IsBelow left x → after (steps n) x ≡ after (steps k) x) [
+      | Runs l q ↦ λ b. steps-enough n k l q (omega arith) (omega arith)
+      | Rests g s ↦ λ b. refl
+    ]
+    (next-below left r)
+
+-- one step of what is left
+rest-step : (left : ℕ) (r : Running) → rest left r ≡ after (steps left) (next left r)
+unfolding rest steps
+rest-step left r = rw add-one refl
+
+-- after a step the rest of the turn is the turn on what is left
+pub rest-runs : (left l : ℕ) (r q : Running) → next left r ≡ Runs l q → rest left r ≡ rest l q
+unfolding rest
+rest-runs left l r q e =
+    let h : l < left = runs-below left l r q e in
+    rest-step left r ∙ (ap (after (steps left)) e ∙ steps-enough left (l + 1) l q h (omega arith))
+
+pub rest-rests : (left : ℕ) (r : Running) (g : Glk) (s : Stage) → next left r ≡ Rests g s → rest left r ≡ (g, s)
+rest-rests left r g s e = rest-step left r ∙ ap (after (steps left)) e
+
+-- a step that fails ends the turn with its fault
+pub rest-stops : (left : ℕ) (r : Running) (g : Glk) (m : Machine) (t : Trap) (x : Result Stage AllocError)
+    → Advances (next left r) g m (Err t) → Stops t x → IfOk x (λ s. (g, s) ≡ rest left r)
+rest-stops left r g m (trap.Fault n) (Ok s) a p =
+    ap (λ (q : Stage). (g, q)) p ∙ sym (rest-rests left r g (stage.Fault n) a)
+rest-stops left r g m (trap.Fault n) (Err e) a p = tt
+rest-stops left r g m trap.NoMemory (Ok s) a p = absurd cc
+rest-stops left r g m trap.NoMemory (Err e) a p = tt

@@ -1,0 +1,30 @@
+-- What turns keep to (own).
+use Rattle.std.specs.Prelude.{◌≡◌, ◌≢◌, ℕ, ◌+◌, ◌<◌, true, false}
+use Rattle.glk_input.specs.declared.input.Input.{Input}
+use Rattle.story_run.specs.Solo.{is_over, is_wanted, turned}
+use Rattle.story_run.specs.Step.{Running}
+use Rattle.story_run.specs.Turn.{rest, steps}
+use Rattle.story_run.specs.World.{WorldState}
+use Rattle.story_run.specs.declared.glk.Glk.{Glk}
+use Rattle.story_run.specs.declared.stage.Stage.{Stage}
+use Rattle.story_run.specs.declared.stage.Stage.TheVariants.{Fault}
+
+-- a turn never runs out of steps: any number above the budget comes to the same rest
+abbrev pub TurnsEnd : Type 0
+TurnsEnd = (n budget : ℕ) (r : Running) → budget < n → steps n budget r ≡ rest budget r
+
+-- a budget does nothing but end turns: one that is kept gives the same turn as any greater one
+abbrev pub BudgetsOnlyEnd : Type 0
+BudgetsOnlyEnd =
+    (budget more : ℕ) (r : Running) (g : Glk) (s : Stage)
+    → rest budget r ≡ (g, s) → s ≢ Fault 24 → rest (budget + more) r ≡ (g, s)
+
+-- a story that is over wants nothing
+abbrev pub OverWantsNothing : Type 0
+OverWantsNothing =
+    (w : WorldState) (input : Input) → is_over w ≡ true → is_wanted w input ≡ false
+
+-- an input that isn't wanted leaves the world as it is
+abbrev pub UnwantedLeaves : Type 0
+UnwantedLeaves =
+    (w : WorldState) (input : Input) → is_wanted w input ≡ false → turned w input ≡ w

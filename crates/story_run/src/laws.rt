@@ -1,0 +1,23 @@
+//! Laws of turns.
+
+ghost use Rattle.story_run.specs.Laws.{BudgetsOnlyEnd, OverWantsNothing, TurnsEnd, UnwantedLeaves};
+
+/// A turn ends within its budget: each of its steps takes a tick at least.
+pub fn turns_end()
+    ensures { TurnsEnd }
+{}
+
+/// A turn that keeps its budget is the same under any greater one.
+pub fn budgets_only_end()
+    ensures { BudgetsOnlyEnd }
+{}
+
+/// A story that is over wants nothing.
+pub fn over_wants_nothing()
+    ensures { OverWantsNothing }
+{}
+
+/// An input that isn't wanted leaves the world as it is.
+pub fn unwanted_leaves()
+    ensures { UnwantedLeaves }
+{}

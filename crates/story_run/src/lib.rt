@@ -1,0 +1,30 @@
+//! A story, turn by turn: it runs until it waits for its player, and what it printed is a show.
+#![tactic(auto)]
+
+mod arguments;
+mod call;
+mod events;
+mod glk;
+mod laws;
+mod output;
+mod printed;
+mod reference;
+mod selector;
+mod setup;
+mod show;
+mod stage;
+mod step;
+mod steps;
+mod story;
+#[cfg(test)]
+mod tests;
+mod turn;
+mod windows;
+mod words;
+mod world;
+
+pub use laws::{budgets_only_end, over_wants_nothing, turns_end, unwanted_leaves};
+pub use setup::Setup;
+pub use steps::Steps;
+pub use story::Story;
+pub use world::World;

@@ -1,0 +1,121 @@
+//! A world: a story between two turns.
+
+ghost use Rattle.std.specs.Prelude.{◌≡◌, ◌+◌, true, IfOk};
+ghost use Rattle.story_run.specs.Solo.{is_over, is_wanted, opening, rested, shown, turned};
+
+use crate::events::{is_asked, line_of};
+use crate::glk::Glk;
+use crate::show::write_show;
+use crate::stage::Stage;
+use crate::turn::{resume, run, stopped};
+use crate::{Setup, Steps, Story};
+use glk_input::Input;
+use std::alloc::{AllocError, Global};
+use std::sync::ledger::Ledger;
+use story_text::Bytes;
+use vm_exec::Machine;
+
+/// A story that waits for its player or is over, with the show of its last turn.
+#[derive(Drop)]
+pub struct World<'i> {
+    budget: u64,
+    glk: Glk,
+    stage: Stage<'i>,
+    last: Bytes,
+}
+
+impl<'i> World<'i> {
+    /// Begins the story and runs its opening turn. An error is want of memory.
+    #[tactic(auto, unfolding(crate::specs::Solo::opening))]
+    pub fn start(alloc: Global, story: &Story<'i>, setup: Setup) -> Result<World<'i>, AllocError>
+        ensures value { IfOk result (λ world. world ≡ opening story.now.image setup) }
+    {
+        let mut glk = Glk::new(alloc, setup.cols, setup.rows);
+        let stage = match Machine::start(alloc, &story.image, setup.seed) {
+            Ok(machine) => run(alloc, &mut glk, machine, setup.budget)?,
+            Err(trap) => stopped(trap)?,
+        };
+        rest(alloc, setup.budget, glk, stage)
+    }
+
+    /// Whether the story waits for this input: a line for its window that the return key ends.
+    #[tactic(auto, unfolding(crate::specs::Solo::is_wanted))]
+    pub fn wants(&self, input: &Input) -> bool
+        ensures value { result ≡ is_wanted self.now input.now }
+    {
+        match &self.stage {
+            Stage::Waits { .. } => is_asked(self.glk.request, input),
+            _ => false,
+        }
+    }
+
+    /// Gives the story an input that it waits for and runs the turn, which is one step. An error is
+    /// want of memory; the world is then gone.
+    #[tactic(auto, unfolding(crate::specs::Solo::is_wanted, crate::specs::Solo::turned))]
+    pub fn turn<L: Ledger>(
+        self,
+        alloc: Global,
+        input: &Input,
+        steps: &mut Steps<L>,
+    ) -> Result<World<'i>, AllocError>
+        requires { is_wanted self input.now ≡ true }
+        ensures value { IfOk result (λ world. world ≡ turned self.entry input.now) }
+        ensures cost { steps.new ≡ steps.old + 1 }
+    {
+        steps.tick();
+        let World {
+            budget,
+            mut glk,
+            stage,
+            last,
+        } = self;
+        match (stage, glk.request, input) {
+            (Stage::Waits { machine, event }, Some(request), Input::Line { text, .. }) => {
+                let line = line_of(alloc, request, text)?;
+                let stage = resume(alloc, &mut glk, machine, request, event, &line, budget)?;
+                rest(alloc, budget, glk, stage)
+            }
+            (stage, _, _) => Ok(World {
+                budget,
+                glk,
+                stage,
+                last,
+            }),
+        }
+    }
+
+    /// Whether the story is over: it quit or met a fault.
+    #[tactic(auto, unfolding(crate::specs::Solo::is_over))]
+    pub fn is_over(&self) -> bool
+        ensures value { result ≡ is_over self.now }
+    {
+        !matches!(self.stage, Stage::Waits { .. })
+    }
+
+    /// The lines of the last turn's show, each with its newline.
+    #[tactic(auto, unfolding(crate::specs::Solo::shown))]
+    pub fn last(&self) -> &[u8]
+        ensures value { result.now ≡ shown self.now }
+    {
+        self.last.as_slice()
+    }
+}
+
+// The world after a turn that came to rest: its show is made, and what was printed is forgotten.
+fn rest<'i>(
+    alloc: Global,
+    budget: u64,
+    mut glk: Glk,
+    stage: Stage<'i>,
+) -> Result<World<'i>, AllocError>
+    ensures { IfOk result (λ world. world ≡ rested budget (glk, stage.entry)) }
+{
+    let last = Bytes::of(write_show(alloc, &glk, &stage)?);
+    glk.settle();
+    Ok(World {
+        budget,
+        glk,
+        stage,
+        last,
+    })
+}

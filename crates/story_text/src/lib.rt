@@ -1,0 +1,19 @@
+//! Texts as lists of characters, and their escaped spelling in lines.
+#![tactic(auto)]
+
+mod bytes;
+mod fault;
+mod laws;
+mod read;
+mod text;
+mod write;
+
+pub use bytes::Bytes;
+pub use fault::TextFault;
+pub use laws::{reads_each_spelling, reads_spellings_only, reads_visible_only, round_trip};
+pub use read::read_escaped;
+pub use text::{Text, to_utf8};
+pub use write::write_escaped;
+
+#[cfg(test)]
+mod tests;

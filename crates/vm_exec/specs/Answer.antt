@@ -1,0 +1,29 @@
+-- What a call that changes a machine answered and left, against what it should (own).
+use Rattle.std.specs.Prelude.{◌≡◌, ℕ, List, Vec, Result, Ok, Err}
+use Rattle.vm_memory.specs.declared.fault.Trap.{Trap}
+use Rattle.vm_memory.specs.declared.fault.Trap.TheVariants.{Fault, NoMemory}
+
+-- The call answered this and left new, as it should, unless memory ran out. After a fault nothing
+-- is said of new.
+abbrev pub Does : {S A : Type 0} → Result (S × A) ℕ → S → Result A Trap → Type 0
+Does should new (Ok x) = should ≡ Ok (new, x)
+Does should new (Err (Fault n)) = should ≡ Err n
+Does should new (Err NoMemory) = Unit {0}
+
+-- The same of a call that answers nothing.
+abbrev pub Changes : {S A : Type 0} → Result S ℕ → S → Result A Trap → Type 0
+Changes should new (Ok x) = should ≡ Ok new
+Changes should new (Err (Fault n)) = should ≡ Err n
+Changes should new (Err NoMemory) = Unit {0}
+
+-- The same of a call that makes a value.
+abbrev pub Makes : {A : Type 0} → Result A ℕ → Result A Trap → Type 0
+Makes should (Ok x) = should ≡ Ok x
+Makes should (Err (Fault n)) = should ≡ Err n
+Makes should (Err NoMemory) = Unit {0}
+
+-- The same of a call that changes a value and gives a vector, which is seen as the list of its items.
+abbrev pub Takes : {S A Z : Type 0} → Result (S × List A) ℕ → S → Result (Vec A Z) Trap → Type 0
+Takes should new (Ok v) = should ≡ Ok (new, v.items)
+Takes should new (Err (Fault n)) = should ≡ Err n
+Takes should new (Err NoMemory) = Unit {0}

@@ -1,0 +1,7 @@
+pub mod Answer
+pub mod Machine
+pub mod Fault
+pub mod Rules
+pub mod Rows
+pub mod Row
+pub mod Start

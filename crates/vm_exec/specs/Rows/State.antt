@@ -1,0 +1,14 @@
+-- The game's state (Glulx 3.1.3, "Game State").
+use Rattle.std.specs.Prelude.{ℕ, ◌/◌, length, Result, Ok, Err}
+use Rattle.vm_operand.specs.declared.opcode.State.{State}
+use Rattle.vm_operand.specs.declared.opcode.State.TheVariants.{Quit, Verify, Restart, Save, Restore, Saveundo, Restoreundo, Protect, Hasundo, Discardundo}
+use Rattle.vm_operand.specs.declared.operand.Dest as d
+use Rattle.vm_exec.specs.Rows.Work.{Work, Free, Costs}
+use Rattle.vm_exec.specs.Rules.{puts, tells}
+use Rattle.vm_exec.specs.declared.machine.Machine.{Machine}
+use Rattle.vm_exec.specs.declared.step.Out.TheVariants as out
+
+unfoldable pub state_work : State → Machine → (ℕ → ℕ) → (ℕ → d.Dest) → Work
+state_work Quit m l d = Free (tells m out.Quit)
+state_work Verify m l d = Costs (length m.memory.rom / 256) (puts m (d 0) m.verified)
+state_work _ m l d = Free (Err 25)

@@ -1,0 +1,40 @@
+-- The machine as a story begins (Glulx 3.1.3, "Execution").
+use Rattle.std.specs.Prelude.{ℕ, List, [], take, Result, Ok, Err}
+use Rattle.glulx_image.specs.Header.{ramstart, extstart, endmem, stack_size, start_function, string_table}
+use Rattle.glulx_image.specs.Checksum.{verified}
+use Rattle.vm_memory.specs.MemoryMap.{MemoryMap, memory_of}
+use Rattle.vm_operand.specs.Reading.{◌>>=◌}
+use Rattle.vm_operand.specs.declared.operand.Dest.TheVariants.{Discard}
+use Rattle.vm_stack.specs.StackState.{StackState}
+use Rattle.vm_flow.specs.Call.{called}
+use Rattle.vm_exec.specs.Fault.{flowed}
+use Rattle.vm_exec.specs.Rules.{stored}
+use Rattle.vm_exec.specs.declared.machine.Machine.{Machine}
+
+-- the memory of a file
+abbrev pub image_memory : List ℕ → MemoryMap
+image_memory file = memory_of (take (extstart file) file) (ramstart file) (endmem file)
+
+-- a stack with nothing on it
+abbrev pub empty_stack : List ℕ → StackState
+empty_stack file = record { bytes = []; frame = 0; limit = stack_size file }
+
+-- the start function is called without arguments, over an empty stack
+abbrev pub started : List ℕ → ℕ → Result Machine ℕ
+started file seed =
+    flowed (called (image_memory file) (empty_stack file) (start_function file) [])
+    >>= (λ x. Ok (record {
+      memory = image_memory file;
+      stack = x.0;
+      pc = x.1;
+      mode = 0;
+      rock = 0;
+      string_table = string_table file;
+      waiting = Discard;
+      verified = verified file;
+      seed = seed;
+    }))
+
+-- the result of the call that the step before asked for is stored
+abbrev pub finished : Machine → ℕ → Result Machine ℕ
+finished m value = stored m m.waiting value

@@ -1,0 +1,25 @@
+//! The machine of a story: one step is one row of the table of opcodes.
+#![tactic(auto)]
+
+mod arguments;
+mod array;
+mod branch;
+mod function;
+mod machine;
+mod math;
+mod moving;
+mod operand;
+mod output;
+mod parts;
+mod perform;
+mod search;
+mod state;
+mod step;
+mod system;
+#[cfg(test)]
+mod tests;
+mod trap;
+mod values;
+
+pub use machine::Machine;
+pub use step::{Done, Out, Step};

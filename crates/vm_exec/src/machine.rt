@@ -1,0 +1,115 @@
+//! The machine, and how it starts and goes on.
+
+ghost use Rattle.std.specs.Prelude.{◌≡◌, ◌%◌, [], length, IfOk, OnOk, Ok};
+ghost use Rattle.vm_exec.specs.Answer.{Changes, Does, Makes};
+ghost use Rattle.vm_exec.specs.Fault.{flowed};
+ghost use Rattle.vm_exec.specs.Machine.{GoesOnFit, IsFit};
+ghost use Rattle.vm_exec.specs.Row.{IsPriced, row, told};
+ghost use Rattle.vm_exec.specs.Start as start;
+ghost use Rattle.vm_exec.specs.Start.{finished, started};
+ghost use Rattle.vm_flow.specs.Call.{called};
+ghost use Rattle.vm_stack.specs.Chain.{Chain, HasFrame};
+
+use crate::perform::width_of;
+use crate::step::Step;
+use crate::trap::{BUDGET, no_memory, of_flow};
+use glulx_image::Image;
+use std::alloc::Global;
+use vm_flow::call;
+use vm_memory::{Memory, Trap};
+use vm_operand::{Dest, Op, decode};
+use vm_stack::Stack;
+
+/// A story under way (Glulx 3.1.3, "Machine State").
+#[derive(Drop)]
+pub struct Machine<'i> {
+    pub memory: Memory<'i>,
+    pub stack: Stack,
+    pub(crate) pc: u32,
+    /// The I/O system: 0 drops output, 1 calls the function at the rock, 2 is Glk.
+    pub(crate) mode: u32,
+    pub(crate) rock: u32,
+    pub(crate) string_table: u32,
+    /// Where the result of the call that the last step asked for goes.
+    pub(crate) waiting: Dest,
+    /// What the verify opcode stores.
+    pub(crate) verified: u32,
+    /// The session's seed, from which random words come.
+    pub(crate) seed: u64,
+}
+
+impl<'i> Machine<'i> {
+    /// The machine as an image's story begins: its start function is called without arguments.
+    /// Faults 1, 3 and 12 as for a call.
+    pub fn start(alloc: Global, image: &Image<'i>, seed: u64) -> Result<Machine<'i>, Trap>
+        ensures value { Makes (started image.now seed) result }
+        ensures fit { IfOk result (λ machine. IsFit machine) }
+    {
+        let memory = image_memory(alloc, image)?;
+        let mut stack = empty_stack(alloc, image)?;
+        let pc = begin(alloc, &memory, &mut stack, image.start_function())?;
+        Ok(Machine {
+            memory,
+            stack,
+            pc,
+            mode: 0,
+            rock: 0,
+            string_table: image.string_table(),
+            waiting: Dest::Discard,
+            verified: image.verify(),
+            seed,
+        })
+    }
+
+    /// Stores the result of the call that the last step asked for.
+    pub fn finish(&mut self, _alloc: Global, value: u32) -> Result<(), Trap>
+        ensures does { Changes (finished self.old value) self.new result }
+        ensures fit { IsFit self.old → OnOk result (IsFit self.new) }
+    {
+        self.store(self.waiting, value)
+    }
+
+    /// The instruction at the PC: its row of the table, within so many ticks. Fault 24 where it
+    /// costs more; else the row's fault.
+    pub fn step(&mut self, alloc: Global, left: u64) -> Result<Step, Trap>
+        ensures does { Does (told left (row self.old)) self.new result }
+        ensures fit { IsFit self.old → IfOk result (λ step. GoesOnFit self.new step) }
+        ensures cost { IfOk result (λ step. IsPriced left step) }
+    {
+        if left == 0 {
+            return Err(BUDGET);
+        }
+        let instr = decode(&self.memory, self.pc)?;
+        let op = Op::of(instr.op);
+        let args = self.load_all(width_of(op), &instr.loads.items, 0, [0; 8])?;
+        self.pc = instr.next;
+        self.run(alloc, op, &args, &instr.stores.items, left)
+    }
+}
+
+// The memory of an image.
+fn image_memory<'i>(alloc: Global, image: &Image<'i>) -> Result<Memory<'i>, Trap>
+    ensures value { Makes (Ok (start.image_memory image.now)) result }
+    ensures pages { IfOk result (λ memory. length memory.bytes % 256 ≡ 0) }
+{
+    let rom = &image.bytes()[..image.extstart() as usize];
+    match Memory::new(alloc, rom, image.ramstart(), image.endmem()) {
+        Ok(memory) => Ok(memory),
+        Err(_) => Err(Trap::NoMemory),
+    }
+}
+
+// A stack with nothing on it.
+fn empty_stack(alloc: Global, image: &Image<'_>) -> Result<Stack, Trap>
+    ensures { Makes (Ok (start.empty_stack image.now)) result }
+{
+    Stack::with_size(alloc, image.stack_size()).map_err(no_memory)
+}
+
+// The start function is called without arguments.
+fn begin(alloc: Global, memory: &Memory<'_>, stack: &mut Stack, at: u32) -> Result<u32, Trap>
+    ensures does { Does (flowed (called memory.now stack.old at [])) stack.new result }
+    ensures kept { stack.old.bytes ≡ [] → stack.old.frame ≡ 0 → OnOk result (Chain stack.new × HasFrame stack.new) }
+{
+    call(alloc, memory, stack, at, &[]).map_err(of_flow)
+}

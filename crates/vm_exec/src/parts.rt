@@ -1,0 +1,29 @@
+//! What instructions are made of.
+
+ghost use Rattle.std.specs.Prelude.{◌≡◌, ◌+◌, ◌*◌, IfOk, OnOk, Ok, Err};
+ghost use Rattle.vm_exec.specs.Answer.{Does, Makes};
+ghost use Rattle.vm_exec.specs.Machine.{IsFit, StaysFit};
+ghost use Rattle.vm_exec.specs.Rows.Work.{Tells};
+ghost use Rattle.vm_exec.specs.Rules as rules;
+
+use crate::Machine;
+use crate::step::{Done, Out};
+use vm_memory::Trap;
+use vm_operand::Dest;
+
+impl<'i> Machine<'i> {
+    pub(crate) fn tell(&self, out: Out) -> Result<Done, Trap>
+        ensures { Tells (rules.tells self.now out) self.now result }
+    {
+        Ok(Done { out, cost: 0 })
+    }
+
+    /// Stores a value.
+    pub(crate) fn put(&mut self, to: Dest, value: u32) -> Result<Done, Trap>
+        ensures does { Tells (rules.puts self.old to value) self.new result }
+        ensures fit { IsFit self.old → IfOk result (λ done. StaysFit self.new done.out) }
+    {
+        self.store(to, value)?;
+        self.tell(Out::Ran)
+    }
+}

@@ -1,0 +1,5 @@
+pub mod ThrowLemmas
+pub mod FormatLemmas
+pub mod ArgumentLemmas
+pub mod TokenLemmas
+pub mod StandardFacts

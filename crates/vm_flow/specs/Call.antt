@@ -1,0 +1,50 @@
+-- Calls (Glulx 3.1.3, "Calling and Returning Within Glulx").
+use Rattle.std.specs.Prelude.{ℕ, ◌+◌, ◌*◌, ◌==◌, ◌||◌, if◌then◌else◌}
+use Rattle.std.specs.Prelude.{List, [], ◌∷◌, length, take, drop, Result, Ok, Err}
+use Rattle.vm_memory.specs.MemoryMap.{MemoryMap}
+use Rattle.vm_memory.specs.Access.{read}
+use Rattle.vm_stack.specs.StackState.{StackState}
+use Rattle.vm_stack.specs.Values.{pushed}
+use Rattle.vm_stack.specs.Locals.{local_set}
+use Rattle.vm_stack.specs.Frame.{aligned, entered}
+use Rattle.vm_flow.specs.Answer.{from_stack, from_memory, and_then}
+use Rattle.vm_flow.specs.Function.{format_in}
+use Rattle.vm_flow.specs.declared.stop.FlowStop.{FlowStop}
+use Rattle.vm_flow.specs.declared.stop.FlowStop.TheVariants as stop
+
+-- locals of one type, from a place on, get values
+abbrev pub pair_set : StackState → ℕ → ℕ → List ℕ → Result StackState FlowStop
+pair_set s at size [] = Ok s
+pair_set s at size (x ∷ xs) =
+    and_then (from_stack (local_set s at size x)) (λ t. pair_set t (at + size) size xs)
+
+-- the locals of the pairs, from a place on, get arguments in order; what is left over is dropped
+abbrev pub locals_set : StackState → ℕ → List ℕ → List ℕ → Result StackState FlowStop
+locals_set s at [] args = Ok s
+locals_set s at (size ∷ []) args = Ok s
+locals_set s at (size ∷ count ∷ rest) args =
+    if size == 0 then Ok s
+    else and_then (pair_set s (aligned size at) size (take count args))
+    (λ t. locals_set t (aligned size at + size * count) rest (drop count args))
+
+-- values are pushed, the last one first
+abbrev pub all_pushed : StackState → List ℕ → Result StackState FlowStop
+all_pushed s [] = Ok s
+all_pushed s (x ∷ xs) = and_then (all_pushed s xs) (λ t. from_stack (pushed t x))
+
+-- arguments go into the locals of a C1, and on the stack of a C0 with their count on top
+abbrev pub given : ℕ → StackState → List ℕ → List ℕ → Result StackState FlowStop
+given kind s format args =
+    if kind == 193 then locals_set s 0 format args
+    else and_then (all_pushed s args) (λ t. from_stack (pushed t (length args)))
+
+-- a function is called: its type is read, then its list of locals; a frame is made for them; and
+-- the arguments are given. Its first instruction stands behind the list
+abbrev pub called : MemoryMap → StackState → ℕ → List ℕ → Result (StackState × ℕ) FlowStop
+called m s at args =
+    and_then (from_memory (read 1 m at)) (λ kind.
+    if kind == 192 || kind == 193
+    then and_then (format_in at (at + 1) (drop (at + 1) m.bytes)) (λ format.
+    and_then (from_stack (entered s format)) (λ t.
+    and_then (given kind t format args) (λ u. Ok (u, at + 1 + length format))))
+    else Err (stop.BadFunction at))

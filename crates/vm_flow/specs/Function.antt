@@ -1,0 +1,26 @@
+-- Functions and their lists of locals (Glulx 3.1.3, "Functions").
+use Rattle.std.specs.Prelude.{ℕ, ◌+◌, ◌==◌, ◌&&◌, ◌||◌, if◌then◌else◌, Bool}
+use Rattle.std.specs.Prelude.{List, [], ◌∷◌, ◌++◌, Result, Ok, Err}
+use Rattle.vm_memory.specs.declared.fault.MemFault.TheVariants.{BadRead}
+use Rattle.vm_flow.specs.declared.stop.FlowStop.{FlowStop}
+use Rattle.vm_flow.specs.declared.stop.FlowStop.TheVariants as stop
+
+-- a local's type is its number of bytes
+abbrev pub is_type : ℕ → Bool
+is_type size = size == 1 || size == 2 || size == 4
+
+-- these bytes, and then those that are given
+abbrev pub prepended : List ℕ → Result (List ℕ) FlowStop → Result (List ℕ) FlowStop
+prepended xs (Ok ys) = Ok (xs ++ ys)
+prepended xs (Err e) = Err e
+
+-- the pairs of type and count of a function, up to the pair 0,0, in the bytes of memory from an
+-- address on; both bytes of a pair are read before its type is looked at
+abbrev pub format_in : ℕ → ℕ → List ℕ → Result (List ℕ) FlowStop
+format_in function at [] = Err (stop.Memory (BadRead at))
+format_in function at (size ∷ []) = Err (stop.Memory (BadRead (at + 1)))
+format_in function at (size ∷ count ∷ rest) =
+    if size == 0 && count == 0 then Ok (0 ∷ 0 ∷ [])
+    else (if is_type size
+    then prepended (size ∷ count ∷ []) (format_in function (at + 2) rest)
+    else Err (stop.BadFunction function))

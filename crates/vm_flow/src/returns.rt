@@ -1,0 +1,32 @@
+// Returns from a function.
+ghost use Rattle.std.specs.Prelude.{OnOk, IfOk, IfSome};
+ghost use Rattle.vm_flow.specs.Answer.{Gives};
+ghost use Rattle.vm_flow.specs.Return as returns;
+ghost use Rattle.vm_stack.specs.Chain.{Chain, HasFrame, EndsInOwnStub};
+
+use crate::stop::FlowStop;
+use vm_stack::{Stack, Stub};
+
+/// Drops the current frame and takes the stub below it, or gives None where nothing is left.
+pub fn give_back(stack: &mut Stack) -> Result<Option<Stub>, FlowStop>
+    ensures ok { Gives (returns.given_back stack.old) stack.new result }
+
+    ensures kept { Chain stack.old → OnOk result (Chain stack.new) }
+    // where a stub was taken its frame is there
+    ensures there { Chain stack.old → IfOk result (λ stub. IfSome stub (λ _. HasFrame stack.new)) }
+{
+    stack.leave();
+    take_top(stack)
+}
+
+// Takes the stub on top, or gives None where nothing is left.
+fn take_top(stack: &mut Stack) -> Result<Option<Stub>, FlowStop>
+    ensures ok { Gives (returns.stub_or_end stack.old) stack.new result }
+    ensures kept { Chain stack.old → EndsInOwnStub stack.old → OnOk result (Chain stack.new) }
+    ensures there { Chain stack.old → IfOk result (λ stub. IfSome stub (λ _. HasFrame stack.new)) }
+{
+    if stack.length() == 0 {
+        return Ok(None);
+    }
+    Ok(Some(stack.take_stub()?))
+}

@@ -1,0 +1,9 @@
+pub mod StackState
+pub mod Answer
+pub mod Values
+pub mod Locals
+pub mod Frame
+pub mod Stub
+pub mod Chain
+pub mod Token
+pub mod Saved

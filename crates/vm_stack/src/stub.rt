@@ -1,0 +1,106 @@
+// Call stubs, and the tokens that name where one ends.
+ghost use Rattle.std.specs.Prelude.{◌≡◌, ◌≤◌, ◌<◌, ◌+◌, ◌++◌, length, OnErr, OnOk};
+ghost use Rattle.vm_stack.specs.Answer.{Gives, Leaves};
+ghost use Rattle.vm_stack.specs.Stub as stubs;
+ghost use Rattle.vm_stack.specs.Values.{without};
+ghost use Rattle.vm_stack.specs.Token as tokens;
+ghost use Rattle.vm_stack.specs.Chain.{Chain, HasFrame, IsReady, EndsInOwnStub};
+
+use crate::bytes::number;
+use crate::fault::StackFault;
+use crate::stack::Stack;
+use byteorder::{BigEndian, ByteOrder};
+
+/// Where a result goes and where execution goes on: DestType, DestAddr, PC and FramePtr.
+#[derive(Clone, Copy, Debug, PartialEq, Eq)]
+pub struct Stub {
+    pub kind: u32,
+    pub at: u32,
+    pub pc: u32,
+    pub frame: u32,
+}
+
+impl Stack {
+    /// Pushes the four words of a stub, FramePtr on top. Overflow where fewer than 16 bytes are
+    /// free.
+    pub fn push_stub(&mut self, stub: Stub) -> Result<(), StackFault>
+        ensures ok { Leaves (stubs.stub_pushed self.old stub) self.new result }
+        ensures err { OnErr result (self.new ≡ self.old) }
+
+        ensures kept { Chain self.old → HasFrame self.old → OnOk result (Chain self.new) }
+        ensures there { OnOk result (HasFrame self.new) }
+        // after a stub for the current frame a new one may be entered
+        ensures ready { Chain self.old → HasFrame self.old → stub.frame ≡ self.old.frame
+            → OnOk result (IsReady self.new) }
+    {
+        if !self.has_room(16) {
+            return Err(StackFault::Overflow);
+        }
+        self.add_stub(stub);
+        Ok(())
+    }
+
+    // Puts a stub on top.
+    fn add_stub(&mut self, stub: Stub)
+        requires { length self.old.bytes + 16 ≤ self.old.limit }
+        ensures { self.new ≡ record self.old { bytes = self.old.bytes ++ stubs.stub_bytes stub } }
+    {
+        let mut bytes = [0; 16];
+        BigEndian::write_u32_into(&[stub.kind, stub.at, stub.pc, stub.frame], &mut bytes);
+        self.add(&bytes);
+    }
+
+    /// Pops the four words of the stub on top, and makes its frame the current one. Underflow where
+    /// the current frame holds fewer than four values.
+    pub fn take_stub(&mut self) -> Result<Stub, StackFault>
+        ensures ok { Gives (stubs.stub_taken self.old) self.new result }
+        ensures err { OnErr result (self.new ≡ self.old) }
+
+        ensures kept { Chain self.old → EndsInOwnStub self.old → OnOk result (Chain self.new) }
+        ensures there { Chain self.old → OnOk result (HasFrame self.new) }
+    {
+        if self.value_bytes() < 16 {
+            return Err(StackFault::Underflow);
+        }
+        let bytes = self.live();
+        let at = bytes.len() - 16;
+        let stub = stub_at(bytes, at);
+        self.drop_stub(stub.frame);
+        Ok(stub)
+    }
+
+    // Drops the stub on top, for this frame.
+    fn drop_stub(&mut self, frame: u32)
+        requires { 16 ≤ length self.old.bytes }
+        ensures { self.new ≡ record (without self.old 16) { frame = frame } }
+    {
+        self.shrink(16);
+        self.set_frame(frame);
+    }
+
+    /// Whether a stub for the current frame ends at this place, among the frame's values.
+    pub fn ends_stub(&self, token: u32) -> bool
+        ensures { result ≡ tokens.ends_stub self.now token }
+    {
+        let bytes = self.live();
+        let frame = self.frame();
+        let start = frame as usize + number(bytes, frame as usize, 4) as usize;
+        start + 16 <= token as usize
+            && token as usize <= bytes.len()
+            && token % 4 == 0
+            && number(bytes, token as usize - 4, 4) == frame
+    }
+}
+
+// The stub at a place.
+fn stub_at(bytes: &[u8], at: usize) -> Stub
+    requires { at < 4294967296 }
+    ensures { result ≡ stubs.stub_at bytes.now at }
+{
+    Stub {
+        kind: number(bytes, at, 4),
+        at: number(bytes, at + 4, 4),
+        pc: number(bytes, at + 8, 4),
+        frame: number(bytes, at + 12, 4),
+    }
+}
