@@ -1,3 +1,4 @@
 pub mod HeapLemmas
 pub mod FitLemmas
 pub mod HistoryLemmas
+mod StandardFacts
