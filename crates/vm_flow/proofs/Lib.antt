@@ -1,5 +1,6 @@
 pub mod ThrowLemmas
 pub mod FormatLemmas
 pub mod ArgumentLemmas
+pub mod LocalLemmas
 pub mod TokenLemmas
 pub mod StandardFacts

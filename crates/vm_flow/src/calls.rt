@@ -1,7 +1,8 @@
 // Calls of functions.
-ghost use Rattle.std.specs.Prelude.{OnOk};
+ghost use Rattle.std.specs.Prelude.{◌≡◌, ℕ, List, OnOk};
 ghost use Rattle.vm_flow.specs.Answer.{GivesWithRoom};
 ghost use Rattle.vm_flow.specs.Call as calls;
+ghost use Rattle.vm_flow.specs.Function.{IsC1};
 ghost use Rattle.vm_stack.specs.Frame.{left};
 ghost use Rattle.vm_stack.specs.Chain.{Chain, HasFrame, IsReady};
 
@@ -23,6 +24,10 @@ pub fn call(
     args: &[u32],
 ) -> Result<u32, FlowStop>
     ensures ok { GivesWithRoom (calls.called memory.now stack.old at args.now) stack.new result }
+    // the frame of a C1 has the arguments in its locals, and no values
+    ensures locals { (format : List ℕ) → IsC1 memory.now at format
+        → OnOk result (stack.new ≡ calls.with_frame stack.old
+        (calls.frame_with format (calls.locals_of 0 format args.now))) }
 
     ensures kept { Chain stack.old → IsReady stack.old → OnOk result (Chain stack.new) }
     ensures there { OnOk result (HasFrame stack.new) }
