@@ -2,5 +2,6 @@ pub mod ThrowLemmas
 pub mod FormatLemmas
 pub mod ArgumentLemmas
 pub mod LocalLemmas
+pub mod ValueLemmas
 pub mod TokenLemmas
 pub mod StandardFacts

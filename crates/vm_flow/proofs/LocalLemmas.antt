@@ -1,11 +1,10 @@
 -- The locals of a C1's new frame, as one list of bytes.
-use Rattle.std.proofs.Common.{◌≡◌, ◌≢◌, ◌⊎◌, inl, inr, ℕ, zero, suc, ◌+◌, ◌-◌, ◌*◌, ◌<◌, ◌≤◌, Bool, true, false, ◌==◌, cond, nat_le, List, [], ◌∷◌, ◌++◌, length, take, drop, replicate, refl, arith, Result, Ok, Err, ap, sym, ◌∙◌, subst, append_assoc, length-append}
+use Rattle.std.proofs.Common.{◌≡◌, ◌≢◌, inl, inr, ℕ, zero, suc, ◌+◌, ◌-◌, ◌*◌, ◌≤◌, Bool, true, false, cond, nat_le, List, [], ◌∷◌, ◌++◌, length, take, drop, replicate, refl, arith, Result, Ok, Err, ap, sym, ◌∙◌, subst, append_assoc, length-append}
 use Rattle.std.specs.List.{flat_map}
 use Rattle.std.proofs.lemmas.Bool.{ne_eqb}
 use Rattle.std.proofs.lemmas.List.{append-nil, length-replicate, replicate-append-replicate, take-replicate, drop-replicate}
 use Rattle.std.proofs.lemmas.Grind.{flat_map-append}
 use Rattle.std.proofs.Math.Seq.{take-append_seam, drop-append-add}
-use Rattle.std.proofs.Math.Nat.{mul-le-mul_left}
 use Rattle.byteorder.specs.Endian.{big_bytes}
 use Rattle.vm_stack.specs.StackState.{StackState, number, replaced, frame_len, locals_pos}
 use Rattle.vm_stack.specs.Locals.{IsWidth, local_at, local_set}
@@ -16,7 +15,7 @@ use Rattle.vm_stack.proofs.SavedLemmas.{length_head, head_then_padding}
 use Rattle.vm_memory.specs.MemoryMap.{MemoryMap}
 use Rattle.vm_memory.specs.Access.{read}
 use Rattle.vm_memory.specs.declared.fault.MemFault.{MemFault}
-use Rattle.vm_flow.specs.Function.{format_in, IsC1}
+use Rattle.vm_flow.specs.Function.{format_in, IsFunction}
 use Rattle.vm_stack.specs.Chain.{IsFormat}
 use Rattle.vm_stack.specs.declared.fault.StackFault.{StackFault}
 use Rattle.vm_stack.proofs.NumberLemmas.{le_true, number_within}
@@ -250,11 +249,11 @@ abbrev state_or : StackState → Result StackState StackFault → StackState
 state_or s (Ok t) = t
 state_or s (Err e) = s
 
-entered_in : (b : Bool) (s x t : StackState) → cond b (Ok x) (Err Overflow) ≡ Ok t → t ≡ x
+pub entered_in : (b : Bool) (s x t : StackState) → cond b (Ok x) (Err Overflow) ≡ Ok t → t ≡ x
 entered_in true s x t h = sym (ap (λ (r : Result StackState StackFault). state_or s r) h)
 entered_in false s x t h = absurd (subst IsEntered (sym h) tt)
 
-entered_is : (s t : StackState) (format : List ℕ) → entered s format ≡ Ok t → t ≡ with_frame s (fresh_frame format)
+pub entered_is : (s t : StackState) (format : List ℕ) → entered s format ≡ Ok t → t ≡ with_frame s (fresh_frame format)
 entered_is s t format h = entered_in (nat_le (length s.bytes + frame_len_of format) s.limit) s (with_frame s (fresh_frame format)) t h
 
 -- what stands before the locals of a new frame
@@ -316,10 +315,10 @@ abbrev list_or : Result (List ℕ) FlowStop → List ℕ
 list_or (Ok xs) = xs
 list_or (Err e) = []
 
-same_number : (a b : ℕ) → ◌≡◌ {A = Result ℕ MemFault} (Ok a) (Ok b) → a ≡ b
+pub same_number : (a b : ℕ) → ◌≡◌ {A = Result ℕ MemFault} (Ok a) (Ok b) → a ≡ b
 same_number a b h = ap (λ (r : Result ℕ MemFault). number_or r) h
 
-same_list : (a b : List ℕ) → ◌≡◌ {A = Result (List ℕ) FlowStop} (Ok a) (Ok b) → a ≡ b
+pub same_list : (a b : List ℕ) → ◌≡◌ {A = Result (List ℕ) FlowStop} (Ok a) (Ok b) → a ≡ b
 same_list a b h = ap (λ (r : Result (List ℕ) FlowStop). list_or r) h
 
 given_locals : (kind : ℕ) (s : StackState) (format args : List ℕ) → kind ≡ 193 → given kind s format args ≡ locals_set s 0 format args
@@ -327,9 +326,9 @@ given_locals kind s format args e = rw e refl
 
 pub c1_called : (m : MemoryMap) (s t u : StackState) (at kind : ℕ) (items format args : List ℕ) → Ok kind ≡ read 1 m at
     → format_in at (at + 1) (drop (at + 1) m.bytes) ≡ Ok items → IsFormat items → frame_len_of items ≤ 1048576 → entered s items ≡ Ok t
-    → given kind t items args ≡ Ok u → IsC1 m at format → u ≡ with_frame s (frame_with format (locals_of 0 format args))
+    → given kind t items args ≡ Ok u → IsFunction 193 m at format → u ≡ with_frame s (frame_with format (locals_of 0 format args))
 c1_called m s t u at kind items format args reads lists is small enters gives c1 =
-    let k : kind ≡ 193 = same_number kind 193 (reads ∙ c1.kind) in
+    let k : kind ≡ 193 = same_number kind 193 (reads ∙ c1.type) in
     let e : items ≡ format = same_list items format (sym lists ∙ c1.list) in
     subst (λ (g : List ℕ). u ≡ with_frame s (frame_with g (locals_of 0 g args))) e
     (locals_are s t u items args is small enters (sym (given_locals kind t items args k) ∙ gives))

@@ -4,7 +4,7 @@ use Rattle.std.specs.Prelude.{length, take, drop, replicate, flat_map, Result, O
 use Rattle.byteorder.specs.Endian.{big_bytes}
 use Rattle.vm_memory.specs.MemoryMap.{MemoryMap}
 use Rattle.vm_memory.specs.Access.{read}
-use Rattle.vm_stack.specs.StackState.{StackState}
+use Rattle.vm_stack.specs.StackState.{StackState, words}
 use Rattle.vm_stack.specs.Values.{pushed}
 use Rattle.vm_stack.specs.Locals.{local_set}
 use Rattle.vm_stack.specs.Frame.{aligned, entered, frame_head, padding_len, locals_len}
@@ -70,3 +70,7 @@ frame_with format locals =
 -- with a frame of these bytes on top
 abbrev pub with_frame : StackState → List ℕ → StackState
 with_frame s bytes = record s { bytes = s.bytes ++ bytes; frame = length s.bytes }
+
+-- with these values on top, the last one uppermost
+abbrev pub with_values : StackState → List ℕ → StackState
+with_values s values = record s { bytes = s.bytes ++ words values }

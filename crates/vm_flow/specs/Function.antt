@@ -27,7 +27,7 @@ format_in function at (size ∷ count ∷ rest) =
     then prepended (size ∷ count ∷ []) (format_in function (at + 2) rest)
     else Err (stop.BadFunction function))
 
--- a function of type C1 with this list of locals, the pair 0,0 at its end, is at an address
-pub record IsC1 (m : MemoryMap) (at : ℕ) (format : List ℕ) : Type 0 where
-  pub kind : read 1 m at ≡ Ok 193
+-- a function of this type, and with this list of locals, the pair 0,0 at its end, is at an address
+pub record IsFunction (kind : ℕ) (m : MemoryMap) (at : ℕ) (format : List ℕ) : Type 0 where
+  pub type : read 1 m at ≡ Ok kind
   pub list : format_in at (at + 1) (drop (at + 1) m.bytes) ≡ Ok format
