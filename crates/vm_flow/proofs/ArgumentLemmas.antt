@@ -20,7 +20,7 @@ all_pushed_err s xs zero e h = h
 all_pushed_err s [] (suc i) e h = h
 all_pushed_err s (x ∷ xs) (suc i) e h = rw (all_pushed_err s xs i e h) refl
 
-aligned_up : (size at : ℕ) → IsWidth size → at ≤ aligned size at
+pub aligned_up : (size at : ℕ) → IsWidth size → at ≤ aligned size at
 aligned_up size at (inl e) = rw e (omega arith)
 aligned_up size at (inr (inl e)) = rw e (omega arith)
 aligned_up size at (inr (inr e)) = rw e (omega arith)
@@ -89,7 +89,7 @@ pub record NextPair (at x y : ℕ) (rest : List ℕ) : Type 0 where
   pub pairs : IsFormat rest
   pub end : locals_end (aligned x at + x * y) rest ≤ 1048576
 
-next_end : (at x y : ℕ) (rest : List ℕ) → x ≢ 0 → locals_end at (x ∷ y ∷ rest) ≡ locals_end (aligned x at + x * y) rest
+pub next_end : (at x y : ℕ) (rest : List ℕ) → x ≢ 0 → locals_end at (x ∷ y ∷ rest) ≡ locals_end (aligned x at + x * y) rest
 next_end at x y rest some = rw (ne_eqb x 0 some) refl
 
 next_in : (at x y : ℕ) (rest : List ℕ) → IsFormat (x ∷ y ∷ rest) → x ≢ 0 → locals_end at (x ∷ y ∷ rest) ≤ 1048576 → NextPair at x y rest

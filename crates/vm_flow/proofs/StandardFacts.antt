@@ -4,7 +4,7 @@ use Rattle.vm_memory.specs.MemoryMap.{MemoryMap}
 use Rattle.vm_memory.specs.declared.fault.MemFault.TheVariants.{BadRead}
 use Rattle.vm_stack.specs.StackState.{StackState, words}
 use Rattle.vm_stack.specs.Frame.{fresh_frame}
-use Rattle.vm_flow.specs.Call.{called}
+use Rattle.vm_flow.specs.Call.{called, locals_of}
 use Rattle.vm_flow.specs.Return.{given_back}
 use Rattle.vm_flow.specs.Throw.{caught, thrown}
 use Rattle.vm_flow.specs.declared.stop.FlowStop.TheVariants as stop
@@ -31,6 +31,12 @@ pub a_c1_gets_locals : called (of_bytes (193 ∷ 1 ∷ 3 ∷ 2 ∷ 1 ∷ 0 ∷ 0
       7,
     )
 a_c1_gets_locals = refl
+
+pub its_locals : locals_of 0 (1 ∷ 3 ∷ 2 ∷ 1 ∷ 0 ∷ 0 ∷ []) (511 ∷ 2 ∷ 3 ∷ 74565 ∷ 9 ∷ []) ≡ 255 ∷ 2 ∷ 3 ∷ 0 ∷ 35 ∷ 69 ∷ []
+its_locals = refl
+
+pub missing_arguments : locals_of 0 (4 ∷ 2 ∷ 1 ∷ 2 ∷ 0 ∷ 0 ∷ []) (1 ∷ []) ≡ 0 ∷ 0 ∷ 0 ∷ 1 ∷ 0 ∷ 0 ∷ 0 ∷ 0 ∷ 0 ∷ 0 ∷ []
+missing_arguments = refl
 
 -- arguments are pushed, the last one first, and their count on top
 pub a_c0_gets_values : called (of_bytes (192 ∷ 0 ∷ 0 ∷ [])) empty 0 (7 ∷ 8 ∷ []) ≡ Ok (frame_with (8 ∷ 7 ∷ 2 ∷ []), 3)
