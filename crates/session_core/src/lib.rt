@@ -13,3 +13,6 @@ mod world;
 pub use decision::{Decision, decide};
 pub use laws::is_isolated;
 pub use sessions::Sessions;
+
+#[cfg(test)]
+mod tests;
