@@ -1,5 +1,5 @@
 -- How the parts of a run make the run of a story file.
-use Rattle.std.proofs.Common.{◌≡◌, ℕ, arith, inl, inr, List, [], ◌++◌, refl, sym, ap, ◌∙◌, subst, append_assoc, Option, None, Some, Result, Ok, Err, IsOkAnd, IsErrAnd, true}
+use Rattle.std.proofs.Common.{◌≡◌, ℕ, arith, inl, inr, List, [], ◌++◌, refl, sym, ap, ◌∙◌, subst, append_assoc, None, Some, Result, Ok, Err, IsOkAnd, IsErrAnd, true}
 use Rattle.std.proofs.lemmas.List.{append-nil}
 use Rattle.glulx_image.specs.Fault.{number_of}
 use Rattle.glulx_image.specs.declared.fault.ImageFault.{ImageFault}

@@ -1,5 +1,5 @@
 -- A run for a caller who is told the file, the input and what the output holds.
-use Rattle.std.proofs.Common.{◌≡◌, ℕ, ◌^◌, ◌≤◌, ◌⊎◌, inl, inr, List, [], ◌++◌, take, map, length, refl, sym, ap, ◌∙◌, subst, append_assoc, Option, None, Some, Result, Ok, Err, IsOkAnd, IsErrAnd, IfSome, true}
+use Rattle.std.proofs.Common.{◌≡◌, ℕ, ◌^◌, ◌≤◌, ◌⊎◌, inl, inr, List, [], ◌++◌, take, length, refl, sym, ap, ◌∙◌, subst, append_assoc, Option, None, Some, Result, Ok, Err, IsOkAnd, IfSome, true}
 use Rattle.std.proofs.lemmas.List.{append-nil}
 use Rattle.std.specs.Io.KnownBytes.{Consumes, Appends, IsAtEnd}
 use Rattle.glulx_image.specs.declared.fault.ImageFault.{ImageFault}
@@ -12,14 +12,14 @@ use Rattle.storyhost.specs.Conversation.{replies}
 use Rattle.storyhost.specs.Files.{OutsideState, IsFile}
 use Rattle.storyhost.specs.Headline.{RunWrites, whole_text}
 use Rattle.storyhost.specs.Lines.{lines, IsWithinLimits}
-use Rattle.storyhost.specs.Ran.{Played, NotLoaded, Ran, RunLeaves}
+use Rattle.storyhost.specs.Ran.{Played, NotLoaded, RunLeaves}
 use Rattle.storyhost.specs.RunText.{opened, solo, show_text, run_text, run_world}
 use Rattle.storyhost.specs.Streams.{SourceState, SinkState}
 use Rattle.storyhost.specs.Talked.{IsReadToEnd}
 use Rattle.storyhost.specs.Writing.{IsPartOf}
 use Rattle.storyhost.specs.Does.{Does, Tells}
 use Rattle.storyhost.specs.Words.{Asked, Run}
-use Rattle.storyhost.proofs.LinesLemmas.{more_lines, still_reached, talk_settled}
+use Rattle.storyhost.proofs.LinesLemmas.{still_reached, talk_settled}
 use Rattle.storyhost.proofs.TalkLemmas.{replies_more, replies_settled, after_settled}
 
 -- what was read of an input that is told

@@ -1,5 +1,5 @@
 -- What a conversation over a source and a sink leaves (own).
-use Rattle.std.specs.Prelude.{◌≡◌, ℕ, ◌^◌, ◌<◌, ◌≤◌, ◌⊎◌, List, length, true}
+use Rattle.std.specs.Prelude.{◌≡◌, ℕ, ◌^◌, ◌≤◌, ◌⊎◌, List, length, true}
 use Rattle.std.specs.Io.KnownBytes.{IsAtEnd}
 use Rattle.storyhost.specs.Streams.{SourceState, SinkState, Gave, Wrote}
 use Rattle.storyhost.specs.Lines.{lines, talk, IsWithinLimits, ReachesLimit}

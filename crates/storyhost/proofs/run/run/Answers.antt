@@ -1,5 +1,5 @@
 use Rattle.std.proofs.Common.{refl}
-use Rattle.storyhost.proofs.RunLemmas.{not_loaded_ran, memory_ran, loaded_ran}
+use Rattle.storyhost.proofs.RunLemmas.{not_loaded_ran, loaded_ran}
 use Rattle.storyhost.proofs.run.run.Goals as goal
 
 pub returns-in-Err-Failed-clause-value : goal.returns-in-Err-Failed-clause-value
