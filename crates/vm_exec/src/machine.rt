@@ -81,7 +81,9 @@ impl<'i> Machine<'i> {
         }
         let instr = decode(&self.memory, self.pc)?;
         let op = Op::of(instr.op);
-        let args = self.load_all(width_of(op), &instr.loads.items, 0, [0; 8])?;
+        let loads = &instr.loads.items[..instr.loads.count as usize];
+        let mut args = [0; 8];
+        self.load_all(width_of(op), loads, 0, &mut args)?;
         self.pc = instr.next;
         self.run(alloc, op, &args, &instr.stores.items, left)
     }
