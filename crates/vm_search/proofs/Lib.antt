@@ -1,0 +1,4 @@
+pub mod KeyLemmas
+pub mod EndingLemmas
+pub mod LinearLemmas
+pub mod LinkedLemmas
