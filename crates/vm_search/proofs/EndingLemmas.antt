@@ -1,5 +1,5 @@
 -- The first end of a search, step by step.
-use Rattle.std.proofs.Common.{rules, arith, zero, suc, ◌≡◌, ◌∙◌, refl, sym, ap, subst, ℕ, ◌+◌, ◌-◌, ◌<◌, ◌≤◌, Bool, true, false, nat_lt, cond, Option, Some, None, Result, Ok, Err, IsErrAnd}
+use Rattle.std.proofs.Common.{arith, zero, suc, ◌≡◌, ◌∙◌, refl, sym, ap, subst, ℕ, ◌+◌, ◌-◌, ◌<◌, ◌≤◌, Bool, true, false, nat_lt, Option, Some, None, Result, Ok, Err, IsErrAnd}
 use Rattle.std.proofs.lemmas.Grind.{common_steps}
 use Rattle.vm_memory.specs.declared.fault.MemFault.{MemFault}
 use Rattle.vm_search.specs.Ending.{Ending, ending, first_ending, or_next, told, told_answer, search_of, at_structure, Looks}
@@ -9,7 +9,7 @@ use Rattle.vm_search.specs.Key.{is_search}
 use Rattle.vm_search.specs.declared.query.Query.{Query}
 use Rattle.vm_search.specs.declared.query.Found.{Found}
 use Rattle.vm_search.specs.declared.fault.SearchStop.{SearchStop}
-use Rattle.vm_search.specs.declared.fault.SearchStop.TheVariants.{Read, BadSearch, Spent}
+use Rattle.vm_search.specs.declared.fault.SearchStop.TheVariants.{BadSearch, Spent}
 
 step_on : (ends : ℕ → Option Ending) (n k : ℕ) → ends n ≡ None → first_ending ends n (suc k) ≡ first_ending ends (suc n) k
 unfolding first_ending
@@ -49,9 +49,10 @@ pub first_ending-more : (ends : ℕ → Option Ending) (left n k : ℕ) → AllL
 unfolding first_ending
 first_ending-more ends left n zero h x e = cc
 first_ending-more ends left n (suc k) h x e =
-    elim (ends n) as (λ o. ends n ≡ o → or_next o (first_ending ends (suc n) k) ≡ Some x → left < x.looked)
-      [ None ↦ (λ s f. first_ending-more ends left (suc n) k (λ j l. h j (omega arith)) x f)
-      | Some y ↦ (λ s f. h n (omega arith) x (s ∙ f)) ] refl e
+    elim (ends n) as (λ o. ends n ≡ o → or_next o (first_ending ends (suc n) k) ≡ Some x → left < x.looked) [
+      | None ↦ (λ s f. first_ending-more ends left (suc n) k (λ j l. h j (omega arith)) x f)
+      | Some y ↦ (λ s f. h n (omega arith) x (s ∙ f))
+    ] refl e
 
 -- such a search is spent
 pub told-spent : (ends : ℕ → Option Ending) (left n k : ℕ) → AllLookMore ends left n → told left (first_ending ends n k) ≡ Err Spent
@@ -71,7 +72,7 @@ search_of-bad q ends s = rw s refl
 pub search-end : (q : Query) (ends : ℕ → Option Ending) (n looked : ℕ) (answer : Result ℕ MemFault) → is_search q ≡ true → first_ending ends 0 4294967296 ≡ first_ending ends n (4294967296 - n) → n < 4294967296 → ends n ≡ Some (ending looked answer) → looked ≤ q.left → search_of q ends ≡ told_answer looked answer
 search-end q ends n looked answer s f l e r =
     search_of-told q ends (Some (ending looked answer)) s (f ∙ first_ending-end ends n 4294967296 (ending looked answer) l e)
-        ∙ told-end q.left looked answer r
+    ∙ told-end q.left looked answer r
 
 pub search-spent : (q : Query) (ends : ℕ → Option Ending) (n : ℕ) → is_search q ≡ true → first_ending ends 0 4294967296 ≡ first_ending ends n (4294967296 - n) → AllLookMore ends q.left n → search_of q ends ≡ Err Spent
 search-spent q ends n s f h =

@@ -1,8 +1,7 @@
 -- Numbers of many bytes, byte by byte.
-use Rattle.std.proofs.Common.{rules, arith, zero, suc, ◌≡◌, ◌≢◌, ◌∙◌, refl, sym, ap, subst, ℕ, ◌+◌, ◌-◌, ◌*◌, ◌^◌, ◌<◌, ◌≤◌, Bool, true, false, nat_eq, nat_lt, cond, List, drop, length}
+use Rattle.std.proofs.Common.{arith, suc, ◌≡◌, ◌≢◌, ◌∙◌, refl, sym, ap, subst, ℕ, ◌+◌, ◌-◌, ◌*◌, ◌^◌, ◌<◌, ◌≤◌, true, false, nat_eq, nat_lt, List, drop}
 use Rattle.std.specs.Prelude.{slice_index}
 use Rattle.std.specs.Ordering.{nat_cmp}
-use Rattle.std.specs.declared.cmp.Ordering.{Ordering}
 use Rattle.std.specs.declared.cmp.Ordering.TheVariants.{Less, Equal, Greater}
 use Rattle.std.proofs.lemmas.Grind.{common_steps, pow_more}
 use Rattle.std.proofs.lemmas.Nat.{mul-le, mul-add-lt}
@@ -51,19 +50,22 @@ front_less a b x y p l h =
 
 pub front_decides : (a b x y p : ℕ) → x < p → y < p → a ≢ b → nat_cmp a b ≡ nat_cmp (a * p + x) (b * p + y)
 front_decides a b x y p l g d =
-    elim (nat_lt a b) as (λ t. nat_lt a b ≡ t → nat_cmp a b ≡ nat_cmp (a * p + x) (b * p + y))
-      [ true ↦ (λ e. let h : a < b = grind (arith, common_steps) in less a b h ∙ sym (less (a * p + x) (b * p + y) (front_less a b x y p l h)))
-      | false ↦ (λ e. let h : b < a = grind (arith, common_steps) in greater a b h ∙ sym (greater (a * p + x) (b * p + y) (front_less b a y x p g h))) ] refl
+    elim (nat_lt a b) as (λ t. nat_lt a b ≡ t → nat_cmp a b ≡ nat_cmp (a * p + x) (b * p + y)) [
+      | true ↦ (λ e. let h : a < b = grind (arith, common_steps) in less a b h ∙ sym (less (a * p + x) (b * p + y) (front_less a b x y p l h)))
+      | false ↦ (λ e. let h : b < a = grind (arith, common_steps) in greater a b h ∙ sym (greater (a * p + x) (b * p + y) (front_less b a y x p g h)))
+    ] refl
 
 -- and else what stands behind
 pub behind_decides : (a b x y p : ℕ) → a ≡ b → nat_cmp x y ≡ nat_cmp (a * p + x) (b * p + y)
 behind_decides a b x y p s =
     let q : a * p ≡ b * p = ap (λ k. k * p) s in
-    elim (nat_lt x y) as (λ t. nat_lt x y ≡ t → nat_cmp x y ≡ nat_cmp (a * p + x) (b * p + y))
-      [ true ↦ (λ e. let h : x < y = grind (arith, common_steps) in less x y h ∙ sym (less (a * p + x) (b * p + y) (omega arith)))
-      | false ↦ (λ e. elim (nat_lt y x) as (λ t. nat_lt y x ≡ t → nat_cmp x y ≡ nat_cmp (a * p + x) (b * p + y))
-          [ true ↦ (λ f. let h : y < x = grind (arith, common_steps) in greater x y h ∙ sym (greater (a * p + x) (b * p + y) (omega arith)))
-          | false ↦ (λ f. let h : x ≡ y = grind (arith, common_steps) in same x y h ∙ sym (same (a * p + x) (b * p + y) (omega arith))) ] refl) ] refl
+    elim (nat_lt x y) as (λ t. nat_lt x y ≡ t → nat_cmp x y ≡ nat_cmp (a * p + x) (b * p + y)) [
+      | true ↦ (λ e. let h : x < y = grind (arith, common_steps) in less x y h ∙ sym (less (a * p + x) (b * p + y) (omega arith)))
+      | false ↦ (λ e. elim (nat_lt y x) as (λ t. nat_lt y x ≡ t → nat_cmp x y ≡ nat_cmp (a * p + x) (b * p + y)) [
+        | true ↦ (λ f. let h : y < x = grind (arith, common_steps) in greater x y h ∙ sym (greater (a * p + x) (b * p + y) (omega arith)))
+        | false ↦ (λ f. let h : x ≡ y = grind (arith, common_steps) in same x y h ∙ sym (same (a * p + x) (b * p + y) (omega arith)))
+      ] refl)
+    ] refl
 
 -- a byte of what is left from a place on
 pub byte_behind : (xs : List ℕ) (at i : ℕ) → slice_index (drop at xs) i ≡ slice_index xs (at + i)
@@ -73,7 +75,7 @@ byte_behind xs at i = grind (arith, common_steps)
 pub tail-byte : (i n at b : ℕ) (bytes : List ℕ) → 0 < i → i ≤ n → b ≡ slice_index bytes (at + (i - 1)) → tail (i - 1) n (drop at bytes) ≡ b * 256 ^ (n - i) + tail i n (drop at bytes)
 tail-byte i n at b bytes p l e =
     tail-front i n (drop at bytes) p l
-        ∙ ap (λ d. d * 256 ^ (n - i) + tail i n (drop at bytes)) (byte_behind bytes at (i - 1) ∙ sym e)
+    ∙ ap (λ d. d * 256 ^ (n - i) + tail i n (drop at bytes)) (byte_behind bytes at (i - 1) ∙ sym e)
 
 pub tail-byte_below : (i n at b : ℕ) (bytes : List ℕ) → 0 < i → i ≤ n → b ≡ slice_index bytes (at + (i - 1)) → b < 256 → tail i n (drop at bytes) < 256 ^ (n - i) → tail (i - 1) n (drop at bytes) < 256 ^ (n - (i - 1))
 tail-byte_below i n at b bytes p l e g h =

@@ -2,3 +2,4 @@ pub mod KeyLemmas
 pub mod EndingLemmas
 pub mod LinearLemmas
 pub mod LinkedLemmas
+pub mod BinaryLemmas

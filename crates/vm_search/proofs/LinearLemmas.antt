@@ -1,10 +1,10 @@
 -- The steps of a linear search.
-use Rattle.std.proofs.Common.{rules, arith, ◌≡◌, ◌∙◌, refl, sym, ap, ℕ, ◌+◌, ◌<◌, ◌≤◌, Bool, true, false, ◌&&◌, nat_eq, cond, Option, Some, None, Result, Ok}
+use Rattle.std.proofs.Common.{arith, ◌≡◌, ◌∙◌, refl, sym, ℕ, ◌+◌, ◌<◌, ◌≤◌, true, false, ◌&&◌, Some, Result, Ok}
 use Rattle.vm_memory.specs.declared.fault.MemFault.{MemFault}
 use Rattle.std.proofs.lemmas.Grind.{common_steps}
 use Rattle.vm_memory.specs.MemoryMap.{MemoryMap}
 use Rattle.vm_search.specs.Key.{ends_at_zero, is_zero, compared}
-use Rattle.vm_search.specs.Ending.{Ending, ending, failure, at_structure}
+use Rattle.vm_search.specs.Ending.{Ending, ending, failure}
 use Rattle.vm_search.specs.Linear.{linear_ends, at_index, is_past, structure_at, found_at}
 use Rattle.vm_search.specs.declared.query.Query.{Query}
 use Rattle.vm_search.proofs.EndingLemmas.{AllLookMore, at_structure-looked}
@@ -24,8 +24,9 @@ looked_of looked answer x e = cc
 -- none but the structures from here on are left
 pub linear-look_more : (m : MemoryMap) (q : Query) (n : ℕ) → is_past q n ≡ false → AllLookMore (linear_ends m q) n n
 linear-look_more m q n e = λ j l x s.
-    elim (is_past q j) as (λ t. is_past q j ≡ t → n < x.looked)
-      [ true ↦ (λ f. let k : x.looked ≡ j = looked_of j (Ok (failure q)) x (sym (linear_ends-past m q j f) ∙ s) in
-            let b : n < j = past_once q n j e f l in omega arith)
+    elim (is_past q j) as (λ t. is_past q j ≡ t → n < x.looked) [
+      | true ↦ (λ f. let k : x.looked ≡ j = looked_of j (Ok (failure q)) x (sym (linear_ends-past m q j f) ∙ s) in
+          let b : n < j = past_once q n j e f l in omega arith)
       | false ↦ (λ f. let k : x.looked ≡ j + 1 = at_structure-looked (j + 1) (found_at q j) (failure q) (ends_at_zero q && is_zero m q (structure_at q j)) (compared m q (structure_at q j)) x (sym (linear_ends-structure m q j f) ∙ s) in
-            omega arith) ] refl
+          omega arith)
+    ] refl

@@ -1,5 +1,5 @@
 -- The steps of a linked search.
-use Rattle.std.proofs.Common.{rules, arith, suc, ◌≡◌, ◌≢◌, ◌∙◌, refl, sym, ap, ℕ, ◌+◌, ◌<◌, ◌≤◌, Bool, true, false, ◌&&◌, nat_eq, cond, Option, Some, None, Result, Ok, Err}
+use Rattle.std.proofs.Common.{arith, suc, ◌≡◌, ◌≢◌, ◌∙◌, refl, sym, ap, ℕ, ◌+◌, ◌<◌, true, false, ◌&&◌, nat_eq, Option, Some, None, Result, Ok, Err}
 use Rattle.std.proofs.lemmas.Grind.{common_steps}
 use Rattle.vm_memory.specs.MemoryMap.{MemoryMap, number_at}
 use Rattle.vm_memory.specs.Access.{read}
@@ -53,15 +53,16 @@ link-looked looked None (Err f) x h e = cc
 -- none but the places from here on are left
 pub linked-look_more : (m : MemoryMap) (q : Query) (n at : ℕ) → place_at m q n ≡ at → at ≢ 0 → AllLookMore (linked_ends m q) n n
 linked-look_more m q n at p d = λ j l x s.
-    elim (nat_eq (place_at m q j) 0) as (λ t. nat_eq (place_at m q j) 0 ≡ t → n < x.looked)
-      [ true ↦ (λ f.
-            let z : place_at m q j ≡ 0 = grind (arith, common_steps) in
-            let k : x.looked ≡ j = looked_of j (Ok 0) x (sym (linked_ends-zero m q j (place_at m q j) refl z) ∙ s) in
-            let b : j ≢ n = λ same. d (sym p ∙ sym (ap (place_at m q) same) ∙ z) in
-            omega arith)
+    elim (nat_eq (place_at m q j) 0) as (λ t. nat_eq (place_at m q j) 0 ≡ t → n < x.looked) [
+      | true ↦ (λ f.
+          let z : place_at m q j ≡ 0 = grind (arith, common_steps) in
+          let k : x.looked ≡ j = looked_of j (Ok 0) x (sym (linked_ends-zero m q j (place_at m q j) refl z) ∙ s) in
+          let b : j ≢ n = λ same. d (sym p ∙ sym (ap (place_at m q) same) ∙ z) in
+          omega arith)
       | false ↦ (λ f.
-            let e : place_at m q j ≢ 0 = grind (arith, common_steps) in
-            let k : x.looked ≡ j + 1 = link-looked (j + 1) (tells m q j (place_at m q j)) (read 4 m (link_of q (place_at m q j))) x
-                (at_structure-looked (j + 1) (place_at m q j) 0 (ends_at_zero q && is_zero m q (place_at m q j)) (compared m q (place_at m q j)))
-                (sym (at_place m q j (place_at m q j) e) ∙ s) in
-            omega arith) ] refl
+          let e : place_at m q j ≢ 0 = grind (arith, common_steps) in
+          let k : x.looked ≡ j + 1 = link-looked (j + 1) (tells m q j (place_at m q j)) (read 4 m (link_of q (place_at m q j))) x
+          (at_structure-looked (j + 1) (place_at m q j) 0 (ends_at_zero q && is_zero m q (place_at m q j)) (compared m q (place_at m q j)))
+          (sym (at_place m q j (place_at m q j) e) ∙ s) in
+          omega arith)
+    ] refl

@@ -1,6 +1,6 @@
 -- Binary search: the index at which the halving meets the key (Glulx 3.1.3, "Searching").
-use Rattle.std.specs.Prelude.{ℕ, zero, suc, ◌+◌, ◌/◌, false, ◌==◌, if◌then◌else◌, Option, Some, Result, Ok, Err}
-use Rattle.std.specs.declared.cmp.Ordering.TheVariants.{Less, Equal, Greater}
+use Rattle.std.specs.Prelude.{ℕ, zero, suc, ◌+◌, ◌/◌, false, ◌==◌, if◌then◌else◌, Option, Some, Result, Ok}
+use Rattle.std.specs.declared.cmp.Ordering.TheVariants.{Greater}
 use Rattle.std.specs.declared.cmp.Ordering.{Ordering}
 use Rattle.vm_memory.specs.MemoryMap.{MemoryMap}
 use Rattle.vm_memory.specs.declared.fault.MemFault.{MemFault}
@@ -8,11 +8,7 @@ use Rattle.vm_search.specs.Key.{compared}
 use Rattle.vm_search.specs.Ending.{Ending, ending, failure, at_structure}
 use Rattle.vm_search.specs.Linear.{structure_at, found_at}
 use Rattle.vm_search.specs.declared.query.Query.{Query}
-
--- indexes from the low one up to the high one, without it
-pub record Interval : Type 0 where
-  pub low : ℕ
-  pub high : ℕ
+use Rattle.vm_search.specs.declared.binary_search.Interval.{Interval}
 
 -- the index in the middle
 abbrev pub middle : Interval → ℕ
@@ -34,7 +30,7 @@ abbrev pub ends_in : MemoryMap → Query → ℕ → Interval → Option Ending
 ends_in m q k i =
     if i.low == i.high then Some (ending k (Ok (failure q)))
     else at_structure (k + 1) (found_at q (middle i)) (failure q) false
-        (compared m q (structure_at q (middle i)))
+    (compared m q (structure_at q (middle i)))
 
 -- whether the search ends after so many halvings
 abbrev pub binary_ends : MemoryMap → Query → ℕ → Option Ending

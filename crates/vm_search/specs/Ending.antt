@@ -1,6 +1,6 @@
 -- How a search ends (Glulx 3.1.3, "Searching").
 use Rattle.std.specs.Prelude.{◌≡◌, ℕ, zero, suc, ◌-◌, ◌^◌, Bool, true, false, nat_lt, if◌then◌else◌, Option, Some, None, Result, Ok, Err}
-use Rattle.std.specs.declared.cmp.Ordering.TheVariants.{Less, Equal, Greater}
+use Rattle.std.specs.declared.cmp.Ordering.TheVariants.{Equal}
 use Rattle.std.specs.declared.cmp.Ordering.{Ordering}
 use Rattle.vm_memory.specs.declared.fault.MemFault.{MemFault}
 use Rattle.vm_search.specs.Key.{is_search, gives_index}

@@ -1,5 +1,5 @@
 -- Linear search: the least index whose key equals (Glulx 3.1.3, "Searching").
-use Rattle.std.specs.Prelude.{ℕ, ◌+◌, ◌-◌, ◌*◌, ◌%◌, ◌^◌, Bool, not, ◌&&◌, ◌==◌, if◌then◌else◌, Option, Some, None, Result, Ok}
+use Rattle.std.specs.Prelude.{ℕ, ◌+◌, ◌-◌, ◌*◌, ◌%◌, ◌^◌, Bool, not, ◌&&◌, ◌==◌, if◌then◌else◌, Option, Some, Ok}
 use Rattle.vm_memory.specs.MemoryMap.{MemoryMap}
 use Rattle.vm_search.specs.Key.{gives_index, ends_at_zero, compared, is_zero}
 use Rattle.vm_search.specs.Ending.{Ending, ending, failure, at_structure}
@@ -21,8 +21,8 @@ is_past q index = not (q.count == 2 ^ 32 - 1) && q.count == index
 abbrev pub at_index : MemoryMap → Query → ℕ → Option Ending
 at_index m q index =
     at_structure (index + 1) (found_at q index) (failure q)
-        (ends_at_zero q && is_zero m q (structure_at q index))
-        (compared m q (structure_at q index))
+    (ends_at_zero q && is_zero m q (structure_at q index))
+    (compared m q (structure_at q index))
 
 -- whether the search ends at an index
 abbrev pub linear_ends : MemoryMap → Query → ℕ → Option Ending

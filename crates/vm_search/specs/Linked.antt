@@ -28,8 +28,8 @@ abbrev pub ends_at : MemoryMap → Query → ℕ → ℕ → Option Ending
 ends_at m q k at =
     if at == 0 then Some (ending k (Ok 0))
     else or_at_link (k + 1)
-        (at_structure (k + 1) at 0 (ends_at_zero q && is_zero m q at) (compared m q at))
-        (read 4 m (link_of q at))
+    (at_structure (k + 1) at 0 (ends_at_zero q && is_zero m q at) (compared m q at))
+    (read 4 m (link_of q at))
 
 -- whether the search ends at the place with a number
 abbrev pub linked_ends : MemoryMap → Query → ℕ → Option Ending

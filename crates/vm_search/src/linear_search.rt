@@ -10,11 +10,7 @@ use crate::query::{Found, Query, STEPS};
 use vm_memory::{MemFault, Memory};
 
 /// What the structure with the index tells.
-fn look_at_index(
-    memory: &Memory<'_>,
-    query: &Query,
-    index: u64,
-) -> Result<Option<Found>, MemFault>
+fn look_at_index(memory: &Memory<'_>, query: &Query, index: u64) -> Result<Option<Found>, MemFault>
     requires search { is_search query.now ≡ true }
     requires within { index < STEPS }
     ensures value { Looks (index + 1) (at_index memory.now query.now index) result }

@@ -76,7 +76,8 @@ impl Query {
     pub(crate) fn structure_at(&self, index: u32) -> u32
         ensures value { result ≡ spec_linear.structure_at self.now index }
     {
-        self.start.wrapping_add(index.wrapping_mul(self.struct_size))
+        self.start
+            .wrapping_add(index.wrapping_mul(self.struct_size))
     }
 
     /// The answer for the structure with the index.

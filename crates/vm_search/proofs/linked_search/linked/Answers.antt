@@ -1,5 +1,4 @@
-use Rattle.std.proofs.Common.{rules, arith, refl, ◌≡◌, ◌∙◌, sym, ap, subst, ◌<◌, ◌≤◌, ◌+◌, true, false, Some, None, Ok, Err}
-use Rattle.vm_search.specs.Ending.{ending}
+use Rattle.std.proofs.Common.{arith, refl, ◌∙◌, sym, subst, ◌+◌, Ok, Err}
 use Rattle.vm_search.specs.Linked.{linked_ends, place_at}
 use Rattle.vm_search.specs.declared.fault.SearchStop.TheVariants.{Read}
 use Rattle.vm_search.proofs.EndingLemmas.{first_ending-on, search-end, search-spent, search-endless, handed_on, looks-none, looks-some, found-is, AllLookMore}
@@ -23,17 +22,17 @@ returns-then-looked-query c = record {
   value = sym (search-spent c.args.query.now (linked_ends c.args.memory.now c.args.query.now) c.loop-looked.looked
       c.in_ok-check.ensures.ok c.loop-looked.invariant.sofar
       (subst (λ n. AllLookMore (linked_ends c.args.memory.now c.args.query.now) n c.loop-looked.looked) c.if-looked-query.true
-          (linked-look_more c.args.memory.now c.args.query.now c.loop-looked.looked c.loop-looked.at c.loop-looked.invariant.here c.if-at-eq0.false)));
+      (linked-look_more c.args.memory.now c.args.query.now c.loop-looked.looked c.loop-looked.at c.loop-looked.invariant.here c.if-at-eq0.false)));
 }
 
 pub returns-in_err-found : goal.returns-in_err-found
 returns-in_err-found c = record {
   value = handed_on (Read c.in_err-found.field-0.0) _ c.from_residual-in_err-found.ensures.1
       ∙ sym (search-end c.args.query.now (linked_ends c.args.memory.now c.args.query.now) c.loop-looked.looked (c.loop-looked.looked + 1)
-          (Err c.in_err-found.field-0.0) c.in_ok-check.ensures.ok c.loop-looked.invariant.sofar c.loop-looked-test.true
-          (linked_ends-structure c.args.memory.now c.args.query.now c.loop-looked.looked c.loop-looked.at _
-              c.loop-looked.invariant.here c.if-at-eq0.false c.in_err-found.ensures.value)
-          (omega arith));
+      (Err c.in_err-found.field-0.0) c.in_ok-check.ensures.ok c.loop-looked.invariant.sofar c.loop-looked-test.true
+      (linked_ends-structure c.args.memory.now c.args.query.now c.loop-looked.looked c.loop-looked.at _
+      c.loop-looked.invariant.here c.if-at-eq0.false c.in_err-found.ensures.value)
+      (omega arith));
 }
 
 pub returns-in-Some : goal.returns-in-Some
@@ -42,22 +41,22 @@ returns-in-Some c =
     record {
       value = sym (found-is c.in-Some.found (c.loop-looked.looked + 1) told.1)
           ∙ sym (search-end c.args.query.now (linked_ends c.args.memory.now c.args.query.now) c.loop-looked.looked (c.loop-looked.looked + 1)
-              (Ok c.in-Some.found.answer) c.in_ok-check.ensures.ok c.loop-looked.invariant.sofar c.loop-looked-test.true
-              (linked_ends-structure c.args.memory.now c.args.query.now c.loop-looked.looked c.loop-looked.at _
-                  c.loop-looked.invariant.here c.if-at-eq0.false told.0)
-              (omega arith));
+          (Ok c.in-Some.found.answer) c.in_ok-check.ensures.ok c.loop-looked.invariant.sofar c.loop-looked-test.true
+          (linked_ends-structure c.args.memory.now c.args.query.now c.loop-looked.looked c.loop-looked.at _
+          c.loop-looked.invariant.here c.if-at-eq0.false told.0)
+          (omega arith));
     }
 
 pub returns-in_err-at : goal.returns-in_err-at
 returns-in_err-at c = record {
   value = handed_on (Read c.in_err-at.field-0.0) _ c.from_residual-in_err-at.ensures.1
       ∙ sym (search-end c.args.query.now (linked_ends c.args.memory.now c.args.query.now) c.loop-looked.looked (c.loop-looked.looked + 1)
-          (Err c.in_err-at.field-0.0) c.in_ok-check.ensures.ok c.loop-looked.invariant.sofar c.loop-looked-test.true
-          (linked_ends-link c.args.memory.now c.args.query.now c.loop-looked.looked c.loop-looked.at c.in_err-at.field-0.0
-              c.loop-looked.invariant.here c.if-at-eq0.false
-              (looks-none (c.loop-looked.looked + 1) _ c.in_ok-found.field-0 c.in_ok-found.ensures.value c.in_default.is)
-              (sym c.read4.ensures.value ∙ c.in_err-at.was))
-          (omega arith));
+      (Err c.in_err-at.field-0.0) c.in_ok-check.ensures.ok c.loop-looked.invariant.sofar c.loop-looked-test.true
+      (linked_ends-link c.args.memory.now c.args.query.now c.loop-looked.looked c.loop-looked.at c.in_err-at.field-0.0
+      c.loop-looked.invariant.here c.if-at-eq0.false
+      (looks-none (c.loop-looked.looked + 1) _ c.in_ok-found.field-0 c.in_ok-found.ensures.value c.in_default.is)
+      (sym c.read4.ensures.value ∙ c.in_err-at.was))
+      (omega arith));
 }
 
 pub loop-looked-preserved : goal.loop-looked-preserved
@@ -67,10 +66,10 @@ loop-looked-preserved c = record {
       c.loop-looked.invariant.here (sym c.read4.ensures.value ∙ c.in_ok-at.was);
   sofar = c.loop-looked.invariant.sofar
       ∙ first_ending-on (linked_ends c.args.memory.now c.args.query.now) c.loop-looked.looked 4294967296 c.loop-looked-test.true
-          (linked_ends-none c.args.memory.now c.args.query.now c.loop-looked.looked c.loop-looked.at c.in_ok-at.at
-              c.loop-looked.invariant.here c.if-at-eq0.false
-              (looks-none (c.loop-looked.looked + 1) _ c.in_ok-found.field-0 c.in_ok-found.ensures.value c.in_default.is)
-              (sym c.read4.ensures.value ∙ c.in_ok-at.was));
+      (linked_ends-none c.args.memory.now c.args.query.now c.loop-looked.looked c.loop-looked.at c.in_ok-at.at
+      c.loop-looked.invariant.here c.if-at-eq0.false
+      (looks-none (c.loop-looked.looked + 1) _ c.in_ok-found.field-0 c.in_ok-found.ensures.value c.in_default.is)
+      (sym c.read4.ensures.value ∙ c.in_ok-at.was));
 }
 
 pub returns : goal.returns

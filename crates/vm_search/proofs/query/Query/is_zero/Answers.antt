@@ -1,4 +1,3 @@
-use Rattle.std.proofs.Common.{rules}
 use Rattle.vm_search.specs.Key.{key_place}
 use Rattle.vm_search.proofs.KeyLemmas.{not_zero, zero_digit}
 use Rattle.vm_search.proofs.query.Query.is_zero.Goals as goal
