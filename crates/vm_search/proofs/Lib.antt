@@ -1,0 +1,5 @@
+pub mod KeyLemmas
+pub mod EndingLemmas
+pub mod LinearLemmas
+pub mod LinkedLemmas
+pub mod BinaryLemmas

@@ -1,0 +1,19 @@
+//! The three searches, and blocks that are copied or cleared.
+#![tactic(auto)]
+
+mod binary_search;
+mod blocks;
+mod fault;
+mod key;
+mod linear_search;
+mod linked_search;
+mod query;
+#[cfg(test)]
+mod tests;
+
+pub use binary_search::binary;
+pub use blocks::{copy, zero};
+pub use fault::SearchStop;
+pub use linear_search::linear;
+pub use linked_search::linked;
+pub use query::{Found, Query};
