@@ -4,3 +4,6 @@
 mod command;
 
 pub use command::Command;
+
+#[cfg(test)]
+mod tests;

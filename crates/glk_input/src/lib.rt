@@ -4,3 +4,6 @@
 mod input;
 
 pub use input::Input;
+
+#[cfg(test)]
+mod tests;

@@ -1,3 +1,4 @@
 pub mod HistoryLemmas
 pub mod AnswerLemmas
 pub mod IsolationLemmas
+pub mod RepeatLemmas

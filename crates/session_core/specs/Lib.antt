@@ -3,3 +3,4 @@ pub mod Checks
 pub mod Answer
 pub mod Sessions
 pub mod Isolation
+pub mod Repeats

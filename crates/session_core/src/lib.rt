@@ -11,7 +11,7 @@ mod sessions;
 mod world;
 
 pub use decision::{Decision, decide};
-pub use laws::is_isolated;
+pub use laws::{is_isolated, repeats_change_nothing};
 pub use sessions::Sessions;
 
 #[cfg(test)]
