@@ -1,7 +1,7 @@
 //! Texts as lists of characters (own).
 
 ghost use Rattle.std.specs.Prelude.{◌≡◌, List, ℕ, true, IfOk};
-ghost use Rattle.std.specs.Str.{chars, all_scalars, encode_utf8_all};
+ghost use Rattle.std.specs.Str.{chars, all_scalars, bytes_eq, encode_utf8_all};
 ghost use Rattle.std.specs.String.{string_bytes};
 
 use std::alloc::{AllocError, Global};
@@ -40,6 +40,13 @@ impl Text {
         ensures scalars { all_scalars self.now ≡ true }
     {
         self.utf8.as_bytes()
+    }
+
+    /// Whether both have the same characters.
+    pub fn is_same(&self, other: &Text) -> bool
+        ensures { result ≡ bytes_eq self.now other.now }
+    {
+        self.utf8 == other.utf8
     }
 
     /// An equal text; an error where memory runs out.

@@ -1,2 +1,4 @@
 pub mod Told
 pub mod ArgumentLemmas
+pub mod WithinLemmas
+pub mod StandardFacts

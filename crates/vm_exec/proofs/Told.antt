@@ -1,5 +1,5 @@
 -- One tick before an opcode's work.
-use Rattle.std.proofs.Common.{◌≡◌, ℕ, ◌+◌, ◌-◌, ◌<◌, ◌≤◌, Bool, true, false, nat_lt, Result, Ok, Err, refl, arith, List, replicate, slice_index, Option, Some, None, ◌∙◌, sym, ap, subst, cond}
+use Rattle.std.proofs.Common.{◌≡◌, ℕ, ◌+◌, ◌-◌, ◌<◌, ◌≤◌, Bool, true, false, nat_lt, Result, Ok, Err, refl, arith, List, replicate, take, slice_index, Option, Some, None, ◌∙◌, sym, ap, subst, cond}
 use Rattle.std.proofs.lemmas.Bool.Decides.{nat_tests}
 use Rattle.vm_operand.specs.Reading.{◌>>=◌}
 use Rattle.vm_memory.specs.declared.fault.Trap.{Trap}
@@ -54,9 +54,9 @@ told_ok left op o m new args to done s is h worked step =
 
 -- what an instruction does, once it is decoded and its loads are taken
 pub fetched_is : (m : Machine) (i : Instr) (x : Machine × List ℕ) (w : ℕ) → w ≡ width_of (op_of i.op)
-    → Ok i ≡ instruction_at m.memory m.pc → loaded_all w m i.loads.items 0 (replicate 8 0) ≡ Ok x
+    → Ok i ≡ instruction_at m.memory m.pc → loaded_all w m (take i.loads.count i.loads.items) 0 (replicate 8 0) ≡ Ok x
     → Ok (work_of (op_of i.op) (record x.0 { pc = i.next }) x.1 i.stores.items) ≡ fetched m
 fetched_is m i x w width decoded taken =
-    let all : loaded_all (width_of (op_of i.op)) m i.loads.items 0 (replicate 8 0) ≡ Ok x =
-    subst (λ (n : ℕ). loaded_all n m i.loads.items 0 (replicate 8 0) ≡ Ok x) width taken in
+    let all : loaded_all (width_of (op_of i.op)) m (take i.loads.count i.loads.items) 0 (replicate 8 0) ≡ Ok x =
+    subst (λ (n : ℕ). loaded_all n m (take i.loads.count i.loads.items) 0 (replicate 8 0) ≡ Ok x) width taken in
     rw (← decoded, all) refl

@@ -1,5 +1,5 @@
 -- One step of the machine: its row of the table (Glulx 3.1.3, "Dictionary of Opcodes").
-use Rattle.std.specs.Prelude.{ℕ, ◌+◌, nat_lt, if◌then◌else◌, List, replicate, slice_index, slice_index_or, Option, Some, None, Result, Ok, Err}
+use Rattle.std.specs.Prelude.{ℕ, ◌+◌, ◌≤◌, nat_lt, if◌then◌else◌, List, replicate, take, slice_index, slice_index_or, Option, Some, None, Result, Ok, Err}
 use Rattle.vm_operand.specs.Fault as operand
 use Rattle.vm_operand.specs.Instruction.{instruction_at}
 use Rattle.vm_operand.specs.Opcode.{op_of}
@@ -74,7 +74,7 @@ charged (Ok (Costs n r)) = record { cost = n + 1; gives = r }
 abbrev pub fetched : Machine → Result Work ℕ
 fetched m = do
   i ← operand.coded (instruction_at m.memory m.pc)
-  x ← loaded_all (width_of (op_of i.op)) m i.loads.items 0 (replicate 8 0)
+  x ← loaded_all (width_of (op_of i.op)) m (take i.loads.count i.loads.items) 0 (replicate 8 0)
   Ok (work_of (op_of i.op) (record x.0 { pc = i.next }) x.1 i.stores.items)
 
 abbrev pub row : Machine → Charged
@@ -85,6 +85,13 @@ step_of out.Ran cost = step.Ran cost
 step_of (out.Char x) cost = step.Out x cost
 step_of (out.Glk selector args) cost = step.Glk selector args cost
 step_of out.Quit cost = step.Quit
+
+-- a step costs a tick at least, and no more than is left; that which ends the story tells no cost
+abbrev pub IsPriced : ℕ → Step → Type 0
+IsPriced left (step.Ran cost) = (1 ≤ cost) × (cost ≤ left)
+IsPriced left (step.Out code cost) = (1 ≤ cost) × (cost ≤ left)
+IsPriced left (step.Glk selector args cost) = (1 ≤ cost) × (cost ≤ left)
+IsPriced left step.Quit = Unit {0}
 
 -- a step when so many ticks are left
 abbrev pub told : ℕ → Charged → Result (Machine × Step) ℕ

@@ -3,6 +3,7 @@
 ghost use Rattle.std.specs.Prelude.{◌≡◌, [], ◌∷◌, ◌++◌, Ok, Err, OnOk, IfErr};
 ghost use Rattle.vm_exec.specs.Answer.{Takes};
 ghost use Rattle.vm_exec.specs.Rules as rules;
+ghost use Rattle.vm_stack.specs.Chain.{Chain, HasFrame};
 ghost use Rattle.vm_memory.specs.declared.fault.Trap.TheVariants.{NoMemory};
 
 use crate::trap::{no_memory, of_stack};
@@ -12,7 +13,8 @@ use vm_stack::Stack;
 
 /// Takes the top values, the top first. Fault 4 where fewer are there.
 pub(crate) fn take_arguments(alloc: Global, stack: &mut Stack, count: u32) -> Result<Vec<u32>, Trap>
-    ensures { Takes (rules.arguments stack.old count) stack.new result }
+    ensures does { Takes (rules.arguments stack.old count) stack.new result }
+    ensures kept { Chain stack.old → HasFrame stack.old → OnOk result (Chain stack.new × HasFrame stack.new) }
 {
     let mut args = Vec::new(alloc);
     for _ in 0..count {

@@ -2,7 +2,7 @@
 
 ghost use Rattle.std.specs.Prelude.{◌≡◌, ◌≤◌, ◌<◌, ◌+◌, ◌^◌, IfOk, OnOk, slice_index};
 ghost use Rattle.vm_exec.specs.Answer.{Does};
-ghost use Rattle.vm_exec.specs.Machine.{IsFit};
+ghost use Rattle.vm_exec.specs.Machine.{IsFit, StaysFit};
 ghost use Rattle.vm_exec.specs.Row.{dest_of};
 ghost use Rattle.vm_exec.specs.Rows.Array as rows;
 ghost use Rattle.vm_exec.specs.Rows.Work.{Tells, budgeted};
@@ -16,7 +16,7 @@ use vm_operand::{Array, Dest};
 impl<'i> Machine<'i> {
     fn aload(&mut self, from: u32, index: u32, to: Dest) -> Result<Done, Trap>
         ensures does { Tells (rules.reads_to self.old to 4 (rows.element 4 from index)) self.new result }
-        ensures fit { IsFit self.old → OnOk result (IsFit self.new) }
+        ensures fit { IsFit self.old → IfOk result (λ done. StaysFit self.new done.out) }
     {
         let value = self.memory.read4(from.wrapping_add(index.wrapping_mul(4)))?;
         self.put(to, value)
@@ -24,7 +24,7 @@ impl<'i> Machine<'i> {
 
     fn aloads(&mut self, from: u32, index: u32, to: Dest) -> Result<Done, Trap>
         ensures does { Tells (rules.reads_to self.old to 2 (rows.element 2 from index)) self.new result }
-        ensures fit { IsFit self.old → OnOk result (IsFit self.new) }
+        ensures fit { IsFit self.old → IfOk result (λ done. StaysFit self.new done.out) }
     {
         let value = self.memory.read2(from.wrapping_add(index.wrapping_mul(2)))?;
         self.put(to, value)
@@ -32,7 +32,7 @@ impl<'i> Machine<'i> {
 
     fn aloadb(&mut self, from: u32, index: u32, to: Dest) -> Result<Done, Trap>
         ensures does { Tells (rules.reads_to self.old to 1 (rules.wrap (from + index))) self.new result }
-        ensures fit { IsFit self.old → OnOk result (IsFit self.new) }
+        ensures fit { IsFit self.old → IfOk result (λ done. StaysFit self.new done.out) }
     {
         let value = self.memory.read1(from.wrapping_add(index))?;
         self.put(to, value)
@@ -40,7 +40,7 @@ impl<'i> Machine<'i> {
 
     fn aloadbit(&mut self, from: u32, index: u32, to: Dest) -> Result<Done, Trap>
         ensures does { Tells (rows.loads_bit self.old from index to) self.new result }
-        ensures fit { IsFit self.old → OnOk result (IsFit self.new) }
+        ensures fit { IsFit self.old → IfOk result (λ done. StaysFit self.new done.out) }
     {
         let byte = self.memory.read1(byte_with_bit(from, index))?;
         self.put(to, bit(byte, index % 8))
@@ -48,7 +48,7 @@ impl<'i> Machine<'i> {
 
     fn astore(&mut self, from: u32, index: u32, value: u32) -> Result<Done, Trap>
         ensures does { Tells (rules.writes self.old 4 (rows.element 4 from index) value) self.new result }
-        ensures fit { IsFit self.old → OnOk result (IsFit self.new) }
+        ensures fit { IsFit self.old → IfOk result (λ done. StaysFit self.new done.out) }
     {
         self.memory
             .write4(from.wrapping_add(index.wrapping_mul(4)), value)?;
@@ -57,7 +57,7 @@ impl<'i> Machine<'i> {
 
     fn astores(&mut self, from: u32, index: u32, value: u32) -> Result<Done, Trap>
         ensures does { Tells (rules.writes self.old 2 (rows.element 2 from index) value) self.new result }
-        ensures fit { IsFit self.old → OnOk result (IsFit self.new) }
+        ensures fit { IsFit self.old → IfOk result (λ done. StaysFit self.new done.out) }
     {
         self.memory
             .write2(from.wrapping_add(index.wrapping_mul(2)), value)?;
@@ -66,7 +66,7 @@ impl<'i> Machine<'i> {
 
     fn astoreb(&mut self, from: u32, index: u32, value: u32) -> Result<Done, Trap>
         ensures does { Tells (rules.writes self.old 1 (rules.wrap (from + index)) value) self.new result }
-        ensures fit { IsFit self.old → OnOk result (IsFit self.new) }
+        ensures fit { IsFit self.old → IfOk result (λ done. StaysFit self.new done.out) }
     {
         self.memory.write1(from.wrapping_add(index), value)?;
         self.tell(Out::Ran)
@@ -74,7 +74,7 @@ impl<'i> Machine<'i> {
 
     fn astorebit(&mut self, from: u32, index: u32, value: u32) -> Result<Done, Trap>
         ensures does { Tells (rows.stores_bit self.old from index value) self.new result }
-        ensures fit { IsFit self.old → OnOk result (IsFit self.new) }
+        ensures fit { IsFit self.old → IfOk result (λ done. StaysFit self.new done.out) }
     {
         let at = byte_with_bit(from, index);
         let byte = self.memory.read1(at)?;
@@ -91,7 +91,7 @@ impl<'i> Machine<'i> {
         left: u64,
     ) -> Result<Done, Trap>
         ensures does { Does (budgeted left (rows.array_work op self.old (slice_index args.now) (dest_of to.now))) self.new result }
-        ensures fit { IsFit self.old → OnOk result (IsFit self.new) }
+        ensures fit { IsFit self.old → IfOk result (λ done. StaysFit self.new done.out) }
         ensures within { IfOk result (λ done. done.cost ≤ left) }
     {
         match op {

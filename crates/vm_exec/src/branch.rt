@@ -2,7 +2,7 @@
 
 ghost use Rattle.std.specs.Prelude.{◌≡◌, ◌≤◌, IfOk, OnOk, slice_index};
 ghost use Rattle.vm_exec.specs.Answer.{Does};
-ghost use Rattle.vm_exec.specs.Machine.{IsFit};
+ghost use Rattle.vm_exec.specs.Machine.{IsFit, StaysFit};
 ghost use Rattle.vm_exec.specs.Row.{dest_of};
 ghost use Rattle.vm_exec.specs.Rows.Branch.{branch_work};
 ghost use Rattle.vm_exec.specs.Rows.Work.{Tells, budgeted};
@@ -17,7 +17,7 @@ impl<'i> Machine<'i> {
     /// A branch by an offset, of which 0 and 1 return that value.
     pub(crate) fn branch(&mut self, offset: u32) -> Result<Done, Trap>
         ensures does { Tells (rules.branches self.old offset) self.new result }
-        ensures fit { IsFit self.old → OnOk result (IsFit self.new) }
+        ensures fit { IsFit self.old → IfOk result (λ done. StaysFit self.new done.out) }
     {
         if offset == 0 || offset == 1 {
             return self.give_back(offset);
@@ -28,7 +28,7 @@ impl<'i> Machine<'i> {
 
     fn branch_if(&mut self, holds: bool, offset: u32) -> Result<Done, Trap>
         ensures does { Tells (rules.when self.old holds offset) self.new result }
-        ensures fit { IsFit self.old → OnOk result (IsFit self.new) }
+        ensures fit { IsFit self.old → IfOk result (λ done. StaysFit self.new done.out) }
     {
         if holds {
             self.branch(offset)
@@ -39,7 +39,7 @@ impl<'i> Machine<'i> {
 
     fn jump_to(&mut self, at: u32) -> Result<Done, Trap>
         ensures does { Tells (rules.goes (record self.old { pc = at })) self.new result }
-        ensures fit { IsFit self.old → OnOk result (IsFit self.new) }
+        ensures fit { IsFit self.old → IfOk result (λ done. StaysFit self.new done.out) }
     {
         self.pc = at;
         self.tell(Out::Ran)
@@ -54,14 +54,24 @@ impl<'i> Machine<'i> {
         left: u64,
     ) -> Result<Done, Trap>
         ensures does { Does (budgeted left (branch_work op self.old (slice_index args.now) (dest_of to.now))) self.new result }
-        ensures fit { IsFit self.old → OnOk result (IsFit self.new) }
+        ensures fit { IsFit self.old → IfOk result (λ done. StaysFit self.new done.out) }
         ensures within { IfOk result (λ done. done.cost ≤ left) }
     {
+        let holds = op.holds(args[0], args[1]);
         match op {
             Branch::Jump => self.branch(args[0]),
             Branch::Jumpabs => self.jump_to(args[0]),
-            Branch::Jz | Branch::Jnz => self.branch_if(op.holds(args[0], args[1]), args[1]),
-            _ => self.branch_if(op.holds(args[0], args[1]), args[2]),
+            Branch::Jz | Branch::Jnz => self.branch_if(holds, args[1]),
+            Branch::Jeq
+            | Branch::Jne
+            | Branch::Jlt
+            | Branch::Jge
+            | Branch::Jgt
+            | Branch::Jle
+            | Branch::Jltu
+            | Branch::Jgeu
+            | Branch::Jgtu
+            | Branch::Jleu => self.branch_if(holds, args[2]),
         }
     }
 }

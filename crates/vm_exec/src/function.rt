@@ -2,11 +2,12 @@
 
 ghost use Rattle.std.specs.Prelude.{◌≡◌, ◌≤◌, IfOk, OnOk, slice_index, length, Ok, Err};
 ghost use Rattle.vm_exec.specs.Answer.{Changes, Does, Makes};
-ghost use Rattle.vm_exec.specs.Machine.{IsFit};
+ghost use Rattle.vm_exec.specs.Machine.{IsFit, StaysFit};
 ghost use Rattle.vm_exec.specs.Row.{dest_of};
 ghost use Rattle.vm_exec.specs.Rows.Function as rows;
 ghost use Rattle.vm_exec.specs.Rows.Work.{Tells, budgeted};
 ghost use Rattle.vm_exec.specs.Rules as rules;
+ghost use Rattle.vm_stack.specs.Chain.{IsReady};
 
 use crate::Machine;
 use crate::arguments::take_arguments;
@@ -40,6 +41,7 @@ impl<'i> Machine<'i> {
     fn push_stub_for(&mut self, to: Dest) -> Result<(), Trap>
         ensures does { Changes (rules.with_stub self.old to) self.new result }
         ensures fit { IsFit self.old → OnOk result (IsFit self.new) }
+        ensures ready { IsFit self.old → OnOk result (IsReady self.new.stack) }
     {
         let stub = self.stub_for(to);
         self.stack.push_stub(stub).map_err(of_stack)
@@ -48,7 +50,7 @@ impl<'i> Machine<'i> {
     /// The function begins, over what is on the stack.
     fn enter(&mut self, alloc: Global, at: u32, args: &[u32]) -> Result<Done, Trap>
         ensures does { Tells (rules.enters self.old at args.now) self.new result }
-        ensures fit { IsFit self.old → OnOk result (IsFit self.new) }
+        ensures fit { IsFit self.old → IsReady self.old.stack → IfOk result (λ done. StaysFit self.new done.out) }
     {
         self.pc = call(alloc, &self.memory, &mut self.stack, at, args).map_err(of_flow)?;
         self.tell(Out::Ran)
@@ -63,7 +65,7 @@ impl<'i> Machine<'i> {
         to: Dest,
     ) -> Result<Done, Trap>
         ensures does { Tells (rules.calls self.old at args.now to) self.new result }
-        ensures fit { IsFit self.old → OnOk result (IsFit self.new) }
+        ensures fit { IsFit self.old → IfOk result (λ done. StaysFit self.new done.out) }
     {
         self.push_stub_for(to)?;
         self.enter(alloc, at, args)
@@ -71,26 +73,34 @@ impl<'i> Machine<'i> {
 
     fn call_with(&mut self, alloc: Global, at: u32, count: u32, to: Dest) -> Result<Done, Trap>
         ensures does { Tells (rules.with_arguments self.old count (λ n args. rules.calls n at args to)) self.new result }
-        ensures fit { IsFit self.old → OnOk result (IsFit self.new) }
+        ensures fit { IsFit self.old → IfOk result (λ done. StaysFit self.new done.out) }
     {
         let args = take_arguments(alloc, &mut self.stack, count)?;
         self.call(alloc, at, &args, to)
     }
 
+    /// The function begins in place of the current one.
+    fn enter_over(&mut self, alloc: Global, at: u32, args: &[u32]) -> Result<Done, Trap>
+        ensures does { Tells (rows.tailcalls at self.old args.now) self.new result }
+        ensures fit { IsFit self.old → IfOk result (λ done. StaysFit self.new done.out) }
+    {
+        self.pc = tail_call(alloc, &self.memory, &mut self.stack, at, args).map_err(of_flow)?;
+        self.tell(Out::Ran)
+    }
+
     fn tailcall(&mut self, alloc: Global, at: u32, count: u32) -> Result<Done, Trap>
         ensures does { Tells (rules.with_arguments self.old count (rows.tailcalls at)) self.new result }
-        ensures fit { IsFit self.old → OnOk result (IsFit self.new) }
+        ensures fit { IsFit self.old → IfOk result (λ done. StaysFit self.new done.out) }
     {
         let args = take_arguments(alloc, &mut self.stack, count)?;
-        self.stack.leave();
-        self.enter(alloc, at, &args)
+        self.enter_over(alloc, at, &args)
     }
 
     /// The story goes on at a stub, whose result is the value. Fault 13 for a stub that waits for
     /// no result.
     fn resume_at(&mut self, stub: Stub, value: u32) -> Result<Done, Trap>
         ensures does { Tells (rules.resumes self.old stub value) self.new result }
-        ensures fit { IsFit self.old → OnOk result (IsFit self.new) }
+        ensures fit { IsFit self.old → IfOk result (λ done. StaysFit self.new done.out) }
     {
         let to = stub_dest(stub)?;
         self.pc = stub.pc;
@@ -100,7 +110,7 @@ impl<'i> Machine<'i> {
     /// A return from the current function; that of the start function ends the story.
     pub(crate) fn give_back(&mut self, value: u32) -> Result<Done, Trap>
         ensures does { Tells (rules.returns self.old value) self.new result }
-        ensures fit { IsFit self.old → OnOk result (IsFit self.new) }
+        ensures fit { IsFit self.old → IfOk result (λ done. StaysFit self.new done.out) }
     {
         match give_back(&mut self.stack).map_err(of_flow)? {
             Some(stub) => self.resume_at(stub, value),
@@ -118,7 +128,7 @@ impl<'i> Machine<'i> {
 
     fn catch(&mut self, to: Dest, offset: u32) -> Result<Done, Trap>
         ensures does { Tells (rows.catches self.old to offset) self.new result }
-        ensures fit { IsFit self.old → OnOk result (IsFit self.new) }
+        ensures fit { IsFit self.old → IfOk result (λ done. StaysFit self.new done.out) }
     {
         self.push_stub_for(to)?;
         self.store_length(to)?;
@@ -127,7 +137,7 @@ impl<'i> Machine<'i> {
 
     fn throw(&mut self, value: u32, token: u32) -> Result<Done, Trap>
         ensures does { Tells (rows.throws self.old value token) self.new result }
-        ensures fit { IsFit self.old → OnOk result (IsFit self.new) }
+        ensures fit { IsFit self.old → IfOk result (λ done. StaysFit self.new done.out) }
     {
         let stub = throw(&mut self.stack, token).map_err(of_flow)?;
         self.resume_at(stub, value)
@@ -143,7 +153,7 @@ impl<'i> Machine<'i> {
         left: u64,
     ) -> Result<Done, Trap>
         ensures does { Does (budgeted left (rows.flow_work op self.old (slice_index args.now) (dest_of to.now))) self.new result }
-        ensures fit { IsFit self.old → OnOk result (IsFit self.new) }
+        ensures fit { IsFit self.old → IfOk result (λ done. StaysFit self.new done.out) }
         ensures within { IfOk result (λ done. done.cost ≤ left) }
     {
         match op {

@@ -16,6 +16,8 @@ mod search;
 mod state;
 mod step;
 mod system;
+#[cfg(test)]
+mod tests;
 mod trap;
 mod values;
 

@@ -1,12 +1,14 @@
 //! The machine, and how it starts and goes on.
 
-ghost use Rattle.std.specs.Prelude.{◌≡◌, [], OnOk};
+ghost use Rattle.std.specs.Prelude.{◌≡◌, ◌%◌, [], length, IfOk, OnOk, Ok};
 ghost use Rattle.vm_exec.specs.Answer.{Changes, Does, Makes};
 ghost use Rattle.vm_exec.specs.Fault.{flowed};
-ghost use Rattle.vm_exec.specs.Machine.{IsFit};
-ghost use Rattle.vm_exec.specs.Row.{row, told};
+ghost use Rattle.vm_exec.specs.Machine.{GoesOnFit, IsFit};
+ghost use Rattle.vm_exec.specs.Row.{IsPriced, row, told};
+ghost use Rattle.vm_exec.specs.Start as start;
 ghost use Rattle.vm_exec.specs.Start.{finished, started};
 ghost use Rattle.vm_flow.specs.Call.{called};
+ghost use Rattle.vm_stack.specs.Chain.{Chain, HasFrame};
 
 use crate::perform::width_of;
 use crate::step::Step;
@@ -41,10 +43,10 @@ impl<'i> Machine<'i> {
     /// Faults 1, 3 and 12 as for a call.
     pub fn start(alloc: Global, image: &Image<'i>, seed: u64) -> Result<Machine<'i>, Trap>
         ensures value { Makes (started image.now seed) result }
+        ensures fit { IfOk result (λ machine. IsFit machine) }
     {
-        let rom = &image.bytes()[..image.extstart() as usize];
-        let memory = Memory::new(alloc, rom, image.ramstart(), image.endmem()).map_err(no_memory)?;
-        let mut stack = Stack::with_size(alloc, image.stack_size()).map_err(no_memory)?;
+        let memory = image_memory(alloc, image)?;
+        let mut stack = empty_stack(alloc, image)?;
         let pc = begin(alloc, &memory, &mut stack, image.start_function())?;
         Ok(Machine {
             memory,
@@ -71,22 +73,45 @@ impl<'i> Machine<'i> {
     /// costs more; else the row's fault.
     pub fn step(&mut self, alloc: Global, left: u64) -> Result<Step, Trap>
         ensures does { Does (told left (row self.old)) self.new result }
-        ensures fit { IsFit self.old → OnOk result (IsFit self.new) }
+        ensures fit { IsFit self.old → IfOk result (λ step. GoesOnFit self.new step) }
+        ensures cost { IfOk result (λ step. IsPriced left step) }
     {
         if left == 0 {
             return Err(BUDGET);
         }
         let instr = decode(&self.memory, self.pc)?;
         let op = Op::of(instr.op);
-        let args = self.load_all(width_of(op), &instr.loads.items, 0, [0; 8])?;
+        let loads = &instr.loads.items[..instr.loads.count as usize];
+        let mut args = [0; 8];
+        self.load_all(width_of(op), loads, 0, &mut args)?;
         self.pc = instr.next;
         self.run(alloc, op, &args, &instr.stores.items, left)
     }
 }
 
+// The memory of an image.
+fn image_memory<'i>(alloc: Global, image: &Image<'i>) -> Result<Memory<'i>, Trap>
+    ensures value { Makes (Ok (start.image_memory image.now)) result }
+    ensures pages { IfOk result (λ memory. length memory.bytes % 256 ≡ 0) }
+{
+    let rom = &image.bytes()[..image.extstart() as usize];
+    match Memory::new(alloc, rom, image.ramstart(), image.endmem()) {
+        Ok(memory) => Ok(memory),
+        Err(_) => Err(Trap::NoMemory),
+    }
+}
+
+// A stack with nothing on it.
+fn empty_stack(alloc: Global, image: &Image<'_>) -> Result<Stack, Trap>
+    ensures { Makes (Ok (start.empty_stack image.now)) result }
+{
+    Stack::with_size(alloc, image.stack_size()).map_err(no_memory)
+}
+
 // The start function is called without arguments.
 fn begin(alloc: Global, memory: &Memory<'_>, stack: &mut Stack, at: u32) -> Result<u32, Trap>
-    ensures { Does (flowed (called memory.now stack.old at [])) stack.new result }
+    ensures does { Does (flowed (called memory.now stack.old at [])) stack.new result }
+    ensures kept { stack.old.bytes ≡ [] → stack.old.frame ≡ 0 → OnOk result (Chain stack.new × HasFrame stack.new) }
 {
     call(alloc, memory, stack, at, &[]).map_err(of_flow)
 }

@@ -2,7 +2,7 @@
 
 ghost use Rattle.std.specs.Prelude.{◌≡◌, ◌≤◌, IfOk, OnOk, slice_index};
 ghost use Rattle.vm_exec.specs.Answer.{Does};
-ghost use Rattle.vm_exec.specs.Machine.{IsFit};
+ghost use Rattle.vm_exec.specs.Machine.{IsFit, StaysFit};
 ghost use Rattle.vm_exec.specs.Row.{dest_of};
 ghost use Rattle.vm_exec.specs.Rows.Moving as rows;
 ghost use Rattle.vm_exec.specs.Rows.Work.{Tells, budgeted};
@@ -17,7 +17,7 @@ impl<'i> Machine<'i> {
     fn put_in(&mut self, width: u32, to: Dest, value: u32) -> Result<Done, Trap>
         requires { IsWidth width }
         ensures does { Tells (rows.puts_in width self.old to value) self.new result }
-        ensures fit { IsFit self.old → OnOk result (IsFit self.new) }
+        ensures fit { IsFit self.old → IfOk result (λ done. StaysFit self.new done.out) }
     {
         self.store_in(width, to, value)?;
         self.tell(Out::Ran)
@@ -32,7 +32,7 @@ impl<'i> Machine<'i> {
         left: u64,
     ) -> Result<Done, Trap>
         ensures does { Does (budgeted left (rows.move_work op self.old (slice_index args.now) (dest_of to.now))) self.new result }
-        ensures fit { IsFit self.old → OnOk result (IsFit self.new) }
+        ensures fit { IsFit self.old → IfOk result (λ done. StaysFit self.new done.out) }
         ensures within { IfOk result (λ done. done.cost ≤ left) }
     {
         match op {

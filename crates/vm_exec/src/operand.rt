@@ -1,7 +1,7 @@
 //! Loads and stores.
 
 ghost use Rattle.std.specs.Prelude.{◌≡◌, ◌⊎◌, ◌≤◌, ◌+◌, ◌%◌, ◌^◌, length, OnOk};
-ghost use Rattle.vm_exec.specs.Answer.{Changes, Does};
+ghost use Rattle.vm_exec.specs.Answer.{Changes, Does, Leaves};
 ghost use Rattle.vm_exec.specs.Machine.{IsFit};
 ghost use Rattle.vm_exec.specs.Rules as rules;
 ghost use Rattle.vm_stack.specs.Locals.{IsWidth};
@@ -84,15 +84,15 @@ impl<'i> Machine<'i> {
         width: u32,
         loads: &[Load],
         index: usize,
-        mut args: [u32; 8],
-    ) -> Result<[u32; 8], Trap>
+        args: &mut [u32; 8],
+    ) -> Result<(), Trap>
         requires width { IsWidth width }
         requires room { index + length loads.now ≤ 8 }
-        ensures does { Does (rules.loaded_all width self.old loads.now index args) self.new result }
+        ensures does { Leaves (rules.loaded_all width self.old loads.now index args.old) self.new args.new result }
         ensures fit { IsFit self.old → OnOk result (IsFit self.new) }
     {
         match loads {
-            [] => Ok(args),
+            [] => Ok(()),
             [first, rest @ ..] => {
                 args[index] = self.load(width, *first)?;
                 self.load_all(width, rest, index + 1, args)

@@ -2,7 +2,7 @@
 
 ghost use Rattle.std.specs.Prelude.{◌≡◌, ◌≤◌, IfOk, OnOk, slice_index};
 ghost use Rattle.vm_exec.specs.Answer.{Does};
-ghost use Rattle.vm_exec.specs.Machine.{IsFit};
+ghost use Rattle.vm_exec.specs.Machine.{IsFit, StaysFit};
 ghost use Rattle.vm_exec.specs.Row.{dest_of};
 ghost use Rattle.vm_exec.specs.Rows.Output as rows;
 ghost use Rattle.vm_exec.specs.Rows.Work.{Tells, budgeted};
@@ -19,7 +19,7 @@ impl<'i> Machine<'i> {
     /// A character under the I/O system.
     fn stream(&mut self, alloc: Global, character: u32) -> Result<Done, Trap>
         ensures does { Tells (rules.streams self.old character) self.new result }
-        ensures fit { IsFit self.old → OnOk result (IsFit self.new) }
+        ensures fit { IsFit self.old → IfOk result (λ done. StaysFit self.new done.out) }
     {
         match self.mode {
             2 => self.tell(Out::Char(character)),
@@ -30,7 +30,7 @@ impl<'i> Machine<'i> {
 
     fn get_io(&mut self, mode: Dest, rock: Dest) -> Result<Done, Trap>
         ensures does { Tells (rows.gives_io self.old mode rock) self.new result }
-        ensures fit { IsFit self.old → OnOk result (IsFit self.new) }
+        ensures fit { IsFit self.old → IfOk result (λ done. StaysFit self.new done.out) }
     {
         self.store(mode, self.mode)?;
         self.put(rock, self.rock)
@@ -38,7 +38,7 @@ impl<'i> Machine<'i> {
 
     fn set_io(&mut self, mode: u32, rock: u32) -> Result<Done, Trap>
         ensures does { Tells (rows.takes_io self.old mode rock) self.new result }
-        ensures fit { IsFit self.old → OnOk result (IsFit self.new) }
+        ensures fit { IsFit self.old → IfOk result (λ done. StaysFit self.new done.out) }
     {
         (self.mode, self.rock) = if mode <= 2 { (mode, rock) } else { (0, 0) };
         self.tell(Out::Ran)
@@ -46,7 +46,7 @@ impl<'i> Machine<'i> {
 
     fn set_table(&mut self, at: u32) -> Result<Done, Trap>
         ensures does { Tells (rules.goes (record self.old { string_table = at })) self.new result }
-        ensures fit { IsFit self.old → OnOk result (IsFit self.new) }
+        ensures fit { IsFit self.old → IfOk result (λ done. StaysFit self.new done.out) }
     {
         self.string_table = at;
         self.tell(Out::Ran)
@@ -62,7 +62,7 @@ impl<'i> Machine<'i> {
         left: u64,
     ) -> Result<Done, Trap>
         ensures does { Does (budgeted left (rows.stream_work op self.old (slice_index args.now) (dest_of to.now))) self.new result }
-        ensures fit { IsFit self.old → OnOk result (IsFit self.new) }
+        ensures fit { IsFit self.old → IfOk result (λ done. StaysFit self.new done.out) }
         ensures within { IfOk result (λ done. done.cost ≤ left) }
     {
         match op {

@@ -1,8 +1,8 @@
 //! What instructions are made of.
 
-ghost use Rattle.std.specs.Prelude.{◌≡◌, ◌+◌, ◌*◌, OnOk, Ok, Err};
+ghost use Rattle.std.specs.Prelude.{◌≡◌, ◌+◌, ◌*◌, IfOk, OnOk, Ok, Err};
 ghost use Rattle.vm_exec.specs.Answer.{Does, Makes};
-ghost use Rattle.vm_exec.specs.Machine.{IsFit};
+ghost use Rattle.vm_exec.specs.Machine.{IsFit, StaysFit};
 ghost use Rattle.vm_exec.specs.Rows.Work.{Tells};
 ghost use Rattle.vm_exec.specs.Rules as rules;
 
@@ -21,7 +21,7 @@ impl<'i> Machine<'i> {
     /// Stores a value.
     pub(crate) fn put(&mut self, to: Dest, value: u32) -> Result<Done, Trap>
         ensures does { Tells (rules.puts self.old to value) self.new result }
-        ensures fit { IsFit self.old → OnOk result (IsFit self.new) }
+        ensures fit { IsFit self.old → IfOk result (λ done. StaysFit self.new done.out) }
     {
         self.store(to, value)?;
         self.tell(Out::Ran)

@@ -2,7 +2,7 @@
 
 ghost use Rattle.std.specs.Prelude.{◌≡◌, ◌≤◌, ◌/◌, IfOk, OnOk, slice_index};
 ghost use Rattle.vm_exec.specs.Answer.{Does};
-ghost use Rattle.vm_exec.specs.Machine.{IsFit};
+ghost use Rattle.vm_exec.specs.Machine.{IsFit, StaysFit};
 ghost use Rattle.vm_exec.specs.Row.{dest_of};
 ghost use Rattle.vm_exec.specs.Rows.Search as rows;
 ghost use Rattle.vm_exec.specs.Rows.Work.{Costs, budgeted};
@@ -16,7 +16,7 @@ use vm_operand::{Dest, Search};
 impl<'i> Machine<'i> {
     fn mzero(&mut self, count: u32, at: u32, left: u64) -> Result<Done, Trap>
         ensures does { Does (budgeted left (Costs (count / 16) (rows.zeroes self.old count at))) self.new result }
-        ensures fit { IsFit self.old → OnOk result (IsFit self.new) }
+        ensures fit { IsFit self.old → IfOk result (λ done. StaysFit self.new done.out) }
         ensures within { IfOk result (λ done. done.cost ≤ left) }
     {
         let cost = charge(u64::from(count / 16), left)?;
@@ -29,7 +29,7 @@ impl<'i> Machine<'i> {
 
     fn mcopy(&mut self, count: u32, from: u32, to: u32, left: u64) -> Result<Done, Trap>
         ensures does { Does (budgeted left (Costs (count / 16) (rows.copies_block self.old count from to))) self.new result }
-        ensures fit { IsFit self.old → OnOk result (IsFit self.new) }
+        ensures fit { IsFit self.old → IfOk result (λ done. StaysFit self.new done.out) }
         ensures within { IfOk result (λ done. done.cost ≤ left) }
     {
         let cost = charge(u64::from(count / 16), left)?;
@@ -49,7 +49,7 @@ impl<'i> Machine<'i> {
         left: u64,
     ) -> Result<Done, Trap>
         ensures does { Does (budgeted left (rows.search_work op self.old (slice_index args.now) (dest_of to.now))) self.new result }
-        ensures fit { IsFit self.old → OnOk result (IsFit self.new) }
+        ensures fit { IsFit self.old → IfOk result (λ done. StaysFit self.new done.out) }
         ensures within { IfOk result (λ done. done.cost ≤ left) }
     {
         match op {

@@ -1,7 +1,7 @@
 //! What a step tells.
 
-ghost use Rattle.std.specs.Prelude.{◌≡◌};
-ghost use Rattle.vm_exec.specs.Row.{step_of};
+ghost use Rattle.std.specs.Prelude.{ℕ, ◌≡◌, ◌≤◌};
+ghost use Rattle.vm_exec.specs.Row.{IsPriced, step_of};
 
 /// What an instruction tells.
 #[derive(Clone, Copy, Debug, PartialEq, Eq)]
@@ -39,7 +39,8 @@ pub enum Step {
 impl Done {
     /// What the step tells, with its whole cost.
     pub(crate) fn step(self, cost: u64) -> Step
-        ensures { result ≡ step_of self.out cost }
+        ensures value { result ≡ step_of self.out cost }
+        ensures cost { (left : ℕ) → 1 ≤ cost → cost ≤ left → IsPriced left result }
     {
         match self.out {
             Out::Ran => Step::Ran(cost),

@@ -2,7 +2,7 @@
 
 ghost use Rattle.std.specs.Prelude.{◌≡◌, ◌≤◌, IfOk, OnOk, slice_index, length};
 ghost use Rattle.vm_exec.specs.Answer.{Does};
-ghost use Rattle.vm_exec.specs.Machine.{IsFit};
+ghost use Rattle.vm_exec.specs.Machine.{IsFit, StaysFit};
 ghost use Rattle.vm_exec.specs.Row.{dest_of};
 ghost use Rattle.vm_exec.specs.Rows.System as rows;
 ghost use Rattle.vm_exec.specs.Rows.Work.{Tells, budgeted};
@@ -17,7 +17,7 @@ use vm_operand::{Dest, System};
 impl<'i> Machine<'i> {
     fn getmemsize(&mut self, to: Dest) -> Result<Done, Trap>
         ensures does { Tells (rules.puts self.old to (length self.old.memory.bytes)) self.new result }
-        ensures fit { IsFit self.old → OnOk result (IsFit self.new) }
+        ensures fit { IsFit self.old → IfOk result (λ done. StaysFit self.new done.out) }
     {
         let size = self.memory.size();
         self.put(to, size)
@@ -25,7 +25,7 @@ impl<'i> Machine<'i> {
 
     fn call_glk(&mut self, selector: u32, args: u32, to: Dest) -> Result<Done, Trap>
         ensures does { Tells (rows.calls_glk self.old selector args to) self.new result }
-        ensures fit { IsFit self.old → OnOk result (IsFit self.new) }
+        ensures fit { IsFit self.old → IfOk result (λ done. StaysFit self.new done.out) }
     {
         self.waiting = to;
         self.tell(Out::Glk { selector, args })
@@ -40,7 +40,7 @@ impl<'i> Machine<'i> {
         left: u64,
     ) -> Result<Done, Trap>
         ensures does { Does (budgeted left (rows.system_work op self.old (slice_index args.now) (dest_of to.now))) self.new result }
-        ensures fit { IsFit self.old → OnOk result (IsFit self.new) }
+        ensures fit { IsFit self.old → IfOk result (λ done. StaysFit self.new done.out) }
         ensures within { IfOk result (λ done. done.cost ≤ left) }
     {
         match op {

@@ -2,12 +2,13 @@
 
 ghost use Rattle.std.specs.Prelude.{◌≡◌, ◌≤◌, ◌/◌, ◌-◌, IfOk, OnOk, slice_index};
 ghost use Rattle.vm_exec.specs.Answer.{Changes, Does};
-ghost use Rattle.vm_exec.specs.Machine.{IsFit};
+ghost use Rattle.vm_exec.specs.Machine.{IsFit, StaysFit};
 ghost use Rattle.vm_exec.specs.Row.{dest_of};
 ghost use Rattle.vm_exec.specs.Rows.Values as rows;
 ghost use Rattle.vm_exec.specs.Rows.Work.{Costs, Tells, budgeted};
 ghost use Rattle.vm_exec.specs.Rules as rules;
 ghost use Rattle.vm_stack.specs.Answer.{Leaves};
+ghost use Rattle.vm_stack.specs.Chain.{Chain, HasFrame};
 ghost use Rattle.vm_stack.specs.Values.{count};
 
 use crate::Machine;
@@ -20,7 +21,7 @@ use vm_stack::{Stack, StackFault};
 impl<'i> Machine<'i> {
     fn stkcount(&mut self, to: Dest) -> Result<Done, Trap>
         ensures does { Tells (rules.puts self.old to (count self.old.stack)) self.new result }
-        ensures fit { IsFit self.old → OnOk result (IsFit self.new) }
+        ensures fit { IsFit self.old → IfOk result (λ done. StaysFit self.new done.out) }
     {
         let count = self.stack.count();
         self.put(to, count)
@@ -28,7 +29,7 @@ impl<'i> Machine<'i> {
 
     fn stkpeek(&mut self, depth: u32, to: Dest) -> Result<Done, Trap>
         ensures does { Tells (rows.peeks self.old depth to) self.new result }
-        ensures fit { IsFit self.old → OnOk result (IsFit self.new) }
+        ensures fit { IsFit self.old → IfOk result (λ done. StaysFit self.new done.out) }
     {
         let value = self.stack.peek(depth).map_err(of_stack)?;
         self.put(to, value)
@@ -36,7 +37,7 @@ impl<'i> Machine<'i> {
 
     fn roll(&mut self, count: u32, by: u32) -> Result<Done, Trap>
         ensures does { Tells (rows.rolls self.old count by) self.new result }
-        ensures fit { IsFit self.old → OnOk result (IsFit self.new) }
+        ensures fit { IsFit self.old → IfOk result (λ done. StaysFit self.new done.out) }
     {
         self.stack.roll(count, by).map_err(of_stack)?;
         self.tell(Out::Ran)
@@ -44,7 +45,7 @@ impl<'i> Machine<'i> {
 
     fn stkroll(&mut self, count: u32, by: u32, left: u64) -> Result<Done, Trap>
         ensures does { Does (budgeted left (Costs (count / 16) (rows.rolls self.old count by))) self.new result }
-        ensures fit { IsFit self.old → OnOk result (IsFit self.new) }
+        ensures fit { IsFit self.old → IfOk result (λ done. StaysFit self.new done.out) }
         ensures within { IfOk result (λ done. done.cost ≤ left) }
     {
         let cost = charge(u64::from(count / 16), left)?;
@@ -57,7 +58,7 @@ impl<'i> Machine<'i> {
 
     fn stkcopy(&mut self, count: u32, left: u64) -> Result<Done, Trap>
         ensures does { Does (budgeted left (Costs (count / 16) (rows.copies self.old count))) self.new result }
-        ensures fit { IsFit self.old → OnOk result (IsFit self.new) }
+        ensures fit { IsFit self.old → IfOk result (λ done. StaysFit self.new done.out) }
         ensures within { IfOk result (λ done. done.cost ≤ left) }
     {
         let cost = charge(u64::from(count / 16), left)?;
@@ -77,7 +78,7 @@ impl<'i> Machine<'i> {
         left: u64,
     ) -> Result<Done, Trap>
         ensures does { Does (budgeted left (rows.values_work op self.old (slice_index args.now) (dest_of to.now))) self.new result }
-        ensures fit { IsFit self.old → OnOk result (IsFit self.new) }
+        ensures fit { IsFit self.old → IfOk result (λ done. StaysFit self.new done.out) }
         ensures within { IfOk result (λ done. done.cost ≤ left) }
     {
         match op {
@@ -92,7 +93,8 @@ impl<'i> Machine<'i> {
 
 // So many values again, each the one that then lies a value less below the top.
 fn copy_up(stack: &mut Stack, count: u32) -> Result<(), Trap>
-    ensures { Changes (rows.copied_up stack.old (count - 1) count) stack.new result }
+    ensures does { Changes (rows.copied_up stack.old (count - 1) count) stack.new result }
+    ensures kept { Chain stack.old → HasFrame stack.old → OnOk result (Chain stack.new × HasFrame stack.new) }
 {
     for _ in 0..count {
         match copy_one(stack, count - 1) {
@@ -105,7 +107,8 @@ fn copy_up(stack: &mut Stack, count: u32) -> Result<(), Trap>
 
 // The value at a depth again, on top.
 fn copy_one(stack: &mut Stack, depth: u32) -> Result<(), StackFault>
-    ensures { Leaves (rows.copied_one stack.old depth) stack.new result }
+    ensures does { Leaves (rows.copied_one stack.old depth) stack.new result }
+    ensures kept { Chain stack.old → HasFrame stack.old → OnOk result (Chain stack.new × HasFrame stack.new) }
 {
     let value = stack.peek(depth)?;
     stack.push(value)?;

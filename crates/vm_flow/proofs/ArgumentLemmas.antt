@@ -1,5 +1,5 @@
 -- Arguments, given step by step.
-use Rattle.std.proofs.Common.{◌≡◌, ◌≢◌, ◌⊎◌, inl, inr, ℕ, zero, suc, ◌+◌, ◌-◌, ◌*◌, ◌/◌, ◌<◌, ◌≤◌, Bool, true, false, ◌==◌, cond, List, [], ◌∷◌, ◌++◌, length, take, drop, slice_index, refl, arith, Result, Ok, Err, ap, sym, ◌∙◌, subst}
+use Rattle.std.proofs.Common.{◌≡◌, ◌≢◌, inl, inr, ℕ, zero, suc, ◌+◌, ◌-◌, ◌*◌, ◌<◌, ◌≤◌, List, [], ◌∷◌, length, take, drop, slice_index, refl, arith, Ok, Err, ap, ◌∙◌, subst}
 use Rattle.std.proofs.lemmas.Bool.{ne_eqb}
 use Rattle.std.proofs.lemmas.List.{drop_more}
 use Rattle.std.proofs.Math.ListN.{drop_of_length-le}
@@ -12,7 +12,6 @@ use Rattle.vm_stack.specs.Values.{pushed}
 use Rattle.vm_stack.specs.Locals.{IsWidth, local_set}
 use Rattle.vm_stack.specs.Frame.{aligned, locals_end}
 use Rattle.vm_stack.specs.Chain.{IsFormat}
-use Rattle.vm_flow.specs.Answer.{from_stack, and_then}
 use Rattle.vm_flow.specs.Call.{all_pushed, pair_set, locals_set}
 use Rattle.vm_flow.specs.declared.stop.FlowStop.{FlowStop}
 
@@ -21,7 +20,7 @@ all_pushed_err s xs zero e h = h
 all_pushed_err s [] (suc i) e h = h
 all_pushed_err s (x ∷ xs) (suc i) e h = rw (all_pushed_err s xs i e h) refl
 
-aligned_up : (size at : ℕ) → IsWidth size → at ≤ aligned size at
+pub aligned_up : (size at : ℕ) → IsWidth size → at ≤ aligned size at
 aligned_up size at (inl e) = rw e (omega arith)
 aligned_up size at (inr (inl e)) = rw e (omega arith)
 aligned_up size at (inr (inr e)) = rw e (omega arith)
@@ -90,7 +89,7 @@ pub record NextPair (at x y : ℕ) (rest : List ℕ) : Type 0 where
   pub pairs : IsFormat rest
   pub end : locals_end (aligned x at + x * y) rest ≤ 1048576
 
-next_end : (at x y : ℕ) (rest : List ℕ) → x ≢ 0 → locals_end at (x ∷ y ∷ rest) ≡ locals_end (aligned x at + x * y) rest
+pub next_end : (at x y : ℕ) (rest : List ℕ) → x ≢ 0 → locals_end at (x ∷ y ∷ rest) ≡ locals_end (aligned x at + x * y) rest
 next_end at x y rest some = rw (ne_eqb x 0 some) refl
 
 next_in : (at x y : ℕ) (rest : List ℕ) → IsFormat (x ∷ y ∷ rest) → x ≢ 0 → locals_end at (x ∷ y ∷ rest) ≤ 1048576 → NextPair at x y rest

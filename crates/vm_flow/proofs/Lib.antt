@@ -1,5 +1,7 @@
 pub mod ThrowLemmas
 pub mod FormatLemmas
 pub mod ArgumentLemmas
+pub mod LocalLemmas
+pub mod ValueLemmas
 pub mod TokenLemmas
 pub mod StandardFacts

@@ -1,10 +1,10 @@
 -- Values that the standard's rows give, so that a wrong rule in the specs does not check.
-use Rattle.std.proofs.Common.{◌≡◌, ℕ, List, [], ◌∷◌, ◌++◌, Result, Ok, Err, None, refl}
+use Rattle.std.proofs.Common.{◌≡◌, ℕ, List, [], ◌∷◌, ◌++◌, Ok, Err, None, refl}
 use Rattle.vm_memory.specs.MemoryMap.{MemoryMap}
 use Rattle.vm_memory.specs.declared.fault.MemFault.TheVariants.{BadRead}
 use Rattle.vm_stack.specs.StackState.{StackState, words}
 use Rattle.vm_stack.specs.Frame.{fresh_frame}
-use Rattle.vm_flow.specs.Call.{called}
+use Rattle.vm_flow.specs.Call.{called, locals_of}
 use Rattle.vm_flow.specs.Return.{given_back}
 use Rattle.vm_flow.specs.Throw.{caught, thrown}
 use Rattle.vm_flow.specs.declared.stop.FlowStop.TheVariants as stop
@@ -22,12 +22,21 @@ frame_with values = record { bytes = fresh_frame (0 ∷ 0 ∷ []) ++ words value
 
 -- arguments are cut to their locals, and the fifth is dropped
 pub a_c1_gets_locals : called (of_bytes (193 ∷ 1 ∷ 3 ∷ 2 ∷ 1 ∷ 0 ∷ 0 ∷ [])) empty 0 (511 ∷ 2 ∷ 3 ∷ 74565 ∷ 9 ∷ [])
-    ≡ Ok (record {
-      bytes = 0 ∷ 0 ∷ 0 ∷ 24 ∷ 0 ∷ 0 ∷ 0 ∷ 16 ∷ 1 ∷ 3 ∷ 2 ∷ 1 ∷ 0 ∷ 0 ∷ 0 ∷ 0 ∷ 255 ∷ 2 ∷ 3 ∷ 0 ∷ 35 ∷ 69 ∷ 0 ∷ 0 ∷ [];
-      frame = 0;
-      limit = 256
-    }, 7)
+    ≡ Ok (
+      record {
+        bytes = 0 ∷ 0 ∷ 0 ∷ 24 ∷ 0 ∷ 0 ∷ 0 ∷ 16 ∷ 1 ∷ 3 ∷ 2 ∷ 1 ∷ 0 ∷ 0 ∷ 0 ∷ 0 ∷ 255 ∷ 2 ∷ 3 ∷ 0 ∷ 35 ∷ 69 ∷ 0 ∷ 0 ∷ [];
+        frame = 0;
+        limit = 256;
+      },
+      7,
+    )
 a_c1_gets_locals = refl
+
+pub its_locals : locals_of 0 (1 ∷ 3 ∷ 2 ∷ 1 ∷ 0 ∷ 0 ∷ []) (511 ∷ 2 ∷ 3 ∷ 74565 ∷ 9 ∷ []) ≡ 255 ∷ 2 ∷ 3 ∷ 0 ∷ 35 ∷ 69 ∷ []
+its_locals = refl
+
+pub missing_arguments : locals_of 0 (4 ∷ 2 ∷ 1 ∷ 2 ∷ 0 ∷ 0 ∷ []) (1 ∷ []) ≡ 0 ∷ 0 ∷ 0 ∷ 1 ∷ 0 ∷ 0 ∷ 0 ∷ 0 ∷ 0 ∷ 0 ∷ []
+missing_arguments = refl
 
 -- arguments are pushed, the last one first, and their count on top
 pub a_c0_gets_values : called (of_bytes (192 ∷ 0 ∷ 0 ∷ [])) empty 0 (7 ∷ 8 ∷ []) ≡ Ok (frame_with (8 ∷ 7 ∷ 2 ∷ []), 3)

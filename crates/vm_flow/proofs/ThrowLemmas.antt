@@ -1,5 +1,5 @@
 -- Returns and throws, step by step.
-use Rattle.std.proofs.Common.{◌≡◌, ◌≢◌, ℕ, zero, suc, ◌+◌, ◌-◌, ◌<◌, ◌≤◌, Bool, true, false, length, refl, arith, Result, Ok, Err, Option, Some, None, ap, sym, ◌∙◌, subst}
+use Rattle.std.proofs.Common.{◌≡◌, ◌≢◌, ℕ, zero, suc, ◌-◌, ◌<◌, ◌≤◌, true, false, length, refl, arith, Result, Ok, Err, Some, ap, sym, subst}
 use Rattle.std.proofs.lemmas.Bool.{ne_eqb}
 use Rattle.vm_stack.specs.StackState.{StackState}
 use Rattle.vm_stack.specs.Frame.{left}

@@ -1,9 +1,9 @@
 -- A throw is refused exactly where no frame of the chain has its token.
-use Rattle.std.proofs.Common.{◌≡◌, ◌≢◌, ◌⊎◌, inl, inr, ℕ, zero, suc, ◌+◌, ◌-◌, ◌*◌, ◌%◌, ◌<◌, ◌≤◌, Bool, true, false, ◌==◌, ◌&&◌, nat_le, List, [], ◌∷◌, ◌++◌, length, length-append, take, drop, refl, arith, Result, Ok, Err, ap, sym, ◌∙◌}
+use Rattle.std.proofs.Common.{◌≡◌, inl, inr, ℕ, zero, suc, ◌+◌, ◌-◌, ◌*◌, ◌%◌, ◌≤◌, true, false, ◌==◌, ◌&&◌, nat_le, List, [], ◌∷◌, length, length-append, take, drop, refl, arith, Result, Ok, Err, ap, sym, ◌∙◌}
 use Rattle.std.proofs.lemmas.Bool.{and_parts, and_from, leb-true, le-leb, eqb-true, eq-eqb, cases_Bool}
 use Rattle.std.proofs.lemmas.List.{length-take-le, take-append-drop}
 use Rattle.vm_stack.specs.StackState.{StackState, number, frame_len, value_bytes}
-use Rattle.vm_stack.specs.Frame.{left, frame_len_of, cut_to, in_named_frame}
+use Rattle.vm_stack.specs.Frame.{left, cut_to, in_named_frame}
 use Rattle.vm_stack.specs.Values.{without}
 use Rattle.vm_stack.specs.Stub.{stub_at, stub_taken}
 use Rattle.vm_stack.specs.declared.fault.StackFault.{StackFault}

@@ -1,12 +1,13 @@
 -- Calls (Glulx 3.1.3, "Calling and Returning Within Glulx").
-use Rattle.std.specs.Prelude.{ℕ, ◌+◌, ◌*◌, ◌==◌, ◌||◌, if◌then◌else◌}
-use Rattle.std.specs.Prelude.{List, [], ◌∷◌, length, take, drop, Result, Ok, Err}
+use Rattle.std.specs.Prelude.{ℕ, ◌+◌, ◌-◌, ◌*◌, ◌==◌, ◌||◌, if◌then◌else◌, List, [], ◌∷◌, ◌++◌}
+use Rattle.std.specs.Prelude.{length, take, drop, replicate, flat_map, Result, Ok, Err}
+use Rattle.byteorder.specs.Endian.{big_bytes}
 use Rattle.vm_memory.specs.MemoryMap.{MemoryMap}
 use Rattle.vm_memory.specs.Access.{read}
-use Rattle.vm_stack.specs.StackState.{StackState}
+use Rattle.vm_stack.specs.StackState.{StackState, words}
 use Rattle.vm_stack.specs.Values.{pushed}
 use Rattle.vm_stack.specs.Locals.{local_set}
-use Rattle.vm_stack.specs.Frame.{aligned, entered}
+use Rattle.vm_stack.specs.Frame.{aligned, entered, frame_head, padding_len, locals_len}
 use Rattle.vm_flow.specs.Answer.{from_stack, from_memory, and_then}
 use Rattle.vm_flow.specs.Function.{format_in}
 use Rattle.vm_flow.specs.declared.stop.FlowStop.{FlowStop}
@@ -48,3 +49,28 @@ called m s at args =
     and_then (from_stack (entered s format)) (λ t.
     and_then (given kind t format args) (λ u. Ok (u, at + 1 + length format))))
     else Err (stop.BadFunction at))
+
+-- the bytes of the locals of the pairs, from a place on, that get arguments in order: each is
+-- aligned and has its argument's low bytes, or 0 where there is none; what is left over is dropped
+abbrev pub locals_of : ℕ → List ℕ → List ℕ → List ℕ
+locals_of at [] args = []
+locals_of at (size ∷ []) args = []
+locals_of at (size ∷ count ∷ rest) args =
+    if size == 0 then []
+    else replicate (aligned size at - at) 0
+    ++ flat_map (big_bytes size) (take count (args ++ replicate count 0))
+    ++ locals_of (aligned size at + size * count) rest (drop count args)
+
+-- a frame whose locals are these bytes, and zeros up to their end
+abbrev pub frame_with : List ℕ → List ℕ → List ℕ
+frame_with format locals =
+    frame_head format ++ replicate (padding_len format) 0
+    ++ (locals ++ replicate (locals_len format - length locals) 0)
+
+-- with a frame of these bytes on top
+abbrev pub with_frame : StackState → List ℕ → StackState
+with_frame s bytes = record s { bytes = s.bytes ++ bytes; frame = length s.bytes }
+
+-- with these values on top, the last one uppermost
+abbrev pub with_values : StackState → List ℕ → StackState
+with_values s values = record s { bytes = s.bytes ++ words values }

@@ -1,6 +1,8 @@
 -- Functions and their lists of locals (Glulx 3.1.3, "Functions").
-use Rattle.std.specs.Prelude.{ℕ, ◌+◌, ◌==◌, ◌&&◌, ◌||◌, if◌then◌else◌, Bool}
-use Rattle.std.specs.Prelude.{List, [], ◌∷◌, ◌++◌, Result, Ok, Err}
+use Rattle.std.specs.Prelude.{ℕ, ◌≡◌, ◌+◌, ◌==◌, ◌&&◌, ◌||◌, if◌then◌else◌, Bool}
+use Rattle.std.specs.Prelude.{List, [], ◌∷◌, ◌++◌, drop, Result, Ok, Err}
+use Rattle.vm_memory.specs.MemoryMap.{MemoryMap}
+use Rattle.vm_memory.specs.Access.{read}
 use Rattle.vm_memory.specs.declared.fault.MemFault.TheVariants.{BadRead}
 use Rattle.vm_flow.specs.declared.stop.FlowStop.{FlowStop}
 use Rattle.vm_flow.specs.declared.stop.FlowStop.TheVariants as stop
@@ -24,3 +26,8 @@ format_in function at (size ∷ count ∷ rest) =
     else (if is_type size
     then prepended (size ∷ count ∷ []) (format_in function (at + 2) rest)
     else Err (stop.BadFunction function))
+
+-- a function of this type, and with this list of locals, the pair 0,0 at its end, is at an address
+pub record IsFunction (kind : ℕ) (m : MemoryMap) (at : ℕ) (format : List ℕ) : Type 0 where
+  pub type : read 1 m at ≡ Ok kind
+  pub list : format_in at (at + 1) (drop (at + 1) m.bytes) ≡ Ok format

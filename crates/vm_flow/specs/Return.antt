@@ -1,5 +1,5 @@
 -- Returns (Glulx 3.1.3, "Calling and Returning Within Glulx").
-use Rattle.std.specs.Prelude.{ℕ, ◌==◌, if◌then◌else◌, length, Result, Ok, Err, Option, Some, None}
+use Rattle.std.specs.Prelude.{◌==◌, if◌then◌else◌, length, Result, Ok, Option, Some, None}
 use Rattle.vm_stack.specs.StackState.{StackState}
 use Rattle.vm_stack.specs.Frame.{left}
 use Rattle.vm_stack.specs.Stub.{stub_taken}

@@ -194,6 +194,7 @@ impl Instr {
             spec.operands memory.now kinds.now modes.now self.old ≡ Ok self.new) }
         ensures exact { IfErr result (λ fault.
             spec.operands memory.now kinds.now modes.now self.old ≡ Err fault) }
+        ensures few { IfOk result (λ done. self.new.loads.count ≤ 8) }
     {
         for index in 0..kinds.len() {
             self.take(memory, kinds[index], modes[index])?;
@@ -207,6 +208,7 @@ impl Instr {
 #[tactic(auto, unfolding(crate::specs::Instruction::instruction_at))]
 pub fn decode(memory: &Memory<'_>, at: u32) -> Result<Instr, OpFault>
     ensures value { result ≡ spec.instruction_at memory.now at }
+    ensures few { IfOk result (λ instr. instr.loads.count ≤ 8) }
 {
     let (number, place) = number_at(memory, at)?;
     let kinds = known(number)?.kinds();

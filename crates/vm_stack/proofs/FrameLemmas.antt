@@ -30,10 +30,10 @@ length_before fr below h =
     let l = h.locals in
     omega (arith, e, z, u, l, a, b)
 
-first_word : (low a rest : List ℕ) (x : ℕ) → a ≡ big_bytes 4 x → x < 4294967296 → number 4 (low ++ (a ++ rest)) (length low) ≡ x
+pub first_word : (low a rest : List ℕ) (x : ℕ) → a ≡ big_bytes 4 x → x < 4294967296 → number 4 (low ++ (a ++ rest)) (length low) ≡ x
 first_word low a rest x e h = number_behind low (a ++ rest) 4 (length low) 0 (omega arith) ∙ (rw e (number_first x rest h))
 
-second_word : (low a b rest : List ℕ) (x : ℕ) → length a ≡ 4 → b ≡ big_bytes 4 x → x < 4294967296 → number 4 (low ++ (a ++ (b ++ rest))) (length low + 4) ≡ x
+pub second_word : (low a b rest : List ℕ) (x : ℕ) → length a ≡ 4 → b ≡ big_bytes 4 x → x < 4294967296 → number 4 (low ++ (a ++ (b ++ rest))) (length low + 4) ≡ x
 second_word low a b rest x n e h =
     number_behind low (a ++ (b ++ rest)) 4 (length low + 4) 4 (omega arith)
     ∙ (number_behind a (b ++ rest) 4 4 0 (omega (arith, n)) ∙ (rw e (number_first x rest h)))

@@ -99,7 +99,7 @@ length_head format =
     omega (arith, b, c, d, e)
 
 -- a frame begins with its head and its padding
-head_then_padding : (format : List ℕ) → locals_pos_of format ≡ 8 + length format + padding_len format
+pub head_then_padding : (format : List ℕ) → locals_pos_of format ≡ 8 + length format + padding_len format
 head_then_padding format = let u = aligned_up (8 + length format) in omega (arith, u)
 
 four_times : (a b : ℕ) → a % 4 ≡ 0 → b % 4 ≡ 0 → b ≤ a → a - b ≡ 4 * ((a - b) / 4)

@@ -1,4 +1,3 @@
-use Rattle.std.proofs.Common.{◌≡◌, ℕ, ap, sym, ◌∙◌, subst, refl}
 use Rattle.vm_flow.proofs.ArgumentLemmas.{all_pushed_stops}
 use Rattle.vm_flow.proofs.arguments.push_all.Goals as goal
 

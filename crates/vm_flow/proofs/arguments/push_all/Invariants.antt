@@ -1,4 +1,4 @@
-use Rattle.std.proofs.Common.{◌≡◌, ◌≤◌, ◌+◌, ◌*◌, ℕ, length, drop, Ok}
+use Rattle.std.proofs.Common.{◌≡◌, ◌≤◌, ◌+◌, ◌*◌, length, drop, Ok}
 use Rattle.vm_stack.specs.Chain.{Chain, HasFrame}
 use Rattle.vm_flow.specs.Call.{all_pushed}
 use Rattle.vm_flow.proofs.arguments.push_all.Given as goal

@@ -1,9 +1,8 @@
-use Rattle.std.proofs.Common.{◌≡◌, ◌<◌, ◌+◌, ◌*◌, ◌-◌, ◌≤◌, ◌≢◌, ℕ, List, length, length-drop, drop, take, slice_index, Ok, refl, arith, sym, ◌∙◌}
-use Rattle.vm_stack.specs.StackState.{StackState}
+use Rattle.std.proofs.Common.{◌≡◌, ◌+◌, ◌-◌, ◌≤◌, ◌≢◌, ℕ, List, length, length-drop, drop, take, slice_index, Ok, refl, arith, ◌∙◌}
 use Rattle.vm_stack.specs.Frame.{aligned, locals_end}
 use Rattle.vm_stack.specs.Chain.{IsFormat}
-use Rattle.vm_flow.specs.Call.{pair_set, locals_set}
-use Rattle.vm_flow.proofs.ArgumentLemmas.{NextPair, next_pair, grows, locals_more, locals_stops, locals_end_here, locals_none}
+use Rattle.vm_flow.specs.Call.{pair_set}
+use Rattle.vm_flow.proofs.ArgumentLemmas.{NextPair, next_pair, grows, locals_more, locals_end_here, locals_none}
 use Rattle.vm_flow.proofs.arguments.set_locals.Goals as goal
 
 -- the pair at the place that is read

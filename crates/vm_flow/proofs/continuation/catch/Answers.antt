@@ -1,4 +1,4 @@
-use Rattle.std.proofs.Common.{◌≡◌, length, subst, sym, ℕ}
+use Rattle.std.proofs.Common.{subst, sym, ℕ}
 use Rattle.vm_flow.specs.Token.{IsToken}
 use Rattle.vm_flow.proofs.TokenLemmas.{top_is_token}
 use Rattle.vm_flow.proofs.continuation.catch.Goals as goal

@@ -1,8 +1,7 @@
-use Rattle.std.proofs.Common.{◌≡◌, ap, sym, ◌∙◌, subst, refl}
+use Rattle.std.proofs.Common.{◌≡◌, ap, sym, ◌∙◌, subst}
 use Rattle.vm_stack.specs.StackState.{StackState}
 use Rattle.vm_stack.specs.declared.stub.Stub.{Stub}
 use Rattle.std.proofs.Common.{Result, ◌-◌, ℕ, ◌<◌, true}
-use Rattle.vm_stack.specs.Chain.{Chain}
 use Rattle.vm_flow.specs.declared.stop.FlowStop.{FlowStop}
 use Rattle.vm_flow.specs.Answer.{Gives}
 use Rattle.vm_flow.specs.Throw.{thrown, thrown_in, taken_at}

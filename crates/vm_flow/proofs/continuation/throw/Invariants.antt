@@ -1,4 +1,4 @@
-use Rattle.std.proofs.Common.{◌≡◌, ℕ}
+use Rattle.std.proofs.Common.{◌≡◌}
 use Rattle.vm_stack.specs.Chain.{Chain}
 use Rattle.vm_flow.specs.Throw.{thrown, thrown_in}
 use Rattle.vm_flow.proofs.continuation.throw.Given as goal

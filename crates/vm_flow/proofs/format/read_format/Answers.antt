@@ -1,5 +1,4 @@
-use Rattle.std.proofs.Common.{◌≡◌, ◌≤◌, ◌+◌, ℕ, List, [], ◌∷◌, ◌++◌, length, length-append, drop, ap, sym, ◌∙◌, subst, refl, arith}
-use Rattle.vm_stack.specs.Chain.{IsFormat}
+use Rattle.std.proofs.Common.{◌+◌, ℕ, List, [], ◌∷◌, length, length-append, drop, ap, sym, ◌∙◌, arith}
 use Rattle.vm_flow.specs.Function.{format_in, prepended}
 use Rattle.vm_flow.proofs.FormatLemmas.{format_more, pairs_more}
 use Rattle.vm_flow.proofs.format.read_format.Goals as goal

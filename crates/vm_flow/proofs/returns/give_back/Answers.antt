@@ -1,6 +1,6 @@
-use Rattle.std.proofs.Common.{◌≡◌, ap, sym, ◌∙◌, subst, refl}
+use Rattle.std.proofs.Common.{sym, subst, refl}
 use Rattle.vm_stack.specs.StackState.{StackState}
-use Rattle.vm_stack.specs.Chain.{Chain, EndsInOwnStub}
+use Rattle.vm_stack.specs.Chain.{EndsInOwnStub}
 use Rattle.vm_flow.specs.Answer.{Gives}
 use Rattle.vm_flow.specs.Return.{stub_or_end}
 use Rattle.vm_flow.proofs.returns.give_back.Goals as goal

@@ -12,6 +12,6 @@ returns-clause-does c =
     let m = c.load_all.new.self in
     subst
     (λ (w : Result Work ℕ). Does (told c.args.left (charged w)) c.run.new.self c.run.result)
-    (ap (λ (op : Option Op). Ok (work_of op (record m { pc = i.next }) c.in_ok-args.args i.stores.items)) c.of-op.ensures.value
-    ∙ fetched_is c.args.self.now i (m, c.in_ok-args.args) c.width_of.result (c.width_of.ensures.value ∙ ap width_of c.of-op.ensures.value) c.in_ok-instr.ensures.value c.in_ok-args.ensures.does)
+    (ap (λ (op : Option Op). Ok (work_of op (record m { pc = i.next }) c.load_all.new.args i.stores.items)) c.of-op.ensures.value
+    ∙ fetched_is c.args.self.now i (m, c.load_all.new.args) c.width_of.result (c.width_of.ensures.value ∙ ap width_of c.of-op.ensures.value) c.in_ok-instr.ensures.value c.in_ok-load_all.ensures.does)
     c.run.ensures.does

@@ -1,0 +1,5 @@
+pub mod History
+pub mod Checks
+pub mod Answer
+pub mod Sessions
+pub mod Isolation

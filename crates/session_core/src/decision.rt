@@ -1,0 +1,263 @@
+//! The reply to a request, and the command that it makes a session accept (own).
+
+ghost use Rattle.std.specs.Prelude.{◌≡◌, ◌≤◌, ◌<◌, length, IfOk, IfSome};
+ghost use Rattle.session_core.specs.History.{game_of};
+ghost use Rattle.session_core.specs.Checks.{command_of, session_of};
+ghost use Rattle.session_core.specs.Answer.{answer, first_of, plain_checks, story_checks, refusal_of, accepted_by, extended, show_of, shown_number};
+
+use crate::checks::{
+    is_absent, is_ahead, is_changed, is_different, is_early, is_fresh, is_missing, is_taken,
+    session_of,
+};
+use crate::history::{count, game_of, is_in_use, story_at};
+use crate::world::{input_of, world_of};
+use gate_journal::Command;
+use line_words::{No, Reply, Request};
+use std::alloc::{AllocError, Global};
+use story_run::Story;
+use story_text::Bytes;
+
+/// The most commands that a session number accepts.
+const MAX_COMMANDS: usize = 8192;
+
+/// What a request is answered.
+#[derive(Debug, Drop)]
+pub struct Decision {
+    pub reply: Reply,
+    /// The command that joins the session's history, if one does.
+    pub accepted: Option<Command>,
+}
+
+/// The command that a request asks to be accepted; LAST asks for none.
+fn command_of(
+    alloc: Global,
+    stories: &[Story],
+    request: &Request,
+) -> Result<Option<Command>, AllocError>
+    ensures { IfOk result (λ command. command ≡ command_of stories.now request.now) }
+{
+    Ok(Some(match request {
+        Request::Open {
+            key,
+            story,
+            seed,
+            cols,
+            rows,
+            budget,
+            ..
+        } => match story_at(stories, *story) {
+            Some(there) => Command::Open {
+                key: key.copy_of(alloc)?,
+                story: *story as u16,
+                digest: there.digest,
+                seed: *seed,
+                cols: *cols,
+                rows: *rows,
+                budget: *budget,
+            },
+            None => return Ok(None),
+        },
+        Request::Line {
+            win,
+            text,
+            term,
+            ..
+        } => Command::Line {
+            win: *win,
+            term: *term,
+            text: text.copy_of(alloc)?,
+        },
+        Request::Char { win, code, .. } => Command::Char {
+            win: *win,
+            code: *code,
+        },
+        Request::File { name, .. } => Command::File {
+            name: name.copy_of(alloc)?,
+        },
+        Request::Close { .. } => Command::Close,
+        Request::Last { .. } => return Ok(None),
+    }))
+}
+
+/// The refusals of a new input by the story: it is over, or doesn't wait for the input.
+fn story_refusal(
+    alloc: Global,
+    stories: &[Story],
+    game: &[Command],
+    request: &Request,
+) -> Result<Option<No>, AllocError>
+    requires { length game.now ≤ 8192 }
+    ensures { IfOk result (λ why. why ≡ first_of (story_checks stories.now game.now request.now)) }
+{
+    if !is_fresh(game, request) {
+        return Ok(None);
+    }
+    let Some(command) = command_of(alloc, stories, request)? else {
+        return Ok(None);
+    };
+    let Some(input) = input_of(alloc, &command)? else {
+        return Ok(None);
+    };
+    let Some(world) = world_of(alloc, stories, game)? else {
+        return Ok(None);
+    };
+    if world.is_over() {
+        return Ok(Some(No::Over));
+    }
+    if !world.wants(&input) {
+        return Ok(Some(No::Unwanted));
+    }
+    Ok(None)
+}
+
+/// The refusals that need no world, in their order.
+fn plain_refusal(stories: &[Story], game: &[Command], request: &Request) -> Option<No>
+    requires { length game.now ≤ 8192 }
+    ensures { result ≡ first_of (plain_checks stories.now game.now request.now) }
+{
+    if is_absent(game, request) {
+        return Some(No::NoSession);
+    }
+    if is_taken(game, request) {
+        return Some(No::InUse);
+    }
+    if is_missing(stories, game, request) {
+        return Some(No::NoStory);
+    }
+    if is_changed(stories, game, request) {
+        return Some(No::Changed);
+    }
+    if is_early(game, request) {
+        return Some(No::Stale { c: count(game) });
+    }
+    if is_different(game, request) {
+        return Some(No::Other);
+    }
+    if is_ahead(game, request) {
+        return Some(No::Early { c: count(game) });
+    }
+    None
+}
+
+/// Why the request is refused, if it is.
+#[tactic(auto, unfolding(crate::specs::Answer::refusal_of))]
+fn refusal_of(
+    alloc: Global,
+    stories: &[Story],
+    history: &[Command],
+    game: &[Command],
+    request: &Request,
+) -> Result<Option<No>, AllocError>
+    requires { length game.now ≤ 8192 }
+    ensures { IfOk result (λ why. why ≡ refusal_of stories.now history.now game.now request.now) }
+{
+    if let Some(why) = plain_refusal(stories, game, request) {
+        return Ok(Some(why));
+    }
+    if let Some(why) = story_refusal(alloc, stories, game, request)? {
+        return Ok(Some(why));
+    }
+    if is_fresh(game, request) && history.len() >= MAX_COMMANDS {
+        return Ok(Some(No::Full));
+    }
+    Ok(None)
+}
+
+/// The command that is accepted where the request isn't refused.
+#[tactic(auto, unfolding(crate::specs::Answer::accepted_by))]
+fn accepted_by(
+    alloc: Global,
+    stories: &[Story],
+    game: &[Command],
+    request: &Request,
+) -> Result<Option<Command>, AllocError>
+    requires { length game.now ≤ 8192 }
+    ensures { IfOk result (λ command. command ≡ accepted_by stories.now game.now request.now) }
+{
+    if is_fresh(game, request) {
+        command_of(alloc, stories, request)
+    } else {
+        Ok(None)
+    }
+}
+
+/// The number in a show: 0 for OPEN, that of the last command for LAST, else the request's own.
+fn shown_number(game: &[Command], request: &Request) -> u32
+    requires { length game.now ≤ 8192 }
+    ensures { result ≡ shown_number game.now request.now }
+{
+    match request {
+        Request::Open { .. } => 0,
+        Request::Last { .. } => count(game),
+        Request::Line { n, .. }
+        | Request::Char { n, .. }
+        | Request::File { n, .. }
+        | Request::Close { n, .. } => *n,
+    }
+}
+
+/// The show of a game: what its world shows, or the line of a session that was closed.
+#[tactic(auto, unfolding(crate::specs::Answer::show_of))]
+fn show_of(alloc: Global, stories: &[Story], game: &[Command]) -> Result<Bytes, AllocError>
+    ensures { IfOk result (λ show. show ≡ show_of stories.now game.now) }
+{
+    if !is_in_use(game) {
+        return Ok(Bytes::of(Vec::from_slice(alloc, b"E closed\n")?));
+    }
+    match world_of(alloc, stories, game)? {
+        Some(world) => Ok(Bytes::of(Vec::from_slice(alloc, world.last())?)),
+        None => Ok(Bytes::of(Vec::new(alloc))),
+    }
+}
+
+/// The history with the accepted command at its end.
+fn extended(
+    alloc: Global,
+    history: &[Command],
+    accepted: &Option<Command>,
+) -> Result<Vec<Command>, AllocError>
+    ensures { IfOk result (λ commands. commands.items ≡ extended history.now accepted.now) }
+{
+    let mut commands = Vec::new(alloc);
+    for at in 0..history.len() {
+        commands.push(history[at].copy_of(alloc)?)?;
+    }
+    if let Some(command) = accepted {
+        commands.push(command.copy_of(alloc)?)?;
+    }
+    Ok(commands)
+}
+
+/// What a session with this history is answered to the request, and the command that it then
+/// accepts: the history is played from the start for each request. The history holds at most 8,192
+/// commands, oldest first. An error is want of memory.
+#[tactic(auto, unfolding(crate::specs::Answer::answer))]
+pub fn decide(
+    alloc: Global,
+    stories: &[Story],
+    history: &[Command],
+    request: &Request,
+) -> Result<Decision, AllocError>
+    requires { length history.now ≤ 8192 }
+    ensures value { IfOk result (λ decision. decision ≡ answer stories.now history.now request.now) }
+    ensures within { IfOk result (λ decision. IfSome decision.accepted (λ _. length history.now < 8192)) }
+{
+    let game = game_of(history);
+    if let Some(why) = refusal_of(alloc, stories, history, game, request)? {
+        return Ok(Decision {
+            reply: Reply::No(why),
+            accepted: None,
+        });
+    }
+    let accepted = accepted_by(alloc, stories, game, request)?;
+    let commands = extended(alloc, history, &accepted)?;
+    let body = show_of(alloc, stories, game_of(&commands))?;
+    Ok(Decision {
+        reply: Reply::Show {
+            s: session_of(request),
+            n: shown_number(game, request),
+            body,
+        },
+        accepted,
+    })
+}

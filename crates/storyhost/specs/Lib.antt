@@ -1,0 +1,15 @@
+pub mod Causes
+pub mod Streams
+pub mod Files
+pub mod Writing
+pub mod Lines
+pub mod Hearing
+pub mod Conversation
+pub mod Hears
+pub mod Talked
+pub mod RunText
+pub mod Headline
+pub mod Ran
+pub mod Status
+pub mod Words
+pub mod Does

@@ -1,0 +1,22 @@
+-- Exit statuses (own).
+use Rattle.std.specs.Prelude.{ℕ, ◌==◌, if◌then◌else◌, Option, None, Some}
+use Rattle.storyhost.specs.declared.sink.Stop.{Stop}
+use Rattle.storyhost.specs.declared.sink.Stop.TheVariants as stop
+use Rattle.storyhost.specs.declared.status.Status.{Status}
+use Rattle.storyhost.specs.declared.status.Status.TheVariants.{Done, BadWords, Refused, ReadFault, WriteFault, NoMemory, LineLimit}
+
+-- the status of an exit code
+abbrev pub status_of : ℕ → Option Status
+status_of code =
+    if code == 0 then Some Done else
+    (if code == 2 then Some BadWords else
+    (if code == 3 then Some Refused else
+    (if code == 4 then Some ReadFault else
+    (if code == 5 then Some WriteFault else
+    (if code == 7 then Some NoMemory else
+    (if code == 10 then Some LineLimit else None))))))
+
+-- the status of a text that was not written whole
+abbrev pub status_of_stop : Stop → Status
+status_of_stop stop.Output = WriteFault
+status_of_stop stop.Memory = NoMemory

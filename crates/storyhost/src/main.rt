@@ -1,0 +1,40 @@
+//! Plays a story over standard input and output.
+#![tactic(auto)]
+
+mod answers;
+mod converse;
+mod edge;
+mod hear;
+mod line_buffer;
+mod memory;
+mod outside;
+mod player;
+mod run;
+mod sink;
+mod source;
+mod status;
+#[cfg(test)]
+mod tests;
+mod top;
+mod words;
+mod write;
+
+use edge::{Reading, SystemFiles, Writing};
+use status::Status;
+use std::process::ExitCode;
+use std::{env, io};
+
+fn main(rt: HostRuntime) -> ExitCode {
+    let alloc = rt.alloc();
+    let Ok(arguments) = env::args(&rt) else {
+        return ExitCode::from(Status::BadWords.code());
+    };
+    let Ok(words) = arguments.skip(1).collect::<Vec<String>>(alloc) else {
+        return ExitCode::from(Status::NoMemory.code());
+    };
+    let mut outside = SystemFiles::new(&rt);
+    let mut input = Reading::new(rt.reader());
+    let mut output = Writing::new(io::writer(&rt));
+    let code = top::top(&rt, alloc, &words, &mut outside, &mut input, &mut output);
+    ExitCode::from(code)
+}

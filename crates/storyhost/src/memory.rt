@@ -1,0 +1,171 @@
+//! A source, a sink and an outside in memory, with the calls that are to fail.
+ghost use Rattle.std.specs.Prelude.{◌≡◌, ◌≤◌, [], Some, drop, vec_len, option_map, false};
+ghost use Rattle.std.specs.BTreeMap.{get_by_text};
+
+use crate::outside::{Fetch, Outside};
+use crate::sink::{Put, Sink};
+use crate::source::{Got, Source};
+use std::alloc::Global;
+use std::collections::BTreeMap;
+
+/// The most bytes of a file that a load gives.
+const MOST_OF_FILE: usize = 67_108_865;
+
+/// Bytes in memory. A read gives at most `most` of them, and at least one.
+/// Reads are counted from 0, and those in `failing` fail.
+#[derive(Drop)]
+pub struct MemorySource {
+    bytes: Vec<u8>,
+    at: usize,
+    most: usize,
+    calls: u64,
+    failing: Vec<u64>,
+    faults: u64,
+    ended: bool,
+    ghost in_range: { at ≤ vec_len bytes },
+}
+
+impl MemorySource {
+    /// All of these bytes are left, and nothing has happened yet.
+    pub fn new(bytes: Vec<u8>, most: usize, failing: Vec<u64>) -> MemorySource
+        ensures { ⟦<MemorySource as Source>⟧.source result
+            ≡ record { left = Some bytes.items; taken = 0; ended = false; faults = 0 } }
+    {
+        MemorySource {
+            bytes,
+            at: 0,
+            most,
+            calls: 0,
+            failing,
+            faults: 0,
+            ended: false,
+        }
+    }
+}
+
+impl Source for MemorySource {
+    ghost source = { λ s. record {
+      left = Some (drop s.at s.bytes.items);
+      taken = s.at;
+      ended = s.ended;
+      faults = s.faults;
+    } };
+
+    fn read(&mut self, into: &mut [u8]) -> Got {
+        let call = self.calls;
+        self.calls = call.saturating_add(1);
+        if self.failing.contains(&call) {
+            self.faults = self.faults.saturating_add(1);
+            return Got::Failed;
+        }
+        let left = self.bytes.len() - self.at;
+        if left == 0 {
+            self.ended = true;
+            return Got::End;
+        }
+        let count = into.len().min(left).min(self.most.max(1));
+        into[..count].copy_from_slice(&self.bytes[self.at..self.at + count]);
+        self.at += count;
+        Got::Bytes(count)
+    }
+}
+
+/// Bytes that are held in memory. A write takes at most `most` of them, and at least one.
+/// Writes are counted from 0, and those in `failing` fail, as does one that finds no memory.
+#[derive(Drop)]
+pub struct MemorySink {
+    bytes: Vec<u8>,
+    most: usize,
+    calls: u64,
+    failing: Vec<u64>,
+    faults: u64,
+}
+
+impl MemorySink {
+    /// Nothing is held, and nothing has happened yet.
+    pub fn new(alloc: Global, most: usize, failing: Vec<u64>) -> MemorySink
+        ensures { ⟦<MemorySink as Sink>⟧.sink result ≡ record { held = Some []; faults = 0 } }
+    {
+        MemorySink {
+            bytes: Vec::new(alloc),
+            most,
+            calls: 0,
+            failing,
+            faults: 0,
+        }
+    }
+
+    /// The bytes that are held.
+    pub fn bytes(&self) -> &[u8]
+        ensures { (⟦<MemorySink as Sink>⟧.sink self.now).held ≡ Some result.now }
+    {
+        &self.bytes
+    }
+}
+
+impl Sink for MemorySink {
+    ghost sink = { λ s. record { held = Some s.bytes.items; faults = s.faults } };
+
+    fn write(&mut self, piece: &[u8]) -> Put {
+        let call = self.calls;
+        self.calls = call.saturating_add(1);
+        let count = piece.len().min(self.most.max(1));
+        if !self.failing.contains(&call) && self.bytes.extend_from_slice(&piece[..count]).is_ok() {
+            return Put::Took(count);
+        }
+        self.faults = self.faults.saturating_add(1);
+        Put::Failed
+    }
+}
+
+/// Files by their names. Loads are counted from 0, and those in `failing` fail.
+#[derive(Drop)]
+pub struct MemoryOutside {
+    files: BTreeMap<String, Vec<u8>>,
+    calls: u64,
+    failing: Vec<u64>,
+    faults: u64,
+}
+
+impl MemoryOutside {
+    /// These files, and nothing has happened yet.
+    pub fn new(files: BTreeMap<String, Vec<u8>>, failing: Vec<u64>) -> MemoryOutside
+        ensures { ⟦<MemoryOutside as Outside>⟧.outside result ≡ record {
+          file = λ name. option_map (λ bytes. bytes.items) (get_by_text files name);
+          faults = 0;
+        } }
+    {
+        MemoryOutside {
+            files,
+            calls: 0,
+            failing,
+            faults: 0,
+        }
+    }
+}
+
+impl Outside for MemoryOutside {
+    ghost outside = { λ o. record {
+      file = λ name. option_map (λ bytes. bytes.items) (get_by_text o.files name);
+      faults = o.faults;
+    } };
+
+    fn load(&mut self, alloc: Global, name: &str) -> Result<Vec<u8>, Fetch> {
+        let call = self.calls;
+        self.calls = call.saturating_add(1);
+        let fails = self.failing.contains(&call);
+        match self.files.get(name) {
+            Some(bytes) if !fails => {
+                let most = bytes.len().min(MOST_OF_FILE);
+                match bytes[..most].to_vec(alloc) {
+                    Ok(bytes) => Ok(bytes),
+                    Err(_) => Err(Fetch::NoMemory),
+                }
+            }
+            _ => {
+                self.faults = self.faults.saturating_add(1);
+                Err(Fetch::Failed)
+            }
+        }
+    }
+}

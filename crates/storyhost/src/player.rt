@@ -1,0 +1,115 @@
+//! How `run` answers the lines of its player.
+ghost use Rattle.std.specs.Prelude.{◌≡◌, ◌<◌, OnOk, IfOk, IfErr, true};
+ghost use Rattle.story_run.specs.Solo.{is_wanted, turned};
+ghost use Rattle.storyhost.specs.Streams.{Wrote};
+ghost use Rattle.storyhost.specs.Writing.{Stopped};
+ghost use Rattle.storyhost.specs.RunText.{show_text, input_of, input_next, input_reply};
+
+use crate::answers::Answers;
+use crate::sink::{Sink, Stop};
+use crate::write::write_all;
+use glk_input::Input;
+use line_words::{LineFault, Play, read_play};
+use std::alloc::{AllocError, Global};
+use std::marker::Brand;
+use std::sync::ledger::{Blank, Ledger};
+use story_run::{Steps, World};
+
+/// Writes a show and the line that ends it.
+pub fn say<K: Sink>(output: &mut K, world: &World<'_>) -> Result<(), Stop>
+    ensures ok { OnOk result (Wrote (K.sink output.old) (K.sink output.new) (show_text world.now)) }
+    ensures err { IfErr result (λ cause.
+        Stopped (K.sink output.old) (K.sink output.new) (show_text world.now) cause) }
+{
+    write_all(output, world.last())?;
+    write_all(output, b".\n")
+}
+
+/// What a line of the player gives to the story.
+fn input_of(play: Play) -> Input
+    ensures { result ≡ input_of play }
+{
+    match play {
+        Play::Line { win, text, key } => Input::Line { win, text, key },
+        Play::Char { win, code } => Input::Char { win, code },
+        Play::File { name } => Input::File { name },
+    }
+}
+
+/// Plays a turn, whose steps are counted in a new ledger.
+fn turn_counted<'i, L: Ledger>(
+    alloc: Global,
+    world: World<'i>,
+    input: &Input,
+    blank: Blank,
+) -> Result<World<'i>, AllocError>
+    requires name { blank.name ≡ L.name }
+    requires parts { blank.parts ≡ L.parts }
+    requires some { 0 < blank.parts }
+    requires wanted { is_wanted world input.now ≡ true }
+    ensures { IfOk result (λ now. now ≡ turned world.entry input.now) }
+{
+    let mut steps = Steps::<L>::new(blank);
+    world.turn(alloc, input, &mut steps)
+}
+
+/// Plays a turn whose steps nobody counts.
+fn turn<'i>(alloc: Global, world: World<'i>, input: &Input) -> Result<World<'i>, AllocError>
+    requires { is_wanted world input.now ≡ true }
+    ensures { IfOk result (λ now. now ≡ turned world.entry input.now) }
+{
+    turn_counted::<Brand>(alloc, world, input, Blank::new(1))
+}
+
+/// Writes the reply to an input.
+fn reply_to<'i, K: Sink>(
+    alloc: Global,
+    world: World<'i>,
+    input: &Input,
+    output: &mut K,
+) -> Result<World<'i>, Stop>
+    ensures next { IfOk result (λ now. now ≡ input_next world.entry input.now) }
+    ensures reply { OnOk result (Wrote (K.sink output.old) (K.sink output.new)
+        (input_reply world.entry input.now)) }
+    ensures err { IfErr result (λ cause. Stopped (K.sink output.old) (K.sink output.new)
+        (input_reply world.entry input.now) cause) }
+{
+    if !world.wants(input) {
+        write_all(output, b"NO 8\n")?;
+        return Ok(world);
+    }
+    let world = turn(alloc, world, input)?;
+    say(output, &world)?;
+    Ok(world)
+}
+
+impl<'i> Answers for World<'i> {
+    ghost use Rattle.storyhost.specs.RunText.{solo};
+
+    ghost answering = { solo };
+
+    fn is_over(&self) -> bool {
+        self.is_over()
+    }
+
+    fn answer<K: Sink>(
+        self,
+        alloc: Global,
+        line: Option<&[u8]>,
+        output: &mut K,
+    ) -> Result<Self, Stop> {
+        let Some(line) = line else {
+            write_all(output, b"NO 14\n")?;
+            return Ok(self);
+        };
+        match read_play(alloc, line) {
+            Ok(play) => reply_to(alloc, self, &input_of(play), output),
+            Err(LineFault::BadLine) => {
+                write_all(output, b"NO 1\n")?;
+                Ok(self)
+            }
+            Err(LineFault::LongLine) => unreachable!("a line that is heard isn't too long"),
+            Err(LineFault::NoMemory) => Err(Stop::Memory),
+        }
+    }
+}

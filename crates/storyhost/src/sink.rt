@@ -1,0 +1,59 @@
+//! Where bytes go.
+ghost use Rattle.std.specs.Prelude.{◌≡◌, length};
+ghost use Rattle.storyhost.specs.declared.sink.Stop.TheVariants.{Memory};
+
+use crate::status::Status;
+use std::alloc::AllocError;
+
+/// What a sink answers to a write.
+#[derive(Clone, Copy, Debug, PartialEq, Eq)]
+pub enum Put {
+    /// It took so many bytes, at least one of a piece that isn't empty.
+    Took(usize),
+    /// The write failed, and no byte was taken.
+    Failed,
+}
+
+/// A sink of bytes.
+pub trait Sink {
+    ghost use Rattle.storyhost.specs.Causes.{Rose};
+    ghost use Rattle.storyhost.specs.Streams.{SinkState, kept, IsTakenWithin, Wrote};
+
+    /// What is known of it. The fault count never falls.
+    ghost sink: { Self → SinkState };
+
+    /// Takes bytes from the front of the piece.
+    fn write(&mut self, piece: &[u8]) -> Put
+        ensures within { IsTakenWithin result (length piece.now) }
+        ensures value { Wrote (sink self.old) (sink self.new) (kept result piece.now) }
+        ensures cause { result ≡ Put.Failed → Rose (sink self.old).faults (sink self.new).faults };
+}
+
+/// Why a text was not written whole.
+#[derive(Clone, Copy, Debug, PartialEq, Eq)]
+pub enum Stop {
+    Output,
+    Memory,
+}
+
+impl From<AllocError> for Stop {
+    ghost from_gives = { λ _ stop. stop ≡ Memory };
+
+    fn from(_: AllocError) -> Self {
+        Stop::Memory
+    }
+}
+
+impl Stop {
+    ghost use Rattle.storyhost.specs.Status.{status_of_stop};
+
+    /// The status that the program ends with.
+    pub fn status(self) -> Status
+        ensures { result ≡ status_of_stop self }
+    {
+        match self {
+            Stop::Output => Status::WriteFault,
+            Stop::Memory => Status::NoMemory,
+        }
+    }
+}

@@ -1,0 +1,32 @@
+//! Where bytes come from.
+ghost use Rattle.std.specs.Prelude.{◌≡◌, ◌<◌, ◌||◌, length};
+
+/// What a source answers to a read.
+#[derive(Clone, Copy, Debug, PartialEq, Eq)]
+pub enum Got {
+    /// So many bytes, at least one.
+    Bytes(usize),
+    /// No more bytes come.
+    End,
+    /// The read failed, and no byte was given.
+    Failed,
+}
+
+/// A source of bytes.
+pub trait Source {
+    ghost use Rattle.std.specs.Io.KnownBytes.{IsAtEnd};
+    ghost use Rattle.storyhost.specs.Causes.{Rose};
+    ghost use Rattle.storyhost.specs.Streams.{SourceState, given, is_end, IsCountWithin, Gave};
+
+    /// What is known of it. The fault count never falls.
+    ghost source: { Self → SourceState };
+
+    /// Reads bytes into the front of the buffer.
+    fn read(&mut self, into: &mut [u8]) -> Got
+        requires { 0 < length into.old }
+        ensures within { IsCountWithin result (length into.new) }
+        ensures value { Gave (source self.old) (source self.new) (given result into.new) }
+        ensures at_end { result ≡ Got.End → IsAtEnd (source self.new).left }
+        ensures ended { (source self.new).ended ≡ ((source self.old).ended || is_end result) }
+        ensures cause { result ≡ Got.Failed → Rose (source self.old).faults (source self.new).faults };
+}

@@ -1,0 +1,40 @@
+//! Exit statuses.
+ghost use Rattle.std.specs.Prelude.{◌≡◌, Some};
+
+/// How the program ends.
+#[derive(Clone, Copy, Debug, PartialEq, Eq)]
+pub enum Status {
+    /// The command was done: the input was read to its end, or the story is over.
+    Done,
+    /// The words aren't taken.
+    BadWords,
+    /// A story is refused, and a line says why.
+    Refused,
+    /// The input failed, or a file could not be read.
+    ReadFault,
+    /// The output failed.
+    WriteFault,
+    /// Memory was wanted.
+    NoMemory,
+    /// A connection's limit of lines or bytes was reached.
+    LineLimit,
+}
+
+impl Status {
+    ghost use Rattle.storyhost.specs.Status.{status_of};
+
+    /// The exit code.
+    pub fn code(self) -> u8
+        ensures { status_of result ≡ Some self }
+    {
+        match self {
+            Status::Done => 0,
+            Status::BadWords => 2,
+            Status::Refused => 3,
+            Status::ReadFault => 4,
+            Status::WriteFault => 5,
+            Status::NoMemory => 7,
+            Status::LineLimit => 10,
+        }
+    }
+}

@@ -1,0 +1,147 @@
+-- Lists of entries, of numbers and of views.
+use Rattle.std.proofs.Common.{◌≡◌, ◌⊎◌, ℕ, zero, suc, ◌+◌, ◌<◌, ◌≤◌, List, [], ◌∷◌, ◌++◌, length, get_or, set, sym, refl, ap, ◌∙◌, subst, ⊎_elim, inl, inr, arith, append_assoc}
+use mathlib.Core.Option.{some, some-injective, some-ne-none}
+use lib.ListN.{get_elem?}
+use Rattle.turn_cell.specs.declared.view.View.{View}
+use Rattle.turn_cell.specs.declared.view.Stage.{Stage}
+use Rattle.turn_cell.specs.declared.view.Stage.TheVariants.{Idle, Waits, Served, Joined}
+use Rattle.turn_cell.specs.History.{Each, Continues, longer, IsAmong}
+use Rattle.turn_cell.specs.Views.{ticket_count, tickets_out}
+
+module _ {A : Type 0} where
+  pub nil_right : (xs : List A) → xs ++ [] ≡ xs
+  nil_right [] = refl
+  nil_right (x ∷ xs) = ap (λ (l : List A). x ∷ l) (nil_right xs)
+
+  pub each_append : (P : A → Type 0) (xs ys : List A) → Each P xs → Each P ys → Each P (xs ++ ys)
+  each_append P [] ys a b = b
+  each_append P (x ∷ xs) ys a b = (a.0, each_append P xs ys a.1 b)
+
+  pub each_first : (P : A → Type 0) (xs ys : List A) → Each P (xs ++ ys) → Each P xs
+  each_first P [] ys a = tt
+  each_first P (x ∷ xs) ys a = (a.0, each_first P xs ys a.1)
+
+  pub each_map : (P Q : A → Type 0) (xs : List A) → ((x : A) → P x → Q x) → Each P xs → Each Q xs
+  each_map P Q [] f a = tt
+  each_map P Q (x ∷ xs) f a = (f x a.0, each_map P Q xs f a.1)
+
+  pub continues_all : (P : A → Type 0) (xs : List A) → Continues P xs xs
+  continues_all P xs = ([], sym (nil_right xs), tt)
+
+  pub continues_more : (P : A → Type 0) (log seen more : List A) → Continues P log seen → Each P more → Continues P (log ++ more) seen
+  continues_more P log seen more s m = (s.0 ++ more, ap (λ (l : List A). l ++ more) s.1 ∙ append_assoc seen s.0 more, each_append P s.0 more s.2 m)
+
+  pub continues_map : (P Q : A → Type 0) (log seen : List A) → ((x : A) → P x → Q x) → Continues P log seen → Continues Q log seen
+  continues_map P Q log seen f s = (s.0, s.1, each_map P Q s.0 f s.2)
+
+  abbrev head_or : A → List A → A
+  head_or d [] = d
+  head_or d (x ∷ xs) = x
+
+  abbrev tail_of : List A → List A
+  tail_of [] = []
+  tail_of (x ∷ xs) = xs
+
+  cons_same : (x y : A) (xs ys : List A) → x ∷ xs ≡ y ∷ ys → (x ≡ y) × (xs ≡ ys)
+  cons_same x y xs ys e = (ap (head_or x) e, ap tail_of e)
+
+  -- the longer of two beginnings goes on from each
+  pub longer_first : (P : A → Type 0) (a b ra rb : List A) → a ++ ra ≡ b ++ rb → Each P ra → Continues P (longer a b) a
+  longer_first P [] b ra rb e each = (b, refl, each_first P b rb (subst (Each P) e each))
+  longer_first P (x ∷ xs) [] ra rb e each = ([], sym (nil_right (x ∷ xs)), tt)
+  longer_first P (x ∷ xs) (y ∷ ys) ra rb e each = let t = longer_first P xs ys ra rb (cons_same x y (xs ++ ra) (ys ++ rb) e).1 each in (t.0, ap (λ (l : List A). x ∷ l) t.1, t.2)
+
+  pub longer_second : (P : A → Type 0) (a b ra rb : List A) → a ++ ra ≡ b ++ rb → Each P rb → Continues P (longer a b) b
+  longer_second P [] b ra rb e each = ([], sym (nil_right b), tt)
+  longer_second P (x ∷ xs) [] ra rb e each = (x ∷ xs, refl, each_first P (x ∷ xs) ra (subst (Each P) (sym e) each))
+  longer_second P (x ∷ xs) (y ∷ ys) ra rb e each = let same = cons_same x y (xs ++ ra) (ys ++ rb) e in let t = longer_second P xs ys ra rb same.1 each in
+      (t.0, (λ i. same.0 i ∷ t.1 i), t.2)
+
+  -- and the whole list goes on from it
+  pub longer_whole : (P Q : A → Type 0) (a b ra rb : List A) → a ++ ra ≡ b ++ rb → Each P ra → Each Q rb → Continues (λ x. P x × Q x) (a ++ ra) (longer a b)
+  longer_whole P Q [] b ra rb e p q = (rb, e, each_two rb (each_last b rb (subst (Each P) e p)) q)
+    where
+      each_last : (xs ys : List A) → Each P (xs ++ ys) → Each P ys
+      each_last [] ys a = a
+      each_last (x ∷ xs) ys a = each_last xs ys a.1
+
+      each_two : (xs : List A) → Each P xs → Each Q xs → Each (λ x. P x × Q x) xs
+      each_two [] a b = tt
+      each_two (x ∷ xs) a b = ((a.0, b.0), each_two xs a.1 b.1)
+  longer_whole P Q (x ∷ xs) [] ra rb e p q = (ra, refl, each_both ra p (each_after (x ∷ xs) ra (subst (Each Q) (sym e) q)))
+    where
+      each_after : (xs ys : List A) → Each Q (xs ++ ys) → Each Q ys
+      each_after [] ys a = a
+      each_after (x ∷ xs) ys a = each_after xs ys a.1
+
+      each_both : (xs : List A) → Each P xs → Each Q xs → Each (λ x. P x × Q x) xs
+      each_both [] a b = tt
+      each_both (x ∷ xs) a b = ((a.0, b.0), each_both xs a.1 b.1)
+  longer_whole P Q (x ∷ xs) (y ∷ ys) ra rb e p q = let t = longer_whole P Q xs ys ra rb (cons_same x y (xs ++ ra) (ys ++ rb) e).1 p q in (t.0, ap (λ (l : List A). x ∷ l) t.1, t.2)
+
+module _ {A : Type 0} where
+  pub longer_right : (a b : List A) → length a < length b → length (longer a b) ≡ length b
+  longer_right [] b low = refl
+  longer_right (x ∷ xs) [] low = absurd (omega arith)
+  longer_right (x ∷ xs) (y ∷ ys) low = let t = longer_right xs ys (omega arith) in omega arith
+
+  pub longer_left : (a b : List A) → length b ≤ length a → length (longer a b) ≡ length a
+  longer_left [] [] low = refl
+  longer_left [] (y ∷ ys) low = absurd (omega arith)
+  longer_left (x ∷ xs) [] low = refl
+  longer_left (x ∷ xs) (y ∷ ys) low = let t = longer_left xs ys (omega arith) in omega arith
+
+  pub longer_one : (P Q : A → Type 0) (a b : List A) → Continues P (longer a b) a → Continues Q (longer a b) b → (longer a b ≡ a) ⊎ (longer a b ≡ b)
+  longer_one P Q a b s t = of a b s.0 t.0 (sym s.1 ∙ t.1)
+    where
+      of : (a b p q : List A) → a ++ p ≡ b ++ q → (longer a b ≡ a) ⊎ (longer a b ≡ b)
+      of [] b p q e = inr refl
+      of (x ∷ xs) [] p q e = inl refl
+      of (x ∷ xs) (y ∷ ys) p q e = let same = cons_same x y (xs ++ p) (ys ++ q) e in ⊎_elim
+          (λ (t : longer xs ys ≡ xs). inl (ap (λ (l : List A). x ∷ l) t))
+          (λ (t : longer xs ys ≡ ys). inr (λ i. same.0 i ∷ t i))
+          (of xs ys p q same.1)
+
+pub among_head : (n : ℕ) (xs : List ℕ) → 0 < length xs → get_or xs 0 0 ≡ n → IsAmong n xs
+among_head n [] low e = absurd (omega arith)
+among_head n (x ∷ xs) low e = inl e
+
+pub among_first : (n : ℕ) (xs ys : List ℕ) → IsAmong n xs → IsAmong n (xs ++ ys)
+among_first n [] ys h = absurd h
+among_first n (x ∷ xs) ys (inl e) = inl e
+among_first n (x ∷ xs) ys (inr h) = inr (among_first n xs ys h)
+
+pub among_second : (n : ℕ) (xs ys : List ℕ) → IsAmong n ys → IsAmong n (xs ++ ys)
+among_second n [] ys h = h
+among_second n (x ∷ xs) ys h = inr (among_second n xs ys h)
+
+pub among_either : (n : ℕ) (xs ys : List ℕ) → IsAmong n (xs ++ ys) → IsAmong n xs ⊎ IsAmong n ys
+among_either n [] ys h = inr h
+among_either n (x ∷ xs) ys (inl e) = inl (inl e)
+among_either n (x ∷ xs) ys (inr h) = ⊎_elim (λ (t : IsAmong n xs). inl (inr t)) (λ (t : IsAmong n ys). inr t) (among_either n xs ys h)
+
+module _ {E : Type 0} where
+  ticket_count_le : (s : Stage E) → ticket_count s ≤ 1
+  ticket_count_le Idle = omega arith
+  ticket_count_le (Waits u) = omega arith
+  ticket_count_le (Served u) = omega arith
+  ticket_count_le (Joined _ _ _ _) = omega arith
+
+module _ {E G : Type 0} where
+  pub tickets_out_set : (views : List (View E G)) (id : ℕ) (v w : View E G) → get_elem? views id ≡ some v → tickets_out (set views id w) + ticket_count v.stage ≡ tickets_out views + ticket_count w.stage
+  tickets_out_set [] id v w e = absurd (some-ne-none v (sym e))
+  tickets_out_set (x ∷ xs) zero v w e = let same : ticket_count x.stage ≡ ticket_count v.stage = ap (λ (u : View E G). ticket_count u.stage) (some-injective x v e) in omega arith
+  tickets_out_set (x ∷ xs) (suc id) v w e = let t = tickets_out_set xs id v w e in omega arith
+
+  pub tickets_out_le : (views : List (View E G)) → tickets_out views ≤ length views
+  tickets_out_le [] = omega arith
+  tickets_out_le (x ∷ xs) = let t = tickets_out_le xs in let u = ticket_count_le x.stage in omega arith
+
+  pub tickets_out_append : (views : List (View E G)) (w : View E G) → tickets_out (views ++ w ∷ []) ≡ tickets_out views + ticket_count w.stage
+  tickets_out_append [] w = omega arith
+  tickets_out_append (x ∷ xs) w = let t = tickets_out_append xs w in omega arith
+
+  pub at_low : (views : List (View E G)) (j : ℕ) (v : View E G) → get_elem? views j ≡ some v → j < length views
+  at_low [] j v e = absurd (some-ne-none v (sym e))
+  at_low (x ∷ xs) zero v e = omega arith
+  at_low (x ∷ xs) (suc j) v e = let t = at_low xs j v e in omega arith

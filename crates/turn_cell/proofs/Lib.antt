@@ -1,0 +1,5 @@
+pub mod HistoryLemmas
+pub mod StepLemmas
+pub mod SeatLemmas
+pub mod TurnLemmas
+pub mod JoinLemmas

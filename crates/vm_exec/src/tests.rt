@@ -1,0 +1,50 @@
+use crate::{Machine, Step};
+use glulx_image::Image;
+use std::test::Fail;
+
+// A story with code from byte 36 on, one page in the file, and a page of RAM behind it.
+fn story(code: &[u8]) -> [u8; 256] {
+    let header =
+        *b"Glul\x00\x03\x01\x03\x00\x00\x01\x00\x00\x00\x01\x00\x00\x00\x02\x00\x00\x00\x01\x00\x00\x00\x00\x24\x00\x00\x00\x00\x00\x00\x00\x00";
+    let mut file = [0; 256];
+    file[..36].copy_from_slice(&header);
+    for (at, byte) in code.iter().enumerate() {
+        if at < 220 {
+            file[36 + at] = *byte;
+        }
+    }
+    file
+}
+
+// A function without locals: catch stores its token at 0x100 and branches to the throw of 5, after
+// which the story goes on behind the catch and quits.
+#[test]
+fn a_thrown_value_is_stored_where_its_catch_said(rt: HostRuntime) -> Result<(), Fail> {
+    let file = story(b"\xC1\x00\x00\x32\x16\x01\x00\x04\x81\x20\x33\x61\x05\x01\x00");
+    let image = Image::parse(&file).ok().ok_or("an image")?;
+    let mut machine = Machine::start(rt.alloc(), &image, 1).ok().ok_or("a start")?;
+    let mut quits = false;
+    for _ in 0..3 {
+        if machine.step(rt.alloc(), 1).ok().ok_or("a step")? == Step::Quit {
+            quits = true;
+        }
+    }
+    assert!(rt; quits);
+    assert_eq!(rt; machine.memory.read4(0x100).ok(), Some(5));
+    Ok(())
+}
+
+// copyb of -1 pushes 0xFF; a character goes out under system 2; a step without ticks faults.
+#[test]
+fn a_byte_is_pushed_without_its_sign(rt: HostRuntime) -> Result<(), Fail> {
+    let file = story(b"\xC1\x00\x00\x42\x81\xFF\x81\x49\x01\x02\x70\x01\x48\x81\x20");
+    let image = Image::parse(&file).ok().ok_or("an image")?;
+    let mut machine = Machine::start(rt.alloc(), &image, 1).ok().ok_or("a start")?;
+    assert!(rt; machine.step(rt.alloc(), 0).is_err());
+    machine.step(rt.alloc(), 1).ok().ok_or("copyb")?;
+    assert_eq!(rt; machine.stack.peek(0).ok(), Some(255));
+    machine.step(rt.alloc(), 1).ok().ok_or("setiosys")?;
+    assert_eq!(rt; machine.step(rt.alloc(), 1).ok(), Some(Step::Out(72, 1)));
+    machine.finish(rt.alloc(), 0).ok().ok_or("finish")?;
+    Ok(())
+}

@@ -1,0 +1,4 @@
+pub mod HeapLemmas
+pub mod FitLemmas
+pub mod HistoryLemmas
+mod StandardFacts

@@ -1,0 +1,4 @@
+pub mod HeapMap
+pub mod FirstFit
+pub mod Allocation
+pub mod History
