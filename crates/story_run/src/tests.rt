@@ -122,3 +122,14 @@ fn a_start_function_of_another_type_is_a_fault(rt: HostRuntime) -> Result<(), Fa
     assert_eq!(rt; shows.as_slice(), b"E fault 12\n".as_slice());
     Ok(())
 }
+
+#[test]
+fn a_turn_that_never_waits_ends_with_its_budget(rt: HostRuntime) -> Result<(), Fail> {
+    let mut bytes = file(&HI);
+    bytes[39] = 0x20;
+    bytes[40] = 0x01;
+    bytes[41] = 0xFF;
+    let shows = shows_of(rt.alloc(), &bytes, 50_000_000, &[])?;
+    assert_eq!(rt; shows.as_slice(), b"E fault 24\n".as_slice());
+    Ok(())
+}
