@@ -1,5 +1,5 @@
 -- What a disk holds after its calls, and the images of all moments since one of them (own).
-use Rattle.std.specs.Prelude.{ℕ, ◌≤◌, Bool, List, [], ◌∷◌, length, take}
+use Rattle.std.specs.Prelude.{ℕ, ◌≤◌, List, [], ◌∷◌, length, take}
 use Rattle.disk_model.specs.declared.call.Call.{Call}
 use Rattle.disk_model.specs.declared.call.Call.TheVariants.{Look, Write, Sync}
 use Rattle.disk_model.specs.DiskState.{DiskState, IsImage, settled, after_write, after_sync}

@@ -79,7 +79,8 @@ Counts result before now =
     MatchResult result (λ _. now ≡ before) (λ _. (before ≤ now) × Rose before now)
 
 -- what no call changes
-pub record SameDisk {D : Type 0} (tells : D → Bool) (room label : D → ℕ) (old new : D) : Type 0 where
+pub record SameDisk
+    {D : Type 0} (tells : D → Bool) (room label : D → ℕ) (old new : D) : Type 0 where
   pub telling : tells new ≡ tells old
   pub size : room new ≡ room old
   pub name : label new ≡ label old

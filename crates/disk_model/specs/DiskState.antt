@@ -1,4 +1,4 @@
--- What a disk holds: the bytes that a sync left, those that it reads as, the ranges written since (own).
+-- What a disk holds: synced bytes, those that it reads as, and the ranges written since (own).
 use Rattle.std.specs.Prelude.{◌≡◌, ◌⊎◌, ℕ, ◌+◌, ◌^◌, ◌<◌, ◌≤◌, max, List, [], ◌∷◌, ◌++◌, length}
 use Rattle.std.specs.Prelude.{Bool, false, nat_le, nat_lt, ◌&&◌, ◌||◌, if◌then◌else◌, slice_index}
 use Rattle.disk_model.specs.Disk.{written}
@@ -28,13 +28,14 @@ abbrev pub touched : ℕ → Ranges → Bool
 touched i [] = false
 touched i (r ∷ ranges) = (nat_le r.0 i && nat_lt i r.1) || touched i ranges
 
--- An image that a stop may leave: the synced bytes outside the ranges, and anything in them. Its size
--- is from the synced one to the greatest end written.
+-- An image that a stop may leave: the synced bytes outside the ranges, and anything in them. Its
+-- size is from the synced one to the greatest end written.
 pub record IsImage (p : DiskState) (c : List ℕ) : Type 0 where
   pub no_shorter : length p.synced ≤ length c
   pub no_longer : length c ≤ greatest_end p.ranges (length p.synced)
   pub same :
-      (i : ℕ) → i < length p.synced → Untouched i p.ranges → slice_index c i ≡ slice_index p.synced i
+      (i : ℕ) → i < length p.synced → Untouched i p.ranges
+      → slice_index c i ≡ slice_index p.synced i
 
 -- all of it synced, and nothing written since
 abbrev pub settled : List ℕ → DiskState
@@ -44,8 +45,8 @@ settled start = record { synced = start; seen = start; ranges = [] }
 abbrev pub with_range : DiskState → List ℕ → ℕ × ℕ → DiskState
 with_range p seen r = record { synced = p.synced; seen = seen; ranges = p.ranges ++ r ∷ [] }
 
--- After a write. One that is good puts its piece; one that fails has a range too; past the room, which
--- is 2^40 bytes, nothing happens.
+-- After a write. One that is good puts its piece; one that fails has a range too; past the room,
+-- which is 2^40 bytes, nothing happens.
 abbrev pub after_write : Bool → ℕ → List ℕ → DiskState → DiskState
 after_write good at piece p =
     if nat_le (at + length piece) (2 ^ 40)

@@ -1,13 +1,14 @@
--- Laws of a disk's images: a write tears them, a sync leaves one, what is read is one of them (own).
-use Rattle.std.proofs.Common.{◌≡◌, ◌⊎◌, inl, inr, ⊎_elim, ℕ, ◌+◌, ◌^◌, ◌<◌, ◌≤◌, min, max, Bool, true, false}
-use Rattle.std.proofs.Common.{List, [], ◌∷◌, ◌++◌, length, get_or, map, refl, sym, ◌∙◌, ap, subst, arith}
+-- Laws of a disk's images: a write tears them, a sync leaves one, what is read is one (own).
+use Rattle.std.proofs.Common.{◌≡◌, ◌⊎◌, inl, inr, ⊎_elim, ℕ, ◌+◌, ◌^◌, ◌<◌, ◌≤◌, min, max, Bool}
+use Rattle.std.proofs.Common.{true, false, List, [], ◌∷◌, ◌++◌, length, get_or, map, refl, sym}
+use Rattle.std.proofs.Common.{◌∙◌, ap, subst, arith}
 use Rattle.std.specs.Prelude.{nat_le, nat_lt, if◌then◌else◌, ◌&&◌}
 use Rattle.std.specs.List.{range_with_len}
 use Rattle.std.proofs.lemmas.List.{ext_get_or}
 use Rattle.std.proofs.lemmas.List.FromFn.{length-map-range_with_len, get_or-map-range_with_len}
 use Rattle.std.proofs.lemmas.Bool.{cases_lt, cases_Bool}
 use Rattle.std.proofs.lemmas.Bool.Decides.{nat_tests}
-use Rattle.disk_model.specs.Disk.{written, Torn, AfterWrite}
+use Rattle.disk_model.specs.Disk.{written, AfterWrite}
 use Rattle.disk_model.specs.DiskState.{DiskState, IsImage, greatest_end, Untouched, settled}
 use Rattle.disk_model.specs.DiskState.{with_range, after_write, after_sync}
 use Rattle.disk_model.specs.RangeLaws.{greatest_end-push, greatest_end_least}

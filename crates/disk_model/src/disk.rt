@@ -48,14 +48,16 @@ pub trait Disk {
 
     /// How many bytes it holds.
     fn size(&mut self) -> Result<u64, Failed>
-        ensures ok { IfOk result (λ n. n ≤ room self.old × (IsTrue (tells self.old) → n ≡ length (seen self.old))) }
+        ensures ok { IfOk result (λ n. (n ≤ room self.old)
+            × (IsTrue (tells self.old) → n ≡ length (seen self.old))) }
         ensures works { IsTrue (steady self.old) → IsOk result × IsTrue (steady self.new) }
         ensures err { IsTrue (fails_next self.old) → IsErr result }
         ensures cause { Counts result (faults self.old) (faults self.new) }
         ensures seen { OnOk result (IsTrue (tells self.old) → seen self.new ≡ seen self.old) }
-        ensures crash { IsTrue (tells self.old) → NoneNew (may_leave self.old) (may_leave self.new) }
-        ensures time { Elapses (moment self.old) (moment self.new) (left_since self.old) (left_since self.new)
-            (may_leave self.new) }
+        ensures crash { IsTrue (tells self.old)
+            → NoneNew (may_leave self.old) (may_leave self.new) }
+        ensures time { Elapses (moment self.old) (moment self.new)
+            (left_since self.old) (left_since self.new) (may_leave self.new) }
         ensures reach { reach self.new ≡ reach self.old }
         ensures kept { SameDisk tells room label self.old self.new };
 
@@ -66,40 +68,45 @@ pub trait Disk {
         ensures err { IsTrue (fails_next self.old) → IsErr result }
         ensures cause { Counts result (faults self.old) (faults self.new) }
         ensures seen { OnOk result (IsTrue (tells self.old) → seen self.new ≡ seen self.old) }
-        ensures crash { IsTrue (tells self.old) → NoneNew (may_leave self.old) (may_leave self.new) }
-        ensures time { Elapses (moment self.old) (moment self.new) (left_since self.old) (left_since self.new)
-            (may_leave self.new) }
+        ensures crash { IsTrue (tells self.old)
+            → NoneNew (may_leave self.old) (may_leave self.new) }
+        ensures time { Elapses (moment self.old) (moment self.new)
+            (left_since self.old) (left_since self.new) (may_leave self.new) }
         ensures reach { reach self.new ≡ reach self.old }
         ensures kept { SameDisk tells room label self.old self.new };
 
     /// Puts the piece at this place, with zeros where that leaves a gap past the old end.
     /// A write that fails may have put any bytes in its range, but none past the room.
     fn write_at(&mut self, place: u64, piece: &[u8]) -> Result<(), Failed>
-        ensures ok { OnOk result (IsTrue (tells self.old) → seen self.new ≡ written (seen self.old) place piece.now) }
+        ensures ok { OnOk result (IsTrue (tells self.old)
+            → seen self.new ≡ written (seen self.old) place piece.now) }
         ensures works { IsTrue (steady self.old)
             → (place + length piece.now ≤ room self.old → IsOk result) × IsTrue (steady self.new) }
         ensures err { IsTrue (fails_next self.old) → IsErr result }
         ensures full { room self.old < place + length piece.now
-            → IsErr result × (IsTrue (tells self.old) → NoneNew (may_leave self.old) (may_leave self.new)) }
+            → IsErr result
+            × (IsTrue (tells self.old) → NoneNew (may_leave self.old) (may_leave self.new)) }
         ensures cause { Counts result (faults self.old) (faults self.new) }
         ensures crash { IsTrue (tells self.old)
             → Follows (Torn place (length piece.now)) (may_leave self.old) (may_leave self.new) }
-        ensures time { Elapses (moment self.old) (moment self.new) (left_since self.old) (left_since self.new)
-            (may_leave self.new) }
+        ensures time { Elapses (moment self.old) (moment self.new)
+            (left_since self.old) (left_since self.new) (may_leave self.new) }
         ensures reach { reach self.new ≡ max (reach self.old) (place + length piece.now) }
         ensures kept { SameDisk tells room label self.old self.new };
 
     /// After one that answers Ok a stop leaves what a read gives, and nothing else.
     /// One that fails makes no image, though a read may give other bytes from then on.
     fn sync(&mut self) -> Result<(), Failed>
-        ensures ok { OnOk result (IsTrue (tells self.old) → Only (seen self.old) (may_leave self.new)) }
+        ensures ok { OnOk result (IsTrue (tells self.old)
+            → Only (seen self.old) (may_leave self.new)) }
         ensures works { IsTrue (steady self.old) → IsOk result × IsTrue (steady self.new) }
         ensures err { IsTrue (fails_next self.old) → IsErr result }
         ensures cause { Counts result (faults self.old) (faults self.new) }
         ensures seen { OnOk result (IsTrue (tells self.old) → seen self.new ≡ seen self.old) }
-        ensures crash { IsTrue (tells self.old) → NoneNew (may_leave self.old) (may_leave self.new) }
-        ensures time { Elapses (moment self.old) (moment self.new) (left_since self.old) (left_since self.new)
-            (may_leave self.new) }
+        ensures crash { IsTrue (tells self.old)
+            → NoneNew (may_leave self.old) (may_leave self.new) }
+        ensures time { Elapses (moment self.old) (moment self.new)
+            (left_since self.old) (left_since self.new) (may_leave self.new) }
         ensures reach { reach self.new ≡ reach self.old }
         ensures kept { SameDisk tells room label self.old self.new };
 
@@ -111,7 +118,8 @@ pub trait Disk {
     ghost seen_may_stay: { (d : Self) → may_leave d (seen d) };
 
     /// This moment is one of those since an earlier one.
-    ghost counts_now: { (d : Self) (t : ℕ) (c : List ℕ) → t ≤ moment d → may_leave d c → left_since d t c };
+    ghost counts_now: { (d : Self) (t : ℕ) (c : List ℕ)
+        → t ≤ moment d → may_leave d c → left_since d t c };
 
     /// Since this moment there is no other.
     ghost only_now: { (d : Self) (c : List ℕ) → left_since d (moment d) c → may_leave d c };

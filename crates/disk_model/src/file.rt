@@ -10,8 +10,11 @@ use std::os::unix::fs::FileExt;
 
 const ROOM: u64 = 1 << 40;
 
-/// An open file, of which nobody else writes. It buffers nothing: a size, a write and a sync are one
+/// An open file that nobody else writes. It buffers nothing: a size, a write and a sync are one
 /// system call each, and so is a read, but for one more where it goes past the end.
+///
+/// A call fails where the system's does, where a write puts less than was asked or would pass 2^40
+/// bytes, and where the file is longer than that.
 #[derive(Drop)]
 pub struct FileDisk {
     file: File,

@@ -21,7 +21,8 @@ impl FlatDisk {
 
     /// An empty disk of this many bytes of room, all of them reserved here.
     pub fn new(alloc: Global, room: u32) -> Result<FlatDisk, AllocError>
-        ensures value { IfOk result (λ d. (flat_room d ≡ room) × (flat_reach d ≡ 0) × (flat_faults d ≡ 0)) }
+        ensures value { IfOk result (λ d.
+            (flat_room d ≡ room) × (flat_reach d ≡ 0) × (flat_faults d ≡ 0)) }
     {
         let bytes = vec![in alloc; 0; room as usize]?;
         Ok(FlatDisk {

@@ -38,7 +38,8 @@ impl MemDisk {
 
     /// An empty disk of which no call is to fail.
     pub fn new(alloc: Global) -> MemDisk
-        ensures value { (state_in result ≡ settled []) × (calls_in result ≡ []) × (failing_in result ≡ [])
+        ensures value { (state_in result ≡ settled []) × (calls_in result ≡ [])
+            × (failing_in result ≡ [])
             × (faults_in result ≡ 0) × (reach_in result ≡ 0) }
     {
         MemDisk {
@@ -59,7 +60,8 @@ impl MemDisk {
     pub fn fail_at(&mut self, call: u64) -> Result<(), AllocError>
         ensures value { failing_in self.new
             ≡ (if is_ok result then failing_in self.old ++ call ∷ [] else failing_in self.old) }
-        ensures kept { (calls_in self.new ≡ calls_in self.old) × (state_in self.new ≡ state_in self.old)
+        ensures kept { (calls_in self.new ≡ calls_in self.old)
+            × (state_in self.new ≡ state_in self.old)
             × (faults_in self.new ≡ faults_in self.old) × (reach_in self.new ≡ reach_in self.old) }
     {
         self.failing.push(call)?;
@@ -70,13 +72,16 @@ impl MemDisk {
 impl MemDisk {
     ghost use Rattle.disk_model.specs.Memory.{state_in, calls_in, failing_in, faults_in};
 
-    /// A disk that holds one of the images that a stop at this moment may leave, drawn from a number,
-    /// of which the lowest five bits choose. Nothing is pending in it, and none of its calls is to
-    /// fail.
+    /// A disk that holds one of the images that a stop at this moment may leave, drawn from a
+    /// number by its lowest five bits. Nothing is pending in it, and none of its calls is to fail.
+    ///
+    /// An odd choice has the greatest size. Its next four bits keep, at the places that are 0, 1, 2
+    /// and 3 modulo 4, what was written.
     pub fn after_stop(&self, alloc: Global, choice: u64) -> Result<MemDisk, AllocError>
         ensures ok { IfOk result (λ d. IsImage (state_in self.now) (state_in d).seen) }
         ensures durable { IfOk result (λ d. state_in d ≡ settled (state_in d).seen) }
-        ensures fresh { IfOk result (λ d. (calls_in d ≡ []) × (failing_in d ≡ []) × (faults_in d ≡ 0)) }
+        ensures fresh { IfOk result (λ d.
+            (calls_in d ≡ []) × (failing_in d ≡ []) × (faults_in d ≡ 0)) }
     {
         let start = draw_image(alloc, &self.synced, &self.bytes, &self.ranges, choice)?;
         let bytes = start.as_slice().to_vec(alloc)?;
@@ -96,7 +101,8 @@ impl MemDisk {
 
     // The next call is one that is to fail.
     fn is_failing(&self) -> bool
-        ensures { result ≡ list_any (λ call. call == length self.now.calls.items) self.now.failing.items }
+        ensures { result
+            ≡ list_any (λ call. call == length self.now.calls.items) self.now.failing.items }
     {
         self.failing.contains(&(self.calls.len() as u64))
     }

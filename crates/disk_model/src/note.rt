@@ -33,7 +33,8 @@ fn next_bytes(
 
 /// Notes a call that changes nothing.
 pub fn note_look(calls: &mut Vec<Call>) -> Result<(), AllocError>
-    ensures state { (start : List ℕ) → state_after start calls.new.items ≡ state_after start calls.old.items }
+    ensures state { (start : List ℕ)
+        → state_after start calls.new.items ≡ state_after start calls.old.items }
     ensures time { (start : List ℕ)
         → Elapses (length calls.old.items) (length calls.new.items)
         (LeftSince start calls.old.items) (LeftSince start calls.new.items)
@@ -79,7 +80,8 @@ pub fn put(
         → Elapses (length calls.old.items) (length calls.new.items)
         (LeftSince start calls.old.items) (LeftSince start calls.new.items)
         (IsImage (state_after start calls.new.items)) }
-    ensures err { OnErr result ((bytes.new.items ≡ bytes.old.items) × (ranges.new.items ≡ ranges.old.items)
+    ensures err { OnErr result ((bytes.new.items ≡ bytes.old.items)
+        × (ranges.new.items ≡ ranges.old.items)
         × (calls.new.items ≡ calls.old.items)) }
 {
     let piece_kept = piece.to_vec(alloc)?;

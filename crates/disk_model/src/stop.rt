@@ -63,8 +63,8 @@ pub fn draw_image(
     ranges: &[(u64, u64)],
     choice: u64,
 ) -> Result<Vec<u8>, AllocError>
-    ensures { IfOk result (λ image.
-        IsImage (record { synced = synced.now; seen = seen.now; ranges = ranges.now }) image.items) }
+    ensures { IfOk result (λ image. IsImage
+        (record { synced = synced.now; seen = seen.now; ranges = ranges.now }) image.items) }
 {
     let end = image_size(ranges, synced.len() as u64, choice);
     let mut image = Vec::new(alloc);

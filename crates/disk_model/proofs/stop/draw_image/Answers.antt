@@ -1,5 +1,5 @@
 use Rattle.std.proofs.Common.{arith}
-use Rattle.disk_model.specs.RangeLaws.{greatest_end_least, untouched_false}
+use Rattle.disk_model.specs.RangeLaws.{untouched_false}
 use Rattle.disk_model.proofs.stop.draw_image.Goals as goal
 
 pub returns : goal.returns

@@ -1,4 +1,4 @@
-use Rattle.std.proofs.Common.{arith, rules, ap, sym, ◌∙◌, subst, length, ◌≤◌, ◌≡◌, ◌^◌, List, ℕ}
+use Rattle.std.proofs.Common.{arith, rules, sym, ◌∙◌, subst, length, ◌≤◌, ◌≡◌, ◌^◌, List, ℕ}
 use Rattle.disk_model.specs.DiskState.{DiskState, greatest_end}
 use Rattle.disk_model.specs.Calls.{state_after}
 use Rattle.disk_model.specs.CallLaws.{well_of}

@@ -1,4 +1,4 @@
-use Rattle.std.proofs.Common.{◌≡◌, ap, sym, ◌∙◌, arith, length, List, ℕ}
+use Rattle.std.proofs.Common.{ap, arith, length}
 use Rattle.disk_model.specs.CallLaws.{well_of}
 use Rattle.disk_model.proofs.memory.MemDiskDisk.size.Goals as goal
 

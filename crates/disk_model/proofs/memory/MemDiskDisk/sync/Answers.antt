@@ -1,4 +1,4 @@
-use Rattle.std.proofs.Common.{◌≡◌, ap, sym, subst, ◌∙◌, arith, Bool, length, List, ℕ}
+use Rattle.std.proofs.Common.{subst, Bool}
 use Rattle.std.specs.Prelude.{not}
 use Rattle.disk_model.specs.DiskState.{DiskState, IsImage, after_sync}
 use Rattle.disk_model.specs.Calls.{state_after}
