@@ -1,0 +1,58 @@
+-- What a disk holds: synced bytes, those that it reads as, and the ranges written since (own).
+use Rattle.std.specs.Prelude.{◌≡◌, ◌⊎◌, ℕ, ◌+◌, ◌^◌, ◌<◌, ◌≤◌, max, List, [], ◌∷◌, ◌++◌, length}
+use Rattle.std.specs.Prelude.{Bool, false, nat_le, nat_lt, ◌&&◌, ◌||◌, if◌then◌else◌, slice_index}
+use Rattle.disk_model.specs.Disk.{written}
+
+-- a range is its place and its end
+abbrev pub Ranges : Type 0
+Ranges = List (ℕ × ℕ)
+
+-- the bytes as a sync left them, as they are read, and the ranges written since that sync
+pub record DiskState : Type 0 where
+  pub synced : List ℕ
+  pub seen : List ℕ
+  pub ranges : Ranges
+
+-- the greatest of this size and the ends of the ranges
+abbrev pub greatest_end : Ranges → ℕ → ℕ
+greatest_end [] n = n
+greatest_end (r ∷ ranges) n = max r.1 (greatest_end ranges n)
+
+-- no range has this place
+abbrev pub Untouched : ℕ → Ranges → Type 0
+Untouched i [] = Unit {0}
+Untouched i (r ∷ ranges) = ((i < r.0) ⊎ (r.1 ≤ i)) × Untouched i ranges
+
+-- the test whether a range has this place
+abbrev pub touched : ℕ → Ranges → Bool
+touched i [] = false
+touched i (r ∷ ranges) = (nat_le r.0 i && nat_lt i r.1) || touched i ranges
+
+-- An image that a stop may leave: the synced bytes outside the ranges, and anything in them. Its
+-- size is from the synced one to the greatest end written.
+pub record IsImage (p : DiskState) (c : List ℕ) : Type 0 where
+  pub no_shorter : length p.synced ≤ length c
+  pub no_longer : length c ≤ greatest_end p.ranges (length p.synced)
+  pub same :
+      (i : ℕ) → i < length p.synced → Untouched i p.ranges
+      → slice_index c i ≡ slice_index p.synced i
+
+-- all of it synced, and nothing written since
+abbrev pub settled : List ℕ → DiskState
+settled start = record { synced = start; seen = start; ranges = [] }
+
+-- with one range more, and read as these bytes
+abbrev pub with_range : DiskState → List ℕ → ℕ × ℕ → DiskState
+with_range p seen r = record { synced = p.synced; seen = seen; ranges = p.ranges ++ r ∷ [] }
+
+-- After a write. One that is good puts its piece; one that fails has a range too; past the room,
+-- which is 2^40 bytes, nothing happens.
+abbrev pub after_write : Bool → ℕ → List ℕ → DiskState → DiskState
+after_write good at piece p =
+    if nat_le (at + length piece) (2 ^ 40)
+    then with_range p (if good then written p.seen at piece else p.seen) (at, at + length piece)
+    else p
+
+-- after a sync: one that fails changes nothing
+abbrev pub after_sync : Bool → DiskState → DiskState
+after_sync good p = if good then settled p.seen else p

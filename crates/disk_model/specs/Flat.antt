@@ -1,0 +1,15 @@
+-- A disk in a fixed room: what its fields say (own).
+use Rattle.std.specs.Prelude.{ℕ, length}
+use Rattle.disk_model.specs.declared.flat.FlatDisk.{FlatDisk}
+
+-- how many bytes it may hold
+abbrev pub flat_room : FlatDisk → ℕ
+flat_room d = length d.bytes.items
+
+-- the greatest end of any write asked of it
+abbrev pub flat_reach : FlatDisk → ℕ
+flat_reach d = d.reach
+
+-- how often a call has failed
+abbrev pub flat_faults : FlatDisk → ℕ
+flat_faults d = d.faults

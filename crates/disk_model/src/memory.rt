@@ -1,0 +1,219 @@
+//! A disk in memory, for tests and models: it fails where it is told to, and may stop at any call.
+
+ghost use Rattle.std.specs.Prelude.{◌≡◌, ◌+◌, ◌≤◌, ◌<◌, ◌^◌, ◌++◌, [], ◌∷◌, length, Bool};
+ghost use Rattle.std.specs.Prelude.{◌==◌, if◌then◌else◌, is_ok, IfOk};
+ghost use Rattle.std.specs.List.{list_any};
+ghost use Rattle.disk_model.specs.DiskState.{IsImage, settled};
+ghost use Rattle.disk_model.specs.Calls.{state_after, LeftSince};
+
+use crate::call::Call;
+use crate::note::{note_look, note_sync, put, read_into};
+use crate::stop::draw_image;
+use crate::{Disk, Failed};
+use std::alloc::{AllocError, Global};
+
+const ROOM: u64 = 1 << 40;
+
+/// A disk in memory of at most 2^40 bytes. It keeps all calls, so that a stop may leave all that a
+/// disk may. A call that finds no memory fails.
+#[derive(Drop)]
+pub struct MemDisk {
+    alloc: Global,
+    start: Vec<u8>,
+    calls: Vec<Call>,
+    failing: Vec<u64>,
+    bytes: Vec<u8>,
+    synced: Vec<u8>,
+    ranges: Vec<(u64, u64)>,
+    reach: u128,
+    faults: u64,
+    ghost small: { length start.items ≤ 2 ^ 40 },
+    ghost reads: { bytes.items ≡ (state_after start.items calls.items).seen },
+    ghost holds: { synced.items ≡ (state_after start.items calls.items).synced },
+    ghost writes: { ranges.items ≡ (state_after start.items calls.items).ranges },
+}
+
+impl MemDisk {
+    ghost use Rattle.disk_model.specs.Memory.{state_in, calls_in, failing_in, faults_in, reach_in};
+
+    /// An empty disk of which no call is to fail.
+    pub fn new(alloc: Global) -> MemDisk
+        ensures value { (state_in result ≡ settled []) × (calls_in result ≡ [])
+            × (failing_in result ≡ [])
+            × (faults_in result ≡ 0) × (reach_in result ≡ 0) }
+    {
+        MemDisk {
+            alloc,
+            start: Vec::new(alloc),
+            calls: Vec::new(alloc),
+            failing: Vec::new(alloc),
+            bytes: Vec::new(alloc),
+            synced: Vec::new(alloc),
+            ranges: Vec::new(alloc),
+            reach: 0,
+            faults: 0,
+        }
+    }
+
+    /// The call of this number is to fail. Calls of the disk are counted from 0, but for `faults`,
+    /// and for those that found no memory.
+    pub fn fail_at(&mut self, call: u64) -> Result<(), AllocError>
+        ensures value { failing_in self.new
+            ≡ (if is_ok result then failing_in self.old ++ call ∷ [] else failing_in self.old) }
+        ensures kept { (calls_in self.new ≡ calls_in self.old)
+            × (state_in self.new ≡ state_in self.old)
+            × (faults_in self.new ≡ faults_in self.old) × (reach_in self.new ≡ reach_in self.old) }
+    {
+        self.failing.push(call)?;
+        Ok(())
+    }
+}
+
+impl MemDisk {
+    ghost use Rattle.disk_model.specs.Memory.{state_in, calls_in, failing_in, faults_in};
+
+    /// A disk that holds one of the images that a stop at this moment may leave, drawn from a
+    /// number by its lowest five bits. Nothing is pending in it, and none of its calls is to fail.
+    ///
+    /// An odd choice has the greatest size. Its next four bits keep, at the places that are 0, 1, 2
+    /// and 3 modulo 4, what was written.
+    pub fn after_stop(&self, alloc: Global, choice: u64) -> Result<MemDisk, AllocError>
+        ensures ok { IfOk result (λ d. IsImage (state_in self.now) (state_in d).seen) }
+        ensures durable { IfOk result (λ d. state_in d ≡ settled (state_in d).seen) }
+        ensures fresh { IfOk result (λ d.
+            (calls_in d ≡ []) × (failing_in d ≡ []) × (faults_in d ≡ 0)) }
+    {
+        let start = draw_image(alloc, &self.synced, &self.bytes, &self.ranges, choice)?;
+        let bytes = start.as_slice().to_vec(alloc)?;
+        let synced = start.as_slice().to_vec(alloc)?;
+        Ok(MemDisk {
+            alloc,
+            start,
+            calls: Vec::new(alloc),
+            failing: Vec::new(alloc),
+            bytes,
+            synced,
+            ranges: Vec::new(alloc),
+            reach: 0,
+            faults: 0,
+        })
+    }
+
+    // The next call is one that is to fail.
+    fn is_failing(&self) -> bool
+        ensures { result
+            ≡ list_any (λ call. call == length self.now.calls.items) self.now.failing.items }
+    {
+        self.failing.contains(&(self.calls.len() as u64))
+    }
+}
+
+impl Disk for MemDisk {
+    ghost use Rattle.std.specs.Prelude.{true, false};
+    ghost use Rattle.std.proofs.Common.{arith};
+    ghost use Rattle.disk_model.specs.CallLaws.{well_of, since_now, only_since};
+
+    ghost tells = { λ _. true };
+
+    ghost steady = { λ _. false };
+
+    ghost fails_next = { λ m. list_any (λ call. call == length m.calls.items) m.failing.items };
+
+    ghost seen = { λ m. (state_after m.start.items m.calls.items).seen };
+
+    ghost may_leave = { λ m. IsImage (state_after m.start.items m.calls.items) };
+
+    ghost moment = { λ m. length m.calls.items };
+
+    ghost left_since = { λ m. LeftSince m.start.items m.calls.items };
+
+    ghost faults = { λ m. m.faults };
+
+    ghost reach = { λ m. m.reach };
+
+    ghost room = { λ _. 2 ^ 40 };
+
+    ghost label = { λ _. 0 };
+
+    fn size(&mut self) -> Result<u64, Failed> {
+        let good = !self.is_failing();
+        let noted = note_look(&mut self.calls);
+        if noted.is_err() || !good {
+            self.faults = self.faults.saturating_add(1);
+            return Err(Failed);
+        }
+        Ok(self.bytes.len() as u64)
+    }
+
+    fn read_at(&mut self, place: u64, into: &mut [u8]) -> Result<(), Failed> {
+        let good = !self.is_failing();
+        let noted = note_look(&mut self.calls);
+        if noted.is_err() || !good {
+            self.faults = self.faults.saturating_add(1);
+            return Err(Failed);
+        }
+        read_into(&self.bytes, place, into);
+        Ok(())
+    }
+
+    fn write_at(&mut self, place: u64, piece: &[u8]) -> Result<(), Failed> {
+        let good = !self.is_failing();
+        let end = place as u128 + piece.len() as u128;
+        self.reach = self.reach.max(end);
+        if end > ROOM as u128 {
+            let _ = note_look(&mut self.calls);
+            self.faults = self.faults.saturating_add(1);
+            return Err(Failed);
+        }
+        let Ok(()) = put(
+            self.alloc,
+            &mut self.bytes,
+            &mut self.ranges,
+            &mut self.calls,
+            place,
+            piece,
+            good,
+        ) else {
+            self.faults = self.faults.saturating_add(1);
+            return Err(Failed);
+        };
+        if !good {
+            self.faults = self.faults.saturating_add(1);
+            return Err(Failed);
+        }
+        Ok(())
+    }
+
+    fn sync(&mut self) -> Result<(), Failed> {
+        let good = !self.is_failing();
+        let Ok(synced) = self.bytes.to_vec(self.alloc) else {
+            self.faults = self.faults.saturating_add(1);
+            return Err(Failed);
+        };
+        let Ok(()) = note_sync(&mut self.calls, good) else {
+            self.faults = self.faults.saturating_add(1);
+            return Err(Failed);
+        };
+        if !good {
+            self.faults = self.faults.saturating_add(1);
+            return Err(Failed);
+        }
+        self.synced = synced;
+        self.ranges.clear();
+        Ok(())
+    }
+
+    fn faults(&self) -> u64 {
+        self.faults
+    }
+
+    ghost seen_may_stay = { λ m. (well_of m.start.items m.calls.items m.small).stays };
+
+    ghost counts_now = { λ m. since_now m.start.items m.calls.items };
+
+    ghost only_now = { λ m. only_since m.start.items m.calls.items };
+
+    ghost size_within = { λ m told. (well_of m.start.items m.calls.items m.small).within };
+
+    ghost room_is_small = { λ m. Prim.omega arith };
+}

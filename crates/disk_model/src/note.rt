@@ -1,0 +1,114 @@
+//! The calls of a disk in memory: what each does to its bytes, its ranges and its list of calls.
+
+ghost use Rattle.std.specs.Prelude.{◌≡◌, ℕ, List, ◌+◌, ◌≤◌, ◌<◌, ◌^◌, ◌++◌, [], ◌∷◌, length};
+ghost use Rattle.std.specs.Prelude.{if◌then◌else◌, IfOk, OnOk, OnErr};
+ghost use Rattle.disk_model.specs.Disk.{written, Reads, Elapses};
+ghost use Rattle.disk_model.specs.DiskState.{IsImage, after_write, after_sync};
+ghost use Rattle.disk_model.specs.Calls.{state_after, LeftSince};
+
+use crate::call::Call;
+use std::alloc::{AllocError, Global};
+
+fn next_bytes(
+    alloc: Global,
+    bytes: &[u8],
+    place: usize,
+    piece: &[u8],
+) -> Result<Vec<u8>, AllocError>
+    requires { place + length piece.now < 2 ^ 63 }
+    ensures { IfOk result (λ v. v.items ≡ written bytes.now place piece.now) }
+{
+    let end = place + piece.len();
+    let mut next = bytes.to_vec(alloc)?;
+    if place > next.len() {
+        next.resize(place, 0)?;
+    }
+    next.truncate(place);
+    next.extend_from_slice(piece)?;
+    if end < bytes.len() {
+        next.extend_from_slice(&bytes[end..])?;
+    }
+    Ok(next)
+}
+
+/// Notes a call that changes nothing.
+pub fn note_look(calls: &mut Vec<Call>) -> Result<(), AllocError>
+    ensures state { (start : List ℕ)
+        → state_after start calls.new.items ≡ state_after start calls.old.items }
+    ensures time { (start : List ℕ)
+        → Elapses (length calls.old.items) (length calls.new.items)
+        (LeftSince start calls.old.items) (LeftSince start calls.new.items)
+        (IsImage (state_after start calls.new.items)) }
+{
+    calls.push(Call::Look)?;
+    Ok(())
+}
+
+/// Notes a sync.
+pub fn note_sync(calls: &mut Vec<Call>, good: bool) -> Result<(), AllocError>
+    ensures state { OnOk result ((start : List ℕ)
+        → state_after start calls.new.items ≡ after_sync good (state_after start calls.old.items)) }
+    ensures time { (start : List ℕ)
+        → Elapses (length calls.old.items) (length calls.new.items)
+        (LeftSince start calls.old.items) (LeftSince start calls.new.items)
+        (IsImage (state_after start calls.new.items)) }
+    ensures err { OnErr result (calls.new.items ≡ calls.old.items) }
+{
+    calls.push(Call::Sync { good })?;
+    Ok(())
+}
+
+/// Notes a write, and puts its piece where it is good.
+pub fn put(
+    alloc: Global,
+    bytes: &mut Vec<u8>,
+    ranges: &mut Vec<(u64, u64)>,
+    calls: &mut Vec<Call>,
+    place: u64,
+    piece: &[u8],
+    good: bool,
+) -> Result<(), AllocError>
+    requires { place + length piece.now ≤ 2 ^ 40 }
+    ensures bytes { OnOk result (bytes.new.items
+        ≡ (if good then written bytes.old.items place piece.now else bytes.old.items)) }
+    ensures ranges { OnOk result (ranges.new.items
+        ≡ ranges.old.items ++ (place, place + length piece.now) ∷ []) }
+    ensures state { OnOk result ((start : List ℕ)
+        → state_after start calls.new.items
+        ≡ after_write good place piece.now (state_after start calls.old.items)) }
+    ensures time { (start : List ℕ)
+        → Elapses (length calls.old.items) (length calls.new.items)
+        (LeftSince start calls.old.items) (LeftSince start calls.new.items)
+        (IsImage (state_after start calls.new.items)) }
+    ensures err { OnErr result ((bytes.new.items ≡ bytes.old.items)
+        × (ranges.new.items ≡ ranges.old.items)
+        × (calls.new.items ≡ calls.old.items)) }
+{
+    let piece_kept = piece.to_vec(alloc)?;
+    let next = next_bytes(alloc, bytes, place as usize, piece)?;
+    ranges.reserve(1)?;
+    calls.push(Call::Write {
+        place,
+        piece: piece_kept,
+        good,
+    })?;
+    let _ = ranges.push((place, place + piece.len() as u64));
+    if good {
+        *bytes = next;
+    }
+    Ok(())
+}
+
+/// What stands there, and zeros past the end.
+pub fn read_into(bytes: &[u8], place: u64, into: &mut [u8])
+    ensures { Reads bytes.now place into.new }
+{
+    for (k, byte) in into.iter_mut().enumerate() {
+        let at = place as u128 + k as u128;
+        *byte = if at < bytes.len() as u128 {
+            bytes[at as usize]
+        } else {
+            0
+        };
+    }
+}
