@@ -22,7 +22,7 @@ Makes should (Ok x) = should ≡ Ok x
 Makes should (Err (Fault n)) = should ≡ Err n
 Makes should (Err NoMemory) = Unit {0}
 
--- The same of a call that changes a value and gives a vector, which is seen as the list of its items.
+-- The same of a call that changes a value and gives a vector, which is seen as its list of items.
 abbrev pub Takes : {S A Z : Type 0} → Result (S × List A) ℕ → S → Result (Vec A Z) Trap → Type 0
 Takes should new (Ok v) = should ≡ Ok (new, v.items)
 Takes should new (Err (Fault n)) = should ≡ Err n

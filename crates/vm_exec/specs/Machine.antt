@@ -7,7 +7,8 @@ use Rattle.vm_exec.specs.declared.step.Out.TheVariants as out
 use Rattle.vm_exec.specs.declared.step.Step.{Step}
 use Rattle.vm_exec.specs.declared.step.Step.TheVariants as step
 
--- the memory is whole pages, and the stack is frames, one at least, each on a stub for the one below
+-- the memory is whole pages, and the stack is frames, one at least, each on a stub for the one
+-- below
 pub record IsFit (m : Machine) : Type 0 where
   pub pages : length m.memory.bytes % 256 ≡ 0
   pub frames : Chain m.stack

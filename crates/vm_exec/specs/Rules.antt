@@ -48,9 +48,12 @@ loaded_all n m (x ∷ xs) i args =
 -- a store of n bytes; what is pushed has four
 abbrev pub stored_in : ℕ → Machine → d.Dest → ℕ → Result Machine ℕ
 stored_in n m dest.Discard x = Ok m
-stored_in n m (dest.At a) x = coded (written n m.memory a x) >>= (λ memory. Ok (record m { memory = memory }))
-stored_in n m (dest.Local o) x = stacked (local_set m.stack o n x) >>= (λ stack. Ok (record m { stack = stack }))
-stored_in n m dest.Push x = stacked (pushed m.stack x) >>= (λ stack. Ok (record m { stack = stack }))
+stored_in n m (dest.At a) x =
+    coded (written n m.memory a x) >>= (λ memory. Ok (record m { memory = memory }))
+stored_in n m (dest.Local o) x =
+    stacked (local_set m.stack o n x) >>= (λ stack. Ok (record m { stack = stack }))
+stored_in n m dest.Push x =
+    stacked (pushed m.stack x) >>= (λ stack. Ok (record m { stack = stack }))
 
 abbrev pub stored : Machine → d.Dest → ℕ → Result Machine ℕ
 stored m to x = stored_in 4 m to x
@@ -72,7 +75,8 @@ reads_to m to n at = coded (read n m.memory at) >>= puts m to
 
 -- n bytes are written
 abbrev pub writes : Machine → ℕ → ℕ → ℕ → Rule
-writes m n at x = coded (written n m.memory at x) >>= (λ memory. goes (record m { memory = memory }))
+writes m n at x =
+    coded (written n m.memory at x) >>= (λ memory. goes (record m { memory = memory }))
 
 -- the call stub that stores a result there and goes on behind this instruction
 abbrev pub stub_for : Machine → d.Dest → Stub

@@ -14,7 +14,8 @@ use vm_stack::Stack;
 /// Takes the top values, the top first. Fault 4 where fewer are there.
 pub(crate) fn take_arguments(alloc: Global, stack: &mut Stack, count: u32) -> Result<Vec<u32>, Trap>
     ensures does { Takes (rules.arguments stack.old count) stack.new result }
-    ensures kept { Chain stack.old → HasFrame stack.old → OnOk result (Chain stack.new × HasFrame stack.new) }
+    ensures kept { Chain stack.old → HasFrame stack.old
+        → OnOk result (Chain stack.new × HasFrame stack.new) }
 {
     let mut args = Vec::new(alloc);
     for _ in 0..count {

@@ -15,7 +15,9 @@ use vm_operand::{Array, Dest};
 
 impl<'i> Machine<'i> {
     fn aload(&mut self, from: u32, index: u32, to: Dest) -> Result<Done, Trap>
-        ensures does { Tells (rules.reads_to self.old to 4 (rows.element 4 from index)) self.new result }
+        ensures does { Tells
+            (rules.reads_to self.old to 4 (rows.element 4 from index))
+            self.new result }
         ensures fit { IsFit self.old → IfOk result (λ done. StaysFit self.new done.out) }
     {
         let value = self.memory.read4(from.wrapping_add(index.wrapping_mul(4)))?;
@@ -23,7 +25,9 @@ impl<'i> Machine<'i> {
     }
 
     fn aloads(&mut self, from: u32, index: u32, to: Dest) -> Result<Done, Trap>
-        ensures does { Tells (rules.reads_to self.old to 2 (rows.element 2 from index)) self.new result }
+        ensures does { Tells
+            (rules.reads_to self.old to 2 (rows.element 2 from index))
+            self.new result }
         ensures fit { IsFit self.old → IfOk result (λ done. StaysFit self.new done.out) }
     {
         let value = self.memory.read2(from.wrapping_add(index.wrapping_mul(2)))?;
@@ -31,7 +35,9 @@ impl<'i> Machine<'i> {
     }
 
     fn aloadb(&mut self, from: u32, index: u32, to: Dest) -> Result<Done, Trap>
-        ensures does { Tells (rules.reads_to self.old to 1 (rules.wrap (from + index))) self.new result }
+        ensures does { Tells
+            (rules.reads_to self.old to 1 (rules.wrap (from + index)))
+            self.new result }
         ensures fit { IsFit self.old → IfOk result (λ done. StaysFit self.new done.out) }
     {
         let value = self.memory.read1(from.wrapping_add(index))?;
@@ -47,7 +53,9 @@ impl<'i> Machine<'i> {
     }
 
     fn astore(&mut self, from: u32, index: u32, value: u32) -> Result<Done, Trap>
-        ensures does { Tells (rules.writes self.old 4 (rows.element 4 from index) value) self.new result }
+        ensures does { Tells
+            (rules.writes self.old 4 (rows.element 4 from index) value)
+            self.new result }
         ensures fit { IsFit self.old → IfOk result (λ done. StaysFit self.new done.out) }
     {
         self.memory
@@ -56,7 +64,9 @@ impl<'i> Machine<'i> {
     }
 
     fn astores(&mut self, from: u32, index: u32, value: u32) -> Result<Done, Trap>
-        ensures does { Tells (rules.writes self.old 2 (rows.element 2 from index) value) self.new result }
+        ensures does { Tells
+            (rules.writes self.old 2 (rows.element 2 from index) value)
+            self.new result }
         ensures fit { IsFit self.old → IfOk result (λ done. StaysFit self.new done.out) }
     {
         self.memory
@@ -65,7 +75,9 @@ impl<'i> Machine<'i> {
     }
 
     fn astoreb(&mut self, from: u32, index: u32, value: u32) -> Result<Done, Trap>
-        ensures does { Tells (rules.writes self.old 1 (rules.wrap (from + index)) value) self.new result }
+        ensures does { Tells
+            (rules.writes self.old 1 (rules.wrap (from + index)) value)
+            self.new result }
         ensures fit { IsFit self.old → IfOk result (λ done. StaysFit self.new done.out) }
     {
         self.memory.write1(from.wrapping_add(index), value)?;
@@ -90,7 +102,9 @@ impl<'i> Machine<'i> {
         to: &[Dest; 2],
         left: u64,
     ) -> Result<Done, Trap>
-        ensures does { Does (budgeted left (rows.array_work op self.old (slice_index args.now) (dest_of to.now))) self.new result }
+        ensures does { Does
+            (budgeted left (rows.array_work op self.old (slice_index args.now) (dest_of to.now)))
+            self.new result }
         ensures fit { IsFit self.old → IfOk result (λ done. StaysFit self.new done.out) }
         ensures within { IfOk result (λ done. done.cost ≤ left) }
     {

@@ -50,7 +50,8 @@ impl<'i> Machine<'i> {
     /// The function begins, over what is on the stack.
     fn enter(&mut self, alloc: Global, at: u32, args: &[u32]) -> Result<Done, Trap>
         ensures does { Tells (rules.enters self.old at args.now) self.new result }
-        ensures fit { IsFit self.old → IsReady self.old.stack → IfOk result (λ done. StaysFit self.new done.out) }
+        ensures fit { IsFit self.old → IsReady self.old.stack
+            → IfOk result (λ done. StaysFit self.new done.out) }
     {
         self.pc = call(alloc, &self.memory, &mut self.stack, at, args).map_err(of_flow)?;
         self.tell(Out::Ran)
@@ -72,7 +73,9 @@ impl<'i> Machine<'i> {
     }
 
     fn call_with(&mut self, alloc: Global, at: u32, count: u32, to: Dest) -> Result<Done, Trap>
-        ensures does { Tells (rules.with_arguments self.old count (λ n args. rules.calls n at args to)) self.new result }
+        ensures does { Tells
+            (rules.with_arguments self.old count (λ n args. rules.calls n at args to))
+            self.new result }
         ensures fit { IsFit self.old → IfOk result (λ done. StaysFit self.new done.out) }
     {
         let args = take_arguments(alloc, &mut self.stack, count)?;
@@ -89,7 +92,9 @@ impl<'i> Machine<'i> {
     }
 
     fn tailcall(&mut self, alloc: Global, at: u32, count: u32) -> Result<Done, Trap>
-        ensures does { Tells (rules.with_arguments self.old count (rows.tailcalls at)) self.new result }
+        ensures does { Tells
+            (rules.with_arguments self.old count (rows.tailcalls at))
+            self.new result }
         ensures fit { IsFit self.old → IfOk result (λ done. StaysFit self.new done.out) }
     {
         let args = take_arguments(alloc, &mut self.stack, count)?;
@@ -119,7 +124,9 @@ impl<'i> Machine<'i> {
     }
 
     fn store_length(&mut self, to: Dest) -> Result<(), Trap>
-        ensures does { Changes (rules.stored self.old to (length self.old.stack.bytes)) self.new result }
+        ensures does { Changes
+            (rules.stored self.old to (length self.old.stack.bytes))
+            self.new result }
         ensures fit { IsFit self.old → OnOk result (IsFit self.new) }
     {
         let token = self.stack.length();
@@ -152,7 +159,9 @@ impl<'i> Machine<'i> {
         to: &[Dest; 2],
         left: u64,
     ) -> Result<Done, Trap>
-        ensures does { Does (budgeted left (rows.flow_work op self.old (slice_index args.now) (dest_of to.now))) self.new result }
+        ensures does { Does
+            (budgeted left (rows.flow_work op self.old (slice_index args.now) (dest_of to.now)))
+            self.new result }
         ensures fit { IsFit self.old → IfOk result (λ done. StaysFit self.new done.out) }
         ensures within { IfOk result (λ done. done.cost ≤ left) }
     {

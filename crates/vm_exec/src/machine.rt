@@ -111,7 +111,8 @@ fn empty_stack(alloc: Global, image: &Image<'_>) -> Result<Stack, Trap>
 // The start function is called without arguments.
 fn begin(alloc: Global, memory: &Memory<'_>, stack: &mut Stack, at: u32) -> Result<u32, Trap>
     ensures does { Does (flowed (called memory.now stack.old at [])) stack.new result }
-    ensures kept { stack.old.bytes ≡ [] → stack.old.frame ≡ 0 → OnOk result (Chain stack.new × HasFrame stack.new) }
+    ensures kept { stack.old.bytes ≡ [] → stack.old.frame ≡ 0
+        → OnOk result (Chain stack.new × HasFrame stack.new) }
 {
     call(alloc, memory, stack, at, &[]).map_err(of_flow)
 }

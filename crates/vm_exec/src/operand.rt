@@ -88,7 +88,9 @@ impl<'i> Machine<'i> {
     ) -> Result<(), Trap>
         requires width { IsWidth width }
         requires room { index + length loads.now ≤ 8 }
-        ensures does { Leaves (rules.loaded_all width self.old loads.now index args.old) self.new args.new result }
+        ensures does { Leaves
+            (rules.loaded_all width self.old loads.now index args.old)
+            self.new args.new result }
         ensures fit { IsFit self.old → OnOk result (IsFit self.new) }
     {
         match loads {

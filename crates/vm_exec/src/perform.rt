@@ -25,7 +25,9 @@ impl<'i> Machine<'i> {
         to: &[Dest; 2],
         left: u64,
     ) -> Result<Done, Trap>
-        ensures does { Does (budgeted left (work op self.old (slice_index args.now) (dest_of to.now))) self.new result }
+        ensures does { Does
+            (budgeted left (work op self.old (slice_index args.now) (dest_of to.now)))
+            self.new result }
         ensures fit { IsFit self.old → IfOk result (λ done. StaysFit self.new done.out) }
         ensures within { IfOk result (λ done. done.cost ≤ left) }
     {
@@ -53,7 +55,9 @@ impl<'i> Machine<'i> {
         left: u64,
     ) -> Result<Step, Trap>
         requires { 0 < left }
-        ensures does { Does (told left (charged (Ok (work_of op self.old args.now to.now)))) self.new result }
+        ensures does { Does
+            (told left (charged (Ok (work_of op self.old args.now to.now))))
+            self.new result }
         ensures fit { IsFit self.old → IfOk result (λ step. GoesOnFit self.new step) }
         ensures cost { IfOk result (λ step. IsPriced left step) }
     {

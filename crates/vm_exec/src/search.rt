@@ -15,7 +15,9 @@ use vm_operand::{Dest, Search};
 
 impl<'i> Machine<'i> {
     fn mzero(&mut self, count: u32, at: u32, left: u64) -> Result<Done, Trap>
-        ensures does { Does (budgeted left (Costs (count / 16) (rows.zeroes self.old count at))) self.new result }
+        ensures does { Does
+            (budgeted left (Costs (count / 16) (rows.zeroes self.old count at)))
+            self.new result }
         ensures fit { IsFit self.old → IfOk result (λ done. StaysFit self.new done.out) }
         ensures within { IfOk result (λ done. done.cost ≤ left) }
     {
@@ -28,7 +30,9 @@ impl<'i> Machine<'i> {
     }
 
     fn mcopy(&mut self, count: u32, from: u32, to: u32, left: u64) -> Result<Done, Trap>
-        ensures does { Does (budgeted left (Costs (count / 16) (rows.copies_block self.old count from to))) self.new result }
+        ensures does { Does
+            (budgeted left (Costs (count / 16) (rows.copies_block self.old count from to)))
+            self.new result }
         ensures fit { IsFit self.old → IfOk result (λ done. StaysFit self.new done.out) }
         ensures within { IfOk result (λ done. done.cost ≤ left) }
     {
@@ -48,7 +52,9 @@ impl<'i> Machine<'i> {
         to: &[Dest; 2],
         left: u64,
     ) -> Result<Done, Trap>
-        ensures does { Does (budgeted left (rows.search_work op self.old (slice_index args.now) (dest_of to.now))) self.new result }
+        ensures does { Does
+            (budgeted left (rows.search_work op self.old (slice_index args.now) (dest_of to.now)))
+            self.new result }
         ensures fit { IsFit self.old → IfOk result (λ done. StaysFit self.new done.out) }
         ensures within { IfOk result (λ done. done.cost ≤ left) }
     {

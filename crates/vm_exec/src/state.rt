@@ -16,7 +16,10 @@ use vm_operand::{Dest, State};
 
 impl<'i> Machine<'i> {
     fn verify(&mut self, to: Dest, left: u64) -> Result<Done, Trap>
-        ensures does { Does (budgeted left (Costs (length self.old.memory.rom / 256) (rules.puts self.old to self.old.verified))) self.new result }
+        ensures does { Does
+            (budgeted left (Costs (length self.old.memory.rom / 256)
+            (rules.puts self.old to self.old.verified)))
+            self.new result }
         ensures fit { IsFit self.old → IfOk result (λ done. StaysFit self.new done.out) }
         ensures within { IfOk result (λ done. done.cost ≤ left) }
     {
@@ -36,7 +39,9 @@ impl<'i> Machine<'i> {
         to: &[Dest; 2],
         left: u64,
     ) -> Result<Done, Trap>
-        ensures does { Does (budgeted left (rows.state_work op self.old (slice_index args.now) (dest_of to.now))) self.new result }
+        ensures does { Does
+            (budgeted left (rows.state_work op self.old (slice_index args.now) (dest_of to.now)))
+            self.new result }
         ensures fit { IsFit self.old → IfOk result (λ done. StaysFit self.new done.out) }
         ensures within { IfOk result (λ done. done.cost ≤ left) }
     {

@@ -16,7 +16,9 @@ use vm_operand::{Dest, System};
 
 impl<'i> Machine<'i> {
     fn getmemsize(&mut self, to: Dest) -> Result<Done, Trap>
-        ensures does { Tells (rules.puts self.old to (length self.old.memory.bytes)) self.new result }
+        ensures does { Tells
+            (rules.puts self.old to (length self.old.memory.bytes))
+            self.new result }
         ensures fit { IsFit self.old → IfOk result (λ done. StaysFit self.new done.out) }
     {
         let size = self.memory.size();
@@ -39,7 +41,9 @@ impl<'i> Machine<'i> {
         to: &[Dest; 2],
         left: u64,
     ) -> Result<Done, Trap>
-        ensures does { Does (budgeted left (rows.system_work op self.old (slice_index args.now) (dest_of to.now))) self.new result }
+        ensures does { Does
+            (budgeted left (rows.system_work op self.old (slice_index args.now) (dest_of to.now)))
+            self.new result }
         ensures fit { IsFit self.old → IfOk result (λ done. StaysFit self.new done.out) }
         ensures within { IfOk result (λ done. done.cost ≤ left) }
     {

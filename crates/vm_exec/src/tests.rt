@@ -5,7 +5,7 @@ use std::test::Fail;
 // A story with code from byte 36 on, one page in the file, and a page of RAM behind it.
 fn story(code: &[u8]) -> [u8; 256] {
     let header =
-        *b"Glul\x00\x03\x01\x03\x00\x00\x01\x00\x00\x00\x01\x00\x00\x00\x02\x00\x00\x00\x01\x00\x00\x00\x00\x24\x00\x00\x00\x00\x00\x00\x00\x00";
+        *b"Glul\x00\x03\x01\x03\0\0\x01\0\0\0\x01\0\0\0\x02\0\0\0\x01\0\0\0\0\x24\0\0\0\0\0\0\0\0";
     let mut file = [0; 256];
     file[..36].copy_from_slice(&header);
     for (at, byte) in code.iter().enumerate() {

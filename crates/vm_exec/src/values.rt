@@ -44,7 +44,9 @@ impl<'i> Machine<'i> {
     }
 
     fn stkroll(&mut self, count: u32, by: u32, left: u64) -> Result<Done, Trap>
-        ensures does { Does (budgeted left (Costs (count / 16) (rows.rolls self.old count by))) self.new result }
+        ensures does { Does
+            (budgeted left (Costs (count / 16) (rows.rolls self.old count by)))
+            self.new result }
         ensures fit { IsFit self.old → IfOk result (λ done. StaysFit self.new done.out) }
         ensures within { IfOk result (λ done. done.cost ≤ left) }
     {
@@ -57,7 +59,9 @@ impl<'i> Machine<'i> {
     }
 
     fn stkcopy(&mut self, count: u32, left: u64) -> Result<Done, Trap>
-        ensures does { Does (budgeted left (Costs (count / 16) (rows.copies self.old count))) self.new result }
+        ensures does { Does
+            (budgeted left (Costs (count / 16) (rows.copies self.old count)))
+            self.new result }
         ensures fit { IsFit self.old → IfOk result (λ done. StaysFit self.new done.out) }
         ensures within { IfOk result (λ done. done.cost ≤ left) }
     {
@@ -77,7 +81,9 @@ impl<'i> Machine<'i> {
         to: &[Dest; 2],
         left: u64,
     ) -> Result<Done, Trap>
-        ensures does { Does (budgeted left (rows.values_work op self.old (slice_index args.now) (dest_of to.now))) self.new result }
+        ensures does { Does
+            (budgeted left (rows.values_work op self.old (slice_index args.now) (dest_of to.now)))
+            self.new result }
         ensures fit { IsFit self.old → IfOk result (λ done. StaysFit self.new done.out) }
         ensures within { IfOk result (λ done. done.cost ≤ left) }
     {
@@ -94,7 +100,8 @@ impl<'i> Machine<'i> {
 // So many values again, each the one that then lies a value less below the top.
 fn copy_up(stack: &mut Stack, count: u32) -> Result<(), Trap>
     ensures does { Changes (rows.copied_up stack.old (count - 1) count) stack.new result }
-    ensures kept { Chain stack.old → HasFrame stack.old → OnOk result (Chain stack.new × HasFrame stack.new) }
+    ensures kept { Chain stack.old → HasFrame stack.old
+        → OnOk result (Chain stack.new × HasFrame stack.new) }
 {
     for _ in 0..count {
         match copy_one(stack, count - 1) {
@@ -108,7 +115,8 @@ fn copy_up(stack: &mut Stack, count: u32) -> Result<(), Trap>
 // The value at a depth again, on top.
 fn copy_one(stack: &mut Stack, depth: u32) -> Result<(), StackFault>
     ensures does { Leaves (rows.copied_one stack.old depth) stack.new result }
-    ensures kept { Chain stack.old → HasFrame stack.old → OnOk result (Chain stack.new × HasFrame stack.new) }
+    ensures kept { Chain stack.old → HasFrame stack.old
+        → OnOk result (Chain stack.new × HasFrame stack.new) }
 {
     let value = stack.peek(depth)?;
     stack.push(value)?;

@@ -30,7 +30,8 @@ with_bit byte k value =
 
 abbrev pub loads_bit : Machine → ℕ → ℕ → d.Dest → Rule
 loads_bit m from index to =
-    coded (read 1 m.memory (byte_with_bit from index)) >>= (λ byte. puts m to (bit byte (index % 8)))
+    coded (read 1 m.memory (byte_with_bit from index))
+    >>= (λ byte. puts m to (bit byte (index % 8)))
 
 -- the byte is read before it is written
 abbrev pub stores_bit : Machine → ℕ → ℕ → ℕ → Rule

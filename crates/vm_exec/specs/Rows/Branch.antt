@@ -8,8 +8,8 @@ use Rattle.vm_exec.specs.Rows.Work.{Work, Free}
 use Rattle.vm_exec.specs.Rules.{goes, branches, when}
 use Rattle.vm_exec.specs.declared.machine.Machine.{Machine}
 
--- a jump by the first load, jz and jnz by the second, jumpabs to the first; the others by the third,
--- where the condition holds of the first two
+-- a jump by the first load, jz and jnz by the second, jumpabs to the first; the others by the
+-- third, where the condition holds of the first two
 unfoldable pub branch_work : Branch → Machine → (ℕ → ℕ) → (ℕ → d.Dest) → Work
 branch_work Jump m l d = Free (branches m (l 0))
 branch_work Jumpabs m l d = Free (goes (record m { pc = l 0 }))

@@ -14,7 +14,8 @@ gives_io m mode rock = stored m mode m.mode >>= (λ n. puts n rock m.rock)
 -- a system that isn't known is system 0 with rock 0
 abbrev pub takes_io : Machine → ℕ → ℕ → Rule
 takes_io m mode rock =
-    goes (if nat_le mode 2 then record m { mode = mode; rock = rock } else record m { mode = 0; rock = 0 })
+    goes (if nat_le mode 2 then record m { mode = mode; rock = rock }
+    else record m { mode = 0; rock = 0 })
 
 unfoldable pub stream_work : Stream → Machine → (ℕ → ℕ) → (ℕ → d.Dest) → Work
 stream_work Streamchar m l d = Free (streams m (l 0 % 256))

@@ -14,7 +14,8 @@ abbrev pub zeroes : Machine → ℕ → ℕ → Rule
 zeroes m n at = coded (zeroed m.memory at n) >>= (λ memory. goes (record m { memory = memory }))
 
 abbrev pub copies_block : Machine → ℕ → ℕ → ℕ → Rule
-copies_block m n from to = coded (copied m.memory n from to) >>= (λ memory. goes (record m { memory = memory }))
+copies_block m n from to =
+    coded (copied m.memory n from to) >>= (λ memory. goes (record m { memory = memory }))
 
 unfoldable pub search_work : Search → Machine → (ℕ → ℕ) → (ℕ → d.Dest) → Work
 search_work Mzero m l d = Costs (l 0 / 16) (zeroes m (l 0) (l 1))

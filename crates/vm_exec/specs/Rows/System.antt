@@ -15,7 +15,8 @@ gestalt selector argument =
     if selector == 0 then 0x00030103
     else (if selector == 1 then 0x00010000
     else (if selector == 4 then (if nat_le argument 2 then 1 else 0)
-    else (if selector == 2 || (selector == 3 || (selector == 5 || (selector == 6 || (selector == 7 || selector == 12))))
+    else (if selector == 2 || (selector == 3 || (selector == 5
+    || (selector == 6 || (selector == 7 || selector == 12))))
     then 1 else 0)))
 
 -- the store is kept for the call's result
