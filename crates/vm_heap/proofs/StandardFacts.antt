@@ -1,5 +1,5 @@
 -- Addresses of blocks where memory ends at 0x1000, said of the definitions.
-use Rattle.std.proofs.Common.{arith, ◌≡◌, refl, ℕ, List, [], ◌∷◌, Bool, true, false}
+use Rattle.std.proofs.Common.{arith, ◌≡◌, refl, ℕ, [], ◌∷◌, true, false}
 use Rattle.vm_heap.specs.HeapMap.{heap_end, is_heap}
 use Rattle.vm_heap.specs.FirstFit.{first_fit}
 use Rattle.vm_heap.specs.declared.block.Block.{Block}
@@ -28,6 +28,6 @@ ends = refl
 
 -- no start without a block, and no blocks that meet
 pub heaps :
-  is_heap 0 [] ∷ is_heap 0x100 [] ∷ is_heap 0x100 (block 0x100 4 ∷ block 0x103 4 ∷ []) ∷ is_heap 0x100 (block 0x100 4 ∷ block 0x104 4 ∷ []) ∷ []
-  ≡ true ∷ false ∷ false ∷ true ∷ []
+    is_heap 0 [] ∷ is_heap 0x100 [] ∷ is_heap 0x100 (block 0x100 4 ∷ block 0x103 4 ∷ []) ∷ is_heap 0x100 (block 0x100 4 ∷ block 0x104 4 ∷ []) ∷ []
+    ≡ true ∷ false ∷ false ∷ true ∷ []
 heaps = refl

@@ -3,3 +3,4 @@ pub mod EndingLemmas
 pub mod LinearLemmas
 pub mod LinkedLemmas
 pub mod BinaryLemmas
+mod StandardFacts
