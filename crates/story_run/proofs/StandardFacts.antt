@@ -1,17 +1,12 @@
 -- Rows of the profile's tables, so that a wrong rule in the specs does not check.
-use Rattle.std.proofs.Common.{◌≡◌, ℕ, true, false, List, [], ◌∷◌, map, refl, Ok, Err, Some, None}
+use Rattle.std.proofs.Common.{◌≡◌, true, false, [], ◌∷◌, map, refl, Err, Some, None}
 use Rattle.glk_input.specs.declared.input.Input.TheVariants.{Line, Char}
-use Rattle.story_run.specs.Arguments.{arguments}
 use Rattle.story_run.specs.Events.{asks, is_asked, next_field, taken_line}
 use Rattle.story_run.specs.Glk.{fresh}
 use Rattle.story_run.specs.Selector.{call_of, is_selector}
-use Rattle.story_run.specs.Show.{run, runs_of, window_line}
+use Rattle.story_run.specs.Show.{runs_of}
 use Rattle.story_run.specs.Windows.{gives, opens, sets}
-use Rattle.story_run.specs.declared.glk.Glk.{Glk}
-use Rattle.story_run.specs.declared.glk.LineRequest.{LineRequest}
-use Rattle.story_run.specs.declared.printed.Cell.{Cell}
 use Rattle.story_run.specs.declared.selector.Call.TheVariants.{WindowOpen, RequestLineEvent}
-use Rattle.vm_stack.specs.StackState.{StackState}
 
 -- the first and the last selector of some classes, and their neighbours
 pub selectors : map is_selector (0 ∷ 0x05 ∷ 0x06 ∷ 0x30 ∷ 0x31 ∷ 0xD6 ∷ 0xD7 ∷ 0x128 ∷ 0x151 ∷ 0x152 ∷ [])
