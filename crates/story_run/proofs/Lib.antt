@@ -4,3 +4,4 @@ pub mod RunLemmas
 pub mod TurnLemmas
 pub mod BudgetLemmas
 pub mod WorldLemmas
+pub mod StandardFacts

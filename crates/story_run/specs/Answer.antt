@@ -8,6 +8,7 @@ use Rattle.story_run.specs.declared.glk.Glk.{Glk}
 abbrev pub Reached : Type 0 → Type 0
 Reached A = Result A (Glk × ℕ)
 
+-- what is done with a value, unless there is none
 infixl 10 ◌>>=◌
 abbrev pub ◌>>=◌ : {A B E : Type 0} → Result A E → (A → Result B E) → Result B E
 (Ok x) >>= f = f x

@@ -30,6 +30,7 @@ selectors =
     ∷ (0x100, 0x103) ∷ (0x120, 0x122) ∷ (0x128, 0x12D) ∷ (0x130, 0x132) ∷ (0x138, 0x13A)
     ∷ (0x140, 0x141) ∷ (0x150, 0x151) ∷ []
 
+-- whether a number lies in one of these classes
 abbrev pub is_among : List (ℕ × ℕ) → ℕ → Bool
 is_among [] n = false
 is_among (r ∷ rs) n = (nat_le r.0 n && nat_le n r.1) || is_among rs n

@@ -37,6 +37,7 @@ abbrev pub front : ℕ → List Cell → ℕ
 front style [] = 0
 front style (c ∷ cs) = if c.style == style then front style cs + 1 else 0
 
+-- a character without its style
 abbrev pub code_of : Cell → ℕ
 code_of c = c.code
 
@@ -48,6 +49,7 @@ run style cs = record { style = style; codes = map code_of cs }
 abbrev pub run_line : Run → List ℕ
 run_line r = codes "T 1" ++ field r.style ++ text r.codes
 
+-- the lines of runs
 abbrev pub run_lines : List Run → List ℕ
 run_lines [] = []
 run_lines (r ∷ rs) = run_line r ++ run_lines rs
@@ -65,6 +67,7 @@ initial m at (suc n) = initial m at n ++ byte_or_zero m (at + n) ∷ []
 abbrev pub request_line : MemoryMap → LineRequest → List ℕ
 request_line m r = codes "I 1 line" ++ field r.max ++ text (initial m r.buf r.init)
 
+-- the line of what is waited for
 abbrev pub wish_line : MemoryMap → Option LineRequest → List ℕ
 wish_line m (Some r) = request_line m r
 wish_line m None = []

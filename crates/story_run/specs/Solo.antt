@@ -31,6 +31,7 @@ wants (Waits m event) request input = is_asked request input
 wants Quit request input = false
 wants (Fault n) request input = false
 
+-- the world waits for this input
 unfoldable pub is_wanted : WorldState → Input → Bool
 is_wanted w input = wants w.stage w.glk.request input
 
@@ -44,6 +45,7 @@ answered w _ _ _ = w
 unfoldable pub turned : WorldState → Input → WorldState
 turned w input = if is_wanted w input then answered w w.stage w.glk.request input else w
 
+-- how a turn came to rest says whether the story is over
 abbrev pub is_at_end : Stage → Bool
 is_at_end (Waits m event) = false
 is_at_end Quit = true

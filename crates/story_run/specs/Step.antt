@@ -24,6 +24,7 @@ pub record Running : Type 0 where
   pub glk : Glk
   pub machine : Machine
 
+-- the story with this Glk state and this machine
 abbrev pub running : Glk → Machine → Running
 running g m = record { glk = g; machine = m }
 
@@ -52,6 +53,7 @@ done left g m (call.Wait event) = Rests g (stage.Waits m event)
 done left g m (call.Value value chars) =
     if nat_lt left chars then faults g 24 else stored (left - chars) g (finished m value)
 
+-- a call was done, or was a fault
 abbrev pub answered : ℕ → Machine → Reached (Glk × StackState × Called) → Next
 answered left m (Ok x) = done left x.0 (record m { stack = x.1 }) x.2
 answered left m (Err e) = faults e.0 e.1
@@ -64,11 +66,12 @@ followed left g m (step.Glk selector args cost) =
     answered (left - cost) m (called g m.memory m.stack selector args)
 followed left g m step.Quit = Rests g stage.Quit
 
+-- the machine did a step, or met a fault
 abbrev pub stepped : ℕ → Glk → Result (Machine × Step) ℕ → Next
 stepped left g (Ok x) = followed left g x.0 x.1
 stepped left g (Err n) = faults g n
 
--- a step with so many ticks left
+-- one step of the story with so many ticks left
 unfoldable pub next : ℕ → Running → Next
 next left r = stepped left r.glk (told left (row r.machine))
 

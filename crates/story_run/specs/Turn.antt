@@ -15,11 +15,12 @@ use Rattle.story_run.specs.declared.glk.LineRequest.{LineRequest}
 use Rattle.story_run.specs.declared.stage.Stage.{Stage}
 use Rattle.story_run.specs.declared.stage.Stage.TheVariants.{Fault}
 
--- at most so many steps, with so many ticks left
+-- what comes after a step: further steps, or the turn is at rest
 abbrev pub after : (ℕ → Running → Glk × Stage) → Next → Glk × Stage
 after steps (Runs left r) = steps left r
 after steps (Rests g s) = (g, s)
 
+-- at most so many steps, with so many ticks left
 unfoldable pub steps : ℕ → ℕ → Running → Glk × Stage
 steps zero left r = (r.glk, Fault 24)
 steps (suc n) left r = after (steps n) (next left r)
@@ -34,11 +35,12 @@ abbrev pub begun : ℕ → Glk → Result Machine ℕ → Glk × Stage
 begun budget g (Ok m) = rest budget (running g m)
 begun budget g (Err n) = (g, Fault n)
 
--- the line was delivered: the call that waited stores 0
+-- a result was stored, or that was a fault
 abbrev pub stored_in : Glk → Result Machine ℕ → Reached (Glk × Machine)
 stored_in g (Ok m) = Ok (g, m)
 stored_in g (Err n) = Err (g, n)
 
+-- the line was delivered: the call that waited for it stores 0
 abbrev pub restarted : Reached (Glk × (MemoryMap × StackState)) → Machine → Reached (Glk × Machine)
 restarted (Ok x) m = stored_in x.0 (finished (record m { memory = x.1.0; stack = x.1.1 }) 0)
 restarted (Err e) m = Err e
