@@ -3,8 +3,7 @@ ghost use Rattle.turn_cell_uses.specs.Turns.{IsReady};
 ghost use Rattle.turn_cell_uses.specs.DeskTag.{IsDesk};
 
 use crate::{
-    Book, Disk, Event, Log, Tally, accept, add, add_both, add_times, end, open_desk, request,
-    request_both, serve,
+    Book, Disk, Event, Log, Tally, accept, add, add_both, add_times, end, open_desk, request, serve,
 };
 use std::test::Fail;
 use turn_cell::Cell;
