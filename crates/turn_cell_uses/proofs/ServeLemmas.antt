@@ -3,7 +3,7 @@ use Rattle.std.proofs.Common.{◌≡◌, ◌+◌, ◌<◌, ℕ, List, [], ◌∷
 use Rattle.turn_cell.specs.History.{IsForeign}
 use Rattle.turn_cell.proofs.HistoryLemmas.{continues_all, each_append}
 use Rattle.turn_cell_uses.specs.declared.log.Note.{Note}
-use Rattle.turn_cell_uses.specs.Notes.{note, note_by}
+use Rattle.turn_cell_uses.specs.Notes.{note_by}
 use Rattle.turn_cell_uses.specs.declared.answer.Answer.{Answer}
 use Rattle.turn_cell_uses.specs.Answers.{after, Later, Serves}
 

@@ -3,10 +3,13 @@ ghost use Rattle.turn_cell_uses.specs.Turns.{IsReady};
 ghost use Rattle.turn_cell_uses.specs.DeskTag.{IsDesk};
 
 use crate::{
-    Book, Disk, Event, Log, Tally, accept, add, add_both, add_times, end, open_desk, request, serve,
+    Book, Desk, Disk, Event, Log, Tally, accept, add, add_both, add_times, end, open_desk, request,
+    serve,
 };
+use std::sync::Wait;
 use std::test::Fail;
-use turn_cell::Cell;
+use std::thread::{Threads, join};
+use turn_cell::{Cell, Pass};
 
 fn empty_log(rt: &HostRuntime) -> Log {
     Log {
@@ -46,7 +49,7 @@ fn two_threads_take_10_000_turns_each(rt: HostRuntime) -> Result<(), Fail> {
     let (cell, mut root) = Cell::new(rt.alloc(), empty_log(&rt))?;
     let mut one = cell.split(rt.alloc(), &mut root)?;
     let mut two = cell.split(rt.alloc(), &mut root)?;
-    std::thread::join(
+    join(
         &rt,
         || -> ()
             requires { IsReady cell one }
@@ -80,25 +83,49 @@ impl Disk for Short {
 
 #[test]
 fn a_refused_row_is_no_entry(rt: HostRuntime) -> Result<(), Fail> {
-    let (book, mut root) = Cell::new(rt.alloc(), Book::new(rt.alloc(), Short { left: 3 }))?;
+    let (book, mut root) = Cell::new(rt.alloc(), Book::new(rt.alloc(), Short { left: 2 }))?;
+    let first = book.split(rt.alloc(), &mut root)?;
+    let (desk, mut pass) = open_desk(rt.alloc(), &[1, 2], 0, &book, first)?;
+    let answers = serve(&rt, rt.alloc(), &book, &desk, &mut pass, &[7, 9, 10])?;
+    assert!(rt; answers.len() == 3);
+    assert!(rt; answers[0].mark == 0 && answers[0].accepted);
+    assert!(rt; answers[1].mark == 1 && answers[1].accepted);
+    assert!(rt; answers[2].mark == 2 && !answers[2].accepted);
+    Ok(())
+}
+
+fn two_requests<'i, D: Disk + Drop + Send, R: Threads + Wait + Sync>(
+    rt: &R,
+    book: &Cell<Book<D>>,
+    first: &Cell<Desk<'i, D>>,
+    second: &Cell<Desk<'i, D>>,
+    mut one: Pass<Desk<'i, D>>,
+    mut two: Pass<Desk<'i, D>>,
+    what: u64,
+) -> (bool, bool)
+    requires one { IsReady first.now one × IsDesk book.now one }
+    requires two { IsReady second.now two × IsDesk book.now two }
+{
+    join(
+        rt,
+        || -> bool
+            requires { IsReady first.now one × IsDesk book.now one }
+        { request(rt, book, first, &mut one, what) },
+        || -> bool
+            requires { IsReady second.now two × IsDesk book.now two }
+        { request(rt, book, second, &mut two, what) },
+    )
+}
+
+#[test]
+fn two_threads_turn_on_two_desks_of_one_book(rt: HostRuntime) -> Result<(), Fail> {
+    let (book, mut root) = Cell::new(rt.alloc(), Book::new(rt.alloc(), Short { left: 2 }))?;
     let first = book.split(rt.alloc(), &mut root)?;
     let second = book.split(rt.alloc(), &mut root)?;
-    let (desk, mut pass) = open_desk(rt.alloc(), &[1, 2], 0, &book, first)?;
-    let (other, mut other_pass) = open_desk(rt.alloc(), &[1, 2], 1, &book, second)?;
-    assert!(rt; request(&rt, &book, &desk, &mut pass, 7));
-    let both = std::thread::join(
-        &rt,
-        || -> bool
-            requires { IsReady desk pass × IsDesk book pass }
-        { request(&rt, &book, &desk, &mut pass, 8) },
-        || -> bool
-            requires { IsReady other other_pass × IsDesk book other_pass }
-        { request(&rt, &book, &other, &mut other_pass, 8) },
-    );
+    let (desk, pass) = open_desk(rt.alloc(), &[1, 2], 0, &book, first)?;
+    let (other, other_pass) = open_desk(rt.alloc(), &[1, 2], 1, &book, second)?;
+    let both = two_requests(&rt, &book, &desk, &other, pass, other_pass, 8);
     assert!(rt; both == (true, true));
-    let answers = serve(&rt, rt.alloc(), &book, &desk, &mut pass, &[9, 10])?;
-    assert!(rt; answers.len() == 2 && answers[0].mark == 2 && !answers[0].accepted);
-    assert!(rt; answers[1].mark == 2 && !answers[1].accepted);
     Ok(())
 }
 
