@@ -1,4 +1,5 @@
 pub mod HistoryLemmas
+pub mod MoveLemmas
 pub mod StepLemmas
 pub mod SeatLemmas
 pub mod TurnLemmas

@@ -13,7 +13,7 @@ use Rattle.turn_cell.specs.History.{Each, Continues, longer, IsAmong, IsForeign}
 use Rattle.turn_cell.specs.Views.{HasTicket, ticket_count, with_one_more, split_off, joined, spent, starting}
 use Rattle.turn_cell.specs.Rule.{KnowsStage, Knows, Legal}
 use Rattle.turn_cell.proofs.HistoryLemmas.{continues_all, continues_map, longer_first, longer_second, longer_whole, among_first, among_either, tickets_out_set, tickets_out_append, at_low}
-use Rattle.turn_cell.proofs.StepLemmas.{is_root, away_stays, Serves}
+use Rattle.turn_cell.proofs.StepLemmas.{is_root, away_stays, IsServed}
 
 module _ {A : Type 0} where
   abbrev some_tag : A → Option A → A
@@ -133,7 +133,7 @@ module _ {T E G : Type 0} (entries : T → List E) (by : E → ℕ) (tag : T →
             (part j d ej))
             (part i c ei));
         place = ⊎_elim (λ h. inl h)
-            (λ a. let b = away_stays entries by tag first s.views id v (with_one_more v) at (λ x. subst (Serves entries by tag first) idle x) a in
+            (λ a. let b = away_stays entries by tag first s.views id v (with_one_more v) at (λ x. subst (IsServed entries by tag first) idle x) a in
             inr (b.0, b.1, b.2, at_longer (set s.views id (with_one_more v)) (split_off v ∷ []) b.0 b.1 b.3, b.4))
             r.place;
       }
@@ -272,8 +272,8 @@ module _ {T E G : Type 0} (entries : T → List E) (by : E → ℕ) (tag : T →
       apart = joins_apart;
       turns = joins_turns;
       place = ⊎_elim (λ h. inl h)
-          (λ a. inr (away_stays entries by tag first middle other w spent (set_else s.views id other (joined v w) apart ∙ at_other) (λ x. subst (Serves entries by tag first) idle_other x)
-          (away_stays entries by tag first s.views id v (joined v w) at (λ x. subst (Serves entries by tag first) idle x) a)))
+          (λ a. inr (away_stays entries by tag first middle other w spent (set_else s.views id other (joined v w) apart ∙ at_other) (λ x. subst (IsServed entries by tag first) idle_other x)
+          (away_stays entries by tag first s.views id v (joined v w) at (λ x. subst (IsServed entries by tag first) idle x) a)))
           r.place;
     }
 

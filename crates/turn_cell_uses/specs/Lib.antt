@@ -1,0 +1,6 @@
+pub mod Turns
+pub mod Notes
+pub mod Rows
+pub mod DeskTag
+pub mod Events
+pub mod Answers
