@@ -58,6 +58,8 @@ pub trait Disk {
             → NoneNew (may_leave self.old) (may_leave self.new) }
         ensures time { Elapses (moment self.old) (moment self.new)
             (left_since self.old) (left_since self.new) (may_leave self.new) }
+        ensures clock { OnOk result (IsTrue (tells self.old)
+            → moment self.new ≡ moment self.old + 1) }
         ensures reach { reach self.new ≡ reach self.old }
         ensures kept { SameDisk tells room label self.old self.new };
 
@@ -72,6 +74,8 @@ pub trait Disk {
             → NoneNew (may_leave self.old) (may_leave self.new) }
         ensures time { Elapses (moment self.old) (moment self.new)
             (left_since self.old) (left_since self.new) (may_leave self.new) }
+        ensures clock { OnOk result (IsTrue (tells self.old)
+            → moment self.new ≡ moment self.old + 1) }
         ensures reach { reach self.new ≡ reach self.old }
         ensures kept { SameDisk tells room label self.old self.new };
 
@@ -91,6 +95,8 @@ pub trait Disk {
             → Follows (Torn place (length piece.now)) (may_leave self.old) (may_leave self.new) }
         ensures time { Elapses (moment self.old) (moment self.new)
             (left_since self.old) (left_since self.new) (may_leave self.new) }
+        ensures clock { OnOk result (IsTrue (tells self.old)
+            → moment self.new ≡ moment self.old + 1) }
         ensures reach { reach self.new ≡ max (reach self.old) (place + length piece.now) }
         ensures kept { SameDisk tells room label self.old self.new };
 
@@ -107,6 +113,8 @@ pub trait Disk {
             → NoneNew (may_leave self.old) (may_leave self.new) }
         ensures time { Elapses (moment self.old) (moment self.new)
             (left_since self.old) (left_since self.new) (may_leave self.new) }
+        ensures clock { OnOk result (IsTrue (tells self.old)
+            → moment self.new ≡ moment self.old + 1) }
         ensures reach { reach self.new ≡ reach self.old }
         ensures kept { SameDisk tells room label self.old self.new };
 

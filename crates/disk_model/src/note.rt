@@ -33,6 +33,7 @@ fn next_bytes(
 
 /// Notes a call that changes nothing.
 pub fn note_look(calls: &mut Vec<Call>) -> Result<(), AllocError>
+    ensures clock { OnOk result (length calls.new.items ≡ length calls.old.items + 1) }
     ensures state { (start : List ℕ)
         → state_after start calls.new.items ≡ state_after start calls.old.items }
     ensures time { (start : List ℕ)
@@ -46,6 +47,7 @@ pub fn note_look(calls: &mut Vec<Call>) -> Result<(), AllocError>
 
 /// Notes a sync.
 pub fn note_sync(calls: &mut Vec<Call>, good: bool) -> Result<(), AllocError>
+    ensures clock { OnOk result (length calls.new.items ≡ length calls.old.items + 1) }
     ensures state { OnOk result ((start : List ℕ)
         → state_after start calls.new.items ≡ after_sync good (state_after start calls.old.items)) }
     ensures time { (start : List ℕ)
@@ -69,6 +71,7 @@ pub fn put(
     good: bool,
 ) -> Result<(), AllocError>
     requires { place + length piece.now ≤ 2 ^ 40 }
+    ensures clock { OnOk result (length calls.new.items ≡ length calls.old.items + 1) }
     ensures bytes { OnOk result (bytes.new.items
         ≡ (if good then written bytes.old.items place piece.now else bytes.old.items)) }
     ensures ranges { OnOk result (ranges.new.items
