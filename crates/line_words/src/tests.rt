@@ -74,7 +74,12 @@ fn inputs_of_run_are_read(rt: HostRuntime) {
         )
     );
     assert!(rt; matches!(read_play(rt.alloc(), b"FILE =save"), Ok(Play::File { .. })));
-    assert!(rt; matches!(read_play(rt.alloc(), b"LINE 0 k1 1 1 =go"), Err(LineFault::BadLine)));
+    assert!(rt;
+        matches!(
+            read_play(rt.alloc(), b"LINE 0 k1 1 1 =go"),
+            Err(LineFault::BadLine)
+        )
+    );
 }
 
 #[test]
