@@ -3,6 +3,7 @@ pub mod WritingLemmas
 pub mod HearingLemmas
 pub mod TalkLemmas
 pub mod LinesLemmas
-pub mod RunLemmas
+pub mod SpeechLemmas
+pub mod StoriesLemmas
 pub mod ToldLemmas
 pub mod MemoryLemmas

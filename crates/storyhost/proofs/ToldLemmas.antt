@@ -1,26 +1,27 @@
--- A run for a caller who is told the file, the input and what the output holds.
-use Rattle.std.proofs.Common.{◌≡◌, ℕ, ◌^◌, ◌≤◌, ◌⊎◌, inl, inr, List, [], ◌++◌, take, length, refl, sym, ap, ◌∙◌, subst, append_assoc, Option, None, Some, Result, Ok, Err, IsOkAnd, IfSome, true}
+-- A command for a caller who is told the files, the input and what the output holds.
+use Rattle.std.proofs.Common.{◌≡◌, ℕ, ◌^◌, ◌≤◌, ◌⊎◌, inl, inr, List, [], ◌++◌, map, take, length, refl, sym, ap, ◌∙◌, subst, append_assoc, slice_get, Option, None, Some, Result, Ok, Err, IfOk, true}
 use Rattle.std.proofs.lemmas.List.{append-nil}
 use Rattle.std.specs.Io.KnownBytes.{Consumes, Appends, IsAtEnd}
-use Rattle.glulx_image.specs.declared.fault.ImageFault.{ImageFault}
-use Rattle.story_run.specs.Solo.{is_over}
-use Rattle.story_run.specs.Story.{story_of}
 use Rattle.story_run.specs.declared.story.Story.{Story}
 use Rattle.storyhost.specs.declared.status.Status.{Status}
 use Rattle.storyhost.specs.declared.status.Status.TheVariants.{Done, BadWords, Refused, ReadFault, WriteFault, NoMemory, LineLimit}
-use Rattle.storyhost.specs.Conversation.{replies}
-use Rattle.storyhost.specs.Files.{OutsideState, IsFile}
-use Rattle.storyhost.specs.Headline.{RunWrites, whole_text}
+use Rattle.storyhost.specs.declared.stories.Refusal.{Refusal}
+use Rattle.storyhost.specs.declared.words.Action.{Action}
+use Rattle.storyhost.specs.declared.words.Action.TheVariants.{Run, Pipe}
+use Rattle.storyhost.specs.Files.{OutsideState}
+use Rattle.storyhost.specs.Follows.{Follows, Tells}
+use Rattle.storyhost.specs.Headline.{Speech, Writes, whole_text}
 use Rattle.storyhost.specs.Lines.{lines, IsWithinLimits}
-use Rattle.storyhost.specs.Ran.{Played, NotLoaded, RunLeaves}
-use Rattle.storyhost.specs.RunText.{opened, solo, show_text, run_text, run_world}
+use Rattle.storyhost.specs.Speech.{said_of}
+use Rattle.storyhost.specs.Spoken.{Spoken, Leaves}
+use Rattle.storyhost.specs.Stories.{stories_of}
 use Rattle.storyhost.specs.Streams.{SourceState, SinkState}
 use Rattle.storyhost.specs.Talked.{IsReadToEnd}
+use Rattle.storyhost.specs.Words.{Asked}
 use Rattle.storyhost.specs.Writing.{IsPartOf}
-use Rattle.storyhost.specs.Does.{Does, Tells}
-use Rattle.storyhost.specs.Words.{Asked, Run}
 use Rattle.storyhost.proofs.LinesLemmas.{still_reached, talk_settled}
-use Rattle.storyhost.proofs.TalkLemmas.{replies_more, replies_settled, after_settled}
+use Rattle.storyhost.proofs.SpeechLemmas.{IsSteady, steady_run, steady_pipe}
+use Rattle.storyhost.proofs.StoriesLemmas.{settled_told}
 
 -- what was read of an input that is told
 consumed : (old new : Option (List ℕ)) (bytes read : List ℕ) → Consumes old new read → old ≡ Some bytes → (rest : List ℕ) × (bytes ≡ read ++ rest) × (new ≡ Some rest)
@@ -37,68 +38,63 @@ nothing_left : (left : Option (List ℕ)) (rest : List ℕ) → IsAtEnd left →
 nothing_left None rest p e = cc
 nothing_left (Some xs) rest p e = cc
 
-loaded_file : (told : Option (List ℕ)) (file bytes : List ℕ) → IsFile told bytes → told ≡ Some file → bytes ≡ take 67108865 file
-loaded_file None file bytes p e = cc
-loaded_file (Some xs) file bytes p e = cc
-
-ok_map : {T E : Type 0} (r : Result T E) (P Q : T → Type 0) → ((x : T) → P x → Q x) → IsOkAnd r P → IsOkAnd r Q
-ok_map (Ok x) P Q f p = f x p
-ok_map (Err e) P Q f p = absurd p
-
 part_of_part : (a b c : List ℕ) → IsPartOf a b → IsPartOf b c → IsPartOf a c
 part_of_part a b c p q = (p.0 ++ q.0, q.1 ∙ ap (λ l. l ++ q.0) p.1 ∙ append_assoc a p.0 q.0)
 
--- the text of a run over a part of the input begins that over the whole
-part_of_whole : (r : Result Story ImageFault) (budget : ℕ) (read rest : List ℕ) → IsPartOf (whole_text r budget (lines read)) (whole_text r budget (lines (read ++ rest)))
-part_of_whole (Ok story) budget read rest =
-    let more = replies_more solo (opened story budget) read rest in
-    let opening : List ℕ = show_text (opened story budget) in
-    (more.0, ap (λ l. opening ++ l) more.1 ∙ sym (append_assoc opening (replies solo (opened story budget) (lines read)) more.0))
-part_of_whole (Err fault) budget read rest = ([], sym (append-nil (whole_text (Err fault) budget (lines read))))
+-- what is said goes on as the input does
+abbrev IsSteadySaid : Result Speech (List ℕ) → Type 0
+IsSteadySaid said = IfOk said IsSteady
 
-done_writes : (story : Story) (budget : ℕ) (read rest : List ℕ) (now : SourceState) (written : List ℕ) → now.left ≡ Some rest
-    → written ≡ run_text story budget (lines read) → IsReadToEnd read now ⊎ (is_over (run_world story budget (lines read)) ≡ true)
-    → (written ≡ run_text story budget (lines (read ++ rest)))
-    × (IsWithinLimits (read ++ rest) ⊎ (is_over (run_world story budget (lines (read ++ rest))) ≡ true))
-done_writes story budget read rest now written left text (inl end) =
+steady : (action : Action) (found : Result (List Story) Refusal) (budget : ℕ) → IsSteadySaid (said_of action found budget)
+steady Run (Ok stories) budget = steady_run (slice_get stories 0) budget
+steady Pipe (Ok stories) budget = steady_pipe stories budget
+steady action (Err refusal) budget = tt
+
+-- the text over a part of the input begins that over the whole
+part_of_whole : (said : Result Speech (List ℕ)) → IsSteadySaid said → (read rest : List ℕ) → IsPartOf (whole_text said (lines read)) (whole_text said (lines (read ++ rest)))
+part_of_whole (Ok speech) s read rest = s.more read rest
+part_of_whole (Err line) s read rest = ([], sym (append-nil line))
+
+done_writes : (speech : Speech) → IsSteady speech → (read rest : List ℕ) (now : SourceState) (written : List ℕ) → now.left ≡ Some rest
+    → written ≡ speech.text (lines read) → IsReadToEnd read now ⊎ (speech.is_over (lines read) ≡ true)
+    → (written ≡ speech.text (lines (read ++ rest))) × (IsWithinLimits (read ++ rest) ⊎ (speech.is_over (lines (read ++ rest)) ≡ true))
+done_writes speech s read rest now written left text (inl end) =
     let all : read ++ rest ≡ read = ap (λ l. read ++ l) (nothing_left now.left rest end.at_end left) ∙ append-nil read in
-    (text ∙ ap (λ b. run_text story budget (lines b)) (sym all), inl (subst (λ (b : List ℕ). IsWithinLimits b) (sym all) end.within))
-done_writes story budget read rest now written left text (inr over) =
-    let same = replies_settled solo (opened story budget) read rest over in
-    let world = after_settled solo (opened story budget) read rest over in
-    (text ∙ ap (λ l. show_text (opened story budget) ++ l) (sym same), inr (ap is_over world ∙ over))
+    (text ∙ ap (λ b. speech.text (lines b)) (sym all), inl (subst (λ (b : List ℕ). IsWithinLimits b) (sym all) end.within))
+done_writes speech s read rest now written left text (inr over) = (text ∙ sym (s.settled read rest over), inr (s.still_over read rest over))
 
-writes : (status : Status) (file : List ℕ) (budget : ℕ) (read rest : List ℕ) (now : SourceState) (written : List ℕ)
-    → length read ≤ 2 ^ 31 → now.left ≡ Some rest → RunLeaves status file budget read now written → RunWrites status file budget (read ++ rest) written
-writes Done file budget read rest now written within left leaves = ok_map (story_of file) _ _ (λ story p. done_writes story budget read rest now written left p.0 p.1) leaves
-writes BadWords file budget read rest now written within left leaves = absurd leaves
-writes Refused file budget read rest now written within left leaves = leaves
-writes ReadFault file budget read rest now written within left leaves = inr (ok_map (story_of file) _ _ (λ story p. (read, (rest, refl), p)) leaves)
-writes WriteFault file budget read rest now written within left leaves = part_of_part written _ _ leaves (part_of_whole (story_of file) budget read rest)
-writes NoMemory file budget read rest now written within left leaves = part_of_part written _ _ leaves (part_of_whole (story_of file) budget read rest)
-writes LineLimit file budget read rest now written within left leaves = ok_map (story_of file) _ _
-    (λ story p. (p.0 ∙ ap (run_text story budget) (sym (talk_settled read rest within p.1)), still_reached read rest p.1)) leaves
+writes : (status : Status) (said : Result Speech (List ℕ)) → IsSteadySaid said → (read rest : List ℕ) (now : SourceState) (written : List ℕ)
+    → length read ≤ 2 ^ 31 → now.left ≡ Some rest → Leaves status said read now written → Writes status said (read ++ rest) written
+writes Done (Ok speech) s read rest now written within left leaves = done_writes speech s read rest now written left leaves.0 leaves.1
+writes Done (Err line) s read rest now written within left leaves = absurd leaves
+writes BadWords said s read rest now written within left leaves = absurd leaves
+writes Refused said s read rest now written within left leaves = leaves
+writes ReadFault (Ok speech) s read rest now written within left leaves = inr (read, (rest, refl), leaves)
+writes ReadFault (Err line) s read rest now written within left leaves = absurd leaves
+writes WriteFault said s read rest now written within left leaves = part_of_part written _ _ leaves (part_of_whole said s read rest)
+writes NoMemory said s read rest now written within left leaves = part_of_part written _ _ leaves (part_of_whole said s read rest)
+writes LineLimit (Ok speech) s read rest now written within left leaves =
+    (leaves.0 ∙ ap speech.text (sym (talk_settled read rest within leaves.1)), still_reached read rest leaves.1)
+writes LineLimit (Err line) s read rest now written within left leaves = absurd leaves
 
-nothing_writes : (status : Status) (P : Type 0) (file : List ℕ) (budget : ℕ) (input : List ℕ) → (status ≡ ReadFault) × P ⊎ (status ≡ NoMemory) → RunWrites status file budget input []
-nothing_writes status P file budget input (inl failed) = subst (λ (s : Status). RunWrites s file budget input []) (sym failed.0) (inl refl)
-nothing_writes status P file budget input (inr wanted) = subst (λ (s : Status). RunWrites s file budget input []) (sym wanted) (whole_text (story_of file) budget (lines input), refl)
-
-tells_by : {outside beyond : OutsideState} {input now : SourceState} {output new : SinkState} (name : List ℕ) (budget : ℕ) (status : Status) (loaded : Option (List ℕ))
-    → IfSome loaded (λ file. IsFile (outside.file name) file) → IfSome loaded (λ file. Played input now output new file budget status)
-    → (loaded ≡ None → NotLoaded outside beyond input now output new status) → Tells (Run name budget) status outside input output new
-tells_by {outside} {beyond} {input} {now} {output} {new} name budget status None is_file played not_loaded file bytes held file_is left_is held_is =
-    let none = not_loaded refl in
-    ([], held_then output.held new.held held [] none.wrote.told held_is, nothing_writes status _ (take 67108865 file) budget bytes none.cause)
-tells_by {outside} {beyond} {input} {now} {output} {new} name budget status (Some loaded) is_file played not_loaded file bytes held file_is left_is held_is =
-    let c = consumed input.left now.left bytes played.read played.gave.told left_is in
-    let w : RunWrites status loaded budget (played.read ++ c.0) played.written = writes status loaded budget played.read c.0 now played.written played.within c.2 played.leaves in
-    let of_file : RunWrites status (take 67108865 file) budget (played.read ++ c.0) played.written
-    = subst (λ (f : List ℕ). RunWrites status f budget (played.read ++ c.0) played.written) (loaded_file (outside.file name) file loaded is_file file_is) w in (
-      played.written,
-      held_then output.held new.held held played.written played.wrote.told held_is,
-      subst (λ (b : List ℕ). RunWrites status (take 67108865 file) budget b played.written) (sym c.1) of_file,
-    )
+nothing_writes : (status : Status) (P : Type 0) (said : Result Speech (List ℕ)) (input : List ℕ) → (status ≡ ReadFault) × P ⊎ (status ≡ NoMemory) → Writes status said input []
+nothing_writes status P said input (inl failed) = subst (λ (s : Status). Writes s said input []) (sym failed.0) (inl refl)
+nothing_writes status P said input (inr wanted) = subst (λ (s : Status). Writes s said input []) (sym wanted) (whole_text said (lines input), refl)
 
 pub tells : (asked : Asked) (status : Status) (outside beyond : OutsideState) (input now : SourceState) (output new : SinkState)
-    → Does asked status outside beyond input now output new → Tells asked status outside input output new
-tells (Run name budget) status outside beyond input now output new ran = tells_by name budget status ran.loaded ran.is_file ran.played ran.not_loaded
+    → Follows asked status outside beyond input now output new → Tells asked status outside input output new
+tells asked status outside beyond input now output new (inl none) files bytes held files_are left_is held_is =
+    ([], held_then output.held new.held held [] none.wrote.told held_is, nothing_writes status _ _ bytes none.cause)
+tells asked status outside beyond input now output new (inr some) files bytes held files_are left_is held_is =
+    let said = said_of asked.action (stories_of some.files) asked.budget in
+    let all = said_of asked.action (stories_of (map (take 67108865) files)) asked.budget in
+    let spoken : Spoken said input now output new status = some.spoken in
+    let c = consumed input.left now.left bytes spoken.read spoken.gave.told left_is in
+    let w : Writes status said (spoken.read ++ c.0) spoken.written
+    = writes status said (steady asked.action (stories_of some.files) asked.budget) spoken.read c.0 now spoken.written spoken.within c.2 spoken.leaves in
+    let same : said ≡ all = ap (λ f. said_of asked.action f asked.budget) (sym (settled_told outside.file asked.names some.files files some.are_files some.settled files_are)) in
+    let of_all : Writes status all (spoken.read ++ c.0) spoken.written = subst (λ (s : Result Speech (List ℕ)). Writes status s (spoken.read ++ c.0) spoken.written) same w in (
+      spoken.written,
+      held_then output.held new.held held spoken.written spoken.wrote.told held_is,
+      subst (λ (b : List ℕ). Writes status all b spoken.written) (sym c.1) of_all,
+    )

@@ -1,4 +1,4 @@
-//! Plays a story over standard input and output.
+//! Plays stories over standard input and output.
 #![tactic(auto)]
 
 mod answers;
@@ -8,11 +8,14 @@ mod hear;
 mod line_buffer;
 mod memory;
 mod outside;
+mod pipe;
 mod player;
+mod refuse;
 mod run;
 mod sink;
 mod source;
 mod status;
+mod stories;
 #[cfg(test)]
 mod tests;
 mod top;

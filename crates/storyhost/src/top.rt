@@ -4,17 +4,56 @@ ghost use Rattle.storyhost.specs.Causes.{Rose};
 ghost use Rattle.storyhost.specs.Streams.{Gave, Wrote};
 ghost use Rattle.storyhost.specs.Status.{status_of};
 ghost use Rattle.storyhost.specs.Words.{asked, asked_by};
-ghost use Rattle.storyhost.specs.Does.{Does, Tells};
+ghost use Rattle.storyhost.specs.Speech.{said_of};
+ghost use Rattle.storyhost.specs.Spoken.{Spoken};
+ghost use Rattle.storyhost.specs.Stories.{stories_of};
+ghost use Rattle.storyhost.specs.Follows.{Follows, Tells};
 
-use crate::outside::Outside;
+use crate::outside::{Fetch, Outside};
+use crate::pipe::pipe;
+use crate::refuse::refuse;
 use crate::run::run;
 use crate::sink::Sink;
 use crate::source::Source;
 use crate::status::Status;
-use crate::words::{Command, command_of};
+use crate::stories::{Unplayed, load_files, stories_of};
+use crate::words::{Action, Command, command_of};
 use std::alloc::Global;
 use std::sync::Wait;
 use std::thread::Threads;
+
+/// The room for one read of input, in bytes.
+const ROOM: usize = 4096;
+
+/// Says what the action says over the stories of files.
+fn speak<S: Source, K: Sink>(
+    alloc: Global,
+    action: Action,
+    budget: u64,
+    files: &[Vec<u8>],
+    input: &mut S,
+    output: &mut K,
+) -> Status
+    ensures value { Spoken (said_of action (stories_of (map (λ f. f.items) files.now)) budget)
+        (S.source input.old) (S.source input.new) (K.sink output.old) (K.sink output.new) result }
+    ensures read_fault { result ≡ Status.ReadFault
+        → Rose (S.source input.old).faults (S.source input.new).faults }
+    ensures write_fault { result ≡ Status.WriteFault
+        → Rose (K.sink output.old).faults (K.sink output.new).faults }
+{
+    let Ok(mut buffer) = vec![in alloc; 0u8; ROOM] else {
+        return Status::NoMemory;
+    };
+    let stories = match stories_of(alloc, files) {
+        Ok(stories) => stories,
+        Err(Unplayed::Refused(refusal)) => return refuse(alloc, refusal, output),
+        Err(Unplayed::NoMemory) => return Status::NoMemory,
+    };
+    match action {
+        Action::Run => run(alloc, &stories, budget, input, output, &mut buffer),
+        Action::Pipe => pipe(alloc, &stories, budget, input, output, &mut buffer),
+    }
+}
 
 /// Does what a command asks for.
 fn follow<O: Outside, S: Source, K: Sink>(
@@ -24,7 +63,7 @@ fn follow<O: Outside, S: Source, K: Sink>(
     input: &mut S,
     output: &mut K,
 ) -> Status
-    ensures done { Does (asked command.entry) result
+    ensures done { Follows (asked command.entry) result
         (O.outside outside.old) (O.outside outside.new) (S.source input.old) (S.source input.new)
         (K.sink output.old) (K.sink output.new) }
     ensures bad_words { ¬ (result ≡ Status.BadWords) }
@@ -35,9 +74,12 @@ fn follow<O: Outside, S: Source, K: Sink>(
         → Rose (K.sink output.old).faults (K.sink output.new).faults }
     ensures kept { (O.outside outside.new).file ≡ (O.outside outside.old).file }
 {
-    match command {
-        Command::Run { file, budget } => run(alloc, file, budget, outside, input, output),
-    }
+    let files = match load_files(alloc, command.names, outside) {
+        Ok(files) => files,
+        Err(Fetch::Failed) => return Status::ReadFault,
+        Err(Fetch::NoMemory) => return Status::NoMemory,
+    };
+    speak(alloc, command.action, command.budget, &files, input, output)
 }
 
 /// Does what the words after the program's name ask for, and answers the exit status.
@@ -56,11 +98,11 @@ pub fn top<R: Threads + Wait + Sync, O: Outside, S: Source, K: Sink>(
 
     // what was asked is done as far as the status says
     ensures done { IfSome (asked_by (map string_bytes words.now)) (λ asked.
-        IsSomeAnd (status_of result) (λ status. Does asked status
+        IsSomeAnd (status_of result) (λ status. Follows asked status
         (O.outside outside.old) (O.outside outside.new) (S.source input.old) (S.source input.new)
         (K.sink output.old) (K.sink output.new))) }
 
-    // and in plain words, for a caller who is told the file, the input and what the output holds
+    // and in plain words, for a caller who is told the files, the input and what the output holds
     ensures told { IfSome (asked_by (map string_bytes words.now)) (λ asked.
         IsSomeAnd (status_of result) (λ status. Tells asked status (O.outside outside.old)
         (S.source input.old) (K.sink output.old) (K.sink output.new))) }

@@ -1,11 +1,27 @@
-use Rattle.std.proofs.Common.{refl}
-use Rattle.storyhost.proofs.RunLemmas.{not_loaded_ran, loaded_ran}
+use Rattle.std.proofs.Common.{sym, ◌∙◌, ap}
+use Rattle.story_run.specs.Solo.{opening}
+use Rattle.storyhost.proofs.SpeechLemmas.{spoken_nothing, spoken_silent, run_stopped, run_over, run_talked}
 use Rattle.storyhost.proofs.run.run.Goals as goal
 
-pub returns-in-Err-Failed-clause-value : goal.returns-in-Err-Failed-clause-value
-returns-in-Err-Failed-clause-value g c =
-    not_loaded_ran _ _ _ _ (rw c.in-Err-Failed.field-0-is at c.in-Err-Failed.ensures.cause refl)
+pub returns-in_default-clause-value : goal.returns-in_default-clause-value
+returns-in_default-clause-value g c = rw (← c.in_default.ensures.value) (spoken_silent c.args.budget _ _)
+
+pub returns-in_default-start-clause-value : goal.returns-in_default-start-clause-value
+returns-in_default-start-clause-value g c = spoken_nothing _ _ _
+
+pub returns-in-Err-clause-value : goal.returns-in-Err-clause-value
+returns-in-Err-clause-value g c =
+    rw (← c.in-Some.ensures.value, c.status.ensures)
+    (run_stopped c.in-Some.story.now _ _ c.in-Ok.world (c.in-Ok.ensures.value ∙ ap (λ s. opening c.in-Some.story.now.image s) c.alone.ensures) c.in-Err.ensures.err)
+
+pub returns-then-is_over-clause-value : goal.returns-then-is_over-clause-value
+returns-then-is_over-clause-value g c =
+    rw (← c.in-Some.ensures.value)
+    (run_over c.in-Some.story.now _ _ c.in-Ok.world (c.in-Ok.ensures.value ∙ ap (λ s. opening c.in-Some.story.now.image s) c.alone.ensures)
+    (sym c.is_over.ensures.value ∙ c.if-is_over.true) c.in-Ok-say.ensures.ok)
 
 pub returns-clause-value : goal.returns-clause-value
 returns-clause-value g c =
-    loaded_ran c.deref.result.now (rw c.deref.ensures.value c.in-Ok-load.ensures.value) c.play_file.ensures.value
+    rw (← c.in-Some.ensures.value)
+    (run_talked c.in-Some.story.now _ _ c.in-Ok.world (c.in-Ok.ensures.value ∙ ap (λ s. opening c.in-Some.story.now.image s) c.alone.ensures)
+    c.in-Ok-say.ensures.ok c.converse.ensures.value)

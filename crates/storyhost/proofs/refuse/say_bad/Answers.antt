@@ -1,6 +1,6 @@
 use Rattle.std.proofs.lemmas.Result.{err_from_is_err_and}
 use Rattle.storyhost.proofs.WritingLemmas.{stopped_at_once}
-use Rattle.storyhost.proofs.run.refuse.Goals as goal
+use Rattle.storyhost.proofs.refuse.say_bad.Goals as goal
 
 pub returns-in_err-line-clause-err : goal.returns-in_err-line-clause-err
 returns-in_err-line-clause-err g c =

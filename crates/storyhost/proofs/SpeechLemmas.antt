@@ -1,0 +1,217 @@
+-- How the parts of what a command says make the whole.
+use Rattle.std.proofs.Common.{◌≡◌, ℕ, inr, List, [], ◌∷◌, ◌++◌, refl, sym, ap, ◌∙◌, subst, arith, append_assoc, Option, None, Some, Result, Ok, Err, Bool, true, false}
+use Rattle.std.proofs.Math.Path.{fun_ext}
+use Rattle.std.proofs.lemmas.List.{append-nil}
+use Rattle.std.specs.List.{flat_map}
+use Rattle.line_words.specs.Play.{is_long}
+use Rattle.gate_journal.specs.declared.command.Command.{Command}
+use Rattle.line_words.specs.Reply.{print_reply}
+use Rattle.line_words.specs.declared.reply.No.TheVariants.{LongLine}
+use Rattle.line_words.specs.declared.reply.Reply.TheVariants.{No}
+use Rattle.session_core.specs.Sessions.{reply_to, after_line, replies_to}
+use Rattle.story_run.specs.Solo.{is_over}
+use Rattle.story_run.specs.World.{WorldState}
+use Rattle.story_run.specs.declared.story.Story.{Story}
+use Rattle.storyhost.specs.declared.sink.Stop.{Stop}
+use Rattle.storyhost.specs.declared.sink.Stop.TheVariants as stop
+use Rattle.storyhost.specs.declared.status.Status.{Status}
+use Rattle.storyhost.specs.declared.status.Status.TheVariants.{Done, BadWords, Refused, ReadFault, WriteFault, NoMemory, LineLimit}
+use Rattle.storyhost.specs.Conversation.{Answering, replies, after}
+use Rattle.storyhost.specs.Headline.{Speech, whole_text}
+use Rattle.storyhost.specs.Lines.{lines, heard}
+use Rattle.storyhost.specs.PipeText.{Host, new_host, host_reply, host_next, many}
+use Rattle.storyhost.specs.RunText.{opened, solo, show_text}
+use Rattle.storyhost.specs.Speech.{run_speech, pipe_speech}
+use Rattle.storyhost.specs.Spoken.{Spoken, Leaves}
+use Rattle.storyhost.specs.Status.{status_of_stop}
+use Rattle.storyhost.specs.Streams.{SourceState, SinkState, Wrote}
+use Rattle.storyhost.specs.Talked.{Talked, TalkLeaves}
+use Rattle.storyhost.specs.Writing.{IsPartOf, Stopped}
+use Rattle.storyhost.proofs.StreamsLemmas.{gave_none, wrote_none, wrote_then}
+use Rattle.storyhost.proofs.TalkLemmas.{replies_more, replies_settled, after_settled}
+use Rattle.storyhost.proofs.WritingLemmas.{stopped_more}
+
+-- an opening, and then the replies to lines
+abbrev pub speech_by : {A : Type 0} → Answering A → A → List ℕ → Speech
+speech_by by start opening =
+    record { text = λ lines. opening ++ replies by start lines; is_over = λ lines. by.is_over (after by start lines) }
+
+begun_part : (first part text : List ℕ) → IsPartOf part text → IsPartOf (first ++ part) (first ++ text)
+begun_part first part text p = (p.0, ap (λ t. first ++ t) p.1 ∙ sym (append_assoc first part p.0))
+
+talk_leaves : {A : Type 0} (by : Answering A) (start : A) (opening : List ℕ) (status : Status) (read : List ℕ) (now : SourceState) (written : List ℕ)
+    → TalkLeaves status by start read now written → Leaves status (Ok (speech_by by start opening)) read now (opening ++ written)
+talk_leaves by start opening Done read now written t = (ap (λ w. opening ++ w) t.0, t.1)
+talk_leaves by start opening BadWords read now written t = absurd t
+talk_leaves by start opening Refused read now written t = absurd t
+talk_leaves by start opening ReadFault read now written t = ap (λ w. opening ++ w) t
+talk_leaves by start opening WriteFault read now written t = begun_part opening written (replies by start (lines read)) t
+talk_leaves by start opening NoMemory read now written t = begun_part opening written (replies by start (lines read)) t
+talk_leaves by start opening LineLimit read now written t = (ap (λ w. opening ++ w) t.0, t.1)
+
+-- the opening was written, and then lines were answered
+pub spoken_by : {A : Type 0} (by : Answering A) (start : A) (opening : List ℕ) {input now : SourceState} {output mid new : SinkState} (status : Status)
+    → Wrote output mid opening → Talked by start input now mid new status → Spoken (Ok (speech_by by start opening)) input now output new status
+spoken_by by start opening {input} {now} {output} {mid} {new} status wrote t = record {
+  read = t.read;
+  written = opening ++ t.written;
+  gave = t.gave;
+  within = t.within;
+  wrote = wrote_then wrote t.wrote;
+  leaves = talk_leaves by start opening status t.read now t.written t.leaves;
+}
+
+-- no line is answered after the opening
+pub spoken_over : {A : Type 0} (by : Answering A) (start : A) (opening : List ℕ) (input : SourceState) {output new : SinkState}
+    → Wrote output new opening → by.is_over start ≡ true → Spoken (Ok (speech_by by start opening)) input input output new Done
+spoken_over by start opening input wrote over = record {
+  read = [];
+  written = opening;
+  gave = gave_none input;
+  within = omega arith;
+  wrote = wrote;
+  leaves = (sym (append-nil opening), inr over);
+}
+
+stop_leaves : (cause : Stop) (said : Result Speech (List ℕ)) (read : List ℕ) (now : SourceState) (written : List ℕ)
+    → IsPartOf written (whole_text said (lines read)) → Leaves (status_of_stop cause) said read now written
+stop_leaves stop.Output said read now written p = p
+stop_leaves stop.Memory said read now written p = p
+
+-- a text that begins what is to be written was not written whole
+pub spoken_stopped : (said : Result Speech (List ℕ)) (input : SourceState) {output new : SinkState} {text : List ℕ} {cause : Stop} (rest : List ℕ)
+    → whole_text said [] ≡ text ++ rest → Stopped output new text cause → Spoken said input input output new (status_of_stop cause)
+spoken_stopped said input {output} {new} {text} {cause} rest is s =
+    let all : Stopped output new (text ++ rest) cause = stopped_more rest s in
+    record {
+      read = [];
+      written = all.wrote.part;
+      gave = gave_none input;
+      within = omega arith;
+      wrote = all.wrote.wrote;
+      leaves = stop_leaves cause said [] input all.wrote.part (all.rest, is ∙ all.wrote.split);
+    }
+
+-- memory was wanted before anything was written
+pub spoken_nothing : (said : Result Speech (List ℕ)) (input : SourceState) (output : SinkState) → Spoken said input input output output NoMemory
+spoken_nothing said input output = record {
+  read = [];
+  written = [];
+  gave = gave_none input;
+  within = omega arith;
+  wrote = wrote_none output;
+  leaves = (whole_text said [], refl);
+}
+
+-- a story is refused
+pub spoken_refused : (line : List ℕ) (input : SourceState) {output new : SinkState} → Wrote output new line → Spoken (Err line) input input output new Refused
+spoken_refused line input wrote = record {
+  read = [];
+  written = line;
+  gave = gave_none input;
+  within = omega arith;
+  wrote = wrote;
+  leaves = refl;
+}
+
+pub spoken_silent : (budget : ℕ) (input : SourceState) (output : SinkState) → Spoken (Ok (run_speech None budget)) input input output output Done
+spoken_silent budget input output = record {
+  read = [];
+  written = [];
+  gave = gave_none input;
+  within = omega arith;
+  wrote = wrote_none output;
+  leaves = (refl, inr refl);
+}
+
+-- the story that is played alone: its opening show wasn't written whole, it is over at once, or lines were answered
+pub run_stopped : (story : Story) (budget : ℕ) (input : SourceState) {output new : SinkState} {cause : Stop} (start : WorldState) → start ≡ opened story budget
+    → Stopped output new (show_text start) cause → Spoken (Ok (run_speech (Some story) budget)) input input output new (status_of_stop cause)
+run_stopped story budget input {output} {new} {cause} start is s =
+    spoken_stopped (Ok (run_speech (Some story) budget)) input [] refl (subst (λ (w : WorldState). Stopped output new (show_text w) cause) is s)
+
+pub run_over : (story : Story) (budget : ℕ) (input : SourceState) {output new : SinkState} (start : WorldState) → start ≡ opened story budget
+    → is_over start ≡ true → Wrote output new (show_text start) → Spoken (Ok (run_speech (Some story) budget)) input input output new Done
+run_over story budget input {output} {new} start is over wrote =
+    spoken_over solo (opened story budget) (show_text (opened story budget)) input
+    (subst (λ (w : WorldState). Wrote output new (show_text w)) is wrote) (ap is_over (sym is) ∙ over)
+
+pub run_talked : (story : Story) (budget : ℕ) {input now : SourceState} {output mid new : SinkState} (status : Status) (start : WorldState) → start ≡ opened story budget
+    → Wrote output mid (show_text start) → Talked solo start input now mid new status → Spoken (Ok (run_speech (Some story) budget)) input now output new status
+run_talked story budget {input} {now} {output} {mid} {new} status start is wrote talked =
+    spoken_by solo (opened story budget) (show_text (opened story budget)) status
+    (subst (λ (w : WorldState). Wrote output mid (show_text w)) is wrote)
+    (subst (λ (w : WorldState). Talked solo w input now mid new status) is talked)
+
+abbrev with_histories : Host → List (List Command) → Host
+with_histories host histories = record host { histories = histories }
+
+abbrev heard_by : Host → List ℕ → Host
+heard_by host line = with_histories host (after_line host.stories host.budget host.histories line)
+
+-- one line is answered by a host as by its sessions
+record IsStep (host : Host) (line : List ℕ) : Type 0 where
+  reply : print_reply (reply_to host.stories host.budget host.histories line) ≡ host_reply host (heard line)
+  next : heard_by host line ≡ host_next host (heard line)
+
+heard_short : (line : List ℕ) → is_long line ≡ false → heard line ≡ Some line
+heard_short line e = rw e refl
+
+heard_long : (line : List ℕ) → is_long line ≡ true → heard line ≡ None
+heard_long line e = rw e refl
+
+reply_long : (stories : List Story) (budget : ℕ) (histories : List (List Command)) (line : List ℕ) → is_long line ≡ true → reply_to stories budget histories line ≡ No LongLine
+reply_long stories budget histories line e = rw e (rw e refl)
+
+after_long : (stories : List Story) (budget : ℕ) (histories : List (List Command)) (line : List ℕ) → is_long line ≡ true → after_line stories budget histories line ≡ histories
+after_long stories budget histories line e = rw e refl
+
+step_by : (host : Host) (line : List ℕ) (long : Bool) → is_long line ≡ long → IsStep host line
+step_by host line true e = let h = heard_long line e in record {
+  reply = ap print_reply (reply_long host.stories host.budget host.histories line e) ∙ sym (ap (host_reply host) h);
+  next = ap (λ hs. with_histories host hs) (after_long host.stories host.budget host.histories line e) ∙ sym (ap (host_next host) h);
+}
+step_by host line false e = let h = heard_short line e in record { reply = sym (ap (host_reply host) h); next = sym (ap (host_next host) h) }
+
+-- the replies of a host, line by line, are those of its sessions
+host_replies : (host : Host) (ls : List (List ℕ)) → flat_map print_reply (replies_to host.stories host.budget host.histories ls) ≡ replies many host ls
+host_replies host [] = refl
+host_replies host (line ∷ ls) =
+    let s : IsStep host line = step_by host line (is_long line) refl in
+    let more : flat_map print_reply (replies_to host.stories host.budget (after_line host.stories host.budget host.histories line) ls) ≡ replies many (host_next host (heard line)) ls
+    = host_replies (heard_by host line) ls ∙ ap (λ h. replies many h ls) s.next in
+    ap (λ r. r ++ flat_map print_reply (replies_to host.stories host.budget (after_line host.stories host.budget host.histories line) ls)) s.reply
+    ∙ ap (λ r. host_reply host (heard line) ++ r) more
+
+pub pipe_is : (stories : List Story) (budget : ℕ) → pipe_speech stories budget ≡ speech_by many (new_host stories budget) []
+pipe_is stories budget =
+    ap (λ (t : List (List ℕ) → List ℕ). let s : Speech = record { text = t; is_over = λ lines. false } in s) (fun_ext (host_replies (new_host stories budget)))
+
+-- a text goes on as its input does
+pub record IsSteady (speech : Speech) : Type 0 where
+  pub more : (read rest : List ℕ) → (more : List ℕ) × (speech.text (lines (read ++ rest)) ≡ speech.text (lines read) ++ more)
+  pub settled : (read rest : List ℕ) → speech.is_over (lines read) ≡ true → speech.text (lines (read ++ rest)) ≡ speech.text (lines read)
+  pub still_over : (read rest : List ℕ) → speech.is_over (lines read) ≡ true → speech.is_over (lines (read ++ rest)) ≡ true
+
+steady_by : {A : Type 0} (by : Answering A) (start : A) (opening : List ℕ) → IsSteady (speech_by by start opening)
+steady_by by start opening = record {
+  more = λ read rest. let m = replies_more by start read rest in
+      (m.0, ap (λ l. opening ++ l) m.1 ∙ sym (append_assoc opening (replies by start (lines read)) m.0));
+  settled = λ read rest over. ap (λ l. opening ++ l) (replies_settled by start read rest over);
+  still_over = λ read rest over. ap by.is_over (after_settled by start read rest over) ∙ over;
+}
+
+pub steady_run : (story : Option Story) (budget : ℕ) → IsSteady (run_speech story budget)
+steady_run None budget = record { more = λ read rest. ([], refl); settled = λ read rest over. refl; still_over = λ read rest over. refl }
+steady_run (Some story) budget = steady_by solo (opened story budget) (show_text (opened story budget))
+
+pub steady_pipe : (stories : List Story) (budget : ℕ) → IsSteady (pipe_speech stories budget)
+steady_pipe stories budget = subst IsSteady (sym (pipe_is stories budget)) (steady_by many (new_host stories budget) [])
+
+-- a host answered lines
+pub pipe_talked : (stories : List Story) (budget : ℕ) {input now : SourceState} {output new : SinkState} (status : Status) (start : Host) → start ≡ new_host stories budget
+    → Talked many start input now output new status → Spoken (Ok (pipe_speech stories budget)) input now output new status
+pipe_talked stories budget {input} {now} {output} {new} status start is talked =
+    subst (λ (s : Speech). Spoken (Ok s) input now output new status) (sym (pipe_is stories budget))
+    (spoken_by many (new_host stories budget) [] status (wrote_none output)
+    (subst (λ (h : Host). Talked many h input now output new status) is talked))

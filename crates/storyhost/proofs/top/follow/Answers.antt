@@ -1,0 +1,11 @@
+use Rattle.std.proofs.Common.{inr, map}
+use Rattle.storyhost.proofs.top.follow.Goals as goal
+
+pub returns-clause-done : goal.returns-clause-done
+returns-clause-done g c = inr (record {
+  files = map (λ f. f.items) c.in-Ok.files.items;
+  are_files = c.in-Ok.ensures.value;
+  settled = c.in-Ok.ensures.settled;
+  spoken = rw c.deref.ensures.value at c.speak.ensures.value;
+  cause = c.speak.ensures.read_fault;
+})

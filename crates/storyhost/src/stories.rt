@@ -1,0 +1,77 @@
+//! The stories that a command names.
+ghost use Rattle.std.specs.Prelude.{◌≡◌, ◌≤◌, map, string_bytes, Ok, IfOk, IfErr, IsErrOf};
+ghost use Rattle.storyhost.specs.Causes.{Rose};
+ghost use Rattle.storyhost.specs.Stories.{AreFiles, IsSettled, Refuses, stories_of};
+
+use crate::outside::{Fetch, Outside};
+use glulx_image::{Image, ImageFault};
+use std::alloc::Global;
+use story_run::Story;
+
+/// The first story that is refused: its position from 0, and the check that it fails.
+#[derive(Clone, Copy, Debug, PartialEq, Eq)]
+pub struct Refusal {
+    pub story: usize,
+    pub fault: ImageFault,
+}
+
+/// Why stories aren't played.
+#[derive(Clone, Copy, Debug, PartialEq, Eq)]
+pub enum Unplayed {
+    Refused(Refusal),
+    NoMemory,
+}
+
+/// Loads files by their names, one after the other, until a file is no story.
+pub fn load_files<O: Outside>(
+    alloc: Global,
+    names: &[String],
+    outside: &mut O,
+) -> Result<Vec<Vec<u8>>, Fetch>
+    ensures value { IfOk result (λ files. AreFiles (O.outside outside.old).file
+        (map string_bytes names.now) (map (λ f. f.items) files.items)) }
+    ensures settled { IfOk result (λ files. IsSettled
+        (map string_bytes names.now) (map (λ f. f.items) files.items)) }
+    ensures cause { IsErrOf result Fetch.Failed
+        → Rose (O.outside outside.old).faults (O.outside outside.new).faults }
+    ensures kept { (O.outside outside.new).file ≡ (O.outside outside.old).file }
+    ensures later { (O.outside outside.old).faults ≤ (O.outside outside.new).faults }
+{
+    let mut files = Vec::new(alloc);
+    for name in names {
+        let bytes = outside.load(alloc, name)?;
+        let is_story = Image::parse(&bytes).is_ok();
+        match files.push(bytes) {
+            Ok(()) => {}
+            Err(_) => return Err(Fetch::NoMemory),
+        }
+        if !is_story {
+            return Ok(files);
+        }
+    }
+    Ok(files)
+}
+
+/// The stories of files, or the first that is refused.
+pub fn stories_of<'i>(alloc: Global, files: &'i [Vec<u8>]) -> Result<Vec<Story<'i>>, Unplayed>
+    ensures ok { IfOk result (λ stories.
+        stories_of (map (λ f. f.items) files.now) ≡ Ok stories.items) }
+    ensures err { IfErr result (Refuses (stories_of (map (λ f. f.items) files.now))) }
+{
+    let mut stories = Vec::new(alloc);
+    for file in files {
+        match Story::of(file) {
+            Ok(story) => match stories.push(story) {
+                Ok(()) => {}
+                Err(_) => return Err(Unplayed::NoMemory),
+            },
+            Err(fault) => {
+                return Err(Unplayed::Refused(Refusal {
+                    story: stories.len(),
+                    fault,
+                }));
+            }
+        }
+    }
+    Ok(stories)
+}
