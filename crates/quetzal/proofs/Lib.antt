@@ -1,0 +1,4 @@
+pub mod RunLemmas
+pub mod ChunkLemmas
+pub mod MemoryLemmas
+pub mod PrintLemmas

@@ -1,0 +1,16 @@
+//! Save files: a story's state as a form of chunks, written and read.
+#![tactic(auto)]
+
+mod fault;
+mod form;
+mod laws;
+mod memory;
+mod runs;
+mod write;
+
+pub use fault::SaveFault;
+pub use form::{Parts, read_parts};
+pub use laws::{reads_what_is_printed, restores_memory, restores_what_is_written};
+pub use memory::{read_memory, write_memory};
+pub use runs::{BadRuns, compressed_memory, restore};
+pub use write::write_save;
