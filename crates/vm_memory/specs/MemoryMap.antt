@@ -26,3 +26,12 @@ number_at n bytes at = big_number n (drop at bytes)
 -- the bytes with these in place of those at an address
 abbrev pub replaced : List ℕ → ℕ → List ℕ → List ℕ
 replaced bytes at new = take at bytes ++ new ++ drop (at + length new) bytes
+
+-- memory of another size: bytes past it are gone, new ones are zero
+abbrev pub resized : MemoryMap → ℕ → MemoryMap
+resized m size =
+    record m { bytes = take size m.bytes ++ replicate (size - length m.bytes) 0 }
+
+-- the original memory again
+abbrev pub reset : MemoryMap → MemoryMap
+reset m = record m { bytes = original m.rom m.endmem }

@@ -1,9 +1,9 @@
 //! Reads and writes of numbers, most significant byte first, and of blocks.
 
 ghost use Rattle.std.specs.Prelude.{◌≡◌, ◌≤◌, ◌<◌, ◌+◌, ◌&&◌, length, nat_le, OnErr, OnOk, IfOk};
-ghost use Rattle.vm_memory.specs.Access.{read, written, zeroed, copied, Leaves};
+ghost use Rattle.vm_memory.specs.Access.{read, written, zeroed, copied, copied_from, Leaves};
 
-use crate::bytes::{clear, put, shift};
+use crate::bytes::{clear, put, put_from, shift};
 use crate::{MAX_SIZE, MemFault, MemStop, Memory};
 use byteorder::{BigEndian, ByteOrder};
 
@@ -132,6 +132,26 @@ impl<'i> Memory<'i> {
             return Err(MemStop::Fault(MemFault::BadWrite(to)));
         }
         shift(&mut self.bytes, from as usize, to as usize, count as usize);
+        Ok(())
+    }
+
+    /// Takes so many bytes at the address from another memory; BadRead where they pass its end,
+    /// then BadWrite where they aren't all in RAM here. An empty block is nowhere and does nothing.
+    pub fn copy_from(&mut self, other: &Memory<'_>, at: u32, size: u32) -> Result<(), MemStop>
+        ensures value { Leaves (copied_from self.old other.now at size) self.new result }
+        ensures err { OnErr result (self.new ≡ self.old) }
+        ensures kept { length self.new.bytes ≡ length self.old.bytes }
+    {
+        if size == 0 {
+            return Ok(());
+        }
+        if !other.is_inside(at, size) {
+            return Err(MemStop::Fault(MemFault::BadRead(at)));
+        }
+        if !self.is_writable(at, size) {
+            return Err(MemStop::Fault(MemFault::BadWrite(at)));
+        }
+        put_from(&mut self.bytes, &other.bytes, at as usize, size as usize);
         Ok(())
     }
 }
