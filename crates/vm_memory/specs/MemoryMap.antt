@@ -1,5 +1,5 @@
 -- The memory map (Glulx 3.1.3, "The Memory Map").
-use Rattle.std.specs.Prelude.{ℕ, ◌+◌, ◌-◌, List, ◌++◌, length, take, drop, replicate}
+use Rattle.std.specs.Prelude.{◌≡◌, ℕ, ◌+◌, ◌-◌, List, ◌++◌, length, take, drop, replicate}
 use Rattle.byteorder.specs.Endian.{big_number}
 
 -- the bytes of memory, those from RAMSTART on writable; and the original list, which is the file's
@@ -35,3 +35,14 @@ resized m size =
 -- the original memory again
 abbrev pub reset : MemoryMap → MemoryMap
 reset m = record m { bytes = original m.rom m.endmem }
+
+-- two memories of one image
+pub record IsOfOneImage (a b : MemoryMap) : Type 0 where
+  pub ramstart : a.ramstart ≡ b.ramstart
+  pub rom : a.rom ≡ b.rom
+  pub endmem : a.endmem ≡ b.endmem
+
+-- a change of bytes alone: of the same image and of the same size
+pub record KeepsMap (old new : MemoryMap) : Type 0 where
+  pub image : IsOfOneImage old new
+  pub size : length old.bytes ≡ length new.bytes

@@ -1,6 +1,6 @@
 //! Memory: what it is made of, and its size.
 
-ghost use Rattle.std.specs.Prelude.{◌≡◌, ◌≤◌, ◌+◌, length, nat_le, IfOk, OnErr, OnOk};
+ghost use Rattle.std.specs.Prelude.{◌≡◌, ◌≤◌, ◌<◌, ◌+◌, length, nat_le, IfOk, OnErr, OnOk};
 ghost use Rattle.vm_memory.specs.MemoryMap.{memory_of, original, reset, resized};
 
 use crate::bytes::begin_with;
@@ -21,7 +21,7 @@ pub struct Memory<'i> {
 }
 
 impl<'i> Model for Memory<'i> {
-    ghost use Rattle.std.specs.Prelude.{◌≤◌, length};
+    ghost use Rattle.std.specs.Prelude.{◌≤◌, ◌<◌, length};
     ghost use Rattle.vm_memory.specs.MemoryMap.{MemoryMap};
 
     ghost Value = { MemoryMap };
@@ -29,8 +29,8 @@ impl<'i> Model for Memory<'i> {
     ghost view = { λ m. record { bytes = m.bytes.items; ramstart = m.ramstart; rom = m.rom.now; endmem = m.endmem } };
 
     ghost invariant = { λ m.
-        (length m.rom.now ≤ m.endmem) × ((m.endmem ≤ length m.bytes.items)
-        × (length m.bytes.items ≤ 16777216)) };
+        (length m.rom.now ≤ m.endmem) × ((0 < m.endmem)
+        × ((m.endmem ≤ length m.bytes.items) × (length m.bytes.items ≤ 16777216))) };
 }
 
 impl<'i> Memory<'i> {
@@ -44,6 +44,7 @@ impl<'i> Memory<'i> {
     ) -> Result<Memory<'i>, AllocError>
         requires ram { ramstart ≤ length rom.now }
         requires extent { length rom.now ≤ endmem }
+        requires some { 0 < endmem }
         requires limit { endmem ≤ MAX_SIZE }
         ensures value { IfOk result (λ m. m ≡ memory_of rom.now ramstart endmem) }
     {
@@ -94,6 +95,7 @@ impl<'i> Memory<'i> {
     pub fn size(&self) -> u32
         ensures value { result ≡ length self.now.bytes }
         ensures least { self.now.endmem ≤ result }
+        ensures some { 0 < result }
         ensures within { result ≤ MAX_SIZE }
     {
         self.bytes.len() as u32
