@@ -3,3 +3,4 @@ pub mod Chunks
 pub mod Runs
 pub mod Memory
 pub mod Printing
+pub mod Heap

@@ -3,6 +3,7 @@
 
 mod fault;
 mod form;
+mod heap;
 mod laws;
 mod memory;
 mod runs;
@@ -10,6 +11,7 @@ mod write;
 
 pub use fault::SaveFault;
 pub use form::{Parts, read_parts};
+pub use heap::{read_heap, write_heap};
 pub use laws::{reads_what_is_printed, restores_memory, restores_what_is_written};
 pub use memory::{read_memory, write_memory};
 pub use runs::{BadRuns, compressed_memory, restore};
