@@ -1,0 +1,4 @@
+pub mod ClosingLemmas
+pub mod PlacingLemmas
+pub mod RowLemmas
+pub mod RunLemmas
