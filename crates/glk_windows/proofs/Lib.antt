@@ -9,3 +9,4 @@ pub mod SameLemmas
 pub mod CutLemmas
 pub mod LiftLemmas
 pub mod TestLemmas
+pub mod RectangleLemmas

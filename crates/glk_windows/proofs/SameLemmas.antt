@@ -50,6 +50,11 @@ tree_put t n code style s h =
     (node_same (λ w. window_put w code style) (λ w. refl) (λ w. ap (λ o. (w.parent, o)) (put-content w.content code style)) t.slots n)
     refl h
 
+-- a rectangle leaves the tree as it is
+pub node_with : (ws : List Window) (n : ℕ) (r : Area) (m : ℕ) → node_of (with_area ws n r) m ≡ node_of ws m
+node_with ws n r m =
+    node_same (sized r) (λ w. refl) (λ w. ap (λ o. (w.parent, o)) (sized-content w.content r)) ws n m
+
 node-divided : (f : List Window → ℕ → Area → List Window)
     (h : (ws : List Window) (n : ℕ) (r : Area) (m : ℕ) → node_of (f ws n r) m ≡ node_of ws m)
     → (ws : List Window) (o : Option p.Pair) (r : Area) (m : ℕ) → node_of (divided f ws o r) m ≡ node_of ws m
