@@ -36,13 +36,16 @@ resized m size =
 abbrev pub reset : MemoryMap → MemoryMap
 reset m = record m { bytes = original m.rom m.endmem }
 
--- two memories of one image
-pub record IsOfOneImage (a b : MemoryMap) : Type 0 where
-  pub ramstart : a.ramstart ≡ b.ramstart
-  pub rom : a.rom ≡ b.rom
-  pub endmem : a.endmem ≡ b.endmem
+-- what memory has of its image
+pub record Origin : Type 0 where
+  pub ramstart : ℕ
+  pub rom : List ℕ
+  pub endmem : ℕ
 
--- a change of bytes alone: of the same image and of the same size
+abbrev pub origin_of : MemoryMap → Origin
+origin_of m = record { ramstart = m.ramstart; rom = m.rom; endmem = m.endmem }
+
+-- a change of bytes alone: memory of the same image, and of the same size
 pub record KeepsMap (old new : MemoryMap) : Type 0 where
-  pub image : IsOfOneImage old new
+  pub origin : origin_of old ≡ origin_of new
   pub size : length old.bytes ≡ length new.bytes
