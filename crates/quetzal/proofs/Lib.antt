@@ -2,3 +2,5 @@ pub mod RunLemmas
 pub mod ChunkLemmas
 pub mod MemoryLemmas
 pub mod PrintLemmas
+pub mod HeapLemmas
+pub mod OrderLemmas

@@ -32,15 +32,15 @@ abbrev pub listed : Option (List ℕ) → Option (ℕ × List Block)
 listed None = Some (0, [])
 listed (Some bytes) = listed_in bytes
 
--- a heap that a memory of this size may have: it starts at a page from ENDMEM on, its blocks lie in
--- order behind its start, and memory ends behind the last one
-abbrev pub is_active : ℕ → ℕ → ℕ → List Block → Bool
-is_active endmem length start blocks =
-    is_heap start blocks && (start % 256 == 0 && (nat_le endmem start && length == heap_end blocks))
+-- a heap starts at a page from ENDMEM on, and memory ends where the heap does
+abbrev pub is_placed : ℕ → ℕ → ℕ → ℕ → Bool
+is_placed endmem length start end = start % 256 == 0 && (nat_le endmem start && length == end)
 
+-- a heap that a memory of this size may have
 abbrev pub fits : ℕ → ℕ → ℕ → List Block → Bool
 fits endmem length start [] = start == 0
-fits endmem length start (b ∷ bs) = is_active endmem length start (b ∷ bs)
+fits endmem length start (b ∷ bs) =
+    is_heap start (b ∷ bs) && is_placed endmem length start (heap_end (b ∷ bs))
 
 -- these blocks in some order fit
 pub record HaveOrder (endmem length start : ℕ) (pairs blocks : List Block) : Type 0 where

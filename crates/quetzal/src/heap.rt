@@ -1,6 +1,7 @@
 //! The heap's chunk (Glulx 3.1.3, "Saving and Restoring").
 
 ghost use Rattle.std.specs.Prelude.{◌≡◌, ◌++◌, ◌+◌, ◌*◌, ◌/◌, ◌%◌, ◌≤◌, ◌<◌, ◌^◌, length, drop, Some, None, OnOk, IfOk, MatchOption};
+ghost use Rattle.vm_heap.specs.HeapMap.{end_of, rounded_up};
 ghost use Rattle.quetzal.specs.Chunks.{now_of};
 ghost use Rattle.quetzal.specs.Heap as chunk;
 ghost use Rattle.quetzal.specs.Heap.{HasOrder, ReadsHeap, block_bytes, blocks_in, is_without, listed_in, print_heap};
@@ -41,6 +42,7 @@ struct Pairs<'a> {
 }
 
 // What a chunk lists: nothing is no heap, and so are 0 and 0.
+#[tactic(auto, unfolding(crate::specs::Heap::blocks_in))]
 fn listed(contents: Option<&[u8]>) -> Option<Pairs<'_>>
     ensures { MatchOption result
         (chunk.listed (now_of contents.entry) ≡ None)
@@ -57,6 +59,7 @@ fn listed(contents: Option<&[u8]>) -> Option<Pairs<'_>>
     }
 }
 
+#[tactic(auto, unfolding(crate::specs::Heap::blocks_in))]
 fn listed_in(bytes: &[u8]) -> Option<Pairs<'_>>
     ensures { MatchOption result
         (chunk.listed_in bytes.now ≡ None)
@@ -114,6 +117,7 @@ fn ordered(
 }
 
 // The pairs as blocks.
+#[tactic(auto, unfolding(crate::specs::Heap::blocks_in))]
 fn blocks_of(alloc: Global, pairs: &[u8]) -> Result<Vec<Block>, AllocError>
     requires { length pairs.now % 8 ≡ 0 }
     ensures { IfOk result (λ v. v.items ≡ blocks_in (length pairs.now / 8) pairs.now) }
@@ -134,14 +138,16 @@ fn fits(endmem: u32, size: u32, start: u32, blocks: &[Block]) -> bool
 {
     match blocks {
         [] => start == 0,
-        [.., last] => {
-            let end = u64::from(last.at) + u64::from(last.length);
-            is_heap(start, blocks)
-                && start % 256 == 0
-                && endmem <= start
-                && u64::from(size) == (end + 255) / 256 * 256
-        }
+        [.., last] => is_heap(start, blocks) && is_placed(endmem, size, start, last),
     }
+}
+
+// A heap starts at a page from ENDMEM on, and memory ends behind its last block.
+fn is_placed(endmem: u32, size: u32, start: u32, last: &Block) -> bool
+    ensures { result ≡ chunk.is_placed endmem size start (rounded_up (end_of last.now)) }
+{
+    let end = u64::from(last.at) + u64::from(last.length);
+    start % 256 == 0 && endmem <= start && u64::from(size) == (end + 255) / 256 * 256
 }
 
 /// The contents of the chunk that is written of a heap, where it has a block.
