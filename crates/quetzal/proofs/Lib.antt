@@ -4,3 +4,4 @@ pub mod MemoryLemmas
 pub mod PrintLemmas
 pub mod HeapLemmas
 pub mod OrderLemmas
+pub mod ReadLemmas

@@ -129,9 +129,13 @@ pub same_order : (from : ℕ) (s t : List Block) → IsNonDecreasingBy (λ b. b.
 same_order from s t up order h =
     same_alike from s t (length_permutation t s order) up (λ f. sym (total-sum f s) ∙ sum_by-IsPermutation f t s order ∙ total-sum f t) h
 
-and_left : (a b : Bool) → (a && b) ≡ true → a ≡ true
+pub and_left : (a b : Bool) → (a && b) ≡ true → a ≡ true
 and_left true b h = refl
 and_left false b h = absurd (grind (arith, h))
+
+pub and_right : (a b : Bool) → (a && b) ≡ true → b ≡ true
+and_right true b h = h
+and_right false b h = absurd (grind (arith, h))
 
 pub fits-filled : (endmem size start : ℕ) (bs : List Block) → 0 < length bs → is_heap start bs ≡ true
   → fits endmem size start bs ≡ is_placed endmem size start (heap_end bs)

@@ -4,3 +4,4 @@ pub mod Runs
 pub mod Memory
 pub mod Printing
 pub mod Heap
+pub mod Save

@@ -8,6 +8,7 @@ use byteorder::{BigEndian, ByteOrder};
 use crate::fault::SaveFault;
 
 /// The chunks that a save is made of: the first of each name.
+#[derive(Clone, Copy)]
 pub struct Parts<'a> {
     pub header: &'a [u8],
     pub memory: &'a [u8],

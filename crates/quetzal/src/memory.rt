@@ -1,15 +1,20 @@
 //! The contents of the CMem and UMem chunks (Quetzal 1.4, "Content of dynamic memory").
 
-ghost use Rattle.std.specs.Prelude.{◌≡◌, ◌++◌, ◌+◌, ◌-◌, ◌≤◌, ◌<◌, ◌%◌, length, drop, false, IfOk};
+ghost use Rattle.std.specs.Prelude.{◌≡◌, ◌++◌, ◌+◌, ◌-◌, ◌≤◌, ◌<◌, ◌%◌, length, drop, false, true, IfOk};
 ghost use Rattle.byteorder.specs.Endian.{big_bytes};
 ghost use Rattle.quetzal.specs.Chunks.{word};
 ghost use Rattle.quetzal.specs.Memory.{is_size, original, coded_memory, plain_memory, memory_of, print_memory};
+ghost use Rattle.glulx_image.specs.Header as header;
 ghost use Rattle.quetzal.specs.Fault.{Gives};
+ghost use Rattle.quetzal.specs.Save.{loaded};
 
 use crate::fault::SaveFault;
 use crate::form::word;
+use crate::reader::story_rom;
 use crate::runs::{compressed_memory, restore};
+use glulx_image::Image;
 use std::alloc::{AllocError, Global};
+use vm_memory::Memory;
 
 /// Whether memory may have this size.
 fn is_size(endmem: u32, size: u32) -> bool
@@ -41,7 +46,8 @@ fn coded_memory(
     coded: &[u8],
 ) -> Result<Vec<u8>, SaveFault>
     requires { (ramstart ≤ length image.now) × (length image.now ≤ size) }
-    ensures { Gives (λ v. v.items) result (coded_memory image.now ramstart size coded.now) }
+    ensures exact { Gives (λ v. v.items) result (coded_memory image.now ramstart size coded.now) }
+    ensures size { IfOk result (λ v. length v.items ≡ size - ramstart) }
 {
     let mut ram = original(alloc, image, ramstart, size)?;
     match restore(&mut ram, coded) {
@@ -57,7 +63,8 @@ fn plain_memory(
     plain: &[u8],
 ) -> Result<Vec<u8>, SaveFault>
     requires { ramstart ≤ size }
-    ensures { Gives (λ v. v.items) result (plain_memory ramstart size plain.now) }
+    ensures exact { Gives (λ v. v.items) result (plain_memory ramstart size plain.now) }
+    ensures size { IfOk result (λ v. length v.items ≡ size - ramstart) }
 {
     if plain.len() != size - ramstart {
         return Err(SaveFault::BadRuns);
@@ -77,6 +84,7 @@ pub fn read_memory(
 ) -> Result<Vec<u8>, SaveFault>
     requires { (ramstart ≤ length image.now) × (length image.now ≤ endmem) }
     ensures exact { Gives (λ v. v.items) result (memory_of image.now ramstart endmem contents.now compressed) }
+    ensures size { IfOk result (λ v. is_size endmem (ramstart + length v.items) ≡ true) }
 {
     if contents.len() < 4 {
         return Err(SaveFault::BadRuns);
@@ -112,3 +120,19 @@ pub fn write_memory(
     Ok(out)
 }
 
+
+/// The memory of a story with these bytes in RAM.
+pub fn memory_with<'i>(
+    alloc: Global,
+    image: &Image<'i>,
+    ram: &[u8],
+) -> Result<Memory<'i>, AllocError>
+    requires size { is_size (header.endmem image.now) (header.ramstart image.now + length ram.now) ≡ true }
+    ensures { IfOk result (λ m. m ≡ loaded image.now ram.now) }
+{
+    let rom = story_rom(image);
+    let mut memory = Memory::new(alloc, rom, image.ramstart(), image.endmem())?;
+    memory.resize(image.ramstart() + ram.len() as u32)?;
+    memory.load_ram(ram)?;
+    Ok(memory)
+}

@@ -36,6 +36,14 @@ resized m size =
 abbrev pub reset : MemoryMap → MemoryMap
 reset m = record m { bytes = original m.rom m.endmem }
 
+-- what RAM holds
+abbrev pub ram_of : MemoryMap → List ℕ
+ram_of m = drop m.ramstart m.bytes
+
+-- memory with these bytes in RAM
+abbrev pub with_ram : MemoryMap → List ℕ → MemoryMap
+with_ram m ram = record m { bytes = take m.ramstart m.bytes ++ ram }
+
 -- below RAMSTART stand the file's bytes
 pub record KeepsRom (ramstart : ℕ) (rom bytes : List ℕ) : Type 0 where
   pub within : ramstart ≤ length rom

@@ -16,7 +16,7 @@ pub const MAX_SIZE: u32 = 16_777_216;
 pub struct Memory<'i> {
     rom: &'i [u8],
     endmem: u32,
-    ramstart: u32,
+    pub(crate) ramstart: u32,
     pub(crate) bytes: Vec<u8>,
 }
 

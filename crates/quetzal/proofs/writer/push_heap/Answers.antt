@@ -1,6 +1,6 @@
 use Rattle.std.proofs.Common.{arith}
 use Rattle.quetzal.proofs.PrintLemmas.{length-chunk}
-use Rattle.quetzal.proofs.write.push_heap.Goals as goal
+use Rattle.quetzal.proofs.writer.push_heap.Goals as goal
 
 pub push_chunk-requires : goal.push_chunk-requires
 push_chunk-requires c =

@@ -3,9 +3,16 @@
 ghost use Rattle.std.specs.Prelude.{◌≡◌, ◌++◌, ◌+◌, ◌<◌, ◌^◌, length, OnOk, IfOk};
 ghost use Rattle.quetzal.specs.Printing.{chunk, heap_chunk, chunks_of, print_save, ReadsWhatIsPrinted};
 ghost use Rattle.quetzal.specs.Chunks.{now_of};
+ghost use Rattle.quetzal.specs.Save.{IsReadAs, IsStateOf, canon};
+ghost use Rattle.vm_memory.specs.MemoryMap.{KeepsRom};
 
+use crate::heap::write_heap;
+use crate::memory::write_memory;
+use crate::reader::story_identity;
 use crate::form::{CMEM, FORM, IFHD, IFZS, MALL, STKS};
+use glulx_image::Image;
 use std::alloc::{AllocError, Global};
+use vm_undo::Saved;
 
 #[tactic(auto, unfolding(crate::specs::Printing::chunk))]
 fn push_chunk(out: &mut Vec<u8>, name: u32, contents: &[u8]) -> Result<(), AllocError>
@@ -31,8 +38,44 @@ fn push_heap(out: &mut Vec<u8>, heap: Option<&[u8]>) -> Result<(), AllocError>
     }
 }
 
-/// A save of these parts, its memory coded.
-pub fn write_save(
+/// The save of a state of the story, in the one spelling that is written: memory coded, then the
+/// stack, then the heap if it has a block. The error is want of memory.
+pub fn write(
+    alloc: Global,
+    state: &Saved<'_>,
+    image: &Image<'_>,
+) -> Result<Vec<u8>, AllocError>
+    requires { IsStateOf image.now state.now }
+    ensures ok { IfOk result (λ v. v.items ≡ canon image.now state.now) }
+    ensures read { IfOk result (λ v. IsReadAs image.now v.items state.now) }
+{
+    spelled(alloc, state, image)
+}
+
+fn spelled(
+    alloc: Global,
+    state: &Saved<'_>,
+    image: &Image<'_>,
+) -> Result<Vec<u8>, AllocError>
+    requires { IsStateOf image.now state.now }
+    ensures ok { IfOk result (λ v. v.items ≡ canon image.now state.now) }
+    ensures kept { KeepsRom state.now.memory.ramstart state.now.memory.rom state.now.memory.bytes }
+{
+    let rom = state.memory.rom();
+    let ram = state.memory.copy_ram(alloc)?;
+    let memory = write_memory(alloc, rom, image.ramstart(), ram.as_slice())?;
+    let heap = write_heap(alloc, state.heap_start, state.heap.as_slice())?;
+    write_save(
+        alloc,
+        story_identity(image),
+        memory.as_slice(),
+        state.stack.as_slice(),
+        heap.as_deref(),
+    )
+}
+
+// A save of these parts, its memory coded.
+fn write_save(
     alloc: Global,
     header: &[u8],
     memory: &[u8],

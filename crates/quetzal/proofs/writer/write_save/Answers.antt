@@ -1,6 +1,6 @@
 use Rattle.quetzal.specs.Chunks.{now_of}
 use Rattle.quetzal.proofs.PrintLemmas.{parts_fit}
-use Rattle.quetzal.proofs.write.write_save.Goals as goal
+use Rattle.quetzal.proofs.writer.write_save.Goals as goal
 
 pub push_chunk-requires : goal.push_chunk-requires
 push_chunk-requires c = (parts_fit c.args.header.now c.args.memory.now c.args.stack.now (now_of c.args.heap) c.requires).0
