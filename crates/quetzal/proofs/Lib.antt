@@ -5,3 +5,5 @@ pub mod PrintLemmas
 pub mod HeapLemmas
 pub mod OrderLemmas
 pub mod ReadLemmas
+pub mod WriteLemmas
+mod StandardFacts

@@ -54,18 +54,18 @@ none_earlier n from (b ∷ bs) le h =
 
 -- blocks whose addresses don't fall, the first of them behind n
 none_before : (n : ℕ) (bs : List Block) → IsNonDecreasingBy (λ b. b.at) bs → (0 < length bs → n < (get_or bs 0 none).at)
-  → total (counted n) bs ≡ 0
+    → total (counted n) bs ≡ 0
 none_before n [] up first = refl
 none_before n (b ∷ bs) up first =
     let here : n < b.at = first (omega arith) in
     let above : nat_le b.at n ≡ false = grind (arith, nat_tests, here) in
     let next : 0 < length bs → n < (get_or bs 0 none).at =
-        λ some. (let far : b.at ≤ (get_or bs 0 none).at = up 0 1 none (omega arith) (omega arith) in omega arith) in
+    λ some. (let far : b.at ≤ (get_or bs 0 none).at = up 0 1 none (omega arith) (omega arith) in omega arith) in
     let rest = none_before n bs (IsNonDecreasingBy-drop (λ b. b.at) 1 (b ∷ bs) up) next in rw above (omega (arith, rest))
 
 unmeasured_by : (n : ℕ) (b : Block) (bs : List Block) (t : Bool) → nat_le b.at n ≡ t
-  → total (counted n) (b ∷ bs) ≡ 0 → (total (counted n) bs ≡ 0 → total (measured n) bs ≡ 0)
-  → total (measured n) (b ∷ bs) ≡ 0
+    → total (counted n) (b ∷ bs) ≡ 0 → (total (counted n) bs ≡ 0 → total (measured n) bs ≡ 0)
+    → total (measured n) (b ∷ bs) ≡ 0
 unmeasured_by n b bs true is e rest = absurd (let more : 1 + total (counted n) bs ≡ 0 = rw is at e in omega arith)
 unmeasured_by n b bs false is e rest =
     let less : 0 + total (counted n) bs ≡ 0 = rw is at e in let least = rest (omega arith) in rw is (omega (arith, least))
@@ -80,31 +80,32 @@ abbrev Alike : List Block → List Block → Type 0
 Alike s t = (f : Block → ℕ) → total f s ≡ total f t
 
 same_head : (from : ℕ) (c b : Block) (cs bs : List Block) → IsNonDecreasingBy (λ b. b.at) (c ∷ cs)
-  → Alike (c ∷ cs) (b ∷ bs) → IsTrue (in_order from (b ∷ bs)) → c ≡ b
+    → Alike (c ∷ cs) (b ∷ bs) → IsTrue (in_order from (b ∷ bs)) → c ≡ b
 same_head from c b cs bs up alike h =
     let x : Next from b bs = next_of from b bs h in
     let behind : b.at < end_of b = omega (arith, x.filled) in
     let self : nat_le b.at b.at ≡ true = grind (arith, nat_tests) in
     let not-before : nat_lt b.at b.at ≡ false = grind (arith, nat_tests) in
     let one : total (counted b.at) (c ∷ cs) ≡ 1 =
-        alike (counted b.at) ∙ rw (self, none_counted b.at (end_of b) bs behind x.rest) refl in
+    alike (counted b.at) ∙ rw (self, none_counted b.at (end_of b) bs behind x.rest) refl in
     let none-less : total (earlier b.at) (c ∷ cs) ≡ 0 =
-        alike (earlier b.at) ∙ rw (not-before, none_earlier b.at (end_of b) bs (omega arith) x.rest) refl in
+    alike (earlier b.at) ∙ rw (not-before, none_earlier b.at (end_of b) bs (omega arith) x.rest) refl in
     let long : total (measured b.at) (c ∷ cs) ≡ b.length =
-        alike (measured b.at) ∙ rw (self, none_measured b.at (end_of b) bs behind x.rest) (omega arith) in
+    alike (measured b.at) ∙ rw (self, none_measured b.at (end_of b) bs behind x.rest) (omega arith) in
     let least : b.at ≤ c.at = low (nat_lt c.at b.at) refl none-less in
     let most : c.at ≤ b.at = high (nat_le c.at b.at) refl one in
     let at-is : c.at ≡ b.at = omega arith in
     let is : nat_le c.at b.at ≡ true = grind (arith, nat_tests, at-is) in
     let rest : total (counted b.at) cs ≡ 0 =
-        (let whole : 1 + total (counted b.at) cs ≡ 1 = rw is at one in omega arith) in
+    (let whole : 1 + total (counted b.at) cs ≡ 1 = rw is at one in omega arith) in
     let length-is : c.length ≡ b.length =
-        (let whole : c.length + total (measured b.at) cs ≡ b.length = rw is at long in
-        let unmeasured-rest : total (measured b.at) cs ≡ 0 = unmeasured b.at cs rest in omega arith) in
+    (let whole : c.length + total (measured b.at) cs ≡ b.length = rw is at long in
+    let unmeasured-rest : total (measured b.at) cs ≡ 0 = unmeasured b.at cs rest in omega arith) in
     rw (sym at-is, sym length-is) refl where
       low : (t : Bool) → nat_lt c.at b.at ≡ t → total (earlier b.at) (c ∷ cs) ≡ 0 → b.at ≤ c.at
       low true is e = absurd (let whole : 1 + total (earlier b.at) cs ≡ 0 = rw is at e in omega arith)
       low false is e = grind (arith, nat_tests, is)
+
       high : (t : Bool) → nat_le c.at b.at ≡ t → total (counted b.at) (c ∷ cs) ≡ 1 → c.at ≤ b.at
       high true is e = grind (arith, nat_tests, is)
       high false is e = absurd (
@@ -112,7 +113,7 @@ same_head from c b cs bs up alike h =
           let zero-all : total (counted b.at) (c ∷ cs) ≡ 0 = none_before b.at (c ∷ cs) up (λ some. far) in omega arith)
 
 same_alike : (from : ℕ) (s t : List Block) → length s ≡ length t → IsNonDecreasingBy (λ b. b.at) s
-  → Alike s t → IsTrue (in_order from t) → s ≡ t
+    → Alike s t → IsTrue (in_order from t) → s ≡ t
 same_alike from [] [] len up alike h = refl
 same_alike from [] (b ∷ bs) len up alike h = absurd (omega (arith, len))
 same_alike from (c ∷ cs) [] len up alike h = absurd (omega (arith, len))
@@ -120,12 +121,12 @@ same_alike from (c ∷ cs) (b ∷ bs) len up alike h =
     let head : c ≡ b = same_head from c b cs bs up alike h in
     let x : Next from b bs = next_of from b bs h in
     let rest : Alike cs bs = λ f. (let whole : f c + total f cs ≡ f b + total f bs = alike f in
-        let same : f c ≡ f b = ap f head in omega arith) in
+    let same : f c ≡ f b = ap f head in omega arith) in
     let tail : cs ≡ bs = same_alike (end_of b) cs bs (omega (arith, len)) (IsNonDecreasingBy-drop (λ b. b.at) 1 (c ∷ cs) up) rest x.rest in
     rw (head, tail) refl
 
 pub same_order : (from : ℕ) (s t : List Block) → IsNonDecreasingBy (λ b. b.at) s → IsPermutation t s
-  → IsTrue (in_order from t) → s ≡ t
+    → IsTrue (in_order from t) → s ≡ t
 same_order from s t up order h =
     same_alike from s t (length_permutation t s order) up (λ f. sym (total-sum f s) ∙ sum_by-IsPermutation f t s order ∙ total-sum f t) h
 
@@ -138,13 +139,13 @@ and_right true b h = h
 and_right false b h = absurd (grind (arith, h))
 
 pub fits-filled : (endmem size start : ℕ) (bs : List Block) → 0 < length bs → is_heap start bs ≡ true
-  → fits endmem size start bs ≡ is_placed endmem size start (heap_end bs)
+    → fits endmem size start bs ≡ is_placed endmem size start (heap_end bs)
 fits-filled endmem size start [] some h = absurd (omega arith)
 fits-filled endmem size start (b ∷ bs) some h =
     ap (λ t. t && is_placed endmem size start (heap_end (b ∷ bs))) h
 
-fits-order : (endmem size start : ℕ) (bs : List Block) → fits endmem size start bs ≡ true
-  → IsTrue (in_order 0 bs)
+pub fits-order : (endmem size start : ℕ) (bs : List Block) → fits endmem size start bs ≡ true
+    → IsTrue (in_order 0 bs)
 fits-order endmem size start [] h = refl
 fits-order endmem size start (b ∷ bs) h =
     let heap : is_heap start (b ∷ bs) ≡ true = and_left _ _ h in
@@ -152,10 +153,10 @@ fits-order endmem size start (b ∷ bs) h =
 
 -- blocks by their addresses that don't fit have no order that does
 pub one_order : (endmem size start : ℕ) (pairs blocks s : List Block) → IsNonDecreasingBy (λ b. b.at) s
-  → HaveOrder endmem size start pairs blocks → IsPermutation pairs s → fits endmem size start s ≡ false → ⊥
+    → HaveOrder endmem size start pairs blocks → IsPermutation pairs s → fits endmem size start s ≡ false → ⊥
 one_order endmem size start pairs blocks s up have order bad =
     let between : IsPermutation blocks s =
-        IsPermutation-trans blocks pairs s (IsPermutation-sym pairs blocks have.order) order in
+    IsPermutation-trans blocks pairs s (IsPermutation-sym pairs blocks have.order) order in
     let same : s ≡ blocks = same_order 0 s blocks up between (fits-order endmem size start blocks have.fits) in
     let both : true ≡ false = sym have.fits ∙ ap (fits endmem size start) (sym same) ∙ bad in
     grind (arith, both)

@@ -25,11 +25,11 @@ no_memory image p (Ok ram) = record { good = λ s. (tt, λ e. absurd (grind (ari
 no_memory image p (Err e) = tt
 
 refused_same : (image : List ℕ) (p : Pieces) (r : Result (List ℕ) SaveFault) (e : SaveFault)
-  → r ≡ Err e → Refuses e (Err e) → ReadsMemory image p r (Err e)
+    → r ≡ Err e → Refuses e (Err e) → ReadsMemory image p r (Err e)
 refused_same image p r e is same = rw is same
 
 refused_by : (image : List ℕ) (p : Pieces) (r : Result (List ℕ) SaveFault) (e : SaveFault)
-  → Fails e r → ReadsMemory image p r (Err e)
+    → Fails e r → ReadsMemory image p r (Err e)
 refused_by image p r NoMemory h = no_memory image p r
 refused_by image p r NotSave h = refused_same image p r NotSave h refl
 refused_by image p r Cut h = refused_same image p r Cut h refl
@@ -39,7 +39,7 @@ refused_by image p r BadStack h = refused_same image p r BadStack h refl
 refused_by image p r BadHeap h = refused_same image p r BadHeap h refl
 
 unheaped_by : (image : List ℕ) (p : Pieces) (ram : List ℕ) (e : SaveFault)
-  → ReadsHeap (endmem image) (ramstart image + length ram) p.heap (Err e) → ReadsHeapOf image p ram (Err e)
+    → ReadsHeap (endmem image) (ramstart image + length ram) p.heap (Err e) → ReadsHeapOf image p ram (Err e)
 unheaped_by image p ram NoMemory h = (tt, λ e. absurd (grind (arith, e)))
 unheaped_by image p ram BadHeap h = (refl, λ e. h)
 unheaped_by image p ram NotSave h = absurd h
@@ -49,34 +49,34 @@ unheaped_by image p ram BadRuns h = absurd h
 unheaped_by image p ram BadStack h = absurd h
 
 pub heap_refused : (image : List ℕ) (p : Pieces) (ram : List ℕ) (e : SaveFault) (end size : ℕ)
-  → end ≡ endmem image → size ≡ ramstart image + length ram
-  → ReadsHeap end size p.heap (Err e) → ReadsHeapOf image p ram (Err e)
+    → end ≡ endmem image → size ≡ ramstart image + length ram
+    → ReadsHeap end size p.heap (Err e) → ReadsHeapOf image p ram (Err e)
 heap_refused image p ram e end size end-is size-is h =
     unheaped_by image p ram e (subst (λ n. ReadsHeap n (ramstart image + length ram) p.heap (Err e)) end-is
-        (subst (λ n. ReadsHeap end n p.heap (Err e)) size-is h))
+    (subst (λ n. ReadsHeap end n p.heap (Err e)) size-is h))
 
 pub memory_refused : (image : List ℕ) (p : Pieces) (r : Result (List ℕ) SaveFault) (e : SaveFault)
-  → p.header ≡ identity image → r ≡ ram_in image p → Fails e r → ReadsStory image p (Err e)
+    → p.header ≡ identity image → r ≡ ram_in image p → Fails e r → ReadsStory image p (Err e)
 memory_refused image p r e own is h =
     record { own = λ o. subst (λ x. ReadsMemory image p x (Err e)) is (refused_by image p r e h); other = λ ne. absurd (ne own) }
 
 pub story_read : (image : List ℕ) (p : Pieces) (ram : List ℕ) (r : Result (List ℕ) SaveFault) (result : Result Saved SaveFault)
-  → p.header ≡ identity image → r ≡ Ok ram → r ≡ ram_in image p → ReadsStack image p ram result → ReadsStory image p result
+    → p.header ≡ identity image → r ≡ Ok ram → r ≡ ram_in image p → ReadsStack image p ram result → ReadsStory image p result
 story_read image p ram r result own ok is h =
     record { own = λ o. subst (λ x. ReadsMemory image p x result) (sym ok ∙ is) h; other = λ ne. absurd (ne own) }
 
 -- ---- the state
 
 pub length-loaded : (image ram : List ℕ) → ramstart image ≤ length (rom image)
-  → length (rom image) ≤ endmem image → endmem image ≤ ramstart image + length ram
-  → length (loaded image ram).bytes ≡ ramstart image + length ram
+    → length (rom image) ≤ endmem image → endmem image ≤ ramstart image + length ram
+    → length (loaded image ram).bytes ≡ ramstart image + length ram
 length-loaded image ram lo hi end =
     let size = ramstart image + length ram in
     let all = original (rom image) (endmem image) in
     let one : length all ≡ endmem image =
-        omega (arith, length-append (rom image) (replicate (endmem image - length (rom image)) 0), length-replicate {A = ℕ} (endmem image - length (rom image)) 0, hi) in
+    omega (arith, length-append (rom image) (replicate (endmem image - length (rom image)) 0), length-replicate {A = ℕ} (endmem image - length (rom image)) 0, hi) in
     let two : length (take size all ++ replicate (size - length all) 0) ≡ size =
-        omega (arith, length-append (take size all) (replicate (size - length all) 0), length-take size all, length-replicate {A = ℕ} (size - length all) 0, one, end) in
+    omega (arith, length-append (take size all) (replicate (size - length all) 0), length-take size all, length-replicate {A = ℕ} (size - length all) 0, one, end) in
     omega (arith, length-append (take (ramstart image) (take size all ++ replicate (size - length all) 0)) ram, length-take (ramstart image) (take size all ++ replicate (size - length all) 0), two)
 
 over_of : (end size start : ℕ) (bs : List Block) → end % 256 ≡ 0 → fits end size start bs ≡ true → IsHeapOver end size start bs
@@ -86,7 +86,7 @@ over_of end size start [] page h =
 over_of end size start (b ∷ bs) page h =
     let is = and_left (is_heap start (b ∷ bs)) _ h in
     let placed : is_placed end size start (heap_end (b ∷ bs)) ≡ true =
-        and_right (is_heap start (b ∷ bs)) (is_placed end size start (heap_end (b ∷ bs))) h in
+    and_right (is_heap start (b ∷ bs)) (is_placed end size start (heap_end (b ∷ bs))) h in
     record {
       heap = is;
       page = grind (arith, nat_tests, placed);
@@ -95,15 +95,15 @@ over_of end size start (b ∷ bs) page h =
     }
 
 pub state_of : (image : List ℕ) (p : Pieces) (ram : List ℕ) (s : Saved) → IsLaidOut image
-  → is_size (endmem image) (ramstart image + length ram) ≡ true → IsStackOf image p.stack
-  → IsStateIn image p ram s → IsStateOf image s
+    → is_size (endmem image) (ramstart image + length ram) ≡ true → IsStackOf image p.stack
+    → IsStateIn image p ram s → IsStateOf image s
 state_of image p ram s laid sized frames is =
     let rom-length : length (rom image) ≡ extstart image = omega (arith, length-take (extstart image) image, laid.ext_inside) in
     let limits : (endmem image ≤ ramstart image + length ram) × (ramstart image + length ram ≤ 16777216) =
-        (grind (arith, nat_tests, sized), grind (arith, nat_tests, sized)) in
+    (grind (arith, nat_tests, sized), grind (arith, nat_tests, sized)) in
     let pages : (ramstart image + length ram) % 256 ≡ 0 = grind (arith, nat_tests, sized) in
     let len : length (loaded image ram).bytes ≡ ramstart image + length ram =
-        length-loaded image ram (omega (arith, rom-length, laid.ram_below)) (omega (arith, rom-length, laid.ext_below)) limits.0 in
+    length-loaded image ram (omega (arith, rom-length, laid.ram_below)) (omega (arith, rom-length, laid.ext_below)) limits.0 in
     record {
       saved = rw is.memory (record {
         image = refl;

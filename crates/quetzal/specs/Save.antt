@@ -65,7 +65,7 @@ abbrev pub ReadsHeapOf : List ℕ → Pieces → List ℕ → Result Saved SaveF
 ReadsHeapOf image p ram (Ok s) = IsStateIn image p ram s
 ReadsHeapOf image p ram (Err e) =
     Refuses BadHeap (Err e) × (e ≡ BadHeap
-        → HasNoHeap (endmem image) (ramstart image + length ram) p.heap)
+    → HasNoHeap (endmem image) (ramstart image + length ram) p.heap)
 
 pub record ReadsStack (image : List ℕ) (p : Pieces) (ram : List ℕ) (result : Result Saved SaveFault) : Type 0 where
   pub good : IsStackOf image p.stack → ReadsHeapOf image p ram result

@@ -4,8 +4,8 @@ ghost use Rattle.std.specs.Prelude.{◌≡◌, ◌+◌, ◌%◌, ◌≤◌, None
 ghost use Rattle.quetzal.specs.Chunks.{word, chunk_at, are_chunks, first_named, body, memory_of, needed, parts_of, view};
 ghost use Rattle.quetzal.specs.Fault.{Tells};
 
-use byteorder::{BigEndian, ByteOrder};
 use crate::fault::SaveFault;
+use byteorder::{BigEndian, ByteOrder};
 
 /// The chunks that a save is made of: the first of each name.
 #[derive(Clone, Copy)]

@@ -47,8 +47,8 @@ fn listed(contents: Option<&[u8]>) -> Option<Pairs<'_>>
     ensures { MatchOption result
         (chunk.listed (now_of contents.entry) ≡ None)
         (λ l. (length l.pairs.now % 8 ≡ 0)
-            × (chunk.listed (now_of contents.entry)
-                ≡ Some (l.start, blocks_in (length l.pairs.now / 8) l.pairs.now))) }
+        × (chunk.listed (now_of contents.entry)
+        ≡ Some (l.start, blocks_in (length l.pairs.now / 8) l.pairs.now))) }
 {
     match contents {
         None => Some(Pairs {
@@ -64,8 +64,8 @@ fn listed_in(bytes: &[u8]) -> Option<Pairs<'_>>
     ensures { MatchOption result
         (chunk.listed_in bytes.now ≡ None)
         (λ l. (length l.pairs.now % 8 ≡ 0)
-            × (chunk.listed_in bytes.now
-                ≡ Some (l.start, blocks_in (length l.pairs.now / 8) l.pairs.now))) }
+        × (chunk.listed_in bytes.now
+        ≡ Some (l.start, blocks_in (length l.pairs.now / 8) l.pairs.now))) }
 {
     if bytes.is_empty() {
         return Some(Pairs {

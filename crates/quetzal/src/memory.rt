@@ -120,7 +120,6 @@ pub fn write_memory(
     Ok(out)
 }
 
-
 /// The memory of a story with these bytes in RAM.
 pub fn memory_with<'i>(
     alloc: Global,

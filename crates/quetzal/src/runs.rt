@@ -75,4 +75,3 @@ pub fn compressed_memory(alloc: Global, original: &[u8], ram: &[u8]) -> Result<V
     }
     Ok(out)
 }
-

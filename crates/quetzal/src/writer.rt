@@ -4,12 +4,13 @@ ghost use Rattle.std.specs.Prelude.{◌≡◌, ◌++◌, ◌+◌, ◌<◌, ◌^�
 ghost use Rattle.quetzal.specs.Printing.{chunk, heap_chunk, chunks_of, print_save, ReadsWhatIsPrinted};
 ghost use Rattle.quetzal.specs.Chunks.{now_of};
 ghost use Rattle.quetzal.specs.Save.{IsReadAs, IsStateOf, canon};
+ghost use Rattle.glulx_image.specs.Header.{IsLaidOut};
 ghost use Rattle.vm_memory.specs.MemoryMap.{KeepsRom};
 
+use crate::form::{CMEM, FORM, IFHD, IFZS, MALL, STKS};
 use crate::heap::write_heap;
 use crate::memory::write_memory;
 use crate::reader::story_identity;
-use crate::form::{CMEM, FORM, IFHD, IFZS, MALL, STKS};
 use glulx_image::Image;
 use std::alloc::{AllocError, Global};
 use vm_undo::Saved;
@@ -40,11 +41,7 @@ fn push_heap(out: &mut Vec<u8>, heap: Option<&[u8]>) -> Result<(), AllocError>
 
 /// The save of a state of the story, in the one spelling that is written: memory coded, then the
 /// stack, then the heap if it has a block. The error is want of memory.
-pub fn write(
-    alloc: Global,
-    state: &Saved<'_>,
-    image: &Image<'_>,
-) -> Result<Vec<u8>, AllocError>
+pub fn write(alloc: Global, state: &Saved<'_>, image: &Image<'_>) -> Result<Vec<u8>, AllocError>
     requires { IsStateOf image.now state.now }
     ensures ok { IfOk result (λ v. v.items ≡ canon image.now state.now) }
     ensures read { IfOk result (λ v. IsReadAs image.now v.items state.now) }
@@ -52,19 +49,18 @@ pub fn write(
     spelled(alloc, state, image)
 }
 
-fn spelled(
-    alloc: Global,
-    state: &Saved<'_>,
-    image: &Image<'_>,
-) -> Result<Vec<u8>, AllocError>
+fn spelled(alloc: Global, state: &Saved<'_>, image: &Image<'_>) -> Result<Vec<u8>, AllocError>
     requires { IsStateOf image.now state.now }
     ensures ok { IfOk result (λ v. v.items ≡ canon image.now state.now) }
     ensures kept { KeepsRom state.now.memory.ramstart state.now.memory.rom state.now.memory.bytes }
+    ensures laid { IsLaidOut image.now }
+    ensures start { state.now.heap_start < 2 ^ 32 }
 {
     let rom = state.memory.rom();
-    let ram = state.memory.copy_ram(alloc)?;
-    let memory = write_memory(alloc, rom, image.ramstart(), ram.as_slice())?;
+    let ramstart = image.ramstart();
     let heap = write_heap(alloc, state.heap_start, state.heap.as_slice())?;
+    let ram = state.memory.copy_ram(alloc)?;
+    let memory = write_memory(alloc, rom, ramstart, ram.as_slice())?;
     write_save(
         alloc,
         story_identity(image),
@@ -97,4 +93,3 @@ fn write_save(
     out.extend_from_slice(chunks.as_slice())?;
     Ok(out)
 }
-
