@@ -1,4 +1,6 @@
 pub mod Told
 pub mod ArgumentLemmas
 pub mod WithinLemmas
+pub mod DigitLemmas
+pub mod WordLemmas
 pub mod StandardFacts

@@ -7,6 +7,7 @@ pub mod Moving
 pub mod Array
 pub mod Values
 pub mod Output
+pub mod Text
 pub mod System
 pub mod State
 pub mod Search

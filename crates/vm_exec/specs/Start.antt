@@ -10,6 +10,7 @@ use Rattle.vm_flow.specs.Call.{called}
 use Rattle.vm_exec.specs.Fault.{flowed}
 use Rattle.vm_exec.specs.Rules.{stored}
 use Rattle.vm_exec.specs.declared.machine.Machine.{Machine}
+use Rattle.vm_exec.specs.declared.text.Text.TheVariants.{Off}
 
 -- the memory of a file
 abbrev pub image_memory : List ℕ → MemoryMap
@@ -30,6 +31,7 @@ started file seed =
       mode = 0;
       rock = 0;
       string_table = string_table file;
+      text = Off;
       waiting = Discard;
       verified = verified file;
       seed = seed;

@@ -8,6 +8,7 @@ mod function;
 mod machine;
 mod math;
 mod moving;
+mod number;
 mod operand;
 mod output;
 mod parts;
@@ -18,8 +19,11 @@ mod step;
 mod system;
 #[cfg(test)]
 mod tests;
+mod text;
+mod text_stub;
 mod trap;
 mod values;
 
 pub use machine::Machine;
 pub use step::{Done, Out, Step};
+pub use text::Text;
