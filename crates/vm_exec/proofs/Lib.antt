@@ -3,4 +3,5 @@ pub mod ArgumentLemmas
 pub mod WithinLemmas
 pub mod DigitLemmas
 pub mod WordLemmas
+pub mod SearchLemmas
 pub mod StandardFacts

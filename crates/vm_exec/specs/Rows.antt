@@ -10,4 +10,5 @@ pub mod Output
 pub mod Text
 pub mod System
 pub mod State
+pub mod Searching
 pub mod Search

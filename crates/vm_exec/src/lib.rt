@@ -14,6 +14,7 @@ mod output;
 mod parts;
 mod perform;
 mod search;
+mod searching;
 mod state;
 mod step;
 mod system;
