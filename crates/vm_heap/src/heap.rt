@@ -4,7 +4,7 @@ ghost use Rattle.std.specs.Prelude.{◌≡◌, ◌≤◌, [], OnOk, OnErr, IsTru
 ghost use Rattle.vm_heap.specs.HeapMap.{HeapMap, heap_end};
 ghost use Rattle.vm_heap.specs.HeapMap as spec;
 
-use crate::block::Block;
+use crate::block::{Block, MAX_SIZE};
 use std::alloc::{AllocError, Global};
 use std::marker::Model;
 
@@ -75,6 +75,8 @@ impl Heap {
     /// isn't active.
     pub fn end(&self) -> u32
         ensures value { result ≡ heap_end self.now.blocks }
+        ensures within { result ≤ MAX_SIZE }
+        ensures heap { IsTrue (spec.is_heap self.now.start self.now.blocks) }
     {
         match self.blocks.as_slice() {
             [] => 0,
