@@ -10,3 +10,5 @@ pub mod CutLemmas
 pub mod LiftLemmas
 pub mod TestLemmas
 pub mod RectangleLemmas
+pub mod SoundLemmas
+pub mod ValidLemmas
