@@ -2,3 +2,4 @@ pub mod PlaceLemmas
 pub mod FileLemmas
 pub mod CodingLemmas
 pub mod NameLemmas
+pub mod ValidLemmas

@@ -9,3 +9,5 @@ pub mod Input
 pub mod Position
 pub mod FileRefs
 pub mod Names
+pub mod Valid
+pub mod Laws
