@@ -3,3 +3,5 @@ pub mod FileLemmas
 pub mod CodingLemmas
 pub mod NameLemmas
 pub mod ValidLemmas
+pub mod ValidLaws
+pub mod ValidCalls

@@ -15,7 +15,7 @@ use Rattle.glk_streams.specs.Streams.{number_of, is_window}
 use Rattle.glk_streams.specs.Opening.{count_of}
 use Rattle.glk_streams.specs.Valid.{is_mode, are_modes, is_first, in_order, are_kinds, are_files, are_streams, are_refs}
 
-or_parts : (x y : Bool) → (x || y) ≡ false → (x ≡ false) × (y ≡ false)
+pub or_parts : (x y : Bool) → (x || y) ≡ false → (x ≡ false) × (y ≡ false)
 or_parts true y e = absurd (grind (arith, e))
 or_parts false y e = (refl, e)
 
