@@ -5,3 +5,4 @@ pub mod NameLemmas
 pub mod ValidLemmas
 pub mod ValidLaws
 pub mod ValidCalls
+pub mod RoundTripLemmas

@@ -11,3 +11,4 @@ pub mod FileRefs
 pub mod Names
 pub mod Valid
 pub mod Laws
+pub mod RoundTrip
