@@ -44,7 +44,7 @@ units-append : (c : Coding) (bytes : List ℕ) (x : ℕ) → IsWhole c bytes
 units-append c bytes x w =
     whole-units c (bytes ++ bytes_in c x) (units_of c bytes + steps_of c (length (bytes_in c x)))
     (sum c (units_of c bytes) (steps_of c (length (bytes_in c x))) _ _ _ (length-append bytes (bytes_in c x)) w (length-in c x))
-    where
+  where
     sum : (c : Coding) (u s whole one two : ℕ) → whole ≡ one + two → unit_of c * u ≡ one → two ≡ unit_of c * s
         → whole ≡ unit_of c * (u + s)
     sum Latin1 u s whole one two a b d = omega arith
@@ -55,7 +55,7 @@ whole-append : (c : Coding) (bytes : List ℕ) (x : ℕ) → IsWhole c bytes →
 whole-append c bytes x w =
     by c (units_of c bytes) (steps_of c (length (bytes_in c x))) _ _ _ _ (units-append c bytes x w)
     (length-append bytes (bytes_in c x)) w (length-in c x)
-    where
+  where
     by : (c : Coding) (u s n whole one two : ℕ) → n ≡ u + s → whole ≡ one + two → unit_of c * u ≡ one → two ≡ unit_of c * s
         → unit_of c * n ≡ whole
     by Latin1 u s n whole one two f a b d = omega arith
@@ -70,8 +70,8 @@ start-end Utf32 bytes w = omega (arith, w)
 replaced-end : (bytes new : List ℕ) (at : ℕ) → at ≡ length bytes → replaced bytes at new ≡ bytes ++ new
 replaced-end bytes new at e =
     let cut : take at bytes ≡ bytes = rw e (take-length bytes) in
-    let past : drop (at + length new) bytes ≡ [] = 
-        nil_from_length (drop (at + length new) bytes) (omega (arith, e, length-drop (at + length new) bytes)) in
+    let past : drop (at + length new) bytes ≡ [] =
+    nil_from_length (drop (at + length new) bytes) (omega (arith, e, length-drop (at + length new) bytes)) in
     rw (cut, past) (append-nil (bytes ++ new))
 
 put-end : (c : Coding) (bytes : List ℕ) (x : ℕ) → IsWhole c bytes → has_code c x ≡ true
@@ -103,7 +103,7 @@ some-encode x = grind (arith, nat_tests)
 
 first-char : (c : Coding) (bytes rest : List ℕ) (x : ℕ) → IsWhole c bytes → has_code c x ≡ true
     → char_at c (bytes ++ bytes_in c x ++ rest) (units_of c bytes)
-      ≡ Some (record { code = x; steps = steps_of c (length (bytes_in c x)) })
+    ≡ Some (record { code = x; steps = steps_of c (length (bytes_in c x)) })
 first-char Latin1 bytes rest x w h =
     let long : length (bytes ++ x ∷ rest) ≡ length bytes + length (x ∷ rest) = length-append bytes (x ∷ rest) in
     let inside : nat_lt (length bytes) (length (bytes ++ x ∷ rest)) ≡ true = below _ _ (omega (arith, long)) in
@@ -111,10 +111,10 @@ first-char Latin1 bytes rest x w h =
     (ap (λ (code : ℕ). Some (record { code = code; steps = 1 })) (get_or-append_seam bytes x rest 0))
 first-char Utf8 bytes rest x w h =
     let long : length (bytes ++ (encode_utf8 x ++ rest)) ≡ length bytes + length (encode_utf8 x ++ rest) =
-        length-append bytes (encode_utf8 x ++ rest) in
+    length-append bytes (encode_utf8 x ++ rest) in
     let more : length (encode_utf8 x ++ rest) ≡ length (encode_utf8 x) + length rest = length-append (encode_utf8 x) rest in
     let inside : nat_lt (length bytes) (length (bytes ++ (encode_utf8 x ++ rest))) ≡ true =
-        below _ _ (omega (arith, long, more, some-encode x)) in
+    below _ _ (omega (arith, long, more, some-encode x)) in
     rw (append_assoc bytes (encode_utf8 x) rest, inside, drop-append_seam bytes (encode_utf8 x ++ rest), decoded-encode x rest h) refl
 first-char Utf32 bytes rest x w h =
     let new = big_bytes 4 x in
@@ -122,10 +122,10 @@ first-char Utf32 bytes rest x w h =
     let long : length (bytes ++ (new ++ rest)) ≡ length bytes + length (new ++ rest) = length-append bytes (new ++ rest) in
     let more : length (new ++ rest) ≡ length new + length rest = length-append new rest in
     let inside : nat_lt (length bytes / 4) (length (bytes ++ (new ++ rest)) / 4) ≡ true =
-        below _ _ (omega (arith, long, more, four, w)) in
+    below _ _ (omega (arith, long, more, four, w)) in
     let fits : x < 256 ^ 4 = grind (arith, common_steps, h) in
     let value : number_at 4 (bytes ++ (new ++ rest)) (4 * (length bytes / 4)) ≡ x =
-        rw (w, drop-append_seam bytes (new ++ rest)) (big_number-reads_back 4 x rest fits) in
+    rw (w, drop-append_seam bytes (new ++ rest)) (big_number-reads_back 4 x rest fits) in
     rw (append_assoc bytes new rest, inside) (ap (λ (code : ℕ). Some (record { code = code; steps = 1 })) value)
 
 none-left : (c : Coding) (bytes : List ℕ) → char_at c bytes (units_of c bytes) ≡ None
@@ -138,12 +138,13 @@ reads : (c : Coding) (bytes codes : List ℕ) → IsWhole c bytes → AreHeld c 
 unfolding spelled
 reads c bytes [] w h = rw (append-nil bytes) (none-left c bytes)
 reads c bytes (x ∷ xs) w h =
-    let rest = reads c (bytes ++ bytes_in c x) xs (whole-append c bytes x w) h.1 in
-    (steps_of c (length (bytes_in c x)),
-    rw (sym (append_assoc bytes (bytes_in c x) (spelled c xs))) (first-char c bytes (spelled c xs) x w h.0),
-    subst (λ b. Reads c b (units_of c bytes + steps_of c (length (bytes_in c x))) xs)
-      (append_assoc bytes (bytes_in c x) (spelled c xs))
-      (subst (λ p. Reads c ((bytes ++ bytes_in c x) ++ spelled c xs) p xs) (units-append c bytes x w) rest))
+    let rest = reads c (bytes ++ bytes_in c x) xs (whole-append c bytes x w) h.1 in (
+      steps_of c (length (bytes_in c x)),
+      rw (sym (append_assoc bytes (bytes_in c x) (spelled c xs))) (first-char c bytes (spelled c xs) x w h.0),
+      subst (λ b. Reads c b (units_of c bytes + steps_of c (length (bytes_in c x))) xs)
+          (append_assoc bytes (bytes_in c x) (spelled c xs))
+          (subst (λ p. Reads c ((bytes ++ bytes_in c x) ++ spelled c xs) p xs) (units-append c bytes x w) rest),
+    )
 
 empty-whole : (c : Coding) → IsWhole c []
 empty-whole Latin1 = refl

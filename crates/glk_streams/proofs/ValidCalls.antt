@@ -46,7 +46,9 @@ window-by t win false e h =
     let few : count_of (t.streams ++ v ∷ []) ≤ 64 = grind (arith, common_steps, count-window t.streams v refl, r.count) in
     rw e (of_parts (joined t v).0 (record {
       streams = streams-more t.next t.current t.streams v p.streams low refl refl few;
-      refs = p.refs; files = p.files }))
+      refs = p.refs;
+      files = p.files;
+    }))
 
 room-of : (t : StreamTable) → is_full t ≡ false → (t.next ≤ 4294967294) × (count_of t.streams < 64)
 room-of t e =
@@ -65,7 +67,9 @@ memory-by t buf len mode rock unicode true false e f h =
     let few : count_of (t.streams ++ v ∷ []) ≤ 64 = grind (arith, common_steps, count-more t.streams v, room.1) in
     rw (e, f) (of_parts (joined t v).0 (record {
       streams = streams-more t.next t.current t.streams v p.streams room.0 refl e few;
-      refs = p.refs; files = p.files }))
+      refs = p.refs;
+      files = p.files;
+    }))
 
 stands : (fs : List file.File) (u : ℕ) (n : List ℕ) (mode : ℕ) → can_open fs u n mode ≡ true → may_stand fs u n ≡ true
 stands fs u n mode e = grind (arith, common_steps, e)
@@ -87,13 +91,16 @@ name-by t u n mode rock unicode s e m stand f h =
     let few : count_of (t.streams ++ v ∷ []) ≤ 64 = grind (arith, common_steps, count-more t.streams v, room.1) in
     let streams = streams-more t.next t.current t.streams v p.streams room.0 refl m few in
     by s e v streams p stand
-    where
+  where
     by : (s : Bool) → (mode == 1 || not (has_file t.files u n)) ≡ s → (v : Stream)
         → are_streams (t.next + 1) t.current (t.streams ++ v ∷ []) ≡ true → Parts t
         → may_stand t.files u n ≡ true → IsValid (joined (readied t u n mode) v).0
     by true e v streams p stand =
         rw e (of_parts (joined (record t { files = holding t.files u n [] }) v).0 (record {
-          streams = streams; refs = p.refs; files = emptied t.files u n p.files stand }))
+          streams = streams;
+          refs = p.refs;
+          files = emptied t.files u n p.files stand;
+        }))
     by false e v streams p stand =
         rw e (of_parts (joined t v).0 (record { streams = streams; refs = p.refs; files = p.files }))
 
@@ -119,13 +126,16 @@ dropped-valid : (t : StreamTable) (n : ℕ) → IsValid t → IsValid (dropped t
 dropped-valid t n h =
     let p = parts_of t h in
     of_parts (dropped t n) (record {
-      streams = streams-without t.next t.current t.streams n p.streams; refs = p.refs; files = p.files })
+      streams = streams-without t.next t.current t.streams n p.streams;
+      refs = p.refs;
+      files = p.files;
+    })
 
 close-by : (t : StreamTable) (n : ℕ) (o : Option Stream) → IsValid t
     → LeavesBeside (live o (λ s. cond (is_window s.target) (Err BadArgument) (Ok (taken t n))))
 close-by t n None h = tt
 close-by t n (Some s) h = by (is_window s.target)
-    where
+  where
     by : (w : Bool) → LeavesBeside (cond w (Err BadArgument) (Ok (taken t n)))
     by true = tt
     by false = dropped-valid t n h
@@ -138,7 +148,10 @@ changed-valid : (t : StreamTable) (n : ℕ) (s v : Stream) (fs : List file.File)
 changed-valid t n s v fs f e g m k h =
     let p = parts_of t h in
     of_parts (with_stream (record t { files = fs }) n v) (record {
-      streams = streams-changed t.next t.current t.streams n s v f e g m p.streams; refs = p.refs; files = k })
+      streams = streams-changed t.next t.current t.streams n s v f e g m p.streams;
+      refs = p.refs;
+      files = k;
+    })
 
 abbrev FilesIn : Put → Type 0
 FilesIn (Ok done) = are_files done.0 ≡ true
@@ -149,9 +162,9 @@ replaced-length : (bytes : List ℕ) (at : ℕ) (new : List ℕ)
 replaced-length bytes at new =
     let tail = drop (at + length new) bytes in
     let whole : length (replaced bytes at new) ≡ length (take at bytes ++ new) + length tail =
-        length-append (take at bytes ++ new) tail in
+    length-append (take at bytes ++ new) tail in
     let front : length (take at bytes ++ new) ≡ length (take at bytes) + length new =
-        length-append (take at bytes) new in
+    length-append (take at bytes) new in
     omega (arith, whole, front, length-take at bytes, length-drop (at + length new) bytes)
 
 bytes-by : (fs : List file.File) (place u : ℕ) (n : List ℕ) (c : Coding) (new : List ℕ) (s : Bool)
@@ -164,9 +177,9 @@ bytes-by fs place u n c new true e h =
     let f = files_of fs h in
     let long = replaced-length (content_of fs u n) at new in
     let fits : bytes_of fs + length (replaced (content_of fs u n) at new) ≤ 1048576 + length (content_of fs u n) =
-        fits-by (bytes_of fs) (length (content_of fs u n)) (at + length new) (length (replaced (content_of fs u n) at new)) a.1 f.bytes long in
+    fits-by (bytes_of fs) (length (content_of fs u n)) (at + length new) (length (replaced (content_of fs u n) at new)) a.1 f.bytes long in
     rw e (files-held fs u n (replaced (content_of fs u n) at new) h a.0 fits)
-    where
+  where
     fits-by : (sum was end long : ℕ) → nat_le (end - was) (1048576 - sum) ≡ true → nat_le sum 1048576 ≡ true
         → long ≤ end + (was - end) → sum + long ≤ 1048576 + was
     fits-by sum was end long a b l = grind (arith, common_steps, a, b, l)
@@ -197,7 +210,7 @@ put-then t n s (Err e) f k h = tt
 
 write-by : (t : StreamTable) (m : MemoryMap) (n code : ℕ) (o : Option Stream) → stream_at t n ≡ o → IsValid t
     → LeavesBeside (live o (λ s. put_by t.files m s code
-      >>= (λ done. Ok (with_stream (record t { files = done.0 }) n (counted (placed done.2 s)), done.1))))
+    >>= (λ done. Ok (with_stream (record t { files = done.0 }) n (counted (placed done.2 s)), done.1))))
 write-by t m n code None f h = tt
 write-by t m n code (Some s) f h =
     put-then t n s (put_by t.files m s code) f
@@ -216,14 +229,14 @@ read-by t m n (Some s) f h = read-then t n s (got_by t.files m s) f h
 
 sought-same : (to : Target) (fs : List file.File) (s : Stream) (by from : ℕ)
     → ((sought_in to fs s by from).number ≡ s.number) × ((sought_in to fs s by from).target ≡ s.target)
-      × ((sought_in to fs s by from).mode ≡ s.mode)
+    × ((sought_in to fs s by from).mode ≡ s.mode)
 sought-same (Window win) fs s by from = (refl, refl, refl)
 sought-same (Memory buf len) fs s by from = (refl, refl, refl)
 sought-same (File u n) fs s by from = (refl, refl, refl)
 
 seek-by : (t : StreamTable) (n by from : ℕ) (o : Option Stream) (b : Bool) → stream_at t n ≡ o → nat_lt 2 from ≡ b → IsValid t
     → Leaves (live o (λ s. cond (nat_lt 2 from) (Err BadArgument)
-      (Ok (with_stream t n (sought_in s.target t.files s by from)))))
+    (Ok (with_stream t n (sought_in s.target t.files s by from)))))
 seek-by t n by from None b f e h = tt
 seek-by t n by from (Some s) true f e h = rw e tt
 seek-by t n by from (Some s) false f e h =
@@ -240,7 +253,10 @@ current-by : (t : StreamTable) (n : ℕ) (b : Bool) → is_current t.streams n �
 current-by t n true e h =
     let p = parts_of t h in
     rw e (of_parts (record t { current = n }) (record {
-      streams = streams-current t.next t.current n t.streams p.streams e; refs = p.refs; files = p.files }))
+      streams = streams-current t.next t.current n t.streams p.streams e;
+      refs = p.refs;
+      files = p.files;
+    }))
 current-by t n false e h = rw e tt
 
 -- references
@@ -255,7 +271,8 @@ refer-by t u n rock false e h =
     rw e (of_parts (record t { refs = t.refs ++ v ∷ []; next_ref = t.next_ref + 1 }) (record {
       streams = p.streams;
       refs = refs-more t.next_ref t.refs v p.refs (grind (arith, common_steps, a.1)) refl (grind (arith, common_steps, a.0));
-      files = p.files }))
+      files = p.files;
+    }))
 
 refer : (t : StreamTable) (u : ℕ) (n : List ℕ) (rock : ℕ) → IsValid t → IsValid (made_ref t u n rock).0
 refer t u n rock h = refer-by t u n rock (nat_le 64 (length t.refs) || nat_lt 4294967294 t.next_ref) refl h
@@ -271,7 +288,10 @@ forget-by t n None h = tt
 forget-by t n (Some r) h =
     let p = parts_of t h in
     of_parts (record t { refs = without ref_number_of t.refs n }) (record {
-      streams = p.streams; refs = refs-without t.next_ref t.refs n p.refs; files = p.files })
+      streams = p.streams;
+      refs = refs-without t.next_ref t.refs n p.refs;
+      files = p.files;
+    })
 
 delete-by : (t : StreamTable) (o : Option FileRef) → IsValid t
     → Leaves (live o (λ r. Ok (record t { files = without_file t.files r.usage r.name })))
@@ -279,7 +299,10 @@ delete-by t None h = tt
 delete-by t (Some r) h =
     let p = parts_of t h in
     of_parts (record t { files = without_file t.files r.usage r.name }) (record {
-      streams = p.streams; refs = p.refs; files = files-without t.files r.usage r.name p.files })
+      streams = p.streams;
+      refs = p.refs;
+      files = files-without t.files r.usage r.name p.files;
+    })
 
 pub keeps : StaysValid
 keeps t h = record {
@@ -296,4 +319,5 @@ keeps t h = record {
   refer = λ u n rock. refer t u n rock h;
   copy = λ u fref rock. copy-by t u rock (ref_at t fref) h;
   forget = λ fref. forget-by t fref (ref_at t fref) h;
-  delete = λ fref. delete-by t (ref_at t fref) h }
+  delete = λ fref. delete-by t (ref_at t fref) h;
+}

@@ -43,7 +43,8 @@ held-as fs u n b true e h m z l =
       order = in_order-bytes fs u n b ∙ f.order;
       kinds = kinds-bytes fs u n b ∙ f.kinds;
       count = rw (length-bytes fs u n b) f.count;
-      bytes = grind (arith, common_steps, bytes-bytes fs u n b e, l) }))
+      bytes = grind (arith, common_steps, bytes-bytes fs u n b e, l);
+    }))
 held-as fs u n b false e h m z l =
     let f = files_of fs h in
     let none = z refl in
@@ -51,7 +52,8 @@ held-as fs u n b false e h m z l =
       order = in_order-file fs u n b f.order e;
       kinds = kinds-file fs u n b f.kinds;
       count = grind (arith, common_steps, length-file fs u n b, m, e);
-      bytes = grind (arith, common_steps, bytes-file fs u n b, l, none) }))
+      bytes = grind (arith, common_steps, bytes-file fs u n b, l, none);
+    }))
 
 no-content : (fs : List File) (u : ℕ) (n : List ℕ) → has_file fs u n ≡ false → content_of fs u n ≡ []
 unfolding has_file content_of
@@ -69,7 +71,8 @@ files-without fs u n h =
       order = in_order-without fs u n f.order;
       kinds = kinds-without fs u n f.kinds;
       count = grind (arith, common_steps, length-without fs u n, f.count);
-      bytes = grind (arith, common_steps, bytes-without fs u n, f.bytes) })
+      bytes = grind (arith, common_steps, bytes-without fs u n, f.bytes);
+    })
 
 -- streams
 
@@ -112,7 +115,8 @@ streams-more next current ss v h l e m k =
       order = ascends-more number_of ss 0 next v (next-some next s.next_is) e s.order;
       modes = modes-more ss v s.modes m;
       count = grind (arith, common_steps, k);
-      live = or-then _ _ _ s.live (has-more number_of ss v current) })
+      live = or-then _ _ _ s.live (has-more number_of ss v current);
+    })
 
 pub streams-changed : (next current : ℕ) (ss : List Stream) (n : ℕ) (s v : Stream) → found number_of ss n ≡ Some s
     → v.number ≡ s.number → v.target ≡ s.target → v.mode ≡ s.mode → are_streams next current ss ≡ true
@@ -126,7 +130,8 @@ streams-changed next current ss n s v f e t m h =
       order = ascends-changed number_of ss 0 next n v num ∙ r.order;
       modes = modes-changed ss n v mode r.modes;
       count = rw (count-changed ss n s v f (ap is_window t)) r.count;
-      live = or-then _ _ _ r.live (λ live. has-changed number_of ss n current v num ∙ live) })
+      live = or-then _ _ _ r.live (λ live. has-changed number_of ss n current v num ∙ live);
+    })
 
 without-current : (ss : List Stream) (n current : ℕ) (s : Bool) → (current == n) ≡ s → is_current ss current ≡ true
     → is_current (without number_of ss n) (cond s 0 current) ≡ true
@@ -143,7 +148,8 @@ streams-without next current ss n h =
       order = ascends-without number_of ss 0 next n r.order;
       modes = modes-without ss n r.modes;
       count = grind (arith, common_steps, count-without ss n, r.count);
-      live = without-current ss n current (current == n) refl r.live })
+      live = without-current ss n current (current == n) refl r.live;
+    })
 
 pub streams-current : (next current n : ℕ) (ss : List Stream) → are_streams next current ss ≡ true
     → is_current ss n ≡ true → are_streams next n ss ≡ true

@@ -4,19 +4,28 @@ use std::test::*;
 use story_text::read_escaped;
 use vm_memory::Memory;
 
-
 #[test]
 fn a_buffer_holds_as_many_characters_as_it_has_room_for(rt: HostRuntime) {
     let alloc = rt.alloc();
     let mut memory = Memory::new(alloc, &[0; 256], 256, 1024).expect(&rt, "memory");
     let mut streams = Streams::new(alloc);
-    let stream = streams.open_memory(alloc, 0x100, 3, 1, 0, false).expect(&rt, "a stream");
+    let stream = streams
+        .open_memory(alloc, 0x100, 3, 1, 0, false)
+        .expect(&rt, "a stream");
     assert!(rt; stream == 1);
     for code in [97, 98, 99, 100] {
-        streams.put(alloc, &mut memory, stream, code).expect(&rt, "a character");
+        streams
+            .put(alloc, &mut memory, stream, code)
+            .expect(&rt, "a character");
     }
     assert!(rt; memory.read4(0x100) == Ok(0x6162_6300));
-    assert!(rt; streams.close(stream) == Ok(Counts { read: 0, written: 4 }));
+    assert!(rt;
+        streams.close(stream)
+            == Ok(Counts {
+                read: 0,
+                written: 4
+            })
+    );
     assert!(rt; streams.close(stream) == Err(StreamStop::BadObject));
 }
 
@@ -40,7 +49,9 @@ fn a_character_is_kept_in_the_coding_of_its_stream(rt: HostRuntime) {
     assert!(rt; matches!(plain.files(), [file] if matches!(file.bytes.as_slice(), [0xE9])));
     let words = written(rt.alloc(), 0, true).expect(&rt, "streams");
     assert!(rt; words.position(1) == Ok(1));
-    assert!(rt; matches!(words.files(), [file] if matches!(file.bytes.as_slice(), [0, 0, 0, 0xE9])));
+    assert!(rt;
+        matches!(words.files(), [file] if matches!(file.bytes.as_slice(), [0, 0, 0, 0xE9]))
+    );
 }
 
 fn is_cleaned(alloc: Global, word: &[u8], clean: &[u8]) -> bool {
@@ -68,16 +79,24 @@ fn reading_makes_no_file_and_a_deleted_one_comes_back(rt: HostRuntime) {
     let mut memory = Memory::new(alloc, &[0; 256], 256, 1024).expect(&rt, "memory");
     let mut streams = Streams::new(alloc);
     let name = read_escaped(alloc, b"=log").expect(&rt, "a text");
-    let fref = streams.make_ref(alloc, 0, &name, 7).expect(&rt, "a reference");
+    let fref = streams
+        .make_ref(alloc, 0, &name, 7)
+        .expect(&rt, "a reference");
     assert!(rt; streams.open_file(alloc, fref, 2, 0, false) == Ok(0));
     assert!(rt; streams.open_file(alloc, fref, 4, 0, false) == Err(StreamStop::BadArgument));
     assert!(rt; streams.has_file(fref) == Ok(false));
-    let stream = streams.open_file(alloc, fref, 3, 0, false).expect(&rt, "a stream");
-    streams.put(alloc, &mut memory, stream, 65).expect(&rt, "a character");
+    let stream = streams
+        .open_file(alloc, fref, 3, 0, false)
+        .expect(&rt, "a stream");
+    streams
+        .put(alloc, &mut memory, stream, 65)
+        .expect(&rt, "a character");
     assert!(rt; streams.delete_file(fref) == Ok(()));
     assert!(rt; streams.position(stream) == Ok(0));
     assert!(rt; streams.get(&memory, stream) == Ok(None));
-    streams.put(alloc, &mut memory, stream, 66).expect(&rt, "a character");
+    streams
+        .put(alloc, &mut memory, stream, 66)
+        .expect(&rt, "a character");
     assert!(rt; streams.has_file(fref) == Ok(true));
     assert!(rt; streams.seek(stream, 0xFFFF_FFFF, 1) == Ok(()));
     assert!(rt; streams.get(&memory, stream) == Ok(Some(66)));
@@ -93,12 +112,20 @@ fn a_windows_stream_counts_and_is_never_read(rt: HostRuntime) {
     let mut streams = Streams::new(alloc);
     let stream = streams.open_window(alloc, 5).expect(&rt, "a stream");
     assert!(rt; streams.set_current(stream) == Ok(()));
-    streams.put(alloc, &mut memory, stream, 65).expect(&rt, "a character");
+    streams
+        .put(alloc, &mut memory, stream, 65)
+        .expect(&rt, "a character");
     assert!(rt; streams.position(stream) == Ok(1));
     assert!(rt; streams.get(&memory, stream) == Err(StreamStop::BadArgument));
     assert!(rt; streams.close(stream) == Err(StreamStop::BadArgument));
     assert!(rt; streams.set_style(stream, 11) == Ok(()));
-    assert!(rt; streams.close_window(5) == Counts { read: 0, written: 1 });
+    assert!(rt;
+        streams.close_window(5)
+            == Counts {
+                read: 0,
+                written: 1
+            }
+    );
     assert!(rt; streams.current() == 0);
     assert!(rt; streams.set_current(stream) == Err(StreamStop::BadObject));
 }
@@ -109,12 +136,20 @@ fn a_bad_byte_of_utf8_reads_as_one_question_mark(rt: HostRuntime) {
     let mut memory = Memory::new(alloc, &[0; 256], 256, 1024).expect(&rt, "memory");
     let mut streams = Streams::new(alloc);
     let name = read_escaped(alloc, b"=log").expect(&rt, "a text");
-    let fref = streams.make_ref(alloc, 0x100, &name, 0).expect(&rt, "a reference");
-    let plain = streams.open_file(alloc, fref, 1, 0, false).expect(&rt, "a stream");
+    let fref = streams
+        .make_ref(alloc, 0x100, &name, 0)
+        .expect(&rt, "a reference");
+    let plain = streams
+        .open_file(alloc, fref, 1, 0, false)
+        .expect(&rt, "a stream");
     for byte in [0xC3, 0x41, 0xC3, 0xA9] {
-        streams.put(alloc, &mut memory, plain, byte).expect(&rt, "a byte");
+        streams
+            .put(alloc, &mut memory, plain, byte)
+            .expect(&rt, "a byte");
     }
-    let unicode = streams.open_file(alloc, fref, 2, 0, true).expect(&rt, "a stream");
+    let unicode = streams
+        .open_file(alloc, fref, 2, 0, true)
+        .expect(&rt, "a stream");
     assert!(rt; streams.get(&memory, unicode) == Ok(Some(0x3F)));
     assert!(rt; streams.get(&memory, unicode) == Ok(Some(0x41)));
     assert!(rt; streams.get(&memory, unicode) == Ok(Some(0xE9)));
