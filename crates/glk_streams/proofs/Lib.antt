@@ -1,3 +1,4 @@
+pub mod StandardFacts
 pub mod PlaceLemmas
 pub mod FileLemmas
 pub mod CodingLemmas

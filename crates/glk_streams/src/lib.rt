@@ -12,6 +12,7 @@ mod name;
 mod opening;
 mod output;
 mod position;
+mod reading;
 mod stream;
 mod streams;
 
