@@ -1,5 +1,6 @@
 pub mod Answer
 pub mod Machine
+pub mod Random
 pub mod Fault
 pub mod Rules
 pub mod Rows

@@ -7,6 +7,9 @@ pub mod Moving
 pub mod Array
 pub mod Values
 pub mod Output
+pub mod Random
+pub mod Heap
+pub mod Undo
 pub mod System
 pub mod State
 pub mod Search

@@ -5,6 +5,7 @@ mod arguments;
 mod array;
 mod branch;
 mod function;
+mod heap;
 mod machine;
 mod math;
 mod moving;
@@ -12,6 +13,7 @@ mod operand;
 mod output;
 mod parts;
 mod perform;
+mod random;
 mod search;
 mod state;
 mod step;
@@ -19,6 +21,7 @@ mod system;
 #[cfg(test)]
 mod tests;
 mod trap;
+mod undo;
 mod values;
 
 pub use machine::Machine;

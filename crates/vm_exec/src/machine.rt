@@ -11,14 +11,18 @@ ghost use Rattle.vm_flow.specs.Call.{called};
 ghost use Rattle.vm_stack.specs.Chain.{Chain, HasFrame};
 
 use crate::perform::width_of;
+use crate::random::Random;
 use crate::step::Step;
 use crate::trap::{BUDGET, no_memory, of_flow};
+use crate::undo::Protection;
 use glulx_image::Image;
 use std::alloc::Global;
 use vm_flow::call;
+use vm_heap::Heap;
 use vm_memory::{Memory, Trap};
 use vm_operand::{Dest, Op, decode};
 use vm_stack::Stack;
+use vm_undo::Undo;
 
 /// A story under way (Glulx 3.1.3, "Machine State").
 #[derive(Drop)]
@@ -34,8 +38,13 @@ pub struct Machine<'i> {
     pub(crate) waiting: Dest,
     /// What the verify opcode stores.
     pub(crate) verified: u32,
-    /// The session's seed, from which random words come.
-    pub(crate) seed: u64,
+    pub(crate) heap: Heap,
+    pub(crate) undo: Undo<'i>,
+    pub(crate) protection: Protection,
+    pub(crate) random: Random,
+    /// The header's start function and string table, to which a restart goes back.
+    pub(crate) start_function: u32,
+    pub(crate) first_table: u32,
 }
 
 impl<'i> Machine<'i> {
@@ -57,7 +66,15 @@ impl<'i> Machine<'i> {
             string_table: image.string_table(),
             waiting: Dest::Discard,
             verified: image.verify(),
-            seed,
+            heap: Heap::new(alloc),
+            undo: Undo::new(),
+            protection: Protection {
+                start: 0,
+                length: 0,
+            },
+            random: Random::new(seed),
+            start_function: image.start_function(),
+            first_table: image.string_table(),
         })
     }
 
@@ -109,7 +126,12 @@ fn empty_stack(alloc: Global, image: &Image<'_>) -> Result<Stack, Trap>
 }
 
 // The start function is called without arguments.
-fn begin(alloc: Global, memory: &Memory<'_>, stack: &mut Stack, at: u32) -> Result<u32, Trap>
+pub(crate) fn begin(
+    alloc: Global,
+    memory: &Memory<'_>,
+    stack: &mut Stack,
+    at: u32,
+) -> Result<u32, Trap>
     ensures does { Does (flowed (called memory.now stack.old at [])) stack.new result }
     ensures kept { stack.old.bytes ≡ [] → stack.old.frame ≡ 0
         → OnOk result (Chain stack.new × HasFrame stack.new) }
