@@ -1,5 +1,5 @@
 -- The machine while its story runs (Glulx 3.1.3, "Machine State").
-use Rattle.std.specs.Prelude.{ℕ, ◌≡◌, ◌%◌, length, List, All}
+use Rattle.std.specs.Prelude.{ℕ, ◌≡◌, ◌%◌, length, List, [], All}
 use Rattle.vm_memory.specs.MemoryMap.{Origin, origin_of}
 use Rattle.vm_stack.specs.Chain.{Chain, HasFrame}
 use Rattle.vm_heap.specs.HeapMap.{HeapMap}
@@ -18,6 +18,10 @@ pub record IsMapped (o : Origin) (n : ℕ) (h : HeapMap) (states : List Saved) :
   pub size : IsSize o.endmem n
   pub heap : IsHeapOver o.endmem n h.start h.blocks
   pub undo : All (IsSavedOf o) states
+
+-- a heap that isn't active
+abbrev pub no_heap : HeapMap
+no_heap = record { start = 0; blocks = [] }
 
 -- memory, heap and undo are by their rules, and the stack is frames, one at least, each on a stub
 -- for the one below

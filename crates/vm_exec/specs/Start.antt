@@ -8,6 +8,7 @@ use Rattle.vm_operand.specs.declared.operand.Dest.TheVariants.{Discard}
 use Rattle.vm_stack.specs.StackState.{StackState}
 use Rattle.vm_flow.specs.Call.{called}
 use Rattle.vm_exec.specs.Fault.{flowed}
+use Rattle.vm_exec.specs.Machine.{no_heap}
 use Rattle.vm_exec.specs.Random.{seeded}
 use Rattle.vm_exec.specs.Rules.{stored}
 use Rattle.vm_exec.specs.declared.machine.Machine.{Machine}
@@ -33,7 +34,7 @@ started file seed =
       string_table = string_table file;
       waiting = Discard;
       verified = verified file;
-      heap = record { start = 0; blocks = [] };
+      heap = no_heap;
       undo = [];
       protection = record { start = 0; length = 0 };
       random = seeded seed;

@@ -1,11 +1,13 @@
 //! The size of memory, and the heap.
 
-ghost use Rattle.std.specs.Prelude.{◌≡◌, ◌≤◌, ◌<◌, ◌/◌, max, length, IfOk, OnOk, Ok};
+ghost use Rattle.std.specs.Prelude.{◌≡◌, ◌≤◌, ◌<◌, ◌/◌, max, length, IsTrue, IfOk, OnOk, Ok};
 ghost use Rattle.vm_exec.specs.Answer.{Changes, Does};
-ghost use Rattle.vm_exec.specs.Machine.{IsFit, StaysFit};
+ghost use Rattle.vm_exec.specs.Machine.{IsFit, IsMapped, StaysFit};
 ghost use Rattle.vm_exec.specs.Rows.Heap as rows;
 ghost use Rattle.vm_exec.specs.Rows.Work.{Costs, budgeted};
-ghost use Rattle.vm_memory.specs.MemoryMap.{resized};
+ghost use Rattle.vm_stack.specs.Chain.{Chain, HasFrame};
+ghost use Rattle.vm_heap.specs.HeapMap.{heap_end, is_heap};
+ghost use Rattle.vm_memory.specs.MemoryMap.{origin_of, resized};
 
 use crate::Machine;
 use crate::step::{Done, Out};
@@ -34,6 +36,9 @@ impl<'i> Machine<'i> {
         ensures does { Changes
             (Ok (rows.with_heap self.old self.old.heap end))
             self.new result }
+        ensures fit { IsMapped (origin_of self.old.memory) (max self.old.memory.endmem end)
+            self.old.heap self.old.undo
+            → Chain self.old.stack → HasFrame self.old.stack → OnOk result (IsFit self.new) }
     {
         let least = self.memory.endmem();
         let _size = self.memory.size();
@@ -79,7 +84,8 @@ impl<'i> Machine<'i> {
         let end = self.memory.size();
         match self.heap.malloc(size, end) {
             Ok(Some(at)) => {
-                self.end_at(self.heap.end())?;
+                let end = self.heap.end();
+                self.end_at(end)?;
                 Ok(at)
             }
             Ok(None) => Ok(0),
@@ -106,6 +112,18 @@ impl<'i> Machine<'i> {
         })
     }
 
+    // Where memory ends: behind the last block, or where the heap began that isn't active any more.
+    fn memory_end(&self, start: u32) -> u32
+        requires { start ≤ MAX_SIZE }
+        ensures value { result ≡ rows.memory_end start self.now.heap }
+        ensures within { result ≤ MAX_SIZE }
+        ensures heap { IsTrue (is_heap self.now.heap.start self.now.heap.blocks) }
+        ensures limit { heap_end self.now.heap.blocks ≤ MAX_SIZE }
+    {
+        let end = self.heap.end();
+        if self.heap.active() { end } else { start }
+    }
+
     // A block less, and memory that ends where the last block does, or where the heap began.
     fn release(&mut self, at: u32) -> Result<(), Trap>
         ensures does { Changes (rows.freed_at self.old at) self.new result }
@@ -114,11 +132,7 @@ impl<'i> Machine<'i> {
         let start = self.heap.start();
         match self.heap.free(at) {
             Ok(()) => {
-                let end = if self.heap.active() {
-                    self.heap.end()
-                } else {
-                    start
-                };
+                let end = self.memory_end(start);
                 self.end_at(end)
             }
             Err(_) => Err(BAD_BLOCK),

@@ -3,11 +3,12 @@
 ghost use Rattle.std.specs.Prelude.{◌≡◌, ◌%◌, [], length, IfOk, OnOk, Ok};
 ghost use Rattle.vm_exec.specs.Answer.{Changes, Does, Makes};
 ghost use Rattle.vm_exec.specs.Fault.{flowed};
-ghost use Rattle.vm_exec.specs.Machine.{GoesOnFit, IsFit};
+ghost use Rattle.vm_exec.specs.Machine.{GoesOnFit, IsFit, IsMapped, no_heap};
 ghost use Rattle.vm_exec.specs.Row.{IsPriced, row, told};
 ghost use Rattle.vm_exec.specs.Start as start;
 ghost use Rattle.vm_exec.specs.Start.{finished, started};
 ghost use Rattle.vm_flow.specs.Call.{called};
+ghost use Rattle.vm_memory.specs.MemoryMap.{origin_of};
 ghost use Rattle.vm_stack.specs.Chain.{Chain, HasFrame};
 
 use crate::perform::width_of;
@@ -109,7 +110,7 @@ impl<'i> Machine<'i> {
 // The memory of an image.
 fn image_memory<'i>(alloc: Global, image: &Image<'i>) -> Result<Memory<'i>, Trap>
     ensures value { Makes (Ok (start.image_memory image.now)) result }
-    ensures pages { IfOk result (λ memory. length memory.bytes % 256 ≡ 0) }
+    ensures map { IfOk result (λ memory. IsMapped (origin_of memory) (length memory.bytes) no_heap []) }
 {
     let rom = &image.bytes()[..image.extstart() as usize];
     match Memory::new(alloc, rom, image.ramstart(), image.endmem()) {

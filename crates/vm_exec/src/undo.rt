@@ -1,13 +1,13 @@
 //! Saved states, restart and the protected range.
 
-ghost use Rattle.std.specs.Prelude.{◌≡◌, IsTrue, IfOk, OnOk, Ok};
+ghost use Rattle.std.specs.Prelude.{◌≡◌, length, IsTrue, IfOk, OnOk, Ok};
 ghost use Rattle.vm_exec.specs.Answer.{Changes, Makes};
 ghost use Rattle.vm_exec.specs.Machine.{IsFit, StaysFit};
 ghost use Rattle.vm_exec.specs.Rows.Undo as rows;
 ghost use Rattle.vm_exec.specs.Rows.Work.{Tells};
 ghost use Rattle.vm_heap.specs.HeapMap.{is_heap};
-ghost use Rattle.vm_memory.specs.MemoryMap.{origin_of, reset};
-ghost use Rattle.vm_stack.specs.Chain.{EndsInOwnStub};
+ghost use Rattle.vm_memory.specs.MemoryMap.{KeepsMap, origin_of, reset};
+ghost use Rattle.vm_stack.specs.Chain.{EndsInOwnStub, IsReady};
 ghost use Rattle.vm_undo.specs.SavedState.{IsSavedOf};
 
 use crate::Machine;
@@ -46,6 +46,7 @@ impl<'i> Machine<'i> {
     // The protected bytes are written into the other memory.
     fn spare(&self, memory: &mut Memory<'i>) -> Result<(), Trap>
         ensures does { Changes (Ok (rows.sparing self.now memory.old)) memory.new result }
+        ensures kept { OnOk result (KeepsMap memory.old memory.new) }
     {
         protect(
             &self.memory,
@@ -60,6 +61,9 @@ impl<'i> Machine<'i> {
     fn put_state(&mut self, alloc: Global, state: Saved<'i>) -> Result<(), Trap>
         requires heap { IsTrue (is_heap state.heap_start state.heap) }
         ensures does { Changes (rows.with_state self.old state.entry) self.new result }
+        ensures fit { IsFit self.old → IsSavedOf (origin_of self.old.memory) state.entry
+            → OnOk result (IsFit self.new) }
+        ensures own { OnOk result (EndsInOwnStub self.new.stack) }
     {
         let Saved {
             mut memory,
@@ -67,7 +71,10 @@ impl<'i> Machine<'i> {
             heap,
             heap_start,
         } = state;
-        self.stack.load(stack.as_slice()).map_err(of_stack)?;
+        match self.stack.load(stack.as_slice()) {
+            Ok(()) => {}
+            Err(fault) => return Err(of_stack(fault)),
+        }
         self.spare(&mut memory)?;
         self.memory = memory;
         match self.heap.load(alloc, heap_start, heap.as_slice()) {
@@ -103,6 +110,9 @@ impl<'i> Machine<'i> {
     // The state is kept, with the stub on top.
     fn keep_state(&mut self, alloc: Global) -> Result<(), Trap>
         ensures does { Changes (Ok (rows.state_kept self.old)) self.new result }
+        ensures fit { IsFit self.old → IsReady self.old.stack → OnOk result (IsFit self.new) }
+        ensures own { IsFit self.old → IsReady self.old.stack
+            → OnOk result (EndsInOwnStub self.new.stack) }
     {
         match self.saved(alloc) {
             Ok(state) => {
@@ -159,6 +169,8 @@ impl<'i> Machine<'i> {
     // The original memory, but for the protected bytes.
     fn original(&self, alloc: Global) -> Result<Memory<'i>, Trap>
         ensures does { Makes (Ok (rows.sparing self.now (reset self.now.memory))) result }
+        ensures origin { IfOk result (λ m. origin_of m ≡ origin_of self.now.memory) }
+        ensures size { IfOk result (λ m. length m.bytes ≡ m.endmem) }
     {
         match self.memory.copy_of(alloc) {
             Ok(mut memory) => {

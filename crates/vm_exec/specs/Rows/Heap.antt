@@ -44,11 +44,14 @@ abbrev pub heap_coded : {A : Type 0} → Result A HeapFault → Result A ℕ
 heap_coded (Ok x) = Ok x
 heap_coded (Err (BadBlock at)) = Err 11
 
--- without the last block memory ends again where the heap began
+-- where memory ends: behind the last block, or again where the heap began that isn't active any more
+abbrev pub memory_end : ℕ → HeapMap → ℕ
+memory_end start h = if h.start == 0 then start else heap_end h.blocks
+
 abbrev pub freed_at : Machine → ℕ → Result Machine ℕ
 freed_at m at =
     heap_coded (freed m.heap at)
-    >>= (λ h. Ok (with_heap m h (if h.start == 0 then m.heap.start else heap_end h.blocks)))
+    >>= (λ h. Ok (with_heap m h (memory_end m.heap.start h)))
 
 abbrev pub frees : Machine → ℕ → Rule
 frees m at = freed_at m at >>= goes

@@ -11,6 +11,7 @@ use Rattle.vm_undo.specs.declared.saved.Saved.{Saved}
 use Rattle.vm_operand.specs.Reading.{◌>>=◌}
 use Rattle.vm_operand.specs.declared.operand.Dest as d
 use Rattle.vm_exec.specs.Fault.{stacked, flowed}
+use Rattle.vm_exec.specs.Machine.{no_heap}
 use Rattle.vm_exec.specs.declared.machine.Machine.{Machine}
 use Rattle.vm_exec.specs.Rules.{Rule, goes, puts, stored, stub_dest, with_stub}
 
@@ -78,7 +79,7 @@ restarted m =
     flowed (called (sparing m (reset m.memory)) (emptied m.stack) m.start_function [])
     >>= (λ x. Ok (record m {
       memory = sparing m (reset m.memory);
-      heap = record { start = 0; blocks = [] };
+      heap = no_heap;
       stack = x.0;
       pc = x.1;
       mode = 0;
