@@ -1,5 +1,5 @@
 -- What a story reads of a window (Glk 0.7.5, "Window Opening, Closing, and Constraints").
-use Rattle.std.specs.Prelude.{ℕ, zero, suc, ◌==◌, ◌||◌, if◌then◌else◌, Bool, false, List, [], Option, Some, None}
+use Rattle.std.specs.Prelude.{ℕ, zero, suc, ◌==◌, ◌||◌, ◌&&◌, not, bit_and, length, if◌then◌else◌, Bool, true, false, List, [], Option, Some, None}
 use Rattle.glk_windows.specs.declared.window.Window.{Window}
 use Rattle.glk_windows.specs.declared.window.Pair as p
 use Rattle.glk_windows.specs.declared.window.Area.{Area}
@@ -106,3 +106,12 @@ cursor_of ws n = read (0, 0) (λ w. cursor_in w.content) (window_at ws n)
 unfoldable pub is_below : ℕ → List Window → ℕ → ℕ → Bool
 is_below zero ws n pair = false
 is_below (suc steps) ws n pair = parent_of ws n == pair || is_below steps ws (parent_of ws n) pair
+
+-- no key, or a window below the pair that is no pair
+abbrev pub may_key : List Window → ℕ → ℕ → Bool
+may_key ws pair key =
+    key == 0 || is_below (length ws) ws key pair && not (kind_of ws key == 1)
+
+-- a method divides as the pair does, either its width or its height
+abbrev pub is_same_axis : List Window → ℕ → ℕ → Bool
+is_same_axis ws pair method = bit_and (arrangement_of ws pair).0 2 == bit_and method 2
