@@ -64,7 +64,8 @@ impl<'i> Machine<'i> {
             Search::Linearsearch => self.linearsearch(args, to[0], left),
             Search::Binarysearch => self.binarysearch(args, to[0], left),
             Search::Linkedsearch => self.linkedsearch(args, to[0], left),
-            Search::Malloc | Search::Mfree => Err(NOT_YET),
+            Search::Malloc => self.malloc(args[0], to[0], left),
+            Search::Mfree => self.mfree(args[0], left),
         }
     }
 }
