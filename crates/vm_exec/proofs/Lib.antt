@@ -4,4 +4,5 @@ pub mod WithinLemmas
 pub mod DigitLemmas
 pub mod WordLemmas
 pub mod SearchLemmas
+pub mod FitLemmas
 pub mod StandardFacts

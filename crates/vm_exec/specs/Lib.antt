@@ -1,6 +1,7 @@
 pub mod Answer
 pub mod Machine
 pub mod Number
+pub mod Random
 pub mod Fault
 pub mod TextStub
 pub mod Rules

@@ -8,6 +8,9 @@ pub mod Array
 pub mod Values
 pub mod Output
 pub mod Text
+pub mod Random
+pub mod Heap
+pub mod Undo
 pub mod System
 pub mod State
 pub mod Searching

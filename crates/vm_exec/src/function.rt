@@ -38,7 +38,7 @@ impl<'i> Machine<'i> {
         }
     }
 
-    fn push_stub_for(&mut self, to: Dest) -> Result<(), Trap>
+    pub(crate) fn push_stub_for(&mut self, to: Dest) -> Result<(), Trap>
         ensures does { Changes (rules.with_stub self.old to) self.new result }
         ensures fit { IsFit self.old → OnOk result (IsFit self.new) }
         ensures ready { IsFit self.old → OnOk result (IsReady self.new.stack) }
@@ -184,7 +184,7 @@ impl<'i> Machine<'i> {
 }
 
 // Where the result goes that a stub waits for.
-fn stub_dest(stub: Stub) -> Result<Dest, Trap>
+pub(crate) fn stub_dest(stub: Stub) -> Result<Dest, Trap>
     ensures { Makes (rules.stub_dest stub) result }
 {
     match stub.kind {

@@ -3,25 +3,30 @@
 ghost use Rattle.std.specs.Prelude.{◌≡◌, ◌%◌, ◌<◌, [], length, IfOk, OnOk, Ok};
 ghost use Rattle.vm_exec.specs.Answer.{Changes, Does, Makes};
 ghost use Rattle.vm_exec.specs.Fault.{flowed};
-ghost use Rattle.vm_exec.specs.Machine.{GoesOnFit, IsFit, IsSound};
 ghost use Rattle.vm_exec.specs.Row.{IsPriced, charged, due, fetched, row, told};
+ghost use Rattle.vm_exec.specs.Machine.{GoesOnFit, IsFit, IsMapped, IsSound, no_heap};
 ghost use Rattle.vm_exec.specs.Start as start;
 ghost use Rattle.vm_exec.specs.Start.{finished, started};
 ghost use Rattle.vm_exec.specs.declared.text.Text.TheVariants as text;
 ghost use Rattle.vm_flow.specs.Call.{called};
+ghost use Rattle.vm_memory.specs.MemoryMap.{origin_of};
 ghost use Rattle.vm_stack.specs.Chain.{Chain, HasFrame};
 
 use crate::perform::width_of;
+use crate::random::Random;
 use crate::step::Step;
 use crate::text::Text;
 use crate::trap::{BUDGET, no_memory, of_flow};
+use crate::undo::Protection;
 use glulx_image::Image;
 use std::alloc::Global;
 use vm_flow::call;
+use vm_heap::Heap;
 use vm_memory::{Memory, Trap};
 use vm_operand::{Dest, Op, decode};
 use vm_stack::Stack;
 use vm_string::Cursor;
+use vm_undo::Undo;
 
 /// A story under way (Glulx 3.1.3, "Machine State").
 #[derive(Drop)]
@@ -39,8 +44,13 @@ pub struct Machine<'i> {
     pub(crate) waiting: Dest,
     /// What the verify opcode stores.
     pub(crate) verified: u32,
-    /// The session's seed, from which random words come.
-    pub(crate) seed: u64,
+    pub(crate) heap: Heap,
+    pub(crate) undo: Undo<'i>,
+    pub(crate) protection: Protection,
+    pub(crate) random: Random,
+    /// The header's start function and string table, to which a restart goes back.
+    pub(crate) start_function: u32,
+    pub(crate) first_table: u32,
 }
 
 impl<'i> Machine<'i> {
@@ -63,7 +73,15 @@ impl<'i> Machine<'i> {
             text: Text::Off,
             waiting: Dest::Discard,
             verified: image.verify(),
-            seed,
+            heap: Heap::new(alloc),
+            undo: Undo::new(),
+            protection: Protection {
+                start: 0,
+                length: 0,
+            },
+            random: Random::new(seed),
+            start_function: image.start_function(),
+            first_table: image.string_table(),
         })
     }
 
@@ -153,7 +171,7 @@ impl<'i> Machine<'i> {
 // The memory of an image.
 fn image_memory<'i>(alloc: Global, image: &Image<'i>) -> Result<Memory<'i>, Trap>
     ensures value { Makes (Ok (start.image_memory image.now)) result }
-    ensures pages { IfOk result (λ memory. length memory.bytes % 256 ≡ 0) }
+    ensures map { IfOk result (λ memory. IsMapped (origin_of memory) (length memory.bytes) no_heap []) }
 {
     let rom = &image.bytes()[..image.extstart() as usize];
     match Memory::new(alloc, rom, image.ramstart(), image.endmem()) {
@@ -170,7 +188,12 @@ fn empty_stack(alloc: Global, image: &Image<'_>) -> Result<Stack, Trap>
 }
 
 // The start function is called without arguments.
-fn begin(alloc: Global, memory: &Memory<'_>, stack: &mut Stack, at: u32) -> Result<u32, Trap>
+pub(crate) fn begin(
+    alloc: Global,
+    memory: &Memory<'_>,
+    stack: &mut Stack,
+    at: u32,
+) -> Result<u32, Trap>
     ensures does { Does (flowed (called memory.now stack.old at [])) stack.new result }
     ensures kept { stack.old.bytes ≡ [] → stack.old.frame ≡ 0
         → OnOk result (Chain stack.new × HasFrame stack.new) }

@@ -9,7 +9,7 @@ ghost use Rattle.vm_exec.specs.Rows.Work.{Costs, budgeted};
 
 use crate::Machine;
 use crate::step::{Done, Out};
-use crate::trap::{NOT_YET, charge};
+use crate::trap::charge;
 use vm_memory::Trap;
 use vm_operand::{Dest, Search};
 
@@ -64,7 +64,8 @@ impl<'i> Machine<'i> {
             Search::Linearsearch => self.linearsearch(args, to[0], left),
             Search::Binarysearch => self.binarysearch(args, to[0], left),
             Search::Linkedsearch => self.linkedsearch(args, to[0], left),
-            Search::Malloc | Search::Mfree => Err(NOT_YET),
+            Search::Malloc => self.malloc(args[0], to[0], left),
+            Search::Mfree => self.mfree(args[0], left),
         }
     }
 }

@@ -21,6 +21,12 @@ pub(crate) const BAD_STRING: Trap = Trap::Fault(15);
 
 pub(crate) const DEBUG_TRAP: Trap = Trap::Fault(18);
 
+/// A size that memory or a block may not have.
+pub(crate) const BAD_SIZE: Trap = Trap::Fault(19);
+
+/// No block of the heap begins there.
+pub(crate) const BAD_BLOCK: Trap = Trap::Fault(11);
+
 pub(crate) const BUDGET: Trap = Trap::Fault(24);
 
 pub(crate) fn no_memory(_error: AllocError) -> Trap
