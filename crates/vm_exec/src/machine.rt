@@ -111,13 +111,7 @@ impl<'i> Machine<'i> {
     }
 
     // One tick, and then the next piece of the string.
-    fn piece(
-        &mut self,
-        alloc: Global,
-        cursor: Cursor,
-        held: bool,
-        left: u64,
-    ) -> Result<Step, Trap>
+    fn piece(&mut self, alloc: Global, cursor: Cursor, held: bool, left: u64) -> Result<Step, Trap>
         requires { 0 < left }
         ensures does { Does
             (told left (charged (due self.old (text.Pieces cursor held))))

@@ -72,7 +72,11 @@ fn a_copy_gives_the_bytes_of_before(rt: HostRuntime) -> Result<(), Fail> {
     let file = story(b"\xC1\0\0\x81\x71\x21\x02\x03\x01\0\x01\x01\x81\x70\0\x81\x20");
     let image = Image::parse(&file).ok().ok_or("an image")?;
     let mut machine = Machine::start(rt.alloc(), &image, 1).ok().ok_or("a start")?;
-    machine.memory.write4(0x100, 0x0102_0304).ok().ok_or("a write")?;
+    machine
+        .memory
+        .write4(0x100, 0x0102_0304)
+        .ok()
+        .ok_or("a write")?;
     for _ in 0..2 {
         assert!(rt; machine.step(rt.alloc(), 1) == Ok(Step::Ran(1)));
     }

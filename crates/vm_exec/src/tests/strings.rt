@@ -20,7 +20,8 @@ fn tells(alloc: Global, machine: &mut Machine<'_>, want: &[Step]) -> bool {
 // Whether the next steps call the filter function with these characters, and it returns.
 fn filters(alloc: Global, machine: &mut Machine<'_>, want: &[u32]) -> bool {
     for character in want {
-        if machine.step(alloc, 1) != Ok(Step::Ran(1)) || machine.stack.local(0, 4) != Ok(*character)
+        if machine.step(alloc, 1) != Ok(Step::Ran(1))
+            || machine.stack.local(0, 4) != Ok(*character)
         {
             return false;
         }
@@ -36,7 +37,9 @@ fn filters(alloc: Global, machine: &mut Machine<'_>, want: &[u32]) -> bool {
 fn file(code: &[u8], object: &[u8; 8]) -> [u8; 256] {
     let mut file = story(code);
     file[0x50..0x57].copy_from_slice(b"\xC1\x04\x01\x00\x00\x31\x00");
-    file[0x80..0x98].copy_from_slice(b"\0\0\0\x26\0\0\0\x05\0\0\0\x8C\0\0\0\0\x95\0\0\0\x97\x02a\0");
+    file[0x80..0x98].copy_from_slice(
+        b"\0\0\0\x26\0\0\0\x05\0\0\0\x8C\0\0\0\0\x95\0\0\0\x97\x02a\0",
+    );
     file[0x98..0xA8].copy_from_slice(b"\0\0\0\xA0\0\0\0\xA1\x01\x08\0\0\0\xA8\0\0");
     file[0xA8..0xB0].copy_from_slice(object);
     file[0xB0..0xB2].copy_from_slice(b"\xE1\x0E");
@@ -45,6 +48,7 @@ fn file(code: &[u8], object: &[u8; 8]) -> [u8; 256] {
 
 // A function that prints b, and a string that does.
 const FUNCTION: [u8; 8] = *b"\xC1\x00\x00\x70\x01\x62\x31\x00";
+
 const OBJECT: [u8; 8] = *b"\xE0\x62\x00\x00\x00\x00\x00\x00";
 
 // The system is set, and then a number is printed: -12 and the least one.
