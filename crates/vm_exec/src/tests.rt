@@ -2,8 +2,11 @@ use crate::{Machine, Step};
 use glulx_image::Image;
 use std::test::Fail;
 
+mod searches;
+mod strings;
+
 // A story with code from byte 36 on, one page in the file, and a page of RAM behind it.
-fn story(code: &[u8]) -> [u8; 256] {
+pub(crate) fn story(code: &[u8]) -> [u8; 256] {
     let header =
         *b"Glul\x00\x03\x01\x03\0\0\x01\0\0\0\x01\0\0\0\x02\0\0\0\x01\0\0\0\0\x24\0\0\0\0\0\0\0\0";
     let mut file = [0; 256];
