@@ -1,24 +1,20 @@
 -- What is written at the end of a file is read back.
-use Rattle.std.proofs.Common.{◌≡◌, ◌≤◌, ◌<◌, ℕ, zero, suc, ◌+◌, ◌-◌, ◌*◌, ◌/◌, ◌^◌, Bool, true, false, List, [], ◌∷◌, ◌++◌, refl, sym, ap, ◌∙◌, subst, Option, Some, None, arith, nat_lt, length, take, drop, length-append, length-drop, min}
+use Rattle.std.proofs.Common.{◌≡◌, ◌<◌, ℕ, ◌+◌, ◌*◌, ◌/◌, ◌^◌, true, List, [], ◌∷◌, ◌++◌, refl, sym, ap, ◌∙◌, subst, Some, None, arith, nat_lt, length, take, drop, length-append, length-drop}
 use Rattle.std.proofs.lemmas.Grind.{common_steps}
 use mathlib.Core.List.{append-nil, append_assoc}
 use Rattle.std.proofs.Math.Seq.{drop-append_seam, get_or-append_seam, take-length}
 use Rattle.std.proofs.lemmas.List.{nil_from_length}
 use Rattle.std.proofs.lemmas.Bool.Decides.{nat_tests}
 use Rattle.std.specs.Char.{encode_utf8}
-use lib.Utf8.{scalar}
-use Rattle.std.specs.Prelude.{slice_index}
-use Rattle.byteorder.specs.Endian.{big_bytes, big_number}
+use Rattle.byteorder.specs.Endian.{big_bytes}
 use Rattle.byteorder.specs.Numbers.{big_number-reads_back, length-bytes_high_first}
-use Rattle.bstr.specs.Utf8.{decoded}
 use Rattle.bstr.proofs.lemmas.EncodeLemmas.{decoded-encode}
 use Rattle.vm_memory.specs.MemoryMap.{replaced, number_at}
-use Rattle.glk_streams.specs.Coding.{kept, bytes_in, kept_code, units_of, unit_of, steps_of, char_at, first_of, reading_of}
-use Rattle.glk_streams.specs.Output.{start_of, held}
+use Rattle.glk_streams.specs.Coding.{kept, bytes_in, units_of, unit_of, steps_of, char_at}
+use Rattle.glk_streams.specs.Output.{start_of}
 use Rattle.glk_streams.specs.RoundTrip.{has_code, AreHeld, after_puts, Reads, RoundTrip}
 use Rattle.glk_streams.specs.declared.coding.Coding.{Coding}
 use Rattle.glk_streams.specs.declared.coding.Coding.TheVariants.{Latin1, Utf8, Utf32}
-use Rattle.glk_streams.specs.declared.coding.Reading.{Reading}
 
 -- a whole number of positions
 abbrev IsWhole : Coding → List ℕ → Type 0

@@ -1,17 +1,17 @@
 -- Each call keeps streams, file references and files valid.
-use Rattle.std.proofs.Common.{◌≡◌, ◌≢◌, ◌≤◌, ◌<◌, ℕ, zero, suc, ◌+◌, ◌-◌, Bool, true, false, ◌&&◌, ◌||◌, List, [], ◌∷◌, ◌++◌, refl, sym, ap, ◌∙◌, subst, Option, Some, None, Result, Ok, Err, arith, nat_lt, nat_le, nat_eq, ◌==◌, length, not, rules}
+use Rattle.std.proofs.Common.{◌≡◌, ◌≤◌, ◌<◌, ℕ, ◌+◌, Bool, true, false, ◌&&◌, ◌||◌, List, [], ◌∷◌, ◌++◌, refl, ap, ◌∙◌, Some, arith, nat_le, ◌==◌, length}
 use Rattle.std.proofs.lemmas.Grind.{common_steps}
 use Rattle.std.proofs.lemmas.Bool.{and_parts}
 use Rattle.std.specs.Prelude.{cond}
-use Rattle.glk_numbers.specs.Numbered.{has, found, changed_at, without, ascends}
+use Rattle.glk_numbers.specs.Numbered.{found, changed_at, without, ascends}
 use Rattle.glk_streams.specs.declared.file.File.{File}
 use Rattle.glk_streams.specs.declared.stream.Stream.{Stream}
 use Rattle.glk_streams.specs.declared.fileref.FileRef.{FileRef}
 use Rattle.glk_streams.specs.Files.{has_file, content_of, with_bytes, with_file, without_file, holding, bytes_of, may_stand}
 use Rattle.glk_streams.specs.Streams.{StreamTable, no_streams, number_of, ref_number_of, is_window}
-use Rattle.glk_streams.specs.Opening.{count_of, added}
+use Rattle.glk_streams.specs.Opening.{count_of}
 use Rattle.glk_streams.specs.Valid.{is_mode, are_modes, is_current, is_next, in_order, are_kinds, are_files, are_streams, are_refs, is_valid}
-use Rattle.glk_streams.proofs.ValidLemmas.{in_order-bytes, in_order-file, in_order-without, kinds-bytes, kinds-file, kinds-without, length-bytes, length-file, length-without, bytes-bytes, bytes-file, bytes-without, ascends-changed, ascends-more, ascends-without, has-changed, has-without, has-more, number-found, length-left, modes-changed, mode-found, modes-without, modes-more, count-changed, count-without, count-more, count-window}
+use Rattle.glk_streams.proofs.ValidLemmas.{in_order-bytes, in_order-file, in_order-without, kinds-bytes, kinds-file, kinds-without, length-bytes, length-file, length-without, bytes-bytes, bytes-file, bytes-without, ascends-changed, ascends-more, ascends-without, has-changed, has-without, has-more, number-found, length-left, modes-changed, mode-found, modes-without, modes-more, count-changed, count-without}
 
 -- the parts of a conjunction, and back
 both : (x y : Bool) → x ≡ true → y ≡ true → (x && y) ≡ true

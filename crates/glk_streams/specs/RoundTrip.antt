@@ -1,12 +1,11 @@
 -- What is written through a stream and read back through another (own).
-use Rattle.std.specs.Prelude.{◌≡◌, ℕ, ◌+◌, nat_lt, Bool, true, List, [], ◌∷◌, length, Option, Some, None}
+use Rattle.std.specs.Prelude.{◌≡◌, ℕ, ◌+◌, nat_lt, Bool, true, List, [], ◌∷◌, Some, None}
 use lib.Utf8.{scalar}
 use Rattle.vm_memory.specs.MemoryMap.{replaced}
 use Rattle.glk_streams.specs.Coding.{kept, units_of, char_at}
 use Rattle.glk_streams.specs.Output.{start_of}
 use Rattle.glk_streams.specs.declared.coding.Coding.{Coding}
 use Rattle.glk_streams.specs.declared.coding.Coding.TheVariants.{Latin1, Utf8, Utf32}
-use Rattle.glk_streams.specs.declared.coding.Reading.{Reading}
 
 -- a character that the coding has: a code below 256, a Unicode scalar value, any code
 abbrev pub has_code : Coding → ℕ → Bool
