@@ -14,7 +14,7 @@ use Rattle.glk_streams.specs.Valid.{is_mode, are_modes, is_current, is_next, in_
 use Rattle.glk_streams.proofs.ValidLemmas.{in_order-bytes, in_order-file, in_order-without, kinds-bytes, kinds-file, kinds-without, length-bytes, length-file, length-without, bytes-bytes, bytes-file, bytes-without, ascends-changed, ascends-more, ascends-without, has-changed, has-without, has-more, number-found, length-left, modes-changed, mode-found, modes-without, modes-more, count-changed, count-without}
 
 -- the parts of a conjunction, and back
-both : (x y : Bool) → x ≡ true → y ≡ true → (x && y) ≡ true
+pub both : (x y : Bool) → x ≡ true → y ≡ true → (x && y) ≡ true
 both x y a b = λ i. a i && b i
 
 pub record Files (fs : List File) : Type 0 where
@@ -55,7 +55,7 @@ held-as fs u n b false e h m z l =
       bytes = grind (arith, common_steps, bytes-file fs u n b, l, none);
     }))
 
-no-content : (fs : List File) (u : ℕ) (n : List ℕ) → has_file fs u n ≡ false → content_of fs u n ≡ []
+pub no-content : (fs : List File) (u : ℕ) (n : List ℕ) → has_file fs u n ≡ false → content_of fs u n ≡ []
 unfolding has_file content_of
 no-content [] u n h = refl
 no-content (f ∷ fs) u n h = grind (arith, common_steps, h, no-content fs u n)
