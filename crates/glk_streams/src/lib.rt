@@ -15,6 +15,7 @@ mod position;
 mod reading;
 mod stream;
 mod streams;
+mod valid;
 
 pub use coding::{Coding, Reading};
 pub use fault::StreamStop;

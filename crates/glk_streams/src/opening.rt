@@ -22,7 +22,7 @@ pub struct Counts {
 
 /// How many streams there are besides those of windows.
 #[tactic(auto, unfolding(crate::specs::Opening::count_of))]
-fn count_of(streams: &[Stream]) -> usize
+pub(crate) fn count_of(streams: &[Stream]) -> usize
     ensures value { result ≡ opening.count_of streams.now }
 {
     let mut count = 0;
