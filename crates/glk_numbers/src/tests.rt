@@ -1,6 +1,7 @@
 use super::*;
 use std::test::*;
 
+#[derive(Drop)]
 struct Item(u32);
 
 impl Numbered for Item {
