@@ -67,7 +67,8 @@ first_of bytes = reading_of (decoded bytes).char (decoded bytes).size
 -- the character at a position of a file's bytes; none at their end
 abbrev pub char_at : Coding → List ℕ → ℕ → Option Reading
 char_at Latin1 bytes place =
-    if nat_lt place (length bytes) then Some (record { code = slice_index bytes place; steps = 1 }) else None
+    if nat_lt place (length bytes)
+    then Some (record { code = slice_index bytes place; steps = 1 }) else None
 char_at Utf8 bytes place =
     if nat_lt place (length bytes) then Some (first_of (drop place bytes)) else None
 char_at Utf32 bytes place =

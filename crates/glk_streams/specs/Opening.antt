@@ -80,7 +80,8 @@ readied t usage name mode =
 
 -- mode 5 begins at the end
 abbrev pub first_place : List file.File → ℕ → List ℕ → ℕ → Bool → ℕ
-first_place fs usage name mode unicode = if mode == 5 then end_in (File usage name) fs unicode else 0
+first_place fs usage name mode unicode =
+    if mode == 5 then end_in (File usage name) fs unicode else 0
 
 abbrev pub opened_name : StreamTable → ℕ → List ℕ → ℕ → ℕ → Bool → StreamTable × ℕ
 opened_name t usage name mode rock unicode =

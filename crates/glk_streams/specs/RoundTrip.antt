@@ -40,7 +40,8 @@ Reads c bytes place (x ∷ xs) =
 
 -- what is put into an empty file is read from its start, in each coding
 abbrev pub RoundTrip : Type 0
-RoundTrip = (c : Coding) (codes : List ℕ) → AreHeld c codes → Reads c (after_puts c [] codes) 0 codes
+RoundTrip =
+    (c : Coding) (codes : List ℕ) → AreHeld c codes → Reads c (after_puts c [] codes) 0 codes
 
 -- the bytes of the characters, one after the other
 unfoldable pub spelled : Coding → List ℕ → List ℕ
@@ -57,7 +58,8 @@ pub record IsOpen (allows : ℕ → Bool) (t : StreamTable) (n : ℕ) (target : 
   pub place_is : stream.place ≡ place
 
 -- characters are put to a stream in turn
-unfoldable pub put_all : StreamTable → MemoryMap → ℕ → List ℕ → Result (StreamTable × MemoryMap) StreamStop
+unfoldable pub put_all : StreamTable → MemoryMap → ℕ → List ℕ
+    → Result (StreamTable × MemoryMap) StreamStop
 put_all t m n [] = Ok (t, m)
 put_all t m n (x ∷ xs) = put t m n x >>= (λ done. put_all done.0 done.1 n xs)
 
@@ -69,8 +71,11 @@ Gives t m n (x ∷ xs) = (after : StreamTable) × (got t m n ≡ Ok (after, Some
 -- what is put to one stream on an empty file is what another stream on it then gives, where the
 -- files have room
 abbrev pub ReadsBack : Type 0
-ReadsBack = (t : StreamTable) (m : MemoryMap) (a b usage : ℕ) (name : List ℕ) (unicode : Bool) (codes : List ℕ)
-    → a ≢ b → IsOpen is_write_mode t a (File usage name) unicode 0 → IsOpen is_read_mode t b (File usage name) unicode 0
+ReadsBack =
+    (t : StreamTable) (m : MemoryMap) (a b usage : ℕ) (name : List ℕ) (unicode : Bool)
+    (codes : List ℕ)
+    → a ≢ b → IsOpen is_write_mode t a (File usage name) unicode 0
+    → IsOpen is_read_mode t b (File usage name) unicode 0
     → content_of t.files usage name ≡ [] → may_stand t.files usage name ≡ true
     → AreHeld (coding_of unicode (File usage name)) codes
     → bytes_of t.files + length (spelled (coding_of unicode (File usage name)) codes) ≤ 1048576

@@ -61,7 +61,8 @@ are_kinds (f ∷ fs) = nat_lt f.usage 16 && are_kinds fs
 -- at most 64 files in order, of at most 1,048,576 bytes in sum
 abbrev pub are_files : List file.File → Bool
 are_files fs =
-    in_order fs && are_kinds fs && nat_le (length fs) MAX_FILES && nat_le (bytes_of fs) MAX_FILE_BYTES
+    in_order fs && are_kinds fs && nat_le (length fs) MAX_FILES
+    && nat_le (bytes_of fs) MAX_FILE_BYTES
 
 abbrev pub is_valid : StreamTable → Bool
 is_valid t =
