@@ -1,0 +1,4 @@
+pub mod Keycode
+pub mod Request
+pub mod Delivery
+pub mod Valid
