@@ -8,7 +8,7 @@ use Rattle.glk_input.specs.declared.request.LineRequest.{LineRequest}
 use Rattle.glk_input.specs.declared.request.Request.TheVariants.{Line, Char}
 
 -- a plain line of at most 2 that Escape may end
-asked : LineRequest
+abbrev pub asked : LineRequest
 asked = record { buf = 256; max = 2; init = 1; unicode = false; echo = true; keys = 0xFFFFFFF8 ∷ [] }
 
 -- Unknown, Return, Escape, End, Func1 and Func12 are keycodes; what lies beside them isn't
