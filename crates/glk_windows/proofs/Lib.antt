@@ -1,0 +1,11 @@
+pub mod ClosingLemmas
+pub mod PlacingLemmas
+pub mod RowLemmas
+pub mod RunLemmas
+pub mod ReadingLemmas
+pub mod OrderLemmas
+pub mod OneTreeLemmas
+pub mod SameLemmas
+pub mod CutLemmas
+pub mod LiftLemmas
+pub mod TestLemmas

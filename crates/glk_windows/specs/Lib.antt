@@ -1,0 +1,10 @@
+pub mod Tree
+pub mod Reading
+pub mod Output
+pub mod Resizing
+pub mod Placing
+pub mod Opening
+pub mod Arranging
+pub mod Closing
+pub mod Valid
+pub mod OneTree

@@ -1,0 +1,121 @@
+-- The windows are one tree (Glk 0.7.5, "The Window Tree").
+use Rattle.std.specs.Prelude.{◌≡◌, ℕ, zero, suc, ◌+◌, ◌==◌, not, length, ◌||◌, ◌&&◌, if◌then◌else◌, Bool, true, false, List, [], ◌∷◌, Option, Some, None, is_some, option_map, nat_eq, nat_lt}
+use Rattle.glk_windows.specs.declared.window.Window.{Window}
+use Rattle.glk_windows.specs.declared.window.Pair as p
+use Rattle.glk_windows.specs.Tree.{WindowTree, pair_in, pair_of, pair_swapped}
+
+-- a tree of windows, with what each pair holds
+pub data Shape : Type 0 where
+  Leaf : ℕ → Shape
+  Fork : ℕ → p.Pair → Shape → Shape → Shape
+
+abbrev pub top : Shape → ℕ
+top (Leaf n) = n
+top (Fork n p a b) = n
+
+-- what its first window holds as a pair
+abbrev pub kids : Shape → Option p.Pair
+kids (Leaf n) = None
+kids (Fork n p a b) = Some p
+
+-- how often a window is reached
+abbrev pub count : Shape → ℕ → ℕ
+count (Leaf n) m = if n == m then 1 else 0
+count (Fork n p a b) m = (if n == m then 1 else 0) + count a m + count b m
+
+-- a pair without its key, which is no part of the tree
+abbrev pub bare : p.Pair → p.Pair
+bare p = record p { key = 0 }
+
+abbrev pub bare_in : Window → Option p.Pair
+bare_in w = option_map bare (pair_in w)
+
+-- a window's parent and what it holds as a pair
+abbrev pub node_of : List Window → ℕ → Option (ℕ × Option p.Pair)
+node_of [] n = None
+node_of (w ∷ ws) n = if w.number == n then Some (w.parent, bare_in w) else node_of ws n
+
+-- the list spells this tree below a window
+abbrev pub Spells : List Window → ℕ → Shape → Type 0
+Spells ws up (Leaf n) = node_of ws n ≡ Some (up, None)
+Spells ws up (Fork n p a b) =
+    (node_of ws n ≡ Some (up, Some p)) × (p.first ≡ top a) × (p.second ≡ top b) × Spells ws n a × Spells ws n b
+
+-- a pair in the place of a window, with it and a new one below
+abbrev pub forked : ℕ → ℕ → p.Pair → ℕ → Shape → Shape
+forked from pair p new (Leaf n) = if n == from then Fork pair p (Leaf n) (Leaf new) else Leaf n
+forked from pair p new (Fork n q a b) =
+    if n == from then Fork pair p (Fork n q a b) (Leaf new)
+    else Fork n (pair_swapped q from pair) (forked from pair p new a) (forked from pair p new b)
+
+-- each window is reached once, and nothing else is
+abbrev pub Once : List Window → Shape → Type 0
+Once ws s = (m : ℕ) → count s m ≡ (if is_some (node_of ws m) then 1 else 0)
+
+-- the windows are this tree, or there is none
+abbrev pub IsTree : WindowTree → Option Shape → Type 0
+IsTree t None = (t.root ≡ 0) × (t.slots ≡ [])
+IsTree t (Some s) = (t.root ≡ top s) × Spells t.slots 0 s × Once t.slots s
+
+-- how many windows
+abbrev pub size : Shape → ℕ
+size (Leaf n) = 1
+size (Fork n p a b) = 1 + size a + size b
+
+-- the part of the tree from a window on
+abbrev pub below : ℕ → Shape → Shape
+below n (Leaf m) = Leaf m
+below n (Fork m p a b) =
+    if m == n then Fork m p a b else (if nat_lt 0 (count a n) then below n a else below n b)
+
+-- the tree without a window, those below it and the pair above it
+abbrev pub cut : ℕ → Shape → Shape
+cut n (Leaf m) = Leaf m
+cut n (Fork m p a b) =
+    if top a == n then b
+    else (if top b == n then a
+    else (if nat_lt 0 (count a n) then Fork m (record p { first = top (cut n a) }) (cut n a) b
+    else Fork m (record p { second = top (cut n b) }) a (cut n b)))
+
+-- what the pair above a window holds
+abbrev pub held : ℕ → Shape → p.Pair
+held n (Leaf m) = record { method = 0; size = 0; key = 0; first = 0; second = 0 }
+held n (Fork m p a b) =
+    if top a == n then p else (if top b == n then p else (if nat_lt 0 (count a n) then held n a else held n b))
+
+abbrev pub shape_with : (ℕ → Shape) → ℕ → Option p.Pair → Shape
+shape_with f n None = Leaf n
+shape_with f n (Some p) = Fork n p (f p.first) (f p.second)
+
+-- the tree that a list has from a window on, to a depth
+unfoldable pub shape_of : ℕ → List Window → ℕ → Shape
+shape_of zero ws n = Leaf n
+shape_of (suc d) ws n = shape_with (shape_of d ws) n (option_map bare (pair_of ws n))
+
+-- a window is there, under this one
+abbrev pub is_under : ℕ → Option (ℕ × Option p.Pair) → Bool
+is_under up None = false
+is_under up (Some x) = x.0 == up
+
+abbrev pub no_pair : Option (ℕ × Option p.Pair) → Bool
+no_pair None = true
+no_pair (Some (u, None)) = true
+no_pair (Some (u, Some p)) = false
+
+-- each window of a tree is there, under the one above it
+abbrev pub tested : List Window → ℕ → Shape → Bool
+tested ws up (Leaf n) = is_under up (node_of ws n) && no_pair (node_of ws n)
+tested ws up (Fork n p a b) = is_under up (node_of ws n) && (tested ws n a && tested ws n b)
+
+-- each window is reached once
+abbrev pub once : List Window → Shape → Bool
+once [] s = true
+once (w ∷ ws) s = (count s w.number == 1) && once ws s
+
+-- the windows that there are, with this root, are this tree
+abbrev pub is_spelled : List Window → Shape → Bool
+is_spelled ws s = tested ws 0 s && once ws s
+
+-- the windows with a root are one tree
+abbrev pub is_tree : WindowTree → Bool
+is_tree t = is_spelled t.slots (shape_of (length t.slots) t.slots t.root)

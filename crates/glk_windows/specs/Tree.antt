@@ -1,0 +1,92 @@
+-- The windows as a list by number (Glk 0.7.5, "The Window Tree").
+use Rattle.std.specs.Prelude.{ℕ, ◌==◌, if◌then◌else◌, List, Option, Some, None}
+use Rattle.glk_numbers.specs.Numbered.{found, changed_at}
+use Rattle.glk_windows.specs.declared.window.Window.{Window}
+use Rattle.glk_windows.specs.declared.window.Pair as p
+use Rattle.glk_windows.specs.declared.window.Content.{Content}
+use Rattle.glk_windows.specs.declared.window.Content.TheVariants.{Pair, Blank, Buffer, Grid}
+use Rattle.glk_windows.specs.declared.changing.Change.{Change}
+use Rattle.glk_windows.specs.declared.changing.Change.TheVariants as to
+
+-- the windows by number, the number of the next one, and the root or 0
+pub record WindowTree : Type 0 where
+  pub slots : List Window
+  pub next : ℕ
+  pub root : ℕ
+
+-- a window's number
+abbrev pub number_of : Window → ℕ
+number_of w = w.number
+
+-- the window with this number
+abbrev pub window_at : List Window → ℕ → Option Window
+window_at ws n = found number_of ws n
+
+-- the window with this number changed
+abbrev pub set_at : (Window → Window) → List Window → ℕ → List Window
+set_at f ws n = changed_at number_of f ws n
+
+-- of the window, if there is one, or else this
+abbrev pub read : {A : Type 0} → A → (Window → A) → Option Window → A
+read none of None = none
+read none of (Some w) = of w
+
+-- what a pair holds
+abbrev pub pair_content : Content → Option p.Pair
+pair_content (Pair p) = Some p
+pair_content Blank = None
+pair_content (Buffer b) = None
+pair_content (Grid g) = None
+
+abbrev pub pair_in : Window → Option p.Pair
+pair_in w = pair_content w.content
+
+abbrev pub pair_of : List Window → ℕ → Option p.Pair
+pair_of ws n = read None pair_in (window_at ws n)
+
+-- the pair above a window, or 0
+abbrev pub parent_of : List Window → ℕ → ℕ
+parent_of ws n = read 0 (λ w. w.parent) (window_at ws n)
+
+-- the stream of a window, or 0
+abbrev pub stream_of : List Window → ℕ → ℕ
+stream_of ws n = read 0 (λ w. w.stream) (window_at ws n)
+
+-- in a pair, another window in the place of the old one
+abbrev pub pair_swapped : p.Pair → ℕ → ℕ → p.Pair
+pair_swapped p old new =
+    if p.first == old then record p { first = new }
+    else (if p.second == old then record p { second = new } else p)
+
+abbrev pub swapped : Content → ℕ → ℕ → Content
+swapped (Pair p) old new = Pair (pair_swapped p old new)
+swapped Blank old new = Blank
+swapped (Buffer b) old new = Buffer b
+swapped (Grid g) old new = Grid g
+
+-- a pair's division, key 0 for the one that it has
+abbrev pub pair_arranged : p.Pair → ℕ → ℕ → ℕ → p.Pair
+pair_arranged p method size key =
+    record p { method = method; size = size; key = if key == 0 then p.key else key }
+
+abbrev pub arranged : Content → ℕ → ℕ → ℕ → Content
+arranged (Pair p) method size key = Pair (pair_arranged p method size key)
+arranged Blank method size key = Blank
+arranged (Buffer b) method size key = Buffer b
+arranged (Grid g) method size key = Grid g
+
+-- the cursor of a grid moved
+abbrev pub moved : Content → ℕ → ℕ → Content
+moved (Pair p) x y = Pair p
+moved Blank x y = Blank
+moved (Buffer b) x y = Buffer b
+moved (Grid g) x y = Grid (record g { x = x; y = y })
+
+-- a window changed in one of its fields
+abbrev pub changed : Change → Window → Window
+changed (to.Parent n) w = record w { parent = n }
+changed (to.Stream n) w = record w { stream = n }
+changed (to.Echo n) w = record w { echo = n }
+changed (to.Child old new) w = record w { content = swapped w.content old new }
+changed (to.Division method size key) w = record w { content = arranged w.content method size key }
+changed (to.Cursor x y) w = record w { content = moved w.content x y }

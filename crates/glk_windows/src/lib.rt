@@ -1,0 +1,20 @@
+//! The windows of a story: their tree, their rectangles and what they show.
+#![tactic(auto)]
+
+mod arranging;
+mod changing;
+mod closing;
+mod opening;
+mod output;
+mod placing;
+mod reading;
+mod resizing;
+mod text;
+mod window;
+mod windows;
+
+pub use arranging::is_method;
+pub use opening::MAX_WINDOWS;
+pub use text::{Codes, Run, Runs};
+pub use window::{Area, Buffer, Content, Grid, Pair, Window};
+pub use windows::Windows;
