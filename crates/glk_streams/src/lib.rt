@@ -1,0 +1,24 @@
+//! Streams, file references and the files of a session.
+#![tactic(auto)]
+
+mod coding;
+mod fault;
+mod file;
+mod fileref;
+mod find;
+mod input;
+mod name;
+mod opening;
+mod output;
+mod position;
+mod stream;
+mod streams;
+
+pub use coding::Coding;
+pub use fault::StreamStop;
+pub use file::{Contents, File, MAX_FILE_BYTES, MAX_FILES};
+pub use fileref::{FileRef, MAX_REFS};
+
+pub use opening::Counts;
+pub use stream::{MAX_STREAMS, Stream, Target};
+pub use streams::Streams;

@@ -1,0 +1,150 @@
+//! Opening and closing of streams (Glk 0.7.5, "Streams").
+
+ghost use Rattle.std.specs.Prelude.{◌≡◌, ◌≤◌, IfOk, OnErr};
+ghost use Rattle.glk_streams.specs.Answer.{Gives, Yields};
+ghost use Rattle.glk_streams.specs.Opening as opening;
+
+use crate::fault::StreamStop;
+use crate::stream::{MAX_STREAMS, Stream, Target};
+use crate::streams::Streams;
+use crate::find::{find, stream_of_window};
+use glk_numbers::MAX_NUMBER;
+use std::alloc::{AllocError, Global};
+
+/// The characters that were read from a stream and written to it, modulo 2^32.
+#[derive(Clone, Copy, Debug, PartialEq, Eq)]
+pub struct Counts {
+    pub read: u32,
+    pub written: u32,
+}
+
+/// How many streams there are besides those of windows.
+#[tactic(auto, unfolding(crate::specs::Opening::count_of))]
+fn count_of(streams: &[Stream]) -> usize
+    ensures value { result ≡ opening.count_of streams.now }
+{
+    let mut count = 0;
+    for stream in streams {
+        if !stream.target.is_window() {
+            count += 1;
+        }
+    }
+    count
+}
+
+impl Streams {
+    /// Whether no stream more may be opened besides those of windows.
+    fn is_full(&self) -> bool
+        ensures { result ≡ opening.is_full self.now }
+    {
+        self.next > MAX_NUMBER || count_of(&self.streams) >= MAX_STREAMS
+    }
+
+    /// A stream more, with the next number.
+    fn add(&mut self, stream: Stream) -> Result<u32, AllocError>
+        requires { self.old.next ≤ 4294967294 }
+        ensures ok { IfOk result (λ n. Yields (opening.joined self.old stream) self.new n) }
+        ensures err { OnErr result (self.new ≡ self.old) }
+    {
+        self.streams.push(stream)?;
+        let number = self.next;
+        self.next += 1;
+        Ok(number)
+    }
+
+    /// A window's stream; 0 where no number is left.
+    pub fn open_window(&mut self, alloc: Global, win: u32) -> Result<u32, AllocError>
+        ensures ok { IfOk result (λ n. Yields (opening.opened_window self.old win) self.new n) }
+        ensures err { OnErr result (self.new ≡ self.old) }
+    {
+        if self.next > MAX_NUMBER {
+            return Ok(0);
+        }
+        self.add(fresh(self.next, 0, 1, false, Target::Window(win)))
+    }
+
+    /// A stream on a buffer of so many characters; 0 at the limit. BadArgument where the mode is
+    /// none of 1, 2 and 3.
+    pub fn open_memory(
+        &mut self,
+        alloc: Global,
+        buf: u32,
+        len: u32,
+        mode: u32,
+        rock: u32,
+        unicode: bool,
+    ) -> Result<u32, StreamStop>
+        ensures value { Gives (opening.opened_memory self.old buf len mode rock unicode) self.new result }
+        ensures err { OnErr result (self.new ≡ self.old) }
+    {
+        if !matches!(mode, 1 | 2 | 3) {
+            return Err(StreamStop::BadArgument);
+        }
+        if self.is_full() {
+            return Ok(0);
+        }
+        let target = Target::Memory { buf, len };
+        Ok(self.add(fresh(self.next, rock, mode, unicode, target))?)
+    }
+
+    /// Closes a stream and gives its counts. BadObject where the number isn't live; BadArgument
+    /// where the stream is a window's.
+    pub fn close(&mut self, stream: u32) -> Result<Counts, StreamStop>
+        ensures value { Gives (opening.closed self.old stream) self.new result }
+        ensures err { OnErr result (self.new ≡ self.old) }
+    {
+        match find(&self.streams, stream) {
+            None => Err(StreamStop::BadObject),
+            Some(at) => {
+                if self.streams[at].target.is_window() {
+                    return Err(StreamStop::BadArgument);
+                }
+                Ok(self.take(stream))
+            }
+        }
+    }
+
+    /// Closes a window's stream and gives its counts, 0 and 0 where it has none.
+    pub fn close_window(&mut self, win: u32) -> Counts
+        ensures { Yields (opening.closed_window self.old win) self.new result }
+    {
+        let stream = stream_of_window(&self.streams, win);
+        self.take(stream)
+    }
+
+    /// Drops a stream, which is no longer the current one, and gives its counts.
+    fn take(&mut self, stream: u32) -> Counts
+        ensures { Yields (opening.taken self.old stream) self.new result }
+    {
+        if self.current == stream {
+            self.current = 0;
+        }
+        match find(&self.streams, stream) {
+            None => Counts { read: 0, written: 0 },
+            Some(at) => {
+                let closed = self.streams.remove(at);
+                Counts {
+                    read: closed.read,
+                    written: closed.written,
+                }
+            }
+        }
+    }
+}
+
+/// A stream as it is opened.
+fn fresh(number: u32, rock: u32, mode: u32, unicode: bool, target: Target) -> Stream
+    ensures { result ≡ opening.fresh number rock mode unicode target 0 }
+{
+    Stream {
+        number,
+        rock,
+        mode,
+        style: 0,
+        read: 0,
+        written: 0,
+        place: 0,
+        unicode,
+        target,
+    }
+}
