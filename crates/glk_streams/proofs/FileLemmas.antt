@@ -1,10 +1,10 @@
 -- What stands where a file is found, and what is changed and left out there.
-use Rattle.std.proofs.Common.{◌≡◌, ℕ, zero, suc, ◌+◌, List, [], ◌∷◌, ◌++◌, refl, sym, Option, Some, None, ap, arith, slice_set, slice_index_or, nat_eq, Bool, true, false, rules, drop, take, length}
+use Rattle.std.proofs.Common.{◌≡◌, ◌≤◌, ℕ, zero, suc, ◌+◌, List, [], ◌∷◌, ◌++◌, refl, sym, Option, Some, None, ap, arith, slice_set, slice_index_or, nat_eq, Bool, true, false, rules, drop, take, length}
 use Rattle.std.specs.Prelude.{remove, insert, is_some, IfNone, IfSome}
 use Rattle.std.proofs.lemmas.Grind.{common_steps}
 use Rattle.glk_numbers.specs.Numbered.{behind}
 use Rattle.glk_streams.specs.declared.file.File.{File}
-use Rattle.glk_streams.specs.Files.{seat_of, spot_of, has_file, content_of, with_bytes, with_file, without_file, file_of}
+use Rattle.glk_streams.specs.Files.{seat_of, spot_of, has_file, bytes_of, content_of, with_bytes, with_file, without_file, file_of}
 use Rattle.glk_streams.proofs.PlaceLemmas.{remove-cons}
 
 has-none : (fs : List File) (u : ℕ) (n : List ℕ) → None ≡ seat_of fs u n → has_file fs u n ≡ false
@@ -47,12 +47,18 @@ without-some (f ∷ fs) u n i e = grind (arith, common_steps, without-some fs u 
 insert-cons : {X : Type 0} (x y : X) (xs : List X) (i : ℕ) → insert (x ∷ xs) (1 + i) y ≡ x ∷ insert xs i y
 insert-cons x y xs i = let e : 1 + i ≡ suc i = omega arith in rw e refl
 
-pub with_file-spot : (fs : List File) (u : ℕ) (n b : List ℕ)
+pub with_file_at_spot : (fs : List File) (u : ℕ) (n b : List ℕ)
     → with_file fs u n b ≡ insert fs (spot_of fs u n) (file_of u n b)
 unfolding with_file spot_of
-with_file-spot [] u n b = refl
-with_file-spot (f ∷ fs) u n b =
-    grind (arith, common_steps, with_file-spot fs u n b, insert-cons f (file_of u n b) fs (spot_of fs u n))
+with_file_at_spot [] u n b = refl
+with_file_at_spot (f ∷ fs) u n b =
+    grind (arith, common_steps, with_file_at_spot fs u n b, insert-cons f (file_of u n b) fs (spot_of fs u n))
+
+-- no file has more bytes than all
+pub content_within : (fs : List File) (u : ℕ) (n : List ℕ) → length (content_of fs u n) ≤ bytes_of fs
+unfolding content_of bytes_of
+content_within [] u n = omega arith
+content_within (f ∷ fs) u n = grind (arith, common_steps, content_within fs u n)
 
 -- the same by the result of a search
 module _ (fs : List File) (u : ℕ) (n : List ℕ) where

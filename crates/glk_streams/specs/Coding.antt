@@ -10,6 +10,7 @@ use Rattle.glk_streams.specs.declared.stream.Stream.{Stream}
 use Rattle.glk_streams.specs.declared.stream.Target.{Target}
 use Rattle.glk_streams.specs.declared.stream.Target.TheVariants.{Window, Memory, File}
 use Rattle.glk_streams.specs.declared.coding.Coding.{Coding}
+use Rattle.glk_streams.specs.declared.coding.Reading.{Reading}
 use Rattle.glk_streams.specs.declared.coding.Coding.TheVariants.{Latin1, Utf8, Utf32}
 
 -- a plain stream has a byte for each character; a Unicode stream is UTF-8 in a file of text mode,
@@ -55,11 +56,6 @@ abbrev pub steps_of : Coding → ℕ → ℕ
 steps_of Latin1 n = 1
 steps_of Utf8 n = n
 steps_of Utf32 n = 1
-
--- a character and the positions it takes
-pub record Reading : Type 0 where
-  pub code : ℕ
-  pub steps : ℕ
 
 -- the first character of some bytes in UTF-8, or `?` for one byte where they begin with none
 abbrev pub reading_of : Option ℕ → ℕ → Reading

@@ -3,14 +3,15 @@ use Rattle.std.specs.Prelude.{ℕ, ◌+◌, ◌-◌, ◌/◌, ◌==◌, ◌&&◌
 use Rattle.glk_numbers.specs.Numbered.{without, has}
 use Rattle.glk_numbers.specs.declared.numbered.TheConstants.{MAX_NUMBER}
 use Rattle.glk_streams.specs.Answer.{live}
-use Rattle.glk_streams.specs.Coding.{units_of, coding_of}
-use Rattle.glk_streams.specs.Files.{has_file, content_of, holding, may_stand}
+use Rattle.glk_streams.specs.Files.{has_file, holding, may_stand}
+use Rattle.glk_streams.specs.Position.{end_in}
 use Rattle.glk_streams.specs.Streams.{StreamTable, number_of, stream_at, ref_at, stream_of_window, of_stream, is_window}
 use Rattle.glk_streams.specs.declared.stream.Stream.{Stream}
 use Rattle.glk_streams.specs.declared.stream.Target.{Target}
 use Rattle.glk_streams.specs.declared.stream.Target.TheVariants.{Window, Memory, File}
 use Rattle.glk_streams.specs.declared.stream.TheConstants.{MAX_STREAMS}
 use Rattle.glk_streams.specs.declared.opening.Counts.{Counts}
+use Rattle.glk_streams.specs.declared.file.File as file
 use Rattle.glk_streams.specs.declared.fileref.FileRef.{FileRef}
 use Rattle.glk_streams.specs.declared.fault.StreamStop.{StreamStop}
 use Rattle.glk_streams.specs.declared.fault.StreamStop.TheVariants.{BadObject, BadArgument}
@@ -66,29 +67,30 @@ opened_memory t buf len mode rock unicode =
     else (if is_full t then Ok (t, 0)
     else Ok (joined t (fresh t.next rock mode unicode (Memory buf len) 0)))
 
--- mode 1 empties a file, and each mode but 2 makes it where it isn't there
-abbrev pub readied : StreamTable → FileRef → ℕ → StreamTable
-readied t r mode =
-    if mode == 1 || not (has_file t.files r.usage r.name)
-    then record t { files = holding t.files r.usage r.name [] } else t
+-- a file can be opened in this mode: mode 2 makes none, and none is made at the limit
+abbrev pub can_open : List file.File → ℕ → List ℕ → ℕ → Bool
+can_open fs usage name mode = if mode == 2 then has_file fs usage name else may_stand fs usage name
+
+-- mode 1 empties a file, and a mode that can be opened makes it where it isn't there
+abbrev pub readied : StreamTable → ℕ → List ℕ → ℕ → StreamTable
+readied t usage name mode =
+    if mode == 1 || not (has_file t.files usage name)
+    then record t { files = holding t.files usage name [] } else t
 
 -- mode 5 begins at the end
-abbrev pub first_place : StreamTable → FileRef → ℕ → Bool → ℕ
-first_place t r mode unicode =
-    if mode == 5
-    then units_of (coding_of unicode (File r.usage r.name)) (content_of t.files r.usage r.name) else 0
+abbrev pub first_place : List file.File → ℕ → List ℕ → ℕ → Bool → ℕ
+first_place fs usage name mode unicode = if mode == 5 then end_in (File usage name) fs unicode else 0
 
--- the reference's file can be opened in this mode: mode 2 makes none, and none is made at the limit
-abbrev pub can_open : StreamTable → FileRef → ℕ → Bool
-can_open t r mode =
-    if mode == 2 then has_file t.files r.usage r.name else may_stand t.files r.usage r.name
+abbrev pub opened_name : StreamTable → ℕ → List ℕ → ℕ → ℕ → Bool → StreamTable × ℕ
+opened_name t usage name mode rock unicode =
+    joined (readied t usage name mode)
+        (fresh t.next rock mode unicode (File usage name) (first_place t.files usage name mode unicode))
 
 abbrev pub opened_ref : StreamTable → FileRef → ℕ → ℕ → Bool → Result (StreamTable × ℕ) StreamStop
 opened_ref t r mode rock unicode =
     if not (is_file_mode mode) then Err BadArgument
-    else (if is_full t || not (can_open t r mode) then Ok (t, 0)
-    else Ok (joined (readied t r mode)
-        (fresh t.next rock mode unicode (File r.usage r.name) (first_place t r mode unicode))))
+    else (if is_full t || not (can_open t.files r.usage r.name mode) then Ok (t, 0)
+    else Ok (opened_name t r.usage r.name mode rock unicode))
 
 -- a file's stream; 0 where mode 2 finds no file, and at the limits
 abbrev pub opened_file : StreamTable → ℕ → ℕ → ℕ → Bool → Result (StreamTable × ℕ) StreamStop

@@ -41,11 +41,14 @@ abbrev pub base_of : List File → Stream → ℕ → ℕ
 base_of fs s from =
     if from == 0 then 0 else (if from == 1 then min s.place (end_of fs s) else end_of fs s)
 
+abbrev pub sought_place : List File → Stream → ℕ → ℕ → ℕ
+sought_place fs s by from = away (end_of fs s) (base_of fs s from) by
+
 -- the stream at another position; a window's stays as it is
 abbrev pub sought_in : Target → List File → Stream → ℕ → ℕ → Stream
 sought_in (of.Window win) fs s by from = s
-sought_in (of.Memory buf len) fs s by from = placed (away (end_of fs s) (base_of fs s from) by) s
-sought_in (of.File usage name) fs s by from = placed (away (end_of fs s) (base_of fs s from) by) s
+sought_in (of.Memory buf len) fs s by from = placed (sought_place fs s by from) s
+sought_in (of.File usage name) fs s by from = placed (sought_place fs s by from) s
 
 abbrev pub sought : StreamTable → ℕ → ℕ → ℕ → Result StreamTable StreamStop
 sought t n by from = live (stream_at t n) (λ s. if nat_lt 2 from then Err BadArgument

@@ -1,7 +1,8 @@
 //! Files, which live inside the session (Glk 0.7.5, "File References").
 
-ghost use Rattle.std.specs.Prelude.{◌≡◌, ◌≤◌, ◌<◌, ◌-◌, ◌+◌, List, ℕ, [], length, is_some, remove, slice_index_or, slice_set, IfNone, IfOk, IfSome, OnErr};
+ghost use Rattle.std.specs.Prelude.{◌≡◌, ◌≤◌, ◌<◌, ◌-◌, ◌+◌, List, ℕ, [], length, is_some, remove, slice_index_or, slice_set, IfNone, IfOk, IfSome, IsTrue, OnErr, OnOk};
 ghost use Rattle.glk_streams.specs.Files as files;
+ghost use Rattle.glk_streams.specs.Output as output;
 ghost use Rattle.vm_memory.specs.MemoryMap.{replaced};
 
 use std::alloc::{AllocError, Global};
@@ -48,6 +49,38 @@ impl Contents {
         }
     }
 
+    /// These bytes; an error where memory runs out.
+    pub(crate) fn of(alloc: Global, bytes: &[u8]) -> Result<Contents, AllocError>
+        requires { length bytes.now ≤ 1048576 }
+        ensures { IfOk result (λ c. c ≡ bytes.now) }
+    {
+        Ok(Contents {
+            list: Vec::from_slice(alloc, bytes)?,
+        })
+    }
+
+    /// Writes bytes over those at a place, and on behind the end.
+    pub(crate) fn write(&mut self, at: usize, new: &[u8]) -> Result<(), AllocError>
+        requires inside { at ≤ length self.old }
+        requires limit { at + length new.now ≤ 1048576 }
+        ensures ok { OnOk result (self.new ≡ replaced self.old at new.now) }
+        ensures err { OnErr result (self.new ≡ self.old) }
+    {
+        let room = self.list.len() - at;
+        if room < new.len() {
+            self.list.extend_from_slice(&new[room..])?;
+        }
+        put(&mut self.list, at, new);
+        Ok(())
+    }
+
+    /// Takes out all bytes.
+    pub(crate) fn clear(&mut self)
+        ensures { self.new ≡ [] }
+    {
+        self.list.clear();
+    }
+
     /// The bytes, lent.
     pub fn as_slice(&self) -> &[u8]
         ensures value { result.now ≡ self.now }
@@ -55,6 +88,14 @@ impl Contents {
     {
         self.list.as_slice()
     }
+}
+
+/// Writes the bytes at the place.
+fn put(bytes: &mut [u8], at: usize, new: &[u8])
+    requires { at + length new.now ≤ length bytes.old }
+    ensures { bytes.new ≡ replaced bytes.old at new.now }
+{
+    bytes[at..at + new.len()].copy_from_slice(new);
 }
 
 /// Whether the usage has text mode, 0x100.
@@ -156,5 +197,88 @@ pub(crate) fn remove_file(list: &mut Vec<File>, usage: u32, name: &Text)
         Some(at) => {
             list.remove(at);
         }
+    }
+}
+
+/// How many bytes the files may still have.
+#[tactic(auto, unfolding(crate::specs::Files::bytes_of))]
+fn room_of(list: &[File]) -> usize
+    ensures value { result ≡ files.room_of list.now }
+    ensures within { result ≤ 1048576 }
+{
+    let mut room = MAX_FILE_BYTES;
+    for file in list {
+        room = room.saturating_sub(file.bytes.as_slice().len());
+    }
+    room
+}
+
+/// Whether the file with this usage and name is there or may be made.
+pub(crate) fn may_stand(list: &[File], usage: u32, name: &Text) -> bool
+    ensures { result ≡ files.may_stand list.now usage name.now }
+{
+    has_file(list, usage, name) || list.len() < MAX_FILES
+}
+
+/// Whether the file with this usage and name may have so many bytes written at a place.
+#[tactic(auto, using(crate::proofs::FileLemmas::content_within))]
+pub(crate) fn is_kept(list: &[File], usage: u32, name: &Text, at: usize, count: usize) -> bool
+    requires at { at ≤ 1048576 }
+    requires count { count ≤ 4 }
+    ensures value { result ≡ output.is_kept list.now usage name.now at count }
+    ensures within { IsTrue result → at + count ≤ 1048576 }
+{
+    may_stand(list, usage, name)
+        && (at + count).saturating_sub(content_of(list, usage, name).len()) <= room_of(list)
+}
+
+/// Puts in a file that isn't there; an error where memory runs out.
+#[tactic(auto, using(crate::proofs::FileLemmas::with_file_at_spot))]
+fn insert_file(list: &mut Vec<File>, alloc: Global, usage: u32, name: &Text, bytes: Contents) -> Result<(), AllocError>
+    ensures ok { OnOk result (list.new.items ≡ files.with_file list.old.items usage name.now bytes) }
+    ensures err { OnErr result (list.new.items ≡ list.old.items) }
+{
+    let spot = spot_of(list, usage, name);
+    let name = name.copy_of(alloc)?;
+    list.insert(spot, File {
+        usage: usage % 16,
+        name,
+        bytes,
+    })?;
+    Ok(())
+}
+
+/// Empties the file with this usage and name, which is made where it isn't there.
+pub(crate) fn empty_file(list: &mut Vec<File>, alloc: Global, usage: u32, name: &Text) -> Result<(), AllocError>
+    ensures ok { OnOk result (list.new.items ≡ files.holding list.old.items usage name.now []) }
+    ensures err { OnErr result (list.new.items ≡ list.old.items) }
+{
+    match find_file(list, usage, name) {
+        None => insert_file(list, alloc, usage, name, Contents::new(alloc)),
+        Some(at) => {
+            list[at].bytes.clear();
+            Ok(())
+        }
+    }
+}
+
+/// Writes bytes at a place of the file with this usage and name, which is made where it isn't
+/// there.
+pub(crate) fn write_file(
+    list: &mut Vec<File>,
+    alloc: Global,
+    usage: u32,
+    name: &Text,
+    at: usize,
+    new: &[u8],
+) -> Result<(), AllocError>
+    requires inside { at ≤ length (files.content_of list.old.items usage name.now) }
+    requires limit { at + length new.now ≤ 1048576 }
+    ensures ok { OnOk result (list.new.items ≡ output.put_at list.old.items usage name.now at new.now) }
+    ensures err { OnErr result (list.new.items ≡ list.old.items) }
+{
+    match find_file(list, usage, name) {
+        None => insert_file(list, alloc, usage, name, Contents::of(alloc, new)?),
+        Some(seat) => list[seat].bytes.write(at, new),
     }
 }

@@ -14,11 +14,12 @@ mod position;
 mod stream;
 mod streams;
 
-pub use coding::Coding;
+pub use coding::{Coding, Reading};
 pub use fault::StreamStop;
 pub use file::{Contents, File, MAX_FILE_BYTES, MAX_FILES};
 pub use fileref::{FileRef, MAX_REFS};
 
+pub use name::{clean_name, temporary_name};
 pub use opening::Counts;
 pub use stream::{MAX_STREAMS, Stream, Target};
 pub use streams::Streams;

@@ -7,9 +7,11 @@ ghost use Rattle.glk_streams.specs.Opening as opening;
 use crate::fault::StreamStop;
 use crate::stream::{MAX_STREAMS, Stream, Target};
 use crate::streams::Streams;
+use crate::file::{File, empty_file, has_file, may_stand};
 use crate::find::{find, stream_of_window};
 use glk_numbers::MAX_NUMBER;
 use std::alloc::{AllocError, Global};
+use story_text::Text;
 
 /// The characters that were read from a stream and written to it, modulo 2^32.
 #[derive(Clone, Copy, Debug, PartialEq, Eq)]
@@ -61,6 +63,69 @@ impl Streams {
             return Ok(0);
         }
         self.add(fresh(self.next, 0, 1, false, Target::Window(win)))
+    }
+
+    /// A stream on the file of a reference; mode 1 empties the file, and 1, 3 and 5 make it where it
+    /// isn't there. 0 where mode 2 finds no file, and at the limits of streams and files. BadObject
+    /// where the reference isn't live; BadArgument where the mode is none of 1, 2, 3 and 5.
+    pub fn open_file(
+        &mut self,
+        alloc: Global,
+        fref: u32,
+        mode: u32,
+        rock: u32,
+        unicode: bool,
+    ) -> Result<u32, StreamStop>
+        ensures value { Gives (opening.opened_file self.old fref mode rock unicode) self.new result }
+        ensures err { OnErr result (self.new ≡ self.old) }
+    {
+        match find(&self.refs, fref) {
+            None => Err(StreamStop::BadObject),
+            Some(at) => {
+                let usage = self.refs[at].usage;
+                if !matches!(mode, 1 | 2 | 3 | 5) {
+                    return Err(StreamStop::BadArgument);
+                }
+                let name = self.refs[at].name.copy_of(alloc)?;
+                if self.is_full() || !can_open(&self.files, usage, &name, mode) {
+                    return Ok(0);
+                }
+                Ok(self.open_named(alloc, usage, name, mode, rock, unicode)?)
+            }
+        }
+    }
+
+    /// A stream on a file, which is made ready for it.
+    fn open_named(
+        &mut self,
+        alloc: Global,
+        usage: u32,
+        name: Text,
+        mode: u32,
+        rock: u32,
+        unicode: bool,
+    ) -> Result<u32, AllocError>
+        requires { self.old.next ≤ 4294967294 }
+        ensures ok { IfOk result (λ n.
+            Yields (opening.opened_name self.old usage name mode rock unicode) self.new n) }
+        ensures err { OnErr result (self.new ≡ self.old) }
+    {
+        let copy = name.copy_of(alloc)?;
+        let stream = fresh(self.next, rock, mode, unicode, Target::File { usage, name });
+        let place = if mode == 5 {
+            stream.end(&self.files)
+        } else {
+            0
+        };
+        let number = self.add(Stream { place, ..stream })?;
+        if mode == 1 || !has_file(&self.files, usage, &copy) {
+            if let Err(e) = empty_file(&mut self.files, alloc, usage, &copy) {
+                self.streams.pop();
+                self.next = number;
+                return Err(e);
+            }
+        }
+        Ok(number)
     }
 
     /// A stream on a buffer of so many characters; 0 at the limit. BadArgument where the mode is
@@ -129,6 +194,17 @@ impl Streams {
                 }
             }
         }
+    }
+}
+
+/// Whether a file can be opened in this mode.
+fn can_open(files: &[File], usage: u32, name: &Text, mode: u32) -> bool
+    ensures { result ≡ opening.can_open files.now usage name.now mode }
+{
+    if mode == 2 {
+        has_file(files, usage, name)
+    } else {
+        may_stand(files, usage, name)
     }
 }
 
