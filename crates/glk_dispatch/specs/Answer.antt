@@ -1,6 +1,6 @@
 -- What a call does to a session's Glk state, memory and stack (own: a fault keeps the Glk state
 -- that the call's work had reached).
-use Rattle.std.specs.Prelude.{◌≡◌, ℕ, Bool, if◌then◌else◌, Result, Ok, Err}
+use Rattle.std.specs.Prelude.{◌≡◌, ℕ, Bool, if◌then◌else◌, List, Vec, Result, Ok, Err}
 use Rattle.vm_memory.specs.MemoryMap.{MemoryMap}
 use Rattle.vm_memory.specs.declared.fault.Trap.{Trap}
 use Rattle.vm_memory.specs.declared.fault.Trap.TheVariants.{Fault, NoMemory}
@@ -38,6 +38,14 @@ within g (Err n) = Err (g, n)
 -- the rest, or this fault where the condition fails
 abbrev pub needs : {A : Type 0} → Glk → Bool → ℕ → Reached A → Reached A
 needs g holds n rest = if holds then rest else Err (g, n)
+
+-- nothing is refused
+abbrev pub Done : {A : Type 0} → A → Reached A
+Done x = Ok x
+
+-- a call that reaches the Glk state alone, on the desk
+abbrev pub alone : {A : Type 0} → Desk → Reached (Glk × A) → Rule A
+alone s done = done >>= (λ p. Ok (record s { glk = p.0 }, p.1))
 
 -- The call answered this and left these, as it should, unless memory ran out. After a fault
 -- nothing is said of memory and stack.
@@ -89,3 +97,21 @@ abbrev pub Makes : {A : Type 0} → Result A ℕ → Result A Trap → Type 0
 Makes should (Ok x) = should ≡ Ok x
 Makes should (Err (Fault n)) = should ≡ Err n
 Makes should (Err NoMemory) = Unit {0}
+
+-- The call left this memory, as it should, unless memory ran out.
+abbrev pub Writes : Result MemoryMap ℕ → MemoryMap → Result (Unit {0}) Trap → Type 0
+Writes should m (Ok x) = should ≡ Ok m
+Writes should m (Err (Fault n)) = should ≡ Err n
+Writes should m (Err NoMemory) = Unit {0}
+
+-- The same of a call that reaches the Glk state alone and gives a vector, seen as its items.
+abbrev pub Reads : {A Z : Type 0} → Reached (Glk × List A) → Glk → Result (Vec A Z) Trap → Type 0
+Reads should g (Ok v) = should ≡ Ok (g, v.items)
+Reads should g (Err (Fault n)) = should ≡ Err (g, n)
+Reads should g (Err NoMemory) = Unit {0}
+
+-- The same of one that changes nothing.
+abbrev pub Lists : {A Z : Type 0} → Result (List A) ℕ → Result (Vec A Z) Trap → Type 0
+Lists should (Ok v) = should ≡ Ok v.items
+Lists should (Err (Fault n)) = should ≡ Err n
+Lists should (Err NoMemory) = Unit {0}

@@ -1,11 +1,11 @@
 -- Case (Glk 0.7.5, "Upper and Lower Case").
 use Rattle.std.specs.Prelude.{ℕ, zero, suc, ◌+◌, ◌-◌, ◌%◌, ◌^◌, ◌==◌, ◌&&◌, ◌||◌, not, nat_le, min}
-use Rattle.std.specs.Prelude.{Bool, if◌then◌else◌, Ok}
+use Rattle.std.specs.Prelude.{Bool, if◌then◌else◌, Result, Ok, Err}
 use Rattle.vm_memory.specs.MemoryMap.{MemoryMap}
 use Rattle.vm_memory.specs.Access.{read, written}
 use Rattle.vm_memory.specs.Fault.{coded}
 use Rattle.glk_dispatch.specs.Answer.{Desk, Reached, Rule, ◌>>=◌, within}
-use Rattle.glk_dispatch.specs.Glk.{charged, takes}
+use Rattle.glk_dispatch.specs.Glk.{charged}
 use Rattle.glk_dispatch.specs.Reference.{gives}
 use Rattle.glk_dispatch.specs.declared.called.Called.{Called}
 use Rattle.glk_dispatch.specs.declared.glk.Glk.{Glk}
@@ -53,10 +53,15 @@ title_cased count others g m at =
     words_cased (min count 1) Upper g m at
     >>= (λ p. words_cased (if others then count - 1 else 0) Lower p.0 p.1 ((at + 4) % 2 ^ 32))
 
--- the call answers n, which is at most the array's length
+-- no more characters than the array has
+abbrev pub checked : ℕ → ℕ → Result (Unit {0}) ℕ
+checked len n = if nat_le n len then Ok tt else Err 22
+
+-- the call answers n
 abbrev pub cases : Desk → ℕ → ℕ → Reached (Glk × MemoryMap) → Rule Called
 cases s len n done =
-    takes s (nat_le n len) (done >>= (λ p. gives n (record s { glk = p.0; memory = p.1 })))
+    within s.glk (checked len n)
+    >>= (λ _. done) >>= (λ p. gives n (record s { glk = p.0; memory = p.1 }))
 
 -- glk_char_to_lower ch · glk_buffer_to_lower_case_uni buf, len, n · .._title_case_uni buf, len, n,
 -- lowerrest

@@ -16,13 +16,13 @@ use Rattle.glk_input.specs.declared.request.LineRequest.{LineRequest}
 use Rattle.glk_input.specs.declared.request.Request.{Request}
 use Rattle.glk_input.specs.declared.request.WindowInput.{WindowInput}
 use Rattle.glk_input.specs.declared.request.Request.TheVariants.{Line, Char}
-use Rattle.glk_dispatch.specs.Answer.{Desk, Reached, Rule, ◌>>=◌, within}
+use Rattle.glk_dispatch.specs.Answer.{Desk, Done, Reached, Rule, ◌>>=◌, alone, within}
 use Rattle.glk_dispatch.specs.FileRefs.{prompted}
 use Rattle.glk_dispatch.specs.Glk.{takes, window}
-use Rattle.glk_dispatch.specs.Output.{echo_put}
+use Rattle.glk_dispatch.specs.Output.{code_at, echo_put}
 use Rattle.glk_dispatch.specs.Reference.{gives, refers_all}
 use Rattle.glk_dispatch.specs.declared.called.Called.{Called}
-use Rattle.glk_dispatch.specs.declared.called.Called.TheVariants.{Wait}
+use Rattle.glk_dispatch.specs.declared.called.Called.TheVariants.{Value, Wait}
 use Rattle.glk_dispatch.specs.declared.glk.Glk.{Glk}
 use Rattle.glk_dispatch.specs.declared.events.EventCall.{EventCall}
 use Rattle.glk_dispatch.specs.declared.events.EventCall.TheVariants.{Select, SelectPoll}
@@ -36,31 +36,41 @@ abbrev pub words_of : Event → List ℕ
 words_of e = e.kind ∷ e.win ∷ e.val1 ∷ e.val2 ∷ []
 
 -- the call leaves these requests and answers 0
-abbrev pub leaves : Desk → List WindowInput → Rule Called
-leaves s requests = gives 0 (record s { glk = record s.glk { requests = requests } })
+abbrev pub leaves : Glk → List WindowInput → Reached (Glk × Called)
+leaves g requests = Ok (record g { requests = requests }, Value 0)
 
 -- glk_select &event: the turn ends, and the event comes with the next input
 abbrev pub selects : Desk → ℕ → Rule Called
 selects s event = Ok (record s { glk = record s.glk { event = event } }, Wait)
 
 -- a buffer or a grid
-abbrev pub asks : Desk → ℕ → Bool
-asks s win =
-    reading.kind_of s.glk.windows.slots win == 3 || reading.kind_of s.glk.windows.slots win == 4
+abbrev pub may_ask : Glk → ℕ → Bool
+may_ask g win =
+    reading.kind_of g.windows.slots win == 3 || reading.kind_of g.windows.slots win == 4
 
 -- glk_request_line_event win, buf, max, init: ignored where a request is there
-abbrev pub asks_line : Desk → Bool → ℕ → ℕ → ℕ → ℕ → Rule Called
-asks_line s unicode win buf max init =
-    window s win (takes s (asks s win) (takes s (nat_le init max && nat_le init MAX_INITIAL)
-    (leaves s (request.changed (request.line_asked buf max init unicode)
-        (request.with_window s.glk.requests win) win))))
+abbrev pub line_asked : Bool → Glk → ℕ → ℕ → ℕ → ℕ → Reached (Glk × Called)
+line_asked unicode g win buf max init =
+    window g win (takes g (may_ask g win) (takes g (nat_le init max && nat_le init MAX_INITIAL)
+    (leaves g (request.changed (request.line_asked buf max init unicode)
+        (request.with_window g.requests win) win))))
 
 -- glk_request_char_event win
-abbrev pub asks_char : Desk → Bool → ℕ → Rule Called
-asks_char s unicode win =
-    window s win (takes s (asks s win)
-    (leaves s (request.changed (request.char_asked unicode)
-        (request.with_window s.glk.requests win) win)))
+abbrev pub char_asked : Bool → Glk → ℕ → Reached (Glk × Called)
+char_asked unicode g win =
+    window g win (takes g (may_ask g win)
+    (leaves g (request.changed (request.char_asked unicode)
+        (request.with_window g.requests win) win)))
+
+-- glk_cancel_char_event win
+abbrev pub char_cancelled : Glk → ℕ → Reached (Glk × Called)
+char_cancelled g win =
+    window g win (leaves g (request.changed request.without_char g.requests win))
+
+-- glk_set_echo_line_event win, val
+abbrev pub line_echo_set : Glk → ℕ → ℕ → Reached (Glk × Called)
+line_echo_set g win val =
+    window g win (leaves g (request.changed (request.with_echo (not (val == 0))) g.requests win))
 
 -- a window shows characters in the style of input
 abbrev pub echoed : Glk → MemoryMap → ℕ → List ℕ → Reached (Glk × MemoryMap)
@@ -70,7 +80,7 @@ echoed g m n (c ∷ cs) = echo_put g m n INPUT c >>= (λ p. echoed p.0 p.1 n cs)
 -- the same of characters of an array
 abbrev pub echo_item : Bool → Glk → MemoryMap → ℕ → ℕ → Reached (Glk × MemoryMap)
 echo_item unicode g m n at =
-    within g (coded (read (delivery.width unicode) m at)) >>= (λ c. echo_put g m n INPUT c)
+    within g (code_at unicode m at) >>= (λ c. echo_put g m n INPUT c)
 
 unfoldable pub echo_array : ℕ → Bool → Glk → MemoryMap → ℕ → ℕ → Reached (Glk × MemoryMap)
 echo_array zero unicode g m n at = Ok (g, m)
@@ -97,7 +107,7 @@ abbrev pub cancels_line : Desk → ℕ → ℕ → Rule Called
 cancels_line s win event =
     let asked = request.request_of s.glk.requests win in
     let g = record s.glk { requests = request.changed request.without_line s.glk.requests win } in
-    window s win (initial_echoed asked g s.memory win
+    window s.glk win (initial_echoed asked g s.memory win
         >>= (λ p. refers_all (record s { glk = p.0; memory = p.1 }) event
             (words_of (request.cancelled asked win)))
         >>= gives 0)
@@ -109,35 +119,36 @@ words_at (suc count) m at words =
     coded (read 4 m at) >>= (λ x. words_at count m ((at + 4) % 2 ^ 32) (words ++ x ∷ []))
 
 -- glk_set_terminators_line_event win, keys, count: at most 13
-abbrev pub sets_terminators : Desk → ℕ → ℕ → ℕ → Rule Called
-sets_terminators s win keys count =
-    window s win (takes s (nat_le count 13)
-    (within s.glk (words_at count s.memory keys [])
-        >>= (λ list. leaves s (request.changed (request.with_keys list)
-            (request.with_window s.glk.requests win) win))))
+abbrev pub terminators_set : Glk → MemoryMap → ℕ → ℕ → ℕ → Reached (Glk × Called)
+terminators_set g m win keys count =
+    window g win (takes g (nat_le count 13)
+    (within g (words_at count m keys [])
+        >>= (λ list. leaves g (request.changed (request.with_keys list)
+            (request.with_window g.requests win) win))))
 
 unfoldable pub event_work : EventCall → Desk → (ℕ → ℕ) → Rule Called
 event_work Select s l = selects s (l 0)
 event_work SelectPoll s l = refers_all s (l 0) (0 ∷ 0 ∷ 0 ∷ 0 ∷ []) >>= gives 0
-event_work (RequestLine unicode) s l = asks_line s unicode (l 0) (l 1) (l 2) (l 3)
+event_work (RequestLine unicode) s l =
+    alone s (line_asked unicode s.glk (l 0) (l 1) (l 2) (l 3))
 event_work CancelLine s l = cancels_line s (l 0) (l 1)
-event_work (RequestChar unicode) s l = asks_char s unicode (l 0)
-event_work CancelChar s l =
-    window s (l 0) (leaves s (request.changed request.without_char s.glk.requests (l 0)))
-event_work SetEcho s l =
-    window s (l 0)
-    (leaves s (request.changed (request.with_echo (not (l 1 == 0))) s.glk.requests (l 0)))
-event_work SetTerminators s l = sets_terminators s (l 0) (l 1) (l 2)
+event_work (RequestChar unicode) s l = alone s (char_asked unicode s.glk (l 0))
+event_work CancelChar s l = alone s (char_cancelled s.glk (l 0))
+event_work SetEcho s l = alone s (line_echo_set s.glk (l 0) (l 1))
+event_work SetTerminators s l = alone s (terminators_set s.glk s.memory (l 0) (l 1) (l 2))
 
 -- a line that comes: the window shows it and a newline, unless the request has no echo
-abbrev pub line_echoed : Option Request → Glk → MemoryMap → ℕ → List ℕ → Reached (Glk × MemoryMap)
-line_echoed None g m win text = Ok (g, m)
-line_echoed (Some (Char unicode)) g m win text = Ok (g, m)
-line_echoed (Some (Line r)) g m win text =
+abbrev pub line_shown : LineRequest → Glk → MemoryMap → ℕ → List ℕ → Reached (Glk × MemoryMap)
+line_shown r g m win text =
     if r.echo
     then echoed g m (stream_in g win) (delivery.taken_line r text)
         >>= (λ p. echo_put p.0 p.1 (stream_in g win) INPUT NEWLINE)
     else Ok (g, m)
+
+abbrev pub line_echoed : Option Request → Glk → MemoryMap → ℕ → List ℕ → Reached (Glk × MemoryMap)
+line_echoed None g m win text = Ok (g, m)
+line_echoed (Some (Char unicode)) g m win text = Ok (g, m)
+line_echoed (Some (Line r)) g m win text = line_shown r g m win text
 
 abbrev pub input_echoed : Glk → MemoryMap → Input → Reached (Glk × MemoryMap)
 input_echoed g m (input.Line win text key) =
@@ -163,13 +174,8 @@ event_answered s i =
     >>= (λ p. refers_all (record s { glk = p.0; memory = p.1 }) p.0.event (words_of p.2))
     >>= (λ t. Ok (t, 0))
 
--- the name of a file answers the prompt
-abbrev pub name_answered : Desk → List ℕ → Rule ℕ
-name_answered s name =
-    let made = prompted s.glk name in Ok (record s { glk = made.0 }, made.1)
-
 -- what an input that is waited for does, and the answer of the call that waited
 abbrev pub answered : Desk → Input → Rule ℕ
 answered s (input.Line win text key) = event_answered s (input.Line win text key)
 answered s (input.Char win code) = event_answered s (input.Char win code)
-answered s (input.File name) = name_answered s name
+answered s (input.File name) = alone s (Done (prompted s.glk name))

@@ -12,10 +12,10 @@ use Rattle.glk_streams.specs.Names.{cleaned, temporary}
 use Rattle.glk_streams.specs.declared.fault.StreamStop.{StreamStop}
 use Rattle.glk_dispatch.specs.Answer.{Desk, Reached, Rule, ◌>>=◌, within}
 use Rattle.glk_dispatch.specs.Fault.{numbered}
-use Rattle.glk_dispatch.specs.Glk.{charged, fref, fref_or_none}
+use Rattle.glk_dispatch.specs.Glk.{charged, fref, fref_or_none, ref_rock}
 use Rattle.glk_dispatch.specs.Output.{text_start}
 use Rattle.glk_dispatch.specs.Reference.{gives, refers}
-use Rattle.glk_dispatch.specs.Streams.{leaves, makes}
+use Rattle.glk_dispatch.specs.Streams.{leaves, left, made, makes}
 use Rattle.glk_dispatch.specs.declared.called.Called.{Called}
 use Rattle.glk_dispatch.specs.declared.called.Called.TheVariants.{Prompt}
 use Rattle.glk_dispatch.specs.declared.glk.Glk.{Glk}
@@ -51,15 +51,13 @@ abbrev pub named : Glk → ℕ → List ℕ → ℕ → Glk × ℕ
 named g usage name rock = referred g (refs.made_ref g.streams usage (cleaned name) rock)
 
 -- glk_fileref_create_temp usage, rock
-abbrev pub creates_temp : Desk → ℕ → ℕ → Rule Called
-creates_temp s usage rock =
-    answers s (referred s.glk
-    (refs.made_ref s.glk.streams usage (temporary s.glk.streams.next_ref) rock))
+abbrev pub temp_made : Glk → ℕ → ℕ → Glk × ℕ
+temp_made g usage rock =
+    referred g (refs.made_ref g.streams usage (temporary g.streams.next_ref) rock)
 
 -- glk_fileref_create_by_name usage, name, rock
-abbrev pub creates_by_name : Desk → ℕ → ℕ → ℕ → Rule Called
-creates_by_name s usage name rock =
-    name_at s.glk s.memory name >>= (λ p. answers s (named p.0 usage p.1 rock))
+abbrev pub named_made : Glk → MemoryMap → ℕ → ℕ → ℕ → Reached (Glk × ℕ)
+named_made g m usage name rock = name_at g m name >>= (λ p. Ok (named p.0 usage p.1 rock))
 
 -- glk_fileref_create_by_prompt usage, mode, rock: the turn ends, and the name is the next input
 abbrev pub prompts : Desk → ℕ → ℕ → ℕ → Rule Called
@@ -80,31 +78,35 @@ prompted g (c ∷ cs) =
     then (g, 0)
     else named g g.prompt.usage (c ∷ cs) g.prompt.rock
 
--- the rock of a reference, 0 where there is none
-abbrev pub rock_of : Desk → ℕ → ℕ
-rock_of s n = refs.of_ref (table.ref_at s.glk.streams n) 0 (λ r. r.rock)
-
 -- glk_fileref_iterate fref or 0, &rock
 abbrev pub iterates : Desk → ℕ → ℕ → Rule Called
 iterates s n rock =
     let next = after table.ref_number_of s.glk.streams.refs n in
-    fref_or_none s n (refers s rock (rock_of s next) >>= gives next)
+    fref_or_none s.glk n (refers s rock (ref_rock s.glk next) >>= gives next)
 
 -- glk_fileref_does_file_exist fref
 abbrev pub number_of : Bool → ℕ
 number_of there = if there then 1 else 0
 
-abbrev pub tells_file : Desk → ℕ → Rule Called
-tells_file s n =
-    within s.glk (numbered (refs.is_there s.glk.streams n)) >>= (λ there. gives (number_of there) s)
+abbrev pub file_told : Glk → ℕ → Result ℕ ℕ
+file_told g n = numbered (refs.is_there g.streams n) >>= (λ there. Ok (number_of there))
+
+abbrev pub copied : Glk → ℕ → ℕ → ℕ → Reached (Glk × ℕ)
+copied g usage n rock = made g (refs.copied_ref g.streams usage n rock)
+
+abbrev pub dropped : Glk → ℕ → Reached Glk
+dropped g n = left g (refs.dropped_ref g.streams n)
+
+abbrev pub deleted : Glk → ℕ → Reached Glk
+deleted g n = left g (refs.deleted g.streams n)
 
 unfoldable pub fileref_work : FileRefCall → Desk → (ℕ → ℕ) → Rule Called
-fileref_work CreateTemp s l = creates_temp s (l 0) (l 1)
-fileref_work CreateByName s l = creates_by_name s (l 0) (l 1) (l 2)
+fileref_work CreateTemp s l = answers s (temp_made s.glk (l 0) (l 1))
+fileref_work CreateByName s l = makes s (named_made s.glk s.memory (l 0) (l 1) (l 2))
 fileref_work CreateByPrompt s l = prompts s (l 0) (l 1) (l 2)
-fileref_work CreateFromFileref s l = makes s (refs.copied_ref s.glk.streams (l 0) (l 1) (l 2))
-fileref_work Destroy s l = leaves s (refs.dropped_ref s.glk.streams (l 0))
+fileref_work CreateFromFileref s l = makes s (copied s.glk (l 0) (l 1) (l 2))
+fileref_work Destroy s l = leaves s (dropped s.glk (l 0))
 fileref_work Iterate s l = iterates s (l 0) (l 1)
-fileref_work GetRock s l = fref s (l 0) (gives (rock_of s (l 0)) s)
-fileref_work DeleteFile s l = leaves s (refs.deleted s.glk.streams (l 0))
-fileref_work DoesFileExist s l = tells_file s (l 0)
+fileref_work GetRock s l = fref s.glk (l 0) (gives (ref_rock s.glk (l 0)) s)
+fileref_work DeleteFile s l = leaves s (deleted s.glk (l 0))
+fileref_work DoesFileExist s l = within s.glk (file_told s.glk (l 0)) >>= (λ x. gives x s)

@@ -5,7 +5,8 @@ use Rattle.glk_windows.specs.Tree as tree
 use Rattle.glk_windows.specs.Output as output
 use Rattle.glk_windows.specs.Placing as placing
 use Rattle.glk_streams.specs.Streams as streams
-use Rattle.glk_dispatch.specs.Answer.{Desk, Reached, needs}
+use Rattle.glk_streams.specs.FileRefs as refs
+use Rattle.glk_dispatch.specs.Answer.{Reached, needs}
 use Rattle.glk_dispatch.specs.declared.glk.Glk.{Glk}
 
 -- a screen without windows, streams and requests
@@ -44,28 +45,28 @@ abbrev pub is_ref : Glk → ℕ → Bool
 is_ref g n = has streams.ref_number_of g.streams.refs n
 
 -- the number is that of a live object, else fault 21
-abbrev pub window : {A : Type 0} → Desk → ℕ → Reached A → Reached A
-window s n rest = needs s.glk (is_window s.glk n) 21 rest
+abbrev pub window : {A : Type 0} → Glk → ℕ → Reached A → Reached A
+window g n rest = needs g (is_window g n) 21 rest
 
-abbrev pub stream : {A : Type 0} → Desk → ℕ → Reached A → Reached A
-stream s n rest = needs s.glk (is_stream s.glk n) 21 rest
+abbrev pub stream : {A : Type 0} → Glk → ℕ → Reached A → Reached A
+stream g n rest = needs g (is_stream g n) 21 rest
 
-abbrev pub fref : {A : Type 0} → Desk → ℕ → Reached A → Reached A
-fref s n rest = needs s.glk (is_ref s.glk n) 21 rest
+abbrev pub fref : {A : Type 0} → Glk → ℕ → Reached A → Reached A
+fref g n rest = needs g (is_ref g n) 21 rest
 
 -- the same where 0 is allowed
-abbrev pub window_or_none : {A : Type 0} → Desk → ℕ → Reached A → Reached A
-window_or_none s n rest = needs s.glk (n == 0 || is_window s.glk n) 21 rest
+abbrev pub window_or_none : {A : Type 0} → Glk → ℕ → Reached A → Reached A
+window_or_none g n rest = needs g (n == 0 || is_window g n) 21 rest
 
-abbrev pub stream_or_none : {A : Type 0} → Desk → ℕ → Reached A → Reached A
-stream_or_none s n rest = needs s.glk (n == 0 || is_stream s.glk n) 21 rest
+abbrev pub stream_or_none : {A : Type 0} → Glk → ℕ → Reached A → Reached A
+stream_or_none g n rest = needs g (n == 0 || is_stream g n) 21 rest
 
-abbrev pub fref_or_none : {A : Type 0} → Desk → ℕ → Reached A → Reached A
-fref_or_none s n rest = needs s.glk (n == 0 || is_ref s.glk n) 21 rest
+abbrev pub fref_or_none : {A : Type 0} → Glk → ℕ → Reached A → Reached A
+fref_or_none g n rest = needs g (n == 0 || is_ref g n) 21 rest
 
 -- the value is one that the call takes, else fault 22
-abbrev pub takes : {A : Type 0} → Desk → Bool → Reached A → Reached A
-takes s holds rest = needs s.glk holds 22 rest
+abbrev pub takes : {A : Type 0} → Glk → Bool → Reached A → Reached A
+takes g holds rest = needs g holds 22 rest
 
 -- the window of a stream, or 0; and a stream's style
 abbrev pub window_of : Glk → ℕ → ℕ
@@ -73,3 +74,14 @@ window_of g n = streams.of_stream (streams.stream_at g.streams n) 0 (λ s. strea
 
 abbrev pub style_of : Glk → ℕ → ℕ
 style_of g n = streams.of_stream (streams.stream_at g.streams n) 0 (λ s. s.style)
+
+-- the rock of a stream, and of a file reference; 0 where there is none
+abbrev pub stream_rock : Glk → ℕ → ℕ
+stream_rock g n = streams.of_stream (streams.stream_at g.streams n) 0 (λ s. s.rock)
+
+abbrev pub ref_rock : Glk → ℕ → ℕ
+ref_rock g n = refs.of_ref (streams.ref_at g.streams n) 0 (λ r. r.rock)
+
+-- how many characters were written to a stream
+abbrev pub written_to : Glk → ℕ → ℕ
+written_to g n = streams.of_stream (streams.stream_at g.streams n) 0 (λ s. s.written)

@@ -2,7 +2,7 @@
 use Rattle.std.specs.Prelude.{ℕ, zero, suc, ◌+◌, ◌%◌, ◌^◌, ◌==◌, nat_le, Bool, if◌then◌else◌, length}
 use Rattle.std.specs.Prelude.{List, [], ◌∷◌, bit_and, Result, Ok, Err}
 use Rattle.vm_memory.specs.MemoryMap.{MemoryMap}
-use Rattle.vm_memory.specs.Access.{read}
+use Rattle.vm_memory.specs.Access.{read, written}
 use Rattle.vm_memory.specs.Fault.{coded}
 use Rattle.glk_windows.specs.Output as windows
 use Rattle.glk_windows.specs.Reading.{echo_of}
@@ -60,9 +60,17 @@ abbrev pub put_code : Glk → MemoryMap → ℕ → ℕ → Reached (Glk × Memo
 put_code g m n code = spread_all (charged g) m n code
 
 -- the character at an address of an array of bytes or words
+abbrev pub code_at : Bool → MemoryMap → ℕ → Result ℕ ℕ
+code_at unicode m at = coded (read (width unicode) m at)
+
+-- a character written there
+abbrev pub code_written : Bool → MemoryMap → ℕ → ℕ → Result MemoryMap ℕ
+code_written unicode m at code = coded (written (width unicode) m at code)
+
+-- the character of an array at an address put to a stream
 abbrev pub put_item : Bool → Glk → MemoryMap → ℕ → ℕ → Reached (Glk × MemoryMap)
 put_item unicode g m n at =
-    within g (coded (read (width unicode) m at)) >>= (λ code. put_code g m n code)
+    within g (code_at unicode m at) >>= (λ code. put_code g m n code)
 
 -- so many characters of an array, one by one
 unfoldable pub put_array : ℕ → Bool → Glk → MemoryMap → ℕ → ℕ → Reached (Glk × MemoryMap)
@@ -82,7 +90,7 @@ text_start unicode m at =
 unfoldable pub put_text : ℕ → Bool → Glk → MemoryMap → ℕ → ℕ → Reached (Glk × MemoryMap)
 put_text zero unicode g m n at = Err (g, 1)
 put_text (suc left) unicode g m n at =
-    within g (coded (read (width unicode) m at)) >>= (λ code.
+    within g (code_at unicode m at) >>= (λ code.
     if code == 0 then Ok (g, m)
     else put_code g m n code
         >>= (λ p. put_text left unicode p.0 p.1 n ((at + width unicode) % 2 ^ 32)))
@@ -115,12 +123,12 @@ unfoldable pub output_work : OutputCall → Desk → (ℕ → ℕ) → Rule Call
 output_work (PutChar unicode) s l =
     puts s (put_code s.glk s.memory (current s) (char_of unicode (l 0)))
 output_work (PutCharStream unicode) s l =
-    stream s (l 0) (puts s (put_code s.glk s.memory (l 0) (char_of unicode (l 1))))
+    stream s.glk (l 0) (puts s (put_code s.glk s.memory (l 0) (char_of unicode (l 1))))
 output_work (PutString unicode) s l =
     puts s (put_string unicode s.glk s.memory (current s) (l 0))
 output_work (PutStringStream unicode) s l =
-    stream s (l 0) (puts s (put_string unicode s.glk s.memory (l 0) (l 1)))
+    stream s.glk (l 0) (puts s (put_string unicode s.glk s.memory (l 0) (l 1)))
 output_work (PutBuffer unicode) s l =
     puts s (put_array (l 1) unicode s.glk s.memory (current s) (l 0))
 output_work (PutBufferStream unicode) s l =
-    stream s (l 0) (puts s (put_array (l 2) unicode s.glk s.memory (l 0) (l 1)))
+    stream s.glk (l 0) (puts s (put_array (l 2) unicode s.glk s.memory (l 0) (l 1)))

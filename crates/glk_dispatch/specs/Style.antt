@@ -24,8 +24,8 @@ sets s n style = styled s.glk n style >>= (λ g. gives 0 (record s { glk = g }))
 -- nothing · glk_style_distinguish win, .. and glk_style_measure win, ..: 0, nothing measured
 unfoldable pub style_work : StyleCall → Desk → (ℕ → ℕ) → Rule Called
 style_work Set s l = sets s s.glk.streams.current (l 0)
-style_work SetStream s l = stream s (l 0) (sets s (l 0) (l 1))
+style_work SetStream s l = stream s.glk (l 0) (sets s (l 0) (l 1))
 style_work HintSet s l = gives 0 s
 style_work HintClear s l = gives 0 s
-style_work Distinguish s l = window s (l 0) (gives 0 s)
-style_work Measure s l = window s (l 0) (gives 0 s)
+style_work Distinguish s l = window s.glk (l 0) (gives 0 s)
+style_work Measure s l = window s.glk (l 0) (gives 0 s)

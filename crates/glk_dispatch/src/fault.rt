@@ -8,6 +8,9 @@ use glk_streams::StreamStop;
 use vm_memory::Trap;
 use vm_stack::StackFault;
 
+/// The fault of a read past memory's end.
+pub(crate) const BAD_READ: Trap = Trap::Fault(1);
+
 /// The fault of a call with more arguments than there are values.
 pub(crate) const UNDERFLOW: Trap = Trap::Fault(4);
 

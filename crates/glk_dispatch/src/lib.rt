@@ -6,7 +6,6 @@ mod base;
 mod call;
 mod called;
 mod case;
-mod echo;
 mod events;
 mod fault;
 mod filerefs;
@@ -20,10 +19,10 @@ mod style;
 mod windows;
 
 pub use base::BaseCall;
-pub use call::{answer, call};
+pub use call::call;
 pub use called::Called;
 pub use case::CaseCall;
-pub use events::EventCall;
+pub use events::{EventCall, answer};
 pub use filerefs::FileRefCall;
 pub use glk::{Glk, Prompt};
 pub use output::{MAX_PRINTED, OutputCall, put_code};
@@ -31,6 +30,3 @@ pub use selector::Call;
 pub use streams::StreamCall;
 pub use style::StyleCall;
 pub use windows::WindowCall;
-
-#[cfg(test)]
-mod tests;
