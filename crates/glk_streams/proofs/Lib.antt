@@ -1,3 +1,4 @@
 pub mod PlaceLemmas
 pub mod FileLemmas
 pub mod CodingLemmas
+pub mod NameLemmas

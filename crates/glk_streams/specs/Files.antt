@@ -1,8 +1,9 @@
 -- The files of a session (Glk 0.7.5, "File References"; own: they live inside the session).
 use Rattle.std.specs.Prelude.{ℕ, ◌+◌, ◌-◌, ◌/◌, ◌%◌, ◌==◌, ◌&&◌, ◌||◌, nat_lt, nat_le, if◌then◌else◌, Bool, true, false, List, [], ◌∷◌, ◌++◌, length, Option, Some, None}
-use Rattle.std.specs.Ordering.{is_lt, nat_cmp}
+use Rattle.std.specs.Ordering.{is_eq, is_lt, nat_cmp}
+use Rattle.std.specs.declared.cmp.Ordering.{Ordering}
 use Rattle.std.specs.Cmp.Lexicographic.{slice_cmp}
-use Rattle.std.specs.Str.{bytes_eq, encode_utf8_all}
+use Rattle.std.specs.Str.{encode_utf8_all}
 use Rattle.glk_numbers.specs.Numbered.{behind}
 use Rattle.glk_streams.specs.declared.file.File.{File}
 use Rattle.glk_streams.specs.declared.file.TheConstants.{MAX_FILES, MAX_FILE_BYTES}
@@ -15,18 +16,24 @@ kind_of usage = usage % 16
 abbrev pub is_text : ℕ → Bool
 is_text usage = usage / 256 % 2 == 1
 
+-- what names a file: its kind, and then its name's bytes in UTF-8
+abbrev pub key_of : ℕ → List ℕ → List ℕ
+key_of usage name = kind_of usage ∷ encode_utf8_all name
+
+abbrev pub file_key : File → List ℕ
+file_key f = f.usage ∷ encode_utf8_all f.name
+
+-- keys are in order by their first difference
+abbrev pub compared : ℕ → List ℕ → File → Ordering
+compared usage name f = slice_cmp nat_cmp (key_of usage name) (file_key f)
+
 -- this usage and this name are the file's
 abbrev pub is_named : ℕ → List ℕ → File → Bool
-is_named usage name f = f.usage == kind_of usage && bytes_eq f.name name
+is_named usage name f = is_eq (compared usage name f)
 
--- one name is before the other, by its characters
-abbrev pub name_before : List ℕ → List ℕ → Bool
-name_before a b = is_lt (slice_cmp nat_cmp (encode_utf8_all a) (encode_utf8_all b))
-
--- a file with this usage and name stands before that file: by the kind, and then by the name
+-- a file with this usage and name stands before that file
 abbrev pub stands_before : ℕ → List ℕ → File → Bool
-stands_before usage name f =
-    if kind_of usage == f.usage then name_before name f.name else nat_lt (kind_of usage) f.usage
+stands_before usage name f = is_lt (compared usage name f)
 
 -- where the file with this usage and name stands
 unfoldable pub seat_of : List File → ℕ → List ℕ → Option ℕ

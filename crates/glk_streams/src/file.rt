@@ -6,6 +6,7 @@ ghost use Rattle.glk_streams.specs.Output as output;
 ghost use Rattle.vm_memory.specs.MemoryMap.{replaced};
 
 use std::alloc::{AllocError, Global};
+use std::cmp::Ordering;
 use std::marker::Model;
 use story_text::Text;
 
@@ -106,23 +107,13 @@ pub(crate) fn is_text(usage: u32) -> bool
 }
 
 impl File {
-    /// Whether this usage and this name are the file's.
-    fn is_named(&self, usage: u32, name: &Text) -> bool
-        ensures { result ≡ files.is_named usage name.now self.now }
+    /// Whether a file with this usage and name is before this one, is it, or is behind it.
+    fn compare(&self, usage: u32, name: &Text) -> Ordering
+        ensures { result ≡ files.compared usage name.now self.now }
     {
-        self.usage == usage % 16 && self.name.is_same(name)
-    }
-
-    /// Whether a file with this usage and name stands before it.
-    fn is_behind(&self, usage: u32, name: &Text) -> bool
-        ensures { result ≡ files.stands_before usage name.now self.now }
-    {
-        let kind = usage % 16;
-        if kind == self.usage {
-            name.as_utf8().cmp(self.name.as_utf8()).is_lt()
-        } else {
-            kind < self.usage
-        }
+        (usage % 16)
+            .cmp(&self.usage)
+            .then(name.as_utf8().cmp(self.name.as_utf8()))
     }
 }
 
@@ -133,7 +124,7 @@ fn seat_of(list: &[File], usage: u32, name: &Text) -> Option<usize>
     ensures within { IfSome result (λ i. i < length list.now) }
 {
     for index in 0..list.len() {
-        if list[index].is_named(usage, name) {
+        if list[index].compare(usage, name).is_eq() {
             return Some(index);
         }
     }
@@ -163,7 +154,7 @@ fn spot_of(list: &[File], usage: u32, name: &Text) -> usize
     ensures within { result ≤ length list.now }
 {
     for index in 0..list.len() {
-        if list[index].is_behind(usage, name) {
+        if list[index].compare(usage, name).is_lt() {
             return index;
         }
     }

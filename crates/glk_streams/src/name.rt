@@ -1,8 +1,9 @@
 //! Names of files (Glk 0.7.5, "File References").
 
-ghost use Rattle.std.specs.Prelude.{◌≡◌, ◌<◌, ◌++◌, codes, decimal, IfOk};
+ghost use Rattle.std.specs.Prelude.{◌≡◌, ◌≢◌, ◌<◌, ◌≤◌, ◌-◌, ◌++◌, ◌∷◌, List, ℕ, IfOk};
+ghost use Rattle.std.specs.Str.{chars};
 ghost use Rattle.std.specs.String.{string_bytes};
-ghost use Rattle.glk_streams.specs.Names.{cleaned, is_taken_out, temporary};
+ghost use Rattle.glk_streams.specs.Names.{cleaned, cut, is_taken_out, temporary};
 
 use itoa::Buffer;
 use std::alloc::{AllocError, Global};
@@ -26,24 +27,50 @@ pub fn temporary_name(alloc: Global, number: u32) -> Result<Text, AllocError>
     Ok(Text::of(name))
 }
 
+/// Appends a character that isn't taken out, and gives how many there then are.
+fn append(clean: &mut String, count: usize, c: char) -> Result<usize, AllocError>
+    requires room { count < 64 }
+    requires no_period { c ≢ 0x2E }
+    ensures within { IfOk result (λ n. n ≤ 64) }
+    ensures rest { IfOk result (λ n. (rest : List ℕ) →
+        chars (string_bytes clean.new) ++ cut (64 - n) rest
+        ≡ chars (string_bytes clean.old) ++ cut (64 - count) (c ∷ rest)) }
+{
+    if is_taken_out(c) {
+        return Ok(count);
+    }
+    clean.push(c)?;
+    Ok(count + 1)
+}
+
+/// What is left of a name, cut to 64 characters.
+fn cut(alloc: Global, name: &str) -> Result<String, AllocError>
+    ensures { IfOk result (λ clean. chars (string_bytes clean) ≡ cut 64 (chars name.now)) }
+{
+    let mut clean = String::new(alloc);
+    let mut count = 0;
+    for c in name.chars() {
+        if c == '.' {
+            return Ok(clean);
+        }
+        if count == 64 {
+            return Ok(clean);
+        }
+        count = append(&mut clean, count, c)?;
+    }
+    Ok(clean)
+}
+
 /// A name as files have it: characters taken out, cut at the first period and to 64 characters,
 /// and `null` where nothing is left.
 pub fn clean_name(alloc: Global, name: &Text) -> Result<Text, AllocError>
     ensures { IfOk result (λ clean. clean ≡ cleaned name.now) }
 {
-    let mut clean = String::new(alloc);
-    let mut count = 0;
-    for c in name.as_str().chars() {
-        if c == '.' || count == 64 {
-            break;
-        }
-        if !is_taken_out(c) {
-            clean.push(c)?;
-            count += 1;
-        }
+    let clean = Text::of(cut(alloc, name.as_str())?);
+    if !clean.as_utf8().is_empty() {
+        return Ok(clean);
     }
-    if clean.is_empty() {
-        clean.push_str("null")?;
-    }
-    Ok(Text::of(clean))
+    let mut null = String::new(alloc);
+    null.push_str("null")?;
+    Ok(Text::of(null))
 }
