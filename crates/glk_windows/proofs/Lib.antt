@@ -9,3 +9,6 @@ pub mod SameLemmas
 pub mod CutLemmas
 pub mod LiftLemmas
 pub mod TestLemmas
+pub mod RectangleLemmas
+pub mod SoundLemmas
+pub mod ValidLemmas

@@ -27,7 +27,7 @@ same-mapped : (o : Option (ℕ × Option p.Pair)) (m n : ℕ) → option_map (λ
 same-mapped None m n = refl
 same-mapped (Some x) m n = grind (arith, common_steps)
 
-node_same : (f : Window → Window) (num : (w : Window) → (f w).number ≡ w.number)
+pub node_same : (f : Window → Window) (num : (w : Window) → (f w).number ≡ w.number)
     (nd : (w : Window) → ◌≡◌ {A = ℕ × Option p.Pair} ((f w).parent, bare_in (f w)) (w.parent, bare_in w))
     → (ws : List Window) (n m : ℕ) → node_of (set_at f ws n) m ≡ node_of ws m
 node_same f num nd ws n m = node_set_at f (λ x. x) num nd ws n m ∙ same-mapped (node_of ws m) m n
@@ -49,6 +49,11 @@ tree_put t n code style s h =
     same_tree t (put t n code style) s
     (node_same (λ w. window_put w code style) (λ w. refl) (λ w. ap (λ o. (w.parent, o)) (put-content w.content code style)) t.slots n)
     refl h
+
+-- a rectangle leaves the tree as it is
+pub node_with : (ws : List Window) (n : ℕ) (r : Area) (m : ℕ) → node_of (with_area ws n r) m ≡ node_of ws m
+node_with ws n r m =
+    node_same (sized r) (λ w. refl) (λ w. ap (λ o. (w.parent, o)) (sized-content w.content r)) ws n m
 
 node-divided : (f : List Window → ℕ → Area → List Window)
     (h : (ws : List Window) (n : ℕ) (r : Area) (m : ℕ) → node_of (f ws n r) m ≡ node_of ws m)

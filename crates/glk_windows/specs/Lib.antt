@@ -8,3 +8,4 @@ pub mod Arranging
 pub mod Closing
 pub mod Valid
 pub mod OneTree
+pub mod Laws

@@ -4,6 +4,7 @@
 mod arranging;
 mod changing;
 mod closing;
+mod laws;
 mod opening;
 mod output;
 mod placing;
@@ -14,6 +15,7 @@ mod window;
 mod windows;
 
 pub use arranging::is_method;
+pub use laws::{never_overlaps, stays_on_screen};
 pub use opening::MAX_WINDOWS;
 pub use text::{Codes, Run, Runs};
 pub use window::{Area, Buffer, Content, Grid, Pair, Window};

@@ -1,0 +1,71 @@
+-- What holds of all windows that are one tree (Glk 0.7.5, "The Window Tree").
+use Rattle.std.specs.Prelude.{◌≡◌, ◌≢◌, ℕ, ◌+◌, ◌≤◌, ◌<◌, true, [], List, ◌⊎◌, Option, None, Some}
+use Rattle.glk_windows.specs.declared.window.Window.{Window}
+use Rattle.glk_windows.specs.declared.window.Area.{Area}
+use Rattle.glk_windows.specs.Tree.{WindowTree, number_of, read, window_at, pair_of}
+use Rattle.glk_windows.specs.Placing.{place}
+use Rattle.glk_windows.specs.OneTree.{is_tree}
+use Rattle.glk_windows.specs.Valid.{IsOrdered, IsValid}
+use Rattle.glk_windows.specs.Opening.{split}
+use Rattle.glk_windows.specs.Closing.{close, echo_ended}
+use Rattle.glk_windows.specs.Arranging.{arrange, is_method, move_to, stream_set, echo_set}
+use Rattle.glk_windows.specs.Output.{put, clear, begin_turn}
+use Rattle.glk_numbers.specs.Numbered.{has}
+
+-- a rectangle of no cell
+abbrev pub nowhere : Area
+nowhere = record { x = 0; y = 0; w = 0; h = 0 }
+
+-- the rectangle of a window
+abbrev pub area_of : List Window → ℕ → Area
+area_of ws n = read nowhere (λ w. w.area) (window_at ws n)
+
+-- one rectangle lies in another
+pub record IsInside (a b : Area) : Type 0 where
+  pub left : b.x ≤ a.x
+  pub right : a.x + a.w ≤ b.x + b.w
+  pub top : b.y ≤ a.y
+  pub bottom : a.y + a.h ≤ b.y + b.h
+
+-- a cell of the screen lies in a rectangle
+pub record Covers (a : Area) (x y : ℕ) : Type 0 where
+  pub left : a.x ≤ x
+  pub right : x < a.x + a.w
+  pub top : a.y ≤ y
+  pub bottom : y < a.y + a.h
+
+-- the windows that are no pairs lie on the screen
+abbrev pub StaysOnScreen : Type 0
+StaysOnScreen =
+    (t : WindowTree) (cols rows n : ℕ) → IsOrdered t → is_tree t ≡ true → pair_of t.slots n ≡ None
+    → IsInside (area_of (place t cols rows).slots n) (record { x = 0; y = 0; w = cols; h = rows })
+
+-- no cell of the screen lies in two windows that are no pairs
+abbrev pub NeverOverlaps : Type 0
+NeverOverlaps =
+    (t : WindowTree) (cols rows m n x y : ℕ) → IsOrdered t → is_tree t ≡ true → m ≢ n
+    → pair_of t.slots m ≡ None → pair_of t.slots n ≡ None
+    → Covers (area_of (place t cols rows).slots m) x y
+    → Covers (area_of (place t cols rows).slots n) x y → ⊥
+
+-- a live window
+abbrev pub IsLive : WindowTree → ℕ → Type 0
+IsLive t n = has number_of t.slots n ≡ true
+
+-- each call keeps the windows valid
+pub record KeepsValid : Type 0 where
+  pub new : IsValid (record { slots = []; next = 1; root = 0 })
+  pub split : (t : WindowTree) (from method size kind rock : ℕ) → IsValid t
+    → (from ≡ 0) ⊎ (IsLive t from × (is_method method ≡ true))
+    → IsValid (split t from method size kind rock).0
+  pub close : (t : WindowTree) (n : ℕ) → IsValid t → IsLive t n → IsValid (close t n)
+  pub place : (t : WindowTree) (cols rows : ℕ) → IsValid t → IsValid (place t cols rows)
+  pub arrange : (t : WindowTree) (n method size key : ℕ) → IsValid t → is_method method ≡ true
+    → IsValid (arrange t n method size key)
+  pub put : (t : WindowTree) (n code style : ℕ) → IsValid t → IsValid (put t n code style)
+  pub clear : (t : WindowTree) (n : ℕ) → IsValid t → IsValid (clear t n)
+  pub move_to : (t : WindowTree) (n x y : ℕ) → IsValid t → IsValid (move_to t n x y)
+  pub set_stream : (t : WindowTree) (n stream : ℕ) → IsValid t → IsValid (stream_set t n stream)
+  pub set_echo : (t : WindowTree) (n stream : ℕ) → IsValid t → IsValid (echo_set t n stream)
+  pub end_echo : (t : WindowTree) (stream : ℕ) → IsValid t → IsValid (echo_ended t stream)
+  pub begin_turn : (t : WindowTree) → IsValid t → IsValid (begin_turn t)
