@@ -72,11 +72,11 @@ reads mode = mode == 2
 
 -- the name that a prompt asked for: none cancels, and a file that is to be read must be there
 abbrev pub prompted : Glk → List ℕ → Glk × ℕ
-prompted g [] = (g, 0)
-prompted g (c ∷ cs) =
-    if reads g.prompt.mode && not (has_file g.streams.files g.prompt.usage (cleaned (c ∷ cs)))
+prompted g name =
+    if length name == 0 then (g, 0)
+    else (if reads g.prompt.mode && not (has_file g.streams.files g.prompt.usage (cleaned name))
     then (g, 0)
-    else named g g.prompt.usage (c ∷ cs) g.prompt.rock
+    else named g g.prompt.usage name g.prompt.rock)
 
 -- glk_fileref_iterate fref or 0, &rock
 abbrev pub iterates : Desk → ℕ → ℕ → Rule Called

@@ -1,6 +1,6 @@
 //! The arguments of a call, which stand on the stack (Glulx 3.1.3, "Miscellaneous").
 
-ghost use Rattle.std.specs.Prelude.{◌≡◌, replicate};
+ghost use Rattle.std.specs.Prelude.{◌≡◌, replicate, slice_set};
 ghost use Rattle.glk_dispatch.specs.Answer.{Takes};
 ghost use Rattle.glk_dispatch.specs.Arguments as arguments;
 
@@ -43,6 +43,16 @@ pub(crate) fn take_arguments(
     take(stack, given)
 }
 
+// Keeps an argument in its place, where there is one.
+#[tactic(auto, using(crate::proofs::StepLemmas::set_outside))]
+fn keep(args: &mut [u32; MAX_ARGUMENTS], index: u32, value: u32)
+    ensures { args.new ≡ slice_set args.old index value }
+{
+    if (index as usize) < MAX_ARGUMENTS {
+        args[index as usize] = value;
+    }
+}
+
 fn take(stack: &mut Stack, given: u32) -> Result<[u32; MAX_ARGUMENTS], Trap>
     ensures { Takes (arguments.taken given stack.old 0 (replicate 5 0)) stack.new result }
 {
@@ -50,9 +60,7 @@ fn take(stack: &mut Stack, given: u32) -> Result<[u32; MAX_ARGUMENTS], Trap>
     let mut index: u32 = 0;
     while index < given {
         let value = pop(stack)?;
-        if (index as usize) < MAX_ARGUMENTS {
-            args[index as usize] = value;
-        }
+        keep(&mut args, index, value);
         index += 1;
     }
     Ok(args)

@@ -1,7 +1,7 @@
 //! The calls of file references (Glk 0.7.5, "File References").
 
 ghost use Rattle.std.specs.Prelude.{◌≡◌, ◌≤◌, ◌+◌, [], length, slice_index, IfOk};
-ghost use Rattle.std.specs.Str.{encode_utf8_all};
+ghost use Rattle.std.specs.Str.{chars, encode_utf8_all};
 ghost use Rattle.std.specs.String.{string_bytes};
 ghost use Rattle.glk_dispatch.specs.Answer.{Answers, Changes, Does, Done, Makes, Reads, desk};
 ghost use Rattle.glk_dispatch.specs.FileRefs as rows;
@@ -154,12 +154,18 @@ fn create_by_name(
     make_named(alloc, glk, usage, &name, rock)
 }
 
+fn count_chars(text: &str) -> usize
+    ensures { result ≡ length (chars text.now) }
+{
+    text.chars().count()
+}
+
 /// The reference to the file with the name that a prompt asked for; 0 where it is empty, and where
 /// the file is to be read and isn't there.
 pub(crate) fn answer_prompt(alloc: Global, glk: &mut Glk, name: &Text) -> Result<u32, Trap>
     ensures { Answers (Done (rows.prompted glk.old name.now)) glk.new result }
 {
-    if name.as_str().is_empty() {
+    if count_chars(name.as_str()) == 0 {
         return Ok(0);
     }
     let Prompt { usage, mode, rock } = glk.prompt;

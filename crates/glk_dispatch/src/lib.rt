@@ -3,9 +3,9 @@
 
 mod arguments;
 mod base;
-mod call;
 mod called;
 mod case;
+mod dispatch;
 mod events;
 mod fault;
 mod filerefs;
@@ -19,7 +19,7 @@ mod style;
 mod windows;
 
 pub use base::BaseCall;
-pub use call::call;
+pub use dispatch::call;
 pub use called::Called;
 pub use case::CaseCall;
 pub use events::{EventCall, answer};

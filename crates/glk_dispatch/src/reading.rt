@@ -88,13 +88,20 @@ fn ref_in(refs: &[FileRef], number: u32) -> Option<&FileRef>
     None
 }
 
+// Whether this usage and this name are the file's.
+fn is_named(file: &File, usage: u32, name: &Text) -> bool
+    ensures { result ≡ files.is_named usage name.now file.now }
+{
+    file.usage == usage % 16 && file.name.is_same(name)
+}
+
 /// Whether a file with this usage and name is there.
 #[tactic(auto, unfolding(glk_streams::specs::Files::has_file))]
 pub(crate) fn has_file(list: &[File], usage: u32, name: &Text) -> bool
     ensures { result ≡ files.has_file list.now usage name.now }
 {
     for file in list {
-        if file.usage == usage % 16 && file.name.is_same(name) {
+        if is_named(file, usage, name) {
             return true;
         }
     }

@@ -1,6 +1,6 @@
 //! The calls of streams (Glk 0.7.5, "Streams").
 
-ghost use Rattle.std.specs.Prelude.{◌≡◌, ◌≤◌, ◌<◌, ◌+◌, ◌-◌, false, slice_index};
+ghost use Rattle.std.specs.Prelude.{◌≡◌, ◌≤◌, ◌<◌, ◌+◌, ◌-◌, ◌==◌, ◌&&◌, slice_index};
 ghost use Rattle.glk_input.specs.Delivery as delivery;
 ghost use Rattle.glk_dispatch.specs.Answer.{Answers, Changes, Does, Gets, Makes, desk};
 ghost use Rattle.glk_dispatch.specs.Selector as selector;
@@ -233,6 +233,13 @@ fn get_item(
     }
 }
 
+// Whether a line ends behind the character.
+fn ends(line: bool, code: u32) -> bool
+    ensures { result ≡ (line && code == 10) }
+{
+    line && code == NEWLINE
+}
+
 // At most so many characters of a stream go to an array; the count. A line ends behind its newline.
 fn get_array(
     glk: &mut Glk,
@@ -253,7 +260,7 @@ fn get_array(
             return Ok(count);
         };
         count += 1;
-        if line && code == NEWLINE {
+        if ends(line, code) {
             return Ok(count);
         }
         at = at.wrapping_add(width(unicode));
