@@ -77,7 +77,7 @@ module _ (fs : List File) (u : ℕ) (n : List ℕ) where
 
   pub is_changed : (r : Option ℕ) → r ≡ seat_of fs u n
       → IfSome r (λ i. (d : File) (b : List ℕ)
-        → with_bytes fs u n b ≡ slice_set fs i (record (slice_index_or fs i d) { bytes = b }))
+      → with_bytes fs u n b ≡ slice_set fs i (record (slice_index_or fs i d) { bytes = b }))
   is_changed None e = tt
   is_changed (Some i) e = λ d b. with_bytes-some fs u n i d b e
 

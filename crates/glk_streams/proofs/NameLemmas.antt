@@ -44,9 +44,9 @@ pub pushed : (old new : List ℕ) (c n : ℕ) (rest : List ℕ) → IsUtf8 old �
     → chars new ++ cut (64 - (n + 1)) rest ≡ chars old ++ cut (64 - n) (c ∷ rest)
 pushed old new c n rest u h e out period room =
     let split : chars new ≡ chars old ++ c ∷ [] =
-        ap chars e ∙ chars-append old (encode_utf8 c) u ∙ ap (λ cs. chars old ++ cs) (chars-encode c h) in
+    ap chars e ∙ chars-append old (encode_utf8 c) u ∙ ap (λ cs. chars old ++ cs) (chars-encode c h) in
     let first : cut (64 - n) (c ∷ rest) ≡ c ∷ cut (64 - (n + 1)) rest =
-        cut-in (64 - n) (64 - (n + 1)) c rest out period (omega (arith, room)) in
+    cut-in (64 - n) (64 - (n + 1)) c rest out period (omega (arith, room)) in
     rw (split, first) (append_assoc (chars old) (c ∷ []) (cut (64 - (n + 1)) rest))
 
 pub period_ends : (xs rest all : List ℕ) (n c : ℕ) → c ≡ 0x2E → xs ++ cut n (c ∷ rest) ≡ all → xs ≡ all

@@ -14,9 +14,13 @@ use Rattle.glk_streams.specs.declared.fault.StreamStop.TheVariants.{BadObject}
 abbrev pub made_ref : StreamTable → ℕ → List ℕ → ℕ → StreamTable × ℕ
 made_ref t usage name rock =
     if nat_le MAX_REFS (length t.refs) || nat_lt MAX_NUMBER t.next_ref then (t, 0)
-    else (record t {
-      refs = t.refs ++ record { number = t.next_ref; usage = usage; rock = rock; name = name } ∷ [];
-      next_ref = t.next_ref + 1 }, t.next_ref)
+    else (
+      record t {
+        refs = t.refs ++ record { number = t.next_ref; usage = usage; rock = rock; name = name } ∷ [];
+        next_ref = t.next_ref + 1;
+      },
+      t.next_ref,
+    )
 
 -- the same with the name of another
 abbrev pub copied_ref : StreamTable → ℕ → ℕ → ℕ → Result (StreamTable × ℕ) StreamStop

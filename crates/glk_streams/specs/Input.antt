@@ -21,7 +21,7 @@ abbrev pub got_from_memory : MemoryMap → ℕ → ℕ → ℕ → Coding → Re
 got_from_memory m place buf len c =
     if nat_lt place (length_of buf len)
     then of_memory (read (unit_of c) m (address_of c buf place))
-        >>= (λ code. Ok (Some (record { code = code; steps = 1 })))
+    >>= (λ code. Ok (Some (record { code = code; steps = 1 })))
     else Ok None
 
 -- a character from where a stream's characters come; a window's stream is never read

@@ -9,3 +9,6 @@ pub mod Input
 pub mod Position
 pub mod FileRefs
 pub mod Names
+pub mod Valid
+pub mod Laws
+pub mod RoundTrip

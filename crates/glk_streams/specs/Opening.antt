@@ -27,7 +27,8 @@ fresh number rock mode unicode target place = record {
   written = 0;
   place = place;
   unicode = unicode;
-  target = target }
+  target = target;
+}
 
 -- a stream more, with the next number
 abbrev pub added : StreamTable → Stream → StreamTable
@@ -84,7 +85,7 @@ first_place fs usage name mode unicode = if mode == 5 then end_in (File usage na
 abbrev pub opened_name : StreamTable → ℕ → List ℕ → ℕ → ℕ → Bool → StreamTable × ℕ
 opened_name t usage name mode rock unicode =
     joined (readied t usage name mode)
-        (fresh t.next rock mode unicode (File usage name) (first_place t.files usage name mode unicode))
+    (fresh t.next rock mode unicode (File usage name) (first_place t.files usage name mode unicode))
 
 abbrev pub opened_ref : StreamTable → FileRef → ℕ → ℕ → Bool → Result (StreamTable × ℕ) StreamStop
 opened_ref t r mode rock unicode =
@@ -104,7 +105,8 @@ counts_of s = record { read = s.read; written = s.written }
 abbrev pub dropped : StreamTable → ℕ → StreamTable
 dropped t n = record t {
   streams = without number_of t.streams n;
-  current = if t.current == n then 0 else t.current }
+  current = if t.current == n then 0 else t.current;
+}
 
 -- the stream is dropped, and its counts are left; 0 and 0 where there is none
 abbrev pub taken : StreamTable → ℕ → StreamTable × Counts

@@ -36,7 +36,7 @@ abbrev pub put_in_memory : MemoryMap → ℕ → ℕ → ℕ → Coding → ℕ 
 put_in_memory m place buf len c code =
     if nat_lt place (length_of buf len)
     then of_memory (written (unit_of c) m (address_of c buf place) (kept_code c code))
-        >>= (λ m. Ok (m, place + 1))
+    >>= (λ m. Ok (m, place + 1))
     else Ok (m, place)
 
 -- a position in a file; one past the end is taken as the end
@@ -61,8 +61,10 @@ put_at fs usage name at new = holding fs usage name (replaced (content_of fs usa
 abbrev pub put_bytes : List File → ℕ → ℕ → List ℕ → Coding → List ℕ → List File × ℕ
 put_bytes fs place usage name c new =
     if is_kept fs usage name (start_of c (content_of fs usage name) place) (length new)
-    then (put_at fs usage name (start_of c (content_of fs usage name) place) new,
-        held c (content_of fs usage name) place + steps_of c (length new))
+    then (
+      put_at fs usage name (start_of c (content_of fs usage name) place) new,
+      held c (content_of fs usage name) place + steps_of c (length new),
+    )
     else (fs, place)
 
 -- the files and memory after a character, and where its stream then stands
@@ -82,7 +84,7 @@ put_in (to.Memory buf len) unicode fs m place code =
     in_memory fs (put_in_memory m place buf len (coding_of unicode (to.Memory buf len)) code)
 put_in (to.File usage name) unicode fs m place code =
     in_files m (put_bytes fs place usage name (coding_of unicode (to.File usage name))
-        (kept (coding_of unicode (to.File usage name)) code))
+    (kept (coding_of unicode (to.File usage name)) code))
 
 -- a character put to a stream that is open for writing
 abbrev pub put_by : List File → MemoryMap → Stream → ℕ → Put

@@ -6,8 +6,8 @@ ghost use Rattle.glk_streams.specs.Coding as coding;
 ghost use Rattle.glk_streams.specs.declared.coding.Coding.TheVariants.{Latin1};
 
 use crate::file::is_text;
-use byteorder::{BigEndian, ByteOrder};
 use crate::stream::Target;
+use byteorder::{BigEndian, ByteOrder};
 use std::alloc::{AllocError, Global};
 
 /// A character that was read, and how many positions it takes.

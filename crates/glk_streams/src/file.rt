@@ -225,22 +225,36 @@ pub(crate) fn is_kept(list: &[File], usage: u32, name: &Text, at: usize, count: 
 
 /// Puts in a file that isn't there; an error where memory runs out.
 #[tactic(auto, using(crate::proofs::FileLemmas::with_file_at_spot))]
-fn insert_file(list: &mut Vec<File>, alloc: Global, usage: u32, name: &Text, bytes: Contents) -> Result<(), AllocError>
+fn insert_file(
+    list: &mut Vec<File>,
+    alloc: Global,
+    usage: u32,
+    name: &Text,
+    bytes: Contents,
+) -> Result<(), AllocError>
     ensures ok { OnOk result (list.new.items ≡ files.with_file list.old.items usage name.now bytes) }
     ensures err { OnErr result (list.new.items ≡ list.old.items) }
 {
     let spot = spot_of(list, usage, name);
     let name = name.copy_of(alloc)?;
-    list.insert(spot, File {
-        usage: usage % 16,
-        name,
-        bytes,
-    })?;
+    list.insert(
+        spot,
+        File {
+            usage: usage % 16,
+            name,
+            bytes,
+        },
+    )?;
     Ok(())
 }
 
 /// Empties the file with this usage and name, which is made where it isn't there.
-pub(crate) fn empty_file(list: &mut Vec<File>, alloc: Global, usage: u32, name: &Text) -> Result<(), AllocError>
+pub(crate) fn empty_file(
+    list: &mut Vec<File>,
+    alloc: Global,
+    usage: u32,
+    name: &Text,
+) -> Result<(), AllocError>
     ensures ok { OnOk result (list.new.items ≡ files.holding list.old.items usage name.now []) }
     ensures err { OnErr result (list.new.items ≡ list.old.items) }
 {

@@ -7,10 +7,12 @@ mod file;
 mod fileref;
 mod find;
 mod input;
+mod laws;
 mod name;
 mod opening;
 mod output;
 mod position;
+mod reading;
 mod stream;
 mod streams;
 
@@ -18,8 +20,11 @@ pub use coding::{Coding, Reading};
 pub use fault::StreamStop;
 pub use file::{Contents, File, MAX_FILE_BYTES, MAX_FILES};
 pub use fileref::{FileRef, MAX_REFS};
-
+pub use laws::{round_trip, stays_valid};
 pub use name::{clean_name, temporary_name};
 pub use opening::Counts;
 pub use stream::{MAX_STREAMS, Stream, Target};
 pub use streams::Streams;
+
+#[cfg(test)]
+mod tests;

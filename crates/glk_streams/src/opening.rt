@@ -5,10 +5,10 @@ ghost use Rattle.glk_streams.specs.Answer.{Gives, Yields};
 ghost use Rattle.glk_streams.specs.Opening as opening;
 
 use crate::fault::StreamStop;
-use crate::stream::{MAX_STREAMS, Stream, Target};
-use crate::streams::Streams;
 use crate::file::{File, empty_file, has_file, may_stand};
 use crate::find::{find, stream_of_window};
+use crate::stream::{MAX_STREAMS, Stream, Target};
+use crate::streams::Streams;
 use glk_numbers::MAX_NUMBER;
 use std::alloc::{AllocError, Global};
 use story_text::Text;
@@ -185,7 +185,10 @@ impl Streams {
             self.current = 0;
         }
         match find(&self.streams, stream) {
-            None => Counts { read: 0, written: 0 },
+            None => Counts {
+                read: 0,
+                written: 0,
+            },
             Some(at) => {
                 let closed = self.streams.remove(at);
                 Counts {

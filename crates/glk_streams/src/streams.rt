@@ -28,8 +28,13 @@ impl Model for Streams {
     ghost Value = { StreamTable };
 
     ghost view = { λ s. record {
-        streams = s.streams.items; next = s.next; current = s.current;
-        refs = s.refs.items; next_ref = s.next_ref; files = s.files.items } };
+      streams = s.streams.items;
+      next = s.next;
+      current = s.current;
+      refs = s.refs.items;
+      next_ref = s.next_ref;
+      files = s.files.items;
+    } };
 }
 
 impl Streams {

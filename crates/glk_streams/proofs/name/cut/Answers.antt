@@ -23,9 +23,11 @@ pub loop-c-preserved : goal.loop-c-preserved
 loop-c-preserved c =
     let held = c.loop-c.invariant in
     let parts = c.in-Some.ensures.steps.0 in
-    let step = chars_past_char _ _ c.in-Some.c held.0 parts in
-    (IsUtf8-past_char _ _ c.in-Some.c held.0 parts,
-    c.in_ok-count.ensures.rest (chars (chars_rest c.next.new.self)) ∙ (rw step at held.1), c.in_ok-count.ensures.within)
+    let step = chars_past_char _ _ c.in-Some.c held.0 parts in (
+      IsUtf8-past_char _ _ c.in-Some.c held.0 parts,
+      c.in_ok-count.ensures.rest (chars (chars_rest c.next.new.self)) ∙ (rw step at held.1),
+      c.in_ok-count.ensures.within,
+    )
 
 pub returns : goal.returns
 returns c =
