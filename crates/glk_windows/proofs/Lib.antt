@@ -12,3 +12,4 @@ pub mod TestLemmas
 pub mod RectangleLemmas
 pub mod SoundLemmas
 pub mod ValidLemmas
+pub mod StandardFacts

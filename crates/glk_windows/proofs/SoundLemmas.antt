@@ -39,7 +39,7 @@ sound-if true x y e f = e
 sound-if false x y e f = f
 
 pub sound_set_at : (f : Window → Window) → KeepsSound f → (ws : List Window) (n : ℕ)
-  → are_sound ws ≡ true → are_sound (set_at f ws n) ≡ true
+    → are_sound ws ≡ true → are_sound (set_at f ws n) ≡ true
 unfolding changed_at
 sound_set_at f k [] n e = refl
 sound_set_at f k (w ∷ ws) n e =
@@ -48,7 +48,7 @@ sound_set_at f k (w ∷ ws) n e =
     sound-if (nat_eq w.number n) _ _ (sound-cons _ _ (k w h) r) (sound-cons _ _ h (sound_set_at f k ws n r))
 
 pub sound_map : (f : Window → Window) → KeepsSound f → (ws : List Window)
-  → are_sound ws ≡ true → are_sound (map f ws) ≡ true
+    → are_sound ws ≡ true → are_sound (map f ws) ≡ true
 sound_map f k [] e = refl
 sound_map f k (w ∷ ws) e =
     sound-cons _ _ (k w (sound-head _ _ e)) (sound_map f k ws (sound-rest (is_sound w) _ e))
@@ -67,28 +67,28 @@ sound_append (w ∷ ws) vs e f =
 
 -- a pair with another child
 pub sound_swapped : (c : Content) (a : Area) (old new : ℕ) → is_sound_content c a ≡ true
-  → is_sound_content (swapped c old new) a ≡ true
+    → is_sound_content (swapped c old new) a ≡ true
 sound_swapped (Pair q) a old new e = grind (arith, common_steps)
 sound_swapped Blank a old new e = e
 sound_swapped (Buffer b) a old new e = e
 sound_swapped (Grid g) a old new e = e
 
 pub sound_arranged : (c : Content) (a : Area) (method size key : ℕ) → is_method method ≡ true
-  → is_sound_content c a ≡ true → is_sound_content (arranged c method size key) a ≡ true
+    → is_sound_content c a ≡ true → is_sound_content (arranged c method size key) a ≡ true
 sound_arranged (Pair q) a method size key m e = m
 sound_arranged Blank a method size key m e = e
 sound_arranged (Buffer b) a method size key m e = e
 sound_arranged (Grid g) a method size key m e = e
 
 pub sound_moved : (c : Content) (a : Area) (x y : ℕ) → is_sound_content c a ≡ true
-  → is_sound_content (moved c x y) a ≡ true
+    → is_sound_content (moved c x y) a ≡ true
 sound_moved (Pair q) a x y e = e
 sound_moved Blank a x y e = e
 sound_moved (Buffer b) a x y e = e
 sound_moved (Grid g) a x y e = e
 
 sound-unkeyed : (c : Content) (a : Area) (n : ℕ) → is_sound_content c a ≡ true
-  → is_sound_content (content_unkeyed n c) a ≡ true
+    → is_sound_content (content_unkeyed n c) a ≡ true
 sound-unkeyed (Pair q) a n e = grind (arith, common_steps)
 sound-unkeyed Blank a n e = e
 sound-unkeyed (Buffer b) a n e = e
@@ -103,23 +103,23 @@ abbrev pub is_whole : g.Grid → Area → Bool
 is_whole g a = g.w == a.w && (g.h == a.h && length g.cells == g.h * g.w)
 
 whole-if : (b : Bool) (x y : g.Grid) (a : Area) → is_whole x a ≡ true → is_whole y a ≡ true
-  → is_whole (cond b x y) a ≡ true
+    → is_whole (cond b x y) a ≡ true
 whole-if true x y a e f = e
 whole-if false x y a e f = f
 
 whole-cell : (x : g.Grid) (a : Area) (code : ℕ) → is_whole x a ≡ true → is_whole (cell_put x code) a ≡ true
 whole-cell x a code e =
     whole-if _ (record x { cells = slice_set x.cells (x.y * x.w + x.x) code; x = x.x + 1 }) x a
-        (ap (λ n. x.w == a.w && (x.h == a.h && n == x.h * x.w)) (length_slice_set x.cells (x.y * x.w + x.x) code) ∙ e) e
+    (ap (λ n. x.w == a.w && (x.h == a.h && n == x.h * x.w)) (length_slice_set x.cells (x.y * x.w + x.x) code) ∙ e) e
 
 whole-put : (x : g.Grid) (a : Area) (code : ℕ) → is_whole x a ≡ true → is_whole (grid_put x code) a ≡ true
 whole-put x a code e =
     whole-if (code == 10) (next_row x) (cell_put (if nat_le x.w x.x then next_row x else x) code) a e
-        (whole-cell (if nat_le x.w x.x then next_row x else x) a code
-            (whole-if (nat_le x.w x.x) (next_row x) x a e e))
+    (whole-cell (if nat_le x.w x.x then next_row x else x) a code
+    (whole-if (nat_le x.w x.x) (next_row x) x a e e))
 
 pub sound_put : (c : Content) (a : Area) (code style : ℕ) → is_sound_content c a ≡ true
-  → is_sound_content (content_put c code style) a ≡ true
+    → is_sound_content (content_put c code style) a ≡ true
 sound_put (Pair q) a code style e = e
 sound_put Blank a code style e = e
 sound_put (Buffer b) a code style e = e
@@ -157,7 +157,7 @@ length-rows (suc n) w old cells =
     grind (arith, common_steps)
 
 whole-same : (x : g.Grid) (a : Area) (b : Bool) (c : Bool) → (x.w == a.w) ≡ b → (x.h == a.h) ≡ c
-  → (length x.cells == x.h * x.w) ≡ true → is_whole (if b && c then x else record x { w = a.w; h = a.h; cells = rows_sized a.h a.w x.w x.cells }) a ≡ true
+    → (length x.cells == x.h * x.w) ≡ true → is_whole (if b && c then x else record x { w = a.w; h = a.h; cells = rows_sized a.h a.w x.w x.cells }) a ≡ true
 whole-same x a true true e f l = sound-cons _ _ e (sound-cons _ _ f l)
 whole-same x a true false e f l = (let k : _ = length-rows a.h a.w x.w x.cells in grind (arith, common_steps))
 whole-same x a false c e f l = (let k : _ = length-rows a.h a.w x.w x.cells in grind (arith, common_steps))
@@ -168,14 +168,14 @@ sized-content Blank o a e = e
 sized-content (Buffer b) o a e = e
 sized-content (Grid x) o a e =
     whole-same x a (x.w == a.w) (x.h == a.h) refl refl
-        (sound-rest (x.h == o.h) _ (sound-rest (x.w == o.w) _ e))
+    (sound-rest (x.h == o.h) _ (sound-rest (x.w == o.w) _ e))
 
 pub sound_sized : (a : Area) → KeepsSound (sized a)
 sound_sized a w e = sized-content w.content w.area a e
 
 sound-divided : (f : List Window → ℕ → Area → List Window)
-  (h : (ws : List Window) (n : ℕ) (r : Area) → are_sound ws ≡ true → are_sound (f ws n r) ≡ true)
-  → (ws : List Window) (o : Option pairs.Pair) (r : Area) → are_sound ws ≡ true → are_sound (divided f ws o r) ≡ true
+    (h : (ws : List Window) (n : ℕ) (r : Area) → are_sound ws ≡ true → are_sound (f ws n r) ≡ true)
+    → (ws : List Window) (o : Option pairs.Pair) (r : Area) → are_sound ws ≡ true → are_sound (divided f ws o r) ≡ true
 sound-divided f h ws None r e = e
 sound-divided f h ws (Some q) r e = h _ _ _ (h _ _ _ e)
 
@@ -184,16 +184,16 @@ unfolding placed
 sound_placed zero ws n r e = e
 sound_placed (suc d) ws n r e =
     sound-divided (placed d) (sound_placed d) (with_area ws n r) (pair_of ws n) r
-        (sound_set_at (sized r) (sound_sized r) ws n e)
+    (sound_set_at (sized r) (sound_sized r) ws n e)
 
 pub sound_closed : (ws : List Window) (n : ℕ) → are_sound ws ≡ true → are_sound (closed ws n) ≡ true
 sound_closed ws n e =
     sound_map (unlinked n (stream_of ws n)) (λ w f. sound-unkeyed w.content w.area n f)
-        (without number_of ws n) (sound-without ws n e)
+    (without number_of ws n) (sound-without ws n e)
 
 sound-both : (f : List Window → ℕ → List Window)
-  (h : (ws : List Window) (n : ℕ) → are_sound ws ≡ true → are_sound (f ws n) ≡ true)
-  → (ws : List Window) (o : Option pairs.Pair) → are_sound ws ≡ true → are_sound (both f ws o) ≡ true
+    (h : (ws : List Window) (n : ℕ) → are_sound ws ≡ true → are_sound (f ws n) ≡ true)
+    → (ws : List Window) (o : Option pairs.Pair) → are_sound ws ≡ true → are_sound (both f ws o) ≡ true
 sound-both f h ws None e = e
 sound-both f h ws (Some q) e = h _ _ (h _ _ e)
 
@@ -225,7 +225,7 @@ length_closed ws n =
     omega (arith, i, length-without ws n)
 
 length-both : (f : List Window → ℕ → List Window) (h : (ws : List Window) (n : ℕ) → length (f ws n) ≤ length ws)
-  → (ws : List Window) (o : Option pairs.Pair) → length (both f ws o) ≤ length ws
+    → (ws : List Window) (o : Option pairs.Pair) → length (both f ws o) ≤ length ws
 length-both f h ws None = omega arith
 length-both f h ws (Some q) = omega (arith, h ws q.first, h (f ws q.first) q.second)
 
@@ -236,7 +236,7 @@ length_removed (suc d) ws n =
     omega (arith, length-both (removed d) (length_removed d) (closed ws n) (pair_of ws n), length_closed ws n)
 
 length-divided : (f : List Window → ℕ → Area → List Window) (h : (ws : List Window) (n : ℕ) (r : Area) → length (f ws n r) ≡ length ws)
-  → (ws : List Window) (o : Option pairs.Pair) (r : Area) → length (divided f ws o r) ≡ length ws
+    → (ws : List Window) (o : Option pairs.Pair) (r : Area) → length (divided f ws o r) ≡ length ws
 length-divided f h ws None r = refl
 length-divided f h ws (Some q) r = h _ _ _ ∙ h _ _ _
 

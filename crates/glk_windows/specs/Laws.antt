@@ -56,12 +56,12 @@ IsLive t n = has number_of t.slots n ≡ true
 pub record KeepsValid : Type 0 where
   pub new : IsValid (record { slots = []; next = 1; root = 0 })
   pub split : (t : WindowTree) (from method size kind rock : ℕ) → IsValid t
-    → (from ≡ 0) ⊎ (IsLive t from × (is_method method ≡ true))
-    → IsValid (split t from method size kind rock).0
+      → (from ≡ 0) ⊎ (IsLive t from × (is_method method ≡ true))
+      → IsValid (split t from method size kind rock).0
   pub close : (t : WindowTree) (n : ℕ) → IsValid t → IsLive t n → IsValid (close t n)
   pub place : (t : WindowTree) (cols rows : ℕ) → IsValid t → IsValid (place t cols rows)
   pub arrange : (t : WindowTree) (n method size key : ℕ) → IsValid t → is_method method ≡ true
-    → IsValid (arrange t n method size key)
+      → IsValid (arrange t n method size key)
   pub put : (t : WindowTree) (n code style : ℕ) → IsValid t → IsValid (put t n code style)
   pub clear : (t : WindowTree) (n : ℕ) → IsValid t → IsValid (clear t n)
   pub move_to : (t : WindowTree) (n x y : ℕ) → IsValid t → IsValid (move_to t n x y)
