@@ -12,7 +12,6 @@ use crate::called::Called;
 use crate::fault::{BAD_OBJECT, BAD_READ, of_streams};
 use crate::glk::{Glk, Prompt};
 use crate::output::text_start;
-use crate::reading::has_file;
 use crate::reference::refer;
 use glk_streams::{clean_name, temporary_name};
 use std::alloc::{AllocError, Global};
@@ -172,7 +171,7 @@ pub(crate) fn answer_prompt(alloc: Global, glk: &mut Glk, name: &Text) -> Result
     let Ok(clean) = clean_name(alloc, name) else {
         return Err(Trap::NoMemory);
     };
-    if mode == READ && !has_file(glk.streams.files(), usage, &clean) {
+    if mode == READ && !glk.streams.is_file(usage, &clean) {
         return Ok(0);
     }
     match glk.streams.make_ref(alloc, usage, &clean, rock) {
@@ -231,7 +230,7 @@ fn iterate(
         return Err(BAD_OBJECT);
     }
     let next = glk.streams.ref_after(fref);
-    refer(memory, stack, rock, glk.ref_rock(next))?;
+    refer(memory, stack, rock, glk.streams.ref_rock(next))?;
     Ok(Called::Value(next))
 }
 
@@ -272,7 +271,7 @@ pub(crate) fn do_fileref(
             if !glk.is_ref(args[0]) {
                 return Err(BAD_OBJECT);
             }
-            Ok(Called::Value(glk.ref_rock(args[0])))
+            Ok(Called::Value(glk.streams.ref_rock(args[0])))
         }
         FileRefCall::DeleteFile => {
             delete_file(glk, args[0])?;

@@ -137,4 +137,14 @@ impl Glk {
     {
         fref == 0 || self.streams.is_ref(fref)
     }
+
+    /// How many characters were written to a stream.
+    pub(crate) fn written_to(&self, stream: u32) -> u32
+        ensures { result ≡ state.written_to self.now stream }
+    {
+        match self.streams.stream(stream) {
+            None => 0,
+            Some(held) => held.written,
+        }
+    }
 }

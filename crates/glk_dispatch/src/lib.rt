@@ -11,7 +11,6 @@ mod fault;
 mod filerefs;
 mod glk;
 mod output;
-mod reading;
 mod reference;
 mod selector;
 mod streams;

@@ -76,7 +76,7 @@ pub(crate) fn put_once(
 ) -> Result<(), Trap>
     ensures { Puts (rows.put_once glk.old memory.old stream style code) glk.new memory.new result }
 {
-    let win = glk.window_of(stream);
+    let win = glk.streams.window_of(stream);
     if win == 0 {
         return put_to_stream(alloc, glk, memory, stream, code);
     }
@@ -94,7 +94,7 @@ pub(crate) fn put_once(
 pub(crate) fn echo_from(glk: &Glk, stream: u32) -> u32
     ensures { result ≡ rows.echo_from glk.now stream }
 {
-    glk.windows.echo(glk.window_of(stream))
+    glk.windows.echo(glk.streams.window_of(stream))
 }
 
 // Puts a character to a stream, to its window's echo stream, and so on.
@@ -111,7 +111,7 @@ fn spread(
     let mut stream = from;
     let mut left = steps;
     while left > 0 && stream != 0 {
-        let style = glk.style_of(stream);
+        let style = glk.streams.style(stream);
         put_once(alloc, glk, memory, stream, style, code)?;
         stream = echo_from(glk, stream);
         left -= 1;

@@ -81,7 +81,7 @@ fn iterate(
         return Err(BAD_OBJECT);
     }
     let next = glk.streams.stream_after(stream);
-    refer(memory, stack, rock, glk.stream_rock(next))?;
+    refer(memory, stack, rock, glk.streams.rock(next))?;
     Ok(Called::Value(next))
 }
 
@@ -353,7 +353,7 @@ pub(crate) fn do_stream(
             if !glk.is_stream(stream) {
                 return Err(BAD_OBJECT);
             }
-            Ok(Called::Value(glk.stream_rock(stream)))
+            Ok(Called::Value(glk.streams.rock(stream)))
         }
         StreamCall::OpenFile { unicode } => Ok(Called::Value(open_file(
             alloc, glk, args[0], args[1], args[2], unicode,

@@ -185,7 +185,7 @@ fn reaches(glk: &Glk, steps: usize, stream: u32, win: u32) -> bool
     if steps == 0 {
         return false;
     }
-    let shown = glk.window_of(stream);
+    let shown = glk.streams.window_of(stream);
     if shown == 0 {
         return false;
     }
