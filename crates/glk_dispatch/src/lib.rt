@@ -29,3 +29,6 @@ pub use selector::Call;
 pub use streams::StreamCall;
 pub use style::StyleCall;
 pub use windows::WindowCall;
+
+#[cfg(test)]
+mod tests;
