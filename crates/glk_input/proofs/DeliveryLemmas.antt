@@ -1,6 +1,6 @@
 -- The characters of a line one by one.
 use native.Mathlib.Numerals.{unary_clauses}
-use Rattle.std.proofs.Common.{◌≡◌, ℕ, zero, suc, ◌+◌, ◌-◌, ◌%◌, ◌^◌, ◌<◌, refl, arith, Bool, List, [], ◌∷◌, length, map, take, Ok, Err, ap, sym, ◌∙◌, chars}
+use Rattle.std.proofs.Common.{◌≡◌, ℕ, zero, suc, ◌+◌, ◌-◌, ◌%◌, ◌^◌, ◌<◌, refl, arith, Bool, List, [], ◌∷◌, length, map, take, Ok, Err, ap, sym, ◌∙◌}
 use Rattle.vm_memory.specs.Access.{written}
 use Rattle.vm_memory.specs.MemoryMap.{MemoryMap}
 use Rattle.vm_memory.specs.Access.{Leaves}

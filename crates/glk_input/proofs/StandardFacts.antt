@@ -1,8 +1,8 @@
 -- Values that the header of Glk and the rules of its input give, said of the definitions.
-use Rattle.std.specs.Prelude.{◌≡◌, ℕ, List, [], ◌∷◌, Bool, true, false, map, Some, None, length}
+use Rattle.std.specs.Prelude.{◌≡◌, [], ◌∷◌, true, false, map, Some}
 use Rattle.std.proofs.Common.{refl}
 use Rattle.glk_input.specs.Keycode.{is_keycode, is_terminator}
-use Rattle.glk_input.specs.Request.{cancelled, fresh, line_asked, char_asked, line_event, no_event}
+use Rattle.glk_input.specs.Request.{cancelled}
 use Rattle.glk_input.specs.Delivery.{taken_key, taken_line, wants_line}
 use Rattle.glk_input.specs.declared.request.LineRequest.{LineRequest}
 use Rattle.glk_input.specs.declared.request.Request.TheVariants.{Line, Char}

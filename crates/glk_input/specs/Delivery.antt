@@ -1,5 +1,5 @@
 -- The delivery of an input (Glk 0.7.5, "Line Input Events", "Character Input Events").
-use Rattle.std.specs.Prelude.{◌≡◌, ℕ, ◌+◌, ◌*◌, ◌%◌, ◌^◌, ◌==◌, ◌&&◌, ◌||◌, nat_lt, not, Bool, true}
+use Rattle.std.specs.Prelude.{◌≡◌, ℕ, ◌+◌, ◌%◌, ◌^◌, ◌==◌, ◌&&◌, ◌||◌, nat_lt, not, Bool, true}
 use Rattle.std.specs.Prelude.{false, if◌then◌else◌, List, [], ◌∷◌, length, map, take}
 use Rattle.std.specs.Prelude.{Option, Some, None, Result, Ok, Err}
 use Rattle.vm_memory.specs.Access.{written}

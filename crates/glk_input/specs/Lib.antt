@@ -2,3 +2,4 @@ pub mod Keycode
 pub mod Request
 pub mod Delivery
 pub mod Valid
+pub mod Laws

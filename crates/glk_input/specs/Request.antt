@@ -7,7 +7,6 @@ use Rattle.glk_input.specs.declared.event.Event.{Event}
 use Rattle.glk_input.specs.declared.requests.Change.{Change}
 use Rattle.glk_input.specs.declared.requests.Change.TheVariants.{AskLine, AskChar, EndLine}
 use Rattle.glk_input.specs.declared.requests.Change.TheVariants.{EndChar, End, Echo, Terminators}
-use Rattle.glk_input.specs.declared.request.LineRequest.{LineRequest}
 use Rattle.glk_input.specs.declared.request.Request.{Request}
 use Rattle.glk_input.specs.declared.request.Request.TheVariants.{Line, Char}
 use Rattle.glk_input.specs.declared.request.WindowInput.{WindowInput}
@@ -50,7 +49,12 @@ asked None new = Some new
 abbrev pub line_asked : ℕ → ℕ → ℕ → Bool → WindowInput → WindowInput
 line_asked buf max init unicode w = record w {
   request = asked w.request (Line (record {
-    buf = buf; max = max; init = init; unicode = unicode; echo = w.echo; keys = w.keys;
+    buf = buf;
+    max = max;
+    init = init;
+    unicode = unicode;
+    echo = w.echo;
+    keys = w.keys;
   }));
 }
 

@@ -1,5 +1,5 @@
 -- Requests as calls leave them (own).
-use Rattle.std.specs.Prelude.{ℕ, ◌&&◌, nat_le, Bool, true, List, [], ◌∷◌, length}
+use Rattle.std.specs.Prelude.{◌&&◌, nat_le, Bool, true, List, [], ◌∷◌, length}
 use Rattle.std.specs.Prelude.{Option, Some, None}
 use Rattle.glk_numbers.specs.Numbered.{ascends}
 use Rattle.glk_input.specs.Request.{number_of}

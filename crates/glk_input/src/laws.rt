@@ -7,5 +7,4 @@ ghost use Rattle.glk_input.specs.Laws.{StaysValid};
 /// 4,294,967,294.
 pub fn windows_stay_valid()
     ensures { StaysValid }
-{
-}
+{}

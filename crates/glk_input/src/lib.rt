@@ -6,12 +6,14 @@ mod event;
 mod input;
 pub mod keycode;
 mod keys;
+mod laws;
 mod request;
 mod requests;
 
 pub use event::Event;
 pub use input::Input;
 pub use keys::{Keys, MAX_KEYS};
+pub use laws::windows_stay_valid;
 pub use request::{LineRequest, Request, WindowInput};
 pub use requests::Requests;
 

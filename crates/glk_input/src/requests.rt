@@ -178,7 +178,9 @@ pub(crate) enum Change {
         init: u32,
         unicode: bool,
     },
-    AskChar { unicode: bool },
+    AskChar {
+        unicode: bool,
+    },
     EndLine,
     EndChar,
     End,

@@ -1,8 +1,7 @@
-use Rattle.std.proofs.Common.{rules, arith, ◌≡◌, ◌+◌, ◌-◌, ◌<◌, ap, sym, ◌∙◌, chars, refl, length, take, map}
+use Rattle.std.proofs.Common.{arith, ◌≡◌, ◌+◌, ◌-◌, ◌<◌, ap, sym, ◌∙◌, chars, take}
 use Rattle.std.proofs.lemmas.List.{nil_from_length}
 use Rattle.std.specs.Str.Iter.{chars_rest}
 use Rattle.std.proofs.lemmas.Str.{IsUtf8-past_char, chars_past_char, chars-nil}
-use Rattle.glk_input.specs.Delivery.{line_written, taken, width}
 use Rattle.glk_input.proofs.DeliveryLemmas.{counted_none, front_length, writes_stop, writes_on, written_none}
 use Rattle.glk_input.proofs.deliver.write_front.Goals as goal
 
@@ -22,7 +21,7 @@ loop-c-preserved c =
     let left : 0 < c.args.max - c.loop-c.count = omega arith in
     let e = rw step at held.written in
     let on = writes_on c.args.unicode c.loop-c.memory c.args.memory.now c.write_char.new.memory c.loop-c.at c.args.from c.in-Some.c
-        (chars (chars_rest c.next.new.self)) (take c.args.max (chars c.args.text.now)) (c.args.max - c.loop-c.count) left e c.in-Ok.ensures in
+    (chars (chars_rest c.next.new.self)) (take c.args.max (chars c.args.text.now)) (c.args.max - c.loop-c.count) left e c.in-Ok.ensures in
     let k : (c.args.max - c.loop-c.count) - 1 ≡ c.args.max - (c.loop-c.count + 1) = omega arith in
     let n = rw (step, front_length c.in-Some.c (chars (chars_rest c.next.new.self)) (c.args.max - c.loop-c.count) left) at held.counted in
     record {

@@ -1,4 +1,4 @@
-use Rattle.std.proofs.Common.{◌≡◌, ◌+◌, ◌-◌, ◌≤◌, IsUtf8, chars, length, map, take, List, ℕ}
+use Rattle.std.proofs.Common.{◌≡◌, ◌+◌, ◌-◌, ◌≤◌, IsUtf8, chars, length, map, take}
 use Rattle.std.specs.Str.Iter.{chars_rest}
 use Rattle.glk_input.specs.Delivery.{line_written, taken}
 use Rattle.glk_input.proofs.deliver.write_front.Given as goal
