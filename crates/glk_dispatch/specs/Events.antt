@@ -53,14 +53,14 @@ abbrev pub line_asked : Bool → Glk → ℕ → ℕ → ℕ → ℕ → Reached
 line_asked unicode g win buf max init =
     window g win (takes g (may_ask g win) (takes g (nat_le init max && nat_le init MAX_INITIAL)
     (leaves g (request.changed (request.line_asked buf max init unicode)
-        (request.with_window g.requests win) win))))
+    (request.with_window g.requests win) win))))
 
 -- glk_request_char_event win
 abbrev pub char_asked : Bool → Glk → ℕ → Reached (Glk × Called)
 char_asked unicode g win =
     window g win (takes g (may_ask g win)
     (leaves g (request.changed (request.char_asked unicode)
-        (request.with_window g.requests win) win)))
+    (request.with_window g.requests win) win)))
 
 -- glk_cancel_char_event win
 abbrev pub char_cancelled : Glk → ℕ → Reached (Glk × Called)
@@ -92,15 +92,19 @@ echo_array (suc count) unicode g m n at =
 abbrev pub stream_in : Glk → ℕ → ℕ
 stream_in g win = stream_of g.windows.slots win
 
--- a line that is cancelled: the window shows what it began with, and a newline
+-- a window shows what a line began with, and a newline, unless the request has no echo
+abbrev pub line_begun : LineRequest → Glk → MemoryMap → ℕ → Reached (Glk × MemoryMap)
+line_begun r g m win =
+    if r.echo
+    then echo_array r.init r.unicode g m (stream_in g win) r.buf
+    >>= (λ p. echo_put p.0 p.1 (stream_in g win) INPUT NEWLINE)
+    else Ok (g, m)
+
+-- the same of a line that is cancelled
 abbrev pub initial_echoed : Option Request → Glk → MemoryMap → ℕ → Reached (Glk × MemoryMap)
 initial_echoed None g m win = Ok (g, m)
 initial_echoed (Some (Char unicode)) g m win = Ok (g, m)
-initial_echoed (Some (Line r)) g m win =
-    if r.echo
-    then echo_array r.init r.unicode g m (stream_in g win) r.buf
-        >>= (λ p. echo_put p.0 p.1 (stream_in g win) INPUT NEWLINE)
-    else Ok (g, m)
+initial_echoed (Some (Line r)) g m win = line_begun r g m win
 
 -- glk_cancel_line_event win, &event
 abbrev pub cancels_line : Desk → ℕ → ℕ → Rule Called
@@ -108,9 +112,9 @@ cancels_line s win event =
     let asked = request.request_of s.glk.requests win in
     let g = record s.glk { requests = request.changed request.without_line s.glk.requests win } in
     window s.glk win (initial_echoed asked g s.memory win
-        >>= (λ p. refers_all (record s { glk = p.0; memory = p.1 }) event
-            (words_of (request.cancelled asked win)))
-        >>= gives 0)
+    >>= (λ p. refers_all (record s { glk = p.0; memory = p.1 }) event
+    (words_of (request.cancelled asked win)))
+    >>= gives 0)
 
 -- the words of an array
 unfoldable pub words_at : ℕ → MemoryMap → ℕ → List ℕ → Result (List ℕ) ℕ
@@ -123,8 +127,8 @@ abbrev pub terminators_set : Glk → MemoryMap → ℕ → ℕ → ℕ → Reach
 terminators_set g m win keys count =
     window g win (takes g (nat_le count 13)
     (within g (words_at count m keys [])
-        >>= (λ list. leaves g (request.changed (request.with_keys list)
-            (request.with_window g.requests win) win))))
+    >>= (λ list. leaves g (request.changed (request.with_keys list)
+    (request.with_window g.requests win) win))))
 
 unfoldable pub event_work : EventCall → Desk → (ℕ → ℕ) → Rule Called
 event_work Select s l = selects s (l 0)
@@ -142,7 +146,7 @@ abbrev pub line_shown : LineRequest → Glk → MemoryMap → ℕ → List ℕ �
 line_shown r g m win text =
     if r.echo
     then echoed g m (stream_in g win) (delivery.taken_line r text)
-        >>= (λ p. echo_put p.0 p.1 (stream_in g win) INPUT NEWLINE)
+    >>= (λ p. echo_put p.0 p.1 (stream_in g win) INPUT NEWLINE)
     else Ok (g, m)
 
 abbrev pub line_echoed : Option Request → Glk → MemoryMap → ℕ → List ℕ → Reached (Glk × MemoryMap)

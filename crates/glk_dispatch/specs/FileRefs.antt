@@ -62,9 +62,12 @@ named_made g m usage name rock = name_at g m name >>= (λ p. Ok (named p.0 usage
 -- glk_fileref_create_by_prompt usage, mode, rock: the turn ends, and the name is the next input
 abbrev pub prompts : Desk → ℕ → ℕ → ℕ → Rule Called
 prompts s usage mode rock =
-    Ok (record s {
-      glk = record s.glk { prompt = record { usage = usage; mode = mode; rock = rock } };
-    }, Prompt)
+    Ok (
+      record s {
+        glk = record s.glk { prompt = record { usage = usage; mode = mode; rock = rock } };
+      },
+      Prompt,
+    )
 
 -- the mode is that of reading
 abbrev pub reads : ℕ → Bool

@@ -49,7 +49,7 @@ spread zero g m n code = Ok (g, m)
 spread (suc steps) g m n code =
     if n == 0 then Ok (g, m)
     else put_once g m n (style_of g n) code
-        >>= (λ p. spread steps p.0 p.1 (echo_from p.0 n) code)
+    >>= (λ p. spread steps p.0 p.1 (echo_from p.0 n) code)
 
 -- no chain of echoes is longer than the windows and a last stream
 abbrev pub spread_all : Glk → MemoryMap → ℕ → ℕ → Reached (Glk × MemoryMap)
@@ -93,7 +93,7 @@ put_text (suc left) unicode g m n at =
     within g (code_at unicode m at) >>= (λ code.
     if code == 0 then Ok (g, m)
     else put_code g m n code
-        >>= (λ p. put_text left unicode p.0 p.1 n ((at + width unicode) % 2 ^ 32)))
+    >>= (λ p. put_text left unicode p.0 p.1 n ((at + width unicode) % 2 ^ 32)))
 
 abbrev pub put_string : Bool → Glk → MemoryMap → ℕ → ℕ → Reached (Glk × MemoryMap)
 put_string unicode g m n at =
@@ -106,7 +106,7 @@ char_of unicode code = if unicode then code else bit_and code 255
 
 -- characters in a style, put to a window's stream and its echo streams without being counted as
 -- read or written by a call
-abbrev pub echo_put : Glk → MemoryMap → ℕ → ℕ → ℕ → Reached (Glk × MemoryMap)
+unfoldable pub echo_put : Glk → MemoryMap → ℕ → ℕ → ℕ → Reached (Glk × MemoryMap)
 echo_put g m n style code =
     put_once g m n style code >>= (λ p. spread_all p.0 p.1 (echo_from p.0 n) code)
 

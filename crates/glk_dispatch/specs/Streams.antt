@@ -123,7 +123,7 @@ got_array zero line unicode g m n at count = Ok (g, m, count)
 got_array (suc left) line unicode g m n at count =
     got_item unicode g m n at
     >>= (λ p. got_on (λ h k c. got_array left line unicode h k n ((at + width unicode) % 2 ^ 32) c)
-        line p.0 p.1 count p.2)
+    line p.0 p.1 count p.2)
 
 -- glk_get_buffer_stream str, buf, len: the count
 abbrev pub buffer_read : Bool → Glk → MemoryMap → ℕ → ℕ → ℕ → Reached (Glk × MemoryMap × ℕ)
@@ -138,7 +138,7 @@ abbrev pub got_line : Bool → Glk → MemoryMap → ℕ → ℕ → ℕ → Rea
 got_line unicode g m n buf len =
     got_array (len - 1) true unicode g m n buf 0
     >>= (λ p. within p.0 (code_written unicode p.1 (behind unicode buf p.2) 0)
-        >>= (λ k. Ok (p.0, k, p.2)))
+    >>= (λ k. Ok (p.0, k, p.2)))
 
 -- glk_get_line_stream str, buf, len: at most len - 1 characters, to a newline with it, then a zero;
 -- the count. For len 0 nothing is read

@@ -106,11 +106,19 @@ all_dropped zero g win = g
 all_dropped (suc depth) g win =
     both_dropped (all_dropped depth) (dropped g win) (reading.children_of g.windows.slots win)
 
--- a window, all below it and the pair above it closed
+-- of a window, of all below it, and of the pair above it
+abbrev pub closed_dropped : Glk → ℕ → Glk
+closed_dropped g win =
+    dropped (all_dropped (length g.windows.slots) g win) (tree.parent_of g.windows.slots win)
+
+-- these closed
+abbrev pub ended : Glk → ℕ → Glk
+ended g win =
+    record (closed_dropped g win) { windows = closing.close (closed_dropped g win).windows win }
+
+-- the same, and those that stay have their rectangles
 abbrev pub closed : Glk → ℕ → Glk
-closed g win =
-    let bare = dropped (all_dropped (length g.windows.slots) g win) (tree.parent_of g.windows.slots win) in
-    placed (record bare { windows = closing.close bare.windows win })
+closed g win = placed (ended g win)
 
 -- glk_window_close win, &result: read count, which is 0, and write count, after the closing
 abbrev pub closes : Desk → ℕ → ℕ → Rule Called
@@ -123,7 +131,7 @@ abbrev pub sizes : Desk → ℕ → ℕ → ℕ → Rule Called
 sizes s win width height =
     window s.glk win
     (refers s width (reading.size_of (slots s) win).0
-        >>= (λ t. refers t height (reading.size_of (slots s) win).1) >>= gives 0)
+    >>= (λ t. refers t height (reading.size_of (slots s) win).1) >>= gives 0)
 
 -- glk_window_set_arrangement win, method, size, key or 0
 abbrev pub arranged : Glk → ℕ → ℕ → ℕ → ℕ → Reached (Glk × Called)
@@ -139,7 +147,7 @@ tells_arrangement s win method size key =
     let held = reading.arrangement_of (slots s) win in
     window s.glk win (takes s.glk (is_pair s.glk win)
     (refers s method held.0 >>= (λ t. refers t size held.1) >>= (λ t. refers t key held.2)
-        >>= gives 0))
+    >>= gives 0))
 
 -- glk_window_clear win
 abbrev pub cleared : Glk → ℕ → Reached (Glk × Called)
@@ -157,7 +165,7 @@ reaches zero g n win = false
 reaches (suc steps) g n win =
     not (window_of g n == 0)
     && (window_of g n == win
-        || reaches steps g (reading.echo_of g.windows.slots (window_of g n)) win)
+    || reaches steps g (reading.echo_of g.windows.slots (window_of g n)) win)
 
 abbrev pub is_loop : Glk → ℕ → ℕ → Bool
 is_loop g win n = reaches (length g.windows.slots) g n win
@@ -173,7 +181,7 @@ abbrev pub window_set : Glk → ℕ → Reached (Glk × Called)
 window_set g win =
     window_or_none g win
     (within g (numbered (current.with_current g.streams (tree.stream_of g.windows.slots win)))
-        >>= (λ t. leaves (record g { streams = t })))
+    >>= (λ t. leaves (record g { streams = t })))
 
 -- what a call tells of a window
 abbrev pub told : Glk → ℕ → ℕ → Result ℕ ℕ

@@ -118,7 +118,11 @@ fn change_title(
 fn check_count(len: u32, count: u32) -> Result<(), Trap>
     ensures { Makes (rows.checked len count) result }
 {
-    if count <= len { Ok(()) } else { Err(BAD_ARGUMENT) }
+    if count <= len {
+        Ok(())
+    } else {
+        Err(BAD_ARGUMENT)
+    }
 }
 
 #[tactic(auto, unfolding(crate::specs::Case::case_work))]

@@ -1,6 +1,6 @@
 //! Events and requests (Glk 0.7.5, "Events", "Line Input Events", "Character Input Events").
 
-ghost use Rattle.std.specs.Prelude.{◌≡◌, ◌≤◌, [], length, slice_index, not, ◌==◌, ◌<◌, ◌+◌, OnOk};
+ghost use Rattle.std.specs.Prelude.{◌≡◌, ◌≤◌, [], length, slice_index, not, ◌==◌, ◌<◌, ◌+◌, IfOk};
 ghost use Rattle.glk_input.specs.Request as request;
 ghost use Rattle.glk_dispatch.specs.Answer.{Answers, Does, Gets, Leaves, Lists, Puts, desk};
 ghost use Rattle.glk_dispatch.specs.Events as rows;
@@ -135,7 +135,8 @@ fn set_line_echo(glk: &mut Glk, win: u32, val: u32) -> Result<Called, Trap>
 
 // So many words of an array.
 fn words_at(alloc: Global, memory: &Memory, from: u32, count: u32) -> Result<Vec<u32>, Trap>
-    ensures { Lists (rows.words_at count memory.now from []) result }
+    ensures value { Lists (rows.words_at count memory.now from []) result }
+    ensures within { IfOk result (λ words. length words.items ≡ count) }
 {
     let mut words = Vec::new(alloc);
     let mut at = from;
@@ -227,7 +228,34 @@ fn echo_array(
     Ok(())
 }
 
-// A line that is cancelled: the window shows what it began with, and a newline.
+// A window shows the characters with which a line began, and a newline, unless the request has no
+// echo.
+fn echo_begun(
+    alloc: Global,
+    glk: &mut Glk,
+    memory: &mut Memory,
+    win: u32,
+    line: &LineRequest,
+) -> Result<(), Trap>
+    ensures { Puts (rows.line_begun line.now glk.old memory.old win) glk.new memory.new result }
+{
+    if line.echo {
+        let stream = glk.windows.stream(win);
+        echo_array(
+            alloc,
+            glk,
+            memory,
+            stream,
+            line.unicode,
+            line.buf,
+            line.init,
+        )?;
+        echo_put(alloc, glk, memory, stream, INPUT, NEWLINE)?;
+    }
+    Ok(())
+}
+
+// The same of a line that is cancelled.
 fn echo_initial(
     alloc: Global,
     glk: &mut Glk,
@@ -239,27 +267,13 @@ fn echo_initial(
         glk.new memory.new result }
 {
     match asked {
-        Some(Request::Line(line)) => {
-            if !line.echo {
-                return Ok(());
-            }
-            let stream = glk.windows.stream(win);
-            echo_array(
-                alloc, glk, memory, stream, line.unicode, line.buf, line.init,
-            )?;
-            echo_put(alloc, glk, memory, stream, INPUT, NEWLINE)
-        }
+        Some(Request::Line(line)) => echo_begun(alloc, glk, memory, win, line),
         Some(Request::Char { .. }) | None => Ok(()),
     }
 }
 
 // The words of an event at a reference.
-fn tell_event(
-    memory: &mut Memory,
-    stack: &mut Stack,
-    at: u32,
-    event: Event,
-) -> Result<(), Trap>
+fn tell_event(memory: &mut Memory, stack: &mut Stack, at: u32, event: Event) -> Result<(), Trap>
     ensures { Leaves (referred_all memory.old stack.old at (rows.words_of event))
         memory.new stack.new result }
 {
@@ -339,15 +353,15 @@ fn echo_line(
     ensures { Puts (rows.line_shown line.now glk.old memory.old win text.now)
         glk.new memory.new result }
 {
-    if !line.echo {
-        return Ok(());
+    if line.echo {
+        let Ok(codes) = line.taken(alloc, text) else {
+            return Err(Trap::NoMemory);
+        };
+        let stream = glk.windows.stream(win);
+        echo_codes(alloc, glk, memory, stream, codes.as_slice())?;
+        echo_put(alloc, glk, memory, stream, INPUT, NEWLINE)?;
     }
-    let Ok(codes) = line.taken(alloc, text) else {
-        return Err(Trap::NoMemory);
-    };
-    let stream = glk.windows.stream(win);
-    echo_codes(alloc, glk, memory, stream, &codes)?;
-    echo_put(alloc, glk, memory, stream, INPUT, NEWLINE)
+    Ok(())
 }
 
 fn echo_text(
@@ -366,12 +380,7 @@ fn echo_text(
     }
 }
 
-fn echo_input(
-    alloc: Global,
-    glk: &mut Glk,
-    memory: &mut Memory,
-    input: &Input,
-) -> Result<(), Trap>
+fn echo_input(alloc: Global, glk: &mut Glk, memory: &mut Memory, input: &Input) -> Result<(), Trap>
     ensures { Puts (rows.input_echoed glk.old memory.old input.now) glk.new memory.new result }
 {
     match input {

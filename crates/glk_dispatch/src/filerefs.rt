@@ -109,13 +109,7 @@ fn utf8_of(alloc: Global, bytes: &[u8]) -> Result<String, AllocError>
 }
 
 // A reference to the file with this name, as it is cleaned.
-fn make_named(
-    alloc: Global,
-    glk: &mut Glk,
-    usage: u32,
-    name: &Text,
-    rock: u32,
-) -> Result<u32, Trap>
+fn make_named(alloc: Global, glk: &mut Glk, usage: u32, name: &Text, rock: u32) -> Result<u32, Trap>
     ensures { Answers (Done (rows.named glk.old usage name.now rock)) glk.new result }
 {
     let Ok(clean) = clean_name(alloc, name) else {

@@ -18,9 +18,9 @@ mod style;
 mod windows;
 
 pub use base::BaseCall;
-pub use dispatch::call;
 pub use called::Called;
 pub use case::CaseCall;
+pub use dispatch::call;
 pub use events::{EventCall, answer};
 pub use filerefs::FileRefCall;
 pub use glk::{Glk, Prompt};

@@ -166,12 +166,7 @@ pub(crate) fn read_code(memory: &Memory, unicode: bool, at: u32) -> Result<u32, 
 }
 
 /// Writes a character of an array to an address.
-pub(crate) fn write_code(
-    memory: &mut Memory,
-    unicode: bool,
-    at: u32,
-    code: u32,
-) -> Result<(), Trap>
+pub(crate) fn write_code(memory: &mut Memory, unicode: bool, at: u32, code: u32) -> Result<(), Trap>
     ensures { Writes (rows.code_written unicode memory.old at code) memory.new result }
 {
     if unicode {
@@ -279,6 +274,7 @@ fn char_of(unicode: bool, code: u32) -> u32
 }
 
 /// Puts a character in a style to a window's stream and its echo streams, uncounted.
+#[tactic(auto, unfolding(crate::specs::Output::echo_put))]
 pub(crate) fn echo_put(
     alloc: Global,
     glk: &mut Glk,

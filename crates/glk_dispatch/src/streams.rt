@@ -112,7 +112,10 @@ fn open_memory(
 ) -> Result<u32, Trap>
     ensures { Answers (rows.memory_opened glk.old buf len mode rock unicode) glk.new result }
 {
-    match glk.streams.open_memory(alloc, buf, len, mode, rock, unicode) {
+    match glk
+        .streams
+        .open_memory(alloc, buf, len, mode, rock, unicode)
+    {
         Ok(stream) => Ok(stream),
         Err(stop) => Err(of_streams(stop)),
     }

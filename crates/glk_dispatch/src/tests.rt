@@ -16,7 +16,12 @@ const ROM: [u8; 256] = [0; 256];
 fn memory_of(alloc: Global) -> Result<Memory<'static>, Fail> {
     let mut memory = Memory::new(alloc, &ROM, 256, 1024)?;
     // the string `ab` at 512, and the Unicode string `c` at 520
-    for (at, word) in [(512, 0xE061_6200), (520, 0xE200_0000), (524, 0x63), (528, 0)] {
+    for (at, word) in [
+        (512, 0xE061_6200),
+        (520, 0xE200_0000),
+        (524, 0x63),
+        (528, 0),
+    ] {
         memory.write4(at, word).ok().ok_or("RAM")?;
     }
     Ok(memory)
@@ -167,9 +172,18 @@ fn faults_come_in_their_order(rt: HostRuntime) -> Result<(), Fail> {
     let mut memory = memory_of(alloc)?;
     let mut stack = stack_of(alloc)?;
     // no selector, though nothing is there; too few values before a wrong count
-    assert_eq!(rt; call(alloc, &mut glk, &mut memory, &mut stack, 0x99, 7), Err(Trap::Fault(20)));
-    assert_eq!(rt; call(alloc, &mut glk, &mut memory, &mut stack, 0x21, 2), Err(Trap::Fault(4)));
-    assert_eq!(rt; call(alloc, &mut glk, &mut memory, &mut stack, 0xE0, 1), Err(Trap::Fault(4)));
+    assert_eq!(rt;
+        call(alloc, &mut glk, &mut memory, &mut stack, 0x99, 7),
+        Err(Trap::Fault(20))
+    );
+    assert_eq!(rt;
+        call(alloc, &mut glk, &mut memory, &mut stack, 0x21, 2),
+        Err(Trap::Fault(4))
+    );
+    assert_eq!(rt;
+        call(alloc, &mut glk, &mut memory, &mut stack, 0xE0, 1),
+        Err(Trap::Fault(4))
+    );
     let rows: &[(u32, &[u32], u8)] = &[
         (0x22, &[0], 22),
         (0x21, &[1], 21),
@@ -198,10 +212,19 @@ fn a_memory_stream_counts_what_it_drops(rt: HostRuntime) -> Result<(), Fail> {
     memory.write4(600, 0x6162_6364).ok().ok_or("RAM")?;
     let rows: &[(u32, &[u32])] = &[(0x43, &[0x100, 3, 1, 0]), (0x85, &[1, 600, 4])];
     for (selector, args) in rows {
-        run(alloc, &mut glk, &mut memory, &mut stack, *selector, args)?.ok().ok_or("no fault")?;
+        run(alloc, &mut glk, &mut memory, &mut stack, *selector, args)?
+            .ok()
+            .ok_or("no fault")?;
     }
     // counts 0 and 4 on the stack, the last on top; `abc` in the array
-    let closed = run(alloc, &mut glk, &mut memory, &mut stack, 0x44, &[1, 0xFFFF_FFFF])?;
+    let closed = run(
+        alloc,
+        &mut glk,
+        &mut memory,
+        &mut stack,
+        0x44,
+        &[1, 0xFFFF_FFFF],
+    )?;
     assert_eq!(rt; closed, Ok(Called::Value(0)));
     assert_eq!(rt; stack.peek(0), Ok(4));
     assert_eq!(rt; stack.peek(1), Ok(0));
@@ -222,13 +245,22 @@ fn a_line_is_shown_and_told(rt: HostRuntime) -> Result<(), Fail> {
         (0xC0, &[256]),
     ];
     for (selector, args) in rows {
-        run(alloc, &mut glk, &mut memory, &mut stack, *selector, args)?.ok().ok_or("no fault")?;
+        run(alloc, &mut glk, &mut memory, &mut stack, *selector, args)?
+            .ok()
+            .ok_or("no fault")?;
     }
     glk.begin_turn();
     let text = read_escaped(alloc, b"=abc").ok().ok_or("a text")?;
-    let line = Input::Line { win: 1, text, key: 0 };
+    let line = Input::Line {
+        win: 1,
+        text,
+        key: 0,
+    };
     assert!(rt; glk.requests.wants(&line));
-    assert_eq!(rt; answer(alloc, &mut glk, &mut memory, &mut stack, &line), Ok(0));
+    assert_eq!(rt;
+        answer(alloc, &mut glk, &mut memory, &mut stack, &line),
+        Ok(0)
+    );
     // the event: 3, the window, the length, and no terminator
     for (at, word) in [(256, 3), (260, 1), (264, 2), (268, 0), (700, 0x6162_0000)] {
         assert_eq!(rt; memory.read4(at), Ok(word));
@@ -252,10 +284,23 @@ fn a_prompt_takes_a_name(rt: HostRuntime) -> Result<(), Fail> {
     // an empty name cancels; a file that is to be read must be there
     let rows: &[(u32, &[u8], u32)] = &[(1, b"=", 0), (2, b"=x", 0), (1, b"=a/b.c", 1)];
     for (mode, name, fref) in rows {
-        let asked = run(alloc, &mut glk, &mut memory, &mut stack, 0x62, &[1, *mode, 0])?;
+        let asked = run(
+            alloc,
+            &mut glk,
+            &mut memory,
+            &mut stack,
+            0x62,
+            &[1, *mode, 0],
+        )?;
         assert_eq!(rt; asked, Ok(Called::Prompt));
         let name = read_escaped(alloc, name).ok().ok_or("a text")?;
-        let given = answer(alloc, &mut glk, &mut memory, &mut stack, &Input::File { name });
+        let given = answer(
+            alloc,
+            &mut glk,
+            &mut memory,
+            &mut stack,
+            &Input::File { name },
+        );
         assert_eq!(rt; given, Ok(*fref));
     }
     for fref in glk.streams.refs() {

@@ -165,16 +165,31 @@ fn drop_all(glk: &mut Glk, depth: usize, win: u32)
     }
 }
 
-// Closes a window, all below it and the pair above it.
-fn close_all(alloc: Global, glk: &mut Glk, win: u32) -> Result<(), Trap>
-    ensures { Changes (Done (rows.closed glk.old win)) glk.new result }
+// Ends what is kept for a window, for all below it and for the pair above it.
+fn drop_closed(glk: &mut Glk, win: u32)
+    ensures { glk.new ≡ rows.closed_dropped glk.old win }
 {
     let pair = glk.windows.parent(win);
     let depth = glk.windows.slots().len();
     drop_all(glk, depth, win);
-    glk.drop_window(pair);
-    glk.windows.close(win);
-    glk.place(alloc)
+    glk.drop_window(pair)
+}
+
+// Closes a window, all below it and the pair above it.
+fn end(glk: &mut Glk, win: u32)
+    ensures { glk.new ≡ rows.ended glk.old win }
+{
+    drop_closed(glk, win);
+    glk.windows.close(win)
+}
+
+// The same, and those that stay get their rectangles.
+fn close_all(alloc: Global, glk: &mut Glk, win: u32) -> Result<(), Trap>
+    ensures { Changes (Done (rows.closed glk.old win)) glk.new result }
+{
+    end(glk, win);
+    glk.place(alloc)?;
+    Ok(())
 }
 
 // Whether the output of this stream goes to the window too.
@@ -418,5 +433,9 @@ pub(crate) fn do_window(
 fn live(glk: &Glk, win: u32, told: u32) -> Result<u32, Trap>
     ensures { Makes (rows.told glk.now win told) result }
 {
-    if glk.is_window(win) { Ok(told) } else { Err(BAD_OBJECT) }
+    if glk.is_window(win) {
+        Ok(told)
+    } else {
+        Err(BAD_OBJECT)
+    }
 }
