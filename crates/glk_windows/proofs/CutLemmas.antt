@@ -146,7 +146,7 @@ pub size_length : (a : ℕ) (ws : List Window) (z up : ℕ) (s : Shape) → Asce
 size_length a ws z up s o t w =
     sym (tally_size a ws z up s o t) ∙ tally_each ws s (λ m e. once_of _ _ (w m) e)
 
-nil_of : (ws : List Window) → ((m : ℕ) → node_of ws m ≡ None) → ws ≡ []
+pub nil_of : (ws : List Window) → ((m : ℕ) → node_of ws m ≡ None) → ws ≡ []
 nil_of [] h = refl
 nil_of (w ∷ ws) h = let i : _ = h w.number in grind (arith, common_steps)
 

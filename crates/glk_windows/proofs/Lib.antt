@@ -10,3 +10,6 @@ pub mod CutLemmas
 pub mod LiftLemmas
 pub mod TestLemmas
 pub mod RectangleLemmas
+pub mod SoundLemmas
+pub mod ValidLemmas
+pub mod StandardFacts

@@ -27,7 +27,7 @@ same-mapped : (o : Option (ℕ × Option p.Pair)) (m n : ℕ) → option_map (λ
 same-mapped None m n = refl
 same-mapped (Some x) m n = grind (arith, common_steps)
 
-node_same : (f : Window → Window) (num : (w : Window) → (f w).number ≡ w.number)
+pub node_same : (f : Window → Window) (num : (w : Window) → (f w).number ≡ w.number)
     (nd : (w : Window) → ◌≡◌ {A = ℕ × Option p.Pair} ((f w).parent, bare_in (f w)) (w.parent, bare_in w))
     → (ws : List Window) (n m : ℕ) → node_of (set_at f ws n) m ≡ node_of ws m
 node_same f num nd ws n m = node_set_at f (λ x. x) num nd ws n m ∙ same-mapped (node_of ws m) m n

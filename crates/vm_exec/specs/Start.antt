@@ -12,6 +12,7 @@ use Rattle.vm_exec.specs.Machine.{no_heap}
 use Rattle.vm_exec.specs.Random.{seeded}
 use Rattle.vm_exec.specs.Rules.{stored}
 use Rattle.vm_exec.specs.declared.machine.Machine.{Machine}
+use Rattle.vm_exec.specs.declared.text.Text.TheVariants.{Off}
 
 -- the memory of a file
 abbrev pub image_memory : List ℕ → MemoryMap
@@ -32,6 +33,7 @@ started file seed =
       mode = 0;
       rock = 0;
       string_table = string_table file;
+      text = Off;
       waiting = Discard;
       verified = verified file;
       heap = no_heap;

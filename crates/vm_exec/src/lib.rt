@@ -9,20 +9,25 @@ mod heap;
 mod machine;
 mod math;
 mod moving;
+mod number;
 mod operand;
 mod output;
 mod parts;
 mod perform;
 mod random;
 mod search;
+mod searching;
 mod state;
 mod step;
 mod system;
 #[cfg(test)]
 mod tests;
+mod text;
+mod text_stub;
 mod trap;
 mod undo;
 mod values;
 
 pub use machine::Machine;
 pub use step::{Done, Out, Step};
+pub use text::Text;

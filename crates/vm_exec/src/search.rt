@@ -61,9 +61,11 @@ impl<'i> Machine<'i> {
         match op {
             Search::Mzero => self.mzero(args[0], args[1], left),
             Search::Mcopy => self.mcopy(args[0], args[1], args[2], left),
+            Search::Linearsearch => self.linearsearch(args, to[0], left),
+            Search::Binarysearch => self.binarysearch(args, to[0], left),
+            Search::Linkedsearch => self.linkedsearch(args, to[0], left),
             Search::Malloc => self.malloc(args[0], to[0], left),
             Search::Mfree => self.mfree(args[0], left),
-            Search::Linearsearch | Search::Binarysearch | Search::Linkedsearch => Err(NOT_YET),
         }
     }
 }

@@ -17,6 +17,8 @@ pub(crate) const BAD_OPCODE: Trap = Trap::Fault(6);
 
 pub(crate) const BAD_STUB: Trap = Trap::Fault(13);
 
+pub(crate) const BAD_STRING: Trap = Trap::Fault(15);
+
 pub(crate) const DEBUG_TRAP: Trap = Trap::Fault(18);
 
 /// A size that memory or a block may not have.
