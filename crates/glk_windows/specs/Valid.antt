@@ -1,7 +1,12 @@
 -- Which windows are valid (Glk 0.7.5, "The Window Tree").
-use Rattle.std.specs.Prelude.{◌≡◌, ℕ, ◌+◌, ◌≤◌, ◌<◌, List, [], ◌∷◌, Option, Some, None}
+use Rattle.std.specs.Prelude.{◌≡◌, ℕ, ◌+◌, ◌*◌, ◌==◌, ◌&&◌, if◌then◌else◌, ◌≤◌, ◌<◌, Bool, true, List, [], ◌∷◌, length}
 use Rattle.glk_windows.specs.declared.window.Window.{Window}
+use Rattle.glk_windows.specs.declared.window.Area.{Area}
+use Rattle.glk_windows.specs.declared.window.Content.{Content}
+use Rattle.glk_windows.specs.declared.window.Content.TheVariants.{Pair, Blank, Buffer, Grid}
 use Rattle.glk_windows.specs.Tree.{WindowTree}
+use Rattle.glk_windows.specs.Arranging.{is_method}
+use Rattle.glk_windows.specs.OneTree.{is_tree, tree_of, are_keyed}
 
 -- the numbers ascend from the first on, below the last
 abbrev pub Ascends : ℕ → List Window → ℕ → Type 0
@@ -11,3 +16,29 @@ Ascends first (w ∷ ws) last = (first ≤ w.number) × (w.number < last) × Asc
 -- numbers are from 1 on, ascend, and lie below the next one
 unfoldable pub IsOrdered : WindowTree → Type 0
 IsOrdered t = Ascends 1 t.slots t.next
+
+-- a pair's method is one, and a grid has the size of its rectangle and all its cells
+abbrev pub is_sound_content : Content → Area → Bool
+is_sound_content (Pair p) a = is_method p.method
+is_sound_content Blank a = true
+is_sound_content (Buffer b) a = true
+is_sound_content (Grid g) a = g.w == a.w && (g.h == a.h && length g.cells == g.h * g.w)
+
+abbrev pub is_sound : Window → Bool
+is_sound w = is_sound_content w.content w.area
+
+abbrev pub are_sound : List Window → Bool
+are_sound [] = true
+are_sound (w ∷ ws) = is_sound w && are_sound ws
+
+-- no window, or all of them one tree below the root
+abbrev pub is_one_tree : WindowTree → Bool
+is_one_tree t = if t.root == 0 then length t.slots == 0 else is_tree t
+
+-- the windows of a story, as its calls make and keep them
+pub record IsValid (t : WindowTree) : Type 0 where
+  pub ordered : IsOrdered t
+  pub one_tree : is_one_tree t ≡ true
+  pub keyed : are_keyed t.slots (tree_of t) ≡ true
+  pub few : length t.slots ≤ 64
+  pub sound : are_sound t.slots ≡ true

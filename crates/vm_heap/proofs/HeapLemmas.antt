@@ -125,3 +125,7 @@ in_order-below from b (c ∷ bs) h =
 pub start-below : (start : ℕ) (bs : List Block) → IsTrue (is_heap start bs) → start ≤ heap_end bs
 start-below start [] h = grind (arith, common_steps)
 start-below start (b ∷ bs) h = in_order-below start b bs (is_heap-order start (b ∷ bs) h)
+
+pub start_within : (start : ℕ) (bs : List Block) → IsTrue (is_heap start bs) → start ≤ 16777216
+start_within start [] h = grind (arith, common_steps)
+start_within start (b ∷ bs) h = in_order-limit start (b ∷ bs) (is_heap-order start (b ∷ bs) h)

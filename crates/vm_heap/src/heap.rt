@@ -59,6 +59,7 @@ impl Heap {
     /// Where it begins, or 0 where it isn't active.
     pub fn start(&self) -> u32
         ensures value { result ≡ self.now.start }
+        ensures within { result ≤ MAX_SIZE }
     {
         self.start
     }

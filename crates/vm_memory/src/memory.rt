@@ -74,6 +74,7 @@ impl<'i> Memory<'i> {
     /// Makes it the original memory again (Glulx 3.1.3, "Game State").
     pub fn reset(&mut self)
         ensures ok { self.new ≡ reset self.old }
+        ensures size { length self.new.bytes ≡ self.new.endmem }
     {
         self.bytes.truncate(self.endmem as usize);
         begin_with(&mut self.bytes, self.rom);

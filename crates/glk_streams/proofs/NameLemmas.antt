@@ -1,0 +1,77 @@
+-- How a name is cleaned, character by character.
+use Rattle.std.proofs.Common.{◌≡◌, ◌≢◌, ◌<◌, ◌-◌, ◌+◌, ℕ, suc, true, false, List, [], ◌∷◌, ◌++◌, refl, sym, ap, ◌∙◌, arith, length}
+use Rattle.std.proofs.lemmas.Grind.{common_steps}
+use Rattle.std.proofs.lemmas.Str.{chars-append, chars-IsAscii, chars-nil, chars_past_char, length-encode, IsUtf8-encode}
+use Rattle.std.specs.Char.{encode_utf8, IsScalar}
+use Rattle.std.specs.Str.{chars, encode_utf8_all, IsUtf8, IsAscii}
+use Rattle.std.specs.Prelude.{codes}
+use mathlib.Core.List.{append-nil, append_assoc}
+use Rattle.glk_streams.specs.Names.{is_taken_out, before_period, cut, cleaned, or_null}
+
+pub cut-none : (cs : List ℕ) → cut 0 cs ≡ []
+cut-none cs = refl
+
+pub cut-nil : (n : ℕ) → cut n [] ≡ []
+unfolding before_period
+cut-nil n = grind (arith, common_steps)
+
+pub cut-period : (n : ℕ) (cs : List ℕ) → cut n (0x2E ∷ cs) ≡ []
+unfolding before_period
+cut-period n cs = grind (arith, common_steps)
+
+pub cut-out : (n c : ℕ) (cs : List ℕ) → is_taken_out c ≡ true → cut n (c ∷ cs) ≡ cut n cs
+cut-out n c cs e = rw e refl
+
+pub cut-in : (n m c : ℕ) (cs : List ℕ) → is_taken_out c ≡ false → c ≢ 0x2E → n ≡ m + 1 → cut n (c ∷ cs) ≡ c ∷ cut m cs
+unfolding before_period
+cut-in n m c cs e h s = let t : n ≡ suc m = omega (arith, s) in rw (t, e) (grind (arith, common_steps, h))
+
+pub or_null-empty : (cs : List ℕ) → length (encode_utf8_all cs) ≡ 0 → codes "null" ≡ or_null cs
+or_null-empty [] e = refl
+or_null-empty (c ∷ cs) e = absurd (grind (arith, common_steps, length-encode c))
+
+pub or_null-some : (cs : List ℕ) → length (encode_utf8_all cs) ≢ 0 → cs ≡ or_null cs
+or_null-some [] e = absurd (e refl)
+or_null-some (c ∷ cs) e = refl
+
+chars-encode : (c : ℕ) → IsScalar c → chars (encode_utf8 c) ≡ c ∷ []
+chars-encode c h =
+    chars_past_char (encode_utf8 c) [] c (IsUtf8-encode c h) (sym (append-nil (encode_utf8 c)))
+    ∙ ap (λ cs. c ∷ cs) chars-nil
+
+pub pushed : (old new : List ℕ) (c n : ℕ) (rest : List ℕ) → IsUtf8 old → IsScalar c → new ≡ old ++ encode_utf8 c
+    → is_taken_out c ≡ false → c ≢ 0x2E → n < 64
+    → chars new ++ cut (64 - (n + 1)) rest ≡ chars old ++ cut (64 - n) (c ∷ rest)
+pushed old new c n rest u h e out period room =
+    let split : chars new ≡ chars old ++ c ∷ [] =
+    ap chars e ∙ chars-append old (encode_utf8 c) u ∙ ap (λ cs. chars old ++ cs) (chars-encode c h) in
+    let first : cut (64 - n) (c ∷ rest) ≡ c ∷ cut (64 - (n + 1)) rest =
+    cut-in (64 - n) (64 - (n + 1)) c rest out period (omega (arith, room)) in
+    rw (split, first) (append_assoc (chars old) (c ∷ []) (cut (64 - (n + 1)) rest))
+
+pub period_ends : (xs rest all : List ℕ) (n c : ℕ) → c ≡ 0x2E → xs ++ cut n (c ∷ rest) ≡ all → xs ≡ all
+period_ends xs rest all n c e h =
+    sym (append-nil xs) ∙ ap (λ ys. xs ++ ys) (sym (rw e (cut-period n rest))) ∙ h
+
+pub end_ends : (xs all : List ℕ) (n : ℕ) → xs ++ cut n [] ≡ all → xs ≡ all
+end_ends xs all n h = sym (append-nil xs) ∙ ap (λ ys. xs ++ ys) (sym (cut-nil n)) ∙ h
+
+temp : chars (codes ".temp") ≡ codes ".temp"
+unfolding chars
+temp = refl
+
+temp_utf8 : IsUtf8 (codes ".temp")
+unfolding encode_utf8
+temp_utf8 = (codes ".temp", (refl, refl))
+
+pub temp_chars : (d : List ℕ) → IsAscii d → chars (codes ".temp" ++ d) ≡ codes ".temp" ++ d
+temp_chars d h =
+    chars-append (codes ".temp") d temp_utf8 ∙ ap (λ t. t ++ chars d) temp ∙ ap (λ t. codes ".temp" ++ t) (chars-IsAscii d h)
+
+null_bytes : chars (codes "null") ≡ codes "null"
+unfolding chars
+null_bytes = refl
+
+pub null_of : (name clean : List ℕ) → clean ≡ cut 64 name → length (encode_utf8_all clean) ≡ 0
+    → chars (codes "null") ≡ cleaned name
+null_of name clean e h = null_bytes ∙ or_null-empty clean h ∙ ap or_null e

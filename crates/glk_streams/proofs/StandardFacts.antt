@@ -1,0 +1,51 @@
+-- Values that the profile of Glk gives, so that a wrong rule in the definitions does not check.
+use Rattle.std.proofs.Common.{◌≡◌, [], ◌∷◌, refl}
+use Rattle.std.specs.Char.{encode_utf8}
+use Rattle.std.specs.Prelude.{codes}
+use Rattle.glk_streams.specs.Coding.{kept, units_of}
+use Rattle.glk_streams.specs.FileRefs.{style_of}
+use Rattle.glk_streams.specs.Files.{kind_of}
+use Rattle.glk_streams.specs.Names.{cleaned, before_period}
+use Rattle.glk_streams.specs.Position.{away}
+use Rattle.glk_streams.specs.declared.coding.Coding.TheVariants.{Latin1, Utf8, Utf32}
+
+pub a_slash_and_an_ending_go : cleaned (codes "a/b.c") ≡ codes "ab"
+unfolding before_period
+a_slash_and_an_ending_go = refl
+
+pub periods_alone_are_null : cleaned (codes "...") ≡ codes "null"
+unfolding before_period
+periods_alone_are_null = refl
+
+pub a_question_mark_goes : cleaned (codes "x?y") ≡ codes "xy"
+unfolding before_period
+a_question_mark_goes = refl
+
+pub utf8_of_e_acute : kept Utf8 0xE9 ≡ 0xC3 ∷ 0xA9 ∷ []
+unfolding encode_utf8
+utf8_of_e_acute = refl
+
+pub byte_of_e_acute : kept Latin1 0xE9 ≡ 0xE9 ∷ []
+byte_of_e_acute = refl
+
+pub byte_of_a_wide_code : kept Latin1 0x100 ≡ 0x3F ∷ []
+byte_of_a_wide_code = refl
+
+pub utf8_of_a_surrogate : kept Utf8 0xD800 ≡ 0x3F ∷ []
+unfolding encode_utf8
+utf8_of_a_surrogate = refl
+
+pub words_have_four_bytes : kept Utf32 0xE9 ≡ 0 ∷ 0 ∷ 0 ∷ 0xE9 ∷ []
+words_have_four_bytes = refl
+
+pub three_bytes_are_no_word : units_of Utf32 (1 ∷ 2 ∷ 3 ∷ []) ≡ 0
+three_bytes_are_no_word = refl
+
+pub a_saved_game_in_text_mode : kind_of 0x101 ≡ 1
+a_saved_game_in_text_mode = refl
+
+pub style_eleven_is_normal : style_of 11 ≡ 0
+style_eleven_is_normal = refl
+
+pub one_back_from_three : away 5 3 0xFFFFFFFF ≡ 2
+one_back_from_three = refl

@@ -1,0 +1,14 @@
+pub mod Streams
+pub mod Files
+pub mod Answer
+pub mod Stop
+pub mod Opening
+pub mod Coding
+pub mod Output
+pub mod Input
+pub mod Position
+pub mod FileRefs
+pub mod Names
+pub mod Valid
+pub mod Laws
+pub mod RoundTrip

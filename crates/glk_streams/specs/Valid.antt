@@ -1,0 +1,69 @@
+-- Streams, file references and files that a session may have (Glk 0.7.5, "Opaque Objects"; own:
+-- the limits).
+use Rattle.std.specs.Prelude.{ℕ, ◌==◌, ◌&&◌, ◌||◌, nat_le, nat_lt, Bool, true, List, [], ◌∷◌, length}
+use Rattle.std.specs.Ordering.{is_lt, nat_cmp}
+use Rattle.std.specs.Cmp.Lexicographic.{slice_cmp}
+use Rattle.glk_numbers.specs.Numbered.{has, ascends}
+use Rattle.glk_streams.specs.Files.{file_key, bytes_of}
+use Rattle.glk_streams.specs.Opening.{count_of, is_memory_mode, is_file_mode}
+use Rattle.glk_streams.specs.Streams.{StreamTable, number_of, ref_number_of}
+use Rattle.glk_streams.specs.declared.file.TheConstants.{MAX_FILES, MAX_FILE_BYTES}
+use Rattle.glk_streams.specs.declared.fileref.TheConstants.{MAX_REFS}
+use Rattle.glk_streams.specs.declared.stream.TheConstants.{MAX_STREAMS}
+use Rattle.glk_streams.specs.declared.file.File as file
+use Rattle.glk_streams.specs.declared.fileref.FileRef.{FileRef}
+use Rattle.glk_streams.specs.declared.stream.Stream.{Stream}
+use Rattle.glk_streams.specs.declared.stream.Target.{Target}
+use Rattle.glk_streams.specs.declared.stream.Target.TheVariants.{Window, Memory, File}
+
+-- a mode that a stream of this kind may have; a window's stream is written
+abbrev pub is_mode : Target → ℕ → Bool
+is_mode (Window win) mode = mode == 1
+is_mode (Memory buf len) mode = is_memory_mode mode
+is_mode (File usage name) mode = is_file_mode mode
+
+unfoldable pub are_modes : List Stream → Bool
+are_modes [] = true
+are_modes (s ∷ ss) = is_mode s.target s.mode && are_modes ss
+
+-- the next number is from 1 on, and is one that may be given or the first that may not
+abbrev pub is_next : ℕ → Bool
+is_next n = nat_lt 0 n && nat_le n 4294967295
+
+-- this stream is current: a live one, or none
+abbrev pub is_current : List Stream → ℕ → Bool
+is_current ss current = current == 0 || has number_of ss current
+
+-- streams by number with modes of their kinds, at most 64 besides those of windows
+abbrev pub are_streams : ℕ → ℕ → List Stream → Bool
+are_streams next current ss =
+    is_next next && ascends number_of 0 next ss && are_modes ss && nat_le (count_of ss) MAX_STREAMS
+    && is_current ss current
+
+-- at most 64 file references by number
+abbrev pub are_refs : ℕ → List FileRef → Bool
+are_refs next rs = is_next next && ascends ref_number_of 0 next rs && nat_le (length rs) MAX_REFS
+
+-- the file's key is before that of the first of these
+abbrev pub is_first : file.File → List file.File → Bool
+is_first f [] = true
+is_first f (g ∷ gs) = is_lt (slice_cmp nat_cmp (file_key f) (file_key g))
+
+-- the files' keys ascend, so that they differ by usage or name
+unfoldable pub in_order : List file.File → Bool
+in_order [] = true
+in_order (f ∷ fs) = is_first f fs && in_order fs
+
+unfoldable pub are_kinds : List file.File → Bool
+are_kinds [] = true
+are_kinds (f ∷ fs) = nat_lt f.usage 16 && are_kinds fs
+
+-- at most 64 files in order, of at most 1,048,576 bytes in sum
+abbrev pub are_files : List file.File → Bool
+are_files fs =
+    in_order fs && are_kinds fs && nat_le (length fs) MAX_FILES
+    && nat_le (bytes_of fs) MAX_FILE_BYTES
+
+abbrev pub is_valid : StreamTable → Bool
+is_valid t =
+    are_streams t.next t.current t.streams && are_refs t.next_ref t.refs && are_files t.files

@@ -1,0 +1,96 @@
+//! What a character that is read does (Glk 0.7.5, "Streams").
+
+ghost use Rattle.std.specs.Prelude.{◌≡◌, ◌≤◌, ◌<◌, ◌+◌, ◌^◌, IfOk, IfSome, OnErr};
+ghost use Rattle.glk_streams.specs.Answer.{Answers, Gives};
+ghost use Rattle.glk_streams.specs.Coding.{unit_of};
+ghost use Rattle.glk_streams.specs.Input as input;
+ghost use Rattle.vm_memory.specs.Access as access;
+
+use crate::coding::{Coding, Reading};
+use crate::fault::StreamStop;
+use crate::file::{File, content_of};
+use crate::find::find;
+use crate::output::{address_of, length_of};
+use crate::stream::{Stream, Target};
+use crate::streams::Streams;
+use vm_memory::{MemFault, Memory};
+
+/// Reads a character's number from as many bytes as a position has.
+fn read(memory: &Memory, coding: Coding, at: u32) -> Result<u32, MemFault>
+    ensures { result ≡ access.read (unit_of coding) memory.now at }
+{
+    match coding {
+        Coding::Latin1 | Coding::Utf8 => memory.read1(at),
+        Coding::Utf32 => memory.read4(at),
+    }
+}
+
+/// A character out of a buffer; None at its end.
+fn get_from_memory(
+    memory: &Memory,
+    place: u32,
+    buf: u32,
+    len: u32,
+    coding: Coding,
+) -> Result<Option<Reading>, StreamStop>
+    ensures value { Answers (input.got_from_memory memory.now place buf len coding) result }
+    ensures fits { IfOk result (λ r. IfSome r (λ r. place + r.steps < 2 ^ 32)) }
+{
+    if place >= length_of(buf, len) {
+        return Ok(None);
+    }
+    let code = read(memory, coding, address_of(coding, buf, place))?;
+    Ok(Some(Reading { code, steps: 1 }))
+}
+
+/// A character of a stream that is open for reading; None at its end.
+fn get_by(files: &[File], memory: &Memory, stream: &Stream) -> Result<Option<Reading>, StreamStop>
+    ensures value { Answers (input.got_by files.now memory.now stream.now) result }
+    ensures fits { IfOk result (λ r. IfSome r (λ r. stream.now.place + r.steps < 2 ^ 32)) }
+{
+    if !stream.is_readable() {
+        return Err(StreamStop::BadArgument);
+    }
+    match &stream.target {
+        Target::Window(_) => Err(StreamStop::BadArgument),
+        Target::Memory { buf, len } => {
+            get_from_memory(memory, stream.place, *buf, *len, stream.coding())
+        }
+        Target::File { usage, name } => {
+            let bytes = content_of(files, *usage, name);
+            Ok(stream.coding().read(bytes, stream.place))
+        }
+    }
+}
+
+impl Stream {
+    /// One character more was read.
+    fn count_read(&mut self, reading: Reading)
+        requires { self.old.place + reading.steps < 2 ^ 32 }
+        ensures { self.new ≡ input.passed reading self.old }
+    {
+        self.place += reading.steps;
+        self.read = self.read.wrapping_add(1);
+    }
+}
+
+impl Streams {
+    /// The code of a stream's next character, which the stream counts; None at its end. A plain
+    /// call takes a code above 255 for `?`. BadObject where the stream isn't live; BadArgument
+    /// where it isn't open for reading, as no window's is; BadRead where its buffer can't be read.
+    pub fn get(&mut self, memory: &Memory, stream: u32) -> Result<Option<u32>, StreamStop>
+        ensures value { Gives (input.got self.old memory.now stream) self.new result }
+        ensures err { OnErr result (self.new ≡ self.old) }
+    {
+        match find(&self.streams, stream) {
+            None => Err(StreamStop::BadObject),
+            Some(at) => match get_by(&self.files, memory, &self.streams[at])? {
+                None => Ok(None),
+                Some(reading) => {
+                    self.streams[at].count_read(reading);
+                    Ok(Some(reading.code))
+                }
+            },
+        }
+    }
+}
