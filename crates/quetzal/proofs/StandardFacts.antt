@@ -9,9 +9,11 @@ pub letters : name (codes "CMem") ≡ 0x434D656D
 letters = refl
 
 pub a_change_behind_zeros : coded 0 (0 ∷ 0 ∷ 7 ∷ 0 ∷ []) ≡ 0 ∷ 1 ∷ 7 ∷ []
+unfolding zeros
 a_change_behind_zeros = refl
 
 pub a_run_of_257 : zeros 257 ≡ 0 ∷ 255 ∷ 0 ∷ 0 ∷ []
+unfolding zeros
 a_run_of_257 = refl
 
 pub a_run_and_a_change : restored false (1 ∷ 2 ∷ 3 ∷ []) (0 ∷ 1 ∷ 4 ∷ []) ≡ Some (1 ∷ 2 ∷ 7 ∷ [])

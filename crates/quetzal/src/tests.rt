@@ -113,18 +113,26 @@ fn saves_are_read_or_refused_by_their_first_cause(rt: HostRuntime) -> Result<(),
     Ok(())
 }
 
+/// The save that is written of the state that the bytes spell.
+fn written_again(alloc: Global, bytes: &[u8], image: &Image<'_>) -> Result<Vec<u8>, Fail> {
+    match read(alloc, bytes, image) {
+        Ok(state) => {
+            if state.memory.read2(0x100) != Ok(0x676F) || state.memory.read4(0x124) != Ok(1) {
+                return Err(Fail::from("the memory of the save"));
+            }
+            Ok(write(alloc, &state, image)?)
+        }
+        Err(_) => Err(Fail::from("a state")),
+    }
+}
+
 #[test]
 fn a_state_is_written_and_read_again(rt: HostRuntime) -> Result<(), Fail> {
     let file = story(1);
     let image = Image::parse(&file).ok().ok_or("an image")?;
     let parts: [Part; 2] = [(b"Stks", &STACK), (b"CMem", &CMEM)];
     let bytes = form(rt.alloc(), &file[..128], &parts)?;
-    let state = read(rt.alloc(), bytes.as_slice(), &image)
-        .ok()
-        .ok_or("a state")?;
-    assert!(rt; state.memory.read2(0x100) == Ok(0x676F));
-    assert!(rt; state.memory.read4(0x124) == Ok(1));
-    let written = write(rt.alloc(), &state, &image).ok().ok_or("memory")?;
+    let written = written_again(rt.alloc(), bytes.as_slice(), &image)?;
     let chunk = b"CMem\0\0\0\x0F\0\0\x02\0\x67\x6F\0\x20\x03\0\x02\x01\0\x02\x02\0";
     assert!(rt; written.len() == 148 + 24 + 36);
     assert!(rt; written[148..172] == chunk[..]);
