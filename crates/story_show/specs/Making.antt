@@ -40,7 +40,8 @@ buffer_parts id b = (if b.cleared then Clear id ∷ [] else []) ++ map (run_part
 -- so many rows of a grid from row y on
 unfoldable pub row_parts : ℕ → ℕ → ℕ → ℕ → List ℕ → List Part
 row_parts zero id y w cells = []
-row_parts (suc n) id y w cells = GridRow id y (take w cells) ∷ row_parts n id (y + 1) w (drop w cells)
+row_parts (suc n) id y w cells =
+    GridRow id y (take w cells) ∷ row_parts n id (y + 1) w (drop w cells)
 
 abbrev pub content_parts : Content → ℕ → List Part
 content_parts (Pair p) id = []
