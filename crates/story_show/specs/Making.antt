@@ -4,7 +4,6 @@ use Rattle.std.specs.List.{flat_map}
 use Rattle.glk_windows.specs.declared.window.Window.{Window}
 use Rattle.glk_windows.specs.declared.window.Area.{Area}
 use Rattle.glk_windows.specs.declared.window.Buffer as b
-use Rattle.glk_windows.specs.declared.window.Grid as g
 use Rattle.glk_windows.specs.declared.text.Run as r
 use Rattle.glk_windows.specs.declared.window.Content.{Content}
 use Rattle.glk_windows.specs.declared.window.Content.TheVariants.{Pair, Blank, Buffer, Grid}
