@@ -1,9 +1,21 @@
-//! What a player gives a story: a line, a character or a file's name.
+//! What windows ask a player for, and the delivery of what a player gives.
 #![tactic(auto)]
 
+mod deliver;
+mod event;
 mod input;
+pub mod keycode;
+mod keys;
+mod laws;
+mod request;
+mod requests;
 
+pub use event::Event;
 pub use input::Input;
+pub use keys::{Keys, MAX_KEYS};
+pub use laws::windows_stay_valid;
+pub use request::{LineRequest, Request, WindowInput};
+pub use requests::Requests;
 
 #[cfg(test)]
 mod tests;

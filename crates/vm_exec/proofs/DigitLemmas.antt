@@ -61,8 +61,9 @@ before n ds i h ih = get_or_append_left ds ((48 + n % 10) ∷ []) 0 i h ∙ (ih 
 
 more : (n : ℕ) (ds : List ℕ) → 10 ≤ n → Digits (n / 10) ds → Digits n (ds ++ ((48 + n % 10) ∷ []))
 more n ds h ih i below = elim (nat_lt i (length ds)) as (λ b. (b ≡ true → i < length ds) → (b ≡ false → length ds ≤ i) → get_or (ds ++ ((48 + n % 10) ∷ [])) i 0 ≡ n / 10 ^ (length (ds ++ ((48 + n % 10) ∷ [])) - 1 - i) % 10 + 48) [
-    true ↦ (λ here past. before n ds i (here refl) (ih i (here refl)))
-    | false ↦ (λ here past. at_last n ds i (omega (arith, length-append ds ((48 + n % 10) ∷ []), past refl))) ] (in_it i (length ds)) (past_it i (length ds))
+  | true ↦ (λ here past. before n ds i (here refl) (ih i (here refl)))
+  | false ↦ (λ here past. at_last n ds i (omega (arith, length-append ds ((48 + n % 10) ∷ []), past refl)))
+] (in_it i (length ds)) (past_it i (length ds))
 
 one : (n : ℕ) → n < 10 → Digits n ((48 + n) ∷ [])
 one n h zero below = omega (arith, div-one n)

@@ -27,6 +27,7 @@ use Rattle.vm_undo.specs.UndoList.{newest, without_newest, with_newest}
 use Rattle.vm_undo.specs.declared.saved.Saved.{Saved}
 use Rattle.vm_exec.specs.Machine.{IsMapped, IsFit, no_heap}
 use Rattle.vm_exec.specs.declared.machine.Machine.{Machine}
+use Rattle.vm_exec.specs.declared.text.Text.TheVariants.{Off}
 use Rattle.vm_exec.specs.Rows.Undo.{saved_state}
 use Rattle.vm_exec.specs.Rows.Heap.{memory_end, with_heap}
 
@@ -203,12 +204,13 @@ resized-size m n =
     length-append (take n m.bytes) (replicate (n - length m.bytes) 0) ∙ omega (arith, front, zeros)
 
 -- memory that ends elsewhere
-pub ended-fit : (m : Machine) (end : ℕ) → IsMapped (origin_of m.memory) (max m.memory.endmem end) m.heap m.undo → Chain m.stack → HasFrame m.stack
+pub ended-fit : (m : Machine) (end : ℕ) → IsMapped (origin_of m.memory) (max m.memory.endmem end) m.heap m.undo → Chain m.stack → HasFrame m.stack → m.text ≡ Off
     → IsFit (with_heap m m.heap end)
-ended-fit m end map frames frame = record {
+ended-fit m end map frames frame still = record {
   map = subst (λ n. IsMapped (origin_of m.memory) n m.heap m.undo) (sym (resized-size m.memory (max m.memory.endmem end))) map;
   frames = frames;
   frame = frame;
+  still = still;
 }
 
 loaded-there : (s t : StackState) (bytes : List ℕ) → loaded s bytes ≡ Ok t → 0 < length bytes → HasFrame t
@@ -233,6 +235,7 @@ state-fit m s memory stack heap bytes blocks bytes_are blocks_are keeps is load 
           (subst (λ h. IsMapped (origin_of m.memory) (length s.memory.bytes) h m.undo) (sym (is ∙ ap (λ (bs : List Block). record { start = s.heap_start; blocks = bs }) blocks_are)) map));
       frames = chain (subst LinkedFrames (sym bytes_are) saved.saved.stack.linked);
       frame = loaded-there m.stack stack bytes load (subst (λ (xs : List ℕ). 0 < length xs) (sym bytes_are) saved.saved.stack.some);
+      still = fit.still;
     }
 
 -- a state more is kept
@@ -245,6 +248,7 @@ kept-fit m s states is kept fit ready =
           (kept-mapped (origin_of m.memory) (length m.memory.bytes) m.heap m.undo s fit.map saved);
       frames = fit.frames;
       frame = fit.frame;
+      still = fit.still;
     }
 
 -- the newest state is taken
@@ -254,16 +258,17 @@ taken-fit m states is fit = record {
       (taken-mapped (origin_of m.memory) (length m.memory.bytes) m.heap m.undo fit.map);
   frames = fit.frames;
   frame = fit.frame;
+  still = fit.still;
 }
 
 pub ended : (m new : Machine) (end n : ℕ) (r : Result (Unit {0}) Trap) → n ≡ max m.memory.endmem end → Changes (Ok (record m { memory = resized m.memory n })) new r
-    → IsMapped (origin_of m.memory) (max m.memory.endmem end) m.heap m.undo → Chain m.stack → HasFrame m.stack → OnOk r (IsFit new)
-ended m new end n (Ok x) is e map frames frame =
+    → IsMapped (origin_of m.memory) (max m.memory.endmem end) m.heap m.undo → Chain m.stack → HasFrame m.stack → m.text ≡ Off → OnOk r (IsFit new)
+ended m new end n (Ok x) is e map frames frame still =
     let same : record m { memory = resized m.memory n } ≡ new = cc in
     let whole : with_heap m m.heap end ≡ new = ap (λ (k : ℕ). record m { memory = resized m.memory k }) (sym is) ∙ same in
-    subst IsFit whole (ended-fit m end map frames frame)
-ended m new end n (Err (Fault k)) is e map frames frame = tt
-ended m new end n (Err NoMemory) is e map frames frame = tt
+    subst IsFit whole (ended-fit m end map frames frame still)
+ended m new end n (Err (Fault k)) is e map frames frame still = tt
+ended m new end n (Err NoMemory) is e map frames frame still = tt
 
 pub allocated-map : (m : Machine) (k size x end : ℕ) (answer : Option ℕ) (new : HeapMap) → k ≡ length m.memory.bytes → malloced m.heap size k ≡ (answer, new) → answer ≡ Some x
     → end ≡ heap_end new.blocks → end ≤ 16777216 → IsTrue (is_heap new.start new.blocks) → IsFit m → IsMapped (origin_of m.memory) (max m.memory.endmem end) new m.undo

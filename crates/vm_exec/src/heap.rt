@@ -4,6 +4,7 @@ ghost use Rattle.std.specs.Prelude.{◌≡◌, ◌≤◌, ◌<◌, ◌/◌, max,
 ghost use Rattle.vm_exec.specs.Answer.{Changes, Does};
 ghost use Rattle.vm_exec.specs.Machine.{IsFit, IsMapped, StaysFit};
 ghost use Rattle.vm_exec.specs.Rows.Heap as rows;
+ghost use Rattle.vm_exec.specs.declared.text.Text.TheVariants.{Off};
 ghost use Rattle.vm_exec.specs.Rows.Work.{Costs, budgeted};
 ghost use Rattle.vm_stack.specs.Chain.{Chain, HasFrame};
 ghost use Rattle.vm_heap.specs.HeapMap.{heap_end, is_heap};
@@ -38,7 +39,8 @@ impl<'i> Machine<'i> {
             self.new result }
         ensures fit { IsMapped (origin_of self.old.memory) (max self.old.memory.endmem end)
             self.old.heap self.old.undo
-            → Chain self.old.stack → HasFrame self.old.stack → OnOk result (IsFit self.new) }
+            → Chain self.old.stack → HasFrame self.old.stack → self.old.text ≡ Off
+            → OnOk result (IsFit self.new) }
     {
         let least = self.memory.endmem();
         let _size = self.memory.size();

@@ -3,8 +3,8 @@
 ghost use Rattle.std.specs.Prelude.{◌≡◌, ◌%◌, ◌<◌, [], length, IfOk, OnOk, Ok};
 ghost use Rattle.vm_exec.specs.Answer.{Changes, Does, Makes};
 ghost use Rattle.vm_exec.specs.Fault.{flowed};
-ghost use Rattle.vm_exec.specs.Machine.{GoesOnFit, IsFit, IsMapped, IsSound, no_heap};
 ghost use Rattle.vm_exec.specs.Row.{IsPriced, charged, due, fetched, row, told};
+ghost use Rattle.vm_exec.specs.Machine.{GoesOnFit, IsFit, IsMapped, IsSound, no_heap};
 ghost use Rattle.vm_exec.specs.Start as start;
 ghost use Rattle.vm_exec.specs.Start.{finished, started};
 ghost use Rattle.vm_exec.specs.declared.text.Text.TheVariants as text;
@@ -111,13 +111,7 @@ impl<'i> Machine<'i> {
     }
 
     // One tick, and then the next piece of the string.
-    fn piece(
-        &mut self,
-        alloc: Global,
-        cursor: Cursor,
-        held: bool,
-        left: u64,
-    ) -> Result<Step, Trap>
+    fn piece(&mut self, alloc: Global, cursor: Cursor, held: bool, left: u64) -> Result<Step, Trap>
         requires { 0 < left }
         ensures does { Does
             (told left (charged (due self.old (text.Pieces cursor held))))

@@ -9,7 +9,7 @@ ghost use Rattle.vm_exec.specs.Rows.Work.{Costs, budgeted};
 
 use crate::Machine;
 use crate::step::{Done, Out};
-use crate::trap::{NOT_YET, charge};
+use crate::trap::charge;
 use vm_memory::Trap;
 use vm_operand::{Dest, Search};
 

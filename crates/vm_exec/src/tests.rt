@@ -1,6 +1,8 @@
 mod heap;
 mod random;
+mod searches;
 mod state;
+mod strings;
 
 use crate::{Machine, Step};
 use glulx_image::Image;
@@ -9,7 +11,7 @@ use std::test::Fail;
 use vm_memory::Trap;
 
 // A story with code from byte 36 on, one page in the file, and a page of RAM behind it.
-fn story(code: &[u8]) -> [u8; 256] {
+pub(crate) fn story(code: &[u8]) -> [u8; 256] {
     story_to(2, code)
 }
 

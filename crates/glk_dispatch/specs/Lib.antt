@@ -1,0 +1,15 @@
+pub mod Answer
+pub mod Fault
+pub mod Arguments
+pub mod Reference
+pub mod Glk
+pub mod Selector
+pub mod Output
+pub mod Style
+pub mod Windows
+pub mod Streams
+pub mod FileRefs
+pub mod Case
+pub mod Gestalt
+pub mod Events
+pub mod Call

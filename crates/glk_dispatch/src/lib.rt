@@ -1,0 +1,34 @@
+//! Glk calls by their selectors.
+#![tactic(auto)]
+
+mod arguments;
+mod base;
+mod called;
+mod case;
+mod dispatch;
+mod events;
+mod fault;
+mod filerefs;
+mod glk;
+mod output;
+mod reference;
+mod selector;
+mod streams;
+mod style;
+mod windows;
+
+pub use base::BaseCall;
+pub use called::Called;
+pub use case::CaseCall;
+pub use dispatch::call;
+pub use events::{EventCall, answer};
+pub use filerefs::FileRefCall;
+pub use glk::{Glk, Prompt};
+pub use output::{MAX_PRINTED, OutputCall, put_code};
+pub use selector::Call;
+pub use streams::StreamCall;
+pub use style::StyleCall;
+pub use windows::WindowCall;
+
+#[cfg(test)]
+mod tests;

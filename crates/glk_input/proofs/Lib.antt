@@ -1,0 +1,3 @@
+pub mod DeliveryLemmas
+pub mod ValidLemmas
+pub mod StandardFacts

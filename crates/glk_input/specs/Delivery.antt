@@ -1,0 +1,116 @@
+-- The delivery of an input (Glk 0.7.5, "Line Input Events", "Character Input Events").
+use Rattle.std.specs.Prelude.{◌≡◌, ℕ, ◌+◌, ◌%◌, ◌^◌, ◌==◌, ◌&&◌, ◌||◌, nat_lt, not, Bool, true}
+use Rattle.std.specs.Prelude.{false, if◌then◌else◌, List, [], ◌∷◌, length, map, take}
+use Rattle.std.specs.Prelude.{Option, Some, None, Result, Ok, Err}
+use Rattle.vm_memory.specs.Access.{written}
+use Rattle.vm_memory.specs.MemoryMap.{MemoryMap}
+use Rattle.vm_memory.specs.declared.fault.MemFault.{MemFault}
+use Rattle.vm_memory.specs.declared.fault.MemStop.{MemStop}
+use Rattle.vm_memory.specs.declared.fault.MemStop.TheVariants as stop
+use Rattle.glk_input.specs.Keycode.{is_keycode}
+use Rattle.glk_input.specs.Request.{changed, ended, request_of, no_event, line_event, char_event}
+use Rattle.glk_input.specs.declared.event.Event.{Event}
+use Rattle.glk_input.specs.declared.input.Input.{Input}
+use Rattle.glk_input.specs.declared.input.Input.TheVariants as input
+use Rattle.glk_input.specs.declared.request.LineRequest.{LineRequest}
+use Rattle.glk_input.specs.declared.request.Request.{Request}
+use Rattle.glk_input.specs.declared.request.Request.TheVariants.{Line, Char}
+use Rattle.glk_input.specs.declared.request.WindowInput.{WindowInput}
+
+-- the key is one of these
+abbrev pub is_among : List ℕ → ℕ → Bool
+is_among [] key = false
+is_among (k ∷ ks) key = k == key || is_among ks key
+
+-- a line is wanted that the return key or one of the request's own terminators ends
+abbrev pub wants_line : Option Request → ℕ → Bool
+wants_line (Some (Line r)) key = key == 0 || is_among r.keys key
+wants_line (Some (Char unicode)) key = false
+wants_line None key = false
+
+abbrev pub wants_char : Option Request → Bool
+wants_char (Some (Line r)) = false
+wants_char (Some (Char unicode)) = true
+wants_char None = false
+
+-- the input is what its window asks for
+abbrev pub wants : List WindowInput → Input → Bool
+wants ws (input.Line win text key) = wants_line (request_of ws win) key
+wants ws (input.Char win code) = wants_char (request_of ws win)
+wants ws (input.File name) = false
+
+-- a character as a request takes it: where it isn't for Unicode, `?` for one above 255
+abbrev pub taken : Bool → ℕ → ℕ
+taken unicode c = if not unicode && nat_lt 255 c then 63 else c
+
+-- a line as its request takes it: cut to the maximum
+abbrev pub taken_line : LineRequest → List ℕ → List ℕ
+taken_line r text = map (taken r.unicode) (take r.max text)
+
+-- how many bytes a character of an array has
+abbrev pub width : Bool → ℕ
+width unicode = if unicode then 4 else 1
+
+-- what is done with a value, unless there is none
+infixl 10 ◌>>=◌
+abbrev pub ◌>>=◌ : {A B E : Type 0} → Result A E → (A → Result B E) → Result B E
+(Ok x) >>= f = f x
+(Err e) >>= f = Err e
+
+-- characters written as an array from an address on
+abbrev pub line_written : Bool → MemoryMap → ℕ → List ℕ → Result MemoryMap MemFault
+line_written unicode m at [] = Ok m
+line_written unicode m at (c ∷ cs) =
+    written (width unicode) m at c
+    >>= (λ n. line_written unicode n ((at + width unicode) % 2 ^ 32) cs)
+
+-- a character or keycode as a request takes it: the newline is the return key
+abbrev pub taken_key : Bool → ℕ → ℕ
+taken_key unicode c =
+    if c == 10 then 0xFFFFFFFA else (if is_keycode c then c else taken unicode c)
+
+-- a line comes: its characters go to the request's array
+abbrev pub line_taken : LineRequest → MemoryMap → ℕ → List ℕ → ℕ
+    → Result (MemoryMap × Event) MemFault
+line_taken r m win text key =
+    line_written r.unicode m r.buf (taken_line r text)
+    >>= (λ n. Ok (n, line_event win (length (taken_line r text)) key))
+
+abbrev pub line_delivered : Option Request → MemoryMap → ℕ → List ℕ → ℕ
+    → Result (MemoryMap × Event) MemFault
+line_delivered (Some (Line r)) m win text key = line_taken r m win text key
+line_delivered (Some (Char unicode)) m win text key = Ok (m, no_event)
+line_delivered None m win text key = Ok (m, no_event)
+
+-- a character comes
+abbrev pub char_delivered : Option Request → ℕ → ℕ → Event
+char_delivered (Some (Line r)) win code = no_event
+char_delivered (Some (Char unicode)) win code = char_event win (taken_key unicode code)
+char_delivered None win code = no_event
+
+-- what an input that is wanted does to memory, and its event
+abbrev pub delivered : List WindowInput → MemoryMap → Input → Result (MemoryMap × Event) MemFault
+delivered ws m (input.Line win text key) = line_delivered (request_of ws win) m win text key
+delivered ws m (input.Char win code) = Ok (m, char_delivered (request_of ws win) win code)
+delivered ws m (input.File name) = Ok (m, no_event)
+
+-- the window's request is over
+abbrev pub answered : List WindowInput → Input → List WindowInput
+answered ws (input.Line win text key) = changed ended ws win
+answered ws (input.Char win code) = changed ended ws win
+answered ws (input.File name) = ws
+
+-- The call answered this event and left this memory, as it should, unless room was wanting.
+abbrev pub Delivers : Result (MemoryMap × Event) MemFault → MemoryMap → Result Event MemStop
+    → Type 0
+Delivers should m (Ok event) = should ≡ Ok (m, event)
+Delivers should m (Err (stop.Fault f)) = should ≡ Err f
+Delivers should m (Err stop.NoMemory) = Unit {0}
+
+-- The call wrote these characters as an array from an address on, and answered how many they are.
+abbrev pub Writes : Bool → MemoryMap → ℕ → List ℕ → MemoryMap → Result ℕ MemStop → Type 0
+Writes unicode old at codes new (Ok n) =
+    (line_written unicode old at (map (taken unicode) codes) ≡ Ok new) × (n ≡ length codes)
+Writes unicode old at codes new (Err (stop.Fault f)) =
+    line_written unicode old at (map (taken unicode) codes) ≡ Err f
+Writes unicode old at codes new (Err stop.NoMemory) = Unit {0}

@@ -1,0 +1,5 @@
+pub mod Keycode
+pub mod Request
+pub mod Delivery
+pub mod Valid
+pub mod Laws

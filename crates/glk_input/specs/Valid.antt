@@ -1,0 +1,27 @@
+-- Requests as calls leave them (own).
+use Rattle.std.specs.Prelude.{◌&&◌, nat_le, Bool, true, List, [], ◌∷◌, length}
+use Rattle.std.specs.Prelude.{Option, Some, None}
+use Rattle.glk_numbers.specs.Numbered.{ascends}
+use Rattle.glk_input.specs.Request.{number_of}
+use Rattle.glk_input.specs.declared.request.Request.{Request}
+use Rattle.glk_input.specs.declared.request.Request.TheVariants.{Line, Char}
+use Rattle.glk_input.specs.declared.request.WindowInput.{WindowInput}
+
+-- a line begins with at most its maximum of characters, and with at most 1,024; it has at most 13
+-- terminators
+abbrev pub is_request : Option Request → Bool
+is_request (Some (Line r)) = nat_le r.init r.max && nat_le r.init 1024 && nat_le (length r.keys) 13
+is_request (Some (Char unicode)) = true
+is_request None = true
+
+-- a window's request is one, and it has at most 13 terminators for later lines
+abbrev pub is_window : WindowInput → Bool
+is_window w = nat_le (length w.keys) 13 && is_request w.request
+
+abbrev pub are_windows : List WindowInput → Bool
+are_windows [] = true
+are_windows (w ∷ ws) = is_window w && are_windows ws
+
+-- the windows' numbers ascend, from 1 to 4,294,967,294, and their requests are valid
+abbrev pub is_valid : List WindowInput → Bool
+is_valid ws = ascends number_of 0 4294967295 ws && are_windows ws
