@@ -1,5 +1,5 @@
 -- Values that the profile of Glk gives, said of the definitions.
-use Rattle.std.specs.Prelude.{◌≡◌, ℕ, List, [], ◌∷◌, map, Some, None, true, false}
+use Rattle.std.specs.Prelude.{◌≡◌, [], ◌∷◌, map, Some, None, true}
 use Rattle.std.proofs.Common.{refl}
 use Rattle.glk_dispatch.specs.Case.{lower, upper}
 use Rattle.glk_dispatch.specs.Events.{words_of}

@@ -5,17 +5,17 @@ use Rattle.vm_memory.specs.MemoryMap.{MemoryMap}
 use Rattle.vm_memory.specs.Access.{read}
 use Rattle.vm_memory.specs.Fault.{coded}
 use Rattle.vm_stack.specs.StackState.{StackState}
-use Rattle.glk_windows.specs.Reading.{children_of, echo_of}
+use Rattle.glk_windows.specs.Reading.{children_of}
 use Rattle.glk_input.specs.Delivery.{width}
 use Rattle.glk_dispatch.specs.Answer.{◌>>=◌, within}
 use Rattle.glk_dispatch.specs.Arguments.{popped, taken}
 use Rattle.glk_dispatch.specs.Case.{word_cased, words_cased}
 use Rattle.glk_dispatch.specs.Events.{echo_array, echo_item, words_at}
 use Rattle.glk_dispatch.specs.FileRefs.{name_read}
-use Rattle.glk_dispatch.specs.Glk.{charged, style_of, window_of}
+use Rattle.glk_dispatch.specs.Glk.{charged, style_of}
 use Rattle.glk_dispatch.specs.Output.{code_at, echo_from, put_array, put_code, put_item, put_once, put_text, spread}
 use Rattle.glk_dispatch.specs.Streams.{got_array, got_item, got_on}
-use Rattle.glk_dispatch.specs.Windows.{all_dropped, both_dropped, dropped, reaches}
+use Rattle.glk_dispatch.specs.Windows.{all_dropped, both_dropped, dropped}
 use Rattle.glk_dispatch.specs.declared.case.Case.{Case}
 use Rattle.glk_dispatch.specs.declared.glk.Glk.{Glk}
 

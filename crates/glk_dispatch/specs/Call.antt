@@ -1,5 +1,5 @@
 -- A Glk call: its selector, its arguments, its work (Glk 0.7.5, "The Dispatch Layer").
-use Rattle.std.specs.Prelude.{ℕ, List, slice_index, Option, Some, None, Ok, Err}
+use Rattle.std.specs.Prelude.{ℕ, slice_index, Option, Some, None, Err}
 use Rattle.glk_dispatch.specs.Answer.{Desk, Rule, ◌>>=◌, within}
 use Rattle.glk_dispatch.specs.Arguments.{arguments}
 use Rattle.glk_dispatch.specs.Case.{case_work}

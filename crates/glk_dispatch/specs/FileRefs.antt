@@ -1,5 +1,5 @@
 -- The calls of file references (Glk 0.7.5, "File References").
-use Rattle.std.specs.Prelude.{ℕ, zero, suc, ◌+◌, ◌%◌, ◌^◌, ◌==◌, ◌&&◌, not, Bool, true, false}
+use Rattle.std.specs.Prelude.{ℕ, zero, suc, ◌+◌, ◌%◌, ◌^◌, ◌==◌, ◌&&◌, not, Bool, false}
 use Rattle.std.specs.Prelude.{if◌then◌else◌, List, [], ◌∷◌, ◌++◌, length, Result, Ok, Err}
 use Rattle.vm_memory.specs.MemoryMap.{MemoryMap}
 use Rattle.vm_memory.specs.Access.{read}
@@ -9,7 +9,6 @@ use Rattle.glk_streams.specs.Streams as table
 use Rattle.glk_streams.specs.FileRefs as refs
 use Rattle.glk_streams.specs.Files.{has_file}
 use Rattle.glk_streams.specs.Names.{cleaned, temporary}
-use Rattle.glk_streams.specs.declared.fault.StreamStop.{StreamStop}
 use Rattle.glk_dispatch.specs.Answer.{Desk, Reached, Rule, ◌>>=◌, within}
 use Rattle.glk_dispatch.specs.Fault.{numbered}
 use Rattle.glk_dispatch.specs.Glk.{charged, fref, fref_or_none, ref_rock}

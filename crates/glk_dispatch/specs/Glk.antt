@@ -1,5 +1,5 @@
 -- The Glk state of a session (Glk 0.7.5, "Opaque Objects").
-use Rattle.std.specs.Prelude.{ℕ, ◌+◌, ◌-◌, ◌^◌, ◌==◌, ◌||◌, min, Bool, [], Option}
+use Rattle.std.specs.Prelude.{ℕ, ◌+◌, ◌-◌, ◌^◌, ◌==◌, ◌||◌, min, Bool, []}
 use Rattle.glk_numbers.specs.Numbered.{has}
 use Rattle.glk_windows.specs.Tree as tree
 use Rattle.glk_windows.specs.Output as output

@@ -1,6 +1,6 @@
 -- Output of characters, one by one (Glk 0.7.5, "How To Print", "Echo Streams").
 use Rattle.std.specs.Prelude.{ℕ, zero, suc, ◌+◌, ◌%◌, ◌^◌, ◌==◌, nat_le, Bool, if◌then◌else◌, length}
-use Rattle.std.specs.Prelude.{List, [], ◌∷◌, bit_and, Result, Ok, Err}
+use Rattle.std.specs.Prelude.{bit_and, Result, Ok, Err}
 use Rattle.vm_memory.specs.MemoryMap.{MemoryMap}
 use Rattle.vm_memory.specs.Access.{read, written}
 use Rattle.vm_memory.specs.Fault.{coded}

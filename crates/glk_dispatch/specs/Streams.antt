@@ -1,6 +1,6 @@
 -- The calls of streams (Glk 0.7.5, "Streams").
 use Rattle.std.specs.Prelude.{ℕ, zero, suc, ◌+◌, ◌-◌, ◌*◌, ◌%◌, ◌^◌, ◌==◌, ◌&&◌, Bool, if◌then◌else◌}
-use Rattle.std.specs.Prelude.{true, false, List, [], ◌∷◌, Option, Some, None, Ok, Err}
+use Rattle.std.specs.Prelude.{true, false, [], ◌∷◌, Option, Some, None, Ok}
 use Rattle.vm_memory.specs.MemoryMap.{MemoryMap}
 use Rattle.glk_numbers.specs.Numbered.{after}
 use Rattle.glk_windows.specs.Closing as windows
