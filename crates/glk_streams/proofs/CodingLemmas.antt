@@ -1,5 +1,5 @@
 -- What the codings keep.
-use Rattle.std.proofs.Common.{◌≡◌, ◌<◌, ℕ, zero, suc, List, [], ◌∷◌, refl, arith, slice_set, take, length}
+use Rattle.std.proofs.Common.{◌≡◌, ◌<◌, ℕ, List, [], ◌∷◌, refl, arith, slice_set, take, length}
 
 -- a first byte that was written
 pub take_one_set : (xs : List ℕ) (b : ℕ) → 0 < length xs → take 1 (slice_set xs 0 b) ≡ b ∷ []

@@ -1,8 +1,7 @@
 -- What stands where a file is found, and what is changed and left out there.
-use Rattle.std.proofs.Common.{◌≡◌, ◌≤◌, ℕ, zero, suc, ◌+◌, List, [], ◌∷◌, ◌++◌, refl, sym, Option, Some, None, ap, arith, slice_set, slice_index_or, nat_eq, Bool, true, false, rules, drop, take, length}
+use Rattle.std.proofs.Common.{◌≡◌, ◌≤◌, ℕ, suc, ◌+◌, List, [], ◌∷◌, refl, Option, Some, None, arith, slice_set, slice_index_or, true, false, length}
 use Rattle.std.specs.Prelude.{remove, insert, is_some, IfNone, IfSome}
 use Rattle.std.proofs.lemmas.Grind.{common_steps}
-use Rattle.glk_numbers.specs.Numbered.{behind}
 use Rattle.glk_streams.specs.declared.file.File.{File}
 use Rattle.glk_streams.specs.Files.{seat_of, spot_of, has_file, bytes_of, content_of, with_bytes, with_file, without_file, file_of}
 use Rattle.glk_streams.proofs.PlaceLemmas.{remove-cons}

@@ -7,3 +7,4 @@ pub mod ValidLemmas
 pub mod ValidLaws
 pub mod ValidCalls
 pub mod RoundTripLemmas
+pub mod ReadsBackLemmas

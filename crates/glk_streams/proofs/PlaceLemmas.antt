@@ -1,8 +1,8 @@
 -- What is found, changed and left out where a number stands.
-use Rattle.std.proofs.Common.{◌≡◌, ℕ, zero, suc, ◌+◌, List, [], ◌∷◌, refl, sym, Option, Some, None, ap, arith, slice_set, slice_index_or, nat_eq, Bool, true, false, rules, drop, take, add-one}
+use Rattle.std.proofs.Common.{◌≡◌, ℕ, suc, ◌+◌, List, [], ◌∷◌, refl, sym, Option, Some, None, arith, slice_set, slice_index_or}
 use Rattle.std.specs.Prelude.{remove, IfNone, IfSome}
 use Rattle.std.proofs.lemmas.Grind.{common_steps}
-use Rattle.glk_numbers.specs.Numbered.{place_of, changed_at, behind, found, without}
+use Rattle.glk_numbers.specs.Numbered.{place_of, changed_at, found, without}
 use Rattle.glk_numbers.proofs.NumberedLemmas.{changed_at-some}
 
 pub found-none : {X : Type 0} (number : X → ℕ) (xs : List X) (n : ℕ)

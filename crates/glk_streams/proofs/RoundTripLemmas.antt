@@ -1,30 +1,26 @@
 -- What is written at the end of a file is read back.
-use Rattle.std.proofs.Common.{◌≡◌, ◌≤◌, ◌<◌, ℕ, zero, suc, ◌+◌, ◌-◌, ◌*◌, ◌/◌, ◌^◌, Bool, true, false, List, [], ◌∷◌, ◌++◌, refl, sym, ap, ◌∙◌, subst, Option, Some, None, arith, nat_lt, length, take, drop, length-append, length-drop, min}
+use Rattle.std.proofs.Common.{◌≡◌, ◌<◌, ℕ, ◌+◌, ◌*◌, ◌/◌, ◌^◌, true, List, [], ◌∷◌, ◌++◌, refl, sym, ap, ◌∙◌, subst, Some, None, arith, nat_lt, length, take, drop, length-append, length-drop}
 use Rattle.std.proofs.lemmas.Grind.{common_steps}
 use mathlib.Core.List.{append-nil, append_assoc}
 use Rattle.std.proofs.Math.Seq.{drop-append_seam, get_or-append_seam, take-length}
 use Rattle.std.proofs.lemmas.List.{nil_from_length}
 use Rattle.std.proofs.lemmas.Bool.Decides.{nat_tests}
 use Rattle.std.specs.Char.{encode_utf8}
-use lib.Utf8.{scalar}
-use Rattle.std.specs.Prelude.{slice_index}
-use Rattle.byteorder.specs.Endian.{big_bytes, big_number}
+use Rattle.byteorder.specs.Endian.{big_bytes}
 use Rattle.byteorder.specs.Numbers.{big_number-reads_back, length-bytes_high_first}
-use Rattle.bstr.specs.Utf8.{decoded}
 use Rattle.bstr.proofs.lemmas.EncodeLemmas.{decoded-encode}
 use Rattle.vm_memory.specs.MemoryMap.{replaced, number_at}
-use Rattle.glk_streams.specs.Coding.{kept, bytes_in, kept_code, units_of, unit_of, steps_of, char_at, first_of, reading_of}
-use Rattle.glk_streams.specs.Output.{start_of, held}
-use Rattle.glk_streams.specs.RoundTrip.{has_code, AreHeld, after_puts, Reads, RoundTrip}
+use Rattle.glk_streams.specs.Coding.{kept, bytes_in, units_of, unit_of, steps_of, char_at}
+use Rattle.glk_streams.specs.Output.{start_of}
+use Rattle.glk_streams.specs.RoundTrip.{has_code, AreHeld, after_puts, spelled, Reads, RoundTrip}
 use Rattle.glk_streams.specs.declared.coding.Coding.{Coding}
 use Rattle.glk_streams.specs.declared.coding.Coding.TheVariants.{Latin1, Utf8, Utf32}
-use Rattle.glk_streams.specs.declared.coding.Reading.{Reading}
 
 -- a whole number of positions
-abbrev IsWhole : Coding → List ℕ → Type 0
+abbrev pub IsWhole : Coding → List ℕ → Type 0
 IsWhole c bytes = unit_of c * units_of c bytes ≡ length bytes
 
-kept-held : (c : Coding) (x : ℕ) → has_code c x ≡ true → kept c x ≡ bytes_in c x
+pub kept-held : (c : Coding) (x : ℕ) → has_code c x ≡ true → kept c x ≡ bytes_in c x
 kept-held Latin1 x h = rw h refl
 kept-held Utf8 x h = rw h refl
 kept-held Utf32 x h = refl
@@ -39,7 +35,7 @@ whole-units Latin1 bytes n e = omega (arith, e)
 whole-units Utf8 bytes n e = omega (arith, e)
 whole-units Utf32 bytes n e = omega (arith, e)
 
-units-append : (c : Coding) (bytes : List ℕ) (x : ℕ) → IsWhole c bytes
+pub units-append : (c : Coding) (bytes : List ℕ) (x : ℕ) → IsWhole c bytes
     → units_of c (bytes ++ bytes_in c x) ≡ units_of c bytes + steps_of c (length (bytes_in c x))
 units-append c bytes x w =
     whole-units c (bytes ++ bytes_in c x) (units_of c bytes + steps_of c (length (bytes_in c x)))
@@ -51,7 +47,7 @@ units-append c bytes x w =
     sum Utf8 u s whole one two a b d = omega arith
     sum Utf32 u s whole one two a b d = omega arith
 
-whole-append : (c : Coding) (bytes : List ℕ) (x : ℕ) → IsWhole c bytes → IsWhole c (bytes ++ bytes_in c x)
+pub whole-append : (c : Coding) (bytes : List ℕ) (x : ℕ) → IsWhole c bytes → IsWhole c (bytes ++ bytes_in c x)
 whole-append c bytes x w =
     by c (units_of c bytes) (steps_of c (length (bytes_in c x))) _ _ _ _ (units-append c bytes x w)
     (length-append bytes (bytes_in c x)) w (length-in c x)
@@ -62,28 +58,23 @@ whole-append c bytes x w =
     by Utf8 u s n whole one two f a b d = omega arith
     by Utf32 u s n whole one two f a b d = omega arith
 
-start-end : (c : Coding) (bytes : List ℕ) → IsWhole c bytes → start_of c bytes (units_of c bytes) ≡ length bytes
+pub start-end : (c : Coding) (bytes : List ℕ) → IsWhole c bytes → start_of c bytes (units_of c bytes) ≡ length bytes
 start-end Latin1 bytes w = omega arith
 start-end Utf8 bytes w = omega arith
 start-end Utf32 bytes w = omega (arith, w)
 
-replaced-end : (bytes new : List ℕ) (at : ℕ) → at ≡ length bytes → replaced bytes at new ≡ bytes ++ new
+pub replaced-end : (bytes new : List ℕ) (at : ℕ) → at ≡ length bytes → replaced bytes at new ≡ bytes ++ new
 replaced-end bytes new at e =
     let cut : take at bytes ≡ bytes = rw e (take-length bytes) in
     let past : drop (at + length new) bytes ≡ [] =
     nil_from_length (drop (at + length new) bytes) (omega (arith, e, length-drop (at + length new) bytes)) in
     rw (cut, past) (append-nil (bytes ++ new))
 
-put-end : (c : Coding) (bytes : List ℕ) (x : ℕ) → IsWhole c bytes → has_code c x ≡ true
+pub put-end : (c : Coding) (bytes : List ℕ) (x : ℕ) → IsWhole c bytes → has_code c x ≡ true
     → replaced bytes (start_of c bytes (units_of c bytes)) (kept c x) ≡ bytes ++ bytes_in c x
 put-end c bytes x w h =
     replaced-end bytes (kept c x) (start_of c bytes (units_of c bytes)) (start-end c bytes w)
     ∙ ap (λ new. bytes ++ new) (kept-held c x h)
-
--- the bytes of the characters
-spelled : Coding → List ℕ → List ℕ
-spelled c [] = []
-spelled c (x ∷ xs) = bytes_in c x ++ spelled c xs
 
 puts-spell : (c : Coding) (bytes codes : List ℕ) → IsWhole c bytes → AreHeld c codes
     → after_puts c bytes codes ≡ bytes ++ spelled c codes
@@ -133,7 +124,7 @@ none-left Latin1 bytes = grind (arith, common_steps)
 none-left Utf8 bytes = grind (arith, common_steps)
 none-left Utf32 bytes = grind (arith, common_steps)
 
-reads : (c : Coding) (bytes codes : List ℕ) → IsWhole c bytes → AreHeld c codes
+pub reads : (c : Coding) (bytes codes : List ℕ) → IsWhole c bytes → AreHeld c codes
     → Reads c (bytes ++ spelled c codes) (units_of c bytes) codes
 unfolding spelled
 reads c bytes [] w h = rw (append-nil bytes) (none-left c bytes)
@@ -146,12 +137,12 @@ reads c bytes (x ∷ xs) w h =
           (subst (λ p. Reads c ((bytes ++ bytes_in c x) ++ spelled c xs) p xs) (units-append c bytes x w) rest),
     )
 
-empty-whole : (c : Coding) → IsWhole c []
+pub empty-whole : (c : Coding) → IsWhole c []
 empty-whole Latin1 = refl
 empty-whole Utf8 = refl
 empty-whole Utf32 = refl
 
-empty-units : (c : Coding) → units_of c [] ≡ 0
+pub empty-units : (c : Coding) → units_of c [] ≡ 0
 empty-units Latin1 = refl
 empty-units Utf8 = refl
 empty-units Utf32 = refl

@@ -1,10 +1,10 @@
 -- Values that the profile of Glk gives, so that a wrong rule in the definitions does not check.
-use Rattle.std.proofs.Common.{◌≡◌, ℕ, true, false, List, [], ◌∷◌, refl}
+use Rattle.std.proofs.Common.{◌≡◌, [], ◌∷◌, refl}
 use Rattle.std.specs.Char.{encode_utf8}
 use Rattle.std.specs.Prelude.{codes}
 use Rattle.glk_streams.specs.Coding.{kept, units_of}
 use Rattle.glk_streams.specs.FileRefs.{style_of}
-use Rattle.glk_streams.specs.Files.{is_text, kind_of}
+use Rattle.glk_streams.specs.Files.{kind_of}
 use Rattle.glk_streams.specs.Names.{cleaned, before_period}
 use Rattle.glk_streams.specs.Position.{away}
 use Rattle.glk_streams.specs.declared.coding.Coding.TheVariants.{Latin1, Utf8, Utf32}

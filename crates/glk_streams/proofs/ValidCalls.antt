@@ -1,11 +1,11 @@
 -- Each call keeps what is valid.
-use Rattle.std.proofs.Common.{◌≡◌, ◌≢◌, ◌≤◌, ◌<◌, ℕ, zero, suc, ◌+◌, ◌-◌, Bool, true, false, ◌&&◌, ◌||◌, List, [], ◌∷◌, ◌++◌, refl, sym, ap, ◌∙◌, subst, Option, Some, None, Result, Ok, Err, arith, nat_lt, nat_le, nat_eq, ◌==◌, length, not, rules, take, drop, length-append, length-drop}
+use Rattle.std.proofs.Common.{◌≡◌, ◌≤◌, ◌<◌, ℕ, ◌+◌, ◌-◌, Bool, true, false, ◌||◌, List, [], ◌∷◌, ◌++◌, refl, Option, Some, None, Result, Ok, Err, arith, nat_lt, nat_le, ◌==◌, length, not, take, drop, length-append, length-drop}
 use Rattle.std.specs.Prelude.{cond}
 use Rattle.std.proofs.lemmas.Grind.{common_steps}
 use Rattle.std.proofs.lemmas.Bool.{and_parts}
 use Rattle.std.proofs.lemmas.List.{length-take}
 use Rattle.vm_memory.specs.MemoryMap.{MemoryMap, replaced}
-use Rattle.glk_numbers.specs.Numbered.{has, found, without}
+use Rattle.glk_numbers.specs.Numbered.{without}
 use Rattle.glk_streams.specs.declared.coding.Coding.{Coding}
 use Rattle.glk_streams.specs.declared.coding.Reading.{Reading}
 use Rattle.glk_streams.specs.declared.fault.StreamStop.{StreamStop}
@@ -17,17 +17,17 @@ use Rattle.glk_streams.specs.declared.stream.Target.{Target}
 use Rattle.glk_streams.specs.declared.stream.Target.TheVariants.{Window, Memory, File}
 use Rattle.glk_streams.specs.Answer.{live, ◌>>=◌}
 use Rattle.glk_streams.specs.Coding.{coding_of, kept}
-use Rattle.glk_streams.specs.FileRefs.{made_ref, copied_ref, dropped_ref, deleted, with_current, styled, style_of}
+use Rattle.glk_streams.specs.FileRefs.{made_ref, with_current, style_of}
 use Rattle.glk_streams.specs.Files.{has_file, content_of, holding, bytes_of, may_stand, room_of, without_file}
-use Rattle.glk_streams.specs.Input.{got, got_by, behind, passed}
+use Rattle.glk_streams.specs.Input.{got_by, behind, passed}
 use Rattle.glk_streams.specs.Laws.{IsValid, Leaves, LeavesBeside, StaysValid}
-use Rattle.glk_streams.specs.Opening.{opened_window, opened_memory, opened_file, opened_ref, opened_name, readied, can_open, first_place, fresh, joined, closed, closed_window, taken, count_of, is_full, is_memory_mode, is_file_mode, dropped}
-use Rattle.glk_streams.specs.Output.{put, put_by, put_in, put_bytes, put_at, put_in_memory, in_memory, in_files, is_kept, start_of, counted, placed, Put}
-use Rattle.glk_streams.specs.Position.{sought, sought_in}
-use Rattle.glk_streams.specs.Streams.{StreamTable, number_of, ref_number_of, stream_at, ref_at, stream_of_window, is_window, with_stream, is_write_mode}
-use Rattle.glk_streams.specs.Valid.{is_valid, is_current, are_files, are_streams}
+use Rattle.glk_streams.specs.Opening.{opened_window, opened_memory, opened_ref, opened_name, readied, can_open, first_place, fresh, joined, taken, count_of, is_full, is_memory_mode, is_file_mode, dropped}
+use Rattle.glk_streams.specs.Output.{put_by, put_in, put_bytes, put_in_memory, in_memory, is_kept, start_of, counted, placed, Put}
+use Rattle.glk_streams.specs.Position.{sought_in}
+use Rattle.glk_streams.specs.Streams.{StreamTable, ref_number_of, stream_at, ref_at, stream_of_window, is_window, with_stream, is_write_mode}
+use Rattle.glk_streams.specs.Valid.{is_current, are_files, are_streams}
 use Rattle.glk_streams.proofs.ValidLemmas.{count-window, count-more, or_parts}
-use Rattle.glk_streams.proofs.ValidLaws.{Parts, parts_of, of_parts, Files, files_of, files-held, files-without, Held, held_of, streams-more, streams-changed, streams-without, streams-current, refs-more, refs-without}
+use Rattle.glk_streams.proofs.ValidLaws.{Parts, parts_of, of_parts, files_of, files-held, files-without, held_of, streams-more, streams-changed, streams-without, streams-current, refs-more, refs-without}
 
 negated : (x : Bool) → not x ≡ false → x ≡ true
 negated true e = refl

@@ -1,20 +1,20 @@
 -- Each call keeps streams, file references and files valid.
-use Rattle.std.proofs.Common.{◌≡◌, ◌≢◌, ◌≤◌, ◌<◌, ℕ, zero, suc, ◌+◌, ◌-◌, Bool, true, false, ◌&&◌, ◌||◌, List, [], ◌∷◌, ◌++◌, refl, sym, ap, ◌∙◌, subst, Option, Some, None, Result, Ok, Err, arith, nat_lt, nat_le, nat_eq, ◌==◌, length, not, rules}
+use Rattle.std.proofs.Common.{◌≡◌, ◌≤◌, ◌<◌, ℕ, ◌+◌, Bool, true, false, ◌&&◌, ◌||◌, List, [], ◌∷◌, ◌++◌, refl, ap, ◌∙◌, Some, arith, nat_le, ◌==◌, length}
 use Rattle.std.proofs.lemmas.Grind.{common_steps}
 use Rattle.std.proofs.lemmas.Bool.{and_parts}
 use Rattle.std.specs.Prelude.{cond}
-use Rattle.glk_numbers.specs.Numbered.{has, found, changed_at, without, ascends}
+use Rattle.glk_numbers.specs.Numbered.{found, changed_at, without, ascends}
 use Rattle.glk_streams.specs.declared.file.File.{File}
 use Rattle.glk_streams.specs.declared.stream.Stream.{Stream}
 use Rattle.glk_streams.specs.declared.fileref.FileRef.{FileRef}
 use Rattle.glk_streams.specs.Files.{has_file, content_of, with_bytes, with_file, without_file, holding, bytes_of, may_stand}
 use Rattle.glk_streams.specs.Streams.{StreamTable, no_streams, number_of, ref_number_of, is_window}
-use Rattle.glk_streams.specs.Opening.{count_of, added}
+use Rattle.glk_streams.specs.Opening.{count_of}
 use Rattle.glk_streams.specs.Valid.{is_mode, are_modes, is_current, is_next, in_order, are_kinds, are_files, are_streams, are_refs, is_valid}
-use Rattle.glk_streams.proofs.ValidLemmas.{in_order-bytes, in_order-file, in_order-without, kinds-bytes, kinds-file, kinds-without, length-bytes, length-file, length-without, bytes-bytes, bytes-file, bytes-without, ascends-changed, ascends-more, ascends-without, has-changed, has-without, has-more, number-found, length-left, modes-changed, mode-found, modes-without, modes-more, count-changed, count-without, count-more, count-window}
+use Rattle.glk_streams.proofs.ValidLemmas.{in_order-bytes, in_order-file, in_order-without, kinds-bytes, kinds-file, kinds-without, length-bytes, length-file, length-without, bytes-bytes, bytes-file, bytes-without, ascends-changed, ascends-more, ascends-without, has-changed, has-without, has-more, number-found, length-left, modes-changed, mode-found, modes-without, modes-more, count-changed, count-without}
 
 -- the parts of a conjunction, and back
-both : (x y : Bool) → x ≡ true → y ≡ true → (x && y) ≡ true
+pub both : (x y : Bool) → x ≡ true → y ≡ true → (x && y) ≡ true
 both x y a b = λ i. a i && b i
 
 pub record Files (fs : List File) : Type 0 where
@@ -55,7 +55,7 @@ held-as fs u n b false e h m z l =
       bytes = grind (arith, common_steps, bytes-file fs u n b, l, none);
     }))
 
-no-content : (fs : List File) (u : ℕ) (n : List ℕ) → has_file fs u n ≡ false → content_of fs u n ≡ []
+pub no-content : (fs : List File) (u : ℕ) (n : List ℕ) → has_file fs u n ≡ false → content_of fs u n ≡ []
 unfolding has_file content_of
 no-content [] u n h = refl
 no-content (f ∷ fs) u n h = grind (arith, common_steps, h, no-content fs u n)

@@ -1,5 +1,5 @@
 -- What a change of files, streams or references keeps of their validity.
-use Rattle.std.proofs.Common.{◌≡◌, ◌≢◌, ◌≤◌, ◌<◌, ℕ, zero, suc, ◌+◌, ◌-◌, Bool, true, false, ◌&&◌, ◌||◌, List, [], ◌∷◌, ◌++◌, refl, sym, ap, ◌∙◌, subst, Option, Some, None, arith, nat_lt, nat_le, nat_eq, length, not, rules}
+use Rattle.std.proofs.Common.{◌≡◌, ◌≢◌, ◌≤◌, ◌<◌, ℕ, ◌+◌, Bool, true, false, ◌&&◌, ◌||◌, List, [], ◌∷◌, ◌++◌, refl, ap, ◌∙◌, Some, arith, length}
 use Rattle.std.proofs.lemmas.Grind.{common_steps}
 use Rattle.std.proofs.lemmas.Bool.{and_parts}
 use Rattle.std.specs.Ordering.{is_eq, is_lt, nat_cmp, ordering_reverse}
@@ -8,12 +8,11 @@ use Rattle.std.specs.declared.cmp.Ordering.TheVariants.{Less, Equal, Greater}
 use Rattle.std.specs.Cmp.Lexicographic.{slice_cmp, nat_list_cmp_total}
 use Rattle.glk_numbers.specs.Numbered.{has, found, changed_at, without, ascends}
 use Rattle.glk_streams.specs.declared.file.File.{File}
-use Rattle.glk_streams.specs.declared.fileref.FileRef.{FileRef}
 use Rattle.glk_streams.specs.declared.stream.Stream.{Stream}
-use Rattle.glk_streams.specs.Files.{key_of, file_key, kind_of, is_named, stands_before, has_file, content_of, with_bytes, with_file, without_file, file_of, bytes_of}
+use Rattle.glk_streams.specs.Files.{key_of, file_key, is_named, stands_before, has_file, content_of, with_bytes, with_file, without_file, bytes_of}
 use Rattle.glk_streams.specs.Streams.{number_of, is_window}
 use Rattle.glk_streams.specs.Opening.{count_of}
-use Rattle.glk_streams.specs.Valid.{is_mode, are_modes, is_first, in_order, are_kinds, are_files, are_streams, are_refs}
+use Rattle.glk_streams.specs.Valid.{is_mode, are_modes, is_first, in_order, are_kinds}
 
 pub or_parts : (x y : Bool) → (x || y) ≡ false → (x ≡ false) × (y ≡ false)
 or_parts true y e = absurd (grind (arith, e))

@@ -47,11 +47,13 @@ Leaves should new (Ok x) = should ≡ Ok new
 Leaves should new (Err e) = Refuses should e
 
 -- The same of a call that changes two values and answers a third.
-abbrev pub Puts : {S T A : Type 0} → Result (S × T × A) StreamStop → S → T → Result A StreamStop → Type 0
+abbrev pub Puts : {S T A : Type 0}
+    → Result (S × T × A) StreamStop → S → T → Result A StreamStop → Type 0
 Puts should new also (Ok x) = should ≡ Ok (new, also, x)
 Puts should new also (Err e) = Refuses should e
 
 -- The same of a call that changes two values.
-abbrev pub LeavesBoth : {S T A : Type 0} → Result (S × T) StreamStop → S → T → Result A StreamStop → Type 0
+abbrev pub LeavesBoth : {S T A : Type 0}
+    → Result (S × T) StreamStop → S → T → Result A StreamStop → Type 0
 LeavesBoth should new also (Ok x) = should ≡ Ok (new, also)
 LeavesBoth should new also (Err e) = Refuses should e

@@ -1,12 +1,11 @@
 -- How a stream keeps characters as bytes (Glk 0.7.5, "Streams"; own: the three codings).
-use Rattle.std.specs.Prelude.{◌≡◌, ℕ, ◌+◌, ◌*◌, ◌/◌, ◌-◌, nat_lt, nat_le, min, if◌then◌else◌, Bool, true, false, List, [], ◌∷◌, ◌++◌, length, take, drop, slice_index, Option, Some, None}
+use Rattle.std.specs.Prelude.{ℕ, ◌*◌, ◌/◌, nat_lt, if◌then◌else◌, Bool, List, [], ◌∷◌, length, drop, slice_index, Option, Some, None}
 use lib.Utf8.{scalar}
 use Rattle.std.specs.Char.{encode_utf8}
 use Rattle.byteorder.specs.Endian.{big_bytes}
-use Rattle.bstr.specs.Utf8.{Decoded, decoded}
+use Rattle.bstr.specs.Utf8.{decoded}
 use Rattle.vm_memory.specs.MemoryMap.{number_at}
 use Rattle.glk_streams.specs.Files.{is_text}
-use Rattle.glk_streams.specs.declared.stream.Stream.{Stream}
 use Rattle.glk_streams.specs.declared.stream.Target.{Target}
 use Rattle.glk_streams.specs.declared.stream.Target.TheVariants.{Window, Memory, File}
 use Rattle.glk_streams.specs.declared.coding.Coding.{Coding}
@@ -68,7 +67,8 @@ first_of bytes = reading_of (decoded bytes).char (decoded bytes).size
 -- the character at a position of a file's bytes; none at their end
 abbrev pub char_at : Coding → List ℕ → ℕ → Option Reading
 char_at Latin1 bytes place =
-    if nat_lt place (length bytes) then Some (record { code = slice_index bytes place; steps = 1 }) else None
+    if nat_lt place (length bytes)
+    then Some (record { code = slice_index bytes place; steps = 1 }) else None
 char_at Utf8 bytes place =
     if nat_lt place (length bytes) then Some (first_of (drop place bytes)) else None
 char_at Utf32 bytes place =

@@ -1,5 +1,5 @@
 -- File references (Glk 0.7.5, "File References"), the current stream and styles.
-use Rattle.std.specs.Prelude.{ℕ, ◌+◌, ◌==◌, ◌||◌, not, nat_le, nat_lt, if◌then◌else◌, Bool, true, false, List, [], ◌∷◌, ◌++◌, length, Option, Some, None, Result, Ok, Err}
+use Rattle.std.specs.Prelude.{ℕ, ◌+◌, ◌==◌, ◌||◌, nat_le, nat_lt, if◌then◌else◌, Bool, List, [], ◌∷◌, ◌++◌, length, Option, Some, None, Result, Ok, Err}
 use Rattle.glk_numbers.specs.Numbered.{has, without}
 use Rattle.glk_numbers.specs.declared.numbered.TheConstants.{MAX_NUMBER}
 use Rattle.glk_streams.specs.Answer.{live}
@@ -16,7 +16,8 @@ made_ref t usage name rock =
     if nat_le MAX_REFS (length t.refs) || nat_lt MAX_NUMBER t.next_ref then (t, 0)
     else (
       record t {
-        refs = t.refs ++ record { number = t.next_ref; usage = usage; rock = rock; name = name } ∷ [];
+        refs = t.refs
+            ++ record { number = t.next_ref; usage = usage; rock = rock; name = name } ∷ [];
         next_ref = t.next_ref + 1;
       },
       t.next_ref,
@@ -27,7 +28,8 @@ abbrev pub copied_ref : StreamTable → ℕ → ℕ → ℕ → Result (StreamTa
 copied_ref t usage fref rock = live (ref_at t fref) (λ r. Ok (made_ref t usage r.name rock))
 
 abbrev pub dropped_ref : StreamTable → ℕ → Result StreamTable StreamStop
-dropped_ref t fref = live (ref_at t fref) (λ r. Ok (record t { refs = without ref_number_of t.refs fref }))
+dropped_ref t fref = live (ref_at t fref)
+    (λ r. Ok (record t { refs = without ref_number_of t.refs fref }))
 
 -- the reference's file is deleted, where it is there
 abbrev pub deleted : StreamTable → ℕ → Result StreamTable StreamStop
@@ -52,4 +54,5 @@ abbrev pub style_of : ℕ → ℕ
 style_of style = if nat_lt 10 style then 0 else style
 
 abbrev pub styled : StreamTable → ℕ → ℕ → Result StreamTable StreamStop
-styled t n style = live (stream_at t n) (λ s. Ok (with_stream t n (record s { style = style_of style })))
+styled t n style = live (stream_at t n)
+    (λ s. Ok (with_stream t n (record s { style = style_of style })))

@@ -1,5 +1,5 @@
 -- The files of a session (Glk 0.7.5, "File References"; own: they live inside the session).
-use Rattle.std.specs.Prelude.{ℕ, ◌+◌, ◌-◌, ◌/◌, ◌%◌, ◌==◌, ◌&&◌, ◌||◌, nat_lt, nat_le, if◌then◌else◌, Bool, true, false, List, [], ◌∷◌, ◌++◌, length, Option, Some, None}
+use Rattle.std.specs.Prelude.{ℕ, ◌+◌, ◌-◌, ◌/◌, ◌%◌, ◌==◌, ◌||◌, nat_lt, if◌then◌else◌, Bool, false, List, [], ◌∷◌, length, Option, Some, None}
 use Rattle.std.specs.Ordering.{is_eq, is_lt, nat_cmp}
 use Rattle.std.specs.declared.cmp.Ordering.{Ordering}
 use Rattle.std.specs.Cmp.Lexicographic.{slice_cmp}
@@ -38,7 +38,8 @@ stands_before usage name f = is_lt (compared usage name f)
 -- where the file with this usage and name stands
 unfoldable pub seat_of : List File → ℕ → List ℕ → Option ℕ
 seat_of [] usage name = None
-seat_of (f ∷ fs) usage name = if is_named usage name f then Some 0 else behind 1 (seat_of fs usage name)
+seat_of (f ∷ fs) usage name =
+    if is_named usage name f then Some 0 else behind 1 (seat_of fs usage name)
 
 -- where a file with this usage and name is put in: before the first that it stands before
 unfoldable pub spot_of : List File → ℕ → List ℕ → ℕ
@@ -80,7 +81,8 @@ holding fs usage name bytes =
 -- the files without that with this usage and name
 unfoldable pub without_file : List File → ℕ → List ℕ → List File
 without_file [] usage name = []
-without_file (f ∷ fs) usage name = if is_named usage name f then fs else f ∷ without_file fs usage name
+without_file (f ∷ fs) usage name =
+    if is_named usage name f then fs else f ∷ without_file fs usage name
 
 -- how many bytes the files have in sum
 unfoldable pub bytes_of : List File → ℕ

@@ -25,8 +25,10 @@ LeavesBeside (Err e) = Unit {0}
 -- each call keeps the streams, file references and files of a session valid
 pub record KeepsValid (t : StreamTable) : Type 0 where
   pub window : (win : ℕ) → IsValid (opened_window t win).0
-  pub memory : (buf len mode rock : ℕ) (unicode : Bool) → LeavesBeside (opened_memory t buf len mode rock unicode)
-  pub file : (fref mode rock : ℕ) (unicode : Bool) → LeavesBeside (opened_file t fref mode rock unicode)
+  pub memory : (buf len mode rock : ℕ) (unicode : Bool)
+      → LeavesBeside (opened_memory t buf len mode rock unicode)
+  pub file : (fref mode rock : ℕ) (unicode : Bool)
+      → LeavesBeside (opened_file t fref mode rock unicode)
   pub close : (n : ℕ) → LeavesBeside (closed t n)
   pub close_window : (win : ℕ) → IsValid (closed_window t win).0
   pub write : (m : MemoryMap) (n code : ℕ) → LeavesBeside (put t m n code)

@@ -1,6 +1,6 @@
 -- Opening and closing of streams (Glk 0.7.5, "Streams").
-use Rattle.std.specs.Prelude.{ℕ, ◌+◌, ◌-◌, ◌/◌, ◌==◌, ◌&&◌, ◌||◌, not, nat_le, nat_lt, if◌then◌else◌, Bool, true, false, List, [], ◌∷◌, ◌++◌, length, Result, Ok, Err}
-use Rattle.glk_numbers.specs.Numbered.{without, has}
+use Rattle.std.specs.Prelude.{ℕ, ◌+◌, ◌==◌, ◌&&◌, ◌||◌, not, nat_le, nat_lt, if◌then◌else◌, Bool, false, List, [], ◌∷◌, ◌++◌, Result, Ok, Err}
+use Rattle.glk_numbers.specs.Numbered.{without}
 use Rattle.glk_numbers.specs.declared.numbered.TheConstants.{MAX_NUMBER}
 use Rattle.glk_streams.specs.Answer.{live}
 use Rattle.glk_streams.specs.Files.{has_file, holding, may_stand}
@@ -14,7 +14,7 @@ use Rattle.glk_streams.specs.declared.opening.Counts.{Counts}
 use Rattle.glk_streams.specs.declared.file.File as file
 use Rattle.glk_streams.specs.declared.fileref.FileRef.{FileRef}
 use Rattle.glk_streams.specs.declared.fault.StreamStop.{StreamStop}
-use Rattle.glk_streams.specs.declared.fault.StreamStop.TheVariants.{BadObject, BadArgument}
+use Rattle.glk_streams.specs.declared.fault.StreamStop.TheVariants.{BadArgument}
 
 -- a stream as it is opened: nothing was read or written
 abbrev pub fresh : ℕ → ℕ → ℕ → Bool → Target → ℕ → Stream
@@ -80,7 +80,8 @@ readied t usage name mode =
 
 -- mode 5 begins at the end
 abbrev pub first_place : List file.File → ℕ → List ℕ → ℕ → Bool → ℕ
-first_place fs usage name mode unicode = if mode == 5 then end_in (File usage name) fs unicode else 0
+first_place fs usage name mode unicode =
+    if mode == 5 then end_in (File usage name) fs unicode else 0
 
 abbrev pub opened_name : StreamTable → ℕ → List ℕ → ℕ → ℕ → Bool → StreamTable × ℕ
 opened_name t usage name mode rock unicode =

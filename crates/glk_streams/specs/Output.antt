@@ -1,5 +1,5 @@
 -- What a character that is put does (Glk 0.7.5, "Output").
-use Rattle.std.specs.Prelude.{ℕ, ◌+◌, ◌-◌, ◌*◌, ◌%◌, ◌^◌, ◌==◌, ◌&&◌, nat_le, nat_lt, min, if◌then◌else◌, Bool, true, false, List, length, Option, Some, None, Result, Ok, Err}
+use Rattle.std.specs.Prelude.{ℕ, ◌+◌, ◌-◌, ◌*◌, ◌%◌, ◌^◌, ◌==◌, ◌&&◌, nat_le, nat_lt, min, if◌then◌else◌, Bool, List, length, Result, Ok, Err}
 use Rattle.vm_memory.specs.MemoryMap.{MemoryMap, replaced}
 use Rattle.vm_memory.specs.Access.{written}
 use Rattle.glk_streams.specs.Answer.{◌>>=◌, live, of_memory}
@@ -31,7 +31,7 @@ length_of buf len = if buf == 0 then 0 else len
 abbrev pub address_of : Coding → ℕ → ℕ → ℕ
 address_of c buf place = min (buf + unit_of c * place) 4294967295
 
--- a character put into a buffer, and where its stream then stands; it is dropped at the buffer's end
+-- a character put into a buffer, and where its stream then stands; it is dropped at the end
 abbrev pub put_in_memory : MemoryMap → ℕ → ℕ → ℕ → Coding → ℕ → Result (MemoryMap × ℕ) StreamStop
 put_in_memory m place buf len c code =
     if nat_lt place (length_of buf len)
@@ -94,4 +94,5 @@ put_by fs m s code =
 -- a character put to the stream with this number, which counts it
 abbrev pub put : StreamTable → MemoryMap → ℕ → ℕ → Result (StreamTable × MemoryMap) StreamStop
 put t m n code = live (stream_at t n) (λ s. put_by t.files m s code
-    >>= (λ done. Ok (with_stream (record t { files = done.0 }) n (counted (placed done.2 s)), done.1)))
+    >>= (λ done.
+    Ok (with_stream (record t { files = done.0 }) n (counted (placed done.2 s)), done.1)))

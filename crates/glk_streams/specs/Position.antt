@@ -1,5 +1,5 @@
 -- Positions in streams (Glk 0.7.5, "Streams").
-use Rattle.std.specs.Prelude.{ℕ, ◌+◌, ◌-◌, ◌==◌, nat_le, nat_lt, min, if◌then◌else◌, Bool, true, false, List, Result, Ok, Err}
+use Rattle.std.specs.Prelude.{ℕ, ◌+◌, ◌-◌, ◌==◌, nat_lt, min, if◌then◌else◌, Bool, List, Result, Ok, Err}
 use Rattle.glk_streams.specs.Answer.{live}
 use Rattle.glk_streams.specs.Coding.{coding_of, units_of}
 use Rattle.glk_streams.specs.Files.{content_of}

@@ -1,12 +1,19 @@
 -- What is written through a stream and read back through another (own).
-use Rattle.std.specs.Prelude.{◌≡◌, ℕ, ◌+◌, nat_lt, Bool, true, List, [], ◌∷◌, length, Option, Some, None}
+use Rattle.std.specs.Prelude.{◌≡◌, ℕ, ◌+◌, nat_lt, Bool, true, ◌≢◌, ◌≤◌, List, [], ◌∷◌, ◌++◌, length, Option, Some, None, Result, Ok}
 use lib.Utf8.{scalar}
-use Rattle.vm_memory.specs.MemoryMap.{replaced}
-use Rattle.glk_streams.specs.Coding.{kept, units_of, char_at}
-use Rattle.glk_streams.specs.Output.{start_of}
+use Rattle.vm_memory.specs.MemoryMap.{MemoryMap, replaced}
+use Rattle.glk_streams.specs.Answer.{◌>>=◌}
+use Rattle.glk_streams.specs.Coding.{bytes_in, coding_of, kept, units_of, char_at}
+use Rattle.glk_streams.specs.Files.{bytes_of, content_of, may_stand}
+use Rattle.glk_streams.specs.Input.{got}
+use Rattle.glk_streams.specs.Output.{put, start_of}
+use Rattle.glk_streams.specs.Streams.{StreamTable, stream_at, is_read_mode, is_write_mode}
+use Rattle.glk_streams.specs.declared.fault.StreamStop.{StreamStop}
+use Rattle.glk_streams.specs.declared.stream.Stream.{Stream}
+use Rattle.glk_streams.specs.declared.stream.Target.{Target}
+use Rattle.glk_streams.specs.declared.stream.Target.TheVariants.{File}
 use Rattle.glk_streams.specs.declared.coding.Coding.{Coding}
 use Rattle.glk_streams.specs.declared.coding.Coding.TheVariants.{Latin1, Utf8, Utf32}
-use Rattle.glk_streams.specs.declared.coding.Reading.{Reading}
 
 -- a character that the coding has: a code below 256, a Unicode scalar value, any code
 abbrev pub has_code : Coding → ℕ → Bool
@@ -33,4 +40,43 @@ Reads c bytes place (x ∷ xs) =
 
 -- what is put into an empty file is read from its start, in each coding
 abbrev pub RoundTrip : Type 0
-RoundTrip = (c : Coding) (codes : List ℕ) → AreHeld c codes → Reads c (after_puts c [] codes) 0 codes
+RoundTrip =
+    (c : Coding) (codes : List ℕ) → AreHeld c codes → Reads c (after_puts c [] codes) 0 codes
+
+-- the bytes of the characters, one after the other
+unfoldable pub spelled : Coding → List ℕ → List ℕ
+spelled c [] = []
+spelled c (x ∷ xs) = bytes_in c x ++ spelled c xs
+
+-- a stream in one of these modes, at this position
+pub record IsOpen (allows : ℕ → Bool) (t : StreamTable) (n : ℕ) (target : Target) (unicode : Bool) (place : ℕ) : Type 0 where
+  pub stream : Stream
+  pub is : stream_at t n ≡ Some stream
+  pub mode : allows stream.mode ≡ true
+  pub target_is : stream.target ≡ target
+  pub unicode_is : stream.unicode ≡ unicode
+  pub place_is : stream.place ≡ place
+
+-- characters are put to a stream in turn
+unfoldable pub put_all : StreamTable → MemoryMap → ℕ → List ℕ
+    → Result (StreamTable × MemoryMap) StreamStop
+put_all t m n [] = Ok (t, m)
+put_all t m n (x ∷ xs) = put t m n x >>= (λ done. put_all done.0 done.1 n xs)
+
+-- a stream gives these characters in turn, and then its end
+abbrev pub Gives : StreamTable → MemoryMap → ℕ → List ℕ → Type 0
+Gives t m n [] = got t m n ≡ Ok (t, None)
+Gives t m n (x ∷ xs) = (after : StreamTable) × (got t m n ≡ Ok (after, Some x)) × Gives after m n xs
+
+-- what is put to one stream on an empty file is what another stream on it then gives, where the
+-- files have room
+abbrev pub ReadsBack : Type 0
+ReadsBack =
+    (t : StreamTable) (m : MemoryMap) (a b usage : ℕ) (name : List ℕ) (unicode : Bool)
+    (codes : List ℕ)
+    → a ≢ b → IsOpen is_write_mode t a (File usage name) unicode 0
+    → IsOpen is_read_mode t b (File usage name) unicode 0
+    → content_of t.files usage name ≡ [] → may_stand t.files usage name ≡ true
+    → AreHeld (coding_of unicode (File usage name)) codes
+    → bytes_of t.files + length (spelled (coding_of unicode (File usage name)) codes) ≤ 1048576
+    → (after : StreamTable) × (put_all t m a codes ≡ Ok (after, m)) × Gives after m b codes

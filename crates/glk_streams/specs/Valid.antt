@@ -1,6 +1,6 @@
 -- Streams, file references and files that a session may have (Glk 0.7.5, "Opaque Objects"; own:
 -- the limits).
-use Rattle.std.specs.Prelude.{ℕ, ◌==◌, ◌&&◌, ◌||◌, nat_le, nat_lt, Bool, true, false, List, [], ◌∷◌, length}
+use Rattle.std.specs.Prelude.{ℕ, ◌==◌, ◌&&◌, ◌||◌, nat_le, nat_lt, Bool, true, List, [], ◌∷◌, length}
 use Rattle.std.specs.Ordering.{is_lt, nat_cmp}
 use Rattle.std.specs.Cmp.Lexicographic.{slice_cmp}
 use Rattle.glk_numbers.specs.Numbered.{has, ascends}
@@ -61,7 +61,8 @@ are_kinds (f ∷ fs) = nat_lt f.usage 16 && are_kinds fs
 -- at most 64 files in order, of at most 1,048,576 bytes in sum
 abbrev pub are_files : List file.File → Bool
 are_files fs =
-    in_order fs && are_kinds fs && nat_le (length fs) MAX_FILES && nat_le (bytes_of fs) MAX_FILE_BYTES
+    in_order fs && are_kinds fs && nat_le (length fs) MAX_FILES
+    && nat_le (bytes_of fs) MAX_FILE_BYTES
 
 abbrev pub is_valid : StreamTable → Bool
 is_valid t =

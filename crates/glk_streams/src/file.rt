@@ -1,6 +1,8 @@
 //! Files, which live inside the session (Glk 0.7.5, "File References").
 
 ghost use Rattle.std.specs.Prelude.{◌≡◌, ◌≤◌, ◌<◌, ◌-◌, ◌+◌, List, ℕ, [], length, is_some, remove, slice_index_or, slice_set, IfNone, IfOk, IfSome, IsTrue, OnErr, OnOk};
+ghost use Rattle.std.specs.Ordering.{nat_cmp};
+ghost use Rattle.std.specs.Cmp.Lexicographic.{slice_cmp};
 ghost use Rattle.glk_streams.specs.Files as files;
 ghost use Rattle.glk_streams.specs.Output as output;
 ghost use Rattle.vm_memory.specs.MemoryMap.{replaced};
@@ -115,6 +117,15 @@ impl File {
             .cmp(&self.usage)
             .then(name.as_utf8().cmp(self.name.as_utf8()))
     }
+
+    /// How its key is to another's.
+    pub(crate) fn key_cmp(&self, other: &File) -> Ordering
+        ensures { result ≡ slice_cmp nat_cmp (files.file_key self.now) (files.file_key other.now) }
+    {
+        self.usage
+            .cmp(&other.usage)
+            .then(self.name.as_utf8().cmp(other.name.as_utf8()))
+    }
 }
 
 /// Where the file with this usage and name stands.
@@ -137,11 +148,13 @@ fn find_file(list: &[File], usage: u32, name: &Text) -> Option<usize>
     ensures has { files.has_file list.now usage name.now ≡ is_some result }
     ensures none { IfNone result (files.content_of list.now usage name.now ≡ []) }
     ensures some { IfSome result (λ i.
-        (d : File) → files.content_of list.now usage name.now ≡ (slice_index_or list.now i d).bytes) }
+        (d : File) → files.content_of list.now usage name.now
+        ≡ (slice_index_or list.now i d).bytes) }
     ensures changed { IfSome result (λ i. (d : File) (bytes : List ℕ)
         → files.with_bytes list.now usage name.now bytes
         ≡ slice_set list.now i (record (slice_index_or list.now i d) { bytes = bytes })) }
-    ensures left { IfSome result (λ i. files.without_file list.now usage name.now ≡ remove list.now i) }
+    ensures left { IfSome result (λ i.
+        files.without_file list.now usage name.now ≡ remove list.now i) }
     ensures nothing { IfNone result (files.without_file list.now usage name.now ≡ list.now) }
 {
     seat_of(list, usage, name)
@@ -232,7 +245,8 @@ fn insert_file(
     name: &Text,
     bytes: Contents,
 ) -> Result<(), AllocError>
-    ensures ok { OnOk result (list.new.items ≡ files.with_file list.old.items usage name.now bytes) }
+    ensures ok { OnOk result (
+        list.new.items ≡ files.with_file list.old.items usage name.now bytes) }
     ensures err { OnErr result (list.new.items ≡ list.old.items) }
 {
     let spot = spot_of(list, usage, name);
@@ -279,7 +293,8 @@ pub(crate) fn write_file(
 ) -> Result<(), AllocError>
     requires inside { at ≤ length (files.content_of list.old.items usage name.now) }
     requires limit { at + length new.now ≤ 1048576 }
-    ensures ok { OnOk result (list.new.items ≡ output.put_at list.old.items usage name.now at new.now) }
+    ensures ok { OnOk result (
+        list.new.items ≡ output.put_at list.old.items usage name.now at new.now) }
     ensures err { OnErr result (list.new.items ≡ list.old.items) }
 {
     match find_file(list, usage, name) {

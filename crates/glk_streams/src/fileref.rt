@@ -42,7 +42,8 @@ impl Streams {
         name: &Text,
         rock: u32,
     ) -> Result<u32, AllocError>
-        ensures ok { IfOk result (λ n. Yields (refs.made_ref self.old usage name.now rock) self.new n) }
+        ensures ok { IfOk result (λ n.
+            Yields (refs.made_ref self.old usage name.now rock) self.new n) }
         ensures err { OnErr result (self.new ≡ self.old) }
     {
         if self.refs.len() >= MAX_REFS || self.next_ref > MAX_NUMBER {

@@ -1,7 +1,7 @@
 //! Laws of streams.
 
 ghost use Rattle.glk_streams.specs.Laws.{BeginsValid, StaysValid};
-ghost use Rattle.glk_streams.specs.RoundTrip.{RoundTrip};
+ghost use Rattle.glk_streams.specs.RoundTrip.{ReadsBack, RoundTrip};
 
 /// No streams are valid, and each call keeps streams, file references and files valid.
 pub fn stays_valid()
@@ -14,4 +14,10 @@ pub fn stays_valid()
 /// bytes.
 pub fn round_trip()
     ensures { RoundTrip }
+{}
+
+/// The characters that are put to one stream on an empty file are those that another stream on it
+/// then gives, and no more, where the files have room for them.
+pub fn reads_back()
+    ensures { ReadsBack }
 {}

@@ -22,7 +22,7 @@ pub struct Counts {
 
 /// How many streams there are besides those of windows.
 #[tactic(auto, unfolding(crate::specs::Opening::count_of))]
-fn count_of(streams: &[Stream]) -> usize
+pub(crate) fn count_of(streams: &[Stream]) -> usize
     ensures value { result ≡ opening.count_of streams.now }
 {
     let mut count = 0;
@@ -65,8 +65,8 @@ impl Streams {
         self.add(fresh(self.next, 0, 1, false, Target::Window(win)))
     }
 
-    /// A stream on the file of a reference; mode 1 empties the file, and 1, 3 and 5 make it where it
-    /// isn't there. 0 where mode 2 finds no file, and at the limits of streams and files. BadObject
+    /// A stream on the file of a reference; mode 1 empties the file, and 1, 3 and 5 make it where
+    /// it isn't there. 0 where mode 2 finds no file, and at the limits of streams and files. BadObject
     /// where the reference isn't live; BadArgument where the mode is none of 1, 2, 3 and 5.
     pub fn open_file(
         &mut self,
@@ -76,7 +76,8 @@ impl Streams {
         rock: u32,
         unicode: bool,
     ) -> Result<u32, StreamStop>
-        ensures value { Gives (opening.opened_file self.old fref mode rock unicode) self.new result }
+        ensures value { Gives
+            (opening.opened_file self.old fref mode rock unicode) self.new result }
         ensures err { OnErr result (self.new ≡ self.old) }
     {
         match find(&self.refs, fref) {
@@ -139,7 +140,8 @@ impl Streams {
         rock: u32,
         unicode: bool,
     ) -> Result<u32, StreamStop>
-        ensures value { Gives (opening.opened_memory self.old buf len mode rock unicode) self.new result }
+        ensures value { Gives
+            (opening.opened_memory self.old buf len mode rock unicode) self.new result }
         ensures err { OnErr result (self.new ≡ self.old) }
     {
         if !matches!(mode, 1 | 2 | 3) {

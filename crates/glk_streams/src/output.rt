@@ -33,7 +33,8 @@ pub(crate) fn address_of(coding: Coding, buf: u32, place: u32) -> u32
 
 /// Writes a character's number in as many bytes as a position has.
 fn write(memory: &mut Memory, coding: Coding, at: u32, code: u32) -> Result<(), MemStop>
-    ensures value { Leaves (written (unit_of coding) memory.old at (kept_code coding code)) memory.new result }
+    ensures value { Leaves
+        (written (unit_of coding) memory.old at (kept_code coding code)) memory.new result }
     ensures err { OnErr result (memory.new ≡ memory.old) }
 {
     let code = coding.kept_code(code);
@@ -52,7 +53,8 @@ fn put_in_memory(
     coding: Coding,
     code: u32,
 ) -> Result<u32, StreamStop>
-    ensures value { Gives (output.put_in_memory memory.old place buf len coding code) memory.new result }
+    ensures value { Gives
+        (output.put_in_memory memory.old place buf len coding code) memory.new result }
     ensures err { OnErr result (memory.new ≡ memory.old) }
 {
     if place >= length_of(buf, len) {
@@ -75,7 +77,8 @@ fn put_bytes(
     requires some { 1 ≤ length new.now }
     requires few { length new.now ≤ 4 }
     ensures ok { IfOk result (λ place_new.
-        Yields (output.put_bytes files.old.items place usage name.now coding new.now) files.new.items place_new) }
+        Yields (output.put_bytes files.old.items place usage name.now coding new.now)
+        files.new.items place_new) }
     ensures err { OnErr result (files.new.items ≡ files.old.items) }
 {
     let held = place.min(coding.units(content_of(files, usage, name)) as u32);
@@ -95,7 +98,8 @@ fn put_by(
     stream: &Stream,
     code: u32,
 ) -> Result<u32, StreamStop>
-    ensures value { Puts (output.put_by files.old.items memory.old stream.now code) files.new.items memory.new result }
+    ensures value { Puts (output.put_by files.old.items memory.old stream.now code)
+        files.new.items memory.new result }
     ensures files { OnErr result (files.new.items ≡ files.old.items) }
     ensures memory { OnErr result (memory.new ≡ memory.old) }
 {
@@ -139,7 +143,8 @@ impl Streams {
         stream: u32,
         code: u32,
     ) -> Result<(), StreamStop>
-        ensures value { LeavesBoth (output.put self.old memory.old stream code) self.new memory.new result }
+        ensures value { LeavesBoth
+            (output.put self.old memory.old stream code) self.new memory.new result }
         ensures err { OnErr result (self.new ≡ self.old) }
         ensures memory { OnErr result (memory.new ≡ memory.old) }
     {

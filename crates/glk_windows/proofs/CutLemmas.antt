@@ -1,17 +1,16 @@
 -- Closing keeps the windows one tree.
-use native.Mathlib.Numerals.{unary_clauses}
-use Rattle.std.proofs.Common.{◌≡◌, ℕ, zero, suc, ◌+◌, ◌-◌, ◌<◌, ◌≤◌, ◌⊎◌, inl, inr, ◌≢◌, List, [], ◌∷◌, ◌++◌, map, length, refl, sym, ap, ◌∙◌, subst, Option, Some, None, is_some, option_map, arith, rules, Bool, true, false, cond, nat_eq, nat_lt, nat_le, not, ◌||◌, ◌==◌, if◌then◌else◌}
+use Rattle.std.proofs.Common.{◌≡◌, ℕ, zero, suc, ◌+◌, ◌<◌, ◌≤◌, List, [], ◌∷◌, length, refl, sym, ap, ◌∙◌, Option, Some, None, is_some, option_map, arith, true, nat_lt, ◌==◌, if◌then◌else◌}
 use Rattle.std.proofs.lemmas.Grind.{common_steps}
 use Rattle.glk_windows.specs.declared.window.Window.{Window}
 use Rattle.glk_windows.specs.declared.window.Pair as p
 use Rattle.glk_windows.specs.declared.window.Content.{Content}
 use Rattle.glk_windows.specs.declared.window.Content.TheVariants.{Pair, Blank, Buffer, Grid}
-use Rattle.glk_windows.specs.Tree.{WindowTree, number_of, stream_of, set_at, pair_of, pair_in, pair_content, pair_swapped, swapped, parent_of}
-use Rattle.glk_windows.specs.Closing.{closed, forgotten, unlinked, content_unkeyed, removed, both, raised, lifted, close, ended}
+use Rattle.glk_windows.specs.Tree.{WindowTree, number_of, stream_of, pair_of, pair_content, parent_of}
+use Rattle.glk_windows.specs.Closing.{closed, forgotten, content_unkeyed, removed, both, close}
 use Rattle.glk_numbers.specs.Numbered.{found, without}
 use Rattle.glk_windows.specs.Valid.{Ascends, IsOrdered}
-use Rattle.glk_windows.specs.OneTree.{Shape, Leaf, Fork, top, kids, count, bare, bare_in, node_of, Spells, Once, IsTree, size, cut}
-use Rattle.glk_windows.proofs.OneTreeLemmas.{count_top, node_set_at, content-swapped, not_top, once_at, once_le, spells_top, node_parent}
+use Rattle.glk_windows.specs.OneTree.{Shape, Leaf, Fork, top, count, bare, node_of, Spells, Once, IsTree, size}
+use Rattle.glk_windows.proofs.OneTreeLemmas.{count_top, once_le, spells_top, node_parent}
 use Rattle.glk_windows.proofs.OrderLemmas.{ascends-closed, ascends-removed}
 
 content-unkeyed : (c : Content) (n : ℕ) → option_map bare (pair_content (content_unkeyed n c)) ≡ option_map bare (pair_content c)
@@ -68,10 +67,10 @@ spells_on ws vs (Fork n p a b) up h t = (
   spells_on ws vs b n (λ m k. h m (omega (arith, k))) t.4,
 )
 
-both-nodes : (o : Option p.Pair) (d : ℕ) (vs : List Window) (p : p.Pair) → option_map bare o ≡ Some p
+pub both_nodes : (o : Option p.Pair) (d : ℕ) (vs : List Window) (p : p.Pair) → option_map bare o ≡ Some p
     → both (removed d) vs o ≡ removed d (removed d vs p.first) p.second
-both-nodes None d vs p e = cc
-both-nodes (Some r) d vs p e =
+both_nodes None d vs p e = cc
+both_nodes (Some r) d vs p e =
     let i : bare r ≡ p = cc in
     ap (λ x. removed d (removed d vs x) r.second) (ap (λ y. y.first) i) ∙ ap (λ x. removed d (removed d vs p.first) x) (ap (λ y. y.second) i)
 
@@ -101,7 +100,7 @@ node_removed (suc d) (Fork n p x y) ws up a z h o t c m =
     let n3 : _ = node_removed d y w2 n a z (omega (arith, h)) o2 t2 (λ j. omega (arith, c j)) m in
     let i2 : _ = n2 m in
     let i1 : _ = n1 m in
-    ap (λ v. node_of v m) (both-nodes (pair_of ws n) d w1 p (node_pair ws n _ t.0)
+    ap (λ v. node_of v m) (both_nodes (pair_of ws n) d w1 p (node_pair ws n _ t.0)
     ∙ ap (λ j. removed d (removed d w1 j) p.second) t.1 ∙ ap (λ j. removed d w2 j) t.2)
     ∙ n3 ∙ grind (arith, common_steps)
 

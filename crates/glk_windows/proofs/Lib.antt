@@ -11,5 +11,7 @@ pub mod LiftLemmas
 pub mod TestLemmas
 pub mod RectangleLemmas
 pub mod SoundLemmas
+pub mod KeyLemmas
 pub mod ValidLemmas
+pub mod BelowLemmas
 pub mod StandardFacts

@@ -1,6 +1,5 @@
 -- A sibling lifted into the place of its pair keeps the windows one tree.
-use native.Mathlib.Numerals.{unary_clauses}
-use Rattle.std.proofs.Common.{◌≡◌, ℕ, zero, suc, ◌+◌, ◌-◌, ◌<◌, ◌≤◌, ◌⊎◌, inl, inr, ◌≢◌, List, [], ◌∷◌, ◌++◌, map, length, refl, sym, ap, ◌∙◌, subst, Option, Some, None, is_some, option_map, arith, rules, Bool, true, false, cond, nat_eq, nat_lt, nat_le, not, ◌||◌, ◌==◌, if◌then◌else◌}
+use Rattle.std.proofs.Common.{◌≡◌, ℕ, ◌+◌, ◌<◌, ◌≤◌, ◌≢◌, List, length, refl, sym, ap, ◌∙◌, Option, Some, None, is_some, option_map, arith, Bool, true, false, cond, nat_lt, ◌==◌, if◌then◌else◌}
 use Rattle.std.proofs.lemmas.Grind.{common_steps}
 use Rattle.glk_windows.specs.declared.window.Window.{Window}
 use Rattle.glk_windows.specs.declared.window.Pair as p
@@ -8,10 +7,10 @@ use Rattle.glk_windows.specs.Tree.{WindowTree, set_at, pair_of, pair_swapped, sw
 use Rattle.glk_windows.specs.Closing.{closed, removed, raised, lifted, close, ended}
 use Rattle.glk_windows.specs.Reading.{other as sibling}
 use Rattle.glk_windows.specs.Valid.{Ascends, IsOrdered}
-use Rattle.glk_windows.specs.OneTree.{Shape, Leaf, Fork, top, kids, count, bare, bare_in, node_of, Spells, Once, IsTree, size, below, cut, held}
+use Rattle.glk_windows.specs.OneTree.{Shape, Leaf, Fork, top, count, bare, node_of, Spells, IsTree, size, below, cut, held}
 use Rattle.glk_windows.proofs.OneTreeLemmas.{count_top, node_set_at, content-swapped, not_top, once_at, once_le, spells_top, node_parent, is_eq, isnt_eq, spells-if}
-use Rattle.glk_windows.proofs.CutLemmas.{spells_on, node_lower, node_removed, node_closed, node_pair, size_length}
-use Rattle.glk_windows.proofs.OrderLemmas.{ascends-closed, ascends-removed}
+use Rattle.glk_windows.proofs.CutLemmas.{node_lower, node_removed, node_closed, node_pair, size_length}
+use Rattle.glk_windows.proofs.OrderLemmas.{ascends-removed}
 
 -- the parent and pair of a window where another took the place of its pair
 abbrev pub relift : ℕ → ℕ → ℕ → ℕ → ℕ × Option p.Pair → ℕ × Option p.Pair

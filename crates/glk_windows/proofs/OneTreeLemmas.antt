@@ -1,12 +1,11 @@
 -- Calls keep the windows one tree.
-use native.Mathlib.Numerals.{unary_clauses}
-use Rattle.std.proofs.Common.{◌≡◌, ℕ, zero, suc, ◌+◌, ◌-◌, ◌<◌, ◌≤◌, ◌⊎◌, inl, inr, ◌≢◌, List, [], ◌∷◌, ◌++◌, map, length, refl, sym, ap, ◌∙◌, subst, Option, Some, None, is_some, option_map, arith, rules, Bool, true, false, cond, nat_eq, nat_lt, nat_le, not, ◌||◌, ◌==◌, if◌then◌else◌}
+use Rattle.std.proofs.Common.{◌≡◌, ℕ, ◌+◌, ◌<◌, ◌≤◌, ◌≢◌, List, [], ◌∷◌, ◌++◌, length, refl, sym, ap, ◌∙◌, Option, Some, None, is_some, option_map, arith, Bool, true, false, cond, nat_lt, nat_le, not, ◌||◌, ◌==◌, if◌then◌else◌}
 use Rattle.std.proofs.lemmas.Grind.{common_steps}
 use Rattle.glk_windows.specs.declared.window.Window.{Window}
 use Rattle.glk_windows.specs.declared.window.Pair as p
 use Rattle.glk_numbers.specs.Numbered.{changed_at, found}
-use Rattle.glk_windows.specs.Tree.{WindowTree, set_at, pair_of, pair_in, pair_swapped, swapped, parent_of, pair_content}
-use Rattle.glk_windows.specs.Opening.{split, joined, first_opened, beside_opened, is_kind, made, fresh}
+use Rattle.glk_windows.specs.Tree.{WindowTree, set_at, pair_swapped, swapped, parent_of, pair_content}
+use Rattle.glk_windows.specs.Opening.{joined, first_opened, beside_opened, is_kind, made, fresh}
 use Rattle.glk_windows.specs.OneTree.{Shape, Leaf, Fork, top, kids, count, bare, bare_in, node_of, Spells, forked, Once, IsTree}
 use Rattle.glk_windows.specs.declared.window.Content.{Content}
 use Rattle.glk_windows.specs.declared.window.Content.TheVariants.{Pair, Blank, Buffer, Grid}

@@ -1,17 +1,15 @@
 -- Calls keep the order of numbers.
-use native.Mathlib.Numerals.{unary_clauses}
-use Rattle.std.proofs.Common.{◌≡◌, ℕ, zero, suc, ◌+◌, ◌-◌, ◌<◌, ◌≤◌, List, [], ◌∷◌, ◌++◌, map, length, refl, Option, Some, None, arith, rules, Bool, true, false, cond, nat_eq, nat_lt, nat_le, not, ◌||◌, ◌==◌}
-use Rattle.std.proofs.lemmas.Grind.{common_steps}
+use Rattle.std.proofs.Common.{◌≡◌, ℕ, zero, suc, ◌+◌, ◌≤◌, List, [], ◌∷◌, ◌++◌, map, length, refl, Option, Some, None, arith, Bool, true, false, cond, nat_eq, nat_lt, nat_le, not, ◌||◌, ◌==◌}
 use Rattle.glk_windows.specs.declared.window.Window.{Window}
 use Rattle.glk_windows.specs.declared.window.Area.{Area}
 use Rattle.glk_windows.specs.declared.window.Pair as p
 use Rattle.glk_numbers.specs.Numbered.{changed_at, without}
 use Rattle.glk_windows.specs.Tree.{WindowTree, number_of, set_at, pair_of, swapped, parent_of, stream_of}
-use Rattle.glk_windows.specs.Opening.{split, joined, first_opened, beside_opened, is_kind, made, fresh}
+use Rattle.glk_windows.specs.Opening.{split, joined, first_opened, beside_opened, is_kind}
 use Rattle.glk_windows.specs.Output.{put, window_put}
 use Rattle.glk_windows.specs.Reading.{other as sibling}
 use Rattle.glk_windows.specs.Placing.{placed, divided, with_area, place}
-use Rattle.glk_windows.specs.Closing.{closed, forgotten, unlinked, removed, both, close, ended}
+use Rattle.glk_windows.specs.Closing.{closed, unlinked, removed, both, close, ended}
 use Rattle.glk_windows.specs.Resizing.{sized}
 use Rattle.glk_windows.specs.Valid.{Ascends, IsOrdered}
 

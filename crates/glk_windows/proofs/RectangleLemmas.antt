@@ -1,6 +1,5 @@
 -- The rectangles of windows that are no pairs.
-use native.Mathlib.Numerals.{unary_clauses}
-use Rattle.std.proofs.Common.{◌≡◌, ◌≢◌, ◌⊎◌, inl, inr, ℕ, zero, suc, ◌+◌, ◌-◌, ◌<◌, ◌≤◌, ◌==◌, min, List, [], ◌∷◌, length, refl, sym, ap, ◌∙◌, Option, Some, None, option_map, is_some, arith, rules, Bool, true, false, cond, not, if◌then◌else◌, nat_eq, nat_lt}
+use Rattle.std.proofs.Common.{◌≡◌, ◌≢◌, ◌⊎◌, inl, inr, ℕ, zero, suc, ◌+◌, ◌-◌, ◌<◌, ◌≤◌, ◌==◌, List, [], ◌∷◌, length, refl, sym, ap, ◌∙◌, Option, Some, None, option_map, is_some, arith, Bool, true, false, if◌then◌else◌, nat_lt}
 use Rattle.std.proofs.lemmas.Grind.{common_steps}
 use Rattle.std.proofs.Math.Nat.{min-le_left}
 use Rattle.glk_numbers.specs.Numbered.{found, changed_at}
@@ -9,13 +8,13 @@ use Rattle.glk_windows.specs.declared.window.Area.{Area}
 use Rattle.glk_windows.specs.declared.window.Pair as pairs
 use Rattle.glk_windows.specs.declared.window.Content.{Content}
 use Rattle.glk_windows.specs.declared.window.Content.TheVariants.{Pair, Blank, Buffer, Grid}
-use Rattle.glk_windows.specs.Tree.{WindowTree, number_of, read, window_at, set_at, pair_of, pair_in, pair_content}
+use Rattle.glk_windows.specs.Tree.{WindowTree, read, window_at, set_at, pair_of, pair_in, pair_content}
 use Rattle.glk_windows.specs.Resizing.{sized, content_sized}
-use Rattle.glk_windows.specs.Placing.{placed, divided, with_area, place, has_size, shows, share, first_part, second_part, is_stacked, is_after}
-use Rattle.glk_windows.specs.OneTree.{Shape, Leaf, Fork, top, count, bare, node_of, Spells, Once, IsTree, size, shape_of, is_tree}
-use Rattle.glk_windows.specs.Valid.{Ascends, IsOrdered}
+use Rattle.glk_windows.specs.Placing.{placed, divided, with_area, has_size, share, first_part, second_part, is_stacked, is_after}
+use Rattle.glk_windows.specs.OneTree.{Shape, Leaf, Fork, top, count, bare, node_of, Spells, IsTree, size, shape_of}
+use Rattle.glk_windows.specs.Valid.{IsOrdered}
 use Rattle.glk_windows.specs.Laws.{nowhere, area_of, IsInside, Covers, StaysOnScreen, NeverOverlaps}
-use Rattle.glk_windows.proofs.OneTreeLemmas.{count_top, once_le, not_top}
+use Rattle.glk_windows.proofs.OneTreeLemmas.{once_le, not_top}
 use Rattle.glk_windows.proofs.CutLemmas.{spells_on, node_pair, size_length}
 use Rattle.glk_windows.proofs.SameLemmas.{node_placed, node_with}
 use Rattle.glk_windows.proofs.TestLemmas.{tree_of_test}
@@ -48,17 +47,17 @@ read_placed none of e (suc d) ws n r m =
     read-divided none of (placed d) (read_placed none of e d) (with_area ws n r) (pair_of ws n) r m
     ∙ read_set_at none of (sized r) (λ w. refl) (e r) ws n m
 
-pair-sized : (a : Area) (c : Content) → pair_content (content_sized c a) ≡ pair_content c
-pair-sized a (Pair p) = refl
-pair-sized a Blank = refl
-pair-sized a (Buffer b) = refl
-pair-sized a (Grid g) = refl
+pub pair_sized : (a : Area) (c : Content) → pair_content (content_sized c a) ≡ pair_content c
+pair_sized a (Pair p) = refl
+pair_sized a Blank = refl
+pair_sized a (Buffer b) = refl
+pair_sized a (Grid g) = refl
 
 pub pair_placed : (d : ℕ) (ws : List Window) (n : ℕ) (r : Area) (m : ℕ) → pair_of (placed d ws n r) m ≡ pair_of ws m
-pair_placed d ws n r m = read_placed None pair_in (λ a w. pair-sized a w.content) d ws n r m
+pair_placed d ws n r m = read_placed None pair_in (λ a w. pair_sized a w.content) d ws n r m
 
 pub pair_with : (ws : List Window) (n : ℕ) (r : Area) (m : ℕ) → pair_of (with_area ws n r) m ≡ pair_of ws m
-pair_with ws n r m = read_set_at None pair_in (sized r) (λ w. refl) (λ w. pair-sized r w.content) ws n m
+pair_with ws n r m = read_set_at None pair_in (sized r) (λ w. refl) (λ w. pair_sized r w.content) ws n m
 
 -- a new rectangle for one window
 area-other : (ws : List Window) (n m : ℕ) (r : Area) → m ≢ n → area_of (with_area ws n r) m ≡ area_of ws m

@@ -1,6 +1,6 @@
 -- Rows of a grid, for any count that is left.
 use native.Mathlib.Numerals.{unary_clauses}
-use Rattle.std.proofs.Common.{◌≡◌, ℕ, zero, suc, ◌+◌, ◌-◌, ◌<◌, List, [], ◌∷◌, ◌++◌, take, drop, refl, arith, append_assoc}
+use Rattle.std.proofs.Common.{◌≡◌, ℕ, zero, suc, ◌-◌, ◌<◌, List, [], ◌++◌, take, drop, refl, arith}
 use Rattle.glk_windows.specs.Resizing.{row_sized, rows_sized}
 
 pub rows_sized-more : (n w old : ℕ) (cells : List ℕ) → 0 < n

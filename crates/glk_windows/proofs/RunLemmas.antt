@@ -1,7 +1,6 @@
 -- The last run of a buffer, by its place.
 use native.Mathlib.Numerals.{unary_clauses}
-use Rattle.std.proofs.Common.{◌≡◌, ℕ, zero, suc, ◌-◌, ◌<◌, ◌==◌, List, [], ◌∷◌, length, refl, arith, slice_set, slice_index_or, false, ap}
-use Rattle.std.proofs.lemmas.Grind.{common_steps}
+use Rattle.std.proofs.Common.{◌≡◌, ℕ, ◌-◌, ◌<◌, ◌==◌, List, [], ◌∷◌, length, refl, arith, slice_set, slice_index_or, false, ap}
 use Rattle.glk_windows.specs.declared.text.Run.{Run}
 use Rattle.glk_windows.specs.Output.{ends_in, last_longer, longer}
 

@@ -1,5 +1,5 @@
 -- Output and placing leave the tree as it is.
-use Rattle.std.proofs.Common.{◌≡◌, ℕ, zero, suc, List, [], ◌∷◌, refl, sym, ap, ◌∙◌, Option, Some, None, is_some, option_map, arith, if◌then◌else◌, ◌==◌, cond, true, false, length}
+use Rattle.std.proofs.Common.{◌≡◌, ℕ, zero, suc, List, refl, sym, ap, ◌∙◌, Option, Some, None, is_some, option_map, arith, if◌then◌else◌, ◌==◌, length}
 use Rattle.std.proofs.lemmas.Grind.{common_steps}
 use Rattle.glk_windows.specs.declared.window.Window.{Window}
 use Rattle.glk_windows.specs.declared.window.Area.{Area}
@@ -11,7 +11,7 @@ use Rattle.glk_windows.specs.Output.{put, window_put, content_put}
 use Rattle.glk_windows.specs.Arranging.{stream_set}
 use Rattle.glk_windows.specs.Placing.{placed, divided, with_area, place}
 use Rattle.glk_windows.specs.Resizing.{sized, content_sized}
-use Rattle.glk_windows.specs.OneTree.{Shape, node_of, bare, bare_in, Spells, IsTree}
+use Rattle.glk_windows.specs.OneTree.{Shape, node_of, bare, bare_in, IsTree}
 use Rattle.glk_windows.proofs.OneTreeLemmas.{node_set_at}
 use Rattle.glk_windows.proofs.CutLemmas.{spells_on}
 

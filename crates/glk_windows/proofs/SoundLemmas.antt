@@ -1,6 +1,5 @@
 -- Methods of pairs and cells of grids stay sound, and the windows few.
-use native.Mathlib.Numerals.{unary_clauses}
-use Rattle.std.proofs.Common.{◌≡◌, ℕ, zero, suc, ◌+◌, ◌-◌, ◌*◌, ◌≤◌, ◌<◌, ◌==◌, ◌&&◌, ◌++◌, min, List, [], ◌∷◌, map, take, drop, replicate, length, refl, sym, ap, ◌∙◌, Option, Some, None, arith, rules, Bool, true, false, cond, if◌then◌else◌, nat_eq, nat_le, slice_set, length-append}
+use Rattle.std.proofs.Common.{◌≡◌, ℕ, zero, suc, ◌+◌, ◌-◌, ◌*◌, ◌≤◌, ◌==◌, ◌&&◌, ◌++◌, min, List, [], ◌∷◌, map, take, drop, replicate, length, refl, ap, ◌∙◌, Option, Some, None, arith, Bool, true, false, cond, if◌then◌else◌, nat_eq, nat_le, slice_set, length-append}
 use Rattle.std.proofs.lemmas.List.{length-take, length-replicate, length-map}
 use Rattle.std.proofs.lemmas.Grind.{common_steps}
 use Rattle.glk_numbers.specs.Numbered.{changed_at, without}
@@ -11,8 +10,8 @@ use Rattle.glk_windows.specs.declared.window.Grid as g
 use Rattle.glk_windows.specs.declared.window.Content.{Content}
 use Rattle.glk_windows.specs.declared.window.Content.TheVariants.{Pair, Blank, Buffer, Grid}
 use Rattle.glk_windows.specs.Tree.{number_of, set_at, pair_of, swapped, arranged, moved, stream_of}
-use Rattle.glk_windows.specs.Output.{content_put, content_cleared, content_kept, grid_put, cell_put, next_row, window_put, window_cleared, window_kept}
-use Rattle.glk_windows.specs.Resizing.{sized, content_sized, grid_sized, row_sized, rows_sized}
+use Rattle.glk_windows.specs.Output.{content_put, content_cleared, content_kept, grid_put, cell_put, next_row}
+use Rattle.glk_windows.specs.Resizing.{sized, content_sized, row_sized, rows_sized}
 use Rattle.glk_windows.specs.Closing.{closed, unlinked, content_unkeyed, removed, both}
 use Rattle.glk_windows.specs.Placing.{placed, divided, with_area}
 use Rattle.glk_windows.specs.Arranging.{is_method}

@@ -1,9 +1,8 @@
 -- Values that the profile gives, so that a wrong rule in the specs does not check.
-use Rattle.std.specs.Prelude.{◌≡◌, ℕ, map, true, false, List, [], ◌∷◌, Some}
+use Rattle.std.specs.Prelude.{◌≡◌, ℕ, map, true, false, [], ◌∷◌}
 use Rattle.std.proofs.Common.{refl}
 use Rattle.glk_numbers.specs.Numbered.{found, changed_at, without}
-use Rattle.glk_windows.specs.Tree.{WindowTree, window_at}
-use Rattle.glk_windows.specs.Reading.{size_of, sibling_of}
+use Rattle.glk_windows.specs.Tree.{WindowTree}
 use Rattle.glk_windows.specs.Arranging.{is_method}
 use Rattle.glk_windows.specs.Opening.{split}
 use Rattle.glk_windows.specs.Closing.{close, removed}
@@ -11,7 +10,6 @@ use Rattle.glk_windows.specs.Placing.{place, placed}
 use Rattle.glk_windows.specs.Output.{grid_put}
 use Rattle.glk_windows.specs.Laws.{area_of}
 use Rattle.glk_windows.specs.declared.window.Area.{Area}
-use Rattle.glk_windows.specs.declared.window.Grid.{Grid}
 
 pub methods : map is_method (0x12 ∷ 0x20 ∷ 0x113 ∷ 0x02 ∷ 0x32 ∷ 0x14 ∷ [])
     ≡ true ∷ true ∷ true ∷ false ∷ false ∷ false ∷ []

@@ -1,12 +1,11 @@
 -- The tree is found from the list, so a test can look for it.
-use native.Mathlib.Numerals.{unary_clauses}
-use Rattle.std.proofs.Common.{◌≡◌, ℕ, zero, suc, ◌+◌, ◌-◌, ◌<◌, ◌≤◌, List, [], ◌∷◌, length, refl, sym, ap, ◌∙◌, Option, Some, None, is_some, option_map, arith, rules, Bool, true, false}
+use Rattle.std.proofs.Common.{◌≡◌, ℕ, zero, suc, ◌≤◌, List, [], ◌∷◌, length, refl, sym, ap, ◌∙◌, Option, Some, None, is_some, option_map, arith, Bool, true, false}
 use Rattle.std.proofs.lemmas.Grind.{common_steps}
 use Rattle.glk_windows.specs.declared.window.Window.{Window}
 use Rattle.glk_windows.specs.declared.window.Pair as p
 use Rattle.glk_windows.specs.Tree.{WindowTree, pair_of}
-use Rattle.glk_windows.specs.Valid.{Ascends, IsOrdered}
-use Rattle.glk_windows.specs.OneTree.{Shape, Leaf, Fork, top, count, bare, node_of, Spells, Once, IsTree, size, shape_of, shape_with, tested, is_under, no_pair, once, is_spelled, is_tree}
+use Rattle.glk_windows.specs.Valid.{IsOrdered}
+use Rattle.glk_windows.specs.OneTree.{Shape, Leaf, Fork, top, count, bare, node_of, Spells, IsTree, size, shape_of, shape_with, tested, is_under, no_pair, once, is_spelled, is_tree}
 use Rattle.glk_windows.proofs.CutLemmas.{node_pair, size_length}
 use Rattle.std.proofs.Common.{◌&&◌, ◌==◌, if◌then◌else◌}
 

@@ -1,30 +1,30 @@
 -- Each call keeps the windows valid.
-use native.Mathlib.Numerals.{unary_clauses}
-use Rattle.std.proofs.Common.{◌≡◌, ◌≢◌, ◌⊎◌, inl, inr, ℕ, zero, suc, ◌+◌, ◌≤◌, ◌<◌, ◌==◌, ◌||◌, ◌&&◌, List, [], ◌∷◌, ◌++◌, map, length, refl, sym, ap, ◌∙◌, Option, Some, None, option_map, is_some, arith, rules, Bool, true, false, cond, not, if◌then◌else◌, nat_eq, nat_lt, nat_le, length-append}
+use Rattle.std.proofs.Common.{◌≡◌, ◌≢◌, ◌⊎◌, inl, inr, ℕ, ◌+◌, ◌≤◌, ◌<◌, ◌==◌, ◌||◌, ◌&&◌, List, [], ◌∷◌, ◌++◌, map, length, refl, sym, ap, ◌∙◌, Option, Some, None, option_map, is_some, arith, Bool, true, false, cond, not, if◌then◌else◌, nat_lt, nat_le, length-append}
 use Rattle.std.proofs.lemmas.List.{length-map}
 use Rattle.std.proofs.lemmas.Grind.{common_steps}
-use Rattle.glk_numbers.specs.Numbered.{has}
+use Rattle.glk_numbers.specs.Numbered.{has, found, changed_at}
 use Rattle.glk_windows.specs.declared.window.Window.{Window}
-use Rattle.glk_windows.specs.declared.window.Area.{Area}
 use Rattle.glk_windows.specs.declared.window.Pair as pairs
 use Rattle.glk_windows.specs.declared.window.Content.{Content}
 use Rattle.glk_windows.specs.declared.window.Content.TheVariants.{Pair, Blank, Buffer, Grid}
-use Rattle.glk_windows.specs.Tree.{WindowTree, number_of, set_at, pair_of, parent_of, pair_content, swapped, arranged, moved}
+use Rattle.glk_windows.specs.Tree.{WindowTree, number_of, set_at, pair_of, pair_in, parent_of, pair_content, swapped, arranged, moved}
 use Rattle.glk_windows.specs.Opening.{split, joined, first_opened, beside_opened, is_kind, made, fresh}
 use Rattle.glk_windows.specs.Closing.{close, ended, removed, echo_ended, unechoed, closed}
 use Rattle.glk_windows.specs.Reading.{other as sibling}
 use Rattle.glk_windows.specs.Arranging.{is_method, arrange, move_to, stream_set, echo_set}
 use Rattle.glk_windows.specs.Output.{put, clear, begin_turn, window_put, window_cleared, window_kept, content_cleared, content_kept, content_put}
 use Rattle.glk_windows.specs.Placing.{place}
-use Rattle.glk_windows.specs.OneTree.{Shape, Leaf, Fork, top, count, bare, bare_in, node_of, Spells, Once, IsTree, shape_of, is_tree, cut, forked}
-use Rattle.glk_windows.specs.Valid.{Ascends, IsOrdered, IsValid, is_one_tree, is_sound, is_sound_content, are_sound}
-use Rattle.glk_windows.specs.Laws.{IsLive, KeepsValid}
-use Rattle.glk_windows.proofs.OrderLemmas.{ascends-set_at, ascends-map, ordered_first, ordered_beside, ordered_close, ordered_place, ordered_put}
-use Rattle.glk_windows.proofs.OneTreeLemmas.{node_set_at, tree_first, tree_beside, spells_top}
+use Rattle.glk_windows.specs.OneTree.{Shape, Leaf, Fork, top, count, bare, bare_in, node_of, Spells, IsTree, shape_of, is_tree, cut, forked, below, tree_of, key_in, key_of, has_leaf, are_keyed}
+use Rattle.glk_windows.specs.Valid.{Ascends, IsOrdered, IsValid, is_one_tree, is_sound_content, are_sound}
+use Rattle.glk_windows.specs.Laws.{IsLive, IsKeyOf, KeepsValid}
+use Rattle.glk_windows.proofs.OrderLemmas.{ascends-set_at, ascends-map, ordered_first, ordered_beside, ordered_close, ordered_place}
+use Rattle.glk_windows.proofs.OneTreeLemmas.{node_set_at, node_later, node_joined, renode, tree_first, tree_beside, spells_top, once_le, once_at, is_eq, isnt_eq}
+use Rattle.glk_windows.proofs.KeyLemmas.{Keyed, keyed_of, are_keyed_of, keyed_on, keyed_forked, keyed_cut, left_close, key_append, key_after, key_joined}
+use Rattle.glk_windows.proofs.RectangleLemmas.{read_set_at, read_placed, pair_sized}
 use Rattle.glk_windows.proofs.CutLemmas.{node_lower, nil_of, tree_close-root}
 use Rattle.glk_windows.proofs.LiftLemmas.{tree_close}
-use Rattle.glk_windows.proofs.SameLemmas.{same_tree, node_same, node_placed, tree_put, tree_place}
-use Rattle.glk_windows.proofs.TestLemmas.{tree_of_test, test_of_tree}
+use Rattle.glk_windows.proofs.SameLemmas.{same_tree, node_same, node_placed}
+use Rattle.glk_windows.proofs.TestLemmas.{tree_of_test, test_of_tree, tree_found}
 use Rattle.glk_windows.proofs.SoundLemmas.{KeepsSound, sound_set_at, sound_map, sound_append, sound_swapped, sound_arranged, sound_moved, sound_put, sound_cleared, sound_kept, sound_placed, sound_removed, sound_closed, length_set_at, length_removed, length_closed, length_placed}
 
 node-step : (b : Bool) (x : ℕ × Option pairs.Pair) (h : Bool) (o : Option (ℕ × Option pairs.Pair)) → (b || h) ≡ true
@@ -41,20 +41,30 @@ node_live [] n e = cc
 node_live (w ∷ ws) n e = node-step (w.number == n) (w.parent, bare_in w) (has number_of ws n) (node_of ws n) e (node_live ws n)
 
 -- one tree, by the test and by its shape
+abbrev pub KeyedBy : List Window → Option Shape → Type 0
+KeyedBy ws None = Unit {0}
+KeyedBy ws (Some s) = Keyed ws s
+
 abbrev pub SomeTree : WindowTree → Type 0
-SomeTree t = (o : Option Shape) × IsTree t o
+SomeTree t = (o : Option Shape) × IsTree t o × KeyedBy t.slots o
 
 none-of : (ws : List Window) → (length ws == 0) ≡ true → ws ≡ []
 none-of [] e = refl
 none-of (w ∷ ws) e = absurd (grind (arith, e))
 
 by-root : (t : WindowTree) (b : Bool) → (t.root == 0) ≡ b
-    → (if b then length t.slots == 0 else is_tree t) ≡ true → SomeTree t
-by-root t true e h = (None, (grind (arith, common_steps), none-of t.slots h))
-by-root t false e h = (Some (shape_of (length t.slots) t.slots t.root), tree_of_test t h)
+    → (if b then length t.slots == 0 else is_tree t) ≡ true → are_keyed t.slots (tree_of t) ≡ true → SomeTree t
+by-root t true e h k = (None, (grind (arith, common_steps), none-of t.slots h), tt)
+by-root t false e h k = (Some (tree_of t), tree_of_test t h, keyed_of t.slots (tree_of t) k)
 
-pub some_tree : (t : WindowTree) → is_one_tree t ≡ true → SomeTree t
-some_tree t h = by-root t (t.root == 0) refl h
+pub some_tree : (t : WindowTree) → IsValid t → SomeTree t
+some_tree t v = by-root t (t.root == 0) refl v.one_tree v.keyed
+
+pub keyed_test : (t : WindowTree) (o : Option Shape) → IsOrdered t → IsTree t o → KeyedBy t.slots o
+    → are_keyed t.slots (tree_of t) ≡ true
+unfolding shape_of
+keyed_test t None o h k = rw (h.0, h.1) refl
+keyed_test t (Some s) o h k = ap (are_keyed t.slots) (tree_found t s o h) ∙ are_keyed_of t.slots s k
 
 root-some : (ws : List Window) (z n : ℕ) (x : ℕ × Option pairs.Pair) → Ascends 1 ws z → node_of ws n ≡ Some x → (n == 0) ≡ false
 root-some ws z n x o e =
@@ -71,16 +81,24 @@ one_tree_of t (Some s) o h =
     ap (λ b. if b then length t.slots == 0 else is_tree t) r ∙ test_of_tree t s o h
 
 -- windows that say the same of their tree
-same-some : (t u : WindowTree) → SomeTree t → ((m : ℕ) → node_of u.slots m ≡ node_of t.slots m) → u.root ≡ t.root → SomeTree u
-same-some t u (None, h) f e =
-    (None, (e ∙ h.0, nil_of u.slots (λ m. f m ∙ ap (λ ws. node_of ws m) h.1)))
-same-some t u (Some s, h) f e = (Some s, same_tree t u s f e h)
+same-some : (t u : WindowTree) → SomeTree t → ((m : ℕ) → node_of u.slots m ≡ node_of t.slots m)
+    → ((m : ℕ) → key_of u.slots m ≡ key_of t.slots m) → u.root ≡ t.root → SomeTree u
+same-some t u (None, h, k) f g e =
+    (None, (e ∙ h.0, nil_of u.slots (λ m. f m ∙ ap (λ ws. node_of ws m) h.1)), tt)
+same-some t u (Some s, h, k) f g e = (Some s, same_tree t u s f e h, keyed_on t.slots u.slots s (λ m l. g m) k)
 
-pub valid_same : (t u : WindowTree) → IsValid t → ((m : ℕ) → node_of u.slots m ≡ node_of t.slots m) → u.root ≡ t.root
+pub valid_same : (t u : WindowTree) → IsValid t → ((m : ℕ) → node_of u.slots m ≡ node_of t.slots m)
+    → ((m : ℕ) → key_of u.slots m ≡ key_of t.slots m) → u.root ≡ t.root
     → IsOrdered u → length u.slots ≡ length t.slots → are_sound u.slots ≡ true → IsValid u
-valid_same t u v f e o l k =
-    let g : SomeTree u = same-some t u (some_tree t v.one_tree) f e in
-    record { ordered = o; one_tree = one_tree_of u g.0 o g.1; few = omega (arith, l, v.few); sound = k }
+valid_same t u v f h e o l k =
+    let g : SomeTree u = same-some t u (some_tree t v) f h e in
+    record {
+      ordered = o;
+      one_tree = one_tree_of u g.0 o g.1;
+      keyed = keyed_test u g.0 o g.1 g.2;
+      few = omega (arith, l, v.few);
+      sound = k;
+    }
 
 ordered-set_at : (t : WindowTree) (f : Window → Window) → ((w : Window) → (f w).number ≡ w.number) → (n : ℕ)
     → IsOrdered t → IsOrdered (record t { slots = set_at f t.slots n })
@@ -96,9 +114,11 @@ ordered-map t f num o = ascends-map f num 1 t.slots t.next o
 pub valid_set_at : (t : WindowTree) (f : Window → Window) (n : ℕ)
     → ((w : Window) → (f w).number ≡ w.number)
     → ((w : Window) → ◌≡◌ {A = ℕ × Option pairs.Pair} ((f w).parent, bare_in (f w)) (w.parent, bare_in w))
+    → ((w : Window) → pair_in (f w) ≡ pair_in w)
     → KeepsSound f → IsValid t → IsValid (record t { slots = set_at f t.slots n })
-valid_set_at t f n num nd k v =
-    valid_same t _ v (node_same f num nd t.slots n) refl (ordered-set_at t f num n v.ordered)
+valid_set_at t f n num nd pr k v =
+    valid_same t _ v (node_same f num nd t.slots n)
+    (read_set_at 0 (λ w. key_in (pair_in w)) f num (λ w. ap key_in (pr w)) t.slots n) refl (ordered-set_at t f num n v.ordered)
     (length_set_at f t.slots n) (sound_set_at f k t.slots n v.sound)
 
 node-map : (f : Window → Window) → ((w : Window) → (f w).number ≡ w.number)
@@ -111,34 +131,45 @@ node-map f num nd (w ∷ ws) m =
     let k : _ = node-map f num nd ws m in
     grind (arith, common_steps)
 
+key-map : (f : Window → Window) → ((w : Window) → (f w).number ≡ w.number) → ((w : Window) → pair_in (f w) ≡ pair_in w)
+    → (ws : List Window) (m : ℕ) → key_of (map f ws) m ≡ key_of ws m
+unfolding found
+key-map f num pr [] m = refl
+key-map f num pr (w ∷ ws) m =
+    let i : _ = num w in
+    let j : _ = ap key_in (pr w) in
+    let k : _ = key-map f num pr ws m in
+    grind (arith, common_steps)
+
 -- each window changed
 pub valid_map : (t : WindowTree) (f : Window → Window)
     → ((w : Window) → (f w).number ≡ w.number)
     → ((w : Window) → ◌≡◌ {A = ℕ × Option pairs.Pair} ((f w).parent, bare_in (f w)) (w.parent, bare_in w))
+    → ((w : Window) → pair_in (f w) ≡ pair_in w)
     → KeepsSound f → IsValid t → IsValid (record t { slots = map f t.slots })
-valid_map t f num nd k v =
-    valid_same t _ v (node-map f num nd t.slots) refl (ordered-map t f num v.ordered)
+valid_map t f num nd pr k v =
+    valid_same t _ v (node-map f num nd t.slots) (key-map f num pr t.slots) refl (ordered-map t f num v.ordered)
     (length-map t.slots f) (sound_map f k t.slots v.sound)
 
-pair-put : (c : Content) (code style : ℕ) → option_map bare (pair_content (content_put c code style)) ≡ option_map bare (pair_content c)
+pair-put : (c : Content) (code style : ℕ) → pair_content (content_put c code style) ≡ pair_content c
 pair-put (Pair q) code style = refl
 pair-put Blank code style = refl
 pair-put (Buffer b) code style = refl
 pair-put (Grid x) code style = refl
 
-pair-cleared : (c : Content) → option_map bare (pair_content (content_cleared c)) ≡ option_map bare (pair_content c)
+pair-cleared : (c : Content) → pair_content (content_cleared c) ≡ pair_content c
 pair-cleared (Pair q) = refl
 pair-cleared Blank = refl
 pair-cleared (Buffer b) = refl
 pair-cleared (Grid x) = refl
 
-pair-kept : (c : Content) → option_map bare (pair_content (content_kept c)) ≡ option_map bare (pair_content c)
+pair-kept : (c : Content) → pair_content (content_kept c) ≡ pair_content c
 pair-kept (Pair q) = refl
 pair-kept Blank = refl
 pair-kept (Buffer b) = refl
 pair-kept (Grid x) = refl
 
-pair-moved : (c : Content) (x y : ℕ) → option_map bare (pair_content (moved c x y)) ≡ option_map bare (pair_content c)
+pair-moved : (c : Content) (x y : ℕ) → pair_content (moved c x y) ≡ pair_content c
 pair-moved (Pair q) x y = refl
 pair-moved Blank x y = refl
 pair-moved (Buffer b) x y = refl
@@ -147,44 +178,45 @@ pair-moved (Grid g) x y = refl
 pub valid_put : (t : WindowTree) (n code style : ℕ) → IsValid t → IsValid (put t n code style)
 valid_put t n code style v =
     valid_set_at t (λ w. window_put w code style) n (λ w. refl)
-    (λ w. ap (λ o. (w.parent, o)) (pair-put w.content code style))
+    (λ w. ap (λ o. (w.parent, option_map bare o)) (pair-put w.content code style)) (λ w. pair-put w.content code style)
     (λ w e. sound_put w.content w.area code style e) v
 
 pub valid_clear : (t : WindowTree) (n : ℕ) → IsValid t → IsValid (clear t n)
 valid_clear t n v =
-    valid_set_at t window_cleared n (λ w. refl) (λ w. ap (λ o. (w.parent, o)) (pair-cleared w.content))
+    valid_set_at t window_cleared n (λ w. refl) (λ w. ap (λ o. (w.parent, option_map bare o)) (pair-cleared w.content)) (λ w. pair-cleared w.content)
     (λ w e. sound_cleared w.content w.area e) v
 
 pub valid_move_to : (t : WindowTree) (n x y : ℕ) → IsValid t → IsValid (move_to t n x y)
 valid_move_to t n x y v =
     valid_set_at t (λ w. record w { content = moved w.content x y }) n (λ w. refl)
-    (λ w. ap (λ o. (w.parent, o)) (pair-moved w.content x y))
+    (λ w. ap (λ o. (w.parent, option_map bare o)) (pair-moved w.content x y)) (λ w. pair-moved w.content x y)
     (λ w e. sound_moved w.content w.area x y e) v
 
 pub valid_stream : (t : WindowTree) (n stream : ℕ) → IsValid t → IsValid (stream_set t n stream)
 valid_stream t n stream v =
-    valid_set_at t (λ w. record w { stream = stream }) n (λ w. refl) (λ w. refl) (λ w e. e) v
+    valid_set_at t (λ w. record w { stream = stream }) n (λ w. refl) (λ w. refl) (λ w. refl) (λ w e. e) v
 
 pub valid_echo : (t : WindowTree) (n stream : ℕ) → IsValid t → IsValid (echo_set t n stream)
 valid_echo t n stream v =
-    valid_set_at t (λ w. record w { echo = stream }) n (λ w. refl) (λ w. refl) (λ w e. e) v
+    valid_set_at t (λ w. record w { echo = stream }) n (λ w. refl) (λ w. refl) (λ w. refl) (λ w e. e) v
 
 pub valid_end_echo : (t : WindowTree) (stream : ℕ) → IsValid t → IsValid (echo_ended t stream)
-valid_end_echo t stream v = valid_map t (unechoed stream) (λ w. refl) (λ w. refl) (λ w e. e) v
+valid_end_echo t stream v = valid_map t (unechoed stream) (λ w. refl) (λ w. refl) (λ w. refl) (λ w e. e) v
 
 pub valid_begin_turn : (t : WindowTree) → IsValid t → IsValid (begin_turn t)
 valid_begin_turn t v =
-    valid_map t window_kept (λ w. refl) (λ w. ap (λ o. (w.parent, o)) (pair-kept w.content))
+    valid_map t window_kept (λ w. refl) (λ w. ap (λ o. (w.parent, option_map bare o)) (pair-kept w.content)) (λ w. pair-kept w.content)
     (λ w e. sound_kept w.content w.area e) v
 
 pub valid_place : (t : WindowTree) (cols rows : ℕ) → IsValid t → IsValid (place t cols rows)
 valid_place t cols rows v =
-    valid_same t _ v (node_placed (length t.slots) t.slots t.root _) refl (ordered_place t cols rows v.ordered)
+    valid_same t _ v (node_placed (length t.slots) t.slots t.root _)
+    (read_placed 0 (λ w. key_in (pair_in w)) (λ a w. ap key_in (pair_sized a w.content)) (length t.slots) t.slots t.root _) refl (ordered_place t cols rows v.ordered)
     (length_placed (length t.slots) t.slots t.root _) (sound_placed (length t.slots) t.slots t.root _ v.sound)
 
 pub valid_new : IsValid (record { slots = []; next = 1; root = 0 })
-unfolding IsOrdered
-valid_new = record { ordered = omega arith; one_tree = refl; few = omega arith; sound = refl }
+unfolding IsOrdered shape_of
+valid_new = record { ordered = omega arith; one_tree = refl; keyed = refl; few = omega arith; sound = refl }
 
 -- a pair divided anew
 abbrev pub redivided : ℕ → ℕ → pairs.Pair → pairs.Pair
@@ -258,16 +290,122 @@ node-arranged ws n method size key m =
     node_set_at (λ w. record w { content = arranged w.content method size key }) (renoded method size) (λ w. refl)
     (λ w. ap (λ o. (w.parent, o)) (pair-re w.content method size key)) ws n m
 
-tree-arranged : (t : WindowTree) (n method size key : ℕ) → SomeTree t → SomeTree (arrange t n method size key)
-tree-arranged t n method size key (None, h) = (
+leaf-reshaped : (n method size : ℕ) (s : Shape) (k : ℕ) → has_leaf (reshaped n method size s) k ≡ has_leaf s k
+leaf-reshaped n method size (Leaf m) k = refl
+leaf-reshaped n method size (Fork m q a b) k =
+    let i : _ = leaf-reshaped n method size a k in
+    let j : _ = leaf-reshaped n method size b k in
+    grind (arith, common_steps)
+
+keyed-reshaped : (vs : List Window) (n method size : ℕ) (s : Shape) → Keyed vs s → Keyed vs (reshaped n method size s)
+keyed-reshaped vs n method size (Leaf m) k = tt
+keyed-reshaped vs n method size (Fork m q a b) k = (
+  λ i. ap (λ x. x || has_leaf (reshaped n method size b) (key_of vs m)) (leaf-reshaped n method size a (key_of vs m))
+      ∙ ap (λ x. has_leaf a (key_of vs m) || x) (leaf-reshaped n method size b (key_of vs m)) ∙ k.0 i,
+  keyed-reshaped vs n method size a k.1,
+  keyed-reshaped vs n method size b k.2,
+)
+
+key-content-same : (c : Content) (method size key : ℕ) → key ≡ 0
+    → key_in (pair_content (arranged c method size key)) ≡ key_in (pair_content c)
+key-content-same (Pair q) method size key e = grind (arith, common_steps)
+key-content-same Blank method size key e = refl
+key-content-same (Buffer b) method size key e = refl
+key-content-same (Grid g) method size key e = refl
+
+key-content-new : (c : Content) (method size key : ℕ) (q : pairs.Pair) → key ≢ 0 → option_map bare (pair_content c) ≡ Some q
+    → key_in (pair_content (arranged c method size key)) ≡ key
+key-content-new (Pair r) method size key q e h = grind (arith, common_steps)
+key-content-new Blank method size key q e h = cc
+key-content-new (Buffer b) method size key q e h = cc
+key-content-new (Grid g) method size key q e h = cc
+
+key-other : (ws : List Window) (n method size key m : ℕ) → m ≢ n
+    → key_of (set_at (λ w. record w { content = arranged w.content method size key }) ws n) m ≡ key_of ws m
+unfolding changed_at found
+key-other [] n method size key m h = refl
+key-other (w ∷ ws) n method size key m h = let k : _ = key-other ws n method size key m h in grind (arith, common_steps)
+
+abbrev second-of : Option (ℕ × Option pairs.Pair) → Option pairs.Pair
+second-of None = None
+second-of (Some x) = x.1
+
+own-step : (b : Bool) (ws : List Window) (w : Window) (n method size key u : ℕ) (q : pairs.Pair) → key ≢ 0
+    → (w.number == n) ≡ b → (if b then Some (w.parent, bare_in w) else node_of ws n) ≡ Some (u, Some q)
+    → (node_of ws n ≡ Some (u, Some q)
+    → key_of (set_at (λ v. record v { content = arranged v.content method size key }) ws n) n ≡ key)
+    → key_of (if b then record w { content = arranged w.content method size key } ∷ ws
+    else w ∷ set_at (λ v. record v { content = arranged v.content method size key }) ws n) n ≡ key
+unfolding found
+own-step true ws w n method size key u q hk e h f =
+    rw e (key-content-new w.content method size key q hk (ap second-of h))
+own-step false ws w n method size key u q hk e h f = rw e (f h)
+
+key-own : (ws : List Window) (n method size key u : ℕ) (q : pairs.Pair) → key ≢ 0 → node_of ws n ≡ Some (u, Some q)
+    → key_of (set_at (λ w. record w { content = arranged w.content method size key }) ws n) n ≡ key
+unfolding changed_at
+key-own [] n method size key u q e h = cc
+key-own (w ∷ ws) n method size key u q e h =
+    own-step (w.number == n) ws w n method size key u q e refl h (key-own ws n method size key u q e)
+
+head-given : (z : Bool) (ws vs : List Window) (n key : ℕ) → ((m : ℕ) → m ≢ n → key_of vs m ≡ key_of ws m)
+    → (m : ℕ) (q : pairs.Pair) (a b : Shape) (up : ℕ)
+    → ((u : ℕ) (r : pairs.Pair) → node_of ws n ≡ Some (u, Some r) → key_of vs n ≡ key)
+    → node_of ws m ≡ Some (up, Some q)
+    → (0 < count (Fork m q a b) n → has_leaf (below n (Fork m q a b)) key ≡ true) → (m == n) ≡ z
+    → (key_of ws m ≢ 0 → (has_leaf a (key_of ws m) || has_leaf b (key_of ws m)) ≡ true)
+    → key_of vs m ≢ 0 → (has_leaf a (key_of vs m) || has_leaf b (key_of vs m)) ≡ true
+head-given true ws vs n key ho m q a b up hn t f e k i =
+    let mn : m ≡ n = is_eq m n e in
+    let v : key_of vs m ≡ key = ap (key_of vs) mn ∙ hn up q (ap (node_of ws) (sym mn) ∙ t) in
+    let g : has_leaf (below n (Fork m q a b)) key ≡ true = f (grind (arith, common_steps)) in
+    let h : (has_leaf a key || has_leaf b key) ≡ true = grind (arith, common_steps) in
+    ap (λ x. has_leaf a x || has_leaf b x) v ∙ h
+head-given false ws vs n key ho m q a b up hn t f e k i =
+    let v : key_of vs m ≡ key_of ws m = ho m (isnt_eq m n e) in
+    ap (λ x. has_leaf a x || has_leaf b x) v ∙ k (λ j. i (v ∙ j))
+
+-- the pair with its new key, and the others with theirs
+keyed-given : (ws vs : List Window) (n key : ℕ) → ((m : ℕ) → m ≢ n → key_of vs m ≡ key_of ws m)
+    → ((u : ℕ) (q : pairs.Pair) → node_of ws n ≡ Some (u, Some q) → key_of vs n ≡ key)
+    → (s : Shape) (up : ℕ) → Spells ws up s → ((m : ℕ) → count s m ≤ 1)
+    → (0 < count s n → has_leaf (below n s) key ≡ true) → Keyed ws s → Keyed vs s
+keyed-given ws vs n key ho hn (Leaf m) up t d f k = tt
+keyed-given ws vs n key ho hn (Fork m q a b) up t d f k =
+    let dn : count (Fork m q a b) n ≤ 1 = d n in (
+      λ i. head-given (m == n) ws vs n key ho m q a b up hn t.0 f refl k.0 i,
+      keyed-given ws vs n key ho hn a m t.3 (λ x. omega (arith, d x))
+          (λ c. (let g : has_leaf (below n (Fork m q a b)) key ≡ true = f (omega (arith, c)) in
+          let mn : (m == n) ≡ false = grind (arith, common_steps) in grind (arith, common_steps))) k.1,
+      keyed-given ws vs n key ho hn b m t.4 (λ x. omega (arith, d x))
+          (λ c. (let g : has_leaf (below n (Fork m q a b)) key ≡ true = f (omega (arith, c)) in
+          let mn : (m == n) ≡ false = grind (arith, common_steps) in grind (arith, common_steps))) k.2,
+    )
+
+keyed-arranged : (z : Bool) (t : WindowTree) (n method size key : ℕ) (s : Shape) → (key == 0) ≡ z → IsOrdered t → IsTree t (Some s)
+    → IsKeyOf t n key → Keyed t.slots s → Keyed (arrange t n method size key).slots s
+keyed-arranged true t n method size key s e o h y k =
+    keyed_on t.slots _ s (λ m l. read_set_at 0 (λ w. key_in (pair_in w))
+    (λ w. record w { content = arranged w.content method size key }) (λ w. refl)
+    (λ w. key-content-same w.content method size key (is_eq key 0 e)) t.slots n m) k
+keyed-arranged false t n method size key s e o h (inl y) k = absurd (isnt_eq key 0 e y)
+keyed-arranged false t n method size key s e o h (inr y) k =
+    keyed-given t.slots _ n key (key-other t.slots n method size key)
+    (λ u q l. key-own t.slots n method size key u q (isnt_eq key 0 e) l) s 0 h.1 (λ m. once_le _ _ (h.2 m))
+    (λ c. ap (λ x. has_leaf (below n x) key) (sym (tree_found t s o h)) ∙ y) k
+
+tree-arranged : (t : WindowTree) (n method size key : ℕ) → IsOrdered t → IsKeyOf t n key → SomeTree t
+    → SomeTree (arrange t n method size key)
+tree-arranged t n method size key o y (None, h, k) = (
   None,
   (
     h.0,
     nil_of _ (λ m. node-arranged t.slots n method size key m
         ∙ ap (option_map (λ x. if m == n then renoded method size x else x)) (ap (λ ws. node_of ws m) h.1)),
   ),
+  tt,
 )
-tree-arranged t n method size key (Some s, h) = (
+tree-arranged t n method size key o y (Some s, h, k) = (
   Some (reshaped n method size s),
   (
     h.0 ∙ sym (top-reshaped n method size s),
@@ -275,17 +413,19 @@ tree-arranged t n method size key (Some s, h) = (
     λ m. count-reshaped n method size s m ∙ h.2 m
         ∙ ap (λ b. if b then 1 else 0) (sym (once-re (node_of t.slots m) _ _ (node-arranged t.slots n method size key m))),
   ),
+  keyed-reshaped _ n method size s (keyed-arranged (key == 0) t n method size key s refl o h y k),
 )
 
-pub valid_arrange : (t : WindowTree) (n method size key : ℕ) → IsValid t → is_method method ≡ true
+pub valid_arrange : (t : WindowTree) (n method size key : ℕ) → IsValid t → is_method method ≡ true → IsKeyOf t n key
     → IsValid (arrange t n method size key)
-valid_arrange t n method size key v m =
+valid_arrange t n method size key v m y =
     let f : Window → Window = λ w. record w { content = arranged w.content method size key } in
     let o : IsOrdered (arrange t n method size key) = ordered-set_at t f (λ w. refl) n v.ordered in
-    let g : SomeTree (arrange t n method size key) = tree-arranged t n method size key (some_tree t v.one_tree) in
+    let g : SomeTree (arrange t n method size key) = tree-arranged t n method size key v.ordered y (some_tree t v) in
     record {
       ordered = o;
       one_tree = one_tree_of _ g.0 o g.1;
+      keyed = keyed_test _ g.0 o g.1 g.2;
       few = omega (arith, length_set_at f t.slots n, v.few);
       sound = sound_set_at f (λ w e. sound_arranged w.content w.area method size key m e) t.slots n v.sound;
     }
@@ -310,29 +450,79 @@ first-same : (t : WindowTree) (kind rock : ℕ) → (t.root == 0) ≡ false → 
 first-same t kind rock e =
     first-refused (t.root == 0) (not (is_kind kind)) (nat_lt 4294967294 t.next) (nat_lt 64 (length t.slots + 1)) _ _ e
 
+first-keyed : (b : Bool) (ws : List Window) (n : ℕ) → KeyedBy ws (if b then None else Some (Leaf n))
+first-keyed true ws n = tt
+first-keyed false ws n = tt
+
 tree-first : (t : WindowTree) (kind rock : ℕ) → IsOrdered t → SomeTree t → SomeTree (first_opened t kind rock).0
-tree-first t kind rock o (None, h) = (
+tree-first t kind rock o (None, h, k) = (
   (if not (t.root == 0) || not (is_kind kind) || nat_lt 4294967294 t.next || nat_lt 64 (length t.slots + 1)
       then None else Some (Leaf t.next)),
   tree_first t kind rock h,
+  first-keyed (not (t.root == 0) || not (is_kind kind) || nat_lt 4294967294 t.next || nat_lt 64 (length t.slots + 1))
+      (first_opened t kind rock).0.slots t.next,
 )
-tree-first t kind rock o (Some s, h) =
-    let k : (top s == 0) ≡ false = root-top t s o h in
-    let r : (t.root == 0) ≡ false = ap (λ n. n == 0) h.0 ∙ k in
-    (Some s, rw (first-same t kind rock r) h)
+tree-first t kind rock o (Some s, h, k) =
+    let j : (top s == 0) ≡ false = root-top t s o h in
+    let r : (t.root == 0) ≡ false = ap (λ n. n == 0) h.0 ∙ j in
+    (Some s, rw (first-same t kind rock r) h, rw (first-same t kind rock r) k)
 
-node-nil : (ws : List Window) (n : ℕ) (x : ℕ × Option pairs.Pair) → ws ≡ [] → node_of ws n ≡ Some x → ⊥
-node-nil [] n x e f = cc
-node-nil (w ∷ ws) n x e f = cc
+pub node_nil : (ws : List Window) (n : ℕ) (x : ℕ × Option pairs.Pair) → ws ≡ [] → node_of ws n ≡ Some x → ⊥
+node_nil [] n x e f = cc
+node_nil (w ∷ ws) n x e f = cc
+
+keyed-beside-if : (b : Bool) (x y : WindowTree × ℕ) (s u : Shape) → Keyed x.0.slots s → Keyed y.0.slots u
+    → Keyed (cond b x y).0.slots (cond b s u)
+keyed-beside-if true x y s u h k = h
+keyed-beside-if false x y s u h k = k
+
+key-of-new : (z : ℕ) (v w : Window) → v.number ≡ z → w.number ≡ z + 1 → key_of (v ∷ w ∷ []) (z + 1) ≡ key_in (pair_in w)
+unfolding found
+key-of-new z v w e f =
+    let a : (v.number == z + 1) ≡ false = grind (arith, common_steps) in
+    let b : (w.number == z + 1) ≡ true = grind (arith, common_steps) in
+    grind (arith, common_steps)
+
+some-of : (o : Option (ℕ × Option pairs.Pair)) (n : ℕ) → n ≡ (if is_some o then 1 else 0) → 0 < n
+    → (x : ℕ × Option pairs.Pair) × (o ≡ Some x)
+some-of None n e h = absurd (omega (arith, e, h))
+some-of (Some x) n e h = (x, refl)
+
+keyed-beside : (t : WindowTree) (from method size kind rock : ℕ) (s : Shape) → IsOrdered t → IsTree t (Some s) → Keyed t.slots s
+    → Keyed (joined t.slots from (t.next + 1)
+    ++ made t.next rock (t.next + 1) (fresh kind)
+    ∷ made (t.next + 1) 0 (parent_of t.slots from)
+    (Pair (record { method = method; size = size; key = t.next; first = from; second = t.next })) ∷ [])
+    (forked from (t.next + 1)
+    (record { method = method; size = size; key = 0; first = from; second = t.next }) t.next s)
+unfolding IsOrdered
+keyed-beside t from method size kind rock s o h k =
+    let z : ℕ = t.next in
+    let js : List Window = joined t.slots from (z + 1) in
+    let v : Window = made z rock (z + 1) (fresh kind) in
+    let w : Window = made (z + 1) 0 (parent_of t.slots from)
+    (Pair (record { method = method; size = size; key = z; first = from; second = z })) in
+    let later : node_of t.slots (z + 1) ≡ None = node_later 1 t.slots z (z + 1) o (omega arith) in
+    let none : node_of js (z + 1) ≡ None =
+    node_joined t.slots from (z + 1) (z + 1) ∙ ap (option_map (renode from (z + 1) (parent_of t.slots from) (z + 1))) later in
+    keyed_forked t.slots (js ++ v ∷ w ∷ []) from (z + 1) z _
+    (key_after js (v ∷ w ∷ []) (z + 1) none ∙ key-of-new z v w refl refl)
+    s
+    (λ m c. (let x : _ = some-of (node_of t.slots m) (count s m) (h.2 m) c in
+    let y : node_of js m ≡ Some (renode from (z + 1) (parent_of t.slots from) m x.0) =
+    node_joined t.slots from (z + 1) m ∙ ap (option_map (renode from (z + 1) (parent_of t.slots from) m)) x.1 in
+    key_append js (v ∷ w ∷ []) m _ y ∙ key_joined t.slots from (z + 1) m)) k
 
 tree-beside : (t : WindowTree) (from method size kind rock : ℕ) (x : ℕ × Option pairs.Pair) → IsOrdered t
     → node_of t.slots from ≡ Some x → SomeTree t → SomeTree (beside_opened t from method size kind rock).0
-tree-beside t from method size kind rock x o l (None, h) = absurd (node-nil t.slots from x h.1 l)
-tree-beside t from method size kind rock x o l (Some s, h) = (
+tree-beside t from method size kind rock x o l (None, h, k) = absurd (node_nil t.slots from x h.1 l)
+tree-beside t from method size kind rock x o l (Some s, h, k) = (
   Some (if not (is_kind kind) || nat_le 4294967294 t.next || nat_lt 64 (length t.slots + 2) then s
       else forked from (t.next + 1)
       (record { method = method; size = size; key = 0; first = from; second = t.next }) t.next s),
   tree_beside t from method size kind rock s x o l h,
+  keyed-beside-if (not (is_kind kind) || nat_le 4294967294 t.next || nat_lt 64 (length t.slots + 2)) _ _ _ _ k
+      (keyed-beside t from method size kind rock s o h k),
 )
 
 tree-split-if : (b : Bool) (x y : WindowTree × ℕ) → (b ≡ true → SomeTree x.0) → (b ≡ false → SomeTree y.0) → SomeTree (cond b x y).0
@@ -398,20 +588,21 @@ sound-beside t from method size kind rock m e =
 pub valid_split : (t : WindowTree) (from method size kind rock : ℕ) → IsValid t
     → (from ≡ 0) ⊎ (IsLive t from × (is_method method ≡ true)) → IsValid (split t from method size kind rock).0
 valid_split t from method size kind rock v (inl z) =
-    let g : SomeTree (first_opened t kind rock).0 = tree-first t kind rock v.ordered (some_tree t v.one_tree) in
+    let g : SomeTree (first_opened t kind rock).0 = tree-first t kind rock v.ordered (some_tree t v) in
     let e : split t from method size kind rock ≡ first_opened t kind rock =
     ap (λ n. cond (n == 0) (first_opened t kind rock) (beside_opened t from method size kind rock)) z in
     let o : IsOrdered (first_opened t kind rock).0 = ordered_first t kind rock v.ordered in
     rw e (record {
       ordered = o;
       one_tree = one_tree_of _ g.0 o g.1;
+      keyed = keyed_test _ g.0 o g.1 g.2;
       few = few-first t kind rock v.few;
       sound = sound-first t kind rock v.sound;
     })
 valid_split t from method size kind rock v (inr l) =
     let x : _ = node_live t.slots from l.0 in
     let g : SomeTree (beside_opened t from method size kind rock).0 =
-    tree-beside t from method size kind rock x.0 v.ordered x.1 (some_tree t v.one_tree) in
+    tree-beside t from method size kind rock x.0 v.ordered x.1 (some_tree t v) in
     let n : (from == 0) ≡ false = live-some t from x.0 v.ordered x.1 in
     let e : split t from method size kind rock ≡ beside_opened t from method size kind rock =
     ap (λ b. cond b (first_opened t kind rock) (beside_opened t from method size kind rock)) n in
@@ -419,6 +610,7 @@ valid_split t from method size kind rock v (inr l) =
     rw e (record {
       ordered = o;
       one_tree = one_tree_of _ g.0 o g.1;
+      keyed = keyed_test _ g.0 o g.1 g.2;
       few = few-beside t from method size kind rock v.few;
       sound = sound-beside t from method size kind rock l.1 v.sound;
     })
@@ -428,18 +620,22 @@ close-at-root : (t : WindowTree) (n : ℕ) → n ≡ t.root → IsTree (close t 
 close-at-root t n e h = rw e h
 
 tree-close-if : (t : WindowTree) (s : Shape) (n : ℕ) (x : ℕ × Option pairs.Pair) (b : Bool) → (top s == n) ≡ b
-    → IsOrdered t → IsTree t (Some s) → node_of t.slots n ≡ Some x → SomeTree (close t n)
-tree-close-if t s n x true e o h l =
+    → IsOrdered t → IsTree t (Some s) → Keyed t.slots s → node_of t.slots n ≡ Some x → SomeTree (close t n)
+tree-close-if t s n x true e o h k l =
     let i : n ≡ t.root = grind (arith, common_steps, h.0) in
-    (None, close-at-root t n i (tree_close-root t s o h))
-tree-close-if t s n x false e o h l =
-    let i : top s ≢ n = λ k. grind (arith, common_steps) in
-    (Some (cut n s), tree_close t s n x o h l i)
+    (None, close-at-root t n i (tree_close-root t s o h), tt)
+tree-close-if t s n x false e o h k l =
+    let i : top s ≢ n = isnt_eq (top s) n e in (
+      Some (cut n s),
+      tree_close t s n x o h l i,
+      keyed_cut t.slots _ n s (λ m. once_le _ _ (h.2 m)) i (omega (arith, once_at _ _ x l (h.2 n)))
+          (left_close t s n x o h l) k,
+    )
 
 tree-close : (t : WindowTree) (n : ℕ) (x : ℕ × Option pairs.Pair) → IsOrdered t → node_of t.slots n ≡ Some x
     → SomeTree t → SomeTree (close t n)
-tree-close t n x o l (None, h) = absurd (node-nil t.slots n x h.1 l)
-tree-close t n x o l (Some s, h) = tree-close-if t s n x (top s == n) refl o h l
+tree-close t n x o l (None, h, k) = absurd (node_nil t.slots n x h.1 l)
+tree-close t n x o l (Some s, h, k) = tree-close-if t s n x (top s == n) refl o h k l
 
 few-close-if : (b : Bool) (x y : WindowTree) → length x.slots ≤ 64 → length y.slots ≤ 64 → length (cond b x y).slots ≤ 64
 few-close-if true x y f g = f
@@ -485,11 +681,12 @@ sound-close t n e =
 pub valid_close : (t : WindowTree) (n : ℕ) → IsValid t → IsLive t n → IsValid (close t n)
 valid_close t n v l =
     let x : _ = node_live t.slots n l in
-    let g : SomeTree (close t n) = tree-close t n x.0 v.ordered x.1 (some_tree t v.one_tree) in
+    let g : SomeTree (close t n) = tree-close t n x.0 v.ordered x.1 (some_tree t v) in
     let o : IsOrdered (close t n) = ordered_close t n v.ordered in
     record {
       ordered = o;
       one_tree = one_tree_of _ g.0 o g.1;
+      keyed = keyed_test _ g.0 o g.1 g.2;
       few = few-close t n v.few;
       sound = sound-close t n v.sound;
     }

@@ -1,10 +1,11 @@
 -- What holds of all windows that are one tree (Glk 0.7.5, "The Window Tree").
-use Rattle.std.specs.Prelude.{◌≡◌, ◌≢◌, ℕ, ◌+◌, ◌≤◌, ◌<◌, true, [], List, ◌⊎◌, Option, None, Some}
+use Rattle.std.specs.Prelude.{◌≡◌, ◌≢◌, ℕ, ◌+◌, ◌≤◌, ◌<◌, true, [], List, ◌⊎◌, None}
 use Rattle.glk_windows.specs.declared.window.Window.{Window}
 use Rattle.glk_windows.specs.declared.window.Area.{Area}
 use Rattle.glk_windows.specs.Tree.{WindowTree, number_of, read, window_at, pair_of}
+use Rattle.glk_windows.specs.Reading.{may_key}
 use Rattle.glk_windows.specs.Placing.{place}
-use Rattle.glk_windows.specs.OneTree.{is_tree}
+use Rattle.glk_windows.specs.OneTree.{is_tree, tree_of, below, has_leaf}
 use Rattle.glk_windows.specs.Valid.{IsOrdered, IsValid}
 use Rattle.glk_windows.specs.Opening.{split}
 use Rattle.glk_windows.specs.Closing.{close, echo_ended}
@@ -52,6 +53,14 @@ NeverOverlaps =
 abbrev pub IsLive : WindowTree → ℕ → Type 0
 IsLive t n = has number_of t.slots n ≡ true
 
+-- no key, or a window below this one that is no pair
+abbrev pub IsKeyOf : WindowTree → ℕ → ℕ → Type 0
+IsKeyOf t n key = (key ≡ 0) ⊎ (has_leaf (below n (tree_of t)) key ≡ true)
+
+-- the test of a key is right, in windows that are valid
+abbrev pub MayKeyHolds : Type 0
+MayKeyHolds = (t : WindowTree) (n key : ℕ) → IsValid t → IsLive t n → may_key t.slots n key ≡ true → IsKeyOf t n key
+
 -- each call keeps the windows valid
 pub record KeepsValid : Type 0 where
   pub new : IsValid (record { slots = []; next = 1; root = 0 })
@@ -61,7 +70,7 @@ pub record KeepsValid : Type 0 where
   pub close : (t : WindowTree) (n : ℕ) → IsValid t → IsLive t n → IsValid (close t n)
   pub place : (t : WindowTree) (cols rows : ℕ) → IsValid t → IsValid (place t cols rows)
   pub arrange : (t : WindowTree) (n method size key : ℕ) → IsValid t → is_method method ≡ true
-      → IsValid (arrange t n method size key)
+      → IsKeyOf t n key → IsValid (arrange t n method size key)
   pub put : (t : WindowTree) (n code style : ℕ) → IsValid t → IsValid (put t n code style)
   pub clear : (t : WindowTree) (n : ℕ) → IsValid t → IsValid (clear t n)
   pub move_to : (t : WindowTree) (n x y : ℕ) → IsValid t → IsValid (move_to t n x y)

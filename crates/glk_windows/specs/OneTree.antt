@@ -1,8 +1,8 @@
 -- The windows are one tree (Glk 0.7.5, "The Window Tree").
-use Rattle.std.specs.Prelude.{◌≡◌, ℕ, zero, suc, ◌+◌, ◌==◌, not, length, ◌||◌, ◌&&◌, if◌then◌else◌, Bool, true, false, List, [], ◌∷◌, Option, Some, None, is_some, option_map, nat_eq, nat_lt}
+use Rattle.std.specs.Prelude.{◌≡◌, ℕ, zero, suc, ◌+◌, ◌==◌, length, ◌||◌, ◌&&◌, if◌then◌else◌, Bool, true, false, List, [], ◌∷◌, Option, Some, None, is_some, option_map, nat_lt}
 use Rattle.glk_windows.specs.declared.window.Window.{Window}
 use Rattle.glk_windows.specs.declared.window.Pair as p
-use Rattle.glk_windows.specs.Tree.{WindowTree, pair_in, pair_of, pair_swapped}
+use Rattle.glk_windows.specs.Tree.{WindowTree, read, window_at, pair_in, pair_of, pair_swapped}
 
 -- a tree of windows, with what each pair holds
 pub data Shape : Type 0 where
@@ -119,3 +119,27 @@ is_spelled ws s = tested ws 0 s && once ws s
 -- the windows with a root are one tree
 abbrev pub is_tree : WindowTree → Bool
 is_tree t = is_spelled t.slots (shape_of (length t.slots) t.slots t.root)
+
+-- the one tree of the windows
+abbrev pub tree_of : WindowTree → Shape
+tree_of t = shape_of (length t.slots) t.slots t.root
+
+-- the key of a pair, or 0
+abbrev pub key_in : Option p.Pair → ℕ
+key_in None = 0
+key_in (Some p) = p.key
+
+abbrev pub key_of : List Window → ℕ → ℕ
+key_of ws n = read 0 (λ w. key_in (pair_in w)) (window_at ws n)
+
+-- a tree has this window, and it is no pair
+abbrev pub has_leaf : Shape → ℕ → Bool
+has_leaf (Leaf n) k = n == k
+has_leaf (Fork n p a b) k = has_leaf a k || has_leaf b k
+
+-- each pair's key is 0, or a window below it that is no pair
+abbrev pub are_keyed : List Window → Shape → Bool
+are_keyed ws (Leaf n) = true
+are_keyed ws (Fork n p a b) =
+    (key_of ws n == 0 || (has_leaf a (key_of ws n) || has_leaf b (key_of ws n)))
+    && (are_keyed ws a && are_keyed ws b)

@@ -1,5 +1,5 @@
 -- The rectangles of the windows (Glk 0.7.5, "Window Opening, Closing, and Constraints").
-use Rattle.std.specs.Prelude.{ℕ, zero, suc, ◌+◌, ◌-◌, ◌*◌, ◌/◌, ◌==◌, nat_lt, min, not, true, false, ◌<◌, ◌^◌, if◌then◌else◌, Bool, List, [], ◌∷◌, length, bit_and, Option, Some, None}
+use Rattle.std.specs.Prelude.{ℕ, zero, suc, ◌+◌, ◌-◌, ◌*◌, ◌/◌, ◌==◌, min, not, true, false, ◌<◌, ◌^◌, if◌then◌else◌, Bool, List, length, bit_and, Option, Some, None}
 use Rattle.glk_windows.specs.declared.window.Window.{Window}
 use Rattle.glk_windows.specs.declared.window.Pair as p
 use Rattle.glk_windows.specs.declared.window.Area.{Area}

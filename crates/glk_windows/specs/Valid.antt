@@ -6,7 +6,7 @@ use Rattle.glk_windows.specs.declared.window.Content.{Content}
 use Rattle.glk_windows.specs.declared.window.Content.TheVariants.{Pair, Blank, Buffer, Grid}
 use Rattle.glk_windows.specs.Tree.{WindowTree}
 use Rattle.glk_windows.specs.Arranging.{is_method}
-use Rattle.glk_windows.specs.OneTree.{is_tree}
+use Rattle.glk_windows.specs.OneTree.{is_tree, tree_of, are_keyed}
 
 -- the numbers ascend from the first on, below the last
 abbrev pub Ascends : ℕ → List Window → ℕ → Type 0
@@ -39,5 +39,6 @@ is_one_tree t = if t.root == 0 then length t.slots == 0 else is_tree t
 pub record IsValid (t : WindowTree) : Type 0 where
   pub ordered : IsOrdered t
   pub one_tree : is_one_tree t ≡ true
+  pub keyed : are_keyed t.slots (tree_of t) ≡ true
   pub few : length t.slots ≤ 64
   pub sound : are_sound t.slots ≡ true

@@ -1,6 +1,6 @@
 //! Laws of the windows and their rectangles (Glk 0.7.5, "The Window Tree").
 
-ghost use Rattle.glk_windows.specs.Laws.{KeepsValid, NeverOverlaps, StaysOnScreen};
+ghost use Rattle.glk_windows.specs.Laws.{KeepsValid, MayKeyHolds, NeverOverlaps, StaysOnScreen};
 
 /// Where the windows are one tree, each that is no pair has its rectangle on the screen.
 pub fn stays_on_screen()
@@ -15,4 +15,9 @@ pub fn never_overlaps()
 /// Each call keeps the windows valid: one tree, few enough, methods and grids sound.
 pub fn keeps_valid()
     ensures { KeepsValid }
+{}
+
+/// Where the windows are valid, `Windows::may_key` lets through a key that keeps them so.
+pub fn may_key_holds()
+    ensures { MayKeyHolds }
 {}

@@ -1,8 +1,11 @@
 -- What the work of an opcode costs, and the memory with which a machine begins.
-use Rattle.std.proofs.Common.{◌≡◌, ◌≤◌, ℕ, ◌+◌, ◌-◌, ◌%◌, ◌++◌, length, replicate, take, List, Result, Ok, Err, IfOk, refl, arith, ap, sym, ◌∙◌, subst}
+use Rattle.std.proofs.Common.{◌≡◌, ◌≤◌, ℕ, ◌+◌, ◌-◌, ◌%◌, ◌++◌, length, replicate, take, List, [], Result, Ok, Err, IfOk, refl, arith, ap, sym, ◌∙◌, subst}
 use Rattle.std.proofs.lemmas.List.{length-append, length-replicate, length-take-le}
 use Rattle.glulx_image.specs.Header.{IsLaidOut, extstart, endmem}
-use Rattle.vm_memory.specs.MemoryMap.{original}
+use Rattle.vm_memory.specs.MemoryMap.{original, origin_of}
+use Rattle.vm_exec.specs.Machine.{IsMapped, no_heap}
+use Rattle.vm_exec.specs.Start.{image_memory}
+use Rattle.vm_exec.proofs.FitLemmas.{none_over}
 use Rattle.vm_memory.specs.declared.fault.Trap.{Trap}
 use Rattle.vm_exec.specs.Rules.{Rule}
 use Rattle.vm_exec.specs.Rows.Work.{costing, Tells}
@@ -25,16 +28,19 @@ free_is_within r new left (Ok done) told =
     omega (arith, nothing)
 free_is_within r new left (Err trap) told = tt
 
--- the memory of an image is whole pages
-pub whole_pages : (rom : List ℕ) (endmem : ℕ) → length rom ≤ endmem → endmem % 256 ≡ 0
-    → length (original rom endmem) % 256 ≡ 0
-whole_pages rom endmem inside pages =
+-- the memory of an image has ENDMEM bytes
+original-size : (rom : List ℕ) (endmem : ℕ) → length rom ≤ endmem → length (original rom endmem) ≡ endmem
+original-size rom endmem inside =
     let zeros : length (replicate {A = ℕ} (endmem - length rom) 0) ≡ endmem - length rom = length-replicate {A = ℕ} (endmem - length rom) 0 in
-    let whole : length (original rom endmem) ≡ endmem =
-    length-append rom (replicate (endmem - length rom) 0) ∙ omega (arith, zeros, inside) in
-    subst (λ (n : ℕ). n % 256 ≡ 0) (sym whole) pages
+    length-append rom (replicate (endmem - length rom) 0) ∙ omega (arith, zeros, inside)
 
-pub image_pages : (file : List ℕ) → IsLaidOut file → length (original (take (extstart file) file) (endmem file)) % 256 ≡ 0
-image_pages file laid =
+pub image-mapped : (file : List ℕ) → IsLaidOut file → IsMapped (origin_of (image_memory file)) (length (image_memory file).bytes) no_heap []
+image-mapped file laid =
     let rom : length (take (extstart file) file) ≡ extstart file = length-take-le (extstart file) file laid.ext_inside in
-    whole_pages (take (extstart file) file) (endmem file) (omega (arith, rom, laid.ext_below)) laid.end_page
+    let size : length (original (take (extstart file) file) (endmem file)) ≡ endmem file = original-size (take (extstart file) file) (endmem file) (omega (arith, rom, laid.ext_below)) in
+    record {
+      page = laid.end_page;
+      size = record { pages = rw size laid.end_page; least = rw size (omega arith); limit = rw size laid.end_limit };
+      heap = none_over (endmem file) (length (image_memory file).bytes);
+      undo = λ k d l. absurd (omega (arith, l));
+    }

@@ -22,6 +22,12 @@ Makes should (Ok x) = should ≡ Ok x
 Makes should (Err (Fault n)) = should ≡ Err n
 Makes should (Err NoMemory) = Unit {0}
 
+-- The same of a call that makes a vector, which is seen as its list of items.
+abbrev pub MakesList : {A Z : Type 0} → Result (List A) ℕ → Result (Vec A Z) Trap → Type 0
+MakesList should (Ok v) = should ≡ Ok v.items
+MakesList should (Err (Fault n)) = should ≡ Err n
+MakesList should (Err NoMemory) = Unit {0}
+
 -- The same of a call that changes a value and gives a vector, which is seen as its list of items.
 abbrev pub Takes : {S A Z : Type 0} → Result (S × List A) ℕ → S → Result (Vec A Z) Trap → Type 0
 Takes should new (Ok v) = should ≡ Ok (new, v.items)

@@ -1,6 +1,9 @@
 pub mod Answer
 pub mod Machine
+pub mod Number
+pub mod Random
 pub mod Fault
+pub mod TextStub
 pub mod Rules
 pub mod Rows
 pub mod Row

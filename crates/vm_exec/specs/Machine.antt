@@ -1,24 +1,53 @@
 -- The machine while its story runs (Glulx 3.1.3, "Machine State").
-use Rattle.std.specs.Prelude.{ℕ, ◌≡◌, ◌%◌, length}
+use Rattle.std.specs.Prelude.{ℕ, ◌≡◌, ◌%◌, length, List, [], All}
+use Rattle.vm_memory.specs.MemoryMap.{Origin, origin_of}
 use Rattle.vm_stack.specs.Chain.{Chain, HasFrame}
+use Rattle.vm_heap.specs.HeapMap.{HeapMap}
+use Rattle.vm_undo.specs.SavedState.{IsSize, IsHeapOver, IsSavedOf}
+use Rattle.vm_undo.specs.declared.saved.Saved.{Saved}
 use Rattle.vm_exec.specs.declared.machine.Machine.{Machine}
 use Rattle.vm_exec.specs.declared.step.Out.{Out}
 use Rattle.vm_exec.specs.declared.step.Out.TheVariants as out
 use Rattle.vm_exec.specs.declared.step.Step.{Step}
 use Rattle.vm_exec.specs.declared.step.Step.TheVariants as step
+use Rattle.vm_exec.specs.declared.text.Text.TheVariants.{Off}
 
--- the memory is whole pages, and the stack is frames, one at least, each on a stub for the one
--- below
-pub record IsFit (m : Machine) : Type 0 where
-  pub pages : length m.memory.bytes % 256 ≡ 0
+-- memory of an image, with so many bytes, a heap and the states that undo keeps: the size is one
+-- that it may have, the heap is one over it, and the states are the story's
+pub record IsMapped (o : Origin) (n : ℕ) (h : HeapMap) (states : List Saved) : Type 0 where
+  pub page : o.endmem % 256 ≡ 0
+  pub size : IsSize o.endmem n
+  pub heap : IsHeapOver o.endmem n h.start h.blocks
+  pub undo : All (IsSavedOf o) states
+
+-- a heap that isn't active
+abbrev pub no_heap : HeapMap
+no_heap = record { start = 0; blocks = [] }
+
+-- memory, heap and undo are by their rules, and the stack is frames, one at least, each on a stub
+-- for the one below
+pub record IsSound (m : Machine) : Type 0 where
+  pub map : IsMapped (origin_of m.memory) (length m.memory.bytes) m.heap m.undo
   pub frames : Chain m.stack
   pub frame : HasFrame m.stack
 
--- the machine is fit unless its story is over
+-- the same between two instructions, while no text is in progress
+pub record IsFit (m : Machine) : Type 0 where
+  pub map : IsMapped (origin_of m.memory) (length m.memory.bytes) m.heap m.undo
+  pub frames : Chain m.stack
+  pub frame : HasFrame m.stack
+  pub still : m.text ≡ Off
+
+-- the machine is sound unless its story is over; no text is in progress where it waits for Glk or
+-- is over
 abbrev pub StaysFit : Machine → Out → Type 0
-StaysFit m out.Quit = Unit {0}
-StaysFit m _ = IsFit m
+StaysFit m out.Ran = IsSound m
+StaysFit m (out.Char code) = IsSound m
+StaysFit m (out.Glk selector args) = IsFit m
+StaysFit m out.Quit = m.text ≡ Off
 
 abbrev pub GoesOnFit : Machine → Step → Type 0
-GoesOnFit m step.Quit = Unit {0}
-GoesOnFit m _ = IsFit m
+GoesOnFit m (step.Ran cost) = IsSound m
+GoesOnFit m (step.Out code cost) = IsSound m
+GoesOnFit m (step.Glk selector args cost) = IsFit m
+GoesOnFit m step.Quit = m.text ≡ Off

@@ -22,11 +22,14 @@ use Rattle.vm_exec.specs.Rows.Output.{stream_work}
 use Rattle.vm_exec.specs.Rows.System.{system_work}
 use Rattle.vm_exec.specs.Rows.State.{state_work}
 use Rattle.vm_exec.specs.Rows.Search.{search_work}
+use Rattle.vm_exec.specs.Rows.Text.{string_rule, number_rule}
 use Rattle.vm_exec.specs.declared.machine.Machine.{Machine}
 use Rattle.vm_exec.specs.declared.step.Out.{Out}
 use Rattle.vm_exec.specs.declared.step.Out.TheVariants as out
 use Rattle.vm_exec.specs.declared.step.Step.{Step}
 use Rattle.vm_exec.specs.declared.step.Step.TheVariants as step
+use Rattle.vm_exec.specs.declared.text.Text as t
+use Rattle.vm_exec.specs.declared.text.Text.TheVariants as text
 
 -- the machine after a step, with what it tells, or a fault; and the ticks charged until then
 pub record Charged : Type 0 where
@@ -77,8 +80,16 @@ fetched m = do
   x ← loaded_all (width_of (op_of i.op)) m (take i.loads.count i.loads.items) 0 (replicate 8 0)
   Ok (work_of (op_of i.op) (record x.0 { pc = i.next }) x.1 i.stores.items)
 
+-- what is due: the next piece of the text in progress, which is taken, or else the instruction
+abbrev pub due : Machine → t.Text → Result Work ℕ
+due m text.Off = fetched m
+due m (text.Pieces cursor held) =
+    Ok (Free (string_rule (record m { text = text.Off }) cursor held))
+due m (text.Number value place held) =
+    Ok (Free (number_rule (record m { text = text.Off }) value place held))
+
 abbrev pub row : Machine → Charged
-row m = charged (fetched m)
+row m = charged (due m m.text)
 
 abbrev pub step_of : Out → ℕ → Step
 step_of out.Ran cost = step.Ran cost

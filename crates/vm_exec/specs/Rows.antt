@@ -7,6 +7,11 @@ pub mod Moving
 pub mod Array
 pub mod Values
 pub mod Output
+pub mod Text
+pub mod Random
+pub mod Heap
+pub mod Undo
 pub mod System
 pub mod State
+pub mod Searching
 pub mod Search

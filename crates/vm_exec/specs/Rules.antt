@@ -1,5 +1,5 @@
 -- What opcodes are made of: loads, stores, branches, calls (Glulx 3.1.3, "Instruction Format").
-use Rattle.std.specs.Prelude.{ℕ, zero, suc, ◌+◌, ◌-◌, ◌*◌, ◌%◌, ◌^◌, ◌==◌, ◌||◌, nat_lt, Bool, if◌then◌else◌, List, [], ◌∷◌, length, slice_set, Option, Some, None, Result, Ok, Err}
+use Rattle.std.specs.Prelude.{ℕ, zero, suc, ◌+◌, ◌-◌, ◌*◌, ◌%◌, ◌^◌, ◌==◌, ◌||◌, nat_le, nat_lt, Bool, if◌then◌else◌, List, [], ◌∷◌, length, slice_set, Option, Some, None, Result, Ok, Err}
 use Rattle.vm_memory.specs.Access.{read, written}
 use Rattle.vm_memory.specs.Fault.{coded}
 use Rattle.vm_operand.specs.Reading.{◌>>=◌}
@@ -16,6 +16,7 @@ use Rattle.vm_flow.specs.Call.{called}
 use Rattle.vm_flow.specs.Return.{given_back}
 use Rattle.vm_flow.specs.Throw.{thrown}
 use Rattle.vm_exec.specs.Fault.{stacked, flowed}
+use Rattle.vm_exec.specs.TextStub.{text_on}
 use Rattle.vm_exec.specs.declared.machine.Machine.{Machine}
 use Rattle.vm_exec.specs.declared.step.Out.{Out}
 use Rattle.vm_exec.specs.declared.step.Out.TheVariants.{Ran, Char, Glk, Quit}
@@ -107,9 +108,11 @@ with_stub m to =
 abbrev pub calls : Machine → ℕ → List ℕ → d.Dest → Rule
 calls m at args to = with_stub m to >>= (λ n. enters n at args)
 
--- the story goes on at a stub, whose result is this value
+-- the story goes on at a stub, whose result is this value; a text drops it
 abbrev pub resumes : Machine → Stub → ℕ → Rule
-resumes m s x = stub_dest s >>= (λ to. puts (record m { pc = s.pc }) to x)
+resumes m s x =
+    if nat_le s.kind 3 then stub_dest s >>= (λ to. puts (record m { pc = s.pc }) to x)
+    else text_on m s >>= goes
 
 abbrev pub goes_on : Machine → Option Stub → ℕ → Rule
 goes_on m None x = tells m Quit

@@ -8,8 +8,11 @@ use Rattle.vm_operand.specs.declared.operand.Dest.TheVariants.{Discard}
 use Rattle.vm_stack.specs.StackState.{StackState}
 use Rattle.vm_flow.specs.Call.{called}
 use Rattle.vm_exec.specs.Fault.{flowed}
+use Rattle.vm_exec.specs.Machine.{no_heap}
+use Rattle.vm_exec.specs.Random.{seeded}
 use Rattle.vm_exec.specs.Rules.{stored}
 use Rattle.vm_exec.specs.declared.machine.Machine.{Machine}
+use Rattle.vm_exec.specs.declared.text.Text.TheVariants.{Off}
 
 -- the memory of a file
 abbrev pub image_memory : List ℕ → MemoryMap
@@ -30,9 +33,15 @@ started file seed =
       mode = 0;
       rock = 0;
       string_table = string_table file;
+      text = Off;
       waiting = Discard;
       verified = verified file;
-      seed = seed;
+      heap = no_heap;
+      undo = [];
+      protection = record { start = 0; length = 0 };
+      random = seeded seed;
+      start_function = start_function file;
+      first_table = string_table file;
     }))
 
 -- the result of the call that the step before asked for is stored

@@ -28,8 +28,8 @@ pub(crate) fn take_arguments(alloc: Global, stack: &mut Stack, count: u32) -> Re
     Ok(args)
 }
 
-// One argument more.
-fn keep(args: &mut Vec<u32>, value: u32) -> Result<(), Trap>
+/// One argument more.
+pub(crate) fn keep(args: &mut Vec<u32>, value: u32) -> Result<(), Trap>
     ensures items { OnOk result (args.new.items ≡ args.old.items ++ value ∷ []) }
     ensures cause { IfErr result (λ trap. trap ≡ NoMemory) }
 {

@@ -38,7 +38,7 @@ impl<'i> Machine<'i> {
         }
     }
 
-    fn push_stub_for(&mut self, to: Dest) -> Result<(), Trap>
+    pub(crate) fn push_stub_for(&mut self, to: Dest) -> Result<(), Trap>
         ensures does { Changes (rules.with_stub self.old to) self.new result }
         ensures fit { IsFit self.old → OnOk result (IsFit self.new) }
         ensures ready { IsFit self.old → OnOk result (IsReady self.new.stack) }
@@ -48,7 +48,7 @@ impl<'i> Machine<'i> {
     }
 
     /// The function begins, over what is on the stack.
-    fn enter(&mut self, alloc: Global, at: u32, args: &[u32]) -> Result<Done, Trap>
+    pub(crate) fn enter(&mut self, alloc: Global, at: u32, args: &[u32]) -> Result<Done, Trap>
         ensures does { Tells (rules.enters self.old at args.now) self.new result }
         ensures fit { IsFit self.old → IsReady self.old.stack
             → IfOk result (λ done. StaysFit self.new done.out) }
@@ -101,12 +101,16 @@ impl<'i> Machine<'i> {
         self.enter_over(alloc, at, &args)
     }
 
-    /// The story goes on at a stub, whose result is the value. Fault 13 for a stub that waits for
-    /// no result.
+    /// The story goes on at a stub, whose result is the value; a text drops it. Fault 13 for a stub
+    /// of no type.
     fn resume_at(&mut self, stub: Stub, value: u32) -> Result<Done, Trap>
         ensures does { Tells (rules.resumes self.old stub value) self.new result }
         ensures fit { IsFit self.old → IfOk result (λ done. StaysFit self.new done.out) }
     {
+        if stub.kind > 3 {
+            self.resume_text(stub)?;
+            return self.tell(Out::Ran);
+        }
         let to = stub_dest(stub)?;
         self.pc = stub.pc;
         self.put(to, value)
@@ -180,7 +184,7 @@ impl<'i> Machine<'i> {
 }
 
 // Where the result goes that a stub waits for.
-fn stub_dest(stub: Stub) -> Result<Dest, Trap>
+pub(crate) fn stub_dest(stub: Stub) -> Result<Dest, Trap>
     ensures { Makes (rules.stub_dest stub) result }
 {
     match stub.kind {

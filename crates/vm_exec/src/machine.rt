@@ -1,24 +1,32 @@
 //! The machine, and how it starts and goes on.
 
-ghost use Rattle.std.specs.Prelude.{◌≡◌, ◌%◌, [], length, IfOk, OnOk, Ok};
+ghost use Rattle.std.specs.Prelude.{◌≡◌, ◌%◌, ◌<◌, [], length, IfOk, OnOk, Ok};
 ghost use Rattle.vm_exec.specs.Answer.{Changes, Does, Makes};
 ghost use Rattle.vm_exec.specs.Fault.{flowed};
-ghost use Rattle.vm_exec.specs.Machine.{GoesOnFit, IsFit};
-ghost use Rattle.vm_exec.specs.Row.{IsPriced, row, told};
+ghost use Rattle.vm_exec.specs.Row.{IsPriced, charged, due, fetched, row, told};
+ghost use Rattle.vm_exec.specs.Machine.{GoesOnFit, IsFit, IsMapped, IsSound, no_heap};
 ghost use Rattle.vm_exec.specs.Start as start;
 ghost use Rattle.vm_exec.specs.Start.{finished, started};
+ghost use Rattle.vm_exec.specs.declared.text.Text.TheVariants as text;
 ghost use Rattle.vm_flow.specs.Call.{called};
+ghost use Rattle.vm_memory.specs.MemoryMap.{origin_of};
 ghost use Rattle.vm_stack.specs.Chain.{Chain, HasFrame};
 
 use crate::perform::width_of;
+use crate::random::Random;
 use crate::step::Step;
+use crate::text::Text;
 use crate::trap::{BUDGET, no_memory, of_flow};
+use crate::undo::Protection;
 use glulx_image::Image;
 use std::alloc::Global;
 use vm_flow::call;
+use vm_heap::Heap;
 use vm_memory::{Memory, Trap};
 use vm_operand::{Dest, Op, decode};
 use vm_stack::Stack;
+use vm_string::Cursor;
+use vm_undo::Undo;
 
 /// A story under way (Glulx 3.1.3, "Machine State").
 #[derive(Drop)]
@@ -30,12 +38,19 @@ pub struct Machine<'i> {
     pub(crate) mode: u32,
     pub(crate) rock: u32,
     pub(crate) string_table: u32,
+    /// What goes out piece by piece before the next instruction.
+    pub(crate) text: Text,
     /// Where the result of the call that the last step asked for goes.
     pub(crate) waiting: Dest,
     /// What the verify opcode stores.
     pub(crate) verified: u32,
-    /// The session's seed, from which random words come.
-    pub(crate) seed: u64,
+    pub(crate) heap: Heap,
+    pub(crate) undo: Undo<'i>,
+    pub(crate) protection: Protection,
+    pub(crate) random: Random,
+    /// The header's start function and string table, to which a restart goes back.
+    pub(crate) start_function: u32,
+    pub(crate) first_table: u32,
 }
 
 impl<'i> Machine<'i> {
@@ -55,9 +70,18 @@ impl<'i> Machine<'i> {
             mode: 0,
             rock: 0,
             string_table: image.string_table(),
+            text: Text::Off,
             waiting: Dest::Discard,
             verified: image.verify(),
-            seed,
+            heap: Heap::new(alloc),
+            undo: Undo::new(),
+            protection: Protection {
+                start: 0,
+                length: 0,
+            },
+            random: Random::new(seed),
+            start_function: image.start_function(),
+            first_table: image.string_table(),
         })
     }
 
@@ -69,16 +93,65 @@ impl<'i> Machine<'i> {
         self.store(self.waiting, value)
     }
 
-    /// The instruction at the PC: its row of the table, within so many ticks. Fault 24 where it
-    /// costs more; else the row's fault.
+    /// The next piece of the text in progress, or else the instruction at the PC: its row of the
+    /// table, within so many ticks. Fault 24 where it costs more; else the row's fault.
     pub fn step(&mut self, alloc: Global, left: u64) -> Result<Step, Trap>
         ensures does { Does (told left (row self.old)) self.new result }
-        ensures fit { IsFit self.old → IfOk result (λ step. GoesOnFit self.new step) }
+        ensures fit { IsSound self.old → IfOk result (λ step. GoesOnFit self.new step) }
         ensures cost { IfOk result (λ step. IsPriced left step) }
     {
         if left == 0 {
             return Err(BUDGET);
         }
+        match self.text {
+            Text::Off => self.instruction(alloc, left),
+            Text::Pieces { cursor, held } => self.piece(alloc, cursor, held, left),
+            Text::Number { value, place, held } => self.digit(alloc, value, place, held, left),
+        }
+    }
+
+    // One tick, and then the next piece of the string.
+    fn piece(&mut self, alloc: Global, cursor: Cursor, held: bool, left: u64) -> Result<Step, Trap>
+        requires { 0 < left }
+        ensures does { Does
+            (told left (charged (due self.old (text.Pieces cursor held))))
+            self.new result }
+        ensures fit { IsSound self.old → IfOk result (λ step. GoesOnFit self.new step) }
+        ensures cost { IfOk result (λ step. IsPriced left step) }
+    {
+        self.text = Text::Off;
+        let done = self.next_piece(alloc, cursor, held)?;
+        Ok(done.step(done.cost + 1))
+    }
+
+    // One tick, and then the next character of the number.
+    fn digit(
+        &mut self,
+        alloc: Global,
+        value: u32,
+        place: u32,
+        held: bool,
+        left: u64,
+    ) -> Result<Step, Trap>
+        requires { 0 < left }
+        ensures does { Does
+            (told left (charged (due self.old (text.Number value place held))))
+            self.new result }
+        ensures fit { IsSound self.old → IfOk result (λ step. GoesOnFit self.new step) }
+        ensures cost { IfOk result (λ step. IsPriced left step) }
+    {
+        self.text = Text::Off;
+        let done = self.next_digit(alloc, value, place, held)?;
+        Ok(done.step(done.cost + 1))
+    }
+
+    // One tick, and then the instruction at the PC.
+    fn instruction(&mut self, alloc: Global, left: u64) -> Result<Step, Trap>
+        requires { 0 < left }
+        ensures does { Does (told left (charged (fetched self.old))) self.new result }
+        ensures fit { IsFit self.old → IfOk result (λ step. GoesOnFit self.new step) }
+        ensures cost { IfOk result (λ step. IsPriced left step) }
+    {
         let instr = decode(&self.memory, self.pc)?;
         let op = Op::of(instr.op);
         let loads = &instr.loads.items[..instr.loads.count as usize];
@@ -92,7 +165,7 @@ impl<'i> Machine<'i> {
 // The memory of an image.
 fn image_memory<'i>(alloc: Global, image: &Image<'i>) -> Result<Memory<'i>, Trap>
     ensures value { Makes (Ok (start.image_memory image.now)) result }
-    ensures pages { IfOk result (λ memory. length memory.bytes % 256 ≡ 0) }
+    ensures map { IfOk result (λ memory. IsMapped (origin_of memory) (length memory.bytes) no_heap []) }
 {
     let rom = &image.bytes()[..image.extstart() as usize];
     match Memory::new(alloc, rom, image.ramstart(), image.endmem()) {
@@ -109,7 +182,12 @@ fn empty_stack(alloc: Global, image: &Image<'_>) -> Result<Stack, Trap>
 }
 
 // The start function is called without arguments.
-fn begin(alloc: Global, memory: &Memory<'_>, stack: &mut Stack, at: u32) -> Result<u32, Trap>
+pub(crate) fn begin(
+    alloc: Global,
+    memory: &Memory<'_>,
+    stack: &mut Stack,
+    at: u32,
+) -> Result<u32, Trap>
     ensures does { Does (flowed (called memory.now stack.old at [])) stack.new result }
     ensures kept { stack.old.bytes ≡ [] → stack.old.frame ≡ 0
         → OnOk result (Chain stack.new × HasFrame stack.new) }

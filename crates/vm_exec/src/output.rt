@@ -10,7 +10,6 @@ ghost use Rattle.vm_exec.specs.Rules as rules;
 
 use crate::Machine;
 use crate::step::{Done, Out};
-use crate::trap::NOT_YET;
 use std::alloc::Global;
 use vm_memory::Trap;
 use vm_operand::{Dest, Stream};
@@ -74,7 +73,8 @@ impl<'i> Machine<'i> {
             Stream::Setstringtbl => self.set_table(args[0]),
             Stream::Getiosys => self.get_io(to[0], to[1]),
             Stream::Setiosys => self.set_io(args[0], args[1]),
-            Stream::Streamnum | Stream::Streamstr => Err(NOT_YET),
+            Stream::Streamnum => self.begin_number(args[0]),
+            Stream::Streamstr => self.begin(args[0], false),
         }
     }
 }

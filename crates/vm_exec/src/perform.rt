@@ -40,7 +40,7 @@ impl<'i> Machine<'i> {
             Op::Values(op) => self.values_op(op, args, to, left),
             Op::Stream(op) => self.stream_op(alloc, op, args, to, left),
             Op::System(op) => self.system_op(op, args, to, left),
-            Op::State(op) => self.state_op(op, args, to, left),
+            Op::State(op) => self.state_op(alloc, op, args, to, left),
             Op::Search(op) => self.search_op(op, args, to, left),
         }
     }

@@ -9,7 +9,7 @@ ghost use Rattle.vm_exec.specs.Rows.Work.{Costs, budgeted};
 
 use crate::Machine;
 use crate::step::{Done, Out};
-use crate::trap::{NOT_YET, charge};
+use crate::trap::charge;
 use vm_memory::Trap;
 use vm_operand::{Dest, Search};
 
@@ -61,7 +61,11 @@ impl<'i> Machine<'i> {
         match op {
             Search::Mzero => self.mzero(args[0], args[1], left),
             Search::Mcopy => self.mcopy(args[0], args[1], args[2], left),
-            _ => Err(NOT_YET),
+            Search::Linearsearch => self.linearsearch(args, to[0], left),
+            Search::Binarysearch => self.binarysearch(args, to[0], left),
+            Search::Linkedsearch => self.linkedsearch(args, to[0], left),
+            Search::Malloc => self.malloc(args[0], to[0], left),
+            Search::Mfree => self.mfree(args[0], left),
         }
     }
 }

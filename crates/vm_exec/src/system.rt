@@ -10,7 +10,7 @@ ghost use Rattle.vm_exec.specs.Rules as rules;
 
 use crate::Machine;
 use crate::step::{Done, Out};
-use crate::trap::{DEBUG_TRAP, NOT_YET};
+use crate::trap::DEBUG_TRAP;
 use vm_memory::Trap;
 use vm_operand::{Dest, System};
 
@@ -23,6 +23,20 @@ impl<'i> Machine<'i> {
     {
         let size = self.memory.size();
         self.put(to, size)
+    }
+
+    fn get_gestalt(&mut self, selector: u32, argument: u32, to: Dest) -> Result<Done, Trap>
+        ensures does { Tells
+            (rules.puts self.old to (rows.gestalt_of self.old selector argument))
+            self.new result }
+        ensures fit { IsFit self.old → IfOk result (λ done. StaysFit self.new done.out) }
+    {
+        let answer = if selector == 8 {
+            self.heap.start()
+        } else {
+            gestalt(selector, argument)
+        };
+        self.put(to, answer)
     }
 
     fn call_glk(&mut self, selector: u32, args: u32, to: Dest) -> Result<Done, Trap>
@@ -49,11 +63,13 @@ impl<'i> Machine<'i> {
     {
         match op {
             System::Nop | System::Accelfunc | System::Accelparam => self.tell(Out::Ran),
-            System::Gestalt => self.put(to[0], gestalt(args[0], args[1])),
+            System::Gestalt => self.get_gestalt(args[0], args[1], to[0]),
             System::Debugtrap => Err(DEBUG_TRAP),
             System::Getmemsize => self.getmemsize(to[0]),
             System::Glk => self.call_glk(args[0], args[1], to[0]),
-            System::Setmemsize | System::Random | System::Setrandom => Err(NOT_YET),
+            System::Setmemsize => self.setmemsize(args[0], to[0], left),
+            System::Random => self.draw(args[0], to[0]),
+            System::Setrandom => self.set_random(args[0]),
         }
     }
 }

@@ -1,19 +1,59 @@
+mod heap;
+mod random;
+mod searches;
+mod state;
+mod strings;
+
 use crate::{Machine, Step};
 use glulx_image::Image;
+use std::alloc::Global;
 use std::test::Fail;
+use vm_memory::Trap;
 
 // A story with code from byte 36 on, one page in the file, and a page of RAM behind it.
-fn story(code: &[u8]) -> [u8; 256] {
+pub(crate) fn story(code: &[u8]) -> [u8; 256] {
+    story_to(2, code)
+}
+
+// The same with memory of so many pages.
+fn story_to(pages: u8, code: &[u8]) -> [u8; 256] {
     let header =
         *b"Glul\x00\x03\x01\x03\0\0\x01\0\0\0\x01\0\0\0\x02\0\0\0\x01\0\0\0\0\x24\0\0\0\0\0\0\0\0";
     let mut file = [0; 256];
     file[..36].copy_from_slice(&header);
+    file[18] = pages;
     for (at, byte) in code.iter().enumerate() {
         if at < 220 {
             file[36 + at] = *byte;
         }
     }
     file
+}
+
+// What a step comes to for which there are ticks enough.
+fn stepped(alloc: Global, machine: &mut Machine<'_>) -> Result<Step, Trap> {
+    machine.step(alloc, 100_000)
+}
+
+// Whether so many steps tell nothing but their costs.
+fn runs(alloc: Global, machine: &mut Machine<'_>, steps: u32) -> bool {
+    for _ in 0..steps {
+        match stepped(alloc, machine) {
+            Ok(Step::Ran(_)) => {}
+            _ => return false,
+        }
+    }
+    true
+}
+
+// Whether these words stand in memory, by their addresses.
+fn holds(machine: &Machine<'_>, words: &[(u32, u32)]) -> bool {
+    for (at, word) in words {
+        if machine.memory.read4(*at) != Ok(*word) {
+            return false;
+        }
+    }
+    true
 }
 
 // A function without locals: catch stores its token at 0x100 and branches to the throw of 5, after

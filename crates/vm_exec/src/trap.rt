@@ -17,7 +17,15 @@ pub(crate) const BAD_OPCODE: Trap = Trap::Fault(6);
 
 pub(crate) const BAD_STUB: Trap = Trap::Fault(13);
 
+pub(crate) const BAD_STRING: Trap = Trap::Fault(15);
+
 pub(crate) const DEBUG_TRAP: Trap = Trap::Fault(18);
+
+/// A size that memory or a block may not have.
+pub(crate) const BAD_SIZE: Trap = Trap::Fault(19);
+
+/// No block of the heap begins there.
+pub(crate) const BAD_BLOCK: Trap = Trap::Fault(11);
 
 pub(crate) const BUDGET: Trap = Trap::Fault(24);
 

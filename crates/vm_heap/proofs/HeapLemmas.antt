@@ -1,5 +1,5 @@
 -- Blocks in order, and an edit of them.
-use Rattle.std.proofs.Common.{arith, zero, suc, ◌-◌, ◌≡◌, ◌∙◌, refl, sym, ap, subst, ℕ, ◌+◌, ◌<◌, ◌≤◌, Bool, true, false, ◌&&◌, nat_eq, nat_lt, nat_le, cond, List, [], ◌∷◌, length, drop, drop-cons, add-one, IsTrue}
+use Rattle.std.proofs.Common.{arith, zero, suc, ◌-◌, ◌≡◌, ◌∙◌, refl, sym, ap, subst, ℕ, ◌+◌, ◌%◌, ◌<◌, ◌≤◌, Bool, true, false, ◌&&◌, nat_eq, nat_lt, nat_le, cond, List, [], ◌∷◌, length, drop, drop-cons, add-one, IsTrue}
 use Rattle.std.proofs.Math.ListN.{get_or}
 use Rattle.std.proofs.lemmas.Grind.{common_steps, get_or_tail}
 use Rattle.vm_heap.specs.HeapMap.{in_order, is_heap, end_of, heap_end, rounded_up}
@@ -98,3 +98,34 @@ heap_end-last (b ∷ c ∷ bs) l =
 
 pub last_end : (start : ℕ) (bs : List Block) → IsTrue (is_heap start bs) → 0 < length bs → end_of (get_or bs (length bs - 1) none) ≤ 16777216
 last_end start bs h l = in_order-get bs (length bs - 1) start (omega arith) (is_heap-order start bs h)
+
+pub rounded_within : (n : ℕ) → n ≤ 16777216 → rounded_up n ≤ 16777216
+rounded_within n l = omega (arith, l)
+
+pub rounded_page : (n : ℕ) → rounded_up n % 256 ≡ 0
+rounded_page n = omega arith
+
+pub rounded_above : (n : ℕ) → n ≤ rounded_up n
+rounded_above n = omega arith
+
+-- where memory ends is a page, and not before the heap's start
+pub heap_end-page : (bs : List Block) → heap_end bs % 256 ≡ 0
+heap_end-page [] = refl
+heap_end-page (b ∷ []) = rounded_page (end_of b)
+heap_end-page (b ∷ c ∷ bs) = heap_end-page (c ∷ bs)
+
+in_order-below : (from : ℕ) (b : Block) (bs : List Block) → IsTrue (in_order from (b ∷ bs)) → from ≤ heap_end (b ∷ bs)
+in_order-below from b [] h =
+    let n : Next from b [] = next_of from b [] h in
+    let r : end_of b ≤ rounded_up (end_of b) = rounded_above (end_of b) in omega (arith, n.above, r)
+in_order-below from b (c ∷ bs) h =
+    let n : Next from b (c ∷ bs) = next_of from b (c ∷ bs) h in
+    let r : end_of b ≤ heap_end (c ∷ bs) = in_order-below (end_of b) c bs n.rest in omega (arith, n.above, r)
+
+pub start-below : (start : ℕ) (bs : List Block) → IsTrue (is_heap start bs) → start ≤ heap_end bs
+start-below start [] h = grind (arith, common_steps)
+start-below start (b ∷ bs) h = in_order-below start b bs (is_heap-order start (b ∷ bs) h)
+
+pub start_within : (start : ℕ) (bs : List Block) → IsTrue (is_heap start bs) → start ≤ 16777216
+start_within start [] h = grind (arith, common_steps)
+start_within start (b ∷ bs) h = in_order-limit start (b ∷ bs) (is_heap-order start (b ∷ bs) h)

@@ -4,7 +4,7 @@ ghost use Rattle.std.specs.Prelude.{◌≡◌, ◌≤◌, [], OnOk, OnErr, IsTru
 ghost use Rattle.vm_heap.specs.HeapMap.{HeapMap, heap_end};
 ghost use Rattle.vm_heap.specs.HeapMap as spec;
 
-use crate::block::Block;
+use crate::block::{Block, MAX_SIZE};
 use std::alloc::{AllocError, Global};
 use std::marker::Model;
 
@@ -59,6 +59,7 @@ impl Heap {
     /// Where it begins, or 0 where it isn't active.
     pub fn start(&self) -> u32
         ensures value { result ≡ self.now.start }
+        ensures within { result ≤ MAX_SIZE }
     {
         self.start
     }
@@ -75,6 +76,8 @@ impl Heap {
     /// isn't active.
     pub fn end(&self) -> u32
         ensures value { result ≡ heap_end self.now.blocks }
+        ensures within { result ≤ MAX_SIZE }
+        ensures heap { IsTrue (spec.is_heap self.now.start self.now.blocks) }
     {
         match self.blocks.as_slice() {
             [] => 0,

@@ -38,6 +38,17 @@ copied m n from to =
     else Err (BadWrite to))
     else Err (BadRead from))
 
+-- memory with a block of n bytes that stands at the same address in another; an empty block is
+-- nowhere, and the block is read first
+abbrev pub copied_from : MemoryMap → MemoryMap → ℕ → ℕ → Result MemoryMap MemFault
+copied_from m other at n =
+    if n == 0 then Ok m
+    else (if nat_le (at + n) (length other.bytes)
+    then (if nat_le m.ramstart at && nat_le (at + n) (length m.bytes)
+    then Ok (record m { bytes = replaced m.bytes at (take n (drop at other.bytes)) })
+    else Err (BadWrite at))
+    else Err (BadRead at))
+
 -- A call that changes memory answered this and left new, as it should, unless room was wanting.
 abbrev pub Leaves : {A : Type 0} → Result MemoryMap MemFault → MemoryMap → Result A MemStop → Type 0
 Leaves should new (Ok x) = should ≡ Ok new

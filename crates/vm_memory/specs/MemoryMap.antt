@@ -1,5 +1,5 @@
 -- The memory map (Glulx 3.1.3, "The Memory Map").
-use Rattle.std.specs.Prelude.{ℕ, ◌+◌, ◌-◌, List, ◌++◌, length, take, drop, replicate}
+use Rattle.std.specs.Prelude.{◌≡◌, ℕ, ◌+◌, ◌-◌, List, ◌++◌, length, take, drop, replicate}
 use Rattle.byteorder.specs.Endian.{big_number}
 
 -- the bytes of memory, those from RAMSTART on writable; and the original list, which is the file's
@@ -26,3 +26,26 @@ number_at n bytes at = big_number n (drop at bytes)
 -- the bytes with these in place of those at an address
 abbrev pub replaced : List ℕ → ℕ → List ℕ → List ℕ
 replaced bytes at new = take at bytes ++ new ++ drop (at + length new) bytes
+
+-- memory of another size: bytes past it are gone, new ones are zero
+abbrev pub resized : MemoryMap → ℕ → MemoryMap
+resized m size =
+    record m { bytes = take size m.bytes ++ replicate (size - length m.bytes) 0 }
+
+-- the original memory again
+abbrev pub reset : MemoryMap → MemoryMap
+reset m = record m { bytes = original m.rom m.endmem }
+
+-- what memory has of its image
+pub record Origin : Type 0 where
+  pub ramstart : ℕ
+  pub rom : List ℕ
+  pub endmem : ℕ
+
+abbrev pub origin_of : MemoryMap → Origin
+origin_of m = record { ramstart = m.ramstart; rom = m.rom; endmem = m.endmem }
+
+-- a change of bytes alone: memory of the same image, and of the same size
+pub record KeepsMap (old new : MemoryMap) : Type 0 where
+  pub origin : origin_of old ≡ origin_of new
+  pub size : length old.bytes ≡ length new.bytes

@@ -1,9 +1,10 @@
 //! Reads and writes of numbers, most significant byte first, and of blocks.
 
 ghost use Rattle.std.specs.Prelude.{◌≡◌, ◌≤◌, ◌<◌, ◌+◌, ◌&&◌, length, nat_le, OnErr, OnOk, IfOk};
-ghost use Rattle.vm_memory.specs.Access.{read, written, zeroed, copied, Leaves};
+ghost use Rattle.vm_memory.specs.MemoryMap.{KeepsMap};
+ghost use Rattle.vm_memory.specs.Access.{read, written, zeroed, copied, copied_from, Leaves};
 
-use crate::bytes::{clear, put, shift};
+use crate::bytes::{clear, put, put_from, shift};
 use crate::{MAX_SIZE, MemFault, MemStop, Memory};
 use byteorder::{BigEndian, ByteOrder};
 
@@ -58,7 +59,7 @@ impl<'i> Memory<'i> {
     pub fn write1(&mut self, at: u32, value: u32) -> Result<(), MemStop>
         ensures value { Leaves (written 1 self.old at value) self.new result }
         ensures err { OnErr result (self.new ≡ self.old) }
-        ensures kept { length self.new.bytes ≡ length self.old.bytes }
+        ensures kept { KeepsMap self.old self.new }
     {
         if !self.is_writable(at, 1) {
             return Err(MemStop::Fault(MemFault::BadWrite(at)));
@@ -71,7 +72,7 @@ impl<'i> Memory<'i> {
     pub fn write2(&mut self, at: u32, value: u32) -> Result<(), MemStop>
         ensures value { Leaves (written 2 self.old at value) self.new result }
         ensures err { OnErr result (self.new ≡ self.old) }
-        ensures kept { length self.new.bytes ≡ length self.old.bytes }
+        ensures kept { KeepsMap self.old self.new }
     {
         if !self.is_writable(at, 2) {
             return Err(MemStop::Fault(MemFault::BadWrite(at)));
@@ -88,7 +89,7 @@ impl<'i> Memory<'i> {
     pub fn write4(&mut self, at: u32, value: u32) -> Result<(), MemStop>
         ensures value { Leaves (written 4 self.old at value) self.new result }
         ensures err { OnErr result (self.new ≡ self.old) }
-        ensures kept { length self.new.bytes ≡ length self.old.bytes }
+        ensures kept { KeepsMap self.old self.new }
     {
         if !self.is_writable(at, 4) {
             return Err(MemStop::Fault(MemFault::BadWrite(at)));
@@ -102,7 +103,7 @@ impl<'i> Memory<'i> {
     pub fn zero(&mut self, at: u32, count: u32) -> Result<(), MemStop>
         ensures value { Leaves (zeroed self.old at count) self.new result }
         ensures err { OnErr result (self.new ≡ self.old) }
-        ensures kept { length self.new.bytes ≡ length self.old.bytes }
+        ensures kept { KeepsMap self.old self.new }
     {
         if count == 0 {
             return Ok(());
@@ -120,7 +121,7 @@ impl<'i> Memory<'i> {
     pub fn copy(&mut self, from: u32, to: u32, count: u32) -> Result<(), MemStop>
         ensures value { Leaves (copied self.old count from to) self.new result }
         ensures err { OnErr result (self.new ≡ self.old) }
-        ensures kept { length self.new.bytes ≡ length self.old.bytes }
+        ensures kept { KeepsMap self.old self.new }
     {
         if count == 0 {
             return Ok(());
@@ -132,6 +133,26 @@ impl<'i> Memory<'i> {
             return Err(MemStop::Fault(MemFault::BadWrite(to)));
         }
         shift(&mut self.bytes, from as usize, to as usize, count as usize);
+        Ok(())
+    }
+
+    /// Takes so many bytes at the address from another memory; BadRead where they pass its end,
+    /// then BadWrite where they aren't all in RAM here. An empty block is nowhere and does nothing.
+    pub fn copy_from(&mut self, other: &Memory<'_>, at: u32, size: u32) -> Result<(), MemStop>
+        ensures value { Leaves (copied_from self.old other.now at size) self.new result }
+        ensures err { OnErr result (self.new ≡ self.old) }
+        ensures kept { KeepsMap self.old self.new }
+    {
+        if size == 0 {
+            return Ok(());
+        }
+        if !other.is_inside(at, size) {
+            return Err(MemStop::Fault(MemFault::BadRead(at)));
+        }
+        if !self.is_writable(at, size) {
+            return Err(MemStop::Fault(MemFault::BadWrite(at)));
+        }
+        put_from(&mut self.bytes, &other.bytes, at as usize, size as usize);
         Ok(())
     }
 }

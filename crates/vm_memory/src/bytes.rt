@@ -1,6 +1,6 @@
 //! Changes of a slice of bytes at a place.
 
-ghost use Rattle.std.specs.Prelude.{◌≡◌, ◌≤◌, ◌+◌, length, take, drop, replicate};
+ghost use Rattle.std.specs.Prelude.{◌≡◌, ◌≤◌, ◌+◌, ◌-◌, ◌++◌, length, take, drop, replicate};
 ghost use Rattle.vm_memory.specs.MemoryMap.{replaced};
 
 /// Writes the bytes at the place.
@@ -26,4 +26,22 @@ pub(crate) fn shift(bytes: &mut [u8], from: usize, to: usize, count: usize)
     ensures { bytes.new ≡ replaced bytes.old to (take count (drop from bytes.old)) }
 {
     bytes.copy_within(from..from + count, to);
+}
+
+/// Copies so many bytes at the place from another slice.
+pub(crate) fn put_from(bytes: &mut [u8], other: &[u8], at: usize, count: usize)
+    requires from { at + count ≤ length other.now }
+    requires to { at + count ≤ length bytes.old }
+    ensures { bytes.new ≡ replaced bytes.old at (take count (drop at other.now)) }
+{
+    put(bytes, at, &other[at..at + count]);
+}
+
+/// Makes the bytes these and then zeros.
+pub(crate) fn begin_with(bytes: &mut [u8], front: &[u8])
+    requires { length front.now ≤ length bytes.old }
+    ensures { bytes.new ≡ front.now ++ replicate (length bytes.old - length front.now) 0 }
+{
+    bytes[..front.len()].copy_from_slice(front);
+    bytes[front.len()..].fill(0);
 }

@@ -5,6 +5,8 @@ mod access;
 mod bytes;
 mod fault;
 mod memory;
+#[cfg(test)]
+mod tests;
 
 pub use fault::{MemFault, MemStop, Trap};
 pub use memory::{MAX_SIZE, Memory};

@@ -1,8 +1,9 @@
 //! Memory: what it is made of, and its size.
 
-ghost use Rattle.std.specs.Prelude.{◌≡◌, ◌≤◌, ◌+◌, length, nat_le, IfOk};
-ghost use Rattle.vm_memory.specs.MemoryMap.{memory_of, original};
+ghost use Rattle.std.specs.Prelude.{◌≡◌, ◌≤◌, ◌<◌, ◌+◌, length, nat_le, IfOk, OnErr, OnOk};
+ghost use Rattle.vm_memory.specs.MemoryMap.{memory_of, original, reset, resized};
 
+use crate::bytes::begin_with;
 use std::alloc::{AllocError, Global};
 use std::marker::Model;
 
@@ -20,14 +21,16 @@ pub struct Memory<'i> {
 }
 
 impl<'i> Model for Memory<'i> {
-    ghost use Rattle.std.specs.Prelude.{◌≤◌, length};
+    ghost use Rattle.std.specs.Prelude.{◌≤◌, ◌<◌, length};
     ghost use Rattle.vm_memory.specs.MemoryMap.{MemoryMap};
 
     ghost Value = { MemoryMap };
 
     ghost view = { λ m. record { bytes = m.bytes.items; ramstart = m.ramstart; rom = m.rom.now; endmem = m.endmem } };
 
-    ghost invariant = { λ m. length m.bytes.items ≤ 16777216 };
+    ghost invariant = { λ m.
+        (length m.rom.now ≤ m.endmem) × ((0 < m.endmem)
+        × ((m.endmem ≤ length m.bytes.items) × (length m.bytes.items ≤ 16777216))) };
 }
 
 impl<'i> Memory<'i> {
@@ -41,6 +44,7 @@ impl<'i> Memory<'i> {
     ) -> Result<Memory<'i>, AllocError>
         requires ram { ramstart ≤ length rom.now }
         requires extent { length rom.now ≤ endmem }
+        requires some { 0 < endmem }
         requires limit { endmem ≤ MAX_SIZE }
         ensures value { IfOk result (λ m. m ≡ memory_of rom.now ramstart endmem) }
     {
@@ -55,9 +59,44 @@ impl<'i> Memory<'i> {
         })
     }
 
+    /// Makes the size so many bytes, from ENDMEM on. New bytes are zero
+    /// (Glulx 3.1.3, "Memory Map").
+    pub fn resize(&mut self, size: u32) -> Result<(), AllocError>
+        requires least { self.old.endmem ≤ size }
+        requires limit { size ≤ MAX_SIZE }
+        ensures ok { OnOk result (self.new ≡ resized self.old size) }
+        ensures err { OnErr result (self.new ≡ self.old) }
+    {
+        self.bytes.resize(size as usize, 0)
+    }
+
+    /// Makes it the original memory again (Glulx 3.1.3, "Game State").
+    pub fn reset(&mut self)
+        ensures ok { self.new ≡ reset self.old }
+        ensures size { length self.new.bytes ≡ self.new.endmem }
+    {
+        self.bytes.truncate(self.endmem as usize);
+        begin_with(&mut self.bytes, self.rom);
+    }
+
+    /// An equal memory over the same file.
+    pub fn copy_of(&self, alloc: Global) -> Result<Memory<'i>, AllocError>
+        ensures ok { IfOk result (λ m. m ≡ self.now) }
+    {
+        let bytes = Vec::from_slice(alloc, &self.bytes)?;
+        Ok(Memory {
+            rom: self.rom,
+            endmem: self.endmem,
+            ramstart: self.ramstart,
+            bytes,
+        })
+    }
+
     /// The size in bytes.
     pub fn size(&self) -> u32
         ensures value { result ≡ length self.now.bytes }
+        ensures least { self.now.endmem ≤ result }
+        ensures some { 0 < result }
         ensures within { result ≤ MAX_SIZE }
     {
         self.bytes.len() as u32
@@ -68,6 +107,13 @@ impl<'i> Memory<'i> {
         ensures value { result ≡ self.now.ramstart }
     {
         self.ramstart
+    }
+
+    /// The original size in bytes.
+    pub fn endmem(&self) -> u32
+        ensures value { result ≡ self.now.endmem }
+    {
+        self.endmem
     }
 
     /// The file's bytes, up to EXTSTART.

@@ -58,6 +58,18 @@ const ECHO: File = File {
     size: 256,
 };
 
+/// Divides -2147483648 by -1.
+const OVERFLOWS: File = File {
+    code: b"\xC1\x00\x00\x13\x13\x08\x80\x00\x00\x00\xFF\x81\x20",
+    ..HI
+};
+
+/// Divides 1 by 0.
+const DIVIDES_BY_ZERO: File = File {
+    code: b"\xC1\x00\x00\x13\x11\x08\x01\x00\x81\x20",
+    ..HI
+};
+
 const HI_SHOW: &[u8] = b"W 1 3 0 0 80 24\nT 1 0 =Hi\nE quit\n.\n";
 
 const PROMPT: &[u8] = b"W 1 3 0 0 80 24\nT 1 0 =>\nI 1 line 20 =\n.\n";
@@ -125,8 +137,14 @@ fn ends_as_wanted<R: Threads + Wait + Sync>(
         String::from_str(alloc, "a.ulx")?,
         bytes_of(alloc, &run.file)?,
     )?;
-    let cut = File { size: 255, ..HI };
-    files.insert(String::from_str(alloc, "cut.ulx")?, bytes_of(alloc, &cut)?)?;
+    let others = [
+        ("cut.ulx", File { size: 255, ..HI }),
+        ("overflows.ulx", OVERFLOWS),
+        ("by_zero.ulx", DIVIDES_BY_ZERO),
+    ];
+    for (name, file) in &others {
+        files.insert(String::from_str(alloc, name)?, bytes_of(alloc, file)?)?;
+    }
     let mut words = Vec::new(alloc);
     for word in run.command {
         words.push(String::from_str(alloc, word)?)?;

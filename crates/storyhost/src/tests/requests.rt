@@ -71,6 +71,19 @@ fn requests_are_answered_by_their_sessions(rt: HostRuntime) -> Result<(), Fail> 
             ],
             ..pipe
         },
+        // faults of two stories, beside a third
+        Run {
+            words: &["overflows.ulx", "by_zero.ulx"],
+            input: b"OPEN 0 k 1 7 80 24\nOPEN 1 k 2 7 80 24\nOPEN 2 k1 0 7 80 24\n\
+                LINE 2 k1 1 1 =go\n",
+            text: &[
+                b"SHOW 0 0\nE fault 9\n.\nSHOW 1 0\nE fault 8\n.\nSHOW 2 0\n",
+                PROMPT,
+                b"SHOW 2 1\n",
+                GO,
+            ],
+            ..pipe
+        },
         // a second story, and one that is refused
         Run {
             words: &["a.ulx"],

@@ -1,5 +1,5 @@
 -- Output and the I/O systems (Glulx 3.1.3, "Output").
-use Rattle.std.specs.Prelude.{ℕ, ◌%◌, nat_le, if◌then◌else◌, Result, Ok, Err}
+use Rattle.std.specs.Prelude.{ℕ, ◌%◌, nat_le, false, if◌then◌else◌, Result, Ok}
 use Rattle.vm_operand.specs.Reading.{◌>>=◌}
 use Rattle.vm_operand.specs.declared.opcode.Stream.{Stream}
 use Rattle.vm_operand.specs.declared.opcode.Stream.TheVariants.{Streamchar, Streamnum, Streamstr, Streamunichar, Getstringtbl, Setstringtbl, Getiosys, Setiosys}
@@ -7,6 +7,7 @@ use Rattle.vm_operand.specs.declared.operand.Dest as d
 use Rattle.vm_exec.specs.Rows.Work.{Work, Free, Costs}
 use Rattle.vm_exec.specs.declared.machine.Machine.{Machine}
 use Rattle.vm_exec.specs.Rules.{Rule, goes, puts, stored, streams}
+use Rattle.vm_exec.specs.Rows.Text.{begins, numbers}
 
 abbrev pub gives_io : Machine → d.Dest → d.Dest → Rule
 gives_io m mode rock = stored m mode m.mode >>= (λ n. puts n rock m.rock)
@@ -24,5 +25,5 @@ stream_work Getstringtbl m l d = Free (puts m (d 0) m.string_table)
 stream_work Setstringtbl m l d = Free (goes (record m { string_table = l 0 }))
 stream_work Getiosys m l d = Free (gives_io m (d 0) (d 1))
 stream_work Setiosys m l d = Free (takes_io m (l 0) (l 1))
-stream_work Streamnum m l d = Free (Err 25)
-stream_work Streamstr m l d = Free (Err 25)
+stream_work Streamnum m l d = Free (numbers m (l 0))
+stream_work Streamstr m l d = Free (begins m (l 0) false)

@@ -1,4 +1,4 @@
-use Rattle.std.proofs.Common.{rules, arith, ◌≡◌, ◌<◌}
+use Rattle.std.proofs.Common.{arith, ◌<◌}
 use Rattle.std.proofs.lemmas.Grind.{common_steps}
 use Rattle.glk_windows.proofs.ReadingLemmas.{is_below-more, is_below-none}
 use Rattle.glk_windows.proofs.arranging.is_below.Goals as goal

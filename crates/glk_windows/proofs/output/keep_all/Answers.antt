@@ -1,4 +1,4 @@
-use Rattle.std.proofs.Common.{rules, arith, ◌<◌, length}
+use Rattle.std.proofs.Common.{arith, ◌<◌, length}
 use Rattle.std.proofs.lemmas.List.Edits.{map_over_more}
 use Rattle.glk_windows.specs.Output.{window_kept}
 use Rattle.glk_windows.proofs.output.keep_all.Goals as goal

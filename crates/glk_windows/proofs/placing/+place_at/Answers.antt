@@ -1,5 +1,4 @@
-use Rattle.std.proofs.Common.{arith, ◌<◌, refl, rules}
-use Rattle.std.proofs.lemmas.Grind.{common_steps}
+use Rattle.std.proofs.Common.{arith, ◌<◌, rules}
 use Rattle.glk_windows.proofs.PlacingLemmas.{placed_more}
 use Rattle.glk_windows.proofs.placing.+place_at.Goals as goal
 

@@ -1,6 +1,5 @@
-use Rattle.std.proofs.Common.{rules, arith, ◌≡◌, ◌<◌, ℕ, ◌++◌, append_assoc}
+use Rattle.std.proofs.Common.{arith, ◌<◌, append_assoc}
 use Rattle.std.proofs.lemmas.Grind.{common_steps}
-use Rattle.glk_windows.specs.Resizing.{rows_sized}
 use Rattle.glk_windows.proofs.RowLemmas.{rows_sized-more, rows_sized-none}
 use Rattle.glk_windows.proofs.resizing.push_rows.Goals as goal
 

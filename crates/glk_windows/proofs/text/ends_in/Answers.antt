@@ -1,4 +1,4 @@
-use Rattle.std.proofs.Common.{rules, arith, ◌≡◌, ◌<◌, length, nat_lt, false, sym, ◌∙◌}
+use Rattle.std.proofs.Common.{arith, ◌≡◌, ◌<◌, length}
 use Rattle.std.proofs.lemmas.Grind.{common_steps}
 use Rattle.glk_windows.proofs.RunLemmas.{ends_in-last, ends_in-none}
 use Rattle.glk_windows.proofs.text.ends_in.Goals as goal

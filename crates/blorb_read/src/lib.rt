@@ -1,0 +1,10 @@
+//! The story inside a container.
+#![tactic(auto)]
+
+mod container;
+mod fault;
+#[cfg(test)]
+mod tests;
+
+pub use container::{Span, find_story};
+pub use fault::BlorbFault;

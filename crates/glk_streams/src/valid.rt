@@ -1,0 +1,148 @@
+//! Streams, file references and files that a session may have (Glk 0.7.5, "Opaque Objects").
+
+ghost use Rattle.std.specs.Prelude.{◌≡◌, nat_le};
+ghost use Rattle.glk_numbers.specs.Numbered.{ascends};
+ghost use Rattle.glk_streams.specs.Files.{bytes_of};
+ghost use Rattle.glk_streams.specs.Valid as valid;
+
+use crate::file::{File, MAX_FILE_BYTES, MAX_FILES};
+use crate::fileref::{FileRef, MAX_REFS};
+use crate::opening::count_of;
+use crate::stream::{MAX_STREAMS, Stream, Target};
+use crate::streams::Streams;
+use glk_numbers::{Numbered, is_live};
+
+/// Whether the numbers ascend, each above `low` and below `high`.
+#[tactic(auto, unfolding(glk_numbers::specs::Numbered::ascends))]
+fn ascend<T: Numbered>(items: &[T], low: u32, high: u32) -> bool
+    ensures { result ≡ ascends T.number_of low high items.now }
+{
+    let mut before = low;
+    for item in items {
+        if item.number() <= before || item.number() >= high {
+            return false;
+        }
+        before = item.number();
+    }
+    true
+}
+
+impl Stream {
+    /// Whether a stream of its kind may have its mode.
+    fn has_mode(&self) -> bool
+        ensures { result ≡ valid.is_mode self.now.target self.now.mode }
+    {
+        match &self.target {
+            Target::Window(_) => self.mode == 1,
+            Target::Memory { .. } => matches!(self.mode, 1 | 2 | 3),
+            Target::File { .. } => matches!(self.mode, 1 | 2 | 3 | 5),
+        }
+    }
+}
+
+/// Whether each stream has a mode of its kind.
+#[tactic(auto, unfolding(crate::specs::Valid::are_modes))]
+fn are_modes(streams: &[Stream]) -> bool
+    ensures { result ≡ valid.are_modes streams.now }
+{
+    for stream in streams {
+        if !stream.has_mode() {
+            return false;
+        }
+    }
+    true
+}
+
+/// Whether the next number is one that may be given, or the first that may not.
+fn is_next(number: u32) -> bool
+    ensures { result ≡ valid.is_next number }
+{
+    number > 0
+}
+
+/// Whether the file's key is before that of the first of these.
+fn is_first(file: &File, rest: &[File]) -> bool
+    ensures { result ≡ valid.is_first file.now rest.now }
+{
+    match rest {
+        [] => true,
+        [next, ..] => file.key_cmp(next).is_lt(),
+    }
+}
+
+/// Whether the files' keys ascend.
+#[tactic(auto, unfolding(crate::specs::Valid::in_order))]
+fn in_order(list: &[File]) -> bool
+    ensures { result ≡ valid.in_order list.now }
+{
+    for index in 0..list.len() {
+        if !is_first(&list[index], &list[index + 1..]) {
+            return false;
+        }
+    }
+    true
+}
+
+/// Whether each usage is one modulo 16.
+#[tactic(auto, unfolding(crate::specs::Valid::are_kinds))]
+fn are_kinds(list: &[File]) -> bool
+    ensures { result ≡ valid.are_kinds list.now }
+{
+    for file in list {
+        if file.usage >= 16 {
+            return false;
+        }
+    }
+    true
+}
+
+/// Whether the files have at most 1,048,576 bytes in sum.
+#[tactic(auto, unfolding(crate::specs::Files::bytes_of))]
+fn is_within(list: &[File]) -> bool
+    ensures { result ≡ nat_le (bytes_of list.now) MAX_FILE_BYTES }
+{
+    let mut left = MAX_FILE_BYTES;
+    for file in list {
+        let length = file.bytes.as_slice().len();
+        if length > left {
+            return false;
+        }
+        left -= length;
+    }
+    true
+}
+
+impl Streams {
+    /// Whether they are such as a session may have: objects by number, modes of their kinds, files
+    /// in order, and the limits kept.
+    pub fn is_valid(&self) -> bool
+        ensures { result ≡ valid.is_valid self.now }
+    {
+        self.has_valid_streams() && self.has_valid_refs() && are_files(&self.files)
+    }
+
+    fn has_valid_streams(&self) -> bool
+        ensures { result ≡ valid.are_streams self.now.next self.now.current self.now.streams }
+    {
+        is_next(self.next)
+            && ascend(&self.streams, 0, self.next)
+            && are_modes(&self.streams)
+            && count_of(&self.streams) <= MAX_STREAMS
+            && (self.current == 0 || is_live(&self.streams, self.current))
+    }
+
+    fn has_valid_refs(&self) -> bool
+        ensures { result ≡ valid.are_refs self.now.next_ref self.now.refs }
+    {
+        is_next(self.next_ref)
+            && ascend(&self.refs, 0, self.next_ref)
+            && self.refs.len() <= MAX_REFS
+    }
+}
+
+/// Whether files are in order and within the limits.
+fn are_files(list: &[File]) -> bool
+    ensures { result ≡ valid.are_files list.now }
+{
+    in_order(list) && are_kinds(list) && list.len() <= MAX_FILES && is_within(list)
+}

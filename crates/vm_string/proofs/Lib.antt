@@ -1,0 +1,4 @@
+pub mod WalkLemmas
+pub mod BitLemmas
+pub mod MeaningLemmas
+pub mod StandardFacts

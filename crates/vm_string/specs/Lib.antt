@@ -1,0 +1,5 @@
+pub mod Fault
+pub mod Node
+pub mod Walk
+pub mod Next
+pub mod Meaning

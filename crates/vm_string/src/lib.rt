@@ -1,0 +1,14 @@
+//! Strings: what an object in memory prints, piece by piece.
+#![tactic(auto)]
+
+mod next;
+mod node;
+mod piece;
+mod stop;
+#[cfg(test)]
+mod tests;
+mod walk;
+
+pub use next::next_piece;
+pub use piece::{Cursor, Piece};
+pub use stop::StringStop;

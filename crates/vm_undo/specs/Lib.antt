@@ -1,0 +1,3 @@
+pub mod SavedState
+pub mod UndoList
+pub mod Protection

@@ -1,0 +1,93 @@
+//! The states that undo keeps.
+
+ghost use Rattle.std.specs.Prelude.{◌≡◌, ◌∷◌, [], IsTrue, IfSome, OnErr, OnOk, length};
+ghost use Rattle.vm_heap.specs.HeapMap.{is_heap};
+ghost use Rattle.vm_undo.specs.UndoList as list;
+
+use crate::saved::Saved;
+use std::alloc::{AllocError, Global};
+use std::marker::Model;
+
+/// The states that undo keeps, four at most, seen by contracts as their list, the newest first.
+#[derive(Drop)]
+pub struct Undo<'i> {
+    newest: Option<Saved<'i>>,
+    second: Option<Saved<'i>>,
+    third: Option<Saved<'i>>,
+    oldest: Option<Saved<'i>>,
+}
+
+impl<'i> Model for Undo<'i> {
+    ghost use Rattle.std.specs.Prelude.{List, [], ◌∷◌, IsTrue};
+    ghost use Rattle.vm_undo.specs.UndoList.{states_in, are_filled};
+    ghost use Rattle.vm_undo.specs.declared.saved.Saved.{Saved};
+
+    ghost Value = { List Saved };
+
+    ghost view = { λ u. states_in (u.newest ∷ u.second ∷ u.third ∷ u.oldest ∷ []) };
+
+    ghost invariant = { λ u. IsTrue (are_filled (u.newest ∷ u.second ∷ u.third ∷ u.oldest ∷ [])) };
+}
+
+impl<'i> Undo<'i> {
+    /// No state is kept.
+    pub fn new() -> Undo<'i>
+        ensures value { result ≡ [] }
+    {
+        Undo {
+            newest: None,
+            second: None,
+            third: None,
+            oldest: None,
+        }
+    }
+
+    /// Keeps a copy of the state; a fifth drops the oldest.
+    pub fn save(&mut self, alloc: Global, state: &Saved<'i>) -> Result<(), AllocError>
+        requires heap { IsTrue (is_heap state.now.heap_start state.now.heap) }
+        ensures ok { OnOk result (self.new ≡ list.with_newest self.old state.now) }
+        ensures err { OnErr result (self.new ≡ self.old) }
+    {
+        let copy = state.copy_of(alloc)?;
+        self.keep(copy);
+        Ok(())
+    }
+
+    /// Keeps the state itself; a fifth drops the oldest.
+    pub fn keep(&mut self, state: Saved<'i>)
+        requires heap { IsTrue (is_heap state.heap_start state.heap) }
+        ensures ok { self.new ≡ list.with_newest self.old state.entry }
+    {
+        self.oldest = self.third.take();
+        self.third = self.second.take();
+        self.second = self.newest.take();
+        self.newest = Some(state);
+    }
+
+    /// Takes the newest state, if one is kept.
+    pub fn restore(&mut self) -> Option<Saved<'i>>
+        ensures value { result ≡ list.newest self.old }
+        ensures rest { self.new ≡ list.without_newest self.old }
+        ensures heap { IfSome result (λ s. IsTrue (is_heap s.heap_start s.heap)) }
+    {
+        let newest = self.newest.take();
+        self.newest = self.second.take();
+        self.second = self.third.take();
+        self.third = self.oldest.take();
+        newest
+    }
+
+    /// Whether a state is kept.
+    pub fn has(&self) -> bool
+        ensures value { result ≡ list.has_any self.now }
+    {
+        self.newest.is_some()
+    }
+
+    /// Drops the newest state, if one is kept.
+    pub fn discard(&mut self)
+        ensures ok { self.new ≡ list.without_newest self.old }
+    {
+        self.restore();
+    }
+}
