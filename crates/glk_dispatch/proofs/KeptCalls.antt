@@ -1,5 +1,5 @@
 -- Every call and every input keeps windows and streams valid.
-use Rattle.std.proofs.Common.{◌≡◌, ℕ, zero, suc, ◌+◌, ◌-◌, ◌%◌, ◌^◌, ◌==◌, ◌||◌, ◌&&◌, not, nat_le, min, Bool, true, false, List, [], ◌∷◌, length, refl, Option, Some, None, Result, Ok, Err, cond, slice_index}
+use Rattle.std.proofs.Common.{◌≡◌, ℕ, zero, suc, ◌+◌, ◌-◌, ◌%◌, ◌^◌, ◌==◌, ◌||◌, ◌&&◌, not, nat_le, min, Bool, true, false, List, [], ◌∷◌, length, refl, Option, Some, None, Result, Ok, Err, cond, slice_index, arith, ◌<◌, ◌≤◌, ◌++◌, length-append}
 use Rattle.vm_memory.specs.MemoryMap.{MemoryMap}
 use Rattle.vm_memory.specs.Access.{read, written}
 use Rattle.vm_memory.specs.Fault.{coded}
@@ -26,6 +26,13 @@ use Rattle.glk_dispatch.specs.FileRefs.{prompted}
 use Rattle.glk_dispatch.specs.Gestalt as base
 use Rattle.glk_dispatch.specs.Glk.{charged, is_stream, is_window}
 use Rattle.glk_dispatch.specs.Laws.{AreValid, Kept, PartsStayValid}
+use Rattle.glk_input.specs.Valid.{is_valid}
+use Rattle.glk_numbers.specs.Numbered.{has}
+use Rattle.glk_windows.specs.Tree.{number_of}
+use Rattle.glk_windows.specs.Valid.{Ascends, IsOrdered}
+use Rattle.glk_windows.specs.declared.window.Window.{Window as Win}
+use Rattle.std.proofs.lemmas.Bool.Decides.{nat_tests}
+use Rattle.std.proofs.lemmas.Grind.{common_steps}
 use Rattle.glk_dispatch.specs.Output.{code_at, echo_put}
 use Rattle.glk_dispatch.specs.Reference.{gives, refers, refers_all}
 use Rattle.glk_dispatch.specs.Selector.{call_of}
@@ -55,7 +62,7 @@ kept-just of g (Err n) v k = v
 
 kept-style : (g : Glk) (r : Result StreamTable StreamStop) → AreValid g → slaw.Leaves r
     → Kept same (within g (numbered r) >>= (λ t. Ok (record g { streams = t })))
-kept-style g (Ok t) v h = record { windows = v.windows; streams = h }
+kept-style g (Ok t) v h = record { windows = v.windows; streams = h; requests = v.requests; next = v.next }
 kept-style g (Err e) v h = v
 
 kept-styled : Parts → (g : Glk) (n style : ℕ) → AreValid g → Kept same (styles.styled g n style)
@@ -125,8 +132,83 @@ kept-base_work b.GestaltExt s l v =
     kept-told (cond (l 0 == 3 && not (l 3 == 0)) (refers s (l 2) 1) (Ok s)) (base.gestalt (l 0) (l 1))
     (kept-if glk_of (l 0 == 3 && not (l 3 == 0)) (refers s (l 2) 1) (Ok s) (λ e. kept-refers s (l 2) 1 v) (λ e. v))
 
-with-requests : (g : Glk) (r : List WindowInput) → AreValid g → AreValid (record g { requests = r })
-with-requests g r v = record { windows = v.windows; streams = v.streams }
+with-requests : (g : Glk) (r : List WindowInput) → AreValid g → is_valid r ≡ true → AreValid (record g { requests = r })
+with-requests g r v h = record { windows = v.windows; streams = v.streams; requests = h; next = v.next }
+
+same-number : (m n : ℕ) → (m == n) ≡ true → m ≡ n
+same-number m n e = grind (arith, nat_tests)
+
+-- a live window has a number from 1 on that is below the next one
+range-case : (t : Bool) (w : Win) (ws : List Win) (a z n : ℕ) → (w.number == n) ≡ t → (a ≤ w.number) × (w.number < z)
+    → (t || has number_of ws n) ≡ true → (has number_of ws n ≡ true → (w.number + 1 ≤ n) × (n < z)) → (a ≤ n) × (n < z)
+range-case true w ws a z n e o h k =
+    let x : w.number ≡ n = same-number w.number n e in
+    let l : a ≤ w.number = o.0 in
+    let u : w.number < z = o.1 in
+    (omega arith, omega arith)
+range-case false w ws a z n e o h k =
+    let r = k h in
+    let l : a ≤ w.number = o.0 in
+    let m : w.number + 1 ≤ n = r.0 in
+    (omega arith, r.1)
+
+ascends-range : (ws : List Win) (a z n : ℕ) → Ascends a ws z → has number_of ws n ≡ true → (a ≤ n) × (n < z)
+unfolding has
+ascends-range [] a z n o e = absurd cc
+ascends-range (w ∷ ws) a z n o e =
+    range-case (w.number == n) w ws a z n refl (o.0, o.1) e (λ h. ascends-range ws (w.number + 1) z n o.2 h)
+
+live-range : (g : Glk) (win : ℕ) → AreValid g → is_window g win ≡ true → (0 < win) × (win < 4294967295)
+unfolding IsOrdered
+live-range g win v live =
+    let r = ascends-range g.windows.slots 1 g.windows.next win v.windows.ordered live in
+    let l : 1 ≤ win = r.0 in
+    let u : win < g.windows.next = r.1 in
+    let n : g.windows.next ≤ 4294967295 = v.next in
+    (omega arith, omega arith)
+
+-- the entry of a live window is there, or begins
+begun-requests : Parts → (g : Glk) (win : ℕ) → AreValid g → is_window g win ≡ true → is_valid (request.with_window g.requests win) ≡ true
+begun-requests laws g win v live =
+    let r = live-range g win v live in laws.requests.begun g.requests win r.0 r.1 v.requests
+
+and-first : (a b : Bool) → (a && b) ≡ true → a ≡ true
+and-first true b e = refl
+and-first false b e = e
+
+and-second : (a b : Bool) → (a && b) ≡ true → b ≡ true
+and-second true b e = e
+and-second false b e = absurd cc
+
+at-most : (a b : ℕ) → nat_le a b ≡ true → a ≤ b
+at-most a b e = grind (arith, nat_tests)
+
+kept-given : {A B : Type 0} (to : B → Glk) (g : Glk) (r : Result A ℕ) (f : A → Reached B)
+    → AreValid g → ((x : A) → r ≡ Ok x → Kept to (f x)) → Kept to (within g r >>= f)
+kept-given to g (Ok x) f v k = k x refl
+kept-given to g (Err n) f v k = v
+
+words-more : (r : Result ℕ ℕ) (f : ℕ → Result (List ℕ) ℕ) (words xs : List ℕ) (n : ℕ) → (r >>= f) ≡ Ok xs
+    → ((x : ℕ) → f x ≡ Ok xs → length xs ≡ length (words ++ x ∷ []) + n) → length xs ≡ length words + suc n
+words-more (Ok x) f words xs n e k = let h = k x e in omega (arith, length-append {A = ℕ})
+words-more (Err m) f words xs n e k = absurd cc
+
+words-none : (words xs : List ℕ) → ◌≡◌ {A = Result (List ℕ) ℕ} (Ok words) (Ok xs) → length xs ≡ length words + 0
+words-none words xs e = grind (arith, common_steps)
+
+-- an array has as many words as it was read for
+words-length : (n : ℕ) (m : MemoryMap) (at : ℕ) (words xs : List ℕ) → events.words_at n m at words ≡ Ok xs → length xs ≡ length words + n
+unfolding events.words_at
+words-length zero m at words xs e = words-none words xs e
+words-length (suc n) m at words xs e =
+    words-more (coded (read 4 m at)) (λ x. events.words_at n m ((at + 4) % 2 ^ 32) (words ++ x ∷ [])) words xs n e
+    (λ x h. words-length n m ((at + 4) % 2 ^ 32) (words ++ x ∷ []) xs h)
+
+-- an input leaves valid requests
+answered-valid : Parts → (i : Input) (ws : List WindowInput) → is_valid ws ≡ true → is_valid (delivery.answered ws i) ≡ true
+answered-valid laws (input.Line win text key) ws e = laws.requests.over ws win e
+answered-valid laws (input.Char win code) ws e = laws.requests.over ws win e
+answered-valid laws (input.File name) ws e = e
 
 kept-echoed : Parts → (cs : List ℕ) (g : Glk) (m : MemoryMap) (n : ℕ) → AreValid g → Kept first_of (events.echoed g m n cs)
 kept-echoed laws [] g m n v = v
@@ -168,35 +250,47 @@ kept-cancels_line laws s win event v =
     >>= (λ p. refers_all (record s { glk = p.0; memory = p.1 }) event (events.words_of (request.cancelled asked win)))) 0
     (kept-bind first_of glk_of (events.initial_echoed asked g s.memory win)
     (λ p. refers_all (record s { glk = p.0; memory = p.1 }) event (events.words_of (request.cancelled asked win)))
-    (kept-initial laws asked g s.memory win (with-requests s.glk (request.changed request.without_line s.glk.requests win) v))
+    (kept-initial laws asked g s.memory win (with-requests s.glk (request.changed request.without_line s.glk.requests win) v (laws.requests.line_ended s.glk.requests win v.requests)))
     (λ p w. kept-refers_all (record s { glk = p.0; memory = p.1 }) event (events.words_of (request.cancelled asked win)) w)))
 
 kept-event_work : Parts → (k : EventCall) (s : Desk) (l : ℕ → ℕ) → AreValid s.glk → Kept desk_of (events.event_work k s l)
 unfolding events.event_work
-kept-event_work laws ev.Select s l v = record { windows = v.windows; streams = v.streams }
+kept-event_work laws ev.Select s l v = record { windows = v.windows; streams = v.streams; requests = v.requests; next = v.next }
 kept-event_work laws ev.SelectPoll s l v =
     kept-told (refers_all s (l 0) (0 ∷ 0 ∷ 0 ∷ 0 ∷ [])) 0 (kept-refers_all s (l 0) (0 ∷ 0 ∷ 0 ∷ 0 ∷ []) v)
 kept-event_work laws (ev.RequestLine u) s l v =
     kept-alone s (events.line_asked u s.glk (l 0) (l 1) (l 2) (l 3))
     (kept-needs first_of s.glk (is_window s.glk (l 0)) 21 _ v
     (λ e. kept-needs first_of s.glk (events.may_ask s.glk (l 0)) 22 _ v
-    (λ f. kept-needs first_of s.glk (nat_le (l 3) (l 2) && nat_le (l 3) MAX_INITIAL) 22 _ v (λ h. with-requests s.glk _ v))))
+    (λ f. kept-needs first_of s.glk (nat_le (l 3) (l 2) && nat_le (l 3) MAX_INITIAL) 22 _ v
+    (λ h. with-requests s.glk _ v
+    (laws.requests.line (l 1) (l 2) (l 3) u (at-most (l 3) (l 2) (and-first (nat_le (l 3) (l 2)) (nat_le (l 3) MAX_INITIAL) h))
+    (at-most (l 3) 1024 (and-second (nat_le (l 3) (l 2)) (nat_le (l 3) MAX_INITIAL) h))
+    (request.with_window s.glk.requests (l 0)) (l 0) (begun-requests laws s.glk (l 0) v e))))))
 kept-event_work laws ev.CancelLine s l v = kept-cancels_line laws s (l 0) (l 1) v
 kept-event_work laws (ev.RequestChar u) s l v =
     kept-alone s (events.char_asked u s.glk (l 0))
     (kept-needs first_of s.glk (is_window s.glk (l 0)) 21 _ v
-    (λ e. kept-needs first_of s.glk (events.may_ask s.glk (l 0)) 22 _ v (λ f. with-requests s.glk _ v)))
+    (λ e. kept-needs first_of s.glk (events.may_ask s.glk (l 0)) 22 _ v
+    (λ f. with-requests s.glk _ v
+    (laws.requests.char u (request.with_window s.glk.requests (l 0)) (l 0) (begun-requests laws s.glk (l 0) v e)))))
 kept-event_work laws ev.CancelChar s l v =
     kept-alone s (events.char_cancelled s.glk (l 0))
-    (kept-needs first_of s.glk (is_window s.glk (l 0)) 21 _ v (λ e. with-requests s.glk _ v))
+    (kept-needs first_of s.glk (is_window s.glk (l 0)) 21 _ v
+    (λ e. with-requests s.glk _ v (laws.requests.char_ended s.glk.requests (l 0) v.requests)))
 kept-event_work laws ev.SetEcho s l v =
     kept-alone s (events.line_echo_set s.glk (l 0) (l 1))
-    (kept-needs first_of s.glk (is_window s.glk (l 0)) 21 _ v (λ e. with-requests s.glk _ v))
+    (kept-needs first_of s.glk (is_window s.glk (l 0)) 21 _ v
+    (λ e. with-requests s.glk _ v (laws.requests.echo (not (l 1 == 0)) s.glk.requests (l 0) v.requests)))
 kept-event_work laws ev.SetTerminators s l v =
     kept-alone s (events.terminators_set s.glk s.memory (l 0) (l 1) (l 2))
     (kept-needs first_of s.glk (is_window s.glk (l 0)) 21 _ v
     (λ e. kept-needs first_of s.glk (nat_le (l 2) 13) 22 _ v
-    (λ f. kept-within first_of s.glk (events.words_at (l 2) s.memory (l 1) []) _ v (λ list. with-requests s.glk _ v))))
+    (λ f. kept-given first_of s.glk (events.words_at (l 2) s.memory (l 1) []) _ v
+    (λ list k. with-requests s.glk _ v
+    (let few : l 2 ≤ 13 = at-most (l 2) 13 f in
+    let many : length list ≡ 0 + l 2 = words-length (l 2) s.memory (l 1) [] list k in
+    laws.requests.keys list (omega arith) (request.with_window s.glk.requests (l 0)) (l 0) (begun-requests laws s.glk (l 0) v e))))))
 
 kept-line_shown : Parts → (r : LineRequest) (g : Glk) (m : MemoryMap) (win : ℕ) (text : List ℕ) → AreValid g → Kept first_of (events.line_shown r g m win text)
 kept-line_shown laws r g m win text v =
@@ -217,10 +311,11 @@ kept-input_echoed laws (input.Line win text key) g m v = kept-line_echoed laws (
 kept-input_echoed laws (input.Char win code) g m v = v
 kept-input_echoed laws (input.File name) g m v = v
 
-kept-delivered : (g : Glk) (m : MemoryMap) (i : Input) → AreValid g → Kept head_of (events.delivered g m i)
-kept-delivered g m i v =
+kept-delivered : Parts → (g : Glk) (m : MemoryMap) (i : Input) → AreValid g → Kept head_of (events.delivered g m i)
+kept-delivered laws g m i v =
     kept-within head_of (events.request_over g i) (coded (delivery.delivered g.requests m i)) (λ p. Ok (events.request_over g i, p.0, p.1))
-    (with-requests g (delivery.answered g.requests i) v) (λ p. with-requests g (delivery.answered g.requests i) v)
+    (with-requests g (delivery.answered g.requests i) v (answered-valid laws i g.requests v.requests))
+    (λ p. with-requests g (delivery.answered g.requests i) v (answered-valid laws i g.requests v.requests))
 
 kept-event_answered : Parts → (s : Desk) (i : Input) → AreValid s.glk → Kept desk_of (events.event_answered s i)
 kept-event_answered laws s i v =
@@ -230,7 +325,7 @@ kept-event_answered laws s i v =
     (kept-bind head_of glk_of (events.input_echoed s.glk s.memory i >>= (λ p. events.delivered p.0 p.1 i))
     (λ p. refers_all (record s { glk = p.0; memory = p.1 }) p.0.event (events.words_of p.2))
     (kept-bind first_of head_of (events.input_echoed s.glk s.memory i) (λ p. events.delivered p.0 p.1 i)
-    (kept-input_echoed laws i s.glk s.memory v) (λ p w. kept-delivered p.0 p.1 i w))
+    (kept-input_echoed laws i s.glk s.memory v) (λ p w. kept-delivered laws p.0 p.1 i w))
     (λ p w. kept-refers_all (record s { glk = p.0; memory = p.1 }) p.0.event (events.words_of p.2) w))
     (λ t w. w)
 
@@ -258,8 +353,8 @@ kept-called_with laws (Some p) s given v =
 
 pub parts_stay_valid : Parts → PartsStayValid
 parts_stay_valid laws = record {
-  new = λ cols rows. record { windows = laws.windows.new; streams = laws.begins };
-  begun = λ g v. record { windows = laws.windows.begin_turn g.windows v.windows; streams = v.streams };
+  new = λ cols rows. record { windows = laws.windows.new; streams = laws.begins; requests = laws.requests.none; next = omega arith };
+  begun = λ g v. record { windows = laws.windows.begin_turn g.windows v.windows; streams = v.streams; requests = v.requests; next = v.next };
   called = λ s selector given v. kept-called_with laws (call_of selector) s given v;
   answered = λ s i v. kept-answered laws i s v;
 }

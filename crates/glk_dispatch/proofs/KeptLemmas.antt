@@ -55,15 +55,15 @@ kept-if to false x y h k = k refl
 
 -- valid streams beside valid windows
 pub with-streams : (g : Glk) (t : StreamTable) → AreValid g → slaw.IsValid t → AreValid (record g { streams = t })
-with-streams g t v h = record { windows = v.windows; streams = h }
+with-streams g t v h = record { windows = v.windows; streams = h; requests = v.requests; next = v.next }
 
 pub kept-made : {A : Type 0} (g : Glk) (r : Result (StreamTable × A) StreamStop) → AreValid g → slaw.LeavesBeside r
     → Kept first_of (made g r)
-kept-made g (Ok p) v h = record { windows = v.windows; streams = h }
+kept-made g (Ok p) v h = record { windows = v.windows; streams = h; requests = v.requests; next = v.next }
 kept-made g (Err e) v h = v
 
 pub kept-left : (g : Glk) (r : Result StreamTable StreamStop) → AreValid g → slaw.Leaves r → Kept (λ h. h) (left g r)
-kept-left g (Ok t) v h = record { windows = v.windows; streams = h }
+kept-left g (Ok t) v h = record { windows = v.windows; streams = h; requests = v.requests; next = v.next }
 kept-left g (Err e) v h = v
 
 pub kept-refers : (s : Desk) (at x : ℕ) → AreValid s.glk → Kept glk_of (refers s at x)
@@ -82,4 +82,4 @@ pub kept-alone : {A : Type 0} (s : Desk) (r : Reached (Glk × A)) → Kept first
 kept-alone s r h = kept-bind first_of desk_of r (λ p. Ok (record s { glk = p.0 }, p.1)) h (λ p v. v)
 
 pub charged-valid : (g : Glk) → AreValid g → AreValid (charged g)
-charged-valid g v = record { windows = v.windows; streams = v.streams }
+charged-valid g v = record { windows = v.windows; streams = v.streams; requests = v.requests; next = v.next }

@@ -3,6 +3,7 @@ use Rattle.std.proofs.Common.{◌≡◌, ℕ, zero, suc, ◌+◌, ◌%◌, ◌^�
 use Rattle.vm_memory.specs.MemoryMap.{MemoryMap}
 use Rattle.glk_streams.specs.Output as sout
 use Rattle.glk_streams.specs.Laws as slaw
+use Rattle.glk_input.specs.Laws as rlaw
 use Rattle.glk_streams.specs.Streams.{StreamTable}
 use Rattle.glk_streams.specs.declared.fault.StreamStop.{StreamStop}
 use Rattle.glk_windows.specs.Laws as wlaw
@@ -25,10 +26,11 @@ pub record Parts : Type 0 where
   pub may_key : wlaw.MayKeyHolds
   pub streams : slaw.StaysValid
   pub begins : slaw.BeginsValid
+  pub requests : rlaw.StaysValid
 
 kept-put : (g : Glk) (r : Result (StreamTable × MemoryMap) StreamStop) → AreValid g → slaw.LeavesBeside r
     → Kept first_of (within g (numbered r) >>= (λ p. Ok (record g { streams = p.0 }, p.1)))
-kept-put g (Ok p) v h = record { windows = v.windows; streams = h }
+kept-put g (Ok p) v h = record { windows = v.windows; streams = h; requests = v.requests; next = v.next }
 kept-put g (Err e) v h = v
 
 pub kept-streamed : Parts → (g : Glk) (m : MemoryMap) (n code : ℕ) → AreValid g → Kept first_of (out.streamed g m n code)
@@ -40,7 +42,7 @@ kept-put_once laws g m n style code v =
     kept-if first_of (window_of g n == 0) _ _ (λ e. kept-streamed laws g m n code v)
     (λ e. kept-if first_of (nat_le MAX_PRINTED g.printed) _ _ (λ f. v)
     (λ f. kept-streamed laws (out.shown g (window_of g n) style code) m n code
-    (record { windows = laws.windows.put g.windows (window_of g n) code style v.windows; streams = v.streams })))
+    (record { windows = laws.windows.put g.windows (window_of g n) code style v.windows; streams = v.streams; requests = v.requests; next = v.next })))
 
 pub kept-spread : Parts → (steps : ℕ) (g : Glk) (m : MemoryMap) (n code : ℕ) → AreValid g → Kept first_of (out.spread steps g m n code)
 unfolding out.spread

@@ -46,7 +46,7 @@ kept-closed : Parts → (g : Glk) (n : ℕ) → AreValid g → Kept first_of (ro
 kept-closed laws g n v =
     kept-bind first_of first_of (rows.made g (opening.closed g.streams n)) (λ p. Ok (record p.0 { windows = closing.echo_ended g.windows n }, p.1))
     (kept-made g (opening.closed g.streams n) v ((laws.streams g.streams v.streams).close n))
-    (λ p w. record { windows = laws.windows.end_echo g.windows n v.windows; streams = w.streams })
+    (λ p w. record { windows = laws.windows.end_echo g.windows n v.windows; streams = w.streams; requests = w.requests; next = v.next })
 
 kept-closes : Parts → (s : Desk) (n at : ℕ) → AreValid s.glk → Kept desk_of (rows.closes s n at)
 kept-closes laws s n at v =
@@ -153,7 +153,7 @@ kept-name_at g m at v =
 
 named-valid : Parts → (g : Glk) (usage : ℕ) (name : List ℕ) (rock : ℕ) → AreValid g → AreValid (first_of (names.named g usage name rock))
 named-valid laws g usage name rock v =
-    record { windows = v.windows; streams = (laws.streams g.streams v.streams).refer usage (cleaned name) rock }
+    record { windows = v.windows; streams = (laws.streams g.streams v.streams).refer usage (cleaned name) rock; requests = v.requests; next = v.next }
 
 pub prompted-valid : Parts → (g : Glk) (name : List ℕ) → AreValid g → AreValid (first_of (names.prompted g name))
 prompted-valid laws g name v =
@@ -165,12 +165,12 @@ prompted-valid laws g name v =
 pub kept-fileref_work : Parts → (c : FileRefCall) (s : Desk) (l : ℕ → ℕ) → AreValid s.glk → Kept desk_of (names.fileref_work c s l)
 unfolding names.fileref_work
 kept-fileref_work laws ref.CreateTemp s l v =
-    record { windows = v.windows; streams = (laws.streams s.glk.streams v.streams).refer (l 0) (temporary s.glk.streams.next_ref) (l 1) }
+    record { windows = v.windows; streams = (laws.streams s.glk.streams v.streams).refer (l 0) (temporary s.glk.streams.next_ref) (l 1); requests = v.requests; next = v.next }
 kept-fileref_work laws ref.CreateByName s l v =
     kept-makes s (names.named_made s.glk s.memory (l 0) (l 1) (l 2))
     (kept-bind first_of first_of (names.name_at s.glk s.memory (l 1)) (λ p. Ok (names.named p.0 (l 0) p.1 (l 2)))
     (kept-name_at s.glk s.memory (l 1) v) (λ p w. named-valid laws p.0 (l 0) p.1 (l 2) w))
-kept-fileref_work laws ref.CreateByPrompt s l v = record { windows = v.windows; streams = v.streams }
+kept-fileref_work laws ref.CreateByPrompt s l v = record { windows = v.windows; streams = v.streams; requests = v.requests; next = v.next }
 kept-fileref_work laws ref.CreateFromFileref s l v =
     kept-makes s (names.copied s.glk (l 0) (l 1) (l 2))
     (kept-made s.glk (refs.copied_ref s.glk.streams (l 0) (l 1) (l 2)) v ((laws.streams s.glk.streams v.streams).copy (l 0) (l 1) (l 2)))

@@ -2,10 +2,11 @@
 
 ghost use Rattle.glk_dispatch.specs.Laws.{PartsStayValid};
 
+use glk_input::windows_stay_valid;
 use glk_streams::stays_valid;
 use glk_windows::{keeps_valid, may_key_holds};
 
-/// A law: from valid windows and valid streams, file references and files, every call and every
+/// A law: from valid windows, streams, file references, files and requests every call and every
 /// input makes valid ones, after a fault too.
 pub fn parts_stay_valid()
     ensures { PartsStayValid }
@@ -13,4 +14,5 @@ pub fn parts_stay_valid()
     keeps_valid();
     may_key_holds();
     stays_valid();
+    windows_stay_valid();
 }

@@ -7,4 +7,5 @@ returns c = parts_stay_valid (record {
   may_key = c.may_key_holds.ensures;
   streams = c.stays_valid.ensures.stays;
   begins = c.stays_valid.ensures.begins;
+  requests = c.windows_stay_valid.ensures;
 })
