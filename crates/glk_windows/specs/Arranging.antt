@@ -16,7 +16,10 @@ echo_set t n stream = record t { slots = set_at (λ w. record w { echo = stream 
 
 abbrev pub arrange : WindowTree → ℕ → ℕ → ℕ → ℕ → WindowTree
 arrange t n method size key =
-    record t { slots = set_at (λ w. record w { content = arranged w.content method size key }) t.slots n }
+    record t {
+      slots = set_at (λ w. record w { content = arranged w.content method size key }) t.slots n;
+    }
 
 abbrev pub move_to : WindowTree → ℕ → ℕ → ℕ → WindowTree
-move_to t n x y = record t { slots = set_at (λ w. record w { content = moved w.content x y }) t.slots n }
+move_to t n x y =
+    record t { slots = set_at (λ w. record w { content = moved w.content x y }) t.slots n }

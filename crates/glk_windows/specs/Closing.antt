@@ -47,7 +47,8 @@ removed (suc depth) ws n = both (removed depth) (closed ws n) (pair_of ws n)
 abbrev pub raised : List Window → ℕ → ℕ → ℕ → List Window
 raised ws pair sibling above =
     set_at (λ w. record w { parent = above })
-    (set_at (λ w. record w { content = swapped w.content pair sibling }) (closed ws pair) above) sibling
+    (set_at (λ w. record w { content = swapped w.content pair sibling }) (closed ws pair) above)
+    sibling
 
 abbrev pub lifted : WindowTree → ℕ → ℕ → WindowTree
 lifted t pair sibling = record t {

@@ -59,7 +59,9 @@ IsKeyOf t n key = (key ≡ 0) ⊎ (has_leaf (below n (tree_of t)) key ≡ true)
 
 -- the test of a key is right, in windows that are valid
 abbrev pub MayKeyHolds : Type 0
-MayKeyHolds = (t : WindowTree) (n key : ℕ) → IsValid t → IsLive t n → may_key t.slots n key ≡ true → IsKeyOf t n key
+MayKeyHolds =
+    (t : WindowTree) (n key : ℕ) → IsValid t → IsLive t n → may_key t.slots n key ≡ true
+    → IsKeyOf t n key
 
 -- each call keeps the windows valid
 pub record KeepsValid : Type 0 where

@@ -39,7 +39,8 @@ node_of (w ∷ ws) n = if w.number == n then Some (w.parent, bare_in w) else nod
 abbrev pub Spells : List Window → ℕ → Shape → Type 0
 Spells ws up (Leaf n) = node_of ws n ≡ Some (up, None)
 Spells ws up (Fork n p a b) =
-    (node_of ws n ≡ Some (up, Some p)) × (p.first ≡ top a) × (p.second ≡ top b) × Spells ws n a × Spells ws n b
+    (node_of ws n ≡ Some (up, Some p)) × (p.first ≡ top a) × (p.second ≡ top b)
+    × Spells ws n a × Spells ws n b
 
 -- a pair in the place of a window, with it and a new one below
 abbrev pub forked : ℕ → ℕ → p.Pair → ℕ → Shape → Shape
@@ -81,7 +82,9 @@ cut n (Fork m p a b) =
 abbrev pub held : ℕ → Shape → p.Pair
 held n (Leaf m) = record { method = 0; size = 0; key = 0; first = 0; second = 0 }
 held n (Fork m p a b) =
-    if top a == n then p else (if top b == n then p else (if nat_lt 0 (count a n) then held n a else held n b))
+    if top a == n then p
+    else (if top b == n then p
+    else (if nat_lt 0 (count a n) then held n a else held n b))
 
 abbrev pub shape_with : (ℕ → Shape) → ℕ → Option p.Pair → Shape
 shape_with f n None = Leaf n

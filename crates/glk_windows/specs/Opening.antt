@@ -30,9 +30,17 @@ made number rock parent content = record {
 -- the first window, or 0 where there is one, the type can't be opened, or a limit is met
 abbrev pub first_opened : WindowTree → ℕ → ℕ → WindowTree × ℕ
 first_opened t kind rock =
-    if not (t.root == 0) || not (is_kind kind) || nat_lt 4294967294 t.next || nat_lt 64 (length t.slots + 1)
+    if not (t.root == 0) || not (is_kind kind) || nat_lt 4294967294 t.next
+    || nat_lt 64 (length t.slots + 1)
     then (t, 0)
-    else (record { slots = t.slots ++ made t.next rock 0 (fresh kind) ∷ []; next = t.next + 1; root = t.next }, t.next)
+    else (
+      record {
+        slots = t.slots ++ made t.next rock 0 (fresh kind) ∷ [];
+        next = t.next + 1;
+        root = t.next;
+      },
+      t.next,
+    )
 
 -- the windows with a pair in the place of one of them
 abbrev pub joined : List Window → ℕ → ℕ → List Window
@@ -50,7 +58,13 @@ beside_opened t from method size kind rock =
         slots = joined t.slots from (t.next + 1)
             ++ made t.next rock (t.next + 1) (fresh kind)
             ∷ made (t.next + 1) 0 (parent_of t.slots from)
-            (Pair (record { method = method; size = size; key = t.next; first = from; second = t.next })) ∷ [];
+            (Pair (record {
+              method = method;
+              size = size;
+              key = t.next;
+              first = from;
+              second = t.next;
+            })) ∷ [];
         next = t.next + 2;
         root = if t.root == from then t.next + 1 else t.root;
       },

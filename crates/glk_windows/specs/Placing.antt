@@ -29,19 +29,33 @@ has_size ws n = read false (λ w. shows w.content) (window_at ws n)
 -- how much of the extent the second window gets
 abbrev pub share : p.Pair → Bool → ℕ → ℕ
 share p sized extent =
-    min extent (if bit_and p.method 16 == 0 then extent * p.size / 100 else (if sized then p.size else 0))
+    min extent
+    (if bit_and p.method 16 == 0 then extent * p.size / 100
+    else (if sized then p.size else 0))
 
 abbrev pub second_part : p.Pair → Bool → Area → Area
 second_part p sized a =
     if is_stacked p
-    then record a { y = if is_after p then a.y + (a.h - share p sized a.h) else a.y; h = share p sized a.h }
-    else record a { x = if is_after p then a.x + (a.w - share p sized a.w) else a.x; w = share p sized a.w }
+    then record a {
+      y = if is_after p then a.y + (a.h - share p sized a.h) else a.y;
+      h = share p sized a.h;
+    }
+    else record a {
+      x = if is_after p then a.x + (a.w - share p sized a.w) else a.x;
+      w = share p sized a.w;
+    }
 
 abbrev pub first_part : p.Pair → Bool → Area → Area
 first_part p sized a =
     if is_stacked p
-    then record a { y = if is_after p then a.y else a.y + share p sized a.h; h = a.h - share p sized a.h }
-    else record a { x = if is_after p then a.x else a.x + share p sized a.w; w = a.w - share p sized a.w }
+    then record a {
+      y = if is_after p then a.y else a.y + share p sized a.h;
+      h = a.h - share p sized a.h;
+    }
+    else record a {
+      x = if is_after p then a.x else a.x + share p sized a.w;
+      w = a.w - share p sized a.w;
+    }
 
 -- its sides are numbers
 pub record IsOnScreen (a : Area) : Type 0 where
@@ -52,7 +66,8 @@ abbrev pub with_area : List Window → ℕ → Area → List Window
 with_area ws n area = set_at (sized area) ws n
 
 -- a pair's two windows get their parts
-abbrev pub divided : (List Window → ℕ → Area → List Window) → List Window → Option p.Pair → Area → List Window
+abbrev pub divided : (List Window → ℕ → Area → List Window) → List Window → Option p.Pair → Area
+    → List Window
 divided gives ws None area = ws
 divided gives ws (Some p) area =
     gives (gives ws p.first (first_part p (has_size ws p.key) area))
@@ -66,4 +81,7 @@ placed (suc depth) ws n area = divided (placed depth) (with_area ws n area) (pai
 -- the root has the whole screen; no path is longer than the list
 abbrev pub place : WindowTree → ℕ → ℕ → WindowTree
 place t cols rows =
-    record t { slots = placed (length t.slots) t.slots t.root (record { x = 0; y = 0; w = cols; h = rows }) }
+    record t {
+      slots = placed (length t.slots) t.slots t.root
+          (record { x = 0; y = 0; w = cols; h = rows });
+    }

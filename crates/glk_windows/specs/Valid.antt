@@ -11,7 +11,8 @@ use Rattle.glk_windows.specs.OneTree.{is_tree, tree_of, are_keyed}
 -- the numbers ascend from the first on, below the last
 abbrev pub Ascends : ℕ → List Window → ℕ → Type 0
 Ascends first [] last = first ≤ last
-Ascends first (w ∷ ws) last = (first ≤ w.number) × (w.number < last) × Ascends (w.number + 1) ws last
+Ascends first (w ∷ ws) last =
+    (first ≤ w.number) × (w.number < last) × Ascends (w.number + 1) ws last
 
 -- numbers are from 1 on, ascend, and lie below the next one
 unfoldable pub IsOrdered : WindowTree → Type 0

@@ -2,7 +2,7 @@
 use Rattle.std.proofs.Common.{◌≡◌, ℕ, zero, suc, ◌+◌, ◌-◌, ◌<◌, ◌≤◌, Bool, true, false, nat_lt, refl, ap, sym, ◌∙◌, arith, add-one, Result, Ok, Err, cond, subst, IfOk}
 use Rattle.std.specs.declared.alloc.AllocError.{AllocError}
 use Rattle.std.proofs.lemmas.Bool.Decides.{nat_tests}
-use Rattle.vm_exec.specs.Row.{Charged, charged, fetched, row, told, step_of}
+use Rattle.vm_exec.specs.Row.{Charged, charged, due, row, told, step_of}
 use Rattle.vm_stack.specs.StackState.{StackState}
 use Rattle.vm_exec.specs.Rows.Work.{Work, Free, Costs}
 use Rattle.vm_exec.specs.declared.machine.Machine.{Machine}
@@ -73,7 +73,7 @@ told-below left g c h =
 
 pub next-below : (left : ℕ) (r : Running) → IsBelow left (next left r)
 unfolding next
-next-below left r = told-below left r.glk (row r.machine) (charged-some (fetched r.machine))
+next-below left r = told-below left r.glk (row r.machine) (charged-some (due r.machine r.machine.text))
 
 -- a step leaves fewer ticks
 pub runs-below : (left l : ℕ) (r q : Running) → next left r ≡ Runs l q → l < left

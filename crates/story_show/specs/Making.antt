@@ -4,7 +4,6 @@ use Rattle.std.specs.List.{flat_map}
 use Rattle.glk_windows.specs.declared.window.Window.{Window}
 use Rattle.glk_windows.specs.declared.window.Area.{Area}
 use Rattle.glk_windows.specs.declared.window.Buffer as b
-use Rattle.glk_windows.specs.declared.window.Grid as g
 use Rattle.glk_windows.specs.declared.text.Run as r
 use Rattle.glk_windows.specs.declared.window.Content.{Content}
 use Rattle.glk_windows.specs.declared.window.Content.TheVariants.{Pair, Blank, Buffer, Grid}
@@ -40,7 +39,8 @@ buffer_parts id b = (if b.cleared then Clear id ∷ [] else []) ++ map (run_part
 -- so many rows of a grid from row y on
 unfoldable pub row_parts : ℕ → ℕ → ℕ → ℕ → List ℕ → List Part
 row_parts zero id y w cells = []
-row_parts (suc n) id y w cells = GridRow id y (take w cells) ∷ row_parts n id (y + 1) w (drop w cells)
+row_parts (suc n) id y w cells =
+    GridRow id y (take w cells) ∷ row_parts n id (y + 1) w (drop w cells)
 
 abbrev pub content_parts : Content → ℕ → List Part
 content_parts (Pair p) id = []

@@ -1,5 +1,5 @@
 -- The memory map (Glulx 3.1.3, "The Memory Map").
-use Rattle.std.specs.Prelude.{◌≡◌, ℕ, ◌+◌, ◌-◌, List, ◌++◌, length, take, drop, replicate}
+use Rattle.std.specs.Prelude.{◌≡◌, ◌≤◌, ℕ, ◌+◌, ◌-◌, List, ◌++◌, length, take, drop, replicate}
 use Rattle.byteorder.specs.Endian.{big_number}
 
 -- the bytes of memory, those from RAMSTART on writable; and the original list, which is the file's
@@ -35,6 +35,19 @@ resized m size =
 -- the original memory again
 abbrev pub reset : MemoryMap → MemoryMap
 reset m = record m { bytes = original m.rom m.endmem }
+
+-- what RAM holds
+abbrev pub ram_of : MemoryMap → List ℕ
+ram_of m = drop m.ramstart m.bytes
+
+-- memory with these bytes in RAM
+abbrev pub with_ram : MemoryMap → List ℕ → MemoryMap
+with_ram m ram = record m { bytes = take m.ramstart m.bytes ++ ram }
+
+-- below RAMSTART stand the file's bytes
+pub record KeepsRom (ramstart : ℕ) (rom bytes : List ℕ) : Type 0 where
+  pub within : ramstart ≤ length rom
+  pub same : take ramstart bytes ≡ take ramstart rom
 
 -- what memory has of its image
 pub record Origin : Type 0 where

@@ -5,6 +5,7 @@ mod access;
 mod bytes;
 mod fault;
 mod memory;
+mod ram;
 #[cfg(test)]
 mod tests;
 

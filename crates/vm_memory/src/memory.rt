@@ -1,7 +1,7 @@
 //! Memory: what it is made of, and its size.
 
 ghost use Rattle.std.specs.Prelude.{◌≡◌, ◌≤◌, ◌<◌, ◌+◌, length, nat_le, IfOk, OnErr, OnOk};
-ghost use Rattle.vm_memory.specs.MemoryMap.{memory_of, original, reset, resized};
+ghost use Rattle.vm_memory.specs.MemoryMap.{KeepsRom, memory_of, original, reset, resized};
 
 use crate::bytes::begin_with;
 use std::alloc::{AllocError, Global};
@@ -16,13 +16,13 @@ pub const MAX_SIZE: u32 = 16_777_216;
 pub struct Memory<'i> {
     rom: &'i [u8],
     endmem: u32,
-    ramstart: u32,
+    pub(crate) ramstart: u32,
     pub(crate) bytes: Vec<u8>,
 }
 
 impl<'i> Model for Memory<'i> {
     ghost use Rattle.std.specs.Prelude.{◌≤◌, ◌<◌, length};
-    ghost use Rattle.vm_memory.specs.MemoryMap.{MemoryMap};
+    ghost use Rattle.vm_memory.specs.MemoryMap.{KeepsRom, MemoryMap};
 
     ghost Value = { MemoryMap };
 
@@ -30,7 +30,8 @@ impl<'i> Model for Memory<'i> {
 
     ghost invariant = { λ m.
         (length m.rom.now ≤ m.endmem) × ((0 < m.endmem)
-        × ((m.endmem ≤ length m.bytes.items) × (length m.bytes.items ≤ 16777216))) };
+        × ((m.endmem ≤ length m.bytes.items) × ((length m.bytes.items ≤ 16777216)
+        × KeepsRom m.ramstart m.rom.now m.bytes.items))) };
 }
 
 impl<'i> Memory<'i> {
@@ -119,6 +120,7 @@ impl<'i> Memory<'i> {
     /// The file's bytes, up to EXTSTART.
     pub fn rom(&self) -> &'i [u8]
         ensures value { result.now ≡ self.now.rom }
+        ensures kept { KeepsRom self.now.ramstart self.now.rom self.now.bytes }
     {
         self.rom
     }

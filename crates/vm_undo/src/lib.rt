@@ -4,6 +4,8 @@
 mod lists;
 mod protection;
 mod saved;
+#[cfg(test)]
+mod tests;
 mod undo;
 
 pub use lists::{Blocks, StackBytes};

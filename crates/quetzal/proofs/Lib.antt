@@ -1,0 +1,9 @@
+pub mod RunLemmas
+pub mod ChunkLemmas
+pub mod MemoryLemmas
+pub mod PrintLemmas
+pub mod HeapLemmas
+pub mod OrderLemmas
+pub mod ReadLemmas
+pub mod WriteLemmas
+mod StandardFacts

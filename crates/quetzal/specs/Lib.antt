@@ -1,0 +1,7 @@
+pub mod Fault
+pub mod Chunks
+pub mod Runs
+pub mod Memory
+pub mod Printing
+pub mod Heap
+pub mod Save

@@ -1,0 +1,115 @@
+-- A save, and the state of a story that it spells (Quetzal 1.4, "Overall Structure").
+use Rattle.std.specs.Prelude.{◌≡◌, ◌≢◌, ℕ, ◌+◌, ◌≤◌, ◌++◌, List, length, take, drop, Option, Ok, Err, Result}
+use Rattle.glulx_image.specs.Header.{ramstart, extstart, endmem, stack_size}
+use Rattle.vm_memory.specs.MemoryMap.{MemoryMap, Origin, memory_of as original_of, origin_of, ram_of, resized, with_ram}
+use Rattle.vm_stack.specs.Saved.{SavedStack}
+use Rattle.vm_heap.specs.declared.block.Block.{Block}
+use Rattle.vm_undo.specs.SavedState.{IsSavedOf}
+use Rattle.vm_undo.specs.declared.saved.Saved.{Saved}
+use Rattle.quetzal.specs.Chunks.{Pieces, parts_of}
+use Rattle.quetzal.specs.Heap.{IsHeapIn, print_heap}
+use Rattle.quetzal.specs.Memory.{memory_of, print_memory}
+use Rattle.quetzal.specs.Printing.{print_save}
+use Rattle.quetzal.specs.declared.fault.SaveFault.{SaveFault}
+use Rattle.quetzal.specs.declared.fault.SaveFault.TheVariants.{NotSave, Cut, OtherStory, BadRuns, BadStack, BadHeap, NoMemory}
+
+-- the file's bytes that memory begins with
+abbrev pub rom : List ℕ → List ℕ
+rom image = take (extstart image) image
+
+-- the memory of a story as it begins
+abbrev pub image_memory : List ℕ → MemoryMap
+image_memory image = original_of (rom image) (ramstart image) (endmem image)
+
+-- the story's first 128 bytes, by which its saves are known
+abbrev pub identity : List ℕ → List ℕ
+identity image = take 128 image
+
+-- what RAM holds, by a save's memory chunk
+abbrev pub ram_in : List ℕ → Pieces → Result (List ℕ) SaveFault
+ram_in image p = memory_of (rom image) (ramstart image) (endmem image) p.memory p.compressed
+
+-- the memory of a story with this in RAM
+abbrev pub loaded : List ℕ → List ℕ → MemoryMap
+loaded image ram = with_ram (resized (image_memory image) (ramstart image + length ram)) ram
+
+-- frames with a stub on top, which the story's stack holds
+pub record IsStackOf (image bytes : List ℕ) : Type 0 where
+  pub frames : SavedStack bytes
+  pub size : length bytes ≤ stack_size image
+
+-- ---- what a reader answers
+
+-- the bytes are refused for this cause; nothing is said of want of memory
+abbrev pub Refuses : SaveFault → Result Saved SaveFault → Type 0
+Refuses cause (Ok s) = ⊥
+Refuses cause (Err NoMemory) = Unit {0}
+Refuses cause (Err NotSave) = cause ≡ NotSave
+Refuses cause (Err Cut) = cause ≡ Cut
+Refuses cause (Err OtherStory) = cause ≡ OtherStory
+Refuses cause (Err BadRuns) = cause ≡ BadRuns
+Refuses cause (Err BadStack) = cause ≡ BadStack
+Refuses cause (Err BadHeap) = cause ≡ BadHeap
+
+-- the state of these parts, with a heap that its memory may have
+pub record IsStateIn (image : List ℕ) (p : Pieces) (ram : List ℕ) (s : Saved) : Type 0 where
+  pub memory : s.memory ≡ loaded image ram
+  pub stack : s.stack ≡ p.stack
+  pub heap : IsHeapIn (endmem image) (ramstart image + length ram) p.heap s.heap_start s.heap
+
+-- no heap in this chunk is one that memory of this size may have
+abbrev pub HasNoHeap : ℕ → ℕ → Option (List ℕ) → Type 0
+HasNoHeap end size chunk = (start : ℕ) (blocks : List Block) → IsHeapIn end size chunk start blocks → ⊥
+
+abbrev pub ReadsHeapOf : List ℕ → Pieces → List ℕ → Result Saved SaveFault → Type 0
+ReadsHeapOf image p ram (Ok s) = IsStateIn image p ram s
+ReadsHeapOf image p ram (Err e) =
+    Refuses BadHeap (Err e) × (e ≡ BadHeap
+    → HasNoHeap (endmem image) (ramstart image + length ram) p.heap)
+
+pub record ReadsStack (image : List ℕ) (p : Pieces) (ram : List ℕ) (result : Result Saved SaveFault) : Type 0 where
+  pub good : IsStackOf image p.stack → ReadsHeapOf image p ram result
+  pub bad : (IsStackOf image p.stack → ⊥) → Refuses BadStack result
+
+abbrev pub ReadsMemory : List ℕ → Pieces → Result (List ℕ) SaveFault → Result Saved SaveFault → Type 0
+ReadsMemory image p (Ok ram) result = ReadsStack image p ram result
+ReadsMemory image p (Err e) result = Refuses e result
+
+pub record ReadsStory (image : List ℕ) (p : Pieces) (result : Result Saved SaveFault) : Type 0 where
+  pub own : p.header ≡ identity image → ReadsMemory image p (ram_in image p) result
+  pub other : p.header ≢ identity image → Refuses OtherStory result
+
+abbrev pub ReadsParts : List ℕ → Result Pieces SaveFault → Result Saved SaveFault → Type 0
+ReadsParts image (Ok p) result = ReadsStory image p result
+ReadsParts image (Err e) result = Refuses e result
+
+-- what reading bytes answers: the state that they spell, or the first cause against them, looked for
+-- in the form, the story's bytes, memory, stack and heap
+abbrev pub Reads : List ℕ → List ℕ → Result Saved SaveFault → Type 0
+Reads image bytes result = ReadsParts image (parts_of bytes) result
+
+-- ---- the writer's one spelling
+
+-- the file's bytes, RAMSTART and ENDMEM
+abbrev pub origin : List ℕ → Origin
+origin image = origin_of (image_memory image)
+
+-- a state of the story, whose stack isn't larger than the story's
+pub record IsStateOf (image : List ℕ) (s : Saved) : Type 0 where
+  pub saved : IsSavedOf (origin image) s
+  pub size : length s.stack ≤ stack_size image
+
+abbrev pub canon : List ℕ → Saved → List ℕ
+canon image s = print_save
+    (identity image)
+    (print_memory (rom image) (ramstart image) (ram_of s.memory))
+    s.stack
+    (print_heap s.heap_start s.heap)
+
+-- every reader that isn't out of memory reads this state
+abbrev pub Gives : Saved → Result Saved SaveFault → Type 0
+Gives s (Ok t) = t ≡ s
+Gives s (Err e) = e ≡ NoMemory
+
+abbrev pub IsReadAs : List ℕ → List ℕ → Saved → Type 0
+IsReadAs image bytes s = (result : Result Saved SaveFault) → Reads image bytes result → Gives s result

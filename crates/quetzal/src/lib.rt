@@ -1,0 +1,18 @@
+//! Save files: a story's state as a form of chunks, written and read.
+#![tactic(auto)]
+
+mod fault;
+mod form;
+mod heap;
+mod laws;
+mod memory;
+mod reader;
+mod runs;
+#[cfg(test)]
+mod tests;
+mod writer;
+
+pub use fault::SaveFault;
+pub use laws::{reads_what_is_printed, restores_memory, restores_what_is_written};
+pub use reader::read;
+pub use writer::write;

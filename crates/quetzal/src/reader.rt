@@ -1,0 +1,116 @@
+//! Reading a save (Quetzal 1.4, "Overall Structure").
+
+ghost use Rattle.std.specs.Prelude.{◌≡◌, ◌+◌, ◌≤◌, ◌%◌, ◌≢◌, length, IfOk, Ok, true, false};
+ghost use Rattle.quetzal.specs.Memory.{is_size};
+ghost use Rattle.glulx_image.specs.Header.{endmem, ramstart};
+ghost use Rattle.quetzal.specs.Chunks.{view};
+ghost use Rattle.quetzal.specs.Save as save;
+ghost use Rattle.quetzal.specs.Save.{IsStackOf, IsStateOf, Reads, ReadsHeapOf, ReadsMemory, ReadsStory, identity, ram_in};
+
+use crate::fault::SaveFault;
+use crate::form::{Parts, read_parts};
+use crate::heap::read_heap;
+use crate::memory::{memory_with, read_memory};
+use glulx_image::Image;
+use std::alloc::Global;
+use vm_stack::is_chain;
+use vm_undo::{Saved, StackBytes};
+
+/// The state of the story that the bytes spell, or the first cause against them. It takes as much
+/// memory as the state, and none by a length that isn't there.
+pub fn read<'i>(alloc: Global, bytes: &[u8], image: &Image<'i>) -> Result<Saved<'i>, SaveFault>
+    ensures exact { Reads image.now bytes.now result }
+    ensures kept { IfOk result (λ s. IsStateOf image.now s) }
+{
+    match read_parts(bytes) {
+        Ok(parts) => read_story(alloc, &parts, image),
+        Err(fault) => Err(fault),
+    }
+}
+
+// A story's saves begin with its own first bytes.
+fn read_story<'i>(
+    alloc: Global,
+    parts: &Parts<'_>,
+    image: &Image<'i>,
+) -> Result<Saved<'i>, SaveFault>
+    ensures exact { ReadsStory image.now (view parts.now) result }
+    ensures kept { IfOk result (λ s. IsStateOf image.now s) }
+{
+    if !is_same(parts.header, story_identity(image)) {
+        return Err(SaveFault::OtherStory);
+    }
+    let rom = story_rom(image);
+    let (ramstart, endmem) = (image.ramstart(), image.endmem());
+    match read_memory(alloc, rom, ramstart, endmem, parts.memory, parts.compressed) {
+        Ok(ram) => read_stack(alloc, parts, image, ram.as_slice()),
+        Err(fault) => Err(fault),
+    }
+}
+
+// The stack of a save is frames with a stub on top.
+fn read_stack<'i>(
+    alloc: Global,
+    parts: &Parts<'_>,
+    image: &Image<'i>,
+    ram: &[u8],
+) -> Result<Saved<'i>, SaveFault>
+    requires size { is_size (endmem image.now) (ramstart image.now + length ram.now) ≡ true }
+    ensures exact { save.ReadsStack image.now (view parts.now) ram.now result }
+    ensures kept { IfOk result (λ s. IsStateOf image.now s) }
+{
+    if parts.stack.len() > image.stack_size() as usize || !is_chain(parts.stack) {
+        return Err(SaveFault::BadStack);
+    }
+    read_state(alloc, parts, image, ram)
+}
+
+fn read_state<'i>(
+    alloc: Global,
+    parts: &Parts<'_>,
+    image: &Image<'i>,
+    ram: &[u8],
+) -> Result<Saved<'i>, SaveFault>
+    requires size { is_size (endmem image.now) (ramstart image.now + length ram.now) ≡ true }
+    requires stack { IsStackOf image.now (view parts.now).stack }
+    ensures exact { ReadsHeapOf image.now (view parts.now) ram.now result }
+    ensures kept { IfOk result (λ s. IsStateOf image.now s) }
+{
+    let size = image.ramstart() + ram.len() as u32;
+    match read_heap(alloc, image.endmem(), size, parts.heap) {
+        Ok(heap) => {
+            let memory = memory_with(alloc, image, ram)?;
+            let stack = Vec::from_slice(alloc, parts.stack)?;
+            Ok(Saved {
+                memory,
+                stack: StackBytes::of(stack),
+                heap: heap.blocks,
+                heap_start: heap.start,
+            })
+        }
+        Err(fault) => Err(fault),
+    }
+}
+
+fn is_same(one: &[u8], other: &[u8]) -> bool
+    ensures yes { result ≡ true → one.now ≡ other.now }
+    ensures no { result ≡ false → one.now ≢ other.now }
+{
+    one == other
+}
+
+// The story's first 128 bytes.
+pub fn story_identity<'i>(image: &Image<'i>) -> &'i [u8]
+    ensures { result.now ≡ identity image.now }
+{
+    &image.bytes()[..128]
+}
+
+// The file's bytes that memory begins with.
+pub fn story_rom<'i>(image: &Image<'i>) -> &'i [u8]
+    ensures value { result.now ≡ save.rom image.now }
+    ensures least { ramstart image.now ≤ length result.now }
+    ensures most { length result.now ≤ endmem image.now }
+{
+    &image.bytes()[..image.extstart() as usize]
+}
