@@ -1,2 +1,7 @@
 pub mod StepLemmas
+pub mod KeptLemmas
+pub mod KeptOutput
+pub mod KeptWindows
+pub mod KeptStreams
+pub mod KeptCalls
 pub mod StandardFacts

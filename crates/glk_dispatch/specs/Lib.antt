@@ -13,3 +13,4 @@ pub mod Case
 pub mod Gestalt
 pub mod Events
 pub mod Call
+pub mod Laws

@@ -1,10 +1,15 @@
+ghost use Rattle.std.specs.Prelude.{◌≡◌, IsTrue, IfOk};
+ghost use Rattle.vm_heap.specs.HeapMap.{is_heap};
+
 use crate::{Blocks, Saved, StackBytes, Undo};
 use std::alloc::Global;
 use std::test::Fail;
 use vm_memory::Memory;
 
 // A state of two pages, told from others by its byte 256.
-fn state(alloc: Global, mark: u32) -> Result<Saved<'static>, Fail> {
+fn state(alloc: Global, mark: u32) -> Result<Saved<'static>, Fail>
+    ensures { IfOk result (λ state. IsTrue (is_heap state.heap_start state.heap)) }
+{
     let mut memory = Memory::new(alloc, &[], 0, 512)?;
     memory.write1(256, mark).ok().ok_or("a write")?;
     Ok(Saved {
