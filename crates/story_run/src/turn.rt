@@ -1,14 +1,13 @@
 //! A turn: steps until the story waits or ends, within its budget.
 
-ghost use Rattle.std.specs.Prelude.{◌≡◌, ◌≤◌, ◌-◌, ◌^◌, length, IfOk};
+ghost use Rattle.std.specs.Prelude.{◌≡◌, IfOk};
 ghost use Rattle.story_run.specs.Step.{running};
-ghost use Rattle.story_run.specs.Turn.{Resumes, Stops, rest, turn_on};
-ghost use Rattle.story_run.specs.Events.{delivered};
+ghost use Rattle.story_run.specs.Turn.{Resumes, Stops, delivered, rest, turn_on};
 
-use crate::events::deliver;
-use crate::glk::{Glk, LineRequest};
 use crate::stage::Stage;
 use crate::step::{Progress, advance};
+use glk_dispatch::{Glk, answer};
+use glk_input::Input;
 use std::alloc::{AllocError, Global};
 use vm_exec::Machine;
 use vm_memory::Trap;
@@ -26,7 +25,8 @@ pub(crate) fn run<'i>(
     loop {
         match advance(alloc, glk, &mut machine, left) {
             Ok(Progress::Runs { left: rest }) => left = rest,
-            Ok(Progress::Waits { event }) => return Ok(Stage::Waits { machine, event }),
+            Ok(Progress::Waits) => return Ok(Stage::AtSelect(machine)),
+            Ok(Progress::Prompts) => return Ok(Stage::AtPrompt(machine)),
             Ok(Progress::Quits) => return Ok(Stage::Quit),
             Err(trap) => return stopped(trap),
         }
@@ -43,45 +43,37 @@ pub(crate) fn stopped<'i>(trap: Trap) -> Result<Stage<'i>, AllocError>
     }
 }
 
-// Delivers a line, and stores 0 as the result of the call that waited for it.
-fn deliver_line(
+// Delivers an input, and stores the answer of the call that waited for it.
+fn deliver(
     alloc: Global,
     glk: &mut Glk,
     machine: &mut Machine<'_>,
-    request: LineRequest,
-    event: u32,
-    line: &[u32],
+    input: &Input,
 ) -> Result<(), Trap>
-    requires { length line.now ≤ 2 ^ 32 - 1 }
-    ensures { Resumes (delivered glk.old machine.old.memory machine.old.stack request event line.now)
-        machine.old glk.new machine.new result }
+    ensures { Resumes (delivered glk.old machine.old input.now) glk.new machine.new result }
 {
-    deliver(
+    let value = answer(
+        alloc,
         glk,
         &mut machine.memory,
         &mut machine.stack,
-        request,
-        event,
-        line,
+        input,
     )?;
-    machine.finish(alloc, 0)
+    machine.finish(alloc, value)
 }
 
-/// Delivers a line to a story that waits for it, and runs the story.
+/// Delivers an input to a story that waits for it, and runs the story.
 pub(crate) fn resume<'i>(
     alloc: Global,
     glk: &mut Glk,
     mut machine: Machine<'i>,
-    request: LineRequest,
-    event: u32,
-    line: &[u32],
+    input: &Input,
     budget: u64,
 ) -> Result<Stage<'i>, AllocError>
-    requires { length line.now ≤ 2 ^ 32 - 1 }
     ensures { IfOk result (λ stage. (glk.new, stage)
-        ≡ turn_on budget glk.old machine.entry request event line.now) }
+        ≡ turn_on budget glk.old machine.entry input.now) }
 {
-    match deliver_line(alloc, glk, &mut machine, request, event, line) {
+    match deliver(alloc, glk, &mut machine, input) {
         Ok(()) => run(alloc, glk, machine, budget),
         Err(trap) => stopped(trap),
     }
