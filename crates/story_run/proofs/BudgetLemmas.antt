@@ -8,7 +8,8 @@ use Rattle.vm_exec.specs.declared.machine.Machine.{Machine}
 use Rattle.vm_exec.specs.declared.step.Out.{Out}
 use Rattle.vm_exec.specs.declared.step.Out.TheVariants as out
 use Rattle.vm_memory.specs.MemoryMap.{MemoryMap}
-use Rattle.glk_dispatch.specs.Answer.{Reached, Rule, ◌>>=◌, desk}
+use Rattle.glk_dispatch.specs.Answer.{Reached, ◌>>=◌, desk}
+use Rattle.glk_dispatch.specs.Answer as dispatch
 use Rattle.glk_dispatch.specs.Call.{called}
 use Rattle.glk_dispatch.specs.Output.{put_code}
 use Rattle.story_run.specs.Step.{Next, Runs, Rests, Running, next, running, stepped, followed, answered, charged, done, machine_of, stored, put}
@@ -64,7 +65,7 @@ charged-shifts left more chars g m x =
     (later left more chars (met left chars e))
     (done-shifts (left - chars) more g m x))
 
-answered-shifts : (left more : ℕ) (g : Glk) (m : Machine) (x : Rule Called) → Shifts more (answered left g m x) (answered (left + more) g m x)
+answered-shifts : (left more : ℕ) (g : Glk) (m : Machine) (x : dispatch.Rule Called) → Shifts more (answered left g m x) (answered (left + more) g m x)
 answered-shifts left more g m (Ok x) =
     charged-shifts left more (x.0.glk.chars - g.chars) x.0.glk (machine_of m x.0) x.1
 answered-shifts left more g m (Err e) = inr refl

@@ -1,5 +1,6 @@
 -- Rows of the profile's tables, so that a wrong rule in the specs does not check.
 use Rattle.std.proofs.Common.{◌≡◌, ℕ, true, false, [], ◌∷◌, map, codes, refl}
+use Rattle.std.specs.Fmt.{digits}
 use Rattle.vm_exec.specs.declared.machine.Machine.{Machine}
 use Rattle.glk_input.specs.declared.input.Input.TheVariants.{Line, Char, File}
 use Rattle.glk_dispatch.specs.Glk.{fresh}
@@ -42,9 +43,9 @@ words_past_the_end = refl
 -- a prompt for data (usage 0) or a save (1), to be written (mode 1)
 pub prompt_shown : (m : Machine)
     → show_of (record (fresh 80 24) { prompt = record { usage = 1; mode = 1; rock = 7 } }) (AtPrompt m) ≡ codes "P 1 1\n"
-unfolding end_line
+unfolding end_line digits
 prompt_shown m = refl
 
 pub fault_shown : show_of (fresh 80 24) (Fault 24) ≡ codes "E fault 24\n"
-unfolding end_line
+unfolding end_line digits
 fault_shown = refl

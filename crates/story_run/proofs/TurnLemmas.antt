@@ -2,7 +2,7 @@
 use Rattle.std.proofs.Common.{◌≡◌, ℕ, zero, suc, ◌+◌, ◌-◌, ◌<◌, ◌≤◌, Bool, true, false, nat_lt, refl, ap, sym, ◌∙◌, arith, add-one, Result, Ok, Err, cond, subst, IfOk}
 use Rattle.std.specs.declared.alloc.AllocError.{AllocError}
 use Rattle.std.proofs.lemmas.Bool.Decides.{nat_tests}
-use Rattle.vm_exec.specs.Row.{Charged, fetched, row, told, step_of}
+use Rattle.vm_exec.specs.Row.{Charged, due, row, told, step_of}
 use Rattle.vm_exec.specs.Row as exec
 use Rattle.vm_exec.specs.Rows.Work.{Work, Free, Costs}
 use Rattle.vm_exec.specs.declared.machine.Machine.{Machine}
@@ -10,7 +10,8 @@ use Rattle.vm_exec.specs.declared.step.Out.{Out}
 use Rattle.vm_exec.specs.declared.step.Out.TheVariants as out
 use Rattle.vm_exec.specs.Rules.{Rule}
 use Rattle.vm_memory.specs.MemoryMap.{MemoryMap}
-use Rattle.glk_dispatch.specs.Answer.{Reached, Rule, ◌>>=◌, desk}
+use Rattle.glk_dispatch.specs.Answer.{Reached, ◌>>=◌, desk}
+use Rattle.glk_dispatch.specs.Answer as dispatch
 use Rattle.glk_dispatch.specs.Call.{called}
 use Rattle.glk_dispatch.specs.Output.{put_code}
 use Rattle.story_run.specs.Step.{Next, Advances, Runs, Rests, Running, next, stepped, followed, answered, charged, done, machine_of, stored, put}
@@ -50,7 +51,7 @@ charged-below : (ticks left chars : ℕ) (g : Glk) (m : Machine) (x : Called) �
 charged-below ticks left chars g m x h =
     either-below ticks (nat_lt left chars) _ _ tt (done-below ticks (left - chars) g m x (omega arith))
 
-answered-below : (ticks left : ℕ) (g : Glk) (m : Machine) (x : Rule Called) → left < ticks → IsBelow ticks (answered left g m x)
+answered-below : (ticks left : ℕ) (g : Glk) (m : Machine) (x : dispatch.Rule Called) → left < ticks → IsBelow ticks (answered left g m x)
 answered-below ticks left g m (Ok x) h =
     charged-below ticks left (x.0.glk.chars - g.chars) x.0.glk (machine_of m x.0) x.1 h
 answered-below ticks left g m (Err e) h = tt
@@ -80,7 +81,7 @@ told-below left g c h =
 
 pub next-below : (left : ℕ) (r : Running) → IsBelow left (next left r)
 unfolding next
-next-below left r = told-below left r.glk (row r.machine) (charged-some (fetched r.machine))
+next-below left r = told-below left r.glk (row r.machine) (charged-some (due r.machine r.machine.text))
 
 -- a step leaves fewer ticks
 pub runs-below : (left l : ℕ) (r q : Running) → next left r ≡ Runs l q → l < left

@@ -2,18 +2,20 @@
 
 ghost use Rattle.std.specs.Prelude.{◌≡◌, IfOk};
 ghost use Rattle.story_run.specs.Step.{running};
-ghost use Rattle.story_run.specs.Turn.{Resumes, Stops, delivered, rest, turn_on};
+ghost use Rattle.story_run.specs.Turn.{Resumes, Stops, begun, delivered, rest, turn_on};
+ghost use Rattle.vm_exec.specs.Start.{started};
 
 use crate::stage::Stage;
 use crate::step::{Progress, advance};
 use glk_dispatch::{Glk, answer};
 use glk_input::Input;
+use glulx_image::Image;
 use std::alloc::{AllocError, Global};
 use vm_exec::Machine;
 use vm_memory::Trap;
 
-/// Runs the story until it waits or ends, for at most so many ticks.
-pub(crate) fn run<'i>(
+// Runs the story until it waits or ends, for at most so many ticks.
+fn run<'i>(
     alloc: Global,
     glk: &mut Glk,
     mut machine: Machine<'i>,
@@ -33,13 +35,30 @@ pub(crate) fn run<'i>(
     }
 }
 
-/// The story is over with a fault; want of memory is an error.
-pub(crate) fn stopped<'i>(trap: Trap) -> Result<Stage<'i>, AllocError>
+// The story is over with a fault; want of memory is an error.
+fn stopped<'i>(trap: Trap) -> Result<Stage<'i>, AllocError>
     ensures { Stops trap result }
 {
     match trap {
         Trap::Fault(code) => Ok(Stage::Fault(code)),
         Trap::NoMemory => Err(AllocError),
+    }
+}
+
+/// Begins a story and runs its opening turn.
+pub(crate) fn begin<'i>(
+    alloc: Global,
+    glk: &mut Glk,
+    image: &Image<'i>,
+    seed: u64,
+    budget: u64,
+) -> Result<Stage<'i>, AllocError>
+    ensures { IfOk result (λ stage. (glk.new, stage)
+        ≡ begun budget glk.old (started image.now seed)) }
+{
+    match Machine::start(alloc, image, seed) {
+        Ok(machine) => run(alloc, glk, machine, budget),
+        Err(trap) => stopped(trap),
     }
 }
 

@@ -5,14 +5,13 @@ ghost use Rattle.story_run.specs.Solo.{is_over, is_wanted, opening, rested, show
 
 use crate::ends::lines_of;
 use crate::stage::Stage;
-use crate::turn::{resume, run, stopped};
+use crate::turn::{begin, resume};
 use crate::{Setup, Steps, Story};
 use glk_dispatch::Glk;
 use glk_input::Input;
 use std::alloc::{AllocError, Global};
 use std::sync::ledger::Ledger;
 use story_text::Bytes;
-use vm_exec::Machine;
 
 /// A story that waits for its player or is over, with the show of its last turn.
 #[derive(Drop)]
@@ -30,10 +29,7 @@ impl<'i> World<'i> {
         ensures value { IfOk result (λ world. world ≡ opening story.now.image setup) }
     {
         let mut glk = Glk::new(alloc, setup.cols, setup.rows)?;
-        let stage = match Machine::start(alloc, &story.image, setup.seed) {
-            Ok(machine) => run(alloc, &mut glk, machine, setup.budget)?,
-            Err(trap) => stopped(trap)?,
-        };
+        let stage = begin(alloc, &mut glk, &story.image, setup.seed, setup.budget)?;
         rest(alloc, setup.budget, glk, stage)
     }
 
