@@ -51,11 +51,7 @@ fn one(alloc: Global, end: End) -> Result<Vec<End>, AllocError>
 }
 
 // What windows ask for.
-fn wants_of(
-    alloc: Global,
-    memory: &Memory,
-    windows: &[WindowInput],
-) -> Result<Vec<End>, AllocError>
+fn wants_of(alloc: Global, memory: &Memory, windows: &[WindowInput]) -> Result<Vec<End>, AllocError>
     ensures { IfOk result (λ ends.
         ends.items ≡ flat_map (show.window_wants memory.now) windows.now) }
 {
@@ -104,13 +100,7 @@ fn initial(alloc: Global, memory: &Memory, line: &LineRequest) -> Result<Codes, 
     ensures { IfOk result (λ codes.
         codes ≡ show.initial line.now.init line.now.unicode memory.now line.now.buf) }
 {
-    Ok(Codes::of(chars_at(
-        alloc,
-        memory,
-        line.unicode,
-        line.buf,
-        line.init,
-    )?))
+    Ok(Codes::of(chars_at(alloc, memory, line.unicode, line.buf, line.init)?))
 }
 
 // So many characters of an array, 0 for each that passes memory's end.

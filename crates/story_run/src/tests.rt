@@ -45,8 +45,11 @@ const FRONT: [u8; 43] = *b"\
 // streamnum of the word at 0x130, where `glk` leaves what a call answers; of the words at 0x120 and
 // 0x124; and of the word at 0x128
 const ANSWER: [u8; 4] = *b"\x71\x06\x01\x30";
+
 const COUNTS: [u8; 8] = *b"\x71\x06\x01\x20\x71\x06\x01\x24";
+
 const FIRST: [u8; 4] = *b"\x71\x06\x01\x28";
+
 const QUIT: [u8; 2] = *b"\x81\x20";
 
 // A Glk call with these constants, whose answer goes to 0x130.
@@ -153,7 +156,11 @@ fn a_story_prints_the_lines_that_it_waits_for(rt: HostRuntime) -> Result<(), Fai
 #[test]
 fn a_budget_ends_the_turn_that_passes_it(rt: HostRuntime) -> Result<(), Fail> {
     let alloc = rt.alloc();
-    let inputs = [line(alloc, "=abc")?, line(alloc, "=gone")?, line(alloc, "=x")?];
+    let inputs = [
+        line(alloc, "=abc")?,
+        line(alloc, "=gone")?,
+        line(alloc, "=x")?,
+    ];
     let shows = shows_of(alloc, &file(&ECHO), setup(80, 24, 15), &inputs)?;
     assert_eq!(rt;
         shows.as_slice(),

@@ -71,13 +71,7 @@ fn deliver(
 ) -> Result<(), Trap>
     ensures { Resumes (delivered glk.old machine.old input.now) glk.new machine.new result }
 {
-    let value = answer(
-        alloc,
-        glk,
-        &mut machine.memory,
-        &mut machine.stack,
-        input,
-    )?;
+    let value = answer(alloc, glk, &mut machine.memory, &mut machine.stack, input)?;
     machine.finish(alloc, value)
 }
 
