@@ -6,7 +6,7 @@ use std::alloc::{AllocError, Global};
 use std::marker::Brand;
 use std::sync::ledger::{Blank, Ledger};
 use std::test::Fail;
-use story_text::read_escaped;
+use story_text::{Text, read_escaped};
 
 // The story that prints Hi and quits: its header and its code.
 const HI: [u8; 74] = *b"\
@@ -42,12 +42,13 @@ const FRONT: [u8; 43] = *b"\
     \x00\x00\x01\x00\x00\x00\x00\x24\x00\x00\x00\x00\x00\x00\x00\x00\
     \xC1\x00\x00\x81\x49\x01\x02";
 
-// streamnum of the word at 0x130, where `glk` leaves what a call answers; of the words at 0x120 and
-// 0x124; and of the word at 0x128
+// streamnum of the word at 0x130, where `glk` leaves what a call answers
 const ANSWER: [u8; 4] = *b"\x71\x06\x01\x30";
 
+// streamnum of the words at 0x120 and 0x124
 const COUNTS: [u8; 8] = *b"\x71\x06\x01\x20\x71\x06\x01\x24";
 
+// streamnum of the word at 0x128
 const FIRST: [u8; 4] = *b"\x71\x06\x01\x28";
 
 const QUIT: [u8; 2] = *b"\x81\x20";
@@ -86,6 +87,32 @@ fn setup(cols: u8, rows: u8, budget: u64) -> Setup {
     }
 }
 
+// What a player gives: a line for window 1, a character for it, or the name of a file.
+#[derive(Clone, Copy)]
+enum Given<'a> {
+    Line(&'a str),
+    Char(u32),
+    Name(&'a str),
+}
+
+fn text(alloc: Global, word: &str) -> Result<Text, Fail> {
+    Ok(read_escaped(alloc, word.as_bytes()).ok().ok_or("a text")?)
+}
+
+fn input_of(alloc: Global, given: Given<'_>) -> Result<Input, Fail> {
+    match given {
+        Given::Line(word) => Ok(Input::Line {
+            win: 1,
+            text: text(alloc, word)?,
+            key: 0,
+        }),
+        Given::Char(code) => Ok(Input::Char { win: 1, code }),
+        Given::Name(word) => Ok(Input::File {
+            name: text(alloc, word)?,
+        }),
+    }
+}
+
 // The shows of a story, one after the other: its opening, and its turns on those of the inputs that
 // it wants.
 fn play<L: Ledger>(
@@ -93,7 +120,7 @@ fn play<L: Ledger>(
     blank: Blank,
     file: &[u8],
     setup: Setup,
-    inputs: &[Input],
+    inputs: &[Given<'_>],
 ) -> Result<Vec<u8>, Fail>
     requires name { blank.name ≡ L.name }
     requires parts { blank.parts ≡ L.parts }
@@ -103,9 +130,10 @@ fn play<L: Ledger>(
     let mut steps = Steps::<L>::new(blank);
     let mut world = World::start(alloc, &story, setup)?;
     let mut shows = Vec::from_slice(alloc, world.last())?;
-    for input in inputs {
-        if world.wants(input) {
-            world = world.turn(alloc, input, &mut steps)?;
+    for given in inputs {
+        let input = input_of(alloc, *given)?;
+        if world.wants(&input) {
+            world = world.turn(alloc, &input, &mut steps)?;
             shows.extend_from_slice(world.last())?;
         }
     }
@@ -113,28 +141,19 @@ fn play<L: Ledger>(
 }
 
 // The same, with a ledger of its own.
-fn shows_of(alloc: Global, file: &[u8], setup: Setup, inputs: &[Input]) -> Result<Vec<u8>, Fail> {
+fn shows_of(
+    alloc: Global,
+    file: &[u8],
+    setup: Setup,
+    inputs: &[Given<'_>],
+) -> Result<Vec<u8>, Fail> {
     play::<Brand>(alloc, Blank::new(1), file, setup, inputs)
-}
-
-fn line(alloc: Global, word: &str) -> Result<Input, Fail> {
-    let text = read_escaped(alloc, word.as_bytes()).ok().ok_or("a text")?;
-    Ok(Input::Line {
-        win: 1,
-        text,
-        key: 0,
-    })
-}
-
-fn name(alloc: Global, word: &str) -> Result<Input, Fail> {
-    let name = read_escaped(alloc, word.as_bytes()).ok().ok_or("a name")?;
-    Ok(Input::File { name })
 }
 
 #[test]
 fn a_story_prints_and_quits(rt: HostRuntime) -> Result<(), Fail> {
     let alloc = rt.alloc();
-    let shows = shows_of(alloc, &file(&HI), setup(80, 24, 100), &[line(alloc, "=x")?])?;
+    let shows = shows_of(alloc, &file(&HI), setup(80, 24, 100), &[Given::Line("=x")])?;
     assert_eq!(rt;
         shows.as_slice(),
         b"W 1 3 0 0 80 24\nT 1 0 =Hi\nE quit\n".as_slice()
@@ -145,7 +164,7 @@ fn a_story_prints_and_quits(rt: HostRuntime) -> Result<(), Fail> {
 #[test]
 fn a_story_prints_the_lines_that_it_waits_for(rt: HostRuntime) -> Result<(), Fail> {
     let alloc = rt.alloc();
-    let inputs = [name(alloc, "=go")?, line(alloc, "=go")?];
+    let inputs = [Given::Name("=go"), Given::Line("=go")];
     let shows = shows_of(alloc, &file(&ECHO), setup(80, 24, 100), &inputs)?;
     let wanted = b"W 1 3 0 0 80 24\nT 1 0 =>\nI 1 line 20 =\n\
         W 1 3 0 0 80 24\nT 1 8 =go%0A\nT 1 0 =go%0A>\nI 1 line 20 =\n";
@@ -156,11 +175,7 @@ fn a_story_prints_the_lines_that_it_waits_for(rt: HostRuntime) -> Result<(), Fai
 #[test]
 fn a_budget_ends_the_turn_that_passes_it(rt: HostRuntime) -> Result<(), Fail> {
     let alloc = rt.alloc();
-    let inputs = [
-        line(alloc, "=abc")?,
-        line(alloc, "=gone")?,
-        line(alloc, "=x")?,
-    ];
+    let inputs = [Given::Line("=abc"), Given::Line("=gone"), Given::Line("=x")];
     let shows = shows_of(alloc, &file(&ECHO), setup(80, 24, 15), &inputs)?;
     assert_eq!(rt;
         shows.as_slice(),
@@ -204,7 +219,7 @@ fn a_newline_is_the_return_key_of_a_character_request(rt: HostRuntime) -> Result
     code.extend_from_slice(&COUNTS)?;
     code.extend_from_slice(&FIRST)?;
     code.extend_from_slice(&QUIT)?;
-    let inputs = [line(alloc, "=x")?, Input::Char { win: 1, code: 10 }];
+    let inputs = [Given::Line("=x"), Given::Char(10)];
     let shows = shows_of(alloc, &file(&code), setup(80, 24, 100), &inputs)?;
     let wanted = b"W 1 3 0 0 80 24\nI 1 char\nW 1 3 0 0 80 24\nT 1 0 =21-6\nE quit\n";
     assert_eq!(rt; shows.as_slice(), wanted.as_slice());
@@ -225,11 +240,11 @@ fn prompt(alloc: Global) -> Result<[u8; 256], Fail> {
 fn a_prompt_takes_a_name_and_an_empty_one_cancels(rt: HostRuntime) -> Result<(), Fail> {
     let alloc = rt.alloc();
     let story = prompt(alloc)?;
-    let inputs = [line(alloc, "=x")?, name(alloc, "=x")?];
+    let inputs = [Given::Line("=x"), Given::Name("=x")];
     let shows = shows_of(alloc, &story, setup(80, 24, 100), &inputs)?;
     let wanted = b"W 1 3 0 0 80 24\nP 1 1\nW 1 3 0 0 80 24\nT 1 0 =1\nE quit\n";
     assert_eq!(rt; shows.as_slice(), wanted.as_slice());
-    let shows = shows_of(alloc, &story, setup(80, 24, 100), &[name(alloc, "=")?])?;
+    let shows = shows_of(alloc, &story, setup(80, 24, 100), &[Given::Name("=")])?;
     let wanted = b"W 1 3 0 0 80 24\nP 1 1\nW 1 3 0 0 80 24\nT 1 0 =0\nE quit\n";
     assert_eq!(rt; shows.as_slice(), wanted.as_slice());
     Ok(())
