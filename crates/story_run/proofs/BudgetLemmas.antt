@@ -4,18 +4,19 @@ use Rattle.std.proofs.lemmas.Bool.Decides.{nat_tests}
 use Rattle.vm_exec.specs.Row.{row, step_of}
 use Rattle.vm_exec.specs.Start.{finished}
 use Rattle.vm_exec.specs.Rules.{Rule}
-use Rattle.vm_stack.specs.StackState.{StackState}
 use Rattle.vm_exec.specs.declared.machine.Machine.{Machine}
 use Rattle.vm_exec.specs.declared.step.Out.{Out}
 use Rattle.vm_exec.specs.declared.step.Out.TheVariants as out
-use Rattle.story_run.specs.Answer.{Reached, ◌>>=◌}
-use Rattle.story_run.specs.Call.{called}
-use Rattle.story_run.specs.Output.{put_code}
-use Rattle.story_run.specs.Step.{Next, Runs, Rests, Running, next, running, stepped, followed, answered, done, stored, put}
+use Rattle.vm_memory.specs.MemoryMap.{MemoryMap}
+use Rattle.glk_dispatch.specs.Answer.{Reached, ◌>>=◌, desk}
+use Rattle.glk_dispatch.specs.Answer as dispatch
+use Rattle.glk_dispatch.specs.Call.{called}
+use Rattle.glk_dispatch.specs.Output.{put_code}
+use Rattle.story_run.specs.Step.{Next, Runs, Rests, Running, next, running, stepped, followed, answered, charged, done, machine_of, stored, put}
 use Rattle.story_run.specs.Turn.{after, steps, rest}
-use Rattle.story_run.specs.declared.call.Called.{Called}
-use Rattle.story_run.specs.declared.call.Called.TheVariants as call
-use Rattle.story_run.specs.declared.glk.Glk.{Glk}
+use Rattle.glk_dispatch.specs.declared.called.Called.{Called}
+use Rattle.glk_dispatch.specs.declared.called.Called.TheVariants as call
+use Rattle.glk_dispatch.specs.declared.glk.Glk.{Glk}
 use Rattle.story_run.specs.declared.stage.Stage.{Stage}
 use Rattle.story_run.specs.declared.stage.Stage.TheVariants.{Fault}
 use Rattle.story_run.proofs.TurnLemmas.{IsBelow, next-below, steps-enough}
@@ -25,8 +26,8 @@ abbrev Shifts : ℕ → Next → Next → Type 0
 Shifts more (Runs left r) y = y ≡ Runs (left + more) r
 Shifts more (Rests g s) y = (s ≡ Fault 24) ⊎ (y ≡ Rests g s)
 
-put-shifts : (left more : ℕ) (m : Machine) (x : Reached Glk) → Shifts more (put left m x) (put (left + more) m x)
-put-shifts left more m (Ok g) = refl
+put-shifts : (left more : ℕ) (m : Machine) (x : Reached (Glk × MemoryMap)) → Shifts more (put left m x) (put (left + more) m x)
+put-shifts left more m (Ok x) = refl
 put-shifts left more m (Err e) = inr refl
 
 stored-shifts : (left more : ℕ) (g : Glk) (x : Result Machine ℕ) → Shifts more (stored left g x) (stored (left + more) g x)
@@ -43,38 +44,46 @@ kept left more cost e = grind (arith, nat_tests)
 met : (left cost : ℕ) → nat_lt left cost ≡ false → cost ≤ left
 met left cost e = grind (arith, nat_tests)
 
-charged-shifts : (a b : Bool) (more : ℕ) (g : Glk) (x y : Next) → (a ≡ false → b ≡ false) → (a ≡ false → Shifts more x y)
-    → Shifts more (cond a (Rests g (Fault 24)) x) (cond b (Rests g (Fault 24)) y)
-charged-shifts true b more g x y k h = inl refl
-charged-shifts false true more g x y k h = let e : true ≡ false = k refl in absurd cc
-charged-shifts false false more g x y k h = h refl
-
 done-shifts : (left more : ℕ) (g : Glk) (m : Machine) (x : Called) → Shifts more (done left g m x) (done (left + more) g m x)
-done-shifts left more g m (call.Wait event) = inr refl
-done-shifts left more g m (call.Value value chars) =
-    charged-shifts (nat_lt left chars) (nat_lt (left + more) chars) more g _ _
-    (kept left more chars)
-    (λ e. subst (λ (k : ℕ). Shifts more (stored (left - chars) g (finished m value)) (stored k g (finished m value)))
-    (later left more chars (met left chars e))
-    (stored-shifts (left - chars) more g (finished m value)))
+done-shifts left more g m (call.Value value) = stored-shifts left more g (finished m value)
+done-shifts left more g m call.Wait = inr refl
+done-shifts left more g m call.Prompt = inr refl
+done-shifts left more g m call.Exit = inr refl
 
-answered-shifts : (left more : ℕ) (m : Machine) (x : Reached (Glk × StackState × Called)) → Shifts more (answered left m x) (answered (left + more) m x)
-answered-shifts left more m (Ok x) = done-shifts left more x.0 (record m { stack = x.1 }) x.2
-answered-shifts left more m (Err e) = inr refl
+either-shifts : (a b : Bool) (more : ℕ) (g : Glk) (x y : Next) → (a ≡ false → b ≡ false) → (a ≡ false → Shifts more x y)
+    → Shifts more (cond a (Rests g (Fault 24)) x) (cond b (Rests g (Fault 24)) y)
+either-shifts true b more g x y k h = inl refl
+either-shifts false true more g x y k h = let e : true ≡ false = k refl in absurd cc
+either-shifts false false more g x y k h = h refl
+
+charged-shifts : (left more chars : ℕ) (g : Glk) (m : Machine) (x : Called)
+    → Shifts more (charged left chars g m x) (charged (left + more) chars g m x)
+charged-shifts left more chars g m x =
+    either-shifts (nat_lt left chars) (nat_lt (left + more) chars) more g _ _
+    (kept left more chars)
+    (λ e. subst (λ (k : ℕ). Shifts more (done (left - chars) g m x) (done k g m x))
+    (later left more chars (met left chars e))
+    (done-shifts (left - chars) more g m x))
+
+answered-shifts : (left more : ℕ) (g : Glk) (m : Machine) (x : dispatch.Rule Called) → Shifts more (answered left g m x) (answered (left + more) g m x)
+answered-shifts left more g m (Ok x) =
+    charged-shifts left more (x.0.glk.chars - g.chars) x.0.glk (machine_of m x.0) x.1
+answered-shifts left more g m (Err e) = inr refl
 
 followed-shifts : (left more cost : ℕ) (g : Glk) (m : Machine) (o : Out) → cost ≤ left
     → Shifts more (followed left g m (step_of o cost)) (followed (left + more) g m (step_of o cost))
 followed-shifts left more cost g m out.Ran h =
     ap (λ (k : ℕ). Runs k (running g m)) (sym (later left more cost h))
 followed-shifts left more cost g m (out.Char x) h =
-    subst (λ (k : ℕ). Shifts more (put (left - cost) m (put_code g x)) (put k m (put_code g x)))
+    let p = put_code g m.memory g.streams.current x in
+    subst (λ (k : ℕ). Shifts more (put (left - cost) m p) (put k m p))
     (later left more cost h)
-    (put-shifts (left - cost) more m (put_code g x))
+    (put-shifts (left - cost) more m p)
 followed-shifts left more cost g m (out.Glk selector args) h =
-    let x = called g m.memory m.stack selector args in
-    subst (λ (k : ℕ). Shifts more (answered (left - cost) m x) (answered k m x))
+    let x = called (desk g m.memory m.stack) selector args in
+    subst (λ (k : ℕ). Shifts more (answered (left - cost) g m x) (answered k g m x))
     (later left more cost h)
-    (answered-shifts (left - cost) more m x)
+    (answered-shifts (left - cost) more g m x)
 followed-shifts left more cost g m out.Quit h = inr refl
 
 gives-shifts : (left more cost : ℕ) (g : Glk) (gives : Rule) → cost ≤ left

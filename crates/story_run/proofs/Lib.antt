@@ -1,6 +1,3 @@
-pub mod OutputLemmas
-pub mod ArgumentLemmas
-pub mod RunLemmas
 pub mod TurnLemmas
 pub mod BudgetLemmas
 pub mod WorldLemmas

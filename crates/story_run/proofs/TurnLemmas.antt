@@ -2,21 +2,23 @@
 use Rattle.std.proofs.Common.{◌≡◌, ℕ, zero, suc, ◌+◌, ◌-◌, ◌<◌, ◌≤◌, Bool, true, false, nat_lt, refl, ap, sym, ◌∙◌, arith, add-one, Result, Ok, Err, cond, subst, IfOk}
 use Rattle.std.specs.declared.alloc.AllocError.{AllocError}
 use Rattle.std.proofs.lemmas.Bool.Decides.{nat_tests}
-use Rattle.vm_exec.specs.Row.{Charged, charged, due, row, told, step_of}
-use Rattle.vm_stack.specs.StackState.{StackState}
+use Rattle.vm_exec.specs.Row.{Charged, due, row, told, step_of}
+use Rattle.vm_exec.specs.Row as exec
 use Rattle.vm_exec.specs.Rows.Work.{Work, Free, Costs}
 use Rattle.vm_exec.specs.declared.machine.Machine.{Machine}
 use Rattle.vm_exec.specs.declared.step.Out.{Out}
 use Rattle.vm_exec.specs.declared.step.Out.TheVariants as out
 use Rattle.vm_exec.specs.Rules.{Rule}
-use Rattle.story_run.specs.Answer.{Reached, ◌>>=◌}
-use Rattle.story_run.specs.Call.{called}
-use Rattle.story_run.specs.Output.{put_code}
-use Rattle.story_run.specs.Step.{Next, Advances, Runs, Rests, Running, next, stepped, followed, answered, done, stored, put}
+use Rattle.vm_memory.specs.MemoryMap.{MemoryMap}
+use Rattle.glk_dispatch.specs.Answer.{Reached, ◌>>=◌, desk}
+use Rattle.glk_dispatch.specs.Answer as dispatch
+use Rattle.glk_dispatch.specs.Call.{called}
+use Rattle.glk_dispatch.specs.Output.{put_code}
+use Rattle.story_run.specs.Step.{Next, Advances, Runs, Rests, Running, next, stepped, followed, answered, charged, done, machine_of, stored, put}
 use Rattle.story_run.specs.Turn.{Stops, after, steps, rest}
-use Rattle.story_run.specs.declared.call.Called.{Called}
-use Rattle.story_run.specs.declared.call.Called.TheVariants as call
-use Rattle.story_run.specs.declared.glk.Glk.{Glk}
+use Rattle.glk_dispatch.specs.declared.called.Called.{Called}
+use Rattle.glk_dispatch.specs.declared.called.Called.TheVariants as call
+use Rattle.glk_dispatch.specs.declared.glk.Glk.{Glk}
 use Rattle.story_run.specs.declared.stage.Stage.{Stage}
 use Rattle.story_run.specs.declared.stage.Stage.TheVariants as stage
 use Rattle.vm_memory.specs.declared.fault.Trap.{Trap}
@@ -27,36 +29,42 @@ abbrev pub IsBelow : ℕ → Next → Type 0
 IsBelow ticks (Runs left r) = left < ticks
 IsBelow ticks (Rests g s) = Unit {0}
 
-put-below : (ticks left : ℕ) (m : Machine) (x : Reached Glk) → left < ticks → IsBelow ticks (put left m x)
-put-below ticks left m (Ok g) h = h
+put-below : (ticks left : ℕ) (m : Machine) (x : Reached (Glk × MemoryMap)) → left < ticks → IsBelow ticks (put left m x)
+put-below ticks left m (Ok x) h = h
 put-below ticks left m (Err e) h = tt
 
 stored-below : (ticks left : ℕ) (g : Glk) (x : Result Machine ℕ) → left < ticks → IsBelow ticks (stored left g x)
 stored-below ticks left g (Ok m) h = h
 stored-below ticks left g (Err n) h = tt
 
-charged-below : (ticks left : ℕ) (b : Bool) (g : Glk) (x y : Next) → IsBelow ticks x → IsBelow ticks y → IsBelow ticks (cond b x y)
-charged-below ticks left true g x y h k = h
-charged-below ticks left false g x y h k = k
-
 done-below : (ticks left : ℕ) (g : Glk) (m : Machine) (x : Called) → left < ticks → IsBelow ticks (done left g m x)
-done-below ticks left g m (call.Wait event) h = tt
-done-below ticks left g m (call.Value value chars) h =
-    charged-below ticks left (nat_lt left chars) g _ _ tt (stored-below ticks (left - chars) g _ (omega arith))
+done-below ticks left g m (call.Value value) h = stored-below ticks left g _ h
+done-below ticks left g m call.Wait h = tt
+done-below ticks left g m call.Prompt h = tt
+done-below ticks left g m call.Exit h = tt
 
-answered-below : (ticks left : ℕ) (m : Machine) (x : Reached (Glk × StackState × Called)) → left < ticks → IsBelow ticks (answered left m x)
-answered-below ticks left m (Ok x) h = done-below ticks left x.0 (record m { stack = x.1 }) x.2 h
-answered-below ticks left m (Err e) h = tt
+either-below : (ticks : ℕ) (b : Bool) (x y : Next) → IsBelow ticks x → IsBelow ticks y → IsBelow ticks (cond b x y)
+either-below ticks true x y h k = h
+either-below ticks false x y h k = k
+
+charged-below : (ticks left chars : ℕ) (g : Glk) (m : Machine) (x : Called) → left < ticks → IsBelow ticks (charged left chars g m x)
+charged-below ticks left chars g m x h =
+    either-below ticks (nat_lt left chars) _ _ tt (done-below ticks (left - chars) g m x (omega arith))
+
+answered-below : (ticks left : ℕ) (g : Glk) (m : Machine) (x : dispatch.Rule Called) → left < ticks → IsBelow ticks (answered left g m x)
+answered-below ticks left g m (Ok x) h =
+    charged-below ticks left (x.0.glk.chars - g.chars) x.0.glk (machine_of m x.0) x.1 h
+answered-below ticks left g m (Err e) h = tt
 
 followed-below : (left cost : ℕ) (g : Glk) (m : Machine) (o : Out) → 1 ≤ cost → cost ≤ left → IsBelow left (followed left g m (step_of o cost))
 followed-below left cost g m out.Ran h k = omega arith
-followed-below left cost g m (out.Char x) h k = put-below left (left - cost) m (put_code g x) (omega arith)
+followed-below left cost g m (out.Char x) h k = put-below left (left - cost) m (put_code g m.memory g.streams.current x) (omega arith)
 followed-below left cost g m (out.Glk selector args) h k =
-    answered-below left (left - cost) m (called g m.memory m.stack selector args) (omega arith)
+    answered-below left (left - cost) g m (called (desk g m.memory m.stack) selector args) (omega arith)
 followed-below left cost g m out.Quit h k = tt
 
 -- a step of the machine takes a tick at least
-charged-some : (x : Result Work ℕ) → 1 ≤ (charged x).cost
+charged-some : (x : Result Work ℕ) → 1 ≤ (exec.charged x).cost
 charged-some (Ok (Free r)) = omega arith
 charged-some (Ok (Costs n r)) = omega arith
 charged-some (Err n) = omega arith

@@ -5,7 +5,7 @@ use Rattle.story_run.specs.Solo.{is_over, is_wanted, turned}
 use Rattle.story_run.specs.Step.{Running}
 use Rattle.story_run.specs.Turn.{rest, steps}
 use Rattle.story_run.specs.World.{WorldState}
-use Rattle.story_run.specs.declared.glk.Glk.{Glk}
+use Rattle.glk_dispatch.specs.declared.glk.Glk.{Glk}
 use Rattle.story_run.specs.declared.stage.Stage.{Stage}
 use Rattle.story_run.specs.declared.stage.Stage.TheVariants.{Fault}
 

@@ -1,13 +1,4 @@
 pub mod Story
-pub mod Glk
-pub mod Answer
-pub mod Arguments
-pub mod Selector
-pub mod Windows
-pub mod Output
-pub mod Events
-pub mod Call
-pub mod Words
 pub mod Show
 pub mod Step
 pub mod Turn

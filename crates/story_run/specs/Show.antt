@@ -1,87 +1,57 @@
--- A show as lines (own).
-use Rattle.std.specs.Prelude.{ℕ, zero, suc, ◌+◌, ◌==◌, nat_lt, if◌then◌else◌, List, [], ◌∷◌}
-use Rattle.std.specs.Prelude.{◌++◌, length, codes, map, Option, Some, None}
-use Rattle.vm_memory.specs.MemoryMap.{MemoryMap, number_at}
-use Rattle.story_run.specs.Words.{field, text}
-use Rattle.story_run.specs.declared.glk.Glk.{Glk}
-use Rattle.story_run.specs.declared.glk.LineRequest.{LineRequest}
-use Rattle.story_run.specs.declared.printed.Cell.{Cell}
+-- A show of a turn that has come to rest (own: docs/FORMATS.md, "Shows").
+use Rattle.std.specs.Prelude.{ℕ, zero, suc, ◌+◌, ◌*◌, Bool, List, [], ◌∷◌, ◌++◌, Option, Some, None}
+use Rattle.std.specs.Prelude.{Result, Ok, Err}
+use Rattle.std.specs.List.{flat_map}
+use Rattle.vm_memory.specs.Access.{read}
+use Rattle.vm_memory.specs.MemoryMap.{MemoryMap}
+use Rattle.vm_memory.specs.declared.fault.MemFault.{MemFault}
+use Rattle.glk_input.specs.Delivery.{width}
+use Rattle.glk_input.specs.declared.request.Request.{Request}
+use Rattle.glk_input.specs.declared.request.Request.TheVariants.{Line, Char}
+use Rattle.glk_input.specs.declared.request.WindowInput.{WindowInput}
+use Rattle.glk_dispatch.specs.declared.glk.Glk.{Glk}
+use Rattle.story_show.specs.Lines.{text_of}
+use Rattle.story_show.specs.Making as making
+use Rattle.story_show.specs.declared.show.End.{End}
+use Rattle.story_show.specs.declared.show.End.TheVariants as end
 use Rattle.story_run.specs.declared.stage.Stage.{Stage}
-use Rattle.story_run.specs.declared.stage.Stage.TheVariants.{Waits, Quit, Fault}
+use Rattle.story_run.specs.declared.stage.Stage.TheVariants.{AtSelect, AtPrompt, Quit, Fault}
 
--- W id type x y w h: the one window has the whole screen
-abbrev pub window_line : Glk → List ℕ
-window_line g =
-    if g.window then codes "W 1 3 0 0" ++ field g.cols ++ field g.rows ++ 10 ∷ [] else []
+-- what a read gives, 0 where it passes memory's end
+abbrev pub or_zero : Result ℕ MemFault → ℕ
+or_zero (Ok code) = code
+or_zero (Err fault) = 0
 
--- characters of one style
-pub record Run : Type 0 where
-  pub style : ℕ
-  pub codes : List ℕ
+-- the character at a place, a byte or a word
+abbrev pub char_at : Bool → MemoryMap → ℕ → ℕ
+char_at unicode m at = or_zero (read (width unicode) m at)
 
--- a character before runs: in the first of them where that has its style
-abbrev pub joined : Cell → List Run → List Run
-joined c [] = (record { style = c.style; codes = c.code ∷ [] }) ∷ []
-joined c (r ∷ rs) =
-    if c.style == r.style
-    then (record r { codes = c.code ∷ r.codes }) ∷ rs
-    else (record { style = c.style; codes = c.code ∷ [] }) ∷ r ∷ rs
+-- so many characters of an array
+unfoldable pub initial : ℕ → Bool → MemoryMap → ℕ → List ℕ
+initial zero unicode m buf = []
+initial (suc n) unicode m buf =
+    initial n unicode m buf ++ char_at unicode m (buf + n * width unicode) ∷ []
 
--- the longest runs of one style
-abbrev pub runs_of : List Cell → List Run
-runs_of [] = []
-runs_of (c ∷ cs) = joined c (runs_of cs)
+-- a line that may begin with what its array holds, or a character
+abbrev pub want_of : MemoryMap → ℕ → Request → End
+want_of m win (Line r) = end.WantLine win r.max (initial r.init r.unicode m r.buf)
+want_of m win (Char unicode) = end.WantChar win
 
--- how many characters at the front have a style
-abbrev pub front : ℕ → List Cell → ℕ
-front style [] = 0
-front style (c ∷ cs) = if c.style == style then front style cs + 1 else 0
+abbrev pub wants_by : MemoryMap → ℕ → Option Request → List End
+wants_by m win None = []
+wants_by m win (Some r) = want_of m win r ∷ []
 
--- a character without its style
-abbrev pub code_of : Cell → ℕ
-code_of c = c.code
+-- what a window asks for
+unfoldable pub window_wants : MemoryMap → WindowInput → List End
+window_wants m w = wants_by m w.win w.request
 
--- these characters as a run
-abbrev pub run : ℕ → List Cell → Run
-run style cs = record { style = style; codes = map code_of cs }
-
--- T id style =text
-abbrev pub run_line : Run → List ℕ
-run_line r = codes "T 1" ++ field r.style ++ text r.codes
-
--- the lines of runs
-abbrev pub run_lines : List Run → List ℕ
-run_lines [] = []
-run_lines (r ∷ rs) = run_line r ++ run_lines rs
-
--- the byte at a place, 0 past memory's end
-abbrev pub byte_or_zero : MemoryMap → ℕ → ℕ
-byte_or_zero m at = if nat_lt at (length m.bytes) then number_at 1 m.bytes at else 0
-
--- so many characters from an address on, each a byte
-abbrev pub initial : MemoryMap → ℕ → ℕ → List ℕ
-initial m at zero = []
-initial m at (suc n) = initial m at n ++ byte_or_zero m (at + n) ∷ []
-
--- I id line max =initial
-abbrev pub request_line : MemoryMap → LineRequest → List ℕ
-request_line m r = codes "I 1 line" ++ field r.max ++ text (initial m r.buf r.init)
-
--- the line of what is waited for
-abbrev pub wish_line : MemoryMap → Option LineRequest → List ℕ
-wish_line m (Some r) = request_line m r
-wish_line m None = []
-
--- E fault code
-abbrev pub fault_line : ℕ → List ℕ
-fault_line n = codes "E fault" ++ field n ++ 10 ∷ []
-
--- what is waited for, or how the story ended
-abbrev pub end_line : Glk → Stage → List ℕ
-end_line g (Waits m event) = wish_line m.memory g.request
-end_line g Quit = codes "E quit\n"
-end_line g (Fault n) = fault_line n
+-- what is asked for, by ascending window or of a prompt, or how the story ended
+abbrev pub ends_of : Glk → Stage → List End
+ends_of g (AtSelect m) = flat_map (window_wants m.memory) g.requests
+ends_of g (AtPrompt m) = end.Prompt g.prompt.usage g.prompt.mode ∷ []
+ends_of g Quit = end.Quit ∷ []
+ends_of g (Fault n) = end.Fault n ∷ []
 
 -- the lines of a turn that has come to rest
 abbrev pub show_of : Glk → Stage → List ℕ
-show_of g s = window_line g ++ run_lines (runs_of g.text) ++ end_line g s
+show_of g s = text_of (making.show_of g.windows (ends_of g s))

@@ -1,23 +1,23 @@
 -- A story run alone: its opening, and its turns on the inputs that it wants (own).
-use Rattle.std.specs.Prelude.{ℕ, Bool, true, false, if◌then◌else◌, List, [], ◌∷◌, Option, Some}
+use Rattle.std.specs.Prelude.{ℕ, Bool, true, false, if◌then◌else◌, List, [], ◌∷◌}
+use Rattle.glk_input.specs.Delivery as delivery
 use Rattle.glk_input.specs.declared.input.Input.{Input}
-use Rattle.glk_input.specs.declared.input.Input.TheVariants.{Line}
+use Rattle.glk_input.specs.declared.input.Input.TheVariants.{Line, Char, File}
+use Rattle.glk_input.specs.declared.request.WindowInput.{WindowInput}
+use Rattle.glk_dispatch.specs.Glk.{fresh, turn_begun}
+use Rattle.glk_dispatch.specs.declared.glk.Glk.{Glk}
 use Rattle.vm_exec.specs.Start.{started}
-use Rattle.story_run.specs.Events.{is_asked, taken_line}
-use Rattle.story_run.specs.Glk.{fresh, settled}
 use Rattle.story_run.specs.Show.{show_of}
 use Rattle.story_run.specs.Turn.{begun, turn_on}
 use Rattle.story_run.specs.World.{WorldState}
-use Rattle.story_run.specs.declared.glk.Glk.{Glk}
-use Rattle.story_run.specs.declared.glk.LineRequest.{LineRequest}
 use Rattle.story_run.specs.declared.setup.Setup.{Setup}
 use Rattle.story_run.specs.declared.stage.Stage.{Stage}
-use Rattle.story_run.specs.declared.stage.Stage.TheVariants.{Waits, Quit, Fault}
+use Rattle.story_run.specs.declared.stage.Stage.TheVariants.{AtSelect, AtPrompt, Quit, Fault}
 
--- a turn has come to rest: its show is made, and what was printed is forgotten
+-- a turn has come to rest: its show is made, and then the next may begin
 abbrev pub rested : ℕ → Glk × Stage → WorldState
 rested budget x =
-    record { budget = budget; glk = settled x.0; stage = x.1; last = show_of x.0 x.1 }
+    record { budget = budget; glk = turn_begun x.0; stage = x.1; last = show_of x.0 x.1 }
 
 -- the world after the opening turn of the story with this image
 unfoldable pub opening : List ℕ → Setup → WorldState
@@ -25,29 +25,38 @@ opening image setup =
     rested setup.budget
     (begun setup.budget (fresh setup.cols setup.rows) (started image setup.seed))
 
--- a story that waits wants the line that it asked for
-abbrev pub wants : Stage → Option LineRequest → Input → Bool
-wants (Waits m event) request input = is_asked request input
-wants Quit request input = false
-wants (Fault n) request input = false
+-- the name of a file
+abbrev pub is_name : Input → Bool
+is_name (Line win text key) = false
+is_name (Char win code) = false
+is_name (File name) = true
+
+-- a story wants what its windows ask for, or at a prompt the name of a file; nothing once over
+abbrev pub wants : Stage → List WindowInput → Input → Bool
+wants (AtSelect m) requests input = delivery.wants requests input
+wants (AtPrompt m) requests input = is_name input
+wants Quit requests input = false
+wants (Fault n) requests input = false
 
 -- the world waits for this input
 unfoldable pub is_wanted : WorldState → Input → Bool
-is_wanted w input = wants w.stage w.glk.request input
+is_wanted w input = wants w.stage w.glk.requests input
 
 -- the world after a turn on this input, which the story waits for
-abbrev pub answered : WorldState → Stage → Option LineRequest → Input → WorldState
-answered w (Waits m event) (Some r) (Line win text key) =
-    rested w.budget (turn_on w.budget w.glk m r event (taken_line r text))
-answered w _ _ _ = w
+abbrev pub answered : WorldState → Stage → Input → WorldState
+answered w (AtSelect m) input = rested w.budget (turn_on w.budget w.glk m input)
+answered w (AtPrompt m) input = rested w.budget (turn_on w.budget w.glk m input)
+answered w Quit input = w
+answered w (Fault n) input = w
 
 -- the world after an input; one that isn't wanted leaves it
 unfoldable pub turned : WorldState → Input → WorldState
-turned w input = if is_wanted w input then answered w w.stage w.glk.request input else w
+turned w input = if is_wanted w input then answered w w.stage input else w
 
 -- how a turn came to rest says whether the story is over
 abbrev pub is_at_end : Stage → Bool
-is_at_end (Waits m event) = false
+is_at_end (AtSelect m) = false
+is_at_end (AtPrompt m) = false
 is_at_end Quit = true
 is_at_end (Fault n) = true
 

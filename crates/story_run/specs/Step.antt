@@ -2,18 +2,18 @@
 use Rattle.std.specs.Prelude.{◌≡◌, ℕ, ◌-◌, nat_lt, if◌then◌else◌, Result, Ok, Err}
 use Rattle.vm_exec.specs.Row.{row, told}
 use Rattle.vm_exec.specs.Start.{finished}
-use Rattle.vm_stack.specs.StackState.{StackState}
 use Rattle.vm_exec.specs.declared.machine.Machine.{Machine}
 use Rattle.vm_exec.specs.declared.step.Step.{Step}
 use Rattle.vm_exec.specs.declared.step.Step.TheVariants as step
+use Rattle.vm_memory.specs.MemoryMap.{MemoryMap}
 use Rattle.vm_memory.specs.declared.fault.Trap.{Trap}
 use Rattle.vm_memory.specs.declared.fault.Trap.TheVariants as trap
-use Rattle.story_run.specs.Answer.{Reached}
-use Rattle.story_run.specs.Call.{called}
-use Rattle.story_run.specs.Output.{put_code}
-use Rattle.story_run.specs.declared.call.Called.{Called}
-use Rattle.story_run.specs.declared.call.Called.TheVariants as call
-use Rattle.story_run.specs.declared.glk.Glk.{Glk}
+use Rattle.glk_dispatch.specs.Answer.{Desk, Reached, Rule, desk}
+use Rattle.glk_dispatch.specs.Call.{called}
+use Rattle.glk_dispatch.specs.Output.{put_code}
+use Rattle.glk_dispatch.specs.declared.called.Called.{Called}
+use Rattle.glk_dispatch.specs.declared.called.Called.TheVariants as call
+use Rattle.glk_dispatch.specs.declared.glk.Glk.{Glk}
 use Rattle.story_run.specs.declared.stage.Stage.{Stage}
 use Rattle.story_run.specs.declared.stage.Stage.TheVariants as stage
 use Rattle.story_run.specs.declared.step.Progress.{Progress}
@@ -37,9 +37,9 @@ pub data Next : Type 0 where
 abbrev pub faults : Glk → ℕ → Next
 faults g n = Rests g (stage.Fault n)
 
--- a character went out
-abbrev pub put : ℕ → Machine → Reached Glk → Next
-put left m (Ok g) = Runs left (running g m)
+-- a character went to the current stream, or nowhere where there is none
+abbrev pub put : ℕ → Machine → Reached (Glk × MemoryMap) → Next
+put left m (Ok x) = Runs left (running x.0 (record m { memory = x.1 }))
 put left m (Err e) = faults e.0 e.1
 
 -- the result of a call is stored
@@ -47,23 +47,35 @@ abbrev pub stored : ℕ → Glk → Result Machine ℕ → Next
 stored left g (Ok m) = Runs left (running g m)
 stored left g (Err n) = faults g n
 
--- a call was done: its characters take a tick each, and then its result is stored; or it waits
+-- what a call answers is stored; or the turn ends, for an event, for a file's name, or for good
 abbrev pub done : ℕ → Glk → Machine → Called → Next
-done left g m (call.Wait event) = Rests g (stage.Waits m event)
-done left g m (call.Value value chars) =
-    if nat_lt left chars then faults g 24 else stored (left - chars) g (finished m value)
+done left g m (call.Value value) = stored left g (finished m value)
+done left g m call.Wait = Rests g (stage.AtSelect m)
+done left g m call.Prompt = Rests g (stage.AtPrompt m)
+done left g m call.Exit = Rests g stage.Quit
 
--- a call was done, or was a fault
-abbrev pub answered : ℕ → Machine → Reached (Glk × StackState × Called) → Next
-answered left m (Ok x) = done left x.0 (record m { stack = x.1 }) x.2
-answered left m (Err e) = faults e.0 e.1
+-- a call was done: the characters that it read or wrote take a tick each, its effect standing
+abbrev pub charged : ℕ → ℕ → Glk → Machine → Called → Next
+charged left chars g m answer =
+    if nat_lt left chars then faults g 24 else done (left - chars) g m answer
+
+-- the machine with a call's memory and stack
+abbrev pub machine_of : Machine → Desk → Machine
+machine_of m d = record m { memory = d.memory; stack = d.stack }
+
+-- a call was done over this Glk state, or was a fault
+abbrev pub answered : ℕ → Glk → Machine → Rule Called → Next
+answered left g m (Ok x) =
+    charged left (x.0.glk.chars - g.chars) x.0.glk (machine_of m x.0) x.1
+answered left g m (Err e) = faults e.0 e.1
 
 -- what the machine told
 abbrev pub followed : ℕ → Glk → Machine → Step → Next
 followed left g m (step.Ran cost) = Runs (left - cost) (running g m)
-followed left g m (step.Out code cost) = put (left - cost) m (put_code g code)
+followed left g m (step.Out code cost) =
+    put (left - cost) m (put_code g m.memory g.streams.current code)
 followed left g m (step.Glk selector args cost) =
-    answered (left - cost) m (called g m.memory m.stack selector args)
+    answered (left - cost) g m (called (desk g m.memory m.stack) selector args)
 followed left g m step.Quit = Rests g stage.Quit
 
 -- the machine did a step, or met a fault
@@ -78,7 +90,8 @@ next left r = stepped left r.glk (told left (row r.machine))
 -- The call came to this and left these, as it should, unless memory ran out.
 abbrev pub Advances : Next → Glk → Machine → Result Progress Trap → Type 0
 Advances should g m (Ok (progress.Runs left)) = should ≡ Runs left (running g m)
-Advances should g m (Ok (progress.Waits event)) = should ≡ Rests g (stage.Waits m event)
+Advances should g m (Ok progress.Waits) = should ≡ Rests g (stage.AtSelect m)
+Advances should g m (Ok progress.Prompts) = should ≡ Rests g (stage.AtPrompt m)
 Advances should g m (Ok progress.Quits) = should ≡ Rests g stage.Quit
 Advances should g m (Err (trap.Fault n)) = should ≡ faults g n
 Advances should g m (Err trap.NoMemory) = Unit {0}

@@ -1,17 +1,15 @@
 -- A turn: steps until the story waits or ends, within its budget (own).
-use Rattle.std.specs.Prelude.{◌≡◌, ℕ, zero, suc, ◌+◌, List, Result, Ok, Err, IfOk, IsErr}
+use Rattle.std.specs.Prelude.{◌≡◌, ℕ, zero, suc, ◌+◌, Result, Ok, Err, IfOk, IsErr}
 use Rattle.std.specs.declared.alloc.AllocError.{AllocError}
 use Rattle.vm_exec.specs.Start.{finished}
-use Rattle.vm_stack.specs.StackState.{StackState}
 use Rattle.vm_exec.specs.declared.machine.Machine.{Machine}
-use Rattle.vm_memory.specs.MemoryMap.{MemoryMap}
 use Rattle.vm_memory.specs.declared.fault.Trap.{Trap}
 use Rattle.vm_memory.specs.declared.fault.Trap.TheVariants as trap
-use Rattle.story_run.specs.Answer.{Reached}
-use Rattle.story_run.specs.Events.{delivered}
-use Rattle.story_run.specs.Step.{Next, Runs, Rests, Running, next, running}
-use Rattle.story_run.specs.declared.glk.Glk.{Glk}
-use Rattle.story_run.specs.declared.glk.LineRequest.{LineRequest}
+use Rattle.glk_input.specs.declared.input.Input.{Input}
+use Rattle.glk_dispatch.specs.Answer.{Reached, Rule, desk}
+use Rattle.glk_dispatch.specs.Events as events
+use Rattle.glk_dispatch.specs.declared.glk.Glk.{Glk}
+use Rattle.story_run.specs.Step.{Next, Runs, Rests, Running, machine_of, next, running}
 use Rattle.story_run.specs.declared.stage.Stage.{Stage}
 use Rattle.story_run.specs.declared.stage.Stage.TheVariants.{Fault}
 
@@ -40,29 +38,31 @@ abbrev pub stored_in : Glk → Result Machine ℕ → Reached (Glk × Machine)
 stored_in g (Ok m) = Ok (g, m)
 stored_in g (Err n) = Err (g, n)
 
--- the line was delivered: the call that waited for it stores 0
-abbrev pub restarted : Reached (Glk × (MemoryMap × StackState)) → Machine → Reached (Glk × Machine)
-restarted (Ok x) m = stored_in x.0 (finished (record m { memory = x.1.0; stack = x.1.1 }) 0)
-restarted (Err e) m = Err e
+-- the input was delivered: the answer of the call that waited for it is stored
+abbrev pub restarted : Machine → Rule ℕ → Reached (Glk × Machine)
+restarted m (Ok x) = stored_in x.0.glk (finished (machine_of m x.0) x.1)
+restarted m (Err e) = Err e
+
+-- an input is delivered to the call that waits for it, which takes no ticks
+abbrev pub delivered : Glk → Machine → Input → Reached (Glk × Machine)
+delivered g m input = restarted m (events.answered (desk g m.memory m.stack) input)
 
 -- the story runs on, or ends with a fault
 abbrev pub resumed : ℕ → Reached (Glk × Machine) → Glk × Stage
 resumed budget (Ok x) = rest budget (running x.0 x.1)
 resumed budget (Err e) = (e.0, Fault e.1)
 
--- a turn on a line, from the delivery on
-abbrev pub turn_on : ℕ → Glk → Machine → LineRequest → ℕ → List ℕ → Glk × Stage
-turn_on budget g m r event line =
-    resumed budget (restarted (delivered g m.memory m.stack r event line) m)
+-- a turn on an input, from the delivery on
+abbrev pub turn_on : ℕ → Glk → Machine → Input → Glk × Stage
+turn_on budget g m input = resumed budget (delivered g m input)
 
 -- A trap became this stage: a fault, unless memory ran out.
 abbrev pub Stops : Trap → Result Stage AllocError → Type 0
 Stops (trap.Fault n) result = IfOk result (λ stage. stage ≡ Fault n)
 Stops trap.NoMemory result = IsErr result
 
--- The call delivered the line and stored 0, leaving these, unless memory ran out.
-abbrev pub Resumes : Reached (Glk × (MemoryMap × StackState)) → Machine → Glk → Machine
-    → Result (Unit {0}) Trap → Type 0
-Resumes should old g m (Ok x) = restarted should old ≡ Ok (g, m)
-Resumes should old g m (Err (trap.Fault n)) = restarted should old ≡ Err (g, n)
-Resumes should old g m (Err trap.NoMemory) = Unit {0}
+-- The call delivered the input and stored the answer, leaving these, unless memory ran out.
+abbrev pub Resumes : Reached (Glk × Machine) → Glk → Machine → Result (Unit {0}) Trap → Type 0
+Resumes should g m (Ok x) = should ≡ Ok (g, m)
+Resumes should g m (Err (trap.Fault n)) = should ≡ Err (g, n)
+Resumes should g m (Err trap.NoMemory) = Unit {0}

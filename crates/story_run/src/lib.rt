@@ -1,17 +1,9 @@
 //! A story, turn by turn: it runs until it waits for its player, and what it printed is a show.
 #![tactic(auto)]
 
-mod arguments;
-mod call;
-mod events;
-mod glk;
+mod ends;
 mod laws;
-mod output;
-mod printed;
-mod reference;
-mod selector;
 mod setup;
-mod show;
 mod stage;
 mod step;
 mod steps;
@@ -19,8 +11,6 @@ mod story;
 #[cfg(test)]
 mod tests;
 mod turn;
-mod windows;
-mod words;
 mod world;
 
 pub use laws::{budgets_only_end, over_wants_nothing, turns_end, unwanted_leaves};

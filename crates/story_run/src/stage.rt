@@ -2,11 +2,12 @@
 
 use vm_exec::Machine;
 
-/// A story that waits for its player at a select, whose event goes to the reference; or one that is
+/// A story that waits for its player, at a select or at a prompt for a file's name; or one that is
 /// over, by its own quitting or by a fault, whose machine is put away.
 #[derive(Drop)]
 pub(crate) enum Stage<'i> {
-    Waits { machine: Machine<'i>, event: u32 },
+    AtSelect(Machine<'i>),
+    AtPrompt(Machine<'i>),
     Quit,
     Fault(u8),
 }

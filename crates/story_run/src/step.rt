@@ -1,12 +1,11 @@
 //! One step of the story: an instruction, and then what it asks of Glk.
 
 ghost use Rattle.std.specs.Prelude.{◌≡◌};
-ghost use Rattle.story_run.specs.Call.{called};
-ghost use Rattle.story_run.specs.Step.{Advances, answered, next, running};
+ghost use Rattle.glk_dispatch.specs.Answer.{desk};
+ghost use Rattle.glk_dispatch.specs.Call.{called};
+ghost use Rattle.story_run.specs.Step.{Advances, answered, done, next, running};
 
-use crate::call::{Called, call};
-use crate::glk::Glk;
-use crate::output::put_code;
+use glk_dispatch::{Called, Glk, call, put_code};
 use std::alloc::Global;
 use vm_exec::{Machine, Step};
 use vm_memory::Trap;
@@ -14,12 +13,13 @@ use vm_memory::Trap;
 /// The fault of a turn that takes more ticks than its budget has.
 const BUDGET: Trap = Trap::Fault(24);
 
-/// What a step comes to: the story runs on with so many ticks left, waits for an event that goes to
-/// the reference, or has quit.
+/// What a step comes to: the story runs on with so many ticks left, waits for an event or for a
+/// file's name, or has quit.
 #[derive(Clone, Copy, Debug, PartialEq, Eq)]
 pub(crate) enum Progress {
     Runs { left: u64 },
-    Waits { event: u32 },
+    Waits,
+    Prompts,
     Quits,
 }
 
@@ -36,7 +36,8 @@ pub(crate) fn advance(
     match machine.step(alloc, left)? {
         Step::Ran(cost) => Ok(Progress::Runs { left: left - cost }),
         Step::Out(code, cost) => {
-            put_code(glk, code)?;
+            let stream = glk.streams.current();
+            put_code(alloc, glk, &mut machine.memory, stream, code)?;
             Ok(Progress::Runs { left: left - cost })
         }
         Step::Glk {
@@ -48,7 +49,7 @@ pub(crate) fn advance(
     }
 }
 
-// Does a Glk call, takes the ticks of its characters, and then stores its result.
+// Does a Glk call and takes the ticks of its characters.
 fn call_glk(
     alloc: Global,
     glk: &mut Glk,
@@ -58,18 +59,43 @@ fn call_glk(
     left: u64,
 ) -> Result<Progress, Trap>
     ensures { Advances
-        (answered left machine.old
-        (called glk.old machine.old.memory machine.old.stack selector args))
+        (answered left glk.old machine.old
+        (called (desk glk.old machine.old.memory machine.old.stack) selector args))
         glk.new machine.new result }
 {
-    match call(glk, &machine.memory, &mut machine.stack, selector, args)? {
-        Called::Wait { event } => Ok(Progress::Waits { event }),
-        Called::Value { value, chars } => {
-            if chars > left {
-                return Err(BUDGET);
-            }
+    let before = glk.chars();
+    let answer = call(
+        alloc,
+        glk,
+        &mut machine.memory,
+        &mut machine.stack,
+        selector,
+        args,
+    )?;
+    let chars = glk.chars().saturating_sub(before);
+    if chars > left {
+        return Err(BUDGET);
+    }
+    follow(alloc, glk, machine, answer, left - chars)
+}
+
+// Stores what a call answers, or ends the turn.
+fn follow(
+    alloc: Global,
+    glk: &Glk,
+    machine: &mut Machine<'_>,
+    answer: Called,
+    left: u64,
+) -> Result<Progress, Trap>
+    ensures { Advances (done left glk.now machine.old answer) glk.now machine.new result }
+{
+    match answer {
+        Called::Value(value) => {
             machine.finish(alloc, value)?;
-            Ok(Progress::Runs { left: left - chars })
+            Ok(Progress::Runs { left })
         }
+        Called::Wait => Ok(Progress::Waits),
+        Called::Prompt => Ok(Progress::Prompts),
+        Called::Exit => Ok(Progress::Quits),
     }
 }

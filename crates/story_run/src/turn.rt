@@ -1,20 +1,21 @@
 //! A turn: steps until the story waits or ends, within its budget.
 
-ghost use Rattle.std.specs.Prelude.{◌≡◌, ◌≤◌, ◌-◌, ◌^◌, length, IfOk};
+ghost use Rattle.std.specs.Prelude.{◌≡◌, IfOk};
 ghost use Rattle.story_run.specs.Step.{running};
-ghost use Rattle.story_run.specs.Turn.{Resumes, Stops, rest, turn_on};
-ghost use Rattle.story_run.specs.Events.{delivered};
+ghost use Rattle.story_run.specs.Turn.{Resumes, Stops, begun, delivered, rest, turn_on};
+ghost use Rattle.vm_exec.specs.Start.{started};
 
-use crate::events::deliver;
-use crate::glk::{Glk, LineRequest};
 use crate::stage::Stage;
 use crate::step::{Progress, advance};
+use glk_dispatch::{Glk, answer};
+use glk_input::Input;
+use glulx_image::Image;
 use std::alloc::{AllocError, Global};
 use vm_exec::Machine;
 use vm_memory::Trap;
 
-/// Runs the story until it waits or ends, for at most so many ticks.
-pub(crate) fn run<'i>(
+// Runs the story until it waits or ends, for at most so many ticks.
+fn run<'i>(
     alloc: Global,
     glk: &mut Glk,
     mut machine: Machine<'i>,
@@ -26,15 +27,16 @@ pub(crate) fn run<'i>(
     loop {
         match advance(alloc, glk, &mut machine, left) {
             Ok(Progress::Runs { left: rest }) => left = rest,
-            Ok(Progress::Waits { event }) => return Ok(Stage::Waits { machine, event }),
+            Ok(Progress::Waits) => return Ok(Stage::AtSelect(machine)),
+            Ok(Progress::Prompts) => return Ok(Stage::AtPrompt(machine)),
             Ok(Progress::Quits) => return Ok(Stage::Quit),
             Err(trap) => return stopped(trap),
         }
     }
 }
 
-/// The story is over with a fault; want of memory is an error.
-pub(crate) fn stopped<'i>(trap: Trap) -> Result<Stage<'i>, AllocError>
+// The story is over with a fault; want of memory is an error.
+fn stopped<'i>(trap: Trap) -> Result<Stage<'i>, AllocError>
     ensures { Stops trap result }
 {
     match trap {
@@ -43,45 +45,48 @@ pub(crate) fn stopped<'i>(trap: Trap) -> Result<Stage<'i>, AllocError>
     }
 }
 
-// Delivers a line, and stores 0 as the result of the call that waited for it.
-fn deliver_line(
+/// Begins a story and runs its opening turn.
+pub(crate) fn begin<'i>(
+    alloc: Global,
+    glk: &mut Glk,
+    image: &Image<'i>,
+    seed: u64,
+    budget: u64,
+) -> Result<Stage<'i>, AllocError>
+    ensures { IfOk result (λ stage. (glk.new, stage)
+        ≡ begun budget glk.old (started image.now seed)) }
+{
+    match Machine::start(alloc, image, seed) {
+        Ok(machine) => run(alloc, glk, machine, budget),
+        Err(trap) => stopped(trap),
+    }
+}
+
+// Delivers an input, and stores the answer of the call that waited for it.
+fn deliver(
     alloc: Global,
     glk: &mut Glk,
     machine: &mut Machine<'_>,
-    request: LineRequest,
-    event: u32,
-    line: &[u32],
+    input: &Input,
 ) -> Result<(), Trap>
-    requires { length line.now ≤ 2 ^ 32 - 1 }
-    ensures { Resumes (delivered glk.old machine.old.memory machine.old.stack request event line.now)
-        machine.old glk.new machine.new result }
+    ensures { Resumes (delivered glk.old machine.old input.now) glk.new machine.new result }
 {
-    deliver(
-        glk,
-        &mut machine.memory,
-        &mut machine.stack,
-        request,
-        event,
-        line,
-    )?;
-    machine.finish(alloc, 0)
+    let value = answer(alloc, glk, &mut machine.memory, &mut machine.stack, input)?;
+    machine.finish(alloc, value)
 }
 
-/// Delivers a line to a story that waits for it, and runs the story.
+/// Delivers an input to a story that waits for it, and runs the story.
 pub(crate) fn resume<'i>(
     alloc: Global,
     glk: &mut Glk,
     mut machine: Machine<'i>,
-    request: LineRequest,
-    event: u32,
-    line: &[u32],
+    input: &Input,
     budget: u64,
 ) -> Result<Stage<'i>, AllocError>
-    requires { length line.now ≤ 2 ^ 32 - 1 }
     ensures { IfOk result (λ stage. (glk.new, stage)
-        ≡ turn_on budget glk.old machine.entry request event line.now) }
+        ≡ turn_on budget glk.old machine.entry input.now) }
 {
-    match deliver_line(alloc, glk, &mut machine, request, event, line) {
+    match deliver(alloc, glk, &mut machine, input) {
         Ok(()) => run(alloc, glk, machine, budget),
         Err(trap) => stopped(trap),
     }

@@ -3,17 +3,15 @@
 ghost use Rattle.std.specs.Prelude.{◌≡◌, ◌+◌, true, IfOk};
 ghost use Rattle.story_run.specs.Solo.{is_over, is_wanted, opening, rested, shown, turned};
 
-use crate::events::{is_asked, line_of};
-use crate::glk::Glk;
-use crate::show::write_show;
+use crate::ends::lines_of;
 use crate::stage::Stage;
-use crate::turn::{resume, run, stopped};
+use crate::turn::{begin, resume};
 use crate::{Setup, Steps, Story};
+use glk_dispatch::Glk;
 use glk_input::Input;
 use std::alloc::{AllocError, Global};
 use std::sync::ledger::Ledger;
 use story_text::Bytes;
-use vm_exec::Machine;
 
 /// A story that waits for its player or is over, with the show of its last turn.
 #[derive(Drop)]
@@ -30,22 +28,21 @@ impl<'i> World<'i> {
     pub fn start(alloc: Global, story: &Story<'i>, setup: Setup) -> Result<World<'i>, AllocError>
         ensures value { IfOk result (λ world. world ≡ opening story.now.image setup) }
     {
-        let mut glk = Glk::new(alloc, setup.cols, setup.rows);
-        let stage = match Machine::start(alloc, &story.image, setup.seed) {
-            Ok(machine) => run(alloc, &mut glk, machine, setup.budget)?,
-            Err(trap) => stopped(trap)?,
-        };
+        let mut glk = Glk::new(alloc, setup.cols, setup.rows)?;
+        let stage = begin(alloc, &mut glk, &story.image, setup.seed, setup.budget)?;
         rest(alloc, setup.budget, glk, stage)
     }
 
-    /// Whether the story waits for this input: a line for its window that the return key ends.
+    /// Whether the story waits for this input: what a window asks for, or at a prompt the name of a
+    /// file.
     #[tactic(auto, unfolding(crate::specs::Solo::is_wanted))]
     pub fn wants(&self, input: &Input) -> bool
         ensures value { result ≡ is_wanted self.now input.now }
     {
         match &self.stage {
-            Stage::Waits { .. } => is_asked(self.glk.request, input),
-            _ => false,
+            Stage::AtSelect(_) => self.glk.requests.wants(input),
+            Stage::AtPrompt(_) => matches!(input, Input::File { .. }),
+            Stage::Quit | Stage::Fault(_) => false,
         }
     }
 
@@ -69,13 +66,12 @@ impl<'i> World<'i> {
             stage,
             last,
         } = self;
-        match (stage, glk.request, input) {
-            (Stage::Waits { machine, event }, Some(request), Input::Line { text, .. }) => {
-                let line = line_of(alloc, request, text)?;
-                let stage = resume(alloc, &mut glk, machine, request, event, &line, budget)?;
+        match stage {
+            Stage::AtSelect(machine) | Stage::AtPrompt(machine) => {
+                let stage = resume(alloc, &mut glk, machine, input, budget)?;
                 rest(alloc, budget, glk, stage)
             }
-            (stage, _, _) => Ok(World {
+            stage => Ok(World {
                 budget,
                 glk,
                 stage,
@@ -89,7 +85,7 @@ impl<'i> World<'i> {
     pub fn is_over(&self) -> bool
         ensures value { result ≡ is_over self.now }
     {
-        !matches!(self.stage, Stage::Waits { .. })
+        matches!(self.stage, Stage::Quit | Stage::Fault(_))
     }
 
     /// The lines of the last turn's show, each with its newline.
@@ -101,7 +97,7 @@ impl<'i> World<'i> {
     }
 }
 
-// The world after a turn that came to rest: its show is made, and what was printed is forgotten.
+// The world after a turn that came to rest: its show is made, and then the next may begin.
 fn rest<'i>(
     alloc: Global,
     budget: u64,
@@ -110,8 +106,8 @@ fn rest<'i>(
 ) -> Result<World<'i>, AllocError>
     ensures { IfOk result (λ world. world ≡ rested budget (glk, stage.entry)) }
 {
-    let last = Bytes::of(write_show(alloc, &glk, &stage)?);
-    glk.settle();
+    let last = Bytes::of(lines_of(alloc, &glk, &stage)?);
+    glk.begin_turn();
     Ok(World {
         budget,
         glk,

@@ -1,6 +1,7 @@
 //! Runs of the whole program over files, input and output in memory.
 
 mod files;
+mod glk;
 mod lines;
 mod requests;
 

@@ -17,6 +17,11 @@ returns-in-Ok-Waits c =
     let e = rw c.in-Ok-Waits.field-0-is at c.in-Ok-Waits.ensures in
     sym (rest-rests _ _ _ _ e) ∙ c.loop-rest.invariant
 
+pub returns-in-Ok-Prompts : goal.returns-in-Ok-Prompts
+returns-in-Ok-Prompts c =
+    let e = rw c.in-Ok-Prompts.field-0-is at c.in-Ok-Prompts.ensures in
+    sym (rest-rests _ _ _ _ e) ∙ c.loop-rest.invariant
+
 pub returns-in-Ok-Quits : goal.returns-in-Ok-Quits
 returns-in-Ok-Quits c =
     let e = rw c.in-Ok-Quits.field-0-is at c.in-Ok-Quits.ensures in
