@@ -89,8 +89,8 @@ pub(crate) fn do_base(
     call: BaseCall,
     args: &[u32; MAX_ARGUMENTS],
 ) -> Result<Called, Trap>
-    ensures { Does (rows.base_work call (desk glk.old memory.old stack.old) (slice_index args.now))
-        glk.new memory.new stack.new result }
+    ensures { Does (rows.base_work call (desk glk.old memory.old stack.old)
+        (slice_index args.now)) glk.new memory.new stack.new result }
 {
     match call {
         BaseCall::Exit => Ok(Called::Exit),

@@ -133,8 +133,8 @@ pub(crate) fn do_case(
     call: CaseCall,
     args: &[u32; MAX_ARGUMENTS],
 ) -> Result<Called, Trap>
-    ensures { Does (rows.case_work call (desk glk.old memory.old stack.old) (slice_index args.now))
-        glk.new memory.new stack.new result }
+    ensures { Does (rows.case_work call (desk glk.old memory.old stack.old)
+        (slice_index args.now)) glk.new memory.new stack.new result }
 {
     match call {
         CaseCall::CharToLower => return Ok(Called::Value(lower(args[0]))),

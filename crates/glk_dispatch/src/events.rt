@@ -10,13 +10,11 @@ ghost use Rattle.glk_dispatch.specs.Selector as selector;
 use crate::arguments::MAX_ARGUMENTS;
 use crate::called::Called;
 use crate::fault::{BAD_ARGUMENT, BAD_OBJECT};
-use crate::filerefs::answer_prompt;
 use crate::glk::Glk;
 use crate::output::{echo_put, read_code, width};
 use crate::reference::refer_all;
-use glk_input::{Event, Input, LineRequest, Request};
+use glk_input::{Event, LineRequest, Request};
 use std::alloc::Global;
-use story_text::Text;
 use vm_memory::{Memory, Trap};
 use vm_stack::Stack;
 
@@ -34,7 +32,7 @@ pub enum EventCall {
 }
 
 /// The style of what the player gives.
-const INPUT: u32 = 8;
+pub(crate) const INPUT: u32 = 8;
 
 /// The most characters with which a line may begin.
 const MAX_INITIAL: u32 = 1024;
@@ -42,7 +40,7 @@ const MAX_INITIAL: u32 = 1024;
 /// The most terminators of a line.
 const MAX_KEYS: u32 = 13;
 
-const NEWLINE: u32 = 10;
+pub(crate) const NEWLINE: u32 = 10;
 
 /// The types of windows that ask for input.
 const BUFFER: u32 = 3;
@@ -175,22 +173,6 @@ fn set_terminators(
     }
 }
 
-// A window shows characters in the style of input.
-fn echo_codes(
-    alloc: Global,
-    glk: &mut Glk,
-    memory: &mut Memory,
-    stream: u32,
-    codes: &[u32],
-) -> Result<(), Trap>
-    ensures { Puts (rows.echoed glk.old memory.old stream codes.now) glk.new memory.new result }
-{
-    for code in codes {
-        echo_put(alloc, glk, memory, stream, INPUT, *code)?;
-    }
-    Ok(())
-}
-
 fn echo_item(
     alloc: Global,
     glk: &mut Glk,
@@ -272,8 +254,13 @@ fn echo_initial(
     }
 }
 
-// The words of an event at a reference.
-fn tell_event(memory: &mut Memory, stack: &mut Stack, at: u32, event: Event) -> Result<(), Trap>
+/// The words of an event at a reference.
+pub(crate) fn tell_event(
+    memory: &mut Memory,
+    stack: &mut Stack,
+    at: u32,
+    event: Event,
+) -> Result<(), Trap>
     ensures { Leaves (referred_all memory.old stack.old at (rows.words_of event))
         memory.new stack.new result }
 {
@@ -315,8 +302,8 @@ pub(crate) fn do_event(
     call: EventCall,
     args: &[u32; MAX_ARGUMENTS],
 ) -> Result<Called, Trap>
-    ensures { Does (rows.event_work call (desk glk.old memory.old stack.old) (slice_index args.now))
-        glk.new memory.new stack.new result }
+    ensures { Does (rows.event_work call (desk glk.old memory.old stack.old)
+        (slice_index args.now)) glk.new memory.new stack.new result }
 {
     let win = args[0];
     match call {
@@ -338,93 +325,5 @@ pub(crate) fn do_event(
         EventCall::SetTerminators => {
             Ok(set_terminators(alloc, glk, memory, win, args[1], args[2])?)
         }
-    }
-}
-
-// A line that comes: the window shows it and a newline, unless the request has no echo.
-fn echo_line(
-    alloc: Global,
-    glk: &mut Glk,
-    memory: &mut Memory,
-    win: u32,
-    line: &LineRequest,
-    text: &Text,
-) -> Result<(), Trap>
-    ensures { Puts (rows.line_shown line.now glk.old memory.old win text.now)
-        glk.new memory.new result }
-{
-    if line.echo {
-        let Ok(codes) = line.taken(alloc, text) else {
-            return Err(Trap::NoMemory);
-        };
-        let stream = glk.windows.stream(win);
-        echo_codes(alloc, glk, memory, stream, codes.as_slice())?;
-        echo_put(alloc, glk, memory, stream, INPUT, NEWLINE)?;
-    }
-    Ok(())
-}
-
-fn echo_text(
-    alloc: Global,
-    glk: &mut Glk,
-    memory: &mut Memory,
-    win: u32,
-    text: &Text,
-) -> Result<(), Trap>
-    ensures { Puts (rows.line_echoed (request.request_of glk.old.requests win) glk.old memory.old
-        win text.now) glk.new memory.new result }
-{
-    match glk.requests.request(win) {
-        Some(Request::Line(line)) => echo_line(alloc, glk, memory, win, &line, text),
-        Some(Request::Char { .. }) | None => Ok(()),
-    }
-}
-
-fn echo_input(alloc: Global, glk: &mut Glk, memory: &mut Memory, input: &Input) -> Result<(), Trap>
-    ensures { Puts (rows.input_echoed glk.old memory.old input.now) glk.new memory.new result }
-{
-    match input {
-        Input::Line { win, text, .. } => echo_text(alloc, glk, memory, *win, text),
-        Input::Char { .. } | Input::File { .. } => Ok(()),
-    }
-}
-
-fn deliver(glk: &mut Glk, memory: &mut Memory, input: &Input) -> Result<Event, Trap>
-    ensures { Gets (rows.delivered glk.old memory.old input.now) glk.new memory.new result }
-{
-    Ok(glk.requests.deliver(memory, input)?)
-}
-
-fn answer_event(
-    alloc: Global,
-    glk: &mut Glk,
-    memory: &mut Memory,
-    stack: &mut Stack,
-    input: &Input,
-) -> Result<u32, Trap>
-    ensures { Does (rows.event_answered (desk glk.old memory.old stack.old) input.now)
-        glk.new memory.new stack.new result }
-{
-    echo_input(alloc, glk, memory, input)?;
-    let event = deliver(glk, memory, input)?;
-    tell_event(memory, stack, glk.event, event)?;
-    Ok(0)
-}
-
-/// Gives an input to the call that waits for it, and answers what that call answers: 0 for
-/// `glk_select`, whose reference takes the event; for a prompt the new file reference, or 0.
-pub fn answer(
-    alloc: Global,
-    glk: &mut Glk,
-    memory: &mut Memory,
-    stack: &mut Stack,
-    input: &Input,
-) -> Result<u32, Trap>
-    ensures { Does (rows.answered (desk glk.old memory.old stack.old) input.now)
-        glk.new memory.new stack.new result }
-{
-    match input {
-        Input::Line { .. } | Input::Char { .. } => answer_event(alloc, glk, memory, stack, input),
-        Input::File { name } => Ok(answer_prompt(alloc, glk, name)?),
     }
 }

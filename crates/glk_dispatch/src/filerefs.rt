@@ -237,8 +237,8 @@ pub(crate) fn do_fileref(
     call: FileRefCall,
     args: &[u32; MAX_ARGUMENTS],
 ) -> Result<Called, Trap>
-    ensures { Does (rows.fileref_work call (desk glk.old memory.old stack.old) (slice_index args.now))
-        glk.new memory.new stack.new result }
+    ensures { Does (rows.fileref_work call (desk glk.old memory.old stack.old)
+        (slice_index args.now)) glk.new memory.new stack.new result }
 {
     match call {
         FileRefCall::CreateTemp => Ok(Called::Value(create_temp(alloc, glk, args[0], args[1])?)),

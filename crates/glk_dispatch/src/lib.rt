@@ -11,18 +11,20 @@ mod fault;
 mod filerefs;
 mod glk;
 mod laws;
+mod opening;
 mod output;
 mod reference;
 mod selector;
 mod streams;
 mod style;
+mod waiting;
 mod windows;
 
 pub use base::BaseCall;
 pub use called::Called;
 pub use case::CaseCall;
 pub use dispatch::call;
-pub use events::{EventCall, answer};
+pub use events::EventCall;
 pub use filerefs::FileRefCall;
 pub use glk::{Glk, Prompt};
 pub use laws::parts_stay_valid;
@@ -30,6 +32,7 @@ pub use output::{MAX_PRINTED, OutputCall, put_code};
 pub use selector::Call;
 pub use streams::StreamCall;
 pub use style::StyleCall;
+pub use waiting::answer;
 pub use windows::WindowCall;
 
 #[cfg(test)]

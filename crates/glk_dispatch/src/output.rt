@@ -259,7 +259,8 @@ fn put_string(
     unicode: bool,
     at: u32,
 ) -> Result<(), Trap>
-    ensures { Puts (rows.put_string unicode glk.old memory.old stream at) glk.new memory.new result }
+    ensures { Puts (rows.put_string unicode glk.old memory.old stream at)
+        glk.new memory.new result }
 {
     let from = text_start(memory, unicode, at)?;
     let most = memory.size() + 1;
@@ -299,8 +300,8 @@ pub(crate) fn do_output(
     call: OutputCall,
     args: &[u32; MAX_ARGUMENTS],
 ) -> Result<Called, Trap>
-    ensures { Does (rows.output_work call (desk glk.old memory.old stack.old) (slice_index args.now))
-        glk.new memory.new stack.new result }
+    ensures { Does (rows.output_work call (desk glk.old memory.old stack.old)
+        (slice_index args.now)) glk.new memory.new stack.new result }
 {
     let current = glk.streams.current();
     match call {

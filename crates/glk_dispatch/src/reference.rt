@@ -13,7 +13,8 @@ const STACK: u32 = 0xFFFF_FFFF;
 
 /// Leaves a word at a reference: nowhere for 0, on the stack for 0xFFFFFFFF, else at the address.
 pub(crate) fn refer(memory: &mut Memory, stack: &mut Stack, at: u32, value: u32) -> Result<(), Trap>
-    ensures { Leaves (reference.referred memory.old stack.old at value) memory.new stack.new result }
+    ensures { Leaves (reference.referred memory.old stack.old at value)
+        memory.new stack.new result }
 {
     match at {
         0 => Ok(()),

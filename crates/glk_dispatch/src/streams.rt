@@ -346,8 +346,8 @@ pub(crate) fn do_stream(
     call: StreamCall,
     args: &[u32; MAX_ARGUMENTS],
 ) -> Result<Called, Trap>
-    ensures { Does (rows.stream_work call (desk glk.old memory.old stack.old) (slice_index args.now))
-        glk.new memory.new stack.new result }
+    ensures { Does (rows.stream_work call (desk glk.old memory.old stack.old)
+        (slice_index args.now)) glk.new memory.new stack.new result }
 {
     let stream = args[0];
     match call {

@@ -1,8 +1,7 @@
 //! The calls of windows (Glk 0.7.5, "Windows").
 
 ghost use Rattle.std.specs.Prelude.{◌≡◌, ◌≤◌, ◌<◌, length, slice_index, not};
-ghost use Rattle.glk_dispatch.specs.Answer.{Answers, Changes, Does, Done, Makes, desk};
-ghost use Rattle.glk_dispatch.specs.Glk as state;
+ghost use Rattle.glk_dispatch.specs.Answer.{Answers, Does, Makes, desk};
 ghost use Rattle.glk_dispatch.specs.Selector as selector;
 ghost use Rattle.glk_dispatch.specs.Windows as rows;
 
@@ -10,8 +9,8 @@ use crate::arguments::MAX_ARGUMENTS;
 use crate::called::Called;
 use crate::fault::{BAD_ARGUMENT, BAD_OBJECT, of_streams};
 use crate::glk::Glk;
+use crate::opening::{close_all, open};
 use crate::reference::{refer, refer_all};
-use glk_numbers::MAX_NUMBER;
 use glk_windows::is_method;
 use std::alloc::Global;
 use vm_memory::{Memory, Trap};
@@ -71,127 +70,6 @@ pub(crate) fn window_call(number: u32) -> Option<(WindowCall, u32)>
     })
 }
 
-impl Glk {
-    /// Gives all windows their rectangles.
-    fn place(&mut self, alloc: Global) -> Result<(), Trap>
-        ensures { Changes (Done (state.placed self.old)) self.new result }
-    {
-        match self.windows.place(alloc, self.cols, self.rows) {
-            Ok(()) => Ok(()),
-            Err(_) => Err(Trap::NoMemory),
-        }
-    }
-
-    /// A new window takes the next stream number, and has no request.
-    fn begin_window(&mut self, alloc: Global, win: u32) -> Result<(), Trap>
-        ensures { Changes (Done (rows.begun self.old win)) self.new result }
-    {
-        let Ok(stream) = self.streams.open_window(alloc, win) else {
-            return Err(Trap::NoMemory);
-        };
-        self.windows.set_stream(win, stream);
-        match self.requests.begin_window(alloc, win) {
-            Ok(()) => Ok(()),
-            Err(_) => Err(Trap::NoMemory),
-        }
-    }
-
-    fn open_first(&mut self, alloc: Global, kind: u32, rock: u32) -> Result<u32, Trap>
-        ensures { Answers (Done (rows.first_opened self.old kind rock)) self.new result }
-    {
-        if self.streams.next() > MAX_NUMBER {
-            return Ok(0);
-        }
-        let Ok(win) = self.windows.split(alloc, 0, 0, 0, kind, rock) else {
-            return Err(Trap::NoMemory);
-        };
-        if win == 0 {
-            return Ok(0);
-        }
-        self.begin_window(alloc, win)?;
-        self.place(alloc)?;
-        Ok(win)
-    }
-
-    fn open_beside(
-        &mut self,
-        alloc: Global,
-        split: u32,
-        method: u32,
-        size: u32,
-        kind: u32,
-        rock: u32,
-    ) -> Result<u32, Trap>
-        ensures { Answers (Done (rows.beside_opened self.old split method size kind rock))
-            self.new result }
-    {
-        if self.streams.next() >= MAX_NUMBER {
-            return Ok(0);
-        }
-        let Ok(win) = self.windows.split(alloc, split, method, size, kind, rock) else {
-            return Err(Trap::NoMemory);
-        };
-        if win == 0 {
-            return Ok(0);
-        }
-        self.begin_window(alloc, win)?;
-        self.begin_window(alloc, win + 1)?;
-        self.place(alloc)?;
-        Ok(win)
-    }
-
-    /// Ends what is kept for a window beside the tree.
-    fn drop_window(&mut self, win: u32)
-        ensures { self.new ≡ rows.dropped self.old win }
-    {
-        self.streams.close_window(win);
-        self.requests.drop_window(win);
-    }
-}
-
-// The same of a window and of all below it, to this depth.
-#[tactic(auto, unfolding(crate::specs::Windows::all_dropped))]
-fn drop_all(glk: &mut Glk, depth: usize, win: u32)
-    ensures { glk.new ≡ rows.all_dropped depth glk.old win }
-{
-    if depth == 0 {
-        return;
-    }
-    let (first, second) = glk.windows.children(win);
-    glk.drop_window(win);
-    if first != 0 {
-        drop_all(glk, depth - 1, first);
-        drop_all(glk, depth - 1, second)
-    }
-}
-
-// Ends what is kept for a window, for all below it and for the pair above it.
-fn drop_closed(glk: &mut Glk, win: u32)
-    ensures { glk.new ≡ rows.closed_dropped glk.old win }
-{
-    let pair = glk.windows.parent(win);
-    let depth = glk.windows.slots().len();
-    drop_all(glk, depth, win);
-    glk.drop_window(pair)
-}
-
-// Closes a window, all below it and the pair above it.
-fn end(glk: &mut Glk, win: u32)
-    ensures { glk.new ≡ rows.ended glk.old win }
-{
-    drop_closed(glk, win);
-    glk.windows.close(win)
-}
-
-// The same, and those that stay get their rectangles.
-fn close_all(alloc: Global, glk: &mut Glk, win: u32) -> Result<(), Trap>
-    ensures { Changes (Done (rows.closed glk.old win)) glk.new result }
-{
-    end(glk, win);
-    glk.place(alloc)?;
-    Ok(())
-}
-
 // Whether the output of this stream goes to the window too.
 #[tactic(auto, unfolding(crate::specs::Windows::reaches))]
 fn reaches(glk: &Glk, steps: usize, stream: u32, win: u32) -> bool
@@ -223,29 +101,6 @@ fn iterate(
     let next = glk.windows.window_after(win);
     refer(memory, stack, rock, glk.windows.rock(next))?;
     Ok(Called::Value(next))
-}
-
-fn open(
-    alloc: Global,
-    glk: &mut Glk,
-    split: u32,
-    method: u32,
-    size: u32,
-    kind: u32,
-    rock: u32,
-) -> Result<u32, Trap>
-    ensures { Answers (rows.opened glk.old split method size kind rock) glk.new result }
-{
-    if !glk.is_window_or_none(split) {
-        return Err(BAD_OBJECT);
-    }
-    if split == 0 {
-        return glk.open_first(alloc, kind, rock);
-    }
-    if !is_method(method) {
-        return Err(BAD_ARGUMENT);
-    }
-    glk.open_beside(alloc, split, method, size, kind, rock)
 }
 
 fn close(
@@ -400,8 +255,8 @@ pub(crate) fn do_window(
     call: WindowCall,
     args: &[u32; MAX_ARGUMENTS],
 ) -> Result<Called, Trap>
-    ensures { Does (rows.window_work call (desk glk.old memory.old stack.old) (slice_index args.now))
-        glk.new memory.new stack.new result }
+    ensures { Does (rows.window_work call (desk glk.old memory.old stack.old)
+        (slice_index args.now)) glk.new memory.new stack.new result }
 {
     let win = args[0];
     match call {

@@ -1,6 +1,6 @@
 use Rattle.std.proofs.Common.{◌≡◌, drop}
 use Rattle.glk_dispatch.specs.Events as rows
-use Rattle.glk_dispatch.proofs.events.echo_codes.Given as goal
+use Rattle.glk_dispatch.proofs.waiting.echo_codes.Given as goal
 
 -- what is left to show gives what was to show
 abbrev pub invariant-loop-code : goal.invariant-loop-code

@@ -1,0 +1,120 @@
+//! Inputs that a call waits for (Glk 0.7.5, "Events", "Line Input Events").
+
+ghost use Rattle.std.specs.Prelude.{◌≡◌};
+ghost use Rattle.glk_input.specs.Request as request;
+ghost use Rattle.glk_dispatch.specs.Answer.{Does, Gets, Puts, desk};
+ghost use Rattle.glk_dispatch.specs.Events as rows;
+
+use crate::events::{INPUT, NEWLINE, tell_event};
+use crate::filerefs::answer_prompt;
+use crate::glk::Glk;
+use crate::output::echo_put;
+use glk_input::{Event, Input, LineRequest, Request};
+use std::alloc::Global;
+use story_text::Text;
+use vm_memory::{Memory, Trap};
+use vm_stack::Stack;
+
+// A window shows characters in the style of input.
+fn echo_codes(
+    alloc: Global,
+    glk: &mut Glk,
+    memory: &mut Memory,
+    stream: u32,
+    codes: &[u32],
+) -> Result<(), Trap>
+    ensures { Puts (rows.echoed glk.old memory.old stream codes.now) glk.new memory.new result }
+{
+    for code in codes {
+        echo_put(alloc, glk, memory, stream, INPUT, *code)?;
+    }
+    Ok(())
+}
+
+// A line that comes: the window shows it and a newline, unless the request has no echo.
+fn echo_line(
+    alloc: Global,
+    glk: &mut Glk,
+    memory: &mut Memory,
+    win: u32,
+    line: &LineRequest,
+    text: &Text,
+) -> Result<(), Trap>
+    ensures { Puts (rows.line_shown line.now glk.old memory.old win text.now)
+        glk.new memory.new result }
+{
+    if line.echo {
+        let Ok(codes) = line.taken(alloc, text) else {
+            return Err(Trap::NoMemory);
+        };
+        let stream = glk.windows.stream(win);
+        echo_codes(alloc, glk, memory, stream, codes.as_slice())?;
+        echo_put(alloc, glk, memory, stream, INPUT, NEWLINE)?;
+    }
+    Ok(())
+}
+
+fn echo_text(
+    alloc: Global,
+    glk: &mut Glk,
+    memory: &mut Memory,
+    win: u32,
+    text: &Text,
+) -> Result<(), Trap>
+    ensures { Puts (rows.line_echoed (request.request_of glk.old.requests win) glk.old memory.old
+        win text.now) glk.new memory.new result }
+{
+    match glk.requests.request(win) {
+        Some(Request::Line(line)) => echo_line(alloc, glk, memory, win, &line, text),
+        Some(Request::Char { .. }) | None => Ok(()),
+    }
+}
+
+fn echo_input(alloc: Global, glk: &mut Glk, memory: &mut Memory, input: &Input) -> Result<(), Trap>
+    ensures { Puts (rows.input_echoed glk.old memory.old input.now) glk.new memory.new result }
+{
+    match input {
+        Input::Line { win, text, .. } => echo_text(alloc, glk, memory, *win, text),
+        Input::Char { .. } | Input::File { .. } => Ok(()),
+    }
+}
+
+fn deliver(glk: &mut Glk, memory: &mut Memory, input: &Input) -> Result<Event, Trap>
+    ensures { Gets (rows.delivered glk.old memory.old input.now) glk.new memory.new result }
+{
+    Ok(glk.requests.deliver(memory, input)?)
+}
+
+fn answer_event(
+    alloc: Global,
+    glk: &mut Glk,
+    memory: &mut Memory,
+    stack: &mut Stack,
+    input: &Input,
+) -> Result<u32, Trap>
+    ensures { Does (rows.event_answered (desk glk.old memory.old stack.old) input.now)
+        glk.new memory.new stack.new result }
+{
+    echo_input(alloc, glk, memory, input)?;
+    let event = deliver(glk, memory, input)?;
+    tell_event(memory, stack, glk.event, event)?;
+    Ok(0)
+}
+
+/// Gives an input to the call that waits for it, and answers what that call answers: 0 for
+/// `glk_select`, whose reference takes the event; for a prompt the new file reference, or 0.
+pub fn answer(
+    alloc: Global,
+    glk: &mut Glk,
+    memory: &mut Memory,
+    stack: &mut Stack,
+    input: &Input,
+) -> Result<u32, Trap>
+    ensures { Does (rows.answered (desk glk.old memory.old stack.old) input.now)
+        glk.new memory.new stack.new result }
+{
+    match input {
+        Input::Line { .. } | Input::Char { .. } => answer_event(alloc, glk, memory, stack, input),
+        Input::File { name } => Ok(answer_prompt(alloc, glk, name)?),
+    }
+}
