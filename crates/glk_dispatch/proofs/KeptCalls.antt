@@ -5,7 +5,6 @@ use Rattle.vm_memory.specs.Access.{read, written}
 use Rattle.vm_memory.specs.Fault.{coded}
 use Rattle.glk_input.specs.Delivery as delivery
 use Rattle.glk_input.specs.Request as request
-use Rattle.glk_input.specs.declared.event.Event.{Event}
 use Rattle.glk_input.specs.declared.input.Input.{Input}
 use Rattle.glk_input.specs.declared.input.Input.TheVariants as input
 use Rattle.glk_input.specs.declared.request.LineRequest.{LineRequest}
@@ -16,9 +15,9 @@ use Rattle.glk_streams.specs.FileRefs as refs
 use Rattle.glk_streams.specs.Laws as slaw
 use Rattle.glk_streams.specs.Streams.{StreamTable}
 use Rattle.glk_streams.specs.declared.fault.StreamStop.{StreamStop}
-use Rattle.glk_dispatch.specs.Answer.{Desk, Done, Reached, ◌>>=◌, alone, within}
+use Rattle.glk_dispatch.specs.Answer.{Desk, Done, Reached, ◌>>=◌, within}
 use Rattle.glk_dispatch.specs.Arguments.{arguments}
-use Rattle.glk_dispatch.specs.Call.{called, called_with, work}
+use Rattle.glk_dispatch.specs.Call.{called_with, work}
 use Rattle.glk_dispatch.specs.Case as cases
 use Rattle.glk_dispatch.specs.Events as events
 use Rattle.glk_dispatch.specs.Fault.{numbered}

@@ -1,24 +1,14 @@
 -- Each step of a call keeps windows and streams valid.
-use Rattle.std.proofs.Common.{◌≡◌, ℕ, zero, suc, ◌+◌, ◌-◌, ◌%◌, ◌^◌, ◌==◌, ◌||◌, ◌&&◌, not, nat_lt, nat_le, Bool, true, false, List, [], ◌∷◌, ◌++◌, length, refl, Option, Some, None, Result, Ok, Err, cond, sym, ap, subst, inl, inr, slice_index}
-use Rattle.vm_memory.specs.MemoryMap.{MemoryMap}
-use Rattle.vm_memory.specs.Access.{read, written}
-use Rattle.vm_memory.specs.Fault.{coded}
-use Rattle.vm_stack.specs.StackState.{StackState}
+use Rattle.std.proofs.Common.{◌≡◌, ℕ, Bool, true, false, List, refl, Result, Ok, Err, cond}
 use Rattle.glk_streams.specs.declared.fault.StreamStop.{StreamStop}
 use Rattle.glk_streams.specs.Streams.{StreamTable}
 use Rattle.glk_streams.specs.Laws as slaw
-use Rattle.glk_streams.specs.Output as sout
-use Rattle.glk_windows.specs.Laws as wlaw
-use Rattle.glk_dispatch.specs.Answer.{Desk, Reached, Rule, ◌>>=◌, alone, needs, within}
-use Rattle.glk_dispatch.specs.Fault.{numbered}
-use Rattle.glk_dispatch.specs.Glk.{charged, style_of, window_of}
+use Rattle.glk_dispatch.specs.Answer.{Desk, Reached, ◌>>=◌, alone, needs, within}
+use Rattle.glk_dispatch.specs.Glk.{charged}
 use Rattle.glk_dispatch.specs.Laws.{AreValid, Kept}
-use Rattle.glk_dispatch.specs.Output as out
 use Rattle.glk_dispatch.specs.Reference.{gives, referred, referred_all, refers, refers_all}
 use Rattle.glk_dispatch.specs.Streams.{left, made}
-use Rattle.glk_dispatch.specs.declared.called.Called.{Called}
 use Rattle.glk_dispatch.specs.declared.glk.Glk.{Glk}
-use Rattle.glk_input.specs.Delivery.{width}
 
 -- the Glk state of what a step gives
 abbrev pub first_of : {A : Type 0} → Glk × A → Glk

@@ -1,5 +1,5 @@
 -- The calls of streams and file references keep windows and streams valid.
-use Rattle.std.proofs.Common.{◌≡◌, ℕ, zero, suc, ◌+◌, ◌-◌, ◌%◌, ◌^◌, ◌==◌, ◌||◌, ◌&&◌, not, Bool, true, false, List, [], ◌∷◌, ◌++◌, length, refl, Option, Some, None, Result, Ok, Err, cond}
+use Rattle.std.proofs.Common.{ℕ, zero, suc, ◌+◌, ◌-◌, ◌%◌, ◌^◌, ◌==◌, ◌||◌, ◌&&◌, not, Bool, true, false, List, [], ◌∷◌, ◌++◌, length, Option, Some, None, Ok, cond}
 use Rattle.vm_memory.specs.MemoryMap.{MemoryMap}
 use Rattle.vm_memory.specs.Access.{read}
 use Rattle.vm_memory.specs.Fault.{coded}
@@ -13,7 +13,6 @@ use Rattle.glk_streams.specs.Names.{cleaned, temporary}
 use Rattle.glk_streams.specs.Opening as opening
 use Rattle.glk_streams.specs.Position as place
 use Rattle.glk_streams.specs.Streams as table
-use Rattle.glk_streams.specs.declared.opening.Counts.{Counts}
 use Rattle.glk_dispatch.specs.Answer.{Desk, Reached, ◌>>=◌, within}
 use Rattle.glk_dispatch.specs.FileRefs as names
 use Rattle.glk_dispatch.specs.Glk.{charged, is_ref, is_stream, ref_rock, stream_rock}

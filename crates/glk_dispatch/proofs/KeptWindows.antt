@@ -1,5 +1,5 @@
 -- The calls of windows keep windows and streams valid.
-use Rattle.std.proofs.Common.{◌≡◌, ℕ, zero, suc, ◌+◌, ◌==◌, ◌||◌, ◌&&◌, not, nat_lt, nat_le, Bool, true, false, List, [], ◌∷◌, length, refl, Result, Ok, Err, cond, sym, ap, subst, inl, inr, ◌∙◌, Option, Some, None, arith, ◌<◌, ◌≤◌}
+use Rattle.std.proofs.Common.{◌≡◌, ℕ, zero, suc, ◌+◌, ◌==◌, ◌||◌, ◌&&◌, not, nat_lt, nat_le, Bool, true, false, [], ◌∷◌, length, refl, Result, Ok, Err, cond, sym, subst, inl, inr, ◌∙◌, Option, Some, None, arith, ◌<◌, ◌≤◌}
 use Rattle.glk_numbers.specs.Numbered.{after, has}
 use Rattle.glk_numbers.specs.declared.numbered.TheConstants.{MAX_NUMBER}
 use Rattle.glk_windows.specs.Tree as tree
@@ -15,13 +15,12 @@ use Rattle.glk_streams.specs.Laws as slaw
 use Rattle.glk_streams.specs.Opening as sopen
 use Rattle.glk_streams.specs.Streams.{StreamTable}
 use Rattle.glk_streams.specs.declared.fault.StreamStop.{StreamStop}
-use Rattle.glk_dispatch.specs.Answer.{Desk, Reached, ◌>>=◌, alone, within}
+use Rattle.glk_dispatch.specs.Answer.{Desk, ◌>>=◌, alone, within}
 use Rattle.glk_dispatch.specs.Fault.{numbered}
 use Rattle.glk_dispatch.specs.Glk.{is_stream, is_window, placed, written_to}
 use Rattle.glk_dispatch.specs.Laws.{AreValid, Kept}
 use Rattle.glk_dispatch.specs.Reference.{gives, refers, refers_all}
 use Rattle.glk_dispatch.specs.Windows as rows
-use Rattle.glk_dispatch.specs.declared.called.Called.{Called}
 use Rattle.glk_dispatch.specs.declared.glk.Glk.{Glk}
 use Rattle.glk_dispatch.specs.declared.windows.WindowCall.{WindowCall}
 use Rattle.glk_dispatch.specs.declared.windows.WindowCall.TheVariants as to

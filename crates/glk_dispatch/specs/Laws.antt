@@ -1,5 +1,5 @@
 -- What calls keep valid (own).
-use Rattle.std.specs.Prelude.{◌≡◌, ◌≤◌, ℕ, true, Result, Ok, Err}
+use Rattle.std.specs.Prelude.{◌≡◌, ◌≤◌, ℕ, true, Ok, Err}
 use Rattle.glk_windows.specs.Valid as windows
 use Rattle.glk_streams.specs.Laws as streams
 use Rattle.glk_input.specs.Valid as requests
