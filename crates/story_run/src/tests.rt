@@ -113,6 +113,23 @@ fn input_of(alloc: Global, given: Given<'_>) -> Result<Input, Fail> {
     }
 }
 
+// The world after what is given, whose show is added; what isn't wanted leaves the world.
+fn turn_on<'i, L: Ledger>(
+    alloc: Global,
+    world: World<'i>,
+    given: Given<'_>,
+    steps: &mut Steps<L>,
+    shows: &mut Vec<u8>,
+) -> Result<World<'i>, Fail> {
+    let input = input_of(alloc, given)?;
+    if !world.wants(&input) {
+        return Ok(world);
+    }
+    let world = world.turn(alloc, &input, steps)?;
+    shows.extend_from_slice(world.last())?;
+    Ok(world)
+}
+
 // The shows of a story, one after the other: its opening, and its turns on those of the inputs that
 // it wants.
 fn play<L: Ledger>(
@@ -131,11 +148,7 @@ fn play<L: Ledger>(
     let mut world = World::start(alloc, &story, setup)?;
     let mut shows = Vec::from_slice(alloc, world.last())?;
     for given in inputs {
-        let input = input_of(alloc, *given)?;
-        if world.wants(&input) {
-            world = world.turn(alloc, &input, &mut steps)?;
-            shows.extend_from_slice(world.last())?;
-        }
+        world = turn_on(alloc, world, *given, &mut steps, &mut shows)?;
     }
     Ok(shows)
 }
