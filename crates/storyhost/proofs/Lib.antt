@@ -7,3 +7,4 @@ pub mod SpeechLemmas
 pub mod StoriesLemmas
 pub mod ToldLemmas
 pub mod MemoryLemmas
+pub mod StopLemmas

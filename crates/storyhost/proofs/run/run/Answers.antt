@@ -1,6 +1,7 @@
 use Rattle.std.proofs.Common.{sym, ◌∙◌, ap}
 use Rattle.story_run.specs.Solo.{opening}
 use Rattle.storyhost.proofs.SpeechLemmas.{spoken_nothing, spoken_silent, run_stopped, run_over, run_talked}
+use Rattle.storyhost.proofs.StopLemmas.{stop_is_no_read, stop_is_write}
 use Rattle.storyhost.proofs.run.run.Goals as goal
 
 pub returns-in_default-clause-value : goal.returns-in_default-clause-value
@@ -13,6 +14,14 @@ pub returns-in-Err-clause-value : goal.returns-in-Err-clause-value
 returns-in-Err-clause-value g c =
     rw (← c.in-Some.ensures.value, c.status.ensures)
     (run_stopped c.in-Some.story.now _ _ c.in-Ok.world (c.in-Ok.ensures.value ∙ ap (λ s. opening c.in-Some.story.now.image s) c.alone.ensures) c.in-Err.ensures.err)
+
+pub returns-in-Err-clause-read_fault : goal.returns-in-Err-clause-read_fault
+returns-in-Err-clause-read_fault g c =
+    λ e. stop_is_no_read c.in-Err.stop _ (sym c.status.ensures ∙ e)
+
+pub returns-in-Err-clause-write_fault : goal.returns-in-Err-clause-write_fault
+returns-in-Err-clause-write_fault g c =
+    λ e. stop_is_write c.in-Err.stop _ c.in-Err.ensures.err.rose (sym c.status.ensures ∙ e)
 
 pub returns-then-is_over-clause-value : goal.returns-then-is_over-clause-value
 returns-then-is_over-clause-value g c =
