@@ -36,14 +36,29 @@ fn filters(alloc: Global, machine: &mut Machine<'_>, want: &[u32]) -> bool {
 // the object at 0xA8; and at 0xB0 the string of the character a and that object.
 fn file(code: &[u8], object: &[u8; 8]) -> [u8; 256] {
     let mut file = story(code);
-    file[0x50..0x57].copy_from_slice(b"\xC1\x04\x01\x00\x00\x31\x00");
-    file[0x80..0x98].copy_from_slice(
+    put(&mut file, 0x50, b"\xC1\x04\x01\x00\x00\x31\x00");
+    put(
+        &mut file,
+        0x80,
         b"\0\0\0\x26\0\0\0\x05\0\0\0\x8C\0\0\0\0\x95\0\0\0\x97\x02a\0",
     );
-    file[0x98..0xA8].copy_from_slice(b"\0\0\0\xA0\0\0\0\xA1\x01\x08\0\0\0\xA8\0\0");
-    file[0xA8..0xB0].copy_from_slice(object);
-    file[0xB0..0xB2].copy_from_slice(b"\xE1\x0E");
+    put(
+        &mut file,
+        0x98,
+        b"\0\0\0\xA0\0\0\0\xA1\x01\x08\0\0\0\xA8\0\0",
+    );
+    put(&mut file, 0xA8, object);
+    put(&mut file, 0xB0, b"\xE1\x0E");
     file
+}
+
+// Writes bytes of the file from a place on.
+fn put(file: &mut [u8; 256], at: usize, bytes: &[u8]) {
+    for (i, byte) in bytes.iter().enumerate() {
+        if at < 256 && i < 256 && at + i < 256 {
+            file[at + i] = *byte;
+        }
+    }
 }
 
 // A function that prints b, and a string that does.
