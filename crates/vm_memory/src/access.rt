@@ -10,6 +10,7 @@ use byteorder::{BigEndian, ByteOrder};
 
 impl<'i> Memory<'i> {
     /// The byte at the address; BadRead where it lies past memory's end.
+    #[inline(always)]
     pub fn read1(&self, at: u32) -> Result<u32, MemFault>
         ensures value { result ≡ read 1 self.now at }
         ensures within { OnOk result (at + 1 ≤ MAX_SIZE) }
@@ -23,6 +24,7 @@ impl<'i> Memory<'i> {
     }
 
     /// The number of two bytes at the address; BadRead where it passes memory's end.
+    #[inline(always)]
     pub fn read2(&self, at: u32) -> Result<u32, MemFault>
         ensures value { result ≡ read 2 self.now at }
         ensures within { OnOk result (at + 2 ≤ MAX_SIZE) }
@@ -36,6 +38,7 @@ impl<'i> Memory<'i> {
     }
 
     /// The number of four bytes at the address; BadRead where it passes memory's end.
+    #[inline(always)]
     pub fn read4(&self, at: u32) -> Result<u32, MemFault>
         ensures value { result ≡ read 4 self.now at }
         ensures within { OnOk result (at + 4 ≤ MAX_SIZE) }
@@ -56,6 +59,7 @@ impl<'i> Memory<'i> {
     }
 
     /// Writes the low byte of the value; BadWrite below RAMSTART or past memory's end.
+    #[inline(always)]
     pub fn write1(&mut self, at: u32, value: u32) -> Result<(), MemStop>
         ensures value { Leaves (written 1 self.old at value) self.new result }
         ensures err { OnErr result (self.new ≡ self.old) }
@@ -69,6 +73,7 @@ impl<'i> Memory<'i> {
     }
 
     /// Writes the low two bytes of the value; BadWrite below RAMSTART or past memory's end.
+    #[inline(always)]
     pub fn write2(&mut self, at: u32, value: u32) -> Result<(), MemStop>
         ensures value { Leaves (written 2 self.old at value) self.new result }
         ensures err { OnErr result (self.new ≡ self.old) }
@@ -86,6 +91,7 @@ impl<'i> Memory<'i> {
     }
 
     /// Writes the value's four bytes; BadWrite below RAMSTART or past memory's end.
+    #[inline(always)]
     pub fn write4(&mut self, at: u32, value: u32) -> Result<(), MemStop>
         ensures value { Leaves (written 4 self.old at value) self.new result }
         ensures err { OnErr result (self.new ≡ self.old) }

@@ -4,6 +4,7 @@ ghost use Rattle.std.specs.Prelude.{◌≡◌, ◌≤◌, ◌+◌, ◌-◌, ◌+
 ghost use Rattle.vm_memory.specs.MemoryMap.{replaced};
 
 /// Writes the bytes at the place.
+#[inline(always)]
 pub(crate) fn put(bytes: &mut [u8], at: usize, new: &[u8])
     requires { at + length new.now ≤ length bytes.old }
     ensures { bytes.new ≡ replaced bytes.old at new.now }

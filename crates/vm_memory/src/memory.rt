@@ -104,6 +104,7 @@ impl<'i> Memory<'i> {
     }
 
     /// The address from which on memory can be written.
+    #[inline(always)]
     pub fn ramstart(&self) -> u32
         ensures value { result ≡ self.now.ramstart }
     {

@@ -1,3 +1,4 @@
 pub mod OpcodeLemmas
 pub mod InstructionLemmas
+pub mod BriefLemmas
 mod StandardFacts

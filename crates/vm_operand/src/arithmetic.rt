@@ -34,6 +34,7 @@ fn remainder(left: u32, right: u32) -> Result<u32, OpFault>
 impl Math {
     /// What the opcode gives for its two loads, of which neg and bitnot take the first alone.
     /// DivideByZero and DivideOverflow (-2^31 by -1) come at div and mod alone.
+    #[inline(always)]
     #[tactic(auto, unfolding(crate::specs::Arithmetic::applied))]
     pub fn apply(self, left: u32, right: u32) -> Result<u32, OpFault>
         ensures value { result ≡ applied self left right }

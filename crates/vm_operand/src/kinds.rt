@@ -10,6 +10,7 @@ use crate::operand::Kind::{Load, Store};
 
 impl Op {
     /// Its operands in the order of their bytes, at most eight loads and two stores.
+    #[inline(always)]
     pub fn kinds(self) -> &'static [Kind]
         ensures value { result.now ≡ kinds_of self }
         ensures few { IsFew result.now }

@@ -3,6 +3,7 @@
 
 mod arithmetic;
 mod branches;
+mod brief;
 mod fault;
 mod instruction;
 mod kinds;
@@ -14,6 +15,7 @@ mod tests;
 
 pub use arithmetic::arith;
 pub use branches::holds;
+pub use brief::{Brief, decode_brief};
 pub use fault::OpFault;
 pub use instruction::{Instr, decode};
 pub use opcode::{Array, Branch, Flow, Math, Move, Op, Search, State, Stream, System, Values};

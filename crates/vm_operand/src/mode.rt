@@ -56,6 +56,7 @@ impl Width {
     }
 
     /// A number of so many bytes with its sign carried to four.
+    #[inline(always)]
     pub(crate) fn extend(self, value: u32) -> u32
         requires { value < 256 ^ size self }
         ensures { result ≡ extended self value }

@@ -161,6 +161,7 @@ pub enum Search {
 }
 
 /// The row of the table with this number.
+#[inline(always)]
 #[tactic(auto, unfolding(crate::specs::Opcode::op_of, crate::specs::Opcode::opcodes))]
 fn lookup(number: u32) -> Option<Op>
     ensures value { result ≡ op_of number }
@@ -262,6 +263,7 @@ fn lookup(number: u32) -> Option<Op>
 
 impl Op {
     /// The opcode of a number, or None where the table has none.
+    #[inline(always)]
     pub fn of(number: u32) -> Option<Op>
         ensures value { result ≡ op_of number }
         ensures found { (op : Op) → number_of op ≡ number → result ≡ Some op }

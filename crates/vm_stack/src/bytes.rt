@@ -7,6 +7,7 @@ ghost use Rattle.vm_stack.specs.Locals.{IsWidth};
 use byteorder::{BigEndian, ByteOrder};
 
 // The number at a place, or 0 where its bytes pass the end.
+#[inline(always)]
 pub(crate) fn number(bytes: &[u8], at: usize, width: u32) -> u32
     requires { IsWidth width }
     ensures { result ≡ state.number width bytes.now at }
@@ -22,6 +23,7 @@ pub(crate) fn number(bytes: &[u8], at: usize, width: u32) -> u32
 }
 
 // Puts the bytes after the first of a buffer.
+#[inline(always)]
 pub(crate) fn append(buf: &mut [u8], len: usize, new: &[u8])
     requires { len + length new.now ≤ length buf.old }
     ensures bytes { take (len + length new.now) buf.new ≡ take len buf.old ++ new.now }
@@ -64,6 +66,7 @@ fn rotate_last(bytes: &mut [u8], count: usize, by: usize)
 }
 
 // Puts the bytes in place of those at a place, where they are all among those that stand.
+#[inline(always)]
 pub(crate) fn put(buf: &mut [u8], len: usize, at: usize, new: &[u8])
     requires { len ≤ length buf.old }
     ensures bytes { take len buf.new ≡ state.replaced (take len buf.old) at new.now }
@@ -73,6 +76,7 @@ pub(crate) fn put(buf: &mut [u8], len: usize, at: usize, new: &[u8])
 }
 
 // Puts the bytes in place of those at a place, where they are all inside.
+#[inline(always)]
 fn replace(bytes: &mut [u8], at: usize, new: &[u8])
     ensures bytes { bytes.new ≡ state.replaced bytes.old at new.now }
     ensures size { length bytes.new ≡ length bytes.old }
@@ -84,6 +88,7 @@ fn replace(bytes: &mut [u8], at: usize, new: &[u8])
 }
 
 // Puts the bytes in place of those at a place.
+#[inline(always)]
 fn place(bytes: &mut [u8], at: usize, new: &[u8])
     requires { at + length new.now ≤ length bytes.old }
     ensures bytes { bytes.new

@@ -13,6 +13,7 @@ use crate::stack::Stack;
 impl Stack {
     /// The local of 1, 2 or 4 bytes at an offset from LocalsPos. BadLocal where it passes the
     /// locals' end, their padding counted as locals.
+    #[inline(always)]
     pub fn local(&self, offset: u32, width: u32) -> Result<u32, StackFault>
         requires { locals.IsWidth width }
         ensures { result ≡ locals.local self.now offset width }
@@ -25,6 +26,7 @@ impl Stack {
 
     /// Sets the local of 1, 2 or 4 bytes at an offset from LocalsPos to the low bytes of a value.
     /// BadLocal where it passes the locals' end, their padding counted as locals.
+    #[inline(always)]
     pub fn set_local(&mut self, offset: u32, width: u32, value: u32) -> Result<(), StackFault>
         requires { locals.IsWidth width }
         ensures ok { Leaves (locals.local_set self.old offset width value) self.new result }
@@ -42,6 +44,7 @@ impl Stack {
     }
 
     // How many bytes the locals have, with the padding at their end.
+    #[inline(always)]
     fn locals_len(&self) -> usize
         ensures value { result ≡ state.frame_len self.now - state.locals_pos self.now }
         ensures limit { result < 4294967296 }
@@ -53,6 +56,7 @@ impl Stack {
     }
 
     // Where the locals begin.
+    #[inline(always)]
     fn locals_at(&self) -> usize
         ensures value { result ≡ self.now.frame + state.locals_pos self.now }
         ensures limit { result < 8589934592 }
@@ -61,6 +65,7 @@ impl Stack {
     }
 
     // Puts the low bytes of a number at a place.
+    #[inline(always)]
     fn put_number(&mut self, at: usize, width: u32, value: u32)
         requires { locals.IsWidth width }
         ensures { self.new ≡ record self.old {

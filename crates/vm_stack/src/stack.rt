@@ -50,6 +50,7 @@ impl Stack {
     }
 
     /// How many bytes stand (the Glulx StackPtr).
+    #[inline(always)]
     pub fn length(&self) -> u32
         ensures { result ≡ length self.now.bytes }
     {
@@ -57,6 +58,7 @@ impl Stack {
     }
 
     // The bytes that stand.
+    #[inline(always)]
     pub(crate) fn live(&self) -> &[u8]
         ensures bytes { result.now ≡ self.now.bytes }
         ensures limit { length self.now.bytes ≤ MAX_STACK }
@@ -73,6 +75,7 @@ impl Stack {
     }
 
     /// Where the current frame begins (the Glulx FramePtr), 0 where there is none.
+    #[inline(always)]
     pub fn frame(&self) -> u32
         ensures { result ≡ self.now.frame }
     {
@@ -80,6 +83,7 @@ impl Stack {
     }
 
     // Whether so many bytes are free.
+    #[inline(always)]
     pub(crate) fn has_room(&self, count: u64) -> bool
         ensures value { result ≡ nat_le (length self.now.bytes + count) self.now.limit }
         ensures within { result ≡ true → length self.now.bytes + count ≤ MAX_STACK }
@@ -89,6 +93,7 @@ impl Stack {
     }
 
     // How many bytes the values of the current frame have.
+    #[inline(always)]
     pub(crate) fn value_bytes(&self) -> usize
         ensures value { result ≡ state.value_bytes self.now }
         ensures within { result ≤ length self.now.bytes }
@@ -100,6 +105,7 @@ impl Stack {
     }
 
     // Puts the bytes on top.
+    #[inline(always)]
     pub(crate) fn add(&mut self, new: &[u8])
         requires { length self.old.bytes + length new.now ≤ self.old.limit }
         ensures { self.new ≡ record self.old { bytes = self.old.bytes ++ new.now } }
@@ -118,6 +124,7 @@ impl Stack {
     }
 
     // Drops the bytes on top.
+    #[inline(always)]
     pub(crate) fn shrink(&mut self, count: usize)
         requires { count ≤ length self.old.bytes }
         ensures { self.new ≡ values.without self.old count }
@@ -147,6 +154,7 @@ impl Stack {
     }
 
     // Puts the bytes in place of those at a place.
+    #[inline(always)]
     pub(crate) fn replace(&mut self, at: usize, new: &[u8])
         ensures { self.new ≡ record self.old { bytes = state.replaced self.old.bytes at new.now } }
     {

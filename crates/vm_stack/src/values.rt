@@ -10,6 +10,7 @@ use crate::stack::{MAX_STACK, Stack};
 
 impl Stack {
     /// Pushes a value of four bytes. Overflow where fewer than four bytes are free.
+    #[inline(always)]
     pub fn push(&mut self, value: u32) -> Result<(), StackFault>
         ensures ok { Leaves (values.pushed self.old value) self.new result }
         ensures err { OnErr result (self.new ≡ self.old) }
@@ -27,6 +28,7 @@ impl Stack {
     }
 
     /// Pops the value on top. Underflow where the current frame holds none.
+    #[inline(always)]
     pub fn pop(&mut self) -> Result<u32, StackFault>
         ensures ok { Gives (values.popped self.old) self.new result }
         ensures err { OnErr result (self.new ≡ self.old) }

@@ -1,0 +1,309 @@
+//! Instructions in brief: those of at most four loads and then at most one store.
+
+ghost use Rattle.std.specs.Prelude.{◌≡◌, ◌≤◌, ◌+◌, ◌%◌, ◌^◌, [], ◌∷◌, Ok, IfOk};
+ghost use Rattle.vm_operand.specs.Brief as spec;
+ghost use Rattle.vm_operand.specs.Brief.{instr_of, operands_from};
+ghost use Rattle.vm_operand.specs.Instruction.{instruction_at};
+ghost use Rattle.vm_operand.specs.Opcode.{kinds_of, number_of};
+ghost use Rattle.vm_operand.specs.declared.operand.Kind.TheVariants as kind;
+
+use crate::OpFault;
+use crate::instruction::number_at;
+use crate::mode::Width;
+use crate::opcode::Op;
+use crate::operand::{Dest, Kind, Load};
+use vm_memory::Memory;
+
+/// An instruction of at most four loads and then at most one store: its opcode, its operands, of
+/// which those from the counts on are Value(0) and Discard, and the next address.
+#[derive(Clone, Copy, Debug, PartialEq, Eq)]
+pub struct Brief {
+    pub op: Op,
+    pub loads: u32,
+    pub first: Load,
+    pub second: Load,
+    pub third: Load,
+    pub fourth: Load,
+    pub stores: u32,
+    pub to: Dest,
+    pub next: u32,
+}
+
+// A load by the number of its mode, and the place after its bytes.
+#[inline(always)]
+#[tactic(auto, unfolding(crate::specs::Mode::mode_of, crate::specs::Mode::modes, crate::specs::Instruction::load_at))]
+fn load_by(memory: &Memory<'_>, number: u32, at: u32) -> Result<(Load, u32), OpFault>
+    ensures { IfOk result (λ x. spec.load_by memory.now number at ≡ Ok x) }
+{
+    Ok(match number {
+        0 => (Load::Value(0), at),
+        1 => (Load::Value(Width::One.extend(memory.read1(at)?)), at + 1),
+        2 => (Load::Value(Width::Two.extend(memory.read2(at)?)), at + 2),
+        3 => (Load::Value(memory.read4(at)?), at + 4),
+        5 => (Load::At(memory.read1(at)?), at + 1),
+        6 => (Load::At(memory.read2(at)?), at + 2),
+        7 => (Load::At(memory.read4(at)?), at + 4),
+        8 => (Load::Pop, at),
+        9 => (Load::Local(memory.read1(at)?), at + 1),
+        10 => (Load::Local(memory.read2(at)?), at + 2),
+        11 => (Load::Local(memory.read4(at)?), at + 4),
+        13 => (Load::At(in_ram(memory, memory.read1(at)?)), at + 1),
+        14 => (Load::At(in_ram(memory, memory.read2(at)?)), at + 2),
+        15 => (Load::At(in_ram(memory, memory.read4(at)?)), at + 4),
+        _ => return Err(OpFault::BadMode(number)),
+    })
+}
+
+// A store by the number of its mode, and the place after its bytes.
+#[inline(always)]
+#[tactic(auto, unfolding(crate::specs::Mode::mode_of, crate::specs::Mode::modes, crate::specs::Instruction::dest_at))]
+fn dest_by(memory: &Memory<'_>, number: u32, at: u32) -> Result<(Dest, u32), OpFault>
+    ensures { IfOk result (λ x. spec.dest_by memory.now number at ≡ Ok x) }
+{
+    Ok(match number {
+        0 => (Dest::Discard, at),
+        5 => (Dest::At(memory.read1(at)?), at + 1),
+        6 => (Dest::At(memory.read2(at)?), at + 2),
+        7 => (Dest::At(memory.read4(at)?), at + 4),
+        8 => (Dest::Push, at),
+        9 => (Dest::Local(memory.read1(at)?), at + 1),
+        10 => (Dest::Local(memory.read2(at)?), at + 2),
+        11 => (Dest::Local(memory.read4(at)?), at + 4),
+        13 => (Dest::At(in_ram(memory, memory.read1(at)?)), at + 1),
+        14 => (Dest::At(in_ram(memory, memory.read2(at)?)), at + 2),
+        15 => (Dest::At(in_ram(memory, memory.read4(at)?)), at + 4),
+        _ => return Err(OpFault::BadMode(number)),
+    })
+}
+
+// The address of an offset from RAMSTART.
+#[inline(always)]
+fn in_ram(memory: &Memory<'_>, offset: u32) -> u32
+    ensures { result ≡ (memory.now.ramstart + offset) % 2 ^ 32 }
+{
+    memory.ramstart().wrapping_add(offset)
+}
+
+// One load.
+#[inline(always)]
+fn one(memory: &Memory<'_>, op: Op, place: u32) -> Result<Brief, OpFault>
+    requires { place ≤ 16777216 }
+    ensures value { IfOk result (λ b.
+        operands_from memory.now (number_of op)
+        (kind.Load ∷ []) place ≡ Ok (instr_of b)) }
+    ensures few { IfOk result (λ b. b.loads ≡ 1) }
+{
+    let modes = memory.read1(place)?;
+    let (first, at) = load_by(memory, modes % 16, place + 1)?;
+    Ok(Brief {
+        op,
+        loads: 1,
+        first,
+        second: Load::Value(0),
+        third: Load::Value(0),
+        fourth: Load::Value(0),
+        stores: 0,
+        to: Dest::Discard,
+        next: at,
+    })
+}
+
+// One load and a store.
+#[inline(always)]
+fn one_and_store(memory: &Memory<'_>, op: Op, place: u32) -> Result<Brief, OpFault>
+    requires { place ≤ 16777216 }
+    ensures value { IfOk result (λ b.
+        operands_from memory.now (number_of op)
+        (kind.Load ∷ kind.Store ∷ []) place ≡ Ok (instr_of b)) }
+    ensures few { IfOk result (λ b. b.loads ≡ 1) }
+{
+    let modes = memory.read1(place)?;
+    let (first, at) = load_by(memory, modes % 16, place + 1)?;
+    let (to, at) = dest_by(memory, modes / 16, at)?;
+    Ok(Brief {
+        op,
+        loads: 1,
+        first,
+        second: Load::Value(0),
+        third: Load::Value(0),
+        fourth: Load::Value(0),
+        stores: 1,
+        to,
+        next: at,
+    })
+}
+
+// Two loads.
+#[inline(always)]
+fn two(memory: &Memory<'_>, op: Op, place: u32) -> Result<Brief, OpFault>
+    requires { place ≤ 16777216 }
+    ensures value { IfOk result (λ b.
+        operands_from memory.now (number_of op)
+        (kind.Load ∷ kind.Load ∷ []) place ≡ Ok (instr_of b)) }
+    ensures few { IfOk result (λ b. b.loads ≡ 2) }
+{
+    let modes = memory.read1(place)?;
+    let (first, at) = load_by(memory, modes % 16, place + 1)?;
+    let (second, at) = load_by(memory, modes / 16, at)?;
+    Ok(Brief {
+        op,
+        loads: 2,
+        first,
+        second,
+        third: Load::Value(0),
+        fourth: Load::Value(0),
+        stores: 0,
+        to: Dest::Discard,
+        next: at,
+    })
+}
+
+// Two loads and a store.
+#[inline(always)]
+fn two_and_store(memory: &Memory<'_>, op: Op, place: u32) -> Result<Brief, OpFault>
+    requires { place ≤ 16777216 }
+    ensures value { IfOk result (λ b.
+        operands_from memory.now (number_of op)
+        (kind.Load ∷ kind.Load ∷ kind.Store ∷ []) place ≡ Ok (instr_of b)) }
+    ensures few { IfOk result (λ b. b.loads ≡ 2) }
+{
+    let modes = memory.read1(place)?;
+    let more = memory.read1(place + 1)?;
+    let (first, at) = load_by(memory, modes % 16, place + 2)?;
+    let (second, at) = load_by(memory, modes / 16, at)?;
+    let (to, at) = dest_by(memory, more % 16, at)?;
+    Ok(Brief {
+        op,
+        loads: 2,
+        first,
+        second,
+        third: Load::Value(0),
+        fourth: Load::Value(0),
+        stores: 1,
+        to,
+        next: at,
+    })
+}
+
+// Three loads.
+#[inline(always)]
+fn three(memory: &Memory<'_>, op: Op, place: u32) -> Result<Brief, OpFault>
+    requires { place ≤ 16777216 }
+    ensures value { IfOk result (λ b.
+        operands_from memory.now (number_of op)
+        (kind.Load ∷ kind.Load ∷ kind.Load ∷ []) place ≡ Ok (instr_of b)) }
+    ensures few { IfOk result (λ b. b.loads ≡ 3) }
+{
+    let modes = memory.read1(place)?;
+    let more = memory.read1(place + 1)?;
+    let (first, at) = load_by(memory, modes % 16, place + 2)?;
+    let (second, at) = load_by(memory, modes / 16, at)?;
+    let (third, at) = load_by(memory, more % 16, at)?;
+    Ok(Brief {
+        op,
+        loads: 3,
+        first,
+        second,
+        third,
+        fourth: Load::Value(0),
+        stores: 0,
+        to: Dest::Discard,
+        next: at,
+    })
+}
+
+// Three loads and a store.
+#[inline(always)]
+fn three_and_store(memory: &Memory<'_>, op: Op, place: u32) -> Result<Brief, OpFault>
+    requires { place ≤ 16777216 }
+    ensures value { IfOk result (λ b.
+        operands_from memory.now (number_of op)
+        (kind.Load ∷ kind.Load ∷ kind.Load ∷ kind.Store ∷ []) place ≡ Ok (instr_of b)) }
+    ensures few { IfOk result (λ b. b.loads ≡ 3) }
+{
+    let modes = memory.read1(place)?;
+    let more = memory.read1(place + 1)?;
+    let (first, at) = load_by(memory, modes % 16, place + 2)?;
+    let (second, at) = load_by(memory, modes / 16, at)?;
+    let (third, at) = load_by(memory, more % 16, at)?;
+    let (to, at) = dest_by(memory, more / 16, at)?;
+    Ok(Brief {
+        op,
+        loads: 3,
+        first,
+        second,
+        third,
+        fourth: Load::Value(0),
+        stores: 1,
+        to,
+        next: at,
+    })
+}
+
+// Four loads and a store.
+#[inline(always)]
+fn four_and_store(memory: &Memory<'_>, op: Op, place: u32) -> Result<Brief, OpFault>
+    requires { place ≤ 16777216 }
+    ensures value { IfOk result (λ b.
+        operands_from memory.now (number_of op)
+        (kind.Load ∷ kind.Load ∷ kind.Load ∷ kind.Load ∷ kind.Store ∷ []) place ≡ Ok (instr_of b)) }
+    ensures few { IfOk result (λ b. b.loads ≡ 4) }
+{
+    let modes = memory.read1(place)?;
+    let more = memory.read1(place + 1)?;
+    let last = memory.read1(place + 2)?;
+    let (first, at) = load_by(memory, modes % 16, place + 3)?;
+    let (second, at) = load_by(memory, modes / 16, at)?;
+    let (third, at) = load_by(memory, more % 16, at)?;
+    let (fourth, at) = load_by(memory, more / 16, at)?;
+    let (to, at) = dest_by(memory, last % 16, at)?;
+    Ok(Brief {
+        op,
+        loads: 4,
+        first,
+        second,
+        third,
+        fourth,
+        stores: 1,
+        to,
+        next: at,
+    })
+}
+
+// The instruction of an opcode, whose operands' modes begin at a place.
+#[inline(always)]
+fn operands_of(memory: &Memory<'_>, op: Op, place: u32) -> Result<Brief, OpFault>
+    requires { place ≤ 16777216 }
+    ensures value { IfOk result (λ b.
+        operands_from memory.now (number_of op) (kinds_of op) place ≡ Ok (instr_of b)) }
+    ensures some { IfOk result (λ b. 1 ≤ b.loads) }
+    ensures few { IfOk result (λ b. b.loads ≤ 4) }
+{
+    match op.kinds() {
+        [Kind::Load, Kind::Load, Kind::Store] => two_and_store(memory, op, place),
+        [Kind::Load, Kind::Load] => two(memory, op, place),
+        [Kind::Load, Kind::Load, Kind::Load] => three(memory, op, place),
+        [Kind::Load, Kind::Store] => one_and_store(memory, op, place),
+        [Kind::Load] => one(memory, op, place),
+        [Kind::Load, Kind::Load, Kind::Load, Kind::Store] => three_and_store(memory, op, place),
+        [Kind::Load, Kind::Load, Kind::Load, Kind::Load, Kind::Store] => four_and_store(
+            memory, op, place,
+        ),
+        _ => Err(OpFault::BadMode(0)),
+    }
+}
+
+/// The instruction at the address where it is one in brief and all of it can be read. What else
+/// is there is for `decode`.
+#[inline(always)]
+pub fn decode_brief(memory: &Memory<'_>, at: u32) -> Result<Brief, OpFault>
+    ensures value { IfOk result (λ b. instruction_at memory.now at ≡ Ok (instr_of b)) }
+    ensures some { IfOk result (λ b. 1 ≤ b.loads) }
+    ensures few { IfOk result (λ b. b.loads ≤ 4) }
+{
+    let (number, place) = number_at(memory, at)?;
+    match Op::of(number) {
+        Some(op) => operands_of(memory, op, place),
+        None => Err(OpFault::BadOpcode(number)),
+    }
+}
