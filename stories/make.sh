@@ -1,0 +1,10 @@
+#!/usr/bin/env bash
+# Compiles the stories for Glulx. Wants, on Debian:
+#     apt-get update; apt-get install -y --no-install-recommends inform6-compiler inform6-library
+# The library there lacks infglk.h; ours, beside this script, has the calls that it names.
+set -eu
+cd "$(dirname "$0")"
+library=${INFORM_LIBRARY:-/usr/share/inform6/library}
+for name in cottage mill; do
+    inform6 -G -w '$OMIT_UNUSED_ROUTINES=1' "+include_path=$PWD,$library" "$name.inf" "$name.ulx"
+done
