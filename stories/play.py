@@ -1,0 +1,167 @@
+#!/usr/bin/env python3
+"""Plays moves through `storyhost run` and writes the text of the story's main window.
+
+usage: play.py STORY MOVES [--host PROGRAM] [--budget N] [--shows]
+
+MOVES has one move a line; a blank line or one that begins with # is none. A move is given as the
+story waits: as a line, as a file's name, or as a character. {Return}, {Up}, {Down}, {Escape} and
+{Space} name characters, {empty} is a line or name of no characters. With --shows the shows are
+written as they come, in place of the text.
+"""
+import argparse
+import os
+import subprocess
+import sys
+
+HOST = os.path.join(os.path.dirname(os.path.abspath(__file__)), "../crates/storyhost/out/storyhost")
+KEYS = {"{Return}": 0xFFFFFFFA, "{Up}": 0xFFFFFFFC, "{Down}": 0xFFFFFFFB,
+        "{Escape}": 0xFFFFFFF8, "{Space}": 32}
+
+
+def unescaped(text):
+    """The characters of a text of a show, which begins with =."""
+    out, at, data = bytearray(), 1, text.encode()
+    while at < len(data):
+        if data[at] == ord("%"):
+            out.append(int(data[at + 1 : at + 3], 16))
+            at += 3
+        else:
+            out.append(data[at])
+            at += 1
+    return out.decode("utf-8")
+
+
+def escaped(text):
+    """The text as a line's last word."""
+    return "=" + "".join(
+        chr(code) if 0x20 < code < 0x7F and code != 0x25 else f"%{code:02X}"
+        for code in text.encode("utf-8"))
+
+
+def read_moves(name):
+    with open(name, encoding="utf-8") as file:
+        lines = [line.rstrip("\n") for line in file]
+    return [line for line in lines if line.strip() and not line.startswith("#")]
+
+
+class Window:
+    def __init__(self, kind, x, y, width, height):
+        self.kind, self.x, self.y, self.width, self.height = kind, x, y, width, height
+        self.text = ""      # of a buffer, since it was cleared
+        self.rows = {}      # of a grid
+
+
+class Host:
+    """A story in `storyhost run`: its windows, the main window's text, and what it waits for."""
+
+    def __init__(self, story, program=HOST, budget=None, shows=None):
+        words = [program, "run", story] + (["--budget", str(budget)] if budget else [])
+        self.process = subprocess.Popen(words, stdin=subprocess.PIPE, stdout=subprocess.PIPE)
+        self.shows, self.windows, self.main = shows, {}, None
+        self.text = ""      # all that the main window was given, cleared or not
+        self.waits, self.ended, self.usage = [], None, None
+        self.read_show()
+
+    def read_show(self):
+        seen, waits, touched = {}, [], False
+        for data in self.process.stdout:
+            line = data.decode().rstrip("\n")
+            if self.shows:
+                print(line, file=self.shows)
+            if line == ".":
+                break
+            word, *rest = line.split(" ")
+            if word == "W":
+                number, kind, *place = map(int, rest)
+                old = self.windows.get(number)
+                window = Window(kind, *place)
+                if old:
+                    window.text = old.text
+                seen[number] = window
+                touched = True
+                if self.main is None and kind == 3:
+                    self.main = number
+            elif word == "C":
+                seen[int(rest[0])].text = ""
+            elif word == "T":
+                text = unescaped(rest[2])
+                seen[int(rest[0])].text += text
+                if int(rest[0]) == self.main:
+                    self.text += text
+            elif word == "G":
+                seen[int(rest[0])].rows[int(rest[1])] = unescaped(rest[2])
+            elif word == "E":
+                self.ended = " ".join(rest)
+            elif word in ("I", "P"):
+                waits.append((word, *rest))
+            else:
+                raise SystemExit(f"the host answered {line}")
+        else:
+            self.finish()
+            self.ended = self.ended or "no more output"
+        if touched or not self.ended:
+            self.windows = seen
+        self.waits = waits
+
+    def wanted(self):
+        """P where a file's name is wanted, else char or line, and the window."""
+        if self.waits and self.waits[0][0] == "P":
+            return "P", 0
+        return (self.waits[0][2], int(self.waits[0][1])) if self.waits else (None, 0)
+
+    def give(self, move):
+        kind, window = self.wanted()
+        move = "" if move == "{empty}" and kind != "char" else move
+        if kind == "P":
+            line = "FILE " + escaped(move)
+        elif kind == "line":
+            line = f"LINE {window} " + escaped(move)
+        else:
+            line = f"CHAR {window} {KEYS.get(move) or ord(move[0])}"
+        if self.shows:
+            print("<", line, file=self.shows)
+        self.process.stdin.write(line.encode() + b"\n")
+        self.process.stdin.flush()
+        self.read_show()
+
+    def finish(self):
+        """Ends the input, and keeps what the program used."""
+        if self.usage is None:
+            self.process.stdin.close()
+            _, self.status, self.usage = os.wait4(self.process.pid, 0)
+            self.process.returncode = os.waitstatus_to_exitcode(self.status)
+
+
+def play(host, moves):
+    """Gives the moves, and returns those that came after the end."""
+    for at, move in enumerate(moves):
+        if host.ended:
+            return moves[at:]
+        host.give(move)
+    return []
+
+
+def main():
+    words = argparse.ArgumentParser(usage=__doc__)
+    words.add_argument("story")
+    words.add_argument("moves")
+    words.add_argument("--host", default=HOST)
+    words.add_argument("--budget", type=int)
+    words.add_argument("--shows", action="store_true")
+    given = words.parse_args()
+    host = Host(given.story, given.host, given.budget, sys.stdout if given.shows else None)
+    left = play(host, read_moves(given.moves))
+    host.finish()
+    if not given.shows:
+        print(host.text.rstrip("\n"))
+    if host.ended != "quit":
+        print(f"play.py: the story ended as {host.ended}" if host.ended else
+              "play.py: the story waits for more", file=sys.stderr)
+        return 1
+    if left:
+        print(f"play.py: {len(left)} moves came after the end", file=sys.stderr)
+    return 0
+
+
+if __name__ == "__main__":
+    sys.exit(main())
