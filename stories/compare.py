@@ -16,7 +16,7 @@ import re
 import sys
 import tempfile
 
-from play import HOST, Host, read_moves
+from play import CLEARED, HOST, Host, read_moves
 from terminal import Program
 
 COLUMNS, ROWS = 80, 24
@@ -55,6 +55,8 @@ class Glulxe:
     def give(self, kind, move):
         move = "" if move == "{empty}" and kind != "char" else move
         self.type(TYPED.get(move, move[:1]) if kind == "char" else move + "\r")
+        if kind == "P" and self.message().startswith("Overwrite"):
+            self.type("y")
 
     def rows(self, window):
         return self.program.screen.region(window.x, window.y, window.width, window.height)
@@ -95,21 +97,29 @@ def agree(host, other):
 
 
 def compared_transcript(host, file):
-    """Compares a transcript with the part of the main window's text that it is."""
+    """Compares a transcript with the part of the main window's text that it is.
+
+    Where the window was cleared the host doesn't show what was printed before in that turn, so
+    there any characters of the transcript are passed over.
+    """
     with open(file, encoding="latin-1", newline="") as it:
-        theirs = it.read()
-    theirs = named(theirs)
-    ours = named("".join(code if ord(code) < 256 else "?" for code in host.text))
-    start = ours.find("Start of a transcript")
-    if start < 0:
-        return "the host's text has no transcript"
-    ours = ours[start : start + len(theirs)]
-    if ours == theirs:
-        print(f"transcript: {len(theirs)} characters, all equal")
+        theirs = named(it.read())
+    if not theirs.startswith("Start of a transcript"):
         return None
-    at = next((k for k, (a, b) in enumerate(zip(ours, theirs)) if a != b), min(len(ours), len(theirs)))
-    return (f"transcript, character {at}:\n  host   |{ours[max(at - 40, 0) : at + 40]!r}|\n"
-            f"  glulxe |{theirs[max(at - 40, 0) : at + 40]!r}|")
+    ours = named("".join(code if ord(code) < 256 else "?" for code in host.text))
+    ours = ours[max(ours.find("Start of a transcript"), 0) :]
+    at = count = 0
+    for part, piece in enumerate(ours.split(CLEARED)):
+        start = theirs.find(piece[:40], at) if part else 0
+        same = os.path.commonprefix([piece, theirs[start:]]) if start >= 0 else ""
+        at, count = max(start, 0) + len(same), count + len(same)
+        if at == len(theirs):
+            break
+        if same != piece:
+            return (f"transcript, character {at}:\n  host   |{piece[len(same):][:60]!r}|\n"
+                    f"  glulxe |{theirs[at:][:60]!r}|")
+    print(f"transcript: {count} of {len(theirs)} characters compared, all equal")
+    return None
 
 
 def main():

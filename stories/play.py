@@ -44,6 +44,10 @@ def read_moves(name):
     return [line for line in lines if line.strip() and not line.startswith("#")]
 
 
+# In the main window's text: what was printed in that turn before it was cleared isn't shown.
+CLEARED = "\f"
+
+
 class Window:
     def __init__(self, kind, x, y, width, height):
         self.kind, self.x, self.y, self.width, self.height = kind, x, y, width, height
@@ -58,7 +62,7 @@ class Host:
         words = [program, "run", story] + (["--budget", str(budget)] if budget else [])
         self.process = subprocess.Popen(words, stdin=subprocess.PIPE, stdout=subprocess.PIPE)
         self.shows, self.windows, self.main = shows, {}, None
-        self.text = ""      # all that the main window was given, cleared or not
+        self.text = ""      # all that the main window was given, CLEARED where it was cleared
         self.waits, self.ended, self.usage = [], None, None
         self.read_show()
 
@@ -83,6 +87,8 @@ class Host:
                     self.main = number
             elif word == "C":
                 seen[int(rest[0])].text = ""
+                if int(rest[0]) == self.main:
+                    self.text += CLEARED
             elif word == "T":
                 text = unescaped(rest[2])
                 seen[int(rest[0])].text += text
@@ -153,7 +159,7 @@ def main():
     left = play(host, read_moves(given.moves))
     host.finish()
     if not given.shows:
-        print(host.text.rstrip("\n"))
+        print(host.text.replace(CLEARED, "\n----\n").strip("\n"))
     if host.ended != "quit":
         print(f"play.py: the story ended as {host.ended}" if host.ended else
               "play.py: the story waits for more", file=sys.stderr)
