@@ -153,7 +153,7 @@ def main():
     host.finish()
     if not other.program.over:
         other.type(" ")
-    other.program.stop()
+    other.program.finish()
     for name in sorted(os.listdir(folder)):
         if name.endswith(".txt"):
             text = compared_transcript(host, os.path.join(folder, name))

@@ -6,11 +6,9 @@ import codecs
 import fcntl
 import os
 import pty
-import resource
 import select
 import struct
 import termios
-import time
 
 
 class Screen:
@@ -123,12 +121,12 @@ class Program:
         self.screen.feed(data)
         return True
 
-    def settle(self):
+    def settle(self, pause=0.01):
         """Reads until the program sleeps and has nothing more to say, or is over."""
         still = 0
         while not self.over and still < 3:
             asleep = self.state() in "SZ"
-            still = 0 if self.read(0.01) or not asleep else still + 1
+            still = 0 if self.read(pause) or not asleep else still + 1
 
     def send(self, text):
         if not self.over:
@@ -141,9 +139,12 @@ class Program:
             os.close(self.end)
             self.usage = os.wait4(self.number, 0)[2]
 
-    def stop(self):
-        """Hangs up where the program isn't over yet."""
-        deadline = time.time() + 5
-        if not self.over:
-            self.finish()
-        return time.time() < deadline
+    def peak(self):
+        """The most memory that it held, in kilobytes."""
+        return peak_of(self.number)
+
+
+def peak_of(number):
+    """The most memory that a process held, in kilobytes, as the kernel tells while it is there."""
+    with open(f"/proc/{number}/status") as file:
+        return next(int(line.split()[1]) for line in file if line.startswith("VmHWM"))
