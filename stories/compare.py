@@ -1,7 +1,7 @@
 #!/usr/bin/env python3
 """Plays the same moves in storyhost and in glulxe, side by side, and compares what both show.
 
-usage: compare.py STORY MOVES [--host PROGRAM] [--glulxe PROGRAM] [--transcript FILE] [--keep]
+usage: compare.py STORY MOVES [--host PROGRAM] [--glulxe PROGRAM] [--keep]
 
 Wants `apt-get install -y --no-install-recommends glulxe`. At each wait every window of the host's
 show is compared with its rectangle of glulxe's screen of 80 by 24: a grid cell by cell, a buffer by
@@ -20,7 +20,9 @@ from play import CLEARED, HOST, Host, read_moves
 from terminal import Program
 
 COLUMNS, ROWS = 80, 24
-PAGE_DOWN = "\x16"      # to glulxe's Glk library; it does nothing at the end of a text
+# Keys of glulxe's Glk library: the screen drawn anew, the next page (nothing at a text's end), and
+# the line that was begun taken away.
+REDRAW, PAGE_DOWN, TAKE_AWAY = "\x0c", "\x16", "\x15"
 TYPED = {"{Return}": "\r", "{Space}": " ", "{Escape}": "\x1b", "{Up}": "\x1bA", "{Down}": "\x1bB"}
 
 
@@ -52,7 +54,10 @@ class Glulxe:
         self.program.send(text)
         self.program.settle()
 
-    def give(self, kind, move):
+    def give(self, kind, move, begun=""):
+        """Types a move, after a line that the story began was taken away."""
+        if begun:
+            self.type(TAKE_AWAY)
         move = "" if move == "{empty}" and kind != "char" else move
         self.type(TYPED.get(move, move[:1]) if kind == "char" else move + "\r")
         if kind == "P" and self.message().startswith("Overwrite"):
@@ -74,8 +79,9 @@ def differences(host, other):
                     found.append(f"window {number}, row {row}:\n  host   |{ours}|\n"
                                  f"  glulxe |{rows[row]}|")
         elif window.kind == 3:
-            ours, theirs = solid(window.text), solid("".join(rows))
             at_end = number == host.wanted()[1]
+            begun = host.begun() if at_end else ""
+            ours, theirs = solid(window.text + begun), solid("".join(rows))
             if not (ours.endswith(theirs) if at_end else theirs in ours):
                 end = ours[-len(theirs) :] if theirs else ours
                 at = next((k for k in range(1, len(theirs) + 1)
@@ -86,12 +92,12 @@ def differences(host, other):
 
 
 def agree(host, other):
-    """Turns glulxe's pages until all windows agree; returns the differences that stay."""
+    """Redraws glulxe's screen and turns its pages until all agree; returns what differs still."""
     found = differences(host, other)
-    for _ in range(8):
+    for key in [REDRAW] + 8 * [PAGE_DOWN]:
         if not found or host.ended:
             return found
-        other.type(PAGE_DOWN)
+        other.type(key)
         found = differences(host, other)
     return found
 
@@ -138,9 +144,9 @@ def main():
         if turn:
             if host.ended:
                 break
-            kind = host.wanted()[0]
+            kind, begun = host.wanted()[0], host.begun()
             host.give(move)
-            other.give(kind, move)
+            other.give(kind, move, begun)
         waits += 1
         for text in agree(host, other):
             bad += 1

@@ -5,6 +5,6 @@
 set -eu
 cd "$(dirname "$0")"
 library=${INFORM_LIBRARY:-/usr/share/inform6/library}
-for name in cottage mill; do
+for name in cottage mill workbench; do
     inform6 -G -w '$OMIT_UNUSED_ROUTINES=1' "+include_path=$PWD,$library" "$name.inf" "$name.ulx"
 done

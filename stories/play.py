@@ -115,6 +115,10 @@ class Host:
             return "P", 0
         return (self.waits[0][2], int(self.waits[0][1])) if self.waits else (None, 0)
 
+    def begun(self):
+        """The line that the story began for the player, where a line is wanted."""
+        return unescaped(self.waits[0][4]) if self.wanted()[0] == "line" else ""
+
     def give(self, move):
         kind, window = self.wanted()
         move = "" if move == "{empty}" and kind != "char" else move
