@@ -26,7 +26,7 @@ REDRAW, PAGE_DOWN, TAKE_AWAY = "\x0c", "\x16", "\x15"
 TYPED = {"{Return}": "\r", "{Space}": " ", "{Escape}": "\x1b", "{Up}": "\x1bA", "{Down}": "\x1bB"}
 
 
-# What each interpreter says of itself: docs/PROFILE.md, "What the machine says of itself".
+# What an interpreter says of itself: docs/PROFILE.md has what gestalt tells.
 OWN_NAME = re.compile(r"Interpreter ?version ?[0-9.]+ ?/ ?VM ?[0-9.]+ ?/")
 
 

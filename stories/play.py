@@ -1,12 +1,13 @@
 #!/usr/bin/env python3
 """Plays moves through `storyhost run` and writes the text of the story's main window.
 
-usage: play.py STORY MOVES [--host PROGRAM] [--budget N] [--shows]
+usage: play.py STORY [MOVES] [--host PROGRAM] [--budget N] [--shows]
 
-MOVES has one move a line; a blank line or one that begins with # is none. A move is given as the
-story waits: as a line, as a file's name, or as a character. {Return}, {Up}, {Down}, {Escape} and
-{Space} name characters, {empty} is a line or name of no characters. With --shows the shows are
-written as they come, in place of the text.
+With no MOVES you play: each line that you type is a move, and other windows are shown too, before
+the prompt. MOVES is a file with one move a line; a blank line or one that begins with # is none. A
+move is given as the story waits: as a line, as a file's name, or as a character. {Return}, {Up},
+{Down}, {Escape} and {Space} name characters, {empty} is a line or name of no characters. With
+--shows the shows are written as they come, in place of the text.
 """
 import argparse
 import os
@@ -127,7 +128,7 @@ class Host:
         elif kind == "line":
             line = f"LINE {window} " + escaped(move)
         else:
-            line = f"CHAR {window} {KEYS.get(move) or ord(move[0])}"
+            line = f"CHAR {window} {KEYS.get(move) or ord((move + ' ')[0])}"
         if self.shows:
             print("<", line, file=self.shows)
         self.process.stdin.write(line.encode() + b"\n")
@@ -151,15 +152,47 @@ def play(host, moves):
     return []
 
 
+def told(host, before):
+    """Writes what came since: the other windows where they changed, and the main window's text."""
+    for number, window in sorted(host.windows.items()):
+        rows = [window.rows[row].rstrip() for row in sorted(window.rows)]
+        text = "\n".join(rows) if window.kind == 4 else window.text
+        if number != host.main and text.strip() and before.get(number) != text:
+            print("\n" + "\n".join("    | " + line for line in text.split("\n")))
+        before[number] = text
+    print(host.text[before.get("told", 0) :].replace(CLEARED, "\n"), end="", flush=True)
+    before["told"] = len(host.text)
+    if host.wanted()[0] == "P":
+        print("\nThe name of a file: ", end="", flush=True)
+
+
+def play_by_hand(host):
+    """Takes moves from standard input until the story or the input is over."""
+    before = {}
+    told(host, before)
+    while not host.ended:
+        line = sys.stdin.readline()
+        if not line:
+            return
+        before["told"] += len(line) if host.wanted()[0] == "line" else 0
+        host.give(line.rstrip("\n") or ("{Return}" if host.wanted()[0] == "char" else ""))
+        told(host, before)
+    print()
+
+
 def main():
     words = argparse.ArgumentParser(usage=__doc__)
     words.add_argument("story")
-    words.add_argument("moves")
+    words.add_argument("moves", nargs="?")
     words.add_argument("--host", default=HOST)
     words.add_argument("--budget", type=int)
     words.add_argument("--shows", action="store_true")
     given = words.parse_args()
     host = Host(given.story, given.host, given.budget, sys.stdout if given.shows else None)
+    if given.moves is None:
+        play_by_hand(host)
+        host.finish()
+        return 0
     left = play(host, read_moves(given.moves))
     host.finish()
     if not given.shows:
