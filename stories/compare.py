@@ -20,6 +20,7 @@ from play import CLEARED, HOST, Host, read_moves
 from terminal import Program
 
 COLUMNS, ROWS = 80, 24
+MOST_PAGES = 200
 # Keys of glulxe's Glk library: the screen drawn anew, the next page (nothing at a text's end), and
 # the line that was begun taken away.
 REDRAW, PAGE_DOWN, TAKE_AWAY = "\x0c", "\x16", "\x15"
@@ -94,10 +95,13 @@ def differences(host, other):
 def agree(host, other):
     """Redraws glulxe's screen and turns its pages until all agree; returns what differs still."""
     found = differences(host, other)
-    for key in [REDRAW] + 8 * [PAGE_DOWN]:
+    for key in [REDRAW] + MOST_PAGES * [PAGE_DOWN]:
         if not found or host.ended:
-            return found
+            break
+        before = other.program.screen.region(0, 0, COLUMNS, ROWS)
         other.type(key)
+        if key == PAGE_DOWN and before == other.program.screen.region(0, 0, COLUMNS, ROWS):
+            break
         found = differences(host, other)
     return found
 

@@ -11,6 +11,10 @@ for moves in *.moves; do
     story=${moves%.moves}
     story=${story%%-*}.ulx
     echo "$moves"
+    if [ ! -e "$story" ]; then
+        echo "no $story: stories/make.sh makes it"
+        continue
+    fi
     wanted=0
     case $moves in *-differs.moves) wanted=1 ;; esac
     status=0

@@ -5,6 +5,9 @@
 set -eu
 cd "$(dirname "$0")"
 library=${INFORM_LIBRARY:-/usr/share/inform6/library}
+compile() { inform6 -G -w '$OMIT_UNUSED_ROUTINES=1' "+include_path=$PWD,$library" "$@"; }
 for name in cottage mill workbench; do
-    inform6 -G -w '$OMIT_UNUSED_ROUTINES=1' "+include_path=$PWD,$library" "$name.inf" "$name.ulx"
+    compile "$name.inf" "$name.ulx"
 done
+# The Well House with the library's verbs for finding faults; it isn't kept.
+compile -D cottage.inf debug.ulx
