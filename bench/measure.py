@@ -41,9 +41,10 @@ def rows(part):
     return [
         Row("The Well House, its moves", "cottage.ulx", WALK * walks, len(WALK) * walks, "moves"),
         Row("The Mill, `grind`", "mill.ulx", [f"grind {grinds}"], grinds, "rounds"),
-        Row("a loop of arithmetic, `count`", "mill.ulx", [f"count {counts}"], counts * 6000, "steps"),
-        Row("a loop of calls, `calls`", "mill.ulx", [f"calls {calls}"], calls * 3000, "calls"),
-        Row("a loop over memory, `haul`", "mill.ulx", [f"haul {hauls}"], hauls * 1000, "rounds"),
+        # A round of each loop has 6, 13 or 22 instructions, as `inform6 -a` lists them.
+        Row("arithmetic, `count`", "mill.ulx", [f"count {counts}"], counts * 6000, "steps"),
+        Row("calls, `calls`", "mill.ulx", [f"calls {calls}"], calls * 13000, "steps"),
+        Row("words of memory, `haul`", "mill.ulx", [f"haul {hauls}"], hauls * 22000, "steps"),
     ]
 
 
