@@ -18,7 +18,8 @@ is_one_frame xs = is_frame_of (take (format_from 0 (drop 8 xs)) (drop 8 xs)) xs
 
 -- a frame begins at this place, and what lies below it passes the test
 abbrev pub is_frame_over : (List ℕ → Bool) → List ℕ → ℕ → Bool
-is_frame_over below xs at = nat_lt at (length xs) && (is_one_frame (drop at xs) && below (take at xs))
+is_frame_over below xs at =
+    nat_lt at (length xs) && (is_one_frame (drop at xs) && below (take at xs))
 
 -- the bytes are frames down to 0, so many at most, each named by the last word before its end
 unfoldable pub are_linked : ℕ → List ℕ → Bool
