@@ -11,7 +11,10 @@ use Rattle.vm_exec.specs.Fault.{flowed}
 use Rattle.vm_exec.specs.Machine.{no_heap}
 use Rattle.vm_exec.specs.Random.{seeded}
 use Rattle.vm_exec.specs.Rules.{stored}
+use Rattle.vm_exec.specs.Rows.Undo.{save_over}
 use Rattle.vm_exec.specs.declared.machine.Machine.{Machine}
+use Rattle.vm_exec.specs.declared.step.Waiting.{Waiting}
+use Rattle.vm_exec.specs.declared.step.Waiting.TheVariants.{Store, Stub}
 use Rattle.vm_exec.specs.declared.text.Text.TheVariants.{Off}
 
 -- the memory of a file
@@ -39,7 +42,7 @@ started file seed =
       rock = 0;
       string_table = string_table file;
       text = Off;
-      waiting = Discard;
+      waiting = Store Discard;
       verified = verified file;
       heap = no_heap;
       undo = [];
@@ -49,6 +52,11 @@ started file seed =
       first_table = string_table file;
     }))
 
--- the result of the call that the step before asked for is stored
+-- a result is stored, or the stub on top says where it goes
+abbrev pub finished_at : Machine → Waiting → ℕ → Result Machine ℕ
+finished_at m (Store to) value = stored m to value
+finished_at m Stub value = save_over m value
+
+-- the result is stored of the call, the save or the restore that the step before asked for
 abbrev pub finished : Machine → ℕ → Result Machine ℕ
-finished m value = stored m m.waiting value
+finished m value = finished_at m m.waiting value
