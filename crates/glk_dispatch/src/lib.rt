@@ -30,7 +30,7 @@ pub use glk::{Glk, Prompt};
 pub use laws::parts_stay_valid;
 pub use output::{MAX_PRINTED, OutputCall, put_code};
 pub use selector::Call;
-pub use streams::StreamCall;
+pub use streams::{StreamCall, get_code, position};
 pub use style::StyleCall;
 pub use waiting::answer;
 pub use windows::WindowCall;

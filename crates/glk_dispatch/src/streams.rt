@@ -158,7 +158,8 @@ fn seek(glk: &mut Glk, stream: u32, place: u32, from: u32) -> Result<(), Trap>
     }
 }
 
-fn position(glk: &Glk, stream: u32) -> Result<u32, Trap>
+/// A stream's position; fault 21 where it isn't live.
+pub fn position(glk: &Glk, stream: u32) -> Result<u32, Trap>
     ensures { Makes (rows.place_of glk.now stream) result }
 {
     match glk.streams.position(stream) {
@@ -186,8 +187,8 @@ fn get_of_stream(glk: &mut Glk, memory: &Memory, stream: u32) -> Result<Option<u
     }
 }
 
-// A character of a stream, which is counted as read; None at the end.
-fn get_code(glk: &mut Glk, memory: &Memory, stream: u32) -> Result<Option<u32>, Trap>
+/// A character of a stream, which is counted as read; None at the end.
+pub fn get_code(glk: &mut Glk, memory: &Memory, stream: u32) -> Result<Option<u32>, Trap>
     ensures { Answers (rows.got_code glk.old memory.now stream) glk.new result }
 {
     let code = get_of_stream(glk, memory, stream)?;

@@ -6,4 +6,5 @@ pub mod HeapLemmas
 pub mod OrderLemmas
 pub mod ReadLemmas
 pub mod WriteLemmas
+pub mod StateLemmas
 mod StandardFacts

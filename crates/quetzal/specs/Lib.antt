@@ -5,3 +5,4 @@ pub mod Memory
 pub mod Printing
 pub mod Heap
 pub mod Save
+pub mod State

@@ -8,6 +8,7 @@ ghost use Rattle.quetzal.specs.Chunks.{view};
 ghost use Rattle.quetzal.specs.Save as save;
 ghost use Rattle.quetzal.specs.Save.{IsStackOf, IsStateOf, Reads, ReadsHeapOf, ReadsMemory};
 ghost use Rattle.quetzal.specs.Save.{ReadsStory, identity, ram_in};
+ghost use Rattle.quetzal.specs.State.{Finds, state_in};
 
 use crate::fault::SaveFault;
 use crate::form::{Parts, read_parts};
@@ -21,6 +22,16 @@ use vm_undo::{Saved, StackBytes};
 /// The state of the story that the bytes spell, or the first cause against them. It takes as much
 /// memory as the state, and none by a length that isn't there.
 pub fn read<'i>(alloc: Global, bytes: &[u8], image: &Image<'i>) -> Result<Saved<'i>, SaveFault>
+    ensures exact { Reads image.now bytes.now result }
+    ensures kept { IfOk result (λ s. IsStateOf image.now s) }
+    ensures state { Finds (state_in image.now bytes.now) result }
+{
+    let _checked = image.extstart();
+    read_form(alloc, bytes, image)
+}
+
+// The same, by the parts of the form.
+fn read_form<'i>(alloc: Global, bytes: &[u8], image: &Image<'i>) -> Result<Saved<'i>, SaveFault>
     ensures exact { Reads image.now bytes.now result }
     ensures kept { IfOk result (λ s. IsStateOf image.now s) }
 {

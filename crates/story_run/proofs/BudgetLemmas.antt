@@ -84,6 +84,14 @@ followed-shifts left more cost g m (out.Glk selector args) h =
     subst (λ (k : ℕ). Shifts more (answered (left - cost) g m x) (answered k g m x))
     (later left more cost h)
     (answered-shifts (left - cost) more g m x)
+followed-shifts left more cost g m (out.Save stream) h =
+    subst (λ (k : ℕ). Shifts more (stored (left - cost) g (finished m 1)) (stored k g (finished m 1)))
+    (later left more cost h)
+    (stored-shifts (left - cost) more g (finished m 1))
+followed-shifts left more cost g m (out.Restore stream) h =
+    subst (λ (k : ℕ). Shifts more (stored (left - cost) g (finished m 1)) (stored k g (finished m 1)))
+    (later left more cost h)
+    (stored-shifts (left - cost) more g (finished m 1))
 followed-shifts left more cost g m out.Quit h = inr refl
 
 gives-shifts : (left more cost : ℕ) (g : Glk) (gives : Rule) → cost ≤ left

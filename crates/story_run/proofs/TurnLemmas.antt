@@ -9,6 +9,7 @@ use Rattle.vm_exec.specs.declared.machine.Machine.{Machine}
 use Rattle.vm_exec.specs.declared.step.Out.{Out}
 use Rattle.vm_exec.specs.declared.step.Out.TheVariants as out
 use Rattle.vm_exec.specs.Rules.{Rule}
+use Rattle.vm_exec.specs.Start.{finished}
 use Rattle.vm_memory.specs.MemoryMap.{MemoryMap}
 use Rattle.glk_dispatch.specs.Answer.{Reached, ◌>>=◌, desk}
 use Rattle.glk_dispatch.specs.Answer as dispatch
@@ -61,6 +62,8 @@ followed-below left cost g m out.Ran h k = omega arith
 followed-below left cost g m (out.Char x) h k = put-below left (left - cost) m (put_code g m.memory g.streams.current x) (omega arith)
 followed-below left cost g m (out.Glk selector args) h k =
     answered-below left (left - cost) g m (called (desk g m.memory m.stack) selector args) (omega arith)
+followed-below left cost g m (out.Save stream) h k = stored-below left (left - cost) g (finished m 1) (omega arith)
+followed-below left cost g m (out.Restore stream) h k = stored-below left (left - cost) g (finished m 1) (omega arith)
 followed-below left cost g m out.Quit h k = tt
 
 -- a step of the machine takes a tick at least

@@ -76,6 +76,8 @@ followed left g m (step.Out code cost) =
     put (left - cost) m (put_code g m.memory g.streams.current code)
 followed left g m (step.Glk selector args cost) =
     answered (left - cost) g m (called (desk g m.memory m.stack) selector args)
+followed left g m (step.Save stream cost) = stored (left - cost) g (finished m 1)
+followed left g m (step.Restore stream cost) = stored (left - cost) g (finished m 1)
 followed left g m step.Quit = Rests g stage.Quit
 
 -- the machine did a step, or met a fault

@@ -45,6 +45,9 @@ pub(crate) fn advance(
             args,
             cost,
         } => call_glk(alloc, glk, machine, selector, args, left - cost),
+        Step::Save { cost, .. } | Step::Restore { cost, .. } => {
+            follow(alloc, glk, machine, Called::Value(1), left - cost)
+        }
         Step::Quit => Ok(Progress::Quits),
     }
 }

@@ -25,7 +25,7 @@ use Rattle.vm_stack.proofs.SavedLemmas.{ready_saved}
 use Rattle.vm_undo.specs.SavedState.{IsSize, IsHeapOver, IsSavedOf}
 use Rattle.vm_undo.specs.UndoList.{newest, without_newest, with_newest}
 use Rattle.vm_undo.specs.declared.saved.Saved.{Saved}
-use Rattle.vm_exec.specs.Machine.{IsMapped, IsFit, no_heap}
+use Rattle.vm_exec.specs.Machine.{IsMapped, IsFit, IsSaving, IsStore, no_heap}
 use Rattle.vm_exec.specs.declared.machine.Machine.{Machine}
 use Rattle.vm_exec.specs.declared.text.Text.TheVariants.{Off}
 use Rattle.vm_exec.specs.Rows.Undo.{saved_state}
@@ -186,16 +186,22 @@ pub ready_own : (s : StackState) → HasFrame s → IsReady s → EndsInOwnStub 
 ready_own s there (inl e) = absurd (let z : length s.bytes ≡ 0 = ap length e in omega (arith, there, z))
 ready_own s there (inr r) = r.1
 
--- what is saved of a fit machine with a stub on top
-pub saved_of : (m : Machine) → IsFit m → IsReady m.stack → IsSavedOf (origin_of m.memory) (saved_state m)
-saved_of m fit ready = record {
+-- what is saved of a machine with a stub on top
+pub saved_of : (m : Machine) → IsMapped (origin_of m.memory) (length m.memory.bytes) m.heap m.undo → Chain m.stack → HasFrame m.stack → IsReady m.stack
+    → IsSavedOf (origin_of m.memory) (saved_state m)
+saved_of m map frames frame ready = record {
   image = refl;
   saved = record {
-    size = fit.map.size;
-    stack = ready_saved m.stack fit.frames fit.frame ready;
-    heap = fit.map.heap;
+    size = map.size;
+    stack = ready_saved m.stack frames frame ready;
+    heap = map.heap;
   };
 }
+
+-- what is saved of one that waits for a save
+pub saving_saved : (m : Machine) (s : Saved) → s ≡ saved_state m → IsSaving m → IsSavedOf (origin_of m.memory) s
+saving_saved m s is saving =
+    subst (IsSavedOf (origin_of m.memory)) (sym is) (saved_of m saving.map saving.frames saving.frame saving.ready)
 
 resized-size : (m : MemoryMap) (n : ℕ) → length (resized m n).bytes ≡ n
 resized-size m n =
@@ -204,12 +210,13 @@ resized-size m n =
     length-append (take n m.bytes) (replicate (n - length m.bytes) 0) ∙ omega (arith, front, zeros)
 
 -- memory that ends elsewhere
-pub ended-fit : (m : Machine) (end : ℕ) → IsMapped (origin_of m.memory) (max m.memory.endmem end) m.heap m.undo → Chain m.stack → HasFrame m.stack → m.text ≡ Off
+pub ended-fit : (m : Machine) (end : ℕ) → IsMapped (origin_of m.memory) (max m.memory.endmem end) m.heap m.undo → Chain m.stack → HasFrame m.stack → IsStore m.waiting → m.text ≡ Off
     → IsFit (with_heap m m.heap end)
-ended-fit m end map frames frame still = record {
+ended-fit m end map frames frame waits still = record {
   map = subst (λ n. IsMapped (origin_of m.memory) n m.heap m.undo) (sym (resized-size m.memory (max m.memory.endmem end))) map;
   frames = frames;
   frame = frame;
+  waits = waits;
   still = still;
 }
 
@@ -235,6 +242,7 @@ state-fit m s memory stack heap bytes blocks bytes_are blocks_are keeps is load 
           (subst (λ h. IsMapped (origin_of m.memory) (length s.memory.bytes) h m.undo) (sym (is ∙ ap (λ (bs : List Block). record { start = s.heap_start; blocks = bs }) blocks_are)) map));
       frames = chain (subst LinkedFrames (sym bytes_are) saved.saved.stack.linked);
       frame = loaded-there m.stack stack bytes load (subst (λ (xs : List ℕ). 0 < length xs) (sym bytes_are) saved.saved.stack.some);
+      waits = fit.waits;
       still = fit.still;
     }
 
@@ -242,12 +250,13 @@ state-fit m s memory stack heap bytes blocks bytes_are blocks_are keeps is load 
 pub kept-fit : (m : Machine) (s : Saved) (states : List Saved) → s ≡ saved_state m → states ≡ with_newest m.undo s → IsFit m → IsReady m.stack
     → IsFit (record m { undo = states })
 kept-fit m s states is kept fit ready =
-    let saved : IsSavedOf (origin_of m.memory) s = subst (IsSavedOf (origin_of m.memory)) (sym is) (saved_of m fit ready) in
+    let saved : IsSavedOf (origin_of m.memory) s = subst (IsSavedOf (origin_of m.memory)) (sym is) (saved_of m fit.map fit.frames fit.frame ready) in
     record {
       map = subst (IsMapped (origin_of m.memory) (length m.memory.bytes) m.heap) (sym kept)
           (kept-mapped (origin_of m.memory) (length m.memory.bytes) m.heap m.undo s fit.map saved);
       frames = fit.frames;
       frame = fit.frame;
+      waits = fit.waits;
       still = fit.still;
     }
 
@@ -258,17 +267,18 @@ taken-fit m states is fit = record {
       (taken-mapped (origin_of m.memory) (length m.memory.bytes) m.heap m.undo fit.map);
   frames = fit.frames;
   frame = fit.frame;
+  waits = fit.waits;
   still = fit.still;
 }
 
 pub ended : (m new : Machine) (end n : ℕ) (r : Result (Unit {0}) Trap) → n ≡ max m.memory.endmem end → Changes (Ok (record m { memory = resized m.memory n })) new r
-    → IsMapped (origin_of m.memory) (max m.memory.endmem end) m.heap m.undo → Chain m.stack → HasFrame m.stack → m.text ≡ Off → OnOk r (IsFit new)
-ended m new end n (Ok x) is e map frames frame still =
+    → IsMapped (origin_of m.memory) (max m.memory.endmem end) m.heap m.undo → Chain m.stack → HasFrame m.stack → IsStore m.waiting → m.text ≡ Off → OnOk r (IsFit new)
+ended m new end n (Ok x) is e map frames frame waits still =
     let same : record m { memory = resized m.memory n } ≡ new = cc in
     let whole : with_heap m m.heap end ≡ new = ap (λ (k : ℕ). record m { memory = resized m.memory k }) (sym is) ∙ same in
-    subst IsFit whole (ended-fit m end map frames frame still)
-ended m new end n (Err (Fault k)) is e map frames frame still = tt
-ended m new end n (Err NoMemory) is e map frames frame still = tt
+    subst IsFit whole (ended-fit m end map frames frame waits still)
+ended m new end n (Err (Fault k)) is e map frames frame waits still = tt
+ended m new end n (Err NoMemory) is e map frames frame waits still = tt
 
 pub allocated-map : (m : Machine) (k size x end : ℕ) (answer : Option ℕ) (new : HeapMap) → k ≡ length m.memory.bytes → malloced m.heap size k ≡ (answer, new) → answer ≡ Some x
     → end ≡ heap_end new.blocks → end ≤ 16777216 → IsTrue (is_heap new.start new.blocks) → IsFit m → IsMapped (origin_of m.memory) (max m.memory.endmem end) new m.undo

@@ -1,7 +1,7 @@
 -- The machine while its story runs (Glulx 3.1.3, "Machine State").
 use Rattle.std.specs.Prelude.{ℕ, ◌≡◌, ◌%◌, length, List, [], All}
 use Rattle.vm_memory.specs.MemoryMap.{Origin, origin_of}
-use Rattle.vm_stack.specs.Chain.{Chain, HasFrame}
+use Rattle.vm_stack.specs.Chain.{Chain, HasFrame, IsReady}
 use Rattle.vm_heap.specs.HeapMap.{HeapMap}
 use Rattle.vm_undo.specs.SavedState.{IsSize, IsHeapOver, IsSavedOf}
 use Rattle.vm_undo.specs.declared.saved.Saved.{Saved}
@@ -10,6 +10,8 @@ use Rattle.vm_exec.specs.declared.step.Out.{Out}
 use Rattle.vm_exec.specs.declared.step.Out.TheVariants as out
 use Rattle.vm_exec.specs.declared.step.Step.{Step}
 use Rattle.vm_exec.specs.declared.step.Step.TheVariants as step
+use Rattle.vm_exec.specs.declared.step.Waiting.{Waiting}
+use Rattle.vm_exec.specs.declared.step.Waiting.TheVariants.{Store, Stub}
 use Rattle.vm_exec.specs.declared.text.Text.TheVariants.{Off}
 
 -- memory of an image, with so many bytes, a heap and the states that undo keeps: the size is one
@@ -24,30 +26,55 @@ pub record IsMapped (o : Origin) (n : ℕ) (h : HeapMap) (states : List Saved) :
 abbrev pub no_heap : HeapMap
 no_heap = record { start = 0; blocks = [] }
 
--- memory, heap and undo are by their rules, and the stack is frames, one at least, each on a stub
--- for the one below
+-- no save is waited for
+abbrev pub IsStore : Waiting → Type 0
+IsStore (Store to) = Unit {0}
+IsStore Stub = ⊥
+
+-- memory, heap and undo are by their rules, the stack is frames, one at least, each on a stub for
+-- the one below, and no save is waited for
 pub record IsSound (m : Machine) : Type 0 where
   pub map : IsMapped (origin_of m.memory) (length m.memory.bytes) m.heap m.undo
   pub frames : Chain m.stack
   pub frame : HasFrame m.stack
+  pub waits : IsStore m.waiting
 
 -- the same between two instructions, while no text is in progress
 pub record IsFit (m : Machine) : Type 0 where
   pub map : IsMapped (origin_of m.memory) (length m.memory.bytes) m.heap m.undo
   pub frames : Chain m.stack
   pub frame : HasFrame m.stack
+  pub waits : IsStore m.waiting
   pub still : m.text ≡ Off
 
--- the machine is sound unless its story is over; no text is in progress where it waits for Glk or
--- is over
+-- the same while a save is waited for: the stub that takes its result is on top
+pub record IsSaving (m : Machine) : Type 0 where
+  pub map : IsMapped (origin_of m.memory) (length m.memory.bytes) m.heap m.undo
+  pub frames : Chain m.stack
+  pub frame : HasFrame m.stack
+  pub waits : m.waiting ≡ Stub
+  pub ready : IsReady m.stack
+  pub still : m.text ≡ Off
+
+-- memory stays over the same image, and the stack has the same greatest size
+pub record KeepsImage (old new : Machine) : Type 0 where
+  pub origin : origin_of old.memory ≡ origin_of new.memory
+  pub limit : old.stack.limit ≡ new.stack.limit
+
+-- the machine is sound unless its story is over; no text is in progress where it waits for Glk, a
+-- save or a restore, or is over
 abbrev pub StaysFit : Machine → Out → Type 0
 StaysFit m out.Ran = IsSound m
 StaysFit m (out.Char code) = IsSound m
 StaysFit m (out.Glk selector args) = IsFit m
+StaysFit m (out.Save stream) = IsSaving m
+StaysFit m (out.Restore stream) = IsFit m
 StaysFit m out.Quit = m.text ≡ Off
 
 abbrev pub GoesOnFit : Machine → Step → Type 0
 GoesOnFit m (step.Ran cost) = IsSound m
 GoesOnFit m (step.Out code cost) = IsSound m
 GoesOnFit m (step.Glk selector args cost) = IsFit m
+GoesOnFit m (step.Save stream cost) = IsSaving m
+GoesOnFit m (step.Restore stream cost) = IsFit m
 GoesOnFit m step.Quit = m.text ≡ Off

@@ -95,6 +95,8 @@ abbrev pub step_of : Out → ℕ → Step
 step_of out.Ran cost = step.Ran cost
 step_of (out.Char x) cost = step.Out x cost
 step_of (out.Glk selector args) cost = step.Glk selector args cost
+step_of (out.Save stream) cost = step.Save stream cost
+step_of (out.Restore stream) cost = step.Restore stream cost
 step_of out.Quit cost = step.Quit
 
 -- a step costs a tick at least, and no more than is left; that which ends the story tells no cost
@@ -102,6 +104,8 @@ abbrev pub IsPriced : ℕ → Step → Type 0
 IsPriced left (step.Ran cost) = (1 ≤ cost) × (cost ≤ left)
 IsPriced left (step.Out code cost) = (1 ≤ cost) × (cost ≤ left)
 IsPriced left (step.Glk selector args cost) = (1 ≤ cost) × (cost ≤ left)
+IsPriced left (step.Save stream cost) = (1 ≤ cost) × (cost ≤ left)
+IsPriced left (step.Restore stream cost) = (1 ≤ cost) × (cost ≤ left)
 IsPriced left step.Quit = Unit {0}
 
 -- a step when so many ticks are left

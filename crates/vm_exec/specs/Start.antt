@@ -1,8 +1,8 @@
 -- The machine as a story begins (Glulx 3.1.3, "Execution").
-use Rattle.std.specs.Prelude.{ℕ, List, [], take, Result, Ok, Err}
+use Rattle.std.specs.Prelude.{◌≡◌, ℕ, List, [], take, Result, Ok}
 use Rattle.glulx_image.specs.Header.{ramstart, extstart, endmem, stack_size, start_function, string_table}
 use Rattle.glulx_image.specs.Checksum.{verified}
-use Rattle.vm_memory.specs.MemoryMap.{MemoryMap, memory_of}
+use Rattle.vm_memory.specs.MemoryMap.{MemoryMap, memory_of, origin_of}
 use Rattle.vm_operand.specs.Reading.{◌>>=◌}
 use Rattle.vm_operand.specs.declared.operand.Dest.TheVariants.{Discard}
 use Rattle.vm_stack.specs.StackState.{StackState}
@@ -11,7 +11,10 @@ use Rattle.vm_exec.specs.Fault.{flowed}
 use Rattle.vm_exec.specs.Machine.{no_heap}
 use Rattle.vm_exec.specs.Random.{seeded}
 use Rattle.vm_exec.specs.Rules.{stored}
+use Rattle.vm_exec.specs.Rows.Undo.{save_over}
 use Rattle.vm_exec.specs.declared.machine.Machine.{Machine}
+use Rattle.vm_exec.specs.declared.step.Waiting.{Waiting}
+use Rattle.vm_exec.specs.declared.step.Waiting.TheVariants.{Store, Stub}
 use Rattle.vm_exec.specs.declared.text.Text.TheVariants.{Off}
 
 -- the memory of a file
@@ -21,6 +24,11 @@ image_memory file = memory_of (take (extstart file) file) (ramstart file) (endme
 -- a stack with nothing on it
 abbrev pub empty_stack : List ℕ → StackState
 empty_stack file = record { bytes = []; frame = 0; limit = stack_size file }
+
+-- the machine's memory lies over the image, and its stack has the image's size
+pub record IsOver (image : List ℕ) (m : Machine) : Type 0 where
+  pub origin : origin_of m.memory ≡ origin_of (image_memory image)
+  pub limit : m.stack.limit ≡ stack_size image
 
 -- the start function is called without arguments, over an empty stack
 abbrev pub started : List ℕ → ℕ → Result Machine ℕ
@@ -34,7 +42,7 @@ started file seed =
       rock = 0;
       string_table = string_table file;
       text = Off;
-      waiting = Discard;
+      waiting = Store Discard;
       verified = verified file;
       heap = no_heap;
       undo = [];
@@ -44,6 +52,11 @@ started file seed =
       first_table = string_table file;
     }))
 
--- the result of the call that the step before asked for is stored
+-- a result is stored, or the stub on top says where it goes
+abbrev pub finished_at : Machine → Waiting → ℕ → Result Machine ℕ
+finished_at m (Store to) value = stored m to value
+finished_at m Stub value = save_over m value
+
+-- the result is stored of the call, the save or the restore that the step before asked for
 abbrev pub finished : Machine → ℕ → Result Machine ℕ
-finished m value = stored m m.waiting value
+finished m value = finished_at m m.waiting value

@@ -2,7 +2,7 @@
 
 ghost use Rattle.std.specs.Prelude.{◌≡◌, ◌≤◌, ◌<◌, ◌/◌, max, length, IsTrue, IfOk, OnOk, Ok};
 ghost use Rattle.vm_exec.specs.Answer.{Changes, Does};
-ghost use Rattle.vm_exec.specs.Machine.{IsFit, IsMapped, StaysFit};
+ghost use Rattle.vm_exec.specs.Machine.{IsFit, IsMapped, IsStore, StaysFit};
 ghost use Rattle.vm_exec.specs.Rows.Heap as rows;
 ghost use Rattle.vm_exec.specs.declared.text.Text.TheVariants.{Off};
 ghost use Rattle.vm_exec.specs.Rows.Work.{Costs, budgeted};
@@ -39,7 +39,8 @@ impl<'i> Machine<'i> {
             self.new result }
         ensures fit { IsMapped (origin_of self.old.memory) (max self.old.memory.endmem end)
             self.old.heap self.old.undo
-            → Chain self.old.stack → HasFrame self.old.stack → self.old.text ≡ Off
+            → Chain self.old.stack → HasFrame self.old.stack
+            → IsStore self.old.waiting → self.old.text ≡ Off
             → OnOk result (IsFit self.new) }
     {
         let least = self.memory.endmem();

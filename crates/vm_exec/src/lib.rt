@@ -15,6 +15,7 @@ mod output;
 mod parts;
 mod perform;
 mod random;
+mod saving;
 mod search;
 mod searching;
 mod state;
@@ -29,5 +30,5 @@ mod undo;
 mod values;
 
 pub use machine::Machine;
-pub use step::{Done, Out, Step};
+pub use step::{Done, Out, Step, Waiting};
 pub use text::Text;

@@ -4,9 +4,10 @@ ghost use Rattle.std.specs.Prelude.{◌≡◌, ◌%◌, ◌<◌, [], length, IfO
 ghost use Rattle.vm_exec.specs.Answer.{Changes, Does, Makes};
 ghost use Rattle.vm_exec.specs.Fault.{flowed};
 ghost use Rattle.vm_exec.specs.Row.{IsPriced, charged, due, fetched, row, told};
-ghost use Rattle.vm_exec.specs.Machine.{GoesOnFit, IsFit, IsMapped, IsSound, no_heap};
+ghost use Rattle.vm_exec.specs.Machine.{GoesOnFit, IsFit, IsMapped, IsSaving, IsSound};
+ghost use Rattle.vm_exec.specs.Machine.{KeepsImage, no_heap};
 ghost use Rattle.vm_exec.specs.Start as start;
-ghost use Rattle.vm_exec.specs.Start.{finished, started};
+ghost use Rattle.vm_exec.specs.Start.{IsOver, finished, started};
 ghost use Rattle.vm_exec.specs.declared.text.Text.TheVariants as text;
 ghost use Rattle.vm_flow.specs.Call.{called};
 ghost use Rattle.vm_memory.specs.MemoryMap.{origin_of};
@@ -14,7 +15,7 @@ ghost use Rattle.vm_stack.specs.Chain.{Chain, HasFrame};
 
 use crate::perform::width_of;
 use crate::random::Random;
-use crate::step::Step;
+use crate::step::{Step, Waiting};
 use crate::text::Text;
 use crate::trap::{BUDGET, no_memory, of_flow};
 use crate::undo::Protection;
@@ -40,8 +41,8 @@ pub struct Machine<'i> {
     pub(crate) string_table: u32,
     /// What goes out piece by piece before the next instruction.
     pub(crate) text: Text,
-    /// Where the result of the call that the last step asked for goes.
-    pub(crate) waiting: Dest,
+    /// Where the result goes that the last step asked for.
+    pub(crate) waiting: Waiting,
     /// What the verify opcode stores.
     pub(crate) verified: u32,
     pub(crate) heap: Heap,
@@ -59,6 +60,7 @@ impl<'i> Machine<'i> {
     pub fn start(alloc: Global, image: &Image<'i>, seed: u64) -> Result<Machine<'i>, Trap>
         ensures value { Makes (started image.now seed) result }
         ensures fit { IfOk result (λ machine. IsFit machine) }
+        ensures over { IfOk result (λ machine. IsOver image.now machine) }
     {
         let memory = image_memory(alloc, image)?;
         let mut stack = empty_stack(alloc, image)?;
@@ -71,7 +73,7 @@ impl<'i> Machine<'i> {
             rock: 0,
             string_table: image.string_table(),
             text: Text::Off,
-            waiting: Dest::Discard,
+            waiting: Waiting::Store(Dest::Discard),
             verified: image.verify(),
             heap: Heap::new(alloc),
             undo: Undo::new(),
@@ -85,12 +87,17 @@ impl<'i> Machine<'i> {
         })
     }
 
-    /// Stores the result of the call that the last step asked for.
+    /// Stores the result of the call, the save or the restore that the last step asked for.
     pub fn finish(&mut self, _alloc: Global, value: u32) -> Result<(), Trap>
         ensures does { Changes (finished self.old value) self.new result }
         ensures fit { IsFit self.old → OnOk result (IsFit self.new) }
+        ensures kept { IsFit self.old → OnOk result (KeepsImage self.old self.new) }
+        ensures saving { IsSaving self.old → OnOk result (IsFit self.new) }
     {
-        self.store(self.waiting, value)
+        match self.waiting {
+            Waiting::Store(to) => self.store(to, value),
+            Waiting::Stub => self.finish_save(value),
+        }
     }
 
     /// The next piece of the text in progress, or else the instruction at the PC: its row of the
@@ -98,6 +105,7 @@ impl<'i> Machine<'i> {
     pub fn step(&mut self, alloc: Global, left: u64) -> Result<Step, Trap>
         ensures does { Does (told left (row self.old)) self.new result }
         ensures fit { IsSound self.old → IfOk result (λ step. GoesOnFit self.new step) }
+        ensures kept { IsSound self.old → OnOk result (KeepsImage self.old self.new) }
         ensures cost { IfOk result (λ step. IsPriced left step) }
     {
         if left == 0 {

@@ -12,7 +12,7 @@ ghost use Rattle.vm_memory.specs.declared.fault.Trap.TheVariants.{Fault};
 
 use crate::Machine;
 use crate::step::{Done, Out};
-use crate::trap::{NOT_YET, charge};
+use crate::trap::charge;
 use std::alloc::Global;
 use vm_memory::Trap;
 use vm_operand::{Dest, State};
@@ -87,6 +87,30 @@ impl<'i> Machine<'i> {
         })
     }
 
+    fn save(&mut self, stream: u32, to: Dest, left: u64) -> Result<Done, Trap>
+        ensures does { Does
+            (budgeted left (Costs (undo.pages self.old) (undo.asks_save self.old stream to)))
+            self.new result }
+        ensures fit { IsFit self.old → IfOk result (λ done. StaysFit self.new done.out) }
+        ensures within { IfOk result (λ done. done.cost ≤ left) }
+    {
+        let cost = self.charge_pages(left)?;
+        let out = self.ask_save(stream, to)?;
+        Ok(Done { out, cost })
+    }
+
+    fn restore(&mut self, stream: u32, to: Dest, left: u64) -> Result<Done, Trap>
+        ensures does { Does
+            (budgeted left (Costs (undo.pages self.old) (undo.asks_restore self.old stream to)))
+            self.new result }
+        ensures fit { IsFit self.old → IfOk result (λ done. StaysFit self.new done.out) }
+        ensures within { IfOk result (λ done. done.cost ≤ left) }
+    {
+        let cost = self.charge_pages(left)?;
+        let out = self.ask_restore(stream, to)?;
+        Ok(Done { out, cost })
+    }
+
     #[tactic(auto, unfolding(crate::specs::Rows::State::state_work))]
     pub(crate) fn state_op(
         &mut self,
@@ -111,7 +135,8 @@ impl<'i> Machine<'i> {
             State::Protect => self.protect(args[0], args[1]),
             State::Hasundo => self.has_undo(to[0]),
             State::Discardundo => self.discard_undo(),
-            State::Save | State::Restore => Err(NOT_YET),
+            State::Save => self.save(args[0], to[0], left),
+            State::Restore => self.restore(args[0], to[0], left),
         }
     }
 }

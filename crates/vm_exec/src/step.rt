@@ -3,6 +3,8 @@
 ghost use Rattle.std.specs.Prelude.{ℕ, ◌≡◌, ◌≤◌};
 ghost use Rattle.vm_exec.specs.Row.{IsPriced, step_of};
 
+use vm_operand::Dest;
+
 /// What an instruction tells.
 #[derive(Clone, Copy, Debug, PartialEq, Eq)]
 pub enum Out {
@@ -12,8 +14,21 @@ pub enum Out {
     Char(u32),
     /// A call of Glk, whose arguments are on the stack; `Machine::finish` goes on.
     Glk { selector: u32, args: u32 },
+    /// A save to a stream; `Machine::saved` is what is saved, and `Machine::finish` goes on.
+    Save { stream: u32 },
+    /// A restore from a stream; `Machine::resume` goes on, or `Machine::finish` where it fails.
+    Restore { stream: u32 },
     /// The story is over.
     Quit,
+}
+
+/// Where the result goes that the last step asked for.
+#[derive(Clone, Copy, Debug, PartialEq, Eq)]
+pub enum Waiting {
+    /// To a store.
+    Store(Dest),
+    /// To where the call stub on top says.
+    Stub,
 }
 
 /// What an instruction told, and what it added to the cost in ticks.
@@ -32,6 +47,10 @@ pub enum Step {
     Out(u32, u64),
     /// A call of Glk, whose arguments are on the stack; `Machine::finish` goes on.
     Glk { selector: u32, args: u32, cost: u64 },
+    /// A save to a stream; `Machine::saved` is what is saved, and `Machine::finish` goes on.
+    Save { stream: u32, cost: u64 },
+    /// A restore from a stream; `Machine::resume` goes on, or `Machine::finish` where it fails.
+    Restore { stream: u32, cost: u64 },
     /// The story is over.
     Quit,
 }
@@ -50,6 +69,8 @@ impl Done {
                 args,
                 cost,
             },
+            Out::Save { stream } => Step::Save { stream, cost },
+            Out::Restore { stream } => Step::Restore { stream, cost },
             Out::Quit => Step::Quit,
         }
     }

@@ -9,7 +9,7 @@ ghost use Rattle.vm_exec.specs.Rows.Work.{Tells, budgeted};
 ghost use Rattle.vm_exec.specs.Rules as rules;
 
 use crate::Machine;
-use crate::step::{Done, Out};
+use crate::step::{Done, Out, Waiting};
 use crate::trap::DEBUG_TRAP;
 use vm_memory::Trap;
 use vm_operand::{Dest, System};
@@ -43,7 +43,7 @@ impl<'i> Machine<'i> {
         ensures does { Tells (rows.calls_glk self.old selector args to) self.new result }
         ensures fit { IsFit self.old → IfOk result (λ done. StaysFit self.new done.out) }
     {
-        self.waiting = to;
+        self.waiting = Waiting::Store(to);
         self.tell(Out::Glk { selector, args })
     }
 

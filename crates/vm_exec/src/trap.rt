@@ -10,9 +10,6 @@ use vm_flow::FlowStop;
 use vm_memory::Trap;
 use vm_stack::StackFault;
 
-/// An opcode that isn't built.
-pub(crate) const NOT_YET: Trap = Trap::Fault(25);
-
 pub(crate) const BAD_OPCODE: Trap = Trap::Fault(6);
 
 pub(crate) const BAD_STUB: Trap = Trap::Fault(13);

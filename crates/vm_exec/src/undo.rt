@@ -1,8 +1,8 @@
 //! Saved states, restart and the protected range.
 
-ghost use Rattle.std.specs.Prelude.{◌≡◌, length, IsTrue, IfOk, OnOk, Ok};
+ghost use Rattle.std.specs.Prelude.{◌≡◌, ◌≤◌, length, IsTrue, IfOk, OnOk, Ok};
 ghost use Rattle.vm_exec.specs.Answer.{Changes, Makes};
-ghost use Rattle.vm_exec.specs.Machine.{IsFit, StaysFit};
+ghost use Rattle.vm_exec.specs.Machine.{IsFit, IsSaving, KeepsImage, StaysFit};
 ghost use Rattle.vm_exec.specs.Rows.Undo as rows;
 ghost use Rattle.vm_exec.specs.Rows.Work.{Tells};
 ghost use Rattle.vm_heap.specs.HeapMap.{is_heap};
@@ -30,10 +30,13 @@ pub struct Protection {
 
 impl<'i> Machine<'i> {
     /// What is saved of the machine: its memory, its stack as it stands, and its heap. A state that
-    /// can be restored has a call stub on top.
+    /// can be restored has a call stub on top, as it has where a step asked for a save.
     pub fn saved(&self, alloc: Global) -> Result<Saved<'i>, AllocError>
         ensures ok { IfOk result (λ state. state ≡ rows.saved_state self.now) }
         ensures heap { IfOk result (λ state. IsTrue (is_heap state.heap_start state.heap)) }
+        ensures size { IfOk result (λ state. length state.stack ≤ self.now.stack.limit) }
+        ensures saving { IsSaving self.now
+            → IfOk result (λ state. IsSavedOf (origin_of self.now.memory) state) }
     {
         Ok(Saved {
             memory: self.memory.copy_of(alloc)?,
@@ -83,8 +86,8 @@ impl<'i> Machine<'i> {
         }
     }
 
-    // The story goes on at the stub on top, whose result is the value.
-    fn come_back(&mut self, value: u32) -> Result<(), Trap>
+    /// The story goes on at the stub on top, whose result is the value.
+    pub(crate) fn come_back(&mut self, value: u32) -> Result<(), Trap>
         ensures does { Changes (rows.came_back self.old value) self.new result }
         ensures fit { IsFit self.old → EndsInOwnStub self.old.stack → OnOk result (IsFit self.new) }
     {
@@ -102,6 +105,8 @@ impl<'i> Machine<'i> {
         ensures does { Changes (rows.resumed self.old state.entry) self.new result }
         ensures fit { IsFit self.old → IsSavedOf (origin_of self.old.memory) state.entry
             → OnOk result (IsFit self.new) }
+        ensures kept { IsFit self.old → IsSavedOf (origin_of self.old.memory) state.entry
+            → OnOk result (KeepsImage self.old self.new) }
     {
         self.put_state(alloc, state)?;
         self.come_back(0xFFFF_FFFF)

@@ -5,3 +5,4 @@ pub mod ChainLemmas
 pub mod TokenLemmas
 pub mod SavedLemmas
 pub mod StandardFacts
+pub mod SavedTests

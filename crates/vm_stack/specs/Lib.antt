@@ -7,3 +7,4 @@ pub mod Stub
 pub mod Chain
 pub mod Token
 pub mod Saved
+pub mod SavedTest

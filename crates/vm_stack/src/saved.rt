@@ -17,8 +17,10 @@ use std::alloc::{AllocError, Global};
 impl Stack {
     /// The bytes that stand, in a vector of their own.
     pub fn copy_bytes(&self, alloc: Global) -> Result<Vec<u8>, AllocError>
-        ensures { IfOk result (λ v. v.items ≡ self.now.bytes) }
+        ensures value { IfOk result (λ v. v.items ≡ self.now.bytes) }
+        ensures within { IfOk result (λ v. length v.items ≤ self.now.limit) }
     {
+        let _size = self.size();
         let bytes = self.live();
         let mut copy = Vec::with_capacity(alloc, bytes.len())?;
         copy.extend_from_slice(bytes)?;

@@ -70,6 +70,7 @@ impl Stack {
     pub(crate) fn size(&self) -> usize
         ensures value { result ≡ self.now.limit }
         ensures within { result ≤ MAX_STACK }
+        ensures holds { length self.now.bytes ≤ result }
     {
         self.buf.len()
     }

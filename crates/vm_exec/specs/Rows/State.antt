@@ -1,11 +1,11 @@
 -- The game's state (Glulx 3.1.3, "Game State").
-use Rattle.std.specs.Prelude.{ℕ, ◌/◌, length, Result, Ok, Err}
+use Rattle.std.specs.Prelude.{ℕ, ◌/◌, length}
 use Rattle.vm_operand.specs.declared.opcode.State.{State}
 use Rattle.vm_operand.specs.declared.opcode.State.TheVariants.{Quit, Verify, Restart, Save, Restore, Saveundo, Restoreundo, Protect, Hasundo, Discardundo}
 use Rattle.vm_operand.specs.declared.operand.Dest as d
 use Rattle.vm_exec.specs.Rows.Work.{Work, Free, Costs}
 use Rattle.vm_exec.specs.Rules.{puts, tells}
-use Rattle.vm_exec.specs.Rows.Undo.{pages, restarts, saves_undo, restores_undo, protects, tells_undo, discards}
+use Rattle.vm_exec.specs.Rows.Undo.{pages, restarts, asks_save, asks_restore, saves_undo, restores_undo, protects, tells_undo, discards}
 use Rattle.vm_exec.specs.declared.machine.Machine.{Machine}
 use Rattle.vm_exec.specs.declared.step.Out.TheVariants as out
 
@@ -18,5 +18,5 @@ state_work Restoreundo m l d = Costs (pages m) (restores_undo m (d 0))
 state_work Protect m l d = Free (protects m (l 0) (l 1))
 state_work Hasundo m l d = Free (tells_undo m (d 0))
 state_work Discardundo m l d = Free (discards m)
-state_work Save m l d = Free (Err 25)
-state_work Restore m l d = Free (Err 25)
+state_work Save m l d = Costs (pages m) (asks_save m (l 0) (d 0))
+state_work Restore m l d = Costs (pages m) (asks_restore m (l 0) (d 0))

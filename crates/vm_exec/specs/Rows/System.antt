@@ -9,6 +9,7 @@ use Rattle.vm_exec.specs.Rows.Work.{Work, Free, Costs}
 use Rattle.vm_exec.specs.declared.machine.Machine.{Machine}
 use Rattle.vm_exec.specs.Rules.{Rule, goes, puts, tells}
 use Rattle.vm_exec.specs.declared.step.Out.TheVariants as out
+use Rattle.vm_exec.specs.declared.step.Waiting.TheVariants.{Store}
 
 -- what the machine can do: 0 its version, 1 that of this host, 2 resizing, 3 undo, 4 the I/O
 -- systems, 5 Unicode, 6 block copies, 7 the heap, 12 further undo
@@ -28,7 +29,7 @@ gestalt_of m selector argument =
 
 -- the store is kept for the call's result
 abbrev pub calls_glk : Machine → ℕ → ℕ → d.Dest → Rule
-calls_glk m selector args to = tells (record m { waiting = to }) (out.Glk selector args)
+calls_glk m selector args to = tells (record m { waiting = Store to }) (out.Glk selector args)
 
 unfoldable pub system_work : System → Machine → (ℕ → ℕ) → (ℕ → d.Dest) → Work
 system_work Nop m l d = Free (goes m)

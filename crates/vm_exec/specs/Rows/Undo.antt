@@ -1,5 +1,5 @@
 -- Saved states, restart and protection (Glulx 3.1.3, "Game State").
-use Rattle.std.specs.Prelude.{ℕ, ◌-◌, ◌/◌, ◌^◌, if◌then◌else◌, [], length, Option, Some, None, Result, Ok, Err}
+use Rattle.std.specs.Prelude.{ℕ, ◌-◌, ◌/◌, ◌^◌, ◌==◌, if◌then◌else◌, [], length, Option, Some, None, Result, Ok, Err}
 use Rattle.vm_memory.specs.MemoryMap.{MemoryMap, reset}
 use Rattle.vm_stack.specs.StackState.{StackState}
 use Rattle.vm_stack.specs.Frame.{loaded}
@@ -10,10 +10,13 @@ use Rattle.vm_undo.specs.UndoList.{with_newest, without_newest, newest, has_any}
 use Rattle.vm_undo.specs.declared.saved.Saved.{Saved}
 use Rattle.vm_operand.specs.Reading.{◌>>=◌}
 use Rattle.vm_operand.specs.declared.operand.Dest as d
+use Rattle.vm_operand.specs.declared.operand.Dest.TheVariants.{Discard}
 use Rattle.vm_exec.specs.Fault.{stacked, flowed}
 use Rattle.vm_exec.specs.Machine.{no_heap}
 use Rattle.vm_exec.specs.declared.machine.Machine.{Machine}
-use Rattle.vm_exec.specs.Rules.{Rule, goes, puts, stored, stub_dest, with_stub}
+use Rattle.vm_exec.specs.Rules.{Rule, goes, tells, puts, stored, stub_dest, with_stub}
+use Rattle.vm_exec.specs.declared.step.Out.TheVariants as out
+use Rattle.vm_exec.specs.declared.step.Waiting.TheVariants.{Store, Stub}
 
 -- how many pages memory has
 abbrev pub pages : Machine → ℕ
@@ -86,6 +89,25 @@ restarted m =
       rock = 0;
       string_table = m.first_table;
     }))
+
+-- a save to a stream is asked for, with the stub for the store on the stack; its result is 1 where
+-- the I/O system isn't Glk
+abbrev pub asks_save : Machine → ℕ → d.Dest → Rule
+asks_save m stream to =
+    if m.mode == 2
+    then with_stub m to >>= (λ n. tells (record n { waiting = Stub }) (out.Save stream))
+    else puts m to 1
+
+-- a restore from a stream is asked for, without a stub; the same
+abbrev pub asks_restore : Machine → ℕ → d.Dest → Rule
+asks_restore m stream to =
+    if m.mode == 2
+    then tells (record m { waiting = Store to }) (out.Restore stream)
+    else puts m to 1
+
+-- a save is over: its stub is taken, and nothing is waited for
+abbrev pub save_over : Machine → ℕ → Result Machine ℕ
+save_over m x = came_back (record m { waiting = Store Discard }) x
 
 -- the three that are charged for each page of memory
 abbrev pub saves_undo : Machine → d.Dest → Rule

@@ -65,3 +65,30 @@ fn a_state_without_its_stub_is_refused(rt: HostRuntime) -> Result<(), Fail> {
     assert!(rt; other.resume(rt.alloc(), state).is_err());
     Ok(())
 }
+
+// A save without Glk, setiosys 2 0, a save, and a restore that fails first and then is done.
+#[test]
+fn a_save_goes_on_where_its_stub_says(rt: HostRuntime) -> Result<(), Fail> {
+    let file = story(
+        b"\xC1\x00\x00\x81\x23\xD1\x07\x04\x81\x49\x11\x02\x00\
+        \x81\x23\xD1\x07\x08\x81\x24\xD1\x07\x0C",
+    );
+    let image = Image::parse(&file).ok().ok_or("an image")?;
+    let mut machine = Machine::start(rt.alloc(), &image, 1).ok().ok_or("a start")?;
+    assert!(rt; runs(rt.alloc(), &mut machine, 2));
+    assert!(rt; holds(&machine, &[(0x104, 1), (0x108, 0)]));
+    let asked = Step::Save { stream: 7, cost: 3 };
+    assert_eq!(rt; stepped(rt.alloc(), &mut machine), Ok(asked));
+    let state = machine.saved(rt.alloc())?;
+    assert!(rt; machine.finish(rt.alloc(), 5).is_ok());
+    assert!(rt; holds(&machine, &[(0x108, 5)]));
+    let back = machine.pc;
+    let asked = Step::Restore { stream: 7, cost: 3 };
+    assert_eq!(rt; stepped(rt.alloc(), &mut machine), Ok(asked));
+    assert!(rt; machine.finish(rt.alloc(), 1).is_ok());
+    assert!(rt; holds(&machine, &[(0x108, 5), (0x10C, 1)]));
+    assert!(rt; machine.resume(rt.alloc(), state).is_ok());
+    assert!(rt; holds(&machine, &[(0x104, 1), (0x108, 0xFFFF_FFFF), (0x10C, 0)]));
+    assert_eq!(rt; machine.pc, back);
+    Ok(())
+}

@@ -1,0 +1,150 @@
+-- The test of a saved stack's bytes tells saved stacks.
+use Rattle.std.proofs.Common.{◌≡◌, ◌≢◌, inl, inr, ℕ, zero, suc, ◌+◌, ◌-◌, ◌%◌, ◌≤◌, ◌<◌, Bool, true, false, ◌==◌, ◌&&◌, ◌||◌, nat_le, nat_lt, List, [], ◌∷◌, length, take, drop, refl, arith, sym, ap, ◌∙◌, length-drop}
+use Rattle.std.proofs.lemmas.Bool.{or_cases, eqb-true}
+use Rattle.std.proofs.lemmas.Bool.Decides.{nat_tests}
+use Rattle.std.proofs.lemmas.List.{length-take}
+use Rattle.std.proofs.lemmas.Slice.Eq.{bytes_eq-Decides}
+use Rattle.std.specs.Bool.{Decides}
+use Rattle.std.specs.Str.{bytes_eq}
+use Rattle.vm_stack.specs.StackState.{number}
+use Rattle.vm_stack.specs.Frame.{frame_head, frame_len_of}
+use Rattle.vm_stack.specs.Chain.{IsFormat}
+use Rattle.vm_stack.specs.Saved.{LinkedFrames, SavedStack, OneFrame, format_from}
+use Rattle.vm_stack.specs.SavedTest.{is_frame_of, is_one_frame, is_frame_over, are_linked, is_saved_stack}
+use Rattle.vm_stack.proofs.SavedLemmas.{parts, link_up, link_down, read_frame, frame_read}
+
+left : (a b : Bool) → (a && b) ≡ true → a ≡ true
+left true b h = refl
+left false b h = absurd (grind (arith, h))
+
+right : (a b : Bool) → (a && b) ≡ true → b ≡ true
+right true b h = h
+right false b h = absurd (grind (arith, h))
+
+both : (a b : Bool) → a ≡ true → b ≡ true → (a && b) ≡ true
+both a b h k = rw (h, k) refl
+
+second : (a b : Bool) → b ≡ true → (a || b) ≡ true
+second true b h = refl
+second false b h = h
+
+-- one frame
+
+tested : (b f : List ℕ) (n : ℕ) → n ≡ format_from 0 (drop 8 b) → f ≡ take n (drop 8 b) → length b ≤ 1048576
+    → is_frame_of f b ≡ true → OneFrame b
+tested b f n size is small e =
+    let head_is = bytes_eq (take (8 + length f) b) (frame_head f) in
+    let in_fours = length b % 4 == 0 in
+    let fits = nat_le (frame_len_of f + 16) (length b) in
+    let e0 : nat_lt 0 (length f) ≡ true = left (nat_lt 0 (length f)) (fits && (in_fours && head_is)) e in
+    let e1 : (fits && (in_fours && head_is)) ≡ true = right (nat_lt 0 (length f)) (fits && (in_fours && head_is)) e in
+    let e2 : fits ≡ true = left fits (in_fours && head_is) e1 in
+    let e3 : (in_fours && head_is) ≡ true = right fits (in_fours && head_is) e1 in
+    let some : 0 < length f = grind (arith, nat_tests, e0) in
+    let long : frame_len_of f + 16 ≤ length b = grind (arith, nat_tests, e2) in
+    let fours : length b % 4 ≡ 0 = eqb-true (length b % 4) 0 (left in_fours head_is e3) in
+    let head : take (8 + length f) b ≡ frame_head f =
+    (bytes_eq-Decides (take (8 + length f) b) (frame_head f)).0 (right in_fours head_is e3) in
+    let taken : length f ≡ length (take n (drop 8 b)) = ap length is in
+    let short = length-take n (drop 8 b) in
+    read_frame b f n size (λ z. absurd (omega (arith, z, some, taken, short))) is long fours small head
+
+frame_tested : (b : List ℕ) → length b ≤ 1048576 → is_one_frame b ≡ true → OneFrame b
+frame_tested b small e =
+    tested b (take (format_from 0 (drop 8 b)) (drop 8 b)) (format_from 0 (drop 8 b)) refl refl small e
+
+some_format : (f : List ℕ) → IsFormat f → 2 ≤ length f
+some_format [] is = absurd is
+some_format (x ∷ []) is = absurd is
+some_format (x ∷ y ∷ g) is = omega arith
+
+passed : (b f : List ℕ) → 0 < length f → frame_len_of f + 16 ≤ length b → length b % 4 ≡ 0 → take (8 + length f) b ≡ frame_head f
+    → is_frame_of f b ≡ true
+passed b f some long fours head =
+    let one : nat_lt 0 (length f) ≡ true = grind (arith, nat_tests, some) in
+    let two : nat_le (frame_len_of f + 16) (length b) ≡ true = grind (arith, nat_tests, long) in
+    let three : (length b % 4 == 0) ≡ true = grind (arith, nat_tests, fours) in
+    let four : bytes_eq (take (8 + length f) b) (frame_head f) ≡ true =
+    (bytes_eq-Decides (take (8 + length f) b) (frame_head f)).1 head in
+    both _ _ one (both _ _ two (both _ _ three four))
+
+frame_passes : (b : List ℕ) → OneFrame b → is_one_frame b ≡ true
+frame_passes b h =
+    let p = parts b h in
+    let f = take (format_from 0 (drop 8 b)) (drop 8 b) in
+    let same : f ≡ h.frame.format = ap (λ (n : ℕ). take n (drop 8 b)) p.size ∙ p.taken in
+    let two = some_format h.frame.format p.format in
+    let l = ap length same in
+    frame_read b f (format_from 0 (drop 8 b)) (is_one_frame b) refl refl
+    (λ long fours head. passed b f (omega (arith, two, l)) long fours head) h
+
+-- frames on one another
+
+nothing : (xs : List ℕ) → length xs ≡ 0 → LinkedFrames xs
+nothing [] e = record { frames = []; ends = tt; linked = tt; bytes = refl }
+nothing (x ∷ xs) e = absurd (omega (arith, e))
+
+up_from : (below : List ℕ → Bool) (xs : List ℕ) (at : ℕ) → ((ys : List ℕ) → length ys ≤ 1048576 → below ys ≡ true → LinkedFrames ys)
+    → at ≡ number 4 xs (length xs - 4) → length xs ≤ 1048576 → is_frame_over below xs at ≡ true → LinkedFrames xs
+up_from below xs at low is small e =
+    let frame = is_one_frame (drop at xs) in
+    let rest = below (take at xs) in
+    let e1 : nat_lt at (length xs) ≡ true = left (nat_lt at (length xs)) (frame && rest) e in
+    let e2 : (frame && rest) ≡ true = right (nat_lt at (length xs)) (frame && rest) e in
+    let inside : at < length xs = grind (arith, nat_tests, e1) in
+    let over = length-drop at xs in
+    let under = length-take at xs in
+    link_up xs at inside (sym is)
+    (frame_tested (drop at xs) (omega (arith, over, small)) (left frame rest e2))
+    (low (take at xs) (omega (arith, under, small)) (right frame rest e2))
+
+linked_up : (n : ℕ) (xs : List ℕ) → length xs ≤ 1048576 → are_linked n xs ≡ true → LinkedFrames xs
+unfolding are_linked
+linked_up zero xs small e = nothing xs (eqb-true (length xs) 0 e)
+linked_up (suc n) xs small e =
+    elim (or_cases (length xs == 0) (is_frame_over (are_linked n) xs (number 4 xs (length xs - 4))) e) [
+      | inl z ↦ nothing xs (eqb-true (length xs) 0 z)
+      | inr h ↦ up_from (are_linked n) xs (number 4 xs (length xs - 4)) (linked_up n) refl small h
+    ]
+
+down_from : (below : List ℕ → Bool) (n : ℕ) (xs : List ℕ) (at : ℕ) → ((ys : List ℕ) → length ys ≤ n → LinkedFrames ys → below ys ≡ true)
+    → at ≡ number 4 xs (length xs - 4) → 0 < length xs → length xs ≤ suc n → LinkedFrames xs → is_frame_over below xs at ≡ true
+down_from below n xs at low is some most linked =
+    let d = link_down xs at some (sym is) linked in
+    let inside : at < length xs = d.inside in
+    let under = length-take at xs in
+    both _ _ (grind (arith, nat_tests, inside))
+    (both _ _ (frame_passes (drop at xs) d.frame) (low (take at xs) (omega (arith, under, inside, most)) d.low))
+
+none_or_by : (n : ℕ) (b t : Bool) → (n == 0) ≡ t → (0 < n → b ≡ true) → (t || b) ≡ true
+none_or_by n b true e h = refl
+none_or_by n b false e h = h (grind (arith, nat_tests, e))
+
+none_or : (n : ℕ) (b : Bool) → (0 < n → b ≡ true) → (n == 0 || b) ≡ true
+none_or n b h = none_or_by n b (n == 0) refl h
+
+linked_down : (n : ℕ) (xs : List ℕ) → length xs ≤ n → LinkedFrames xs → are_linked n xs ≡ true
+unfolding are_linked
+linked_down zero xs most linked = let none : length xs ≡ 0 = omega (arith, most) in grind (arith, nat_tests, none)
+linked_down (suc n) xs most linked =
+    none_or (length xs) (is_frame_over (are_linked n) xs (number 4 xs (length xs - 4)))
+    (λ some. down_from (are_linked n) n xs (number 4 xs (length xs - 4)) (linked_down n) refl some most linked)
+
+saved_by : (xs : List ℕ) → length xs ≤ 1048576 → is_saved_stack xs ≡ true → SavedStack xs
+unfolding is_saved_stack
+saved_by xs small e =
+    let e1 : nat_lt 0 (length xs) ≡ true = left (nat_lt 0 (length xs)) (are_linked (length xs) xs) e in
+    record {
+      some = grind (arith, nat_tests, e1);
+      linked = linked_up (length xs) xs small (right (nat_lt 0 (length xs)) (are_linked (length xs) xs) e);
+    }
+
+saved_passes : (xs : List ℕ) → SavedStack xs → is_saved_stack xs ≡ true
+unfolding is_saved_stack
+saved_passes xs s =
+    let some : 0 < length xs = s.some in
+    both _ _ (grind (arith, nat_tests, some)) (linked_down (length xs) xs (omega arith) s.linked)
+
+-- what a stack may hold passes the test exactly where it is a saved stack
+pub saved_decided : (xs : List ℕ) → length xs ≤ 1048576 → Decides (is_saved_stack xs) (SavedStack xs)
+saved_decided xs small = (saved_by xs small, saved_passes xs)
