@@ -49,19 +49,22 @@ alone s done = done >>= (λ p. Ok (record s { glk = p.0 }, p.1))
 
 -- The call answered this and left these, as it should, unless memory ran out. After a fault
 -- nothing is said of memory and stack.
-abbrev pub Does : {A : Type 0} → Rule A → Glk → MemoryMap → StackState → Result A Trap → Type 0
+abbrev pub Does : {A : Type 0} → Rule A → Glk → MemoryMap → StackState → Result A Trap
+    → Type 0
 Does should g m s (Ok x) = should ≡ Ok (desk g m s, x)
 Does should g m s (Err (Fault n)) = should ≡ Err (g, n)
 Does should g m s (Err NoMemory) = Unit {0}
 
 -- The same of a call that doesn't reach the stack, and answers nothing.
-abbrev pub Puts : Reached (Glk × MemoryMap) → Glk → MemoryMap → Result (Unit {0}) Trap → Type 0
+abbrev pub Puts : Reached (Glk × MemoryMap) → Glk → MemoryMap → Result (Unit {0}) Trap
+    → Type 0
 Puts should g m (Ok x) = should ≡ Ok (g, m)
 Puts should g m (Err (Fault n)) = should ≡ Err (g, n)
 Puts should g m (Err NoMemory) = Unit {0}
 
 -- The same of one that answers a value.
-abbrev pub Gets : {A : Type 0} → Reached (Glk × MemoryMap × A) → Glk → MemoryMap → Result A Trap
+abbrev pub Gets : {A : Type 0} → Reached (Glk × MemoryMap × A) → Glk → MemoryMap
+    → Result A Trap
     → Type 0
 Gets should g m (Ok x) = should ≡ Ok (g, m, x)
 Gets should g m (Err (Fault n)) = should ≡ Err (g, n)
@@ -105,7 +108,8 @@ Writes should m (Err (Fault n)) = should ≡ Err n
 Writes should m (Err NoMemory) = Unit {0}
 
 -- The same of a call that reaches the Glk state alone and gives a vector, seen as its items.
-abbrev pub Reads : {A Z : Type 0} → Reached (Glk × List A) → Glk → Result (Vec A Z) Trap → Type 0
+abbrev pub Reads : {A Z : Type 0} → Reached (Glk × List A) → Glk → Result (Vec A Z) Trap
+    → Type 0
 Reads should g (Ok v) = should ≡ Ok (g, v.items)
 Reads should g (Err (Fault n)) = should ≡ Err (g, n)
 Reads should g (Err NoMemory) = Unit {0}

@@ -1,5 +1,6 @@
 -- The arguments of a Glk call (Glulx 3.1.3, "Miscellaneous").
-use Rattle.std.specs.Prelude.{ℕ, zero, suc, ◌+◌, ◌==◌, nat_lt, Bool, true, if◌then◌else◌, List}
+use Rattle.std.specs.Prelude.{ℕ, zero, suc, ◌+◌, ◌==◌, nat_lt, Bool, true}
+use Rattle.std.specs.Prelude.{if◌then◌else◌, List}
 use Rattle.std.specs.Prelude.{replicate, slice_set, Option, Some, None, Result, Ok, Err}
 use Rattle.vm_stack.specs.StackState.{StackState}
 use Rattle.vm_stack.specs.Values as stack
@@ -12,7 +13,8 @@ popped s = stacked (stack.popped s)
 
 -- so many values are taken into the places from i on, the top first; there are five places, and
 -- no call uses more
-unfoldable pub taken : ℕ → StackState → ℕ → List ℕ → Result (StackState × List ℕ) ℕ
+unfoldable pub taken : ℕ → StackState → ℕ → List ℕ
+    → Result (StackState × List ℕ) ℕ
 taken zero s i args = Ok (s, args)
 taken (suc n) s i args = popped s >>= (λ p. taken n p.0 (i + 1) (slice_set args i p.1))
 

@@ -15,7 +15,8 @@ use Rattle.glk_dispatch.specs.Windows.{window_work}
 use Rattle.glk_dispatch.specs.declared.called.Called.{Called}
 use Rattle.glk_dispatch.specs.declared.selector.Call as c
 use Rattle.glk_dispatch.specs.declared.selector.Call.TheVariants.{Base, Window, Stream, FileRef}
-use Rattle.glk_dispatch.specs.declared.selector.Call.TheVariants.{Output, Style, Case, Event, Nothing}
+use Rattle.glk_dispatch.specs.declared.selector.Call.TheVariants.{Output, Style, Case, Event}
+use Rattle.glk_dispatch.specs.declared.selector.Call.TheVariants.{Nothing}
 
 -- what each call does, with l 0, l 1 .. its arguments
 abbrev pub work : c.Call → Desk → (ℕ → ℕ) → Rule Called

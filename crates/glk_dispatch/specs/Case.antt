@@ -1,5 +1,6 @@
 -- Case (Glk 0.7.5, "Upper and Lower Case").
-use Rattle.std.specs.Prelude.{ℕ, zero, suc, ◌+◌, ◌-◌, ◌%◌, ◌^◌, ◌==◌, ◌&&◌, ◌||◌, not, nat_le, min}
+use Rattle.std.specs.Prelude.{ℕ, zero, suc, ◌+◌, ◌-◌, ◌%◌, ◌^◌, ◌==◌}
+use Rattle.std.specs.Prelude.{◌&&◌, ◌||◌, not, nat_le, min}
 use Rattle.std.specs.Prelude.{Bool, if◌then◌else◌, Result, Ok, Err}
 use Rattle.vm_memory.specs.MemoryMap.{MemoryMap}
 use Rattle.vm_memory.specs.Access.{read, written}
@@ -42,7 +43,8 @@ word_cased case g m at =
     >>= (λ n. Ok (charged g, n))
 
 -- so many words from an address on
-unfoldable pub words_cased : ℕ → Case → Glk → MemoryMap → ℕ → Reached (Glk × MemoryMap)
+unfoldable pub words_cased : ℕ → Case → Glk → MemoryMap → ℕ
+    → Reached (Glk × MemoryMap)
 words_cased zero case g m at = Ok (g, m)
 words_cased (suc count) case g m at =
     word_cased case g m at >>= (λ p. words_cased count case p.0 p.1 ((at + 4) % 2 ^ 32))
@@ -63,8 +65,8 @@ cases s len n done =
     within s.glk (checked len n)
     >>= (λ _. done) >>= (λ p. gives n (record s { glk = p.0; memory = p.1 }))
 
--- glk_char_to_lower ch · glk_buffer_to_lower_case_uni buf, len, n · .._title_case_uni buf, len, n,
--- lowerrest
+-- glk_char_to_lower ch · glk_buffer_to_lower_case_uni buf, len, n · .._title_case_uni buf, len,
+-- n, lowerrest
 unfoldable pub case_work : CaseCall → Desk → (ℕ → ℕ) → Rule Called
 case_work CharToLower s l = gives (lower (l 0)) s
 case_work CharToUpper s l = gives (upper (l 0)) s

@@ -1,6 +1,8 @@
 -- Events and input (Glk 0.7.5, "Events", "Line Input Events", "Character Input Events").
-use Rattle.std.specs.Prelude.{ℕ, zero, suc, ◌+◌, ◌%◌, ◌^◌, ◌==◌, ◌||◌, ◌&&◌, not, nat_le, Bool}
-use Rattle.std.specs.Prelude.{if◌then◌else◌, List, [], ◌∷◌, ◌++◌, Option, Some, None}
+use Rattle.std.specs.Prelude.{ℕ, zero, suc, ◌+◌, ◌%◌, ◌^◌, ◌==◌, ◌||◌}
+use Rattle.std.specs.Prelude.{◌&&◌, not, nat_le, Bool}
+use Rattle.std.specs.Prelude.{if◌then◌else◌, List, [], ◌∷◌, ◌++◌, Option, Some}
+use Rattle.std.specs.Prelude.{None}
 use Rattle.std.specs.Prelude.{Result, Ok}
 use Rattle.vm_memory.specs.MemoryMap.{MemoryMap}
 use Rattle.vm_memory.specs.Access.{read}
@@ -82,7 +84,8 @@ abbrev pub echo_item : Bool → Glk → MemoryMap → ℕ → ℕ → Reached (G
 echo_item unicode g m n at =
     within g (code_at unicode m at) >>= (λ c. echo_put g m n INPUT c)
 
-unfoldable pub echo_array : ℕ → Bool → Glk → MemoryMap → ℕ → ℕ → Reached (Glk × MemoryMap)
+unfoldable pub echo_array : ℕ → Bool → Glk → MemoryMap → ℕ → ℕ
+    → Reached (Glk × MemoryMap)
 echo_array zero unicode g m n at = Ok (g, m)
 echo_array (suc count) unicode g m n at =
     echo_item unicode g m n at
@@ -101,7 +104,8 @@ line_begun r g m win =
     else Ok (g, m)
 
 -- the same of a line that is cancelled
-abbrev pub initial_echoed : Option Request → Glk → MemoryMap → ℕ → Reached (Glk × MemoryMap)
+abbrev pub initial_echoed : Option Request → Glk → MemoryMap → ℕ
+    → Reached (Glk × MemoryMap)
 initial_echoed None g m win = Ok (g, m)
 initial_echoed (Some (Char unicode)) g m win = Ok (g, m)
 initial_echoed (Some (Line r)) g m win = line_begun r g m win
@@ -142,14 +146,16 @@ event_work SetEcho s l = alone s (line_echo_set s.glk (l 0) (l 1))
 event_work SetTerminators s l = alone s (terminators_set s.glk s.memory (l 0) (l 1) (l 2))
 
 -- a line that comes: the window shows it and a newline, unless the request has no echo
-abbrev pub line_shown : LineRequest → Glk → MemoryMap → ℕ → List ℕ → Reached (Glk × MemoryMap)
+abbrev pub line_shown : LineRequest → Glk → MemoryMap → ℕ → List ℕ
+    → Reached (Glk × MemoryMap)
 line_shown r g m win text =
     if r.echo
     then echoed g m (stream_in g win) (delivery.taken_line r text)
     >>= (λ p. echo_put p.0 p.1 (stream_in g win) INPUT NEWLINE)
     else Ok (g, m)
 
-abbrev pub line_echoed : Option Request → Glk → MemoryMap → ℕ → List ℕ → Reached (Glk × MemoryMap)
+abbrev pub line_echoed : Option Request → Glk → MemoryMap → ℕ → List ℕ
+    → Reached (Glk × MemoryMap)
 line_echoed None g m win text = Ok (g, m)
 line_echoed (Some (Char unicode)) g m win text = Ok (g, m)
 line_echoed (Some (Line r)) g m win text = line_shown r g m win text

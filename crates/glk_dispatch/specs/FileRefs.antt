@@ -1,6 +1,8 @@
 -- The calls of file references (Glk 0.7.5, "File References").
-use Rattle.std.specs.Prelude.{ℕ, zero, suc, ◌+◌, ◌%◌, ◌^◌, ◌==◌, ◌&&◌, not, Bool, false}
-use Rattle.std.specs.Prelude.{if◌then◌else◌, List, [], ◌∷◌, ◌++◌, length, Result, Ok, Err}
+use Rattle.std.specs.Prelude.{ℕ, zero, suc, ◌+◌, ◌%◌, ◌^◌, ◌==◌, ◌&&◌, not}
+use Rattle.std.specs.Prelude.{Bool, false}
+use Rattle.std.specs.Prelude.{if◌then◌else◌, List, [], ◌∷◌, ◌++◌, length, Result}
+use Rattle.std.specs.Prelude.{Ok, Err}
 use Rattle.vm_memory.specs.MemoryMap.{MemoryMap}
 use Rattle.vm_memory.specs.Access.{read}
 use Rattle.vm_memory.specs.Fault.{coded}
@@ -26,7 +28,8 @@ use Rattle.glk_dispatch.specs.declared.filerefs.FileRefCall.TheVariants.{Iterate
 use Rattle.glk_dispatch.specs.declared.filerefs.FileRefCall.TheVariants.{DeleteFile, DoesFileExist}
 
 -- the characters of a string up to its 0, each counted as read, behind those before
-unfoldable pub name_read : ℕ → Glk → MemoryMap → ℕ → List ℕ → Reached (Glk × List ℕ)
+unfoldable pub name_read : ℕ → Glk → MemoryMap → ℕ → List ℕ
+    → Reached (Glk × List ℕ)
 name_read zero g m at name = Err (g, 1)
 name_read (suc left) g m at name =
     within g (coded (read 1 m at)) >>= (λ code.

@@ -1,5 +1,6 @@
 -- What the library can do (Glk 0.7.5, "Testing for Capabilities").
-use Rattle.std.specs.Prelude.{ℕ, ◌==◌, ◌&&◌, ◌||◌, not, nat_le, nat_lt, Bool, if◌then◌else◌, Ok}
+use Rattle.std.specs.Prelude.{ℕ, ◌==◌, ◌&&◌, ◌||◌, not, nat_le, nat_lt, Bool}
+use Rattle.std.specs.Prelude.{if◌then◌else◌, Ok}
 use Rattle.glk_input.specs.Keycode.{is_keycode, is_terminator}
 use Rattle.glk_dispatch.specs.Answer.{Desk, Rule, ◌>>=◌}
 use Rattle.glk_dispatch.specs.Reference.{gives, refers}

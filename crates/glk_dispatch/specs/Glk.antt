@@ -70,7 +70,8 @@ takes g holds rest = needs g holds 22 rest
 
 -- the window of a stream, or 0; and a stream's style
 abbrev pub window_of : Glk → ℕ → ℕ
-window_of g n = streams.of_stream (streams.stream_at g.streams n) 0 (λ s. streams.window_in s.target)
+window_of g n = streams.of_stream (streams.stream_at g.streams n) 0
+    (λ s. streams.window_in s.target)
 
 abbrev pub style_of : Glk → ℕ → ℕ
 style_of g n = streams.of_stream (streams.stream_at g.streams n) 0 (λ s. s.style)

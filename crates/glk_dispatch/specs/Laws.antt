@@ -10,8 +10,8 @@ use Rattle.glk_dispatch.specs.Events.{answered}
 use Rattle.glk_dispatch.specs.Glk.{fresh, turn_begun}
 use Rattle.glk_dispatch.specs.declared.glk.Glk.{Glk}
 
--- the windows are one tree with sound grids, their next number is one or none is left; streams, file
--- references, files and requests are valid
+-- the windows are one tree with sound grids, their next number is one or none is left; streams,
+-- file references, files and requests are valid
 pub record AreValid (g : Glk) : Type 0 where
   pub windows : windows.IsValid g.windows
   pub streams : streams.IsValid g.streams

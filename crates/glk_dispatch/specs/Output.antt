@@ -1,5 +1,6 @@
 -- Output of characters, one by one (Glk 0.7.5, "How To Print", "Echo Streams").
-use Rattle.std.specs.Prelude.{ℕ, zero, suc, ◌+◌, ◌%◌, ◌^◌, ◌==◌, nat_le, Bool, if◌then◌else◌, length}
+use Rattle.std.specs.Prelude.{ℕ, zero, suc, ◌+◌, ◌%◌, ◌^◌, ◌==◌, nat_le, Bool}
+use Rattle.std.specs.Prelude.{if◌then◌else◌, length}
 use Rattle.std.specs.Prelude.{bit_and, Result, Ok, Err}
 use Rattle.vm_memory.specs.MemoryMap.{MemoryMap}
 use Rattle.vm_memory.specs.Access.{read, written}
@@ -73,7 +74,8 @@ put_item unicode g m n at =
     within g (code_at unicode m at) >>= (λ code. put_code g m n code)
 
 -- so many characters of an array, one by one
-unfoldable pub put_array : ℕ → Bool → Glk → MemoryMap → ℕ → ℕ → Reached (Glk × MemoryMap)
+unfoldable pub put_array : ℕ → Bool → Glk → MemoryMap → ℕ → ℕ
+    → Reached (Glk × MemoryMap)
 put_array zero unicode g m n at = Ok (g, m)
 put_array (suc count) unicode g m n at =
     put_item unicode g m n at
@@ -87,7 +89,8 @@ text_start unicode m at =
     then Ok ((at + (if unicode then 4 else 1)) % 2 ^ 32) else Err 15)
 
 -- the characters of a string up to its 0, put one by one; none has more than memory has bytes
-unfoldable pub put_text : ℕ → Bool → Glk → MemoryMap → ℕ → ℕ → Reached (Glk × MemoryMap)
+unfoldable pub put_text : ℕ → Bool → Glk → MemoryMap → ℕ → ℕ
+    → Reached (Glk × MemoryMap)
 put_text zero unicode g m n at = Err (g, 1)
 put_text (suc left) unicode g m n at =
     within g (code_at unicode m at) >>= (λ code.

@@ -1,6 +1,7 @@
 -- What a call leaves at its references (Glk 0.7.5, "The Dispatch Layer"; Glulx 3.1.3,
 -- "Miscellaneous").
-use Rattle.std.specs.Prelude.{ℕ, ◌+◌, ◌%◌, ◌^◌, ◌==◌, ◌||◌, if◌then◌else◌, List, [], ◌∷◌}
+use Rattle.std.specs.Prelude.{ℕ, ◌+◌, ◌%◌, ◌^◌, ◌==◌, ◌||◌}
+use Rattle.std.specs.Prelude.{if◌then◌else◌, List, [], ◌∷◌}
 use Rattle.std.specs.Prelude.{Result, Ok}
 use Rattle.vm_memory.specs.MemoryMap.{MemoryMap}
 use Rattle.vm_memory.specs.Access.{written}
@@ -13,7 +14,8 @@ use Rattle.glk_dispatch.specs.declared.called.Called.{Called}
 use Rattle.glk_dispatch.specs.declared.called.Called.TheVariants.{Value}
 
 -- a word at a reference: nowhere for 0, on the stack for 0xFFFFFFFF, else at the address
-abbrev pub referred : MemoryMap → StackState → ℕ → ℕ → Result (MemoryMap × StackState) ℕ
+abbrev pub referred : MemoryMap → StackState → ℕ → ℕ
+    → Result (MemoryMap × StackState) ℕ
 referred m s at x =
     if at == 0 then Ok (m, s)
     else (if at == 4294967295
@@ -25,7 +27,8 @@ abbrev pub next_field : ℕ → ℕ
 next_field at = if at == 0 || at == 4294967295 then at else (at + 4) % 2 ^ 32
 
 -- a structure's words in order at a reference, the last on top of the stack
-abbrev pub referred_all : MemoryMap → StackState → ℕ → List ℕ → Result (MemoryMap × StackState) ℕ
+abbrev pub referred_all : MemoryMap → StackState → ℕ → List ℕ
+    → Result (MemoryMap × StackState) ℕ
 referred_all m s at [] = Ok (m, s)
 referred_all m s at (x ∷ xs) =
     referred m s at x >>= (λ p. referred_all p.0 p.1 (next_field at) xs)
@@ -33,7 +36,8 @@ referred_all m s at (x ∷ xs) =
 -- the same on the desk
 abbrev pub refers : Desk → ℕ → ℕ → Reached Desk
 refers s at x =
-    within s.glk (referred s.memory s.stack at x) >>= (λ p. Ok (record s { memory = p.0; stack = p.1 }))
+    within s.glk (referred s.memory s.stack at x)
+    >>= (λ p. Ok (record s { memory = p.0; stack = p.1 }))
 
 abbrev pub refers_all : Desk → ℕ → List ℕ → Reached Desk
 refers_all s at xs =

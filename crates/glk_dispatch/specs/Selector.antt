@@ -1,5 +1,6 @@
 -- The selectors, and how many arguments each call takes (Glk 0.7.5, "Table of Selectors").
-use Rattle.std.specs.Prelude.{ℕ, ◌==◌, ◌&&◌, ◌||◌, nat_le, Bool, true, false, if◌then◌else◌, List, []}
+use Rattle.std.specs.Prelude.{ℕ, ◌==◌, ◌&&◌, ◌||◌, nat_le, Bool, true, false}
+use Rattle.std.specs.Prelude.{if◌then◌else◌, List, []}
 use Rattle.std.specs.Prelude.{◌∷◌, Option, Some, None}
 use Rattle.glk_dispatch.specs.declared.selector.Call.{Call}
 use Rattle.glk_dispatch.specs.declared.selector.Call.TheVariants as call
@@ -151,7 +152,8 @@ at_number [] n = None
 at_number (row ∷ rows) n = if n == row.0 then Some (row.2, row.1) else at_number rows n
 
 -- the call of a class, or what comes of the other classes
-abbrev pub of_class : {C : Type 0} → (C → Call) → Option (C × ℕ) → Option (Call × Option ℕ)
+abbrev pub of_class : {C : Type 0} → (C → Call) → Option (C × ℕ)
+    → Option (Call × Option ℕ)
     → Option (Call × Option ℕ)
 of_class kind None rest = rest
 of_class kind (Some p) rest = Some (kind p.0, Some p.1)

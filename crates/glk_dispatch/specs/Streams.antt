@@ -1,5 +1,6 @@
 -- The calls of streams (Glk 0.7.5, "Streams").
-use Rattle.std.specs.Prelude.{ℕ, zero, suc, ◌+◌, ◌-◌, ◌*◌, ◌%◌, ◌^◌, ◌==◌, ◌&&◌, Bool, if◌then◌else◌}
+use Rattle.std.specs.Prelude.{ℕ, zero, suc, ◌+◌, ◌-◌, ◌*◌, ◌%◌, ◌^◌, ◌==◌}
+use Rattle.std.specs.Prelude.{◌&&◌, Bool, if◌then◌else◌}
 use Rattle.std.specs.Prelude.{true, false, [], ◌∷◌, Option, Some, None, Ok}
 use Rattle.vm_memory.specs.MemoryMap.{MemoryMap}
 use Rattle.glk_numbers.specs.Numbered.{after}
@@ -29,7 +30,8 @@ use Rattle.glk_dispatch.specs.declared.streams.StreamCall.TheVariants.{OpenResou
 use Rattle.glk_dispatch.specs.declared.streams.StreamCall.TheVariants.{GetLine, GetBuffer}
 
 -- a call changes the streams, and gives a value
-abbrev pub made : {A : Type 0} → Glk → Result (table.StreamTable × A) StreamStop → Reached (Glk × A)
+abbrev pub made : {A : Type 0} → Glk → Result (table.StreamTable × A) StreamStop
+    → Reached (Glk × A)
 made g new = within g (numbered new) >>= (λ p. Ok (record g { streams = p.0 }, p.1))
 
 -- the same of one that gives none
@@ -101,13 +103,15 @@ char_read unicode g m n =
     stream g n (got_code g m n >>= (λ p. Ok (p.0, code_or_end unicode p.1)))
 
 -- a character that was read is written at an address
-abbrev pub item_kept : Bool → Glk → MemoryMap → ℕ → Option ℕ → Reached (Glk × MemoryMap × Option ℕ)
+abbrev pub item_kept : Bool → Glk → MemoryMap → ℕ → Option ℕ
+    → Reached (Glk × MemoryMap × Option ℕ)
 item_kept unicode g m at None = Ok (g, m, None)
 item_kept unicode g m at (Some code) =
     within g (code_written unicode m at (taken unicode code))
     >>= (λ n. Ok (g, n, Some code))
 
-abbrev pub got_item : Bool → Glk → MemoryMap → ℕ → ℕ → Reached (Glk × MemoryMap × Option ℕ)
+abbrev pub got_item : Bool → Glk → MemoryMap → ℕ → ℕ
+    → Reached (Glk × MemoryMap × Option ℕ)
 got_item unicode g m n at = got_code g m n >>= (λ p. item_kept unicode p.0 m at p.1)
 
 -- what follows a character: nothing more at the end, and behind the newline of a line
@@ -118,15 +122,18 @@ got_on rest line g m count (Some code) =
     if line && code == 10 then Ok (g, m, count + 1) else rest g m (count + 1)
 
 -- at most so many characters of a stream into an array, and how many came with those before
-unfoldable pub got_array : ℕ → Bool → Bool → Glk → MemoryMap → ℕ → ℕ → ℕ → Reached (Glk × MemoryMap × ℕ)
+unfoldable pub got_array : ℕ → Bool → Bool → Glk → MemoryMap → ℕ → ℕ → ℕ
+    → Reached (Glk × MemoryMap × ℕ)
 got_array zero line unicode g m n at count = Ok (g, m, count)
 got_array (suc left) line unicode g m n at count =
     got_item unicode g m n at
-    >>= (λ p. got_on (λ h k c. got_array left line unicode h k n ((at + width unicode) % 2 ^ 32) c)
+    >>= (λ p. got_on (λ h k c. got_array left line unicode h k n
+    ((at + width unicode) % 2 ^ 32) c)
     line p.0 p.1 count p.2)
 
 -- glk_get_buffer_stream str, buf, len: the count
-abbrev pub buffer_read : Bool → Glk → MemoryMap → ℕ → ℕ → ℕ → Reached (Glk × MemoryMap × ℕ)
+abbrev pub buffer_read : Bool → Glk → MemoryMap → ℕ → ℕ → ℕ
+    → Reached (Glk × MemoryMap × ℕ)
 buffer_read unicode g m n buf len = stream g n (got_array len false unicode g m n buf 0)
 
 -- the place behind so many characters of an array
@@ -134,7 +141,8 @@ abbrev pub behind : Bool → ℕ → ℕ → ℕ
 behind unicode buf count = (buf + width unicode * count % 2 ^ 32) % 2 ^ 32
 
 -- a line, and a zero behind it
-abbrev pub got_line : Bool → Glk → MemoryMap → ℕ → ℕ → ℕ → Reached (Glk × MemoryMap × ℕ)
+abbrev pub got_line : Bool → Glk → MemoryMap → ℕ → ℕ → ℕ
+    → Reached (Glk × MemoryMap × ℕ)
 got_line unicode g m n buf len =
     got_array (len - 1) true unicode g m n buf 0
     >>= (λ p. within p.0 (code_written unicode p.1 (behind unicode buf p.2) 0)
@@ -142,7 +150,8 @@ got_line unicode g m n buf len =
 
 -- glk_get_line_stream str, buf, len: at most len - 1 characters, to a newline with it, then a zero;
 -- the count. For len 0 nothing is read
-abbrev pub line_read : Bool → Glk → MemoryMap → ℕ → ℕ → ℕ → Reached (Glk × MemoryMap × ℕ)
+abbrev pub line_read : Bool → Glk → MemoryMap → ℕ → ℕ → ℕ
+    → Reached (Glk × MemoryMap × ℕ)
 line_read unicode g m n buf len =
     stream g n (if len == 0 then Ok (g, m, 0) else got_line unicode g m n buf len)
 

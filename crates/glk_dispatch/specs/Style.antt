@@ -15,7 +15,8 @@ use Rattle.glk_dispatch.specs.declared.style.StyleCall.TheVariants.{HintClear, D
 abbrev pub styled : Glk → ℕ → ℕ → Reached Glk
 styled g n style =
     if n == 0 then Ok g
-    else within g (numbered (streams.styled g.streams n style)) >>= (λ t. Ok (record g { streams = t }))
+    else within g (numbered (streams.styled g.streams n style))
+    >>= (λ t. Ok (record g { streams = t }))
 
 abbrev pub sets : Desk → ℕ → ℕ → Rule Called
 sets s n style = styled s.glk n style >>= (λ g. gives 0 (record s { glk = g }))

@@ -1,5 +1,6 @@
 -- The calls of windows (Glk 0.7.5, "Windows").
-use Rattle.std.specs.Prelude.{ℕ, zero, suc, ◌+◌, ◌==◌, ◌||◌, ◌&&◌, not, nat_lt, nat_le, Bool, false, if◌then◌else◌}
+use Rattle.std.specs.Prelude.{ℕ, zero, suc, ◌+◌, ◌==◌, ◌||◌, ◌&&◌, not, nat_lt}
+use Rattle.std.specs.Prelude.{nat_le, Bool, false, if◌then◌else◌}
 use Rattle.std.specs.Prelude.{List, [], ◌∷◌, length, Result, Ok, Err}
 use Rattle.glk_numbers.specs.Numbered.{after}
 use Rattle.glk_numbers.specs.declared.numbered.TheConstants.{MAX_NUMBER}
@@ -15,7 +16,8 @@ use Rattle.glk_streams.specs.FileRefs as current
 use Rattle.glk_input.specs.Request.{with_window, without_window}
 use Rattle.glk_dispatch.specs.Answer.{Desk, Reached, Rule, ◌>>=◌, alone, within}
 use Rattle.glk_dispatch.specs.Fault.{numbered}
-use Rattle.glk_dispatch.specs.Glk.{is_window, placed, takes, stream_or_none, window, window_of, window_or_none, written_to}
+use Rattle.glk_dispatch.specs.Glk.{is_window, placed, takes, stream_or_none, window, window_of}
+use Rattle.glk_dispatch.specs.Glk.{window_or_none, written_to}
 use Rattle.glk_dispatch.specs.Reference.{gives, refers, refers_all}
 use Rattle.glk_dispatch.specs.declared.called.Called.{Called}
 use Rattle.glk_dispatch.specs.declared.called.Called.TheVariants.{Value}
@@ -77,8 +79,8 @@ beside_opened g split method size kind rock =
     if nat_le MAX_NUMBER g.streams.next then (g, 0)
     else beside_made g (opening.split g.windows split method size kind rock)
 
--- glk_window_open split, method, size, type, rock: the new window or 0; method and size aren't looked
--- at without a split
+-- glk_window_open split, method, size, type, rock: the new window or 0; method and size aren't
+-- looked at without a split
 abbrev pub opened : Glk → ℕ → ℕ → ℕ → ℕ → ℕ → Reached (Glk × ℕ)
 opened g split method size kind rock =
     window_or_none g split
@@ -124,7 +126,8 @@ closed g win = placed (ended g win)
 abbrev pub closes : Desk → ℕ → ℕ → Rule Called
 closes s win result =
     window s.glk win
-    (refers_all (record s { glk = closed s.glk win }) result (0 ∷ written_to s.glk (tree.stream_of (slots s) win) ∷ []) >>= gives 0)
+    (refers_all (record s { glk = closed s.glk win }) result
+    (0 ∷ written_to s.glk (tree.stream_of (slots s) win) ∷ []) >>= gives 0)
 
 -- glk_window_get_size win, &width, &height
 abbrev pub sizes : Desk → ℕ → ℕ → ℕ → Rule Called

@@ -107,7 +107,8 @@ fn change_title(
     count: u32,
     others: bool,
 ) -> Result<(), Trap>
-    ensures { Puts (rows.title_cased count others glk.old memory.old buf) glk.new memory.new result }
+    ensures { Puts (rows.title_cased count others glk.old memory.old buf)
+        glk.new memory.new result }
 {
     change_words(glk, memory, Case::Upper, buf, count.min(1))?;
     let left = if others { count.saturating_sub(1) } else { 0 };

@@ -1,6 +1,7 @@
 //! Events and requests (Glk 0.7.5, "Events", "Line Input Events", "Character Input Events").
 
-ghost use Rattle.std.specs.Prelude.{◌≡◌, ◌≤◌, [], length, slice_index, not, ◌==◌, ◌<◌, ◌+◌, IfOk};
+ghost use Rattle.std.specs.Prelude.{◌≡◌, ◌≤◌, [], length, slice_index, not, ◌==◌};
+ghost use Rattle.std.specs.Prelude.{◌<◌, ◌+◌, IfOk};
 ghost use Rattle.glk_input.specs.Request as request;
 ghost use Rattle.glk_dispatch.specs.Answer.{Answers, Does, Gets, Leaves, Lists, Puts, desk};
 ghost use Rattle.glk_dispatch.specs.Events as rows;

@@ -2,7 +2,8 @@
 use Rattle.std.specs.Prelude.{◌≡◌, Option, Some, None, Result, Ok, Err}
 use Rattle.vm_memory.specs.declared.fault.MemFault.{MemFault}
 use Rattle.glk_streams.specs.declared.fault.StreamStop.{StreamStop}
-use Rattle.glk_streams.specs.declared.fault.StreamStop.TheVariants.{Memory, BadObject, BadArgument, NoMemory}
+use Rattle.glk_streams.specs.declared.fault.StreamStop.TheVariants.{Memory, BadObject, BadArgument}
+use Rattle.glk_streams.specs.declared.fault.StreamStop.TheVariants.{NoMemory}
 
 infixl 10 ◌>>=◌
 -- one step and then the next, up to the first that is refused
@@ -16,7 +17,8 @@ of_memory (Ok x) = Ok x
 of_memory (Err f) = Err (Memory f)
 
 -- what is answered where there is such an object; BadObject where there is none
-abbrev pub live : {A B : Type 0} → Option A → (A → Result B StreamStop) → Result B StreamStop
+abbrev pub live : {A B : Type 0} → Option A → (A → Result B StreamStop)
+    → Result B StreamStop
 live None f = Err BadObject
 live (Some x) f = f x
 
@@ -37,7 +39,8 @@ Answers should (Ok x) = should ≡ Ok x
 Answers should (Err e) = Refuses should e
 
 -- The call answered and left new, as it should.
-abbrev pub Gives : {S A : Type 0} → Result (S × A) StreamStop → S → Result A StreamStop → Type 0
+abbrev pub Gives : {S A : Type 0} → Result (S × A) StreamStop → S → Result A StreamStop
+    → Type 0
 Gives should new (Ok x) = should ≡ Ok (new, x)
 Gives should new (Err e) = Refuses should e
 

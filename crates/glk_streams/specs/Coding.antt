@@ -1,5 +1,6 @@
 -- How a stream keeps characters as bytes (Glk 0.7.5, "Streams"; own: the three codings).
-use Rattle.std.specs.Prelude.{ℕ, ◌*◌, ◌/◌, nat_lt, if◌then◌else◌, Bool, List, [], ◌∷◌, length, drop, slice_index, Option, Some, None}
+use Rattle.std.specs.Prelude.{ℕ, ◌*◌, ◌/◌, nat_lt, if◌then◌else◌, Bool, List, []}
+use Rattle.std.specs.Prelude.{◌∷◌, length, drop, slice_index, Option, Some, None}
 use lib.Utf8.{scalar}
 use Rattle.std.specs.Char.{encode_utf8}
 use Rattle.byteorder.specs.Endian.{big_bytes}

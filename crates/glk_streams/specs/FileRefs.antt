@@ -1,10 +1,13 @@
 -- File references (Glk 0.7.5, "File References"), the current stream and styles.
-use Rattle.std.specs.Prelude.{ℕ, ◌+◌, ◌==◌, ◌||◌, nat_le, nat_lt, if◌then◌else◌, Bool, List, [], ◌∷◌, ◌++◌, length, Option, Some, None, Result, Ok, Err}
+use Rattle.std.specs.Prelude.{ℕ, ◌+◌, ◌==◌, ◌||◌, nat_le, nat_lt, if◌then◌else◌}
+use Rattle.std.specs.Prelude.{Bool, List, [], ◌∷◌, ◌++◌, length, Option, Some, None}
+use Rattle.std.specs.Prelude.{Result, Ok, Err}
 use Rattle.glk_numbers.specs.Numbered.{has, without}
 use Rattle.glk_numbers.specs.declared.numbered.TheConstants.{MAX_NUMBER}
 use Rattle.glk_streams.specs.Answer.{live}
 use Rattle.glk_streams.specs.Files.{has_file, without_file}
-use Rattle.glk_streams.specs.Streams.{StreamTable, number_of, ref_number_of, stream_at, ref_at, with_stream}
+use Rattle.glk_streams.specs.Streams.{StreamTable, number_of, ref_number_of, stream_at, ref_at}
+use Rattle.glk_streams.specs.Streams.{with_stream}
 use Rattle.glk_streams.specs.declared.fileref.FileRef.{FileRef}
 use Rattle.glk_streams.specs.declared.fileref.TheConstants.{MAX_REFS}
 use Rattle.glk_streams.specs.declared.fault.StreamStop.{StreamStop}
@@ -24,7 +27,8 @@ made_ref t usage name rock =
     )
 
 -- the same with the name of another
-abbrev pub copied_ref : StreamTable → ℕ → ℕ → ℕ → Result (StreamTable × ℕ) StreamStop
+abbrev pub copied_ref : StreamTable → ℕ → ℕ → ℕ
+    → Result (StreamTable × ℕ) StreamStop
 copied_ref t usage fref rock = live (ref_at t fref) (λ r. Ok (made_ref t usage r.name rock))
 
 abbrev pub dropped_ref : StreamTable → ℕ → Result StreamTable StreamStop

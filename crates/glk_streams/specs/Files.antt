@@ -1,5 +1,7 @@
 -- The files of a session (Glk 0.7.5, "File References"; own: they live inside the session).
-use Rattle.std.specs.Prelude.{ℕ, ◌+◌, ◌-◌, ◌/◌, ◌%◌, ◌==◌, ◌||◌, nat_lt, if◌then◌else◌, Bool, false, List, [], ◌∷◌, length, Option, Some, None}
+use Rattle.std.specs.Prelude.{ℕ, ◌+◌, ◌-◌, ◌/◌, ◌%◌, ◌==◌, ◌||◌, nat_lt}
+use Rattle.std.specs.Prelude.{if◌then◌else◌, Bool, false, List, [], ◌∷◌, length, Option}
+use Rattle.std.specs.Prelude.{Some, None}
 use Rattle.std.specs.Ordering.{is_eq, is_lt, nat_cmp}
 use Rattle.std.specs.declared.cmp.Ordering.{Ordering}
 use Rattle.std.specs.Cmp.Lexicographic.{slice_cmp}
@@ -54,7 +56,8 @@ has_file (f ∷ fs) usage name = is_named usage name f || has_file fs usage name
 -- the bytes of the file with this usage and name, none where it isn't there
 unfoldable pub content_of : List File → ℕ → List ℕ → List ℕ
 content_of [] usage name = []
-content_of (f ∷ fs) usage name = if is_named usage name f then f.bytes else content_of fs usage name
+content_of (f ∷ fs) usage name =
+    if is_named usage name f then f.bytes else content_of fs usage name
 
 -- other bytes in the file with this usage and name
 unfoldable pub with_bytes : List File → ℕ → List ℕ → List ℕ → List File

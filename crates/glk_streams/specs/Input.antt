@@ -1,5 +1,6 @@
 -- What a character that is read does (Glk 0.7.5, "Streams").
-use Rattle.std.specs.Prelude.{ℕ, ◌+◌, ◌%◌, ◌^◌, nat_lt, if◌then◌else◌, Bool, List, Option, Some, None, Result, Ok, Err}
+use Rattle.std.specs.Prelude.{ℕ, ◌+◌, ◌%◌, ◌^◌, nat_lt, if◌then◌else◌, Bool}
+use Rattle.std.specs.Prelude.{List, Option, Some, None, Result, Ok, Err}
 use Rattle.vm_memory.specs.MemoryMap.{MemoryMap}
 use Rattle.vm_memory.specs.Access.{read}
 use Rattle.glk_streams.specs.Answer.{◌>>=◌, live, of_memory}
@@ -17,7 +18,8 @@ use Rattle.glk_streams.specs.declared.fault.StreamStop.{StreamStop}
 use Rattle.glk_streams.specs.declared.fault.StreamStop.TheVariants.{BadArgument}
 
 -- a character out of a buffer; None at its end
-abbrev pub got_from_memory : MemoryMap → ℕ → ℕ → ℕ → Coding → Result (Option Reading) StreamStop
+abbrev pub got_from_memory : MemoryMap → ℕ → ℕ → ℕ → Coding
+    → Result (Option Reading) StreamStop
 got_from_memory m place buf len c =
     if nat_lt place (length_of buf len)
     then of_memory (read (unit_of c) m (address_of c buf place))
@@ -25,7 +27,8 @@ got_from_memory m place buf len c =
     else Ok None
 
 -- a character from where a stream's characters come; a window's stream is never read
-abbrev pub got_from : Target → Bool → List File → MemoryMap → ℕ → Result (Option Reading) StreamStop
+abbrev pub got_from : Target → Bool → List File → MemoryMap → ℕ
+    → Result (Option Reading) StreamStop
 got_from (from.Window win) unicode fs m place = Err BadArgument
 got_from (from.Memory buf len) unicode fs m place =
     got_from_memory m place buf len (coding_of unicode (from.Memory buf len))

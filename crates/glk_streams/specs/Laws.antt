@@ -2,9 +2,11 @@
 use Rattle.std.specs.Prelude.{◌≡◌, ℕ, Bool, true, List, Result, Ok, Err}
 use Rattle.vm_memory.specs.MemoryMap.{MemoryMap}
 use Rattle.glk_streams.specs.declared.fault.StreamStop.{StreamStop}
-use Rattle.glk_streams.specs.FileRefs.{made_ref, copied_ref, dropped_ref, deleted, with_current, styled}
+use Rattle.glk_streams.specs.FileRefs.{made_ref, copied_ref, dropped_ref, deleted, with_current}
+use Rattle.glk_streams.specs.FileRefs.{styled}
 use Rattle.glk_streams.specs.Input.{got}
-use Rattle.glk_streams.specs.Opening.{opened_window, opened_memory, opened_file, closed, closed_window}
+use Rattle.glk_streams.specs.Opening.{opened_window, opened_memory, opened_file, closed}
+use Rattle.glk_streams.specs.Opening.{closed_window}
 use Rattle.glk_streams.specs.Output.{put}
 use Rattle.glk_streams.specs.Position.{sought}
 use Rattle.glk_streams.specs.Streams.{StreamTable, no_streams}
@@ -36,7 +38,8 @@ pub record KeepsValid (t : StreamTable) : Type 0 where
   pub seek : (n by from : ℕ) → Leaves (sought t n by from)
   pub style : (n style : ℕ) → Leaves (styled t n style)
   pub current : (n : ℕ) → Leaves (with_current t n)
-  pub refer : (usage : ℕ) (name : List ℕ) (rock : ℕ) → IsValid (made_ref t usage name rock).0
+  pub refer : (usage : ℕ) (name : List ℕ) (rock : ℕ)
+      → IsValid (made_ref t usage name rock).0
   pub copy : (usage fref rock : ℕ) → LeavesBeside (copied_ref t usage fref rock)
   pub forget : (fref : ℕ) → Leaves (dropped_ref t fref)
   pub delete : (fref : ℕ) → Leaves (deleted t fref)

@@ -1,5 +1,6 @@
 -- Names of files (Glk 0.7.5, "File References"; own: which characters are taken out).
-use Rattle.std.specs.Prelude.{ℕ, ◌==◌, ◌||◌, not, nat_lt, if◌then◌else◌, Bool, List, [], ◌∷◌, ◌++◌, take, filter, codes, decimal}
+use Rattle.std.specs.Prelude.{ℕ, ◌==◌, ◌||◌, not, nat_lt, if◌then◌else◌, Bool, List}
+use Rattle.std.specs.Prelude.{[], ◌∷◌, ◌++◌, take, filter, codes, decimal}
 
 -- a control character, or one of " / \ > < : | ? *
 abbrev pub is_taken_out : ℕ → Bool

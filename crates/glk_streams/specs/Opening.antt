@@ -1,11 +1,14 @@
 -- Opening and closing of streams (Glk 0.7.5, "Streams").
-use Rattle.std.specs.Prelude.{ℕ, ◌+◌, ◌==◌, ◌&&◌, ◌||◌, not, nat_le, nat_lt, if◌then◌else◌, Bool, false, List, [], ◌∷◌, ◌++◌, Result, Ok, Err}
+use Rattle.std.specs.Prelude.{ℕ, ◌+◌, ◌==◌, ◌&&◌, ◌||◌, not, nat_le, nat_lt}
+use Rattle.std.specs.Prelude.{if◌then◌else◌, Bool, false, List, [], ◌∷◌, ◌++◌}
+use Rattle.std.specs.Prelude.{Result, Ok, Err}
 use Rattle.glk_numbers.specs.Numbered.{without}
 use Rattle.glk_numbers.specs.declared.numbered.TheConstants.{MAX_NUMBER}
 use Rattle.glk_streams.specs.Answer.{live}
 use Rattle.glk_streams.specs.Files.{has_file, holding, may_stand}
 use Rattle.glk_streams.specs.Position.{end_in}
-use Rattle.glk_streams.specs.Streams.{StreamTable, number_of, stream_at, ref_at, stream_of_window, of_stream, is_window}
+use Rattle.glk_streams.specs.Streams.{StreamTable, number_of, stream_at, ref_at, stream_of_window}
+use Rattle.glk_streams.specs.Streams.{of_stream, is_window}
 use Rattle.glk_streams.specs.declared.stream.Stream.{Stream}
 use Rattle.glk_streams.specs.declared.stream.Target.{Target}
 use Rattle.glk_streams.specs.declared.stream.Target.TheVariants.{Window, Memory, File}
@@ -62,7 +65,8 @@ abbrev pub is_file_mode : ℕ → Bool
 is_file_mode mode = is_memory_mode mode || mode == 5
 
 -- a memory stream; 0 at the limit
-abbrev pub opened_memory : StreamTable → ℕ → ℕ → ℕ → ℕ → Bool → Result (StreamTable × ℕ) StreamStop
+abbrev pub opened_memory : StreamTable → ℕ → ℕ → ℕ → ℕ → Bool
+    → Result (StreamTable × ℕ) StreamStop
 opened_memory t buf len mode rock unicode =
     if not (is_memory_mode mode) then Err BadArgument
     else (if is_full t then Ok (t, 0)
@@ -83,19 +87,22 @@ abbrev pub first_place : List file.File → ℕ → List ℕ → ℕ → Bool �
 first_place fs usage name mode unicode =
     if mode == 5 then end_in (File usage name) fs unicode else 0
 
-abbrev pub opened_name : StreamTable → ℕ → List ℕ → ℕ → ℕ → Bool → StreamTable × ℕ
+abbrev pub opened_name : StreamTable → ℕ → List ℕ → ℕ → ℕ → Bool
+    → StreamTable × ℕ
 opened_name t usage name mode rock unicode =
     joined (readied t usage name mode)
     (fresh t.next rock mode unicode (File usage name) (first_place t.files usage name mode unicode))
 
-abbrev pub opened_ref : StreamTable → FileRef → ℕ → ℕ → Bool → Result (StreamTable × ℕ) StreamStop
+abbrev pub opened_ref : StreamTable → FileRef → ℕ → ℕ → Bool
+    → Result (StreamTable × ℕ) StreamStop
 opened_ref t r mode rock unicode =
     if not (is_file_mode mode) then Err BadArgument
     else (if is_full t || not (can_open t.files r.usage r.name mode) then Ok (t, 0)
     else Ok (opened_name t r.usage r.name mode rock unicode))
 
 -- a file's stream; 0 where mode 2 finds no file, and at the limits
-abbrev pub opened_file : StreamTable → ℕ → ℕ → ℕ → Bool → Result (StreamTable × ℕ) StreamStop
+abbrev pub opened_file : StreamTable → ℕ → ℕ → ℕ → Bool
+    → Result (StreamTable × ℕ) StreamStop
 opened_file t fref mode rock unicode = live (ref_at t fref) (λ r. opened_ref t r mode rock unicode)
 
 -- the characters read and written

@@ -1,5 +1,7 @@
 -- What a character that is put does (Glk 0.7.5, "Output").
-use Rattle.std.specs.Prelude.{ℕ, ◌+◌, ◌-◌, ◌*◌, ◌%◌, ◌^◌, ◌==◌, ◌&&◌, nat_le, nat_lt, min, if◌then◌else◌, Bool, List, length, Result, Ok, Err}
+use Rattle.std.specs.Prelude.{ℕ, ◌+◌, ◌-◌, ◌*◌, ◌%◌, ◌^◌, ◌==◌, ◌&&◌}
+use Rattle.std.specs.Prelude.{nat_le, nat_lt, min, if◌then◌else◌, Bool, List, length, Result}
+use Rattle.std.specs.Prelude.{Ok, Err}
 use Rattle.vm_memory.specs.MemoryMap.{MemoryMap, replaced}
 use Rattle.vm_memory.specs.Access.{written}
 use Rattle.glk_streams.specs.Answer.{◌>>=◌, live, of_memory}
@@ -32,7 +34,8 @@ abbrev pub address_of : Coding → ℕ → ℕ → ℕ
 address_of c buf place = min (buf + unit_of c * place) 4294967295
 
 -- a character put into a buffer, and where its stream then stands; it is dropped at the end
-abbrev pub put_in_memory : MemoryMap → ℕ → ℕ → ℕ → Coding → ℕ → Result (MemoryMap × ℕ) StreamStop
+abbrev pub put_in_memory : MemoryMap → ℕ → ℕ → ℕ → Coding → ℕ
+    → Result (MemoryMap × ℕ) StreamStop
 put_in_memory m place buf len c code =
     if nat_lt place (length_of buf len)
     then of_memory (written (unit_of c) m (address_of c buf place) (kept_code c code))
@@ -58,7 +61,8 @@ put_at fs usage name at new = holding fs usage name (replaced (content_of fs usa
 
 -- bytes put at a position of a file, and where their stream then stands; they are dropped at the
 -- limits
-abbrev pub put_bytes : List File → ℕ → ℕ → List ℕ → Coding → List ℕ → List File × ℕ
+abbrev pub put_bytes : List File → ℕ → ℕ → List ℕ → Coding → List ℕ
+    → List File × ℕ
 put_bytes fs place usage name c new =
     if is_kept fs usage name (start_of c (content_of fs usage name) place) (length new)
     then (
@@ -92,7 +96,8 @@ put_by fs m s code =
     if is_write_mode s.mode then put_in s.target s.unicode fs m s.place code else Err BadArgument
 
 -- a character put to the stream with this number, which counts it
-abbrev pub put : StreamTable → MemoryMap → ℕ → ℕ → Result (StreamTable × MemoryMap) StreamStop
+abbrev pub put : StreamTable → MemoryMap → ℕ → ℕ
+    → Result (StreamTable × MemoryMap) StreamStop
 put t m n code = live (stream_at t n) (λ s. put_by t.files m s code
     >>= (λ done.
     Ok (with_stream (record t { files = done.0 }) n (counted (placed done.2 s)), done.1)))

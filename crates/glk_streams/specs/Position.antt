@@ -1,5 +1,6 @@
 -- Positions in streams (Glk 0.7.5, "Streams").
-use Rattle.std.specs.Prelude.{ℕ, ◌+◌, ◌-◌, ◌==◌, nat_lt, min, if◌then◌else◌, Bool, List, Result, Ok, Err}
+use Rattle.std.specs.Prelude.{ℕ, ◌+◌, ◌-◌, ◌==◌, nat_lt, min, if◌then◌else◌}
+use Rattle.std.specs.Prelude.{Bool, List, Result, Ok, Err}
 use Rattle.glk_streams.specs.Answer.{live}
 use Rattle.glk_streams.specs.Coding.{coding_of, units_of}
 use Rattle.glk_streams.specs.Files.{content_of}

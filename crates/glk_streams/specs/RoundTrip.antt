@@ -1,5 +1,6 @@
 -- What is written through a stream and read back through another (own).
-use Rattle.std.specs.Prelude.{◌≡◌, ℕ, ◌+◌, nat_lt, Bool, true, ◌≢◌, ◌≤◌, List, [], ◌∷◌, ◌++◌, length, Option, Some, None, Result, Ok}
+use Rattle.std.specs.Prelude.{◌≡◌, ℕ, ◌+◌, nat_lt, Bool, true, ◌≢◌, ◌≤◌}
+use Rattle.std.specs.Prelude.{List, [], ◌∷◌, ◌++◌, length, Option, Some, None, Result, Ok}
 use lib.Utf8.{scalar}
 use Rattle.vm_memory.specs.MemoryMap.{MemoryMap, replaced}
 use Rattle.glk_streams.specs.Answer.{◌>>=◌}
@@ -49,7 +50,8 @@ spelled c [] = []
 spelled c (x ∷ xs) = bytes_in c x ++ spelled c xs
 
 -- a stream in one of these modes, at this position
-pub record IsOpen (allows : ℕ → Bool) (t : StreamTable) (n : ℕ) (target : Target) (unicode : Bool) (place : ℕ) : Type 0 where
+pub record IsOpen (allows : ℕ → Bool) (t : StreamTable) (n : ℕ) (target : Target)
+    (unicode : Bool) (place : ℕ) : Type 0 where
   pub stream : Stream
   pub is : stream_at t n ≡ Some stream
   pub mode : allows stream.mode ≡ true
@@ -66,7 +68,8 @@ put_all t m n (x ∷ xs) = put t m n x >>= (λ done. put_all done.0 done.1 n xs)
 -- a stream gives these characters in turn, and then its end
 abbrev pub Gives : StreamTable → MemoryMap → ℕ → List ℕ → Type 0
 Gives t m n [] = got t m n ≡ Ok (t, None)
-Gives t m n (x ∷ xs) = (after : StreamTable) × (got t m n ≡ Ok (after, Some x)) × Gives after m n xs
+Gives t m n (x ∷ xs) = (after : StreamTable) × (got t m n ≡ Ok (after, Some x))
+    × Gives after m n xs
 
 -- what is put to one stream on an empty file is what another stream on it then gives, where the
 -- files have room

@@ -1,6 +1,8 @@
 //! Files, which live inside the session (Glk 0.7.5, "File References").
 
-ghost use Rattle.std.specs.Prelude.{◌≡◌, ◌≤◌, ◌<◌, ◌-◌, ◌+◌, List, ℕ, [], length, is_some, remove, slice_index_or, slice_set, IfNone, IfOk, IfSome, IsTrue, OnErr, OnOk};
+ghost use Rattle.std.specs.Prelude.{◌≡◌, ◌≤◌, ◌<◌, ◌-◌, ◌+◌, List, ℕ, []};
+ghost use Rattle.std.specs.Prelude.{length, is_some, remove, slice_index_or, slice_set, IfNone};
+ghost use Rattle.std.specs.Prelude.{IfOk, IfSome, IsTrue, OnErr, OnOk};
 ghost use Rattle.std.specs.Ordering.{nat_cmp};
 ghost use Rattle.std.specs.Cmp.Lexicographic.{slice_cmp};
 ghost use Rattle.glk_streams.specs.Files as files;
@@ -120,7 +122,8 @@ impl File {
 
     /// How its key is to another's.
     pub(crate) fn key_cmp(&self, other: &File) -> Ordering
-        ensures { result ≡ slice_cmp nat_cmp (files.file_key self.now) (files.file_key other.now) }
+        ensures { result ≡ slice_cmp nat_cmp (files.file_key self.now)
+            (files.file_key other.now) }
     {
         self.usage
             .cmp(&other.usage)

@@ -1,6 +1,7 @@
 //! Where the object with a number stands.
 
-ghost use Rattle.std.specs.Prelude.{◌≡◌, ◌<◌, length, remove, slice_index_or, slice_set, None, Some, IfNone, IfSome};
+ghost use Rattle.std.specs.Prelude.{◌≡◌, ◌<◌, length, remove, slice_index_or, slice_set};
+ghost use Rattle.std.specs.Prelude.{None, Some, IfNone, IfSome};
 ghost use Rattle.glk_numbers.specs.Numbered.{changed_at, found, without};
 ghost use Rattle.glk_streams.specs.Streams as streams;
 
@@ -15,7 +16,8 @@ pub(crate) fn find<T: Numbered>(items: &[T], number: u32) -> Option<usize>
         (d : T) → found T.number_of items.now number ≡ Some (slice_index_or items.now i d)) }
     ensures changed { IfSome result (λ i.
         (v : T) → changed_at T.number_of (λ _. v) items.now number ≡ slice_set items.now i v) }
-    ensures left { IfSome result (λ i. without T.number_of items.now number ≡ remove items.now i) }
+    ensures left { IfSome result
+        (λ i. without T.number_of items.now number ≡ remove items.now i) }
     ensures nothing { IfNone result (without T.number_of items.now number ≡ items.now) }
 {
     place_of(items, number)

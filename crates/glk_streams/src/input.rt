@@ -1,6 +1,7 @@
 //! What a character that is read does (Glk 0.7.5, "Streams").
 
-ghost use Rattle.std.specs.Prelude.{◌≡◌, ◌≤◌, ◌<◌, ◌+◌, ◌^◌, IfOk, IfSome, OnErr};
+ghost use Rattle.std.specs.Prelude.{◌≡◌, ◌≤◌, ◌<◌, ◌+◌, ◌^◌, IfOk, IfSome};
+ghost use Rattle.std.specs.Prelude.{OnErr};
 ghost use Rattle.glk_streams.specs.Answer.{Answers, Gives};
 ghost use Rattle.glk_streams.specs.Coding.{unit_of};
 ghost use Rattle.glk_streams.specs.Input as input;

@@ -66,8 +66,9 @@ impl Streams {
     }
 
     /// A stream on the file of a reference; mode 1 empties the file, and 1, 3 and 5 make it where
-    /// it isn't there. 0 where mode 2 finds no file, and at the limits of streams and files. BadObject
-    /// where the reference isn't live; BadArgument where the mode is none of 1, 2, 3 and 5.
+    /// it isn't there. 0 where mode 2 finds no file, and at the limits of streams and files.
+    /// BadObject where the reference isn't live; BadArgument where the mode is none of 1, 2, 3
+    /// and 5.
     pub fn open_file(
         &mut self,
         alloc: Global,

@@ -2,7 +2,8 @@
 
 ghost use Rattle.std.specs.Prelude.{◌≡◌};
 ghost use Rattle.glk_streams.specs.Coding.{coding_of};
-ghost use Rattle.glk_streams.specs.Streams.{is_file, is_memory, is_of_window, is_read_mode, is_window, is_write_mode, window_in};
+ghost use Rattle.glk_streams.specs.Streams.{is_file, is_memory, is_of_window, is_read_mode};
+ghost use Rattle.glk_streams.specs.Streams.{is_window, is_write_mode, window_in};
 
 use crate::coding::Coding;
 use glk_numbers::Numbered;

@@ -1,5 +1,6 @@
 -- The state that a save spells, as a function of its bytes (Quetzal 1.4, "Overall Structure").
-use Rattle.std.specs.Prelude.{◌≡◌, ℕ, ◌+◌, ◌&&◌, nat_le, if◌then◌else◌, Bool, List, [], ◌∷◌, length}
+use Rattle.std.specs.Prelude.{◌≡◌, ℕ, ◌+◌, ◌&&◌, nat_le, if◌then◌else◌, Bool}
+use Rattle.std.specs.Prelude.{List, [], ◌∷◌, length}
 use Rattle.std.specs.Prelude.{Option, Some, None, Result, Ok, Err}
 use Rattle.std.specs.Str.{bytes_eq}
 use Rattle.glulx_image.specs.Header.{ramstart, endmem, stack_size}
@@ -29,7 +30,8 @@ abbrev pub is_stack_of : List ℕ → List ℕ → Bool
 is_stack_of image bytes = nat_le (length bytes) (stack_size image) && is_saved_stack bytes
 
 -- the state of these parts, where there is a heap
-abbrev pub state_with : List ℕ → Pieces → List ℕ → Option (ℕ × List Block) → Option Saved
+abbrev pub state_with : List ℕ → Pieces → List ℕ → Option (ℕ × List Block)
+    → Option Saved
 state_with image p ram None = None
 state_with image p ram (Some h) = Some (record {
   memory = loaded image ram;

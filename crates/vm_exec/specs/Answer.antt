@@ -29,13 +29,15 @@ MakesList should (Err (Fault n)) = should ≡ Err n
 MakesList should (Err NoMemory) = Unit {0}
 
 -- The same of a call that changes a value and gives a vector, which is seen as its list of items.
-abbrev pub Takes : {S A Z : Type 0} → Result (S × List A) ℕ → S → Result (Vec A Z) Trap → Type 0
+abbrev pub Takes : {S A Z : Type 0} → Result (S × List A) ℕ → S → Result (Vec A Z) Trap
+    → Type 0
 Takes should new (Ok v) = should ≡ Ok (new, v.items)
 Takes should new (Err (Fault n)) = should ≡ Err n
 Takes should new (Err NoMemory) = Unit {0}
 
 -- The same of a call that changes two values.
-abbrev pub Leaves : {S T A : Type 0} → Result (S × T) ℕ → S → T → Result A Trap → Type 0
+abbrev pub Leaves : {S T A : Type 0} → Result (S × T) ℕ → S → T → Result A Trap
+    → Type 0
 Leaves should new also (Ok x) = should ≡ Ok (new, also)
 Leaves should new also (Err (Fault n)) = should ≡ Err n
 Leaves should new also (Err NoMemory) = Unit {0}

@@ -1,5 +1,6 @@
 -- Random words (Glulx 3.1.3, "Random Number Generator"; the generator is own: PCG XSH RR 64/32).
-use Rattle.std.specs.Prelude.{ℕ, ◌+◌, ◌-◌, ◌%◌, ◌^◌, ◌==◌, nat_lt, if◌then◌else◌}
+use Rattle.std.specs.Prelude.{ℕ, ◌+◌, ◌-◌, ◌%◌, ◌^◌, ◌==◌, nat_lt}
+use Rattle.std.specs.Prelude.{if◌then◌else◌}
 use Rattle.rand_pcg.specs.Lcg.{Lcg, advance, started, increment_of}
 use Rattle.rand_pcg.specs.Pcg.{multiplier_64, output_xsh_rr}
 use Rattle.vm_exec.specs.declared.random.Random.{Random}
@@ -7,7 +8,8 @@ use Rattle.vm_exec.specs.declared.random.Random.{Random}
 -- word k of the generator that a start and a stream make
 abbrev pub word_of : ℕ → ℕ → ℕ → ℕ
 word_of start stream k =
-    output_xsh_rr (advance 64 multiplier_64 k (started 64 multiplier_64 start (increment_of 64 stream))).state
+    output_xsh_rr (advance 64 multiplier_64 k
+    (started 64 multiplier_64 start (increment_of 64 stream))).state
 
 -- the next random word
 abbrev pub next_word : Random → ℕ

@@ -1,5 +1,7 @@
 -- What opcodes are made of: loads, stores, branches, calls (Glulx 3.1.3, "Instruction Format").
-use Rattle.std.specs.Prelude.{ℕ, zero, suc, ◌+◌, ◌-◌, ◌*◌, ◌%◌, ◌^◌, ◌==◌, ◌||◌, nat_le, nat_lt, Bool, if◌then◌else◌, List, [], ◌∷◌, length, slice_set, Option, Some, None, Result, Ok, Err}
+use Rattle.std.specs.Prelude.{ℕ, zero, suc, ◌+◌, ◌-◌, ◌*◌, ◌%◌, ◌^◌, ◌==◌}
+use Rattle.std.specs.Prelude.{◌||◌, nat_le, nat_lt, Bool, if◌then◌else◌, List, []}
+use Rattle.std.specs.Prelude.{◌∷◌, length, slice_set, Option, Some, None, Result, Ok, Err}
 use Rattle.vm_memory.specs.Access.{read, written}
 use Rattle.vm_memory.specs.Fault.{coded}
 use Rattle.vm_operand.specs.Reading.{◌>>=◌}
@@ -41,7 +43,8 @@ loaded n m (load.Local o) = stacked (local m.stack o n) >>= (λ x. Ok (m, x))
 loaded n m load.Pop = stacked (popped m.stack) >>= (λ p. Ok (record m { stack = p.0 }, cut n p.1))
 
 -- loads from left to right into places from i on
-unfoldable pub loaded_all : ℕ → Machine → List l.Load → ℕ → List ℕ → Result (Machine × List ℕ) ℕ
+unfoldable pub loaded_all : ℕ → Machine → List l.Load → ℕ → List ℕ
+    → Result (Machine × List ℕ) ℕ
 loaded_all n m [] i args = Ok (m, args)
 loaded_all n m (x ∷ xs) i args =
     loaded n m x >>= (λ a. loaded_all n a.0 xs (i + 1) (slice_set args i a.1))
@@ -134,7 +137,8 @@ when m b offset = if b then branches m offset else goes m
 -- the top n values, the top first
 unfoldable pub arguments : StackState → ℕ → Result (StackState × List ℕ) ℕ
 arguments s zero = Ok (s, [])
-arguments s (suc n) = stacked (popped s) >>= (λ p. arguments p.0 n >>= (λ q. Ok (q.0, p.1 ∷ q.1)))
+arguments s (suc n) = stacked (popped s)
+    >>= (λ p. arguments p.0 n >>= (λ q. Ok (q.0, p.1 ∷ q.1)))
 
 -- with the top n values taken
 abbrev pub with_arguments : Machine → ℕ → (Machine → List ℕ → Rule) → Rule

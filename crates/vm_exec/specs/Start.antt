@@ -1,6 +1,7 @@
 -- The machine as a story begins (Glulx 3.1.3, "Execution").
 use Rattle.std.specs.Prelude.{◌≡◌, ℕ, List, [], take, Result, Ok}
-use Rattle.glulx_image.specs.Header.{ramstart, extstart, endmem, stack_size, start_function, string_table}
+use Rattle.glulx_image.specs.Header.{ramstart, extstart, endmem, stack_size, start_function}
+use Rattle.glulx_image.specs.Header.{string_table}
 use Rattle.glulx_image.specs.Checksum.{verified}
 use Rattle.vm_memory.specs.MemoryMap.{MemoryMap, memory_of, origin_of}
 use Rattle.vm_operand.specs.Reading.{◌>>=◌}

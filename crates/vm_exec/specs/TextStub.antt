@@ -1,5 +1,6 @@
 -- Texts that go out piece by piece, and their call stubs (Glulx 3.1.3, "Call Stubs", "Output").
-use Rattle.std.specs.Prelude.{ℕ, ◌==◌, nat_lt, Bool, true, false, if◌then◌else◌, length, Result, Ok, Err}
+use Rattle.std.specs.Prelude.{ℕ, ◌==◌, nat_lt, Bool, true, false, if◌then◌else◌, length}
+use Rattle.std.specs.Prelude.{Result, Ok, Err}
 use Rattle.vm_operand.specs.Reading.{◌>>=◌}
 use Rattle.vm_stack.specs.Stub.{stub_pushed, stub_taken}
 use Rattle.vm_stack.specs.declared.stub.Stub.{Stub}

@@ -1,5 +1,6 @@
 -- Reads and writes of numbers and of blocks, with their faults (Glulx 3.1.3, "The Memory Map").
-use Rattle.std.specs.Prelude.{◌≡◌, ℕ, ◌+◌, ◌==◌, ◌&&◌, nat_le, replicate, if◌then◌else◌, length, take, drop, Result, Ok, Err}
+use Rattle.std.specs.Prelude.{◌≡◌, ℕ, ◌+◌, ◌==◌, ◌&&◌, nat_le, replicate}
+use Rattle.std.specs.Prelude.{if◌then◌else◌, length, take, drop, Result, Ok, Err}
 use Rattle.byteorder.specs.Endian.{big_bytes}
 use Rattle.vm_memory.specs.MemoryMap.{MemoryMap, number_at, replaced}
 use Rattle.vm_memory.specs.declared.fault.MemFault.{MemFault}
@@ -50,7 +51,8 @@ copied_from m other at n =
     else Err (BadRead at))
 
 -- A call that changes memory answered this and left new, as it should, unless room was wanting.
-abbrev pub Leaves : {A : Type 0} → Result MemoryMap MemFault → MemoryMap → Result A MemStop → Type 0
+abbrev pub Leaves : {A : Type 0} → Result MemoryMap MemFault → MemoryMap → Result A MemStop
+    → Type 0
 Leaves should new (Ok x) = should ≡ Ok new
 Leaves should new (Err (Fault f)) = should ≡ Err f
 Leaves should new (Err NoMemory) = Unit {0}

@@ -1,5 +1,6 @@
 -- The memory map (Glulx 3.1.3, "The Memory Map").
-use Rattle.std.specs.Prelude.{◌≡◌, ◌≤◌, ℕ, ◌+◌, ◌-◌, List, ◌++◌, length, take, drop, replicate}
+use Rattle.std.specs.Prelude.{◌≡◌, ◌≤◌, ℕ, ◌+◌, ◌-◌, List, ◌++◌, length}
+use Rattle.std.specs.Prelude.{take, drop, replicate}
 use Rattle.byteorder.specs.Endian.{big_number}
 
 -- the bytes of memory, those from RAMSTART on writable; and the original list, which is the file's

@@ -1,6 +1,7 @@
 //! Reads and writes of numbers, most significant byte first, and of blocks.
 
-ghost use Rattle.std.specs.Prelude.{◌≡◌, ◌≤◌, ◌<◌, ◌+◌, ◌&&◌, length, nat_le, OnErr, OnOk, IfOk};
+ghost use Rattle.std.specs.Prelude.{◌≡◌, ◌≤◌, ◌<◌, ◌+◌, ◌&&◌, length};
+ghost use Rattle.std.specs.Prelude.{nat_le, OnErr, OnOk, IfOk};
 ghost use Rattle.vm_memory.specs.MemoryMap.{KeepsMap};
 ghost use Rattle.vm_memory.specs.Access.{read, written, zeroed, copied, copied_from, Leaves};
 
@@ -53,7 +54,8 @@ impl<'i> Memory<'i> {
     /// Whether so many bytes at the address lie in RAM.
     #[inline(always)]
     fn is_writable(&self, at: u32, width: u32) -> bool
-        ensures { result ≡ (nat_le self.now.ramstart at && nat_le (at + width) (length self.now.bytes)) }
+        ensures { result ≡ (nat_le self.now.ramstart at
+            && nat_le (at + width) (length self.now.bytes)) }
     {
         self.ramstart() <= at && self.is_inside(at, width)
     }

@@ -1,6 +1,7 @@
 //! Changes of a slice of bytes at a place.
 
-ghost use Rattle.std.specs.Prelude.{◌≡◌, ◌≤◌, ◌+◌, ◌-◌, ◌++◌, length, take, drop, replicate};
+ghost use Rattle.std.specs.Prelude.{◌≡◌, ◌≤◌, ◌+◌, ◌-◌, ◌++◌, length, take};
+ghost use Rattle.std.specs.Prelude.{drop, replicate};
 ghost use Rattle.vm_memory.specs.MemoryMap.{replaced};
 
 /// Writes the bytes at the place.

@@ -1,6 +1,7 @@
 //! Memory: what it is made of, and its size.
 
-ghost use Rattle.std.specs.Prelude.{◌≡◌, ◌≤◌, ◌<◌, ◌+◌, length, nat_le, IfOk, OnErr, OnOk};
+ghost use Rattle.std.specs.Prelude.{◌≡◌, ◌≤◌, ◌<◌, ◌+◌, length, nat_le, IfOk};
+ghost use Rattle.std.specs.Prelude.{OnErr, OnOk};
 ghost use Rattle.vm_memory.specs.MemoryMap.{KeepsRom, memory_of, original, reset, resized};
 
 use crate::bytes::begin_with;
@@ -26,7 +27,12 @@ impl<'i> Model for Memory<'i> {
 
     ghost Value = { MemoryMap };
 
-    ghost view = { λ m. record { bytes = m.bytes.items; ramstart = m.ramstart; rom = m.rom.now; endmem = m.endmem } };
+    ghost view = { λ m. record {
+      bytes = m.bytes.items;
+      ramstart = m.ramstart;
+      rom = m.rom.now;
+      endmem = m.endmem;
+    } };
 
     ghost invariant = { λ m.
         (length m.rom.now ≤ m.endmem) × ((0 < m.endmem)

@@ -1,10 +1,14 @@
 -- What arithmetic gives, modulo 2^32 (Glulx 3.1.3, "Integer Math").
-use Rattle.std.specs.Prelude.{ℕ, ℤ, ◌+◌, ◌-◌, ◌*◌, ◌/◌, ◌%◌, ◌^◌, ◌==◌, ◌&&◌, nat_lt, if◌then◌else◌, bit_and, bit_or, bit_xor, int_div, int_rem, Option, Some, None, Result, Ok, Err}
+use Rattle.std.specs.Prelude.{ℕ, ℤ, ◌+◌, ◌-◌, ◌*◌, ◌/◌, ◌%◌, ◌^◌}
+use Rattle.std.specs.Prelude.{◌==◌, ◌&&◌, nat_lt, if◌then◌else◌, bit_and, bit_or}
+use Rattle.std.specs.Prelude.{bit_xor, int_div, int_rem, Option, Some, None, Result, Ok, Err}
 use Rattle.std.specs.Int.{cast_signed, cast_unsigned, int_shr, w32}
 use Rattle.vm_operand.specs.declared.opcode.Op.{Op}
 use Rattle.vm_operand.specs.declared.opcode.Op.TheVariants as op
 use Rattle.vm_operand.specs.declared.opcode.Math.{Math}
-use Rattle.vm_operand.specs.declared.opcode.Math.TheVariants.{Add, Sub, Mul, Div, Mod, Neg, Bitand, Bitor, Bitxor, Bitnot, Shiftl, Sshiftr, Ushiftr}
+use Rattle.vm_operand.specs.declared.opcode.Math.TheVariants.{Add, Sub, Mul, Div, Mod, Neg, Bitand}
+use Rattle.vm_operand.specs.declared.opcode.Math.TheVariants.{Bitor, Bitxor, Bitnot, Shiftl}
+use Rattle.vm_operand.specs.declared.opcode.Math.TheVariants.{Sshiftr, Ushiftr}
 use Rattle.vm_operand.specs.declared.fault.OpFault.{OpFault}
 use Rattle.vm_operand.specs.declared.fault.OpFault.TheVariants.{DivideByZero, DivideOverflow}
 

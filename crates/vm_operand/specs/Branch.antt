@@ -1,10 +1,13 @@
 -- When a branch is taken (Glulx 3.1.3, "Branches").
-use Rattle.std.specs.Prelude.{ℕ, Bool, true, not, ◌==◌, nat_lt, nat_le, int_lt, int_le, Option, Some, None}
+use Rattle.std.specs.Prelude.{ℕ, Bool, true, not, ◌==◌, nat_lt, nat_le, int_lt, int_le}
+use Rattle.std.specs.Prelude.{Option, Some, None}
 use Rattle.vm_operand.specs.Arithmetic.{signed}
 use Rattle.vm_operand.specs.declared.opcode.Op.{Op}
 use Rattle.vm_operand.specs.declared.opcode.Op.TheVariants as op
 use Rattle.vm_operand.specs.declared.opcode.Branch.{Branch}
-use Rattle.vm_operand.specs.declared.opcode.Branch.TheVariants.{Jump, Jz, Jnz, Jeq, Jne, Jlt, Jge, Jgt, Jle, Jltu, Jgeu, Jgtu, Jleu, Jumpabs}
+use Rattle.vm_operand.specs.declared.opcode.Branch.TheVariants.{Jump, Jz, Jnz, Jeq, Jne, Jlt, Jge}
+use Rattle.vm_operand.specs.declared.opcode.Branch.TheVariants.{Jgt, Jle, Jltu, Jgeu, Jgtu, Jleu}
+use Rattle.vm_operand.specs.declared.opcode.Branch.TheVariants.{Jumpabs}
 
 -- the condition on two values; jz and jnz look at the first alone, a jump at none
 unfoldable pub holds : Branch → ℕ → ℕ → Bool

@@ -2,7 +2,9 @@
 use Rattle.std.specs.Prelude.{ℕ, Result, Ok, Err}
 use Rattle.vm_memory.specs.Fault as memory
 use Rattle.vm_operand.specs.declared.fault.OpFault.{OpFault}
-use Rattle.vm_operand.specs.declared.fault.OpFault.TheVariants.{Read, BadOpcode, Unsupported, BadMode, DivideByZero, DivideOverflow}
+use Rattle.vm_operand.specs.declared.fault.OpFault.TheVariants.{Read, BadOpcode, Unsupported}
+use Rattle.vm_operand.specs.declared.fault.OpFault.TheVariants.{BadMode, DivideByZero}
+use Rattle.vm_operand.specs.declared.fault.OpFault.TheVariants.{DivideOverflow}
 
 -- a memory's fault keeps its number
 abbrev pub code_of : OpFault → ℕ

@@ -1,5 +1,7 @@
 -- The instruction at an address (Glulx 3.1.3, "Instruction Format").
-use Rattle.std.specs.Prelude.{ℕ, ◌+◌, ◌-◌, ◌*◌, ◌/◌, ◌%◌, ◌^◌, nat_lt, nat_le, ◌&&◌, if◌then◌else◌, List, [], ◌∷◌, length, replicate, slice_set, Option, Some, None, Result, Ok, Err}
+use Rattle.std.specs.Prelude.{ℕ, ◌+◌, ◌-◌, ◌*◌, ◌/◌, ◌%◌, ◌^◌, nat_lt}
+use Rattle.std.specs.Prelude.{nat_le, ◌&&◌, if◌then◌else◌, List, [], ◌∷◌, length}
+use Rattle.std.specs.Prelude.{replicate, slice_set, Option, Some, None, Result, Ok, Err}
 use Rattle.vm_memory.specs.MemoryMap.{MemoryMap}
 use Rattle.vm_memory.specs.Access.{read}
 use Rattle.vm_operand.specs.Opcode.{op_of, kinds_of}
@@ -15,13 +17,14 @@ use Rattle.vm_operand.specs.declared.operand.Load.TheVariants as load
 use Rattle.vm_operand.specs.declared.operand.Dest as d
 use Rattle.vm_operand.specs.declared.operand.Dest.TheVariants as dest
 use Rattle.vm_operand.specs.declared.mode.Mode.{Mode}
-use Rattle.vm_operand.specs.declared.mode.Mode.TheVariants.{Zero, Constant, Address, Stack, Local, Ram}
+use Rattle.vm_operand.specs.declared.mode.Mode.TheVariants.{Zero, Constant, Address, Stack, Local}
+use Rattle.vm_operand.specs.declared.mode.Mode.TheVariants.{Ram}
 use Rattle.vm_operand.specs.declared.instruction.Instr.{Instr}
 use Rattle.vm_operand.specs.declared.mode.Width.{Width}
 use Rattle.vm_operand.specs.declared.mode.Width.TheVariants.{One, Two, Four}
 
--- the opcode's number and the place after it: a first byte from 0x80 on has one more byte, from 0xC0
--- on three more
+-- the opcode's number and the place after it: a first byte from 0x80 on has one more byte, from
+-- 0xC0 on three more
 unfoldable pub number_at : MemoryMap → ℕ → Result (ℕ × ℕ) OpFault
 number_at m at = do
   first ← reads (read 1 m at)

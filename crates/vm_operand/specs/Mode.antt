@@ -1,10 +1,12 @@
 -- The modes of operands (Glulx 3.1.3, "Instruction Format").
-use Rattle.std.specs.Prelude.{ℕ, Bool, true, false, if◌then◌else◌, List, [], ◌∷◌, Option, Some, None, Result, Ok, Err}
+use Rattle.std.specs.Prelude.{ℕ, Bool, true, false, if◌then◌else◌, List, [], ◌∷◌}
+use Rattle.std.specs.Prelude.{Option, Some, None, Result, Ok, Err}
 use Rattle.vm_operand.specs.Opcode.{first_with}
 use Rattle.vm_operand.specs.declared.operand.Kind.{Kind}
 use Rattle.vm_operand.specs.declared.operand.Kind.TheVariants.{Load, Store}
 use Rattle.vm_operand.specs.declared.mode.Mode.{Mode}
-use Rattle.vm_operand.specs.declared.mode.Mode.TheVariants.{Zero, Constant, Address, Stack, Local, Ram}
+use Rattle.vm_operand.specs.declared.mode.Mode.TheVariants.{Zero, Constant, Address, Stack, Local}
+use Rattle.vm_operand.specs.declared.mode.Mode.TheVariants.{Ram}
 use Rattle.vm_operand.specs.declared.mode.Width.{Width}
 use Rattle.vm_operand.specs.declared.mode.Width.TheVariants.{One, Two, Four}
 use Rattle.vm_operand.specs.declared.fault.OpFault.{OpFault}

@@ -1,29 +1,45 @@
 -- The table of opcodes: their numbers and their operands (Glulx 3.1.3, "Dictionary of Opcodes").
-use Rattle.std.specs.Prelude.{ℕ, ◌==◌, ◌+◌, ◌≤◌, cond, List, [], ◌∷◌, ◌++◌, length, map, Option, Some, None}
+use Rattle.std.specs.Prelude.{ℕ, ◌==◌, ◌+◌, ◌≤◌, cond, List, [], ◌∷◌}
+use Rattle.std.specs.Prelude.{◌++◌, length, map, Option, Some, None}
 use Rattle.vm_operand.specs.declared.operand.Kind.{Kind}
 use Rattle.vm_operand.specs.declared.operand.Kind.TheVariants.{Load as L, Store as S}
 use Rattle.vm_operand.specs.declared.opcode.Op.{Op}
 use Rattle.vm_operand.specs.declared.opcode.Op.TheVariants as op
 use Rattle.vm_operand.specs.declared.opcode.Math.{Math}
-use Rattle.vm_operand.specs.declared.opcode.Math.TheVariants.{Add, Sub, Mul, Div, Mod, Neg, Bitand, Bitor, Bitxor, Bitnot, Shiftl, Sshiftr, Ushiftr}
+use Rattle.vm_operand.specs.declared.opcode.Math.TheVariants.{Add, Sub, Mul, Div, Mod, Neg, Bitand}
+use Rattle.vm_operand.specs.declared.opcode.Math.TheVariants.{Bitor, Bitxor, Bitnot, Shiftl}
+use Rattle.vm_operand.specs.declared.opcode.Math.TheVariants.{Sshiftr, Ushiftr}
 use Rattle.vm_operand.specs.declared.opcode.Branch.{Branch}
-use Rattle.vm_operand.specs.declared.opcode.Branch.TheVariants.{Jump, Jz, Jnz, Jeq, Jne, Jlt, Jge, Jgt, Jle, Jltu, Jgeu, Jgtu, Jleu, Jumpabs}
+use Rattle.vm_operand.specs.declared.opcode.Branch.TheVariants.{Jump, Jz, Jnz, Jeq, Jne, Jlt, Jge}
+use Rattle.vm_operand.specs.declared.opcode.Branch.TheVariants.{Jgt, Jle, Jltu, Jgeu, Jgtu, Jleu}
+use Rattle.vm_operand.specs.declared.opcode.Branch.TheVariants.{Jumpabs}
 use Rattle.vm_operand.specs.declared.opcode.Flow.{Flow}
-use Rattle.vm_operand.specs.declared.opcode.Flow.TheVariants.{Call, Return, Catch, Throw, Tailcall, Callf, Callfi, Callfii, Callfiii}
+use Rattle.vm_operand.specs.declared.opcode.Flow.TheVariants.{Call, Return, Catch, Throw, Tailcall}
+use Rattle.vm_operand.specs.declared.opcode.Flow.TheVariants.{Callf, Callfi, Callfii, Callfiii}
 use Rattle.vm_operand.specs.declared.opcode.Move.{Move}
 use Rattle.vm_operand.specs.declared.opcode.Move.TheVariants.{Copy, Copys, Copyb, Sexs, Sexb}
 use Rattle.vm_operand.specs.declared.opcode.Array.{Array}
-use Rattle.vm_operand.specs.declared.opcode.Array.TheVariants.{Aload, Aloads, Aloadb, Aloadbit, Astore, Astores, Astoreb, Astorebit}
+use Rattle.vm_operand.specs.declared.opcode.Array.TheVariants.{Aload, Aloads, Aloadb, Aloadbit}
+use Rattle.vm_operand.specs.declared.opcode.Array.TheVariants.{Astore, Astores, Astoreb, Astorebit}
 use Rattle.vm_operand.specs.declared.opcode.Values.{Values}
-use Rattle.vm_operand.specs.declared.opcode.Values.TheVariants.{Stkcount, Stkpeek, Stkswap, Stkroll, Stkcopy}
+use Rattle.vm_operand.specs.declared.opcode.Values.TheVariants.{Stkcount, Stkpeek, Stkswap, Stkroll}
+use Rattle.vm_operand.specs.declared.opcode.Values.TheVariants.{Stkcopy}
 use Rattle.vm_operand.specs.declared.opcode.Stream.{Stream}
-use Rattle.vm_operand.specs.declared.opcode.Stream.TheVariants.{Streamchar, Streamnum, Streamstr, Streamunichar, Getstringtbl, Setstringtbl, Getiosys, Setiosys}
+use Rattle.vm_operand.specs.declared.opcode.Stream.TheVariants.{Streamchar, Streamnum, Streamstr}
+use Rattle.vm_operand.specs.declared.opcode.Stream.TheVariants.{Streamunichar, Getstringtbl}
+use Rattle.vm_operand.specs.declared.opcode.Stream.TheVariants.{Setstringtbl, Getiosys, Setiosys}
 use Rattle.vm_operand.specs.declared.opcode.State.{State}
-use Rattle.vm_operand.specs.declared.opcode.State.TheVariants.{Quit, Verify, Restart, Save, Restore, Saveundo, Restoreundo, Protect, Hasundo, Discardundo}
+use Rattle.vm_operand.specs.declared.opcode.State.TheVariants.{Quit, Verify, Restart, Save, Restore}
+use Rattle.vm_operand.specs.declared.opcode.State.TheVariants.{Saveundo, Restoreundo, Protect}
+use Rattle.vm_operand.specs.declared.opcode.State.TheVariants.{Hasundo, Discardundo}
 use Rattle.vm_operand.specs.declared.opcode.System.{System}
-use Rattle.vm_operand.specs.declared.opcode.System.TheVariants.{Nop, Gestalt, Debugtrap, Getmemsize, Setmemsize, Random, Setrandom, Glk, Accelfunc, Accelparam}
+use Rattle.vm_operand.specs.declared.opcode.System.TheVariants.{Nop, Gestalt, Debugtrap, Getmemsize}
+use Rattle.vm_operand.specs.declared.opcode.System.TheVariants.{Setmemsize, Random, Setrandom, Glk}
+use Rattle.vm_operand.specs.declared.opcode.System.TheVariants.{Accelfunc, Accelparam}
 use Rattle.vm_operand.specs.declared.opcode.Search.{Search}
-use Rattle.vm_operand.specs.declared.opcode.Search.TheVariants.{Linearsearch, Binarysearch, Linkedsearch, Mzero, Mcopy, Malloc, Mfree}
+use Rattle.vm_operand.specs.declared.opcode.Search.TheVariants.{Linearsearch, Binarysearch}
+use Rattle.vm_operand.specs.declared.opcode.Search.TheVariants.{Linkedsearch, Mzero, Mcopy, Malloc}
+use Rattle.vm_operand.specs.declared.opcode.Search.TheVariants.{Mfree}
 
 -- a row of the table: the number, and the operands in the order of their bytes, L a load, S a store
 pub record Row : Type 0 where
@@ -177,24 +193,24 @@ kinds_of o = (row_of o).kinds
 -- every opcode
 unfoldable pub opcodes : List Op
 opcodes =
-    map op.Math (Add ∷ Sub ∷ Mul ∷ Div ∷ Mod ∷ Neg ∷ Bitand ∷ Bitor ∷ Bitxor ∷ Bitnot ∷ Shiftl ∷
-    Sshiftr ∷ Ushiftr ∷ [])
-    ++ map op.Branch (Jump ∷ Jz ∷ Jnz ∷ Jeq ∷ Jne ∷ Jlt ∷ Jge ∷ Jgt ∷ Jle ∷ Jltu ∷ Jgeu ∷ Jgtu ∷
-    Jleu ∷ Jumpabs ∷ [])
-    ++ map op.Flow (Call ∷ Return ∷ Catch ∷ Throw ∷ Tailcall ∷ Callf ∷ Callfi ∷ Callfii ∷
-    Callfiii ∷ [])
+    map op.Math (Add ∷ Sub ∷ Mul ∷ Div ∷ Mod ∷ Neg ∷ Bitand ∷ Bitor ∷ Bitxor ∷
+    Bitnot ∷ Shiftl ∷ Sshiftr ∷ Ushiftr ∷ [])
+    ++ map op.Branch (Jump ∷ Jz ∷ Jnz ∷ Jeq ∷ Jne ∷ Jlt ∷ Jge ∷ Jgt ∷ Jle ∷
+    Jltu ∷ Jgeu ∷ Jgtu ∷ Jleu ∷ Jumpabs ∷ [])
+    ++ map op.Flow (Call ∷ Return ∷ Catch ∷ Throw ∷ Tailcall ∷ Callf ∷ Callfi ∷
+    Callfii ∷ Callfiii ∷ [])
     ++ map op.Move (Copy ∷ Copys ∷ Copyb ∷ Sexs ∷ Sexb ∷ [])
-    ++ map op.Array (Aload ∷ Aloads ∷ Aloadb ∷ Aloadbit ∷ Astore ∷ Astores ∷ Astoreb ∷
-    Astorebit ∷ [])
+    ++ map op.Array (Aload ∷ Aloads ∷ Aloadb ∷ Aloadbit ∷ Astore ∷ Astores ∷
+    Astoreb ∷ Astorebit ∷ [])
     ++ map op.Values (Stkcount ∷ Stkpeek ∷ Stkswap ∷ Stkroll ∷ Stkcopy ∷ [])
     ++ map op.Stream (Streamchar ∷ Streamnum ∷ Streamstr ∷ Streamunichar ∷ Getstringtbl ∷
     Setstringtbl ∷ Getiosys ∷ Setiosys ∷ [])
-    ++ map op.State (Quit ∷ Verify ∷ Restart ∷ Save ∷ Restore ∷ Saveundo ∷ Restoreundo ∷
-    Protect ∷ Hasundo ∷ Discardundo ∷ [])
-    ++ map op.System (Nop ∷ Gestalt ∷ Debugtrap ∷ Getmemsize ∷ Setmemsize ∷ Random ∷ Setrandom ∷
-    Glk ∷ Accelfunc ∷ Accelparam ∷ [])
-    ++ map op.Search (Linearsearch ∷ Binarysearch ∷ Linkedsearch ∷ Mzero ∷ Mcopy ∷ Malloc ∷
-    Mfree ∷ [])
+    ++ map op.State (Quit ∷ Verify ∷ Restart ∷ Save ∷ Restore ∷ Saveundo ∷
+    Restoreundo ∷ Protect ∷ Hasundo ∷ Discardundo ∷ [])
+    ++ map op.System (Nop ∷ Gestalt ∷ Debugtrap ∷ Getmemsize ∷ Setmemsize ∷ Random ∷
+    Setrandom ∷ Glk ∷ Accelfunc ∷ Accelparam ∷ [])
+    ++ map op.Search (Linearsearch ∷ Binarysearch ∷ Linkedsearch ∷ Mzero ∷ Mcopy ∷
+    Malloc ∷ Mfree ∷ [])
 
 -- the first in a list with this number
 abbrev pub first_with : {A : Type 0} → (A → ℕ) → List A → ℕ → Option A

@@ -1,6 +1,7 @@
 //! Instructions in brief: those of at most four loads and then at most one store.
 
-ghost use Rattle.std.specs.Prelude.{◌≡◌, ◌≤◌, ◌+◌, ◌%◌, ◌^◌, [], ◌∷◌, Ok, IfOk};
+ghost use Rattle.std.specs.Prelude.{◌≡◌, ◌≤◌, ◌+◌, ◌%◌, ◌^◌, [], ◌∷◌};
+ghost use Rattle.std.specs.Prelude.{Ok, IfOk};
 ghost use Rattle.vm_operand.specs.Brief as spec;
 ghost use Rattle.vm_operand.specs.Brief.{instr_of, operands_from};
 ghost use Rattle.vm_operand.specs.Instruction.{instruction_at};
@@ -246,7 +247,8 @@ fn four_and_store(memory: &Memory<'_>, op: Op, place: u32) -> Result<Brief, OpFa
     requires { place ≤ 16777216 }
     ensures value { IfOk result (λ b.
         operands_from memory.now (number_of op)
-        (kind.Load ∷ kind.Load ∷ kind.Load ∷ kind.Load ∷ kind.Store ∷ []) place ≡ Ok (instr_of b)) }
+        (kind.Load ∷ kind.Load ∷ kind.Load ∷ kind.Load ∷ kind.Store ∷ []) place
+        ≡ Ok (instr_of b)) }
     ensures few { IfOk result (λ b. b.loads ≡ 4) }
 {
     let modes = memory.read1(place)?;

@@ -1,6 +1,7 @@
 //! The instruction at an address.
 
-ghost use Rattle.std.specs.Prelude.{◌≡◌, ◌≤◌, ◌<◌, ◌+◌, ◌/◌, ◌^◌, [], ◌∷◌, length, take, Ok, Err, IfOk, IfErr};
+ghost use Rattle.std.specs.Prelude.{◌≡◌, ◌≤◌, ◌<◌, ◌+◌, ◌/◌, ◌^◌, []};
+ghost use Rattle.std.specs.Prelude.{◌∷◌, length, take, Ok, Err, IfOk, IfErr};
 ghost use Rattle.vm_operand.specs.Instruction as spec;
 ghost use Rattle.vm_operand.specs.Opcode.{op_of, loads_in, stores_in};
 

@@ -1,5 +1,6 @@
 // Call frames: a new one, back to the one below, and the stack cut or replaced.
-ghost use Rattle.std.specs.Prelude.{◌≡◌, ◌≤◌, ◌<◌, ◌+◌, ◌*◌, ◌^◌, ◌++◌, length, take, true};
+ghost use Rattle.std.specs.Prelude.{◌≡◌, ◌≤◌, ◌<◌, ◌+◌, ◌*◌, ◌^◌};
+ghost use Rattle.std.specs.Prelude.{◌++◌, length, take, true};
 ghost use Rattle.std.specs.Prelude.{OnErr, OnOk};
 ghost use Rattle.vm_stack.specs.Answer.{Leaves};
 ghost use Rattle.vm_stack.specs.Frame as frames;

@@ -1,5 +1,6 @@
 // The stack's bytes in one reserved buffer, and the few ways in which they change.
-ghost use Rattle.std.specs.Prelude.{◌≡◌, ◌≤◌, ◌+◌, ◌-◌, [], length, take, drop, IfOk};
+ghost use Rattle.std.specs.Prelude.{◌≡◌, ◌≤◌, ◌+◌, ◌-◌, [], length, take, drop};
+ghost use Rattle.std.specs.Prelude.{IfOk};
 ghost use Rattle.std.specs.Prelude.{replicate, nat_le, true, ◌++◌};
 ghost use Rattle.vm_stack.specs.StackState as state;
 ghost use Rattle.vm_stack.specs.Values as values;
@@ -157,7 +158,9 @@ impl Stack {
     // Puts the bytes in place of those at a place.
     #[inline(always)]
     pub(crate) fn replace(&mut self, at: usize, new: &[u8])
-        ensures { self.new ≡ record self.old { bytes = state.replaced self.old.bytes at new.now } }
+        ensures { self.new ≡ record self.old {
+          bytes = state.replaced self.old.bytes at new.now;
+        } }
     {
         put(&mut self.buf, self.len, at, new);
     }

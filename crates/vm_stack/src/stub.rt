@@ -1,5 +1,6 @@
 // Call stubs, and the tokens that name where one ends.
-ghost use Rattle.std.specs.Prelude.{◌≡◌, ◌≤◌, ◌<◌, ◌+◌, ◌++◌, length, OnErr, OnOk};
+ghost use Rattle.std.specs.Prelude.{◌≡◌, ◌≤◌, ◌<◌, ◌+◌, ◌++◌, length};
+ghost use Rattle.std.specs.Prelude.{OnErr, OnOk};
 ghost use Rattle.vm_stack.specs.Answer.{Gives, Leaves};
 ghost use Rattle.vm_stack.specs.Stub as stubs;
 ghost use Rattle.vm_stack.specs.Values.{without};

@@ -2,7 +2,9 @@
 use Rattle.std.specs.Prelude.{ℕ}
 use Rattle.vm_operand.specs.Branch.{holds}
 use Rattle.vm_operand.specs.declared.opcode.Branch.{Branch}
-use Rattle.vm_operand.specs.declared.opcode.Branch.TheVariants.{Jump, Jz, Jnz, Jeq, Jne, Jlt, Jge, Jgt, Jle, Jltu, Jgeu, Jgtu, Jleu, Jumpabs}
+use Rattle.vm_operand.specs.declared.opcode.Branch.TheVariants.{Jump, Jz, Jnz, Jeq, Jne, Jlt, Jge}
+use Rattle.vm_operand.specs.declared.opcode.Branch.TheVariants.{Jgt, Jle, Jltu, Jgeu, Jgtu, Jleu}
+use Rattle.vm_operand.specs.declared.opcode.Branch.TheVariants.{Jumpabs}
 use Rattle.vm_operand.specs.declared.operand.Dest as d
 use Rattle.vm_exec.specs.Rows.Work.{Work, Free}
 use Rattle.vm_exec.specs.Rules.{goes, branches, when}

@@ -2,14 +2,16 @@
 use Rattle.std.specs.Prelude.{ℕ, List, [], ◌∷◌, length, Result, Ok, Err}
 use Rattle.vm_operand.specs.Reading.{◌>>=◌}
 use Rattle.vm_operand.specs.declared.opcode.Flow.{Flow}
-use Rattle.vm_operand.specs.declared.opcode.Flow.TheVariants.{Call, Return, Catch, Throw, Tailcall, Callf, Callfi, Callfii, Callfiii}
+use Rattle.vm_operand.specs.declared.opcode.Flow.TheVariants.{Call, Return, Catch, Throw, Tailcall}
+use Rattle.vm_operand.specs.declared.opcode.Flow.TheVariants.{Callf, Callfi, Callfii, Callfiii}
 use Rattle.vm_stack.specs.Frame.{left}
 use Rattle.vm_flow.specs.Throw.{thrown}
 use Rattle.vm_operand.specs.declared.operand.Dest as d
 use Rattle.vm_exec.specs.Rows.Work.{Work, Free, Costs}
 use Rattle.vm_exec.specs.declared.machine.Machine.{Machine}
 use Rattle.vm_exec.specs.Fault.{flowed}
-use Rattle.vm_exec.specs.Rules.{Rule, stored, with_stub, enters, calls, resumes, returns, branches, with_arguments}
+use Rattle.vm_exec.specs.Rules.{Rule, stored, with_stub, enters, calls, resumes, returns, branches}
+use Rattle.vm_exec.specs.Rules.{with_arguments}
 
 -- a stub for the first store is pushed, the place above it is its token, which is stored; then
 -- the story branches

@@ -1,5 +1,6 @@
 -- The size of memory, and the heap (Glulx 3.1.3, "Memory Map" and "Memory Allocation Heap").
-use Rattle.std.specs.Prelude.{ℕ, ◌%◌, ◌==◌, ◌||◌, not, max, nat_lt, if◌then◌else◌, length, Option, Some, None, Result, Ok, Err}
+use Rattle.std.specs.Prelude.{ℕ, ◌%◌, ◌==◌, ◌||◌, not, max, nat_lt}
+use Rattle.std.specs.Prelude.{if◌then◌else◌, length, Option, Some, None, Result, Ok, Err}
 use Rattle.vm_memory.specs.MemoryMap.{resized}
 use Rattle.vm_memory.specs.declared.memory.TheConstants.{MAX_SIZE}
 use Rattle.vm_heap.specs.HeapMap.{HeapMap, heap_end}
@@ -44,7 +45,8 @@ abbrev pub heap_coded : {A : Type 0} → Result A HeapFault → Result A ℕ
 heap_coded (Ok x) = Ok x
 heap_coded (Err (BadBlock at)) = Err 11
 
--- where memory ends: behind the last block, or again where the heap began that isn't active any more
+-- where memory ends: behind the last block, or again where the heap began that isn't active any
+-- more
 abbrev pub memory_end : ℕ → HeapMap → ℕ
 memory_end start h = if h.start == 0 then start else heap_end h.blocks
 

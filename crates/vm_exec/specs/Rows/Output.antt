@@ -2,7 +2,9 @@
 use Rattle.std.specs.Prelude.{ℕ, ◌%◌, nat_le, false, if◌then◌else◌, Result, Ok}
 use Rattle.vm_operand.specs.Reading.{◌>>=◌}
 use Rattle.vm_operand.specs.declared.opcode.Stream.{Stream}
-use Rattle.vm_operand.specs.declared.opcode.Stream.TheVariants.{Streamchar, Streamnum, Streamstr, Streamunichar, Getstringtbl, Setstringtbl, Getiosys, Setiosys}
+use Rattle.vm_operand.specs.declared.opcode.Stream.TheVariants.{Streamchar, Streamnum, Streamstr}
+use Rattle.vm_operand.specs.declared.opcode.Stream.TheVariants.{Streamunichar, Getstringtbl}
+use Rattle.vm_operand.specs.declared.opcode.Stream.TheVariants.{Setstringtbl, Getiosys, Setiosys}
 use Rattle.vm_operand.specs.declared.operand.Dest as d
 use Rattle.vm_exec.specs.Rows.Work.{Work, Free, Costs}
 use Rattle.vm_exec.specs.declared.machine.Machine.{Machine}

@@ -4,7 +4,9 @@ use Rattle.vm_memory.specs.Access.{zeroed, copied}
 use Rattle.vm_memory.specs.Fault.{coded}
 use Rattle.vm_operand.specs.Reading.{◌>>=◌}
 use Rattle.vm_operand.specs.declared.opcode.Search.{Search}
-use Rattle.vm_operand.specs.declared.opcode.Search.TheVariants.{Linearsearch, Binarysearch, Linkedsearch, Mzero, Mcopy, Malloc, Mfree}
+use Rattle.vm_operand.specs.declared.opcode.Search.TheVariants.{Linearsearch, Binarysearch}
+use Rattle.vm_operand.specs.declared.opcode.Search.TheVariants.{Linkedsearch, Mzero, Mcopy, Malloc}
+use Rattle.vm_operand.specs.declared.opcode.Search.TheVariants.{Mfree}
 use Rattle.vm_operand.specs.declared.operand.Dest as d
 use Rattle.vm_exec.specs.Rows.Searching.{linear_work, binary_work, linked_work}
 use Rattle.vm_exec.specs.Rows.Heap.{mallocs, frees}

@@ -1,5 +1,6 @@
 -- Searches of structures in memory (Glulx 3.1.3, "Searching").
-use Rattle.std.specs.Prelude.{ℕ, ◌^◌, if◌then◌else◌, Option, Some, None, Result, Ok, Err}
+use Rattle.std.specs.Prelude.{ℕ, ◌^◌, if◌then◌else◌, Option, Some, None, Result, Ok}
+use Rattle.std.specs.Prelude.{Err}
 use Rattle.vm_memory.specs.Fault.{coded}
 use Rattle.vm_operand.specs.Reading.{◌>>=◌}
 use Rattle.vm_search.specs.Binary.{binary_ends}
@@ -66,6 +67,7 @@ abbrev pub linked_work : Machine → (ℕ → ℕ) → d.Dest → Work
 linked_work m l to = searched m to (linked_query l 0) (linked_ends m.memory (linked_query l 0))
 
 -- what a search that told this comes to
-abbrev pub found_in : ℕ → Machine → d.Dest → Result Found SearchStop → Result (Machine × Done) ℕ
+abbrev pub found_in : ℕ → Machine → d.Dest → Result Found SearchStop
+    → Result (Machine × Done) ℕ
 found_in left m to (Ok f) = budgeted left (Costs f.looked (puts m to f.answer))
 found_in left m to (Err stop) = Err (code_of stop)

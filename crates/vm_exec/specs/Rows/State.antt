@@ -1,11 +1,14 @@
 -- The game's state (Glulx 3.1.3, "Game State").
 use Rattle.std.specs.Prelude.{ℕ, ◌/◌, length}
 use Rattle.vm_operand.specs.declared.opcode.State.{State}
-use Rattle.vm_operand.specs.declared.opcode.State.TheVariants.{Quit, Verify, Restart, Save, Restore, Saveundo, Restoreundo, Protect, Hasundo, Discardundo}
+use Rattle.vm_operand.specs.declared.opcode.State.TheVariants.{Quit, Verify, Restart, Save, Restore}
+use Rattle.vm_operand.specs.declared.opcode.State.TheVariants.{Saveundo, Restoreundo, Protect}
+use Rattle.vm_operand.specs.declared.opcode.State.TheVariants.{Hasundo, Discardundo}
 use Rattle.vm_operand.specs.declared.operand.Dest as d
 use Rattle.vm_exec.specs.Rows.Work.{Work, Free, Costs}
 use Rattle.vm_exec.specs.Rules.{puts, tells}
-use Rattle.vm_exec.specs.Rows.Undo.{pages, restarts, asks_save, asks_restore, saves_undo, restores_undo, protects, tells_undo, discards}
+use Rattle.vm_exec.specs.Rows.Undo.{pages, restarts, asks_save, asks_restore, saves_undo}
+use Rattle.vm_exec.specs.Rows.Undo.{restores_undo, protects, tells_undo, discards}
 use Rattle.vm_exec.specs.declared.machine.Machine.{Machine}
 use Rattle.vm_exec.specs.declared.step.Out.TheVariants as out
 

@@ -1,7 +1,10 @@
 -- Memory, gestalt, Glk and the rest (Glulx 3.1.3, "Memory Map" and "Miscellaneous").
-use Rattle.std.specs.Prelude.{ℕ, ◌/◌, ◌==◌, ◌||◌, nat_le, if◌then◌else◌, length, Result, Ok, Err}
+use Rattle.std.specs.Prelude.{ℕ, ◌/◌, ◌==◌, ◌||◌, nat_le, if◌then◌else◌, length}
+use Rattle.std.specs.Prelude.{Result, Ok, Err}
 use Rattle.vm_operand.specs.declared.opcode.System.{System}
-use Rattle.vm_operand.specs.declared.opcode.System.TheVariants.{Nop, Gestalt, Debugtrap, Getmemsize, Setmemsize, Random, Setrandom, Glk, Accelfunc, Accelparam}
+use Rattle.vm_operand.specs.declared.opcode.System.TheVariants.{Nop, Gestalt, Debugtrap, Getmemsize}
+use Rattle.vm_operand.specs.declared.opcode.System.TheVariants.{Setmemsize, Random, Setrandom, Glk}
+use Rattle.vm_operand.specs.declared.opcode.System.TheVariants.{Accelfunc, Accelparam}
 use Rattle.vm_operand.specs.declared.operand.Dest as d
 use Rattle.vm_exec.specs.Rows.Heap.{resizes}
 use Rattle.vm_exec.specs.Rows.Random.{draws, seeds}

@@ -2,7 +2,8 @@
 use Rattle.std.specs.Prelude.{ℕ, zero, suc, ◌-◌, ◌/◌, Result, Ok, Err}
 use Rattle.vm_operand.specs.Reading.{◌>>=◌}
 use Rattle.vm_operand.specs.declared.opcode.Values.{Values}
-use Rattle.vm_operand.specs.declared.opcode.Values.TheVariants.{Stkcount, Stkpeek, Stkswap, Stkroll, Stkcopy}
+use Rattle.vm_operand.specs.declared.opcode.Values.TheVariants.{Stkcount, Stkpeek, Stkswap, Stkroll}
+use Rattle.vm_operand.specs.declared.opcode.Values.TheVariants.{Stkcopy}
 use Rattle.vm_stack.specs.StackState.{StackState}
 use Rattle.vm_stack.specs.declared.fault.StackFault.{StackFault}
 use Rattle.vm_stack.specs.Values.{count, peeked, pushed, rolled}
