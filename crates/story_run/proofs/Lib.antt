@@ -1,3 +1,4 @@
+pub mod SaveLemmas
 pub mod TurnLemmas
 pub mod BudgetLemmas
 pub mod WorldLemmas

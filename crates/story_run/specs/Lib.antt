@@ -1,5 +1,6 @@
 pub mod Story
 pub mod Show
+pub mod Saves
 pub mod Step
 pub mod Turn
 pub mod World

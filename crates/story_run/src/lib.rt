@@ -3,6 +3,7 @@
 
 mod ends;
 mod laws;
+mod save;
 mod setup;
 mod stage;
 mod step;

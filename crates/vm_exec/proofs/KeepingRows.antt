@@ -60,9 +60,10 @@ use Rattle.vm_operand.specs.declared.opcode.System.TheVariants.{Nop, Gestalt, De
 use Rattle.vm_operand.specs.declared.opcode.Values.{Values}
 use Rattle.vm_operand.specs.declared.opcode.Values.TheVariants.{Stkcount, Stkpeek, Stkswap, Stkroll, Stkcopy}
 use Rattle.vm_operand.specs.declared.operand.Dest as d
+use Rattle.vm_operand.specs.declared.operand.Dest.TheVariants as dest
 use Rattle.vm_exec.specs.Answer.{Changes, Does}
 use Rattle.vm_exec.specs.Fault.{flowed, stacked}
-use Rattle.vm_exec.specs.Machine.{IsFit, IsSound, KeepsImage}
+use Rattle.vm_exec.specs.Machine.{IsFit, IsMapped, IsSound, KeepsImage}
 use Rattle.vm_exec.specs.Number.{number_text}
 use Rattle.vm_exec.specs.Random.{bounded, next_word}
 use Rattle.vm_exec.specs.Row as row
@@ -82,11 +83,14 @@ use Rattle.vm_exec.specs.Rows.Undo as undo
 use Rattle.vm_exec.specs.Rows.Values as values
 use Rattle.vm_exec.specs.Rows.Work.{Work, Free, Costs}
 use Rattle.vm_exec.specs.Rules as rules
-use Rattle.vm_exec.specs.Start.{empty_stack, finished, image_memory}
+use Rattle.vm_exec.specs.Start.{empty_stack, finished_at, image_memory}
 use Rattle.glulx_image.specs.Header.{stack_size}
 use Rattle.vm_exec.specs.TextStub as stubs
 use Rattle.vm_exec.specs.declared.machine.Machine.{Machine}
+use Rattle.vm_exec.specs.declared.step.Out.TheVariants as out
 use Rattle.vm_exec.specs.declared.step.Step.{Step}
+use Rattle.vm_exec.specs.declared.step.Waiting as w
+use Rattle.vm_exec.specs.declared.step.Waiting.TheVariants as waiting
 use Rattle.vm_exec.specs.declared.text.Text as t
 use Rattle.vm_exec.specs.declared.text.Text.TheVariants as text
 use Rattle.vm_exec.proofs.KeepingLemmas.{Has, HasFirst, Lies, Over, OverFirst, SavedOver, has-called, has-pushed, has-stub_taken, has-thrown, in_memory, ok-bind, ok-coded, ok-flowed, ok-if, ok-stacked, ok-then, on_stack, over-branches, over-calls, over-enters, over-goes, over-loaded_all, over-number_on, over-puts, over-reads, over-resumes, over-returns, over-stored_in, over-streams, over-suspended, over-text_on, over-unstubbed, over-when, over-with_arguments, over-with_stub, over-writes}
@@ -370,6 +374,27 @@ over-system o n Random m l d k =
     over-puts o n (record m { random = _ }) (d 0) (bounded (l 0) (next_word m.random)) (record { memory = k.memory; limit = k.limit; undo = k.undo })
 over-system o n Setrandom m l d k = record { memory = k.memory; limit = k.limit; undo = k.undo }
 
+over-asks_save : (o : Origin) (n : ℕ) (m : Machine) (stream : ℕ) (to : d.Dest) → Over o n m → IfOk (undo.asks_save m stream to) (OverFirst o n)
+over-asks_save o n m stream to k =
+    ok-if (OverFirst o n) (m.mode == 2)
+    (rules.with_stub m to >>= (λ r. rules.tells (record r { waiting = waiting.Stub }) (out.Save stream)))
+    (rules.puts m to 1)
+    (ok-bind (Over o n) (OverFirst o n) (rules.with_stub m to) (λ r. rules.tells (record r { waiting = waiting.Stub }) (out.Save stream))
+    (over-with_stub o n m to k) (λ r h. record { memory = h.memory; limit = h.limit; undo = h.undo }))
+    (over-puts o n m to 1 k)
+
+over-asks_restore : (o : Origin) (n : ℕ) (m : Machine) (stream : ℕ) (to : d.Dest) → Over o n m
+    → IfOk (undo.asks_restore m stream to) (OverFirst o n)
+over-asks_restore o n m stream to k =
+    ok-if (OverFirst o n) (m.mode == 2) (rules.tells (record m { waiting = waiting.Store to }) (out.Restore stream)) (rules.puts m to 1)
+    (record { memory = k.memory; limit = k.limit; undo = k.undo })
+    (over-puts o n m to 1 k)
+
+over-finished : (o : Origin) (n : ℕ) (m : Machine) (w : w.Waiting) (x : ℕ) → Over o n m → IfOk (finished_at m w x) (Over o n)
+over-finished o n m (waiting.Store to) x k = over-stored_in o n 4 m to x k
+over-finished o n m waiting.Stub x k =
+    over-came_back o n (record m { waiting = waiting.Store dest.Discard }) x (record { memory = k.memory; limit = k.limit; undo = k.undo })
+
 over-state : (o : Origin) (n : ℕ) (x : State) (m : Machine) (l : ℕ → ℕ) (d : ℕ → d.Dest) → Over o n m → WorkOver o n (state_work x m l d)
 unfolding state_work
 over-state o n Quit m l d k = k
@@ -380,8 +405,8 @@ over-state o n Restoreundo m l d k = over-goes o n (undo.undo_restored m (d 0)) 
 over-state o n Protect m l d k = record { memory = k.memory; limit = k.limit; undo = k.undo }
 over-state o n Hasundo m l d k = over-puts o n m (d 0) (cond (has_any m.undo) 0 1) k
 over-state o n Discardundo m l d k = record { memory = k.memory; limit = k.limit; undo = All-drop (SavedOver o) 1 m.undo k.undo }
-over-state o n Save m l d k = tt
-over-state o n Restore m l d k = tt
+over-state o n Save m l d k = over-asks_save o n m (l 0) (d 0) k
+over-state o n Restore m l d k = over-asks_restore o n m (l 0) (d 0) k
 
 over-answered : (o : Origin) (n : ℕ) (m : Machine) (to : d.Dest) (e : Option Ending) → Over o n m → WorkOver o n (searching.answered m to e)
 over-answered o n m to None k = tt
@@ -493,13 +518,17 @@ changed-keeps m new should (Ok x) h e =
     kept m new (subst (λ (y : Result Machine ℕ). IfOk y (Over (origin_of m.memory) m.stack.limit)) e h)
 changed-keeps m new should (Err t) h e = tt
 
-fit-over : (m : Machine) → IsFit m → Over (origin_of m.memory) m.stack.limit m
-fit-over m s = record { memory = refl; limit = refl; undo = images (origin_of m.memory) m.undo s.map.undo }
+mapped-over : (m : Machine) → IsMapped (origin_of m.memory) (length m.memory.bytes) m.heap m.undo → Over (origin_of m.memory) m.stack.limit m
+mapped-over m map = record { memory = refl; limit = refl; undo = images (origin_of m.memory) m.undo map.undo }
 
-pub finish_keeps : (m new : Machine) (value : ℕ) (r : Result (Unit {0}) Trap) → Changes (finished m value) new r → IsFit m
-    → OnOk r (KeepsImage m new)
-finish_keeps m new value r e s =
-    changed-keeps m new (finished m value) r (over-stored_in (origin_of m.memory) m.stack.limit 4 m m.waiting value (fit-over m s)) e
+fit-over : (m : Machine) → IsFit m → Over (origin_of m.memory) m.stack.limit m
+fit-over m s = mapped-over m s.map
+
+-- a result was stored, or a save's stub taken
+pub finish_keeps : (m new : Machine) (w : w.Waiting) (value : ℕ) (r : Result (Unit {0}) Trap) → Changes (finished_at m w value) new r
+    → IsMapped (origin_of m.memory) (length m.memory.bytes) m.heap m.undo → OnOk r (KeepsImage m new)
+finish_keeps m new w value r e map =
+    changed-keeps m new (finished_at m w value) r (over-finished (origin_of m.memory) m.stack.limit m w value (mapped-over m map)) e
 
 -- a saved state was put in place, and its stub taken
 pub resume_keeps : (m mid new : Machine) (s : Saved) (x : ℕ) (r : Result (Unit {0}) Trap) → undo.with_state m s ≡ Ok mid

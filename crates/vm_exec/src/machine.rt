@@ -91,8 +91,9 @@ impl<'i> Machine<'i> {
     pub fn finish(&mut self, _alloc: Global, value: u32) -> Result<(), Trap>
         ensures does { Changes (finished self.old value) self.new result }
         ensures fit { IsFit self.old → OnOk result (IsFit self.new) }
-        ensures kept { IsFit self.old → OnOk result (KeepsImage self.old self.new) }
         ensures saving { IsSaving self.old → OnOk result (IsFit self.new) }
+        ensures kept { IsFit self.old → OnOk result (KeepsImage self.old self.new) }
+        ensures kept_saving { IsSaving self.old → OnOk result (KeepsImage self.old self.new) }
     {
         match self.waiting {
             Waiting::Store(to) => self.store(to, value),
