@@ -1,5 +1,7 @@
 -- A container and the story inside it (Blorb 2.0.4, "Contents of the Resource Index Chunk").
-use Rattle.std.specs.Prelude.{ℕ, zero, suc, ◌+◌, ◌*◌, Bool, ◌&&◌, ◌==◌, nat_lt, nat_le, if◌then◌else◌, List, length as size, drop, codes, Option, Some, None, Result, Ok, Err}
+use Rattle.std.specs.Prelude.{ℕ, zero, suc, ◌+◌, ◌*◌, Bool, ◌&&◌, ◌==◌, nat_lt}
+use Rattle.std.specs.Prelude.{nat_le, if◌then◌else◌, List, length as size, drop, codes}
+use Rattle.std.specs.Prelude.{Option, Some, None, Result, Ok, Err}
 use Rattle.byteorder.specs.Endian.{big_number}
 use Rattle.blorb_read.specs.declared.fault.BlorbFault.{BlorbFault}
 use Rattle.blorb_read.specs.declared.fault.BlorbFault.TheVariants.{NotBlorb, Cut, NoExec, NotGlulx}

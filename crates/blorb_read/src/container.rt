@@ -2,7 +2,8 @@
 
 ghost use Rattle.std.specs.Prelude.{◌≡◌, ◌+◌, ◌*◌, ◌≤◌, length, IfOk, IfSome};
 ghost use Rattle.blorb_read.specs.Container as container;
-ghost use Rattle.blorb_read.specs.Container.{begins_at, is_executable, is_indexed, start_from, story_of};
+ghost use Rattle.blorb_read.specs.Container.{begins_at, is_executable, is_indexed, start_from};
+ghost use Rattle.blorb_read.specs.Container.{story_of};
 
 use crate::fault::BlorbFault;
 use byteorder::{BigEndian, ByteOrder};

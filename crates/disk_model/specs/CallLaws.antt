@@ -1,6 +1,8 @@
 -- Laws of a disk after its calls, and of the images of all moments since one of them (own).
-use Rattle.std.proofs.Common.{◌≡◌, inl, inr, ℕ, suc, ◌^◌, ◌≤◌, true, false, List, [], ◌∷◌}
-use Rattle.std.proofs.Common.{◌++◌, length, take, refl, sym, ◌∙◌, ap, subst, arith, length-append}
+use Rattle.std.proofs.Common.{◌≡◌, inl, inr, ℕ, suc, ◌^◌, ◌≤◌, true, false, List}
+use Rattle.std.proofs.Common.{[], ◌∷◌}
+use Rattle.std.proofs.Common.{◌++◌, length, take, refl, sym, ◌∙◌, ap, subst, arith}
+use Rattle.std.proofs.Common.{length-append}
 use Rattle.std.proofs.lemmas.List.{take_all, take-append-le}
 use Rattle.std.proofs.lemmas.Bool.{cases_lt}
 use Rattle.disk_model.specs.Disk.{Elapses}
@@ -22,7 +24,8 @@ well_calls (call ∷ calls) p well = well_calls calls (after_call p call) (well_
 
 -- whatever the calls were
 pub well_of :
-    (start : List ℕ) (calls : List Call) → length start ≤ 2 ^ 40 → IsWell (state_after start calls)
+    (start : List ℕ) (calls : List Call) → length start ≤ 2 ^ 40
+    → IsWell (state_after start calls)
 well_of start calls le = well_calls calls (settled start) (well_settled start le)
 
 -- the last call comes last
@@ -47,7 +50,8 @@ module _ (start : List ℕ) (calls : List Call) where
 
   -- since now there are no others
   pub only_since :
-      (c : List ℕ) → LeftSince start calls (length calls) c → IsImage (state_after start calls) c
+      (c : List ℕ) → LeftSince start calls (length calls) c
+      → IsImage (state_after start calls) c
   only_since c since =
       subst (λ (l : List Call). IsImage (state_after start l) c) (take_all since.0 calls since.1)
       since.3

@@ -1,6 +1,8 @@
 -- What the calls of a disk do to its bytes, and what a stop may leave of them (own).
-use Rattle.std.specs.Prelude.{◌≡◌, ◌⊎◌, ℕ, ◌+◌, ◌-◌, ◌^◌, ◌<◌, ◌≤◌, min, max, Bool, IsTrue, List}
-use Rattle.std.specs.Prelude.{◌++◌, length, take, drop, replicate, slice_index, Result, MatchResult}
+use Rattle.std.specs.Prelude.{◌≡◌, ◌⊎◌, ℕ, ◌+◌, ◌-◌, ◌^◌, ◌<◌}
+use Rattle.std.specs.Prelude.{◌≤◌, min, max, Bool, IsTrue, List}
+use Rattle.std.specs.Prelude.{◌++◌, length, take, drop, replicate, slice_index, Result}
+use Rattle.std.specs.Prelude.{MatchResult}
 
 -- the file has these bytes at this place
 pub record Holds (file : List ℕ) (at : ℕ) (bytes : List ℕ) : Type 0 where
@@ -9,7 +11,8 @@ pub record Holds (file : List ℕ) (at : ℕ) (bytes : List ℕ) : Type 0 where
 
 -- the bytes of the file from this place on, and zeros past its end
 abbrev pub Reads : List ℕ → ℕ → List ℕ → Type 0
-Reads file at bytes = (i : ℕ) → i < length bytes → slice_index bytes i ≡ slice_index file (at + i)
+Reads file at bytes = (i : ℕ) → i < length bytes
+    → slice_index bytes i ≡ slice_index file (at + i)
 
 -- the file after a write: zeros fill a gap past the old end
 abbrev pub written : List ℕ → ℕ → List ℕ → List ℕ
@@ -22,11 +25,13 @@ pub record Torn (at n : ℕ) (old new : List ℕ) : Type 0 where
   pub no_shorter : length old ≤ length new
   pub no_longer : length new ≤ max (length old) (at + n)
   pub below : (i : ℕ) → i < length old → i < at → slice_index new i ≡ slice_index old i
-  pub above : (i : ℕ) → i < length old → at + n ≤ i → slice_index new i ≡ slice_index old i
+  pub above : (i : ℕ) → i < length old → at + n ≤ i
+      → slice_index new i ≡ slice_index old i
 
 -- each new image is an old image after a step
 abbrev pub Follows :
-    (List ℕ → List ℕ → Type 0) → (List ℕ → Type 0) → (List ℕ → Type 0) → Type 0
+    (List ℕ → List ℕ → Type 0) → (List ℕ → Type 0) → (List ℕ → Type 0)
+    → Type 0
 Follows step old new = (c : List ℕ) → new c → (d : List ℕ) × old d × step d c
 
 -- no image is new
@@ -43,8 +48,10 @@ AfterWrite at n old c = (d : List ℕ) × old d × Torn at n d c
 
 -- where the disk tells: each image that a stop may leave now has P
 abbrev pub EachImage :
-    {D : Type 0} → (D → Bool) → (D → List ℕ → Type 0) → D → (List ℕ → Type 0) → Type 0
-EachImage tells may_leave disk P = IsTrue (tells disk) → (c : List ℕ) → may_leave disk c → P c
+    {D : Type 0} → (D → Bool) → (D → List ℕ → Type 0) → D → (List ℕ → Type 0)
+    → Type 0
+EachImage tells may_leave disk P =
+    IsTrue (tells disk) → (c : List ℕ) → may_leave disk c → P c
 
 -- time goes on: an image of a moment since t was one before, or is one now
 pub record Elapses
@@ -52,7 +59,8 @@ pub record Elapses
     (past since : ℕ → List ℕ → Type 0)
     (may_leave : List ℕ → Type 0) : Type 0 where
   pub later : before ≤ now
-  pub nothing_else : (t : ℕ) (c : List ℕ) → t ≤ before → since t c → past t c ⊎ may_leave c
+  pub nothing_else : (t : ℕ) (c : List ℕ) → t ≤ before → since t c
+      → past t c ⊎ may_leave c
   pub keeps : (t : ℕ) (c : List ℕ) → t ≤ before → past t c → since t c
 
 -- each image of a moment since the old disk has P
@@ -66,8 +74,10 @@ pub record LeavesOnly
   pub each : (c : List ℕ) → left_since new (moment old) c → P c
   -- for a run that began earlier
   pub before :
-      (t : ℕ) (c : List ℕ) → t ≤ moment old → left_since new t c → left_since old t c ⊎ P c
-  pub keeps : (t : ℕ) (c : List ℕ) → t ≤ moment old → left_since old t c → left_since new t c
+      (t : ℕ) (c : List ℕ) → t ≤ moment old → left_since new t c
+      → left_since old t c ⊎ P c
+  pub keeps : (t : ℕ) (c : List ℕ) → t ≤ moment old → left_since old t c
+      → left_since new t c
 
 -- the count rose, or stands at the end of a u64
 abbrev pub Rose : ℕ → ℕ → Type 0

@@ -1,5 +1,6 @@
 -- Laws of lists of ranges: their greatest end, and the places outside them (own).
-use Rattle.std.proofs.Common.{◌≡◌, ◌⊎◌, inl, inr, ℕ, ◌<◌, ◌≤◌, max, false, [], ◌∷◌, ◌++◌}
+use Rattle.std.proofs.Common.{◌≡◌, ◌⊎◌, inl, inr, ℕ, ◌<◌, ◌≤◌, max, false}
+use Rattle.std.proofs.Common.{[], ◌∷◌, ◌++◌}
 use Rattle.std.proofs.Common.{refl, arith}
 use Rattle.std.proofs.lemmas.Bool.Decides.{nat_tests}
 use Rattle.disk_model.specs.DiskState.{Ranges, greatest_end, Untouched, touched}
@@ -25,7 +26,8 @@ untouched-push i (x ∷ ranges) r old new = (old.0, untouched-push i ranges r ol
 
 -- outside all of them, so outside all but the last
 pub untouched-front :
-    (i : ℕ) (ranges : Ranges) (r : ℕ × ℕ) → Untouched i (ranges ++ r ∷ []) → Untouched i ranges
+    (i : ℕ) (ranges : Ranges) (r : ℕ × ℕ) → Untouched i (ranges ++ r ∷ [])
+    → Untouched i ranges
 untouched-front i [] r all = tt
 untouched-front i (x ∷ ranges) r all = (all.0, untouched-front i ranges r all.1)
 
@@ -37,7 +39,8 @@ untouched-last i [] r all = all.0
 untouched-last i (x ∷ ranges) r all = untouched-last i ranges r all.1
 
 -- the test says no
-pub untouched_false : (i : ℕ) (ranges : Ranges) → Untouched i ranges → touched i ranges ≡ false
+pub untouched_false : (i : ℕ) (ranges : Ranges) → Untouched i ranges
+    → touched i ranges ≡ false
 untouched_false i [] all = refl
 untouched_false i (r ∷ ranges) all = elim all.0 [
   | inl before ↦ grind (arith, nat_tests, untouched_false i ranges all.1)

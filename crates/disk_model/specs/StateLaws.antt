@@ -1,6 +1,8 @@
 -- Laws of a disk's images: a write tears them, a sync leaves one, what is read is one (own).
-use Rattle.std.proofs.Common.{◌≡◌, ◌⊎◌, inl, inr, ⊎_elim, ℕ, ◌+◌, ◌^◌, ◌<◌, ◌≤◌, min, max, Bool}
-use Rattle.std.proofs.Common.{true, false, List, [], ◌∷◌, ◌++◌, length, get_or, map, refl, sym}
+use Rattle.std.proofs.Common.{◌≡◌, ◌⊎◌, inl, inr, ⊎_elim, ℕ, ◌+◌, ◌^◌}
+use Rattle.std.proofs.Common.{◌<◌, ◌≤◌, min, max, Bool}
+use Rattle.std.proofs.Common.{true, false, List, [], ◌∷◌, ◌++◌, length, get_or, map, refl}
+use Rattle.std.proofs.Common.{sym}
 use Rattle.std.proofs.Common.{◌∙◌, ap, subst, arith}
 use Rattle.std.specs.Prelude.{nat_le, nat_lt, if◌then◌else◌, ◌&&◌}
 use Rattle.std.specs.List.{range_with_len}
@@ -41,7 +43,8 @@ module _ (p : DiskState) (at n : ℕ) (c : List ℕ) where
   at_outside i (inr behind) = grind (arith, nat_tests)
 
   at_inside :
-      (i : ℕ) → at ≤ i → i < at + n → i < length p.synced → old_at i ≡ get_or p.synced i 0
+      (i : ℕ) → at ≤ i → i < at + n → i < length p.synced
+      → old_at i ≡ get_or p.synced i 0
   at_inside i le lt within = grind (arith, nat_tests)
 
 -- each image after a write is one from before, with any bytes in the range
@@ -160,7 +163,8 @@ pub well_write :
     (good : Bool) (at : ℕ) (piece : List ℕ) (p : DiskState)
     → IsWell p → IsWell (after_write good at piece p)
 well_write good at piece p well = elim (cases_Bool (nat_le (at + length piece) (2 ^ 40))) [
-  | inl fits ↦ subst (λ (b : Bool). IsWell (if_fits b good at piece p)) (sym fits) (both good fits)
+  | inl fits ↦ subst (λ (b : Bool). IsWell (if_fits b good at piece p)) (sym fits)
+      (both good fits)
   | inr past ↦ subst (λ (b : Bool). IsWell (if_fits b good at piece p)) (sym past) well
 ]
   where

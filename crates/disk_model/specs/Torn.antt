@@ -1,5 +1,6 @@
 -- Laws of writes, whole or cut short: what stands where (own).
-use Rattle.std.proofs.Common.{◌≡◌, ◌⊎◌, inl, inr, ℕ, ◌+◌, ◌-◌, ◌<◌, ◌≤◌, max, List, ◌++◌, length}
+use Rattle.std.proofs.Common.{◌≡◌, ◌⊎◌, inl, inr, ℕ, ◌+◌, ◌-◌, ◌<◌}
+use Rattle.std.proofs.Common.{◌≤◌, max, List, ◌++◌, length}
 use Rattle.std.proofs.Common.{get_or, take, drop, replicate, refl, sym, ◌∙◌, ap, arith}
 use Rattle.std.proofs.Common.{length-append}
 use Rattle.std.proofs.lemmas.List.{length-take, length-drop, length-replicate, get_or-take}
@@ -68,7 +69,8 @@ padded old at = old ++ replicate (at - length old) 0
 abbrev front : List ℕ → ℕ → List ℕ
 front old at = take at (padded old at)
 
-padded_same : (old : List ℕ) (at i : ℕ) → i < at → get_or (padded old at) i 0 ≡ get_or old i 0
+padded_same : (old : List ℕ) (at i : ℕ) → i < at
+    → get_or (padded old at) i 0 ≡ get_or old i 0
 padded_same old at i lt = elim (cases_lt i (length old)) [
   | inl there ↦ get_or_append_left old (replicate (at - length old) 0) 0 i there
   | inr past ↦
@@ -137,7 +139,8 @@ written_above old at bytes i le =
 
 -- a write that succeeds is one of the torn ones
 pub torn_written :
-    (old : List ℕ) (at : ℕ) (bytes : List ℕ) → Torn at (length bytes) old (written old at bytes)
+    (old : List ℕ) (at : ℕ) (bytes : List ℕ)
+    → Torn at (length bytes) old (written old at bytes)
 torn_written old at bytes = record {
   no_shorter = omega (arith, length-written old at bytes);
   no_longer = omega (arith, length-written old at bytes);

@@ -1,6 +1,7 @@
 //! One file as a journal or a snapshot sees it: what it reads as, and what a stop may leave.
 
-ghost use Rattle.std.specs.Prelude.{◌≡◌, ◌⊎◌, ◌+◌, ◌<◌, ◌≤◌, ◌^◌, ℕ, Bool, List, length, max};
+ghost use Rattle.std.specs.Prelude.{◌≡◌, ◌⊎◌, ◌+◌, ◌<◌, ◌≤◌, ◌^◌};
+ghost use Rattle.std.specs.Prelude.{ℕ, Bool, List, length, max};
 ghost use Rattle.std.specs.Prelude.{IsTrue, IsOk, IsErr, IfOk, OnOk};
 ghost use Rattle.disk_model.specs.Disk.{Reads, written, Torn, Follows, NoneNew, Only, Elapses};
 ghost use Rattle.disk_model.specs.Disk.{Counts, SameDisk};
@@ -65,7 +66,8 @@ pub trait Disk {
 
     /// Fills `into` with the bytes from this place on, and with zeros past the end.
     fn read_at(&mut self, place: u64, into: &mut [u8]) -> Result<(), Failed>
-        ensures ok { OnOk result (IsTrue (tells self.old) → Reads (seen self.old) place into.new) }
+        ensures ok { OnOk result (IsTrue (tells self.old)
+            → Reads (seen self.old) place into.new) }
         ensures works { IsTrue (steady self.old) → IsOk result × IsTrue (steady self.new) }
         ensures err { IsTrue (fails_next self.old) → IsErr result }
         ensures cause { Counts result (faults self.old) (faults self.new) }
@@ -85,7 +87,8 @@ pub trait Disk {
         ensures ok { OnOk result (IsTrue (tells self.old)
             → seen self.new ≡ written (seen self.old) place piece.now) }
         ensures works { IsTrue (steady self.old)
-            → (place + length piece.now ≤ room self.old → IsOk result) × IsTrue (steady self.new) }
+            → (place + length piece.now ≤ room self.old → IsOk result)
+            × IsTrue (steady self.new) }
         ensures err { IsTrue (fails_next self.old) → IsErr result }
         ensures full { room self.old < place + length piece.now
             → IsErr result

@@ -1,6 +1,7 @@
 //! A disk that tells nothing of what it holds, and has all its room from the start.
 
-ghost use Rattle.std.specs.Prelude.{◌≡◌, ◌≤◌, ◌+◌, ◌<◌, ◌^◌, true, false, IfOk, length};
+ghost use Rattle.std.specs.Prelude.{◌≡◌, ◌≤◌, ◌+◌, ◌<◌, ◌^◌, true, false};
+ghost use Rattle.std.specs.Prelude.{IfOk, length};
 
 use crate::{Disk, Failed};
 use std::alloc::{AllocError, Global};

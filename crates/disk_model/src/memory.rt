@@ -1,6 +1,7 @@
 //! A disk in memory, for tests and models: it fails where it is told to, and may stop at any call.
 
-ghost use Rattle.std.specs.Prelude.{◌≡◌, ◌+◌, ◌≤◌, ◌<◌, ◌^◌, ◌++◌, [], ◌∷◌, length, Bool};
+ghost use Rattle.std.specs.Prelude.{◌≡◌, ◌+◌, ◌≤◌, ◌<◌, ◌^◌, ◌++◌, []};
+ghost use Rattle.std.specs.Prelude.{◌∷◌, length, Bool};
 ghost use Rattle.std.specs.Prelude.{◌==◌, if◌then◌else◌, is_ok, IfOk};
 ghost use Rattle.std.specs.List.{list_any};
 ghost use Rattle.disk_model.specs.DiskState.{IsImage, settled};
@@ -62,7 +63,8 @@ impl MemDisk {
             ≡ (if is_ok result then failing_in self.old ++ call ∷ [] else failing_in self.old) }
         ensures kept { (calls_in self.new ≡ calls_in self.old)
             × (state_in self.new ≡ state_in self.old)
-            × (faults_in self.new ≡ faults_in self.old) × (reach_in self.new ≡ reach_in self.old) }
+            × (faults_in self.new ≡ faults_in self.old)
+            × (reach_in self.new ≡ reach_in self.old) }
     {
         self.failing.push(call)?;
         Ok(())

@@ -1,6 +1,7 @@
 //! The calls of a disk in memory: what each does to its bytes, its ranges and its list of calls.
 
-ghost use Rattle.std.specs.Prelude.{◌≡◌, ℕ, List, ◌+◌, ◌≤◌, ◌<◌, ◌^◌, ◌++◌, [], ◌∷◌, length};
+ghost use Rattle.std.specs.Prelude.{◌≡◌, ℕ, List, ◌+◌, ◌≤◌, ◌<◌, ◌^◌};
+ghost use Rattle.std.specs.Prelude.{◌++◌, [], ◌∷◌, length};
 ghost use Rattle.std.specs.Prelude.{if◌then◌else◌, IfOk, OnOk, OnErr};
 ghost use Rattle.disk_model.specs.Disk.{written, Reads, Elapses};
 ghost use Rattle.disk_model.specs.DiskState.{IsImage, after_write, after_sync};
@@ -49,7 +50,8 @@ pub fn note_look(calls: &mut Vec<Call>) -> Result<(), AllocError>
 pub fn note_sync(calls: &mut Vec<Call>, good: bool) -> Result<(), AllocError>
     ensures clock { OnOk result (length calls.new.items ≡ length calls.old.items + 1) }
     ensures state { OnOk result ((start : List ℕ)
-        → state_after start calls.new.items ≡ after_sync good (state_after start calls.old.items)) }
+        → state_after start calls.new.items
+        ≡ after_sync good (state_after start calls.old.items)) }
     ensures time { (start : List ℕ)
         → Elapses (length calls.old.items) (length calls.new.items)
         (LeftSince start calls.old.items) (LeftSince start calls.new.items)

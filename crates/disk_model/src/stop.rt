@@ -1,6 +1,7 @@
 //! An image that a stop may leave, drawn from a number.
 
-ghost use Rattle.std.specs.Prelude.{◌≡◌, ◌≤◌, ◌<◌, false, IfOk, length, slice_index};
+ghost use Rattle.std.specs.Prelude.{◌≡◌, ◌≤◌, ◌<◌, false, IfOk, length};
+ghost use Rattle.std.specs.Prelude.{slice_index};
 ghost use Rattle.disk_model.specs.DiskState.{DiskState, greatest_end, touched, IsImage};
 
 use std::alloc::{AllocError, Global};

@@ -14,7 +14,8 @@ IsBudget budget = (1 ≤ budget) × (budget ≤ 1000000000000)
 -- the fields are those that a request may name
 abbrev pub IsCommand : Command → Type 0
 IsCommand (Open key story digest seed cols rows budget) =
-    (is_key key ≡ true) × (story ≤ 65535) × (length digest ≡ 32) × (seed ≤ 18446744073709551615)
+    (is_key key ≡ true) × (story ≤ 65535) × (length digest ≡ 32)
+    × (seed ≤ 18446744073709551615)
     × (1 ≤ cols) × (cols ≤ 255) × (1 ≤ rows) × (rows ≤ 255) × IsBudget budget
 IsCommand (Line win term text) = (win ≤ 4294967295) × IsTerminator term × IsText text
 IsCommand (Char win code) = (win ≤ 4294967295) × (is_code code ≡ true)

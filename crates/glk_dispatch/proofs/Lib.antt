@@ -4,4 +4,7 @@ pub mod KeptOutput
 pub mod KeptWindows
 pub mod KeptStreams
 pub mod KeptCalls
+pub mod KeepingLemmas
+pub mod KeepingOutput
+pub mod KeepingCalls
 pub mod StandardFacts

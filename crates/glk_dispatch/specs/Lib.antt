@@ -14,3 +14,4 @@ pub mod Gestalt
 pub mod Events
 pub mod Call
 pub mod Laws
+pub mod Keeping

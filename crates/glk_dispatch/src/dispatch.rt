@@ -1,8 +1,9 @@
 //! A call: its selector, its arguments, its work (Glk 0.7.5, "The Dispatch Layer").
 
-ghost use Rattle.std.specs.Prelude.{◌≡◌, slice_index};
+ghost use Rattle.std.specs.Prelude.{◌≡◌, slice_index, OnOk};
 ghost use Rattle.glk_dispatch.specs.Answer.{Does, desk};
 ghost use Rattle.glk_dispatch.specs.Call as table;
+ghost use Rattle.glk_dispatch.specs.Keeping.{KeepsStory};
 
 use crate::arguments::{MAX_ARGUMENTS, take_arguments};
 use crate::base::do_base;
@@ -33,8 +34,9 @@ pub fn call(
     selector: u32,
     args: u32,
 ) -> Result<Called, Trap>
-    ensures { Does (table.called (desk glk.old memory.old stack.old) selector args)
+    ensures does { Does (table.called (desk glk.old memory.old stack.old) selector args)
         glk.new memory.new stack.new result }
+    ensures kept { OnOk result (KeepsStory memory.old stack.old memory.new stack.new) }
 {
     match Call::of(selector) {
         Some((call, count)) => {

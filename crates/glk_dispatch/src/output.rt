@@ -1,10 +1,11 @@
 //! Output of characters, one by one (Glk 0.7.5, "How To Print").
 
-ghost use Rattle.std.specs.Prelude.{◌≡◌, ◌≤◌, ◌+◌, length, slice_index};
+ghost use Rattle.std.specs.Prelude.{◌≡◌, ◌≤◌, ◌+◌, length, slice_index, OnOk};
 ghost use Rattle.glk_input.specs.Delivery.{width};
 ghost use Rattle.glk_dispatch.specs.Answer.{Does, Makes, Puts, Writes, desk};
 ghost use Rattle.glk_dispatch.specs.Output as rows;
 ghost use Rattle.glk_dispatch.specs.Selector as selector;
+ghost use Rattle.vm_memory.specs.MemoryMap.{KeepsMap};
 
 use crate::arguments::MAX_ARGUMENTS;
 use crate::called::Called;
@@ -141,7 +142,8 @@ pub fn put_code(
     stream: u32,
     code: u32,
 ) -> Result<(), Trap>
-    ensures { Puts (rows.put_code glk.old memory.old stream code) glk.new memory.new result }
+    ensures does { Puts (rows.put_code glk.old memory.old stream code) glk.new memory.new result }
+    ensures kept { OnOk result (KeepsMap memory.old memory.new) }
 {
     glk.charge();
     spread_all(alloc, glk, memory, stream, code)

@@ -1,9 +1,10 @@
 //! Inputs that a call waits for (Glk 0.7.5, "Events", "Line Input Events").
 
-ghost use Rattle.std.specs.Prelude.{◌≡◌};
+ghost use Rattle.std.specs.Prelude.{◌≡◌, OnOk};
 ghost use Rattle.glk_input.specs.Request as request;
 ghost use Rattle.glk_dispatch.specs.Answer.{Does, Gets, Puts, desk};
 ghost use Rattle.glk_dispatch.specs.Events as rows;
+ghost use Rattle.glk_dispatch.specs.Keeping.{KeepsStory};
 
 use crate::events::{INPUT, NEWLINE, tell_event};
 use crate::filerefs::answer_prompt;
@@ -110,8 +111,9 @@ pub fn answer(
     stack: &mut Stack,
     input: &Input,
 ) -> Result<u32, Trap>
-    ensures { Does (rows.answered (desk glk.old memory.old stack.old) input.now)
+    ensures does { Does (rows.answered (desk glk.old memory.old stack.old) input.now)
         glk.new memory.new stack.new result }
+    ensures kept { OnOk result (KeepsStory memory.old stack.old memory.new stack.new) }
 {
     match input {
         Input::Line { .. } | Input::Char { .. } => answer_event(alloc, glk, memory, stack, input),

@@ -1,5 +1,6 @@
 -- The delivery of an input (Glk 0.7.5, "Line Input Events", "Character Input Events").
-use Rattle.std.specs.Prelude.{◌≡◌, ℕ, ◌+◌, ◌%◌, ◌^◌, ◌==◌, ◌&&◌, ◌||◌, nat_lt, not, Bool, true}
+use Rattle.std.specs.Prelude.{◌≡◌, ℕ, ◌+◌, ◌%◌, ◌^◌, ◌==◌, ◌&&◌}
+use Rattle.std.specs.Prelude.{◌||◌, nat_lt, not, Bool, true}
 use Rattle.std.specs.Prelude.{false, if◌then◌else◌, List, [], ◌∷◌, length, map, take}
 use Rattle.std.specs.Prelude.{Option, Some, None, Result, Ok, Err}
 use Rattle.vm_memory.specs.Access.{written}
@@ -89,7 +90,8 @@ char_delivered (Some (Char unicode)) win code = char_event win (taken_key unicod
 char_delivered None win code = no_event
 
 -- what an input that is wanted does to memory, and its event
-abbrev pub delivered : List WindowInput → MemoryMap → Input → Result (MemoryMap × Event) MemFault
+abbrev pub delivered : List WindowInput → MemoryMap → Input
+    → Result (MemoryMap × Event) MemFault
 delivered ws m (input.Line win text key) = line_delivered (request_of ws win) m win text key
 delivered ws m (input.Char win code) = Ok (m, char_delivered (request_of ws win) win code)
 delivered ws m (input.File name) = Ok (m, no_event)
@@ -108,7 +110,8 @@ Delivers should m (Err (stop.Fault f)) = should ≡ Err f
 Delivers should m (Err stop.NoMemory) = Unit {0}
 
 -- The call wrote these characters as an array from an address on, and answered how many they are.
-abbrev pub Writes : Bool → MemoryMap → ℕ → List ℕ → MemoryMap → Result ℕ MemStop → Type 0
+abbrev pub Writes : Bool → MemoryMap → ℕ → List ℕ → MemoryMap → Result ℕ MemStop
+    → Type 0
 Writes unicode old at codes new (Ok n) =
     (line_written unicode old at (map (taken unicode) codes) ≡ Ok new) × (n ≡ length codes)
 Writes unicode old at codes new (Err (stop.Fault f)) =

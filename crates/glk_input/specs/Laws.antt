@@ -7,7 +7,8 @@ use Rattle.glk_input.specs.declared.request.WindowInput.{WindowInput}
 
 -- a change of one window's entry leaves valid entries valid
 abbrev pub Keeps : (WindowInput → WindowInput) → Type 0
-Keeps f = (ws : List WindowInput) (win : ℕ) → is_valid ws ≡ true → is_valid (changed f ws win) ≡ true
+Keeps f = (ws : List WindowInput) (win : ℕ) → is_valid ws ≡ true
+    → is_valid (changed f ws win) ≡ true
 
 -- what calls make of valid entries is valid
 pub record StaysValid : Type 0 where

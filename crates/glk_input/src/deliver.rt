@@ -80,7 +80,8 @@ impl Requests {
     }
 
     fn deliver_char(&mut self, win: u32, code: u32) -> Event
-        ensures value { result ≡ delivery.char_delivered (request.request_of self.old win) win code }
+        ensures value { result ≡ delivery.char_delivered
+            (request.request_of self.old win) win code }
         ensures over { self.new ≡ request.changed request.ended self.old win }
     {
         let asked = self.request(win);
@@ -133,7 +134,8 @@ fn write_front(
     text: &str,
     max: u32,
 ) -> Result<u32, MemStop>
-    ensures { delivery.Writes unicode memory.old from (take max (chars text.now)) memory.new result }
+    ensures { delivery.Writes unicode memory.old from
+        (take max (chars text.now)) memory.new result }
 {
     let mut at = from;
     let mut count = 0;

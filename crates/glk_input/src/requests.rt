@@ -102,7 +102,8 @@ impl Requests {
     /// Asks for a character. Ignored where a request is there. An error where memory runs out.
     pub fn ask_char(&mut self, alloc: Global, win: u32, unicode: bool) -> Result<(), AllocError>
         ensures { IfOk result (λ _. self.new
-            ≡ request.changed (request.char_asked unicode) (request.with_window self.old win) win) }
+            ≡ request.changed (request.char_asked unicode)
+            (request.with_window self.old win) win) }
     {
         self.begin_window(alloc, win)?;
         self.change(win, Change::AskChar { unicode });
@@ -147,7 +148,8 @@ impl Requests {
     ) -> Result<(), AllocError>
         requires { length keys.now ≤ 13 }
         ensures { IfOk result (λ _. self.new
-            ≡ request.changed (request.with_keys keys.now) (request.with_window self.old win) win) }
+            ≡ request.changed (request.with_keys keys.now)
+            (request.with_window self.old win) win) }
     {
         self.begin_window(alloc, win)?;
         self.change(win, Change::Terminators(Keys::of(keys)));

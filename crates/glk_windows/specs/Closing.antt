@@ -1,10 +1,12 @@
 -- Windows that are closed (Glk 0.7.5, "Window Opening, Closing, and Constraints").
-use Rattle.std.specs.Prelude.{ℕ, zero, suc, ◌==◌, if◌then◌else◌, List, map, length, Option, Some, None}
+use Rattle.std.specs.Prelude.{ℕ, zero, suc, ◌==◌, if◌then◌else◌, List, map, length}
+use Rattle.std.specs.Prelude.{Option, Some, None}
 use Rattle.glk_windows.specs.declared.window.Window.{Window}
 use Rattle.glk_windows.specs.declared.window.Pair as p
 use Rattle.glk_windows.specs.declared.window.Content.{Content}
 use Rattle.glk_windows.specs.declared.window.Content.TheVariants.{Pair, Blank, Buffer, Grid}
-use Rattle.glk_windows.specs.Tree.{WindowTree, number_of, set_at, pair_of, parent_of, stream_of, swapped}
+use Rattle.glk_windows.specs.Tree.{WindowTree, number_of, set_at, pair_of, parent_of, stream_of}
+use Rattle.glk_windows.specs.Tree.{swapped}
 use Rattle.glk_windows.specs.Reading.{other}
 use Rattle.glk_numbers.specs.Numbered.{without}
 
@@ -34,7 +36,8 @@ abbrev pub closed : List Window → ℕ → List Window
 closed ws n = forgotten (without number_of ws n) n (stream_of ws n)
 
 -- a pair's two windows are taken away too
-abbrev pub both : (List Window → ℕ → List Window) → List Window → Option p.Pair → List Window
+abbrev pub both : (List Window → ℕ → List Window) → List Window → Option p.Pair
+    → List Window
 both takes ws None = ws
 both takes ws (Some p) = takes (takes ws p.first) p.second
 

@@ -1,5 +1,6 @@
 -- What holds of all windows that are one tree (Glk 0.7.5, "The Window Tree").
-use Rattle.std.specs.Prelude.{◌≡◌, ◌≢◌, ℕ, ◌+◌, ◌≤◌, ◌<◌, true, [], List, ◌⊎◌, None}
+use Rattle.std.specs.Prelude.{◌≡◌, ◌≢◌, ℕ, ◌+◌, ◌≤◌, ◌<◌, true, []}
+use Rattle.std.specs.Prelude.{List, ◌⊎◌, None}
 use Rattle.glk_windows.specs.declared.window.Window.{Window}
 use Rattle.glk_windows.specs.declared.window.Area.{Area}
 use Rattle.glk_windows.specs.Tree.{WindowTree, number_of, read, window_at, pair_of}
@@ -38,7 +39,8 @@ pub record Covers (a : Area) (x y : ℕ) : Type 0 where
 -- the windows that are no pairs lie on the screen
 abbrev pub StaysOnScreen : Type 0
 StaysOnScreen =
-    (t : WindowTree) (cols rows n : ℕ) → IsOrdered t → is_tree t ≡ true → pair_of t.slots n ≡ None
+    (t : WindowTree) (cols rows n : ℕ) → IsOrdered t → is_tree t ≡ true
+    → pair_of t.slots n ≡ None
     → IsInside (area_of (place t cols rows).slots n) (record { x = 0; y = 0; w = cols; h = rows })
 
 -- no cell of the screen lies in two windows that are no pairs
@@ -71,12 +73,14 @@ pub record KeepsValid : Type 0 where
       → IsValid (split t from method size kind rock).0
   pub close : (t : WindowTree) (n : ℕ) → IsValid t → IsLive t n → IsValid (close t n)
   pub place : (t : WindowTree) (cols rows : ℕ) → IsValid t → IsValid (place t cols rows)
-  pub arrange : (t : WindowTree) (n method size key : ℕ) → IsValid t → is_method method ≡ true
+  pub arrange : (t : WindowTree) (n method size key : ℕ) → IsValid t
+      → is_method method ≡ true
       → IsKeyOf t n key → IsValid (arrange t n method size key)
   pub put : (t : WindowTree) (n code style : ℕ) → IsValid t → IsValid (put t n code style)
   pub clear : (t : WindowTree) (n : ℕ) → IsValid t → IsValid (clear t n)
   pub move_to : (t : WindowTree) (n x y : ℕ) → IsValid t → IsValid (move_to t n x y)
-  pub set_stream : (t : WindowTree) (n stream : ℕ) → IsValid t → IsValid (stream_set t n stream)
+  pub set_stream : (t : WindowTree) (n stream : ℕ) → IsValid t
+      → IsValid (stream_set t n stream)
   pub set_echo : (t : WindowTree) (n stream : ℕ) → IsValid t → IsValid (echo_set t n stream)
   pub end_echo : (t : WindowTree) (stream : ℕ) → IsValid t → IsValid (echo_ended t stream)
   pub begin_turn : (t : WindowTree) → IsValid t → IsValid (begin_turn t)

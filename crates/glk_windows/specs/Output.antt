@@ -1,6 +1,8 @@
 -- Output of windows (Glk 0.7.5, "Text Buffer Windows" and "Text Grid Windows").
 use Rattle.glk_windows.specs.Tree.{WindowTree, set_at}
-use Rattle.std.specs.Prelude.{map, replicate, ℕ, ◌+◌, ◌*◌, ◌==◌, nat_lt, nat_le, ◌&&◌, if◌then◌else◌, Bool, true, false, List, [], ◌∷◌, ◌++◌, slice_set, length}
+use Rattle.std.specs.Prelude.{map, replicate, ℕ, ◌+◌, ◌*◌, ◌==◌, nat_lt, nat_le}
+use Rattle.std.specs.Prelude.{◌&&◌, if◌then◌else◌, Bool, true, false, List, [], ◌∷◌}
+use Rattle.std.specs.Prelude.{◌++◌, slice_set, length}
 use Rattle.glk_windows.specs.declared.text.Run.{Run}
 use Rattle.glk_windows.specs.declared.window.Window.{Window}
 use Rattle.glk_windows.specs.declared.window.Content.{Content}

@@ -1,5 +1,7 @@
 -- The rectangles of the windows (Glk 0.7.5, "Window Opening, Closing, and Constraints").
-use Rattle.std.specs.Prelude.{ℕ, zero, suc, ◌+◌, ◌-◌, ◌*◌, ◌/◌, ◌==◌, min, not, true, false, ◌<◌, ◌^◌, if◌then◌else◌, Bool, List, length, bit_and, Option, Some, None}
+use Rattle.std.specs.Prelude.{ℕ, zero, suc, ◌+◌, ◌-◌, ◌*◌, ◌/◌, ◌==◌, min}
+use Rattle.std.specs.Prelude.{not, true, false, ◌<◌, ◌^◌, if◌then◌else◌, Bool, List}
+use Rattle.std.specs.Prelude.{length, bit_and, Option, Some, None}
 use Rattle.glk_windows.specs.declared.window.Window.{Window}
 use Rattle.glk_windows.specs.declared.window.Pair as p
 use Rattle.glk_windows.specs.declared.window.Area.{Area}
@@ -66,7 +68,8 @@ abbrev pub with_area : List Window → ℕ → Area → List Window
 with_area ws n area = set_at (sized area) ws n
 
 -- a pair's two windows get their parts
-abbrev pub divided : (List Window → ℕ → Area → List Window) → List Window → Option p.Pair → Area
+abbrev pub divided : (List Window → ℕ → Area → List Window) → List Window
+    → Option p.Pair → Area
     → List Window
 divided gives ws None area = ws
 divided gives ws (Some p) area =

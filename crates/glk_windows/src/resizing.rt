@@ -1,6 +1,7 @@
 //! Grids that change their size (Glk 0.7.5, "Text Grid Windows").
 
-ghost use Rattle.std.specs.Prelude.{◌≡◌, ◌≤◌, ◌<◌, ◌-◌, ◌++◌, length, take, drop, IfOk};
+ghost use Rattle.std.specs.Prelude.{◌≡◌, ◌≤◌, ◌<◌, ◌-◌, ◌++◌, length, take};
+ghost use Rattle.std.specs.Prelude.{drop, IfOk};
 ghost use Rattle.glk_windows.specs.Resizing as sizes;
 
 use crate::text::Codes;

@@ -1,6 +1,7 @@
 //! Lists of codes, and runs of them in one style.
 
-ghost use Rattle.std.specs.Prelude.{◌≡◌, ◌≤◌, ◌<◌, ◌^◌, ◌++◌, ◌∷◌, [], length, IfOk, IsTrue, replicate, slice_set};
+ghost use Rattle.std.specs.Prelude.{◌≡◌, ◌≤◌, ◌<◌, ◌^◌, ◌++◌, ◌∷◌};
+ghost use Rattle.std.specs.Prelude.{[], length, IfOk, IsTrue, replicate, slice_set};
 ghost use Rattle.glk_windows.specs.Output as output;
 ghost use Rattle.glk_windows.specs.Output.{last_longer, run_on};
 

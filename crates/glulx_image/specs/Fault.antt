@@ -1,7 +1,8 @@
 -- The checks of a story file by their numbers (own).
 use Rattle.std.specs.Prelude.{ℕ}
 use Rattle.glulx_image.specs.declared.fault.ImageFault.{ImageFault}
-use Rattle.glulx_image.specs.declared.fault.ImageFault.TheVariants.{Short, Magic, Version, Layout, TooLarge}
+use Rattle.glulx_image.specs.declared.fault.ImageFault.TheVariants.{Short, Magic, Version, Layout}
+use Rattle.glulx_image.specs.declared.fault.ImageFault.TheVariants.{TooLarge}
 
 abbrev pub number_of : ImageFault → ℕ
 number_of Short = 1

@@ -1,5 +1,6 @@
 -- The nine words of the header, and what they are to keep (Glulx 3.1.3, "The Header").
-use Rattle.std.specs.Prelude.{ℕ, Bool, ◌==◌, ◌%◌, ◌&&◌, nat_le, nat_lt, ◌||◌, List, length, drop, ◌≤◌, ◌≡◌}
+use Rattle.std.specs.Prelude.{ℕ, Bool, ◌==◌, ◌%◌, ◌&&◌, nat_le, nat_lt, ◌||◌}
+use Rattle.std.specs.Prelude.{List, length, drop, ◌≤◌, ◌≡◌}
 use Rattle.byteorder.specs.Endian.{big_number}
 
 -- the word at a place

@@ -1,8 +1,11 @@
 -- Which files are images (Glulx 3.1.3, "The Header").
-use Rattle.std.specs.Prelude.{ℕ, ◌==◌, ◌&&◌, nat_lt, if◌then◌else◌, List, length, Result, Ok, Err}
-use Rattle.glulx_image.specs.Header.{magic, has_version, has_pages, has_order, is_too_large, extstart}
+use Rattle.std.specs.Prelude.{ℕ, ◌==◌, ◌&&◌, nat_lt, if◌then◌else◌, List, length}
+use Rattle.std.specs.Prelude.{Result, Ok, Err}
+use Rattle.glulx_image.specs.Header.{magic, has_version, has_pages, has_order, is_too_large}
+use Rattle.glulx_image.specs.Header.{extstart}
 use Rattle.glulx_image.specs.declared.fault.ImageFault.{ImageFault}
-use Rattle.glulx_image.specs.declared.fault.ImageFault.TheVariants.{Short, Magic, Version, Layout, TooLarge}
+use Rattle.glulx_image.specs.declared.fault.ImageFault.TheVariants.{Short, Magic, Version, Layout}
+use Rattle.glulx_image.specs.declared.fault.ImageFault.TheVariants.{TooLarge}
 
 -- the file, or the first check that it fails
 abbrev pub image_of : List ℕ → Result (List ℕ) ImageFault

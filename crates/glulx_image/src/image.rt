@@ -67,4 +67,11 @@ impl<'i> Image<'i> {
     {
         self.bytes
     }
+
+    /// The same image, lent on.
+    pub fn lend(&self) -> Image<'i>
+        ensures value { result ≡ self.now }
+    {
+        Image { bytes: self.bytes }
+    }
 }

@@ -1,5 +1,7 @@
 -- The fields of a line: one space and a word (own).
-use Rattle.std.specs.Prelude.{ℕ, ◌+◌, ◌-◌, ◌*◌, Bool, true, ◌&&◌, ◌||◌, ◌==◌, nat_le, nat_lt, if◌then◌else◌, List, [], ◌∷◌, length, Option, Some, None}
+use Rattle.std.specs.Prelude.{ℕ, ◌+◌, ◌-◌, ◌*◌, Bool, true, ◌&&◌, ◌||◌}
+use Rattle.std.specs.Prelude.{◌==◌, nat_le, nat_lt, if◌then◌else◌, List, [], ◌∷◌}
+use Rattle.std.specs.Prelude.{length, Option, Some, None}
 use Rattle.story_text.specs.Reading.{text_of}
 use Rattle.line_words.specs.Reading.{Reader, ◌>>=◌}
 use Rattle.line_words.specs.Keycode.{is_code, is_terminator}
@@ -94,9 +96,11 @@ after (n ∷ ns) [] = None
 after (n ∷ ns) (b ∷ bs) = if n == b then after ns bs else None
 
 -- the fields behind a name where the line begins with it, else the next
-abbrev pub fields_or : {A : Type 0} → (List ℕ → Option A) → Option A → Option (List ℕ) → Option A
+abbrev pub fields_or : {A : Type 0} → (List ℕ → Option A) → Option A → Option (List ℕ)
+    → Option A
 fields_or fields other (Some rest) = fields rest
 fields_or fields other None = other
 
-abbrev pub named : {A : Type 0} → List ℕ → List ℕ → (List ℕ → Option A) → Option A → Option A
+abbrev pub named : {A : Type 0} → List ℕ → List ℕ → (List ℕ → Option A) → Option A
+    → Option A
 named name line fields other = fields_or fields other (after name line)

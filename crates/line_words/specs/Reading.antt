@@ -1,5 +1,6 @@
 -- Readers of a line from left to right (own).
-use Rattle.std.specs.Prelude.{◌≡◌, ℕ, ◌==◌, if◌then◌else◌, List, length, Option, Some, None, Result, Ok, Err}
+use Rattle.std.specs.Prelude.{◌≡◌, ℕ, ◌==◌, if◌then◌else◌, List, length, Option}
+use Rattle.std.specs.Prelude.{Some, None, Result, Ok, Err}
 use Rattle.line_words.specs.declared.fault.LineFault.{LineFault}
 use Rattle.line_words.specs.declared.fault.LineFault.TheVariants.{BadLine, LongLine, NoMemory}
 use Rattle.story_text.specs.declared.fault.TextFault.{TextFault}

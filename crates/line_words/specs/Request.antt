@@ -1,7 +1,8 @@
 -- Request lines, by reading them from the left (own).
 use Rattle.std.specs.Prelude.{ℕ, List, Option, None, codes}
 use Rattle.line_words.specs.declared.request.Request.{Request}
-use Rattle.line_words.specs.declared.request.Request.TheVariants.{Open, Line, Char, File, Last, Close}
+use Rattle.line_words.specs.declared.request.Request.TheVariants.{Open, Line, Char, File, Last}
+use Rattle.line_words.specs.declared.request.Request.TheVariants.{Close}
 use Rattle.line_words.specs.Reading.{Reader, ◌then◌, whole, made}
 use Rattle.line_words.specs.Field.{number_at, key_at, text_at, named}
 use Rattle.line_words.specs.Play.{line_at, char_at, without_cr, unless_long}

@@ -1,11 +1,13 @@
 -- All spellings of requests and of the lines of `run` (own).
-use Rattle.std.specs.Prelude.{◌≡◌, ℕ, ◌≤◌, ◌⊎◌, true, ◌||◌, ◌==◌, if◌then◌else◌, List, [], ◌∷◌, ◌++◌, length, codes}
+use Rattle.std.specs.Prelude.{◌≡◌, ℕ, ◌≤◌, ◌⊎◌, true, ◌||◌, ◌==◌}
+use Rattle.std.specs.Prelude.{if◌then◌else◌, List, [], ◌∷◌, ◌++◌, length, codes}
 use Rattle.std.specs.Fmt.{decimal}
 use Rattle.story_text.specs.Text.{IsText}
 use Rattle.story_text.specs.Escape.{escaped}
 use Rattle.story_text.specs.Escape as texts
 use Rattle.line_words.specs.declared.request.Request.{Request}
-use Rattle.line_words.specs.declared.request.Request.TheVariants.{Open, Line, Char, File, Last, Close}
+use Rattle.line_words.specs.declared.request.Request.TheVariants.{Open, Line, Char, File, Last}
+use Rattle.line_words.specs.declared.request.Request.TheVariants.{Close}
 use Rattle.line_words.specs.declared.play.Play.{Play}
 use Rattle.line_words.specs.declared.play.Play.TheVariants as plays
 use Rattle.line_words.specs.Keycode.{is_code, is_terminator}
@@ -38,7 +40,8 @@ typed win word term = number win ++ (field word ++ terminator term)
 -- a request as it stands in a line, with this word for its text
 abbrev pub line_with : Request → List ℕ → List ℕ
 line_with (Open s key story seed cols rows budget) word =
-    codes "OPEN" ++ (session s key ++ (number story ++ (number seed ++ (number cols ++ number rows))))
+    codes "OPEN" ++ (session s key
+    ++ (number story ++ (number seed ++ (number cols ++ number rows))))
 line_with (Line s key n win text term) word =
     codes "LINE" ++ (numbered s key n ++ typed win word term)
 line_with (Char s key n win code) word =
@@ -81,7 +84,8 @@ IsRequest (Close s key n) = IsNumbered s key n
 -- bytes spell a request: its text may be spelled in any way
 abbrev pub SpellsRequest : List ℕ → Request → Type 0
 SpellsRequest bytes request =
-    IsRequest request × (word : List ℕ) × SpellsText request word × (bytes ≡ line_with request word)
+    IsRequest request × (word : List ℕ) × SpellsText request word
+    × (bytes ≡ line_with request word)
 
 -- the word that is written for a request's text
 abbrev pub written_text : Request → List ℕ

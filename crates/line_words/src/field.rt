@@ -1,8 +1,10 @@
 //! The fields of a line: one space and a word (own).
 
 ghost use Rattle.std.specs.Prelude.{◌≡◌, ◌≤◌, IfOk, IfSome, MatchOption, None, Some};
-ghost use Rattle.line_words.specs.Keycode.{is_scalar, is_function_key, is_keycode, is_terminator, is_code};
-ghost use Rattle.line_words.specs.Field.{word_of, rest_of, word_at, number_at, key_at, text_at, code_at, terminator_at, after};
+ghost use Rattle.line_words.specs.Keycode.{is_scalar, is_function_key, is_keycode, is_terminator};
+ghost use Rattle.line_words.specs.Keycode.{is_code};
+ghost use Rattle.line_words.specs.Field.{word_of, rest_of, word_at, number_at, key_at, text_at};
+ghost use Rattle.line_words.specs.Field.{code_at, terminator_at, after};
 ghost use Rattle.line_words.specs.Reading.{Gives, at_end};
 
 use crate::fault::LineFault;
@@ -137,7 +139,8 @@ pub fn at_end(rest: &[u8]) -> Result<(), LineFault>
 
 /// What follows the name at the front.
 pub fn after<'a>(name: &[u8], line: &'a [u8]) -> Option<&'a [u8]>
-    ensures { MatchOption result (after name.now line.now ≡ None) (λ rest. after name.now line.now ≡ Some rest.now) }
+    ensures { MatchOption result (after name.now line.now ≡ None)
+        (λ rest. after name.now line.now ≡ Some rest.now) }
 {
     match name {
         [] => Some(line),

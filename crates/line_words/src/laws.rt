@@ -1,6 +1,7 @@
 //! Laws of request lines (own).
 
-ghost use Rattle.line_words.specs.Laws.{ReadsEachRequest, ReadsRequestsOnly, PrintsSpellings, ReadsEachPlay, ReadsPlaysOnly};
+ghost use Rattle.line_words.specs.Laws.{ReadsEachRequest, ReadsRequestsOnly, PrintsSpellings};
+ghost use Rattle.line_words.specs.Laws.{ReadsEachPlay, ReadsPlaysOnly};
 
 /// Each line that spells a request is read as that request.
 pub fn reads_each_request()

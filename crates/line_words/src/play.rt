@@ -2,7 +2,8 @@
 
 ghost use Rattle.std.specs.Prelude.{◌≡◌, IfOk, IfErr, Some};
 ghost use Rattle.line_words.specs.Reading.{Gives, whole, at_end};
-ghost use Rattle.line_words.specs.Play.{line_at, char_at, line_play, char_play, file_play, spelled_play, without_cr, play_of, Refuses};
+ghost use Rattle.line_words.specs.Play.{line_at, char_at, line_play, char_play, file_play};
+ghost use Rattle.line_words.specs.Play.{spelled_play, without_cr, play_of, Refuses};
 
 use crate::fault::LineFault;
 use crate::field::{after, at_end, code_at, terminator_at, text_at, u32_at};

@@ -3,7 +3,9 @@
 ghost use Rattle.std.specs.Prelude.{◌≡◌, IfOk, IfErr, Some};
 ghost use Rattle.line_words.specs.Reading.{Gives};
 ghost use Rattle.line_words.specs.Play.{Refuses};
-ghost use Rattle.line_words.specs.Request.{session_at, numbered_at, setup_at, open_of, line_of, char_of, file_of, last_of, close_of, spelled_request, request_of};
+ghost use Rattle.line_words.specs.Request.{session_at, numbered_at, setup_at, open_of, line_of};
+ghost use Rattle.line_words.specs.Request.{char_of, file_of, last_of, close_of, spelled_request};
+ghost use Rattle.line_words.specs.Request.{request_of};
 
 use crate::fault::LineFault;
 use crate::field::{after, at_end, key_at, number_at, text_at, u8_at, u32_at};
@@ -45,7 +47,8 @@ struct Setup {
 
 #[tactic(auto, unfolding(crate::specs::Request::setup_at))]
 fn setup_at(rest: &[u8]) -> Result<(Setup, &[u8]), LineFault>
-    ensures { Gives (λ x. ((x.0.story, (x.0.seed, (x.0.cols, x.0.rows))), x.1.now)) result (setup_at rest.now) }
+    ensures { Gives (λ x. ((x.0.story, (x.0.seed, (x.0.cols, x.0.rows))), x.1.now)) result
+        (setup_at rest.now) }
 {
     let (story, rest) = number_at(0, 65535, rest)?;
     let (seed, rest) = number_at(0, u64::MAX, rest)?;

@@ -1,5 +1,7 @@
 -- The form and its chunks (Quetzal 1.4, "Overall structure").
-use Rattle.std.specs.Prelude.{◌≡◌, ℕ, zero, suc, ◌+◌, ◌-◌, ◌%◌, Bool, true, false, ◌&&◌, ◌||◌, ◌==◌, nat_lt, if◌then◌else◌, List, length, codes, take, drop, Option, Some, None, Result, Ok, Err}
+use Rattle.std.specs.Prelude.{◌≡◌, ℕ, zero, suc, ◌+◌, ◌-◌, ◌%◌, Bool, true}
+use Rattle.std.specs.Prelude.{false, ◌&&◌, ◌||◌, ◌==◌, nat_lt, if◌then◌else◌}
+use Rattle.std.specs.Prelude.{List, length, codes, take, drop, Option, Some, None, Result, Ok, Err}
 use Rattle.std.specs.Borrow.{Bor}
 use Rattle.byteorder.specs.Endian.{big_number}
 use Rattle.quetzal.specs.Fault.{◌>>=◌, or_else}
@@ -20,7 +22,12 @@ unfoldable pub chunk_at : List ℕ → Option (ℕ × List ℕ × List ℕ)
 chunk_at rest =
     if nat_lt (length rest) 8 then None
     else (if nat_lt (length (drop 8 rest)) (word rest 4) then None
-    else Some (word rest 0, take (word rest 4) (drop 8 rest), drop (word rest 4 % 2) (drop (word rest 4) (drop 8 rest))))
+    else Some (
+      word rest 0,
+      take (word rest 4) (drop 8 rest),
+      drop (word rest 4 % 2)
+          (drop (word rest 4) (drop 8 rest)),
+    ))
 
 -- chunks to the end of the bytes, at most so many
 abbrev pub are_chunks_after : (List ℕ → Bool) → Option (ℕ × List ℕ × List ℕ) → Bool
@@ -29,16 +36,19 @@ are_chunks_after more (Some c) = more c.2
 
 abbrev pub are_chunks : ℕ → List ℕ → Bool
 are_chunks zero rest = true
-are_chunks (suc n) rest = if length rest == 0 then true else are_chunks_after (are_chunks n) (chunk_at rest)
+are_chunks (suc n) rest = if length rest == 0 then true
+    else are_chunks_after (are_chunks n) (chunk_at rest)
 
 -- the contents of the first chunk of a name, among so many
-abbrev pub first_after : ℕ → (List ℕ → Option (List ℕ)) → Option (ℕ × List ℕ × List ℕ) → Option (List ℕ)
+abbrev pub first_after : ℕ → (List ℕ → Option (List ℕ))
+    → Option (ℕ × List ℕ × List ℕ) → Option (List ℕ)
 first_after name more None = None
 first_after name more (Some c) = if c.0 == name then Some c.1 else more c.2
 
 abbrev pub first_named : ℕ → ℕ → List ℕ → Option (List ℕ)
 first_named name zero rest = None
-first_named name (suc n) rest = if length rest == 0 then None else first_after name (first_named name n) (chunk_at rest)
+first_named name (suc n) rest =
+    if length rest == 0 then None else first_after name (first_named name n) (chunk_at rest)
 
 -- what stands in the form
 unfoldable pub body : List ℕ → Result (List ℕ) SaveFault
@@ -62,19 +72,27 @@ now_of None = None
 now_of (Some b) = Some b.now
 
 abbrev pub view : Parts → Pieces
-view p = record { header = p.header.now; memory = p.memory.now; compressed = p.compressed; stack = p.stack.now; heap = now_of p.heap }
+view p = record {
+  header = p.header.now;
+  memory = p.memory.now;
+  compressed = p.compressed;
+  stack = p.stack.now;
+  heap = now_of p.heap;
+}
 
 abbrev pub needed : ℕ → List ℕ → Result (List ℕ) SaveFault
 needed name bytes = or_else Cut (first_named name (length bytes) bytes)
 
 -- `CMem` where it is there, else `UMem`
-abbrev pub either_of : Option (List ℕ) → Option (List ℕ) → Result (List ℕ × Bool) SaveFault
+abbrev pub either_of : Option (List ℕ) → Option (List ℕ)
+    → Result (List ℕ × Bool) SaveFault
 either_of (Some c) u = Ok (c, true)
 either_of None (Some u) = Ok (u, false)
 either_of None None = Err Cut
 
 abbrev pub memory_of : List ℕ → Result (List ℕ × Bool) SaveFault
-memory_of bytes = either_of (first_named (name (codes "CMem")) (length bytes) bytes) (first_named (name (codes "UMem")) (length bytes) bytes)
+memory_of bytes = either_of (first_named (name (codes "CMem")) (length bytes) bytes)
+    (first_named (name (codes "UMem")) (length bytes) bytes)
 
 unfoldable pub parts_of : List ℕ → Result Pieces SaveFault
 parts_of bytes = do
@@ -83,4 +101,10 @@ parts_of bytes = do
   header ← needed (name (codes "IFhd")) chunks
   stack ← needed (name (codes "Stks")) chunks
   memory ← memory_of chunks
-  Ok (record { header = header; memory = memory.0; compressed = memory.1; stack = stack; heap = first_named (name (codes "MAll")) (length chunks) chunks })
+  Ok (record {
+    header = header;
+    memory = memory.0;
+    compressed = memory.1;
+    stack = stack;
+    heap = first_named (name (codes "MAll")) (length chunks) chunks;
+  })

@@ -1,12 +1,16 @@
 -- The heap's chunk MAll (Glulx 3.1.3, "Saving and Restoring").
-use Rattle.std.specs.Prelude.{◌≡◌, ℕ, zero, suc, ◌+◌, ◌*◌, ◌%◌, Bool, true, ◌&&◌, ◌||◌, ◌==◌, nat_lt, nat_le, if◌then◌else◌, List, [], ◌∷◌, ◌++◌, length as size, drop, Vec, Option, Some, None, Result, Ok, Err}
+use Rattle.std.specs.Prelude.{◌≡◌, ℕ, zero, suc, ◌+◌, ◌*◌, ◌%◌, Bool, true}
+use Rattle.std.specs.Prelude.{◌&&◌, ◌||◌, ◌==◌, nat_lt, nat_le, if◌then◌else◌}
+use Rattle.std.specs.Prelude.{List, [], ◌∷◌, ◌++◌, length as size, drop, Vec, Option}
+use Rattle.std.specs.Prelude.{Some, None, Result, Ok, Err}
 use Rattle.std.specs.Int.{w32, to_be_bytes}
 use Rattle.std.specs.List.Sorted.{IsPermutation}
 use Rattle.vm_heap.specs.HeapMap.{is_heap, heap_end}
 use Rattle.vm_heap.specs.declared.block.Block.{Block}
 use Rattle.quetzal.specs.Chunks.{word}
 use Rattle.quetzal.specs.declared.fault.SaveFault.{SaveFault}
-use Rattle.quetzal.specs.declared.fault.SaveFault.TheVariants.{NotSave, Cut, OtherStory, BadRuns, BadStack, BadHeap, NoMemory}
+use Rattle.quetzal.specs.declared.fault.SaveFault.TheVariants.{NotSave, Cut, OtherStory, BadRuns}
+use Rattle.quetzal.specs.declared.fault.SaveFault.TheVariants.{BadStack, BadHeap, NoMemory}
 use Rattle.quetzal.specs.declared.heap.SavedHeap.{SavedHeap}
 
 -- so many pairs of an address and a length
@@ -48,7 +52,8 @@ pub record HaveOrder (endmem length start : ℕ) (pairs blocks : List Block) : T
   pub fits : fits endmem length start blocks ≡ true
 
 -- the heap that a chunk spells: its blocks in some order, which fit
-pub record IsHeapIn (endmem length : ℕ) (chunk : Option (List ℕ)) (start : ℕ) (blocks : List Block) : Type 0 where
+pub record IsHeapIn (endmem length : ℕ) (chunk : Option (List ℕ)) (start : ℕ)
+    (blocks : List Block) : Type 0 where
   pub pairs : List Block
   pub listed : listed chunk ≡ Some (start, pairs)
   pub order : HaveOrder endmem length start pairs blocks

@@ -1,5 +1,8 @@
 -- The contents of the CMem and UMem chunks (Quetzal 1.4, "Content of dynamic memory").
-use Rattle.std.specs.Prelude.{◌≡◌, ℕ, ◌+◌, ◌-◌, ◌%◌, ◌≤◌, Bool, true, false, ◌&&◌, ◌==◌, nat_lt, nat_le, if◌then◌else◌, List, ◌++◌, length, drop, replicate, Option, Some, None, Result, Ok, Err}
+use Rattle.std.specs.Prelude.{◌≡◌, ℕ, ◌+◌, ◌-◌, ◌%◌, ◌≤◌, Bool, true}
+use Rattle.std.specs.Prelude.{false, ◌&&◌, ◌==◌, nat_lt, nat_le, if◌then◌else◌, List}
+use Rattle.std.specs.Prelude.{◌++◌, length, drop, replicate, Option, Some, None, Result, Ok}
+use Rattle.std.specs.Prelude.{Err}
 use Rattle.std.specs.Int.{w32, to_be_bytes}
 use Rattle.quetzal.specs.declared.fault.SaveFault.{SaveFault}
 use Rattle.quetzal.specs.declared.fault.SaveFault.TheVariants.{BadRuns}
@@ -16,13 +19,15 @@ abbrev pub original : List ℕ → ℕ → ℕ → List ℕ
 original image ramstart size = drop ramstart image ++ replicate (size - length image) 0
 
 abbrev pub coded_memory : List ℕ → ℕ → ℕ → List ℕ → Result (List ℕ) SaveFault
-coded_memory image ramstart size bytes = or_else BadRuns (restored false (original image ramstart size) bytes)
+coded_memory image ramstart size bytes =
+    or_else BadRuns (restored false (original image ramstart size) bytes)
 
 abbrev pub plain_memory : ℕ → ℕ → List ℕ → Result (List ℕ) SaveFault
 plain_memory ramstart size bytes = if length bytes == size - ramstart then Ok bytes else Err BadRuns
 
 -- RAM from RAMSTART on, of a chunk's contents
-unfoldable pub memory_of : List ℕ → ℕ → ℕ → List ℕ → Bool → Result (List ℕ) SaveFault
+unfoldable pub memory_of : List ℕ → ℕ → ℕ → List ℕ → Bool
+    → Result (List ℕ) SaveFault
 memory_of image ramstart endmem contents compressed =
     if nat_lt (length contents) 4 then Err BadRuns
     else (if is_size endmem (word contents 0) then
@@ -33,10 +38,12 @@ memory_of image ramstart endmem contents compressed =
 -- the one contents of CMem that are written
 abbrev pub print_memory : List ℕ → ℕ → List ℕ → List ℕ
 print_memory image ramstart ram =
-    to_be_bytes w32 (ramstart + length ram) ++ coded 0 (differences (original image ramstart (ramstart + length ram)) ram)
+    to_be_bytes w32 (ramstart + length ram)
+    ++ coded 0 (differences (original image ramstart (ramstart + length ram)) ram)
 
 -- what is written is read again
 abbrev pub RestoresMemory : Type 0
 RestoresMemory =
-    (image ram : List ℕ) (ramstart endmem : ℕ) → ramstart ≤ length image → length image ≤ endmem → is_size endmem (ramstart + length ram) ≡ true
+    (image ram : List ℕ) (ramstart endmem : ℕ) → ramstart ≤ length image
+    → length image ≤ endmem → is_size endmem (ramstart + length ram) ≡ true
     → memory_of image ramstart endmem (print_memory image ramstart ram) true ≡ Ok ram

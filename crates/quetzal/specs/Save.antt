@@ -1,7 +1,9 @@
 -- A save, and the state of a story that it spells (Quetzal 1.4, "Overall Structure").
-use Rattle.std.specs.Prelude.{◌≡◌, ◌≢◌, ℕ, ◌+◌, ◌≤◌, ◌++◌, List, length, take, drop, Option, Ok, Err, Result}
+use Rattle.std.specs.Prelude.{◌≡◌, ◌≢◌, ℕ, ◌+◌, ◌≤◌, ◌++◌, List, length}
+use Rattle.std.specs.Prelude.{take, drop, Option, Ok, Err, Result}
 use Rattle.glulx_image.specs.Header.{ramstart, extstart, endmem, stack_size}
-use Rattle.vm_memory.specs.MemoryMap.{MemoryMap, Origin, memory_of as original_of, origin_of, ram_of, resized, with_ram}
+use Rattle.vm_memory.specs.MemoryMap.{MemoryMap, Origin, memory_of as original_of, origin_of}
+use Rattle.vm_memory.specs.MemoryMap.{ram_of, resized, with_ram}
 use Rattle.vm_stack.specs.Saved.{SavedStack}
 use Rattle.vm_heap.specs.declared.block.Block.{Block}
 use Rattle.vm_undo.specs.SavedState.{IsSavedOf}
@@ -11,7 +13,8 @@ use Rattle.quetzal.specs.Heap.{IsHeapIn, print_heap}
 use Rattle.quetzal.specs.Memory.{memory_of, print_memory}
 use Rattle.quetzal.specs.Printing.{print_save}
 use Rattle.quetzal.specs.declared.fault.SaveFault.{SaveFault}
-use Rattle.quetzal.specs.declared.fault.SaveFault.TheVariants.{NotSave, Cut, OtherStory, BadRuns, BadStack, BadHeap, NoMemory}
+use Rattle.quetzal.specs.declared.fault.SaveFault.TheVariants.{NotSave, Cut, OtherStory, BadRuns}
+use Rattle.quetzal.specs.declared.fault.SaveFault.TheVariants.{BadStack, BadHeap, NoMemory}
 
 -- the file's bytes that memory begins with
 abbrev pub rom : List ℕ → List ℕ
@@ -59,7 +62,8 @@ pub record IsStateIn (image : List ℕ) (p : Pieces) (ram : List ℕ) (s : Saved
 
 -- no heap in this chunk is one that memory of this size may have
 abbrev pub HasNoHeap : ℕ → ℕ → Option (List ℕ) → Type 0
-HasNoHeap end size chunk = (start : ℕ) (blocks : List Block) → IsHeapIn end size chunk start blocks → ⊥
+HasNoHeap end size chunk =
+    (start : ℕ) (blocks : List Block) → IsHeapIn end size chunk start blocks → ⊥
 
 abbrev pub ReadsHeapOf : List ℕ → Pieces → List ℕ → Result Saved SaveFault → Type 0
 ReadsHeapOf image p ram (Ok s) = IsStateIn image p ram s
@@ -67,15 +71,18 @@ ReadsHeapOf image p ram (Err e) =
     Refuses BadHeap (Err e) × (e ≡ BadHeap
     → HasNoHeap (endmem image) (ramstart image + length ram) p.heap)
 
-pub record ReadsStack (image : List ℕ) (p : Pieces) (ram : List ℕ) (result : Result Saved SaveFault) : Type 0 where
+pub record ReadsStack (image : List ℕ) (p : Pieces) (ram : List ℕ)
+    (result : Result Saved SaveFault) : Type 0 where
   pub good : IsStackOf image p.stack → ReadsHeapOf image p ram result
   pub bad : (IsStackOf image p.stack → ⊥) → Refuses BadStack result
 
-abbrev pub ReadsMemory : List ℕ → Pieces → Result (List ℕ) SaveFault → Result Saved SaveFault → Type 0
+abbrev pub ReadsMemory : List ℕ → Pieces → Result (List ℕ) SaveFault
+    → Result Saved SaveFault → Type 0
 ReadsMemory image p (Ok ram) result = ReadsStack image p ram result
 ReadsMemory image p (Err e) result = Refuses e result
 
-pub record ReadsStory (image : List ℕ) (p : Pieces) (result : Result Saved SaveFault) : Type 0 where
+pub record ReadsStory (image : List ℕ) (p : Pieces)
+    (result : Result Saved SaveFault) : Type 0 where
   pub own : p.header ≡ identity image → ReadsMemory image p (ram_in image p) result
   pub other : p.header ≢ identity image → Refuses OtherStory result
 
@@ -83,8 +90,8 @@ abbrev pub ReadsParts : List ℕ → Result Pieces SaveFault → Result Saved Sa
 ReadsParts image (Ok p) result = ReadsStory image p result
 ReadsParts image (Err e) result = Refuses e result
 
--- what reading bytes answers: the state that they spell, or the first cause against them, looked for
--- in the form, the story's bytes, memory, stack and heap
+-- what reading bytes answers: the state that they spell, or the first cause against them, looked
+-- for in the form, the story's bytes, memory, stack and heap
 abbrev pub Reads : List ℕ → List ℕ → Result Saved SaveFault → Type 0
 Reads image bytes result = ReadsParts image (parts_of bytes) result
 
@@ -112,4 +119,5 @@ Gives s (Ok t) = t ≡ s
 Gives s (Err e) = e ≡ NoMemory
 
 abbrev pub IsReadAs : List ℕ → List ℕ → Saved → Type 0
-IsReadAs image bytes s = (result : Result Saved SaveFault) → Reads image bytes result → Gives s result
+IsReadAs image bytes s = (result : Result Saved SaveFault) → Reads image bytes result
+    → Gives s result

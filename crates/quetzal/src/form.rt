@@ -1,7 +1,9 @@
 //! The form and its chunks (Quetzal 1.4, "Overall structure").
 
-ghost use Rattle.std.specs.Prelude.{◌≡◌, ◌+◌, ◌%◌, ◌≤◌, None, Some, Ok, Err, length, drop, IfSome, IfNone, MatchOption};
-ghost use Rattle.quetzal.specs.Chunks.{word, chunk_at, are_chunks, first_named, body, memory_of, needed, parts_of, view};
+ghost use Rattle.std.specs.Prelude.{◌≡◌, ◌+◌, ◌%◌, ◌≤◌, None, Some, Ok, Err};
+ghost use Rattle.std.specs.Prelude.{length, drop, IfSome, IfNone, MatchOption};
+ghost use Rattle.quetzal.specs.Chunks.{word, chunk_at, are_chunks, first_named, body, memory_of};
+ghost use Rattle.quetzal.specs.Chunks.{needed, parts_of, view};
 ghost use Rattle.quetzal.specs.Fault.{Tells};
 
 use crate::fault::SaveFault;
@@ -55,7 +57,8 @@ fn past_padding(size: usize, after: &[u8]) -> &[u8]
 /// The name and the contents of the chunk at the front, and what follows it.
 #[tactic(auto, unfolding(crate::specs::Chunks::chunk_at))]
 fn chunk_at(rest: &[u8]) -> Option<(u32, &[u8], &[u8])>
-    ensures { MatchOption result (chunk_at rest.now ≡ None) (λ c. chunk_at rest.now ≡ Some (c.0, c.1.now, c.2.now)) }
+    ensures { MatchOption result (chunk_at rest.now ≡ None)
+        (λ c. chunk_at rest.now ≡ Some (c.0, c.1.now, c.2.now)) }
 {
     if rest.len() < 8 {
         return None;
@@ -89,7 +92,8 @@ fn are_chunks(bytes: &[u8]) -> bool
 
 /// The contents of the first chunk of this name.
 fn first_named(name: u32, bytes: &[u8]) -> Option<&[u8]>
-    ensures { MatchOption result (first_named name (length bytes.now) bytes.now ≡ None) (λ c. first_named name (length bytes.now) bytes.now ≡ Some c.now) }
+    ensures { MatchOption result (first_named name (length bytes.now) bytes.now ≡ None)
+        (λ c. first_named name (length bytes.now) bytes.now ≡ Some c.now) }
 {
     let mut rest = bytes;
     for _ in 0..bytes.len() {

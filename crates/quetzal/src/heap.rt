@@ -1,10 +1,13 @@
 //! The heap's chunk (Glulx 3.1.3, "Saving and Restoring").
 
-ghost use Rattle.std.specs.Prelude.{◌≡◌, ◌++◌, ◌+◌, ◌*◌, ◌/◌, ◌%◌, ◌≤◌, ◌<◌, ◌^◌, length, drop, Some, None, OnOk, IfOk, MatchOption};
+ghost use Rattle.std.specs.Prelude.{◌≡◌, ◌++◌, ◌+◌, ◌*◌, ◌/◌, ◌%◌};
+ghost use Rattle.std.specs.Prelude.{◌≤◌, ◌<◌, ◌^◌, length, drop, Some, None, OnOk};
+ghost use Rattle.std.specs.Prelude.{IfOk, MatchOption};
 ghost use Rattle.vm_heap.specs.HeapMap.{end_of, rounded_up};
 ghost use Rattle.quetzal.specs.Chunks.{now_of};
 ghost use Rattle.quetzal.specs.Heap as chunk;
-ghost use Rattle.quetzal.specs.Heap.{HasOrder, ReadsHeap, block_bytes, blocks_in, is_without, listed_in, print_heap};
+ghost use Rattle.quetzal.specs.Heap.{HasOrder, ReadsHeap, block_bytes, blocks_in, is_without};
+ghost use Rattle.quetzal.specs.Heap.{listed_in, print_heap};
 
 use crate::fault::SaveFault;
 use crate::form::word;
@@ -19,8 +22,8 @@ pub struct SavedHeap {
     pub blocks: Blocks,
 }
 
-/// The heap in a chunk's contents, for a memory of this size in bytes. BadHeap where it is none that
-/// this memory may have.
+/// The heap in a chunk's contents, for a memory of this size in bytes. BadHeap where it is none
+/// that this memory may have.
 pub fn read_heap(
     alloc: Global,
     endmem: u32,

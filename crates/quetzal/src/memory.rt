@@ -1,9 +1,11 @@
 //! The contents of the CMem and UMem chunks (Quetzal 1.4, "Content of dynamic memory").
 
-ghost use Rattle.std.specs.Prelude.{◌≡◌, ◌++◌, ◌+◌, ◌-◌, ◌≤◌, ◌<◌, ◌%◌, length, drop, false, true, IfOk};
+ghost use Rattle.std.specs.Prelude.{◌≡◌, ◌++◌, ◌+◌, ◌-◌, ◌≤◌, ◌<◌};
+ghost use Rattle.std.specs.Prelude.{◌%◌, length, drop, false, true, IfOk};
 ghost use Rattle.byteorder.specs.Endian.{big_bytes};
 ghost use Rattle.quetzal.specs.Chunks.{word};
-ghost use Rattle.quetzal.specs.Memory.{is_size, original, coded_memory, plain_memory, memory_of, print_memory};
+ghost use Rattle.quetzal.specs.Memory.{is_size, original, coded_memory, plain_memory, memory_of};
+ghost use Rattle.quetzal.specs.Memory.{print_memory};
 ghost use Rattle.glulx_image.specs.Header as header;
 ghost use Rattle.quetzal.specs.Fault.{Gives};
 ghost use Rattle.quetzal.specs.Save.{loaded};
@@ -83,7 +85,8 @@ pub fn read_memory(
     compressed: bool,
 ) -> Result<Vec<u8>, SaveFault>
     requires { (ramstart ≤ length image.now) × (length image.now ≤ endmem) }
-    ensures exact { Gives (λ v. v.items) result (memory_of image.now ramstart endmem contents.now compressed) }
+    ensures exact { Gives (λ v. v.items) result
+        (memory_of image.now ramstart endmem contents.now compressed) }
     ensures size { IfOk result (λ v. is_size endmem (ramstart + length v.items) ≡ true) }
 {
     if contents.len() < 4 {
@@ -108,7 +111,8 @@ pub fn write_memory(
     ramstart: u32,
     ram: &[u8],
 ) -> Result<Vec<u8>, AllocError>
-    requires { (ramstart ≤ length image.now) × (length image.now ≤ ramstart + length ram.now) × (ramstart + length ram.now ≤ 16777216) }
+    requires { (ramstart ≤ length image.now) × (length image.now ≤ ramstart + length ram.now)
+        × (ramstart + length ram.now ≤ 16777216) }
     ensures { IfOk result (λ v. v.items ≡ print_memory image.now ramstart ram.now) }
 {
     let size = ramstart as usize + ram.len();
@@ -126,7 +130,8 @@ pub fn memory_with<'i>(
     image: &Image<'i>,
     ram: &[u8],
 ) -> Result<Memory<'i>, AllocError>
-    requires size { is_size (header.endmem image.now) (header.ramstart image.now + length ram.now) ≡ true }
+    requires size { is_size (header.endmem image.now) (header.ramstart image.now + length ram.now)
+        ≡ true }
     ensures { IfOk result (λ m. m ≡ loaded image.now ram.now) }
 {
     let rom = story_rom(image);

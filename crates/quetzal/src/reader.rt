@@ -1,11 +1,13 @@
 //! Reading a save (Quetzal 1.4, "Overall Structure").
 
-ghost use Rattle.std.specs.Prelude.{◌≡◌, ◌+◌, ◌≤◌, ◌%◌, ◌≢◌, length, IfOk, Ok, true, false};
+ghost use Rattle.std.specs.Prelude.{◌≡◌, ◌+◌, ◌≤◌, ◌%◌, ◌≢◌, length};
+ghost use Rattle.std.specs.Prelude.{IfOk, Ok, true, false};
 ghost use Rattle.quetzal.specs.Memory.{is_size};
 ghost use Rattle.glulx_image.specs.Header.{endmem, ramstart};
 ghost use Rattle.quetzal.specs.Chunks.{view};
 ghost use Rattle.quetzal.specs.Save as save;
-ghost use Rattle.quetzal.specs.Save.{IsStackOf, IsStateOf, Reads, ReadsHeapOf, ReadsMemory, ReadsStory, identity, ram_in};
+ghost use Rattle.quetzal.specs.Save.{IsStackOf, IsStateOf, Reads, ReadsHeapOf, ReadsMemory};
+ghost use Rattle.quetzal.specs.Save.{ReadsStory, identity, ram_in};
 
 use crate::fault::SaveFault;
 use crate::form::{Parts, read_parts};

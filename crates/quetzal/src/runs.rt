@@ -1,6 +1,7 @@
 //! The coding of memory in a CMem chunk (Quetzal 1.4, "Content of dynamic memory").
 
-ghost use Rattle.std.specs.Prelude.{◌≡◌, ◌++◌, ◌≤◌, ◌<◌, None, Some, false, true, length, replicate, OnOk, OnErr, IfOk};
+ghost use Rattle.std.specs.Prelude.{◌≡◌, ◌++◌, ◌≤◌, ◌<◌, None, Some, false};
+ghost use Rattle.std.specs.Prelude.{true, length, replicate, OnOk, OnErr, IfOk};
 ghost use Rattle.quetzal.specs.Runs.{restored, coded, pairs, zeros, differences};
 
 use std::alloc::{AllocError, Global};
@@ -9,7 +10,8 @@ use std::alloc::{AllocError, Global};
 #[derive(Debug, Drop)]
 pub struct BadRuns {}
 
-/// Puts the coded differences over memory that is as it was at first. After a refusal its bytes are not told.
+/// Puts the coded differences over memory that is as it was at first. After a refusal its bytes
+/// are not told.
 pub fn restore(ram: &mut [u8], coded: &[u8]) -> Result<(), BadRuns>
     ensures ok { OnOk result (restored false ram.old coded.now ≡ Some ram.new) }
     ensures exact { OnErr result (restored false ram.old coded.now ≡ None) }

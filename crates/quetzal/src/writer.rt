@@ -1,7 +1,9 @@
 //! Writing a form of chunks (Quetzal 1.4, "Overall structure").
 
-ghost use Rattle.std.specs.Prelude.{◌≡◌, ◌++◌, ◌+◌, ◌<◌, ◌^◌, length, OnOk, IfOk};
-ghost use Rattle.quetzal.specs.Printing.{chunk, heap_chunk, chunks_of, print_save, ReadsWhatIsPrinted};
+ghost use Rattle.std.specs.Prelude.{◌≡◌, ◌++◌, ◌+◌, ◌<◌, ◌^◌, length, OnOk};
+ghost use Rattle.std.specs.Prelude.{IfOk};
+ghost use Rattle.quetzal.specs.Printing.{chunk, heap_chunk, chunks_of, print_save};
+ghost use Rattle.quetzal.specs.Printing.{ReadsWhatIsPrinted};
 ghost use Rattle.quetzal.specs.Chunks.{now_of};
 ghost use Rattle.quetzal.specs.Save.{IsReadAs, IsStateOf, canon};
 ghost use Rattle.glulx_image.specs.Header.{IsLaidOut};
@@ -79,7 +81,8 @@ fn write_save(
     heap: Option<&[u8]>,
 ) -> Result<Vec<u8>, AllocError>
     requires { 4 + length (chunks_of header.now memory.now stack.now (now_of heap)) < 2 ^ 32 }
-    ensures { IfOk result (λ v. v.items ≡ print_save header.now memory.now stack.now (now_of heap.entry)) }
+    ensures { IfOk result (λ v. v.items
+        ≡ print_save header.now memory.now stack.now (now_of heap.entry)) }
 {
     let mut chunks = Vec::new(alloc);
     push_chunk(&mut chunks, IFHD, header)?;

@@ -1,5 +1,7 @@
 -- Words of a show's lines (own: docs/FORMATS.md, "Shows").
-use Rattle.std.specs.Prelude.{◌≡◌, Result, IfOk, ℕ, ◌||◌, ◌&&◌, nat_lt, nat_le, Bool, if◌then◌else◌, List, [], ◌∷◌, ◌++◌, decimal, map}
+use Rattle.std.specs.Prelude.{◌≡◌, Result, IfOk, ℕ, ◌||◌, ◌&&◌, nat_lt, nat_le}
+use Rattle.std.specs.Prelude.{Bool, if◌then◌else◌, List, [], ◌∷◌, ◌++◌, decimal}
+use Rattle.std.specs.Prelude.{map}
 use Rattle.std.specs.declared.alloc.AllocError.{AllocError}
 use Rattle.story_text.specs.Escape.{escaped}
 

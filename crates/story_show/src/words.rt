@@ -38,7 +38,8 @@ fn text_of(alloc: Global, codes: &[u32]) -> Result<Text, AllocError>
 }
 
 fn utf8_of(alloc: Global, codes: &[u32]) -> Result<String, AllocError>
-    ensures { IfOk result (λ utf8. string_bytes utf8 ≡ encode_utf8_all (map shown_code codes.now)) }
+    ensures { IfOk result (λ utf8. string_bytes utf8
+        ≡ encode_utf8_all (map shown_code codes.now)) }
 {
     codes.iter().map(|code| character(*code)).collect(alloc)
 }

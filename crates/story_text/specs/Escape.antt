@@ -1,5 +1,6 @@
 -- The escaped spelling of a text in a line (own).
-use Rattle.std.specs.Prelude.{◌≡◌, ℕ, ◌+◌, ◌*◌, Bool, true, not, ◌&&◌, ◌||◌, ◌==◌, nat_le, if◌then◌else◌, List, [], ◌∷◌, ◌++◌}
+use Rattle.std.specs.Prelude.{◌≡◌, ℕ, ◌+◌, ◌*◌, Bool, true, not, ◌&&◌, ◌||◌}
+use Rattle.std.specs.Prelude.{◌==◌, nat_le, if◌then◌else◌, List, [], ◌∷◌, ◌++◌}
 use Rattle.std.specs.Char.{digit_value}
 use Rattle.std.specs.List.{flat_map}
 use Rattle.std.specs.Str.{encode_utf8_all}
@@ -39,7 +40,8 @@ SpellsBytes word (byte ∷ bytes) =
 -- a word spells a text: `=`, and then the bytes of its UTF-8
 abbrev pub Spells : List ℕ → List ℕ → Type 0
 Spells word text =
-    (body : List ℕ) × (word ≡ 61 ∷ body) × IsText text × SpellsBytes body (encode_utf8_all text)
+    (body : List ℕ) × (word ≡ 61 ∷ body) × IsText text
+    × SpellsBytes body (encode_utf8_all text)
 
 -- a byte as it is written: itself where it is plain, and else with two upper-case digits
 abbrev pub escaped_byte : ℕ → List ℕ

@@ -1,6 +1,7 @@
 //! Laws of the escaped spelling (own).
 
-ghost use Rattle.story_text.specs.Laws.{ReadsEachSpelling, ReadsSpellingsOnly, ReadsVisibleOnly, RoundTrip};
+ghost use Rattle.story_text.specs.Laws.{ReadsEachSpelling, ReadsSpellingsOnly, ReadsVisibleOnly};
+ghost use Rattle.story_text.specs.Laws.{RoundTrip};
 
 /// Each spelling of a text is read as that text.
 pub fn reads_each_spelling()

@@ -1,6 +1,7 @@
 //! Reading a text with its escapes (own).
 
-ghost use Rattle.std.specs.Prelude.{◌≡◌, OnErr, IfOk, IfErr, IfSome, IfNone, None, Some, true, false, length};
+ghost use Rattle.std.specs.Prelude.{◌≡◌, OnErr, IfOk, IfErr, IfSome, IfNone, None, Some};
+ghost use Rattle.std.specs.Prelude.{true, false, length};
 ghost use Rattle.std.specs.Str.{chars, is_utf8};
 ghost use Rattle.std.specs.String.{string_bytes};
 ghost use Rattle.percent_encoding.specs.Percent.{percent_decode};
@@ -82,7 +83,8 @@ fn is_short(text: &str) -> bool
 /// The bytes as a string, where they are UTF-8.
 fn utf8_of(bytes: Vec<u8>) -> Option<String>
     ensures none { IfNone result (is_utf8 bytes.items ≡ false) }
-    ensures some { IfSome result (λ s. (is_utf8 bytes.items ≡ true) × (string_bytes s ≡ bytes.items)) }
+    ensures some { IfSome result
+        (λ s. (is_utf8 bytes.items ≡ true) × (string_bytes s ≡ bytes.items)) }
 {
     match String::from_utf8(bytes) {
         Ok(utf8) => Some(utf8),

@@ -62,4 +62,5 @@ module _ {T E : Type 0} where
   -- a pass split from the root: it has the next number, and has seen as much
   abbrev pub IsSplitFrom : Cell T E → Pass T E → Pass T E → Type 0
   IsSplitFrom c root p = IsOf c p × IsOutside p × (number p ≡ made root + 1) × (made p ≡ 0)
-      × (holds p ≡ (made root + 1) ∷ []) × (seen p ≡ seen root) × (sample p ≡ sample root)
+      × (holds p ≡ (made root + 1) ∷ []) × (seen p ≡ seen root)
+      × (sample p ≡ sample root)

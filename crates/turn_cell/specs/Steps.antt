@@ -1,6 +1,7 @@
 -- Steps of a turn: how each changes its own seat, and what it tells (own).
 -- Each relates the seat before, the number that was read, and the seat afterwards.
-use Rattle.std.specs.Prelude.{◌≡◌, ◌≢◌, ℕ, ◌^◌, ◌<◌, ◌≤◌, List, [], ◌∷◌, Option, Some, None}
+use Rattle.std.specs.Prelude.{◌≡◌, ◌≢◌, ℕ, ◌^◌, ◌<◌, ◌≤◌, List, []}
+use Rattle.std.specs.Prelude.{◌∷◌, Option, Some, None}
 use Rattle.atomic_table.specs.Table.{Me, Step}
 use Rattle.turn_cell.specs.declared.view.View.{View}
 use Rattle.turn_cell.specs.declared.view.Stage.TheVariants.{Idle, Waits, Served, Joined}
@@ -36,7 +37,8 @@ module _ {T E G : Type 0} (entries : T → List E) (by : E → ℕ) (tag : T →
   abbrev pub Looks : Step (Option T)
       → Me (Option T) (View E T) → ℕ → Me (Option T) (View E T) → Type 0
   Looks st m n m' = (t : ℕ) → m.0.stage ≡ Waits t
-      → (n ≢ t → m' ≡ m) × (n ≡ t → t < 2 ^ 62 → FindsValue m t m') × (2 ^ 62 ≤ t → m' ≡ m)
+      → (n ≢ t → m' ≡ m) × (n ≡ t → t < 2 ^ 62 → FindsValue m t m')
+      × (2 ^ 62 ≤ t → m' ≡ m)
 
   -- all steps of `enter` together: the caller has the value, and the slot is empty
   abbrev pub TakesValue : Me (Option T) (View E T) → T → Me (Option T) (View E T) → Type 0

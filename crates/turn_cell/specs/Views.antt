@@ -1,5 +1,6 @@
 -- What a pass knows: the view that its seat has (own).
-use Rattle.std.specs.Prelude.{◌≡◌, ◌⊎◌, ℕ, ◌+◌, ◌<◌, List, [], ◌∷◌, ◌++◌, length}
+use Rattle.std.specs.Prelude.{◌≡◌, ◌⊎◌, ℕ, ◌+◌, ◌<◌, List, [], ◌∷◌}
+use Rattle.std.specs.Prelude.{◌++◌, length}
 use Rattle.std.specs.Prelude.{slice_index, Option, Some, None}
 use Rattle.atomic_table.specs.Table.{Me}
 use Rattle.turn_cell.specs.declared.view.View.{View}
@@ -92,7 +93,8 @@ module _ {T E : Type 0} where
 
 -- what may be put back: a value of the cell's tag, whose list is what was seen,
 -- with at most one entry more, and that one of this pass's number
-abbrev pub MayLeave : {T E G : Type 0} → (T → List E) → (E → ℕ) → (T → G) → View E T → T → Type 0
+abbrev pub MayLeave : {T E G : Type 0} → (T → List E) → (E → ℕ) → (T → G) → View E T
+    → T → Type 0
 MayLeave {T} {E} entries by tag v value = (tag_in tag v.sample ≡ Some (tag value))
     × ((entries value ≡ v.seen)
     ⊎ ((e : E) × (entries value ≡ v.seen ++ e ∷ []) × (by e ≡ v.number)))

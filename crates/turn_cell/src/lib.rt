@@ -1,4 +1,5 @@
-//! Cells: a value that threads have in turn, with one legal history of which each pass knows a beginning.
+//! Cells: a value that threads have in turn, with one legal history of which each pass knows a
+//! beginning.
 #![tactic(auto)]
 
 mod cell;

@@ -17,7 +17,8 @@ pub(crate) fn take_value<T: Told + Drop, R: Wait>(
     table: &CellTable<T>,
     place: &mut CellSeat<T>,
 ) -> T
-    requires table { (place.old.table_id ≡ table.now.table_id) × (table.now.table_id.words ≡ 3) }
+    requires table { (place.old.table_id ≡ table.now.table_id)
+        × (table.now.table_id.words ≡ 3) }
     requires idle { IsIdle place.old.me }
     ensures value { TakesValue T.entries T.by T.tag place.old.me result place.new.me }
     ensures kept { (place.new.table_id ≡ place.old.table_id) × (place.new.id ≡ place.old.id) }
@@ -41,10 +42,13 @@ pub(crate) fn put_back<T: Told + Drop>(
     value: T,
     count: u64,
 ) -> u64
-    requires table { (place.old.table_id ≡ table.now.table_id) × (table.now.table_id.words ≡ 3) × (table.now.table_id.slots ≡ 1) }
-    requires inside { HasValue place.old.me × (count ≡ length place.old.me.0.seen) × IsNumbered place.old.me.0 }
+    requires table { (place.old.table_id ≡ table.now.table_id) × (table.now.table_id.words ≡ 3)
+        × (table.now.table_id.slots ≡ 1) }
+    requires inside { HasValue place.old.me × (count ≡ length place.old.me.0.seen)
+        × IsNumbered place.old.me.0 }
     requires value { MayLeave T.entries T.by T.tag place.old.me.0 value }
-    ensures value { (place.new.me ≡ (at_stage place.old.me.0 Idle (T.entries value), [])) × (result ≡ length (T.entries value)) }
+    ensures value { (place.new.me ≡ (at_stage place.old.me.0 Idle (T.entries value), []))
+        × (result ≡ length (T.entries value)) }
     ensures kept { (place.new.table_id ≡ place.old.table_id) × (place.new.id ≡ place.old.id) }
 {
     let now = value.count();

@@ -1,5 +1,6 @@
 -- What a link was told: an answer with a mark for each text (own).
-use Rattle.std.specs.Prelude.{◌≡◌, ℕ, List, [], ◌∷◌, ◌++◌, length, Bool, true, false}
+use Rattle.std.specs.Prelude.{◌≡◌, ℕ, List, [], ◌∷◌, ◌++◌, length, Bool, true}
+use Rattle.std.specs.Prelude.{false}
 use Rattle.turn_cell.specs.History.{Continues, IsForeign}
 use Rattle.turn_cell_uses.specs.declared.log.Note.{Note}
 use Rattle.turn_cell_uses.specs.declared.answer.Answer.{Answer}
@@ -16,7 +17,8 @@ Later holds log seen = Continues (IsForeign note_by holds) log seen
 
 -- each answer is that of one turn on the history of its mark, in which others' entries came since;
 -- so each entry of the pass is that of one answer
-abbrev pub Serves : List ℕ → ℕ → List Note → List ℕ → List Answer → List Note → Type 0
+abbrev pub Serves : List ℕ → ℕ → List Note → List ℕ → List Answer → List Note
+    → Type 0
 Serves holds n seen [] [] final = Later holds final seen
 Serves holds n seen [] (a ∷ answers) final = ⊥
 Serves holds n seen (t ∷ texts) [] final = ⊥

@@ -51,7 +51,9 @@ impl<D: Disk> Book<D> {
 
     /// Writes a row. False where memory or the disk didn't take it.
     pub fn append(&mut self, note: Note) -> bool
-        ensures value { MatchBool result (self.new.rows.items ≡ self.old.rows.items ++ note ∷ []) (self.new.rows.items ≡ self.old.rows.items) }
+        ensures value { MatchBool result
+            (self.new.rows.items ≡ self.old.rows.items ++ note ∷ [])
+            (self.new.rows.items ≡ self.old.rows.items) }
         ensures kept { D.label self.new.disk ≡ D.label self.old.disk }
     {
         if self.rows.reserve(1).is_err() || !self.disk.write(note.what) {

@@ -16,7 +16,8 @@ pub struct Desk<'i, D: Disk> {
     pub(crate) entries: Vec<Note>,
     pub(crate) pass: Pass<Book<D>>,
     ghost outside: { (pass.known.place.me.0.stage ≡ Idle) × (pass.known.place.me.1 ≡ []) },
-    ghost numbered: { (session + 1 ≡ pass.known.number) × (pass.known.place.me.0.holds ≡ (session + 1) ∷ []) },
+    ghost numbered: { (session + 1 ≡ pass.known.number)
+        × (pass.known.place.me.0.holds ≡ (session + 1) ∷ []) },
     ghost owned: { whats entries.items ≡ whats (own (session + 1) pass.known.place.me.0.seen) },
 }
 

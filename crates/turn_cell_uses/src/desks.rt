@@ -1,5 +1,6 @@
 //! Turns on a desk, each with a turn on the shared book inside it.
-ghost use Rattle.std.specs.Prelude.{◌≡◌, ◌+◌, ◌^◌, ◌<◌, ◌++◌, ◌∷◌, [], ℕ, List, Some, IfOk, MatchBool};
+ghost use Rattle.std.specs.Prelude.{◌≡◌, ◌+◌, ◌^◌, ◌<◌, ◌++◌, ◌∷◌, []};
+ghost use Rattle.std.specs.Prelude.{ℕ, List, Some, IfOk, MatchBool};
 ghost use Rattle.turn_cell.specs.Passes.{number, holds, seen, IsOf, IsOutside, IsAlone};
 ghost use Rattle.turn_cell_uses.specs.Notes.{note, note_by};
 ghost use Rattle.turn_cell_uses.specs.Rows.{own};
@@ -25,7 +26,8 @@ pub fn open_desk<'i, D: Disk + Drop>(
     requires session { session < 64 }
     requires pass { IsReady book.now pass × (number pass ≡ session + 1) }
     requires none { (holds pass ≡ (session + 1) ∷ []) × (seen pass ≡ []) }
-    ensures ok { IfOk result (λ r. IsReady r.0 r.1 × IsDesk book.now r.1 × IsAlone r.1 × (seen r.1 ≡ [])) }
+    ensures ok { IfOk result (λ r. IsReady r.0 r.1 × IsDesk book.now r.1 × IsAlone r.1
+        × (seen r.1 ≡ [])) }
 {
     let desk = Desk {
         stories,
@@ -42,8 +44,11 @@ impl<'i, D: Disk + Drop> Desk<'i, D> {
     pub fn commit<R: Wait>(&mut self, rt: &R, cell: &Cell<Book<D>>, by: u64, what: u64) -> bool
         requires cell { IsOf cell.now self.old.pass }
         requires session { self.old.session < 64 }
-        ensures value { MatchBool result (self.new.entries.items ≡ self.old.entries.items ++ note by what ∷ []) (self.new.entries.items ≡ self.old.entries.items) }
-        ensures kept { (self.new.session ≡ self.old.session) × (self.new.stories ≡ self.old.stories) }
+        ensures value { MatchBool result
+            (self.new.entries.items ≡ self.old.entries.items ++ note by what ∷ [])
+            (self.new.entries.items ≡ self.old.entries.items) }
+        ensures kept { (self.new.session ≡ self.old.session)
+            × (self.new.stories ≡ self.old.stories) }
         ensures cell { self.new.pass.known.place.table_id ≡ self.old.pass.known.place.table_id }
     {
         if self.entries.reserve(1).is_err() {

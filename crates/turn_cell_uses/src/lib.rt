@@ -1,4 +1,5 @@
-//! Callers of cells: two threads on one log, a desk in a cell that has a pass of another cell, and events that own memory.
+//! Callers of cells: two threads on one log, a desk in a cell that has a pass of another cell,
+//! and events that own memory.
 #![tactic(auto)]
 
 mod answer;

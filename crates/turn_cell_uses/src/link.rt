@@ -23,7 +23,9 @@ pub fn turn<'i, D: Disk + Drop, R: Wait>(
 ) -> Answer
     requires cell { IsReady desk_cell.now pass.old }
     requires desk { IsDesk book.now pass.old }
-    ensures value { (before : List Note) × Later (holds pass.old) before (seen pass.old) × (result.mark ≡ length before) × (seen pass.new ≡ after result.accepted (number pass.old) what before) }
+    ensures value { (before : List Note) × Later (holds pass.old) before (seen pass.old)
+        × (result.mark ≡ length before)
+        × (seen pass.new ≡ after result.accepted (number pass.old) what before) }
     ensures kept { AfterTurn desk_cell.now pass.old pass.new }
 {
     let number = pass.number();
@@ -45,7 +47,8 @@ pub fn serve<'i, D: Disk + Drop, R: Wait>(
 ) -> Result<Vec<Answer>, AllocError>
     requires cell { IsReady desk_cell.now pass.old }
     requires desk { IsDesk book.now pass.old }
-    ensures ok { IfOk result (λ answers. Serves (holds pass.old) (number pass.old) (seen pass.old) texts.now answers.items (seen pass.new)) }
+    ensures ok { IfOk result (λ answers. Serves (holds pass.old) (number pass.old)
+        (seen pass.old) texts.now answers.items (seen pass.new)) }
     ensures kept { AfterTurn desk_cell.now pass.old pass.new }
 {
     let mut answers = Vec::with_capacity(alloc, texts.len())?;

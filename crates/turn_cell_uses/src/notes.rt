@@ -14,7 +14,9 @@ pub fn add<R: Wait>(rt: &R, cell: &Cell<Log>, pass: &mut Pass<Log>, what: u64) -
     requires cell { IsReady cell.now pass.old }
     ensures found { IfSome result (λ place. Stands (seen pass.new) place (number pass.old) what) }
     ensures last { IfSome result (λ place. place + 1 ≡ length (seen pass.new)) }
-    ensures alone { IsAlone pass.old → IfSome result (λ _. seen pass.new ≡ seen pass.old ++ note (number pass.old) what ∷ []) }
+    ensures alone { IsAlone pass.old
+        → IfSome result (λ _. seen pass.new
+        ≡ seen pass.old ++ note (number pass.old) what ∷ []) }
     ensures kept { AfterTurn cell.now pass.old pass.new }
 {
     let mut log = cell.enter(rt, pass);

@@ -1,5 +1,6 @@
 //! Events that own memory, in a type with a model.
-ghost use Rattle.std.specs.Prelude.{◌≡◌, ◌≤◌, ◌++◌, ◌∷◌, [], ℕ, List, length, MatchBool};
+ghost use Rattle.std.specs.Prelude.{◌≡◌, ◌≤◌, ◌++◌, ◌∷◌, [], ℕ, List};
+ghost use Rattle.std.specs.Prelude.{length, MatchBool};
 ghost use Rattle.turn_cell_uses.specs.Events.{event_by};
 ghost use Rattle.turn_cell_uses.specs.declared.tally.Event.{Event};
 
@@ -57,7 +58,8 @@ impl Tally {
 
     /// Adds an event that isn't counted as a fault. False is want of memory.
     pub fn add(&mut self, event: Event) -> bool
-        ensures value { MatchBool result (self.new.0 ≡ self.old.0 ++ event ∷ []) (self.new.0 ≡ self.old.0) }
+        ensures value { MatchBool result (self.new.0 ≡ self.old.0 ++ event ∷ [])
+            (self.new.0 ≡ self.old.0) }
         ensures kept { self.new.1 ≡ self.old.1 }
     {
         self.events.push(event).is_ok()

@@ -46,18 +46,21 @@ pub fn add_both<R: Threads + Wait + Sync>(
     first: u64,
     second: u64,
 ) -> Result<Option<(Pass<Log>, u64, u64)>, AllocError>
-    ensures { IfOk result (λ o. IfSome o (λ r. Stands (seen r.0) r.1 1 first × Stands (seen r.0) r.2 2 second)) }
+    ensures { IfOk result (λ o. IfSome o
+        (λ r. Stands (seen r.0) r.1 1 first × Stands (seen r.0) r.2 2 second)) }
 {
     let (cell, one, two) = open_two(alloc)?;
     let (a, b) = join(
         rt,
         || -> Added
             requires { IsReady cell one × (number one ≡ 1) }
-            ensures { IfSome result (λ r. IsReady cell r.0 × (number r.0 ≡ 1) × Stands (seen r.0) r.1 1 first) }
+            ensures { IfSome result (λ r. IsReady cell r.0 × (number r.0 ≡ 1)
+                × Stands (seen r.0) r.1 1 first) }
         { add_as(rt, &cell, one, first) },
         || -> Added
             requires { IsReady cell two × (number two ≡ 2) }
-            ensures { IfSome result (λ r. IsReady cell r.0 × (number r.0 ≡ 2) × Stands (seen r.0) r.1 2 second) }
+            ensures { IfSome result (λ r. IsReady cell r.0 × (number r.0 ≡ 2)
+                × Stands (seen r.0) r.1 2 second) }
         { add_as(rt, &cell, two, second) },
     );
     match (a, b) {

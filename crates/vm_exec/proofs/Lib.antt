@@ -5,4 +5,6 @@ pub mod DigitLemmas
 pub mod WordLemmas
 pub mod SearchLemmas
 pub mod FitLemmas
+pub mod KeepingLemmas
+pub mod KeepingRows
 pub mod StandardFacts

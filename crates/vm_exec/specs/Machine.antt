@@ -38,6 +38,11 @@ pub record IsFit (m : Machine) : Type 0 where
   pub frame : HasFrame m.stack
   pub still : m.text ≡ Off
 
+-- memory stays over the same image, and the stack has the same greatest size
+pub record KeepsImage (old new : Machine) : Type 0 where
+  pub origin : origin_of old.memory ≡ origin_of new.memory
+  pub limit : old.stack.limit ≡ new.stack.limit
+
 -- the machine is sound unless its story is over; no text is in progress where it waits for Glk or
 -- is over
 abbrev pub StaysFit : Machine → Out → Type 0

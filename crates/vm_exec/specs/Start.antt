@@ -1,8 +1,8 @@
 -- The machine as a story begins (Glulx 3.1.3, "Execution").
-use Rattle.std.specs.Prelude.{ℕ, List, [], take, Result, Ok, Err}
+use Rattle.std.specs.Prelude.{◌≡◌, ℕ, List, [], take, Result, Ok}
 use Rattle.glulx_image.specs.Header.{ramstart, extstart, endmem, stack_size, start_function, string_table}
 use Rattle.glulx_image.specs.Checksum.{verified}
-use Rattle.vm_memory.specs.MemoryMap.{MemoryMap, memory_of}
+use Rattle.vm_memory.specs.MemoryMap.{MemoryMap, memory_of, origin_of}
 use Rattle.vm_operand.specs.Reading.{◌>>=◌}
 use Rattle.vm_operand.specs.declared.operand.Dest.TheVariants.{Discard}
 use Rattle.vm_stack.specs.StackState.{StackState}
@@ -21,6 +21,11 @@ image_memory file = memory_of (take (extstart file) file) (ramstart file) (endme
 -- a stack with nothing on it
 abbrev pub empty_stack : List ℕ → StackState
 empty_stack file = record { bytes = []; frame = 0; limit = stack_size file }
+
+-- the machine's memory lies over the image, and its stack has the image's size
+pub record IsOver (image : List ℕ) (m : Machine) : Type 0 where
+  pub origin : origin_of m.memory ≡ origin_of (image_memory image)
+  pub limit : m.stack.limit ≡ stack_size image
 
 -- the start function is called without arguments, over an empty stack
 abbrev pub started : List ℕ → ℕ → Result Machine ℕ

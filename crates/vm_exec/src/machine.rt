@@ -4,9 +4,9 @@ ghost use Rattle.std.specs.Prelude.{◌≡◌, ◌%◌, ◌<◌, [], length, IfO
 ghost use Rattle.vm_exec.specs.Answer.{Changes, Does, Makes};
 ghost use Rattle.vm_exec.specs.Fault.{flowed};
 ghost use Rattle.vm_exec.specs.Row.{IsPriced, charged, due, fetched, row, told};
-ghost use Rattle.vm_exec.specs.Machine.{GoesOnFit, IsFit, IsMapped, IsSound, no_heap};
+ghost use Rattle.vm_exec.specs.Machine.{GoesOnFit, IsFit, IsMapped, IsSound, KeepsImage, no_heap};
 ghost use Rattle.vm_exec.specs.Start as start;
-ghost use Rattle.vm_exec.specs.Start.{finished, started};
+ghost use Rattle.vm_exec.specs.Start.{IsOver, finished, started};
 ghost use Rattle.vm_exec.specs.declared.text.Text.TheVariants as text;
 ghost use Rattle.vm_flow.specs.Call.{called};
 ghost use Rattle.vm_memory.specs.MemoryMap.{origin_of};
@@ -59,6 +59,7 @@ impl<'i> Machine<'i> {
     pub fn start(alloc: Global, image: &Image<'i>, seed: u64) -> Result<Machine<'i>, Trap>
         ensures value { Makes (started image.now seed) result }
         ensures fit { IfOk result (λ machine. IsFit machine) }
+        ensures over { IfOk result (λ machine. IsOver image.now machine) }
     {
         let memory = image_memory(alloc, image)?;
         let mut stack = empty_stack(alloc, image)?;
@@ -89,6 +90,7 @@ impl<'i> Machine<'i> {
     pub fn finish(&mut self, _alloc: Global, value: u32) -> Result<(), Trap>
         ensures does { Changes (finished self.old value) self.new result }
         ensures fit { IsFit self.old → OnOk result (IsFit self.new) }
+        ensures kept { IsFit self.old → OnOk result (KeepsImage self.old self.new) }
     {
         self.store(self.waiting, value)
     }
@@ -98,6 +100,7 @@ impl<'i> Machine<'i> {
     pub fn step(&mut self, alloc: Global, left: u64) -> Result<Step, Trap>
         ensures does { Does (told left (row self.old)) self.new result }
         ensures fit { IsSound self.old → IfOk result (λ step. GoesOnFit self.new step) }
+        ensures kept { IsSound self.old → OnOk result (KeepsImage self.old self.new) }
         ensures cost { IfOk result (λ step. IsPriced left step) }
     {
         if left == 0 {

@@ -2,7 +2,7 @@
 
 ghost use Rattle.std.specs.Prelude.{◌≡◌, length, IsTrue, IfOk, OnOk, Ok};
 ghost use Rattle.vm_exec.specs.Answer.{Changes, Makes};
-ghost use Rattle.vm_exec.specs.Machine.{IsFit, StaysFit};
+ghost use Rattle.vm_exec.specs.Machine.{IsFit, KeepsImage, StaysFit};
 ghost use Rattle.vm_exec.specs.Rows.Undo as rows;
 ghost use Rattle.vm_exec.specs.Rows.Work.{Tells};
 ghost use Rattle.vm_heap.specs.HeapMap.{is_heap};
@@ -102,6 +102,8 @@ impl<'i> Machine<'i> {
         ensures does { Changes (rows.resumed self.old state.entry) self.new result }
         ensures fit { IsFit self.old → IsSavedOf (origin_of self.old.memory) state.entry
             → OnOk result (IsFit self.new) }
+        ensures kept { IsFit self.old → IsSavedOf (origin_of self.old.memory) state.entry
+            → OnOk result (KeepsImage self.old self.new) }
     {
         self.put_state(alloc, state)?;
         self.come_back(0xFFFF_FFFF)

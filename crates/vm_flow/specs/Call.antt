@@ -1,5 +1,6 @@
 -- Calls (Glulx 3.1.3, "Calling and Returning Within Glulx").
-use Rattle.std.specs.Prelude.{ℕ, ◌+◌, ◌-◌, ◌*◌, ◌==◌, ◌||◌, if◌then◌else◌, List, [], ◌∷◌, ◌++◌}
+use Rattle.std.specs.Prelude.{ℕ, ◌+◌, ◌-◌, ◌*◌, ◌==◌, ◌||◌}
+use Rattle.std.specs.Prelude.{if◌then◌else◌, List, [], ◌∷◌, ◌++◌}
 use Rattle.std.specs.Prelude.{length, take, drop, replicate, flat_map, Result, Ok, Err}
 use Rattle.byteorder.specs.Endian.{big_bytes}
 use Rattle.vm_memory.specs.MemoryMap.{MemoryMap}
@@ -41,7 +42,8 @@ given kind s format args =
 
 -- a function is called: its type is read, then its list of locals; a frame is made for them; and
 -- the arguments are given. Its first instruction stands behind the list
-abbrev pub called : MemoryMap → StackState → ℕ → List ℕ → Result (StackState × ℕ) FlowStop
+abbrev pub called : MemoryMap → StackState → ℕ → List ℕ
+    → Result (StackState × ℕ) FlowStop
 called m s at args =
     and_then (from_memory (read 1 m at)) (λ kind.
     if kind == 192 || kind == 193

@@ -1,5 +1,6 @@
 // Arguments, in the locals of a C1 and on the stack of a C0.
-ghost use Rattle.std.specs.Prelude.{◌≡◌, ◌≤◌, ◌<◌, ◌+◌, ◌*◌, length, take, drop, OnOk};
+ghost use Rattle.std.specs.Prelude.{◌≡◌, ◌≤◌, ◌<◌, ◌+◌, ◌*◌, length, take};
+ghost use Rattle.std.specs.Prelude.{drop, OnOk};
 ghost use Rattle.vm_flow.specs.Answer.{Leaves};
 ghost use Rattle.vm_flow.specs.Call as calls;
 ghost use Rattle.vm_stack.specs.Frame as frames;

@@ -1,5 +1,6 @@
 // Calls of functions.
-ghost use Rattle.std.specs.Prelude.{◌≡◌, ℕ, List, [], ◌∷◌, ◌++◌, length, reverse, OnOk};
+ghost use Rattle.std.specs.Prelude.{◌≡◌, ℕ, List, [], ◌∷◌, ◌++◌, length, reverse};
+ghost use Rattle.std.specs.Prelude.{OnOk};
 ghost use Rattle.vm_flow.specs.Answer.{GivesWithRoom};
 ghost use Rattle.vm_flow.specs.Call as calls;
 ghost use Rattle.vm_flow.specs.Function.{IsFunction};

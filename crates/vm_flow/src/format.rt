@@ -1,5 +1,6 @@
 // The list of locals of a function, read from memory.
-ghost use Rattle.std.specs.Prelude.{◌≡◌, ◌≤◌, ◌<◌, ◌+◌, ◌==◌, ◌&&◌, slice_index, length, drop};
+ghost use Rattle.std.specs.Prelude.{◌≡◌, ◌≤◌, ◌<◌, ◌+◌, ◌==◌, ◌&&◌};
+ghost use Rattle.std.specs.Prelude.{slice_index, length, drop};
 ghost use Rattle.std.specs.Prelude.{IfErr, IfOk, OnErr, OnOk};
 ghost use Rattle.vm_memory.specs.declared.fault.MemFault.TheVariants.{BadRead};
 ghost use Rattle.vm_flow.specs.declared.stop.FlowStop.TheVariants as stop;

@@ -13,7 +13,8 @@ pub fn give_back(stack: &mut Stack) -> Result<Option<Stub>, FlowStop>
 
     ensures kept { Chain stack.old → OnOk result (Chain stack.new) }
     // where a stub was taken its frame is there
-    ensures there { Chain stack.old → IfOk result (λ stub. IfSome stub (λ _. HasFrame stack.new)) }
+    ensures there { Chain stack.old
+        → IfOk result (λ stub. IfSome stub (λ _. HasFrame stack.new)) }
 {
     stack.leave();
     take_top(stack)
@@ -23,7 +24,8 @@ pub fn give_back(stack: &mut Stack) -> Result<Option<Stub>, FlowStop>
 fn take_top(stack: &mut Stack) -> Result<Option<Stub>, FlowStop>
     ensures ok { Gives (returns.stub_or_end stack.old) stack.new result }
     ensures kept { Chain stack.old → EndsInOwnStub stack.old → OnOk result (Chain stack.new) }
-    ensures there { Chain stack.old → IfOk result (λ stub. IfSome stub (λ _. HasFrame stack.new)) }
+    ensures there { Chain stack.old
+        → IfOk result (λ stub. IfSome stub (λ _. HasFrame stack.new)) }
 {
     if stack.length() == 0 {
         return Ok(None);

@@ -1,5 +1,7 @@
 -- What malloc and mfree do (Glulx 3.1.3, "Memory Allocation Heap").
-use Rattle.std.specs.Prelude.{◌≡◌, ℕ, ◌+◌, Bool, false, ◌||◌, ◌==◌, nat_lt, nat_le, if◌then◌else◌, List, [], ◌∷◌, Option, Some, None, Result, Ok, Err}
+use Rattle.std.specs.Prelude.{◌≡◌, ℕ, ◌+◌, Bool, false, ◌||◌, ◌==◌, nat_lt}
+use Rattle.std.specs.Prelude.{nat_le, if◌then◌else◌, List, [], ◌∷◌, Option, Some, None}
+use Rattle.std.specs.Prelude.{Result, Ok, Err}
 use Rattle.vm_heap.specs.HeapMap.{HeapMap}
 use Rattle.vm_heap.specs.FirstFit.{first_fit}
 use Rattle.vm_heap.specs.declared.block.Block.{Block}
@@ -15,8 +17,8 @@ abbrev pub with_block : Block → List Block → List Block
 with_block new [] = new ∷ []
 with_block new (b ∷ bs) = if nat_lt new.at b.at then new ∷ b ∷ bs else b ∷ with_block new bs
 
--- the address of a new block and the heap with it; none, and the heap as it was, where the block would
--- pass 16,777,216
+-- the address of a new block and the heap with it; none, and the heap as it was, where the block
+-- would pass 16,777,216
 abbrev pub placed : HeapMap → ℕ → ℕ → ℕ → Option ℕ × HeapMap
 placed h start size at =
     if nat_le (at + size) 16777216
@@ -54,7 +56,9 @@ abbrev pub freed : HeapMap → ℕ → Result HeapMap HeapFault
 freed h at =
     if begins at h.blocks then Ok (heap_of h.start (without at h.blocks)) else Err (BadBlock at)
 
--- A call that changes a heap answered this and left new, as it should; after a fault all is as before.
-abbrev pub Leaves : {A : Type 0} → Result HeapMap HeapFault → HeapMap → HeapMap → Result A HeapFault → Type 0
+-- A call that changes a heap answered this and left new, as it should; after a fault all is as
+-- before.
+abbrev pub Leaves : {A : Type 0} → Result HeapMap HeapFault → HeapMap → HeapMap
+    → Result A HeapFault → Type 0
 Leaves should old new (Ok x) = should ≡ Ok new
 Leaves should old new (Err f) = (should ≡ Err f) × (new ≡ old)

@@ -1,5 +1,6 @@
--- The least address at which a block fits (Glulx 3.1.3, "Memory Allocation Heap"; which one is own).
-use Rattle.std.specs.Prelude.{ℕ, zero, suc, ◌+◌, ◌-◌, Bool, true, ◌&&◌, ◌||◌, nat_le, cond, List, [], ◌∷◌}
+-- The least address at which a block fits (Glulx 3.1.3, "Memory Allocation Heap"; own).
+use Rattle.std.specs.Prelude.{ℕ, zero, suc, ◌+◌, ◌-◌, Bool, true, ◌&&◌, ◌||◌}
+use Rattle.std.specs.Prelude.{nat_le, cond, List, [], ◌∷◌}
 use Rattle.vm_heap.specs.HeapMap.{end_of}
 use Rattle.vm_heap.specs.declared.block.Block.{Block}
 

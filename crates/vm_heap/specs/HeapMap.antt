@@ -1,5 +1,6 @@
 -- The heap: its start and its blocks (Glulx 3.1.3, "Memory Allocation Heap").
-use Rattle.std.specs.Prelude.{ℕ, ◌+◌, ◌*◌, ◌/◌, Bool, ◌&&◌, ◌==◌, nat_lt, nat_le, List, [], ◌∷◌}
+use Rattle.std.specs.Prelude.{ℕ, ◌+◌, ◌*◌, ◌/◌, Bool, ◌&&◌, ◌==◌, nat_lt}
+use Rattle.std.specs.Prelude.{nat_le, List, [], ◌∷◌}
 use Rattle.vm_heap.specs.declared.block.Block.{Block}
 
 -- where the heap begins, 0 where it has no block, and its blocks by their addresses
@@ -11,8 +12,8 @@ pub record HeapMap : Type 0 where
 abbrev pub end_of : Block → ℕ
 end_of b = b.at + b.length
 
--- blocks in order from this address on: none is empty, each begins at the end of the one before it or
--- behind, and none passes 16,777,216
+-- blocks in order from this address on: none is empty, each begins at the end of the one before
+-- it or behind, and none passes 16,777,216
 abbrev pub in_order : ℕ → List Block → Bool
 in_order from [] = nat_le from 16777216
 in_order from (b ∷ bs) = nat_le from b.at && nat_lt 0 b.length && in_order (end_of b) bs

@@ -1,5 +1,6 @@
 -- What a story holds after calls of malloc and mfree (own).
-use Rattle.std.specs.Prelude.{ℕ, ◌≤◌, ◌⊎◌, not, ◌==◌, if◌then◌else◌, filter, List, [], ◌∷◌, ◌++◌, Option, Some, None, Result, Ok, Err}
+use Rattle.std.specs.Prelude.{ℕ, ◌≤◌, ◌⊎◌, not, ◌==◌, if◌then◌else◌, filter}
+use Rattle.std.specs.Prelude.{List, [], ◌∷◌, ◌++◌, Option, Some, None, Result, Ok, Err}
 use Rattle.vm_heap.specs.HeapMap.{HeapMap, end_of}
 use Rattle.vm_heap.specs.Allocation.{malloced, freed}
 use Rattle.vm_heap.specs.declared.block.Block.{Block}

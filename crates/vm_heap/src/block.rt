@@ -27,8 +27,8 @@ fn in_order(start: u32, blocks: &[Block]) -> bool
     from <= u64::from(MAX_SIZE)
 }
 
-/// Whether these are a heap's start and its blocks: blocks in order from the start, none empty, none
-/// past 16,777,216; and a start of 0 exactly without a block.
+/// Whether these are a heap's start and its blocks: blocks in order from the start, none empty,
+/// none past 16,777,216; and a start of 0 exactly without a block.
 pub fn is_heap(start: u32, blocks: &[Block]) -> bool
     ensures value { result ≡ spec.is_heap start blocks.now }
 {

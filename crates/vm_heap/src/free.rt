@@ -1,6 +1,7 @@
 //! A block that is given back.
 
-ghost use Rattle.std.specs.Prelude.{◌≡◌, ◌<◌, ◌+◌, ◌++◌, true, false, length, take, drop, IfSome, OnSome, IfNone};
+ghost use Rattle.std.specs.Prelude.{◌≡◌, ◌<◌, ◌+◌, ◌++◌, true, false, length};
+ghost use Rattle.std.specs.Prelude.{take, drop, IfSome, OnSome, IfNone};
 ghost use Rattle.vm_heap.specs.Allocation.{freed, begins, without, Leaves};
 
 use crate::block::Block;

@@ -1,6 +1,7 @@
 //! A new block, at the least address at which it fits.
 
-ghost use Rattle.std.specs.Prelude.{◌≡◌, ◌≤◌, ◌<◌, ◌++◌, ◌∷◌, [], length, take, drop, IsTrue, OnErr, IfOk, ◌==◌};
+ghost use Rattle.std.specs.Prelude.{◌≡◌, ◌≤◌, ◌<◌, ◌++◌, ◌∷◌, [], length};
+ghost use Rattle.std.specs.Prelude.{take, drop, IsTrue, OnErr, IfOk, ◌==◌};
 ghost use Rattle.vm_heap.specs.HeapMap.{in_order};
 ghost use Rattle.vm_heap.specs.FirstFit as spec;
 ghost use Rattle.vm_heap.specs.Allocation.{malloced, with_block};

@@ -1,5 +1,6 @@
 -- Binary search: the index at which the halving meets the key (Glulx 3.1.3, "Searching").
-use Rattle.std.specs.Prelude.{ℕ, zero, suc, ◌+◌, ◌/◌, false, ◌==◌, if◌then◌else◌, Option, Some, Result, Ok}
+use Rattle.std.specs.Prelude.{ℕ, zero, suc, ◌+◌, ◌/◌, false, ◌==◌}
+use Rattle.std.specs.Prelude.{if◌then◌else◌, Option, Some, Result, Ok}
 use Rattle.std.specs.declared.cmp.Ordering.TheVariants.{Greater}
 use Rattle.std.specs.declared.cmp.Ordering.{Ordering}
 use Rattle.vm_memory.specs.MemoryMap.{MemoryMap}

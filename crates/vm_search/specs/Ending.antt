@@ -1,5 +1,6 @@
 -- How a search ends (Glulx 3.1.3, "Searching").
-use Rattle.std.specs.Prelude.{◌≡◌, ℕ, zero, suc, ◌-◌, ◌^◌, Bool, true, false, nat_lt, if◌then◌else◌, Option, Some, None, Result, Ok, Err}
+use Rattle.std.specs.Prelude.{◌≡◌, ℕ, zero, suc, ◌-◌, ◌^◌, Bool, true, false}
+use Rattle.std.specs.Prelude.{nat_lt, if◌then◌else◌, Option, Some, None, Result, Ok, Err}
 use Rattle.std.specs.declared.cmp.Ordering.TheVariants.{Equal}
 use Rattle.std.specs.declared.cmp.Ordering.{Ordering}
 use Rattle.vm_memory.specs.declared.fault.MemFault.{MemFault}
@@ -22,9 +23,10 @@ ending looked answer = record { looked = looked; answer = answer }
 abbrev pub failure : Query → ℕ
 failure q = if gives_index q then 2 ^ 32 - 1 else 0
 
--- whether a search ends at the structure with which so many were looked at: at an equal key with the
--- one answer, at a last key with the other, and at a fault
-abbrev pub at_structure : ℕ → ℕ → ℕ → Bool → Result Ordering MemFault → Option Ending
+-- whether a search ends at the structure with which so many were looked at: at an equal key with
+-- the one answer, at a last key with the other, and at a fault
+abbrev pub at_structure : ℕ → ℕ → ℕ → Bool → Result Ordering MemFault
+    → Option Ending
 at_structure looked found failed last (Err fault) = Some (ending looked (Err fault))
 at_structure looked found failed last (Ok Equal) = Some (ending looked (Ok found))
 at_structure looked found failed true (Ok order) = Some (ending looked (Ok failed))
@@ -52,8 +54,8 @@ abbrev pub told_answer : ℕ → Result ℕ MemFault → Result Found SearchStop
 told_answer looked (Ok answer) = Ok (record { answer = answer; looked = looked })
 told_answer looked (Err fault) = Err (Read fault)
 
--- what a search that ends so tells, where no more than left structures may be looked at; one without
--- an end looks at more
+-- what a search that ends so tells, where no more than left structures may be looked at; one
+-- without an end looks at more
 abbrev pub told : ℕ → Option Ending → Result Found SearchStop
 told left None = Err Spent
 told left (Some e) = if nat_lt left e.looked then Err Spent else told_answer e.looked e.answer

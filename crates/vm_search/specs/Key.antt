@@ -1,5 +1,6 @@
 -- Keys: the one that is sought, and those of structures (Glulx 3.1.3, "Searching").
-use Rattle.std.specs.Prelude.{ℕ, ◌≤◌, ◌+◌, ◌%◌, ◌^◌, Bool, not, ◌||◌, ◌==◌, if◌then◌else◌, bit_and, length, Result, Ok, Err}
+use Rattle.std.specs.Prelude.{ℕ, ◌≤◌, ◌+◌, ◌%◌, ◌^◌, Bool, not, ◌||◌}
+use Rattle.std.specs.Prelude.{◌==◌, if◌then◌else◌, bit_and, length, Result, Ok, Err}
 use Rattle.std.specs.Ordering.{nat_cmp}
 use Rattle.std.specs.declared.cmp.Ordering.{Ordering}
 use Rattle.vm_memory.specs.MemoryMap.{MemoryMap, number_at}

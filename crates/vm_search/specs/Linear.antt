@@ -1,5 +1,6 @@
 -- Linear search: the least index whose key equals (Glulx 3.1.3, "Searching").
-use Rattle.std.specs.Prelude.{ℕ, ◌+◌, ◌-◌, ◌*◌, ◌%◌, ◌^◌, Bool, not, ◌&&◌, ◌==◌, if◌then◌else◌, Option, Some, Ok}
+use Rattle.std.specs.Prelude.{ℕ, ◌+◌, ◌-◌, ◌*◌, ◌%◌, ◌^◌, Bool, not, ◌&&◌}
+use Rattle.std.specs.Prelude.{◌==◌, if◌then◌else◌, Option, Some, Ok}
 use Rattle.vm_memory.specs.MemoryMap.{MemoryMap}
 use Rattle.vm_search.specs.Key.{gives_index, ends_at_zero, compared, is_zero}
 use Rattle.vm_search.specs.Ending.{Ending, ending, failure, at_structure}

@@ -1,6 +1,7 @@
 //! Keys, read and compared as numbers, the most significant byte first.
 
-ghost use Rattle.std.specs.Prelude.{◌≡◌, ◌<◌, ◌%◌, ◌^◌, ◌&&◌, ◌||◌, ◌==◌, length, slice_index, true, Ok, Err, OnOk, IfErr};
+ghost use Rattle.std.specs.Prelude.{◌≡◌, ◌<◌, ◌%◌, ◌^◌, ◌&&◌, ◌||◌};
+ghost use Rattle.std.specs.Prelude.{◌==◌, length, slice_index, true, Ok, Err, OnOk, IfErr};
 ghost use Rattle.std.specs.Ordering.{nat_cmp};
 ghost use Rattle.vm_memory.specs.MemoryMap.{number_at};
 ghost use Rattle.vm_memory.specs.Access.{read};

@@ -1,5 +1,6 @@
 -- The states that undo keeps (Glulx 3.1.3, "Game State"; how many is own).
-use Rattle.std.specs.Prelude.{◌≡◌, ℕ, Bool, true, false, ◌&&◌, List, [], ◌∷◌, take, drop, IsTrue, Option, Some, None}
+use Rattle.std.specs.Prelude.{◌≡◌, ℕ, Bool, true, false, ◌&&◌, List, [], ◌∷◌}
+use Rattle.std.specs.Prelude.{take, drop, IsTrue, Option, Some, None}
 use Rattle.vm_heap.specs.HeapMap.{is_heap}
 use Rattle.vm_undo.specs.declared.saved.Saved.{Saved}
 
@@ -32,7 +33,8 @@ are_empty [] = true
 are_empty (None ∷ slots) = are_empty slots
 are_empty (Some s ∷ slots) = false
 
--- each slot holds a state with a heap, up to the first that holds none, and none behind that one does
+-- each slot holds a state with a heap, up to the first that holds none, and none behind that one
+-- does
 abbrev pub are_filled : List (Option Saved) → Bool
 are_filled [] = true
 are_filled (None ∷ slots) = are_empty slots

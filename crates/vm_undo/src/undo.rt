@@ -26,7 +26,8 @@ impl<'i> Model for Undo<'i> {
 
     ghost view = { λ u. states_in (u.newest ∷ u.second ∷ u.third ∷ u.oldest ∷ []) };
 
-    ghost invariant = { λ u. IsTrue (are_filled (u.newest ∷ u.second ∷ u.third ∷ u.oldest ∷ [])) };
+    ghost invariant = { λ u. IsTrue
+        (are_filled (u.newest ∷ u.second ∷ u.third ∷ u.oldest ∷ [])) };
 }
 
 impl<'i> Undo<'i> {

@@ -1,5 +1,6 @@
 //! What the holders of passes do with a cell.
-ghost use Rattle.std.specs.Prelude.{◌≡◌, ◌≢◌, ◌⊎◌, ◌+◌, ◌^◌, ◌<◌, ◌++◌, IfOk, IfErr, Some};
+ghost use Rattle.std.specs.Prelude.{◌≡◌, ◌≢◌, ◌⊎◌, ◌+◌, ◌^◌, ◌<◌};
+ghost use Rattle.std.specs.Prelude.{◌++◌, IfOk, IfErr, Some};
 ghost use Rattle.turn_cell.specs.History.{Continues, IsForeign};
 ghost use Rattle.turn_cell.specs.Views.{MayLeave};
 ghost use Rattle.turn_cell.specs.Passes.{view, number, made, seen, holds, sample, tag_of};
@@ -47,10 +48,12 @@ impl<T: Told + Drop> Cell<T> {
     pub fn enter<R: Wait>(&self, rt: &R, pass: &mut Pass<T>) -> T
         requires cell { IsOf self.now pass.old }
         requires outside { IsOutside pass.old }
-        ensures value { Continues (IsForeign T.by (holds pass.old)) (T.entries result) (seen pass.old) }
+        ensures value { Continues (IsForeign T.by (holds pass.old)) (T.entries result)
+            (seen pass.old) }
         ensures alone { IsAlone pass.old → T.entries result ≡ seen pass.old }
         ensures tag { tag_of T.tag pass.old ≡ Some (T.tag result) }
-        ensures kept { IsOf self.now pass.new × KeepsNumbers pass.old pass.new × (made pass.new ≡ made pass.old) }
+        ensures kept { IsOf self.now pass.new × KeepsNumbers pass.old pass.new
+            × (made pass.new ≡ made pass.old) }
         ensures inside { IsInside pass.new }
         ensures seen { seen pass.new ≡ T.entries result }
     {
@@ -66,7 +69,8 @@ impl<T: Told + Drop> Cell<T> {
         requires cell { IsOf self.now pass.old }
         requires inside { IsInside pass.old }
         requires value { MayLeave T.entries T.by T.tag (view pass.old) value }
-        ensures kept { IsOf self.now pass.new × KeepsNumbers pass.old pass.new × (made pass.new ≡ made pass.old) }
+        ensures kept { IsOf self.now pass.new × KeepsNumbers pass.old pass.new
+            × (made pass.new ≡ made pass.old) }
         ensures outside { IsOutside pass.new }
         ensures seen { seen pass.new ≡ T.entries value }
     {
@@ -81,7 +85,8 @@ impl<T: Told + Drop> Cell<T> {
         requires cell { IsOf self.now pass.old }
         requires outside { IsOutside pass.old }
         requires root { (number pass.old ≡ 0) × (made pass.old < 2 ^ 32) }
-        ensures ok { IfOk result (λ new. IsSplitFrom self.now pass.old new × (made pass.new ≡ made pass.old + 1)) }
+        ensures ok { IfOk result (λ new. IsSplitFrom self.now pass.old new
+            × (made pass.new ≡ made pass.old + 1)) }
         ensures err { IfErr result (λ _. made pass.new ≡ made pass.old) }
         ensures kept { IsOf self.now pass.new × KeepsNumbers pass.old pass.new }
         ensures outside { IsOutside pass.new }
@@ -108,10 +113,12 @@ impl<T: Told + Drop> Cell<T> {
         requires outside { IsOutside pass.old × IsOutside other }
         requires other { number other ≢ 0 }
         ensures holds { holds pass.new ≡ holds pass.old ++ holds other }
-        ensures kept { IsOf self.now pass.new × (number pass.new ≡ number pass.old) × (made pass.new ≡ made pass.old) × (sample pass.new ≡ sample pass.old) }
+        ensures kept { IsOf self.now pass.new × (number pass.new ≡ number pass.old)
+            × (made pass.new ≡ made pass.old) × (sample pass.new ≡ sample pass.old) }
         ensures outside { IsOutside pass.new }
         ensures seen { (seen pass.new ≡ seen pass.old) ⊎ (seen pass.new ≡ seen other) }
-        ensures first { Continues (IsForeign T.by (holds pass.old)) (seen pass.new) (seen pass.old) }
+        ensures first { Continues (IsForeign T.by (holds pass.old)) (seen pass.new)
+            (seen pass.old) }
         ensures second { Continues (IsForeign T.by (holds other)) (seen pass.new) (seen other) }
     {
         let Pass {

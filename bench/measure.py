@@ -1,0 +1,105 @@
+#!/usr/bin/env python3
+"""Plays the same moves in glulxe and in storyhost, and writes what both used as a table.
+
+usage: measure.py [--host PROGRAM] [--glulxe PROGRAM] [--part N]
+
+Seconds are processor seconds, the system's included, from the program's start to its end; memory
+is the most that was resident. With --part N each row does an Nth of its work.
+"""
+import argparse
+import os
+import sys
+import tempfile
+import time
+
+HERE = os.path.dirname(os.path.abspath(__file__))
+STORIES = os.path.join(HERE, "../stories")
+sys.path.insert(0, STORIES)
+
+from compare import Glulxe, solid  # noqa: E402
+from play import HOST, Host  # noqa: E402
+from terminal import peak_of  # noqa: E402
+
+WALK = ["n", "look", "open cupboard", "take all from cupboard", "e", "examine clock", "wind clock",
+        "examine chest", "w", "put matches in cupboard", "put candle in cupboard", "close cupboard",
+        "ask ilse about hens", "inventory", "s", "examine rosemary", "w", "examine nest", "wait", "e"]
+BUDGET = 1_000_000_000_000
+
+
+class Row:
+    """Moves of a story, how much work they are, and its unit."""
+
+    def __init__(self, name, story, moves, work, unit):
+        self.name, self.story, self.moves, self.work, self.unit = name, story, moves, work, unit
+
+
+def rows(part):
+    def share(number):
+        return max(number // part, 1)
+
+    grinds, counts, calls, hauls, walks = share(1000), share(9000), share(6000), share(4000), share(60)
+    return [
+        Row("The Well House, its moves", "cottage.ulx", WALK * walks, len(WALK) * walks, "moves"),
+        Row("The Mill, `grind`", "mill.ulx", [f"grind {grinds}"], grinds, "rounds"),
+        # A round of each loop has 6, 13 or 22 instructions, as `inform6 -a` lists them.
+        Row("arithmetic, `count`", "mill.ulx", [f"count {counts}"], counts * 6000, "steps"),
+        Row("calls, `calls`", "mill.ulx", [f"calls {calls}"], calls * 13000, "steps"),
+        Row("words of memory, `haul`", "mill.ulx", [f"haul {hauls}"], hauls * 22000, "steps"),
+    ]
+
+
+class Used:
+    """What a run used, and the end of the main window's text."""
+
+    def __init__(self, usage, peak, text):
+        self.seconds = usage.ru_utime + usage.ru_stime
+        self.peak, self.text = peak, text
+
+
+def in_glulxe(row, program):
+    with tempfile.TemporaryDirectory() as folder:
+        other = Glulxe(os.path.join(STORIES, row.story), folder, program)
+        for move in row.moves:
+            other.program.send(move + "\r")
+            other.program.settle(0.002)
+        text, peak = solid("".join(other.program.screen.region(0, 1, 80, 23))), other.program.peak()
+        for word in ("quit\r", "yes\r", " "):
+            other.type(word)
+        other.program.finish()
+        return Used(other.program.usage, peak, text)
+
+
+def in_host(row, program):
+    host = Host(os.path.join(STORIES, row.story), program, BUDGET)
+    for move in row.moves:
+        host.give(move)
+    text, peak = solid(host.text), peak_of(host.process.pid)
+    for move in ("quit", "yes"):
+        host.give(move)
+    host.finish()
+    if host.ended != "quit":
+        raise SystemExit(f"measure.py: {row.name}: the host ended as {host.ended}")
+    return Used(host.usage, peak, text)
+
+
+def main():
+    words = argparse.ArgumentParser(usage=__doc__)
+    words.add_argument("--host", default=HOST)
+    words.add_argument("--glulxe", default="/usr/games/glulxe")
+    words.add_argument("--part", type=int, default=1)
+    given = words.parse_args()
+    print(time.strftime("%Y-%m-%d, "), f"{os.cpu_count()} processors, load {os.getloadavg()[0]:.1f}\n", sep="")
+    print("| Work | seconds, glulxe | storyhost | ratio | a second, glulxe | storyhost | peak MB, glulxe "
+          "| storyhost |")
+    print("|---|---|---|---|---|---|---|---|")
+    for row in rows(given.part):
+        theirs, ours = in_glulxe(row, given.glulxe), in_host(row, given.host)
+        same = ours.text.endswith(theirs.text[-200:])
+        print(f"| {row.name}: {row.work:,} {row.unit} | {theirs.seconds:.2f} | {ours.seconds:.2f} "
+              f"| {ours.seconds / theirs.seconds:.2f} | {row.work / theirs.seconds:,.0f} "
+              f"| {row.work / ours.seconds:,.0f} | {theirs.peak / 1024:.1f} | {ours.peak / 1024:.1f} |"
+              + ("" if same else " the texts differ"), flush=True)
+
+
+if __name__ == "__main__":
+    main()
