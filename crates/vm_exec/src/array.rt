@@ -94,6 +94,7 @@ impl<'i> Machine<'i> {
         self.tell(Out::Ran)
     }
 
+    #[inline(always)]
     #[tactic(auto, unfolding(crate::specs::Rows::Array::array_work))]
     pub(crate) fn array_op(
         &mut self,

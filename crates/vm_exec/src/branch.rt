@@ -15,6 +15,7 @@ use vm_operand::{Branch, Dest};
 
 impl<'i> Machine<'i> {
     /// A branch by an offset, of which 0 and 1 return that value.
+    #[inline(always)]
     pub(crate) fn branch(&mut self, offset: u32) -> Result<Done, Trap>
         ensures does { Tells (rules.branches self.old offset) self.new result }
         ensures fit { IsFit self.old → IfOk result (λ done. StaysFit self.new done.out) }
@@ -26,6 +27,7 @@ impl<'i> Machine<'i> {
         self.tell(Out::Ran)
     }
 
+    #[inline(always)]
     fn branch_if(&mut self, holds: bool, offset: u32) -> Result<Done, Trap>
         ensures does { Tells (rules.when self.old holds offset) self.new result }
         ensures fit { IsFit self.old → IfOk result (λ done. StaysFit self.new done.out) }
@@ -37,6 +39,7 @@ impl<'i> Machine<'i> {
         }
     }
 
+    #[inline(always)]
     fn jump_to(&mut self, at: u32) -> Result<Done, Trap>
         ensures does { Tells (rules.goes (record self.old { pc = at })) self.new result }
         ensures fit { IsFit self.old → IfOk result (λ done. StaysFit self.new done.out) }
@@ -45,6 +48,7 @@ impl<'i> Machine<'i> {
         self.tell(Out::Ran)
     }
 
+    #[inline(always)]
     #[tactic(auto, unfolding(crate::specs::Rows::Branch::branch_work))]
     pub(crate) fn branch_op(
         &mut self,

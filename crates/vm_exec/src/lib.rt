@@ -4,6 +4,7 @@
 mod arguments;
 mod array;
 mod branch;
+mod brief;
 mod function;
 mod heap;
 mod machine;

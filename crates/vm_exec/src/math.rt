@@ -13,6 +13,7 @@ use vm_memory::Trap;
 use vm_operand::{Dest, Math};
 
 impl<'i> Machine<'i> {
+    #[inline(always)]
     #[tactic(auto, unfolding(crate::specs::Rows::Math::math_work))]
     pub(crate) fn math_op(
         &mut self,

@@ -23,6 +23,7 @@ impl<'i> Machine<'i> {
         self.tell(Out::Ran)
     }
 
+    #[inline(always)]
     #[tactic(auto, unfolding(crate::specs::Rows::Moving::move_work))]
     pub(crate) fn move_op(
         &mut self,

@@ -15,6 +15,7 @@ use vm_operand::{Dest, Load};
 
 impl<'i> Machine<'i> {
     /// A load of 1, 2 or 4 bytes.
+    #[inline(always)]
     pub(crate) fn load(&mut self, width: u32, from: Load) -> Result<u32, Trap>
         requires { IsWidth width }
         ensures does { Does (rules.loaded width self.old from) self.new result }
@@ -31,6 +32,7 @@ impl<'i> Machine<'i> {
         }
     }
 
+    #[inline(always)]
     fn load_at(&self, width: u32, at: u32) -> Result<u32, Trap>
         requires { IsWidth width }
         ensures { Does (rules.loaded width self.now (load.At at)) self.now result }
@@ -43,6 +45,7 @@ impl<'i> Machine<'i> {
     }
 
     /// A store of 1, 2 or 4 bytes.
+    #[inline(always)]
     pub(crate) fn store_in(&mut self, width: u32, to: Dest, value: u32) -> Result<(), Trap>
         requires { IsWidth width }
         ensures does { Changes (rules.stored_in width self.old to value) self.new result }
@@ -56,6 +59,7 @@ impl<'i> Machine<'i> {
         }
     }
 
+    #[inline(always)]
     fn store_at(&mut self, width: u32, at: u32, value: u32) -> Result<(), Trap>
         requires { IsWidth width }
         ensures does { Changes (rules.stored_in width self.old (dest.At at) value) self.new result }
@@ -70,6 +74,7 @@ impl<'i> Machine<'i> {
     }
 
     /// A store of four bytes.
+    #[inline(always)]
     pub(crate) fn store(&mut self, to: Dest, value: u32) -> Result<(), Trap>
         ensures does { Changes (rules.stored self.old to value) self.new result }
         ensures fit { IsFit self.old → OnOk result (IsFit self.new) }
@@ -104,6 +109,7 @@ impl<'i> Machine<'i> {
 }
 
 // The low bytes of a value.
+#[inline(always)]
 fn cut(width: u32, value: u32) -> u32
     requires { IsWidth width }
     ensures { result ≡ rules.cut width value }

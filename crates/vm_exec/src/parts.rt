@@ -12,6 +12,7 @@ use vm_memory::Trap;
 use vm_operand::Dest;
 
 impl<'i> Machine<'i> {
+    #[inline(always)]
     pub(crate) fn tell(&self, out: Out) -> Result<Done, Trap>
         ensures { Tells (rules.tells self.now out) self.now result }
     {
@@ -19,6 +20,7 @@ impl<'i> Machine<'i> {
     }
 
     /// Stores a value.
+    #[inline(always)]
     pub(crate) fn put(&mut self, to: Dest, value: u32) -> Result<Done, Trap>
         ensures does { Tells (rules.puts self.old to value) self.new result }
         ensures fit { IsFit self.old → IfOk result (λ done. StaysFit self.new done.out) }

@@ -17,6 +17,7 @@ use vm_operand::{Dest, Move, Op};
 
 impl<'i> Machine<'i> {
     /// What the opcode's row says.
+    #[inline(always)]
     fn perform(
         &mut self,
         alloc: Global,
@@ -46,6 +47,7 @@ impl<'i> Machine<'i> {
     }
 
     /// One tick, and then the opcode's work.
+    #[inline(always)]
     pub(crate) fn run(
         &mut self,
         alloc: Global,
@@ -72,6 +74,7 @@ impl<'i> Machine<'i> {
 }
 
 /// How many bytes the loads of an opcode have.
+#[inline(always)]
 pub(crate) fn width_of(op: Option<Op>) -> u32
     ensures value { result ≡ row.width_of op }
     ensures width { IsWidth result }

@@ -57,6 +57,7 @@ pub enum Step {
 
 impl Done {
     /// What the step tells, with its whole cost.
+    #[inline(always)]
     pub(crate) fn step(self, cost: u64) -> Step
         ensures value { result ≡ step_of self.out cost }
         ensures cost { (left : ℕ) → 1 ≤ cost → cost ≤ left → IsPriced left result }

@@ -33,6 +33,7 @@ pub(crate) fn no_memory(_error: AllocError) -> Trap
 }
 
 /// A fault of the stack by its number.
+#[inline(always)]
 pub(crate) fn of_stack(fault: StackFault) -> Trap
     ensures { result ≡ Fault (stack_code fault) }
 {

@@ -1,12 +1,13 @@
 -- Instructions of at most four loads and then at most one store (own).
-use Rattle.std.specs.Prelude.{ℕ, ◌+◌, ◌/◌, List, [], ◌∷◌, length, replicate, Result}
+use Rattle.std.specs.Prelude.{◌≡◌, ℕ, Ok, ◌+◌, ◌/◌, List, [], ◌∷◌, length, replicate, Result}
 use Rattle.vm_memory.specs.MemoryMap.{MemoryMap}
 use Rattle.vm_operand.specs.Opcode.{number_of}
 use Rattle.vm_operand.specs.Mode.{mode_of}
-use Rattle.vm_operand.specs.Instruction.{bare, dest_at, load_at, modes_at, operands}
+use Rattle.vm_operand.specs.Instruction.{bare, dest_at, load_at, modes_at, number_at, operands}
 use Rattle.vm_operand.specs.Reading.{◌>>=◌}
 use Rattle.vm_operand.specs.declared.brief.Brief.{Brief}
 use Rattle.vm_operand.specs.declared.fault.OpFault.{OpFault}
+use Rattle.vm_operand.specs.declared.opcode.Op.{Op}
 use Rattle.vm_operand.specs.declared.instruction.Instr.{Instr}
 use Rattle.vm_operand.specs.declared.operand.Kind.{Kind}
 use Rattle.vm_operand.specs.declared.operand.Kind.TheVariants as kind
@@ -34,6 +35,10 @@ load_by m n at = mode_of kind.Load n >>= (λ mode. load_at m mode at)
 -- a store by the number of its mode, and the place after its bytes
 abbrev pub dest_by : MemoryMap → ℕ → ℕ → Result (d.Dest × ℕ) OpFault
 dest_by m n at = mode_of kind.Store n >>= (λ mode. dest_at m mode at)
+
+-- this opcode stands at a place, and its operands' modes begin at the other
+abbrev pub OpcodeAt : MemoryMap → ℕ → Op → ℕ → Type 0
+OpcodeAt m at op place = number_at m at ≡ Ok (number_of op, place)
 
 -- the instruction of this number with these operands, whose modes begin at a place
 abbrev pub operands_from : MemoryMap → ℕ → List Kind → ℕ → Result Instr OpFault

@@ -30,22 +30,32 @@ pub struct Brief {
     pub next: u32,
 }
 
-// A load by the number of its mode, and the place after its bytes.
+/// A load by the number of its mode, and the place after its bytes.
 #[inline(always)]
 #[tactic(auto, unfolding(crate::specs::Mode::mode_of, crate::specs::Mode::modes, crate::specs::Instruction::load_at))]
-fn load_by(memory: &Memory<'_>, number: u32, at: u32) -> Result<(Load, u32), OpFault>
+pub fn load_by(memory: &Memory<'_>, number: u32, at: u32) -> Result<(Load, u32), OpFault>
+    ensures { IfOk result (λ x. spec.load_by memory.now number at ≡ Ok x) }
+{
+    match number {
+        0 => Ok((Load::Value(0), at)),
+        1 => Ok((Load::Value(Width::One.extend(memory.read1(at)?)), at + 1)),
+        9 => Ok((Load::Local(memory.read1(at)?), at + 1)),
+        _ => longer_load(memory, number, at),
+    }
+}
+
+// A load of another mode.
+#[tactic(auto, unfolding(crate::specs::Mode::mode_of, crate::specs::Mode::modes, crate::specs::Instruction::load_at))]
+fn longer_load(memory: &Memory<'_>, number: u32, at: u32) -> Result<(Load, u32), OpFault>
     ensures { IfOk result (λ x. spec.load_by memory.now number at ≡ Ok x) }
 {
     Ok(match number {
-        0 => (Load::Value(0), at),
-        1 => (Load::Value(Width::One.extend(memory.read1(at)?)), at + 1),
         2 => (Load::Value(Width::Two.extend(memory.read2(at)?)), at + 2),
         3 => (Load::Value(memory.read4(at)?), at + 4),
         5 => (Load::At(memory.read1(at)?), at + 1),
         6 => (Load::At(memory.read2(at)?), at + 2),
         7 => (Load::At(memory.read4(at)?), at + 4),
         8 => (Load::Pop, at),
-        9 => (Load::Local(memory.read1(at)?), at + 1),
         10 => (Load::Local(memory.read2(at)?), at + 2),
         11 => (Load::Local(memory.read4(at)?), at + 4),
         13 => (Load::At(in_ram(memory, memory.read1(at)?)), at + 1),
@@ -55,10 +65,22 @@ fn load_by(memory: &Memory<'_>, number: u32, at: u32) -> Result<(Load, u32), OpF
     })
 }
 
-// A store by the number of its mode, and the place after its bytes.
+/// A store by the number of its mode, and the place after its bytes.
 #[inline(always)]
 #[tactic(auto, unfolding(crate::specs::Mode::mode_of, crate::specs::Mode::modes, crate::specs::Instruction::dest_at))]
-fn dest_by(memory: &Memory<'_>, number: u32, at: u32) -> Result<(Dest, u32), OpFault>
+pub fn dest_by(memory: &Memory<'_>, number: u32, at: u32) -> Result<(Dest, u32), OpFault>
+    ensures { IfOk result (λ x. spec.dest_by memory.now number at ≡ Ok x) }
+{
+    match number {
+        8 => Ok((Dest::Push, at)),
+        9 => Ok((Dest::Local(memory.read1(at)?), at + 1)),
+        _ => longer_dest(memory, number, at),
+    }
+}
+
+// A store of another mode.
+#[tactic(auto, unfolding(crate::specs::Mode::mode_of, crate::specs::Mode::modes, crate::specs::Instruction::dest_at))]
+fn longer_dest(memory: &Memory<'_>, number: u32, at: u32) -> Result<(Dest, u32), OpFault>
     ensures { IfOk result (λ x. spec.dest_by memory.now number at ≡ Ok x) }
 {
     Ok(match number {
@@ -66,8 +88,6 @@ fn dest_by(memory: &Memory<'_>, number: u32, at: u32) -> Result<(Dest, u32), OpF
         5 => (Dest::At(memory.read1(at)?), at + 1),
         6 => (Dest::At(memory.read2(at)?), at + 2),
         7 => (Dest::At(memory.read4(at)?), at + 4),
-        8 => (Dest::Push, at),
-        9 => (Dest::Local(memory.read1(at)?), at + 1),
         10 => (Dest::Local(memory.read2(at)?), at + 2),
         11 => (Dest::Local(memory.read4(at)?), at + 4),
         13 => (Dest::At(in_ram(memory, memory.read1(at)?)), at + 1),
@@ -295,9 +315,21 @@ fn operands_of(memory: &Memory<'_>, op: Op, place: u32) -> Result<Brief, OpFault
     }
 }
 
+/// The opcode at the address, and the place of its operands' modes.
+#[inline(always)]
+pub fn opcode_at(memory: &Memory<'_>, at: u32) -> Result<(Op, u32), OpFault>
+    ensures value { IfOk result (λ x. spec.OpcodeAt memory.now at x.0 x.1) }
+    ensures within { IfOk result (λ x. x.1 ≤ 16777216) }
+{
+    let (number, place) = number_at(memory, at)?;
+    match Op::of(number) {
+        Some(op) => Ok((op, place)),
+        None => Err(OpFault::BadOpcode(number)),
+    }
+}
+
 /// The instruction at the address where it is one in brief and all of it can be read. What else
 /// is there is for `decode`.
-#[inline(always)]
 pub fn decode_brief(memory: &Memory<'_>, at: u32) -> Result<Brief, OpFault>
     ensures value { IfOk result (λ b. instruction_at memory.now at ≡ Ok (instr_of b)) }
     ensures some { IfOk result (λ b. 1 ≤ b.loads) }
