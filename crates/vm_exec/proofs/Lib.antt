@@ -1,4 +1,5 @@
 pub mod Told
+pub mod QuickLemmas
 pub mod ArgumentLemmas
 pub mod WithinLemmas
 pub mod DigitLemmas

@@ -7,4 +7,5 @@ pub mod TextStub
 pub mod Rules
 pub mod Rows
 pub mod Row
+pub mod Quick
 pub mod Start

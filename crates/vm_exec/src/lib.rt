@@ -15,6 +15,7 @@ mod operand;
 mod output;
 mod parts;
 mod perform;
+mod quick;
 mod random;
 mod saving;
 mod search;
