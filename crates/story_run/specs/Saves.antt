@@ -2,15 +2,14 @@
 use Rattle.std.specs.Prelude.{◌≡◌, ℕ, zero, suc, ◌++◌, ◌==◌, ◌&&◌, Bool, true, false, not}
 use Rattle.std.specs.Prelude.{if◌then◌else◌}
 use Rattle.std.specs.Prelude.{List, [], ◌∷◌, Option, Some, None, Result, Ok, Err}
-use Rattle.vm_memory.specs.MemoryMap.{MemoryMap, origin_of}
+use Rattle.vm_memory.specs.MemoryMap.{MemoryMap}
 use Rattle.vm_memory.specs.declared.fault.Trap.{Trap}
 use Rattle.vm_memory.specs.declared.fault.Trap.TheVariants as trap
 use Rattle.vm_undo.specs.declared.saved.Saved.{Saved}
 use Rattle.vm_exec.specs.Rows.Undo.{resumed, saved_state}
 use Rattle.vm_exec.specs.Start.{finished}
 use Rattle.vm_exec.specs.declared.machine.Machine.{Machine}
-use Rattle.glulx_image.specs.Header.{stack_size}
-use Rattle.quetzal.specs.Save.{canon, origin}
+use Rattle.quetzal.specs.Save.{canon}
 use Rattle.quetzal.specs.State.{state_in}
 use Rattle.glk_input.specs.Delivery.{taken}
 use Rattle.glk_streams.specs.Streams.{is_read_mode, is_write_mode, of_stream, stream_at}
@@ -85,8 +84,3 @@ abbrev pub Leaves : Reached (Glk × Machine) → Glk → Machine → Result (Uni
 Leaves should g m (Ok x) = should ≡ Ok (g, m)
 Leaves should g m (Err (trap.Fault n)) = should ≡ Err (g, n)
 Leaves should g m (Err trap.NoMemory) = Unit {0}
-
--- the machine's memory lies over the image, and its stack has the image's size
-pub record IsOver (image : List ℕ) (m : Machine) : Type 0 where
-  pub origin : origin_of m.memory ≡ origin image
-  pub limit : m.stack.limit ≡ stack_size image

@@ -1,15 +1,18 @@
 //! Saves and restores over the streams of a session.
 
-ghost use Rattle.std.specs.Prelude.{◌≡◌, true, false, [], Ok};
+ghost use Rattle.std.specs.Prelude.{◌≡◌, true, false, [], Ok, OnOk};
 ghost use Rattle.glk_dispatch.specs.Answer.{Gets, Reads};
 ghost use Rattle.glk_input.specs.Delivery.{taken};
 ghost use Rattle.quetzal.specs.Save.{canon};
 ghost use Rattle.quetzal.specs.State.{state_in};
 ghost use Rattle.story_run.specs.Saves as saves;
-ghost use Rattle.story_run.specs.Saves.{IsOver, Leaves};
+ghost use Rattle.story_run.specs.Saves.{Leaves};
+ghost use Rattle.story_run.specs.World.{IsWaiting};
 ghost use Rattle.vm_exec.specs.Answer.{Changes, MakesList};
 ghost use Rattle.vm_exec.specs.Machine.{IsSaving};
 ghost use Rattle.vm_exec.specs.Rows.Undo.{saved_state};
+ghost use Rattle.vm_exec.specs.Start.{IsOver};
+ghost use Rattle.vm_memory.specs.MemoryMap.{KeepsMap};
 
 use glk_dispatch::{Glk, get_code, position, put_code};
 use glulx_image::Image;
@@ -31,6 +34,7 @@ pub(crate) fn save<'i>(
     requires over { IsOver image.now machine.old }
     ensures does { Leaves (saves.saved image.now glk.old machine.old stream)
         glk.new machine.new result }
+    ensures kept { OnOk result (IsWaiting image.now machine.new) }
 {
     if !is_writable(glk, stream) {
         return machine.finish(alloc, 1);
@@ -81,8 +85,9 @@ fn put_bytes(
     stream: u32,
     bytes: &[u8],
 ) -> Result<bool, Trap>
-    ensures { Gets (saves.put_bytes glk.old memory.old stream true bytes.now)
+    ensures does { Gets (saves.put_bytes glk.old memory.old stream true bytes.now)
         glk.new memory.new result }
+    ensures kept { OnOk result (KeepsMap memory.old memory.new) }
 {
     let mut kept = true;
     for byte in bytes {
@@ -100,7 +105,9 @@ fn put_byte(
     stream: u32,
     byte: u8,
 ) -> Result<bool, Trap>
-    ensures { Gets (saves.put_byte glk.old memory.old stream byte) glk.new memory.new result }
+    ensures does { Gets (saves.put_byte glk.old memory.old stream byte)
+        glk.new memory.new result }
+    ensures kept { OnOk result (KeepsMap memory.old memory.new) }
 {
     let before = position(glk, stream)?;
     put_code(alloc, glk, memory, stream, u32::from(byte))?;
@@ -118,8 +125,10 @@ pub(crate) fn restore<'i>(
     image: &Image<'i>,
     stream: u32,
 ) -> Result<(), Trap>
+    requires { IsWaiting image.now machine.old }
     ensures does { Leaves (saves.restored image.now glk.old machine.old stream)
         glk.new machine.new result }
+    ensures kept { OnOk result (IsWaiting image.now machine.new) }
 {
     if !is_readable(glk, stream) {
         return machine.finish(alloc, 1);
@@ -160,8 +169,10 @@ fn bring_back<'i>(
     image: &Image<'i>,
     bytes: &[u8],
 ) -> Result<(), Trap>
-    ensures { Changes (saves.brought_back machine.old (state_in image.now bytes.now))
+    requires { IsWaiting image.now machine.old }
+    ensures does { Changes (saves.brought_back machine.old (state_in image.now bytes.now))
         machine.new result }
+    ensures kept { OnOk result (IsWaiting image.now machine.new) }
 {
     match read(alloc, bytes, image) {
         Ok(state) => machine.resume(alloc, state),
