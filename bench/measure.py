@@ -8,6 +8,7 @@ is the most that was resident. With --part N each row does an Nth of its work.
 """
 import argparse
 import os
+import subprocess
 import sys
 import tempfile
 import time
@@ -33,14 +34,17 @@ class Row:
         self.name, self.story, self.moves, self.work, self.unit = name, story, moves, work, unit
 
 
-def rows(part):
+def rows(part, folder):
     def share(number):
         return max(number // part, 1)
 
+    loop, turns = os.path.join(folder, "loop.ulx"), share(25_000_000)
+    subprocess.run([sys.executable, os.path.join(HERE, "loop_story.py"), loop, str(turns)], check=True)
     grinds, counts, calls, hauls, walks = share(1000), share(9000), share(6000), share(4000), share(60)
     return [
         Row("The Well House, its moves", "cottage.ulx", WALK * walks, len(WALK) * walks, "moves"),
         Row("The Mill, `grind`", "mill.ulx", [f"grind {grinds}"], grinds, "rounds"),
+        Row("add, bitxor, sub, jnz", loop, [], turns * 4, "steps"),
         # A round of each loop has 6, 13 or 22 instructions, as `inform6 -a` lists them.
         Row("arithmetic, `count`", "mill.ulx", [f"count {counts}"], counts * 6000, "steps"),
         Row("calls, `calls`", "mill.ulx", [f"calls {calls}"], calls * 13000, "steps"),
@@ -63,8 +67,10 @@ def in_glulxe(row, program):
             other.program.send(move + "\r")
             other.program.settle(0.002)
         text, peak = solid("".join(other.program.screen.region(0, 1, 80, 23))), other.program.peak()
-        for word in ("quit\r", "yes\r", " "):
-            other.type(word)
+        for word in ("quit\r", "yes\r"):
+            if not other.message().startswith("Hit any key"):
+                other.type(word)
+        other.type(" ")
         other.program.finish()
         return Used(other.program.usage, peak, text)
 
@@ -73,10 +79,12 @@ def in_host(row, program):
     host = Host(os.path.join(STORIES, row.story), program, BUDGET)
     for move in row.moves:
         host.give(move)
-    text, peak = solid(host.text), peak_of(host.process.pid)
-    for move in ("quit", "yes"):
+    # Where the story ended by itself this is its process's peak with that of this script before it.
+    text, peak = solid(host.text), 0 if host.ended else peak_of(host.process.pid)
+    for move in [] if host.ended else ["quit", "yes"]:
         host.give(move)
     host.finish()
+    peak = peak or host.usage.ru_maxrss
     if host.ended != "quit":
         raise SystemExit(f"measure.py: {row.name}: the host ended as {host.ended}")
     return Used(host.usage, peak, text)
@@ -92,13 +100,14 @@ def main():
     print("| Work | seconds, glulxe | storyhost | ratio | a second, glulxe | storyhost | peak MB, glulxe "
           "| storyhost |")
     print("|---|---|---|---|---|---|---|---|")
-    for row in rows(given.part):
-        theirs, ours = in_glulxe(row, given.glulxe), in_host(row, given.host)
-        same = ours.text.endswith(theirs.text[-200:])
-        print(f"| {row.name}: {row.work:,} {row.unit} | {theirs.seconds:.2f} | {ours.seconds:.2f} "
-              f"| {ours.seconds / theirs.seconds:.2f} | {row.work / theirs.seconds:,.0f} "
-              f"| {row.work / ours.seconds:,.0f} | {theirs.peak / 1024:.1f} | {ours.peak / 1024:.1f} |"
-              + ("" if same else " the texts differ"), flush=True)
+    with tempfile.TemporaryDirectory() as folder:
+        for row in rows(given.part, folder):
+            theirs, ours = in_glulxe(row, given.glulxe), in_host(row, given.host)
+            same = not row.moves or ours.text.endswith(theirs.text[-200:])
+            print(f"| {row.name}: {row.work:,} {row.unit} | {theirs.seconds:.2f} | {ours.seconds:.2f} "
+                  f"| {ours.seconds / theirs.seconds:.2f} | {row.work / theirs.seconds:,.0f} "
+                  f"| {row.work / ours.seconds:,.0f} | {theirs.peak / 1024:.1f} "
+                  f"| {ours.peak / 1024:.1f} |" + ("" if same else " the texts differ"), flush=True)
 
 
 if __name__ == "__main__":

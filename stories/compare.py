@@ -25,8 +25,6 @@ MOST_PAGES = 200
 # the line that was begun taken away.
 REDRAW, PAGE_DOWN, TAKE_AWAY = "\x0c", "\x16", "\x15"
 TYPED = {"{Return}": "\r", "{Space}": " ", "{Escape}": "\x1b", "{Up}": "\x1bA", "{Down}": "\x1bB"}
-
-
 # What an interpreter says of itself: docs/PROFILE.md has what gestalt tells.
 OWN_NAME = re.compile(r"Interpreter ?version ?[0-9.]+ ?/ ?VM ?[0-9.]+ ?/")
 
@@ -41,6 +39,8 @@ def solid(text):
 
 
 class Glulxe:
+    """A story in glulxe, on a terminal of its own."""
+
     def __init__(self, story, folder, program="/usr/games/glulxe"):
         size = ["-width", str(COLUMNS), "-height", str(ROWS + 1)]
         words = [program, *size, "-border", "no", "-defprompt", "no", os.path.abspath(story)]
@@ -83,7 +83,8 @@ def differences(host, other):
             at_end = number == host.wanted()[1]
             begun = host.begun() if at_end else ""
             ours, theirs = solid(window.text + begun), solid("".join(rows))
-            if not (ours.endswith(theirs) if at_end else theirs in ours):
+            same = ours.endswith(theirs) if at_end else theirs in ours
+            if not same or ours and not theirs and window.width and window.height:
                 end = ours[-len(theirs) :] if theirs else ours
                 at = next((k for k in range(1, len(theirs) + 1)
                            if ours[-k:][:1] != theirs[-k]), 0)
@@ -128,6 +129,8 @@ def compared_transcript(host, file):
         if same != piece:
             return (f"transcript, character {at}:\n  host   |{piece[len(same):][:60]!r}|\n"
                     f"  glulxe |{theirs[at:][:60]!r}|")
+    if at != len(theirs):
+        return f"transcript: glulxe goes on |{theirs[at:][:60]!r}|"
     print(f"transcript: {count} of {len(theirs)} characters compared, all equal")
     return None
 
