@@ -1,5 +1,5 @@
 -- More ticks leave a turn as it is, unless it wanted them.
-use Rattle.std.proofs.Common.{◌≡◌, ◌≢◌, ℕ, zero, suc, ◌+◌, ◌-◌, ◌<◌, ◌≤◌, Bool, true, false, nat_lt, refl, ap, sym, ◌∙◌, arith, Result, Ok, Err, cond, subst, ◌⊎◌, inl, inr}
+use Rattle.std.proofs.Common.{◌≡◌, ◌≢◌, ℕ, zero, suc, ◌+◌, ◌-◌, ◌<◌, ◌≤◌, Bool, true, false, nat_lt, refl, ap, sym, ◌∙◌, arith, Result, Ok, Err, cond, subst, List, ◌⊎◌, inl, inr}
 use Rattle.std.proofs.lemmas.Bool.Decides.{nat_tests}
 use Rattle.vm_exec.specs.Row.{row, step_of}
 use Rattle.vm_exec.specs.Start.{finished}
@@ -70,68 +70,68 @@ answered-shifts left more g m (Ok x) =
     charged-shifts left more (x.0.glk.chars - g.chars) x.0.glk (machine_of m x.0) x.1
 answered-shifts left more g m (Err e) = inr refl
 
-followed-shifts : (left more cost : ℕ) (g : Glk) (m : Machine) (o : Out) → cost ≤ left
-    → Shifts more (followed left g m (step_of o cost)) (followed (left + more) g m (step_of o cost))
-followed-shifts left more cost g m out.Ran h =
+followed-shifts : (image : List ℕ) (left more cost : ℕ) (g : Glk) (m : Machine) (o : Out) → cost ≤ left
+    → Shifts more (followed image left g m (step_of o cost)) (followed image (left + more) g m (step_of o cost))
+followed-shifts image left more cost g m out.Ran h =
     ap (λ (k : ℕ). Runs k (running g m)) (sym (later left more cost h))
-followed-shifts left more cost g m (out.Char x) h =
+followed-shifts image left more cost g m (out.Char x) h =
     let p = put_code g m.memory g.streams.current x in
     subst (λ (k : ℕ). Shifts more (put (left - cost) m p) (put k m p))
     (later left more cost h)
     (put-shifts (left - cost) more m p)
-followed-shifts left more cost g m (out.Glk selector args) h =
+followed-shifts image left more cost g m (out.Glk selector args) h =
     let x = called (desk g m.memory m.stack) selector args in
     subst (λ (k : ℕ). Shifts more (answered (left - cost) g m x) (answered k g m x))
     (later left more cost h)
     (answered-shifts (left - cost) more g m x)
-followed-shifts left more cost g m out.Quit h = inr refl
+followed-shifts image left more cost g m out.Quit h = inr refl
 
-gives-shifts : (left more cost : ℕ) (g : Glk) (gives : Rule) → cost ≤ left
+gives-shifts : (image : List ℕ) (left more cost : ℕ) (g : Glk) (gives : Rule) → cost ≤ left
     → Shifts more
-    (stepped left g (gives >>= (λ x. Ok (x.0, step_of x.1 cost))))
-    (stepped (left + more) g (gives >>= (λ x. Ok (x.0, step_of x.1 cost))))
-gives-shifts left more cost g (Ok x) h = followed-shifts left more cost g x.0 x.1 h
-gives-shifts left more cost g (Err n) h = inr refl
+    (stepped image left g (gives >>= (λ x. Ok (x.0, step_of x.1 cost))))
+    (stepped image (left + more) g (gives >>= (λ x. Ok (x.0, step_of x.1 cost))))
+gives-shifts image left more cost g (Ok x) h = followed-shifts image left more cost g x.0 x.1 h
+gives-shifts image left more cost g (Err n) h = inr refl
 
-told-cases : (a b : Bool) (left more cost : ℕ) (g : Glk) (gives : Rule) → (a ≡ false → b ≡ false) → (a ≡ false → cost ≤ left)
+told-cases : (image : List ℕ) (a b : Bool) (left more cost : ℕ) (g : Glk) (gives : Rule) → (a ≡ false → b ≡ false) → (a ≡ false → cost ≤ left)
     → Shifts more
-    (stepped left g (cond a (Err 24) (gives >>= (λ x. Ok (x.0, step_of x.1 cost)))))
-    (stepped (left + more) g (cond b (Err 24) (gives >>= (λ x. Ok (x.0, step_of x.1 cost)))))
-told-cases true b left more cost g gives k h = inl refl
-told-cases false true left more cost g gives k h = let e : true ≡ false = k refl in absurd cc
-told-cases false false left more cost g gives k h = gives-shifts left more cost g gives (h refl)
+    (stepped image left g (cond a (Err 24) (gives >>= (λ x. Ok (x.0, step_of x.1 cost)))))
+    (stepped image (left + more) g (cond b (Err 24) (gives >>= (λ x. Ok (x.0, step_of x.1 cost)))))
+told-cases image true b left more cost g gives k h = inl refl
+told-cases image false true left more cost g gives k h = let e : true ≡ false = k refl in absurd cc
+told-cases image false false left more cost g gives k h = gives-shifts image left more cost g gives (h refl)
 
-next-shifts : (left more : ℕ) (r : Running) → Shifts more (next left r) (next (left + more) r)
+next-shifts : (image : List ℕ) (left more : ℕ) (r : Running) → Shifts more (next image left r) (next image (left + more) r)
 unfolding next
-next-shifts left more r =
+next-shifts image left more r =
     let c = row r.machine in
-    told-cases (nat_lt left c.cost) (nat_lt (left + more) c.cost) left more c.cost r.glk c.gives
+    told-cases image (nat_lt left c.cost) (nat_lt (left + more) c.cost) left more c.cost r.glk c.gives
     (kept left more c.cost) (met left c.cost)
 
 -- a turn that doesn't end with the budget's fault ends so with more ticks too
-rests-shift : (k more : ℕ) (g h : Glk) (s t : Stage) (y : Next) → (t ≡ Fault 24) ⊎ (y ≡ Rests h t)
-    → ◌≡◌ {A = Glk × Stage} (h, t) (g, s) → s ≢ Fault 24 → after (steps k) y ≡ (g, s)
-rests-shift k more g h s t y (inl e) p n = absurd (n (sym (ap (λ (x : Glk × Stage). x.1) p) ∙ e))
-rests-shift k more g h s t y (inr e) p n = ap (after (steps k)) e ∙ p
+rests-shift : (image : List ℕ) (k more : ℕ) (g h : Glk) (s t : Stage) (y : Next) → (t ≡ Fault 24) ⊎ (y ≡ Rests h t)
+    → ◌≡◌ {A = Glk × Stage} (h, t) (g, s) → s ≢ Fault 24 → after (steps image k) y ≡ (g, s)
+rests-shift image k more g h s t y (inl e) p n = absurd (n (sym (ap (λ (x : Glk × Stage). x.1) p) ∙ e))
+rests-shift image k more g h s t y (inr e) p n = ap (after (steps image k)) e ∙ p
 
-steps-shift : (n k left more : ℕ) (r : Running) (g : Glk) (s : Stage) → left < n → left + more < k
-    → steps n left r ≡ (g, s) → s ≢ Fault 24 → steps k (left + more) r ≡ (g, s)
+steps-shift : (image : List ℕ) (n k left more : ℕ) (r : Running) (g : Glk) (s : Stage) → left < n → left + more < k
+    → steps image n left r ≡ (g, s) → s ≢ Fault 24 → steps image k (left + more) r ≡ (g, s)
 unfolding steps
-steps-shift zero k left more r g s h i p f = absurd (omega arith)
-steps-shift (suc n) zero left more r g s h i p f = absurd (omega arith)
-steps-shift (suc n) (suc k) left more r g s h i p f =
-    elim (next left r) as (λ x. IsBelow left x → Shifts more x (next (left + more) r) → after (steps n) x ≡ (g, s) → after (steps k) (next (left + more) r) ≡ (g, s)) [
-      | Runs l q ↦ λ b e o. ap (after (steps k)) e ∙ steps-shift n k l more q g s (omega arith) (omega arith) o f
-      | Rests x y ↦ λ b e o. rests-shift k more g x s y (next (left + more) r) e o f
+steps-shift image zero k left more r g s h i p f = absurd (omega arith)
+steps-shift image (suc n) zero left more r g s h i p f = absurd (omega arith)
+steps-shift image (suc n) (suc k) left more r g s h i p f =
+    elim (next image left r) as (λ x. IsBelow left x → Shifts more x (next image (left + more) r) → after (steps image n) x ≡ (g, s) → after (steps image k) (next image (left + more) r) ≡ (g, s)) [
+      | Runs l q ↦ λ b e o. ap (after (steps image k)) e ∙ steps-shift image n k l more q g s (omega arith) (omega arith) o f
+      | Rests x y ↦ λ b e o. rests-shift image k more g x s y (next image (left + more) r) e o f
     ]
-    (next-below left r) (next-shifts left more r) p
+    (next-below image left r) (next-shifts image left more r) p
 
-pub rest-more : (budget more : ℕ) (r : Running) (g : Glk) (s : Stage) → rest budget r ≡ (g, s) → s ≢ Fault 24
-    → rest (budget + more) r ≡ (g, s)
+pub rest-more : (image : List ℕ) (budget more : ℕ) (r : Running) (g : Glk) (s : Stage) → rest image budget r ≡ (g, s) → s ≢ Fault 24
+    → rest image (budget + more) r ≡ (g, s)
 unfolding rest
-rest-more budget more r g s p f =
-    steps-shift (budget + 1) (budget + more + 1) budget more r g s (omega arith) (omega arith) p f
+rest-more image budget more r g s p f =
+    steps-shift image (budget + 1) (budget + more + 1) budget more r g s (omega arith) (omega arith) p f
 
-pub steps-rest : (n budget : ℕ) (r : Running) → budget < n → steps n budget r ≡ rest budget r
+pub steps-rest : (image : List ℕ) (n budget : ℕ) (r : Running) → budget < n → steps image n budget r ≡ rest image budget r
 unfolding rest
-steps-rest n budget r h = steps-enough n (budget + 1) budget r h (omega arith)
+steps-rest image n budget r h = steps-enough image n (budget + 1) budget r h (omega arith)

@@ -1,5 +1,5 @@
 -- A turn ends: each step takes a tick, so more steps than ticks change nothing.
-use Rattle.std.proofs.Common.{◌≡◌, ℕ, zero, suc, ◌+◌, ◌-◌, ◌<◌, ◌≤◌, Bool, true, false, nat_lt, refl, ap, sym, ◌∙◌, arith, add-one, Result, Ok, Err, cond, subst, IfOk}
+use Rattle.std.proofs.Common.{◌≡◌, ℕ, zero, suc, ◌+◌, ◌-◌, ◌<◌, ◌≤◌, Bool, true, false, nat_lt, refl, ap, sym, ◌∙◌, arith, add-one, Result, Ok, Err, cond, subst, IfOk, List}
 use Rattle.std.specs.declared.alloc.AllocError.{AllocError}
 use Rattle.std.proofs.lemmas.Bool.Decides.{nat_tests}
 use Rattle.vm_exec.specs.Row.{Charged, due, row, told, step_of}
@@ -14,12 +14,13 @@ use Rattle.glk_dispatch.specs.Answer.{Reached, ◌>>=◌, desk}
 use Rattle.glk_dispatch.specs.Answer as dispatch
 use Rattle.glk_dispatch.specs.Call.{called}
 use Rattle.glk_dispatch.specs.Output.{put_code}
-use Rattle.story_run.specs.Step.{Next, Advances, Runs, Rests, Running, next, stepped, followed, answered, charged, done, machine_of, stored, put}
+use Rattle.story_run.specs.Step.{Next, Advances, faults, Runs, Rests, Running, next, stepped, followed, answered, charged, done, machine_of, stored, put}
 use Rattle.story_run.specs.Turn.{Stops, after, steps, rest}
 use Rattle.glk_dispatch.specs.declared.called.Called.{Called}
 use Rattle.glk_dispatch.specs.declared.called.Called.TheVariants as call
 use Rattle.glk_dispatch.specs.declared.glk.Glk.{Glk}
 use Rattle.story_run.specs.declared.stage.Stage.{Stage}
+use Rattle.story_run.specs.declared.step.Progress.{Progress}
 use Rattle.story_run.specs.declared.stage.Stage.TheVariants as stage
 use Rattle.vm_memory.specs.declared.fault.Trap.{Trap}
 use Rattle.vm_memory.specs.declared.fault.Trap.TheVariants as trap
@@ -56,12 +57,12 @@ answered-below ticks left g m (Ok x) h =
     charged-below ticks left (x.0.glk.chars - g.chars) x.0.glk (machine_of m x.0) x.1 h
 answered-below ticks left g m (Err e) h = tt
 
-followed-below : (left cost : ℕ) (g : Glk) (m : Machine) (o : Out) → 1 ≤ cost → cost ≤ left → IsBelow left (followed left g m (step_of o cost))
-followed-below left cost g m out.Ran h k = omega arith
-followed-below left cost g m (out.Char x) h k = put-below left (left - cost) m (put_code g m.memory g.streams.current x) (omega arith)
-followed-below left cost g m (out.Glk selector args) h k =
+followed-below : (image : List ℕ) (left cost : ℕ) (g : Glk) (m : Machine) (o : Out) → 1 ≤ cost → cost ≤ left → IsBelow left (followed image left g m (step_of o cost))
+followed-below image left cost g m out.Ran h k = omega arith
+followed-below image left cost g m (out.Char x) h k = put-below left (left - cost) m (put_code g m.memory g.streams.current x) (omega arith)
+followed-below image left cost g m (out.Glk selector args) h k =
     answered-below left (left - cost) g m (called (desk g m.memory m.stack) selector args) (omega arith)
-followed-below left cost g m out.Quit h k = tt
+followed-below image left cost g m out.Quit h k = tt
 
 -- a step of the machine takes a tick at least
 charged-some : (x : Result Work ℕ) → 1 ≤ (exec.charged x).cost
@@ -69,56 +70,63 @@ charged-some (Ok (Free r)) = omega arith
 charged-some (Ok (Costs n r)) = omega arith
 charged-some (Err n) = omega arith
 
-told-cases : (b : Bool) (left cost : ℕ) (g : Glk) (gives : Rule) → (b ≡ false → cost ≤ left) → 1 ≤ cost
-    → IsBelow left (stepped left g (cond b (Err 24) (gives >>= (λ x. Ok (x.0, step_of x.1 cost)))))
-told-cases true left cost g gives w h = tt
-told-cases false left cost g (Ok x) w h = followed-below left cost g x.0 x.1 h (w refl)
-told-cases false left cost g (Err n) w h = tt
+told-cases : (image : List ℕ) (b : Bool) (left cost : ℕ) (g : Glk) (gives : Rule) → (b ≡ false → cost ≤ left) → 1 ≤ cost
+    → IsBelow left (stepped image left g (cond b (Err 24) (gives >>= (λ x. Ok (x.0, step_of x.1 cost)))))
+told-cases image true left cost g gives w h = tt
+told-cases image false left cost g (Ok x) w h = followed-below image left cost g x.0 x.1 h (w refl)
+told-cases image false left cost g (Err n) w h = tt
 
-told-below : (left : ℕ) (g : Glk) (c : Charged) → 1 ≤ c.cost → IsBelow left (stepped left g (told left c))
-told-below left g c h =
-    told-cases (nat_lt left c.cost) left c.cost g c.gives (λ e. grind (arith, nat_tests)) h
+told-below : (image : List ℕ) (left : ℕ) (g : Glk) (c : Charged) → 1 ≤ c.cost → IsBelow left (stepped image left g (told left c))
+told-below image left g c h =
+    told-cases image (nat_lt left c.cost) left c.cost g c.gives (λ e. grind (arith, nat_tests)) h
 
-pub next-below : (left : ℕ) (r : Running) → IsBelow left (next left r)
+pub next-below : (image : List ℕ) (left : ℕ) (r : Running) → IsBelow left (next image left r)
 unfolding next
-next-below left r = told-below left r.glk (row r.machine) (charged-some (due r.machine r.machine.text))
+next-below image left r = told-below image left r.glk (row r.machine) (charged-some (due r.machine r.machine.text))
 
 -- a step leaves fewer ticks
-pub runs-below : (left l : ℕ) (r q : Running) → next left r ≡ Runs l q → l < left
-runs-below left l r q e = subst (IsBelow left) e (next-below left r)
+pub runs-below : (image : List ℕ) (left l : ℕ) (r q : Running) → next image left r ≡ Runs l q → l < left
+runs-below image left l r q e = subst (IsBelow left) e (next-below image left r)
 
 -- any number of steps above the ticks will do
-pub steps-enough : (n k left : ℕ) (r : Running) → left < n → left < k → steps n left r ≡ steps k left r
+pub steps-enough : (image : List ℕ) (n k left : ℕ) (r : Running) → left < n → left < k → steps image n left r ≡ steps image k left r
 unfolding steps
-steps-enough zero k left r h i = absurd (omega arith)
-steps-enough (suc n) zero left r h i = absurd (omega arith)
-steps-enough (suc n) (suc k) left r h i =
-    elim (next left r) as (λ x. IsBelow left x → after (steps n) x ≡ after (steps k) x) [
-      | Runs l q ↦ λ b. steps-enough n k l q (omega arith) (omega arith)
+steps-enough image zero k left r h i = absurd (omega arith)
+steps-enough image (suc n) zero left r h i = absurd (omega arith)
+steps-enough image (suc n) (suc k) left r h i =
+    elim (next image left r) as (λ x. IsBelow left x → after (steps image n) x ≡ after (steps image k) x) [
+      | Runs l q ↦ λ b. steps-enough image n k l q (omega arith) (omega arith)
       | Rests g s ↦ λ b. refl
     ]
-    (next-below left r)
+    (next-below image left r)
 
 -- one step of what is left
-rest-step : (left : ℕ) (r : Running) → rest left r ≡ after (steps left) (next left r)
+rest-step : (image : List ℕ) (left : ℕ) (r : Running) → rest image left r ≡ after (steps image left) (next image left r)
 unfolding rest steps
-rest-step left r = rw add-one refl
+rest-step image left r = rw add-one refl
 
 -- after a step the rest of the turn is the turn on what is left
-pub rest-runs : (left l : ℕ) (r q : Running) → next left r ≡ Runs l q → rest left r ≡ rest l q
+pub rest-runs : (image : List ℕ) (left l : ℕ) (r q : Running) → next image left r ≡ Runs l q → rest image left r ≡ rest image l q
 unfolding rest
-rest-runs left l r q e =
-    let h : l < left = runs-below left l r q e in
-    rest-step left r ∙ (ap (after (steps left)) e ∙ steps-enough left (l + 1) l q h (omega arith))
+rest-runs image left l r q e =
+    let h : l < left = runs-below image left l r q e in
+    rest-step image left r ∙ (ap (after (steps image left)) e ∙ steps-enough image left (l + 1) l q h (omega arith))
 
-pub rest-rests : (left : ℕ) (r : Running) (g : Glk) (s : Stage) → next left r ≡ Rests g s → rest left r ≡ (g, s)
-rest-rests left r g s e = rest-step left r ∙ ap (after (steps left)) e
+pub rest-rests : (image : List ℕ) (left : ℕ) (r : Running) (g : Glk) (s : Stage) → next image left r ≡ Rests g s → rest image left r ≡ (g, s)
+rest-rests image left r g s e = rest-step image left r ∙ ap (after (steps image left)) e
 
 -- a step that fails ends the turn with its fault
-pub rest-stops : (left : ℕ) (r : Running) (g : Glk) (m : Machine) (t : Trap) (x : Result Stage AllocError)
-    → Advances (next left r) g m (Err t) → Stops t x → IfOk x (λ s. (g, s) ≡ rest left r)
-rest-stops left r g m (trap.Fault n) (Ok s) a p =
-    ap (λ (q : Stage). (g, q)) p ∙ sym (rest-rests left r g (stage.Fault n) a)
-rest-stops left r g m (trap.Fault n) (Err e) a p = tt
-rest-stops left r g m trap.NoMemory (Ok s) a p = absurd cc
-rest-stops left r g m trap.NoMemory (Err e) a p = tt
+pub rest-stops : (image : List ℕ) (left : ℕ) (r : Running) (g : Glk) (m : Machine) (t : Trap) (x : Result Stage AllocError)
+    → Advances (next image left r) g m (Err t) → Stops t x → IfOk x (λ s. (g, s) ≡ rest image left r)
+rest-stops image left r g m (trap.Fault n) (Ok s) a p =
+    ap (λ (q : Stage). (g, q)) p ∙ sym (rest-rests image left r g (stage.Fault n) a)
+rest-stops image left r g m (trap.Fault n) (Err e) a p = tt
+rest-stops image left r g m trap.NoMemory (Ok s) a p = absurd cc
+rest-stops image left r g m trap.NoMemory (Err e) a p = tt
+
+-- the characters of a call fit in what is left
+pub charged_advances : (left chars : ℕ) (g : Glk) (m new : Machine) (answer : Called) (r : Result Progress Trap) → chars ≤ left
+    → Advances (done (left - chars) g m answer) g new r → Advances (charged left chars g m answer) g new r
+charged_advances left chars g m new answer r few done_so =
+    let low : nat_lt left chars ≡ false = grind (arith, nat_tests) in
+    subst (λ (b : Bool). Advances (cond b (faults g 24) (done (left - chars) g m answer)) g new r) (sym low) done_so

@@ -1,5 +1,5 @@
 -- What turns keep to (own).
-use Rattle.std.specs.Prelude.{◌≡◌, ◌≢◌, ℕ, ◌+◌, ◌<◌, true, false}
+use Rattle.std.specs.Prelude.{◌≡◌, ◌≢◌, ℕ, ◌+◌, ◌<◌, List, true, false}
 use Rattle.glk_input.specs.declared.input.Input.{Input}
 use Rattle.story_run.specs.Solo.{is_over, is_wanted, turned}
 use Rattle.story_run.specs.Step.{Running}
@@ -11,13 +11,15 @@ use Rattle.story_run.specs.declared.stage.Stage.TheVariants.{Fault}
 
 -- a turn never runs out of steps: any number above the budget comes to the same rest
 abbrev pub TurnsEnd : Type 0
-TurnsEnd = (n budget : ℕ) (r : Running) → budget < n → steps n budget r ≡ rest budget r
+TurnsEnd =
+    (image : List ℕ) (n budget : ℕ) (r : Running)
+    → budget < n → steps image n budget r ≡ rest image budget r
 
 -- a budget does nothing but end turns: one that is kept gives the same turn as any greater one
 abbrev pub BudgetsOnlyEnd : Type 0
 BudgetsOnlyEnd =
-    (budget more : ℕ) (r : Running) (g : Glk) (s : Stage)
-    → rest budget r ≡ (g, s) → s ≢ Fault 24 → rest (budget + more) r ≡ (g, s)
+    (image : List ℕ) (budget more : ℕ) (r : Running) (g : Glk) (s : Stage)
+    → rest image budget r ≡ (g, s) → s ≢ Fault 24 → rest image (budget + more) r ≡ (g, s)
 
 -- a story that is over wants nothing
 abbrev pub OverWantsNothing : Type 0

@@ -1,5 +1,5 @@
 -- One step of a story: the machine's, and then what it asks of Glk (own).
-use Rattle.std.specs.Prelude.{◌≡◌, ℕ, ◌-◌, nat_lt, if◌then◌else◌, Result, Ok, Err}
+use Rattle.std.specs.Prelude.{◌≡◌, ℕ, List, ◌-◌, nat_lt, if◌then◌else◌, Result, Ok, Err}
 use Rattle.vm_exec.specs.Row.{row, told}
 use Rattle.vm_exec.specs.Start.{finished}
 use Rattle.vm_exec.specs.declared.machine.Machine.{Machine}
@@ -69,23 +69,23 @@ answered left g m (Ok x) =
     charged left (x.0.glk.chars - g.chars) x.0.glk (machine_of m x.0) x.1
 answered left g m (Err e) = faults e.0 e.1
 
--- what the machine told
-abbrev pub followed : ℕ → Glk → Machine → Step → Next
-followed left g m (step.Ran cost) = Runs (left - cost) (running g m)
-followed left g m (step.Out code cost) =
+-- what the machine of the story with this image told
+abbrev pub followed : List ℕ → ℕ → Glk → Machine → Step → Next
+followed image left g m (step.Ran cost) = Runs (left - cost) (running g m)
+followed image left g m (step.Out code cost) =
     put (left - cost) m (put_code g m.memory g.streams.current code)
-followed left g m (step.Glk selector args cost) =
+followed image left g m (step.Glk selector args cost) =
     answered (left - cost) g m (called (desk g m.memory m.stack) selector args)
-followed left g m step.Quit = Rests g stage.Quit
+followed image left g m step.Quit = Rests g stage.Quit
 
 -- the machine did a step, or met a fault
-abbrev pub stepped : ℕ → Glk → Result (Machine × Step) ℕ → Next
-stepped left g (Ok x) = followed left g x.0 x.1
-stepped left g (Err n) = faults g n
+abbrev pub stepped : List ℕ → ℕ → Glk → Result (Machine × Step) ℕ → Next
+stepped image left g (Ok x) = followed image left g x.0 x.1
+stepped image left g (Err n) = faults g n
 
--- one step of the story with so many ticks left
-unfoldable pub next : ℕ → Running → Next
-next left r = stepped left r.glk (told left (row r.machine))
+-- one step of the story with this image, with so many ticks left
+unfoldable pub next : List ℕ → ℕ → Running → Next
+next image left r = stepped image left r.glk (told left (row r.machine))
 
 -- The call came to this and left these, as it should, unless memory ran out.
 abbrev pub Advances : Next → Glk → Machine → Result Progress Trap → Type 0

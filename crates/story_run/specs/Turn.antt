@@ -1,5 +1,5 @@
 -- A turn: steps until the story waits or ends, within its budget (own).
-use Rattle.std.specs.Prelude.{◌≡◌, ℕ, zero, suc, ◌+◌, Result, Ok, Err, IfOk, IsErr}
+use Rattle.std.specs.Prelude.{◌≡◌, ℕ, zero, suc, ◌+◌, List, Result, Ok, Err, IfOk, IsErr}
 use Rattle.std.specs.declared.alloc.AllocError.{AllocError}
 use Rattle.vm_exec.specs.Start.{finished}
 use Rattle.vm_exec.specs.declared.machine.Machine.{Machine}
@@ -18,20 +18,20 @@ abbrev pub after : (ℕ → Running → Glk × Stage) → Next → Glk × Stage
 after steps (Runs left r) = steps left r
 after steps (Rests g s) = (g, s)
 
--- at most so many steps, with so many ticks left
-unfoldable pub steps : ℕ → ℕ → Running → Glk × Stage
-steps zero left r = (r.glk, Fault 24)
-steps (suc n) left r = after (steps n) (next left r)
+-- at most so many steps of the story with this image, with so many ticks left
+unfoldable pub steps : List ℕ → ℕ → ℕ → Running → Glk × Stage
+steps image zero left r = (r.glk, Fault 24)
+steps image (suc n) left r = after (steps image n) (next image left r)
 
 -- how a story that runs comes to rest within a budget. Each step takes a tick at least, so the
 -- budget ends before one step more.
-unfoldable pub rest : ℕ → Running → Glk × Stage
-rest budget r = steps (budget + 1) budget r
+unfoldable pub rest : List ℕ → ℕ → Running → Glk × Stage
+rest image budget r = steps image (budget + 1) budget r
 
 -- a machine that was made or resumed runs; else the story ends with the fault
-abbrev pub begun : ℕ → Glk → Result Machine ℕ → Glk × Stage
-begun budget g (Ok m) = rest budget (running g m)
-begun budget g (Err n) = (g, Fault n)
+abbrev pub begun : List ℕ → ℕ → Glk → Result Machine ℕ → Glk × Stage
+begun image budget g (Ok m) = rest image budget (running g m)
+begun image budget g (Err n) = (g, Fault n)
 
 -- a result was stored, or that was a fault
 abbrev pub stored_in : Glk → Result Machine ℕ → Reached (Glk × Machine)
@@ -48,13 +48,13 @@ abbrev pub delivered : Glk → Machine → Input → Reached (Glk × Machine)
 delivered g m input = restarted m (events.answered (desk g m.memory m.stack) input)
 
 -- the story runs on, or ends with a fault
-abbrev pub resumed : ℕ → Reached (Glk × Machine) → Glk × Stage
-resumed budget (Ok x) = rest budget (running x.0 x.1)
-resumed budget (Err e) = (e.0, Fault e.1)
+abbrev pub resumed : List ℕ → ℕ → Reached (Glk × Machine) → Glk × Stage
+resumed image budget (Ok x) = rest image budget (running x.0 x.1)
+resumed image budget (Err e) = (e.0, Fault e.1)
 
 -- a turn on an input, from the delivery on
-abbrev pub turn_on : ℕ → Glk → Machine → Input → Glk × Stage
-turn_on budget g m input = resumed budget (delivered g m input)
+abbrev pub turn_on : List ℕ → ℕ → Glk → Machine → Input → Glk × Stage
+turn_on image budget g m input = resumed image budget (delivered g m input)
 
 -- A trap became this stage: a fault, unless memory ran out.
 abbrev pub Stops : Trap → Result Stage AllocError → Type 0

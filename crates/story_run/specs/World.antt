@@ -1,6 +1,43 @@
 -- A world: a story between two turns (own).
-use Rattle.story_run.specs.declared.world.World.{World}
+use Rattle.std.specs.Prelude.{ℕ, List}
+use Rattle.vm_exec.specs.Machine.{IsFit, IsSound}
+use Rattle.vm_exec.specs.Start.{IsOver}
+use Rattle.vm_exec.specs.declared.machine.Machine.{Machine}
+use Rattle.glk_dispatch.specs.declared.glk.Glk.{Glk}
+use Rattle.story_run.specs.declared.stage.Stage.{Stage}
+use Rattle.story_run.specs.declared.stage.Stage.TheVariants.{AtSelect, AtPrompt, Quit, Fault}
+use Rattle.story_run.specs.declared.step.Progress.{Progress}
+use Rattle.story_run.specs.declared.step.Progress.TheVariants.{Runs, Waits, Prompts, Quits}
 
--- the budget of a turn, the Glk state, the story that waits or how it ended, and the last show
-abbrev pub WorldState : Type 0
-WorldState = World
+-- the image, the budget of a turn, the Glk state, the story that waits or how it ended, and the
+-- last show
+pub record WorldState : Type 0 where
+  pub image : List ℕ
+  pub budget : ℕ
+  pub glk : Glk
+  pub stage : Stage
+  pub last : List ℕ
+
+-- the machine of a story with this image that runs: it is sound
+pub record IsRunning (image : List ℕ) (m : Machine) : Type 0 where
+  pub sound : IsSound m
+  pub over : IsOver image m
+
+-- the machine of one that waits: it is fit
+pub record IsWaiting (image : List ℕ) (m : Machine) : Type 0 where
+  pub fit : IsFit m
+  pub over : IsOver image m
+
+-- where a story with this image waits, its machine is fit and lies over the image
+abbrev pub IsStageOf : List ℕ → Stage → Type 0
+IsStageOf image (AtSelect m) = IsWaiting image m
+IsStageOf image (AtPrompt m) = IsWaiting image m
+IsStageOf image Quit = Unit {0}
+IsStageOf image (Fault n) = Unit {0}
+
+-- after a step the machine is so, unless the story has quit
+abbrev pub StaysOver : List ℕ → Machine → Progress → Type 0
+StaysOver image m (Runs left) = IsRunning image m
+StaysOver image m Waits = IsWaiting image m
+StaysOver image m Prompts = IsWaiting image m
+StaysOver image m Quits = Unit {0}

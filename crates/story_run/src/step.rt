@@ -1,11 +1,13 @@
 //! One step of the story: an instruction, and then what it asks of Glk.
 
-ghost use Rattle.std.specs.Prelude.{◌≡◌};
+ghost use Rattle.std.specs.Prelude.{◌≡◌, IfOk};
 ghost use Rattle.glk_dispatch.specs.Answer.{desk};
 ghost use Rattle.glk_dispatch.specs.Call.{called};
 ghost use Rattle.story_run.specs.Step.{Advances, answered, done, next, running};
+ghost use Rattle.story_run.specs.World.{IsRunning, IsWaiting, StaysOver};
 
 use glk_dispatch::{Called, Glk, call, put_code};
+use glulx_image::Image;
 use std::alloc::Global;
 use vm_exec::{Machine, Step};
 use vm_memory::Trap;
@@ -23,15 +25,19 @@ pub(crate) enum Progress {
     Quits,
 }
 
-/// Does one step with so many ticks left.
+/// Does one step of the story with this image, with so many ticks left.
 #[tactic(auto, unfolding(crate::specs::Step::next))]
-pub(crate) fn advance(
+pub(crate) fn advance<'i>(
     alloc: Global,
     glk: &mut Glk,
-    machine: &mut Machine<'_>,
+    image: &Image<'i>,
+    machine: &mut Machine<'i>,
     left: u64,
 ) -> Result<Progress, Trap>
-    ensures { Advances (next left (running glk.old machine.old)) glk.new machine.new result }
+    requires { IsRunning image.now machine.old }
+    ensures does { Advances (next image.now left (running glk.old machine.old))
+        glk.new machine.new result }
+    ensures kept { IfOk result (λ progress. StaysOver image.now machine.new progress) }
 {
     match machine.step(alloc, left)? {
         Step::Ran(cost) => Ok(Progress::Runs { left: left - cost }),
@@ -44,24 +50,27 @@ pub(crate) fn advance(
             selector,
             args,
             cost,
-        } => call_glk(alloc, glk, machine, selector, args, left - cost),
+        } => call_glk(alloc, glk, image, machine, selector, args, left - cost),
         Step::Quit => Ok(Progress::Quits),
     }
 }
 
 // Does a Glk call and takes the ticks of its characters.
-fn call_glk(
+fn call_glk<'i>(
     alloc: Global,
     glk: &mut Glk,
-    machine: &mut Machine<'_>,
+    image: &Image<'i>,
+    machine: &mut Machine<'i>,
     selector: u32,
     args: u32,
     left: u64,
 ) -> Result<Progress, Trap>
-    ensures { Advances
+    requires { IsWaiting image.now machine.old }
+    ensures does { Advances
         (answered left glk.old machine.old
         (called (desk glk.old machine.old.memory machine.old.stack) selector args))
         glk.new machine.new result }
+    ensures kept { IfOk result (λ progress. StaysOver image.now machine.new progress) }
 {
     let before = glk.chars();
     let answer = call(
@@ -76,18 +85,21 @@ fn call_glk(
     if chars > left {
         return Err(BUDGET);
     }
-    follow(alloc, glk, machine, answer, left - chars)
+    follow(alloc, glk, image, machine, answer, left - chars)
 }
 
 // Stores what a call answers, or ends the turn.
-fn follow(
+fn follow<'i>(
     alloc: Global,
     glk: &Glk,
-    machine: &mut Machine<'_>,
+    image: &Image<'i>,
+    machine: &mut Machine<'i>,
     answer: Called,
     left: u64,
 ) -> Result<Progress, Trap>
-    ensures { Advances (done left glk.now machine.old answer) glk.now machine.new result }
+    requires { IsWaiting image.now machine.old }
+    ensures does { Advances (done left glk.now machine.old answer) glk.now machine.new result }
+    ensures kept { IfOk result (λ progress. StaysOver image.now machine.new progress) }
 {
     match answer {
         Called::Value(value) => {

@@ -1,8 +1,9 @@
 //! A turn: steps until the story waits or ends, within its budget.
 
-ghost use Rattle.std.specs.Prelude.{◌≡◌, IfOk};
+ghost use Rattle.std.specs.Prelude.{◌≡◌, ℕ, List, IfOk, OnOk};
 ghost use Rattle.story_run.specs.Step.{running};
 ghost use Rattle.story_run.specs.Turn.{Resumes, Stops, begun, delivered, rest, turn_on};
+ghost use Rattle.story_run.specs.World.{IsRunning, IsStageOf, IsWaiting};
 ghost use Rattle.vm_exec.specs.Start.{started};
 
 use crate::stage::Stage;
@@ -14,18 +15,22 @@ use std::alloc::{AllocError, Global};
 use vm_exec::Machine;
 use vm_memory::Trap;
 
-// Runs the story until it waits or ends, for at most so many ticks.
+// Runs the story with this image until it waits or ends, for at most so many ticks.
 fn run<'i>(
     alloc: Global,
     glk: &mut Glk,
+    image: &Image<'i>,
     mut machine: Machine<'i>,
     budget: u64,
 ) -> Result<Stage<'i>, AllocError>
-    ensures { IfOk result (λ stage. (glk.new, stage) ≡ rest budget (running glk.old machine.entry)) }
+    requires { IsRunning image.now machine }
+    ensures value { IfOk result (λ stage. (glk.new, stage)
+        ≡ rest image.now budget (running glk.old machine.entry)) }
+    ensures kept { IfOk result (λ stage. IsStageOf image.now stage) }
 {
     let mut left = budget;
     loop {
-        match advance(alloc, glk, &mut machine, left) {
+        match advance(alloc, glk, image, &mut machine, left) {
             Ok(Progress::Runs { left: rest }) => left = rest,
             Ok(Progress::Waits) => return Ok(Stage::AtSelect(machine)),
             Ok(Progress::Prompts) => return Ok(Stage::AtPrompt(machine)),
@@ -37,7 +42,8 @@ fn run<'i>(
 
 // The story is over with a fault; want of memory is an error.
 fn stopped<'i>(trap: Trap) -> Result<Stage<'i>, AllocError>
-    ensures { Stops trap result }
+    ensures ends { Stops trap result }
+    ensures kept { (image : List ℕ) → IfOk result (λ stage. IsStageOf image stage) }
 {
     match trap {
         Trap::Fault(code) => Ok(Stage::Fault(code)),
@@ -53,41 +59,48 @@ pub(crate) fn begin<'i>(
     seed: u64,
     budget: u64,
 ) -> Result<Stage<'i>, AllocError>
-    ensures { IfOk result (λ stage. (glk.new, stage)
-        ≡ begun budget glk.old (started image.now seed)) }
+    ensures value { IfOk result (λ stage. (glk.new, stage)
+        ≡ begun image.now budget glk.old (started image.now seed)) }
+    ensures kept { IfOk result (λ stage. IsStageOf image.now stage) }
 {
     match Machine::start(alloc, image, seed) {
-        Ok(machine) => run(alloc, glk, machine, budget),
+        Ok(machine) => run(alloc, glk, image, machine, budget),
         Err(trap) => stopped(trap),
     }
 }
 
 // Delivers an input, and stores the answer of the call that waited for it.
-fn deliver(
+fn deliver<'i>(
     alloc: Global,
     glk: &mut Glk,
-    machine: &mut Machine<'_>,
+    image: &Image<'i>,
+    machine: &mut Machine<'i>,
     input: &Input,
 ) -> Result<(), Trap>
-    ensures { Resumes (delivered glk.old machine.old input.now) glk.new machine.new result }
+    requires { IsWaiting image.now machine.old }
+    ensures does { Resumes (delivered glk.old machine.old input.now) glk.new machine.new result }
+    ensures kept { OnOk result (IsRunning image.now machine.new) }
 {
     let value = answer(alloc, glk, &mut machine.memory, &mut machine.stack, input)?;
     machine.finish(alloc, value)
 }
 
-/// Delivers an input to a story that waits for it, and runs the story.
+/// Delivers an input to a story with this image that waits for it, and runs the story.
 pub(crate) fn resume<'i>(
     alloc: Global,
     glk: &mut Glk,
+    image: &Image<'i>,
     mut machine: Machine<'i>,
     input: &Input,
     budget: u64,
 ) -> Result<Stage<'i>, AllocError>
-    ensures { IfOk result (λ stage. (glk.new, stage)
-        ≡ turn_on budget glk.old machine.entry input.now) }
+    requires { IsWaiting image.now machine }
+    ensures value { IfOk result (λ stage. (glk.new, stage)
+        ≡ turn_on image.now budget glk.old machine.entry input.now) }
+    ensures kept { IfOk result (λ stage. IsStageOf image.now stage) }
 {
-    match deliver(alloc, glk, &mut machine, input) {
-        Ok(()) => run(alloc, glk, machine, budget),
+    match deliver(alloc, glk, image, &mut machine, input) {
+        Ok(()) => run(alloc, glk, image, machine, budget),
         Err(trap) => stopped(trap),
     }
 }

@@ -2,6 +2,7 @@
 
 ghost use Rattle.std.specs.Prelude.{◌≡◌, ◌+◌, true, IfOk};
 ghost use Rattle.story_run.specs.Solo.{is_over, is_wanted, opening, rested, shown, turned};
+ghost use Rattle.story_run.specs.World.{IsStageOf};
 
 use crate::ends::lines_of;
 use crate::stage::Stage;
@@ -9,17 +10,37 @@ use crate::turn::{begin, resume};
 use crate::{Setup, Steps, Story};
 use glk_dispatch::Glk;
 use glk_input::Input;
+use glulx_image::Image;
 use std::alloc::{AllocError, Global};
+use std::marker::Model;
 use std::sync::ledger::Ledger;
 use story_text::Bytes;
 
-/// A story that waits for its player or is over, with the show of its last turn.
+/// A story that waits for its player or is over, with the show of its last turn, seen by contracts
+/// as a record. Where it waits its machine is fit and lies over its image.
 #[derive(Drop)]
 pub struct World<'i> {
+    image: Image<'i>,
     budget: u64,
     glk: Glk,
     stage: Stage<'i>,
     last: Bytes,
+}
+
+impl<'i> Model for World<'i> {
+    ghost use Rattle.story_run.specs.World.{IsStageOf, WorldState};
+
+    ghost Value = { WorldState };
+
+    ghost view = { λ w. record {
+      image = w.image;
+      budget = w.budget;
+      glk = w.glk;
+      stage = w.stage;
+      last = w.last;
+    } };
+
+    ghost invariant = { λ w. IsStageOf w.image w.stage };
 }
 
 impl<'i> World<'i> {
@@ -30,7 +51,7 @@ impl<'i> World<'i> {
     {
         let mut glk = Glk::new(alloc, setup.cols, setup.rows)?;
         let stage = begin(alloc, &mut glk, &story.image, setup.seed, setup.budget)?;
-        rest(alloc, setup.budget, glk, stage)
+        rest(alloc, story.image.lend(), setup.budget, glk, stage)
     }
 
     /// Whether the story waits for this input: what a window asks for, or at a prompt the name of a
@@ -61,6 +82,7 @@ impl<'i> World<'i> {
     {
         steps.tick();
         let World {
+            image,
             budget,
             mut glk,
             stage,
@@ -68,10 +90,11 @@ impl<'i> World<'i> {
         } = self;
         match stage {
             Stage::AtSelect(machine) | Stage::AtPrompt(machine) => {
-                let stage = resume(alloc, &mut glk, machine, input, budget)?;
-                rest(alloc, budget, glk, stage)
+                let stage = resume(alloc, &mut glk, &image, machine, input, budget)?;
+                rest(alloc, image, budget, glk, stage)
             }
             stage => Ok(World {
+                image,
                 budget,
                 glk,
                 stage,
@@ -100,15 +123,18 @@ impl<'i> World<'i> {
 // The world after a turn that came to rest: its show is made, and then the next may begin.
 fn rest<'i>(
     alloc: Global,
+    image: Image<'i>,
     budget: u64,
     mut glk: Glk,
     stage: Stage<'i>,
 ) -> Result<World<'i>, AllocError>
-    ensures { IfOk result (λ world. world ≡ rested budget (glk, stage.entry)) }
+    requires { IsStageOf image stage }
+    ensures { IfOk result (λ world. world ≡ rested image.entry budget (glk, stage.entry)) }
 {
     let last = Bytes::of(lines_of(alloc, &glk, &stage)?);
     glk.begin_turn();
     Ok(World {
+        image,
         budget,
         glk,
         stage,

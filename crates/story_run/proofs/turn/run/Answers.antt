@@ -4,30 +4,31 @@ use Rattle.story_run.proofs.turn.run.Goals as goal
 
 pub loop-rest-smaller : goal.loop-rest-smaller
 loop-rest-smaller c =
-    let e = rw c.in-Ok-Runs.field-0-is at c.in-Ok-Runs.ensures in
-    runs-below _ _ _ _ e
+    let e = rw c.in-Ok-Runs.field-0-is at c.in-Ok-Runs.ensures.does in
+    runs-below _ _ _ _ _ e
 
 pub loop-rest-preserved : goal.loop-rest-preserved
 loop-rest-preserved c =
-    let e = rw c.in-Ok-Runs.field-0-is at c.in-Ok-Runs.ensures in
-    sym (rest-runs _ _ _ _ e) ∙ c.loop-rest.invariant
+    let e = rw c.in-Ok-Runs.field-0-is at c.in-Ok-Runs.ensures.does in
+    let kept = rw c.in-Ok-Runs.field-0-is at c.in-Ok-Runs.ensures.kept in
+    (sym (rest-runs _ _ _ _ _ e) ∙ c.loop-rest.invariant.0, kept)
 
-pub returns-in-Ok-Waits : goal.returns-in-Ok-Waits
-returns-in-Ok-Waits c =
-    let e = rw c.in-Ok-Waits.field-0-is at c.in-Ok-Waits.ensures in
-    sym (rest-rests _ _ _ _ e) ∙ c.loop-rest.invariant
+pub returns-in-Ok-Waits-clause-value : goal.returns-in-Ok-Waits-clause-value
+returns-in-Ok-Waits-clause-value c =
+    let e = rw c.in-Ok-Waits.field-0-is at c.in-Ok-Waits.ensures.does in
+    sym (rest-rests _ _ _ _ _ e) ∙ c.loop-rest.invariant.0
 
-pub returns-in-Ok-Prompts : goal.returns-in-Ok-Prompts
-returns-in-Ok-Prompts c =
-    let e = rw c.in-Ok-Prompts.field-0-is at c.in-Ok-Prompts.ensures in
-    sym (rest-rests _ _ _ _ e) ∙ c.loop-rest.invariant
+pub returns-in-Ok-Prompts-clause-value : goal.returns-in-Ok-Prompts-clause-value
+returns-in-Ok-Prompts-clause-value c =
+    let e = rw c.in-Ok-Prompts.field-0-is at c.in-Ok-Prompts.ensures.does in
+    sym (rest-rests _ _ _ _ _ e) ∙ c.loop-rest.invariant.0
 
-pub returns-in-Ok-Quits : goal.returns-in-Ok-Quits
-returns-in-Ok-Quits c =
-    let e = rw c.in-Ok-Quits.field-0-is at c.in-Ok-Quits.ensures in
-    sym (rest-rests _ _ _ _ e) ∙ c.loop-rest.invariant
+pub returns-in-Ok-Quits-clause-value : goal.returns-in-Ok-Quits-clause-value
+returns-in-Ok-Quits-clause-value c =
+    let e = rw c.in-Ok-Quits.field-0-is at c.in-Ok-Quits.ensures.does in
+    sym (rest-rests _ _ _ _ _ e) ∙ c.loop-rest.invariant.0
 
-pub returns-in-Err : goal.returns-in-Err
-returns-in-Err c =
-    rw (← c.loop-rest.invariant)
-    (rest-stops _ _ _ c.advance.new.machine _ _ c.in-Err.ensures c.stopped.ensures)
+pub returns-in-Err-clause-value : goal.returns-in-Err-clause-value
+returns-in-Err-clause-value c =
+    rw (← c.loop-rest.invariant.0)
+    (rest-stops _ _ _ _ c.advance.new.machine _ _ c.in-Err.ensures.does c.stopped.ensures.ends)
