@@ -4,6 +4,7 @@ mod files;
 mod glk;
 mod lines;
 mod requests;
+mod saves;
 mod turns;
 
 use crate::memory::{MemoryOutside, MemorySink, MemorySource};
