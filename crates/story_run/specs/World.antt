@@ -6,6 +6,7 @@ use Rattle.vm_exec.specs.declared.machine.Machine.{Machine}
 use Rattle.glk_dispatch.specs.declared.glk.Glk.{Glk}
 use Rattle.story_run.specs.declared.stage.Stage.{Stage}
 use Rattle.story_run.specs.declared.stage.Stage.TheVariants.{AtSelect, AtPrompt, Quit, Fault}
+use Rattle.story_run.specs.declared.world.Held.{Held}
 use Rattle.story_run.specs.declared.step.Progress.{Progress}
 use Rattle.story_run.specs.declared.step.Progress.TheVariants.{Runs, Waits, Prompts, Quits}
 
@@ -17,6 +18,16 @@ pub record WorldState : Type 0 where
   pub glk : Glk
   pub stage : Stage
   pub last : List ℕ
+
+-- the state of what a world holds
+abbrev pub state_of : Held → WorldState
+state_of h = record {
+  image = h.image;
+  budget = h.budget;
+  glk = h.glk;
+  stage = h.stage;
+  last = h.last;
+}
 
 -- the machine of a story with this image that runs: it is sound
 pub record IsRunning (image : List ℕ) (m : Machine) : Type 0 where

@@ -2,7 +2,7 @@
 
 ghost use Rattle.std.specs.Prelude.{◌≡◌, ◌+◌, true, IfOk};
 ghost use Rattle.story_run.specs.Solo.{is_over, is_wanted, opening, rested, shown, turned};
-ghost use Rattle.story_run.specs.World.{IsStageOf};
+ghost use Rattle.story_run.specs.World.{IsStageOf, state_of};
 
 use crate::ends::lines_of;
 use crate::stage::Stage;
@@ -20,6 +20,12 @@ use story_text::Bytes;
 /// as a record. Where it waits its machine is fit and lies over its image.
 #[derive(Drop)]
 pub struct World<'i> {
+    held: Box<Held<'i>>,
+}
+
+/// What a world holds. It stands in a box, so that whoever lets a world go has one thing to drop.
+#[derive(Drop)]
+pub(crate) struct Held<'i> {
     image: Image<'i>,
     budget: u64,
     glk: Glk,
@@ -28,19 +34,13 @@ pub struct World<'i> {
 }
 
 impl<'i> Model for World<'i> {
-    ghost use Rattle.story_run.specs.World.{IsStageOf, WorldState};
+    ghost use Rattle.story_run.specs.World.{IsStageOf, WorldState, state_of};
 
     ghost Value = { WorldState };
 
-    ghost view = { λ w. record {
-      image = w.image;
-      budget = w.budget;
-      glk = w.glk;
-      stage = w.stage;
-      last = w.last;
-    } };
+    ghost view = { λ w. state_of w.held.value };
 
-    ghost invariant = { λ w. IsStageOf w.image w.stage };
+    ghost invariant = { λ w. IsStageOf w.held.value.image w.held.value.stage };
 }
 
 impl<'i> World<'i> {
@@ -60,8 +60,8 @@ impl<'i> World<'i> {
     pub fn wants(&self, input: &Input) -> bool
         ensures value { result ≡ is_wanted self.now input.now }
     {
-        match &self.stage {
-            Stage::AtSelect(_) => self.glk.requests.wants(input),
+        match &self.held.stage {
+            Stage::AtSelect(_) => self.held.glk.requests.wants(input),
             Stage::AtPrompt(_) => matches!(input, Input::File { .. }),
             Stage::Quit | Stage::Fault(_) => false,
         }
@@ -81,25 +81,28 @@ impl<'i> World<'i> {
         ensures cost { steps.new ≡ steps.old + 1 }
     {
         steps.tick();
-        let World {
+        let Held {
             image,
             budget,
             mut glk,
             stage,
             last,
-        } = self;
+        } = Box::into_inner(self.held);
         match stage {
             Stage::AtSelect(machine) | Stage::AtPrompt(machine) => {
                 let stage = resume(alloc, &mut glk, &image, machine, input, budget)?;
                 rest(alloc, image, budget, glk, stage)
             }
-            stage => Ok(World {
-                image,
-                budget,
-                glk,
-                stage,
-                last,
-            }),
+            stage => hold(
+                alloc,
+                Held {
+                    image,
+                    budget,
+                    glk,
+                    stage,
+                    last,
+                },
+            ),
         }
     }
 
@@ -108,7 +111,7 @@ impl<'i> World<'i> {
     pub fn is_over(&self) -> bool
         ensures value { result ≡ is_over self.now }
     {
-        matches!(self.stage, Stage::Quit | Stage::Fault(_))
+        matches!(self.held.stage, Stage::Quit | Stage::Fault(_))
     }
 
     /// The lines of the last turn's show, each with its newline.
@@ -116,7 +119,7 @@ impl<'i> World<'i> {
     pub fn last(&self) -> &[u8]
         ensures value { result.now ≡ shown self.now }
     {
-        self.last.as_slice()
+        self.held.last.as_slice()
     }
 }
 
@@ -133,11 +136,24 @@ fn rest<'i>(
 {
     let last = Bytes::of(lines_of(alloc, &glk, &stage)?);
     glk.begin_turn();
+    hold(
+        alloc,
+        Held {
+            image,
+            budget,
+            glk,
+            stage,
+            last,
+        },
+    )
+}
+
+// The world that holds this.
+fn hold<'i>(alloc: Global, held: Held<'i>) -> Result<World<'i>, AllocError>
+    requires { IsStageOf held.image held.stage }
+    ensures { IfOk result (λ world. world ≡ state_of held.entry) }
+{
     Ok(World {
-        image,
-        budget,
-        glk,
-        stage,
-        last,
+        held: Box::new(alloc, held)?,
     })
 }
