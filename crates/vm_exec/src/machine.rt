@@ -11,7 +11,6 @@ ghost use Rattle.vm_exec.specs.Start.{IsOver, finished, started};
 ghost use Rattle.vm_exec.specs.declared.text.Text.TheVariants as text;
 ghost use Rattle.vm_flow.specs.Call.{called};
 ghost use Rattle.vm_memory.specs.MemoryMap.{origin_of};
-ghost use Rattle.vm_operand.specs.Brief.{OpcodeAt};
 ghost use Rattle.vm_stack.specs.Chain.{Chain, HasFrame};
 
 use crate::perform::width_of;
@@ -25,7 +24,7 @@ use std::alloc::Global;
 use vm_flow::call;
 use vm_heap::Heap;
 use vm_memory::{Memory, Trap};
-use vm_operand::{Dest, Move, Op, decode, decode_brief, opcode_at};
+use vm_operand::{Dest, Op, decode, decode_brief, opcode_at};
 use vm_stack::Stack;
 use vm_string::Cursor;
 use vm_undo::Undo;
@@ -166,25 +165,6 @@ impl<'i> Machine<'i> {
         match opcode_at(&self.memory, self.pc) {
             Ok((op, place)) => self.opcode(alloc, op, place, left),
             Err(_) => self.plain(alloc, left),
-        }
-    }
-
-    // The same where the opcode at the PC is this one.
-    #[inline(always)]
-    fn opcode(&mut self, alloc: Global, op: Op, place: u32, left: u64) -> Result<Step, Trap>
-        requires left { 0 < left }
-        requires here { OpcodeAt self.old.memory self.old.pc op place }
-        requires within { place ≤ 16777216 }
-        ensures does { Does (told left (charged (fetched self.old))) self.new result }
-        ensures fit { IsFit self.old → IfOk result (λ step. GoesOnFit self.new step) }
-        ensures cost { IfOk result (λ step. IsPriced left step) }
-    {
-        match op {
-            Op::Math(op) => self.quick(alloc, Op::Math(op), place, left),
-            Op::Branch(op) => self.quick(alloc, Op::Branch(op), place, left),
-            Op::Move(Move::Copy) => self.quick(alloc, Op::Move(Move::Copy), place, left),
-            Op::Array(op) => self.quick(alloc, Op::Array(op), place, left),
-            _ => self.in_brief(alloc, left),
         }
     }
 

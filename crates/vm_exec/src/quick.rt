@@ -1,15 +1,16 @@
 //! The most common instructions, whose loads leave the machine as it is.
 
-ghost use Rattle.std.specs.Prelude.{◌≡◌, ◌≤◌, ◌<◌, [], ◌∷◌, replicate, IfOk, Ok, Some};
+ghost use Rattle.std.specs.Prelude.{◌≡◌, ◌≤◌, ◌<◌, ◌+◌, [], ◌∷◌, IfOk, Ok, Some};
 ghost use Rattle.vm_exec.specs.Answer.{Does};
 ghost use Rattle.vm_exec.specs.Machine.{GoesOnFit, IsFit};
 ghost use Rattle.vm_exec.specs.Quick.{IsFetched};
 ghost use Rattle.vm_exec.specs.Row as row;
 ghost use Rattle.vm_exec.specs.Row.{IsPriced, charged, fetched, told};
 ghost use Rattle.vm_exec.specs.Rules.{loaded};
+ghost use Rattle.vm_operand.specs.Brief as brief;
 ghost use Rattle.vm_operand.specs.Brief.{OpcodeAt};
 ghost use Rattle.vm_operand.specs.Opcode.{kinds_of};
-ghost use Rattle.vm_operand.specs.declared.operand.Dest.TheVariants.{Discard};
+ghost use Rattle.vm_operand.specs.declared.opcode.Op.TheVariants as op;
 ghost use Rattle.vm_operand.specs.declared.operand.Kind.TheVariants as kind;
 
 use crate::Machine;
@@ -17,7 +18,12 @@ use crate::step::Step;
 use crate::trap::of_stack;
 use std::alloc::Global;
 use vm_memory::Trap;
-use vm_operand::{Dest, Kind, Load, Op, dest_by, load_by};
+use vm_operand::{
+    Array, Branch, Dest, Load, Math, Move, Op, byte_constant, byte_local, dest_by, load_by,
+};
+
+/// What can't be done here; the answer is another body's.
+const NOT_QUICK: Trap = Trap::Fault(0);
 
 /// The values of an instruction's loads, where it stores, and the next address.
 #[derive(Clone, Copy, Debug, PartialEq, Eq)]
@@ -29,10 +35,18 @@ pub(crate) struct Quick {
     pub(crate) next: u32,
 }
 
+/// A load, its value, and the place after its bytes.
+#[derive(Clone, Copy, Debug, PartialEq, Eq)]
+struct Taken {
+    load: Load,
+    value: u32,
+    next: u32,
+}
+
 impl<'i> Machine<'i> {
     /// One tick, and then the instruction at the PC, which has this opcode.
     #[inline(always)]
-    pub(crate) fn quick(
+    pub(crate) fn opcode(
         &mut self,
         alloc: Global,
         op: Op,
@@ -42,12 +56,47 @@ impl<'i> Machine<'i> {
         requires left { 0 < left }
         requires here { OpcodeAt self.old.memory self.old.pc op place }
         requires within { place ≤ 16777216 }
-        requires words { row.width_of (Some op) ≡ 4 }
         ensures does { Does (told left (charged (fetched self.old))) self.new result }
         ensures fit { IsFit self.old → IfOk result (λ step. GoesOnFit self.new step) }
         ensures cost { IfOk result (λ step. IsPriced left step) }
     {
-        match self.quick_loads(op, place) {
+        match op {
+            Op::Math(math) => {
+                let quick = self.quick_math(math, place);
+                self.quick(alloc, Op::Math(math), quick, left)
+            }
+            Op::Branch(branch) => {
+                let quick = self.quick_branch(branch, place);
+                self.quick(alloc, Op::Branch(branch), quick, left)
+            }
+            Op::Move(Move::Copy) => {
+                let quick = self.one_and_store(Op::Move(Move::Copy), place);
+                self.quick(alloc, Op::Move(Move::Copy), quick, left)
+            }
+            Op::Array(array) => {
+                let quick = self.quick_array(array, place);
+                self.quick(alloc, Op::Array(array), quick, left)
+            }
+            _ => self.in_brief(alloc, left),
+        }
+    }
+
+    // One tick, and then the instruction at the PC, whose loads were taken if they could be.
+    #[inline(always)]
+    fn quick(
+        &mut self,
+        alloc: Global,
+        op: Op,
+        quick: Result<Quick, Trap>,
+        left: u64,
+    ) -> Result<Step, Trap>
+        requires left { 0 < left }
+        requires here { IfOk quick (λ q. IsFetched self.old op q) }
+        ensures does { Does (told left (charged (fetched self.old))) self.new result }
+        ensures fit { IsFit self.old → IfOk result (λ step. GoesOnFit self.new step) }
+        ensures cost { IfOk result (λ step. IsPriced left step) }
+    {
+        match quick {
             Ok(quick) => {
                 self.pc = quick.next;
                 let args = [quick.first, quick.second, quick.third, 0, 0, 0, 0, 0];
@@ -57,22 +106,101 @@ impl<'i> Machine<'i> {
         }
     }
 
-    // The loads of an instruction by the kinds of its operands.
     #[inline(always)]
-    fn quick_loads(&self, op: Op, place: u32) -> Result<Quick, Trap>
-        requires here { OpcodeAt self.now.memory self.now.pc op place }
+    fn quick_math(&self, math: Math, place: u32) -> Result<Quick, Trap>
+        requires here { OpcodeAt self.now.memory self.now.pc (op.Math math) place }
         requires within { place ≤ 16777216 }
-        requires words { row.width_of (Some op) ≡ 4 }
-        ensures { IfOk result (λ quick. IsFetched self.now op quick) }
+        ensures { IfOk result (λ quick. IsFetched self.now (op.Math math) quick) }
     {
-        match op.kinds() {
-            [Kind::Load, Kind::Load, Kind::Store] => self.two_and_store(op, place),
-            [Kind::Load, Kind::Load] => self.two(op, place),
-            [Kind::Load, Kind::Load, Kind::Load] => self.three(op, place),
-            [Kind::Load, Kind::Store] => self.one_and_store(op, place),
-            [Kind::Load] => self.one(op, place),
-            _ => Err(Trap::Fault(0)),
+        if math.is_binary() {
+            self.two_and_store(Op::Math(math), place)
+        } else {
+            Err(NOT_QUICK)
         }
+    }
+
+    #[inline(always)]
+    fn quick_branch(&self, branch: Branch, place: u32) -> Result<Quick, Trap>
+        requires here { OpcodeAt self.now.memory self.now.pc (op.Branch branch) place }
+        requires within { place ≤ 16777216 }
+        ensures { IfOk result (λ quick. IsFetched self.now (op.Branch branch) quick) }
+    {
+        match branch.loads() {
+            1 => self.one(Op::Branch(branch), place),
+            2 => self.two(Op::Branch(branch), place),
+            3 => self.three(Op::Branch(branch), place),
+            _ => Err(NOT_QUICK),
+        }
+    }
+
+    #[inline(always)]
+    fn quick_array(&self, array: Array, place: u32) -> Result<Quick, Trap>
+        requires here { OpcodeAt self.now.memory self.now.pc (op.Array array) place }
+        requires within { place ≤ 16777216 }
+        ensures { IfOk result (λ quick. IsFetched self.now (op.Array array) quick) }
+    {
+        if array.reads() {
+            self.two_and_store(Op::Array(array), place)
+        } else {
+            self.three(Op::Array(array), place)
+        }
+    }
+
+    // A load by the number of its mode, with its value where it isn't from the stack.
+    #[inline(always)]
+    fn taken(&self, number: u32, at: u32) -> Result<Taken, Trap>
+        ensures load { IfOk result (λ x.
+            brief.load_by self.now.memory number at ≡ Ok (x.load, x.next)) }
+        ensures value { IfOk result (λ x. loaded 4 self.now x.load ≡ Ok (self.now, x.value)) }
+    {
+        match number {
+            1 => self.taken_constant(at),
+            9 => self.taken_local(at),
+            _ => self.taken_by(number, at),
+        }
+    }
+
+    #[inline(always)]
+    fn taken_constant(&self, at: u32) -> Result<Taken, Trap>
+        ensures load { IfOk result (λ x.
+            brief.load_by self.now.memory 1 at ≡ Ok (x.load, x.next)) }
+        ensures value { IfOk result (λ x. loaded 4 self.now x.load ≡ Ok (self.now, x.value)) }
+    {
+        let value = byte_constant(&self.memory, at)?;
+        Ok(Taken {
+            load: Load::Value(value),
+            value,
+            next: at + 1,
+        })
+    }
+
+    #[inline(always)]
+    fn taken_local(&self, at: u32) -> Result<Taken, Trap>
+        ensures load { IfOk result (λ x.
+            brief.load_by self.now.memory 9 at ≡ Ok (x.load, x.next)) }
+        ensures value { IfOk result (λ x. loaded 4 self.now x.load ≡ Ok (self.now, x.value)) }
+    {
+        let offset = byte_local(&self.memory, at)?;
+        match self.stack.local(offset, 4) {
+            Ok(value) => Ok(Taken {
+                load: Load::Local(offset),
+                value,
+                next: at + 1,
+            }),
+            Err(fault) => Err(of_stack(fault)),
+        }
+    }
+
+    // A load of any mode.
+    #[inline(never)]
+    fn taken_by(&self, number: u32, at: u32) -> Result<Taken, Trap>
+        ensures load { IfOk result (λ x.
+            brief.load_by self.now.memory number at ≡ Ok (x.load, x.next)) }
+        ensures value { IfOk result (λ x. loaded 4 self.now x.load ≡ Ok (self.now, x.value)) }
+    {
+        let (load, next) = load_by(&self.memory, number, at)?;
+        let value = self.value(load)?;
+        Ok(Taken { load, value, next })
     }
 
     // The value of a load that isn't from the stack.
@@ -84,7 +212,7 @@ impl<'i> Machine<'i> {
             Load::Value(value) => Ok(value),
             Load::At(at) => Ok(self.memory.read4(at)?),
             Load::Local(offset) => self.stack.local(offset, 4).map_err(of_stack),
-            Load::Pop => Err(Trap::Fault(4)),
+            Load::Pop => Err(NOT_QUICK),
         }
     }
 
@@ -99,17 +227,15 @@ impl<'i> Machine<'i> {
     {
         let modes = self.memory.read1(place)?;
         let more = self.memory.read1(place + 1)?;
-        let (first, at) = load_by(&self.memory, modes % 16, place + 2)?;
-        let value0 = self.value(first)?;
-        let (second, at) = load_by(&self.memory, modes / 16, at)?;
-        let value1 = self.value(second)?;
-        let (to, at) = dest_by(&self.memory, more % 16, at)?;
+        let first = self.taken(modes % 16, place + 2)?;
+        let second = self.taken(modes / 16, first.next)?;
+        let (to, next) = dest_by(&self.memory, more % 16, second.next)?;
         Ok(Quick {
-            first: value0,
-            second: value1,
+            first: first.value,
+            second: second.value,
             third: 0,
             to,
-            next: at,
+            next,
         })
     }
 
@@ -123,16 +249,14 @@ impl<'i> Machine<'i> {
         ensures { IfOk result (λ quick. IsFetched self.now op quick) }
     {
         let modes = self.memory.read1(place)?;
-        let (first, at) = load_by(&self.memory, modes % 16, place + 1)?;
-        let value0 = self.value(first)?;
-        let (second, at) = load_by(&self.memory, modes / 16, at)?;
-        let value1 = self.value(second)?;
+        let first = self.taken(modes % 16, place + 1)?;
+        let second = self.taken(modes / 16, first.next)?;
         Ok(Quick {
-            first: value0,
-            second: value1,
+            first: first.value,
+            second: second.value,
             third: 0,
             to: Dest::Discard,
-            next: at,
+            next: second.next,
         })
     }
 
@@ -147,18 +271,15 @@ impl<'i> Machine<'i> {
     {
         let modes = self.memory.read1(place)?;
         let more = self.memory.read1(place + 1)?;
-        let (first, at) = load_by(&self.memory, modes % 16, place + 2)?;
-        let value0 = self.value(first)?;
-        let (second, at) = load_by(&self.memory, modes / 16, at)?;
-        let value1 = self.value(second)?;
-        let (third, at) = load_by(&self.memory, more % 16, at)?;
-        let value2 = self.value(third)?;
+        let first = self.taken(modes % 16, place + 2)?;
+        let second = self.taken(modes / 16, first.next)?;
+        let third = self.taken(more % 16, second.next)?;
         Ok(Quick {
-            first: value0,
-            second: value1,
-            third: value2,
+            first: first.value,
+            second: second.value,
+            third: third.value,
             to: Dest::Discard,
-            next: at,
+            next: third.next,
         })
     }
 
@@ -172,15 +293,14 @@ impl<'i> Machine<'i> {
         ensures { IfOk result (λ quick. IsFetched self.now op quick) }
     {
         let modes = self.memory.read1(place)?;
-        let (first, at) = load_by(&self.memory, modes % 16, place + 1)?;
-        let value0 = self.value(first)?;
-        let (to, at) = dest_by(&self.memory, modes / 16, at)?;
+        let first = self.taken(modes % 16, place + 1)?;
+        let (to, next) = dest_by(&self.memory, modes / 16, first.next)?;
         Ok(Quick {
-            first: value0,
+            first: first.value,
             second: 0,
             third: 0,
             to,
-            next: at,
+            next,
         })
     }
 
@@ -194,14 +314,13 @@ impl<'i> Machine<'i> {
         ensures { IfOk result (λ quick. IsFetched self.now op quick) }
     {
         let modes = self.memory.read1(place)?;
-        let (first, at) = load_by(&self.memory, modes % 16, place + 1)?;
-        let value0 = self.value(first)?;
+        let first = self.taken(modes % 16, place + 1)?;
         Ok(Quick {
-            first: value0,
+            first: first.value,
             second: 0,
             third: 0,
             to: Dest::Discard,
-            next: at,
+            next: first.next,
         })
     }
 }

@@ -1,12 +1,13 @@
 //! Instructions in brief: those of at most four loads and then at most one store.
 
 ghost use Rattle.std.specs.Prelude.{◌≡◌, ◌≤◌, ◌+◌, ◌%◌, ◌^◌, [], ◌∷◌};
-ghost use Rattle.std.specs.Prelude.{Ok, IfOk};
+ghost use Rattle.std.specs.Prelude.{Ok, IfOk, OnOk};
 ghost use Rattle.vm_operand.specs.Brief as spec;
 ghost use Rattle.vm_operand.specs.Brief.{instr_of, operands_from};
 ghost use Rattle.vm_operand.specs.Instruction.{instruction_at};
 ghost use Rattle.vm_operand.specs.Opcode.{kinds_of, number_of};
 ghost use Rattle.vm_operand.specs.declared.operand.Kind.TheVariants as kind;
+ghost use Rattle.vm_operand.specs.declared.operand.Load.TheVariants as load;
 
 use crate::OpFault;
 use crate::instruction::number_at;
@@ -38,10 +39,30 @@ pub fn load_by(memory: &Memory<'_>, number: u32, at: u32) -> Result<(Load, u32),
 {
     match number {
         0 => Ok((Load::Value(0), at)),
-        1 => Ok((Load::Value(Width::One.extend(memory.read1(at)?)), at + 1)),
-        9 => Ok((Load::Local(memory.read1(at)?), at + 1)),
+        1 => Ok((Load::Value(byte_constant(memory, at)?), at + 1)),
+        9 => Ok((Load::Local(byte_local(memory, at)?), at + 1)),
         _ => longer_load(memory, number, at),
     }
+}
+
+/// The constant of one byte at the address, as a load of mode 1 has it.
+#[inline(always)]
+#[tactic(auto, unfolding(crate::specs::Mode::mode_of, crate::specs::Mode::modes, crate::specs::Instruction::load_at))]
+pub fn byte_constant(memory: &Memory<'_>, at: u32) -> Result<u32, OpFault>
+    ensures value { IfOk result (λ x. spec.load_by memory.now 1 at ≡ Ok (load.Value x, at + 1)) }
+    ensures within { OnOk result (at + 1 ≤ 16777216) }
+{
+    Ok(Width::One.extend(memory.read1(at)?))
+}
+
+/// The offset of one byte at the address, as a load of mode 9 has it.
+#[inline(always)]
+#[tactic(auto, unfolding(crate::specs::Mode::mode_of, crate::specs::Mode::modes, crate::specs::Instruction::load_at))]
+pub fn byte_local(memory: &Memory<'_>, at: u32) -> Result<u32, OpFault>
+    ensures value { IfOk result (λ x. spec.load_by memory.now 9 at ≡ Ok (load.Local x, at + 1)) }
+    ensures within { OnOk result (at + 1 ≤ 16777216) }
+{
+    Ok(memory.read1(at)?)
 }
 
 // A load of another mode.

@@ -1,8 +1,10 @@
 //! The operands of each opcode.
 
-ghost use Rattle.std.specs.Prelude.{◌≡◌};
+ghost use Rattle.std.specs.Prelude.{◌≡◌, [], ◌∷◌, length, true, false, nat_eq};
 ghost use Rattle.vm_operand.specs.Opcode as spec;
 ghost use Rattle.vm_operand.specs.Opcode.{kinds_of, IsFew};
+ghost use Rattle.vm_operand.specs.declared.opcode.Op.TheVariants as op;
+ghost use Rattle.vm_operand.specs.declared.operand.Kind.TheVariants as kind;
 
 use crate::opcode::{Array, Branch, Flow, Math, Move, Op, Search, State, Stream, System, Values};
 use crate::operand::Kind;
@@ -31,6 +33,29 @@ impl Op {
 }
 
 impl Math {
+    /// Whether it has two loads and a store; the others have one load and a store.
+    #[inline(always)]
+    pub fn is_binary(self) -> bool
+        ensures value { result ≡ nat_eq (length (kinds_of (op.Math self))) 3 }
+        ensures two { result ≡ true
+            → kinds_of (op.Math self) ≡ kind.Load ∷ kind.Load ∷ kind.Store ∷ [] }
+    {
+        match self {
+            Math::Add
+            | Math::Sub
+            | Math::Mul
+            | Math::Div
+            | Math::Mod
+            | Math::Bitand
+            | Math::Bitor
+            | Math::Bitxor
+            | Math::Shiftl
+            | Math::Sshiftr
+            | Math::Ushiftr => true,
+            Math::Neg | Math::Bitnot => false,
+        }
+    }
+
     fn kinds(self) -> &'static [Kind]
         ensures value { result.now ≡ (spec.math_row self).kinds }
         ensures few { IsFew result.now }
@@ -53,6 +78,31 @@ impl Math {
 }
 
 impl Branch {
+    /// How many loads it has.
+    #[inline(always)]
+    pub fn loads(self) -> u32
+        ensures value { result ≡ length (kinds_of (op.Branch self)) }
+        ensures one { result ≡ 1 → kinds_of (op.Branch self) ≡ kind.Load ∷ [] }
+        ensures two { result ≡ 2 → kinds_of (op.Branch self) ≡ kind.Load ∷ kind.Load ∷ [] }
+        ensures three { result ≡ 3
+            → kinds_of (op.Branch self) ≡ kind.Load ∷ kind.Load ∷ kind.Load ∷ [] }
+    {
+        match self {
+            Branch::Jump | Branch::Jumpabs => 1,
+            Branch::Jz | Branch::Jnz => 2,
+            Branch::Jeq
+            | Branch::Jne
+            | Branch::Jlt
+            | Branch::Jge
+            | Branch::Jgt
+            | Branch::Jle
+            | Branch::Jltu
+            | Branch::Jgeu
+            | Branch::Jgtu
+            | Branch::Jleu => 3,
+        }
+    }
+
     fn kinds(self) -> &'static [Kind]
         ensures value { result.now ≡ (spec.branch_row self).kinds }
         ensures few { IsFew result.now }
@@ -103,6 +153,20 @@ impl Move {
 }
 
 impl Array {
+    /// Whether it reads an element into a store; the others write one.
+    #[inline(always)]
+    pub fn reads(self) -> bool
+        ensures two { result ≡ true
+            → kinds_of (op.Array self) ≡ kind.Load ∷ kind.Load ∷ kind.Store ∷ [] }
+        ensures three { result ≡ false
+            → kinds_of (op.Array self) ≡ kind.Load ∷ kind.Load ∷ kind.Load ∷ [] }
+    {
+        match self {
+            Array::Aload | Array::Aloads | Array::Aloadb | Array::Aloadbit => true,
+            Array::Astore | Array::Astores | Array::Astoreb | Array::Astorebit => false,
+        }
+    }
+
     fn kinds(self) -> &'static [Kind]
         ensures value { result.now ≡ (spec.array_row self).kinds }
         ensures few { IsFew result.now }

@@ -15,7 +15,7 @@ mod tests;
 
 pub use arithmetic::arith;
 pub use branches::holds;
-pub use brief::{Brief, decode_brief, dest_by, load_by, opcode_at};
+pub use brief::{Brief, byte_constant, byte_local, decode_brief, dest_by, load_by, opcode_at};
 pub use fault::OpFault;
 pub use instruction::{Instr, decode};
 pub use opcode::{Array, Branch, Flow, Math, Move, Op, Search, State, Stream, System, Values};

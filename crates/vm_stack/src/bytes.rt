@@ -23,6 +23,15 @@ pub(crate) fn number(bytes: &[u8], at: usize, width: u32) -> u32
     }
 }
 
+// The number of four bytes at a place where they all stand.
+#[inline(always)]
+pub(crate) fn word(bytes: &[u8], at: usize) -> u32
+    requires { at + 4 ≤ length bytes.now }
+    ensures { result ≡ state.number 4 bytes.now at }
+{
+    BigEndian::read_u32(&bytes[at..])
+}
+
 // Puts the bytes after the first of a buffer.
 #[inline(always)]
 pub(crate) fn append(buf: &mut [u8], len: usize, new: &[u8])

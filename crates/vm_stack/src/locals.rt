@@ -6,7 +6,7 @@ ghost use Rattle.vm_stack.specs.StackState as state;
 ghost use Rattle.vm_stack.specs.Locals as locals;
 ghost use Rattle.vm_stack.specs.Chain.{Chain};
 
-use crate::bytes::number;
+use crate::bytes::{number, word};
 use crate::fault::StackFault;
 use crate::stack::Stack;
 
@@ -18,10 +18,11 @@ impl Stack {
         requires { locals.IsWidth width }
         ensures { result ≡ locals.local self.now offset width }
     {
-        if self.locals_len() < offset as usize + width as usize {
+        let (length, begin) = self.locals_span();
+        if length < offset as usize + width as usize {
             return Err(StackFault::BadLocal);
         }
-        Ok(number(self.live(), self.locals_at() + offset as usize, width))
+        Ok(number(self.live(), begin + offset as usize, width))
     }
 
     /// Sets the local of 1, 2 or 4 bytes at an offset from LocalsPos to the low bytes of a value.
@@ -35,33 +36,28 @@ impl Stack {
         ensures kept { Chain self.old → OnOk result (Chain self.new) }
         ensures size { OnOk result (length self.new.bytes ≡ length self.old.bytes) }
     {
-        if self.locals_len() < offset as usize + width as usize {
+        let (length, begin) = self.locals_span();
+        if length < offset as usize + width as usize {
             return Err(StackFault::BadLocal);
         }
-        let at = self.locals_at() + offset as usize;
+        let at = begin + offset as usize;
         self.put_number(at, width, value);
         Ok(())
     }
 
-    // How many bytes the locals have, with the padding at their end.
+    // How many bytes the locals have, with the padding at their end, and where they begin.
     #[inline(always)]
-    fn locals_len(&self) -> usize
-        ensures value { result ≡ state.frame_len self.now - state.locals_pos self.now }
-        ensures limit { result < 4294967296 }
+    fn locals_span(&self) -> (usize, usize)
+        ensures length { result.0 ≡ state.frame_len self.now - state.locals_pos self.now }
+        ensures short { result.0 < 4294967296 }
+        ensures begin { result.1 ≡ self.now.frame + state.locals_pos self.now }
+        ensures limit { result.1 < 8589934592 }
     {
-        let bytes = self.live();
-        let length = number(bytes, self.frame() as usize, 4);
-        let begin = number(bytes, self.frame() as usize + 4, 4);
-        length.saturating_sub(begin) as usize
-    }
-
-    // Where the locals begin.
-    #[inline(always)]
-    fn locals_at(&self) -> usize
-        ensures value { result ≡ self.now.frame + state.locals_pos self.now }
-        ensures limit { result < 8589934592 }
-    {
-        self.frame() as usize + number(self.live(), self.frame() as usize + 4, 4) as usize
+        let (length, begin) = frame_head(self.live(), self.frame() as usize);
+        (
+            length.saturating_sub(begin) as usize,
+            self.frame() as usize + begin as usize,
+        )
     }
 
     // Puts the low bytes of a number at a place.
@@ -77,5 +73,19 @@ impl Stack {
             2 => self.replace(at, &((value & 0xffff) as u16).to_be_bytes()),
             _ => self.replace(at, &value.to_be_bytes()),
         }
+    }
+}
+
+// FrameLen and LocalsPos of the frame at a place.
+#[inline(always)]
+fn frame_head(bytes: &[u8], frame: usize) -> (u32, u32)
+    requires { frame < 4294967296 }
+    ensures length { result.0 ≡ state.number 4 bytes.now frame }
+    ensures begin { result.1 ≡ state.number 4 bytes.now (frame + 4) }
+{
+    if 8 <= bytes.len() && frame <= bytes.len() - 8 {
+        (word(bytes, frame), word(bytes, frame + 4))
+    } else {
+        (number(bytes, frame, 4), number(bytes, frame + 4, 4))
     }
 }

@@ -5,6 +5,6 @@ use Rattle.vm_exec.proofs.machine.Machine.three.Goals as goal
 pub returns : goal.returns
 returns c =
     fetched_three c.args.self.now c.args.op c.args.place c.in_ok-modes.modes c.in_ok-more.more
-    (c.in_ok-first.first, c.in_ok-first.at) (c.in_ok-second.second, c.in_ok-second.at) (c.in_ok-third.third, c.in_ok-third.at) c.in_ok-value0.value0 c.in_ok-value1.value1 c.in_ok-value2.value2
+    (c.in_ok-first.first.load, c.in_ok-first.first.next) (c.in_ok-second.second.load, c.in_ok-second.second.next) (c.in_ok-third.third.load, c.in_ok-third.third.next) c.in_ok-first.first.value c.in_ok-second.second.value c.in_ok-third.third.value
     c.requires.here c.requires.kinds c.requires.words (sym c.in_ok-modes.ensures.value) (sym c.in_ok-more.ensures.value)
-    c.in_ok-first.ensures c.in_ok-second.ensures c.in_ok-third.ensures c.in_ok-value0.ensures c.in_ok-value1.ensures c.in_ok-value2.ensures
+    c.in_ok-first.ensures.load c.in_ok-second.ensures.load c.in_ok-third.ensures.load c.in_ok-first.ensures.value c.in_ok-second.ensures.value c.in_ok-third.ensures.value

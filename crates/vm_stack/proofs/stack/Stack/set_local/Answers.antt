@@ -8,8 +8,8 @@ use Rattle.vm_stack.proofs.stack.Stack.set_local.Goals as goal
 pub returns-clause-kept : goal.returns-clause-kept
 returns-clause-kept c = λ chain.
     let inside : c.args.offset + c.args.width ≤ frame_len c.args.self.now - locals_pos c.args.self.now =
-    rw (← c.locals_len.ensures.value) c.if-locals_len-offset.false in
-    let at : c.locals_at.result + c.args.offset ≡ local_at c.args.self.now c.args.offset = ap (λ (n : ℕ). n + c.args.offset) c.locals_at.ensures.value in
+    rw (← c.locals_span-length.ensures.length) c.if-length-offset.false in
+    let at : c.locals_span-length.result.1 + c.args.offset ≡ local_at c.args.self.now c.args.offset = ap (λ (n : ℕ). n + c.args.offset) c.locals_span-length.ensures.begin in
     let size = length_word c.args.width c.args.value in
     rw (c.put_number.ensures, at)
     (set_keeps c.args.self.now c.args.offset (big_bytes c.args.width c.args.value) (rw size inside) chain
@@ -18,4 +18,4 @@ returns-clause-kept c = λ chain.
 pub returns-clause-size : goal.returns-clause-size
 returns-clause-size c =
     ap (λ (s : StackState). length s.bytes) c.put_number.ensures
-    ∙ length_replaced c.args.self.now.bytes (c.locals_at.result + c.args.offset) (big_bytes c.args.width c.args.value)
+    ∙ length_replaced c.args.self.now.bytes (c.locals_span-length.result.1 + c.args.offset) (big_bytes c.args.width c.args.value)
