@@ -1,8 +1,10 @@
 -- The reply to a request, and the command that it makes a session accept (own).
-use Rattle.std.specs.Prelude.{ℕ, Bool, if◌then◌else◌, List, [], ◌∷◌, ◌++◌, Option, Some, None, codes}
+use Rattle.std.specs.Prelude.{ℕ, Bool, if◌then◌else◌, List, [], ◌∷◌, ◌++◌, Option}
+use Rattle.std.specs.Prelude.{Some, None, codes}
 use Rattle.gate_journal.specs.declared.command.Command.{Command}
 use Rattle.line_words.specs.declared.request.Request.{Request}
-use Rattle.line_words.specs.declared.request.Request.TheVariants.{Open, Line, Char, File, Last, Close}
+use Rattle.line_words.specs.declared.request.Request.TheVariants.{Open, Line, Char, File, Last}
+use Rattle.line_words.specs.declared.request.Request.TheVariants.{Close}
 use Rattle.line_words.specs.declared.reply.No.{No}
 use Rattle.line_words.specs.declared.reply.No.TheVariants as no
 use Rattle.line_words.specs.declared.reply.Reply.{Reply}
@@ -12,7 +14,9 @@ use Rattle.story_run.specs.World.{WorldState}
 use Rattle.story_run.specs.Solo.{shown}
 use Rattle.session_core.specs.declared.decision.Decision.{Decision}
 use Rattle.session_core.specs.History.{game_of, count, is_in_use, world_of}
-use Rattle.session_core.specs.Checks.{session_of, command_of, is_fresh, is_absent, is_taken, is_missing, is_changed, is_early, is_different, is_ahead, comes_late, is_unwanted, is_full}
+use Rattle.session_core.specs.Checks.{session_of, command_of, is_fresh, is_absent, is_taken}
+use Rattle.session_core.specs.Checks.{is_missing, is_changed, is_early, is_different, is_ahead}
+use Rattle.session_core.specs.Checks.{comes_late, is_unwanted, is_full}
 
 -- the first refusal whose check holds
 abbrev pub first_of : List (Bool × No) → Option No
@@ -78,13 +82,15 @@ shown_number game (Last s key) = count game
 shown_number game (Close s key n) = n
 
 -- the reply of a request that isn't refused: the show that the session then has
-abbrev pub show_reply : List Story → List Command → List Command → Option Command → Request → Reply
+abbrev pub show_reply : List Story → List Command → List Command → Option Command → Request
+    → Reply
 show_reply stories history game accepted request =
     replies.Show (session_of request) (shown_number game request)
     (show_of stories (game_of (extended history accepted)))
 
 -- the reply and the accepted command, by the refusal if there is one
-abbrev pub decided : List Story → List Command → List Command → Request → Option No → Decision
+abbrev pub decided : List Story → List Command → List Command → Request → Option No
+    → Decision
 decided stories history game request (Some why) =
     record { reply = replies.No why; accepted = None }
 decided stories history game request None =

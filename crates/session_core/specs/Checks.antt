@@ -1,15 +1,19 @@
 -- The checks of a request against a session's game, each by its reply (own).
-use Rattle.std.specs.Prelude.{ℕ, ◌+◌, Bool, true, false, ◌&&◌, ◌||◌, ◌==◌, not, nat_lt, nat_le, List, [], ◌∷◌, length, is_none, Option, Some, None}
+use Rattle.std.specs.Prelude.{ℕ, ◌+◌, Bool, true, false, ◌&&◌, ◌||◌, ◌==◌, not}
+use Rattle.std.specs.Prelude.{nat_lt, nat_le, List, [], ◌∷◌, length, is_none, Option, Some}
+use Rattle.std.specs.Prelude.{None}
 use Rattle.std.specs.Str.{bytes_eq}
 use Rattle.glk_input.specs.declared.input.Input.{Input}
 use Rattle.gate_journal.specs.declared.command.Command.{Command}
 use Rattle.gate_journal.specs.declared.command.Command.TheVariants as commands
 use Rattle.line_words.specs.declared.request.Request.{Request}
-use Rattle.line_words.specs.declared.request.Request.TheVariants.{Open, Line, Char, File, Last, Close}
+use Rattle.line_words.specs.declared.request.Request.TheVariants.{Open, Line, Char, File, Last}
+use Rattle.line_words.specs.declared.request.Request.TheVariants.{Close}
 use Rattle.story_run.specs.declared.story.Story.{Story}
 use Rattle.story_run.specs.World.{WorldState}
 use Rattle.story_run.specs.Solo.{is_over, is_wanted}
-use Rattle.session_core.specs.History.{story_at, count, last_of, is_in_use, has_key, input_of, world_of}
+use Rattle.session_core.specs.History.{story_at, count, last_of, is_in_use, has_key, input_of}
+use Rattle.session_core.specs.History.{world_of}
 
 -- a request's session
 abbrev pub session_of : Request → ℕ
@@ -51,7 +55,8 @@ opened None command = None
 -- the command that a request asks to be accepted; LAST asks for none
 abbrev pub command_of : List Story → Request → Option Command
 command_of stories (Open s key story seed cols rows budget) =
-    opened (story_at stories story) (λ digest. commands.Open key story digest seed cols rows budget)
+    opened (story_at stories story)
+    (λ digest. commands.Open key story digest seed cols rows budget)
 command_of stories (Line s key n win text term) = Some (commands.Line win term text)
 command_of stories (Char s key n win code) = Some (commands.Char win code)
 command_of stories (File s key n name) = Some (commands.File name)

@@ -1,5 +1,6 @@
 -- A session's replies are its own: the lines of others change nothing of them (own).
-use Rattle.std.specs.Prelude.{◌≡◌, ℕ, Bool, false, ◌==◌, if◌then◌else◌, List, [], ◌∷◌, filter, length, Option, Some, None}
+use Rattle.std.specs.Prelude.{◌≡◌, ℕ, Bool, false, ◌==◌, if◌then◌else◌, List, []}
+use Rattle.std.specs.Prelude.{◌∷◌, filter, length, Option, Some, None}
 use Rattle.gate_journal.specs.declared.command.Command.{Command}
 use Rattle.line_words.specs.declared.request.Request.{Request}
 use Rattle.line_words.specs.declared.reply.Reply.{Reply}
@@ -18,7 +19,8 @@ abbrev pub is_on : ℕ → List ℕ → Bool
 is_on s line = names s (request_of line)
 
 -- of the replies to all these lines, those to the lines of one session
-abbrev pub replies_on : ℕ → List Story → ℕ → List (List Command) → List (List ℕ) → List Reply
+abbrev pub replies_on : ℕ → List Story → ℕ → List (List Command) → List (List ℕ)
+    → List Reply
 replies_on s stories budget histories [] = []
 replies_on s stories budget histories (line ∷ lines) =
     if is_on s line

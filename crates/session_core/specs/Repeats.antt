@@ -10,10 +10,11 @@ use Rattle.session_core.specs.Answer.{answer}
 abbrev pub again : Decision → Decision
 again decision = record decision { accepted = None }
 
--- A request that was accepted, given again right after, gets the same reply, and the session accepts
--- nothing more.
+-- A request that was accepted, given again right after, gets the same reply, and the session
+-- accepts nothing more.
 abbrev pub RepeatsChangeNothing : Type 0
 RepeatsChangeNothing =
     (stories : List Story) (history : List Command) (request : Request) (command : Command)
     → (answer stories history request).accepted ≡ Some command
-    → answer stories (history ++ command ∷ []) request ≡ again (answer stories history request)
+    → answer stories (history ++ command ∷ []) request
+    ≡ again (answer stories history request)

@@ -1,5 +1,6 @@
 -- Many sessions, each with its history: a line goes to the session that it names (own).
-use Rattle.std.specs.Prelude.{ℕ, if◌then◌else◌, List, [], ◌∷◌, ◌++◌, Option, Some, None, slice_index_or, slice_set}
+use Rattle.std.specs.Prelude.{ℕ, if◌then◌else◌, List, [], ◌∷◌, ◌++◌, Option, Some}
+use Rattle.std.specs.Prelude.{None, slice_index_or, slice_set}
 use Rattle.gate_journal.specs.declared.command.Command.{Command}
 use Rattle.line_words.specs.declared.request.Request.{Request}
 use Rattle.line_words.specs.declared.request.Request.TheVariants.{Open}
@@ -34,13 +35,15 @@ accepting histories s (Some command) =
 accepting histories s None = histories
 
 -- the reply to a line, by the request that it spells
-abbrev pub reply_of : List Story → ℕ → List (List Command) → List ℕ → Option Request → Reply
+abbrev pub reply_of : List Story → ℕ → List (List Command) → List ℕ → Option Request
+    → Reply
 reply_of stories budget histories line (Some request) =
     (answer_of stories budget histories request).reply
 reply_of stories budget histories line None = No (if is_long line then LongLine else BadLine)
 
 -- the histories after a line, by the request that it spells
-abbrev pub histories_of : List Story → ℕ → List (List Command) → Option Request → List (List Command)
+abbrev pub histories_of : List Story → ℕ → List (List Command) → Option Request
+    → List (List Command)
 histories_of stories budget histories (Some request) =
     accepting histories (session_of request) (answer_of stories budget histories request).accepted
 histories_of stories budget histories None = histories
@@ -51,12 +54,14 @@ reply_to stories budget histories line =
     reply_of stories budget histories line (request_of line)
 
 -- the histories after a line
-abbrev pub after_line : List Story → ℕ → List (List Command) → List ℕ → List (List Command)
+abbrev pub after_line : List Story → ℕ → List (List Command) → List ℕ
+    → List (List Command)
 after_line stories budget histories line =
     histories_of stories budget histories (request_of line)
 
 -- the replies to lines, one after the other
-abbrev pub replies_to : List Story → ℕ → List (List Command) → List (List ℕ) → List Reply
+abbrev pub replies_to : List Story → ℕ → List (List Command) → List (List ℕ)
+    → List Reply
 replies_to stories budget histories [] = []
 replies_to stories budget histories (line ∷ lines) =
     reply_to stories budget histories line

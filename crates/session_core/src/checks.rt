@@ -2,7 +2,10 @@
 
 ghost use Rattle.std.specs.Prelude.{◌≡◌, ◌≤◌, length, IfOk, Some, None, MatchOption};
 ghost use Rattle.session_core.specs.History.{game_of, count, is_in_use, has_key, last_of};
-ghost use Rattle.session_core.specs.Checks.{session_of, key_of, number_of, is_fresh, is_known, is_absent, is_own_open, is_taken, is_missing, is_other_story, is_changed, is_early, is_different, is_ahead};
+ghost use Rattle.session_core.specs.Checks.{session_of, key_of, number_of, is_fresh, is_known};
+ghost use Rattle.session_core.specs.Checks.{is_absent, is_own_open, is_taken, is_missing};
+ghost use Rattle.session_core.specs.Checks.{is_other_story, is_changed, is_early, is_different};
+ghost use Rattle.session_core.specs.Checks.{is_ahead};
 
 use crate::history::{count, is_in_use, story_at};
 use crate::same::is_last;

@@ -3,7 +3,9 @@
 ghost use Rattle.std.specs.Prelude.{◌≡◌, ◌≤◌, ◌<◌, length, IfOk, IfSome};
 ghost use Rattle.session_core.specs.History.{game_of};
 ghost use Rattle.session_core.specs.Checks.{command_of, session_of};
-ghost use Rattle.session_core.specs.Answer.{answer, first_of, plain_checks, story_checks, refusal_of, accepted_by, extended, show_of, shown_number};
+ghost use Rattle.session_core.specs.Answer.{answer, first_of, plain_checks, story_checks};
+ghost use Rattle.session_core.specs.Answer.{refusal_of, accepted_by, extended, show_of};
+ghost use Rattle.session_core.specs.Answer.{shown_number};
 
 use crate::checks::{
     is_absent, is_ahead, is_changed, is_different, is_early, is_fresh, is_missing, is_taken,
@@ -87,7 +89,8 @@ fn story_refusal(
     request: &Request,
 ) -> Result<Option<No>, AllocError>
     requires { length game.now ≤ 8192 }
-    ensures { IfOk result (λ why. why ≡ first_of (story_checks stories.now game.now request.now)) }
+    ensures { IfOk result (λ why. why
+        ≡ first_of (story_checks stories.now game.now request.now)) }
 {
     if !is_fresh(game, request) {
         return Ok(None);
@@ -149,7 +152,8 @@ fn refusal_of(
     request: &Request,
 ) -> Result<Option<No>, AllocError>
     requires { length game.now ≤ 8192 }
-    ensures { IfOk result (λ why. why ≡ refusal_of stories.now history.now game.now request.now) }
+    ensures { IfOk result (λ why. why
+        ≡ refusal_of stories.now history.now game.now request.now) }
 {
     if let Some(why) = plain_refusal(stories, game, request) {
         return Ok(Some(why));
@@ -239,8 +243,10 @@ pub fn decide(
     request: &Request,
 ) -> Result<Decision, AllocError>
     requires { length history.now ≤ 8192 }
-    ensures value { IfOk result (λ decision. decision ≡ answer stories.now history.now request.now) }
-    ensures within { IfOk result (λ decision. IfSome decision.accepted (λ _. length history.now < 8192)) }
+    ensures value { IfOk result
+        (λ decision. decision ≡ answer stories.now history.now request.now) }
+    ensures within { IfOk result
+        (λ decision. IfSome decision.accepted (λ _. length history.now < 8192)) }
 {
     let game = game_of(history);
     if let Some(why) = refusal_of(alloc, stories, history, game, request)? {

@@ -8,7 +8,8 @@ use story_run::Story;
 
 /// The story of a number.
 pub fn story_at<'a, 'i>(stories: &'a [Story<'i>], number: u32) -> Option<&'a Story<'i>>
-    ensures { MatchOption result (story_at stories.now number ≡ None) (λ story. story_at stories.now number ≡ Some story.now) }
+    ensures { MatchOption result (story_at stories.now number ≡ None)
+        (λ story. story_at stories.now number ≡ Some story.now) }
 {
     if number < 65536 {
         stories.get(number as usize)

@@ -1,7 +1,9 @@
 //! Many sessions, each with its history (own).
 
-ghost use Rattle.std.specs.Prelude.{◌≡◌, ◌≤◌, ◌<◌, All, [], replicate, length, IfOk, IfSome, OnOk, OnErr};
-ghost use Rattle.session_core.specs.Sessions.{with_budget, history_of, accepting, reply_to, after_line};
+ghost use Rattle.std.specs.Prelude.{◌≡◌, ◌≤◌, ◌<◌, All, [], replicate, length};
+ghost use Rattle.std.specs.Prelude.{IfOk, IfSome, OnOk, OnErr};
+ghost use Rattle.session_core.specs.Sessions.{with_budget, history_of, accepting, reply_to};
+ghost use Rattle.session_core.specs.Sessions.{after_line};
 
 use crate::checks::session_of;
 use crate::commands::Commands;
@@ -102,7 +104,8 @@ impl Sessions {
         budget: u64,
         line: &[u8],
     ) -> Result<Reply, AllocError>
-        ensures reply { IfOk result (λ reply. reply ≡ reply_to stories.now budget self.old line.now) }
+        ensures reply { IfOk result
+            (λ reply. reply ≡ reply_to stories.now budget self.old line.now) }
         ensures kept { OnOk result (self.new ≡ after_line stories.now budget self.old line.now) }
         ensures err { OnErr result (self.new ≡ self.old) }
     {

@@ -66,7 +66,8 @@ fn play<'i, L: Ledger>(
     requires name { blank.name ≡ L.name }
     requires parts { blank.parts ≡ L.parts }
     requires one { L.parts ≡ 1 }
-    ensures { IfOk result (λ world. world ≡ world_after story.now.image setup (filter_map input_of after.now)) }
+    ensures { IfOk result (λ world. world
+        ≡ world_after story.now.image setup (filter_map input_of after.now)) }
 {
     let mut steps = Steps::<L>::new(blank);
     let mut world = World::start(alloc, story, setup)?;

@@ -19,7 +19,8 @@ TurnsEnd =
 abbrev pub BudgetsOnlyEnd : Type 0
 BudgetsOnlyEnd =
     (image : List ℕ) (budget more : ℕ) (r : Running) (g : Glk) (s : Stage)
-    → rest image budget r ≡ (g, s) → s ≢ Fault 24 → rest image (budget + more) r ≡ (g, s)
+    → rest image budget r ≡ (g, s) → s ≢ Fault 24
+    → rest image (budget + more) r ≡ (g, s)
 
 -- a story that is over wants nothing
 abbrev pub OverWantsNothing : Type 0

@@ -1,5 +1,6 @@
 -- Saves in a story's streams (Glulx 3.1.3, "Game State"; what they answer is own).
-use Rattle.std.specs.Prelude.{◌≡◌, ℕ, zero, suc, ◌++◌, ◌==◌, ◌&&◌, Bool, true, false, not}
+use Rattle.std.specs.Prelude.{◌≡◌, ℕ, zero, suc, ◌++◌, ◌==◌, ◌&&◌, Bool, true}
+use Rattle.std.specs.Prelude.{false, not}
 use Rattle.std.specs.Prelude.{if◌then◌else◌}
 use Rattle.std.specs.Prelude.{List, [], ◌∷◌, Option, Some, None, Result, Ok, Err}
 use Rattle.vm_memory.specs.MemoryMap.{MemoryMap}
@@ -34,7 +35,8 @@ put_byte g m n byte =
     within p.0 (place_of p.0 n) >>= (λ behind. Ok (p.0, p.1, not (behind == before)))))
 
 -- bytes put one by one, and whether all were kept, those before too
-abbrev pub put_bytes : Glk → MemoryMap → ℕ → Bool → List ℕ → Reached (Glk × MemoryMap × Bool)
+abbrev pub put_bytes : Glk → MemoryMap → ℕ → Bool → List ℕ
+    → Reached (Glk × MemoryMap × Bool)
 put_bytes g m n kept [] = Ok (g, m, kept)
 put_bytes g m n kept (b ∷ bs) =
     put_byte g m n b >>= (λ p. put_bytes p.0 p.1 n (kept && p.2) bs)
@@ -53,13 +55,15 @@ saved image g m n =
     else ended g m 1
 
 -- what follows a character of a stream, whose low byte is taken, or `?` above 255
-abbrev pub rest_on : (Glk → List ℕ → Reached (Glk × List ℕ)) → Glk → List ℕ → Option ℕ
+abbrev pub rest_on : (Glk → List ℕ → Reached (Glk × List ℕ)) → Glk → List ℕ
+    → Option ℕ
     → Reached (Glk × List ℕ)
 rest_on rest g bytes None = Ok (g, bytes)
 rest_on rest g bytes (Some code) = rest g (bytes ++ (taken false code ∷ []))
 
 -- the characters of a stream from its position to its end, at most so many, behind these bytes
-unfoldable pub rest_of : ℕ → Glk → MemoryMap → ℕ → List ℕ → Reached (Glk × List ℕ)
+unfoldable pub rest_of : ℕ → Glk → MemoryMap → ℕ → List ℕ
+    → Reached (Glk × List ℕ)
 rest_of zero g m n bytes = Ok (g, bytes)
 rest_of (suc most) g m n bytes =
     got_code g m n >>= (λ p. rest_on (λ h read. rest_of most h m n read) p.0 bytes p.1)
@@ -80,7 +84,8 @@ restored image g m n =
     else ended g m 1
 
 -- The call left these, as it should, unless memory ran out.
-abbrev pub Leaves : Reached (Glk × Machine) → Glk → Machine → Result (Unit {0}) Trap → Type 0
+abbrev pub Leaves : Reached (Glk × Machine) → Glk → Machine → Result (Unit {0}) Trap
+    → Type 0
 Leaves should g m (Ok x) = should ≡ Ok (g, m)
 Leaves should g m (Err (trap.Fault n)) = should ≡ Err (g, n)
 Leaves should g m (Err trap.NoMemory) = Unit {0}

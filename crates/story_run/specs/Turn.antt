@@ -1,5 +1,6 @@
 -- A turn: steps until the story waits or ends, within its budget (own).
-use Rattle.std.specs.Prelude.{◌≡◌, ℕ, zero, suc, ◌+◌, List, Result, Ok, Err, IfOk, IsErr}
+use Rattle.std.specs.Prelude.{◌≡◌, ℕ, zero, suc, ◌+◌, List, Result, Ok, Err, IfOk}
+use Rattle.std.specs.Prelude.{IsErr}
 use Rattle.std.specs.declared.alloc.AllocError.{AllocError}
 use Rattle.vm_exec.specs.Start.{finished}
 use Rattle.vm_exec.specs.declared.machine.Machine.{Machine}
@@ -62,7 +63,8 @@ Stops (trap.Fault n) result = IfOk result (λ stage. stage ≡ Fault n)
 Stops trap.NoMemory result = IsErr result
 
 -- The call delivered the input and stored the answer, leaving these, unless memory ran out.
-abbrev pub Resumes : Reached (Glk × Machine) → Glk → Machine → Result (Unit {0}) Trap → Type 0
+abbrev pub Resumes : Reached (Glk × Machine) → Glk → Machine → Result (Unit {0}) Trap
+    → Type 0
 Resumes should g m (Ok x) = should ≡ Ok (g, m)
 Resumes should g m (Err (trap.Fault n)) = should ≡ Err (g, n)
 Resumes should g m (Err trap.NoMemory) = Unit {0}

@@ -1,6 +1,7 @@
 //! The machine, and how it starts and goes on.
 
-ghost use Rattle.std.specs.Prelude.{◌≡◌, ◌≤◌, ◌%◌, ◌<◌, [], length, IfOk, OnOk, Ok};
+ghost use Rattle.std.specs.Prelude.{◌≡◌, ◌≤◌, ◌%◌, ◌<◌, [], length, IfOk, OnOk};
+ghost use Rattle.std.specs.Prelude.{Ok};
 ghost use Rattle.vm_exec.specs.Answer.{Changes, Does, Makes};
 ghost use Rattle.vm_exec.specs.Fault.{flowed};
 ghost use Rattle.vm_exec.specs.Row.{IsPriced, charged, due, fetched, row, told};
@@ -202,7 +203,8 @@ impl<'i> Machine<'i> {
 // The memory of an image.
 fn image_memory<'i>(alloc: Global, image: &Image<'i>) -> Result<Memory<'i>, Trap>
     ensures value { Makes (Ok (start.image_memory image.now)) result }
-    ensures map { IfOk result (λ memory. IsMapped (origin_of memory) (length memory.bytes) no_heap []) }
+    ensures map { IfOk result (λ memory. IsMapped (origin_of memory)
+        (length memory.bytes) no_heap []) }
 {
     let rom = &image.bytes()[..image.extstart() as usize];
     match Memory::new(alloc, rom, image.ramstart(), image.endmem()) {

@@ -1,6 +1,7 @@
 //! Loads and stores.
 
-ghost use Rattle.std.specs.Prelude.{◌≡◌, ◌⊎◌, ◌≤◌, ◌+◌, ◌%◌, ◌^◌, length, OnOk};
+ghost use Rattle.std.specs.Prelude.{◌≡◌, ◌⊎◌, ◌≤◌, ◌+◌, ◌%◌, ◌^◌};
+ghost use Rattle.std.specs.Prelude.{length, OnOk};
 ghost use Rattle.vm_exec.specs.Answer.{Changes, Does, Leaves};
 ghost use Rattle.vm_exec.specs.Machine.{IsFit};
 ghost use Rattle.vm_exec.specs.Rules as rules;

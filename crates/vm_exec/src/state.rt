@@ -1,6 +1,7 @@
 //! The game's state.
 
-ghost use Rattle.std.specs.Prelude.{◌≡◌, ◌≤◌, ◌/◌, IfOk, OnOk, Ok, Err, nat_lt, if◌then◌else◌, slice_index, length};
+ghost use Rattle.std.specs.Prelude.{◌≡◌, ◌≤◌, ◌/◌, IfOk, OnOk, Ok, Err, nat_lt};
+ghost use Rattle.std.specs.Prelude.{if◌then◌else◌, slice_index, length};
 ghost use Rattle.vm_exec.specs.Answer.{Does};
 ghost use Rattle.vm_exec.specs.Machine.{IsFit, StaysFit};
 ghost use Rattle.vm_exec.specs.Row.{dest_of};

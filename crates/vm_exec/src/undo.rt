@@ -89,7 +89,8 @@ impl<'i> Machine<'i> {
     /// The story goes on at the stub on top, whose result is the value.
     pub(crate) fn come_back(&mut self, value: u32) -> Result<(), Trap>
         ensures does { Changes (rows.came_back self.old value) self.new result }
-        ensures fit { IsFit self.old → EndsInOwnStub self.old.stack → OnOk result (IsFit self.new) }
+        ensures fit { IsFit self.old → EndsInOwnStub self.old.stack
+            → OnOk result (IsFit self.new) }
     {
         let stub = self.stack.take_stub().map_err(of_stack)?;
         let to = stub_dest(stub)?;

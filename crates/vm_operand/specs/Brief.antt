@@ -1,5 +1,6 @@
 -- Instructions of at most four loads and then at most one store (own).
-use Rattle.std.specs.Prelude.{◌≡◌, ℕ, Ok, ◌+◌, ◌/◌, List, [], ◌∷◌, length, replicate, Result}
+use Rattle.std.specs.Prelude.{◌≡◌, ℕ, Ok, ◌+◌, ◌/◌, List, [], ◌∷◌, length}
+use Rattle.std.specs.Prelude.{replicate, Result}
 use Rattle.vm_memory.specs.MemoryMap.{MemoryMap}
 use Rattle.vm_operand.specs.Opcode.{number_of}
 use Rattle.vm_operand.specs.Mode.{mode_of}

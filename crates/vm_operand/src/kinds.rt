@@ -83,7 +83,8 @@ impl Branch {
     pub fn loads(self) -> u32
         ensures value { result ≡ length (kinds_of (op.Branch self)) }
         ensures one { result ≡ 1 → kinds_of (op.Branch self) ≡ kind.Load ∷ [] }
-        ensures two { result ≡ 2 → kinds_of (op.Branch self) ≡ kind.Load ∷ kind.Load ∷ [] }
+        ensures two { result ≡ 2 → kinds_of (op.Branch self)
+            ≡ kind.Load ∷ kind.Load ∷ [] }
         ensures three { result ≡ 3
             → kinds_of (op.Branch self) ≡ kind.Load ∷ kind.Load ∷ kind.Load ∷ [] }
     {
