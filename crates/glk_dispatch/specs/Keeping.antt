@@ -10,6 +10,7 @@ pub record KeepsFrames (old new : StackState) : Type 0 where
   pub frames : Chain old → HasFrame old → Chain new × HasFrame new
 
 -- memory of the same image and size, and such a stack
-pub record KeepsStory (m : MemoryMap) (s : StackState) (n : MemoryMap) (t : StackState) : Type 0 where
+pub record KeepsStory (m : MemoryMap) (s : StackState) (n : MemoryMap) (t : StackState)
+    : Type 0 where
   pub map : KeepsMap m n
   pub stack : KeepsFrames s t
