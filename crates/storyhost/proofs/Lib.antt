@@ -8,3 +8,4 @@ pub mod StoriesLemmas
 pub mod ToldLemmas
 pub mod MemoryLemmas
 pub mod StopLemmas
+pub mod KindsLemmas

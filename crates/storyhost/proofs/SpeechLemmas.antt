@@ -21,7 +21,8 @@ use Rattle.storyhost.specs.Headline.{Speech, whole_text}
 use Rattle.storyhost.specs.Lines.{lines, heard}
 use Rattle.storyhost.specs.PipeText.{Host, new_host, host_reply, host_next, many}
 use Rattle.storyhost.specs.RunText.{opened, solo, show_text}
-use Rattle.storyhost.specs.Speech.{run_speech, pipe_speech}
+use Rattle.storyhost.specs.CheckText.{good_line}
+use Rattle.storyhost.specs.Speech.{said_once, run_speech, check_speech, pipe_speech}
 use Rattle.storyhost.specs.Spoken.{Spoken, Leaves}
 use Rattle.storyhost.specs.Status.{status_of_stop}
 use Rattle.storyhost.specs.Streams.{SourceState, SinkState, Wrote}
@@ -114,8 +115,8 @@ spoken_refused line input wrote = record {
   leaves = refl;
 }
 
-pub spoken_silent : (budget : ℕ) (input : SourceState) (output : SinkState) → Spoken (Ok (run_speech None budget)) input input output output Done
-spoken_silent budget input output = record {
+pub spoken_silent : (input : SourceState) (output : SinkState) → Spoken (Ok (said_once [])) input input output output Done
+spoken_silent input output = record {
   read = [];
   written = [];
   gave = gave_none input;
@@ -123,6 +124,22 @@ spoken_silent budget input output = record {
   wrote = wrote_none output;
   leaves = (refl, inr refl);
 }
+
+-- one text was written, or not whole
+pub once_written : (text : List ℕ) (input : SourceState) {output new : SinkState} → Wrote output new text
+    → Spoken (Ok (said_once text)) input input output new Done
+once_written text input wrote = record {
+  read = [];
+  written = text;
+  gave = gave_none input;
+  within = omega arith;
+  wrote = wrote;
+  leaves = (refl, inr refl);
+}
+
+pub once_stopped : (text : List ℕ) (input : SourceState) {output new : SinkState} {cause : Stop} → Stopped output new text cause
+    → Spoken (Ok (said_once text)) input input output new (status_of_stop cause)
+once_stopped text input s = spoken_stopped (Ok (said_once text)) input [] (sym (append-nil text)) s
 
 -- the story that is played alone: its opening show wasn't written whole, it is over at once, or lines were answered
 pub run_stopped : (story : Story) (budget : ℕ) (input : SourceState) {output new : SinkState} {cause : Stop} (start : WorldState) → start ≡ opened story budget
@@ -201,9 +218,20 @@ steady_by by start opening = record {
   still_over = λ read rest over. ap by.is_over (after_settled by start read rest over) ∙ over;
 }
 
+pub steady_once : (text : List ℕ) → IsSteady (said_once text)
+steady_once text = record {
+  more = λ read rest. ([], sym (append-nil text));
+  settled = λ read rest over. refl;
+  still_over = λ read rest over. refl;
+}
+
 pub steady_run : (story : Option Story) (budget : ℕ) → IsSteady (run_speech story budget)
-steady_run None budget = record { more = λ read rest. ([], refl); settled = λ read rest over. refl; still_over = λ read rest over. refl }
+steady_run None budget = steady_once []
 steady_run (Some story) budget = steady_by solo (opened story budget) (show_text (opened story budget))
+
+pub steady_check : (story : Option Story) → IsSteady (check_speech story)
+steady_check None = steady_once []
+steady_check (Some story) = steady_once (good_line story.image)
 
 pub steady_pipe : (stories : List Story) (budget : ℕ) → IsSteady (pipe_speech stories budget)
 steady_pipe stories budget = subst IsSteady (sym (pipe_is stories budget)) (steady_by many (new_host stories budget) [])

@@ -1,11 +1,10 @@
 -- The stories of files, as the files are loaded and read one after the other.
 use Rattle.std.proofs.Common.{◌≡◌, ℕ, suc, ◌+◌, ◌<◌, inl, inr, List, [], ◌∷◌, ◌++◌, length, map, take, drop, drop-cons, add-one, get_or, refl, sym, ap, ◌∙◌, arith, append_assoc, length-append, Option, Some, None, Result, Ok, Err, IsErr, is_err, is_ok, subst, true, false}
 use Rattle.std.proofs.lemmas.List.{append-nil, length-map, map-append, get_or-map}
-use Rattle.glulx_image.specs.Image.{image_of}
-use Rattle.glulx_image.specs.declared.fault.ImageFault.{ImageFault}
-use Rattle.story_run.specs.Story.{story_of, with_digest}
 use Rattle.story_run.specs.declared.story.Story.{Story}
 use Rattle.storyhost.specs.Files.{IsFile}
+use Rattle.storyhost.specs.StoryFile.{story_of}
+use Rattle.storyhost.specs.declared.story_file.StoryFault.{StoryFault}
 use Rattle.storyhost.specs.Stories.{followed_by, stories_from, stories_of, AreFiles, IsSettled}
 use Rattle.storyhost.specs.declared.stories.Refusal.{Refusal}
 
@@ -20,11 +19,11 @@ are_more file (name ∷ names) [] bytes are room is = (is, tt)
 are_more file (name ∷ names) (first ∷ loaded) bytes are room is = (are.0, are_more file names loaded bytes are.1 (omega (arith, room)) is)
 
 -- a file that is refused settles it
-err_first : (position : ℕ) (story : Result Story ImageFault) (more : Found) → is_err story ≡ true → IsErr (followed_by position story more)
+err_first : (position : ℕ) (story : Result Story StoryFault) (more : Found) → is_err story ≡ true → IsErr (followed_by position story more)
 err_first position (Ok story) more e = cc
 err_first position (Err fault) more e = refl
 
-err_behind : (position : ℕ) (story : Result Story ImageFault) (more : Found) → IsErr more → IsErr (followed_by position story more)
+err_behind : (position : ℕ) (story : Result Story StoryFault) (more : Found) → IsErr more → IsErr (followed_by position story more)
 err_behind position (Ok story) (Ok stories) e = cc
 err_behind position (Ok story) (Err refusal) e = refl
 err_behind position (Err fault) more e = refl
@@ -34,7 +33,7 @@ err_last position [] bytes e = err_first position (story_of bytes) (Ok []) e
 err_last position (file ∷ loaded) bytes e = err_behind position (story_of file) (stories_from (suc position) (loaded ++ bytes ∷ [])) (err_last (suc position) loaded bytes e)
 
 -- what is refused stays refused where more is loaded
-stays : (position : ℕ) (story : Result Story ImageFault) (x y : Found) → (IsErr x → y ≡ x) → IsErr (followed_by position story x) → followed_by position story y ≡ followed_by position story x
+stays : (position : ℕ) (story : Result Story StoryFault) (x y : Found) → (IsErr x → y ≡ x) → IsErr (followed_by position story x) → followed_by position story y ≡ followed_by position story x
 stays position (Err fault) x y f e = refl
 stays position (Ok story) (Ok stories) y f e = cc
 stays position (Ok story) (Err refusal) y f e = ap (followed_by position (Ok story)) (f refl)
@@ -89,28 +88,29 @@ behind_none (Ok stories) = refl
 behind_none (Err refusal) = refl
 
 -- the same over the code's lists
-pub loaded_more : {A N : Type 0} (contents : A → List ℕ) (text : N → List ℕ) (file now : List ℕ → Option (List ℕ)) (names : List N) (loaded new : List A) (one : A) (name : N) (word : List ℕ) (i : ℕ)
+pub loaded_more : {A N : Type 0} (contents : A → List ℕ) (text : N → List ℕ) (file now : List ℕ → Option (List ℕ)) (names : List N) (loaded new : List A) (one : A) (none : N) (i : ℕ)
     → AreFiles file (map text names) (map contents loaded) → length loaded ≡ i → i < length names → new ≡ loaded ++ one ∷ [] → now ≡ file
-    → name ≡ get_or names i name → word ≡ text name → IsFile (now word) (contents one) → AreFiles file (map text names) (map contents new)
-loaded_more {A} {N} contents text file now names loaded new one name word i are count room pushed same item is given =
+    → IsFile (now (text (get_or names i none))) (contents one) → AreFiles file (map text names) (map contents new)
+loaded_more {A} {N} contents text file now names loaded new one none i are count room pushed same given =
     let longer : map contents new ≡ map contents loaded ++ contents one ∷ [] = ap (map contents) pushed ∙ map-append contents loaded (one ∷ []) in
     let at : length (map contents loaded) ≡ i = length-map loaded contents ∙ count in
-    let here : get_or (map text names) i [] ≡ word = get_or-map text names i name [] room ∙ ap text (sym item) ∙ sym is in
+    let word : List ℕ = text (get_or names i none) in
+    let here : get_or (map text names) i [] ≡ word = get_or-map text names i none [] room in
     let file_here : IsFile (file (get_or (map text names) (length (map contents loaded)) [])) (contents one)
     = subst (λ (o : Option (List ℕ)). IsFile o (contents one)) (ap (λ f. f word) same ∙ ap file (sym here ∙ ap (λ k. get_or (map text names) k []) (sym at))) given in
     subst (λ (l : List (List ℕ)). AreFiles file (map text names) l) (sym longer)
     (are_more file (map text names) (map contents loaded) (contents one) are (omega (arith, at, length-map names text, room)) file_here)
 
-no_image : (file : List ℕ) (image : Result (List ℕ) ImageFault) → is_ok image ≡ false → is_err (with_digest file image) ≡ true
-no_image file (Ok image) e = cc
-no_image file (Err fault) e = refl
+no_story : (story : Result Story StoryFault) → is_ok story ≡ false → is_err story ≡ true
+no_story (Ok story) e = cc
+no_story (Err fault) e = refl
 
-pub loaded_last : {A : Type 0} (contents : A → List ℕ) (loaded new : List A) (one : A) → new ≡ loaded ++ one ∷ [] → is_ok (image_of (contents one)) ≡ false
+pub loaded_last : {A : Type 0} (contents : A → List ℕ) (loaded new : List A) (one : A) → new ≡ loaded ++ one ∷ [] → is_ok (story_of (contents one)) ≡ false
     → IsErr (stories_of (map contents new))
 loaded_last contents loaded new one pushed refused =
     let longer : map contents new ≡ map contents loaded ++ contents one ∷ [] = ap (map contents) pushed ∙ map-append contents loaded (one ∷ []) in
     subst (λ (l : List (List ℕ)). IsErr (stories_of l)) (sym longer)
-    (err_last 0 (map contents loaded) (contents one) (no_image (contents one) (image_of (contents one)) refused))
+    (err_last 0 (map contents loaded) (contents one) (no_story (story_of (contents one)) refused))
 
 next_of : {A : Type 0} (xs : List A) (i : ℕ) (x : A) → i < length xs → x ≡ get_or xs i x → drop i xs ≡ x ∷ drop (i + 1) xs
 next_of xs i x lt is = rw (add-one, drop-cons xs i x) (ap (λ y. y ∷ drop (suc i) xs) (sym is))
@@ -128,7 +128,7 @@ read_more {A} contents files all stories new one story i room item good pushed b
     ∙ ap (λ k. behind new (stories_from k rest)) (sym (add-one i))
 
 -- a file is refused
-pub read_refused : {A : Type 0} (contents : A → List ℕ) (files : List A) (all : Found) (stories : List Story) (one : A) (fault : ImageFault) (i : ℕ)
+pub read_refused : {A : Type 0} (contents : A → List ℕ) (files : List A) (all : Found) (stories : List Story) (one : A) (fault : StoryFault) (i : ℕ)
     → i < length files → one ≡ get_or files i one → story_of (contents one) ≡ Err fault
     → all ≡ behind stories (stories_from i (map contents (drop i files))) → all ≡ Err (record { story = i; fault = fault })
 read_refused {A} contents files all stories one fault i room item bad before =

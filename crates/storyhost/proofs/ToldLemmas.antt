@@ -1,5 +1,5 @@
 -- A command for a caller who is told the files, the input and what the output holds.
-use Rattle.std.proofs.Common.{◌≡◌, ℕ, ◌^◌, ◌≤◌, ◌⊎◌, inl, inr, List, [], ◌++◌, map, take, length, refl, sym, ap, ◌∙◌, subst, append_assoc, slice_get, Option, None, Some, Result, Ok, Err, IfOk, true}
+use Rattle.std.proofs.Common.{◌≡◌, ℕ, ◌^◌, ◌≤◌, ◌⊎◌, inl, inr, List, [], ◌++◌, map, take, length, refl, sym, ap, ◌∙◌, subst, append_assoc, slice_get, Option, None, Some, IfSome, IsSomeAnd, Result, Ok, Err, IfOk, true}
 use Rattle.std.proofs.lemmas.List.{append-nil}
 use Rattle.std.specs.Io.KnownBytes.{Consumes, Appends, IsAtEnd}
 use Rattle.story_run.specs.declared.story.Story.{Story}
@@ -7,20 +7,23 @@ use Rattle.storyhost.specs.declared.status.Status.{Status}
 use Rattle.storyhost.specs.declared.status.Status.TheVariants.{Done, BadWords, Refused, ReadFault, WriteFault, NoMemory, LineLimit}
 use Rattle.storyhost.specs.declared.stories.Refusal.{Refusal}
 use Rattle.storyhost.specs.declared.words.Action.{Action}
-use Rattle.storyhost.specs.declared.words.Action.TheVariants.{Run, Pipe}
+use Rattle.storyhost.specs.declared.words.Action.TheVariants.{Run, Check, Pipe, Help, Version}
 use Rattle.storyhost.specs.Files.{OutsideState}
 use Rattle.storyhost.specs.Follows.{Follows, Tells}
 use Rattle.storyhost.specs.Headline.{Speech, Writes, whole_text}
+use Rattle.storyhost.specs.Help.{help_text, version_text}
 use Rattle.storyhost.specs.Lines.{lines, IsWithinLimits}
 use Rattle.storyhost.specs.Speech.{said_of}
+use Rattle.storyhost.specs.Status.{status_of}
 use Rattle.storyhost.specs.Spoken.{Spoken, Leaves}
 use Rattle.storyhost.specs.Stories.{stories_of}
 use Rattle.storyhost.specs.Streams.{SourceState, SinkState}
+use Rattle.storyhost.proofs.StreamsLemmas.{gave_none, wrote_none}
 use Rattle.storyhost.specs.Talked.{IsReadToEnd}
 use Rattle.storyhost.specs.Words.{Asked}
 use Rattle.storyhost.specs.Writing.{IsPartOf}
 use Rattle.storyhost.proofs.LinesLemmas.{still_reached, talk_settled}
-use Rattle.storyhost.proofs.SpeechLemmas.{IsSteady, steady_run, steady_pipe}
+use Rattle.storyhost.proofs.SpeechLemmas.{IsSteady, steady_once, steady_run, steady_check, steady_pipe}
 use Rattle.storyhost.proofs.StoriesLemmas.{settled_told}
 
 -- what was read of an input that is told
@@ -47,7 +50,10 @@ IsSteadySaid said = IfOk said IsSteady
 
 steady : (action : Action) (found : Result (List Story) Refusal) (budget : ℕ) → IsSteadySaid (said_of action found budget)
 steady Run (Ok stories) budget = steady_run (slice_get stories 0) budget
+steady Check (Ok stories) budget = steady_check (slice_get stories 0)
 steady Pipe (Ok stories) budget = steady_pipe stories budget
+steady (Help topic) (Ok stories) budget = steady_once (help_text topic)
+steady Version (Ok stories) budget = steady_once version_text
 steady action (Err refusal) budget = tt
 
 -- the text over a part of the input begins that over the whole
@@ -98,3 +104,19 @@ tells asked status outside beyond input now output new (inr some) files bytes he
       held_then output.held new.held held spoken.written spoken.wrote.told held_is,
       subst (λ (b : List ℕ). Writes status all b spoken.written) (sym c.1) of_all,
     )
+
+-- memory was wanted before a file was loaded
+pub nothing_follows : (asked : Asked) (outside : OutsideState) (input : SourceState) (output : SinkState) → Follows asked NoMemory outside outside input input output output
+nothing_follows asked outside input output = inl (record { cause = inr refl; gave = gave_none input; wrote = wrote_none output })
+
+pub whatever_is_asked : (asked : Option Asked) (P : Asked → Type 0) → ((one : Asked) → P one) → IfSome asked P
+whatever_is_asked None P p = tt
+whatever_is_asked (Some one) P p = p one
+
+-- where memory was wanted before anything was done, each caller is told so
+pub told_no_memory : (asked : Option Asked) (code : ℕ) (outside : OutsideState) (input : SourceState) (output : SinkState) → status_of code ≡ Some NoMemory
+    → IfSome asked (λ one. IsSomeAnd (status_of code) (λ status. Tells one status outside input output output))
+told_no_memory asked code outside input output is =
+    whatever_is_asked asked (λ (one : Asked). IsSomeAnd (status_of code) (λ status. Tells one status outside input output output))
+    (λ one. subst (λ (s : Option Status). IsSomeAnd s (λ status. Tells one status outside input output output)) (sym is)
+    (tells one NoMemory outside outside input input output output (nothing_follows one outside input output)))

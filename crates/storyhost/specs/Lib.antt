@@ -2,9 +2,13 @@ pub mod Headline
 pub mod Speech
 pub mod RunText
 pub mod PipeText
+pub mod CheckText
 pub mod Stories
+pub mod StoryFile
 pub mod Conversation
 pub mod Lines
+pub mod CommandLine
+pub mod Help
 pub mod Words
 pub mod Status
 pub mod Follows

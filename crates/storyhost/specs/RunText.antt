@@ -1,6 +1,5 @@
 -- The output of `run`, which plays one story alone (own).
 use Rattle.std.specs.Prelude.{ℕ, if◌then◌else◌, List, ◌++◌, Option, None, Some, codes}
-use Rattle.std.specs.Fmt.{decimal}
 use Rattle.glk_input.specs.declared.input.Input.{Input}
 use Rattle.glk_input.specs.declared.input.Input.TheVariants as input
 use Rattle.line_words.specs.Play.{play_of}
@@ -69,7 +68,3 @@ run_text story budget lines = show_text (opened story budget) ++ replies solo (o
 -- the world after the lines of its player
 abbrev pub run_world : Story → ℕ → List (List ℕ) → WorldState
 run_world story budget lines = after solo (opened story budget) lines
-
--- the line for a story that is refused, by its position and the number of the check
-abbrev pub bad_line : ℕ → ℕ → List ℕ
-bad_line story check = codes "bad " ++ decimal story ++ codes " image " ++ decimal check ++ codes "\n"

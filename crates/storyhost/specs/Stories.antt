@@ -1,15 +1,15 @@
 -- The stories that a command names (own).
 use Rattle.std.specs.Prelude.{◌≡◌, ℕ, suc, List, [], ◌∷◌, length, ◌⊎◌, Option, Result, Ok, Err, IsErr}
-use Rattle.glulx_image.specs.declared.fault.ImageFault.{ImageFault}
-use Rattle.story_run.specs.Story.{story_of}
 use Rattle.story_run.specs.declared.story.Story.{Story}
 use Rattle.storyhost.specs.Files.{IsFile}
+use Rattle.storyhost.specs.StoryFile.{story_of}
 use Rattle.storyhost.specs.declared.stories.Refusal.{Refusal}
 use Rattle.storyhost.specs.declared.stories.Unplayed.{Unplayed}
 use Rattle.storyhost.specs.declared.stories.Unplayed.TheVariants.{Refused, NoMemory}
+use Rattle.storyhost.specs.declared.story_file.StoryFault.{StoryFault}
 
 -- a story and those behind it, or the first that is refused
-abbrev pub followed_by : ℕ → Result Story ImageFault → Result (List Story) Refusal → Result (List Story) Refusal
+abbrev pub followed_by : ℕ → Result Story StoryFault → Result (List Story) Refusal → Result (List Story) Refusal
 followed_by position (Ok story) (Ok stories) = Ok (story ∷ stories)
 followed_by position (Ok story) (Err refusal) = Err refusal
 followed_by position (Err fault) more = Err (record { story = position; fault = fault })

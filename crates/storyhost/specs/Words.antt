@@ -1,69 +1,81 @@
--- The words of the command line (own).
-use Rattle.std.specs.Prelude.{ℕ, ◌+◌, ◌==◌, if◌then◌else◌, List, [], ◌∷◌, take, drop, map, Bool, not, ◌&&◌, nat_le, nat_lt, slice_index, string_bytes, Option, None, Some, codes}
+-- What the words of the command line ask for (own).
+use Rattle.std.specs.Prelude.{ℕ, ◌≡◌, if◌then◌else◌, List, [], ◌∷◌, length, map, ◌&&◌, nat_le, nat_lt, slice_index, option_and_then, Option, None, Some, codes}
 use Rattle.std.specs.Str.{bytes_eq, all_ascii_digits}
 use Rattle.std.specs.Str.Parse.{digits_value}
+use Rattle.clap.specs.Faults.{fault_of}
+use Rattle.clap.specs.Kinds.{Kinds}
+use Rattle.clap.specs.Simple.{subcommand_of}
+use Rattle.clap.specs.Walk.{Row, Text, all_of, first_of}
+use Rattle.clap.specs.declared.error.kind.ErrorKind.{ErrorKind}
+use Rattle.clap.specs.declared.error.kind.ErrorKind.TheVariants.{DisplayHelp, DisplayVersion}
+use Rattle.storyhost.specs.CommandLine.{storyhost_app}
+use Rattle.storyhost.specs.Help.{topic_of}
+use Rattle.storyhost.specs.declared.help.Topic.{Topic}
 use Rattle.storyhost.specs.declared.words.Action.{Action}
-use Rattle.storyhost.specs.declared.words.Action.TheVariants.{Run, Pipe}
+use Rattle.storyhost.specs.declared.words.Action.TheVariants.{Run, Check, Pipe, Help, Version}
 use Rattle.storyhost.specs.declared.words.Command.{Command}
 
 -- what the program is asked to do, with the names of its story files and the budget of a turn
 pub record Asked : Type 0 where
   pub action : Action
-  pub names : List (List ℕ)
+  pub names : List Text
   pub budget : ℕ
 
 -- what a command asks for
 abbrev pub asked : Command → Asked
 asked command = record {
   action = command.action;
-  names = map string_bytes command.names.now;
+  names = map (λ name. name.now) command.names.items;
   budget = command.budget;
 }
 
--- a word that is no option
-abbrev pub is_plain : List ℕ → Bool
-is_plain word = not (slice_index word 0 == 45)
-
--- how many words stand before the first option
-abbrev pub plain_count : List (List ℕ) → ℕ
-plain_count [] = 0
-plain_count (word ∷ words) = if is_plain word then plain_count words + 1 else 0
-
 -- the budget of a turn that a word spells: 1 to 1,000,000,000,000, without sign or leading zero
-abbrev pub budget_of : List ℕ → Option ℕ
+abbrev pub budget_of : Text → Option ℕ
 budget_of word =
     if all_ascii_digits word && (nat_lt 48 (slice_index word 0) && nat_le (digits_value 10 word) 1000000000000)
     then Some (digits_value 10 word) else None
 
--- the budget that the last words ask for: `--budget N`, or 50,000,000 where there are none
-abbrev pub budget_asked : List (List ℕ) → Option ℕ
-budget_asked [] = Some 50000000
-budget_asked (option ∷ number ∷ []) = if bytes_eq option (codes "--budget") then budget_of number else None
-budget_asked _ = None
+-- the budget that is given, or 50,000,000
+abbrev pub budget_given : Option Text → Option ℕ
+budget_given None = Some 50000000
+budget_given (Some word) = budget_of word
 
--- from least to most story files, each a word that is no option, and then a budget
-abbrev pub with_budget : Action → List (List ℕ) → Option ℕ → Option Asked
-with_budget action names None = None
-with_budget action names (Some budget) = Some (record { action = action; names = names; budget = budget })
+-- these story files, at most 64, and this budget
+abbrev pub asked_for : Action → Option (List Text) → Option ℕ → Option Asked
+asked_for action None budget = None
+asked_for action (Some names) None = None
+asked_for action (Some names) (Some budget) =
+    if nat_le (length names) 64
+    then Some (record { action = action; names = names; budget = budget }) else None
 
-abbrev pub with_stories : Action → ℕ → ℕ → List (List ℕ) → Option Asked
-with_stories action least most words =
-    if nat_le least (plain_count words) && nat_le (plain_count words) most
-    then with_budget action (take (plain_count words) words) (budget_asked (drop (plain_count words) words))
-    else None
+-- what an action is given: the files of an argument, and the budget
+abbrev pub asked_with : Action → Text → List Row → Option Asked
+asked_with action files rows =
+    asked_for action (all_of files rows) (budget_given (first_of (codes "budget") rows))
 
--- the words after `run`: FILE [--budget N]
-abbrev pub run_of : List (List ℕ) → Option Asked
-run_of words = with_stories Run 1 1 words
+-- what a command of the program asks for, by its name and what it is given
+abbrev pub asked_in : Text × List Row → Option Asked
+asked_in given =
+    if bytes_eq given.0 (codes "run") then asked_with Run (codes "FILE") given.1 else
+    (if bytes_eq given.0 (codes "check") then asked_with Check (codes "FILE") given.1 else
+    (if bytes_eq given.0 (codes "pipe") then asked_with Pipe (codes "STORY") given.1 else None))
 
--- the words after `pipe`: DIR, which isn't used yet, STORY.. of 1 to 64 [--budget N]
-abbrev pub pipe_of : List (List ℕ) → Option Asked
-pipe_of [] = None
-pipe_of (dir ∷ words) = if is_plain dir then with_stories Pipe 1 64 words else None
+-- the action that shows a text where `clap` says that one is wanted
+abbrev pub shown_by : Topic → ErrorKind → Option Action
+shown_by topic DisplayHelp = Some (Help topic)
+shown_by topic DisplayVersion = Some Version
+shown_by topic kind = None
+
+-- a text is shown without files
+abbrev pub showing : Option Action → Option Asked
+showing None = None
+showing (Some action) = Some (record { action = action; names = []; budget = 50000000 })
+
+-- what words ask for, by what `clap` has against them
+abbrev pub asked_after : Kinds → List Text → Option Asked
+asked_after [] words = option_and_then asked_in (subcommand_of storyhost_app words)
+asked_after (kind ∷ more) words = showing (shown_by (topic_of words) kind)
 
 -- what words ask for, where they are taken
-abbrev pub asked_by : List (List ℕ) → Option Asked
-asked_by [] = None
-asked_by (name ∷ words) =
-    if bytes_eq name (codes "run") then run_of words else
-    (if bytes_eq name (codes "pipe") then pipe_of words else None)
+abbrev pub asked_by : List Text → Option Asked
+asked_by words = asked_after (fault_of storyhost_app words) words

@@ -2,11 +2,15 @@
 #![tactic(auto)]
 
 mod answers;
+mod check;
+mod command_line;
 mod converse;
 mod edge;
 mod hear;
+mod help;
 mod line_buffer;
 mod memory;
+mod once;
 mod outside;
 mod pipe;
 mod player;
@@ -16,6 +20,7 @@ mod sink;
 mod source;
 mod status;
 mod stories;
+mod story_file;
 #[cfg(test)]
 mod tests;
 mod top;

@@ -1,40 +1,56 @@
 //! The line by which a story is refused.
 ghost use Rattle.std.specs.Prelude.{◌≡◌, Err, OnOk, IfOk, IfErr, string_bytes};
-ghost use Rattle.glulx_image.specs.Fault.{number_of};
 ghost use Rattle.storyhost.specs.Causes.{Rose};
 ghost use Rattle.storyhost.specs.Spoken.{Spoken};
 ghost use Rattle.storyhost.specs.Streams.{SourceState, Wrote};
 ghost use Rattle.storyhost.specs.Writing.{Stopped};
-ghost use Rattle.storyhost.specs.RunText.{bad_line};
+ghost use Rattle.storyhost.specs.StoryFile.{bad_container, bad_image, bad_line};
 
 use crate::sink::{Sink, Stop};
 use crate::status::Status;
 use crate::stories::Refusal;
+use crate::story_file::StoryFault;
 use crate::write::write_all;
 use std::alloc::{AllocError, Global};
 
-/// The line for a story that is refused, by its position and the number of the check.
-fn bad_line(alloc: Global, story: usize, check: u8) -> Result<String, AllocError>
-    ensures { IfOk result (λ line. string_bytes line ≡ bad_line story check) }
+/// The line for an image that is refused, by the story's position and the fault's number.
+fn bad_image(alloc: Global, story: usize, number: u8) -> Result<String, AllocError>
+    ensures { IfOk result (λ line. string_bytes line ≡ bad_image story number) }
 {
-    format!(in alloc; "bad {story} image {check}\n")
+    format!(in alloc; "bad {story} image {number}\n")
+}
+
+/// The line for a container that is refused.
+fn bad_container(alloc: Global, story: usize, number: u8) -> Result<String, AllocError>
+    ensures { IfOk result (λ line. string_bytes line ≡ bad_container story number) }
+{
+    format!(in alloc; "bad {story} blorb {number}\n")
+}
+
+/// The line for a story that is refused, by its position and its fault.
+fn bad_line(alloc: Global, refusal: Refusal) -> Result<String, AllocError>
+    ensures { IfOk result (λ line. string_bytes line ≡ bad_line refusal.story refusal.fault) }
+{
+    match refusal.fault {
+        StoryFault::Image(fault) => bad_image(alloc, refusal.story, fault.number()),
+        StoryFault::Blorb(fault) => bad_container(alloc, refusal.story, fault.number()),
+    }
 }
 
 /// Writes the line for a story that is refused.
 fn say_bad<K: Sink>(alloc: Global, refusal: Refusal, output: &mut K) -> Result<(), Stop>
     ensures ok { OnOk result (Wrote (K.sink output.old) (K.sink output.new)
-        (bad_line refusal.story (number_of refusal.fault))) }
+        (bad_line refusal.story refusal.fault)) }
     ensures err { IfErr result (λ cause. Stopped (K.sink output.old) (K.sink output.new)
-        (bad_line refusal.story (number_of refusal.fault)) cause) }
+        (bad_line refusal.story refusal.fault) cause) }
 {
-    let line = bad_line(alloc, refusal.story, refusal.fault.number())?;
+    let line = bad_line(alloc, refusal)?;
     write_all(output, line.as_bytes())
 }
 
 /// Refuses a story. No input is read.
 pub fn refuse<K: Sink>(alloc: Global, refusal: Refusal, output: &mut K) -> Status
-    ensures value { (input : SourceState)
-        → Spoken (Err (bad_line refusal.story (number_of refusal.fault)))
+    ensures value { (input : SourceState) → Spoken (Err (bad_line refusal.story refusal.fault))
         input input (K.sink output.old) (K.sink output.new) result }
     ensures read_fault { ¬ (result ≡ Status.ReadFault) }
     ensures write_fault { result ≡ Status.WriteFault

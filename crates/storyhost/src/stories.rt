@@ -1,18 +1,18 @@
 //! The stories that a command names.
-ghost use Rattle.std.specs.Prelude.{◌≡◌, ◌≤◌, map, string_bytes, Ok, IfOk, IfErr, IsErrOf};
+ghost use Rattle.std.specs.Prelude.{◌≡◌, ◌≤◌, map, Ok, IfOk, IfErr, IsErrOf};
 ghost use Rattle.storyhost.specs.Causes.{Rose};
 ghost use Rattle.storyhost.specs.Stories.{AreFiles, IsSettled, Refuses, stories_of};
 
 use crate::outside::{Fetch, Outside};
-use glulx_image::{Image, ImageFault};
+use crate::story_file::{StoryFault, is_story, story_of};
 use std::alloc::Global;
 use story_run::Story;
 
-/// The first story that is refused: its position from 0, and the check that it fails.
+/// The first story that is refused: its position from 0, and its fault.
 #[derive(Clone, Copy, Debug, PartialEq, Eq)]
 pub struct Refusal {
     pub story: usize,
-    pub fault: ImageFault,
+    pub fault: StoryFault,
 }
 
 /// Why stories aren't played.
@@ -25,13 +25,13 @@ pub enum Unplayed {
 /// Loads files by their names, one after the other, until a file is no story.
 pub fn load_files<O: Outside>(
     alloc: Global,
-    names: &[String],
+    names: &[&str],
     outside: &mut O,
 ) -> Result<Vec<Vec<u8>>, Fetch>
     ensures value { IfOk result (λ files. AreFiles (O.outside outside.old).file
-        (map string_bytes names.now) (map (λ f. f.items) files.items)) }
+        (map (λ n. n.now) names.now) (map (λ f. f.items) files.items)) }
     ensures settled { IfOk result (λ files. IsSettled
-        (map string_bytes names.now) (map (λ f. f.items) files.items)) }
+        (map (λ n. n.now) names.now) (map (λ f. f.items) files.items)) }
     ensures cause { IsErrOf result Fetch.Failed
         → Rose (O.outside outside.old).faults (O.outside outside.new).faults }
     ensures kept { (O.outside outside.new).file ≡ (O.outside outside.old).file }
@@ -40,7 +40,7 @@ pub fn load_files<O: Outside>(
     let mut files = Vec::new(alloc);
     for name in names {
         let bytes = outside.load(alloc, name)?;
-        let is_story = Image::parse(&bytes).is_ok();
+        let is_story = is_story(&bytes);
         match files.push(bytes) {
             Ok(()) => {}
             Err(_) => return Err(Fetch::NoMemory),
@@ -60,7 +60,7 @@ pub fn stories_of<'i>(alloc: Global, files: &'i [Vec<u8>]) -> Result<Vec<Story<'
 {
     let mut stories = Vec::new(alloc);
     for file in files {
-        match Story::of(file) {
+        match story_of(file) {
             Ok(story) => match stories.push(story) {
                 Ok(()) => {}
                 Err(_) => return Err(Unplayed::NoMemory),

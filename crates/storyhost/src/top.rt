@@ -1,5 +1,5 @@
 //! The whole program but for the streams and files of the system.
-ghost use Rattle.std.specs.Prelude.{◌≡◌, ◌⊎◌, ◌↔◌, [], map, string_bytes, None, IfSome, IsSomeAnd};
+ghost use Rattle.std.specs.Prelude.{◌≡◌, ◌⊎◌, [], map, string_bytes, None, IfSome, IsSomeAnd};
 ghost use Rattle.storyhost.specs.Causes.{Rose};
 ghost use Rattle.storyhost.specs.Streams.{Gave, Wrote};
 ghost use Rattle.storyhost.specs.Status.{status_of};
@@ -9,6 +9,9 @@ ghost use Rattle.storyhost.specs.Spoken.{Spoken};
 ghost use Rattle.storyhost.specs.Stories.{stories_of};
 ghost use Rattle.storyhost.specs.Follows.{Follows, Tells};
 
+use crate::check::check;
+use crate::help::{VERSION_TEXT, help_text};
+use crate::once::say_once;
 use crate::outside::{Fetch, Outside};
 use crate::pipe::pipe;
 use crate::refuse::refuse;
@@ -51,7 +54,10 @@ fn speak<S: Source, K: Sink>(
     };
     match action {
         Action::Run => run(alloc, &stories, budget, input, output, &mut buffer),
+        Action::Check => check(alloc, &stories, output),
         Action::Pipe => pipe(alloc, &stories, budget, input, output, &mut buffer),
+        Action::Help(topic) => say_once(help_text(topic).as_bytes(), output),
+        Action::Version => say_once(VERSION_TEXT.as_bytes(), output),
     }
 }
 
@@ -74,7 +80,7 @@ fn follow<O: Outside, S: Source, K: Sink>(
         → Rose (K.sink output.old).faults (K.sink output.new).faults }
     ensures kept { (O.outside outside.new).file ≡ (O.outside outside.old).file }
 {
-    let files = match load_files(alloc, command.names, outside) {
+    let files = match load_files(alloc, &command.names, outside) {
         Ok(files) => files,
         Err(Fetch::Failed) => return Status::ReadFault,
         Err(Fetch::NoMemory) => return Status::NoMemory,
@@ -91,9 +97,12 @@ pub fn top<R: Threads + Wait + Sync, O: Outside, S: Source, K: Sink>(
     input: &mut S,
     output: &mut K,
 ) -> u8
-    // 2 comes exactly where the words aren't taken, and nothing is read or written then
-    ensures bad_words { (result ≡ 2) ↔ (asked_by (map string_bytes words.now) ≡ None) }
-    ensures nothing { result ≡ 2 → Gave (S.source input.old) (S.source input.new) []
+    // 2 comes exactly where the words aren't taken, unless memory was wanted before that was known,
+    // and nothing is read or written then
+    ensures bad_words { result ≡ 2 → asked_by (map string_bytes words.now) ≡ None }
+    ensures untaken { asked_by (map string_bytes words.now) ≡ None → (result ≡ 2) ⊎ (result ≡ 7) }
+    ensures nothing { asked_by (map string_bytes words.now) ≡ None
+        → Gave (S.source input.old) (S.source input.new) []
         × Wrote (K.sink output.old) (K.sink output.new) [] }
 
     // what was asked is done as far as the status says
@@ -116,8 +125,10 @@ pub fn top<R: Threads + Wait + Sync, O: Outside, S: Source, K: Sink>(
     ensures kept { (O.outside outside.new).file ≡ (O.outside outside.old).file }
 {
     let _ = rt;
-    let Some(command) = command_of(words) else {
-        return Status::BadWords.code();
+    let command = match command_of(alloc, words) {
+        Ok(Some(command)) => command,
+        Ok(None) => return Status::BadWords.code(),
+        Err(_) => return Status::NoMemory.code(),
     };
     let status = follow(alloc, command, outside, input, output);
     status.code()

@@ -1,7 +1,17 @@
-//! The words of the command line.
-ghost use Rattle.std.specs.Prelude.{◌≡◌, ◌≤◌, map, string_bytes, length};
+//! What the words of the command line ask for.
+ghost use Rattle.std.specs.Prelude.{◌≡◌, IfOk, map, option_and_then, string_bytes};
 ghost use Rattle.std.specs.Option.{option_map};
-ghost use Rattle.storyhost.specs.Words.{asked, asked_by, budget_asked, budget_of, is_plain, pipe_of, plain_count, run_of, with_stories};
+ghost use Rattle.clap.specs.Matches.{found_of};
+ghost use Rattle.clap.specs.Simple.{subcommand_rows_of};
+ghost use Rattle.clap.specs.Walk.{first_of, rows_of};
+ghost use Rattle.storyhost.specs.Help.{topic_named, topic_of};
+ghost use Rattle.storyhost.specs.Words.{asked, asked_by, asked_in, asked_with, budget_given, budget_of, shown_by, showing};
+
+use crate::command_line::storyhost;
+use crate::help::Topic;
+use clap::ArgMatches;
+use clap::error::ErrorKind;
+use std::alloc::{AllocError, Global};
 
 /// The budget of a turn unless set, in ticks.
 const BUDGET: u64 = 50_000_000;
@@ -17,38 +27,22 @@ const MOST_STORIES: usize = 64;
 pub enum Action {
     /// Plays one story alone.
     Run,
+    /// Tells what the header of one story says.
+    Check,
     /// Answers the numbered requests of one connection, from sessions that are all free.
     Pipe,
+    /// Shows help.
+    Help(Topic),
+    /// Shows the program's version.
+    Version,
 }
 
 /// What the words ask for: the names of the story files, and the budget of a turn in ticks.
-#[derive(Clone, Copy)]
+#[derive(Drop)]
 pub struct Command<'w> {
     pub action: Action,
-    pub names: &'w [String],
+    pub names: Vec<&'w str>,
     pub budget: u64,
-}
-
-/// Whether a word is no option.
-fn is_plain(word: &str) -> bool
-    ensures { result ≡ is_plain word.now }
-{
-    !matches!(word.as_bytes(), [b'-', ..])
-}
-
-/// How many words stand before the first option.
-fn plain_count(words: &[String]) -> usize
-    ensures value { result ≡ plain_count (map string_bytes words.now) }
-    ensures within { result ≤ length words.now }
-{
-    let mut count = 0;
-    for word in words {
-        if !is_plain(word) {
-            return count;
-        }
-        count += 1;
-    }
-    count
 }
 
 /// The budget that a word spells.
@@ -65,71 +59,111 @@ fn budget_of(word: &str) -> Option<u64>
     }
 }
 
-/// The budget that the last words ask for: `--budget N`, or none.
-fn budget_asked(words: &[String]) -> Option<u64>
-    ensures { result ≡ budget_asked (map string_bytes words.now) }
+/// The budget that is given, or the usual one.
+fn budget_given(word: Option<&str>) -> Option<u64>
+    ensures { result ≡ budget_given (option_map (λ w. w.now) word.entry) }
 {
-    match words {
-        [] => Some(BUDGET),
-        [option, number] => {
-            if option.as_str() == "--budget" {
-                budget_of(number)
-            } else {
-                None
-            }
-        }
-        _ => None,
+    match word {
+        Some(word) => budget_of(word),
+        None => Some(BUDGET),
     }
 }
 
-/// From `least` to `most` story files, and then a budget.
-fn with_stories(action: Action, least: usize, most: usize, words: &[String]) -> Option<Command<'_>>
-    ensures { option_map asked result ≡ with_stories action least most (map string_bytes words.now) }
+/// What an action is given: the files of an argument, and the budget.
+fn command_with<'w>(
+    alloc: Global,
+    action: Action,
+    files: &str,
+    matches: &ArgMatches<'w>,
+) -> Result<Option<Command<'w>>, AllocError>
+    ensures { IfOk result (λ command. option_map asked command
+        ≡ asked_with action files.now (rows_of (found_of matches.now))) }
 {
-    let count = plain_count(words);
-    if count < least || most < count {
-        return None;
+    let Some(given) = matches.get_strs(files) else {
+        return Ok(None);
+    };
+    let Some(budget) = budget_given(matches.get_str("budget")) else {
+        return Ok(None);
+    };
+    if given.len() > MOST_STORIES {
+        return Ok(None);
     }
-    let (names, rest) = words.split_at(count);
-    let budget = budget_asked(rest)?;
-    Some(Command {
+    let names = given.to_vec(alloc)?;
+    Ok(Some(Command {
         action,
         names,
         budget,
-    })
+    }))
 }
 
-/// The words after `run`: `FILE [--budget N]`.
-fn run_of(words: &[String]) -> Option<Command<'_>>
-    ensures { option_map asked result ≡ run_of (map string_bytes words.now) }
+/// What a command of the program asks for.
+fn command_in<'w>(
+    alloc: Global,
+    matches: &ArgMatches<'w>,
+) -> Result<Option<Command<'w>>, AllocError>
+    ensures { IfOk result (λ command. option_map asked command
+        ≡ option_and_then asked_in (subcommand_rows_of matches.now)) }
 {
-    with_stories(Action::Run, 1, 1, words)
-}
-
-/// The words after `pipe`: `DIR STORY.. [--budget N]`. The folder isn't used yet.
-fn pipe_of(words: &[String]) -> Option<Command<'_>>
-    ensures { option_map asked result ≡ pipe_of (map string_bytes words.now) }
-{
-    let [dir, rest @ ..] = words else {
-        return None;
-    };
-    if is_plain(dir) {
-        with_stories(Action::Pipe, 1, MOST_STORIES, rest)
-    } else {
-        None
+    match matches.subcommand() {
+        Some((name, given)) => match name {
+            "run" => command_with(alloc, Action::Run, "FILE", given),
+            "check" => command_with(alloc, Action::Check, "FILE", given),
+            "pipe" => command_with(alloc, Action::Pipe, "STORY", given),
+            _ => Ok(None),
+        },
+        None => Ok(None),
     }
 }
 
-/// What the words after the program's name ask for.
-pub fn command_of(words: &[String]) -> Option<Command<'_>>
-    ensures { option_map asked result ≡ asked_by (map string_bytes words.now) }
+/// What a word is the name of.
+fn topic_named(word: &str) -> Topic
+    ensures { result ≡ topic_named word.now }
 {
-    let [name, rest @ ..] = words else {
-        return None;
+    match word {
+        "run" => Topic::Run,
+        "check" => Topic::Check,
+        "pipe" => Topic::Pipe,
+        _ => Topic::Program,
+    }
+}
+
+/// What help is asked of: the command that the first word names, or else the program.
+fn topic_of(words: &[String]) -> Topic
+    ensures { result ≡ topic_of (map string_bytes words.now) }
+{
+    match words {
+        [word, ..] => topic_named(word),
+        [] => Topic::Program,
+    }
+}
+
+/// The command that shows a text where `clap` says that one is wanted.
+fn command_shown<'w>(alloc: Global, topic: Topic, kind: ErrorKind) -> Option<Command<'w>>
+    ensures { option_map asked result ≡ showing (shown_by topic kind) }
+{
+    let action = match kind {
+        ErrorKind::DisplayHelp => Action::Help(topic),
+        ErrorKind::DisplayVersion => Action::Version,
+        _ => return None,
     };
-    match name.as_str() {
-        "run" => run_of(rest),
-        "pipe" => pipe_of(rest),
-        _ => None,
+    Some(Command {
+        action,
+        names: Vec::new(alloc),
+        budget: BUDGET,
+    })
+}
+
+/// What the words after the program's name ask for, or nothing where they aren't taken.
+pub fn command_of<'w>(alloc: Global, words: &'w [String]) -> Result<Option<Command<'w>>, AllocError>
+    ensures { IfOk result (λ command.
+        option_map asked command ≡ asked_by (map string_bytes words.entry.now)) }
+{
+    let app = storyhost(alloc)?;
+    match app.try_get_matches_from(words) {
+        Ok(matches) => command_in(alloc, &matches),
+        Err(error) => match error.kind() {
+            ErrorKind::OutOfMemory => Err(AllocError),
+            kind => Ok(command_shown(alloc, topic_of(words), kind)),
+        },
     }
 }

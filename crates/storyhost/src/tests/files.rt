@@ -61,27 +61,11 @@ fn files_are_played_or_refused(rt: HostRuntime) -> Result<(), Fail> {
             text: &[],
             ..PLAIN
         },
+        // help that can't be written
         Run {
-            words: &["--budget", "0"],
-            status: 2,
-            text: &[],
-            ..PLAIN
-        },
-        Run {
-            words: &["--budget", "1000000000001"],
-            status: 2,
-            text: &[],
-            ..PLAIN
-        },
-        Run {
-            words: &["--budget", "01"],
-            status: 2,
-            text: &[],
-            ..PLAIN
-        },
-        Run {
-            words: &["more"],
-            status: 2,
+            command: &["--help"],
+            writes: &[0],
+            status: 5,
             text: &[],
             ..PLAIN
         },

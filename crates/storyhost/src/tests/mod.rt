@@ -1,11 +1,13 @@
 //! Runs of the whole program over files, input and output in memory.
 
+mod containers;
 mod files;
 mod glk;
 mod lines;
 mod requests;
 mod saves;
 mod turns;
+mod words;
 
 use crate::memory::{MemoryOutside, MemorySink, MemorySource};
 use crate::top::top;
@@ -14,10 +16,11 @@ use std::collections::BTreeMap;
 use std::sync::Wait;
 use std::thread::Threads;
 
-/// A story file: the nine words of its header, what stands behind them, and its size; the rest is
+/// A story file: what stands before its image, the nine words of the header, what stands behind them, and its size; the rest is
 /// zeros.
 #[derive(Clone, Copy)]
 struct File {
+    front: &'static [u8],
     header: [u32; 9],
     code: &'static [u8],
     size: usize,
@@ -25,6 +28,7 @@ struct File {
 
 /// Prints `Hi` and quits.
 const HI: File = File {
+    front: b"",
     header: [
         0x476C_756C,
         0x0003_0103,
@@ -43,6 +47,7 @@ const HI: File = File {
 
 /// Prints `>`, asks for a line, prints it and begins again.
 const ECHO: File = File {
+    front: b"",
     header: [
         0x476C_756C,
         0x0003_0103,
@@ -116,6 +121,7 @@ const PLAIN: Run = Run {
 
 fn bytes_of(alloc: Global, file: &File) -> Result<Vec<u8>, AllocError> {
     let mut bytes = Vec::new(alloc);
+    bytes.extend_from_slice(file.front)?;
     for word in &file.header {
         bytes.extend_from_slice(&word.to_be_bytes())?;
     }
@@ -142,6 +148,14 @@ fn ends_as_wanted<R: Threads + Wait + Sync>(
     )?;
     let others = [
         ("cut.ulx", File { size: 255, ..HI }),
+        (
+            "cut.blb",
+            File {
+                front: b"FORM\x00\x00\x01\x24IFRSRIdx\x00\x00\x00\x10",
+                size: 20,
+                ..HI
+            },
+        ),
         ("overflows.ulx", OVERFLOWS),
         ("by_zero.ulx", DIVIDES_BY_ZERO),
     ];

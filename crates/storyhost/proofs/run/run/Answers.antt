@@ -5,7 +5,7 @@ use Rattle.storyhost.proofs.StopLemmas.{stop_is_no_read, stop_is_write}
 use Rattle.storyhost.proofs.run.run.Goals as goal
 
 pub returns-in_default-clause-value : goal.returns-in_default-clause-value
-returns-in_default-clause-value g c = rw (← c.in_default.ensures.value) (spoken_silent c.args.budget _ _)
+returns-in_default-clause-value g c = rw (← c.in_default.ensures.value) (spoken_silent _ _)
 
 pub returns-in_default-start-clause-value : goal.returns-in_default-start-clause-value
 returns-in_default-start-clause-value g c = spoken_nothing _ _ _

@@ -1,10 +1,10 @@
-use Rattle.std.proofs.Common.{◌≡◌, ◌≤◌, map, length, string_bytes}
+use Rattle.std.proofs.Common.{◌≡◌, ◌≤◌, map, length}
 use Rattle.storyhost.specs.Stories.{AreFiles}
 use Rattle.storyhost.proofs.stories.load_files.Given as goal
 
 abbrev pub invariant-loop-name : goal.invariant-loop-name
 invariant-loop-name g l = record {
-  are : AreFiles (g.O.Outside.outside l.initial.outside).file (map string_bytes l.names) (map (λ f. f.items) l.files.items);
+  are : AreFiles (g.O.Outside.outside l.initial.outside).file (map (λ n. n.now) l.names) (map (λ f. f.items) l.files.items);
   count : length l.files.items ≡ l.name-index;
   kept : (g.O.Outside.outside l.outside).file ≡ (g.O.Outside.outside l.initial.outside).file;
   later : (g.O.Outside.outside l.initial.outside).faults ≤ (g.O.Outside.outside l.outside).faults;

@@ -1,5 +1,5 @@
 use Rattle.std.proofs.Common.{◌∙◌, ap, sym, arith, length}
-use Rattle.story_run.specs.Story.{story_of}
+use Rattle.storyhost.specs.StoryFile.{story_of}
 use Rattle.storyhost.proofs.StoriesLemmas.{behind_none, read_more}
 use Rattle.storyhost.proofs.stories.stories_of.Goals as goal
 
@@ -9,5 +9,5 @@ loop-file-init c = record { count = ap length c.new-stories.ensures.items; found
 pub loop-file-preserved : goal.loop-file-preserved
 loop-file-preserved c = record {
   count = omega (arith, c.in-Ok-push.ensures.len);
-  found = read_more _ _ _ _ _ c.file-item.result c.in-Ok.story c.loop-file.file-index c.loop-file-test.true c.file-item.is (sym (c.in-Ok.ensures.exact ∙ ap story_of c.deref.ensures.value)) c.in-Ok-push.ensures.items c.loop-file.invariant.found;
+  found = read_more _ _ _ _ _ c.file-item.result c.in-Ok.story c.loop-file.file-index c.loop-file-test.true c.file-item.is (sym (c.in-Ok.ensures ∙ ap story_of c.deref.ensures.value)) c.in-Ok-push.ensures.items c.loop-file.invariant.found;
 }

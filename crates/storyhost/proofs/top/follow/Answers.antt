@@ -4,8 +4,8 @@ use Rattle.storyhost.proofs.top.follow.Goals as goal
 pub returns-clause-done : goal.returns-clause-done
 returns-clause-done g c = inr (record {
   files = map (λ f. f.items) c.in-Ok.files.items;
-  are_files = c.in-Ok.ensures.value;
-  settled = c.in-Ok.ensures.settled;
-  spoken = rw c.deref.ensures.value at c.speak.ensures.value;
+  are_files = rw c.deref.ensures.value at c.in-Ok.ensures.value;
+  settled = rw c.deref.ensures.value at c.in-Ok.ensures.settled;
+  spoken = rw c.deref-2.ensures.value at c.speak.ensures.value;
   cause = c.speak.ensures.read_fault;
 })

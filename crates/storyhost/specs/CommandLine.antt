@@ -1,0 +1,47 @@
+-- The commands of the command line, as `clap` is told of them (own).
+use Rattle.std.specs.Prelude.{List, Option, Some, true, codes}
+use Rattle.clap.specs.Simple.{App, new_app, new_rule, on_top, with_rule, with_subcommand}
+use Rattle.clap.specs.Walk.{Rule}
+use Rattle.clap.specs.declared.builder.action.ArgAction.TheVariants.{Append}
+
+-- FILE, and DIR, which isn't used yet
+abbrev pub file_rule : Rule
+file_rule = record (new_rule (codes "FILE")) { required = true }
+
+abbrev pub folder_rule : Rule
+folder_rule = record (new_rule (codes "DIR")) { required = true }
+
+-- STORY.., one or more
+abbrev pub stories_rule : Rule
+stories_rule = record (new_rule (codes "STORY")) { required = true; action = Some Append }
+
+-- `--budget N`
+abbrev pub budget_rule : Rule
+budget_rule = record (new_rule (codes "budget")) { long = Some (codes "budget") }
+
+-- `run FILE [--budget N]`
+abbrev pub run_app : App
+run_app = with_rule (with_rule (new_app (codes "run")) file_rule) budget_rule
+
+-- `check FILE`
+abbrev pub check_app : App
+check_app = with_rule (new_app (codes "check")) file_rule
+
+-- `pipe DIR STORY.. [--budget N]`
+abbrev pub pipe_app : App
+pipe_app =
+    with_rule (with_rule (with_rule (new_app (codes "pipe")) folder_rule) stories_rule) budget_rule
+
+-- the program, with a version, which does nothing but by one of its commands
+abbrev pub bare_app : App
+bare_app = on_top (λ s. record s {
+  no_binary_name = true;
+  disable_help_subcommand = true;
+  subcommand_required = true;
+  has_version = true;
+}) (new_app (codes "storyhost"))
+
+-- `storyhost` with its commands
+abbrev pub storyhost_app : App
+storyhost_app =
+    with_subcommand (with_subcommand (with_subcommand bare_app run_app.top) check_app.top) pipe_app.top

@@ -1,0 +1,68 @@
+//! The commands of the command line, as `clap` is told of them.
+ghost use Rattle.std.specs.Prelude.{◌≡◌, IfOk, false};
+ghost use Rattle.clap.specs.Simple.{app_of};
+ghost use Rattle.clap.specs.declared.builder.command.Command.TheViews.{out-Command as fields_of};
+ghost use Rattle.storyhost.specs.CommandLine.{bare_app, check_app, pipe_app, run_app, storyhost_app};
+
+use crate::help::VERSION;
+use clap::{Arg, ArgAction, Command};
+use std::alloc::{AllocError, Global};
+
+/// `run FILE [--budget N]`.
+fn run_command<'w>(alloc: Global) -> Result<Command<'w>, AllocError>
+    ensures app { IfOk result (λ c. app_of c ≡ run_app) }
+    ensures local { IfOk result (λ c. (fields_of c).has_globals ≡ false) }
+{
+    let file = Arg::new(alloc, "FILE").required(true);
+    let budget = Arg::new(alloc, "budget").long("budget");
+    Command::new(alloc, "run").arg(file)?.arg(budget)
+}
+
+/// `check FILE`.
+fn check_command<'w>(alloc: Global) -> Result<Command<'w>, AllocError>
+    ensures app { IfOk result (λ c. app_of c ≡ check_app) }
+    ensures local { IfOk result (λ c. (fields_of c).has_globals ≡ false) }
+{
+    let file = Arg::new(alloc, "FILE").required(true);
+    Command::new(alloc, "check").arg(file)
+}
+
+/// `pipe DIR STORY.. [--budget N]`.
+fn pipe_command<'w>(alloc: Global) -> Result<Command<'w>, AllocError>
+    ensures app { IfOk result (λ c. app_of c ≡ pipe_app) }
+    ensures local { IfOk result (λ c. (fields_of c).has_globals ≡ false) }
+{
+    let folder = Arg::new(alloc, "DIR").required(true);
+    let stories = Arg::new(alloc, "STORY")
+        .required(true)
+        .action(ArgAction::Append);
+    let budget = Arg::new(alloc, "budget").long("budget");
+    Command::new(alloc, "pipe")
+        .arg(folder)?
+        .arg(stories)?
+        .arg(budget)
+}
+
+/// The program without its commands.
+fn bare_command<'w>(alloc: Global) -> Command<'w>
+    ensures { app_of result ≡ bare_app }
+{
+    Command::new(alloc, "storyhost")
+        .no_binary_name(true)
+        .disable_help_subcommand(true)
+        .subcommand_required(true)
+        .version(VERSION)
+}
+
+/// The program with its commands.
+pub fn storyhost<'w>(alloc: Global) -> Result<Command<'w>, AllocError>
+    ensures { IfOk result (λ c. app_of c ≡ storyhost_app) }
+{
+    let run = run_command(alloc)?;
+    let check = check_command(alloc)?;
+    let pipe = pipe_command(alloc)?;
+    bare_command(alloc)
+        .subcommand(run)?
+        .subcommand(check)?
+        .subcommand(pipe)
+}
