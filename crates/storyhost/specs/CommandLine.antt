@@ -44,4 +44,5 @@ bare_app = on_top (λ s. record s {
 -- `storyhost` with its commands
 abbrev pub storyhost_app : App
 storyhost_app =
-    with_subcommand (with_subcommand (with_subcommand bare_app run_app.top) check_app.top) pipe_app.top
+    with_subcommand
+    (with_subcommand (with_subcommand bare_app run_app.top) check_app.top) pipe_app.top

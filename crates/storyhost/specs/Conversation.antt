@@ -1,5 +1,6 @@
 -- A conversation: lines that are answered one after the other (own).
-use Rattle.std.specs.Prelude.{ℕ, if◌then◌else◌, List, [], ◌∷◌, ◌++◌, map, Bool, Option}
+use Rattle.std.specs.Prelude.{ℕ, if◌then◌else◌, List, [], ◌∷◌, ◌++◌, map, Bool}
+use Rattle.std.specs.Prelude.{Option}
 use Rattle.storyhost.specs.Lines.{heard}
 
 -- how lines are answered: when no more are, the reply to a line, and the state after it;
@@ -10,10 +11,12 @@ pub record Answering (State : Type 0) : Type 0 where
   pub next : State → Option (List ℕ) → State
 
 -- the replies to lines as they are heard, none after the end
-abbrev pub replies_heard : {S : Type 0} → Answering S → S → List (Option (List ℕ)) → List ℕ
+abbrev pub replies_heard : {S : Type 0} → Answering S → S → List (Option (List ℕ))
+    → List ℕ
 replies_heard by state [] = []
 replies_heard by state (line ∷ lines) =
-    if by.is_over state then [] else by.reply state line ++ replies_heard by (by.next state line) lines
+    if by.is_over state then []
+    else by.reply state line ++ replies_heard by (by.next state line) lines
 
 -- the state after lines as they are heard
 abbrev pub after_heard : {S : Type 0} → Answering S → S → List (Option (List ℕ)) → S

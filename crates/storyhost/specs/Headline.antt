@@ -1,9 +1,11 @@
 -- What a command writes for an input, by its exit status (own).
-use Rattle.std.specs.Prelude.{◌≡◌, ℕ, ◌⊎◌, List, [], Bool, true, Result, Ok, Err, IsOkAnd}
+use Rattle.std.specs.Prelude.{◌≡◌, ℕ, ◌⊎◌, List, [], Bool, true, Result, Ok, Err}
+use Rattle.std.specs.Prelude.{IsOkAnd}
 use Rattle.storyhost.specs.Lines.{lines, talk, IsWithinLimits, ReachesLimit}
 use Rattle.storyhost.specs.Writing.{IsPartOf}
 use Rattle.storyhost.specs.declared.status.Status.{Status}
-use Rattle.storyhost.specs.declared.status.Status.TheVariants.{Done, BadWords, Refused, ReadFault, WriteFault, NoMemory, LineLimit}
+use Rattle.storyhost.specs.declared.status.Status.TheVariants.{Done, BadWords, Refused, ReadFault}
+use Rattle.storyhost.specs.declared.status.Status.TheVariants.{WriteFault, NoMemory, LineLimit}
 
 -- what a command says: its text for the lines of an input, and whether it is over after them
 pub record Speech : Type 0 where

@@ -1,7 +1,8 @@
 -- The texts that the program shows of itself (own).
 use Rattle.std.specs.Prelude.{ℕ, if◌then◌else◌, List, [], ◌∷◌, codes}
 use Rattle.std.specs.Str.{bytes_eq}
-use Rattle.storyhost.specs.declared.help.TheConstants.{PROGRAM_HELP, RUN_HELP, CHECK_HELP, PIPE_HELP, VERSION_TEXT}
+use Rattle.storyhost.specs.declared.help.TheConstants.{PROGRAM_HELP, RUN_HELP, CHECK_HELP}
+use Rattle.storyhost.specs.declared.help.TheConstants.{PIPE_HELP, VERSION_TEXT}
 use Rattle.storyhost.specs.declared.help.Topic.{Topic}
 use Rattle.storyhost.specs.declared.help.Topic.TheVariants.{Program, Run, Check, Pipe}
 

@@ -11,7 +11,8 @@ use Rattle.storyhost.specs.Conversation.{Answering}
 
 -- the output of `pipe`: the replies to the lines, from 64 sessions that have accepted nothing
 abbrev pub pipe_text : List Story → ℕ → List (List ℕ) → List ℕ
-pipe_text stories budget lines = flat_map print_reply (replies_to stories budget (replicate 64 []) lines)
+pipe_text stories budget lines =
+    flat_map print_reply (replies_to stories budget (replicate 64 []) lines)
 
 -- a host: its stories, the budget of a turn, and what each session has accepted
 pub record Host : Type 0 where

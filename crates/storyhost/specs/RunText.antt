@@ -27,7 +27,8 @@ input_of (play.File name) = input.File name
 
 -- the reply to an input: the show of its turn where the story waits for it
 abbrev pub input_reply : WorldState → Input → List ℕ
-input_reply world input = if is_wanted world input then show_text (turned world input) else codes "NO 8\n"
+input_reply world input = if is_wanted world input then show_text (turned world input)
+    else codes "NO 8\n"
 
 -- the reply to what a line spells; one that spells nothing gets NO 1
 abbrev pub play_reply : WorldState → Option Play → List ℕ
@@ -63,7 +64,8 @@ opened story budget = opening story.image (alone budget)
 
 -- the output of `run` for the lines of its player: the opening show, and then the replies
 abbrev pub run_text : Story → ℕ → List (List ℕ) → List ℕ
-run_text story budget lines = show_text (opened story budget) ++ replies solo (opened story budget) lines
+run_text story budget lines =
+    show_text (opened story budget) ++ replies solo (opened story budget) lines
 
 -- the world after the lines of its player
 abbrev pub run_world : Story → ℕ → List (List ℕ) → WorldState

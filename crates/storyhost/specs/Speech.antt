@@ -1,5 +1,6 @@
 -- What each command says (own).
-use Rattle.std.specs.Prelude.{ℕ, List, [], slice_get, true, false, Option, None, Some, Result, Ok, Err}
+use Rattle.std.specs.Prelude.{ℕ, List, [], slice_get, true, false, Option, None, Some, Result, Ok}
+use Rattle.std.specs.Prelude.{Err}
 use Rattle.story_run.specs.Solo.{is_over}
 use Rattle.story_run.specs.declared.story.Story.{Story}
 use Rattle.storyhost.specs.CheckText.{good_line}
@@ -20,7 +21,10 @@ said_once text = record { text = λ lines. text; is_over = λ lines. true }
 abbrev pub run_speech : Option Story → ℕ → Speech
 run_speech None budget = said_once []
 run_speech (Some story) budget =
-    record { text = run_text story budget; is_over = λ lines. is_over (run_world story budget lines) }
+    record {
+      text = run_text story budget;
+      is_over = λ lines. is_over (run_world story budget lines);
+    }
 
 -- `check` tells what the header of its one story says
 abbrev pub check_speech : Option Story → Speech

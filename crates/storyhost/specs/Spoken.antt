@@ -1,20 +1,24 @@
 -- What a command leaves of its input and output, told or not (own).
-use Rattle.std.specs.Prelude.{◌≡◌, ℕ, ◌^◌, ◌≤◌, ◌⊎◌, List, length, true, Result, Err, IsOkAnd}
+use Rattle.std.specs.Prelude.{◌≡◌, ℕ, ◌^◌, ◌≤◌, ◌⊎◌, List, length, true}
+use Rattle.std.specs.Prelude.{Result, Err, IsOkAnd}
 use Rattle.storyhost.specs.Headline.{Speech, whole_text}
 use Rattle.storyhost.specs.Lines.{lines, talk, ReachesLimit}
 use Rattle.storyhost.specs.Streams.{SourceState, SinkState, Gave, Wrote}
 use Rattle.storyhost.specs.Talked.{IsReadToEnd}
 use Rattle.storyhost.specs.Writing.{IsPartOf}
 use Rattle.storyhost.specs.declared.status.Status.{Status}
-use Rattle.storyhost.specs.declared.status.Status.TheVariants.{Done, BadWords, Refused, ReadFault, WriteFault, NoMemory, LineLimit}
+use Rattle.storyhost.specs.declared.status.Status.TheVariants.{Done, BadWords, Refused, ReadFault}
+use Rattle.storyhost.specs.declared.status.Status.TheVariants.{WriteFault, NoMemory, LineLimit}
 
 -- what is left, by the bytes read, the source after them and the bytes written
-abbrev pub Leaves : Status → Result Speech (List ℕ) → List ℕ → SourceState → List ℕ → Type 0
+abbrev pub Leaves : Status → Result Speech (List ℕ) → List ℕ → SourceState → List ℕ
+    → Type 0
 Leaves Done said read now written = IsOkAnd said (λ speech.
     (written ≡ speech.text (lines read))
     × (IsReadToEnd read now ⊎ (speech.is_over (lines read) ≡ true)))
 Leaves Refused said read now written = said ≡ Err written
-Leaves ReadFault said read now written = IsOkAnd said (λ speech. written ≡ speech.text (lines read))
+Leaves ReadFault said read now written =
+    IsOkAnd said (λ speech. written ≡ speech.text (lines read))
 Leaves WriteFault said read now written = IsPartOf written (whole_text said (lines read))
 Leaves NoMemory said read now written = IsPartOf written (whole_text said (lines read))
 Leaves LineLimit said read now written = IsOkAnd said (λ speech.
@@ -22,7 +26,8 @@ Leaves LineLimit said read now written = IsOkAnd said (λ speech.
 Leaves BadWords said read now written = ⊥
 
 -- what was read and what was written
-pub record Spoken (said : Result Speech (List ℕ)) (input now : SourceState) (output new : SinkState)
+pub record Spoken (said : Result Speech (List ℕ)) (input now : SourceState)
+    (output new : SinkState)
     (status : Status) : Type 0 where
   pub read : List ℕ
   pub written : List ℕ

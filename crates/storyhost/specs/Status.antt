@@ -3,7 +3,8 @@ use Rattle.std.specs.Prelude.{ℕ, ◌==◌, if◌then◌else◌, Option, None, 
 use Rattle.storyhost.specs.declared.sink.Stop.{Stop}
 use Rattle.storyhost.specs.declared.sink.Stop.TheVariants as stop
 use Rattle.storyhost.specs.declared.status.Status.{Status}
-use Rattle.storyhost.specs.declared.status.Status.TheVariants.{Done, BadWords, Refused, ReadFault, WriteFault, NoMemory, LineLimit}
+use Rattle.storyhost.specs.declared.status.Status.TheVariants.{Done, BadWords, Refused, ReadFault}
+use Rattle.storyhost.specs.declared.status.Status.TheVariants.{WriteFault, NoMemory, LineLimit}
 
 -- the status of an exit code
 abbrev pub status_of : ℕ → Option Status

@@ -1,5 +1,6 @@
 -- The stories that a command names (own).
-use Rattle.std.specs.Prelude.{◌≡◌, ℕ, suc, List, [], ◌∷◌, length, ◌⊎◌, Option, Result, Ok, Err, IsErr}
+use Rattle.std.specs.Prelude.{◌≡◌, ℕ, suc, List, [], ◌∷◌, length, ◌⊎◌, Option}
+use Rattle.std.specs.Prelude.{Result, Ok, Err, IsErr}
 use Rattle.story_run.specs.declared.story.Story.{Story}
 use Rattle.storyhost.specs.Files.{IsFile}
 use Rattle.storyhost.specs.StoryFile.{story_of}
@@ -9,7 +10,8 @@ use Rattle.storyhost.specs.declared.stories.Unplayed.TheVariants.{Refused, NoMem
 use Rattle.storyhost.specs.declared.story_file.StoryFault.{StoryFault}
 
 -- a story and those behind it, or the first that is refused
-abbrev pub followed_by : ℕ → Result Story StoryFault → Result (List Story) Refusal → Result (List Story) Refusal
+abbrev pub followed_by : ℕ → Result Story StoryFault → Result (List Story) Refusal
+    → Result (List Story) Refusal
 followed_by position (Ok story) (Ok stories) = Ok (story ∷ stories)
 followed_by position (Ok story) (Err refusal) = Err refusal
 followed_by position (Err fault) more = Err (record { story = position; fault = fault })
@@ -30,10 +32,12 @@ Refuses found (Refused refusal) = found ≡ Err refusal
 Refuses found NoMemory = Unit {0}
 
 -- what loads of the files of names gave, of the first names at least
-abbrev pub AreFiles : (List ℕ → Option (List ℕ)) → List (List ℕ) → List (List ℕ) → Type 0
+abbrev pub AreFiles : (List ℕ → Option (List ℕ)) → List (List ℕ) → List (List ℕ)
+    → Type 0
 AreFiles file names [] = Unit {0}
 AreFiles file [] (bytes ∷ loaded) = ⊥
-AreFiles file (name ∷ names) (bytes ∷ loaded) = IsFile (file name) bytes × AreFiles file names loaded
+AreFiles file (name ∷ names) (bytes ∷ loaded) =
+    IsFile (file name) bytes × AreFiles file names loaded
 
 -- no more is loaded: each name was, or a story is refused
 abbrev pub IsSettled : List (List ℕ) → List (List ℕ) → Type 0

@@ -1,5 +1,6 @@
 -- The story in a file: a container or an image (Blorb 2.0.4, "Executable Resource Chunks").
-use Rattle.std.specs.Prelude.{ℕ, ◌++◌, if◌then◌else◌, List, take, drop, Bool, codes, Result, Ok, Err}
+use Rattle.std.specs.Prelude.{ℕ, ◌++◌, if◌then◌else◌, List, take, drop, Bool, codes}
+use Rattle.std.specs.Prelude.{Result, Ok, Err}
 use Rattle.std.specs.Fmt.{decimal}
 use Rattle.std.specs.Str.{bytes_eq}
 use Rattle.blorb_read.specs.Container as container

@@ -1,5 +1,7 @@
 -- What the words of the command line ask for (own).
-use Rattle.std.specs.Prelude.{ℕ, ◌≡◌, if◌then◌else◌, List, [], ◌∷◌, length, map, ◌&&◌, nat_le, nat_lt, slice_index, option_and_then, Option, None, Some, codes}
+use Rattle.std.specs.Prelude.{ℕ, ◌≡◌, if◌then◌else◌, List, [], ◌∷◌, length, map}
+use Rattle.std.specs.Prelude.{◌&&◌, nat_le, nat_lt, slice_index, option_and_then, Option, None}
+use Rattle.std.specs.Prelude.{Some, codes}
 use Rattle.std.specs.Str.{bytes_eq, all_ascii_digits}
 use Rattle.std.specs.Str.Parse.{digits_value}
 use Rattle.clap.specs.Faults.{fault_of}
@@ -32,7 +34,8 @@ asked command = record {
 -- the budget of a turn that a word spells: 1 to 1,000,000,000,000, without sign or leading zero
 abbrev pub budget_of : Text → Option ℕ
 budget_of word =
-    if all_ascii_digits word && (nat_lt 48 (slice_index word 0) && nat_le (digits_value 10 word) 1000000000000)
+    if all_ascii_digits word &&
+    (nat_lt 48 (slice_index word 0) && nat_le (digits_value 10 word) 1000000000000)
     then Some (digits_value 10 word) else None
 
 -- the budget that is given, or 50,000,000

@@ -35,7 +35,8 @@ fn line_of(
     stack: u32,
     sum: u32,
 ) -> Result<String, AllocError>
-    ensures { IfOk result (λ line. string_bytes line ≡ line_of version.now memory.now stack sum) }
+    ensures { IfOk result (λ line. string_bytes line
+        ≡ line_of version.now memory.now stack sum) }
 {
     format!(in alloc; "good version={version}{memory} stack={stack} sum={sum}\n")
 }

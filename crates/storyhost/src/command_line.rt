@@ -2,7 +2,8 @@
 ghost use Rattle.std.specs.Prelude.{◌≡◌, IfOk, false};
 ghost use Rattle.clap.specs.Simple.{app_of};
 ghost use Rattle.clap.specs.declared.builder.command.Command.TheViews.{out-Command as fields_of};
-ghost use Rattle.storyhost.specs.CommandLine.{bare_app, check_app, pipe_app, run_app, storyhost_app};
+ghost use Rattle.storyhost.specs.CommandLine.{bare_app, check_app, pipe_app, run_app};
+ghost use Rattle.storyhost.specs.CommandLine.{storyhost_app};
 
 use crate::help::VERSION;
 use clap::{Arg, ArgAction, Command};

@@ -24,7 +24,8 @@ fn read_at_most<S: Source>(input: &mut S, buffer: &mut [u8], most: usize) -> Got
     ensures value { Gave (S.source input.old) (S.source input.new) (given result buffer.new) }
     ensures at_end { result ≡ Got.End → IsAtEnd (S.source input.new).left }
     ensures ended { result ≡ Got.End → (S.source input.new).ended ≡ true }
-    ensures cause { result ≡ Got.Failed → Rose (S.source input.old).faults (S.source input.new).faults }
+    ensures cause { result ≡ Got.Failed
+        → Rose (S.source input.old).faults (S.source input.new).faults }
 {
     let want = most.min(buffer.len());
     input.read(&mut buffer[..want])

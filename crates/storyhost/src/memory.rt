@@ -1,5 +1,6 @@
 //! A source, a sink and an outside in memory, with the calls that are to fail.
-ghost use Rattle.std.specs.Prelude.{◌≡◌, ◌≤◌, [], Some, drop, vec_len, option_map, false};
+ghost use Rattle.std.specs.Prelude.{◌≡◌, ◌≤◌, [], Some, drop, vec_len, option_map};
+ghost use Rattle.std.specs.Prelude.{false};
 ghost use Rattle.std.specs.BTreeMap.{get_by_text};
 
 use crate::outside::{Fetch, Outside};

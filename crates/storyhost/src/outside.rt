@@ -20,7 +20,8 @@ pub trait Outside {
 
     /// The bytes of the file of that name, at most the first 67,108,865.
     fn load(&mut self, alloc: Global, name: &str) -> Result<Vec<u8>, Fetch>
-        ensures value { IfOk result (λ bytes. IsFile ((outside self.old).file name.now) bytes.items) }
+        ensures value { IfOk result
+            (λ bytes. IsFile ((outside self.old).file name.now) bytes.items) }
         ensures kept { (outside self.new).file ≡ (outside self.old).file }
         ensures later { (outside self.old).faults ≤ (outside self.new).faults }
         ensures cause { IsErrOf result Fetch.Failed

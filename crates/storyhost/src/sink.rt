@@ -26,7 +26,8 @@ pub trait Sink {
     fn write(&mut self, piece: &[u8]) -> Put
         ensures within { IsTakenWithin result (length piece.now) }
         ensures value { Wrote (sink self.old) (sink self.new) (kept result piece.now) }
-        ensures cause { result ≡ Put.Failed → Rose (sink self.old).faults (sink self.new).faults };
+        ensures cause { result ≡ Put.Failed
+            → Rose (sink self.old).faults (sink self.new).faults };
 }
 
 /// Why a text was not written whole.

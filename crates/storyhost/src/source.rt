@@ -28,5 +28,6 @@ pub trait Source {
         ensures value { Gave (source self.old) (source self.new) (given result into.new) }
         ensures at_end { result ≡ Got.End → IsAtEnd (source self.new).left }
         ensures ended { (source self.new).ended ≡ ((source self.old).ended || is_end result) }
-        ensures cause { result ≡ Got.Failed → Rose (source self.old).faults (source self.new).faults };
+        ensures cause { result ≡ Got.Failed
+            → Rose (source self.old).faults (source self.new).faults };
 }

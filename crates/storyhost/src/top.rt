@@ -1,5 +1,6 @@
 //! The whole program but for the streams and files of the system.
-ghost use Rattle.std.specs.Prelude.{◌≡◌, ◌⊎◌, [], map, string_bytes, None, IfSome, IsSomeAnd};
+ghost use Rattle.std.specs.Prelude.{◌≡◌, ◌⊎◌, [], map, string_bytes, None, IfSome};
+ghost use Rattle.std.specs.Prelude.{IsSomeAnd};
 ghost use Rattle.storyhost.specs.Causes.{Rose};
 ghost use Rattle.storyhost.specs.Streams.{Gave, Wrote};
 ghost use Rattle.storyhost.specs.Status.{status_of};
@@ -100,7 +101,8 @@ pub fn top<R: Threads + Wait + Sync, O: Outside, S: Source, K: Sink>(
     // 2 comes exactly where the words aren't taken, unless memory was wanted before that was known,
     // and nothing is read or written then
     ensures bad_words { result ≡ 2 → asked_by (map string_bytes words.now) ≡ None }
-    ensures untaken { asked_by (map string_bytes words.now) ≡ None → (result ≡ 2) ⊎ (result ≡ 7) }
+    ensures untaken { asked_by (map string_bytes words.now) ≡ None
+        → (result ≡ 2) ⊎ (result ≡ 7) }
     ensures nothing { asked_by (map string_bytes words.now) ≡ None
         → Gave (S.source input.old) (S.source input.new) []
         × Wrote (K.sink output.old) (K.sink output.new) [] }

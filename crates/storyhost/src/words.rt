@@ -5,7 +5,8 @@ ghost use Rattle.clap.specs.Matches.{found_of};
 ghost use Rattle.clap.specs.Simple.{subcommand_rows_of};
 ghost use Rattle.clap.specs.Walk.{first_of, rows_of};
 ghost use Rattle.storyhost.specs.Help.{topic_named, topic_of};
-ghost use Rattle.storyhost.specs.Words.{asked, asked_by, asked_in, asked_with, budget_given, budget_of, shown_by, showing};
+ghost use Rattle.storyhost.specs.Words.{asked, asked_by, asked_in, asked_with, budget_given};
+ghost use Rattle.storyhost.specs.Words.{budget_of, shown_by, showing};
 
 use crate::command_line::storyhost;
 use crate::help::Topic;

@@ -1,4 +1,5 @@
-//! The system's files and standard streams: what is trusted, since nothing is told of their content.
+//! The system's files and standard streams: what is trusted, since nothing is told of their
+//! content.
 mod files;
 mod reading;
 mod writing;

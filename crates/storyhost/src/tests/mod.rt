@@ -16,8 +16,8 @@ use std::collections::BTreeMap;
 use std::sync::Wait;
 use std::thread::Threads;
 
-/// A story file: what stands before its image, the nine words of the header, what stands behind them, and its size; the rest is
-/// zeros.
+/// A story file: what stands before its image, the nine words of the header, what stands behind
+/// them, and its size; the rest is zeros.
 #[derive(Clone, Copy)]
 struct File {
     front: &'static [u8],
@@ -88,8 +88,9 @@ const ABC: &[u8] = b"W 1 3 0 0 80 24\nT 1 8 =abc%0A\nT 1 0 =abc%0A>\nI 1 line 20
 
 const GONE: &[u8] = b"W 1 3 0 0 80 24\nT 1 8 =gone%0A\nT 1 0 =gone%0A>\nE fault 24\n.\n";
 
-/// A run: the words before and behind the name of the file, the input and how often `a` stands before it, the most
-/// bytes of a read or write, the loads, reads and writes that fail, and what is wanted.
+/// A run: the words before and behind the name of the file, the input and how often `a` stands
+/// before it, the most bytes of a read or write, the loads, reads and writes that fail, and what
+/// is wanted.
 #[derive(Clone, Copy)]
 struct Run {
     file: File,
