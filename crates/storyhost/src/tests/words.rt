@@ -11,6 +11,7 @@ use std::test::Fail;
 use std::thread::Threads;
 
 /// Words, how often the name of a story stands behind them, and what is wanted.
+#[derive(Drop)]
 struct Words {
     words: &'static [&'static str],
     stories: usize,
