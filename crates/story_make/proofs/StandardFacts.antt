@@ -1,0 +1,1 @@
+-- Values that are known of the Echo story and of a script, so that a wrong rule doesn't check.
