@@ -1,24 +1,22 @@
 -- What each script is, whatever its words.
-use Rattle.std.proofs.Common.{◌≡◌, ℕ, zero, suc, ◌+◌, ◌-◌, ◌%◌, ◌^◌, ◌<◌, ◌≤◌, ◌⊎◌, inl, inr, Bool, true, false, ◌&&◌, ◌==◌, cond, nat_le, List, [], ◌∷◌, ◌++◌, length, map, flat_map, codes, Option, Some, refl, ap, sym, subst, ◌∙◌, arith, append_assoc, append-nil, length-append}
-use Rattle.std.specs.List.{All, AllByRecursion}
+use Rattle.std.proofs.Common.{◌≡◌, ℕ, zero, suc, ◌+◌, ◌%◌, ◌^◌, ◌<◌, ◌≤◌, inl, inr, Bool, true, false, ◌==◌, cond, List, [], ◌∷◌, ◌++◌, length, map, slice_index, flat_map, codes, Option, Some, refl, ap, sym, subst, ◌∙◌, arith, append_assoc, append-nil, length-append}
+use Rattle.std.specs.List.{AllByRecursion}
 use Rattle.std.specs.Fmt.{decimal}
 use Rattle.std.specs.Str.{all_scalars}
-use Rattle.std.proofs.lemmas.Bool.{cond_both}
 use Rattle.std.proofs.lemmas.Bool.Decides.{nat_tests}
 use Rattle.std.proofs.lemmas.Fmt.{length-decimal-le}
 use Rattle.std.proofs.lemmas.List.Elements.{All-from_recursion}
 use Rattle.rand_core.specs.Steps.{first_words}
-use Rattle.rand_pcg.specs.Lcg.{Lcg}
-use Rattle.rand_pcg.specs.Pcg.{pcg32}
-use Rattle.story_text.specs.Text.{are_allowed, is_short, IsText}
+use Rattle.rand_pcg.specs.Lcg.{Lcg, next, advance, state_after}
+use Rattle.rand_pcg.specs.Pcg.{multiplier_64, output_xsh_rr, pcg32}
+use Rattle.story_text.specs.Text.{are_allowed, IsText}
 use Rattle.line_words.specs.declared.request.Request.{Request}
-use Rattle.line_words.specs.Spelling.{print_request, IsRequest, SpellsRequest, IsLineOf}
+use Rattle.line_words.specs.Spelling.{print_request, IsRequest}
 use Rattle.line_words.specs.Request.{request_of}
 use Rattle.line_words.proofs.WordLaws.{all_digits, digits-decimal, both}
 use Rattle.line_words.proofs.RequestLaws.{prints, request_again}
 use Rattle.story_make.specs.Script.{generator, letters, opening, typed, Place, begun, turned, turns_from, requests, line_of, script_bytes}
-use Rattle.story_make.specs.Lines.{command_front}
-use Rattle.story_make.specs.Laws.{cut, IsReadAsRequests, HasALineEachTurn, IsLetter, IsNext, AskInOrder, AsksInOrder}
+use Rattle.story_make.specs.Laws.{cut, IsReadAsRequests, HasALineEachTurn, TakesAWordATurn, IsLetter, IsNext, AskInOrder, AsksInOrder}
 use Rattle.story_make.proofs.LineLemmas.{AreLetters, letters_are, length-letters, print_typed, print_opening}
 
 -- ---- the words
@@ -27,6 +25,15 @@ pub length-first_words : (n : ℕ) (g : Lcg) → length (first_words pcg32 n g) 
 unfolding first_words
 length-first_words zero g = refl
 length-first_words (suc n) g = ap suc (length-first_words n (pcg32 g).1)
+
+word_after : (n k : ℕ) (g : Lcg) → k < n → slice_index (first_words pcg32 n g) k ≡ output_xsh_rr (advance 64 multiplier_64 k g).state
+unfolding first_words state_after
+word_after zero k g h = absurd (omega (arith, h))
+word_after (suc n) zero g h = refl
+word_after (suc n) (suc k) g h = word_after n k (next 64 multiplier_64 g) (omega (arith, h))
+
+pub takes : TakesAWordATurn
+takes number s turns k h = word_after turns k (generator number s) h
 
 -- ---- one line each turn
 

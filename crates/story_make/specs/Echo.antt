@@ -8,5 +8,5 @@ abbrev pub echo_front : List ℕ
 echo_front = flat_map (to_be_bytes w32) HEADER ++ CODE
 
 -- the file: the rest of it is zeros
-abbrev pub echo_bytes : List ℕ
+unfoldable pub echo_bytes : List ℕ
 echo_bytes = echo_front ++ replicate (SIZE - length echo_front) 0

@@ -1,10 +1,14 @@
 -- What each script is, whatever its words (own).
-use Rattle.std.specs.Prelude.{◌≡◌, ℕ, ◌+◌, ◌-◌, ◌^◌, ◌<◌, ◌≤◌, ◌⊎◌, ◌==◌}
-use Rattle.std.specs.Prelude.{if◌then◌else◌, List, [], ◌∷◌, ◌++◌, length, map, codes, Option, Some}
+use Rattle.std.specs.Prelude.{◌≡◌, ℕ, ◌+◌, ◌-◌, ◌^◌, ◌<◌, ◌≤◌, ◌⊎◌}
+use Rattle.std.specs.Prelude.{◌==◌, if◌then◌else◌, List, [], ◌∷◌, ◌++◌, length}
+use Rattle.std.specs.Prelude.{map, slice_index, codes, Some}
 use Rattle.std.specs.List.{All}
+use Rattle.rand_pcg.specs.Lcg.{advance}
+use Rattle.rand_pcg.specs.Pcg.{multiplier_64, output_xsh_rr}
 use Rattle.line_words.specs.declared.request.Request.{Request}
 use Rattle.line_words.specs.Request.{request_of}
-use Rattle.story_make.specs.Script.{opening, typed, requests, script_bytes}
+use Rattle.story_make.specs.Script.{generator, opening, typed, words_of, requests}
+use Rattle.story_make.specs.Script.{script_bytes}
 
 -- the lines of bytes without their LF, where these bytes stand before: bytes behind the last LF
 -- are no line
@@ -24,6 +28,16 @@ IsReadAsRequests =
 abbrev pub HasALineEachTurn : Type 0
 HasALineEachTurn =
     (number s turns : ℕ) → length (requests number s turns) ≡ turns + 1
+
+-- word k of the generator, counted from 0: what it puts out after k steps
+abbrev pub word_at : ℕ → ℕ → ℕ → ℕ
+word_at number s k = output_xsh_rr (advance 64 multiplier_64 k (generator number s)).state
+
+-- the k-th turn takes the k-th word, both counted from 0
+abbrev pub TakesAWordATurn : Type 0
+TakesAWordATurn =
+    (number s turns k : ℕ)
+    → k < turns → slice_index (words_of number s turns) k ≡ word_at number s k
 
 -- a small letter
 abbrev pub IsLetter : ℕ → Type 0

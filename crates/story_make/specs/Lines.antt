@@ -8,14 +8,14 @@ use Rattle.story_make.specs.declared.place.Place as kept
 use Rattle.story_make.specs.Script.{Place, opening, typed, letters}
 
 -- the request of a line
-abbrev pub request_of : ℕ → Line → Request
-request_of s (lines.Open number) = opening number s
-request_of s (lines.Skip n) = typed s n (codes "x")
-request_of s (lines.Next n word) = typed s n (letters word)
+abbrev pub request_for : ℕ → Line → Request
+request_for s (lines.Open number) = opening number s
+request_for s (lines.Skip n) = typed s n (codes "x")
+request_for s (lines.Next n word) = typed s n (letters word)
 
 -- the place that is kept
 abbrev pub place_of : ℕ → kept.Place → Place
-place_of s place = record { sent = place.sent; last = request_of s place.line }
+place_of s place = record { sent = place.sent; last = request_for s place.line }
 
 -- what stands before the letters of a command's line
 abbrev pub command_front : ℕ → ℕ → List ℕ

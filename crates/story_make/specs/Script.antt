@@ -13,6 +13,10 @@ use Rattle.line_words.specs.Spelling.{print_request}
 abbrev pub generator : ℕ → ℕ → Lcg
 generator number s = started 64 multiplier_64 number (increment_of 64 s)
 
+-- the words of a script's turns
+abbrev pub words_of : ℕ → ℕ → ℕ → List ℕ
+words_of number s turns = first_words pcg32 turns (generator number s)
+
 -- letter i, counted from 0, of the text that a word stands for
 abbrev pub letter : ℕ → ℕ → ℕ
 letter word i = 97 + word / (i + 1) % 26
@@ -57,7 +61,7 @@ turns_from s place (word ∷ words) =
 unfoldable pub requests : ℕ → ℕ → ℕ → List Request
 requests number s turns =
     opening number s
-    ∷ turns_from s (begun number s) (first_words pcg32 turns (generator number s))
+    ∷ turns_from s (begun number s) (words_of number s turns)
 
 -- a request as a line, with its LF
 abbrev pub line_of : Request → List ℕ

@@ -1,7 +1,9 @@
 //! The Echo story (own; the layout is Glulx 3.1.3, "The Header").
 
-ghost use Rattle.std.specs.Prelude.{◌≡◌, ◌++◌, IfOk, OnOk, flat_map};
+ghost use Rattle.std.specs.Prelude.{◌≡◌, ◌++◌, IfOk, Ok, OnOk, flat_map};
 ghost use Rattle.std.specs.Int.{w32, to_be_bytes};
+ghost use Rattle.glulx_image.specs.Image.{image_of};
+ghost use Rattle.glulx_image.specs.Checksum.{verified};
 ghost use Rattle.story_make.specs.Echo.{echo_bytes};
 
 use std::alloc::{AllocError, Global};
@@ -43,7 +45,9 @@ fn push_words(out: &mut Vec<u8>, words: &[u32]) -> Result<(), AllocError>
 /// The file of the Echo story, 256 bytes: it prints `>`, asks for a line of at most 20 characters,
 /// prints it and a newline, and begins again. An error where memory runs out.
 pub fn echo_story(alloc: Global) -> Result<Vec<u8>, AllocError>
-    ensures { IfOk result (λ v. v.items ≡ echo_bytes) }
+    ensures value { IfOk result (λ v. v.items ≡ echo_bytes) }
+    ensures image { IfOk result (λ v. image_of v.items ≡ Ok v.items) }
+    ensures checksum { IfOk result (λ v. verified v.items ≡ 0) }
 {
     let mut story = Vec::new(alloc);
     push_words(&mut story, &HEADER)?;

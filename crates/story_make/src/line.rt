@@ -2,7 +2,7 @@
 
 ghost use Rattle.std.specs.Prelude.{◌≡◌, ◌<◌, ◌++◌, OnOk};
 ghost use Rattle.story_make.specs.Script.{letter, letters, line_of, opening};
-ghost use Rattle.story_make.specs.Lines.{request_of, command_front};
+ghost use Rattle.story_make.specs.Lines.{request_for, command_front};
 
 use std::alloc::{AllocError, Global};
 
@@ -36,24 +36,14 @@ fn push_letters(out: &mut Vec<u8>, word: u32) -> Result<(), AllocError>
 }
 
 /// What stands before the letters of a command's line.
-fn push_command(
-    out: &mut Vec<u8>,
-    alloc: Global,
-    session: u8,
-    n: u64,
-) -> Result<(), AllocError>
+fn push_command(out: &mut Vec<u8>, alloc: Global, session: u8, n: u64) -> Result<(), AllocError>
     ensures { OnOk result (out.new.items ≡ out.old.items ++ command_front session n) }
 {
     let front = format!(in alloc; "LINE {session} k {n} 1 =")?;
     out.extend_from_slice(front.as_bytes())
 }
 
-fn push_open(
-    out: &mut Vec<u8>,
-    alloc: Global,
-    session: u8,
-    number: u64,
-) -> Result<(), AllocError>
+fn push_open(out: &mut Vec<u8>, alloc: Global, session: u8, number: u64) -> Result<(), AllocError>
     ensures { OnOk result (out.new.items ≡ out.old.items ++ line_of (opening number session)) }
 {
     let line = format!(in alloc; "OPEN {session} k 0 {number} 80 24\n")?;
@@ -67,7 +57,7 @@ pub fn push_line(
     session: u8,
     line: Line,
 ) -> Result<(), AllocError>
-    ensures { OnOk result (out.new.items ≡ out.old.items ++ line_of (request_of session line)) }
+    ensures { OnOk result (out.new.items ≡ out.old.items ++ line_of (request_for session line)) }
 {
     match line {
         Line::Open { number } => push_open(out, alloc, session, number)?,
