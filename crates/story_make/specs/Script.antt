@@ -33,8 +33,8 @@ opening number s = Open s (codes "k") 0 number 80 24 50000000
 abbrev pub typed : ℕ → ℕ → List ℕ → Request
 typed s n text = Line s (codes "k") n 1 text 0
 
--- how far a script has come: the commands sent since the session was opened, each counted once,
--- and the request that was given last
+-- how far a script has come: the number of the last command that was given in its order, 0 before
+-- the first, and the request that was given last
 pub record Place : Type 0 where
   pub sent : ℕ
   pub last : Request

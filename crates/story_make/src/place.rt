@@ -6,7 +6,8 @@ ghost use Rattle.story_make.specs.Lines.{place_of};
 
 use crate::line::Line;
 
-/// The commands sent since the session was opened, each counted once, and the last line.
+/// The number of the last command that was given in its order, 0 before the first, and the last
+/// line.
 #[derive(Clone, Copy)]
 pub struct Place {
     pub sent: u64,
