@@ -1,7 +1,5 @@
 -- Instructions whose loads leave the machine as it is.
-use Rattle.std.proofs.Common.{◌≡◌, refl, sym, ◌∙◌, ap, ℕ, ◌+◌, ◌%◌, ◌/◌, List, [], ◌∷◌, Result, Ok, Err, IfOk, Option, Some, IfSome, replicate, take, subst}
-use Rattle.std.specs.Result.{result_ok}
-use native.Mathlib.Omega.{arith}
+use Rattle.std.proofs.Common.{◌≡◌, refl, sym, ◌∙◌, ap, ℕ, ◌+◌, ◌%◌, ◌/◌, List, [], ◌∷◌, Ok, Option, Some, replicate, take, subst}
 use Rattle.vm_memory.specs.Access.{read}
 use Rattle.vm_operand.specs.Brief.{OpcodeAt, dest_by, instr_of, load_by, operands_from}
 use Rattle.vm_operand.specs.Instruction.{instruction_at}
@@ -23,19 +21,6 @@ use Rattle.vm_exec.specs.declared.machine.Machine.{Machine}
 use Rattle.vm_exec.specs.declared.quick.Quick.{Quick}
 use Rattle.vm_exec.proofs.Told.{fetched_is}
 
--- what is said of a call's value is so of the value that its `ok` has
-pub if_kept : {T E : Type 0} → (r : Result T E) (x : T) (P : T → Type 0) → IfOk r P → Some x ≡ result_ok r → P x
-if_kept (Ok y) x P said kept = subst (λ o. IfSome o P) (sym kept) said
-if_kept (Err y) x P said kept = subst (λ o. IfSome o P) (sym kept) said
-
-was : {T E : Type 0} → (r : Result T E) (x : T) → Some x ≡ result_ok r → r ≡ Ok x
-was (Ok y) x kept = grind (arith, kept)
-was (Err y) x kept = absurd (grind (arith, kept))
-
--- where a call's `ok` has a value, so had what the call is said to be
-pub was_kept : {T E : Type 0} → {r said : Result T E} → {x : T} → r ≡ said → Some x ≡ result_ok r → said ≡ Ok x
-was_kept {r = r} {x = x} is kept = sym is ∙ was r x kept
-
 -- an instruction in brief with its loads taken
 brief_fetched : (m : Machine) (p : ℕ) (ks : List Kind) (b : Brief) (args : List ℕ) → OpcodeAt m.memory m.pc b.op p
     → kinds_of b.op ≡ ks → width_of (Some b.op) ≡ 4 → operands_from m.memory (number_of b.op) ks p ≡ Ok (instr_of b)
@@ -45,7 +30,7 @@ brief_fetched m p ks b args here kinds words read taken =
     let all : operands_from m.memory (number_of b.op) (kinds_of b.op) p ≡ Ok (instr_of b) =
     subst (λ (xs : List Kind). operands_from m.memory (number_of b.op) xs p ≡ Ok (instr_of b)) (sym kinds) read in
     let there : instruction_at m.memory m.pc ≡ Ok (instr_of b) =
-    instruction_from m.memory m.pc (number_of b.op) p b.op (Ok b) here (op_of-number_of b.op) refl all in
+    instruction_from m.memory m.pc (number_of b.op) p b.op (Some b) here (op_of-number_of b.op) refl all in
     sym (ap (λ (o : Option Op). Ok (work_of o (record m { pc = b.next }) args (b.to ∷ dest.Discard ∷ []))) (sym (op_of-number_of b.op))
     ∙ fetched_is m (instr_of b) (m, args) 4 (sym words ∙ ap width_of (sym (op_of-number_of b.op))) (sym there) taken)
 

@@ -164,8 +164,8 @@ impl<'i> Machine<'i> {
         ensures cost { IfOk result (λ step. IsPriced left step) }
     {
         match opcode_at(&self.memory, self.pc) {
-            Ok((op, place)) => self.opcode(alloc, op, place, left),
-            Err(_) => self.plain(alloc, left),
+            Some((op, place)) => self.opcode(alloc, op, place, left),
+            None => self.plain(alloc, left),
         }
     }
 
@@ -178,7 +178,7 @@ impl<'i> Machine<'i> {
         ensures cost { IfOk result (λ step. IsPriced left step) }
     {
         match decode_brief(&self.memory, self.pc) {
-            Ok(brief) if width_of(Some(brief.op)) == 4 => self.brief(alloc, brief, left),
+            Some(brief) if width_of(Some(brief.op)) == 4 => self.brief(alloc, brief, left),
             _ => self.plain(alloc, left),
         }
     }

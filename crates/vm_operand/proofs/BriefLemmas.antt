@@ -1,12 +1,14 @@
 -- Instructions of few operands, all of which are read.
-use Rattle.std.proofs.Common.{arith, ◌≡◌, refl, ℕ, ◌+◌, ◌%◌, ◌/◌, [], ◌∷◌, Result, Ok, Err, Some, length, subst}
+use Rattle.std.proofs.Common.{arith, ◌≡◌, refl, sym, ◌∙◌, ap, ℕ, ◌+◌, ◌%◌, ◌/◌, [], ◌∷◌, Result, Ok, Err, Some, length, subst}
 use Rattle.vm_memory.specs.MemoryMap.{MemoryMap}
 use Rattle.vm_memory.specs.Access.{read}
-use Rattle.vm_operand.specs.Brief.{dest_by, instr_of, load_by, operands_from}
+use Rattle.vm_operand.specs.Brief.{IsBrief, OpcodeAt, dest_by, instr_of, load_by, operands_from}
 use Rattle.vm_operand.specs.Instruction.{bare, modes_at, number_at, operand, operands, load_at, dest_at, instruction_at}
 use Rattle.vm_operand.specs.Mode.{mode_of}
-use Rattle.vm_operand.specs.Reading.{◌>>=◌}
-use Rattle.std.specs.Prelude.{IfOk}
+use Rattle.vm_operand.proofs.OpcodeLemmas.{op_of-number_of}
+use Rattle.vm_operand.specs.Reading.{◌>>=◌, reads}
+use Rattle.std.specs.Prelude.{IfSome, IsErr, Option, None}
+use Rattle.std.specs.Result.{result_ok}
 use Rattle.vm_operand.specs.Opcode.{kinds_of, number_of, op_of}
 use Rattle.vm_operand.specs.declared.brief.Brief.{Brief}
 use Rattle.vm_operand.specs.declared.opcode.Op.{Op}
@@ -17,6 +19,27 @@ use Rattle.vm_operand.specs.declared.operand.Load as l
 use Rattle.vm_operand.specs.declared.operand.Load.TheVariants as load
 use Rattle.vm_operand.specs.declared.operand.Dest as d
 use Rattle.vm_operand.specs.declared.operand.Dest.TheVariants as dest
+
+was : {T E : Type 0} → (r : Result T E) (x : T) → Some x ≡ result_ok r → r ≡ Ok x
+was (Ok y) x kept = grind (arith, kept)
+was (Err y) x kept = absurd (grind (arith, kept))
+
+-- where a call's `ok` has a value, so had what the call is said to be
+pub was_kept : {T E : Type 0} → {r said : Result T E} → {x : T} → r ≡ said → Some x ≡ result_ok r → said ≡ Ok x
+was_kept {r = r} {x = x} is kept = sym is ∙ was r x kept
+
+-- a fault
+pub record Lost {T E : Type 0} (r : Result T E) : Type 0 where
+  pub fault : E
+  pub is : r ≡ Err fault
+
+was_lost : {T E : Type 0} → (r : Result T E) → None ≡ result_ok r → Lost r
+was_lost (Ok y) kept = absurd (grind (arith, kept))
+was_lost (Err e) kept = record { fault = e; is = refl }
+
+-- where a call's `ok` has none, what the call is said to be is a fault
+pub lost : {T E : Type 0} → {r said : Result T E} → r ≡ said → None ≡ result_ok r → Lost said
+lost {r = r} is kept = subst Lost is (was_lost r kept)
 
 -- a mode that was found, and what came of it
 record Found {B : Type 0} (r : Result Mode OpFault) (f : Mode → Result B OpFault) (x : B) : Type 0 where
@@ -98,12 +121,168 @@ reads_four_and_store m o at b0 b1 b2 x0 x1 x2 x3 x4 h0 h1 h2 g0 g1 g2 g3 g4 =
     let p4 = found (mode_of S (b2 % 16)) (λ mode. dest_at m mode x3.1) x4 g4 in
     rw h0 (rw p0.is (rw p1.is (rw h1 (rw p2.is (rw p3.is (rw h3 (rw p4.is (rw p0.gives (rw p1.gives (rw p2.gives (rw p3.gives (rw p4.gives refl))))))))))))
 
+-- a result that is an error, or a value
+either : {A E : Type 0} {P : Type 0} (r : Result A E) → ((e : E) → r ≡ Err e → P) → ((x : A) → r ≡ Ok x → P) → P
+either (Ok x) bad good = good x refl
+either (Err e) bad good = bad e refl
+
+contrary : {A E : Type 0} {P : Type 0} (r : Result A E) (x : A) → r ≡ Ok x → IsErr r → P
+contrary (Ok y) x is bad = absurd cc
+contrary (Err e) x is bad = absurd cc
+
+-- the bytes of its modes, and then its operands
+abbrev pub read_one : MemoryMap → ℕ → Result (l.Load × ℕ) OpFault
+read_one m at =
+    reads (read 1 m at) >>= (λ b0. load_by m (b0 % 16) (at + 1))
+
+pub no_one : (m : MemoryMap) (n at : ℕ) → IsErr (read_one m at) → IsErr (operands_from m n (L ∷ []) at)
+unfolding modes_at operands operand
+no_one m n at bad =
+    either (read 1 m at) (λ e h. rw h refl) (λ b0 h0.
+    either (mode_of L (b0 % 16)) (λ e h. rw h0 (rw h refl)) (λ k0 p0.
+    either (load_at m k0 (at + 1)) (λ e h. rw h0 (rw p0 (rw h refl))) (λ x0 g0.
+    let all : read_one m at ≡ Ok x0 = rw h0 (rw p0 (rw g0 refl)) in
+    contrary (read_one m at) x0 all bad)))
+
+-- the bytes of its modes, and then its operands
+abbrev pub read_one_and_store : MemoryMap → ℕ → Result (d.Dest × ℕ) OpFault
+read_one_and_store m at =
+    reads (read 1 m at) >>= (λ b0. load_by m (b0 % 16) (at + 1) >>= (λ x0. dest_by m (b0 / 16) x0.1))
+
+pub no_one_and_store : (m : MemoryMap) (n at : ℕ) → IsErr (read_one_and_store m at) → IsErr (operands_from m n (L ∷ S ∷ []) at)
+unfolding modes_at operands operand
+no_one_and_store m n at bad =
+    either (read 1 m at) (λ e h. rw h refl) (λ b0 h0.
+    either (mode_of L (b0 % 16)) (λ e h. rw h0 (rw h refl)) (λ k0 p0.
+    either (mode_of S (b0 / 16)) (λ e h. rw h0 (rw p0 (rw h refl))) (λ k1 p1.
+    either (load_at m k0 (at + 1)) (λ e h. rw h0 (rw p0 (rw p1 (rw h refl)))) (λ x0 g0.
+    either (dest_at m k1 x0.1) (λ e h. rw h0 (rw p0 (rw p1 (rw g0 (rw h refl))))) (λ x1 g1.
+    let all : read_one_and_store m at ≡ Ok x1 = rw h0 (rw p0 (rw g0 (rw p1 (rw g1 refl)))) in
+    contrary (read_one_and_store m at) x1 all bad)))))
+
+-- the bytes of its modes, and then its operands
+abbrev pub read_two : MemoryMap → ℕ → Result (l.Load × ℕ) OpFault
+read_two m at =
+    reads (read 1 m at) >>= (λ b0. load_by m (b0 % 16) (at + 1) >>= (λ x0. load_by m (b0 / 16) x0.1))
+
+pub no_two : (m : MemoryMap) (n at : ℕ) → IsErr (read_two m at) → IsErr (operands_from m n (L ∷ L ∷ []) at)
+unfolding modes_at operands operand
+no_two m n at bad =
+    either (read 1 m at) (λ e h. rw h refl) (λ b0 h0.
+    either (mode_of L (b0 % 16)) (λ e h. rw h0 (rw h refl)) (λ k0 p0.
+    either (mode_of L (b0 / 16)) (λ e h. rw h0 (rw p0 (rw h refl))) (λ k1 p1.
+    either (load_at m k0 (at + 1)) (λ e h. rw h0 (rw p0 (rw p1 (rw h refl)))) (λ x0 g0.
+    either (load_at m k1 x0.1) (λ e h. rw h0 (rw p0 (rw p1 (rw g0 (rw h refl))))) (λ x1 g1.
+    let all : read_two m at ≡ Ok x1 = rw h0 (rw p0 (rw g0 (rw p1 (rw g1 refl)))) in
+    contrary (read_two m at) x1 all bad)))))
+
+-- the bytes of its modes, and then its operands
+abbrev pub read_two_and_store : MemoryMap → ℕ → Result (d.Dest × ℕ) OpFault
+read_two_and_store m at =
+    reads (read 1 m at) >>= (λ b0. reads (read 1 m (at + 1)) >>= (λ b1. load_by m (b0 % 16) (at + 2) >>= (λ x0. load_by m (b0 / 16) x0.1 >>= (λ x1. dest_by m (b1 % 16) x1.1))))
+
+pub no_two_and_store : (m : MemoryMap) (n at : ℕ) → IsErr (read_two_and_store m at) → IsErr (operands_from m n (L ∷ L ∷ S ∷ []) at)
+unfolding modes_at operands operand
+no_two_and_store m n at bad =
+    either (read 1 m at) (λ e h. rw h refl) (λ b0 h0.
+    either (mode_of L (b0 % 16)) (λ e h. rw h0 (rw h refl)) (λ k0 p0.
+    either (mode_of L (b0 / 16)) (λ e h. rw h0 (rw p0 (rw h refl))) (λ k1 p1.
+    either (read 1 m (at + 1)) (λ e h. rw h0 (rw p0 (rw p1 (rw h refl)))) (λ b1 h1.
+    either (mode_of S (b1 % 16)) (λ e h. rw h0 (rw p0 (rw p1 (rw h1 (rw h refl))))) (λ k2 p2.
+    either (load_at m k0 (at + 2)) (λ e h. rw h0 (rw p0 (rw p1 (rw h1 (rw p2 (rw h refl)))))) (λ x0 g0.
+    either (load_at m k1 x0.1) (λ e h. rw h0 (rw p0 (rw p1 (rw h1 (rw p2 (rw g0 (rw h refl))))))) (λ x1 g1.
+    either (dest_at m k2 x1.1) (λ e h. rw h0 (rw p0 (rw p1 (rw h1 (rw p2 (rw g0 (rw g1 (rw h refl)))))))) (λ x2 g2.
+    let all : read_two_and_store m at ≡ Ok x2 = rw h0 (rw h1 (rw p0 (rw g0 (rw p1 (rw g1 (rw p2 (rw g2 refl))))))) in
+    contrary (read_two_and_store m at) x2 all bad))))))))
+
+-- the bytes of its modes, and then its operands
+abbrev pub read_three : MemoryMap → ℕ → Result (l.Load × ℕ) OpFault
+read_three m at =
+    reads (read 1 m at) >>= (λ b0. reads (read 1 m (at + 1)) >>= (λ b1. load_by m (b0 % 16) (at + 2) >>= (λ x0. load_by m (b0 / 16) x0.1 >>= (λ x1. load_by m (b1 % 16) x1.1))))
+
+pub no_three : (m : MemoryMap) (n at : ℕ) → IsErr (read_three m at) → IsErr (operands_from m n (L ∷ L ∷ L ∷ []) at)
+unfolding modes_at operands operand
+no_three m n at bad =
+    either (read 1 m at) (λ e h. rw h refl) (λ b0 h0.
+    either (mode_of L (b0 % 16)) (λ e h. rw h0 (rw h refl)) (λ k0 p0.
+    either (mode_of L (b0 / 16)) (λ e h. rw h0 (rw p0 (rw h refl))) (λ k1 p1.
+    either (read 1 m (at + 1)) (λ e h. rw h0 (rw p0 (rw p1 (rw h refl)))) (λ b1 h1.
+    either (mode_of L (b1 % 16)) (λ e h. rw h0 (rw p0 (rw p1 (rw h1 (rw h refl))))) (λ k2 p2.
+    either (load_at m k0 (at + 2)) (λ e h. rw h0 (rw p0 (rw p1 (rw h1 (rw p2 (rw h refl)))))) (λ x0 g0.
+    either (load_at m k1 x0.1) (λ e h. rw h0 (rw p0 (rw p1 (rw h1 (rw p2 (rw g0 (rw h refl))))))) (λ x1 g1.
+    either (load_at m k2 x1.1) (λ e h. rw h0 (rw p0 (rw p1 (rw h1 (rw p2 (rw g0 (rw g1 (rw h refl)))))))) (λ x2 g2.
+    let all : read_three m at ≡ Ok x2 = rw h0 (rw h1 (rw p0 (rw g0 (rw p1 (rw g1 (rw p2 (rw g2 refl))))))) in
+    contrary (read_three m at) x2 all bad))))))))
+
+-- the bytes of its modes, and then its operands
+abbrev pub read_three_and_store : MemoryMap → ℕ → Result (d.Dest × ℕ) OpFault
+read_three_and_store m at =
+    reads (read 1 m at) >>= (λ b0. reads (read 1 m (at + 1)) >>= (λ b1. load_by m (b0 % 16) (at + 2) >>= (λ x0. load_by m (b0 / 16) x0.1 >>= (λ x1. load_by m (b1 % 16) x1.1 >>= (λ x2. dest_by m (b1 / 16) x2.1)))))
+
+pub no_three_and_store : (m : MemoryMap) (n at : ℕ) → IsErr (read_three_and_store m at) → IsErr (operands_from m n (L ∷ L ∷ L ∷ S ∷ []) at)
+unfolding modes_at operands operand
+no_three_and_store m n at bad =
+    either (read 1 m at) (λ e h. rw h refl) (λ b0 h0.
+    either (mode_of L (b0 % 16)) (λ e h. rw h0 (rw h refl)) (λ k0 p0.
+    either (mode_of L (b0 / 16)) (λ e h. rw h0 (rw p0 (rw h refl))) (λ k1 p1.
+    either (read 1 m (at + 1)) (λ e h. rw h0 (rw p0 (rw p1 (rw h refl)))) (λ b1 h1.
+    either (mode_of L (b1 % 16)) (λ e h. rw h0 (rw p0 (rw p1 (rw h1 (rw h refl))))) (λ k2 p2.
+    either (mode_of S (b1 / 16)) (λ e h. rw h0 (rw p0 (rw p1 (rw h1 (rw p2 (rw h refl)))))) (λ k3 p3.
+    either (load_at m k0 (at + 2)) (λ e h. rw h0 (rw p0 (rw p1 (rw h1 (rw p2 (rw p3 (rw h refl))))))) (λ x0 g0.
+    either (load_at m k1 x0.1) (λ e h. rw h0 (rw p0 (rw p1 (rw h1 (rw p2 (rw p3 (rw g0 (rw h refl)))))))) (λ x1 g1.
+    either (load_at m k2 x1.1) (λ e h. rw h0 (rw p0 (rw p1 (rw h1 (rw p2 (rw p3 (rw g0 (rw g1 (rw h refl))))))))) (λ x2 g2.
+    either (dest_at m k3 x2.1) (λ e h. rw h0 (rw p0 (rw p1 (rw h1 (rw p2 (rw p3 (rw g0 (rw g1 (rw g2 (rw h refl)))))))))) (λ x3 g3.
+    let all : read_three_and_store m at ≡ Ok x3 = rw h0 (rw h1 (rw p0 (rw g0 (rw p1 (rw g1 (rw p2 (rw g2 (rw p3 (rw g3 refl))))))))) in
+    contrary (read_three_and_store m at) x3 all bad))))))))))
+
+-- the bytes of its modes, and then its operands
+abbrev pub read_four_and_store : MemoryMap → ℕ → Result (d.Dest × ℕ) OpFault
+read_four_and_store m at =
+    reads (read 1 m at) >>= (λ b0. reads (read 1 m (at + 1)) >>= (λ b1. reads (read 1 m (at + 2)) >>= (λ b2. load_by m (b0 % 16) (at + 3) >>= (λ x0. load_by m (b0 / 16) x0.1 >>= (λ x1. load_by m (b1 % 16) x1.1 >>= (λ x2. load_by m (b1 / 16) x2.1 >>= (λ x3. dest_by m (b2 % 16) x3.1)))))))
+
+pub no_four_and_store : (m : MemoryMap) (n at : ℕ) → IsErr (read_four_and_store m at) → IsErr (operands_from m n (L ∷ L ∷ L ∷ L ∷ S ∷ []) at)
+unfolding modes_at operands operand
+no_four_and_store m n at bad =
+    either (read 1 m at) (λ e h. rw h refl) (λ b0 h0.
+    either (mode_of L (b0 % 16)) (λ e h. rw h0 (rw h refl)) (λ k0 p0.
+    either (mode_of L (b0 / 16)) (λ e h. rw h0 (rw p0 (rw h refl))) (λ k1 p1.
+    either (read 1 m (at + 1)) (λ e h. rw h0 (rw p0 (rw p1 (rw h refl)))) (λ b1 h1.
+    either (mode_of L (b1 % 16)) (λ e h. rw h0 (rw p0 (rw p1 (rw h1 (rw h refl))))) (λ k2 p2.
+    either (mode_of L (b1 / 16)) (λ e h. rw h0 (rw p0 (rw p1 (rw h1 (rw p2 (rw h refl)))))) (λ k3 p3.
+    either (read 1 m (at + 1 + 1)) (λ e h. rw h0 (rw p0 (rw p1 (rw h1 (rw p2 (rw p3 (rw h refl))))))) (λ b2 h2.
+    either (mode_of S (b2 % 16)) (λ e h. rw h0 (rw p0 (rw p1 (rw h1 (rw p2 (rw p3 (rw h2 (rw h refl)))))))) (λ k4 p4.
+    either (load_at m k0 (at + 3)) (λ e h. rw h0 (rw p0 (rw p1 (rw h1 (rw p2 (rw p3 (rw h2 (rw p4 (rw h refl))))))))) (λ x0 g0.
+    either (load_at m k1 x0.1) (λ e h. rw h0 (rw p0 (rw p1 (rw h1 (rw p2 (rw p3 (rw h2 (rw p4 (rw g0 (rw h refl)))))))))) (λ x1 g1.
+    either (load_at m k2 x1.1) (λ e h. rw h0 (rw p0 (rw p1 (rw h1 (rw p2 (rw p3 (rw h2 (rw p4 (rw g0 (rw g1 (rw h refl))))))))))) (λ x2 g2.
+    either (load_at m k3 x2.1) (λ e h. rw h0 (rw p0 (rw p1 (rw h1 (rw p2 (rw p3 (rw h2 (rw p4 (rw g0 (rw g1 (rw g2 (rw h refl)))))))))))) (λ x3 g3.
+    either (dest_at m k4 x3.1) (λ e h. rw h0 (rw p0 (rw p1 (rw h1 (rw p2 (rw p3 (rw h2 (rw p4 (rw g0 (rw g1 (rw g2 (rw g3 (rw h refl))))))))))))) (λ x4 g4.
+    let h3 : read 1 m (at + 2) ≡ Ok b2 = subst (λ i. read 1 m i ≡ Ok b2) (omega arith) h2 in
+    let all : read_four_and_store m at ≡ Ok x4 = rw h0 (rw h1 (rw h3 (rw p0 (rw g0 (rw p1 (rw g1 (rw p2 (rw g2 (rw p3 (rw g3 (rw p4 (rw g4 refl)))))))))))) in
+    contrary (read_four_and_store m at) x4 all bad)))))))))))))
+
 -- an opcode that was read, and then its operands
-pub instruction_from : (m : MemoryMap) (at number place : ℕ) (o : Op) (r : Result Brief OpFault)
+pub instruction_from : (m : MemoryMap) (at number place : ℕ) (o : Op) (r : Option Brief)
     → number_at m at ≡ Ok (number, place) → op_of number ≡ Some o → number_of o ≡ number
-    → IfOk r (λ b. operands_from m (number_of o) (kinds_of o) place ≡ Ok (instr_of b))
-    → IfOk r (λ b. instruction_at m at ≡ Ok (instr_of b))
+    → IfSome r (λ b. operands_from m (number_of o) (kinds_of o) place ≡ Ok (instr_of b))
+    → IfSome r (λ b. instruction_at m at ≡ Ok (instr_of b))
 unfolding instruction_at
-instruction_from m at number place o (Err f) n k e h = tt
-instruction_from m at number place o (Ok b) n k e h =
+instruction_from m at number place o None n k e h = tt
+instruction_from m at number place o (Some b) n k e h =
     rw n (rw k (subst (λ j. (modes_at m place (kinds_of o) >>= (λ modes. operands m (kinds_of o) modes (bare j (place + (length (kinds_of o) + 1) / 2)))) ≡ Ok (instr_of b)) e h))
+
+op_in : Result (ℕ × ℕ) OpFault → Option Op
+op_in (Ok x) = op_of x.0
+op_in (Err e) = None
+
+-- what the opcode that was read is, the opcode that stands there is
+pub same_brief : (m : MemoryMap) (at : ℕ) (o p : Op) (place next : ℕ) → OpcodeAt m at o place → OpcodeAt m at p next → IsBrief (kinds_of p) → IsBrief (kinds_of o)
+unfolding op_in
+same_brief m at o p place next here there brief =
+    let same_row : op_of (number_of p) ≡ op_of (number_of o) = ap op_in (sym there ∙ here) in
+    let same : Some p ≡ Some o = sym (op_of-number_of p) ∙ same_row ∙ op_of-number_of o in
+    subst (λ (r : Option Op). IfSome r (λ x. IsBrief (kinds_of x))) same brief
+
+-- its operands can't be read
+pub no_instruction : (m : MemoryMap) (at : ℕ) (o : Op) (place : ℕ) → OpcodeAt m at o place → IsErr (operands_from m (number_of o) (kinds_of o) place) → IsErr (instruction_at m at)
+unfolding instruction_at
+no_instruction m at o place here bad = rw here (rw (op_of-number_of o) bad)

@@ -1,8 +1,8 @@
 -- Instructions of at most four loads and then at most one store (own).
-use Rattle.std.specs.Prelude.{◌≡◌, ℕ, Ok, ◌+◌, ◌/◌, List, [], ◌∷◌, length}
-use Rattle.std.specs.Prelude.{replicate, Result}
+use Rattle.std.specs.Prelude.{◌≡◌, ◌≤◌, ℕ, Ok, ◌+◌, ◌/◌, List, [], ◌∷◌}
+use Rattle.std.specs.Prelude.{◌++◌, length, replicate, Result}
 use Rattle.vm_memory.specs.MemoryMap.{MemoryMap}
-use Rattle.vm_operand.specs.Opcode.{number_of}
+use Rattle.vm_operand.specs.Opcode.{number_of, loads_in, stores_in}
 use Rattle.vm_operand.specs.Mode.{mode_of}
 use Rattle.vm_operand.specs.Instruction.{bare, dest_at, load_at, modes_at, number_at, operands}
 use Rattle.vm_operand.specs.Reading.{◌>>=◌}
@@ -16,6 +16,15 @@ use Rattle.vm_operand.specs.declared.operand.Load as l
 use Rattle.vm_operand.specs.declared.operand.Load.TheVariants as load
 use Rattle.vm_operand.specs.declared.operand.Dest as d
 use Rattle.vm_operand.specs.declared.operand.Dest.TheVariants as dest
+
+-- operands in brief: one to four loads and then at most one store
+pub record IsBrief (kinds : List Kind) : Type 0 where
+  pub some : 1 ≤ loads_in kinds
+  pub few : loads_in kinds ≤ 4
+  pub one : stores_in kinds ≤ 1
+  pub order :
+      kinds
+      ≡ replicate (loads_in kinds) kind.Load ++ replicate (stores_in kinds) kind.Store
 
 -- the instruction in full
 abbrev pub instr_of : Brief → Instr

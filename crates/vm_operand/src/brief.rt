@@ -1,11 +1,15 @@
 //! Instructions in brief: those of at most four loads and then at most one store.
 
-ghost use Rattle.std.specs.Prelude.{◌≡◌, ◌≤◌, ◌+◌, ◌%◌, ◌^◌, [], ◌∷◌};
-ghost use Rattle.std.specs.Prelude.{Ok, IfOk, OnOk};
+ghost use Rattle.std.specs.Prelude.{◌≡◌, ◌≤◌, ◌+◌, ◌%◌, ◌^◌, ℕ};
+ghost use Rattle.std.specs.Prelude.{[], ◌∷◌, Ok, Err, None, IfOk, IfErr, OnOk};
+ghost use Rattle.std.specs.Prelude.{IsErr, IfSome, MatchOption};
+ghost use Rattle.vm_memory.specs.Access.{read};
 ghost use Rattle.vm_operand.specs.Brief as spec;
-ghost use Rattle.vm_operand.specs.Brief.{instr_of, operands_from};
+ghost use Rattle.vm_operand.specs.Brief.{IsBrief, instr_of, operands_from};
 ghost use Rattle.vm_operand.specs.Instruction.{instruction_at};
 ghost use Rattle.vm_operand.specs.Opcode.{kinds_of, number_of};
+ghost use Rattle.vm_operand.specs.Reading.{reads};
+ghost use Rattle.vm_operand.specs.declared.opcode.Op.{Op};
 ghost use Rattle.vm_operand.specs.declared.operand.Kind.TheVariants as kind;
 ghost use Rattle.vm_operand.specs.declared.operand.Load.TheVariants as load;
 
@@ -35,7 +39,7 @@ pub struct Brief {
 #[inline(always)]
 #[tactic(auto, unfolding(crate::specs::Mode::mode_of, crate::specs::Mode::modes, crate::specs::Instruction::load_at))]
 pub fn load_by(memory: &Memory<'_>, number: u32, at: u32) -> Result<(Load, u32), OpFault>
-    ensures { IfOk result (λ x. spec.load_by memory.now number at ≡ Ok x) }
+    ensures { result ≡ spec.load_by memory.now number at }
 {
     match number {
         0 => Ok((Load::Value(0), at)),
@@ -50,6 +54,7 @@ pub fn load_by(memory: &Memory<'_>, number: u32, at: u32) -> Result<(Load, u32),
 #[tactic(auto, unfolding(crate::specs::Mode::mode_of, crate::specs::Mode::modes, crate::specs::Instruction::load_at))]
 pub fn byte_constant(memory: &Memory<'_>, at: u32) -> Result<u32, OpFault>
     ensures value { IfOk result (λ x. spec.load_by memory.now 1 at ≡ Ok (load.Value x, at + 1)) }
+    ensures exact { IfErr result (λ fault. reads (read 1 memory.now at) ≡ Err fault) }
     ensures within { OnOk result (at + 1 ≤ 16777216) }
 {
     Ok(Width::One.extend(memory.read1(at)?))
@@ -60,6 +65,7 @@ pub fn byte_constant(memory: &Memory<'_>, at: u32) -> Result<u32, OpFault>
 #[tactic(auto, unfolding(crate::specs::Mode::mode_of, crate::specs::Mode::modes, crate::specs::Instruction::load_at))]
 pub fn byte_local(memory: &Memory<'_>, at: u32) -> Result<u32, OpFault>
     ensures value { IfOk result (λ x. spec.load_by memory.now 9 at ≡ Ok (load.Local x, at + 1)) }
+    ensures exact { IfErr result (λ fault. reads (read 1 memory.now at) ≡ Err fault) }
     ensures within { OnOk result (at + 1 ≤ 16777216) }
 {
     Ok(memory.read1(at)?)
@@ -68,7 +74,10 @@ pub fn byte_local(memory: &Memory<'_>, at: u32) -> Result<u32, OpFault>
 // A load of another mode.
 #[tactic(auto, unfolding(crate::specs::Mode::mode_of, crate::specs::Mode::modes, crate::specs::Instruction::load_at))]
 fn longer_load(memory: &Memory<'_>, number: u32, at: u32) -> Result<(Load, u32), OpFault>
-    ensures { IfOk result (λ x. spec.load_by memory.now number at ≡ Ok x) }
+    requires zero { ¬ (number ≡ 0) }
+    requires constant { ¬ (number ≡ 1) }
+    requires local { ¬ (number ≡ 9) }
+    ensures { result ≡ spec.load_by memory.now number at }
 {
     Ok(match number {
         2 => (Load::Value(Width::Two.extend(memory.read2(at)?)), at + 2),
@@ -90,7 +99,7 @@ fn longer_load(memory: &Memory<'_>, number: u32, at: u32) -> Result<(Load, u32),
 #[inline(always)]
 #[tactic(auto, unfolding(crate::specs::Mode::mode_of, crate::specs::Mode::modes, crate::specs::Instruction::dest_at))]
 pub fn dest_by(memory: &Memory<'_>, number: u32, at: u32) -> Result<(Dest, u32), OpFault>
-    ensures { IfOk result (λ x. spec.dest_by memory.now number at ≡ Ok x) }
+    ensures { result ≡ spec.dest_by memory.now number at }
 {
     match number {
         8 => Ok((Dest::Push, at)),
@@ -102,7 +111,9 @@ pub fn dest_by(memory: &Memory<'_>, number: u32, at: u32) -> Result<(Dest, u32),
 // A store of another mode.
 #[tactic(auto, unfolding(crate::specs::Mode::mode_of, crate::specs::Mode::modes, crate::specs::Instruction::dest_at))]
 fn longer_dest(memory: &Memory<'_>, number: u32, at: u32) -> Result<(Dest, u32), OpFault>
-    ensures { IfOk result (λ x. spec.dest_by memory.now number at ≡ Ok x) }
+    requires stack { ¬ (number ≡ 8) }
+    requires local { ¬ (number ≡ 9) }
+    ensures { result ≡ spec.dest_by memory.now number at }
 {
     Ok(match number {
         0 => (Dest::Discard, at),
@@ -128,16 +139,19 @@ fn in_ram(memory: &Memory<'_>, offset: u32) -> u32
 
 // One load.
 #[inline(always)]
-fn one(memory: &Memory<'_>, op: Op, place: u32) -> Result<Brief, OpFault>
+fn one(memory: &Memory<'_>, op: Op, place: u32) -> Option<Brief>
     requires { place ≤ 16777216 }
-    ensures value { IfOk result (λ b.
+    ensures value { IfSome result (λ b.
         operands_from memory.now (number_of op)
         (kind.Load ∷ []) place ≡ Ok (instr_of b)) }
-    ensures few { IfOk result (λ b. b.loads ≡ 1) }
+    ensures none { result ≡ None → IsErr (
+        operands_from memory.now (number_of op)
+        (kind.Load ∷ []) place) }
+    ensures few { IfSome result (λ b. b.loads ≡ 1) }
 {
-    let modes = memory.read1(place)?;
-    let (first, at) = load_by(memory, modes % 16, place + 1)?;
-    Ok(Brief {
+    let modes = memory.read1(place).ok()?;
+    let (first, at) = load_by(memory, modes % 16, place + 1).ok()?;
+    Some(Brief {
         op,
         loads: 1,
         first,
@@ -152,17 +166,20 @@ fn one(memory: &Memory<'_>, op: Op, place: u32) -> Result<Brief, OpFault>
 
 // One load and a store.
 #[inline(always)]
-fn one_and_store(memory: &Memory<'_>, op: Op, place: u32) -> Result<Brief, OpFault>
+fn one_and_store(memory: &Memory<'_>, op: Op, place: u32) -> Option<Brief>
     requires { place ≤ 16777216 }
-    ensures value { IfOk result (λ b.
+    ensures value { IfSome result (λ b.
         operands_from memory.now (number_of op)
         (kind.Load ∷ kind.Store ∷ []) place ≡ Ok (instr_of b)) }
-    ensures few { IfOk result (λ b. b.loads ≡ 1) }
+    ensures none { result ≡ None → IsErr (
+        operands_from memory.now (number_of op)
+        (kind.Load ∷ kind.Store ∷ []) place) }
+    ensures few { IfSome result (λ b. b.loads ≡ 1) }
 {
-    let modes = memory.read1(place)?;
-    let (first, at) = load_by(memory, modes % 16, place + 1)?;
-    let (to, at) = dest_by(memory, modes / 16, at)?;
-    Ok(Brief {
+    let modes = memory.read1(place).ok()?;
+    let (first, at) = load_by(memory, modes % 16, place + 1).ok()?;
+    let (to, at) = dest_by(memory, modes / 16, at).ok()?;
+    Some(Brief {
         op,
         loads: 1,
         first,
@@ -177,17 +194,20 @@ fn one_and_store(memory: &Memory<'_>, op: Op, place: u32) -> Result<Brief, OpFau
 
 // Two loads.
 #[inline(always)]
-fn two(memory: &Memory<'_>, op: Op, place: u32) -> Result<Brief, OpFault>
+fn two(memory: &Memory<'_>, op: Op, place: u32) -> Option<Brief>
     requires { place ≤ 16777216 }
-    ensures value { IfOk result (λ b.
+    ensures value { IfSome result (λ b.
         operands_from memory.now (number_of op)
         (kind.Load ∷ kind.Load ∷ []) place ≡ Ok (instr_of b)) }
-    ensures few { IfOk result (λ b. b.loads ≡ 2) }
+    ensures none { result ≡ None → IsErr (
+        operands_from memory.now (number_of op)
+        (kind.Load ∷ kind.Load ∷ []) place) }
+    ensures few { IfSome result (λ b. b.loads ≡ 2) }
 {
-    let modes = memory.read1(place)?;
-    let (first, at) = load_by(memory, modes % 16, place + 1)?;
-    let (second, at) = load_by(memory, modes / 16, at)?;
-    Ok(Brief {
+    let modes = memory.read1(place).ok()?;
+    let (first, at) = load_by(memory, modes % 16, place + 1).ok()?;
+    let (second, at) = load_by(memory, modes / 16, at).ok()?;
+    Some(Brief {
         op,
         loads: 2,
         first,
@@ -202,19 +222,22 @@ fn two(memory: &Memory<'_>, op: Op, place: u32) -> Result<Brief, OpFault>
 
 // Two loads and a store.
 #[inline(always)]
-fn two_and_store(memory: &Memory<'_>, op: Op, place: u32) -> Result<Brief, OpFault>
+fn two_and_store(memory: &Memory<'_>, op: Op, place: u32) -> Option<Brief>
     requires { place ≤ 16777216 }
-    ensures value { IfOk result (λ b.
+    ensures value { IfSome result (λ b.
         operands_from memory.now (number_of op)
         (kind.Load ∷ kind.Load ∷ kind.Store ∷ []) place ≡ Ok (instr_of b)) }
-    ensures few { IfOk result (λ b. b.loads ≡ 2) }
+    ensures none { result ≡ None → IsErr (
+        operands_from memory.now (number_of op)
+        (kind.Load ∷ kind.Load ∷ kind.Store ∷ []) place) }
+    ensures few { IfSome result (λ b. b.loads ≡ 2) }
 {
-    let modes = memory.read1(place)?;
-    let more = memory.read1(place + 1)?;
-    let (first, at) = load_by(memory, modes % 16, place + 2)?;
-    let (second, at) = load_by(memory, modes / 16, at)?;
-    let (to, at) = dest_by(memory, more % 16, at)?;
-    Ok(Brief {
+    let modes = memory.read1(place).ok()?;
+    let more = memory.read1(place + 1).ok()?;
+    let (first, at) = load_by(memory, modes % 16, place + 2).ok()?;
+    let (second, at) = load_by(memory, modes / 16, at).ok()?;
+    let (to, at) = dest_by(memory, more % 16, at).ok()?;
+    Some(Brief {
         op,
         loads: 2,
         first,
@@ -229,19 +252,22 @@ fn two_and_store(memory: &Memory<'_>, op: Op, place: u32) -> Result<Brief, OpFau
 
 // Three loads.
 #[inline(always)]
-fn three(memory: &Memory<'_>, op: Op, place: u32) -> Result<Brief, OpFault>
+fn three(memory: &Memory<'_>, op: Op, place: u32) -> Option<Brief>
     requires { place ≤ 16777216 }
-    ensures value { IfOk result (λ b.
+    ensures value { IfSome result (λ b.
         operands_from memory.now (number_of op)
         (kind.Load ∷ kind.Load ∷ kind.Load ∷ []) place ≡ Ok (instr_of b)) }
-    ensures few { IfOk result (λ b. b.loads ≡ 3) }
+    ensures none { result ≡ None → IsErr (
+        operands_from memory.now (number_of op)
+        (kind.Load ∷ kind.Load ∷ kind.Load ∷ []) place) }
+    ensures few { IfSome result (λ b. b.loads ≡ 3) }
 {
-    let modes = memory.read1(place)?;
-    let more = memory.read1(place + 1)?;
-    let (first, at) = load_by(memory, modes % 16, place + 2)?;
-    let (second, at) = load_by(memory, modes / 16, at)?;
-    let (third, at) = load_by(memory, more % 16, at)?;
-    Ok(Brief {
+    let modes = memory.read1(place).ok()?;
+    let more = memory.read1(place + 1).ok()?;
+    let (first, at) = load_by(memory, modes % 16, place + 2).ok()?;
+    let (second, at) = load_by(memory, modes / 16, at).ok()?;
+    let (third, at) = load_by(memory, more % 16, at).ok()?;
+    Some(Brief {
         op,
         loads: 3,
         first,
@@ -256,20 +282,23 @@ fn three(memory: &Memory<'_>, op: Op, place: u32) -> Result<Brief, OpFault>
 
 // Three loads and a store.
 #[inline(always)]
-fn three_and_store(memory: &Memory<'_>, op: Op, place: u32) -> Result<Brief, OpFault>
+fn three_and_store(memory: &Memory<'_>, op: Op, place: u32) -> Option<Brief>
     requires { place ≤ 16777216 }
-    ensures value { IfOk result (λ b.
+    ensures value { IfSome result (λ b.
         operands_from memory.now (number_of op)
         (kind.Load ∷ kind.Load ∷ kind.Load ∷ kind.Store ∷ []) place ≡ Ok (instr_of b)) }
-    ensures few { IfOk result (λ b. b.loads ≡ 3) }
+    ensures none { result ≡ None → IsErr (
+        operands_from memory.now (number_of op)
+        (kind.Load ∷ kind.Load ∷ kind.Load ∷ kind.Store ∷ []) place) }
+    ensures few { IfSome result (λ b. b.loads ≡ 3) }
 {
-    let modes = memory.read1(place)?;
-    let more = memory.read1(place + 1)?;
-    let (first, at) = load_by(memory, modes % 16, place + 2)?;
-    let (second, at) = load_by(memory, modes / 16, at)?;
-    let (third, at) = load_by(memory, more % 16, at)?;
-    let (to, at) = dest_by(memory, more / 16, at)?;
-    Ok(Brief {
+    let modes = memory.read1(place).ok()?;
+    let more = memory.read1(place + 1).ok()?;
+    let (first, at) = load_by(memory, modes % 16, place + 2).ok()?;
+    let (second, at) = load_by(memory, modes / 16, at).ok()?;
+    let (third, at) = load_by(memory, more % 16, at).ok()?;
+    let (to, at) = dest_by(memory, more / 16, at).ok()?;
+    Some(Brief {
         op,
         loads: 3,
         first,
@@ -284,23 +313,26 @@ fn three_and_store(memory: &Memory<'_>, op: Op, place: u32) -> Result<Brief, OpF
 
 // Four loads and a store.
 #[inline(always)]
-fn four_and_store(memory: &Memory<'_>, op: Op, place: u32) -> Result<Brief, OpFault>
+fn four_and_store(memory: &Memory<'_>, op: Op, place: u32) -> Option<Brief>
     requires { place ≤ 16777216 }
-    ensures value { IfOk result (λ b.
+    ensures value { IfSome result (λ b.
         operands_from memory.now (number_of op)
         (kind.Load ∷ kind.Load ∷ kind.Load ∷ kind.Load ∷ kind.Store ∷ []) place
         ≡ Ok (instr_of b)) }
-    ensures few { IfOk result (λ b. b.loads ≡ 4) }
+    ensures none { result ≡ None → IsErr (
+        operands_from memory.now (number_of op)
+        (kind.Load ∷ kind.Load ∷ kind.Load ∷ kind.Load ∷ kind.Store ∷ []) place) }
+    ensures few { IfSome result (λ b. b.loads ≡ 4) }
 {
-    let modes = memory.read1(place)?;
-    let more = memory.read1(place + 1)?;
-    let last = memory.read1(place + 2)?;
-    let (first, at) = load_by(memory, modes % 16, place + 3)?;
-    let (second, at) = load_by(memory, modes / 16, at)?;
-    let (third, at) = load_by(memory, more % 16, at)?;
-    let (fourth, at) = load_by(memory, more / 16, at)?;
-    let (to, at) = dest_by(memory, last % 16, at)?;
-    Ok(Brief {
+    let modes = memory.read1(place).ok()?;
+    let more = memory.read1(place + 1).ok()?;
+    let last = memory.read1(place + 2).ok()?;
+    let (first, at) = load_by(memory, modes % 16, place + 3).ok()?;
+    let (second, at) = load_by(memory, modes / 16, at).ok()?;
+    let (third, at) = load_by(memory, more % 16, at).ok()?;
+    let (fourth, at) = load_by(memory, more / 16, at).ok()?;
+    let (to, at) = dest_by(memory, last % 16, at).ok()?;
+    Some(Brief {
         op,
         loads: 4,
         first,
@@ -315,12 +347,14 @@ fn four_and_store(memory: &Memory<'_>, op: Op, place: u32) -> Result<Brief, OpFa
 
 // The instruction of an opcode, whose operands' modes begin at a place.
 #[inline(always)]
-fn operands_of(memory: &Memory<'_>, op: Op, place: u32) -> Result<Brief, OpFault>
+fn operands_of(memory: &Memory<'_>, op: Op, place: u32) -> Option<Brief>
     requires { place ≤ 16777216 }
-    ensures value { IfOk result (λ b.
+    ensures value { IfSome result (λ b.
         operands_from memory.now (number_of op) (kinds_of op) place ≡ Ok (instr_of b)) }
-    ensures some { IfOk result (λ b. 1 ≤ b.loads) }
-    ensures few { IfOk result (λ b. b.loads ≤ 4) }
+    ensures none { result ≡ None → IsBrief (kinds_of op)
+        → IsErr (operands_from memory.now (number_of op) (kinds_of op) place) }
+    ensures some { IfSome result (λ b. 1 ≤ b.loads) }
+    ensures few { IfSome result (λ b. b.loads ≤ 4) }
 {
     match op.kinds() {
         [Kind::Load, Kind::Load, Kind::Store] => two_and_store(memory, op, place),
@@ -332,33 +366,37 @@ fn operands_of(memory: &Memory<'_>, op: Op, place: u32) -> Result<Brief, OpFault
         [Kind::Load, Kind::Load, Kind::Load, Kind::Load, Kind::Store] => four_and_store(
             memory, op, place,
         ),
-        _ => Err(OpFault::BadMode(0)),
+        _ => None,
     }
 }
 
-/// The opcode at the address, and the place of its operands' modes.
+/// The opcode at the address, and the place of its operands' modes; None where none stands there.
 #[inline(always)]
-pub fn opcode_at(memory: &Memory<'_>, at: u32) -> Result<(Op, u32), OpFault>
-    ensures value { IfOk result (λ x. spec.OpcodeAt memory.now at x.0 x.1) }
-    ensures within { IfOk result (λ x. x.1 ≤ 16777216) }
+pub fn opcode_at(memory: &Memory<'_>, at: u32) -> Option<(Op, u32)>
+    ensures exact { MatchOption result
+        ((op : Op) (place : ℕ) → spec.OpcodeAt memory.now at op place → ⊥)
+        (λ x. spec.OpcodeAt memory.now at x.0 x.1) }
+    ensures within { IfSome result (λ x. x.1 ≤ 16777216) }
 {
-    let (number, place) = number_at(memory, at)?;
+    let Ok((number, place)) = number_at(memory, at) else {
+        return None;
+    };
     match Op::of(number) {
-        Some(op) => Ok((op, place)),
-        None => Err(OpFault::BadOpcode(number)),
+        Some(op) => Some((op, place)),
+        None => None,
     }
 }
 
-/// The instruction at the address where it is one in brief and all of it can be read. What else
-/// is there is for `decode`.
-pub fn decode_brief(memory: &Memory<'_>, at: u32) -> Result<Brief, OpFault>
-    ensures value { IfOk result (λ b. instruction_at memory.now at ≡ Ok (instr_of b)) }
-    ensures some { IfOk result (λ b. 1 ≤ b.loads) }
-    ensures few { IfOk result (λ b. b.loads ≤ 4) }
+/// The instruction at the address; None where it can't be read, and where the operands of its
+/// opcode aren't in brief.
+pub fn decode_brief(memory: &Memory<'_>, at: u32) -> Option<Brief>
+    ensures value { IfSome result (λ b. instruction_at memory.now at ≡ Ok (instr_of b)) }
+    ensures none { result ≡ None → (op : Op) (place : ℕ)
+        → spec.OpcodeAt memory.now at op place → IsBrief (kinds_of op)
+        → IsErr (instruction_at memory.now at) }
+    ensures some { IfSome result (λ b. 1 ≤ b.loads) }
+    ensures few { IfSome result (λ b. b.loads ≤ 4) }
 {
-    let (number, place) = number_at(memory, at)?;
-    match Op::of(number) {
-        Some(op) => operands_of(memory, op, place),
-        None => Err(OpFault::BadOpcode(number)),
-    }
+    let (op, place) = opcode_at(memory, at)?;
+    operands_of(memory, op, place)
 }

@@ -1,10 +1,22 @@
-use Rattle.std.proofs.Common.{sym}
-use Rattle.vm_operand.proofs.BriefLemmas.{reads_one}
+use Rattle.std.proofs.Common.{refl}
+use Rattle.vm_operand.specs.Opcode.{number_of}
+use Rattle.vm_operand.proofs.BriefLemmas.{lost, no_one, reads_one, was_kept}
 use Rattle.vm_operand.proofs.brief.one.Goals as goal
 
 pub returns-clause-value : goal.returns-clause-value
 returns-clause-value c =
     reads_one c.args.memory.now c.args.op c.args.place c.in_ok-modes.modes
     (c.in_ok-first.first, c.in_ok-first.at)
-    (sym c.in_ok-modes.ensures.value)
-    c.in_ok-first.ensures
+    (was_kept c.read1.ensures.value c.in_ok-modes.ensures.value)
+    (was_kept c.load_by.ensures c.in_ok-first.ensures.value)
+
+pub returns-in_err-modes-clause-none : goal.returns-in_err-modes-clause-none
+returns-in_err-modes-clause-none c = λ nothing.
+    let gone = lost c.read1.ensures.value c.in_err-modes.ensures.value in
+    no_one c.args.memory.now (number_of c.args.op) c.args.place (rw gone.is refl)
+
+pub returns-in_err-first-clause-none : goal.returns-in_err-first-clause-none
+returns-in_err-first-clause-none c = λ nothing.
+    let h0 = was_kept c.read1.ensures.value c.in_ok-modes.ensures.value in
+    let gone = lost c.load_by.ensures c.in_err-first.ensures.value in
+    no_one c.args.memory.now (number_of c.args.op) c.args.place (rw h0 (rw gone.is refl))

@@ -1,4 +1,5 @@
-use Rattle.vm_exec.proofs.QuickLemmas.{fetched_one, was_kept}
+use Rattle.vm_operand.proofs.BriefLemmas.{was_kept}
+use Rattle.vm_exec.proofs.QuickLemmas.{fetched_one}
 use Rattle.vm_exec.proofs.machine.Machine.one.Goals as goal
 
 pub returns : goal.returns

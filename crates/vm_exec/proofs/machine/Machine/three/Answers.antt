@@ -1,4 +1,5 @@
-use Rattle.vm_exec.proofs.QuickLemmas.{fetched_three, was_kept}
+use Rattle.vm_operand.proofs.BriefLemmas.{was_kept}
+use Rattle.vm_exec.proofs.QuickLemmas.{fetched_three}
 use Rattle.vm_exec.proofs.machine.Machine.three.Goals as goal
 
 pub returns : goal.returns

@@ -1,4 +1,5 @@
-use Rattle.vm_exec.proofs.QuickLemmas.{fetched_two, was_kept}
+use Rattle.vm_operand.proofs.BriefLemmas.{was_kept}
+use Rattle.vm_exec.proofs.QuickLemmas.{fetched_two}
 use Rattle.vm_exec.proofs.machine.Machine.two.Goals as goal
 
 pub returns : goal.returns
