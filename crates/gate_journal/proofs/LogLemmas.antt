@@ -1,15 +1,14 @@
 -- One entry more, and what the images of a journal spell.
-use Rattle.std.proofs.Common.{◌≡◌, ◌⊎◌, inl, inr, ℕ, zero, ◌+◌, ◌-◌, ◌<◌, ◌≤◌, min, Bool, List, [], ◌∷◌, ◌++◌, length, get_or, refl, sym, ◌∙◌, ap, subst, arith, length-append}
+use Rattle.std.proofs.Common.{◌≡◌, ◌⊎◌, inl, inr, ℕ, ◌+◌, ◌≤◌, List, [], ◌∷◌, ◌++◌, length, get_or, refl, ◌∙◌, ap, arith, length-append}
 use Rattle.std.specs.Prelude.{Option, Some, None, IfSome}
-use Rattle.std.proofs.lemmas.List.{append-nil, length_push}
 use Rattle.std.proofs.lemmas.Bool.{cases_eq}
 use Rattle.disk_model.specs.Disk.{Holds, Rose}
-use Rattle.disk_model.specs.Torn.{holds_front, holds_rest}
+use Rattle.disk_model.specs.Torn.{holds_rest}
 use Rattle.gate_journal.specs.declared.row.Row.{Row}
 use Rattle.gate_journal.specs.declared.entry.Entry.{Entry}
 use Rattle.gate_journal.specs.declared.entry.Entry.TheVariants.{Kept, Faulted}
 use Rattle.gate_journal.specs.Gate.{IsShut, IsUnsure}
-use Rattle.gate_journal.specs.Rows.{SpellsRows, body, spelled, IsJournal, IsNext}
+use Rattle.gate_journal.specs.Rows.{body, spelled, IsJournal, IsNext}
 use Rattle.gate_journal.specs.Log.{rows_of, kept, Rises, StandsAt, IsClosedWell, MaySpell, MayOpen}
 use Rattle.gate_journal.proofs.RowLemmas.{spells_shut, spells_not_open, opens, journal_push, spelled-push}
 

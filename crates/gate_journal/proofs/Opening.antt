@@ -1,14 +1,13 @@
 -- What the write of an opening leaves.
-use Rattle.std.proofs.Common.{◌≡◌, ◌≢◌, ◌⊎◌, inl, inr, ⊎_elim, ℕ, ◌+◌, ◌<◌, List, [], ◌∷◌, ◌++◌, length, get_or, refl, sym, ◌∙◌, ap, subst, arith, length-append}
+use Rattle.std.proofs.Common.{◌≡◌, ◌≢◌, inl, inr, ℕ, List, [], ◌∷◌, ◌++◌, length, get_or, sym, ◌∙◌, ap, arith, length-append}
 use Rattle.std.proofs.lemmas.Bool.{cases_eq}
 use Rattle.disk_model.specs.Disk.{Holds, Torn, written}
 use Rattle.disk_model.specs.Torn.{holds_kept, holds_rest, holds_both, torn_written, holds_written}
 use Rattle.gate_journal.specs.declared.row.Row.{Row}
-use Rattle.gate_journal.specs.Gate.{IsShut, IsUnsure}
-use Rattle.gate_journal.specs.Rows.{SpellsRows, body, spelled, IsJournal, IsNext}
-use Rattle.gate_journal.specs.Log.{MayOpen, IsClosedWell}
+use Rattle.gate_journal.specs.Gate.{IsShut}
+use Rattle.gate_journal.specs.Rows.{SpellsRows, body, spelled, IsJournal}
+use Rattle.gate_journal.specs.Log.{MayOpen}
 use Rattle.gate_journal.proofs.RowLemmas.{one_list, spells_shut, spells_not_open, opens, journal_push}
-use Rattle.gate_journal.proofs.LogLemmas.{closed_shut}
 use Rattle.gate_journal.proofs.Steps.{unsure_torn}
 
 -- a closed gate is 0

@@ -1,8 +1,8 @@
 -- Payloads and their commands, both ways.
-use Rattle.std.proofs.Common.{◌≡◌, inl, inr, ℕ, ◌+◌, ◌-◌, ◌*◌, ◌^◌, ◌<◌, ◌≤◌, List, [], ◌∷◌, ◌++◌, length, get_or, take, drop, true, refl, sym, ◌∙◌, ap, subst, arith, length-append, append_assoc}
+use Rattle.std.proofs.Common.{◌≡◌, inl, inr, ℕ, ◌+◌, ◌<◌, ◌≤◌, List, [], ◌∷◌, ◌++◌, length, get_or, take, drop, true, refl, sym, ◌∙◌, ap, subst, arith, length-append, append_assoc}
 use Rattle.std.specs.Prelude.{Bool, false, ◌&&◌, if◌then◌else◌, Option, Some, None, MatchOption}
-use Rattle.std.specs.Int.{w16, w32, w64, to_be_bytes, from_be_bytes}
-use Rattle.std.specs.Str.{chars, encode_utf8_all, all_scalars, is_utf8}
+use Rattle.std.specs.Int.{w16, w32, w64, to_be_bytes}
+use Rattle.std.specs.Str.{chars, encode_utf8_all, is_utf8}
 use Rattle.std.proofs.lemmas.Str.{chars-encodes, encodes-chars, scalars-chars, IsUtf8-from_is_utf8, is_utf8-from_IsUtf8}
 use Rattle.std.proofs.lemmas.Nat.{be_bytes_2, be_bytes_4, be_bytes_8}
 use Rattle.std.proofs.lemmas.List.{take_at, drop_at, append-nil, length-take, length-drop, get_or-take, get_or-drop, get_or_past, take-append-drop, drop-drop, take_all, drop_more}

@@ -1,6 +1,6 @@
 -- How a journal stays sound.
-use Rattle.std.proofs.Common.{◌≡◌, ◌⊎◌, inl, inr, ℕ, ◌+◌, ◌<◌, ◌≤◌, Bool, List, [], ◌∷◌, ◌++◌, length, refl, sym, ◌∙◌, ap, subst, arith, append_assoc}
-use Rattle.std.specs.Prelude.{IsTrue, Option, Some, None, IfSome}
+use Rattle.std.proofs.Common.{◌≡◌, ◌⊎◌, inl, inr, ℕ, ◌+◌, ◌<◌, ◌≤◌, Bool, List, [], ◌∷◌, ◌++◌, length, sym, ◌∙◌, ap, subst, arith, append_assoc}
+use Rattle.std.specs.Prelude.{Option, None, IfSome}
 use Rattle.disk_model.specs.Disk.{LeavesOnly, Rose, Holds, EachImage}
 use Rattle.disk_model.specs.Moments.{weaker, and_then}
 use Rattle.gate_journal.specs.declared.row.Row.{Row}
@@ -8,7 +8,7 @@ use Rattle.gate_journal.specs.declared.entry.Entry.{Entry}
 use Rattle.gate_journal.specs.declared.entry.Entry.TheVariants.{Kept, Faulted}
 use Rattle.gate_journal.specs.Gate.{IsShut, IsUnsure}
 use Rattle.gate_journal.specs.Rows.{body, spelled, IsJournal, IsNext}
-use Rattle.gate_journal.specs.Log.{Log, IsSound, rows_of, Rises, StandsAt, MaySpell, MayOpen, Meanwhile}
+use Rattle.gate_journal.specs.Log.{Log, IsSound, rows_of, Rises, StandsAt, Meanwhile}
 use Rattle.gate_journal.proofs.RowLemmas.{journal_push, spelled-push}
 use Rattle.gate_journal.proofs.LogLemmas.{rows_of-kept, rows_of-faulted, rises-kept, rises-faulted, closed_shut, closed_unsure, stands_well, stands_closed, end_push}
 

@@ -1,11 +1,10 @@
-use Rattle.std.proofs.Common.{◌≡◌, ◌≢◌, ◌<◌, ◌+◌, ◌++◌, [], ◌∷◌, ℕ, List, Bool, sym, ◌∙◌, ap, subst, arith, length, get_or}
+use Rattle.std.proofs.Common.{◌≡◌, ◌≢◌, ◌<◌, [], ◌∷◌, ℕ, List, Bool, sym, ◌∙◌, ap, subst, arith, length, get_or}
 use Rattle.std.specs.Prelude.{IsTrue}
 use Rattle.std.proofs.lemmas.List.{get_or_read}
-use Rattle.disk_model.specs.Disk.{LeavesOnly, written, AfterWrite, Torn}
+use Rattle.disk_model.specs.Disk.{written, AfterWrite, Torn}
 use Rattle.disk_model.specs.Moments.{started, goes_on, weaker, and_then}
-use Rattle.gate_journal.specs.declared.row.Row.{Row}
 use Rattle.gate_journal.specs.Gate.{IsShut}
-use Rattle.gate_journal.specs.Rows.{spelled, IsJournal, SpellsRows}
+use Rattle.gate_journal.specs.Rows.{spelled, SpellsRows}
 use Rattle.gate_journal.specs.Log.{MayOpen}
 use Rattle.gate_journal.proofs.Opening.{reclosed, reshut}
 use Rattle.gate_journal.proofs.load.load.Goals as goal

@@ -1,14 +1,8 @@
-use Rattle.std.proofs.Common.{◌≡◌, ◌≢◌, ◌+◌, ◌-◌, ◌≤◌, ◌<◌, ◌++◌, ◌∷◌, [], ℕ, List, length, get_or, take, drop, true, refl, sym, ◌∙◌, ap, subst, arith, rules}
-use Rattle.std.specs.Prelude.{Some, None, MatchOption, slice_index}
-use Rattle.std.specs.Str.{chars}
-use Rattle.std.proofs.lemmas.List.{take_rest, length-drop}
-use Rattle.byteorder.specs.Endian.{big_number}
+use Rattle.std.proofs.Common.{◌≡◌, ℕ, List, refl, ◌∙◌, ap}
+use Rattle.std.specs.Prelude.{Some, None}
 use Rattle.story_text.specs.Reading.{text_of_bytes}
-use Rattle.gate_journal.specs.declared.command.Command.{Command}
-use Rattle.gate_journal.specs.declared.command.Command.TheVariants.{Open, Line, Char, File, Close}
-use Rattle.gate_journal.specs.Command.{IsCommand}
+use Rattle.gate_journal.specs.declared.command.Command.TheVariants.{File}
 use Rattle.gate_journal.specs.Rows.{payload_of}
-use Rattle.gate_journal.specs.Payload.{IsPayload, IsNoPayload, open_in, line_in, char_in, file_in}
 use Rattle.gate_journal.proofs.PayloadLemmas.{spells_file, text_found, text_missing, file_text}
 use Rattle.gate_journal.proofs.payload.read_file.Goals as goal
 

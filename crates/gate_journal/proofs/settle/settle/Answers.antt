@@ -1,9 +1,7 @@
-use Rattle.std.proofs.Common.{◌≡◌, ◌∷◌, [], ◌++◌, List, ℕ, length, sym, ◌∙◌, arith, Bool, true, false, rules}
-use Rattle.std.specs.Prelude.{IsTrue, Option, Some, None, is_none}
+use Rattle.std.proofs.Common.{◌≡◌, ◌∷◌, [], ◌++◌, sym, false, rules}
+use Rattle.std.specs.Prelude.{IsTrue, Some, None, is_none}
 use Rattle.disk_model.specs.Disk.{LeavesOnly, EachImage}
-use Rattle.gate_journal.specs.declared.row.Row.{Row}
 use Rattle.gate_journal.specs.Rows.{body, spelled}
-use Rattle.gate_journal.specs.Gate.{IsUnsure}
 use Rattle.gate_journal.specs.Log.{StandsAt}
 use Rattle.gate_journal.proofs.settle.settle.Goals as goal
 

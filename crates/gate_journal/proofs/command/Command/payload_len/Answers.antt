@@ -1,4 +1,4 @@
-use Rattle.std.proofs.Common.{List, ℕ, ap, length, arith}
+use Rattle.std.proofs.Common.{ap, length, arith}
 use Rattle.gate_journal.proofs.LimitLemmas.{text_most}
 use Rattle.gate_journal.proofs.command.Command.payload_len.Goals as goal
 

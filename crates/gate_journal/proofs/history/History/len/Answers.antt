@@ -1,4 +1,4 @@
-use Rattle.std.proofs.Common.{◌≡◌, sym, ◌∙◌, ap, length, List, rules}
+use Rattle.std.proofs.Common.{◌≡◌, sym, ◌∙◌, ap, length, rules}
 use Rattle.gate_journal.specs.History.{Entries}
 use Rattle.gate_journal.proofs.HistoryLemmas.{length-woven}
 use Rattle.gate_journal.proofs.history.History.len.Goals as goal

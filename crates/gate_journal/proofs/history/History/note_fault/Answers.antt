@@ -1,9 +1,8 @@
-use Rattle.std.proofs.Common.{◌≡◌, ◌<◌, ◌++◌, ◌∷◌, [], true, sym, ◌∙◌, ap, length, List, rules, vec_len, vec_capacity, arith}
+use Rattle.std.proofs.Common.{◌≡◌, ◌<◌, ◌++◌, ◌∷◌, [], true, ◌∙◌, ap, List, rules, vec_len, vec_capacity, arith}
 use Rattle.std.specs.Prelude.{nat_lt, ◌&&◌}
 use Rattle.std.proofs.lemmas.Bool.Decides.{nat_tests}
 use Rattle.gate_journal.specs.declared.mark.Mark.{Mark}
 use Rattle.gate_journal.specs.declared.mark.Mark.TheVariants as marks
-use Rattle.gate_journal.specs.declared.entry.Entry.{Entry}
 use Rattle.gate_journal.specs.declared.entry.Entry.TheVariants.{Faulted}
 use Rattle.gate_journal.specs.History.{Entries, woven, count_rows}
 use Rattle.gate_journal.proofs.HistoryLemmas.{count-fault, woven-fault}

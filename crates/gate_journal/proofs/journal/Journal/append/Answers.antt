@@ -1,9 +1,7 @@
-use Rattle.std.proofs.Common.{◌≡◌, ◌+◌, ◌≤◌, ◌++◌, [], ◌∷◌, ℕ, List, Bool, refl, sym, ◌∙◌, ap, subst, arith, length, rules}
+use Rattle.std.proofs.Common.{◌≡◌, ◌+◌, ◌++◌, [], ◌∷◌, ℕ, List, Bool, refl, sym, ◌∙◌, ap, subst, arith, length, rules}
 use Rattle.std.specs.Prelude.{IsTrue, Some, None, IfSome, Option, is_some, ◌&&◌}
 use Rattle.disk_model.specs.Disk.{LeavesOnly, EachImage}
 use Rattle.gate_journal.specs.declared.row.Row.{Row}
-use Rattle.gate_journal.specs.declared.entry.Entry.{Entry}
-use Rattle.gate_journal.specs.declared.entry.Entry.TheVariants.{Kept, Faulted}
 use Rattle.gate_journal.specs.Gate.{IsShut, IsUnsure}
 use Rattle.gate_journal.specs.Rows.{body, spelled, MayStand, IsNext}
 use Rattle.gate_journal.specs.Log.{Log, IsSound, rows_of, next_row, StandsAt, Meanwhile}

@@ -1,4 +1,4 @@
-use Rattle.std.proofs.Common.{sym, subst, List, ℕ}
+use Rattle.std.proofs.Common.{subst}
 use Rattle.std.specs.Prelude.{is_some, ◌&&◌}
 use Rattle.disk_model.specs.Disk.{EachImage}
 use Rattle.gate_journal.specs.Log.{Log, rows_of, MaySpell, MayOpen}

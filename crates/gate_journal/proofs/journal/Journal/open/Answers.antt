@@ -1,5 +1,5 @@
 use Rattle.std.proofs.Common.{◌≡◌, List, ℕ, sym, ◌∙◌, ap, subst, refl, arith, length}
-use Rattle.std.specs.Prelude.{IsTrue, None, slice_index}
+use Rattle.std.specs.Prelude.{None, slice_index}
 use Rattle.disk_model.specs.Disk.{EachImage}
 use Rattle.gate_journal.specs.declared.row.Row.{Row}
 use Rattle.gate_journal.specs.declared.entry.Entry.{Entry}

@@ -1,8 +1,7 @@
-use Rattle.std.proofs.Common.{◌≡◌, ◌+◌, ◌<◌, min, ℕ, ◌++◌, ◌∷◌, [], sym, ◌∙◌, ap, length, List, arith, rules, Bool}
-use Rattle.std.specs.Prelude.{slice_set, slice_index, if◌then◌else◌}
+use Rattle.std.proofs.Common.{◌≡◌, ◌+◌, min, sym, ◌∙◌, ap, length, arith, rules}
+use Rattle.std.specs.Prelude.{slice_index, if◌then◌else◌}
 use Rattle.gate_journal.specs.declared.command.Command.{Command}
 use Rattle.gate_journal.specs.Rows.{commands_of, is_close}
-use Rattle.gate_journal.specs.Seats.{use_of}
 use Rattle.gate_journal.proofs.SeatLemmas.{counted, used}
 use Rattle.gate_journal.proofs.seats.Seats.count.Goals as goal
 

@@ -1,4 +1,3 @@
-use Rattle.std.proofs.Common.{ℕ, arith}
 use Rattle.std.proofs.lemmas.List.{get_or-replicate}
 use Rattle.gate_journal.proofs.seats.Seats.new.Goals as goal
 
