@@ -1,8 +1,12 @@
 //! Commands (own).
 
-ghost use Rattle.std.specs.Prelude.{◌≡◌, IfOk};
+ghost use Rattle.std.specs.Prelude.{◌≡◌, ◌↔◌, ◌+◌, ◌≤◌, IfOk, IsTrue, length};
+ghost use Rattle.story_text.specs.Text.{IsText};
+ghost use Rattle.gate_journal.specs.Command.{IsCommand};
+ghost use Rattle.gate_journal.specs.declared.command.Command.TheVariants as Command;
+ghost use Rattle.gate_journal.specs.Rows.{is_open, is_close, kind_of, payload_of};
 
-use line_words::Key;
+use line_words::{Key, is_code, is_key, is_terminator};
 use std::alloc::{AllocError, Global};
 use story_text::Text;
 
@@ -39,7 +43,106 @@ pub enum Command {
     Close,
 }
 
+/// The greatest budget of a turn, in ticks.
+const MAX_BUDGET: u64 = 1_000_000_000_000;
+
+fn is_open_in_range(
+    key: &Key,
+    story: u16,
+    digest: [u8; 32],
+    seed: u64,
+    cols: u8,
+    rows: u8,
+    budget: u64,
+) -> bool
+    ensures { IsTrue result ↔ IsCommand (Command.Open key.now story digest seed cols rows budget) }
+{
+    is_key(key.as_slice()) && cols > 0 && rows > 0 && budget > 0 && budget <= MAX_BUDGET
+}
+
+fn is_name(text: &Text) -> bool
+    ensures { IsTrue result ↔ IsText text.now }
+{
+    let _ = text.as_utf8();
+    text.is_short()
+}
+
+fn is_line_in_range(win: u32, term: u32, text: &Text) -> bool
+    ensures { IsTrue result ↔ IsCommand (Command.Line win term text.now) }
+{
+    (term == 0 || is_terminator(term)) && is_name(text)
+}
+
+fn is_char_in_range(win: u32, code: u32) -> bool
+    ensures { IsTrue result ↔ IsCommand (Command.Char win code) }
+{
+    is_code(code)
+}
+
 impl Command {
+    /// Whether its fields are in the ranges of a journal's rows.
+    pub fn is_in_range(&self) -> bool
+        ensures { IsTrue result ↔ IsCommand self.now }
+    {
+        match self {
+            Command::Open {
+                key,
+                story,
+                digest,
+                seed,
+                cols,
+                rows,
+                budget,
+            } => is_open_in_range(key, *story, *digest, *seed, *cols, *rows, *budget),
+            Command::Line { win, term, text } => is_line_in_range(*win, *term, text),
+            Command::Char { win, code } => is_char_in_range(*win, *code),
+            Command::File { name } => is_name(name),
+            Command::Close => true,
+        }
+    }
+
+    /// Whether it opens a session.
+    pub fn is_open(&self) -> bool
+        ensures { result ≡ is_open self.now }
+    {
+        matches!(self, Command::Open { .. })
+    }
+
+    /// Whether it closes a session.
+    pub fn is_close(&self) -> bool
+        ensures { result ≡ is_close self.now }
+    {
+        matches!(self, Command::Close)
+    }
+
+    /// The number of its kind.
+    pub(crate) fn kind(&self) -> u8
+        ensures { result ≡ kind_of self.now }
+    {
+        match self {
+            Command::Open { .. } => 1,
+            Command::Line { .. } => 2,
+            Command::Char { .. } => 3,
+            Command::File { .. } => 4,
+            Command::Close => 5,
+        }
+    }
+
+    /// How many bytes a row carries of it.
+    pub(crate) fn payload_len(&self) -> usize
+        requires { IsCommand self.now }
+        ensures value { result ≡ length (payload_of self.now) }
+        ensures within { result ≤ 4104 }
+    {
+        match self {
+            Command::Open { key, .. } => 53 + key.as_slice().len(),
+            Command::Line { text, .. } => 8 + text.as_utf8().len(),
+            Command::Char { .. } => 8,
+            Command::File { name } => name.as_utf8().len(),
+            Command::Close => 0,
+        }
+    }
+
     /// An equal command; an error where memory runs out.
     pub fn copy_of(&self, alloc: Global) -> Result<Command, AllocError>
         ensures { IfOk result (λ command. command ≡ self.now) }
