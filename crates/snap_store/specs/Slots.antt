@@ -1,5 +1,5 @@
 -- What a store knows of its two gates, and which area a put takes (own).
-use Rattle.std.specs.Prelude.{ℕ, Bool, ◌&&◌, ◌||◌, not, ◌==◌, nat_lt, if◌then◌else◌}
+use Rattle.std.specs.Prelude.{ℕ, Bool, true, false, ◌&&◌, ◌||◌, not, ◌==◌, nat_lt, if◌then◌else◌}
 use Rattle.std.specs.Prelude.{List, Option, Some, None}
 use Rattle.snap_store.specs.declared.side.Side.{Side}
 use Rattle.snap_store.specs.declared.side.Side.TheVariants.{A, B}
@@ -22,6 +22,12 @@ slot_of slots B = slots.b
 abbrev pub with_slot : Slots → Side → Slot → Slots
 with_slot slots A slot = record slots { a = slot }
 with_slot slots B slot = record slots { b = slot }
+
+-- the gate is known to be 0
+abbrev pub is_closed : Slot → Bool
+is_closed Closed = true
+is_closed Unsure = false
+is_closed (Open place count) = false
 
 -- what is known of a file of which nothing is pending
 abbrev pub slot_in : Side → List ℕ → Slot

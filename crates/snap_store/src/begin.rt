@@ -1,8 +1,8 @@
 //! A new snapshot file (own).
 
-ghost use Rattle.std.specs.Prelude.{◌≡◌, ◌≤◌, IsTrue, IsOk, OnOk, IfErr, length, max, true};
+ghost use Rattle.std.specs.Prelude.{◌≡◌, ◌≤◌, ◌++◌, IsTrue, IsOk, OnOk, IfErr, length, max, drop};
 ghost use Rattle.disk_model.specs.Disk.{Only, written, LeavesOnly, AfterWrite, SameDisk};
-ghost use Rattle.snap_store.specs.File.{made_file, has_header, gate_byte};
+ghost use Rattle.snap_store.specs.File.{header, made_file};
 ghost use Rattle.snap_store.specs.Frames.{IsFault};
 
 use crate::fault::DiskFault;
@@ -10,12 +10,20 @@ use crate::find::fault_since;
 use crate::outline::{HEADER, PAGE};
 use disk_model::{Disk, write_through};
 
+// The header, at the front.
+fn put_header(page: &mut [u8])
+    requires { 8 ≤ length page.old }
+    ensures { page.new ≡ header ++ drop 8 page.old }
+{
+    page[..8].copy_from_slice(&HEADER);
+}
+
 // The header, and zeros.
 fn first_page() -> [u8; PAGE]
     ensures { result ≡ made_file }
 {
     let mut page = [0; PAGE];
-    page[..8].copy_from_slice(&HEADER);
+    put_header(&mut page);
     page
 }
 

@@ -168,8 +168,11 @@ impl Outline {
         ensures { (file : List ℕ) → self.now ≡ outline_of file
             → result ≡ (is_open side file && is_wanted place most (area_at side file)) }
     {
+        if !self.is_open(side) {
+            return false;
+        }
         let head = self.head(side);
-        self.is_open(side) && head.place == place && head.count <= most
+        head.place == place && head.count <= most
     }
 
     /// The newest open area of this OPEN row with a count of at most `most`.
@@ -181,9 +184,17 @@ impl Outline {
     {
         let a = self.is_wanted(Side::A, place, most);
         let b = self.is_wanted(Side::B, place, most);
-        if b && (!a || self.a.count < self.b.count) {
-            return Some(Side::B);
+        match (a, b) {
+            (false, false) => None,
+            (true, false) => Some(Side::A),
+            (false, true) => Some(Side::B),
+            (true, true) => {
+                if self.a.count < self.b.count {
+                    Some(Side::B)
+                } else {
+                    Some(Side::A)
+                }
+            }
         }
-        if a { Some(Side::A) } else { None }
     }
 }

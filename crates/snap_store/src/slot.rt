@@ -1,7 +1,8 @@
 //! What is known of the gates, and which area is taken (own).
 
 ghost use Rattle.std.specs.Prelude.{◌≡◌};
-ghost use Rattle.snap_store.specs.Slots.{slot_of, with_slot, is_before, newest_side, taken_side};
+ghost use Rattle.snap_store.specs.Slots.{slot_of, with_slot, is_closed, is_before};
+ghost use Rattle.snap_store.specs.Slots.{newest_side, taken_side};
 ghost use Rattle.snap_store.specs.Images.{loosened};
 
 use crate::side::Side;
@@ -18,6 +19,16 @@ pub enum Slot {
 }
 
 impl Slot {
+    /// It is 0, and synced.
+    pub fn is_closed(self) -> bool
+        ensures { result ≡ is_closed self }
+    {
+        match self {
+            Slot::Closed => true,
+            Slot::Open { .. } | Slot::Unsure => false,
+        }
+    }
+
     /// What is known of it once its closing has begun.
     pub fn loosened(self) -> Slot
         ensures { result ≡ loosened self }

@@ -1,6 +1,6 @@
 //! The device calls of a put (own).
 
-ghost use Rattle.std.specs.Prelude.{◌≡◌, ◌⊎◌, ◌+◌, ◌≤◌, ℕ, List, IsTrue, IsOk, OnOk, OnErr};
+ghost use Rattle.std.specs.Prelude.{◌≡◌, ◌⊎◌, ◌+◌, ◌≤◌, ℕ, List, IsTrue, IsOk, OnOk, OnErr, IfErr};
 ghost use Rattle.std.specs.Prelude.{Option, Some, None, length, max};
 ghost use Rattle.disk_model.specs.Disk.{LeavesOnly, EachImage, Counts, SameDisk};
 ghost use Rattle.snap_store.specs.File.{Stored, gate_of, start_of, head_bytes};
@@ -29,9 +29,11 @@ fn close_gate<D: Disk>(disk: &mut D, side: Side, slot: Slot) -> Result<(), Faile
     ensures reach { D.reach disk.new ≤ max (D.reach disk.old) (gate_of side + 1) }
     ensures kept { SameDisk D.tells D.room D.label disk.old disk.new }
 {
-    if !matches!(slot, Slot::Closed) {
-        disk.write_at(side.gate(), &[0])?;
+    if slot.is_closed() {
+        disk.sync()?;
+        return Ok(());
     }
+    disk.write_at(side.gate(), &[0])?;
     disk.sync()?;
     Ok(())
 }
@@ -101,8 +103,56 @@ fn head_bytes(place: u64, count: u32, length: u32) -> [u8; 16]
     bytes
 }
 
-/// Puts an area in place of the one that isn't the newest, in at most seven device calls. After a
-/// failure what is known of the gate goes by the step that failed.
+// Writes an area here, in at most seven device calls. Where one fails, what is known of the gate
+// goes by the step that it failed in.
+fn write_area<D: Disk>(
+    disk: &mut D,
+    side: Side,
+    slot: Slot,
+    place: u64,
+    count: u32,
+    bytes: &[u8],
+) -> Result<(), Slot>
+    requires { length bytes.now ≤ 8388608 }
+    ensures ok { OnOk result ((area beside_area : Option Stored) (beside : Slot)
+        → Spares side beside
+        → EachImage D.tells D.may_leave disk.old (IsLaid side slot area beside beside_area)
+        → EachImage D.tells D.may_leave disk.new (IsLaid side (Open place count)
+        (Some (record { place = place; count = count; bytes = bytes.now }))
+        beside beside_area)) }
+    ensures err { IfErr result (λ now. (area beside_area : Option Stored) (beside : Slot)
+        → Spares side beside
+        → EachImage D.tells D.may_leave disk.old (IsLaid side slot area beside beside_area)
+        → (left : Option Stored)
+        × IsLeft slot area (record { place = place; count = count; bytes = bytes.now }) now left
+        × EachImage D.tells D.may_leave disk.new (IsLaid side now left beside beside_area)) }
+    ensures gate { IfErr result (λ now. (now ≡ Closed) ⊎ (now ≡ Unsure)) }
+    ensures works { IsTrue (D.steady disk.old)
+        → start_of side + 16 + length bytes.now ≤ D.room disk.old → IsOk result }
+    ensures cause { Counts result (D.faults disk.old) (D.faults disk.new) }
+    ensures crash { (area beside_area : Option Stored) (beside : Slot)
+        → Spares side beside
+        → EachImage D.tells D.may_leave disk.old (IsLaid side slot area beside beside_area)
+        → IsTrue (D.tells disk.old) → LeavesOnly D.moment D.left_since disk.old disk.new
+        (DuringPut side slot area (record { place = place; count = count; bytes = bytes.now })
+        beside beside_area) }
+    ensures reach { D.reach disk.new
+        ≤ max (D.reach disk.old) (start_of side + 16 + length bytes.now) }
+    ensures kept { SameDisk D.tells D.room D.label disk.old disk.new }
+{
+    let Ok(()) = close_gate(disk, side, slot) else {
+        return Err(slot.loosened());
+    };
+    let Ok(()) = fill(disk, side, place, count, bytes) else {
+        return Err(Slot::Closed);
+    };
+    let Ok(()) = open_gate(disk, side) else {
+        return Err(Slot::Unsure);
+    };
+    Ok(())
+}
+
+/// Puts an area in place of the one that isn't the newest, in at most seven device calls.
 pub fn replace<D: Disk>(
     disk: &mut D,
     slots: &mut Slots,
@@ -133,6 +183,9 @@ pub fn replace<D: Disk>(
         × EachImage D.tells D.may_leave disk.new
         (IsLaid (taken_side slots.old) now left
         (slot_of slots.old (other (taken_side slots.old))) beside_area))) }
+    ensures gate { OnErr result
+        ((slots.new ≡ with_slot slots.old (taken_side slots.old) Closed)
+        ⊎ (slots.new ≡ with_slot slots.old (taken_side slots.old) Unsure)) }
     ensures works { IsTrue (D.steady disk.old)
         → start_of (taken_side slots.old) + 16 + length bytes.now ≤ D.room disk.old
         → IsOk result }
@@ -151,18 +204,14 @@ pub fn replace<D: Disk>(
 {
     let side = slots.taken();
     let slot = slots.of(side);
-    let Ok(()) = close_gate(disk, side, slot) else {
-        slots.set(side, slot.loosened());
-        return Err(Failed);
-    };
-    let Ok(()) = fill(disk, side, place, count, bytes) else {
-        slots.set(side, Slot::Closed);
-        return Err(Failed);
-    };
-    let Ok(()) = open_gate(disk, side) else {
-        slots.set(side, Slot::Unsure);
-        return Err(Failed);
-    };
-    slots.set(side, Slot::Open { place, count });
-    Ok(())
+    match write_area(disk, side, slot, place, count, bytes) {
+        Ok(()) => {
+            slots.set(side, Slot::Open { place, count });
+            Ok(())
+        }
+        Err(now) => {
+            slots.set(side, now);
+            Err(Failed)
+        }
+    }
 }
