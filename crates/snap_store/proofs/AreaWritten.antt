@@ -104,9 +104,9 @@ module _ (side : Side) (d : List ℕ) (place count : ℕ) (bytes : List ℕ)
         length-drop (start_of side + 16) done,
       ) in
       ext_get_or 0 (take (length bytes) (drop (start_of side + 16) done)) bytes size (λ i lt.
-          get_or-take (length bytes) (drop (start_of side + 16) done) i 0 (omega (arith, size))
-          ∙ get_or-drop (start_of side + 16) done i 0
-          ∙ written_within begun (start_of side + 16) bytes i (omega (arith, size)))
+      get_or-take (length bytes) (drop (start_of side + 16) done) i 0 (omega (arith, size))
+      ∙ get_or-drop (start_of side + 16) done i 0
+      ∙ written_within begun (start_of side + 16) bytes i (omega (arith, size)))
 
   is_whole_there : is_whole side done ≡ true
   unfolding is_whole

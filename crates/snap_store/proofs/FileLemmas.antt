@@ -24,9 +24,9 @@ pub take_same :
 take_same n xs ys long_x long_y same =
     ext_get_or 0 (take n xs) (take n ys) (omega (arith, length-take n xs, length-take n ys))
     (λ i lt.
-        get_or-take n xs i 0 (omega (arith, length-take n xs))
-        ∙ same i (omega (arith, length-take n xs))
-        ∙ sym (get_or-take n ys i 0 (omega (arith, length-take n xs))))
+    get_or-take n xs i 0 (omega (arith, length-take n xs))
+    ∙ same i (omega (arith, length-take n xs))
+    ∙ sym (get_or-take n ys i 0 (omega (arith, length-take n xs))))
 
 -- the same elements behind a place
 pub drop_same :
@@ -36,7 +36,7 @@ pub drop_same :
 drop_same at xs ys long same =
     ext_get_or 0 (drop at xs) (drop at ys) (omega (arith, length-drop at xs, length-drop at ys))
     (λ i lt.
-        get_or-drop at xs i 0 ∙ same (at + i) (omega arith) ∙ sym (get_or-drop at ys i 0))
+    get_or-drop at xs i 0 ∙ same (at + i) (omega arith) ∙ sym (get_or-drop at ys i 0))
 
 -- the same bytes are the same number
 pub big_from_same :
@@ -50,8 +50,8 @@ big_from_same (suc n) i j xs ys same =
     ∙ ap (λ (k : ℕ). get_or ys k 0) (omega arith) in
     let rest : big_from (suc i) n xs ≡ big_from (suc j) n ys =
     big_from_same n (suc i) (suc j) xs ys (λ k lt.
-        ap (λ (m : ℕ). get_or xs m 0) (omega arith) ∙ same (suc k) (omega arith)
-        ∙ ap (λ (m : ℕ). get_or ys m 0) (omega arith)) in
+    ap (λ (m : ℕ). get_or xs m 0) (omega arith) ∙ same (suc k) (omega arith)
+    ∙ ap (λ (m : ℕ). get_or ys m 0) (omega arith)) in
     ap (λ (b : ℕ). b * 256 ^ n + big_from (suc i) n xs) first
     ∙ ap (λ (r : ℕ). get_or ys j 0 * 256 ^ n + r) rest
 
@@ -61,17 +61,17 @@ pub number_read :
     → big_from 0 n (take m (drop i bytes)) ≡ big_from (at + i) n file
 number_read n i m at file bytes reads within le =
     big_from_same n 0 (at + i) (take m (drop i bytes)) file (λ k lt.
-        get_or-take m (drop i bytes) (0 + k) 0 (omega arith)
-        ∙ get_or-drop i bytes (0 + k) 0
-        ∙ reads (i + (0 + k)) (omega arith)
-        ∙ ap (λ (j : ℕ). get_or file j 0) (omega arith))
+    get_or-take m (drop i bytes) (0 + k) 0 (omega arith)
+    ∙ get_or-drop i bytes (0 + k) 0
+    ∙ reads (i + (0 + k)) (omega arith)
+    ∙ ap (λ (j : ℕ). get_or file j 0) (omega arith))
 
 pub first_number_read :
     (n at : ℕ) (file bytes : List ℕ) → Reads file at bytes → n ≤ length bytes
     → big_from 0 n bytes ≡ big_from at n file
 first_number_read n at file bytes reads within =
     big_from_same n 0 at bytes file (λ k lt.
-        reads (0 + k) (omega arith) ∙ ap (λ (j : ℕ). get_or file j 0) (omega arith))
+    reads (0 + k) (omega arith) ∙ ap (λ (j : ℕ). get_or file j 0) (omega arith))
 
 pub and-true : (b : Bool) → (b && true) ≡ b
 and-true true = refl
@@ -188,7 +188,7 @@ unfolding is_whole
 whole_short_enough side d is = grind (arith, nat_tests)
 
 -- where an area is given it is whole
-none_some : (area : Stored) → None ≡ Some area → ⊥
+pub none_some : (area : Stored) → None ≡ Some area → ⊥
 none_some area is = grind arith
 
 pub whole_is :
@@ -234,9 +234,9 @@ module _ (side : Side) (c d : List ℕ) (at n : ℕ)
       (omega (arith, length-drop (start_of side + 16) c, torn.no_shorter, ends))
       (omega (arith, length-drop (start_of side + 16) d, ends))
       (λ i lt.
-          get_or-drop (start_of side + 16) c i 0
-          ∙ below_same (start_of side + 16 + i) (omega arith)
-          ∙ sym (get_or-drop (start_of side + 16) d i 0))
+      get_or-drop (start_of side + 16) c i 0
+      ∙ below_same (start_of side + 16 + i) (omega arith)
+      ∙ sym (get_or-drop (start_of side + 16) d i 0))
 
   area_below : area_at side c ≡ area_at side d
   unfolding area_at place_at count_at

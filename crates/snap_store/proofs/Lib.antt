@@ -4,3 +4,5 @@ pub mod AreaWritten
 pub mod LaidLemmas
 pub mod Runs
 pub mod SlotLemmas
+pub mod StoreLemmas
+pub mod PutLemmas

@@ -14,7 +14,7 @@ pub choice_is :
     (open_a wanted_a open_b wanted_b : Bool) (a b : Stored) (test : Stored → Bool)
     → test a ≡ wanted_a → test b ≡ wanted_b
     → greatest (filter test (listed (if open_a then Some a else None)
-        ++ listed (if open_b then Some b else None)))
+    ++ listed (if open_b then Some b else None)))
     ≡ choice (open_a && wanted_a) (open_b && wanted_b) a b
 choice_is false wanted_a false wanted_b a b test is_a is_b = refl
 choice_is false wanted_a true true a b test is_a is_b = rw is_b refl

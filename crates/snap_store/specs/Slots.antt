@@ -63,7 +63,7 @@ abbrev pub newest_side : Slots → Option Side
 newest_side slots = newest_of slots.a slots.b
 
 -- the area that a put takes: the one that isn't the newest; area A where none is open
-abbrev beside : Option Side → Side
+abbrev pub beside : Option Side → Side
 beside None = A
 beside (Some side) = other side
 

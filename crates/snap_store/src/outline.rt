@@ -1,7 +1,7 @@
 //! What stands in a file: its header, its gates, and how its areas begin (own).
 
 ghost use Rattle.std.specs.Prelude.{◌≡◌, ◌<◌, ◌≤◌, ◌^◌, ◌&&◌, IsTrue, IsOk, IfOk, OnOk, List, ℕ};
-ghost use Rattle.std.specs.Prelude.{length, nat_le, option_map, IfSome};
+ghost use Rattle.std.specs.Prelude.{length, false, option_map, IfSome};
 ghost use Rattle.disk_model.specs.Disk.{Counts, Reads, Only};
 ghost use Rattle.snap_store.specs.File.{has_header, gate_byte, head_at, is_whole, is_open};
 ghost use Rattle.snap_store.specs.File.{newest_area, area_at, is_wanted};
@@ -9,6 +9,7 @@ ghost use Rattle.snap_store.specs.Outline.{outline_of};
 ghost use Rattle.snap_store.specs.Slots.{slot_in};
 ghost use Rattle.snap_store.specs.Frames.{OnlyLooks};
 ghost use Rattle.snap_store.specs.declared.side.Side.TheVariants.{A, B};
+ghost use Rattle.snap_store.specs.declared.slot.Slot.TheVariants.{Closed};
 
 use crate::side::Side;
 use crate::slot::Slot;
@@ -148,7 +149,9 @@ impl Outline {
 
     /// What is known of its gate, where nothing is pending.
     pub fn slot(&self, side: Side) -> Slot
-        ensures { (file : List ℕ) → self.now ≡ outline_of file → result ≡ slot_in side file }
+        ensures value { (file : List ℕ) → self.now ≡ outline_of file
+            → result ≡ slot_in side file }
+        ensures unmade { self.now.made ≡ false → result ≡ Closed }
     {
         if !self.made || self.gate(side) == 0 {
             return Slot::Closed;

@@ -1,4 +1,4 @@
-use Rattle.std.proofs.Common.{◌≡◌, ◌∙◌, ◌++◌, ap, List, ℕ, drop}
+use Rattle.std.proofs.Common.{◌∙◌, ◌++◌, ap, List, ℕ}
 use Rattle.std.proofs.lemmas.List.{drop-replicate}
 use Rattle.snap_store.specs.File.{header, made_file}
 use Rattle.snap_store.proofs.begin.first_page.Goals as goal

@@ -1,6 +1,5 @@
-use Rattle.std.proofs.Common.{◌≡◌, ◌≤◌, ◌+◌, ◌∙◌, sym, ap, subst, arith, length, List, ℕ, Bool, true, take, drop}
-use Rattle.std.specs.Prelude.{IsTrue, Some, Option, option_map}
-use Rattle.snap_store.specs.declared.area.Area.{Area}
+use Rattle.std.proofs.Common.{◌≡◌, ◌+◌, ◌∙◌, sym, ap, subst, arith, length, List, ℕ, Bool, true, take, drop}
+use Rattle.std.specs.Prelude.{IsTrue, Some, Option}
 use Rattle.snap_store.specs.declared.outline.Head.{Head}
 use Rattle.snap_store.specs.File.{Stored, area_at, count_at, length_at, start_of, is_whole, newest_area, given}
 use Rattle.snap_store.specs.Outline.{outline_of}

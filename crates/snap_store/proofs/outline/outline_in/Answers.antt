@@ -1,4 +1,4 @@
-use Rattle.std.proofs.Common.{◌≡◌, ◌∙◌, sym, ap, subst, refl, arith, length, List, ℕ, Bool, true}
+use Rattle.std.proofs.Common.{◌≡◌, ◌∙◌, sym, ap, subst, refl, arith, length, List, ℕ, Bool}
 use Rattle.std.specs.Prelude.{IsTrue, slice_index}
 use Rattle.disk_model.specs.Disk.{Reads}
 use Rattle.snap_store.specs.declared.side.Side.TheVariants.{A, B}

@@ -1,7 +1,6 @@
-use Rattle.std.proofs.Common.{◌≡◌, ◌∙◌, sym, ap, subst, refl, arith, length, List, ℕ, ◌+◌}
+use Rattle.std.proofs.Common.{◌≡◌, ◌∙◌, ap, subst, arith, ℕ, ◌+◌}
 use Rattle.byteorder.specs.Endian.{big_from}
 use Rattle.disk_model.specs.Disk.{Reads}
-use Rattle.snap_store.specs.declared.outline.Head.{Head}
 use Rattle.snap_store.specs.File.{start_of, place_at, count_at, length_at}
 use Rattle.snap_store.proofs.FileLemmas.{number_read, first_number_read}
 use Rattle.snap_store.proofs.outline.read_head.Goals as goal

@@ -1,12 +1,11 @@
-use Rattle.std.proofs.Common.{◌≡◌, ◌∙◌, ◌∷◌, [], sym, ap, subst, arith, List, ℕ, Bool, true, false}
+use Rattle.std.proofs.Common.{◌≡◌, ◌∙◌, ◌∷◌, [], sym, ap, subst, List, ℕ, Bool}
 use Rattle.std.specs.Prelude.{IsTrue}
 use Rattle.disk_model.specs.Disk.{written, Torn}
 use Rattle.snap_store.specs.declared.slot.Slot.TheVariants.{Closed}
 use Rattle.snap_store.specs.File.{gate_of}
-use Rattle.snap_store.specs.Slots.{is_closed}
 use Rattle.snap_store.specs.Images.{IsLaid, loosened}
-use Rattle.snap_store.proofs.LaidLemmas.{laid_loosened, laid_closing, laid_shut, laid_was}
-use Rattle.snap_store.proofs.Runs.{Keeps, at_start, after_write, after_sync}
+use Rattle.snap_store.proofs.LaidLemmas.{laid_loosened, laid_closing, laid_shut}
+use Rattle.snap_store.proofs.Runs.{at_start, after_write, after_sync}
 use Rattle.snap_store.proofs.steps.close_gate.Goals as goal
 
 pub returns-in_err-write_at-clause-crash : goal.returns-in_err-write_at-clause-crash

@@ -1,4 +1,4 @@
-use Rattle.std.proofs.Common.{◌≡◌, ◌∙◌, ◌+◌, ◌≤◌, sym, ap, subst, arith, length, List, ℕ, Bool}
+use Rattle.std.proofs.Common.{◌≡◌, ◌∙◌, ◌+◌, sym, ap, subst, arith, length, List, ℕ, Bool}
 use Rattle.std.specs.Prelude.{IsTrue}
 use Rattle.disk_model.specs.Disk.{written}
 use Rattle.snap_store.specs.declared.slot.Slot.TheVariants.{Closed, Unsure}
@@ -7,7 +7,7 @@ use Rattle.snap_store.specs.File.{start_of, head_bytes}
 use Rattle.snap_store.specs.Images.{IsLaid}
 use Rattle.snap_store.proofs.AreaWritten.{length-head}
 use Rattle.snap_store.proofs.LaidLemmas.{laid_area_torn, laid_filled}
-use Rattle.snap_store.proofs.Runs.{Keeps, at_start, after_write, after_sync}
+use Rattle.snap_store.proofs.Runs.{at_start, after_write, after_sync}
 use Rattle.snap_store.proofs.steps.fill.Goals as goal
 
 pub returns-in_err-write_at-clause-crash : goal.returns-in_err-write_at-clause-crash

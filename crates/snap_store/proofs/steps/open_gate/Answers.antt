@@ -1,4 +1,4 @@
-use Rattle.std.proofs.Common.{◌≡◌, ◌∙◌, ◌∷◌, [], sym, ap, subst, arith, List, ℕ, Bool}
+use Rattle.std.proofs.Common.{◌≡◌, ◌∙◌, ◌∷◌, [], sym, ap, subst, List, ℕ, Bool}
 use Rattle.std.specs.Prelude.{IsTrue, Some}
 use Rattle.disk_model.specs.Disk.{written, Torn}
 use Rattle.disk_model.specs.Moments.{weaker}

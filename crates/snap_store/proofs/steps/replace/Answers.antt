@@ -1,5 +1,5 @@
-use Rattle.std.proofs.Common.{◌≡◌, ◌∙◌, inl, inr, sym, ap, subst, refl, arith, List, ℕ, Bool}
-use Rattle.std.specs.Prelude.{IsTrue, Some, Option}
+use Rattle.std.proofs.Common.{◌≡◌, ◌∙◌, sym, ap, subst}
+use Rattle.std.specs.Prelude.{Some}
 use Rattle.disk_model.specs.Disk.{LeavesOnly, EachImage}
 use Rattle.snap_store.specs.declared.side.Side.{Side}
 use Rattle.snap_store.specs.declared.slot.Slot.{Slot}
@@ -73,15 +73,13 @@ returns-in-Err-clause-err g c =
     let put : Stored = record { place = c.args.place; count = c.args.count; bytes = c.args.bytes.now } in
     let is : c.taken-side.result ≡ side = c.taken-side.ensures in
     let slot_is : c.of-slot.result ≡ slot = c.of-slot.ensures ∙ ap (λ (s : Side). slot_of slots s) is in
-    let spares = subst (λ (s : Side). Spares s beside) (sym is) (spares_taken slots) in
-    (
+    let spares = subst (λ (s : Side). Spares s beside) (sym is) (spares_taken slots) in (
       c.in-Err.now,
       c.set-in-Err.ensures ∙ ap (λ (s : Side). with_slot slots s c.in-Err.now) is,
       λ area beside_area each.
           let there : EachImage g.D.Disk.tells g.D.Disk.may_leave d (IsLaid c.taken-side.result c.of-slot.result area beside beside_area) = λ told f now.
           subst (λ (s : Side). IsLaid s c.of-slot.result area beside beside_area f) (sym is) (subst (λ (k : Slot). IsLaid side k area beside beside_area f) (sym slot_is) (each told f now)) in
-          let found = c.in-Err.ensures.err area beside_area beside spares there in
-          (
+          let found = c.in-Err.ensures.err area beside_area beside spares there in (
             found.0,
             subst (λ (k : Slot). IsLeft k area put c.in-Err.now found.0) slot_is found.1,
             subst (λ (s : Side). EachImage g.D.Disk.tells g.D.Disk.may_leave new (IsLaid s c.in-Err.now found.0 beside beside_area)) is found.2,

@@ -1,5 +1,5 @@
-use Rattle.std.proofs.Common.{◌≡◌, ◌∙◌, inl, inr, sym, ap, subst, refl, arith, List, ℕ, Bool}
-use Rattle.std.specs.Prelude.{IsTrue, Some, Option}
+use Rattle.std.proofs.Common.{inl, inr, sym, subst, refl, List, ℕ, Bool}
+use Rattle.std.specs.Prelude.{IsTrue, Some}
 use Rattle.disk_model.specs.Disk.{LeavesOnly, EachImage}
 use Rattle.disk_model.specs.Moments.{weaker, and_then}
 use Rattle.snap_store.specs.declared.slot.Slot.{Slot}

@@ -1,8 +1,8 @@
-use Rattle.std.proofs.Common.{◌≡◌, ◌∙◌, sym, ap, refl, arith, true, false, ◌+◌, length, List, ℕ, Bool}
-use Rattle.std.specs.Prelude.{nat_le, nat_eq, ◌&&◌, ◌==◌}
+use Rattle.std.proofs.Common.{◌≡◌, ◌∙◌, sym, ap, refl, arith, true, false}
+use Rattle.std.specs.Prelude.{◌==◌}
 use Rattle.std.proofs.lemmas.Bool.Decides.{nat_tests}
 use Rattle.snap_store.specs.declared.outline.Head.{Head}
-use Rattle.snap_store.specs.File.{is_open, is_wanted, area_at, place_at, count_at}
+use Rattle.snap_store.specs.File.{is_open, area_at, place_at, count_at}
 use Rattle.snap_store.proofs.outline.Outline.is_wanted.Goals as goal
 
 pub returns-then-head-place : goal.returns-then-head-place

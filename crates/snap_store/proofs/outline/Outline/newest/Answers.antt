@@ -1,9 +1,9 @@
 use Rattle.std.proofs.Common.{◌≡◌, ◌∙◌, sym, ap, refl, arith, true, false, List, ℕ, Bool}
-use Rattle.std.specs.Prelude.{nat_lt, ◌&&◌, if◌then◌else◌, Some, Option}
+use Rattle.std.specs.Prelude.{nat_lt, ◌&&◌, if◌then◌else◌, Some}
 use Rattle.std.proofs.lemmas.Bool.Decides.{nat_tests}
 use Rattle.snap_store.specs.declared.side.Side.TheVariants.{A, B}
 use Rattle.snap_store.specs.declared.outline.Outline.{Outline}
-use Rattle.snap_store.specs.File.{Stored, is_open, is_wanted, area_at, count_at, newest_area}
+use Rattle.snap_store.specs.File.{is_open, is_wanted, area_at, count_at, newest_area}
 use Rattle.snap_store.proofs.Newest.{choice, choice_is}
 use Rattle.snap_store.proofs.outline.Outline.newest.Goals as goal
 
@@ -18,10 +18,10 @@ both place most file later a b is =
     let x = area_at A file in
     let y = area_at B file in
     sym (
-      choice_is (is_open A file) (is_wanted place most x) (is_open B file) (is_wanted place most y) x y (is_wanted place most) refl refl
-      ∙ ap (λ (t : Bool). choice t (is_open B file && is_wanted place most y) x y) a
-      ∙ ap (λ (t : Bool). choice true t x y) b
-      ∙ ap (λ (t : Bool). Some (if t then y else x)) is
+    choice_is (is_open A file) (is_wanted place most x) (is_open B file) (is_wanted place most y) x y (is_wanted place most) refl refl
+    ∙ ap (λ (t : Bool). choice t (is_open B file && is_wanted place most y) x y) a
+    ∙ ap (λ (t : Bool). choice true t x y) b
+    ∙ ap (λ (t : Bool). Some (if t then y else x)) is
     )
 
 pub returns-then-self-clause-value : goal.returns-then-self-clause-value
