@@ -14,6 +14,10 @@ use Rattle.snap_store.specs.File.{is_open, open_area, openable_area, place_at, c
 use Rattle.snap_store.specs.Slots.{other, slot_of, with_slot, slot_in, is_before, newest_side, beside, taken_side}
 use Rattle.snap_store.specs.Images.{IsOf, Stands, IsLaid, loosened, DuringPut}
 use Rattle.snap_store.specs.Store.{Snapshots, held, area_of, IsOpenIn, IsImageOf, IsPutImage, IsSound}
+use Rattle.snap_store.specs.File.{newest_area, given}
+use Rattle.snap_store.specs.Store.{IsGiven}
+use Rattle.std.specs.Prelude.{IfSome}
+use Rattle.snap_store.proofs.Newest.{newest_found}
 use Rattle.snap_store.proofs.FileLemmas.{none_some, and-false}
 
 -- parts of the tests of an area that is open, or may open
@@ -339,6 +343,33 @@ module _ (side : Side) (file : List ℕ) (header : has_header file ≡ true) whe
           one_of (gate_byte side file)
           (test_of (has_header file) (gate_byte side file == 1) (is_whole side file) is)
 
+-- what is held of it is what may open
+module _ (side : Side) (file : List ℕ) where
+  whole_by :
+      {whole : Bool} → is_whole side file ≡ whole
+      → whole_area side file ≡ (if whole then Some (area_at side file) else None)
+  whole_by is = ap (λ (b : Bool). if b then Some (area_at side file) else None) is
+
+  held_by :
+      (is_header zero one whole : Bool) → is_whole side file ≡ whole
+      → held side (if is_header && not zero
+        then (if is_header && one && whole
+          then Open (place_at side file) (count_at side file) else Unsure)
+        else Closed) file
+      ≡ (if is_header && not zero && whole then Some (area_at side file) else None)
+  held_by false true one whole is = refl
+  held_by false false one whole is = refl
+  held_by true true one whole is = refl
+  held_by true false true true is = whole_by is
+  held_by true false true false is = whole_by is
+  held_by true false false true is = whole_by is
+  held_by true false false false is = whole_by is
+
+  pub held_in : held side (slot_in side file) file ≡ openable_area side file
+  held_in =
+      held_by (has_header file) (gate_byte side file == 0) (gate_byte side file == 1)
+      (is_whole side file) refl
+
 -- what an opening has read of a file of which nothing is pending
 pub record IsRead
     {D : Type 0}
@@ -447,3 +478,30 @@ module _
         (sound.laid made told c (none_new told c now));
     unmade = sound.unmade;
   }
+
+-- what is known of both sides
+pub slots_are :
+    (slots : Slots) (file : List ℕ) → slots.a ≡ slot_in A file → slots.b ≡ slot_in B file
+    → (side : Side) → slot_of slots side ≡ slot_in side file
+slots_are slots file a b A = a
+slots_are slots file a b B = b
+
+-- what is given is one of the store's areas
+module _ {D : Type 0} (seen : D → List ℕ) (store : Snapshots D)
+    (shows : IsImageOf seen store (seen store.disk)) (place most : ℕ) where
+  pub given_is :
+      (found : Option Stored) → newest_area place most (seen store.disk) ≡ found
+      → IfSome (given found) (IsGiven seen store place most)
+  given_is None is = tt
+  given_is (Some x) is =
+      let at = newest_found place most (seen store.disk) x is in
+      record {
+        side = at.0;
+        area = x;
+        kept = shows.opened at.0 x at.1;
+        there = at.1;
+        row = at.2;
+        fits = at.3;
+        count = refl;
+        bytes = refl;
+      }

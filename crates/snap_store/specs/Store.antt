@@ -1,13 +1,14 @@
--- A store as contracts see it: a list of whole areas, at most one for A and one for B (own).
-use Rattle.std.specs.Prelude.{◌≡◌, ◌⊎◌, ℕ, Bool, IsTrue, true, false}
-use Rattle.std.specs.Prelude.{List, [], ◌++◌, Option, Some, None}
+-- A store as contracts see it: whole areas, at most one for A and one for B (own).
+use Rattle.std.specs.Prelude.{◌≡◌, ◌⊎◌, ◌≤◌, ℕ, Bool, IsTrue, true, false}
+use Rattle.std.specs.Prelude.{List, Option, Some, None}
 use Rattle.disk_model.specs.Disk.{EachImage}
 use Rattle.snap_store.specs.declared.side.Side.{Side}
 use Rattle.snap_store.specs.declared.side.Side.TheVariants.{A, B}
 use Rattle.snap_store.specs.declared.slot.Slot.{Slot}
 use Rattle.snap_store.specs.declared.slot.Slot.TheVariants.{Closed, Open, Unsure}
 use Rattle.snap_store.specs.declared.slot.Slots.{Slots}
-use Rattle.snap_store.specs.File.{Stored, has_header, whole_area, open_area, openable_area, listed}
+use Rattle.snap_store.specs.declared.area.Area.{Area}
+use Rattle.snap_store.specs.File.{Stored, has_header, whole_area, open_area, openable_area}
 use Rattle.snap_store.specs.Slots.{other, slot_of, newest_side, taken_side}
 use Rattle.snap_store.specs.Images.{IsLaid}
 
@@ -17,18 +18,16 @@ pub record Snapshots (D : Type 0) : Type 0 where
   pub made : Bool
   pub slots : Slots
 
--- the area behind a gate, of the file as it reads; none behind a closed one
+-- The area behind a gate, of the file as it reads: none behind a closed one, nor where none is
+-- whole.
 abbrev pub held : Side → Slot → List ℕ → Option Stored
 held side Closed file = None
 held side Unsure file = whole_area side file
 held side (Open place count) file = whole_area side file
 
+-- the store's area of one side
 abbrev pub area_of : {D : Type 0} → (D → List ℕ) → Snapshots D → Side → Option Stored
 area_of seen store side = held side (slot_of store.slots side) (seen store.disk)
-
--- the list of areas
-abbrev pub areas_of : {D : Type 0} → (D → List ℕ) → Snapshots D → List Stored
-areas_of seen store = listed (area_of seen store A) ++ listed (area_of seen store B)
 
 -- it is open in the image, and the store has it
 pub record IsOpenIn
@@ -76,6 +75,23 @@ pub record IsPutImage
   pub beside :
       (area : Stored) → openable_area (other (taken_side store.slots)) image ≡ Some area
       → area_of seen store (other (taken_side store.slots)) ≡ Some area
+
+-- what is given of an area: one of the store's, open as the file reads, of this OPEN row, and after
+-- no more inputs than `most`
+pub record IsGiven
+    {D : Type 0}
+    (seen : D → List ℕ)
+    (store : Snapshots D)
+    (place most : ℕ)
+    (given : Area) : Type 0 where
+  pub side : Side
+  pub area : Stored
+  pub kept : area_of seen store side ≡ Some area
+  pub there : open_area side (seen store.disk) ≡ Some area
+  pub row : area.place ≡ place
+  pub fits : area.count ≤ most
+  pub count : given.count ≡ area.count
+  pub bytes : given.bytes ≡ area.bytes
 
 -- what is true of each store
 pub record IsSound

@@ -1,7 +1,7 @@
 //! One session's snapshot file (own).
 
 ghost use Rattle.std.specs.Prelude.{◌≡◌, ◌⊎◌, ◌+◌, ◌≤◌, ℕ, Bool, IsTrue, IsOk, IfOk, IfErr, OnOk};
-ghost use Rattle.std.specs.Prelude.{OnErr, MatchResult, Ok, Some, None, length, max, true, false};
+ghost use Rattle.std.specs.Prelude.{OnErr, MatchResult, Ok, Some, None, IfSome, length, max, true, false};
 ghost use Rattle.disk_model.specs.Disk.{Only, LeavesOnly, EachImage, SameDisk};
 ghost use Rattle.snap_store.specs.Frames.{OnlyLooks, IsFault, HasCause};
 
@@ -38,10 +38,10 @@ impl<D: Disk> Model for Store<D> {
 }
 
 impl<D: Disk> Store<D> {
-    ghost use Rattle.snap_store.specs.File.{Stored, has_header, start_of, open_area};
+    ghost use Rattle.snap_store.specs.File.{Stored, has_header, start_of, open_area, openable_area};
     ghost use Rattle.snap_store.specs.File.{newest_area, given};
     ghost use Rattle.snap_store.specs.Slots.{other, slot_of, slot_in, with_slot, taken_side};
-    ghost use Rattle.snap_store.specs.Store.{area_of, IsImageOf, IsPutImage};
+    ghost use Rattle.snap_store.specs.Store.{area_of, IsImageOf, IsPutImage, IsGiven};
     ghost use Rattle.snap_store.specs.declared.side.Side.{Side};
     ghost use Rattle.snap_store.specs.declared.slot.Slot.TheVariants.{Closed, Open, Unsure};
 
@@ -51,6 +51,8 @@ impl<D: Disk> Store<D> {
         ensures ok { IfOk result (λ s. IsTrue (D.tells disk)
             → (s.made ≡ has_header (D.seen disk))
             × ((side : Side) → slot_of s.slots side ≡ slot_in side (D.seen disk))) }
+        ensures areas { IfOk result (λ s. IsTrue (D.tells disk)
+            → (side : Side) → area_of D.seen s side ≡ openable_area side (D.seen disk)) }
         ensures seen { IfOk result (λ s. IsTrue (D.tells disk)
             → (D.seen s.disk ≡ D.seen disk) × Only (D.seen disk) (D.may_leave s.disk)) }
         ensures images { IfOk result (λ s. EachImage D.tells D.may_leave s.disk (IsImageOf D.seen s)) }
@@ -158,6 +160,8 @@ impl<D: Disk> Store<D> {
     ) -> Result<Option<Area>, NewestFault>
         ensures ok { IfOk result (λ area. IsTrue (D.tells self.old.disk)
             → area ≡ given (newest_area place most (D.seen self.old.disk))) }
+        ensures found { IfOk result (λ area. IsTrue (D.tells self.old.disk)
+            → IfSome area (IsGiven D.seen self.old place most)) }
         ensures unmade { self.old.made ≡ false → result ≡ Ok None }
         ensures works { IsTrue (D.steady self.old.disk) → IfErr result (λ e. e ≡ NewestFault.NoMemory) }
 
@@ -175,7 +179,8 @@ impl<D: Disk> Store<D> {
         if !self.made {
             return Ok(None);
         }
-        find(alloc, &mut self.disk, place, most)
+        let area = find(alloc, &mut self.disk, place, most)?;
+        Ok(area)
     }
 
     /// Its disk.
