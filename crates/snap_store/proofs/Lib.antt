@@ -6,3 +6,4 @@ pub mod Runs
 pub mod SlotLemmas
 pub mod StoreLemmas
 pub mod PutLemmas
+mod StandardFacts

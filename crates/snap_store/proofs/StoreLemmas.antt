@@ -353,9 +353,9 @@ module _ (side : Side) (file : List ℕ) where
   held_by :
       (is_header zero one whole : Bool) → is_whole side file ≡ whole
       → held side (if is_header && not zero
-        then (if is_header && one && whole
-          then Open (place_at side file) (count_at side file) else Unsure)
-        else Closed) file
+      then (if is_header && one && whole
+      then Open (place_at side file) (count_at side file) else Unsure)
+      else Closed) file
       ≡ (if is_header && not zero && whole then Some (area_at side file) else None)
   held_by false true one whole is = refl
   held_by false false one whole is = refl

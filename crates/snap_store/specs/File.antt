@@ -7,6 +7,7 @@ use Rattle.byteorder.specs.Endian.{big_from, big_bytes}
 use Rattle.snap_store.specs.declared.side.Side.{Side}
 use Rattle.snap_store.specs.declared.side.Side.TheVariants.{A, B}
 use Rattle.snap_store.specs.declared.outline.Head.{Head}
+use Rattle.snap_store.specs.declared.outline.TheConstants.{MAX_SNAPSHOT, PAGE}
 use Rattle.snap_store.specs.declared.area.Area.{Area}
 
 -- the eight bytes with which it begins
@@ -40,7 +41,7 @@ head_bytes place count length = big_bytes 8 place ++ (big_bytes 4 count ++ big_b
 
 -- the file begins with the header's bytes, and has at least 4,096
 unfoldable pub has_header : List ℕ → Bool
-has_header file = starts_with nat_eq file header && nat_le 4096 (length file)
+has_header file = starts_with nat_eq file header && nat_le PAGE (length file)
 
 -- an area's gate byte
 unfoldable pub gate_byte : Side → List ℕ → ℕ
@@ -66,7 +67,7 @@ head_at side file = record {
 -- the length is at most 8,388,608, and the area ends inside the file
 unfoldable pub is_whole : Side → List ℕ → Bool
 is_whole side file =
-    nat_le (length_at side file) 8388608
+    nat_le (length_at side file) MAX_SNAPSHOT
     && nat_le (start_of side + 16 + length_at side file) (length file)
 
 -- what stands there as an area

@@ -16,4 +16,5 @@ mod tests;
 pub use area::Area;
 pub use begin::make;
 pub use fault::{DiskFault, NewestFault};
+pub use outline::MAX_SNAPSHOT;
 pub use store::Store;

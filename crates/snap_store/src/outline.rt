@@ -23,7 +23,7 @@ pub const HEADER: [u8; 8] = [0x53, 0x54, 0x48, 0x53, 0, 0, 0, 1];
 pub const PAGE: usize = 4096;
 
 /// The most bytes of a snapshot.
-pub const MOST: u32 = 8_388_608;
+pub const MAX_SNAPSHOT: u32 = 8_388_608;
 
 /// The numbers with which an area starts.
 #[derive(Clone, Copy)]
@@ -137,7 +137,8 @@ impl Outline {
         ensures { (file : List ℕ) → self.now ≡ outline_of file → result ≡ is_whole side file }
     {
         let length = self.head(side).length;
-        length <= MOST && u128::from(side.start()) + 16 + u128::from(length) <= self.size.into()
+        length <= MAX_SNAPSHOT
+            && u128::from(side.start()) + 16 + u128::from(length) <= self.size.into()
     }
 
     // It is open.

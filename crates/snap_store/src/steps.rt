@@ -8,6 +8,7 @@ ghost use Rattle.snap_store.specs.Slots.{slot_of, with_slot, taken_side, other};
 ghost use Rattle.snap_store.specs.Images.{IsLaid, Spares, loosened, DuringPut, IsLeft};
 ghost use Rattle.snap_store.specs.declared.slot.Slot.{Slot};
 ghost use Rattle.snap_store.specs.declared.slot.Slot.TheVariants.{Closed, Open, Unsure};
+ghost use Rattle.snap_store.specs.declared.outline.TheConstants.{MAX_SNAPSHOT};
 
 use crate::side::Side;
 use crate::slot::{Slot, Slots};
@@ -46,7 +47,7 @@ fn fill<D: Disk>(
     count: u32,
     bytes: &[u8],
 ) -> Result<(), Failed>
-    requires { length bytes.now ≤ 8388608 }
+    requires { length bytes.now ≤ MAX_SNAPSHOT }
     ensures ok { OnOk result ((area beside_area : Option Stored) (beside : Slot)
         → Spares side beside
         → EachImage D.tells D.may_leave disk.old (IsLaid side Closed area beside beside_area)
@@ -113,7 +114,7 @@ fn write_area<D: Disk>(
     count: u32,
     bytes: &[u8],
 ) -> Result<(), Slot>
-    requires { length bytes.now ≤ 8388608 }
+    requires { length bytes.now ≤ MAX_SNAPSHOT }
     ensures ok { OnOk result ((area beside_area : Option Stored) (beside : Slot)
         → Spares side beside
         → EachImage D.tells D.may_leave disk.old (IsLaid side slot area beside beside_area)
@@ -160,7 +161,7 @@ pub fn replace<D: Disk>(
     count: u32,
     bytes: &[u8],
 ) -> Result<(), Failed>
-    requires { length bytes.now ≤ 8388608 }
+    requires { length bytes.now ≤ MAX_SNAPSHOT }
     ensures ok { OnOk result (slots.new
         ≡ with_slot slots.old (taken_side slots.old) (Open place count)) }
     ensures images { OnOk result ((area beside_area : Option Stored)

@@ -4,6 +4,7 @@ ghost use Rattle.std.specs.Prelude.{◌≡◌, ◌⊎◌, ◌+◌, ◌≤◌, �
 ghost use Rattle.std.specs.Prelude.{OnErr, MatchResult, Ok, Some, None, IfSome, length, max, true, false};
 ghost use Rattle.disk_model.specs.Disk.{Only, LeavesOnly, EachImage, SameDisk};
 ghost use Rattle.snap_store.specs.Frames.{OnlyLooks, IsFault, HasCause};
+ghost use Rattle.snap_store.specs.declared.outline.TheConstants.{MAX_SNAPSHOT};
 
 use crate::area::Area;
 use crate::fault::{DiskFault, NewestFault};
@@ -94,7 +95,7 @@ impl<D: Disk> Store<D> {
     /// Writes an area of at most 8,388,608 bytes: the snapshot of this OPEN row after so many
     /// inputs. It takes the area that isn't the newest.
     pub fn put(&mut self, place: u64, count: u32, bytes: &[u8]) -> Result<(), DiskFault>
-        requires { length bytes.now ≤ 8388608 }
+        requires { length bytes.now ≤ MAX_SNAPSHOT }
 
         // it is one of the areas, synced, and open in each image
         ensures ok { OnOk result (self.old.made ≡ true → self.new.slots

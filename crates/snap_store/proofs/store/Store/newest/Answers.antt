@@ -26,6 +26,6 @@ returns-clause-found g c =
     let seen = g.D.Disk.seen in
     subst (λ (s : Snapshots g.row.D.Denot). IsTrue (g.D.Disk.tells s.disk) → IfSome c.in_ok-area.area (IsGiven seen s c.args.place c.args.most)) c.self.view_is
     (λ told.
-        let shows = sound_images g.D.Disk.tells g.D.Disk.may_leave seen S c.self.invariant told (seen S.disk) (g.met.D.Disk.seen_may_stay S.disk) in
-        subst (λ (o : Option Area). IfSome o (IsGiven seen S c.args.place c.args.most)) (sym (c.in_ok-area.ensures.ok told))
-        (given_is seen S shows c.args.place c.args.most (newest_area c.args.place c.args.most (seen S.disk)) refl))
+    let shows = sound_images g.D.Disk.tells g.D.Disk.may_leave seen S c.self.invariant told (seen S.disk) (g.met.D.Disk.seen_may_stay S.disk) in
+    subst (λ (o : Option Area). IfSome o (IsGiven seen S c.args.place c.args.most)) (sym (c.in_ok-area.ensures.ok told))
+    (given_is seen S shows c.args.place c.args.most (newest_area c.args.place c.args.most (seen S.disk)) refl))
