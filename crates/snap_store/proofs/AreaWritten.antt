@@ -1,17 +1,18 @@
 -- An area that is written by two writes, its head and then its bytes, is whole.
-use Rattle.std.proofs.Common.{◌≡◌, ℕ, ◌+◌, ◌%◌, ◌^◌, ◌<◌, ◌≤◌, true, List, [], ◌++◌, length, get_or, take, drop}
-use Rattle.std.proofs.Common.{refl, sym, ◌∙◌, ap, arith, length-append}
-use Rattle.std.specs.Prelude.{Option, Some}
+use Rattle.std.proofs.Common.{◌≡◌, ℕ, ◌+◌, ◌^◌, ◌<◌, ◌≤◌, true}
+use Rattle.std.proofs.Common.{List, [], ◌++◌, length, get_or, take, drop}
+use Rattle.std.proofs.Common.{refl, ◌∙◌, ap, arith, length-append}
+use Rattle.std.specs.Prelude.{Some}
 use Rattle.std.proofs.lemmas.List.{ext_get_or, length-take, length-drop, get_or-take, get_or-drop}
-use Rattle.std.proofs.lemmas.List.{get_or_append_left, get_or-append_right}
+use Rattle.std.proofs.lemmas.List.{get_or-append_right}
 use Rattle.std.proofs.lemmas.Bool.Decides.{nat_tests}
 use Rattle.std.proofs.Math.Nat.{mod-eq_of_lt}
 use Rattle.byteorder.specs.Endian.{big_from, big_bytes}
-use Rattle.byteorder.specs.Numbers.{big_from-bytes, big_from-append, length-bytes_high_first}
+use Rattle.byteorder.specs.Numbers.{big_from-bytes, length-bytes_high_first}
 use Rattle.disk_model.specs.Disk.{written}
 use Rattle.disk_model.specs.Torn.{written_below, written_within, length-written}
 use Rattle.snap_store.specs.declared.side.Side.{Side}
-use Rattle.snap_store.specs.File.{Stored, start_of, head_bytes, place_at, count_at, length_at}
+use Rattle.snap_store.specs.File.{start_of, head_bytes, place_at, count_at, length_at}
 use Rattle.snap_store.specs.File.{is_whole, area_at, whole_area}
 use Rattle.snap_store.proofs.FileLemmas.{big_from_same}
 

@@ -1,6 +1,7 @@
 -- How writes change what stands in an image.
-use Rattle.std.proofs.Common.{◌≡◌, ◌⊎◌, inl, inr, ℕ, zero, ◌+◌, ◌^◌, ◌<◌, ◌≤◌, true, false, List, [], ◌∷◌, length}
-use Rattle.std.proofs.Common.{get_or, refl, sym, ◌∙◌, ap, subst, arith}
+use Rattle.std.proofs.Common.{◌≡◌, ◌⊎◌, inl, inr, ℕ, ◌+◌, ◌^◌, ◌<◌}
+use Rattle.std.proofs.Common.{◌≤◌, true, false, List, [], ◌∷◌, length}
+use Rattle.std.proofs.Common.{get_or, refl, ◌∙◌, ap, arith}
 use Rattle.std.specs.Prelude.{Option, Some, None}
 use Rattle.disk_model.specs.Disk.{Torn, written}
 use Rattle.disk_model.specs.Torn.{torn_written, written_within}
@@ -8,8 +9,8 @@ use Rattle.snap_store.specs.declared.side.Side.{Side}
 use Rattle.snap_store.specs.declared.side.Side.TheVariants.{A, B}
 use Rattle.snap_store.specs.declared.slot.Slot.{Slot}
 use Rattle.snap_store.specs.declared.slot.Slot.TheVariants.{Closed, Open, Unsure}
-use Rattle.snap_store.specs.File.{Stored, has_header, gate_byte, gate_of, start_of, whole_area}
-use Rattle.snap_store.specs.File.{is_whole, length_at, head_bytes}
+use Rattle.snap_store.specs.File.{Stored, gate_byte, gate_of, start_of, whole_area}
+use Rattle.snap_store.specs.File.{is_whole, head_bytes}
 use Rattle.snap_store.specs.Slots.{other, is_closed}
 use Rattle.snap_store.specs.Images.{IsOf, Stands, IsLaid, Spares, loosened}
 use Rattle.snap_store.proofs.FileLemmas.{header_torn, header_long, gate_torn, whole_before}

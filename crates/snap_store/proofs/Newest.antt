@@ -1,5 +1,6 @@
 -- Which area is the newest.
-use Rattle.std.proofs.Common.{◌≡◌, ◌⊎◌, inl, inr, ◌≤◌, ◌∙◌, sym, ap, arith, ℕ, Bool, true, false, List, [], ◌∷◌, ◌++◌, refl}
+use Rattle.std.proofs.Common.{◌≡◌, ◌⊎◌, inl, inr, ◌≤◌, ◌∙◌, sym, ap, arith}
+use Rattle.std.proofs.Common.{ℕ, Bool, true, false, List, ◌++◌, refl}
 use Rattle.std.specs.Prelude.{nat_lt, ◌&&◌, if◌then◌else◌, filter, Option, Some, None}
 use Rattle.std.specs.Prelude.{nat_le, ◌==◌}
 use Rattle.std.proofs.lemmas.Bool.Decides.{nat_tests}

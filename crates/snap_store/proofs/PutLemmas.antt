@@ -1,5 +1,6 @@
 -- What a put leaves of a store.
-use Rattle.std.proofs.Common.{◌≡◌, ◌⊎◌, inl, inr, ℕ, Bool, true, false, List, refl, sym, ◌∙◌, ap, subst}
+use Rattle.std.proofs.Common.{◌≡◌, ◌⊎◌, inl, inr, ℕ, Bool, true, false, List, refl}
+use Rattle.std.proofs.Common.{sym, ◌∙◌, ap, subst}
 use Rattle.std.specs.Prelude.{Option, Some, None, IsTrue}
 use Rattle.disk_model.specs.Disk.{EachImage}
 use Rattle.snap_store.specs.declared.side.Side.{Side}
@@ -7,12 +8,13 @@ use Rattle.snap_store.specs.declared.side.Side.TheVariants.{A, B}
 use Rattle.snap_store.specs.declared.slot.Slot.{Slot}
 use Rattle.snap_store.specs.declared.slot.Slot.TheVariants.{Closed, Open, Unsure}
 use Rattle.snap_store.specs.declared.slot.Slots.{Slots}
-use Rattle.snap_store.specs.File.{Stored, has_header, whole_area, open_area, openable_area}
-use Rattle.snap_store.specs.Slots.{other, slot_of, with_slot, newest_side, taken_side}
+use Rattle.snap_store.specs.File.{Stored, has_header, whole_area, openable_area}
+use Rattle.snap_store.specs.Slots.{other, slot_of, with_slot, taken_side}
 use Rattle.snap_store.specs.Images.{Stands, IsLaid, loosened, DuringPut, IsLeft}
-use Rattle.snap_store.specs.Store.{Snapshots, held, area_of, IsOpenIn, IsPutImage, IsSound}
-use Rattle.snap_store.proofs.StoreLemmas.{openable_is, shut_closed, stands_openable, is_opened}
-use Rattle.snap_store.proofs.StoreLemmas.{newest_is_beside, open_at, laid_turned, laid_seen, held_is}
+use Rattle.snap_store.specs.Store.{Snapshots, held, area_of, IsPutImage, IsSound}
+use Rattle.snap_store.proofs.StoreLemmas.{openable_is, shut_closed, stands_openable}
+use Rattle.snap_store.proofs.StoreLemmas.{newest_is_beside, open_at, laid_turned, laid_seen}
+use Rattle.snap_store.proofs.StoreLemmas.{held_is}
 
 -- what is known of each side, once something is known of one
 pub slot_set :

@@ -1,13 +1,13 @@
 -- Which area is taken, and what is known of the other one.
-use Rattle.std.proofs.Common.{◌≡◌, inl, inr, ℕ, Bool, true, false, refl, sym, ◌∙◌, ap, subst}
-use Rattle.std.specs.Prelude.{if◌then◌else◌, Option, Some, None}
+use Rattle.std.proofs.Common.{inl, inr, Bool, sym}
+use Rattle.std.proofs.Common.{subst}
+use Rattle.std.specs.Prelude.{if◌then◌else◌}
 use Rattle.std.proofs.lemmas.Bool.{cases_Bool}
-use Rattle.snap_store.specs.declared.side.Side.{Side}
 use Rattle.snap_store.specs.declared.side.Side.TheVariants.{A, B}
 use Rattle.snap_store.specs.declared.slot.Slot.{Slot}
 use Rattle.snap_store.specs.declared.slot.Slot.TheVariants.{Closed, Open, Unsure}
 use Rattle.snap_store.specs.declared.slot.Slots.{Slots}
-use Rattle.snap_store.specs.Slots.{other, slot_of, with_slot, is_before, newest_side, taken_side}
+use Rattle.snap_store.specs.Slots.{other, slot_of, is_before, taken_side}
 use Rattle.snap_store.specs.Images.{Spares}
 
 -- while area B is written area A is open

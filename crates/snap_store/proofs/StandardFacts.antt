@@ -1,6 +1,6 @@
 -- Rows of the rules of a snapshot file, said of the definitions.
-use Rattle.std.proofs.Common.{◌≡◌, ◌+◌, refl, [], ◌∷◌, ◌++◌, true, false}
-use Rattle.std.specs.Prelude.{Option, Some, None}
+use Rattle.std.proofs.Common.{◌≡◌, ◌+◌, refl, [], ◌∷◌, false}
+use Rattle.std.specs.Prelude.{Some}
 use Rattle.snap_store.specs.declared.side.Side.TheVariants.{A, B}
 use Rattle.snap_store.specs.declared.slot.Slot.TheVariants.{Closed, Open, Unsure}
 use Rattle.snap_store.specs.declared.outline.TheConstants.{MAX_SNAPSHOT}

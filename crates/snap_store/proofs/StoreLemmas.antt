@@ -1,6 +1,8 @@
 -- What the images of a store show.
-use Rattle.std.proofs.Common.{◌≡◌, ◌≢◌, ◌⊎◌, inl, inr, ℕ, Bool, true, false, List, refl, sym, ◌∙◌, ap, subst, arith}
-use Rattle.std.specs.Prelude.{nat_eq, ◌&&◌, ◌==◌, not, if◌then◌else◌, Option, Some, None, IsTrue}
+use Rattle.std.proofs.Common.{◌≡◌, inl, inr, ℕ, Bool, true, false}
+use Rattle.std.proofs.Common.{List, refl, sym, ◌∙◌, ap, subst, arith}
+use Rattle.std.specs.Prelude.{◌&&◌, ◌==◌, not, if◌then◌else◌, Option, Some}
+use Rattle.std.specs.Prelude.{None, IsTrue}
 use Rattle.std.proofs.lemmas.Bool.{cases_Bool}
 use Rattle.std.proofs.lemmas.Bool.Decides.{nat_tests}
 use Rattle.disk_model.specs.Disk.{EachImage, NoneNew}
@@ -11,9 +13,11 @@ use Rattle.snap_store.specs.declared.slot.Slot.TheVariants.{Closed, Open, Unsure
 use Rattle.snap_store.specs.declared.slot.Slots.{Slots}
 use Rattle.snap_store.specs.File.{Stored, has_header, gate_byte, is_whole, area_at, whole_area}
 use Rattle.snap_store.specs.File.{is_open, open_area, openable_area, place_at, count_at}
-use Rattle.snap_store.specs.Slots.{other, slot_of, with_slot, slot_in, is_before, newest_side, beside, taken_side}
-use Rattle.snap_store.specs.Images.{IsOf, Stands, IsLaid, loosened, DuringPut}
-use Rattle.snap_store.specs.Store.{Snapshots, held, area_of, IsOpenIn, IsImageOf, IsPutImage, IsSound}
+use Rattle.snap_store.specs.Slots.{other, slot_of, slot_in, is_before, newest_side}
+use Rattle.snap_store.specs.Slots.{beside, taken_side}
+use Rattle.snap_store.specs.Images.{IsOf, Stands, IsLaid}
+use Rattle.snap_store.specs.Store.{Snapshots, held, IsOpenIn, IsImageOf}
+use Rattle.snap_store.specs.Store.{IsSound}
 use Rattle.snap_store.specs.File.{newest_area, given}
 use Rattle.snap_store.specs.Store.{IsGiven}
 use Rattle.std.specs.Prelude.{IfSome}

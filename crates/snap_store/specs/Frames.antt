@@ -3,7 +3,8 @@ use Rattle.std.specs.Prelude.{◌≡◌, ℕ, ◌≤◌, Bool, IsTrue, List}
 use Rattle.disk_model.specs.Disk.{NoneNew, LeavesOnly, SameDisk, Rose}
 use Rattle.snap_store.specs.declared.fault.DiskFault.{DiskFault}
 use Rattle.snap_store.specs.declared.fault.NewestFault.{NewestFault}
-use Rattle.snap_store.specs.declared.fault.NewestFault.TheVariants.{DiskFault as disk_fault, NoMemory}
+use Rattle.snap_store.specs.declared.fault.NewestFault.TheVariants.{DiskFault as disk_fault}
+use Rattle.snap_store.specs.declared.fault.NewestFault.TheVariants.{NoMemory}
 
 -- nothing was written: no image is new, now or at any moment since
 pub record OnlyLooks

@@ -47,7 +47,9 @@ Spares B Unsure = ⊥
 
 -- while a put goes on: the old area behind a gate that is being closed, a closed gate, and the new
 -- area behind a gate that is being opened
-abbrev pub DuringPut : Side → Slot → Option Stored → Stored → Slot → Option Stored → List ℕ → Type 0
+abbrev pub DuringPut :
+    Side → Slot → Option Stored → Stored → Slot → Option Stored → List ℕ
+    → Type 0
 DuringPut side slot area put beside beside_area image =
     IsLaid side (loosened slot) area beside beside_area image
     ⊎ IsLaid side Closed area beside beside_area image

@@ -1,6 +1,5 @@
 -- What is read of a file to know its areas (own).
 use Rattle.std.specs.Prelude.{ℕ, List, length}
-use Rattle.snap_store.specs.declared.side.Side.{Side}
 use Rattle.snap_store.specs.declared.side.Side.TheVariants.{A, B}
 use Rattle.snap_store.specs.declared.outline.Outline.{Outline}
 use Rattle.snap_store.specs.File.{has_header, gate_byte, head_at}

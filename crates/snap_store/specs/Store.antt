@@ -1,5 +1,5 @@
 -- A store as contracts see it: whole areas, at most one for A and one for B (own).
-use Rattle.std.specs.Prelude.{◌≡◌, ◌⊎◌, ◌≤◌, ℕ, Bool, IsTrue, true, false}
+use Rattle.std.specs.Prelude.{◌≡◌, ◌⊎◌, ◌≤◌, ℕ, Bool, true, false}
 use Rattle.std.specs.Prelude.{List, Option, Some, None}
 use Rattle.disk_model.specs.Disk.{EachImage}
 use Rattle.snap_store.specs.declared.side.Side.{Side}
@@ -55,7 +55,9 @@ pub record IsImageOf
       (side : Side) (area : Stored) → open_area side image ≡ Some area
       → area_of seen store side ≡ Some area
   -- the newest is open
-  pub newest : (side : Side) → newest_side store.slots ≡ Some side → IsOpenIn seen store side image
+  pub newest :
+      (side : Side) → newest_side store.slots ≡ Some side
+      → IsOpenIn seen store side image
 
 -- an image that a stop may leave while a put of an area goes on, or after it
 pub record IsPutImage
@@ -66,7 +68,9 @@ pub record IsPutImage
     (image : List ℕ) : Type 0 where
   pub header : has_header image ≡ true
   -- the newest area of beforehand is open and unchanged
-  pub newest : (side : Side) → newest_side store.slots ≡ Some side → IsOpenIn seen store side image
+  pub newest :
+      (side : Side) → newest_side store.slots ≡ Some side
+      → IsOpenIn seen store side image
   -- the area that is taken, where it may open, is unchanged or the new one whole
   pub taken :
       (area : Stored) → openable_area (taken_side store.slots) image ≡ Some area

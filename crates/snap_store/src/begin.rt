@@ -1,6 +1,7 @@
 //! A new snapshot file (own).
 
-ghost use Rattle.std.specs.Prelude.{◌≡◌, ◌≤◌, ◌++◌, IsTrue, IsOk, OnOk, IfErr, length, max, drop};
+ghost use Rattle.std.specs.Prelude.{◌≡◌, ◌≤◌, ◌++◌, IsTrue, IsOk, OnOk, IfErr};
+ghost use Rattle.std.specs.Prelude.{length, max, drop};
 ghost use Rattle.disk_model.specs.Disk.{Only, written, LeavesOnly, AfterWrite, SameDisk};
 ghost use Rattle.snap_store.specs.File.{header, made_file};
 ghost use Rattle.snap_store.specs.Frames.{IsFault};

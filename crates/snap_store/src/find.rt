@@ -1,6 +1,7 @@
 //! Looking for an area, and reading it (own).
 
-ghost use Rattle.std.specs.Prelude.{◌≡◌, ◌+◌, ◌≤◌, ℕ, IsTrue, IfOk, IfErr, OnOk, length, take, drop};
+ghost use Rattle.std.specs.Prelude.{◌≡◌, ◌+◌, ◌≤◌, ℕ, IsTrue, IfOk, IfErr, OnOk};
+ghost use Rattle.std.specs.Prelude.{length, take, drop};
 ghost use Rattle.snap_store.specs.File.{newest_area, given};
 ghost use Rattle.snap_store.specs.Frames.{OnlyLooks, HasCause};
 

@@ -1,6 +1,7 @@
 //! What stands in a file: its header, its gates, and how its areas begin (own).
 
-ghost use Rattle.std.specs.Prelude.{◌≡◌, ◌<◌, ◌≤◌, ◌^◌, ◌&&◌, IsTrue, IsOk, IfOk, OnOk, List, ℕ};
+ghost use Rattle.std.specs.Prelude.{◌≡◌, ◌<◌, ◌≤◌, ◌^◌, ◌&&◌, IsTrue};
+ghost use Rattle.std.specs.Prelude.{IsOk, IfOk, OnOk, List, ℕ};
 ghost use Rattle.std.specs.Prelude.{length, false, option_map, IfSome};
 ghost use Rattle.disk_model.specs.Disk.{Counts, Reads, Only};
 ghost use Rattle.snap_store.specs.File.{has_header, gate_byte, head_at, is_whole, is_open};
@@ -74,7 +75,8 @@ fn is_header(size: u64, bytes: &[u8]) -> bool
 
 /// What stands in the file. Four device calls.
 pub fn outline_in<D: Disk>(disk: &mut D) -> Result<Outline, Failed>
-    ensures ok { IfOk result (λ l. IsTrue (D.tells disk.old) → l ≡ outline_of (D.seen disk.old)) }
+    ensures ok { IfOk result (λ l. IsTrue (D.tells disk.old)
+        → l ≡ outline_of (D.seen disk.old)) }
     ensures works { IsTrue (D.steady disk.old) → IsOk result × IsTrue (D.steady disk.new) }
     ensures cause { Counts result (D.faults disk.old) (D.faults disk.new) }
     ensures seen { OnOk result (IsTrue (D.tells disk.old) → D.seen disk.new ≡ D.seen disk.old) }
@@ -114,7 +116,8 @@ pub fn synced_outline<D: Disk>(disk: &mut D) -> Result<Outline, Failed>
 impl Outline {
     /// The gate of an area.
     fn gate(&self, side: Side) -> u8
-        ensures { (file : List ℕ) → self.now ≡ outline_of file → result ≡ gate_byte side file }
+        ensures { (file : List ℕ) → self.now ≡ outline_of file
+            → result ≡ gate_byte side file }
     {
         match side {
             Side::A => self.gate_a,
@@ -124,7 +127,8 @@ impl Outline {
 
     /// How an area begins.
     pub fn head(&self, side: Side) -> Head
-        ensures { (file : List ℕ) → self.now ≡ outline_of file → result ≡ head_at side file }
+        ensures { (file : List ℕ) → self.now ≡ outline_of file
+            → result ≡ head_at side file }
     {
         match side {
             Side::A => self.a,
@@ -134,7 +138,8 @@ impl Outline {
 
     // It isn't too long, and ends inside the file.
     fn is_whole(&self, side: Side) -> bool
-        ensures { (file : List ℕ) → self.now ≡ outline_of file → result ≡ is_whole side file }
+        ensures { (file : List ℕ) → self.now ≡ outline_of file
+            → result ≡ is_whole side file }
     {
         let length = self.head(side).length;
         length <= MAX_SNAPSHOT
@@ -143,7 +148,8 @@ impl Outline {
 
     // It is open.
     fn is_open(&self, side: Side) -> bool
-        ensures { (file : List ℕ) → self.now ≡ outline_of file → result ≡ is_open side file }
+        ensures { (file : List ℕ) → self.now ≡ outline_of file
+            → result ≡ is_open side file }
     {
         self.made && self.gate(side) == 1 && self.is_whole(side)
     }

@@ -1,6 +1,7 @@
 //! The device calls of a put (own).
 
-ghost use Rattle.std.specs.Prelude.{◌≡◌, ◌⊎◌, ◌+◌, ◌≤◌, ℕ, List, IsTrue, IsOk, OnOk, OnErr, IfErr};
+ghost use Rattle.std.specs.Prelude.{◌≡◌, ◌⊎◌, ◌+◌, ◌≤◌, ℕ, List, IsTrue};
+ghost use Rattle.std.specs.Prelude.{IsOk, OnOk, OnErr, IfErr};
 ghost use Rattle.std.specs.Prelude.{Option, Some, None, length, max};
 ghost use Rattle.disk_model.specs.Disk.{LeavesOnly, EachImage, Counts, SameDisk};
 ghost use Rattle.snap_store.specs.File.{Stored, gate_of, start_of, head_bytes};

@@ -1,7 +1,9 @@
 //! One session's snapshot file (own).
 
-ghost use Rattle.std.specs.Prelude.{◌≡◌, ◌⊎◌, ◌+◌, ◌≤◌, ℕ, Bool, IsTrue, IsOk, IfOk, IfErr, OnOk};
-ghost use Rattle.std.specs.Prelude.{OnErr, MatchResult, Ok, Some, None, IfSome, length, max, true, false};
+ghost use Rattle.std.specs.Prelude.{◌≡◌, ◌⊎◌, ◌+◌, ◌≤◌, ℕ, Bool, IsTrue};
+ghost use Rattle.std.specs.Prelude.{IsOk, IfOk, IfErr, OnOk};
+ghost use Rattle.std.specs.Prelude.{OnErr, MatchResult, Ok, Some, None, IfSome, length, max, true};
+ghost use Rattle.std.specs.Prelude.{false};
 ghost use Rattle.disk_model.specs.Disk.{Only, LeavesOnly, EachImage, SameDisk};
 ghost use Rattle.snap_store.specs.Frames.{OnlyLooks, IsFault, HasCause};
 ghost use Rattle.snap_store.specs.declared.outline.TheConstants.{MAX_SNAPSHOT};
@@ -56,7 +58,8 @@ impl<D: Disk> Store<D> {
             → (side : Side) → area_of D.seen s side ≡ openable_area side (D.seen disk)) }
         ensures seen { IfOk result (λ s. IsTrue (D.tells disk)
             → (D.seen s.disk ≡ D.seen disk) × Only (D.seen disk) (D.may_leave s.disk)) }
-        ensures images { IfOk result (λ s. EachImage D.tells D.may_leave s.disk (IsImageOf D.seen s)) }
+        ensures images { IfOk result (λ s.
+            EachImage D.tells D.may_leave s.disk (IsImageOf D.seen s)) }
         ensures works { IsTrue (D.steady disk) → IsOk result }
 
         // only where the disk failed in this call
@@ -106,7 +109,8 @@ impl<D: Disk> Store<D> {
             ≡ Some (record { place = place; count = count; bytes = bytes.now }))) }
         ensures unmade { self.old.made ≡ false → IsOk result × (self.new ≡ self.old) }
         ensures works { IsTrue (D.steady self.old.disk)
-            → start_of (taken_side self.old.slots) + 16 + length bytes.now ≤ D.room self.old.disk
+            → start_of (taken_side self.old.slots) + 16 + length bytes.now
+            ≤ D.room self.old.disk
             → IsOk result }
 
         // only where the disk failed in this call; then the gate isn't open
@@ -117,7 +121,8 @@ impl<D: Disk> Store<D> {
             ⊎ (self.new.slots ≡ with_slot self.old.slots (taken_side self.old.slots) Unsure)) }
 
         // the list of areas: the new one, the old one or none in the place of the one taken
-        ensures taken { self.old.made ≡ true → IsTrue (D.tells self.old.disk) → MatchResult result
+        ensures taken { self.old.made ≡ true → IsTrue (D.tells self.old.disk)
+            → MatchResult result
             (λ _. area_of D.seen self.new (taken_side self.old.slots)
             ≡ Some (record { place = place; count = count; bytes = bytes.now }))
             (λ _. (area_of D.seen self.new (taken_side self.old.slots)
@@ -164,7 +169,8 @@ impl<D: Disk> Store<D> {
         ensures found { IfOk result (λ area. IsTrue (D.tells self.old.disk)
             → IfSome area (IsGiven D.seen self.old place most)) }
         ensures unmade { self.old.made ≡ false → result ≡ Ok None }
-        ensures works { IsTrue (D.steady self.old.disk) → IfErr result (λ e. e ≡ NewestFault.NoMemory) }
+        ensures works { IsTrue (D.steady self.old.disk)
+            → IfErr result (λ e. e ≡ NewestFault.NoMemory) }
 
         // a disk fault only where the disk failed in this call; want of memory at any place
         ensures cause { IfErr result (HasCause (D.faults self.old.disk) (D.faults self.new.disk)) }
