@@ -1,0 +1,196 @@
+-- What a put leaves of a store.
+use Rattle.std.proofs.Common.{◌≡◌, ◌⊎◌, inl, inr, ℕ, Bool, true, false, List, refl}
+use Rattle.std.proofs.Common.{sym, ◌∙◌, ap, subst}
+use Rattle.std.specs.Prelude.{Option, Some, None, IsTrue}
+use Rattle.disk_model.specs.Disk.{EachImage}
+use Rattle.snap_store.specs.declared.side.Side.{Side}
+use Rattle.snap_store.specs.declared.side.Side.TheVariants.{A, B}
+use Rattle.snap_store.specs.declared.slot.Slot.{Slot}
+use Rattle.snap_store.specs.declared.slot.Slot.TheVariants.{Closed, Open, Unsure}
+use Rattle.snap_store.specs.declared.slot.Slots.{Slots}
+use Rattle.snap_store.specs.File.{Stored, has_header, whole_area, openable_area}
+use Rattle.snap_store.specs.Slots.{other, slot_of, with_slot, taken_side}
+use Rattle.snap_store.specs.Images.{Stands, IsLaid, loosened, DuringPut, IsLeft}
+use Rattle.snap_store.specs.Store.{Snapshots, held, area_of, IsPutImage, IsSound}
+use Rattle.snap_store.proofs.StoreLemmas.{openable_is, shut_closed, stands_openable}
+use Rattle.snap_store.proofs.StoreLemmas.{newest_is_beside, open_at, laid_turned, laid_seen}
+use Rattle.snap_store.proofs.StoreLemmas.{held_is}
+
+-- what is known of each side, once something is known of one
+pub slot_set :
+    (side : Side) (slots : Slots) (slot : Slot) → slot_of (with_slot slots side slot) side ≡ slot
+slot_set A slots slot = refl
+slot_set B slots slot = refl
+
+pub slot_kept :
+    (side : Side) (slots : Slots) (slot : Slot)
+    → slot_of (with_slot slots side slot) (other side) ≡ slot_of slots (other side)
+slot_kept A slots slot = refl
+slot_kept B slots slot = refl
+
+laid_back :
+    (side : Side) (slots : Slots) (slot : Slot) (file c : List ℕ)
+    → IsLaid side slot (whole_area side file)
+    (slot_of slots (other side)) (whole_area (other side) file) c
+    → IsLaid A (with_slot slots side slot).a (whole_area A file)
+    (with_slot slots side slot).b (whole_area B file) c
+laid_back A slots slot file c laid = laid
+laid_back B slots slot file c laid =
+    record { header = laid.header; here = laid.there; there = laid.here }
+
+true_false : true ≡ false → ⊥
+true_false is = cc
+
+same_area : (x y : Stored) → Some x ≡ Some y → x ≡ y
+same_area x y is = cc
+
+-- behind a gate that is being closed stands the old area
+closing_openable :
+    (side : Side) (slot : Slot) (file c : List ℕ) (area : Stored)
+    → Stands side (loosened slot) (whole_area side file) c → openable_area side c ≡ Some area
+    → held side slot file ≡ Some area
+closing_openable side Closed file c area stands is = absurd (shut_closed side c area stands is)
+closing_openable side Unsure file c area stands is = sym stands ∙ (openable_is side c area is).2
+closing_openable side (Open place count) file c area stands is =
+    sym stands ∙ (openable_is side c area is).2
+
+-- what is held after a step
+held_stands :
+    (side : Side) (slot : Slot) (area : Option Stored) (file : List ℕ)
+    → slot ≡ Unsure → Stands side slot area file → held side slot file ≡ area
+held_stands side Closed area file is stands = absurd (closed_unsure is)
+  where
+    closed_unsure : Closed ≡ Unsure → ⊥
+    closed_unsure is = cc
+held_stands side Unsure area file is stands = stands
+held_stands side (Open place count) area file is stands = stands.1
+
+held_loosened :
+    (side : Side) (slot : Slot) (file file' : List ℕ)
+    → Stands side (loosened slot) (whole_area side file) file'
+    → held side (loosened slot) file' ≡ held side slot file
+held_loosened side Closed file file' stands = refl
+held_loosened side Unsure file file' stands = stands
+held_loosened side (Open place count) file file' stands = stands
+
+module _
+    {D : Type 0}
+    (tells : D → Bool)
+    (may_leave : D → List ℕ → Type 0)
+    (seen : D → List ℕ)
+    (stays : (d : D) → may_leave d (seen d))
+    (store : Snapshots D)
+    (sound : IsSound tells may_leave seen store)
+    (made : store.made ≡ true)
+    (put : Stored) where
+  abbrev side : Side
+  side = taken_side store.slots
+
+  abbrev slot : Slot
+  slot = slot_of store.slots side
+
+  abbrev area : Option Stored
+  area = whole_area side (seen store.disk)
+
+  abbrev beside : Slot
+  beside = slot_of store.slots (other side)
+
+  abbrev beside_area : Option Stored
+  beside_area = whole_area (other side) (seen store.disk)
+
+  -- before a put
+  pub laid_before : EachImage tells may_leave store.disk (IsLaid side slot area beside beside_area)
+  laid_before told c now =
+      laid_turned side store.slots (seen store.disk) c (sound.laid made told c now)
+
+  -- while it goes on
+  put_image_of :
+      (c : List ℕ) → has_header c ≡ true
+      → Stands (other side) beside beside_area c
+      → ((x : Stored) → openable_area side c ≡ Some x
+      → (area_of seen store side ≡ Some x) ⊎ (x ≡ put))
+      → IsPutImage seen store put c
+  put_image_of c header stands own = record {
+    header = header;
+    newest = λ side' is. open_at seen store c side' header is
+        (subst (λ (s : Side). Stands s (slot_of store.slots s)
+        (whole_area s (seen store.disk)) c) (newest_is_beside store.slots side' is) stands);
+    taken = own;
+    beside = λ x is. stands_openable (other side) beside (seen store.disk) c x stands is;
+  }
+
+  pub put_image :
+      (c : List ℕ) → DuringPut side slot area put beside beside_area c
+      → IsPutImage seen store put c
+  put_image c (inl laid) = put_image_of c laid.header laid.there (λ x is.
+      inl (closing_openable side slot (seen store.disk) c x laid.here is))
+  put_image c (inr (inl laid)) = put_image_of c laid.header laid.there (λ x is.
+      absurd (shut_closed side c x laid.here is))
+  put_image c (inr (inr laid)) = put_image_of c laid.header laid.there (λ x is.
+      inr (same_area x put (sym (openable_is side c x is).2 ∙ laid.here)))
+
+  module _ (new : D) (telling : tells new ≡ tells store.disk) (slots : Slots)
+      (now : Slot) (left : Option Stored)
+      (set : slots ≡ with_slot store.slots side now)
+      (laid : EachImage tells may_leave new (IsLaid side now left beside beside_area)) where
+    abbrev after : Snapshots D
+    after = record { disk = new; made = store.made; slots = slots }
+
+    -- after it
+    pub sound_after : IsSound tells may_leave seen after
+    sound_after = record {
+      header = λ told c at. (laid told c at).header ∙ sym made;
+      laid = λ is_made told c at.
+          subst (λ (s : Slots). IsLaid A s.a (whole_area A (seen new)) s.b
+          (whole_area B (seen new)) c) (sym set)
+          (laid_back side store.slots now (seen new) c
+          (laid_seen side now left beside beside_area (seen new) c
+          (laid told (seen new) (stays new)) (laid told c at)));
+      unmade = λ unmade. absurd (true_false (sym made ∙ unmade));
+    }
+
+    told_after : IsTrue (tells store.disk) → IsTrue (tells new)
+    told_after told = subst (λ (b : Bool). IsTrue b) (sym telling) told
+
+    shows : IsTrue (tells store.disk) → IsLaid side now left beside beside_area (seen new)
+    shows told = laid (told_after told) (seen new) (stays new)
+
+    pub beside_after :
+        IsTrue (tells store.disk)
+        → area_of seen after (other side) ≡ area_of seen store (other side)
+    beside_after told =
+        ap (λ (s : Slots). held (other side) (slot_of s (other side)) (seen new)) set
+        ∙ ap (λ (s : Slot). held (other side) s (seen new)) (slot_kept side store.slots now)
+        ∙ held_is (other side) beside beside_area (seen new) (seen store.disk)
+        (shows told).there
+        (laid_before told (seen store.disk) (stays store.disk)).there
+
+    here_after : area_of seen after side ≡ held side now (seen new)
+    here_after =
+        ap (λ (s : Slots). held side (slot_of s side) (seen new)) set
+        ∙ ap (λ (s : Slot). held side s (seen new)) (slot_set side store.slots now)
+
+    pub put_after :
+        (place count : ℕ) → now ≡ Open place count → left ≡ Some put → IsTrue (tells store.disk)
+        → area_of seen after side ≡ Some put
+    put_after place count is is_left told =
+        here_after
+        ∙ ap (λ (s : Slot). held side s (seen new)) is
+        ∙ (subst (λ (s : Slot). Stands side s left (seen new)) is (shows told).here).1
+        ∙ is_left
+
+    pub left_after :
+        IsLeft slot area put now left → IsTrue (tells store.disk)
+        → (area_of seen after side ≡ area_of seen store side)
+        ⊎ (area_of seen after side ≡ None)
+        ⊎ (area_of seen after side ≡ Some put)
+    left_after (inl is) told =
+        let stands : Stands side (loosened slot) area (seen new) =
+        subst (λ (o : Option Stored). Stands side (loosened slot) o (seen new)) is.1
+        (subst (λ (s : Slot). Stands side s left (seen new)) is.0 (shows told).here) in
+        inl (here_after ∙ ap (λ (s : Slot). held side s (seen new)) is.0
+        ∙ held_loosened side slot (seen store.disk) (seen new) stands)
+    left_after (inr (inl is)) told =
+        inr (inl (here_after ∙ ap (λ (s : Slot). held side s (seen new)) is.0))
+    left_after (inr (inr is)) told =
+        inr (inr (here_after ∙ held_stands side now left (seen new) is.0 (shows told).here ∙ is.1))

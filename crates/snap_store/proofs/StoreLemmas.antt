@@ -1,0 +1,511 @@
+-- What the images of a store show.
+use Rattle.std.proofs.Common.{◌≡◌, inl, inr, ℕ, Bool, true, false}
+use Rattle.std.proofs.Common.{List, refl, sym, ◌∙◌, ap, subst, arith}
+use Rattle.std.specs.Prelude.{◌&&◌, ◌==◌, not, if◌then◌else◌, Option, Some}
+use Rattle.std.specs.Prelude.{None, IsTrue}
+use Rattle.std.proofs.lemmas.Bool.{cases_Bool}
+use Rattle.std.proofs.lemmas.Bool.Decides.{nat_tests}
+use Rattle.disk_model.specs.Disk.{EachImage, NoneNew}
+use Rattle.snap_store.specs.declared.side.Side.{Side}
+use Rattle.snap_store.specs.declared.side.Side.TheVariants.{A, B}
+use Rattle.snap_store.specs.declared.slot.Slot.{Slot}
+use Rattle.snap_store.specs.declared.slot.Slot.TheVariants.{Closed, Open, Unsure}
+use Rattle.snap_store.specs.declared.slot.Slots.{Slots}
+use Rattle.snap_store.specs.File.{Stored, has_header, gate_byte, is_whole, area_at, whole_area}
+use Rattle.snap_store.specs.File.{is_open, open_area, openable_area, place_at, count_at}
+use Rattle.snap_store.specs.Slots.{other, slot_of, slot_in, is_before, newest_side}
+use Rattle.snap_store.specs.Slots.{beside, taken_side}
+use Rattle.snap_store.specs.Images.{IsOf, Stands, IsLaid}
+use Rattle.snap_store.specs.Store.{Snapshots, held, IsOpenIn, IsImageOf}
+use Rattle.snap_store.specs.Store.{IsSound}
+use Rattle.snap_store.specs.File.{newest_area, given}
+use Rattle.snap_store.specs.Store.{IsGiven}
+use Rattle.std.specs.Prelude.{IfSome}
+use Rattle.snap_store.proofs.Newest.{newest_found}
+use Rattle.snap_store.proofs.FileLemmas.{none_some, and-false}
+
+-- parts of the tests of an area that is open, or may open
+openable_parts :
+    (header zero whole : Bool) (x y : Stored)
+    → (if header && not zero && whole then Some x else None) ≡ Some y
+    → (header ≡ true) × (zero ≡ false) × ((if whole then Some x else None) ≡ Some y)
+openable_parts true false true x y is = (refl, refl, is)
+openable_parts true false false x y is = absurd (none_some y is)
+openable_parts true true true x y is = absurd (none_some y is)
+openable_parts true true false x y is = absurd (none_some y is)
+openable_parts false true true x y is = absurd (none_some y is)
+openable_parts false true false x y is = absurd (none_some y is)
+openable_parts false false true x y is = absurd (none_some y is)
+openable_parts false false false x y is = absurd (none_some y is)
+
+open_parts :
+    (header one whole : Bool) (x y : Stored)
+    → (if header && one && whole then Some x else None) ≡ Some y
+    → (header ≡ true) × (one ≡ true) × ((if whole then Some x else None) ≡ Some y)
+open_parts true true true x y is = (refl, refl, is)
+open_parts true true false x y is = absurd (none_some y is)
+open_parts true false true x y is = absurd (none_some y is)
+open_parts true false false x y is = absurd (none_some y is)
+open_parts false true true x y is = absurd (none_some y is)
+open_parts false true false x y is = absurd (none_some y is)
+open_parts false false true x y is = absurd (none_some y is)
+open_parts false false false x y is = absurd (none_some y is)
+
+both_true :
+    (header test whole : Bool) (x y : Stored)
+    → header ≡ true → test ≡ true → (if whole then Some x else None) ≡ Some y
+    → (if header && test && whole then Some x else None) ≡ Some y
+both_true header test whole x y is_header is_test is = rw (is_header, is_test) is
+
+-- an area that may open is whole behind a gate that isn't 0
+pub openable_is :
+    (side : Side) (c : List ℕ) (area : Stored) → openable_area side c ≡ Some area
+    → (has_header c ≡ true) × ((gate_byte side c == 0) ≡ false)
+    × (whole_area side c ≡ Some area)
+openable_is side c area is =
+    openable_parts (has_header c) (gate_byte side c == 0) (is_whole side c) (area_at side c) area is
+
+-- an open one may open
+pub open_openable :
+    (side : Side) (c : List ℕ) (area : Stored) → open_area side c ≡ Some area
+    → openable_area side c ≡ Some area
+open_openable side c area is =
+    let parts =
+    open_parts (has_header c) (gate_byte side c == 1) (is_whole side c) (area_at side c) area is in
+    both_true (has_header c) (not (gate_byte side c == 0)) (is_whole side c) (area_at side c) area
+    parts.0 (ap not (not_zero (gate_byte side c) parts.1)) parts.2
+  where
+    not_zero : (gate : ℕ) → (gate == 1) ≡ true → (gate == 0) ≡ false
+    not_zero gate one = grind (arith, nat_tests)
+
+-- behind a gate that is 1 a whole area is open
+pub is_opened :
+    (side : Side) (c : List ℕ) (area : Stored)
+    → has_header c ≡ true → gate_byte side c ≡ 1 → whole_area side c ≡ Some area
+    → open_area side c ≡ Some area
+is_opened side c area header gate whole =
+    both_true (has_header c) (gate_byte side c == 1) (is_whole side c) (area_at side c) area
+    header (ap (λ (g : ℕ). g == 1) gate) whole
+
+-- nothing may open behind a gate that is 0
+pub shut_closed :
+    (side : Side) (c : List ℕ) (area : Stored) → gate_byte side c ≡ 0
+    → openable_area side c ≡ Some area → ⊥
+shut_closed side c area gate is =
+    let parts = openable_is side c area is in
+    true_false (sym (ap (λ (g : ℕ). g == 0) gate) ∙ parts.1)
+  where
+    true_false : true ≡ false → ⊥
+    true_false is = cc
+
+-- what may open is the area that stands there
+pub stands_openable :
+    (side : Side) (slot : Slot) (file c : List ℕ) (area : Stored)
+    → Stands side slot (whole_area side file) c → openable_area side c ≡ Some area
+    → held side slot file ≡ Some area
+stands_openable side Closed file c area stands is = absurd (shut_closed side c area stands is)
+stands_openable side Unsure file c area stands is =
+    sym stands ∙ (openable_is side c area is).2
+stands_openable side (Open place count) file c area stands is =
+    sym stands.1 ∙ (openable_is side c area is).2
+
+-- behind a gate that is open stands an open area
+pub stands_open :
+    (side : Side) (place count : ℕ) (file c : List ℕ)
+    → has_header c ≡ true → Stands side (Open place count) (whole_area side file) c
+    → (area : Stored) × (whole_area side file ≡ Some area) × (open_area side c ≡ Some area)
+stands_open side place count file c header stands =
+    there (whole_area side file) refl stands.2
+  where
+    there :
+        (found : Option Stored) → whole_area side file ≡ found → IsOf place count found
+        → (area : Stored) × (whole_area side file ≡ Some area) × (open_area side c ≡ Some area)
+    there None is of = absurd of
+    there (Some area) is of =
+        (area, is, is_opened side c area header stands.0 (stands.1 ∙ is))
+
+-- the newest area is open
+same_side : (x y : Side) → Some x ≡ Some y → x ≡ y
+same_side x y is = cc
+
+no_side : (side : Side) → None ≡ Some side → ⊥
+no_side side is = grind arith
+
+-- what is known of a side is that its gate is open
+abbrev pub IsOpenSlot : Slot → Type 0
+IsOpenSlot slot = (place : ℕ) × (count : ℕ) × (slot ≡ Open place count)
+
+newest_open_of :
+    (a b : Slot) (side : Side) → newest_side (record { a = a; b = b }) ≡ Some side
+    → IsOpenSlot (slot_of (record { a = a; b = b }) side)
+newest_open_of (Open place count) (Open place' count') side is =
+    elim (cases_Bool (is_before place count place' count')) [
+      | inl later ↦ subst (λ (s : Side). IsOpenSlot (slot_of slots s)) (same_side B side (by later))
+          (place', count', refl)
+      | inr not_later ↦ subst (λ (s : Side). IsOpenSlot (slot_of slots s))
+          (same_side A side (by not_later)) (place, count, refl)
+    ]
+  where
+    slots : Slots
+    slots = record { a = Open place count; b = Open place' count' }
+
+    by :
+        {t : Bool} → is_before place count place' count' ≡ t
+        → Some (if t then B else A) ≡ Some side
+    by test = ap (λ (b : Bool). Some (if b then B else A)) (sym test) ∙ is
+newest_open_of (Open place count) Closed side is =
+    subst (λ (s : Side). IsOpenSlot (slot_of (record { a = Open place count; b = Closed }) s))
+    (same_side A side is) (place, count, refl)
+newest_open_of (Open place count) Unsure side is =
+    subst (λ (s : Side). IsOpenSlot (slot_of (record { a = Open place count; b = Unsure }) s))
+    (same_side A side is) (place, count, refl)
+newest_open_of Closed (Open place count) side is =
+    subst (λ (s : Side). IsOpenSlot (slot_of (record { a = Closed; b = Open place count }) s))
+    (same_side B side is) (place, count, refl)
+newest_open_of Closed Closed side is = absurd (no_side side is)
+newest_open_of Closed Unsure side is = absurd (no_side side is)
+newest_open_of Unsure (Open place count) side is =
+    subst (λ (s : Side). IsOpenSlot (slot_of (record { a = Unsure; b = Open place count }) s))
+    (same_side B side is) (place, count, refl)
+newest_open_of Unsure Closed side is = absurd (no_side side is)
+newest_open_of Unsure Unsure side is = absurd (no_side side is)
+
+pub newest_open :
+    (slots : Slots) (side : Side) → newest_side slots ≡ Some side
+    → IsOpenSlot (slot_of slots side)
+newest_open slots side is = newest_open_of slots.a slots.b side is
+
+-- the newest side isn't the one that is taken
+pub newest_is_beside :
+    (slots : Slots) (side : Side) → newest_side slots ≡ Some side
+    → other (taken_side slots) ≡ side
+newest_is_beside slots side is = beside_is (newest_side slots) side is
+  where
+    twice : (side : Side) → other (other side) ≡ side
+    twice A = refl
+    twice B = refl
+
+    beside_is :
+        (found : Option Side) (side : Side) → found ≡ Some side → other (beside found) ≡ side
+    beside_is None side is = absurd (no_side side is)
+    beside_is (Some x) side is = twice x ∙ same_side x side is
+
+-- one side of both
+pub laid_side :
+    (side : Side) (slots : Slots) (file c : List ℕ)
+    → IsLaid A slots.a (whole_area A file) slots.b (whole_area B file) c
+    → Stands side (slot_of slots side) (whole_area side file) c
+laid_side A slots file c laid = laid.here
+laid_side B slots file c laid = laid.there
+
+-- both sides, seen from this one
+pub laid_turned :
+    (side : Side) (slots : Slots) (file c : List ℕ)
+    → IsLaid A slots.a (whole_area A file) slots.b (whole_area B file) c
+    → IsLaid side (slot_of slots side) (whole_area side file)
+    (slot_of slots (other side)) (whole_area (other side) file) c
+laid_turned A slots file c laid = laid
+laid_turned B slots file c laid =
+    record { header = laid.header; here = laid.there; there = laid.here }
+
+module _ {D : Type 0} (seen : D → List ℕ) (store : Snapshots D) (c : List ℕ) where
+  -- the newest, where it stands as it is seen
+  pub open_at :
+      (side : Side) → has_header c ≡ true → newest_side store.slots ≡ Some side
+      → Stands side (slot_of store.slots side) (whole_area side (seen store.disk)) c
+      → IsOpenIn seen store side c
+  open_at side header is stands =
+      let slot = newest_open store.slots side is in
+      let file = seen store.disk in
+      let found = stands_open side slot.0 slot.1 file c header
+      (subst (λ (s : Slot). Stands side s (whole_area side file) c) slot.2 stands) in
+      record {
+        area = found.0;
+        kept = ap (λ (s : Slot). held side s file) slot.2 ∙ found.1;
+        there = found.2;
+      }
+
+  -- where both sides stand as they are seen
+  module _ (made : store.made ≡ true) (header : has_header c ≡ true)
+      (stands : (side : Side)
+      → Stands side (slot_of store.slots side) (whole_area side (seen store.disk)) c) where
+    pub image_of : IsImageOf seen store c
+    image_of = record {
+      header = header ∙ sym made;
+      openable = λ side area is.
+          stands_openable side (slot_of store.slots side) (seen store.disk) c area (stands side) is;
+      opened = λ side area is.
+          stands_openable side (slot_of store.slots side) (seen store.disk) c area (stands side)
+          (open_openable side c area is);
+      newest = λ side is. open_at side header is (stands side);
+    }
+
+  -- a file without its header
+  pub image_unmade :
+      store.made ≡ false → has_header c ≡ false
+      → store.slots.a ≡ Closed → store.slots.b ≡ Closed
+      → IsImageOf seen store c
+  image_unmade made header a b = record {
+    header = header ∙ sym made;
+    openable = λ side area is. absurd (none_opens side area is);
+    opened = λ side area is. absurd (none_opens side area (open_openable side c area is));
+    newest = λ side is. absurd (no_side side (sym (none_newest store.slots a b) ∙ is));
+  }
+    where
+      false_true : false ≡ true → ⊥
+      false_true is = cc
+
+      none_opens : (side : Side) (area : Stored) → openable_area side c ≡ Some area → ⊥
+      none_opens side area is = false_true (sym header ∙ (openable_is side c area is).0)
+
+      none_newest :
+          (slots : Slots) → slots.a ≡ Closed → slots.b ≡ Closed → newest_side slots ≡ None
+      none_newest slots is_a is_b =
+          ap (λ (s : Slot). newest_side (record { a = s; b = slots.b })) is_a
+          ∙ ap (λ (s : Slot). newest_side (record { a = Closed; b = s })) is_b
+
+module _
+    {D : Type 0}
+    (tells : D → Bool)
+    (may_leave : D → List ℕ → Type 0)
+    (seen : D → List ℕ) where
+  -- each image shows the store
+  pub sound_images :
+      (store : Snapshots D) → IsSound tells may_leave seen store
+      → EachImage tells may_leave store.disk (IsImageOf seen store)
+  sound_images store sound told c now = elim (cases_Bool store.made) [
+    | inl made ↦ image_of seen store c made (sound.header told c now ∙ made)
+        (λ side. laid_side side store.slots (seen store.disk) c (sound.laid made told c now))
+    | inr unmade ↦ image_unmade seen store c unmade (sound.header told c now ∙ unmade)
+        (sound.unmade unmade).0 (sound.unmade unmade).1
+  ]
+
+-- a file of which nothing is pending
+module _ (side : Side) (file : List ℕ) (header : has_header file ≡ true) where
+  abbrev by_tests : Bool → Bool → Bool → Slot
+  by_tests is_header zero one =
+      if is_header && not zero
+      then (if one then Open (place_at side file) (count_at side file) else Unsure)
+      else Closed
+
+  opened_head :
+      (whole : Bool) → is_whole side file ≡ whole → is_open side file ≡ true
+      → IsOf (place_at side file) (count_at side file) (whole_area side file)
+  unfolding area_at
+  opened_head true is one =
+      subst (λ (b : Bool). IsOf (place_at side file) (count_at side file)
+      (if b then Some (area_at side file) else None)) (sym is) (refl, refl)
+  opened_head false is one = absurd (false_true (sym (and_false is) ∙ one))
+    where
+      false_true : false ≡ true → ⊥
+      false_true is = cc
+
+      and_false : is_whole side file ≡ false → is_open side file ≡ false
+      and_false no_area = rw no_area (and-false (has_header file && (gate_byte side file == 1)))
+
+  pub stands_in : Stands side (slot_in side file) (whole_area side file) file
+  stands_in = elim (cases_Bool (gate_byte side file == 0)) [
+    | inl zero_gate ↦
+        subst (λ (s : Slot). Stands side s (whole_area side file) file)
+        (sym (ap (λ (h : Bool). by_tests h (gate_byte side file == 0) (is_open side file)) header
+        ∙ ap (λ (z : Bool). by_tests true z (is_open side file)) zero_gate))
+        (is_zero (gate_byte side file) zero_gate)
+    | inr set_gate ↦ elim (cases_Bool (is_open side file)) [
+      | inl one ↦
+          subst (λ (s : Slot). Stands side s (whole_area side file) file)
+          (sym (ap (λ (h : Bool). by_tests h (gate_byte side file == 0) (is_open side file)) header
+          ∙ ap (λ (z : Bool). by_tests true z (is_open side file)) set_gate
+          ∙ ap (λ (o : Bool). by_tests true false o) one))
+          (is_one one, refl, opened_head (is_whole side file) refl one)
+      | inr not_one ↦
+          subst (λ (s : Slot). Stands side s (whole_area side file) file)
+          (sym (ap (λ (h : Bool). by_tests h (gate_byte side file == 0) (is_open side file)) header
+          ∙ ap (λ (z : Bool). by_tests true z (is_open side file)) set_gate
+          ∙ ap (λ (o : Bool). by_tests true false o) not_one))
+          refl
+    ]
+  ]
+    where
+      is_zero : (gate : ℕ) → (gate == 0) ≡ true → gate ≡ 0
+      is_zero gate is = grind (arith, nat_tests)
+
+      one_of : (gate : ℕ) → (gate == 1) ≡ true → gate ≡ 1
+      one_of gate is = grind (arith, nat_tests)
+
+      test_of : (h o w : Bool) → (h && o && w) ≡ true → o ≡ true
+      test_of true true true is = refl
+      test_of true true false is = cc
+      test_of true false true is = cc
+      test_of true false false is = cc
+      test_of false true true is = cc
+      test_of false true false is = cc
+      test_of false false true is = cc
+      test_of false false false is = cc
+
+      is_one : is_open side file ≡ true → gate_byte side file ≡ 1
+      is_one is =
+          one_of (gate_byte side file)
+          (test_of (has_header file) (gate_byte side file == 1) (is_whole side file) is)
+
+-- what is held of it is what may open
+module _ (side : Side) (file : List ℕ) where
+  whole_by :
+      {whole : Bool} → is_whole side file ≡ whole
+      → whole_area side file ≡ (if whole then Some (area_at side file) else None)
+  whole_by is = ap (λ (b : Bool). if b then Some (area_at side file) else None) is
+
+  held_by :
+      (is_header zero one whole : Bool) → is_whole side file ≡ whole
+      → held side (if is_header && not zero
+      then (if is_header && one && whole
+      then Open (place_at side file) (count_at side file) else Unsure)
+      else Closed) file
+      ≡ (if is_header && not zero && whole then Some (area_at side file) else None)
+  held_by false true one whole is = refl
+  held_by false false one whole is = refl
+  held_by true true one whole is = refl
+  held_by true false true true is = whole_by is
+  held_by true false true false is = whole_by is
+  held_by true false false true is = whole_by is
+  held_by true false false false is = whole_by is
+
+  pub held_in : held side (slot_in side file) file ≡ openable_area side file
+  held_in =
+      held_by (has_header file) (gate_byte side file == 0) (gate_byte side file == 1)
+      (is_whole side file) refl
+
+-- what an opening has read of a file of which nothing is pending
+pub record IsRead
+    {D : Type 0}
+    (may_leave : D → List ℕ → Type 0)
+    (seen : D → List ℕ)
+    (store : Snapshots D)
+    (file : List ℕ) : Type 0 where
+  pub made : store.made ≡ has_header file
+  pub a : store.slots.a ≡ slot_in A file
+  pub b : store.slots.b ≡ slot_in B file
+  pub sees : seen store.disk ≡ file
+  pub only : (c : List ℕ) → may_leave store.disk c → c ≡ file
+
+module _
+    {D : Type 0}
+    (tells : D → Bool)
+    (may_leave : D → List ℕ → Type 0)
+    (seen : D → List ℕ) where
+  pub sound_read :
+      (store : Snapshots D) (file : List ℕ)
+      → (IsTrue (tells store.disk) → IsRead may_leave seen store file)
+      → (store.made ≡ false → (store.slots.a ≡ Closed) × (store.slots.b ≡ Closed))
+      → IsSound tells may_leave seen store
+  sound_read store file read unmade = record {
+    header = λ told c now.
+        let is = read told in ap has_header (is.only c now) ∙ sym is.made;
+    laid = λ made told c now.
+        let is = read told in
+        let header = sym is.made ∙ made in
+        let laid : IsLaid A (slot_in A file) (whole_area A file) (slot_in B file)
+        (whole_area B file) file = record {
+          header = header;
+          here = stands_in A file header;
+          there = stands_in B file header;
+        } in
+        subst (λ (s : Slot). IsLaid A s (whole_area A (seen store.disk)) store.slots.b
+        (whole_area B (seen store.disk)) c) (sym is.a)
+        (subst (λ (s : Slot). IsLaid A (slot_in A file) (whole_area A (seen store.disk)) s
+        (whole_area B (seen store.disk)) c) (sym is.b)
+        (subst (λ (l : List ℕ). IsLaid A (slot_in A file) (whole_area A l) (slot_in B file)
+        (whole_area B l) c) (sym is.sees)
+        (subst (λ (l : List ℕ). IsLaid A (slot_in A file) (whole_area A file) (slot_in B file)
+        (whole_area B file) l) (sym (is.only c now)) laid)));
+    unmade = unmade;
+  }
+
+-- the same area, named by what another file shows
+pub stands_seen :
+    (side : Side) (slot : Slot) (area : Option Stored) (file c : List ℕ)
+    → Stands side slot area file → Stands side slot area c
+    → Stands side slot (whole_area side file) c
+stands_seen side Closed area file c shows stands = stands
+stands_seen side Unsure area file c shows stands = stands ∙ sym shows
+stands_seen side (Open place count) area file c shows stands = (
+  stands.0,
+  stands.1 ∙ sym shows.1,
+  subst (λ (o : Option Stored). IsOf place count o) (sym shows.1) stands.2,
+)
+
+pub laid_seen :
+    (side : Side) (own : Slot) (area : Option Stored) (beside : Slot)
+    (beside_area : Option Stored) (file c : List ℕ)
+    → IsLaid side own area beside beside_area file
+    → IsLaid side own area beside beside_area c
+    → IsLaid side own (whole_area side file) beside (whole_area (other side) file) c
+laid_seen side own area beside beside_area file c shows laid = record {
+  header = laid.header;
+  here = stands_seen side own area file c shows.here laid.here;
+  there = stands_seen (other side) beside beside_area file c shows.there laid.there;
+}
+
+-- what is held is what stands in each image
+pub held_is :
+    (side : Side) (slot : Slot) (area : Option Stored) (file file' : List ℕ)
+    → Stands side slot area file → Stands side slot area file'
+    → held side slot file ≡ held side slot file'
+held_is side Closed area file file' stands stands' = refl
+held_is side Unsure area file file' stands stands' = stands ∙ sym stands'
+held_is side (Open place count) area file file' stands stands' = stands.1 ∙ sym stands'.1
+
+module _
+    {D : Type 0}
+    (tells : D → Bool)
+    (may_leave : D → List ℕ → Type 0)
+    (seen : D → List ℕ)
+    (stays : (d : D) → may_leave d (seen d))
+    (store : Snapshots D)
+    (sound : IsSound tells may_leave seen store)
+    (new : D)
+    (telling : tells new ≡ tells store.disk)
+    (none_new : IsTrue (tells store.disk) → NoneNew (may_leave store.disk) (may_leave new)) where
+  abbrev looked : Snapshots D
+  looked = record { disk = new; made = store.made; slots = store.slots }
+
+  -- nothing was written
+  pub sound_looked : IsSound tells may_leave seen looked
+  sound_looked = record {
+    header = λ told_new c now.
+        let told = subst (λ (b : Bool). IsTrue b) telling told_new in
+        sound.header told c (none_new told c now);
+    laid = λ made told_new c now.
+        let told = subst (λ (b : Bool). IsTrue b) telling told_new in
+        laid_seen A store.slots.a (whole_area A (seen store.disk)) store.slots.b
+        (whole_area B (seen store.disk)) (seen new) c
+        (sound.laid made told (seen new) (none_new told (seen new) (stays new)))
+        (sound.laid made told c (none_new told c now));
+    unmade = sound.unmade;
+  }
+
+-- what is known of both sides
+pub slots_are :
+    (slots : Slots) (file : List ℕ) → slots.a ≡ slot_in A file → slots.b ≡ slot_in B file
+    → (side : Side) → slot_of slots side ≡ slot_in side file
+slots_are slots file a b A = a
+slots_are slots file a b B = b
+
+-- what is given is one of the store's areas
+module _ {D : Type 0} (seen : D → List ℕ) (store : Snapshots D)
+    (shows : IsImageOf seen store (seen store.disk)) (place most : ℕ) where
+  pub given_is :
+      (found : Option Stored) → newest_area place most (seen store.disk) ≡ found
+      → IfSome (given found) (IsGiven seen store place most)
+  given_is None is = tt
+  given_is (Some x) is =
+      let at = newest_found place most (seen store.disk) x is in
+      record {
+        side = at.0;
+        area = x;
+        kept = shows.opened at.0 x at.1;
+        there = at.1;
+        row = at.2;
+        fits = at.3;
+        count = refl;
+        bytes = refl;
+      }

@@ -1,0 +1,130 @@
+-- A snapshot file as bytes (own: docs/FORMATS.md, "Snapshot files").
+use Rattle.std.specs.Prelude.{ℕ, ◌+◌, Bool, ◌&&◌, not, ◌==◌, nat_eq, nat_le, nat_lt}
+use Rattle.std.specs.Prelude.{if◌then◌else◌, List, [], ◌∷◌, ◌++◌, length, take}
+use Rattle.std.specs.Prelude.{drop, replicate}
+use Rattle.std.specs.Prelude.{slice_index, filter, Option, Some, None, option_map}
+use Rattle.std.specs.List.{starts_with}
+use Rattle.byteorder.specs.Endian.{big_from, big_bytes}
+use Rattle.snap_store.specs.declared.side.Side.{Side}
+use Rattle.snap_store.specs.declared.side.Side.TheVariants.{A, B}
+use Rattle.snap_store.specs.declared.outline.Head.{Head}
+use Rattle.snap_store.specs.declared.outline.TheConstants.{MAX_SNAPSHOT, PAGE}
+use Rattle.snap_store.specs.declared.area.Area.{Area}
+
+-- the eight bytes with which it begins
+abbrev pub header : List ℕ
+header = 83 ∷ 84 ∷ 72 ∷ 83 ∷ 0 ∷ 0 ∷ 0 ∷ 1 ∷ []
+
+-- a file with both areas closed: the header, and zeros up to 4,096 bytes
+unfoldable pub made_file : List ℕ
+made_file = header ++ replicate 4088 0
+
+-- the place of an area's gate
+abbrev pub gate_of : Side → ℕ
+gate_of A = 8
+gate_of B = 9
+
+-- the place where an area starts
+abbrev pub start_of : Side → ℕ
+start_of A = 4096
+start_of B = 8392720
+
+-- An area: the place of its OPEN row's gate in the journal, the count of inputs applied, and the
+-- bytes of the snapshot.
+pub record Stored : Type 0 where
+  pub place : ℕ
+  pub count : ℕ
+  pub bytes : List ℕ
+
+-- the sixteen bytes with which an area starts: its place, its count and how many bytes follow
+abbrev pub head_bytes : ℕ → ℕ → ℕ → List ℕ
+head_bytes place count length = big_bytes 8 place ++ (big_bytes 4 count ++ big_bytes 4 length)
+
+-- the file begins with the header's bytes, and has at least 4,096
+unfoldable pub has_header : List ℕ → Bool
+has_header file = starts_with nat_eq file header && nat_le PAGE (length file)
+
+-- an area's gate byte
+unfoldable pub gate_byte : Side → List ℕ → ℕ
+gate_byte side file = slice_index file (gate_of side)
+
+-- the three numbers with which an area starts, of 8, 4 and 4 bytes, the highest byte first
+unfoldable pub place_at : Side → List ℕ → ℕ
+place_at side file = big_from (start_of side) 8 file
+
+unfoldable pub count_at : Side → List ℕ → ℕ
+count_at side file = big_from (start_of side + 8) 4 file
+
+unfoldable pub length_at : Side → List ℕ → ℕ
+length_at side file = big_from (start_of side + 12) 4 file
+
+abbrev pub head_at : Side → List ℕ → Head
+head_at side file = record {
+  place = place_at side file;
+  count = count_at side file;
+  length = length_at side file;
+}
+
+-- the length is at most 8,388,608, and the area ends inside the file
+unfoldable pub is_whole : Side → List ℕ → Bool
+is_whole side file =
+    nat_le (length_at side file) MAX_SNAPSHOT
+    && nat_le (start_of side + 16 + length_at side file) (length file)
+
+-- what stands there as an area
+unfoldable pub area_at : Side → List ℕ → Stored
+area_at side file = record {
+  place = place_at side file;
+  count = count_at side file;
+  bytes = take (length_at side file) (drop (start_of side + 16) file);
+}
+
+-- the area, where it is whole, whatever its gate
+abbrev pub whole_area : Side → List ℕ → Option Stored
+whole_area side file = if is_whole side file then Some (area_at side file) else None
+
+-- the area is open: the file has its header, the gate is 1, the area is whole
+abbrev pub is_open : Side → List ℕ → Bool
+is_open side file = has_header file && (gate_byte side file == 1) && is_whole side file
+
+-- the area may open: the same, but the gate isn't 0
+abbrev pub may_open : Side → List ℕ → Bool
+may_open side file = has_header file && not (gate_byte side file == 0) && is_whole side file
+
+-- the area, where it is open
+abbrev pub open_area : Side → List ℕ → Option Stored
+open_area side file = if is_open side file then Some (area_at side file) else None
+
+-- the area, where it may open
+abbrev pub openable_area : Side → List ℕ → Option Stored
+openable_area side file = if may_open side file then Some (area_at side file) else None
+
+-- the open areas, A before B
+abbrev pub listed : Option Stored → List Stored
+listed None = []
+listed (Some area) = area ∷ []
+
+abbrev pub open_areas : List ℕ → List Stored
+open_areas file = listed (open_area A file) ++ listed (open_area B file)
+
+-- it is of this OPEN row, and its count isn't above `most`
+abbrev pub is_wanted : ℕ → ℕ → Stored → Bool
+is_wanted place most area = (area.place == place) && nat_le area.count most
+
+-- the first of those with the greatest count
+abbrev pub greatest_from : Stored → List Stored → Stored
+greatest_from best [] = best
+greatest_from best (area ∷ areas) =
+    greatest_from (if nat_lt best.count area.count then area else best) areas
+
+abbrev pub greatest : List Stored → Option Stored
+greatest [] = None
+greatest (area ∷ areas) = Some (greatest_from area areas)
+
+-- the newest open area of an OPEN row with a count of at most `most`; area A at equal counts
+abbrev pub newest_area : ℕ → ℕ → List ℕ → Option Stored
+newest_area place most file = greatest (filter (is_wanted place most) (open_areas file))
+
+-- what is given of an area
+abbrev pub given : Option Stored → Option Area
+given area = option_map (λ x. record { count = x.count; bytes = x.bytes }) area

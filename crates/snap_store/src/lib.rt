@@ -1,0 +1,20 @@
+//! The two areas of one session's snapshot file, each whole or closed through any stop.
+#![tactic(auto)]
+
+mod area;
+mod begin;
+mod fault;
+mod find;
+mod outline;
+mod side;
+mod slot;
+mod steps;
+mod store;
+#[cfg(test)]
+mod tests;
+
+pub use area::Area;
+pub use begin::make;
+pub use fault::{DiskFault, NewestFault};
+pub use outline::MAX_SNAPSHOT;
+pub use store::Store;

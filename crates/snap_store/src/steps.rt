@@ -1,0 +1,219 @@
+//! The device calls of a put (own).
+
+ghost use Rattle.std.specs.Prelude.{◌≡◌, ◌⊎◌, ◌+◌, ◌≤◌, ℕ, List, IsTrue};
+ghost use Rattle.std.specs.Prelude.{IsOk, OnOk, OnErr, IfErr};
+ghost use Rattle.std.specs.Prelude.{Option, Some, None, length, max};
+ghost use Rattle.disk_model.specs.Disk.{LeavesOnly, EachImage, Counts, SameDisk};
+ghost use Rattle.snap_store.specs.File.{Stored, gate_of, start_of, head_bytes};
+ghost use Rattle.snap_store.specs.Slots.{slot_of, with_slot, taken_side, other};
+ghost use Rattle.snap_store.specs.Images.{IsLaid, Spares, loosened, DuringPut, IsLeft};
+ghost use Rattle.snap_store.specs.declared.slot.Slot.{Slot};
+ghost use Rattle.snap_store.specs.declared.slot.Slot.TheVariants.{Closed, Open, Unsure};
+ghost use Rattle.snap_store.specs.declared.outline.TheConstants.{MAX_SNAPSHOT};
+
+use crate::side::Side;
+use crate::slot::{Slot, Slots};
+use byteorder::{BigEndian, ByteOrder};
+use disk_model::{Disk, Failed, write_through};
+
+// Closes a gate: 0 is written where it isn't known to be 0, and a sync follows. At most two calls.
+fn close_gate<D: Disk>(disk: &mut D, side: Side, slot: Slot) -> Result<(), Failed>
+    ensures ok { OnOk result ((area beside_area : Option Stored) (beside : Slot)
+        → EachImage D.tells D.may_leave disk.old (IsLaid side slot area beside beside_area)
+        → EachImage D.tells D.may_leave disk.new (IsLaid side Closed area beside beside_area)) }
+    ensures works { IsTrue (D.steady disk.old) → gate_of side + 1 ≤ D.room disk.old
+        → IsOk result × IsTrue (D.steady disk.new) }
+    ensures cause { Counts result (D.faults disk.old) (D.faults disk.new) }
+    ensures crash { (area beside_area : Option Stored) (beside : Slot)
+        → EachImage D.tells D.may_leave disk.old (IsLaid side slot area beside beside_area)
+        → IsTrue (D.tells disk.old) → LeavesOnly D.moment D.left_since disk.old disk.new
+        (IsLaid side (loosened slot) area beside beside_area) }
+    ensures reach { D.reach disk.new ≤ max (D.reach disk.old) (gate_of side + 1) }
+    ensures kept { SameDisk D.tells D.room D.label disk.old disk.new }
+{
+    if slot.is_closed() {
+        disk.sync()?;
+        return Ok(());
+    }
+    disk.write_at(side.gate(), &[0])?;
+    disk.sync()?;
+    Ok(())
+}
+
+// Writes an area behind a closed gate: its first 16 bytes, then the others, and a sync.
+fn fill<D: Disk>(
+    disk: &mut D,
+    side: Side,
+    place: u64,
+    count: u32,
+    bytes: &[u8],
+) -> Result<(), Failed>
+    requires { length bytes.now ≤ MAX_SNAPSHOT }
+    ensures ok { OnOk result ((area beside_area : Option Stored) (beside : Slot)
+        → Spares side beside
+        → EachImage D.tells D.may_leave disk.old (IsLaid side Closed area beside beside_area)
+        → EachImage D.tells D.may_leave disk.new (IsLaid side Unsure
+        (Some (record { place = place; count = count; bytes = bytes.now })) beside beside_area)) }
+    ensures works { IsTrue (D.steady disk.old)
+        → start_of side + 16 + length bytes.now ≤ D.room disk.old
+        → IsOk result × IsTrue (D.steady disk.new) }
+    ensures cause { Counts result (D.faults disk.old) (D.faults disk.new) }
+    ensures crash { (area beside_area : Option Stored) (beside : Slot)
+        → Spares side beside
+        → EachImage D.tells D.may_leave disk.old (IsLaid side Closed area beside beside_area)
+        → IsTrue (D.tells disk.old) → LeavesOnly D.moment D.left_since disk.old disk.new
+        (IsLaid side Closed area beside beside_area) }
+    ensures reach { D.reach disk.new
+        ≤ max (D.reach disk.old) (start_of side + 16 + length bytes.now) }
+    ensures kept { SameDisk D.tells D.room D.label disk.old disk.new }
+{
+    disk.write_at(side.start(), &head_bytes(place, count, bytes.len() as u32))?;
+    disk.write_at(side.start() + 16, bytes)?;
+    disk.sync()?;
+    Ok(())
+}
+
+// Opens the gate of an area that is synced, and syncs it.
+fn open_gate<D: Disk>(disk: &mut D, side: Side) -> Result<(), Failed>
+    ensures ok { OnOk result ((area : Stored) (beside_area : Option Stored) (beside : Slot)
+        → EachImage D.tells D.may_leave disk.old
+        (IsLaid side Unsure (Some area) beside beside_area)
+        → EachImage D.tells D.may_leave disk.new
+        (IsLaid side (Open area.place area.count) (Some area) beside beside_area)) }
+    ensures works { IsTrue (D.steady disk.old) → gate_of side + 1 ≤ D.room disk.old
+        → IsOk result }
+    ensures cause { Counts result (D.faults disk.old) (D.faults disk.new) }
+    ensures crash { (area beside_area : Option Stored) (beside : Slot)
+        → EachImage D.tells D.may_leave disk.old (IsLaid side Unsure area beside beside_area)
+        → IsTrue (D.tells disk.old) → LeavesOnly D.moment D.left_since disk.old disk.new
+        (IsLaid side Unsure area beside beside_area) }
+    ensures reach { D.reach disk.new ≡ max (D.reach disk.old) (gate_of side + 1) }
+    ensures kept { SameDisk D.tells D.room D.label disk.old disk.new }
+{
+    write_through(disk, side.gate(), &[1])?;
+    Ok(())
+}
+
+// The sixteen bytes with which an area starts.
+fn head_bytes(place: u64, count: u32, length: u32) -> [u8; 16]
+    ensures { result ≡ head_bytes place count length }
+{
+    let mut bytes = [0; 16];
+    BigEndian::write_u64(&mut bytes, place);
+    BigEndian::write_u32(&mut bytes[8..], count);
+    BigEndian::write_u32(&mut bytes[12..], length);
+    bytes
+}
+
+// Writes an area here, in at most seven device calls. Where one fails, what is known of the gate
+// goes by the step that it failed in.
+fn write_area<D: Disk>(
+    disk: &mut D,
+    side: Side,
+    slot: Slot,
+    place: u64,
+    count: u32,
+    bytes: &[u8],
+) -> Result<(), Slot>
+    requires { length bytes.now ≤ MAX_SNAPSHOT }
+    ensures ok { OnOk result ((area beside_area : Option Stored) (beside : Slot)
+        → Spares side beside
+        → EachImage D.tells D.may_leave disk.old (IsLaid side slot area beside beside_area)
+        → EachImage D.tells D.may_leave disk.new (IsLaid side (Open place count)
+        (Some (record { place = place; count = count; bytes = bytes.now }))
+        beside beside_area)) }
+    ensures err { IfErr result (λ now. (area beside_area : Option Stored) (beside : Slot)
+        → Spares side beside
+        → EachImage D.tells D.may_leave disk.old (IsLaid side slot area beside beside_area)
+        → (left : Option Stored)
+        × IsLeft slot area (record { place = place; count = count; bytes = bytes.now }) now left
+        × EachImage D.tells D.may_leave disk.new (IsLaid side now left beside beside_area)) }
+    ensures gate { IfErr result (λ now. (now ≡ Closed) ⊎ (now ≡ Unsure)) }
+    ensures works { IsTrue (D.steady disk.old)
+        → start_of side + 16 + length bytes.now ≤ D.room disk.old → IsOk result }
+    ensures cause { Counts result (D.faults disk.old) (D.faults disk.new) }
+    ensures crash { (area beside_area : Option Stored) (beside : Slot)
+        → Spares side beside
+        → EachImage D.tells D.may_leave disk.old (IsLaid side slot area beside beside_area)
+        → IsTrue (D.tells disk.old) → LeavesOnly D.moment D.left_since disk.old disk.new
+        (DuringPut side slot area (record { place = place; count = count; bytes = bytes.now })
+        beside beside_area) }
+    ensures reach { D.reach disk.new
+        ≤ max (D.reach disk.old) (start_of side + 16 + length bytes.now) }
+    ensures kept { SameDisk D.tells D.room D.label disk.old disk.new }
+{
+    let Ok(()) = close_gate(disk, side, slot) else {
+        return Err(slot.loosened());
+    };
+    let Ok(()) = fill(disk, side, place, count, bytes) else {
+        return Err(Slot::Closed);
+    };
+    let Ok(()) = open_gate(disk, side) else {
+        return Err(Slot::Unsure);
+    };
+    Ok(())
+}
+
+/// Puts an area in place of the one that isn't the newest, in at most seven device calls.
+pub fn replace<D: Disk>(
+    disk: &mut D,
+    slots: &mut Slots,
+    place: u64,
+    count: u32,
+    bytes: &[u8],
+) -> Result<(), Failed>
+    requires { length bytes.now ≤ MAX_SNAPSHOT }
+    ensures ok { OnOk result (slots.new
+        ≡ with_slot slots.old (taken_side slots.old) (Open place count)) }
+    ensures images { OnOk result ((area beside_area : Option Stored)
+        → EachImage D.tells D.may_leave disk.old
+        (IsLaid (taken_side slots.old) (slot_of slots.old (taken_side slots.old)) area
+        (slot_of slots.old (other (taken_side slots.old))) beside_area)
+        → EachImage D.tells D.may_leave disk.new
+        (IsLaid (taken_side slots.old) (Open place count)
+        (Some (record { place = place; count = count; bytes = bytes.now }))
+        (slot_of slots.old (other (taken_side slots.old))) beside_area)) }
+    ensures err { OnErr result ((now : Slot)
+        × (slots.new ≡ with_slot slots.old (taken_side slots.old) now)
+        × ((area beside_area : Option Stored)
+        → EachImage D.tells D.may_leave disk.old
+        (IsLaid (taken_side slots.old) (slot_of slots.old (taken_side slots.old)) area
+        (slot_of slots.old (other (taken_side slots.old))) beside_area)
+        → (left : Option Stored)
+        × IsLeft (slot_of slots.old (taken_side slots.old)) area
+        (record { place = place; count = count; bytes = bytes.now }) now left
+        × EachImage D.tells D.may_leave disk.new
+        (IsLaid (taken_side slots.old) now left
+        (slot_of slots.old (other (taken_side slots.old))) beside_area))) }
+    ensures gate { OnErr result
+        ((slots.new ≡ with_slot slots.old (taken_side slots.old) Closed)
+        ⊎ (slots.new ≡ with_slot slots.old (taken_side slots.old) Unsure)) }
+    ensures works { IsTrue (D.steady disk.old)
+        → start_of (taken_side slots.old) + 16 + length bytes.now ≤ D.room disk.old
+        → IsOk result }
+    ensures cause { Counts result (D.faults disk.old) (D.faults disk.new) }
+    ensures crash { (area beside_area : Option Stored)
+        → EachImage D.tells D.may_leave disk.old
+        (IsLaid (taken_side slots.old) (slot_of slots.old (taken_side slots.old)) area
+        (slot_of slots.old (other (taken_side slots.old))) beside_area)
+        → IsTrue (D.tells disk.old) → LeavesOnly D.moment D.left_since disk.old disk.new
+        (DuringPut (taken_side slots.old) (slot_of slots.old (taken_side slots.old)) area
+        (record { place = place; count = count; bytes = bytes.now })
+        (slot_of slots.old (other (taken_side slots.old))) beside_area) }
+    ensures reach { D.reach disk.new
+        ≤ max (D.reach disk.old) (start_of (taken_side slots.old) + 16 + length bytes.now) }
+    ensures kept { SameDisk D.tells D.room D.label disk.old disk.new }
+{
+    let side = slots.taken();
+    let slot = slots.of(side);
+    match write_area(disk, side, slot, place, count, bytes) {
+        Ok(()) => {
+            slots.set(side, Slot::Open { place, count });
+            Ok(())
+        }
+        Err(now) => {
+            slots.set(side, now);
+            Err(Failed)
+        }
+    }
+}
