@@ -1,0 +1,51 @@
+-- A desk answers as a session that is played from the start (own).
+use Rattle.std.specs.Prelude.{◌≡◌, true, Option, Some, None}
+use Rattle.gate_journal.specs.declared.command.Command.{Command}
+use Rattle.line_words.specs.declared.request.Request.{Request}
+use Rattle.line_words.specs.declared.reply.No.{No}
+use Rattle.line_words.specs.declared.reply.Reply.TheVariants as replies
+use Rattle.story_run.specs.declared.story.Story.{Story}
+use Rattle.session_core.specs.declared.decision.Decision.{Decision}
+use Rattle.session_core.specs.Checks.{command_of}
+use Rattle.session_core.specs.Answer.{answer}
+use Rattle.session_desk.specs.declared.verdict.Verdict.{Verdict}
+use Rattle.session_desk.specs.declared.verdict.Verdict.TheVariants.{Refuse, Again, Fresh, Cold}
+use Rattle.session_desk.specs.Desk.{DeskState, committed, shown_to}
+use Rattle.session_desk.specs.Verdict.{lacks_world, verdict}
+
+-- what the session answers to a request, played from the start
+abbrev pub answered : DeskState → Request → Decision
+answered desk request = answer desk.stories desk.commands request
+
+-- The desk refuses what the session refuses, for the same cause.
+abbrev pub RefusesAlike : Type 0
+RefusesAlike =
+    (desk : DeskState) (request : Request) (why : No)
+    → verdict desk request ≡ Refuse why
+    → answered desk request ≡ record { reply = replies.No why; accepted = None }
+
+-- Where a request comes again, the desk's last show is the session's reply, and the session accepts
+-- nothing.
+abbrev pub ShowsAgain : Type 0
+ShowsAgain =
+    (desk : DeskState) (request : Request)
+    → verdict desk request ≡ Again
+    → answered desk request ≡ record { reply = shown_to desk request; accepted = None }
+
+-- Where a request is fresh, the session accepts the command that it asks for, and the last show of
+-- the desk with that command is its reply.
+abbrev pub ShowsFresh : Type 0
+ShowsFresh =
+    (desk : DeskState) (request : Request)
+    → verdict desk request ≡ Fresh
+    → (command : Command) × (command_of desk.stories request ≡ Some command)
+    × (answered desk request
+    ≡ record { reply = shown_to (committed desk command) request; accepted = Some command })
+
+-- A desk says that it is cold where the answer needs the world that it doesn't hold, and nowhere
+-- else.
+abbrev pub IsColdAlone : Type 0
+IsColdAlone =
+    (desk : DeskState) (request : Request)
+    → (verdict desk request ≡ Cold → lacks_world desk request ≡ true)
+    × (lacks_world desk request ≡ true → verdict desk request ≡ Cold)

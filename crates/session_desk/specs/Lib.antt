@@ -1,0 +1,4 @@
+pub mod Desk
+pub mod Wanted
+pub mod Verdict
+pub mod Laws

@@ -1,0 +1,16 @@
+//! One session kept warm: it answers as one that is played from the start for each request.
+#![tactic(auto)]
+
+mod check;
+mod desk;
+mod held;
+mod laws;
+mod verdict;
+mod wanted;
+
+pub use desk::Desk;
+pub use laws::{is_cold_alone, refuses_alike, shows_again, shows_fresh};
+pub use verdict::Verdict;
+
+#[cfg(test)]
+mod tests;
