@@ -1,5 +1,5 @@
 -- The world of a game with one command more.
-use Rattle.std.proofs.Common.{◌≡◌, ℕ, Bool, true, false, List, [], ◌∷◌, ◌++◌, length, Option, Some, None, IsTrue, refl, sym, ap, ◌∙◌}
+use Rattle.std.proofs.Common.{◌≡◌, ◌==◌, ℕ, Bool, true, false, List, [], ◌∷◌, ◌++◌, length, Option, Some, None, IsTrue, refl, sym, ap, ◌∙◌}
 use Rattle.std.specs.List.{filter_map}
 use Rattle.glk_input.specs.declared.input.Input.{Input}
 use Rattle.gate_journal.specs.declared.command.Command.{Command}
@@ -7,14 +7,15 @@ use Rattle.gate_journal.specs.declared.command.Command.TheVariants as commands
 use Rattle.story_run.specs.declared.setup.Setup.{Setup}
 use Rattle.story_run.specs.declared.story.Story.{Story}
 use Rattle.story_run.specs.World.{WorldState}
-use Rattle.story_run.specs.Solo.{opening, turned_by}
+use Rattle.story_run.specs.Solo.{opening, shown, turned_by}
 use Rattle.session_core.specs.History.{game_of, input_of, is_in_use, is_open, goes_on, last_of, story_at, turned_on, world_in, world_of}
 use Rattle.session_core.specs.Checks.{given}
+use Rattle.session_core.specs.Answer.{show_of}
 use Rattle.session_core.proofs.AnswerLemmas.{turned_by-command}
 use Rattle.session_core.proofs.RepeatLemmas.{joined, game_of-append, last_of-joined}
 use Rattle.session_desk.specs.declared.held.Held.{Held}
 use Rattle.session_desk.specs.declared.held.Held.TheVariants.{Nothing, Current, Previous}
-use Rattle.session_desk.specs.Desk.{aside, Holds}
+use Rattle.session_desk.specs.Desk.{aside, show_at, Holds}
 
 turned_by-more : (w : WorldState) (cs : List Command) (c : Command)
     → turned_by w (filter_map input_of (cs ++ c ∷ [])) ≡ turned_on (turned_by w (filter_map input_of cs)) (input_of c)
@@ -64,3 +65,16 @@ holds-aside stories history (commands.Char win code) (Current w) h = more storie
 holds-aside stories history (commands.File name) Nothing h = tt
 holds-aside stories history (commands.File name) (Previous w) h = tt
 holds-aside stories history (commands.File name) (Current w) h = more stories history (commands.File name) w refl refl h.1
+
+-- ---- what is shown
+
+pub shown-held : (stories : List Story) (g : List Command) (w : WorldState) → Holds stories g (Current w) → shown w ≡ show_at stories g
+unfolding show_of
+shown-held stories [] w h = absurd (let e = h.0 in cc)
+shown-held stories (c ∷ cs) w h = rw (h.0, h.1) refl
+
+pub shown-closed : (stories : List Story) (g : List Command) → is_in_use g ≡ false → (length g == 0) ≡ false
+    → 69 ∷ 32 ∷ 99 ∷ 108 ∷ 111 ∷ 115 ∷ 101 ∷ 100 ∷ 10 ∷ [] ≡ show_at stories g
+unfolding show_of
+shown-closed stories [] e some = absurd cc
+shown-closed stories (c ∷ cs) e some = rw e refl

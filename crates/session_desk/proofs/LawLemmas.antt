@@ -1,17 +1,18 @@
 -- What a session answers, by what the desk says of the request.
-use Rattle.std.proofs.Common.{◌≡◌, ◌≢◌, ℕ, Bool, true, false, ◌&&◌, ◌||◌, not, cond, nat_le, List, [], ◌∷◌, ◌++◌, Option, Some, None, is_none, refl, sym, ap, ◌∙◌}
+use Rattle.std.proofs.Common.{◌≡◌, ℕ, Bool, true, false, ◌&&◌, ◌||◌, not, cond, nat_le, List, [], ◌∷◌, ◌++◌, Option, Some, None, is_none, refl, sym, ap, ◌∙◌}
 use Rattle.gate_journal.specs.declared.command.Command.{Command}
 use Rattle.gate_journal.specs.declared.command.Command.TheVariants as commands
 use Rattle.line_words.specs.declared.request.Request.{Request}
 use Rattle.line_words.specs.declared.request.Request.TheVariants.{Open, Line, Char, File, Last, Close}
 use Rattle.line_words.specs.declared.reply.No.{No}
+use Rattle.line_words.specs.declared.reply.No.TheVariants as no
 use Rattle.line_words.specs.declared.reply.Reply.{Reply}
 use Rattle.line_words.specs.declared.reply.Reply.TheVariants as replies
 use Rattle.story_run.specs.declared.story.Story.{Story}
 use Rattle.session_core.specs.declared.decision.Decision.{Decision}
 use Rattle.session_core.specs.History.{game_of, has_key, is_in_use, is_open, story_at}
-use Rattle.session_core.specs.Checks.{command_of, is_fresh, opened, session_of}
-use Rattle.session_core.specs.Answer.{accepted_by, answer, checks, decided, first_of, plain_checks, refusal_of, shown_number, show_of, show_reply, extended}
+use Rattle.session_core.specs.Checks.{command_of, is_fresh, is_full, opened, session_of}
+use Rattle.session_core.specs.Answer.{accepted_by, answer, checks, decided, first_of, plain_checks, refusal_of, story_checks, shown_number, show_of, show_reply, extended}
 use Rattle.session_core.proofs.RepeatLemmas.{all_fail, answer-none, chosen, known, joined, game_of-append, game_of-append-open, some_is}
 use Rattle.session_desk.proofs.VerdictLemmas.{asks}
 use Rattle.session_desk.specs.declared.verdict.Verdict.{Verdict}
@@ -23,36 +24,45 @@ use Rattle.session_desk.specs.Laws.{answered, RefusesAlike, ShowsAgain, ShowsFre
 -- ---- what was told
 
 told-refuse : (reply : Reply) (accepted : Option Command) (why : No) → told_by reply accepted ≡ Refuse why → reply ≡ replies.No why
-told-refuse (replies.No other) accepted why e = cc
+told-refuse (replies.No x) accepted why e = cc
 told-refuse (replies.Show s n body) (Some command) why e = absurd cc
 told-refuse (replies.Show s n body) None why e = absurd cc
 
 told-again : (reply : Reply) (accepted : Option Command) → told_by reply accepted ≡ Again → accepted ≡ None
-told-again (replies.No other) accepted e = absurd cc
+told-again (replies.No x) accepted e = absurd cc
 told-again (replies.Show s n body) (Some command) e = absurd cc
 told-again (replies.Show s n body) None e = refl
 
 told-fresh : (reply : Reply) (accepted : Option Command) → told_by reply accepted ≡ Fresh → (c : Command) × (accepted ≡ Some c)
-told-fresh (replies.No other) accepted e = absurd cc
+told-fresh (replies.No x) accepted e = absurd cc
 told-fresh (replies.Show s n body) (Some command) e = (command, refl)
 told-fresh (replies.Show s n body) None e = absurd cc
 
 told-cold : (reply : Reply) (accepted : Option Command) → told_by reply accepted ≡ Cold → true ≡ false
-told-cold (replies.No other) accepted e = absurd cc
+told-cold (replies.No x) accepted e = absurd cc
 told-cold (replies.Show s n body) (Some command) e = absurd cc
 told-cold (replies.Show s n body) None e = absurd cc
 
 -- where the verdict isn't Cold it was told by the answer
-warm : (lacks : Bool) (said : Verdict) (other : Verdict) → cond lacks Cold said ≡ other → other ≢ Cold → said ≡ other
-warm true said other e no = absurd (no (sym e))
-warm false said other e no = e
+abbrev is_cold : Verdict → Bool
+is_cold (Refuse why) = false
+is_cold Again = false
+is_cold Fresh = false
+is_cold Cold = true
+
+warm : (lacks : Bool) (said other : Verdict) → cond lacks Cold said ≡ other → is_cold other ≡ false → said ≡ other
+warm true said (Refuse why) e w = absurd cc
+warm true said Again e w = absurd cc
+warm true said Fresh e w = absurd cc
+warm true said Cold e w = absurd cc
+warm false said other e w = e
 
 -- ---- a refusal
 
 refused : (stories : List Story) (history game : List Command) (request : Request) (refusal : Option No) (why : No)
     → told (decided stories history game request refusal) ≡ Refuse why
     → decided stories history game request refusal ≡ record { reply = replies.No why; accepted = None }
-refused stories history game request (Some other) why e = rw (told-refuse (replies.No other) None why e) refl
+refused stories history game request (Some x) why e = rw (told-refuse (replies.No x) None why e) refl
 refused stories history game request None why e =
     absurd (let is = told-refuse (show_reply stories history game (accepted_by stories game request) request) (accepted_by stories game request) why e in cc)
 
@@ -60,7 +70,7 @@ pub refuses : RefusesAlike
 unfolding answer
 refuses desk request why e =
     refused desk.stories desk.commands (game_of desk.commands) request (refusal_of desk.stories desk.commands (game_of desk.commands) request) why
-    (warm (lacks_world desk request) (foretold desk.stories desk.commands request) (Refuse why) e (λ x. absurd cc))
+    (warm (lacks_world desk request) (foretold desk.stories desk.commands request) (Refuse why) e refl)
 
 -- ---- a show
 
@@ -87,7 +97,8 @@ first_of-front ((false, why) ∷ more) ys e = first_of-front more ys e
 
 plain : (stories : List Story) (history game : List Command) (request : Request) → refusal_of stories history game request ≡ None → first_of (plain_checks stories game request) ≡ None
 unfolding refusal_of
-plain stories history game request e = first_of-front (plain_checks stories game request) _ e
+plain stories history game request e =
+    first_of-front (plain_checks stories game request) (story_checks stories game request ++ (is_full history game request, no.Full) ∷ []) e
 
 -- before the first OPEN only an OPEN is known, which is new then
 first_is_fresh : (stories : List Story) (request : Request) → first_of (plain_checks stories [] request) ≡ None → is_fresh [] request ≡ true
@@ -117,7 +128,7 @@ unfolding answer
 shows_again desk request e =
     let history = desk.commands in
     let by = again_by desk.stories history (game_of history) request (refusal_of desk.stories history (game_of history) request)
-    (warm (lacks_world desk request) (foretold desk.stories history request) Again e (λ x. absurd cc)) in
+    (warm (lacks_world desk request) (foretold desk.stories history request) Again e refl) in
     answer-none desk.stories history request None by.0 by.1
     ∙ ap (as_again (session_of request) (shown_number (game_of history) request))
     (shown desk.stories (game_of history) request (plain desk.stories history (game_of history) request by.0) by.1)
@@ -184,18 +195,13 @@ shows_fresh desk request e =
     let history = desk.commands in
     let g = game_of history in
     let by = fresh_by desk.stories history g request (refusal_of desk.stories history g request)
-    (warm (lacks_world desk request) (foretold desk.stories history request) Fresh e (λ x. absurd cc)) in
+    (warm (lacks_world desk request) (foretold desk.stories history request) Fresh e refl) in
     let c = by.1.0 in
     let taken = chosen (is_fresh g request) (command_of desk.stories request) c by.1.1 in
-    let none = plain desk.stories history g request by.0 in (
-      c,
-      (
-        taken.1,
-        answer-none desk.stories history request (Some c) by.0 by.1.1
-            ∙ same_show (session_of request) (shown_number g request) (shown_number (game_of (history ++ c ∷ [])) request) _ _ c
-            (same_number g (game_of (history ++ c ∷ [])) request taken.0) (after_fresh desk.stories history request c none taken.1),
-      ),
-    )
+    let none = plain desk.stories history g request by.0 in
+    let replies_same = same_show (session_of request) (shown_number g request) (shown_number (game_of (history ++ c ∷ [])) request) _ _ c
+    (same_number g (game_of (history ++ c ∷ [])) request taken.0) (after_fresh desk.stories history request c none taken.1) in
+    (c, taken.1, answer-none desk.stories history request (Some c) by.0 by.1.1 ∙ replies_same)
 
 -- ---- cold
 

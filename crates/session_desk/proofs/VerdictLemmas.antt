@@ -1,5 +1,6 @@
 -- What a session will answer, by the checks that hold.
-use Rattle.std.proofs.Common.{◌≡◌, Bool, true, false, ◌&&◌, ◌||◌, not, cond, nat_le, List, [], ◌∷◌, ◌++◌, length, Option, Some, None, is_none, refl, sym, ◌∙◌}
+use Rattle.std.proofs.Common.{◌≡◌, ℕ, ◌<◌, ◌≤◌, Bool, true, false, ◌&&◌, ◌||◌, not, cond, nat_le, List, [], ◌∷◌, ◌++◌, length, Option, Some, None, is_none, refl, sym, ap, ◌∙◌, arith}
+use Rattle.std.proofs.lemmas.Bool.Decides.{nat_tests}
 use Rattle.glk_input.specs.declared.input.Input.{Input}
 use Rattle.glk_input.specs.declared.input.Input.TheVariants as inputs
 use Rattle.gate_journal.specs.declared.command.Command.{Command}
@@ -21,7 +22,8 @@ use Rattle.session_core.proofs.RepeatLemmas.{AllFail, all_fail, known}
 use Rattle.session_desk.specs.declared.verdict.Verdict.{Verdict}
 use Rattle.session_desk.specs.declared.verdict.Verdict.TheVariants.{Refuse, Again, Fresh, Cold}
 use Rattle.session_desk.specs.Wanted.{outline, refusal_in, request_input}
-use Rattle.session_desk.specs.Verdict.{foretold, is_close, told}
+use Rattle.session_desk.specs.Desk.{DeskState, game}
+use Rattle.session_desk.specs.Verdict.{foretold, is_close, is_to_story, told, verdict}
 
 -- ---- the answer, by its refusal and its command
 
@@ -190,3 +192,47 @@ refusal-outline w (Char s key n win code) = refl
 refusal-outline w (File s key n name) = rw (wants-file w name) refl
 refusal-outline w (Last s key) = refl
 refusal-outline w (Close s key n) = refl
+
+-- the refusal of what stands for the input is that of the input
+pub by_outline : (w : WorldState) (request : Request) (given : Option Input) → outline request ≡ given
+    → refusal_in w given ≡ refusal_in w (request_input request)
+by_outline w request given e = ap (refusal_in w) (sym e) ∙ refusal-outline w request
+
+-- ---- the verdicts
+
+at_limit : (n : ℕ) → 8192 ≤ n → nat_le 8192 n ≡ true
+at_limit n le = grind (arith, nat_tests, le)
+
+below_limit : (n : ℕ) → n < 8192 → nat_le 8192 n ≡ false
+below_limit n lt = grind (arith, nat_tests, lt)
+
+-- by a check without the world
+pub plain-told : (desk : DeskState) (request : Request) (why : No) → first_of (plain_checks desk.stories (game desk) request) ≡ Some why → Refuse why ≡ verdict desk request
+plain-told desk request why e =
+    rw e (told-refused desk.stories desk.commands request why (sym (refusal_of-plain desk.stories desk.commands (game desk) request why e)))
+
+-- where nothing else is asked
+pub stale-told : (stories : List Story) (history : List Command) (request : Request) → first_of (plain_checks stories (game_of history) request) ≡ None
+    → is_fresh (game_of history) request ≡ false → Again ≡ foretold stories history request
+stale-told stories history request none stale =
+    told-again stories history request (stale-passes stories history (game_of history) request none stale) stale
+
+-- where no check by the world holds
+pub full-told : (stories : List Story) (history : List Command) (request : Request) → first_of (plain_checks stories (game_of history) request) ≡ None
+    → first_of (story_checks stories (game_of history) request) ≡ None → is_fresh (game_of history) request ≡ true → 8192 ≤ length history
+    → Refuse no.Full ≡ foretold stories history request
+full-told stories history request none fits fresh le =
+    told-refused stories history request no.Full (full-refuses stories history (game_of history) request none fits fresh (at_limit (length history) le))
+
+pub fresh-told : (stories : List Story) (history : List Command) (request : Request) → first_of (plain_checks stories (game_of history) request) ≡ None
+    → first_of (story_checks stories (game_of history) request) ≡ None → is_fresh (game_of history) request ≡ true → length history < 8192
+    → Fresh ≡ foretold stories history request
+fresh-told stories history request none fits fresh lt =
+    let asked = asks stories (game_of history) request none fresh in
+    told-fresh stories history request asked.0 (room-passes stories history (game_of history) request none fits (below_limit (length history) lt)) fresh asked.1
+
+-- where one does
+pub story-told : (stories : List Story) (history : List Command) (request : Request) (why : No) → first_of (plain_checks stories (game_of history) request) ≡ None
+    → first_of (story_checks stories (game_of history) request) ≡ Some why → Refuse why ≡ foretold stories history request
+story-told stories history request why none e =
+    told-refused stories history request why (sym (refusal_of-story stories history (game_of history) request why none e))

@@ -1,6 +1,6 @@
 //! Whether a story takes what a request gives it (own).
 
-ghost use Rattle.std.specs.Prelude.{◌≡◌};
+ghost use Rattle.std.specs.Prelude.{◌≡◌, [], Some};
 ghost use Rattle.session_desk.specs.Wanted.{outline, refusal_in, request_input};
 
 use glk_input::Input;
@@ -37,18 +37,25 @@ fn outline(alloc: Global, request: &Request) -> Option<Input>
     }
 }
 
-/// Why the story doesn't take what a new request gives it: it is over, or doesn't wait for that.
-pub fn story_refusal(alloc: Global, world: &World, request: &Request) -> Option<No>
-    ensures { result ≡ refusal_in world.now (request_input request.now) }
+/// Why the story doesn't take a new input: it is over, or doesn't wait for that one.
+fn refusal_in(world: &World, input: &Input) -> Option<No>
+    ensures { result ≡ refusal_in world.now (Some input.now) }
 {
-    let Some(input) = outline(alloc, request) else {
-        return None;
-    };
     if world.is_over() {
         return Some(No::Over);
     }
-    if !world.wants(&input) {
+    if !world.wants(input) {
         return Some(No::Unwanted);
     }
     None
+}
+
+/// Why the story doesn't take what a new request gives it.
+pub fn story_refusal(alloc: Global, world: &World, request: &Request) -> Option<No>
+    ensures { result ≡ refusal_in world.now (request_input request.now) }
+{
+    match outline(alloc, request) {
+        Some(input) => refusal_in(world, &input),
+        None => None,
+    }
 }
