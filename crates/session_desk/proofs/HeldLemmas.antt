@@ -1,5 +1,6 @@
 -- The world of a game with one command more.
-use Rattle.std.proofs.Common.{◌≡◌, ◌==◌, ℕ, Bool, true, false, List, [], ◌∷◌, ◌++◌, length, Option, Some, None, IsTrue, refl, sym, ap, ◌∙◌}
+use Rattle.std.proofs.Common.{◌≡◌, ◌==◌, ◌<◌, ◌≤◌, arith, ℕ, Bool, true, false, List, [], ◌∷◌, ◌++◌, length, Option, Some, None, IsTrue, refl, sym, ap, ◌∙◌}
+use Rattle.std.proofs.lemmas.List.{length-append}
 use Rattle.std.specs.List.{filter_map}
 use Rattle.glk_input.specs.declared.input.Input.{Input}
 use Rattle.gate_journal.specs.declared.command.Command.{Command}
@@ -15,7 +16,7 @@ use Rattle.session_core.proofs.AnswerLemmas.{turned_by-command}
 use Rattle.session_core.proofs.RepeatLemmas.{joined, game_of-append, last_of-joined}
 use Rattle.session_desk.specs.declared.held.Held.{Held}
 use Rattle.session_desk.specs.declared.held.Held.TheVariants.{Nothing, Current, Previous}
-use Rattle.session_desk.specs.Desk.{aside, show_at, Holds}
+use Rattle.session_desk.specs.Desk.{aside, show_at, DeskState, Holds, IsDesk}
 
 turned_by-more : (w : WorldState) (cs : List Command) (c : Command)
     → turned_by w (filter_map input_of (cs ++ c ∷ [])) ≡ turned_on (turned_by w (filter_map input_of cs)) (input_of c)
@@ -65,6 +66,20 @@ holds-aside stories history (commands.Char win code) (Current w) h = more storie
 holds-aside stories history (commands.File name) Nothing h = tt
 holds-aside stories history (commands.File name) (Previous w) h = tt
 holds-aside stories history (commands.File name) (Current w) h = more stories history (commands.File name) w refl refl h.1
+
+more_fit : (xs : List Command) (c : Command) → length xs < 8192 → length (xs ++ c ∷ []) ≤ 8192
+more_fit xs c lt = omega (arith, length-append xs (c ∷ []))
+
+-- what holds of every desk holds of one with a command more
+pub is_desk-committed : (desk : DeskState) (c : Command) (commands : List Command) (held : Held) → IsDesk desk → length desk.commands < 8192
+    → commands ≡ desk.commands ++ c ∷ [] → held ≡ aside c desk.held
+    → IsDesk (record { session = desk.session; stories = desk.stories; budget = desk.budget; commands = commands; held = held })
+is_desk-committed desk c commands held is room e h =
+    record {
+      numbered = is.numbered;
+      within = rw e (more_fit desk.commands c room);
+      holds = rw (e, h) (holds-aside desk.stories desk.commands c desk.held is.holds);
+    }
 
 -- ---- what is shown
 

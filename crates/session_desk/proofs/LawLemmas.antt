@@ -1,5 +1,5 @@
 -- What a session answers, by what the desk says of the request.
-use Rattle.std.proofs.Common.{◌≡◌, ℕ, Bool, true, false, ◌&&◌, ◌||◌, not, cond, nat_le, List, [], ◌∷◌, ◌++◌, Option, Some, None, is_none, refl, sym, ap, ◌∙◌}
+use Rattle.std.proofs.Common.{◌≡◌, ℕ, ◌<◌, length, IfSome, Bool, true, false, ◌&&◌, ◌||◌, not, cond, nat_le, List, [], ◌∷◌, ◌++◌, Option, Some, None, is_none, refl, sym, ap, ◌∙◌}
 use Rattle.gate_journal.specs.declared.command.Command.{Command}
 use Rattle.gate_journal.specs.declared.command.Command.TheVariants as commands
 use Rattle.line_words.specs.declared.request.Request.{Request}
@@ -13,6 +13,7 @@ use Rattle.session_core.specs.declared.decision.Decision.{Decision}
 use Rattle.session_core.specs.History.{game_of, has_key, is_in_use, is_open, story_at}
 use Rattle.session_core.specs.Checks.{command_of, is_fresh, is_full, opened, session_of}
 use Rattle.session_core.specs.Answer.{accepted_by, answer, checks, decided, first_of, plain_checks, refusal_of, story_checks, shown_number, show_of, show_reply, extended}
+use Rattle.session_core.proofs.AnswerLemmas.{accepted_has_room}
 use Rattle.session_core.proofs.RepeatLemmas.{all_fail, answer-none, chosen, known, joined, game_of-append, game_of-append-open, some_is}
 use Rattle.session_desk.proofs.VerdictLemmas.{asks}
 use Rattle.session_desk.specs.declared.verdict.Verdict.{Verdict}
@@ -202,6 +203,36 @@ shows_fresh desk request e =
     let replies_same = same_show (session_of request) (shown_number g request) (shown_number (game_of (history ++ c ∷ [])) request) _ _ c
     (same_number g (game_of (history ++ c ∷ [])) request taken.0) (after_fresh desk.stories history request c none taken.1) in
     (c, taken.1, answer-none desk.stories history request (Some c) by.0 by.1.1 ∙ replies_same)
+
+-- ---- what a fresh request passed
+
+pub record Accepts (desk : DeskState) (request : Request) : Type 0 where
+  pub command : Command
+  pub asked : command_of desk.stories request ≡ Some command
+  pub none : first_of (plain_checks desk.stories (game desk) request) ≡ None
+  pub fresh : is_fresh (game desk) request ≡ true
+  pub room : length desk.commands < 8192
+
+has_room : (accepted : Option Command) (c : Command) (n : ℕ) → IfSome accepted (λ _. n < 8192) → accepted ≡ Some c → n < 8192
+has_room (Some x) c n h e = h
+has_room None c n h e = absurd cc
+
+pub accepts : (desk : DeskState) (request : Request) → verdict desk request ≡ Fresh → Accepts desk request
+unfolding answer accepted_by
+accepts desk request e =
+    let history = desk.commands in
+    let g = game_of history in
+    let by = fresh_by desk.stories history g request (refusal_of desk.stories history g request)
+    (warm (lacks_world desk request) (foretold desk.stories history request) Fresh e refl) in
+    let taken = chosen (is_fresh g request) (command_of desk.stories request) by.1.0 by.1.1 in
+    record {
+      command = by.1.0;
+      asked = taken.1;
+      none = plain desk.stories history g request by.0;
+      fresh = taken.0;
+      room = has_room (accepted_by desk.stories g request) by.1.0 (length history)
+          (accepted_has_room desk.stories history g request (accepted_by desk.stories g request) by.0 refl) by.1.1;
+    }
 
 -- ---- cold
 

@@ -1,3 +1,4 @@
 pub mod VerdictLemmas
 pub mod LawLemmas
 pub mod HeldLemmas
+pub mod JournalLemmas

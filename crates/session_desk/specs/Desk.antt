@@ -23,6 +23,16 @@ pub record DeskState : Type 0 where
   pub commands : List Command
   pub held : Held
 
+-- a desk with these commands that holds no world
+abbrev pub opened : ℕ → List Story → ℕ → List Command → DeskState
+opened session stories budget commands = record {
+  session = session;
+  stories = stories;
+  budget = budget;
+  commands = commands;
+  held = Nothing;
+}
+
 -- the session's last OPEN and the commands since
 abbrev pub game : DeskState → List Command
 game desk = game_of desk.commands

@@ -1,17 +1,29 @@
 //! A desk: one session, kept warm (own).
 
 ghost use Rattle.std.specs.Prelude.{◌≡◌, ◌≤◌, ◌<◌, ◌+◌, IsTrue, true, false, length, None, Some};
-ghost use Rattle.std.specs.Prelude.{IfOk, OnOk, OnErr, MatchOption, ⊤};
+ghost use Rattle.std.specs.Prelude.{IfOk, IfErr, OnOk, OnErr, MatchOption, MatchResult, ⊤};
+ghost use Rattle.disk_model.specs.Disk.{SameDisk};
+ghost use Rattle.gate_journal.specs.Rows.{commands_of};
+ghost use Rattle.gate_journal.specs.declared.command.Command.{Command};
 ghost use Rattle.session_core.specs.History.{last_of};
+ghost use Rattle.session_core.specs.Checks.{command_of};
 ghost use Rattle.session_core.specs.Answer.{shown_number};
 ghost use Rattle.session_core.specs.Turns.{turns_of};
 ghost use Rattle.session_desk.specs.Desk.{game, is_cold, is_to_run, last_show, warmed, emptied};
+ghost use Rattle.session_desk.specs.Desk.{opened};
 ghost use Rattle.session_desk.specs.Verdict.{verdict};
+ghost use Rattle.session_desk.specs.declared.verdict.Verdict.TheVariants.{Fresh};
+ghost use Rattle.session_desk.specs.Commit.{Commits, IsInRange, IsKept, Leaves, Stops};
+ghost use Rattle.session_desk.specs.Commit.{UnlessNoMemory};
 
 use crate::check::{in_no_world, in_world};
+use crate::commit::{asked, take_down, write_down};
 use crate::held::{Held, ran, warmed};
+use crate::refused::Refused;
+use crate::rows::commands_of;
 use crate::verdict::Verdict;
-use gate_journal::Command;
+use disk_model::Disk;
+use gate_journal::{Command, Journal, Row};
 use line_words::Request;
 use session_core::{game_of, is_in_use, plain_refusal, shown_number};
 use std::alloc::{AllocError, Global};
@@ -55,6 +67,38 @@ impl<'i> Model for Desk<'i> {
 }
 
 impl<'i> Desk<'i> {
+    /// The desk of a session, below 64, with the commands of its rows, at most 8,192; its world isn't
+    /// held. The budget is that of a turn, in ticks, for whoever reads requests to open the session.
+    pub fn open(
+        alloc: Global,
+        session: u8,
+        stories: &'i [Story<'i>],
+        budget: u64,
+        rows: &[Row],
+    ) -> Result<Desk<'i>, AllocError>
+        requires session { session < 64 }
+        requires within { length (commands_of rows.now session) ≤ 8192 }
+        ensures value { IfOk result (λ desk. desk
+            ≡ opened session stories.now budget (commands_of rows.now session)) }
+    {
+        let commands = commands_of(alloc, rows, session)?;
+        Ok(Desk {
+            alloc,
+            session,
+            stories,
+            budget,
+            commands,
+            held: Held::Nothing,
+        })
+    }
+
+    /// The budget of a turn, in ticks, with which the session is to be opened.
+    pub fn budget(&self) -> u64
+        ensures value { result ≡ self.now.budget }
+    {
+        self.budget
+    }
+
     /// What the request will be answered. It takes no memory.
     pub fn check(&self, request: &Request) -> Verdict
         ensures value { result ≡ verdict self.now request.now }
@@ -79,6 +123,51 @@ impl<'i> Desk<'i> {
     {
         self.held = warmed(alloc, self.stories, game_of(&self.commands), steps)?;
         Ok(())
+    }
+
+    /// Makes the session accept the command that a fresh request asks for, by a row in the journal;
+    /// the world is set aside for `run`. The memory is taken before the row is written. Of `_by`, the
+    /// number of the pass of a host that many share, nothing is kept.
+    pub fn commit<D: Disk>(
+        &mut self,
+        alloc: Global,
+        _by: u64,
+        journal: &mut Journal<D>,
+        request: &Request,
+    ) -> Result<(), Refused>
+        requires fresh { verdict self.old request.now ≡ Fresh }
+        requires ranges { IsInRange request.now }
+        requires rows { IsKept self.old journal.old }
+
+        ensures ok { OnOk result
+            (Commits request.now self.old journal.old self.new journal.new) }
+        ensures err { OnErr result (self.new ≡ self.old) }
+        ensures cause { IfErr result (λ why.
+            Leaves D.faults self.old.session journal.old journal.new why) }
+        ensures rows { IsKept self.new journal.new }
+        ensures kept { SameDisk D.tells D.room D.label journal.old.disk journal.new.disk }
+        ensures crash { (command : Command) → command_of self.old.stories request.now ≡ Some command
+            → MatchResult result
+            (λ _. Stops D.tells D.moment D.left_since self.old.session command
+            journal.old journal.new)
+            (λ why. UnlessNoMemory why (Stops D.tells D.moment D.left_since self.old.session command
+            journal.old journal.new)) }
+    {
+        let Ok(command) = asked(alloc, self.stories, request) else {
+            return Err(Refused::NoMemory);
+        };
+        let Ok(()) = self.commands.reserve(1) else {
+            return Err(Refused::NoMemory);
+        };
+        // with the count comes what holds of every journal
+        let _count = journal.row_count();
+        match write_down(alloc, journal, self.session, &command) {
+            Ok(()) => {
+                take_down(&mut self.commands, &mut self.held, command);
+                Ok(())
+            }
+            Err(why) => Err(why),
+        }
     }
 
     /// Gives the story the command that was just committed: the turn of the world that was set

@@ -2,14 +2,18 @@
 #![tactic(auto)]
 
 mod check;
+mod commit;
 mod desk;
 mod held;
 mod laws;
+mod refused;
+mod rows;
 mod verdict;
 mod wanted;
 
 pub use desk::Desk;
 pub use laws::{is_cold_alone, refuses_alike, shows_again, shows_fresh};
+pub use refused::Refused;
 pub use verdict::Verdict;
 
 #[cfg(test)]
