@@ -1,7 +1,8 @@
 -- The rows of one session, and what may follow them.
 use Rattle.std.proofs.Common.{◌≡◌, ℕ, ◌+◌, ◌<◌, ◌≤◌, Bool, true, false, ◌&&◌, ◌||◌, ◌==◌, not, nat_le, cond, List, [], ◌∷◌, ◌++◌, length, Option, Some, None, IsSome, refl, sym, ap, subst, ◌∙◌, append_assoc, arith}
 use Rattle.std.proofs.lemmas.Bool.Decides.{nat_tests}
-use Rattle.gate_journal.specs.Command.{IsCommand}
+use Rattle.std.proofs.lemmas.List.{length-append}
+use Rattle.gate_journal.specs.Command.{IsBudget, IsCommand}
 use Rattle.gate_journal.specs.Log.{next_row}
 use Rattle.gate_journal.specs.Rows.{commands_of, is_free, is_close, may_follow, EachNext, IsJournal, IsNext, MayStand}
 use Rattle.gate_journal.specs.declared.command.Command.{Command}
@@ -9,6 +10,8 @@ use Rattle.gate_journal.specs.declared.command.Command.TheVariants as commands
 use Rattle.gate_journal.specs.declared.row.Row.{Row}
 use Rattle.line_words.specs.declared.request.Request.{Request}
 use Rattle.line_words.specs.declared.request.Request.TheVariants.{Open, Line, Char, File, Last, Close}
+use Rattle.line_words.specs.Spelling.{IsRequest}
+use Rattle.line_words.proofs.RequestLaws.{request_only}
 use Rattle.story_run.specs.declared.story.Story.{Story}
 use Rattle.session_core.specs.History.{game_of, count, goes_on, has_key, is_in_use, is_open, story_at}
 use Rattle.session_core.specs.Checks.{command_of, is_fresh, opened}
@@ -17,7 +20,9 @@ use Rattle.session_core.proofs.RepeatLemmas.{all_fail, known, joined, game_of-ap
 use Rattle.session_desk.specs.declared.verdict.Verdict.TheVariants.{Fresh}
 use Rattle.session_desk.specs.Desk.{DeskState, game}
 use Rattle.session_desk.specs.Verdict.{verdict}
+use Rattle.session_core.specs.Sessions.{with_budget}
 use Rattle.session_desk.specs.Commit.{HasDigest, IsInRange}
+use Rattle.session_desk.specs.Laws.{JournalsFit, ReadsInRange}
 use Rattle.session_desk.proofs.LawLemmas.{Accepts}
 
 -- ---- the rows of a session, with one row more
@@ -109,24 +114,24 @@ agrees rows s journal = agree-all s [] rows journal refl
 
 -- ---- a fresh command may follow
 
-opens : (found : Option Story) (key : List ℕ) (story seed cols rows budget : ℕ) (c : Command)
+pub opens : (found : Option Story) (key : List ℕ) (story seed cols rows budget : ℕ) (c : Command)
     → opened found (λ digest. commands.Open key story digest seed cols rows budget) ≡ Some c → (digest : List ℕ) × (c ≡ commands.Open key story digest seed cols rows budget)
 opens None key story seed cols rows budget c e = absurd cc
 opens (Some there) key story seed cols rows budget c e = (there.digest, sym (some_is _ c e))
 
-knows : (far key used : Bool) → (far || not (key && (used || false))) ≡ false → used ≡ true
+pub knows : (far key used : Bool) → (far || not (key && (used || false))) ≡ false → used ≡ true
 knows true key used e = absurd cc
 knows false true true e = refl
 knows false true false e = absurd cc
 knows false false used e = absurd cc
 
-closes : (far key used again : Bool) → (far || not (key && (used || again))) ≡ false → again ≡ false → used ≡ true
+pub closes : (far key used again : Bool) → (far || not (key && (used || again))) ≡ false → again ≡ false → used ≡ true
 closes true key used again e a = absurd cc
 closes false true true again e a = refl
 closes false true false again e a = absurd cc
 closes false false used again e a = absurd cc
 
-not_last : (n c : ℕ) → (n == c + 1) ≡ true → (n == c) ≡ false
+pub not_last : (n c : ℕ) → (n == c + 1) ≡ true → (n == c) ≡ false
 not_last n c e = grind (arith, nat_tests, e)
 
 -- a session in use isn't free
@@ -182,3 +187,45 @@ in_range stories (Char s key n win code) c range e digest = subst (λ (x : Comma
 in_range stories (File s key n name) c range e digest = subst (λ (x : Command). IsCommand x) (some_is _ c e) range
 in_range stories (Last s key) c range e digest = absurd cc
 in_range stories (Close s key n) c range e digest = subst (λ (x : Command). IsCommand x) (some_is _ c e) tt
+
+digest_range : (request : Request) (budget : ℕ) → IsRequest request → IsBudget budget → IsInRange (with_budget budget request)
+digest_range (Open s key story seed cols rows budget) b r is = λ digest e. (r.0.1, r.1, e, r.2, r.3, r.4, r.5, r.6, is)
+digest_range (Line s key n win text term) b r is = (r.1, r.3, r.2)
+digest_range (Char s key n win code) b r is = (r.1, r.2)
+digest_range (File s key n name) b r is = r.1
+digest_range (Last s key) b r is = tt
+digest_range (Close s key n) b r is = tt
+
+as_read : (request : Request) → IsRequest request → with_budget 50000000 request ≡ request
+as_read (Open s key story seed cols rows budget) r = ap (λ (b : ℕ). Open s key story seed cols rows b) (sym r.7)
+as_read (Line s key n win text term) r = refl
+as_read (Char s key n win code) r = refl
+as_read (File s key n name) r = refl
+as_read (Last s key) r = refl
+as_read (Close s key n) r = refl
+
+pub read_in_range : ReadsInRange
+read_in_range line request budget e is =
+    let spelled = (request_only line request e).1.0 in
+    let own : IsBudget 50000000 = (omega arith, omega arith) in
+    (subst (λ (r : Request). IsInRange r) (as_read request spelled) (digest_range request 50000000 spelled own), digest_range request budget spelled is)
+
+-- ---- the rows of a session are not too many
+
+fits-if : (own : Bool) (xs : List Command) (c : Command) → (own ≡ true → length xs < 8192) → length xs ≤ 8192 → length (cond own (xs ++ c ∷ []) xs) ≤ 8192
+fits-if true xs c fewer le = let lt = fewer refl in omega (arith, length-append xs (c ∷ []), lt)
+fits-if false xs c fewer le = le
+
+fits-next : (rows : List Row) (r : Row) (s : ℕ) → IsNext rows r → length (commands_of rows s) ≤ 8192 → length (commands_of (rows ++ r ∷ []) s) ≤ 8192
+fits-next rows r s next le =
+    rw (commands_of-append rows r s)
+    (fits-if (r.session == s) (commands_of rows s) r.command
+    (λ (e : (r.session == s) ≡ true). subst (λ (n : ℕ). length (commands_of rows n) < 8192) (same_session r.session s e) next.stands.fewer) le)
+
+fits-all : (s : ℕ) (rows more : List Row) → EachNext rows more → length (commands_of rows s) ≤ 8192 → length (commands_of (rows ++ more) s) ≤ 8192
+fits-all s rows [] each le = rw (append_nil rows) le
+fits-all s rows (r ∷ more) each le =
+    subst (λ (x : List Row). length (commands_of x s) ≤ 8192) (append_assoc rows (r ∷ []) more) (fits-all s (rows ++ r ∷ []) more each.1 (fits-next rows r s each.0 le))
+
+pub journal_fits : JournalsFit
+journal_fits rows s journal = fits-all s [] rows journal (omega arith)

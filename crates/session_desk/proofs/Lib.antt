@@ -2,3 +2,4 @@ pub mod VerdictLemmas
 pub mod LawLemmas
 pub mod HeldLemmas
 pub mod JournalLemmas
+pub mod RunLemmas

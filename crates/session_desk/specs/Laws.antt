@@ -1,6 +1,10 @@
 -- A desk answers as a session that is played from the start (own).
-use Rattle.std.specs.Prelude.{◌≡◌, true, Option, Some, None}
+use Rattle.std.specs.Prelude.{◌≡◌, ℕ, ◌≤◌, true, List, length, Option, Some, None}
+use Rattle.gate_journal.specs.Command.{IsBudget}
+use Rattle.gate_journal.specs.Rows.{commands_of, IsJournal}
 use Rattle.gate_journal.specs.declared.command.Command.{Command}
+use Rattle.gate_journal.specs.declared.row.Row.{Row}
+use Rattle.line_words.specs.Request.{request_of}
 use Rattle.line_words.specs.declared.request.Request.{Request}
 use Rattle.line_words.specs.declared.reply.No.{No}
 use Rattle.line_words.specs.declared.reply.Reply.TheVariants as replies
@@ -8,6 +12,8 @@ use Rattle.story_run.specs.declared.story.Story.{Story}
 use Rattle.session_core.specs.declared.decision.Decision.{Decision}
 use Rattle.session_core.specs.Checks.{command_of}
 use Rattle.session_core.specs.Answer.{answer}
+use Rattle.session_core.specs.Sessions.{with_budget}
+use Rattle.session_desk.specs.Commit.{IsInRange}
 use Rattle.session_desk.specs.declared.verdict.Verdict.{Verdict}
 use Rattle.session_desk.specs.declared.verdict.Verdict.TheVariants.{Refuse, Again, Fresh, Cold}
 use Rattle.session_desk.specs.Desk.{DeskState, committed, shown_to}
@@ -49,3 +55,16 @@ IsColdAlone =
     (desk : DeskState) (request : Request)
     → (verdict desk request ≡ Cold → lacks_world desk request ≡ true)
     × (lacks_world desk request ≡ true → verdict desk request ≡ Cold)
+
+-- A journal has at most 8,192 rows of each session, as many as a desk takes.
+abbrev pub JournalsFit : Type 0
+JournalsFit =
+    (rows : List Row) (session : ℕ)
+    → IsJournal rows → length (commands_of rows session) ≤ 8192
+
+-- What a line spells may be committed, with the budget that it is read with or that of a host.
+abbrev pub ReadsInRange : Type 0
+ReadsInRange =
+    (line : List ℕ) (request : Request) (budget : ℕ)
+    → request_of line ≡ Some request → IsBudget budget
+    → IsInRange request × IsInRange (with_budget budget request)

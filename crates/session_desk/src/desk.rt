@@ -12,7 +12,7 @@ ghost use Rattle.session_core.specs.Turns.{turns_of};
 ghost use Rattle.session_desk.specs.Desk.{game, is_cold, is_to_run, last_show, warmed, emptied};
 ghost use Rattle.session_desk.specs.Desk.{opened};
 ghost use Rattle.session_desk.specs.Verdict.{verdict};
-ghost use Rattle.session_desk.specs.declared.verdict.Verdict.TheVariants.{Fresh};
+ghost use Rattle.session_desk.specs.declared.verdict.Verdict.TheVariants.{Fresh, Cold};
 ghost use Rattle.session_desk.specs.Commit.{Commits, IsInRange, IsKept, Leaves, Stops};
 ghost use Rattle.session_desk.specs.Commit.{UnlessNoMemory};
 
@@ -102,6 +102,7 @@ impl<'i> Desk<'i> {
     /// What the request will be answered. It takes no memory.
     pub fn check(&self, request: &Request) -> Verdict
         ensures value { result ≡ verdict self.now request.now }
+        ensures cold { result ≡ Cold → IsTrue (is_cold self.now) }
     {
         let commands = self.commands.as_slice();
         if let Some(why) = plain_refusal(self.stories, game_of(commands), request) {
@@ -141,6 +142,8 @@ impl<'i> Desk<'i> {
 
         ensures ok { OnOk result
             (Commits request.now self.old journal.old self.new journal.new) }
+        ensures runs { OnOk result
+            (IsTrue (is_to_run self.new.held (last_of (game self.new)))) }
         ensures err { OnErr result (self.new ≡ self.old) }
         ensures cause { IfErr result (λ why.
             Leaves D.faults self.old.session journal.old journal.new why) }

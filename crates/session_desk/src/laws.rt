@@ -1,6 +1,7 @@
 //! Laws of desks (own).
 
 ghost use Rattle.session_desk.specs.Laws.{RefusesAlike, ShowsAgain, ShowsFresh, IsColdAlone};
+ghost use Rattle.session_desk.specs.Laws.{JournalsFit, ReadsInRange};
 
 /// A desk refuses what its session, played from the start, refuses, for the same cause.
 pub fn refuses_alike()
@@ -21,4 +22,14 @@ pub fn shows_fresh()
 /// A desk is cold to a request exactly where the answer needs the world and it isn't held.
 pub fn is_cold_alone()
     ensures { IsColdAlone }
+{}
+
+/// A journal has at most 8,192 rows of each session, as many as a desk takes.
+pub fn journals_fit()
+    ensures { JournalsFit }
+{}
+
+/// What a line spells may be committed, with the budget that it is read with or that of a host.
+pub fn reads_in_range()
+    ensures { ReadsInRange }
 {}

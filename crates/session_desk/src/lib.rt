@@ -12,7 +12,9 @@ mod verdict;
 mod wanted;
 
 pub use desk::Desk;
-pub use laws::{is_cold_alone, refuses_alike, shows_again, shows_fresh};
+pub use laws::{
+    is_cold_alone, journals_fit, reads_in_range, refuses_alike, shows_again, shows_fresh,
+};
 pub use refused::Refused;
 pub use verdict::Verdict;
 

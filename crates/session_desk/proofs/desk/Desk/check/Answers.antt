@@ -5,8 +5,8 @@ use Rattle.session_desk.specs.Desk.{DeskState}
 use Rattle.session_desk.proofs.VerdictLemmas.{plain-told}
 use Rattle.session_desk.proofs.desk.Desk.check.Goals as goal
 
-pub returns-in-Some : goal.returns-in-Some
-returns-in-Some c =
+pub returns-in-Some-clause-value : goal.returns-in-Some-clause-value
+returns-in-Some-clause-value c =
     let desk : DeskState = record {
       session = c.self.inside.session;
       stories = c.self.inside.stories.now;
@@ -15,4 +15,7 @@ returns-in-Some c =
       held = c.self.inside.held;
     } in
     let refused : first_of (plain_checks c.self.inside.stories.now (game_of c.self.inside.commands.items) c.args.request.now) ≡ Some c.in-Some.why = cc in
-    rw (← c.self.view_is) (record { value = plain-told desk c.args.request.now c.in-Some.why refused })
+    rw (← c.self.view_is) (plain-told desk c.args.request.now c.in-Some.why refused)
+
+pub returns-in-Some-clause-cold : goal.returns-in-Some-clause-cold
+returns-in-Some-clause-cold c = λ e. absurd cc

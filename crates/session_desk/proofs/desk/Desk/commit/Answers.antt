@@ -7,6 +7,7 @@ use Rattle.session_desk.specs.Verdict.{verdict}
 use Rattle.session_desk.proofs.LawLemmas.{accepts}
 use Rattle.session_desk.proofs.HeldLemmas.{is_desk-committed}
 use Rattle.session_desk.proofs.JournalLemmas.{kept-more, may_stand}
+use Rattle.session_desk.proofs.RunLemmas.{to_run}
 use Rattle.session_desk.proofs.desk.Desk.commit.Goals as goal
 
 pub asked-requires-clause-some : goal.asked-requires-clause-some
@@ -62,3 +63,18 @@ returns-in-Ok-write_down-clause-rows g c =
     let more : c.take_down.new.commands.items ≡ c.self.inside.commands.items ++ c.in-Ok.command ∷ [] = cc in
     rw (c.in-Ok-write_down.ensures.rows, more)
     (kept-more (rows_of c.args.journal.now.entries) c.self.inside.session c.in-Ok.command c.self.inside.commands.items kept)
+
+pub returns-in-Ok-write_down-clause-runs : goal.returns-in-Ok-write_down-clause-runs
+returns-in-Ok-write_down-clause-runs g c =
+    let desk : DeskState = record {
+      session = c.self.inside.session;
+      stories = c.self.inside.stories.now;
+      budget = c.self.inside.budget;
+      commands = c.self.inside.commands.items;
+      held = c.self.inside.held;
+    } in
+    let fresh : verdict desk c.args.request.now ≡ Fresh =
+    subst (λ (d : DeskState). verdict d c.args.request.now ≡ Fresh) (sym c.self.view_is) c.requires.fresh in
+    let accepted = accepts desk c.args.request.now fresh in
+    let more : c.take_down.new.commands.items ≡ c.self.inside.commands.items ++ c.in-Ok.command ∷ [] = cc in
+    rw (more, c.take_down.ensures.held) (to_run desk c.args.request.now c.in-Ok.command fresh accepted c.in-Ok.ensures.value)
