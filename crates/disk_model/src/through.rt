@@ -13,6 +13,7 @@ pub fn write_through<D: Disk>(disk: &mut D, place: u64, piece: &[u8]) -> Result<
     ensures fits { OnOk result (place + length piece.now ≤ D.room disk.old) }
     ensures works { IsTrue (D.steady disk.old)
         → place + length piece.now ≤ D.room disk.old → IsOk result }
+    ensures steady { IsTrue (D.steady disk.old) → IsTrue (D.steady disk.new) }
     ensures cause { Counts result (D.faults disk.old) (D.faults disk.new) }
     ensures crash { IsTrue (D.tells disk.old)
         → LeavesOnly D.moment D.left_since disk.old disk.new

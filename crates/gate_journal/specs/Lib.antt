@@ -1,1 +1,10 @@
 pub mod Command
+pub mod Rows
+pub mod Payload
+pub mod Seats
+pub mod Parsing
+pub mod Gate
+pub mod Log
+pub mod History
+pub mod Faults
+pub mod Laws

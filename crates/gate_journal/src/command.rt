@@ -1,8 +1,10 @@
 //! Commands (own).
 
-ghost use Rattle.std.specs.Prelude.{◌≡◌, IfOk};
+ghost use Rattle.std.specs.Prelude.{◌≡◌, ◌↔◌, ◌+◌, ◌≤◌, IfOk, IsTrue, length};
+ghost use Rattle.gate_journal.specs.Command.{IsCommand, IsBudget};
+ghost use Rattle.gate_journal.specs.Rows.{is_open, is_close, kind_of, payload_of};
 
-use line_words::Key;
+use line_words::{Key, is_code, is_key, is_terminator};
 use std::alloc::{AllocError, Global};
 use story_text::Text;
 
@@ -39,7 +41,79 @@ pub enum Command {
     Close,
 }
 
+/// The greatest budget of a turn, in ticks.
+const MAX_BUDGET: u64 = 1_000_000_000_000;
+
 impl Command {
+    /// Whether its fields are in the ranges of a journal's rows.
+    pub fn is_in_range(&self) -> bool
+        ensures { IsTrue result ↔ IsCommand self.now }
+    {
+        match self {
+            Command::Open {
+                key,
+                cols,
+                rows,
+                budget,
+                ..
+            } => {
+                is_key(key.as_slice())
+                    && 1 <= *cols
+                    && 1 <= *rows
+                    && 1 <= *budget
+                    && *budget <= MAX_BUDGET
+            }
+            Command::Line { term, text, .. } => {
+                (*term == 0 || is_terminator(*term)) && text.is_short()
+            }
+            Command::Char { code, .. } => is_code(*code),
+            Command::File { name } => name.is_short(),
+            Command::Close => true,
+        }
+    }
+
+    /// Whether it opens a session.
+    pub fn is_open(&self) -> bool
+        ensures { result ≡ is_open self.now }
+    {
+        matches!(self, Command::Open { .. })
+    }
+
+    /// Whether it closes a session.
+    pub fn is_close(&self) -> bool
+        ensures { result ≡ is_close self.now }
+    {
+        matches!(self, Command::Close)
+    }
+
+    /// The number of its kind.
+    pub(crate) fn kind(&self) -> u8
+        ensures { result ≡ kind_of self.now }
+    {
+        match self {
+            Command::Open { .. } => 1,
+            Command::Line { .. } => 2,
+            Command::Char { .. } => 3,
+            Command::File { .. } => 4,
+            Command::Close => 5,
+        }
+    }
+
+    /// How many bytes a row carries of it.
+    pub(crate) fn payload_len(&self) -> usize
+        requires { IsCommand self.now }
+        ensures value { result ≡ length (payload_of self.now) }
+        ensures within { result ≤ 4104 }
+    {
+        match self {
+            Command::Open { key, .. } => 53 + key.as_slice().len(),
+            Command::Line { text, .. } => 8 + text.as_utf8().len(),
+            Command::Char { .. } => 8,
+            Command::File { name } => name.as_utf8().len(),
+            Command::Close => 0,
+        }
+    }
+
     /// An equal command; an error where memory runs out.
     pub fn copy_of(&self, alloc: Global) -> Result<Command, AllocError>
         ensures { IfOk result (λ command. command ≡ self.now) }

@@ -1,9 +1,30 @@
-//! The commands that a session accepts.
+//! The journal that keeps each accepted command on a disk, through any stop.
 #![tactic(auto)]
 
+mod begin;
 mod command;
+mod entry;
+mod fault;
+mod gate;
+mod history;
+mod journal;
+mod laws;
+mod load;
+mod mark;
+mod parse;
+mod payload;
+mod room;
+mod row;
+mod seats;
+mod settle;
 
+pub use begin::init;
 pub use command::Command;
+pub use entry::Entry;
+pub use fault::{DiskFault, InitFault, JournalFault};
+pub use journal::Journal;
+pub use laws::{has_one_corrupt_place, spells_one_list, spells_or_is_corrupt};
+pub use row::Row;
 
 #[cfg(test)]
 mod tests;

@@ -86,13 +86,15 @@ pub fn text_at(alloc: Global, bytes: &[u8]) -> Result<(Text, &[u8]), LineFault>
     Ok((read_escaped(alloc, word)?, rest))
 }
 
-fn is_terminator(code: u32) -> bool
+/// Whether the code is a terminator key: Escape, or Func1 to Func12.
+pub fn is_terminator(code: u32) -> bool
     ensures { result ≡ is_terminator code }
 {
     matches!(code, 0xFFFF_FFE4..=0xFFFF_FFEF | 0xFFFF_FFF8)
 }
 
-fn is_code(code: u32) -> bool
+/// Whether the code is a Unicode scalar value or a keycode.
+pub fn is_code(code: u32) -> bool
     ensures { result ≡ is_code code }
 {
     char::from_u32(code).is_some()

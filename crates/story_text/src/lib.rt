@@ -11,7 +11,7 @@ mod write;
 pub use bytes::Bytes;
 pub use fault::TextFault;
 pub use laws::{reads_each_spelling, reads_spellings_only, reads_visible_only, round_trip};
-pub use read::read_escaped;
+pub use read::{read_escaped, text_of_bytes};
 pub use text::{Text, to_utf8};
 pub use write::write_escaped;
 

@@ -74,7 +74,8 @@ fn count_chars(text: &str) -> usize
     text.chars().count()
 }
 
-fn is_short(text: &str) -> bool
+/// Whether a line may hold the text: at most 1,024 characters, none of them a control character.
+pub fn is_short(text: &str) -> bool
     ensures { result ≡ is_short (chars text.now) }
 {
     count_chars(text) <= MAX_TEXT && are_allowed(text)
@@ -92,8 +93,9 @@ fn utf8_of(bytes: Vec<u8>) -> Option<String>
     }
 }
 
-/// The text of the bytes.
-fn text_of_bytes(bytes: Vec<u8>) -> Result<Text, TextFault>
+/// The text with these bytes as its UTF-8. `BadText` exactly where they are no UTF-8 of a text that a
+/// line may hold.
+pub fn text_of_bytes(bytes: Vec<u8>) -> Result<Text, TextFault>
     ensures { ReadsText (text_of_bytes bytes.items) result }
 {
     let Some(utf8) = utf8_of(bytes) else {

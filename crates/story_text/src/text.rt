@@ -3,7 +3,9 @@
 ghost use Rattle.std.specs.Prelude.{◌≡◌, List, ℕ, true, IfOk};
 ghost use Rattle.std.specs.Str.{chars, all_scalars, bytes_eq, encode_utf8_all};
 ghost use Rattle.std.specs.String.{string_bytes};
+ghost use Rattle.story_text.specs.Text.{is_short};
 
+use crate::read::is_short;
 use std::alloc::{AllocError, Global};
 use std::marker::Model;
 
@@ -40,6 +42,13 @@ impl Text {
         ensures scalars { all_scalars self.now ≡ true }
     {
         self.utf8.as_bytes()
+    }
+
+    /// Whether a line may hold it: at most 1,024 characters, none of them a control character.
+    pub fn is_short(&self) -> bool
+        ensures { result ≡ is_short self.now }
+    {
+        is_short(self.as_str())
     }
 
     /// Whether both have the same characters.

@@ -1,0 +1,21 @@
+-- What bytes spell, they spell alone (own).
+use Rattle.std.specs.Prelude.{◌≡◌, ℕ, List}
+use Rattle.gate_journal.specs.declared.row.Row.{Row}
+use Rattle.gate_journal.specs.Rows.{SpellsRows, IsCorrupt, HasNoHeader}
+
+-- bytes spell one list of rows
+abbrev pub SpellsOneList : Type 0
+SpellsOneList = (bytes : List ℕ) (some others : List Row) → SpellsRows bytes some
+    → SpellsRows bytes others → some ≡ others
+
+-- bytes that spell rows have no corrupt place
+abbrev pub IsNeverBoth : Type 0
+IsNeverBoth = (bytes : List ℕ) (rows : List Row) (place : ℕ) → SpellsRows bytes rows
+    → IsCorrupt bytes place → ⊥
+
+-- bytes have one corrupt place
+abbrev pub HasOnePlace : Type 0
+HasOnePlace = (bytes : List ℕ) (place other : ℕ) → IsCorrupt bytes place
+    → IsCorrupt bytes other → place ≡ other
+
+-- an image that an opening may meet is closed well, and spells the rows or one more

@@ -1,0 +1,125 @@
+-- Rows of a journal, as its bytes spell them (own: docs/FORMATS.md, "The journal").
+use Rattle.std.specs.Prelude.{◌≡◌, ◌≢◌, ◌⊎◌, ℕ, ◌+◌, ◌<◌, ◌≤◌, Bool, true, false}
+use Rattle.std.specs.Prelude.{not, if◌then◌else◌, ◌==◌, List, [], ◌∷◌, ◌++◌, length}
+use Rattle.std.specs.Prelude.{slice_index}
+use Rattle.std.specs.Int.{w16, w32, w64, to_be_bytes}
+use Rattle.std.specs.Str.{encode_utf8_all}
+use Rattle.disk_model.specs.Disk.{Holds}
+use Rattle.gate_journal.specs.declared.command.Command.{Command}
+use Rattle.gate_journal.specs.declared.command.Command.TheVariants.{Open, Line, Char, File, Close}
+use Rattle.gate_journal.specs.declared.row.Row.{Row}
+use Rattle.gate_journal.specs.Command.{IsCommand}
+
+-- what a journal begins with: STHJ, version 1, and eight zeros
+abbrev pub header : List ℕ
+header = 83 ∷ 84 ∷ 72 ∷ 74 ∷ 0 ∷ 0 ∷ 0 ∷ 1 ∷ 0 ∷ 0 ∷ 0 ∷ 0 ∷ 0 ∷ 0 ∷ 0 ∷ 0 ∷ []
+
+-- the number of a command's kind
+abbrev pub kind_of : Command → ℕ
+kind_of (Open key story digest seed cols rows budget) = 1
+kind_of (Line win term text) = 2
+kind_of (Char win code) = 3
+kind_of (File name) = 4
+kind_of Close = 5
+
+-- what a row carries of its command, numbers big-endian and texts in UTF-8
+abbrev pub payload_of : Command → List ℕ
+payload_of (Open key story digest seed cols rows budget) =
+    length key ∷ key ++ (to_be_bytes w16 story ++ (digest ++ (to_be_bytes w64 seed
+    ++ (cols ∷ rows ∷ to_be_bytes w64 budget))))
+payload_of (Line win term text) =
+    to_be_bytes w32 win ++ (to_be_bytes w32 term ++ encode_utf8_all text)
+payload_of (Char win code) = to_be_bytes w32 win ++ to_be_bytes w32 code
+payload_of (File name) = encode_utf8_all name
+payload_of Close = []
+
+-- a row past its gate: the session, the kind, the payload's length, the payload
+abbrev pub body : Row → List ℕ
+body r =
+    r.session ∷ kind_of r.command
+    ∷ to_be_bytes w16 (length (payload_of r.command)) ++ payload_of r.command
+
+-- rows, each behind an open gate
+abbrev pub opened : List Row → List ℕ
+opened [] = []
+opened (r ∷ rows) = 1 ∷ body r ++ opened rows
+
+-- a journal of these rows, up to its closing gate
+abbrev pub spelled : List Row → List ℕ
+spelled rows = header ++ opened rows
+
+-- the commands of one session, in their order
+abbrev pub commands_of : List Row → ℕ → List Command
+commands_of [] session = []
+commands_of (r ∷ rows) session =
+    if r.session == session then r.command ∷ commands_of rows session
+    else commands_of rows session
+
+-- the command closes the session
+abbrev pub is_close : Command → Bool
+is_close Close = true
+is_close command = false
+
+-- the command opens the session
+abbrev pub is_open : Command → Bool
+is_open (Open key story digest seed cols rows budget) = true
+is_open command = false
+
+-- a session is free behind its commands: there is none, or the last one closed it
+abbrev pub is_free : List Command → Bool
+is_free [] = true
+is_free (command ∷ []) = is_close command
+is_free (command ∷ next ∷ more) = is_free (next ∷ more)
+
+-- an OPEN comes exactly where the session is free
+abbrev pub may_follow : List Command → Command → Bool
+may_follow commands command =
+    if is_open command then is_free commands else not (is_free commands)
+
+-- a row of this session with this command may stand behind these rows
+pub record MayStand (rows : List Row) (session : ℕ) (command : Command) : Type 0 where
+  pub below : session < 64
+  pub ranges : IsCommand command
+  pub follows : may_follow (commands_of rows session) command ≡ true
+  pub fewer : length (commands_of rows session) < 8192
+
+-- the row may stand next behind these; its number is that of its session and 1
+pub record IsNext (rows : List Row) (r : Row) : Type 0 where
+  pub place : r.place ≡ length (spelled rows)
+  pub by : r.by ≡ r.session + 1
+  pub stands : MayStand rows r.session r.command
+
+-- each of the later rows may stand behind all those before it
+abbrev pub EachNext : List Row → List Row → Type 0
+EachNext rows [] = Unit {0}
+EachNext rows (r ∷ more) = IsNext rows r × EachNext (rows ++ r ∷ []) more
+
+-- rows that a journal may have
+abbrev pub IsJournal : List Row → Type 0
+IsJournal rows = EachNext [] rows
+
+-- the bytes have the header, these rows behind open gates, and then a gate that isn't open; what
+-- follows it doesn't matter
+pub record SpellsRows (bytes : List ℕ) (rows : List Row) : Type 0 where
+  pub journal : IsJournal rows
+  pub front : Holds bytes 0 (spelled rows)
+  pub within : length (spelled rows) < length bytes
+  pub closed : slice_index bytes (length (spelled rows)) ≢ 1
+
+-- no row that may stand behind these stands past the gate at this place
+abbrev pub NoRowBehind : List ℕ → ℕ → List Row → Type 0
+NoRowBehind bytes place rows = (r : Row) → IsNext rows r → Holds bytes (place + 1) (body r) → ⊥
+
+-- The bytes have the header and these rows. At the place behind them a gate is missing, or it is
+-- open and no row that may stand there follows.
+pub record IsCorrupt (bytes : List ℕ) (place : ℕ) : Type 0 where
+  pub rows : List Row
+  pub journal : IsJournal rows
+  pub front : Holds bytes 0 (spelled rows)
+  pub behind : place ≡ length (spelled rows)
+  pub gate :
+      (length bytes ≤ place) ⊎ ((slice_index bytes place ≡ 1) × NoRowBehind bytes place rows)
+
+-- the first 16 bytes aren't the header
+abbrev pub HasNoHeader : List ℕ → Type 0
+HasNoHeader bytes = Holds bytes 0 header → ⊥

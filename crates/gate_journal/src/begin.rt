@@ -1,0 +1,42 @@
+//! A new journal (own).
+
+ghost use Rattle.std.specs.Prelude.{◌≡◌, ◌≤◌, ◌++◌, [], ◌∷◌, IsTrue, OnOk, IfErr, max};
+ghost use Rattle.std.specs.Prelude.{MatchResult};
+ghost use Rattle.disk_model.specs.Disk.{Only, SameDisk, LeavesOnly, AfterWrite};
+ghost use Rattle.gate_journal.specs.Rows.{header};
+ghost use Rattle.gate_journal.specs.Faults.{HasInitCause};
+
+use crate::fault::{DiskFault, InitFault};
+use disk_model::{Disk, write_through};
+
+const EMPTY: [u8; 17] = [83, 84, 72, 74, 0, 0, 0, 1, 0, 0, 0, 0, 0, 0, 0, 0, 0];
+
+/// Writes a journal without rows on an empty disk: the header and a zero byte as its closing gate.
+/// `NotEmpty` exactly where the disk's size isn't 0. Three device calls.
+pub fn init<D: Disk>(disk: &mut D) -> Result<(), InitFault>
+    // From then on a stop leaves the 17 bytes and nothing else.
+    ensures ok { OnOk result (IsTrue (D.tells disk.old)
+        → (D.seen disk.old ≡ []) × Only (header ++ 0 ∷ []) (D.may_leave disk.new)) }
+    ensures exact { MatchResult result (λ _. D.faults disk.new ≡ D.faults disk.old)
+        (λ e. HasInitCause (D.tells disk.old) (D.seen disk.old)
+        (D.faults disk.old) (D.faults disk.new) e) }
+    ensures kept { SameDisk D.tells D.room D.label disk.old disk.new }
+    ensures reach { D.reach disk.new ≤ max (D.reach disk.old) 17 }
+    ensures crash { IsTrue (D.tells disk.old)
+        → LeavesOnly D.moment D.left_since disk.old disk.new
+        (λ c. AfterWrite 0 17 (D.may_leave disk.old) c) }
+{
+    let from = disk.faults();
+    let Ok(size) = disk.size() else {
+        let to = disk.faults();
+        return Err(InitFault::DiskFault(DiskFault { from, to }));
+    };
+    if size != 0 {
+        return Err(InitFault::NotEmpty);
+    }
+    let Ok(()) = write_through(disk, 0, &EMPTY) else {
+        let to = disk.faults();
+        return Err(InitFault::DiskFault(DiskFault { from, to }));
+    };
+    Ok(())
+}

@@ -1,0 +1,244 @@
+//! The journal (own).
+
+ghost use Rattle.std.specs.Prelude.{◌≡◌, ◌⊎◌, ◌+◌, ◌≤◌, ◌++◌, [], ◌∷◌, ◌↔◌, List, true};
+ghost use Rattle.std.specs.Prelude.{IsTrue, IsOk, IfOk, IfErr, OnOk, MatchOption, MatchResult};
+ghost use Rattle.std.specs.Prelude.{Some, None, length, max, slice_get, slice_index};
+ghost use Rattle.disk_model.specs.Disk.{EachImage, LeavesOnly, SameDisk};
+ghost use Rattle.gate_journal.specs.Rows.{spelled, IsJournal, MayStand, SpellsRows};
+ghost use Rattle.gate_journal.specs.Faults.{Explains, IsFault, HasCause};
+ghost use Rattle.gate_journal.specs.declared.row.Row.{Row};
+ghost use Rattle.gate_journal.specs.declared.entry.Entry.TheVariants.{Kept, Faulted};
+
+use crate::command::Command;
+use crate::fault::{DiskFault, JournalFault};
+use crate::gate::{RowFault, write_row};
+use crate::history::History;
+use crate::load::load;
+use crate::parse::Parsed;
+use crate::room::Room;
+use crate::row::Row;
+use crate::settle::settle;
+use disk_model::Disk;
+use std::alloc::{AllocError, Global};
+use std::marker::Model;
+
+/// Rows on a disk, each of them there through any stop once its append has answered Ok.
+#[derive(Drop)]
+pub struct Journal<D: Disk> {
+    disk: D,
+    history: History,
+    end: u64,
+    uncertain: Option<Row>,
+    since: u64,
+    room: Option<Room>,
+}
+
+impl<D: Disk> Model for Journal<D> {
+    ghost use Rattle.std.specs.Prelude.{is_some, ◌&&◌};
+    ghost use Rattle.gate_journal.specs.Log.{Log, IsSound};
+
+    ghost Value = { Log D };
+
+    ghost view = { λ j. record {
+      disk = j.disk;
+      entries = j.history.list;
+      uncertain = j.uncertain;
+      since = j.since;
+      ready = is_some j.room && j.history.room;
+    } };
+
+    ghost invariant = { λ j. IsSound D.tells D.may_leave D.room D.faults
+        (record {
+          disk = j.disk;
+          entries = j.history.list;
+          uncertain = j.uncertain;
+          since = j.since;
+          ready = is_some j.room && j.history.room;
+        })
+        j.end };
+}
+
+impl<D: Disk> Journal<D> {
+    ghost use Rattle.gate_journal.specs.Log.{rows_of, kept, Rises, SameLog, next_row, end_of};
+    ghost use Rattle.gate_journal.specs.Log.{MaySpell, MayOpen, Meanwhile};
+
+    /// The journal of a disk, with the rows that its bytes spell. It syncs first. A refusal hands
+    /// the disk back.
+    pub fn open(alloc: Global, disk: D) -> Result<Journal<D>, (JournalFault, D)>
+        ensures ok { IfOk result (λ j. IsTrue (D.tells disk)
+            → SpellsRows (D.seen disk) (rows_of j.entries)) }
+        ensures fresh { IfOk result (λ j. (j.entries ≡ kept (rows_of j.entries))
+            × (j.uncertain ≡ None) × (j.since ≡ D.faults disk)) }
+        ensures exact { IfErr result (λ e. IsTrue (D.tells disk)
+            → Explains (D.seen disk) e.0) }
+        ensures cause { MatchResult result (λ j. D.faults j.disk ≡ D.faults disk)
+            (λ e. HasCause (D.faults disk) (D.faults e.1) e.0) }
+
+        ensures steady { IsTrue (D.steady disk) → MatchResult result
+            (λ j. IsTrue (D.steady j.disk)) (λ e. IsTrue (D.steady e.1)) }
+        ensures kept { MatchResult result
+            (λ j. SameDisk D.tells D.room D.label disk j.disk)
+            (λ e. SameDisk D.tells D.room D.label disk e.1) }
+
+        // Whatever rows the images spell, or these and one more, they spell so meanwhile.
+        ensures crash { (rows : List Row) → IsJournal rows
+            → EachImage D.tells D.may_leave disk (MayOpen rows)
+            → IsTrue (D.tells disk)
+            → MatchResult result
+            (λ j. LeavesOnly D.moment D.left_since disk j.disk (MayOpen rows))
+            (λ e. LeavesOnly D.moment D.left_since disk e.1 (MayOpen rows)) }
+        ensures reach { MatchResult result
+            (λ j. D.reach j.disk ≤ max (D.reach disk) (D.room disk))
+            (λ e. D.reach e.1 ≤ max (D.reach disk) (D.room disk)) }
+        ensures told_reach { IsTrue (D.tells disk) → MatchResult result
+            (λ j. D.reach j.disk ≤ max (D.reach disk) (length (D.seen disk)))
+            (λ e. D.reach e.1 ≤ max (D.reach disk) (length (D.seen disk))) }
+        // A closing gate that is 0 is left alone.
+        ensures untouched { IfOk result (λ j. IsTrue (D.tells disk)
+            → slice_index (D.seen disk) (length (spelled (rows_of j.entries))) ≡ 0
+            → D.reach j.disk ≡ D.reach disk) }
+    {
+        let mut disk = disk;
+        let from = disk.faults();
+        let Parsed { rows, end } = match load(alloc, &mut disk) {
+            Ok(parsed) => parsed,
+            Err(fault) => return Err((fault, disk)),
+        };
+        let Ok(history) = History::of(alloc, rows) else {
+            return Err((JournalFault::NoMemory, disk));
+        };
+        Ok(Journal {
+            disk,
+            history,
+            end,
+            uncertain: None,
+            since: from,
+            room: None,
+        })
+    }
+
+    /// Takes the memory of one append: for its row, its entry and the row's bytes.
+    pub fn reserve(&mut self, alloc: Global) -> Result<(), AllocError>
+        ensures ok { OnOk result (self.new.ready ≡ true) }
+        ensures kept { SameLog self.old self.new }
+    {
+        self.history.reserve()?;
+        if self.room.is_none() {
+            self.room = Some(Room::new(alloc)?);
+        }
+        Ok(())
+    }
+
+    /// Whether `append` may be asked for this: the session is below 64 and has fewer than 8,192
+    /// rows, the command's fields are in their ranges, and it is an OPEN exactly where the session
+    /// is free. It looks at all rows.
+    pub fn may_append(&self, session: u8, command: &Command) -> bool
+        ensures { IsTrue result ↔ MayStand (rows_of self.now.entries) session command.now }
+    {
+        self.history.may_stand(session, command)
+    }
+
+    /// Writes a row with an equal command behind the last one, and takes no memory. Where a gate is
+    /// uncertain it closes that first. It answers the place of the row's gate.
+    pub fn append(&mut self, session: u8, command: &Command) -> Result<u64, DiskFault>
+        requires ready { self.old.ready ≡ true }
+        requires stands { MayStand (rows_of self.old.entries) session command.now }
+
+        // From then on each image spells the row: it is an entry, and no gate is uncertain.
+        ensures ok { IfOk result (λ place.
+            (place ≡ length (spelled (rows_of self.old.entries)))
+            × (self.new.entries ≡ self.old.entries
+            ++ Kept (next_row (rows_of self.old.entries) session command.now) ∷ [])
+            × (self.new.uncertain ≡ None)) }
+        ensures works { IsTrue (D.steady self.old.disk)
+            → (end_of (next_row (rows_of self.old.entries) session command.now)
+            ≤ D.room self.old.disk → IsOk result)
+            × IsTrue (D.steady self.new.disk) }
+
+        // The gate was left as it was, or closed, or had its write begun.
+        ensures err { IfErr result (λ e.
+            (self.new.entries
+            ≡ self.old.entries ++ Faulted (session + 1) e.from e.to ∷ [])
+            × ((self.new.uncertain ≡ self.old.uncertain)
+            ⊎ (self.new.uncertain ≡ None)
+            ⊎ (self.new.uncertain
+            ≡ Some (next_row (rows_of self.old.entries) session command.now)))) }
+        ensures cause { MatchResult result
+            (λ _. D.faults self.new.disk ≡ D.faults self.old.disk)
+            (λ e. IsFault e (D.faults self.old.disk) (D.faults self.new.disk)) }
+
+        ensures rows { MatchResult result
+            (λ _. rows_of self.new.entries ≡ rows_of self.old.entries
+            ++ next_row (rows_of self.old.entries) session command.now ∷ [])
+            (λ _. rows_of self.new.entries ≡ rows_of self.old.entries) }
+        ensures kept { SameDisk D.tells D.room D.label self.old.disk self.new.disk
+            × (self.new.since ≡ self.old.since) }
+
+        // Meanwhile an image spells the rows from before alone, or these and the uncertain one, or
+        // these and the new one.
+        ensures crash { IsTrue (D.tells self.old.disk)
+            → LeavesOnly D.moment D.left_since self.old.disk self.new.disk
+            (Meanwhile (rows_of self.old.entries) self.old.uncertain
+            (next_row (rows_of self.old.entries) session command.now)) }
+        ensures reach { D.reach self.new.disk ≤ max (D.reach self.old.disk)
+            (end_of (next_row (rows_of self.old.entries) session command.now)) }
+    {
+        let from = self.disk.faults();
+        let by = u64::from(session) + 1;
+        let (row, past) = self.room.take().unwrap().fill(self.end, session, command);
+        let Ok(()) = settle(&mut self.disk, &mut self.uncertain, self.end) else {
+            let to = self.disk.faults();
+            return Err(self.history.note_fault(by, from, to));
+        };
+        match write_row(&mut self.disk, self.end, &past) {
+            Ok(()) => {
+                let place = self.end;
+                self.end += past.len() as u64;
+                self.history.note_row(row);
+                Ok(place)
+            }
+            Err(RowFault::Before) => {
+                let to = self.disk.faults();
+                Err(self.history.note_fault(by, from, to))
+            }
+            Err(RowFault::AtGate) => {
+                self.uncertain = Some(row);
+                let to = self.disk.faults();
+                Err(self.history.note_fault(by, from, to))
+            }
+        }
+    }
+
+    /// How many rows there are. With it comes what holds of every journal.
+    pub fn row_count(&self) -> u64
+        ensures value { result ≡ length (rows_of self.now.entries) }
+        ensures journal { IsJournal (rows_of self.now.entries) }
+        ensures rises { Rises self.now.since self.now.entries (D.faults self.now.disk) }
+        ensures images { EachImage D.tells D.may_leave self.now.disk
+            (MaySpell (rows_of self.now.entries) self.now.uncertain) }
+        ensures opens { EachImage D.tells D.may_leave self.now.disk
+            (MayOpen (rows_of self.now.entries)) }
+    {
+        self.history.row_count()
+    }
+
+    /// The row of this index, counted from 0; None exactly past the end.
+    pub fn row(&self, index: u64) -> Option<&Row>
+        ensures { MatchOption result (slice_get (rows_of self.now.entries) index ≡ None)
+            (λ row. slice_get (rows_of self.now.entries) index ≡ Some row.now) }
+    {
+        self.history.row(index)
+    }
+
+    /// Its disk, which may be opened again.
+    pub fn into_disk(self) -> D
+        ensures value { result ≡ self.disk }
+        ensures journal { IsJournal (rows_of self.entries) }
+        ensures images { EachImage D.tells D.may_leave result
+            (MaySpell (rows_of self.entries) self.uncertain) }
+        ensures opens { EachImage D.tells D.may_leave result (MayOpen (rows_of self.entries)) }
+    {
+        let Journal { disk, .. } = self;
+        disk
+    }
+}

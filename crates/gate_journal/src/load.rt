@@ -1,0 +1,94 @@
+//! The device calls of an opening (own).
+
+ghost use Rattle.std.specs.Prelude.{◌≡◌, ◌<◌, ◌≤◌, List, IsTrue, IfOk, IfErr, OnOk};
+ghost use Rattle.std.specs.Prelude.{length, max, slice_index};
+ghost use Rattle.disk_model.specs.Disk.{EachImage, LeavesOnly, NoneNew, SameDisk};
+ghost use Rattle.gate_journal.specs.Faults.{Explains, IsOfDisk, IsFault, CountsOpening};
+ghost use Rattle.gate_journal.specs.Gate.{IsShut};
+ghost use Rattle.gate_journal.specs.Rows.{spelled, SpellsRows, IsJournal};
+ghost use Rattle.gate_journal.specs.Log.{MayOpen};
+ghost use Rattle.gate_journal.specs.declared.row.Row.{Row};
+ghost use Rattle.gate_journal.specs.declared.fault.JournalFault.TheVariants.{DiskFault as on_disk};
+
+use crate::fault::{DiskFault, JournalFault};
+use crate::parse::{Parsed, parse};
+use disk_model::{Disk, write_through};
+use std::alloc::Global;
+
+// The disk failed; its count was this before.
+fn disk_fault<D: Disk>(disk: &D, from: u64) -> JournalFault
+    ensures { result ≡ on_disk (record { from = from; to = D.faults disk.now }) }
+{
+    JournalFault::DiskFault(DiskFault {
+        from,
+        to: disk.faults(),
+    })
+}
+
+/// All bytes: two device calls.
+fn read_all<D: Disk>(alloc: Global, disk: &mut D) -> Result<Vec<u8>, JournalFault>
+    ensures ok { IfOk result (λ v. IsTrue (D.tells disk.old) → v.items ≡ D.seen disk.old) }
+    ensures within { IfOk result (λ v. length v.items ≤ D.room disk.old) }
+    ensures err { IfErr result IsOfDisk }
+    ensures steady { IsTrue (D.steady disk.old) → IsTrue (D.steady disk.new) }
+    ensures cause { CountsOpening result (D.faults disk.old) (D.faults disk.new) }
+    ensures seen { OnOk result (IsTrue (D.tells disk.old) → D.seen disk.new ≡ D.seen disk.old) }
+    ensures images { IsTrue (D.tells disk.old)
+        → NoneNew (D.may_leave disk.old) (D.may_leave disk.new) }
+    ensures crash { IsTrue (D.tells disk.old)
+        → LeavesOnly D.moment D.left_since disk.old disk.new (D.may_leave disk.old) }
+    ensures reach { D.reach disk.new ≡ D.reach disk.old }
+    ensures kept { SameDisk D.tells D.room D.label disk.old disk.new }
+{
+    let from = disk.faults();
+    let Ok(size) = disk.size() else {
+        return Err(disk_fault(disk, from));
+    };
+    let mut bytes = vec![in alloc; 0; size as usize]?;
+    let Ok(()) = disk.read_at(0, bytes.as_mut_slice()) else {
+        return Err(disk_fault(disk, from));
+    };
+    Ok(bytes)
+}
+
+/// The rows of a journal, its closing gate closed: a sync, a size and a read; where the gate isn't
+/// 0 a write and a sync more.
+pub fn load<D: Disk>(alloc: Global, disk: &mut D) -> Result<Parsed, JournalFault>
+    ensures ok { IfOk result (λ p. IsTrue (D.tells disk.old)
+        → SpellsRows (D.seen disk.old) p.rows.items) }
+    ensures journal { IfOk result (λ p. IsJournal p.rows.items
+        × (p.end ≡ length (spelled p.rows.items))
+        × (p.end < D.room disk.old)) }
+    ensures shut { IfOk result (λ p.
+        EachImage D.tells D.may_leave disk.new (IsShut (spelled p.rows.items))) }
+    ensures exact { IfErr result (λ e. IsTrue (D.tells disk.old)
+        → Explains (D.seen disk.old) e) }
+    ensures steady { IsTrue (D.steady disk.old) → IsTrue (D.steady disk.new) }
+    ensures cause { CountsOpening result (D.faults disk.old) (D.faults disk.new) }
+    // Whatever rows the images spell, or these and one more, they spell so meanwhile.
+    ensures crash { (rows : List Row) → IsJournal rows
+        → EachImage D.tells D.may_leave disk.old (MayOpen rows)
+        → IsTrue (D.tells disk.old)
+        → LeavesOnly D.moment D.left_since disk.old disk.new (MayOpen rows) }
+    ensures reach { D.reach disk.new ≤ max (D.reach disk.old) (D.room disk.old) }
+    ensures told_reach { IsTrue (D.tells disk.old)
+        → D.reach disk.new ≤ max (D.reach disk.old) (length (D.seen disk.old)) }
+    // A gate that is 0 is left alone.
+    ensures untouched { IfOk result (λ p. IsTrue (D.tells disk.old)
+        → slice_index (D.seen disk.old) p.end ≡ 0 → D.reach disk.new ≡ D.reach disk.old) }
+    ensures kept { SameDisk D.tells D.room D.label disk.old disk.new }
+{
+    let from = disk.faults();
+    let Ok(()) = disk.sync() else {
+        return Err(disk_fault(disk, from));
+    };
+    let bytes = read_all(alloc, disk)?;
+    let parsed = parse(alloc, &bytes)?;
+    if bytes[parsed.end as usize] == 0 {
+        return Ok(parsed);
+    }
+    let Ok(()) = write_through(disk, parsed.end, &[0]) else {
+        return Err(disk_fault(disk, from));
+    };
+    Ok(parsed)
+}

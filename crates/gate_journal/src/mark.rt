@@ -1,0 +1,8 @@
+//! Where the rows of a journal stand among its faults (own).
+
+/// A row, the next one in their list, or a fault.
+#[derive(Drop)]
+pub enum Mark {
+    Row,
+    Fault { by: u64, from: u64, to: u64 },
+}

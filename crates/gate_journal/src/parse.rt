@@ -1,0 +1,89 @@
+//! The rows that bytes spell (own).
+
+ghost use Rattle.std.specs.Prelude.{◌≡◌, ◌+◌, ◌≤◌, ◌++◌, List, ℕ, IfOk, IfErr, MatchOption};
+ghost use Rattle.std.specs.Prelude.{length, drop};
+ghost use Rattle.gate_journal.specs.Rows.{spelled, SpellsRows};
+ghost use Rattle.gate_journal.specs.Parsing.{IsFirst, IsNoNext};
+ghost use Rattle.gate_journal.specs.Seats.{Counts};
+ghost use Rattle.gate_journal.specs.Faults.{Refuses};
+ghost use Rattle.gate_journal.specs.declared.row.Row.{Row};
+
+use crate::fault::JournalFault;
+use crate::payload::read_command;
+use crate::row::Row;
+use crate::seats::Seats;
+use std::alloc::{AllocError, Global};
+
+const HEADER: [u8; 16] = [83, 84, 72, 74, 0, 0, 0, 1, 0, 0, 0, 0, 0, 0, 0, 0];
+
+/// Rows, and the place of the closing gate behind them.
+#[derive(Drop)]
+pub struct Parsed {
+    pub rows: Vec<Row>,
+    pub end: u64,
+}
+
+// The row past an open gate at this place, where one stands there that may.
+fn next_row(
+    alloc: Global,
+    seats: &Seats,
+    place: u64,
+    past: &[u8],
+) -> Result<Option<Row>, AllocError>
+    ensures { IfOk result (λ o. (rows : List Row)
+        → Counts rows seats.now.counts seats.now.uses
+        → place ≡ length (spelled rows)
+        → MatchOption o (IsNoNext rows past.now) (IsFirst rows past.now)) }
+{
+    let [session, kind, high, low, rest @ ..] = past else {
+        return Ok(None);
+    };
+    let size = 256 * usize::from(*high) + usize::from(*low);
+    if size > rest.len() {
+        return Ok(None);
+    }
+    let Some(command) = read_command(alloc, *kind, &rest[..size])? else {
+        return Ok(None);
+    };
+    if !seats.may_stand(*session, &command) {
+        return Ok(None);
+    }
+    Ok(Some(Row {
+        place,
+        session: *session,
+        by: u64::from(*session) + 1,
+        command,
+    }))
+}
+
+/// The rows, and the place of the closing gate.
+pub fn parse(alloc: Global, bytes: &[u8]) -> Result<Parsed, JournalFault>
+    ensures ok { IfOk result (λ p. SpellsRows bytes.now p.rows.items
+        × (p.end ≡ length (spelled p.rows.items))) }
+    ensures exact { IfErr result (Refuses bytes.now) }
+{
+    if !bytes.starts_with(&HEADER) {
+        return Err(JournalFault::NotJournal);
+    }
+    let mut rows = Vec::new(alloc);
+    let mut seats = Seats::new();
+    let mut place: usize = 16;
+    let mut rest = &bytes[16..];
+    while let [gate, past @ ..] = rest {
+        if *gate != 1 {
+            return Ok(Parsed {
+                rows,
+                end: place as u64,
+            });
+        }
+        let Some(row) = next_row(alloc, &seats, place as u64, past)? else {
+            return Err(JournalFault::Corrupt(place as u64));
+        };
+        seats.count(row.session, &row.command);
+        let size = 5 + row.command.payload_len();
+        place += size;
+        rest = &rest[size..];
+        rows.push(row)?;
+    }
+    Err(JournalFault::Corrupt(place as u64))
+}
