@@ -1,5 +1,7 @@
 -- Instructions whose loads leave the machine as it is.
-use Rattle.std.proofs.Common.{◌≡◌, refl, sym, ◌∙◌, ap, ℕ, ◌+◌, ◌%◌, ◌/◌, List, [], ◌∷◌, Result, Ok, Err, Option, Some, replicate, take, subst}
+use Rattle.std.proofs.Common.{◌≡◌, refl, sym, ◌∙◌, ap, ℕ, ◌+◌, ◌%◌, ◌/◌, List, [], ◌∷◌, Result, Ok, Err, IfOk, Option, Some, IfSome, replicate, take, subst}
+use Rattle.std.specs.Result.{result_ok}
+use native.Mathlib.Omega.{arith}
 use Rattle.vm_memory.specs.Access.{read}
 use Rattle.vm_operand.specs.Brief.{OpcodeAt, dest_by, instr_of, load_by, operands_from}
 use Rattle.vm_operand.specs.Instruction.{instruction_at}
@@ -20,6 +22,19 @@ use Rattle.vm_exec.specs.Rules.{loaded, loaded_all}
 use Rattle.vm_exec.specs.declared.machine.Machine.{Machine}
 use Rattle.vm_exec.specs.declared.quick.Quick.{Quick}
 use Rattle.vm_exec.proofs.Told.{fetched_is}
+
+-- what is said of a call's value is so of the value that its `ok` has
+pub if_kept : {T E : Type 0} → (r : Result T E) (x : T) (P : T → Type 0) → IfOk r P → Some x ≡ result_ok r → P x
+if_kept (Ok y) x P said kept = subst (λ o. IfSome o P) (sym kept) said
+if_kept (Err y) x P said kept = subst (λ o. IfSome o P) (sym kept) said
+
+was : {T E : Type 0} → (r : Result T E) (x : T) → Some x ≡ result_ok r → r ≡ Ok x
+was (Ok y) x kept = grind (arith, kept)
+was (Err y) x kept = absurd (grind (arith, kept))
+
+-- where a call's `ok` has a value, so had what the call is said to be
+pub was_kept : {T E : Type 0} → {r said : Result T E} → {x : T} → r ≡ said → Some x ≡ result_ok r → said ≡ Ok x
+was_kept {r = r} {x = x} is kept = sym is ∙ was r x kept
 
 -- an instruction in brief with its loads taken
 brief_fetched : (m : Machine) (p : ℕ) (ks : List Kind) (b : Brief) (args : List ℕ) → OpcodeAt m.memory m.pc b.op p

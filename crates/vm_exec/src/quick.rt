@@ -1,7 +1,8 @@
-//! The most common instructions, whose loads leave the machine as it is.
+//! The most common instructions, whose loads leave the machine as it is. `None` leaves the step to
+//! the body below.
 
 ghost use Rattle.std.specs.Prelude.{◌≡◌, ◌≤◌, ◌<◌, ◌+◌, [], ◌∷◌, IfOk};
-ghost use Rattle.std.specs.Prelude.{Ok, Some};
+ghost use Rattle.std.specs.Prelude.{IfSome, Ok, Some};
 ghost use Rattle.vm_exec.specs.Answer.{Does};
 ghost use Rattle.vm_exec.specs.Machine.{GoesOnFit, IsFit};
 ghost use Rattle.vm_exec.specs.Quick.{IsFetched};
@@ -16,15 +17,11 @@ ghost use Rattle.vm_operand.specs.declared.operand.Kind.TheVariants as kind;
 
 use crate::Machine;
 use crate::step::Step;
-use crate::trap::of_stack;
 use std::alloc::Global;
 use vm_memory::Trap;
 use vm_operand::{
     Array, Branch, Dest, Load, Math, Move, Op, byte_constant, byte_local, dest_by, load_by,
 };
-
-/// What can't be done here; the answer is another body's.
-const NOT_QUICK: Trap = Trap::Fault(0);
 
 /// The values of an instruction's loads, where it stores, and the next address.
 #[derive(Clone, Copy, Debug, PartialEq, Eq)]
@@ -88,57 +85,57 @@ impl<'i> Machine<'i> {
         &mut self,
         alloc: Global,
         op: Op,
-        quick: Result<Quick, Trap>,
+        quick: Option<Quick>,
         left: u64,
     ) -> Result<Step, Trap>
         requires left { 0 < left }
-        requires here { IfOk quick (λ q. IsFetched self.old op q) }
+        requires here { IfSome quick (λ q. IsFetched self.old op q) }
         ensures does { Does (told left (charged (fetched self.old))) self.new result }
         ensures fit { IsFit self.old → IfOk result (λ step. GoesOnFit self.new step) }
         ensures cost { IfOk result (λ step. IsPriced left step) }
     {
         match quick {
-            Ok(quick) => {
+            Some(quick) => {
                 self.pc = quick.next;
                 let args = [quick.first, quick.second, quick.third, 0, 0, 0, 0, 0];
                 self.run(alloc, Some(op), &args, &[quick.to, Dest::Discard], left)
             }
-            Err(_) => self.in_brief(alloc, left),
+            None => self.in_brief(alloc, left),
         }
     }
 
     #[inline(always)]
-    fn quick_math(&self, math: Math, place: u32) -> Result<Quick, Trap>
+    fn quick_math(&self, math: Math, place: u32) -> Option<Quick>
         requires here { OpcodeAt self.now.memory self.now.pc (op.Math math) place }
         requires within { place ≤ 16777216 }
-        ensures { IfOk result (λ quick. IsFetched self.now (op.Math math) quick) }
+        ensures { IfSome result (λ quick. IsFetched self.now (op.Math math) quick) }
     {
         if math.is_binary() {
             self.two_and_store(Op::Math(math), place)
         } else {
-            Err(NOT_QUICK)
+            None
         }
     }
 
     #[inline(always)]
-    fn quick_branch(&self, branch: Branch, place: u32) -> Result<Quick, Trap>
+    fn quick_branch(&self, branch: Branch, place: u32) -> Option<Quick>
         requires here { OpcodeAt self.now.memory self.now.pc (op.Branch branch) place }
         requires within { place ≤ 16777216 }
-        ensures { IfOk result (λ quick. IsFetched self.now (op.Branch branch) quick) }
+        ensures { IfSome result (λ quick. IsFetched self.now (op.Branch branch) quick) }
     {
         match branch.loads() {
             1 => self.one(Op::Branch(branch), place),
             2 => self.two(Op::Branch(branch), place),
             3 => self.three(Op::Branch(branch), place),
-            _ => Err(NOT_QUICK),
+            _ => None,
         }
     }
 
     #[inline(always)]
-    fn quick_array(&self, array: Array, place: u32) -> Result<Quick, Trap>
+    fn quick_array(&self, array: Array, place: u32) -> Option<Quick>
         requires here { OpcodeAt self.now.memory self.now.pc (op.Array array) place }
         requires within { place ≤ 16777216 }
-        ensures { IfOk result (λ quick. IsFetched self.now (op.Array array) quick) }
+        ensures { IfSome result (λ quick. IsFetched self.now (op.Array array) quick) }
     {
         if array.reads() {
             self.two_and_store(Op::Array(array), place)
@@ -149,10 +146,10 @@ impl<'i> Machine<'i> {
 
     // A load by the number of its mode, with its value where it isn't from the stack.
     #[inline(always)]
-    fn taken(&self, number: u32, at: u32) -> Result<Taken, Trap>
-        ensures load { IfOk result (λ x.
+    fn taken(&self, number: u32, at: u32) -> Option<Taken>
+        ensures load { IfSome result (λ x.
             brief.load_by self.now.memory number at ≡ Ok (x.load, x.next)) }
-        ensures value { IfOk result (λ x. loaded 4 self.now x.load ≡ Ok (self.now, x.value)) }
+        ensures value { IfSome result (λ x. loaded 4 self.now x.load ≡ Ok (self.now, x.value)) }
     {
         match number {
             1 => self.taken_constant(at),
@@ -162,13 +159,13 @@ impl<'i> Machine<'i> {
     }
 
     #[inline(always)]
-    fn taken_constant(&self, at: u32) -> Result<Taken, Trap>
-        ensures load { IfOk result (λ x.
+    fn taken_constant(&self, at: u32) -> Option<Taken>
+        ensures load { IfSome result (λ x.
             brief.load_by self.now.memory 1 at ≡ Ok (x.load, x.next)) }
-        ensures value { IfOk result (λ x. loaded 4 self.now x.load ≡ Ok (self.now, x.value)) }
+        ensures value { IfSome result (λ x. loaded 4 self.now x.load ≡ Ok (self.now, x.value)) }
     {
-        let value = byte_constant(&self.memory, at)?;
-        Ok(Taken {
+        let value = byte_constant(&self.memory, at).ok()?;
+        Some(Taken {
             load: Load::Value(value),
             value,
             next: at + 1,
@@ -176,62 +173,60 @@ impl<'i> Machine<'i> {
     }
 
     #[inline(always)]
-    fn taken_local(&self, at: u32) -> Result<Taken, Trap>
-        ensures load { IfOk result (λ x.
+    fn taken_local(&self, at: u32) -> Option<Taken>
+        ensures load { IfSome result (λ x.
             brief.load_by self.now.memory 9 at ≡ Ok (x.load, x.next)) }
-        ensures value { IfOk result (λ x. loaded 4 self.now x.load ≡ Ok (self.now, x.value)) }
+        ensures value { IfSome result (λ x. loaded 4 self.now x.load ≡ Ok (self.now, x.value)) }
     {
-        let offset = byte_local(&self.memory, at)?;
-        match self.stack.local(offset, 4) {
-            Ok(value) => Ok(Taken {
-                load: Load::Local(offset),
-                value,
-                next: at + 1,
-            }),
-            Err(fault) => Err(of_stack(fault)),
-        }
+        let offset = byte_local(&self.memory, at).ok()?;
+        let value = self.stack.local(offset, 4).ok()?;
+        Some(Taken {
+            load: Load::Local(offset),
+            value,
+            next: at + 1,
+        })
     }
 
     // A load of any mode.
     #[inline(never)]
-    fn taken_by(&self, number: u32, at: u32) -> Result<Taken, Trap>
-        ensures load { IfOk result (λ x.
+    fn taken_by(&self, number: u32, at: u32) -> Option<Taken>
+        ensures load { IfSome result (λ x.
             brief.load_by self.now.memory number at ≡ Ok (x.load, x.next)) }
-        ensures value { IfOk result (λ x. loaded 4 self.now x.load ≡ Ok (self.now, x.value)) }
+        ensures value { IfSome result (λ x. loaded 4 self.now x.load ≡ Ok (self.now, x.value)) }
     {
-        let (load, next) = load_by(&self.memory, number, at)?;
+        let (load, next) = load_by(&self.memory, number, at).ok()?;
         let value = self.value(load)?;
-        Ok(Taken { load, value, next })
+        Some(Taken { load, value, next })
     }
 
     // The value of a load that isn't from the stack.
     #[inline(always)]
-    fn value(&self, from: Load) -> Result<u32, Trap>
-        ensures { IfOk result (λ x. loaded 4 self.now from ≡ Ok (self.now, x)) }
+    fn value(&self, from: Load) -> Option<u32>
+        ensures { IfSome result (λ x. loaded 4 self.now from ≡ Ok (self.now, x)) }
     {
         match from {
-            Load::Value(value) => Ok(value),
-            Load::At(at) => Ok(self.memory.read4(at)?),
-            Load::Local(offset) => self.stack.local(offset, 4).map_err(of_stack),
-            Load::Pop => Err(NOT_QUICK),
+            Load::Value(value) => Some(value),
+            Load::At(at) => self.memory.read4(at).ok(),
+            Load::Local(offset) => self.stack.local(offset, 4).ok(),
+            Load::Pop => None,
         }
     }
 
     // Two loads and a store.
     #[inline(always)]
-    fn two_and_store(&self, op: Op, place: u32) -> Result<Quick, Trap>
+    fn two_and_store(&self, op: Op, place: u32) -> Option<Quick>
         requires here { OpcodeAt self.now.memory self.now.pc op place }
         requires kinds { kinds_of op ≡ kind.Load ∷ kind.Load ∷ kind.Store ∷ [] }
         requires within { place ≤ 16777216 }
         requires words { row.width_of (Some op) ≡ 4 }
-        ensures { IfOk result (λ quick. IsFetched self.now op quick) }
+        ensures { IfSome result (λ quick. IsFetched self.now op quick) }
     {
-        let modes = self.memory.read1(place)?;
-        let more = self.memory.read1(place + 1)?;
+        let modes = self.memory.read1(place).ok()?;
+        let more = self.memory.read1(place + 1).ok()?;
         let first = self.taken(modes % 16, place + 2)?;
         let second = self.taken(modes / 16, first.next)?;
-        let (to, next) = dest_by(&self.memory, more % 16, second.next)?;
-        Ok(Quick {
+        let (to, next) = dest_by(&self.memory, more % 16, second.next).ok()?;
+        Some(Quick {
             first: first.value,
             second: second.value,
             third: 0,
@@ -242,17 +237,17 @@ impl<'i> Machine<'i> {
 
     // Two loads.
     #[inline(always)]
-    fn two(&self, op: Op, place: u32) -> Result<Quick, Trap>
+    fn two(&self, op: Op, place: u32) -> Option<Quick>
         requires here { OpcodeAt self.now.memory self.now.pc op place }
         requires kinds { kinds_of op ≡ kind.Load ∷ kind.Load ∷ [] }
         requires within { place ≤ 16777216 }
         requires words { row.width_of (Some op) ≡ 4 }
-        ensures { IfOk result (λ quick. IsFetched self.now op quick) }
+        ensures { IfSome result (λ quick. IsFetched self.now op quick) }
     {
-        let modes = self.memory.read1(place)?;
+        let modes = self.memory.read1(place).ok()?;
         let first = self.taken(modes % 16, place + 1)?;
         let second = self.taken(modes / 16, first.next)?;
-        Ok(Quick {
+        Some(Quick {
             first: first.value,
             second: second.value,
             third: 0,
@@ -263,19 +258,19 @@ impl<'i> Machine<'i> {
 
     // Three loads.
     #[inline(always)]
-    fn three(&self, op: Op, place: u32) -> Result<Quick, Trap>
+    fn three(&self, op: Op, place: u32) -> Option<Quick>
         requires here { OpcodeAt self.now.memory self.now.pc op place }
         requires kinds { kinds_of op ≡ kind.Load ∷ kind.Load ∷ kind.Load ∷ [] }
         requires within { place ≤ 16777216 }
         requires words { row.width_of (Some op) ≡ 4 }
-        ensures { IfOk result (λ quick. IsFetched self.now op quick) }
+        ensures { IfSome result (λ quick. IsFetched self.now op quick) }
     {
-        let modes = self.memory.read1(place)?;
-        let more = self.memory.read1(place + 1)?;
+        let modes = self.memory.read1(place).ok()?;
+        let more = self.memory.read1(place + 1).ok()?;
         let first = self.taken(modes % 16, place + 2)?;
         let second = self.taken(modes / 16, first.next)?;
         let third = self.taken(more % 16, second.next)?;
-        Ok(Quick {
+        Some(Quick {
             first: first.value,
             second: second.value,
             third: third.value,
@@ -286,17 +281,17 @@ impl<'i> Machine<'i> {
 
     // One load and a store.
     #[inline(always)]
-    fn one_and_store(&self, op: Op, place: u32) -> Result<Quick, Trap>
+    fn one_and_store(&self, op: Op, place: u32) -> Option<Quick>
         requires here { OpcodeAt self.now.memory self.now.pc op place }
         requires kinds { kinds_of op ≡ kind.Load ∷ kind.Store ∷ [] }
         requires within { place ≤ 16777216 }
         requires words { row.width_of (Some op) ≡ 4 }
-        ensures { IfOk result (λ quick. IsFetched self.now op quick) }
+        ensures { IfSome result (λ quick. IsFetched self.now op quick) }
     {
-        let modes = self.memory.read1(place)?;
+        let modes = self.memory.read1(place).ok()?;
         let first = self.taken(modes % 16, place + 1)?;
-        let (to, next) = dest_by(&self.memory, modes / 16, first.next)?;
-        Ok(Quick {
+        let (to, next) = dest_by(&self.memory, modes / 16, first.next).ok()?;
+        Some(Quick {
             first: first.value,
             second: 0,
             third: 0,
@@ -307,16 +302,16 @@ impl<'i> Machine<'i> {
 
     // One load.
     #[inline(always)]
-    fn one(&self, op: Op, place: u32) -> Result<Quick, Trap>
+    fn one(&self, op: Op, place: u32) -> Option<Quick>
         requires here { OpcodeAt self.now.memory self.now.pc op place }
         requires kinds { kinds_of op ≡ kind.Load ∷ [] }
         requires within { place ≤ 16777216 }
         requires words { row.width_of (Some op) ≡ 4 }
-        ensures { IfOk result (λ quick. IsFetched self.now op quick) }
+        ensures { IfSome result (λ quick. IsFetched self.now op quick) }
     {
-        let modes = self.memory.read1(place)?;
+        let modes = self.memory.read1(place).ok()?;
         let first = self.taken(modes % 16, place + 1)?;
-        Ok(Quick {
+        Some(Quick {
             first: first.value,
             second: 0,
             third: 0,

@@ -1,0 +1,68 @@
+-- What each script is, whatever its words (own).
+use Rattle.std.specs.Prelude.{◌≡◌, ℕ, ◌+◌, ◌-◌, ◌^◌, ◌<◌, ◌≤◌}
+use Rattle.std.specs.Prelude.{◌⊎◌, ◌==◌, if◌then◌else◌, List, []}
+use Rattle.std.specs.Prelude.{◌∷◌, ◌++◌, length, map, slice_index, codes, Some}
+use Rattle.std.specs.List.{All}
+use Rattle.rand_pcg.specs.Lcg.{advance}
+use Rattle.rand_pcg.specs.Pcg.{multiplier_64, output_xsh_rr}
+use Rattle.line_words.specs.declared.request.Request.{Request}
+use Rattle.line_words.specs.Request.{request_of}
+use Rattle.story_make.specs.Script.{generator, opening, typed, words_of, requests}
+use Rattle.story_make.specs.Script.{script_bytes}
+
+-- the lines of bytes without their LF, where these bytes stand before: bytes behind the last LF
+-- are no line
+abbrev pub cut : List ℕ → List ℕ → List (List ℕ)
+cut before [] = []
+cut before (byte ∷ bytes) =
+    if byte == 10 then before ∷ cut [] bytes else cut (before ++ byte ∷ []) bytes
+
+-- the bytes of a script, cut into lines, are read as its requests, one by one
+abbrev pub IsReadAsRequests : Type 0
+IsReadAsRequests =
+    (number s turns : ℕ) → number < 2 ^ 64 → s < 2 ^ 8 → turns < 2 ^ 32 - 1
+    → map request_of (cut [] (script_bytes number s turns))
+    ≡ map (λ request. Some request) (requests number s turns)
+
+-- a script has a line that opens its session, and one for each turn
+abbrev pub HasALineEachTurn : Type 0
+HasALineEachTurn =
+    (number s turns : ℕ) → length (requests number s turns) ≡ turns + 1
+
+-- word k of the generator, counted from 0: what it puts out after k steps
+abbrev pub word_at : ℕ → ℕ → ℕ → ℕ
+word_at number s k = output_xsh_rr (advance 64 multiplier_64 k (generator number s)).state
+
+-- the k-th turn takes the k-th word, both counted from 0
+abbrev pub TakesAWordATurn : Type 0
+TakesAWordATurn =
+    (number s turns k : ℕ)
+    → k < turns → slice_index (words_of number s turns) k ≡ word_at number s k
+
+-- a small letter
+abbrev pub IsLetter : ℕ → Type 0
+IsLetter c = (97 ≤ c) × (c ≤ 122)
+
+-- the next command after so many: a line of 1 to 19 small letters
+pub record IsNext (s sent : ℕ) (request : Request) : Type 0 where
+  pub text : List ℕ
+  pub letters : All IsLetter text
+  pub some : 1 ≤ length text
+  pub few : length text ≤ 19
+  pub is : request ≡ typed s (sent + 1) text
+
+-- after so many commands and this request, each request is the last one again, or one whose number
+-- leaves out the next command's, or the next command
+abbrev pub AskInOrder : ℕ → ℕ → Request → List Request → Type 0
+AskInOrder s sent last [] = Unit {0}
+AskInOrder s sent last (request ∷ more) =
+    ((request ≡ last) × AskInOrder s sent request more)
+    ⊎ ((request ≡ typed s (sent + 2) (codes "x")) × AskInOrder s sent request more)
+    ⊎ (IsNext s sent request × AskInOrder s (sent + 1) request more)
+
+-- the first request of a script opens its session, and the others follow in order
+abbrev pub AsksInOrder : Type 0
+AsksInOrder =
+    (number s turns : ℕ) → (more : List Request)
+    × (requests number s turns ≡ opening number s ∷ more)
+    × AskInOrder s 0 (opening number s) more

@@ -1,0 +1,4 @@
+pub mod Echo
+pub mod Script
+pub mod Lines
+pub mod Laws
