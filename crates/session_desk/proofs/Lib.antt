@@ -3,3 +3,4 @@ pub mod LawLemmas
 pub mod HeldLemmas
 pub mod JournalLemmas
 pub mod RunLemmas
+pub mod WarmLemmas

@@ -21,7 +21,7 @@ use Rattle.session_desk.proofs.JournalLemmas.{closes, knows, not_last, opens}
 
 -- ---- cold
 
-both_hold : (x y : Bool) → (x && y) ≡ true → (x ≡ true) × (y ≡ true)
+pub both_hold : (x y : Bool) → (x && y) ≡ true → (x ≡ true) × (y ≡ true)
 both_hold true true e = (refl, refl)
 both_hold true false e = absurd cc
 both_hold false y e = absurd cc

@@ -1,5 +1,5 @@
 -- A desk answers as a session that is played from the start (own).
-use Rattle.std.specs.Prelude.{◌≡◌, ℕ, ◌≤◌, true, List, length, Option, Some, None}
+use Rattle.std.specs.Prelude.{◌≡◌, ℕ, ◌≤◌, true, false, List, length, Option, Some, None}
 use Rattle.gate_journal.specs.Command.{IsBudget}
 use Rattle.gate_journal.specs.Rows.{commands_of, IsJournal}
 use Rattle.gate_journal.specs.declared.command.Command.{Command}
@@ -16,7 +16,7 @@ use Rattle.session_core.specs.Sessions.{with_budget}
 use Rattle.session_desk.specs.Commit.{IsInRange}
 use Rattle.session_desk.specs.declared.verdict.Verdict.{Verdict}
 use Rattle.session_desk.specs.declared.verdict.Verdict.TheVariants.{Refuse, Again, Fresh, Cold}
-use Rattle.session_desk.specs.Desk.{DeskState, committed, shown_to}
+use Rattle.session_desk.specs.Desk.{DeskState, committed, is_cold, shown_to, warmed}
 use Rattle.session_desk.specs.Verdict.{lacks_world, verdict}
 
 -- what the session answers to a request, played from the start
@@ -55,6 +55,16 @@ IsColdAlone =
     (desk : DeskState) (request : Request)
     → (verdict desk request ≡ Cold → lacks_world desk request ≡ true)
     × (lacks_world desk request ≡ true → verdict desk request ≡ Cold)
+
+-- A desk that a request finds cold isn't cold once it was warmed; nor is one with a fresh request's
+-- command, once that was run.
+abbrev pub StaysWarm : Type 0
+StaysWarm =
+    (desk : DeskState) (request : Request)
+    → (verdict desk request ≡ Cold → is_cold (warmed desk) ≡ false)
+    × ((command : Command) → verdict desk request ≡ Fresh
+    → command_of desk.stories request ≡ Some command
+    → is_cold (warmed (committed desk command)) ≡ false)
 
 -- A journal has at most 8,192 rows of each session, as many as a desk takes.
 abbrev pub JournalsFit : Type 0

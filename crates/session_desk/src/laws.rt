@@ -1,7 +1,7 @@
 //! Laws of desks (own).
 
 ghost use Rattle.session_desk.specs.Laws.{RefusesAlike, ShowsAgain, ShowsFresh, IsColdAlone};
-ghost use Rattle.session_desk.specs.Laws.{JournalsFit, ReadsInRange};
+ghost use Rattle.session_desk.specs.Laws.{JournalsFit, ReadsInRange, StaysWarm};
 
 /// A desk refuses what its session, played from the start, refuses, for the same cause.
 pub fn refuses_alike()
@@ -22,6 +22,12 @@ pub fn shows_fresh()
 /// A desk is cold to a request exactly where the answer needs the world and it isn't held.
 pub fn is_cold_alone()
     ensures { IsColdAlone }
+{}
+
+/// A desk that a request finds cold isn't cold once it was warmed; nor is one with a fresh request's
+/// command, once that was run.
+pub fn stays_warm()
+    ensures { StaysWarm }
 {}
 
 /// A journal has at most 8,192 rows of each session, as many as a desk takes.

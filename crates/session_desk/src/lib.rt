@@ -14,6 +14,7 @@ mod wanted;
 pub use desk::Desk;
 pub use laws::{
     is_cold_alone, journals_fit, reads_in_range, refuses_alike, shows_again, shows_fresh,
+    stays_warm,
 };
 pub use refused::Refused;
 pub use verdict::Verdict;
