@@ -1,7 +1,7 @@
 -- What bytes spell, they spell alone (own).
 use Rattle.std.specs.Prelude.{◌≡◌, ℕ, List}
 use Rattle.gate_journal.specs.declared.row.Row.{Row}
-use Rattle.gate_journal.specs.Rows.{SpellsRows, IsCorrupt, HasNoHeader}
+use Rattle.gate_journal.specs.Rows.{SpellsRows, IsCorrupt}
 
 -- bytes spell one list of rows
 abbrev pub SpellsOneList : Type 0

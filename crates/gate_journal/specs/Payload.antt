@@ -1,10 +1,10 @@
 -- Which payload is a command's, and which command a payload's (own: docs/FORMATS.md, "The journal").
-use Rattle.std.specs.Prelude.{◌≡◌, ℕ, ◌+◌, ◌≤◌, List, [], ◌∷◌, ◌++◌, length, take, drop}
+use Rattle.std.specs.Prelude.{◌≡◌, ℕ, List, take, drop}
 use Rattle.std.specs.Prelude.{slice_index}
 use Rattle.std.specs.Str.{chars}
 use Rattle.byteorder.specs.Endian.{big_number}
 use Rattle.gate_journal.specs.declared.command.Command.{Command}
-use Rattle.gate_journal.specs.declared.command.Command.TheVariants.{Open, Line, Char, File, Close}
+use Rattle.gate_journal.specs.declared.command.Command.TheVariants.{Open, Line, Char, File}
 use Rattle.gate_journal.specs.Command.{IsCommand}
 use Rattle.gate_journal.specs.Rows.{kind_of, payload_of}
 

@@ -1,7 +1,9 @@
 //! Commands (own).
 
 ghost use Rattle.std.specs.Prelude.{◌≡◌, ◌↔◌, ◌+◌, ◌≤◌, IfOk, IsTrue, length};
-ghost use Rattle.gate_journal.specs.Command.{IsCommand, IsBudget};
+ghost use Rattle.story_text.specs.Text.{IsText};
+ghost use Rattle.gate_journal.specs.Command.{IsCommand};
+ghost use Rattle.gate_journal.specs.declared.command.Command.TheVariants as Command;
 ghost use Rattle.gate_journal.specs.Rows.{is_open, is_close, kind_of, payload_of};
 
 use line_words::{Key, is_code, is_key, is_terminator};
@@ -44,6 +46,39 @@ pub enum Command {
 /// The greatest budget of a turn, in ticks.
 const MAX_BUDGET: u64 = 1_000_000_000_000;
 
+fn is_open_in_range(
+    key: &Key,
+    story: u16,
+    digest: [u8; 32],
+    seed: u64,
+    cols: u8,
+    rows: u8,
+    budget: u64,
+) -> bool
+    ensures { IsTrue result ↔ IsCommand (Command.Open key.now story digest seed cols rows budget) }
+{
+    is_key(key.as_slice()) && cols > 0 && rows > 0 && budget > 0 && budget <= MAX_BUDGET
+}
+
+fn is_name(text: &Text) -> bool
+    ensures { IsTrue result ↔ IsText text.now }
+{
+    let _ = text.as_utf8();
+    text.is_short()
+}
+
+fn is_line_in_range(win: u32, term: u32, text: &Text) -> bool
+    ensures { IsTrue result ↔ IsCommand (Command.Line win term text.now) }
+{
+    (term == 0 || is_terminator(term)) && is_name(text)
+}
+
+fn is_char_in_range(win: u32, code: u32) -> bool
+    ensures { IsTrue result ↔ IsCommand (Command.Char win code) }
+{
+    is_code(code)
+}
+
 impl Command {
     /// Whether its fields are in the ranges of a journal's rows.
     pub fn is_in_range(&self) -> bool
@@ -52,22 +87,16 @@ impl Command {
         match self {
             Command::Open {
                 key,
+                story,
+                digest,
+                seed,
                 cols,
                 rows,
                 budget,
-                ..
-            } => {
-                is_key(key.as_slice())
-                    && 1 <= *cols
-                    && 1 <= *rows
-                    && 1 <= *budget
-                    && *budget <= MAX_BUDGET
-            }
-            Command::Line { term, text, .. } => {
-                (*term == 0 || is_terminator(*term)) && text.is_short()
-            }
-            Command::Char { code, .. } => is_code(*code),
-            Command::File { name } => name.is_short(),
+            } => is_open_in_range(key, *story, *digest, *seed, *cols, *rows, *budget),
+            Command::Line { win, term, text } => is_line_in_range(*win, *term, text),
+            Command::Char { win, code } => is_char_in_range(*win, *code),
+            Command::File { name } => is_name(name),
             Command::Close => true,
         }
     }

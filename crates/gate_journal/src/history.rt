@@ -37,6 +37,13 @@ impl Model for History {
     ghost invariant = { λ h. count_rows h.marks.items ≡ length h.rows.items };
 }
 
+fn row_at(rows: &[Row], index: u64) -> Option<&Row>
+    ensures { MatchOption result (slice_get rows.now index ≡ None)
+        (λ row. slice_get rows.now index ≡ Some row.now) }
+{
+    rows.get(index as usize)
+}
+
 impl History {
     ghost use Rattle.std.specs.Prelude.{true};
 
@@ -44,10 +51,7 @@ impl History {
     pub fn of(alloc: Global, rows: Vec<Row>) -> Result<History, AllocError>
         ensures { IfOk result (λ h. h.list ≡ kept rows.items) }
     {
-        let mut marks = Vec::new(alloc);
-        for _ in 0..rows.len() {
-            marks.push(Mark::Row)?;
-        }
+        let marks = vec![in alloc; Mark::Row; rows.len()]?;
         Ok(History { rows, marks })
     }
 
@@ -106,6 +110,6 @@ impl History {
         ensures { MatchOption result (slice_get (rows_of self.now.list) index ≡ None)
             (λ row. slice_get (rows_of self.now.list) index ≡ Some row.now) }
     {
-        self.rows.get(index as usize)
+        row_at(&self.rows, index)
     }
 }

@@ -17,7 +17,7 @@ use crate::load::load;
 use crate::parse::Parsed;
 use crate::room::Room;
 use crate::row::Row;
-use crate::settle::settle;
+use crate::settle::{let_go, note_uncertain, settle};
 use disk_model::Disk;
 use std::alloc::{AllocError, Global};
 use std::marker::Model;
@@ -187,6 +187,7 @@ impl<D: Disk> Journal<D> {
         let by = u64::from(session) + 1;
         let (row, past) = self.room.take().unwrap().fill(self.end, session, command);
         let Ok(()) = settle(&mut self.disk, &mut self.uncertain, self.end) else {
+            let_go(row);
             let to = self.disk.faults();
             return Err(self.history.note_fault(by, from, to));
         };
@@ -198,11 +199,12 @@ impl<D: Disk> Journal<D> {
                 Ok(place)
             }
             Err(RowFault::Before) => {
+                let_go(row);
                 let to = self.disk.faults();
                 Err(self.history.note_fault(by, from, to))
             }
             Err(RowFault::AtGate) => {
-                self.uncertain = Some(row);
+                note_uncertain(&mut self.uncertain, row);
                 let to = self.disk.faults();
                 Err(self.history.note_fault(by, from, to))
             }

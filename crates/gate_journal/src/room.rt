@@ -48,7 +48,8 @@ fn put(out: &mut Vec<u8>, piece: &[u8])
 }
 
 fn put_payload(out: &mut Vec<u8>, command: &Command)
-    requires { length out.old.items + length (payload_of command.now) ≤ vec_capacity out.old }
+    requires ranges { IsCommand command.now }
+    requires fits { length out.old.items + length (payload_of command.now) ≤ vec_capacity out.old }
     ensures value { out.new.items ≡ out.old.items ++ payload_of command.now }
     ensures kept { vec_capacity out.old ≤ vec_capacity out.new }
 {

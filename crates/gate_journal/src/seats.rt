@@ -9,12 +9,12 @@ use crate::command::Command;
 use crate::row::Row;
 
 /// The most rows of one session.
-const MAX_ROWS: u64 = 8192;
+const MAX_ROWS: u16 = 8192;
 
-/// Of each session the number of its rows, and whether it is in use: 1, or 0 where it is free.
+/// Of each session the number of its rows, up to 8,192, and whether it is in use: 1, or 0 where it is free.
 #[derive(Drop)]
 pub struct Seats {
-    pub counts: [u64; 64],
+    pub counts: [u16; 64],
     pub uses: [u8; 64],
 }
 
@@ -38,7 +38,9 @@ impl Seats {
             return false;
         }
         let at = usize::from(session);
-        self.counts[at] < MAX_ROWS && command.is_open() == (self.uses[at] == 0)
+        let free = self.uses[at] == 0;
+        let follows = if command.is_open() { free } else { !free };
+        follows && self.counts[at] < MAX_ROWS
     }
 
     /// Counts a row of this session with this command.
@@ -49,7 +51,7 @@ impl Seats {
             → Counts (rows ++ r ∷ []) self.new.counts self.new.uses }
     {
         let at = usize::from(session);
-        self.counts[at] = self.counts[at].saturating_add(1);
+        self.counts[at] = self.counts[at].saturating_add(1).min(MAX_ROWS);
         self.uses[at] = if command.is_close() { 0 } else { 1 };
     }
 }

@@ -1,7 +1,7 @@
 //! The repair of an uncertain gate (own).
 
 ghost use Rattle.std.specs.Prelude.{◌≡◌, ◌+◌, ◌≤◌, List, IsTrue, IsOk, OnOk, OnErr, None};
-ghost use Rattle.std.specs.Prelude.{length, max};
+ghost use Rattle.std.specs.Prelude.{length, max, Some};
 ghost use Rattle.disk_model.specs.Disk.{EachImage, LeavesOnly, Counts, SameDisk};
 ghost use Rattle.gate_journal.specs.Rows.{spelled};
 ghost use Rattle.gate_journal.specs.Log.{StandsAt};
@@ -36,3 +36,13 @@ pub fn settle<D: Disk>(disk: &mut D, uncertain: &mut Option<Row>, end: u64) -> R
     *uncertain = None;
     Ok(())
 }
+
+/// Of the gate nothing is known from now on; it stands before this row.
+pub fn note_uncertain(uncertain: &mut Option<Row>, row: Row)
+    ensures { uncertain.new ≡ Some row }
+{
+    *uncertain = Some(row);
+}
+
+/// The row isn't needed.
+pub fn let_go(_row: Row) {}

@@ -1,0 +1,9 @@
+pub mod LimitLemmas
+pub mod PayloadLemmas
+pub mod Steps
+pub mod RowLemmas
+pub mod LogLemmas
+pub mod Sound
+pub mod Opening
+pub mod SeatLemmas
+pub mod HistoryLemmas

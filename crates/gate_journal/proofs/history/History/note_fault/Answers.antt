@@ -1,0 +1,29 @@
+use Rattle.std.proofs.Common.{◌≡◌, ◌<◌, ◌++◌, ◌∷◌, [], true, ◌∙◌, ap, List, rules, vec_len, vec_capacity, arith}
+use Rattle.std.specs.Prelude.{nat_lt, ◌&&◌}
+use Rattle.std.proofs.lemmas.Bool.Decides.{nat_tests}
+use Rattle.gate_journal.specs.declared.mark.Mark.{Mark}
+use Rattle.gate_journal.specs.declared.mark.Mark.TheVariants as marks
+use Rattle.gate_journal.specs.declared.entry.Entry.TheVariants.{Faulted}
+use Rattle.gate_journal.specs.History.{Entries, woven, count_rows}
+use Rattle.gate_journal.proofs.HistoryLemmas.{count-fault, woven-fault}
+use Rattle.gate_journal.proofs.history.History.note_fault.Goals as goal
+
+pub invariant_of-self : goal.invariant_of-self
+invariant_of-self c =
+    let room : (nat_lt (vec_len c.self.inside.rows) (vec_capacity c.self.inside.rows) && nat_lt (vec_len c.self.inside.marks) (vec_capacity c.self.inside.marks)) ≡ true =
+    ap (λ (e : Entries). e.room) c.self.view_is ∙ c.requires in
+    let free : vec_len c.self.inside.marks < vec_capacity c.self.inside.marks = grind (arith, nat_tests, room) in
+    let fine = c.push.ensures.succeeds free in
+    let pushed : c.push.new.self.items ≡ c.self.inside.marks.items ++ marks.Fault c.args.by c.args.from c.args.to ∷ [] = search rules in
+    ap count_rows pushed ∙ count-fault c.self.inside.marks.items c.args.by c.args.from c.args.to ∙ c.self.invariant
+
+pub returns-clause-entry : goal.returns-clause-entry
+returns-clause-entry c =
+    let room : (nat_lt (vec_len c.self.inside.rows) (vec_capacity c.self.inside.rows) && nat_lt (vec_len c.self.inside.marks) (vec_capacity c.self.inside.marks)) ≡ true =
+    ap (λ (e : Entries). e.room) c.self.view_is ∙ c.requires in
+    let free : vec_len c.self.inside.marks < vec_capacity c.self.inside.marks = grind (arith, nat_tests, room) in
+    let fine = c.push.ensures.succeeds free in
+    let pushed : c.push.new.self.items ≡ c.self.inside.marks.items ++ marks.Fault c.args.by c.args.from c.args.to ∷ [] = search rules in
+    ap (λ (l : List Mark). woven l c.self.inside.rows.items) pushed
+    ∙ woven-fault c.self.inside.marks.items c.self.inside.rows.items c.args.by c.args.from c.args.to c.self.invariant
+    ∙ ap (λ (e : Entries). e.list ++ Faulted c.args.by c.args.from c.args.to ∷ []) c.self.view_is
