@@ -115,18 +115,19 @@ fn reply_to(
 }
 
 // What the lines are answered, one reply behind the other, by a desk that has accepted nothing.
-fn replies(
+fn replies<'i>(
     alloc: Global,
-    stories: &[Story<'_>],
+    stories: &'i [Story<'i>],
+    rows: &[Row],
     journal: &mut Journal<MemDisk>,
-    rows: &[(&[u8], &str)],
+    lines: &[(&[u8], &str)],
 ) -> Result<Vec<u8>, Fail> {
-    if journal.row_count() > 0 {
+    if journal.row_count() > 0 || rows.len() > 0 {
         return Err("a new journal".into());
     }
-    let mut desk = Desk::open(alloc, 0, stories, 50_000_000, &[])?;
+    let mut desk = Desk::open(alloc, 0, stories, 50_000_000, rows)?;
     let mut replies = Vec::new(alloc);
-    for (line, _) in rows {
+    for (line, _) in lines {
         let reply = reply_to(alloc, &mut desk, journal, line)?;
         replies.extend_from_slice(&reply)?;
     }
@@ -154,9 +155,9 @@ fn rows_in(alloc: Global, journal: &Journal<MemDisk>) -> Result<Vec<Row>, Fail> 
 }
 
 // Whether a desk over these rows is cold at first, and its show once it is warm.
-fn reopened(
+fn reopened<'i>(
     alloc: Global,
-    stories: &[Story<'_>],
+    stories: &'i [Story<'i>],
     rows: &[Row],
     line: &[u8],
 ) -> Result<(bool, Vec<u8>), Fail> {
@@ -193,7 +194,8 @@ fn a_desk_answers_as_a_session_that_is_played_from_the_start(rt: HostRuntime) ->
     let Ok(mut journal) = Journal::open(alloc, disk) else {
         return Err("a journal".into());
     };
-    assert!(rt; replies(alloc, &stories, &mut journal, &lines)? == wanted(alloc, &lines)?);
+    let rows = rows_in(alloc, &journal)?;
+    assert!(rt; replies(alloc, &stories, &rows, &mut journal, &lines)? == wanted(alloc, &lines)?);
     let rows = rows_in(alloc, &journal)?;
     let (is_cold, shown) = reopened(alloc, &stories, &rows, b"LAST 0 k1")?;
     assert!(rt; is_cold);
