@@ -1,5 +1,6 @@
 -- A command that a desk commits to a journal (own).
-use Rattle.std.specs.Prelude.{◌≡◌, ℕ, ◌+◌, Bool, IsTrue, List, [], ◌∷◌, ◌++◌, length, Some}
+use Rattle.std.specs.Prelude.{◌≡◌, ℕ, ◌+◌, Bool, IsTrue, List, [], ◌∷◌, ◌++◌}
+use Rattle.std.specs.Prelude.{length, Result, Ok, Err, Some}
 use Rattle.disk_model.specs.Disk.{LeavesOnly}
 use Rattle.gate_journal.specs.Command.{IsCommand}
 use Rattle.gate_journal.specs.Faults.{IsFault}
@@ -62,10 +63,11 @@ Leaves faults session old new (DiskFault fault) =
     × (new.entries ≡ old.entries ++ Faulted (session + 1) fault.from fault.to ∷ [])
 Leaves faults session old new NoMemory = SameLog old new
 
--- a refusal of the disk, in an append that was begun
-abbrev pub UnlessNoMemory : Refused → Type 0 → Type 0
-UnlessNoMemory (DiskFault fault) P = P
-UnlessNoMemory NoMemory P = Unit {0}
+-- the append was begun: the call answered Ok, or that the disk failed
+abbrev pub WhereBegun : {T : Type 0} → Result T Refused → Type 0 → Type 0
+WhereBegun (Ok x) P = P
+WhereBegun (Err (DiskFault fault)) P = P
+WhereBegun (Err NoMemory) P = Unit {0}
 
 -- Meanwhile a stop leaves the rows from before alone, or these and the uncertain one, or these and
 -- the new one.

@@ -1,5 +1,6 @@
 -- A desk answers as a session that is played from the start (own).
-use Rattle.std.specs.Prelude.{◌≡◌, ℕ, ◌≤◌, true, false, List, length, Option, Some, None}
+use Rattle.std.specs.Prelude.{◌≡◌, ℕ, ◌≤◌, true, false, List, length, Option, Some}
+use Rattle.std.specs.Prelude.{None}
 use Rattle.gate_journal.specs.Command.{IsBudget}
 use Rattle.gate_journal.specs.Rows.{commands_of, IsJournal}
 use Rattle.gate_journal.specs.declared.command.Command.{Command}

@@ -1,6 +1,7 @@
 //! A command that is kept in the journal (own).
 
-ghost use Rattle.std.specs.Prelude.{◌≡◌, ◌<◌, ◌++◌, ◌∷◌, [], Some, IfOk, IfErr, OnOk, IsSome};
+ghost use Rattle.std.specs.Prelude.{◌≡◌, ◌<◌, ◌++◌, ◌∷◌, [], Some, IfOk, IfErr};
+ghost use Rattle.std.specs.Prelude.{OnOk, IsSome};
 ghost use Rattle.std.specs.Prelude.{MatchResult, length, vec_len, vec_capacity};
 ghost use Rattle.disk_model.specs.Disk.{SameDisk};
 ghost use Rattle.gate_journal.specs.Command.{IsCommand};
@@ -9,7 +10,7 @@ ghost use Rattle.gate_journal.specs.Rows.{MayStand};
 ghost use Rattle.session_core.specs.Checks.{command_of};
 ghost use Rattle.session_desk.specs.Desk.{aside};
 ghost use Rattle.session_desk.specs.Commit.{Extends, HasDigest, IsInRange, Leaves, Stops};
-ghost use Rattle.session_desk.specs.Commit.{UnlessNoMemory};
+ghost use Rattle.session_desk.specs.Commit.{WhereBegun};
 
 use crate::held::{Held, aside};
 use crate::refused::Refused;
@@ -62,10 +63,8 @@ pub fn write_down<D: Disk>(
         ++ next_row (rows_of journal.old.entries) session command.now ∷ [])
         (λ _. rows_of journal.new.entries ≡ rows_of journal.old.entries) }
     ensures kept { SameDisk D.tells D.room D.label journal.old.disk journal.new.disk }
-    ensures crash { MatchResult result
-        (λ _. Stops D.tells D.moment D.left_since session command.now journal.old journal.new)
-        (λ why. UnlessNoMemory why
-        (Stops D.tells D.moment D.left_since session command.now journal.old journal.new)) }
+    ensures crash { WhereBegun result
+        (Stops D.tells D.moment D.left_since session command.now journal.old journal.new) }
 {
     let Ok(()) = journal.reserve(alloc) else {
         return Err(Refused::NoMemory);

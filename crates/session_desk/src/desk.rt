@@ -1,6 +1,7 @@
 //! A desk: one session, kept warm (own).
 
-ghost use Rattle.std.specs.Prelude.{◌≡◌, ◌≤◌, ◌<◌, ◌+◌, IsTrue, true, false, length, None, Some};
+ghost use Rattle.std.specs.Prelude.{◌≡◌, ◌≤◌, ◌<◌, ◌+◌, IsTrue, true, false};
+ghost use Rattle.std.specs.Prelude.{length, None, Some};
 ghost use Rattle.std.specs.Prelude.{IfOk, IfErr, OnOk, OnErr, MatchOption, MatchResult, ⊤};
 ghost use Rattle.disk_model.specs.Disk.{SameDisk};
 ghost use Rattle.gate_journal.specs.Rows.{commands_of};
@@ -14,7 +15,7 @@ ghost use Rattle.session_desk.specs.Desk.{opened};
 ghost use Rattle.session_desk.specs.Verdict.{verdict};
 ghost use Rattle.session_desk.specs.declared.verdict.Verdict.TheVariants.{Fresh, Cold};
 ghost use Rattle.session_desk.specs.Commit.{Commits, IsInRange, IsKept, Leaves, Stops};
-ghost use Rattle.session_desk.specs.Commit.{UnlessNoMemory};
+ghost use Rattle.session_desk.specs.Commit.{WhereBegun};
 
 use crate::check::{in_no_world, in_world};
 use crate::commit::{asked, take_down, write_down};
@@ -67,8 +68,9 @@ impl<'i> Model for Desk<'i> {
 }
 
 impl<'i> Desk<'i> {
-    /// The desk of a session, below 64, with the commands of its rows, at most 8,192; its world isn't
-    /// held. The budget is that of a turn, in ticks, for whoever reads requests to open the session.
+    /// The desk of a session, below 64, with the commands of its rows, at most 8,192. Its world
+    /// isn't held. The budget is that of a turn, in ticks, for whoever reads requests to open the
+    /// session.
     pub fn open(
         alloc: Global,
         session: u8,
@@ -127,8 +129,8 @@ impl<'i> Desk<'i> {
     }
 
     /// Makes the session accept the command that a fresh request asks for, by a row in the journal;
-    /// the world is set aside for `run`. The memory is taken before the row is written. Of `_by`, the
-    /// number of the pass of a host that many share, nothing is kept.
+    /// the world is set aside for `run`. The memory is taken before the row is written. Of `_by`,
+    /// the number of the pass of a host that many share, nothing is kept.
     pub fn commit<D: Disk>(
         &mut self,
         alloc: Global,
@@ -149,12 +151,10 @@ impl<'i> Desk<'i> {
             Leaves D.faults self.old.session journal.old journal.new why) }
         ensures rows { IsKept self.new journal.new }
         ensures kept { SameDisk D.tells D.room D.label journal.old.disk journal.new.disk }
-        ensures crash { (command : Command) → command_of self.old.stories request.now ≡ Some command
-            → MatchResult result
-            (λ _. Stops D.tells D.moment D.left_since self.old.session command
-            journal.old journal.new)
-            (λ why. UnlessNoMemory why (Stops D.tells D.moment D.left_since self.old.session command
-            journal.old journal.new)) }
+        ensures crash { (command : Command)
+            → command_of self.old.stories request.now ≡ Some command
+            → WhereBegun result (Stops D.tells D.moment D.left_since self.old.session command
+            journal.old journal.new) }
     {
         let Ok(command) = asked(alloc, self.stories, request) else {
             return Err(Refused::NoMemory);
@@ -174,8 +174,8 @@ impl<'i> Desk<'i> {
     }
 
     /// Gives the story the command that was just committed: the turn of the world that was set
-    /// aside. An OPEN begins the story, and a CLOSE does nothing. Where memory runs out the world is
-    /// gone.
+    /// aside. An OPEN begins the story, and a CLOSE does nothing. Where memory runs out the world
+    /// is gone.
     pub fn run(&mut self, alloc: Global) -> Result<(), AllocError>
         requires { IsTrue (is_to_run self.old.held (last_of (game self.old))) }
         ensures ok { OnOk result (self.new ≡ warmed self.old) }

@@ -24,8 +24,8 @@ pub fn is_cold_alone()
     ensures { IsColdAlone }
 {}
 
-/// A desk that a request finds cold isn't cold once it was warmed; nor is one with a fresh request's
-/// command, once that was run.
+/// A desk that a request finds cold isn't cold once it was warmed; nor is one with the command of a
+/// fresh request, once that was run.
 pub fn stays_warm()
     ensures { StaysWarm }
 {}
