@@ -7,3 +7,4 @@ pub mod Sound
 pub mod Opening
 pub mod SeatLemmas
 pub mod HistoryLemmas
+pub mod StopLemmas

@@ -82,6 +82,11 @@ abbrev pub MaySpell : List Row → Option Row → List ℕ → Type 0
 MaySpell rows None c = IsClosedWell rows c
 MaySpell rows (Some r) c = IsClosedWell rows c ⊎ IsClosedWell (rows ++ r ∷ []) c
 
+-- what an opening may find of such images: the rows, or these and that one
+abbrev pub MayFind : List Row → Option Row → List Row → Type 0
+MayFind rows None found = found ≡ rows
+MayFind rows (Some r) found = (found ≡ rows) ⊎ (found ≡ rows ++ r ∷ [])
+
 -- what an opening may meet: the rows and a closed gate, or a gate of which nothing is known before
 -- a row that may stand there and a zero byte
 abbrev pub MayOpen : List Row → List ℕ → Type 0

@@ -5,6 +5,7 @@ ghost use Rattle.std.specs.Prelude.{MatchResult};
 ghost use Rattle.disk_model.specs.Disk.{Only, SameDisk, LeavesOnly, AfterWrite};
 ghost use Rattle.gate_journal.specs.Rows.{header};
 ghost use Rattle.gate_journal.specs.Faults.{HasInitCause};
+ghost use Rattle.gate_journal.specs.declared.fault.InitFault.TheVariants as InitFault;
 
 use crate::fault::{DiskFault, InitFault};
 use disk_model::{Disk, write_through};
@@ -20,6 +21,14 @@ pub fn init<D: Disk>(disk: &mut D) -> Result<(), InitFault>
     ensures exact { MatchResult result (λ _. D.faults disk.new ≡ D.faults disk.old)
         (λ e. HasInitCause (D.tells disk.old) (D.seen disk.old)
         (D.faults disk.old) (D.faults disk.new) e) }
+    ensures works { IsTrue (D.steady disk.old)
+        → (17 ≤ D.room disk.old → IfErr result (λ e. e ≡ InitFault.NotEmpty))
+        × IsTrue (D.steady disk.new) }
+    // Where it isn't empty, nothing is written.
+    ensures err { IfErr result (λ e. e ≡ InitFault.NotEmpty
+        → (D.reach disk.new ≡ D.reach disk.old)
+        × (IsTrue (D.tells disk.old)
+        → LeavesOnly D.moment D.left_since disk.old disk.new (D.may_leave disk.old))) }
     ensures kept { SameDisk D.tells D.room D.label disk.old disk.new }
     ensures reach { D.reach disk.new ≤ max (D.reach disk.old) 17 }
     ensures crash { IsTrue (D.tells disk.old)

@@ -17,6 +17,7 @@ mod room;
 mod row;
 mod seats;
 mod settle;
+mod stop;
 
 pub use begin::init;
 pub use command::Command;
@@ -25,6 +26,7 @@ pub use fault::{DiskFault, InitFault, JournalFault};
 pub use journal::Journal;
 pub use laws::{has_one_corrupt_place, spells_one_list, spells_or_is_corrupt};
 pub use row::Row;
+pub use stop::stop_and_open;
 
 #[cfg(test)]
 mod tests;

@@ -73,13 +73,32 @@ fn two_rows(alloc: Global, fails: u64) -> Result<(Journal<MemDisk>, Result<u64, 
     Ok((journal, second))
 }
 
-// The sessions of the first two rows, and how many there are.
-fn found(journal: &Journal<MemDisk>) -> (u64, Option<u8>, Option<u8>) {
-    (
-        journal.row_count(),
-        journal.row(0).map(|row| row.session),
-        journal.row(1).map(|row| row.session),
-    )
+fn stopped(
+    alloc: Global,
+    journal: Journal<MemDisk>,
+    choice: u64,
+) -> Result<Journal<MemDisk>, Fail> {
+    match stop_and_open(alloc, journal, choice) {
+        Ok(journal) => Ok(journal),
+        Err(_) => Err("not opened".into()),
+    }
+}
+
+// How many rows a stop leaves of the journal of two rows, where this call failed.
+fn rows_left(alloc: Global, fails: u64, choice: u64) -> Result<u64, Fail> {
+    let (journal, _) = two_rows(alloc, fails)?;
+    Ok(stopped(alloc, journal, choice)?.row_count())
+}
+
+// And what byte it leaves at the LINE's gate.
+fn gate_left(alloc: Global, fails: u64, choice: u64) -> Result<u8, Fail> {
+    let (journal, _) = two_rows(alloc, fails)?;
+    let mut disk = journal.into_disk().after_stop(alloc, choice)?;
+    let mut gate = [9];
+    let Ok(()) = disk.read_at(76, &mut gate) else {
+        return Err("read".into());
+    };
+    Ok(gate[0])
 }
 
 // The refusal of the journal of two rows, after this byte is put at this place.
@@ -158,38 +177,36 @@ fn bytes_that_spell_no_rows_are_refused(rt: HostRuntime) -> Result<(), Fail> {
 #[test]
 fn a_stop_in_an_append_leaves_the_rows_before_or_one_more(rt: HostRuntime) -> Result<(), Fail> {
     for choice in 0..32 {
-        for fails in 10..12 {
-            let (journal, second) = two_rows(rt.alloc(), fails)?;
-            assert!(rt; second.is_err());
-            let disk = journal.into_disk().after_stop(rt.alloc(), choice)?;
-            assert_eq!(rt; opened(rt.alloc(), disk)?.row_count(), 1);
-        }
+        assert_eq!(rt; rows_left(rt.alloc(), 10, choice)?, 1);
+        assert_eq!(rt; rows_left(rt.alloc(), 11, choice)?, 1);
         for fails in 12..14 {
-            let (journal, second) = two_rows(rt.alloc(), fails)?;
-            assert!(rt; second.is_err());
-            let mut disk = journal.into_disk().after_stop(rt.alloc(), choice)?;
-            let mut gate = [9];
-            assert_eq!(rt; disk.read_at(76, &mut gate), Ok(()));
-            let rows = if gate == [1] { 2 } else { 1 };
-            assert_eq!(rt; opened(rt.alloc(), disk)?.row_count(), rows);
+            let gate = gate_left(rt.alloc(), fails, choice)?;
+            let rows = if gate == 1 { 2 } else { 1 };
+            assert_eq!(rt; rows_left(rt.alloc(), fails, choice)?, rows);
         }
-        let (journal, second) = two_rows(rt.alloc(), 1000)?;
-        assert!(rt; second.is_ok());
-        let disk = journal.into_disk().after_stop(rt.alloc(), choice)?;
-        assert_eq!(rt; opened(rt.alloc(), disk)?.row_count(), 2);
+        assert_eq!(rt; rows_left(rt.alloc(), 1000, choice)?, 2);
     }
     Ok(())
+}
+
+// The LINE's second sync fails, then session 1 is opened, then the journal stops.
+fn repaired(alloc: Global, choice: u64) -> Result<Journal<MemDisk>, Fail> {
+    let (mut journal, Err(DiskFault { from: 0, to: 1 })) = two_rows(alloc, 13)? else {
+        return Err("no fault".into());
+    };
+    let Ok(76) = added(alloc, &mut journal, 1, &opening(alloc)?)? else {
+        return Err("the second OPEN".into());
+    };
+    stopped(alloc, journal, choice)
 }
 
 #[test]
 fn a_fault_of_the_second_sync_is_repaired(rt: HostRuntime) -> Result<(), Fail> {
     for choice in 0..32 {
-        let (mut journal, second) = two_rows(rt.alloc(), 13)?;
-        assert_eq!(rt; second, Err(DiskFault { from: 0, to: 1 }));
-        let third = added(rt.alloc(), &mut journal, 1, &opening(rt.alloc())?)?;
-        assert_eq!(rt; third, Ok(76));
-        let disk = journal.into_disk().after_stop(rt.alloc(), choice)?;
-        assert_eq!(rt; found(&opened(rt.alloc(), disk)?), (2, Some(0), Some(1)));
+        let journal = repaired(rt.alloc(), choice)?;
+        assert_eq!(rt; journal.row_count(), 2);
+        assert!(rt; matches!(journal.row(0), Some(row) if row.session == 0));
+        assert!(rt; matches!(journal.row(1), Some(row) if row.session == 1));
     }
     Ok(())
 }
