@@ -20,7 +20,7 @@ use Rattle.session_core.specs.Repeats.{again}
 -- ---- the game after a command
 
 -- a game with one command more; no game stays none
-abbrev joined : List Command → Command → List Command
+abbrev pub joined : List Command → Command → List Command
 joined [] x = []
 joined (c ∷ cs) x = c ∷ (cs ++ x ∷ [])
 
@@ -30,11 +30,11 @@ later_joined true c cs x [] = refl
 later_joined false c cs x [] = refl
 later_joined opens c cs x (d ∷ ds) = refl
 
-game_of-append : (history : List Command) (x : Command) → is_open x ≡ false → game_of (history ++ x ∷ []) ≡ joined (game_of history) x
+pub game_of-append : (history : List Command) (x : Command) → is_open x ≡ false → game_of (history ++ x ∷ []) ≡ joined (game_of history) x
 game_of-append [] x e = rw e refl
 game_of-append (c ∷ cs) x e = rw (game_of-append cs x e) (later_joined (is_open c) c cs x (game_of cs))
 
-game_of-append-open : (history : List Command) (x : Command) → is_open x ≡ true → game_of (history ++ x ∷ []) ≡ x ∷ []
+pub game_of-append-open : (history : List Command) (x : Command) → is_open x ≡ true → game_of (history ++ x ∷ []) ≡ x ∷ []
 game_of-append-open [] x e = rw e refl
 game_of-append-open (c ∷ cs) x e = rw (game_of-append-open cs x e) refl
 
@@ -42,7 +42,7 @@ at_end : (cs : List Command) (x : Command) → slice_get (cs ++ x ∷ []) (lengt
 at_end [] x = refl
 at_end (c ∷ cs) x = at_end cs x
 
-last_of-joined : (c : Command) (cs : List Command) (x : Command) → last_of (c ∷ (cs ++ x ∷ [])) ≡ Some x
+pub last_of-joined : (c : Command) (cs : List Command) (x : Command) → last_of (c ∷ (cs ++ x ∷ [])) ≡ Some x
 last_of-joined c cs x =
     let len : length (cs ++ x ∷ []) ≡ length cs + 1 = length-append cs (x ∷ []) in
     let index : suc (length (cs ++ x ∷ [])) - 1 ≡ suc (length cs) = omega (arith, len) in
@@ -61,11 +61,11 @@ record Passed (stories : List Story) (history : List Command) (request : Request
   pub told : refusal_of stories history (game_of history) request ≡ None
 
 -- no check of the list holds
-abbrev AllFail : List (Bool × No) → Type 0
+abbrev pub AllFail : List (Bool × No) → Type 0
 AllFail [] = Unit {0}
 AllFail ((holds, why) ∷ more) = (holds ≡ false) × AllFail more
 
-all_fail : (xs : List (Bool × No)) → first_of xs ≡ None → AllFail xs
+pub all_fail : (xs : List (Bool × No)) → first_of xs ≡ None → AllFail xs
 all_fail [] e = tt
 all_fail ((true, why) ∷ more) e = absurd cc
 all_fail ((false, why) ∷ more) e = (refl, all_fail more e)
@@ -75,7 +75,7 @@ accepted_none : (stories : List Story) (history game : List Command) (request : 
 accepted_none stories history game request (Some why) command e = absurd cc
 accepted_none stories history game request None command e = (refl, e)
 
-chosen : (fresh : Bool) (asked : Option Command) (command : Command) → cond fresh asked None ≡ Some command → (fresh ≡ true) × (asked ≡ Some command)
+pub chosen : (fresh : Bool) (asked : Option Command) (command : Command) → cond fresh asked None ≡ Some command → (fresh ≡ true) × (asked ≡ Some command)
 chosen true asked command e = (refl, e)
 chosen false asked command e = absurd cc
 
@@ -119,14 +119,14 @@ decided-none : (stories : List Story) (history game : List Command) (request : R
     → decided stories history game request refusal ≡ record { reply = show_reply stories history game accepted request; accepted = accepted }
 decided-none stories history game request refusal accepted e a = rw (e, a) refl
 
-answer-none : (stories : List Story) (history : List Command) (request : Request) (accepted : Option Command)
+pub answer-none : (stories : List Story) (history : List Command) (request : Request) (accepted : Option Command)
     → refusal_of stories history (game_of history) request ≡ None → accepted_by stories (game_of history) request ≡ accepted
     → answer stories history request ≡ record { reply = show_reply stories history (game_of history) accepted request; accepted = accepted }
 unfolding answer
 answer-none stories history request accepted e a =
     decided-none stories history (game_of history) request (refusal_of stories history (game_of history) request) accepted e a
 
-some_is : (x y : Command) → Some x ≡ Some y → x ≡ y
+pub some_is : (x y : Command) → Some x ≡ Some y → x ≡ y
 some_is x y e = cc
 
 -- ---- the numbers of the next command, once it was accepted
@@ -143,7 +143,7 @@ both true false e = absurd cc
 both false y e = absurd cc
 
 -- the session number is one, and the request is known
-known : (far is : Bool) → (far || not is) ≡ false → (far ≡ false) × (is ≡ true)
+pub known : (far is : Bool) → (far || not is) ≡ false → (far ≡ false) × (is ≡ true)
 known true is e = absurd cc
 known false true e = (refl, refl)
 known false false e = absurd cc

@@ -1,4 +1,5 @@
 pub mod History
+pub mod Turns
 pub mod Checks
 pub mod Answer
 pub mod Sessions

@@ -20,7 +20,7 @@ use story_run::Story;
 use story_text::Bytes;
 
 /// The most commands that a session number accepts.
-const MAX_COMMANDS: usize = 8192;
+pub const MAX_COMMANDS: usize = 8192;
 
 /// What a request is answered.
 #[derive(Debug, Drop)]
@@ -31,7 +31,7 @@ pub struct Decision {
 }
 
 /// The command that a request asks to be accepted; LAST asks for none.
-fn command_of(
+pub fn command_of(
     alloc: Global,
     stories: &[Story],
     request: &Request,
@@ -114,7 +114,7 @@ fn story_refusal(
 }
 
 /// The refusals that need no world, in their order.
-fn plain_refusal(stories: &[Story], game: &[Command], request: &Request) -> Option<No>
+pub fn plain_refusal(stories: &[Story], game: &[Command], request: &Request) -> Option<No>
     requires { length game.now ≤ 8192 }
     ensures { result ≡ first_of (plain_checks stories.now game.now request.now) }
 {
@@ -186,7 +186,7 @@ fn accepted_by(
 }
 
 /// The number in a show: 0 for OPEN, that of the last command for LAST, else the request's own.
-fn shown_number(game: &[Command], request: &Request) -> u32
+pub fn shown_number(game: &[Command], request: &Request) -> u32
     requires { length game.now ≤ 8192 }
     ensures { result ≡ shown_number game.now request.now }
 {

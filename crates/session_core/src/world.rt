@@ -1,9 +1,10 @@
 //! The world that a session has come to (own).
 
-ghost use Rattle.std.specs.Prelude.{◌≡◌, IfOk, None, Some, MatchOption};
+ghost use Rattle.std.specs.Prelude.{◌≡◌, ◌+◌, IfOk, OnOk, None, Some, MatchOption};
 ghost use Rattle.std.specs.List.{filter_map};
-ghost use Rattle.story_run.specs.Solo.{world_after};
+ghost use Rattle.story_run.specs.Solo.{opening, world_after};
 ghost use Rattle.session_core.specs.History.{story_at, input_of, turned_on, world_of};
+ghost use Rattle.session_core.specs.Turns.{turns_on, turns_by, turns_of};
 
 use crate::history::story_at;
 use gate_journal::Command;
@@ -34,14 +35,17 @@ pub fn input_of(alloc: Global, command: &Command) -> Result<Option<Input>, Alloc
     })
 }
 
-/// The world after what a command gives the story. An input that isn't wanted leaves it.
-fn turn_on<'i, L: Ledger>(
+/// The world after what a command gives the story. An input that isn't wanted leaves it; one that
+/// is takes a turn, which is one step.
+pub fn turn_on<'i, L: Ledger>(
     alloc: Global,
     world: World<'i>,
     command: &Command,
     steps: &mut Steps<L>,
 ) -> Result<World<'i>, AllocError>
-    ensures { IfOk result (λ after. after ≡ turned_on world.entry (input_of command.now)) }
+    ensures value { IfOk result (λ after. after ≡ turned_on world.entry (input_of command.now)) }
+    ensures cost { OnOk result
+        (steps.new ≡ steps.old + turns_on world.entry (input_of command.now)) }
 {
     match input_of(alloc, command)? {
         Some(input) => {
@@ -61,29 +65,30 @@ fn play<'i, L: Ledger>(
     story: &Story<'i>,
     setup: Setup,
     after: &[Command],
-    blank: Blank,
+    steps: &mut Steps<L>,
 ) -> Result<World<'i>, AllocError>
-    requires name { blank.name ≡ L.name }
-    requires parts { blank.parts ≡ L.parts }
-    requires one { L.parts ≡ 1 }
-    ensures { IfOk result (λ world. world
+    ensures value { IfOk result (λ world. world
         ≡ world_after story.now.image setup (filter_map input_of after.now)) }
+    ensures cost { OnOk result (steps.new
+        ≡ steps.old + turns_by (opening story.now.image setup) (filter_map input_of after.now)) }
 {
-    let mut steps = Steps::<L>::new(blank);
     let mut world = World::start(alloc, story, setup)?;
     for at in 0..after.len() {
-        world = turn_on(alloc, world, &after[at], &mut steps)?;
+        world = turn_on(alloc, world, &after[at], steps)?;
     }
     Ok(world)
 }
 
-/// The world that a game has come to, or none where its story isn't there.
-pub fn world_of<'i>(
+/// The world that a game has come to, played from the start, or none where its story isn't there.
+/// Each turn is one step.
+pub fn replay<'i, L: Ledger>(
     alloc: Global,
     stories: &[Story<'i>],
     game: &[Command],
+    steps: &mut Steps<L>,
 ) -> Result<Option<World<'i>>, AllocError>
-    ensures { IfOk result (λ world. world ≡ world_of stories.now game.now) }
+    ensures value { IfOk result (λ world. world ≡ world_of stories.now game.now) }
+    ensures cost { OnOk result (steps.new ≡ steps.old + turns_of stories.now game.now) }
 {
     match game {
         [
@@ -104,11 +109,38 @@ pub fn world_of<'i>(
                     rows: *rows,
                     budget: *budget,
                 };
-                let world = play::<Brand>(alloc, story, setup, after, Blank::new(1))?;
+                let world = play(alloc, story, setup, after, steps)?;
                 Ok(Some(world))
             }
             None => Ok(None),
         },
         _ => Ok(None),
     }
+}
+
+/// The same with a count of its own, which begins with this blank.
+fn replay_uncounted<'i, L: Ledger>(
+    alloc: Global,
+    stories: &[Story<'i>],
+    game: &[Command],
+    blank: Blank,
+) -> Result<Option<World<'i>>, AllocError>
+    requires name { blank.name ≡ L.name }
+    requires parts { blank.parts ≡ L.parts }
+    requires one { L.parts ≡ 1 }
+    ensures { IfOk result (λ world. world ≡ world_of stories.now game.now) }
+{
+    let mut steps = Steps::<L>::new(blank);
+    replay(alloc, stories, game, &mut steps)
+}
+
+/// The world that a game has come to, or none where its story isn't there.
+pub fn world_of<'i>(
+    alloc: Global,
+    stories: &[Story<'i>],
+    game: &[Command],
+) -> Result<Option<World<'i>>, AllocError>
+    ensures { IfOk result (λ world. world ≡ world_of stories.now game.now) }
+{
+    replay_uncounted::<Brand>(alloc, stories, game, Blank::new(1))
 }

@@ -1,4 +1,4 @@
 use Rattle.session_core.proofs.world.world_of.Given as goal
 
-abbrev pub ghosts-play : goal.ghosts-play
-ghosts-play a = record { name = a.blank.name; parts = a.blank.parts }
+abbrev pub ghosts-replay_uncounted : goal.ghosts-replay_uncounted
+ghosts-replay_uncounted a = record { name = a.blank.name; parts = a.blank.parts }

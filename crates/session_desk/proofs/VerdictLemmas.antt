@@ -1,0 +1,238 @@
+-- What a session will answer, by the checks that hold.
+use Rattle.std.proofs.Common.{◌≡◌, ℕ, ◌<◌, ◌≤◌, Bool, true, false, ◌&&◌, ◌||◌, not, cond, nat_le, List, [], ◌∷◌, ◌++◌, length, Option, Some, None, is_none, refl, sym, ap, ◌∙◌, arith}
+use Rattle.std.proofs.lemmas.Bool.Decides.{nat_tests}
+use Rattle.glk_input.specs.declared.input.Input.{Input}
+use Rattle.glk_input.specs.declared.input.Input.TheVariants as inputs
+use Rattle.gate_journal.specs.declared.command.Command.{Command}
+use Rattle.gate_journal.specs.declared.command.Command.TheVariants as commands
+use Rattle.line_words.specs.declared.request.Request.{Request}
+use Rattle.line_words.specs.declared.request.Request.TheVariants.{Open, Line, Char, File, Last, Close}
+use Rattle.line_words.specs.declared.reply.No.{No}
+use Rattle.line_words.specs.declared.reply.No.TheVariants as no
+use Rattle.story_run.specs.declared.story.Story.{Story}
+use Rattle.story_run.specs.declared.stage.Stage.{Stage}
+use Rattle.story_run.specs.declared.stage.Stage.TheVariants.{AtSelect, AtPrompt, Quit, Fault}
+use Rattle.story_run.specs.World.{WorldState}
+use Rattle.story_run.specs.Solo.{is_over, is_wanted, wants}
+use Rattle.session_core.specs.History.{game_of, is_in_use, has_key, world_of, story_at}
+use Rattle.session_core.specs.Checks.{command_of, opened, given, is_fresh, is_full, over_in, unwanted_in}
+use Rattle.session_core.specs.Answer.{first_of, plain_checks, story_checks, refusal_of, accepted_by, answer}
+use Rattle.session_core.proofs.AnswerLemmas.{first_of-append-none, first_of-append-some, refusal_of-plain, refusal_of-story}
+use Rattle.session_core.proofs.RepeatLemmas.{AllFail, all_fail, known}
+use Rattle.session_desk.specs.declared.verdict.Verdict.{Verdict}
+use Rattle.session_desk.specs.declared.verdict.Verdict.TheVariants.{Refuse, Again, Fresh, Cold}
+use Rattle.session_desk.specs.Wanted.{outline, refusal_in, request_input}
+use Rattle.session_desk.specs.Desk.{DeskState, game}
+use Rattle.session_desk.specs.Verdict.{foretold, is_close, is_to_story, told, verdict}
+
+-- ---- the answer, by its refusal and its command
+
+pub told-refused : (stories : List Story) (history : List Command) (request : Request) (why : No)
+    → refusal_of stories history (game_of history) request ≡ Some why → Refuse why ≡ foretold stories history request
+unfolding answer
+told-refused stories history request why e = rw e refl
+
+pub told-again : (stories : List Story) (history : List Command) (request : Request)
+    → refusal_of stories history (game_of history) request ≡ None → is_fresh (game_of history) request ≡ false → Again ≡ foretold stories history request
+unfolding answer accepted_by
+told-again stories history request e f = rw (e, f) refl
+
+pub told-fresh : (stories : List Story) (history : List Command) (request : Request) (command : Command)
+    → refusal_of stories history (game_of history) request ≡ None → is_fresh (game_of history) request ≡ true → command_of stories request ≡ Some command
+    → Fresh ≡ foretold stories history request
+unfolding answer accepted_by
+told-fresh stories history request command e f c = rw (e, f, c) refl
+
+-- ---- the checks behind the plain ones
+
+pub past_plain : (stories : List Story) (history game : List Command) (request : Request) → first_of (plain_checks stories game request) ≡ None
+    → refusal_of stories history game request ≡ first_of (story_checks stories game request ++ (is_full history game request, no.Full) ∷ [])
+unfolding refusal_of
+past_plain stories history game request none =
+    first_of-append-none (plain_checks stories game request) (story_checks stories game request ++ (is_full history game request, no.Full) ∷ []) none
+
+pub stale-passes : (stories : List Story) (history game : List Command) (request : Request) → first_of (plain_checks stories game request) ≡ None
+    → is_fresh game request ≡ false → refusal_of stories history game request ≡ None
+stale-passes stories history game request none stale = past_plain stories history game request none ∙ rw stale refl
+
+pub past_story : (stories : List Story) (history game : List Command) (request : Request) → first_of (plain_checks stories game request) ≡ None
+    → first_of (story_checks stories game request) ≡ None
+    → refusal_of stories history game request ≡ first_of ((is_full history game request, no.Full) ∷ [])
+past_story stories history game request none fits =
+    past_plain stories history game request none
+    ∙ first_of-append-none (story_checks stories game request) ((is_full history game request, no.Full) ∷ []) fits
+
+pub full-refuses : (stories : List Story) (history game : List Command) (request : Request) → first_of (plain_checks stories game request) ≡ None
+    → first_of (story_checks stories game request) ≡ None → is_fresh game request ≡ true → nat_le 8192 (length history) ≡ true
+    → refusal_of stories history game request ≡ Some no.Full
+full-refuses stories history game request none fits fresh full = past_story stories history game request none fits ∙ rw (fresh, full) refl
+
+pub room-passes : (stories : List Story) (history game : List Command) (request : Request) → first_of (plain_checks stories game request) ≡ None
+    → first_of (story_checks stories game request) ≡ None → nat_le 8192 (length history) ≡ false
+    → refusal_of stories history game request ≡ None
+room-passes stories history game request none fits room = past_story stories history game request none fits ∙ no_room (is_fresh game request) (nat_le 8192 (length history)) room
+  where
+    no_room : (fresh full : Bool) → full ≡ false → first_of ((fresh && full, no.Full) ∷ []) ≡ None
+    no_room true full e = rw e refl
+    no_room false full e = refl
+
+-- ---- what a new request asks for
+
+opens_there : (fresh : Bool) (found : Option Story) (command : List ℕ → Command) → (fresh && is_none found) ≡ false → fresh ≡ true
+    → (c : Command) × (opened found command ≡ Some c)
+opens_there fresh (Some story) command e f = (command story.digest, refl)
+opens_there true None command e f = absurd cc
+opens_there false None command e f = absurd cc
+
+-- a new request that no plain check refuses asks for a command
+pub asks : (stories : List Story) (game : List Command) (request : Request) → first_of (plain_checks stories game request) ≡ None → is_fresh game request ≡ true
+    → (c : Command) × (command_of stories request ≡ Some c)
+asks stories game (Open s key story seed cols rows budget) none fresh =
+    let fails = all_fail (plain_checks stories game (Open s key story seed cols rows budget)) none in
+    opens_there (not (is_in_use game)) (story_at stories story) (λ digest. commands.Open key story digest seed cols rows budget) fails.1.1.0 fresh
+asks stories game (Line s key n win text term) none fresh = (commands.Line win term text, refl)
+asks stories game (Char s key n win code) none fresh = (commands.Char win code, refl)
+asks stories game (File s key n name) none fresh = (commands.File name, refl)
+asks stories game (Last s key) none fresh = absurd cc
+asks stories game (Close s key n) none fresh = (commands.Close, refl)
+
+opened-gives : (found : Option Story) (key : List ℕ) (story seed cols rows budget : ℕ)
+    → given (opened found (λ digest. commands.Open key story digest seed cols rows budget)) ≡ None
+opened-gives None key story seed cols rows budget = refl
+opened-gives (Some there) key story seed cols rows budget = refl
+
+-- what the command of a request gives the story
+pub given-asked : (stories : List Story) (request : Request) → given (command_of stories request) ≡ request_input request
+given-asked stories (Open s key story seed cols rows budget) = opened-gives (story_at stories story) key story seed cols rows budget
+given-asked stories (Line s key n win text term) = refl
+given-asked stories (Char s key n win code) = refl
+given-asked stories (File s key n name) = refl
+given-asked stories (Last s key) = refl
+given-asked stories (Close s key n) = refl
+
+-- ---- the checks by the world
+
+-- of a new request, in the world that is held
+pub checks_in : (stories : List Story) (game : List Command) (request : Request) (world : WorldState)
+    → world_of stories game ≡ Some world → is_fresh game request ≡ true
+    → first_of (story_checks stories game request) ≡ refusal_in world (request_input request)
+checks_in stories game request world w fresh = rw (fresh, w, given-asked stories request) refl
+
+over_none : (world : Option WorldState) → over_in world None ≡ false
+over_none None = refl
+over_none (Some w) = refl
+
+unwanted_none : (world : Option WorldState) → unwanted_in world None ≡ false
+unwanted_none None = refl
+unwanted_none (Some w) = refl
+
+-- and of one that gives the story nothing
+nothing_given : (stories : List Story) (game : List Command) (request : Request) → is_fresh game request ≡ true → request_input request ≡ None
+    → first_of (story_checks stories game request) ≡ None
+nothing_given stories game request fresh none =
+    rw (fresh, given-asked stories request, none, over_none (world_of stories game), unwanted_none (world_of stories game)) refl
+
+both_false : (used closes : Bool) → (used && not closes) ≡ false → closes ≡ false → used ≡ false
+both_false true false e f = absurd cc
+both_false true true e f = absurd cc
+both_false false closes e f = refl
+
+-- a session that isn't in use knows no request for its story
+unknown : (far key used : Bool) → (far || not (key && (used || false))) ≡ false → used ≡ false → true ≡ false
+unknown true key used e u = e
+unknown false true true e u = u
+unknown false true false e u = e
+unknown false false used e u = e
+
+free_gives : (stories : List Story) (game : List Command) (request : Request) → first_of (plain_checks stories game request) ≡ None
+    → (is_in_use game && not (is_close request)) ≡ false → request_input request ≡ None
+free_gives stories game (Open s key story seed cols rows budget) none free = refl
+free_gives stories game (Line s key n win text term) none free =
+    let fails = all_fail (plain_checks stories game (Line s key n win text term)) none in
+    absurd (let e = unknown (nat_le 64 s) (has_key game key) (is_in_use game) fails.0 (both_false (is_in_use game) false free refl) in cc)
+free_gives stories game (Char s key n win code) none free =
+    let fails = all_fail (plain_checks stories game (Char s key n win code)) none in
+    absurd (let e = unknown (nat_le 64 s) (has_key game key) (is_in_use game) fails.0 (both_false (is_in_use game) false free refl) in cc)
+free_gives stories game (File s key n name) none free =
+    let fails = all_fail (plain_checks stories game (File s key n name)) none in
+    absurd (let e = unknown (nat_le 64 s) (has_key game key) (is_in_use game) fails.0 (both_false (is_in_use game) false free refl) in cc)
+free_gives stories game (Last s key) none free = refl
+free_gives stories game (Close s key n) none free = refl
+
+pub checks_free : (stories : List Story) (game : List Command) (request : Request) → first_of (plain_checks stories game request) ≡ None
+    → (is_in_use game && not (is_close request)) ≡ false → is_fresh game request ≡ true → first_of (story_checks stories game request) ≡ None
+checks_free stories game request none free fresh = nothing_given stories game request fresh (free_gives stories game request none free)
+
+-- ---- a story asks nothing of a text before it takes it
+
+pub wants-line : (w : WorldState) (win : ℕ) (text : List ℕ) (term : ℕ) → is_wanted w (inputs.Line win text term) ≡ is_wanted w (inputs.Line win [] term)
+unfolding is_wanted
+wants-line w win text term = same w.stage
+  where
+    same : (stage : Stage) → wants stage w.glk.requests (inputs.Line win text term) ≡ wants stage w.glk.requests (inputs.Line win [] term)
+    same (AtSelect m) = refl
+    same (AtPrompt m) = refl
+    same Quit = refl
+    same (Fault n) = refl
+
+pub wants-file : (w : WorldState) (name : List ℕ) → is_wanted w (inputs.File name) ≡ is_wanted w (inputs.File [])
+unfolding is_wanted
+wants-file w name = same w.stage
+  where
+    same : (stage : Stage) → wants stage w.glk.requests (inputs.File name) ≡ wants stage w.glk.requests (inputs.File [])
+    same (AtSelect m) = refl
+    same (AtPrompt m) = refl
+    same Quit = refl
+    same (Fault n) = refl
+
+pub refusal-outline : (w : WorldState) (request : Request) → refusal_in w (outline request) ≡ refusal_in w (request_input request)
+refusal-outline w (Open s key story seed cols rows budget) = refl
+refusal-outline w (Line s key n win text term) = rw (wants-line w win text term) refl
+refusal-outline w (Char s key n win code) = refl
+refusal-outline w (File s key n name) = rw (wants-file w name) refl
+refusal-outline w (Last s key) = refl
+refusal-outline w (Close s key n) = refl
+
+-- the refusal of what stands for the input is that of the input
+pub by_outline : (w : WorldState) (request : Request) (given : Option Input) → outline request ≡ given
+    → refusal_in w given ≡ refusal_in w (request_input request)
+by_outline w request given e = ap (refusal_in w) (sym e) ∙ refusal-outline w request
+
+-- ---- the verdicts
+
+at_limit : (n : ℕ) → 8192 ≤ n → nat_le 8192 n ≡ true
+at_limit n le = grind (arith, nat_tests, le)
+
+below_limit : (n : ℕ) → n < 8192 → nat_le 8192 n ≡ false
+below_limit n lt = grind (arith, nat_tests, lt)
+
+-- by a check without the world
+pub plain-told : (desk : DeskState) (request : Request) (why : No) → first_of (plain_checks desk.stories (game desk) request) ≡ Some why → Refuse why ≡ verdict desk request
+plain-told desk request why e =
+    rw e (told-refused desk.stories desk.commands request why (sym (refusal_of-plain desk.stories desk.commands (game desk) request why e)))
+
+-- where nothing else is asked
+pub stale-told : (stories : List Story) (history : List Command) (request : Request) → first_of (plain_checks stories (game_of history) request) ≡ None
+    → is_fresh (game_of history) request ≡ false → Again ≡ foretold stories history request
+stale-told stories history request none stale =
+    told-again stories history request (stale-passes stories history (game_of history) request none stale) stale
+
+-- where no check by the world holds
+pub full-told : (stories : List Story) (history : List Command) (request : Request) → first_of (plain_checks stories (game_of history) request) ≡ None
+    → first_of (story_checks stories (game_of history) request) ≡ None → is_fresh (game_of history) request ≡ true → 8192 ≤ length history
+    → Refuse no.Full ≡ foretold stories history request
+full-told stories history request none fits fresh le =
+    told-refused stories history request no.Full (full-refuses stories history (game_of history) request none fits fresh (at_limit (length history) le))
+
+pub fresh-told : (stories : List Story) (history : List Command) (request : Request) → first_of (plain_checks stories (game_of history) request) ≡ None
+    → first_of (story_checks stories (game_of history) request) ≡ None → is_fresh (game_of history) request ≡ true → length history < 8192
+    → Fresh ≡ foretold stories history request
+fresh-told stories history request none fits fresh lt =
+    let asked = asks stories (game_of history) request none fresh in
+    told-fresh stories history request asked.0 (room-passes stories history (game_of history) request none fits (below_limit (length history) lt)) fresh asked.1
+
+-- where one does
+pub story-told : (stories : List Story) (history : List Command) (request : Request) (why : No) → first_of (plain_checks stories (game_of history) request) ≡ None
+    → first_of (story_checks stories (game_of history) request) ≡ Some why → Refuse why ≡ foretold stories history request
+story-told stories history request why none e =
+    told-refused stories history request why (sym (refusal_of-story stories history (game_of history) request why none e))

@@ -1,0 +1,21 @@
+use Rattle.std.proofs.Common.{◌≡◌, Some}
+use Rattle.session_core.specs.History.{game_of}
+use Rattle.session_core.specs.Answer.{first_of, plain_checks}
+use Rattle.session_desk.specs.Desk.{DeskState}
+use Rattle.session_desk.proofs.VerdictLemmas.{plain-told}
+use Rattle.session_desk.proofs.desk.Desk.check.Goals as goal
+
+pub returns-in-Some-clause-value : goal.returns-in-Some-clause-value
+returns-in-Some-clause-value c =
+    let desk : DeskState = record {
+      session = c.self.inside.session;
+      stories = c.self.inside.stories.now;
+      budget = c.self.inside.budget;
+      commands = c.self.inside.commands.items;
+      held = c.self.inside.held;
+    } in
+    let refused : first_of (plain_checks c.self.inside.stories.now (game_of c.self.inside.commands.items) c.args.request.now) ≡ Some c.in-Some.why = cc in
+    rw (← c.self.view_is) (plain-told desk c.args.request.now c.in-Some.why refused)
+
+pub returns-in-Some-clause-cold : goal.returns-in-Some-clause-cold
+returns-in-Some-clause-cold c = λ e. absurd cc

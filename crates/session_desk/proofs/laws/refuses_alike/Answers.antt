@@ -1,0 +1,5 @@
+use Rattle.session_desk.proofs.LawLemmas as laws
+use Rattle.session_desk.proofs.laws.refuses_alike.Goals as goal
+
+pub returns : goal.returns
+returns c = laws.refuses

@@ -1,0 +1,82 @@
+-- A command that a desk commits to a journal (own).
+use Rattle.std.specs.Prelude.{◌≡◌, ℕ, ◌+◌, Bool, IsTrue, List, [], ◌∷◌, ◌++◌}
+use Rattle.std.specs.Prelude.{length, Result, Ok, Err, Some}
+use Rattle.disk_model.specs.Disk.{LeavesOnly}
+use Rattle.gate_journal.specs.Command.{IsCommand}
+use Rattle.gate_journal.specs.Faults.{IsFault}
+use Rattle.gate_journal.specs.Log.{Log, rows_of, next_row, Meanwhile, SameLog}
+use Rattle.gate_journal.specs.Rows.{commands_of}
+use Rattle.gate_journal.specs.declared.command.Command.{Command}
+use Rattle.gate_journal.specs.declared.command.Command.TheVariants as commands
+use Rattle.gate_journal.specs.declared.entry.Entry.TheVariants.{Kept, Faulted}
+use Rattle.line_words.specs.declared.request.Request.{Request}
+use Rattle.line_words.specs.declared.request.Request.TheVariants.{Open, Line, Char, File, Last}
+use Rattle.line_words.specs.declared.request.Request.TheVariants.{Close}
+use Rattle.session_core.specs.Checks.{command_of}
+use Rattle.session_desk.specs.declared.refused.Refused.{Refused}
+use Rattle.session_desk.specs.declared.refused.Refused.TheVariants.{DiskFault, NoMemory}
+use Rattle.session_desk.specs.Desk.{DeskState, committed}
+
+-- a journal may keep what the request asks for, whatever digest its story has: the fields are in
+-- their ranges
+abbrev pub IsInRange : Request → Type 0
+IsInRange (Open s key story seed cols rows budget) =
+    (digest : List ℕ) → length digest ≡ 32
+    → IsCommand (commands.Open key story digest seed cols rows budget)
+IsInRange (Line s key n win text term) = IsCommand (commands.Line win term text)
+IsInRange (Char s key n win code) = IsCommand (commands.Char win code)
+IsInRange (File s key n name) = IsCommand (commands.File name)
+IsInRange (Last s key) = Unit {0}
+IsInRange (Close s key n) = Unit {0}
+
+-- an OPEN has a digest of 32 bytes
+abbrev pub HasDigest : Command → Type 0
+HasDigest (commands.Open key story digest seed cols rows budget) = length digest ≡ 32
+HasDigest command = Unit {0}
+
+-- the desk's commands are the journal's rows of its session
+abbrev pub IsKept : {D : Type 0} → DeskState → Log D → Type 0
+IsKept desk log = commands_of (rows_of log.entries) desk.session ≡ desk.commands
+
+-- the journal has the command behind the last row
+abbrev pub Extends : {D : Type 0} → ℕ → Command → Log D → Log D → Type 0
+Extends session command old new =
+    new.entries ≡ old.entries ++ Kept (next_row (rows_of old.entries) session command) ∷ []
+
+-- the journal and the desk have taken the command that the request asks for
+pub record Commits
+    {D : Type 0}
+    (request : Request)
+    (desk : DeskState)
+    (log : Log D)
+    (new_desk : DeskState)
+    (new_log : Log D) : Type 0 where
+  pub command : Command
+  pub asked : command_of desk.stories request ≡ Some command
+  pub taken : new_desk ≡ committed desk command
+  pub row : Extends desk.session command log new_log
+
+-- what a refusal leaves of the journal: its disk's fault as an entry, or all as before
+abbrev pub Leaves : {D : Type 0} → (D → ℕ) → ℕ → Log D → Log D → Refused → Type 0
+Leaves faults session old new (DiskFault fault) =
+    IsFault fault (faults old.disk) (faults new.disk)
+    × (new.entries ≡ old.entries ++ Faulted (session + 1) fault.from fault.to ∷ [])
+Leaves faults session old new NoMemory = SameLog old new
+
+-- the append was begun: the call answered Ok, or that the disk failed
+abbrev pub WhereBegun : {T : Type 0} → Result T Refused → Type 0 → Type 0
+WhereBegun (Ok x) P = P
+WhereBegun (Err (DiskFault fault)) P = P
+WhereBegun (Err NoMemory) P = Unit {0}
+
+-- Meanwhile a stop leaves the rows from before alone, or these and the uncertain one, or these and
+-- the new one.
+abbrev pub Stops :
+    {D : Type 0}
+    → (D → Bool) → (D → ℕ) → (D → ℕ → List ℕ → Type 0)
+    → ℕ → Command → Log D → Log D → Type 0
+Stops tells moment left_since session command old new =
+    IsTrue (tells old.disk)
+    → LeavesOnly moment left_since old.disk new.disk
+    (Meanwhile (rows_of old.entries) old.uncertain
+    (next_row (rows_of old.entries) session command))

@@ -1,0 +1,81 @@
+-- A desk answers as a session that is played from the start (own).
+use Rattle.std.specs.Prelude.{◌≡◌, ℕ, ◌≤◌, true, false, List, length, Option, Some}
+use Rattle.std.specs.Prelude.{None}
+use Rattle.gate_journal.specs.Command.{IsBudget}
+use Rattle.gate_journal.specs.Rows.{commands_of, IsJournal}
+use Rattle.gate_journal.specs.declared.command.Command.{Command}
+use Rattle.gate_journal.specs.declared.row.Row.{Row}
+use Rattle.line_words.specs.Request.{request_of}
+use Rattle.line_words.specs.declared.request.Request.{Request}
+use Rattle.line_words.specs.declared.reply.No.{No}
+use Rattle.line_words.specs.declared.reply.Reply.TheVariants as replies
+use Rattle.story_run.specs.declared.story.Story.{Story}
+use Rattle.session_core.specs.declared.decision.Decision.{Decision}
+use Rattle.session_core.specs.Checks.{command_of}
+use Rattle.session_core.specs.Answer.{answer}
+use Rattle.session_core.specs.Sessions.{with_budget}
+use Rattle.session_desk.specs.Commit.{IsInRange}
+use Rattle.session_desk.specs.declared.verdict.Verdict.{Verdict}
+use Rattle.session_desk.specs.declared.verdict.Verdict.TheVariants.{Refuse, Again, Fresh, Cold}
+use Rattle.session_desk.specs.Desk.{DeskState, committed, is_cold, shown_to, warmed}
+use Rattle.session_desk.specs.Verdict.{lacks_world, verdict}
+
+-- what the session answers to a request, played from the start
+abbrev pub answered : DeskState → Request → Decision
+answered desk request = answer desk.stories desk.commands request
+
+-- The desk refuses what the session refuses, for the same cause.
+abbrev pub RefusesAlike : Type 0
+RefusesAlike =
+    (desk : DeskState) (request : Request) (why : No)
+    → verdict desk request ≡ Refuse why
+    → answered desk request ≡ record { reply = replies.No why; accepted = None }
+
+-- Where a request comes again, the desk's last show is the session's reply, and the session accepts
+-- nothing.
+abbrev pub ShowsAgain : Type 0
+ShowsAgain =
+    (desk : DeskState) (request : Request)
+    → verdict desk request ≡ Again
+    → answered desk request ≡ record { reply = shown_to desk request; accepted = None }
+
+-- Where a request is fresh, the session accepts the command that it asks for, and the last show of
+-- the desk with that command is its reply.
+abbrev pub ShowsFresh : Type 0
+ShowsFresh =
+    (desk : DeskState) (request : Request)
+    → verdict desk request ≡ Fresh
+    → (command : Command) × (command_of desk.stories request ≡ Some command)
+    × (answered desk request
+    ≡ record { reply = shown_to (committed desk command) request; accepted = Some command })
+
+-- A desk says that it is cold where the answer needs the world that it doesn't hold, and nowhere
+-- else.
+abbrev pub IsColdAlone : Type 0
+IsColdAlone =
+    (desk : DeskState) (request : Request)
+    → (verdict desk request ≡ Cold → lacks_world desk request ≡ true)
+    × (lacks_world desk request ≡ true → verdict desk request ≡ Cold)
+
+-- A desk that a request finds cold isn't cold once it was warmed; nor is one with a fresh request's
+-- command, once that was run.
+abbrev pub StaysWarm : Type 0
+StaysWarm =
+    (desk : DeskState) (request : Request)
+    → (verdict desk request ≡ Cold → is_cold (warmed desk) ≡ false)
+    × ((command : Command) → verdict desk request ≡ Fresh
+    → command_of desk.stories request ≡ Some command
+    → is_cold (warmed (committed desk command)) ≡ false)
+
+-- A journal has at most 8,192 rows of each session, as many as a desk takes.
+abbrev pub JournalsFit : Type 0
+JournalsFit =
+    (rows : List Row) (session : ℕ)
+    → IsJournal rows → length (commands_of rows session) ≤ 8192
+
+-- What a line spells may be committed, with the budget that it is read with or that of a host.
+abbrev pub ReadsInRange : Type 0
+ReadsInRange =
+    (line : List ℕ) (request : Request) (budget : ℕ)
+    → request_of line ≡ Some request → IsBudget budget
+    → IsInRange request × IsInRange (with_budget budget request)

@@ -1,0 +1,5 @@
+pub mod Desk
+pub mod Wanted
+pub mod Verdict
+pub mod Commit
+pub mod Laws

@@ -1,0 +1,87 @@
+//! A command that is kept in the journal (own).
+
+ghost use Rattle.std.specs.Prelude.{◌≡◌, ◌<◌, ◌++◌, ◌∷◌, [], Some, IfOk, IfErr};
+ghost use Rattle.std.specs.Prelude.{OnOk, IsSome};
+ghost use Rattle.std.specs.Prelude.{MatchResult, length, vec_len, vec_capacity};
+ghost use Rattle.disk_model.specs.Disk.{SameDisk};
+ghost use Rattle.gate_journal.specs.Command.{IsCommand};
+ghost use Rattle.gate_journal.specs.Log.{rows_of, next_row};
+ghost use Rattle.gate_journal.specs.Rows.{MayStand};
+ghost use Rattle.session_core.specs.Checks.{command_of};
+ghost use Rattle.session_desk.specs.Desk.{aside};
+ghost use Rattle.session_desk.specs.Commit.{Extends, HasDigest, IsInRange, Leaves, Stops};
+ghost use Rattle.session_desk.specs.Commit.{WhereBegun};
+
+use crate::held::{Held, aside};
+use crate::refused::Refused;
+use disk_model::Disk;
+use gate_journal::{Command, Journal};
+use line_words::Request;
+use session_core::command_of;
+use std::alloc::{AllocError, Global};
+use std::mem;
+use story_run::Story;
+
+/// Every digest has 32 bytes.
+fn is_whole(_digest: [u8; 32])
+    ensures { length _digest ≡ 32 }
+{}
+
+/// So has that of every OPEN.
+fn has_digest(command: &Command)
+    ensures { HasDigest command.now }
+{
+    if let Command::Open { digest, .. } = command {
+        is_whole(*digest);
+    }
+}
+
+/// The command that the request asks for.
+pub fn asked(alloc: Global, stories: &[Story], request: &Request) -> Result<Command, AllocError>
+    requires some { IsSome (command_of stories.now request.now) }
+    requires ranges { IsInRange request.now }
+    ensures value { IfOk result (λ command. command_of stories.now request.now ≡ Some command) }
+    ensures ranges { IfOk result (λ command. IsCommand command) }
+{
+    let command = command_of(alloc, stories, request)?.unwrap();
+    has_digest(&command);
+    Ok(command)
+}
+
+/// Takes the memory of a row, and then writes it.
+pub fn write_down<D: Disk>(
+    alloc: Global,
+    journal: &mut Journal<D>,
+    session: u8,
+    command: &Command,
+) -> Result<(), Refused>
+    requires { MayStand (rows_of journal.old.entries) session command.now }
+    ensures ok { OnOk result (Extends session command.now journal.old journal.new) }
+    ensures err { IfErr result (λ why. Leaves D.faults session journal.old journal.new why) }
+    ensures rows { MatchResult result
+        (λ _. rows_of journal.new.entries ≡ rows_of journal.old.entries
+        ++ next_row (rows_of journal.old.entries) session command.now ∷ [])
+        (λ _. rows_of journal.new.entries ≡ rows_of journal.old.entries) }
+    ensures kept { SameDisk D.tells D.room D.label journal.old.disk journal.new.disk }
+    ensures crash { WhereBegun result
+        (Stops D.tells D.moment D.left_since session command.now journal.old journal.new) }
+{
+    let Ok(()) = journal.reserve(alloc) else {
+        return Err(Refused::NoMemory);
+    };
+    match journal.append(session, command) {
+        Ok(_) => Ok(()),
+        Err(fault) => Err(Refused::DiskFault(fault)),
+    }
+}
+
+/// Takes a command down, for which there is room.
+pub fn take_down(commands: &mut Vec<Command>, held: &mut Held<'_>, command: Command)
+    requires { vec_len commands.old < vec_capacity commands.old }
+    ensures commands { commands.new.items ≡ commands.old.items ++ command ∷ [] }
+    ensures held { held.new ≡ aside command held.old }
+{
+    let before = mem::replace(held, Held::Nothing);
+    *held = aside(&command, before);
+    let _ = commands.push(command);
+}

@@ -1,0 +1,212 @@
+//! A desk: one session, kept warm (own).
+
+ghost use Rattle.std.specs.Prelude.{◌≡◌, ◌≤◌, ◌<◌, ◌+◌, IsTrue, true, false};
+ghost use Rattle.std.specs.Prelude.{length, None, Some};
+ghost use Rattle.std.specs.Prelude.{IfOk, IfErr, OnOk, OnErr, MatchOption, MatchResult, ⊤};
+ghost use Rattle.disk_model.specs.Disk.{SameDisk};
+ghost use Rattle.gate_journal.specs.Rows.{commands_of};
+ghost use Rattle.gate_journal.specs.declared.command.Command.{Command};
+ghost use Rattle.session_core.specs.History.{last_of};
+ghost use Rattle.session_core.specs.Checks.{command_of};
+ghost use Rattle.session_core.specs.Answer.{shown_number};
+ghost use Rattle.session_core.specs.Turns.{turns_of};
+ghost use Rattle.session_desk.specs.Desk.{game, is_cold, is_to_run, last_show, warmed, emptied};
+ghost use Rattle.session_desk.specs.Desk.{opened};
+ghost use Rattle.session_desk.specs.Verdict.{verdict};
+ghost use Rattle.session_desk.specs.declared.verdict.Verdict.TheVariants.{Fresh, Cold};
+ghost use Rattle.session_desk.specs.Commit.{Commits, IsInRange, IsKept, Leaves, Stops};
+ghost use Rattle.session_desk.specs.Commit.{WhereBegun};
+
+use crate::check::{in_no_world, in_world};
+use crate::commit::{asked, take_down, write_down};
+use crate::held::{Held, ran, warmed};
+use crate::refused::Refused;
+use crate::rows::commands_of;
+use crate::verdict::Verdict;
+use disk_model::Disk;
+use gate_journal::{Command, Journal, Row};
+use line_words::Request;
+use session_core::{game_of, is_in_use, plain_refusal, shown_number};
+use std::alloc::{AllocError, Global};
+use std::marker::Model;
+use std::mem;
+use std::sync::ledger::Ledger;
+use story_run::{Steps, Story};
+
+/// One session, with the commands that it accepted and, where it is warm, the world that they have
+/// come to. It is cold where the session is in use and its world isn't held.
+#[derive(Drop)]
+pub struct Desk<'i> {
+    alloc: Global,
+    session: u8,
+    stories: &'i [Story<'i>],
+    budget: u64,
+    commands: Vec<Command>,
+    held: Held<'i>,
+}
+
+impl<'i> Model for Desk<'i> {
+    ghost use Rattle.session_desk.specs.Desk.{DeskState, IsDesk};
+
+    ghost Value = { DeskState };
+
+    ghost view = { λ d. record {
+      session = d.session;
+      stories = d.stories.now;
+      budget = d.budget;
+      commands = d.commands.items;
+      held = d.held;
+    } };
+
+    ghost invariant = { λ d. IsDesk (record {
+      session = d.session;
+      stories = d.stories.now;
+      budget = d.budget;
+      commands = d.commands.items;
+      held = d.held;
+    }) };
+}
+
+impl<'i> Desk<'i> {
+    /// The desk of a session, below 64, with the commands of its rows, at most 8,192. Its world
+    /// isn't held. The budget is that of a turn, in ticks, for whoever reads requests to open the
+    /// session.
+    pub fn open(
+        alloc: Global,
+        session: u8,
+        stories: &'i [Story<'i>],
+        budget: u64,
+        rows: &[Row],
+    ) -> Result<Desk<'i>, AllocError>
+        requires session { session < 64 }
+        requires within { length (commands_of rows.now session) ≤ 8192 }
+        ensures value { IfOk result (λ desk. desk
+            ≡ opened session stories.now budget (commands_of rows.now session)) }
+    {
+        let commands = commands_of(alloc, rows, session)?;
+        Ok(Desk {
+            alloc,
+            session,
+            stories,
+            budget,
+            commands,
+            held: Held::Nothing,
+        })
+    }
+
+    /// The budget of a turn, in ticks, with which the session is to be opened.
+    pub fn budget(&self) -> u64
+        ensures value { result ≡ self.now.budget }
+    {
+        self.budget
+    }
+
+    /// What the request will be answered. It takes no memory.
+    pub fn check(&self, request: &Request) -> Verdict
+        ensures value { result ≡ verdict self.now request.now }
+        ensures cold { result ≡ Cold → IsTrue (is_cold self.now) }
+    {
+        let commands = self.commands.as_slice();
+        if let Some(why) = plain_refusal(self.stories, game_of(commands), request) {
+            return Verdict::Refuse(why);
+        }
+        match &self.held {
+            Held::Current(world) => in_world(self.alloc, self.stories, commands, world, request),
+            Held::Nothing | Held::Previous(_) => in_no_world(self.stories, commands, request),
+        }
+    }
+
+    /// Plays a cold session from the start. One step is one turn.
+    pub fn warm<L: Ledger>(&mut self, alloc: Global, steps: &mut Steps<L>) -> Result<(), AllocError>
+        requires cold { IsTrue (is_cold self.old) }
+        ensures ok { OnOk result (self.new ≡ warmed self.old) }
+        ensures cost { OnOk result
+            (steps.new ≡ steps.old + turns_of self.old.stories (game self.old)) }
+        ensures err { OnErr result (self.new ≡ self.old) }
+    {
+        self.held = warmed(alloc, self.stories, game_of(&self.commands), steps)?;
+        Ok(())
+    }
+
+    /// Makes the session accept the command that a fresh request asks for, by a row in the journal;
+    /// the world is set aside for `run`. The memory is taken before the row is written. Of `_by`,
+    /// the number of the pass of a host that many share, nothing is kept.
+    pub fn commit<D: Disk>(
+        &mut self,
+        alloc: Global,
+        _by: u64,
+        journal: &mut Journal<D>,
+        request: &Request,
+    ) -> Result<(), Refused>
+        requires fresh { verdict self.old request.now ≡ Fresh }
+        requires ranges { IsInRange request.now }
+        requires rows { IsKept self.old journal.old }
+
+        ensures ok { OnOk result
+            (Commits request.now self.old journal.old self.new journal.new) }
+        ensures runs { OnOk result
+            (IsTrue (is_to_run self.new.held (last_of (game self.new)))) }
+        ensures err { OnErr result (self.new ≡ self.old) }
+        ensures cause { IfErr result (λ why.
+            Leaves D.faults self.old.session journal.old journal.new why) }
+        ensures rows { IsKept self.new journal.new }
+        ensures kept { SameDisk D.tells D.room D.label journal.old.disk journal.new.disk }
+        ensures crash { (command : Command)
+            → command_of self.old.stories request.now ≡ Some command
+            → WhereBegun result (Stops D.tells D.moment D.left_since self.old.session command
+            journal.old journal.new) }
+    {
+        let Ok(command) = asked(alloc, self.stories, request) else {
+            return Err(Refused::NoMemory);
+        };
+        let Ok(()) = self.commands.reserve(1) else {
+            return Err(Refused::NoMemory);
+        };
+        // with the count comes what holds of every journal
+        let _count = journal.row_count();
+        match write_down(alloc, journal, self.session, &command) {
+            Ok(()) => {
+                take_down(&mut self.commands, &mut self.held, command);
+                Ok(())
+            }
+            Err(why) => Err(why),
+        }
+    }
+
+    /// Gives the story the command that was just committed: the turn of the world that was set
+    /// aside. An OPEN begins the story, and a CLOSE does nothing. Where memory runs out the world
+    /// is gone.
+    pub fn run(&mut self, alloc: Global) -> Result<(), AllocError>
+        requires { IsTrue (is_to_run self.old.held (last_of (game self.old))) }
+        ensures ok { OnOk result (self.new ≡ warmed self.old) }
+        ensures err { OnErr result (self.new ≡ emptied self.old) }
+    {
+        let held = mem::replace(&mut self.held, Held::Nothing);
+        self.held = ran(alloc, self.stories, game_of(&self.commands), held)?;
+        Ok(())
+    }
+
+    /// The lines of the last show: `E closed` once the session was closed, and none before it was
+    /// first opened. None where the desk is cold.
+    pub fn last(&self) -> Option<&[u8]>
+        ensures cold { MatchOption result (IsTrue (is_cold self.now))
+            (λ show. is_cold self.now ≡ false) }
+        ensures value { MatchOption result ⊤ (λ show. show.now ≡ last_show self.now) }
+    {
+        let game = game_of(&self.commands);
+        match &self.held {
+            Held::Current(world) => Some(world.last()),
+            _ if is_in_use(game) => None,
+            _ if game.is_empty() => Some(&[]),
+            _ => Some(b"E closed\n"),
+        }
+    }
+
+    /// The number in the show that the request gets: 0 for OPEN, that of the last command for LAST,
+    /// else the request's own.
+    pub fn number(&self, request: &Request) -> u32
+        ensures value { result ≡ shown_number (game self.now) request.now }
+    {
+        shown_number(game_of(&self.commands), request)
+    }
+}

@@ -1,0 +1,105 @@
+//! The world that a desk holds (own).
+
+ghost use Rattle.std.specs.Prelude.{◌≡◌, ◌+◌, IsTrue, IfOk, OnOk};
+ghost use Rattle.session_core.specs.History.{game_of, is_in_use, turned_on, input_of};
+ghost use Rattle.session_core.specs.Turns.{turns_of};
+ghost use Rattle.session_desk.specs.Desk.{aside, held_of, Holds};
+
+use gate_journal::Command;
+use session_core::{game_of, is_in_use, replay, turn_on, world_of};
+use std::alloc::{AllocError, Global};
+use std::marker::Brand;
+use std::sync::ledger::{Blank, Ledger};
+use story_run::{Steps, Story, World};
+
+/// What is held of a session's world.
+#[derive(Drop)]
+pub enum Held<'i> {
+    Nothing,
+    /// The world that the commands have come to.
+    Current(World<'i>),
+    /// The world that the last command turns into that.
+    Previous(World<'i>),
+}
+
+/// The world of a session in use, played from the start.
+pub fn warmed<'i, L: Ledger>(
+    alloc: Global,
+    stories: &[Story<'i>],
+    game: &[Command],
+    steps: &mut Steps<L>,
+) -> Result<Held<'i>, AllocError>
+    requires { IsTrue (is_in_use game.now) }
+    ensures value { IfOk result (λ held. held ≡ held_of stories.now game.now) }
+    ensures cost { OnOk result (steps.new ≡ steps.old + turns_of stories.now game.now) }
+{
+    match replay(alloc, stories, game, steps)? {
+        Some(world) => Ok(Held::Current(world)),
+        None => Ok(Held::Nothing),
+    }
+}
+
+/// The world of a session that was just opened, or nothing of one that was closed.
+fn begun<'i>(alloc: Global, stories: &[Story<'i>], game: &[Command]) -> Result<Held<'i>, AllocError>
+    ensures { IfOk result (λ held. held ≡ held_of stories.now game.now) }
+{
+    if !is_in_use(game) {
+        return Ok(Held::Nothing);
+    }
+    match world_of(alloc, stories, game)? {
+        Some(world) => Ok(Held::Current(world)),
+        None => Ok(Held::Nothing),
+    }
+}
+
+/// The world after a command, with a count of its own, which begins with this blank.
+fn turned<'i, L: Ledger>(
+    alloc: Global,
+    world: World<'i>,
+    command: &Command,
+    blank: Blank,
+) -> Result<World<'i>, AllocError>
+    requires name { blank.name ≡ L.name }
+    requires parts { blank.parts ≡ L.parts }
+    requires one { L.parts ≡ 1 }
+    ensures { IfOk result (λ after. after ≡ turned_on world.entry (input_of command.now)) }
+{
+    let mut steps = Steps::<L>::new(blank);
+    turn_on(alloc, world, command, &mut steps)
+}
+
+/// What is held once the last command was run.
+pub fn ran<'i>(
+    alloc: Global,
+    stories: &[Story<'i>],
+    game: &[Command],
+    held: Held<'i>,
+) -> Result<Held<'i>, AllocError>
+    requires { Holds stories.now game.now held }
+    ensures { IfOk result (λ now. now ≡ held_of stories.now game.now) }
+{
+    match held {
+        Held::Nothing => begun(alloc, stories, game),
+        Held::Current(world) => Ok(Held::Current(world)),
+        Held::Previous(world) => match game.last() {
+            Some(command) => {
+                let world = turned::<Brand>(alloc, world, command, Blank::new(1))?;
+                Ok(Held::Current(world))
+            }
+            None => Ok(Held::Current(world)),
+        },
+    }
+}
+
+/// What is set aside of a world as the command comes.
+pub fn aside<'i>(command: &Command, held: Held<'i>) -> Held<'i>
+    ensures { result ≡ aside command.now held.entry }
+{
+    match command {
+        Command::Open { .. } | Command::Close => Held::Nothing,
+        Command::Line { .. } | Command::Char { .. } | Command::File { .. } => match held {
+            Held::Current(world) => Held::Previous(world),
+            Held::Nothing | Held::Previous(_) => Held::Nothing,
+        },
+    }
+}

@@ -1,0 +1,23 @@
+//! One session kept warm: it answers as one that is played from the start for each request.
+#![tactic(auto)]
+
+mod check;
+mod commit;
+mod desk;
+mod held;
+mod laws;
+mod refused;
+mod rows;
+mod verdict;
+mod wanted;
+
+pub use desk::Desk;
+pub use laws::{
+    is_cold_alone, journals_fit, reads_in_range, refuses_alike, shows_again, shows_fresh,
+    stays_warm,
+};
+pub use refused::Refused;
+pub use verdict::Verdict;
+
+#[cfg(test)]
+mod tests;

@@ -1,0 +1,61 @@
+//! Whether a story takes what a request gives it (own).
+
+ghost use Rattle.std.specs.Prelude.{◌≡◌, [], Some};
+ghost use Rattle.session_desk.specs.Wanted.{outline, refusal_in, request_input};
+
+use glk_input::Input;
+use line_words::{No, Request};
+use std::alloc::Global;
+use story_run::World;
+use story_text::Text;
+
+/// A text of no characters, which takes no memory.
+fn no_text(alloc: Global) -> Text
+    ensures { result ≡ [] }
+{
+    Text::of(String::new(alloc))
+}
+
+/// What a request gives the story, but for its text.
+fn outline(alloc: Global, request: &Request) -> Option<Input>
+    ensures { result ≡ outline request.now }
+{
+    match request {
+        Request::Line { win, term, .. } => Some(Input::Line {
+            win: *win,
+            text: no_text(alloc),
+            key: *term,
+        }),
+        Request::Char { win, code, .. } => Some(Input::Char {
+            win: *win,
+            code: *code,
+        }),
+        Request::File { .. } => Some(Input::File {
+            name: no_text(alloc),
+        }),
+        Request::Open { .. } | Request::Last { .. } | Request::Close { .. } => None,
+    }
+}
+
+/// Why the story doesn't take a new input: it is over, or doesn't wait for that one.
+fn refusal_in(world: &World, input: &Input) -> Option<No>
+    ensures { result ≡ refusal_in world.now (Some input.now) }
+{
+    if world.is_over() {
+        return Some(No::Over);
+    }
+    if !world.wants(input) {
+        return Some(No::Unwanted);
+    }
+    None
+}
+
+/// Why the story doesn't take what a new request gives it.
+pub fn story_refusal(alloc: Global, world: &World, request: &Request) -> Option<No>
+    ensures { result ≡ refusal_in world.now (request_input request.now) }
+{
+    match outline(alloc, request) {
+        Some(input) => refusal_in(world, &input),
+        None => None,
+    }
+}
