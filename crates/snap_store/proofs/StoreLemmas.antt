@@ -16,7 +16,7 @@ use Rattle.snap_store.specs.File.{is_open, open_area, openable_area, place_at, c
 use Rattle.snap_store.specs.Slots.{other, slot_of, slot_in, is_before, newest_side}
 use Rattle.snap_store.specs.Slots.{beside, taken_side}
 use Rattle.snap_store.specs.Images.{IsOf, Stands, IsLaid}
-use Rattle.snap_store.specs.Store.{Snapshots, held, IsOpenIn, IsImageOf}
+use Rattle.snap_store.specs.Store.{Snapshots, area_of, held, IsOpenIn, IsImageOf}
 use Rattle.snap_store.specs.Store.{IsSound}
 use Rattle.snap_store.specs.File.{newest_area, given}
 use Rattle.snap_store.specs.Store.{IsGiven}
@@ -225,6 +225,20 @@ module _ {D : Type 0} (seen : D → List ℕ) (store : Snapshots D) (c : List �
         there = found.2;
       }
 
+  -- each that is known to be open
+  synced_at :
+      (side : Side) (place count : ℕ) → has_header c ≡ true
+      → slot_of store.slots side ≡ Open place count
+      → Stands side (slot_of store.slots side) (whole_area side (seen store.disk)) c
+      → (area : Stored) × (area_of seen store side ≡ Some area)
+      × (open_area side c ≡ Some area) × (area.place ≡ place) × (area.count ≡ count)
+  synced_at side place count header is stands =
+      let file = seen store.disk in
+      let there = subst (λ (s : Slot). Stands side s (whole_area side file) c) is stands in
+      let found = stands_open side place count file c header there in
+      let head = subst (λ (o : Option Stored). IsOf place count o) found.1 there.2 in
+      (found.0, ap (λ (s : Slot). held side s file) is ∙ found.1, found.2, head.0, head.1)
+
   -- where both sides stand as they are seen
   module _ (made : store.made ≡ true) (header : has_header c ≡ true)
       (stands : (side : Side)
@@ -238,6 +252,7 @@ module _ {D : Type 0} (seen : D → List ℕ) (store : Snapshots D) (c : List �
           stands_openable side (slot_of store.slots side) (seen store.disk) c area (stands side)
           (open_openable side c area is);
       newest = λ side is. open_at side header is (stands side);
+      synced = λ side place count is. synced_at side place count header is (stands side);
     }
 
   -- a file without its header
@@ -250,10 +265,21 @@ module _ {D : Type 0} (seen : D → List ℕ) (store : Snapshots D) (c : List �
     openable = λ side area is. absurd (none_opens side area is);
     opened = λ side area is. absurd (none_opens side area (open_openable side c area is));
     newest = λ side is. absurd (no_side side (sym (none_newest store.slots a b) ∙ is));
+    synced = λ side place count is.
+        absurd (closed_open place count (sym (slot_closed side store.slots a b) ∙ is));
   }
     where
       false_true : false ≡ true → ⊥
       false_true is = cc
+
+      closed_open : (place count : ℕ) → Closed ≡ Open place count → ⊥
+      closed_open place count is = cc
+
+      slot_closed :
+          (side : Side) (slots : Slots) → slots.a ≡ Closed → slots.b ≡ Closed
+          → slot_of slots side ≡ Closed
+      slot_closed A slots a b = a
+      slot_closed B slots a b = b
 
       none_opens : (side : Side) (area : Stored) → openable_area side c ≡ Some area → ⊥
       none_opens side area is = false_true (sym header ∙ (openable_is side c area is).0)

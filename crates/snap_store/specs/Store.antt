@@ -58,6 +58,11 @@ pub record IsImageOf
   pub newest :
       (side : Side) → newest_side store.slots ≡ Some side
       → IsOpenIn seen store side image
+  -- and so is each whose gate is known to be; what is known of its row and count is the area's
+  pub synced :
+      (side : Side) (place count : ℕ) → slot_of store.slots side ≡ Open place count
+      → (area : Stored) × (area_of seen store side ≡ Some area)
+      × (open_area side image ≡ Some area) × (area.place ≡ place) × (area.count ≡ count)
 
 -- an image that a stop may leave while a put of an area goes on, or after it
 pub record IsPutImage

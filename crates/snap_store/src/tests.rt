@@ -52,34 +52,22 @@ fn the_newest_that_is_not_too_new_is_found(rt: HostRuntime) -> Result<(), Fail> 
     Ok(())
 }
 
-// An even choice draws the file's size of the last sync, which is small here.
 #[test]
-fn a_stop_in_a_put_leaves_the_other_area(rt: HostRuntime) -> Result<(), Fail> {
+fn a_fault_and_a_stop_at_each_of_seven_calls_leave_the_other_area(
+    rt: HostRuntime,
+) -> Result<(), Fail> {
     let alloc = rt.alloc();
-    for call in 0..4 {
-        let mut store = started(alloc, 13 + call)?;
-        assert!(rt; store.put(OPEN_ROW, 32, b"bbb") == Err(DiskFault { from: 0, to: 1 }));
+    for call in 0..7 {
+        let mut store = started(alloc, 19 + call)?;
+        assert!(rt; store.put(OPEN_ROW, 32, b"bbb").is_ok());
+        assert!(rt; store.put(OPEN_ROW, 48, b"ccc") == Err(DiskFault { from: 0, to: 1 }));
         let disk = store.into_disk();
-        for choice in [0, 10, 30] {
+        for choice in [0, 10, 21, 31] {
             let Ok(mut left) = Store::open(disk.after_stop(alloc, choice)?) else {
                 return Err("open".into());
             };
-            assert!(rt; is_whole(&left.newest(alloc, OPEN_ROW, 31), 16, b"aaa"));
+            assert!(rt; is_whole(&left.newest(alloc, OPEN_ROW, 47), 32, b"bbb"));
         }
-    }
-    Ok(())
-}
-
-#[test]
-fn a_fault_at_a_gate_leaves_the_other_area(rt: HostRuntime) -> Result<(), Fail> {
-    let alloc = rt.alloc();
-    for call in 4..6 {
-        let mut store = started(alloc, 13 + call)?;
-        assert!(rt; store.put(OPEN_ROW, 32, b"bbb") == Err(DiskFault { from: 0, to: 1 }));
-        let Ok(mut again) = Store::open(store.into_disk()) else {
-            return Err("open".into());
-        };
-        assert!(rt; is_whole(&again.newest(alloc, OPEN_ROW, 31), 16, b"aaa"));
     }
     Ok(())
 }
