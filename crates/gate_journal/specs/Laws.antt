@@ -17,5 +17,3 @@ IsNeverBoth = (bytes : List ℕ) (rows : List Row) (place : ℕ) → SpellsRows 
 abbrev pub HasOnePlace : Type 0
 HasOnePlace = (bytes : List ℕ) (place other : ℕ) → IsCorrupt bytes place
     → IsCorrupt bytes other → place ≡ other
-
--- an image that an opening may meet is closed well, and spells the rows or one more
