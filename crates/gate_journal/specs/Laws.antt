@@ -1,7 +1,10 @@
 -- What bytes spell, they spell alone (own).
-use Rattle.std.specs.Prelude.{◌≡◌, ℕ, List}
+use Rattle.std.specs.Prelude.{◌≡◌, ℕ, ◌+◌, ◌≤◌, List, length}
+use Rattle.gate_journal.specs.declared.command.Command.{Command}
 use Rattle.gate_journal.specs.declared.row.Row.{Row}
-use Rattle.gate_journal.specs.Rows.{SpellsRows, IsCorrupt}
+use Rattle.gate_journal.specs.Command.{IsCommand}
+use Rattle.gate_journal.specs.Rows.{spelled, SpellsRows, IsCorrupt}
+use Rattle.gate_journal.specs.Log.{next_row, end_of}
 
 -- bytes spell one list of rows
 abbrev pub SpellsOneList : Type 0
@@ -18,4 +21,7 @@ abbrev pub HasOnePlace : Type 0
 HasOnePlace = (bytes : List ℕ) (place other : ℕ) → IsCorrupt bytes place
     → IsCorrupt bytes other → place ≡ other
 
--- an image that an opening may meet is closed well, and spells the rows or one more
+-- an append ends at most 4,110 bytes behind the closing gate
+abbrev pub EndsWithin : Type 0
+EndsWithin = (rows : List Row) (session : ℕ) (command : Command) → IsCommand command
+    → end_of (next_row rows session command) ≤ length (spelled rows) + 4110

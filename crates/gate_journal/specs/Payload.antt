@@ -1,4 +1,4 @@
--- Which payload is a command's, and which command a payload's (own: docs/FORMATS.md, "The journal").
+-- Payloads and the commands that they are of (own: docs/FORMATS.md, "The journal").
 use Rattle.std.specs.Prelude.{◌≡◌, ℕ, List, take, drop}
 use Rattle.std.specs.Prelude.{slice_index}
 use Rattle.std.specs.Str.{chars}

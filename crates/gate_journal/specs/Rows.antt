@@ -1,6 +1,8 @@
 -- Rows of a journal, as its bytes spell them (own: docs/FORMATS.md, "The journal").
-use Rattle.std.specs.Prelude.{◌≡◌, ◌≢◌, ◌⊎◌, ℕ, ◌+◌, ◌<◌, ◌≤◌, Bool, true, false}
-use Rattle.std.specs.Prelude.{not, if◌then◌else◌, ◌==◌, List, [], ◌∷◌, ◌++◌, length}
+use Rattle.std.specs.Prelude.{◌≡◌, ◌≢◌, ◌⊎◌, ℕ, ◌+◌, ◌<◌, ◌≤◌}
+use Rattle.std.specs.Prelude.{Bool, true, false}
+use Rattle.std.specs.Prelude.{not, if◌then◌else◌, ◌==◌, List, [], ◌∷◌}
+use Rattle.std.specs.Prelude.{◌++◌, length}
 use Rattle.std.specs.Prelude.{slice_index}
 use Rattle.std.specs.Int.{w16, w32, w64, to_be_bytes}
 use Rattle.std.specs.Str.{encode_utf8_all}
@@ -12,7 +14,9 @@ use Rattle.gate_journal.specs.Command.{IsCommand}
 
 -- what a journal begins with: STHJ, version 1, and eight zeros
 abbrev pub header : List ℕ
-header = 83 ∷ 84 ∷ 72 ∷ 74 ∷ 0 ∷ 0 ∷ 0 ∷ 1 ∷ 0 ∷ 0 ∷ 0 ∷ 0 ∷ 0 ∷ 0 ∷ 0 ∷ 0 ∷ []
+header =
+    83 ∷ 84 ∷ 72 ∷ 74 ∷ 0 ∷ 0 ∷ 0 ∷ 1
+    ∷ 0 ∷ 0 ∷ 0 ∷ 0 ∷ 0 ∷ 0 ∷ 0 ∷ 0 ∷ []
 
 -- the number of a command's kind
 abbrev pub kind_of : Command → ℕ
@@ -108,7 +112,8 @@ pub record SpellsRows (bytes : List ℕ) (rows : List Row) : Type 0 where
 
 -- no row that may stand behind these stands past the gate at this place
 abbrev pub NoRowBehind : List ℕ → ℕ → List Row → Type 0
-NoRowBehind bytes place rows = (r : Row) → IsNext rows r → Holds bytes (place + 1) (body r) → ⊥
+NoRowBehind bytes place rows =
+    (r : Row) → IsNext rows r → Holds bytes (place + 1) (body r) → ⊥
 
 -- The bytes have the header and these rows. At the place behind them a gate is missing, or it is
 -- open and no row that may stand there follows.

@@ -1,6 +1,7 @@
 //! A new journal (own).
 
-ghost use Rattle.std.specs.Prelude.{◌≡◌, ◌≤◌, ◌++◌, [], ◌∷◌, IsTrue, OnOk, IfErr, max};
+ghost use Rattle.std.specs.Prelude.{◌≡◌, ◌≤◌, ◌++◌, [], ◌∷◌};
+ghost use Rattle.std.specs.Prelude.{IsTrue, OnOk, IfErr, max};
 ghost use Rattle.std.specs.Prelude.{MatchResult};
 ghost use Rattle.disk_model.specs.Disk.{Only, SameDisk, LeavesOnly, AfterWrite};
 ghost use Rattle.gate_journal.specs.Rows.{header};

@@ -55,7 +55,8 @@ fn is_open_in_range(
     rows: u8,
     budget: u64,
 ) -> bool
-    ensures { IsTrue result ↔ IsCommand (Command.Open key.now story digest seed cols rows budget) }
+    ensures { IsTrue result
+        ↔ IsCommand (Command.Open key.now story digest seed cols rows budget) }
 {
     is_key(key.as_slice()) && cols > 0 && rows > 0 && budget > 0 && budget <= MAX_BUDGET
 }

@@ -1,6 +1,7 @@
 //! The device calls of an append, and of the repair before it (own).
 
-ghost use Rattle.std.specs.Prelude.{◌≡◌, ◌⊎◌, ◌+◌, ◌<◌, ◌≤◌, ◌++◌, ◌∷◌, ℕ, List, IsTrue};
+ghost use Rattle.std.specs.Prelude.{◌≡◌, ◌⊎◌, ◌+◌, ◌<◌, ◌≤◌, ◌++◌, ◌∷◌};
+ghost use Rattle.std.specs.Prelude.{ℕ, List, IsTrue};
 ghost use Rattle.std.specs.Prelude.{IsOk, IsErrOf, OnOk, length, max};
 ghost use Rattle.disk_model.specs.Disk.{Holds, EachImage, LeavesOnly, Counts, SameDisk};
 ghost use Rattle.gate_journal.specs.Gate.{IsShut, IsUnsure};

@@ -1,6 +1,7 @@
 //! The journal (own).
 
-ghost use Rattle.std.specs.Prelude.{◌≡◌, ◌⊎◌, ◌+◌, ◌≤◌, ◌++◌, [], ◌∷◌, ◌↔◌, List, true};
+ghost use Rattle.std.specs.Prelude.{◌≡◌, ◌⊎◌, ◌+◌, ◌≤◌, ◌++◌, [], ◌∷◌};
+ghost use Rattle.std.specs.Prelude.{◌↔◌, List, true};
 ghost use Rattle.std.specs.Prelude.{IsTrue, IsOk, IfOk, IfErr, OnOk, MatchOption, MatchResult};
 ghost use Rattle.std.specs.Prelude.{Some, None, length, max, slice_get, slice_index};
 ghost use Rattle.disk_model.specs.Disk.{EachImage, LeavesOnly, SameDisk};

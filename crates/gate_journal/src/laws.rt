@@ -1,6 +1,7 @@
 //! What bytes spell, they spell alone (own).
 
 ghost use Rattle.gate_journal.specs.Laws.{SpellsOneList, IsNeverBoth, HasOnePlace};
+ghost use Rattle.gate_journal.specs.Laws.{EndsWithin};
 
 /// Bytes spell one list of rows at most.
 pub fn spells_one_list()
@@ -15,4 +16,9 @@ pub fn spells_or_is_corrupt()
 /// Bytes have one corrupt place at most.
 pub fn has_one_corrupt_place()
     ensures { HasOnePlace }
+{}
+
+/// What an append writes ends at most 4,110 bytes behind the closing gate.
+pub fn ends_within()
+    ensures { EndsWithin }
 {}

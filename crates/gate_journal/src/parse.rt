@@ -1,6 +1,7 @@
 //! The rows that bytes spell (own).
 
-ghost use Rattle.std.specs.Prelude.{◌≡◌, ◌+◌, ◌≤◌, ◌++◌, List, ℕ, IfOk, IfErr, MatchOption};
+ghost use Rattle.std.specs.Prelude.{◌≡◌, ◌+◌, ◌≤◌, ◌++◌, List, ℕ};
+ghost use Rattle.std.specs.Prelude.{IfOk, IfErr, MatchOption};
 ghost use Rattle.std.specs.Prelude.{length, drop};
 ghost use Rattle.gate_journal.specs.Rows.{spelled, SpellsRows};
 ghost use Rattle.gate_journal.specs.Parsing.{IsFirst, IsNoNext};

@@ -58,7 +58,8 @@ fn open_of(alloc: Global, key: &[u8], after: &[u8]) -> Result<Command, AllocErro
 }
 
 fn read_open(alloc: Global, payload: &[u8]) -> Result<Option<Command>, AllocError>
-    ensures { IfOk result (λ o. MatchOption o (IsNoPayload 1 payload.now) (IsPayload 1 payload.now)) }
+    ensures { IfOk result (λ o. MatchOption o (IsNoPayload 1 payload.now)
+        (IsPayload 1 payload.now)) }
 {
     let [size, rest @ ..] = payload else {
         return Ok(None);
@@ -73,7 +74,8 @@ fn read_open(alloc: Global, payload: &[u8]) -> Result<Option<Command>, AllocErro
 }
 
 fn read_line(alloc: Global, payload: &[u8]) -> Result<Option<Command>, AllocError>
-    ensures { IfOk result (λ o. MatchOption o (IsNoPayload 2 payload.now) (IsPayload 2 payload.now)) }
+    ensures { IfOk result (λ o. MatchOption o (IsNoPayload 2 payload.now)
+        (IsPayload 2 payload.now)) }
 {
     if payload.len() < 8 {
         return Ok(None);
@@ -98,7 +100,8 @@ fn read_char(payload: &[u8]) -> Option<Command>
 }
 
 fn read_file(alloc: Global, payload: &[u8]) -> Result<Option<Command>, AllocError>
-    ensures { IfOk result (λ o. MatchOption o (IsNoPayload 4 payload.now) (IsPayload 4 payload.now)) }
+    ensures { IfOk result (λ o. MatchOption o (IsNoPayload 4 payload.now)
+        (IsPayload 4 payload.now)) }
 {
     let Some(name) = text_of(alloc, payload)? else {
         return Ok(None);

@@ -1,6 +1,7 @@
 //! Room for one row: what its command owns, and its bytes (own).
 
-ghost use Rattle.std.specs.Prelude.{◌≡◌, ◌+◌, ◌<◌, ◌≤◌, ◌++◌, [], ◌∷◌, length};
+ghost use Rattle.std.specs.Prelude.{◌≡◌, ◌+◌, ◌<◌, ◌≤◌, ◌++◌, [], ◌∷◌};
+ghost use Rattle.std.specs.Prelude.{length};
 ghost use Rattle.std.specs.Prelude.{vec_capacity, string_bytes, string_len, string_capacity};
 ghost use Rattle.std.specs.Prelude.{true};
 ghost use Rattle.story_text.specs.Text.{IsText};
@@ -49,7 +50,8 @@ fn put(out: &mut Vec<u8>, piece: &[u8])
 
 fn put_payload(out: &mut Vec<u8>, command: &Command)
     requires ranges { IsCommand command.now }
-    requires fits { length out.old.items + length (payload_of command.now) ≤ vec_capacity out.old }
+    requires fits { length out.old.items + length (payload_of command.now)
+        ≤ vec_capacity out.old }
     ensures value { out.new.items ≡ out.old.items ++ payload_of command.now }
     ensures kept { vec_capacity out.old ≤ vec_capacity out.new }
 {

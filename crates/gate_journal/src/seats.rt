@@ -1,6 +1,7 @@
 //! What is counted of each session while rows are read (own).
 
-ghost use Rattle.std.specs.Prelude.{◌≡◌, ◌++◌, ◌∷◌, ◌↔◌, [], ◌<◌, IsTrue, List};
+ghost use Rattle.std.specs.Prelude.{◌≡◌, ◌++◌, ◌∷◌, ◌↔◌, [], ◌<◌};
+ghost use Rattle.std.specs.Prelude.{IsTrue, List};
 ghost use Rattle.gate_journal.specs.Rows.{MayStand};
 ghost use Rattle.gate_journal.specs.Seats.{Counts};
 ghost use Rattle.gate_journal.specs.declared.row.Row.{Row};
@@ -11,7 +12,8 @@ use crate::row::Row;
 /// The most rows of one session.
 const MAX_ROWS: u16 = 8192;
 
-/// Of each session the number of its rows, up to 8,192, and whether it is in use: 1, or 0 where it is free.
+/// Of each session the number of its rows, up to 8,192, and whether it is in use: 1, or 0 where it
+/// is free.
 #[derive(Drop)]
 pub struct Seats {
     pub counts: [u16; 64],
@@ -46,7 +48,8 @@ impl Seats {
     /// Counts a row of this session with this command.
     pub fn count(&mut self, session: u8, command: &Command)
         requires { session < 64 }
-        ensures { (rows : List Row) (r : Row) → r.session ≡ session → r.command ≡ command.now
+        ensures { (rows : List Row) (r : Row)
+            → r.session ≡ session → r.command ≡ command.now
             → Counts rows self.old.counts self.old.uses
             → Counts (rows ++ r ∷ []) self.new.counts self.new.uses }
     {

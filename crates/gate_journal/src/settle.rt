@@ -1,6 +1,7 @@
 //! The repair of an uncertain gate (own).
 
-ghost use Rattle.std.specs.Prelude.{◌≡◌, ◌+◌, ◌≤◌, List, IsTrue, IsOk, OnOk, OnErr, None};
+ghost use Rattle.std.specs.Prelude.{◌≡◌, ◌+◌, ◌≤◌, List, IsTrue, IsOk};
+ghost use Rattle.std.specs.Prelude.{OnOk, OnErr, None};
 ghost use Rattle.std.specs.Prelude.{length, max, Some};
 ghost use Rattle.disk_model.specs.Disk.{EachImage, LeavesOnly, Counts, SameDisk};
 ghost use Rattle.gate_journal.specs.Rows.{spelled};
