@@ -18,6 +18,3 @@ pub use laws::{
 };
 pub use refused::Refused;
 pub use verdict::Verdict;
-
-#[cfg(test)]
-mod tests;
