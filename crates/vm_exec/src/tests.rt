@@ -30,6 +30,12 @@ fn story_to(pages: u8, code: &[u8]) -> [u8; 256] {
     file
 }
 
+// The machine with which the image's story begins, in a box: a test lets go of one thing then.
+pub(crate) fn started<'i>(alloc: Global, image: &'i Image<'i>) -> Result<Box<Machine<'i>>, Fail> {
+    let machine = Machine::start(alloc, image, 1).ok().ok_or("a start")?;
+    Ok(Box::new(alloc, machine)?)
+}
+
 // What a step comes to for which there are ticks enough.
 fn stepped(alloc: Global, machine: &mut Machine<'_>) -> Result<Step, Trap> {
     machine.step(alloc, 100_000)
@@ -62,7 +68,7 @@ fn holds(machine: &Machine<'_>, words: &[(u32, u32)]) -> bool {
 fn a_thrown_value_is_stored_where_its_catch_said(rt: HostRuntime) -> Result<(), Fail> {
     let file = story(b"\xC1\x00\x00\x32\x16\x01\x00\x04\x81\x20\x33\x61\x05\x01\x00");
     let image = Image::parse(&file).ok().ok_or("an image")?;
-    let mut machine = Machine::start(rt.alloc(), &image, 1).ok().ok_or("a start")?;
+    let mut machine = started(rt.alloc(), &image)?;
     let mut quits = false;
     for _ in 0..3 {
         if machine.step(rt.alloc(), 1).ok().ok_or("a step")? == Step::Quit {
@@ -79,7 +85,7 @@ fn a_thrown_value_is_stored_where_its_catch_said(rt: HostRuntime) -> Result<(), 
 fn a_byte_is_pushed_without_its_sign(rt: HostRuntime) -> Result<(), Fail> {
     let file = story(b"\xC1\x00\x00\x42\x81\xFF\x81\x49\x01\x02\x70\x01\x48\x81\x20");
     let image = Image::parse(&file).ok().ok_or("an image")?;
-    let mut machine = Machine::start(rt.alloc(), &image, 1).ok().ok_or("a start")?;
+    let mut machine = started(rt.alloc(), &image)?;
     assert!(rt; machine.step(rt.alloc(), 0).is_err());
     machine.step(rt.alloc(), 1).ok().ok_or("copyb")?;
     assert_eq!(rt; machine.stack.peek(0).ok(), Some(255));

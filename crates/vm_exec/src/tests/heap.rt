@@ -1,5 +1,5 @@
-use super::{holds, runs, stepped, story, story_to};
-use crate::{Machine, Step};
+use super::{holds, runs, started, stepped, story, story_to};
+use crate::Step;
 use glulx_image::Image;
 use std::test::Fail;
 use vm_memory::Trap;
@@ -15,7 +15,7 @@ fn blocks_stand_behind_the_first_end_of_memory(rt: HostRuntime) -> Result<(), Fa
         \x81\x00\x01\x0D\x08\x14\x81\x78\xD3\x01\x00\x00\x00\x18\x81\x79\x02\x10\x00",
     );
     let image = Image::parse(&file).ok().ok_or("an image")?;
-    let mut machine = Machine::start(rt.alloc(), &image, 1).ok().ok_or("a start")?;
+    let mut machine = started(rt.alloc(), &image)?;
     assert_eq!(rt; stepped(rt.alloc(), &mut machine), Ok(Step::Ran(1)));
     assert_eq!(rt; stepped(rt.alloc(), &mut machine), Ok(Step::Ran(2)));
     assert!(rt; runs(rt.alloc(), &mut machine, 8));
@@ -41,7 +41,7 @@ fn blocks_stand_behind_the_first_end_of_memory(rt: HostRuntime) -> Result<(), Fa
 fn a_block_of_no_bytes_is_a_fault(rt: HostRuntime) -> Result<(), Fail> {
     let file = story(b"\xC1\x00\x00\x81\x78\xD0\x00");
     let image = Image::parse(&file).ok().ok_or("an image")?;
-    let mut machine = Machine::start(rt.alloc(), &image, 1).ok().ok_or("a start")?;
+    let mut machine = started(rt.alloc(), &image)?;
     assert_eq!(rt; stepped(rt.alloc(), &mut machine), Err(Trap::Fault(19)));
     Ok(())
 }
@@ -54,7 +54,7 @@ fn memory_is_whole_pages(rt: HostRuntime) -> Result<(), Fail> {
         \x81\x02\x0D\x08\x81\x03\xD2\x02\x50\x0C",
     );
     let image = Image::parse(&file).ok().ok_or("an image")?;
-    let mut machine = Machine::start(rt.alloc(), &image, 1).ok().ok_or("a start")?;
+    let mut machine = started(rt.alloc(), &image)?;
     machine.memory.write1(0x103, 9).ok().ok_or("a write")?;
     assert_eq!(rt; stepped(rt.alloc(), &mut machine), Ok(Step::Ran(4)));
     assert_eq!(rt; machine.memory.read1(0x2FF).ok(), Some(0));
@@ -69,7 +69,7 @@ fn memory_is_whole_pages(rt: HostRuntime) -> Result<(), Fail> {
 fn memory_is_not_cut_below_its_first_end(rt: HostRuntime) -> Result<(), Fail> {
     let file = story(b"\xC1\x00\x00\x81\x03\xD2\x01\x00\x00");
     let image = Image::parse(&file).ok().ok_or("an image")?;
-    let mut machine = Machine::start(rt.alloc(), &image, 1).ok().ok_or("a start")?;
+    let mut machine = started(rt.alloc(), &image)?;
     assert_eq!(rt; stepped(rt.alloc(), &mut machine), Err(Trap::Fault(19)));
     Ok(())
 }

@@ -1,5 +1,4 @@
-use super::{holds, runs, story};
-use crate::Machine;
+use super::{holds, runs, started, story};
 use glulx_image::Image;
 use std::test::Fail;
 
@@ -12,7 +11,7 @@ fn random_words_are_those_of_the_reference_generator(rt: HostRuntime) -> Result<
         \x81\x10\xD1\x06\x0C\x81\x10\xD1\xFA\x10",
     );
     let image = Image::parse(&file).ok().ok_or("an image")?;
-    let mut machine = Machine::start(rt.alloc(), &image, 1).ok().ok_or("a start")?;
+    let mut machine = started(rt.alloc(), &image)?;
     assert!(rt; runs(rt.alloc(), &mut machine, 6));
     assert!(rt;
         holds(

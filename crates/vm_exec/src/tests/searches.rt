@@ -1,7 +1,7 @@
 //! Searches and blocks, by their opcodes.
 
-use super::story;
-use crate::{Machine, Step};
+use super::{started, story};
+use crate::Step;
 use glulx_image::Image;
 use std::test::Fail;
 use vm_memory::Trap;
@@ -34,7 +34,7 @@ fn a_search_costs_a_tick_for_each_structure(rt: HostRuntime) -> Result<(), Fail>
     ];
     for (file, left, want) in rows {
         let image = Image::parse(&file).ok().ok_or("an image")?;
-        let mut machine = Machine::start(rt.alloc(), &image, 1).ok().ok_or("a start")?;
+        let mut machine = started(rt.alloc(), &image)?;
         for (at, value) in [(0x100, 5), (0x104, 9), (0x108, 0), (0x10C, 7)] {
             machine.memory.write4(at, value).ok().ok_or("a write")?;
         }
@@ -57,7 +57,7 @@ fn a_linked_search_answers_an_address(rt: HostRuntime) -> Result<(), Fail> {
     let file = story(code);
     let image = Image::parse(&file).ok().ok_or("an image")?;
     for (next, answer, cost) in [(0x120, 0x120, 3), (0, 0, 2)] {
-        let mut machine = Machine::start(rt.alloc(), &image, 1).ok().ok_or("a start")?;
+        let mut machine = started(rt.alloc(), &image)?;
         machine.memory.write4(0x100, next).ok().ok_or("a write")?;
         machine.memory.write4(0x128, 9).ok().ok_or("a write")?;
         assert!(rt; machine.step(rt.alloc(), 3) == Ok(Step::Ran(cost)));
@@ -71,7 +71,7 @@ fn a_linked_search_answers_an_address(rt: HostRuntime) -> Result<(), Fail> {
 fn a_copy_gives_the_bytes_of_before(rt: HostRuntime) -> Result<(), Fail> {
     let file = story(b"\xC1\0\0\x81\x71\x21\x02\x03\x01\0\x01\x01\x81\x70\0\x81\x20");
     let image = Image::parse(&file).ok().ok_or("an image")?;
-    let mut machine = Machine::start(rt.alloc(), &image, 1).ok().ok_or("a start")?;
+    let mut machine = started(rt.alloc(), &image)?;
     machine
         .memory
         .write4(0x100, 0x0102_0304)

@@ -1,5 +1,5 @@
-use super::{holds, runs, stepped, story};
-use crate::{Machine, Step};
+use super::{holds, runs, started, stepped, story};
+use crate::Step;
 use glulx_image::Image;
 use std::test::Fail;
 
@@ -14,20 +14,16 @@ fn the_last_four_states_come_back(rt: HostRuntime) -> Result<(), Fail> {
         \x40\xD1\x05\x00\x81\x25\x0D\x04\x81\x26\x0D\x08\x81\x28\x0D\x0C",
     );
     let image = Image::parse(&file).ok().ok_or("an image")?;
-    let mut machine = Machine::start(rt.alloc(), &image, 1).ok().ok_or("a start")?;
+    let mut machine = started(rt.alloc(), &image)?;
     assert!(rt; runs(rt.alloc(), &mut machine, 12));
     assert!(rt; holds(&machine, &[(0x100, 5), (0x104, 0)]));
     let restore = machine.pc;
-    for kept in [5, 4, 3, 2] {
+    for (kept, changed) in [(5, 15), (4, 14), (3, 13), (2, 12)] {
         machine.pc = restore;
-        machine
-            .memory
-            .write1(0x120, kept + 10)
-            .ok()
-            .ok_or("a write")?;
+        machine.memory.write1(0x120, changed).ok().ok_or("a write")?;
         assert_eq!(rt; stepped(rt.alloc(), &mut machine), Ok(Step::Ran(3)));
         assert!(rt; holds(&machine, &[(0x100, kept), (0x104, 0xFFFF_FFFF), (0x108, 0)]));
-        assert_eq!(rt; machine.memory.read1(0x120).ok(), Some(kept + 10));
+        assert_eq!(rt; machine.memory.read1(0x120).ok(), Some(changed));
     }
     machine.pc = restore;
     assert!(rt; runs(rt.alloc(), &mut machine, 2));
@@ -43,7 +39,7 @@ fn a_restart_keeps_the_protected_bytes(rt: HostRuntime) -> Result<(), Fail> {
         \x42\xD1\x09\x02\x81\x49\x11\x02\x01\x81\x22",
     );
     let image = Image::parse(&file).ok().ok_or("an image")?;
-    let mut machine = Machine::start(rt.alloc(), &image, 1).ok().ok_or("a start")?;
+    let mut machine = started(rt.alloc(), &image)?;
     let begin = machine.pc;
     assert!(rt; runs(rt.alloc(), &mut machine, 5));
     assert_eq!(rt; stepped(rt.alloc(), &mut machine), Ok(Step::Ran(3)));
@@ -58,10 +54,10 @@ fn a_restart_keeps_the_protected_bytes(rt: HostRuntime) -> Result<(), Fail> {
 fn a_state_without_its_stub_is_refused(rt: HostRuntime) -> Result<(), Fail> {
     let file = story(b"\xC1\x00\x00\x81\x25\x0D\x04\x40\xD1\x01\x00\x81\x26\x0D\x08");
     let image = Image::parse(&file).ok().ok_or("an image")?;
-    let mut machine = Machine::start(rt.alloc(), &image, 1).ok().ok_or("a start")?;
+    let mut machine = started(rt.alloc(), &image)?;
     assert!(rt; runs(rt.alloc(), &mut machine, 2));
     let state = machine.saved(rt.alloc())?;
-    let mut other = Machine::start(rt.alloc(), &image, 1).ok().ok_or("a start")?;
+    let mut other = started(rt.alloc(), &image)?;
     assert!(rt; other.resume(rt.alloc(), state).is_err());
     Ok(())
 }
@@ -74,7 +70,7 @@ fn a_save_goes_on_where_its_stub_says(rt: HostRuntime) -> Result<(), Fail> {
         \x81\x23\xD1\x07\x08\x81\x24\xD1\x07\x0C",
     );
     let image = Image::parse(&file).ok().ok_or("an image")?;
-    let mut machine = Machine::start(rt.alloc(), &image, 1).ok().ok_or("a start")?;
+    let mut machine = started(rt.alloc(), &image)?;
     assert!(rt; runs(rt.alloc(), &mut machine, 2));
     assert!(rt; holds(&machine, &[(0x104, 1), (0x108, 0)]));
     let asked = Step::Save { stream: 7, cost: 3 };

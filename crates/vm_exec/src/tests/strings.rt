@@ -1,6 +1,6 @@
 //! Strings, numbers and the I/O systems, step by step.
 
-use super::story;
+use super::{started, story};
 use crate::{Machine, Step};
 use glulx_image::Image;
 use std::alloc::Global;
@@ -72,7 +72,7 @@ fn a_number_goes_out_digit_by_digit(rt: HostRuntime) -> Result<(), Fail> {
     let code = b"\xC1\0\0\x81\x49\x01\x02\x71\x01\xF4\x71\x03\x80\0\0\0\x81\x20";
     let file = file(code, &OBJECT);
     let image = Image::parse(&file).ok().ok_or("an image")?;
-    let mut machine = Machine::start(rt.alloc(), &image, 1).ok().ok_or("a start")?;
+    let mut machine = started(rt.alloc(), &image)?;
     let ran = Step::Ran(1);
     let want = [ran, ran, Step::Out(45, 1), Step::Out(49, 1)];
     assert!(rt; tells(rt.alloc(), &mut machine, &want));
@@ -92,7 +92,7 @@ fn a_number_is_filtered(rt: HostRuntime) -> Result<(), Fail> {
     let code = b"\xC1\0\0\x81\x49\x11\x01\x50\x71\x01\xF4\x70\x01\x48\x50\x08\x81\x20";
     let file = file(code, &OBJECT);
     let image = Image::parse(&file).ok().ok_or("an image")?;
-    let mut machine = Machine::start(rt.alloc(), &image, 1).ok().ok_or("a start")?;
+    let mut machine = started(rt.alloc(), &image)?;
     let ran = Step::Ran(1);
     assert!(rt; tells(rt.alloc(), &mut machine, &[ran, ran]));
     assert!(rt; filters(rt.alloc(), &mut machine, &[45, 49, 50]));
@@ -110,13 +110,13 @@ fn a_string_prints_what_it_refers_to(rt: HostRuntime) -> Result<(), Fail> {
     let (a, b) = (Step::Out(97, 1), Step::Out(98, 1));
     let called = file(code, &FUNCTION);
     let image = Image::parse(&called).ok().ok_or("an image")?;
-    let mut machine = Machine::start(rt.alloc(), &image, 1).ok().ok_or("a start")?;
+    let mut machine = started(rt.alloc(), &image)?;
     // the function is called, prints and returns, and the string ends
     let want = [ran, ran, ran, a, ran, b, ran, ran, Step::Quit];
     assert!(rt; tells(rt.alloc(), &mut machine, &want));
     let nested = file(code, &OBJECT);
     let image = Image::parse(&nested).ok().ok_or("an image")?;
-    let mut machine = Machine::start(rt.alloc(), &image, 1).ok().ok_or("a start")?;
+    let mut machine = started(rt.alloc(), &image)?;
     // the string begins and prints, and both strings end
     let want = [ran, ran, ran, a, ran, b, ran, ran, Step::Quit];
     assert!(rt; tells(rt.alloc(), &mut machine, &want));
@@ -129,7 +129,7 @@ fn a_string_is_filtered(rt: HostRuntime) -> Result<(), Fail> {
     let ran = Step::Ran(1);
     let file = file(code, &FUNCTION);
     let image = Image::parse(&file).ok().ok_or("an image")?;
-    let mut machine = Machine::start(rt.alloc(), &image, 1).ok().ok_or("a start")?;
+    let mut machine = started(rt.alloc(), &image)?;
     assert!(rt; tells(rt.alloc(), &mut machine, &[ran, ran, ran]));
     assert!(rt; filters(rt.alloc(), &mut machine, &[97]));
     // the function that the string refers to begins
@@ -155,7 +155,7 @@ fn a_string_ends_in_its_fault(rt: HostRuntime) -> Result<(), Fail> {
         file[0x60] = 0xE0;
         file[0x61] = 0x61;
         let image = Image::parse(&file).ok().ok_or("an image")?;
-        let mut machine = Machine::start(rt.alloc(), &image, 1).ok().ok_or("a start")?;
+        let mut machine = started(rt.alloc(), &image)?;
         let ran = Step::Ran(1);
         assert!(rt; tells(rt.alloc(), &mut machine, &[ran, ran]));
         assert!(rt; machine.step(rt.alloc(), left) == Err(Trap::Fault(fault)));
