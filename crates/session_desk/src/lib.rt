@@ -18,3 +18,6 @@ pub use laws::{
 };
 pub use refused::Refused;
 pub use verdict::Verdict;
+
+#[cfg(test)]
+mod tests;
