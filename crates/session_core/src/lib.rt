@@ -4,6 +4,7 @@
 mod checks;
 mod commands;
 mod decision;
+mod entry;
 mod history;
 mod laws;
 mod same;
@@ -12,6 +13,7 @@ mod world;
 
 pub use checks::is_fresh;
 pub use decision::{Decision, MAX_COMMANDS, command_of, decide, plain_refusal, shown_number};
+pub use entry::{Entry, Outcome};
 pub use history::{game_of, is_in_use};
 pub use laws::{is_isolated, repeats_change_nothing};
 pub use sessions::Sessions;

@@ -1,0 +1,68 @@
+-- A turn of a session: its reply, and what its history takes (own).
+use Rattle.std.specs.Prelude.{ℕ, if◌then◌else◌, List, [], ◌∷◌, ◌++◌, Option, Some}
+use Rattle.std.specs.Prelude.{None}
+use Rattle.gate_journal.specs.declared.command.Command.{Command}
+use Rattle.line_words.specs.Play.{is_long}
+use Rattle.line_words.specs.Request.{request_of}
+use Rattle.line_words.specs.declared.request.Request.{Request}
+use Rattle.line_words.specs.declared.reply.No.TheVariants.{BadLine, LongLine, DiskFault, NoMemory}
+use Rattle.line_words.specs.declared.reply.Reply.{Reply}
+use Rattle.line_words.specs.declared.reply.Reply.TheVariants.{No}
+use Rattle.story_run.specs.declared.story.Story.{Story}
+use Rattle.session_core.specs.declared.decision.Decision.{Decision}
+use Rattle.session_core.specs.declared.entry.Entry.{Entry}
+use Rattle.session_core.specs.declared.entry.Entry.TheVariants.{Accepted, Faulted}
+use Rattle.session_core.specs.declared.entry.Outcome.{Outcome}
+use Rattle.session_core.specs.declared.entry.Outcome.TheVariants.{Answered, DiskFailed}
+use Rattle.session_core.specs.declared.entry.Outcome.TheVariants.{OutOfMemory, Forgotten}
+use Rattle.session_core.specs.Answer.{answer}
+use Rattle.session_core.specs.Sessions.{with_budget}
+
+-- the commands that a history's entries accepted, oldest first
+abbrev pub commands_in : List Entry → List Command
+commands_in [] = []
+commands_in (Accepted by command ∷ entries) = command ∷ commands_in entries
+commands_in (Faulted by from to ∷ entries) = commands_in entries
+
+-- what a session with these commands answers to what a line spells, where it spells a request
+abbrev pub decided_by : List Story → ℕ → List Command → List ℕ → Option Request
+    → Decision
+decided_by stories budget commands line (Some request) =
+    answer stories commands (with_budget budget request)
+decided_by stories budget commands line None =
+    record { reply = No (if is_long line then LongLine else BadLine); accepted = None }
+
+-- what it answers to a line, and the command that it accepts
+unfoldable pub decision_on : List Story → ℕ → List Command → List ℕ → Decision
+decision_on stories budget commands line =
+    decided_by stories budget commands line (request_of line)
+
+-- the reply of a turn, and the history behind it
+pub record Turned : Type 0 where
+  pub reply : Reply
+  pub history : List Entry
+
+-- a turn that accepts this command, if any, by what it met
+abbrev pub turn_met : List Entry → ℕ → Reply → Option Command → Outcome → Turned
+turn_met history by reply accepted OutOfMemory = record { reply = No NoMemory; history = history }
+turn_met history by reply None outcome = record { reply = reply; history = history }
+turn_met history by reply (Some command) Answered =
+    record { reply = reply; history = history ++ Accepted by command ∷ [] }
+turn_met history by reply (Some command) (DiskFailed from to) =
+    record { reply = No (DiskFault from to); history = history ++ Faulted by from to ∷ [] }
+turn_met history by reply (Some command) Forgotten =
+    record { reply = No NoMemory; history = history ++ Accepted by command ∷ [] }
+
+-- the turn of a line on a history, by the number of its pass and by what it met
+unfoldable pub turn_of : List Story → ℕ → List Entry → ℕ → List ℕ → Outcome → Turned
+turn_of stories budget history by line outcome =
+    turn_met history by (decision_on stories budget (commands_in history) line).reply
+    (decision_on stories budget (commands_in history) line).accepted outcome
+
+-- what a turn may meet: where no command is accepted, nothing is written, so no disk fails in it
+abbrev pub MayMeet : Option Command → Outcome → Type 0
+MayMeet None Answered = Unit {0}
+MayMeet None OutOfMemory = Unit {0}
+MayMeet None (DiskFailed from to) = ⊥
+MayMeet None Forgotten = ⊥
+MayMeet (Some command) outcome = Unit {0}
