@@ -1,7 +1,7 @@
 -- What is found after a stop.
 use Rattle.std.proofs.Common.{inl, inr, ℕ, List, [], ◌∷◌, ◌++◌}
 use Rattle.std.specs.Prelude.{Option, Some, None}
-use Rattle.disk_model.specs.Torn.{holds_front}
+use Rattle.disk_model.proofs.Torn.{holds_front}
 use Rattle.gate_journal.specs.declared.row.Row.{Row}
 use Rattle.gate_journal.specs.declared.fault.JournalFault.{JournalFault}
 use Rattle.gate_journal.specs.declared.fault.JournalFault.TheVariants.{NotJournal, Corrupt, NoMemory}

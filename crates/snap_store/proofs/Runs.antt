@@ -1,7 +1,7 @@
 -- Runs of device calls through which each image keeps a fact.
 use Rattle.std.proofs.Common.{ℕ, ◌≤◌, List}
 use Rattle.disk_model.specs.Disk.{Elapses, LeavesOnly, Torn, Follows, NoneNew}
-use Rattle.disk_model.specs.Moments.{started, goes_on}
+use Rattle.disk_model.proofs.Moments.{started, goes_on}
 
 module _
     {D : Type 0}

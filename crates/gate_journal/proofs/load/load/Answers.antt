@@ -2,7 +2,7 @@ use Rattle.std.proofs.Common.{◌≡◌, ◌≢◌, ◌<◌, [], ◌∷◌, ℕ,
 use Rattle.std.specs.Prelude.{IsTrue}
 use Rattle.std.proofs.lemmas.List.{get_or_read}
 use Rattle.disk_model.specs.Disk.{written, AfterWrite, Torn}
-use Rattle.disk_model.specs.Moments.{started, goes_on, weaker, and_then}
+use Rattle.disk_model.proofs.Moments.{started, goes_on, weaker, and_then}
 use Rattle.gate_journal.specs.Gate.{IsShut}
 use Rattle.gate_journal.specs.Rows.{spelled, SpellsRows}
 use Rattle.gate_journal.specs.Log.{MayOpen}
