@@ -8,3 +8,4 @@ pub mod Opening
 pub mod SeatLemmas
 pub mod HistoryLemmas
 pub mod StopLemmas
+mod ReadingLemmas
