@@ -9,3 +9,4 @@ pub mod SeatLemmas
 pub mod HistoryLemmas
 pub mod StopLemmas
 mod ReadingLemmas
+pub mod AppendLemmas

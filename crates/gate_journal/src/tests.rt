@@ -74,7 +74,10 @@ fn begun(alloc: Global, fails: u64) -> Result<Boxed, Fail> {
 }
 
 // The same with the LINE, whose append answers this.
-fn line_added(alloc: Global, journal: &mut Journal<MemDisk>) -> Result<Result<u64, DiskFault>, Fail> {
+fn line_added(
+    alloc: Global,
+    journal: &mut Journal<MemDisk>,
+) -> Result<Result<u64, DiskFault>, Fail> {
     let command = going(alloc)?;
     added(alloc, journal, 0, &command)
 }
@@ -189,8 +192,15 @@ const LEFT: [(u64, Option<u64>); 5] = [
 fn a_stop_in_an_append_leaves_the_rows_before_or_one_more(rt: HostRuntime) -> Result<(), Fail> {
     for choice in 0..32 {
         for (fails, rows) in LEFT {
-            let by_gate = if gate_left(rt.alloc(), fails, choice)? == 1 { 2 } else { 1 };
-            assert_eq!(rt; rows_left(rt.alloc(), fails, choice)?, rows.unwrap_or(by_gate));
+            let by_gate = if gate_left(rt.alloc(), fails, choice)? == 1 {
+                2
+            } else {
+                1
+            };
+            assert_eq!(rt;
+                rows_left(rt.alloc(), fails, choice)?,
+                rows.unwrap_or(by_gate)
+            );
         }
     }
     Ok(())

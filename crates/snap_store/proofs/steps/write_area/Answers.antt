@@ -6,7 +6,7 @@ use Rattle.snap_store.specs.declared.slot.Slot.{Slot}
 use Rattle.snap_store.specs.declared.slot.Slot.TheVariants.{Closed, Unsure}
 use Rattle.snap_store.specs.File.{Stored}
 use Rattle.snap_store.specs.Images.{IsLaid, loosened, DuringPut}
-use Rattle.snap_store.proofs.Runs.{holds_now}
+use Rattle.disk_model.proofs.Moments.{holds_now}
 use Rattle.snap_store.proofs.steps.write_area.Goals as goal
 
 pub returns-in_default-clause-crash : goal.returns-in_default-clause-crash
