@@ -1,13 +1,13 @@
 -- Laws of a disk after its calls, and of the images of all moments since one of them (own).
-use Rattle.std.proofs.Common.{◌≡◌, inl, inr, ℕ, suc, ◌^◌, ◌≤◌, true, false, List}
+use Rattle.std.proofs.Common.{◌≡◌, inl, inr, ℕ, suc, ◌≤◌, true, false, List}
 use Rattle.std.proofs.Common.{[], ◌∷◌}
 use Rattle.std.proofs.Common.{◌++◌, length, take, refl, sym, ◌∙◌, ap, subst, arith}
 use Rattle.std.proofs.Common.{length-append}
 use Rattle.std.proofs.lemmas.List.{take_all, take-append-le}
 use Rattle.std.proofs.lemmas.Bool.{cases_lt}
 use Rattle.disk_model.specs.Disk.{Elapses}
-use Rattle.disk_model.specs.DiskState.{DiskState, IsImage, settled}
-use Rattle.disk_model.specs.StateLaws.{IsWell, well_settled, well_write}
+use Rattle.disk_model.specs.DiskState.{DiskState, IsImage, settled, IsWell}
+use Rattle.disk_model.proofs.StateLaws.{well_settled, well_write}
 use Rattle.disk_model.specs.declared.call.Call.{Call}
 use Rattle.disk_model.specs.declared.call.Call.TheVariants.{Look, Write, Sync}
 use Rattle.disk_model.specs.Calls.{after_call, after_calls, state_after, LeftSince}
@@ -18,16 +18,6 @@ well_call p (Write place piece good) well = well_write good place piece.items p 
 well_call p (Sync true) well = well_settled p.seen well.within
 well_call p (Sync false) well = well
 
-pub well_calls : (calls : List Call) (p : DiskState) → IsWell p → IsWell (after_calls p calls)
-well_calls [] p well = well
-well_calls (call ∷ calls) p well = well_calls calls (after_call p call) (well_call p call well)
-
--- whatever the calls were
-pub well_of :
-    (start : List ℕ) (calls : List Call) → length start ≤ 2 ^ 40
-    → IsWell (state_after start calls)
-well_of start calls le = well_calls calls (settled start) (well_settled start le)
-
 -- the last call comes last
 pub after_calls-push :
     (calls : List Call) (p : DiskState) (call : Call)
@@ -35,27 +25,17 @@ pub after_calls-push :
 after_calls-push [] p call = refl
 after_calls-push (x ∷ calls) p call = after_calls-push calls (after_call p x) call
 
+-- one call more keeps a state well
+pub well_push :
+    (start : List ℕ) (calls later : List Call) (call : Call)
+    → later ≡ calls ++ call ∷ [] → IsWell (state_after start calls)
+    → IsWell (state_after start later)
+well_push start calls later call is well =
+    subst (λ (l : List Call). IsWell (state_after start l)) (sym is)
+    (subst (λ (p : DiskState). IsWell p) (sym (after_calls-push calls (settled start) call))
+    (well_call (state_after start calls) call well))
+
 module _ (start : List ℕ) (calls : List Call) where
-  -- the images now are among those since any moment
-  pub since_now :
-      (t : ℕ) (c : List ℕ)
-      → t ≤ length calls → IsImage (state_after start calls) c → LeftSince start calls t c
-  since_now t c le image = (
-    length calls,
-    le,
-    omega arith,
-    subst (λ (l : List Call). IsImage (state_after start l) c)
-        (sym (take_all (length calls) calls (omega arith))) image,
-  )
-
-  -- since now there are no others
-  pub only_since :
-      (c : List ℕ) → LeftSince start calls (length calls) c
-      → IsImage (state_after start calls) c
-  only_since c since =
-      subst (λ (l : List Call). IsImage (state_after start l) c) (take_all since.0 calls since.1)
-      since.3
-
   -- no call was made
   pub elapses_same :
       Elapses (length calls) (length calls) (LeftSince start calls) (LeftSince start calls)

@@ -1,9 +1,8 @@
 -- Laws of lists of ranges: their greatest end, and the places outside them (own).
-use Rattle.std.proofs.Common.{◌≡◌, ◌⊎◌, inl, inr, ℕ, ◌<◌, ◌≤◌, max, false}
+use Rattle.std.proofs.Common.{◌≡◌, ◌⊎◌, ℕ, ◌<◌, ◌≤◌, max}
 use Rattle.std.proofs.Common.{[], ◌∷◌, ◌++◌}
 use Rattle.std.proofs.Common.{refl, arith}
-use Rattle.std.proofs.lemmas.Bool.Decides.{nat_tests}
-use Rattle.disk_model.specs.DiskState.{Ranges, greatest_end, Untouched, touched}
+use Rattle.disk_model.specs.DiskState.{Ranges, greatest_end, Untouched}
 
 -- with one range more
 pub greatest_end-push :
@@ -37,12 +36,3 @@ pub untouched-last :
     → Untouched i (ranges ++ r ∷ []) → (i < r.0) ⊎ (r.1 ≤ i)
 untouched-last i [] r all = all.0
 untouched-last i (x ∷ ranges) r all = untouched-last i ranges r all.1
-
--- the test says no
-pub untouched_false : (i : ℕ) (ranges : Ranges) → Untouched i ranges
-    → touched i ranges ≡ false
-untouched_false i [] all = refl
-untouched_false i (r ∷ ranges) all = elim all.0 [
-  | inl before ↦ grind (arith, nat_tests, untouched_false i ranges all.1)
-  | inr behind ↦ grind (arith, nat_tests, untouched_false i ranges all.1)
-]

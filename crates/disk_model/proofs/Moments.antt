@@ -1,5 +1,5 @@
 -- Laws of runs of calls: which images a stop may leave meanwhile (own).
-use Rattle.std.proofs.Common.{inl, inr, ⊎_elim, ℕ, List, arith}
+use Rattle.std.proofs.Common.{inl, inr, ⊎_elim, ℕ, ◌≤◌, List, arith}
 use Rattle.disk_model.specs.Disk.{Elapses, LeavesOnly}
 
 module _ {D : Type 0} (moment : D → ℕ) (left_since : D → ℕ → List ℕ → Type 0) where
@@ -63,3 +63,17 @@ module _ {D : Type 0} (moment : D → ℕ) (left_since : D → ℕ → List ℕ 
     keeps = λ t c le left.
         second.keeps t c (omega (arith, le, first.later)) (first.keeps t c le left);
   }
+
+module _
+    {D : Type 0}
+    (moment : D → ℕ)
+    (left_since : D → ℕ → List ℕ → Type 0)
+    (may_leave : D → List ℕ → Type 0)
+    (old new : D)
+    (P : List ℕ → Type 0) where
+  -- what holds of all moments holds now
+  pub holds_now :
+      ((t : ℕ) (c : List ℕ) → t ≤ moment new → may_leave new c → left_since new t c)
+      → LeavesOnly moment left_since old new P
+      → (c : List ℕ) → may_leave new c → P c
+  holds_now counts leaves c now = leaves.each c (counts (moment old) c leaves.later now)

@@ -12,10 +12,10 @@ use Rattle.std.proofs.lemmas.Bool.{cases_lt, cases_Bool}
 use Rattle.std.proofs.lemmas.Bool.Decides.{nat_tests}
 use Rattle.disk_model.specs.Disk.{written, AfterWrite}
 use Rattle.disk_model.specs.DiskState.{DiskState, IsImage, greatest_end, Untouched, settled}
-use Rattle.disk_model.specs.DiskState.{with_range, after_write, after_sync}
-use Rattle.disk_model.specs.RangeLaws.{greatest_end-push, greatest_end_least}
-use Rattle.disk_model.specs.RangeLaws.{untouched-push, untouched-front, untouched-last}
-use Rattle.disk_model.specs.Torn.{length-written, written_below, written_above}
+use Rattle.disk_model.specs.DiskState.{with_range, after_write, after_sync, IsWell}
+use Rattle.disk_model.proofs.RangeLaws.{greatest_end-push, greatest_end_least}
+use Rattle.disk_model.proofs.RangeLaws.{untouched-push, untouched-front, untouched-last}
+use Rattle.disk_model.proofs.Torn.{length-written, written_below, written_above}
 
 -- The image from before, of which a write of n bytes may have made this one.
 module _ (p : DiskState) (at n : ℕ) (c : List ℕ) where
@@ -142,12 +142,6 @@ wrote p at piece image = record {
         greatest_end (p.ranges ++ (at, at + length piece) ∷ []) (length p.synced)
         ≡ max (at + length piece) (greatest_end p.ranges (length p.synced))
     pushed = greatest_end-push p.ranges (at, at + length piece) (length p.synced)
-
--- a state as calls make it: as it reads it is one of its images, and it is within 2^40 bytes
-pub record IsWell (p : DiskState) : Type 0 where
-  pub stays : IsImage p p.seen
-  pub within : length p.seen ≤ 2 ^ 40
-  pub ends : greatest_end p.ranges (length p.synced) ≤ 2 ^ 40
 
 pub well_settled : (s : List ℕ) → length s ≤ 2 ^ 40 → IsWell (settled s)
 well_settled s le = record { stays = settled_image s; within = le; ends = le }
