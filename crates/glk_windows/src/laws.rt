@@ -1,6 +1,7 @@
 //! Laws of the windows and their rectangles (Glk 0.7.5, "The Window Tree").
 
-ghost use Rattle.glk_windows.specs.Laws.{KeepsValid, MayKeyHolds, NeverOverlaps, StaysOnScreen};
+ghost use Rattle.glk_windows.specs.Laws.{KeepsValid, MayKeyHolds, NeverOverlaps, SpellsOutput};
+ghost use Rattle.glk_windows.specs.Laws.{StaysOnScreen};
 
 /// Where the windows are one tree, each that is no pair has its rectangle on the screen.
 pub fn stays_on_screen()
@@ -20,4 +21,10 @@ pub fn keeps_valid()
 /// Where the windows are valid, `Windows::may_key` lets through a key that keeps them so.
 pub fn may_key_holds()
     ensures { MayKeyHolds }
+{}
+
+/// The runs of a buffer spell the characters that were put, each in its style; no run is empty, and
+/// neighbours have different styles.
+pub fn runs_spell_output()
+    ensures { SpellsOutput }
 {}
