@@ -52,6 +52,12 @@ NeverOverlaps =
     → Covers (area_of (place t cols rows).slots m) x y
     → Covers (area_of (place t cols rows).slots n) x y → ⊥
 
+-- each cell of the screen lies in a window that is no pair
+abbrev pub FillsScreen : Type 0
+FillsScreen =
+    (t : WindowTree) (cols rows x y : ℕ) → IsOrdered t → is_tree t ≡ true → x < cols → y < rows
+    → (n : ℕ) × (pair_of t.slots n ≡ None) × Covers (area_of (place t cols rows).slots n) x y
+
 -- a live window
 abbrev pub IsLive : WindowTree → ℕ → Type 0
 IsLive t n = has number_of t.slots n ≡ true

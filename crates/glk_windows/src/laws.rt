@@ -1,7 +1,7 @@
 //! Laws of the windows and their rectangles (Glk 0.7.5, "The Window Tree").
 
-ghost use Rattle.glk_windows.specs.Laws.{KeepsValid, MayKeyHolds, NeverOverlaps, SpellsOutput};
-ghost use Rattle.glk_windows.specs.Laws.{StaysOnScreen};
+ghost use Rattle.glk_windows.specs.Laws.{FillsScreen, KeepsValid, MayKeyHolds, NeverOverlaps};
+ghost use Rattle.glk_windows.specs.Laws.{SpellsOutput, StaysOnScreen};
 
 /// Where the windows are one tree, each that is no pair has its rectangle on the screen.
 pub fn stays_on_screen()
@@ -11,6 +11,11 @@ pub fn stays_on_screen()
 /// Where the windows are one tree, no cell of the screen lies in two that are no pairs.
 pub fn never_overlaps()
     ensures { NeverOverlaps }
+{}
+
+/// Where the windows are one tree, each cell of the screen lies in one that is no pair.
+pub fn fills_screen()
+    ensures { FillsScreen }
 {}
 
 /// Each call keeps the windows valid: one tree, few enough, methods and grids sound.
