@@ -3,8 +3,10 @@
 
 mod container;
 mod fault;
+mod laws;
 #[cfg(test)]
 mod tests;
 
 pub use container::{Span, find_story};
 pub use fault::BlorbFault;
+pub use laws::finds_the_first_entry;

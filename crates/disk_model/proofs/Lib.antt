@@ -1,1 +1,6 @@
 mod StandardFacts
+pub mod Torn
+pub mod Moments
+pub mod RangeLaws
+pub mod StateLaws
+pub mod CallLaws

@@ -3,7 +3,7 @@ use Rattle.std.proofs.Common.{◌≡◌, ◌⊎◌, inl, inr, ℕ, ◌+◌, ◌�
 use Rattle.std.specs.Prelude.{Option, Some, None, IfSome}
 use Rattle.std.proofs.lemmas.Bool.{cases_eq}
 use Rattle.disk_model.specs.Disk.{Holds, Rose}
-use Rattle.disk_model.specs.Torn.{holds_rest}
+use Rattle.disk_model.proofs.Torn.{holds_rest}
 use Rattle.gate_journal.specs.declared.row.Row.{Row}
 use Rattle.gate_journal.specs.declared.entry.Entry.{Entry}
 use Rattle.gate_journal.specs.declared.entry.Entry.TheVariants.{Kept, Faulted}

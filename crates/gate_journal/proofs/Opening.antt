@@ -2,7 +2,7 @@
 use Rattle.std.proofs.Common.{◌≡◌, ◌≢◌, inl, inr, ℕ, List, [], ◌∷◌, ◌++◌, length, get_or, sym, ◌∙◌, ap, arith, length-append}
 use Rattle.std.proofs.lemmas.Bool.{cases_eq}
 use Rattle.disk_model.specs.Disk.{Holds, Torn, written}
-use Rattle.disk_model.specs.Torn.{holds_kept, holds_rest, holds_both, torn_written, holds_written}
+use Rattle.disk_model.proofs.Torn.{holds_kept, holds_rest, holds_both, torn_written, holds_written}
 use Rattle.gate_journal.specs.declared.row.Row.{Row}
 use Rattle.gate_journal.specs.Gate.{IsShut}
 use Rattle.gate_journal.specs.Rows.{SpellsRows, body, spelled, IsJournal}

@@ -22,4 +22,5 @@ fn values_are_found_by_number(rt: HostRuntime) {
     assert!(rt; next_above(&items, 9) == 0);
     assert!(rt; place_of(&items, 9) == Some(2));
     assert!(rt; place_of(&items, 2) == None);
+    next_is_least(&items, 4);
 }

@@ -126,6 +126,45 @@ fn written_again(alloc: Global, bytes: &[u8], image: &Image<'_>) -> Result<Vec<u
     }
 }
 
+/// Blocks of 32 bytes at 0x210 and of 16 at 0x200, a heap of its own story's, out of order.
+const HEAP: &[u8; 24] = b"\0\0\x02\0\0\0\0\x02\0\0\x02\x10\0\0\0\x20\0\0\x02\0\0\0\0\x10";
+
+#[test]
+fn a_heap_is_written_by_its_addresses(rt: HostRuntime) -> Result<(), Fail> {
+    let file = story(1);
+    let image = Image::parse(&file).ok().ok_or("an image")?;
+    let parts: [Part; 3] = [(b"Stks", &STACK), (b"CMem", &[0, 0, 3, 0]), (b"MAll", HEAP)];
+    let bytes = form(rt.alloc(), &file[..128], &parts)?;
+    let state = read(rt.alloc(), bytes.as_slice(), &image)
+        .ok()
+        .ok_or("a state")?;
+    let written = write(rt.alloc(), &state, &image)?;
+    let chunk = b"MAll\0\0\0\x18\0\0\x02\0\0\0\0\x02\0\0\x02\0\0\0\0\x10\0\0\x02\x10\0\0\0\x20";
+    assert!(rt; written.as_slice().ends_with(chunk));
+    Ok(())
+}
+
+/// Memory as it is: its size of 512 bytes, and a page of zeros.
+fn plain_memory(alloc: Global) -> Result<Vec<u8>, Fail> {
+    let mut bytes = vec![in alloc; 0; 260]?;
+    bytes[2] = 2;
+    Ok(bytes)
+}
+
+#[test]
+fn plain_memory_is_read_beside_an_unknown_chunk(rt: HostRuntime) -> Result<(), Fail> {
+    let file = story(1);
+    let image = Image::parse(&file).ok().ok_or("an image")?;
+    let mut bytes = Vec::new(rt.alloc());
+    bytes.extend_from_slice(b"FORM\0\0\x01\xC8IFZS")?;
+    push(&mut bytes, b"IFhd", &file[..128])?;
+    push(&mut bytes, b"ANNO", b"abc")?;
+    push(&mut bytes, b"UMem", &plain_memory(rt.alloc())?)?;
+    push(&mut bytes, b"Stks", &STACK)?;
+    assert!(rt; read(rt.alloc(), bytes.as_slice(), &image).is_ok());
+    Ok(())
+}
+
 #[test]
 fn a_state_is_written_and_read_again(rt: HostRuntime) -> Result<(), Fail> {
     let file = story(1);

@@ -1,7 +1,7 @@
 use Rattle.std.proofs.Common.{◌≡◌, ◌⊎◌, inl, inr, [], ◌∷◌, ◌+◌, ◌++◌, sym, subst, List, ℕ, Bool, length, arith}
 use Rattle.std.specs.Prelude.{IsTrue}
 use Rattle.disk_model.specs.Disk.{written, Holds, LeavesOnly}
-use Rattle.disk_model.specs.Moments.{weaker, and_then}
+use Rattle.disk_model.proofs.Moments.{weaker, and_then}
 use Rattle.gate_journal.specs.Gate.{IsShut, IsUnsure}
 use Rattle.gate_journal.proofs.Steps.{shut_torn, shut_written, unsure_torn, unsure_opened}
 use Rattle.gate_journal.proofs.gate.write_row.Goals as goal
