@@ -8,7 +8,7 @@ use Rattle.std.proofs.lemmas.List.FromFn.{length-map-range_with_len}
 use Rattle.std.proofs.lemmas.Option.{slice_get-get_or, slice_get_within}
 use Rattle.std.specs.List.{slice_get}
 use Rattle.std.specs.Prelude.{IfSome, if◌then◌else◌, not, ◌&&◌}
-use Rattle.disk_model.specs.StateLaws.{only_settled, settled_image}
+use Rattle.disk_model.proofs.StateLaws.{only_settled, settled_image}
 use Rattle.gate_journal.specs.Log.{StandsAt}
 use Rattle.gate_journal.specs.Rows.{IsJournal, IsNext, commands_of}
 use Rattle.gate_journal.specs.declared.command.Command.{Command}

@@ -3,7 +3,7 @@ use Rattle.std.proofs.Common.{List, None, Some, [], ap, arith, get_or, refl, sub
 use Rattle.std.proofs.Common.{◌++◌, ◌∷◌, ◌≡◌}
 use Rattle.disk_model.specs.Disk.{Holds}
 use Rattle.disk_model.specs.DiskState.{IsImage, settled}
-use Rattle.disk_model.specs.StateLaws.{only_settled, settled_image}
+use Rattle.disk_model.proofs.StateLaws.{only_settled, settled_image}
 use Rattle.gate_journal.specs.Gate.{IsShut}
 use Rattle.gate_journal.specs.Rows.{header, spelled}
 use Rattle.session_core.specs.Turning.{commands_in}

@@ -8,7 +8,7 @@ use Rattle.std.specs.List.{slice_get}
 use Rattle.std.specs.Option.{option_map}
 use Rattle.std.specs.Prelude.{IfSome, if◌then◌else◌}
 use Rattle.disk_model.specs.DiskState.{IsImage}
-use Rattle.disk_model.specs.StateLaws.{only_settled, settled_image}
+use Rattle.disk_model.proofs.StateLaws.{only_settled, settled_image}
 use Rattle.gate_journal.proofs.LogLemmas.{closed_unsure}
 use Rattle.gate_journal.proofs.RowLemmas.{spells_shut}
 use Rattle.gate_journal.specs.Log.{StandsAt}
