@@ -10,9 +10,12 @@ use Rattle.gate_journal.specs.Command.{IsCommand}
 use Rattle.gate_journal.specs.Log.{next_row}
 use Rattle.gate_journal.specs.declared.command.Command.{Command}
 use Rattle.gate_journal.specs.declared.row.Row.{Row}
-use Rattle.line_words.specs.Spelling.{number}
+use Rattle.line_words.specs.Spelling.{number, session}
 use Rattle.story_run.specs.declared.story.Story.{Story}
+use Rattle.host_world.specs.Disk.{agree}
+use Rattle.host_world.specs.Events.{free}
 use Rattle.host_world.specs.Headline.{AreGiven}
+use Rattle.host_world.specs.Sessions.{found}
 use Rattle.gate_journal.specs.Rows.{commands_of, is_free, is_close, may_follow, EachNext, IsJournal, IsNext, MayStand}
 use Rattle.gate_journal.specs.declared.command.Command.TheVariants as commands
 use Rattle.line_words.specs.declared.request.Request.{Request}
@@ -24,9 +27,9 @@ use Rattle.line_words.specs.Spelling.{IsRequest}
 use Rattle.line_words.proofs.RequestLaws.{request_only}
 use Rattle.session_core.specs.History.{game_of, count, goes_on, has_key, is_in_use, is_open, story_at}
 use Rattle.session_core.specs.Checks.{command_of, is_fresh, is_full, opened}
-use Rattle.session_core.specs.Answer.{answer, decided, accepted_by, first_of, plain_checks, story_checks, refusal_of}
+use Rattle.session_core.specs.Answer.{answer, checks, decided, accepted_by, first_of, plain_checks, story_checks, refusal_of}
 use Rattle.session_core.specs.Sessions.{with_budget}
-use Rattle.session_core.specs.Turning.{decided_by, decision_on}
+use Rattle.session_core.specs.Turning.{commands_in, decided_by, decision_on}
 use Rattle.session_core.proofs.AnswerLemmas.{accepted_has_room}
 use Rattle.session_core.proofs.RepeatLemmas.{all_fail, chosen, joined, game_of-append, game_of-append-open, last_of-joined, some_is}
 

@@ -10,7 +10,7 @@ use Rattle.std.specs.List.{slice_get}
 use Rattle.std.specs.Prelude.{IfSome}
 use Rattle.disk_model.specs.Disk.{Holds, written}
 use Rattle.disk_model.specs.DiskState.{DiskState, IsImage, settled}
-use Rattle.disk_model.specs.StateLaws.{only_settled, seen_write}
+use Rattle.disk_model.proofs.StateLaws.{only_settled, seen_write}
 use Rattle.gate_journal.proofs.RowLemmas.{journal_push}
 use Rattle.gate_journal.proofs.Sound.{opened_shut}
 use Rattle.gate_journal.proofs.Steps.{shut_written, unsure_opened, unsure_written}
@@ -19,6 +19,7 @@ use Rattle.gate_journal.specs.Log.{StandsAt, next_row}
 use Rattle.gate_journal.specs.Rows.{IsJournal, IsNext, commands_of, spelled}
 use Rattle.gate_journal.specs.declared.command.Command.{Command}
 use Rattle.gate_journal.specs.declared.row.Row.{Row}
+use Rattle.line_words.specs.Spelling.{session}
 use Rattle.story_run.specs.declared.story.Story.{Story}
 use Rattle.session_core.specs.Turning.{commands_in, decision_on}
 use Rattle.session_core.specs.declared.entry.Entry.{Entry}

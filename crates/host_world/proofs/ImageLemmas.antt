@@ -8,9 +8,9 @@ use Rattle.std.specs.Prelude.{if◌then◌else◌, nat_eq, nat_le, nat_lt, slice
 use Rattle.disk_model.specs.Disk.{AfterWrite, written}
 use Rattle.disk_model.specs.DiskState.{DiskState, IsImage, Untouched, after_write, greatest_end}
 use Rattle.disk_model.specs.DiskState.{with_range}
-use Rattle.disk_model.specs.RangeLaws.{greatest_end-push, untouched-front, untouched-last}
-use Rattle.disk_model.specs.StateLaws.{image_torn, only_settled, settled_image}
-use Rattle.disk_model.specs.Torn.{length-written, torn_same, written_above, written_below}
+use Rattle.disk_model.proofs.RangeLaws.{greatest_end-push, untouched-front, untouched-last}
+use Rattle.disk_model.proofs.StateLaws.{image_torn, only_settled, settled_image}
+use Rattle.disk_model.proofs.Torn.{length-written, torn_same, written_above, written_below}
 use Rattle.gate_journal.proofs.Steps.{shut_torn, unsure_torn}
 use Rattle.gate_journal.specs.Gate.{IsShut, IsUnsure}
 use Rattle.gate_journal.specs.Log.{StandsAt}

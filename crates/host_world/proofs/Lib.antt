@@ -12,5 +12,6 @@ pub mod Runs
 pub mod SetLemmas
 pub mod Shows
 pub mod Sound
+pub mod StandardFacts
 pub mod Stops
 pub mod Turning

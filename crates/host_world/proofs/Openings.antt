@@ -11,8 +11,8 @@ use Rattle.std.specs.List.{slice_get}
 use Rattle.std.specs.Prelude.{IfSome, if◌then◌else◌, not, slice_index, ◌&&◌}
 use Rattle.disk_model.specs.Disk.{Holds}
 use Rattle.disk_model.specs.DiskState.{DiskState, IsImage}
-use Rattle.disk_model.specs.StateLaws.{only_settled}
-use Rattle.disk_model.specs.Torn.{holds_both, holds_rest}
+use Rattle.disk_model.proofs.StateLaws.{only_settled}
+use Rattle.disk_model.proofs.Torn.{holds_both, holds_rest}
 use Rattle.gate_journal.proofs.RowLemmas.{journal_push, opens, spells_not_open, spells_shut}
 use Rattle.gate_journal.proofs.Steps.{unsure_written}
 use Rattle.gate_journal.specs.Gate.{IsShut, IsUnsure}

@@ -8,16 +8,17 @@ use Rattle.std.proofs.lemmas.List.FromFn.{length-map-range_with_len}
 use Rattle.std.proofs.lemmas.Option.{slice_get-get_or, slice_get_within}
 use Rattle.std.specs.List.{slice_get}
 use Rattle.std.specs.Prelude.{IfSome, if◌then◌else◌, not, ◌&&◌}
-use Rattle.disk_model.specs.StateLaws.{only_settled, settled_image}
+use Rattle.disk_model.proofs.StateLaws.{only_settled, settled_image}
 use Rattle.gate_journal.specs.Log.{StandsAt}
 use Rattle.gate_journal.specs.Rows.{IsJournal, IsNext, commands_of}
 use Rattle.gate_journal.specs.declared.command.Command.{Command}
 use Rattle.gate_journal.specs.declared.row.Row.{Row}
+use Rattle.line_words.specs.Spelling.{session}
 use Rattle.story_run.specs.declared.story.Story.{Story}
 use Rattle.session_core.specs.Turning.{commands_in}
 use Rattle.session_core.specs.declared.entry.Entry.{Entry}
 use Rattle.host_world.specs.Disk.{is_image}
-use Rattle.host_world.specs.Events.{after, run}
+use Rattle.host_world.specs.Events.{after, run, stop}
 use Rattle.host_world.specs.Happenings.{Happening, Opened, all_told, cut, cut_at, cut_in, ended}
 use Rattle.host_world.specs.Happenings.{ended_at, ended_in, further, history_of, replies_of}
 use Rattle.host_world.specs.Happenings.{replies_to, told}

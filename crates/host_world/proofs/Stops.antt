@@ -8,13 +8,14 @@ use Rattle.std.specs.List.{slice_get}
 use Rattle.std.specs.Option.{option_map}
 use Rattle.std.specs.Prelude.{IfSome, if◌then◌else◌}
 use Rattle.disk_model.specs.DiskState.{IsImage}
-use Rattle.disk_model.specs.StateLaws.{only_settled, settled_image}
+use Rattle.disk_model.proofs.StateLaws.{only_settled, settled_image}
 use Rattle.gate_journal.proofs.LogLemmas.{closed_unsure}
 use Rattle.gate_journal.proofs.RowLemmas.{spells_shut}
 use Rattle.gate_journal.specs.Log.{StandsAt}
 use Rattle.gate_journal.specs.Rows.{IsNext, SpellsRows, commands_of}
 use Rattle.gate_journal.specs.declared.command.Command.{Command}
 use Rattle.gate_journal.specs.declared.row.Row.{Row}
+use Rattle.line_words.specs.Spelling.{session}
 use Rattle.line_words.specs.declared.reply.Reply.{Reply}
 use Rattle.story_run.specs.declared.story.Story.{Story}
 use Rattle.session_core.specs.Turning.{Turned, commands_in, decision_on}

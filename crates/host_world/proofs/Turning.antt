@@ -6,6 +6,7 @@ use Rattle.std.specs.List.{slice_get}
 use Rattle.std.specs.Prelude.{if◌then◌else◌}
 use Rattle.gate_journal.specs.declared.command.Command.{Command}
 use Rattle.gate_journal.specs.declared.row.Row.{Row}
+use Rattle.line_words.specs.Spelling.{session}
 use Rattle.line_words.specs.declared.reply.No.TheVariants.{NoMemory}
 use Rattle.line_words.specs.declared.reply.Reply.{Reply}
 use Rattle.line_words.specs.declared.reply.Reply.TheVariants.{No}
@@ -15,15 +16,15 @@ use Rattle.session_core.specs.declared.entry.Entry.{Entry}
 use Rattle.session_core.specs.declared.entry.Outcome.{Outcome}
 use Rattle.session_core.specs.declared.entry.Outcome.TheVariants.{Answered, DiskFailed, Forgotten}
 use Rattle.session_core.specs.declared.entry.Outcome.TheVariants.{OutOfMemory}
-use Rattle.host_world.specs.Events.{accept, accept_at, accept_turn, after, free, freed_by, give}
-use Rattle.host_world.specs.Events.{give_at, gives, goes_to, held_by, hold, holds, run_turn}
-use Rattle.host_world.specs.Events.{take_turn, takes_at, want, with_session}
+use Rattle.host_world.specs.Events.{accept, accept_at, accept_turn, after, free, freed_by, gives}
+use Rattle.host_world.specs.Events.{goes_to, held_by, hold, holds, run_turn, take_turn, takes_at}
+use Rattle.host_world.specs.Events.{want, with_session}
 use Rattle.host_world.specs.Happenings.{Ended, Happening, ended, ended_at, ended_in, history_of}
 use Rattle.host_world.specs.Happenings.{replies_of, replies_to}
 use Rattle.host_world.specs.Journal.{sessions_with}
 use Rattle.host_world.specs.Pending.{pending, pending_at, pending_of}
-use Rattle.host_world.specs.Sessions.{asking, first_phase, in_phase, phase_in, phase_of, phase_set}
-use Rattle.host_world.specs.Sessions.{taking, turn_set}
+use Rattle.host_world.specs.Sessions.{answer_in, asking, first_phase, in_phase, phase_in, phase_of}
+use Rattle.host_world.specs.Sessions.{phase_set, taking, turn_ended, turn_set}
 use Rattle.host_world.specs.declared.event.Event.TheVariants.{Accept, Free, Hold, Run, Take, Want}
 use Rattle.host_world.specs.declared.state.Given.{Given}
 use Rattle.host_world.specs.declared.state.HostState.{HostState}
@@ -285,11 +286,11 @@ module _ (stories : List Story) (budget : ℕ) where
 
     module _ (x : Session) (at : slice_get w.sessions s ≡ Some x) (t : Turn) (turn : x.turn ≡ Some t) where
       given_kept : (phase : Phase) (outcome : Outcome) (reply : Reply) → t.phase ≡ phase → Quiet phase → pending_at stories budget (commands_in x.history) t.line phase ≡ []
-          → turn_of stories budget (history_of stories budget (first s) (past s)) t.pass t.line outcome ≡ record { reply = reply; history = x.history } → Sound stories budget first (past_with (Ended t.pass t.line outcome ∷ [])) (gives w s x reply)
+          → turn_of stories budget (history_of stories budget (first s) (past s)) t.pass t.line outcome ≡ record { reply = reply; history = x.history } → Sound stories budget first (past_with (Ended t.pass t.line outcome ∷ [])) (gives w s (Some reply))
       given_kept phase outcome reply is quiet none did =
           let more = Ended t.pass t.line outcome ∷ [] in
           let nothing : pending stories budget x ≡ [] = pending_is first past w sound s x at t turn phase is ∙ none in
-          moves stories budget first past (past_with more) w s x (record { history = x.history; turn = None }) w.holder (record { session = s; reply = reply } ∷ []) record {
+          subst (λ (l : List Session). Sound stories budget first (past_with (Ended t.pass t.line outcome ∷ [])) (record w { sessions = l; given = w.given ++ record { session = s; reply = reply } ∷ [] })) (sym (ap (λ (o : Option Session). turn_ended w.sessions s o) at)) (moves stories budget first past (past_with more) w s x (record { history = x.history; turn = None }) w.holder (record { session = s; reply = reply } ∷ []) (record {
             at = at;
             up = up first past w sound s x at t turn;
             quiet = quiet_is first past w sound s x at t turn phase is quiet;
@@ -301,9 +302,9 @@ module _ (stories : List Story) (budget : ℕ) where
                 ∙ sym (ap (λ (l : List Happening). replies_of stories budget (first s) l) (past_with_here more) ∙ replies-push stories budget (first s) (past s) more);
             rows = ap (λ (l : List Command). commands_in x.history ++ l) (sym nothing);
             none = λ empty. refl;
-          } sound
+          }) sound)
 
-      give_phase : (phase : Phase) → t.phase ≡ phase → Sound stories budget first (past_with (ended t phase)) (give w s x (Some phase))
+      give_phase : (phase : Phase) → t.phase ≡ phase → Sound stories budget first (past_with (ended t phase)) (gives w s (answer_in (Some phase)))
       give_phase (Taken outcome reply) is = given_kept (Taken outcome reply) outcome reply is tt refl (fact first past w sound s x at t turn (Taken outcome reply) is)
       give_phase (Plain outcome reply) is = given_kept (Plain outcome reply) outcome reply is tt refl (fact first past w sound s x at t turn (Plain outcome reply) is).1
       give_phase Asked is = nothing_told
@@ -313,11 +314,11 @@ module _ (stories : List Story) (budget : ℕ) where
       give_phase Freed is = nothing_told
       give_phase (Ready outcome) is = nothing_told
 
-    give_turn : (x : Session) → slice_get w.sessions s ≡ Some x → (o : Option Turn) → x.turn ≡ o → Sound stories budget first (past_with (ended_at o)) (give w s x (phase_in o))
+    give_turn : (x : Session) → slice_get w.sessions s ≡ Some x → (o : Option Turn) → x.turn ≡ o → Sound stories budget first (past_with (ended_at o)) (gives w s (answer_in (phase_in o)))
     give_turn x at None is = nothing_told
     give_turn x at (Some t) is = give_phase x at t is t.phase refl
 
-    pub give_kept : (o : Option Session) → slice_get w.sessions s ≡ o → Sound stories budget first (past_with (ended_in o)) (give_at w s o)
+    pub give_kept : (o : Option Session) → slice_get w.sessions s ≡ o → Sound stories budget first (past_with (ended_in o)) (gives w s (answer_in (phase_of o)))
     give_kept None is = nothing_told
     give_kept (Some x) is = give_turn x is x.turn refl
 

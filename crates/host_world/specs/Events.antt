@@ -28,6 +28,7 @@ use Rattle.host_world.specs.declared.event.Event.TheVariants.{Accept, Give, Stop
 use Rattle.host_world.specs.Disk.{is_image}
 use Rattle.host_world.specs.Journal.{next_call, sessions_with, called}
 use Rattle.host_world.specs.Sessions.{phase_of, asking, taking, without_turn, in_phase}
+use Rattle.host_world.specs.Sessions.{answer_in, turn_ended}
 
 -- this session holds the journal
 abbrev pub held_by : Option ℕ → ℕ → Bool
@@ -73,22 +74,14 @@ run_turn w s found other = w
 abbrev pub with_session : HostState → ℕ → Session → HostState
 with_session w s x = record w { sessions = set w.sessions s x }
 
--- Give: the turn is over
-abbrev pub gives : HostState → ℕ → Session → Reply → HostState
-gives w s x reply =
+-- Give: the reply that is ready is given, and the turn is over
+abbrev pub gives : HostState → ℕ → Option Reply → HostState
+gives w s None = w
+gives w s (Some reply) =
     record w {
-      sessions = set w.sessions s (without_turn x);
+      sessions = turn_ended w.sessions s (slice_get w.sessions s);
       given = w.given ++ record { session = s; reply = reply } ∷ [];
     }
-
-abbrev pub give : HostState → ℕ → Session → Option Phase → HostState
-give w s x (Some (Taken outcome reply)) = gives w s x reply
-give w s x (Some (Plain outcome reply)) = gives w s x reply
-give w s x other = w
-
-abbrev pub give_at : HostState → ℕ → Option Session → HostState
-give_at w s None = w
-give_at w s (Some x) = give w s x (phase_of (Some x))
 
 -- the first step of an append: a gate of which nothing is known is closed first
 abbrev pub first_step : Option Row → Row → ℕ → Step
@@ -178,7 +171,7 @@ module _ (stories : List Story) (budget : ℕ) where
   after w (Free s) = if holds w s then free w s (phase_of (slice_get w.sessions s)) else w
   after w (Run s found) = run_turn w s found (phase_of (slice_get w.sessions s))
   after w (Accept s) = accept_at w s (slice_get w.sessions s)
-  after w (Give s) = give_at w s (slice_get w.sessions s)
+  after w (Give s) = gives w s (answer_in (phase_of (slice_get w.sessions s)))
   after w (Stop images) = stop w images
   after w Recover = if w.up then w else record w { step = FirstSync }
 

@@ -67,6 +67,17 @@ taking t outcome turned =
 abbrev pub without_turn : Session → Session
 without_turn x = record { history = x.history; turn = None }
 
+-- the reply that is ready, with its entry taken where it has one
+abbrev pub answer_in : Option Phase → Option Reply
+answer_in (Some (Taken outcome reply)) = Some reply
+answer_in (Some (Plain outcome reply)) = Some reply
+answer_in other = None
+
+-- the sessions, where the turn of one is over
+abbrev pub turn_ended : List Session → ℕ → Option Session → List Session
+turn_ended sessions s None = sessions
+turn_ended sessions s (Some x) = set sessions s (without_turn x)
+
 -- the history that an opening makes of the commands in the rows
 abbrev pub found : List Command → List Entry
 found [] = []

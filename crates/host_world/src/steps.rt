@@ -1,15 +1,16 @@
-//! The events of a turn that need no memory (own).
+//! The events of a turn that decide nothing (own).
 
-ghost use Rattle.std.specs.Prelude.{◌≡◌, ℕ, List};
+ghost use Rattle.std.specs.Prelude.{◌≡◌, ℕ, List, OnOk, OnErr};
 ghost use Rattle.story_run.specs.declared.story.Story.{Story};
 ghost use Rattle.host_world.specs.Events.{after, held_by};
 ghost use Rattle.host_world.specs.declared.event.Event.TheVariants as Event;
 
-use crate::sessions::{phase_of, set_phase};
-use crate::state::{HostState, Step};
+use crate::sessions::{end_turn, has_answer, phase_of, set_phase};
+use crate::state::{Given, HostState, Step};
 use crate::turn::Phase;
 use line_words::{No, Reply};
 use session_core::Outcome;
+use std::alloc::AllocError;
 
 fn holds(holder: Option<u8>, s: u8) -> bool
     ensures { result ≡ held_by holder s }
@@ -92,6 +93,23 @@ impl HostState {
             };
             set_phase(&mut self.sessions.list, s, Phase::Ready(outcome));
         }
+    }
+
+    /// The reply that is ready is given, and the turn is over. Where memory runs out nothing has
+    /// changed.
+    pub fn give(&mut self, s: u8) -> Result<(), AllocError>
+        ensures ok { OnOk result ((stories : List Story) (budget : ℕ)
+            → self.new ≡ after stories budget self.old (Event.Give s)) }
+        ensures err { OnErr result (self.new ≡ self.old) }
+    {
+        if !has_answer(self.sessions.as_slice(), s) {
+            return Ok(());
+        }
+        self.given.list.reserve(1)?;
+        if let Some(reply) = end_turn(&mut self.sessions.list, s) {
+            let _ = self.given.list.push(Given { session: s, reply });
+        }
+        Ok(())
     }
 
     /// An opening begins, where the host is down.
