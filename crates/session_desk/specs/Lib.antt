@@ -3,3 +3,4 @@ pub mod Wanted
 pub mod Verdict
 pub mod Commit
 pub mod Laws
+pub mod Desks
