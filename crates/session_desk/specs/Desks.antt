@@ -1,27 +1,27 @@
 -- The desks of a host over one journal: a line is one turn of the session that it names (own).
-use Rattle.std.specs.Prelude.{◌≡◌, ◌⊎◌, ℕ, ◌+◌, ◌<◌, ◌≤◌, ◌==◌, max, Bool, IsTrue}
-use Rattle.std.specs.Prelude.{if◌then◌else◌, List, [], ◌∷◌, ◌++◌, length, map, slice_get}
-use Rattle.std.specs.Prelude.{Option, Some, None}
+use Rattle.std.specs.Prelude.{◌≡◌, ◌⊎◌, ℕ, ◌+◌, ◌≤◌, max, Bool, IsTrue, if◌then◌else◌}
+use Rattle.std.specs.Prelude.{List, length, map, slice_get, Option, Some, None}
 use Rattle.std.specs.List.{range_with_len}
-use Rattle.disk_model.specs.Disk.{LeavesOnly, Rose, SameDisk}
-use Rattle.gate_journal.specs.Command.{IsBudget}
-use Rattle.gate_journal.specs.Log.{Log, MayOpen, MaySpell, next_row, rows_of}
-use Rattle.gate_journal.specs.Rows.{spelled}
-use Rattle.gate_journal.specs.declared.command.Command.{Command}
+use Rattle.disk_model.specs.Disk.{LeavesOnly, SameDisk}
+use Rattle.gate_journal.specs.Log.{Log, rows_of}
+use Rattle.gate_journal.specs.Rows.{commands_of, spelled}
 use Rattle.gate_journal.specs.declared.row.Row.{Row}
 use Rattle.gate_journal.specs.declared.entry.Entry.{Entry as JournalEntry}
-use Rattle.gate_journal.specs.declared.entry.Entry.TheVariants.{Kept, Faulted}
+use Rattle.line_words.specs.Play.{is_long}
+use Rattle.line_words.specs.Request.{request_of}
+use Rattle.line_words.specs.declared.reply.No.{No}
+use Rattle.line_words.specs.declared.reply.No.TheVariants.{BadLine, LongLine, NoMemory}
 use Rattle.line_words.specs.declared.reply.Reply.{Reply}
+use Rattle.line_words.specs.declared.request.Request.{Request}
 use Rattle.story_run.specs.declared.story.Story.{Story}
 use Rattle.session_core.specs.declared.entry.Entry.{Entry}
-use Rattle.session_core.specs.declared.entry.Entry.TheVariants as entries
 use Rattle.session_core.specs.declared.entry.Outcome.{Outcome}
-use Rattle.session_core.specs.declared.entry.Outcome.TheVariants.{Answered, DiskFailed}
-use Rattle.session_core.specs.declared.entry.Outcome.TheVariants.{OutOfMemory, Forgotten}
 use Rattle.session_core.specs.Hosts.{decision_at, histories_after, session_on, turn_on}
+use Rattle.session_core.specs.Sessions.{with_budget}
 use Rattle.session_core.specs.Turning.{MayMeet}
-use Rattle.session_desk.specs.Commit.{IsKept}
+use Rattle.session_desk.specs.Commit.{IsInRange}
 use Rattle.session_desk.specs.Desk.{DeskState}
+use Rattle.session_desk.specs.Turn.{history_in, IsCounted, MayLeave, row_for}
 
 -- the stories, the budget of a turn in ticks, and the journal; the desks follow from these but for
 -- the worlds that they keep warm
@@ -30,52 +30,32 @@ pub record DesksState (D : Type 0) : Type 0 where
   pub budget : ℕ
   pub log : Log D
 
--- the history of a session in a journal: its rows, and the faults of the disk in its appends; one
--- connection has the one pass 0
-abbrev pub history_in : List JournalEntry → ℕ → List Entry
-history_in [] s = []
-history_in (Kept r ∷ more) s =
-    if r.session == s then entries.Accepted 0 r.command ∷ history_in more s
-    else history_in more s
-history_in (Faulted by from to ∷ more) s =
-    if by == s + 1 then entries.Faulted 0 from to ∷ history_in more s else history_in more s
-
 -- the histories of the 64 sessions
 unfoldable pub histories_in : List JournalEntry → List (List Entry)
 histories_in journal = map (history_in journal) (range_with_len 0 64)
 
--- the desk of a session: its commands are the journal's rows of that session
-pub record IsDeskOf {D : Type 0} (host : DesksState D) (s : ℕ) (desk : DeskState) : Type 0 where
+-- the desk of a session, whose commands are the session's among these rows
+pub record IsDeskOf
+    (stories : List Story)
+    (budget : ℕ)
+    (rows : List Row)
+    (s : ℕ)
+    (desk : DeskState) : Type 0 where
   pub numbered : desk.session ≡ s
-  pub stories : desk.stories ≡ host.stories
-  pub budget : desk.budget ≡ host.budget
-  pub kept : IsKept desk host.log
+  pub stories : desk.stories ≡ stories
+  pub budget : desk.budget ≡ budget
+  pub kept : commands_of rows s ≡ desk.commands
 
--- what holds of each host: it has 64 desks, and each is that of its number
-pub record AreDesks {D : Type 0} (host : DesksState D) (desks : List DeskState) : Type 0 where
-  pub budget : IsBudget host.budget
+-- 64 desks over these rows, each that of its number
+pub record AreDesks
+    (stories : List Story)
+    (budget : ℕ)
+    (rows : List Row)
+    (desks : List DeskState) : Type 0 where
   pub many : length desks ≡ 64
-  pub each : (s : ℕ) (desk : DeskState) → slice_get desks s ≡ Some desk → IsDeskOf host s desk
-
--- The disk's count of faults over a turn: a turn in which the disk failed tells the counts from
--- before and behind it, and in any other the count stays.
-abbrev pub IsCounted : Outcome → ℕ → ℕ → Type 0
-IsCounted (DiskFailed from to) before now =
-    (from ≡ before) × (to ≡ now) × (before ≤ now) × Rose before now
-IsCounted Answered before now = now ≡ before
-IsCounted OutOfMemory before now = now ≡ before
-IsCounted Forgotten before now = now ≡ before
-
--- the row of a command that a session accepts, behind these rows
-abbrev pub row_for : List Row → ℕ → Option Command → Option Row
-row_for rows s (Some command) = Some (next_row rows s command)
-row_for rows s None = None
-
--- while a turn is made an image spells the rows from before, or these and the uncertain one, or
--- these and the new one; and an opening may meet it
-abbrev pub MayLeave : List Row → Option Row → Option Row → List ℕ → Type 0
-MayLeave rows uncertain new c =
-    (MaySpell rows uncertain c ⊎ MaySpell rows new c) × MayOpen rows c
+  pub each :
+      (s : ℕ) (desk : DeskState) → slice_get desks s ≡ Some desk
+      → IsDeskOf stories budget rows s desk
 
 -- A line is answered: one turn of the session that it names, by what it met.
 pub record Answers
@@ -110,3 +90,16 @@ pub record Answers
   pub reach :
       reach new.log.disk
       ≤ max (reach old.log.disk) (length (spelled (rows_of old.log.entries)) + 4110)
+
+-- the request of a line, with the host's budget, whose command a journal may keep
+pub record IsReadAs (budget : ℕ) (line : List ℕ) (request : Request) : Type 0 where
+  pub given : Request
+  pub spelled : request_of line ≡ Some given
+  pub budgeted : request ≡ with_budget budget given
+  pub ranges : IsInRange request
+
+-- why a line isn't read: it spells no request, or memory ran out
+abbrev pub IsUnread : List ℕ → No → Type 0
+IsUnread line why =
+    (request_of line ≡ None) × (why ≡ (if is_long line then LongLine else BadLine))
+    ⊎ (why ≡ NoMemory)

@@ -3,4 +3,5 @@ pub mod Wanted
 pub mod Verdict
 pub mod Commit
 pub mod Laws
+pub mod Turn
 pub mod Desks
