@@ -2,6 +2,11 @@
 """Plays moves through `storyhost run` and writes the text of the story's main window.
 
 usage: play.py STORY [MOVES] [--host PROGRAM] [--budget N] [--shows]
+       play.py STORY [MOVES] --dir DIR [--session N] [--key WORD] [--seed N] [--host PROGRAM]
+
+With --dir the story is played in a session of the host whose folder that is (`storyhost init DIR`
+made it): what was played is kept there, and the next play.py with the same session and key goes on
+where this one ended. Where the host stops it is started again, and the last move is sent again.
 
 With no MOVES you play: each line that you type is a move, and other windows are shown too, before
 the prompt. MOVES is a file with one move a line; a blank line or one that begins with # is none. A
@@ -11,6 +16,7 @@ move is given as the story waits: as a line, as a file's name, or as a character
 """
 import argparse
 import os
+import shutil
 import subprocess
 import sys
 
@@ -60,12 +66,15 @@ class Host:
     """A story in `storyhost run`: its windows, the main window's text, and what it waits for."""
 
     def __init__(self, story, program=HOST, budget=None, shows=None):
-        words = [program, "run", story] + (["--budget", str(budget)] if budget else [])
-        self.process = subprocess.Popen(words, stdin=subprocess.PIPE, stdout=subprocess.PIPE)
+        self.words = [program, "run", story] + (["--budget", str(budget)] if budget else [])
         self.shows, self.windows, self.main = shows, {}, None
         self.text = ""      # all that the main window was given, CLEARED where it was cleared
         self.waits, self.ended, self.usage = [], None, None
+        self.start()
         self.read_show()
+
+    def start(self):
+        self.process = subprocess.Popen(self.words, stdin=subprocess.PIPE, stdout=subprocess.PIPE)
 
     def read_show(self):
         seen, waits, touched = {}, [], False
@@ -121,19 +130,24 @@ class Host:
         return unescaped(self.waits[0][4]) if self.wanted()[0] == "line" else ""
 
     def give(self, move):
+        self.send(self.line_of(move))
+        self.read_show()
+
+    def line_of(self, move):
+        """The line of `run` that gives the story this move."""
         kind, window = self.wanted()
         move = "" if move == "{empty}" and kind != "char" else move
         if kind == "P":
-            line = "FILE " + escaped(move)
-        elif kind == "line":
-            line = f"LINE {window} " + escaped(move)
-        else:
-            line = f"CHAR {window} {KEYS.get(move) or ord((move + ' ')[0])}"
+            return "FILE " + escaped(move)
+        if kind == "line":
+            return f"LINE {window} " + escaped(move)
+        return f"CHAR {window} {KEYS.get(move) or ord((move + ' ')[0])}"
+
+    def send(self, line):
         if self.shows:
             print("<", line, file=self.shows)
         self.process.stdin.write(line.encode() + b"\n")
         self.process.stdin.flush()
-        self.read_show()
 
     def finish(self):
         """Ends the input, and keeps what the program used."""
@@ -141,6 +155,55 @@ class Host:
             self.process.stdin.close()
             _, self.status, self.usage = os.wait4(self.process.pid, 0)
             self.process.returncode = os.waitstatus_to_exitcode(self.status)
+
+
+class Stopped(Exception):
+    """The host is gone."""
+
+
+class Session(Host):
+    """A session of the host of a folder, in `storyhost pipe`, which keeps what was played."""
+
+    def __init__(self, folder, story, number, key, seed, program=HOST, shows=None):
+        self.words = [program, "pipe", folder, story]
+        self.number, self.key, self.seed, self.count = number, key, seed, 0
+        self.shows, self.windows, self.main, self.text = shows, {}, None, ""
+        self.waits, self.ended, self.usage = [], None, None
+        self.start()
+        if self.ask(f"LAST {number} {key}") == "NO 2":
+            refusal = self.ask(f"OPEN {number} {key} 0 {seed} 80 24")
+            if refusal:
+                raise SystemExit(f"play.py: session {number} can't be opened: {refusal}")
+
+    def ask(self, line):
+        """Reads the show that a request is answered with; or the refusal, where it is refused."""
+        self.send(line)
+        head = self.process.stdout.readline().decode().rstrip("\n")
+        if not head:
+            raise Stopped()
+        if head.startswith("NO "):
+            return head
+        self.count = int(head.split()[2])
+        self.read_show()
+        if self.ended == "no more output":
+            self.ended = None
+            raise Stopped()
+        return None
+
+    def give(self, move):
+        line = self.line_of(move).split(" ", 1)
+        request = f"{line[0]} {self.number} {self.key} {self.count + 1} {line[1]}"
+        while True:
+            try:
+                refusal = self.ask(request)
+                if refusal:
+                    raise SystemExit(f"play.py: the move was refused: {refusal}")
+                return
+            except (Stopped, BrokenPipeError):
+                print("\n[the host has stopped; it is started again, and the game goes on]")
+                self.process.kill()
+                self.usage = None
+                self.start()
 
 
 def play(host, moves):
@@ -152,6 +215,18 @@ def play(host, moves):
     return []
 
 
+def wrapped(text, columns):
+    """The text with line breaks in place of spaces, so that no word is cut at the margin."""
+    lines = []
+    for line in text.split("\n"):
+        while len(line) > columns and " " in line[1 : columns + 1]:
+            cut = line.rindex(" ", 1, columns + 1)
+            lines.append(line[:cut])
+            line = line[cut + 1 :]
+        lines.append(line)
+    return "\n".join(lines)
+
+
 def told(host, before):
     """Writes what came since: the other windows where they changed, and the main window's text."""
     for number, window in sorted(host.windows.items()):
@@ -160,7 +235,8 @@ def told(host, before):
         if number != host.main and text.strip() and before.get(number) != text:
             print("\n" + "\n".join("    | " + line for line in text.split("\n")))
         before[number] = text
-    print(host.text[before.get("told", 0) :].replace(CLEARED, "\n"), end="", flush=True)
+    text = host.text[before.get("told", 0) :].replace(CLEARED, "\n")
+    print(wrapped(text, shutil.get_terminal_size().columns), end="", flush=True)
     before["told"] = len(host.text)
     if host.wanted()[0] == "P":
         print("\nThe name of a file: ", end="", flush=True)
@@ -187,8 +263,17 @@ def main():
     words.add_argument("--host", default=HOST)
     words.add_argument("--budget", type=int)
     words.add_argument("--shows", action="store_true")
+    words.add_argument("--dir")
+    words.add_argument("--session", type=int, default=0)
+    words.add_argument("--key", default="player")
+    words.add_argument("--seed", type=int, default=1)
     given = words.parse_args()
-    host = Host(given.story, given.host, given.budget, sys.stdout if given.shows else None)
+    shows = sys.stdout if given.shows else None
+    if given.dir:
+        host = Session(
+            given.dir, given.story, given.session, given.key, given.seed, given.host, shows)
+    else:
+        host = Host(given.story, given.host, given.budget, shows)
     if given.moves is None:
         play_by_hand(host)
         host.finish()

@@ -1,13 +1,6 @@
 //! Runs of the whole program over files, input and output in memory.
 
-mod containers;
-mod files;
-mod glk;
-mod lines;
-mod requests;
-mod saves;
-mod turns;
-mod words;
+mod faults;
 
 use crate::memory::{MemoryOutside, MemorySink, MemorySource};
 use crate::top::top;
@@ -16,19 +9,18 @@ use std::collections::BTreeMap;
 use std::sync::Wait;
 use std::thread::Threads;
 
-/// A story file: what stands before its image, the nine words of the header, what stands behind
-/// them, and its size; the rest is zeros.
+/// A story file: the nine words of the header, and what stands behind them; the rest is zeros.
 #[derive(Clone, Copy)]
 struct File {
-    front: &'static [u8],
     header: [u32; 9],
     code: &'static [u8],
-    size: usize,
 }
+
+/// The size of each story file, in bytes.
+const SIZE: usize = 256;
 
 /// Prints `Hi` and quits.
 const HI: File = File {
-    front: b"",
     header: [
         0x476C_756C,
         0x0003_0103,
@@ -42,12 +34,10 @@ const HI: File = File {
     ],
     code: b"\xC1\x00\x00\x40\x80\x40\x81\x03\x40\x80\x40\x80\x40\x80\x81\x30\x11\x08\x23\x05\x81\x30\
         \x11\x00\x2F\x01\x81\x49\x01\x02\x70\x01\x48\x70\x01\x69\x81\x20",
-    size: 256,
 };
 
 /// Prints `>`, asks for a line, prints it and begins again.
 const ECHO: File = File {
-    front: b"",
     header: [
         0x476C_756C,
         0x0003_0103,
@@ -63,19 +53,6 @@ const ECHO: File = File {
         \x11\x00\x2F\x01\x81\x49\x01\x02\x70\x01\x3E\x40\x80\x40\x81\x14\x40\x82\x01\x00\x40\x81\
         \x01\x81\x30\x12\x00\x00\xD0\x04\x40\x82\x01\x20\x81\x30\x12\x00\x00\xC0\x01\x40\x86\x01\
         \x28\x40\x82\x01\x00\x81\x30\x12\x00\x00\x84\x02\x70\x01\x0A\x20\x01\xCC",
-    size: 256,
-};
-
-/// Divides -2147483648 by -1.
-const OVERFLOWS: File = File {
-    code: b"\xC1\x00\x00\x13\x13\x08\x80\x00\x00\x00\xFF\x81\x20",
-    ..HI
-};
-
-/// Divides 1 by 0.
-const DIVIDES_BY_ZERO: File = File {
-    code: b"\xC1\x00\x00\x13\x11\x08\x01\x00\x81\x20",
-    ..HI
 };
 
 const HI_SHOW: &[u8] = b"W 1 3 0 0 80 24\nT 1 0 =Hi\nE quit\n.\n";
@@ -84,20 +61,13 @@ const PROMPT: &[u8] = b"W 1 3 0 0 80 24\nT 1 0 =>\nI 1 line 20 =\n.\n";
 
 const GO: &[u8] = b"W 1 3 0 0 80 24\nT 1 8 =go%0A\nT 1 0 =go%0A>\nI 1 line 20 =\n.\n";
 
-const ABC: &[u8] = b"W 1 3 0 0 80 24\nT 1 8 =abc%0A\nT 1 0 =abc%0A>\nI 1 line 20 =\n.\n";
-
-const GONE: &[u8] = b"W 1 3 0 0 80 24\nT 1 8 =gone%0A\nT 1 0 =gone%0A>\nE fault 24\n.\n";
-
-/// A run: the words before and behind the name of the file, the input and how often `a` stands
-/// before it, the most bytes of a read or write, the loads, reads and writes that fail, and what
-/// is wanted.
+/// A run: the words before the name of the file, the input, the most bytes of a read or write, the
+/// loads, reads and writes that fail, and what is wanted.
 #[derive(Clone, Copy)]
 struct Run {
     file: File,
     command: &'static [&'static str],
-    words: &'static [&'static str],
     input: &'static [u8],
-    letters: usize,
     most: usize,
     loads: &'static [u64],
     reads: &'static [u64],
@@ -109,9 +79,7 @@ struct Run {
 const PLAIN: Run = Run {
     file: HI,
     command: &["run"],
-    words: &[],
     input: b"",
-    letters: 0,
     most: 4096,
     loads: &[],
     reads: &[],
@@ -122,12 +90,11 @@ const PLAIN: Run = Run {
 
 fn bytes_of(alloc: Global, file: &File) -> Result<Vec<u8>, AllocError> {
     let mut bytes = Vec::new(alloc);
-    bytes.extend_from_slice(file.front)?;
     for word in &file.header {
         bytes.extend_from_slice(&word.to_be_bytes())?;
     }
     bytes.extend_from_slice(file.code)?;
-    bytes.resize(file.size, 0)?;
+    bytes.resize(SIZE, 0)?;
     Ok(bytes)
 }
 
@@ -136,8 +103,6 @@ fn ends_as_wanted<R: Threads + Wait + Sync>(
     alloc: Global,
     run: &Run,
 ) -> Result<bool, AllocError> {
-    let mut bytes = vec![in alloc; b'a'; run.letters]?;
-    bytes.extend_from_slice(run.input)?;
     let mut text = Vec::new(alloc);
     for part in run.text {
         text.extend_from_slice(part)?;
@@ -147,32 +112,13 @@ fn ends_as_wanted<R: Threads + Wait + Sync>(
         String::from_str(alloc, "a.ulx")?,
         bytes_of(alloc, &run.file)?,
     )?;
-    let others = [
-        ("cut.ulx", File { size: 255, ..HI }),
-        (
-            "cut.blb",
-            File {
-                front: b"FORM\x00\x00\x01\x24IFRSRIdx\x00\x00\x00\x10",
-                size: 20,
-                ..HI
-            },
-        ),
-        ("overflows.ulx", OVERFLOWS),
-        ("by_zero.ulx", DIVIDES_BY_ZERO),
-    ];
-    for (name, file) in &others {
-        files.insert(String::from_str(alloc, name)?, bytes_of(alloc, file)?)?;
-    }
     let mut words = Vec::new(alloc);
     for word in run.command {
         words.push(String::from_str(alloc, word)?)?;
     }
     words.push(String::from_str(alloc, "a.ulx")?)?;
-    for word in run.words {
-        words.push(String::from_str(alloc, word)?)?;
-    }
     let mut outside = MemoryOutside::new(files, run.loads.to_vec(alloc)?);
-    let mut input = MemorySource::new(bytes, run.most, run.reads.to_vec(alloc)?);
+    let mut input = MemorySource::new(run.input.to_vec(alloc)?, run.most, run.reads.to_vec(alloc)?);
     let mut output = MemorySink::new(alloc, run.most, run.writes.to_vec(alloc)?);
     let status = top(rt, alloc, &words, &mut outside, &mut input, &mut output);
     Ok(status == run.status && output.bytes() == text.as_slice())

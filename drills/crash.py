@@ -1,0 +1,198 @@
+#!/usr/bin/env python3
+"""Kills a host while it plays, starts it again, and looks whether a game is where it was left.
+
+    drills/crash.py [ROUNDS] [--seed N] [--sessions N] [--moves N] [--story FILE]
+
+A round: `init` makes a folder; `pipe` serves it; moves are sent one after the other to sessions in
+turn, and the host is killed (signal 9) at moments drawn from the seed, three times on the way. After
+each start `LAST` must show the last move whose reply had been read, or the one that was under way;
+then that move is sent again. At the end each session's shows must be those that `run` writes for the
+same moves, each applied once. It says how many rounds it ran and how many kills met a move under way,
+and ends with 1 where a round lost an acknowledged move or applied one twice."""
+
+import argparse
+import pathlib
+import random
+import shutil
+import signal
+import subprocess
+import sys
+import tempfile
+import threading
+import time
+
+TOP = pathlib.Path(__file__).resolve().parent.parent
+PROGRAM = TOP / "crates" / "storyhost" / "out" / "storyhost"
+
+
+class Lost(Exception):
+    pass
+
+
+def echo_story():
+    lines = (TOP / "rows" / "stories" / "echo.hex").read_text().splitlines()
+    bytes_of = bytes.fromhex(" ".join(line for line in lines if not line.startswith(("#", "size"))))
+    return bytes_of.ljust(256, b"\0")
+
+
+class Host:
+    """One run of `pipe`, which a timer may kill."""
+
+    def __init__(self, folder, story):
+        self.process = subprocess.Popen(
+            [PROGRAM, "pipe", folder, story], stdin=subprocess.PIPE, stdout=subprocess.PIPE
+        )
+
+    def kill_in(self, seconds):
+        def kill():
+            time.sleep(seconds)
+            self.process.send_signal(signal.SIGKILL)
+
+        threading.Thread(target=kill, daemon=True).start()
+
+    def ask(self, line):
+        """The reply to a line, or None where the host is gone before all of it was read."""
+        try:
+            self.process.stdin.write(line.encode() + b"\n")
+            self.process.stdin.flush()
+        except BrokenPipeError:
+            return None
+        reply = []
+        while True:
+            text = self.process.stdout.readline()
+            if not text.endswith(b"\n"):
+                return None
+            reply.append(text.decode())
+            if text == b".\n" or text.startswith(b"NO "):
+                return "".join(reply)
+
+    def end(self):
+        try:
+            self.process.stdin.close()
+        except BrokenPipeError:
+            pass
+        self.process.stdout.close()
+        return self.process.wait(timeout=60)
+
+
+class Session:
+    """What a player of one session knows."""
+
+    def __init__(self, number, moves):
+        self.number, self.moves = number, moves
+        self.acknowledged = -1
+        self.shows = []
+
+    def line(self, n):
+        if n == 0:
+            return f"OPEN {self.number} k{self.number} 0 1 80 24"
+        return f"LINE {self.number} k{self.number} {n} 1 ={self.moves[n - 1]}"
+
+    def take(self, n, reply):
+        head, _, show = reply.partition("\n")
+        if head != f"SHOW {self.number} {n}":
+            raise Lost(f"session {self.number}, move {n}: {reply.splitlines()[0]}")
+        del self.shows[n:]
+        self.shows.append(show)
+        self.acknowledged = n
+
+
+def look_again(host, session):
+    """After a start: the last move is the last acknowledged one, or the one behind it."""
+    reply = host.ask(f"LAST {session.number} k{session.number}")
+    if reply is None:
+        raise Lost("the host is gone although nobody killed it")
+    head, _, show = reply.partition("\n")
+    if session.acknowledged < 0 and head == "NO 2":
+        return False
+    _, _, n = head.split()
+    behind = int(n) - session.acknowledged
+    if behind not in (0, 1):
+        raise Lost(f"session {session.number}: {session.acknowledged} acknowledged, {n} shown")
+    if behind == 0 and show != session.shows[-1]:
+        raise Lost(f"session {session.number}: move {n} is shown otherwise than before")
+    return behind == 1
+
+
+def alone(story, moves):
+    """The shows of `run` on these moves."""
+    lines = "".join(f"LINE 1 ={move}\n" for move in moves)
+    ran = subprocess.run([PROGRAM, "run", story], input=lines.encode(), capture_output=True, timeout=60)
+    shows, show = [], ""
+    for line in ran.stdout.decode().splitlines(keepends=True):
+        show += line
+        if line == ".\n":
+            shows, show = [*shows, show], ""
+    return shows
+
+
+def play(draw, folder, story, sessions, kills):
+    """Plays all moves, with so many kills on the way; how many kills met a move under way."""
+    met = 0
+    if subprocess.run([PROGRAM, "init", folder], capture_output=True).stdout != b"ready\n":
+        raise Lost("init didn't write `ready`")
+    turns = [(session, n) for n in range(len(sessions[0].moves) + 1) for session in sessions]
+    stops = sorted(draw.sample(range(len(turns)), kills))
+    host, at = Host(folder, story), 0
+    while at < len(turns):
+        session, n = turns[at]
+        if stops and at == stops[0]:
+            stops.pop(0)
+            host.kill_in(draw.random() ** 3 * 0.02)
+            while at < len(turns):
+                session, n = turns[at]
+                reply = host.ask(session.line(n))
+                if reply is None:
+                    break
+                session.take(n, reply)
+                at += 1
+            host.process.kill()
+            host.end()
+            host = Host(folder, story)
+            for other in sessions:
+                met += look_again(host, other)
+            stops = [stop for stop in stops if stop >= at]
+            continue
+        reply = host.ask(session.line(n))
+        if reply is None:
+            raise Lost("the host is gone although nobody killed it")
+        session.take(n, reply)
+        at += 1
+    status = host.end()
+    if status != 0:
+        raise Lost(f"the host ended with status {status}")
+    return met
+
+
+def main():
+    words = argparse.ArgumentParser()
+    words.add_argument("rounds", type=int, nargs="?", default=30)
+    words.add_argument("--seed", type=int, default=1)
+    words.add_argument("--sessions", type=int, default=3)
+    words.add_argument("--moves", type=int, default=12)
+    words.add_argument("--story")
+    asked = words.parse_args()
+    met = 0
+    for number in range(asked.rounds):
+        draw = random.Random(f"{asked.seed}/{number}")
+        room = pathlib.Path(tempfile.mkdtemp(prefix="crash-"))
+        story = room / "story.ulx"
+        story.write_bytes(pathlib.Path(asked.story).read_bytes() if asked.story else echo_story())
+        sessions = [
+            Session(s, ["".join(draw.choices("abcdefgh", k=draw.randint(1, 19))) for _ in range(asked.moves)])
+            for s in range(asked.sessions)
+        ]
+        try:
+            met += play(draw, str(room / "d"), str(story), sessions, 3)
+            for session in sessions:
+                if session.shows != alone(str(story), session.moves):
+                    raise Lost(f"session {session.number}: its shows aren't those of its moves played alone")
+        except (Lost, subprocess.TimeoutExpired) as cause:
+            print(f"crash: round {number} of seed {asked.seed}: {cause}; its folder is {room}")
+            return 1
+        shutil.rmtree(room)
+    print(f"crash: {asked.rounds} rounds, {3 * asked.rounds} kills, {met} moves were kept before their reply: none lost, none applied twice")
+    return 0
+
+
+sys.exit(main())
