@@ -150,7 +150,7 @@ module _
         counts = t.counts;
         kept = t.kept;
         crash = t.crash;
-        reach = t.reach;
+        within = t.within;
       }
 
   -- where nothing is written

@@ -63,7 +63,7 @@ module _
     counts = ap faults keep.disk;
     kept = same_disk old.disk new.disk keep.disk;
     crash = rested old new (row_for (rows_of old.entries) s d.accepted) keep rests;
-    reach = no_farther old.disk new.disk (length (spelled (rows_of old.entries)) + 4110) keep.disk;
+    within = no_farther old.disk new.disk (length (spelled (rows_of old.entries)) + 4110) keep.disk;
   }
 
   -- a request that makes the session accept nothing
@@ -77,7 +77,7 @@ module _
     counts = refl;
     kept = same_disk log.disk log.disk refl;
     crash = λ told. rests told None;
-    reach = no_farther log.disk log.disk (length (spelled (rows_of log.entries)) + 4110) refl;
+    within = no_farther log.disk log.disk (length (spelled (rows_of log.entries)) + 4110) refl;
   })
 
   -- a command that is accepted, and its show
@@ -85,7 +85,7 @@ module _
       → Extends s c old new → faults new.disk ≡ faults old.disk → SameDisk tells room label old.disk new.disk
       → Stops tells moment left_since s c old new → reach new.disk ≤ max (reach old.disk) (length (spelled (rows_of old.entries)) + 4110)
       → TurnsBy tells room label faults reach moment left_since d s old reply new
-  accepts_it d s old new reply c e row counts kept crash within = rw e (record {
+  accepts_it d s old new reply c e row counts kept crash ends = rw e (record {
     outcome = Answered;
     met = tt;
     said = refl;
@@ -93,7 +93,7 @@ module _
     counts = counts;
     kept = kept;
     crash = crash;
-    reach = within;
+    within = ends;
   })
 
   -- the same, where memory runs out before it can be shown
@@ -101,7 +101,7 @@ module _
       → Extends s c old new → faults new.disk ≡ faults old.disk → SameDisk tells room label old.disk new.disk
       → Stops tells moment left_since s c old new → reach new.disk ≤ max (reach old.disk) (length (spelled (rows_of old.entries)) + 4110)
       → TurnsBy tells room label faults reach moment left_since d s old (replies.No no.NoMemory) new
-  accepts_unshown d s old new reply c e row counts kept crash within = rw e (record {
+  accepts_unshown d s old new reply c e row counts kept crash ends = rw e (record {
     outcome = Forgotten;
     met = tt;
     said = refl;
@@ -109,7 +109,7 @@ module _
     counts = counts;
     kept = kept;
     crash = crash;
-    reach = within;
+    within = ends;
   })
 
   -- a command whose append met a fault of the disk
@@ -118,7 +118,7 @@ module _
       → SameDisk tells room label old.disk new.disk → Stops tells moment left_since s c old new
       → reach new.disk ≤ max (reach old.disk) (length (spelled (rows_of old.entries)) + 4110)
       → TurnsBy tells room label faults reach moment left_since d s old (replies.No (no.DiskFault fault.from fault.to)) new
-  fails d s old new reply c fault e is entries kept crash within = rw e (record {
+  fails d s old new reply c fault e is entries kept crash ends = rw e (record {
     outcome = DiskFailed fault.from fault.to;
     met = tt;
     said = refl;
@@ -126,5 +126,5 @@ module _
     counts = (is.at_start, is.at_end, is.no_lower, is.rose);
     kept = kept;
     crash = crash;
-    reach = within;
+    within = ends;
   })

@@ -87,7 +87,7 @@ pub record Answers
       (MayLeave (rows_of old.log.entries) old.log.uncertain
       (row_for (rows_of old.log.entries) (session_on line)
       (decision_at old.stories old.budget (histories_in old.log.entries) line).accepted))
-  pub reach :
+  pub within :
       reach new.log.disk
       ≤ max (reach old.log.disk) (length (spelled (rows_of old.log.entries)) + 4110)
 

@@ -83,7 +83,7 @@ pub record TurnsBy
       → LeavesOnly moment left_since old.disk new.disk
       (MayLeave (rows_of old.entries) old.uncertain
       (row_for (rows_of old.entries) s decision.accepted))
-  pub reach :
+  pub within :
       reach new.disk ≤ max (reach old.disk) (length (spelled (rows_of old.entries)) + 4110)
 
 -- the same desk, but for the world that it holds
