@@ -145,6 +145,7 @@ module _
             ∙ history_in-added old.log.entries (rows_of old.log.entries) here at.reply at.accepted t.outcome t.met
             ∙ ap (λ (h : List Entry). (turn_met h 0 at.reply at.accepted t.outcome).history) (sym (entries_of-histories old.log.entries here lt)))
             (λ n ne. ap (λ (es : List JournalEntry). history_in es n) t.entries ∙ history_in-other old.log.entries (rows_of old.log.entries) here n at.accepted t.outcome ne);
+        entries = t.entries;
         stories = stories;
         budget = budget;
         counts = t.counts;

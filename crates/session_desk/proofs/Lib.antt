@@ -7,3 +7,4 @@ pub mod WarmLemmas
 pub mod HistoryLemmas
 pub mod TurnLemmas
 pub mod DesksLemmas
+pub mod CollectLemmas

@@ -1,5 +1,6 @@
 -- The desks of a host over one journal: a line is one turn of the session that it names (own).
-use Rattle.std.specs.Prelude.{◌≡◌, ◌⊎◌, ℕ, ◌+◌, ◌≤◌, max, Bool, IsTrue, if◌then◌else◌}
+use Rattle.std.specs.Prelude.{◌≡◌, ◌⊎◌, ℕ, ◌+◌, ◌≤◌, ◌++◌, max, Bool, IsTrue}
+use Rattle.std.specs.Prelude.{if◌then◌else◌}
 use Rattle.std.specs.Prelude.{List, length, map, slice_get, Option, Some, None}
 use Rattle.std.specs.List.{range_with_len}
 use Rattle.disk_model.specs.Disk.{LeavesOnly, SameDisk}
@@ -21,7 +22,7 @@ use Rattle.session_core.specs.Sessions.{with_budget}
 use Rattle.session_core.specs.Turning.{MayMeet}
 use Rattle.session_desk.specs.Commit.{IsInRange}
 use Rattle.session_desk.specs.Desk.{DeskState}
-use Rattle.session_desk.specs.Turn.{history_in, IsCounted, MayLeave, row_for}
+use Rattle.session_desk.specs.Turn.{added, history_in, IsCounted, MayLeave, row_for}
 
 -- the stories, the budget of a turn in ticks, and the journal; the desks follow from these but for
 -- the worlds that they keep warm
@@ -77,6 +78,11 @@ pub record Answers
   pub histories :
       histories_in new.log.entries
       ≡ histories_after old.stories old.budget (histories_in old.log.entries) 0 line outcome
+  pub entries :
+      new.log.entries
+      ≡ old.log.entries
+      ++ added (rows_of old.log.entries) (session_on line)
+      (decision_at old.stories old.budget (histories_in old.log.entries) line).accepted outcome
   pub stories : new.stories ≡ old.stories
   pub budget : new.budget ≡ old.budget
   pub counts : IsCounted outcome (faults old.log.disk) (faults new.log.disk)

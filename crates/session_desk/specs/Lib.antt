@@ -5,3 +5,4 @@ pub mod Commit
 pub mod Laws
 pub mod Turn
 pub mod Desks
+pub mod Collected
