@@ -37,14 +37,14 @@ histories_in journal = map (history_in journal) (range_with_len 0 64)
 
 -- the desk of a session, whose commands are the session's among these rows
 pub record IsDeskOf
-    (stories : List Story)
-    (budget : ℕ)
+    (given : List Story)
+    (ticks : ℕ)
     (rows : List Row)
     (s : ℕ)
     (desk : DeskState) : Type 0 where
   pub numbered : desk.session ≡ s
-  pub stories : desk.stories ≡ stories
-  pub budget : desk.budget ≡ budget
+  pub stories : desk.stories ≡ given
+  pub budget : desk.budget ≡ ticks
   pub kept : commands_of rows s ≡ desk.commands
 
 -- 64 desks over these rows, each that of its number
