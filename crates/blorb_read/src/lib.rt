@@ -3,8 +3,6 @@
 
 mod container;
 mod fault;
-#[cfg(test)]
-mod tests;
 
 pub use container::{Span, find_story};
 pub use fault::BlorbFault;

@@ -27,6 +27,3 @@ pub use journal::Journal;
 pub use laws::{ends_within, has_one_corrupt_place, spells_one_list, spells_or_is_corrupt};
 pub use row::Row;
 pub use stop::stop_and_open;
-
-#[cfg(test)]
-mod tests;

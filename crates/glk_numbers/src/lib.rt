@@ -4,6 +4,3 @@
 mod numbered;
 
 pub use numbered::{MAX_NUMBER, Numbered, is_live, next_above, place_of};
-
-#[cfg(test)]
-mod tests;
