@@ -9,8 +9,6 @@ mod laws;
 mod linear_search;
 mod linked_search;
 mod query;
-#[cfg(test)]
-mod tests;
 
 pub use binary_search::binary;
 pub use blocks::{copy, zero};
