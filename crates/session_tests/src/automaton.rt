@@ -1,5 +1,5 @@
-use super::*;
 use line_words::write_reply;
+use session_core::*;
 use std::alloc::Global;
 use std::test::{Fail, *};
 use story_run::Story;

@@ -1,5 +1,5 @@
-use super::*;
 use std::test::*;
+use story_make::*;
 
 #[test]
 fn a_number_stands_for_a_script(rt: HostRuntime) {

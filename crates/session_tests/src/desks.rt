@@ -1,8 +1,8 @@
-use super::*;
 use disk_model::MemDisk;
 use gate_journal::{Journal, init};
 use line_words::write_reply;
 use session_core::Sessions;
+use session_desk::*;
 use std::alloc::Global;
 use std::test::{Fail, *};
 use story_run::Story;
