@@ -35,9 +35,7 @@ fn close_gate<D: Disk>(disk: &mut D, side: Side, slot: Slot) -> Result<(), Faile
         disk.sync()?;
         return Ok(());
     }
-    disk.write_at(side.gate(), &[0])?;
-    disk.sync()?;
-    Ok(())
+    write_through(disk, side.gate(), &[0])
 }
 
 // Writes an area behind a closed gate: its first 16 bytes, then the others, and a sync.
@@ -68,9 +66,7 @@ fn fill<D: Disk>(
     ensures kept { SameDisk D.tells D.room D.label disk.old disk.new }
 {
     disk.write_at(side.start(), &head_bytes(place, count, bytes.len() as u32))?;
-    disk.write_at(side.start() + 16, bytes)?;
-    disk.sync()?;
-    Ok(())
+    write_through(disk, side.start() + 16, bytes)
 }
 
 // Opens the gate of an area that is synced, and syncs it.
@@ -90,8 +86,7 @@ fn open_gate<D: Disk>(disk: &mut D, side: Side) -> Result<(), Failed>
     ensures reach { D.reach disk.new ≡ max (D.reach disk.old) (gate_of side + 1) }
     ensures kept { SameDisk D.tells D.room D.label disk.old disk.new }
 {
-    write_through(disk, side.gate(), &[1])?;
-    Ok(())
+    write_through(disk, side.gate(), &[1])
 }
 
 // The sixteen bytes with which an area starts.
