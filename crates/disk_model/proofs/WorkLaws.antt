@@ -5,7 +5,8 @@ use Rattle.disk_model.specs.Disk.{Torn, AfterWrite, LeavesOnly, Only, written}
 use Rattle.disk_model.specs.Work.{Triple}
 use Rattle.disk_model.proofs.Moments.{started, weaker, and_then}
 
-on_ok : {T E : Type 0} {P Q : Type 0} (result : Result T E) → (P → Q) → OnOk result P → OnOk result Q
+-- what follows from an Ok
+pub on_ok : {T E : Type 0} {P Q : Type 0} (result : Result T E) → (P → Q) → OnOk result P → OnOk result Q
 on_ok (Ok x) so is = so is
 on_ok (Err e) so is = tt
 

@@ -1,6 +1,6 @@
 -- Runs of device calls through which each image keeps a fact.
 use Rattle.std.proofs.Common.{ℕ, List}
-use Rattle.disk_model.specs.Disk.{Elapses, LeavesOnly, Torn, Follows, NoneNew}
+use Rattle.disk_model.specs.Disk.{Elapses, LeavesOnly, Torn, Follows}
 use Rattle.disk_model.proofs.Moments.{started, goes_on}
 
 module _
@@ -33,19 +33,6 @@ module _
   after_write old mid new at n keeps time crash closed =
       let now : (c : List ℕ) → may_leave new c → P c =
       λ c left. let was = crash c left in closed c was.0 was.2 (keeps.now was.0 was.1) in
-      record {
-        since = goes_on moment left_since old mid new P (may_leave new) keeps.since time now;
-        now = now;
-      }
-
-  pub after_sync :
-      (old mid new : D)
-      → Keeps old mid
-      → Elapses (moment mid) (moment new) (left_since mid) (left_since new) (may_leave new)
-      → NoneNew (may_leave mid) (may_leave new)
-      → Keeps old new
-  after_sync old mid new keeps time crash =
-      let now : (c : List ℕ) → may_leave new c → P c = λ c left. keeps.now c (crash c left) in
       record {
         since = goes_on moment left_since old mid new P (may_leave new) keeps.since time now;
         now = now;

@@ -1,9 +1,9 @@
 //! The device calls of a put (own).
 
-ghost use Rattle.std.specs.Prelude.{◌≡◌, ◌⊎◌, ◌+◌, ◌≤◌, ℕ, List, IsTrue};
-ghost use Rattle.std.specs.Prelude.{IsOk, OnOk, OnErr, IfErr};
-ghost use Rattle.std.specs.Prelude.{Option, Some, None, length, max};
-ghost use Rattle.disk_model.specs.Disk.{LeavesOnly, EachImage, Counts, SameDisk};
+ghost use Rattle.std.specs.Prelude.{◌≡◌, ◌⊎◌, ◌+◌, ◌≤◌, ℕ, List, IsTrue, OnOk, OnErr, IfErr};
+ghost use Rattle.std.specs.Prelude.{Option, Some, None, length};
+ghost use Rattle.disk_model.specs.Disk.{LeavesOnly, EachImage};
+ghost use Rattle.disk_model.specs.Work.{Ran};
 ghost use Rattle.snap_store.specs.File.{Stored, gate_of, start_of, head_bytes};
 ghost use Rattle.snap_store.specs.Slots.{slot_of, with_slot, taken_side, other};
 ghost use Rattle.snap_store.specs.Images.{IsLaid, Spares, loosened, DuringPut, IsLeft};
@@ -21,23 +21,18 @@ fn close_gate<D: Disk>(disk: &mut D, side: Side, slot: Slot) -> Result<(), Faile
     ensures ok { OnOk result ((area beside_area : Option Stored) (beside : Slot)
         → EachImage D.tells D.may_leave disk.old (IsLaid side slot area beside beside_area)
         → EachImage D.tells D.may_leave disk.new (IsLaid side Closed area beside beside_area)) }
-    ensures works { IsTrue (D.steady disk.old) → gate_of side + 1 ≤ D.room disk.old
-        → IsOk result × IsTrue (D.steady disk.new) }
-    ensures cause { Counts result (D.faults disk.old) (D.faults disk.new) }
     ensures crash { (area beside_area : Option Stored) (beside : Slot)
         → EachImage D.tells D.may_leave disk.old (IsLaid side slot area beside beside_area)
         → IsTrue (D.tells disk.old) → LeavesOnly D.moment D.left_since disk.old disk.new
         (IsLaid side (loosened slot) area beside beside_area) }
-    ensures reach { D.reach disk.new ≤ max (D.reach disk.old) (gate_of side + 1) }
-    ensures kept { SameDisk D.tells D.room D.label disk.old disk.new }
+    ensures ran { Ran D.tells D.steady D.room D.label D.faults D.reach
+        (gate_of side + 1) result disk.old disk.new }
 {
     if slot.is_closed() {
         disk.sync()?;
         return Ok(());
     }
-    disk.write_at(side.gate(), &[0])?;
-    disk.sync()?;
-    Ok(())
+    write_through(disk, side.gate(), &[0])
 }
 
 // Writes an area behind a closed gate: its first 16 bytes, then the others, and a sync.
@@ -54,23 +49,16 @@ fn fill<D: Disk>(
         → EachImage D.tells D.may_leave disk.old (IsLaid side Closed area beside beside_area)
         → EachImage D.tells D.may_leave disk.new (IsLaid side Unsure
         (Some (record { place = place; count = count; bytes = bytes.now })) beside beside_area)) }
-    ensures works { IsTrue (D.steady disk.old)
-        → start_of side + 16 + length bytes.now ≤ D.room disk.old
-        → IsOk result × IsTrue (D.steady disk.new) }
-    ensures cause { Counts result (D.faults disk.old) (D.faults disk.new) }
     ensures crash { (area beside_area : Option Stored) (beside : Slot)
         → Spares side beside
         → EachImage D.tells D.may_leave disk.old (IsLaid side Closed area beside beside_area)
         → IsTrue (D.tells disk.old) → LeavesOnly D.moment D.left_since disk.old disk.new
         (IsLaid side Closed area beside beside_area) }
-    ensures reach { D.reach disk.new
-        ≤ max (D.reach disk.old) (start_of side + 16 + length bytes.now) }
-    ensures kept { SameDisk D.tells D.room D.label disk.old disk.new }
+    ensures ran { Ran D.tells D.steady D.room D.label D.faults D.reach
+        (start_of side + 16 + length bytes.now) result disk.old disk.new }
 {
     disk.write_at(side.start(), &head_bytes(place, count, bytes.len() as u32))?;
-    disk.write_at(side.start() + 16, bytes)?;
-    disk.sync()?;
-    Ok(())
+    write_through(disk, side.start() + 16, bytes)
 }
 
 // Opens the gate of an area that is synced, and syncs it.
@@ -80,18 +68,14 @@ fn open_gate<D: Disk>(disk: &mut D, side: Side) -> Result<(), Failed>
         (IsLaid side Unsure (Some area) beside beside_area)
         → EachImage D.tells D.may_leave disk.new
         (IsLaid side (Open area.place area.count) (Some area) beside beside_area)) }
-    ensures works { IsTrue (D.steady disk.old) → gate_of side + 1 ≤ D.room disk.old
-        → IsOk result }
-    ensures cause { Counts result (D.faults disk.old) (D.faults disk.new) }
     ensures crash { (area beside_area : Option Stored) (beside : Slot)
         → EachImage D.tells D.may_leave disk.old (IsLaid side Unsure area beside beside_area)
         → IsTrue (D.tells disk.old) → LeavesOnly D.moment D.left_since disk.old disk.new
         (IsLaid side Unsure area beside beside_area) }
-    ensures reach { D.reach disk.new ≡ max (D.reach disk.old) (gate_of side + 1) }
-    ensures kept { SameDisk D.tells D.room D.label disk.old disk.new }
+    ensures ran { Ran D.tells D.steady D.room D.label D.faults D.reach
+        (gate_of side + 1) result disk.old disk.new }
 {
-    write_through(disk, side.gate(), &[1])?;
-    Ok(())
+    write_through(disk, side.gate(), &[1])
 }
 
 // The sixteen bytes with which an area starts.
@@ -129,18 +113,14 @@ fn write_area<D: Disk>(
         × IsLeft slot area (record { place = place; count = count; bytes = bytes.now }) now left
         × EachImage D.tells D.may_leave disk.new (IsLaid side now left beside beside_area)) }
     ensures gate { IfErr result (λ now. (now ≡ Closed) ⊎ (now ≡ Unsure)) }
-    ensures works { IsTrue (D.steady disk.old)
-        → start_of side + 16 + length bytes.now ≤ D.room disk.old → IsOk result }
-    ensures cause { Counts result (D.faults disk.old) (D.faults disk.new) }
     ensures crash { (area beside_area : Option Stored) (beside : Slot)
         → Spares side beside
         → EachImage D.tells D.may_leave disk.old (IsLaid side slot area beside beside_area)
         → IsTrue (D.tells disk.old) → LeavesOnly D.moment D.left_since disk.old disk.new
         (DuringPut side slot area (record { place = place; count = count; bytes = bytes.now })
         beside beside_area) }
-    ensures reach { D.reach disk.new
-        ≤ max (D.reach disk.old) (start_of side + 16 + length bytes.now) }
-    ensures kept { SameDisk D.tells D.room D.label disk.old disk.new }
+    ensures ran { Ran D.tells D.steady D.room D.label D.faults D.reach
+        (start_of side + 16 + length bytes.now) result disk.old disk.new }
 {
     let Ok(()) = close_gate(disk, side, slot) else {
         return Err(slot.loosened());
@@ -188,10 +168,6 @@ pub fn replace<D: Disk>(
     ensures gate { OnErr result
         ((slots.new ≡ with_slot slots.old (taken_side slots.old) Closed)
         ⊎ (slots.new ≡ with_slot slots.old (taken_side slots.old) Unsure)) }
-    ensures works { IsTrue (D.steady disk.old)
-        → start_of (taken_side slots.old) + 16 + length bytes.now ≤ D.room disk.old
-        → IsOk result }
-    ensures cause { Counts result (D.faults disk.old) (D.faults disk.new) }
     ensures crash { (area beside_area : Option Stored)
         → EachImage D.tells D.may_leave disk.old
         (IsLaid (taken_side slots.old) (slot_of slots.old (taken_side slots.old)) area
@@ -200,9 +176,8 @@ pub fn replace<D: Disk>(
         (DuringPut (taken_side slots.old) (slot_of slots.old (taken_side slots.old)) area
         (record { place = place; count = count; bytes = bytes.now })
         (slot_of slots.old (other (taken_side slots.old))) beside_area) }
-    ensures reach { D.reach disk.new
-        ≤ max (D.reach disk.old) (start_of (taken_side slots.old) + 16 + length bytes.now) }
-    ensures kept { SameDisk D.tells D.room D.label disk.old disk.new }
+    ensures ran { Ran D.tells D.steady D.room D.label D.faults D.reach
+        (start_of (taken_side slots.old) + 16 + length bytes.now) result disk.old disk.new }
 {
     let side = slots.taken();
     let slot = slots.of(side);

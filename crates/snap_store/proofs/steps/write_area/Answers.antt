@@ -40,7 +40,7 @@ returns-in_default-fill-clause-crash g c area beside_area beside spares each tol
     let P : List ℕ → Type 0 = DuringPut side c.args.slot area put beside beside_area in
     let shut = c.in-Ok.ensures.ok area beside_area beside each in
     let closing : LeavesOnly M L d d1 Closing = c.close_gate.ensures.crash area beside_area beside each told in
-    let told_first = subst (λ (b : Bool). IsTrue b) (sym c.close_gate.ensures.kept.telling) told in
+    let told_first = subst (λ (b : Bool). IsTrue b) (sym c.close_gate.ensures.ran.same.telling) told in
     let d2 = c.fill.new.disk in
     let filling : LeavesOnly M L d1 d2 Filling = c.fill.ensures.crash area beside_area beside spares shut told_first in
     and_then M L d d1 d2 P (weaker M L d d1 Closing P closing (λ f laid. inl laid)) (weaker M L d1 d2 Filling P filling (λ f laid. inr (inl laid)))
@@ -61,10 +61,10 @@ returns-in_default-open_gate-clause-crash g c area beside_area beside spares eac
     let shut = c.in-Ok.ensures.ok area beside_area beside each in
     let full = c.in-Ok-fill.ensures.ok area beside_area beside spares shut in
     let closing : LeavesOnly M L d d1 Closing = c.close_gate.ensures.crash area beside_area beside each told in
-    let told_first = subst (λ (b : Bool). IsTrue b) (sym c.close_gate.ensures.kept.telling) told in
+    let told_first = subst (λ (b : Bool). IsTrue b) (sym c.close_gate.ensures.ran.same.telling) told in
     let d2 = c.fill.new.disk in
     let filling : LeavesOnly M L d1 d2 Filling = c.fill.ensures.crash area beside_area beside spares shut told_first in
-    let told_second = subst (λ (b : Bool). IsTrue b) (sym c.fill.ensures.kept.telling) told_first in
+    let told_second = subst (λ (b : Bool). IsTrue b) (sym c.fill.ensures.ran.same.telling) told_first in
     let d3 = c.open_gate.new.disk in
     let opening : LeavesOnly M L d2 d3 Opening = c.open_gate.ensures.crash (Some put) beside_area beside full told_second in
     and_then M L d d2 d3 P (and_then M L d d1 d2 P (weaker M L d d1 Closing P closing (λ f laid. inl laid)) (weaker M L d1 d2 Filling P filling (λ f laid. inr (inl laid)))) (weaker M L d2 d3 Opening P opening (λ f laid. inr (inr laid)))
@@ -85,10 +85,10 @@ returns-clause-crash g c area beside_area beside spares each told =
     let shut = c.in-Ok.ensures.ok area beside_area beside each in
     let full = c.in-Ok-fill.ensures.ok area beside_area beside spares shut in
     let closing : LeavesOnly M L d d1 Closing = c.close_gate.ensures.crash area beside_area beside each told in
-    let told_first = subst (λ (b : Bool). IsTrue b) (sym c.close_gate.ensures.kept.telling) told in
+    let told_first = subst (λ (b : Bool). IsTrue b) (sym c.close_gate.ensures.ran.same.telling) told in
     let d2 = c.fill.new.disk in
     let filling : LeavesOnly M L d1 d2 Filling = c.fill.ensures.crash area beside_area beside spares shut told_first in
-    let told_second = subst (λ (b : Bool). IsTrue b) (sym c.fill.ensures.kept.telling) told_first in
+    let told_second = subst (λ (b : Bool). IsTrue b) (sym c.fill.ensures.ran.same.telling) told_first in
     let d3 = c.open_gate.new.disk in
     let opening : LeavesOnly M L d2 d3 Opening = c.open_gate.ensures.crash (Some put) beside_area beside full told_second in
     and_then M L d d2 d3 P (and_then M L d d1 d2 P (weaker M L d d1 Closing P closing (λ f laid. inl laid)) (weaker M L d1 d2 Filling P filling (λ f laid. inr (inl laid)))) (weaker M L d2 d3 Opening P opening (λ f laid. inr (inr laid)))
@@ -113,7 +113,7 @@ returns-in_default-clause-err g c area beside_area beside spares each =
     let Opening : List ℕ → Type 0 = IsLaid side Unsure (Some put) beside beside_area in
     let d1 = c.close_gate.new.disk in
     let images : EachImage g.D.Disk.tells I d1 Closing = λ told_last f now.
-    let told = subst (λ (b : Bool). IsTrue b) c.close_gate.ensures.kept.telling told_last in
+    let told = subst (λ (b : Bool). IsTrue b) c.close_gate.ensures.ran.same.telling told_last in
     let closing : LeavesOnly M L d d1 Closing = c.close_gate.ensures.crash area beside_area beside each told in
     holds_now M L I d d1 Closing (g.met.D.Disk.counts_now d1) closing f now in
     (area, inl (c.loosened.ensures, refl), subst (λ (s : Slot). EachImage g.D.Disk.tells I d1 (IsLaid side s area beside beside_area)) (sym c.loosened.ensures) images)
@@ -133,7 +133,7 @@ returns-in_default-fill-clause-err g c area beside_area beside spares each =
     let shut = c.in-Ok.ensures.ok area beside_area beside each in
     let d2 = c.fill.new.disk in
     let images : EachImage g.D.Disk.tells I d2 Filling = λ told_last f now.
-    let told_first = subst (λ (b : Bool). IsTrue b) c.fill.ensures.kept.telling told_last in
+    let told_first = subst (λ (b : Bool). IsTrue b) c.fill.ensures.ran.same.telling told_last in
     holds_now M L I d1 d2 Filling (g.met.D.Disk.counts_now d2) (c.fill.ensures.crash area beside_area beside spares shut told_first) f now in
     (area, inr (inl (refl, refl)), images)
 
@@ -154,6 +154,6 @@ returns-in_default-open_gate-clause-err g c area beside_area beside spares each 
     let d2 = c.fill.new.disk in
     let d3 = c.open_gate.new.disk in
     let images : EachImage g.D.Disk.tells I d3 Opening = λ told_last f now.
-    let told_second = subst (λ (b : Bool). IsTrue b) c.open_gate.ensures.kept.telling told_last in
+    let told_second = subst (λ (b : Bool). IsTrue b) c.open_gate.ensures.ran.same.telling told_last in
     holds_now M L I d2 d3 Opening (g.met.D.Disk.counts_now d3) (c.open_gate.ensures.crash (Some put) beside_area beside full told_second) f now in
     (Some put, inr (inr (refl, refl)), images)

@@ -27,7 +27,7 @@ invariant_of-self g c =
     let before = laid_before T I seen stays S c.self.invariant made put in
     let new = c.replace.new.disk in
     let slots = c.replace.new.slots in
-    let telling = c.replace.ensures.kept.telling in
+    let telling = c.replace.ensures.ran.same.telling in
     let step = c.in_default.ensures.err in
     let found = step.2 area beside_area before in
     sound_after T I seen stays S c.self.invariant made put new telling slots step.0 found.0 step.1 found.2
@@ -48,7 +48,7 @@ returns-in_default-clause-images g c =
     let before = laid_before T I seen stays S c.self.invariant made put in
     let new = c.replace.new.disk in
     let slots = c.replace.new.slots in
-    let telling = c.replace.ensures.kept.telling in
+    let telling = c.replace.ensures.ran.same.telling in
     let step = c.in_default.ensures.err in
     let found = step.2 area beside_area before in
     let after : Snapshots g.row.D.Denot = record { disk = new; made = S.made; slots = slots } in
@@ -70,7 +70,7 @@ returns-in_default-clause-crash g c =
     let before = laid_before T I seen stays S c.self.invariant made put in
     let new = c.replace.new.disk in
     let slots = c.replace.new.slots in
-    let telling = c.replace.ensures.kept.telling in
+    let telling = c.replace.ensures.ran.same.telling in
     subst (λ (s : Snapshots g.row.D.Denot). s.made ≡ true → IsTrue (T s.disk) → LeavesOnly g.D.Disk.moment g.D.Disk.left_since s.disk new (IsPutImage seen s put)) c.self.view_is
     (λ is told. weaker g.D.Disk.moment g.D.Disk.left_since S.disk new (DuringPut side (slot_of S.slots side) area put beside beside_area) (IsPutImage seen S put)
     (c.replace.ensures.crash area beside_area before told) (put_image T I seen stays S c.self.invariant made put))
@@ -91,7 +91,7 @@ returns-in_default-clause-beside g c =
     let before = laid_before T I seen stays S c.self.invariant made put in
     let new = c.replace.new.disk in
     let slots = c.replace.new.slots in
-    let telling = c.replace.ensures.kept.telling in
+    let telling = c.replace.ensures.ran.same.telling in
     let step = c.in_default.ensures.err in
     let found = step.2 area beside_area before in
     let after : Snapshots g.row.D.Denot = record { disk = new; made = S.made; slots = slots } in
@@ -114,7 +114,7 @@ returns-in_default-clause-taken g c =
     let before = laid_before T I seen stays S c.self.invariant made put in
     let new = c.replace.new.disk in
     let slots = c.replace.new.slots in
-    let telling = c.replace.ensures.kept.telling in
+    let telling = c.replace.ensures.ran.same.telling in
     let step = c.in_default.ensures.err in
     let found = step.2 area beside_area before in
     let after : Snapshots g.row.D.Denot = record { disk = new; made = S.made; slots = slots } in
@@ -137,7 +137,7 @@ invariant_of-self-2 g c =
     let before = laid_before T I seen stays S c.self.invariant made put in
     let new = c.replace.new.disk in
     let slots = c.replace.new.slots in
-    let telling = c.replace.ensures.kept.telling in
+    let telling = c.replace.ensures.ran.same.telling in
     let now = Open c.args.place c.args.count in
     let laid = c.in-Ok.ensures.images area beside_area before in
     sound_after T I seen stays S c.self.invariant made put new telling slots now (Some put) c.in-Ok.ensures.ok laid
@@ -158,7 +158,7 @@ returns-clause-images g c =
     let before = laid_before T I seen stays S c.self.invariant made put in
     let new = c.replace.new.disk in
     let slots = c.replace.new.slots in
-    let telling = c.replace.ensures.kept.telling in
+    let telling = c.replace.ensures.ran.same.telling in
     let now = Open c.args.place c.args.count in
     let laid = c.in-Ok.ensures.images area beside_area before in
     let after : Snapshots g.row.D.Denot = record { disk = new; made = S.made; slots = slots } in
@@ -180,7 +180,7 @@ returns-clause-crash g c =
     let before = laid_before T I seen stays S c.self.invariant made put in
     let new = c.replace.new.disk in
     let slots = c.replace.new.slots in
-    let telling = c.replace.ensures.kept.telling in
+    let telling = c.replace.ensures.ran.same.telling in
     subst (λ (s : Snapshots g.row.D.Denot). s.made ≡ true → IsTrue (T s.disk) → LeavesOnly g.D.Disk.moment g.D.Disk.left_since s.disk new (IsPutImage seen s put)) c.self.view_is
     (λ is told. weaker g.D.Disk.moment g.D.Disk.left_since S.disk new (DuringPut side (slot_of S.slots side) area put beside beside_area) (IsPutImage seen S put)
     (c.replace.ensures.crash area beside_area before told) (put_image T I seen stays S c.self.invariant made put))
@@ -201,7 +201,7 @@ returns-clause-beside g c =
     let before = laid_before T I seen stays S c.self.invariant made put in
     let new = c.replace.new.disk in
     let slots = c.replace.new.slots in
-    let telling = c.replace.ensures.kept.telling in
+    let telling = c.replace.ensures.ran.same.telling in
     let now = Open c.args.place c.args.count in
     let laid = c.in-Ok.ensures.images area beside_area before in
     let after : Snapshots g.row.D.Denot = record { disk = new; made = S.made; slots = slots } in
@@ -224,7 +224,7 @@ returns-clause-taken g c =
     let before = laid_before T I seen stays S c.self.invariant made put in
     let new = c.replace.new.disk in
     let slots = c.replace.new.slots in
-    let telling = c.replace.ensures.kept.telling in
+    let telling = c.replace.ensures.ran.same.telling in
     let now = Open c.args.place c.args.count in
     let laid = c.in-Ok.ensures.images area beside_area before in
     let after : Snapshots g.row.D.Denot = record { disk = new; made = S.made; slots = slots } in
@@ -247,7 +247,7 @@ returns-clause-durable g c =
     let before = laid_before T I seen stays S c.self.invariant made put in
     let new = c.replace.new.disk in
     let slots = c.replace.new.slots in
-    let telling = c.replace.ensures.kept.telling in
+    let telling = c.replace.ensures.ran.same.telling in
     let now = Open c.args.place c.args.count in
     let laid = c.in-Ok.ensures.images area beside_area before in
     subst (λ (s : Snapshots g.row.D.Denot). s.made ≡ true → EachImage T I new (λ (f : List ℕ). open_area (taken_side s.slots) f ≡ Some put)) c.self.view_is
