@@ -202,7 +202,6 @@ module _
     (tells : D → Bool)
     (room label faults reach moment : D → ℕ)
     (left_since : D → ℕ → List ℕ → Type 0) where
-
   -- the desks behind a turn of one of them
   pub desks_turned : (stories : List Story) (budget : ℕ) (ds : List DeskState) (s : ℕ) (d e : DeskState) (decision : Decision) (old new : Log D) (reply : Reply)
       → AreDesks stories budget (rows_of old.entries) ds → slice_get ds s ≡ Some d → TurnsBy tells room label faults reach moment left_since decision d.session old reply new

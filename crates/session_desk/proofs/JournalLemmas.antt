@@ -229,4 +229,3 @@ fits-all s rows (r ∷ more) each le =
 
 pub journal_fits : JournalsFit
 journal_fits rows s journal = fits-all s [] rows journal (omega arith)
-

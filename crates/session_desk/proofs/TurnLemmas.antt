@@ -20,6 +20,10 @@ use Rattle.session_core.specs.Turning.{MayMeet}
 use Rattle.session_desk.specs.Commit.{Extends, Stops}
 use Rattle.session_desk.specs.Turn.{MayLeave, row_for, TurnsBy}
 
+-- a decision that accepts nothing
+abbrev pub quiet : Reply → Decision
+quiet reply = record { reply = reply; accepted = None }
+
 -- ---- a journal in which nothing was written
 
 pub same_log : {D : Type 0} (log : Log D) → SameLog log log
@@ -36,7 +40,6 @@ module _
     (tells : D → Bool)
     (room label faults reach moment : D → ℕ)
     (left_since : D → ℕ → List ℕ → Type 0) where
-
   same_disk : (d e : D) → e ≡ d → SameDisk tells room label d e
   same_disk d e is = rw is (record { telling = refl; size = refl; name = refl })
 

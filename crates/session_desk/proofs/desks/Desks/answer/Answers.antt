@@ -29,12 +29,13 @@ answer_at-requires-clause-rows g c =
 pub invariant_of-self : goal.invariant_of-self
 invariant_of-self g c =
     let there : slice_get c.self.inside.desks.items c.session_of.result ≡ Some c.in-Some.desk.now =
-    slice_get_read c.self.inside.desks.items (length c.self.inside.desks.items) c.session_of.result c.in-Some.desk.now refl c.in-Some.ensures.item.3.0 c.in-Some.ensures.value in
-    (c.self.invariant.0,
-    desks_turned g.D.Disk.tells g.D.Disk.room g.D.Disk.label g.D.Disk.faults g.D.Disk.reach g.D.Disk.moment g.D.Disk.left_since
-    c.self.inside.stories.now c.self.inside.budget c.self.inside.desks.items c.session_of.result c.in-Some.desk.now c.answer_at.new.desk
-    (answered c.in-Some.desk.now c.in-Ok.request) c.self.inside.journal c.answer_at.new.journal c.answer_at.result c.self.invariant.1 there
-    c.answer_at.ensures.turn c.answer_at.ensures.rows c.answer_at.ensures.kept)
+    slice_get_read c.self.inside.desks.items (length c.self.inside.desks.items) c.session_of.result c.in-Some.desk.now refl c.in-Some.ensures.item.3.0 c.in-Some.ensures.value in (
+      c.self.invariant.0,
+      desks_turned g.D.Disk.tells g.D.Disk.room g.D.Disk.label g.D.Disk.faults g.D.Disk.reach g.D.Disk.moment g.D.Disk.left_since
+          c.self.inside.stories.now c.self.inside.budget c.self.inside.desks.items c.session_of.result c.in-Some.desk.now c.answer_at.new.desk
+          (answered c.in-Some.desk.now c.in-Ok.request) c.self.inside.journal c.answer_at.new.journal c.answer_at.result c.self.invariant.1 there
+          c.answer_at.ensures.turn c.answer_at.ensures.rows c.answer_at.ensures.kept,
+    )
 
 pub returns-in-Some : goal.returns-in-Some
 returns-in-Some g c =
