@@ -5,6 +5,7 @@ pub mod JournalLemmas
 pub mod RunLemmas
 pub mod WarmLemmas
 pub mod HistoryLemmas
+pub mod CommitLemmas
 pub mod TurnLemmas
 pub mod DesksLemmas
 pub mod CollectLemmas

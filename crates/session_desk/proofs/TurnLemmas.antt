@@ -20,6 +20,10 @@ use Rattle.session_core.specs.Turning.{MayMeet}
 use Rattle.session_desk.specs.Commit.{Extends, Stops}
 use Rattle.session_desk.specs.Turn.{MayLeave, row_for, TurnsBy}
 
+-- a decision that accepts nothing
+abbrev pub quiet : Reply → Decision
+quiet reply = record { reply = reply; accepted = None }
+
 -- ---- a journal in which nothing was written
 
 pub same_log : {D : Type 0} (log : Log D) → SameLog log log
