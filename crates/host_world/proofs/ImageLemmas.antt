@@ -39,10 +39,10 @@ untouched_test i (r ∷ ranges) all = elim all.0 [
   | inr behind ↦ grind (arith, nat_tests, untouched_test i ranges all.1)
 ]
 
-agree_at : (n i : ℕ) (p : DiskState) (c : List ℕ) → agree n p c ≡ true → i < n → Untouched i p.ranges → slice_index c i ≡ slice_index p.synced i
+agree_at : (n i : ℕ) (p : DiskState) (c : List ℕ) → agree n p.synced p.ranges c ≡ true → i < n → Untouched i p.ranges → slice_index c i ≡ slice_index p.synced i
 agree_at zero i p c is lt untouched = absurd (omega (arith, lt))
 agree_at (suc n) i p c is lt untouched =
-    let both = and_parts (is_touched n p.ranges || nat_eq (slice_index c n) (slice_index p.synced n)) (agree n p c) is in
+    let both = and_parts (is_touched n p.ranges || nat_eq (slice_index c n) (slice_index p.synced n)) (agree n p.synced p.ranges c) is in
     elim (cases_eq i n) [
       | inl same ↦ here both.0 same
       | inr other ↦ agree_at n i p c both.1 (omega (arith, lt, other)) untouched
@@ -58,7 +58,7 @@ agree_at (suc n) i p c is lt untouched =
 -- what the test of an image says, it is
 pub image_is : (p : DiskState) (c : List ℕ) → is_image p c ≡ true → IsImage p c
 image_is p c is =
-    let outer = and_parts (nat_le (length p.synced) (length c) && nat_le (length c) (greatest_end p.ranges (length p.synced))) (agree (length p.synced) p c) is in
+    let outer = and_parts (nat_le (length p.synced) (length c) && nat_le (length c) (greatest_end p.ranges (length p.synced))) (agree (length p.synced) p.synced p.ranges c) is in
     let inner = and_parts (nat_le (length p.synced) (length c)) (nat_le (length c) (greatest_end p.ranges (length p.synced))) outer.0 in
     let low = inner.0 in
     let high = inner.1 in
@@ -88,9 +88,9 @@ or_both : (a b : Bool) → (a ≡ false → b ≡ true) → (a || b) ≡ true
 or_both true b then_ = refl
 or_both false b then_ = then_ refl
 
-agree_all : (n : ℕ) (p : DiskState) (c : List ℕ) → ((i : ℕ) → i < n → Untouched i p.ranges → slice_index c i ≡ slice_index p.synced i) → agree n p c ≡ true
+agree_all : (n : ℕ) (p : DiskState) (c : List ℕ) → ((i : ℕ) → i < n → Untouched i p.ranges → slice_index c i ≡ slice_index p.synced i) → agree n p.synced p.ranges c ≡ true
 agree_all zero p c each = refl
-agree_all (suc n) p c each = and_from (is_touched n p.ranges || nat_eq (slice_index c n) (slice_index p.synced n)) (agree n p c)
+agree_all (suc n) p c each = and_from (is_touched n p.ranges || nat_eq (slice_index c n) (slice_index p.synced n)) (agree n p.synced p.ranges c)
     (or_both (is_touched n p.ranges) (nat_eq (slice_index c n) (slice_index p.synced n)) (λ quiet. let there = each n (omega arith) (untouched_of n p.ranges quiet) in grind (arith, nat_tests)))
     (agree_all n p c (λ i lt untouched. each i (omega (arith, lt)) untouched))
 
@@ -99,7 +99,7 @@ pub image_told : (p : DiskState) (c : List ℕ) → IsImage p c → is_image p c
 image_told p c image =
     let low = image.no_shorter in
     let high = image.no_longer in
-    and_from (nat_le (length p.synced) (length c) && nat_le (length c) (greatest_end p.ranges (length p.synced))) (agree (length p.synced) p c)
+    and_from (nat_le (length p.synced) (length c) && nat_le (length c) (greatest_end p.ranges (length p.synced))) (agree (length p.synced) p.synced p.ranges c)
     (and_from (nat_le (length p.synced) (length c)) (nat_le (length c) (greatest_end p.ranges (length p.synced))) (grind (arith, nat_tests)) (grind (arith, nat_tests)))
     (agree_all (length p.synced) p c image.same)
 

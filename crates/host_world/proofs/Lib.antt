@@ -1,3 +1,4 @@
+pub mod AgreeLemmas
 pub mod Accepting
 pub mod Apart
 pub mod Appends
