@@ -4,8 +4,6 @@
 mod container;
 mod fault;
 mod laws;
-#[cfg(test)]
-mod tests;
 
 pub use container::{Span, find_story};
 pub use fault::BlorbFault;

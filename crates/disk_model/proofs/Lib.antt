@@ -4,3 +4,4 @@ pub mod Moments
 pub mod RangeLaws
 pub mod StateLaws
 pub mod CallLaws
+pub mod WorkLaws

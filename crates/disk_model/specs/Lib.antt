@@ -1,4 +1,5 @@
 pub mod Disk
+pub mod Work
 pub mod DiskState
 pub mod Drawn
 pub mod Calls

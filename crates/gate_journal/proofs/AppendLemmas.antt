@@ -2,7 +2,8 @@
 -- contracts see it.
 use Rattle.std.proofs.Common.{◌≡◌, ◌⊎◌, ℕ, ◌+◌, ◌<◌, ◌≤◌, Bool, List, [], ◌∷◌, ◌++◌, length}
 use Rattle.std.proofs.Common.{refl, sym, ◌∙◌, ap, subst, arith}
-use Rattle.std.specs.Prelude.{IsTrue, Option, Some, None, IfSome}
+use Rattle.std.specs.Prelude.{IsTrue, Option, Some, None, IfSome, Result, Ok}
+use Rattle.disk_model.specs.Work.{Triple}
 use Rattle.disk_model.specs.Disk.{LeavesOnly, EachImage, Rose, Holds}
 use Rattle.gate_journal.specs.declared.command.Command.{Command}
 use Rattle.gate_journal.specs.declared.row.Row.{Row}
@@ -66,23 +67,17 @@ module _
   row_is made = made ∙ ap (λ (k : ℕ). row_at k session command) sound.ends
 
   -- what the repair says, and the writing of the row
-  abbrev Repairs : (D → ℕ) → (D → ℕ → List ℕ → Type 0) → D → Type 0
-  Repairs moment left_since mid =
+  abbrev Repairs : {T E : Type 0} → (D → ℕ) → (D → ℕ → List ℕ → Type 0) → Result T E → D → Type 0
+  Repairs moment left_since result mid =
       (l : List Row) → end ≡ length (spelled l)
-      → EachImage tells may_leave log.disk (StandsAt l log.uncertain)
-      → IsTrue (tells log.disk) → LeavesOnly moment left_since log.disk mid (StandsAt l log.uncertain)
+      → Triple tells may_leave moment left_since result log.disk mid (StandsAt l log.uncertain) (StandsAt l log.uncertain) (StandsAt l None)
 
-  abbrev Shuts : D → Type 0
-  Shuts mid =
-      (l : List Row) → end ≡ length (spelled l)
-      → EachImage tells may_leave log.disk (StandsAt l log.uncertain)
-      → EachImage tells may_leave mid (StandsAt l None)
-
-  abbrev Writes : (D → ℕ) → (D → ℕ → List ℕ → Type 0) → List ℕ → D → D → Type 0
-  Writes moment left_since past mid new =
-      (front : List ℕ) → length front ≡ end → EachImage tells may_leave mid (IsShut front)
-      → IsTrue (tells mid)
-      → LeavesOnly moment left_since mid new (λ c. IsShut front c ⊎ IsUnsure front past c)
+  abbrev Writes :
+      {T E : Type 0} → (D → ℕ) → (D → ℕ → List ℕ → Type 0) → List ℕ → Result T E → D → D → Type 0
+  Writes moment left_since past result mid new =
+      (front : List ℕ) → length front ≡ end
+      → Triple tells may_leave moment left_since result mid new (IsShut front)
+      (λ c. IsShut front c ⊎ IsUnsure front past c) (λ c. Holds c 0 (front ++ 1 ∷ past))
 
   abbrev After : D → D → (List ℕ → List ℕ → Type 0) → Type 0
   After mid new P =
@@ -91,32 +86,42 @@ module _
 
   -- meanwhile, until the repair ends
   pub crash_repair :
-      {moment : D → ℕ} {left_since : D → ℕ → List ℕ → Type 0} {mid : D}
-      → Repairs moment left_since mid → IsTrue (tells old.disk)
+      {T E : Type 0} {result : Result T E} {moment : D → ℕ} {left_since : D → ℕ → List ℕ → Type 0} {mid : D}
+      → Repairs moment left_since result mid → IsTrue (tells old.disk)
       → LeavesOnly moment left_since old.disk mid
       (Meanwhile (rows_of old.entries) old.uncertain (next_row (rows_of old.entries) session command))
   crash_repair {moment = moment} {left_since = left_since} {mid = mid} crash =
       subst (λ (l : Log D). IsTrue (tells l.disk) → LeavesOnly moment left_since l.disk mid
       (Meanwhile (rows_of l.entries) l.uncertain (next_row (rows_of l.entries) session command))) is
       (λ told. settled moment left_since rows log.uncertain r sound.journal next sound.next log.disk mid
-      (crash rows sound.ends sound.images told))
+      ((crash rows sound.ends).meanwhile told (sound.images told)))
+
+  -- a repair that ended Ok leaves a closed gate
+  shut :
+      {T E : Type 0} {value : T} {moment : D → ℕ} {left_since : D → ℕ → List ℕ → Type 0} {mid : D}
+      → Repairs {E = E} moment left_since (Ok value) mid → tells mid ≡ tells log.disk
+      → EachImage tells may_leave mid (IsShut (spelled rows))
+  shut repairs same told =
+      let told_then = subst (λ (b : Bool). IsTrue b) same told in
+      (repairs rows sound.ends).ended told_then (sound.images told_then)
 
   -- and until the row's writing ends
   pub crash_row :
-      {moment : D → ℕ} {left_since : D → ℕ → List ℕ → Type 0} {mid new : D} {q : Row} {past : List ℕ}
+      {T E S F : Type 0} {value : T} {result : Result S F} {moment : D → ℕ}
+      {left_since : D → ℕ → List ℕ → Type 0} {mid new : D} {q : Row} {past : List ℕ}
       → q ≡ row_at end session command → past ≡ body q ++ 0 ∷ []
-      → Repairs moment left_since mid → Shuts mid → tells mid ≡ tells log.disk
-      → Writes moment left_since past mid new → IsTrue (tells old.disk)
+      → Repairs {E = E} moment left_since (Ok value) mid → tells mid ≡ tells log.disk
+      → Writes moment left_since past result mid new → IsTrue (tells old.disk)
       → LeavesOnly moment left_since old.disk new
       (Meanwhile (rows_of old.entries) old.uncertain (next_row (rows_of old.entries) session command))
-  crash_row {moment = moment} {left_since = left_since} {mid = mid} {new = new} {past = past} made bytes crash shuts same writes =
+  crash_row {moment = moment} {left_since = left_since} {mid = mid} {new = new} {past = past} made bytes repairs same writes =
       subst (λ (l : Log D). IsTrue (tells l.disk) → LeavesOnly moment left_since l.disk new
       (Meanwhile (rows_of l.entries) l.uncertain (next_row (rows_of l.entries) session command))) is
-      (λ told. appended moment left_since rows log.uncertain r sound.journal next sound.next log.disk mid new past
+      (λ told. let told_then = subst (λ (b : Bool). IsTrue b) (sym same) told in
+      appended moment left_since rows log.uncertain r sound.journal next sound.next log.disk mid new past
       (bytes ∙ ap (λ (x : Row). body x ++ 0 ∷ []) (row_is made))
-      (crash rows sound.ends sound.images told)
-      (writes (spelled rows) (sym sound.ends) (shuts rows sound.ends sound.images)
-      (subst (λ (b : Bool). IsTrue b) (sym same) told)))
+      ((repairs rows sound.ends).meanwhile told (sound.images told))
+      ((writes (spelled rows) (sym sound.ends)).meanwhile told_then (shut repairs same told_then)))
 
   -- the rows with one more
   pub kept_rows :
@@ -156,38 +161,44 @@ module _
 
   -- before the gate's write: it is closed
   pub sound_before :
+      {T E : Type 0} {value : T} {moment : D → ℕ} {left_since : D → ℕ → List ℕ → Type 0}
       {mid new : D} {entries : List Entry} {uncertain : Option Row} {from to : ℕ} {ready : Bool} (by : ℕ)
-      → (uncertain ≡ None) × Shuts mid → After mid new IsShut
+      → uncertain ≡ None → Repairs {E = E} moment left_since (Ok value) mid → tells mid ≡ tells log.disk
+      → After mid new IsShut
       → Faults mid new entries uncertain by from to ready
-  sound_before {mid = mid} by repaired after =
-      faulted {mid = mid} by None repaired.0 tt
-      (after (spelled rows) (sym sound.ends) (repaired.1 rows sound.ends sound.images))
+  sound_before {mid = mid} by none repairs same after =
+      faulted {mid = mid} by None none tt (after (spelled rows) (sym sound.ends) (shut repairs same))
 
   -- in the gate's write: it is uncertain, before the row
   pub sound_at_gate :
+      {T E : Type 0} {value : T} {moment : D → ℕ} {left_since : D → ℕ → List ℕ → Type 0}
       {mid new : D} {entries : List Entry} {uncertain : Option Row} {from to : ℕ} {ready : Bool} {q : Row} {past : List ℕ} (by : ℕ)
       → q ≡ row_at end session command → past ≡ body q ++ 0 ∷ [] → uncertain ≡ Some q
-      → Shuts mid → After mid new (λ front. IsUnsure front past)
+      → Repairs {E = E} moment left_since (Ok value) mid → tells mid ≡ tells log.disk
+      → After mid new (λ front. IsUnsure front past)
       → Faults mid new entries uncertain by from to ready
-  sound_at_gate {mid = mid} {new = new} {q = q} by made bytes so shuts after =
+  sound_at_gate {mid = mid} {new = new} {q = q} by made bytes so repairs same after =
       faulted {mid = mid} by (Some q) so (subst (λ (x : Row). IsNext rows x) (sym (row_is made)) next)
       (subst (λ (l : List ℕ). EachImage tells may_leave new (IsUnsure (spelled rows) l)) bytes
-      (after (spelled rows) (sym sound.ends) (shuts rows sound.ends sound.images)))
+      (after (spelled rows) (sym sound.ends) (shut repairs same)))
 
   -- the row is there
   pub sound_row :
+      {T E S F : Type 0} {value : T} {wrote : S} {moment : D → ℕ} {left_since : D → ℕ → List ℕ → Type 0}
       {mid new : D} {entries : List Entry} {uncertain : Option Row} {ready : Bool} {q : Row} {past : List ℕ} {later : ℕ}
       → q ≡ row_at end session command → past ≡ body q ++ 0 ∷ []
-      → (uncertain ≡ None) × Shuts mid → After mid new (λ front c. Holds c 0 (front ++ 1 ∷ past))
+      → uncertain ≡ None → Repairs {E = E} moment left_since (Ok value) mid → tells mid ≡ tells log.disk
+      → Writes {E = F} moment left_since past (Ok wrote) mid new → tells new ≡ tells mid
       → entries ≡ log.entries ++ Kept q ∷ [] → room new ≡ room log.disk
       → faults log.disk ≤ faults new → later ≡ end + length past → later < room new
       → IsSound tells may_leave room faults
       (record { disk = new; entries = entries; uncertain = uncertain; since = log.since; ready = ready }) later
-  sound_row {new = new} {entries = entries} {ready = ready} {q = q} {past = past} {later = later} made bytes repaired after pushed size le is_later within =
+  sound_row {new = new} {entries = entries} {ready = ready} {q = q} {past = past} {later = later} made bytes none repairs same writes same_then pushed size le is_later within =
       subst (λ (u : Option Row). IsSound tells may_leave room faults
-      (record { disk = new; entries = entries; uncertain = u; since = log.since; ready = ready }) later) (sym repaired.0)
+      (record { disk = new; entries = entries; uncertain = u; since = log.since; ready = ready }) later) (sym none)
       (sound_kept tells may_leave room faults log end later new entries q ready sound pushed size le
       (is_later ∙ ap (λ (l : List ℕ). end + length l) bytes) within
       (subst (λ (x : Row). IsNext rows x) (sym (row_is made)) next)
-      (λ told c now. opened_shut rows q past c bytes
-      (after (spelled rows) (sym sound.ends) (repaired.1 rows sound.ends sound.images) told c now)))
+      (λ told c now. let told_then = subst (λ (b : Bool). IsTrue b) same_then told in
+      opened_shut rows q past c bytes
+      ((writes (spelled rows) (sym sound.ends)).ended told_then (shut repairs same told_then) c now)))

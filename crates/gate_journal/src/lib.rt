@@ -30,6 +30,3 @@ pub use laws::{
 };
 pub use row::Row;
 pub use stop::stop_and_open;
-
-#[cfg(test)]
-mod tests;

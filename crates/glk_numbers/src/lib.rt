@@ -6,6 +6,3 @@ mod numbered;
 
 pub use laws::next_is_least;
 pub use numbered::{MAX_NUMBER, Numbered, is_live, next_above, place_of};
-
-#[cfg(test)]
-mod tests;

@@ -22,6 +22,3 @@ pub use opening::MAX_WINDOWS;
 pub use text::{Codes, Run, Runs};
 pub use window::{Area, Buffer, Content, Grid, Pair, Window};
 pub use windows::Windows;
-
-#[cfg(test)]
-mod tests;

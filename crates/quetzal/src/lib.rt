@@ -8,8 +8,6 @@ mod laws;
 mod memory;
 mod reader;
 mod runs;
-#[cfg(test)]
-mod tests;
 mod writer;
 
 pub use fault::SaveFault;

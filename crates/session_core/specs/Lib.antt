@@ -4,5 +4,6 @@ pub mod Checks
 pub mod Answer
 pub mod Sessions
 pub mod Turning
+pub mod Hosts
 pub mod Isolation
 pub mod Repeats

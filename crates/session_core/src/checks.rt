@@ -16,6 +16,7 @@ use story_run::Story;
 /// The session numbers are below this.
 const SESSIONS: u32 = 64;
 
+/// The session that a request names.
 pub fn session_of(request: &Request) -> u32
     ensures { result ≡ session_of request.now }
 {

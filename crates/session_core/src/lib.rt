@@ -11,13 +11,10 @@ mod same;
 mod sessions;
 mod world;
 
-pub use checks::is_fresh;
+pub use checks::{is_fresh, session_of};
 pub use decision::{Decision, MAX_COMMANDS, command_of, decide, plain_refusal, shown_number};
 pub use entry::{Entry, Outcome};
 pub use history::{game_of, is_in_use};
 pub use laws::{is_isolated, repeats_change_nothing};
-pub use sessions::Sessions;
+pub use sessions::{Sessions, with_budget};
 pub use world::{replay, turn_on, world_of};
-
-#[cfg(test)]
-mod tests;

@@ -35,7 +35,7 @@ impl Model for Sessions {
 }
 
 /// A request to open a session takes the host's budget.
-fn with_budget(budget: u64, request: Request) -> Request
+pub fn with_budget(budget: u64, request: Request) -> Request
     ensures { result ≡ with_budget budget request }
 {
     match request {

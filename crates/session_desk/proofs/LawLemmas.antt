@@ -234,6 +234,33 @@ accepts desk request e =
           (accepted_has_room desk.stories history g request (accepted_by desk.stories g request) by.0 refl) by.1.1;
     }
 
+-- ---- what a request passed that is shown again
+
+pub record Repeats (desk : DeskState) (request : Request) : Type 0 where
+  pub none : first_of (plain_checks desk.stories (game desk) request) ≡ None
+  pub accepted : accepted_by desk.stories (game desk) request ≡ None
+  pub held : lacks_world desk request ≡ false
+
+lacks_not : (lacks : Bool) (said other : Verdict) → cond lacks Cold said ≡ other → is_cold other ≡ false → lacks ≡ false
+lacks_not true said (Refuse why) e w = absurd cc
+lacks_not true said Again e w = absurd cc
+lacks_not true said Fresh e w = absurd cc
+lacks_not true said Cold e w = absurd cc
+lacks_not false said other e w = refl
+
+pub repeats : (desk : DeskState) (request : Request) → verdict desk request ≡ Again → Repeats desk request
+unfolding answer
+repeats desk request e =
+    let history = desk.commands in
+    let g = game_of history in
+    let by = again_by desk.stories history g request (refusal_of desk.stories history g request)
+    (warm (lacks_world desk request) (foretold desk.stories history request) Again e refl) in
+    record {
+      none = plain desk.stories history g request by.0;
+      accepted = by.1;
+      held = lacks_not (lacks_world desk request) (foretold desk.stories history request) Again e refl;
+    }
+
 -- ---- cold
 
 cold_lacks : (lacks : Bool) (reply : Reply) (accepted : Option Command) → cond lacks Cold (told_by reply accepted) ≡ Cold → lacks ≡ true

@@ -4,3 +4,7 @@ pub mod HeldLemmas
 pub mod JournalLemmas
 pub mod RunLemmas
 pub mod WarmLemmas
+pub mod HistoryLemmas
+pub mod TurnLemmas
+pub mod DesksLemmas
+pub mod CollectLemmas

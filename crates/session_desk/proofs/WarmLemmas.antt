@@ -1,22 +1,24 @@
 -- A desk is warm once its world was made.
-use Rattle.std.proofs.Common.{◌≡◌, ℕ, Bool, true, false, ◌&&◌, ◌||◌, ◌==◌, not, nat_le, cond, List, [], ◌∷◌, ◌++◌, Option, Some, None, is_none, refl, sym, ap, ◌∙◌}
+use Rattle.std.proofs.Common.{◌≡◌, ℕ, Bool, true, false, ◌&&◌, ◌||◌, ◌==◌, not, nat_le, nat_lt, cond, List, [], ◌∷◌, ◌++◌, Option, Some, None, is_none, refl, sym, ap, ◌∙◌, arith, ◌+◌}
+use Rattle.std.proofs.lemmas.Bool.Decides.{nat_tests}
 use Rattle.gate_journal.specs.declared.command.Command.{Command}
 use Rattle.gate_journal.specs.declared.command.Command.TheVariants as commands
+use Rattle.line_words.specs.declared.reply.No.{No}
 use Rattle.line_words.specs.declared.request.Request.{Request}
 use Rattle.line_words.specs.declared.request.Request.TheVariants.{Open, Line, Char, File, Last, Close}
 use Rattle.story_run.specs.declared.setup.Setup.{Setup}
 use Rattle.story_run.specs.declared.story.Story.{Story}
 use Rattle.story_run.specs.World.{WorldState}
-use Rattle.session_core.specs.History.{game_of, has_key, is_in_use, is_open, story_at, world_in, world_of}
-use Rattle.session_core.specs.Checks.{command_of, differs, is_fresh, is_other_story, is_own_open, opened}
-use Rattle.session_core.specs.Answer.{first_of, plain_checks}
+use Rattle.session_core.specs.History.{count, game_of, goes_on, has_key, is_in_use, is_open, last_of, story_at, world_in, world_of}
+use Rattle.session_core.specs.Checks.{command_of, differs, is_fresh, is_last, is_other_story, is_own_open, opened}
+use Rattle.session_core.specs.Answer.{accepted_by, first_of, plain_checks}
 use Rattle.session_core.proofs.RepeatLemmas.{all_fail, known, joined, game_of-append, game_of-append-open, last_of-joined, some_is}
 use Rattle.session_desk.specs.declared.held.Held.TheVariants.{Nothing, Current}
-use Rattle.session_desk.specs.declared.verdict.Verdict.TheVariants.{Fresh, Cold}
+use Rattle.session_desk.specs.declared.verdict.Verdict.TheVariants.{Again, Fresh, Cold}
 use Rattle.session_desk.specs.Desk.{DeskState, game, held_of, is_cold, world_now}
 use Rattle.session_desk.specs.Verdict.{is_close, is_to_story, lacks_world, needs_world, verdict}
 use Rattle.session_desk.specs.Laws.{StaysWarm}
-use Rattle.session_desk.proofs.LawLemmas.{Accepts, accepts, cold_alone}
+use Rattle.session_desk.proofs.LawLemmas.{Accepts, accepts, cold_alone, repeats}
 use Rattle.session_desk.proofs.RunLemmas.{both_hold}
 
 -- ---- a game whose story is there has a world
@@ -167,8 +169,60 @@ after_run desk (Close s key n) c none e =
     rw (sym (some_is _ c e)) (warm_free desk.stories (game_of (desk.commands ++ commands.Close ∷ []))
     (rw (game_of-append desk.commands commands.Close refl) (closed_free g key k)))
 
+-- ---- where the last show is given again
+
+last_closes : (o : Option Command) (s : ℕ) (key : List ℕ) (n : ℕ) → is_last o (Close s key n) ≡ true → goes_on o ≡ false
+last_closes None s key n e = refl
+last_closes (Some (commands.Open k story digest seed cols rows budget)) s key n e = absurd cc
+last_closes (Some (commands.Line win term text)) s key n e = absurd cc
+last_closes (Some (commands.Char win code)) s key n e = absurd cc
+last_closes (Some (commands.File name)) s key n e = absurd cc
+last_closes (Some commands.Close) s key n e = refl
+
+not_taken : (fresh : Bool) (c : Command) → cond fresh (Some c) None ≡ None → fresh ≡ false
+not_taken true c e = absurd cc
+not_taken false c e = refl
+
+left_true : (x y : Bool) → (x && not y) ≡ false → x ≡ true → y ≡ true
+left_true true true e x = refl
+left_true true false e x = absurd cc
+left_true false y e x = absurd cc
+
+the_last : (n c : ℕ) → nat_lt n c ≡ false → nat_lt (c + 1) n ≡ false → (n == c + 1) ≡ false → (n == c) ≡ true
+the_last n c early ahead fresh = grind (arith, nat_tests, early, ahead, fresh)
+
+-- a CLOSE that is given again has closed the session
+closed_again : (stories : List Story) (g : List Command) (s : ℕ) (key : List ℕ) (n : ℕ) → first_of (plain_checks stories g (Close s key n)) ≡ None
+    → accepted_by stories g (Close s key n) ≡ None → is_in_use g ≡ false
+unfolding accepted_by
+closed_again stories g s key n none accepted =
+    let fails = all_fail (plain_checks stories g (Close s key n)) none in
+    let fresh = not_taken (n == count g + 1) commands.Close accepted in
+    let last = the_last n (count g) fails.1.1.1.1.0 fails.1.1.1.1.1.1.0 fresh in
+    last_closes (last_of g) s key n (left_true (n == count g) (is_last (last_of g) (Close s key n)) fails.1.1.1.1.1.0 last)
+
+held_by : (checks : Option No) (used none : Bool) → checks ≡ None → ((is_none checks && (used && true)) && none) ≡ false → (used && none) ≡ false
+held_by None true none e held = held
+held_by None false none e held = refl
+held_by (Some why) used none e held = absurd cc
+
+after_again : (desk : DeskState) (request : Request) → verdict desk request ≡ Again → (is_in_use (game desk) && is_none (world_now desk.held)) ≡ false
+after_again desk (Open s key story seed cols rows budget) e =
+    let r = repeats desk (Open s key story seed cols rows budget) e in held_by _ (is_in_use (game desk)) (is_none (world_now desk.held)) r.none r.held
+after_again desk (Line s key n win text term) e =
+    let r = repeats desk (Line s key n win text term) e in held_by _ (is_in_use (game desk)) (is_none (world_now desk.held)) r.none r.held
+after_again desk (Char s key n win code) e =
+    let r = repeats desk (Char s key n win code) e in held_by _ (is_in_use (game desk)) (is_none (world_now desk.held)) r.none r.held
+after_again desk (File s key n name) e =
+    let r = repeats desk (File s key n name) e in held_by _ (is_in_use (game desk)) (is_none (world_now desk.held)) r.none r.held
+after_again desk (Last s key) e =
+    let r = repeats desk (Last s key) e in held_by _ (is_in_use (game desk)) (is_none (world_now desk.held)) r.none r.held
+after_again desk (Close s key n) e =
+    let r = repeats desk (Close s key n) e in rw (closed_again desk.stories (game desk) s key n r.none r.accepted) refl
+
 pub stays_warm : StaysWarm
 stays_warm desk request = (
   λ e. after_warm desk request e,
   λ command e asked. let a = accepts desk request e in after_run desk request command a.none asked,
+  λ e. after_again desk request e,
 )

@@ -1,6 +1,6 @@
 -- A command that a desk commits to a journal (own).
-use Rattle.std.specs.Prelude.{◌≡◌, ℕ, ◌+◌, Bool, IsTrue, List, [], ◌∷◌, ◌++◌}
-use Rattle.std.specs.Prelude.{length, Result, Ok, Err, Some}
+use Rattle.std.specs.Prelude.{◌≡◌, ◌⊎◌, ℕ, ◌+◌, Bool, IsTrue, List, [], ◌∷◌, ◌++◌}
+use Rattle.std.specs.Prelude.{length, Result, Ok, Err, Some, None}
 use Rattle.disk_model.specs.Disk.{LeavesOnly}
 use Rattle.gate_journal.specs.Command.{IsCommand}
 use Rattle.gate_journal.specs.Faults.{IsFault}
@@ -55,6 +55,8 @@ pub record Commits
   pub asked : command_of desk.stories request ≡ Some command
   pub taken : new_desk ≡ committed desk command
   pub row : Extends desk.session command log new_log
+  -- no gate is uncertain
+  pub certain : new_log.uncertain ≡ None
 
 -- what a refusal leaves of the journal: its disk's fault as an entry, or all as before
 abbrev pub Leaves : {D : Type 0} → (D → ℕ) → ℕ → Log D → Log D → Refused → Type 0
@@ -62,6 +64,15 @@ Leaves faults session old new (DiskFault fault) =
     IsFault fault (faults old.disk) (faults new.disk)
     × (new.entries ≡ old.entries ++ Faulted (session + 1) fault.from fault.to ∷ [])
 Leaves faults session old new NoMemory = SameLog old new
+
+-- where the disk failed the closing gate was left as it was, or closed, or had its write begun, and
+-- then the new row stands behind an uncertain gate
+abbrev pub LeavesGate : {D : Type 0} → ℕ → Command → Log D → Log D → Refused → Type 0
+LeavesGate session command old new (DiskFault fault) =
+    (new.uncertain ≡ old.uncertain)
+    ⊎ (new.uncertain ≡ None)
+    ⊎ (new.uncertain ≡ Some (next_row (rows_of old.entries) session command))
+LeavesGate session command old new NoMemory = Unit {0}
 
 -- the append was begun: the call answered Ok, or that the disk failed
 abbrev pub WhereBegun : {T : Type 0} → Result T Refused → Type 0 → Type 0

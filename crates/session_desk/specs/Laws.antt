@@ -58,7 +58,7 @@ IsColdAlone =
     × (lacks_world desk request ≡ true → verdict desk request ≡ Cold)
 
 -- A desk that a request finds cold isn't cold once it was warmed; nor is one with a fresh request's
--- command, once that was run.
+-- command, once that was run; nor one that gives a request its last show again.
 abbrev pub StaysWarm : Type 0
 StaysWarm =
     (desk : DeskState) (request : Request)
@@ -66,6 +66,7 @@ StaysWarm =
     × ((command : Command) → verdict desk request ≡ Fresh
     → command_of desk.stories request ≡ Some command
     → is_cold (warmed (committed desk command)) ≡ false)
+    × (verdict desk request ≡ Again → is_cold desk ≡ false)
 
 -- A journal has at most 8,192 rows of each session, as many as a desk takes.
 abbrev pub JournalsFit : Type 0

@@ -3,3 +3,6 @@ pub mod Wanted
 pub mod Verdict
 pub mod Commit
 pub mod Laws
+pub mod Turn
+pub mod Desks
+pub mod Collected

@@ -1,21 +1,21 @@
 //! A command that is kept in the journal (own).
 
-ghost use Rattle.std.specs.Prelude.{◌≡◌, ◌<◌, ◌++◌, ◌∷◌, [], Some, IfOk, IfErr};
-ghost use Rattle.std.specs.Prelude.{OnOk, IsSome};
+ghost use Rattle.std.specs.Prelude.{◌≡◌, ◌+◌, ◌<◌, ◌≤◌, ◌++◌, ◌∷◌, [], Some, None};
+ghost use Rattle.std.specs.Prelude.{IfOk, IfErr, OnOk, IsSome, max};
 ghost use Rattle.std.specs.Prelude.{MatchResult, length, vec_len, vec_capacity};
 ghost use Rattle.disk_model.specs.Disk.{SameDisk};
 ghost use Rattle.gate_journal.specs.Command.{IsCommand};
 ghost use Rattle.gate_journal.specs.Log.{rows_of, next_row};
-ghost use Rattle.gate_journal.specs.Rows.{MayStand};
+ghost use Rattle.gate_journal.specs.Rows.{MayStand, spelled};
 ghost use Rattle.session_core.specs.Checks.{command_of};
 ghost use Rattle.session_desk.specs.Desk.{aside};
-ghost use Rattle.session_desk.specs.Commit.{Extends, HasDigest, IsInRange, Leaves, Stops};
-ghost use Rattle.session_desk.specs.Commit.{WhereBegun};
+ghost use Rattle.session_desk.specs.Commit.{Extends, HasDigest, IsInRange, Leaves};
+ghost use Rattle.session_desk.specs.Commit.{LeavesGate, Stops, WhereBegun};
 
 use crate::held::{Held, aside};
 use crate::refused::Refused;
 use disk_model::Disk;
-use gate_journal::{Command, Journal};
+use gate_journal::{Command, Journal, ends_within};
 use line_words::Request;
 use session_core::command_of;
 use std::alloc::{AllocError, Global};
@@ -65,7 +65,15 @@ pub fn write_down<D: Disk>(
     ensures kept { SameDisk D.tells D.room D.label journal.old.disk journal.new.disk }
     ensures crash { WhereBegun result
         (Stops D.tells D.moment D.left_since session command.now journal.old journal.new) }
+    ensures certain { OnOk result (journal.new.uncertain ≡ None) }
+    ensures gate { IfErr result (λ why.
+        LeavesGate session command.now journal.old journal.new why) }
+    ensures counts { OnOk result (D.faults journal.new.disk ≡ D.faults journal.old.disk) }
+    ensures reach { D.reach journal.new.disk
+        ≤ max (D.reach journal.old.disk)
+        (length (spelled (rows_of journal.old.entries)) + 4110) }
 {
+    ends_within();
     let Ok(()) = journal.reserve(alloc) else {
         return Err(Refused::NoMemory);
     };

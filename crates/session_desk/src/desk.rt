@@ -1,10 +1,11 @@
 //! A desk: one session, kept warm (own).
 
-ghost use Rattle.std.specs.Prelude.{◌≡◌, ◌≤◌, ◌<◌, ◌+◌, IsTrue, true, false};
-ghost use Rattle.std.specs.Prelude.{length, None, Some};
+ghost use Rattle.std.specs.Prelude.{◌≡◌, ◌≤◌, ◌<◌, ◌+◌, ◌++◌, [], ◌∷◌, IsTrue, true, false};
+ghost use Rattle.std.specs.Prelude.{length, max, None, Some};
 ghost use Rattle.std.specs.Prelude.{IfOk, IfErr, OnOk, OnErr, MatchOption, MatchResult, ⊤};
 ghost use Rattle.disk_model.specs.Disk.{SameDisk};
-ghost use Rattle.gate_journal.specs.Rows.{commands_of};
+ghost use Rattle.gate_journal.specs.Log.{rows_of};
+ghost use Rattle.gate_journal.specs.Rows.{commands_of, spelled};
 ghost use Rattle.gate_journal.specs.declared.command.Command.{Command};
 ghost use Rattle.session_core.specs.History.{last_of};
 ghost use Rattle.session_core.specs.Checks.{command_of};
@@ -14,8 +15,8 @@ ghost use Rattle.session_desk.specs.Desk.{game, is_cold, is_to_run, last_show, w
 ghost use Rattle.session_desk.specs.Desk.{opened};
 ghost use Rattle.session_desk.specs.Verdict.{verdict};
 ghost use Rattle.session_desk.specs.declared.verdict.Verdict.TheVariants.{Fresh, Cold};
-ghost use Rattle.session_desk.specs.Commit.{Commits, IsInRange, IsKept, Leaves, Stops};
-ghost use Rattle.session_desk.specs.Commit.{WhereBegun};
+ghost use Rattle.session_desk.specs.Commit.{Commits, IsInRange, IsKept, Leaves, LeavesGate};
+ghost use Rattle.session_desk.specs.Commit.{Stops, WhereBegun};
 
 use crate::check::{in_no_world, in_world};
 use crate::commit::{asked, take_down, write_down};
@@ -94,6 +95,18 @@ impl<'i> Desk<'i> {
         })
     }
 
+    /// Takes the command of one row more of its session, and holds no world.
+    pub(crate) fn note(&mut self, command: Command) -> Result<(), AllocError>
+        requires { length self.old.commands < 8192 }
+        ensures ok { OnOk result (self.new ≡ opened self.old.session self.old.stories
+            self.old.budget (self.old.commands ++ command ∷ [])) }
+        ensures err { OnErr result (self.new ≡ emptied self.old) }
+    {
+        self.held = Held::Nothing;
+        self.commands.push(command)?;
+        Ok(())
+    }
+
     /// The budget of a turn, in ticks, with which the session is to be opened.
     pub fn budget(&self) -> u64
         ensures value { result ≡ self.now.budget }
@@ -155,6 +168,15 @@ impl<'i> Desk<'i> {
             → command_of self.old.stories request.now ≡ Some command
             → WhereBegun result (Stops D.tells D.moment D.left_since self.old.session command
             journal.old journal.new) }
+        ensures gate { (command : Command)
+            → command_of self.old.stories request.now ≡ Some command
+            → IfErr result (λ why.
+            LeavesGate self.old.session command journal.old journal.new why) }
+        ensures counts { OnOk result
+            (D.faults journal.new.disk ≡ D.faults journal.old.disk) }
+        ensures reach { D.reach journal.new.disk
+            ≤ max (D.reach journal.old.disk)
+            (length (spelled (rows_of journal.old.entries)) + 4110) }
     {
         let Ok(command) = asked(alloc, self.stories, request) else {
             return Err(Refused::NoMemory);

@@ -25,7 +25,7 @@ pub fn is_cold_alone()
 {}
 
 /// A desk that a request finds cold isn't cold once it was warmed; nor is one with the command of a
-/// fresh request, once that was run.
+/// fresh request, once that was run; nor one that gives a request its last show again.
 pub fn stays_warm()
     ensures { StaysWarm }
 {}

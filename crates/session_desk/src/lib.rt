@@ -1,23 +1,24 @@
-//! One session kept warm: it answers as one that is played from the start for each request.
+//! Sessions kept warm over one journal: each answers as one that is played from the start for each
+//! request.
 #![tactic(auto)]
 
 mod check;
 mod commit;
 mod desk;
+mod desks;
 mod held;
 mod laws;
 mod refused;
 mod rows;
+mod turn;
 mod verdict;
 mod wanted;
 
 pub use desk::Desk;
+pub use desks::Desks;
 pub use laws::{
     is_cold_alone, journals_fit, reads_in_range, refuses_alike, shows_again, shows_fresh,
     stays_warm,
 };
 pub use refused::Refused;
 pub use verdict::Verdict;
-
-#[cfg(test)]
-mod tests;

@@ -1,0 +1,157 @@
+//! A turn of one desk over a journal (own).
+
+ghost use Rattle.std.specs.Prelude.{◌≡◌, ◌≢◌, IfOk, IsTrue, Option, false};
+ghost use Rattle.disk_model.specs.Disk.{LeavesOnly};
+ghost use Rattle.gate_journal.specs.Log.{rows_of};
+ghost use Rattle.gate_journal.specs.declared.row.Row.{Row};
+ghost use Rattle.session_desk.specs.Commit.{IsInRange, IsKept};
+ghost use Rattle.session_core.specs.History.{last_of};
+ghost use Rattle.session_desk.specs.Desk.{game, is_cold, is_to_run, shown_to, warmed};
+ghost use Rattle.session_desk.specs.Laws.{answered};
+ghost use Rattle.session_desk.specs.Turn.{IsSameDesk, IsSameSession, MayLeave, TurnsBy};
+ghost use Rattle.session_desk.specs.Verdict.{verdict};
+ghost use Rattle.session_desk.specs.declared.verdict.Verdict.TheVariants.{Cold, Fresh};
+
+use crate::desk::Desk;
+use crate::laws::{refuses_alike, shows_again, shows_fresh, stays_warm};
+use crate::refused::Refused;
+use crate::verdict::Verdict;
+use disk_model::Disk;
+use gate_journal::{DiskFault, Journal};
+use line_words::{No, Reply, Request};
+use session_core::session_of;
+use std::alloc::{AllocError, Global};
+use std::marker::Brand;
+use std::sync::ledger::{Blank, Ledger};
+use story_run::Steps;
+use story_text::Bytes;
+
+/// Where nothing is written a stop leaves what it would have left before.
+pub fn rests<D: Disk>(journal: &Journal<D>)
+    ensures { IsTrue (D.tells journal.now.disk)
+        → (new : Option Row)
+        → LeavesOnly D.moment D.left_since journal.now.disk journal.now.disk
+        (MayLeave (rows_of journal.now.entries) journal.now.uncertain new) }
+{
+    // with the count comes what holds of every journal
+    let _count = journal.row_count();
+}
+
+/// The verdict on a request, for which a cold desk is made warm. The count of steps begins with
+/// this blank.
+fn prepare<L: Ledger>(
+    alloc: Global,
+    desk: &mut Desk<'_>,
+    request: &Request,
+    blank: Blank,
+) -> Result<Verdict, AllocError>
+    requires name { blank.name ≡ L.name }
+    requires parts { blank.parts ≡ L.parts }
+    requires one { L.parts ≡ 1 }
+    ensures value { IfOk result (λ said. said ≡ verdict desk.new request.now) }
+    ensures warm { IfOk result (λ said. said ≢ Cold) }
+    ensures kept { IsSameDesk desk.old desk.new }
+{
+    match desk.check(request) {
+        Verdict::Cold => {
+            stays_warm();
+            let mut steps = Steps::<L>::new(blank);
+            desk.warm(alloc, &mut steps)?;
+            Ok(desk.check(request))
+        }
+        said => Ok(said),
+    }
+}
+
+/// The desk's last show as the reply to the request.
+fn show(alloc: Global, desk: &Desk<'_>, request: &Request) -> Result<Reply, AllocError>
+    requires { is_cold desk.now ≡ false }
+    ensures { IfOk result (λ reply. reply ≡ shown_to desk.now request.now) }
+{
+    let last = desk.last().unwrap();
+    let body = Bytes::of(Vec::from_slice(alloc, last)?);
+    Ok(Reply::Show {
+        s: session_of(request),
+        n: desk.number(request),
+        body,
+    })
+}
+
+/// The reply to a request whose command was just committed: its turn is made, and then shown.
+fn run_and_show(
+    alloc: Global,
+    desk: &mut Desk<'_>,
+    request: &Request,
+) -> Result<Reply, AllocError>
+    requires runs { IsTrue (is_to_run desk.old.held (last_of (game desk.old))) }
+    requires warm { is_cold (warmed desk.old) ≡ false }
+    ensures value { IfOk result (λ reply. reply ≡ shown_to desk.old request.now) }
+    ensures kept { IsSameDesk desk.old desk.new }
+{
+    desk.run(alloc)?;
+    show(alloc, desk, request)
+}
+
+/// A fresh request: its command is committed, and then its turn is made and shown.
+fn accept<D: Disk>(
+    alloc: Global,
+    desk: &mut Desk<'_>,
+    journal: &mut Journal<D>,
+    request: &Request,
+) -> Reply
+    requires fresh { verdict desk.old request.now ≡ Fresh }
+    requires ranges { IsInRange request.now }
+    requires rows { IsKept desk.old journal.old }
+    ensures turn { TurnsBy D.tells D.room D.label D.faults D.reach D.moment D.left_since
+        (answered desk.old request.now) desk.old.session journal.old result journal.new }
+    ensures rows { IsKept desk.new journal.new }
+    ensures kept { IsSameSession desk.old desk.new }
+{
+    rests(journal);
+    shows_fresh();
+    stays_warm();
+    match desk.commit(alloc, 0, journal, request) {
+        Ok(()) => {}
+        Err(Refused::DiskFault(DiskFault { from, to })) => {
+            return Reply::No(No::DiskFault { from, to });
+        }
+        Err(Refused::NoMemory) => return Reply::No(No::NoMemory),
+    }
+    match run_and_show(alloc, desk, request) {
+        Ok(reply) => reply,
+        Err(_) => Reply::No(No::NoMemory),
+    }
+}
+
+/// The reply to a request: one turn of the desk's session. A cold desk is made warm where the
+/// answer needs its world; a command that is accepted is a row of the journal before it is shown.
+pub fn answer_at<D: Disk>(
+    alloc: Global,
+    desk: &mut Desk<'_>,
+    journal: &mut Journal<D>,
+    request: &Request,
+) -> Reply
+    requires ranges { IsInRange request.now }
+    requires rows { IsKept desk.old journal.old }
+    ensures turn { TurnsBy D.tells D.room D.label D.faults D.reach D.moment D.left_since
+        (answered desk.old request.now) desk.old.session journal.old result journal.new }
+    ensures rows { IsKept desk.new journal.new }
+    ensures kept { IsSameSession desk.old desk.new }
+{
+    rests(journal);
+    refuses_alike();
+    shows_again();
+    stays_warm();
+    let Ok(said) = prepare::<Brand>(alloc, desk, request, Blank::new(1)) else {
+        return Reply::No(No::NoMemory);
+    };
+    match said {
+        Verdict::Refuse(why) => Reply::No(why),
+        Verdict::Again => match show(alloc, desk, request) {
+            Ok(reply) => reply,
+            Err(_) => Reply::No(No::NoMemory),
+        },
+        Verdict::Fresh => accept(alloc, desk, journal, request),
+        Verdict::Cold => unreachable!(),
+    }
+}
