@@ -1,8 +1,8 @@
 -- One place more at which an image agrees, or doesn't.
-use Rattle.std.proofs.Common.{◌≡◌, ◌≢◌, inl, inr, ℕ, zero, suc, ◌<◌, Bool, true, false, List, refl, ap, sym, ◌∙◌, arith}
-use Rattle.std.specs.Prelude.{nat_eq, ◌&&◌, ◌||◌, slice_index}
+use Rattle.std.proofs.Common.{Bool, List, ap, arith, false, inl, inr, refl, suc, sym, true, zero, ℕ}
+use Rattle.std.proofs.Common.{◌<◌, ◌∙◌, ◌≡◌}
 use Rattle.std.proofs.lemmas.Bool.{cases_eq}
-use Rattle.std.proofs.lemmas.Bool.Decides.{nat_tests}
+use Rattle.std.specs.Prelude.{nat_eq, slice_index, ◌&&◌, ◌||◌}
 use Rattle.disk_model.specs.DiskState.{Ranges}
 use Rattle.host_world.specs.Disk.{agree, is_touched}
 
@@ -23,7 +23,9 @@ pub agree_off :
 agree_off zero m synced ranges c lt off = absurd (omega (arith, lt))
 agree_off (suc n) m synced ranges c lt off = elim (cases_eq m n) [
   | inl same ↦
-      ap (λ (k : ℕ). (is_touched k ranges || nat_eq (slice_index c k) (slice_index synced k)) && agree n synced ranges c) (sym same)
+      ap (λ (k : ℕ). (is_touched k ranges || nat_eq (slice_index c k)
+      (slice_index synced k)) && agree n synced ranges c) (sym same)
       ∙ ap (λ (b : Bool). b && agree n synced ranges c) off
-  | inr other ↦ and_off (is_touched n ranges || nat_eq (slice_index c n) (slice_index synced n)) (agree n synced ranges c) (agree_off n m synced ranges c (omega (arith, lt, other)) off)
+  | inr other ↦ and_off (is_touched n ranges || nat_eq (slice_index c n) (slice_index synced n))
+      (agree n synced ranges c) (agree_off n m synced ranges c (omega (arith, lt, other)) off)
 ]
