@@ -16,22 +16,27 @@ use Rattle.host_world.specs.Disk.{agree}
 use Rattle.host_world.specs.Events.{free}
 use Rattle.host_world.specs.Headline.{AreGiven}
 use Rattle.host_world.specs.Sessions.{found}
-use Rattle.gate_journal.specs.Rows.{commands_of, is_free, is_close, may_follow, EachNext, IsJournal, IsNext, MayStand}
+use Rattle.gate_journal.specs.Rows.{commands_of, is_free, is_close, may_follow, EachNext, IsJournal}
+use Rattle.gate_journal.specs.Rows.{IsNext, MayStand}
 use Rattle.gate_journal.specs.declared.command.Command.TheVariants as commands
 use Rattle.line_words.specs.declared.request.Request.{Request}
-use Rattle.line_words.specs.declared.request.Request.TheVariants.{Open, Line, Char, File, Last, Close}
+use Rattle.line_words.specs.declared.request.Request.TheVariants.{Open, Line, Char, File, Last}
+use Rattle.line_words.specs.declared.request.Request.TheVariants.{Close}
 use Rattle.line_words.specs.declared.reply.No.{No as Refusal}
 use Rattle.line_words.specs.declared.reply.No.TheVariants as no
 use Rattle.line_words.specs.Request.{request_of}
 use Rattle.line_words.specs.Spelling.{IsRequest}
 use Rattle.line_words.proofs.RequestLaws.{request_only}
-use Rattle.session_core.specs.History.{game_of, count, goes_on, has_key, is_in_use, is_open, story_at}
+use Rattle.session_core.specs.History.{game_of, count, goes_on, has_key, is_in_use, is_open}
+use Rattle.session_core.specs.History.{story_at}
 use Rattle.session_core.specs.Checks.{command_of, is_fresh, is_full, opened}
-use Rattle.session_core.specs.Answer.{answer, checks, decided, accepted_by, first_of, plain_checks, story_checks, refusal_of}
+use Rattle.session_core.specs.Answer.{answer, checks, decided, accepted_by, first_of, plain_checks}
+use Rattle.session_core.specs.Answer.{story_checks, refusal_of}
 use Rattle.session_core.specs.Sessions.{with_budget}
 use Rattle.session_core.specs.Turning.{commands_in, decided_by, decision_on}
 use Rattle.session_core.proofs.AnswerLemmas.{accepted_has_room}
-use Rattle.session_core.proofs.RepeatLemmas.{all_fail, chosen, joined, game_of-append, game_of-append-open, last_of-joined, some_is}
+use Rattle.session_core.proofs.RepeatLemmas.{all_fail, chosen, joined, game_of-append}
+use Rattle.session_core.proofs.RepeatLemmas.{game_of-append-open, last_of-joined, some_is}
 
 -- ---- a session is free by its rows exactly where its game is over
 

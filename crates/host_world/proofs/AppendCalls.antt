@@ -295,7 +295,8 @@ module _ (stories : List Story) (budget : ℕ) (premise : AreGiven stories budge
         (counted v.faults) v.rows v.uncertain Idle sound record {
           at = b.at;
           stays = stays_bad call reads v.disk allowed;
-          images = images_after stories budget v step fact sound.stays sound.images false reads call is;
+          images = images_after stories budget v step fact sound.stays sound.images false reads call
+              is;
           journal = sound.journal;
           follows = sound.next;
           now = tt;

@@ -90,7 +90,8 @@ module _ (stories : List Story) (budget : ℕ) (premise : AreGiven stories budge
         ∙ append-nil (commands_in x.history) in
         let next : IsNext w.rows (next_row w.rows s c) =
         row_follows stories budget premise w.rows s (commands_in x.history) t.line c
-        (omega (arith, slice_get_within w.sessions s x at, sound.sessions)) sound.journal same accepted in
+        (omega (arith, slice_get_within w.sessions s x at, sound.sessions)) sound.journal same
+        accepted in
         let fact : PhaseFact stories budget
         (history_of stories budget (first s) (past s)) x.history t Asked =
         subst (λ (p : Phase). PhaseFact stories budget

@@ -159,14 +159,16 @@ module _ (stories : List Story) (budget : ℕ) where
     pub hold_after : (s : ℕ) → Sound stories budget first past (after stories budget w (Hold s))
     hold_after s =
         phase_kept stories budget Good w s (λ o. hold w s o w.holder) sound
-        (λ x at t turn. hold_kept stories budget first past w sound s x at t turn t.phase refl w.holder refl)
+        (λ x at t turn. hold_kept stories budget first past w sound s x at t turn t.phase refl
+        w.holder refl)
 
     pub free_after : (s : ℕ) → Sound stories budget first past (after stories budget w (Free s))
     free_after s =
         if_kept stories budget Good (free w s (phase_of (slice_get w.sessions s))) w
         (holds w s) sound (λ mine.
         phase_kept stories budget Good w s (λ o. free w s o) sound
-        (λ x at t turn. free_kept stories budget first past w sound s x at t turn mine t.phase refl))
+        (λ x at t turn. free_kept stories budget first past w sound s x at t turn mine t.phase
+        refl))
 
     pub run_after : (s : ℕ) (good : Bool)
         → Sound stories budget first past (after stories budget w (Run s good))

@@ -284,10 +284,12 @@ module _ (stories : List Story) (budget : ℕ) (premise : AreGiven stories budge
           (stepped stories budget first past v
           (disk_after Sync true reads v.disk) v.faults v.uncertain AskSize sound
           (stays_after Sync reads v.disk sound.stays)
-          (images_after stories budget v FirstSync fact sound.stays sound.images true reads Sync refl) sound.next (fact, λ c image. only_settled v.disk.seen c image) (λ k z at f. f))
+          (images_after stories budget v FirstSync fact sound.stays sound.images true reads Sync
+          refl) sound.next (fact, λ c image. only_settled v.disk.seen c image) (λ k z at f. f))
       good_well AskSize fact =
           well (onward (record v { disk = disk_after Look true reads v.disk }) AskSize) refl
-          (stepped stories budget first past v v.disk v.faults v.uncertain ReadAll sound sound.stays sound.images sound.next fact (λ k z at f. f))
+          (stepped stories budget first past v v.disk v.faults v.uncertain ReadAll sound sound.stays
+          sound.images sound.next fact (λ k z at f. f))
       good_well ReadAll fact = looks_well fact.0 fact.1
       good_well (CloseWrite those) fact =
           let made = Write (length (spelled those)) (0 ∷ []) in
@@ -358,7 +360,8 @@ module _ (stories : List Story) (budget : ℕ) (premise : AreGiven stories budge
             faults =
                 counted v.faults;
           }) r n) refl
-          (broken_well stories budget premise first past v sound reads made step fact is allowed r n busy))
+          (broken_well stories budget premise first past v sound reads made step fact is allowed r n
+          busy))
 
       opening_fails : (made : DiskCall) (step : Step) → StepFact stories budget v step
           → next_call v.rows step ≡ Some made
@@ -384,7 +387,8 @@ module _ (stories : List Story) (budget : ℕ) (premise : AreGiven stories budge
           }) refl
           (stepped stories budget first past v (disk_after made false reads v.disk)
           (counted v.faults) v.uncertain Idle sound (stays_bad made reads v.disk allowed)
-          (images_after stories budget v step fact sound.stays sound.images false reads made is) sound.next tt (λ k z at f. f)))
+          (images_after stories budget v step fact sound.stays sound.images false reads made is)
+          sound.next tt (λ k z at f. f)))
 
       bad_well : (step : Step) → StepFact stories budget v step
           → CallsWell stories budget first past w

@@ -63,22 +63,40 @@ le_test m n le = grind (arith, nat_tests)
 pub command_told : (c : Command) → is_command c ≡ true → IsCommand c
 command_told (Open key story digest seed cols rows budget) is =
     let i = and_parts
-    (is_key key && nat_le story 65535 && length digest == 32 && nat_le seed 18446744073709551615 && nat_le 1 cols && nat_le cols 255 && nat_le 1 rows && nat_le rows 255 && nat_le 1 budget) (nat_le budget 1000000000000) is in
+    (is_key key && nat_le story 65535 && length digest == 32 && nat_le seed 18446744073709551615
+    && nat_le 1 cols && nat_le cols 255 && nat_le 1 rows && nat_le rows 255 && nat_le 1 budget)
+    (nat_le budget 1000000000000) is in
     let h = and_parts
-    (is_key key && nat_le story 65535 && length digest == 32 && nat_le seed 18446744073709551615 && nat_le 1 cols && nat_le cols 255 && nat_le 1 rows && nat_le rows 255) (nat_le 1 budget) i.0 in
+    (is_key key && nat_le story 65535 && length digest == 32 && nat_le seed 18446744073709551615
+    && nat_le 1 cols && nat_le cols 255 && nat_le 1 rows && nat_le rows 255)
+    (nat_le 1 budget) i.0 in
     let g = and_parts
-    (is_key key && nat_le story 65535 && length digest == 32 && nat_le seed 18446744073709551615 && nat_le 1 cols && nat_le cols 255 && nat_le 1 rows) (nat_le rows 255) h.0 in
+    (is_key key && nat_le story 65535 && length digest == 32 && nat_le seed 18446744073709551615
+    && nat_le 1 cols && nat_le cols 255 && nat_le 1 rows) (nat_le rows 255) h.0 in
     let f = and_parts
-    (is_key key && nat_le story 65535 && length digest == 32 && nat_le seed 18446744073709551615 && nat_le 1 cols && nat_le cols 255) (nat_le 1 rows) g.0 in
+    (is_key key && nat_le story 65535 && length digest == 32 && nat_le seed 18446744073709551615
+    && nat_le 1 cols && nat_le cols 255) (nat_le 1 rows) g.0 in
     let e = and_parts
-    (is_key key && nat_le story 65535 && length digest == 32 && nat_le seed 18446744073709551615 && nat_le 1 cols) (nat_le cols 255) f.0 in
+    (is_key key && nat_le story 65535 && length digest == 32 && nat_le seed 18446744073709551615
+    && nat_le 1 cols) (nat_le cols 255) f.0 in
     let d = and_parts
-    (is_key key && nat_le story 65535 && length digest == 32 && nat_le seed 18446744073709551615) (nat_le 1 cols) e.0 in
+    (is_key key && nat_le story 65535 && length digest == 32 && nat_le seed 18446744073709551615)
+    (nat_le 1 cols) e.0 in
     let c = and_parts (is_key key && nat_le story 65535 && length digest == 32)
     (nat_le seed 18446744073709551615) d.0 in
     let b = and_parts (is_key key && nat_le story 65535) (length digest == 32) c.0 in
-    let a = and_parts (is_key key) (nat_le story 65535) b.0 in
-    (a.0, le_of story 65535 a.1, thirty_two b.1, le_of seed 18446744073709551615 c.1, le_of 1 cols d.1, le_of cols 255 e.1, le_of 1 rows f.1, le_of rows 255 g.1, (le_of 1 budget h.1, le_of budget 1000000000000 i.1))
+    let a = and_parts (is_key key) (nat_le story 65535) b.0 in (
+      a.0,
+      le_of story 65535 a.1,
+      thirty_two b.1,
+      le_of seed 18446744073709551615 c.1,
+      le_of 1 cols
+          d.1,
+      le_of cols 255 e.1,
+      le_of 1 rows f.1,
+      le_of rows 255 g.1,
+      (le_of 1 budget h.1, le_of budget 1000000000000 i.1),
+    )
   where
     thirty_two : (length digest == 32) ≡ true → length digest ≡ 32
     thirty_two same = grind (arith, nat_tests)
@@ -95,17 +113,24 @@ command_told Close is = tt
 
 pub command_test : (c : Command) → IsCommand c → is_command c ≡ true
 command_test (Open key story digest seed cols rows budget) is =
-    and_from (is_key key && nat_le story 65535 && length digest == 32 && nat_le seed 18446744073709551615 && nat_le 1 cols && nat_le cols 255 && nat_le 1 rows && nat_le rows 255 && nat_le 1 budget) (nat_le budget 1000000000000)
+    and_from (is_key key && nat_le story 65535 && length digest == 32
+    && nat_le seed 18446744073709551615 && nat_le 1 cols && nat_le cols 255 && nat_le 1 rows
+    && nat_le rows 255 && nat_le 1 budget) (nat_le budget 1000000000000)
     (and_from
-    (is_key key && nat_le story 65535 && length digest == 32 && nat_le seed 18446744073709551615 && nat_le 1 cols && nat_le cols 255 && nat_le 1 rows && nat_le rows 255) (nat_le 1 budget)
+    (is_key key && nat_le story 65535 && length digest == 32 && nat_le seed 18446744073709551615
+    && nat_le 1 cols && nat_le cols 255 && nat_le 1 rows && nat_le rows 255) (nat_le 1 budget)
     (and_from
-    (is_key key && nat_le story 65535 && length digest == 32 && nat_le seed 18446744073709551615 && nat_le 1 cols && nat_le cols 255 && nat_le 1 rows) (nat_le rows 255)
+    (is_key key && nat_le story 65535 && length digest == 32 && nat_le seed 18446744073709551615
+    && nat_le 1 cols && nat_le cols 255 && nat_le 1 rows) (nat_le rows 255)
     (and_from
-    (is_key key && nat_le story 65535 && length digest == 32 && nat_le seed 18446744073709551615 && nat_le 1 cols && nat_le cols 255) (nat_le 1 rows)
+    (is_key key && nat_le story 65535 && length digest == 32 && nat_le seed 18446744073709551615
+    && nat_le 1 cols && nat_le cols 255) (nat_le 1 rows)
     (and_from
-    (is_key key && nat_le story 65535 && length digest == 32 && nat_le seed 18446744073709551615 && nat_le 1 cols) (nat_le cols 255)
+    (is_key key && nat_le story 65535 && length digest == 32 && nat_le seed 18446744073709551615
+    && nat_le 1 cols) (nat_le cols 255)
     (and_from
-    (is_key key && nat_le story 65535 && length digest == 32 && nat_le seed 18446744073709551615) (nat_le 1 cols)
+    (is_key key && nat_le story 65535 && length digest == 32 && nat_le seed 18446744073709551615)
+    (nat_le 1 cols)
     (and_from (is_key key && nat_le story 65535 && length digest == 32)
     (nat_le seed 18446744073709551615)
     (and_from (is_key key && nat_le story 65535) (length digest == 32)

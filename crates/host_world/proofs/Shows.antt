@@ -16,7 +16,8 @@ use Rattle.line_words.specs.Request.{request_of}
 use Rattle.session_core.specs.History.{game_of}
 use Rattle.session_core.specs.Answer.{answer, decided, extended, refusal_of, show_of}
 use Rattle.session_core.specs.Sessions.{with_budget}
-use Rattle.session_core.specs.Turning.{Turned, commands_in, decided_by, decision_on, turn_met, turn_of}
+use Rattle.session_core.specs.Turning.{Turned, commands_in, decided_by, decision_on, turn_met}
+use Rattle.session_core.specs.Turning.{turn_of}
 
 -- a decision's show is that of the commands with the accepted one
 abbrev IsSolo : List Story → List Command → Decision → Type 0

@@ -139,8 +139,12 @@ module _ (stories : List Story) (budget : ℕ) where
   pub down_rows : (s : ℕ) (rows : List Row) (u : Option Row) (x : Session) (up : Bool)
       → RowsFact stories budget s rows u x up
       → RowsFact stories budget s rows u (without_turn x) false
-  down_rows s rows u x true fact =
-      (refl, (pending stories budget x, pending_small x.history x.turn, fact.0), down_gate s rows u x fact.0 fact.1)
+  down_rows s rows u x true fact = (
+    refl,
+    (pending stories budget x, pending_small x.history x.turn, fact.0),
+    down_gate s rows u
+        x fact.0 fact.1,
+  )
   down_rows s rows u x false fact = (refl, fact.1, fact.2)
 
   module _ (first : ℕ → List Entry) (past : ℕ → List Happening) (w : HostState)

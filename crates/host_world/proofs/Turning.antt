@@ -83,7 +83,8 @@ module _ (stories : List Story) (budget : ℕ) where
             keeps = keeps;
             others = λ n other. (refl, refl);
             turn = reached_as next reached;
-            replies = ap (λ (l : List Given). replies_to s l) (append-nil w.given) ∙ knows_of.replies;
+            replies = ap (λ (l : List Given). replies_to s l) (append-nil w.given)
+                ∙ knows_of.replies;
             rows = ap (λ (l : List Command). commands_in x.history ++ l)
                 (same ∙ sym (pending_is phase is));
             none = λ none. same ∙ sym (pending_is phase is) ∙ none;
@@ -180,7 +181,8 @@ module _ (stories : List Story) (budget : ℕ) where
             keeps = λ n other held. absurd (some_none n (sym held ∙ nobody));
             others = λ n other. (refl, refl);
             turn = knows_of.turn;
-            replies = ap (λ (l : List Given). replies_to s l) (append-nil w.given) ∙ knows_of.replies;
+            replies = ap (λ (l : List Given). replies_to s l) (append-nil w.given)
+                ∙ knows_of.replies;
             rows = refl;
             none = λ none. none;
           }) sound)

@@ -2,7 +2,8 @@
 
 ghost use Rattle.std.specs.Prelude.{◌≡◌, Some, None, MatchOption, is_some, map};
 ghost use Rattle.std.specs.List.{slice_get};
-ghost use Rattle.host_world.specs.Sessions.{phase_in, phase_of, phase_set, answer_in, turn_ended, without_turn};
+ghost use Rattle.host_world.specs.Sessions.{phase_in, phase_of, phase_set, answer_in};
+ghost use Rattle.host_world.specs.Sessions.{turn_ended, without_turn};
 
 use crate::turn::{Phase, Session, Turn};
 use line_words::Reply;
