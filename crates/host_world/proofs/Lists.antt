@@ -9,12 +9,14 @@ some_same x y is = cc
 pub some_none : {A : Type 0} (x : A) → Some x ≡ None → ⊥
 some_none x is = cc
 
-pub get_here : {A : Type 0} (l : List A) (i : ℕ) (x y : A) → slice_get l i ≡ Some x → slice_get (set l i y) i ≡ Some y
+pub get_here : {A : Type 0} (l : List A) (i : ℕ) (x y : A) → slice_get l i ≡ Some x
+    → slice_get (set l i y) i ≡ Some y
 get_here [] i x y is = absurd (some_none x (sym is))
 get_here (a ∷ l) zero x y is = refl
 get_here (a ∷ l) (suc i) x y is = get_here l i x y is
 
-pub get_else : {A : Type 0} (l : List A) (i j : ℕ) (y : A) → j ≢ i → slice_get (set l i y) j ≡ slice_get l j
+pub get_else : {A : Type 0} (l : List A) (i j : ℕ) (y : A) → j ≢ i
+    → slice_get (set l i y) j ≡ slice_get l j
 get_else [] i j y apart = refl
 get_else (a ∷ l) zero zero y apart = absurd (apart refl)
 get_else (a ∷ l) zero (suc j) y apart = refl

@@ -1,9 +1,9 @@
 -- Hosts that there are, and what an opening makes of the least journal.
 use Rattle.std.proofs.Common.{List, None, Some, [], ap, arith, get_or, refl, subst, sym, true, ℕ}
 use Rattle.std.proofs.Common.{◌++◌, ◌∷◌, ◌≡◌}
+use Rattle.disk_model.proofs.StateLaws.{only_settled, settled_image}
 use Rattle.disk_model.specs.Disk.{Holds}
 use Rattle.disk_model.specs.DiskState.{IsImage, settled}
-use Rattle.disk_model.proofs.StateLaws.{only_settled, settled_image}
 use Rattle.gate_journal.specs.Gate.{IsShut}
 use Rattle.gate_journal.specs.Rows.{header, spelled}
 use Rattle.session_core.specs.Turning.{commands_in}
@@ -11,7 +11,7 @@ use Rattle.host_world.specs.Reading.{rows_in}
 use Rattle.host_world.specs.Starts.{IsOpened, down_over}
 use Rattle.host_world.specs.declared.state.HostState.{HostState}
 use Rattle.host_world.specs.declared.turn.Session.{Session}
-use Rattle.host_world.proofs.Openings.{found_at, nobody}
+use Rattle.host_world.proofs.Reopening.{found_at, nobody}
 
 -- the bytes of a journal without rows
 abbrev empty : List ℕ
@@ -22,10 +22,13 @@ abbrev new_host : HostState
 new_host = record (down_over empty [] None) { up = true }
 
 holds_itself : (l : List ℕ) → Holds l 0 l
-holds_itself l = record { within = omega arith; each = λ i lt. ap (λ (k : ℕ). get_or l k 0) (omega arith) }
+holds_itself l =
+    record { within = omega arith; each = λ i lt. ap (λ (k : ℕ). get_or l k 0) (omega arith) }
 
 empty_shut : (c : List ℕ) → IsImage (settled empty) c → IsShut (spelled []) c
-empty_shut c image = subst (λ (l : List ℕ). IsShut (spelled []) l) (sym (only_settled empty c image)) (holds_itself empty)
+empty_shut c image =
+    subst (λ (l : List ℕ). IsShut (spelled []) l) (sym (only_settled empty c image))
+    (holds_itself empty)
 
 -- so the headline is of hosts that there are
 new_host_is_opened : IsOpened new_host

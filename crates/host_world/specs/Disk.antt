@@ -35,14 +35,15 @@ is_touched i [] = false
 is_touched i (r ∷ ranges) = (nat_le r.0 i && nat_lt i r.1) || is_touched i ranges
 
 -- below this place, the bytes are the synced ones outside the ranges
-abbrev pub agree : ℕ → DiskState → List ℕ → Bool
-agree zero p c = true
-agree (suc n) p c =
-    (is_touched n p.ranges || nat_eq (slice_index c n) (slice_index p.synced n)) && agree n p c
+abbrev pub agree : ℕ → List ℕ → Ranges → List ℕ → Bool
+agree zero synced ranges c = true
+agree (suc n) synced ranges c =
+    (is_touched n ranges || nat_eq (slice_index c n) (slice_index synced n))
+    && agree n synced ranges c
 
 -- the test of an image that a stop may leave
 abbrev pub is_image : DiskState → List ℕ → Bool
 is_image p c =
     nat_le (length p.synced) (length c)
     && nat_le (length c) (greatest_end p.ranges (length p.synced))
-    && agree (length p.synced) p c
+    && agree (length p.synced) p.synced p.ranges c

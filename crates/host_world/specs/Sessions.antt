@@ -55,6 +55,12 @@ asking x pass line decision =
       });
     }
 
+-- the sessions, where one has this turn
+abbrev pub turn_begun : List Session → ℕ → Turn → Option Session → List Session
+turn_begun sessions s turn None = sessions
+turn_begun sessions s turn (Some x) =
+    set sessions s (record { history = x.history; turn = Some turn })
+
 -- its history has taken the entry of its turn
 abbrev pub taking : Turn → Outcome → Turned → Session
 taking t outcome turned =

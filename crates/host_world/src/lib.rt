@@ -1,6 +1,7 @@
 //! Every order of events of a host, as plain data.
 #![tactic(auto)]
 
+mod deciding;
 mod disk;
 mod event;
 mod items;

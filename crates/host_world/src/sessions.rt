@@ -1,8 +1,9 @@
 //! The sessions of a host (own).
 
-ghost use Rattle.std.specs.Prelude.{◌≡◌, Some, None, MatchOption, is_some};
+ghost use Rattle.std.specs.Prelude.{◌≡◌, Some, None, MatchOption, is_some, map};
 ghost use Rattle.std.specs.List.{slice_get};
-ghost use Rattle.host_world.specs.Sessions.{phase_in, phase_of, phase_set, answer_in, turn_ended};
+ghost use Rattle.host_world.specs.Sessions.{phase_in, phase_of, phase_set, answer_in};
+ghost use Rattle.host_world.specs.Sessions.{turn_ended, without_turn};
 
 use crate::turn::{Phase, Session, Turn};
 use line_words::Reply;
@@ -70,5 +71,14 @@ pub fn end_turn(sessions: &mut Vec<Session>, s: u8) -> Option<Reply>
     match sessions.get_mut(s as usize) {
         None => None,
         Some(session) => answer_in(session.turn.take()),
+    }
+}
+
+/// No turn stands.
+pub fn end_turns(sessions: &mut Vec<Session>)
+    ensures { sessions.new.items ≡ map without_turn sessions.old.items }
+{
+    for at in 0..sessions.len() {
+        sessions[at].turn = None;
     }
 }

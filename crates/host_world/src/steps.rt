@@ -5,12 +5,14 @@ ghost use Rattle.story_run.specs.declared.story.Story.{Story};
 ghost use Rattle.host_world.specs.Events.{after, held_by};
 ghost use Rattle.host_world.specs.declared.event.Event.TheVariants as Event;
 
-use crate::sessions::{end_turn, has_answer, phase_of, set_phase};
+use crate::disk::PlainDisk;
+use crate::event::Images;
+use crate::sessions::{end_turn, end_turns, has_answer, phase_of, set_phase};
 use crate::state::{Given, HostState, Step};
 use crate::turn::Phase;
 use line_words::{No, Reply};
 use session_core::Outcome;
-use std::alloc::AllocError;
+use std::alloc::{AllocError, Global};
 
 fn holds(holder: Option<u8>, s: u8) -> bool
     ensures { result ≡ held_by holder s }
@@ -109,6 +111,27 @@ impl HostState {
         if let Some(reply) = end_turn(&mut self.sessions.list, s) {
             let _ = self.given.list.push(Given { session: s, reply });
         }
+        Ok(())
+    }
+
+    /// The host stops, and its disk holds the image, where a stop may leave it. Where memory runs
+    /// out nothing has changed.
+    pub fn stop(&mut self, alloc: Global, images: &Images) -> Result<(), AllocError>
+        ensures ok { OnOk result ((stories : List Story) (budget : ℕ)
+            → self.new ≡ after stories budget self.old (Event.Stop images.now)) }
+        ensures err { OnErr result (self.new ≡ self.old) }
+    {
+        let [image] = images.as_slice() else {
+            return Ok(());
+        };
+        if !self.disk.is_image(image.as_slice()) {
+            return Ok(());
+        }
+        self.disk = PlainDisk::settled(alloc, image.as_slice())?;
+        end_turns(&mut self.sessions.list);
+        self.up = false;
+        self.holder = None;
+        self.step = Step::Idle;
         Ok(())
     }
 

@@ -1,0 +1,310 @@
+-- The device calls of an append.
+use Rattle.std.proofs.Common.{List, None, Option, Some, [], ap, arith, false, length, refl, set}
+use Rattle.std.proofs.Common.{subst, sym, true, ℕ, ◌++◌, ◌+◌, ◌∙◌, ◌∷◌, ◌≡◌}
+use Rattle.std.proofs.lemmas.Bool.Decides.{nat_tests}
+use Rattle.std.proofs.lemmas.List.{append-nil}
+use Rattle.std.specs.List.{slice_get}
+use Rattle.disk_model.proofs.StateLaws.{only_settled, seen_write}
+use Rattle.disk_model.specs.Disk.{Holds, written}
+use Rattle.disk_model.specs.DiskState.{DiskState, IsImage, settled}
+use Rattle.gate_journal.proofs.RowLemmas.{journal_push}
+use Rattle.gate_journal.proofs.Sound.{opened_shut}
+use Rattle.gate_journal.proofs.Steps.{shut_written, unsure_opened, unsure_written}
+use Rattle.gate_journal.specs.Gate.{IsShut, IsUnsure}
+use Rattle.gate_journal.specs.Log.{StandsAt}
+use Rattle.gate_journal.specs.Rows.{commands_of, spelled}
+use Rattle.gate_journal.specs.declared.command.Command.{Command}
+use Rattle.gate_journal.specs.declared.row.Row.{Row}
+use Rattle.line_words.specs.Spelling.{session}
+use Rattle.story_run.specs.declared.story.Story.{Story}
+use Rattle.session_core.specs.Turning.{commands_in, decision_on}
+use Rattle.session_core.specs.declared.entry.Entry.{Entry}
+use Rattle.host_world.specs.Disk.{counted, disk_after, is_image, may_work}
+use Rattle.host_world.specs.Happenings.{Happening, history_of}
+use Rattle.host_world.specs.Headline.{AreGiven}
+use Rattle.host_world.specs.Journal.{broken, next_call, onward, past_gate}
+use Rattle.host_world.specs.Pending.{listed, pending, pending_at, pending_of}
+use Rattle.host_world.specs.Sessions.{in_phase, phase_set, turn_set}
+use Rattle.host_world.specs.declared.disk.DiskCall.{DiskCall}
+use Rattle.host_world.specs.declared.disk.DiskCall.TheVariants.{Sync, Write}
+use Rattle.host_world.specs.declared.state.HostState.{HostState}
+use Rattle.host_world.specs.declared.state.Step.{Step}
+use Rattle.host_world.specs.declared.state.Step.TheVariants.{GateSync, GateWrite, Idle, RepairSync}
+use Rattle.host_world.specs.declared.state.Step.TheVariants.{RepairWrite, RowSync, RowWrite}
+use Rattle.host_world.specs.declared.turn.Phase.{Phase}
+use Rattle.host_world.specs.declared.turn.Phase.TheVariants.{Begun, Broken, Kept}
+use Rattle.host_world.specs.declared.turn.Session.{Session}
+use Rattle.host_world.specs.declared.turn.Turn.{Turn}
+use Rattle.host_world.proofs.Appends.{nothing_pending, rows_up, rows_with}
+use Rattle.host_world.proofs.ImageLemmas.{images_after, stays_after, stays_bad}
+use Rattle.host_world.proofs.Lists.{some_same}
+use Rattle.host_world.proofs.Rephasing.{rephased, stepped}
+use Rattle.host_world.proofs.RowsOf.{rows-here, rows-other}
+use Rattle.host_world.proofs.Sound.{Busy, PhaseFact, RowsFact, Sound, StepFact, TurnFact}
+
+module _ (stories : List Story) (budget : ℕ) (premise : AreGiven stories budget) where
+  -- the calls of an append
+  module _ (first : ℕ → List Entry) (past : ℕ → List Happening) (v : HostState)
+      (sound : Sound stories budget first past v) (reads : List ℕ) where
+    abbrev reading_after : DiskCall → DiskState
+    reading_after call = disk_after call true reads v.disk
+
+    pub seen_is : (at : ℕ) (piece : List ℕ) → may_work (Write at piece) ≡ true
+        → (disk_after (Write at piece) true reads v.disk).seen ≡ written v.disk.seen at piece
+    seen_is at piece fits = seen_write at piece v.disk (grind (arith, nat_tests))
+
+    set_phase_is : (r : Row) (b : Busy stories budget v r) (phase : Phase)
+        → phase_set v.sessions r.session phase (slice_get v.sessions r.session)
+        ≡ set v.sessions r.session (in_phase b.asker b.turn phase)
+    set_phase_is r b phase =
+        ap (λ (o : Option Session). phase_set v.sessions r.session phase o) b.at
+        ∙ ap (λ (o : Option Turn). turn_set v.sessions r.session phase b.asker o) b.stands
+
+    busy_pending : (r : Row) (b : Busy stories budget v r) → pending stories budget b.asker ≡ []
+    busy_pending r b =
+        ap (λ (o : Option Turn). pending_of stories budget b.asker.history o) b.stands
+        ∙ ap (λ (p : Phase). pending_at stories budget
+        (commands_in b.asker.history) b.turn.line p) b.started
+
+    busy_rows : (r : Row) (b : Busy stories budget v r)
+        → commands_of v.rows r.session ≡ commands_in b.asker.history
+    busy_rows r b =
+        rows_up stories budget premise r.session v.rows v.uncertain b.asker v.up b.up
+        (sound.each r.session b.asker b.at).rows
+        ∙ ap (λ (l : List Command). commands_in b.asker.history ++ l) (busy_pending r b)
+        ∙ append-nil (commands_in b.asker.history)
+
+    busy_fact : (r : Row) (b : Busy stories budget v r)
+        → PhaseFact stories budget (history_of stories budget (first r.session)
+        (past r.session)) b.asker.history b.turn Begun
+    busy_fact r b =
+        subst (λ (p : Phase). PhaseFact stories budget
+        (history_of stories budget (first r.session)
+        (past r.session)) b.asker.history b.turn p) b.started
+        (subst (λ (o : Option Turn). TurnFact stories budget
+        (history_of stories budget (first r.session)
+        (past r.session)) b.asker.history o) b.stands (sound.each r.session b.asker b.at).turn)
+
+    busy_on : (r : Row) (p : DiskState) (n : ℕ) (u : Option Row) (step : Step)
+        → Busy stories budget v r → Busy stories budget
+        (record v { disk = p; faults = n; uncertain = u; step = step }) r
+    busy_on r p n u step b =
+        record {
+          up = b.up;
+          next = b.next;
+          held = b.held;
+          asker = b.asker;
+          turn = b.turn;
+          at =
+              b.at;
+          stands = b.stands;
+          started = b.started;
+          accepted = b.accepted;
+        }
+
+    -- the gate is certain again
+    no_gate : (k : ℕ) (z : Session) (r : Row) → Busy stories budget v r
+        → RowsFact stories budget k v.rows v.uncertain z v.up
+        → RowsFact stories budget k v.rows None z v.up
+    no_gate k z r b f =
+        rows_with stories budget premise k v.rows None z v.up b.up
+        (rows_up stories budget premise k v.rows v.uncertain z v.up b.up f) tt
+
+    -- or the row's
+    its_gate : (k : ℕ) (z : Session) (r : Row) → Busy stories budget v r
+        → slice_get v.sessions k ≡ Some z → RowsFact stories budget k v.rows v.uncertain z v.up
+        → RowsFact stories budget k v.rows (Some r) z v.up
+    its_gate k z r b at f =
+        rows_with stories budget premise k v.rows (Some r) z v.up b.up
+        (rows_up stories budget premise k v.rows v.uncertain z v.up b.up f) (λ is.
+        ap (λ (x : Session). pending stories budget x)
+        (sym (some_same b.asker z (sym b.at ∙ ap (λ (i : ℕ). slice_get v.sessions i) is ∙ at)))
+        ∙ busy_pending r b)
+
+    only : (P : List ℕ → Type 0) → P v.disk.seen → (c : List ℕ) → IsImage (settled v.disk.seen) c
+        → P c
+    only P here c image = subst P (sym (only_settled v.disk.seen c image)) here
+
+    abbrev after_call : DiskCall → HostState
+    after_call call = record v { disk = disk_after call true reads v.disk }
+
+    pub shuts_good : (r : Row) (n : ℕ) → may_work (Write (length (spelled v.rows)) (0 ∷ [])) ≡ true
+        → StepFact stories budget v (RepairWrite r n)
+        → Sound stories budget first past
+        (onward (record v {
+          disk =
+              disk_after (Write (length (spelled v.rows)) (0 ∷ [])) true reads v.disk;
+        })
+        (RepairWrite r n))
+    shuts_good r n fits fact =
+        let call = Write (length (spelled v.rows)) (0 ∷ []) in
+        let old : IsUnsure (spelled v.rows) (past_gate fact.1.0) v.disk.seen =
+        subst (λ (o : Option Row). StandsAt v.rows o v.disk.seen) fact.1.1
+        (sound.images v.disk.seen sound.stays) in
+        stepped stories budget first past v (reading_after call) v.faults v.uncertain
+        (RepairSync r n) sound (stays_after call reads v.disk sound.stays)
+        (images_after stories budget v
+        (RepairWrite r n) fact sound.stays sound.images true reads call refl) sound.next (
+          busy_on r (reading_after call) v.faults v.uncertain (RepairSync r n) fact.0,
+          subst
+              (λ (l : List ℕ). IsShut (spelled v.rows) l)
+              (sym (seen_is (length (spelled v.rows)) (0 ∷ []) fits))
+              (unsure_written (spelled v.rows) (past_gate fact.1.0) v.disk.seen
+              (length (spelled v.rows)) refl old),
+        )
+        (λ k z at f. f)
+
+    pub shut_syncs_good : (r : Row) (n : ℕ) → StepFact stories budget v (RepairSync r n)
+        → Sound stories budget first past
+        (onward (record v { disk = disk_after Sync true reads v.disk }) (RepairSync r n))
+    shut_syncs_good r n fact =
+        stepped stories budget first past v (reading_after Sync) v.faults None (RowWrite r n) sound
+        (stays_after Sync reads v.disk sound.stays)
+        (only (λ (c : List ℕ). IsShut (spelled v.rows) c) fact.1) tt
+        (busy_on r (reading_after Sync) v.faults None (RowWrite r n) fact.0, refl)
+        (λ k z at f. no_gate k z r fact.0 f)
+
+    pub writes_good : (r : Row) (n : ℕ) → may_work
+        (Write (length (spelled v.rows) + 1) (past_gate r)) ≡ true
+        → StepFact stories budget v (RowWrite r n)
+        → Sound stories budget first past
+        (onward (record v {
+          disk =
+              disk_after (Write (length (spelled v.rows) + 1) (past_gate r)) true reads v.disk;
+        })
+        (RowWrite r n))
+    writes_good r n fits fact =
+        let call = Write (length (spelled v.rows) + 1) (past_gate r) in
+        let old : IsShut (spelled v.rows) v.disk.seen =
+        subst (λ (o : Option Row). StandsAt v.rows o v.disk.seen) fact.1
+        (sound.images v.disk.seen sound.stays) in
+        stepped stories budget first past v (reading_after call) v.faults v.uncertain
+        (RowSync r n) sound (stays_after call reads v.disk sound.stays)
+        (images_after stories budget v
+        (RowWrite r n) fact sound.stays sound.images true reads call refl) sound.next (
+          busy_on r (reading_after call) v.faults v.uncertain (RowSync r n) fact.0,
+          fact.1,
+          subst
+              (λ (l : List ℕ). IsUnsure (spelled v.rows) (past_gate r) l)
+              (sym (seen_is (length (spelled v.rows) + 1) (past_gate r) fits))
+              (shut_written (spelled v.rows) (past_gate r) v.disk.seen
+              (length (spelled v.rows) + 1) refl old),
+        )
+        (λ k z at f. f)
+
+    pub write_syncs_good : (r : Row) (n : ℕ) → StepFact stories budget v (RowSync r n)
+        → Sound stories budget first past
+        (onward (record v { disk = disk_after Sync true reads v.disk }) (RowSync r n))
+    write_syncs_good r n fact =
+        stepped stories budget first past v (reading_after Sync) v.faults (Some r)
+        (GateWrite r n) sound (stays_after Sync reads v.disk sound.stays)
+        (only (λ (c : List ℕ). IsUnsure (spelled v.rows) (past_gate r) c) fact.2) fact.0.next
+        (busy_on r (reading_after Sync) v.faults (Some r) (GateWrite r n) fact.0, refl)
+        (λ k z at f. its_gate k z r fact.0 at f)
+
+    pub opens_good : (r : Row) (n : ℕ) → may_work (Write (length (spelled v.rows)) (1 ∷ [])) ≡ true
+        → StepFact stories budget v (GateWrite r n)
+        → Sound stories budget first past
+        (onward (record v {
+          disk =
+              disk_after (Write (length (spelled v.rows)) (1 ∷ [])) true reads v.disk;
+        }) (GateWrite r n))
+    opens_good r n fits fact =
+        let call = Write (length (spelled v.rows)) (1 ∷ []) in
+        let old : IsUnsure (spelled v.rows) (past_gate r) v.disk.seen =
+        subst (λ (o : Option Row). StandsAt v.rows o v.disk.seen) fact.1
+        (sound.images v.disk.seen sound.stays) in
+        stepped stories budget first past v (reading_after call) v.faults v.uncertain
+        (GateSync r n) sound (stays_after call reads v.disk sound.stays)
+        (images_after stories budget v
+        (GateWrite r n) fact sound.stays sound.images true reads call refl) sound.next (
+          busy_on r (reading_after call) v.faults v.uncertain (GateSync r n) fact.0,
+          fact.1,
+          opened_shut v.rows r (past_gate r) (disk_after call true reads v.disk).seen refl
+              (subst (λ (l : List ℕ). Holds l 0 (spelled v.rows ++ 1 ∷ past_gate r))
+              (sym (seen_is (length (spelled v.rows)) (1 ∷ []) fits))
+              (unsure_opened (spelled v.rows) (past_gate r) v.disk.seen
+              (length (spelled v.rows)) refl old)),
+        )
+        (λ k z at f. f)
+
+    pub open_syncs_good : (r : Row) (n : ℕ) → StepFact stories budget v (GateSync r n)
+        → Sound stories budget first past
+        (onward (record v { disk = disk_after Sync true reads v.disk }) (GateSync r n))
+    open_syncs_good r n fact =
+        let b = fact.0 in
+        let x = b.asker in
+        let t = b.turn in
+        let here : commands_of (v.rows ++ r ∷ []) r.session
+        ≡ commands_in x.history ++ listed
+        (decision_on stories budget (commands_in x.history) t.line).accepted =
+        rows-here r.session v.rows r refl
+        ∙ ap (λ (l : List Command). l ++ r.command ∷ []) (busy_rows r b)
+        ∙ ap (λ (o : Option Command). commands_in x.history ++ listed o) (sym b.accepted) in
+        subst (λ (l : List Session). Sound stories budget first past
+        (record v {
+          sessions = l;
+          disk = disk_after Sync true reads v.disk;
+          rows =
+              v.rows ++ r ∷ [];
+          uncertain = None;
+          step = Idle;
+        })) (sym (set_phase_is r b Kept))
+        (rephased stories budget first past v r.session x t Kept (reading_after Sync) v.faults
+        (v.rows ++ r ∷ []) None Idle sound record {
+          at = b.at;
+          stays = stays_after Sync reads v.disk sound.stays;
+          images = only (λ (c : List ℕ). IsShut (spelled (v.rows ++ r ∷ [])) c) fact.2;
+          journal = journal_push v.rows r sound.journal b.next;
+          follows = tt;
+          now = tt;
+          fact = busy_fact r b;
+          here = rows_with stories budget premise r.session (v.rows ++ r ∷ []) None
+              (in_phase x t Kept) v.up b.up here tt;
+          elsewhere =
+              λ m z other f. rows_with stories budget premise m (v.rows ++ r ∷ []) None z v.up b.up
+              (rows-other m v.rows r (λ is. other (sym is))
+              ∙ rows_up stories budget premise m v.rows v.uncertain z v.up b.up f) tt;
+        })
+
+    -- a call that fails
+    pub broken_well : (call : DiskCall) (step : Step) → StepFact stories budget v step
+        → next_call v.rows step ≡ Some call
+        → is_image (disk_after call false reads v.disk) reads ≡ true → (r : Row) (n : ℕ)
+        → Busy stories budget v r
+        → Sound stories budget first past
+        (broken (record v {
+          disk = disk_after call false reads v.disk;
+          faults =
+              counted v.faults;
+        }) r n)
+    broken_well call step fact is allowed r n b =
+        let x = b.asker in
+        let t = b.turn in
+        let phase = Broken n (counted v.faults) in
+        subst (λ (l : List Session). Sound stories budget first past
+        (record v {
+          sessions = l;
+          disk = disk_after call false reads v.disk;
+          faults =
+              counted v.faults;
+          step = Idle;
+        })) (sym (set_phase_is r b (Broken n (counted v.faults))))
+        (rephased stories budget first past v r.session x t (Broken n (counted v.faults))
+        (disk_after call false reads v.disk)
+        (counted v.faults) v.rows v.uncertain Idle sound record {
+          at = b.at;
+          stays = stays_bad call reads v.disk allowed;
+          images = images_after stories budget v step fact sound.stays sound.images false reads call
+              is;
+          journal = sound.journal;
+          follows = sound.next;
+          now = tt;
+          fact = busy_fact r b;
+          here = rows_with stories budget premise r.session v.rows v.uncertain
+              (in_phase x t (Broken n (counted v.faults))) v.up b.up
+              (busy_rows r b ∙ sym (append-nil (commands_in x.history)))
+              (nothing_pending stories budget premise v.uncertain r.session
+              (in_phase x t (Broken n (counted v.faults))) refl);
+          elsewhere = λ m z other f. f;
+        })

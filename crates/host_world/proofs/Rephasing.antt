@@ -1,0 +1,194 @@
+-- The phase of one turn changes, and the journal.
+use Rattle.std.proofs.Common.{Bool, List, Option, Some, ap, false, inl, inr, length-set, refl, set}
+use Rattle.std.proofs.Common.{subst, sym, true, ℕ, ◌∙◌, ◌≡◌, ◌≢◌}
+use Rattle.std.proofs.lemmas.Bool.{cases_eq}
+use Rattle.std.specs.List.{slice_get}
+use Rattle.std.specs.Prelude.{IfSome}
+use Rattle.disk_model.specs.DiskState.{DiskState, IsImage}
+use Rattle.gate_journal.specs.Log.{StandsAt}
+use Rattle.gate_journal.specs.Rows.{IsJournal, IsNext}
+use Rattle.gate_journal.specs.declared.row.Row.{Row}
+use Rattle.story_run.specs.declared.story.Story.{Story}
+use Rattle.session_core.specs.declared.entry.Entry.{Entry}
+use Rattle.host_world.specs.Happenings.{Happening, history_of}
+use Rattle.host_world.specs.Sessions.{in_phase}
+use Rattle.host_world.specs.declared.state.HostState.{HostState}
+use Rattle.host_world.specs.declared.state.Step.{Step}
+use Rattle.host_world.specs.declared.turn.Phase.{Phase}
+use Rattle.host_world.specs.declared.turn.Phase.TheVariants.{Asked, Begun, Broken, Freed, Kept}
+use Rattle.host_world.specs.declared.turn.Phase.TheVariants.{Plain, Ready, Taken}
+use Rattle.host_world.specs.declared.turn.Session.{Session}
+use Rattle.host_world.specs.declared.turn.Turn.{Turn}
+use Rattle.host_world.proofs.Lists.{get_else, get_here, some_none, some_same}
+use Rattle.host_world.proofs.Sound.{Knows, PhaseFact, RowsFact, Sound, StepFact}
+
+module _ (stories : List Story) (budget : ℕ) where
+  pub up_of : (s : ℕ) (rows : List Row) (u : Option Row) (x : Session) (t : Turn) (up : Bool)
+      → RowsFact stories budget s rows u x up → x.turn ≡ Some t → up ≡ true
+  up_of s rows u x t true fact is = refl
+  up_of s rows u x t false fact is = absurd (some_none t (sym is ∙ fact.0))
+
+  pub reached : (before h : List Entry) (t : Turn) (next p : Phase)
+      → PhaseFact stories budget before h t p
+      → PhaseFact stories budget before h (record t { phase = next }) p
+  reached before h t next Asked f = f
+  reached before h t next Begun f = f
+  reached before h t next Kept f = f
+  reached before h t next (Broken from to) f = f
+  reached before h t next Freed f = f
+  reached before h t next (Ready outcome) f = f
+  reached before h t next (Taken outcome reply) f = f
+  reached before h t next (Plain outcome reply) f = f
+
+  -- the phase of one turn changes, and the journal
+  pub record Rephasing (first : ℕ → List Entry) (past : ℕ → List Happening) (v : HostState) (s : ℕ)
+      (x : Session) (t : Turn) (next : Phase) (p : DiskState) (n : ℕ) (rows : List Row)
+      (u : Option Row) (step : Step) : Type 0 where
+    pub at : slice_get v.sessions s ≡ Some x
+    pub stays : IsImage p p.seen
+    pub images : (c : List ℕ) → IsImage p c → StandsAt rows u c
+    pub journal : IsJournal rows
+    pub follows : IfSome u (IsNext rows)
+    pub now : StepFact stories budget (record v {
+      sessions = set v.sessions s (in_phase x t next);
+      disk = p;
+      faults = n;
+      rows =
+          rows;
+      uncertain = u;
+      step = step;
+    }) step
+    pub fact : PhaseFact stories budget (history_of stories budget (first s)
+        (past s)) x.history t next
+    pub here : RowsFact stories budget s rows u (in_phase x t next) v.up
+    pub elsewhere : (m : ℕ) (z : Session) → m ≢ s
+        → RowsFact stories budget m v.rows v.uncertain z v.up
+        → RowsFact stories budget m rows u z v.up
+
+  pub rephased : (first : ℕ → List Entry) (past : ℕ → List Happening) (v : HostState) (s : ℕ)
+      (x : Session) (t : Turn) (next : Phase) (p : DiskState) (n : ℕ) (rows : List Row)
+      (u : Option Row) (step : Step) → Sound stories budget first past v
+      → Rephasing first past v s x t next p n rows u step
+      → Sound stories budget first past
+      (record v {
+        sessions = set v.sessions s (in_phase x t next);
+        disk = p;
+        faults = n;
+        rows =
+            rows;
+        uncertain = u;
+        step = step;
+      })
+  rephased first past v s x t next p n rows u step sound m = record {
+    stays = m.stays;
+    images = m.images;
+    journal = m.journal;
+    next = m.follows;
+    sessions = length-set v.sessions s (in_phase x t next) ∙ sound.sessions;
+    step = m.now;
+    each = each;
+  }
+    where
+      new : HostState
+      new = record v {
+        sessions = set v.sessions s (in_phase x t next);
+        disk = p;
+        faults = n;
+        rows =
+            rows;
+        uncertain = u;
+        step = step;
+      }
+
+      each : (k : ℕ) (z : Session) → slice_get (set v.sessions s (in_phase x t next)) k ≡ Some z
+          → Knows stories budget (first k) (past k)
+          (record v {
+            sessions = set v.sessions s (in_phase x t next);
+            disk = p;
+            faults = n;
+            rows =
+                rows;
+            uncertain = u;
+            step = step;
+          }) k z
+      each k z at = elim (cases_eq k s) [
+        | inl same ↦
+            let is : in_phase x t next ≡ z =
+            some_same (in_phase x t next) z
+            (sym (get_here v.sessions s x (in_phase x t next) m.at)
+            ∙ ap (λ (i : ℕ). slice_get (set v.sessions s (in_phase x t next)) i) (sym same)
+            ∙ at) in
+            let it : Knows stories budget (first s) (past s)
+            (record v {
+              sessions = set v.sessions s (in_phase x t next);
+              disk = p;
+              faults =
+                  n;
+              rows = rows;
+              uncertain = u;
+              step = step;
+            }) s (in_phase x t next) =
+            record {
+              turn =
+                  reached (history_of stories budget (first s)
+                  (past s)) x.history t next next m.fact;
+              replies =
+                  (sound.each s x m.at).replies;
+              rows = m.here;
+            } in
+            subst (λ (q : Session). Knows stories budget (first k) (past k)
+            (record v {
+              sessions = set v.sessions s (in_phase x t next);
+              disk = p;
+              faults =
+                  n;
+              rows = rows;
+              uncertain = u;
+              step = step;
+            }) k q) is
+            (subst (λ (i : ℕ). Knows stories budget (first i) (past i)
+            (record v {
+              sessions = set v.sessions s (in_phase x t next);
+              disk = p;
+              faults =
+                  n;
+              rows = rows;
+              uncertain = u;
+              step = step;
+            }) i (in_phase x t next)) (sym same) it)
+        | inr other ↦
+            let known =
+            sound.each k z (sym (get_else v.sessions s k (in_phase x t next) other) ∙ at) in
+            record {
+              turn = known.turn;
+              replies = known.replies;
+              rows =
+                  m.elsewhere k z other known.rows;
+            }
+      ]
+
+  -- no turn changes, but the journal
+  pub stepped : (first : ℕ → List Entry) (past : ℕ → List Happening) (v : HostState) (p : DiskState)
+      (n : ℕ) (u : Option Row) (step : Step) → Sound stories budget first past v → IsImage p p.seen
+      → ((c : List ℕ) → IsImage p c → StandsAt v.rows u c) → IfSome u (IsNext v.rows)
+      → StepFact stories budget (record v { disk = p; faults = n; uncertain = u; step = step }) step
+      → ((k : ℕ) (z : Session) → slice_get v.sessions k ≡ Some z
+      → RowsFact stories budget k v.rows v.uncertain z v.up
+      → RowsFact stories budget k v.rows u z v.up)
+      → Sound stories budget first past (record v
+      { disk = p; faults = n; uncertain = u; step = step })
+  stepped first past v p n u step sound stays images next now rows = record {
+    stays = stays;
+    images = images;
+    journal = sound.journal;
+    next = next;
+    sessions = sound.sessions;
+    step = now;
+    each = λ k z at. let known =
+        sound.each k z at in record {
+          turn = known.turn;
+          replies = known.replies;
+          rows =
+              rows k z at known.rows;
+        };
+  }
