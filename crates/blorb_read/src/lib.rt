@@ -3,8 +3,8 @@
 
 mod container;
 mod fault;
-#[cfg(test)]
-mod tests;
+mod laws;
 
 pub use container::{Span, find_story};
 pub use fault::BlorbFault;
+pub use laws::finds_the_first_entry;

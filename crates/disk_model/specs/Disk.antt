@@ -94,3 +94,18 @@ pub record SameDisk
   pub telling : tells new ≡ tells old
   pub size : room new ≡ room old
   pub name : label new ≡ label old
+
+-- nothing was written: no image is new, now or at any moment since
+pub record OnlyLooks
+    {D : Type 0}
+    (tells : D → Bool)
+    (may_leave : D → List ℕ → Type 0)
+    (moment : D → ℕ)
+    (left_since : D → ℕ → List ℕ → Type 0)
+    (reach room label : D → ℕ)
+    (old new : D) : Type 0 where
+  pub images : IsTrue (tells old) → NoneNew (may_leave old) (may_leave new)
+  pub moments :
+      IsTrue (tells old) → LeavesOnly moment left_since old new (may_leave old)
+  pub asked : reach new ≡ reach old
+  pub same : SameDisk tells room label old new

@@ -1,7 +1,7 @@
 -- What a disk holds: synced bytes, those that it reads as, and the ranges written since (own).
 use Rattle.std.specs.Prelude.{◌≡◌, ◌⊎◌, ℕ, ◌+◌, ◌^◌, ◌<◌, ◌≤◌, max}
 use Rattle.std.specs.Prelude.{List, [], ◌∷◌, ◌++◌, length}
-use Rattle.std.specs.Prelude.{Bool, false, nat_le, nat_lt, ◌&&◌, ◌||◌, if◌then◌else◌}
+use Rattle.std.specs.Prelude.{Bool, nat_le, if◌then◌else◌}
 use Rattle.std.specs.Prelude.{slice_index}
 use Rattle.disk_model.specs.Disk.{written}
 
@@ -24,11 +24,6 @@ greatest_end (r ∷ ranges) n = max r.1 (greatest_end ranges n)
 abbrev pub Untouched : ℕ → Ranges → Type 0
 Untouched i [] = Unit {0}
 Untouched i (r ∷ ranges) = ((i < r.0) ⊎ (r.1 ≤ i)) × Untouched i ranges
-
--- the test whether a range has this place
-abbrev pub touched : ℕ → Ranges → Bool
-touched i [] = false
-touched i (r ∷ ranges) = (nat_le r.0 i && nat_lt i r.1) || touched i ranges
 
 -- An image that a stop may leave: the synced bytes outside the ranges, and anything in them. Its
 -- size is from the synced one to the greatest end written.
@@ -58,3 +53,9 @@ after_write good at piece p =
 -- after a sync: one that fails changes nothing
 abbrev pub after_sync : Bool → DiskState → DiskState
 after_sync good p = if good then settled p.seen else p
+
+-- a state as calls make it: as it reads it is one of its images, and it is within 2^40 bytes
+pub record IsWell (p : DiskState) : Type 0 where
+  pub stays : IsImage p p.seen
+  pub within : length p.seen ≤ 2 ^ 40
+  pub ends : greatest_end p.ranges (length p.synced) ≤ 2 ^ 40

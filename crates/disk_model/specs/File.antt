@@ -9,3 +9,7 @@ file_reach d = d.reach
 -- how often a call has failed
 abbrev pub file_faults : FileDisk → ℕ
 file_faults d = d.faults
+
+-- the number by which its outside knows it
+abbrev pub file_label : FileDisk → ℕ
+file_label d = d.label

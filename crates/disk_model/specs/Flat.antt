@@ -13,3 +13,7 @@ flat_reach d = d.reach
 -- how often a call has failed
 abbrev pub flat_faults : FlatDisk → ℕ
 flat_faults d = d.faults
+
+-- the number by which its outside knows it
+abbrev pub flat_label : FlatDisk → ℕ
+flat_label d = d.label

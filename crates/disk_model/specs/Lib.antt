@@ -1,11 +1,8 @@
 pub mod Disk
-pub mod Torn
-pub mod Moments
+pub mod Work
 pub mod DiskState
+pub mod Drawn
 pub mod Calls
-pub mod RangeLaws
-pub mod StateLaws
-pub mod CallLaws
 pub mod Memory
 pub mod Flat
 pub mod File

@@ -24,3 +24,7 @@ faults_in m = m.faults
 -- the greatest end of any write asked of it
 abbrev pub reach_in : MemDisk → ℕ
 reach_in m = m.reach
+
+-- the number by which its outside knows it
+abbrev pub label_in : MemDisk → ℕ
+label_in m = m.label

@@ -2,7 +2,7 @@
 
 ghost use Rattle.std.specs.Prelude.{◌≡◌, ◌⊎◌, ◌+◌, ◌<◌, ◌≤◌, ◌^◌};
 ghost use Rattle.std.specs.Prelude.{ℕ, Bool, List, length, max};
-ghost use Rattle.std.specs.Prelude.{IsTrue, IsOk, IsErr, IfOk, OnOk};
+ghost use Rattle.std.specs.Prelude.{IsTrue, IsOk, IsErr, IfOk, OnOk, OnErr};
 ghost use Rattle.disk_model.specs.Disk.{Reads, written, Torn, Follows, NoneNew, Only, Elapses};
 ghost use Rattle.disk_model.specs.Disk.{Counts, SameDisk};
 
@@ -53,6 +53,9 @@ pub trait Disk {
             × (IsTrue (tells self.old) → n ≡ length (seen self.old))) }
         ensures works { IsTrue (steady self.old) → IsOk result × IsTrue (steady self.new) }
         ensures err { IsTrue (fails_next self.old) → IsErr result }
+        // One that tells fails where it was to fail; or it found no memory, and isn't counted.
+        ensures only { OnErr result (IsTrue (tells self.old)
+            → (moment self.new ≡ moment self.old) ⊎ IsTrue (fails_next self.old)) }
         ensures cause { Counts result (faults self.old) (faults self.new) }
         ensures seen { OnOk result (IsTrue (tells self.old) → seen self.new ≡ seen self.old) }
         ensures crash { IsTrue (tells self.old)
@@ -70,6 +73,9 @@ pub trait Disk {
             → Reads (seen self.old) place into.new) }
         ensures works { IsTrue (steady self.old) → IsOk result × IsTrue (steady self.new) }
         ensures err { IsTrue (fails_next self.old) → IsErr result }
+        // One that tells fails where it was to fail; or it found no memory, and isn't counted.
+        ensures only { OnErr result (IsTrue (tells self.old)
+            → (moment self.new ≡ moment self.old) ⊎ IsTrue (fails_next self.old)) }
         ensures cause { Counts result (faults self.old) (faults self.new) }
         ensures seen { OnOk result (IsTrue (tells self.old) → seen self.new ≡ seen self.old) }
         ensures crash { IsTrue (tells self.old)
@@ -93,6 +99,11 @@ pub trait Disk {
         ensures full { room self.old < place + length piece.now
             → IsErr result
             × (IsTrue (tells self.old) → NoneNew (may_leave self.old) (may_leave self.new)) }
+        // One that tells fails where it was to fail, or past the room; or it found no memory, and
+        // isn't counted.
+        ensures only { OnErr result (IsTrue (tells self.old)
+            → (moment self.new ≡ moment self.old) ⊎ IsTrue (fails_next self.old)
+            ⊎ (room self.old < place + length piece.now)) }
         ensures cause { Counts result (faults self.old) (faults self.new) }
         ensures crash { IsTrue (tells self.old)
             → Follows (Torn place (length piece.now)) (may_leave self.old) (may_leave self.new) }
@@ -110,6 +121,9 @@ pub trait Disk {
             → Only (seen self.old) (may_leave self.new)) }
         ensures works { IsTrue (steady self.old) → IsOk result × IsTrue (steady self.new) }
         ensures err { IsTrue (fails_next self.old) → IsErr result }
+        // One that tells fails where it was to fail; or it found no memory, and isn't counted.
+        ensures only { OnErr result (IsTrue (tells self.old)
+            → (moment self.new ≡ moment self.old) ⊎ IsTrue (fails_next self.old)) }
         ensures cause { Counts result (faults self.old) (faults self.new) }
         ensures seen { OnOk result (IsTrue (tells self.old) → seen self.new ≡ seen self.old) }
         ensures crash { IsTrue (tells self.old)

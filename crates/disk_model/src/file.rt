@@ -20,20 +20,32 @@ pub struct FileDisk {
     file: File,
     reach: u128,
     faults: u64,
+    label: u64,
 }
 
 impl FileDisk {
-    ghost use Rattle.disk_model.specs.File.{file_reach, file_faults};
+    ghost use Rattle.disk_model.specs.File.{file_reach, file_faults, file_label};
 
     /// A disk on this file, which is open for reading and writing.
     pub fn new(file: File) -> FileDisk
         ensures value { (file_reach result ≡ 0) × (file_faults result ≡ 0) }
+        ensures label { file_label result ≡ 0 }
     {
         FileDisk {
             file,
             reach: 0,
             faults: 0,
+            label: 0,
         }
+    }
+
+    /// From now on its outside knows it by this number.
+    pub fn set_label(&mut self, label: u64)
+        ensures value { file_label self.new ≡ label }
+        ensures kept { (file_reach self.new ≡ file_reach self.old)
+            × (file_faults self.new ≡ file_faults self.old) }
+    {
+        self.label = label;
     }
 }
 
@@ -109,7 +121,7 @@ impl Disk for FileDisk {
 
     ghost room = { λ _. 2 ^ 40 };
 
-    ghost label = { λ _. 0 };
+    ghost label = { λ d. d.label };
 
     fn size(&mut self) -> Result<u64, Failed> {
         let answer = measure(&self.file);

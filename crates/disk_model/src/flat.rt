@@ -13,17 +13,19 @@ pub struct FlatDisk {
     size: usize,
     reach: u128,
     faults: u64,
+    label: u64,
     ghost sized: { size ≤ length bytes.items },
     ghost small: { length bytes.items < 2 ^ 32 },
 }
 
 impl FlatDisk {
-    ghost use Rattle.disk_model.specs.Flat.{flat_room, flat_reach, flat_faults};
+    ghost use Rattle.disk_model.specs.Flat.{flat_room, flat_reach, flat_faults, flat_label};
 
     /// An empty disk of this many bytes of room, all of them reserved here.
     pub fn new(alloc: Global, room: u32) -> Result<FlatDisk, AllocError>
         ensures value { IfOk result (λ d.
             (flat_room d ≡ room) × (flat_reach d ≡ 0) × (flat_faults d ≡ 0)) }
+        ensures label { IfOk result (λ d. flat_label d ≡ 0) }
     {
         let bytes = vec![in alloc; 0; room as usize]?;
         Ok(FlatDisk {
@@ -31,7 +33,18 @@ impl FlatDisk {
             size: 0,
             reach: 0,
             faults: 0,
+            label: 0,
         })
+    }
+
+    /// From now on its outside knows it by this number.
+    pub fn set_label(&mut self, label: u64)
+        ensures value { flat_label self.new ≡ label }
+        ensures kept { (flat_room self.new ≡ flat_room self.old)
+            × (flat_reach self.new ≡ flat_reach self.old)
+            × (flat_faults self.new ≡ flat_faults self.old) }
+    {
+        self.label = label;
     }
 }
 
@@ -59,7 +72,7 @@ impl Disk for FlatDisk {
 
     ghost room = { λ d. length d.bytes.items };
 
-    ghost label = { λ _. 0 };
+    ghost label = { λ d. d.label };
 
     fn size(&mut self) -> Result<u64, Failed> {
         Ok(self.size as u64)

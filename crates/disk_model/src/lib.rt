@@ -8,8 +8,6 @@ mod flat;
 mod memory;
 mod note;
 mod stop;
-#[cfg(test)]
-mod tests;
 mod through;
 
 pub use call::Call;

@@ -4,7 +4,7 @@ ghost use Rattle.std.specs.Prelude.{◌≡◌, ◌+◌, ◌≤◌, ◌<◌, ◌^
 ghost use Rattle.std.specs.Prelude.{◌∷◌, length, Bool};
 ghost use Rattle.std.specs.Prelude.{◌==◌, if◌then◌else◌, is_ok, IfOk};
 ghost use Rattle.std.specs.List.{list_any};
-ghost use Rattle.disk_model.specs.DiskState.{IsImage, settled};
+ghost use Rattle.disk_model.specs.DiskState.{IsImage, IsWell, settled};
 ghost use Rattle.disk_model.specs.Calls.{state_after, LeftSince};
 
 use crate::call::Call;
@@ -28,7 +28,8 @@ pub struct MemDisk {
     ranges: Vec<(u64, u64)>,
     reach: u128,
     faults: u64,
-    ghost small: { length start.items ≤ 2 ^ 40 },
+    label: u64,
+    ghost well: { IsWell (state_after start.items calls.items) },
     ghost reads: { bytes.items ≡ (state_after start.items calls.items).seen },
     ghost holds: { synced.items ≡ (state_after start.items calls.items).synced },
     ghost writes: { ranges.items ≡ (state_after start.items calls.items).ranges },
@@ -36,12 +37,14 @@ pub struct MemDisk {
 
 impl MemDisk {
     ghost use Rattle.disk_model.specs.Memory.{state_in, calls_in, failing_in, faults_in, reach_in};
+    ghost use Rattle.disk_model.specs.Memory.{label_in};
 
     /// An empty disk of which no call is to fail.
     pub fn new(alloc: Global) -> MemDisk
         ensures value { (state_in result ≡ settled []) × (calls_in result ≡ [])
             × (failing_in result ≡ [])
             × (faults_in result ≡ 0) × (reach_in result ≡ 0) }
+        ensures label { label_in result ≡ 0 }
     {
         MemDisk {
             alloc,
@@ -53,6 +56,7 @@ impl MemDisk {
             ranges: Vec::new(alloc),
             reach: 0,
             faults: 0,
+            label: 0,
         }
     }
 
@@ -65,14 +69,29 @@ impl MemDisk {
             × (state_in self.new ≡ state_in self.old)
             × (faults_in self.new ≡ faults_in self.old)
             × (reach_in self.new ≡ reach_in self.old) }
+        ensures label { label_in self.new ≡ label_in self.old }
     {
         self.failing.push(call)?;
         Ok(())
     }
+
+    /// From now on its outside knows it by this number.
+    pub fn set_label(&mut self, label: u64)
+        ensures value { label_in self.new ≡ label }
+        ensures kept { (calls_in self.new ≡ calls_in self.old)
+            × (failing_in self.new ≡ failing_in self.old)
+            × (state_in self.new ≡ state_in self.old)
+            × (faults_in self.new ≡ faults_in self.old)
+            × (reach_in self.new ≡ reach_in self.old) }
+    {
+        self.label = label;
+    }
 }
 
 impl MemDisk {
-    ghost use Rattle.disk_model.specs.Memory.{state_in, calls_in, failing_in, faults_in};
+    ghost use Rattle.disk_model.specs.Memory.{state_in, calls_in, failing_in, faults_in, reach_in};
+    ghost use Rattle.disk_model.specs.Memory.{label_in};
+    ghost use Rattle.disk_model.specs.Drawn.{IsDrawn};
 
     /// A disk that holds one of the images that a stop at this moment may leave, drawn from a
     /// number by its lowest five bits. Nothing is pending in it, and none of its calls is to fail.
@@ -84,6 +103,9 @@ impl MemDisk {
         ensures durable { IfOk result (λ d. state_in d ≡ settled (state_in d).seen) }
         ensures fresh { IfOk result (λ d.
             (calls_in d ≡ []) × (failing_in d ≡ []) × (faults_in d ≡ 0)) }
+        ensures anew { IfOk result (λ d. (reach_in d ≡ 0) × (label_in d ≡ label_in self.now)) }
+        ensures drawn { IfOk result (λ d.
+            IsDrawn (state_in self.now) choice (state_in d).seen) }
     {
         let start = draw_image(alloc, &self.synced, &self.bytes, &self.ranges, choice)?;
         let bytes = start.as_slice().to_vec(alloc)?;
@@ -98,6 +120,7 @@ impl MemDisk {
             ranges: Vec::new(alloc),
             reach: 0,
             faults: 0,
+            label: self.label,
         })
     }
 
@@ -112,8 +135,10 @@ impl MemDisk {
 
 impl Disk for MemDisk {
     ghost use Rattle.std.specs.Prelude.{true, false};
-    ghost use Rattle.std.proofs.Common.{arith};
-    ghost use Rattle.disk_model.specs.CallLaws.{well_of, since_now, only_since};
+    ghost use Rattle.std.specs.Prelude.{List};
+    ghost use Rattle.std.proofs.Common.{arith, sym, subst};
+    ghost use Rattle.std.proofs.lemmas.List.{take_all};
+    ghost use Rattle.disk_model.specs.declared.call.Call.{Call};
 
     ghost tells = { λ _. true };
 
@@ -135,7 +160,7 @@ impl Disk for MemDisk {
 
     ghost room = { λ _. 2 ^ 40 };
 
-    ghost label = { λ _. 0 };
+    ghost label = { λ m. m.label };
 
     fn size(&mut self) -> Result<u64, Failed> {
         let good = !self.is_failing();
@@ -209,13 +234,21 @@ impl Disk for MemDisk {
         self.faults
     }
 
-    ghost seen_may_stay = { λ m. (well_of m.start.items m.calls.items m.small).stays };
+    ghost seen_may_stay = { λ m. m.well.stays };
 
-    ghost counts_now = { λ m. since_now m.start.items m.calls.items };
+    ghost counts_now = { λ m t c le image. (
+      length m.calls.items,
+      le,
+      Prim.omega arith,
+      subst (λ (l : List Call). IsImage (state_after m.start.items l) c)
+          (sym (take_all (length m.calls.items) m.calls.items (Prim.omega arith))) image,
+    ) };
 
-    ghost only_now = { λ m. only_since m.start.items m.calls.items };
+    ghost only_now = { λ m c since.
+        subst (λ (l : List Call). IsImage (state_after m.start.items l) c)
+        (take_all since.0 m.calls.items since.1) since.3 };
 
-    ghost size_within = { λ m told. (well_of m.start.items m.calls.items m.small).within };
+    ghost size_within = { λ m told. m.well.within };
 
     ghost room_is_small = { λ m. Prim.omega arith };
 }

@@ -4,7 +4,7 @@ ghost use Rattle.std.specs.Prelude.{◌≡◌, ℕ, List, ◌+◌, ◌≤◌, �
 ghost use Rattle.std.specs.Prelude.{◌++◌, [], ◌∷◌, length};
 ghost use Rattle.std.specs.Prelude.{if◌then◌else◌, IfOk, OnOk, OnErr};
 ghost use Rattle.disk_model.specs.Disk.{written, Reads, Elapses};
-ghost use Rattle.disk_model.specs.DiskState.{IsImage, after_write, after_sync};
+ghost use Rattle.disk_model.specs.DiskState.{IsImage, IsWell, after_write, after_sync};
 ghost use Rattle.disk_model.specs.Calls.{state_after, LeftSince};
 
 use crate::call::Call;
@@ -41,6 +41,10 @@ pub fn note_look(calls: &mut Vec<Call>) -> Result<(), AllocError>
         → Elapses (length calls.old.items) (length calls.new.items)
         (LeftSince start calls.old.items) (LeftSince start calls.new.items)
         (IsImage (state_after start calls.new.items)) }
+    ensures well { (start : List ℕ)
+        → IsWell (state_after start calls.old.items)
+        → IsWell (state_after start calls.new.items) }
+    ensures err { OnErr result (calls.new.items ≡ calls.old.items) }
 {
     calls.push(Call::Look)?;
     Ok(())
@@ -56,6 +60,9 @@ pub fn note_sync(calls: &mut Vec<Call>, good: bool) -> Result<(), AllocError>
         → Elapses (length calls.old.items) (length calls.new.items)
         (LeftSince start calls.old.items) (LeftSince start calls.new.items)
         (IsImage (state_after start calls.new.items)) }
+    ensures well { (start : List ℕ)
+        → IsWell (state_after start calls.old.items)
+        → IsWell (state_after start calls.new.items) }
     ensures err { OnErr result (calls.new.items ≡ calls.old.items) }
 {
     calls.push(Call::Sync { good })?;
@@ -85,6 +92,9 @@ pub fn put(
         → Elapses (length calls.old.items) (length calls.new.items)
         (LeftSince start calls.old.items) (LeftSince start calls.new.items)
         (IsImage (state_after start calls.new.items)) }
+    ensures well { (start : List ℕ)
+        → IsWell (state_after start calls.old.items)
+        → IsWell (state_after start calls.new.items) }
     ensures err { OnErr result ((bytes.new.items ≡ bytes.old.items)
         × (ranges.new.items ≡ ranges.old.items)
         × (calls.new.items ≡ calls.old.items)) }

@@ -8,3 +8,5 @@ pub mod Opening
 pub mod SeatLemmas
 pub mod HistoryLemmas
 pub mod StopLemmas
+mod ReadingLemmas
+pub mod AppendLemmas

@@ -1,9 +1,10 @@
 -- One entry more, and what the images of a journal spell.
-use Rattle.std.proofs.Common.{◌≡◌, ◌⊎◌, inl, inr, ℕ, ◌+◌, ◌≤◌, List, [], ◌∷◌, ◌++◌, length, get_or, refl, ◌∙◌, ap, arith, length-append}
-use Rattle.std.specs.Prelude.{Option, Some, None, IfSome}
+use Rattle.std.proofs.Common.{◌≡◌, ◌⊎◌, inl, inr, ℕ, ◌+◌, ◌≤◌, List, [], ◌∷◌, ◌++◌, length, get_or, refl, sym, ◌∙◌, ap, arith, length-append}
+use Rattle.std.specs.Prelude.{Bool, false, Option, Some, None, IfSome, is_none, Result}
+use Rattle.disk_model.specs.Work.{Triple}
 use Rattle.std.proofs.lemmas.Bool.{cases_eq}
 use Rattle.disk_model.specs.Disk.{Holds, Rose}
-use Rattle.disk_model.specs.Torn.{holds_rest}
+use Rattle.disk_model.proofs.Torn.{holds_rest}
 use Rattle.gate_journal.specs.declared.row.Row.{Row}
 use Rattle.gate_journal.specs.declared.entry.Entry.{Entry}
 use Rattle.gate_journal.specs.declared.entry.Entry.TheVariants.{Kept, Faulted}
@@ -66,3 +67,14 @@ rises-all (r ∷ rows) low high le = rises-all rows low high le
 pub stands_closed : (rows : List Row) (uncertain : Option Row) (c : List ℕ) → IfSome uncertain (IsNext rows) → StandsAt rows uncertain c → MayOpen rows c
 stands_closed rows None c next stands = inl stands
 stands_closed rows (Some r) c next stands = inr (r, next, stands)
+
+-- the repair of a gate that is uncertain, said of the rows
+pub repaired :
+    {D T E : Type 0} {tells : D → Bool} {may_leave : D → List ℕ → Type 0} {moment : D → ℕ}
+    {left_since : D → ℕ → List ℕ → Type 0} {result : Result T E} {old new : D} (end : ℕ)
+    (uncertain : Option Row) (rows : List Row) → is_none uncertain ≡ false → end ≡ length (spelled rows)
+    → ((front past : List ℕ) → length front ≡ end
+    → Triple tells may_leave moment left_since result old new (IsUnsure front past) (IsUnsure front past) (IsShut front))
+    → Triple tells may_leave moment left_since result old new (StandsAt rows uncertain) (StandsAt rows uncertain) (StandsAt rows None)
+repaired end None rows some ends triple = absurd (cc)
+repaired end (Some r) rows some ends triple = triple (spelled rows) (body r ++ 0 ∷ []) (sym ends)

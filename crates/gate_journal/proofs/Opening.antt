@@ -2,7 +2,7 @@
 use Rattle.std.proofs.Common.{◌≡◌, ◌≢◌, inl, inr, ℕ, List, [], ◌∷◌, ◌++◌, length, get_or, sym, ◌∙◌, ap, arith, length-append}
 use Rattle.std.proofs.lemmas.Bool.{cases_eq}
 use Rattle.disk_model.specs.Disk.{Holds, Torn, written}
-use Rattle.disk_model.specs.Torn.{holds_kept, holds_rest, holds_both, torn_written, holds_written}
+use Rattle.disk_model.proofs.Torn.{holds_kept, holds_rest, holds_both, torn_written, holds_written}
 use Rattle.gate_journal.specs.declared.row.Row.{Row}
 use Rattle.gate_journal.specs.Gate.{IsShut}
 use Rattle.gate_journal.specs.Rows.{SpellsRows, body, spelled, IsJournal}
@@ -32,7 +32,7 @@ reclosed rows found s f end all (inr one) stands open_gate is torn = elim (cases
       absurd (open_gate (ap (λ (k : ℕ). get_or s k 0) (is ∙ ap (λ (l : List Row). length (spelled l)) same) ∙ gate_zero (rows ++ one.0 ∷ []) s shut))
   | inr not_open ↦
       let same : found ≡ rows = one_list s found rows stands (spells_not_open rows (body one.0 ++ 0 ∷ []) s all one.2 not_open (omega (arith, one.2.behind.within, length-append (body one.0) (0 ∷ [])))) in
-      inr (one.0, one.1, unsure_torn (spelled rows) (body one.0 ++ 0 ∷ []) f s end (ap (λ (l : List Row). length (spelled l)) (sym same) ∙ sym is) one.2 torn)
+      inr (one.0, one.1, unsure_torn (spelled rows) (body one.0 ++ 0 ∷ []) end (ap (λ (l : List Row). length (spelled l)) (sym same) ∙ sym is) f s one.2 torn)
 ]
 
 pub reshut : (rows : List Row) (s : List ℕ) (end : ℕ) → SpellsRows s rows → end ≡ length (spelled rows) → IsShut (spelled rows) (written s end (0 ∷ []))

@@ -7,7 +7,7 @@ use Rattle.std.proofs.lemmas.List.{append-nil, take_at, drop_at, get_or_append_l
 use Rattle.std.proofs.lemmas.Bool.{cases_lt}
 use Rattle.byteorder.specs.Numbers.{length-bytes_high_first}
 use Rattle.disk_model.specs.Disk.{Holds}
-use Rattle.disk_model.specs.Torn.{holds_front, holds_rest, holds_both}
+use Rattle.disk_model.proofs.Torn.{holds_front, holds_rest, holds_both}
 use Rattle.gate_journal.specs.declared.command.Command.{Command}
 use Rattle.gate_journal.specs.declared.row.Row.{Row}
 use Rattle.gate_journal.specs.Command.{IsCommand}

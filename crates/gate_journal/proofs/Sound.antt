@@ -2,7 +2,7 @@
 use Rattle.std.proofs.Common.{◌≡◌, ◌⊎◌, inl, inr, ℕ, ◌+◌, ◌<◌, ◌≤◌, Bool, List, [], ◌∷◌, ◌++◌, length, sym, ◌∙◌, ap, subst, arith, append_assoc}
 use Rattle.std.specs.Prelude.{Option, None, IfSome}
 use Rattle.disk_model.specs.Disk.{LeavesOnly, Rose, Holds, EachImage}
-use Rattle.disk_model.specs.Moments.{weaker, and_then}
+use Rattle.disk_model.proofs.Moments.{weaker, and_then}
 use Rattle.gate_journal.specs.declared.row.Row.{Row}
 use Rattle.gate_journal.specs.declared.entry.Entry.{Entry}
 use Rattle.gate_journal.specs.declared.entry.Entry.TheVariants.{Kept, Faulted}

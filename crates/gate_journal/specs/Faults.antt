@@ -40,6 +40,17 @@ IsOfDisk (Corrupt place) = ⊥
 IsOfDisk (on_disk fault) = Unit {0}
 IsOfDisk NoMemory = Unit {0}
 
+-- a refusal for what the bytes are, or for want of memory
+abbrev pub IsNoFault : JournalFault → Type 0
+IsNoFault NotJournal = Unit {0}
+IsNoFault (Corrupt place) = Unit {0}
+IsNoFault (on_disk fault) = ⊥
+IsNoFault NoMemory = Unit {0}
+
+-- it holds unless the disk failed
+abbrev pub UnlessFault : {T : Type 0} → Result T JournalFault → Type 0 → Type 0
+UnlessFault result P = MatchResult result (λ _. P) (λ e. IsNoFault e → P)
+
 -- a fault of the disk is answered where its count rose, and then alone
 abbrev pub HasCause : ℕ → ℕ → JournalFault → Type 0
 HasCause before now NotJournal = now ≡ before

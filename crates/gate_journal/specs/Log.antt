@@ -1,6 +1,6 @@
 -- A journal as contracts see it, and what a stop may leave of it (own).
 use Rattle.std.specs.Prelude.{◌≡◌, ◌⊎◌, ℕ, ◌+◌, ◌<◌, ◌≤◌, Bool}
-use Rattle.std.specs.Prelude.{Option, Some, None}
+use Rattle.std.specs.Prelude.{max, Option, Some, None}
 use Rattle.std.specs.Prelude.{IfSome, List, [], ◌∷◌, ◌++◌, length, map, slice_index}
 use Rattle.disk_model.specs.Disk.{Holds, Rose, EachImage}
 use Rattle.gate_journal.specs.Gate.{IsShut, IsUnsure}
@@ -115,3 +115,11 @@ pub record IsSound
   pub next : IfSome log.uncertain (IsNext (rows_of log.entries))
   pub images : EachImage tells may_leave log.disk (StandsAt (rows_of log.entries) log.uncertain)
   pub counts : Rises log.since log.entries (faults log.disk)
+
+-- the reach after an opening of these bytes: as it was, or the end of the closing gate, where that
+-- is farther
+abbrev pub ReachesGate : List ℕ → ℕ → ℕ → Type 0
+ReachesGate bytes before now =
+    (now ≡ before)
+    ⊎ ((rows : List Row) × SpellsRows bytes rows
+    × (now ≡ max before (length (spelled rows) + 1)))

@@ -1,9 +1,8 @@
 //! A new journal (own).
 
-ghost use Rattle.std.specs.Prelude.{◌≡◌, ◌≤◌, ◌++◌, [], ◌∷◌};
-ghost use Rattle.std.specs.Prelude.{IsTrue, OnOk, IfErr, max};
-ghost use Rattle.std.specs.Prelude.{MatchResult};
-ghost use Rattle.disk_model.specs.Disk.{Only, SameDisk, LeavesOnly, AfterWrite};
+ghost use Rattle.std.specs.Prelude.{◌≡◌, ◌≤◌, ◌<◌, ◌⊎◌, ◌++◌, [], ◌∷◌};
+ghost use Rattle.std.specs.Prelude.{IsTrue, OnOk, IfErr, MatchResult, length, max};
+ghost use Rattle.disk_model.specs.Disk.{Only, SameDisk, LeavesOnly, AfterWrite, OnlyLooks};
 ghost use Rattle.gate_journal.specs.Rows.{header};
 ghost use Rattle.gate_journal.specs.Faults.{HasInitCause};
 ghost use Rattle.gate_journal.specs.declared.fault.InitFault.TheVariants as InitFault;
@@ -25,6 +24,14 @@ pub fn init<D: Disk>(disk: &mut D) -> Result<(), InitFault>
     ensures works { IsTrue (D.steady disk.old)
         → (17 ≤ D.room disk.old → IfErr result (λ e. e ≡ InitFault.NotEmpty))
         × IsTrue (D.steady disk.new) }
+    // Where the disk holds something, or fails as its size is asked, nothing is written, whatever
+    // is answered.
+    ensures looks { (IsTrue (D.tells disk.old) × (0 < length (D.seen disk.old)))
+        ⊎ IsTrue (D.fails_next disk.old)
+        → OnlyLooks D.tells D.may_leave D.moment D.left_since D.reach D.room D.label
+        disk.old disk.new }
+    ensures seen { IfErr result (λ e. e ≡ InitFault.NotEmpty
+        → IsTrue (D.tells disk.old) → D.seen disk.new ≡ D.seen disk.old) }
     // Where it isn't empty, nothing is written.
     ensures err { IfErr result (λ e. e ≡ InitFault.NotEmpty
         → (D.reach disk.new ≡ D.reach disk.old)

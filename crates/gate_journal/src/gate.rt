@@ -1,9 +1,9 @@
 //! The device calls of an append, and of the repair before it (own).
 
 ghost use Rattle.std.specs.Prelude.{◌≡◌, ◌⊎◌, ◌+◌, ◌<◌, ◌≤◌, ◌++◌, ◌∷◌};
-ghost use Rattle.std.specs.Prelude.{ℕ, List, IsTrue};
-ghost use Rattle.std.specs.Prelude.{IsOk, IsErrOf, OnOk, length, max};
-ghost use Rattle.disk_model.specs.Disk.{Holds, EachImage, LeavesOnly, Counts, SameDisk};
+ghost use Rattle.std.specs.Prelude.{ℕ, List, IsErrOf, OnOk, length};
+ghost use Rattle.disk_model.specs.Disk.{Holds, EachImage};
+ghost use Rattle.disk_model.specs.Work.{Ran, Triple};
 ghost use Rattle.gate_journal.specs.Gate.{IsShut, IsUnsure};
 
 use disk_model::{Disk, Failed, write_through};
@@ -17,37 +17,25 @@ pub enum RowFault {
     AtGate,
 }
 
-/// Closes an uncertain gate: two device calls.
+/// Closes an uncertain gate: two device calls. While it goes on the gate stays uncertain.
 pub fn repair<D: Disk>(disk: &mut D, gate: u64) -> Result<(), Failed>
-    ensures ok { OnOk result ((front past : List ℕ) → length front ≡ gate
-        → EachImage D.tells D.may_leave disk.old (IsUnsure front past)
-        → EachImage D.tells D.may_leave disk.new (IsShut front)) }
-    ensures works { IsTrue (D.steady disk.old)
-        → (gate + 1 ≤ D.room disk.old → IsOk result) × IsTrue (D.steady disk.new) }
-    ensures cause { Counts result (D.faults disk.old) (D.faults disk.new) }
-    // While it goes on the gate stays uncertain.
-    ensures crash { (front past : List ℕ) → length front ≡ gate
-        → EachImage D.tells D.may_leave disk.old (IsUnsure front past)
-        → IsTrue (D.tells disk.old)
-        → LeavesOnly D.moment D.left_since disk.old disk.new (IsUnsure front past) }
-    ensures reach { D.reach disk.new ≡ max (D.reach disk.old) (gate + 1) }
-    ensures kept { SameDisk D.tells D.room D.label disk.old disk.new }
+    ensures triple { (front past : List ℕ) → length front ≡ gate
+        → Triple D.tells D.may_leave D.moment D.left_since result disk.old disk.new
+        (IsUnsure front past) (IsUnsure front past) (IsShut front) }
+    ensures ran { Ran D.tells D.steady D.room D.label D.faults D.reach (gate + 1)
+        result disk.old disk.new }
 {
-    write_through(disk, gate, &[0])?;
-    Ok(())
+    write_through(disk, gate, &[0])
 }
 
 /// Writes a row, and the next gate closed, behind a closed gate; syncs; opens that gate; syncs.
 /// Four device calls.
 pub fn write_row<D: Disk>(disk: &mut D, gate: u64, past: &[u8]) -> Result<(), RowFault>
     requires { gate < D.room disk.old }
-    ensures ok { OnOk result ((front : List ℕ) → length front ≡ gate
-        → EachImage D.tells D.may_leave disk.old (IsShut front)
-        → EachImage D.tells D.may_leave disk.new (λ c. Holds c 0 (front ++ 1 ∷ past.now))) }
-    ensures fits { OnOk result (gate + 1 + length past.now ≤ D.room disk.old) }
-    ensures works { IsTrue (D.steady disk.old)
-        → (gate + 1 + length past.now ≤ D.room disk.old → IsOk result)
-        × IsTrue (D.steady disk.new) }
+    ensures triple { (front : List ℕ) → length front ≡ gate
+        → Triple D.tells D.may_leave D.moment D.left_since result disk.old disk.new
+        (IsShut front) (λ c. IsShut front c ⊎ IsUnsure front past.now c)
+        (λ c. Holds c 0 (front ++ 1 ∷ past.now)) }
     ensures before { IsErrOf result RowFault.Before
         → (front : List ℕ) → length front ≡ gate
         → EachImage D.tells D.may_leave disk.old (IsShut front)
@@ -56,14 +44,9 @@ pub fn write_row<D: Disk>(disk: &mut D, gate: u64, past: &[u8]) -> Result<(), Ro
         → (front : List ℕ) → length front ≡ gate
         → EachImage D.tells D.may_leave disk.old (IsShut front)
         → EachImage D.tells D.may_leave disk.new (IsUnsure front past.now) }
-    ensures cause { Counts result (D.faults disk.old) (D.faults disk.new) }
-    ensures crash { (front : List ℕ) → length front ≡ gate
-        → EachImage D.tells D.may_leave disk.old (IsShut front)
-        → IsTrue (D.tells disk.old)
-        → LeavesOnly D.moment D.left_since disk.old disk.new
-        (λ c. IsShut front c ⊎ IsUnsure front past.now c) }
-    ensures reach { D.reach disk.new ≤ max (D.reach disk.old) (gate + 1 + length past.now) }
-    ensures kept { SameDisk D.tells D.room D.label disk.old disk.new }
+    ensures fits { OnOk result (gate + 1 + length past.now ≤ D.room disk.old) }
+    ensures ran { Ran D.tells D.steady D.room D.label D.faults D.reach
+        (gate + 1 + length past.now) result disk.old disk.new }
 {
     let Ok(()) = write_through(disk, gate + 1, past) else {
         return Err(RowFault::Before);

@@ -4,9 +4,9 @@ ghost use Rattle.std.specs.Prelude.{◌≡◌, ◌⊎◌, ◌+◌, ◌≤◌, �
 ghost use Rattle.std.specs.Prelude.{◌↔◌, List, true};
 ghost use Rattle.std.specs.Prelude.{IsTrue, IsOk, IfOk, IfErr, OnOk, MatchOption, MatchResult};
 ghost use Rattle.std.specs.Prelude.{Some, None, length, max, slice_get, slice_index};
-ghost use Rattle.disk_model.specs.Disk.{EachImage, LeavesOnly, SameDisk};
+ghost use Rattle.disk_model.specs.Disk.{EachImage, LeavesOnly, SameDisk, OnlyLooks};
 ghost use Rattle.gate_journal.specs.Rows.{spelled, IsJournal, MayStand, SpellsRows};
-ghost use Rattle.gate_journal.specs.Faults.{Explains, IsFault, HasCause};
+ghost use Rattle.gate_journal.specs.Faults.{Explains, IsFault, IsNoFault, HasCause};
 ghost use Rattle.gate_journal.specs.declared.row.Row.{Row};
 ghost use Rattle.gate_journal.specs.declared.entry.Entry.TheVariants.{Kept, Faulted};
 
@@ -61,7 +61,7 @@ impl<D: Disk> Model for Journal<D> {
 
 impl<D: Disk> Journal<D> {
     ghost use Rattle.gate_journal.specs.Log.{rows_of, kept, Rises, SameLog, next_row, end_of};
-    ghost use Rattle.gate_journal.specs.Log.{MaySpell, MayOpen, Meanwhile};
+    ghost use Rattle.gate_journal.specs.Log.{MaySpell, MayOpen, Meanwhile, ReachesGate};
 
     /// The journal of a disk, with the rows that its bytes spell. It syncs first. A refusal hands
     /// the disk back.
@@ -81,6 +81,11 @@ impl<D: Disk> Journal<D> {
             (λ j. SameDisk D.tells D.room D.label disk j.disk)
             (λ e. SameDisk D.tells D.room D.label disk e.1) }
 
+        // Unless the disk failed a refusal leaves it as it was.
+        ensures refused { IfErr result (λ e. IsNoFault e.0
+            → OnlyLooks D.tells D.may_leave D.moment D.left_since D.reach D.room D.label disk e.1
+            × (IsTrue (D.tells disk) → D.seen e.1 ≡ D.seen disk)) }
+
         // Whatever rows the images spell, or these and one more, they spell so meanwhile.
         ensures crash { (rows : List Row) → IsJournal rows
             → EachImage D.tells D.may_leave disk (MayOpen rows)
@@ -94,6 +99,12 @@ impl<D: Disk> Journal<D> {
         ensures told_reach { IsTrue (D.tells disk) → MatchResult result
             (λ j. D.reach j.disk ≤ max (D.reach disk) (length (D.seen disk)))
             (λ e. D.reach e.1 ≤ max (D.reach disk) (length (D.seen disk))) }
+        // Nothing is written behind the closing gate, and nothing where it isn't known.
+        ensures ends { IfOk result (λ j. D.reach j.disk
+            ≤ max (D.reach disk) (length (spelled (rows_of j.entries)) + 1)) }
+        ensures writes { IsTrue (D.tells disk) → MatchResult result
+            (λ j. ReachesGate (D.seen disk) (D.reach disk) (D.reach j.disk))
+            (λ e. ReachesGate (D.seen disk) (D.reach disk) (D.reach e.1)) }
         // A closing gate that is 0 is left alone.
         ensures untouched { IfOk result (λ j. IsTrue (D.tells disk)
             → slice_index (D.seen disk) (length (spelled (rows_of j.entries))) ≡ 0
@@ -101,12 +112,9 @@ impl<D: Disk> Journal<D> {
     {
         let mut disk = disk;
         let from = disk.faults();
-        let Parsed { rows, end } = match load(alloc, &mut disk) {
+        let Parsed { history, end } = match load(alloc, &mut disk) {
             Ok(parsed) => parsed,
             Err(fault) => return Err((fault, disk)),
-        };
-        let Ok(history) = History::of(alloc, rows) else {
-            return Err((JournalFault::NoMemory, disk));
         };
         Ok(Journal {
             disk,

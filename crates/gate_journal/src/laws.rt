@@ -1,7 +1,7 @@
 //! What bytes spell, they spell alone (own).
 
 ghost use Rattle.gate_journal.specs.Laws.{SpellsOneList, IsNeverBoth, HasOnePlace};
-ghost use Rattle.gate_journal.specs.Laws.{EndsWithin};
+ghost use Rattle.gate_journal.specs.Laws.{EndsWithin, FindsRows, HasOneReading};
 
 /// Bytes spell one list of rows at most.
 pub fn spells_one_list()
@@ -21,4 +21,15 @@ pub fn has_one_corrupt_place()
 /// What an append writes ends at most 4,110 bytes behind the closing gate.
 pub fn ends_within()
     ensures { EndsWithin }
+{}
+
+/// Of bytes that an opening may meet: they spell the rows, or these and one more that may stand
+/// next; and no refusal but one of a disk's fault or of memory explains them.
+pub fn opening_finds()
+    ensures { FindsRows }
+{}
+
+/// Bytes have exactly one reading: rows, a corrupt place, or no header.
+pub fn has_one_reading()
+    ensures { HasOneReading }
 {}

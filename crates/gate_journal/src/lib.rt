@@ -24,9 +24,9 @@ pub use command::Command;
 pub use entry::Entry;
 pub use fault::{DiskFault, InitFault, JournalFault};
 pub use journal::Journal;
-pub use laws::{ends_within, has_one_corrupt_place, spells_one_list, spells_or_is_corrupt};
+pub use laws::{
+    ends_within, has_one_corrupt_place, has_one_reading, opening_finds, spells_one_list,
+    spells_or_is_corrupt,
+};
 pub use row::Row;
 pub use stop::stop_and_open;
-
-#[cfg(test)]
-mod tests;

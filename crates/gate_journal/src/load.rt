@@ -1,12 +1,13 @@
 //! The device calls of an opening (own).
 
-ghost use Rattle.std.specs.Prelude.{◌≡◌, ◌<◌, ◌≤◌, List, IsTrue, IfOk, IfErr, OnOk};
+ghost use Rattle.std.specs.Prelude.{◌≡◌, ◌+◌, ◌<◌, ◌≤◌, List, IsTrue, IfOk, IfErr};
 ghost use Rattle.std.specs.Prelude.{length, max, slice_index};
-ghost use Rattle.disk_model.specs.Disk.{EachImage, LeavesOnly, NoneNew, SameDisk};
-ghost use Rattle.gate_journal.specs.Faults.{Explains, IsOfDisk, IsFault, CountsOpening};
+ghost use Rattle.disk_model.specs.Disk.{EachImage, LeavesOnly, SameDisk, OnlyLooks};
+ghost use Rattle.gate_journal.specs.Faults.{Explains, IsOfDisk, IsNoFault, UnlessFault};
+ghost use Rattle.gate_journal.specs.Faults.{IsFault, CountsOpening};
 ghost use Rattle.gate_journal.specs.Gate.{IsShut};
 ghost use Rattle.gate_journal.specs.Rows.{spelled, SpellsRows, IsJournal};
-ghost use Rattle.gate_journal.specs.Log.{MayOpen};
+ghost use Rattle.gate_journal.specs.Log.{MayOpen, ReachesGate, rows_of, kept};
 ghost use Rattle.gate_journal.specs.declared.row.Row.{Row};
 ghost use Rattle.gate_journal.specs.declared.fault.JournalFault.TheVariants.{DiskFault as on_disk};
 
@@ -32,13 +33,10 @@ fn read_all<D: Disk>(alloc: Global, disk: &mut D) -> Result<Vec<u8>, JournalFaul
     ensures err { IfErr result IsOfDisk }
     ensures steady { IsTrue (D.steady disk.old) → IsTrue (D.steady disk.new) }
     ensures cause { CountsOpening result (D.faults disk.old) (D.faults disk.new) }
-    ensures seen { OnOk result (IsTrue (D.tells disk.old) → D.seen disk.new ≡ D.seen disk.old) }
-    ensures images { IsTrue (D.tells disk.old)
-        → NoneNew (D.may_leave disk.old) (D.may_leave disk.new) }
-    ensures crash { IsTrue (D.tells disk.old)
-        → LeavesOnly D.moment D.left_since disk.old disk.new (D.may_leave disk.old) }
-    ensures reach { D.reach disk.new ≡ D.reach disk.old }
-    ensures kept { SameDisk D.tells D.room D.label disk.old disk.new }
+    ensures seen { UnlessFault result (IsTrue (D.tells disk.old)
+        → D.seen disk.new ≡ D.seen disk.old) }
+    ensures kept { OnlyLooks D.tells D.may_leave D.moment D.left_since D.reach D.room D.label
+        disk.old disk.new }
 {
     let from = disk.faults();
     let Ok(size) = disk.size() else {
@@ -55,14 +53,20 @@ fn read_all<D: Disk>(alloc: Global, disk: &mut D) -> Result<Vec<u8>, JournalFaul
 /// 0 a write and a sync more.
 pub fn load<D: Disk>(alloc: Global, disk: &mut D) -> Result<Parsed, JournalFault>
     ensures ok { IfOk result (λ p. IsTrue (D.tells disk.old)
-        → SpellsRows (D.seen disk.old) p.rows.items) }
-    ensures journal { IfOk result (λ p. IsJournal p.rows.items
-        × (p.end ≡ length (spelled p.rows.items))
+        → SpellsRows (D.seen disk.old) (rows_of p.history.list)) }
+    ensures fresh { IfOk result (λ p. p.history.list ≡ kept (rows_of p.history.list)) }
+    ensures journal { IfOk result (λ p. IsJournal (rows_of p.history.list)
+        × (p.end ≡ length (spelled (rows_of p.history.list)))
         × (p.end < D.room disk.old)) }
-    ensures shut { IfOk result (λ p.
-        EachImage D.tells D.may_leave disk.new (IsShut (spelled p.rows.items))) }
+    ensures shut { IfOk result (λ p. EachImage D.tells D.may_leave disk.new
+        (IsShut (spelled (rows_of p.history.list)))) }
     ensures exact { IfErr result (λ e. IsTrue (D.tells disk.old)
         → Explains (D.seen disk.old) e) }
+    // Unless the disk failed a refusal leaves it as it was.
+    ensures refused { IfErr result (λ e. IsNoFault e
+        → OnlyLooks D.tells D.may_leave D.moment D.left_since D.reach D.room D.label
+        disk.old disk.new
+        × (IsTrue (D.tells disk.old) → D.seen disk.new ≡ D.seen disk.old)) }
     ensures steady { IsTrue (D.steady disk.old) → IsTrue (D.steady disk.new) }
     ensures cause { CountsOpening result (D.faults disk.old) (D.faults disk.new) }
     // Whatever rows the images spell, or these and one more, they spell so meanwhile.
@@ -73,6 +77,9 @@ pub fn load<D: Disk>(alloc: Global, disk: &mut D) -> Result<Parsed, JournalFault
     ensures reach { D.reach disk.new ≤ max (D.reach disk.old) (D.room disk.old) }
     ensures told_reach { IsTrue (D.tells disk.old)
         → D.reach disk.new ≤ max (D.reach disk.old) (length (D.seen disk.old)) }
+    ensures ends { IfOk result (λ p. D.reach disk.new ≤ max (D.reach disk.old) (p.end + 1)) }
+    ensures writes { IsTrue (D.tells disk.old)
+        → ReachesGate (D.seen disk.old) (D.reach disk.old) (D.reach disk.new) }
     // A gate that is 0 is left alone.
     ensures untouched { IfOk result (λ p. IsTrue (D.tells disk.old)
         → slice_index (D.seen disk.old) p.end ≡ 0 → D.reach disk.new ≡ D.reach disk.old) }

@@ -7,9 +7,11 @@ ghost use Rattle.gate_journal.specs.Rows.{spelled, SpellsRows};
 ghost use Rattle.gate_journal.specs.Parsing.{IsFirst, IsNoNext};
 ghost use Rattle.gate_journal.specs.Seats.{Counts};
 ghost use Rattle.gate_journal.specs.Faults.{Refuses};
+ghost use Rattle.gate_journal.specs.Log.{rows_of, kept};
 ghost use Rattle.gate_journal.specs.declared.row.Row.{Row};
 
 use crate::fault::JournalFault;
+use crate::history::History;
 use crate::payload::read_command;
 use crate::row::Row;
 use crate::seats::Seats;
@@ -20,7 +22,7 @@ const HEADER: [u8; 16] = [83, 84, 72, 74, 0, 0, 0, 1, 0, 0, 0, 0, 0, 0, 0, 0];
 /// Rows, and the place of the closing gate behind them.
 #[derive(Drop)]
 pub struct Parsed {
-    pub rows: Vec<Row>,
+    pub history: History,
     pub end: u64,
 }
 
@@ -59,8 +61,9 @@ fn next_row(
 
 /// The rows, and the place of the closing gate.
 pub fn parse(alloc: Global, bytes: &[u8]) -> Result<Parsed, JournalFault>
-    ensures ok { IfOk result (λ p. SpellsRows bytes.now p.rows.items
-        × (p.end ≡ length (spelled p.rows.items))) }
+    ensures ok { IfOk result (λ p. SpellsRows bytes.now (rows_of p.history.list)
+        × (p.end ≡ length (spelled (rows_of p.history.list)))) }
+    ensures fresh { IfOk result (λ p. p.history.list ≡ kept (rows_of p.history.list)) }
     ensures exact { IfErr result (Refuses bytes.now) }
 {
     if !bytes.starts_with(&HEADER) {
@@ -72,8 +75,9 @@ pub fn parse(alloc: Global, bytes: &[u8]) -> Result<Parsed, JournalFault>
     let mut rest = &bytes[16..];
     while let [gate, past @ ..] = rest {
         if *gate != 1 {
+            let history = History::of(alloc, rows)?;
             return Ok(Parsed {
-                rows,
+                history,
                 end: place as u64,
             });
         }

@@ -45,7 +45,7 @@ use Rattle.glk_dispatch.specs.declared.style.StyleCall.{StyleCall}
 use Rattle.glk_dispatch.specs.declared.style.StyleCall.TheVariants as sty
 use Rattle.glk_dispatch.specs.declared.windows.WindowCall.{WindowCall}
 use Rattle.glk_dispatch.specs.declared.windows.WindowCall.TheVariants as win
-use Rattle.glk_dispatch.proofs.KeepingLemmas.{IsKept, first, kept-arguments, kept-refers, kept-refers_all, ok-bind, ok-if, ok-needs, ok-read, ok-then, same-map, same-story}
+use Rattle.glk_dispatch.proofs.KeepingLemmas.{IsKept, first, kept-arguments, kept-array_begun, kept-refers, kept-refers_all, ok-bind, ok-if, ok-needs, ok-read, ok-then, same-map, same-story}
 use Rattle.glk_dispatch.proofs.KeepingOutput.{kept-buffer_read, kept-delivered, kept-initial, kept-input_echoed, kept-line_read, kept-put_array, kept-put_code, kept-put_string, kept-spread_all, kept-title, kept-words, middle, second}
 
 -- a call that answers from this desk leaves the story's memory and frames
@@ -94,9 +94,9 @@ kept-work-base b.SetInterruptHandler d l = self d
 kept-work-base b.Tick d l = self d
 kept-work-base b.Gestalt d l = self d
 kept-work-base b.GestaltExt d l =
-    kept-told d (cond (l 0 == 3 && not (l 3 == 0)) (refers d (l 2) 1) (Ok d)) (base.gestalt (l 0) (l 1))
-    (ok-if (IsKept d.memory d.stack) (l 0 == 3 && not (l 3 == 0)) (refers d (l 2) 1) (Ok d)
-    (kept-refers d.memory d.stack d (l 2) 1 (self d)) (self d))
+    kept-told d (cond (l 0 == 3 && not (l 3 == 0)) (base.array_begun d (l 2) 1) (Ok d)) (base.gestalt (l 0) (l 1))
+    (ok-if (IsKept d.memory d.stack) (l 0 == 3 && not (l 3 == 0)) (base.array_begun d (l 2) 1) (Ok d)
+    (kept-array_begun d.memory d.stack d (l 2) 1 (self d)) (self d))
 
 kept-work-output : (k : OutputCall) (d : Desk) (l : ℕ → ℕ) → Kept d (out.output_work k d l)
 unfolding out.output_work

@@ -16,6 +16,7 @@ use Rattle.glk_dispatch.specs.Answer.{Desk, Reached, ◌>>=◌, needs, within}
 use Rattle.glk_dispatch.specs.Arguments.{arguments, popped, taken, takes}
 use Rattle.glk_dispatch.specs.Fault.{stacked}
 use Rattle.glk_dispatch.specs.Keeping.{KeepsFrames, KeepsStory}
+use Rattle.glk_dispatch.specs.Gestalt.{array_begun}
 use Rattle.glk_dispatch.specs.Reference.{next_field, referred, referred_all, refers, refers_all}
 use Rattle.glk_dispatch.specs.declared.glk.Glk.{Glk}
 
@@ -164,3 +165,10 @@ pub kept-refers_all : (b : MemoryMap) (c : StackState) (d : Desk) (at : ℕ) (xs
 kept-refers_all b c d at xs k =
     ok-within (both b c) (IsKept b c) d.glk (referred_all d.memory d.stack at xs) (λ p. Ok (record d { memory = p.0; stack = p.1 }))
     (kept-referred_all b c xs d.memory d.stack at k) (λ p h. h)
+
+pub kept-array_begun : (b : MemoryMap) (c : StackState) (d : Desk) (at x : ℕ) → IsKept b c d → IfOk (array_begun d at x) (IsKept b c)
+kept-array_begun b c d at x k =
+    ok-if (IsKept b c) (at == 0) _ _ k
+    (ok-within (KeepsMap b) (IsKept b c) d.glk (coded (written 4 d.memory at x)) (λ m. Ok (record d { memory = m }))
+    (ok-coded (KeepsMap b) (written 4 d.memory at x) (kept-written b 4 d.memory at x k.map))
+    (λ m h. record { map = h; stack = k.stack }))

@@ -50,7 +50,7 @@ use Rattle.glk_dispatch.specs.declared.selector.Call as call
 use Rattle.glk_dispatch.specs.declared.selector.Call.TheVariants.{Base, Window, Stream, FileRef, Output, Style, Case as InCase, Event as OfEvent, Nothing}
 use Rattle.glk_dispatch.specs.declared.style.StyleCall.{StyleCall}
 use Rattle.glk_dispatch.specs.declared.style.StyleCall.TheVariants as sty
-use Rattle.glk_dispatch.proofs.KeptLemmas.{charged-valid, desk_of, first_of, glk_of, head_of, kept-alone, kept-bind, kept-if, kept-needs, kept-refers, kept-refers_all, kept-told, kept-within}
+use Rattle.glk_dispatch.proofs.KeptLemmas.{kept-array_begun, charged-valid, desk_of, first_of, glk_of, head_of, kept-alone, kept-bind, kept-if, kept-needs, kept-refers, kept-refers_all, kept-told, kept-within}
 use Rattle.glk_dispatch.proofs.KeptOutput.{Parts, kept-echo_put, kept-output_work}
 use Rattle.glk_dispatch.proofs.KeptStreams.{kept-fileref_work, kept-stream_work, prompted-valid, same}
 use Rattle.glk_dispatch.proofs.KeptWindows.{kept-window_work}
@@ -128,8 +128,8 @@ kept-base_work b.SetInterruptHandler s l v = v
 kept-base_work b.Tick s l v = v
 kept-base_work b.Gestalt s l v = v
 kept-base_work b.GestaltExt s l v =
-    kept-told (cond (l 0 == 3 && not (l 3 == 0)) (refers s (l 2) 1) (Ok s)) (base.gestalt (l 0) (l 1))
-    (kept-if glk_of (l 0 == 3 && not (l 3 == 0)) (refers s (l 2) 1) (Ok s) (λ e. kept-refers s (l 2) 1 v) (λ e. v))
+    kept-told (cond (l 0 == 3 && not (l 3 == 0)) (base.array_begun s (l 2) 1) (Ok s)) (base.gestalt (l 0) (l 1))
+    (kept-if glk_of (l 0 == 3 && not (l 3 == 0)) (base.array_begun s (l 2) 1) (Ok s) (λ e. kept-array_begun s (l 2) 1 v) (λ e. v))
 
 with-requests : (g : Glk) (r : List WindowInput) → AreValid g → is_valid r ≡ true → AreValid (record g { requests = r })
 with-requests g r v h = record { windows = v.windows; streams = v.streams; requests = h; next = v.next }

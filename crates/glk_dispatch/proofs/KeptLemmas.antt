@@ -1,9 +1,12 @@
 -- Each step of a call keeps windows and streams valid.
-use Rattle.std.proofs.Common.{◌≡◌, ℕ, Bool, true, false, List, refl, Result, Ok, Err, cond}
+use Rattle.std.proofs.Common.{◌≡◌, ℕ, ◌==◌, Bool, true, false, List, refl, Result, Ok, Err, cond}
+use Rattle.vm_memory.specs.Access.{written}
+use Rattle.vm_memory.specs.Fault.{coded}
 use Rattle.glk_streams.specs.declared.fault.StreamStop.{StreamStop}
 use Rattle.glk_streams.specs.Streams.{StreamTable}
 use Rattle.glk_streams.specs.Laws as slaw
 use Rattle.glk_dispatch.specs.Answer.{Desk, Reached, ◌>>=◌, alone, needs, within}
+use Rattle.glk_dispatch.specs.Gestalt.{array_begun}
 use Rattle.glk_dispatch.specs.Glk.{charged}
 use Rattle.glk_dispatch.specs.Laws.{AreValid, Kept}
 use Rattle.glk_dispatch.specs.Reference.{gives, referred, referred_all, refers, refers_all}
@@ -73,3 +76,8 @@ kept-alone s r h = kept-bind first_of desk_of r (λ p. Ok (record s { glk = p.0 
 
 pub charged-valid : (g : Glk) → AreValid g → AreValid (charged g)
 charged-valid g v = record { windows = v.windows; streams = v.streams; requests = v.requests; next = v.next }
+
+pub kept-array_begun : (s : Desk) (at x : ℕ) → AreValid s.glk → Kept glk_of (array_begun s at x)
+kept-array_begun s at x v =
+    kept-if glk_of (at == 0) (Ok s) (within s.glk (coded (written 4 s.memory at x)) >>= (λ m. Ok (record s { memory = m }))) (λ e. v)
+    (λ e. kept-within glk_of s.glk (coded (written 4 s.memory at x)) (λ m. Ok (record s { memory = m })) v (λ m. v))

@@ -7,9 +7,16 @@ use Rattle.glk_dispatch.specs.Gestalt.{gestalt}
 use Rattle.glk_dispatch.specs.Reference.{next_field}
 use Rattle.glk_dispatch.specs.Selector.{base_calls, call_of, case_calls, event_calls, fileref_calls, output_calls, stream_calls, style_calls, window_calls}
 use Rattle.glk_dispatch.specs.declared.events.EventCall.TheVariants.{RequestLine}
+use Rattle.glk_dispatch.specs.declared.events.TheConstants.{INPUT, MAX_INITIAL, NEWLINE}
+use Rattle.glk_dispatch.specs.declared.output.TheConstants.{MAX_PRINTED}
 use Rattle.glk_dispatch.specs.declared.output.OutputCall.TheVariants.{PutBufferStream}
 use Rattle.glk_dispatch.specs.declared.selector.Call.TheVariants.{Event, Nothing, Output, Window}
 use Rattle.glk_dispatch.specs.declared.windows.WindowCall.TheVariants.{GetSibling}
+
+-- the style of input, the newline, the most characters with which a line begins, and the most that
+-- windows show in a turn
+pub numbers : INPUT ∷ NEWLINE ∷ MAX_INITIAL ∷ MAX_PRINTED ∷ [] ≡ 8 ∷ 10 ∷ 1024 ∷ 0x100000 ∷ []
+numbers = refl
 
 -- the version; Unicode and line echo are there, sounds aren't
 pub version : gestalt 0 0 ≡ 0x705

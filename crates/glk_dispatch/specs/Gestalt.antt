@@ -2,8 +2,10 @@
 use Rattle.std.specs.Prelude.{ℕ, ◌==◌, ◌&&◌, ◌||◌, not, nat_le, nat_lt, Bool}
 use Rattle.std.specs.Prelude.{if◌then◌else◌, Ok}
 use Rattle.glk_input.specs.Keycode.{is_keycode, is_terminator}
-use Rattle.glk_dispatch.specs.Answer.{Desk, Rule, ◌>>=◌}
-use Rattle.glk_dispatch.specs.Reference.{gives, refers}
+use Rattle.vm_memory.specs.Access.{written}
+use Rattle.vm_memory.specs.Fault.{coded}
+use Rattle.glk_dispatch.specs.Answer.{Desk, Reached, Rule, ◌>>=◌, within}
+use Rattle.glk_dispatch.specs.Reference.{gives}
 use Rattle.glk_dispatch.specs.declared.called.Called.{Called}
 use Rattle.glk_dispatch.specs.declared.called.Called.TheVariants as called
 use Rattle.glk_dispatch.specs.declared.base.BaseCall.{BaseCall}
@@ -30,10 +32,16 @@ gestalt selector value =
     else (if selector == 15 || selector == 17 || selector == 18 then 1
     else (if selector == 19 then one_if (is_terminator value) else 0)))))
 
+-- a word at the start of an array, which is a plain address; nowhere for 0
+abbrev pub array_begun : Desk → ℕ → ℕ → Reached Desk
+array_begun s array x =
+    if array == 0 then Ok s
+    else within s.glk (coded (written 4 s.memory array x)) >>= (λ m. Ok (record s { memory = m }))
+
 -- glk_gestalt_ext sel, val, array, len: a character is printed as one
 abbrev pub gestalt_told : Desk → ℕ → ℕ → ℕ → ℕ → Rule Called
 gestalt_told s selector value array len =
-    (if selector == 3 && not (len == 0) then refers s array 1 else Ok s)
+    (if selector == 3 && not (len == 0) then array_begun s array 1 else Ok s)
     >>= gives (gestalt selector value)
 
 unfoldable pub base_work : BaseCall → Desk → (ℕ → ℕ) → Rule Called

@@ -1,14 +1,15 @@
 //! Exit, ticks, and what the library can do (Glk 0.7.5, "Testing for Capabilities").
 
-ghost use Rattle.std.specs.Prelude.{◌≡◌, slice_index};
-ghost use Rattle.glk_dispatch.specs.Answer.{Does, desk};
+ghost use Rattle.std.specs.Prelude.{◌≡◌, ◌==◌, if◌then◌else◌, slice_index, Ok};
+ghost use Rattle.glk_dispatch.specs.Answer.{Does, Writes, desk};
 ghost use Rattle.glk_dispatch.specs.Gestalt as rows;
 ghost use Rattle.glk_dispatch.specs.Selector as selector;
+ghost use Rattle.vm_memory.specs.Access.{written};
+ghost use Rattle.vm_memory.specs.Fault.{coded};
 
 use crate::arguments::MAX_ARGUMENTS;
 use crate::called::Called;
 use crate::glk::Glk;
-use crate::reference::refer;
 use glk_input::keycode::{is_keycode, is_terminator};
 use vm_memory::{Memory, Trap};
 use vm_stack::Stack;
@@ -76,9 +77,20 @@ fn gestalt_ext(
         glk.new memory.new stack.new result }
 {
     if selector == 3 && len != 0 {
-        refer(memory, stack, array, 1)?;
+        begin_array(memory, array, 1)?;
     }
     Ok(Called::Value(gestalt(selector, value)))
+}
+
+// Writes a word at the start of an array, which is a plain address; nowhere for 0.
+fn begin_array(memory: &mut Memory, array: u32, word: u32) -> Result<(), Trap>
+    ensures { Writes (if array == 0 then Ok memory.old else coded (written 4 memory.old array word))
+        memory.new result }
+{
+    if array == 0 {
+        return Ok(());
+    }
+    Ok(memory.write4(array, word)?)
 }
 
 #[tactic(auto, unfolding(crate::specs::Gestalt::base_work))]

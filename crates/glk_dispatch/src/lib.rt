@@ -34,6 +34,3 @@ pub use streams::{StreamCall, get_code, position};
 pub use style::StyleCall;
 pub use waiting::answer;
 pub use windows::WindowCall;
-
-#[cfg(test)]
-mod tests;

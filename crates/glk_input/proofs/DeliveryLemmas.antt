@@ -1,12 +1,13 @@
 -- The characters of a line one by one.
 use native.Mathlib.Numerals.{unary_clauses}
-use Rattle.std.proofs.Common.{◌≡◌, ℕ, zero, suc, ◌+◌, ◌-◌, ◌%◌, ◌^◌, ◌<◌, refl, arith, Bool, List, [], ◌∷◌, length, map, take, Ok, Err, ap, sym, ◌∙◌}
+use Rattle.std.proofs.Common.{◌≡◌, ℕ, zero, suc, ◌+◌, ◌-◌, ◌%◌, ◌^◌, ◌<◌, refl, arith, Bool, List, [], ◌∷◌, ◌++◌, length, map, take, Ok, Err, Result, ap, sym, ◌∙◌, append_assoc}
 use Rattle.vm_memory.specs.Access.{written}
 use Rattle.vm_memory.specs.MemoryMap.{MemoryMap}
 use Rattle.vm_memory.specs.Access.{Leaves}
 use Rattle.vm_memory.specs.declared.fault.MemStop.{MemStop}
 use Rattle.vm_memory.specs.declared.fault.MemStop.TheVariants.{Fault, NoMemory}
-use Rattle.glk_input.specs.Delivery.{◌>>=◌, line_written, taken, width, Writes}
+use Rattle.glk_input.specs.Delivery.{◌>>=◌, line_written, taken, width, Writes, WritesPart}
+use Rattle.vm_memory.specs.declared.fault.MemFault.{MemFault}
 
 -- a line that may have more characters begins with its first
 pub front_written : (u : Bool) (m : MemoryMap) (at c : ℕ) (cs : List ℕ) (left : ℕ) → 0 < left
@@ -44,3 +45,67 @@ written_none u m at (suc left) = refl
 pub counted_none : (left count total : ℕ) → count + length (take {A = ℕ} left []) ≡ total → count ≡ total
 counted_none zero count total e = omega arith
 counted_none (suc left) count total e = omega arith
+
+-- ---- what a write that stops leaves
+
+-- the address behind so many characters
+abbrev pub place : Bool → ℕ → List ℕ → ℕ
+place u at [] = at
+place u at (c ∷ cs) = place u ((at + width u) % 2 ^ 32) cs
+
+-- the front of these characters is written, up to this address, and the rest is left
+pub record HasWritten (u : Bool) (m0 m : MemoryMap) (from at : ℕ) (rest codes : List ℕ) : Type 0 where
+  pub front : List ℕ
+  pub all : codes ≡ front ++ rest
+  pub is : line_written u m0 from (map (taken u) front) ≡ Ok m
+  pub there : place u from front ≡ at
+
+pub begins : (u : Bool) (m : MemoryMap) (from : ℕ) (codes : List ℕ) → HasWritten u m m from from codes codes
+begins u m from codes = record { front = []; all = refl; is = refl; there = refl }
+
+place-more : (u : Bool) (at c : ℕ) (cs : List ℕ) → place u at (cs ++ c ∷ []) ≡ (place u at cs + width u) % 2 ^ 32
+place-more u at c [] = refl
+place-more u at c (d ∷ cs) = place-more u ((at + width u) % 2 ^ 32) c cs
+
+abbrev held : MemoryMap → Result MemoryMap MemFault → MemoryMap
+held d (Ok m) = m
+held d (Err f) = d
+
+then : (r : Result MemoryMap MemFault) (f g : MemoryMap → Result MemoryMap MemFault) (m new : MemoryMap)
+    → ((n : MemoryMap) → f n ≡ Ok m → g n ≡ Ok new) → r >>= f ≡ Ok m → r >>= g ≡ Ok new
+then (Ok n) f g m new h e = h n e
+then (Err x) f g m new h e = cc
+
+-- one character more
+one_more : (u : Bool) (m0 m new : MemoryMap) (from c : ℕ) (cs : List ℕ)
+    → line_written u m0 from (map (taken u) cs) ≡ Ok m
+    → written (width u) m (place u from cs) (taken u c) ≡ Ok new
+    → line_written u m0 from (map (taken u) (cs ++ c ∷ [])) ≡ Ok new
+one_more u m0 m new from c [] e w =
+    let same : written (width u) m0 from (taken u c) ≡ Ok new =
+    ap (λ (n : MemoryMap). written (width u) n from (taken u c)) (ap (held m0) e) ∙ w in
+    ap (λ (r : Result MemoryMap MemFault). r >>= (λ n. line_written u n ((from + width u) % 2 ^ 32) [])) same
+one_more u m0 m new from c (d ∷ cs) e w =
+    then (written (width u) m0 from (taken u d))
+    (λ n. line_written u n ((from + width u) % 2 ^ 32) (map (taken u) cs))
+    (λ n. line_written u n ((from + width u) % 2 ^ 32) (map (taken u) (cs ++ c ∷ [])))
+    m new (λ n k. one_more u n m new ((from + width u) % 2 ^ 32) c cs k w) e
+
+front_of : (c : ℕ) (cs : List ℕ) (left : ℕ) → 0 < left → take left (c ∷ cs) ≡ c ∷ take (left - 1) cs
+front_of c cs zero h = absurd (omega arith)
+front_of c cs (suc left) h = simp unary_clauses
+
+pub goes_on : (u : Bool) (m0 m new : MemoryMap) (from at c : ℕ) (cs codes : List ℕ) (left : ℕ) → 0 < left
+    → HasWritten u m0 m from at (take left (c ∷ cs)) codes
+    → written (width u) m at (taken u c) ≡ Ok new
+    → HasWritten u m0 new from ((at + width u) % 2 ^ 32) (take (left - 1) cs) codes
+goes_on u m0 m new from at c cs codes left h k w = record {
+  front = k.front ++ c ∷ [];
+  all = k.all ∙ ap (λ (l : List ℕ). k.front ++ l) (front_of c cs left h) ∙ sym (append_assoc k.front (c ∷ []) (take (left - 1) cs));
+  is = one_more u m0 m new from c k.front k.is (ap (λ (a : ℕ). written (width u) m a (taken u c)) k.there ∙ w);
+  there = place-more u from c k.front ∙ ap (λ (a : ℕ). (a + width u) % 2 ^ 32) k.there;
+}
+
+pub stops : (u : Bool) (m0 m new : MemoryMap) (from at : ℕ) (rest codes : List ℕ) → HasWritten u m0 m from at rest codes
+    → new ≡ m → WritesPart u m0 from codes new
+stops u m0 m new from at rest codes k e = (k.front, rest, k.all, k.is ∙ ap Ok (sym e))

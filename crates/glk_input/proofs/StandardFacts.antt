@@ -2,6 +2,7 @@
 use Rattle.std.specs.Prelude.{◌≡◌, [], ◌∷◌, true, false, map, Some}
 use Rattle.std.proofs.Common.{refl}
 use Rattle.glk_input.specs.Keycode.{is_keycode, is_terminator}
+use Rattle.glk_input.specs.declared.keycode.TheConstants.{UNKNOWN, LEFT, RIGHT, UP, DOWN, RETURN, DELETE, ESCAPE, TAB, PAGE_UP, PAGE_DOWN, HOME, END, FUNC1, FUNC12}
 use Rattle.glk_input.specs.Request.{cancelled}
 use Rattle.glk_input.specs.Delivery.{taken_key, taken_line, wants_line}
 use Rattle.glk_input.specs.declared.request.LineRequest.{LineRequest}
@@ -10,6 +11,15 @@ use Rattle.glk_input.specs.declared.request.Request.TheVariants.{Line, Char}
 -- a plain line of at most 2 that Escape may end
 abbrev pub asked : LineRequest
 asked = record { buf = 256; max = 2; init = 1; unicode = false; echo = true; keys = 0xFFFFFFF8 ∷ [] }
+
+-- the numbers of the keys, in the order of the header
+pub key_numbers : UNKNOWN ∷ LEFT ∷ RIGHT ∷ UP ∷ DOWN ∷ RETURN ∷ DELETE ∷ ESCAPE ∷ TAB ∷ PAGE_UP ∷ PAGE_DOWN ∷ HOME ∷ END ∷ []
+    ≡ 0xFFFFFFFF ∷ 0xFFFFFFFE ∷ 0xFFFFFFFD ∷ 0xFFFFFFFC ∷ 0xFFFFFFFB ∷ 0xFFFFFFFA ∷ 0xFFFFFFF9 ∷ 0xFFFFFFF8 ∷ 0xFFFFFFF7
+    ∷ 0xFFFFFFF6 ∷ 0xFFFFFFF5 ∷ 0xFFFFFFF4 ∷ 0xFFFFFFF3 ∷ []
+key_numbers = refl
+
+pub function_keys : FUNC1 ∷ FUNC12 ∷ [] ≡ 0xFFFFFFEF ∷ 0xFFFFFFE4 ∷ []
+function_keys = refl
 
 -- Unknown, Return, Escape, End, Func1 and Func12 are keycodes; what lies beside them isn't
 pub keycodes : map is_keycode (0xFFFFFFFF ∷ 0xFFFFFFFA ∷ 0xFFFFFFF8 ∷ 0xFFFFFFF3 ∷ 0xFFFFFFF2 ∷ 0xFFFFFFF0 ∷ 0xFFFFFFEF ∷ 0xFFFFFFE4 ∷ 0xFFFFFFE3 ∷ [])

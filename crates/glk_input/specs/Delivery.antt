@@ -1,7 +1,7 @@
 -- The delivery of an input (Glk 0.7.5, "Line Input Events", "Character Input Events").
 use Rattle.std.specs.Prelude.{◌≡◌, ℕ, ◌+◌, ◌%◌, ◌^◌, ◌==◌, ◌&&◌}
 use Rattle.std.specs.Prelude.{◌||◌, nat_lt, not, Bool, true}
-use Rattle.std.specs.Prelude.{false, if◌then◌else◌, List, [], ◌∷◌, length, map, take}
+use Rattle.std.specs.Prelude.{false, if◌then◌else◌, List, [], ◌∷◌, ◌++◌, length, map, take}
 use Rattle.std.specs.Prelude.{Option, Some, None, Result, Ok, Err}
 use Rattle.vm_memory.specs.Access.{written}
 use Rattle.vm_memory.specs.MemoryMap.{MemoryMap}
@@ -117,3 +117,23 @@ Writes unicode old at codes new (Ok n) =
 Writes unicode old at codes new (Err (stop.Fault f)) =
     line_written unicode old at (map (taken unicode) codes) ≡ Err f
 Writes unicode old at codes new (Err stop.NoMemory) = Unit {0}
+
+-- A first part of the characters was written as an array from an address on, and no more.
+abbrev pub WritesPart : Bool → MemoryMap → ℕ → List ℕ → MemoryMap → Type 0
+WritesPart unicode old at codes new =
+    (front : List ℕ) × (rest : List ℕ) × (codes ≡ front ++ rest)
+    × (line_written unicode old at (map (taken unicode) front) ≡ Ok new)
+
+-- A first part of the line stands in the request's array, and no more.
+abbrev pub LeavesLinePart : Option Request → MemoryMap → List ℕ → MemoryMap → Type 0
+LeavesLinePart (Some (Line r)) old text new =
+    WritesPart r.unicode old r.buf (take r.max text) new
+LeavesLinePart (Some (Char unicode)) old text new = new ≡ old
+LeavesLinePart None old text new = new ≡ old
+
+-- What a delivery that fails leaves in memory: a first part of the line.
+abbrev pub LeavesPart : List WindowInput → MemoryMap → Input → MemoryMap → Type 0
+LeavesPart ws old (input.Line win text key) new =
+    LeavesLinePart (request_of ws win) old text new
+LeavesPart ws old (input.Char win code) new = new ≡ old
+LeavesPart ws old (input.File name) new = new ≡ old

@@ -1,6 +1,6 @@
 //! The delivery of an input (Glk 0.7.5, "Line Input Events", "Character Input Events").
 
-ghost use Rattle.std.specs.Prelude.{◌≡◌, take};
+ghost use Rattle.std.specs.Prelude.{◌≡◌, OnErr, take};
 ghost use Rattle.std.specs.Str.{chars};
 ghost use Rattle.vm_memory.specs.Access.{Leaves, written};
 ghost use Rattle.glk_input.specs.Delivery as delivery;
@@ -44,14 +44,16 @@ impl Requests {
         }
     }
 
-    /// Delivers an input: a line's characters go to the request's array, the request is over, and
-    /// the event tells what came. The refusal is that of a write to memory; the request is over
-    /// then too. Callers ask `wants` first; an event of zeros comes where the window asks for
-    /// another kind of input.
+    /// Delivers an input: the request is over, then a line's characters go to its array, and the
+    /// event tells what came. The refusal is that of a write to memory; what the work had reached
+    /// stands: the request is over, and memory has a first part of the line. Callers ask `wants`
+    /// first; an event of zeros comes where the window asks for another kind of input.
     pub fn deliver(&mut self, memory: &mut Memory, input: &Input) -> Result<Event, MemStop>
         ensures value { delivery.Delivers (delivery.delivered self.old memory.old input.now)
             memory.new result }
         ensures over { self.new ≡ delivery.answered self.old input.now }
+        ensures part { OnErr result
+            (delivery.LeavesPart self.old memory.old input.now memory.new) }
     {
         match input {
             Input::Line { win, text, key } => self.deliver_line(memory, *win, text, *key),
@@ -70,6 +72,8 @@ impl Requests {
         ensures value { delivery.Delivers (delivery.line_delivered
             (request.request_of self.old win) memory.old win text.now key) memory.new result }
         ensures over { self.new ≡ request.changed request.ended self.old win }
+        ensures part { OnErr result (delivery.LeavesLinePart
+            (request.request_of self.old win) memory.old text.now memory.new) }
     {
         let asked = self.request(win);
         self.change(win, Change::End);
@@ -101,8 +105,10 @@ fn take_line(
     text: &Text,
     key: u32,
 ) -> Result<Event, MemStop>
-    ensures { delivery.Delivers (delivery.line_taken line.now memory.old win text.now key)
+    ensures value { delivery.Delivers (delivery.line_taken line.now memory.old win text.now key)
         memory.new result }
+    ensures part { OnErr result (delivery.WritesPart line.now.unicode memory.old line.now.buf
+        (take line.now.max text.now) memory.new) }
 {
     let count = write_front(memory, line.buf, line.unicode, text.as_str(), line.max)?;
     Ok(Event::line(win, count, key))
@@ -115,8 +121,10 @@ fn width(unicode: bool) -> u32
 }
 
 fn write_char(memory: &mut Memory, at: u32, unicode: bool, c: char) -> Result<(), MemStop>
-    ensures { Leaves (written (delivery.width unicode) memory.old at (delivery.taken unicode c))
+    ensures value { Leaves
+        (written (delivery.width unicode) memory.old at (delivery.taken unicode c))
         memory.new result }
+    ensures err { OnErr result (memory.new ≡ memory.old) }
 {
     let code = u32::from(c);
     if unicode {
@@ -134,8 +142,10 @@ fn write_front(
     text: &str,
     max: u32,
 ) -> Result<u32, MemStop>
-    ensures { delivery.Writes unicode memory.old from
+    ensures value { delivery.Writes unicode memory.old from
         (take max (chars text.now)) memory.new result }
+    ensures part { OnErr result (delivery.WritesPart unicode memory.old from
+        (take max (chars text.now)) memory.new) }
 {
     let mut at = from;
     let mut count = 0;

@@ -16,6 +16,3 @@ pub use keys::{Keys, MAX_KEYS};
 pub use laws::windows_stay_valid;
 pub use request::{LineRequest, Request, WindowInput};
 pub use requests::Requests;
-
-#[cfg(test)]
-mod tests;

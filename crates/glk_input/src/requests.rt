@@ -1,6 +1,6 @@
 //! The requests of all windows (Glk 0.7.5, "Line Input Events", "Character Input Events").
 
-ghost use Rattle.std.specs.Prelude.{◌≡◌, ◌≤◌, ◌==◌, [], IfOk, length, not};
+ghost use Rattle.std.specs.Prelude.{◌≡◌, ◌≤◌, ◌==◌, [], IfOk, OnErr, length, not};
 ghost use Rattle.glk_input.specs.Delivery as delivery;
 ghost use Rattle.glk_input.specs.Request as request;
 
@@ -59,9 +59,10 @@ impl Requests {
     }
 
     /// Begins a window: its lines will echo, and end by the return key alone. Nothing where it has
-    /// begun. An error where memory runs out.
+    /// begun. An error where memory runs out; then nothing changed.
     pub fn begin_window(&mut self, alloc: Global, win: u32) -> Result<(), AllocError>
-        ensures { IfOk result (λ _. self.new ≡ request.with_window self.old win) }
+        ensures ok { IfOk result (λ _. self.new ≡ request.with_window self.old win) }
+        ensures err { OnErr result (self.new ≡ self.old) }
     {
         if is_live(&self.windows, win) {
             return Ok(());
@@ -72,7 +73,7 @@ impl Requests {
     }
 
     /// Asks for a line, by the window's settings of now. Ignored where a request is there. An error
-    /// where memory runs out, and none where the window has begun.
+    /// where memory runs out, and none where the window has begun; then nothing changed.
     pub fn ask_line(
         &mut self,
         alloc: Global,
@@ -82,9 +83,10 @@ impl Requests {
         init: u32,
         unicode: bool,
     ) -> Result<(), AllocError>
-        ensures { IfOk result (λ _. self.new
+        ensures ok { IfOk result (λ _. self.new
             ≡ request.changed (request.line_asked buf max init unicode)
             (request.with_window self.old win) win) }
+        ensures err { OnErr result (self.new ≡ self.old) }
     {
         self.begin_window(alloc, win)?;
         self.change(
@@ -99,11 +101,13 @@ impl Requests {
         Ok(())
     }
 
-    /// Asks for a character. Ignored where a request is there. An error where memory runs out.
+    /// Asks for a character. Ignored where a request is there. An error where memory runs out;
+    /// then nothing changed.
     pub fn ask_char(&mut self, alloc: Global, win: u32, unicode: bool) -> Result<(), AllocError>
-        ensures { IfOk result (λ _. self.new
+        ensures ok { IfOk result (λ _. self.new
             ≡ request.changed (request.char_asked unicode)
             (request.with_window self.old win) win) }
+        ensures err { OnErr result (self.new ≡ self.old) }
     {
         self.begin_window(alloc, win)?;
         self.change(win, Change::AskChar { unicode });
@@ -139,7 +143,8 @@ impl Requests {
         self.change(win, Change::Echo(val != 0))
     }
 
-    /// The keys that end the window's later lines. An error where memory runs out.
+    /// The keys that end the window's later lines. An error where memory runs out; then nothing
+    /// changed.
     pub fn set_terminators(
         &mut self,
         alloc: Global,
@@ -147,9 +152,10 @@ impl Requests {
         keys: &[u32],
     ) -> Result<(), AllocError>
         requires { length keys.now ≤ 13 }
-        ensures { IfOk result (λ _. self.new
+        ensures ok { IfOk result (λ _. self.new
             ≡ request.changed (request.with_keys keys.now)
             (request.with_window self.old win) win) }
+        ensures err { OnErr result (self.new ≡ self.old) }
     {
         self.begin_window(alloc, win)?;
         self.change(win, Change::Terminators(Keys::of(keys)));

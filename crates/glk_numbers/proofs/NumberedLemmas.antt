@@ -1,7 +1,7 @@
--- A change of the value with a number is a change at its place.
-use Rattle.std.proofs.Common.{◌≡◌, ℕ, zero, suc, ◌+◌, List, [], ◌∷◌, refl, Option, Some, None, ap, arith, slice_set, slice_index_or, nat_eq, Bool, true, false, rules}
+-- A change of the value with a number is a change at its place; the next number is the least.
+use Rattle.std.proofs.Common.{◌≡◌, ℕ, ◌<◌, ◌≤◌, List, [], ◌∷◌, refl, Some, None, arith, slice_set, slice_index_or, true, false}
 use Rattle.std.proofs.lemmas.Grind.{common_steps}
-use Rattle.glk_numbers.specs.Numbered.{place_of, changed_at, behind}
+use Rattle.glk_numbers.specs.Numbered.{place_of, changed_at, after, ascends, has, IsLeastAbove}
 
 pub changed_at-none : {X : Type 0} (number : X → ℕ) (f : X → X) (xs : List X) (n : ℕ)
     → None ≡ place_of number xs n → xs ≡ changed_at number f xs n
@@ -16,3 +16,46 @@ unfolding changed_at place_of
 changed_at-some number f [] n i d v e h = absurd (grind (arith, e))
 changed_at-some number f (x ∷ xs) n i d v e h =
     grind (arith, common_steps, changed_at-some number f xs n)
+
+-- each number lies above the lower bound
+ascends-above : {X : Type 0} (number : X → ℕ) (low high : ℕ) (xs : List X) (m : ℕ)
+    → ascends number low high xs ≡ true → has number xs m ≡ true → low < m
+unfolding ascends has
+ascends-above number low high [] m a h = absurd cc
+ascends-above number low high (x ∷ xs) m a h =
+    grind (arith, common_steps, ascends-above number (number x) high xs m)
+
+after-none : {X : Type 0} (number : X → ℕ) (low high : ℕ) (xs : List X) (n m : ℕ)
+    → ascends number low high xs ≡ true → after number xs n ≡ 0 → n < m → has number xs m ≡ false
+unfolding ascends has after
+after-none number low high [] n m a e l = refl
+after-none number low high (x ∷ xs) n m a e l =
+    grind (arith, common_steps, after-none number (number x) high xs n m)
+
+after-above : {X : Type 0} (number : X → ℕ) (xs : List X) (n : ℕ)
+    → 0 < after number xs n → n < after number xs n
+unfolding after
+after-above number [] n l = absurd (grind (arith, l))
+after-above number (x ∷ xs) n l = grind (arith, common_steps, after-above number xs n)
+
+after-there : {X : Type 0} (number : X → ℕ) (xs : List X) (n : ℕ)
+    → 0 < after number xs n → has number xs (after number xs n) ≡ true
+unfolding after has
+after-there number [] n l = absurd (grind (arith, l))
+after-there number (x ∷ xs) n l = grind (arith, common_steps, after-there number xs n)
+
+after-first : {X : Type 0} (number : X → ℕ) (low high : ℕ) (xs : List X) (n m : ℕ)
+    → ascends number low high xs ≡ true → n < m → has number xs m ≡ true → after number xs n ≤ m
+unfolding after has ascends
+after-first number low high [] n m a l h = absurd cc
+after-first number low high (x ∷ xs) n m a l h =
+    grind (arith, common_steps, ascends-above number (number x) high xs m, after-first number (number x) high xs n m)
+
+pub after_is_least : {X : Type 0} (number : X → ℕ) (high : ℕ) (xs : List X) (n : ℕ)
+    → ascends number 0 high xs ≡ true → IsLeastAbove number xs n (after number xs n)
+after_is_least number high xs n a = record {
+  none = λ e m l. after-none number 0 high xs n m a e l;
+  above = λ l. after-above number xs n l;
+  there = λ l. after-there number xs n l;
+  first = λ p m l h. after-first number 0 high xs n m a l h;
+}

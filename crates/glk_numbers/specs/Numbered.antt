@@ -1,5 +1,5 @@
 -- Values by number: a class of objects as a list (Glk 0.7.5, "Opaque Objects").
-use Rattle.std.specs.Prelude.{ℕ, ◌+◌, ◌==◌, ◌||◌, ◌&&◌, nat_lt}
+use Rattle.std.specs.Prelude.{◌≡◌, ℕ, ◌+◌, ◌<◌, ◌≤◌, ◌==◌, ◌||◌, ◌&&◌, nat_lt}
 use Rattle.std.specs.Prelude.{if◌then◌else◌, Bool, true, false, List, [], ◌∷◌, Option}
 use Rattle.std.specs.Prelude.{Some, None}
 
@@ -44,3 +44,10 @@ unfoldable pub ascends : {X : Type 0} → (X → ℕ) → ℕ → ℕ → List X
 ascends number low high [] = true
 ascends number low high (x ∷ xs) =
     nat_lt low (number x) && nat_lt (number x) high && ascends number (number x) high xs
+
+-- the least number above n, or 0 where no number is above it
+pub record IsLeastAbove {X : Type 0} (number : X → ℕ) (xs : List X) (n least : ℕ) : Type 0 where
+  pub none : least ≡ 0 → (m : ℕ) → n < m → has number xs m ≡ false
+  pub above : 0 < least → n < least
+  pub there : 0 < least → has number xs least ≡ true
+  pub first : 0 < least → (m : ℕ) → n < m → has number xs m ≡ true → least ≤ m

@@ -6,8 +6,20 @@ use Rattle.glk_streams.specs.Coding.{kept, units_of}
 use Rattle.glk_streams.specs.FileRefs.{style_of}
 use Rattle.glk_streams.specs.Files.{kind_of}
 use Rattle.glk_streams.specs.Names.{cleaned, before_period}
+use Rattle.glk_streams.specs.Output.{address_of}
 use Rattle.glk_streams.specs.Position.{away}
 use Rattle.glk_streams.specs.declared.coding.Coding.TheVariants.{Latin1, Utf8, Utf32}
+use Rattle.glk_streams.specs.declared.file.TheConstants.{MAX_FILES, MAX_FILE_BYTES}
+use Rattle.glk_streams.specs.declared.fileref.TheConstants.{MAX_REFS}
+use Rattle.glk_streams.specs.declared.stream.TheConstants.{MAX_STREAMS}
+
+-- the limits of a session: streams, file references, files, and their bytes in sum
+pub limits : MAX_STREAMS ∷ MAX_REFS ∷ MAX_FILES ∷ MAX_FILE_BYTES ∷ [] ≡ 64 ∷ 64 ∷ 64 ∷ 0x100000 ∷ []
+limits = refl
+
+-- behind the last word of all addresses stands the first
+pub addresses_are_modulo_2_32 : address_of Utf32 0xFFFFFFFC 1 ≡ 0
+addresses_are_modulo_2_32 = refl
 
 pub a_slash_and_an_ending_go : cleaned (codes "a/b.c") ≡ codes "ab"
 unfolding before_period

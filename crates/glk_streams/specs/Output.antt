@@ -28,10 +28,9 @@ placed place s = record s { place = place }
 abbrev pub length_of : ℕ → ℕ → ℕ
 length_of buf len = if buf == 0 then 0 else len
 
--- where a character of a buffer stands; a place past the last address is the last address, which
--- no memory has
+-- where a character of a buffer stands: addresses are modulo 2^32, as those of all arrays
 abbrev pub address_of : Coding → ℕ → ℕ → ℕ
-address_of c buf place = min (buf + unit_of c * place) 4294967295
+address_of c buf place = (buf + unit_of c * place) % 2 ^ 32
 
 -- a character put into a buffer, and where its stream then stands; it is dropped at the end
 abbrev pub put_in_memory : MemoryMap → ℕ → ℕ → ℕ → Coding → ℕ

@@ -26,6 +26,3 @@ pub use name::{clean_name, temporary_name};
 pub use opening::Counts;
 pub use stream::{MAX_STREAMS, Stream, Target};
 pub use streams::Streams;
-
-#[cfg(test)]
-mod tests;

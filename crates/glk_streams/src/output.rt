@@ -24,11 +24,11 @@ pub(crate) fn length_of(buf: u32, len: u32) -> u32
     if buf == 0 { 0 } else { len }
 }
 
-/// Where a character of a buffer stands; the last address for one past it.
+/// Where a character of a buffer stands: addresses are modulo 2^32.
 pub(crate) fn address_of(coding: Coding, buf: u32, place: u32) -> u32
     ensures { result ≡ output.address_of coding buf place }
 {
-    buf.saturating_add(place.saturating_mul(coding.unit()))
+    buf.wrapping_add(place.wrapping_mul(coding.unit()))
 }
 
 /// Writes a character's number in as many bytes as a position has.

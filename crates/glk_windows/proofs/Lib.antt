@@ -14,4 +14,5 @@ pub mod SoundLemmas
 pub mod KeyLemmas
 pub mod ValidLemmas
 pub mod BelowLemmas
+pub mod SpellingLemmas
 pub mod StandardFacts

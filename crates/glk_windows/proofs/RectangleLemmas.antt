@@ -13,8 +13,8 @@ use Rattle.glk_windows.specs.Resizing.{sized, content_sized}
 use Rattle.glk_windows.specs.Placing.{placed, divided, with_area, has_size, share, first_part, second_part, is_stacked, is_after}
 use Rattle.glk_windows.specs.OneTree.{Shape, Leaf, Fork, top, count, bare, node_of, Spells, IsTree, size, shape_of}
 use Rattle.glk_windows.specs.Valid.{IsOrdered}
-use Rattle.glk_windows.specs.Laws.{nowhere, area_of, IsInside, Covers, StaysOnScreen, NeverOverlaps}
-use Rattle.glk_windows.proofs.OneTreeLemmas.{once_le, not_top}
+use Rattle.glk_windows.specs.Laws.{nowhere, area_of, IsInside, Covers, StaysOnScreen, NeverOverlaps, FillsScreen}
+use Rattle.glk_windows.proofs.OneTreeLemmas.{count_top, once_le, not_top}
 use Rattle.glk_windows.proofs.CutLemmas.{spells_on, node_pair, size_length}
 use Rattle.glk_windows.proofs.SameLemmas.{node_placed, node_with}
 use Rattle.glk_windows.proofs.TestLemmas.{tree_of_test}
@@ -113,6 +113,38 @@ cuts-apart true false k l a hk hl x y f s = absurd (omega (arith, s.bottom, f.to
 cuts-apart false true k l a hk hl x y f s = absurd (omega (arith, f.right, s.left))
 cuts-apart false false k l a hk hl x y f s = absurd (omega (arith, s.right, f.left))
 
+split : (b : Bool) (m n : ℕ) → nat_lt m n ≡ b → (m < n) ⊎ (n ≤ m)
+split true m n e = inl (grind (arith, common_steps))
+split false m n e = inr (grind (arith, common_steps))
+
+-- each cell of a rectangle lies in one of its parts
+cuts-cover : (stacked after : Bool) (k l : ℕ) (a : Area) → k ≤ a.h → l ≤ a.w → (x y : ℕ) → Covers a x y
+    → Covers (first_cut stacked after k l a) x y ⊎ Covers (second_cut stacked after k l a) x y
+cuts-cover true true k l a hk hl x y c =
+    elim (split (nat_lt y (a.y + (a.h - k))) y (a.y + (a.h - k)) refl)
+    as (λ _. Covers (first_cut true true k l a) x y ⊎ Covers (second_cut true true k l a) x y) [
+      | inl h ↦ inl (record { left = c.left; right = c.right; top = c.top; bottom = h })
+      | inr h ↦ inr (record { left = c.left; right = c.right; top = h; bottom = omega (arith, c.bottom, hk) })
+    ]
+cuts-cover true false k l a hk hl x y c =
+    elim (split (nat_lt y (a.y + k)) y (a.y + k) refl)
+    as (λ _. Covers (first_cut true false k l a) x y ⊎ Covers (second_cut true false k l a) x y) [
+      | inl h ↦ inr (record { left = c.left; right = c.right; top = c.top; bottom = h })
+      | inr h ↦ inl (record { left = c.left; right = c.right; top = h; bottom = omega (arith, c.bottom, hk) })
+    ]
+cuts-cover false true k l a hk hl x y c =
+    elim (split (nat_lt x (a.x + (a.w - l))) x (a.x + (a.w - l)) refl)
+    as (λ _. Covers (first_cut false true k l a) x y ⊎ Covers (second_cut false true k l a) x y) [
+      | inl h ↦ inl (record { left = c.left; right = h; top = c.top; bottom = c.bottom })
+      | inr h ↦ inr (record { left = h; right = omega (arith, c.right, hl); top = c.top; bottom = c.bottom })
+    ]
+cuts-cover false false k l a hk hl x y c =
+    elim (split (nat_lt x (a.x + l)) x (a.x + l) refl)
+    as (λ _. Covers (first_cut false false k l a) x y ⊎ Covers (second_cut false false k l a) x y) [
+      | inl h ↦ inr (record { left = c.left; right = h; top = c.top; bottom = c.bottom })
+      | inr h ↦ inl (record { left = h; right = omega (arith, c.right, hl); top = c.top; bottom = c.bottom })
+    ]
+
 share-within : (p : pairs.Pair) (s : Bool) (e : ℕ) → share p s e ≤ e
 share-within p s e = min-le_left e _
 
@@ -132,6 +164,7 @@ pub record Parts (d : ℕ) (ws : List Window) (n : ℕ) (r : Area) (a b : Shape)
   pub in_first : IsInside first r
   pub in_second : IsInside second r
   pub apart : (x y : ℕ) → Covers first x y → Covers second x y → ⊥
+  pub all : (x y : ℕ) → Covers r x y → Covers first x y ⊎ Covers second x y
 
 parts : (d : ℕ) (ws : List Window) (n : ℕ) (r : Area) (p : pairs.Pair) (a b : Shape) (up : ℕ)
     → node_of ws n ≡ Some (up, Some p) → p.first ≡ top a → p.second ≡ top b → Parts d ws n r a b
@@ -156,6 +189,7 @@ parts d ws n r p a b up t e f =
       in_first = inside-first (is_stacked q) (is_after q) (share q z r.h) (share q z r.w) r h l;
       in_second = inside-second (is_stacked q) (is_after q) (share q z r.h) (share q z r.w) r h l;
       apart = cuts-apart (is_stacked q) (is_after q) (share q z r.h) (share q z r.w) r h l;
+      all = cuts-cover (is_stacked q) (is_after q) (share q z r.h) (share q z r.w) r h l;
     }
 
 placed-leaf : (d : ℕ) (ws : List Window) (n : ℕ) (r : Area) (up : ℕ)
@@ -367,3 +401,52 @@ never_overlaps t cols rows m n x y o e ne hm hn cm cn =
             (covers-at _ _ x y (at m) cm) (covers-at _ _ x y (at n) cn)
       ])
     ]
+
+-- each cell of the rectangle that a tree is given lies in one of its windows that are no pairs
+area_filled : (d : ℕ) (s : Shape) (ws : List Window) (up : ℕ) (r : Area) (x y : ℕ) → size s ≤ d → Spells ws up s
+    → ((k : ℕ) → count s k ≤ 1) → Covers r x y
+    → (m : ℕ) × (0 < count s m) × (pair_of ws m ≡ None) × Covers (area_of (placed d ws (top s) r) m) x y
+area_filled zero (Leaf n) ws up r x y h t c v = absurd (omega (arith, h))
+area_filled zero (Fork n p a b) ws up r x y h t c v = absurd (omega (arith, h))
+area_filled (suc d) (Leaf n) ws up r x y h t c v =
+    let e : area_of (placed (suc d) ws n r) n ≡ r = ap (λ l. area_of l n) (placed-leaf d ws n r up t) ∙ area-own ws n r _ t in
+    (n, count_top (Leaf n), none_of _ (node_pair ws n _ t), covers-at r _ x y (sym e) v)
+area_filled (suc d) (Fork n p a b) ws up r x y h t c v =
+    let k : Parts d ws n r a b = parts d ws n r p a b up t.0 t.1 t.2 in
+    let w1 : List Window = with_area ws n r in
+    let w2 : List Window = placed d w1 (top a) k.first in
+    let t1 : Spells w1 n a = spells-with ws n r a n t.3 in
+    let t2 : Spells w2 n b = spells-placed d ws n (top a) r k.first b n t.4 in
+    let ha : size a ≤ d = omega (arith, h) in
+    let hb : size b ≤ d = omega (arith, h) in
+    let ca : (z : ℕ) → count a z ≤ 1 = λ z. omega (arith, c z) in
+    let cb : (z : ℕ) → count b z ≤ 1 = λ z. omega (arith, c z) in
+    let at : (z : ℕ) → area_of (placed (suc d) ws n r) z ≡ area_of (placed d w2 (top b) k.second) z =
+    λ z. ap (λ l. area_of l z) k.is in
+    elim (k.all x y v) as (λ _. (m : ℕ) × (0 < count (Fork n p a b) m) × (pair_of ws m ≡ None)
+    × Covers (area_of (placed (suc d) ws n r) m) x y) [
+      | inl f ↦ (let i = area_filled d a w1 n k.first x y ha t1 ca f in
+          let z : count b i.0 ≡ 0 = omega (arith, c i.0, i.1) in (
+            i.0,
+            omega (arith, i.1),
+            sym (pair_with ws n r i.0) ∙ i.2,
+            covers-at _ _ x y (sym (at i.0 ∙ area_kept d b w2 n k.second i.0 t2 z)) i.3,
+          ))
+      | inr f ↦ (let i = area_filled d b w2 n k.second x y hb t2 cb f in (
+        i.0,
+        omega (arith, i.1),
+        sym (pair_with ws n r i.0) ∙ sym (pair_placed d w1 (top a) k.first i.0) ∙ i.2,
+        covers-at _ _ x y (sym (at i.0)) i.3,
+      ))
+    ]
+
+pub fills_screen : FillsScreen
+unfolding IsOrdered
+fills_screen t cols rows x y o e lx ly =
+    let s : Shape = shape_of (length t.slots) t.slots t.root in
+    let k : IsTree t (Some s) = tree_of_test t e in
+    let z : size s ≡ length t.slots = size_length 1 t.slots t.next 0 s o k.1 k.2 in
+    let r : Area = record { x = 0; y = 0; w = cols; h = rows } in
+    let c : Covers r x y = record { left = omega arith; right = omega (arith, lx); top = omega arith; bottom = omega (arith, ly) } in
+    let i = area_filled (length t.slots) s t.slots 0 r x y (omega (arith, z)) k.1 (λ j. once_le _ _ (k.2 j)) c in
+    (i.0, i.2, covers-at _ _ x y (ap (λ j. area_of (placed (length t.slots) t.slots j r) i.0) (sym k.0)) i.3)

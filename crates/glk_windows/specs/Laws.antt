@@ -1,6 +1,7 @@
 -- What holds of all windows that are one tree (Glk 0.7.5, "The Window Tree").
-use Rattle.std.specs.Prelude.{◌≡◌, ◌≢◌, ℕ, ◌+◌, ◌≤◌, ◌<◌, true, []}
-use Rattle.std.specs.Prelude.{List, ◌⊎◌, None}
+use Rattle.std.specs.Prelude.{◌≡◌, ◌≢◌, ℕ, ◌+◌, ◌≤◌, ◌<◌, true, [], ◌∷◌, ◌++◌}
+use Rattle.std.specs.Prelude.{List, length, map, ◌⊎◌, None}
+use Rattle.glk_windows.specs.declared.text.Run.{Run}
 use Rattle.glk_windows.specs.declared.window.Window.{Window}
 use Rattle.glk_windows.specs.declared.window.Area.{Area}
 use Rattle.glk_windows.specs.Tree.{WindowTree, number_of, read, window_at, pair_of}
@@ -11,7 +12,7 @@ use Rattle.glk_windows.specs.Valid.{IsOrdered, IsValid}
 use Rattle.glk_windows.specs.Opening.{split}
 use Rattle.glk_windows.specs.Closing.{close, echo_ended}
 use Rattle.glk_windows.specs.Arranging.{arrange, is_method, move_to, stream_set, echo_set}
-use Rattle.glk_windows.specs.Output.{put, clear, begin_turn}
+use Rattle.glk_windows.specs.Output.{put, clear, begin_turn, run_on}
 use Rattle.glk_numbers.specs.Numbered.{has}
 
 -- a rectangle of no cell
@@ -51,6 +52,12 @@ NeverOverlaps =
     → Covers (area_of (place t cols rows).slots m) x y
     → Covers (area_of (place t cols rows).slots n) x y → ⊥
 
+-- each cell of the screen lies in a window that is no pair
+abbrev pub FillsScreen : Type 0
+FillsScreen =
+    (t : WindowTree) (cols rows x y : ℕ) → IsOrdered t → is_tree t ≡ true → x < cols → y < rows
+    → (n : ℕ) × (pair_of t.slots n ≡ None) × Covers (area_of (place t cols rows).slots n) x y
+
 -- a live window
 abbrev pub IsLive : WindowTree → ℕ → Type 0
 IsLive t n = has number_of t.slots n ≡ true
@@ -84,3 +91,21 @@ pub record KeepsValid : Type 0 where
   pub set_echo : (t : WindowTree) (n stream : ℕ) → IsValid t → IsValid (echo_set t n stream)
   pub end_echo : (t : WindowTree) (stream : ℕ) → IsValid t → IsValid (echo_ended t stream)
   pub begin_turn : (t : WindowTree) → IsValid t → IsValid (begin_turn t)
+
+-- the characters of runs in their order, each with its style
+abbrev pub spelled_by : List Run → List (ℕ × ℕ)
+spelled_by [] = []
+spelled_by (r ∷ rs) = map (λ code. (code, r.style)) r.codes ++ spelled_by rs
+
+-- no run is empty, and neighbours have different styles
+abbrev pub AreRuns : List Run → Type 0
+AreRuns [] = Unit {0}
+AreRuns (r ∷ []) = 0 < length r.codes
+AreRuns (r ∷ s ∷ rs) = (0 < length r.codes) × (r.style ≢ s.style) × AreRuns (s ∷ rs)
+
+-- runs spell what was put, each character in its style
+pub record SpellsOutput : Type 0 where
+  pub none : spelled_by [] ≡ []
+  pub more : (rs : List Run) (code style : ℕ)
+      → spelled_by (run_on rs code style) ≡ spelled_by rs ++ (code, style) ∷ []
+  pub runs : (rs : List Run) (code style : ℕ) → AreRuns rs → AreRuns (run_on rs code style)

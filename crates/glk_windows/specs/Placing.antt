@@ -1,7 +1,7 @@
 -- The rectangles of the windows (Glk 0.7.5, "Window Opening, Closing, and Constraints").
-use Rattle.std.specs.Prelude.{ℕ, zero, suc, ◌+◌, ◌-◌, ◌*◌, ◌/◌, ◌==◌, min}
+use Rattle.std.specs.Prelude.{◌≡◌, ℕ, zero, suc, ◌+◌, ◌-◌, ◌*◌, ◌/◌, ◌==◌, min}
 use Rattle.std.specs.Prelude.{not, true, false, ◌<◌, ◌^◌, if◌then◌else◌, Bool, List}
-use Rattle.std.specs.Prelude.{length, bit_and, Option, Some, None}
+use Rattle.std.specs.Prelude.{[], ◌∷◌, length, bit_and, Option, Some, None}
 use Rattle.glk_windows.specs.declared.window.Window.{Window}
 use Rattle.glk_windows.specs.declared.window.Pair as p
 use Rattle.glk_windows.specs.declared.window.Area.{Area}
@@ -66,6 +66,19 @@ pub record IsOnScreen (a : Area) : Type 0 where
 
 abbrev pub with_area : List Window → ℕ → Area → List Window
 with_area ws n area = set_at (sized area) ws n
+
+-- windows given rectangles, one after another
+abbrev pub all_sized : List Window → List (ℕ × Area) → List Window
+all_sized ws [] = ws
+all_sized ws ((n, area) ∷ steps) = all_sized (with_area ws n area) steps
+
+-- some windows were given rectangles, one after another, and nothing else changed
+abbrev pub IsPartPlaced : List Window → List Window → Type 0
+IsPartPlaced old new = (steps : List (ℕ × Area)) × (new ≡ all_sized old steps)
+
+abbrev pub IsTreePartPlaced : WindowTree → WindowTree → Type 0
+IsTreePartPlaced old new =
+    IsPartPlaced old.slots new.slots × (new.next ≡ old.next) × (new.root ≡ old.root)
 
 -- a pair's two windows get their parts
 abbrev pub divided : (List Window → ℕ → Area → List Window) → List Window

@@ -1,6 +1,7 @@
 //! Laws of the windows and their rectangles (Glk 0.7.5, "The Window Tree").
 
-ghost use Rattle.glk_windows.specs.Laws.{KeepsValid, MayKeyHolds, NeverOverlaps, StaysOnScreen};
+ghost use Rattle.glk_windows.specs.Laws.{FillsScreen, KeepsValid, MayKeyHolds, NeverOverlaps};
+ghost use Rattle.glk_windows.specs.Laws.{SpellsOutput, StaysOnScreen};
 
 /// Where the windows are one tree, each that is no pair has its rectangle on the screen.
 pub fn stays_on_screen()
@@ -12,6 +13,11 @@ pub fn never_overlaps()
     ensures { NeverOverlaps }
 {}
 
+/// Where the windows are one tree, each cell of the screen lies in one that is no pair.
+pub fn fills_screen()
+    ensures { FillsScreen }
+{}
+
 /// Each call keeps the windows valid: one tree, few enough, methods and grids sound.
 pub fn keeps_valid()
     ensures { KeepsValid }
@@ -20,4 +26,10 @@ pub fn keeps_valid()
 /// Where the windows are valid, `Windows::may_key` lets through a key that keeps them so.
 pub fn may_key_holds()
     ensures { MayKeyHolds }
+{}
+
+/// The runs of a buffer spell the characters that were put, each in its style; no run is empty, and
+/// neighbours have different styles.
+pub fn runs_spell_output()
+    ensures { SpellsOutput }
 {}

@@ -15,11 +15,10 @@ mod window;
 mod windows;
 
 pub use arranging::is_method;
-pub use laws::{keeps_valid, may_key_holds, never_overlaps, stays_on_screen};
+pub use laws::{
+    fills_screen, keeps_valid, may_key_holds, never_overlaps, runs_spell_output, stays_on_screen,
+};
 pub use opening::MAX_WINDOWS;
 pub use text::{Codes, Run, Runs};
 pub use window::{Area, Buffer, Content, Grid, Pair, Window};
 pub use windows::Windows;
-
-#[cfg(test)]
-mod tests;

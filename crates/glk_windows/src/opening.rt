@@ -1,6 +1,6 @@
 //! Windows that are opened (Glk 0.7.5, "Window Opening, Closing, and Constraints").
 
-ghost use Rattle.std.specs.Prelude.{◌≡◌, ◌<◌, IfOk};
+ghost use Rattle.std.specs.Prelude.{◌≡◌, ◌<◌, IfOk, OnErr};
 ghost use Rattle.glk_windows.specs.Opening as opening;
 
 use crate::changing::{Change, change_at};
@@ -13,7 +13,7 @@ use std::alloc::{AllocError, Global};
 
 impl Windows {
     /// Opens a window: the first, or one beside the window `from`, under a new pair. 0 where none
-    /// can be made. An error is want of memory.
+    /// can be made. An error is want of memory, and changes nothing.
     pub fn split(
         &mut self,
         alloc: Global,
@@ -26,6 +26,7 @@ impl Windows {
         ensures ok { IfOk result (λ win.
             (self.new, win) ≡ opening.split self.old from method size kind rock) }
         ensures within { IfOk result (λ win. win < 4294967295) }
+        ensures err { OnErr result (self.new ≡ self.old) }
     {
         if from == 0 {
             self.open_first(alloc, kind, rock)
@@ -38,6 +39,7 @@ impl Windows {
         ensures ok { IfOk result (λ win.
             (self.new, win) ≡ opening.first_opened self.old kind rock) }
         ensures within { IfOk result (λ win. win < 4294967295) }
+        ensures err { OnErr result (self.new ≡ self.old) }
     {
         if self.root != 0
             || !is_kind(kind)
@@ -66,10 +68,12 @@ impl Windows {
         ensures ok { IfOk result (λ win.
             (self.new, win) ≡ opening.beside_opened self.old from method size kind rock) }
         ensures within { IfOk result (λ win. win < 4294967295) }
+        ensures err { OnErr result (self.new ≡ self.old) }
     {
         if !is_kind(kind) || self.next >= MAX_NUMBER || self.slots.len() + 2 > MAX_WINDOWS {
             return Ok(0);
         }
+        self.slots.reserve(2)?;
         let win = self.next;
         let pair = win + 1;
         let above = parent_at(&self.slots, from);
@@ -91,8 +95,8 @@ impl Windows {
             },
         );
         change_at(&mut self.slots, from, Change::Parent(pair));
-        self.slots.push(window)?;
-        self.slots.push(joint)?;
+        self.slots.push_reserved(window);
+        self.slots.push_reserved(joint);
         self.next = pair + 1;
         if self.root == from {
             self.root = pair;

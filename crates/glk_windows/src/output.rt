@@ -1,6 +1,6 @@
 //! Output of windows (Glk 0.7.5, "Text Buffer Windows" and "Text Grid Windows").
 
-ghost use Rattle.std.specs.Prelude.{◌≡◌, ◌≤◌, ◌<◌, ◌*◌, length, IfOk, map};
+ghost use Rattle.std.specs.Prelude.{◌≡◌, ◌≤◌, ◌<◌, ◌*◌, length, IfOk, OnErr, map};
 ghost use Rattle.glk_windows.specs.Output as output;
 ghost use Rattle.glk_windows.specs.Output.{buffer_put, cell_put, grid_put, next_row};
 ghost use Rattle.glk_windows.specs.Output.{content_cleared, content_kept, put_at, window_put};
@@ -15,9 +15,10 @@ use std::alloc::{AllocError, Global};
 impl Windows {
     /// Prints a code in a window: a buffer adds it to its text, in this style; a grid sets the cell
     /// of its cursor, and drops a code outside. Pairs and blank windows show nothing. An error is
-    /// want of memory.
+    /// want of memory, and changes nothing.
     pub fn put(&mut self, alloc: Global, win: u32, code: u32, style: u32) -> Result<(), AllocError>
-        ensures { IfOk result (λ _. self.new ≡ output.put self.old win code style) }
+        ensures ok { IfOk result (λ _. self.new ≡ output.put self.old win code style) }
+        ensures err { OnErr result (self.new ≡ self.old) }
     {
         put_in(alloc, &mut self.slots, win, code, style)
     }
@@ -44,7 +45,8 @@ fn put_in(
     code: u32,
     style: u32,
 ) -> Result<(), AllocError>
-    ensures { IfOk result (λ _. slots.new ≡ put_at slots.old win code style) }
+    ensures ok { IfOk result (λ _. slots.new ≡ put_at slots.old win code style) }
+    ensures err { OnErr result (slots.new ≡ slots.old) }
 {
     match place_of(slots, win) {
         None => Ok(()),
@@ -53,7 +55,8 @@ fn put_in(
 }
 
 fn put_window(alloc: Global, window: &mut Window, code: u32, style: u32) -> Result<(), AllocError>
-    ensures { IfOk result (λ _. window.new ≡ window_put window.old code style) }
+    ensures ok { IfOk result (λ _. window.new ≡ window_put window.old code style) }
+    ensures err { OnErr result (window.new ≡ window.old) }
 {
     match &mut window.content {
         Content::Buffer(buffer) => put_buffer(alloc, buffer, code, style),
@@ -66,7 +69,8 @@ fn put_window(alloc: Global, window: &mut Window, code: u32, style: u32) -> Resu
 }
 
 fn put_buffer(alloc: Global, buffer: &mut Buffer, code: u32, style: u32) -> Result<(), AllocError>
-    ensures { IfOk result (λ _. buffer.new ≡ buffer_put buffer.old code style) }
+    ensures ok { IfOk result (λ _. buffer.new ≡ buffer_put buffer.old code style) }
+    ensures err { OnErr result (buffer.new ≡ buffer.old) }
 {
     buffer.runs.push(alloc, code, style)
 }

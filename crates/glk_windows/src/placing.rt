@@ -1,8 +1,9 @@
 //! The rectangles of the windows (Glk 0.7.5, "Window Opening, Closing, and Constraints").
 
-ghost use Rattle.std.specs.Prelude.{◌≡◌, ◌≤◌, ◌<◌, ◌^◌, ◌*◌, IfOk};
+ghost use Rattle.std.specs.Prelude.{◌≡◌, ◌≤◌, ◌<◌, ◌^◌, ◌*◌, IfOk, OnErr};
 ghost use Rattle.glk_windows.specs.Placing as placing;
-ghost use Rattle.glk_windows.specs.Placing.{IsOnScreen, first_part, placed, second_part, with_area};
+ghost use Rattle.glk_windows.specs.Placing.{IsOnScreen, IsPartPlaced, first_part, placed};
+ghost use Rattle.glk_windows.specs.Placing.{second_part, with_area};
 
 use crate::changing::window_at;
 use crate::reading::pair_at;
@@ -14,9 +15,11 @@ use std::alloc::{AllocError, Global};
 
 impl Windows {
     /// Gives each window its rectangle of a screen of `cols` by `rows` characters. A grid that
-    /// changes its size keeps the cells that fit. An error is want of memory.
+    /// changes its size keeps the cells that fit. An error is want of memory: then some windows
+    /// may have been given rectangles, one after another, and nothing else changed.
     pub fn place(&mut self, alloc: Global, cols: u32, rows: u32) -> Result<(), AllocError>
-        ensures { IfOk result (λ _. self.new ≡ placing.place self.old cols rows) }
+        ensures ok { IfOk result (λ _. self.new ≡ placing.place self.old cols rows) }
+        ensures err { OnErr result (placing.IsTreePartPlaced self.old self.new) }
     {
         let screen = Area {
             x: 0,
@@ -40,7 +43,8 @@ fn place_at(
     area: Area,
 ) -> Result<(), AllocError>
     requires { IsOnScreen area }
-    ensures { IfOk result (λ _. slots.new ≡ placed depth slots.old win area) }
+    ensures ok { IfOk result (λ _. slots.new ≡ placed depth slots.old win area) }
+    ensures err { OnErr result (IsPartPlaced slots.old slots.new) }
 {
     if depth == 0 {
         return Ok(());
@@ -135,7 +139,8 @@ fn size_at_number(
     win: u32,
     area: Area,
 ) -> Result<(), AllocError>
-    ensures { IfOk result (λ _. slots.new ≡ with_area slots.old win area) }
+    ensures ok { IfOk result (λ _. slots.new ≡ with_area slots.old win area) }
+    ensures err { OnErr result (slots.new ≡ slots.old) }
 {
     match place_of(slots, win) {
         None => Ok(()),

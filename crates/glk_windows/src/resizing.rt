@@ -1,7 +1,7 @@
 //! Grids that change their size (Glk 0.7.5, "Text Grid Windows").
 
 ghost use Rattle.std.specs.Prelude.{◌≡◌, ◌≤◌, ◌<◌, ◌-◌, ◌++◌, length, take};
-ghost use Rattle.std.specs.Prelude.{drop, IfOk};
+ghost use Rattle.std.specs.Prelude.{drop, IfOk, OnErr};
 ghost use Rattle.glk_windows.specs.Resizing as sizes;
 
 use crate::text::Codes;
@@ -51,7 +51,8 @@ fn push_rows(
 }
 
 fn resize_grid(alloc: Global, grid: &mut Grid, w: u32, h: u32) -> Result<(), AllocError>
-    ensures { IfOk result (λ _. grid.new ≡ sizes.grid_sized grid.old w h) }
+    ensures ok { IfOk result (λ _. grid.new ≡ sizes.grid_sized grid.old w h) }
+    ensures err { OnErr result (grid.new ≡ grid.old) }
 {
     if grid.w == w && grid.h == h {
         return Ok(());
@@ -64,13 +65,15 @@ fn resize_grid(alloc: Global, grid: &mut Grid, w: u32, h: u32) -> Result<(), All
     Ok(())
 }
 
-/// Gives a window its rectangle. An error is want of memory.
+/// Gives a window its rectangle. An error is want of memory, and changes nothing.
 pub(crate) fn resize(alloc: Global, window: &mut Window, area: Area) -> Result<(), AllocError>
-    ensures { IfOk result (λ _. window.new ≡ sizes.sized area window.old) }
+    ensures ok { IfOk result (λ _. window.new ≡ sizes.sized area window.old) }
+    ensures err { OnErr result (window.new ≡ window.old) }
 {
-    window.area = area;
     match &mut window.content {
-        Content::Grid(grid) => resize_grid(alloc, grid, area.w, area.h),
-        _ => Ok(()),
+        Content::Grid(grid) => resize_grid(alloc, grid, area.w, area.h)?,
+        _ => {}
     }
+    window.area = area;
+    Ok(())
 }

@@ -1,7 +1,7 @@
 //! Lists of codes, and runs of them in one style.
 
 ghost use Rattle.std.specs.Prelude.{◌≡◌, ◌≤◌, ◌<◌, ◌^◌, ◌++◌, ◌∷◌};
-ghost use Rattle.std.specs.Prelude.{[], length, IfOk, IsTrue, replicate, slice_set};
+ghost use Rattle.std.specs.Prelude.{[], length, IfOk, IsTrue, OnErr, replicate, slice_set};
 ghost use Rattle.glk_windows.specs.Output as output;
 ghost use Rattle.glk_windows.specs.Output.{last_longer, run_on};
 
@@ -46,9 +46,10 @@ impl Codes {
         &self.items
     }
 
-    /// One more code. An error is want of memory.
+    /// One more code. An error is want of memory, and changes nothing.
     pub fn push(&mut self, code: u32) -> Result<(), AllocError>
-        ensures { IfOk result (λ _. self.new ≡ self.old ++ code ∷ []) }
+        ensures ok { IfOk result (λ _. self.new ≡ self.old ++ code ∷ []) }
+        ensures err { OnErr result (self.new ≡ self.old) }
     {
         self.items.push(code)?;
         Ok(())
@@ -118,9 +119,10 @@ impl Runs {
     }
 
     /// Puts a code at the end, in the last run where its style is this one. An error is want of
-    /// memory.
+    /// memory, and changes nothing.
     pub fn push(&mut self, alloc: Global, code: u32, style: u32) -> Result<(), AllocError>
-        ensures { IfOk result (λ _. self.new ≡ run_on self.old code style) }
+        ensures ok { IfOk result (λ _. self.new ≡ run_on self.old code style) }
+        ensures err { OnErr result (self.new ≡ self.old) }
     {
         if ends_in(&self.items, style) {
             lengthen(&mut self.items, code)
@@ -131,8 +133,9 @@ impl Runs {
 
     // A run of this code alone at the end.
     fn begin(&mut self, alloc: Global, code: u32, style: u32) -> Result<(), AllocError>
-        ensures { IfOk result (λ _. self.new
+        ensures ok { IfOk result (λ _. self.new
             ≡ self.old ++ (record { style = style; codes = code ∷ [] }) ∷ []) }
+        ensures err { OnErr result (self.new ≡ self.old) }
     {
         let mut codes = Codes::new(alloc);
         codes.push(code)?;
@@ -153,7 +156,8 @@ fn ends_in(runs: &[Run], style: u32) -> bool
 // Puts the code into the last run.
 fn lengthen(runs: &mut [Run], code: u32) -> Result<(), AllocError>
     requires { 0 < length runs.now }
-    ensures { IfOk result (λ _. runs.new ≡ last_longer runs.old code) }
+    ensures ok { IfOk result (λ _. runs.new ≡ last_longer runs.old code) }
+    ensures err { OnErr result (runs.new ≡ runs.old) }
 {
     let last = runs.len() - 1;
     runs[last].codes.push(code)

@@ -1,2 +1,4 @@
 pub mod LaidOut
 pub mod SumLemmas
+pub mod CheckLemmas
+mod StandardFacts

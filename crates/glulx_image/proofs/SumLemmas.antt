@@ -1,5 +1,5 @@
 -- A sum of words, word by word.
-use Rattle.std.proofs.Common.{◌≡◌, ◌≤◌, ◌<◌, ℕ, ◌+◌, ◌*◌, ◌%◌, ◌^◌, List, zero, suc, refl, arith, rules, ap, sym, ◌∙◌}
+use Rattle.std.proofs.Common.{◌≡◌, ℕ, ◌+◌, ◌%◌, ◌^◌, List, suc, refl, arith, ap, sym, ◌∙◌}
 use native.Mathlib.Numerals.{unary_clauses}
 use Rattle.glulx_image.specs.Checksum.{sum_of_words, summand}
 

@@ -21,6 +21,3 @@ pub use play::{Play, read_play};
 pub use read::read_request;
 pub use reply::{No, Reply, write_reply};
 pub use request::Request;
-
-#[cfg(test)]
-mod tests;

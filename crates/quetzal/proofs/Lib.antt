@@ -7,4 +7,5 @@ pub mod OrderLemmas
 pub mod ReadLemmas
 pub mod WriteLemmas
 pub mod StateLemmas
+pub mod LawLemmas
 mod StandardFacts

@@ -35,10 +35,10 @@ chunk_again name contents rest small fits =
 some_bytes : (name : ℕ) (contents rest : List ℕ) → (length (chunk name contents ++ rest) == 0) ≡ false
 some_bytes name contents rest = grind (arith, nat_tests, length-append (chunk name contents) rest, length-chunk name contents)
 
-are_further : (n name : ℕ) (contents rest : List ℕ) → name < 2 ^ 32 → length contents < 2 ^ 32 → are_chunks (suc n) (chunk name contents ++ rest) ≡ are_chunks n rest
+pub are_further : (n name : ℕ) (contents rest : List ℕ) → name < 2 ^ 32 → length contents < 2 ^ 32 → are_chunks (suc n) (chunk name contents ++ rest) ≡ are_chunks n rest
 are_further n name contents rest small fits = rw (some_bytes name contents rest, chunk_again name contents rest small fits) refl
 
-named_further : (want n name : ℕ) (contents rest : List ℕ) → name < 2 ^ 32 → length contents < 2 ^ 32 → first_named want (suc n) (chunk name contents ++ rest) ≡ cond (name == want) (Some contents) (first_named want n rest)
+pub named_further : (want n name : ℕ) (contents rest : List ℕ) → name < 2 ^ 32 → length contents < 2 ^ 32 → first_named want (suc n) (chunk name contents ++ rest) ≡ cond (name == want) (Some contents) (first_named want n rest)
 named_further want n name contents rest small fits = rw (some_bytes name contents rest, chunk_again name contents rest small fits) refl
 
 heap_are : (n : ℕ) (heap : Option (List ℕ)) → length (heap_chunk heap) < 2 ^ 32 → are_chunks (suc n) (heap_chunk heap) ≡ true

@@ -6,3 +6,4 @@ pub mod Printing
 pub mod Heap
 pub mod Save
 pub mod State
+pub mod Laws

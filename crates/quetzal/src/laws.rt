@@ -1,5 +1,6 @@
 //! Laws of the format.
 
+ghost use Rattle.quetzal.specs.Laws.{ReadsFirstOfEachName, RestoresPieces};
 ghost use Rattle.quetzal.specs.Memory.{RestoresMemory};
 ghost use Rattle.quetzal.specs.Printing.{ReadsWhatIsPrinted};
 ghost use Rattle.quetzal.specs.Runs.{RestoresWhatIsWritten};
@@ -17,4 +18,14 @@ pub fn restores_memory()
 /// A form that is printed is read as the chunks that it was made of.
 pub fn reads_what_is_printed()
     ensures { ReadsWhatIsPrinted }
+{}
+
+/// Bytes that spell chunks one after the other are read as the first of each name.
+pub fn reads_first_of_each_name()
+    ensures { ReadsFirstOfEachName }
+{}
+
+/// Bytes that stay and bytes that change, piece by piece, are what their coding restores.
+pub fn restores_pieces()
+    ensures { RestoresPieces }
 {}

@@ -8,11 +8,12 @@ mod laws;
 mod memory;
 mod reader;
 mod runs;
-#[cfg(test)]
-mod tests;
 mod writer;
 
 pub use fault::SaveFault;
-pub use laws::{reads_what_is_printed, restores_memory, restores_what_is_written};
+pub use laws::{
+    reads_first_of_each_name, reads_what_is_printed, restores_memory, restores_pieces,
+    restores_what_is_written,
+};
 pub use reader::read;
 pub use writer::write;

@@ -19,8 +19,8 @@ use std::alloc::Global;
 use vm_stack::is_chain;
 use vm_undo::{Saved, StackBytes};
 
-/// The state of the story that the bytes spell, or the first cause against them. It takes as much
-/// memory as the state, and none by a length that isn't there.
+/// The state of the story that the bytes spell, or the first cause against them. No clause
+/// says how much memory it takes.
 pub fn read<'i>(alloc: Global, bytes: &[u8], image: &Image<'i>) -> Result<Saved<'i>, SaveFault>
     ensures exact { Reads image.now bytes.now result }
     ensures kept { IfOk result (λ s. IsStateOf image.now s) }

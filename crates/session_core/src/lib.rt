@@ -18,6 +18,3 @@ pub use history::{game_of, is_in_use};
 pub use laws::{is_isolated, repeats_change_nothing};
 pub use sessions::{Sessions, with_budget};
 pub use world::{replay, turn_on, world_of};
-
-#[cfg(test)]
-mod tests;

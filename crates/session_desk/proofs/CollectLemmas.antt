@@ -149,9 +149,12 @@ collected_more {D} tells room label faults reach moment left_since old line repl
     let more = rows_of (added first (session_on line) (decision_at old.stories old.budget (histories_in old.log.entries) line).accepted a.outcome) in
     record {
       outcomes = a.outcome ∷ rest.outcomes;
-      met = (a.met, subst (λ (h : List (List Entry)). AreMet old.stories old.budget h 0 lines rest.outcomes) a.histories
-      (subst (λ (b : ℕ). AreMet old.stories b (histories_in mid.log.entries) 0 lines rest.outcomes) a.budget
-      (subst (λ (x : List Story). AreMet x mid.budget (histories_in mid.log.entries) 0 lines rest.outcomes) a.stories rest.met)));
+      met = (
+        a.met,
+        subst (λ (h : List (List Entry)). AreMet old.stories old.budget h 0 lines rest.outcomes) a.histories
+            (subst (λ (b : ℕ). AreMet old.stories b (histories_in mid.log.entries) 0 lines rest.outcomes) a.budget
+            (subst (λ (x : List Story). AreMet x mid.budget (histories_in mid.log.entries) 0 lines rest.outcomes) a.stories rest.met)),
+      );
       said = ap (λ (r : Reply). r ∷ replies) a.said
           ∙ ap (λ (rs : List Reply). (turn_on old.stories old.budget (histories_in old.log.entries) 0 line a.outcome).reply ∷ rs)
           (rest.said

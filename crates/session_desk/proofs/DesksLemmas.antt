@@ -1,11 +1,11 @@
 -- 64 desks over one journal, one of which made a turn.
-use Rattle.std.proofs.Common.{◌≡◌, ◌≢◌, ◌⊎◌, ℕ, ◌+◌, ◌<◌, ◌≤◌, min, max, Bool, true, false, nat_le, cond, List, [], ◌∷◌, ◌++◌, length, take, Option, Some, None, refl, sym, ap, subst, ◌∙◌, inl, inr, arith, slice_set, slice_get}
+use Rattle.std.proofs.Common.{◌≡◌, ◌≢◌, ◌⊎◌, ℕ, zero, suc, ◌+◌, ◌==◌, ◌<◌, ◌≤◌, min, max, Bool, true, false, nat_le, cond, List, [], ◌∷◌, ◌++◌, length, take, Option, Some, None, refl, sym, ap, subst, ◌∙◌, inl, inr, arith, slice_set, slice_get}
 use Rattle.std.specs.Prelude.{get_or, IsTrue}
 use Rattle.std.proofs.lemmas.Bool.Decides.{nat_tests}
-use Rattle.std.proofs.lemmas.List.{get_or-set_same, get_or-set_other, length-set}
+use Rattle.std.proofs.lemmas.List.{get_or-set_same, get_or-set_other, length-append, length-set}
 use Rattle.std.proofs.lemmas.Option.{get_or_from_slice_get, slice_get-get_or, slice_get_within}
 use Rattle.gate_journal.specs.Log.{Log, next_row, rows_of}
-use Rattle.gate_journal.specs.Rows.{commands_of}
+use Rattle.gate_journal.specs.Rows.{commands_of, EachNext, IsJournal}
 use Rattle.gate_journal.specs.declared.command.Command.{Command}
 use Rattle.gate_journal.specs.declared.row.Row.{Row}
 use Rattle.gate_journal.specs.declared.entry.Entry.{Entry as JournalEntry}
@@ -26,11 +26,13 @@ use Rattle.session_core.specs.Checks.{session_of}
 use Rattle.session_core.specs.Sessions.{with_budget}
 use Rattle.session_core.specs.Hosts.{decision_at, entries_of, histories_after, session_on, turn_on}
 use Rattle.session_core.specs.Turning.{commands_in, decision_on, turn_met, turn_of}
-use Rattle.session_desk.specs.Desk.{DeskState}
-use Rattle.session_desk.specs.Turn.{added, history_in, TurnsBy}
+use Rattle.session_desk.specs.Desk.{DeskState, opened}
+use Rattle.session_desk.specs.Commit.{IsKept}
+use Rattle.session_desk.specs.Turn.{added, history_in, IsSameSession, TurnsBy}
 use Rattle.session_desk.specs.Desks.{Answers, AreDesks, DesksState, histories_in, IsDeskOf, IsReadAs, IsUnread}
 use Rattle.session_desk.specs.Laws.{answered}
 use Rattle.session_desk.proofs.TurnLemmas.{forgets, Rests, rests_on, same_log}
+use Rattle.session_desk.proofs.JournalLemmas.{commands_of-append}
 use Rattle.session_desk.proofs.HistoryLemmas.{commands_in-histories, commands_in-history, entries_of-histories, entries_of-none, histories_in-set, history_in-added, history_in-other, reply_met, same_or_not}
 
 -- ---- the desks, one of them new
@@ -60,6 +62,85 @@ desks_set stories budget rows new ds s d e are had is others = record {
         record { numbered = was.numbered; stories = was.stories; budget = was.budget; kept = others t ne ∙ was.kept }
   ];
 }
+
+-- ---- the desks as a host opens
+
+desk_behind : (ds : List DeskState) (d x : DeskState) (s : ℕ) → slice_get (ds ++ d ∷ []) s ≡ Some x → (s < length ds × (slice_get ds s ≡ Some x)) ⊎ ((s ≡ length ds) × (x ≡ d))
+desk_behind [] d x zero e = inr (refl, cc)
+desk_behind [] d x (suc n) e = absurd cc
+desk_behind (y ∷ ds) d x zero e = inl (omega arith, e)
+desk_behind (y ∷ ds) d x (suc n) e = elim (desk_behind ds d x n e) [
+  | inl p ↦ inl (omega (arith, p.0), p.1)
+  | inr p ↦ inr (omega (arith, p.0), p.1)
+]
+
+-- one desk more
+pub desks_push : (stories : List Story) (budget : ℕ) (rows : List Row) (ds : List DeskState) (d : DeskState) (n : ℕ) → length ds ≡ n
+    → ((s : ℕ) (x : DeskState) → slice_get ds s ≡ Some x → IsDeskOf stories budget rows s x) → IsDeskOf stories budget rows n d
+    → (length (ds ++ d ∷ []) ≡ n + 1) × ((s : ℕ) (x : DeskState) → slice_get (ds ++ d ∷ []) s ≡ Some x → IsDeskOf stories budget rows s x)
+desks_push stories budget rows ds d n long each is = (
+  omega (arith, length-append ds (d ∷ []), long),
+  λ s x e. elim (desk_behind ds d x s e) [
+    | inl p ↦ each s x p.1
+    | inr p ↦ rw (p.0, long, p.1) is
+  ],
+)
+
+-- a row stands in a session below 64
+row_below : (before more : List Row) (i : ℕ) (r : Row) → EachNext before more → slice_get more i ≡ Some r → r.session < 64
+row_below before [] i r each e = absurd cc
+row_below before (q ∷ more) zero r each e = let same : q ≡ r = cc in subst (λ (x : Row). x.session < 64) same each.0.stands.below
+row_below before (q ∷ more) (suc n) r each e = row_below (before ++ q ∷ []) more n r each.1 e
+
+pub session_below : (rows : List Row) (i : ℕ) (r : Row) → IsJournal rows → slice_get rows i ≡ Some r → r.session < 64
+session_below rows i r journal e = row_below [] rows i r journal e
+
+take_next : (rows : List Row) (i : ℕ) (r : Row) → slice_get rows i ≡ Some r → take (suc i) rows ≡ take i rows ++ r ∷ []
+take_next [] i r e = absurd cc
+take_next (q ∷ rows) zero r e = let same : q ≡ r = cc in rw same refl
+take_next (q ∷ rows) (suc n) r e = ap (λ (x : List Row). q ∷ x) (take_next rows n r e)
+
+take_more : (rows : List Row) (i : ℕ) (r : Row) → slice_get rows i ≡ Some r → take (i + 1) rows ≡ take i rows ++ r ∷ []
+take_more rows i r e = let next : i + 1 ≡ suc i = omega arith in ap (λ (n : ℕ). take n rows) next ∙ take_next rows i r e
+
+no_shorter : (own : Bool) (c : Command) (xs ys : List Command) → length xs < length ys → length (cond own (c ∷ xs) xs) < length (cond own (c ∷ ys) ys)
+no_shorter true c xs ys lt = omega (arith, lt)
+no_shorter false c xs ys lt = lt
+
+same_number : (n : ℕ) → (n == n) ≡ true
+same_number n = grind (arith, nat_tests)
+
+-- fewer commands came before a row than with it
+fewer_before : (rows : List Row) (i : ℕ) (r : Row) → slice_get rows i ≡ Some r → length (commands_of (take i rows) r.session) < length (commands_of rows r.session)
+fewer_before [] i r e = absurd cc
+fewer_before (q ∷ rows) zero r e = let same : q ≡ r = cc in rw (same, same_number r.session) (omega arith)
+fewer_before (q ∷ rows) (suc n) r e =
+    no_shorter (q.session == r.session) q.command (commands_of (take n rows) r.session) (commands_of rows r.session) (fewer_before rows n r e)
+
+pub has_room : (stories : List Story) (budget : ℕ) (rows : List Row) (i : ℕ) (r : Row) (d : DeskState) → length (commands_of rows r.session) ≤ 8192
+    → slice_get rows i ≡ Some r → IsDeskOf stories budget (take i rows) r.session d → length d.commands < 8192
+has_room stories budget rows i r d fits e is =
+    let fewer = fewer_before rows i r e in
+    subst (λ (x : List Command). length x < 8192) is.kept (omega (arith, fewer, fits))
+
+apart : (n m : ℕ) → m ≢ n → (n == m) ≡ false
+apart n m ne = grind (arith, nat_tests, ne)
+
+-- the desks with one row more
+pub desks_dealt : (stories : List Story) (budget : ℕ) (rows : List Row) (i : ℕ) (r : Row) (ds : List DeskState) (d e : DeskState)
+    → AreDesks stories budget (take i rows) ds → slice_get rows i ≡ Some r → slice_get ds r.session ≡ Some d
+    → e ≡ opened d.session d.stories d.budget (d.commands ++ r.command ∷ []) → AreDesks stories budget (take (i + 1) rows) (slice_set ds r.session e)
+desks_dealt stories budget rows i r ds d e are there had is =
+    let was = are.each r.session d had in
+    let front = take i rows in
+    let own : commands_of (front ++ r ∷ []) r.session ≡ d.commands ++ r.command ∷ [] =
+    commands_of-append front r r.session ∙ rw (same_number r.session, was.kept) refl in
+    rw (take_more rows i r there)
+    (desks_set stories budget front (front ++ r ∷ []) ds r.session d e are had
+    (rw is (record { numbered = was.numbered; stories = was.stories; budget = was.budget; kept = own }))
+    (λ t ne. commands_of-append front r t ∙ rw (apart r.session t ne) refl))
+
+-- ---- what a turn leaves of the others
 
 -- the rows with a turn's entries: those of other sessions stay
 pub others_stay : (es : List JournalEntry) (s t : ℕ) (accepted : Option Command) (outcome : Outcome) → t ≢ s
@@ -121,6 +202,22 @@ module _
     (tells : D → Bool)
     (room label faults reach moment : D → ℕ)
     (left_since : D → ℕ → List ℕ → Type 0) where
+  -- the desks behind a turn of one of them
+  pub desks_turned : (stories : List Story) (budget : ℕ) (ds : List DeskState) (s : ℕ) (d e : DeskState) (decision : Decision) (old new : Log D) (reply : Reply)
+      → AreDesks stories budget (rows_of old.entries) ds → slice_get ds s ≡ Some d → TurnsBy tells room label faults reach moment left_since decision d.session old reply new
+      → IsKept e new → IsSameSession d e → AreDesks stories budget (rows_of new.entries) (slice_set ds s e)
+  desks_turned stories budget ds s d e decision old new reply are had turn kept same =
+      let was = are.each s d had in
+      let number : e.session ≡ s = same.session ∙ was.numbered in
+      desks_set stories budget (rows_of old.entries) (rows_of new.entries) ds s d e are had
+      (record {
+        numbered = number;
+        stories = same.stories ∙ was.stories;
+        budget = same.budget ∙ was.budget;
+        kept = subst (λ (n : ℕ). commands_of (rows_of new.entries) n ≡ e.commands) number kept;
+      })
+      (λ t ne. ap (λ (es : List JournalEntry). commands_of (rows_of es) t) turn.entries
+      ∙ others_stay old.entries d.session t decision.accepted turn.outcome (λ same_session. ne (same_session ∙ was.numbered)))
 
   -- a turn of the session that the line names
   pub answers : (old new : DesksState D) (line : List ℕ) (reply : Reply) (s : ℕ) (decision : Decision) → s ≡ session_on line

@@ -136,9 +136,9 @@ pub same_or_not : (i s : ℕ) → (i ≡ s) ⊎ (i ≢ s)
 same_or_not i s = elim (cases_lt i s) [
   | inl lt ↦ inr (λ e. omega (arith, lt, e))
   | inr le ↦ elim (cases_lt s i) [
-      | inl gt ↦ inr (λ e. omega (arith, gt, e))
-      | inr ge ↦ inl (omega (arith, le, ge))
-    ]
+    | inl gt ↦ inr (λ e. omega (arith, gt, e))
+    | inr ge ↦ inl (omega (arith, le, ge))
+  ]
 ]
 
 -- the histories, where one session's may be new

@@ -229,17 +229,3 @@ fits-all s rows (r ∷ more) each le =
 
 pub journal_fits : JournalsFit
 journal_fits rows s journal = fits-all s [] rows journal (omega arith)
-
--- ---- for the tests
-
-one_longer : (own : Bool) (c : Command) (xs : List Command) (n : ℕ) → length xs ≤ n → length (cond own (c ∷ xs) xs) ≤ suc n
-one_longer true c xs n le = omega arith
-one_longer false c xs n le = omega arith
-
-pub commands_of-length : (rows : List Row) (s : ℕ) → length (commands_of rows s) ≤ length rows
-commands_of-length [] s = omega arith
-commands_of-length (r ∷ rows) s = one_longer (r.session == s) r.command (commands_of rows s) (length rows) (commands_of-length rows s)
-
-pub commands_of-none : (rows : List Row) (s : ℕ) → length rows ≤ 0 → commands_of rows s ≡ []
-commands_of-none [] s e = refl
-commands_of-none (r ∷ rows) s e = absurd (omega arith)

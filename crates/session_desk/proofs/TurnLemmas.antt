@@ -36,7 +36,6 @@ module _
     (tells : D → Bool)
     (room label faults reach moment : D → ℕ)
     (left_since : D → ℕ → List ℕ → Type 0) where
-
   same_disk : (d e : D) → e ≡ d → SameDisk tells room label d e
   same_disk d e is = rw is (record { telling = refl; size = refl; name = refl })
 

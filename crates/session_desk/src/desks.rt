@@ -1,6 +1,6 @@
 //! The desks of a host over one journal (own).
 
-ghost use Rattle.std.specs.Prelude.{◌≡◌, IfOk, IfErr};
+ghost use Rattle.std.specs.Prelude.{◌≡◌, [], IfOk, IfErr};
 ghost use Rattle.gate_journal.specs.Command.{IsBudget};
 ghost use Rattle.gate_journal.specs.Log.{rows_of};
 ghost use Rattle.session_desk.specs.Desks.{Answers, AreDesks, IsReadAs, IsUnread};
@@ -142,7 +142,7 @@ impl<'i, D: Disk> Desks<'i, D> {
 
     /// Its journal.
     pub fn into_journal(self) -> Journal<D>
-        ensures value { result ≡ self.log }
+        ensures value { result ≡ self.entry.log }
     {
         let Desks { journal, .. } = self;
         journal

@@ -22,6 +22,3 @@ pub use laws::{
 };
 pub use refused::Refused;
 pub use verdict::Verdict;
-
-#[cfg(test)]
-mod tests;

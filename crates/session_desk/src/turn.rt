@@ -78,11 +78,7 @@ fn show(alloc: Global, desk: &Desk<'_>, request: &Request) -> Result<Reply, Allo
 }
 
 /// The reply to a request whose command was just committed: its turn is made, and then shown.
-fn run_and_show(
-    alloc: Global,
-    desk: &mut Desk<'_>,
-    request: &Request,
-) -> Result<Reply, AllocError>
+fn run_and_show(alloc: Global, desk: &mut Desk<'_>, request: &Request) -> Result<Reply, AllocError>
     requires runs { IsTrue (is_to_run desk.old.held (last_of (game desk.old))) }
     requires warm { is_cold (warmed desk.old) ≡ false }
     ensures value { IfOk result (λ reply. reply ≡ shown_to desk.old request.now) }

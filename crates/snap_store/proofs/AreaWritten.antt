@@ -10,7 +10,7 @@ use Rattle.std.proofs.Math.Nat.{mod-eq_of_lt}
 use Rattle.byteorder.specs.Endian.{big_from, big_bytes}
 use Rattle.byteorder.specs.Numbers.{big_from-bytes, length-bytes_high_first}
 use Rattle.disk_model.specs.Disk.{written}
-use Rattle.disk_model.specs.Torn.{written_below, written_within, length-written}
+use Rattle.disk_model.proofs.Torn.{written_below, written_within, length-written}
 use Rattle.snap_store.specs.declared.side.Side.{Side}
 use Rattle.snap_store.specs.File.{start_of, head_bytes, place_at, count_at, length_at}
 use Rattle.snap_store.specs.File.{is_whole, area_at, whole_area}

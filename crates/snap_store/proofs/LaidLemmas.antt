@@ -4,7 +4,7 @@ use Rattle.std.proofs.Common.{◌≤◌, true, false, List, [], ◌∷◌, lengt
 use Rattle.std.proofs.Common.{get_or, refl, ◌∙◌, ap, arith}
 use Rattle.std.specs.Prelude.{Option, Some, None}
 use Rattle.disk_model.specs.Disk.{Torn, written}
-use Rattle.disk_model.specs.Torn.{torn_written, written_within}
+use Rattle.disk_model.proofs.Torn.{torn_written, written_within}
 use Rattle.snap_store.specs.declared.side.Side.{Side}
 use Rattle.snap_store.specs.declared.side.Side.TheVariants.{A, B}
 use Rattle.snap_store.specs.declared.slot.Slot.{Slot}

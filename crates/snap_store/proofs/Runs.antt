@@ -1,7 +1,7 @@
 -- Runs of device calls through which each image keeps a fact.
-use Rattle.std.proofs.Common.{ℕ, ◌≤◌, List}
+use Rattle.std.proofs.Common.{ℕ, List}
 use Rattle.disk_model.specs.Disk.{Elapses, LeavesOnly, Torn, Follows, NoneNew}
-use Rattle.disk_model.specs.Moments.{started, goes_on}
+use Rattle.disk_model.proofs.Moments.{started, goes_on}
 
 module _
     {D : Type 0}
@@ -50,17 +50,3 @@ module _
         since = goes_on moment left_since old mid new P (may_leave new) keeps.since time now;
         now = now;
       }
-
-module _
-    {D : Type 0}
-    (moment : D → ℕ)
-    (left_since : D → ℕ → List ℕ → Type 0)
-    (may_leave : D → List ℕ → Type 0)
-    (old new : D)
-    (P : List ℕ → Type 0) where
-  -- what holds of all moments holds now
-  pub holds_now :
-      ((t : ℕ) (c : List ℕ) → t ≤ moment new → may_leave new c → left_since new t c)
-      → LeavesOnly moment left_since old new P
-      → (c : List ℕ) → may_leave new c → P c
-  holds_now counts leaves c now = leaves.each c (counts (moment old) c leaves.later now)

@@ -3,7 +3,7 @@ use Rattle.std.proofs.Common.{◌≡◌, ◌+◌, refl, [], ◌∷◌, false}
 use Rattle.std.specs.Prelude.{Some}
 use Rattle.snap_store.specs.declared.side.Side.TheVariants.{A, B}
 use Rattle.snap_store.specs.declared.slot.Slot.TheVariants.{Closed, Open, Unsure}
-use Rattle.snap_store.specs.declared.outline.TheConstants.{MAX_SNAPSHOT}
+use Rattle.snap_store.specs.declared.outline.TheConstants.{MAX_SNAPSHOT, PAGE}
 use Rattle.snap_store.specs.File.{head_bytes, gate_of, start_of, has_header, header, greatest}
 use Rattle.snap_store.specs.Slots.{taken_side}
 
@@ -12,6 +12,10 @@ pub first_area :
     head_bytes 16 16 3
     ≡ 0 ∷ 0 ∷ 0 ∷ 0 ∷ 0 ∷ 0 ∷ 0 ∷ 16 ∷ 0 ∷ 0 ∷ 0 ∷ 16 ∷ 0 ∷ 0 ∷ 0 ∷ 3 ∷ []
 first_area = refl
+
+-- the most bytes of a snapshot, and the least of a file with its header
+pub limits : MAX_SNAPSHOT ∷ PAGE ∷ [] ≡ 8388608 ∷ 4096 ∷ []
+limits = refl
 
 -- area B starts where the longest area A ends, and the longest area B ends here
 pub ends_of_areas :

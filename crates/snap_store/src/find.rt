@@ -3,7 +3,8 @@
 ghost use Rattle.std.specs.Prelude.{◌≡◌, ◌+◌, ◌≤◌, ℕ, IsTrue, IfOk, IfErr, OnOk};
 ghost use Rattle.std.specs.Prelude.{length, take, drop};
 ghost use Rattle.snap_store.specs.File.{newest_area, given};
-ghost use Rattle.snap_store.specs.Frames.{OnlyLooks, HasCause};
+ghost use Rattle.disk_model.specs.Disk.{OnlyLooks};
+ghost use Rattle.snap_store.specs.Frames.{HasCause};
 
 use crate::area::Area;
 use crate::fault::{DiskFault, NewestFault};

@@ -10,8 +10,6 @@ mod side;
 mod slot;
 mod steps;
 mod store;
-#[cfg(test)]
-mod tests;
 
 pub use area::Area;
 pub use begin::make;

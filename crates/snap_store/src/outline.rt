@@ -3,12 +3,11 @@
 ghost use Rattle.std.specs.Prelude.{◌≡◌, ◌<◌, ◌≤◌, ◌^◌, ◌&&◌, IsTrue};
 ghost use Rattle.std.specs.Prelude.{IsOk, IfOk, OnOk, List, ℕ};
 ghost use Rattle.std.specs.Prelude.{length, false, option_map, IfSome};
-ghost use Rattle.disk_model.specs.Disk.{Counts, Reads, Only};
+ghost use Rattle.disk_model.specs.Disk.{Counts, Reads, Only, OnlyLooks};
 ghost use Rattle.snap_store.specs.File.{has_header, gate_byte, head_at, is_whole, is_open};
 ghost use Rattle.snap_store.specs.File.{newest_area, area_at, is_wanted};
 ghost use Rattle.snap_store.specs.Outline.{outline_of};
 ghost use Rattle.snap_store.specs.Slots.{slot_in};
-ghost use Rattle.snap_store.specs.Frames.{OnlyLooks};
 ghost use Rattle.snap_store.specs.declared.side.Side.TheVariants.{A, B};
 ghost use Rattle.snap_store.specs.declared.slot.Slot.TheVariants.{Closed};
 

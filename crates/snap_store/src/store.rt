@@ -4,8 +4,8 @@ ghost use Rattle.std.specs.Prelude.{◌≡◌, ◌⊎◌, ◌+◌, ◌≤◌, �
 ghost use Rattle.std.specs.Prelude.{IsOk, IfOk, IfErr, OnOk};
 ghost use Rattle.std.specs.Prelude.{OnErr, MatchResult, Ok, Some, None, IfSome, length, max, true};
 ghost use Rattle.std.specs.Prelude.{false};
-ghost use Rattle.disk_model.specs.Disk.{Only, LeavesOnly, EachImage, SameDisk};
-ghost use Rattle.snap_store.specs.Frames.{OnlyLooks, IsFault, HasCause};
+ghost use Rattle.disk_model.specs.Disk.{Only, LeavesOnly, EachImage, SameDisk, OnlyLooks};
+ghost use Rattle.snap_store.specs.Frames.{IsFault, HasCause};
 ghost use Rattle.snap_store.specs.declared.outline.TheConstants.{MAX_SNAPSHOT};
 
 use crate::area::Area;

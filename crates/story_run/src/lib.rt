@@ -9,8 +9,6 @@ mod stage;
 mod step;
 mod steps;
 mod story;
-#[cfg(test)]
-mod tests;
 mod turn;
 mod world;
 

@@ -9,6 +9,3 @@ mod words;
 pub use lines::write_show;
 pub use making::show_of;
 pub use show::{End, Ends, Part, Parts, Place, Places, Show};
-
-#[cfg(test)]
-mod tests;

@@ -6,11 +6,11 @@ ghost use Rattle.story_text.specs.declared.fault.TextFault.TheVariants.{NoMemory
 use std::alloc::AllocError;
 
 /// Why a word was not read as a text.
-#[derive(Clone, Copy, Debug, PartialEq, Eq)]
+#[derive(Clone, Copy, Debug, PartialEq, Eq, thiserror::Error)]
 pub enum TextFault {
-    /// The word spells no text.
+    #[error("the word spells no text")]
     BadText,
-    /// Memory ran out.
+    #[error("memory ran out")]
     NoMemory,
 }
 

@@ -14,6 +14,3 @@ pub use laws::{reads_each_spelling, reads_spellings_only, reads_visible_only, ro
 pub use read::{read_escaped, text_of_bytes};
 pub use text::{Text, to_utf8};
 pub use write::write_escaped;
-
-#[cfg(test)]
-mod tests;

@@ -94,9 +94,10 @@ fn utf8_of(bytes: Vec<u8>) -> Option<String>
 }
 
 /// The text with these bytes as its UTF-8. `BadText` exactly where they are no UTF-8 of a text that a
-/// line may hold.
+/// line may hold. No memory is taken, so there is no other refusal.
 pub fn text_of_bytes(bytes: Vec<u8>) -> Result<Text, TextFault>
-    ensures { ReadsText (text_of_bytes bytes.items) result }
+    ensures value { ReadsText (text_of_bytes bytes.items) result }
+    ensures refusal { IfErr result (λ fault. fault ≡ BadText) }
 {
     let Some(utf8) = utf8_of(bytes) else {
         return Err(TextFault::BadText);

@@ -30,6 +30,7 @@ use Rattle.vm_exec.specs.Fault.{flowed, stacked}
 use Rattle.vm_exec.specs.Rules as rules
 use Rattle.vm_exec.specs.Rules.{Rule}
 use Rattle.vm_exec.specs.TextStub as texts
+use Rattle.vm_exec.specs.declared.text.Text.TheVariants.{Number}
 use Rattle.vm_exec.specs.Number.{number_text}
 use Rattle.vm_exec.specs.declared.machine.Machine.{Machine}
 
@@ -269,7 +270,7 @@ over-unstubbed o n m k =
     (ok-stacked (HasFirst n) (stub_taken m.stack) (has-stub_taken n m.stack k.limit))
     (λ x h. ok-if (OverFirst o n) (x.1.frame == m.stack.frame) _ _ (on_stack o n m x.0 k h) tt)
 
-over-number_over : (o : Origin) (n : ℕ) (m : Machine) (held : Bool) → Over o n m → IfOk (texts.number_over m held) (Over o n)
+pub over-number_over : (o : Origin) (n : ℕ) (m : Machine) (held : Bool) → Over o n m → IfOk (texts.number_over m held) (Over o n)
 over-number_over o n m false k = k
 over-number_over o n m true k =
     ok-bind (OverFirst o n) (Over o n) (texts.unstubbed m) _ (over-unstubbed o n m k)
@@ -279,6 +280,14 @@ pub over-number_on : (o : Origin) (n : ℕ) (m : Machine) (value place : ℕ) (h
 over-number_on o n m value place held k =
     ok-if (Over o n) (nat_lt place (length (number_text value))) _ _ (record { memory = k.memory; limit = k.limit; undo = k.undo })
     (over-number_over o n m held k)
+
+pub over-number_left : (o : Origin) (n : ℕ) (m : Machine) (value place : ℕ) (held : Bool) → Over o n m
+    → Over o n (texts.number_left m value place held)
+over-number_left o n m value place held k = picks (held || nat_lt place (length (number_text value)))
+  where
+    picks : (b : Bool) → Over o n (cond b (record m { text = Number value place held }) m)
+    picks true = record { memory = k.memory; limit = k.limit; undo = k.undo }
+    picks false = k
 
 pub over-text_on : (o : Origin) (n : ℕ) (m : Machine) (s : Stub) → Over o n m → IfOk (texts.text_on m s) (Over o n)
 unfolding texts.text_on

@@ -93,7 +93,7 @@ use Rattle.vm_exec.specs.declared.step.Waiting as w
 use Rattle.vm_exec.specs.declared.step.Waiting.TheVariants as waiting
 use Rattle.vm_exec.specs.declared.text.Text as t
 use Rattle.vm_exec.specs.declared.text.Text.TheVariants as text
-use Rattle.vm_exec.proofs.KeepingLemmas.{Has, HasFirst, Lies, Over, OverFirst, SavedOver, has-called, has-pushed, has-stub_taken, has-thrown, in_memory, ok-bind, ok-coded, ok-flowed, ok-if, ok-stacked, ok-then, on_stack, over-branches, over-calls, over-enters, over-goes, over-loaded_all, over-number_on, over-puts, over-reads, over-resumes, over-returns, over-stored_in, over-streams, over-suspended, over-text_on, over-unstubbed, over-when, over-with_arguments, over-with_stub, over-writes}
+use Rattle.vm_exec.proofs.KeepingLemmas.{Has, HasFirst, Lies, Over, OverFirst, SavedOver, has-called, has-pushed, has-stub_taken, has-thrown, in_memory, ok-bind, ok-coded, ok-flowed, ok-if, ok-stacked, ok-then, on_stack, over-branches, over-calls, over-enters, over-goes, over-loaded_all, over-number_left, over-number_over, over-puts, over-reads, over-resumes, over-returns, over-stored_in, over-streams, over-suspended, over-text_on, over-unstubbed, over-when, over-with_arguments, over-with_stub, over-writes}
 
 -- ---- texts
 
@@ -146,9 +146,7 @@ over-number_rule o n m value place held k =
     (λ r. rules.enters r r.rock (slice_index (number_text value) place ∷ []))
     (over-suspended o n m held 0x12 (rules.wrap (place + 1)) value k)
     (λ r h. over-enters o n r r.rock (slice_index (number_text value) place ∷ []) h))
-    (ok-bind (Over o n) (OverFirst o n) (stubs.number_on m value (rules.wrap (place + 1)) held)
-    (λ r. texts.shows r (slice_index (number_text value) place)) (over-number_on o n m value (rules.wrap (place + 1)) held k)
-    (λ r h. h))
+    (over-number_left o n m value (rules.wrap (place + 1)) held k)
 
 -- ---- heap, undo and restart
 
@@ -479,7 +477,11 @@ over-due o n m text.Off k = over-fetched o n m k
 over-due o n m (text.Pieces cursor held) k =
     over-string_rule o n (record m { text = text.Off }) cursor held (record { memory = k.memory; limit = k.limit; undo = k.undo })
 over-due o n m (text.Number value place held) k =
-    over-number_rule o n (record m { text = text.Off }) value place held (record { memory = k.memory; limit = k.limit; undo = k.undo })
+    let off : Over o n (record m { text = text.Off }) = record { memory = k.memory; limit = k.limit; undo = k.undo } in
+    ok-if (WorkOver o n) (nat_lt place (length (number_text value))) _ _
+    (over-number_rule o n (record m { text = text.Off }) value place held off)
+    (ok-bind (Over o n) (WorkOver o n) (stubs.number_over (record m { text = text.Off }) held) row.fetched
+    (over-number_over o n (record m { text = text.Off }) held off) (λ r h. over-fetched o n r h))
 
 over-charged : (o : Origin) (n : ℕ) (x : Result Work ℕ) → IfOk x (WorkOver o n) → IfOk (row.charged x).gives (OverFirst o n)
 over-charged o n (Ok (Free r)) h = h

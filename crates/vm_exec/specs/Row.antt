@@ -1,5 +1,5 @@
 -- One step of the machine: its row of the table (Glulx 3.1.3, "Dictionary of Opcodes").
-use Rattle.std.specs.Prelude.{ℕ, ◌+◌, ◌≤◌, nat_lt, if◌then◌else◌, List, replicate}
+use Rattle.std.specs.Prelude.{ℕ, ◌+◌, ◌≤◌, nat_lt, if◌then◌else◌, length, List, replicate}
 use Rattle.std.specs.Prelude.{take, slice_index, slice_index_or, Option, Some, None, Result, Ok}
 use Rattle.std.specs.Prelude.{Err}
 use Rattle.vm_operand.specs.Fault as operand
@@ -12,6 +12,7 @@ use Rattle.vm_operand.specs.declared.opcode.Move.{Move}
 use Rattle.vm_operand.specs.declared.opcode.Move.TheVariants.{Copys, Copyb}
 use Rattle.vm_operand.specs.declared.operand.Dest as d
 use Rattle.vm_operand.specs.declared.operand.Dest.TheVariants as dest
+use Rattle.vm_exec.specs.Number.{number_text}
 use Rattle.vm_exec.specs.Rules.{Rule, loaded_all}
 use Rattle.vm_exec.specs.Rows.Work.{Work, Free, Costs}
 use Rattle.vm_exec.specs.Rows.Math.{math_work}
@@ -25,6 +26,7 @@ use Rattle.vm_exec.specs.Rows.System.{system_work}
 use Rattle.vm_exec.specs.Rows.State.{state_work}
 use Rattle.vm_exec.specs.Rows.Search.{search_work}
 use Rattle.vm_exec.specs.Rows.Text.{string_rule, number_rule}
+use Rattle.vm_exec.specs.TextStub.{number_over}
 use Rattle.vm_exec.specs.declared.machine.Machine.{Machine}
 use Rattle.vm_exec.specs.declared.step.Out.{Out}
 use Rattle.vm_exec.specs.declared.step.Out.TheVariants as out
@@ -82,13 +84,16 @@ fetched m = do
   x ← loaded_all (width_of (op_of i.op)) m (take i.loads.count i.loads.items) 0 (replicate 8 0)
   Ok (work_of (op_of i.op) (record x.0 { pc = i.next }) x.1 i.stores.items)
 
--- what is due: the next piece of the text in progress, which is taken, or else the instruction
+-- what is due: the next piece of the text in progress, which is taken, or else the instruction; a
+-- number at its end makes way to the instruction
 abbrev pub due : Machine → t.Text → Result Work ℕ
 due m text.Off = fetched m
 due m (text.Pieces cursor held) =
     Ok (Free (string_rule (record m { text = text.Off }) cursor held))
 due m (text.Number value place held) =
-    Ok (Free (number_rule (record m { text = text.Off }) value place held))
+    if nat_lt place (length (number_text value))
+    then Ok (Free (number_rule (record m { text = text.Off }) value place held))
+    else number_over (record m { text = text.Off }) held >>= fetched
 
 abbrev pub row : Machine → Charged
 row m = charged (due m m.text)

@@ -1,5 +1,5 @@
 -- Texts that go out piece by piece, and their call stubs (Glulx 3.1.3, "Call Stubs", "Output").
-use Rattle.std.specs.Prelude.{ℕ, ◌==◌, nat_lt, Bool, true, false, if◌then◌else◌, length}
+use Rattle.std.specs.Prelude.{ℕ, ◌==◌, ◌||◌, nat_lt, Bool, true, false, if◌then◌else◌, length}
 use Rattle.std.specs.Prelude.{Result, Ok, Err}
 use Rattle.vm_operand.specs.Reading.{◌>>=◌}
 use Rattle.vm_stack.specs.Stub.{stub_pushed, stub_taken}
@@ -49,6 +49,13 @@ number_on m value place held =
     if nat_lt place (length (number_text value))
     then Ok (record m { text = Number value place held })
     else number_over m held
+
+-- a number whose next character stands at a place; one that is at its end, and has its stub on the
+-- stack, takes that stub before what comes next
+abbrev pub number_left : Machine → ℕ → ℕ → Bool → Machine
+number_left m value place held =
+    if held || nat_lt place (length (number_text value))
+    then record m { text = Number value place held } else m
 
 -- what is left of a string of this kind, at the place that a stub names
 abbrev pub string_on : Machine → ℕ → Stub → Result Machine ℕ

@@ -23,8 +23,6 @@ mod searching;
 mod state;
 mod step;
 mod system;
-#[cfg(test)]
-mod tests;
 mod text;
 mod text_stub;
 mod trap;

@@ -14,6 +14,7 @@ ghost use Rattle.vm_flow.specs.Call.{called};
 ghost use Rattle.vm_memory.specs.MemoryMap.{origin_of};
 ghost use Rattle.vm_stack.specs.Chain.{Chain, HasFrame};
 
+use crate::number::places;
 use crate::perform::width_of;
 use crate::random::Random;
 use crate::step::{Step, Waiting};
@@ -134,7 +135,7 @@ impl<'i> Machine<'i> {
         Ok(done.step(done.cost + 1))
     }
 
-    // One tick, and then the next character of the number.
+    // One tick, and then the next character of the number, or what comes behind it.
     fn digit(
         &mut self,
         alloc: Global,
@@ -151,8 +152,12 @@ impl<'i> Machine<'i> {
         ensures cost { IfOk result (λ step. IsPriced left step) }
     {
         self.text = Text::Off;
-        let done = self.next_digit(alloc, value, place, held)?;
-        Ok(done.step(done.cost + 1))
+        if place < places(value) {
+            let done = self.next_digit(alloc, value, place, held)?;
+            return Ok(done.step(done.cost + 1));
+        }
+        self.end_number(held)?;
+        self.instruction(alloc, left)
     }
 
     // One tick, and then the instruction at the PC.

@@ -3,10 +3,11 @@
 ghost use Rattle.std.specs.Prelude.{◌≡◌, ◌≤◌, ◌<◌, ◌+◌, ◌^◌, length};
 ghost use Rattle.std.specs.Prelude.{slice_index, IfOk};
 ghost use Rattle.std.specs.Fmt.{decimal};
-ghost use Rattle.vm_exec.specs.Machine.{IsFit, StaysFit};
+ghost use Rattle.vm_exec.specs.Machine.{IsFit, IsSound, StaysFit};
 ghost use Rattle.vm_exec.specs.Number.{number_text};
 ghost use Rattle.vm_exec.specs.Rows.Text as rows;
 ghost use Rattle.vm_exec.specs.Rows.Work.{Tells};
+ghost use Rattle.vm_exec.specs.TextStub.{number_left};
 
 use crate::Machine;
 use crate::step::{Done, Out};
@@ -57,8 +58,18 @@ impl<'i> Machine<'i> {
         if self.mode == 1 {
             return self.filter_number(alloc, value, place, held);
         }
-        self.go_on_number(value, place.wrapping_add(1), held)?;
+        self.leave_number(value, place.wrapping_add(1), held);
         self.show(character(value, place))
+    }
+
+    // What is left of a number from a place on; its end too, where a stub is on the stack for it.
+    fn leave_number(&mut self, value: u32, place: u32, held: bool)
+        ensures value { self.new ≡ number_left self.old value place held }
+        ensures fit { IsFit self.old → IsSound self.new }
+    {
+        if held || place < places(value) {
+            self.text = Text::Number { value, place, held };
+        }
     }
 }
 

@@ -67,8 +67,8 @@ impl<'i> Machine<'i> {
         }
     }
 
-    // The code goes on behind a number.
-    fn end_number(&mut self, held: bool) -> Result<(), Trap>
+    /// The code goes on behind a number.
+    pub(crate) fn end_number(&mut self, held: bool) -> Result<(), Trap>
         ensures does { Changes (stubs.number_over self.old held) self.new result }
         ensures fit { IsFit self.old → OnOk result (IsFit self.new) }
     {

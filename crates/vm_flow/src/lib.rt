@@ -7,8 +7,6 @@ mod continuation;
 mod format;
 mod returns;
 mod stop;
-#[cfg(test)]
-mod tests;
 
 pub use calls::{call, tail_call};
 pub use continuation::{catch, throw};

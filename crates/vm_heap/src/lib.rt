@@ -7,8 +7,6 @@ mod free;
 mod heap;
 mod history;
 mod malloc;
-#[cfg(test)]
-mod tests;
 
 pub use block::{Block, MAX_SIZE, is_heap};
 pub use fault::HeapFault;

@@ -6,8 +6,6 @@ mod bytes;
 mod fault;
 mod memory;
 mod ram;
-#[cfg(test)]
-mod tests;
 
 pub use fault::{MemFault, MemStop, Trap};
 pub use memory::{MAX_SIZE, Memory};

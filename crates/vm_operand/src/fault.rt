@@ -4,13 +4,19 @@ use vm_memory::{MemFault, Trap};
 
 /// A byte that can't be read, a number that is no opcode, one of an opcode that isn't played here,
 /// a mode that is none or is none of a store, and the two faults of a division.
-#[derive(Clone, Copy, Debug, PartialEq, Eq)]
+#[derive(Clone, Copy, Debug, PartialEq, Eq, thiserror::Error)]
 pub enum OpFault {
+    #[error("a byte of the instruction can't be read")]
     Read(MemFault),
+    #[error("{0} is no opcode")]
     BadOpcode(u32),
+    #[error("the opcode {0} isn't played here")]
     Unsupported(u32),
+    #[error("no operand has the mode {0}")]
     BadMode(u32),
+    #[error("a division by zero")]
     DivideByZero,
+    #[error("a division's result is too large")]
     DivideOverflow,
 }
 

@@ -10,8 +10,6 @@ mod kinds;
 mod mode;
 mod opcode;
 mod operand;
-#[cfg(test)]
-mod tests;
 
 pub use arithmetic::arith;
 pub use branches::holds;

@@ -4,3 +4,4 @@ pub mod Linear
 pub mod Binary
 pub mod Linked
 pub mod Fault
+pub mod Laws

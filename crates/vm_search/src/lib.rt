@@ -5,15 +5,15 @@ mod binary_search;
 mod blocks;
 mod fault;
 mod key;
+mod laws;
 mod linear_search;
 mod linked_search;
 mod query;
-#[cfg(test)]
-mod tests;
 
 pub use binary_search::binary;
 pub use blocks::{copy, zero};
 pub use fault::SearchStop;
+pub use laws::finds_or_fails;
 pub use linear_search::linear;
 pub use linked_search::linked;
 pub use query::{Found, Query};

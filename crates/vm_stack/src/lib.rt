@@ -8,8 +8,6 @@ mod locals;
 mod saved;
 mod stack;
 mod stub;
-#[cfg(test)]
-mod tests;
 mod values;
 
 pub use fault::StackFault;

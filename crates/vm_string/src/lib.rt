@@ -5,8 +5,6 @@ mod next;
 mod node;
 mod piece;
 mod stop;
-#[cfg(test)]
-mod tests;
 mod walk;
 
 pub use next::next_piece;

@@ -4,10 +4,13 @@ use vm_memory::{MemFault, Trap};
 
 /// A place that can't be read; no string, no node, or too long a path, with the address; an E1
 /// string without a decoding table.
-#[derive(Clone, Copy, Debug, PartialEq, Eq)]
+#[derive(Clone, Copy, Debug, PartialEq, Eq, thiserror::Error)]
 pub enum StringStop {
+    #[error("a string's place can't be read")]
     Read(MemFault),
+    #[error("no string or node stands at {0}, or its path is too long")]
     BadString(u32),
+    #[error("a string needs a decoding table")]
     NoTable,
 }
 

@@ -1,7 +1,7 @@
 -- Places that hold states from the first on still do when the first is taken.
-use Rattle.std.proofs.Common.{refl, Bool, true, false, ◌&&◌, List, [], ◌∷◌, ◌++◌, Option, Some, None, IsTrue}
+use Rattle.std.proofs.Common.{◌≤◌, arith, length, refl, Bool, true, false, ◌&&◌, List, [], ◌∷◌, ◌++◌, Option, Some, None, IsTrue}
 use Rattle.vm_heap.specs.HeapMap.{is_heap}
-use Rattle.vm_undo.specs.UndoList.{are_empty, are_filled}
+use Rattle.vm_undo.specs.UndoList.{are_empty, are_filled, states_in}
 use Rattle.vm_undo.specs.declared.saved.Saved.{Saved}
 
 empty_more : (places : List (Option Saved)) → IsTrue (are_empty places) → IsTrue (are_empty (places ++ None ∷ []))
@@ -32,3 +32,9 @@ filled_more (Some s ∷ places) h =
 pub are_filled-shifted : (place : Option Saved) (places : List (Option Saved)) → IsTrue (are_filled (place ∷ places)) → IsTrue (are_filled (places ++ None ∷ []))
 are_filled-shifted None places h = filled_more places (empty_filled places h)
 are_filled-shifted (Some s) places h = filled_more places (second (is_heap s.heap_start s.heap) (are_filled places) h)
+
+-- places hold no more states than they are
+pub few_states : (places : List (Option Saved)) → length (states_in places) ≤ length places
+few_states [] = omega arith
+few_states (None ∷ places) = let h : length (states_in places) ≤ length places = few_states places in omega (arith, h)
+few_states (Some s ∷ places) = let h : length (states_in places) ≤ length places = few_states places in omega (arith, h)

@@ -4,8 +4,6 @@
 mod lists;
 mod protection;
 mod saved;
-#[cfg(test)]
-mod tests;
 mod undo;
 
 pub use lists::{Blocks, StackBytes};

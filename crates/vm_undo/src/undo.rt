@@ -1,6 +1,6 @@
 //! The states that undo keeps.
 
-ghost use Rattle.std.specs.Prelude.{◌≡◌, ◌∷◌, [], IsTrue, IfSome, OnErr, OnOk, length};
+ghost use Rattle.std.specs.Prelude.{◌≡◌, ◌≤◌, ◌∷◌, [], IsTrue, IfSome, OnErr, OnOk, length};
 ghost use Rattle.vm_heap.specs.HeapMap.{is_heap};
 ghost use Rattle.vm_undo.specs.UndoList as list;
 
@@ -78,9 +78,11 @@ impl<'i> Undo<'i> {
         newest
     }
 
-    /// Whether a state is kept.
+    /// Whether a state is kept. No more than four ever are.
+    #[tactic(auto, using(crate::proofs::UndoLemmas::few_states))]
     pub fn has(&self) -> bool
         ensures value { result ≡ list.has_any self.now }
+        ensures few { length self.now ≤ 4 }
     {
         self.newest.is_some()
     }

@@ -13,7 +13,7 @@ use Rattle.vm_string.specs.declared.piece.Piece.{Piece}
 use Rattle.vm_string.specs.declared.piece.Piece.TheVariants as piece
 use Rattle.vm_exec.specs.Number.{number_text}
 use Rattle.vm_exec.specs.Rules.{Rule, goes, tells, enters, wrap}
-use Rattle.vm_exec.specs.TextStub.{string_stub, suspended, unstubbed, number_on, text_on}
+use Rattle.vm_exec.specs.TextStub.{string_stub, suspended, unstubbed, number_left, text_on}
 use Rattle.vm_exec.specs.declared.machine.Machine.{Machine}
 use Rattle.vm_exec.specs.declared.step.Out.TheVariants.{Ran, Char}
 use Rattle.vm_exec.specs.declared.text.Text.TheVariants.{Pieces, Number}
@@ -90,5 +90,5 @@ number_calls m value place held =
 abbrev pub number_rule : Machine → ℕ → ℕ → Bool → Rule
 number_rule m value place held =
     if m.mode == 1 then number_calls m value place held
-    else number_on m value (wrap (place + 1)) held
-    >>= (λ n. shows n (slice_index (number_text value) place))
+    else shows (number_left m value (wrap (place + 1)) held)
+    (slice_index (number_text value) place)

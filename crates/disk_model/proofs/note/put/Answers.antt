@@ -3,7 +3,7 @@ use Rattle.disk_model.specs.declared.call.Call.{Call}
 use Rattle.disk_model.specs.declared.call.Call.TheVariants.{Write}
 use Rattle.disk_model.specs.DiskState.{settled, after_write}
 use Rattle.disk_model.specs.Calls.{state_after}
-use Rattle.disk_model.specs.CallLaws.{after_calls-push, elapses_push}
+use Rattle.disk_model.proofs.CallLaws.{after_calls-push, elapses_push, well_push}
 use Rattle.disk_model.proofs.note.put.Goals as goal
 
 pub returns-then-good-clause-state : goal.returns-then-good-clause-state
@@ -25,3 +25,9 @@ returns-then-good-clause-time c start = elapses_push start c.args.calls.now.item
 
 pub returns-else-good-clause-time : goal.returns-else-good-clause-time
 returns-else-good-clause-time c start = elapses_push start c.args.calls.now.items _ c.push.new.self.items c.in_ok-push.ensures.items
+
+pub returns-then-good-clause-well : goal.returns-then-good-clause-well
+returns-then-good-clause-well c start = well_push start c.args.calls.now.items c.push.new.self.items _ c.in_ok-push.ensures.items
+
+pub returns-else-good-clause-well : goal.returns-else-good-clause-well
+returns-else-good-clause-well c start = well_push start c.args.calls.now.items c.push.new.self.items _ c.in_ok-push.ensures.items

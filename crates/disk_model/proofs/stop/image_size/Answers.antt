@@ -1,5 +1,5 @@
 use Rattle.std.proofs.Common.{arith}
-use Rattle.disk_model.specs.RangeLaws.{greatest_end_least}
+use Rattle.disk_model.proofs.RangeLaws.{greatest_end_least}
 use Rattle.disk_model.proofs.stop.image_size.Goals as goal
 
 pub returns-then-choice-eq1-clause-low : goal.returns-then-choice-eq1-clause-low

@@ -1,5 +1,5 @@
 use Rattle.std.proofs.Common.{arith}
-use Rattle.disk_model.specs.RangeLaws.{greatest_end_least}
+use Rattle.disk_model.proofs.RangeLaws.{greatest_end_least}
 use Rattle.disk_model.proofs.stop.last_end.Goals as goal
 
 pub loop-range-init : goal.loop-range-init

@@ -1,8 +1,8 @@
 use Rattle.std.proofs.Common.{◌∙◌, sym, subst, List, ℕ, Bool, length}
 use Rattle.std.specs.Prelude.{IsTrue}
 use Rattle.disk_model.specs.Disk.{AfterWrite}
-use Rattle.disk_model.specs.Torn.{torn_same}
-use Rattle.disk_model.specs.Moments.{started, goes_on}
+use Rattle.disk_model.proofs.Torn.{torn_same}
+use Rattle.disk_model.proofs.Moments.{started, goes_on}
 use Rattle.disk_model.proofs.through.write_through.Goals as goal
 
 pub returns-in_err-write_at-clause-crash : goal.returns-in_err-write_at-clause-crash

@@ -1,8 +1,8 @@
 use Rattle.std.proofs.Common.{List, ℕ, Bool, sym, subst}
 use Rattle.std.specs.Prelude.{IsTrue}
 use Rattle.disk_model.specs.Disk.{AfterWrite}
-use Rattle.disk_model.specs.Torn.{torn_same}
-use Rattle.disk_model.specs.Moments.{started, goes_on, weaker, and_then}
+use Rattle.disk_model.proofs.Torn.{torn_same}
+use Rattle.disk_model.proofs.Moments.{started, goes_on, weaker, and_then}
 use Rattle.gate_journal.proofs.begin.init.Goals as goal
 
 pub returns-in_default-write_through-clause-crash : goal.returns-in_default-write_through-clause-crash

@@ -4,7 +4,9 @@ use Rattle.std.specs.List.{starts_with}
 use Rattle.std.proofs.lemmas.List.{take_rest, nil_from_length}
 use Rattle.gate_journal.specs.declared.row.Row.{Row}
 use Rattle.gate_journal.specs.Parsing.{IsFirst, IsNoNext}
-use Rattle.gate_journal.specs.Rows.{header, spelled, payload_of}
+use Rattle.gate_journal.specs.Rows.{header, spelled, payload_of, SpellsRows}
+use Rattle.gate_journal.specs.Log.{rows_of, kept}
+use Rattle.gate_journal.proofs.LogLemmas.{rows_of-all}
 use Rattle.gate_journal.specs.Seats.{Counts}
 use Rattle.gate_journal.proofs.RowLemmas.{spells_split, corrupt_end, corrupt_row, no_header, parse_step}
 use Rattle.gate_journal.proofs.parse.parse.Goals as goal
@@ -19,7 +21,16 @@ returns-then-gate-ne1-clause-ok c =
     let rest = c.loop-rest.rest.now in
     let I = c.loop-rest.invariant in
     let shut : get_or rest 0 0 ≢ 1 = search rules in
-    (spells_split c.loop-rest.rows.items c.args.bytes.now rest I.journal I.split c.in-len1-up.len_at_least shut, I.place)
+    let rows = c.loop-rest.rows.items in
+    let same : rows ≡ rows_of c.in_ok-history.history.list = sym (ap rows_of c.in_ok-history.ensures ∙ rows_of-all rows) in
+    subst (λ (l : List Row). SpellsRows c.args.bytes.now l × (c.loop-rest.place ≡ length (spelled l))) same
+    (spells_split rows c.args.bytes.now rest I.journal I.split c.in-len1-up.len_at_least shut, I.place)
+
+pub returns-then-gate-ne1-clause-fresh : goal.returns-then-gate-ne1-clause-fresh
+returns-then-gate-ne1-clause-fresh c =
+    let rows = c.loop-rest.rows.items in
+    let same : rows ≡ rows_of c.in_ok-history.history.list = sym (ap rows_of c.in_ok-history.ensures ∙ rows_of-all rows) in
+    c.in_ok-history.ensures ∙ ap (λ (l : List Row). kept l) same
 
 pub returns-in_default-2-clause-exact : goal.returns-in_default-2-clause-exact
 returns-in_default-2-clause-exact c =

@@ -1,6 +1,7 @@
 use Rattle.std.proofs.Common.{◌≡◌, ◌+◌, ◌-◌, ◌≤◌, IsUtf8, chars, length, map, take}
 use Rattle.std.specs.Str.Iter.{chars_rest}
 use Rattle.glk_input.specs.Delivery.{line_written, taken}
+use Rattle.glk_input.proofs.DeliveryLemmas.{HasWritten}
 use Rattle.glk_input.proofs.deliver.write_front.Given as goal
 
 -- what is left to write gives what was to write
@@ -11,4 +12,5 @@ invariant-loop-c l = record {
   written : line_written l.unicode l.memory l.at (map (taken l.unicode) (take (l.max - l.count) (chars (chars_rest l.c-iterator))))
       ≡ line_written l.unicode l.fn.memory l.from (map (taken l.unicode) (take l.max (chars l.text)));
   counted : l.count + length (take (l.max - l.count) (chars (chars_rest l.c-iterator))) ≡ length (take l.max (chars l.text));
+  part : HasWritten l.unicode l.fn.memory l.memory l.from l.at (take (l.max - l.count) (chars (chars_rest l.c-iterator))) (take l.max (chars l.text));
 }

@@ -5,11 +5,11 @@ use Rattle.glk_windows.specs.Resizing.{sized}
 use Rattle.glk_windows.specs.Tree.{number_of}
 use Rattle.glk_windows.proofs.placing.size_at_number.Goals as goal
 
-pub returns-in-None : goal.returns-in-None
-returns-in-None c = changed_at-none number_of (sized c.args.area) _ _ c.in-None.ensures.value
+pub returns-in-None-clause-ok : goal.returns-in-None-clause-ok
+returns-in-None-clause-ok c = changed_at-none number_of (sized c.args.area) _ _ c.in-None.ensures.value
 
-pub returns-in-Some : goal.returns-in-Some
-returns-in-Some c =
+pub returns-in-Some-clause-ok : goal.returns-in-Some-clause-ok
+returns-in-Some-clause-ok c =
     let f = changed_at-some number_of (sized c.args.area) c.args.slots.now c.args.win c.in-Some.at
     c.index-slots-at.result c.resize.new.window c.in-Some.ensures.value in
     grind (arith, common_steps, f)

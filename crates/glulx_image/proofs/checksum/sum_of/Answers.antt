@@ -1,5 +1,5 @@
-use Rattle.std.proofs.Common.{rules, ◌≡◌, ◌≤◌, ◌*◌, ◌%◌, ◌^◌, length, ℕ, ◌+◌, refl, arith, sym, ◌∙◌, ap}
-use Rattle.glulx_image.specs.Checksum.{sum_of_words, summand}
+use Rattle.std.proofs.Common.{◌≡◌, refl, arith}
+use Rattle.glulx_image.specs.Checksum.{sum_of_words}
 use Rattle.glulx_image.proofs.SumLemmas.{sum_of_words-next}
 use Rattle.glulx_image.proofs.checksum.sum_of.Goals as goal
 

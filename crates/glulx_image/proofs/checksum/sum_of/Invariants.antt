@@ -1,5 +1,5 @@
-use Rattle.std.proofs.Common.{◌≡◌, ◌≤◌, ◌*◌, ◌%◌, ◌^◌, length, ℕ, ◌+◌, ◌-◌, ◌<◌}
-use Rattle.glulx_image.specs.Checksum.{sum_of_words, verified}
+use Rattle.std.proofs.Common.{◌≡◌, ◌%◌, ◌^◌}
+use Rattle.glulx_image.specs.Checksum.{sum_of_words}
 use Rattle.glulx_image.proofs.checksum.sum_of.Given as goal
 
 abbrev pub invariant-loop-k : goal.invariant-loop-k

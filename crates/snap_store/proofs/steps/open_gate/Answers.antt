@@ -1,7 +1,7 @@
 use Rattle.std.proofs.Common.{◌≡◌, ◌∙◌, ◌∷◌, [], sym, ap, subst, List, ℕ, Bool}
 use Rattle.std.specs.Prelude.{IsTrue, Some}
 use Rattle.disk_model.specs.Disk.{written, Torn}
-use Rattle.disk_model.specs.Moments.{weaker}
+use Rattle.disk_model.proofs.Moments.{weaker}
 use Rattle.snap_store.specs.declared.slot.Slot.TheVariants.{Open, Unsure}
 use Rattle.snap_store.specs.File.{gate_of}
 use Rattle.snap_store.specs.Images.{IsLaid}

@@ -1,12 +1,12 @@
 use Rattle.std.proofs.Common.{inl, inr, sym, subst, refl, List, ℕ, Bool}
 use Rattle.std.specs.Prelude.{IsTrue, Some}
 use Rattle.disk_model.specs.Disk.{LeavesOnly, EachImage}
-use Rattle.disk_model.specs.Moments.{weaker, and_then}
+use Rattle.disk_model.proofs.Moments.{weaker, and_then}
 use Rattle.snap_store.specs.declared.slot.Slot.{Slot}
 use Rattle.snap_store.specs.declared.slot.Slot.TheVariants.{Closed, Unsure}
 use Rattle.snap_store.specs.File.{Stored}
 use Rattle.snap_store.specs.Images.{IsLaid, loosened, DuringPut}
-use Rattle.snap_store.proofs.Runs.{holds_now}
+use Rattle.disk_model.proofs.Moments.{holds_now}
 use Rattle.snap_store.proofs.steps.write_area.Goals as goal
 
 pub returns-in_default-clause-crash : goal.returns-in_default-clause-crash

@@ -1,5 +1,4 @@
 use Rattle.std.proofs.Common.{ap, arith, length}
-use Rattle.disk_model.specs.CallLaws.{well_of}
 use Rattle.disk_model.proofs.memory.MemDiskDisk.size.Goals as goal
 
 pub returns-then-is_err-clause-time : goal.returns-then-is_err-clause-time
@@ -11,4 +10,4 @@ returns-clause-time c = c.note_look-noted.ensures.time c.args.self.now.start.ite
 pub returns-clause-ok : goal.returns-clause-ok
 returns-clause-ok c =
     let m = c.args.self.now in
-    (omega (arith, (well_of m.start.items m.calls.items m.small).within, ap length m.reads), λ told. omega (arith, ap length m.reads))
+    (omega (arith, m.well.within, ap length m.reads), λ told. omega (arith, ap length m.reads))

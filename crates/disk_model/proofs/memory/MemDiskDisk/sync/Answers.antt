@@ -2,8 +2,7 @@ use Rattle.std.proofs.Common.{subst, Bool}
 use Rattle.std.specs.Prelude.{not}
 use Rattle.disk_model.specs.DiskState.{DiskState, IsImage, after_sync}
 use Rattle.disk_model.specs.Calls.{state_after}
-use Rattle.disk_model.specs.CallLaws.{well_of}
-use Rattle.disk_model.specs.StateLaws.{crash_sync, only_settled}
+use Rattle.disk_model.proofs.StateLaws.{crash_sync, only_settled}
 use Rattle.disk_model.proofs.memory.MemDiskDisk.sync.Goals as goal
 
 pub returns-then-not-good-clause-time : goal.returns-then-not-good-clause-time
@@ -22,5 +21,5 @@ returns-clause-ok c told f now =
 pub returns-clause-crash : goal.returns-clause-crash
 returns-clause-crash c told f now =
     let m = c.args.self.now in
-    crash_sync (not c.is_failing-good.result) (state_after m.start.items m.calls.items) (well_of m.start.items m.calls.items m.small) f
+    crash_sync (not c.is_failing-good.result) (state_after m.start.items m.calls.items) m.well f
     (subst (λ (p : DiskState). IsImage p f) (c.in-Ok-note_sync.ensures.state m.start.items) now)

@@ -2,7 +2,7 @@ use Rattle.std.proofs.Common.{subst, arith}
 use Rattle.std.specs.Prelude.{not}
 use Rattle.disk_model.specs.DiskState.{DiskState, IsImage}
 use Rattle.disk_model.specs.Calls.{state_after}
-use Rattle.disk_model.specs.StateLaws.{crash_write}
+use Rattle.disk_model.proofs.StateLaws.{crash_write}
 use Rattle.disk_model.proofs.memory.MemDiskDisk.write_at.Goals as goal
 
 pub returns-then-end-clause-time : goal.returns-then-end-clause-time

@@ -1,7 +1,7 @@
 use Rattle.std.proofs.Common.{◌≡◌, ◌⊎◌, subst, refl, List, ℕ, true}
 use Rattle.std.specs.Prelude.{IsTrue, Some, None}
 use Rattle.disk_model.specs.Disk.{LeavesOnly, EachImage}
-use Rattle.disk_model.specs.Moments.{weaker}
+use Rattle.disk_model.proofs.Moments.{weaker}
 use Rattle.snap_store.specs.declared.slot.Slot.TheVariants.{Open}
 use Rattle.snap_store.specs.File.{Stored, whole_area, open_area}
 use Rattle.snap_store.specs.Slots.{other, slot_of, taken_side}

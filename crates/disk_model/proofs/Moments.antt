@@ -1,0 +1,79 @@
+-- Laws of runs of calls: which images a stop may leave meanwhile (own).
+use Rattle.std.proofs.Common.{inl, inr, ⊎_elim, ℕ, ◌≤◌, List, arith}
+use Rattle.disk_model.specs.Disk.{Elapses, LeavesOnly}
+
+module _ {D : Type 0} (moment : D → ℕ) (left_since : D → ℕ → List ℕ → Type 0) where
+  -- before the first call
+  pub started :
+      (old : D) (P : List ℕ → Type 0)
+      → ((c : List ℕ) → left_since old (moment old) c → P c)
+      → LeavesOnly moment left_since old old P
+  started old P here = record {
+    later = omega arith;
+    each = here;
+    before = λ t c le left. inl left;
+    keeps = λ t c le left. left;
+  }
+
+  -- one call more, after which a stop leaves what has P
+  pub goes_on :
+      (old mid new : D) (P may_leave : List ℕ → Type 0)
+      → LeavesOnly moment left_since old mid P
+      → Elapses (moment mid) (moment new) (left_since mid) (left_since new) may_leave
+      → ((c : List ℕ) → may_leave c → P c)
+      → LeavesOnly moment left_since old new P
+  goes_on old mid new P may_leave so_far time here = record {
+    later = omega (arith, so_far.later, time.later);
+    each = λ c left.
+        ⊎_elim (so_far.each c) (here c) (time.nothing_else (moment old) c so_far.later left);
+    before = λ t c le left.
+        ⊎_elim (so_far.before t c le) (λ now. inr (here c now))
+        (time.nothing_else t c (omega (arith, le, so_far.later)) left);
+    keeps = λ t c le left.
+        time.keeps t c (omega (arith, le, so_far.later)) (so_far.keeps t c le left);
+  }
+
+  -- a weaker fact
+  pub weaker :
+      (old new : D) (P Q : List ℕ → Type 0)
+      → LeavesOnly moment left_since old new P
+      → ((c : List ℕ) → P c → Q c)
+      → LeavesOnly moment left_since old new Q
+  weaker old new P Q leaves so = record {
+    later = leaves.later;
+    each = λ c left. so c (leaves.each c left);
+    before = λ t c le left.
+        ⊎_elim (λ had. inl had) (λ is. inr (so c is)) (leaves.before t c le left);
+    keeps = leaves.keeps;
+  }
+
+  -- one run after another
+  pub and_then :
+      (old mid new : D) (P : List ℕ → Type 0)
+      → LeavesOnly moment left_since old mid P
+      → LeavesOnly moment left_since mid new P
+      → LeavesOnly moment left_since old new P
+  and_then old mid new P first second = record {
+    later = omega (arith, first.later, second.later);
+    each = λ c left.
+        ⊎_elim (first.each c) (λ is. is) (second.before (moment old) c first.later left);
+    before = λ t c le left.
+        ⊎_elim (first.before t c le) (λ is. inr is)
+        (second.before t c (omega (arith, le, first.later)) left);
+    keeps = λ t c le left.
+        second.keeps t c (omega (arith, le, first.later)) (first.keeps t c le left);
+  }
+
+module _
+    {D : Type 0}
+    (moment : D → ℕ)
+    (left_since : D → ℕ → List ℕ → Type 0)
+    (may_leave : D → List ℕ → Type 0)
+    (old new : D)
+    (P : List ℕ → Type 0) where
+  -- what holds of all moments holds now
+  pub holds_now :
+      ((t : ℕ) (c : List ℕ) → t ≤ moment new → may_leave new c → left_since new t c)
+      → LeavesOnly moment left_since old new P
+      → (c : List ℕ) → may_leave new c → P c
+  holds_now counts leaves c now = leaves.each c (counts (moment old) c leaves.later now)

@@ -1,0 +1,79 @@
+-- Laws of triples: a write that is durable has one, and two make one.
+use Rattle.std.proofs.Common.{◌≡◌, ℕ, Bool, List, length, sym, subst}
+use Rattle.std.specs.Prelude.{IsTrue, Result, Ok, Err, OnOk}
+use Rattle.disk_model.specs.Disk.{Torn, AfterWrite, LeavesOnly, Only, written}
+use Rattle.disk_model.specs.Work.{Triple}
+use Rattle.disk_model.proofs.Moments.{started, weaker, and_then}
+
+on_ok : {T E : Type 0} {P Q : Type 0} (result : Result T E) → (P → Q) → OnOk result P → OnOk result Q
+on_ok (Ok x) so is = so is
+on_ok (Err e) so is = tt
+
+module _
+    {D : Type 0} {tells : D → Bool} {may_leave : D → List ℕ → Type 0} {moment : D → ℕ}
+    {left_since : D → ℕ → List ℕ → Type 0} where
+  -- a write that is durable before it answers, of a disk that is read as this image
+  pub through :
+      {T E : Type 0} {result : Result T E} {old new : D} {before during after : List ℕ → Type 0}
+      (at : ℕ) (piece seen : List ℕ) → may_leave old seen
+      → OnOk result (IsTrue (tells old) → Only (written seen at piece) (may_leave new))
+      → (IsTrue (tells old)
+      → LeavesOnly moment left_since old new (AfterWrite at (length piece) (may_leave old)))
+      → ((c d : List ℕ) → before d → Torn at (length piece) d c → during c)
+      → ((d : List ℕ) → before d → after (written d at piece))
+      → Triple tells may_leave moment left_since result old new before during after
+  through {result = result} {old = old} {new = new} {during = during} {after = after} at piece seen reads ok crash torn wrote = record {
+    meanwhile = λ told each.
+        weaker moment left_since old new _ during (crash told)
+        (λ c now. torn c now.0 (each now.0 now.1) now.2);
+    ended = λ told each.
+        on_ok result
+        (λ only c now. subst after (sym (only told c now)) (wrote seen (each seen reads))) ok;
+  }
+
+  -- one piece of work after another that ended Ok
+  pub then_ :
+      {S F T E : Type 0} {first : S} {result : Result T E} {old mid new : D}
+      {before during between after : List ℕ → Type 0}
+      → Triple {E = F} tells may_leave moment left_since (Ok first) old mid before during between
+      → tells mid ≡ tells old
+      → Triple tells may_leave moment left_since result mid new between during after
+      → Triple tells may_leave moment left_since result old new before during after
+  then_ {old = old} {mid = mid} {new = new} {during = during} one same two = record {
+    meanwhile = λ told each.
+        and_then moment left_since old mid new during (one.meanwhile told each)
+        (two.meanwhile (so told) (one.ended told each));
+    ended = λ told each. two.ended (so told) (one.ended told each);
+  }
+    where
+      so : IsTrue (tells old) → IsTrue (tells mid)
+      so told = subst (λ (b : Bool). IsTrue b) (sym same) told
+
+  -- with a weaker fact while it goes on
+  pub looser :
+      {T E : Type 0} {result : Result T E} {old new : D} {before during later after : List ℕ → Type 0}
+      → ((c : List ℕ) → during c → later c)
+      → Triple tells may_leave moment left_since result old new before during after
+      → Triple tells may_leave moment left_since result old new before later after
+  looser {old = old} {new = new} {during = during} {later = later} so triple = record {
+    meanwhile = λ told each. weaker moment left_since old new during later (triple.meanwhile told each) so;
+    ended = triple.ended;
+  }
+
+  -- work that fails says nothing of what it would have left
+  pub failed :
+      {S F T E : Type 0} {result : Result S F} {fault : E} {old new : D}
+      {before during after later : List ℕ → Type 0}
+      → Triple tells may_leave moment left_since result old new before during after
+      → Triple {T = T} tells may_leave moment left_since (Err fault) old new before during later
+  failed triple = record { meanwhile = triple.meanwhile; ended = λ told each. tt }
+
+  -- no work leaves all as it was
+  pub nothing :
+      {T E : Type 0} {value : T} {disk : D} {fact : List ℕ → Type 0}
+      → ((c : List ℕ) → left_since disk (moment disk) c → may_leave disk c)
+      → Triple {E = E} tells may_leave moment left_since (Ok value) disk disk fact fact fact
+  nothing {disk = disk} {fact = fact} only = record {
+    meanwhile = λ told each. started moment left_since disk fact (λ c left. each c (only c left));
+    ended = λ told each. each;
+  }

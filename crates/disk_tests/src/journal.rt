@@ -1,0 +1,224 @@
+//! What the calls do one after the other: the bytes of a journal, stops and faults.
+
+use disk_model::{Disk, MemDisk};
+use gate_journal::*;
+use line_words::Key;
+use std::alloc::Global;
+use std::test::*;
+use story_text::read_escaped;
+
+// A journal, in a box: a test lets go of one thing then.
+type Boxed = Box<Journal<MemDisk>>;
+
+// The OPEN of row one: key k1, story 0, seed 7, 80 by 24.
+fn opening(alloc: Global) -> Result<Box<Command>, Fail> {
+    let command = Command::Open {
+        key: Key::of(alloc, b"k1")?,
+        story: 0,
+        digest: [7; 32],
+        seed: 7,
+        cols: 80,
+        rows: 24,
+        budget: 50_000_000,
+    };
+    Ok(Box::new(alloc, command)?)
+}
+
+// The text `go` for window 1.
+fn going(alloc: Global) -> Result<Box<Command>, Fail> {
+    let text = read_escaped(alloc, b"=go").ok().ok_or("memory")?;
+    let command = Command::Line {
+        win: 1,
+        term: 0,
+        text,
+    };
+    Ok(Box::new(alloc, command)?)
+}
+
+fn opened(alloc: Global, disk: MemDisk) -> Result<Boxed, Fail> {
+    let journal = Journal::open(alloc, disk).ok().ok_or("not opened")?;
+    Ok(Box::new(alloc, journal)?)
+}
+
+fn stopped(alloc: Global, journal: Boxed, choice: u64) -> Result<Boxed, Fail> {
+    let left = stop_and_open(alloc, Box::into_inner(journal), choice);
+    let journal = left.ok().ok_or("not opened")?;
+    Ok(Box::new(alloc, journal)?)
+}
+
+// What the append answers.
+fn added(
+    alloc: Global,
+    journal: &mut Journal<MemDisk>,
+    session: u8,
+    command: &Command,
+) -> Result<Result<u64, DiskFault>, Fail> {
+    journal.reserve(alloc)?;
+    if !journal.may_append(session, command) {
+        return Err("may not stand".into());
+    }
+    Ok(journal.append(session, command))
+}
+
+// A new journal with the OPEN, on a disk whose call of this number fails.
+fn begun(alloc: Global, fails: u64) -> Result<Boxed, Fail> {
+    let mut disk = MemDisk::new(alloc);
+    disk.fail_at(fails)?;
+    init(&mut disk).ok().ok_or("init")?;
+    let mut journal = opened(alloc, disk)?;
+    let command = opening(alloc)?;
+    if added(alloc, &mut journal, 0, &command)? != Ok(16) {
+        return Err("the OPEN".into());
+    }
+    Ok(journal)
+}
+
+// The same with the LINE, whose append answers this.
+fn line_added(
+    alloc: Global,
+    journal: &mut Journal<MemDisk>,
+) -> Result<Result<u64, DiskFault>, Fail> {
+    let command = going(alloc)?;
+    added(alloc, journal, 0, &command)
+}
+
+// The journal of two rows, where this call failed.
+fn two_rows(alloc: Global, fails: u64) -> Result<Boxed, Fail> {
+    let mut journal = begun(alloc, fails)?;
+    let _ = line_added(alloc, &mut journal)?;
+    Ok(journal)
+}
+
+// The sixteen bytes from this place on.
+fn tail(disk: &mut MemDisk, place: u64) -> Result<[u8; 16], Fail> {
+    let mut tail = [9; 16];
+    disk.read_at(place, &mut tail).ok().ok_or("read")?;
+    Ok(tail)
+}
+
+// How many rows a stop leaves of two, where this call failed.
+fn rows_left(alloc: Global, fails: u64, choice: u64) -> Result<u64, Fail> {
+    let journal = stopped(alloc, two_rows(alloc, fails)?, choice)?;
+    Ok(journal.row_count())
+}
+
+// And what byte it leaves at the LINE's gate.
+fn gate_left(alloc: Global, fails: u64, choice: u64) -> Result<u8, Fail> {
+    let disk = Box::into_inner(two_rows(alloc, fails)?).into_disk();
+    let mut left = disk.after_stop(alloc, choice)?;
+    Ok(tail(&mut left, 76)?[0])
+}
+
+// The refusal of the journal of two rows, after this byte is put at this place.
+fn spoiled(alloc: Global, place: u64, byte: u8) -> Result<Option<JournalFault>, Fail> {
+    let mut disk = Box::into_inner(two_rows(alloc, 1000)?).into_disk();
+    disk.write_at(place, &[byte]).ok().ok_or("write")?;
+    Ok(match Journal::open(alloc, disk) {
+        Ok(_) => None,
+        Err((fault, _)) => Some(fault),
+    })
+}
+
+#[test]
+fn a_line_is_copied(rt: HostRuntime) -> Result<(), Fail> {
+    let text = read_escaped(rt.alloc(), b"=go").ok().ok_or("memory")?;
+    let line = Command::Line {
+        win: 1,
+        term: 0xFFFF_FFF8,
+        text,
+    };
+    let copy = line.copy_of(rt.alloc())?;
+    assert!(rt;
+        matches!(
+            copy,
+            Command::Line {
+                win: 1,
+                term: 0xFFFF_FFF8,
+                ..
+            }
+        )
+    );
+    Ok(())
+}
+
+#[test]
+fn a_journal_of_two_rows_has_these_bytes(rt: HostRuntime) -> Result<(), Fail> {
+    let mut journal = begun(rt.alloc(), 1000)?;
+    assert_eq!(rt; line_added(rt.alloc(), &mut journal)?, Ok(76));
+    let mut disk = Box::into_inner(journal).into_disk();
+    assert_eq!(rt; disk.size(), Ok(92));
+    assert_eq!(rt;
+        tail(&mut disk, 76)?,
+        [1, 0, 2, 0, 10, 0, 0, 0, 1, 0, 0, 0, 0, 0x67, 0x6F, 0]
+    );
+    Ok(())
+}
+
+#[test]
+fn a_new_journal_has_17_bytes(rt: HostRuntime) {
+    let mut disk = MemDisk::new(rt.alloc());
+    assert_eq!(rt; init(&mut disk), Ok(()));
+    assert_eq!(rt; disk.size(), Ok(17));
+    assert_eq!(rt; init(&mut disk), Err(InitFault::NotEmpty));
+}
+
+// A byte put at a place, and the refusal that follows.
+const SPOILED: [(u64, u8, Option<JournalFault>); 4] = [
+    (0, 0, Some(JournalFault::NotJournal)),
+    (78, 9, Some(JournalFault::Corrupt(76))),
+    (91, 1, Some(JournalFault::Corrupt(91))),
+    (91, 2, None),
+];
+
+#[test]
+fn bytes_that_spell_no_rows_are_refused(rt: HostRuntime) -> Result<(), Fail> {
+    for (place, byte, refusal) in SPOILED {
+        assert_eq!(rt; spoiled(rt.alloc(), place, byte)?, refusal);
+    }
+    Ok(())
+}
+
+// A call that fails, and how many rows a stop leaves then: where nothing is said, as many as the
+// gate that is left.
+const LEFT: [(u64, Option<u64>); 5] = [
+    (10, Some(1)),
+    (11, Some(1)),
+    (12, None),
+    (13, None),
+    (1000, Some(2)),
+];
+
+#[test]
+fn a_stop_in_an_append_leaves_the_rows_before_or_one_more(rt: HostRuntime) -> Result<(), Fail> {
+    for choice in 0..32 {
+        for (fails, rows) in LEFT {
+            let by_gate = if gate_left(rt.alloc(), fails, choice)? == 1 {
+                2
+            } else {
+                1
+            };
+            assert_eq!(rt;
+                rows_left(rt.alloc(), fails, choice)?,
+                rows.unwrap_or(by_gate)
+            );
+        }
+    }
+    Ok(())
+}
+
+// The LINE's second sync failed, then session 1 is opened, then the journal stops.
+#[test]
+fn a_fault_of_the_second_sync_is_repaired(rt: HostRuntime) -> Result<(), Fail> {
+    for choice in 0..32 {
+        let mut journal = begun(rt.alloc(), 13)?;
+        let line = line_added(rt.alloc(), &mut journal)?;
+        assert_eq!(rt; line, Err(DiskFault { from: 0, to: 1 }));
+        let command = opening(rt.alloc())?;
+        assert_eq!(rt; added(rt.alloc(), &mut journal, 1, &command)?, Ok(76));
+        let journal = stopped(rt.alloc(), journal, choice)?;
+        assert_eq!(rt; journal.row_count(), 2);
+        assert!(rt; matches!(journal.row(0), Some(row) if row.session == 0));
+        assert!(rt; matches!(journal.row(1), Some(row) if row.session == 1));
+    }
+    Ok(())
+}

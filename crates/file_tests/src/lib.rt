@@ -1,0 +1,7 @@
+//! Containers and saves: what no clause says.
+#![tactic(auto)]
+
+#[cfg(test)]
+mod container;
+#[cfg(test)]
+mod save;

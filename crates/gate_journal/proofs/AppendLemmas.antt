@@ -1,0 +1,204 @@
+-- What an append leaves, over plain variables: `log` is the journal by its parts, `old` the same as
+-- contracts see it.
+use Rattle.std.proofs.Common.{◌≡◌, ◌⊎◌, ℕ, ◌+◌, ◌<◌, ◌≤◌, Bool, List, [], ◌∷◌, ◌++◌, length}
+use Rattle.std.proofs.Common.{refl, sym, ◌∙◌, ap, subst, arith}
+use Rattle.std.specs.Prelude.{IsTrue, Option, Some, None, IfSome, Result, Ok}
+use Rattle.disk_model.specs.Work.{Triple}
+use Rattle.disk_model.specs.Disk.{LeavesOnly, EachImage, Rose, Holds}
+use Rattle.gate_journal.specs.declared.command.Command.{Command}
+use Rattle.gate_journal.specs.declared.row.Row.{Row}
+use Rattle.gate_journal.specs.declared.entry.Entry.{Entry}
+use Rattle.gate_journal.specs.declared.entry.Entry.TheVariants.{Kept, Faulted}
+use Rattle.gate_journal.specs.Gate.{IsShut, IsUnsure}
+use Rattle.gate_journal.specs.Rows.{body, spelled, IsNext, MayStand}
+use Rattle.gate_journal.specs.Log.{Log, IsSound, rows_of, next_row, StandsAt, Meanwhile, MaySpell, MayOpen}
+use Rattle.gate_journal.proofs.LogLemmas.{rows_of-kept, rows_of-faulted, stands_well, stands_closed}
+use Rattle.gate_journal.proofs.Sound.{sound_faulted, sound_kept, settled, appended, opened_shut}
+
+-- what a row or a fault adds to the rows
+pub faulted_rows :
+    {D : Type 0} {log old : Log D} {entries : List Entry} (by from to : ℕ)
+    → log ≡ old → entries ≡ log.entries ++ Faulted by from to ∷ []
+    → rows_of entries ≡ rows_of old.entries
+faulted_rows {D = D} {log = log} by from to is pushed =
+    ap rows_of pushed ∙ rows_of-faulted log.entries by from to ∙ ap (λ (l : Log D). rows_of l.entries) is
+
+module _
+    {D : Type 0} {tells : D → Bool} {may_leave : D → List ℕ → Type 0} {room faults : D → ℕ}
+    {log old : Log D} {end : ℕ} (is : log ≡ old)
+    (sound : IsSound tells may_leave room faults log end) where
+  -- what the images of each journal spell, and that they may be opened
+  pub images_spell : (disk : D) → log.disk ≡ disk → EachImage tells may_leave disk (MaySpell (rows_of old.entries) old.uncertain)
+  images_spell disk same =
+      subst (λ (d : D). EachImage tells may_leave d (MaySpell (rows_of old.entries) old.uncertain)) same
+      (subst (λ (l : Log D). EachImage tells may_leave log.disk (MaySpell (rows_of l.entries) l.uncertain)) is
+      (λ told c now. stands_well (rows_of log.entries) log.uncertain c sound.journal sound.next (sound.images told c now)))
+
+  pub images_open : (disk : D) → log.disk ≡ disk → EachImage tells may_leave disk (MayOpen (rows_of old.entries))
+  images_open disk same =
+      subst (λ (d : D). EachImage tells may_leave d (MayOpen (rows_of old.entries))) same
+      (subst (λ (l : Log D). EachImage tells may_leave log.disk (MayOpen (rows_of l.entries))) is
+      (λ told c now. stands_closed (rows_of log.entries) log.uncertain c sound.next (sound.images told c now)))
+
+-- the row at this end
+abbrev row_at : ℕ → ℕ → Command → Row
+row_at end session command =
+    record { place = end; session = session; by = session + 1; command = command }
+
+module _
+    {D : Type 0} {tells : D → Bool} {may_leave : D → List ℕ → Type 0} {room faults : D → ℕ}
+    {log old : Log D} {end session : ℕ} {command : Command} (is : log ≡ old)
+    (sound : IsSound tells may_leave room faults log end)
+    (stands : MayStand (rows_of old.entries) session command) where
+  abbrev rows : List Row
+  rows = rows_of log.entries
+
+  abbrev r : Row
+  r = next_row rows session command
+
+  next : IsNext rows r
+  next = record {
+    place = refl;
+    by = refl;
+    stands = subst (λ (l : Log D). MayStand (rows_of l.entries) session command) (sym is) stands;
+  }
+
+  row_is : {q : Row} → q ≡ row_at end session command → q ≡ r
+  row_is made = made ∙ ap (λ (k : ℕ). row_at k session command) sound.ends
+
+  -- what the repair says, and the writing of the row
+  abbrev Repairs : {T E : Type 0} → (D → ℕ) → (D → ℕ → List ℕ → Type 0) → Result T E → D → Type 0
+  Repairs moment left_since result mid =
+      (l : List Row) → end ≡ length (spelled l)
+      → Triple tells may_leave moment left_since result log.disk mid (StandsAt l log.uncertain) (StandsAt l log.uncertain) (StandsAt l None)
+
+  abbrev Writes :
+      {T E : Type 0} → (D → ℕ) → (D → ℕ → List ℕ → Type 0) → List ℕ → Result T E → D → D → Type 0
+  Writes moment left_since past result mid new =
+      (front : List ℕ) → length front ≡ end
+      → Triple tells may_leave moment left_since result mid new (IsShut front)
+      (λ c. IsShut front c ⊎ IsUnsure front past c) (λ c. Holds c 0 (front ++ 1 ∷ past))
+
+  abbrev After : D → D → (List ℕ → List ℕ → Type 0) → Type 0
+  After mid new P =
+      (front : List ℕ) → length front ≡ end → EachImage tells may_leave mid (IsShut front)
+      → EachImage tells may_leave new (P front)
+
+  -- meanwhile, until the repair ends
+  pub crash_repair :
+      {T E : Type 0} {result : Result T E} {moment : D → ℕ} {left_since : D → ℕ → List ℕ → Type 0} {mid : D}
+      → Repairs moment left_since result mid → IsTrue (tells old.disk)
+      → LeavesOnly moment left_since old.disk mid
+      (Meanwhile (rows_of old.entries) old.uncertain (next_row (rows_of old.entries) session command))
+  crash_repair {moment = moment} {left_since = left_since} {mid = mid} crash =
+      subst (λ (l : Log D). IsTrue (tells l.disk) → LeavesOnly moment left_since l.disk mid
+      (Meanwhile (rows_of l.entries) l.uncertain (next_row (rows_of l.entries) session command))) is
+      (λ told. settled moment left_since rows log.uncertain r sound.journal next sound.next log.disk mid
+      ((crash rows sound.ends).meanwhile told (sound.images told)))
+
+  -- a repair that ended Ok leaves a closed gate
+  shut :
+      {T E : Type 0} {value : T} {moment : D → ℕ} {left_since : D → ℕ → List ℕ → Type 0} {mid : D}
+      → Repairs {E = E} moment left_since (Ok value) mid → tells mid ≡ tells log.disk
+      → EachImage tells may_leave mid (IsShut (spelled rows))
+  shut repairs same told =
+      let told_then = subst (λ (b : Bool). IsTrue b) same told in
+      (repairs rows sound.ends).ended told_then (sound.images told_then)
+
+  -- and until the row's writing ends
+  pub crash_row :
+      {T E S F : Type 0} {value : T} {result : Result S F} {moment : D → ℕ}
+      {left_since : D → ℕ → List ℕ → Type 0} {mid new : D} {q : Row} {past : List ℕ}
+      → q ≡ row_at end session command → past ≡ body q ++ 0 ∷ []
+      → Repairs {E = E} moment left_since (Ok value) mid → tells mid ≡ tells log.disk
+      → Writes moment left_since past result mid new → IsTrue (tells old.disk)
+      → LeavesOnly moment left_since old.disk new
+      (Meanwhile (rows_of old.entries) old.uncertain (next_row (rows_of old.entries) session command))
+  crash_row {moment = moment} {left_since = left_since} {mid = mid} {new = new} {past = past} made bytes repairs same writes =
+      subst (λ (l : Log D). IsTrue (tells l.disk) → LeavesOnly moment left_since l.disk new
+      (Meanwhile (rows_of l.entries) l.uncertain (next_row (rows_of l.entries) session command))) is
+      (λ told. let told_then = subst (λ (b : Bool). IsTrue b) (sym same) told in
+      appended moment left_since rows log.uncertain r sound.journal next sound.next log.disk mid new past
+      (bytes ∙ ap (λ (x : Row). body x ++ 0 ∷ []) (row_is made))
+      ((repairs rows sound.ends).meanwhile told (sound.images told))
+      ((writes (spelled rows) (sym sound.ends)).meanwhile told_then (shut repairs same told_then)))
+
+  -- the rows with one more
+  pub kept_rows :
+      {entries : List Entry} {q : Row} → entries ≡ log.entries ++ Kept q ∷ []
+      → q ≡ row_at end session command
+      → rows_of entries ≡ rows_of old.entries ++ next_row (rows_of old.entries) session command ∷ []
+  kept_rows {q = q} pushed made =
+      ap rows_of pushed ∙ rows_of-kept log.entries q ∙ ap (λ (x : Row). rows ++ x ∷ []) (row_is made)
+      ∙ ap (λ (l : Log D). rows_of l.entries ++ next_row (rows_of l.entries) session command ∷ []) is
+
+  -- the journal is sound with a fault more, which came after this much was done
+  abbrev Faults : D → D → List Entry → Option Row → ℕ → ℕ → ℕ → Bool → Type 0
+  Faults mid new entries uncertain by from to ready =
+      entries ≡ log.entries ++ Faulted by from to ∷ [] → room new ≡ room log.disk
+      → from ≡ faults log.disk → to ≡ faults new → faults mid ≡ faults log.disk
+      → (faults mid ≤ faults new) × Rose (faults mid) (faults new)
+      → IsSound tells may_leave room faults
+      (record { disk = new; entries = entries; uncertain = uncertain; since = log.since; ready = ready }) end
+
+  -- a fault, after which the gate is known so
+  faulted :
+      {mid new : D} {entries : List Entry} {uncertain : Option Row} {from to : ℕ} {ready : Bool} (by : ℕ) (known : Option Row)
+      → uncertain ≡ known → IfSome known (IsNext rows) → EachImage tells may_leave new (StandsAt rows known)
+      → Faults mid new entries uncertain by from to ready
+  faulted {mid = mid} {new = new} {entries = entries} {uncertain = uncertain} {from = from} {to = to} {ready = ready} by known so next_one images pushed size is_from is_to none_yet counts =
+      sound_faulted tells may_leave room faults log end new entries uncertain by from to ready sound pushed size is_from is_to
+      (omega (arith, is_from, is_to, none_yet, counts.0)) (omega (arith, is_from, is_to, none_yet, counts.1))
+      (subst (λ (u : Option Row). IfSome u (IsNext rows)) (sym so) next_one)
+      (subst (λ (u : Option Row). EachImage tells may_leave new (StandsAt rows u)) (sym so) images)
+
+  -- of the repair: the gate stays as it was
+  pub sound_unrepaired :
+      {new : D} {entries : List Entry} {uncertain : Option Row} {from to : ℕ} {ready : Bool} (by : ℕ)
+      → uncertain ≡ log.uncertain → EachImage tells may_leave new (StandsAt rows log.uncertain)
+      → Faults log.disk new entries uncertain by from to ready
+  sound_unrepaired by so images = faulted {mid = log.disk} by log.uncertain so sound.next images
+
+  -- before the gate's write: it is closed
+  pub sound_before :
+      {T E : Type 0} {value : T} {moment : D → ℕ} {left_since : D → ℕ → List ℕ → Type 0}
+      {mid new : D} {entries : List Entry} {uncertain : Option Row} {from to : ℕ} {ready : Bool} (by : ℕ)
+      → uncertain ≡ None → Repairs {E = E} moment left_since (Ok value) mid → tells mid ≡ tells log.disk
+      → After mid new IsShut
+      → Faults mid new entries uncertain by from to ready
+  sound_before {mid = mid} by none repairs same after =
+      faulted {mid = mid} by None none tt (after (spelled rows) (sym sound.ends) (shut repairs same))
+
+  -- in the gate's write: it is uncertain, before the row
+  pub sound_at_gate :
+      {T E : Type 0} {value : T} {moment : D → ℕ} {left_since : D → ℕ → List ℕ → Type 0}
+      {mid new : D} {entries : List Entry} {uncertain : Option Row} {from to : ℕ} {ready : Bool} {q : Row} {past : List ℕ} (by : ℕ)
+      → q ≡ row_at end session command → past ≡ body q ++ 0 ∷ [] → uncertain ≡ Some q
+      → Repairs {E = E} moment left_since (Ok value) mid → tells mid ≡ tells log.disk
+      → After mid new (λ front. IsUnsure front past)
+      → Faults mid new entries uncertain by from to ready
+  sound_at_gate {mid = mid} {new = new} {q = q} by made bytes so repairs same after =
+      faulted {mid = mid} by (Some q) so (subst (λ (x : Row). IsNext rows x) (sym (row_is made)) next)
+      (subst (λ (l : List ℕ). EachImage tells may_leave new (IsUnsure (spelled rows) l)) bytes
+      (after (spelled rows) (sym sound.ends) (shut repairs same)))
+
+  -- the row is there
+  pub sound_row :
+      {T E S F : Type 0} {value : T} {wrote : S} {moment : D → ℕ} {left_since : D → ℕ → List ℕ → Type 0}
+      {mid new : D} {entries : List Entry} {uncertain : Option Row} {ready : Bool} {q : Row} {past : List ℕ} {later : ℕ}
+      → q ≡ row_at end session command → past ≡ body q ++ 0 ∷ []
+      → uncertain ≡ None → Repairs {E = E} moment left_since (Ok value) mid → tells mid ≡ tells log.disk
+      → Writes {E = F} moment left_since past (Ok wrote) mid new → tells new ≡ tells mid
+      → entries ≡ log.entries ++ Kept q ∷ [] → room new ≡ room log.disk
+      → faults log.disk ≤ faults new → later ≡ end + length past → later < room new
+      → IsSound tells may_leave room faults
+      (record { disk = new; entries = entries; uncertain = uncertain; since = log.since; ready = ready }) later
+  sound_row {new = new} {entries = entries} {ready = ready} {q = q} {past = past} {later = later} made bytes none repairs same writes same_then pushed size le is_later within =
+      subst (λ (u : Option Row). IsSound tells may_leave room faults
+      (record { disk = new; entries = entries; uncertain = u; since = log.since; ready = ready }) later) (sym none)
+      (sound_kept tells may_leave room faults log end later new entries q ready sound pushed size le
+      (is_later ∙ ap (λ (l : List ℕ). end + length l) bytes) within
+      (subst (λ (x : Row). IsNext rows x) (sym (row_is made)) next)
+      (λ told c now. let told_then = subst (λ (b : Bool). IsTrue b) same_then told in
+      opened_shut rows q past c bytes
+      ((writes (spelled rows) (sym sound.ends)).ended told_then (shut repairs same told_then) c now)))

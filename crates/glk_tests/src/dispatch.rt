@@ -1,0 +1,344 @@
+//! Calls by their selectors, and the rows of the profile on windows, streams and input.
+
+ghost use Rattle.std.specs.Prelude.{◌≡◌, ◌<◌};
+
+use glk_dispatch::{Called, Glk, answer, call};
+use glk_input::Input;
+use std::alloc::Global;
+use std::test::Fail;
+use story_text::read_escaped;
+use vm_memory::{Memory, Trap};
+use vm_stack::Stack;
+
+// 1,024 bytes, of which those from 256 on can be written.
+const ROM: [u8; 256] = [0; 256];
+
+fn memory_of(alloc: Global) -> Result<Memory<'static>, Fail> {
+    let mut memory = Memory::new(alloc, &ROM, 256, 1024)?;
+    // the string `ab` at 512, and the Unicode string `c` at 520
+    for (at, word) in [
+        (512, 0xE061_6200),
+        (520, 0xE200_0000),
+        (524, 0x63),
+        (528, 0),
+    ] {
+        memory.write4(at, word).ok().ok_or("RAM")?;
+    }
+    Ok(memory)
+}
+
+/// A Glk state with its story's memory and stack, in one box: a test has one thing to let go.
+#[derive(Drop)]
+struct Desk {
+    held: Box<Held>,
+}
+
+#[derive(Drop)]
+struct Held {
+    glk: Glk,
+    memory: Memory<'static>,
+    stack: Stack,
+}
+
+impl Desk {
+    fn new(alloc: Global) -> Result<Desk, Fail> {
+        let mut stack = Stack::with_size(alloc, 512)?;
+        stack.enter(&[0, 0]).ok().ok_or("a frame")?;
+        let held = Held {
+            glk: Glk::new(alloc, 80, 24)?,
+            memory: memory_of(alloc)?,
+            stack,
+        };
+        Ok(Desk {
+            held: Box::new(alloc, held)?,
+        })
+    }
+
+    /// Calls with this count of arguments.
+    fn call(&mut self, alloc: Global, selector: u32, count: u32) -> Result<Called, Trap> {
+        let held = &mut *self.held;
+        call(
+            alloc,
+            &mut held.glk,
+            &mut held.memory,
+            &mut held.stack,
+            selector,
+            count,
+        )
+    }
+
+    /// Calls with these arguments, the first on top of the stack.
+    fn run(
+        &mut self,
+        alloc: Global,
+        selector: u32,
+        args: &[u32],
+    ) -> Result<Result<Called, Trap>, Fail> {
+        for arg in args.iter().rev() {
+            self.held.stack.push(*arg).ok().ok_or("room")?;
+        }
+        let count = (args.len() & 7) as u32;
+        Ok(self.call(alloc, selector, count))
+    }
+
+    /// The first of these calls that is answered otherwise, or leaves values on the stack.
+    fn first_unwanted(
+        &mut self,
+        alloc: Global,
+        rows: &[(u32, &[u32], Result<Called, Trap>)],
+    ) -> Result<Option<usize>, Fail> {
+        for (number, (selector, args, wanted)) in rows.iter().enumerate() {
+            let got = self.run(alloc, *selector, args)?;
+            if got != *wanted || got.is_ok() && self.held.stack.count() != 0 {
+                return Ok(Some(number));
+            }
+        }
+        Ok(None)
+    }
+
+    fn answer(&mut self, alloc: Global, input: &Input) -> Result<u32, Trap> {
+        let held = &mut *self.held;
+        answer(
+            alloc,
+            &mut held.glk,
+            &mut held.memory,
+            &mut held.stack,
+            input,
+        )
+    }
+
+    /// These words stand at their addresses.
+    fn has(&self, words: &[(u32, u32)]) -> bool {
+        for (at, word) in words {
+            if self.held.memory.read4(*at) != Ok(*word) {
+                return false;
+            }
+        }
+        true
+    }
+}
+
+/// Each selector, with arguments and the answer, played one after the other.
+const EACH: &[(u32, &[u32], Result<Called, Trap>)] = &[
+    (0x04, &[0, 0], Ok(Called::Value(0x705))),
+    (0x05, &[3, 65, 256, 1], Ok(Called::Value(2))),
+    (0x02, &[0], Ok(Called::Value(0))),
+    (0x03, &[], Ok(Called::Value(0))),
+    // a buffer 1, a grid 2 above it, and their pair 3
+    (0x23, &[0, 0, 0, 3, 7], Ok(Called::Value(1))),
+    (0x22, &[], Ok(Called::Value(1))),
+    (0x23, &[1, 0x12, 1, 4, 8], Ok(Called::Value(2))),
+    (0x20, &[0, 256], Ok(Called::Value(1))),
+    (0x21, &[2], Ok(Called::Value(8))),
+    (0x25, &[2, 256, 260], Ok(Called::Value(0))),
+    (0x26, &[3, 0x12, 2, 0], Ok(Called::Value(0))),
+    (0x27, &[3, 256, 260, 264], Ok(Called::Value(0))),
+    (0x28, &[3], Ok(Called::Value(1))),
+    (0x29, &[1], Ok(Called::Value(3))),
+    (0x30, &[1], Ok(Called::Value(2))),
+    (0x2A, &[2], Ok(Called::Value(0))),
+    (0x2B, &[2, 0, 0], Ok(Called::Value(0))),
+    (0x2C, &[1], Ok(Called::Value(1))),
+    (0x2F, &[1], Ok(Called::Value(0))),
+    (0x48, &[], Ok(Called::Value(1))),
+    // 16 characters to the buffer
+    (0x80, &[72], Ok(Called::Value(0))),
+    (0x128, &[0x3B1], Ok(Called::Value(0))),
+    (0x81, &[1, 105], Ok(Called::Value(0))),
+    (0x12B, &[1, 105], Ok(Called::Value(0))),
+    (0x82, &[512], Ok(Called::Value(0))),
+    (0x129, &[520], Ok(Called::Value(0))),
+    (0x83, &[1, 512], Ok(Called::Value(0))),
+    (0x12C, &[1, 520], Ok(Called::Value(0))),
+    (0x84, &[513, 2], Ok(Called::Value(0))),
+    (0x12A, &[524, 1], Ok(Called::Value(0))),
+    (0x85, &[1, 513, 2], Ok(Called::Value(0))),
+    (0x12D, &[1, 524, 1], Ok(Called::Value(0))),
+    (0x46, &[1], Ok(Called::Value(16))),
+    (0x86, &[11], Ok(Called::Value(0))),
+    (0x87, &[1, 3], Ok(Called::Value(0))),
+    (0xB0, &[3, 0, 0, 0], Ok(Called::Value(0))),
+    (0xB1, &[3, 0, 0], Ok(Called::Value(0))),
+    (0xB2, &[1, 0, 1], Ok(Called::Value(0))),
+    (0xB3, &[1, 0, 0, 256], Ok(Called::Value(0))),
+    // a stream 4 on four bytes
+    (0x43, &[256, 4, 3, 9], Ok(Called::Value(4))),
+    (0x41, &[4], Ok(Called::Value(9))),
+    (0x40, &[3, 260], Ok(Called::Value(4))),
+    (0x47, &[4], Ok(Called::Value(0))),
+    (0x80, &[65], Ok(Called::Value(0))),
+    (0x45, &[4, 0, 0], Ok(Called::Value(0))),
+    (0x90, &[4], Ok(Called::Value(65))),
+    (0x130, &[4], Ok(Called::Value(0))),
+    (0x92, &[4, 600, 8], Ok(Called::Value(2))),
+    (0x45, &[4, 0, 0], Ok(Called::Value(0))),
+    (0x91, &[4, 600, 3], Ok(Called::Value(2))),
+    (0x132, &[4, 600, 2], Ok(Called::Value(1))),
+    (0x131, &[4, 600, 8], Ok(Called::Value(1))),
+    (0x139, &[0, 0, 1, 0], Ok(Called::Value(5))),
+    (0x44, &[5, 256], Ok(Called::Value(0))),
+    (0x49, &[1, 0], Ok(Called::Value(0))),
+    (0x13A, &[1, 0], Ok(Called::Value(0))),
+    // file references 1 to 3, and streams 6 and 7 on the file `ab`
+    (0x60, &[0, 5], Ok(Called::Value(1))),
+    (0x61, &[0, 512, 6], Ok(Called::Value(2))),
+    (0x68, &[0, 2, 7], Ok(Called::Value(3))),
+    (0x64, &[1, 256], Ok(Called::Value(2))),
+    (0x65, &[3], Ok(Called::Value(7))),
+    (0x67, &[2], Ok(Called::Value(0))),
+    (0x42, &[2, 1, 0], Ok(Called::Value(6))),
+    (0x67, &[2], Ok(Called::Value(1))),
+    (0x138, &[2, 3, 0], Ok(Called::Value(7))),
+    (0x44, &[6, 0], Ok(Called::Value(0))),
+    (0x44, &[7, 0], Ok(Called::Value(0))),
+    (0x66, &[2], Ok(Called::Value(0))),
+    (0x42, &[2, 2, 0], Ok(Called::Value(0))),
+    (0x63, &[3], Ok(Called::Value(0))),
+    (0x62, &[1, 1, 0], Ok(Called::Prompt)),
+    (0x2D, &[1, 4], Ok(Called::Value(0))),
+    (0x2E, &[1], Ok(Called::Value(4))),
+    (0xA0, &[0x41], Ok(Called::Value(0x61))),
+    (0xA1, &[0xE9], Ok(Called::Value(0xC9))),
+    (0x120, &[524, 1, 1], Ok(Called::Value(1))),
+    (0x121, &[524, 1, 1], Ok(Called::Value(1))),
+    (0x122, &[524, 1, 1, 1], Ok(Called::Value(1))),
+    (0xC1, &[256], Ok(Called::Value(0))),
+    (0xD0, &[1, 700, 10, 0], Ok(Called::Value(0))),
+    (0xD1, &[1, 256], Ok(Called::Value(0))),
+    (0x141, &[1, 700, 10, 0], Ok(Called::Value(0))),
+    (0xD1, &[1, 256], Ok(Called::Value(0))),
+    (0xD2, &[1], Ok(Called::Value(0))),
+    (0xD3, &[1], Ok(Called::Value(0))),
+    (0x140, &[1], Ok(Called::Value(0))),
+    (0xD3, &[1], Ok(Called::Value(0))),
+    (0x150, &[1, 0], Ok(Called::Value(0))),
+    (0x151, &[1, 0, 0], Ok(Called::Value(0))),
+    (0xC0, &[256], Ok(Called::Wait)),
+    (0xD4, &[], Ok(Called::Value(0))),
+    (0xE0, &[1, 2], Ok(Called::Value(0))),
+    (0xFF, &[1, 2, 3], Ok(Called::Value(0))),
+    (0x103, &[1, 2, 3, 4, 5, 6], Ok(Called::Value(0))),
+    (0x24, &[2, 256], Ok(Called::Value(0))),
+    (0x01, &[], Ok(Called::Exit)),
+];
+
+#[test]
+fn each_selector_does_its_work(rt: HostRuntime) -> Result<(), Fail> {
+    let alloc = rt.alloc();
+    let mut desk = Desk::new(alloc)?;
+    let unwanted = desk.first_unwanted(alloc, EACH)?;
+    assert_eq!(rt; unwanted, None);
+    Ok(())
+}
+
+#[test]
+fn faults_come_in_their_order(rt: HostRuntime) -> Result<(), Fail> {
+    let alloc = rt.alloc();
+    let mut desk = Desk::new(alloc)?;
+    // no selector, though nothing is there; too few values before a wrong count
+    let early = [
+        desk.call(alloc, 0x99, 7),
+        desk.call(alloc, 0x21, 2),
+        desk.call(alloc, 0xE0, 1),
+    ];
+    assert!(rt;
+        early
+            == [
+                Err(Trap::Fault(20)),
+                Err(Trap::Fault(4)),
+                Err(Trap::Fault(4))
+            ]
+    );
+    let rows: &[(u32, &[u32], Result<Called, Trap>)] = &[
+        (0x22, &[0], Err(Trap::Fault(22))),
+        (0x21, &[1], Err(Trap::Fault(21))),
+        (0x23, &[1, 0, 0, 3, 0], Err(Trap::Fault(21))),
+        (0x24, &[1, 1], Err(Trap::Fault(21))),
+        (0x84, &[1024, 1], Err(Trap::Fault(1))),
+        (0x82, &[513], Err(Trap::Fault(15))),
+        (0x43, &[256, 4, 5, 0], Err(Trap::Fault(22))),
+        (0x61, &[0, 520, 0], Err(Trap::Fault(15))),
+        (0x151, &[1, 0, 14], Err(Trap::Fault(21))),
+        (0x120, &[524, 1, 2], Err(Trap::Fault(22))),
+    ];
+    let unwanted = desk.first_unwanted(alloc, rows)?;
+    assert_eq!(rt; unwanted, None);
+    Ok(())
+}
+
+#[test]
+fn a_memory_stream_counts_what_it_drops(rt: HostRuntime) -> Result<(), Fail> {
+    let alloc = rt.alloc();
+    let mut desk = Desk::new(alloc)?;
+    desk.held.memory.write4(600, 0x6162_6364).ok().ok_or("RAM")?;
+    let rows: &[(u32, &[u32], Result<Called, Trap>)] = &[
+        (0x43, &[0x100, 3, 1, 0], Ok(Called::Value(1))),
+        (0x85, &[1, 600, 4], Ok(Called::Value(0))),
+    ];
+    let unwanted = desk.first_unwanted(alloc, rows)?;
+    assert_eq!(rt; unwanted, None);
+    // counts 0 and 4 on the stack, the last on top; `abc` in the array
+    let closed = desk.run(alloc, 0x44, &[1, 0xFFFF_FFFF])?;
+    let held = &desk.held;
+    assert!(rt;
+        closed == Ok(Called::Value(0))
+            && held.stack.peek(0) == Ok(4)
+            && held.stack.peek(1) == Ok(0)
+            && held.memory.read4(0x100) == Ok(0x6162_6300)
+            && held.glk.chars() == 4
+    );
+    Ok(())
+}
+
+#[test]
+fn a_line_is_shown_and_told(rt: HostRuntime) -> Result<(), Fail> {
+    let alloc = rt.alloc();
+    let mut desk = Desk::new(alloc)?;
+    let rows: &[(u32, &[u32], Result<Called, Trap>)] = &[
+        (0x23, &[0, 0, 0, 3, 0], Ok(Called::Value(1))),
+        (0xD0, &[1, 700, 2, 0], Ok(Called::Value(0))),
+        (0xC0, &[256], Ok(Called::Wait)),
+    ];
+    let unwanted = desk.first_unwanted(alloc, rows)?;
+    assert_eq!(rt; unwanted, None);
+    desk.held.glk.begin_turn();
+    let text = read_escaped(alloc, b"=abc").ok().ok_or("a text")?;
+    let line = Input::Line {
+        win: 1,
+        text,
+        key: 0,
+    };
+    let is_wanted = desk.held.glk.requests.wants(&line);
+    let given = desk.answer(alloc, &line);
+    assert!(rt; is_wanted && given == Ok(0));
+    // the event: 3, the window, the length, and no terminator; and what is shown of the line
+    let is_told = desk.has(&[(256, 3), (260, 1), (264, 2), (268, 0), (700, 0x6162_0000)]);
+    assert!(rt; is_told && is_shown(&desk.held.glk) && desk.held.glk.chars() == 0);
+    Ok(())
+}
+
+/// The first window has one run, `ab` and a newline in the style of input.
+fn is_shown(glk: &Glk) -> bool {
+    match glk.windows.runs(1) {
+        [run] => run.style == 8 && run.codes.as_slice() == [97, 98, 10].as_slice(),
+        _ => false,
+    }
+}
+
+#[test]
+fn a_prompt_takes_a_name(rt: HostRuntime) -> Result<(), Fail> {
+    let alloc = rt.alloc();
+    let mut desk = Desk::new(alloc)?;
+    // an empty name cancels; a file that is to be read must be there
+    let rows: &[(u32, &[u8], u32)] = &[(1, b"=", 0), (2, b"=x", 0), (1, b"=a/b.c", 1)];
+    for (mode, name, fref) in rows {
+        let asked = desk.run(alloc, 0x62, &[1, *mode, 0])?;
+        let name = read_escaped(alloc, name).ok().ok_or("a text")?;
+        let given = desk.answer(alloc, &Input::File { name });
+        assert!(rt; asked == Ok(Called::Prompt) && given == Ok(*fref));
+    }
+    for fref in desk.held.glk.streams.refs() {
+        assert!(rt; fref.name.as_str() == "ab");
+    }
+    Ok(())
+}

@@ -1,0 +1,209 @@
+-- What device calls do to the images.
+use Rattle.std.proofs.Common.{Bool, List, None, Option, Some, [], ap, arith, false, inl, inr}
+use Rattle.std.proofs.Common.{length, refl, subst, suc, sym, true, zero, ℕ, ⊎_elim, ◌+◌, ◌<◌, ◌^◌}
+use Rattle.std.proofs.Common.{◌∙◌, ◌∷◌, ◌≡◌, ◌≤◌, ◌⊎◌}
+use Rattle.std.proofs.lemmas.Bool.{and_from, and_parts, cases_eq, cases_lt}
+use Rattle.std.proofs.lemmas.Bool.Decides.{nat_tests}
+use Rattle.std.specs.Prelude.{if◌then◌else◌, nat_eq, nat_le, nat_lt, slice_index, ◌&&◌, ◌||◌}
+use Rattle.disk_model.specs.Disk.{AfterWrite, written}
+use Rattle.disk_model.specs.DiskState.{DiskState, IsImage, Untouched, after_write, greatest_end}
+use Rattle.disk_model.specs.DiskState.{with_range}
+use Rattle.disk_model.proofs.RangeLaws.{greatest_end-push, untouched-front, untouched-last}
+use Rattle.disk_model.proofs.StateLaws.{image_torn, only_settled, settled_image}
+use Rattle.disk_model.proofs.Torn.{length-written, torn_same, written_above, written_below}
+use Rattle.gate_journal.proofs.Steps.{shut_torn, unsure_torn}
+use Rattle.gate_journal.specs.Gate.{IsShut, IsUnsure}
+use Rattle.gate_journal.specs.Log.{StandsAt}
+use Rattle.gate_journal.specs.Rows.{spelled}
+use Rattle.gate_journal.specs.declared.row.Row.{Row}
+use Rattle.story_run.specs.declared.story.Story.{Story}
+use Rattle.host_world.specs.Disk.{agree, disk_after, is_image, is_touched, reading}
+use Rattle.host_world.specs.Journal.{next_call, past_gate}
+use Rattle.host_world.specs.Sessions.{found}
+use Rattle.host_world.specs.declared.disk.DiskCall.{DiskCall}
+use Rattle.host_world.specs.declared.disk.DiskCall.TheVariants.{Look, Sync, Write}
+use Rattle.host_world.specs.declared.state.HostState.{HostState}
+use Rattle.host_world.specs.declared.state.Step.{Step}
+use Rattle.host_world.specs.declared.state.Step.TheVariants.{AskSize, CloseSync, CloseWrite}
+use Rattle.host_world.specs.declared.state.Step.TheVariants.{FirstSync, GateSync, GateWrite, Idle}
+use Rattle.host_world.specs.declared.state.Step.TheVariants.{ReadAll, RepairSync, RepairWrite}
+use Rattle.host_world.specs.declared.state.Step.TheVariants.{RowSync, RowWrite}
+use Rattle.host_world.proofs.Lists.{false_true, some_none, some_same}
+use Rattle.host_world.proofs.Sound.{StepFact}
+
+-- a place that no range has
+untouched_test : (i : ℕ) (ranges : List (ℕ × ℕ)) → Untouched i ranges → is_touched i ranges ≡ false
+untouched_test i [] all = refl
+untouched_test i (r ∷ ranges) all = elim all.0 [
+  | inl before ↦ grind (arith, nat_tests, untouched_test i ranges all.1)
+  | inr behind ↦ grind (arith, nat_tests, untouched_test i ranges all.1)
+]
+
+agree_at : (n i : ℕ) (p : DiskState) (c : List ℕ) → agree n p c ≡ true → i < n → Untouched i p.ranges → slice_index c i ≡ slice_index p.synced i
+agree_at zero i p c is lt untouched = absurd (omega (arith, lt))
+agree_at (suc n) i p c is lt untouched =
+    let both = and_parts (is_touched n p.ranges || nat_eq (slice_index c n) (slice_index p.synced n)) (agree n p c) is in
+    elim (cases_eq i n) [
+      | inl same ↦ here both.0 same
+      | inr other ↦ agree_at n i p c both.1 (omega (arith, lt, other)) untouched
+    ]
+  where
+    here : (is_touched n p.ranges || nat_eq (slice_index c n) (slice_index p.synced n)) ≡ true → i ≡ n → slice_index c i ≡ slice_index p.synced i
+    here test same =
+        let quiet : is_touched n p.ranges ≡ false = untouched_test n p.ranges (subst (λ (k : ℕ). Untouched k p.ranges) same untouched) in
+        let eq : nat_eq (slice_index c n) (slice_index p.synced n) ≡ true = sym (ap (λ (b : Bool). b || nat_eq (slice_index c n) (slice_index p.synced n)) quiet) ∙ test in
+        let there : slice_index c n ≡ slice_index p.synced n = grind (arith, nat_tests) in
+        subst (λ (k : ℕ). slice_index c k ≡ slice_index p.synced k) (sym same) there
+
+-- what the test of an image says, it is
+pub image_is : (p : DiskState) (c : List ℕ) → is_image p c ≡ true → IsImage p c
+image_is p c is =
+    let outer = and_parts (nat_le (length p.synced) (length c) && nat_le (length c) (greatest_end p.ranges (length p.synced))) (agree (length p.synced) p c) is in
+    let inner = and_parts (nat_le (length p.synced) (length c)) (nat_le (length c) (greatest_end p.ranges (length p.synced))) outer.0 in
+    let low = inner.0 in
+    let high = inner.1 in
+    record {
+      no_shorter = grind (arith, nat_tests);
+      no_longer = grind (arith, nat_tests);
+      same = λ i lt untouched. agree_at (length p.synced) i p c outer.1 lt untouched;
+    }
+
+or_none : (a b : Bool) → (a || b) ≡ false → (a ≡ false) × (b ≡ false)
+or_none true b is = absurd (false_true (sym is))
+or_none false b is = (refl, is)
+
+out_of : (i : ℕ) (r : ℕ × ℕ) → (nat_le r.0 i && nat_lt i r.1) ≡ false → (i < r.0) ⊎ (r.1 ≤ i)
+out_of i r is = elim (cases_lt i r.0) [
+  | inl before ↦ inl before
+  | inr from ↦ inr (grind (arith, nat_tests))
+]
+
+untouched_of : (i : ℕ) (ranges : List (ℕ × ℕ)) → is_touched i ranges ≡ false → Untouched i ranges
+untouched_of i [] is = tt
+untouched_of i (r ∷ ranges) is =
+    let both = or_none (nat_le r.0 i && nat_lt i r.1) (is_touched i ranges) is in
+    (out_of i r both.0, untouched_of i ranges both.1)
+
+or_both : (a b : Bool) → (a ≡ false → b ≡ true) → (a || b) ≡ true
+or_both true b then_ = refl
+or_both false b then_ = then_ refl
+
+agree_all : (n : ℕ) (p : DiskState) (c : List ℕ) → ((i : ℕ) → i < n → Untouched i p.ranges → slice_index c i ≡ slice_index p.synced i) → agree n p c ≡ true
+agree_all zero p c each = refl
+agree_all (suc n) p c each = and_from (is_touched n p.ranges || nat_eq (slice_index c n) (slice_index p.synced n)) (agree n p c)
+    (or_both (is_touched n p.ranges) (nat_eq (slice_index c n) (slice_index p.synced n)) (λ quiet. let there = each n (omega arith) (untouched_of n p.ranges quiet) in grind (arith, nat_tests)))
+    (agree_all n p c (λ i lt untouched. each i (omega (arith, lt)) untouched))
+
+-- and takes every image
+pub image_told : (p : DiskState) (c : List ℕ) → IsImage p c → is_image p c ≡ true
+image_told p c image =
+    let low = image.no_shorter in
+    let high = image.no_longer in
+    and_from (nat_le (length p.synced) (length c) && nat_le (length c) (greatest_end p.ranges (length p.synced))) (agree (length p.synced) p c)
+    (and_from (nat_le (length p.synced) (length c)) (nat_le (length c) (greatest_end p.ranges (length p.synced))) (grind (arith, nat_tests)) (grind (arith, nat_tests)))
+    (agree_all (length p.synced) p c image.same)
+
+-- a disk that reads otherwise has the same images
+pub read_otherwise : (p : DiskState) (seen c : List ℕ) → IsImage (reading seen p) c → IsImage p c
+read_otherwise p seen c image = record { no_shorter = image.no_shorter; no_longer = image.no_longer; same = image.same }
+
+-- what a write makes where the test of the room says this
+abbrev if_fits : Bool → Bool → ℕ → List ℕ → DiskState → DiskState
+if_fits fits good at piece p =
+    if fits
+    then with_range p (if good then written p.seen at piece else p.seen) (at, at + length piece)
+    else p
+
+-- the piece in its place
+wrote_image : (p : DiskState) (at : ℕ) (piece : List ℕ) → IsImage p p.seen → IsImage (with_range p (written p.seen at piece) (at, at + length piece)) (written p.seen at piece)
+wrote_image p at piece image = record {
+  no_shorter = omega (arith, image.no_shorter, length-written p.seen at piece);
+  no_longer = omega (arith, image.no_longer, length-written p.seen at piece, greatest_end-push p.ranges (at, at + length piece) (length p.synced));
+  same = λ i lt untouched.
+      ⊎_elim (λ before. written_below p.seen at piece i before) (λ behind. written_above p.seen at piece i behind)
+      (untouched-last i p.ranges (at, at + length piece) untouched)
+      ∙ image.same i lt (untouched-front i p.ranges (at, at + length piece) untouched);
+}
+
+-- nothing written is a write too
+not_torn : (at n : ℕ) (p : DiskState) (c : List ℕ) → IsImage p c → AfterWrite at n (IsImage p) c
+not_torn at n p c image = (c, image, torn_same at n c)
+
+write_torn : (fits good : Bool) (at : ℕ) (piece : List ℕ) (p : DiskState) (c : List ℕ) → IsImage (if_fits fits good at piece p) c → AfterWrite at (length piece) (IsImage p) c
+write_torn true good at piece p c image = image_torn p (if good then written p.seen at piece else p.seen) at (length piece) c image
+write_torn false good at piece p c image = not_torn at (length piece) p c image
+
+-- the images after a call
+pub write_leaves : (good : Bool) (at : ℕ) (piece reads : List ℕ) (p : DiskState) (c : List ℕ) → IsImage (disk_after (Write at piece) good reads p) c → AfterWrite at (length piece) (IsImage p) c
+write_leaves true at piece reads p c image = write_torn (nat_le (at + length piece) (2 ^ 40)) true at piece p c image
+write_leaves false at piece reads p c image = write_torn (nat_le (at + length piece) (2 ^ 40)) false at piece p c (read_otherwise (after_write false at piece p) reads c image)
+
+pub sync_leaves : (good : Bool) (reads : List ℕ) (p : DiskState) (c : List ℕ) → IsImage p p.seen → IsImage (disk_after Sync good reads p) c → IsImage p c
+sync_leaves true reads p c stays image = subst (λ (l : List ℕ). IsImage p l) (sym (only_settled p.seen c image)) stays
+sync_leaves false reads p c stays image = read_otherwise p reads c image
+
+pub look_leaves : (good : Bool) (reads : List ℕ) (p : DiskState) (c : List ℕ) → IsImage (disk_after Look good reads p) c → IsImage p c
+look_leaves true reads p c image = image
+look_leaves false reads p c image = read_otherwise p reads c image
+
+-- a good write within the room
+wrote_there : (at : ℕ) (piece : List ℕ) (p : DiskState) (fits : Bool) → IsImage p p.seen → IsImage (if_fits fits true at piece p) (if_fits fits true at piece p).seen
+wrote_there at piece p true stays = wrote_image p at piece stays
+wrote_there at piece p false stays = stays
+
+-- after a good call the disk reads as one of its images
+pub stays_after : (call : DiskCall) (reads : List ℕ) (p : DiskState) → IsImage p p.seen → IsImage (disk_after call true reads p) (disk_after call true reads p).seen
+stays_after (Write at piece) reads p stays = wrote_there at piece p (nat_le (at + length piece) (2 ^ 40)) stays
+stays_after Sync reads p stays = settled_image p.seen
+stays_after Look reads p stays = stays
+
+-- after a bad one it reads as the event says
+pub reads_are : (call : DiskCall) (reads : List ℕ) (p : DiskState) → (disk_after call false reads p).seen ≡ reads
+reads_are (Write at piece) reads p = refl
+reads_are Sync reads p = refl
+reads_are Look reads p = refl
+
+pub stays_bad : (call : DiskCall) (reads : List ℕ) (p : DiskState) → is_image (disk_after call false reads p) reads ≡ true → IsImage (disk_after call false reads p) (disk_after call false reads p).seen
+stays_bad call reads p is = subst (λ (l : List ℕ). IsImage (disk_after call false reads p) l) (sym (reads_are call reads p)) (image_is (disk_after call false reads p) reads is)
+
+module _ (stories : List Story) (budget : ℕ) where
+  module _ (first_images : HostState) where
+    abbrev w : HostState
+    w = first_images
+
+    abbrev All : DiskState → Type 0
+    All p = (c : List ℕ) → IsImage p c → StandsAt w.rows w.uncertain c
+
+    gate_write : (u : Row) → w.uncertain ≡ Some u → All w.disk → (byte : ℕ) (good : Bool) (reads : List ℕ) → All (disk_after (Write (length (spelled w.rows)) (byte ∷ [])) good reads w.disk)
+    gate_write u is all byte good reads c image =
+        let from = write_leaves good (length (spelled w.rows)) (byte ∷ []) reads w.disk c image in
+        let old : IsUnsure (spelled w.rows) (past_gate u) from.0 = subst (λ (o : Option Row). StandsAt w.rows o from.0) is (all from.0 from.1) in
+        subst (λ (o : Option Row). StandsAt w.rows o c) (sym is) (unsure_torn (spelled w.rows) (past_gate u) c from.0 (length (spelled w.rows)) refl old from.2)
+
+    past_write : w.uncertain ≡ None → All w.disk → (piece : List ℕ) (good : Bool) (reads : List ℕ) → All (disk_after (Write (length (spelled w.rows) + 1) piece) good reads w.disk)
+    past_write is all piece good reads c image =
+        let from = write_leaves good (length (spelled w.rows) + 1) piece reads w.disk c image in
+        let old : IsShut (spelled w.rows) from.0 = subst (λ (o : Option Row). StandsAt w.rows o from.0) is (all from.0 from.1) in
+        subst (λ (o : Option Row). StandsAt w.rows o c) (sym is) (shut_torn (spelled w.rows) c from.0 (length (spelled w.rows) + 1) (length piece) refl old from.2)
+
+    quiet_sync : IsImage w.disk w.disk.seen → All w.disk → (good : Bool) (reads : List ℕ) → All (disk_after Sync good reads w.disk)
+    quiet_sync stays all good reads c image = all c (sync_leaves good reads w.disk c stays image)
+
+    abbrev Leaves : Bool → List ℕ → DiskCall → Type 0
+    Leaves good reads d = All (disk_after d good reads w.disk)
+
+    -- no call takes the images from where they stand
+    pub images_after : (step : Step) → StepFact stories budget w step → IsImage w.disk w.disk.seen → All w.disk → (good : Bool) (reads : List ℕ) (call : DiskCall) → next_call w.rows step ≡ Some call → All (disk_after call good reads w.disk)
+    images_after Idle fact stays all good reads call is = absurd (some_none call (sym is))
+    images_after (RepairWrite r n) fact stays all good reads call is = subst (Leaves good reads) (some_same (Write (length (spelled w.rows)) (0 ∷ [])) call is) (gate_write fact.1.0 fact.1.1 all 0 good reads)
+    images_after (RepairSync r n) fact stays all good reads call is = subst (Leaves good reads) (some_same Sync call is) (quiet_sync stays all good reads)
+    images_after (RowWrite r n) fact stays all good reads call is = subst (Leaves good reads) (some_same (Write (length (spelled w.rows) + 1) (past_gate r)) call is) (past_write fact.1 all (past_gate r) good reads)
+    images_after (RowSync r n) fact stays all good reads call is = subst (Leaves good reads) (some_same Sync call is) (quiet_sync stays all good reads)
+    images_after (GateWrite r n) fact stays all good reads call is = subst (Leaves good reads) (some_same (Write (length (spelled w.rows)) (1 ∷ [])) call is) (gate_write r fact.1 all 1 good reads)
+    images_after (GateSync r n) fact stays all good reads call is = subst (Leaves good reads) (some_same Sync call is) (quiet_sync stays all good reads)
+    images_after FirstSync fact stays all good reads call is = subst (Leaves good reads) (some_same Sync call is) (quiet_sync stays all good reads)
+    images_after AskSize fact stays all good reads call is = subst (Leaves good reads) (some_same Look call is) (λ c image. all c (look_leaves good reads w.disk c image))
+    images_after ReadAll fact stays all good reads call is = subst (Leaves good reads) (some_same Look call is) (λ c image. all c (look_leaves good reads w.disk c image))
+    images_after (CloseWrite those) fact stays all good reads call is =
+        subst (Leaves good reads) (ap (λ (l : List Row). Write (length (spelled l)) (0 ∷ [])) (sym fact.1) ∙ some_same (Write (length (spelled those)) (0 ∷ [])) call is) (gate_write fact.2.0 fact.2.1 all 0 good reads)
+    images_after (CloseSync found) fact stays all good reads call is = subst (Leaves good reads) (some_same Sync call is) (quiet_sync stays all good reads)

@@ -1,0 +1,17 @@
+pub mod Accepting
+pub mod Apart
+pub mod Appends
+pub mod Folds
+pub mod ImageLemmas
+pub mod Lists
+pub mod Moves
+pub mod Openings
+pub mod ReadingLemmas
+pub mod RowsOf
+pub mod Runs
+pub mod SetLemmas
+pub mod Shows
+pub mod Sound
+pub mod StandardFacts
+pub mod Stops
+pub mod Turning

@@ -1,0 +1,275 @@
+-- An opening, made by made, and each device made.
+use Rattle.std.proofs.Common.{Bool, List, None, Option, Some, [], ap, arith, drop, false, get_or}
+use Rattle.std.proofs.Common.{inl, inr, length, length-append, refl, subst, sym, true, ℕ, ◌++◌, ◌+◌}
+use Rattle.std.proofs.Common.{◌<◌, ◌==◌, ◌∙◌, ◌∷◌, ◌≡◌, ◌⊎◌}
+use Rattle.std.proofs.lemmas.Bool.{cases_eq}
+use Rattle.std.proofs.lemmas.Bool.Decides.{nat_tests}
+use Rattle.std.proofs.lemmas.List.{append-nil, drop_at}
+use Rattle.std.proofs.lemmas.List.FromFn.{get_or-map-range_with_len, length-map-range_with_len}
+use Rattle.std.proofs.lemmas.Option.{get_or_from_slice_get, slice_get-get_or, slice_get_within}
+use Rattle.std.specs.List.{slice_get}
+use Rattle.std.specs.Prelude.{IfSome, if◌then◌else◌, not, slice_index, ◌&&◌}
+use Rattle.disk_model.specs.Disk.{Holds}
+use Rattle.disk_model.specs.DiskState.{DiskState, IsImage}
+use Rattle.disk_model.proofs.StateLaws.{only_settled}
+use Rattle.disk_model.proofs.Torn.{holds_both, holds_rest}
+use Rattle.gate_journal.proofs.RowLemmas.{journal_push, opens, spells_not_open, spells_shut}
+use Rattle.gate_journal.proofs.Steps.{unsure_written}
+use Rattle.gate_journal.specs.Gate.{IsShut, IsUnsure}
+use Rattle.gate_journal.specs.Log.{StandsAt}
+use Rattle.gate_journal.specs.Rows.{IsJournal, IsNext, body, commands_of, is_open, spelled}
+use Rattle.gate_journal.specs.declared.command.Command.{Command}
+use Rattle.gate_journal.specs.declared.row.Row.{Row}
+use Rattle.story_run.specs.declared.story.Story.{Story}
+use Rattle.session_core.specs.Turning.{commands_in}
+use Rattle.session_core.specs.declared.entry.Entry.{Entry}
+use Rattle.host_world.specs.Disk.{counted, disk_after, is_image, may_work}
+use Rattle.host_world.specs.Events.{after, begun, call_next}
+use Rattle.host_world.specs.Happenings.{Happening, Opened, further, history_of, news, replies_of}
+use Rattle.host_world.specs.Headline.{AreGiven}
+use Rattle.host_world.specs.Journal.{broken, called, comes_up, looked, next_call, onward, past_gate}
+use Rattle.host_world.specs.Pending.{OneMore}
+use Rattle.host_world.specs.Reading.{rows_in}
+use Rattle.host_world.specs.Sessions.{found, found_session, found_sessions}
+use Rattle.host_world.specs.declared.disk.DiskCall.{DiskCall}
+use Rattle.host_world.specs.declared.disk.DiskCall.TheVariants.{Look, Sync, Write}
+use Rattle.host_world.specs.declared.event.Event.TheVariants.{Call}
+use Rattle.host_world.specs.declared.state.HostState.{HostState}
+use Rattle.host_world.specs.declared.state.Step.{Step}
+use Rattle.host_world.specs.declared.state.Step.TheVariants.{AskSize, CloseSync, CloseWrite}
+use Rattle.host_world.specs.declared.state.Step.TheVariants.{FirstSync, GateSync, GateWrite, Idle}
+use Rattle.host_world.specs.declared.state.Step.TheVariants.{ReadAll, RepairSync, RepairWrite}
+use Rattle.host_world.specs.declared.state.Step.TheVariants.{RowSync, RowWrite}
+use Rattle.host_world.specs.declared.turn.Session.{Session}
+use Rattle.host_world.specs.declared.turn.Turn.{Turn}
+use Rattle.host_world.proofs.Appends.{SameHost, begun_well, broken_well, open_syncs_good}
+use Rattle.host_world.proofs.Appends.{opens_good, seen_is, shut_syncs_good, shuts_good, stepped}
+use Rattle.host_world.proofs.Appends.{write_syncs_good, writes_good}
+use Rattle.host_world.proofs.Folds.{history-push, replies-push}
+use Rattle.host_world.proofs.ImageLemmas.{images_after, stays_after, stays_bad}
+use Rattle.host_world.proofs.Lists.{false_true}
+use Rattle.host_world.proofs.ReadingLemmas.{reads_rows}
+use Rattle.host_world.proofs.RowsOf.{commands-found}
+use Rattle.host_world.proofs.Sound.{Busy, Knows, RowsFact, Sound, StepFact, TurnFact}
+use Rattle.host_world.proofs.Turning.{if_kept, same_past}
+
+-- a closed gate is 0
+pub gate_zero : (rows : List Row) (c : List ℕ) → IsShut (spelled rows) c → get_or c (length (spelled rows)) 0 ≡ 0
+gate_zero rows c shut =
+    let gate : Holds c (length (spelled rows)) (0 ∷ []) = holds_rest {p = 0} (spelled rows) (0 ∷ []) (omega arith) shut in
+    ap (λ (k : ℕ). get_or c k 0) (omega arith) ∙ gate.each 0 (omega arith)
+
+abbrev pub nobody : Session
+nobody = record { history = []; turn = None }
+
+pub found_at : (rows : List Row) (s : ℕ) (x : Session) → slice_get (found_sessions rows) s ≡ Some x → (s < 64) × (found_session rows s ≡ x)
+found_at rows s x at =
+    let within : s < 64 = omega (arith, slice_get_within (found_sessions rows) s x at, length-map-range_with_len (found_session rows) 0 64) in
+    (within, sym (get_or-map-range_with_len (found_session rows) 0 64 s s nobody within (omega arith)) ∙ get_or_from_slice_get (found_sessions rows) s x nobody at)
+
+module _ (stories : List Story) (budget : ℕ) (premise : AreGiven stories budget) where
+  -- the rows that an opening finds
+  pub record Reopens (w new : HostState) : Type 0 where
+    pub rows : (new.rows ≡ w.rows) ⊎ ((u : Row) × (w.uncertain ≡ Some u) × (new.rows ≡ w.rows ++ u ∷ []))
+    pub sessions : new.sessions ≡ found_sessions new.rows
+
+  -- what a made does
+  pub record CallsWell (first : ℕ → List Entry) (past : ℕ → List Happening) (w new : HostState) : Type 0 where
+    pub sound : Sound stories budget first (λ s. past s ++ news s w new) new
+    pub reopens : w.up ≡ false → new.up ≡ true → Reopens w new
+
+  pub of_down : (s : ℕ) (rows : List Row) (u : Option Row) (x : Session) (up : Bool) → up ≡ false → RowsFact stories budget s rows u x up → RowsFact stories budget s rows u x false
+  of_down s rows u x true is fact = absurd (false_true (sym is))
+  of_down s rows u x false is fact = fact
+
+  -- the rows that an opening finds, for one session
+  pub one_more_of : (w : HostState) (rows : List Row) (s : ℕ) (x : Session) → RowsFact stories budget s w.rows w.uncertain x false → (rows ≡ w.rows) ⊎ ((u : Row) × (w.uncertain ≡ Some u) × (rows ≡ w.rows ++ u ∷ [])) → OneMore (commands_in x.history) (commands_of rows s)
+  one_more_of w rows s x fact (inl same) = subst (λ (l : List Row). OneMore (commands_in x.history) (commands_of l s)) (sym same) fact.1
+  one_more_of w rows s x fact (inr more) = subst (λ (l : List Row). OneMore (commands_in x.history) (commands_of l s)) (sym more.2)
+      (subst (λ (o : Option Row). IfSome o (λ r. OneMore (commands_in x.history) (commands_of (w.rows ++ r ∷ []) s))) more.1 fact.2)
+
+  no_news : (b : Bool) (l : List Happening) (m : List Happening) → m ≡ [] → (if not b && b then l else m) ≡ []
+  no_news true l m is = is
+  no_news false l m is = is
+
+  pub same_up : (first : ℕ → List Entry) (past : ℕ → List Happening) (w new : HostState) → new.up ≡ w.up → Sound stories budget first past new → CallsWell first past w new
+  same_up first past w new up sound = record {
+    sound = same_past stories budget first past (λ s. past s ++ news s w new) new (λ s. sym (ap (λ (l : List Happening). past s ++ l) (quiet s) ∙ append-nil (past s))) sound;
+    reopens = λ down risen. absurd (false_true (sym down ∙ sym up ∙ risen));
+  }
+    where
+      quiet : (s : ℕ) → news s w new ≡ []
+      quiet s = ap (λ (b : Bool). if not w.up && b then Opened (further (slice_get w.sessions s) (commands_of new.rows s)) ∷ [] else []) up ∙ no_news w.up (Opened (further (slice_get w.sessions s) (commands_of new.rows s)) ∷ []) [] refl
+
+  module _ (first : ℕ → List Entry) (past : ℕ → List Happening) (w v : HostState) (was : Sound stories budget first past w) (same : SameHost stories budget premise w v) (sound : Sound stories budget first past v) where
+    opens_well : (p : DiskState) (rows : List Row) → v.up ≡ false → IsImage p p.seen → ((c : List ℕ) → IsImage p c → IsShut (spelled rows) c) → IsJournal rows
+        → (rows ≡ w.rows) ⊎ ((u : Row) × (w.uncertain ≡ Some u) × (rows ≡ w.rows ++ u ∷ [])) → CallsWell first past w (comes_up (record v { disk = p }) rows)
+    opens_well p rows down stays images journal which = record {
+      sound = record {
+        stays = stays;
+        images = images;
+        journal = journal;
+        next = tt;
+        sessions = length-map-range_with_len (found_session rows) 0 64;
+        step = tt;
+        each = each;
+      };
+      reopens = λ were risen. record { rows = which; sessions = refl };
+    }
+      where
+        down_w : w.up ≡ false
+        down_w = sym same.up ∙ down
+
+        told_ : (s : ℕ) → news s w (comes_up (record v { disk = p }) rows) ≡ Opened (further (slice_get w.sessions s) (commands_of rows s)) ∷ []
+        told_ s = ap (λ (b : Bool). if not b && true then Opened (further (slice_get w.sessions s) (commands_of rows s)) ∷ [] else []) down_w
+
+        known : (s : ℕ) → s < 64 → Knows stories budget (first s) (past s ++ Opened (further (slice_get w.sessions s) (commands_of rows s)) ∷ []) (comes_up (record v { disk = p }) rows) s (found_session rows s)
+        known s lt =
+            let old = sound.each s (get_or v.sessions s nobody) (slice_get-get_or v.sessions s nobody (omega (arith, lt, sound.sessions))) in
+            let x = get_or w.sessions s nobody in
+            let at = slice_get-get_or w.sessions s nobody (omega (arith, lt, was.sessions)) in
+            let before = was.each s x at in
+            let fact = of_down s w.rows w.uncertain x w.up down_w before.rows in
+            let history : x.history ≡ history_of stories budget (first s) (past s) = subst (λ (o : Option Turn). TurnFact stories budget (history_of stories budget (first s) (past s)) x.history o) fact.0 before.turn in
+            let one = one_more_of w rows s x fact which in
+            let more = further (slice_get w.sessions s) (commands_of rows s) in
+            let is_more : further (slice_get w.sessions s) (commands_of rows s) ≡ one.0 =
+            ap (λ (o : Option Session). further o (commands_of rows s)) at ∙ ap (λ (l : List Command). drop (length (commands_in x.history)) l) one.2 ∙ drop_at (commands_in x.history) one.0 (length (commands_in x.history)) refl in
+            let all : commands_of rows s ≡ commands_in (history_of stories budget (first s) (past s)) ++ further (slice_get w.sessions s) (commands_of rows s) =
+            one.2 ∙ ap (λ (l : List Command). commands_in x.history ++ l) (sym is_more) ∙ ap (λ (h : List Entry). commands_in h ++ further (slice_get w.sessions s) (commands_of rows s)) history in
+            record {
+              turn = ap (λ (l : List Command). found l) all ∙ sym (history-push stories budget (first s) (past s) (Opened more ∷ []));
+              replies = old.replies ∙ sym (append-nil (replies_of stories budget (first s) (past s))) ∙ sym (replies-push stories budget (first s) (past s) (Opened more ∷ []));
+              rows = (sym (commands-found (commands_of rows s)) ∙ sym (append-nil (commands_in (found (commands_of rows s)))), tt);
+            }
+
+        each : (s : ℕ) (x : Session) → slice_get (found_sessions rows) s ≡ Some x → Knows stories budget (first s) (past s ++ news s w (comes_up (record v { disk = p }) rows)) (comes_up (record v { disk = p }) rows) s x
+        each s x at =
+            let f = found_at rows s x at in
+            subst (λ (q : Session). Knows stories budget (first s) (past s ++ news s w (comes_up (record v { disk = p }) rows)) (comes_up (record v { disk = p }) rows) s q) f.1
+            (subst (λ (l : List Happening). Knows stories budget (first s) (past s ++ l) (comes_up (record v { disk = p }) rows) s (found_session rows s)) (sym (told_ s)) (known s f.0))
+
+    abbrev Well : HostState → Type 0
+    Well new = CallsWell first past w new
+
+    -- the host stays as up as it was
+    well : (new : HostState) → new.up ≡ v.up → Sound stories budget first past new → CallsWell first past w new
+    well new up s = same_up first past w new (up ∙ same.up) s
+
+    unsure_zero : (front past_ c : List ℕ) → IsUnsure front past_ c → get_or c (length front) 0 ≡ 0 → IsShut front c
+    unsure_zero front past_ c unsure is = holds_both {p = 0} front (0 ∷ []) (omega arith) unsure.before record {
+      within = omega (arith, unsure.behind.within);
+      each = λ i lt. gate i (omega arith);
+    }
+      where
+        gate : (i : ℕ) → i ≡ 0 → get_or c (length front + i) 0 ≡ get_or (0 ∷ []) i 0
+        gate i zero_ = subst (λ (k : ℕ). get_or c (length front + k) 0 ≡ get_or (0 ∷ []) k 0) (sym zero_) (ap (λ (k : ℕ). get_or c k 0) (omega arith) ∙ is)
+
+    looks_shut : (rows : List Row) → IsJournal rows → IsShut (spelled rows) v.disk.seen → v.up ≡ false → ((c : List ℕ) → IsImage v.disk c → c ≡ v.disk.seen) → (rows ≡ w.rows) ⊎ ((u : Row) × (w.uncertain ≡ Some u) × (rows ≡ w.rows ++ u ∷ []))
+        → CallsWell first past w (looked v (rows_in v.disk.seen))
+    looks_shut rows all shut down only which =
+        subst (λ (o : Option (List Row)). CallsWell first past w (looked v o)) (sym (reads_rows v.disk.seen rows (spells_shut rows v.disk.seen all shut)))
+        (subst (λ (b : Bool). CallsWell first past w (if b then comes_up v rows else record v { step = CloseWrite rows })) (sym is_zero)
+        (opens_well v.disk rows down sound.stays (λ c image. subst (λ (l : List ℕ). IsShut (spelled rows) l) (sym (only c image)) shut) all which))
+      where
+        is_zero : (slice_index v.disk.seen (length (spelled rows)) == 0) ≡ true
+        is_zero = ap (λ (n : ℕ). n == 0) (gate_zero rows v.disk.seen shut)
+
+    looks_well : v.up ≡ false → ((c : List ℕ) → IsImage v.disk c → c ≡ v.disk.seen) → CallsWell first past w (looked v (rows_in v.disk.seen))
+    looks_well down only = of v.uncertain refl
+      where
+        of : (u : Option Row) → v.uncertain ≡ u → CallsWell first past w (looked v (rows_in v.disk.seen))
+        of None is = looks_shut v.rows sound.journal (subst (λ (o : Option Row). StandsAt v.rows o v.disk.seen) is (sound.images v.disk.seen sound.stays)) down only (inl same.rows)
+        of (Some u) is =
+            let stands : IsUnsure (spelled v.rows) (past_gate u) v.disk.seen = subst (λ (o : Option Row). StandsAt v.rows o v.disk.seen) is (sound.images v.disk.seen sound.stays) in
+            let next : IsNext v.rows u = subst (λ (o : Option Row). IfSome o (IsNext v.rows)) is sound.next in
+            elim (cases_eq (get_or v.disk.seen (length (spelled v.rows)) 0) 1) [
+              | inl is_open ↦ looks_shut (v.rows ++ u ∷ []) (journal_push v.rows u sound.journal next) (opens v.rows u v.disk.seen stands is_open) down only
+                  (inr (u, sym same.uncertain ∙ is, ap (λ (l : List Row). l ++ u ∷ []) same.rows))
+              | inr not_open ↦ elim (cases_eq (get_or v.disk.seen (length (spelled v.rows)) 0) 0) [
+                | inl is_shut ↦ looks_shut v.rows sound.journal (unsure_zero (spelled v.rows) (past_gate u) v.disk.seen stands is_shut) down only (inl same.rows)
+                | inr other ↦
+                    let spells : rows_in v.disk.seen ≡ Some v.rows = reads_rows v.disk.seen v.rows (spells_not_open v.rows (past_gate u) v.disk.seen sound.journal stands not_open (omega (arith, stands.behind.within, length-append (body u) (0 ∷ [])))) in
+                    let test : (slice_index v.disk.seen (length (spelled v.rows)) == 0) ≡ false = grind (arith, nat_tests) in
+                    subst (λ (o : Option (List Row)). CallsWell first past w (looked v o)) (sym spells)
+                    (subst (λ (b : Bool). CallsWell first past w (if b then comes_up v v.rows else record v { step = CloseWrite v.rows })) (sym test)
+                    (well (record v { step = CloseWrite v.rows }) refl
+                    (stepped stories budget premise first past v v.disk v.faults v.uncertain (CloseWrite v.rows) sound sound.stays sound.images sound.next (down, refl, (u, is)) (λ k z at f. f))))
+              ]
+            ]
+
+    when_fits : (made : DiskCall) (new : HostState) → (may_work made ≡ true → CallsWell first past w new) → CallsWell first past w (if may_work made then new else w)
+    when_fits made new then_ = if_kept stories budget Well new w (may_work made) (same_up first past w w refl was) then_
+
+    module _ (reads : List ℕ) where
+      good_well : (step : Step) → StepFact stories budget v step → CallsWell first past w (called w v true reads step (next_call v.rows step))
+      good_well Idle fact = same_up first past w w refl was
+      good_well (RepairWrite r n) fact = when_fits (Write (length (spelled v.rows)) (0 ∷ [])) (onward (record v { disk = disk_after (Write (length (spelled v.rows)) (0 ∷ [])) true reads v.disk }) (RepairWrite r n)) (λ fits. well (onward (record v { disk = disk_after (Write (length (spelled v.rows)) (0 ∷ [])) true reads v.disk }) (RepairWrite r n)) refl (shuts_good stories budget premise first past v sound reads r n fits fact))
+      good_well (RepairSync r n) fact = well (onward (record v { disk = disk_after Sync true reads v.disk }) (RepairSync r n)) refl (shut_syncs_good stories budget premise first past v sound reads r n fact)
+      good_well (RowWrite r n) fact = when_fits (Write (length (spelled v.rows) + 1) (past_gate r)) (onward (record v { disk = disk_after (Write (length (spelled v.rows) + 1) (past_gate r)) true reads v.disk }) (RowWrite r n)) (λ fits. well (onward (record v { disk = disk_after (Write (length (spelled v.rows) + 1) (past_gate r)) true reads v.disk }) (RowWrite r n)) refl (writes_good stories budget premise first past v sound reads r n fits fact))
+      good_well (RowSync r n) fact = well (onward (record v { disk = disk_after Sync true reads v.disk }) (RowSync r n)) refl (write_syncs_good stories budget premise first past v sound reads r n fact)
+      good_well (GateWrite r n) fact = when_fits (Write (length (spelled v.rows)) (1 ∷ [])) (onward (record v { disk = disk_after (Write (length (spelled v.rows)) (1 ∷ [])) true reads v.disk }) (GateWrite r n)) (λ fits. well (onward (record v { disk = disk_after (Write (length (spelled v.rows)) (1 ∷ [])) true reads v.disk }) (GateWrite r n)) refl (opens_good stories budget premise first past v sound reads r n fits fact))
+      good_well (GateSync r n) fact = well (onward (record v { disk = disk_after Sync true reads v.disk }) (GateSync r n)) refl (open_syncs_good stories budget premise first past v sound reads r n fact)
+      good_well FirstSync fact = well (onward (record v { disk = disk_after Sync true reads v.disk }) FirstSync) refl
+          (stepped stories budget premise first past v (disk_after Sync true reads v.disk) v.faults v.uncertain AskSize sound (stays_after Sync reads v.disk sound.stays) (images_after stories budget v FirstSync fact sound.stays sound.images true reads Sync refl) sound.next (fact, λ c image. only_settled v.disk.seen c image) (λ k z at f. f))
+      good_well AskSize fact = well (onward (record v { disk = disk_after Look true reads v.disk }) AskSize) refl
+          (stepped stories budget premise first past v v.disk v.faults v.uncertain ReadAll sound sound.stays sound.images sound.next fact (λ k z at f. f))
+      good_well ReadAll fact = looks_well fact.0 fact.1
+      good_well (CloseWrite those) fact =
+          let made = Write (length (spelled those)) (0 ∷ []) in
+          let old : IsUnsure (spelled v.rows) (past_gate fact.2.0) v.disk.seen = subst (λ (o : Option Row). StandsAt v.rows o v.disk.seen) fact.2.1 (sound.images v.disk.seen sound.stays) in
+          when_fits made (onward (record v { disk = disk_after (Write (length (spelled those)) (0 ∷ [])) true reads v.disk }) (CloseWrite those)) (λ fits.
+          well (onward (record v { disk = disk_after (Write (length (spelled those)) (0 ∷ [])) true reads v.disk }) (CloseWrite those)) refl
+          (stepped stories budget premise first past v (disk_after made true reads v.disk) v.faults v.uncertain (CloseSync those) sound (stays_after made reads v.disk sound.stays) (images_after stories budget v (CloseWrite those) fact sound.stays sound.images true reads made refl) sound.next (
+            fact.0,
+            fact.1,
+            subst (λ (l : List ℕ). IsShut (spelled v.rows) l) (sym (seen_is stories budget premise first past v sound reads (length (spelled those)) (0 ∷ []) fits))
+                (unsure_written (spelled v.rows) (past_gate fact.2.0) v.disk.seen (length (spelled those)) (ap (λ (l : List Row). length (spelled l)) (sym fact.1)) old),
+          )
+          (λ k z at f. f)))
+      good_well (CloseSync those) fact = opens_well (disk_after Sync true reads v.disk) those fact.0 (stays_after Sync reads v.disk sound.stays)
+          (λ c image. subst (λ (l : List ℕ). IsShut (spelled those) l) (sym (only_settled v.disk.seen c image)) (subst (λ (l : List Row). IsShut (spelled l) v.disk.seen) (sym fact.1) fact.2))
+          (subst (λ (l : List Row). IsJournal l) (sym fact.1) sound.journal) (inl (fact.1 ∙ same.rows))
+
+      abbrev bad_disk : DiskCall → DiskState
+      bad_disk made = disk_after made false reads v.disk
+
+      refused : (made : DiskCall) (new : HostState) → (is_image (disk_after made false reads v.disk) reads ≡ true → CallsWell first past w new) → CallsWell first past w (if is_image (disk_after made false reads v.disk) reads then new else w)
+      refused made new then_ = if_kept stories budget Well new w (is_image (disk_after made false reads v.disk) reads) (same_up first past w w refl was) then_
+
+      append_fails : (made : DiskCall) (step : Step) → StepFact stories budget v step → next_call v.rows step ≡ Some made → (r : Row) (n : ℕ) → Busy stories budget v r
+          → CallsWell first past w (if is_image (disk_after made false reads v.disk) reads then broken (record v { disk = disk_after made false reads v.disk; faults = counted v.faults }) r n else w)
+      append_fails made step fact is r n busy = refused made (broken (record v { disk = disk_after made false reads v.disk; faults = counted v.faults }) r n) (λ allowed.
+          well (broken (record v { disk = disk_after made false reads v.disk; faults = counted v.faults }) r n) refl (broken_well stories budget premise first past v sound reads made step fact is allowed r n busy))
+
+      opening_fails : (made : DiskCall) (step : Step) → StepFact stories budget v step → next_call v.rows step ≡ Some made
+          → CallsWell first past w (if is_image (disk_after made false reads v.disk) reads then record v { disk = disk_after made false reads v.disk; faults = counted v.faults; step = Idle } else w)
+      opening_fails made step fact is = refused made (record v { disk = disk_after made false reads v.disk; faults = counted v.faults; step = Idle }) (λ allowed.
+          well (record v { disk = disk_after made false reads v.disk; faults = counted v.faults; step = Idle }) refl
+          (stepped stories budget premise first past v (disk_after made false reads v.disk) (counted v.faults) v.uncertain Idle sound (stays_bad made reads v.disk allowed) (images_after stories budget v step fact sound.stays sound.images false reads made is) sound.next tt (λ k z at f. f)))
+
+      bad_well : (step : Step) → StepFact stories budget v step → CallsWell first past w (called w v false reads step (next_call v.rows step))
+      bad_well Idle fact = same_up first past w w refl was
+      bad_well (RepairWrite r n) fact = append_fails (Write (length (spelled v.rows)) (0 ∷ [])) (RepairWrite r n) fact refl r n fact.0
+      bad_well (RepairSync r n) fact = append_fails Sync (RepairSync r n) fact refl r n fact.0
+      bad_well (RowWrite r n) fact = append_fails (Write (length (spelled v.rows) + 1) (past_gate r)) (RowWrite r n) fact refl r n fact.0
+      bad_well (RowSync r n) fact = append_fails Sync (RowSync r n) fact refl r n fact.0
+      bad_well (GateWrite r n) fact = append_fails (Write (length (spelled v.rows)) (1 ∷ [])) (GateWrite r n) fact refl r n fact.0
+      bad_well (GateSync r n) fact = append_fails Sync (GateSync r n) fact refl r n fact.0
+      bad_well FirstSync fact = opening_fails Sync FirstSync fact refl
+      bad_well AskSize fact = opening_fails Look AskSize fact refl
+      bad_well ReadAll fact = opening_fails Look ReadAll fact refl
+      bad_well (CloseWrite those) fact = opening_fails (Write (length (spelled those)) (0 ∷ [])) (CloseWrite those) fact refl
+      bad_well (CloseSync those) fact = opening_fails Sync (CloseSync those) fact refl
+
+  made_well : (first : ℕ → List Entry) (past : ℕ → List Happening) (w : HostState) (good : Bool) (reads : List ℕ) → Sound stories budget first past w → CallsWell first past w (call_next stories budget w (begun stories budget w) good reads)
+  made_well first past w true reads sound =
+      let b = begun_well stories budget premise first past w sound in
+      good_well first past w (begun stories budget w) sound b.1 b.0 reads (begun stories budget w).step b.0.step
+  made_well first past w false reads sound =
+      let b = begun_well stories budget premise first past w sound in
+      bad_well first past w (begun stories budget w) sound b.1 b.0 reads (begun stories budget w).step b.0.step
+
+  pub call_well : (first : ℕ → List Entry) (past : ℕ → List Happening) (w : HostState) (disk : ℕ) (good : Bool) (reads : List ℕ) → Sound stories budget first past w → CallsWell first past w (after stories budget w (Call disk good reads))
+  call_well first past w disk good reads sound =
+      if_kept stories budget (λ (new : HostState). CallsWell first past w new) (call_next stories budget w (begun stories budget w) good reads) w (disk == 0) (same_up first past w w refl sound) (λ is. made_well first past w good reads sound)

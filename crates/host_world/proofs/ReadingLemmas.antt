@@ -1,0 +1,239 @@
+-- Reading finds exactly the rows that bytes spell.
+use Rattle.std.proofs.Common.{Bool, List, None, Some, [], ap, append_assoc, arith, drop, false}
+use Rattle.std.proofs.Common.{get_or, length, length-append, refl, subst, suc, sym, take, true}
+use Rattle.std.proofs.Common.{zero, ℕ, ◌*◌, ◌++◌, ◌+◌, ◌<◌, ◌==◌, ◌∙◌, ◌∷◌, ◌≡◌, ◌≢◌, ◌≤◌}
+use Rattle.std.proofs.lemmas.Bool.{and_from, and_parts}
+use Rattle.std.proofs.lemmas.Bool.Decides.{nat_tests}
+use Rattle.std.proofs.lemmas.List.{append-nil, drop_at, get_or-drop, length-drop, take-append-drop}
+use Rattle.std.proofs.lemmas.List.{take_at}
+use Rattle.std.specs.Prelude.{if◌then◌else◌, nat_le, nat_lt, ◌&&◌, ◌||◌}
+use Rattle.std.specs.Str.{all_scalars}
+use Rattle.gate_journal.proofs.PayloadLemmas.{only_char, only_file, only_line, only_open}
+use Rattle.gate_journal.proofs.RowLemmas.{body_parts, holds_split, length-body, parse_step}
+use Rattle.gate_journal.proofs.RowLemmas.{spells_split}
+use Rattle.gate_journal.specs.Command.{IsCommand}
+use Rattle.gate_journal.specs.Log.{next_row}
+use Rattle.gate_journal.specs.Parsing.{IsFirst}
+use Rattle.gate_journal.specs.Rows.{EachNext, IsJournal, IsNext, MayStand, SpellsRows, body}
+use Rattle.gate_journal.specs.Rows.{commands_of, header, is_open, kind_of, may_follow, opened}
+use Rattle.gate_journal.specs.Rows.{payload_of, spelled}
+use Rattle.gate_journal.specs.declared.command.Command.{Command}
+use Rattle.gate_journal.specs.declared.command.Command.TheVariants.{Char, Close, File, Line, Open}
+use Rattle.gate_journal.specs.declared.row.Row.{Row}
+use Rattle.line_words.specs.Field.{is_key}
+use Rattle.line_words.specs.Keycode.{is_code, is_terminator}
+use Rattle.line_words.specs.Spelling.{number, session}
+use Rattle.story_text.specs.Text.{IsText, is_short}
+use Rattle.host_world.specs.Reading.{begins_with, command_in, has_row, is_command, is_text}
+use Rattle.host_world.specs.Reading.{may_stand, row_at, rows_from, rows_in}
+use Rattle.host_world.proofs.Lists.{some_same}
+use Rattle.std.proofs.lemmas.Slice.Eq.{bytes_eq-Decides}
+
+-- a command is read from its payload
+command_is : (c : Command) → IsCommand c → command_in (kind_of c) (payload_of c) ≡ c
+command_is (Open key story digest seed cols rows budget) ranges =
+    sym (only_open (payload_of (Open key story digest seed cols rows budget)) (Open key story digest seed cols rows budget) (record { ranges = ranges; number = refl; bytes = refl })).1
+command_is (Line win term text) ranges =
+    sym (only_line (payload_of (Line win term text)) (Line win term text) (record { ranges = ranges; number = refl; bytes = refl })).1
+command_is (Char win code) ranges =
+    sym (only_char (payload_of (Char win code)) (Char win code) (record { ranges = ranges; number = refl; bytes = refl })).1
+command_is (File name) ranges =
+    sym (only_file (payload_of (File name)) (File name) (record { ranges = ranges; number = refl; bytes = refl }))
+command_is Close ranges = refl
+
+-- the tests of a command's fields say what they are to say
+text_told : (t : List ℕ) → is_text t ≡ true → IsText t
+text_told t is = let both = and_parts (all_scalars t) (is_short t) is in record { scalars = both.0; short = both.1 }
+
+text_test : (t : List ℕ) → IsText t → is_text t ≡ true
+text_test t is = and_from (all_scalars t) (is_short t) is.scalars is.short
+
+le_of : (m n : ℕ) → nat_le m n ≡ true → m ≤ n
+le_of m n is = grind (arith, nat_tests)
+
+le_test : (m n : ℕ) → m ≤ n → nat_le m n ≡ true
+le_test m n le = grind (arith, nat_tests)
+
+pub command_told : (c : Command) → is_command c ≡ true → IsCommand c
+command_told (Open key story digest seed cols rows budget) is =
+    let i = and_parts (is_key key && nat_le story 65535 && length digest == 32 && nat_le seed 18446744073709551615 && nat_le 1 cols && nat_le cols 255 && nat_le 1 rows && nat_le rows 255 && nat_le 1 budget) (nat_le budget 1000000000000) is in
+    let h = and_parts (is_key key && nat_le story 65535 && length digest == 32 && nat_le seed 18446744073709551615 && nat_le 1 cols && nat_le cols 255 && nat_le 1 rows && nat_le rows 255) (nat_le 1 budget) i.0 in
+    let g = and_parts (is_key key && nat_le story 65535 && length digest == 32 && nat_le seed 18446744073709551615 && nat_le 1 cols && nat_le cols 255 && nat_le 1 rows) (nat_le rows 255) h.0 in
+    let f = and_parts (is_key key && nat_le story 65535 && length digest == 32 && nat_le seed 18446744073709551615 && nat_le 1 cols && nat_le cols 255) (nat_le 1 rows) g.0 in
+    let e = and_parts (is_key key && nat_le story 65535 && length digest == 32 && nat_le seed 18446744073709551615 && nat_le 1 cols) (nat_le cols 255) f.0 in
+    let d = and_parts (is_key key && nat_le story 65535 && length digest == 32 && nat_le seed 18446744073709551615) (nat_le 1 cols) e.0 in
+    let c = and_parts (is_key key && nat_le story 65535 && length digest == 32) (nat_le seed 18446744073709551615) d.0 in
+    let b = and_parts (is_key key && nat_le story 65535) (length digest == 32) c.0 in
+    let a = and_parts (is_key key) (nat_le story 65535) b.0 in
+    (a.0, le_of story 65535 a.1, thirty_two b.1, le_of seed 18446744073709551615 c.1, le_of 1 cols d.1, le_of cols 255 e.1, le_of 1 rows f.1, le_of rows 255 g.1, (le_of 1 budget h.1, le_of budget 1000000000000 i.1))
+  where
+    thirty_two : (length digest == 32) ≡ true → length digest ≡ 32
+    thirty_two same = grind (arith, nat_tests)
+command_told (Line win term text) is =
+    let b = and_parts (nat_le win 4294967295 && (term == 0 || is_terminator term)) (is_text text) is in
+    let a = and_parts (nat_le win 4294967295) (term == 0 || is_terminator term) b.0 in
+    (le_of win 4294967295 a.0, a.1, text_told text b.1)
+command_told (Char win code) is =
+    let a = and_parts (nat_le win 4294967295) (is_code code) is in
+    (le_of win 4294967295 a.0, a.1)
+command_told (File name) is = text_told name is
+command_told Close is = tt
+
+pub command_test : (c : Command) → IsCommand c → is_command c ≡ true
+command_test (Open key story digest seed cols rows budget) is =
+    and_from (is_key key && nat_le story 65535 && length digest == 32 && nat_le seed 18446744073709551615 && nat_le 1 cols && nat_le cols 255 && nat_le 1 rows && nat_le rows 255 && nat_le 1 budget) (nat_le budget 1000000000000)
+    (and_from (is_key key && nat_le story 65535 && length digest == 32 && nat_le seed 18446744073709551615 && nat_le 1 cols && nat_le cols 255 && nat_le 1 rows && nat_le rows 255) (nat_le 1 budget)
+    (and_from (is_key key && nat_le story 65535 && length digest == 32 && nat_le seed 18446744073709551615 && nat_le 1 cols && nat_le cols 255 && nat_le 1 rows) (nat_le rows 255)
+    (and_from (is_key key && nat_le story 65535 && length digest == 32 && nat_le seed 18446744073709551615 && nat_le 1 cols && nat_le cols 255) (nat_le 1 rows)
+    (and_from (is_key key && nat_le story 65535 && length digest == 32 && nat_le seed 18446744073709551615 && nat_le 1 cols) (nat_le cols 255)
+    (and_from (is_key key && nat_le story 65535 && length digest == 32 && nat_le seed 18446744073709551615) (nat_le 1 cols)
+    (and_from (is_key key && nat_le story 65535 && length digest == 32) (nat_le seed 18446744073709551615)
+    (and_from (is_key key && nat_le story 65535) (length digest == 32)
+    (and_from (is_key key) (nat_le story 65535) is.0 (le_test story 65535 is.1)) (thirty_two is.2)) (le_test seed 18446744073709551615 is.3)) (le_test 1 cols is.4)) (le_test cols 255 is.5)) (le_test 1 rows is.6)) (le_test rows 255 is.7)) (le_test 1 budget is.8.0)) (le_test budget 1000000000000 is.8.1)
+  where
+    thirty_two : length digest ≡ 32 → (length digest == 32) ≡ true
+    thirty_two same = grind (arith, nat_tests)
+command_test (Line win term text) is =
+    and_from (nat_le win 4294967295 && (term == 0 || is_terminator term)) (is_text text)
+    (and_from (nat_le win 4294967295) (term == 0 || is_terminator term) (le_test win 4294967295 is.0) is.1) (text_test text is.2)
+command_test (Char win code) is = and_from (nat_le win 4294967295) (is_code code) (le_test win 4294967295 is.0) is.1
+command_test (File name) is = text_test name is
+command_test Close is = refl
+
+stand_test : (rows : List Row) (s : ℕ) (c : Command) → MayStand rows s c → may_stand rows s c ≡ true
+stand_test rows s c is =
+    and_from (nat_lt s 64 && is_command c && may_follow (commands_of rows s) c) (nat_lt (length (commands_of rows s)) 8192)
+    (and_from (nat_lt s 64 && is_command c) (may_follow (commands_of rows s) c)
+    (and_from (nat_lt s 64) (is_command c) (lt_test s 64 is.below) (command_test c is.ranges)) is.follows) (lt_test (length (commands_of rows s)) 8192 is.fewer)
+  where
+    lt_test : (m n : ℕ) → m < n → nat_lt m n ≡ true
+    lt_test m n lt = grind (arith, nat_tests)
+
+stand_told : (rows : List Row) (s : ℕ) (c : Command) → may_stand rows s c ≡ true → MayStand rows s c
+stand_told rows s c is =
+    let d = and_parts (nat_lt s 64 && is_command c && may_follow (commands_of rows s) c) (nat_lt (length (commands_of rows s)) 8192) is in
+    let b = and_parts (nat_lt s 64 && is_command c) (may_follow (commands_of rows s) c) d.0 in
+    let a = and_parts (nat_lt s 64) (is_command c) b.0 in
+    record { below = lt_of s 64 a.0; ranges = command_told c a.1; follows = b.1; fewer = lt_of (length (commands_of rows s)) 8192 d.1 }
+  where
+    lt_of : (m n : ℕ) → nat_lt m n ≡ true → m < n
+    lt_of m n test = grind (arith, nat_tests)
+
+-- the row that stands behind a gate is found
+row_is : (rows : List Row) (r : Row) (rest past : List ℕ) → IsNext rows r → past ≡ body r ++ rest → row_at rows past ≡ r
+row_is rows r rest past next is =
+    let parts = body_parts r rest past next.stands.ranges is in
+    ap (λ (n : ℕ). next_row rows n (command_in (get_or past 1 0) (take (256 * get_or past 2 0 + get_or past 3 0) (drop 4 past)))) (ap (λ (l : List ℕ). get_or l 0 0) is)
+    ∙ ap (λ (k : ℕ). next_row rows r.session (command_in k (take (256 * get_or past 2 0 + get_or past 3 0) (drop 4 past)))) parts.0
+    ∙ ap (λ (l : List ℕ). next_row rows r.session (command_in (kind_of r.command) l)) parts.2
+    ∙ ap (λ (c : Command). next_row rows r.session c) (command_is r.command next.stands.ranges)
+    ∙ ap (λ (k : ℕ). record { place = k; session = r.session; by = r.session + 1; command = r.command }) (sym next.place)
+    ∙ ap (λ (k : ℕ). record { place = r.place; session = r.session; by = k; command = r.command }) (sym next.by)
+
+front_test : (front rest past : List ℕ) → past ≡ front ++ rest → begins_with past front ≡ true
+front_test front rest past is = (bytes_eq-Decides (take (length front) past) front).1 (ap (λ (l : List ℕ). take (length front) l) is ∙ take_at front rest (length front) refl)
+
+front_told : (front past : List ℕ) → begins_with past front ≡ true → past ≡ front ++ drop (length front) past
+front_told front past is =
+    sym (take-append-drop (length front) past) ∙ ap (λ (l : List ℕ). l ++ drop (length front) past) ((bytes_eq-Decides (take (length front) past) front).0 is)
+
+-- what an opened row leaves to be read
+pub rows_on : (n : ℕ) (rows : List Row) (r : Row) (rest : List ℕ) → IsNext rows r → rows_from (suc n) rows (1 ∷ (body r ++ rest)) ≡ rows_from n (rows ++ r ∷ []) rest
+rows_on n rows r rest next =
+    ap (λ (q : Row). if has_row rows (body r ++ rest) q then rows_from n (rows ++ q ∷ []) (drop (length (body q)) (body r ++ rest)) else None) (row_is rows r rest (body r ++ rest) next refl)
+    ∙ ap (λ (b : Bool). if b then rows_from n (rows ++ r ∷ []) (drop (length (body r)) (body r ++ rest)) else None)
+    (and_from (may_stand rows r.session r.command) (begins_with (body r ++ rest) (body r)) (stand_test rows r.session r.command next.stands) (front_test (body r) rest (body r ++ rest) refl))
+    ∙ ap (λ (l : List ℕ). rows_from n (rows ++ r ∷ []) l) (drop_at (body r) rest (length (body r)) refl)
+
+ends_here : (n : ℕ) (rows : List Row) (gate : ℕ) (past : List ℕ) → gate ≢ 1 → rows_from n rows (gate ∷ past) ≡ Some rows
+ends_here n rows gate past shut = of n
+  where
+    test : (gate == 1) ≡ false
+    test = grind (arith, nat_tests)
+
+    of : (k : ℕ) → rows_from k rows (gate ∷ past) ≡ Some rows
+    of zero = ap (λ (b : Bool). if b then None else Some rows) test
+    of (suc k) = ap (λ (b : Bool). if b then (if has_row rows past (row_at rows past) then rows_from k (rows ++ row_at rows past ∷ []) (drop (length (body (row_at rows past))) past) else None) else Some rows) test
+
+end_found : (n : ℕ) (rows : List Row) (x : List ℕ) → 1 ≤ length x → get_or x 0 0 ≢ 1 → rows_from n rows x ≡ Some rows
+end_found n rows [] some shut = absurd (omega (arith, some))
+end_found n rows (gate ∷ past) some shut = ends_here n rows gate past shut
+
+rows_found : (more : List Row) (n : ℕ) (rows : List Row) (x : List ℕ) → length more ≤ n → EachNext rows more → 1 ≤ length x → get_or x 0 0 ≢ 1 → rows_from n rows (opened more ++ x) ≡ Some (rows ++ more)
+rows_found [] n rows x le each some shut = end_found n rows x some shut ∙ ap (λ (l : List Row). Some l) (sym (append-nil rows))
+rows_found (r ∷ more) zero rows x le each some shut = absurd (omega (arith, le))
+rows_found (r ∷ more) (suc n) rows x le each some shut =
+    ap (λ (l : List ℕ). rows_from (suc n) rows (1 ∷ l)) (append_assoc (body r) (opened more) x)
+    ∙ rows_on n rows r (opened more ++ x) each.0
+    ∙ rows_found more n (rows ++ r ∷ []) x (omega (arith, le)) each.1 some shut
+    ∙ ap (λ (l : List Row). Some l) (append_assoc rows (r ∷ []) more)
+
+opened_size : (rows : List Row) → length rows ≤ length (opened rows)
+opened_size [] = omega arith
+opened_size (r ∷ rows) = omega (arith, opened_size rows, length-append (body r) (opened rows))
+
+first_behind : (c : List ℕ) (n : ℕ) → get_or (drop n c) 0 0 ≡ get_or c n 0
+first_behind c n = get_or-drop n c 0 0 ∙ ap (λ (k : ℕ). get_or c k 0) (omega arith)
+
+-- what bytes spell, reading finds
+pub reads_rows : (c : List ℕ) (rows : List Row) → SpellsRows c rows → rows_in c ≡ Some rows
+unfolding rows_in
+reads_rows c rows spells =
+    let n = length (spelled rows) in
+    let x = drop (length (spelled rows)) c in
+    let whole : c ≡ spelled rows ++ drop (length (spelled rows)) c = holds_split c (spelled rows) spells.front in
+    let split : c ≡ header ++ (opened rows ++ drop (length (spelled rows)) c) = whole ∙ append_assoc header (opened rows) (drop (length (spelled rows)) c) in
+    let size : length rows ≤ length c = omega (arith, opened_size rows, spells.within, length-append header (opened rows)) in
+    ap (λ (b : Bool). if b then rows_from (length c) [] (drop 16 c) else None) (front_test header (opened rows ++ drop (length (spelled rows)) c) c split)
+    ∙ ap (λ (l : List ℕ). rows_from (length c) [] (drop 16 l)) split
+    ∙ rows_found rows (length c) [] x size spells.journal (omega (arith, length-drop n c, spells.within)) (λ is. spells.closed (sym (first_behind c n) ∙ is))
+
+none_some : {A : Type 0} (x : A) → None ≡ Some x → ⊥
+none_some x is = cc
+
+-- and nothing else
+not_open : (c : List ℕ) (rows those : List Row) (gate : ℕ) (past : List ℕ) → IsJournal rows → c ≡ spelled rows ++ gate ∷ past → (gate == 1) ≡ false → Some rows ≡ Some those → SpellsRows c those
+not_open c rows those gate past journal split shut said =
+    subst (λ (l : List Row). SpellsRows c l) (some_same rows those said) (spells_split rows c (gate ∷ past) journal split (omega arith) (λ is. grind (arith, nat_tests)))
+
+-- what reading finds behind these rows, they spell
+abbrev Spelt : List ℕ → List Row → ℕ → Type 0
+Spelt c those n = (rows : List Row) (rest : List ℕ) → rows_from n rows rest ≡ Some those → IsJournal rows → c ≡ spelled rows ++ rest → SpellsRows c those
+
+one_more :
+    (c : List ℕ) (those : List Row) (n : ℕ) (rows : List Row) (gate : ℕ) (past : List ℕ) (r : Row) → r ≡ row_at rows past → Spelt c those n → IsJournal rows → c ≡ spelled rows ++ gate ∷ past → (gate == 1) ≡ true
+    → (b : Bool) → has_row rows past r ≡ b → (if b then rows_from n (rows ++ r ∷ []) (drop (length (body r)) past) else None) ≡ Some those → SpellsRows c those
+one_more c those n rows gate past r is later journal split is_open false test said = absurd (none_some those said)
+one_more c those n rows gate past r is later journal split is_open true test said =
+    let both = and_parts (may_stand rows r.session r.command) (begins_with past (body r)) test in
+    let next : IsNext rows r = record { place = ap (λ (q : Row). q.place) is; by = ap (λ (q : Row). q.by) is ∙ sym (ap (λ (q : Row). q.session + 1) is); stands = stand_told rows r.session r.command both.0 } in
+    let size : suc (length (body r)) ≡ 5 + length (payload_of r.command) = omega (arith, length-body r) in
+    let first : IsFirst rows past r = record { next = next; bytes = front_told (body r) past both.1 } in
+    let step = parse_step c (gate ∷ past) (drop (length (body r)) past) rows (rows ++ r ∷ []) r
+    (length (spelled rows)) (length (spelled rows) + (5 + length (payload_of r.command))) split journal refl (grind (arith, nat_tests)) (omega arith) first refl refl
+    (ap (λ (k : ℕ). drop k (gate ∷ past)) size) in
+    later (rows ++ r ∷ []) (drop (length (body r)) past) said step.1 step.0
+
+at_gate :
+    (c : List ℕ) (those : List Row) (n : ℕ) (rows : List Row) (gate : ℕ) (past : List ℕ) → Spelt c those n → IsJournal rows → c ≡ spelled rows ++ gate ∷ past → (b : Bool) → (gate == 1) ≡ b
+    → (if b then (if has_row rows past (row_at rows past) then rows_from n (rows ++ row_at rows past ∷ []) (drop (length (body (row_at rows past))) past) else None) else Some rows) ≡ Some those → SpellsRows c those
+at_gate c those n rows gate past later journal split true test said =
+    one_more c those n rows gate past (row_at rows past) refl later journal split test (has_row rows past (row_at rows past)) refl said
+at_gate c those n rows gate past later journal split false test said = not_open c rows those gate past journal split test said
+
+at_last : (c : List ℕ) (those rows : List Row) (gate : ℕ) (past : List ℕ) → IsJournal rows → c ≡ spelled rows ++ gate ∷ past → (b : Bool) → (gate == 1) ≡ b → (if b then None else Some rows) ≡ Some those → SpellsRows c those
+at_last c those rows gate past journal split true test said = absurd (none_some those said)
+at_last c those rows gate past journal split false test said = not_open c rows those gate past journal split test said
+
+found_spell : (c : List ℕ) (those : List Row) (n : ℕ) → Spelt c those n
+found_spell c those n rows [] is journal split = absurd (none_some those is)
+found_spell c those zero rows (gate ∷ past) is journal split = at_last c those rows gate past journal split (gate == 1) refl is
+found_spell c those (suc n) rows (gate ∷ past) is journal split = at_gate c those n rows gate past (found_spell c those n) journal split (gate == 1) refl is
+
+with_header : (c : List ℕ) (rows : List Row) (b : Bool) → begins_with c header ≡ b → (if b then rows_from (length c) [] (drop 16 c) else None) ≡ Some rows → SpellsRows c rows
+with_header c rows true test said = found_spell c rows (length c) [] (drop 16 c) said tt (front_told header c test)
+with_header c rows false test said = absurd (none_some rows said)
+
+pub found_rows : (c : List ℕ) (rows : List Row) → rows_in c ≡ Some rows → SpellsRows c rows
+unfolding rows_in
+found_rows c rows is = with_header c rows (begins_with c header) refl is

@@ -1,0 +1,96 @@
+-- What every event keeps.
+use Rattle.std.proofs.Common.{Bool, List, None, Option, Some, [], false, length, true, ℕ, ◌++◌, ◌∷◌}
+use Rattle.std.proofs.Common.{◌≡◌}
+use Rattle.std.specs.List.{slice_get}
+use Rattle.std.specs.Prelude.{IfSome}
+use Rattle.disk_model.specs.DiskState.{IsImage}
+use Rattle.gate_journal.specs.Gate.{IsShut, IsUnsure}
+use Rattle.gate_journal.specs.Log.{StandsAt}
+use Rattle.gate_journal.specs.Rows.{IsJournal, IsNext, commands_of, spelled}
+use Rattle.gate_journal.specs.declared.command.Command.{Command}
+use Rattle.gate_journal.specs.declared.row.Row.{Row}
+use Rattle.line_words.specs.Spelling.{session}
+use Rattle.story_run.specs.declared.story.Story.{Story}
+use Rattle.session_core.specs.Turning.{commands_in, decision_on, turn_of}
+use Rattle.session_core.specs.declared.entry.Entry.{Entry}
+use Rattle.session_core.specs.declared.entry.Outcome.{Outcome}
+use Rattle.session_core.specs.declared.entry.Outcome.TheVariants.{OutOfMemory}
+use Rattle.host_world.specs.Happenings.{Happening, history_of, replies_of, replies_to}
+use Rattle.host_world.specs.Journal.{past_gate}
+use Rattle.host_world.specs.Pending.{OneMore, pending}
+use Rattle.host_world.specs.declared.state.HostState.{HostState}
+use Rattle.host_world.specs.declared.state.Step.{Step}
+use Rattle.host_world.specs.declared.state.Step.TheVariants.{AskSize, CloseSync, CloseWrite}
+use Rattle.host_world.specs.declared.state.Step.TheVariants.{FirstSync, GateSync, GateWrite, Idle}
+use Rattle.host_world.specs.declared.state.Step.TheVariants.{ReadAll, RepairSync, RepairWrite}
+use Rattle.host_world.specs.declared.state.Step.TheVariants.{RowSync, RowWrite}
+use Rattle.host_world.specs.declared.turn.Phase.{Phase}
+use Rattle.host_world.specs.declared.turn.Phase.TheVariants.{Begun, Plain, Ready, Taken}
+use Rattle.host_world.specs.declared.turn.Session.{Session}
+use Rattle.host_world.specs.declared.turn.Turn.{Turn}
+
+-- an outcome that a turn has once its append has begun
+abbrev pub IsAppendOutcome : Outcome → Type 0
+IsAppendOutcome OutOfMemory = ⊥
+IsAppendOutcome outcome = Unit {0}
+
+module _ (stories : List Story) (budget : ℕ) where
+  -- an append of this row is under way
+  pub record Busy (w : HostState) (r : Row) : Type 0 where
+    pub up : w.up ≡ true
+    pub next : IsNext w.rows r
+    pub held : w.holder ≡ Some r.session
+    pub asker : Session
+    pub turn : Turn
+    pub at : slice_get w.sessions r.session ≡ Some asker
+    pub stands : asker.turn ≡ Some turn
+    pub started : turn.phase ≡ Begun
+    pub accepted : (decision_on stories budget (commands_in asker.history) turn.line).accepted ≡ Some (r.command)
+
+  -- what is known between two device calls
+  abbrev pub StepFact : HostState → Step → Type 0
+  StepFact w Idle = Unit {0}
+  StepFact w (RepairWrite r n) = Busy w r × ((u : Row) × (w.uncertain ≡ Some u))
+  StepFact w (RepairSync r n) = Busy w r × IsShut (spelled w.rows) w.disk.seen
+  StepFact w (RowWrite r n) = Busy w r × (w.uncertain ≡ None)
+  StepFact w (RowSync r n) = Busy w r × (w.uncertain ≡ None) × IsUnsure (spelled w.rows) (past_gate r) w.disk.seen
+  StepFact w (GateWrite r n) = Busy w r × (w.uncertain ≡ Some r)
+  StepFact w (GateSync r n) = Busy w r × (w.uncertain ≡ Some r) × IsShut (spelled (w.rows ++ r ∷ [])) w.disk.seen
+  StepFact w FirstSync = w.up ≡ false
+  StepFact w AskSize = (w.up ≡ false) × ((c : List ℕ) → IsImage w.disk c → c ≡ w.disk.seen)
+  StepFact w ReadAll = (w.up ≡ false) × ((c : List ℕ) → IsImage w.disk c → c ≡ w.disk.seen)
+  StepFact w (CloseWrite rows) = (w.up ≡ false) × (rows ≡ w.rows) × ((u : Row) × (w.uncertain ≡ Some u))
+  StepFact w (CloseSync rows) = (w.up ≡ false) × (rows ≡ w.rows) × IsShut (spelled w.rows) w.disk.seen
+
+  abbrev pub Accepts : List Entry → Turn → Type 0
+  Accepts h t = (c : Command) × ((decision_on stories budget (commands_in h) t.line).accepted ≡ Some c)
+
+  abbrev pub PhaseFact : List Entry → List Entry → Turn → Phase → Type 0
+  PhaseFact before h t (Ready outcome) = (h ≡ before) × Accepts h t × IsAppendOutcome outcome
+  PhaseFact before h t (Taken outcome reply) = turn_of stories budget before t.pass t.line outcome ≡ record { reply = reply; history = h }
+  PhaseFact before h t (Plain outcome reply) = (h ≡ before) × (turn_of stories budget before t.pass t.line outcome ≡ record { reply = reply; history = h })
+  PhaseFact before h t phase = (h ≡ before) × Accepts h t
+
+  -- of the turn under way, over the history that the turns given have left
+  abbrev pub TurnFact : List Entry → List Entry → Option Turn → Type 0
+  TurnFact before h None = h ≡ before
+  TurnFact before h (Some t) = PhaseFact before h t t.phase
+
+  -- the rows of a session are its commands and the pending one; while the host is down, these or one more
+  abbrev pub RowsFact : ℕ → List Row → Option Row → Session → Bool → Type 0
+  RowsFact s rows uncertain x true = (commands_of rows s ≡ commands_in x.history ++ pending stories budget x) × IfSome uncertain (λ r. r.session ≡ s → pending stories budget x ≡ [])
+  RowsFact s rows uncertain x false = (x.turn ≡ None) × OneMore (commands_in x.history) (commands_of rows s) × IfSome uncertain (λ r. OneMore (commands_in x.history) (commands_of (rows ++ r ∷ []) s))
+
+  pub record Knows (h : List Entry) (past : List Happening) (w : HostState) (s : ℕ) (x : Session) : Type 0 where
+    pub turn : TurnFact (history_of stories budget h past) x.history x.turn
+    pub replies : replies_to s w.given ≡ replies_of stories budget h past
+    pub rows : RowsFact s w.rows w.uncertain x w.up
+
+  pub record Sound (first : ℕ → List Entry) (past : ℕ → List Happening) (w : HostState) : Type 0 where
+    pub stays : IsImage w.disk w.disk.seen
+    pub images : (c : List ℕ) → IsImage w.disk c → StandsAt w.rows w.uncertain c
+    pub journal : IsJournal w.rows
+    pub next : IfSome w.uncertain (IsNext w.rows)
+    pub sessions : length w.sessions ≡ 64
+    pub step : StepFact w w.step
+    pub each : (s : ℕ) (x : Session) → slice_get w.sessions s ≡ Some x → Knows (first s) (past s) w s x

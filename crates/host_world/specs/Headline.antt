@@ -1,0 +1,103 @@
+-- The headline: what holds of each session, whatever happens in whatever order (own).
+use Rattle.std.specs.Prelude.{◌≡◌, ℕ, ◌≤◌, true, List, [], ◌∷◌, ◌++◌, length, map, Some, None}
+use Rattle.std.specs.List.{slice_get}
+use Rattle.disk_model.specs.DiskState.{IsImage}
+use Rattle.gate_journal.specs.declared.command.Command.{Command}
+use Rattle.gate_journal.specs.declared.row.Row.{Row}
+use Rattle.gate_journal.specs.Command.{IsBudget}
+use Rattle.gate_journal.specs.Rows.{commands_of, SpellsRows}
+use Rattle.line_words.specs.declared.reply.No.TheVariants.{DiskFault}
+use Rattle.line_words.specs.declared.reply.Reply.{Reply}
+use Rattle.line_words.specs.declared.reply.Reply.TheVariants.{No}
+use Rattle.story_run.specs.declared.story.Story.{Story}
+use Rattle.session_core.specs.declared.entry.Outcome.{Outcome}
+use Rattle.session_core.specs.declared.entry.Outcome.TheVariants.{DiskFailed}
+use Rattle.session_core.specs.Turning.{commands_in}
+use Rattle.host_world.specs.declared.turn.Session.{Session}
+use Rattle.host_world.specs.declared.state.HostState.{HostState}
+use Rattle.host_world.specs.declared.event.Event.{Event}
+use Rattle.host_world.specs.Events.{run}
+use Rattle.host_world.specs.Happenings.{Happening, Ended, Cut, Opened, cut_at, all_told}
+use Rattle.host_world.specs.Happenings.{history_of, replies_of, replies_to}
+use Rattle.host_world.specs.Pending.{OneMore, Keeps}
+use Rattle.host_world.specs.Starts.{IsStart}
+
+-- stories and a budget that a host is given: each digest has 32 bytes
+pub record AreGiven (stories : List Story) (budget : ℕ) : Type 0 where
+  pub digests :
+      (n : ℕ) (story : Story) → slice_get stories n ≡ Some story → length story.digest ≡ 32
+  pub range : IsBudget budget
+
+-- an opening gives the commands of before, or these and one more
+abbrev pub FindsOneMore : Happening → Type 0
+FindsOneMore (Opened commands) = length commands ≤ 1
+FindsOneMore happening = Unit {0}
+
+abbrev pub EachFindsOneMore : List Happening → Type 0
+EachFindsOneMore [] = Unit {0}
+EachFindsOneMore (one ∷ more) = FindsOneMore one × EachFindsOneMore more
+
+-- without the two counts of a fault, and without the number of a pass
+abbrev pub uncounted_outcome : Outcome → Outcome
+uncounted_outcome (DiskFailed from to) = DiskFailed 0 0
+uncounted_outcome outcome = outcome
+
+abbrev pub uncounted : Happening → Happening
+uncounted (Ended pass line outcome) = Ended 0 line (uncounted_outcome outcome)
+uncounted (Cut pass line outcome) = Cut 0 line (uncounted_outcome outcome)
+uncounted (Opened commands) = Opened commands
+
+abbrev pub uncounted_reply : Reply → Reply
+uncounted_reply (No (DiskFault from to)) = No (DiskFault 0 0)
+uncounted_reply reply = reply
+
+-- A session that was x as the events began is y behind them.
+pub record Lives
+    (stories : List Story)
+    (budget s : ℕ)
+    (x : Session)
+    (past : List Happening)
+    (w : HostState)
+    (y : Session) : Type 0 where
+  -- its history is the fold of its turns
+  pub history : y.history ≡ history_of stories budget x.history (past ++ cut_at y.turn)
+  -- the replies given to it are those of its turns
+  pub replies : replies_to s w.given ≡ replies_of stories budget x.history past
+  -- each opening gave the commands of before, or these and one more
+  pub recovers : EachFindsOneMore past
+  -- a stop now leaves rows with its commands, or with these and one more
+  pub stop :
+      (image : List ℕ) → IsImage w.disk image
+      → (rows : List Row) × SpellsRows image rows
+      × OneMore (commands_in y.history) (commands_of rows s)
+      × (w.up ≡ true → Keeps stories budget s w y rows)
+
+-- Over every list of events from a host that is opened or down, each session lives so.
+abbrev pub EachLives : Type 0
+EachLives = (stories : List Story) (budget : ℕ) → AreGiven stories budget
+    → (w : HostState) (events : List Event) → IsStart w → (s : ℕ) (x y : Session)
+    → slice_get w.sessions s ≡ Some x
+    → slice_get (run stories budget w events).sessions s ≡ Some y
+    → Lives stories budget s x (all_told stories budget s w events)
+    (run stories budget w events) y
+
+-- What a session had accepted when it had no turn under way, so all that was acknowledged, it keeps
+-- in its order, whatever comes.
+abbrev pub NothingIsLost : Type 0
+NothingIsLost = (stories : List Story) (budget : ℕ) → AreGiven stories budget
+    → (w : HostState) (events later : List Event) → IsStart w → (s : ℕ) (x y : Session)
+    → slice_get (run stories budget w events).sessions s ≡ Some x → x.turn ≡ None
+    → slice_get (run stories budget (run stories budget w events) later).sessions s ≡ Some y
+    → (more : List Command) × (commands_in y.history ≡ commands_in x.history ++ more)
+
+-- Two lists of events that tell the same of a session give it the same replies, but for the counts
+-- of faults, whatever else they hold.
+abbrev pub IsIsolated : Type 0
+IsIsolated = (stories : List Story) (budget : ℕ) → AreGiven stories budget
+    → (w v : HostState) (es fs : List Event) → IsStart w → IsStart v → (s : ℕ) (x y : Session)
+    → slice_get w.sessions s ≡ Some x → slice_get v.sessions s ≡ Some y
+    → commands_in x.history ≡ commands_in y.history
+    → map uncounted (all_told stories budget s w es)
+    ≡ map uncounted (all_told stories budget s v fs)
+    → map uncounted_reply (replies_to s (run stories budget w es).given)
+    ≡ map uncounted_reply (replies_to s (run stories budget v fs).given)

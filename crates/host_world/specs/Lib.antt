@@ -1,0 +1,10 @@
+pub mod Disk
+pub mod Reading
+pub mod Sessions
+pub mod Journal
+pub mod Events
+pub mod Happenings
+pub mod Starts
+pub mod Pending
+pub mod Laws
+pub mod Headline

@@ -1,0 +1,81 @@
+-- The rows that bytes spell, by reading them from left to right (own).
+use Rattle.std.specs.Prelude.{ℕ, zero, suc, ◌+◌, ◌*◌, nat_lt, nat_le, Bool, true, ◌&&◌, ◌||◌}
+use Rattle.std.specs.Prelude.{◌==◌, if◌then◌else◌, List, [], ◌∷◌, ◌++◌, length, take, drop}
+use Rattle.std.specs.Prelude.{slice_index, Option, Some, None}
+use Rattle.std.specs.Str.{all_scalars, bytes_eq}
+use Rattle.story_text.specs.Text.{is_short}
+use Rattle.line_words.specs.Field.{is_key}
+use Rattle.line_words.specs.Keycode.{is_code, is_terminator}
+use Rattle.gate_journal.specs.declared.command.Command.{Command}
+use Rattle.gate_journal.specs.declared.command.Command.TheVariants.{Open, Line, Char, File, Close}
+use Rattle.gate_journal.specs.declared.row.Row.{Row}
+use Rattle.gate_journal.specs.Rows.{header, body, commands_of, may_follow}
+use Rattle.gate_journal.specs.Log.{next_row}
+use Rattle.gate_journal.specs.Payload.{open_in, line_in, char_in, file_in}
+
+-- the tests of a text's and of a command's fields
+abbrev pub is_text : List ℕ → Bool
+is_text text = all_scalars text && is_short text
+
+abbrev pub is_command : Command → Bool
+is_command (Open key story digest seed cols rows budget) =
+    is_key key && nat_le story 65535 && length digest == 32
+    && nat_le seed 18446744073709551615
+    && nat_le 1 cols && nat_le cols 255 && nat_le 1 rows && nat_le rows 255
+    && nat_le 1 budget && nat_le budget 1000000000000
+is_command (Line win term text) =
+    nat_le win 4294967295 && (term == 0 || is_terminator term) && is_text text
+is_command (Char win code) = nat_le win 4294967295 && is_code code
+is_command (File name) = is_text name
+is_command Close = true
+
+-- the command that a row of this kind with this payload is of, if it is of one
+abbrev pub command_in : ℕ → List ℕ → Command
+command_in kind payload =
+    if kind == 1 then
+    open_in (take (slice_index payload 0) (drop 1 payload))
+    (drop (slice_index payload 0) (drop 1 payload))
+    else if kind == 2 then line_in payload
+    else if kind == 3 then char_in payload
+    else if kind == 4 then file_in payload
+    else Close
+
+-- the row that these bytes behind a gate begin with, if they begin with one
+abbrev pub row_at : List Row → List ℕ → Row
+row_at rows past =
+    next_row rows (slice_index past 0)
+    (command_in (slice_index past 1)
+    (take (256 * slice_index past 2 + slice_index past 3) (drop 4 past)))
+
+-- the test whether a row may stand behind these rows
+abbrev pub may_stand : List Row → ℕ → Command → Bool
+may_stand rows session command =
+    nat_lt session 64 && is_command command
+    && may_follow (commands_of rows session) command
+    && nat_lt (length (commands_of rows session)) 8192
+
+-- the test whether bytes begin with these
+abbrev pub begins_with : List ℕ → List ℕ → Bool
+begins_with bytes front = bytes_eq (take (length front) bytes) front
+
+-- the test whether bytes behind a gate begin with a row that may stand there
+abbrev pub has_row : List Row → List ℕ → Row → Bool
+has_row rows past r = may_stand rows r.session r.command && begins_with past (body r)
+
+-- the rows of bytes that go on so behind these rows, at most so many more; none where a gate is
+-- missing or open before no row
+abbrev pub rows_from : ℕ → List Row → List ℕ → Option (List Row)
+rows_from more rows [] = None
+rows_from zero rows (gate ∷ past) = if gate == 1 then None else Some rows
+rows_from (suc more) rows (gate ∷ past) =
+    if gate == 1 then
+    (if has_row rows past (row_at rows past)
+    then rows_from more (rows ++ row_at rows past ∷ [])
+    (drop (length (body (row_at rows past))) past)
+    else None)
+    else Some rows
+
+-- the rows that bytes spell, if they spell some
+unfoldable pub rows_in : List ℕ → Option (List Row)
+rows_in bytes =
+    if begins_with bytes header then rows_from (length bytes) [] (drop 16 bytes) else None

@@ -1,0 +1,33 @@
+//! Lists (own).
+
+ghost use Rattle.std.specs.Prelude.{◌≡◌, List};
+
+use std::marker::Model;
+
+/// Items in their order.
+#[derive(Drop)]
+pub struct Items<T> {
+    pub(crate) list: Vec<T>,
+}
+
+impl<T> Model for Items<T> {
+    ghost Value = { List T };
+
+    ghost view = { λ l. l.list.items };
+}
+
+impl<T> Items<T> {
+    /// The items of the vector.
+    pub fn of(list: Vec<T>) -> Items<T>
+        ensures { result ≡ list.items }
+    {
+        Items { list }
+    }
+
+    /// The items, lent.
+    pub fn as_slice(&self) -> &[T]
+        ensures { result.now ≡ self.now }
+    {
+        self.list.as_slice()
+    }
+}

@@ -1,0 +1,66 @@
+//! The state of a host (own).
+
+use crate::disk::PlainDisk;
+use crate::items::Items;
+use crate::turn::Session;
+use gate_journal::Row;
+use line_words::Reply;
+
+/// What the journal's disk is asked next. An append has its row, and the disk's count of faults as
+/// it began; an opening has the rows that it found.
+#[derive(Drop)]
+pub enum Step {
+    /// Nothing.
+    Idle,
+    /// An append closes the gate of an earlier row, of which nothing is known.
+    RepairWrite { row: Row, from: u64 },
+    RepairSync { row: Row, from: u64 },
+    /// It writes its row behind the closed gate, and the next gate.
+    RowWrite { row: Row, from: u64 },
+    RowSync { row: Row, from: u64 },
+    /// It opens the gate.
+    GateWrite { row: Row, from: u64 },
+    GateSync { row: Row, from: u64 },
+    /// An opening syncs, asks the size and reads all bytes.
+    FirstSync,
+    AskSize,
+    ReadAll,
+    /// It closes a gate that isn't 0.
+    CloseWrite { rows: Items<Row> },
+    CloseSync { rows: Items<Row> },
+}
+
+/// A reply, and the session that it was given to.
+#[derive(Drop)]
+pub struct Given {
+    pub session: u8,
+    pub reply: Reply,
+}
+
+/// A host: its sessions, the replies that it gave, and its journal.
+#[derive(Drop)]
+pub struct HostState {
+    pub(crate) up: bool,
+    pub(crate) sessions: Items<Session>,
+    pub(crate) given: Items<Given>,
+    // The journal's disk, and how often a call of it has failed.
+    pub(crate) disk: PlainDisk,
+    pub(crate) faults: u64,
+    // The rows that are synced, and the row behind a gate of which nothing is known.
+    pub(crate) rows: Items<Row>,
+    pub(crate) uncertain: Option<Row>,
+    // The session that holds the journal.
+    pub(crate) holder: Option<u8>,
+    pub(crate) step: Step,
+}
+
+impl HostState {
+    ghost use Rattle.std.specs.Prelude.{◌≡◌};
+
+    /// The replies, in the order in which they were given.
+    pub fn replies(&self) -> &[Given]
+        ensures { result.now ≡ self.now.given }
+    {
+        self.given.as_slice()
+    }
+}

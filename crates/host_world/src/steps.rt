@@ -1,0 +1,124 @@
+//! The events of a turn that decide nothing (own).
+
+ghost use Rattle.std.specs.Prelude.{◌≡◌, ℕ, List, OnOk, OnErr};
+ghost use Rattle.story_run.specs.declared.story.Story.{Story};
+ghost use Rattle.host_world.specs.Events.{after, held_by};
+ghost use Rattle.host_world.specs.declared.event.Event.TheVariants as Event;
+
+use crate::sessions::{end_turn, has_answer, phase_of, set_phase};
+use crate::state::{Given, HostState, Step};
+use crate::turn::Phase;
+use line_words::{No, Reply};
+use session_core::Outcome;
+use std::alloc::AllocError;
+
+fn holds(holder: Option<u8>, s: u8) -> bool
+    ensures { result ≡ held_by holder s }
+{
+    match holder {
+        None => false,
+        Some(t) => t == s,
+    }
+}
+
+impl HostState {
+    /// Memory runs out in a turn of which no append has begun: `NO 12` is its reply.
+    pub fn want(&mut self, s: u8)
+        ensures { (stories : List Story) (budget : ℕ)
+            → self.new ≡ after stories budget self.old (Event.Want s) }
+    {
+        match phase_of(self.sessions.as_slice(), s) {
+            Some(Phase::Asked) => {
+                if holds(self.holder, s) {
+                    self.holder = None;
+                }
+                let phase = Phase::Plain(Outcome::OutOfMemory, Reply::No(No::NoMemory));
+                set_phase(&mut self.sessions.list, s, phase);
+            }
+            Some(Phase::Plain(_, _)) => {
+                let phase = Phase::Plain(Outcome::OutOfMemory, Reply::No(No::NoMemory));
+                set_phase(&mut self.sessions.list, s, phase);
+            }
+            _ => {}
+        }
+    }
+
+    /// A turn takes the journal, where nobody holds it.
+    pub fn hold(&mut self, s: u8)
+        ensures { (stories : List Story) (budget : ℕ)
+            → self.new ≡ after stories budget self.old (Event.Hold s) }
+    {
+        if let Some(Phase::Asked) = phase_of(self.sessions.as_slice(), s) {
+            if self.holder.is_none() {
+                self.holder = Some(s);
+            }
+        }
+    }
+
+    /// It gives the journal back, once its append has ended.
+    pub fn free(&mut self, s: u8)
+        ensures { (stories : List Story) (budget : ℕ)
+            → self.new ≡ after stories budget self.old (Event.Free s) }
+    {
+        if !holds(self.holder, s) {
+            return;
+        }
+        match phase_of(self.sessions.as_slice(), s) {
+            Some(Phase::Kept) => {
+                self.holder = None;
+                set_phase(&mut self.sessions.list, s, Phase::Freed);
+            }
+            Some(Phase::Broken { from, to }) => {
+                let outcome = Outcome::DiskFailed {
+                    from: *from,
+                    to: *to,
+                };
+                self.holder = None;
+                set_phase(&mut self.sessions.list, s, Phase::Ready(outcome));
+            }
+            _ => {}
+        }
+    }
+
+    /// It answers; `found` says whether memory for the reply was found.
+    pub fn run_turn(&mut self, s: u8, found: bool)
+        ensures { (stories : List Story) (budget : ℕ)
+            → self.new ≡ after stories budget self.old (Event.Run s found) }
+    {
+        if let Some(Phase::Freed) = phase_of(self.sessions.as_slice(), s) {
+            let outcome = if found {
+                Outcome::Answered
+            } else {
+                Outcome::Forgotten
+            };
+            set_phase(&mut self.sessions.list, s, Phase::Ready(outcome));
+        }
+    }
+
+    /// The reply that is ready is given, and the turn is over. Where memory runs out nothing has
+    /// changed.
+    pub fn give(&mut self, s: u8) -> Result<(), AllocError>
+        ensures ok { OnOk result ((stories : List Story) (budget : ℕ)
+            → self.new ≡ after stories budget self.old (Event.Give s)) }
+        ensures err { OnErr result (self.new ≡ self.old) }
+    {
+        if !has_answer(self.sessions.as_slice(), s) {
+            return Ok(());
+        }
+        self.given.list.reserve(1)?;
+        if let Some(reply) = end_turn(&mut self.sessions.list, s) {
+            let _ = self.given.list.push(Given { session: s, reply });
+        }
+        Ok(())
+    }
+
+    /// An opening begins, where the host is down.
+    pub fn recover(&mut self)
+        ensures { (stories : List Story) (budget : ℕ)
+            → self.new ≡ after stories budget self.old Event.Recover }
+    {
+        if !self.up {
+            self.step = Step::FirstSync;
+        }
+    }
+}

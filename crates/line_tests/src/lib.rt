@@ -1,0 +1,11 @@
+//! Texts, lines and shows: what no clause says.
+#![tactic(auto)]
+
+#[cfg(test)]
+mod lines;
+#[cfg(test)]
+mod show;
+#[cfg(test)]
+mod text;
+#[cfg(test)]
+mod world;

@@ -1,0 +1,9 @@
+//! Sessions and scripts: what no clause says.
+#![tactic(auto)]
+
+#[cfg(test)]
+mod automaton;
+#[cfg(test)]
+mod desks;
+#[cfg(test)]
+mod scripts;
