@@ -1,188 +1,166 @@
--- What stays the same while the bytes of a piece of input are heard: where the state, the lines and the text lead to.
-use Rattle.std.proofs.Common.{◌≡◌, ◌≢◌, ℕ, ◌+◌, ◌-◌, ◌^◌, ◌<◌, ◌≤◌, List, [], ◌∷◌, ◌++◌, take, length, refl, sym, ap, ◌∙◌, subst, arith, add-zero, Option, Some, true, false}
+-- What was heard of a piece of input so far.
+use Rattle.std.proofs.Common.{◌≡◌, ◌≢◌, inr, ℕ, ◌+◌, ◌^◌, ◌<◌, List, [], ◌∷◌, ◌++◌, length, refl, sym, ap, ◌∙◌, subst, arith, append_assoc, length-append, Some, Bool, true, false, cond, nat_eq}
+use Rattle.std.proofs.lemmas.List.{append-nil}
 use Rattle.std.proofs.lemmas.Grind.{common_steps}
 use Rattle.storyhost.specs.declared.sink.Stop.{Stop}
-use Rattle.storyhost.specs.declared.hear.Heard.TheVariants.{More}
-use Rattle.storyhost.specs.Streams.{SinkState, Wrote}
-use Rattle.storyhost.specs.Writing.{WroteUpTo, Stopped}
-use Rattle.storyhost.specs.Conversation.{Answering, replies_heard, after_heard}
+use Rattle.storyhost.specs.declared.sink.Stop.TheVariants.{Memory}
+use Rattle.storyhost.specs.Streams.{SinkState}
+use Rattle.storyhost.specs.Conversation.{Line, Turn, Answered, Tells, Breaks, StopsBehind}
 use Rattle.storyhost.specs.Hearing.{heard_from, begun_after, longer}
-use Rattle.storyhost.specs.Hears.{LeadsTo}
-use Rattle.storyhost.proofs.WritingLemmas.{upto_none, upto_more, upto_done, stopped_within}
+use Rattle.storyhost.specs.Hears.{HearsAll, HearsPart}
+use Rattle.storyhost.proofs.TurnLemmas.{answered_none, answered_one, answered_then, stops_one, stops_then}
 
-abbrev Line : Type 0
-Line = Option (List ℕ)
+pub heard_append : (begun : Line) (xs ys : List ℕ) → heard_from begun (xs ++ ys) ≡ heard_from begun xs ++ heard_from (begun_after begun xs) ys
+heard_append begun [] ys = refl
+heard_append begun (x ∷ xs) ys = elim (nat_eq x 10) as (λ b. cond b (begun ∷ heard_from (Some []) (xs ++ ys)) (heard_from (longer begun x) (xs ++ ys)) ≡ cond b (begun ∷ heard_from (Some []) xs) (heard_from (longer begun x) xs) ++ heard_from (cond b (begun_after (Some []) xs) (begun_after (longer begun x) xs)) ys) [
+  | true ↦ ap (λ ls. begun ∷ ls) (heard_append (Some []) xs ys)
+  | false ↦ heard_append (longer begun x) xs ys
+]
 
-pub record Leads {A : Type 0} (by : Answering A) (state0 : A) (line0 : Line) (count0 : ℕ) (piece : List ℕ) (old : SinkState)
-    (state : A) (line : Line) (count : ℕ) (rest : List ℕ) (new : SinkState) : Type 0 where
-  pub going : by.is_over state ≡ false
-  pub room : count < 2 ^ 20
-  pub same_state : after_heard by state0 (heard_from line0 piece) ≡ after_heard by state (heard_from line rest)
-  pub same_line : begun_after line0 piece ≡ begun_after line rest
-  pub same_count : count0 + length (heard_from line0 piece) ≡ count + length (heard_from line rest)
-  pub wrote : WroteUpTo old new (replies_heard by state0 (heard_from line0 piece)) (replies_heard by state (heard_from line rest))
-  pub limited : WroteUpTo old new (replies_heard by state0 (take (2 ^ 20 - count0) (heard_from line0 piece))) (replies_heard by state (take (2 ^ 20 - count) (heard_from line rest)))
+pub begun_append : (begun : Line) (xs ys : List ℕ) → begun_after begun (xs ++ ys) ≡ begun_after (begun_after begun xs) ys
+begun_append begun [] ys = refl
+begun_append begun (x ∷ xs) ys = elim (nat_eq x 10) as (λ b. cond b (begun_after (Some []) (xs ++ ys)) (begun_after (longer begun x) (xs ++ ys)) ≡ begun_after (cond b (begun_after (Some []) xs) (begun_after (longer begun x) xs)) ys) [
+  | true ↦ begun_append (Some []) xs ys
+  | false ↦ begun_append (longer begun x) xs ys
+]
 
-pub leads_start : {A : Type 0} (by : Answering A) (state : A) (line : Line) (count : ℕ) (piece : List ℕ) (k : SinkState)
-    → by.is_over state ≡ false → count < 2 ^ 20 → Leads by state line count piece k state line count piece k
-leads_start by state line count piece k going room = record {
-  going = going;
-  room = room;
-  same_state = refl;
+-- lines behind those that were heard
+pub heard_behind : (begun line : Line) (xs ys : List ℕ) → line ≡ begun_after begun xs → heard_from begun xs ++ heard_from line ys ≡ heard_from begun (xs ++ ys)
+heard_behind begun line xs ys same = ap (λ l. heard_from begun xs ++ heard_from l ys) same ∙ sym (heard_append begun xs ys)
+
+pub hears_none : {A : Type 0} (turn : Turn A) (over : A → Bool) (a : A) (line : Line) (n : ℕ) (k : SinkState) → HearsAll turn over a line n [] a line n k k
+hears_none turn over a line n k = record {
+  answered = answered_none turn over a k;
   same_line = refl;
-  same_count = refl;
-  wrote = upto_none k _;
-  limited = upto_none k _;
+  counts = omega arith;
+}
+
+pub hears_then : {A : Type 0} {turn : Turn A} {over : A → Bool} {a b c : A} {begun line more : Line} {count n m : ℕ} {xs ys : List ℕ} {old mid new : SinkState}
+    → HearsAll turn over a begun count xs b line n old mid → HearsAll turn over b line n ys c more m mid new
+    → HearsAll turn over a begun count (xs ++ ys) c more m old new
+hears_then {A} {turn} {over} {a} {b} {c} {begun} {line} {more} {count} {n} {m} {xs} {ys} {old} {mid} {new} p q = record {
+  answered = subst (λ (ls : List Line). Answered turn over a ls c old new) (heard_behind begun line xs ys p.same_line) (answered_then p.answered q.answered);
+  same_line = q.same_line ∙ ap (λ l. begun_after l ys) p.same_line ∙ sym (begun_append begun xs ys);
+  counts = let x = p.counts in let y = q.counts in let z = ap length (heard_behind begun line xs ys p.same_line) in
+      omega (arith, x, y, z, length-append (heard_from begun xs) (heard_from line ys));
 }
 
 -- one byte that is no LF
-heard_byte : (line : Line) (b : ℕ) (rest : List ℕ) → b ≢ 10 → heard_from line (b ∷ rest) ≡ heard_from (longer line b) rest
-heard_byte line b rest ne = grind (arith, common_steps)
-
-begun_byte : (line : Line) (b : ℕ) (rest : List ℕ) → b ≢ 10 → begun_after line (b ∷ rest) ≡ begun_after (longer line b) rest
-begun_byte line b rest ne = grind (arith, common_steps)
-
-heard_lf : (line : Line) (b : ℕ) (rest : List ℕ) → b ≡ 10 → heard_from line (b ∷ rest) ≡ line ∷ heard_from (Some []) rest
-heard_lf line b rest e = grind (arith, common_steps)
-
-begun_lf : (line : Line) (b : ℕ) (rest : List ℕ) → b ≡ 10 → begun_after line (b ∷ rest) ≡ begun_after (Some []) rest
-begun_lf line b rest e = grind (arith, common_steps)
-
-pub replies_going : {A : Type 0} (by : Answering A) (state : A) (line : Line) (lines : List Line) → by.is_over state ≡ false
-    → replies_heard by state (line ∷ lines) ≡ by.reply state line ++ replies_heard by (by.next state line) lines
-replies_going by state line lines going = rw going refl
-
-pub after_going : {A : Type 0} (by : Answering A) (state : A) (line : Line) (lines : List Line) → by.is_over state ≡ false
-    → after_heard by state (line ∷ lines) ≡ after_heard by (by.next state line) lines
-after_going by state line lines going = rw going refl
-
-take_next : {X : Type 0} (n : ℕ) (x : X) (xs : List X) → 0 < n → take n (x ∷ xs) ≡ x ∷ take (n - 1) xs
-take_next n x xs lt = grind (arith, common_steps)
-
-pub leads_byte : {A : Type 0} {by : Answering A} {state0 : A} {line0 : Line} {count0 : ℕ} {piece : List ℕ} {old : SinkState}
-    {state : A} {line : Line} {count : ℕ} {all : List ℕ} {new : SinkState} → Leads by state0 line0 count0 piece old state line count all new
-    → (b : ℕ) (rest : List ℕ) → all ≡ b ∷ rest → b ≢ 10 → Leads by state0 line0 count0 piece old state (longer line b) count rest new
-leads_byte {A} {by} {state0} {line0} {count0} {piece} {old} {state} {line} {count} {all} {new} h b rest e ne =
-    let heard : heard_from line all ≡ heard_from (longer line b) rest = ap (heard_from line) e ∙ heard_byte line b rest ne in
-    let begun : begun_after line all ≡ begun_after (longer line b) rest = ap (begun_after line) e ∙ begun_byte line b rest ne in
+hears_byte : {A : Type 0} (turn : Turn A) (over : A → Bool) (a : A) (line : Line) (n b : ℕ) (k : SinkState) → b ≢ 10
+    → HearsAll turn over a line n (b ∷ []) a (longer line b) n k k
+hears_byte {A} turn over a line n b k ne =
+    let none : heard_from line (b ∷ []) ≡ [] = grind (arith, common_steps) in
+    let begun : begun_after line (b ∷ []) ≡ longer line b = grind (arith, common_steps) in
     record {
-      going = h.going;
-      room = h.room;
-      same_state = h.same_state ∙ ap (after_heard by state) heard;
-      same_line = h.same_line ∙ begun;
-      same_count = h.same_count ∙ ap (λ ls. count + length ls) heard;
-      wrote = subst (λ (ls : List Line). WroteUpTo old new (replies_heard by state0 (heard_from line0 piece)) (replies_heard by state ls)) heard h.wrote;
-      limited = subst (λ (ls : List Line). WroteUpTo old new (replies_heard by state0 (take (2 ^ 20 - count0) (heard_from line0 piece))) (replies_heard by state (take (2 ^ 20 - count) ls))) heard h.limited;
+      answered = subst (λ (ls : List Line). Answered turn over a ls a k k) (sym none) (answered_none turn over a k);
+      same_line = sym begun;
+      counts = let l = ap length none in omega (arith, l);
     }
 
--- after the reply to the line that ends at an LF
-pub record Replied {A : Type 0} (by : Answering A) (state0 : A) (line0 : Line) (count0 : ℕ) (piece : List ℕ) (old : SinkState)
-    (now : A) (count : ℕ) (rest : List ℕ) (new : SinkState) : Type 0 where
-  pub same_state : after_heard by state0 (heard_from line0 piece) ≡ after_heard by now (heard_from (Some []) rest)
-  pub same_line : begun_after line0 piece ≡ begun_after (Some []) rest
-  pub same_count : count0 + length (heard_from line0 piece) ≡ count + length (heard_from (Some []) rest)
-  pub wrote : WroteUpTo old new (replies_heard by state0 (heard_from line0 piece)) (replies_heard by now (heard_from (Some []) rest))
-  pub limited : WroteUpTo old new (replies_heard by state0 (take (2 ^ 20 - count0) (heard_from line0 piece))) (replies_heard by now (take (2 ^ 20 - count) (heard_from (Some []) rest)))
+heard_lf : (line : Line) (b : ℕ) → b ≡ 10 → heard_from line (b ∷ []) ≡ line ∷ []
+heard_lf line b lf = grind (arith, common_steps)
 
-pub leads_line : {A : Type 0} {by : Answering A} {state0 : A} {line0 : Line} {count0 : ℕ} {piece : List ℕ} {old : SinkState}
-    {state : A} {line : Line} {count : ℕ} {all : List ℕ} {mid new : SinkState} → Leads by state0 line0 count0 piece old state line count all mid
-    → (b : ℕ) (rest : List ℕ) → all ≡ b ∷ rest → b ≡ 10 → Wrote mid new (by.reply state line)
-    → Replied by state0 line0 count0 piece old (by.next state line) (count + 1) rest new
-leads_line {A} {by} {state0} {line0} {count0} {piece} {old} {state} {line} {count} {all} {mid} {new} h b rest e lf w =
-    let heard : heard_from line all ≡ line ∷ heard_from (Some []) rest = ap (heard_from line) e ∙ heard_lf line b rest lf in
-    let begun : begun_after line all ≡ begun_after (Some []) rest = ap (begun_after line) e ∙ begun_lf line b rest lf in
-    let room : 0 < 2 ^ 20 - count = let r = h.room in omega (arith, r) in
-    let fewer : 2 ^ 20 - count - 1 ≡ 2 ^ 20 - (count + 1) = omega arith in
-    let shorter : take (2 ^ 20 - count) (heard_from line all) ≡ line ∷ take (2 ^ 20 - (count + 1)) (heard_from (Some []) rest)
-    = ap (take (2 ^ 20 - count)) heard ∙ take_next (2 ^ 20 - count) line (heard_from (Some []) rest) room ∙ ap (λ n. line ∷ take n (heard_from (Some []) rest)) fewer in
+-- an LF, at which a line is answered
+hears_lf : {A : Type 0} (turn : Turn A) (over : A → Bool) (a c : A) (line : Line) (n b : ℕ) (old new : SinkState) → b ≡ 10 → over a ≡ false
+    → Tells turn a line c old new → HearsAll turn over a line n (b ∷ []) c (Some []) (n + 1) old new
+hears_lf {A} turn over a c line n b old new lf going t =
+    let one : heard_from line (b ∷ []) ≡ line ∷ [] = heard_lf line b lf in
+    let begun : begun_after line (b ∷ []) ≡ Some [] = grind (arith, common_steps) in
     record {
-      same_state = h.same_state ∙ ap (after_heard by state) heard ∙ after_going by state line _ h.going;
-      same_line = h.same_line ∙ begun;
-      same_count = let s = h.same_count in let l = ap length heard in omega (arith, s, l);
-      wrote = upto_more h.wrote (by.reply state line) _ (ap (replies_heard by state) heard ∙ replies_going by state line _ h.going) w;
-      limited = upto_more h.limited (by.reply state line) _ (ap (replies_heard by state) shorter ∙ replies_going by state line _ h.going) w;
+      answered = subst (λ (ls : List Line). Answered turn over a ls c old new) (sym one) (answered_one going t);
+      same_line = sym begun;
+      counts = let l = ap length one in omega (arith, l);
     }
 
-pub leads_on : {A : Type 0} {by : Answering A} {state0 : A} {line0 : Line} {count0 : ℕ} {piece : List ℕ} {old : SinkState}
-    {now : A} {count : ℕ} {rest : List ℕ} {new : SinkState} → Replied by state0 line0 count0 piece old now count rest new
-    → by.is_over now ≡ false → count < 2 ^ 20 → Leads by state0 line0 count0 piece old now (Some []) count rest new
-leads_on r going room = record {
+-- what was heard of a piece, and the rest of it
+pub record Hearing {A : Type 0} (turn : Turn A) (over : A → Bool) (old : A) (begun : Line) (count : ℕ) (piece : List ℕ) (output : SinkState)
+    (new : A) (line : Line) (number : ℕ) (rest : List ℕ) (now : SinkState) : Type 0 where
+  pub front : List ℕ
+  pub split : piece ≡ front ++ rest
+  pub all : HearsAll turn over old begun count front new line number output now
+  pub going : over new ≡ false
+  pub few : number < 2 ^ 20
+
+pub hearing_start : {A : Type 0} (turn : Turn A) (over : A → Bool) (a : A) (line : Line) (count : ℕ) (piece : List ℕ) (k : SinkState)
+    → over a ≡ false → count < 2 ^ 20 → Hearing turn over a line count piece k a line count piece k
+hearing_start turn over a line count piece k going few = record {
+  front = [];
+  split = refl;
+  all = hears_none turn over a line count k;
   going = going;
-  room = room;
-  same_state = r.same_state;
-  same_line = r.same_line;
-  same_count = r.same_count;
-  wrote = r.wrote;
-  limited = r.limited;
+  few = few;
 }
 
-pub replies_over : {A : Type 0} (by : Answering A) (state : A) (lines : List Line) → by.is_over state ≡ true → replies_heard by state lines ≡ []
-replies_over by state [] over = refl
-replies_over by state (line ∷ lines) over = rw over refl
+split_on : (piece front all rest : List ℕ) (b : ℕ) → piece ≡ front ++ all → all ≡ b ∷ rest → piece ≡ (front ++ b ∷ []) ++ rest
+split_on piece front all rest b split e = split ∙ ap (λ l. front ++ l) e ∙ sym (append_assoc front (b ∷ []) rest)
 
-pub after_over : {A : Type 0} (by : Answering A) (state : A) (lines : List Line) → by.is_over state ≡ true → after_heard by state lines ≡ state
-after_over by state [] over = refl
-after_over by state (line ∷ lines) over = rw over refl
+pub hearing_byte : {A : Type 0} {turn : Turn A} {over : A → Bool} {old : A} {begun : Line} {count : ℕ} {piece : List ℕ} {output : SinkState}
+    {new : A} {line : Line} {number : ℕ} {all : List ℕ} {now : SinkState} → Hearing turn over old begun count piece output new line number all now
+    → (b : ℕ) (rest : List ℕ) → all ≡ b ∷ rest → b ≢ 10 → Hearing turn over old begun count piece output new (longer line b) number rest now
+hearing_byte {A} {turn} {over} {old} {begun} {count} {piece} {output} {new} {line} {number} {all} {now} h b rest e ne = record {
+  front = h.front ++ b ∷ [];
+  split = split_on piece h.front all rest b h.split e;
+  all = hears_then h.all (hears_byte turn over new line number b now ne);
+  going = h.going;
+  few = h.few;
+}
 
-length_of_nil : {X : Type 0} (xs : List X) → xs ≡ [] → length xs ≡ 0
-length_of_nil xs e = ap length e
+-- after the reply to the line that ends at an LF
+pub record Replied {A : Type 0} (turn : Turn A) (over : A → Bool) (old : A) (begun : Line) (count : ℕ) (piece : List ℕ) (output : SinkState)
+    (new : A) (number : ℕ) (rest : List ℕ) (now : SinkState) : Type 0 where
+  pub front : List ℕ
+  pub split : piece ≡ front ++ rest
+  pub all : HearsAll turn over old begun count front new (Some []) number output now
 
--- no further line is answered
-pub over_leads : {A : Type 0} {by : Answering A} {state0 : A} {line0 : Line} {count0 : ℕ} {piece : List ℕ} {old : SinkState}
-    {now : A} {count : ℕ} {rest : List ℕ} {new : SinkState} → Replied by state0 line0 count0 piece old now count rest new
-    → by.is_over now ≡ true → by.is_over (after_heard by state0 (heard_from line0 piece)) ≡ true
-over_leads {by = by} {now = now} {rest = rest} r over = ap by.is_over (r.same_state ∙ after_over by now (heard_from (Some []) rest) over) ∙ over
+pub hearing_line : {A : Type 0} {turn : Turn A} {over : A → Bool} {old : A} {begun : Line} {count : ℕ} {piece : List ℕ} {output : SinkState}
+    {mid : A} {line : Line} {number : ℕ} {all : List ℕ} {between : SinkState} → Hearing turn over old begun count piece output mid line number all between
+    → (b : ℕ) (rest : List ℕ) → all ≡ b ∷ rest → b ≡ 10 → (asked : Line) → asked ≡ line → {new : A} {now : SinkState} → Tells turn mid asked new between now
+    → Replied turn over old begun count piece output new (number + 1) rest now
+hearing_line {A} {turn} {over} {old} {begun} {count} {piece} {output} {mid} {line} {number} {all} {between} h b rest e lf asked same {new} {now} t = record {
+  front = h.front ++ b ∷ [];
+  split = split_on piece h.front all rest b h.split e;
+  all = hears_then h.all (hears_lf turn over mid new line number b between now lf h.going (subst (λ (l : Line). Tells turn mid l new between now) same t));
+}
 
-pub over_wrote : {A : Type 0} {by : Answering A} {state0 : A} {line0 : Line} {count0 : ℕ} {piece : List ℕ} {old : SinkState}
-    {now : A} {count : ℕ} {rest : List ℕ} {new : SinkState} → Replied by state0 line0 count0 piece old now count rest new
-    → by.is_over now ≡ true → Wrote old new (replies_heard by state0 (heard_from line0 piece))
-over_wrote {by = by} {now = now} {rest = rest} r over = upto_done _ r.wrote (length_of_nil _ (replies_over by now (heard_from (Some []) rest) over))
+pub hearing_on : {A : Type 0} {turn : Turn A} {over : A → Bool} {old : A} {begun : Line} {count : ℕ} {piece : List ℕ} {output : SinkState}
+    {new : A} {number : ℕ} {rest : List ℕ} {now : SinkState} → Replied turn over old begun count piece output new number rest now
+    → over new ≡ false → number < 2 ^ 20 → Hearing turn over old begun count piece output new (Some []) number rest now
+hearing_on r going few = record { front = r.front; split = r.split; all = r.all; going = going; few = few }
 
--- the last line that a connection takes was answered
-pub limit_leads : {A : Type 0} {by : Answering A} {state0 : A} {line0 : Line} {count0 : ℕ} {piece : List ℕ} {old : SinkState}
-    {now : A} {count : ℕ} {rest : List ℕ} {new : SinkState} → Replied by state0 line0 count0 piece old now count rest new
-    → count ≡ 2 ^ 20 → 2 ^ 20 ≤ count0 + length (heard_from line0 piece)
-limit_leads {rest = rest} r last = let s = r.same_count in omega (arith, s, last)
+pub hearing_over : {A : Type 0} {turn : Turn A} {over : A → Bool} {old : A} {begun : Line} {count : ℕ} {piece : List ℕ} {output : SinkState}
+    {new : A} {number : ℕ} {rest : List ℕ} {now : SinkState} → Replied turn over old begun count piece output new number rest now
+    → over new ≡ true → HearsPart (λ lines. Answered turn over old lines new output now × (over new ≡ true)) begun piece
+hearing_over {rest = rest} r over_now = record { front = r.front; rest = rest; split = r.split; holds = (r.all.answered, over_now) }
 
-pub limit_wrote : {A : Type 0} {by : Answering A} {state0 : A} {line0 : Line} {count0 : ℕ} {piece : List ℕ} {old : SinkState}
-    {now : A} {count : ℕ} {rest : List ℕ} {new : SinkState} → Replied by state0 line0 count0 piece old now count rest new
-    → count ≡ 2 ^ 20 → Wrote old new (replies_heard by state0 (take (2 ^ 20 - count0) (heard_from line0 piece)))
-limit_wrote {by = by} {now = now} {count = count} {rest = rest} r last =
-    let none : 2 ^ 20 - count ≡ 0 = omega (arith, last) in
-    upto_done _ r.limited (length_of_nil _ (ap (λ n. replies_heard by now (take n (heard_from (Some []) rest))) none))
+pub hearing_limit : {A : Type 0} {turn : Turn A} {over : A → Bool} {old : A} {begun : Line} {count : ℕ} {piece : List ℕ} {output : SinkState}
+    {new : A} {number : ℕ} {rest : List ℕ} {now : SinkState} → Replied turn over old begun count piece output new number rest now
+    → number ≡ 2 ^ 20 → HearsPart (λ lines. Answered turn over old lines new output now × (count + length lines ≡ 2 ^ 20)) begun piece
+hearing_limit {rest = rest} r last = record { front = r.front; rest = rest; split = r.split; holds = (r.all.answered, sym r.all.counts ∙ last) }
+
+pub hearing_stops : {A : Type 0} {turn : Turn A} (cut : Turn A) {over : A → Bool} {old : A} {begun : Line} {count : ℕ} {piece : List ℕ} {output : SinkState}
+    {mid : A} {line : Line} {number : ℕ} {all : List ℕ} {between : SinkState} → Hearing turn over old begun count piece output mid line number all between
+    → (b : ℕ) (rest : List ℕ) → all ≡ b ∷ rest → b ≡ 10 → (asked : Line) → asked ≡ line → {new : A} {now : SinkState} {cause : Stop} → Breaks cut mid asked new between now cause
+    → HearsPart (λ lines. StopsBehind turn cut over old lines new output now cause) begun piece
+hearing_stops {A} {turn} cut {over} {old} {begun} {count} {piece} {output} {mid} {line} {number} {all} {between} h b rest e lf asked same {new} {now} {cause} t =
+    let here : Breaks cut mid line new between now cause = subst (λ (l : Line). Breaks cut mid l new between now cause) same t in
+    let stops : StopsBehind turn cut over mid (heard_from line (b ∷ [])) new between now cause
+    = subst (λ (ls : List Line). StopsBehind turn cut over mid ls new between now cause) (sym (heard_lf line b lf)) (stops_one h.going here) in
+    record {
+      front = h.front ++ b ∷ [];
+      rest = rest;
+      split = split_on piece h.front all rest b h.split e;
+      holds = subst (λ (ls : List Line). StopsBehind turn cut over old ls new output now cause) (heard_behind begun line h.front (b ∷ []) h.all.same_line) (stops_then h.all.answered stops);
+    }
+
+pub hearing_memory : {A : Type 0} {turn : Turn A} (cut : Turn A) {over : A → Bool} {old : A} {begun : Line} {count : ℕ} {piece : List ℕ} {output : SinkState}
+    {new : A} {line : Line} {number : ℕ} {rest : List ℕ} {now : SinkState} → Hearing turn over old begun count piece output new line number rest now
+    → HearsPart (λ lines. StopsBehind turn cut over old lines new output now Memory) begun piece
+hearing_memory cut {rest = rest} h = record { front = h.front; rest = rest; split = h.split; holds = inr (h.all.answered, refl) }
 
 -- the piece was heard to its end
-pub done_wrote : {A : Type 0} {by : Answering A} {state0 : A} {line0 : Line} {count0 : ℕ} {piece : List ℕ} {old : SinkState}
-    {state : A} {line : Line} {count : ℕ} {rest : List ℕ} {new : SinkState} → Leads by state0 line0 count0 piece old state line count rest new
-    → rest ≡ [] → Wrote old new (replies_heard by state0 (heard_from line0 piece))
-done_wrote {by = by} {state = state} {line = line} h e = upto_done _ h.wrote (length_of_nil _ (ap (λ r. replies_heard by state (heard_from line r)) e))
-
-pub done_leads : {A : Type 0} {by : Answering A} {state0 : A} {line0 : Line} {count0 : ℕ} {piece : List ℕ} {old : SinkState}
-    {state : A} {line : Line} {count : ℕ} {rest : List ℕ} {new : SinkState} → Leads by state0 line0 count0 piece old state line count rest new
-    → rest ≡ [] → LeadsTo by state0 line0 count0 piece (More state) line count
-done_leads {by = by} {state = state} {line = line} {count = count} h e = (
-  sym (h.same_state ∙ ap (λ r. after_heard by state (heard_from line r)) e),
-  h.going,
-  sym (h.same_line ∙ ap (begun_after line) e),
-  sym (h.same_count ∙ ap (λ r. count + length (heard_from line r)) e ∙ add-zero count),
-  h.room,
-)
-
--- a call's answer to the line that is kept
-pub answered : {A : Type 0} {by : Answering A} {state0 : A} {line0 : Line} {count0 : ℕ} {piece : List ℕ} {old : SinkState}
-    {state : A} {line : Line} {count : ℕ} {all : List ℕ} {mid new : SinkState} → Leads by state0 line0 count0 piece old state line count all mid
-    → (b : ℕ) (rest : List ℕ) → all ≡ b ∷ rest → b ≡ 10 → (asked : Line) → asked ≡ line → (now : A) → now ≡ by.next state asked
-    → Wrote mid new (by.reply state asked) → Replied by state0 line0 count0 piece old now (count + 1) rest new
-answered {A} {by} {state0} {line0} {count0} {piece} {old} {state} {line} {count} {all} {mid} {new} h b rest e lf asked same now is w =
-    let w' : Wrote mid new (by.reply state line) = subst (λ (a : Line). Wrote mid new (by.reply state a)) same w in
-    let is' : by.next state line ≡ now = sym (is ∙ ap (by.next state) same) in
-    subst (λ (p : A). Replied by state0 line0 count0 piece old p (count + 1) rest new) is' (leads_line h b rest e lf w')
-
-pub answer_stopped : {A : Type 0} {by : Answering A} {state0 : A} {line0 : Line} {count0 : ℕ} {piece : List ℕ} {old : SinkState}
-    {state : A} {line : Line} {count : ℕ} {all : List ℕ} {mid new : SinkState} → Leads by state0 line0 count0 piece old state line count all mid
-    → (b : ℕ) (rest : List ℕ) → all ≡ b ∷ rest → b ≡ 10 → (asked : Line) → asked ≡ line → {cause : Stop}
-    → Stopped mid new (by.reply state asked) cause → Stopped old new (replies_heard by state0 (heard_from line0 piece)) cause
-answer_stopped {A} {by} {state0} {line0} {count0} {piece} {old} {state} {line} {count} {all} {mid} {new} h b rest e lf asked same {cause} s =
-    let heard : heard_from line all ≡ line ∷ heard_from (Some []) rest = ap (heard_from line) e ∙ heard_lf line b rest lf in
-    let s' : Stopped mid new (by.reply state line) cause = subst (λ (a : Line). Stopped mid new (by.reply state a) cause) same s in
-    stopped_within h.wrote (replies_heard by (by.next state line) (heard_from (Some []) rest)) (ap (replies_heard by state) heard ∙ replies_going by state line _ h.going) s'
+pub hearing_done : {A : Type 0} {turn : Turn A} {over : A → Bool} {old : A} {begun : Line} {count : ℕ} {piece : List ℕ} {output : SinkState}
+    {new : A} {line : Line} {number : ℕ} {rest : List ℕ} {now : SinkState} → Hearing turn over old begun count piece output new line number rest now
+    → rest ≡ [] → HearsAll turn over old begun count piece new line number output now × (over new ≡ false) × (number < 2 ^ 20)
+hearing_done {A} {turn} {over} {old} {begun} {count} {piece} {output} {new} {line} {number} {rest} {now} h none =
+    let whole : h.front ≡ piece = sym (h.split ∙ ap (λ l. h.front ++ l) none ∙ append-nil h.front) in
+    (subst (λ (p : List ℕ). HearsAll turn over old begun count p new line number output now) whole h.all, h.going, h.few)

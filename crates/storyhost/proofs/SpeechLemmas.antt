@@ -14,9 +14,10 @@ use Rattle.story_run.specs.World.{WorldState}
 use Rattle.story_run.specs.declared.story.Story.{Story}
 use Rattle.storyhost.specs.declared.sink.Stop.{Stop}
 use Rattle.storyhost.specs.declared.sink.Stop.TheVariants as stop
-use Rattle.storyhost.specs.declared.status.Status.{Status}
-use Rattle.storyhost.specs.declared.status.Status.TheVariants.{Done, BadWords, Refused, ReadFault, WriteFault, NoMemory, LineLimit}
-use Rattle.storyhost.specs.Conversation.{Answering, replies, after}
+use Rattle.storyhost.specs.declared.status.Status.TheVariants.{Done, Refused, NoMemory}
+use Rattle.storyhost.specs.Plain.{Answering, replies, after, PlainLeaves, TalkedPlain, held_by, is_over_held}
+use Rattle.storyhost.specs.declared.ended.Ended.{Ended}
+use Rattle.storyhost.specs.declared.ended.Ended.TheVariants as ended
 use Rattle.storyhost.specs.Headline.{Speech, whole_text}
 use Rattle.storyhost.specs.Lines.{lines, heard}
 use Rattle.storyhost.specs.PipeText.{Host, new_host, host_reply, host_next, many}
@@ -24,12 +25,13 @@ use Rattle.storyhost.specs.RunText.{opened, solo, show_text}
 use Rattle.storyhost.specs.CheckText.{good_line}
 use Rattle.storyhost.specs.Speech.{said_once, run_speech, check_speech, pipe_speech}
 use Rattle.storyhost.specs.Spoken.{Spoken, Leaves}
-use Rattle.storyhost.specs.Status.{status_of_stop}
+use Rattle.storyhost.specs.Status.{status_of_end, status_of_stop}
 use Rattle.storyhost.specs.Streams.{SourceState, SinkState, Wrote}
-use Rattle.storyhost.specs.Talked.{Talked, TalkLeaves}
 use Rattle.storyhost.specs.Writing.{IsPartOf, Stopped}
 use Rattle.storyhost.proofs.StreamsLemmas.{gave_none, wrote_none, wrote_then}
-use Rattle.storyhost.proofs.TalkLemmas.{replies_more, replies_settled, after_settled}
+use Rattle.storyhost.specs.Plain.{Plain, PlainReply}
+use Rattle.storyhost.specs.Talked.{Talked}
+use Rattle.storyhost.proofs.PlainLemmas.{replies_more, replies_settled, after_settled, talked_plain, talked_held}
 use Rattle.storyhost.proofs.WritingLemmas.{stopped_more}
 
 -- an opening, and then the replies to lines
@@ -40,26 +42,24 @@ speech_by by start opening =
 begun_part : (first part text : List ℕ) → IsPartOf part text → IsPartOf (first ++ part) (first ++ text)
 begun_part first part text p = (p.0, ap (λ t. first ++ t) p.1 ∙ sym (append_assoc first part p.0))
 
-talk_leaves : {A : Type 0} (by : Answering A) (start : A) (opening : List ℕ) (status : Status) (read : List ℕ) (now : SourceState) (written : List ℕ)
-    → TalkLeaves status by start read now written → Leaves status (Ok (speech_by by start opening)) read now (opening ++ written)
-talk_leaves by start opening Done read now written t = (ap (λ w. opening ++ w) t.0, t.1)
-talk_leaves by start opening BadWords read now written t = absurd t
-talk_leaves by start opening Refused read now written t = absurd t
-talk_leaves by start opening ReadFault read now written t = ap (λ w. opening ++ w) t
-talk_leaves by start opening WriteFault read now written t = begun_part opening written (replies by start (lines read)) t
-talk_leaves by start opening NoMemory read now written t = begun_part opening written (replies by start (lines read)) t
-talk_leaves by start opening LineLimit read now written t = (ap (λ w. opening ++ w) t.0, t.1)
+talk_leaves : {A : Type 0} (by : Answering A) (start : A) (opening : List ℕ) (e : Ended) (read : List ℕ) (now : SourceState) (written : List ℕ)
+    → PlainLeaves e by start read now written → Leaves (status_of_end e) (Ok (speech_by by start opening)) read now (opening ++ written)
+talk_leaves by start opening ended.Done read now written t = (ap (λ w. opening ++ w) t.0, t.1)
+talk_leaves by start opening ended.ReadFault read now written t = ap (λ w. opening ++ w) t
+talk_leaves by start opening ended.WriteFault read now written t = begun_part opening written (replies by start (lines read)) t
+talk_leaves by start opening ended.NoMemory read now written t = begun_part opening written (replies by start (lines read)) t
+talk_leaves by start opening ended.LineLimit read now written t = (ap (λ w. opening ++ w) t.0, t.1)
 
 -- the opening was written, and then lines were answered
-pub spoken_by : {A : Type 0} (by : Answering A) (start : A) (opening : List ℕ) {input now : SourceState} {output mid new : SinkState} (status : Status)
-    → Wrote output mid opening → Talked by start input now mid new status → Spoken (Ok (speech_by by start opening)) input now output new status
-spoken_by by start opening {input} {now} {output} {mid} {new} status wrote t = record {
+pub spoken_by : {A : Type 0} (by : Answering A) (start : A) (opening : List ℕ) {input now : SourceState} {output mid new : SinkState} (e : Ended)
+    → Wrote output mid opening → TalkedPlain by start input now mid new e → Spoken (Ok (speech_by by start opening)) input now output new (status_of_end e)
+spoken_by by start opening {input} {now} {output} {mid} {new} e wrote t = record {
   read = t.read;
   written = opening ++ t.written;
   gave = t.gave;
   within = t.within;
   wrote = wrote_then wrote t.wrote;
-  leaves = talk_leaves by start opening status t.read now t.written t.leaves;
+  leaves = talk_leaves by start opening e t.read now t.written t.leaves;
 }
 
 -- no line is answered after the opening
@@ -153,12 +153,13 @@ run_over story budget input {output} {new} start is over wrote =
     spoken_over solo (opened story budget) (show_text (opened story budget)) input
     (subst (λ (w : WorldState). Wrote output new (show_text w)) is wrote) (ap is_over (sym is) ∙ over)
 
-pub run_talked : (story : Story) (budget : ℕ) {input now : SourceState} {output mid new : SinkState} (status : Status) (start : WorldState) → start ≡ opened story budget
-    → Wrote output mid (show_text start) → Talked solo start input now mid new status → Spoken (Ok (run_speech (Some story) budget)) input now output new status
-run_talked story budget {input} {now} {output} {mid} {new} status start is wrote talked =
-    spoken_by solo (opened story budget) (show_text (opened story budget)) status
+pub run_talked : (story : Story) (budget : ℕ) {input now : SourceState} {output mid new : SinkState} (e : Ended) (start : WorldState) → start ≡ opened story budget
+    → Wrote output mid (show_text start) → {new_player : Option WorldState} → Talked (Plain (held_by solo)) (PlainReply (held_by solo)) (is_over_held solo) (Some start) new_player input now mid new e
+    → Spoken (Ok (run_speech (Some story) budget)) input now output new (status_of_end e)
+run_talked story budget {input} {now} {output} {mid} {new} e start is wrote talked =
+    spoken_by solo (opened story budget) (show_text (opened story budget)) e
     (subst (λ (w : WorldState). Wrote output mid (show_text w)) is wrote)
-    (subst (λ (w : WorldState). Talked solo w input now mid new status) is talked)
+    (subst (λ (w : WorldState). TalkedPlain solo w input now mid new e) is (talked_held solo e talked))
 
 abbrev with_histories : Host → List (List Command) → Host
 with_histories host histories = record host { histories = histories }
@@ -237,9 +238,9 @@ pub steady_pipe : (stories : List Story) (budget : ℕ) → IsSteady (pipe_speec
 steady_pipe stories budget = subst IsSteady (sym (pipe_is stories budget)) (steady_by many (new_host stories budget) [])
 
 -- a host answered lines
-pub pipe_talked : (stories : List Story) (budget : ℕ) {input now : SourceState} {output new : SinkState} (status : Status) (start : Host) → start ≡ new_host stories budget
-    → Talked many start input now output new status → Spoken (Ok (pipe_speech stories budget)) input now output new status
-pipe_talked stories budget {input} {now} {output} {new} status start is talked =
-    subst (λ (s : Speech). Spoken (Ok s) input now output new status) (sym (pipe_is stories budget))
-    (spoken_by many (new_host stories budget) [] status (wrote_none output)
-    (subst (λ (h : Host). Talked many h input now output new status) is talked))
+pub pipe_talked : (stories : List Story) (budget : ℕ) {input now : SourceState} {output new : SinkState} (e : Ended) (start : Host) → start ≡ new_host stories budget
+    → {new_host' : Host} → Talked (Plain many) (PlainReply many) (λ _. false) start new_host' input now output new e → Spoken (Ok (pipe_speech stories budget)) input now output new (status_of_end e)
+pipe_talked stories budget {input} {now} {output} {new} e start is talked =
+    subst (λ (s : Speech). Spoken (Ok s) input now output new (status_of_end e)) (sym (pipe_is stories budget))
+    (spoken_by many (new_host stories budget) [] e (wrote_none output)
+    (subst (λ (h : Host). TalkedPlain many h input now output new e) is (talked_plain many e talked)))

@@ -1,5 +1,5 @@
 -- The commands of the command line, as `clap` is told of them (own).
-use Rattle.std.specs.Prelude.{List, Option, Some, true, codes}
+use Rattle.std.specs.Prelude.{Some, true, codes}
 use Rattle.clap.specs.Simple.{App, new_app, new_rule, on_top, with_rule, with_subcommand}
 use Rattle.clap.specs.Walk.{Rule}
 use Rattle.clap.specs.declared.builder.action.ArgAction.TheVariants.{Append}

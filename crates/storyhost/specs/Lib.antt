@@ -14,6 +14,7 @@ pub mod Status
 pub mod Follows
 pub mod Spoken
 pub mod Talked
+pub mod Plain
 pub mod Hears
 pub mod Hearing
 pub mod Writing

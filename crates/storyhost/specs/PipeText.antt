@@ -7,7 +7,7 @@ use Rattle.line_words.specs.declared.reply.No.TheVariants.{LongLine}
 use Rattle.line_words.specs.declared.reply.Reply.TheVariants.{No}
 use Rattle.session_core.specs.Sessions.{reply_to, after_line, replies_to}
 use Rattle.story_run.specs.declared.story.Story.{Story}
-use Rattle.storyhost.specs.Conversation.{Answering}
+use Rattle.storyhost.specs.Plain.{Answering}
 
 -- the output of `pipe`: the replies to the lines, from 64 sessions that have accepted nothing
 abbrev pub pipe_text : List Story → ℕ → List (List ℕ) → List ℕ

@@ -9,7 +9,7 @@ use Rattle.story_run.specs.Solo.{opening, is_wanted, turned, is_over, shown}
 use Rattle.story_run.specs.World.{WorldState}
 use Rattle.story_run.specs.declared.setup.Setup.{Setup}
 use Rattle.story_run.specs.declared.story.Story.{Story}
-use Rattle.storyhost.specs.Conversation.{Answering, replies, after}
+use Rattle.storyhost.specs.Plain.{Answering, replies, after}
 
 -- a story that is played alone: seed 1, a screen of 80 by 24
 abbrev pub alone : ℕ → Setup

@@ -1,5 +1,7 @@
 -- Exit statuses (own).
 use Rattle.std.specs.Prelude.{ℕ, ◌==◌, if◌then◌else◌, Option, None, Some}
+use Rattle.storyhost.specs.declared.ended.Ended.{Ended}
+use Rattle.storyhost.specs.declared.ended.Ended.TheVariants as ended
 use Rattle.storyhost.specs.declared.sink.Stop.{Stop}
 use Rattle.storyhost.specs.declared.sink.Stop.TheVariants as stop
 use Rattle.storyhost.specs.declared.status.Status.{Status}
@@ -17,7 +19,19 @@ status_of code =
     (if code == 7 then Some NoMemory else
     (if code == 10 then Some LineLimit else None))))))
 
+-- how a conversation ends by a reply that was not written whole
+abbrev pub ended_by : Stop → Ended
+ended_by stop.Output = ended.WriteFault
+ended_by stop.Memory = ended.NoMemory
+
+-- the status of a conversation
+abbrev pub status_of_end : Ended → Status
+status_of_end ended.Done = Done
+status_of_end ended.ReadFault = ReadFault
+status_of_end ended.WriteFault = WriteFault
+status_of_end ended.NoMemory = NoMemory
+status_of_end ended.LineLimit = LineLimit
+
 -- the status of a text that was not written whole
 abbrev pub status_of_stop : Stop → Status
-status_of_stop stop.Output = WriteFault
-status_of_stop stop.Memory = NoMemory
+status_of_stop stop = status_of_end (ended_by stop)

@@ -1,13 +1,13 @@
 -- What a conversation over a source and a sink leaves (own).
-use Rattle.std.specs.Prelude.{◌≡◌, ℕ, ◌^◌, ◌≤◌, ◌⊎◌, List, length, true}
+use Rattle.std.specs.Prelude.{◌≡◌, ◌⊎◌, ℕ, ◌^◌, ◌≤◌, List, ◌++◌, length, map, Bool, true}
 use Rattle.std.specs.Io.KnownBytes.{IsAtEnd}
-use Rattle.storyhost.specs.Streams.{SourceState, SinkState, Gave, Wrote}
-use Rattle.storyhost.specs.Lines.{lines, talk, IsWithinLimits, ReachesLimit}
-use Rattle.storyhost.specs.Conversation.{Answering, replies, after}
-use Rattle.storyhost.specs.Writing.{IsPartOf}
-use Rattle.storyhost.specs.declared.status.Status.{Status}
-use Rattle.storyhost.specs.declared.status.Status.TheVariants.{Done, BadWords, Refused, ReadFault}
-use Rattle.storyhost.specs.declared.status.Status.TheVariants.{WriteFault, NoMemory, LineLimit}
+use Rattle.storyhost.specs.Streams.{SourceState, SinkState, Gave}
+use Rattle.storyhost.specs.Lines.{lines, talk, heard, IsWithinLimits, ReachesLimit}
+use Rattle.storyhost.specs.Conversation.{Line, Turn, Answered, StopsBehind}
+use Rattle.storyhost.specs.declared.sink.Stop.TheVariants.{Output, Memory}
+use Rattle.storyhost.specs.declared.ended.Ended.{Ended}
+use Rattle.storyhost.specs.declared.ended.Ended.TheVariants.{Done, ReadFault, WriteFault, NoMemory}
+use Rattle.storyhost.specs.declared.ended.Ended.TheVariants.{LineLimit}
 
 -- the input was read to its end, within the limits of a connection
 pub record IsReadToEnd (read : List ℕ) (now : SourceState) : Type 0 where
@@ -15,26 +15,40 @@ pub record IsReadToEnd (read : List ℕ) (now : SourceState) : Type 0 where
   pub at_end : IsAtEnd now.left
   pub within : IsWithinLimits read
 
--- what a conversation leaves, by the bytes read and the bytes written
-abbrev pub TalkLeaves : {S : Type 0} → Status → Answering S → S → List ℕ → SourceState
-    → List ℕ → Type 0
-TalkLeaves Done by start read now written =
-    (written ≡ replies by start (lines read))
-    × (IsReadToEnd read now ⊎ (by.is_over (after by start (lines read)) ≡ true))
-TalkLeaves ReadFault by start read now written = written ≡ replies by start (lines read)
-TalkLeaves WriteFault by start read now written = IsPartOf written (replies by start (lines read))
-TalkLeaves NoMemory by start read now written = IsPartOf written (replies by start (lines read))
-TalkLeaves LineLimit by start read now written =
-    (written ≡ replies by start (talk read)) × ReachesLimit read
-TalkLeaves BadWords by start read now written = ⊥
-TalkLeaves Refused by start read now written = ⊥
+-- these are the first of the lines
+abbrev pub AreFirst : List (List ℕ) → List (List ℕ) → Type 0
+AreFirst some all = (more : List (List ℕ)) × (all ≡ some ++ more)
 
--- a conversation: what was read and what was written, told or not
-pub record Talked {S : Type 0} (by : Answering S) (start : S) (input now : SourceState)
-    (output new : SinkState) (status : Status) : Type 0 where
+-- which of the lines read were answered, by how it ended
+abbrev pub AnswersOf : Ended → List ℕ → SourceState → Bool → List (List ℕ) → Type 0
+AnswersOf Done read now over answered =
+    (answered ≡ lines read) × IsReadToEnd read now
+    ⊎ AreFirst answered (lines read) × (over ≡ true)
+AnswersOf ReadFault read now over answered = answered ≡ lines read
+AnswersOf WriteFault read now over answered = AreFirst answered (lines read)
+AnswersOf NoMemory read now over answered = AreFirst answered (lines read)
+AnswersOf LineLimit read now over answered = (answered ≡ talk read) × ReachesLimit read
+
+-- how they were answered, by how it ended
+abbrev pub Converses : {A : Type 0} → Ended → Turn A → Turn A → (A → Bool) → A → List Line → A
+    → SinkState → SinkState → Type 0
+Converses Done turn cut over old lines new output now =
+    Answered turn over old lines new output now
+Converses ReadFault turn cut over old lines new output now =
+    Answered turn over old lines new output now
+Converses WriteFault turn cut over old lines new output now =
+    StopsBehind turn cut over old lines new output now Output
+Converses NoMemory turn cut over old lines new output now =
+    StopsBehind turn cut over old lines new output now Memory
+Converses LineLimit turn cut over old lines new output now =
+    Answered turn over old lines new output now
+
+-- a conversation: what was read, which of its lines were answered, how, and the state after them
+pub record Talked {A : Type 0} (turn cut : Turn A) (over : A → Bool) (old new : A)
+    (input now : SourceState) (output written : SinkState) (ended : Ended) : Type 0 where
   pub read : List ℕ
-  pub written : List ℕ
+  pub answered : List (List ℕ)
   pub gave : Gave input now read
   pub within : length read ≤ 2 ^ 31
-  pub wrote : Wrote output new written
-  pub leaves : TalkLeaves status by start read now written
+  pub which : AnswersOf ended read now (over new) answered
+  pub how : Converses ended turn cut over old (map heard answered) new output written

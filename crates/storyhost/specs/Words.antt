@@ -1,5 +1,5 @@
 -- What the words of the command line ask for (own).
-use Rattle.std.specs.Prelude.{ℕ, ◌≡◌, if◌then◌else◌, List, [], ◌∷◌, length, map}
+use Rattle.std.specs.Prelude.{ℕ, if◌then◌else◌, List, [], ◌∷◌, length, map}
 use Rattle.std.specs.Prelude.{◌&&◌, nat_le, nat_lt, slice_index, option_and_then, Option, None}
 use Rattle.std.specs.Prelude.{Some, codes}
 use Rattle.std.specs.Str.{bytes_eq, all_ascii_digits}

@@ -6,11 +6,11 @@ ghost use Rattle.storyhost.specs.Streams.{Gave, given, IsCountWithin};
 ghost use Rattle.storyhost.specs.Talked.{Talked};
 
 use crate::answers::Answers;
+use crate::ended::Ended;
 use crate::hear::{Heard, hear};
 use crate::line_buffer::LineBuffer;
 use crate::sink::{Sink, Stop};
 use crate::source::{Got, Source};
-use crate::status::Status;
 use std::alloc::Global;
 
 /// The most bytes of a connection.
@@ -34,18 +34,18 @@ fn read_at_most<S: Source>(input: &mut S, buffer: &mut [u8], most: usize) -> Got
 /// Reads lines and answers them until no more are answered, the input ends or a limit is reached.
 pub fn converse<A: Answers, S: Source, K: Sink>(
     alloc: Global,
-    mut speaker: A,
+    speaker: &mut A,
     input: &mut S,
     output: &mut K,
     buffer: &mut [u8],
-) -> Status
-    requires going { A.answering.is_over speaker ≡ false }
+) -> Ended
+    requires going { A.over speaker.old ≡ false }
     requires buffer { 0 < length buffer.old }
-    ensures value { Talked A.answering speaker (S.source input.old) (S.source input.new)
-        (K.sink output.old) (K.sink output.new) result }
-    ensures read_fault { result ≡ Status.ReadFault
+    ensures value { Talked A.turn A.cut A.over speaker.old speaker.new
+        (S.source input.old) (S.source input.new) (K.sink output.old) (K.sink output.new) result }
+    ensures read_fault { result ≡ Ended.ReadFault
         → Rose (S.source input.old).faults (S.source input.new).faults }
-    ensures write_fault { result ≡ Status.WriteFault
+    ensures write_fault { result ≡ Ended.WriteFault
         → Rose (K.sink output.old).faults (K.sink output.new).faults }
 {
     let mut line = LineBuffer::new(alloc);
@@ -54,17 +54,17 @@ pub fn converse<A: Answers, S: Source, K: Sink>(
     while room > 0 {
         let size = match read_at_most(input, buffer, room) {
             Got::Bytes(size) => size,
-            Got::End => return Status::Done,
-            Got::Failed => return Status::ReadFault,
+            Got::End => return Ended::Done,
+            Got::Failed => return Ended::ReadFault,
         };
         room -= size;
         let (piece, _) = buffer.split_at(size);
-        speaker = match hear(alloc, speaker, &mut line, &mut count, piece, output) {
-            Ok(Heard::More(speaker)) => speaker,
-            Ok(Heard::Over) => return Status::Done,
-            Ok(Heard::Limit) => return Status::LineLimit,
-            Err(stop) => return stop.status(),
-        };
+        match hear(alloc, speaker, &mut line, &mut count, piece, output) {
+            Ok(Heard::More) => {}
+            Ok(Heard::Over) => return Ended::Done,
+            Ok(Heard::Limit) => return Ended::LineLimit,
+            Err(stop) => return stop.ended(),
+        }
     }
-    Status::LineLimit
+    Ended::LineLimit
 }

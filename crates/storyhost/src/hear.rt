@@ -1,10 +1,6 @@
 //! The lines that end in a piece of input.
-ghost use Rattle.std.specs.Prelude.{◌≡◌, ◌<◌, ◌^◌, OnOk, IfOk, IfErr, false};
-ghost use Rattle.storyhost.specs.Streams.{Wrote};
-ghost use Rattle.storyhost.specs.Writing.{Stopped};
-ghost use Rattle.storyhost.specs.Conversation.{replies_heard};
-ghost use Rattle.storyhost.specs.Hearing.{heard_from};
-ghost use Rattle.storyhost.specs.Hears.{LeadsTo, said};
+ghost use Rattle.std.specs.Prelude.{◌≡◌, ◌<◌, ◌^◌, false, IfOk, IfErr};
+ghost use Rattle.storyhost.specs.Hears.{LeadsTo, StopsWithin};
 
 use crate::answers::Answers;
 use crate::line_buffer::LineBuffer;
@@ -15,10 +11,10 @@ use std::alloc::Global;
 const MOST_LINES: u32 = 1 << 20;
 
 /// What a piece of input leads to.
-#[derive(Drop)]
-pub enum Heard<A: Answers> {
+#[derive(Clone, Copy, Debug, PartialEq, Eq)]
+pub enum Heard {
     /// More lines are answered.
-    More(A),
+    More,
     /// No further line is answered.
     Over,
     /// The connection's last line was answered.
@@ -28,27 +24,30 @@ pub enum Heard<A: Answers> {
 /// Answers the lines that end in a piece of input.
 pub fn hear<A: Answers, K: Sink>(
     alloc: Global,
-    mut speaker: A,
+    speaker: &mut A,
     line: &mut LineBuffer,
     count: &mut u32,
     piece: &[u8],
     output: &mut K,
-) -> Result<Heard<A>, Stop>
-    requires going { A.answering.is_over speaker ≡ false }
+) -> Result<Heard, Stop>
+    requires going { A.over speaker.old ≡ false }
     requires room { count.old < 2 ^ 20 }
-    ensures leads { IfOk result (λ heard.
-        LeadsTo A.answering speaker line.old count.old piece.now heard line.new count.new) }
-    ensures said { IfOk result (λ heard. Wrote (K.sink output.old) (K.sink output.new)
-        (said A.answering speaker line.old count.old piece.now heard)) }
-    ensures err { IfErr result (λ cause. Stopped (K.sink output.old) (K.sink output.new)
-        (replies_heard A.answering speaker (heard_from line.old piece.now)) cause) }
+    ensures leads { IfOk result (λ heard. LeadsTo A.turn A.over speaker.old line.old count.old
+        piece.now heard speaker.new line.new count.new (K.sink output.old) (K.sink output.new)) }
+    ensures err { IfErr result (λ cause. StopsWithin A.turn A.cut A.over speaker.old line.old
+        piece.now speaker.new (K.sink output.old) (K.sink output.new) cause) }
 {
     for byte in piece {
         if *byte != b'\n' {
-            line.push(*byte)?;
-            continue;
+            match line.push(*byte) {
+                Ok(()) => continue,
+                Err(_) => return Err(Stop::Memory),
+            }
         }
-        speaker = speaker.answer(alloc, line.line(), output)?;
+        match speaker.answer(alloc, line.line(), output) {
+            Ok(()) => {}
+            Err(stop) => return Err(stop),
+        }
         line.clear();
         *count += 1;
         if speaker.is_over() {
@@ -58,5 +57,5 @@ pub fn hear<A: Answers, K: Sink>(
             return Ok(Heard::Limit);
         }
     }
-    Ok(Heard::More(speaker))
+    Ok(Heard::More)
 }

@@ -6,6 +6,7 @@ mod check;
 mod command_line;
 mod converse;
 mod edge;
+mod ended;
 mod hear;
 mod help;
 mod line_buffer;

@@ -52,36 +52,34 @@ impl<'h, 'i> Host<'h, 'i> {
 }
 
 impl<'h, 'i> Answers for Host<'h, 'i> {
+    ghost use Rattle.std.specs.Prelude.{false};
+    ghost use Rattle.storyhost.specs.Plain.{Plain, PlainReply};
     ghost use Rattle.storyhost.specs.PipeText.{many};
 
-    ghost answering = { many };
+    ghost turn = { Plain many };
+
+    ghost cut = { PlainReply many };
+
+    ghost over = { λ _. false };
 
     fn is_over(&self) -> bool {
         false
     }
 
     fn answer<K: Sink>(
-        self,
+        &mut self,
         alloc: Global,
         line: Option<&[u8]>,
         output: &mut K,
-    ) -> Result<Self, Stop> {
-        let Host {
-            stories,
-            budget,
-            mut sessions,
-        } = self;
+    ) -> Result<(), Stop> {
         let reply = match line {
-            Some(line) => sessions.answer(alloc, stories, budget, line)?,
+            Some(line) => self
+                .sessions
+                .answer(alloc, self.stories, self.budget, line)?,
             None => Reply::No(No::LongLine),
         };
         let text = write_reply(alloc, &reply)?;
-        write_all(output, &text)?;
-        Ok(Host {
-            stories,
-            budget,
-            sessions,
-        })
+        write_all(output, &text)
     }
 }
 
@@ -102,8 +100,8 @@ pub fn pipe<S: Source, K: Sink>(
     ensures write_fault { result ≡ Status.WriteFault
         → Rose (K.sink output.old).faults (K.sink output.new).faults }
 {
-    let Ok(host) = Host::new(alloc, stories, budget) else {
+    let Ok(mut host) = Host::new(alloc, stories, budget) else {
         return Status::NoMemory;
     };
-    converse(alloc, host, input, output, buffer)
+    converse(alloc, &mut host, input, output, buffer).status()
 }

@@ -1,9 +1,12 @@
 //! How `run` answers the lines of its player.
-ghost use Rattle.std.specs.Prelude.{◌≡◌, ◌<◌, OnOk, IfOk, IfErr, true};
+ghost use Rattle.std.specs.Prelude.{◌≡◌, ◌<◌, OnOk, IfOk, IfErr, true, Some};
+ghost use Rattle.std.specs.Option.{option_map};
 ghost use Rattle.story_run.specs.Solo.{is_wanted, turned};
 ghost use Rattle.storyhost.specs.Streams.{Wrote};
 ghost use Rattle.storyhost.specs.Writing.{Stopped};
+ghost use Rattle.storyhost.specs.Lines.{IsHeard};
 ghost use Rattle.storyhost.specs.RunText.{show_text, input_of, input_next, input_reply};
+ghost use Rattle.storyhost.specs.RunText.{line_next, line_reply};
 
 use crate::answers::Answers;
 use crate::sink::{Sink, Stop};
@@ -11,7 +14,7 @@ use crate::write::write_all;
 use glk_input::Input;
 use line_words::{LineFault, Play, read_play};
 use std::alloc::{AllocError, Global};
-use std::marker::Brand;
+use std::marker::{Brand, Model};
 use std::sync::ledger::{Blank, Ledger};
 use story_run::{Steps, World};
 
@@ -83,33 +86,91 @@ fn reply_to<'i, K: Sink>(
     Ok(world)
 }
 
-impl<'i> Answers for World<'i> {
+/// Writes the reply to a line, or to one that was dropped, and plays its turn.
+fn answer_line<'i, K: Sink>(
+    alloc: Global,
+    world: World<'i>,
+    line: Option<&[u8]>,
+    output: &mut K,
+) -> Result<World<'i>, Stop>
+    requires { IsHeard (option_map (λ l. l.now) line) }
+    ensures next { IfOk result (λ now.
+        now ≡ line_next world.entry (option_map (λ l. l.now) line.entry)) }
+    ensures reply { OnOk result (Wrote (K.sink output.old) (K.sink output.new)
+        (line_reply world.entry (option_map (λ l. l.now) line.entry))) }
+    ensures err { IfErr result (λ cause. Stopped (K.sink output.old) (K.sink output.new)
+        (line_reply world.entry (option_map (λ l. l.now) line.entry)) cause) }
+{
+    let Some(line) = line else {
+        write_all(output, b"NO 14\n")?;
+        return Ok(world);
+    };
+    match read_play(alloc, line) {
+        Ok(play) => reply_to(alloc, world, &input_of(play), output),
+        Err(LineFault::BadLine) => {
+            write_all(output, b"NO 1\n")?;
+            Ok(world)
+        }
+        Err(LineFault::LongLine) => unreachable!("a line that is heard isn't too long"),
+        Err(LineFault::NoMemory) => Err(Stop::Memory),
+    }
+}
+
+/// The one who plays a story. Its world is gone once memory was wanted or the output failed.
+#[derive(Drop)]
+pub struct Player<'i> {
+    world: Option<World<'i>>,
+}
+
+impl<'i> Model for Player<'i> {
+    ghost use Rattle.std.specs.Prelude.{Option};
+    ghost use Rattle.story_run.specs.World.{WorldState};
+
+    ghost Value = { Option WorldState };
+
+    ghost view = { λ player. player.world };
+}
+
+impl<'i> Player<'i> {
+    pub fn new(world: World<'i>) -> Player<'i>
+        ensures { result ≡ Some world.entry }
+    {
+        Player { world: Some(world) }
+    }
+}
+
+impl<'i> Answers for Player<'i> {
+    ghost use Rattle.storyhost.specs.Plain.{Plain, PlainReply, held_by, is_over_held};
     ghost use Rattle.storyhost.specs.RunText.{solo};
 
-    ghost answering = { solo };
+    ghost turn = { Plain (held_by solo) };
+
+    ghost cut = { PlainReply (held_by solo) };
+
+    ghost over = { is_over_held solo };
 
     fn is_over(&self) -> bool {
-        self.is_over()
+        match &self.world {
+            Some(world) => world.is_over(),
+            None => true,
+        }
     }
 
     fn answer<K: Sink>(
-        self,
+        &mut self,
         alloc: Global,
         line: Option<&[u8]>,
         output: &mut K,
-    ) -> Result<Self, Stop> {
-        let Some(line) = line else {
-            write_all(output, b"NO 14\n")?;
-            return Ok(self);
+    ) -> Result<(), Stop> {
+        let Some(world) = self.world.take() else {
+            unreachable!("a story that is over answers no line");
         };
-        match read_play(alloc, line) {
-            Ok(play) => reply_to(alloc, self, &input_of(play), output),
-            Err(LineFault::BadLine) => {
-                write_all(output, b"NO 1\n")?;
-                Ok(self)
+        match answer_line(alloc, world, line, output) {
+            Ok(world) => {
+                self.world = Some(world);
+                Ok(())
             }
-            Err(LineFault::LongLine) => unreachable!("a line that is heard isn't too long"),
-            Err(LineFault::NoMemory) => Err(Stop::Memory),
+            Err(stop) => Err(stop),
         }
     }
 }

@@ -6,7 +6,7 @@ ghost use Rattle.storyhost.specs.Speech.{run_speech};
 ghost use Rattle.storyhost.specs.Spoken.{Spoken};
 
 use crate::converse::converse;
-use crate::player::say;
+use crate::player::{Player, say};
 use crate::sink::Sink;
 use crate::source::Source;
 use crate::status::Status;
@@ -55,5 +55,6 @@ pub fn run<S: Source, K: Sink>(
     if world.is_over() {
         return Status::Done;
     }
-    converse(alloc, world, input, output, buffer)
+    let mut player = Player::new(world);
+    converse(alloc, &mut player, input, output, buffer).status()
 }

@@ -2,6 +2,7 @@
 ghost use Rattle.std.specs.Prelude.{◌≡◌, length};
 ghost use Rattle.storyhost.specs.declared.sink.Stop.TheVariants.{Memory};
 
+use crate::ended::Ended;
 use crate::status::Status;
 use std::alloc::AllocError;
 
@@ -46,15 +47,22 @@ impl From<AllocError> for Stop {
 }
 
 impl Stop {
-    ghost use Rattle.storyhost.specs.Status.{status_of_stop};
+    ghost use Rattle.storyhost.specs.Status.{ended_by, status_of_stop};
+
+    /// How a conversation ends by it.
+    pub fn ended(self) -> Ended
+        ensures { result ≡ ended_by self }
+    {
+        match self {
+            Stop::Output => Ended::WriteFault,
+            Stop::Memory => Ended::NoMemory,
+        }
+    }
 
     /// The status that the program ends with.
     pub fn status(self) -> Status
         ensures { result ≡ status_of_stop self }
     {
-        match self {
-            Stop::Output => Status::WriteFault,
-            Stop::Memory => Status::NoMemory,
-        }
+        self.ended().status()
     }
 }

@@ -5,4 +5,4 @@ pub returns-in_default-clause-value : goal.returns-in_default-clause-value
 returns-in_default-clause-value g c = spoken_nothing _ _ _
 
 pub returns-clause-value : goal.returns-clause-value
-returns-clause-value g c = pipe_talked _ _ _ c.in-Ok.host c.in-Ok.ensures c.converse.ensures.value
+returns-clause-value g c = rw c.status.ensures (pipe_talked _ _ _ c.in-Ok.host c.in-Ok.ensures c.converse.ensures.value)

@@ -31,6 +31,6 @@ returns-then-is_over-clause-value g c =
 
 pub returns-clause-value : goal.returns-clause-value
 returns-clause-value g c =
-    rw (← c.in-Some.ensures.value)
+    rw (← c.in-Some.ensures.value, c.status-2.ensures)
     (run_talked c.in-Some.story.now _ _ c.in-Ok.world (c.in-Ok.ensures.value ∙ ap (λ s. opening c.in-Some.story.now.image s) c.alone.ensures)
-    c.in-Ok-say.ensures.ok c.converse.ensures.value)
+    c.in-Ok-say.ensures.ok (rw c.new-player.ensures at c.converse.ensures.value))

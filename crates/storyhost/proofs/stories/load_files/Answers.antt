@@ -1,4 +1,4 @@
-use Rattle.std.proofs.Common.{◌∙◌, ap, sym, arith, inr, is_ok, List, ℕ, ◌≡◌}
+use Rattle.std.proofs.Common.{◌∙◌, ap, sym, arith, inr, is_ok, List, ℕ}
 use Rattle.storyhost.specs.StoryFile.{story_of}
 use Rattle.storyhost.proofs.StoriesLemmas.{loaded_more, loaded_last}
 use Rattle.storyhost.proofs.stories.load_files.Goals as goal

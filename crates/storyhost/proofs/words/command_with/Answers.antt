@@ -1,4 +1,4 @@
-use Rattle.std.proofs.Common.{◌≡◌, ◌<◌, ◌≤◌, ◌∙◌, ap, sym, refl, arith, List, length, map, Option, None, Some, ℕ, Bool, true, false, nat_le, codes, option_map}
+use Rattle.std.proofs.Common.{◌≡◌, ◌<◌, ◌≤◌, ◌∙◌, ap, refl, arith, List, length, map, Option, None, Some, ℕ, codes, option_map}
 use Rattle.std.proofs.lemmas.Bool.Decides.{nat_tests}
 use Rattle.std.proofs.lemmas.List.{length-map}
 use Rattle.clap.proofs.WalkLemmas.{first_value-rows, raw_values-rows}
@@ -6,7 +6,7 @@ use Rattle.clap.specs.Matches.{first_value, found_of, matched_of, raw_values}
 use Rattle.clap.specs.Walk.{Text, all_of, first_of, rows_of}
 use Rattle.clap.specs.declared.parser.matches.Found.{Found}
 use Rattle.std.specs.Borrow.{Bor}
-use Rattle.storyhost.specs.Words.{Asked, asked_for, budget_given}
+use Rattle.storyhost.specs.Words.{asked_for, budget_given}
 use Rattle.storyhost.specs.declared.words.Action.{Action}
 use Rattle.storyhost.proofs.words.command_with.Goals as goal
 
