@@ -126,6 +126,14 @@ fn written_again(alloc: Global, bytes: &[u8], image: &Image<'_>) -> Result<Vec<u
     }
 }
 
+/// The same, whatever its memory holds.
+fn written_of(alloc: Global, bytes: &[u8], image: &Image<'_>) -> Result<Vec<u8>, Fail> {
+    match read(alloc, bytes, image) {
+        Ok(state) => Ok(write(alloc, &state, image)?),
+        Err(_) => Err(Fail::from("a state")),
+    }
+}
+
 /// Blocks of 32 bytes at 0x210 and of 16 at 0x200, a heap of its own story's, out of order.
 const HEAP: &[u8; 24] = b"\0\0\x02\0\0\0\0\x02\0\0\x02\x10\0\0\0\x20\0\0\x02\0\0\0\0\x10";
 
@@ -135,10 +143,7 @@ fn a_heap_is_written_by_its_addresses(rt: HostRuntime) -> Result<(), Fail> {
     let image = Image::parse(&file).ok().ok_or("an image")?;
     let parts: [Part; 3] = [(b"Stks", &STACK), (b"CMem", &[0, 0, 3, 0]), (b"MAll", HEAP)];
     let bytes = form(rt.alloc(), &file[..128], &parts)?;
-    let state = read(rt.alloc(), bytes.as_slice(), &image)
-        .ok()
-        .ok_or("a state")?;
-    let written = write(rt.alloc(), &state, &image)?;
+    let written = written_of(rt.alloc(), bytes.as_slice(), &image)?;
     let chunk = b"MAll\0\0\0\x18\0\0\x02\0\0\0\0\x02\0\0\x02\0\0\0\0\x10\0\0\x02\x10\0\0\0\x20";
     assert!(rt; written.as_slice().ends_with(chunk));
     Ok(())
