@@ -149,8 +149,8 @@ module _ (stories : List Story) (budget : ℕ) (premise : AreGiven stories budge
           subst
               (λ (l : List ℕ). IsShut (spelled v.rows) l)
               (sym (seen_is (length (spelled v.rows)) (0 ∷ []) fits))
-              (unsure_written (spelled v.rows) (past_gate fact.1.0) v.disk.seen
-              (length (spelled v.rows)) refl old),
+              (unsure_written (spelled v.rows) (past_gate fact.1.0)
+              (length (spelled v.rows)) refl v.disk.seen old),
         )
         (λ k z at f. f)
 
@@ -187,8 +187,8 @@ module _ (stories : List Story) (budget : ℕ) (premise : AreGiven stories budge
           subst
               (λ (l : List ℕ). IsUnsure (spelled v.rows) (past_gate r) l)
               (sym (seen_is (length (spelled v.rows) + 1) (past_gate r) fits))
-              (shut_written (spelled v.rows) (past_gate r) v.disk.seen
-              (length (spelled v.rows) + 1) refl old),
+              (shut_written (spelled v.rows) (past_gate r)
+              (length (spelled v.rows) + 1) refl v.disk.seen old),
         )
         (λ k z at f. f)
 
@@ -223,8 +223,8 @@ module _ (stories : List Story) (budget : ℕ) (premise : AreGiven stories budge
           opened_shut v.rows r (past_gate r) (disk_after call true reads v.disk).seen refl
               (subst (λ (l : List ℕ). Holds l 0 (spelled v.rows ++ 1 ∷ past_gate r))
               (sym (seen_is (length (spelled v.rows)) (1 ∷ []) fits))
-              (unsure_opened (spelled v.rows) (past_gate r) v.disk.seen
-              (length (spelled v.rows)) refl old)),
+              (unsure_opened (spelled v.rows) (past_gate r)
+              (length (spelled v.rows)) refl v.disk.seen old)),
         )
         (λ k z at f. f)
 

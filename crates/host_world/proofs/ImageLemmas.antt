@@ -232,8 +232,8 @@ module _ (stories : List Story) (budget : ℕ) where
         let old : IsUnsure (spelled w.rows) (past_gate u) from.0 =
         subst (λ (o : Option Row). StandsAt w.rows o from.0) is (all from.0 from.1) in
         subst (λ (o : Option Row). StandsAt w.rows o c) (sym is)
-        (unsure_torn (spelled w.rows) (past_gate u) c from.0
-        (length (spelled w.rows)) refl old from.2)
+        (unsure_torn (spelled w.rows) (past_gate u) (length (spelled w.rows)) refl c from.0 old
+        from.2)
 
     past_write : w.uncertain ≡ None → All w.disk → (piece : List ℕ) (good : Bool) (reads : List ℕ)
         → All (disk_after (Write (length (spelled w.rows) + 1) piece) good reads w.disk)
@@ -242,8 +242,8 @@ module _ (stories : List Story) (budget : ℕ) where
         let old : IsShut (spelled w.rows) from.0 =
         subst (λ (o : Option Row). StandsAt w.rows o from.0) is (all from.0 from.1) in
         subst (λ (o : Option Row). StandsAt w.rows o c) (sym is)
-        (shut_torn (spelled w.rows) c from.0 (length (spelled w.rows) + 1)
-        (length piece) refl old from.2)
+        (shut_torn (spelled w.rows) (length (spelled w.rows) + 1) (length piece) refl c from.0 old
+        from.2)
 
     quiet_sync : IsImage w.disk w.disk.seen → All w.disk → (good : Bool) (reads : List ℕ)
         → All (disk_after Sync good reads w.disk)

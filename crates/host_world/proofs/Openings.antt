@@ -314,9 +314,9 @@ module _ (stories : List Story) (budget : ℕ) (premise : AreGiven stories budge
             subst (λ (l : List ℕ). IsShut (spelled v.rows) l)
                 (sym (seen_is stories budget premise first past v sound reads
                 (length (spelled those)) (0 ∷ []) fits))
-                (unsure_written (spelled v.rows) (past_gate fact.2.0) v.disk.seen
+                (unsure_written (spelled v.rows) (past_gate fact.2.0)
                 (length (spelled those))
-                (ap (λ (l : List Row). length (spelled l)) (sym fact.1)) old),
+                (ap (λ (l : List Row). length (spelled l)) (sym fact.1)) v.disk.seen old),
           )
           (λ k z at f. f)))
       good_well (CloseSync those) fact =
