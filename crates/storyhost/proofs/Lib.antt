@@ -11,3 +11,6 @@ pub mod ToldLemmas
 pub mod MemoryLemmas
 pub mod StopLemmas
 pub mod KindsLemmas
+pub mod OutsideLemmas
+pub mod BorrowLemmas
+pub mod HostLemmas

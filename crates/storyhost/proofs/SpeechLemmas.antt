@@ -1,14 +1,6 @@
 -- How the parts of what a command says make the whole.
-use Rattle.std.proofs.Common.{◌≡◌, ℕ, inr, List, [], ◌∷◌, ◌++◌, refl, sym, ap, ◌∙◌, subst, arith, append_assoc, Option, None, Some, Result, Ok, Err, Bool, true, false}
-use Rattle.std.proofs.Math.Path.{fun_ext}
+use Rattle.std.proofs.Common.{◌≡◌, ℕ, inr, List, [], ◌++◌, refl, sym, ap, ◌∙◌, subst, arith, append_assoc, Option, None, Some, Result, Ok, Err, true}
 use Rattle.std.proofs.lemmas.List.{append-nil}
-use Rattle.std.specs.List.{flat_map}
-use Rattle.line_words.specs.Play.{is_long}
-use Rattle.gate_journal.specs.declared.command.Command.{Command}
-use Rattle.line_words.specs.Reply.{print_reply}
-use Rattle.line_words.specs.declared.reply.No.TheVariants.{LongLine}
-use Rattle.line_words.specs.declared.reply.Reply.TheVariants.{No}
-use Rattle.session_core.specs.Sessions.{reply_to, after_line, replies_to}
 use Rattle.story_run.specs.Solo.{is_over}
 use Rattle.story_run.specs.World.{WorldState}
 use Rattle.story_run.specs.declared.story.Story.{Story}
@@ -19,11 +11,10 @@ use Rattle.storyhost.specs.Plain.{Answering, replies, after, PlainLeaves, Talked
 use Rattle.storyhost.specs.declared.ended.Ended.{Ended}
 use Rattle.storyhost.specs.declared.ended.Ended.TheVariants as ended
 use Rattle.storyhost.specs.Headline.{Speech, whole_text}
-use Rattle.storyhost.specs.Lines.{lines, heard}
-use Rattle.storyhost.specs.PipeText.{Host, new_host, host_reply, host_next, many}
+use Rattle.storyhost.specs.Lines.{lines}
 use Rattle.storyhost.specs.RunText.{opened, solo, show_text}
 use Rattle.storyhost.specs.CheckText.{good_line}
-use Rattle.storyhost.specs.Speech.{said_once, run_speech, check_speech, pipe_speech}
+use Rattle.storyhost.specs.Speech.{said_once, run_speech, check_speech}
 use Rattle.storyhost.specs.Spoken.{Spoken, Leaves}
 use Rattle.storyhost.specs.Status.{status_of_end, status_of_stop}
 use Rattle.storyhost.specs.Streams.{SourceState, SinkState, Wrote}
@@ -31,7 +22,7 @@ use Rattle.storyhost.specs.Writing.{IsPartOf, Stopped}
 use Rattle.storyhost.proofs.StreamsLemmas.{gave_none, wrote_none, wrote_then}
 use Rattle.storyhost.specs.Plain.{Plain, PlainReply}
 use Rattle.storyhost.specs.Talked.{Talked}
-use Rattle.storyhost.proofs.PlainLemmas.{replies_more, replies_settled, after_settled, talked_plain, talked_held}
+use Rattle.storyhost.proofs.PlainLemmas.{replies_more, replies_settled, after_settled, talked_held}
 use Rattle.storyhost.proofs.WritingLemmas.{stopped_more}
 
 -- an opening, and then the replies to lines
@@ -161,50 +152,6 @@ run_talked story budget {input} {now} {output} {mid} {new} e start is wrote talk
     (subst (λ (w : WorldState). Wrote output mid (show_text w)) is wrote)
     (subst (λ (w : WorldState). TalkedPlain solo w input now mid new e) is (talked_held solo e talked))
 
-abbrev with_histories : Host → List (List Command) → Host
-with_histories host histories = record host { histories = histories }
-
-abbrev heard_by : Host → List ℕ → Host
-heard_by host line = with_histories host (after_line host.stories host.budget host.histories line)
-
--- one line is answered by a host as by its sessions
-record IsStep (host : Host) (line : List ℕ) : Type 0 where
-  reply : print_reply (reply_to host.stories host.budget host.histories line) ≡ host_reply host (heard line)
-  next : heard_by host line ≡ host_next host (heard line)
-
-heard_short : (line : List ℕ) → is_long line ≡ false → heard line ≡ Some line
-heard_short line e = rw e refl
-
-heard_long : (line : List ℕ) → is_long line ≡ true → heard line ≡ None
-heard_long line e = rw e refl
-
-reply_long : (stories : List Story) (budget : ℕ) (histories : List (List Command)) (line : List ℕ) → is_long line ≡ true → reply_to stories budget histories line ≡ No LongLine
-reply_long stories budget histories line e = rw e (rw e refl)
-
-after_long : (stories : List Story) (budget : ℕ) (histories : List (List Command)) (line : List ℕ) → is_long line ≡ true → after_line stories budget histories line ≡ histories
-after_long stories budget histories line e = rw e refl
-
-step_by : (host : Host) (line : List ℕ) (long : Bool) → is_long line ≡ long → IsStep host line
-step_by host line true e = let h = heard_long line e in record {
-  reply = ap print_reply (reply_long host.stories host.budget host.histories line e) ∙ sym (ap (host_reply host) h);
-  next = ap (λ hs. with_histories host hs) (after_long host.stories host.budget host.histories line e) ∙ sym (ap (host_next host) h);
-}
-step_by host line false e = let h = heard_short line e in record { reply = sym (ap (host_reply host) h); next = sym (ap (host_next host) h) }
-
--- the replies of a host, line by line, are those of its sessions
-host_replies : (host : Host) (ls : List (List ℕ)) → flat_map print_reply (replies_to host.stories host.budget host.histories ls) ≡ replies many host ls
-host_replies host [] = refl
-host_replies host (line ∷ ls) =
-    let s : IsStep host line = step_by host line (is_long line) refl in
-    let more : flat_map print_reply (replies_to host.stories host.budget (after_line host.stories host.budget host.histories line) ls) ≡ replies many (host_next host (heard line)) ls
-    = host_replies (heard_by host line) ls ∙ ap (λ h. replies many h ls) s.next in
-    ap (λ r. r ++ flat_map print_reply (replies_to host.stories host.budget (after_line host.stories host.budget host.histories line) ls)) s.reply
-    ∙ ap (λ r. host_reply host (heard line) ++ r) more
-
-pub pipe_is : (stories : List Story) (budget : ℕ) → pipe_speech stories budget ≡ speech_by many (new_host stories budget) []
-pipe_is stories budget =
-    ap (λ (t : List (List ℕ) → List ℕ). let s : Speech = record { text = t; is_over = λ lines. false } in s) (fun_ext (host_replies (new_host stories budget)))
-
 -- a text goes on as its input does
 pub record IsSteady (speech : Speech) : Type 0 where
   pub more : (read rest : List ℕ) → (more : List ℕ) × (speech.text (lines (read ++ rest)) ≡ speech.text (lines read) ++ more)
@@ -233,14 +180,3 @@ steady_run (Some story) budget = steady_by solo (opened story budget) (show_text
 pub steady_check : (story : Option Story) → IsSteady (check_speech story)
 steady_check None = steady_once []
 steady_check (Some story) = steady_once (good_line story.image)
-
-pub steady_pipe : (stories : List Story) (budget : ℕ) → IsSteady (pipe_speech stories budget)
-steady_pipe stories budget = subst IsSteady (sym (pipe_is stories budget)) (steady_by many (new_host stories budget) [])
-
--- a host answered lines
-pub pipe_talked : (stories : List Story) (budget : ℕ) {input now : SourceState} {output new : SinkState} (e : Ended) (start : Host) → start ≡ new_host stories budget
-    → {new_host' : Host} → Talked (Plain many) (PlainReply many) (λ _. false) start new_host' input now output new e → Spoken (Ok (pipe_speech stories budget)) input now output new (status_of_end e)
-pipe_talked stories budget {input} {now} {output} {new} e start is talked =
-    subst (λ (s : Speech). Spoken (Ok s) input now output new (status_of_end e)) (sym (pipe_is stories budget))
-    (spoken_by many (new_host stories budget) [] e (wrote_none output)
-    (subst (λ (h : Host). TalkedPlain many h input now output new e) is (talked_plain many e talked)))

@@ -1,8 +1,8 @@
 -- The stories of files, as the files are loaded and read one after the other.
-use Rattle.std.proofs.Common.{◌≡◌, ℕ, suc, ◌+◌, ◌<◌, inl, inr, List, [], ◌∷◌, ◌++◌, length, map, take, drop, drop-cons, add-one, get_or, refl, sym, ap, ◌∙◌, arith, append_assoc, length-append, Option, Some, None, Result, Ok, Err, IsErr, is_err, is_ok, subst, true, false}
+use Rattle.std.proofs.Common.{◌≡◌, ℕ, suc, ◌+◌, ◌<◌, inl, inr, List, [], ◌∷◌, ◌++◌, length, map, take, drop, drop-cons, add-one, get_or, refl, sym, ap, ◌∙◌, arith, append_assoc, length-append, Result, Ok, Err, IsErr, is_err, is_ok, subst, true, false}
 use Rattle.std.proofs.lemmas.List.{append-nil, length-map, map-append, get_or-map}
 use Rattle.story_run.specs.declared.story.Story.{Story}
-use Rattle.storyhost.specs.Files.{IsFile}
+use Rattle.storyhost.specs.Files.{IsFile, Told, Untold, Missing, There}
 use Rattle.storyhost.specs.StoryFile.{story_of}
 use Rattle.storyhost.specs.declared.story_file.StoryFault.{StoryFault}
 use Rattle.storyhost.specs.Stories.{followed_by, stories_from, stories_of, AreFiles, IsSettled}
@@ -12,7 +12,7 @@ abbrev Found : Type 0
 Found = Result (List Story) Refusal
 
 -- one more file is loaded
-pub are_more : (file : List ℕ → Option (List ℕ)) (names loaded : List (List ℕ)) (bytes : List ℕ) → AreFiles file names loaded
+pub are_more : (file : List ℕ → Told (List ℕ)) (names loaded : List (List ℕ)) (bytes : List ℕ) → AreFiles file names loaded
     → length loaded < length names → IsFile (file (get_or names (length loaded) [])) bytes → AreFiles file names (loaded ++ bytes ∷ [])
 are_more file [] loaded bytes are room is = absurd (omega arith)
 are_more file (name ∷ names) [] bytes are room is = (is, tt)
@@ -43,12 +43,13 @@ err_stays position [] rest e = cc
 err_stays position (file ∷ loaded) rest e =
     stays position (story_of file) (stories_from (suc position) loaded) (stories_from (suc position) (loaded ++ rest)) (err_stays (suc position) loaded rest) e
 
-first_told : (told : Option (List ℕ)) (file bytes : List ℕ) → IsFile told bytes → told ≡ Some file → bytes ≡ take 67108865 file
-first_told None file bytes is e = cc
-first_told (Some told) file bytes is e = cc
+first_told : (told : Told (List ℕ)) (file bytes : List ℕ) → IsFile told bytes → told ≡ There file → bytes ≡ take 67108865 file
+first_told Untold file bytes is e = cc
+first_told Missing file bytes is e = absurd is
+first_told (There told) file bytes is e = cc
 
 -- the files of names that are told, where these were loaded
-pub files_told : (file : List ℕ → Option (List ℕ)) (names loaded files : List (List ℕ)) → AreFiles file names loaded → map file names ≡ map Some files
+pub files_told : (file : List ℕ → Told (List ℕ)) (names loaded files : List (List ℕ)) → AreFiles file names loaded → map file names ≡ map There files
     → (rest : List (List ℕ)) × (map (take 67108865) files ≡ loaded ++ rest)
 files_told file names [] files are told = (map (take 67108865) files, refl)
 files_told file [] (bytes ∷ loaded) files are told = absurd are
@@ -58,14 +59,14 @@ files_told file (name ∷ names) (bytes ∷ loaded) (first ∷ files) are told =
     let more = files_told file names loaded files are.1 cc in
     (more.0, ap (λ b. b ∷ map (take 67108865) files) (sym here) ∙ ap (λ l. bytes ∷ l) more.1)
 
-no_more : (names loaded rest files : List (List ℕ)) (file : List ℕ → Option (List ℕ)) → map file names ≡ map Some files → map (take 67108865) files ≡ loaded ++ rest
+no_more : (names loaded rest files : List (List ℕ)) (file : List ℕ → Told (List ℕ)) → map file names ≡ map There files → map (take 67108865) files ≡ loaded ++ rest
     → length loaded ≡ length names → rest ≡ []
 no_more names loaded [] files file told split same = refl
 no_more names loaded (r ∷ rest) files file told split same =
-    absurd (omega (arith, ap length told, ap length split, length-map names file, length-map files Some, length-map files (take 67108865), length-append loaded (r ∷ rest), same))
+    absurd (omega (arith, ap length told, ap length split, length-map names file, length-map files There, length-map files (take 67108865), length-append loaded (r ∷ rest), same))
 
 -- so what was loaded tells the stories of all
-pub settled_told : (file : List ℕ → Option (List ℕ)) (names loaded files : List (List ℕ)) → AreFiles file names loaded → IsSettled names loaded → map file names ≡ map Some files
+pub settled_told : (file : List ℕ → Told (List ℕ)) (names loaded files : List (List ℕ)) → AreFiles file names loaded → IsSettled names loaded → map file names ≡ map There files
     → stories_of (map (take 67108865) files) ≡ stories_of loaded
 settled_told file names loaded files are (inl same) told =
     let f = files_told file names loaded files are told in
@@ -88,7 +89,7 @@ behind_none (Ok stories) = refl
 behind_none (Err refusal) = refl
 
 -- the same over the code's lists
-pub loaded_more : {A N : Type 0} (contents : A → List ℕ) (text : N → List ℕ) (file now : List ℕ → Option (List ℕ)) (names : List N) (loaded new : List A) (one : A) (none : N) (i : ℕ)
+pub loaded_more : {A N : Type 0} (contents : A → List ℕ) (text : N → List ℕ) (file now : List ℕ → Told (List ℕ)) (names : List N) (loaded new : List A) (one : A) (none : N) (i : ℕ)
     → AreFiles file (map text names) (map contents loaded) → length loaded ≡ i → i < length names → new ≡ loaded ++ one ∷ [] → now ≡ file
     → IsFile (now (text (get_or names i none))) (contents one) → AreFiles file (map text names) (map contents new)
 loaded_more {A} {N} contents text file now names loaded new one none i are count room pushed same given =
@@ -97,7 +98,7 @@ loaded_more {A} {N} contents text file now names loaded new one none i are count
     let word : List ℕ = text (get_or names i none) in
     let here : get_or (map text names) i [] ≡ word = get_or-map text names i none [] room in
     let file_here : IsFile (file (get_or (map text names) (length (map contents loaded)) [])) (contents one)
-    = subst (λ (o : Option (List ℕ)). IsFile o (contents one)) (ap (λ f. f word) same ∙ ap file (sym here ∙ ap (λ k. get_or (map text names) k []) (sym at))) given in
+    = subst (λ (o : Told (List ℕ)). IsFile o (contents one)) (ap (λ f. f word) same ∙ ap file (sym here ∙ ap (λ k. get_or (map text names) k []) (sym at))) given in
     subst (λ (l : List (List ℕ)). AreFiles file (map text names) l) (sym longer)
     (are_more file (map text names) (map contents loaded) (contents one) are (omega (arith, at, length-map names text, room)) file_here)
 

@@ -4,26 +4,35 @@ use Rattle.std.proofs.lemmas.List.{append-nil}
 use Rattle.std.specs.Io.KnownBytes.{Consumes, Appends, IsAtEnd}
 use Rattle.story_run.specs.declared.story.Story.{Story}
 use Rattle.storyhost.specs.declared.status.Status.{Status}
-use Rattle.storyhost.specs.declared.status.Status.TheVariants.{Done, BadWords, Refused, ReadFault, WriteFault, NoMemory, LineLimit}
+use Rattle.storyhost.specs.declared.status.Status.TheVariants.{Done, BadWords, Refused, ReadFault, WriteFault, DiskFault, NoMemory, BadFolder, LineLimit}
 use Rattle.storyhost.specs.declared.stories.Refusal.{Refusal}
 use Rattle.storyhost.specs.declared.words.Action.{Action}
-use Rattle.storyhost.specs.declared.words.Action.TheVariants.{Run, Check, Pipe, Help, Version}
+use Rattle.storyhost.specs.declared.words.Action.TheVariants.{Run, Check, Pipe, Init, Help, Version}
 use Rattle.storyhost.specs.Files.{OutsideState}
-use Rattle.storyhost.specs.Follows.{Follows, Tells}
+use Rattle.storyhost.specs.Follows.{Does, Follows, Tells, TellsText}
 use Rattle.storyhost.specs.Headline.{Speech, Writes, whole_text}
 use Rattle.storyhost.specs.Help.{help_text, version_text}
 use Rattle.storyhost.specs.Lines.{lines, IsWithinLimits}
-use Rattle.storyhost.specs.Speech.{said_of}
+use Rattle.gate_journal.specs.declared.fault.InitFault.{InitFault}
+use Rattle.gate_journal.specs.declared.fault.InitFault.TheVariants as begin
+use Rattle.gate_journal.specs.declared.fault.JournalFault.{JournalFault}
+use Rattle.gate_journal.specs.declared.fault.JournalFault.TheVariants as fault
+use Rattle.storyhost.specs.Begun.{InitsOver, SaysRefusal}
+use Rattle.storyhost.specs.DiskWords.{DiskWords}
+use Rattle.storyhost.specs.Piped.{PipesOver}
+use Rattle.storyhost.specs.Said.{SaysFault, SaysLine}
+use Rattle.storyhost.specs.Speech.{Task, Says, Serves, Begins, tasked}
 use Rattle.storyhost.specs.Status.{status_of}
 use Rattle.storyhost.specs.Spoken.{Spoken, Leaves}
 use Rattle.storyhost.specs.Stories.{stories_of}
-use Rattle.storyhost.specs.Streams.{SourceState, SinkState}
+use Rattle.storyhost.specs.Streams.{SourceState, SinkState, Wrote}
 use Rattle.storyhost.proofs.StreamsLemmas.{gave_none, wrote_none}
 use Rattle.storyhost.specs.Talked.{IsReadToEnd}
 use Rattle.storyhost.specs.Words.{Asked}
 use Rattle.storyhost.specs.Writing.{IsPartOf}
 use Rattle.storyhost.proofs.LinesLemmas.{still_reached, talk_settled}
-use Rattle.storyhost.proofs.SpeechLemmas.{IsSteady, steady_once, steady_run, steady_check, steady_pipe}
+use Rattle.storyhost.proofs.BorrowLemmas.{keeps_none, not_lent}
+use Rattle.storyhost.proofs.SpeechLemmas.{spoken_nothing, IsSteady, steady_once, steady_run, steady_check}
 use Rattle.storyhost.proofs.StoriesLemmas.{settled_told}
 
 -- what was read of an input that is told
@@ -48,14 +57,6 @@ part_of_part a b c p q = (p.0 ++ q.0, q.1 ∙ ap (λ l. l ++ q.0) p.1 ∙ append
 abbrev IsSteadySaid : Result Speech (List ℕ) → Type 0
 IsSteadySaid said = IfOk said IsSteady
 
-steady : (action : Action) (found : Result (List Story) Refusal) (budget : ℕ) → IsSteadySaid (said_of action found budget)
-steady Run (Ok stories) budget = steady_run (slice_get stories 0) budget
-steady Check (Ok stories) budget = steady_check (slice_get stories 0)
-steady Pipe (Ok stories) budget = steady_pipe stories budget
-steady (Help topic) (Ok stories) budget = steady_once (help_text topic)
-steady Version (Ok stories) budget = steady_once version_text
-steady action (Err refusal) budget = tt
-
 -- the text over a part of the input begins that over the whole
 part_of_whole : (said : Result Speech (List ℕ)) → IsSteadySaid said → (read rest : List ℕ) → IsPartOf (whole_text said (lines read)) (whole_text said (lines (read ++ rest)))
 part_of_whole (Ok speech) s read rest = s.more read rest
@@ -74,6 +75,8 @@ writes : (status : Status) (said : Result Speech (List ℕ)) → IsSteadySaid sa
 writes Done (Ok speech) s read rest now written within left leaves = done_writes speech s read rest now written left leaves.0 leaves.1
 writes Done (Err line) s read rest now written within left leaves = absurd leaves
 writes BadWords said s read rest now written within left leaves = absurd leaves
+writes DiskFault said s read rest now written within left leaves = absurd leaves
+writes BadFolder said s read rest now written within left leaves = absurd leaves
 writes Refused said s read rest now written within left leaves = leaves
 writes ReadFault (Ok speech) s read rest now written within left leaves = inr (read, (rest, refl), leaves)
 writes ReadFault (Err line) s read rest now written within left leaves = absurd leaves
@@ -87,36 +90,124 @@ nothing_writes : (status : Status) (P : Type 0) (said : Result Speech (List ℕ)
 nothing_writes status P said input (inl failed) = subst (λ (s : Status). Writes s said input []) (sym failed.0) (inl refl)
 nothing_writes status P said input (inr wanted) = subst (λ (s : Status). Writes s said input []) (sym wanted) (whole_text said (lines input), refl)
 
-pub tells : (asked : Asked) (status : Status) (outside beyond : OutsideState) (input now : SourceState) (output new : SinkState)
-    → Follows asked status outside beyond input now output new → Tells asked status outside input output new
-tells asked status outside beyond input now output new (inl none) files bytes held files_are left_is held_is =
-    ([], held_then output.held new.held held [] none.wrote.told held_is, nothing_writes status _ _ bytes none.cause)
-tells asked status outside beyond input now output new (inr some) files bytes held files_are left_is held_is =
-    let said = said_of asked.action (stories_of some.files) asked.budget in
-    let all = said_of asked.action (stories_of (map (take 67108865) files)) asked.budget in
-    let spoken : Spoken said input now output new status = some.spoken in
+abbrev IsSteadyTask : Result Task (List ℕ) → Type 0
+IsSteadyTask (Ok (Says speech)) = IsSteady speech
+IsSteadyTask (Ok (Serves stories budget folder)) = Unit {0}
+IsSteadyTask (Ok (Begins folder)) = Unit {0}
+IsSteadyTask (Err line) = Unit {0}
+
+steady : (action : Action) (found : Result (List Story) Refusal) (budget : ℕ) (folder : List ℕ) → IsSteadyTask (tasked action found budget folder)
+steady Run (Ok stories) budget folder = steady_run (slice_get stories 0) budget
+steady Check (Ok stories) budget folder = steady_check (slice_get stories 0)
+steady Pipe (Ok stories) budget folder = tt
+steady Init (Ok stories) budget folder = tt
+steady (Help topic) (Ok stories) budget folder = steady_once (help_text topic)
+steady Version (Ok stories) budget folder = steady_once version_text
+steady action (Err refusal) budget folder = tt
+
+-- what a task leaves of an output that is told
+said_held : (said : Result Speech (List ℕ)) → IsSteadySaid said → (bytes held : List ℕ) {input now : SourceState} {output new : SinkState} (status : Status)
+    → Spoken said input now output new status → input.left ≡ Some bytes → output.held ≡ Some held
+    → (written : List ℕ) × (new.held ≡ Some (held ++ written)) × Writes status said bytes written
+said_held said s bytes held {input} {now} {output} {new} status spoken left_is held_is =
     let c = consumed input.left now.left bytes spoken.read spoken.gave.told left_is in
-    let w : Writes status said (spoken.read ++ c.0) spoken.written
-    = writes status said (steady asked.action (stories_of some.files) asked.budget) spoken.read c.0 now spoken.written spoken.within c.2 spoken.leaves in
-    let same : said ≡ all = ap (λ f. said_of asked.action f asked.budget) (sym (settled_told outside.file asked.names some.files files some.are_files some.settled files_are)) in
-    let of_all : Writes status all (spoken.read ++ c.0) spoken.written = subst (λ (s : Result Speech (List ℕ)). Writes status s (spoken.read ++ c.0) spoken.written) same w in (
+    let w : Writes status said (spoken.read ++ c.0) spoken.written = writes status said s spoken.read c.0 now spoken.written spoken.within c.2 spoken.leaves in (
       spoken.written,
       held_then output.held new.held held spoken.written spoken.wrote.told held_is,
-      subst (λ (b : List ℕ). Writes status all b spoken.written) (sym c.1) of_all,
+      subst (λ (b : List ℕ). Writes status said b spoken.written) (sym c.1) w,
     )
 
--- memory was wanted before a file was loaded
-pub nothing_follows : (asked : Asked) (outside : OutsideState) (input : SourceState) (output : SinkState) → Follows asked NoMemory outside outside input input output output
-nothing_follows asked outside input output = inl (record { cause = inr refl; gave = gave_none input; wrote = wrote_none output })
+held_on : {D : Type 0} (disks : DiskWords D) (task : Result Task (List ℕ)) → IsSteadyTask task → (bytes held : List ℕ) (outside beyond : OutsideState D) (input now : SourceState) (output new : SinkState) (status : Status)
+    → Does disks task outside beyond input now output new status → input.left ≡ Some bytes → output.held ≡ Some held
+    → ((written : List ℕ) × Wrote output new written) → (written : List ℕ) × (new.held ≡ Some (held ++ written)) × TellsText status task bytes written
+held_on disks (Err line) s bytes held outside beyond input now output new status does left_is held_is any = said_held (Err line) tt bytes held status does.0 left_is held_is
+held_on disks (Ok (Says speech)) s bytes held outside beyond input now output new status does left_is held_is any = said_held (Ok speech) s bytes held status does.0 left_is held_is
+held_on disks (Ok (Serves stories budget folder)) s bytes held outside beyond input now output new status does left_is held_is any =
+    (any.0, held_then output.held new.held held any.0 any.1.told held_is, tt)
+held_on disks (Ok (Begins folder)) s bytes held outside beyond input now output new status does left_is held_is any =
+    (any.0, held_then output.held new.held held any.0 any.1.told held_is, tt)
+
+-- whatever a command does, it writes something behind what was written
+line_wrote : {good status : Status} {line : List ℕ} {output new : SinkState} → SaysLine good line output new status → (written : List ℕ) × Wrote output new written
+line_wrote {line = line} (inl said) = (line, said.1)
+line_wrote (inr stopped) = (stopped.2.wrote.part, stopped.2.wrote.wrote)
+
+fault_wrote : (fault : JournalFault) (status : Status) {output new : SinkState} → SaysFault fault output new status → (written : List ℕ) × Wrote output new written
+fault_wrote fault.NotJournal status p = line_wrote p
+fault_wrote (fault.Corrupt place) status p = line_wrote p
+fault_wrote (fault.DiskFault counts) status p = ([], p.1)
+fault_wrote fault.NoMemory status p = ([], p.1)
+
+refusal_wrote : (refusal : InitFault) (status : Status) {output new : SinkState} → SaysRefusal refusal output new status → (written : List ℕ) × Wrote output new written
+refusal_wrote begin.NotEmpty status p = line_wrote p
+refusal_wrote (begin.DiskFault counts) status p = ([], p.1)
+
+pipe_wrote : {D : Type 0} (disks : DiskWords D) {stories : List Story} {budget : ℕ} {given back : D} {input now : SourceState} {output new : SinkState} {status : Status}
+    → PipesOver disks stories budget given back input now output new status → (written : List ℕ) × Wrote output new written
+pipe_wrote disks (inl c) = (c.2.written, c.2.wrote)
+pipe_wrote disks {status = status} (inr n) = fault_wrote n.fault status n.says
+
+init_wrote : {D : Type 0} (disks : DiskWords D) {given back : D} {input now : SourceState} {output new : SinkState} {status : Status}
+    → InitsOver disks given back input now output new status → (written : List ℕ) × Wrote output new written
+init_wrote disks {status = status} i = elim i.does [ inl b ↦ line_wrote b.says | inr n ↦ refusal_wrote n.fault status n.says ]
+
+any_wrote : {D : Type 0} (disks : DiskWords D) (task : Result Task (List ℕ)) (outside beyond : OutsideState D) (input now : SourceState) (output new : SinkState) (status : Status)
+    → Does disks task outside beyond input now output new status → (written : List ℕ) × Wrote output new written
+any_wrote disks (Err line) outside beyond input now output new status does = (does.0.written, does.0.wrote)
+any_wrote disks (Ok (Says speech)) outside beyond input now output new status does = (does.0.written, does.0.wrote)
+any_wrote disks (Ok (Serves stories budget folder)) outside beyond input now output new status (inl none) = ([], none.wrote)
+any_wrote disks (Ok (Serves stories budget folder)) outside beyond input now output new status (inr b) = pipe_wrote disks b.done
+any_wrote disks (Ok (Begins folder)) outside beyond input now output new status (inl none) = ([], none.wrote)
+any_wrote disks (Ok (Begins folder)) outside beyond input now output new status (inr b) = init_wrote disks b.done
+
+nothing_tells : (status : Status) (P : Type 0) (task : Result Task (List ℕ)) (input : List ℕ) → (status ≡ ReadFault) × P ⊎ (status ≡ NoMemory) → TellsText status task input []
+nothing_tells status P (Err line) input c = nothing_writes status P (Err line) input c
+nothing_tells status P (Ok (Says speech)) input c = nothing_writes status P (Ok speech) input c
+nothing_tells status P (Ok (Serves stories budget folder)) input c = tt
+nothing_tells status P (Ok (Begins folder)) input c = tt
+
+pub tells : {D : Type 0} (disks : DiskWords D) (asked : Asked) (status : Status) (outside beyond : OutsideState D) (input now : SourceState) (output new : SinkState)
+    → Follows disks asked status outside beyond input now output new → Tells asked status outside input output new
+tells disks asked status outside beyond input now output new (inl none) files bytes held files_are left_is held_is =
+    ([], held_then output.held new.held held [] none.wrote.told held_is, nothing_tells status _ _ bytes none.cause)
+tells disks asked status outside beyond input now output new (inr some) files bytes held files_are left_is held_is =
+    let task = tasked asked.action (stories_of some.files) asked.budget asked.folder in
+    let t = held_on disks task (steady asked.action (stories_of some.files) asked.budget asked.folder) bytes held some.between beyond input now output new status some.does left_is held_is
+    (any_wrote disks task some.between beyond input now output new status some.does) in
+    let same : stories_of some.files ≡ stories_of (map (take 67108865) files) = sym (settled_told outside.file asked.names some.files files some.are_files some.settled files_are) in
+    (t.0, t.1, subst (λ (f : Result (List Story) Refusal). TellsText status (tasked asked.action f asked.budget asked.folder) bytes t.0) same t.2)
+
+-- memory was wanted before a task was begun
+pub does_nothing : {D : Type 0} (disks : DiskWords D) (task : Result Task (List ℕ)) (outside : OutsideState D) (input : SourceState) (output : SinkState)
+    → Does disks task outside outside input input output output NoMemory
+does_nothing disks (Err line) outside input output = (spoken_nothing (Err line) input output, keeps_none outside)
+does_nothing disks (Ok (Says speech)) outside input output = (spoken_nothing (Ok speech) input output, keeps_none outside)
+does_nothing disks (Ok (Serves stories budget folder)) outside input output = inl (not_lent outside input output)
+does_nothing disks (Ok (Begins folder)) outside input output = inl (not_lent outside input output)
+
+-- where memory was wanted before a file was loaded, each caller is told so
+tells_nothing : {D : Type 0} (asked : Asked) (outside : OutsideState D) (input : SourceState) (output : SinkState) → Tells asked NoMemory outside input output output
+tells_nothing asked outside input output files bytes held files_are left_is held_is =
+    ([], held_then output.held output.held held [] (wrote_none output).told held_is, nothing_tells NoMemory (Unit {0}) _ bytes (inr refl))
 
 pub whatever_is_asked : (asked : Option Asked) (P : Asked → Type 0) → ((one : Asked) → P one) → IfSome asked P
 whatever_is_asked None P p = tt
 whatever_is_asked (Some one) P p = p one
 
--- where memory was wanted before anything was done, each caller is told so
-pub told_no_memory : (asked : Option Asked) (code : ℕ) (outside : OutsideState) (input : SourceState) (output : SinkState) → status_of code ≡ Some NoMemory
+pub told_no_memory : {D : Type 0} (asked : Option Asked) (code : ℕ) (outside : OutsideState D) (input : SourceState) (output : SinkState) → status_of code ≡ Some NoMemory
     → IfSome asked (λ one. IsSomeAnd (status_of code) (λ status. Tells one status outside input output output))
 told_no_memory asked code outside input output is =
     whatever_is_asked asked (λ (one : Asked). IsSomeAnd (status_of code) (λ status. Tells one status outside input output output))
-    (λ one. subst (λ (s : Option Status). IsSomeAnd s (λ status. Tells one status outside input output output)) (sym is)
-    (tells one NoMemory outside outside input input output output (nothing_follows one outside input output)))
+    (λ one. subst (λ (s : Option Status). IsSomeAnd s (λ status. Tells one status outside input output output)) (sym is) (tells_nothing one outside input output))
+
+-- and so it is with what is done
+pub done_no_memory : {D : Type 0} (disks : DiskWords D) (asked : Option Asked) (code : ℕ) (outside : OutsideState D) (input : SourceState) (output : SinkState) → status_of code ≡ Some NoMemory
+    → IfSome asked (λ one. IsSomeAnd (status_of code) (λ status. Follows disks one status outside outside input input output output))
+done_no_memory disks asked code outside input output is =
+    whatever_is_asked asked (λ (one : Asked). IsSomeAnd (status_of code) (λ status. Follows disks one status outside outside input input output output))
+    (λ one. subst (λ (s : Option Status). IsSomeAnd s (λ status. Follows disks one status outside outside input input output output)) (sym is)
+    (inl (record { cause = inr refl; gave = gave_none input; wrote = wrote_none output; disks = keeps_none outside })))
+
+-- two facts as one
+pub both : {A B : Type 0} → A → B → A × B
+both a b = (a, b)

@@ -4,7 +4,7 @@ use Rattle.clap.specs.Simple.{App, new_app, new_rule, on_top, with_rule, with_su
 use Rattle.clap.specs.Walk.{Rule}
 use Rattle.clap.specs.declared.builder.action.ArgAction.TheVariants.{Append}
 
--- FILE, and DIR, which isn't used yet
+-- FILE, and DIR
 abbrev pub file_rule : Rule
 file_rule = record (new_rule (codes "FILE")) { required = true }
 
@@ -27,6 +27,10 @@ run_app = with_rule (with_rule (new_app (codes "run")) file_rule) budget_rule
 abbrev pub check_app : App
 check_app = with_rule (new_app (codes "check")) file_rule
 
+-- `init DIR`
+abbrev pub init_app : App
+init_app = with_rule (new_app (codes "init")) folder_rule
+
 -- `pipe DIR STORY.. [--budget N]`
 abbrev pub pipe_app : App
 pipe_app =
@@ -41,8 +45,11 @@ bare_app = on_top (λ s. record s {
   has_version = true;
 }) (new_app (codes "storyhost"))
 
+-- with the commands over one story
+abbrev pub solo_app : App
+solo_app = with_subcommand (with_subcommand bare_app run_app.top) check_app.top
+
 -- `storyhost` with its commands
 abbrev pub storyhost_app : App
 storyhost_app =
-    with_subcommand
-    (with_subcommand (with_subcommand bare_app run_app.top) check_app.top) pipe_app.top
+    with_subcommand (with_subcommand solo_app init_app.top) pipe_app.top

@@ -1,9 +1,13 @@
--- What a command leaves of the files, the input and the output (own).
-use Rattle.std.specs.Prelude.{◌≡◌, ℕ, ◌⊎◌, List, [], ◌++◌, map, take, Some}
+-- What a command leaves of the files, the disks, the input and the output (own).
+use Rattle.std.specs.Prelude.{◌≡◌, ℕ, ◌⊎◌, List, [], ◌++◌, map, take, Some, Result, Ok, Err}
+use Rattle.storyhost.specs.Begun.{InitsOver}
+use Rattle.storyhost.specs.Borrowed.{UsesDisk, journal_in}
 use Rattle.storyhost.specs.Causes.{Rose}
-use Rattle.storyhost.specs.Files.{OutsideState}
+use Rattle.storyhost.specs.Files.{OutsideState, KeepsDisks, There}
 use Rattle.storyhost.specs.Headline.{Writes}
-use Rattle.storyhost.specs.Speech.{said_of}
+use Rattle.storyhost.specs.DiskWords.{DiskWords}
+use Rattle.storyhost.specs.Piped.{PipesOver}
+use Rattle.storyhost.specs.Speech.{Task, Says, Serves, Begins, tasked}
 use Rattle.storyhost.specs.Spoken.{Spoken}
 use Rattle.storyhost.specs.Stories.{stories_of, AreFiles, IsSettled}
 use Rattle.storyhost.specs.Streams.{SourceState, SinkState, Gave, Wrote}
@@ -11,39 +15,67 @@ use Rattle.storyhost.specs.Words.{Asked}
 use Rattle.storyhost.specs.declared.status.Status.{Status}
 use Rattle.storyhost.specs.declared.status.Status.TheVariants.{ReadFault, NoMemory}
 
+-- what a task leaves, or the line by which a story is refused
+abbrev pub Does : {D : Type 0} → DiskWords D → Result Task (List ℕ)
+    → OutsideState D → OutsideState D → SourceState → SourceState → SinkState → SinkState
+    → Status → Type 0
+Does disks (Err line) outside beyond input now output new status =
+    Spoken (Err line) input now output new status × KeepsDisks outside beyond
+Does disks (Ok (Says speech)) outside beyond input now output new status =
+    Spoken (Ok speech) input now output new status × KeepsDisks outside beyond
+Does disks (Ok (Serves stories budget folder)) outside beyond input now output new status =
+    UsesDisk disks (journal_in folder)
+    (λ given back. PipesOver disks stories budget given back input now output new status)
+    outside beyond input now output new status
+Does disks (Ok (Begins folder)) outside beyond input now output new status =
+    UsesDisk disks (journal_in folder)
+    (λ given back. InitsOver disks given back input now output new status)
+    outside beyond input now output new status
+
 -- a load failed, and nothing was read or written
-pub record NotLoaded (outside beyond : OutsideState) (input now : SourceState)
+pub record NotLoaded {D : Type 0} (outside beyond : OutsideState D) (input now : SourceState)
     (output new : SinkState)
     (status : Status) : Type 0 where
   pub cause : (status ≡ ReadFault) × Rose outside.faults beyond.faults ⊎ (status ≡ NoMemory)
   pub gave : Gave input now []
   pub wrote : Wrote output new []
+  pub disks : KeepsDisks outside beyond
 
--- the stories were loaded, and the command says its text over them
-pub record Loaded (asked : Asked) (outside : OutsideState) (input now : SourceState)
-    (output new : SinkState)
+-- the stories were loaded, and the command does its task over them
+pub record Loaded {D : Type 0} (disks : DiskWords D) (asked : Asked)
+    (outside beyond : OutsideState D) (input now : SourceState) (output new : SinkState)
     (status : Status) : Type 0 where
   pub files : List (List ℕ)
   pub are_files : AreFiles outside.file asked.names files
   pub settled : IsSettled asked.names files
-  pub spoken : Spoken
-      (said_of asked.action (stories_of files) asked.budget) input now output new status
+  pub between : OutsideState D
+  pub loaded : KeepsDisks outside between
+  pub does : Does disks (tasked asked.action (stories_of files) asked.budget asked.folder)
+      between beyond input now output new status
   pub cause : status ≡ ReadFault → Rose input.faults now.faults
 
 -- one of the two
-abbrev pub Follows : Asked → Status → OutsideState → OutsideState → SourceState
-    → SourceState → SinkState → SinkState → Type 0
-Follows asked status outside beyond input now output new =
+abbrev pub Follows : {D : Type 0} → DiskWords D → Asked → Status → OutsideState D
+    → OutsideState D → SourceState → SourceState → SinkState → SinkState → Type 0
+Follows disks asked status outside beyond input now output new =
     NotLoaded outside beyond input now output new status
-    ⊎ Loaded asked outside input now output new status
+    ⊎ Loaded disks asked outside beyond input now output new status
+
+-- what is written of a text, where the task is to say one
+abbrev pub TellsText : Status → Result Task (List ℕ) → List ℕ → List ℕ → Type 0
+TellsText status (Err line) bytes written = Writes status (Err line) bytes written
+TellsText status (Ok (Says speech)) bytes written = Writes status (Ok speech) bytes written
+TellsText status (Ok (Serves stories budget folder)) bytes written = Unit {0}
+TellsText status (Ok (Begins folder)) bytes written = Unit {0}
 
 -- what an output holds then, for a caller who is told its bytes, the files and the input
-abbrev pub Tells : Asked → Status → OutsideState → SourceState → SinkState → SinkState
-    → Type 0
+abbrev pub Tells : {D : Type 0} → Asked → Status → OutsideState D → SourceState → SinkState
+    → SinkState → Type 0
 Tells asked status outside input output new =
     (files : List (List ℕ)) (bytes held : List ℕ)
-    → map outside.file asked.names ≡ map Some files → input.left ≡ Some bytes
+    → map outside.file asked.names ≡ map There files → input.left ≡ Some bytes
     → output.held ≡ Some held
     → (written : List ℕ) × (new.held ≡ Some (held ++ written))
-    × Writes status
-    (said_of asked.action (stories_of (map (take 67108865) files)) asked.budget) bytes written
+    × TellsText status
+    (tasked asked.action (stories_of (map (take 67108865) files)) asked.budget asked.folder)
+    bytes written

@@ -6,6 +6,7 @@ use Rattle.storyhost.specs.Writing.{IsPartOf}
 use Rattle.storyhost.specs.declared.status.Status.{Status}
 use Rattle.storyhost.specs.declared.status.Status.TheVariants.{Done, BadWords, Refused, ReadFault}
 use Rattle.storyhost.specs.declared.status.Status.TheVariants.{WriteFault, NoMemory, LineLimit}
+use Rattle.storyhost.specs.declared.status.Status.TheVariants.{DiskFault, BadFolder}
 
 -- what a command says: its text for the lines of an input, and whether it is over after them
 pub record Speech : Type 0 where
@@ -30,3 +31,5 @@ Writes NoMemory said input written = IsPartOf written (whole_text said (lines in
 Writes LineLimit said input written = IsOkAnd said (λ speech.
     (written ≡ speech.text (talk input)) × ReachesLimit input)
 Writes BadWords said input written = ⊥
+Writes DiskFault said input written = ⊥
+Writes BadFolder said input written = ⊥

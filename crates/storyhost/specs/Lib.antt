@@ -1,7 +1,12 @@
 pub mod Headline
 pub mod Speech
 pub mod RunText
-pub mod PipeText
+pub mod HostTurns
+pub mod Piped
+pub mod Begun
+pub mod Borrowed
+pub mod Said
+pub mod DiskWords
 pub mod CheckText
 pub mod Stories
 pub mod StoryFile
@@ -20,4 +25,5 @@ pub mod Hearing
 pub mod Writing
 pub mod Streams
 pub mod Files
+pub mod MemoryOutside
 pub mod Causes

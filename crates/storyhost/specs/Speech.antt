@@ -1,17 +1,17 @@
--- What each command says (own).
-use Rattle.std.specs.Prelude.{ℕ, List, [], slice_get, true, false, Option, None, Some, Result, Ok}
+-- What each command does (own).
+use Rattle.std.specs.Prelude.{ℕ, List, [], slice_get, true, Option, None, Some, Result, Ok}
 use Rattle.std.specs.Prelude.{Err}
 use Rattle.story_run.specs.Solo.{is_over}
 use Rattle.story_run.specs.declared.story.Story.{Story}
 use Rattle.storyhost.specs.CheckText.{good_line}
 use Rattle.storyhost.specs.Headline.{Speech}
 use Rattle.storyhost.specs.Help.{help_text, version_text}
-use Rattle.storyhost.specs.PipeText.{pipe_text}
 use Rattle.storyhost.specs.RunText.{run_text, run_world}
 use Rattle.storyhost.specs.StoryFile.{bad_line}
 use Rattle.storyhost.specs.declared.stories.Refusal.{Refusal}
 use Rattle.storyhost.specs.declared.words.Action.{Action}
-use Rattle.storyhost.specs.declared.words.Action.TheVariants.{Run, Check, Pipe, Help, Version}
+use Rattle.storyhost.specs.declared.words.Action.TheVariants.{Run, Check, Pipe, Init, Help}
+use Rattle.storyhost.specs.declared.words.Action.TheVariants.{Version}
 
 -- one text, whatever the input
 abbrev pub said_once : List ℕ → Speech
@@ -31,19 +31,23 @@ abbrev pub check_speech : Option Story → Speech
 check_speech None = said_once []
 check_speech (Some story) = said_once (good_line story.image)
 
--- `pipe` answers requests as long as they come
-abbrev pub pipe_speech : List Story → ℕ → Speech
-pipe_speech stories budget = record { text = pipe_text stories budget; is_over = λ lines. false }
+-- what a command does: it says a text, serves these stories with this budget from a folder, or
+-- begins the journal of a folder
+pub data Task : Type 0 where
+  Says : Speech → Task
+  Serves : List Story → ℕ → List ℕ → Task
+  Begins : List ℕ → Task
 
--- what a command says over its stories
-abbrev pub speech_of : Action → List Story → ℕ → Speech
-speech_of Run stories budget = run_speech (slice_get stories 0) budget
-speech_of Check stories budget = check_speech (slice_get stories 0)
-speech_of Pipe stories budget = pipe_speech stories budget
-speech_of (Help topic) stories budget = said_once (help_text topic)
-speech_of Version stories budget = said_once version_text
+-- what a command does over its stories, with a budget, on a folder
+abbrev pub task_of : Action → List Story → ℕ → List ℕ → Task
+task_of Run stories budget folder = Says (run_speech (slice_get stories 0) budget)
+task_of Check stories budget folder = Says (check_speech (slice_get stories 0))
+task_of Pipe stories budget folder = Serves stories budget folder
+task_of Init stories budget folder = Begins folder
+task_of (Help topic) stories budget folder = Says (said_once (help_text topic))
+task_of Version stories budget folder = Says (said_once version_text)
 
 -- or the line by which a story is refused
-abbrev pub said_of : Action → Result (List Story) Refusal → ℕ → Result Speech (List ℕ)
-said_of action (Ok stories) budget = Ok (speech_of action stories budget)
-said_of action (Err refusal) budget = Err (bad_line refusal.story refusal.fault)
+abbrev pub tasked : Action → Result (List Story) Refusal → ℕ → List ℕ → Result Task (List ℕ)
+tasked action (Ok stories) budget folder = Ok (task_of action stories budget folder)
+tasked action (Err refusal) budget folder = Err (bad_line refusal.story refusal.fault)

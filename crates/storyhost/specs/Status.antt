@@ -7,6 +7,7 @@ use Rattle.storyhost.specs.declared.sink.Stop.TheVariants as stop
 use Rattle.storyhost.specs.declared.status.Status.{Status}
 use Rattle.storyhost.specs.declared.status.Status.TheVariants.{Done, BadWords, Refused, ReadFault}
 use Rattle.storyhost.specs.declared.status.Status.TheVariants.{WriteFault, NoMemory, LineLimit}
+use Rattle.storyhost.specs.declared.status.Status.TheVariants.{DiskFault, BadFolder}
 
 -- the status of an exit code
 abbrev pub status_of : ℕ → Option Status
@@ -16,8 +17,10 @@ status_of code =
     (if code == 3 then Some Refused else
     (if code == 4 then Some ReadFault else
     (if code == 5 then Some WriteFault else
+    (if code == 6 then Some DiskFault else
     (if code == 7 then Some NoMemory else
-    (if code == 10 then Some LineLimit else None))))))
+    (if code == 8 then Some BadFolder else
+    (if code == 10 then Some LineLimit else None))))))))
 
 -- how a conversation ends by a reply that was not written whole
 abbrev pub ended_by : Stop → Ended

@@ -1,8 +1,8 @@
 -- The stories that a command names (own).
-use Rattle.std.specs.Prelude.{◌≡◌, ℕ, suc, List, [], ◌∷◌, length, ◌⊎◌, Option}
+use Rattle.std.specs.Prelude.{◌≡◌, ℕ, suc, List, [], ◌∷◌, length, ◌⊎◌}
 use Rattle.std.specs.Prelude.{Result, Ok, Err, IsErr}
 use Rattle.story_run.specs.declared.story.Story.{Story}
-use Rattle.storyhost.specs.Files.{IsFile}
+use Rattle.storyhost.specs.Files.{IsFile, Told}
 use Rattle.storyhost.specs.StoryFile.{story_of}
 use Rattle.storyhost.specs.declared.stories.Refusal.{Refusal}
 use Rattle.storyhost.specs.declared.stories.Unplayed.{Unplayed}
@@ -32,7 +32,7 @@ Refuses found (Refused refusal) = found ≡ Err refusal
 Refuses found NoMemory = Unit {0}
 
 -- what loads of the files of names gave, of the first names at least
-abbrev pub AreFiles : (List ℕ → Option (List ℕ)) → List (List ℕ) → List (List ℕ)
+abbrev pub AreFiles : (List ℕ → Told (List ℕ)) → List (List ℕ) → List (List ℕ)
     → Type 0
 AreFiles file names [] = Unit {0}
 AreFiles file [] (bytes ∷ loaded) = ⊥

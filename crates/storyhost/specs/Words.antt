@@ -14,12 +14,15 @@ use Rattle.storyhost.specs.CommandLine.{storyhost_app}
 use Rattle.storyhost.specs.Help.{topic_of}
 use Rattle.storyhost.specs.declared.help.Topic.{Topic}
 use Rattle.storyhost.specs.declared.words.Action.{Action}
-use Rattle.storyhost.specs.declared.words.Action.TheVariants.{Run, Check, Pipe, Help, Version}
-use Rattle.storyhost.specs.declared.words.Command.{Command}
+use Rattle.storyhost.specs.declared.words.Action.TheVariants.{Run, Check, Pipe, Init, Help}
+use Rattle.storyhost.specs.declared.words.Action.TheVariants.{Version}
+use Rattle.storyhost.specs.declared.command.Command.{Command}
 
--- what the program is asked to do, with the names of its story files and the budget of a turn
+-- what the program is asked to do, with the folder, the names of its story files and the budget of
+-- a turn
 pub record Asked : Type 0 where
   pub action : Action
+  pub folder : Text
   pub names : List Text
   pub budget : ℕ
 
@@ -27,6 +30,7 @@ pub record Asked : Type 0 where
 abbrev pub asked : Command → Asked
 asked command = record {
   action = command.action;
+  folder = command.folder.now;
   names = map (λ name. name.now) command.names.items;
   budget = command.budget;
 }
@@ -43,25 +47,40 @@ abbrev pub budget_given : Option Text → Option ℕ
 budget_given None = Some 50000000
 budget_given (Some word) = budget_of word
 
--- these story files, at most 64, and this budget
-abbrev pub asked_for : Action → Option (List Text) → Option ℕ → Option Asked
-asked_for action None budget = None
-asked_for action (Some names) None = None
-asked_for action (Some names) (Some budget) =
+-- this folder, these story files, at most 64, and this budget
+abbrev pub asked_for : Action → Option Text → Option (List Text) → Option ℕ → Option Asked
+asked_for action None names budget = None
+asked_for action (Some folder) None budget = None
+asked_for action (Some folder) (Some names) None = None
+asked_for action (Some folder) (Some names) (Some budget) =
     if nat_le (length names) 64
-    then Some (record { action = action; names = names; budget = budget }) else None
+    then Some (record { action = action; folder = folder; names = names; budget = budget })
+    else None
 
--- what an action is given: the files of an argument, and the budget
-abbrev pub asked_with : Action → Text → List Row → Option Asked
-asked_with action files rows =
-    asked_for action (all_of files rows) (budget_given (first_of (codes "budget") rows))
+-- what an action is given: the folder, the files of an argument, and the budget
+abbrev pub asked_with : Action → Option Text → Text → List Row → Option Asked
+asked_with action folder files rows =
+    asked_for action folder (all_of files rows) (budget_given (first_of (codes "budget") rows))
+
+-- the folder that is given
+abbrev pub folder_in : List Row → Option Text
+folder_in rows = first_of (codes "DIR") rows
+
+-- a folder alone, with no story
+abbrev pub asked_on : Action → Option Text → Option Asked
+asked_on action None = None
+asked_on action (Some folder) =
+    Some (record { action = action; folder = folder; names = []; budget = 50000000 })
 
 -- what a command of the program asks for, by its name and what it is given
 abbrev pub asked_in : Text × List Row → Option Asked
 asked_in given =
-    if bytes_eq given.0 (codes "run") then asked_with Run (codes "FILE") given.1 else
-    (if bytes_eq given.0 (codes "check") then asked_with Check (codes "FILE") given.1 else
-    (if bytes_eq given.0 (codes "pipe") then asked_with Pipe (codes "STORY") given.1 else None))
+    if bytes_eq given.0 (codes "run") then asked_with Run (Some []) (codes "FILE") given.1 else
+    (if bytes_eq given.0 (codes "check")
+    then asked_with Check (Some []) (codes "FILE") given.1 else
+    (if bytes_eq given.0 (codes "init") then asked_on Init (folder_in given.1) else
+    (if bytes_eq given.0 (codes "pipe")
+    then asked_with Pipe (folder_in given.1) (codes "STORY") given.1 else None)))
 
 -- the action that shows a text where `clap` says that one is wanted
 abbrev pub shown_by : Topic → ErrorKind → Option Action
@@ -72,7 +91,8 @@ shown_by topic kind = None
 -- a text is shown without files
 abbrev pub showing : Option Action → Option Asked
 showing None = None
-showing (Some action) = Some (record { action = action; names = []; budget = 50000000 })
+showing (Some action) =
+    Some (record { action = action; folder = []; names = []; budget = 50000000 })
 
 -- what words ask for, by what `clap` has against them
 abbrev pub asked_after : Kinds → List Text → Option Asked

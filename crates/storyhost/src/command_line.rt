@@ -2,8 +2,8 @@
 ghost use Rattle.std.specs.Prelude.{◌≡◌, IfOk, false};
 ghost use Rattle.clap.specs.Simple.{app_of};
 ghost use Rattle.clap.specs.declared.builder.command.Command.TheViews.{out-Command as fields_of};
-ghost use Rattle.storyhost.specs.CommandLine.{bare_app, check_app, pipe_app, run_app};
-ghost use Rattle.storyhost.specs.CommandLine.{storyhost_app};
+ghost use Rattle.storyhost.specs.CommandLine.{bare_app, check_app, init_app, pipe_app, run_app};
+ghost use Rattle.storyhost.specs.CommandLine.{solo_app, storyhost_app};
 
 use crate::help::VERSION;
 use clap::{Arg, ArgAction, Command};
@@ -26,6 +26,15 @@ fn check_command<'w>(alloc: Global) -> Result<Command<'w>, AllocError>
 {
     let file = Arg::new(alloc, "FILE").required(true);
     Command::new(alloc, "check").arg(file)
+}
+
+/// `init DIR`.
+fn init_command<'w>(alloc: Global) -> Result<Command<'w>, AllocError>
+    ensures app { IfOk result (λ c. app_of c ≡ init_app) }
+    ensures local { IfOk result (λ c. (fields_of c).has_globals ≡ false) }
+{
+    let folder = Arg::new(alloc, "DIR").required(true);
+    Command::new(alloc, "init").arg(folder)
 }
 
 /// `pipe DIR STORY.. [--budget N]`.
@@ -55,15 +64,20 @@ fn bare_command<'w>(alloc: Global) -> Command<'w>
         .version(VERSION)
 }
 
+/// The program with its commands over one story.
+fn solo_command<'w>(alloc: Global) -> Result<Command<'w>, AllocError>
+    ensures { IfOk result (λ c. app_of c ≡ solo_app) }
+{
+    let run = run_command(alloc)?;
+    let check = check_command(alloc)?;
+    bare_command(alloc).subcommand(run)?.subcommand(check)
+}
+
 /// The program with its commands.
 pub fn storyhost<'w>(alloc: Global) -> Result<Command<'w>, AllocError>
     ensures { IfOk result (λ c. app_of c ≡ storyhost_app) }
 {
-    let run = run_command(alloc)?;
-    let check = check_command(alloc)?;
+    let init = init_command(alloc)?;
     let pipe = pipe_command(alloc)?;
-    bare_command(alloc)
-        .subcommand(run)?
-        .subcommand(check)?
-        .subcommand(pipe)
+    solo_command(alloc)?.subcommand(init)?.subcommand(pipe)
 }

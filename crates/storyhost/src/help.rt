@@ -8,6 +8,7 @@ pub enum Topic {
     Program,
     Run,
     Check,
+    Init,
     Pipe,
 }
 
@@ -25,6 +26,7 @@ Usage: storyhost COMMAND
 Commands:
   run FILE [--budget N]            play one story over standard input and output
   check FILE                       tell what the header of a story says
+  init DIR                         begin the journal of a folder
   pipe DIR STORY.. [--budget N]    serve up to 64 sessions over one connection
 
   storyhost COMMAND --help         tells more of a command
@@ -36,7 +38,9 @@ Exit status:
   3   a story is refused; the line written says which, and why
   4   the input failed, or a file could not be read
   5   the output failed
+  6   a file of the folder failed
   7   there was too little memory
+  8   what the folder holds is refused; the line written says why
   10  the input reached the limit of a connection: 1,048,576 lines or 2 GiB
 ";
 
@@ -84,13 +88,25 @@ For a file that is refused, with exit status 3:
                   3 it names no story, 4 its story is no Glulx story
 ";
 
+/// What `init` does.
+pub const INIT_HELP: &str = "\
+Begins the journal of a folder, which is made where it is missing.
+
+Usage: storyhost init DIR
+
+  DIR           the folder
+
+Writes `ready`. A folder that has a journal is refused with exit status 8, and
+the line `not empty`; nothing in it is changed.
+";
+
 /// What `pipe` does.
 pub const PIPE_HELP: &str = "\
 Serves up to 64 sessions over standard input and output.
 
 Usage: storyhost pipe DIR STORY.. [--budget N]
 
-  DIR           a folder; it isn't used yet
+  DIR           a folder that `init` made; its journal keeps every move
   STORY..       1 to 64 story files, numbered from 0
   --budget N    the most ticks of a turn, 1 to 1000000000000; else 50000000
 
@@ -114,6 +130,7 @@ pub fn help_text(topic: Topic) -> &'static str
         Topic::Program => PROGRAM_HELP,
         Topic::Run => RUN_HELP,
         Topic::Check => CHECK_HELP,
+        Topic::Init => INIT_HELP,
         Topic::Pipe => PIPE_HELP,
     }
 }

@@ -3,20 +3,27 @@
 
 mod answers;
 mod check;
+mod command;
 mod command_line;
 mod converse;
 mod edge;
 mod ended;
+mod folder;
 mod hear;
 mod help;
+mod host;
+mod init;
 mod line_buffer;
+mod loan;
 mod memory;
+mod memory_outside;
 mod once;
 mod outside;
 mod pipe;
 mod player;
 mod refuse;
 mod run;
+mod say;
 mod sink;
 mod source;
 mod status;
@@ -41,7 +48,7 @@ fn main(rt: HostRuntime) -> ExitCode {
     let Ok(words) = arguments.skip(1).collect::<Vec<String>>(alloc) else {
         return ExitCode::from(Status::NoMemory.code());
     };
-    let mut outside = SystemFiles::new(&rt);
+    let mut outside = SystemFiles::new(alloc, &rt);
     let mut input = Reading::new(rt.reader());
     let mut output = Writing::new(io::writer(&rt));
     let code = top::top(&rt, alloc, &words, &mut outside, &mut input, &mut output);

@@ -1,16 +1,9 @@
-//! A source, a sink and an outside in memory, with the calls that are to fail.
-ghost use Rattle.std.specs.Prelude.{◌≡◌, ◌≤◌, [], Some, drop, vec_len, option_map};
-ghost use Rattle.std.specs.Prelude.{false};
-ghost use Rattle.std.specs.BTreeMap.{get_by_text};
+//! A source and a sink in memory, with the calls that are to fail.
+ghost use Rattle.std.specs.Prelude.{◌≡◌, ◌≤◌, [], Some, drop, vec_len, false};
 
-use crate::outside::{Fetch, Outside};
 use crate::sink::{Put, Sink};
 use crate::source::{Got, Source};
 use std::alloc::Global;
-use std::collections::BTreeMap;
-
-/// The most bytes of a file that a load gives.
-const MOST_OF_FILE: usize = 67_108_865;
 
 /// Bytes in memory. A read gives at most `most` of them, and at least one.
 /// Reads are counted from 0, and those in `failing` fail.
@@ -116,57 +109,5 @@ impl Sink for MemorySink {
         }
         self.faults = self.faults.saturating_add(1);
         Put::Failed
-    }
-}
-
-/// Files by their names. Loads are counted from 0, and those in `failing` fail.
-#[derive(Drop)]
-pub struct MemoryOutside {
-    files: BTreeMap<String, Vec<u8>>,
-    calls: u64,
-    failing: Vec<u64>,
-    faults: u64,
-}
-
-impl MemoryOutside {
-    /// These files, and nothing has happened yet.
-    pub fn new(files: BTreeMap<String, Vec<u8>>, failing: Vec<u64>) -> MemoryOutside
-        ensures { ⟦<MemoryOutside as Outside>⟧.outside result ≡ record {
-          file = λ name. option_map (λ bytes. bytes.items) (get_by_text files name);
-          faults = 0;
-        } }
-    {
-        MemoryOutside {
-            files,
-            calls: 0,
-            failing,
-            faults: 0,
-        }
-    }
-}
-
-impl Outside for MemoryOutside {
-    ghost outside = { λ o. record {
-      file = λ name. option_map (λ bytes. bytes.items) (get_by_text o.files name);
-      faults = o.faults;
-    } };
-
-    fn load(&mut self, alloc: Global, name: &str) -> Result<Vec<u8>, Fetch> {
-        let call = self.calls;
-        self.calls = call.saturating_add(1);
-        let fails = self.failing.contains(&call);
-        match self.files.get(name) {
-            Some(bytes) if !fails => {
-                let most = bytes.len().min(MOST_OF_FILE);
-                match bytes[..most].to_vec(alloc) {
-                    Ok(bytes) => Ok(bytes),
-                    Err(_) => Err(Fetch::NoMemory),
-                }
-            }
-            _ => {
-                self.faults = self.faults.saturating_add(1);
-                Err(Fetch::Failed)
-            }
-        }
     }
 }

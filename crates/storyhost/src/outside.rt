@@ -1,6 +1,7 @@
-//! Where stories come from.
-ghost use Rattle.std.specs.Prelude.{◌≡◌, ◌≤◌, IfOk, IsErrOf};
+//! Where stories and disks come from.
+ghost use Rattle.std.specs.Prelude.{◌≡◌, ◌≤◌, ℕ, List, IsTrue, IfOk, OnErr, IsErrOf};
 
+use disk_model::Disk;
 use std::alloc::Global;
 
 /// Why the outside gives nothing.
@@ -10,13 +11,17 @@ pub enum Fetch {
     NoMemory,
 }
 
-/// The files outside, by their names.
+/// The files and the disks outside, by their names.
 pub trait Outside {
     ghost use Rattle.storyhost.specs.Causes.{Rose};
-    ghost use Rattle.storyhost.specs.Files.{OutsideState, IsFile};
+    ghost use Rattle.storyhost.specs.Files.{OutsideState, IsFile, KeepsFiles, KeepsDisks};
+    ghost use Rattle.storyhost.specs.Files.{IsLentFrom, IsLent, Lends, TakesBack};
 
-    /// What is known of it. The fault count never falls.
-    ghost outside: { Self → OutsideState };
+    /// A disk that it lends.
+    type Disk: Disk;
+
+    /// What is known of it. The fault counts never fall.
+    ghost outside: { Self → OutsideState Self.Disk };
 
     /// The bytes of the file of that name, at most the first 67,108,865.
     fn load(&mut self, alloc: Global, name: &str) -> Result<Vec<u8>, Fetch>
@@ -25,5 +30,29 @@ pub trait Outside {
         ensures kept { (outside self.new).file ≡ (outside self.old).file }
         ensures later { (outside self.old).faults ≤ (outside self.new).faults }
         ensures cause { IsErrOf result Fetch.Failed
-            → Rose (outside self.old).faults (outside self.new).faults };
+            → Rose (outside self.old).faults (outside self.new).faults }
+        ensures disks { KeepsDisks (outside self.old) (outside self.new) };
+
+    /// Lends the disk of that name, or an empty one where there is none. A disk that is lent
+    /// already isn't lent again.
+    fn disk(&mut self, alloc: Global, name: &str) -> Result<Self::Disk, Fetch>
+        ensures ok { IfOk result (λ disk. Lends Self.Disk.label Self.Disk.faults name.now disk
+            (outside self.old) (outside self.new)) }
+        ensures given { IfOk result (λ disk. IsTrue (Self.Disk.tells disk)
+            → IsLentFrom Self.Disk.seen Self.Disk.may_leave
+            ((outside self.old).disk name.now) disk) }
+        ensures err { OnErr result ((other : List ℕ)
+            → ((outside self.new).disk other ≡ (outside self.old).disk other)
+            × ((outside self.new).loan other ≡ (outside self.old).loan other)) }
+        ensures later { (outside self.old).disk_faults ≤ (outside self.new).disk_faults }
+        ensures cause { IsErrOf result Fetch.Failed
+            → Rose (outside self.old).disk_faults (outside self.new).disk_faults }
+        ensures files { KeepsFiles (outside self.old) (outside self.new) };
+
+    /// Takes a disk back that it lent under that name.
+    fn put_back(&mut self, name: &str, disk: Self::Disk)
+        requires { IsLent ((outside self.old).loan name.now) (Self.Disk.label disk) }
+        ensures back { TakesBack Self.Disk.faults name.now disk
+            (outside self.old) (outside self.new) }
+        ensures files { KeepsFiles (outside self.old) (outside self.new) };
 }

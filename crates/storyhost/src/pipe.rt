@@ -1,107 +1,120 @@
 //! The command `pipe`, which answers the numbered requests of one connection.
-ghost use Rattle.std.specs.Prelude.{◌≡◌, ◌<◌, length, Ok, Some, OnOk, IfOk, IfErr};
+ghost use Rattle.std.specs.Prelude.{◌≡◌, ◌<◌, length};
+ghost use Rattle.disk_model.specs.Disk.{SameDisk};
+ghost use Rattle.gate_journal.specs.Command.{IsBudget};
+ghost use Rattle.storyhost.specs.Borrowed.{UsesDisk, journal_in};
 ghost use Rattle.storyhost.specs.Causes.{Rose};
-ghost use Rattle.storyhost.specs.Speech.{pipe_speech};
-ghost use Rattle.storyhost.specs.Spoken.{Spoken};
-ghost use Rattle.storyhost.specs.PipeText.{new_host};
+ghost use Rattle.storyhost.specs.Piped.{PipesOver};
 
-use crate::answers::Answers;
 use crate::converse::converse;
-use crate::sink::{Sink, Stop};
+use crate::folder::journal_name;
+use crate::outside::{Fetch, Outside};
+use crate::say::say_fault;
+use crate::sink::Sink;
 use crate::source::Source;
 use crate::status::Status;
-use crate::write::write_all;
-use line_words::{No, Reply, write_reply};
-use session_core::Sessions;
-use std::alloc::{AllocError, Global};
-use std::marker::Model;
+use disk_model::Disk;
+use gate_journal::Journal;
+use session_desk::Desks;
+use std::alloc::Global;
 use story_run::Story;
 
-/// A host of stories, with the budget of a turn in ticks.
-#[derive(Drop)]
-pub struct Host<'h, 'i> {
-    stories: &'h [Story<'i>],
-    budget: u64,
-    sessions: Sessions,
-}
-
-impl<'h, 'i> Model for Host<'h, 'i> {
-    ghost use Rattle.storyhost.specs.PipeText as pipe;
-
-    ghost Value = { pipe.Host };
-
-    ghost view = { λ host. record {
-      stories = host.stories.now;
-      budget = host.budget;
-      histories = host.sessions;
-    } };
-}
-
-impl<'h, 'i> Host<'h, 'i> {
-    /// A host of which no session has accepted anything.
-    fn new(alloc: Global, stories: &'h [Story<'i>], budget: u64) -> Result<Host<'h, 'i>, AllocError>
-        ensures { IfOk result (λ host. host ≡ new_host stories.now budget) }
-    {
-        let sessions = Sessions::new(alloc)?;
-        Ok(Host {
-            stories,
-            budget,
-            sessions,
-        })
-    }
-}
-
-impl<'h, 'i> Answers for Host<'h, 'i> {
-    ghost use Rattle.std.specs.Prelude.{false};
-    ghost use Rattle.storyhost.specs.Plain.{Plain, PlainReply};
-    ghost use Rattle.storyhost.specs.PipeText.{many};
-
-    ghost turn = { Plain many };
-
-    ghost cut = { PlainReply many };
-
-    ghost over = { λ _. false };
-
-    fn is_over(&self) -> bool {
-        false
-    }
-
-    fn answer<K: Sink>(
-        &mut self,
-        alloc: Global,
-        line: Option<&[u8]>,
-        output: &mut K,
-    ) -> Result<(), Stop> {
-        let reply = match line {
-            Some(line) => self
-                .sessions
-                .answer(alloc, self.stories, self.budget, line)?,
-            None => Reply::No(No::LongLine),
-        };
-        let text = write_reply(alloc, &reply)?;
-        write_all(output, &text)
-    }
-}
-
-/// Answers the requests of the input.
-pub fn pipe<S: Source, K: Sink>(
+/// Answers the requests of the input by the sessions of the journal on this disk, and hands the
+/// disk back.
+fn pipe_over<'i, D: Disk, S: Source, K: Sink>(
     alloc: Global,
-    stories: &[Story<'_>],
+    stories: &'i [Story<'i>],
     budget: u64,
+    disk: D,
+    input: &mut S,
+    output: &mut K,
+    buffer: &mut [u8],
+) -> (Status, D)
+    requires budget { IsBudget budget }
+    requires buffer { 0 < length buffer.old }
+    ensures value { PipesOver (record {
+      tells = D.tells;
+      seen = D.seen;
+      may_leave = D.may_leave;
+      moment = D.moment;
+      left_since = D.left_since;
+      faults = D.faults;
+      reach = D.reach;
+      room = D.room;
+      label = D.label;
+    }) stories.now budget disk result.1 (S.source input.old) (S.source input.new)
+        (K.sink output.old) (K.sink output.new) result.0 }
+    ensures kept { SameDisk D.tells D.room D.label disk result.1 }
+    ensures read_fault { result.0 ≡ Status.ReadFault
+        → Rose (S.source input.old).faults (S.source input.new).faults }
+    ensures write_fault { result.0 ≡ Status.WriteFault
+        → Rose (K.sink output.old).faults (K.sink output.new).faults }
+{
+    let journal = match Journal::open(alloc, disk) {
+        Ok(journal) => journal,
+        Err((fault, disk)) => return (say_fault(alloc, fault, output), disk),
+    };
+    let mut desks = match Desks::open(alloc, stories, budget, journal) {
+        Ok(desks) => desks,
+        Err(journal) => return (Status::NoMemory, journal.into_disk()),
+    };
+    let ended = converse(alloc, &mut desks, input, output, buffer);
+    (ended.status(), desks.into_journal().into_disk())
+}
+
+/// Answers the requests of the input by the sessions of the journal in a folder.
+pub fn pipe<'i, O: Outside, S: Source, K: Sink>(
+    alloc: Global,
+    stories: &'i [Story<'i>],
+    budget: u64,
+    folder: &str,
+    outside: &mut O,
     input: &mut S,
     output: &mut K,
     buffer: &mut [u8],
 ) -> Status
+    requires budget { IsBudget budget }
     requires buffer { 0 < length buffer.old }
-    ensures value { Spoken (Ok (pipe_speech stories.now budget)) (S.source input.old)
-        (S.source input.new) (K.sink output.old) (K.sink output.new) result }
+    ensures value { UsesDisk (record {
+      tells = O.Disk.tells;
+      seen = O.Disk.seen;
+      may_leave = O.Disk.may_leave;
+      moment = O.Disk.moment;
+      left_since = O.Disk.left_since;
+      faults = O.Disk.faults;
+      reach = O.Disk.reach;
+      room = O.Disk.room;
+      label = O.Disk.label;
+    }) (journal_in folder.now)
+        (λ given back. PipesOver (record {
+          tells = O.Disk.tells;
+          seen = O.Disk.seen;
+          may_leave = O.Disk.may_leave;
+          moment = O.Disk.moment;
+          left_since = O.Disk.left_since;
+          faults = O.Disk.faults;
+          reach = O.Disk.reach;
+          room = O.Disk.room;
+          label = O.Disk.label;
+        }) stories.now budget given back (S.source input.old) (S.source input.new)
+        (K.sink output.old) (K.sink output.new) result)
+        (O.outside outside.old) (O.outside outside.new) (S.source input.old) (S.source input.new)
+        (K.sink output.old) (K.sink output.new) result }
     ensures read_fault { result ≡ Status.ReadFault
         → Rose (S.source input.old).faults (S.source input.new).faults }
     ensures write_fault { result ≡ Status.WriteFault
         → Rose (K.sink output.old).faults (K.sink output.new).faults }
+    ensures files { (O.outside outside.new).file ≡ (O.outside outside.old).file }
 {
-    let Ok(mut host) = Host::new(alloc, stories, budget) else {
+    let Ok(name) = journal_name(alloc, folder) else {
         return Status::NoMemory;
     };
-    converse(alloc, &mut host, input, output, buffer).status()
+    let disk = match outside.disk(alloc, &name) {
+        Ok(disk) => disk,
+        Err(Fetch::Failed) => return Status::DiskFault,
+        Err(Fetch::NoMemory) => return Status::NoMemory,
+    };
+    let (status, disk) = pipe_over(alloc, stories, budget, disk, input, output, buffer);
+    outside.put_back(&name, disk);
+    status
 }

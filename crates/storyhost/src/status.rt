@@ -14,8 +14,12 @@ pub enum Status {
     ReadFault,
     /// The output failed.
     WriteFault,
+    /// A disk failed, or the call that gives it.
+    DiskFault,
     /// Memory was wanted.
     NoMemory,
+    /// What the folder holds is refused, and a line says why.
+    BadFolder,
     /// A connection's limit of lines or bytes was reached.
     LineLimit,
 }
@@ -33,7 +37,9 @@ impl Status {
             Status::Refused => 3,
             Status::ReadFault => 4,
             Status::WriteFault => 5,
+            Status::DiskFault => 6,
             Status::NoMemory => 7,
+            Status::BadFolder => 8,
             Status::LineLimit => 10,
         }
     }

@@ -5,13 +5,14 @@ ghost use Rattle.storyhost.specs.Causes.{Rose};
 ghost use Rattle.storyhost.specs.Streams.{Gave, Wrote};
 ghost use Rattle.storyhost.specs.Status.{status_of};
 ghost use Rattle.storyhost.specs.Words.{asked, asked_by};
-ghost use Rattle.storyhost.specs.Speech.{said_of};
-ghost use Rattle.storyhost.specs.Spoken.{Spoken};
+ghost use Rattle.storyhost.specs.Speech.{tasked};
 ghost use Rattle.storyhost.specs.Stories.{stories_of};
-ghost use Rattle.storyhost.specs.Follows.{Follows, Tells};
+ghost use Rattle.storyhost.specs.Follows.{Does, Follows, Tells};
 
 use crate::check::check;
+use crate::command::Command;
 use crate::help::{VERSION_TEXT, help_text};
+use crate::init::init_folder;
 use crate::once::say_once;
 use crate::outside::{Fetch, Outside};
 use crate::pipe::pipe;
@@ -21,7 +22,7 @@ use crate::sink::Sink;
 use crate::source::Source;
 use crate::status::Status;
 use crate::stories::{Unplayed, load_files, stories_of};
-use crate::words::{Action, Command, command_of};
+use crate::words::{Action, command_of};
 use std::alloc::Global;
 use std::sync::Wait;
 use std::thread::Threads;
@@ -29,21 +30,35 @@ use std::thread::Threads;
 /// The room for one read of input, in bytes.
 const ROOM: usize = 4096;
 
-/// Says what the action says over the stories of files.
-fn speak<S: Source, K: Sink>(
+/// Does what the action does over the stories of files.
+fn act<O: Outside, S: Source, K: Sink>(
     alloc: Global,
-    action: Action,
-    budget: u64,
+    command: &Command<'_>,
     files: &[Vec<u8>],
+    outside: &mut O,
     input: &mut S,
     output: &mut K,
 ) -> Status
-    ensures value { Spoken (said_of action (stories_of (map (λ f. f.items) files.now)) budget)
-        (S.source input.old) (S.source input.new) (K.sink output.old) (K.sink output.new) result }
+    ensures value { Does (record {
+      tells = O.Disk.tells;
+      seen = O.Disk.seen;
+      may_leave = O.Disk.may_leave;
+      moment = O.Disk.moment;
+      left_since = O.Disk.left_since;
+      faults = O.Disk.faults;
+      reach = O.Disk.reach;
+      room = O.Disk.room;
+      label = O.Disk.label;
+    })
+        (tasked command.now.action (stories_of (map (λ f. f.items) files.now))
+        command.now.budget command.now.folder.now)
+        (O.outside outside.old) (O.outside outside.new) (S.source input.old) (S.source input.new)
+        (K.sink output.old) (K.sink output.new) result }
     ensures read_fault { result ≡ Status.ReadFault
         → Rose (S.source input.old).faults (S.source input.new).faults }
     ensures write_fault { result ≡ Status.WriteFault
         → Rose (K.sink output.old).faults (K.sink output.new).faults }
+    ensures kept { (O.outside outside.new).file ≡ (O.outside outside.old).file }
 {
     let Ok(mut buffer) = vec![in alloc; 0u8; ROOM] else {
         return Status::NoMemory;
@@ -53,10 +68,24 @@ fn speak<S: Source, K: Sink>(
         Err(Unplayed::Refused(refusal)) => return refuse(alloc, refusal, output),
         Err(Unplayed::NoMemory) => return Status::NoMemory,
     };
-    match action {
+    let budget = command.budget;
+    match command.action {
         Action::Run => run(alloc, &stories, budget, input, output, &mut buffer),
         Action::Check => check(alloc, &stories, output),
-        Action::Pipe => pipe(alloc, &stories, budget, input, output, &mut buffer),
+        Action::Init => init_folder(alloc, command.folder, outside, output),
+        Action::Pipe => {
+            let folder = command.folder;
+            pipe(
+                alloc,
+                &stories,
+                budget,
+                folder,
+                outside,
+                input,
+                output,
+                &mut buffer,
+            )
+        }
         Action::Help(topic) => say_once(help_text(topic).as_bytes(), output),
         Action::Version => say_once(VERSION_TEXT.as_bytes(), output),
     }
@@ -70,7 +99,17 @@ fn follow<O: Outside, S: Source, K: Sink>(
     input: &mut S,
     output: &mut K,
 ) -> Status
-    ensures done { Follows (asked command.entry) result
+    ensures done { Follows (record {
+      tells = O.Disk.tells;
+      seen = O.Disk.seen;
+      may_leave = O.Disk.may_leave;
+      moment = O.Disk.moment;
+      left_since = O.Disk.left_since;
+      faults = O.Disk.faults;
+      reach = O.Disk.reach;
+      room = O.Disk.room;
+      label = O.Disk.label;
+    }) (asked command.entry) result
         (O.outside outside.old) (O.outside outside.new) (S.source input.old) (S.source input.new)
         (K.sink output.old) (K.sink output.new) }
     ensures bad_words { ¬ (result ≡ Status.BadWords) }
@@ -86,7 +125,7 @@ fn follow<O: Outside, S: Source, K: Sink>(
         Err(Fetch::Failed) => return Status::ReadFault,
         Err(Fetch::NoMemory) => return Status::NoMemory,
     };
-    speak(alloc, command.action, command.budget, &files, input, output)
+    act(alloc, &command, &files, outside, input, output)
 }
 
 /// Does what the words after the program's name ask for, and answers the exit status.
@@ -109,7 +148,17 @@ pub fn top<R: Threads + Wait + Sync, O: Outside, S: Source, K: Sink>(
 
     // what was asked is done as far as the status says
     ensures done { IfSome (asked_by (map string_bytes words.now)) (λ asked.
-        IsSomeAnd (status_of result) (λ status. Follows asked status
+        IsSomeAnd (status_of result) (λ status. Follows (record {
+          tells = O.Disk.tells;
+          seen = O.Disk.seen;
+          may_leave = O.Disk.may_leave;
+          moment = O.Disk.moment;
+          left_since = O.Disk.left_since;
+          faults = O.Disk.faults;
+          reach = O.Disk.reach;
+          room = O.Disk.room;
+          label = O.Disk.label;
+        }) asked status
         (O.outside outside.old) (O.outside outside.new) (S.source input.old) (S.source input.new)
         (K.sink output.old) (K.sink output.new))) }
 

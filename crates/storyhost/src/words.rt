@@ -1,13 +1,16 @@
 //! What the words of the command line ask for.
-ghost use Rattle.std.specs.Prelude.{◌≡◌, IfOk, map, option_and_then, string_bytes};
+ghost use Rattle.std.specs.Prelude.{◌≡◌, IfOk, IfSome, Some, map, option_and_then, string_bytes};
 ghost use Rattle.std.specs.Option.{option_map};
 ghost use Rattle.clap.specs.Matches.{found_of};
 ghost use Rattle.clap.specs.Simple.{subcommand_rows_of};
 ghost use Rattle.clap.specs.Walk.{first_of, rows_of};
+ghost use Rattle.gate_journal.specs.Command.{IsBudget};
 ghost use Rattle.storyhost.specs.Help.{topic_named, topic_of};
-ghost use Rattle.storyhost.specs.Words.{asked, asked_by, asked_in, asked_with, budget_given};
+ghost use Rattle.storyhost.specs.Words.{asked, asked_by, asked_in, asked_on, asked_with};
+ghost use Rattle.storyhost.specs.Words.{budget_given, folder_in};
 ghost use Rattle.storyhost.specs.Words.{budget_of, shown_by, showing};
 
+use crate::command::Command;
 use crate::command_line::storyhost;
 use crate::help::Topic;
 use clap::ArgMatches;
@@ -30,7 +33,9 @@ pub enum Action {
     Run,
     /// Tells what the header of one story says.
     Check,
-    /// Answers the numbered requests of one connection, from sessions that are all free.
+    /// Begins the journal of a folder.
+    Init,
+    /// Answers the numbered requests of one connection, from the journal of a folder.
     Pipe,
     /// Shows help.
     Help(Topic),
@@ -38,17 +43,10 @@ pub enum Action {
     Version,
 }
 
-/// What the words ask for: the names of the story files, and the budget of a turn in ticks.
-#[derive(Drop)]
-pub struct Command<'w> {
-    pub action: Action,
-    pub names: Vec<&'w str>,
-    pub budget: u64,
-}
-
 /// The budget that a word spells.
 fn budget_of(word: &str) -> Option<u64>
-    ensures { result ≡ budget_of word.now }
+    ensures value { result ≡ budget_of word.now }
+    ensures range { IfSome result IsBudget }
 {
     let [b'1'..=b'9', ..] = word.as_bytes() else {
         return None;
@@ -62,7 +60,8 @@ fn budget_of(word: &str) -> Option<u64>
 
 /// The budget that is given, or the usual one.
 fn budget_given(word: Option<&str>) -> Option<u64>
-    ensures { result ≡ budget_given (option_map (λ w. w.now) word.entry) }
+    ensures value { result ≡ budget_given (option_map (λ w. w.now) word.entry) }
+    ensures range { IfSome result IsBudget }
 {
     match word {
         Some(word) => budget_of(word),
@@ -70,15 +69,39 @@ fn budget_given(word: Option<&str>) -> Option<u64>
     }
 }
 
-/// What an action is given: the files of an argument, and the budget.
+/// The folder that is given.
+fn folder_in<'w>(matches: &ArgMatches<'w>) -> Option<&'w str>
+    ensures { option_map (λ f. f.now) result ≡ folder_in (rows_of (found_of matches.now)) }
+{
+    matches.get_str("DIR")
+}
+
+/// What an action is given: a folder alone.
+fn command_on<'w>(alloc: Global, action: Action, folder: Option<&'w str>) -> Option<Command<'w>>
+    ensures { option_map asked result ≡ asked_on action (option_map (λ f. f.now) folder.entry) }
+{
+    match folder {
+        Some(folder) => Some(Command {
+            action,
+            folder,
+            names: Vec::new(alloc),
+            budget: BUDGET,
+        }),
+        None => None,
+    }
+}
+
+/// What an action is given: the folder, the files of an argument, and the budget.
 fn command_with<'w>(
     alloc: Global,
     action: Action,
+    folder: &'w str,
     files: &str,
     matches: &ArgMatches<'w>,
 ) -> Result<Option<Command<'w>>, AllocError>
     ensures { IfOk result (λ command. option_map asked command
-        ≡ asked_with action files.now (rows_of (found_of matches.now))) }
+        ≡ asked_with action (Some folder.now) files.now
+        (rows_of (found_of matches.now))) }
 {
     let Some(given) = matches.get_strs(files) else {
         return Ok(None);
@@ -92,6 +115,7 @@ fn command_with<'w>(
     let names = given.to_vec(alloc)?;
     Ok(Some(Command {
         action,
+        folder,
         names,
         budget,
     }))
@@ -107,9 +131,13 @@ fn command_in<'w>(
 {
     match matches.subcommand() {
         Some((name, given)) => match name {
-            "run" => command_with(alloc, Action::Run, "FILE", given),
-            "check" => command_with(alloc, Action::Check, "FILE", given),
-            "pipe" => command_with(alloc, Action::Pipe, "STORY", given),
+            "run" => command_with(alloc, Action::Run, "", "FILE", given),
+            "check" => command_with(alloc, Action::Check, "", "FILE", given),
+            "init" => Ok(command_on(alloc, Action::Init, folder_in(given))),
+            "pipe" => match folder_in(given) {
+                Some(folder) => command_with(alloc, Action::Pipe, folder, "STORY", given),
+                None => Ok(None),
+            },
             _ => Ok(None),
         },
         None => Ok(None),
@@ -123,6 +151,7 @@ fn topic_named(word: &str) -> Topic
     match word {
         "run" => Topic::Run,
         "check" => Topic::Check,
+        "init" => Topic::Init,
         "pipe" => Topic::Pipe,
         _ => Topic::Program,
     }
@@ -149,6 +178,7 @@ fn command_shown<'w>(alloc: Global, topic: Topic, kind: ErrorKind) -> Option<Com
     };
     Some(Command {
         action,
+        folder: "",
         names: Vec::new(alloc),
         budget: BUDGET,
     })

@@ -1,32 +1,94 @@
 //! The files of the system.
-ghost use Rattle.std.specs.Prelude.{◌≡◌, None};
+ghost use Rattle.std.specs.Prelude.{◌≡◌, ℕ, List, Some, OnOk, OnErr};
+ghost use Rattle.std.specs.Map.{update};
+ghost use Rattle.std.specs.Str.{bytes_eq};
+ghost use Rattle.std.specs.BTreeMap.{get_by_text};
+ghost use Rattle.storyhost.specs.Files.{Told};
 
+use crate::loan::Loan;
 use crate::outside::{Fetch, Outside};
-use std::alloc::Global;
-use std::fs;
-use std::io::{ErrorKind, Read};
+use disk_model::{Disk, FileDisk};
+use std::alloc::{AllocError, Global};
+use std::collections::BTreeMap;
+use std::fs::{self, File, OpenOptions};
+use std::io::{self, ErrorKind, Read};
+use std::path::Path;
 use std::rt::Files;
 
 /// The most bytes of a file that a load gives.
 const MOST_OF_FILE: u64 = 67_108_865;
 
-/// The files of the system. Each error counts as a fault, but for want of memory.
+/// The files of the system, and disks on them. Each error counts as a fault, but for want of
+/// memory.
 #[derive(Drop)]
-pub struct SystemFiles<'r, R: Files> {
+pub struct SystemFiles<'r, R: Files<File = File>> {
     rt: &'r R,
+    loans: BTreeMap<String, Loan>,
+    calls: u64,
     faults: u64,
+    disk_faults: u64,
 }
 
-impl<'r, R: Files> SystemFiles<'r, R> {
-    pub fn new(rt: &'r R) -> SystemFiles<'r, R>
-        ensures { result.faults ≡ 0 }
-    {
-        SystemFiles { rt, faults: 0 }
+impl<'r, R: Files<File = File>> SystemFiles<'r, R> {
+    pub fn new(alloc: Global, rt: &'r R) -> SystemFiles<'r, R> {
+        SystemFiles {
+            rt,
+            loans: BTreeMap::new(alloc),
+            calls: 0,
+            faults: 0,
+            disk_faults: 0,
+        }
     }
 }
 
-impl<'r, R: Files> Outside for SystemFiles<'r, R> {
-    ghost outside = { λ o. record { file = λ name. None; faults = o.faults } };
+/// Opens the file of that name for reading and writing, and makes it, with its folder, where it is
+/// missing.
+fn open_or_make<R: Files<File = File>>(rt: &R, name: &str) -> io::Result<File> {
+    if let Some(folder) = Path::new(name).parent() {
+        fs::create_dir_all(rt, folder)?;
+    }
+    OpenOptions::new()
+        .read(true)
+        .write(true)
+        .create(true)
+        .open(rt, name)
+}
+
+/// The disk of that name is lent.
+fn is_out(loans: &BTreeMap<String, Loan>, name: &str) -> bool {
+    match loans.get(name) {
+        Some(loan) => loan.is_out(),
+        None => false,
+    }
+}
+
+/// Notes a loan under that name.
+fn note(
+    alloc: Global,
+    loans: &mut BTreeMap<String, Loan>,
+    name: &str,
+    loan: Loan,
+) -> Result<(), AllocError>
+    ensures ok { OnOk result ((other : List ℕ) → get_by_text loans.new other
+        ≡ update bytes_eq (get_by_text loans.old) name.now (Some loan) other) }
+    ensures err { OnErr result ((other : List ℕ)
+        → get_by_text loans.new other ≡ get_by_text loans.old other) }
+{
+    let name = String::from_str(alloc, name)?;
+    loans.insert(name, loan)?;
+    Ok(())
+}
+
+impl<'r, R: Files<File = File>> Outside for SystemFiles<'r, R> {
+    type Disk = FileDisk;
+
+    ghost outside = { λ o. record {
+      file = λ name. Told.Untold;
+      disk = λ name. Told.Untold;
+      loan = get_by_text o.loans;
+      faults = o.faults;
+      disk_faults = o.disk_faults;
+    } };
 
     fn load(&mut self, alloc: Global, name: &str) -> Result<Vec<u8>, Fetch> {
         let mut bytes = Vec::new(alloc);
@@ -42,5 +104,42 @@ impl<'r, R: Files> Outside for SystemFiles<'r, R> {
         }
         self.faults = self.faults.saturating_add(1);
         Err(Fetch::Failed)
+    }
+
+    fn disk(&mut self, alloc: Global, name: &str) -> Result<FileDisk, Fetch> {
+        if is_out(&self.loans, name) {
+            self.disk_faults = self.disk_faults.saturating_add(1);
+            return Err(Fetch::Failed);
+        }
+        let file = match open_or_make(self.rt, name) {
+            Ok(file) => file,
+            Err(error) => {
+                if error.kind() == ErrorKind::OutOfMemory {
+                    return Err(Fetch::NoMemory);
+                }
+                self.disk_faults = self.disk_faults.saturating_add(1);
+                return Err(Fetch::Failed);
+            }
+        };
+        let mut disk = FileDisk::new(file);
+        let label = self.calls;
+        self.calls = label.saturating_add(1);
+        disk.set_label(label);
+        let loan = Loan {
+            label,
+            from: disk.faults(),
+            to: None,
+        };
+        match note(alloc, &mut self.loans, name, loan) {
+            Ok(()) => Ok(disk),
+            Err(AllocError) => Err(Fetch::NoMemory),
+        }
+    }
+
+    fn put_back(&mut self, name: &str, disk: FileDisk) {
+        match self.loans.get_mut(name) {
+            Some(loan) => loan.end(disk.faults(), &mut self.disk_faults),
+            None => unreachable!("the disk is lent"),
+        }
     }
 }

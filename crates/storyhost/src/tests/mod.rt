@@ -1,9 +1,13 @@
 //! Runs of the whole program over files, input and output in memory.
 
 mod faults;
+mod journal;
 
-use crate::memory::{MemoryOutside, MemorySink, MemorySource};
+use crate::memory::{MemorySink, MemorySource};
+use crate::memory_outside::MemoryOutside;
 use crate::top::top;
+use disk_model::MemDisk;
+use gate_journal::init;
 use std::alloc::{AllocError, Global};
 use std::collections::BTreeMap;
 use std::sync::Wait;
@@ -98,6 +102,15 @@ fn bytes_of(alloc: Global, file: &File) -> Result<Vec<u8>, AllocError> {
     Ok(bytes)
 }
 
+/// A disk on which a journal was begun.
+fn new_journal(alloc: Global) -> Option<MemDisk> {
+    let mut disk = MemDisk::new(alloc);
+    match init(&mut disk) {
+        Ok(()) => Some(disk),
+        Err(_) => None,
+    }
+}
+
 fn ends_as_wanted<R: Threads + Wait + Sync>(
     rt: &R,
     alloc: Global,
@@ -117,7 +130,11 @@ fn ends_as_wanted<R: Threads + Wait + Sync>(
         words.push(String::from_str(alloc, word)?)?;
     }
     words.push(String::from_str(alloc, "a.ulx")?)?;
-    let mut outside = MemoryOutside::new(files, run.loads.to_vec(alloc)?);
+    let mut outside = MemoryOutside::new(alloc, files, run.loads.to_vec(alloc)?);
+    let Some(disk) = new_journal(alloc) else {
+        return Ok(false);
+    };
+    outside.hold(alloc, "d/journal", disk)?;
     let mut input = MemorySource::new(run.input.to_vec(alloc)?, run.most, run.reads.to_vec(alloc)?);
     let mut output = MemorySink::new(alloc, run.most, run.writes.to_vec(alloc)?);
     let status = top(rt, alloc, &words, &mut outside, &mut input, &mut output);

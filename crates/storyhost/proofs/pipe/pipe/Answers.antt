@@ -1,8 +1,9 @@
-use Rattle.storyhost.proofs.SpeechLemmas.{spoken_nothing, pipe_talked}
+use Rattle.std.proofs.Common.{inr, ◌∙◌}
+use Rattle.storyhost.proofs.BorrowLemmas.{borrowed_as}
 use Rattle.storyhost.proofs.pipe.pipe.Goals as goal
 
-pub returns-in_default-clause-value : goal.returns-in_default-clause-value
-returns-in_default-clause-value g c = spoken_nothing _ _ _
-
 pub returns-clause-value : goal.returns-clause-value
-returns-clause-value g c = rw c.status.ensures (pipe_talked _ _ _ c.in-Ok.host c.in-Ok.ensures c.converse.ensures.value)
+returns-clause-value g c = inr (borrowed_as _ _ _ c.in-Ok-disk.disk c.pipe_over-status.result.1
+    (g.O.Outside.outside c.args.outside.now) (g.O.Outside.outside c.disk.new.self) (g.O.Outside.outside c.put_back.new.self)
+    c.deref.result.now c.deref-2.result.now (c.deref.ensures ∙ c.in-Ok.ensures) (c.deref-2.ensures ∙ c.in-Ok.ensures)
+    c.in-Ok-disk.ensures.ok c.in-Ok-disk.ensures.given c.pipe_over-status.ensures.kept c.pipe_over-status.ensures.value c.put_back.ensures.back)

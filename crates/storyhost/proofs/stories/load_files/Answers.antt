@@ -1,5 +1,6 @@
 use Rattle.std.proofs.Common.{◌∙◌, ap, sym, arith, inr, is_ok, List, ℕ}
 use Rattle.storyhost.specs.StoryFile.{story_of}
+use Rattle.storyhost.proofs.BorrowLemmas.{keeps_then}
 use Rattle.storyhost.proofs.StoriesLemmas.{loaded_more, loaded_last}
 use Rattle.storyhost.proofs.stories.load_files.Goals as goal
 
@@ -16,4 +17,5 @@ loop-name-preserved g c = record {
   count = omega (arith, c.in-Ok.ensures.len);
   kept = c.in_ok-bytes.ensures.kept ∙ c.loop-name.invariant.kept;
   later = omega (arith, c.in_ok-bytes.ensures.later);
+  disks = keeps_then c.loop-name.invariant.disks c.in_ok-bytes.ensures.disks;
 }

@@ -1,4 +1,5 @@
 use Rattle.std.proofs.Common.{◌≡◌, ◌≤◌, map, length}
+use Rattle.storyhost.specs.Files.{KeepsDisks}
 use Rattle.storyhost.specs.Stories.{AreFiles}
 use Rattle.storyhost.proofs.stories.load_files.Given as goal
 
@@ -7,5 +8,6 @@ invariant-loop-name g l = record {
   are : AreFiles (g.O.Outside.outside l.initial.outside).file (map (λ n. n.now) l.names) (map (λ f. f.items) l.files.items);
   count : length l.files.items ≡ l.name-index;
   kept : (g.O.Outside.outside l.outside).file ≡ (g.O.Outside.outside l.initial.outside).file;
+  disks : KeepsDisks (g.O.Outside.outside l.initial.outside) (g.O.Outside.outside l.outside);
   later : (g.O.Outside.outside l.initial.outside).faults ≤ (g.O.Outside.outside l.outside).faults;
 }

@@ -6,6 +6,8 @@ returns-clause-done g c = inr (record {
   files = map (λ f. f.items) c.in-Ok.files.items;
   are_files = rw c.deref.ensures.value at c.in-Ok.ensures.value;
   settled = rw c.deref.ensures.value at c.in-Ok.ensures.settled;
-  spoken = rw c.deref-2.ensures.value at c.speak.ensures.value;
-  cause = c.speak.ensures.read_fault;
+  between = g.O.Outside.outside c.load_files.new.outside;
+  loaded = c.load_files.ensures.disks;
+  does = rw c.deref-2.ensures.value at c.act.ensures.value;
+  cause = c.act.ensures.read_fault;
 })

@@ -1,7 +1,7 @@
 use Rattle.std.proofs.Common.{◌≡◌, take, length, arith, ap, ◌∙◌, rules}
 use Rattle.std.proofs.lemmas.Grind.{common_steps}
 use Rattle.storyhost.proofs.MemoryLemmas.{take_capped}
-use Rattle.storyhost.proofs.memory.MemoryOutsideOutside.load.Goals as goal
+use Rattle.storyhost.proofs.memory_outside.MemoryOutsideOutside.load.Goals as goal
 
 pub returns-in-Ok-clause-value : goal.returns-in-Ok-clause-value
 returns-in-Ok-clause-value c =

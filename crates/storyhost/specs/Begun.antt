@@ -1,0 +1,50 @@
+-- What `init` leaves of its journal's disk and its output (own).
+use Rattle.std.specs.Prelude.{◌≡◌, ◌⊎◌, ℕ, IsTrue, List, [], ◌∷◌, ◌++◌, codes}
+use Rattle.disk_model.specs.Disk.{Only}
+use Rattle.gate_journal.specs.Faults.{HasInitCause}
+use Rattle.gate_journal.specs.Rows.{header}
+use Rattle.gate_journal.specs.declared.fault.InitFault.{InitFault}
+use Rattle.gate_journal.specs.declared.fault.InitFault.TheVariants as fault
+use Rattle.storyhost.specs.DiskWords.{DiskWords}
+use Rattle.storyhost.specs.Said.{SaysLine}
+use Rattle.storyhost.specs.Streams.{SourceState, SinkState, Gave, Wrote}
+use Rattle.storyhost.specs.declared.status.Status.{Status}
+use Rattle.storyhost.specs.declared.status.Status.TheVariants as ends
+
+-- the line of a folder that is ready, and of one that is in use
+abbrev pub ready : List ℕ
+ready = codes "ready\n"
+
+abbrev pub not_empty : List ℕ
+not_empty = codes "not empty\n"
+
+-- a journal was begun: the disk held nothing, and a stop leaves the header and a zero byte alone
+pub record Begun {D : Type 0} (disks : DiskWords D) (given back : D) (output new : SinkState)
+    (status : Status) : Type 0 where
+  pub empty : IsTrue (disks.tells given) → disks.seen given ≡ []
+  pub holds : IsTrue (disks.tells given) → Only (header ++ 0 ∷ []) (disks.may_leave back)
+  pub count : disks.faults back ≡ disks.faults given
+  pub says : SaysLine ends.Done ready output new status
+
+-- what a refusal to begin one leaves of the output
+abbrev pub SaysRefusal : InitFault → SinkState → SinkState → Status → Type 0
+SaysRefusal fault.NotEmpty output new status =
+    SaysLine ends.BadFolder not_empty output new status
+SaysRefusal (fault.DiskFault counts) output new status =
+    (status ≡ ends.DiskFault) × Wrote output new []
+
+-- it wasn't begun: the disk holds something, or it failed
+pub record NotBegun {D : Type 0} (disks : DiskWords D) (given back : D) (output new : SinkState)
+    (status : Status) : Type 0 where
+  pub fault : InitFault
+  pub cause :
+      HasInitCause (disks.tells given) (disks.seen given) (disks.faults given)
+      (disks.faults back) fault
+  pub says : SaysRefusal fault output new status
+
+-- one of the two, and no input is read
+pub record InitsOver {D : Type 0} (disks : DiskWords D) (given back : D)
+    (input now : SourceState) (output new : SinkState) (status : Status) : Type 0 where
+  pub gave : Gave input now []
+  pub does :
+      Begun disks given back output new status ⊎ NotBegun disks given back output new status

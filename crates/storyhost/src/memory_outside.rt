@@ -1,0 +1,247 @@
+//! An outside in memory, with the calls that are to fail.
+ghost use Rattle.std.specs.Prelude.{◌≡◌, Some, None, IfSome, IfNone, IsSomeAnd};
+ghost use Rattle.std.specs.Prelude.{ℕ, List, option_map};
+ghost use Rattle.std.specs.BTreeMap.{get_by_text};
+ghost use Rattle.storyhost.specs.Files.{Told, told_by, IsLentFrom, IsLent, returned, RisesWith};
+ghost use Rattle.storyhost.specs.Files.{told_at};
+ghost use Rattle.storyhost.specs.MemoryOutside.{disk_in, loan_in};
+ghost use Rattle.std.specs.Map.{update};
+ghost use Rattle.std.specs.Str.{bytes_eq};
+
+use crate::loan::Loan;
+use crate::outside::{Fetch, Outside};
+use disk_model::{Disk, MemDisk};
+use std::alloc::{AllocError, Global};
+use std::collections::BTreeMap;
+
+/// The most bytes of a file that a load gives.
+const MOST_OF_FILE: usize = 67_108_865;
+
+/// What stands under the name of a disk: the disk while it isn't lent, and its last loan.
+#[derive(Drop)]
+pub struct Shelf {
+    disk: Option<MemDisk>,
+    loan: Option<Loan>,
+}
+
+impl Shelf {
+    /// Lends its disk with this label, or an empty one, unless it is lent already.
+    fn lend(&mut self, alloc: Global, label: u64) -> Option<MemDisk>
+        ensures some { IfSome result (λ disk. self.new ≡ record {
+          disk = None;
+          loan = Some (record {
+            label = ⟦<MemDisk as Disk>⟧.label disk;
+            from = ⟦<MemDisk as Disk>⟧.faults disk;
+            to = None;
+          });
+        }) }
+        ensures given { IfSome result (λ disk. IsLentFrom ⟦<MemDisk as Disk>⟧.seen
+            ⟦<MemDisk as Disk>⟧.may_leave (told_by self.old.disk) disk) }
+        ensures none { IfNone result (self.new ≡ self.old) }
+    {
+        if let Some(loan) = &self.loan {
+            if loan.is_out() {
+                return None;
+            }
+        }
+        let mut disk = match self.disk.take() {
+            Some(disk) => disk,
+            None => MemDisk::new(alloc),
+        };
+        disk.set_label(label);
+        self.loan = Some(Loan {
+            label,
+            from: disk.faults(),
+            to: None,
+        });
+        Some(disk)
+    }
+
+    /// Takes its disk back. The count rises where the disk's own did.
+    fn take_back(&mut self, disk: MemDisk, faults: &mut u64)
+        requires { IsLent self.old.loan (⟦<MemDisk as Disk>⟧.label disk) }
+        ensures value { self.new ≡ record {
+          disk = Some disk;
+          loan = returned (⟦<MemDisk as Disk>⟧.faults disk) self.old.loan;
+        } }
+        ensures count { IsSomeAnd self.old.loan (λ loan. RisesWith loan.from
+            (⟦<MemDisk as Disk>⟧.faults disk) faults.old faults.new) }
+    {
+        match &mut self.loan {
+            Some(loan) => loan.end(disk.faults(), faults),
+            None => unreachable!("its disk is lent"),
+        }
+        self.disk = Some(disk);
+    }
+}
+
+/// A place for the disk of that name.
+fn make_shelf(
+    alloc: Global,
+    shelves: &mut BTreeMap<String, Shelf>,
+    name: &str,
+) -> Result<(), AllocError>
+    ensures { (other : List ℕ) → (disk_in shelves.new other ≡ disk_in shelves.old other)
+        × (loan_in shelves.new other ≡ loan_in shelves.old other) }
+{
+    if shelves.get(name).is_some() {
+        return Ok(());
+    }
+    let name = String::from_str(alloc, name)?;
+    shelves.insert(
+        name,
+        Shelf {
+            disk: None,
+            loan: None,
+        },
+    )?;
+    Ok(())
+}
+
+/// Lends the disk of that name with this label, unless it is lent already or has no place.
+fn lend(
+    alloc: Global,
+    label: u64,
+    shelves: &mut BTreeMap<String, Shelf>,
+    name: &str,
+) -> Option<MemDisk>
+    ensures disks { IfSome result (λ disk. (other : List ℕ)
+        → disk_in shelves.new other
+        ≡ told_at (disk_in shelves.old) name.now Told.Missing other) }
+    ensures loans { IfSome result (λ disk. (other : List ℕ)
+        → loan_in shelves.new other ≡ update bytes_eq (loan_in shelves.old) name.now
+        (Some (record {
+          label = ⟦<MemDisk as Disk>⟧.label disk;
+          from = ⟦<MemDisk as Disk>⟧.faults disk;
+          to = None;
+        })) other) }
+    ensures given { IfSome result (λ disk. IsLentFrom ⟦<MemDisk as Disk>⟧.seen
+        ⟦<MemDisk as Disk>⟧.may_leave (disk_in shelves.old name.now) disk) }
+    ensures none { IfNone result ((other : List ℕ)
+        → (disk_in shelves.new other ≡ disk_in shelves.old other)
+        × (loan_in shelves.new other ≡ loan_in shelves.old other)) }
+{
+    match shelves.get_mut(name) {
+        Some(shelf) => shelf.lend(alloc, label),
+        None => None,
+    }
+}
+
+/// Files and disks by their names. Loads are counted from 0, and so are the calls for a disk; those
+/// that are listed fail.
+#[derive(Drop)]
+pub struct MemoryOutside {
+    files: BTreeMap<String, Vec<u8>>,
+    shelves: BTreeMap<String, Shelf>,
+    loads: u64,
+    failing_loads: Vec<u64>,
+    faults: u64,
+    calls: u64,
+    failing_calls: Vec<u64>,
+    disk_faults: u64,
+}
+
+impl MemoryOutside {
+    /// These files and no disk, and nothing has happened yet.
+    pub fn new(
+        alloc: Global,
+        files: BTreeMap<String, Vec<u8>>,
+        failing_loads: Vec<u64>,
+    ) -> MemoryOutside
+        ensures { ⟦<MemoryOutside as Outside>⟧.outside result ≡ record {
+          file = λ name. told_by (option_map (λ bytes. bytes.items) (get_by_text files name));
+          disk = λ name. Told.Missing;
+          loan = λ name. None;
+          faults = 0;
+          disk_faults = 0;
+        } }
+    {
+        MemoryOutside {
+            files,
+            shelves: BTreeMap::new(alloc),
+            loads: 0,
+            failing_loads,
+            faults: 0,
+            calls: 0,
+            failing_calls: Vec::new(alloc),
+            disk_faults: 0,
+        }
+    }
+}
+
+impl Outside for MemoryOutside {
+    type Disk = MemDisk;
+
+    ghost outside = { λ o. record {
+      file = λ name. told_by (option_map (λ bytes. bytes.items) (get_by_text o.files name));
+      disk = disk_in o.shelves;
+      loan = loan_in o.shelves;
+      faults = o.faults;
+      disk_faults = o.disk_faults;
+    } };
+
+    fn load(&mut self, alloc: Global, name: &str) -> Result<Vec<u8>, Fetch> {
+        let call = self.loads;
+        self.loads = call.saturating_add(1);
+        let fails = self.failing_loads.contains(&call);
+        match self.files.get(name) {
+            Some(bytes) if !fails => {
+                let most = bytes.len().min(MOST_OF_FILE);
+                match bytes[..most].to_vec(alloc) {
+                    Ok(bytes) => Ok(bytes),
+                    Err(_) => Err(Fetch::NoMemory),
+                }
+            }
+            _ => {
+                self.faults = self.faults.saturating_add(1);
+                Err(Fetch::Failed)
+            }
+        }
+    }
+
+    fn disk(&mut self, alloc: Global, name: &str) -> Result<MemDisk, Fetch> {
+        let call = self.calls;
+        self.calls = call.saturating_add(1);
+        if self.failing_calls.contains(&call) {
+            self.disk_faults = self.disk_faults.saturating_add(1);
+            return Err(Fetch::Failed);
+        }
+        let Ok(()) = make_shelf(alloc, &mut self.shelves, name) else {
+            return Err(Fetch::NoMemory);
+        };
+        match lend(alloc, call, &mut self.shelves, name) {
+            Some(disk) => Ok(disk),
+            None => {
+                self.disk_faults = self.disk_faults.saturating_add(1);
+                Err(Fetch::Failed)
+            }
+        }
+    }
+
+    fn put_back(&mut self, name: &str, disk: MemDisk) {
+        match self.shelves.get_mut(name) {
+            Some(shelf) => shelf.take_back(disk, &mut self.disk_faults),
+            None => unreachable!("its disk is lent"),
+        }
+    }
+}
+
+#[cfg(test)]
+impl MemoryOutside {
+    /// Puts a disk under a name.
+    pub fn hold(&mut self, alloc: Global, name: &str, disk: MemDisk) -> Result<(), AllocError> {
+        make_shelf(alloc, &mut self.shelves, name)?;
+        if let Some(shelf) = self.shelves.get_mut(name) {
+            shelf.disk = Some(disk);
+        }
+        Ok(())
+    }
+
+    /// Takes the disk under a name, unless it is lent or there is none.
+    pub fn release(&mut self, name: &str) -> Option<MemDisk> {
+        match self.shelves.get_mut(name) {
+            Some(shelf) => shelf.disk.take(),
+            None => None,
+        }
+    }
+}
