@@ -37,18 +37,16 @@ def look(process):
 
 def main():
     spent, began = {}, time.time()
-    gate = subprocess.Popen(["rt", "ci"], cwd=TOP, stdout=subprocess.PIPE, text=True)
-    os.set_blocking(gate.stdout.fileno(), False)
-    said = ""
+    log = TOP / "bench" / "gate.log"
+    with log.open("w") as output:
+        gate = subprocess.Popen(["rt", "ci"], cwd=TOP, stdout=output)
     while gate.poll() is None:
         for process in pathlib.Path("/proc").glob("[0-9]*"):
             seen = look(process)
             if seen:
                 crate, kind, start, seconds = seen
                 spent[process.name, start] = (crate, kind, seconds)
-        said += gate.stdout.read() or ""
         time.sleep(0.25)
-    said += gate.stdout.read() or ""
     table = {}
     for crate, kind, seconds in spent.values():
         row = table.setdefault(crate, dict.fromkeys(KINDS, 0.0))
@@ -60,9 +58,8 @@ def main():
     print("| in all |", " | ".join(f"{part:.0f}" for part in sums), f"| {sum(sums):.0f} |")
     minutes = (time.time() - began) / 60
     print(f"\n{sum(sums) / 60:.0f} processor minutes in {minutes:.0f} minutes, {os.cpu_count()} processors.")
-    last = re.findall(r"^\d+ passed, \d+ failed$", said, re.M)
+    last = re.findall(r"^\d+ passed, \d+ failed$", log.read_text(), re.M)
     print(f"`rt ci`: {last[-1] if last else 'no last line'}.")
-    (TOP / "bench" / "gate.log").write_text(said)
     return gate.returncode
 
 

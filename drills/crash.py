@@ -4,8 +4,8 @@
     drills/crash.py [ROUNDS] [--seed N] [--sessions N] [--moves N] [--story FILE]
 
 A round: `init` makes a folder; `pipe` serves it; moves are sent one after the other to sessions in
-turn, and the host is killed (signal 9) at moments drawn from the seed, three times on the way. After
-each start `LAST` must show the last move whose reply had been read, or the one that was under way;
+turn, and the host is killed (signal 9) at moments drawn from the seed, up to three times on the way
+(a kill that comes late may pass the next one's place). After each start `LAST` must show the last move whose reply had been read, or the one that was under way;
 then that move is sent again. At the end each session's shows must be those that `run` writes for the
 same moves, each applied once. It says how many rounds it ran and how many kills met a move under way,
 and ends with 1 where a round lost an acknowledged move or applied one twice."""
@@ -127,8 +127,9 @@ def alone(story, moves):
 
 
 def play(draw, folder, story, sessions, kills):
-    """Plays all moves, with so many kills on the way; how many kills met a move under way."""
-    met = 0
+    """Plays all moves, with so many kills on the way at most; how many there were, and how many
+    moves were kept though their reply wasn't read."""
+    killed = met = 0
     if subprocess.run([PROGRAM, "init", folder], capture_output=True).stdout != b"ready\n":
         raise Lost("init didn't write `ready`")
     turns = [(session, n) for n in range(len(sessions[0].moves) + 1) for session in sessions]
@@ -148,6 +149,7 @@ def play(draw, folder, story, sessions, kills):
                 at += 1
             host.process.kill()
             host.end()
+            killed += 1
             host = Host(folder, story)
             for other in sessions:
                 met += look_again(host, other)
@@ -161,7 +163,7 @@ def play(draw, folder, story, sessions, kills):
     status = host.end()
     if status != 0:
         raise Lost(f"the host ended with status {status}")
-    return met
+    return killed, met
 
 
 def main():
@@ -172,7 +174,7 @@ def main():
     words.add_argument("--moves", type=int, default=12)
     words.add_argument("--story")
     asked = words.parse_args()
-    met = 0
+    killed = met = 0
     for number in range(asked.rounds):
         draw = random.Random(f"{asked.seed}/{number}")
         room = pathlib.Path(tempfile.mkdtemp(prefix="crash-"))
@@ -183,7 +185,8 @@ def main():
             for s in range(asked.sessions)
         ]
         try:
-            met += play(draw, str(room / "d"), str(story), sessions, 3)
+            kills, kept = play(draw, str(room / "d"), str(story), sessions, 3)
+            killed, met = killed + kills, met + kept
             for session in sessions:
                 if session.shows != alone(str(story), session.moves):
                     raise Lost(f"session {session.number}: its shows aren't those of its moves played alone")
@@ -191,7 +194,7 @@ def main():
             print(f"crash: round {number} of seed {asked.seed}: {cause}; its folder is {room}")
             return 1
         shutil.rmtree(room)
-    print(f"crash: {asked.rounds} rounds, {3 * asked.rounds} kills, {met} moves were kept before their reply: none lost, none applied twice")
+    print(f"crash: {asked.rounds} rounds, {killed} kills, {met} moves were kept before their reply: none lost, none applied twice")
     return 0
 
 
