@@ -1,6 +1,6 @@
 -- Calls (Glulx 3.1.3, "Calling and Returning Within Glulx").
-use Rattle.std.specs.Prelude.{ℕ, ◌+◌, ◌-◌, ◌*◌, ◌==◌, ◌||◌}
-use Rattle.std.specs.Prelude.{if◌then◌else◌, List, [], ◌∷◌, ◌++◌}
+use Rattle.std.specs.Prelude.{ℕ, ◌≡◌, ◌+◌, ◌-◌, ◌*◌, ◌==◌, ◌||◌}
+use Rattle.std.specs.Prelude.{if◌then◌else◌, List, [], ◌∷◌, ◌++◌, reverse}
 use Rattle.std.specs.Prelude.{length, take, drop, replicate, flat_map, Result, Ok, Err}
 use Rattle.byteorder.specs.Endian.{big_bytes}
 use Rattle.vm_memory.specs.MemoryMap.{MemoryMap}
@@ -8,9 +8,10 @@ use Rattle.vm_memory.specs.Access.{read}
 use Rattle.vm_stack.specs.StackState.{StackState, words}
 use Rattle.vm_stack.specs.Values.{pushed}
 use Rattle.vm_stack.specs.Locals.{local_set}
-use Rattle.vm_stack.specs.Frame.{aligned, entered, frame_head, padding_len, locals_len}
+use Rattle.vm_stack.specs.Frame.{aligned, entered, frame_head, fresh_frame, padding_len}
+use Rattle.vm_stack.specs.Frame.{locals_len}
 use Rattle.vm_flow.specs.Answer.{from_stack, from_memory, and_then}
-use Rattle.vm_flow.specs.Function.{format_in}
+use Rattle.vm_flow.specs.Function.{format_in, IsFunction}
 use Rattle.vm_flow.specs.declared.stop.FlowStop.{FlowStop}
 use Rattle.vm_flow.specs.declared.stop.FlowStop.TheVariants as stop
 
@@ -76,3 +77,16 @@ with_frame s bytes = record s { bytes = s.bytes ++ bytes; frame = length s.bytes
 -- with these values on top, the last one uppermost
 abbrev pub with_values : StackState → List ℕ → StackState
 with_values s values = record s { bytes = s.bytes ++ words values }
+
+-- a C1 that is called on a stack leaves a frame with its arguments in the locals, and no values
+abbrev pub GetsLocals : MemoryMap → StackState → ℕ → List ℕ → StackState → Type 0
+GetsLocals m s at args new =
+    (format : List ℕ) → IsFunction 0xC1 m at format
+    → new ≡ with_frame s (frame_with format (locals_of 0 format args))
+
+-- a C0 leaves a frame with locals of zero, and as its values the arguments, the last one first, and
+-- their count on top
+abbrev pub GetsValues : MemoryMap → StackState → ℕ → List ℕ → StackState → Type 0
+GetsValues m s at args new =
+    (format : List ℕ) → IsFunction 0xC0 m at format
+    → new ≡ with_values (with_frame s (fresh_frame format)) (reverse args ++ length args ∷ [])

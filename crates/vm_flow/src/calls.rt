@@ -1,10 +1,8 @@
 // Calls of functions.
-ghost use Rattle.std.specs.Prelude.{◌≡◌, ℕ, List, [], ◌∷◌, ◌++◌, length, reverse};
 ghost use Rattle.std.specs.Prelude.{OnOk};
 ghost use Rattle.vm_flow.specs.Answer.{GivesWithRoom};
 ghost use Rattle.vm_flow.specs.Call as calls;
-ghost use Rattle.vm_flow.specs.Function.{IsFunction};
-ghost use Rattle.vm_stack.specs.Frame.{left, fresh_frame};
+ghost use Rattle.vm_stack.specs.Frame.{left};
 ghost use Rattle.vm_stack.specs.Chain.{Chain, HasFrame, IsReady};
 
 use crate::arguments::give;
@@ -25,16 +23,10 @@ pub fn call(
     args: &[u32],
 ) -> Result<u32, FlowStop>
     ensures ok { GivesWithRoom (calls.called memory.now stack.old at args.now) stack.new result }
-    // the frame of a C1 has the arguments in its locals, and no values
-    ensures locals { (format : List ℕ) → IsFunction 0xC1 memory.now at format
-        → OnOk result (stack.new ≡ calls.with_frame stack.old
-        (calls.frame_with format (calls.locals_of 0 format args.now))) }
-    // that of a C0 has locals of zero, and the arguments as values, the last one first, and their
-    // count on top
-    ensures values { (format : List ℕ) → IsFunction 0xC0 memory.now at format
-        → OnOk result (stack.new ≡ calls.with_values
-        (calls.with_frame stack.old (fresh_frame format))
-        (reverse args.now ++ length args.now ∷ [])) }
+    ensures locals { OnOk result
+        (calls.GetsLocals memory.now stack.old at args.now stack.new) }
+    ensures values { OnOk result
+        (calls.GetsValues memory.now stack.old at args.now stack.new) }
 
     ensures kept { Chain stack.old → IsReady stack.old → OnOk result (Chain stack.new) }
     ensures there { OnOk result (HasFrame stack.new) }
@@ -60,6 +52,10 @@ pub fn tail_call(
 ) -> Result<u32, FlowStop>
     ensures ok { GivesWithRoom (calls.called memory.now (left stack.old) at args.now)
         stack.new result }
+    ensures locals { OnOk result
+        (calls.GetsLocals memory.now (left stack.old) at args.now stack.new) }
+    ensures values { OnOk result
+        (calls.GetsValues memory.now (left stack.old) at args.now stack.new) }
 
     ensures kept { Chain stack.old → OnOk result (Chain stack.new) }
     ensures there { OnOk result (HasFrame stack.new) }

@@ -1,8 +1,8 @@
 // Returns from a function.
-ghost use Rattle.std.specs.Prelude.{OnOk, IfOk, IfSome};
+ghost use Rattle.std.specs.Prelude.{IsOk, OnOk, IfOk, IfSome};
 ghost use Rattle.vm_flow.specs.Answer.{Gives};
 ghost use Rattle.vm_flow.specs.Return as returns;
-ghost use Rattle.vm_stack.specs.Chain.{Chain, HasFrame, EndsInOwnStub};
+ghost use Rattle.vm_stack.specs.Chain.{Chain, HasFrame, EndsInOwnStub, IsReady};
 
 use crate::stop::FlowStop;
 use vm_stack::{Stack, Stub};
@@ -11,6 +11,8 @@ use vm_stack::{Stack, Stub};
 pub fn give_back(stack: &mut Stack) -> Result<Option<Stub>, FlowStop>
     ensures ok { Gives (returns.given_back stack.old) stack.new result }
 
+    // frames in a chain are never Underflow
+    ensures chain { Chain stack.old → IsOk result }
     ensures kept { Chain stack.old → OnOk result (Chain stack.new) }
     // where a stub was taken its frame is there
     ensures there { Chain stack.old
@@ -23,6 +25,7 @@ pub fn give_back(stack: &mut Stack) -> Result<Option<Stub>, FlowStop>
 // Takes the stub on top, or gives None where nothing is left.
 fn take_top(stack: &mut Stack) -> Result<Option<Stub>, FlowStop>
     ensures ok { Gives (returns.stub_or_end stack.old) stack.new result }
+    ensures ready { IsReady stack.old → IsOk result }
     ensures kept { Chain stack.old → EndsInOwnStub stack.old → OnOk result (Chain stack.new) }
     ensures there { Chain stack.old
         → IfOk result (λ stub. IfSome stub (λ _. HasFrame stack.new)) }

@@ -1,24 +1,26 @@
--- The first end of a linear search, by its keys.
-use Rattle.std.proofs.Common.{◌≡◌, ◌∙◌, ◌⊎◌, inl, inr, ℕ, zero, suc, ◌+◌, ◌<◌, ◌≤◌, ◌^◌, ◌&&◌, Bool, true, false, cond, nat_lt, Option, Some, None, Result, Ok, Err, refl, ap, subst, arith}
+-- The first end of a search, by its keys.
+use Rattle.std.proofs.Common.{◌≡◌, ◌∙◌, ◌⊎◌, inl, inr, ℕ, zero, suc, ◌+◌, ◌<◌, ◌≤◌, ◌^◌, ◌&&◌, Bool, true, false, cond, nat_lt, Option, Some, None, Result, Ok, Err, refl, sym, ap, subst, arith}
 use Rattle.std.specs.declared.cmp.Ordering.TheVariants.{Less, Equal, Greater}
 use Rattle.std.specs.declared.cmp.Ordering.{Ordering}
 use Rattle.vm_memory.specs.MemoryMap.{MemoryMap}
+use Rattle.vm_memory.specs.Access.{read}
 use Rattle.vm_memory.specs.declared.fault.MemFault.{MemFault}
 use Rattle.vm_search.specs.Key.{compared, ends_at_zero, is_search, is_zero}
 use Rattle.vm_search.specs.Ending.{Ending, ending, failure, at_structure, first_ending, or_next, told, told_answer}
-use Rattle.vm_search.specs.Linear.{found_at, is_past, linear_ends, at_index, structure_at}
-use Rattle.vm_search.specs.Laws.{NoneOf, Finds, Fails, FindsOrFails}
+use Rattle.vm_search.specs.Linear.{is_past, linear_ends, at_index}
+use Rattle.vm_search.specs.Linked.{linked_ends, link_of, or_at_link, place_at}
+use Rattle.vm_search.specs.Laws.{Structures, table, chain, NoneOf, Finds, Fails, Answers, FindsOrFails}
 use Rattle.vm_search.specs.declared.query.Query.{Query}
 use Rattle.vm_search.specs.declared.query.Found.{Found}
 use Rattle.vm_search.specs.declared.fault.SearchStop.{SearchStop}
 use Rattle.vm_search.specs.declared.fault.SearchStop.TheVariants.{BadSearch, Spent}
 
 -- the step that ends a search, before which none does
-record First (ends : ℕ → Option Ending) (n : ℕ) (e : Ending) : Type 0 where
-  index : ℕ
-  from : n ≤ index
-  here : ends index ≡ Some e
-  before : (j : ℕ) → n ≤ j → j < index → ends j ≡ None
+pub record First (ends : ℕ → Option Ending) (n : ℕ) (e : Ending) : Type 0 where
+  pub index : ℕ
+  pub from : n ≤ index
+  pub here : ends index ≡ Some e
+  pub before : (j : ℕ) → n ≤ j → j < index → ends j ≡ None
 
 between : (ends : ℕ → Option Ending) (n j : ℕ) → ends n ≡ None → ((i : ℕ) → suc n ≤ i → i < j → ends i ≡ None)
     → (i : ℕ) → n ≤ i → i < j → ends i ≡ None
@@ -45,7 +47,7 @@ look ends n e None rest more is h =
       before = between ends n r.index is r.before;
     }
 
-first : (ends : ℕ → Option Ending) (k n : ℕ) (e : Ending) → first_ending ends n k ≡ Some e → First ends n e
+pub first : (ends : ℕ → Option Ending) (k n : ℕ) (e : Ending) → first_ending ends n k ≡ Some e → First ends n e
 unfolding first_ending
 first ends zero n e h = absurd cc
 first ends (suc k) n e h =
@@ -60,7 +62,7 @@ two : (a b : Bool) → (a && b) ≡ true → (a ≡ true) × (b ≡ true)
 two true b e = (refl, e)
 two false b e = cc
 
--- a step without an end
+-- a look without an end
 record Goes (r : Result Ordering MemFault) (last : Bool) : Type 0 where
   other : r ≡ Ok Equal → ⊥
   more : last ≡ false
@@ -74,23 +76,53 @@ goes looked found failed true (Ok Greater) h = absurd cc
 goes looked found failed false (Ok Less) h = record { other = λ e. cc; more = refl }
 goes looked found failed false (Ok Greater) h = record { other = λ e. cc; more = refl }
 
-past_ends : (b : Bool) (x : Ending) (o : Option Ending) → cond b (Some x) o ≡ None → (b ≡ false) × (o ≡ None)
+pub past_ends : (b : Bool) (x : Ending) (o : Option Ending) → cond b (Some x) o ≡ None → (b ≡ false) × (o ≡ None)
 past_ends true x o h = absurd cc
 past_ends false x o h = (refl, h)
 
-none_at : (m : MemoryMap) (q : Query) (i : ℕ) → linear_ends m q i ≡ None
-    → Goes (compared m q (structure_at q i)) (ends_at_zero q && is_zero m q (structure_at q i))
-none_at m q i h =
-    let p = past_ends (is_past q i) (ending i (Ok (failure q))) (at_index m q i) h in
-    goes (i + 1) (found_at q i) (failure q) (ends_at_zero q && is_zero m q (structure_at q i)) (compared m q (structure_at q i)) p.1
+pub linkable : (looked : ℕ) (o : Option Ending) (r : Result ℕ MemFault) → or_at_link looked o r ≡ None
+    → (o ≡ None) × ((f : MemFault) → r ≡ Err f → ⊥)
+linkable looked (Some y) r h = absurd cc
+linkable looked None (Ok x) h = (refl, λ f e. cc)
+linkable looked None (Err f) h = absurd cc
 
-none_before : (m : MemoryMap) (q : Query) (n : ℕ) → ((j : ℕ) → 0 ≤ j → j < n → linear_ends m q j ≡ None) → NoneOf m q n
-none_before m q n h = record {
-  other = λ i l e. (none_at m q i (h i (omega arith) l)).other e;
-  goes_on = λ i l t. clash (ends_at_zero q && is_zero m q (structure_at q i)) (both (ends_at_zero q) (is_zero m q (structure_at q i)) t.0 t.1)
-      (none_at m q i (h i (omega arith) l)).more;
+no_link : (looked : ℕ) (o : Option Ending) → or_at_link looked o (Ok 0) ≡ o
+no_link looked (Some y) = refl
+no_link looked None = refl
+
+-- ---- the steps of a search over structures
+
+abbrev last : MemoryMap → Query → ℕ → Bool
+last m q at = ends_at_zero q && is_zero m q at
+
+-- each ends where none is left, at its structure, or where the next can't be read
+abbrev Steps : MemoryMap → Query → Structures → (ℕ → Result ℕ MemFault) → (ℕ → Option Ending) → Type 0
+Steps m q s next ends = (i : ℕ) → ends i
+    ≡ cond (s.none_left i) (Some (ending i (Ok s.failure)))
+    (or_at_link (i + 1) (at_structure (i + 1) (s.found i) s.failure (last m q (s.place i)) (compared m q (s.place i))) (next i))
+
+linear_steps : (m : MemoryMap) (q : Query) → Steps m q (table q) (λ i. Ok 0) (linear_ends m q)
+linear_steps m q i = ap (λ (o : Option Ending). cond (is_past q i) (Some (ending i (Ok (failure q)))) o) (sym (no_link (i + 1) (at_index m q i)))
+
+linked_steps : (m : MemoryMap) (q : Query) → Steps m q (chain m q) (λ i. read 4 m (link_of q (place_at m q i))) (linked_ends m q)
+linked_steps m q i = refl
+
+none_before : (m : MemoryMap) (q : Query) (s : Structures) (next : ℕ → Result ℕ MemFault) (ends : ℕ → Option Ending) → Steps m q s next ends
+    → (n : ℕ) → ((j : ℕ) → 0 ≤ j → j < n → ends j ≡ None) → NoneOf m q s n
+none_before m q s next ends steps n h = record {
+  some = λ i l. (step_open i l).0;
+  other = λ i l e. (went i l).other e;
+  goes_on = λ i l t. clash (last m q (s.place i)) (both (ends_at_zero q) (is_zero m q (s.place i)) t.0 t.1) (went i l).more;
 }
   where
+    step_open : (i : ℕ) → i < n → (s.none_left i ≡ false)
+        × (or_at_link (i + 1) (at_structure (i + 1) (s.found i) s.failure (last m q (s.place i)) (compared m q (s.place i))) (next i) ≡ None)
+    step_open i l = past_ends (s.none_left i) (ending i (Ok s.failure)) _ (sym (steps i) ∙ h i (omega arith) l)
+
+    went : (i : ℕ) → i < n → Goes (compared m q (s.place i)) (last m q (s.place i))
+    went i l = goes (i + 1) (s.found i) s.failure (last m q (s.place i)) (compared m q (s.place i))
+        (linkable (i + 1) (at_structure (i + 1) (s.found i) s.failure (last m q (s.place i)) (compared m q (s.place i))) (next i) (step_open i l).1).0
+
     clash : (b : Bool) → b ≡ true → b ≡ false → ⊥
     clash b e f = cc
 
@@ -118,16 +150,34 @@ tell left (Some e) found h =
     let t = tells-left (nat_lt left e.looked) e.looked e.answer found h in
     record { e = e; is = refl; answer = t.0; looked = t.1 }
 
+chosen : (b : Bool) (r : Result Found SearchStop) (found : Found) → cond b r (Err BadSearch) ≡ Ok found → r ≡ Ok found
+chosen true r found h = h
+chosen false r found h = absurd cc
+
+-- the step at which a search that answers has ended
+pub record Ended (ends : ℕ → Option Ending) (found : Found) : Type 0 where
+  pub e : Ending
+  pub first : First ends 0 e
+  pub answer : e.answer ≡ Ok found.answer
+  pub looked : found.looked ≡ e.looked
+
+pub ended : (q : Query) (ends : ℕ → Option Ending) (found : Found)
+    → cond (is_search q) (told q.left (first_ending ends 0 (2 ^ 32))) (Err BadSearch) ≡ Ok found → Ended ends found
+ended q ends found h =
+    let o : Option Ending = first_ending ends 0 (2 ^ 32) in
+    let t : Told o found = tell q.left o found (chosen (is_search q) (told q.left o) found h) in
+    record { e = t.e; first = first ends (2 ^ 32) 0 t.e t.is; answer = t.answer; looked = t.looked }
+
 -- an end at a structure
-data End (r : Result Ordering MemFault) (last : Bool) (looked found failed : ℕ) (e : Ending) : Type 0 where
+pub data End (r : Result Ordering MemFault) (last : Bool) (looked found failed : ℕ) (e : Ending) : Type 0 where
   Stops : (f : MemFault) → e ≡ ending looked (Err f) → End r last looked found failed e
   Hits : r ≡ Ok Equal → e ≡ ending looked (Ok found) → End r last looked found failed e
   Misses : (r ≡ Ok Equal → ⊥) → last ≡ true → e ≡ ending looked (Ok failed) → End r last looked found failed e
 
-some_is : (x y : Ending) → Some x ≡ Some y → y ≡ x
+pub some_is : (x y : Ending) → Some x ≡ Some y → y ≡ x
 some_is x y h = cc
 
-end_at : (looked found failed : ℕ) (last : Bool) (r : Result Ordering MemFault) (e : Ending)
+pub end_at : (looked found failed : ℕ) (last : Bool) (r : Result Ordering MemFault) (e : Ending)
     → at_structure looked found failed last r ≡ Some e → End r last looked found failed e
 end_at looked found failed last (Err f) e h = Stops f (some_is _ e h)
 end_at looked found failed last (Ok Equal) e h = Hits refl (some_is _ e h)
@@ -136,49 +186,61 @@ end_at looked found failed true (Ok Greater) e h = Misses (λ is. cc) refl (some
 end_at looked found failed false (Ok Less) e h = absurd cc
 end_at looked found failed false (Ok Greater) e h = absurd cc
 
-answer_is : (r : Result ℕ MemFault) (x y : ℕ) → r ≡ Ok x → r ≡ Ok y → x ≡ y
+pub answer_is : (r : Result ℕ MemFault) (x y : ℕ) → r ≡ Ok x → r ≡ Ok y → x ≡ y
 answer_is r x y e f = cc
 
-never : {P : Type 0} (r : Result ℕ MemFault) (x : ℕ) (f : MemFault) → r ≡ Ok x → r ≡ Err f → P
+pub never : {P : Type 0} (r : Result ℕ MemFault) (x : ℕ) (f : MemFault) → r ≡ Ok x → r ≡ Err f → P
 never r x f e h = absurd cc
 
-at_end : (m : MemoryMap) (q : Query) (i : ℕ) (e : Ending) (found : Found) (b : Bool) → is_past q i ≡ b
-    → cond b (Some (ending i (Ok (failure q)))) (at_index m q i) ≡ Some e
-    → e.answer ≡ Ok found.answer → found.looked ≡ e.looked → NoneOf m q i → Finds m q found ⊎ Fails m q found
-at_end m q i e found true p h a l n =
-    let is : e ≡ ending i (Ok (failure q)) = some_is _ e h in
+-- an answer doesn't come from a link
+unlinked : (looked : ℕ) (o : Option Ending) (r : Result ℕ MemFault) (e : Ending) (x : ℕ)
+    → or_at_link looked o r ≡ Some e → e.answer ≡ Ok x → o ≡ Some e
+unlinked looked (Some y) r e x h a = h
+unlinked looked None (Ok n) e x h a = absurd cc
+unlinked looked None (Err f) e x h a = never e.answer x f a (ap (λ (z : Ending). z.answer) (some_is (ending looked (Err f)) e h))
+
+at_end : (m : MemoryMap) (q : Query) (s : Structures) (i : ℕ) (e : Ending) (found : Found) (next : Result ℕ MemFault) (b : Bool) → s.none_left i ≡ b
+    → cond b (Some (ending i (Ok s.failure)))
+    (or_at_link (i + 1) (at_structure (i + 1) (s.found i) s.failure (last m q (s.place i)) (compared m q (s.place i))) next) ≡ Some e
+    → e.answer ≡ Ok found.answer → found.looked ≡ e.looked → NoneOf m q s i → Finds m q s found ⊎ Fails m q s found
+at_end m q s i e found next true p h a l n =
+    let is : e ≡ ending i (Ok s.failure) = some_is _ e h in
     inr (record {
       index = i;
       before = n;
-      answer = answer_is e.answer found.answer (failure q) a (ap (λ (x : Ending). x.answer) is);
+      answer = answer_is e.answer found.answer s.failure a (ap (λ (x : Ending). x.answer) is);
       ends = inl (p, l ∙ ap (λ (x : Ending). x.looked) is);
     })
-at_end m q i e found false p h a l n =
-    elim (end_at (i + 1) (found_at q i) (failure q) (ends_at_zero q && is_zero m q (structure_at q i)) (compared m q (structure_at q i)) e h)
-    as (λ _. Finds m q found ⊎ Fails m q found) [
+at_end m q s i e found next false p h a l n =
+    elim (end_at (i + 1) (s.found i) s.failure (last m q (s.place i)) (compared m q (s.place i)) e
+    (unlinked (i + 1) (at_structure (i + 1) (s.found i) s.failure (last m q (s.place i)) (compared m q (s.place i))) next e found.answer h a))
+    as (λ _. Finds m q s found ⊎ Fails m q s found) [
       | Stops f is ↦ never e.answer found.answer f a (ap (λ (x : Ending). x.answer) is)
       | Hits eq is ↦ inl (record {
         index = i;
+        some = p;
         equal = eq;
         before = n;
-        answer = answer_is e.answer found.answer (found_at q i) a (ap (λ (x : Ending). x.answer) is);
+        answer = answer_is e.answer found.answer (s.found i) a (ap (λ (x : Ending). x.answer) is);
         looked = l ∙ ap (λ (x : Ending). x.looked) is;
       })
       | Misses ne last is ↦ inr (record {
         index = i;
         before = n;
-        answer = answer_is e.answer found.answer (failure q) a (ap (λ (x : Ending). x.answer) is);
-        ends = inr (ne, two (ends_at_zero q) (is_zero m q (structure_at q i)) last, l ∙ ap (λ (x : Ending). x.looked) is);
+        answer = answer_is e.answer found.answer s.failure a (ap (λ (x : Ending). x.answer) is);
+        ends = inr (ne, two (ends_at_zero q) (is_zero m q (s.place i)) last, l ∙ ap (λ (x : Ending). x.looked) is);
       })
     ]
 
-chosen : (b : Bool) (r : Result Found SearchStop) (found : Found) → cond b r (Err BadSearch) ≡ Ok found → r ≡ Ok found
-chosen true r found h = h
-chosen false r found h = absurd cc
+answers : (m : MemoryMap) (q : Query) (s : Structures) (next : ℕ → Result ℕ MemFault) (ends : ℕ → Option Ending) → Steps m q s next ends → Answers m q s ends
+answers m q s next ends steps found h =
+    let t : Ended ends found = ended q ends found h in
+    let f : First ends 0 t.e = t.first in
+    at_end m q s f.index t.e found (next f.index) (s.none_left f.index) refl (sym (steps f.index) ∙ f.here) t.answer t.looked
+    (none_before m q s next ends steps f.index f.before)
 
 pub finds_or_fails : FindsOrFails
-finds_or_fails m q found h =
-    let o : Option Ending = first_ending (linear_ends m q) 0 (2 ^ 32) in
-    let t : Told o found = tell q.left o found (chosen (is_search q) (told q.left o) found h) in
-    let f : First (linear_ends m q) 0 t.e = first (linear_ends m q) (2 ^ 32) 0 t.e t.is in
-    at_end m q f.index t.e found (is_past q f.index) refl f.here t.answer t.looked (none_before m q f.index f.before)
+finds_or_fails m q = (
+  answers m q (table q) (λ i. Ok 0) (linear_ends m q) (linear_steps m q),
+  answers m q (chain m q) (λ i. read 4 m (link_of q (place_at m q i))) (linked_ends m q) (linked_steps m q),
+)

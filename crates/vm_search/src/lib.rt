@@ -13,7 +13,7 @@ mod query;
 pub use binary_search::binary;
 pub use blocks::{copy, zero};
 pub use fault::SearchStop;
-pub use laws::finds_or_fails;
+pub use laws::{ends_soon_or_never, finds_or_fails, meets_or_misses};
 pub use linear_search::linear;
 pub use linked_search::linked;
 pub use query::{Found, Query};

@@ -6,6 +6,7 @@ ghost use Rattle.vm_stack.specs.Answer.{Leaves};
 ghost use Rattle.vm_stack.specs.Frame as frames;
 ghost use Rattle.vm_stack.specs.Token as tokens;
 ghost use Rattle.vm_stack.specs.Chain.{Chain, HasFrame, IsReady, IsFormat, EndsInOwnStub};
+ghost use Rattle.vm_stack.specs.Saved.{LinkedFrames};
 
 use crate::bytes::number;
 use crate::fault::StackFault;
@@ -73,8 +74,11 @@ impl Stack {
         ensures ok { Leaves (frames.cut_to self.old to) self.new result }
         ensures err { OnErr result (self.new ≡ self.old) }
 
+        // a chain stays one where a stub ends at the place, and whatever stands is one where the
+        // bytes that are left are frames with a stub on top
         ensures kept { Chain self.old → tokens.ends_stub self.old to ≡ true
             → OnOk result (Chain self.new) }
+        ensures linked { LinkedFrames (take to self.old.bytes) → OnOk result (Chain self.new) }
         ensures own { OnOk result (EndsInOwnStub self.new) }
         ensures there { tokens.ends_stub self.old to ≡ true → OnOk result (HasFrame self.new) }
     {
