@@ -69,7 +69,7 @@ in_front low high (Ok xs) = refl
 in_front low high (Err f) = refl
 
 -- two modes, and then the rest
-two_modes : (m : MemoryMap) (p byte : ℕ) (k k' : Kind) (ks : List Kind) (low high : Mode) → read 1 m p ≡ Ok byte → mode_of k (byte % 16) ≡ Ok low → mode_of k' (byte / 16) ≡ Ok high → modes_at m p (k ∷ k' ∷ ks) ≡ after (low ∷ high ∷ []) (modes_at m (p + 1) ks)
+pub two_modes : (m : MemoryMap) (p byte : ℕ) (k k' : Kind) (ks : List Kind) (low high : Mode) → read 1 m p ≡ Ok byte → mode_of k (byte % 16) ≡ Ok low → mode_of k' (byte / 16) ≡ Ok high → modes_at m p (k ∷ k' ∷ ks) ≡ after (low ∷ high ∷ []) (modes_at m (p + 1) ks)
 unfolding modes_at
 two_modes m p byte k k' ks low high e g h = rw e (rw g (rw h (in_front low high (modes_at m (p + 1) ks))))
 
@@ -77,7 +77,7 @@ pub modes_at-two : (m : MemoryMap) (p i byte : ℕ) (ks : List Kind) (low high :
 modes_at-two m p i byte ks low high h e g g' = ap (modes_at m p) (left_two ks i h) ∙ two_modes m p byte _ _ _ low high e g g'
 
 -- the last mode of an odd number
-last_mode : (m : MemoryMap) (p byte : ℕ) (k : Kind) (low : Mode) → read 1 m p ≡ Ok byte → mode_of k (byte % 16) ≡ Ok low → modes_at m p (k ∷ []) ≡ Ok (low ∷ [])
+pub last_mode : (m : MemoryMap) (p byte : ℕ) (k : Kind) (low : Mode) → read 1 m p ≡ Ok byte → mode_of k (byte % 16) ≡ Ok low → modes_at m p (k ∷ []) ≡ Ok (low ∷ [])
 unfolding modes_at
 last_mode m p byte k low e g = rw e (rw g refl)
 
@@ -115,7 +115,7 @@ whole_none modes i n e s l = s ∙ ap (after (take i modes)) l ∙ ap Ok (append
 left_mode : (ms : List Mode) (i : ℕ) → i < length ms → drop i ms ≡ get_or ms i Zero ∷ drop (i + 1) ms
 left_mode ms i h = rw (add-one, drop-cons ms i Zero) refl
 
-first_operand : (m : MemoryMap) (k : Kind) (ks : List Kind) (x : Mode) (ms : List Mode) (s more : Instr) → operand m k x s ≡ Ok more → operands m (k ∷ ks) (x ∷ ms) s ≡ operands m ks ms more
+pub first_operand : (m : MemoryMap) (k : Kind) (ks : List Kind) (x : Mode) (ms : List Mode) (s more : Instr) → operand m k x s ≡ Ok more → operands m (k ∷ ks) (x ∷ ms) s ≡ operands m ks ms more
 unfolding operands
 first_operand m k ks x ms s more e = rw e refl
 

@@ -1,4 +1,8 @@
 pub mod OpcodeLemmas
 pub mod InstructionLemmas
 pub mod BriefLemmas
+pub mod StandLemmas
+pub mod OpcodeBytesLemmas
+pub mod OperandBytesLemmas
+pub mod SpellingLemmas
 mod StandardFacts

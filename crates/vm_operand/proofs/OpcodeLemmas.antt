@@ -45,7 +45,7 @@ op_of-number_of (op.Search Linearsearch) = refl
 op_of-number_of (op.Search o) = refl
 
 -- a row that is found has the number
-first_with-number : {A : Type 0} (number : A → ℕ) (xs : List A) (n : ℕ) → IfSome (first_with number xs n) (λ x. number x ≡ n)
+pub first_with-number : {A : Type 0} (number : A → ℕ) (xs : List A) (n : ℕ) → IfSome (first_with number xs n) (λ x. number x ≡ n)
 first_with-number number [] n = tt
 first_with-number number (x ∷ xs) n =
     elim (nat_eq n (number x)) as (λ b. (b ≡ true → n ≡ number x) → IfSome (cond b (Some x) (first_with number xs n)) (λ y. number y ≡ n))

@@ -2,6 +2,7 @@ pub mod Opcode
 pub mod Reading
 pub mod Mode
 pub mod Instruction
+pub mod Spelling
 pub mod Brief
 pub mod Arithmetic
 pub mod Branch

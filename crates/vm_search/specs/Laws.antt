@@ -19,8 +19,8 @@ Equals m q at = compared m q at ≡ Ok Equal
 abbrev pub Terminates : MemoryMap → Query → ℕ → Type 0
 Terminates m q at = (ends_at_zero q ≡ true) × (is_zero m q at ≡ true)
 
--- structures in the order in which they are looked at: their addresses, the answer for each, whether
--- none is left, and the answer where none is found
+-- structures in the order in which they are looked at: their addresses, the answer for each,
+-- whether none is left, and the answer where none is found
 pub record Structures : Type 0 where
   pub place : ℕ → ℕ
   pub found : ℕ → ℕ
@@ -29,8 +29,12 @@ pub record Structures : Type 0 where
 
 -- those of a table, and those of a chain, which ends at place 0
 abbrev pub table : Query → Structures
-table q =
-    record { place = structure_at q; found = found_at q; none_left = is_past q; failure = failure q }
+table q = record {
+  place = structure_at q;
+  found = found_at q;
+  none_left = is_past q;
+  failure = failure q;
+}
 
 abbrev pub chain : MemoryMap → Query → Structures
 chain m q = record {
