@@ -4,6 +4,7 @@ use Rattle.std.specs.Prelude.{false, ◌&&◌, ◌==◌, nat_lt, nat_le, if◌th
 use Rattle.std.specs.Prelude.{◌++◌, length, drop, replicate, Option, Some, None, Result, Ok}
 use Rattle.std.specs.Prelude.{Err}
 use Rattle.std.specs.Int.{w32, to_be_bytes}
+use Rattle.vm_memory.specs.declared.memory.TheConstants.{MAX_SIZE}
 use Rattle.quetzal.specs.declared.fault.SaveFault.{SaveFault}
 use Rattle.quetzal.specs.declared.fault.SaveFault.TheVariants.{BadRuns}
 use Rattle.quetzal.specs.Fault.{or_else}
@@ -12,7 +13,7 @@ use Rattle.quetzal.specs.Runs.{restored, coded, differences}
 
 -- a size that memory may have
 abbrev pub is_size : ℕ → ℕ → Bool
-is_size endmem size = size % 256 == 0 && (nat_le endmem size && nat_le size 16777216)
+is_size endmem size = size % 256 == 0 && (nat_le endmem size && nat_le size MAX_SIZE)
 
 -- RAM as it was at first, in a memory of this size: the file's, and zeros
 abbrev pub original : List ℕ → ℕ → ℕ → List ℕ

@@ -16,7 +16,7 @@ use crate::reader::story_rom;
 use crate::runs::{compressed_memory, restore};
 use glulx_image::Image;
 use std::alloc::{AllocError, Global};
-use vm_memory::Memory;
+use vm_memory::{MAX_SIZE, Memory};
 
 /// Whether memory may have this size.
 fn is_size(endmem: u32, size: u32) -> bool
@@ -112,7 +112,7 @@ pub fn write_memory(
     ram: &[u8],
 ) -> Result<Vec<u8>, AllocError>
     requires { (ramstart ≤ length image.now) × (length image.now ≤ ramstart + length ram.now)
-        × (ramstart + length ram.now ≤ 16777216) }
+        × (ramstart + length ram.now ≤ MAX_SIZE) }
     ensures { IfOk result (λ v. v.items ≡ print_memory image.now ramstart ram.now) }
 {
     let size = ramstart as usize + ram.len();

@@ -27,6 +27,7 @@ use Rattle.vm_exec.specs.Rows.State.{state_work}
 use Rattle.vm_exec.specs.Rows.Search.{search_work}
 use Rattle.vm_exec.specs.Rows.Text.{string_rule, number_rule}
 use Rattle.vm_exec.specs.TextStub.{number_over}
+use Rattle.vm_memory.specs.declared.faults.TheConstants.{BAD_OPCODE, BUDGET_SPENT}
 use Rattle.vm_exec.specs.declared.machine.Machine.{Machine}
 use Rattle.vm_exec.specs.declared.step.Out.{Out}
 use Rattle.vm_exec.specs.declared.step.Out.TheVariants as out
@@ -68,7 +69,7 @@ abbrev pub dest_of : List d.Dest → ℕ → d.Dest
 dest_of ds i = slice_index_or ds i dest.Discard
 
 abbrev pub work_of : Option Op → Machine → List ℕ → List d.Dest → Work
-work_of None m args to = Free (Err 6)
+work_of None m args to = Free (Err BAD_OPCODE)
 work_of (Some op) m args to = work op m (slice_index args) (dest_of to)
 
 -- one tick, and the addition
@@ -118,5 +119,5 @@ IsPriced left step.Quit = Unit {0}
 -- a step when so many ticks are left
 abbrev pub told : ℕ → Charged → Result (Machine × Step) ℕ
 told left c =
-    if nat_lt left c.cost then Err 24
+    if nat_lt left c.cost then Err BUDGET_SPENT
     else c.gives >>= (λ x. Ok (x.0, step_of x.1 c.cost))

@@ -19,6 +19,7 @@ use Rattle.vm_flow.specs.Return.{given_back}
 use Rattle.vm_flow.specs.Throw.{thrown}
 use Rattle.vm_exec.specs.Fault.{stacked, flowed}
 use Rattle.vm_exec.specs.TextStub.{text_on}
+use Rattle.vm_memory.specs.declared.faults.TheConstants.{BAD_STUB}
 use Rattle.vm_exec.specs.declared.machine.Machine.{Machine}
 use Rattle.vm_exec.specs.declared.step.Out.{Out}
 use Rattle.vm_exec.specs.declared.step.Out.TheVariants.{Ran, Char, Glk, Quit}
@@ -95,7 +96,7 @@ stub_dest s =
     if s.kind == 0 then Ok dest.Discard
     else (if s.kind == 1 then Ok (dest.At s.at)
     else (if s.kind == 2 then Ok (dest.Local s.at)
-    else (if s.kind == 3 then Ok dest.Push else Err 13)))
+    else (if s.kind == 3 then Ok dest.Push else Err BAD_STUB)))
 
 -- the function begins, over what is on the stack
 abbrev pub enters : Machine → ℕ → List ℕ → Rule

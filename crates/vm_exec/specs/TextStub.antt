@@ -7,6 +7,7 @@ use Rattle.vm_stack.specs.declared.stub.Stub.{Stub}
 use Rattle.vm_string.specs.declared.piece.Cursor.{Cursor}
 use Rattle.vm_exec.specs.Fault.{stacked}
 use Rattle.vm_exec.specs.Number.{number_text}
+use Rattle.vm_memory.specs.declared.faults.TheConstants.{BAD_STUB}
 use Rattle.vm_exec.specs.declared.machine.Machine.{Machine}
 use Rattle.vm_exec.specs.declared.text.Text.TheVariants.{Pieces, Number}
 
@@ -34,14 +35,14 @@ suspended m held kind at pc = with_end m held >>= (λ n. stubbed n kind at pc)
 abbrev pub unstubbed : Machine → Result (Machine × Stub) ℕ
 unstubbed m =
     stacked (stub_taken m.stack) >>= (λ x.
-    if x.1.frame == m.stack.frame then Ok (record m { stack = x.0 }, x.1) else Err 13)
+    if x.1.frame == m.stack.frame then Ok (record m { stack = x.0 }, x.1) else Err BAD_STUB)
 
 -- behind the last character of a number the code goes on
 abbrev pub number_over : Machine → Bool → Result Machine ℕ
 number_over m false = Ok m
 number_over m true =
     unstubbed m >>= (λ x.
-    if x.1.kind == 0x11 then Ok (record x.0 { pc = x.1.pc }) else Err 13)
+    if x.1.kind == 0x11 then Ok (record x.0 { pc = x.1.pc }) else Err BAD_STUB)
 
 -- what is left of a number from a place on
 abbrev pub number_on : Machine → ℕ → ℕ → Bool → Result Machine ℕ
@@ -70,4 +71,4 @@ text_on m s =
     else (if s.kind == 0x12 then number_on m s.pc s.at true
     else (if s.kind == 0x13 then string_on m 0xE0 s
     else (if s.kind == 0x14 then string_on m 0xE2 s
-    else Err 13))))
+    else Err BAD_STUB))))

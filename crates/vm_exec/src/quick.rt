@@ -18,7 +18,7 @@ ghost use Rattle.vm_operand.specs.declared.operand.Kind.TheVariants as kind;
 use crate::Machine;
 use crate::step::Step;
 use std::alloc::Global;
-use vm_memory::Trap;
+use vm_memory::{MAX_SIZE, Trap};
 use vm_operand::{
     Array, Branch, Dest, Load, Math, Move, Op, byte_constant, byte_local, dest_by, load_by,
 };
@@ -53,7 +53,7 @@ impl<'i> Machine<'i> {
     ) -> Result<Step, Trap>
         requires left { 0 < left }
         requires here { OpcodeAt self.old.memory self.old.pc op place }
-        requires within { place ≤ 16777216 }
+        requires within { place ≤ MAX_SIZE }
         ensures does { Does (told left (charged (fetched self.old))) self.new result }
         ensures fit { IsFit self.old → IfOk result (λ step. GoesOnFit self.new step) }
         ensures cost { IfOk result (λ step. IsPriced left step) }
@@ -107,7 +107,7 @@ impl<'i> Machine<'i> {
     #[inline(always)]
     fn quick_math(&self, math: Math, place: u32) -> Option<Quick>
         requires here { OpcodeAt self.now.memory self.now.pc (op.Math math) place }
-        requires within { place ≤ 16777216 }
+        requires within { place ≤ MAX_SIZE }
         ensures { IfSome result (λ quick. IsFetched self.now (op.Math math) quick) }
     {
         if math.is_binary() {
@@ -120,7 +120,7 @@ impl<'i> Machine<'i> {
     #[inline(always)]
     fn quick_branch(&self, branch: Branch, place: u32) -> Option<Quick>
         requires here { OpcodeAt self.now.memory self.now.pc (op.Branch branch) place }
-        requires within { place ≤ 16777216 }
+        requires within { place ≤ MAX_SIZE }
         ensures { IfSome result (λ quick. IsFetched self.now (op.Branch branch) quick) }
     {
         match branch.loads() {
@@ -134,7 +134,7 @@ impl<'i> Machine<'i> {
     #[inline(always)]
     fn quick_array(&self, array: Array, place: u32) -> Option<Quick>
         requires here { OpcodeAt self.now.memory self.now.pc (op.Array array) place }
-        requires within { place ≤ 16777216 }
+        requires within { place ≤ MAX_SIZE }
         ensures { IfSome result (λ quick. IsFetched self.now (op.Array array) quick) }
     {
         if array.reads() {
@@ -217,7 +217,7 @@ impl<'i> Machine<'i> {
     fn two_and_store(&self, op: Op, place: u32) -> Option<Quick>
         requires here { OpcodeAt self.now.memory self.now.pc op place }
         requires kinds { kinds_of op ≡ kind.Load ∷ kind.Load ∷ kind.Store ∷ [] }
-        requires within { place ≤ 16777216 }
+        requires within { place ≤ MAX_SIZE }
         requires words { row.width_of (Some op) ≡ 4 }
         ensures { IfSome result (λ quick. IsFetched self.now op quick) }
     {
@@ -240,7 +240,7 @@ impl<'i> Machine<'i> {
     fn two(&self, op: Op, place: u32) -> Option<Quick>
         requires here { OpcodeAt self.now.memory self.now.pc op place }
         requires kinds { kinds_of op ≡ kind.Load ∷ kind.Load ∷ [] }
-        requires within { place ≤ 16777216 }
+        requires within { place ≤ MAX_SIZE }
         requires words { row.width_of (Some op) ≡ 4 }
         ensures { IfSome result (λ quick. IsFetched self.now op quick) }
     {
@@ -261,7 +261,7 @@ impl<'i> Machine<'i> {
     fn three(&self, op: Op, place: u32) -> Option<Quick>
         requires here { OpcodeAt self.now.memory self.now.pc op place }
         requires kinds { kinds_of op ≡ kind.Load ∷ kind.Load ∷ kind.Load ∷ [] }
-        requires within { place ≤ 16777216 }
+        requires within { place ≤ MAX_SIZE }
         requires words { row.width_of (Some op) ≡ 4 }
         ensures { IfSome result (λ quick. IsFetched self.now op quick) }
     {
@@ -284,7 +284,7 @@ impl<'i> Machine<'i> {
     fn one_and_store(&self, op: Op, place: u32) -> Option<Quick>
         requires here { OpcodeAt self.now.memory self.now.pc op place }
         requires kinds { kinds_of op ≡ kind.Load ∷ kind.Store ∷ [] }
-        requires within { place ≤ 16777216 }
+        requires within { place ≤ MAX_SIZE }
         requires words { row.width_of (Some op) ≡ 4 }
         ensures { IfSome result (λ quick. IsFetched self.now op quick) }
     {
@@ -305,7 +305,7 @@ impl<'i> Machine<'i> {
     fn one(&self, op: Op, place: u32) -> Option<Quick>
         requires here { OpcodeAt self.now.memory self.now.pc op place }
         requires kinds { kinds_of op ≡ kind.Load ∷ [] }
-        requires within { place ≤ 16777216 }
+        requires within { place ≤ MAX_SIZE }
         requires words { row.width_of (Some op) ≡ 4 }
         ensures { IfSome result (λ quick. IsFetched self.now op quick) }
     {

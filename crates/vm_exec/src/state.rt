@@ -10,6 +10,7 @@ ghost use Rattle.vm_exec.specs.Rows.Work.{Costs, budgeted};
 ghost use Rattle.vm_exec.specs.Rows.Undo as undo;
 ghost use Rattle.vm_exec.specs.Rules as rules;
 ghost use Rattle.vm_memory.specs.declared.fault.Trap.TheVariants.{Fault};
+ghost use Rattle.vm_memory.specs.declared.faults.TheConstants.{BUDGET_SPENT};
 
 use crate::Machine;
 use crate::step::{Done, Out};
@@ -37,7 +38,7 @@ impl<'i> Machine<'i> {
 
     // The charge for the pages of memory.
     fn charge_pages(&self, left: u64) -> Result<u64, Trap>
-        ensures { result ≡ if nat_lt left (undo.pages self.now) then Err (Fault 24)
+        ensures { result ≡ if nat_lt left (undo.pages self.now) then Err (Fault BUDGET_SPENT)
             else Ok (undo.pages self.now) }
     {
         charge(u64::from(self.memory.size() / 256), left)

@@ -5,6 +5,7 @@ use Rattle.std.specs.Prelude.{Result, Ok, Err}
 use Rattle.vm_heap.specs.HeapMap.{HeapMap}
 use Rattle.vm_heap.specs.FirstFit.{first_fit}
 use Rattle.vm_heap.specs.declared.block.Block.{Block}
+use Rattle.vm_heap.specs.declared.block.TheConstants.{MAX_SIZE}
 use Rattle.vm_heap.specs.declared.fault.HeapFault.{HeapFault}
 use Rattle.vm_heap.specs.declared.fault.HeapFault.TheVariants.{BadBlock}
 
@@ -21,7 +22,7 @@ with_block new (b ∷ bs) = if nat_lt new.at b.at then new ∷ b ∷ bs else b �
 -- would pass 16,777,216
 abbrev pub placed : HeapMap → ℕ → ℕ → ℕ → Option ℕ × HeapMap
 placed h start size at =
-    if nat_le (at + size) 16777216
+    if nat_le (at + size) MAX_SIZE
     then (
       Some at,
       record {

@@ -3,6 +3,7 @@ use Rattle.std.specs.Prelude.{ℕ, zero, suc, ◌+◌, ◌-◌, Bool, true, ◌&
 use Rattle.std.specs.Prelude.{nat_le, cond, List, [], ◌∷◌}
 use Rattle.vm_heap.specs.HeapMap.{end_of}
 use Rattle.vm_heap.specs.declared.block.Block.{Block}
+use Rattle.vm_heap.specs.declared.block.TheConstants.{MAX_SIZE}
 
 -- whether a block of this size at the address meets none of these
 abbrev pub fits : List Block → ℕ → ℕ → Bool
@@ -16,4 +17,4 @@ least_from test n (suc k) = cond (test n) n (least_from test (suc n) k)
 
 -- the least address from the start to 16,777,216 at which a block of this size fits
 abbrev pub first_fit : ℕ → List Block → ℕ → ℕ
-first_fit start blocks size = least_from (fits blocks size) start (16777216 + 1 - start)
+first_fit start blocks size = least_from (fits blocks size) start (MAX_SIZE + 1 - start)

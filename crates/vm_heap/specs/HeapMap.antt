@@ -2,6 +2,7 @@
 use Rattle.std.specs.Prelude.{ℕ, ◌+◌, ◌*◌, ◌/◌, Bool, ◌&&◌, ◌==◌, nat_lt}
 use Rattle.std.specs.Prelude.{nat_le, List, [], ◌∷◌}
 use Rattle.vm_heap.specs.declared.block.Block.{Block}
+use Rattle.vm_heap.specs.declared.block.TheConstants.{MAX_SIZE}
 
 -- where the heap begins, 0 where it has no block, and its blocks by their addresses
 pub record HeapMap : Type 0 where
@@ -15,7 +16,7 @@ end_of b = b.at + b.length
 -- blocks in order from this address on: none is empty, each begins at the end of the one before
 -- it or behind, and none passes 16,777,216
 abbrev pub in_order : ℕ → List Block → Bool
-in_order from [] = nat_le from 16777216
+in_order from [] = nat_le from MAX_SIZE
 in_order from (b ∷ bs) = nat_le from b.at && nat_lt 0 b.length && in_order (end_of b) bs
 
 -- what a heap may be: it starts at 0 without a block, and elsewhere with blocks in order from there

@@ -4,13 +4,14 @@ use Rattle.vm_memory.specs.declared.fault.MemFault.{MemFault}
 use Rattle.vm_memory.specs.declared.fault.MemFault.TheVariants.{BadRead, BadWrite}
 use Rattle.vm_memory.specs.declared.fault.MemStop.{MemStop}
 use Rattle.vm_memory.specs.declared.fault.MemStop.TheVariants as stop
+use Rattle.vm_memory.specs.declared.faults.TheConstants.{BAD_READ, BAD_WRITE}
 use Rattle.vm_memory.specs.declared.fault.Trap.{Trap}
 use Rattle.vm_memory.specs.declared.fault.Trap.TheVariants as trap
 
--- 1 for a bad read, 2 for a bad write
+-- the fault's number
 abbrev pub code_of : MemFault → ℕ
-code_of (BadRead at) = 1
-code_of (BadWrite at) = 2
+code_of (BadRead at) = BAD_READ
+code_of (BadWrite at) = BAD_WRITE
 
 abbrev pub trap_of : MemStop → Trap
 trap_of (stop.Fault f) = trap.Fault (code_of f)

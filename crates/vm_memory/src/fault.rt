@@ -1,5 +1,7 @@
 //! The faults of memory, and of a story as a whole.
 
+use crate::faults::{BAD_READ, BAD_WRITE};
+
 /// An access outside memory, or a write below RAMSTART, with its address.
 #[derive(Clone, Copy, Debug, PartialEq, Eq)]
 pub enum MemFault {
@@ -25,7 +27,7 @@ impl From<MemFault> for MemStop {
     }
 }
 
-/// A fault of a story by its number, 1 to 24, or want of memory of the host.
+/// A fault of a story by its number, one of `faults`, or want of memory of the host.
 #[derive(Clone, Copy, Debug, PartialEq, Eq)]
 pub enum Trap {
     Fault(u8),
@@ -41,8 +43,8 @@ impl From<MemFault> for Trap {
 
     fn from(fault: MemFault) -> Trap {
         Trap::Fault(match fault {
-            MemFault::BadRead(_) => 1,
-            MemFault::BadWrite(_) => 2,
+            MemFault::BadRead(_) => BAD_READ,
+            MemFault::BadWrite(_) => BAD_WRITE,
         })
     }
 }

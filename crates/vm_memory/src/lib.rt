@@ -4,6 +4,7 @@
 mod access;
 mod bytes;
 mod fault;
+pub mod faults;
 mod memory;
 mod ram;
 

@@ -13,7 +13,7 @@ use crate::instruction::number_at;
 use crate::numbered::{dest_by, load_by};
 use crate::opcode::Op;
 use crate::operand::{Dest, Kind, Load};
-use vm_memory::Memory;
+use vm_memory::{MAX_SIZE, Memory};
 
 /// An instruction of at most four loads and then at most one store: its opcode, its operands, of
 /// which those from the counts on are Value(0) and Discard, and the next address.
@@ -33,7 +33,7 @@ pub struct Brief {
 // One load.
 #[inline(always)]
 fn one(memory: &Memory<'_>, op: Op, place: u32) -> Option<Brief>
-    requires { place ≤ 16777216 }
+    requires { place ≤ MAX_SIZE }
     ensures value { IfSome result (λ b.
         operands_from memory.now (number_of op)
         (kind.Load ∷ []) place ≡ Ok (instr_of b)) }
@@ -60,7 +60,7 @@ fn one(memory: &Memory<'_>, op: Op, place: u32) -> Option<Brief>
 // One load and a store.
 #[inline(always)]
 fn one_and_store(memory: &Memory<'_>, op: Op, place: u32) -> Option<Brief>
-    requires { place ≤ 16777216 }
+    requires { place ≤ MAX_SIZE }
     ensures value { IfSome result (λ b.
         operands_from memory.now (number_of op)
         (kind.Load ∷ kind.Store ∷ []) place ≡ Ok (instr_of b)) }
@@ -88,7 +88,7 @@ fn one_and_store(memory: &Memory<'_>, op: Op, place: u32) -> Option<Brief>
 // Two loads.
 #[inline(always)]
 fn two(memory: &Memory<'_>, op: Op, place: u32) -> Option<Brief>
-    requires { place ≤ 16777216 }
+    requires { place ≤ MAX_SIZE }
     ensures value { IfSome result (λ b.
         operands_from memory.now (number_of op)
         (kind.Load ∷ kind.Load ∷ []) place ≡ Ok (instr_of b)) }
@@ -116,7 +116,7 @@ fn two(memory: &Memory<'_>, op: Op, place: u32) -> Option<Brief>
 // Two loads and a store.
 #[inline(always)]
 fn two_and_store(memory: &Memory<'_>, op: Op, place: u32) -> Option<Brief>
-    requires { place ≤ 16777216 }
+    requires { place ≤ MAX_SIZE }
     ensures value { IfSome result (λ b.
         operands_from memory.now (number_of op)
         (kind.Load ∷ kind.Load ∷ kind.Store ∷ []) place ≡ Ok (instr_of b)) }
@@ -146,7 +146,7 @@ fn two_and_store(memory: &Memory<'_>, op: Op, place: u32) -> Option<Brief>
 // Three loads.
 #[inline(always)]
 fn three(memory: &Memory<'_>, op: Op, place: u32) -> Option<Brief>
-    requires { place ≤ 16777216 }
+    requires { place ≤ MAX_SIZE }
     ensures value { IfSome result (λ b.
         operands_from memory.now (number_of op)
         (kind.Load ∷ kind.Load ∷ kind.Load ∷ []) place ≡ Ok (instr_of b)) }
@@ -176,7 +176,7 @@ fn three(memory: &Memory<'_>, op: Op, place: u32) -> Option<Brief>
 // Three loads and a store.
 #[inline(always)]
 fn three_and_store(memory: &Memory<'_>, op: Op, place: u32) -> Option<Brief>
-    requires { place ≤ 16777216 }
+    requires { place ≤ MAX_SIZE }
     ensures value { IfSome result (λ b.
         operands_from memory.now (number_of op)
         (kind.Load ∷ kind.Load ∷ kind.Load ∷ kind.Store ∷ []) place ≡ Ok (instr_of b)) }
@@ -207,7 +207,7 @@ fn three_and_store(memory: &Memory<'_>, op: Op, place: u32) -> Option<Brief>
 // Four loads and a store.
 #[inline(always)]
 fn four_and_store(memory: &Memory<'_>, op: Op, place: u32) -> Option<Brief>
-    requires { place ≤ 16777216 }
+    requires { place ≤ MAX_SIZE }
     ensures value { IfSome result (λ b.
         operands_from memory.now (number_of op)
         (kind.Load ∷ kind.Load ∷ kind.Load ∷ kind.Load ∷ kind.Store ∷ []) place
@@ -241,7 +241,7 @@ fn four_and_store(memory: &Memory<'_>, op: Op, place: u32) -> Option<Brief>
 // The instruction of an opcode, whose operands' modes begin at a place.
 #[inline(always)]
 fn operands_of(memory: &Memory<'_>, op: Op, place: u32) -> Option<Brief>
-    requires { place ≤ 16777216 }
+    requires { place ≤ MAX_SIZE }
     ensures value { IfSome result (λ b.
         operands_from memory.now (number_of op) (kinds_of op) place ≡ Ok (instr_of b)) }
     ensures none { result ≡ None → IsBrief (kinds_of op)
@@ -269,7 +269,7 @@ pub fn opcode_at(memory: &Memory<'_>, at: u32) -> Option<(Op, u32)>
     ensures exact { MatchOption result
         ((op : Op) (place : ℕ) → spec.OpcodeAt memory.now at op place → ⊥)
         (λ x. spec.OpcodeAt memory.now at x.0 x.1) }
-    ensures within { IfSome result (λ x. x.1 ≤ 16777216) }
+    ensures within { IfSome result (λ x. x.1 ≤ MAX_SIZE) }
 {
     let Ok((number, place)) = number_at(memory, at) else {
         return None;

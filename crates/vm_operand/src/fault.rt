@@ -1,6 +1,6 @@
 //! What can be wrong with an instruction.
 
-use vm_memory::{MemFault, Trap};
+use vm_memory::{MemFault, Trap, faults};
 
 /// A byte that can't be read, a number that is no opcode, one of an opcode that isn't played here,
 /// a mode that is none or is none of a store, and the two faults of a division.
@@ -41,11 +41,11 @@ impl From<OpFault> for Trap {
     fn from(fault: OpFault) -> Trap {
         match fault {
             OpFault::Read(read) => Trap::from(read),
-            OpFault::BadOpcode(_) => Trap::Fault(6),
-            OpFault::Unsupported(_) => Trap::Fault(17),
-            OpFault::BadMode(_) => Trap::Fault(7),
-            OpFault::DivideByZero => Trap::Fault(8),
-            OpFault::DivideOverflow => Trap::Fault(9),
+            OpFault::BadOpcode(_) => Trap::Fault(faults::BAD_OPCODE),
+            OpFault::Unsupported(_) => Trap::Fault(faults::UNSUPPORTED_OPCODE),
+            OpFault::BadMode(_) => Trap::Fault(faults::BAD_MODE),
+            OpFault::DivideByZero => Trap::Fault(faults::DIVISION_BY_ZERO),
+            OpFault::DivideOverflow => Trap::Fault(faults::DIVISION_OVERFLOW),
         }
     }
 }

@@ -9,7 +9,7 @@ use crate::OpFault;
 use crate::mode::Mode;
 use crate::opcode::Op;
 use crate::operand::{Dest, Dests, Kind, Load, Loads};
-use vm_memory::Memory;
+use vm_memory::{MAX_SIZE, Memory};
 
 /// An instruction: its opcode's number, its operands, and the next address.
 #[derive(Clone, Copy, Debug, PartialEq, Eq)]
@@ -25,7 +25,7 @@ pub struct Instr {
 #[tactic(auto, unfolding(crate::specs::Instruction::number_at))]
 pub(crate) fn number_at(memory: &Memory<'_>, at: u32) -> Result<(u32, u32), OpFault>
     ensures value { result ≡ spec.number_at memory.now at }
-    ensures within { IfOk result (λ x. x.1 ≤ 16777216) }
+    ensures within { IfOk result (λ x. x.1 ≤ MAX_SIZE) }
 {
     let first = memory.read1(at)?;
     if first < 0x80 {
@@ -57,7 +57,7 @@ fn known(number: u32) -> Result<Op, OpFault>
 /// The modes of the operands, and Zero up to the eighth.
 fn modes_at(memory: &Memory<'_>, at: u32, kinds: &[Kind]) -> Result<[Mode; 8], OpFault>
     requires few { length kinds.now ≤ 8 }
-    requires limit { at ≤ 16777216 }
+    requires limit { at ≤ MAX_SIZE }
     ensures ok { IfOk result (λ modes.
         spec.modes_at memory.now at kinds.now ≡ Ok (take (length kinds.now) modes)) }
     ensures exact { IfErr result (λ fault. spec.modes_at memory.now at kinds.now ≡ Err fault) }
@@ -83,7 +83,7 @@ fn modes_at(memory: &Memory<'_>, at: u32, kinds: &[Kind]) -> Result<[Mode; 8], O
 #[tactic(auto, unfolding(crate::specs::Instruction::load_at))]
 fn load_at(memory: &Memory<'_>, mode: Mode, at: u32) -> Result<(Load, u32), OpFault>
     ensures value { result ≡ spec.load_at memory.now mode at }
-    ensures within { at ≤ 16777220 → IfOk result (λ x. x.1 ≤ 16777220) }
+    ensures within { at ≤ MAX_SIZE + 4 → IfOk result (λ x. x.1 ≤ MAX_SIZE + 4) }
 {
     match mode {
         Mode::Zero => Ok((Load::Value(0), at)),
@@ -112,7 +112,7 @@ fn load_at(memory: &Memory<'_>, mode: Mode, at: u32) -> Result<(Load, u32), OpFa
 #[tactic(auto, unfolding(crate::specs::Instruction::dest_at))]
 fn dest_at(memory: &Memory<'_>, mode: Mode, at: u32) -> Result<(Dest, u32), OpFault>
     ensures value { result ≡ spec.dest_at memory.now mode at }
-    ensures within { at ≤ 16777220 → IfOk result (λ x. x.1 ≤ 16777220) }
+    ensures within { at ≤ MAX_SIZE + 4 → IfOk result (λ x. x.1 ≤ MAX_SIZE + 4) }
 {
     match mode {
         Mode::Zero | Mode::Constant(_) => Ok((Dest::Discard, at)),

@@ -10,7 +10,7 @@ ghost use Rattle.vm_memory.specs.Access.{read};
 
 use crate::OpFault;
 use crate::operand::Kind;
-use vm_memory::Memory;
+use vm_memory::{MAX_SIZE, Memory};
 
 /// How many bytes a constant, an address or an offset has.
 #[derive(Clone, Copy, Debug, PartialEq, Eq)]
@@ -45,7 +45,7 @@ impl Width {
     /// The number of so many bytes at the address.
     pub(crate) fn read(self, memory: &Memory<'_>, at: u32) -> Result<u32, OpFault>
         ensures value { result ≡ reads (read (size self) memory.now at) }
-        ensures within { OnOk result (at + size self ≤ 16777216) }
+        ensures within { OnOk result (at + size self ≤ MAX_SIZE) }
         ensures fits { IfOk result (λ x. x < 256 ^ size self) }
     {
         Ok(match self {

@@ -9,7 +9,7 @@ ghost use Rattle.vm_operand.specs.declared.operand.Load.TheVariants as load;
 use crate::OpFault;
 use crate::mode::Width;
 use crate::operand::{Dest, Load};
-use vm_memory::Memory;
+use vm_memory::{MAX_SIZE, Memory};
 
 /// A load by the number of its mode, and the place after its bytes.
 #[inline(always)]
@@ -31,7 +31,7 @@ pub fn load_by(memory: &Memory<'_>, number: u32, at: u32) -> Result<(Load, u32),
 pub fn byte_constant(memory: &Memory<'_>, at: u32) -> Result<u32, OpFault>
     ensures value { IfOk result (λ x. spec.load_by memory.now 1 at ≡ Ok (load.Value x, at + 1)) }
     ensures exact { IfErr result (λ fault. reads (read 1 memory.now at) ≡ Err fault) }
-    ensures within { OnOk result (at + 1 ≤ 16777216) }
+    ensures within { OnOk result (at + 1 ≤ MAX_SIZE) }
 {
     Ok(Width::One.extend(memory.read1(at)?))
 }
@@ -42,7 +42,7 @@ pub fn byte_constant(memory: &Memory<'_>, at: u32) -> Result<u32, OpFault>
 pub fn byte_local(memory: &Memory<'_>, at: u32) -> Result<u32, OpFault>
     ensures value { IfOk result (λ x. spec.load_by memory.now 9 at ≡ Ok (load.Local x, at + 1)) }
     ensures exact { IfErr result (λ fault. reads (read 1 memory.now at) ≡ Err fault) }
-    ensures within { OnOk result (at + 1 ≤ 16777216) }
+    ensures within { OnOk result (at + 1 ≤ MAX_SIZE) }
 {
     Ok(memory.read1(at)?)
 }

@@ -5,6 +5,7 @@ use Rattle.std.specs.Ordering.{nat_cmp}
 use Rattle.std.specs.declared.cmp.Ordering.{Ordering}
 use Rattle.vm_memory.specs.MemoryMap.{MemoryMap, number_at}
 use Rattle.vm_memory.specs.Access.{read}
+use Rattle.vm_memory.specs.declared.memory.TheConstants.{MAX_SIZE}
 use Rattle.vm_memory.specs.declared.fault.MemFault.{MemFault}
 use Rattle.vm_search.specs.declared.query.Query.{Query}
 
@@ -59,4 +60,4 @@ is_zero m q at = key_at m q at == 0
 -- so many bytes at an address lie in memory, which has its limit
 pub record LiesIn (m : MemoryMap) (size at : ℕ) : Type 0 where
   pub inside : at + size ≤ length m.bytes
-  pub limit : length m.bytes ≤ 16777216
+  pub limit : length m.bytes ≤ MAX_SIZE

@@ -1,6 +1,6 @@
 //! What ends a search without an answer.
 
-use vm_memory::{MemFault, Trap};
+use vm_memory::{MemFault, Trap, faults};
 
 /// A key or a next place that can't be read, a key size that is none, or more structures to look at
 /// than there may be.
@@ -32,8 +32,8 @@ impl From<SearchStop> for Trap {
     fn from(stop: SearchStop) -> Trap {
         match stop {
             SearchStop::Read(fault) => Trap::from(fault),
-            SearchStop::BadSearch => Trap::Fault(10),
-            SearchStop::Spent => Trap::Fault(24),
+            SearchStop::BadSearch => Trap::Fault(faults::BAD_SEARCH),
+            SearchStop::Spent => Trap::Fault(faults::BUDGET_SPENT),
         }
     }
 }

@@ -1,6 +1,7 @@
 -- The faults of strings, and their numbers (own).
 use Rattle.std.specs.Prelude.{ℕ, Result, Ok, Err}
 use Rattle.vm_memory.specs.Fault as memory
+use Rattle.vm_memory.specs.declared.faults.TheConstants as f
 use Rattle.vm_memory.specs.declared.fault.MemFault.{MemFault}
 use Rattle.vm_string.specs.declared.stop.StringStop.{StringStop}
 use Rattle.vm_string.specs.declared.stop.StringStop.TheVariants.{Read, BadString, NoTable}
@@ -18,9 +19,9 @@ reads (Err e) = Err (Read e)
 
 -- a memory's fault keeps its number
 abbrev pub code_of : StringStop → ℕ
-code_of (Read f) = memory.code_of f
-code_of (BadString at) = 15
-code_of NoTable = 16
+code_of (Read fault) = memory.code_of fault
+code_of (BadString at) = f.BAD_STRING
+code_of NoTable = f.NO_TABLE
 
 -- what a call gives, with its fault as a number
 abbrev pub coded : {A : Type 0} → Result A StringStop → Result A ℕ

@@ -3,6 +3,7 @@ use Rattle.std.specs.Prelude.{ℕ, ◌≤◌, ◌+◌, ◌==◌, if◌then◌els
 use Rattle.std.specs.Prelude.{Err}
 use Rattle.vm_memory.specs.Access.{read}
 use Rattle.vm_memory.specs.MemoryMap.{MemoryMap}
+use Rattle.vm_memory.specs.declared.memory.TheConstants.{MAX_SIZE}
 use Rattle.vm_string.specs.Fault.{◌>>=◌, reads}
 use Rattle.vm_string.specs.declared.node.Node.{Node}
 use Rattle.vm_string.specs.declared.node.Node.TheVariants.{Fork, End, One, Bytes, Words, Refers}
@@ -38,6 +39,6 @@ node_at m at = reads (read 1 m at) >>= contents m at
 
 -- a node's characters begin in memory
 abbrev pub BeginsInside : Node → Type 0
-BeginsInside (Bytes at) = at ≤ 16777216
-BeginsInside (Words at) = at ≤ 16777216
+BeginsInside (Bytes at) = at ≤ MAX_SIZE
+BeginsInside (Words at) = at ≤ MAX_SIZE
 BeginsInside _ = Unit {0}

@@ -1,6 +1,6 @@
 //! What ends a string other than its end.
 
-use vm_memory::{MemFault, Trap};
+use vm_memory::{MemFault, Trap, faults};
 
 /// A place that can't be read; no string, no node, or too long a path, with the address; an E1
 /// string without a decoding table.
@@ -35,8 +35,8 @@ impl From<StringStop> for Trap {
     fn from(stop: StringStop) -> Trap {
         match stop {
             StringStop::Read(fault) => Trap::from(fault),
-            StringStop::BadString(_) => Trap::Fault(15),
-            StringStop::NoTable => Trap::Fault(16),
+            StringStop::BadString(_) => Trap::Fault(faults::BAD_STRING),
+            StringStop::NoTable => Trap::Fault(faults::NO_TABLE),
         }
     }
 }

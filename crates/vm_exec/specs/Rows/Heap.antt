@@ -9,6 +9,7 @@ use Rattle.vm_heap.specs.declared.fault.HeapFault.{HeapFault}
 use Rattle.vm_heap.specs.declared.fault.HeapFault.TheVariants.{BadBlock}
 use Rattle.vm_operand.specs.Reading.{◌>>=◌}
 use Rattle.vm_operand.specs.declared.operand.Dest as d
+use Rattle.vm_memory.specs.declared.faults.TheConstants.{BAD_BLOCK, BAD_SIZE}
 use Rattle.vm_exec.specs.declared.machine.Machine.{Machine}
 use Rattle.vm_exec.specs.Rules.{Rule, goes, puts, stored}
 
@@ -16,7 +17,7 @@ use Rattle.vm_exec.specs.Rules.{Rule, goes, puts, stored}
 -- is taken, and none while the heap is active
 abbrev pub size_set : Machine → ℕ → d.Dest → Result Machine ℕ
 size_set m size to =
-    if not (m.heap.start == 0) || not (size % 256 == 0) || nat_lt size m.memory.endmem then Err 19
+    if not (m.heap.start == 0) || not (size % 256 == 0) || nat_lt size m.memory.endmem then Err BAD_SIZE
     else (if nat_lt MAX_SIZE size then stored m to 1
     else stored (record m { memory = resized m.memory size }) to 0)
 
@@ -39,11 +40,11 @@ allocated m size = given m (malloced m.heap size (length m.memory.bytes))
 
 abbrev pub mallocs : Machine → ℕ → d.Dest → Rule
 mallocs m size to =
-    if size == 0 then Err 19 else (let x = allocated m size in puts x.0 to x.1)
+    if size == 0 then Err BAD_SIZE else (let x = allocated m size in puts x.0 to x.1)
 
 abbrev pub heap_coded : {A : Type 0} → Result A HeapFault → Result A ℕ
 heap_coded (Ok x) = Ok x
-heap_coded (Err (BadBlock at)) = Err 11
+heap_coded (Err (BadBlock at)) = Err BAD_BLOCK
 
 -- where memory ends: behind the last block, or again where the heap began that isn't active any
 -- more

@@ -15,6 +15,7 @@ use Rattle.vm_search.specs.declared.query.Query.{Query}
 use Rattle.vm_operand.specs.declared.operand.Dest as d
 use Rattle.vm_exec.specs.Rows.Work.{Work, Free, Costs, budgeted}
 use Rattle.vm_exec.specs.Rules.{puts}
+use Rattle.vm_memory.specs.declared.faults.TheConstants.{BAD_SEARCH, BUDGET_SPENT}
 use Rattle.vm_exec.specs.declared.step.Done.{Done}
 use Rattle.vm_exec.specs.declared.machine.Machine.{Machine}
 
@@ -48,13 +49,13 @@ linked_query l left = record {
 
 -- a tick for each structure, and then the answer is stored; one without an end takes all ticks
 abbrev pub answered : Machine → d.Dest → Option Ending → Work
-answered m to None = Free (Err 24)
+answered m to None = Free (Err BUDGET_SPENT)
 answered m to (Some e) = Costs e.looked (coded e.answer >>= puts m to)
 
 -- a search whose steps end so
 abbrev pub searched : Machine → d.Dest → Query → (ℕ → Option Ending) → Work
 searched m to q ends =
-    if is_search q then answered m to (first_ending ends 0 (2 ^ 32)) else Free (Err 10)
+    if is_search q then answered m to (first_ending ends 0 (2 ^ 32)) else Free (Err BAD_SEARCH)
 
 -- the three searches; no step of theirs asks for the ticks
 abbrev pub linear_work : Machine → (ℕ → ℕ) → d.Dest → Work

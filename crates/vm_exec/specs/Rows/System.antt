@@ -9,6 +9,7 @@ use Rattle.vm_operand.specs.declared.operand.Dest as d
 use Rattle.vm_exec.specs.Rows.Heap.{resizes}
 use Rattle.vm_exec.specs.Rows.Random.{draws, seeds}
 use Rattle.vm_exec.specs.Rows.Work.{Work, Free, Costs}
+use Rattle.vm_memory.specs.declared.faults.TheConstants.{DEBUG_TRAP}
 use Rattle.vm_exec.specs.declared.machine.Machine.{Machine}
 use Rattle.vm_exec.specs.Rules.{Rule, goes, puts, tells}
 use Rattle.vm_exec.specs.declared.step.Out.TheVariants as out
@@ -37,7 +38,7 @@ calls_glk m selector args to = tells (record m { waiting = Store to }) (out.Glk 
 unfoldable pub system_work : System → Machine → (ℕ → ℕ) → (ℕ → d.Dest) → Work
 system_work Nop m l d = Free (goes m)
 system_work Gestalt m l d = Free (puts m (d 0) (gestalt_of m (l 0) (l 1)))
-system_work Debugtrap m l d = Free (Err 18)
+system_work Debugtrap m l d = Free (Err DEBUG_TRAP)
 system_work Getmemsize m l d = Free (puts m (d 0) (length m.memory.bytes))
 system_work Glk m l d = Free (calls_glk m (l 0) (l 1) (d 0))
 system_work Accelfunc m l d = Free (goes m)

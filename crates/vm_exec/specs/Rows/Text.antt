@@ -14,6 +14,7 @@ use Rattle.vm_string.specs.declared.piece.Piece.TheVariants as piece
 use Rattle.vm_exec.specs.Number.{number_text}
 use Rattle.vm_exec.specs.Rules.{Rule, goes, tells, enters, wrap}
 use Rattle.vm_exec.specs.TextStub.{string_stub, suspended, unstubbed, number_left, text_on}
+use Rattle.vm_memory.specs.declared.faults.TheConstants.{BAD_STRING}
 use Rattle.vm_exec.specs.declared.machine.Machine.{Machine}
 use Rattle.vm_exec.specs.declared.step.Out.TheVariants.{Ran, Char}
 use Rattle.vm_exec.specs.declared.text.Text.TheVariants.{Pieces, Number}
@@ -63,7 +64,7 @@ refers m at args_at n c held = memory.coded (read 1 m.memory at) >>= (λ kind.
     then nests m at c held
     else (if kind == 0xC0 || kind == 0xC1
     then words_at m.memory args_at n >>= (λ args. calls_from m at args c held)
-    else Err 15))
+    else Err BAD_STRING))
 
 -- a string's end goes on at the stub on top, where one was pushed, or else with the code
 abbrev pub ends : Machine → Bool → Rule

@@ -3,6 +3,7 @@ use Rattle.std.specs.Prelude.{ℕ, nat_lt, if◌then◌else◌, Result, Ok, Err}
 use Rattle.vm_memory.specs.declared.fault.Trap.{Trap}
 use Rattle.vm_exec.specs.Answer.{Does}
 use Rattle.vm_exec.specs.Rules.{Rule}
+use Rattle.vm_memory.specs.declared.faults.TheConstants.{BUDGET_SPENT}
 use Rattle.vm_exec.specs.declared.machine.Machine.{Machine}
 use Rattle.vm_exec.specs.declared.step.Done.{Done}
 
@@ -19,7 +20,7 @@ costing n (Err fault) = Err fault
 -- when so many ticks may be spent
 abbrev pub budgeted : ℕ → Work → Result (Machine × Done) ℕ
 budgeted left (Free r) = costing 0 r
-budgeted left (Costs n r) = if nat_lt left n then Err 24 else costing n r
+budgeted left (Costs n r) = if nat_lt left n then Err BUDGET_SPENT else costing n r
 
 -- The call did what the rule says, at no cost.
 abbrev pub Tells : Rule → Machine → Result Done Trap → Type 0
