@@ -1,14 +1,19 @@
 -- The locals of a C1's new frame, as one list of bytes.
-use Rattle.std.proofs.Common.{◌≡◌, ◌≢◌, inl, inr, ℕ, zero, suc, ◌+◌, ◌-◌, ◌*◌, ◌≤◌, Bool, true, false, cond, nat_le, List, [], ◌∷◌, ◌++◌, length, take, drop, replicate, refl, arith, Result, Ok, Err, ap, sym, ◌∙◌, subst, append_assoc, length-append}
+use Rattle.std.proofs.Common.{◌≡◌, ◌≢◌, inl, inr, ℕ, zero, suc, ◌+◌, ◌-◌, ◌*◌, ◌≤◌, Bool, true}
+use Rattle.std.proofs.Common.{false, cond, nat_le, List, [], ◌∷◌, ◌++◌, length, take, drop}
+use Rattle.std.proofs.Common.{replicate, refl, arith, Result, Ok, Err, ap, sym, ◌∙◌, subst}
+use Rattle.std.proofs.Common.{append_assoc, length-append}
 use Rattle.std.specs.List.{flat_map}
 use Rattle.std.proofs.lemmas.Bool.{ne_eqb}
-use Rattle.std.proofs.lemmas.List.{append-nil, length-replicate, replicate-append-replicate, take-replicate, drop-replicate}
+use Rattle.std.proofs.lemmas.List.{append-nil, length-replicate, replicate-append-replicate}
+use Rattle.std.proofs.lemmas.List.{take-replicate, drop-replicate}
 use Rattle.std.proofs.lemmas.Grind.{flat_map-append}
 use Rattle.std.proofs.Math.Seq.{take-append_seam, drop-append-add}
 use Rattle.byteorder.specs.Endian.{big_bytes}
 use Rattle.vm_stack.specs.StackState.{StackState, number, replaced, frame_len, locals_pos}
 use Rattle.vm_stack.specs.Locals.{IsWidth, local_at, local_set}
-use Rattle.vm_stack.specs.Frame.{aligned, locals_end, entered, fresh_frame, frame_head, frame_len_of, locals_pos_of, locals_len, padding_len}
+use Rattle.vm_stack.specs.Frame.{aligned, locals_end, entered, fresh_frame, frame_head}
+use Rattle.vm_stack.specs.Frame.{frame_len_of, locals_pos_of, locals_len, padding_len}
 use Rattle.vm_stack.specs.declared.fault.StackFault.TheVariants.{Overflow}
 use Rattle.vm_stack.proofs.FrameLemmas.{first_word, second_word, aligned_up as align_up}
 use Rattle.vm_stack.proofs.SavedLemmas.{length_head, head_then_padding}
@@ -35,16 +40,19 @@ pub record Base (p : List ℕ) (f total : ℕ) : Type 0 where
 abbrev pub partly : List ℕ → ℕ → ℕ → List ℕ → ℕ → StackState
 partly p f limit done n = record { bytes = p ++ (done ++ replicate n 0); frame = f; limit = limit }
 
-partly_is : (p : List ℕ) (f limit : ℕ) (a b : List ℕ) (m n : ℕ) → a ≡ b → m ≡ n → partly p f limit a m ≡ partly p f limit b n
+partly_is : (p : List ℕ) (f limit : ℕ) (a b : List ℕ) (m n : ℕ) → a ≡ b → m ≡ n
+    → partly p f limit a m ≡ partly p f limit b n
 partly_is p f limit a b m n e g = rw (e, g) refl
 
 -- one local
 
-put_at_seam : (q new : List ℕ) (n w : ℕ) → length new ≡ w → w ≤ n → replaced (q ++ replicate n 0) (length q) new ≡ q ++ new ++ replicate (n - w) 0
+put_at_seam : (q new : List ℕ) (n w : ℕ) → length new ≡ w → w ≤ n
+    → replaced (q ++ replicate n 0) (length q) new ≡ q ++ new ++ replicate (n - w) 0
 put_at_seam q new n w e h =
     let z = length-replicate {A = ℕ} n 0 in
     let a = length-append q (replicate n 0) in
-    let fits : nat_le (length q + length new) (length (q ++ replicate n 0)) ≡ true = le_true _ _ (omega (arith, a, z, e, h)) in
+    let fits : nat_le (length q + length new) (length (q ++ replicate n 0)) ≡ true =
+    le_true _ _ (omega (arith, a, z, e, h)) in
     let rest : drop (length q + length new) (q ++ replicate n 0) ≡ replicate (n - w) 0 =
     drop-append-add q (replicate n 0) (length new)
     ∙ (drop-replicate (length new) n 0 ∙ ap (λ (k : ℕ). replicate (n - k) 0) e) in
@@ -54,42 +62,54 @@ inner : (p done new z : List ℕ) → (p ++ done) ++ new ++ z ≡ p ++ ((done ++
 inner p done new z = simp append_assoc refl
 
 put_zeros : (p done new : List ℕ) (n w : ℕ) → length new ≡ w → w ≤ n
-    → replaced (p ++ (done ++ replicate n 0)) (length p + length done) new ≡ p ++ ((done ++ new) ++ replicate (n - w) 0)
+    → replaced (p ++ (done ++ replicate n 0)) (length p + length done) new ≡ p ++
+    ((done ++ new) ++ replicate (n - w) 0)
 put_zeros p done new n w e h =
-    ap (λ (b : List ℕ). replaced b (length p + length done) new) (sym (append_assoc p done (replicate n 0)))
+    ap (λ (b : List ℕ). replaced b (length p + length done) new)
+    (sym (append_assoc p done (replicate n 0)))
     ∙ (ap (λ (k : ℕ). replaced ((p ++ done) ++ replicate n 0) k new) (sym (length-append p done))
     ∙ (put_at_seam (p ++ done) new n w e h ∙ inner p done new (replicate (n - w) 0)))
 
 number_in : (p rest : List ℕ) (at : ℕ) → at + 4 ≤ length p → number 4 (p ++ rest) at ≡ number 4 p at
 number_in p rest at h = sym (number_within p rest at h)
 
-pub local_is : (p done : List ℕ) (f limit n w x total : ℕ) → Base p f total → length done + n ≡ total → w ≤ n
-    → local_set (partly p f limit done n) (length done) w x ≡ Ok (partly p f limit (done ++ big_bytes w x) (n - w))
+pub local_is : (p done : List ℕ) (f limit n w x total : ℕ) → Base p f total
+    → length done + n ≡ total → w ≤ n
+    → local_set (partly p f limit done n) (length done) w x ≡ Ok
+    (partly p f limit (done ++ big_bytes w x) (n - w))
 local_is p done f limit n w x total base sum h =
     let s = partly p f limit done n in
     let low = base.low in
     let b_pos = base.pos in
     let b_len = base.len in
-    let len : frame_len s ≡ number 4 p f = number_in p (done ++ replicate n 0) f (omega (arith, low)) in
-    let pos : locals_pos s ≡ number 4 p (f + 4) = number_in p (done ++ replicate n 0) (f + 4) (omega (arith, low)) in
-    let fits : nat_le (length done + w) (frame_len s - locals_pos s) ≡ true = le_true _ _ (omega (arith, len, pos, b_len, sum, h)) in
+    let len : frame_len s ≡ number 4 p f =
+    number_in p (done ++ replicate n 0) f (omega (arith, low)) in
+    let pos : locals_pos s ≡ number 4 p (f + 4) =
+    number_in p (done ++ replicate n 0) (f + 4) (omega (arith, low)) in
+    let fits : nat_le (length done + w) (frame_len s - locals_pos s) ≡ true =
+    le_true _ _ (omega (arith, len, pos, b_len, sum, h)) in
     let at : local_at s (length done) ≡ length p + length done = omega (arith, pos, b_pos) in
-    let put : replaced s.bytes (local_at s (length done)) (big_bytes w x) ≡ p ++ ((done ++ big_bytes w x) ++ replicate (n - w) 0) =
-    ap (λ (k : ℕ). replaced s.bytes k (big_bytes w x)) at ∙ put_zeros p done (big_bytes w x) n w (length_word w x) h in
+    let put : replaced s.bytes (local_at s (length done)) (big_bytes w x) ≡ p ++
+    ((done ++ big_bytes w x) ++ replicate (n - w) 0) =
+    ap (λ (k : ℕ). replaced s.bytes k (big_bytes w x)) at
+    ∙ put_zeros p done (big_bytes w x) n w (length_word w x) h in
     rw (fits, put) refl
 
 add_back : (k n : ℕ) → k ≤ n → n ≡ k + (n - k)
 add_back k n h = omega (arith, h)
 
-split : (done : List ℕ) (n k : ℕ) → k ≤ n → done ++ replicate n 0 ≡ (done ++ replicate k 0) ++ replicate (n - k) 0
+split : (done : List ℕ) (n k : ℕ) → k ≤ n
+    → done ++ replicate n 0 ≡ (done ++ replicate k 0) ++ replicate (n - k) 0
 split done n k h =
     ap (λ (m : ℕ). done ++ replicate m 0) (add_back k n h)
-    ∙ (ap (λ (z : List ℕ). done ++ z) (sym (replicate-append-replicate k (n - k) 0)) ∙ sym (append_assoc done (replicate k 0) (replicate (n - k) 0)))
+    ∙ (ap (λ (z : List ℕ). done ++ z) (sym (replicate-append-replicate k (n - k) 0))
+    ∙ sym (append_assoc done (replicate k 0) (replicate (n - k) 0)))
 
 -- a local that gets nothing is zero
 pub skip_is : (p : List ℕ) (f limit : ℕ) (done : List ℕ) (n k : ℕ) → k ≤ n
     → partly p f limit done n ≡ partly p f limit (done ++ replicate k 0) (n - k)
-skip_is p f limit done n k h = ap (λ (z : List ℕ). record { bytes = p ++ z; frame = f; limit = limit }) (split done n k h)
+skip_is p f limit done n k h =
+    ap (λ (z : List ℕ). record { bytes = p ++ z; frame = f; limit = limit }) (split done n k h)
 
 -- locals of one type
 
@@ -101,33 +121,42 @@ length_words w (x ∷ xs) =
     let c = length_words w xs in
     omega (arith, a, b, c)
 
-pair_is : (p : List ℕ) (f limit total : ℕ) (done : List ℕ) (n w : ℕ) (xs : List ℕ) → Base p f total → length done + n ≡ total → w * length xs ≤ n
-    → pair_set (partly p f limit done n) (length done) w xs ≡ Ok (partly p f limit (done ++ flat_map (big_bytes w) xs) (n - w * length xs))
+pair_is : (p : List ℕ) (f limit total : ℕ) (done : List ℕ) (n w : ℕ) (xs : List ℕ) → Base p f total
+    → length done + n ≡ total → w * length xs ≤ n
+    → pair_set (partly p f limit done n) (length done) w xs ≡ Ok
+    (partly p f limit (done ++ flat_map (big_bytes w) xs) (n - w * length xs))
 pair_is p f limit total done n w [] base sum h =
-    ap (λ (s : StackState). Ok s) (partly_is p f limit done (done ++ []) n (n - w * 0) (sym (append-nil done)) (omega arith))
+    ap (λ (s : StackState). Ok s)
+    (partly_is p f limit done (done ++ []) n (n - w * 0) (sym (append-nil done)) (omega arith))
 pair_is p f limit total done n w (x ∷ xs) base sum h =
     let room : w ≤ n = omega (arith, h) in
     let big = length_word w x in
     let a = length-append done (big_bytes w x) in
     let next : length (done ++ big_bytes w x) ≡ length done + w = omega (arith, a, big) in
-    ap (λ (r : Result StackState StackFault). and_then (from_stack r) (λ t. pair_set t (length done + w) w xs))
+    ap (λ (r : Result StackState StackFault). and_then (from_stack r)
+    (λ t. pair_set t (length done + w) w xs))
     (local_is p done f limit n w x total base sum room)
     ∙ (ap (λ (k : ℕ). pair_set (partly p f limit (done ++ big_bytes w x) (n - w)) k w xs) (sym next)
-    ∙ (pair_is p f limit total (done ++ big_bytes w x) (n - w) w xs base (omega (arith, next, sum, room)) (omega (arith, h))
+    ∙ (pair_is p f limit total (done ++ big_bytes w x) (n - w) w xs base
+    (omega (arith, next, sum, room)) (omega (arith, h))
     ∙ ap (λ (s : StackState). Ok s)
-    (partly_is p f limit _ _ _ _ (append_assoc done (big_bytes w x) (flat_map (big_bytes w) xs)) (omega arith))))
+    (partly_is p f limit _ _ _ _ (append_assoc done (big_bytes w x) (flat_map (big_bytes w) xs))
+    (omega arith))))
 
 -- arguments that are missing
 
 none_less : (c : ℕ) → c ≡ c - 0
 none_less c = omega arith
 
-take_filled : (c m : ℕ) (args : List ℕ) → c ≤ m → take c (args ++ replicate m 0) ≡ take c args ++ replicate (c - length (take c args)) 0
+take_filled : (c m : ℕ) (args : List ℕ) → c ≤ m
+    → take c (args ++ replicate m 0) ≡ take c args ++ replicate (c - length (take c args)) 0
 take_filled zero m args h = refl
-take_filled (suc c) m [] h = take-replicate {X = ℕ} (suc c) m 0 h ∙ ap (λ (k : ℕ). replicate {A = ℕ} k 0) (none_less (suc c))
+take_filled (suc c) m [] h =
+    take-replicate {X = ℕ} (suc c) m 0 h ∙ ap (λ (k : ℕ). replicate {A = ℕ} k 0) (none_less (suc c))
 take_filled (suc c) m (x ∷ xs) h =
     ap (λ (ys : List ℕ). x ∷ ys)
-    (take_filled c m xs (omega (arith, h)) ∙ ap (λ (k : ℕ). take c xs ++ replicate k 0) (omega arith))
+    (take_filled c m xs (omega (arith, h)) ∙ ap (λ (k : ℕ). take c xs ++ replicate k 0)
+    (omega arith))
 
 zero_word : (w : ℕ) → IsWidth w → big_bytes w 0 ≡ replicate w 0
 zero_word w (inl e) = rw e refl
@@ -145,11 +174,13 @@ zero_words w (suc k) is =
     ∙ (replicate-append-replicate w (w * k) 0 ∙ ap (λ (n : ℕ). replicate n 0) (omega arith)))
 
 filled : (w c : ℕ) (args : List ℕ) → IsWidth w
-    → flat_map (big_bytes w) (take c (args ++ replicate c 0)) ≡ flat_map (big_bytes w) (take c args) ++ replicate (w * (c - length (take c args))) 0
+    → flat_map (big_bytes w) (take c (args ++ replicate c 0)) ≡ flat_map (big_bytes w)
+    (take c args) ++ replicate (w * (c - length (take c args))) 0
 filled w c args is =
     ap (λ (ys : List ℕ). flat_map (big_bytes w) ys) (take_filled c c args (omega arith))
     ∙ (flat_map-append (big_bytes w) (take c args) (replicate (c - length (take c args)) 0)
-    ∙ ap (λ (ys : List ℕ). flat_map (big_bytes w) (take c args) ++ ys) (zero_words w (c - length (take c args)) is))
+    ∙ ap (λ (ys : List ℕ). flat_map (big_bytes w) (take c args) ++ ys)
+    (zero_words w (c - length (take c args)) is))
 
 take_few : (n : ℕ) (xs : List ℕ) → length (take n xs) ≤ n
 take_few zero xs = omega arith
@@ -165,12 +196,14 @@ width_some x (inr (inr e)) = λ z. omega (arith, e, z)
 
 first_pair : (s : StackState) (at x y : ℕ) (rest args : List ℕ) → x ≢ 0
     → locals_set s at (x ∷ y ∷ rest) args
-    ≡ and_then (pair_set s (aligned x at) x (take y args)) (λ t. locals_set t (aligned x at + x * y) rest (drop y args))
+    ≡ and_then (pair_set s (aligned x at) x (take y args))
+    (λ t. locals_set t (aligned x at + x * y) rest (drop y args))
 first_pair s at x y rest args some = rw (ne_eqb x 0 some) refl
 
 first_bytes : (at x y : ℕ) (rest args : List ℕ) → x ≢ 0
     → locals_of at (x ∷ y ∷ rest) args
-    ≡ replicate (aligned x at - at) 0 ++ flat_map (big_bytes x) (take y (args ++ replicate y 0)) ++ locals_of (aligned x at + x * y) rest (drop y args)
+    ≡ replicate (aligned x at - at) 0 ++ flat_map (big_bytes x)
+    (take y (args ++ replicate y 0)) ++ locals_of (aligned x at + x * y) rest (drop y args)
 first_bytes at x y rest args some = rw (ne_eqb x 0 some) refl
 
 inner_pair : (done a b z r : List ℕ) → (((done ++ a) ++ b) ++ z) ++ r ≡ done ++ (a ++ (b ++ z) ++ r)
@@ -182,17 +215,20 @@ sum_times x l m = omega arith
 area_is : (x y l : ℕ) → l ≤ y → x * y ≡ x * l + x * (y - l)
 area_is x y l h = ap (λ (i : ℕ). x * i) (add_back l y h) ∙ sum_times x l (y - l)
 
-pub set_is : (p : List ℕ) (f limit total : ℕ) (format done args : List ℕ) (n : ℕ) → Base p f total → length done + n ≡ total → IsFormat format
+pub set_is : (p : List ℕ) (f limit total : ℕ) (format done args : List ℕ) (n : ℕ) → Base p f total
+    → length done + n ≡ total → IsFormat format
     → locals_end (length done) format ≤ total
     → locals_set (partly p f limit done n) (length done) format args
-    ≡ Ok (partly p f limit (done ++ locals_of (length done) format args) (total - length (done ++ locals_of (length done) format args)))
+    ≡ Ok (partly p f limit (done ++ locals_of (length done) format args)
+    (total - length (done ++ locals_of (length done) format args)))
 set_is p f limit total [] done args n base sum is top = absurd is
 set_is p f limit total (x ∷ []) done args n base sum is top = absurd is
 set_is p f limit total (x ∷ y ∷ rest) done args n base sum (inl e) top =
     let a = ap length (append-nil done) in
     rw (e.0)
     (ap (λ (s : StackState). Ok s)
-    (partly_is p f limit done (done ++ []) n (total - length (done ++ [])) (sym (append-nil done)) (omega (arith, a, sum))))
+    (partly_is p f limit done (done ++ []) n (total - length (done ++ [])) (sym (append-nil done))
+    (omega (arith, a, sum))))
 set_is p f limit total (x ∷ y ∷ rest) done args n base sum (inr is) top =
     let some = width_some x is.0 in
     let at = length done in
@@ -216,23 +252,33 @@ set_is p f limit total (x ∷ y ∷ rest) done args n base sum (inr is) top =
     let a3 = length-append two (replicate (x * m) 0) in
     let l3 : length three ≡ begin + x * y = omega (arith, l1, a2, w2, a3, z3, area) in
     let skips : k ≤ n = omega (arith, up, g, end, sum) in
-    let given : pair_set (partly p f limit done n) begin x xs ≡ Ok (partly p f limit two (n - k - x * length xs)) =
+    let given : pair_set (partly p f limit done n) begin x xs ≡ Ok
+    (partly p f limit two (n - k - x * length xs)) =
     ap (λ (t : StackState). pair_set t begin x xs) (skip_is p f limit done n k skips)
     ∙ (ap (λ (i : ℕ). pair_set (partly p f limit one (n - k)) i x xs) (sym l1)
-    ∙ pair_is p f limit total one (n - k) x xs base (omega (arith, l1, up, skips, sum)) (omega (arith, area, up, g, end, sum))) in
-    let here : partly p f limit two (n - k - x * length xs) ≡ partly p f limit three (n - k - x * length xs - x * m) =
+    ∙ pair_is p f limit total one (n - k) x xs base (omega (arith, l1, up, skips, sum))
+    (omega (arith, area, up, g, end, sum))) in
+    let here : partly p f limit two (n - k - x * length xs) ≡ partly p f limit three
+    (n - k - x * length xs - x * m) =
     skip_is p f limit two (n - k - x * length xs) (x * m) (omega (arith, area, up, g, end, sum)) in
-    let whole : three ++ locals_of (length three) rest (drop y args) ≡ done ++ locals_of at (x ∷ y ∷ rest) args =
+    let whole : three ++ locals_of (length three) rest (drop y args) ≡ done ++ locals_of at
+    (x ∷ y ∷ rest) args =
     ap (λ (i : ℕ). three ++ locals_of i rest (drop y args)) l3
-    ∙ (inner_pair done (replicate k 0) (flat_map (big_bytes x) xs) (replicate (x * m) 0) (locals_of (begin + x * y) rest (drop y args))
-    ∙ (ap (λ (ys : List ℕ). done ++ (replicate k 0 ++ ys ++ locals_of (begin + x * y) rest (drop y args))) (sym (filled x y args is.0))
+    ∙ (inner_pair done (replicate k 0) (flat_map (big_bytes x) xs) (replicate (x * m) 0)
+    (locals_of (begin + x * y) rest (drop y args))
+    ∙ (ap (λ (ys : List ℕ). done ++
+    (replicate k 0 ++ ys ++ locals_of (begin + x * y) rest (drop y args)))
+    (sym (filled x y args is.0))
     ∙ ap (λ (ys : List ℕ). done ++ ys) (sym (first_bytes at x y rest args some)))) in
     first_pair (partly p f limit done n) at x y rest args some
-    ∙ (ap (λ (r : Result StackState FlowStop). and_then r (λ t. locals_set t (begin + x * y) rest (drop y args))) given
+    ∙ (ap (λ (r : Result StackState FlowStop). and_then r
+    (λ t. locals_set t (begin + x * y) rest (drop y args))) given
     ∙ (ap (λ (t : StackState). locals_set t (begin + x * y) rest (drop y args)) here
-    ∙ (ap (λ (i : ℕ). locals_set (partly p f limit three (n - k - x * length xs - x * m)) i rest (drop y args)) (sym l3)
+    ∙ (ap (λ (i : ℕ). locals_set (partly p f limit three (n - k - x * length xs - x * m)) i rest
+    (drop y args)) (sym l3)
     ∙ (set_is p f limit total rest three (drop y args) (n - k - x * length xs - x * m) base
-    (omega (arith, l3, area, up, g, end, sum)) is.1 (subst (λ (i : ℕ). locals_end i rest ≤ total) (sym l3) end)
+    (omega (arith, l3, area, up, g, end, sum)) is.1
+    (subst (λ (i : ℕ). locals_end i rest ≤ total) (sym l3) end)
     ∙ ap (λ (ys : List ℕ). Ok (partly p f limit ys (total - length ys))) whole))))
 
 -- a new frame
@@ -253,8 +299,11 @@ pub entered_in : (b : Bool) (s x t : StackState) → cond b (Ok x) (Err Overflow
 entered_in true s x t h = sym (ap (λ (r : Result StackState StackFault). state_or s r) h)
 entered_in false s x t h = absurd (subst IsEntered (sym h) tt)
 
-pub entered_is : (s t : StackState) (format : List ℕ) → entered s format ≡ Ok t → t ≡ with_frame s (fresh_frame format)
-entered_is s t format h = entered_in (nat_le (length s.bytes + frame_len_of format) s.limit) s (with_frame s (fresh_frame format)) t h
+pub entered_is : (s t : StackState) (format : List ℕ) → entered s format ≡ Ok t
+    → t ≡ with_frame s (fresh_frame format)
+entered_is s t format h =
+    entered_in (nat_le (length s.bytes + frame_len_of format) s.limit) s
+    (with_frame s (fresh_frame format)) t h
 
 -- what stands before the locals of a new frame
 abbrev below_locals : List ℕ → List ℕ → List ℕ
@@ -263,7 +312,8 @@ below_locals bytes format = bytes ++ (frame_head format ++ replicate (padding_le
 head_seam : (low a b f z : List ℕ) → low ++ ((a ++ b ++ f) ++ z) ≡ low ++ (a ++ (b ++ (f ++ z)))
 head_seam low a b f z = simp append_assoc refl
 
-base_is : (bytes format : List ℕ) → frame_len_of format ≤ 1048576 → Base (below_locals bytes format) (length bytes) (locals_len format)
+base_is : (bytes format : List ℕ) → frame_len_of format ≤ 1048576
+    → Base (below_locals bytes format) (length bytes) (locals_len format)
 base_is bytes format small =
     let a = big_bytes 4 (frame_len_of format) in
     let b = big_bytes 4 (locals_pos_of format) in
@@ -274,7 +324,8 @@ base_is bytes format small =
     ∙ first_word bytes a (b ++ (format ++ z)) (frame_len_of format) refl (omega (arith, small)) in
     let second : number 4 (below_locals bytes format) (length bytes + 4) ≡ locals_pos_of format =
     ap (λ (xs : List ℕ). number 4 xs (length bytes + 4)) whole
-    ∙ second_word bytes a b (format ++ z) (locals_pos_of format) (length_word 4 (frame_len_of format)) refl (omega (arith, small)) in
+    ∙ second_word bytes a b (format ++ z) (locals_pos_of format)
+    (length_word 4 (frame_len_of format)) refl (omega (arith, small)) in
     let h = length_head format in
     let l = length-append bytes (frame_head format ++ z) in
     let m = length-append (frame_head format) z in
@@ -286,8 +337,10 @@ base_is bytes format small =
       len = omega (arith, first, second);
     }
 
-pub locals_are : (s t u : StackState) (format args : List ℕ) → IsFormat format → frame_len_of format ≤ 1048576 → entered s format ≡ Ok t
-    → locals_set t 0 format args ≡ Ok u → u ≡ with_frame s (frame_with format (locals_of 0 format args))
+pub locals_are : (s t u : StackState) (format args : List ℕ) → IsFormat format
+    → frame_len_of format ≤ 1048576 → entered s format ≡ Ok t
+    → locals_set t 0 format args ≡ Ok u
+    → u ≡ with_frame s (frame_with format (locals_of 0 format args))
 locals_are s t u format args is small enters sets =
     let p = below_locals s.bytes format in
     let f = length s.bytes in
@@ -296,14 +349,17 @@ locals_are s t u format args is small enters sets =
     let fresh : t ≡ partly p f s.limit [] total =
     entered_is s t format enters
     ∙ ap (λ (b : List ℕ). record { bytes = b; frame = f; limit = s.limit })
-    (sym (append_assoc s.bytes (frame_head format ++ replicate (padding_len format) 0) (replicate total 0))) in
+    (sym (append_assoc s.bytes (frame_head format ++ replicate (padding_len format) 0)
+    (replicate total 0))) in
     let done =
     sym sets
     ∙ (ap (λ (v : StackState). locals_set v 0 format args) fresh
-    ∙ set_is p f s.limit total format [] args total (base_is s.bytes format small) (omega arith) is (align_up (locals_end 0 format))) in
+    ∙ set_is p f s.limit total format [] args total (base_is s.bytes format small) (omega arith) is
+    (align_up (locals_end 0 format))) in
     ap (λ (r : Result StackState FlowStop). value_in s r) done
     ∙ ap (λ (b : List ℕ). record { bytes = b; frame = f; limit = s.limit })
-    (append_assoc s.bytes (frame_head format ++ replicate (padding_len format) 0) (x ++ replicate (total - length x) 0))
+    (append_assoc s.bytes (frame_head format ++ replicate (padding_len format) 0)
+    (x ++ replicate (total - length x) 0))
 
 -- a C1 is called
 
@@ -321,12 +377,16 @@ same_number a b h = ap (λ (r : Result ℕ MemFault). number_or r) h
 pub same_list : (a b : List ℕ) → ◌≡◌ {A = Result (List ℕ) FlowStop} (Ok a) (Ok b) → a ≡ b
 same_list a b h = ap (λ (r : Result (List ℕ) FlowStop). list_or r) h
 
-given_locals : (kind : ℕ) (s : StackState) (format args : List ℕ) → kind ≡ 193 → given kind s format args ≡ locals_set s 0 format args
+given_locals : (kind : ℕ) (s : StackState) (format args : List ℕ) → kind ≡ 193
+    → given kind s format args ≡ locals_set s 0 format args
 given_locals kind s format args e = rw e refl
 
-pub c1_called : (m : MemoryMap) (s t u : StackState) (at kind : ℕ) (items format args : List ℕ) → Ok kind ≡ read 1 m at
-    → format_in at (at + 1) (drop (at + 1) m.bytes) ≡ Ok items → IsFormat items → frame_len_of items ≤ 1048576 → entered s items ≡ Ok t
-    → given kind t items args ≡ Ok u → IsFunction 193 m at format → u ≡ with_frame s (frame_with format (locals_of 0 format args))
+pub c1_called : (m : MemoryMap) (s t u : StackState) (at kind : ℕ) (items format args : List ℕ)
+    → Ok kind ≡ read 1 m at
+    → format_in at (at + 1) (drop (at + 1) m.bytes) ≡ Ok items → IsFormat items
+    → frame_len_of items ≤ 1048576 → entered s items ≡ Ok t
+    → given kind t items args ≡ Ok u → IsFunction 193 m at format
+    → u ≡ with_frame s (frame_with format (locals_of 0 format args))
 c1_called m s t u at kind items format args reads lists is small enters gives c1 =
     let k : kind ≡ 193 = same_number kind 193 (reads ∙ c1.type) in
     let e : items ≡ format = same_list items format (sym lists ∙ c1.list) in

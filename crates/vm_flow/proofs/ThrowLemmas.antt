@@ -1,33 +1,28 @@
 -- Returns and throws, step by step.
-use Rattle.std.proofs.Common.{◌≡◌, ◌≢◌, ℕ, zero, suc, ◌-◌, ◌<◌, ◌≤◌, true, false, length, refl, arith, Result, Ok, Err, Some, ap, sym, subst}
-use Rattle.std.proofs.lemmas.Bool.{ne_eqb}
+use Rattle.std.proofs.Common.{◌≡◌, ℕ, zero, suc, ◌-◌, ◌<◌, ◌≤◌, true, false, refl}
+use Rattle.std.proofs.Common.{arith, Result, Ok, Err, ap, sym, subst}
 use Rattle.vm_stack.specs.StackState.{StackState}
 use Rattle.vm_stack.specs.Frame.{left}
-use Rattle.vm_stack.specs.Stub.{stub_taken}
 use Rattle.vm_stack.specs.Token.{ends_stub}
 use Rattle.vm_stack.specs.declared.stub.Stub.{Stub}
-use Rattle.vm_stack.specs.declared.fault.StackFault.{StackFault}
 use Rattle.vm_flow.specs.Answer.{Gives}
-use Rattle.vm_flow.specs.Return.{stub_or_end}
 use Rattle.vm_flow.specs.Throw.{thrown_in, taken_at}
 use Rattle.vm_flow.specs.declared.stop.FlowStop.{FlowStop}
 use Rattle.vm_flow.specs.declared.stop.FlowStop.TheVariants as stop
 
-pub stub_left : (s t : StackState) (x : Stub) → length s.bytes ≢ 0 → stub_taken s ≡ Ok (t, x) → stub_or_end s ≡ Ok (t, Some x)
-stub_left s t x some e = rw (ne_eqb (length s.bytes) 0 some, e) refl
-
-pub stub_wants : (s : StackState) (f : StackFault) → length s.bytes ≢ 0 → stub_taken s ≡ Err f → stub_or_end s ≡ Err (stop.Stack f)
-stub_wants s f some e = rw (ne_eqb (length s.bytes) 0 some, e) refl
-
-pub thrown_here : (n : ℕ) (s : StackState) (token : ℕ) → 0 < n → ends_stub s token ≡ true → thrown_in n s token ≡ taken_at s token
+pub thrown_here : (n : ℕ) (s : StackState) (token : ℕ) → 0 < n → ends_stub s token ≡ true
+    → thrown_in n s token ≡ taken_at s token
 thrown_here zero s token some e = absurd (omega (arith, some))
 thrown_here (suc n) s token some e = rw e refl
 
-pub thrown_below : (n : ℕ) (s : StackState) (token : ℕ) → 0 < n → ends_stub s token ≡ false → thrown_in n s token ≡ thrown_in (n - 1) (left s) token
+pub thrown_below : (n : ℕ) (s : StackState) (token : ℕ) → 0 < n → ends_stub s token ≡ false
+    → thrown_in n s token ≡ thrown_in (n - 1) (left s) token
 thrown_below zero s token some e = absurd (omega (arith, some))
-thrown_below (suc n) s token some e = rw e (ap (λ (k : ℕ). thrown_in k (left s) token) (omega arith))
+thrown_below (suc n) s token some e =
+    rw e (ap (λ (k : ℕ). thrown_in k (left s) token) (omega arith))
 
-pub thrown_none : (n : ℕ) (s : StackState) (token : ℕ) → n ≤ 0 → thrown_in n s token ≡ Err (stop.BadToken token)
+pub thrown_none : (n : ℕ) (s : StackState) (token : ℕ) → n ≤ 0
+    → thrown_in n s token ≡ Err (stop.BadToken token)
 thrown_none zero s token none = refl
 thrown_none (suc n) s token none = absurd (omega (arith, none))
 
@@ -40,6 +35,7 @@ answered (Ok x) = Ok x.1
 answered (Err e) = Err e
 
 -- a call that should stop answers that stop
-pub gives_stop : (new : StackState) (r : Result Stub FlowStop) (e : FlowStop) → Gives (Err e) new r → r ≡ Err e
+pub gives_stop : (new : StackState) (r : Result Stub FlowStop) (e : FlowStop) → Gives (Err e) new r
+    → r ≡ Err e
 gives_stop new (Ok x) e h = absurd (subst Stops h tt)
 gives_stop new (Err f) e h = sym (ap answered h)

@@ -1,5 +1,6 @@
 -- The values of a C0's new frame, as one list.
-use Rattle.std.proofs.Common.{◌≡◌, ℕ, ◌+◌, nat_le, List, [], ◌∷◌, ◌++◌, length, drop, reverse, refl, Result, Ok, Err, ap, sym, ◌∙◌, subst, append_assoc}
+use Rattle.std.proofs.Common.{◌≡◌, ℕ, ◌+◌, nat_le, List, [], ◌∷◌, ◌++◌, length, drop, reverse, refl}
+use Rattle.std.proofs.Common.{Result, Ok, Err, ap, sym, ◌∙◌, subst, append_assoc}
 use Rattle.std.proofs.lemmas.List.{append-nil, reverse-append}
 use Rattle.std.proofs.lemmas.Grind.{flat_map-append}
 use Rattle.byteorder.specs.Endian.{big_bytes}
@@ -18,7 +19,8 @@ use Rattle.vm_flow.proofs.LocalLemmas.{entered_in, entered_is, same_number, same
 -- what a push leaves
 pushed_is : (s t : StackState) (x : ℕ) → pushed s x ≡ Ok t → t ≡ with_values s (x ∷ [])
 pushed_is s t x h =
-    entered_in (nat_le (length s.bytes + length (big_bytes 4 x)) s.limit) s (record s { bytes = s.bytes ++ big_bytes 4 x }) t h
+    entered_in (nat_le (length s.bytes + length (big_bytes 4 x)) s.limit) s
+    (record s { bytes = s.bytes ++ big_bytes 4 x }) t h
     ∙ ap (λ (ys : List ℕ). record s { bytes = s.bytes ++ ys }) (sym (append-nil (big_bytes 4 x)))
 
 record Step (r : Result StackState FlowStop) (x : ℕ) (t : StackState) : Type 0 where
@@ -35,17 +37,21 @@ value_of s (Ok t) = t
 value_of s (Err e) = s
 
 from_ok : (r : Result StackState StackFault) (t : StackState) → from_stack r ≡ Ok t → r ≡ Ok t
-from_ok (Ok s) t h = ap (λ (x : StackState). Ok x) (ap (λ (r : Result StackState FlowStop). value_of s r) h)
+from_ok (Ok s) t h =
+    ap (λ (x : StackState). Ok x) (ap (λ (r : Result StackState FlowStop). value_of s r) h)
 from_ok (Err e) t h = absurd (subst Given (sym h) tt)
 
-step : (r : Result StackState FlowStop) (x : ℕ) (t : StackState) → and_then r (λ u. from_stack (pushed u x)) ≡ Ok t → Step r x t
+step : (r : Result StackState FlowStop) (x : ℕ) (t : StackState)
+    → and_then r (λ u. from_stack (pushed u x)) ≡ Ok t → Step r x t
 step (Ok s) x t h = record { under = s; gave = refl; push = from_ok (pushed s x) t h }
 step (Err e) x t h = absurd (subst Given (sym h) tt)
 
-two_lists : (s : StackState) (xs ys : List ℕ) → with_values (with_values s xs) ys ≡ with_values s (xs ++ ys)
+two_lists : (s : StackState) (xs ys : List ℕ)
+    → with_values (with_values s xs) ys ≡ with_values s (xs ++ ys)
 two_lists s xs ys =
     ap (λ (b : List ℕ). record s { bytes = b })
-    (append_assoc s.bytes (words xs) (words ys) ∙ ap (λ (zs : List ℕ). s.bytes ++ zs) (sym (flat_map-append (big_bytes 4) xs ys)))
+    (append_assoc s.bytes (words xs) (words ys)
+    ∙ ap (λ (zs : List ℕ). s.bytes ++ zs) (sym (flat_map-append (big_bytes 4) xs ys)))
 
 all_is : (s t : StackState) (xs : List ℕ) → all_pushed s xs ≡ Ok t → t ≡ with_values s (reverse xs)
 all_is s t [] h =
@@ -55,13 +61,16 @@ all_is s t (x ∷ xs) h =
     let one = step (all_pushed s xs) x t h in
     pushed_is one.under t x one.push
     ∙ (ap (λ (u : StackState). with_values u (x ∷ [])) (all_is s one.under xs one.gave)
-    ∙ (two_lists s (reverse xs) (x ∷ []) ∙ ap (λ (ys : List ℕ). with_values s ys) (sym (reverse-append (x ∷ []) xs))))
+    ∙ (two_lists s (reverse xs) (x ∷ []) ∙ ap (λ (ys : List ℕ). with_values s ys)
+    (sym (reverse-append (x ∷ []) xs))))
 
 given_values : (kind : ℕ) (s : StackState) (format args : List ℕ) → kind ≡ 192
-    → given kind s format args ≡ and_then (all_pushed s args) (λ t. from_stack (pushed t (length args)))
+    → given kind s format args ≡ and_then (all_pushed s args)
+    (λ t. from_stack (pushed t (length args)))
 given_values kind s format args e = rw e refl
 
-values_are : (s t : StackState) (args : List ℕ) → and_then (all_pushed s args) (λ u. from_stack (pushed u (length args))) ≡ Ok t
+values_are : (s t : StackState) (args : List ℕ)
+    → and_then (all_pushed s args) (λ u. from_stack (pushed u (length args))) ≡ Ok t
     → t ≡ with_values s (reverse args ++ length args ∷ [])
 values_are s t args h =
     let one = step (all_pushed s args) (length args) t h in
@@ -69,12 +78,17 @@ values_are s t args h =
     ∙ (ap (λ (u : StackState). with_values u (length args ∷ [])) (all_is s one.under args one.gave)
     ∙ two_lists s (reverse args) (length args ∷ []))
 
-pub c0_called : (m : MemoryMap) (s t u : StackState) (at kind : ℕ) (items format args : List ℕ) → Ok kind ≡ read 1 m at
-    → format_in at (at + 1) (drop (at + 1) m.bytes) ≡ Ok items → entered s items ≡ Ok t → given kind t items args ≡ Ok u
-    → IsFunction 192 m at format → u ≡ with_values (with_frame s (fresh_frame format)) (reverse args ++ length args ∷ [])
+pub c0_called : (m : MemoryMap) (s t u : StackState) (at kind : ℕ) (items format args : List ℕ)
+    → Ok kind ≡ read 1 m at
+    → format_in at (at + 1) (drop (at + 1) m.bytes) ≡ Ok items → entered s items ≡ Ok t
+    → given kind t items args ≡ Ok u
+    → IsFunction 192 m at format
+    → u ≡ with_values (with_frame s (fresh_frame format)) (reverse args ++ length args ∷ [])
 c0_called m s t u at kind items format args reads lists enters gives c0 =
     let k : kind ≡ 192 = same_number kind 192 (reads ∙ c0.type) in
     let e : items ≡ format = same_list items format (sym lists ∙ c0.list) in
     values_are t u args (sym (given_values kind t items args k) ∙ gives)
-    ∙ (ap (λ (v : StackState). with_values v (reverse args ++ length args ∷ [])) (entered_is s t items enters)
-    ∙ ap (λ (g : List ℕ). with_values (with_frame s (fresh_frame g)) (reverse args ++ length args ∷ [])) e)
+    ∙ (ap (λ (v : StackState). with_values v (reverse args ++ length args ∷ []))
+    (entered_is s t items enters)
+    ∙ ap (λ (g : List ℕ). with_values (with_frame s (fresh_frame g))
+    (reverse args ++ length args ∷ [])) e)

@@ -4,6 +4,7 @@ use Rattle.vm_heap.specs.HeapMap.{heap_end, is_heap}
 use Rattle.vm_heap.specs.FirstFit.{first_fit}
 use Rattle.vm_heap.specs.declared.block.Block.{Block}
 use Rattle.vm_heap.proofs.FitLemmas.{walk-first_fit}
+use Rattle.vm_heap.specs.declared.block.TheConstants.{MAX_SIZE}
 
 abbrev block : ℕ → ℕ → Block
 block at length = record { at = at; length = length }
@@ -31,3 +32,7 @@ pub heaps :
     is_heap 0 [] ∷ is_heap 0x100 [] ∷ is_heap 0x100 (block 0x100 4 ∷ block 0x103 4 ∷ []) ∷ is_heap 0x100 (block 0x100 4 ∷ block 0x104 4 ∷ []) ∷ []
     ≡ true ∷ false ∷ false ∷ true ∷ []
 heaps = refl
+
+-- 16 MiB, which no block passes
+pub the_greatest_size : MAX_SIZE ≡ 16777216
+the_greatest_size = refl

@@ -70,9 +70,6 @@ single e = rw e refl
 double : {a b c d : ℕ} → a ≡ b → c ≡ d → a ∷ c ∷ [] ≡ b ∷ d ∷ []
 double e f = rw (e, f) refl
 
-IsByte : ℕ → Type 0
-IsByte x = x < 256
-
 abbrev Front : ℕ → List ℕ → Type 0
 Front n xs = (take n xs ≡ big_bytes n (big_number n xs)) × (big_number n xs < 256 ^ n)
 

@@ -1,5 +1,6 @@
 -- The steps of a binary search.
-use Rattle.std.proofs.Common.{arith, suc, ◌≡◌, ◌≢◌, ◌∙◌, refl, sym, ap, ℕ, ◌+◌, ◌*◌, ◌^◌, ◌<◌, ◌≤◌, true, false, nat_eq, nat_lt, Some, None, Result, Ok}
+use Rattle.std.proofs.Common.{arith, suc, ◌≡◌, ◌≢◌, ◌∙◌, refl, sym, ap, ℕ, ◌+◌, ◌*◌, ◌^◌, ◌<◌, ◌≤◌}
+use Rattle.std.proofs.Common.{true, false, nat_eq, nat_lt, Some, None, Result, Ok}
 use Rattle.std.proofs.lemmas.Grind.{common_steps, pow_more}
 use Rattle.std.proofs.lemmas.Nat.{mul-le}
 use Rattle.std.proofs.Math.Pow.{pow_mono}
@@ -15,42 +16,66 @@ use Rattle.vm_search.specs.declared.query.Query.{Query}
 use Rattle.vm_search.specs.declared.binary_search.Interval.{Interval}
 use Rattle.vm_search.proofs.EndingLemmas.{AllLookMore, at_structure-looked}
 
-pub binary_ends-empty : (m : MemoryMap) (q : Query) (n : ℕ) (i : Interval) → interval_at m q n ≡ i → i.low ≡ i.high → binary_ends m q n ≡ Some (ending n (Ok (failure q)))
-binary_ends-empty m q n i p e = ap (ends_in m q n) p ∙ (let t : nat_eq i.low i.high ≡ true = grind (arith, common_steps) in rw t refl)
+pub binary_ends-empty : (m : MemoryMap) (q : Query) (n : ℕ) (i : Interval) → interval_at m q n ≡ i
+    → i.low ≡ i.high → binary_ends m q n ≡ Some (ending n (Ok (failure q)))
+binary_ends-empty m q n i p e =
+    ap (ends_in m q n) p
+    ∙ (let t : nat_eq i.low i.high ≡ true = grind (arith, common_steps) in rw t refl)
 
-in_middle : (m : MemoryMap) (q : Query) (n : ℕ) (i : Interval) → i.low ≢ i.high → ends_in m q n i ≡ at_structure (n + 1) (found_at q (middle i)) (failure q) false (compared m q (structure_at q (middle i)))
+in_middle : (m : MemoryMap) (q : Query) (n : ℕ) (i : Interval) → i.low ≢ i.high
+    → ends_in m q n i ≡ at_structure (n + 1) (found_at q (middle i)) (failure q) false
+    (compared m q (structure_at q (middle i)))
 in_middle m q n i d = let t : nat_eq i.low i.high ≡ false = grind (arith, common_steps) in rw t refl
 
-pub binary_ends-structure : (m : MemoryMap) (q : Query) (n : ℕ) (i : Interval) (r : Result Ordering MemFault) → interval_at m q n ≡ i → i.low ≢ i.high → compared m q (structure_at q (middle i)) ≡ r → binary_ends m q n ≡ at_structure (n + 1) (found_at q (middle i)) (failure q) false r
+pub binary_ends-structure : (m : MemoryMap) (q : Query) (n : ℕ) (i : Interval)
+    (r : Result Ordering MemFault) → interval_at m q n ≡ i → i.low ≢ i.high
+    → compared m q (structure_at q (middle i)) ≡ r
+    → binary_ends m q n ≡ at_structure (n + 1) (found_at q (middle i)) (failure q) false r
 binary_ends-structure m q n i r p d e =
-    ap (ends_in m q n) p ∙ in_middle m q n i d ∙ ap (at_structure (n + 1) (found_at q (middle i)) (failure q) false) e
+    ap (ends_in m q n) p ∙ in_middle m q n i d
+    ∙ ap (at_structure (n + 1) (found_at q (middle i)) (failure q) false) e
 
-pub goes_on : (looked found failed : ℕ) (order : Ordering) → order ≢ Equal → at_structure looked found failed false (Ok order) ≡ None
+pub goes_on : (looked found failed : ℕ) (order : Ordering) → order ≢ Equal
+    → at_structure looked found failed false (Ok order) ≡ None
 goes_on looked found failed Less d = refl
 goes_on looked found failed Equal d = absurd (d refl)
 goes_on looked found failed Greater d = refl
 
-pub interval_at-next : (m : MemoryMap) (q : Query) (n : ℕ) (i : Interval) (order : Ordering) → interval_at m q n ≡ i → compared m q (structure_at q (middle i)) ≡ Ok order → interval_at m q (n + 1) ≡ half i (Ok order)
+pub interval_at-next : (m : MemoryMap) (q : Query) (n : ℕ) (i : Interval) (order : Ordering)
+    → interval_at m q n ≡ i → compared m q (structure_at q (middle i)) ≡ Ok order
+    → interval_at m q (n + 1) ≡ half i (Ok order)
 unfolding interval_at
 interval_at-next m q n i order p e =
     let one : n + 1 ≡ suc n = omega arith in
-    ap (interval_at m q) one ∙ ap (λ x. half x (compared m q (structure_at q (middle x)))) p ∙ ap (half i) e
+    ap (interval_at m q) one ∙ ap (λ x. half x (compared m q (structure_at q (middle x)))) p
+    ∙ ap (half i) e
 
-looked_of : (looked : ℕ) (answer : Result ℕ MemFault) (x : Ending) → Some (ending looked answer) ≡ Some x → x.looked ≡ looked
+looked_of : (looked : ℕ) (answer : Result ℕ MemFault) (x : Ending)
+    → Some (ending looked answer) ≡ Some x → x.looked ≡ looked
 looked_of looked answer x e = cc
 
 -- none but the halvings from here on are left
-pub binary-look_more : (m : MemoryMap) (q : Query) (n : ℕ) (i : Interval) → interval_at m q n ≡ i → i.low ≢ i.high → AllLookMore (binary_ends m q) n n
+pub binary-look_more : (m : MemoryMap) (q : Query) (n : ℕ) (i : Interval) → interval_at m q n ≡ i
+    → i.low ≢ i.high → AllLookMore (binary_ends m q) n n
 binary-look_more m q n i p d = λ j l x s.
-    elim (nat_eq (interval_at m q j).low (interval_at m q j).high) as (λ t. nat_eq (interval_at m q j).low (interval_at m q j).high ≡ t → n < x.looked) [
+    elim (nat_eq (interval_at m q j).low (interval_at m q j).high) as
+    (λ t. nat_eq (interval_at m q j).low (interval_at m q j).high ≡ t → n < x.looked) [
       | true ↦ (λ f.
-          let z : (interval_at m q j).low ≡ (interval_at m q j).high = grind (arith, common_steps) in
-          let k : x.looked ≡ j = looked_of j (Ok (failure q)) x (sym (binary_ends-empty m q j (interval_at m q j) refl z) ∙ s) in
-          let b : j ≢ n = λ same. d (ap (λ y. Interval.low y) (sym p ∙ sym (ap (interval_at m q) same)) ∙ z ∙ ap (λ y. Interval.high y) (ap (interval_at m q) same ∙ p)) in
+          let z : (interval_at m q j).low ≡ (interval_at m q j).high =
+          grind (arith, common_steps) in
+          let k : x.looked ≡ j =
+          looked_of j (Ok (failure q)) x (sym (binary_ends-empty m q j (interval_at m q j) refl z)
+          ∙ s) in
+          let b : j ≢ n = λ same. d
+          (ap (λ y. Interval.low y) (sym p ∙ sym (ap (interval_at m q) same)) ∙ z
+          ∙ ap (λ y. Interval.high y) (ap (interval_at m q) same ∙ p)) in
           omega arith)
       | false ↦ (λ f.
-          let e : (interval_at m q j).low ≢ (interval_at m q j).high = grind (arith, common_steps) in
-          let k : x.looked ≡ j + 1 = at_structure-looked (j + 1) (found_at q (middle (interval_at m q j))) (failure q) false (compared m q (structure_at q (middle (interval_at m q j)))) x
+          let e : (interval_at m q j).low ≢ (interval_at m q j).high =
+          grind (arith, common_steps) in
+          let k : x.looked ≡ j + 1 =
+          at_structure-looked (j + 1) (found_at q (middle (interval_at m q j))) (failure q) false
+          (compared m q (structure_at q (middle (interval_at m q j)))) x
           (sym (in_middle m q j (interval_at m q j) e) ∙ s) in
           omega arith)
     ] refl

@@ -1,5 +1,7 @@
 -- Where the halving ends, by its keys.
-use Rattle.std.proofs.Common.{◌≡◌, ◌≢◌, ◌∙◌, ◌⊎◌, inl, inr, ℕ, zero, suc, ◌+◌, ◌-◌, ◌<◌, ◌≤◌, ◌==◌, Bool, true, false, cond, nat_le, nat_lt, Some, None, Result, Ok, Err, length, refl, sym, ap, subst, arith}
+use Rattle.std.proofs.Common.{◌≡◌, ◌≢◌, ◌∙◌, ◌⊎◌, inl, inr, ℕ, zero, suc, ◌+◌, ◌-◌, ◌<◌, ◌≤◌, ◌==◌}
+use Rattle.std.proofs.Common.{Bool, true, false, cond, nat_le, nat_lt, Some, None, Result, Ok, Err}
+use Rattle.std.proofs.Common.{length, refl, sym, ap, subst, arith}
 use Rattle.std.proofs.lemmas.Bool.{eqb-true, eqb-false}
 use Rattle.std.proofs.Math.Nat.{eq-or-lt_of_le}
 use Rattle.std.specs.Cmp.{ranks}
@@ -17,7 +19,8 @@ use Rattle.vm_search.specs.Laws.{Equals, IsSorted, LiesAt, Meets, Misses, MeetsO
 use Rattle.vm_search.specs.declared.query.Query.{Query}
 use Rattle.vm_search.specs.declared.query.Found.{Found}
 use Rattle.vm_search.specs.declared.binary_search.Interval.{Interval}
-use Rattle.vm_search.proofs.LawLemmas.{First, Ended, ended, end_at, past_ends, some_is, answer_is, never}
+use Rattle.vm_search.proofs.LawLemmas.{First, Ended, ended, end_at, past_ends, some_is, answer_is}
+use Rattle.vm_search.proofs.LawLemmas.{never}
 use Rattle.vm_search.proofs.LawLemmas.End.{Stops, Hits, Misses as NotHit}
 
 -- the key lies between what stands before an interval and what stands behind it
@@ -27,13 +30,15 @@ record Between (m : MemoryMap) (q : Query) (i : Interval) : Type 0 where
   above : (i.low ≡ 0) ⊎ (compared m q (structure_at q (i.low - 1)) ≡ Ok Greater)
   below : (i.high ≡ q.count) ⊎ (compared m q (structure_at q i.high) ≡ Ok Less)
 
-turns : (looked found failed : ℕ) (r : Result Ordering MemFault) → at_structure looked found failed false r ≡ None → (r ≡ Ok Less) ⊎ (r ≡ Ok Greater)
+turns : (looked found failed : ℕ) (r : Result Ordering MemFault)
+    → at_structure looked found failed false r ≡ None → (r ≡ Ok Less) ⊎ (r ≡ Ok Greater)
 turns looked found failed (Err f) h = absurd cc
 turns looked found failed (Ok Less) h = inl refl
 turns looked found failed (Ok Equal) h = absurd cc
 turns looked found failed (Ok Greater) h = inr refl
 
-halved : (m : MemoryMap) (q : Query) (i : Interval) (r : Result Ordering MemFault) → compared m q (structure_at q (middle i)) ≡ r → i.low ≢ i.high
+halved : (m : MemoryMap) (q : Query) (i : Interval) (r : Result Ordering MemFault)
+    → compared m q (structure_at q (middle i)) ≡ r → i.low ≢ i.high
     → (r ≡ Ok Less) ⊎ (r ≡ Ok Greater) → Between m q i → Between m q (half i r)
 halved m q i r e d (inl less) b =
     let l = b.order in
@@ -50,7 +55,8 @@ halved m q i r e d (inr greater) b =
     subst (λ (x : Result Ordering MemFault). Between m q (half i x)) (sym greater) (record {
       order = omega (arith, l, d);
       within = b.within;
-      above = inr (subst (λ (n : ℕ). compared m q (structure_at q n) ≡ Ok Greater) same (e ∙ greater));
+      above = inr (subst (λ (n : ℕ). compared m q (structure_at q n) ≡ Ok Greater) same
+          (e ∙ greater));
       below = b.below;
     })
 
@@ -59,17 +65,22 @@ step : (m : MemoryMap) (q : Query) (k : ℕ) (i : Interval) → ends_in m q k i 
 step m q k i h b =
     let p = past_ends (i.low == i.high) (ending k (Ok (failure q))) _ h in
     halved m q i (compared m q (structure_at q (middle i))) refl (eqb-false i.low i.high p.0)
-    (turns (k + 1) (found_at q (middle i)) (failure q) (compared m q (structure_at q (middle i))) p.1) b
+    (turns (k + 1) (found_at q (middle i)) (failure q)
+    (compared m q (structure_at q (middle i))) p.1) b
 
-between_at : (m : MemoryMap) (q : Query) (k : ℕ) → ((j : ℕ) → 0 ≤ j → j < k → binary_ends m q j ≡ None) → Between m q (interval_at m q k)
+between_at : (m : MemoryMap) (q : Query) (k : ℕ)
+    → ((j : ℕ) → 0 ≤ j → j < k → binary_ends m q j ≡ None) → Between m q (interval_at m q k)
 unfolding interval_at
-between_at m q zero h = record { order = omega arith; within = omega arith; above = inl refl; below = inl refl }
+between_at m q zero h =
+    record { order = omega arith; within = omega arith; above = inl refl; below = inl refl }
 between_at m q (suc k) h =
-    step m q k (interval_at m q k) (h k (omega arith) (omega arith)) (between_at m q k (λ j z l. h j z (omega (arith, l))))
+    step m q k (interval_at m q k) (h k (omega arith) (omega arith))
+    (between_at m q k (λ j z l. h j z (omega (arith, l))))
 
 -- ---- sorted structures
 
-ordered : (r : Result ℕ MemFault) (b : Bool) (own : ℕ) (f : MemFault) (o : Ordering) → order_of r (cond b (Ok own) (Err f)) ≡ Ok o
+ordered : (r : Result ℕ MemFault) (b : Bool) (own : ℕ) (f : MemFault) (o : Ordering)
+    → order_of r (cond b (Ok own) (Err f)) ≡ Ok o
     → (k : ℕ) × (r ≡ Ok k) × (nat_cmp k own ≡ o)
 ordered (Ok k) true own f o h = (k, refl, cc)
 ordered (Ok k) false own f o h = absurd cc
@@ -78,15 +89,24 @@ ordered (Err g) false own f o h = absurd cc
 
 -- what a look says of the key that is sought
 looks : (m : MemoryMap) (q : Query) (at : ℕ) (o : Ordering) → compared m q at ≡ Ok o
-    → (k : ℕ) × (sought m q ≡ Ok k) × MatchOrdering o (k < key_at m q at) (k ≡ key_at m q at) (key_at m q at < k)
+    → (k : ℕ) × (sought m q ≡ Ok k) × MatchOrdering o (k < key_at m q at) (k ≡ key_at m q at)
+    (key_at m q at < k)
 looks m q at o h =
-    let r = ordered (sought m q) (nat_le (key_place q at + q.key_size) (length m.bytes)) (key_at m q at) (BadRead (key_place q at)) o h in
-    (r.0, r.1, subst (λ (x : Ordering). MatchOrdering x (r.0 < key_at m q at) (r.0 ≡ key_at m q at) (key_at m q at < r.0)) r.2 (ranks r.0 (key_at m q at)))
+    let r = ordered (sought m q) (nat_le (key_place q at + q.key_size) (length m.bytes))
+    (key_at m q at) (BadRead (key_place q at)) o h in (
+      r.0,
+      r.1,
+      subst (λ (x : Ordering). MatchOrdering x (r.0 < key_at m q at) (r.0 ≡ key_at m q at)
+          (key_at m q at < r.0)) r.2 (ranks r.0 (key_at m q at)),
+    )
 
-rises : (m : MemoryMap) (q : Query) → IsSorted m q → (i j : ℕ) → i ≤ j → j < q.count → key_at m q (structure_at q i) ≤ key_at m q (structure_at q j)
+rises : (m : MemoryMap) (q : Query) → IsSorted m q → (i j : ℕ) → i ≤ j → j < q.count
+    → key_at m q (structure_at q i) ≤ key_at m q (structure_at q j)
 rises m q sorted i j l h =
-    elim (eq-or-lt_of_le l) as (λ _. key_at m q (structure_at q i) ≤ key_at m q (structure_at q j)) [
-      | inl e ↦ subst (λ (n : ℕ). key_at m q (structure_at q i) ≤ key_at m q (structure_at q n)) e (omega arith)
+    elim (eq-or-lt_of_le l) as
+    (λ _. key_at m q (structure_at q i) ≤ key_at m q (structure_at q j)) [
+      | inl e ↦ subst (λ (n : ℕ). key_at m q (structure_at q i) ≤ key_at m q (structure_at q n)) e
+          (omega arith)
       | inr s ↦ sorted i j s h
     ]
 
@@ -96,7 +116,8 @@ less i p t = grind (arith, t)
 no_less : (i p : ℕ) → nat_lt i p ≡ false → p ≤ i
 no_less i p t = grind (arith, t)
 
-none_has : (m : MemoryMap) (q : Query) (p : ℕ) → LiesAt m q p → IsSorted m q → (i : ℕ) → i < q.count → Equals m q (structure_at q i) → ⊥
+none_has : (m : MemoryMap) (q : Query) (p : ℕ) → LiesAt m q p → IsSorted m q → (i : ℕ) → i < q.count
+    → Equals m q (structure_at q i) → ⊥
 none_has m q p lies sorted i l e = pick (nat_lt i p) refl
   where
     pick : (b : Bool) → nat_lt i p ≡ b → ⊥
@@ -126,8 +147,11 @@ none_has m q p lies sorted i l e = pick (nat_lt i p) refl
 
 -- ---- the end
 
-at_end : (m : MemoryMap) (q : Query) (k : ℕ) (i : Interval) (e : Ending) (found : Found) (b : Bool) → (i.low == i.high) ≡ b
-    → cond b (Some (ending k (Ok (failure q)))) (at_structure (k + 1) (found_at q (middle i)) (failure q) false (compared m q (structure_at q (middle i)))) ≡ Some e
+at_end : (m : MemoryMap) (q : Query) (k : ℕ) (i : Interval) (e : Ending) (found : Found) (b : Bool)
+    → (i.low == i.high) ≡ b
+    → cond b (Some (ending k (Ok (failure q))))
+    (at_structure (k + 1) (found_at q (middle i)) (failure q) false
+    (compared m q (structure_at q (middle i)))) ≡ Some e
     → e.answer ≡ Ok found.answer → Between m q i → Meets m q found ⊎ Misses m q found
 at_end m q k i e found true p h a b =
     let same : i.high ≡ i.low = sym (eqb-true i.low i.high p) in
@@ -136,16 +160,19 @@ at_end m q k i e found true p h a b =
     let lies : LiesAt m q i.low = record {
       within = omega (arith, o, w);
       above = b.above;
-      below = subst (λ (n : ℕ). (n ≡ q.count) ⊎ (compared m q (structure_at q n) ≡ Ok Less)) same b.below;
+      below = subst (λ (n : ℕ). (n ≡ q.count) ⊎ (compared m q (structure_at q n) ≡ Ok Less)) same
+          b.below;
     } in
     inr (record {
       index = i.low;
       lies = lies;
       none = none_has m q i.low lies;
-      answer = answer_is e.answer found.answer (failure q) a (ap (λ (x : Ending). x.answer) (some_is (ending k (Ok (failure q))) e h));
+      answer = answer_is e.answer found.answer (failure q) a
+          (ap (λ (x : Ending). x.answer) (some_is (ending k (Ok (failure q))) e h));
     })
 at_end m q k i e found false p h a b =
-    elim (end_at (k + 1) (found_at q (middle i)) (failure q) false (compared m q (structure_at q (middle i))) e h)
+    elim (end_at (k + 1) (found_at q (middle i)) (failure q) false
+    (compared m q (structure_at q (middle i))) e h)
     as (λ _. Meets m q found ⊎ Misses m q found) [
       | Stops f is ↦ never e.answer found.answer f a (ap (λ (x : Ending). x.answer) is)
       | Hits eq is ↦ inl (record {
@@ -156,7 +183,8 @@ at_end m q k i e found false p h a b =
             let w = b.within in
             omega (arith, d, o, w);
         equal = eq;
-        answer = answer_is e.answer found.answer (found_at q (middle i)) a (ap (λ (x : Ending). x.answer) is);
+        answer = answer_is e.answer found.answer (found_at q (middle i)) a
+            (ap (λ (x : Ending). x.answer) is);
       })
       | NotHit ne last is ↦ absurd cc
     ]
@@ -166,4 +194,5 @@ meets_or_misses m q found h =
     let t : Ended (binary_ends m q) found = ended q (binary_ends m q) found h in
     let f : First (binary_ends m q) 0 t.e = t.first in
     let i : Interval = interval_at m q f.index in
-    at_end m q f.index i t.e found (i.low == i.high) refl f.here t.answer (between_at m q f.index f.before)
+    at_end m q f.index i t.e found (i.low == i.high) refl f.here t.answer
+    (between_at m q f.index f.before)

@@ -32,7 +32,8 @@ query key start count options = record {
 }
 
 -- key 9 is at index 1, and ends the search there
-pub key_9 : map (linear_ends words (query 9 0 0xFFFFFFFF 4)) (0 ∷ 1 ∷ []) ≡ None ∷ Some (ending 2 (Ok 1)) ∷ []
+pub key_9 : map (linear_ends words (query 9 0 0xFFFFFFFF 4)) (0 ∷ 1 ∷ []) ≡ None ∷ Some
+    (ending 2 (Ok 1)) ∷ []
 key_9 = refl
 
 -- key 7 isn't reached past a zero key, which is reached where it is the key itself
@@ -61,5 +62,6 @@ no_chain = refl
 abbrev sized : ℕ → ℕ → Query
 sized size options = record (query 0 0 0 options) { key_size = size }
 
-pub sizes : map is_search (sized 4 0 ∷ sized 3 0 ∷ sized 3 1 ∷ sized 0 1 ∷ []) ≡ true ∷ false ∷ true ∷ false ∷ []
+pub sizes : map is_search (sized 4 0 ∷ sized 3 0 ∷ sized 3 1 ∷ sized 0 1 ∷ [])
+    ≡ true ∷ false ∷ true ∷ false ∷ []
 sizes = refl

@@ -20,11 +20,6 @@ pub locals_more : (format : List ℕ) (end read x y : ℕ) → read + 1 < length
 locals_more format end read x y h ex ey some =
     ap (λ (ys : List ℕ). locals_end end ys) (two format read h) ∙ (rw (← ex, ← ey, no_zero x some) refl)
 
-pub locals_stop : (format : List ℕ) (end read x : ℕ) → read + 1 < length format → x ≡ slice_index format read → x ≡ 0
-    → locals_end end (drop read format) ≡ end
-locals_stop format end read x h ex none =
-    ap (λ (ys : List ℕ). locals_end end ys) (two format read h) ∙ (rw (← ex, none) refl)
-
 pub locals_none : (end : ℕ) (xs : List ℕ) → length xs < 2 → locals_end end xs ≡ end
 locals_none end [] h = refl
 locals_none end (x ∷ []) h = refl

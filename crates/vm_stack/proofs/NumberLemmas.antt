@@ -7,9 +7,6 @@ use Rattle.byteorder.specs.Numbers.{big_from-append, big_number-reads_back}
 use Rattle.byteorder.specs.Endian.{big_bytes}
 use Rattle.vm_stack.specs.StackState.{number}
 
-same_test : (a b n : ℕ) → nat_le (n + a) (n + b) ≡ nat_le a b
-same_test a b n = grind (arith, nat_tests)
-
 pub le_true : (a b : ℕ) → a ≤ b → nat_le a b ≡ true
 le_true a b h = grind (arith, nat_tests)
 

@@ -7,6 +7,7 @@ use Rattle.vm_stack.specs.Locals.{local}
 use Rattle.vm_stack.specs.Stub.{stub_taken}
 use Rattle.vm_stack.specs.Token.{ends_stub}
 use Rattle.vm_stack.specs.declared.fault.StackFault.TheVariants.{Overflow, Underflow, BadLocal}
+use Rattle.vm_stack.specs.declared.stack.TheConstants.{MAX_STACK}
 
 pub a_turn_of_1 : rotated (4 ∷ 3 ∷ 2 ∷ 1 ∷ 0 ∷ []) (turn 5 1) ≡ 0 ∷ 4 ∷ 3 ∷ 2 ∷ 1 ∷ []
 a_turn_of_1 = refl
@@ -47,3 +48,7 @@ its_end_is_a_token = refl
 
 pub below_it_is_none : ends_stub (record { bytes = fresh_frame (0 ∷ 0 ∷ []) ++ words (3 ∷ 8 ∷ 77 ∷ 0 ∷ []); frame = 0; limit = 256 }) 24 ≡ false
 below_it_is_none = refl
+
+-- 1 MiB
+pub the_greatest_size : MAX_STACK ≡ 1048576
+the_greatest_size = refl

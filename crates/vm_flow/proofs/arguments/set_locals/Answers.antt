@@ -1,40 +1,48 @@
-use Rattle.std.proofs.Common.{◌≡◌, ◌+◌, ◌-◌, ◌≤◌, ◌≢◌, ℕ, List, length, length-drop, drop, take, slice_index, Ok, refl, arith, ◌∙◌}
+use Rattle.std.proofs.Common.{◌≡◌, ◌+◌, ◌-◌, ◌≤◌, ◌≢◌, ℕ, List, length, length-drop, drop, take}
+use Rattle.std.proofs.Common.{slice_index, Ok, refl, arith, ◌∙◌}
 use Rattle.vm_stack.specs.Frame.{aligned, locals_end}
 use Rattle.vm_stack.specs.Chain.{IsFormat}
 use Rattle.vm_flow.specs.Call.{pair_set}
-use Rattle.vm_flow.proofs.ArgumentLemmas.{NextPair, next_pair, grows, locals_more, locals_end_here, locals_none}
+use Rattle.vm_flow.proofs.ArgumentLemmas.{NextPair, next_pair, grows, locals_more, locals_end_here}
+use Rattle.vm_flow.proofs.ArgumentLemmas.{locals_none}
 use Rattle.vm_flow.proofs.arguments.set_locals.Goals as goal
 
 -- the pair at the place that is read
-pair_here : (at read : ℕ) (format : List ℕ) → 2 ≤ length format - read → slice_index format read ≢ 0 → IsFormat (drop read format)
+pair_here : (at read : ℕ) (format : List ℕ) → 2 ≤ length format - read → slice_index format read ≢ 0
+    → IsFormat (drop read format)
     → locals_end at (drop read format) ≤ 1048576
     → NextPair at (slice_index format read) (slice_index format (read + 1)) (drop (read + 2) format)
 pair_here at read format h some is top =
-    next_pair at read (slice_index format read) (slice_index format (read + 1)) format (omega (arith, h)) refl refl some is top
+    next_pair at read (slice_index format read) (slice_index format (read + 1)) format
+    (omega (arith, h)) refl refl some is top
 
 pub returns-then-size-eq0-clause-ok : goal.returns-then-size-eq0-clause-ok
 returns-then-size-eq0-clause-ok c =
     let left = c.loop-read-test.true in
     c.loop-read.invariant.same
-    ∙ locals_end_here c.loop-read.stack c.loop-read.at c.loop-read.read (slice_index c.args.format.now c.loop-read.read) c.args.format.now c.loop-read.args.now
+    ∙ locals_end_here c.loop-read.stack c.loop-read.at c.loop-read.read
+    (slice_index c.args.format.now c.loop-read.read) c.args.format.now c.loop-read.args.now
     (omega (arith, left)) refl c.if-size-eq0.true
 
 pub aligned-begin-requires-clause-limit : goal.aligned-begin-requires-clause-limit
 aligned-begin-requires-clause-limit c =
-    let g = grows c.loop-read.at (drop c.loop-read.read c.args.format.now) c.loop-read.invariant.pairs in
+    let g = grows c.loop-read.at
+    (drop c.loop-read.read c.args.format.now) c.loop-read.invariant.pairs in
     let end = c.loop-read.invariant.end in
     omega (arith, g, end)
 
 pub set_pair-requires-clause-begin : goal.set_pair-requires-clause-begin
 set_pair-requires-clause-begin c =
     rw c.aligned-begin.ensures
-    (pair_here c.loop-read.at c.loop-read.read c.args.format.now c.loop-read-test.true c.if-size-eq0.false c.loop-read.invariant.pairs
+    (pair_here c.loop-read.at c.loop-read.read c.args.format.now c.loop-read-test.true
+    c.if-size-eq0.false c.loop-read.invariant.pairs
     c.loop-read.invariant.end).begin
 
 pub pair_end-at-requires : goal.pair_end-at-requires
 pair_end-at-requires c =
     rw c.aligned-begin.ensures
-    (pair_here c.loop-read.at c.loop-read.read c.args.format.now c.loop-read-test.true c.if-size-eq0.false c.loop-read.invariant.pairs
+    (pair_here c.loop-read.at c.loop-read.read c.args.format.now c.loop-read-test.true
+    c.if-size-eq0.false c.loop-read.invariant.pairs
     c.loop-read.invariant.end).begin
 
 pub loop-read-preserved : goal.loop-read-preserved
@@ -42,13 +50,16 @@ loop-read-preserved c =
     let left = c.loop-read-test.true in
     let x = slice_index c.args.format.now c.loop-read.read in
     let y = slice_index c.args.format.now (c.loop-read.read + 1) in
-    let next = pair_here c.loop-read.at c.loop-read.read c.args.format.now left c.if-size-eq0.false c.loop-read.invariant.pairs c.loop-read.invariant.end in
-    let given : pair_set c.loop-read.stack (aligned x c.loop-read.at) x (take y c.loop-read.args.now) ≡ Ok c.set_pair.new.stack =
+    let next = pair_here c.loop-read.at c.loop-read.read c.args.format.now left c.if-size-eq0.false
+    c.loop-read.invariant.pairs c.loop-read.invariant.end in
+    let given : pair_set c.loop-read.stack (aligned x c.loop-read.at) x
+    (take y c.loop-read.args.now) ≡ Ok c.set_pair.new.stack =
     rw (← c.aligned-begin.ensures, ← c.first.ensures.value) c.in-Ok.ensures.ok in
     record {
       same =
           c.loop-read.invariant.same
-          ∙ (locals_more c.loop-read.stack c.set_pair.new.stack c.loop-read.at c.loop-read.read x y c.args.format.now c.loop-read.args.now
+          ∙ (locals_more c.loop-read.stack c.set_pair.new.stack c.loop-read.at c.loop-read.read x y
+          c.args.format.now c.loop-read.args.now
           (omega (arith, left)) refl refl c.if-size-eq0.false given
           ∙ (rw (c.pair_end-at.ensures, c.aligned-begin.ensures, c.after-args.ensures) refl));
       inside = omega (arith, left);
@@ -63,4 +74,5 @@ returns-clause-ok c =
     let left = c.loop-read-test.false in
     let l = length-drop c.loop-read.read c.args.format.now in
     c.loop-read.invariant.same
-    ∙ locals_none c.loop-read.stack c.loop-read.at (drop c.loop-read.read c.args.format.now) c.loop-read.args.now (omega (arith, left, l))
+    ∙ locals_none c.loop-read.stack c.loop-read.at
+    (drop c.loop-read.read c.args.format.now) c.loop-read.args.now (omega (arith, left, l))

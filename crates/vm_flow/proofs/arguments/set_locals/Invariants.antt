@@ -6,7 +6,8 @@ use Rattle.vm_flow.proofs.arguments.set_locals.Given as goal
 
 abbrev pub invariant-loop-read : goal.invariant-loop-read
 invariant-loop-read l = record {
-  same : locals_set l.fn.stack 0 l.format l.fn.args ≡ locals_set l.stack l.at (drop l.read l.format) l.args;
+  same : locals_set l.fn.stack 0 l.format l.fn.args ≡ locals_set l.stack l.at
+      (drop l.read l.format) l.args;
   inside : l.read ≤ length l.format;
   pairs : IsFormat (drop l.read l.format);
   end : locals_end l.at (drop l.read l.format) ≤ 1048576;

@@ -5,7 +5,8 @@ use Rattle.vm_flow.proofs.arguments.set_pair.Given as goal
 
 abbrev pub invariant-loop-value : goal.invariant-loop-value
 invariant-loop-value l = record {
-  same : pair_set l.fn.stack l.begin l.size l.values ≡ pair_set l.stack l.at l.size (drop l.value-index l.values);
+  same : pair_set l.fn.stack l.begin l.size l.values ≡ pair_set l.stack l.at l.size
+      (drop l.value-index l.values);
   limit : l.at ≤ l.begin + 255 * l.value-index;
   chain : Chain l.fn.stack → Chain l.stack;
   there : HasFrame l.fn.stack → HasFrame l.stack;

@@ -6,10 +6,12 @@ use Rattle.vm_flow.proofs.calls.tail_call.Goals as goal
 
 pub returns-clause-locals : goal.returns-clause-locals
 returns-clause-locals c =
-    subst (λ (s : StackState). OnOk c.call.result (GetsLocals c.args.memory.now s c.args.at c.args.args.now c.call.new.stack))
+    subst (λ (s : StackState). OnOk c.call.result
+    (GetsLocals c.args.memory.now s c.args.at c.args.args.now c.call.new.stack))
     c.leave.ensures.ok c.call.ensures.locals
 
 pub returns-clause-values : goal.returns-clause-values
 returns-clause-values c =
-    subst (λ (s : StackState). OnOk c.call.result (GetsValues c.args.memory.now s c.args.at c.args.args.now c.call.new.stack))
+    subst (λ (s : StackState). OnOk c.call.result
+    (GetsValues c.args.memory.now s c.args.at c.args.args.now c.call.new.stack))
     c.leave.ensures.ok c.call.ensures.values

@@ -1,4 +1,5 @@
-use Rattle.std.proofs.Common.{◌+◌, ℕ, List, [], ◌∷◌, length, length-append, drop, ap, sym, ◌∙◌, arith}
+use Rattle.std.proofs.Common.{◌+◌, ℕ, List, [], ◌∷◌, length, length-append, drop, ap, sym, ◌∙◌}
+use Rattle.std.proofs.Common.{arith}
 use Rattle.vm_flow.specs.Function.{format_in, prepended}
 use Rattle.vm_flow.proofs.FormatLemmas.{format_more, pairs_more}
 use Rattle.vm_flow.proofs.format.read_format.Goals as goal
@@ -16,10 +17,17 @@ loop-format-preserved c =
     record {
       same =
           c.loop-format.invariant.same
-          ∙ (format_more c.args.function c.loop-format.at x y c.args.memory.now.bytes c.loop-format.format.items inside
-          c.in_ok-size.ensures.value c.in_ok-count.ensures.value (sym c.is_end.ensures ∙ c.if-is_end.false) (sym c.is_local_type.ensures ∙ c.if-not-is_local_type.false)
-          ∙ ap (λ (is : List ℕ). prepended is (format_in c.args.function (c.loop-format.at + 2) (drop (c.loop-format.at + 2) c.args.memory.now.bytes))) (sym items));
+          ∙ (format_more c.args.function c.loop-format.at x y c.args.memory.now.bytes
+          c.loop-format.format.items inside
+          c.in_ok-size.ensures.value c.in_ok-count.ensures.value
+          (sym c.is_end.ensures ∙ c.if-is_end.false)
+          (sym c.is_local_type.ensures ∙ c.if-not-is_local_type.false)
+          ∙ ap (λ (is : List ℕ). prepended is
+          (format_in c.args.function (c.loop-format.at + 2)
+          (drop (c.loop-format.at + 2) c.args.memory.now.bytes))) (sym items));
       place = omega (arith, l, a, place);
       limit = omega (arith, top);
-      pairs = λ rest is. rw items (pairs_more c.loop-format.format.items x y rest c.loop-format.invariant.pairs (sym c.is_local_type.ensures ∙ c.if-not-is_local_type.false) is);
+      pairs = λ rest is. rw items
+          (pairs_more c.loop-format.format.items x y rest c.loop-format.invariant.pairs
+          (sym c.is_local_type.ensures ∙ c.if-not-is_local_type.false) is);
     }

@@ -9,7 +9,8 @@ invariant-loop-index l = record {
   one : tail l.index l.size (drop l.left l.memory.bytes) < 256 ^ (l.size - l.index);
   other : tail l.index l.size (drop l.right l.memory.bytes) < 256 ^ (l.size - l.index);
   sofar : l.order ≡ nat_cmp
-      (tail l.index l.size (drop l.left l.memory.bytes)) (tail l.index l.size (drop l.right l.memory.bytes));
+      (tail l.index l.size (drop l.left l.memory.bytes))
+      (tail l.index l.size (drop l.right l.memory.bytes));
 }
 
 abbrev pub decreases-loop-index : goal.decreases-loop-index

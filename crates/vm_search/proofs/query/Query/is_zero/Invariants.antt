@@ -5,5 +5,6 @@ use Rattle.vm_search.proofs.query.Query.is_zero.Given as goal
 
 abbrev pub invariant-loop-index : goal.invariant-loop-index
 invariant-loop-index l = record {
-  sofar : number_at l.self.key_size l.memory.bytes l.place ≡ tail l.index l.self.key_size (drop l.place l.memory.bytes);
+  sofar : number_at l.self.key_size l.memory.bytes l.place ≡ tail l.index l.self.key_size
+      (drop l.place l.memory.bytes);
 }
