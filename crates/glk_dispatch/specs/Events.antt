@@ -1,6 +1,6 @@
 -- Events and input (Glk 0.7.5, "Events", "Line Input Events", "Character Input Events").
 use Rattle.std.specs.Prelude.{ℕ, zero, suc, ◌+◌, ◌%◌, ◌^◌, ◌==◌, ◌||◌}
-use Rattle.std.specs.Prelude.{◌&&◌, not, nat_le, Bool}
+use Rattle.std.specs.Prelude.{◌&&◌, not, nat_le, Bool, true}
 use Rattle.std.specs.Prelude.{if◌then◌else◌, List, [], ◌∷◌, ◌++◌, Option, Some}
 use Rattle.std.specs.Prelude.{None}
 use Rattle.std.specs.Prelude.{Result, Ok}
@@ -165,6 +165,12 @@ input_echoed g m (input.Line win text key) =
     line_echoed (request.request_of g.requests win) g m win text
 input_echoed g m (input.Char win code) = Ok (g, m)
 input_echoed g m (input.File name) = Ok (g, m)
+
+-- an input that a call may wait for: what a window asks for, or the name of a file
+abbrev pub is_awaited : List WindowInput → Input → Bool
+is_awaited ws (input.Line win text key) = delivery.wants ws (input.Line win text key)
+is_awaited ws (input.Char win code) = delivery.wants ws (input.Char win code)
+is_awaited ws (input.File name) = true
 
 -- the input goes to its request
 abbrev pub request_over : Glk → Input → Glk

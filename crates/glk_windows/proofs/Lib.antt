@@ -14,5 +14,6 @@ pub mod SoundLemmas
 pub mod KeyLemmas
 pub mod ValidLemmas
 pub mod BelowLemmas
+pub mod OwnLemmas
 pub mod SpellingLemmas
 pub mod StandardFacts

@@ -312,6 +312,36 @@ size_below n (Fork m p a b) =
     let j : _ = size_below n b in
     grind (arith, common_steps)
 
+-- a window and all below it are gone, and nothing else
+pub node_rest : (t : WindowTree) (s : Shape) (n : ℕ) (x : ℕ × Option p.Pair) → IsOrdered t
+    → IsTree t (Some s) → node_of t.slots n ≡ Some x → (m : ℕ)
+    → node_of (removed (length t.slots) t.slots n) m
+    ≡ (if nat_lt 0 (count (below n s) m) then None else node_of t.slots m)
+unfolding IsOrdered
+node_rest t s n x o h live m =
+    let ws : List Window = t.slots in
+    let c0 : 0 < count s n = omega (arith, once_at _ _ x live (h.2 n)) in
+    let sb : (top (below n s) ≡ n) × Spells ws (parent_of ws n) (below n s) =
+    spells_below ws n s 0 h.1 c0 in
+    let sz : size s ≡ length ws = size_length 1 ws t.next 0 s o h.1 h.2 in
+    ap (λ j. node_of (removed (length ws) ws j) m) (sym sb.0)
+    ∙ node_removed (length ws) (below n s) ws (parent_of ws n) 1 t.next
+    (omega (arith, size_below n s, sz)) o sb.1
+    (λ k. omega (arith, count_below n s k, once_le _ _ (h.2 k))) m
+
+-- the pair above it is there yet
+pub pair_rest : (t : WindowTree) (s : Shape) (n : ℕ) (x : ℕ × Option p.Pair) → IsOrdered t
+    → IsTree t (Some s) → node_of t.slots n ≡ Some x → top s ≢ n
+    → node_of (removed (length t.slots) t.slots n) (parent_of t.slots n)
+    ≡ Some (parent_of t.slots (parent_of t.slots n), Some (held n s))
+pair_rest t s n x o h live hn =
+    let out : _ = outside t.slots n s 0 h.1 (λ m. once_le _ _ (h.2 m)) hn
+    (omega (arith, once_at _ _ x live (h.2 n))) in
+    let o0 : count (below n s) (parent_of t.slots n) ≡ 0 = out.0 in
+    let o1 : _ = out.1 in
+    let nq : _ = node_rest t s n x o h live (parent_of t.slots n) in
+    grind (arith, common_steps)
+
 relifts : (o : Option (ℕ × Option p.Pair)) (pair other above m : ℕ)
     → option_map (λ x. if m == other then (above, x.1) else x)
     (option_map (λ x. if m == above then (x.0, option_map (λ p. pair_swapped p pair other) x.1) else x) o)
@@ -367,18 +397,13 @@ tree_close t s n x o h live hn =
     let c1 : count s n ≡ 1 = once_at _ _ x live (h.2 n) in
     let c0 : 0 < count s n = omega (arith, c1) in
     let dd : (m : ℕ) → count s m ≤ 1 = λ m. once_le _ _ (h.2 m) in
-    let sb : (top sub ≡ n) × Spells ws pair sub = spells_below ws n s 0 h.1 c0 in
-    let sz : size s ≡ d = size_length 1 ws t.next 0 s o h.1 h.2 in
     let n2 : (m : ℕ) → node_of w2 m ≡ (if nat_lt 0 (count sub m) then None else node_of ws m) =
-    λ m. ap (λ j. node_of (removed d ws j) m) (sym sb.0)
-    ∙ node_removed d sub ws pair 1 t.next (omega (arith, size_below n s, sz)) o sb.1
-    (λ k. omega (arith, count_below n s k, dd k)) m in
+    node_rest t s n x o h live in
     let out : (count sub pair ≡ 0) × (node_of ws pair ≡ Some (parent_of ws pair, Some (held n s))) × (0 < count s pair) =
     outside ws n s 0 h.1 dd hn c0 in
-    let o0 : count sub pair ≡ 0 = out.0 in
     let o1 : node_of ws pair ≡ Some (parent_of ws pair, Some (held n s)) = out.1 in
-    let nq : _ = n2 pair in
-    let np2 : node_of w2 pair ≡ Some (parent_of ws pair, Some (held n s)) = grind (arith, common_steps) in
+    let np2 : node_of w2 pair ≡ Some (parent_of ws pair, Some (held n s)) =
+    pair_rest t s n x o h live hn in
     let ab : parent_of ws pair ≡ above = node_parent w2 pair _ np2 in
     let o2 : Ascends 1 w2 t.next = ascends-removed d 1 ws t.next n o in
     let nv : (m : ℕ) → node_of vs m ≡ option_map (relift pair other above m) (if m == pair then None else node_of w2 m) =

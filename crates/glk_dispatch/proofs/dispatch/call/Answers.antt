@@ -1,5 +1,5 @@
 use Rattle.glk_dispatch.specs.Answer.{desk}
-use Rattle.glk_dispatch.proofs.KeepingCalls.{call_keeps}
+use Rattle.glk_dispatch.proofs.KeptCalls.{call_keeps}
 use Rattle.glk_dispatch.proofs.dispatch.call.Goals as goal
 
 pub returns-in_ok-values-in-Some-clause-kept : goal.returns-in_ok-values-in-Some-clause-kept

@@ -1,5 +1,5 @@
 use Rattle.glk_dispatch.specs.Answer.{desk}
-use Rattle.glk_dispatch.proofs.KeepingCalls.{event_keeps}
+use Rattle.glk_dispatch.proofs.KeptCalls.{event_keeps}
 use Rattle.glk_dispatch.proofs.waiting.answer.Goals as goal
 
 pub returns-in-Line-clause-kept : goal.returns-in-Line-clause-kept
