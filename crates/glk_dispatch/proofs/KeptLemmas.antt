@@ -1,6 +1,8 @@
 -- What the work of a call keeps, step by step: valid parts, the story's memory and its frames.
-use Rattle.std.proofs.Common.{◌≡◌, ◌≤◌, ℕ, zero, suc, ◌+◌, ◌*◌, ◌==◌, ◌&&◌, nat_le, nat_lt, Bool, true, false}
-use Rattle.std.proofs.Common.{List, [], ◌∷◌, ◌++◌, length, take, drop, refl, Option, Result, Ok, Err, cond, arith, sym}
+use Rattle.std.proofs.Common.{◌≡◌, ◌≤◌, ℕ, zero, suc, ◌+◌, ◌*◌, ◌==◌, ◌&&◌, nat_le, nat_lt, Bool}
+use Rattle.std.proofs.Common.{true, false}
+use Rattle.std.proofs.Common.{List, [], ◌∷◌, ◌++◌, length, take, drop, refl, Option, Result, Ok}
+use Rattle.std.proofs.Common.{Err, cond, arith, sym}
 use Rattle.std.proofs.Common.{slice_set, replicate, length-append, length-drop, ◌∙◌, inl, inr}
 use Rattle.std.specs.Prelude.{IfOk}
 use Rattle.std.proofs.lemmas.List.{length-take-le}
@@ -35,7 +37,8 @@ use Rattle.glk_dispatch.specs.Gestalt.{array_begun}
 use Rattle.glk_dispatch.specs.Glk.{charged}
 use Rattle.glk_dispatch.specs.Keeping.{KeepsFrames, KeepsStory}
 use Rattle.glk_dispatch.specs.Laws.{AreValid}
-use Rattle.glk_dispatch.specs.Reference.{gives, next_field, referred, referred_all, refers, refers_all}
+use Rattle.glk_dispatch.specs.Reference.{gives, next_field, referred, referred_all, refers}
+use Rattle.glk_dispatch.specs.Reference.{refers_all}
 use Rattle.glk_dispatch.specs.declared.glk.Glk.{Glk}
 
 -- what the crates of windows, streams and requests promise
@@ -92,22 +95,26 @@ puts b rs p = Puts b rs p.0 p.1
 
 -- ---- steps
 
-pub kept-bind : {A B : Type 0} (b : Desk) (P : A → Type 0) (Q : B → Type 0) (r : Reached A) (f : A → Reached B)
+pub kept-bind : {A B : Type 0} (b : Desk) (P : A → Type 0) (Q : B → Type 0) (r : Reached A) (f : A
+    → Reached B)
     → Kept b P r → ((x : A) → P x → Kept b Q (f x)) → Kept b Q (r >>= f)
 kept-bind b P Q (Ok x) f h k = k x h
 kept-bind b P Q (Err e) f h k = h
 
-pub kept-step : {A B : Type 0} (b : Desk) (P : A → Type 0) (Q : B → Type 0) (g : Glk) (r : Result A ℕ) (f : A → Reached B)
+pub kept-step : {A B : Type 0} (b : Desk) (P : A → Type 0) (Q : B → Type 0) (g : Glk)
+    (r : Result A ℕ) (f : A → Reached B)
     → Valid b g → IfOk r P → ((x : A) → P x → Kept b Q (f x)) → Kept b Q (within g r >>= f)
 kept-step b P Q g (Ok x) f v h k = k x h
 kept-step b P Q g (Err n) f v h k = v
 
-pub kept-read : {A B : Type 0} (b : Desk) (Q : B → Type 0) (g : Glk) (r : Result A ℕ) (f : A → Reached B)
+pub kept-read : {A B : Type 0} (b : Desk) (Q : B → Type 0) (g : Glk) (r : Result A ℕ) (f : A
+    → Reached B)
     → Valid b g → ((x : A) → Kept b Q (f x)) → Kept b Q (within g r >>= f)
 kept-read b Q g (Ok x) f v k = k x
 kept-read b Q g (Err n) f v k = v
 
-pub kept-needs : {A : Type 0} (b : Desk) (Q : A → Type 0) (g : Glk) (t : Bool) (n : ℕ) (rest : Reached A)
+pub kept-needs : {A : Type 0} (b : Desk) (Q : A → Type 0) (g : Glk) (t : Bool) (n : ℕ)
+    (rest : Reached A)
     → Valid b g → (t ≡ true → Kept b Q rest) → Kept b Q (needs g t n rest)
 kept-needs b Q g true n rest v k = k refl
 kept-needs b Q g false n rest v k = v
@@ -126,7 +133,8 @@ ok-bind : {A B E : Type 0} (P : A → Type 0) (Q : B → Type 0) (r : Result A E
 ok-bind P Q (Ok x) f h k = k x h
 ok-bind P Q (Err e) f h k = tt
 
-ok-if : {A E : Type 0} (P : A → Type 0) (b : Bool) (x y : Result A E) → IfOk x P → IfOk y P → IfOk (cond b x y) P
+ok-if : {A E : Type 0} (P : A → Type 0) (b : Bool) (x y : Result A E) → IfOk x P → IfOk y P
+    → IfOk (cond b x y) P
 ok-if P true x y h k = h
 ok-if P false x y h k = k
 
@@ -136,58 +144,93 @@ ok-coded P (Err e) h = tt
 
 -- ---- valid parts
 
-pub with-windows : (g : Glk) (t : WindowTree) → AreValid g → windows.IsValid t → t.next ≤ 4294967295 → AreValid (record g { windows = t })
-with-windows g t v h n = record { windows = h; streams = v.streams; requests = v.requests; next = n }
+pub with-windows : (g : Glk) (t : WindowTree) → AreValid g → windows.IsValid t → t.next ≤ 4294967295
+    → AreValid (record g { windows = t })
+with-windows g t v h
+    n = record { windows = h; streams = v.streams; requests = v.requests; next = n }
 
-pub with-streams : (g : Glk) (t : StreamTable) → AreValid g → of_streams.IsValid t → AreValid (record g { streams = t })
-with-streams g t v h = record { windows = v.windows; streams = h; requests = v.requests; next = v.next }
+pub with-streams : (g : Glk) (t : StreamTable) → AreValid g → of_streams.IsValid t
+    → AreValid (record g { streams = t })
+with-streams g t v h = record {
+  windows = v.windows;
+  streams = h;
+  requests = v.requests;
+  next = v.next;
+}
 
-pub with-requests : (g : Glk) (r : List WindowInput) → AreValid g → requests.is_valid r ≡ true → AreValid (record g { requests = r })
-with-requests g r v h = record { windows = v.windows; streams = v.streams; requests = h; next = v.next }
+pub with-requests : (g : Glk) (r : List WindowInput) → AreValid g → requests.is_valid r ≡ true
+    → AreValid (record g { requests = r })
+with-requests g r v h = record {
+  windows = v.windows;
+  streams = v.streams;
+  requests = h;
+  next = v.next;
+}
 
 pub charged-valid : (g : Glk) → AreValid g → AreValid (charged g)
-charged-valid g v = record { windows = v.windows; streams = v.streams; requests = v.requests; next = v.next }
+charged-valid g v = record {
+  windows = v.windows;
+  streams = v.streams;
+  requests = v.requests;
+  next = v.next;
+}
 
-pub kept-made : {A : Type 0} (b : Desk) (g : Glk) (r : Result (StreamTable × A) StreamStop) → Valid b g → (AreValid g → of_streams.LeavesBeside r)
+pub kept-made : {A : Type 0} (b : Desk) (g : Glk) (r : Result (StreamTable × A) StreamStop)
+    → Valid b g → (AreValid g → of_streams.LeavesBeside r)
     → Kept b (beside b) (within g (numbered r) >>= (λ p. Ok (record g { streams = p.0 }, p.1)))
 kept-made b g (Ok p) k h = λ v. with-streams g p.0 (k v) (h (k v))
 kept-made b g (Err e) k h = k
 
-pub kept-left : (b : Desk) (g : Glk) (r : Result StreamTable StreamStop) → Valid b g → (AreValid g → of_streams.Leaves r)
+pub kept-left : (b : Desk) (g : Glk) (r : Result StreamTable StreamStop) → Valid b g
+    → (AreValid g → of_streams.Leaves r)
     → Kept b (Valid b) (within g (numbered r) >>= (λ t. Ok (record g { streams = t })))
 kept-left b g (Ok t) k h = λ v. with-streams g t (k v) (h (k v))
 kept-left b g (Err e) k h = k
 
 -- a Glk state alone is changed
 pub placed-on : (s : Desk) (g : Glk) → Valid s g → Keeps s (record s { glk = g })
-placed-on s g v = record { parts = v; map = record { origin = refl; size = refl }; stack = record { limit = refl; frames = λ c h. (c, h) } }
+placed-on s g v = record {
+  parts = v;
+  map = record { origin = refl; size = refl };
+  stack = record { limit = refl; frames = λ c h. (c, h) };
+}
 
 pub self : (s : Desk) → Keeps s s
 self s = placed-on s s.glk (λ v. v)
 
-pub kept-alone : {A : Type 0} (s : Desk) (r : Reached (Glk × A)) → Kept s (beside s) r → Kept s (on s) (alone s r)
-kept-alone s r h = kept-bind s (beside s) (on s) r (λ p. Ok (record s { glk = p.0 }, p.1)) h (λ p v. placed-on s p.0 v)
+pub kept-alone : {A : Type 0} (s : Desk) (r : Reached (Glk × A)) → Kept s (beside s) r
+    → Kept s (on s) (alone s r)
+kept-alone s r h = kept-bind s (beside s) (on s) r (λ p. Ok (record s { glk = p.0 }, p.1)) h
+    (λ p v. placed-on s p.0 v)
 
-pub kept-makes : (s : Desk) (r : Reached (Glk × ℕ)) → Kept s (beside s) r → Kept s (on s) (r >>= (λ p. gives p.1 (record s { glk = p.0 })))
-kept-makes s r h = kept-bind s (beside s) (on s) r (λ p. gives p.1 (record s { glk = p.0 })) h (λ p v. placed-on s p.0 v)
+pub kept-makes : (s : Desk) (r : Reached (Glk × ℕ)) → Kept s (beside s) r
+    → Kept s (on s) (r >>= (λ p. gives p.1 (record s { glk = p.0 })))
+kept-makes s r h = kept-bind s (beside s) (on s) r (λ p. gives p.1 (record s { glk = p.0 })) h
+    (λ p v. placed-on s p.0 v)
 
-pub kept-leaves : (s : Desk) (r : Reached Glk) → Kept s (Valid s) r → Kept s (on s) (r >>= (λ g. gives 0 (record s { glk = g })))
-kept-leaves s r h = kept-bind s (Valid s) (on s) r (λ g. gives 0 (record s { glk = g })) h (λ g v. placed-on s g v)
+pub kept-leaves : (s : Desk) (r : Reached Glk) → Kept s (Valid s) r
+    → Kept s (on s) (r >>= (λ g. gives 0 (record s { glk = g })))
+kept-leaves s r h = kept-bind s (Valid s) (on s) r (λ g. gives 0 (record s { glk = g })) h
+    (λ g v. placed-on s g v)
 
-pub kept-puts : (s : Desk) (rs : List WindowInput) (r : Reached (Glk × MemoryMap)) (x : ℕ) → Kept s (puts s rs) r
+pub kept-puts : (s : Desk) (rs : List WindowInput) (r : Reached (Glk × MemoryMap)) (x : ℕ)
+    → Kept s (puts s rs) r
     → Kept s (on s) (r >>= (λ p. gives x (record s { glk = p.0; memory = p.1 })))
-kept-puts s rs r x h = kept-bind s (puts s rs) (on s) r (λ p. gives x (record s { glk = p.0; memory = p.1 })) h (λ p k. k.keeps)
+kept-puts s rs r x h = kept-bind s (puts s rs) (on s) r
+    (λ p. gives x (record s { glk = p.0; memory = p.1 })) h (λ p k. k.keeps)
 
 pub begins-puts : (s : Desk) (g : Glk) → Valid s g → Puts s g.requests g s.memory
 begins-puts s g v = record { keeps = placed-on s g v; asked = refl }
 
 -- another memory
-pub keeps-map : (b : Desk) (g : Glk) (m n : MemoryMap) → Keeps b (desk g m b.stack) → KeepsMap b.memory n → Keeps b (desk g n b.stack)
+pub keeps-map : (b : Desk) (g : Glk) (m n : MemoryMap) → Keeps b (desk g m b.stack)
+    → KeepsMap b.memory n → Keeps b (desk g n b.stack)
 keeps-map b g m n k h = record { parts = k.parts; map = h; stack = k.stack }
 
 -- ---- memory: bytes in place of as many that are there
 
-replaced-size : (bytes new : List ℕ) (at : ℕ) → at + length new ≤ length bytes → length (replaced bytes at new) ≡ length bytes
+replaced-size : (bytes new : List ℕ) (at : ℕ) → at + length new ≤ length bytes
+    → length (replaced bytes at new) ≡ length bytes
 replaced-size bytes new at h =
     let a = length-append (take at bytes ++ new) (drop (at + length new) bytes) in
     let b = length-append (take at bytes) new in
@@ -200,25 +243,34 @@ both-second true b e = e
 both-second false b e = absurd cc
 
 word-size : (w : ℕ) (m : MemoryMap) (at : ℕ) (new : List ℕ) → length new ≡ w
-    → (nat_le m.ramstart at && nat_le (at + w) (length m.bytes)) ≡ true → length (replaced m.bytes at new) ≡ length m.bytes
+    → (nat_le m.ramstart at && nat_le (at + w) (length m.bytes)) ≡ true
+    → length (replaced m.bytes at new) ≡ length m.bytes
 word-size w m at new word e =
-    let le : at + w ≤ length m.bytes = leb-true _ _ (both-second (nat_le m.ramstart at) (nat_le (at + w) (length m.bytes)) e) in
+    let le : at + w ≤ length m.bytes = leb-true _ _
+    (both-second (nat_le m.ramstart at) (nat_le (at + w) (length m.bytes)) e) in
     replaced-size m.bytes new at (rw word le)
 
-pub ok-written : (o : MemoryMap) (w : ℕ) (m : MemoryMap) (at x : ℕ) → KeepsMap o m → IfOk (written w m at x) (KeepsMap o)
+pub ok-written : (o : MemoryMap) (w : ℕ) (m : MemoryMap) (at x : ℕ) → KeepsMap o m
+    → IfOk (written w m at x) (KeepsMap o)
 ok-written o w m at x k =
     elim (cases_Bool (nat_le m.ramstart at && nat_le (at + w) (length m.bytes))) [
-      | inl e ↦ rw e (record { origin = k.origin; size = k.size ∙ sym (word-size w m at _ (length_word w x) e) })
+      | inl e ↦ rw e (record {
+        origin = k.origin;
+        size = k.size
+            ∙ sym (word-size w m at _ (length_word w x) e);
+      })
       | inr e ↦ rw e tt
     ]
 
-pub ok-word : (o : MemoryMap) (w : ℕ) (m : MemoryMap) (at x : ℕ) → KeepsMap o m → IfOk (coded (written w m at x)) (KeepsMap o)
+pub ok-word : (o : MemoryMap) (w : ℕ) (m : MemoryMap) (at x : ℕ) → KeepsMap o m
+    → IfOk (coded (written w m at x)) (KeepsMap o)
 ok-word o w m at x k = ok-coded (KeepsMap o) (written w m at x) (ok-written o w m at x k)
 
 -- ---- the stack
 
 pushed-if : (b s : StackState) (new : List ℕ) (t : Bool) → length new ≡ 4 * 1 → KeepsFrames b s
-    → IfOk (stacked (cond t (Ok (record s { bytes = s.bytes ++ new })) (Err Overflow))) (KeepsFrames b)
+    → IfOk (stacked (cond t (Ok (record s { bytes = s.bytes ++ new })) (Err Overflow)))
+    (KeepsFrames b)
 pushed-if b s new true e k = record {
   limit = k.limit;
   frames = λ c h. let f = k.frames c h in
@@ -247,13 +299,15 @@ ok-taken : (b : StackState) (n : ℕ) (s : StackState) (i : ℕ) (args : List �
 unfolding taken
 ok-taken b zero s i args k = k
 ok-taken b (suc n) s i args k =
-    ok-bind (first (KeepsFrames b)) (first (KeepsFrames b)) (popped s) (λ p. taken n p.0 (i + 1) (slice_set args i p.1))
+    ok-bind (first (KeepsFrames b)) (first (KeepsFrames b)) (popped s)
+    (λ p. taken n p.0 (i + 1) (slice_set args i p.1))
     (ok-popped b s k) (λ p h. ok-taken b n p.0 (i + 1) (slice_set args i p.1) h)
 
 abbrev pub at-first : {A : Type 0} → StackState → StackState × A → Type 0
 at-first s p = KeepsFrames s p.0
 
-pub ok-arguments : (s : StackState) (count : Option ℕ) (given : ℕ) → IfOk (arguments s count given) (at-first s)
+pub ok-arguments : (s : StackState) (count : Option ℕ) (given : ℕ)
+    → IfOk (arguments s count given) (at-first s)
 ok-arguments s count given =
     ok-if (first (KeepsFrames s)) (nat_lt (stack.count s) given) _ _ tt
     (ok-if (first (KeepsFrames s)) (takes count given) _ _
@@ -264,16 +318,20 @@ ok-arguments s count given =
 abbrev both : Desk → MemoryMap × StackState → Type 0
 both b p = KeepsStory b.memory b.stack p.0 p.1
 
-ok-referred : (b : Desk) (m : MemoryMap) (s : StackState) (at x : ℕ) → KeepsStory b.memory b.stack m s → IfOk (referred m s at x) (both b)
+ok-referred : (b : Desk) (m : MemoryMap) (s : StackState) (at x : ℕ)
+    → KeepsStory b.memory b.stack m s → IfOk (referred m s at x) (both b)
 ok-referred b m s at x k =
     ok-if (both b) (at == 0) _ _ k
     (ok-if (both b) (at == 4294967295) _ _
-    (ok-bind (KeepsFrames b.stack) (both b) (stacked (pushed s x)) (λ t. Ok (m, t)) (pushed-if b.stack s _ _ (length_word 4 x) k.stack)
+    (ok-bind (KeepsFrames b.stack) (both b) (stacked (pushed s x)) (λ t. Ok (m, t))
+    (pushed-if b.stack s _ _ (length_word 4 x) k.stack)
     (λ t h. record { map = k.map; stack = h }))
-    (ok-bind (KeepsMap b.memory) (both b) (coded (written 4 m at x)) (λ n. Ok (n, s)) (ok-word b.memory 4 m at x k.map)
+    (ok-bind (KeepsMap b.memory) (both b) (coded (written 4 m at x)) (λ n. Ok (n, s))
+    (ok-word b.memory 4 m at x k.map)
     (λ n h. record { map = h; stack = k.stack })))
 
-ok-referred_all : (b : Desk) (xs : List ℕ) (m : MemoryMap) (s : StackState) (at : ℕ) → KeepsStory b.memory b.stack m s
+ok-referred_all : (b : Desk) (xs : List ℕ) (m : MemoryMap) (s : StackState) (at : ℕ)
+    → KeepsStory b.memory b.stack m s
     → IfOk (referred_all m s at xs) (both b)
 ok-referred_all b [] m s at k = k
 ok-referred_all b (x ∷ xs) m s at k =
@@ -285,20 +343,28 @@ story b d k = record { map = k.map; stack = k.stack }
 
 pub kept-refers : (b d : Desk) (at x : ℕ) → Keeps b d → Kept b (Keeps b) (refers d at x)
 kept-refers b d at x k =
-    kept-step b (both b) (Keeps b) d.glk (referred d.memory d.stack at x) (λ p. Ok (record d { memory = p.0; stack = p.1 })) k.parts
-    (ok-referred b d.memory d.stack at x (story b d k)) (λ p h. record { parts = k.parts; map = h.map; stack = h.stack })
+    kept-step b (both b) (Keeps b) d.glk (referred d.memory d.stack at x)
+    (λ p. Ok (record d { memory = p.0; stack = p.1 })) k.parts
+    (ok-referred b d.memory d.stack at x (story b d k))
+    (λ p h. record { parts = k.parts; map = h.map; stack = h.stack })
 
-pub kept-refers_all : (b d : Desk) (at : ℕ) (xs : List ℕ) → Keeps b d → Kept b (Keeps b) (refers_all d at xs)
+pub kept-refers_all : (b d : Desk) (at : ℕ) (xs : List ℕ) → Keeps b d
+    → Kept b (Keeps b) (refers_all d at xs)
 kept-refers_all b d at xs k =
-    kept-step b (both b) (Keeps b) d.glk (referred_all d.memory d.stack at xs) (λ p. Ok (record d { memory = p.0; stack = p.1 })) k.parts
-    (ok-referred_all b xs d.memory d.stack at (story b d k)) (λ p h. record { parts = k.parts; map = h.map; stack = h.stack })
+    kept-step b (both b) (Keeps b) d.glk (referred_all d.memory d.stack at xs)
+    (λ p. Ok (record d { memory = p.0; stack = p.1 })) k.parts
+    (ok-referred_all b xs d.memory d.stack at (story b d k))
+    (λ p h. record { parts = k.parts; map = h.map; stack = h.stack })
 
 -- one reference more
-pub kept-then : (s : Desk) (r : Reached Desk) (at x : ℕ) → Kept s (Keeps s) r → Kept s (Keeps s) (r >>= (λ t. refers t at x))
-kept-then s r at x h = kept-bind s (Keeps s) (Keeps s) r (λ t. refers t at x) h (λ t k. kept-refers s t at x k)
+pub kept-then : (s : Desk) (r : Reached Desk) (at x : ℕ) → Kept s (Keeps s) r
+    → Kept s (Keeps s) (r >>= (λ t. refers t at x))
+kept-then s r at x h = kept-bind s (Keeps s) (Keeps s) r (λ t. refers t at x) h
+    (λ t k. kept-refers s t at x k)
 
 -- references, and then an answer
-pub kept-told : (s : Desk) (r : Reached Desk) (x : ℕ) → Kept s (Keeps s) r → Kept s (on s) (r >>= gives x)
+pub kept-told : (s : Desk) (r : Reached Desk) (x : ℕ) → Kept s (Keeps s) r
+    → Kept s (on s) (r >>= gives x)
 kept-told s r x h = kept-bind s (Keeps s) (on s) r (gives x) h (λ t k. k)
 
 pub kept-one : (s : Desk) (at x n : ℕ) → Kept s (on s) (refers s at x >>= gives n)
@@ -306,6 +372,10 @@ kept-one s at x n = kept-told s (refers s at x) n (kept-refers s s at x (self s)
 
 pub kept-array_begun : (s : Desk) (at x : ℕ) → Kept s (Keeps s) (array_begun s at x)
 kept-array_begun s at x =
-    kept-if s (Keeps s) (at == 0) (Ok s) (within s.glk (coded (written 4 s.memory at x)) >>= (λ m. Ok (record s { memory = m }))) (λ e. self s)
-    (λ e. kept-step s (KeepsMap s.memory) (Keeps s) s.glk (coded (written 4 s.memory at x)) (λ m. Ok (record s { memory = m })) (λ v. v)
-    (ok-word s.memory 4 s.memory at x (self s).map) (λ m h. keeps-map s s.glk s.memory m (self s) h))
+    kept-if s (Keeps s) (at == 0) (Ok s)
+    (within s.glk (coded (written 4 s.memory at x)) >>= (λ m. Ok (record s { memory = m })))
+    (λ e. self s)
+    (λ e. kept-step s (KeepsMap s.memory) (Keeps s) s.glk (coded (written 4 s.memory at x))
+    (λ m. Ok (record s { memory = m })) (λ v. v)
+    (ok-word s.memory 4 s.memory at x (self s).map)
+    (λ m h. keeps-map s s.glk s.memory m (self s) h))

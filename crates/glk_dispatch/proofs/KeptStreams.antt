@@ -1,5 +1,7 @@
 -- The calls of streams and file references keep what the work of a call keeps.
-use Rattle.std.proofs.Common.{◌≡◌, ℕ, zero, suc, ◌+◌, ◌-◌, ◌%◌, ◌^◌, ◌==◌, ◌||◌, ◌&&◌, not, Bool, true, false, List, [], ◌∷◌, ◌++◌, length, Option, Some, None, Ok, cond}
+use Rattle.std.proofs.Common.{ℕ, zero, suc, ◌+◌, ◌-◌, ◌%◌, ◌^◌, ◌==◌, ◌||◌, ◌&&◌, not, Bool}
+use Rattle.std.proofs.Common.{true, false, List, [], ◌∷◌, ◌++◌, length, Option, Some, None, Ok}
+use Rattle.std.proofs.Common.{cond}
 use Rattle.vm_memory.specs.Access.{read}
 use Rattle.vm_memory.specs.Fault.{coded}
 use Rattle.vm_memory.specs.MemoryMap.{MemoryMap, KeepsMap}
@@ -18,106 +20,140 @@ use Rattle.glk_dispatch.specs.FileRefs as names
 use Rattle.glk_dispatch.specs.Glk.{charged, is_ref, is_stream, ref_rock, stream_rock}
 use Rattle.glk_dispatch.specs.Laws.{AreValid}
 use Rattle.glk_dispatch.specs.Output.{code_written, text_start}
-use Rattle.glk_dispatch.specs.Reference.{gives, refers, refers_all}
+use Rattle.glk_dispatch.specs.Reference.{gives, refers_all}
 use Rattle.glk_dispatch.specs.Streams as rows
 use Rattle.glk_dispatch.specs.declared.glk.Glk.{Glk}
 use Rattle.glk_dispatch.specs.declared.streams.StreamCall.{StreamCall}
 use Rattle.glk_dispatch.specs.declared.streams.StreamCall.TheVariants as str
 use Rattle.glk_dispatch.specs.declared.filerefs.FileRefCall.{FileRefCall}
 use Rattle.glk_dispatch.specs.declared.filerefs.FileRefCall.TheVariants as ref
-use Rattle.glk_dispatch.proofs.KeptLemmas.{Kept, Keeps, Valid, beside, between, charged-valid, keeps-map, kept-bind, kept-if, kept-leaves, kept-left, kept-made, kept-makes, kept-one, kept-read, kept-refers_all, kept-step, kept-told, laws, ok-word, on, placed-on, row-needs, self, with-streams, with-windows}
+use Rattle.glk_dispatch.proofs.KeptLemmas.{Kept, Keeps, Valid, beside, between, charged-valid}
+use Rattle.glk_dispatch.proofs.KeptLemmas.{keeps-map, kept-bind, kept-if, kept-leaves, kept-left}
+use Rattle.glk_dispatch.proofs.KeptLemmas.{kept-made, kept-makes, kept-one, kept-read}
+use Rattle.glk_dispatch.proofs.KeptLemmas.{kept-refers_all, kept-step, kept-told, laws, ok-word, on}
+use Rattle.glk_dispatch.proofs.KeptLemmas.{placed-on, row-needs, self, with-streams, with-windows}
 
-kept-gets : (s : Desk) (r : Reached (Glk × MemoryMap × ℕ)) → Kept s (between s) r → Kept s (on s) (rows.gets s r)
-kept-gets s r h = kept-bind s (between s) (on s) r (λ p. gives p.2 (record s { glk = p.0; memory = p.1 })) h (λ p k. k)
+kept-gets : (s : Desk) (r : Reached (Glk × MemoryMap × ℕ)) → Kept s (between s) r
+    → Kept s (on s) (rows.gets s r)
+kept-gets s r h = kept-bind s (between s) (on s) r
+    (λ p. gives p.2 (record s { glk = p.0; memory = p.1 })) h (λ p k. k)
 
 kept-closed : (s : Desk) (n : ℕ) → Kept s (beside s) (rows.closed s.glk n)
 kept-closed s n =
     let g = s.glk in
-    kept-bind s (beside s) (beside s) (rows.made g (opening.closed g.streams n)) (λ p. Ok (record p.0 { windows = closing.echo_ended g.windows n }, p.1))
-    (kept-made s g (opening.closed g.streams n) (λ v. v) (λ v. (laws.streams g.streams v.streams).close n))
-    (λ p k v. with-windows p.0 (closing.echo_ended g.windows n) (k v) (laws.windows.end_echo g.windows n v.windows) v.next)
+    kept-bind s (beside s) (beside s) (rows.made g (opening.closed g.streams n))
+    (λ p. Ok (record p.0 { windows = closing.echo_ended g.windows n }, p.1))
+    (kept-made s g (opening.closed g.streams n) (λ v. v)
+    (λ v. (laws.streams g.streams v.streams).close n))
+    (λ p k v. with-windows p.0 (closing.echo_ended g.windows n) (k v)
+    (laws.windows.end_echo g.windows n v.windows) v.next)
 
 kept-closes : (s : Desk) (n at : ℕ) → Kept s (on s) (rows.closes s n at)
 kept-closes s n at =
-    kept-told s (rows.closed s.glk n >>= (λ p. refers_all (record s { glk = p.0 }) at (p.1.read ∷ p.1.written ∷ []))) 0
-    (kept-bind s (beside s) (Keeps s) (rows.closed s.glk n) (λ p. refers_all (record s { glk = p.0 }) at (p.1.read ∷ p.1.written ∷ []))
-    (kept-closed s n) (λ p k. kept-refers_all s (record s { glk = p.0 }) at (p.1.read ∷ p.1.written ∷ []) (placed-on s p.0 k)))
+    kept-told s (rows.closed s.glk n >>=
+    (λ p. refers_all (record s { glk = p.0 }) at (p.1.read ∷ p.1.written ∷ []))) 0
+    (kept-bind s (beside s) (Keeps s) (rows.closed s.glk n)
+    (λ p. refers_all (record s { glk = p.0 }) at (p.1.read ∷ p.1.written ∷ []))
+    (kept-closed s n) (λ p k. kept-refers_all s (record s { glk = p.0 }) at
+    (p.1.read ∷ p.1.written ∷ []) (placed-on s p.0 k)))
 
 counted-valid : (o : Option ℕ) (g : Glk) → AreValid g → AreValid (rows.counted o g)
 counted-valid None g v = v
 counted-valid (Some c) g v = charged-valid g v
 
-kept-got_code : (b : Desk) (g : Glk) (m : MemoryMap) (n : ℕ) → Valid b g → Kept b (beside b) (rows.got_code g m n)
+kept-got_code : (b : Desk) (g : Glk) (m : MemoryMap) (n : ℕ) → Valid b g
+    → Kept b (beside b) (rows.got_code g m n)
 kept-got_code b g m n k =
     kept-bind b (beside b) (beside b) (rows.got g m n) (λ p. Ok (rows.counted p.1 p.0, p.1))
     (kept-made b g (input.got g.streams m n) k (λ v. (laws.streams g.streams v.streams).read m n))
     (λ p h v. counted-valid p.1 p.0 (h v))
 
-kept-char_read : (s : Desk) (u : Bool) (n : ℕ) → Kept s (beside s) (rows.char_read u s.glk s.memory n)
+kept-char_read : (s : Desk) (u : Bool) (n : ℕ)
+    → Kept s (beside s) (rows.char_read u s.glk s.memory n)
 kept-char_read s u n =
     row-needs s (beside s) (is_stream s.glk n) 21 _
-    (λ e. kept-bind s (beside s) (beside s) (rows.got_code s.glk s.memory n) (λ p. Ok (p.0, rows.code_or_end u p.1))
+    (λ e. kept-bind s (beside s) (beside s) (rows.got_code s.glk s.memory n)
+    (λ p. Ok (p.0, rows.code_or_end u p.1))
     (kept-got_code s s.glk s.memory n (λ v. v)) (λ p h. h))
 
 -- another Glk state beside the memory
-keeps-glk : (b : Desk) (g h : Glk) (m : MemoryMap) → Keeps b (desk g m b.stack) → Valid b h → Keeps b (desk h m b.stack)
+keeps-glk : (b : Desk) (g h : Glk) (m : MemoryMap) → Keeps b (desk g m b.stack) → Valid b h
+    → Keeps b (desk h m b.stack)
 keeps-glk b g h m k v = record { parts = v; map = k.map; stack = k.stack }
 
-kept-item_kept : (b : Desk) (u : Bool) (g : Glk) (m : MemoryMap) (at : ℕ) (o : Option ℕ) → Keeps b (desk g m b.stack)
+kept-item_kept : (b : Desk) (u : Bool) (g : Glk) (m : MemoryMap) (at : ℕ) (o : Option ℕ)
+    → Keeps b (desk g m b.stack)
     → Kept b (between b) (rows.item_kept u g m at o)
 kept-item_kept b u g m at None k = k
 kept-item_kept b u g m at (Some code) k =
-    kept-step b (KeepsMap b.memory) (between b) g (code_written u m at (taken u code)) (λ n. Ok (g, n, Some code)) k.parts
+    kept-step b (KeepsMap b.memory) (between b) g (code_written u m at (taken u code))
+    (λ n. Ok (g, n, Some code)) k.parts
     (ok-word b.memory (width u) m at (taken u code) k.map) (λ n h. keeps-map b g m n k h)
 
-kept-got_item : (b : Desk) (u : Bool) (g : Glk) (m : MemoryMap) (n at : ℕ) → Keeps b (desk g m b.stack)
+kept-got_item : (b : Desk) (u : Bool) (g : Glk) (m : MemoryMap) (n at : ℕ)
+    → Keeps b (desk g m b.stack)
     → Kept b (between b) (rows.got_item u g m n at)
 kept-got_item b u g m n at k =
-    kept-bind b (beside b) (between b) (rows.got_code g m n) (λ p. rows.item_kept u p.0 m at p.1) (kept-got_code b g m n k.parts)
+    kept-bind b (beside b) (between b) (rows.got_code g m n) (λ p. rows.item_kept u p.0 m at p.1)
+    (kept-got_code b g m n k.parts)
     (λ p h. kept-item_kept b u p.0 m at p.1 (keeps-glk b g p.0 m k h))
 
 kept-got_on : (b : Desk) (rest : Glk → MemoryMap → ℕ → Reached (Glk × MemoryMap × ℕ))
-    → ((g : Glk) (m : MemoryMap) (c : ℕ) → Keeps b (desk g m b.stack) → Kept b (between b) (rest g m c))
-    → (line : Bool) (g : Glk) (m : MemoryMap) (count : ℕ) (o : Option ℕ) → Keeps b (desk g m b.stack)
+    → ((g : Glk) (m : MemoryMap) (c : ℕ) → Keeps b (desk g m b.stack)
+    → Kept b (between b) (rest g m c))
+    → (line : Bool) (g : Glk) (m : MemoryMap) (count : ℕ) (o : Option ℕ)
+    → Keeps b (desk g m b.stack)
     → Kept b (between b) (rows.got_on rest line g m count o)
 kept-got_on b rest f line g m count None k = k
 kept-got_on b rest f line g m count (Some code) k =
     kept-if b (between b) (line && code == 10) _ _ (λ e. k) (λ e. f g m (count + 1) k)
 
-kept-got_array : (b : Desk) (left : ℕ) (line u : Bool) (g : Glk) (m : MemoryMap) (n at count : ℕ) → Keeps b (desk g m b.stack)
+kept-got_array : (b : Desk) (left : ℕ) (line u : Bool) (g : Glk) (m : MemoryMap) (n at count : ℕ)
+    → Keeps b (desk g m b.stack)
     → Kept b (between b) (rows.got_array left line u g m n at count)
 unfolding rows.got_array
 kept-got_array b zero line u g m n at count k = k
 kept-got_array b (suc left) line u g m n at count k =
     kept-bind b (between b) (between b) (rows.got_item u g m n at)
-    (λ p. rows.got_on (λ h j c. rows.got_array left line u h j n ((at + width u) % 2 ^ 32) c) line p.0 p.1 count p.2)
+    (λ p. rows.got_on (λ h j c. rows.got_array left line u h j n ((at + width u) % 2 ^ 32) c) line
+    p.0 p.1 count p.2)
     (kept-got_item b u g m n at k)
     (λ p h. kept-got_on b (λ g j c. rows.got_array left line u g j n ((at + width u) % 2 ^ 32) c)
-    (λ g j c w. kept-got_array b left line u g j n ((at + width u) % 2 ^ 32) c w) line p.0 p.1 count p.2 h)
+    (λ g j c w. kept-got_array b left line u g j n ((at + width u) % 2 ^ 32) c w) line p.0 p.1 count
+    p.2 h)
 
-kept-line_read : (s : Desk) (u : Bool) (n buf len : ℕ) → Kept s (between s) (rows.line_read u s.glk s.memory n buf len)
+kept-line_read : (s : Desk) (u : Bool) (n buf len : ℕ)
+    → Kept s (between s) (rows.line_read u s.glk s.memory n buf len)
 kept-line_read s u n buf len =
     row-needs s (between s) (is_stream s.glk n) 21 _
     (λ e. kept-if s (between s) (len == 0) _ _ (λ f. self s)
-    (λ f. kept-bind s (between s) (between s) (rows.got_array (len - 1) true u s.glk s.memory n buf 0)
+    (λ f. kept-bind s (between s) (between s)
+    (rows.got_array (len - 1) true u s.glk s.memory n buf 0)
     (λ p. within p.0 (code_written u p.1 (rows.behind u buf p.2) 0) >>= (λ k. Ok (p.0, k, p.2)))
     (kept-got_array s (len - 1) true u s.glk s.memory n buf 0 (self s))
-    (λ p k. kept-step s (KeepsMap s.memory) (between s) p.0 (code_written u p.1 (rows.behind u buf p.2) 0) (λ j. Ok (p.0, j, p.2)) k.parts
-    (ok-word s.memory (width u) p.1 (rows.behind u buf p.2) 0 k.map) (λ j h. keeps-map s p.0 p.1 j k h))))
+    (λ p k. kept-step s (KeepsMap s.memory) (between s) p.0
+    (code_written u p.1 (rows.behind u buf p.2) 0) (λ j. Ok (p.0, j, p.2)) k.parts
+    (ok-word s.memory (width u) p.1 (rows.behind u buf p.2) 0 k.map)
+    (λ j h. keeps-map s p.0 p.1 j k h))))
 
-kept-buffer_read : (s : Desk) (u : Bool) (n buf len : ℕ) → Kept s (between s) (rows.buffer_read u s.glk s.memory n buf len)
+kept-buffer_read : (s : Desk) (u : Bool) (n buf len : ℕ)
+    → Kept s (between s) (rows.buffer_read u s.glk s.memory n buf len)
 kept-buffer_read s u n buf len =
-    row-needs s (between s) (is_stream s.glk n) 21 _ (λ e. kept-got_array s len false u s.glk s.memory n buf 0 (self s))
+    row-needs s (between s) (is_stream s.glk n) 21 _
+    (λ e. kept-got_array s len false u s.glk s.memory n buf 0 (self s))
 
-pub kept-stream_work : (c : StreamCall) (s : Desk) (l : ℕ → ℕ) → Kept s (on s) (rows.stream_work c s l)
+pub kept-stream_work : (c : StreamCall) (s : Desk) (l : ℕ → ℕ)
+    → Kept s (on s) (rows.stream_work c s l)
 unfolding rows.stream_work
 kept-stream_work str.Iterate s l =
     row-needs s (on s) (l 0 == 0 || is_stream s.glk (l 0)) 21 _
-    (λ e. kept-one s (l 1) (stream_rock s.glk (after table.number_of s.glk.streams.streams (l 0))) (after table.number_of s.glk.streams.streams (l 0)))
+    (λ e. kept-one s (l 1) (stream_rock s.glk (after table.number_of s.glk.streams.streams (l 0)))
+    (after table.number_of s.glk.streams.streams (l 0)))
 kept-stream_work str.GetRock s l = row-needs s (on s) (is_stream s.glk (l 0)) 21 _ (λ e. self s)
 kept-stream_work (str.OpenFile u) s l =
     kept-makes s (rows.file_opened s.glk (l 0) (l 1) (l 2) u)
-    (kept-made s s.glk (opening.opened_file s.glk.streams (l 0) (l 1) (l 2) u) (λ v. v) (λ v. (laws.streams s.glk.streams v.streams).file (l 0) (l 1) (l 2) u))
+    (kept-made s s.glk (opening.opened_file s.glk.streams (l 0) (l 1) (l 2) u) (λ v. v)
+    (λ v. (laws.streams s.glk.streams v.streams).file (l 0) (l 1) (l 2) u))
 kept-stream_work (str.OpenMemory u) s l =
     kept-makes s (rows.memory_opened s.glk (l 0) (l 1) (l 2) (l 3) u)
     (kept-made s s.glk (opening.opened_memory s.glk.streams (l 0) (l 1) (l 2) (l 3) u) (λ v. v)
@@ -125,37 +161,47 @@ kept-stream_work (str.OpenMemory u) s l =
 kept-stream_work str.Close s l = kept-closes s (l 0) (l 1)
 kept-stream_work str.SetPosition s l =
     kept-leaves s (rows.moved s.glk (l 0) (l 1) (l 2))
-    (kept-left s s.glk (place.sought s.glk.streams (l 0) (l 1) (l 2)) (λ v. v) (λ v. (laws.streams s.glk.streams v.streams).seek (l 0) (l 1) (l 2)))
-kept-stream_work str.GetPosition s l = kept-read s (on s) s.glk (rows.place_of s.glk (l 0)) (λ x. gives x s) (λ v. v) (λ x. self s)
+    (kept-left s s.glk (place.sought s.glk.streams (l 0) (l 1) (l 2)) (λ v. v)
+    (λ v. (laws.streams s.glk.streams v.streams).seek (l 0) (l 1) (l 2)))
+kept-stream_work str.GetPosition s l = kept-read s (on s) s.glk (rows.place_of s.glk (l 0))
+    (λ x. gives x s) (λ v. v) (λ x. self s)
 kept-stream_work str.SetCurrent s l =
     kept-leaves s (rows.current_set s.glk (l 0))
-    (kept-left s s.glk (refs.with_current s.glk.streams (l 0)) (λ v. v) (λ v. (laws.streams s.glk.streams v.streams).current (l 0)))
+    (kept-left s s.glk (refs.with_current s.glk.streams (l 0)) (λ v. v)
+    (λ v. (laws.streams s.glk.streams v.streams).current (l 0)))
 kept-stream_work str.GetCurrent s l = self s
 kept-stream_work str.OpenResource s l = self s
-kept-stream_work (str.GetChar u) s l = kept-makes s (rows.char_read u s.glk s.memory (l 0)) (kept-char_read s u (l 0))
+kept-stream_work (str.GetChar u) s l = kept-makes s (rows.char_read u s.glk s.memory (l 0))
+    (kept-char_read s u (l 0))
 kept-stream_work (str.GetLine u) s l =
-    kept-gets s (rows.line_read u s.glk s.memory (l 0) (l 1) (l 2)) (kept-line_read s u (l 0) (l 1) (l 2))
+    kept-gets s (rows.line_read u s.glk s.memory (l 0) (l 1) (l 2))
+    (kept-line_read s u (l 0) (l 1) (l 2))
 kept-stream_work (str.GetBuffer u) s l =
-    kept-gets s (rows.buffer_read u s.glk s.memory (l 0) (l 1) (l 2)) (kept-buffer_read s u (l 0) (l 1) (l 2))
+    kept-gets s (rows.buffer_read u s.glk s.memory (l 0) (l 1) (l 2))
+    (kept-buffer_read s u (l 0) (l 1) (l 2))
 
 -- ---- file references
 
-kept-name_read : (b : Desk) (left : ℕ) (g : Glk) (m : MemoryMap) (at : ℕ) (name : List ℕ) → Valid b g → Kept b (beside b) (names.name_read left g m at name)
+kept-name_read : (b : Desk) (left : ℕ) (g : Glk) (m : MemoryMap) (at : ℕ) (name : List ℕ)
+    → Valid b g → Kept b (beside b) (names.name_read left g m at name)
 unfolding names.name_read
 kept-name_read b zero g m at name k = k
 kept-name_read b (suc left) g m at name k =
     kept-read b (beside b) g (coded (read 1 m at)) _ k
     (λ code. kept-if b (beside b) (code == 0) _ _ (λ e. k)
-    (λ e. kept-name_read b left (charged g) m ((at + 1) % 2 ^ 32) (name ++ code ∷ []) (λ v. charged-valid g (k v))))
+    (λ e. kept-name_read b left (charged g) m ((at + 1) % 2 ^ 32) (name ++ code ∷ [])
+    (λ v. charged-valid g (k v))))
 
 kept-name_at : (s : Desk) (at : ℕ) → Kept s (beside s) (names.name_at s.glk s.memory at)
 kept-name_at s at =
     kept-read s (beside s) s.glk (text_start false s.memory at) _ (λ v. v)
     (λ from. kept-name_read s (length s.memory.bytes + 1) s.glk s.memory from [] (λ v. v))
 
-named-valid : (g : Glk) (usage : ℕ) (name : List ℕ) (rock : ℕ) → AreValid g → AreValid (names.named g usage name rock).0
+named-valid : (g : Glk) (usage : ℕ) (name : List ℕ) (rock : ℕ) → AreValid g
+    → AreValid (names.named g usage name rock).0
 named-valid g usage name rock v =
-    with-streams g (refs.made_ref g.streams usage (cleaned name) rock).0 v ((laws.streams g.streams v.streams).refer usage (cleaned name) rock)
+    with-streams g (refs.made_ref g.streams usage (cleaned name) rock).0 v
+    ((laws.streams g.streams v.streams).refer usage (cleaned name) rock)
 
 valid-if : (b : Bool) (x y : Glk × ℕ) → AreValid x.0 → AreValid y.0 → AreValid (cond b x y).0
 valid-if true x y v w = v
@@ -164,31 +210,45 @@ valid-if false x y v w = w
 pub prompted-valid : (g : Glk) (name : List ℕ) → AreValid g → AreValid (names.prompted g name).0
 prompted-valid g name v =
     let made = names.named g g.prompt.usage name g.prompt.rock in
-    let misses = names.reads g.prompt.mode && not (has_file g.streams.files g.prompt.usage (cleaned name)) in
+    let misses = names.reads g.prompt.mode && not
+    (has_file g.streams.files g.prompt.usage (cleaned name)) in
     valid-if (length name == 0) (g, 0) (cond misses (g, 0) made) v
     (valid-if misses (g, 0) made v (named-valid g g.prompt.usage name g.prompt.rock v))
 
-pub kept-fileref_work : (c : FileRefCall) (s : Desk) (l : ℕ → ℕ) → Kept s (on s) (names.fileref_work c s l)
+pub kept-fileref_work : (c : FileRefCall) (s : Desk) (l : ℕ → ℕ)
+    → Kept s (on s) (names.fileref_work c s l)
 unfolding names.fileref_work
 kept-fileref_work ref.CreateTemp s l =
-    placed-on s _ (λ v. with-streams s.glk _ v ((laws.streams s.glk.streams v.streams).refer (l 0) (temporary s.glk.streams.next_ref) (l 1)))
+    placed-on s _ (λ v. with-streams s.glk _ v
+    ((laws.streams s.glk.streams v.streams).refer (l 0) (temporary s.glk.streams.next_ref) (l 1)))
 kept-fileref_work ref.CreateByName s l =
     kept-makes s (names.named_made s.glk s.memory (l 0) (l 1) (l 2))
-    (kept-bind s (beside s) (beside s) (names.name_at s.glk s.memory (l 1)) (λ p. Ok (names.named p.0 (l 0) p.1 (l 2)))
+    (kept-bind s (beside s) (beside s) (names.name_at s.glk s.memory (l 1))
+    (λ p. Ok (names.named p.0 (l 0) p.1 (l 2)))
     (kept-name_at s (l 1)) (λ p k v. named-valid p.0 (l 0) p.1 (l 2) (k v)))
 kept-fileref_work ref.CreateByPrompt s l =
-    placed-on s _ (λ v. record { windows = v.windows; streams = v.streams; requests = v.requests; next = v.next })
+    placed-on s _ (λ v. record {
+      windows = v.windows;
+      streams = v.streams;
+      requests = v.requests;
+      next = v.next;
+    })
 kept-fileref_work ref.CreateFromFileref s l =
     kept-makes s (names.copied s.glk (l 0) (l 1) (l 2))
-    (kept-made s s.glk (refs.copied_ref s.glk.streams (l 0) (l 1) (l 2)) (λ v. v) (λ v. (laws.streams s.glk.streams v.streams).copy (l 0) (l 1) (l 2)))
+    (kept-made s s.glk (refs.copied_ref s.glk.streams (l 0) (l 1) (l 2)) (λ v. v)
+    (λ v. (laws.streams s.glk.streams v.streams).copy (l 0) (l 1) (l 2)))
 kept-fileref_work ref.Destroy s l =
     kept-leaves s (names.dropped s.glk (l 0))
-    (kept-left s s.glk (refs.dropped_ref s.glk.streams (l 0)) (λ v. v) (λ v. (laws.streams s.glk.streams v.streams).forget (l 0)))
+    (kept-left s s.glk (refs.dropped_ref s.glk.streams (l 0)) (λ v. v)
+    (λ v. (laws.streams s.glk.streams v.streams).forget (l 0)))
 kept-fileref_work ref.Iterate s l =
     row-needs s (on s) (l 0 == 0 || is_ref s.glk (l 0)) 21 _
-    (λ e. kept-one s (l 1) (ref_rock s.glk (after table.ref_number_of s.glk.streams.refs (l 0))) (after table.ref_number_of s.glk.streams.refs (l 0)))
+    (λ e. kept-one s (l 1) (ref_rock s.glk (after table.ref_number_of s.glk.streams.refs (l 0)))
+    (after table.ref_number_of s.glk.streams.refs (l 0)))
 kept-fileref_work ref.GetRock s l = row-needs s (on s) (is_ref s.glk (l 0)) 21 _ (λ e. self s)
 kept-fileref_work ref.DeleteFile s l =
     kept-leaves s (names.deleted s.glk (l 0))
-    (kept-left s s.glk (refs.deleted s.glk.streams (l 0)) (λ v. v) (λ v. (laws.streams s.glk.streams v.streams).delete (l 0)))
-kept-fileref_work ref.DoesFileExist s l = kept-read s (on s) s.glk (names.file_told s.glk (l 0)) (λ x. gives x s) (λ v. v) (λ x. self s)
+    (kept-left s s.glk (refs.deleted s.glk.streams (l 0)) (λ v. v)
+    (λ v. (laws.streams s.glk.streams v.streams).delete (l 0)))
+kept-fileref_work ref.DoesFileExist s l = kept-read s (on s) s.glk (names.file_told s.glk (l 0))
+    (λ x. gives x s) (λ v. v) (λ x. self s)

@@ -1,10 +1,11 @@
 //! Windows that are opened and closed, with their streams and requests (Glk 0.7.5, "Window
 //! Opening, Closing, and Constraints").
 
-ghost use Rattle.std.specs.Prelude.{◌≡◌};
+ghost use Rattle.std.specs.Prelude.{◌≡◌, true};
 ghost use Rattle.glk_dispatch.specs.Answer.{Answers, Changes, Done};
 ghost use Rattle.glk_dispatch.specs.Glk as state;
 ghost use Rattle.glk_dispatch.specs.Windows as rows;
+ghost use Rattle.glk_windows.specs.Arranging.{is_method};
 ghost use Rattle.glk_windows.specs.Tree.{IsLive};
 
 use crate::fault::{BAD_ARGUMENT, BAD_OBJECT};
@@ -65,6 +66,8 @@ impl Glk {
         kind: u32,
         rock: u32,
     ) -> Result<u32, Trap>
+        requires live { IsLive self.old.windows split }
+        requires method { is_method method ≡ true }
         ensures { Answers (Done (rows.beside_opened self.old split method size kind rock))
             self.new result }
     {

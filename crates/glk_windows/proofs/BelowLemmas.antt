@@ -8,12 +8,13 @@ use Rattle.glk_windows.specs.declared.window.Content.{Content}
 use Rattle.glk_windows.specs.declared.window.Content.TheVariants.{Pair, Blank, Buffer, Grid}
 use Rattle.glk_windows.specs.Tree.{WindowTree, IsLive, read, window_at, pair_of, pair_in, pair_content, parent_of}
 use Rattle.glk_windows.specs.Reading.{is_below, kind_in, kind_of, may_key}
-use Rattle.glk_windows.specs.OneTree.{Shape, Leaf, Fork, top, count, bare, node_of, Spells, Once, IsTree, below, has_leaf, size, tree_of}
+use Rattle.glk_windows.specs.OneTree.{Shape, Leaf, Fork, top, count, bare, node_of, Spells, Once, below, has_leaf, size, tree_of}
 use Rattle.glk_windows.specs.Valid.{IsValid, IsOrdered}
 use Rattle.glk_windows.specs.Laws.{IsKeyOf, MayKeyHolds}
 use Rattle.glk_windows.proofs.OneTreeLemmas.{count_top, is_eq, once_at, once_le, node_parent}
 use Rattle.glk_windows.proofs.CutLemmas.{node_lower, node_pair, size_length}
-use Rattle.glk_windows.proofs.LiftLemmas.{count_below, size_below, spells_below}
+use Rattle.glk_windows.proofs.LiftLemmas.{count_below}
+use Rattle.glk_windows.proofs.CloseLemmas.{size_below, spells_below}
 use Rattle.glk_windows.proofs.KeyLemmas.{leaf_count}
 use Rattle.glk_windows.proofs.TestLemmas.{tree_found}
 use Rattle.glk_windows.proofs.RectangleLemmas.{InFirst, InSecond, below_one}

@@ -8,6 +8,7 @@ pub mod OneTreeLemmas
 pub mod SameLemmas
 pub mod CutLemmas
 pub mod LiftLemmas
+pub mod CloseLemmas
 pub mod TestLemmas
 pub mod RectangleLemmas
 pub mod SoundLemmas

@@ -14,7 +14,7 @@ use Rattle.glk_windows.specs.OneTree.{Shape, bare, below, count, held, node_of, 
 use Rattle.glk_windows.specs.Valid.{Ascends, IsOrdered}
 use Rattle.glk_windows.specs.Laws.{ClosesBelow, goes_with, own, own_content, own_of}
 use Rattle.glk_windows.proofs.CutLemmas.{node_lower, node_pair}
-use Rattle.glk_windows.proofs.LiftLemmas.{node_rest, pair_rest}
+use Rattle.glk_windows.proofs.CloseLemmas.{node_rest, pair_rest}
 use Rattle.glk_windows.proofs.OneTreeLemmas.{is_eq, isnt_eq, node_parent, spells_top}
 use Rattle.glk_windows.proofs.OrderLemmas.{ascends-closed, ascends-removed}
 use Rattle.glk_windows.proofs.RectangleLemmas.{read_set_at}

@@ -22,7 +22,7 @@ use Rattle.glk_windows.proofs.OneTreeLemmas.{node_set_at, node_later, node_joine
 use Rattle.glk_windows.proofs.KeyLemmas.{Keyed, keyed_of, are_keyed_of, keyed_on, keyed_forked, keyed_cut, left_close, key_append, key_after, key_joined}
 use Rattle.glk_windows.proofs.RectangleLemmas.{read_set_at, read_placed, pair_sized}
 use Rattle.glk_windows.proofs.CutLemmas.{node_lower, nil_of, tree_close-root}
-use Rattle.glk_windows.proofs.LiftLemmas.{tree_close}
+use Rattle.glk_windows.proofs.CloseLemmas.{tree_close}
 use Rattle.glk_windows.proofs.SameLemmas.{same_tree, node_same, node_placed}
 use Rattle.glk_windows.proofs.TestLemmas.{tree_of_test, test_of_tree, tree_found}
 use Rattle.glk_windows.proofs.SoundLemmas.{KeepsSound, sound_set_at, sound_map, sound_append, sound_swapped, sound_arranged, sound_moved, sound_put, sound_cleared, sound_kept, sound_placed, sound_removed, sound_closed, length_set_at, length_removed, length_closed, length_placed}

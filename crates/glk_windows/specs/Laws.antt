@@ -12,7 +12,7 @@ use Rattle.glk_windows.specs.Reading.{kind_of, may_key}
 use Rattle.glk_windows.specs.Placing.{place}
 use Rattle.glk_windows.specs.OneTree.{is_tree, tree_of, below, count, has_leaf}
 use Rattle.glk_windows.specs.Valid.{IsOrdered, IsValid}
-use Rattle.glk_windows.specs.Opening.{split}
+use Rattle.glk_windows.specs.Opening.{MaySplit, split}
 use Rattle.glk_windows.specs.Closing.{close, echo_ended}
 use Rattle.glk_windows.specs.Arranging.{arrange, is_method, move_to, stream_set, echo_set}
 use Rattle.glk_windows.specs.Output.{put, clear, begin_turn, run_on}
@@ -99,8 +99,7 @@ ClosesBelow =
 pub record KeepsValid : Type 0 where
   pub new : IsValid (record { slots = []; next = 1; root = 0 })
   pub split : (t : WindowTree) (from method size kind rock : ℕ) → IsValid t
-      → (from ≡ 0) ⊎ (IsLive t from × (is_method method ≡ true))
-      → IsValid (split t from method size kind rock).0
+      → MaySplit t from method → IsValid (split t from method size kind rock).0
   pub close : (t : WindowTree) (n : ℕ) → IsValid t → IsLive t n → IsValid (close t n)
   pub place : (t : WindowTree) (cols rows : ℕ) → IsValid t → IsValid (place t cols rows)
   pub arrange : (t : WindowTree) (n method size key : ℕ) → IsValid t
