@@ -11,7 +11,7 @@ use Rattle.vm_stack.specs.StackState.{StackState}
 use Rattle.glk_streams.specs.FileRefs as refs
 use Rattle.glk_input.specs.declared.input.Input.{Input}
 use Rattle.glk_input.specs.declared.request.WindowInput.{WindowInput}
-use Rattle.glk_dispatch.specs.Answer.{Desk, Does, Puts as Leaves, Reached, ◌>>=◌, desk, within}
+use Rattle.glk_dispatch.specs.Answer.{GlkCall, Does, Puts as Leaves, Reached, ◌>>=◌, glk_call, within}
 use Rattle.glk_dispatch.specs.Arguments.{arguments}
 use Rattle.glk_dispatch.specs.Call.{called_with, work}
 use Rattle.glk_dispatch.specs.Case as cases
@@ -48,14 +48,14 @@ use Rattle.glk_dispatch.proofs.KeptOutput.{kept-output_work, kept-spread_all}
 use Rattle.glk_dispatch.proofs.KeptStreams.{kept-fileref_work, kept-stream_work}
 use Rattle.glk_dispatch.proofs.KeptWindows.{kept-window_work}
 
-kept-sets : (s : Desk) (n style : ℕ) → Kept s (on s) (styles.sets s n style)
+kept-sets : (s : GlkCall) (n style : ℕ) → Kept s (on s) (styles.sets s n style)
 kept-sets s n style =
     kept-leaves s (styles.styled s.glk n style)
     (kept-if s (Valid s) (n == 0) _ _ (λ e. λ v. v)
     (λ e. kept-left s s.glk (refs.styled s.glk.streams n style) (λ v. v)
     (λ v. (laws.streams s.glk.streams v.streams).style n style)))
 
-kept-style_work : (k : StyleCall) (s : Desk) (l : ℕ → ℕ) → Kept s (on s) (styles.style_work k s l)
+kept-style_work : (k : StyleCall) (s : GlkCall) (l : ℕ → ℕ) → Kept s (on s) (styles.style_work k s l)
 unfolding styles.style_work
 kept-style_work sty.Set s l = kept-sets s s.glk.streams.current (l 0)
 kept-style_work sty.SetStream s l = row-needs s (on s) (is_stream s.glk (l 0)) 21 _
@@ -66,13 +66,13 @@ kept-style_work sty.Distinguish s l = row-needs s (on s) (is_window s.glk (l 0))
 kept-style_work sty.Measure s l = row-needs s (on s) (is_window s.glk (l 0)) 21 _ (λ e. self s)
 
 -- a word in another case
-kept-last : (s : Desk) (rs : List WindowInput) (g : Glk) (r : Result MemoryMap ℕ)
+kept-last : (s : GlkCall) (rs : List WindowInput) (g : Glk) (r : Result MemoryMap ℕ)
     → ((n : MemoryMap) → KeepsMap s.memory n → Puts s rs g n)
     → Valid s g → IfOk r (KeepsMap s.memory) → Kept s (λ n. Puts s rs g n) (within g r)
 kept-last s rs g (Ok n) h v k = h n k
 kept-last s rs g (Err e) h v k = v
 
-kept-word : (s : Desk) (rs : List WindowInput) (k : Case) (g : Glk) (m : MemoryMap) (at : ℕ)
+kept-word : (s : GlkCall) (rs : List WindowInput) (k : Case) (g : Glk) (m : MemoryMap) (at : ℕ)
     → Puts s rs g m → Kept s (puts s rs) (cases.word_cased k g m at)
 kept-word s rs k g m at h =
     let v : Valid s (charged g) = λ w. charged-valid g (h.keeps.parts w) in
@@ -89,7 +89,7 @@ kept-word s rs k g m at h =
     (ok-word s.memory 4 m at (cases.in_case k x) h.keeps.map)))
     (λ n w. w)
 
-kept-words : (s : Desk) (rs : List WindowInput) (count : ℕ) (k : Case) (g : Glk) (m : MemoryMap)
+kept-words : (s : GlkCall) (rs : List WindowInput) (count : ℕ) (k : Case) (g : Glk) (m : MemoryMap)
     (at : ℕ) → Puts s rs g m
     → Kept s (puts s rs) (cases.words_cased count k g m at)
 unfolding cases.words_cased
@@ -99,7 +99,7 @@ kept-words s rs (suc count) k g m at h =
     (λ p. cases.words_cased count k p.0 p.1 ((at + 4) % 2 ^ 32))
     (kept-word s rs k g m at h) (λ p w. kept-words s rs count k p.0 p.1 ((at + 4) % 2 ^ 32) w)
 
-kept-cases : (s : Desk) (len n : ℕ) (done : Reached (Glk × MemoryMap))
+kept-cases : (s : GlkCall) (len n : ℕ) (done : Reached (Glk × MemoryMap))
     → (Puts s s.glk.requests s.glk s.memory → Kept s (puts s s.glk.requests) done)
     → Kept s (on s) (cases.cases s len n done)
 kept-cases s len n done h =
@@ -107,7 +107,7 @@ kept-cases s len n done h =
     (kept-read s (puts s s.glk.requests) s.glk (cases.checked len n) (λ x. done) (λ v. v)
     (λ x. h (begins-puts s s.glk (λ v. v))))
 
-kept-case_work : (k : CaseCall) (s : Desk) (l : ℕ → ℕ) → Kept s (on s) (cases.case_work k s l)
+kept-case_work : (k : CaseCall) (s : GlkCall) (l : ℕ → ℕ) → Kept s (on s) (cases.case_work k s l)
 unfolding cases.case_work
 kept-case_work c.CharToLower s l = self s
 kept-case_work c.CharToUpper s l = self s
@@ -124,7 +124,7 @@ kept-case_work c.BufferToTitle s l =
     (λ p h. kept-words s rs (cond (not (l 3 == 0)) (l 2 - 1) 0) Lower p.0 p.1
     ((l 0 + 4) % 2 ^ 32) h))
 
-kept-base_work : (k : BaseCall) (s : Desk) (l : ℕ → ℕ) → Kept s (on s) (base.base_work k s l)
+kept-base_work : (k : BaseCall) (s : GlkCall) (l : ℕ → ℕ) → Kept s (on s) (base.base_work k s l)
 unfolding base.base_work
 kept-base_work b.Exit s l = self s
 kept-base_work b.SetInterruptHandler s l = self s
@@ -136,7 +136,7 @@ kept-base_work b.GestaltExt s l =
     (kept-if s (Keeps s) (l 0 == 3 && not (l 3 == 0)) (base.array_begun s (l 2) 1) (Ok s)
     (λ e. kept-array_begun s (l 2) 1) (λ e. self s))
 
-kept-work : (k : call.Call) (s : Desk) (l : ℕ → ℕ) → Kept s (on s) (work k s l)
+kept-work : (k : call.Call) (s : GlkCall) (l : ℕ → ℕ) → Kept s (on s) (work k s l)
 kept-work (Base k) s l = kept-base_work k s l
 kept-work (Window k) s l = kept-window_work k s l
 kept-work (Stream k) s l = kept-stream_work k s l
@@ -148,7 +148,7 @@ kept-work (Event k) s l = kept-event_work k s l
 kept-work Nothing s l = self s
 
 -- the arguments are taken from the stack first
-kept-since : {A : Type 0} (s : Desk) (t : StackState) (r : Reached (Desk × A))
+kept-since : {A : Type 0} (s : GlkCall) (t : StackState) (r : Reached (GlkCall × A))
     → KeepsFrames s.stack t
     → Kept (record s { stack = t }) (on (record s { stack = t })) r → Kept s (on s) r
 kept-since s t (Ok p) k h = record {
@@ -161,12 +161,12 @@ kept-since s t (Ok p) k h = record {
 }
 kept-since s t (Err e) k h = h
 
-kept-taken : (s : Desk) (k : call.Call) (t : StackState) (l : ℕ → ℕ) → KeepsFrames s.stack t
+kept-taken : (s : GlkCall) (k : call.Call) (t : StackState) (l : ℕ → ℕ) → KeepsFrames s.stack t
     → Kept s (on s) (work k (record s { stack = t }) l)
 kept-taken s k t l h = kept-since s t (work k (record s { stack = t }) l) h
     (kept-work k (record s { stack = t }) l)
 
-kept-called_with : (o : Option (call.Call × Option ℕ)) (s : Desk) (given : ℕ)
+kept-called_with : (o : Option (call.Call × Option ℕ)) (s : GlkCall) (given : ℕ)
     → Kept s (on s) (called_with o s given)
 kept-called_with None s given = λ v. v
 kept-called_with (Some p) s given =
@@ -176,7 +176,7 @@ kept-called_with (Some p) s given =
 
 -- ---- the parts stay valid
 
-as-law : {A : Type 0} (s : Desk) (r : Reached (Desk × A)) → Kept s (on s) r → law.AreValid s.glk
+as-law : {A : Type 0} (s : GlkCall) (r : Reached (GlkCall × A)) → Kept s (on s) r → law.AreValid s.glk
     → law.Kept (λ p. p.0.glk) r
 as-law s (Ok p) k v = k.parts v
 as-law s (Err e) k v = k v
@@ -201,16 +201,16 @@ parts_stay_valid = record {
 
 -- ---- what calls answered and left
 
-does-keeps : {A : Type 0} (s : Desk) (should : Reached (Desk × A)) (g : Glk) (m : MemoryMap)
+does-keeps : {A : Type 0} (s : GlkCall) (should : Reached (GlkCall × A)) (g : Glk) (m : MemoryMap)
     (t : StackState) (r : Result A Trap)
     → Kept s (on s) should → Does should g m t r → OnOk r (KeepsStory s.memory s.stack m t)
 does-keeps {A} s should g m t (Ok x) k e =
-    let h : Keeps s (desk g m t) = subst (λ (y : Reached (Desk × A)). Kept s (on s) y) e k in
+    let h : Keeps s (glk_call g m t) = subst (λ (y : Reached (GlkCall × A)). Kept s (on s) y) e k in
     record { map = h.map; stack = h.stack }
 does-keeps s should g m t (Err f) k e = tt
 
 -- the arguments of a call were taken, and then its work was done
-pub call_keeps : (s : Desk) (k : call.Call) (count : Option ℕ) (given : ℕ) (t : StackState)
+pub call_keeps : (s : GlkCall) (k : call.Call) (count : Option ℕ) (given : ℕ) (t : StackState)
     (args : List ℕ) (g : Glk) (m : MemoryMap) (u : StackState) (r : Result Called Trap)
     → arguments s.stack count given ≡ Ok (t, args)
     → Does (work k (record s { stack = t }) (slice_index args)) g m u r
@@ -221,19 +221,19 @@ call_keeps s k count given t args g m u r taken does =
     (ok-arguments s.stack count given) in
     does-keeps s _ g m u r (kept-taken s k t (slice_index args) frames) does
 
-pub event_keeps : (s : Desk) (i : Input) (g : Glk) (m : MemoryMap) (t : StackState)
+pub event_keeps : (s : GlkCall) (i : Input) (g : Glk) (m : MemoryMap) (t : StackState)
     (r : Result ℕ Trap)
     → Does (events.event_answered s i) g m t r → OnOk r (KeepsStory s.memory s.stack m t)
 event_keeps s i g m t r does = does-keeps s (events.event_answered s i) g m t r
     (kept-event_answered s i) does
 
-puts-left : (s : Desk) (should : Reached (Glk × MemoryMap)) (g : Glk) (m : MemoryMap)
+puts-left : (s : GlkCall) (should : Reached (Glk × MemoryMap)) (g : Glk) (m : MemoryMap)
     → Kept s (puts s s.glk.requests) should
     → should ≡ Ok (g, m) → Puts s s.glk.requests g m
 puts-left s should g m k e = subst
     (λ (y : Reached (Glk × MemoryMap)). Kept s (puts s s.glk.requests) y) e k
 
-pub put_keeps : (s : Desk) (g : Glk) (m : MemoryMap) (stream code : ℕ) (r : Result (Unit {0}) Trap)
+pub put_keeps : (s : GlkCall) (g : Glk) (m : MemoryMap) (stream code : ℕ) (r : Result (Unit {0}) Trap)
     → Leaves (out.spread_all s.glk s.memory stream code) g m r → OnOk r (KeepsMap s.memory m)
 put_keeps s g m stream code (Ok x) does =
     (puts-left s _ g m (kept-spread_all s s.glk.requests s.glk s.memory stream code
@@ -241,7 +241,7 @@ put_keeps s g m stream code (Ok x) does =
 put_keeps s g m stream code (Err t) does = tt
 
 -- an echo leaves the requests
-pub echo_asks : (s : Desk) (i : Input) (g : Glk) (m : MemoryMap)
+pub echo_asks : (s : GlkCall) (i : Input) (g : Glk) (m : MemoryMap)
     → events.input_echoed s.glk s.memory i ≡ Ok (g, m)
     → g.requests ≡ s.glk.requests
 echo_asks s i g m does =

@@ -23,7 +23,7 @@ use Rattle.glk_input.specs.declared.input.Input.TheVariants as input
 use Rattle.glk_input.specs.declared.request.Request.{Request}
 use Rattle.glk_input.specs.declared.request.Request.TheVariants.{Line, Char}
 use Rattle.glk_input.specs.declared.request.WindowInput.{WindowInput}
-use Rattle.glk_dispatch.specs.Answer.{Desk, Done, Reached, ◌>>=◌, desk}
+use Rattle.glk_dispatch.specs.Answer.{GlkCall, Done, Reached, ◌>>=◌, glk_call}
 use Rattle.glk_dispatch.specs.Events as events
 use Rattle.glk_dispatch.specs.FileRefs.{prompted}
 use Rattle.glk_dispatch.specs.Glk.{is_window}
@@ -133,14 +133,14 @@ answered-valid (input.File name) ws e = e
 
 -- ---- lines that are shown
 
-kept-echoed : (b : Desk) (rs : List WindowInput) (cs : List ℕ) (g : Glk) (m : MemoryMap) (n : ℕ)
+kept-echoed : (b : GlkCall) (rs : List WindowInput) (cs : List ℕ) (g : Glk) (m : MemoryMap) (n : ℕ)
     → Puts b rs g m → Kept b (puts b rs) (events.echoed g m n cs)
 kept-echoed b rs [] g m n k = k
 kept-echoed b rs (x ∷ cs) g m n k =
     kept-bind b (puts b rs) (puts b rs) (echo_put g m n INPUT x) (λ p. events.echoed p.0 p.1 n cs)
     (kept-echo_put b rs g m n INPUT x k) (λ p h. kept-echoed b rs cs p.0 p.1 n h)
 
-kept-echo_array : (b : Desk) (rs : List WindowInput) (count : ℕ) (u : Bool) (g : Glk)
+kept-echo_array : (b : GlkCall) (rs : List WindowInput) (count : ℕ) (u : Bool) (g : Glk)
     (m : MemoryMap) (n at : ℕ) → Puts b rs g m
     → Kept b (puts b rs) (events.echo_array count u g m n at)
 unfolding events.echo_array
@@ -153,7 +153,7 @@ kept-echo_array b rs (suc count) u g m n at k =
     (λ p h. kept-echo_array b rs count u p.0 p.1 n ((at + delivery.width u) % 2 ^ 32) h)
 
 -- a line, and a newline
-kept-shown : (b : Desk) (rs : List WindowInput) (echo : Bool) (g : Glk) (m : MemoryMap) (n : ℕ)
+kept-shown : (b : GlkCall) (rs : List WindowInput) (echo : Bool) (g : Glk) (m : MemoryMap) (n : ℕ)
     (r : Reached (Glk × MemoryMap)) → Puts b rs g m
     → Kept b (puts b rs) r
     → Kept b (puts b rs) (cond echo (r >>= (λ p. echo_put p.0 p.1 n INPUT NEWLINE)) (Ok (g, m)))
@@ -163,7 +163,7 @@ kept-shown b rs echo g m n r k h =
     (λ p j. kept-echo_put b rs p.0 p.1 n INPUT NEWLINE j))
     (λ e. k)
 
-kept-initial : (b : Desk) (rs : List WindowInput) (o : Option Request) (g : Glk) (m : MemoryMap)
+kept-initial : (b : GlkCall) (rs : List WindowInput) (o : Option Request) (g : Glk) (m : MemoryMap)
     (win : ℕ) → Puts b rs g m
     → Kept b (puts b rs) (events.initial_echoed o g m win)
 kept-initial b rs None g m win k = k
@@ -173,7 +173,7 @@ kept-initial b rs (Some (Line r)) g m win k =
     (events.echo_array r.init r.unicode g m (events.stream_in g win) r.buf) k
     (kept-echo_array b rs r.init r.unicode g m (events.stream_in g win) r.buf k)
 
-kept-line_echoed : (b : Desk) (rs : List WindowInput) (o : Option Request) (g : Glk) (m : MemoryMap)
+kept-line_echoed : (b : GlkCall) (rs : List WindowInput) (o : Option Request) (g : Glk) (m : MemoryMap)
     (win : ℕ) (text : List ℕ) → Puts b rs g m
     → Kept b (puts b rs) (events.line_echoed o g m win text)
 kept-line_echoed b rs None g m win text k = k
@@ -183,7 +183,7 @@ kept-line_echoed b rs (Some (Line r)) g m win text k =
     (events.echoed g m (events.stream_in g win) (delivery.taken_line r text)) k
     (kept-echoed b rs (delivery.taken_line r text) g m (events.stream_in g win) k)
 
-pub kept-input_echoed : (b : Desk) (rs : List WindowInput) (i : Input) (g : Glk) (m : MemoryMap)
+pub kept-input_echoed : (b : GlkCall) (rs : List WindowInput) (i : Input) (g : Glk) (m : MemoryMap)
     → Puts b rs g m
     → Kept b (puts b rs) (events.input_echoed g m i)
 kept-input_echoed b rs (input.Line win text key) g m k = kept-line_echoed b rs
@@ -194,11 +194,11 @@ kept-input_echoed b rs (input.File name) g m k = k
 -- ---- the rows
 
 -- a change of the requests of a window that is live
-kept-asks : (s : Desk) (rs : List WindowInput) → (AreValid s.glk → is_valid rs ≡ true)
+kept-asks : (s : GlkCall) (rs : List WindowInput) → (AreValid s.glk → is_valid rs ≡ true)
     → Kept s (beside s) (events.leaves s.glk rs)
 kept-asks s rs h = λ v. with-requests s.glk rs v (h v)
 
-kept-cancels_line : (s : Desk) (win event : ℕ) → Kept s (on s) (events.cancels_line s win event)
+kept-cancels_line : (s : GlkCall) (win event : ℕ) → Kept s (on s) (events.cancels_line s win event)
 kept-cancels_line s win event =
     let asked = request.request_of s.glk.requests win in
     let rs = request.changed request.without_line s.glk.requests win in
@@ -217,7 +217,7 @@ kept-cancels_line s win event =
     (λ p k. kept-refers_all s (record s { glk = p.0; memory = p.1 }) event
     (events.words_of (request.cancelled asked win)) k.keeps)))
 
-pub kept-event_work : (k : EventCall) (s : Desk) (l : ℕ → ℕ)
+pub kept-event_work : (k : EventCall) (s : GlkCall) (l : ℕ → ℕ)
     → Kept s (on s) (events.event_work k s l)
 unfolding events.event_work
 kept-event_work ev.Select s l = placed-on s _
@@ -304,7 +304,7 @@ ok-delivered o ws m (input.Line win text key) k = line-delivered o
 ok-delivered o ws m (input.Char win code) k = k
 ok-delivered o ws m (input.File name) k = k
 
-kept-delivered : (b : Desk) (g : Glk) (m : MemoryMap) (i : Input) → Keeps b (desk g m b.stack)
+kept-delivered : (b : GlkCall) (g : Glk) (m : MemoryMap) (i : Input) → Keeps b (glk_call g m b.stack)
     → Kept b (between b) (events.delivered g m i)
 kept-delivered b g m i k =
     let over : Valid b (events.request_over g i) =
@@ -316,7 +316,7 @@ kept-delivered b g m i k =
     (ok-delivered b.memory g.requests m i k.map))
     (λ p h. record { parts = over; map = h; stack = k.stack })
 
-pub kept-event_answered : (s : Desk) (i : Input) → Kept s (on s) (events.event_answered s i)
+pub kept-event_answered : (s : GlkCall) (i : Input) → Kept s (on s) (events.event_answered s i)
 kept-event_answered s i =
     let shown = events.input_echoed s.glk s.memory i in
     let given = shown >>= (λ p. events.delivered p.0 p.1 i) in
@@ -332,7 +332,7 @@ kept-event_answered s i =
     (events.words_of p.2) h))
     (λ t k. k)
 
-pub kept-answered : (i : Input) (s : Desk) → Kept s (on s) (events.answered s i)
+pub kept-answered : (i : Input) (s : GlkCall) → Kept s (on s) (events.answered s i)
 kept-answered (input.Line win text key) s = kept-event_answered s (input.Line win text key)
 kept-answered (input.Char win code) s = kept-event_answered s (input.Char win code)
 kept-answered (input.File name) s = kept-alone s (Done (prompted s.glk name))

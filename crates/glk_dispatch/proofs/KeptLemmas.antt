@@ -30,7 +30,7 @@ use Rattle.glk_input.specs.Laws as of_requests
 use Rattle.glk_input.specs.Valid as requests
 use Rattle.glk_input.specs.declared.request.WindowInput.{WindowInput}
 use Rattle.glk_input.proofs.ValidLemmas.{stays_valid}
-use Rattle.glk_dispatch.specs.Answer.{Desk, Reached, ◌>>=◌, alone, desk, needs, within}
+use Rattle.glk_dispatch.specs.Answer.{GlkCall, Reached, ◌>>=◌, alone, glk_call, needs, within}
 use Rattle.glk_dispatch.specs.Arguments.{arguments, popped, taken, takes}
 use Rattle.glk_dispatch.specs.Fault.{numbered, stacked}
 use Rattle.glk_dispatch.specs.Gestalt.{array_begun}
@@ -60,70 +60,71 @@ laws = record {
 
 -- ---- what is kept
 
--- a Glk state is valid where that of the call's desk was
-abbrev pub Valid : Desk → Glk → Type 0
+-- a Glk state is valid where that of the call was
+abbrev pub Valid : GlkCall → Glk → Type 0
 Valid b g = AreValid b.glk → AreValid g
 
--- what a call keeps from its desk to another
-pub record Keeps (b d : Desk) : Type 0 where
+-- what a call keeps of what it works on
+pub record Keeps (b d : GlkCall) : Type 0 where
   pub parts : Valid b d.glk
   pub map : KeepsMap b.memory d.memory
   pub stack : KeepsFrames b.stack d.stack
 
 -- what a step comes to: this holds of its value, and the Glk state of a fault is valid
-abbrev pub Kept : {A : Type 0} → Desk → (A → Type 0) → Reached A → Type 0
+abbrev pub Kept : {A : Type 0} → GlkCall → (A → Type 0) → Reached A → Type 0
 Kept b P (Ok x) = P x
 Kept b P (Err e) = Valid b e.0
 
--- the values of steps: a desk and an answer; a Glk state and an answer; with a memory between them
-abbrev pub on : {A : Type 0} → Desk → Desk × A → Type 0
+-- the values of steps: all that a call works on, or its Glk state, and an answer; the same with a
+-- memory between them
+abbrev pub on : {A : Type 0} → GlkCall → GlkCall × A → Type 0
 on b p = Keeps b p.0
 
-abbrev pub beside : {A : Type 0} → Desk → Glk × A → Type 0
+abbrev pub beside : {A : Type 0} → GlkCall → Glk × A → Type 0
 beside b p = Valid b p.0
 
-abbrev pub between : {A : Type 0} → Desk → Glk × MemoryMap × A → Type 0
-between b p = Keeps b (desk p.0 p.1 b.stack)
+abbrev pub between : {A : Type 0} → GlkCall → Glk × MemoryMap × A → Type 0
+between b p = Keeps b (glk_call p.0 p.1 b.stack)
 
 -- a Glk state and a memory where characters were put: these requests are there yet
-pub record Puts (b : Desk) (rs : List WindowInput) (g : Glk) (m : MemoryMap) : Type 0 where
-  pub keeps : Keeps b (desk g m b.stack)
+pub record Puts (b : GlkCall) (rs : List WindowInput) (g : Glk) (m : MemoryMap) : Type 0 where
+  pub keeps : Keeps b (glk_call g m b.stack)
   pub asked : g.requests ≡ rs
 
-abbrev pub puts : Desk → List WindowInput → Glk × MemoryMap → Type 0
+abbrev pub puts : GlkCall → List WindowInput → Glk × MemoryMap → Type 0
 puts b rs p = Puts b rs p.0 p.1
 
 -- ---- steps
 
-pub kept-bind : {A B : Type 0} (b : Desk) (P : A → Type 0) (Q : B → Type 0) (r : Reached A) (f : A
+pub kept-bind : {A B : Type 0} (b : GlkCall) (P : A → Type 0) (Q : B → Type 0) (r : Reached A) (f : A
     → Reached B)
     → Kept b P r → ((x : A) → P x → Kept b Q (f x)) → Kept b Q (r >>= f)
 kept-bind b P Q (Ok x) f h k = k x h
 kept-bind b P Q (Err e) f h k = h
 
-pub kept-step : {A B : Type 0} (b : Desk) (P : A → Type 0) (Q : B → Type 0) (g : Glk)
+pub kept-step : {A B : Type 0} (b : GlkCall) (P : A → Type 0) (Q : B → Type 0) (g : Glk)
     (r : Result A ℕ) (f : A → Reached B)
     → Valid b g → IfOk r P → ((x : A) → P x → Kept b Q (f x)) → Kept b Q (within g r >>= f)
 kept-step b P Q g (Ok x) f v h k = k x h
 kept-step b P Q g (Err n) f v h k = v
 
-pub kept-read : {A B : Type 0} (b : Desk) (Q : B → Type 0) (g : Glk) (r : Result A ℕ) (f : A
+pub kept-read : {A B : Type 0} (b : GlkCall) (Q : B → Type 0) (g : Glk) (r : Result A ℕ) (f : A
     → Reached B)
     → Valid b g → ((x : A) → Kept b Q (f x)) → Kept b Q (within g r >>= f)
 kept-read b Q g (Ok x) f v k = k x
 kept-read b Q g (Err n) f v k = v
 
-pub kept-needs : {A : Type 0} (b : Desk) (Q : A → Type 0) (g : Glk) (t : Bool) (n : ℕ)
+pub kept-needs : {A : Type 0} (b : GlkCall) (Q : A → Type 0) (g : Glk) (t : Bool) (n : ℕ)
     (rest : Reached A)
     → Valid b g → (t ≡ true → Kept b Q rest) → Kept b Q (needs g t n rest)
 kept-needs b Q g true n rest v k = k refl
 kept-needs b Q g false n rest v k = v
 
-pub row-needs : {A : Type 0} (s : Desk) (Q : A → Type 0) (t : Bool) (n : ℕ) (rest : Reached A)
+pub row-needs : {A : Type 0} (s : GlkCall) (Q : A → Type 0) (t : Bool) (n : ℕ) (rest : Reached A)
     → (t ≡ true → Kept s Q rest) → Kept s Q (needs s.glk t n rest)
 row-needs s Q t n rest k = kept-needs s Q s.glk t n rest (λ v. v) k
 
-pub kept-if : {A : Type 0} (b : Desk) (Q : A → Type 0) (t : Bool) (x y : Reached A)
+pub kept-if : {A : Type 0} (b : GlkCall) (Q : A → Type 0) (t : Bool) (x y : Reached A)
     → (t ≡ true → Kept b Q x) → (t ≡ false → Kept b Q y) → Kept b Q (cond t x y)
 kept-if b Q true x y h k = h refl
 kept-if b Q false x y h k = k refl
@@ -175,56 +176,56 @@ charged-valid g v = record {
   next = v.next;
 }
 
-pub kept-made : {A : Type 0} (b : Desk) (g : Glk) (r : Result (StreamTable × A) StreamStop)
+pub kept-made : {A : Type 0} (b : GlkCall) (g : Glk) (r : Result (StreamTable × A) StreamStop)
     → Valid b g → (AreValid g → of_streams.LeavesBeside r)
     → Kept b (beside b) (within g (numbered r) >>= (λ p. Ok (record g { streams = p.0 }, p.1)))
 kept-made b g (Ok p) k h = λ v. with-streams g p.0 (k v) (h (k v))
 kept-made b g (Err e) k h = k
 
-pub kept-left : (b : Desk) (g : Glk) (r : Result StreamTable StreamStop) → Valid b g
+pub kept-left : (b : GlkCall) (g : Glk) (r : Result StreamTable StreamStop) → Valid b g
     → (AreValid g → of_streams.Leaves r)
     → Kept b (Valid b) (within g (numbered r) >>= (λ t. Ok (record g { streams = t })))
 kept-left b g (Ok t) k h = λ v. with-streams g t (k v) (h (k v))
 kept-left b g (Err e) k h = k
 
 -- a Glk state alone is changed
-pub placed-on : (s : Desk) (g : Glk) → Valid s g → Keeps s (record s { glk = g })
+pub placed-on : (s : GlkCall) (g : Glk) → Valid s g → Keeps s (record s { glk = g })
 placed-on s g v = record {
   parts = v;
   map = record { origin = refl; size = refl };
   stack = record { limit = refl; frames = λ c h. (c, h) };
 }
 
-pub self : (s : Desk) → Keeps s s
+pub self : (s : GlkCall) → Keeps s s
 self s = placed-on s s.glk (λ v. v)
 
-pub kept-alone : {A : Type 0} (s : Desk) (r : Reached (Glk × A)) → Kept s (beside s) r
+pub kept-alone : {A : Type 0} (s : GlkCall) (r : Reached (Glk × A)) → Kept s (beside s) r
     → Kept s (on s) (alone s r)
 kept-alone s r h = kept-bind s (beside s) (on s) r (λ p. Ok (record s { glk = p.0 }, p.1)) h
     (λ p v. placed-on s p.0 v)
 
-pub kept-makes : (s : Desk) (r : Reached (Glk × ℕ)) → Kept s (beside s) r
+pub kept-makes : (s : GlkCall) (r : Reached (Glk × ℕ)) → Kept s (beside s) r
     → Kept s (on s) (r >>= (λ p. gives p.1 (record s { glk = p.0 })))
 kept-makes s r h = kept-bind s (beside s) (on s) r (λ p. gives p.1 (record s { glk = p.0 })) h
     (λ p v. placed-on s p.0 v)
 
-pub kept-leaves : (s : Desk) (r : Reached Glk) → Kept s (Valid s) r
+pub kept-leaves : (s : GlkCall) (r : Reached Glk) → Kept s (Valid s) r
     → Kept s (on s) (r >>= (λ g. gives 0 (record s { glk = g })))
 kept-leaves s r h = kept-bind s (Valid s) (on s) r (λ g. gives 0 (record s { glk = g })) h
     (λ g v. placed-on s g v)
 
-pub kept-puts : (s : Desk) (rs : List WindowInput) (r : Reached (Glk × MemoryMap)) (x : ℕ)
+pub kept-puts : (s : GlkCall) (rs : List WindowInput) (r : Reached (Glk × MemoryMap)) (x : ℕ)
     → Kept s (puts s rs) r
     → Kept s (on s) (r >>= (λ p. gives x (record s { glk = p.0; memory = p.1 })))
 kept-puts s rs r x h = kept-bind s (puts s rs) (on s) r
     (λ p. gives x (record s { glk = p.0; memory = p.1 })) h (λ p k. k.keeps)
 
-pub begins-puts : (s : Desk) (g : Glk) → Valid s g → Puts s g.requests g s.memory
+pub begins-puts : (s : GlkCall) (g : Glk) → Valid s g → Puts s g.requests g s.memory
 begins-puts s g v = record { keeps = placed-on s g v; asked = refl }
 
 -- another memory
-pub keeps-map : (b : Desk) (g : Glk) (m n : MemoryMap) → Keeps b (desk g m b.stack)
-    → KeepsMap b.memory n → Keeps b (desk g n b.stack)
+pub keeps-map : (b : GlkCall) (g : Glk) (m n : MemoryMap) → Keeps b (glk_call g m b.stack)
+    → KeepsMap b.memory n → Keeps b (glk_call g n b.stack)
 keeps-map b g m n k h = record { parts = k.parts; map = h; stack = k.stack }
 
 -- ---- memory: bytes in place of as many that are there
@@ -315,10 +316,10 @@ ok-arguments s count given =
 
 -- ---- references
 
-abbrev both : Desk → MemoryMap × StackState → Type 0
+abbrev both : GlkCall → MemoryMap × StackState → Type 0
 both b p = KeepsStory b.memory b.stack p.0 p.1
 
-ok-referred : (b : Desk) (m : MemoryMap) (s : StackState) (at x : ℕ)
+ok-referred : (b : GlkCall) (m : MemoryMap) (s : StackState) (at x : ℕ)
     → KeepsStory b.memory b.stack m s → IfOk (referred m s at x) (both b)
 ok-referred b m s at x k =
     ok-if (both b) (at == 0) _ _ k
@@ -330,7 +331,7 @@ ok-referred b m s at x k =
     (ok-word b.memory 4 m at x k.map)
     (λ n h. record { map = h; stack = k.stack })))
 
-ok-referred_all : (b : Desk) (xs : List ℕ) (m : MemoryMap) (s : StackState) (at : ℕ)
+ok-referred_all : (b : GlkCall) (xs : List ℕ) (m : MemoryMap) (s : StackState) (at : ℕ)
     → KeepsStory b.memory b.stack m s
     → IfOk (referred_all m s at xs) (both b)
 ok-referred_all b [] m s at k = k
@@ -338,17 +339,17 @@ ok-referred_all b (x ∷ xs) m s at k =
     ok-bind (both b) (both b) (referred m s at x) (λ p. referred_all p.0 p.1 (next_field at) xs)
     (ok-referred b m s at x k) (λ p h. ok-referred_all b xs p.0 p.1 (next_field at) h)
 
-story : (b d : Desk) → Keeps b d → KeepsStory b.memory b.stack d.memory d.stack
+story : (b d : GlkCall) → Keeps b d → KeepsStory b.memory b.stack d.memory d.stack
 story b d k = record { map = k.map; stack = k.stack }
 
-pub kept-refers : (b d : Desk) (at x : ℕ) → Keeps b d → Kept b (Keeps b) (refers d at x)
+pub kept-refers : (b d : GlkCall) (at x : ℕ) → Keeps b d → Kept b (Keeps b) (refers d at x)
 kept-refers b d at x k =
     kept-step b (both b) (Keeps b) d.glk (referred d.memory d.stack at x)
     (λ p. Ok (record d { memory = p.0; stack = p.1 })) k.parts
     (ok-referred b d.memory d.stack at x (story b d k))
     (λ p h. record { parts = k.parts; map = h.map; stack = h.stack })
 
-pub kept-refers_all : (b d : Desk) (at : ℕ) (xs : List ℕ) → Keeps b d
+pub kept-refers_all : (b d : GlkCall) (at : ℕ) (xs : List ℕ) → Keeps b d
     → Kept b (Keeps b) (refers_all d at xs)
 kept-refers_all b d at xs k =
     kept-step b (both b) (Keeps b) d.glk (referred_all d.memory d.stack at xs)
@@ -357,20 +358,20 @@ kept-refers_all b d at xs k =
     (λ p h. record { parts = k.parts; map = h.map; stack = h.stack })
 
 -- one reference more
-pub kept-then : (s : Desk) (r : Reached Desk) (at x : ℕ) → Kept s (Keeps s) r
+pub kept-then : (s : GlkCall) (r : Reached GlkCall) (at x : ℕ) → Kept s (Keeps s) r
     → Kept s (Keeps s) (r >>= (λ t. refers t at x))
 kept-then s r at x h = kept-bind s (Keeps s) (Keeps s) r (λ t. refers t at x) h
     (λ t k. kept-refers s t at x k)
 
 -- references, and then an answer
-pub kept-told : (s : Desk) (r : Reached Desk) (x : ℕ) → Kept s (Keeps s) r
+pub kept-told : (s : GlkCall) (r : Reached GlkCall) (x : ℕ) → Kept s (Keeps s) r
     → Kept s (on s) (r >>= gives x)
 kept-told s r x h = kept-bind s (Keeps s) (on s) r (gives x) h (λ t k. k)
 
-pub kept-one : (s : Desk) (at x n : ℕ) → Kept s (on s) (refers s at x >>= gives n)
+pub kept-one : (s : GlkCall) (at x n : ℕ) → Kept s (on s) (refers s at x >>= gives n)
 kept-one s at x n = kept-told s (refers s at x) n (kept-refers s s at x (self s))
 
-pub kept-array_begun : (s : Desk) (at x : ℕ) → Kept s (Keeps s) (array_begun s at x)
+pub kept-array_begun : (s : GlkCall) (at x : ℕ) → Kept s (Keeps s) (array_begun s at x)
 kept-array_begun s at x =
     kept-if s (Keeps s) (at == 0) (Ok s)
     (within s.glk (coded (written 4 s.memory at x)) >>= (λ m. Ok (record s { memory = m })))

@@ -19,7 +19,7 @@ use Rattle.glk_streams.specs.declared.stream.Target.{Target}
 use Rattle.glk_streams.specs.declared.stream.Target.TheVariants as to
 use Rattle.glk_input.specs.Delivery.{width}
 use Rattle.glk_input.specs.declared.request.WindowInput.{WindowInput}
-use Rattle.glk_dispatch.specs.Answer.{Desk, Reached, ◌>>=◌, within}
+use Rattle.glk_dispatch.specs.Answer.{GlkCall, Reached, ◌>>=◌, within}
 use Rattle.glk_dispatch.specs.Fault.{numbered}
 use Rattle.glk_dispatch.specs.Glk.{charged, is_stream, style_of, window_of}
 use Rattle.glk_dispatch.specs.Laws.{AreValid}
@@ -95,7 +95,7 @@ put-live o t n (Some x) m code k =
 
 -- ---- characters of a call
 
-kept-put : (b : Desk) (rs : List WindowInput) (g : Glk) (m : MemoryMap)
+kept-put : (b : GlkCall) (rs : List WindowInput) (g : Glk) (m : MemoryMap)
     (r : Result (StreamTable × MemoryMap) StreamStop) → Puts b rs g m
     → (AreValid g → of_streams.LeavesBeside r) → IfOk r (second b.memory)
     → Kept b (puts b rs) (within g (numbered r) >>= (λ p. Ok (record g { streams = p.0 }, p.1)))
@@ -110,7 +110,7 @@ kept-put b rs g m (Ok p) k l h = record {
 }
 kept-put b rs g m (Err e) k l h = k.keeps.parts
 
-kept-streamed : (b : Desk) (rs : List WindowInput) (g : Glk) (m : MemoryMap) (n code : ℕ)
+kept-streamed : (b : GlkCall) (rs : List WindowInput) (g : Glk) (m : MemoryMap) (n code : ℕ)
     → Puts b rs g m → Kept b (puts b rs) (out.streamed g m n code)
 kept-streamed b rs g m n code k =
     kept-put b rs g m (sout.put g.streams m n code) k
@@ -126,14 +126,14 @@ shown-valid g win style code v = record {
 }
 
 -- another Glk state with the same requests
-puts-in : (b : Desk) (rs : List WindowInput) (g h : Glk) (m : MemoryMap) → (AreValid g → AreValid h)
+puts-in : (b : GlkCall) (rs : List WindowInput) (g h : Glk) (m : MemoryMap) → (AreValid g → AreValid h)
     → h.requests ≡ g.requests → Puts b rs g m → Puts b rs h m
 puts-in b rs g h m f e k = record {
   keeps = record { parts = λ v. f (k.keeps.parts v); map = k.keeps.map; stack = k.keeps.stack };
   asked = e ∙ k.asked;
 }
 
-kept-put_once : (b : Desk) (rs : List WindowInput) (g : Glk) (m : MemoryMap) (n style code : ℕ)
+kept-put_once : (b : GlkCall) (rs : List WindowInput) (g : Glk) (m : MemoryMap) (n style code : ℕ)
     → Puts b rs g m
     → Kept b (puts b rs) (out.put_once g m n style code)
 kept-put_once b rs g m n style code k =
@@ -142,7 +142,7 @@ kept-put_once b rs g m n style code k =
     (λ f. kept-streamed b rs (out.shown g (window_of g n) style code) m n code
     (puts-in b rs g _ m (shown-valid g (window_of g n) style code) refl k)))
 
-kept-spread : (b : Desk) (rs : List WindowInput) (steps : ℕ) (g : Glk) (m : MemoryMap) (n code : ℕ)
+kept-spread : (b : GlkCall) (rs : List WindowInput) (steps : ℕ) (g : Glk) (m : MemoryMap) (n code : ℕ)
     → Puts b rs g m
     → Kept b (puts b rs) (out.spread steps g m n code)
 unfolding out.spread
@@ -154,17 +154,17 @@ kept-spread b rs (suc steps) g m n code k =
     (kept-put_once b rs g m n (style_of g n) code k)
     (λ p h. kept-spread b rs steps p.0 p.1 (out.echo_from p.0 n) code h))
 
-pub kept-spread_all : (b : Desk) (rs : List WindowInput) (g : Glk) (m : MemoryMap) (n code : ℕ)
+pub kept-spread_all : (b : GlkCall) (rs : List WindowInput) (g : Glk) (m : MemoryMap) (n code : ℕ)
     → Puts b rs g m
     → Kept b (puts b rs) (out.spread_all g m n code)
 kept-spread_all b rs g m n code k = kept-spread b rs (length g.windows.slots + 1) g m n code k
 
-kept-put_code : (b : Desk) (rs : List WindowInput) (g : Glk) (m : MemoryMap) (n code : ℕ)
+kept-put_code : (b : GlkCall) (rs : List WindowInput) (g : Glk) (m : MemoryMap) (n code : ℕ)
     → Puts b rs g m → Kept b (puts b rs) (out.put_code g m n code)
 kept-put_code b rs g m n code k = kept-spread_all b rs (charged g) m n code
     (puts-in b rs g _ m (charged-valid g) refl k)
 
-kept-put_array : (b : Desk) (rs : List WindowInput) (count : ℕ) (u : Bool) (g : Glk) (m : MemoryMap)
+kept-put_array : (b : GlkCall) (rs : List WindowInput) (count : ℕ) (u : Bool) (g : Glk) (m : MemoryMap)
     (n at : ℕ) → Puts b rs g m
     → Kept b (puts b rs) (out.put_array count u g m n at)
 unfolding out.put_array
@@ -176,7 +176,7 @@ kept-put_array b rs (suc count) u g m n at k =
     (λ code. kept-put_code b rs g m n code k))
     (λ p h. kept-put_array b rs count u p.0 p.1 n ((at + width u) % 2 ^ 32) h)
 
-kept-put_text : (b : Desk) (rs : List WindowInput) (count : ℕ) (u : Bool) (g : Glk) (m : MemoryMap)
+kept-put_text : (b : GlkCall) (rs : List WindowInput) (count : ℕ) (u : Bool) (g : Glk) (m : MemoryMap)
     (n at : ℕ) → Puts b rs g m
     → Kept b (puts b rs) (out.put_text count u g m n at)
 unfolding out.put_text
@@ -189,14 +189,14 @@ kept-put_text b rs (suc count) u g m n at k =
     (kept-put_code b rs g m n code k)
     (λ p h. kept-put_text b rs count u p.0 p.1 n ((at + width u) % 2 ^ 32) h)))
 
-kept-put_string : (b : Desk) (rs : List WindowInput) (u : Bool) (g : Glk) (m : MemoryMap) (n at : ℕ)
+kept-put_string : (b : GlkCall) (rs : List WindowInput) (u : Bool) (g : Glk) (m : MemoryMap) (n at : ℕ)
     → Puts b rs g m
     → Kept b (puts b rs) (out.put_string u g m n at)
 kept-put_string b rs u g m n at k =
     kept-read b (puts b rs) g (out.text_start u m at) _ k.keeps.parts
     (λ from. kept-put_text b rs (length m.bytes + 1) u g m n from k)
 
-pub kept-echo_put : (b : Desk) (rs : List WindowInput) (g : Glk) (m : MemoryMap) (n style code : ℕ)
+pub kept-echo_put : (b : GlkCall) (rs : List WindowInput) (g : Glk) (m : MemoryMap) (n style code : ℕ)
     → Puts b rs g m
     → Kept b (puts b rs) (out.echo_put g m n style code)
 unfolding out.echo_put
@@ -206,12 +206,12 @@ kept-echo_put b rs g m n style code k =
     (kept-put_once b rs g m n style code k)
     (λ p h. kept-spread_all b rs p.0 p.1 (out.echo_from p.0 n) code h)
 
-row : (s : Desk) (r : Reached (Glk × MemoryMap))
+row : (s : GlkCall) (r : Reached (Glk × MemoryMap))
     → (Puts s s.glk.requests s.glk s.memory → Kept s (puts s s.glk.requests) r)
     → Kept s (on s) (out.puts s r)
 row s r h = kept-puts s s.glk.requests r 0 (h (begins-puts s s.glk (λ v. v)))
 
-pub kept-output_work : (c : OutputCall) (s : Desk) (l : ℕ → ℕ)
+pub kept-output_work : (c : OutputCall) (s : GlkCall) (l : ℕ → ℕ)
     → Kept s (on s) (out.output_work c s l)
 unfolding out.output_work
 kept-output_work (PutChar u) s l = row s _

@@ -15,7 +15,7 @@ use Rattle.glk_streams.specs.Names.{cleaned, temporary}
 use Rattle.glk_streams.specs.Opening as opening
 use Rattle.glk_streams.specs.Position as place
 use Rattle.glk_streams.specs.Streams as table
-use Rattle.glk_dispatch.specs.Answer.{Desk, Reached, ◌>>=◌, desk, within}
+use Rattle.glk_dispatch.specs.Answer.{GlkCall, Reached, ◌>>=◌, glk_call, within}
 use Rattle.glk_dispatch.specs.FileRefs as names
 use Rattle.glk_dispatch.specs.Glk.{charged, is_ref, is_stream, ref_rock, stream_rock}
 use Rattle.glk_dispatch.specs.Laws.{AreValid}
@@ -33,12 +33,12 @@ use Rattle.glk_dispatch.proofs.KeptLemmas.{kept-made, kept-makes, kept-one, kept
 use Rattle.glk_dispatch.proofs.KeptLemmas.{kept-refers_all, kept-step, kept-told, laws, ok-word, on}
 use Rattle.glk_dispatch.proofs.KeptLemmas.{placed-on, row-needs, self, with-streams, with-windows}
 
-kept-gets : (s : Desk) (r : Reached (Glk × MemoryMap × ℕ)) → Kept s (between s) r
+kept-gets : (s : GlkCall) (r : Reached (Glk × MemoryMap × ℕ)) → Kept s (between s) r
     → Kept s (on s) (rows.gets s r)
 kept-gets s r h = kept-bind s (between s) (on s) r
     (λ p. gives p.2 (record s { glk = p.0; memory = p.1 })) h (λ p k. k)
 
-kept-closed : (s : Desk) (n : ℕ) → Kept s (beside s) (rows.closed s.glk n)
+kept-closed : (s : GlkCall) (n : ℕ) → Kept s (beside s) (rows.closed s.glk n)
 kept-closed s n =
     let g = s.glk in
     kept-bind s (beside s) (beside s) (rows.made g (opening.closed g.streams n))
@@ -48,7 +48,7 @@ kept-closed s n =
     (λ p k v. with-windows p.0 (closing.echo_ended g.windows n) (k v)
     (laws.windows.end_echo g.windows n v.windows) v.next)
 
-kept-closes : (s : Desk) (n at : ℕ) → Kept s (on s) (rows.closes s n at)
+kept-closes : (s : GlkCall) (n at : ℕ) → Kept s (on s) (rows.closes s n at)
 kept-closes s n at =
     kept-told s (rows.closed s.glk n >>=
     (λ p. refers_all (record s { glk = p.0 }) at (p.1.read ∷ p.1.written ∷ []))) 0
@@ -61,14 +61,14 @@ counted-valid : (o : Option ℕ) (g : Glk) → AreValid g → AreValid (rows.cou
 counted-valid None g v = v
 counted-valid (Some c) g v = charged-valid g v
 
-kept-got_code : (b : Desk) (g : Glk) (m : MemoryMap) (n : ℕ) → Valid b g
+kept-got_code : (b : GlkCall) (g : Glk) (m : MemoryMap) (n : ℕ) → Valid b g
     → Kept b (beside b) (rows.got_code g m n)
 kept-got_code b g m n k =
     kept-bind b (beside b) (beside b) (rows.got g m n) (λ p. Ok (rows.counted p.1 p.0, p.1))
     (kept-made b g (input.got g.streams m n) k (λ v. (laws.streams g.streams v.streams).read m n))
     (λ p h v. counted-valid p.1 p.0 (h v))
 
-kept-char_read : (s : Desk) (u : Bool) (n : ℕ)
+kept-char_read : (s : GlkCall) (u : Bool) (n : ℕ)
     → Kept s (beside s) (rows.char_read u s.glk s.memory n)
 kept-char_read s u n =
     row-needs s (beside s) (is_stream s.glk n) 21 _
@@ -77,12 +77,12 @@ kept-char_read s u n =
     (kept-got_code s s.glk s.memory n (λ v. v)) (λ p h. h))
 
 -- another Glk state beside the memory
-keeps-glk : (b : Desk) (g h : Glk) (m : MemoryMap) → Keeps b (desk g m b.stack) → Valid b h
-    → Keeps b (desk h m b.stack)
+keeps-glk : (b : GlkCall) (g h : Glk) (m : MemoryMap) → Keeps b (glk_call g m b.stack) → Valid b h
+    → Keeps b (glk_call h m b.stack)
 keeps-glk b g h m k v = record { parts = v; map = k.map; stack = k.stack }
 
-kept-item_kept : (b : Desk) (u : Bool) (g : Glk) (m : MemoryMap) (at : ℕ) (o : Option ℕ)
-    → Keeps b (desk g m b.stack)
+kept-item_kept : (b : GlkCall) (u : Bool) (g : Glk) (m : MemoryMap) (at : ℕ) (o : Option ℕ)
+    → Keeps b (glk_call g m b.stack)
     → Kept b (between b) (rows.item_kept u g m at o)
 kept-item_kept b u g m at None k = k
 kept-item_kept b u g m at (Some code) k =
@@ -90,26 +90,26 @@ kept-item_kept b u g m at (Some code) k =
     (λ n. Ok (g, n, Some code)) k.parts
     (ok-word b.memory (width u) m at (taken u code) k.map) (λ n h. keeps-map b g m n k h)
 
-kept-got_item : (b : Desk) (u : Bool) (g : Glk) (m : MemoryMap) (n at : ℕ)
-    → Keeps b (desk g m b.stack)
+kept-got_item : (b : GlkCall) (u : Bool) (g : Glk) (m : MemoryMap) (n at : ℕ)
+    → Keeps b (glk_call g m b.stack)
     → Kept b (between b) (rows.got_item u g m n at)
 kept-got_item b u g m n at k =
     kept-bind b (beside b) (between b) (rows.got_code g m n) (λ p. rows.item_kept u p.0 m at p.1)
     (kept-got_code b g m n k.parts)
     (λ p h. kept-item_kept b u p.0 m at p.1 (keeps-glk b g p.0 m k h))
 
-kept-got_on : (b : Desk) (rest : Glk → MemoryMap → ℕ → Reached (Glk × MemoryMap × ℕ))
-    → ((g : Glk) (m : MemoryMap) (c : ℕ) → Keeps b (desk g m b.stack)
+kept-got_on : (b : GlkCall) (rest : Glk → MemoryMap → ℕ → Reached (Glk × MemoryMap × ℕ))
+    → ((g : Glk) (m : MemoryMap) (c : ℕ) → Keeps b (glk_call g m b.stack)
     → Kept b (between b) (rest g m c))
     → (line : Bool) (g : Glk) (m : MemoryMap) (count : ℕ) (o : Option ℕ)
-    → Keeps b (desk g m b.stack)
+    → Keeps b (glk_call g m b.stack)
     → Kept b (between b) (rows.got_on rest line g m count o)
 kept-got_on b rest f line g m count None k = k
 kept-got_on b rest f line g m count (Some code) k =
     kept-if b (between b) (line && code == 10) _ _ (λ e. k) (λ e. f g m (count + 1) k)
 
-kept-got_array : (b : Desk) (left : ℕ) (line u : Bool) (g : Glk) (m : MemoryMap) (n at count : ℕ)
-    → Keeps b (desk g m b.stack)
+kept-got_array : (b : GlkCall) (left : ℕ) (line u : Bool) (g : Glk) (m : MemoryMap) (n at count : ℕ)
+    → Keeps b (glk_call g m b.stack)
     → Kept b (between b) (rows.got_array left line u g m n at count)
 unfolding rows.got_array
 kept-got_array b zero line u g m n at count k = k
@@ -122,7 +122,7 @@ kept-got_array b (suc left) line u g m n at count k =
     (λ g j c w. kept-got_array b left line u g j n ((at + width u) % 2 ^ 32) c w) line p.0 p.1 count
     p.2 h)
 
-kept-line_read : (s : Desk) (u : Bool) (n buf len : ℕ)
+kept-line_read : (s : GlkCall) (u : Bool) (n buf len : ℕ)
     → Kept s (between s) (rows.line_read u s.glk s.memory n buf len)
 kept-line_read s u n buf len =
     row-needs s (between s) (is_stream s.glk n) 21 _
@@ -136,13 +136,13 @@ kept-line_read s u n buf len =
     (ok-word s.memory (width u) p.1 (rows.behind u buf p.2) 0 k.map)
     (λ j h. keeps-map s p.0 p.1 j k h))))
 
-kept-buffer_read : (s : Desk) (u : Bool) (n buf len : ℕ)
+kept-buffer_read : (s : GlkCall) (u : Bool) (n buf len : ℕ)
     → Kept s (between s) (rows.buffer_read u s.glk s.memory n buf len)
 kept-buffer_read s u n buf len =
     row-needs s (between s) (is_stream s.glk n) 21 _
     (λ e. kept-got_array s len false u s.glk s.memory n buf 0 (self s))
 
-pub kept-stream_work : (c : StreamCall) (s : Desk) (l : ℕ → ℕ)
+pub kept-stream_work : (c : StreamCall) (s : GlkCall) (l : ℕ → ℕ)
     → Kept s (on s) (rows.stream_work c s l)
 unfolding rows.stream_work
 kept-stream_work str.Iterate s l =
@@ -182,7 +182,7 @@ kept-stream_work (str.GetBuffer u) s l =
 
 -- ---- file references
 
-kept-name_read : (b : Desk) (left : ℕ) (g : Glk) (m : MemoryMap) (at : ℕ) (name : List ℕ)
+kept-name_read : (b : GlkCall) (left : ℕ) (g : Glk) (m : MemoryMap) (at : ℕ) (name : List ℕ)
     → Valid b g → Kept b (beside b) (names.name_read left g m at name)
 unfolding names.name_read
 kept-name_read b zero g m at name k = k
@@ -192,7 +192,7 @@ kept-name_read b (suc left) g m at name k =
     (λ e. kept-name_read b left (charged g) m ((at + 1) % 2 ^ 32) (name ++ code ∷ [])
     (λ v. charged-valid g (k v))))
 
-kept-name_at : (s : Desk) (at : ℕ) → Kept s (beside s) (names.name_at s.glk s.memory at)
+kept-name_at : (s : GlkCall) (at : ℕ) → Kept s (beside s) (names.name_at s.glk s.memory at)
 kept-name_at s at =
     kept-read s (beside s) s.glk (text_start false s.memory at) _ (λ v. v)
     (λ from. kept-name_read s (length s.memory.bytes + 1) s.glk s.memory from [] (λ v. v))
@@ -215,7 +215,7 @@ prompted-valid g name v =
     valid-if (length name == 0) (g, 0) (cond misses (g, 0) made) v
     (valid-if misses (g, 0) made v (named-valid g g.prompt.usage name g.prompt.rock v))
 
-pub kept-fileref_work : (c : FileRefCall) (s : Desk) (l : ℕ → ℕ)
+pub kept-fileref_work : (c : FileRefCall) (s : GlkCall) (l : ℕ → ℕ)
     → Kept s (on s) (names.fileref_work c s l)
 unfolding names.fileref_work
 kept-fileref_work ref.CreateTemp s l =

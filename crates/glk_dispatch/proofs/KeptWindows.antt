@@ -17,7 +17,7 @@ use Rattle.glk_streams.specs.Laws as slaw
 use Rattle.glk_streams.specs.Opening as sopen
 use Rattle.glk_streams.specs.Streams.{StreamTable}
 use Rattle.glk_streams.specs.declared.fault.StreamStop.{StreamStop}
-use Rattle.glk_dispatch.specs.Answer.{Desk, ◌>>=◌, alone, within}
+use Rattle.glk_dispatch.specs.Answer.{GlkCall, ◌>>=◌, alone, within}
 use Rattle.glk_dispatch.specs.Fault.{numbered}
 use Rattle.glk_dispatch.specs.Glk.{is_stream, is_window, placed, written_to}
 use Rattle.glk_dispatch.specs.Laws.{AreValid}
@@ -181,7 +181,7 @@ opened-beside g split method size kind rock live m e v =
     (laws.windows.split g.windows split method size kind rock v.windows (inr (live, m))) fine.next
     fine.number)
 
-kept-opened : (s : Desk) (split method size kind rock : ℕ)
+kept-opened : (s : GlkCall) (split method size kind rock : ℕ)
     → Kept s (beside s) (rows.opened s.glk split method size kind rock)
 kept-opened s split method size kind rock =
     let g = s.glk in
@@ -256,7 +256,7 @@ closed-valid g win v live =
       next = subst (λ n. n ≤ 4294967295) (sym (next-close c.windows win)) cv.next;
     })
 
-kept-arranged : (s : Desk) (win method size key : ℕ)
+kept-arranged : (s : GlkCall) (win method size key : ℕ)
     → Kept s (beside s) (rows.arranged s.glk win method size key)
 kept-arranged s win method size key =
     let g = s.glk in
@@ -271,18 +271,18 @@ kept-arranged s win method size key =
     (and-first (arranging.is_method method) (reading.is_same_axis g.windows.slots win method) m)
     (laws.may_key.only g.windows win key v.windows live may)) v.next))))))
 
-kept-tells : (s : Desk) (win value : ℕ) → Kept s (on s) (rows.tells s win value)
+kept-tells : (s : GlkCall) (win value : ℕ) → Kept s (on s) (rows.tells s win value)
 kept-tells s win value = kept-read s (on s) s.glk (rows.told s.glk win value) (λ x. gives x s)
     (λ v. v) (λ x. self s)
 
-kept-current : (s : Desk) (g : Glk) (r : Result StreamTable StreamStop)
+kept-current : (s : GlkCall) (g : Glk) (r : Result StreamTable StreamStop)
     → (AreValid g → slaw.Leaves r)
     → (AreValid s.glk → AreValid g)
     → Kept s (beside s) (within g (numbered r) >>= (λ t. rows.leaves (record g { streams = t })))
 kept-current s g (Ok t) h k = λ v. with-streams g t (k v) (h (k v))
 kept-current s g (Err e) h k = k
 
-pub kept-window_work : (c : WindowCall) (s : Desk) (l : ℕ → ℕ)
+pub kept-window_work : (c : WindowCall) (s : GlkCall) (l : ℕ → ℕ)
     → Kept s (on s) (rows.window_work c s l)
 unfolding rows.window_work
 kept-window_work to.Iterate s l =

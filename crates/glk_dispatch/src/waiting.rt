@@ -3,7 +3,7 @@
 ghost use Rattle.std.specs.Prelude.{◌≡◌, OnOk, true};
 ghost use Rattle.glk_input.specs.Delivery as delivery;
 ghost use Rattle.glk_input.specs.Request as request;
-ghost use Rattle.glk_dispatch.specs.Answer.{Does, Gets, Puts, desk};
+ghost use Rattle.glk_dispatch.specs.Answer.{Does, Gets, Puts, glk_call};
 ghost use Rattle.glk_dispatch.specs.Events as rows;
 ghost use Rattle.glk_dispatch.specs.Keeping.{KeepsStory};
 
@@ -96,7 +96,7 @@ fn answer_event(
     input: &Input,
 ) -> Result<u32, Trap>
     requires { delivery.wants glk.old.requests input.now ≡ true }
-    ensures { Does (rows.event_answered (desk glk.old memory.old stack.old) input.now)
+    ensures { Does (rows.event_answered (glk_call glk.old memory.old stack.old) input.now)
         glk.new memory.new stack.new result }
 {
     echo_input(alloc, glk, memory, input)?;
@@ -116,7 +116,7 @@ pub fn answer(
     input: &Input,
 ) -> Result<u32, Trap>
     requires { rows.is_awaited glk.old.requests input.now ≡ true }
-    ensures does { Does (rows.answered (desk glk.old memory.old stack.old) input.now)
+    ensures does { Does (rows.answered (glk_call glk.old memory.old stack.old) input.now)
         glk.new memory.new stack.new result }
     ensures kept { OnOk result (KeepsStory memory.old stack.old memory.new stack.new) }
 {

@@ -8,7 +8,7 @@ use Rattle.vm_exec.specs.declared.machine.Machine.{Machine}
 use Rattle.vm_exec.specs.declared.step.Out.{Out}
 use Rattle.vm_exec.specs.declared.step.Out.TheVariants as out
 use Rattle.vm_memory.specs.MemoryMap.{MemoryMap}
-use Rattle.glk_dispatch.specs.Answer.{Reached, ◌>>=◌, desk}
+use Rattle.glk_dispatch.specs.Answer.{Reached, ◌>>=◌, glk_call}
 use Rattle.glk_dispatch.specs.Answer as dispatch
 use Rattle.glk_dispatch.specs.Call.{called}
 use Rattle.glk_dispatch.specs.Output.{put_code}
@@ -85,7 +85,7 @@ followed-shifts image left more cost g m (out.Char x) h =
     (later left more cost h)
     (put-shifts (left - cost) more m p)
 followed-shifts image left more cost g m (out.Glk selector args) h =
-    let x = called (desk g m.memory m.stack) selector args in
+    let x = called (glk_call g m.memory m.stack) selector args in
     subst (λ (k : ℕ). Shifts more (answered (left - cost) g m x) (answered k g m x))
     (later left more cost h)
     (answered-shifts (left - cost) more g m x)

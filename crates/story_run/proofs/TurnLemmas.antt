@@ -10,7 +10,7 @@ use Rattle.vm_exec.specs.declared.step.Out.{Out}
 use Rattle.vm_exec.specs.declared.step.Out.TheVariants as out
 use Rattle.vm_exec.specs.Rules.{Rule}
 use Rattle.vm_memory.specs.MemoryMap.{MemoryMap}
-use Rattle.glk_dispatch.specs.Answer.{Reached, ◌>>=◌, desk}
+use Rattle.glk_dispatch.specs.Answer.{Reached, ◌>>=◌, glk_call}
 use Rattle.glk_dispatch.specs.Answer as dispatch
 use Rattle.glk_dispatch.specs.Call.{called}
 use Rattle.glk_dispatch.specs.Output.{put_code}
@@ -66,7 +66,7 @@ followed-below : (image : List ℕ) (left cost : ℕ) (g : Glk) (m : Machine) (o
 followed-below image left cost g m out.Ran h k = omega arith
 followed-below image left cost g m (out.Char x) h k = put-below left (left - cost) m (put_code g m.memory g.streams.current x) (omega arith)
 followed-below image left cost g m (out.Glk selector args) h k =
-    answered-below left (left - cost) g m (called (desk g m.memory m.stack) selector args) (omega arith)
+    answered-below left (left - cost) g m (called (glk_call g m.memory m.stack) selector args) (omega arith)
 followed-below image left cost g m (out.Save stream) h k = went_on-below left (left - cost) (saved image g m stream) (omega arith)
 followed-below image left cost g m (out.Restore stream) h k =
     went_on-below left (left - cost) (restored image g m stream) (omega arith)
