@@ -11,7 +11,8 @@ use Rattle.vm_stack.specs.StackState.{StackState}
 use Rattle.glk_streams.specs.FileRefs as refs
 use Rattle.glk_input.specs.declared.input.Input.{Input}
 use Rattle.glk_input.specs.declared.request.WindowInput.{WindowInput}
-use Rattle.glk_dispatch.specs.Answer.{GlkCall, Does, Puts as Leaves, Reached, ◌>>=◌, glk_call, within}
+use Rattle.glk_dispatch.specs.Answer.{GlkCall, Does, Puts as Leaves, Reached, ◌>>=◌, glk_call}
+use Rattle.glk_dispatch.specs.Answer.{within}
 use Rattle.glk_dispatch.specs.Arguments.{arguments}
 use Rattle.glk_dispatch.specs.Call.{called_with, work}
 use Rattle.glk_dispatch.specs.Case as cases
@@ -55,7 +56,8 @@ kept-sets s n style =
     (λ e. kept-left s s.glk (refs.styled s.glk.streams n style) (λ v. v)
     (λ v. (laws.streams s.glk.streams v.streams).style n style)))
 
-kept-style_work : (k : StyleCall) (s : GlkCall) (l : ℕ → ℕ) → Kept s (on s) (styles.style_work k s l)
+kept-style_work : (k : StyleCall) (s : GlkCall) (l : ℕ → ℕ)
+    → Kept s (on s) (styles.style_work k s l)
 unfolding styles.style_work
 kept-style_work sty.Set s l = kept-sets s s.glk.streams.current (l 0)
 kept-style_work sty.SetStream s l = row-needs s (on s) (is_stream s.glk (l 0)) 21 _
@@ -176,7 +178,8 @@ kept-called_with (Some p) s given =
 
 -- ---- the parts stay valid
 
-as-law : {A : Type 0} (s : GlkCall) (r : Reached (GlkCall × A)) → Kept s (on s) r → law.AreValid s.glk
+as-law : {A : Type 0} (s : GlkCall) (r : Reached (GlkCall × A)) → Kept s (on s) r
+    → law.AreValid s.glk
     → law.Kept (λ p. p.0.glk) r
 as-law s (Ok p) k v = k.parts v
 as-law s (Err e) k v = k v
@@ -233,7 +236,8 @@ puts-left : (s : GlkCall) (should : Reached (Glk × MemoryMap)) (g : Glk) (m : M
 puts-left s should g m k e = subst
     (λ (y : Reached (Glk × MemoryMap)). Kept s (puts s s.glk.requests) y) e k
 
-pub put_keeps : (s : GlkCall) (g : Glk) (m : MemoryMap) (stream code : ℕ) (r : Result (Unit {0}) Trap)
+pub put_keeps : (s : GlkCall) (g : Glk) (m : MemoryMap) (stream code : ℕ)
+    (r : Result (Unit {0}) Trap)
     → Leaves (out.spread_all s.glk s.memory stream code) g m r → OnOk r (KeepsMap s.memory m)
 put_keeps s g m stream code (Ok x) does =
     (puts-left s _ g m (kept-spread_all s s.glk.requests s.glk s.memory stream code

@@ -173,7 +173,8 @@ kept-initial b rs (Some (Line r)) g m win k =
     (events.echo_array r.init r.unicode g m (events.stream_in g win) r.buf) k
     (kept-echo_array b rs r.init r.unicode g m (events.stream_in g win) r.buf k)
 
-kept-line_echoed : (b : GlkCall) (rs : List WindowInput) (o : Option Request) (g : Glk) (m : MemoryMap)
+kept-line_echoed : (b : GlkCall) (rs : List WindowInput) (o : Option Request) (g : Glk)
+    (m : MemoryMap)
     (win : ℕ) (text : List ℕ) → Puts b rs g m
     → Kept b (puts b rs) (events.line_echoed o g m win text)
 kept-line_echoed b rs None g m win text k = k
@@ -304,7 +305,8 @@ ok-delivered o ws m (input.Line win text key) k = line-delivered o
 ok-delivered o ws m (input.Char win code) k = k
 ok-delivered o ws m (input.File name) k = k
 
-kept-delivered : (b : GlkCall) (g : Glk) (m : MemoryMap) (i : Input) → Keeps b (glk_call g m b.stack)
+kept-delivered : (b : GlkCall) (g : Glk) (m : MemoryMap) (i : Input)
+    → Keeps b (glk_call g m b.stack)
     → Kept b (between b) (events.delivered g m i)
 kept-delivered b g m i k =
     let over : Valid b (events.request_over g i) =

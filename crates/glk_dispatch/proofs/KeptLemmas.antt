@@ -96,7 +96,8 @@ puts b rs p = Puts b rs p.0 p.1
 
 -- ---- steps
 
-pub kept-bind : {A B : Type 0} (b : GlkCall) (P : A → Type 0) (Q : B → Type 0) (r : Reached A) (f : A
+pub kept-bind : {A B : Type 0} (b : GlkCall) (P : A → Type 0) (Q : B → Type 0) (r : Reached A)
+    (f : A
     → Reached B)
     → Kept b P r → ((x : A) → P x → Kept b Q (f x)) → Kept b Q (r >>= f)
 kept-bind b P Q (Ok x) f h k = k x h

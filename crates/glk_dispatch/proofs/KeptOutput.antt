@@ -126,7 +126,8 @@ shown-valid g win style code v = record {
 }
 
 -- another Glk state with the same requests
-puts-in : (b : GlkCall) (rs : List WindowInput) (g h : Glk) (m : MemoryMap) → (AreValid g → AreValid h)
+puts-in : (b : GlkCall) (rs : List WindowInput) (g h : Glk) (m : MemoryMap)
+    → (AreValid g → AreValid h)
     → h.requests ≡ g.requests → Puts b rs g m → Puts b rs h m
 puts-in b rs g h m f e k = record {
   keeps = record { parts = λ v. f (k.keeps.parts v); map = k.keeps.map; stack = k.keeps.stack };
@@ -142,7 +143,8 @@ kept-put_once b rs g m n style code k =
     (λ f. kept-streamed b rs (out.shown g (window_of g n) style code) m n code
     (puts-in b rs g _ m (shown-valid g (window_of g n) style code) refl k)))
 
-kept-spread : (b : GlkCall) (rs : List WindowInput) (steps : ℕ) (g : Glk) (m : MemoryMap) (n code : ℕ)
+kept-spread : (b : GlkCall) (rs : List WindowInput) (steps : ℕ) (g : Glk) (m : MemoryMap)
+    (n code : ℕ)
     → Puts b rs g m
     → Kept b (puts b rs) (out.spread steps g m n code)
 unfolding out.spread
@@ -164,7 +166,8 @@ kept-put_code : (b : GlkCall) (rs : List WindowInput) (g : Glk) (m : MemoryMap) 
 kept-put_code b rs g m n code k = kept-spread_all b rs (charged g) m n code
     (puts-in b rs g _ m (charged-valid g) refl k)
 
-kept-put_array : (b : GlkCall) (rs : List WindowInput) (count : ℕ) (u : Bool) (g : Glk) (m : MemoryMap)
+kept-put_array : (b : GlkCall) (rs : List WindowInput) (count : ℕ) (u : Bool) (g : Glk)
+    (m : MemoryMap)
     (n at : ℕ) → Puts b rs g m
     → Kept b (puts b rs) (out.put_array count u g m n at)
 unfolding out.put_array
@@ -176,7 +179,8 @@ kept-put_array b rs (suc count) u g m n at k =
     (λ code. kept-put_code b rs g m n code k))
     (λ p h. kept-put_array b rs count u p.0 p.1 n ((at + width u) % 2 ^ 32) h)
 
-kept-put_text : (b : GlkCall) (rs : List WindowInput) (count : ℕ) (u : Bool) (g : Glk) (m : MemoryMap)
+kept-put_text : (b : GlkCall) (rs : List WindowInput) (count : ℕ) (u : Bool) (g : Glk)
+    (m : MemoryMap)
     (n at : ℕ) → Puts b rs g m
     → Kept b (puts b rs) (out.put_text count u g m n at)
 unfolding out.put_text
@@ -189,14 +193,16 @@ kept-put_text b rs (suc count) u g m n at k =
     (kept-put_code b rs g m n code k)
     (λ p h. kept-put_text b rs count u p.0 p.1 n ((at + width u) % 2 ^ 32) h)))
 
-kept-put_string : (b : GlkCall) (rs : List WindowInput) (u : Bool) (g : Glk) (m : MemoryMap) (n at : ℕ)
+kept-put_string : (b : GlkCall) (rs : List WindowInput) (u : Bool) (g : Glk) (m : MemoryMap)
+    (n at : ℕ)
     → Puts b rs g m
     → Kept b (puts b rs) (out.put_string u g m n at)
 kept-put_string b rs u g m n at k =
     kept-read b (puts b rs) g (out.text_start u m at) _ k.keeps.parts
     (λ from. kept-put_text b rs (length m.bytes + 1) u g m n from k)
 
-pub kept-echo_put : (b : GlkCall) (rs : List WindowInput) (g : Glk) (m : MemoryMap) (n style code : ℕ)
+pub kept-echo_put : (b : GlkCall) (rs : List WindowInput) (g : Glk) (m : MemoryMap)
+    (n style code : ℕ)
     → Puts b rs g m
     → Kept b (puts b rs) (out.echo_put g m n style code)
 unfolding out.echo_put

@@ -45,8 +45,8 @@ impl Requests {
     }
 
     /// Delivers an input that is wanted: the request is over, then a line's characters go to its
-    /// array, and the event tells what came. The refusal is that of a write to memory; what the work
-    /// had reached stands: the request is over, and memory has a first part of the line.
+    /// array, and the event tells what came. The refusal is that of a write to memory; what the
+    /// work had reached stands: the request is over, and memory has a first part of the line.
     pub fn deliver(&mut self, memory: &mut Memory, input: &Input) -> Result<Event, MemStop>
         requires { delivery.wants self.old input.now ≡ true }
         ensures value { delivery.Delivers (delivery.delivered self.old memory.old input.now)
