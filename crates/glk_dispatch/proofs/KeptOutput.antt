@@ -1,101 +1,237 @@
--- Output keeps windows and streams valid.
-use Rattle.std.proofs.Common.{ℕ, zero, suc, ◌+◌, ◌%◌, ◌^◌, ◌==◌, nat_le, Bool, length, Result, Ok, Err}
-use Rattle.vm_memory.specs.MemoryMap.{MemoryMap}
+-- Output keeps what the work of a call keeps, and the requests.
+use Rattle.std.proofs.Common.{◌≡◌, ℕ, zero, suc, ◌+◌, ◌%◌, ◌^◌, ◌==◌, nat_le, nat_lt, Bool, true}
+use Rattle.std.proofs.Common.{false, length, Option, Some, None, Result, Ok, Err, List, cond, refl}
+use Rattle.std.proofs.Common.{◌∙◌}
+use Rattle.std.specs.Prelude.{IfOk}
+use Rattle.vm_memory.specs.Access.{written}
+use Rattle.vm_memory.specs.MemoryMap.{MemoryMap, KeepsMap}
+use Rattle.vm_memory.specs.declared.fault.MemFault.{MemFault}
+use Rattle.glk_streams.specs.Answer as answer
+use Rattle.glk_streams.specs.Coding.{coding_of, kept_code, unit_of}
+use Rattle.glk_streams.specs.Laws as of_streams
 use Rattle.glk_streams.specs.Output as sout
-use Rattle.glk_streams.specs.Laws as slaw
-use Rattle.glk_input.specs.Laws as rlaw
-use Rattle.glk_streams.specs.Streams.{StreamTable}
+use Rattle.glk_streams.specs.Streams.{StreamTable, stream_at, is_write_mode, with_stream}
 use Rattle.glk_streams.specs.declared.fault.StreamStop.{StreamStop}
-use Rattle.glk_windows.specs.Laws as wlaw
-use Rattle.glk_dispatch.specs.Answer.{Desk, Reached, ◌>>=◌, within}
+use Rattle.glk_streams.specs.declared.fault.StreamStop.TheVariants.{BadArgument}
+use Rattle.glk_streams.specs.declared.file.File.{File}
+use Rattle.glk_streams.specs.declared.stream.Stream.{Stream}
+use Rattle.glk_streams.specs.declared.stream.Target.{Target}
+use Rattle.glk_streams.specs.declared.stream.Target.TheVariants as to
+use Rattle.glk_input.specs.Delivery.{width}
+use Rattle.glk_input.specs.declared.request.WindowInput.{WindowInput}
+use Rattle.glk_dispatch.specs.Answer.{GlkCall, Reached, ◌>>=◌, within}
 use Rattle.glk_dispatch.specs.Fault.{numbered}
 use Rattle.glk_dispatch.specs.Glk.{charged, is_stream, style_of, window_of}
-use Rattle.glk_dispatch.specs.Laws.{AreValid, Kept}
+use Rattle.glk_dispatch.specs.Laws.{AreValid}
 use Rattle.glk_dispatch.specs.Output as out
-use Rattle.glk_dispatch.specs.Reference.{gives}
 use Rattle.glk_dispatch.specs.declared.glk.Glk.{Glk}
 use Rattle.glk_dispatch.specs.declared.output.OutputCall.{OutputCall}
-use Rattle.glk_dispatch.specs.declared.output.OutputCall.TheVariants.{PutChar, PutCharStream, PutString, PutStringStream, PutBuffer, PutBufferStream}
+use Rattle.glk_dispatch.specs.declared.output.OutputCall.TheVariants.{PutChar, PutCharStream}
+use Rattle.glk_dispatch.specs.declared.output.OutputCall.TheVariants.{PutString, PutStringStream}
+use Rattle.glk_dispatch.specs.declared.output.OutputCall.TheVariants.{PutBuffer, PutBufferStream}
 use Rattle.glk_dispatch.specs.declared.output.TheConstants.{MAX_PRINTED}
-use Rattle.glk_input.specs.Delivery.{width}
-use Rattle.glk_dispatch.proofs.KeptLemmas.{charged-valid, desk_of, first_of, kept-bind, kept-if, kept-needs, kept-within}
+use Rattle.glk_dispatch.proofs.KeptLemmas.{Kept, Puts, begins-puts, charged-valid, kept-bind}
+use Rattle.glk_dispatch.proofs.KeptLemmas.{kept-if, kept-puts, kept-read, laws, ok-written, on}
+use Rattle.glk_dispatch.proofs.KeptLemmas.{puts, row-needs, with-streams}
 
--- what the crates of windows and streams promise
-pub record Parts : Type 0 where
-  pub windows : wlaw.KeepsValid
-  pub may_key : wlaw.MayKeyHolds
-  pub streams : slaw.StaysValid
-  pub begins : slaw.BeginsValid
-  pub requests : rlaw.StaysValid
+-- ---- a character in a stream: the array of a memory stream lies in the story's memory
 
-kept-put : (g : Glk) (r : Result (StreamTable × MemoryMap) StreamStop) → AreValid g → slaw.LeavesBeside r
-    → Kept first_of (within g (numbered r) >>= (λ p. Ok (record g { streams = p.0 }, p.1)))
-kept-put g (Ok p) v h = record { windows = v.windows; streams = h; requests = v.requests; next = v.next }
-kept-put g (Err e) v h = v
+abbrev middle : {A B : Type 0} → MemoryMap → A × MemoryMap × B → Type 0
+middle o p = KeepsMap o p.1
 
-pub kept-streamed : Parts → (g : Glk) (m : MemoryMap) (n code : ℕ) → AreValid g → Kept first_of (out.streamed g m n code)
-kept-streamed laws g m n code v =
-    kept-put g (sout.put g.streams m n code) v ((laws.streams g.streams v.streams).write m n code)
+abbrev second : {A : Type 0} → MemoryMap → A × MemoryMap → Type 0
+second o p = KeepsMap o p.1
 
-pub kept-put_once : Parts → (g : Glk) (m : MemoryMap) (n style code : ℕ) → AreValid g → Kept first_of (out.put_once g m n style code)
-kept-put_once laws g m n style code v =
-    kept-if first_of (window_of g n == 0) _ _ (λ e. kept-streamed laws g m n code v)
-    (λ e. kept-if first_of (nat_le MAX_PRINTED g.printed) _ _ (λ f. v)
-    (λ f. kept-streamed laws (out.shown g (window_of g n) style code) m n code
-    (record { windows = laws.windows.put g.windows (window_of g n) code style v.windows; streams = v.streams; requests = v.requests; next = v.next })))
+into-memory : (o : MemoryMap) (fs : List File) (place : ℕ) (r : Result MemoryMap MemFault)
+    → IfOk r (KeepsMap o)
+    → IfOk (sout.in_memory fs (answer.◌>>=◌ (answer.of_memory r) (λ m. Ok (m, place)))) (middle o)
+into-memory o fs place (Ok m) h = h
+into-memory o fs place (Err e) h = tt
 
-pub kept-spread : Parts → (steps : ℕ) (g : Glk) (m : MemoryMap) (n code : ℕ) → AreValid g → Kept first_of (out.spread steps g m n code)
+memory-if : (o : MemoryMap) (fs : List File) (m : MemoryMap) (place : ℕ) (t : Bool)
+    (r : Result MemoryMap MemFault) → KeepsMap o m → IfOk r (KeepsMap o)
+    → IfOk (sout.in_memory fs
+    (cond t (answer.◌>>=◌ (answer.of_memory r) (λ n. Ok (n, place + 1))) (Ok (m, place))))
+    (middle o)
+memory-if o fs m place true r k h = into-memory o fs (place + 1) r h
+memory-if o fs m place false r k h = k
+
+ok-put_in : (o : MemoryMap) (t : Target) (u : Bool) (fs : List File) (m : MemoryMap)
+    (place code : ℕ) → KeepsMap o m
+    → IfOk (sout.put_in t u fs m place code) (middle o)
+ok-put_in o (to.Window win) u fs m place code k = k
+ok-put_in o (to.Memory buf len) u fs m place code k =
+    let c = coding_of u (to.Memory buf len) in
+    memory-if o fs m place (nat_lt place (sout.length_of buf len))
+    (written (unit_of c) m (sout.address_of c buf place) (kept_code c code)) k
+    (ok-written o (unit_of c) m (sout.address_of c buf place) (kept_code c code) k)
+ok-put_in o (to.File usage name) u fs m place code k = k
+
+put-by-if : (o : MemoryMap) (t : Bool) (r : sout.Put) → IfOk r (middle o)
+    → IfOk (cond t r (Err BadArgument)) (middle o)
+put-by-if o true r h = h
+put-by-if o false r h = tt
+
+put-on : (o : MemoryMap) (r : sout.Put) (f : List File × MemoryMap × ℕ → StreamTable)
+    → IfOk r (middle o)
+    → IfOk (answer.◌>>=◌ r (λ done. Ok (f done, done.1))) (second o)
+put-on o (Ok p) f h = h
+put-on o (Err e) f h = tt
+
+put-live : (o : MemoryMap) (t : StreamTable) (n : ℕ) (s : Option Stream) (m : MemoryMap) (code : ℕ)
+    → KeepsMap o m
+    → IfOk (answer.live s (λ x. answer.◌>>=◌ (sout.put_by t.files m x code)
+    (λ done. Ok (
+      with_stream (record t { files = done.0 }) n
+          (sout.counted (sout.placed done.2 x)),
+      done.1,
+    )))) (second o)
+put-live o t n None m code k = tt
+put-live o t n (Some x) m code k =
+    put-on o (sout.put_by t.files m x code)
+    (λ done. with_stream (record t { files = done.0 }) n (sout.counted (sout.placed done.2 x)))
+    (put-by-if o (is_write_mode x.mode) (sout.put_in x.target x.unicode t.files m x.place code)
+    (ok-put_in o x.target x.unicode t.files m x.place code k))
+
+-- ---- characters of a call
+
+kept-put : (b : GlkCall) (rs : List WindowInput) (g : Glk) (m : MemoryMap)
+    (r : Result (StreamTable × MemoryMap) StreamStop) → Puts b rs g m
+    → (AreValid g → of_streams.LeavesBeside r) → IfOk r (second b.memory)
+    → Kept b (puts b rs) (within g (numbered r) >>= (λ p. Ok (record g { streams = p.0 }, p.1)))
+kept-put b rs g m (Ok p) k l h = record {
+  keeps = record {
+    parts = λ v. with-streams g p.0 (k.keeps.parts v)
+        (l (k.keeps.parts v));
+    map = h;
+    stack = k.keeps.stack;
+  };
+  asked = k.asked;
+}
+kept-put b rs g m (Err e) k l h = k.keeps.parts
+
+kept-streamed : (b : GlkCall) (rs : List WindowInput) (g : Glk) (m : MemoryMap) (n code : ℕ)
+    → Puts b rs g m → Kept b (puts b rs) (out.streamed g m n code)
+kept-streamed b rs g m n code k =
+    kept-put b rs g m (sout.put g.streams m n code) k
+    (λ v. (laws.streams g.streams v.streams).write m n code)
+    (put-live b.memory g.streams n (stream_at g.streams n) m code k.keeps.map)
+
+shown-valid : (g : Glk) (win style code : ℕ) → AreValid g → AreValid (out.shown g win style code)
+shown-valid g win style code v = record {
+  windows = laws.windows.put g.windows win code style v.windows;
+  streams = v.streams;
+  requests = v.requests;
+  next = v.next;
+}
+
+-- another Glk state with the same requests
+puts-in : (b : GlkCall) (rs : List WindowInput) (g h : Glk) (m : MemoryMap)
+    → (AreValid g → AreValid h)
+    → h.requests ≡ g.requests → Puts b rs g m → Puts b rs h m
+puts-in b rs g h m f e k = record {
+  keeps = record { parts = λ v. f (k.keeps.parts v); map = k.keeps.map; stack = k.keeps.stack };
+  asked = e ∙ k.asked;
+}
+
+kept-put_once : (b : GlkCall) (rs : List WindowInput) (g : Glk) (m : MemoryMap) (n style code : ℕ)
+    → Puts b rs g m
+    → Kept b (puts b rs) (out.put_once g m n style code)
+kept-put_once b rs g m n style code k =
+    kept-if b (puts b rs) (window_of g n == 0) _ _ (λ e. kept-streamed b rs g m n code k)
+    (λ e. kept-if b (puts b rs) (nat_le MAX_PRINTED g.printed) _ _ (λ f. k.keeps.parts)
+    (λ f. kept-streamed b rs (out.shown g (window_of g n) style code) m n code
+    (puts-in b rs g _ m (shown-valid g (window_of g n) style code) refl k)))
+
+kept-spread : (b : GlkCall) (rs : List WindowInput) (steps : ℕ) (g : Glk) (m : MemoryMap)
+    (n code : ℕ)
+    → Puts b rs g m
+    → Kept b (puts b rs) (out.spread steps g m n code)
 unfolding out.spread
-kept-spread laws zero g m n code v = v
-kept-spread laws (suc steps) g m n code v =
-    kept-if first_of (n == 0) _ _ (λ e. v)
-    (λ e. kept-bind first_of first_of (out.put_once g m n (style_of g n) code) (λ p. out.spread steps p.0 p.1 (out.echo_from p.0 n) code)
-    (kept-put_once laws g m n (style_of g n) code v) (λ p w. kept-spread laws steps p.0 p.1 (out.echo_from p.0 n) code w))
+kept-spread b rs zero g m n code k = k
+kept-spread b rs (suc steps) g m n code k =
+    kept-if b (puts b rs) (n == 0) _ _ (λ e. k)
+    (λ e. kept-bind b (puts b rs) (puts b rs) (out.put_once g m n (style_of g n) code)
+    (λ p. out.spread steps p.0 p.1 (out.echo_from p.0 n) code)
+    (kept-put_once b rs g m n (style_of g n) code k)
+    (λ p h. kept-spread b rs steps p.0 p.1 (out.echo_from p.0 n) code h))
 
-pub kept-put_code : Parts → (g : Glk) (m : MemoryMap) (n code : ℕ) → AreValid g → Kept first_of (out.put_code g m n code)
-kept-put_code laws g m n code v = kept-spread laws (length (charged g).windows.slots + 1) (charged g) m n code (charged-valid g v)
+pub kept-spread_all : (b : GlkCall) (rs : List WindowInput) (g : Glk) (m : MemoryMap) (n code : ℕ)
+    → Puts b rs g m
+    → Kept b (puts b rs) (out.spread_all g m n code)
+kept-spread_all b rs g m n code k = kept-spread b rs (length g.windows.slots + 1) g m n code k
 
-pub kept-put_item : Parts → (u : Bool) (g : Glk) (m : MemoryMap) (n at : ℕ) → AreValid g → Kept first_of (out.put_item u g m n at)
-kept-put_item laws u g m n at v =
-    kept-within first_of g (out.code_at u m at) (λ code. out.put_code g m n code) v (λ code. kept-put_code laws g m n code v)
+kept-put_code : (b : GlkCall) (rs : List WindowInput) (g : Glk) (m : MemoryMap) (n code : ℕ)
+    → Puts b rs g m → Kept b (puts b rs) (out.put_code g m n code)
+kept-put_code b rs g m n code k = kept-spread_all b rs (charged g) m n code
+    (puts-in b rs g _ m (charged-valid g) refl k)
 
-pub kept-put_array : Parts → (count : ℕ) (u : Bool) (g : Glk) (m : MemoryMap) (n at : ℕ) → AreValid g → Kept first_of (out.put_array count u g m n at)
+kept-put_array : (b : GlkCall) (rs : List WindowInput) (count : ℕ) (u : Bool) (g : Glk)
+    (m : MemoryMap)
+    (n at : ℕ) → Puts b rs g m
+    → Kept b (puts b rs) (out.put_array count u g m n at)
 unfolding out.put_array
-kept-put_array laws zero u g m n at v = v
-kept-put_array laws (suc count) u g m n at v =
-    kept-bind first_of first_of (out.put_item u g m n at) (λ p. out.put_array count u p.0 p.1 n ((at + width u) % 2 ^ 32))
-    (kept-put_item laws u g m n at v) (λ p w. kept-put_array laws count u p.0 p.1 n ((at + width u) % 2 ^ 32) w)
+kept-put_array b rs zero u g m n at k = k
+kept-put_array b rs (suc count) u g m n at k =
+    kept-bind b (puts b rs) (puts b rs) (out.put_item u g m n at)
+    (λ p. out.put_array count u p.0 p.1 n ((at + width u) % 2 ^ 32))
+    (kept-read b (puts b rs) g (out.code_at u m at) (λ code. out.put_code g m n code) k.keeps.parts
+    (λ code. kept-put_code b rs g m n code k))
+    (λ p h. kept-put_array b rs count u p.0 p.1 n ((at + width u) % 2 ^ 32) h)
 
-pub kept-put_text : Parts → (count : ℕ) (u : Bool) (g : Glk) (m : MemoryMap) (n at : ℕ) → AreValid g → Kept first_of (out.put_text count u g m n at)
+kept-put_text : (b : GlkCall) (rs : List WindowInput) (count : ℕ) (u : Bool) (g : Glk)
+    (m : MemoryMap)
+    (n at : ℕ) → Puts b rs g m
+    → Kept b (puts b rs) (out.put_text count u g m n at)
 unfolding out.put_text
-kept-put_text laws zero u g m n at v = v
-kept-put_text laws (suc count) u g m n at v =
-    kept-within first_of g (out.code_at u m at) _ v
-    (λ code. kept-if first_of (code == 0) _ _ (λ e. v)
-    (λ e. kept-bind first_of first_of (out.put_code g m n code) (λ p. out.put_text count u p.0 p.1 n ((at + width u) % 2 ^ 32))
-    (kept-put_code laws g m n code v) (λ p w. kept-put_text laws count u p.0 p.1 n ((at + width u) % 2 ^ 32) w)))
+kept-put_text b rs zero u g m n at k = k.keeps.parts
+kept-put_text b rs (suc count) u g m n at k =
+    kept-read b (puts b rs) g (out.code_at u m at) _ k.keeps.parts
+    (λ code. kept-if b (puts b rs) (code == 0) _ _ (λ e. k)
+    (λ e. kept-bind b (puts b rs) (puts b rs) (out.put_code g m n code)
+    (λ p. out.put_text count u p.0 p.1 n ((at + width u) % 2 ^ 32))
+    (kept-put_code b rs g m n code k)
+    (λ p h. kept-put_text b rs count u p.0 p.1 n ((at + width u) % 2 ^ 32) h)))
 
-pub kept-put_string : Parts → (u : Bool) (g : Glk) (m : MemoryMap) (n at : ℕ) → AreValid g → Kept first_of (out.put_string u g m n at)
-kept-put_string laws u g m n at v =
-    kept-within first_of g (out.text_start u m at) _ v (λ from. kept-put_text laws (length m.bytes + 1) u g m n from v)
+kept-put_string : (b : GlkCall) (rs : List WindowInput) (u : Bool) (g : Glk) (m : MemoryMap)
+    (n at : ℕ)
+    → Puts b rs g m
+    → Kept b (puts b rs) (out.put_string u g m n at)
+kept-put_string b rs u g m n at k =
+    kept-read b (puts b rs) g (out.text_start u m at) _ k.keeps.parts
+    (λ from. kept-put_text b rs (length m.bytes + 1) u g m n from k)
 
-pub kept-echo_put : Parts → (g : Glk) (m : MemoryMap) (n style code : ℕ) → AreValid g → Kept first_of (out.echo_put g m n style code)
+pub kept-echo_put : (b : GlkCall) (rs : List WindowInput) (g : Glk) (m : MemoryMap)
+    (n style code : ℕ)
+    → Puts b rs g m
+    → Kept b (puts b rs) (out.echo_put g m n style code)
 unfolding out.echo_put
-kept-echo_put laws g m n style code v =
-    kept-bind first_of first_of (out.put_once g m n style code) (λ p. out.spread_all p.0 p.1 (out.echo_from p.0 n) code)
-    (kept-put_once laws g m n style code v) (λ p w. kept-spread laws (length p.0.windows.slots + 1) p.0 p.1 (out.echo_from p.0 n) code w)
+kept-echo_put b rs g m n style code k =
+    kept-bind b (puts b rs) (puts b rs) (out.put_once g m n style code)
+    (λ p. out.spread_all p.0 p.1 (out.echo_from p.0 n) code)
+    (kept-put_once b rs g m n style code k)
+    (λ p h. kept-spread_all b rs p.0 p.1 (out.echo_from p.0 n) code h)
 
-kept-puts : (s : Desk) (r : Reached (Glk × MemoryMap)) → Kept first_of r → Kept desk_of (out.puts s r)
-kept-puts s r h = kept-bind first_of desk_of r (λ p. gives 0 (record s { glk = p.0; memory = p.1 })) h (λ p v. v)
+row : (s : GlkCall) (r : Reached (Glk × MemoryMap))
+    → (Puts s s.glk.requests s.glk s.memory → Kept s (puts s s.glk.requests) r)
+    → Kept s (on s) (out.puts s r)
+row s r h = kept-puts s s.glk.requests r 0 (h (begins-puts s s.glk (λ v. v)))
 
-pub kept-output_work : Parts → (c : OutputCall) (s : Desk) (l : ℕ → ℕ) → AreValid s.glk → Kept desk_of (out.output_work c s l)
+pub kept-output_work : (c : OutputCall) (s : GlkCall) (l : ℕ → ℕ)
+    → Kept s (on s) (out.output_work c s l)
 unfolding out.output_work
-kept-output_work laws (PutChar u) s l v = kept-puts s _ (kept-put_code laws s.glk s.memory (out.current s) (out.char_of u (l 0)) v)
-kept-output_work laws (PutCharStream u) s l v =
-    kept-needs desk_of s.glk (is_stream s.glk (l 0)) 21 _ v (λ e. kept-puts s _ (kept-put_code laws s.glk s.memory (l 0) (out.char_of u (l 1)) v))
-kept-output_work laws (PutString u) s l v = kept-puts s _ (kept-put_string laws u s.glk s.memory (out.current s) (l 0) v)
-kept-output_work laws (PutStringStream u) s l v =
-    kept-needs desk_of s.glk (is_stream s.glk (l 0)) 21 _ v (λ e. kept-puts s _ (kept-put_string laws u s.glk s.memory (l 0) (l 1) v))
-kept-output_work laws (PutBuffer u) s l v = kept-puts s _ (kept-put_array laws (l 1) u s.glk s.memory (out.current s) (l 0) v)
-kept-output_work laws (PutBufferStream u) s l v =
-    kept-needs desk_of s.glk (is_stream s.glk (l 0)) 21 _ v (λ e. kept-puts s _ (kept-put_array laws (l 2) u s.glk s.memory (l 0) (l 1) v))
+kept-output_work (PutChar u) s l = row s _
+    (kept-put_code s s.glk.requests s.glk s.memory (out.current s) (out.char_of u (l 0)))
+kept-output_work (PutCharStream u) s l =
+    row-needs s (on s) (is_stream s.glk (l 0)) 21 _
+    (λ e. row s _ (kept-put_code s s.glk.requests s.glk s.memory (l 0) (out.char_of u (l 1))))
+kept-output_work (PutString u) s l = row s _
+    (kept-put_string s s.glk.requests u s.glk s.memory (out.current s) (l 0))
+kept-output_work (PutStringStream u) s l =
+    row-needs s (on s) (is_stream s.glk (l 0)) 21 _
+    (λ e. row s _ (kept-put_string s s.glk.requests u s.glk s.memory (l 0) (l 1)))
+kept-output_work (PutBuffer u) s l = row s _
+    (kept-put_array s s.glk.requests (l 1) u s.glk s.memory (out.current s) (l 0))
+kept-output_work (PutBufferStream u) s l =
+    row-needs s (on s) (is_stream s.glk (l 0)) 21 _
+    (λ e. row s _ (kept-put_array s s.glk.requests (l 2) u s.glk s.memory (l 0) (l 1)))

@@ -3,8 +3,6 @@ pub mod KeptLemmas
 pub mod KeptOutput
 pub mod KeptWindows
 pub mod KeptStreams
+pub mod KeptEvents
 pub mod KeptCalls
-pub mod KeepingLemmas
-pub mod KeepingOutput
-pub mod KeepingCalls
 pub mod StandardFacts

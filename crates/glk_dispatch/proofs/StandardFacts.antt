@@ -5,7 +5,8 @@ use Rattle.glk_dispatch.specs.Case.{lower, upper}
 use Rattle.glk_dispatch.specs.Events.{words_of}
 use Rattle.glk_dispatch.specs.Gestalt.{gestalt}
 use Rattle.glk_dispatch.specs.Reference.{next_field}
-use Rattle.glk_dispatch.specs.Selector.{base_calls, call_of, case_calls, event_calls, fileref_calls, output_calls, stream_calls, style_calls, window_calls}
+use Rattle.glk_dispatch.specs.Selector.{base_calls, call_of, case_calls, event_calls, fileref_calls}
+use Rattle.glk_dispatch.specs.Selector.{output_calls, stream_calls, style_calls, window_calls}
 use Rattle.glk_dispatch.specs.declared.events.EventCall.TheVariants.{RequestLine}
 use Rattle.glk_dispatch.specs.declared.events.TheConstants.{INPUT, MAX_INITIAL, NEWLINE}
 use Rattle.glk_dispatch.specs.declared.output.TheConstants.{MAX_PRINTED}
@@ -56,5 +57,6 @@ event = refl
 pub selectors : map call_of (0x30 ∷ 0x12D ∷ 0x141 ∷ 0xF8 ∷ 0x99 ∷ [])
     ≡ Some (Window GetSibling, Some 1) ∷ Some (Output (PutBufferStream true), Some 3)
     ∷ Some (Event (RequestLine true), Some 4) ∷ Some (Nothing, None) ∷ None ∷ []
-unfolding base_calls window_calls stream_calls fileref_calls output_calls style_calls case_calls event_calls
+unfolding base_calls window_calls stream_calls fileref_calls output_calls style_calls case_calls
+    event_calls
 selectors = refl

@@ -8,13 +8,13 @@ use Rattle.vm_stack.specs.StackState.{StackState}
 use Rattle.glk_dispatch.specs.declared.glk.Glk.{Glk}
 
 -- what a call works on
-pub record Desk : Type 0 where
+pub record GlkCall : Type 0 where
   pub glk : Glk
   pub memory : MemoryMap
   pub stack : StackState
 
-abbrev pub desk : Glk → MemoryMap → StackState → Desk
-desk g m s = record { glk = g; memory = m; stack = s }
+abbrev pub glk_call : Glk → MemoryMap → StackState → GlkCall
+glk_call g m s = record { glk = g; memory = m; stack = s }
 
 -- a value, or a fault with the Glk state that was reached
 abbrev pub Reached : Type 0 → Type 0
@@ -22,7 +22,7 @@ Reached A = Result A (Glk × ℕ)
 
 -- what a call does: the new state and its answer, or a fault
 abbrev pub Rule : Type 0 → Type 0
-Rule A = Reached (Desk × A)
+Rule A = Reached (GlkCall × A)
 
 -- what is done with a value, unless there is none
 infixl 10 ◌>>=◌
@@ -43,15 +43,15 @@ needs g holds n rest = if holds then rest else Err (g, n)
 abbrev pub Done : {A : Type 0} → A → Reached A
 Done x = Ok x
 
--- a call that reaches the Glk state alone, on the desk
-abbrev pub alone : {A : Type 0} → Desk → Reached (Glk × A) → Rule A
+-- a step that reaches the Glk state alone, in a call
+abbrev pub alone : {A : Type 0} → GlkCall → Reached (Glk × A) → Rule A
 alone s done = done >>= (λ p. Ok (record s { glk = p.0 }, p.1))
 
 -- The call answered this and left these, as it should, unless memory ran out. After a fault
 -- nothing is said of memory and stack.
 abbrev pub Does : {A : Type 0} → Rule A → Glk → MemoryMap → StackState → Result A Trap
     → Type 0
-Does should g m s (Ok x) = should ≡ Ok (desk g m s, x)
+Does should g m s (Ok x) = should ≡ Ok (glk_call g m s, x)
 Does should g m s (Err (Fault n)) = should ≡ Err (g, n)
 Does should g m s (Err NoMemory) = Unit {0}
 

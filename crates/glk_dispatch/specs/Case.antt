@@ -5,7 +5,7 @@ use Rattle.std.specs.Prelude.{Bool, if◌then◌else◌, Result, Ok, Err}
 use Rattle.vm_memory.specs.MemoryMap.{MemoryMap}
 use Rattle.vm_memory.specs.Access.{read, written}
 use Rattle.vm_memory.specs.Fault.{coded}
-use Rattle.glk_dispatch.specs.Answer.{Desk, Reached, Rule, ◌>>=◌, within}
+use Rattle.glk_dispatch.specs.Answer.{GlkCall, Reached, Rule, ◌>>=◌, within}
 use Rattle.glk_dispatch.specs.Glk.{charged}
 use Rattle.glk_dispatch.specs.Reference.{gives}
 use Rattle.glk_dispatch.specs.declared.called.Called.{Called}
@@ -60,14 +60,14 @@ abbrev pub checked : ℕ → ℕ → Result (Unit {0}) ℕ
 checked len n = if nat_le n len then Ok tt else Err 22
 
 -- the call answers n
-abbrev pub cases : Desk → ℕ → ℕ → Reached (Glk × MemoryMap) → Rule Called
+abbrev pub cases : GlkCall → ℕ → ℕ → Reached (Glk × MemoryMap) → Rule Called
 cases s len n done =
     within s.glk (checked len n)
     >>= (λ _. done) >>= (λ p. gives n (record s { glk = p.0; memory = p.1 }))
 
 -- glk_char_to_lower ch · glk_buffer_to_lower_case_uni buf, len, n · .._title_case_uni buf, len,
 -- n, lowerrest
-unfoldable pub case_work : CaseCall → Desk → (ℕ → ℕ) → Rule Called
+unfoldable pub case_work : CaseCall → GlkCall → (ℕ → ℕ) → Rule Called
 case_work CharToLower s l = gives (lower (l 0)) s
 case_work CharToUpper s l = gives (upper (l 0)) s
 case_work BufferToLower s l = cases s (l 1) (l 2) (words_cased (l 2) Lower s.glk s.memory (l 0))

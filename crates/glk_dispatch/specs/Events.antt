@@ -1,6 +1,6 @@
 -- Events and input (Glk 0.7.5, "Events", "Line Input Events", "Character Input Events").
 use Rattle.std.specs.Prelude.{ℕ, zero, suc, ◌+◌, ◌%◌, ◌^◌, ◌==◌, ◌||◌}
-use Rattle.std.specs.Prelude.{◌&&◌, not, nat_le, Bool}
+use Rattle.std.specs.Prelude.{◌&&◌, not, nat_le, Bool, true}
 use Rattle.std.specs.Prelude.{if◌then◌else◌, List, [], ◌∷◌, ◌++◌, Option, Some}
 use Rattle.std.specs.Prelude.{None}
 use Rattle.std.specs.Prelude.{Result, Ok}
@@ -18,7 +18,7 @@ use Rattle.glk_input.specs.declared.request.LineRequest.{LineRequest}
 use Rattle.glk_input.specs.declared.request.Request.{Request}
 use Rattle.glk_input.specs.declared.request.WindowInput.{WindowInput}
 use Rattle.glk_input.specs.declared.request.Request.TheVariants.{Line, Char}
-use Rattle.glk_dispatch.specs.Answer.{Desk, Done, Reached, Rule, ◌>>=◌, alone, within}
+use Rattle.glk_dispatch.specs.Answer.{GlkCall, Done, Reached, Rule, ◌>>=◌, alone, within}
 use Rattle.glk_dispatch.specs.FileRefs.{prompted}
 use Rattle.glk_dispatch.specs.Glk.{takes, window}
 use Rattle.glk_dispatch.specs.Output.{code_at, echo_put}
@@ -42,7 +42,7 @@ abbrev pub leaves : Glk → List WindowInput → Reached (Glk × Called)
 leaves g requests = Ok (record g { requests = requests }, Value 0)
 
 -- glk_select &event: the turn ends, and the event comes with the next input
-abbrev pub selects : Desk → ℕ → Rule Called
+abbrev pub selects : GlkCall → ℕ → Rule Called
 selects s event = Ok (record s { glk = record s.glk { event = event } }, Wait)
 
 -- a buffer or a grid
@@ -111,7 +111,7 @@ initial_echoed (Some (Char unicode)) g m win = Ok (g, m)
 initial_echoed (Some (Line r)) g m win = line_begun r g m win
 
 -- glk_cancel_line_event win, &event
-abbrev pub cancels_line : Desk → ℕ → ℕ → Rule Called
+abbrev pub cancels_line : GlkCall → ℕ → ℕ → Rule Called
 cancels_line s win event =
     let asked = request.request_of s.glk.requests win in
     let g = record s.glk { requests = request.changed request.without_line s.glk.requests win } in
@@ -134,7 +134,7 @@ terminators_set g m win keys count =
     >>= (λ list. leaves g (request.changed (request.with_keys list)
     (request.with_window g.requests win) win))))
 
-unfoldable pub event_work : EventCall → Desk → (ℕ → ℕ) → Rule Called
+unfoldable pub event_work : EventCall → GlkCall → (ℕ → ℕ) → Rule Called
 event_work Select s l = selects s (l 0)
 event_work SelectPoll s l = refers_all s (l 0) (0 ∷ 0 ∷ 0 ∷ 0 ∷ []) >>= gives 0
 event_work (RequestLine unicode) s l =
@@ -166,6 +166,12 @@ input_echoed g m (input.Line win text key) =
 input_echoed g m (input.Char win code) = Ok (g, m)
 input_echoed g m (input.File name) = Ok (g, m)
 
+-- an input that a call may wait for: what a window asks for, or the name of a file
+abbrev pub is_awaited : List WindowInput → Input → Bool
+is_awaited ws (input.Line win text key) = delivery.wants ws (input.Line win text key)
+is_awaited ws (input.Char win code) = delivery.wants ws (input.Char win code)
+is_awaited ws (input.File name) = true
+
 -- the input goes to its request
 abbrev pub request_over : Glk → Input → Glk
 request_over g i = record g { requests = delivery.answered g.requests i }
@@ -177,7 +183,7 @@ delivered g m i =
 
 -- the input is shown, delivered, and its event told where glk_select waits for it; that call
 -- answers 0
-abbrev pub event_answered : Desk → Input → Rule ℕ
+abbrev pub event_answered : GlkCall → Input → Rule ℕ
 event_answered s i =
     input_echoed s.glk s.memory i
     >>= (λ p. delivered p.0 p.1 i)
@@ -185,7 +191,7 @@ event_answered s i =
     >>= (λ t. Ok (t, 0))
 
 -- what an input that is waited for does, and the answer of the call that waited
-abbrev pub answered : Desk → Input → Rule ℕ
+abbrev pub answered : GlkCall → Input → Rule ℕ
 answered s (input.Line win text key) = event_answered s (input.Line win text key)
 answered s (input.Char win code) = event_answered s (input.Char win code)
 answered s (input.File name) = alone s (Done (prompted s.glk name))

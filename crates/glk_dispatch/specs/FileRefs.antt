@@ -11,7 +11,7 @@ use Rattle.glk_streams.specs.Streams as table
 use Rattle.glk_streams.specs.FileRefs as refs
 use Rattle.glk_streams.specs.Files.{has_file}
 use Rattle.glk_streams.specs.Names.{cleaned, temporary}
-use Rattle.glk_dispatch.specs.Answer.{Desk, Reached, Rule, ◌>>=◌, within}
+use Rattle.glk_dispatch.specs.Answer.{GlkCall, Reached, Rule, ◌>>=◌, within}
 use Rattle.glk_dispatch.specs.Fault.{numbered}
 use Rattle.glk_dispatch.specs.Glk.{charged, fref, fref_or_none, ref_rock}
 use Rattle.glk_dispatch.specs.Output.{text_start}
@@ -45,7 +45,7 @@ name_at g m at =
 abbrev pub referred : Glk → table.StreamTable × ℕ → Glk × ℕ
 referred g made = (record g { streams = made.0 }, made.1)
 
-abbrev pub answers : Desk → Glk × ℕ → Rule Called
+abbrev pub answers : GlkCall → Glk × ℕ → Rule Called
 answers s made = gives made.1 (record s { glk = made.0 })
 
 -- a reference to the file with this name, as it is cleaned
@@ -62,7 +62,7 @@ abbrev pub named_made : Glk → MemoryMap → ℕ → ℕ → ℕ → Reached (G
 named_made g m usage name rock = name_at g m name >>= (λ p. Ok (named p.0 usage p.1 rock))
 
 -- glk_fileref_create_by_prompt usage, mode, rock: the turn ends, and the name is the next input
-abbrev pub prompts : Desk → ℕ → ℕ → ℕ → Rule Called
+abbrev pub prompts : GlkCall → ℕ → ℕ → ℕ → Rule Called
 prompts s usage mode rock =
     Ok (
       record s {
@@ -84,7 +84,7 @@ prompted g name =
     else named g g.prompt.usage name g.prompt.rock)
 
 -- glk_fileref_iterate fref or 0, &rock
-abbrev pub iterates : Desk → ℕ → ℕ → Rule Called
+abbrev pub iterates : GlkCall → ℕ → ℕ → Rule Called
 iterates s n rock =
     let next = after table.ref_number_of s.glk.streams.refs n in
     fref_or_none s.glk n (refers s rock (ref_rock s.glk next) >>= gives next)
@@ -105,7 +105,7 @@ dropped g n = left g (refs.dropped_ref g.streams n)
 abbrev pub deleted : Glk → ℕ → Reached Glk
 deleted g n = left g (refs.deleted g.streams n)
 
-unfoldable pub fileref_work : FileRefCall → Desk → (ℕ → ℕ) → Rule Called
+unfoldable pub fileref_work : FileRefCall → GlkCall → (ℕ → ℕ) → Rule Called
 fileref_work CreateTemp s l = answers s (temp_made s.glk (l 0) (l 1))
 fileref_work CreateByName s l = makes s (named_made s.glk s.memory (l 0) (l 1) (l 2))
 fileref_work CreateByPrompt s l = prompts s (l 0) (l 1) (l 2)

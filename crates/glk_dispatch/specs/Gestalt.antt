@@ -4,7 +4,7 @@ use Rattle.std.specs.Prelude.{if◌then◌else◌, Ok}
 use Rattle.glk_input.specs.Keycode.{is_keycode, is_terminator}
 use Rattle.vm_memory.specs.Access.{written}
 use Rattle.vm_memory.specs.Fault.{coded}
-use Rattle.glk_dispatch.specs.Answer.{Desk, Reached, Rule, ◌>>=◌, within}
+use Rattle.glk_dispatch.specs.Answer.{GlkCall, Reached, Rule, ◌>>=◌, within}
 use Rattle.glk_dispatch.specs.Reference.{gives}
 use Rattle.glk_dispatch.specs.declared.called.Called.{Called}
 use Rattle.glk_dispatch.specs.declared.called.Called.TheVariants as called
@@ -33,18 +33,18 @@ gestalt selector value =
     else (if selector == 19 then one_if (is_terminator value) else 0)))))
 
 -- a word at the start of an array, which is a plain address; nowhere for 0
-abbrev pub array_begun : Desk → ℕ → ℕ → Reached Desk
+abbrev pub array_begun : GlkCall → ℕ → ℕ → Reached GlkCall
 array_begun s array x =
     if array == 0 then Ok s
     else within s.glk (coded (written 4 s.memory array x)) >>= (λ m. Ok (record s { memory = m }))
 
 -- glk_gestalt_ext sel, val, array, len: a character is printed as one
-abbrev pub gestalt_told : Desk → ℕ → ℕ → ℕ → ℕ → Rule Called
+abbrev pub gestalt_told : GlkCall → ℕ → ℕ → ℕ → ℕ → Rule Called
 gestalt_told s selector value array len =
     (if selector == 3 && not (len == 0) then array_begun s array 1 else Ok s)
     >>= gives (gestalt selector value)
 
-unfoldable pub base_work : BaseCall → Desk → (ℕ → ℕ) → Rule Called
+unfoldable pub base_work : BaseCall → GlkCall → (ℕ → ℕ) → Rule Called
 base_work Exit s l = Ok (s, called.Exit)
 base_work SetInterruptHandler s l = gives 0 s
 base_work Tick s l = gives 0 s

@@ -4,7 +4,7 @@ use Rattle.glk_windows.specs.Valid as windows
 use Rattle.glk_streams.specs.Laws as streams
 use Rattle.glk_input.specs.Valid as requests
 use Rattle.glk_input.specs.declared.input.Input.{Input}
-use Rattle.glk_dispatch.specs.Answer.{Desk, Reached}
+use Rattle.glk_dispatch.specs.Answer.{GlkCall, Reached}
 use Rattle.glk_dispatch.specs.Call.{called}
 use Rattle.glk_dispatch.specs.Events.{answered}
 use Rattle.glk_dispatch.specs.Glk.{fresh, turn_begun}
@@ -27,6 +27,6 @@ Kept of (Err e) = AreValid e.0
 pub record PartsStayValid : Type 0 where
   pub new : (cols rows : ℕ) → AreValid (fresh cols rows)
   pub begun : (g : Glk) → AreValid g → AreValid (turn_begun g)
-  pub called : (s : Desk) (selector given : ℕ) → AreValid s.glk
+  pub called : (s : GlkCall) (selector given : ℕ) → AreValid s.glk
       → Kept (λ p. p.0.glk) (called s selector given)
-  pub answered : (s : Desk) (i : Input) → AreValid s.glk → Kept (λ p. p.0.glk) (answered s i)
+  pub answered : (s : GlkCall) (i : Input) → AreValid s.glk → Kept (λ p. p.0.glk) (answered s i)

@@ -9,7 +9,7 @@ use Rattle.glk_windows.specs.Output as windows
 use Rattle.glk_windows.specs.Reading.{echo_of}
 use Rattle.glk_streams.specs.Output as streams
 use Rattle.glk_input.specs.Delivery.{width}
-use Rattle.glk_dispatch.specs.Answer.{Desk, Reached, Rule, ◌>>=◌, within}
+use Rattle.glk_dispatch.specs.Answer.{GlkCall, Reached, Rule, ◌>>=◌, within}
 use Rattle.glk_dispatch.specs.Fault.{numbered}
 use Rattle.glk_dispatch.specs.Glk.{charged, stream, style_of, window_of}
 use Rattle.glk_dispatch.specs.Reference.{gives}
@@ -114,15 +114,15 @@ echo_put g m n style code =
     put_once g m n style code >>= (λ p. spread_all p.0 p.1 (echo_from p.0 n) code)
 
 -- the call answers 0
-abbrev pub puts : Desk → Reached (Glk × MemoryMap) → Rule Called
+abbrev pub puts : GlkCall → Reached (Glk × MemoryMap) → Rule Called
 puts s done = done >>= (λ p. gives 0 (record s { glk = p.0; memory = p.1 }))
 
 -- the current stream, or none
-abbrev pub current : Desk → ℕ
+abbrev pub current : GlkCall → ℕ
 current s = s.glk.streams.current
 
 -- glk_put_char ch · glk_put_string s · glk_put_buffer buf, len; _stream: str first; _uni
-unfoldable pub output_work : OutputCall → Desk → (ℕ → ℕ) → Rule Called
+unfoldable pub output_work : OutputCall → GlkCall → (ℕ → ℕ) → Rule Called
 output_work (PutChar unicode) s l =
     puts s (put_code s.glk s.memory (current s) (char_of unicode (l 0)))
 output_work (PutCharStream unicode) s l =

@@ -8,7 +8,7 @@ use Rattle.vm_memory.specs.Access.{written}
 use Rattle.vm_memory.specs.Fault.{coded}
 use Rattle.vm_stack.specs.StackState.{StackState}
 use Rattle.vm_stack.specs.Values.{pushed}
-use Rattle.glk_dispatch.specs.Answer.{Desk, Reached, Rule, ◌>>=◌, within}
+use Rattle.glk_dispatch.specs.Answer.{GlkCall, Reached, Rule, ◌>>=◌, within}
 use Rattle.glk_dispatch.specs.Fault.{stacked}
 use Rattle.glk_dispatch.specs.declared.called.Called.{Called}
 use Rattle.glk_dispatch.specs.declared.called.Called.TheVariants.{Value}
@@ -33,17 +33,17 @@ referred_all m s at [] = Ok (m, s)
 referred_all m s at (x ∷ xs) =
     referred m s at x >>= (λ p. referred_all p.0 p.1 (next_field at) xs)
 
--- the same on the desk
-abbrev pub refers : Desk → ℕ → ℕ → Reached Desk
+-- the same in a call
+abbrev pub refers : GlkCall → ℕ → ℕ → Reached GlkCall
 refers s at x =
     within s.glk (referred s.memory s.stack at x)
     >>= (λ p. Ok (record s { memory = p.0; stack = p.1 }))
 
-abbrev pub refers_all : Desk → ℕ → List ℕ → Reached Desk
+abbrev pub refers_all : GlkCall → ℕ → List ℕ → Reached GlkCall
 refers_all s at xs =
     within s.glk (referred_all s.memory s.stack at xs)
     >>= (λ p. Ok (record s { memory = p.0; stack = p.1 }))
 
 -- the call answers this number
-abbrev pub gives : ℕ → Desk → Rule Called
+abbrev pub gives : ℕ → GlkCall → Rule Called
 gives x s = Ok (s, Value x)

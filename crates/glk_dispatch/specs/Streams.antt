@@ -14,7 +14,7 @@ use Rattle.glk_streams.specs.declared.opening.Counts.{Counts}
 use Rattle.glk_streams.specs.declared.fault.StreamStop.{StreamStop}
 use Rattle.std.specs.Prelude.{Result}
 use Rattle.glk_input.specs.Delivery.{taken, width}
-use Rattle.glk_dispatch.specs.Answer.{Desk, Reached, Rule, ◌>>=◌, within}
+use Rattle.glk_dispatch.specs.Answer.{GlkCall, Reached, Rule, ◌>>=◌, within}
 use Rattle.glk_dispatch.specs.Fault.{numbered}
 use Rattle.glk_dispatch.specs.Glk.{charged, stream, stream_or_none, stream_rock}
 use Rattle.glk_dispatch.specs.Output.{code_written}
@@ -39,14 +39,14 @@ abbrev pub left : Glk → Result table.StreamTable StreamStop → Reached Glk
 left g new = within g (numbered new) >>= (λ t. Ok (record g { streams = t }))
 
 -- the call answers the value, or 0
-abbrev pub makes : Desk → Reached (Glk × ℕ) → Rule Called
+abbrev pub makes : GlkCall → Reached (Glk × ℕ) → Rule Called
 makes s new = new >>= (λ p. gives p.1 (record s { glk = p.0 }))
 
-abbrev pub leaves : Desk → Reached Glk → Rule Called
+abbrev pub leaves : GlkCall → Reached Glk → Rule Called
 leaves s new = new >>= (λ g. gives 0 (record s { glk = g }))
 
 -- glk_stream_iterate str or 0, &rock
-abbrev pub iterates : Desk → ℕ → ℕ → Rule Called
+abbrev pub iterates : GlkCall → ℕ → ℕ → Rule Called
 iterates s n rock =
     let next = after table.number_of s.glk.streams.streams n in
     stream_or_none s.glk n (refers s rock (stream_rock s.glk next) >>= gives next)
@@ -58,7 +58,7 @@ closed g n =
     >>= (λ p. Ok (record p.0 { windows = windows.echo_ended g.windows n }, p.1))
 
 -- glk_stream_close str, &result: read count and write count, written after the closing
-abbrev pub closes : Desk → ℕ → ℕ → Rule Called
+abbrev pub closes : GlkCall → ℕ → ℕ → Rule Called
 closes s n result =
     closed s.glk n
     >>= (λ p. refers_all (record s { glk = p.0 }) result (p.1.read ∷ p.1.written ∷ []))
@@ -156,10 +156,10 @@ line_read unicode g m n buf len =
     stream g n (if len == 0 then Ok (g, m, 0) else got_line unicode g m n buf len)
 
 -- the call answers the count
-abbrev pub gets : Desk → Reached (Glk × MemoryMap × ℕ) → Rule Called
+abbrev pub gets : GlkCall → Reached (Glk × MemoryMap × ℕ) → Rule Called
 gets s new = new >>= (λ p. gives p.2 (record s { glk = p.0; memory = p.1 }))
 
-unfoldable pub stream_work : StreamCall → Desk → (ℕ → ℕ) → Rule Called
+unfoldable pub stream_work : StreamCall → GlkCall → (ℕ → ℕ) → Rule Called
 stream_work Iterate s l = iterates s (l 0) (l 1)
 stream_work GetRock s l = stream s.glk (l 0) (gives (stream_rock s.glk (l 0)) s)
 stream_work (OpenFile unicode) s l = makes s (file_opened s.glk (l 0) (l 1) (l 2) unicode)

@@ -1,7 +1,7 @@
 -- Styles (Glk 0.7.5, "Styles").
 use Rattle.std.specs.Prelude.{ℕ, ◌==◌, if◌then◌else◌, Ok}
 use Rattle.glk_streams.specs.FileRefs as streams
-use Rattle.glk_dispatch.specs.Answer.{Desk, Reached, Rule, ◌>>=◌, within}
+use Rattle.glk_dispatch.specs.Answer.{GlkCall, Reached, Rule, ◌>>=◌, within}
 use Rattle.glk_dispatch.specs.Fault.{numbered}
 use Rattle.glk_dispatch.specs.Glk.{stream, window}
 use Rattle.glk_dispatch.specs.Reference.{gives}
@@ -18,12 +18,12 @@ styled g n style =
     else within g (numbered (streams.styled g.streams n style))
     >>= (λ t. Ok (record g { streams = t }))
 
-abbrev pub sets : Desk → ℕ → ℕ → Rule Called
+abbrev pub sets : GlkCall → ℕ → ℕ → Rule Called
 sets s n style = styled s.glk n style >>= (λ g. gives 0 (record s { glk = g }))
 
 -- glk_set_style style · glk_set_style_stream str, style · glk_stylehint_set, glk_stylehint_clear:
 -- nothing · glk_style_distinguish win, .. and glk_style_measure win, ..: 0, nothing measured
-unfoldable pub style_work : StyleCall → Desk → (ℕ → ℕ) → Rule Called
+unfoldable pub style_work : StyleCall → GlkCall → (ℕ → ℕ) → Rule Called
 style_work Set s l = sets s s.glk.streams.current (l 0)
 style_work SetStream s l = stream s.glk (l 0) (sets s (l 0) (l 1))
 style_work HintSet s l = gives 0 s

@@ -14,7 +14,7 @@ use Rattle.glk_windows.specs.Output as output
 use Rattle.glk_streams.specs.Opening as streams
 use Rattle.glk_streams.specs.FileRefs as current
 use Rattle.glk_input.specs.Request.{with_window, without_window}
-use Rattle.glk_dispatch.specs.Answer.{Desk, Reached, Rule, ◌>>=◌, alone, within}
+use Rattle.glk_dispatch.specs.Answer.{GlkCall, Reached, Rule, ◌>>=◌, alone, within}
 use Rattle.glk_dispatch.specs.Fault.{numbered}
 use Rattle.glk_dispatch.specs.Glk.{is_window, placed, takes, stream_or_none, window, window_of}
 use Rattle.glk_dispatch.specs.Glk.{window_or_none, written_to}
@@ -25,8 +25,8 @@ use Rattle.glk_dispatch.specs.declared.glk.Glk.{Glk}
 use Rattle.glk_dispatch.specs.declared.windows.WindowCall.{WindowCall}
 use Rattle.glk_dispatch.specs.declared.windows.WindowCall.TheVariants as to
 
--- the windows of a desk
-abbrev pub slots : Desk → List Window
+-- the windows that a call works on
+abbrev pub slots : GlkCall → List Window
 slots s = s.glk.windows.slots
 
 -- the call leaves this Glk state and answers 0
@@ -41,7 +41,7 @@ abbrev pub is_grid : Glk → ℕ → Bool
 is_grid g win = reading.kind_of g.windows.slots win == 4
 
 -- glk_window_iterate win or 0, &rock; the end of the list has rock 0
-abbrev pub iterates : Desk → ℕ → ℕ → Rule Called
+abbrev pub iterates : GlkCall → ℕ → ℕ → Rule Called
 iterates s win rock =
     let next = after tree.number_of (slots s) win in
     window_or_none s.glk win (refers s rock (reading.rock_of (slots s) next) >>= gives next)
@@ -87,7 +87,7 @@ opened g split method size kind rock =
     (if split == 0 then Ok (first_opened g kind rock)
     else takes g (arranging.is_method method) (Ok (beside_opened g split method size kind rock)))
 
-abbrev pub opens : Desk → (ℕ → ℕ) → Rule Called
+abbrev pub opens : GlkCall → (ℕ → ℕ) → Rule Called
 opens s l =
     alone s (opened s.glk (l 0) (l 1) (l 2) (l 3) (l 4)) >>= (λ p. gives p.1 p.0)
 
@@ -123,14 +123,14 @@ abbrev pub closed : Glk → ℕ → Glk
 closed g win = placed (ended g win)
 
 -- glk_window_close win, &result: read count, which is 0, and write count, after the closing
-abbrev pub closes : Desk → ℕ → ℕ → Rule Called
+abbrev pub closes : GlkCall → ℕ → ℕ → Rule Called
 closes s win result =
     window s.glk win
     (refers_all (record s { glk = closed s.glk win }) result
     (0 ∷ written_to s.glk (tree.stream_of (slots s) win) ∷ []) >>= gives 0)
 
 -- glk_window_get_size win, &width, &height
-abbrev pub sizes : Desk → ℕ → ℕ → ℕ → Rule Called
+abbrev pub sizes : GlkCall → ℕ → ℕ → ℕ → Rule Called
 sizes s win width height =
     window s.glk win
     (refers s width (reading.size_of (slots s) win).0
@@ -145,7 +145,7 @@ arranged g win method size key =
     (leaves (placed (record g { windows = arranging.arrange g.windows win method size key })))))))
 
 -- glk_window_get_arrangement win, &method, &size, &key
-abbrev pub tells_arrangement : Desk → ℕ → ℕ → ℕ → ℕ → Rule Called
+abbrev pub tells_arrangement : GlkCall → ℕ → ℕ → ℕ → ℕ → Rule Called
 tells_arrangement s win method size key =
     let held = reading.arrangement_of (slots s) win in
     window s.glk win (takes s.glk (is_pair s.glk win)
@@ -190,10 +190,10 @@ window_set g win =
 abbrev pub told : Glk → ℕ → ℕ → Result ℕ ℕ
 told g win value = if is_window g win then Ok value else Err 21
 
-abbrev pub tells : Desk → ℕ → ℕ → Rule Called
+abbrev pub tells : GlkCall → ℕ → ℕ → Rule Called
 tells s win value = within s.glk (told s.glk win value) >>= (λ x. gives x s)
 
-unfoldable pub window_work : WindowCall → Desk → (ℕ → ℕ) → Rule Called
+unfoldable pub window_work : WindowCall → GlkCall → (ℕ → ℕ) → Rule Called
 window_work to.Iterate s l = iterates s (l 0) (l 1)
 window_work to.GetRock s l = tells s (l 0) (reading.rock_of (slots s) (l 0))
 window_work to.GetRoot s l = gives s.glk.windows.root s

@@ -1,7 +1,7 @@
 //! Exit, ticks, and what the library can do (Glk 0.7.5, "Testing for Capabilities").
 
 ghost use Rattle.std.specs.Prelude.{◌≡◌, ◌==◌, if◌then◌else◌, slice_index, Ok};
-ghost use Rattle.glk_dispatch.specs.Answer.{Does, Writes, desk};
+ghost use Rattle.glk_dispatch.specs.Answer.{Does, Writes, glk_call};
 ghost use Rattle.glk_dispatch.specs.Gestalt as rows;
 ghost use Rattle.glk_dispatch.specs.Selector as selector;
 ghost use Rattle.vm_memory.specs.Access.{written};
@@ -73,7 +73,8 @@ fn gestalt_ext(
     array: u32,
     len: u32,
 ) -> Result<Called, Trap>
-    ensures { Does (rows.gestalt_told (desk glk.old memory.old stack.old) selector value array len)
+    ensures { Does
+        (rows.gestalt_told (glk_call glk.old memory.old stack.old) selector value array len)
         glk.new memory.new stack.new result }
 {
     if selector == 3 && len != 0 {
@@ -101,7 +102,7 @@ pub(crate) fn do_base(
     call: BaseCall,
     args: &[u32; MAX_ARGUMENTS],
 ) -> Result<Called, Trap>
-    ensures { Does (rows.base_work call (desk glk.old memory.old stack.old)
+    ensures { Does (rows.base_work call (glk_call glk.old memory.old stack.old)
         (slice_index args.now)) glk.new memory.new stack.new result }
 {
     match call {

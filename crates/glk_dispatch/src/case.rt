@@ -1,7 +1,7 @@
 //! Case (Glk 0.7.5, "Upper and Lower Case").
 
 ghost use Rattle.std.specs.Prelude.{◌≡◌, slice_index};
-ghost use Rattle.glk_dispatch.specs.Answer.{Does, Makes, Puts, desk};
+ghost use Rattle.glk_dispatch.specs.Answer.{Does, Makes, Puts, glk_call};
 ghost use Rattle.glk_dispatch.specs.Case as rows;
 ghost use Rattle.glk_dispatch.specs.Selector as selector;
 
@@ -134,7 +134,7 @@ pub(crate) fn do_case(
     call: CaseCall,
     args: &[u32; MAX_ARGUMENTS],
 ) -> Result<Called, Trap>
-    ensures { Does (rows.case_work call (desk glk.old memory.old stack.old)
+    ensures { Does (rows.case_work call (glk_call glk.old memory.old stack.old)
         (slice_index args.now)) glk.new memory.new stack.new result }
 {
     match call {

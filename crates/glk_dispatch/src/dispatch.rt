@@ -1,7 +1,7 @@
 //! A call: its selector, its arguments, its work (Glk 0.7.5, "The Dispatch Layer").
 
 ghost use Rattle.std.specs.Prelude.{◌≡◌, slice_index, OnOk};
-ghost use Rattle.glk_dispatch.specs.Answer.{Does, desk};
+ghost use Rattle.glk_dispatch.specs.Answer.{Does, glk_call};
 ghost use Rattle.glk_dispatch.specs.Call as table;
 ghost use Rattle.glk_dispatch.specs.Keeping.{KeepsStory};
 
@@ -34,7 +34,7 @@ pub fn call(
     selector: u32,
     args: u32,
 ) -> Result<Called, Trap>
-    ensures does { Does (table.called (desk glk.old memory.old stack.old) selector args)
+    ensures does { Does (table.called (glk_call glk.old memory.old stack.old) selector args)
         glk.new memory.new stack.new result }
     ensures kept { OnOk result (KeepsStory memory.old stack.old memory.new stack.new) }
 {
@@ -55,7 +55,7 @@ fn work(
     call: Call,
     args: &[u32; MAX_ARGUMENTS],
 ) -> Result<Called, Trap>
-    ensures { Does (table.work call (desk glk.old memory.old stack.old)
+    ensures { Does (table.work call (glk_call glk.old memory.old stack.old)
         (slice_index args.now)) glk.new memory.new stack.new result }
 {
     match call {

@@ -3,7 +3,7 @@
 ghost use Rattle.std.specs.Prelude.{◌≡◌, ◌≤◌, [], length, slice_index, not, ◌==◌};
 ghost use Rattle.std.specs.Prelude.{◌<◌, ◌+◌, IfOk};
 ghost use Rattle.glk_input.specs.Request as request;
-ghost use Rattle.glk_dispatch.specs.Answer.{Answers, Does, Gets, Leaves, Lists, Puts, desk};
+ghost use Rattle.glk_dispatch.specs.Answer.{Answers, Does, Gets, Leaves, Lists, Puts, glk_call};
 ghost use Rattle.glk_dispatch.specs.Events as rows;
 ghost use Rattle.glk_dispatch.specs.Reference.{referred_all};
 ghost use Rattle.glk_dispatch.specs.Selector as selector;
@@ -281,7 +281,7 @@ fn cancel_line(
     win: u32,
     event_at: u32,
 ) -> Result<Called, Trap>
-    ensures { Does (rows.cancels_line (desk glk.old memory.old stack.old) win event_at)
+    ensures { Does (rows.cancels_line (glk_call glk.old memory.old stack.old) win event_at)
         glk.new memory.new stack.new result }
 {
     if !glk.is_window(win) {
@@ -303,7 +303,7 @@ pub(crate) fn do_event(
     call: EventCall,
     args: &[u32; MAX_ARGUMENTS],
 ) -> Result<Called, Trap>
-    ensures { Does (rows.event_work call (desk glk.old memory.old stack.old)
+    ensures { Does (rows.event_work call (glk_call glk.old memory.old stack.old)
         (slice_index args.now)) glk.new memory.new stack.new result }
 {
     let win = args[0];

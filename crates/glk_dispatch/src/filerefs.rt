@@ -3,7 +3,7 @@
 ghost use Rattle.std.specs.Prelude.{◌≡◌, ◌≤◌, ◌+◌, [], length, slice_index, IfOk};
 ghost use Rattle.std.specs.Str.{chars, encode_utf8_all};
 ghost use Rattle.std.specs.String.{string_bytes};
-ghost use Rattle.glk_dispatch.specs.Answer.{Answers, Changes, Does, Done, Makes, Reads, desk};
+ghost use Rattle.glk_dispatch.specs.Answer.{Answers, Changes, Does, Done, Makes, Reads, glk_call};
 ghost use Rattle.glk_dispatch.specs.FileRefs as rows;
 ghost use Rattle.glk_dispatch.specs.Selector as selector;
 
@@ -217,7 +217,7 @@ fn iterate(
     fref: u32,
     rock: u32,
 ) -> Result<Called, Trap>
-    ensures { Does (rows.iterates (desk glk.old memory.old stack.old) fref rock)
+    ensures { Does (rows.iterates (glk_call glk.old memory.old stack.old) fref rock)
         glk.new memory.new stack.new result }
 {
     if !glk.is_ref_or_none(fref) {
@@ -237,7 +237,7 @@ pub(crate) fn do_fileref(
     call: FileRefCall,
     args: &[u32; MAX_ARGUMENTS],
 ) -> Result<Called, Trap>
-    ensures { Does (rows.fileref_work call (desk glk.old memory.old stack.old)
+    ensures { Does (rows.fileref_work call (glk_call glk.old memory.old stack.old)
         (slice_index args.now)) glk.new memory.new stack.new result }
 {
     match call {

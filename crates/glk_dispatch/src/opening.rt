@@ -1,10 +1,12 @@
 //! Windows that are opened and closed, with their streams and requests (Glk 0.7.5, "Window
 //! Opening, Closing, and Constraints").
 
-ghost use Rattle.std.specs.Prelude.{◌≡◌};
+ghost use Rattle.std.specs.Prelude.{◌≡◌, true};
 ghost use Rattle.glk_dispatch.specs.Answer.{Answers, Changes, Done};
 ghost use Rattle.glk_dispatch.specs.Glk as state;
 ghost use Rattle.glk_dispatch.specs.Windows as rows;
+ghost use Rattle.glk_windows.specs.Arranging.{is_method};
+ghost use Rattle.glk_windows.specs.Tree.{IsLive};
 
 use crate::fault::{BAD_ARGUMENT, BAD_OBJECT};
 use crate::glk::Glk;
@@ -64,6 +66,8 @@ impl Glk {
         kind: u32,
         rock: u32,
     ) -> Result<u32, Trap>
+        requires live { IsLive self.old.windows split }
+        requires method { is_method method ≡ true }
         ensures { Answers (Done (rows.beside_opened self.old split method size kind rock))
             self.new result }
     {
@@ -94,7 +98,8 @@ impl Glk {
 // The same of a window and of all below it, to this depth.
 #[tactic(auto, unfolding(crate::specs::Windows::all_dropped))]
 fn drop_all(glk: &mut Glk, depth: usize, win: u32)
-    ensures { glk.new ≡ rows.all_dropped depth glk.old win }
+    ensures value { glk.new ≡ rows.all_dropped depth glk.old win }
+    ensures kept { glk.new.windows ≡ glk.old.windows }
 {
     if depth == 0 {
         return;
@@ -109,7 +114,8 @@ fn drop_all(glk: &mut Glk, depth: usize, win: u32)
 
 // Ends what is kept for a window, for all below it and for the pair above it.
 fn drop_closed(glk: &mut Glk, win: u32)
-    ensures { glk.new ≡ rows.closed_dropped glk.old win }
+    ensures value { glk.new ≡ rows.closed_dropped glk.old win }
+    ensures kept { glk.new.windows ≡ glk.old.windows }
 {
     let pair = glk.windows.parent(win);
     let depth = glk.windows.slots().len();
@@ -119,6 +125,7 @@ fn drop_closed(glk: &mut Glk, win: u32)
 
 // Closes a window, all below it and the pair above it.
 fn end(glk: &mut Glk, win: u32)
+    requires { IsLive glk.old.windows win }
     ensures { glk.new ≡ rows.ended glk.old win }
 {
     drop_closed(glk, win);
@@ -127,6 +134,7 @@ fn end(glk: &mut Glk, win: u32)
 
 /// Closes a window and what stands and falls with it; those that stay get their rectangles.
 pub(crate) fn close_all(alloc: Global, glk: &mut Glk, win: u32) -> Result<(), Trap>
+    requires { IsLive glk.old.windows win }
     ensures { Changes (Done (rows.closed glk.old win)) glk.new result }
 {
     end(glk, win);

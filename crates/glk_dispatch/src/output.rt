@@ -2,7 +2,7 @@
 
 ghost use Rattle.std.specs.Prelude.{◌≡◌, ◌≤◌, ◌+◌, length, slice_index, OnOk};
 ghost use Rattle.glk_input.specs.Delivery.{width};
-ghost use Rattle.glk_dispatch.specs.Answer.{Does, Makes, Puts, Writes, desk};
+ghost use Rattle.glk_dispatch.specs.Answer.{Does, Makes, Puts, Writes, glk_call};
 ghost use Rattle.glk_dispatch.specs.Output as rows;
 ghost use Rattle.glk_dispatch.specs.Selector as selector;
 ghost use Rattle.vm_memory.specs.MemoryMap.{KeepsMap};
@@ -302,7 +302,7 @@ pub(crate) fn do_output(
     call: OutputCall,
     args: &[u32; MAX_ARGUMENTS],
 ) -> Result<Called, Trap>
-    ensures { Does (rows.output_work call (desk glk.old memory.old stack.old)
+    ensures { Does (rows.output_work call (glk_call glk.old memory.old stack.old)
         (slice_index args.now)) glk.new memory.new stack.new result }
 {
     let current = glk.streams.current();

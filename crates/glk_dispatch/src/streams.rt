@@ -3,7 +3,7 @@
 ghost use Rattle.std.specs.Prelude.{◌≡◌, ◌≤◌, ◌<◌, ◌+◌, ◌-◌, ◌==◌};
 ghost use Rattle.std.specs.Prelude.{◌&&◌, slice_index};
 ghost use Rattle.glk_input.specs.Delivery as delivery;
-ghost use Rattle.glk_dispatch.specs.Answer.{Answers, Changes, Does, Gets, Makes, desk};
+ghost use Rattle.glk_dispatch.specs.Answer.{Answers, Changes, Does, Gets, Makes, glk_call};
 ghost use Rattle.glk_dispatch.specs.Selector as selector;
 ghost use Rattle.glk_dispatch.specs.Streams as rows;
 
@@ -75,7 +75,7 @@ fn iterate(
     stream: u32,
     rock: u32,
 ) -> Result<Called, Trap>
-    ensures { Does (rows.iterates (desk glk.old memory.old stack.old) stream rock)
+    ensures { Does (rows.iterates (glk_call glk.old memory.old stack.old) stream rock)
         glk.new memory.new stack.new result }
 {
     if !glk.is_stream_or_none(stream) {
@@ -142,7 +142,7 @@ fn close(
     stream: u32,
     result_at: u32,
 ) -> Result<Called, Trap>
-    ensures { Does (rows.closes (desk glk.old memory.old stack.old) stream result_at)
+    ensures { Does (rows.closes (glk_call glk.old memory.old stack.old) stream result_at)
         glk.new memory.new stack.new result }
 {
     let counts = end(glk, stream)?;
@@ -348,7 +348,7 @@ pub(crate) fn do_stream(
     call: StreamCall,
     args: &[u32; MAX_ARGUMENTS],
 ) -> Result<Called, Trap>
-    ensures { Does (rows.stream_work call (desk glk.old memory.old stack.old)
+    ensures { Does (rows.stream_work call (glk_call glk.old memory.old stack.old)
         (slice_index args.now)) glk.new memory.new stack.new result }
 {
     let stream = args[0];

@@ -1,7 +1,7 @@
 //! Styles (Glk 0.7.5, "Styles").
 
 ghost use Rattle.std.specs.Prelude.{◌≡◌, slice_index};
-ghost use Rattle.glk_dispatch.specs.Answer.{Changes, Does, desk};
+ghost use Rattle.glk_dispatch.specs.Answer.{Changes, Does, glk_call};
 ghost use Rattle.glk_dispatch.specs.Selector as selector;
 ghost use Rattle.glk_dispatch.specs.Style as rows;
 
@@ -59,7 +59,7 @@ pub(crate) fn do_style(
     call: StyleCall,
     args: &[u32; MAX_ARGUMENTS],
 ) -> Result<Called, Trap>
-    ensures { Does (rows.style_work call (desk glk.old memory.old stack.old)
+    ensures { Does (rows.style_work call (glk_call glk.old memory.old stack.old)
         (slice_index args.now)) glk.new memory.new stack.new result }
 {
     match call {

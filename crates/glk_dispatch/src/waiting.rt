@@ -1,8 +1,9 @@
 //! Inputs that a call waits for (Glk 0.7.5, "Events", "Line Input Events").
 
-ghost use Rattle.std.specs.Prelude.{◌≡◌, OnOk};
+ghost use Rattle.std.specs.Prelude.{◌≡◌, OnOk, true};
+ghost use Rattle.glk_input.specs.Delivery as delivery;
 ghost use Rattle.glk_input.specs.Request as request;
-ghost use Rattle.glk_dispatch.specs.Answer.{Does, Gets, Puts, desk};
+ghost use Rattle.glk_dispatch.specs.Answer.{Does, Gets, Puts, glk_call};
 ghost use Rattle.glk_dispatch.specs.Events as rows;
 ghost use Rattle.glk_dispatch.specs.Keeping.{KeepsStory};
 
@@ -81,6 +82,7 @@ fn echo_input(alloc: Global, glk: &mut Glk, memory: &mut Memory, input: &Input) 
 }
 
 fn deliver(glk: &mut Glk, memory: &mut Memory, input: &Input) -> Result<Event, Trap>
+    requires { delivery.wants glk.old.requests input.now ≡ true }
     ensures { Gets (rows.delivered glk.old memory.old input.now) glk.new memory.new result }
 {
     Ok(glk.requests.deliver(memory, input)?)
@@ -93,7 +95,8 @@ fn answer_event(
     stack: &mut Stack,
     input: &Input,
 ) -> Result<u32, Trap>
-    ensures { Does (rows.event_answered (desk glk.old memory.old stack.old) input.now)
+    requires { delivery.wants glk.old.requests input.now ≡ true }
+    ensures { Does (rows.event_answered (glk_call glk.old memory.old stack.old) input.now)
         glk.new memory.new stack.new result }
 {
     echo_input(alloc, glk, memory, input)?;
@@ -103,7 +106,8 @@ fn answer_event(
 }
 
 /// Gives an input to the call that waits for it, and answers what that call answers: 0 for
-/// `glk_select`, whose reference takes the event; for a prompt the new file reference, or 0.
+/// `glk_select`, whose reference takes the event of what a window asks for; for a prompt, which
+/// takes a file's name, the new file reference, or 0.
 pub fn answer(
     alloc: Global,
     glk: &mut Glk,
@@ -111,7 +115,8 @@ pub fn answer(
     stack: &mut Stack,
     input: &Input,
 ) -> Result<u32, Trap>
-    ensures does { Does (rows.answered (desk glk.old memory.old stack.old) input.now)
+    requires { rows.is_awaited glk.old.requests input.now ≡ true }
+    ensures does { Does (rows.answered (glk_call glk.old memory.old stack.old) input.now)
         glk.new memory.new stack.new result }
     ensures kept { OnOk result (KeepsStory memory.old stack.old memory.new stack.new) }
 {

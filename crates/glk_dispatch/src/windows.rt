@@ -1,7 +1,7 @@
 //! The calls of windows (Glk 0.7.5, "Windows").
 
 ghost use Rattle.std.specs.Prelude.{◌≡◌, ◌≤◌, ◌<◌, length, slice_index, not};
-ghost use Rattle.glk_dispatch.specs.Answer.{Answers, Does, Makes, desk};
+ghost use Rattle.glk_dispatch.specs.Answer.{Answers, Does, Makes, glk_call};
 ghost use Rattle.glk_dispatch.specs.Selector as selector;
 ghost use Rattle.glk_dispatch.specs.Windows as rows;
 
@@ -92,7 +92,7 @@ fn iterate(
     win: u32,
     rock: u32,
 ) -> Result<Called, Trap>
-    ensures { Does (rows.iterates (desk glk.old memory.old stack.old) win rock)
+    ensures { Does (rows.iterates (glk_call glk.old memory.old stack.old) win rock)
         glk.new memory.new stack.new result }
 {
     if !glk.is_window_or_none(win) {
@@ -111,7 +111,7 @@ fn close(
     win: u32,
     result_at: u32,
 ) -> Result<Called, Trap>
-    ensures { Does (rows.closes (desk glk.old memory.old stack.old) win result_at)
+    ensures { Does (rows.closes (glk_call glk.old memory.old stack.old) win result_at)
         glk.new memory.new stack.new result }
 {
     if !glk.is_window(win) {
@@ -131,7 +131,7 @@ fn tell_size(
     width: u32,
     height: u32,
 ) -> Result<Called, Trap>
-    ensures { Does (rows.sizes (desk glk.old memory.old stack.old) win width height)
+    ensures { Does (rows.sizes (glk_call glk.old memory.old stack.old) win width height)
         glk.new memory.new stack.new result }
 {
     if !glk.is_window(win) {
@@ -182,7 +182,8 @@ fn tell_arrangement(
     size: u32,
     key: u32,
 ) -> Result<Called, Trap>
-    ensures { Does (rows.tells_arrangement (desk glk.old memory.old stack.old) win method size key)
+    ensures { Does
+        (rows.tells_arrangement (glk_call glk.old memory.old stack.old) win method size key)
         glk.new memory.new stack.new result }
 {
     if !glk.is_window(win) {
@@ -255,7 +256,7 @@ pub(crate) fn do_window(
     call: WindowCall,
     args: &[u32; MAX_ARGUMENTS],
 ) -> Result<Called, Trap>
-    ensures { Does (rows.window_work call (desk glk.old memory.old stack.old)
+    ensures { Does (rows.window_work call (glk_call glk.old memory.old stack.old)
         (slice_index args.now)) glk.new memory.new stack.new result }
 {
     let win = args[0];

@@ -1,6 +1,6 @@
 //! The delivery of an input (Glk 0.7.5, "Line Input Events", "Character Input Events").
 
-ghost use Rattle.std.specs.Prelude.{◌≡◌, OnErr, take};
+ghost use Rattle.std.specs.Prelude.{◌≡◌, OnErr, take, true};
 ghost use Rattle.std.specs.Str.{chars};
 ghost use Rattle.vm_memory.specs.Access.{Leaves, written};
 ghost use Rattle.glk_input.specs.Delivery as delivery;
@@ -44,11 +44,11 @@ impl Requests {
         }
     }
 
-    /// Delivers an input: the request is over, then a line's characters go to its array, and the
-    /// event tells what came. The refusal is that of a write to memory; what the work had reached
-    /// stands: the request is over, and memory has a first part of the line. Callers ask `wants`
-    /// first; an event of zeros comes where the window asks for another kind of input.
+    /// Delivers an input that is wanted: the request is over, then a line's characters go to its
+    /// array, and the event tells what came. The refusal is that of a write to memory; what the
+    /// work had reached stands: the request is over, and memory has a first part of the line.
     pub fn deliver(&mut self, memory: &mut Memory, input: &Input) -> Result<Event, MemStop>
+        requires { delivery.wants self.old input.now ≡ true }
         ensures value { delivery.Delivers (delivery.delivered self.old memory.old input.now)
             memory.new result }
         ensures over { self.new ≡ delivery.answered self.old input.now }

@@ -72,8 +72,9 @@ impl Requests {
         Ok(())
     }
 
-    /// Asks for a line, by the window's settings of now. Ignored where a request is there. An error
-    /// where memory runs out, and none where the window has begun; then nothing changed.
+    /// Asks for a line that begins with `init` characters, by the window's settings of now. Ignored
+    /// where a request is there. An error where memory runs out, and none where the window has
+    /// begun; then nothing changed.
     pub fn ask_line(
         &mut self,
         alloc: Global,
@@ -83,6 +84,8 @@ impl Requests {
         init: u32,
         unicode: bool,
     ) -> Result<(), AllocError>
+        requires within { init ≤ max }
+        requires few { init ≤ 1024 }
         ensures ok { IfOk result (λ _. self.new
             ≡ request.changed (request.line_asked buf max init unicode)
             (request.with_window self.old win) win) }

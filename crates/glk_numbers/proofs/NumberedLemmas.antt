@@ -1,5 +1,6 @@
 -- A change of the value with a number is a change at its place; the next number is the least.
-use Rattle.std.proofs.Common.{◌≡◌, ℕ, ◌<◌, ◌≤◌, List, [], ◌∷◌, refl, Some, None, arith, slice_set, slice_index_or, true, false}
+use Rattle.std.proofs.Common.{◌≡◌, ℕ, ◌<◌, ◌≤◌, List, [], ◌∷◌, refl, Some, None, arith, slice_set}
+use Rattle.std.proofs.Common.{slice_index_or, true, false}
 use Rattle.std.proofs.lemmas.Grind.{common_steps}
 use Rattle.glk_numbers.specs.Numbered.{place_of, changed_at, after, ascends, has, IsLeastAbove}
 
@@ -49,7 +50,13 @@ after-first : {X : Type 0} (number : X → ℕ) (low high : ℕ) (xs : List X) (
 unfolding after has ascends
 after-first number low high [] n m a l h = absurd cc
 after-first number low high (x ∷ xs) n m a l h =
-    grind (arith, common_steps, ascends-above number (number x) high xs m, after-first number (number x) high xs n m)
+    grind (
+      arith,
+      common_steps,
+      ascends-above number (number x) high xs m,
+      after-first number
+          (number x) high xs n m,
+    )
 
 pub after_is_least : {X : Type 0} (number : X → ℕ) (high : ℕ) (xs : List X) (n : ℕ)
     → ascends number 0 high xs ≡ true → IsLeastAbove number xs n (after number xs n)

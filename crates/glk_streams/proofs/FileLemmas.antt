@@ -1,9 +1,11 @@
 -- What stands where a file is found, and what is changed and left out there.
-use Rattle.std.proofs.Common.{◌≡◌, ◌≤◌, ℕ, suc, ◌+◌, List, [], ◌∷◌, refl, Option, Some, None, arith, slice_set, slice_index_or, true, false, length}
+use Rattle.std.proofs.Common.{◌≡◌, ◌≤◌, ℕ, suc, ◌+◌, List, [], ◌∷◌, refl, Option, Some, None, arith}
+use Rattle.std.proofs.Common.{slice_set, slice_index_or, true, false, length}
 use Rattle.std.specs.Prelude.{remove, insert, is_some, IfNone, IfSome}
 use Rattle.std.proofs.lemmas.Grind.{common_steps}
 use Rattle.glk_streams.specs.declared.file.File.{File}
-use Rattle.glk_streams.specs.Files.{seat_of, spot_of, has_file, bytes_of, content_of, with_bytes, with_file, without_file, file_of}
+use Rattle.glk_streams.specs.Files.{seat_of, spot_of, has_file, bytes_of, content_of, with_bytes}
+use Rattle.glk_streams.specs.Files.{with_file, without_file, file_of}
 use Rattle.glk_streams.proofs.PlaceLemmas.{remove-cons}
 
 has-none : (fs : List File) (u : ℕ) (n : List ℕ) → None ≡ seat_of fs u n → has_file fs u n ≡ false
@@ -11,12 +13,14 @@ unfolding has_file seat_of
 has-none [] u n e = refl
 has-none (f ∷ fs) u n e = grind (arith, common_steps, has-none fs u n)
 
-has-some : (fs : List File) (u : ℕ) (n : List ℕ) (i : ℕ) → Some i ≡ seat_of fs u n → has_file fs u n ≡ true
+has-some : (fs : List File) (u : ℕ) (n : List ℕ) (i : ℕ) → Some i ≡ seat_of fs u n
+    → has_file fs u n ≡ true
 unfolding has_file seat_of
 has-some [] u n i e = absurd (grind (arith, e))
 has-some (f ∷ fs) u n i e = grind (arith, common_steps, has-some fs u n)
 
-content-none : (fs : List File) (u : ℕ) (n : List ℕ) → None ≡ seat_of fs u n → content_of fs u n ≡ []
+content-none : (fs : List File) (u : ℕ) (n : List ℕ) → None ≡ seat_of fs u n
+    → content_of fs u n ≡ []
 unfolding content_of seat_of
 content-none [] u n e = refl
 content-none (f ∷ fs) u n e = grind (arith, common_steps, content-none fs u n)
@@ -27,23 +31,27 @@ unfolding content_of seat_of
 content-some [] u n i d e = absurd (grind (arith, e))
 content-some (f ∷ fs) u n i d e = grind (arith, common_steps, content-some fs u n)
 
-with_bytes-some : (fs : List File) (u : ℕ) (n : List ℕ) (i : ℕ) (d : File) (b : List ℕ) → Some i ≡ seat_of fs u n
+with_bytes-some : (fs : List File) (u : ℕ) (n : List ℕ) (i : ℕ) (d : File) (b : List ℕ)
+    → Some i ≡ seat_of fs u n
     → with_bytes fs u n b ≡ slice_set fs i (record (slice_index_or fs i d) { bytes = b })
 unfolding with_bytes seat_of
 with_bytes-some [] u n i d b e = absurd (grind (arith, e))
 with_bytes-some (f ∷ fs) u n i d b e = grind (arith, common_steps, with_bytes-some fs u n)
 
-without-none : (fs : List File) (u : ℕ) (n : List ℕ) → None ≡ seat_of fs u n → without_file fs u n ≡ fs
+without-none : (fs : List File) (u : ℕ) (n : List ℕ) → None ≡ seat_of fs u n
+    → without_file fs u n ≡ fs
 unfolding without_file seat_of
 without-none [] u n e = refl
 without-none (f ∷ fs) u n e = grind (arith, common_steps, without-none fs u n)
 
-without-some : (fs : List File) (u : ℕ) (n : List ℕ) (i : ℕ) → Some i ≡ seat_of fs u n → without_file fs u n ≡ remove fs i
+without-some : (fs : List File) (u : ℕ) (n : List ℕ) (i : ℕ) → Some i ≡ seat_of fs u n
+    → without_file fs u n ≡ remove fs i
 unfolding without_file seat_of
 without-some [] u n i e = absurd (grind (arith, e))
 without-some (f ∷ fs) u n i e = grind (arith, common_steps, without-some fs u n, remove-cons f fs)
 
-insert-cons : {X : Type 0} (x y : X) (xs : List X) (i : ℕ) → insert (x ∷ xs) (1 + i) y ≡ x ∷ insert xs i y
+insert-cons : {X : Type 0} (x y : X) (xs : List X) (i : ℕ)
+    → insert (x ∷ xs) (1 + i) y ≡ x ∷ insert xs i y
 insert-cons x y xs i = let e : 1 + i ≡ suc i = omega arith in rw e refl
 
 pub with_file_at_spot : (fs : List File) (u : ℕ) (n b : List ℕ)
@@ -51,10 +59,17 @@ pub with_file_at_spot : (fs : List File) (u : ℕ) (n b : List ℕ)
 unfolding with_file spot_of
 with_file_at_spot [] u n b = refl
 with_file_at_spot (f ∷ fs) u n b =
-    grind (arith, common_steps, with_file_at_spot fs u n b, insert-cons f (file_of u n b) fs (spot_of fs u n))
+    grind (
+      arith,
+      common_steps,
+      with_file_at_spot fs u n b,
+      insert-cons f (file_of u n b) fs
+          (spot_of fs u n),
+    )
 
 -- no file has more bytes than all
-pub content_within : (fs : List File) (u : ℕ) (n : List ℕ) → length (content_of fs u n) ≤ bytes_of fs
+pub content_within : (fs : List File) (u : ℕ) (n : List ℕ)
+    → length (content_of fs u n) ≤ bytes_of fs
 unfolding content_of bytes_of
 content_within [] u n = omega arith
 content_within (f ∷ fs) u n = grind (arith, common_steps, content_within fs u n)
@@ -80,7 +95,8 @@ module _ (fs : List File) (u : ℕ) (n : List ℕ) where
   is_changed None e = tt
   is_changed (Some i) e = λ d b. with_bytes-some fs u n i d b e
 
-  pub is_left : (r : Option ℕ) → r ≡ seat_of fs u n → IfSome r (λ i. without_file fs u n ≡ remove fs i)
+  pub is_left : (r : Option ℕ) → r ≡ seat_of fs u n
+      → IfSome r (λ i. without_file fs u n ≡ remove fs i)
   is_left None e = tt
   is_left (Some i) e = without-some fs u n i e
 

@@ -1,7 +1,9 @@
 -- How a name is cleaned, character by character.
-use Rattle.std.proofs.Common.{◌≡◌, ◌≢◌, ◌<◌, ◌-◌, ◌+◌, ℕ, suc, true, false, List, [], ◌∷◌, ◌++◌, refl, sym, ap, ◌∙◌, arith, length}
+use Rattle.std.proofs.Common.{◌≡◌, ◌≢◌, ◌<◌, ◌-◌, ◌+◌, ℕ, suc, true, false, List, [], ◌∷◌, ◌++◌}
+use Rattle.std.proofs.Common.{refl, sym, ap, ◌∙◌, arith, length}
 use Rattle.std.proofs.lemmas.Grind.{common_steps}
-use Rattle.std.proofs.lemmas.Str.{chars-append, chars-IsAscii, chars-nil, chars_past_char, length-encode, IsUtf8-encode}
+use Rattle.std.proofs.lemmas.Str.{chars-append, chars-IsAscii, chars-nil, chars_past_char}
+use Rattle.std.proofs.lemmas.Str.{length-encode, IsUtf8-encode}
 use Rattle.std.specs.Char.{encode_utf8, IsScalar}
 use Rattle.std.specs.Str.{chars, encode_utf8_all, IsUtf8, IsAscii}
 use Rattle.std.specs.Prelude.{codes}
@@ -22,9 +24,11 @@ cut-period n cs = grind (arith, common_steps)
 pub cut-out : (n c : ℕ) (cs : List ℕ) → is_taken_out c ≡ true → cut n (c ∷ cs) ≡ cut n cs
 cut-out n c cs e = rw e refl
 
-pub cut-in : (n m c : ℕ) (cs : List ℕ) → is_taken_out c ≡ false → c ≢ 0x2E → n ≡ m + 1 → cut n (c ∷ cs) ≡ c ∷ cut m cs
+pub cut-in : (n m c : ℕ) (cs : List ℕ) → is_taken_out c ≡ false → c ≢ 0x2E → n ≡ m + 1
+    → cut n (c ∷ cs) ≡ c ∷ cut m cs
 unfolding before_period
-cut-in n m c cs e h s = let t : n ≡ suc m = omega (arith, s) in rw (t, e) (grind (arith, common_steps, h))
+cut-in n m c cs e h s = let t : n ≡ suc m =
+    omega (arith, s) in rw (t, e) (grind (arith, common_steps, h))
 
 pub or_null-empty : (cs : List ℕ) → length (encode_utf8_all cs) ≡ 0 → codes "null" ≡ or_null cs
 or_null-empty [] e = refl
@@ -39,17 +43,20 @@ chars-encode c h =
     chars_past_char (encode_utf8 c) [] c (IsUtf8-encode c h) (sym (append-nil (encode_utf8 c)))
     ∙ ap (λ cs. c ∷ cs) chars-nil
 
-pub pushed : (old new : List ℕ) (c n : ℕ) (rest : List ℕ) → IsUtf8 old → IsScalar c → new ≡ old ++ encode_utf8 c
+pub pushed : (old new : List ℕ) (c n : ℕ) (rest : List ℕ) → IsUtf8 old → IsScalar c
+    → new ≡ old ++ encode_utf8 c
     → is_taken_out c ≡ false → c ≢ 0x2E → n < 64
     → chars new ++ cut (64 - (n + 1)) rest ≡ chars old ++ cut (64 - n) (c ∷ rest)
 pushed old new c n rest u h e out period room =
     let split : chars new ≡ chars old ++ c ∷ [] =
-    ap chars e ∙ chars-append old (encode_utf8 c) u ∙ ap (λ cs. chars old ++ cs) (chars-encode c h) in
+    ap chars e ∙ chars-append old (encode_utf8 c) u
+    ∙ ap (λ cs. chars old ++ cs) (chars-encode c h) in
     let first : cut (64 - n) (c ∷ rest) ≡ c ∷ cut (64 - (n + 1)) rest =
     cut-in (64 - n) (64 - (n + 1)) c rest out period (omega (arith, room)) in
     rw (split, first) (append_assoc (chars old) (c ∷ []) (cut (64 - (n + 1)) rest))
 
-pub period_ends : (xs rest all : List ℕ) (n c : ℕ) → c ≡ 0x2E → xs ++ cut n (c ∷ rest) ≡ all → xs ≡ all
+pub period_ends : (xs rest all : List ℕ) (n c : ℕ) → c ≡ 0x2E → xs ++ cut n (c ∷ rest) ≡ all
+    → xs ≡ all
 period_ends xs rest all n c e h =
     sym (append-nil xs) ∙ ap (λ ys. xs ++ ys) (sym (rw e (cut-period n rest))) ∙ h
 
@@ -66,7 +73,8 @@ temp_utf8 = (codes ".temp", (refl, refl))
 
 pub temp_chars : (d : List ℕ) → IsAscii d → chars (codes ".temp" ++ d) ≡ codes ".temp" ++ d
 temp_chars d h =
-    chars-append (codes ".temp") d temp_utf8 ∙ ap (λ t. t ++ chars d) temp ∙ ap (λ t. codes ".temp" ++ t) (chars-IsAscii d h)
+    chars-append (codes ".temp") d temp_utf8 ∙ ap (λ t. t ++ chars d) temp
+    ∙ ap (λ t. codes ".temp" ++ t) (chars-IsAscii d h)
 
 null_bytes : chars (codes "null") ≡ codes "null"
 unfolding chars

@@ -1,5 +1,6 @@
 -- What is found, changed and left out where a number stands.
-use Rattle.std.proofs.Common.{◌≡◌, ℕ, suc, ◌+◌, List, [], ◌∷◌, refl, sym, Option, Some, None, arith, slice_set, slice_index_or}
+use Rattle.std.proofs.Common.{◌≡◌, ℕ, suc, ◌+◌, List, [], ◌∷◌, refl, sym, Option, Some, None, arith}
+use Rattle.std.proofs.Common.{slice_set, slice_index_or}
 use Rattle.std.specs.Prelude.{remove, IfNone, IfSome}
 use Rattle.std.proofs.lemmas.Grind.{common_steps}
 use Rattle.glk_numbers.specs.Numbered.{place_of, changed_at, found, without}
@@ -23,7 +24,8 @@ unfolding without place_of
 without-none number [] n e = refl
 without-none number (x ∷ xs) n e = grind (arith, common_steps, without-none number xs n)
 
-pub remove-cons : {X : Type 0} (x : X) (xs : List X) (i : ℕ) → remove (x ∷ xs) (1 + i) ≡ x ∷ remove xs i
+pub remove-cons : {X : Type 0} (x : X) (xs : List X) (i : ℕ)
+    → remove (x ∷ xs) (1 + i) ≡ x ∷ remove xs i
 remove-cons x xs i = let e : 1 + i ≡ suc i = omega arith in rw e refl
 
 pub without-some : {X : Type 0} (number : X → ℕ) (xs : List X) (n i : ℕ)

@@ -1,5 +1,8 @@
 -- What is put to one stream is what another gives.
-use Rattle.std.proofs.Common.{◌≡◌, ◌≢◌, ◌≤◌, ◌<◌, ℕ, zero, suc, ◌+◌, ◌-◌, ◌*◌, Bool, true, false, ◌&&◌, ◌||◌, List, [], ◌∷◌, ◌++◌, refl, sym, ap, ◌∙◌, subst, Option, Some, None, Result, Ok, Err, arith, nat_lt, nat_le, length, length-append, min}
+use Rattle.std.proofs.Common.{◌≡◌, ◌≢◌, ◌≤◌, ◌<◌, ℕ, zero, suc, ◌+◌, ◌-◌, ◌*◌, Bool, true, false}
+use Rattle.std.proofs.Common.{◌&&◌, ◌||◌, List, [], ◌∷◌, ◌++◌, refl, sym, ap, ◌∙◌, subst, Option}
+use Rattle.std.proofs.Common.{Some, None, Result, Ok, Err, arith, nat_lt, nat_le, length}
+use Rattle.std.proofs.Common.{length-append, min}
 use Rattle.std.proofs.lemmas.Grind.{common_steps}
 use mathlib.Core.List.{append_assoc, append-nil}
 use Rattle.std.specs.Ordering.{is_eq, nat_cmp, ordering_reverse}
@@ -15,19 +18,27 @@ use Rattle.glk_streams.specs.declared.file.File as file
 use Rattle.glk_streams.specs.declared.stream.Stream.{Stream}
 use Rattle.glk_streams.specs.declared.stream.Target.TheVariants.{File}
 use Rattle.glk_streams.specs.Answer.{◌>>=◌, live}
-use Rattle.glk_streams.specs.Coding.{coding_of, kept, bytes_in, unit_of, units_of, steps_of, char_at}
-use Rattle.glk_streams.specs.Files.{key_of, is_named, has_file, content_of, with_bytes, with_file, holding, bytes_of, may_stand, room_of, file_of}
+use Rattle.glk_streams.specs.Coding.{coding_of, kept, bytes_in, unit_of, units_of, steps_of}
+use Rattle.glk_streams.specs.Coding.{char_at}
+use Rattle.glk_streams.specs.Files.{key_of, is_named, has_file, content_of, with_bytes, with_file}
+use Rattle.glk_streams.specs.Files.{holding, bytes_of, may_stand, room_of, file_of}
 use Rattle.glk_streams.specs.Input.{got, got_by, behind, passed}
-use Rattle.glk_streams.specs.Output.{put, put_by, put_bytes, is_kept, start_of, held, counted, placed}
-use Rattle.glk_streams.specs.RoundTrip.{has_code, AreHeld, spelled, Reads, IsOpen, put_all, Gives, ReadsBack}
-use Rattle.glk_streams.specs.Streams.{StreamTable, number_of, stream_at, with_stream, is_read_mode, is_write_mode}
+use Rattle.glk_streams.specs.Output.{put, put_by, put_bytes, is_kept, start_of, held, counted}
+use Rattle.glk_streams.specs.Output.{placed}
+use Rattle.glk_streams.specs.RoundTrip.{has_code, AreHeld, spelled, Reads, IsOpen, put_all, Gives}
+use Rattle.glk_streams.specs.RoundTrip.{ReadsBack}
+use Rattle.glk_streams.specs.Streams.{StreamTable, number_of, stream_at, with_stream, is_read_mode}
+use Rattle.glk_streams.specs.Streams.{is_write_mode}
 use Rattle.glk_streams.proofs.ValidLemmas.{bytes-bytes, bytes-file, number-found}
 use Rattle.glk_streams.proofs.ValidLaws.{both, no-content}
-use Rattle.glk_streams.proofs.RoundTripLemmas.{IsWhole, kept-held, units-append, whole-append, start-end, replaced-end, reads, empty-whole, empty-units}
+use Rattle.glk_streams.proofs.RoundTripLemmas.{IsWhole, kept-held, units-append, whole-append}
+use Rattle.glk_streams.proofs.RoundTripLemmas.{start-end, replaced-end, reads, empty-whole}
+use Rattle.glk_streams.proofs.RoundTripLemmas.{empty-units}
 
 -- streams that are changed
 
-found-same : (ss : List Stream) (n : ℕ) (s v : Stream) → found number_of ss n ≡ Some s → v.number ≡ n
+found-same : (ss : List Stream) (n : ℕ) (s v : Stream) → found number_of ss n ≡ Some s
+    → v.number ≡ n
     → found number_of (changed_at number_of (λ _. v) ss n) n ≡ Some v
 unfolding found changed_at
 found-same [] n s v e k = absurd (grind (arith, e))
@@ -47,7 +58,8 @@ self Equal e = refl
 self Greater e = absurd (grind (arith, e))
 
 own-name : (u : ℕ) (n b : List ℕ) → is_named u n (file_of u n b) ≡ true
-own-name u n b = self (slice_cmp nat_cmp (key_of u n) (key_of u n)) (nat_list_cmp_total.antisymm (key_of u n) (key_of u n))
+own-name u n b = self (slice_cmp nat_cmp (key_of u n) (key_of u n))
+    (nat_list_cmp_total.antisymm (key_of u n) (key_of u n))
 
 content-bytes : (fs : List file.File) (u : ℕ) (n b : List ℕ) → has_file fs u n ≡ true
     → content_of (with_bytes fs u n b) u n ≡ b
@@ -55,7 +67,8 @@ unfolding content_of with_bytes has_file
 content-bytes [] u n b h = absurd (grind (arith, h))
 content-bytes (f ∷ fs) u n b h = grind (arith, common_steps, h, content-bytes fs u n b)
 
-has-bytes : (fs : List file.File) (u : ℕ) (n b : List ℕ) → has_file (with_bytes fs u n b) u n ≡ has_file fs u n
+has-bytes : (fs : List file.File) (u : ℕ) (n b : List ℕ)
+    → has_file (with_bytes fs u n b) u n ≡ has_file fs u n
 unfolding with_bytes has_file
 has-bytes [] u n b = refl
 has-bytes (f ∷ fs) u n b = grind (arith, common_steps, has-bytes fs u n b)
@@ -64,7 +77,8 @@ content-file : (fs : List file.File) (u : ℕ) (n b : List ℕ) → has_file fs 
     → content_of (with_file fs u n b) u n ≡ b
 unfolding content_of with_file has_file
 content-file [] u n b h = rw (own-name u n b) refl
-content-file (f ∷ fs) u n b h = grind (arith, common_steps, h, own-name u n b, content-file fs u n b)
+content-file (f ∷ fs) u n b h =
+    grind (arith, common_steps, h, own-name u n b, content-file fs u n b)
 
 has-new : (fs : List file.File) (u : ℕ) (n b : List ℕ) → has_file (with_file fs u n b) u n ≡ true
 unfolding with_file has_file
@@ -76,7 +90,8 @@ pub record IsHeld (fs after : List file.File) (u : ℕ) (n b : List ℕ) : Type 
   pub may : may_stand after u n ≡ true
   pub bytes : bytes_of after + length (content_of fs u n) ≡ bytes_of fs + length b
 
-pub held-by : (fs : List file.File) (u : ℕ) (n b : List ℕ) (s : Bool) → has_file fs u n ≡ s → IsHeld fs (holding fs u n b) u n b
+pub held-by : (fs : List file.File) (u : ℕ) (n b : List ℕ) (s : Bool) → has_file fs u n ≡ s
+    → IsHeld fs (holding fs u n b) u n b
 held-by fs u n b true e = rw e (record {
   content = content-bytes fs u n b e;
   may = grind (arith, common_steps, has-bytes fs u n b, e);
@@ -90,31 +105,42 @@ held-by fs u n b false e = rw e (record {
 
 -- one character put
 
-record On (t : StreamTable) (a b u : ℕ) (n : List ℕ) (unicode : Bool) (bytes : List ℕ) : Type 0 where
-  writer : IsOpen is_write_mode t a (File u n) unicode (units_of (coding_of unicode (File u n)) bytes)
+record On (t : StreamTable) (a b u : ℕ) (n : List ℕ) (unicode : Bool)
+    (bytes : List ℕ) : Type 0 where
+  writer : IsOpen is_write_mode t a (File u n) unicode
+      (units_of (coding_of unicode (File u n)) bytes)
   reader : IsOpen is_read_mode t b (File u n) unicode 0
   content : content_of t.files u n ≡ bytes
   may : may_stand t.files u n ≡ true
 
-put-bytes-kept : (fs : List file.File) (place u : ℕ) (n : List ℕ) (c : Coding) (new bytes all : List ℕ)
-    → content_of fs u n ≡ bytes → (may_stand fs u n && nat_le (start_of c bytes place + length new - length bytes) (room_of fs)) ≡ true
+put-bytes-kept : (fs : List file.File) (place u : ℕ) (n : List ℕ) (c : Coding)
+    (new bytes all : List ℕ)
+    → content_of fs u n ≡ bytes
+    → (may_stand fs u n && nat_le (start_of c bytes place + length new - length bytes) (room_of fs))
+    ≡ true
     → replaced bytes (start_of c bytes place) new ≡ all → held c bytes place ≡ place
     → put_bytes fs place u n c new ≡ (holding fs u n all, place + steps_of c (length new))
 put-bytes-kept fs place u n c new bytes all e k r h = rw (e, k, r, h) refl
 
-put-by-kept : (fs : List file.File) (m : MemoryMap) (s : Stream) (x u : ℕ) (n : List ℕ) (unicode : Bool) (place : ℕ)
-    (after : List file.File) (next : ℕ) → is_write_mode s.mode ≡ true → s.target ≡ File u n → s.unicode ≡ unicode → s.place ≡ place
-    → put_bytes fs place u n (coding_of unicode (File u n)) (kept (coding_of unicode (File u n)) x) ≡ (after, next)
+put-by-kept : (fs : List file.File) (m : MemoryMap) (s : Stream) (x u : ℕ) (n : List ℕ)
+    (unicode : Bool) (place : ℕ)
+    (after : List file.File) (next : ℕ) → is_write_mode s.mode ≡ true → s.target ≡ File u n
+    → s.unicode ≡ unicode → s.place ≡ place
+    → put_bytes fs place u n (coding_of unicode (File u n)) (kept (coding_of unicode (File u n)) x)
+    ≡ (after, next)
     → put_by fs m s x ≡ Ok (after, m, next)
-put-by-kept fs m s x u n unicode place after next w t v p e = rw (w, t, v, p) (ap (λ done. Ok (done.0, m, done.1)) e)
+put-by-kept fs m s x u n unicode place after next w t v p e =
+    rw (w, t, v, p) (ap (λ done. Ok (done.0, m, done.1)) e)
 
 stays : (c : Coding) (bytes : List ℕ) → held c bytes (units_of c bytes) ≡ units_of c bytes
 stays c bytes = grind (arith, common_steps)
 
-fits : (sum now at count : ℕ) → at ≡ now → sum + count ≤ 1048576 → nat_le (at + count - now) (1048576 - sum) ≡ true
+fits : (sum now at count : ℕ) → at ≡ now → sum + count ≤ 1048576
+    → nat_le (at + count - now) (1048576 - sum) ≡ true
 fits sum now at count e l = grind (arith, common_steps, e, l)
 
-record Step (t : StreamTable) (m : MemoryMap) (a b u : ℕ) (n : List ℕ) (unicode : Bool) (bytes : List ℕ) (x : ℕ) : Type 0 where
+record Step (t : StreamTable) (m : MemoryMap) (a b u : ℕ) (n : List ℕ) (unicode : Bool)
+    (bytes : List ℕ) (x : ℕ) : Type 0 where
   after : StreamTable
   put_is : put t m a x ≡ Ok (after, m)
   on : On after a b u n unicode (bytes ++ bytes_in (coding_of unicode (File u n)) x)
@@ -124,7 +150,8 @@ module _ (m : MemoryMap) (a b u : ℕ) (n : List ℕ) (unicode : Bool) (apart : 
   abbrev c : Coding
   c = coding_of unicode (File u n)
 
-  one : (t : StreamTable) (bytes : List ℕ) (x : ℕ) → On t a b u n unicode bytes → IsWhole c bytes → has_code c x ≡ true
+  one : (t : StreamTable) (bytes : List ℕ) (x : ℕ) → On t a b u n unicode bytes → IsWhole c bytes
+      → has_code c x ≡ true
       → bytes_of t.files + length (bytes_in c x) ≤ 1048576 → Step t m a b u n unicode bytes x
   one t bytes x o w h room =
       let s = o.writer.stream in
@@ -140,10 +167,12 @@ module _ (m : MemoryMap) (a b u : ℕ) (n : List ℕ) (unicode : Bool) (apart : 
       let after = with_stream (record t { files = files }) a v in
       let put_files : put_bytes t.files place u n c (kept c x) ≡ (files, next) =
       rw kept_new (put-bytes-kept t.files place u n c new bytes all o.content
-      (both _ _ o.may (fits (bytes_of t.files) (length bytes) (start_of c bytes place) (length new) start room))
+      (both _ _ o.may (fits (bytes_of t.files) (length bytes) (start_of c bytes place)
+      (length new) start room))
       (replaced-end bytes new (start_of c bytes place) start) (stays c bytes)) in
       let kept_by : put_by t.files m s x ≡ Ok (files, m, next) =
-      put-by-kept t.files m s x u n unicode place files next o.writer.mode o.writer.target_is o.writer.unicode_is o.writer.place_is put_files in
+      put-by-kept t.files m s x u n unicode place files next o.writer.mode o.writer.target_is
+      o.writer.unicode_is o.writer.place_is put_files in
       let number : v.number ≡ a = number-found number_of t.streams a s o.writer.is in
       let now = held-by t.files u n all (has_file t.files u n) refl in
       record {
@@ -169,11 +198,14 @@ module _ (m : MemoryMap) (a b u : ℕ) (n : List ℕ) (unicode : Bool) (apart : 
           content = now.content;
           may = now.may;
         };
-        sum = summed (bytes_of t.files) (bytes_of files) (length bytes) (length new) (length all) (length-append bytes new)
-            (subst (λ (z : List ℕ). bytes_of files + length z ≡ bytes_of t.files + length all) o.content now.bytes);
+        sum = summed (bytes_of t.files) (bytes_of files) (length bytes) (length new) (length all)
+            (length-append bytes new)
+            (subst (λ (z : List ℕ). bytes_of files + length z ≡ bytes_of t.files + length all)
+            o.content now.bytes);
       }
     where
-      summed : (old now was more whole : ℕ) → whole ≡ was + more → now + was ≡ old + whole → now ≡ old + more
+      summed : (old now was more whole : ℕ) → whole ≡ was + more → now + was ≡ old + whole
+          → now ≡ old + more
       summed old now was more whole e f = omega (arith, e, f)
 
   record Puts (t : StreamTable) (bytes codes : List ℕ) : Type 0 where
@@ -181,13 +213,20 @@ module _ (m : MemoryMap) (a b u : ℕ) (n : List ℕ) (unicode : Bool) (apart : 
     put_is : put_all t m a codes ≡ Ok (after, m)
     on : On after a b u n unicode (bytes ++ spelled c codes)
 
-  puts : (codes : List ℕ) (t : StreamTable) (bytes : List ℕ) → On t a b u n unicode bytes → IsWhole c bytes → AreHeld c codes
+  puts : (codes : List ℕ) (t : StreamTable) (bytes : List ℕ) → On t a b u n unicode bytes
+      → IsWhole c bytes → AreHeld c codes
       → bytes_of t.files + length (spelled c codes) ≤ 1048576 → Puts t bytes codes
   unfolding put_all spelled
   puts [] t bytes o w h room =
-      record { after = t; put_is = refl; on = subst (On t a b u n unicode) (sym (append-nil bytes)) o }
+      record {
+        after = t;
+        put_is = refl;
+        on = subst (On t a b u n unicode)
+            (sym (append-nil bytes)) o;
+      }
   puts (x ∷ xs) t bytes o w h room =
-      let long : length (bytes_in c x ++ spelled c xs) ≡ length (bytes_in c x) + length (spelled c xs) =
+      let long : length (bytes_in c x ++ spelled c xs) ≡ length (bytes_in c x) + length
+      (spelled c xs) =
       length-append (bytes_in c x) (spelled c xs) in
       let first = one t bytes x o w h.0 (omega (arith, room, long)) in
       let rest = puts xs first.after (bytes ++ bytes_in c x) first.on (whole-append c bytes x w) h.1
@@ -195,10 +234,12 @@ module _ (m : MemoryMap) (a b u : ℕ) (n : List ℕ) (unicode : Bool) (apart : 
       record {
         after = rest.after;
         put_is = rw first.put_is rest.put_is;
-        on = subst (On rest.after a b u n unicode) (append_assoc bytes (bytes_in c x) (spelled c xs)) rest.on;
+        on = subst (On rest.after a b u n unicode)
+            (append_assoc bytes (bytes_in c x) (spelled c xs)) rest.on;
       }
 
-  gets : (codes : List ℕ) (t : StreamTable) (bytes : List ℕ) (place : ℕ) → IsOpen is_read_mode t b (File u n) unicode place
+  gets : (codes : List ℕ) (t : StreamTable) (bytes : List ℕ) (place : ℕ)
+      → IsOpen is_read_mode t b (File u n) unicode place
       → content_of t.files u n ≡ bytes → Reads c bytes place codes → Gives t m b codes
   gets [] t bytes place o e r = rw (o.is, o.mode, o.target_is, o.unicode_is, o.place_is, e, r) refl
   gets (x ∷ xs) t bytes place o e r =
@@ -212,14 +253,19 @@ module _ (m : MemoryMap) (a b u : ℕ) (n : List ℕ) (unicode : Bool) (apart : 
         target_is = o.target_is;
         unicode_is = o.unicode_is;
         place_is = ap (λ p. p + r.0) o.place_is;
-      }) e r.2 in
-      (with_stream t b v, rw (o.is, o.mode, o.target_is, o.unicode_is, o.place_is, e, r.1) refl, rest)
+      }) e r.2 in (
+        with_stream t b v,
+        rw
+            (o.is, o.mode, o.target_is, o.unicode_is, o.place_is, e, r.1) refl,
+        rest,
+      )
 
 pub reads_back : ReadsBack
 reads_back t m a b u n unicode codes apart writer reader empty may h room =
     let c = coding_of unicode (File u n) in
     let begun : On t a b u n unicode [] = record {
-      writer = subst (λ p. IsOpen is_write_mode t a (File u n) unicode p) (sym (empty-units c)) writer;
+      writer = subst (λ p. IsOpen is_write_mode t a (File u n) unicode p)
+          (sym (empty-units c)) writer;
       reader = reader;
       content = empty;
       may = may;
@@ -228,6 +274,7 @@ reads_back t m a b u n unicode codes apart writer reader empty may h room =
     let all = reads c [] codes (empty-whole c) h in (
       done.after,
       done.put_is,
-      gets m a b u n unicode apart codes done.after (spelled c codes) 0 done.on.reader done.on.content
+      gets m a b u n unicode apart codes done.after
+          (spelled c codes) 0 done.on.reader done.on.content
           (subst (λ p. Reads c (spelled c codes) p codes) (empty-units c) all),
     )

@@ -1,5 +1,7 @@
 -- What is written at the end of a file is read back.
-use Rattle.std.proofs.Common.{◌≡◌, ◌<◌, ℕ, ◌+◌, ◌*◌, ◌/◌, ◌^◌, true, List, [], ◌∷◌, ◌++◌, refl, sym, ap, ◌∙◌, subst, Some, None, arith, nat_lt, length, take, drop, length-append, length-drop}
+use Rattle.std.proofs.Common.{◌≡◌, ◌<◌, ℕ, ◌+◌, ◌*◌, ◌/◌, ◌^◌, true, List, [], ◌∷◌, ◌++◌, refl, sym}
+use Rattle.std.proofs.Common.{ap, ◌∙◌, subst, Some, None, arith, nat_lt, length, take, drop}
+use Rattle.std.proofs.Common.{length-append, length-drop}
 use Rattle.std.proofs.lemmas.Grind.{common_steps}
 use mathlib.Core.List.{append-nil, append_assoc}
 use Rattle.std.proofs.Math.Seq.{drop-append_seam, get_or-append_seam, take-length}
@@ -25,12 +27,14 @@ kept-held Latin1 x h = rw h refl
 kept-held Utf8 x h = rw h refl
 kept-held Utf32 x h = refl
 
-length-in : (c : Coding) (x : ℕ) → length (bytes_in c x) ≡ unit_of c * steps_of c (length (bytes_in c x))
+length-in : (c : Coding) (x : ℕ)
+    → length (bytes_in c x) ≡ unit_of c * steps_of c (length (bytes_in c x))
 length-in Latin1 x = refl
 length-in Utf8 x = omega arith
 length-in Utf32 x = length-bytes_high_first 4 x
 
-whole-units : (c : Coding) (bytes : List ℕ) (n : ℕ) → length bytes ≡ unit_of c * n → units_of c bytes ≡ n
+whole-units : (c : Coding) (bytes : List ℕ) (n : ℕ) → length bytes ≡ unit_of c * n
+    → units_of c bytes ≡ n
 whole-units Latin1 bytes n e = omega (arith, e)
 whole-units Utf8 bytes n e = omega (arith, e)
 whole-units Utf32 bytes n e = omega (arith, e)
@@ -39,35 +43,42 @@ pub units-append : (c : Coding) (bytes : List ℕ) (x : ℕ) → IsWhole c bytes
     → units_of c (bytes ++ bytes_in c x) ≡ units_of c bytes + steps_of c (length (bytes_in c x))
 units-append c bytes x w =
     whole-units c (bytes ++ bytes_in c x) (units_of c bytes + steps_of c (length (bytes_in c x)))
-    (sum c (units_of c bytes) (steps_of c (length (bytes_in c x))) _ _ _ (length-append bytes (bytes_in c x)) w (length-in c x))
+    (sum c (units_of c bytes) (steps_of c (length (bytes_in c x))) _ _ _
+    (length-append bytes (bytes_in c x)) w (length-in c x))
   where
-    sum : (c : Coding) (u s whole one two : ℕ) → whole ≡ one + two → unit_of c * u ≡ one → two ≡ unit_of c * s
+    sum : (c : Coding) (u s whole one two : ℕ) → whole ≡ one + two → unit_of c * u ≡ one
+        → two ≡ unit_of c * s
         → whole ≡ unit_of c * (u + s)
     sum Latin1 u s whole one two a b d = omega arith
     sum Utf8 u s whole one two a b d = omega arith
     sum Utf32 u s whole one two a b d = omega arith
 
-pub whole-append : (c : Coding) (bytes : List ℕ) (x : ℕ) → IsWhole c bytes → IsWhole c (bytes ++ bytes_in c x)
+pub whole-append : (c : Coding) (bytes : List ℕ) (x : ℕ) → IsWhole c bytes
+    → IsWhole c (bytes ++ bytes_in c x)
 whole-append c bytes x w =
     by c (units_of c bytes) (steps_of c (length (bytes_in c x))) _ _ _ _ (units-append c bytes x w)
     (length-append bytes (bytes_in c x)) w (length-in c x)
   where
-    by : (c : Coding) (u s n whole one two : ℕ) → n ≡ u + s → whole ≡ one + two → unit_of c * u ≡ one → two ≡ unit_of c * s
+    by : (c : Coding) (u s n whole one two : ℕ) → n ≡ u + s → whole ≡ one + two
+        → unit_of c * u ≡ one → two ≡ unit_of c * s
         → unit_of c * n ≡ whole
     by Latin1 u s n whole one two f a b d = omega arith
     by Utf8 u s n whole one two f a b d = omega arith
     by Utf32 u s n whole one two f a b d = omega arith
 
-pub start-end : (c : Coding) (bytes : List ℕ) → IsWhole c bytes → start_of c bytes (units_of c bytes) ≡ length bytes
+pub start-end : (c : Coding) (bytes : List ℕ) → IsWhole c bytes
+    → start_of c bytes (units_of c bytes) ≡ length bytes
 start-end Latin1 bytes w = omega arith
 start-end Utf8 bytes w = omega arith
 start-end Utf32 bytes w = omega (arith, w)
 
-pub replaced-end : (bytes new : List ℕ) (at : ℕ) → at ≡ length bytes → replaced bytes at new ≡ bytes ++ new
+pub replaced-end : (bytes new : List ℕ) (at : ℕ) → at ≡ length bytes
+    → replaced bytes at new ≡ bytes ++ new
 replaced-end bytes new at e =
     let cut : take at bytes ≡ bytes = rw e (take-length bytes) in
     let past : drop (at + length new) bytes ≡ [] =
-    nil_from_length (drop (at + length new) bytes) (omega (arith, e, length-drop (at + length new) bytes)) in
+    nil_from_length (drop (at + length new) bytes)
+    (omega (arith, e, length-drop (at + length new) bytes)) in
     rw (cut, past) (append-nil (bytes ++ new))
 
 pub put-end : (c : Coding) (bytes : List ℕ) (x : ℕ) → IsWhole c bytes → has_code c x ≡ true
@@ -96,28 +107,41 @@ first-char : (c : Coding) (bytes rest : List ℕ) (x : ℕ) → IsWhole c bytes 
     → char_at c (bytes ++ bytes_in c x ++ rest) (units_of c bytes)
     ≡ Some (record { code = x; steps = steps_of c (length (bytes_in c x)) })
 first-char Latin1 bytes rest x w h =
-    let long : length (bytes ++ x ∷ rest) ≡ length bytes + length (x ∷ rest) = length-append bytes (x ∷ rest) in
-    let inside : nat_lt (length bytes) (length (bytes ++ x ∷ rest)) ≡ true = below _ _ (omega (arith, long)) in
+    let long : length (bytes ++ x ∷ rest) ≡ length bytes + length (x ∷ rest) =
+    length-append bytes (x ∷ rest) in
+    let inside : nat_lt (length bytes) (length (bytes ++ x ∷ rest)) ≡ true =
+    below _ _ (omega (arith, long)) in
     rw (append_assoc bytes (x ∷ []) rest, inside)
-    (ap (λ (code : ℕ). Some (record { code = code; steps = 1 })) (get_or-append_seam bytes x rest 0))
+    (ap (λ (code : ℕ). Some (record { code = code; steps = 1 }))
+    (get_or-append_seam bytes x rest 0))
 first-char Utf8 bytes rest x w h =
-    let long : length (bytes ++ (encode_utf8 x ++ rest)) ≡ length bytes + length (encode_utf8 x ++ rest) =
+    let long : length (bytes ++ (encode_utf8 x ++ rest)) ≡ length bytes + length
+    (encode_utf8 x ++ rest) =
     length-append bytes (encode_utf8 x ++ rest) in
-    let more : length (encode_utf8 x ++ rest) ≡ length (encode_utf8 x) + length rest = length-append (encode_utf8 x) rest in
+    let more : length (encode_utf8 x ++ rest) ≡ length (encode_utf8 x) + length rest =
+    length-append (encode_utf8 x) rest in
     let inside : nat_lt (length bytes) (length (bytes ++ (encode_utf8 x ++ rest))) ≡ true =
     below _ _ (omega (arith, long, more, some-encode x)) in
-    rw (append_assoc bytes (encode_utf8 x) rest, inside, drop-append_seam bytes (encode_utf8 x ++ rest), decoded-encode x rest h) refl
+    rw (
+      append_assoc bytes (encode_utf8 x) rest,
+      inside,
+      drop-append_seam bytes
+          (encode_utf8 x ++ rest),
+      decoded-encode x rest h,
+    ) refl
 first-char Utf32 bytes rest x w h =
     let new = big_bytes 4 x in
     let four : length new ≡ 4 = length-bytes_high_first 4 x in
-    let long : length (bytes ++ (new ++ rest)) ≡ length bytes + length (new ++ rest) = length-append bytes (new ++ rest) in
+    let long : length (bytes ++ (new ++ rest)) ≡ length bytes + length (new ++ rest) =
+    length-append bytes (new ++ rest) in
     let more : length (new ++ rest) ≡ length new + length rest = length-append new rest in
     let inside : nat_lt (length bytes / 4) (length (bytes ++ (new ++ rest)) / 4) ≡ true =
     below _ _ (omega (arith, long, more, four, w)) in
     let fits : x < 256 ^ 4 = grind (arith, common_steps, h) in
     let value : number_at 4 (bytes ++ (new ++ rest)) (4 * (length bytes / 4)) ≡ x =
     rw (w, drop-append_seam bytes (new ++ rest)) (big_number-reads_back 4 x rest fits) in
-    rw (append_assoc bytes new rest, inside) (ap (λ (code : ℕ). Some (record { code = code; steps = 1 })) value)
+    rw (append_assoc bytes new rest, inside)
+    (ap (λ (code : ℕ). Some (record { code = code; steps = 1 })) value)
 
 none-left : (c : Coding) (bytes : List ℕ) → char_at c bytes (units_of c bytes) ≡ None
 none-left Latin1 bytes = grind (arith, common_steps)
@@ -131,10 +155,12 @@ reads c bytes [] w h = rw (append-nil bytes) (none-left c bytes)
 reads c bytes (x ∷ xs) w h =
     let rest = reads c (bytes ++ bytes_in c x) xs (whole-append c bytes x w) h.1 in (
       steps_of c (length (bytes_in c x)),
-      rw (sym (append_assoc bytes (bytes_in c x) (spelled c xs))) (first-char c bytes (spelled c xs) x w h.0),
+      rw (sym (append_assoc bytes (bytes_in c x) (spelled c xs)))
+          (first-char c bytes (spelled c xs) x w h.0),
       subst (λ b. Reads c b (units_of c bytes + steps_of c (length (bytes_in c x))) xs)
           (append_assoc bytes (bytes_in c x) (spelled c xs))
-          (subst (λ p. Reads c ((bytes ++ bytes_in c x) ++ spelled c xs) p xs) (units-append c bytes x w) rest),
+          (subst (λ p. Reads c ((bytes ++ bytes_in c x) ++ spelled c xs) p xs)
+          (units-append c bytes x w) rest),
     )
 
 pub empty-whole : (c : Coding) → IsWhole c []
@@ -150,4 +176,5 @@ empty-units Utf32 = refl
 pub round_trip : RoundTrip
 round_trip c codes h =
     rw (puts-spell c [] codes (empty-whole c) h)
-    (subst (λ p. Reads c (spelled c codes) p codes) (empty-units c) (reads c [] codes (empty-whole c) h))
+    (subst (λ p. Reads c (spelled c codes) p codes) (empty-units c)
+    (reads c [] codes (empty-whole c) h))

@@ -1,5 +1,7 @@
 -- Each call keeps what is valid.
-use Rattle.std.proofs.Common.{◌≡◌, ◌≤◌, ◌<◌, ℕ, ◌+◌, ◌-◌, Bool, true, false, ◌||◌, List, [], ◌∷◌, ◌++◌, refl, Option, Some, None, Result, Ok, Err, arith, nat_lt, nat_le, ◌==◌, length, not, take, drop, length-append, length-drop}
+use Rattle.std.proofs.Common.{◌≡◌, ◌≤◌, ◌<◌, ℕ, ◌+◌, ◌-◌, Bool, true, false, ◌||◌, List, [], ◌∷◌}
+use Rattle.std.proofs.Common.{◌++◌, refl, Option, Some, None, Result, Ok, Err, arith, nat_lt}
+use Rattle.std.proofs.Common.{nat_le, ◌==◌, length, not, take, drop, length-append, length-drop}
 use Rattle.std.specs.Prelude.{cond}
 use Rattle.std.proofs.lemmas.Grind.{common_steps}
 use Rattle.std.proofs.lemmas.Bool.{and_parts}
@@ -18,16 +20,23 @@ use Rattle.glk_streams.specs.declared.stream.Target.TheVariants.{Window, Memory,
 use Rattle.glk_streams.specs.Answer.{live, ◌>>=◌}
 use Rattle.glk_streams.specs.Coding.{coding_of, kept}
 use Rattle.glk_streams.specs.FileRefs.{made_ref, with_current, style_of}
-use Rattle.glk_streams.specs.Files.{has_file, content_of, holding, bytes_of, may_stand, room_of, without_file}
+use Rattle.glk_streams.specs.Files.{has_file, content_of, holding, bytes_of, may_stand, room_of}
+use Rattle.glk_streams.specs.Files.{without_file}
 use Rattle.glk_streams.specs.Input.{got_by, behind, passed}
 use Rattle.glk_streams.specs.Laws.{IsValid, Leaves, LeavesBeside, StaysValid}
-use Rattle.glk_streams.specs.Opening.{opened_window, opened_memory, opened_ref, opened_name, readied, can_open, first_place, fresh, joined, taken, count_of, is_full, is_memory_mode, is_file_mode, dropped}
-use Rattle.glk_streams.specs.Output.{put_by, put_in, put_bytes, put_in_memory, in_memory, is_kept, start_of, counted, placed, Put}
+use Rattle.glk_streams.specs.Opening.{opened_window, opened_memory, opened_ref, opened_name}
+use Rattle.glk_streams.specs.Opening.{readied, can_open, first_place, fresh, joined, taken}
+use Rattle.glk_streams.specs.Opening.{count_of, is_full, is_memory_mode, is_file_mode, dropped}
+use Rattle.glk_streams.specs.Output.{put_by, put_in, put_bytes, put_in_memory, in_memory, is_kept}
+use Rattle.glk_streams.specs.Output.{start_of, counted, placed, Put}
 use Rattle.glk_streams.specs.Position.{sought_in}
-use Rattle.glk_streams.specs.Streams.{StreamTable, ref_number_of, stream_at, ref_at, stream_of_window, is_window, with_stream, is_write_mode}
+use Rattle.glk_streams.specs.Streams.{StreamTable, ref_number_of, stream_at, ref_at}
+use Rattle.glk_streams.specs.Streams.{stream_of_window, is_window, with_stream, is_write_mode}
 use Rattle.glk_streams.specs.Valid.{is_current, are_files, are_streams}
 use Rattle.glk_streams.proofs.ValidLemmas.{count-window, count-more, or_parts}
-use Rattle.glk_streams.proofs.ValidLaws.{Parts, parts_of, of_parts, files_of, files-held, files-without, held_of, streams-more, streams-changed, streams-without, streams-current, refs-more, refs-without}
+use Rattle.glk_streams.proofs.ValidLaws.{Parts, parts_of, of_parts, files_of, files-held}
+use Rattle.glk_streams.proofs.ValidLaws.{files-without, held_of, streams-more, streams-changed}
+use Rattle.glk_streams.proofs.ValidLaws.{streams-without, streams-current, refs-more, refs-without}
 
 negated : (x : Bool) → not x ≡ false → x ≡ true
 negated true e = refl
@@ -43,7 +52,8 @@ window-by t win false e h =
     let v = fresh t.next 0 1 false (Window win) 0 in
     let r = held_of t.next t.current t.streams p.streams in
     let low : t.next ≤ 4294967294 = grind (arith, common_steps, e) in
-    let few : count_of (t.streams ++ v ∷ []) ≤ 64 = grind (arith, common_steps, count-window t.streams v refl, r.count) in
+    let few : count_of (t.streams ++ v ∷ []) ≤ 64 =
+    grind (arith, common_steps, count-window t.streams v refl, r.count) in
     rw e (of_parts (joined t v).0 (record {
       streams = streams-more t.next t.current t.streams v p.streams low refl refl few;
       refs = p.refs;
@@ -64,14 +74,16 @@ memory-by t buf len mode rock unicode true false e f h =
     let p = parts_of t h in
     let v = fresh t.next rock mode unicode (Memory buf len) 0 in
     let room = room-of t f in
-    let few : count_of (t.streams ++ v ∷ []) ≤ 64 = grind (arith, common_steps, count-more t.streams v, room.1) in
+    let few : count_of (t.streams ++ v ∷ []) ≤ 64 =
+    grind (arith, common_steps, count-more t.streams v, room.1) in
     rw (e, f) (of_parts (joined t v).0 (record {
       streams = streams-more t.next t.current t.streams v p.streams room.0 refl e few;
       refs = p.refs;
       files = p.files;
     }))
 
-stands : (fs : List file.File) (u : ℕ) (n : List ℕ) (mode : ℕ) → can_open fs u n mode ≡ true → may_stand fs u n ≡ true
+stands : (fs : List file.File) (u : ℕ) (n : List ℕ) (mode : ℕ) → can_open fs u n mode ≡ true
+    → may_stand fs u n ≡ true
 stands fs u n mode e = grind (arith, common_steps, e)
 
 emptied : (fs : List file.File) (u : ℕ) (n : List ℕ) → are_files fs ≡ true → may_stand fs u n ≡ true
@@ -88,7 +100,8 @@ name-by t u n mode rock unicode s e m stand f h =
     let p = parts_of t h in
     let v = fresh t.next rock mode unicode (File u n) (first_place t.files u n mode unicode) in
     let room = room-of t f in
-    let few : count_of (t.streams ++ v ∷ []) ≤ 64 = grind (arith, common_steps, count-more t.streams v, room.1) in
+    let few : count_of (t.streams ++ v ∷ []) ≤ 64 =
+    grind (arith, common_steps, count-more t.streams v, room.1) in
     let streams = streams-more t.next t.current t.streams v p.streams room.0 refl m few in
     by s e v streams p stand
   where
@@ -102,23 +115,27 @@ name-by t u n mode rock unicode s e m stand f h =
           files = emptied t.files u n p.files stand;
         }))
     by false e v streams p stand =
-        rw e (of_parts (joined t v).0 (record { streams = streams; refs = p.refs; files = p.files }))
+        rw e (of_parts (joined t v).0
+        (record { streams = streams; refs = p.refs; files = p.files }))
 
 ref-by : (t : StreamTable) (r : FileRef) (mode rock : ℕ) (unicode : Bool) (a b : Bool)
-    → is_file_mode mode ≡ a → (is_full t || not (can_open t.files r.usage r.name mode)) ≡ b → IsValid t
+    → is_file_mode mode ≡ a → (is_full t || not (can_open t.files r.usage r.name mode)) ≡ b
+    → IsValid t
     → LeavesBeside (opened_ref t r mode rock unicode)
 ref-by t r mode rock unicode false b e f h = rw e tt
 ref-by t r mode rock unicode true true e f h = rw (e, f) h
 ref-by t r mode rock unicode true false e f h =
     let a = or_parts (is_full t) (not (can_open t.files r.usage r.name mode)) f in
-    rw (e, f) (name-by t r.usage r.name mode rock unicode (mode == 1 || not (has_file t.files r.usage r.name)) refl e
+    rw (e, f) (name-by t r.usage r.name mode rock unicode
+    (mode == 1 || not (has_file t.files r.usage r.name)) refl e
     (stands t.files r.usage r.name mode (negated _ a.1)) a.0 h)
 
 file-by : (t : StreamTable) (o : Option FileRef) (mode rock : ℕ) (unicode : Bool) → IsValid t
     → LeavesBeside (live o (λ r. opened_ref t r mode rock unicode))
 file-by t None mode rock unicode h = tt
 file-by t (Some r) mode rock unicode h =
-    ref-by t r mode rock unicode (is_file_mode mode) (is_full t || not (can_open t.files r.usage r.name mode)) refl refl h
+    ref-by t r mode rock unicode (is_file_mode mode)
+    (is_full t || not (can_open t.files r.usage r.name mode)) refl refl h
 
 -- closing
 
@@ -142,7 +159,8 @@ close-by t n (Some s) h = by (is_window s.target)
 
 -- a stream in another state
 
-changed-valid : (t : StreamTable) (n : ℕ) (s v : Stream) (fs : List file.File) → stream_at t n ≡ Some s → v.number ≡ s.number
+changed-valid : (t : StreamTable) (n : ℕ) (s v : Stream) (fs : List file.File)
+    → stream_at t n ≡ Some s → v.number ≡ s.number
     → v.target ≡ s.target → v.mode ≡ s.mode → are_files fs ≡ true → IsValid t
     → IsValid (with_stream (record t { files = fs }) n v)
 changed-valid t n s v fs f e g m k h =
@@ -173,83 +191,107 @@ bytes-by : (fs : List file.File) (place u : ℕ) (n : List ℕ) (c : Coding) (ne
 bytes-by fs place u n c new false e h = rw e h
 bytes-by fs place u n c new true e h =
     let at = start_of c (content_of fs u n) place in
-    let a = and_parts (may_stand fs u n) (nat_le (at + length new - length (content_of fs u n)) (room_of fs)) e in
+    let a = and_parts (may_stand fs u n)
+    (nat_le (at + length new - length (content_of fs u n)) (room_of fs)) e in
     let f = files_of fs h in
     let long = replaced-length (content_of fs u n) at new in
-    let fits : bytes_of fs + length (replaced (content_of fs u n) at new) ≤ 1048576 + length (content_of fs u n) =
-    fits-by (bytes_of fs) (length (content_of fs u n)) (at + length new) (length (replaced (content_of fs u n) at new)) a.1 f.bytes long in
+    let fits : bytes_of fs + length (replaced (content_of fs u n) at new) ≤ 1048576 + length
+    (content_of fs u n) =
+    fits-by (bytes_of fs) (length (content_of fs u n)) (at + length new)
+    (length (replaced (content_of fs u n) at new)) a.1 f.bytes long in
     rw e (files-held fs u n (replaced (content_of fs u n) at new) h a.0 fits)
   where
-    fits-by : (sum was end long : ℕ) → nat_le (end - was) (1048576 - sum) ≡ true → nat_le sum 1048576 ≡ true
+    fits-by : (sum was end long : ℕ) → nat_le (end - was) (1048576 - sum) ≡ true
+        → nat_le sum 1048576 ≡ true
         → long ≤ end + (was - end) → sum + long ≤ 1048576 + was
     fits-by sum was end long a b l = grind (arith, common_steps, a, b, l)
 
-in-memory : (fs : List file.File) (r : Result (MemoryMap × ℕ) StreamStop) → are_files fs ≡ true → FilesIn (in_memory fs r)
+in-memory : (fs : List file.File) (r : Result (MemoryMap × ℕ) StreamStop) → are_files fs ≡ true
+    → FilesIn (in_memory fs r)
 in-memory fs (Ok done) h = h
 in-memory fs (Err e) h = tt
 
-put-in : (to : Target) (unicode : Bool) (fs : List file.File) (m : MemoryMap) (place code : ℕ) → are_files fs ≡ true
+put-in : (to : Target) (unicode : Bool) (fs : List file.File) (m : MemoryMap) (place code : ℕ)
+    → are_files fs ≡ true
     → FilesIn (put_in to unicode fs m place code)
 put-in (Window win) unicode fs m place code h = h
 put-in (Memory buf len) unicode fs m place code h =
     in-memory fs (put_in_memory m place buf len (coding_of unicode (Memory buf len)) code) h
 put-in (File u n) unicode fs m place code h =
     bytes-by fs place u n (coding_of unicode (File u n)) (kept (coding_of unicode (File u n)) code)
-    (is_kept fs u n (start_of (coding_of unicode (File u n)) (content_of fs u n) place) (length (kept (coding_of unicode (File u n)) code)))
+    (is_kept fs u n (start_of (coding_of unicode (File u n)) (content_of fs u n) place)
+    (length (kept (coding_of unicode (File u n)) code)))
     refl h
 
-put-by : (fs : List file.File) (m : MemoryMap) (s : Stream) (code : ℕ) (w : Bool) → is_write_mode s.mode ≡ w
+put-by : (fs : List file.File) (m : MemoryMap) (s : Stream) (code : ℕ) (w : Bool)
+    → is_write_mode s.mode ≡ w
     → are_files fs ≡ true → FilesIn (put_by fs m s code)
 put-by fs m s code true e h = rw e (put-in s.target s.unicode fs m s.place code h)
 put-by fs m s code false e h = rw e tt
 
-put-then : (t : StreamTable) (n : ℕ) (s : Stream) (r : Put) → stream_at t n ≡ Some s → FilesIn r → IsValid t
-    → LeavesBeside (r >>= (λ done. Ok (with_stream (record t { files = done.0 }) n (counted (placed done.2 s)), done.1)))
-put-then t n s (Ok done) f k h = changed-valid t n s (counted (placed done.2 s)) done.0 f refl refl refl k h
+put-then : (t : StreamTable) (n : ℕ) (s : Stream) (r : Put) → stream_at t n ≡ Some s → FilesIn r
+    → IsValid t
+    → LeavesBeside (r >>=
+    (λ done. Ok (with_stream (record t { files = done.0 }) n (counted (placed done.2 s)), done.1)))
+put-then t n s (Ok done) f k h =
+    changed-valid t n s (counted (placed done.2 s)) done.0 f refl refl refl k h
 put-then t n s (Err e) f k h = tt
 
-write-by : (t : StreamTable) (m : MemoryMap) (n code : ℕ) (o : Option Stream) → stream_at t n ≡ o → IsValid t
+write-by : (t : StreamTable) (m : MemoryMap) (n code : ℕ) (o : Option Stream) → stream_at t n ≡ o
+    → IsValid t
     → LeavesBeside (live o (λ s. put_by t.files m s code
-    >>= (λ done. Ok (with_stream (record t { files = done.0 }) n (counted (placed done.2 s)), done.1))))
+    >>= (λ done. Ok (
+      with_stream (record t { files = done.0 }) n
+          (counted (placed done.2 s)),
+      done.1,
+    ))))
 write-by t m n code None f h = tt
 write-by t m n code (Some s) f h =
     put-then t n s (put_by t.files m s code) f
     (put-by t.files m s code (is_write_mode s.mode) refl (parts_of t h).files) h
 
-read-then : (t : StreamTable) (n : ℕ) (s : Stream) (r : Result (Option Reading) StreamStop) → stream_at t n ≡ Some s → IsValid t
+read-then : (t : StreamTable) (n : ℕ) (s : Stream) (r : Result (Option Reading) StreamStop)
+    → stream_at t n ≡ Some s → IsValid t
     → LeavesBeside (r >>= (λ r. Ok (behind t n s r)))
 read-then t n s (Err e) f h = tt
 read-then t n s (Ok None) f h = h
-read-then t n s (Ok (Some r)) f h = changed-valid t n s (passed r s) t.files f refl refl refl (parts_of t h).files h
+read-then t n s (Ok (Some r)) f h =
+    changed-valid t n s (passed r s) t.files f refl refl refl (parts_of t h).files h
 
-read-by : (t : StreamTable) (m : MemoryMap) (n : ℕ) (o : Option Stream) → stream_at t n ≡ o → IsValid t
+read-by : (t : StreamTable) (m : MemoryMap) (n : ℕ) (o : Option Stream) → stream_at t n ≡ o
+    → IsValid t
     → LeavesBeside (live o (λ s. got_by t.files m s >>= (λ r. Ok (behind t n s r))))
 read-by t m n None f h = tt
 read-by t m n (Some s) f h = read-then t n s (got_by t.files m s) f h
 
 sought-same : (to : Target) (fs : List file.File) (s : Stream) (by from : ℕ)
-    → ((sought_in to fs s by from).number ≡ s.number) × ((sought_in to fs s by from).target ≡ s.target)
+    → ((sought_in to fs s by from).number ≡ s.number) ×
+    ((sought_in to fs s by from).target ≡ s.target)
     × ((sought_in to fs s by from).mode ≡ s.mode)
 sought-same (Window win) fs s by from = (refl, refl, refl)
 sought-same (Memory buf len) fs s by from = (refl, refl, refl)
 sought-same (File u n) fs s by from = (refl, refl, refl)
 
-seek-by : (t : StreamTable) (n by from : ℕ) (o : Option Stream) (b : Bool) → stream_at t n ≡ o → nat_lt 2 from ≡ b → IsValid t
+seek-by : (t : StreamTable) (n by from : ℕ) (o : Option Stream) (b : Bool) → stream_at t n ≡ o
+    → nat_lt 2 from ≡ b → IsValid t
     → Leaves (live o (λ s. cond (nat_lt 2 from) (Err BadArgument)
     (Ok (with_stream t n (sought_in s.target t.files s by from)))))
 seek-by t n by from None b f e h = tt
 seek-by t n by from (Some s) true f e h = rw e tt
 seek-by t n by from (Some s) false f e h =
     let same = sought-same s.target t.files s by from in
-    rw e (changed-valid t n s (sought_in s.target t.files s by from) t.files f same.0 same.1 same.2 (parts_of t h).files h)
+    rw e (changed-valid t n s (sought_in s.target t.files s by from) t.files f same.0 same.1 same.2
+    (parts_of t h).files h)
 
 style-by : (t : StreamTable) (n style : ℕ) (o : Option Stream) → stream_at t n ≡ o → IsValid t
     → Leaves (live o (λ s. Ok (with_stream t n (record s { style = style_of style }))))
 style-by t n style None f h = tt
 style-by t n style (Some s) f h =
-    changed-valid t n s (record s { style = style_of style }) t.files f refl refl refl (parts_of t h).files h
+    changed-valid t n s (record s { style = style_of style }) t.files f refl refl refl
+    (parts_of t h).files h
 
-current-by : (t : StreamTable) (n : ℕ) (b : Bool) → is_current t.streams n ≡ b → IsValid t → Leaves (with_current t n)
+current-by : (t : StreamTable) (n : ℕ) (b : Bool) → is_current t.streams n ≡ b → IsValid t
+    → Leaves (with_current t n)
 current-by t n true e h =
     let p = parts_of t h in
     rw e (of_parts (record t { current = n }) (record {
@@ -262,7 +304,8 @@ current-by t n false e h = rw e tt
 -- references
 
 refer-by : (t : StreamTable) (u : ℕ) (n : List ℕ) (rock : ℕ) (b : Bool)
-    → (nat_le 64 (length t.refs) || nat_lt 4294967294 t.next_ref) ≡ b → IsValid t → IsValid (made_ref t u n rock).0
+    → (nat_le 64 (length t.refs) || nat_lt 4294967294 t.next_ref) ≡ b → IsValid t
+    → IsValid (made_ref t u n rock).0
 refer-by t u n rock true e h = rw e h
 refer-by t u n rock false e h =
     let p = parts_of t h in
@@ -270,12 +313,15 @@ refer-by t u n rock false e h =
     let v : FileRef = record { number = t.next_ref; usage = u; rock = rock; name = n } in
     rw e (of_parts (record t { refs = t.refs ++ v ∷ []; next_ref = t.next_ref + 1 }) (record {
       streams = p.streams;
-      refs = refs-more t.next_ref t.refs v p.refs (grind (arith, common_steps, a.1)) refl (grind (arith, common_steps, a.0));
+      refs = refs-more t.next_ref t.refs v p.refs (grind (arith, common_steps, a.1)) refl
+          (grind (arith, common_steps, a.0));
       files = p.files;
     }))
 
-refer : (t : StreamTable) (u : ℕ) (n : List ℕ) (rock : ℕ) → IsValid t → IsValid (made_ref t u n rock).0
-refer t u n rock h = refer-by t u n rock (nat_le 64 (length t.refs) || nat_lt 4294967294 t.next_ref) refl h
+refer : (t : StreamTable) (u : ℕ) (n : List ℕ) (rock : ℕ) → IsValid t
+    → IsValid (made_ref t u n rock).0
+refer t u n rock h =
+    refer-by t u n rock (nat_le 64 (length t.refs) || nat_lt 4294967294 t.next_ref) refl h
 
 copy-by : (t : StreamTable) (u rock : ℕ) (o : Option FileRef) → IsValid t
     → LeavesBeside (live o (λ r. Ok (made_ref t u r.name rock)))
@@ -307,7 +353,8 @@ delete-by t (Some r) h =
 pub keeps : StaysValid
 keeps t h = record {
   window = λ win. window-by t win (nat_lt 4294967294 t.next) refl h;
-  memory = λ buf len mode rock unicode. memory-by t buf len mode rock unicode (is_memory_mode mode) (is_full t) refl refl h;
+  memory = λ buf len mode rock unicode. memory-by t buf len mode rock unicode (is_memory_mode mode)
+      (is_full t) refl refl h;
   file = λ fref mode rock unicode. file-by t (ref_at t fref) mode rock unicode h;
   close = λ n. close-by t n (stream_at t n) h;
   close_window = λ win. dropped-valid t (stream_of_window t.streams win) h;

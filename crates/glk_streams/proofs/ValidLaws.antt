@@ -1,5 +1,6 @@
 -- Each call keeps streams, file references and files valid.
-use Rattle.std.proofs.Common.{◌≡◌, ◌≤◌, ◌<◌, ℕ, ◌+◌, Bool, true, false, ◌&&◌, ◌||◌, List, [], ◌∷◌, ◌++◌, refl, ap, ◌∙◌, Some, arith, nat_le, ◌==◌, length}
+use Rattle.std.proofs.Common.{◌≡◌, ◌≤◌, ◌<◌, ℕ, ◌+◌, Bool, true, false, ◌&&◌, ◌||◌, List, [], ◌∷◌}
+use Rattle.std.proofs.Common.{◌++◌, refl, ap, ◌∙◌, Some, arith, nat_le, ◌==◌, length}
 use Rattle.std.proofs.lemmas.Grind.{common_steps}
 use Rattle.std.proofs.lemmas.Bool.{and_parts}
 use Rattle.std.specs.Prelude.{cond}
@@ -7,11 +8,19 @@ use Rattle.glk_numbers.specs.Numbered.{found, changed_at, without, ascends}
 use Rattle.glk_streams.specs.declared.file.File.{File}
 use Rattle.glk_streams.specs.declared.stream.Stream.{Stream}
 use Rattle.glk_streams.specs.declared.fileref.FileRef.{FileRef}
-use Rattle.glk_streams.specs.Files.{has_file, content_of, with_bytes, with_file, without_file, holding, bytes_of, may_stand}
+use Rattle.glk_streams.specs.Files.{has_file, content_of, with_bytes, with_file, without_file}
+use Rattle.glk_streams.specs.Files.{holding, bytes_of, may_stand}
 use Rattle.glk_streams.specs.Streams.{StreamTable, no_streams, number_of, ref_number_of, is_window}
 use Rattle.glk_streams.specs.Opening.{count_of}
-use Rattle.glk_streams.specs.Valid.{is_mode, are_modes, is_current, is_next, in_order, are_kinds, are_files, are_streams, are_refs, is_valid}
-use Rattle.glk_streams.proofs.ValidLemmas.{in_order-bytes, in_order-file, in_order-without, kinds-bytes, kinds-file, kinds-without, length-bytes, length-file, length-without, bytes-bytes, bytes-file, bytes-without, ascends-changed, ascends-more, ascends-without, has-changed, has-without, has-more, number-found, length-left, modes-changed, mode-found, modes-without, modes-more, count-changed, count-without}
+use Rattle.glk_streams.specs.Valid.{is_mode, are_modes, is_current, is_next, in_order, are_kinds}
+use Rattle.glk_streams.specs.Valid.{are_files, are_streams, are_refs, is_valid}
+use Rattle.glk_streams.proofs.ValidLemmas.{in_order-bytes, in_order-file, in_order-without}
+use Rattle.glk_streams.proofs.ValidLemmas.{kinds-bytes, kinds-file, kinds-without, length-bytes}
+use Rattle.glk_streams.proofs.ValidLemmas.{length-file, length-without, bytes-bytes, bytes-file}
+use Rattle.glk_streams.proofs.ValidLemmas.{bytes-without, ascends-changed, ascends-more}
+use Rattle.glk_streams.proofs.ValidLemmas.{ascends-without, has-changed, has-without, has-more}
+use Rattle.glk_streams.proofs.ValidLemmas.{number-found, length-left, modes-changed, mode-found}
+use Rattle.glk_streams.proofs.ValidLemmas.{modes-without, modes-more, count-changed, count-without}
 
 -- the parts of a conjunction, and back
 pub both : (x y : Bool) → x ≡ true → y ≡ true → (x && y) ≡ true
@@ -33,7 +42,8 @@ files_of fs h =
 pub of_files : (fs : List File) → Files fs → are_files fs ≡ true
 of_files fs f = both _ _ (both _ _ (both _ _ f.order f.kinds) f.count) f.bytes
 
-held-as : (fs : List File) (u : ℕ) (n b : List ℕ) (s : Bool) → has_file fs u n ≡ s → are_files fs ≡ true
+held-as : (fs : List File) (u : ℕ) (n b : List ℕ) (s : Bool) → has_file fs u n ≡ s
+    → are_files fs ≡ true
     → may_stand fs u n ≡ true → (s ≡ false → content_of fs u n ≡ [])
     → bytes_of fs + length b ≤ 1048576 + length (content_of fs u n)
     → are_files (holding fs u n b) ≡ true
@@ -55,16 +65,20 @@ held-as fs u n b false e h m z l =
       bytes = grind (arith, common_steps, bytes-file fs u n b, l, none);
     }))
 
-pub no-content : (fs : List File) (u : ℕ) (n : List ℕ) → has_file fs u n ≡ false → content_of fs u n ≡ []
+pub no-content : (fs : List File) (u : ℕ) (n : List ℕ) → has_file fs u n ≡ false
+    → content_of fs u n ≡ []
 unfolding has_file content_of
 no-content [] u n h = refl
 no-content (f ∷ fs) u n h = grind (arith, common_steps, h, no-content fs u n)
 
-pub files-held : (fs : List File) (u : ℕ) (n b : List ℕ) → are_files fs ≡ true → may_stand fs u n ≡ true
-    → bytes_of fs + length b ≤ 1048576 + length (content_of fs u n) → are_files (holding fs u n b) ≡ true
+pub files-held : (fs : List File) (u : ℕ) (n b : List ℕ) → are_files fs ≡ true
+    → may_stand fs u n ≡ true
+    → bytes_of fs + length b ≤ 1048576 + length (content_of fs u n)
+    → are_files (holding fs u n b) ≡ true
 files-held fs u n b h m l = held-as fs u n b (has_file fs u n) refl h m (no-content fs u n) l
 
-pub files-without : (fs : List File) (u : ℕ) (n : List ℕ) → are_files fs ≡ true → are_files (without_file fs u n) ≡ true
+pub files-without : (fs : List File) (u : ℕ) (n : List ℕ) → are_files fs ≡ true
+    → are_files (without_file fs u n) ≡ true
 files-without fs u n h =
     let f = files_of fs h in
     of_files (without_file fs u n) (record {
@@ -83,7 +97,8 @@ pub record Held (next current : ℕ) (ss : List Stream) : Type 0 where
   pub count : nat_le (count_of ss) 64 ≡ true
   pub live : is_current ss current ≡ true
 
-pub held_of : (next current : ℕ) (ss : List Stream) → are_streams next current ss ≡ true → Held next current ss
+pub held_of : (next current : ℕ) (ss : List Stream) → are_streams next current ss ≡ true
+    → Held next current ss
 held_of next current ss h =
     let a = and_parts _ _ h in
     let b = and_parts _ _ a.0 in
@@ -91,7 +106,8 @@ held_of next current ss h =
     let d = and_parts _ _ c.0 in
     record { next_is = d.0; order = d.1; modes = c.1; count = b.1; live = a.1 }
 
-pub of_held : (next current : ℕ) (ss : List Stream) → Held next current ss → are_streams next current ss ≡ true
+pub of_held : (next current : ℕ) (ss : List Stream) → Held next current ss
+    → are_streams next current ss ≡ true
 of_held next current ss h =
     both _ _ (both _ _ (both _ _ (both _ _ h.next_is h.order) h.modes) h.count) h.live
 
@@ -105,8 +121,10 @@ next-more next h l = grind (arith, common_steps, h)
 next-some : (next : ℕ) → is_next next ≡ true → 0 < next
 next-some next h = grind (arith, common_steps, h)
 
-pub streams-more : (next current : ℕ) (ss : List Stream) (v : Stream) → are_streams next current ss ≡ true
-    → next ≤ 4294967294 → v.number ≡ next → is_mode v.target v.mode ≡ true → count_of (ss ++ v ∷ []) ≤ 64
+pub streams-more : (next current : ℕ) (ss : List Stream) (v : Stream)
+    → are_streams next current ss ≡ true
+    → next ≤ 4294967294 → v.number ≡ next → is_mode v.target v.mode ≡ true
+    → count_of (ss ++ v ∷ []) ≤ 64
     → are_streams (next + 1) current (ss ++ v ∷ []) ≡ true
 streams-more next current ss v h l e m k =
     let s = held_of next current ss h in
@@ -118,8 +136,10 @@ streams-more next current ss v h l e m k =
       live = or-then _ _ _ s.live (has-more number_of ss v current);
     })
 
-pub streams-changed : (next current : ℕ) (ss : List Stream) (n : ℕ) (s v : Stream) → found number_of ss n ≡ Some s
-    → v.number ≡ s.number → v.target ≡ s.target → v.mode ≡ s.mode → are_streams next current ss ≡ true
+pub streams-changed : (next current : ℕ) (ss : List Stream) (n : ℕ) (s v : Stream)
+    → found number_of ss n ≡ Some s
+    → v.number ≡ s.number → v.target ≡ s.target → v.mode ≡ s.mode
+    → are_streams next current ss ≡ true
     → are_streams next current (changed_at number_of (λ _. v) ss n) ≡ true
 streams-changed next current ss n s v f e t m h =
     let r = held_of next current ss h in
@@ -133,13 +153,15 @@ streams-changed next current ss n s v f e t m h =
       live = or-then _ _ _ r.live (λ live. has-changed number_of ss n current v num ∙ live);
     })
 
-without-current : (ss : List Stream) (n current : ℕ) (s : Bool) → (current == n) ≡ s → is_current ss current ≡ true
+without-current : (ss : List Stream) (n current : ℕ) (s : Bool) → (current == n) ≡ s
+    → is_current ss current ≡ true
     → is_current (without number_of ss n) (cond s 0 current) ≡ true
 without-current ss n current true e h = refl
 without-current ss n current false e h =
     or-then _ _ _ h (λ live. has-without number_of ss n current (grind (arith, e)) ∙ live)
 
-pub streams-without : (next current : ℕ) (ss : List Stream) (n : ℕ) → are_streams next current ss ≡ true
+pub streams-without : (next current : ℕ) (ss : List Stream) (n : ℕ)
+    → are_streams next current ss ≡ true
     → are_streams next (cond (current == n) 0 current) (without number_of ss n) ≡ true
 streams-without next current ss n h =
     let r = held_of next current ss h in
@@ -155,16 +177,24 @@ pub streams-current : (next current n : ℕ) (ss : List Stream) → are_streams 
     → is_current ss n ≡ true → are_streams next n ss ≡ true
 streams-current next current n ss h live =
     let r = held_of next current ss h in
-    of_held next n ss (record { next_is = r.next_is; order = r.order; modes = r.modes; count = r.count; live = live })
+    of_held next n ss (record {
+      next_is = r.next_is;
+      order = r.order;
+      modes = r.modes;
+      count = r.count;
+      live = live;
+    })
 
 -- references
 
-pub refs-more : (next : ℕ) (rs : List FileRef) (v : FileRef) → are_refs next rs ≡ true → next ≤ 4294967294
+pub refs-more : (next : ℕ) (rs : List FileRef) (v : FileRef) → are_refs next rs ≡ true
+    → next ≤ 4294967294
     → v.number ≡ next → length rs < 64 → are_refs (next + 1) (rs ++ v ∷ []) ≡ true
 refs-more next rs v h l e k =
     let a = and_parts _ _ h in
     let b = and_parts _ _ a.0 in
-    both _ _ (both _ _ (next-more next b.0 l) (ascends-more ref_number_of rs 0 next v (next-some next b.0) e b.1))
+    both _ _ (both _ _ (next-more next b.0 l)
+    (ascends-more ref_number_of rs 0 next v (next-some next b.0) e b.1))
     (grind (arith, common_steps, k))
 
 pub refs-without : (next : ℕ) (rs : List FileRef) (n : ℕ) → are_refs next rs ≡ true

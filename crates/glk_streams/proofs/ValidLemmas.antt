@@ -1,5 +1,6 @@
 -- What a change of files, streams or references keeps of their validity.
-use Rattle.std.proofs.Common.{◌≡◌, ◌≢◌, ◌≤◌, ◌<◌, ℕ, ◌+◌, Bool, true, false, ◌&&◌, ◌||◌, List, [], ◌∷◌, ◌++◌, refl, ap, ◌∙◌, Some, arith, length}
+use Rattle.std.proofs.Common.{◌≡◌, ◌≢◌, ◌≤◌, ◌<◌, ℕ, ◌+◌, Bool, true, false, ◌&&◌, ◌||◌, List, []}
+use Rattle.std.proofs.Common.{◌∷◌, ◌++◌, refl, ap, ◌∙◌, Some, arith, length}
 use Rattle.std.proofs.lemmas.Grind.{common_steps}
 use Rattle.std.proofs.lemmas.Bool.{and_parts}
 use Rattle.std.specs.Ordering.{is_eq, is_lt, nat_cmp, ordering_reverse}
@@ -9,7 +10,8 @@ use Rattle.std.specs.Cmp.Lexicographic.{slice_cmp, nat_list_cmp_total}
 use Rattle.glk_numbers.specs.Numbered.{has, found, changed_at, without, ascends}
 use Rattle.glk_streams.specs.declared.file.File.{File}
 use Rattle.glk_streams.specs.declared.stream.Stream.{Stream}
-use Rattle.glk_streams.specs.Files.{key_of, file_key, is_named, stands_before, has_file, content_of, with_bytes, with_file, without_file, bytes_of}
+use Rattle.glk_streams.specs.Files.{key_of, file_key, is_named, stands_before, has_file, content_of}
+use Rattle.glk_streams.specs.Files.{with_bytes, with_file, without_file, bytes_of}
 use Rattle.glk_streams.specs.Streams.{number_of, is_window}
 use Rattle.glk_streams.specs.Opening.{count_of}
 use Rattle.glk_streams.specs.Valid.{is_mode, are_modes, is_first, in_order, are_kinds}
@@ -36,38 +38,47 @@ is_above u n f a b =
     ap is_lt (nat_list_cmp_total.antisymm (file_key f) (key_of u n))
     ∙ turned (slice_cmp nat_cmp (key_of u n) (file_key f)) a b
 
-less-trans : (x y z : List ℕ) → is_lt (slice_cmp nat_cmp x y) ≡ true → is_lt (slice_cmp nat_cmp y z) ≡ true
+less-trans : (x y z : List ℕ) → is_lt (slice_cmp nat_cmp x y) ≡ true
+    → is_lt (slice_cmp nat_cmp y z) ≡ true
     → is_lt (slice_cmp nat_cmp x z) ≡ true
 less-trans x y z a b =
-    ap is_lt (nat_list_cmp_total.trans x y z (is_less (slice_cmp nat_cmp x y) a) (is_less (slice_cmp nat_cmp y z) b))
+    ap is_lt (nat_list_cmp_total.trans x y z (is_less (slice_cmp nat_cmp x y) a)
+    (is_less (slice_cmp nat_cmp y z) b))
 
 -- files
 
-first-bytes : (f : File) (fs : List File) (u : ℕ) (n b : List ℕ) → is_first f (with_bytes fs u n b) ≡ is_first f fs
+first-bytes : (f : File) (fs : List File) (u : ℕ) (n b : List ℕ)
+    → is_first f (with_bytes fs u n b) ≡ is_first f fs
 unfolding with_bytes
 first-bytes f [] u n b = refl
 first-bytes f (g ∷ gs) u n b = grind (arith, common_steps)
 
-first-same : (f : File) (fs : List File) (b : List ℕ) → is_first (record f { bytes = b }) fs ≡ is_first f fs
+first-same : (f : File) (fs : List File) (b : List ℕ)
+    → is_first (record f { bytes = b }) fs ≡ is_first f fs
 first-same f [] b = refl
 first-same f (g ∷ gs) b = refl
 
 bytes-step : (f : File) (fs : List File) (u : ℕ) (n b : List ℕ) (s : Bool) → is_named u n f ≡ s
-    → in_order (with_bytes fs u n b) ≡ in_order fs → in_order (with_bytes (f ∷ fs) u n b) ≡ in_order (f ∷ fs)
+    → in_order (with_bytes fs u n b) ≡ in_order fs
+    → in_order (with_bytes (f ∷ fs) u n b) ≡ in_order (f ∷ fs)
 unfolding in_order with_bytes
 bytes-step f fs u n b true e h = rw e (ap (λ x. x && in_order fs) (first-same f fs b))
 bytes-step f fs u n b false e h = rw e (λ i. first-bytes f fs u n b i && h i)
 
-pub in_order-bytes : (fs : List File) (u : ℕ) (n b : List ℕ) → in_order (with_bytes fs u n b) ≡ in_order fs
+pub in_order-bytes : (fs : List File) (u : ℕ) (n b : List ℕ)
+    → in_order (with_bytes fs u n b) ≡ in_order fs
 unfolding in_order with_bytes
 in_order-bytes [] u n b = refl
-in_order-bytes (f ∷ fs) u n b = bytes-step f fs u n b (is_named u n f) refl (in_order-bytes fs u n b)
+in_order-bytes (f ∷ fs) u n b =
+    bytes-step f fs u n b (is_named u n f) refl (in_order-bytes fs u n b)
 
-first-second : (f g : File) (gs : List File) → is_first f (g ∷ gs) ≡ true → is_first g gs ≡ true → is_first f gs ≡ true
+first-second : (f g : File) (gs : List File) → is_first f (g ∷ gs) ≡ true → is_first g gs ≡ true
+    → is_first f gs ≡ true
 first-second f g [] a b = refl
 first-second f g (h ∷ hs) a b = less-trans (file_key f) (file_key g) (file_key h) a b
 
-first-without : (f : File) (fs : List File) (u : ℕ) (n : List ℕ) → is_first f fs ≡ true → in_order fs ≡ true
+first-without : (f : File) (fs : List File) (u : ℕ) (n : List ℕ) → is_first f fs ≡ true
+    → in_order fs ≡ true
     → is_first f (without_file fs u n) ≡ true
 unfolding in_order without_file
 first-without f [] u n a b = refl
@@ -75,15 +86,24 @@ first-without f (g ∷ gs) u n a b =
     let parts = and_parts (is_first g gs) (in_order gs) b in
     grind (arith, common_steps, a, first-second f g gs a parts.0)
 
-pub in_order-without : (fs : List File) (u : ℕ) (n : List ℕ) → in_order fs ≡ true → in_order (without_file fs u n) ≡ true
+pub in_order-without : (fs : List File) (u : ℕ) (n : List ℕ) → in_order fs ≡ true
+    → in_order (without_file fs u n) ≡ true
 unfolding in_order without_file
 in_order-without [] u n a = refl
 in_order-without (f ∷ fs) u n a =
     let parts = and_parts (is_first f fs) (in_order fs) a in
-    grind (arith, common_steps, in_order-without fs u n parts.1, first-without f fs u n parts.0 parts.1, parts.1)
+    grind (
+      arith,
+      common_steps,
+      in_order-without fs u n parts.1,
+      first-without f fs u n parts.0
+          parts.1,
+      parts.1,
+    )
 
 first-file : (f : File) (fs : List File) (u : ℕ) (n b : List ℕ) → is_first f fs ≡ true
-    → is_lt (slice_cmp nat_cmp (file_key f) (key_of u n)) ≡ true → is_first f (with_file fs u n b) ≡ true
+    → is_lt (slice_cmp nat_cmp (file_key f) (key_of u n)) ≡ true
+    → is_first f (with_file fs u n b) ≡ true
 unfolding with_file
 first-file f [] u n b a h = h
 first-file f (g ∷ gs) u n b a h = grind (arith, common_steps, a, h)
@@ -96,43 +116,51 @@ file-step f fs u n b true e a o other h = rw e (grind (arith, common_steps, a, o
 file-step f fs u n b false e a o other h =
     rw e (grind (arith, common_steps, h, first-file f fs u n b a (is_above u n f other e)))
 
-pub in_order-file : (fs : List File) (u : ℕ) (n b : List ℕ) → in_order fs ≡ true → has_file fs u n ≡ false
+pub in_order-file : (fs : List File) (u : ℕ) (n b : List ℕ) → in_order fs ≡ true
+    → has_file fs u n ≡ false
     → in_order (with_file fs u n b) ≡ true
 unfolding in_order with_file has_file
 in_order-file [] u n b a h = refl
 in_order-file (f ∷ fs) u n b a h =
     let parts = and_parts (is_first f fs) (in_order fs) a in
     let apart = or_parts (is_named u n f) (has_file fs u n) h in
-    file-step f fs u n b (stands_before u n f) refl parts.0 parts.1 apart.0 (in_order-file fs u n b parts.1 apart.1)
+    file-step f fs u n b (stands_before u n f) refl parts.0 parts.1 apart.0
+    (in_order-file fs u n b parts.1 apart.1)
 
 -- kinds and sums
 
-pub kinds-bytes : (fs : List File) (u : ℕ) (n b : List ℕ) → are_kinds (with_bytes fs u n b) ≡ are_kinds fs
+pub kinds-bytes : (fs : List File) (u : ℕ) (n b : List ℕ)
+    → are_kinds (with_bytes fs u n b) ≡ are_kinds fs
 unfolding are_kinds with_bytes
 kinds-bytes [] u n b = refl
 kinds-bytes (f ∷ fs) u n b = grind (arith, common_steps, kinds-bytes fs u n b)
 
-pub kinds-without : (fs : List File) (u : ℕ) (n : List ℕ) → are_kinds fs ≡ true → are_kinds (without_file fs u n) ≡ true
+pub kinds-without : (fs : List File) (u : ℕ) (n : List ℕ) → are_kinds fs ≡ true
+    → are_kinds (without_file fs u n) ≡ true
 unfolding are_kinds without_file
 kinds-without [] u n a = refl
 kinds-without (f ∷ fs) u n a = grind (arith, common_steps, a, kinds-without fs u n)
 
-pub kinds-file : (fs : List File) (u : ℕ) (n b : List ℕ) → are_kinds fs ≡ true → are_kinds (with_file fs u n b) ≡ true
+pub kinds-file : (fs : List File) (u : ℕ) (n b : List ℕ) → are_kinds fs ≡ true
+    → are_kinds (with_file fs u n b) ≡ true
 unfolding are_kinds with_file
 kinds-file [] u n b a = grind (arith, common_steps)
 kinds-file (f ∷ fs) u n b a = grind (arith, common_steps, a, kinds-file fs u n b)
 
-pub length-bytes : (fs : List File) (u : ℕ) (n b : List ℕ) → length (with_bytes fs u n b) ≡ length fs
+pub length-bytes : (fs : List File) (u : ℕ) (n b : List ℕ)
+    → length (with_bytes fs u n b) ≡ length fs
 unfolding with_bytes
 length-bytes [] u n b = refl
 length-bytes (f ∷ fs) u n b = grind (arith, common_steps, length-bytes fs u n b)
 
-pub length-file : (fs : List File) (u : ℕ) (n b : List ℕ) → length (with_file fs u n b) ≡ length fs + 1
+pub length-file : (fs : List File) (u : ℕ) (n b : List ℕ)
+    → length (with_file fs u n b) ≡ length fs + 1
 unfolding with_file
 length-file [] u n b = refl
 length-file (f ∷ fs) u n b = grind (arith, common_steps, length-file fs u n b)
 
-pub length-without : (fs : List File) (u : ℕ) (n : List ℕ) → length (without_file fs u n) ≤ length fs
+pub length-without : (fs : List File) (u : ℕ) (n : List ℕ)
+    → length (without_file fs u n) ≤ length fs
 unfolding without_file
 length-without [] u n = omega arith
 length-without (f ∷ fs) u n = grind (arith, common_steps, length-without fs u n)
@@ -143,12 +171,14 @@ unfolding with_bytes has_file content_of bytes_of
 bytes-bytes [] u n b h = absurd (grind (arith, h))
 bytes-bytes (f ∷ fs) u n b h = grind (arith, common_steps, h, bytes-bytes fs u n b)
 
-pub bytes-file : (fs : List File) (u : ℕ) (n b : List ℕ) → bytes_of (with_file fs u n b) ≡ bytes_of fs + length b
+pub bytes-file : (fs : List File) (u : ℕ) (n b : List ℕ)
+    → bytes_of (with_file fs u n b) ≡ bytes_of fs + length b
 unfolding with_file bytes_of
 bytes-file [] u n b = grind (arith, common_steps)
 bytes-file (f ∷ fs) u n b = grind (arith, common_steps, bytes-file fs u n b)
 
-pub bytes-without : (fs : List File) (u : ℕ) (n : List ℕ) → bytes_of (without_file fs u n) ≤ bytes_of fs
+pub bytes-without : (fs : List File) (u : ℕ) (n : List ℕ)
+    → bytes_of (without_file fs u n) ≤ bytes_of fs
 unfolding without_file bytes_of
 bytes-without [] u n = omega arith
 bytes-without (f ∷ fs) u n = grind (arith, common_steps, bytes-without fs u n)
@@ -167,9 +197,11 @@ module _ {X : Type 0} (number : X → ℕ) where
       → ascends number low high xs ≡ true → ascends number low (high + 1) (xs ++ v ∷ []) ≡ true
   unfolding ascends
   ascends-more [] low high v l e a = grind (arith, common_steps, e, l)
-  ascends-more (x ∷ xs) low high v l e a = grind (arith, common_steps, a, ascends-more xs (number x) high v)
+  ascends-more (x ∷ xs) low high v l e a =
+      grind (arith, common_steps, a, ascends-more xs (number x) high v)
 
-  ascends-lower : (xs : List X) (low lower high : ℕ) → lower ≤ low → ascends number low high xs ≡ true
+  ascends-lower : (xs : List X) (low lower high : ℕ) → lower ≤ low
+      → ascends number low high xs ≡ true
       → ascends number lower high xs ≡ true
   unfolding ascends
   ascends-lower [] low lower high l a = refl
@@ -180,7 +212,14 @@ module _ {X : Type 0} (number : X → ℕ) where
   unfolding ascends without
   ascends-without [] low high n a = refl
   ascends-without (x ∷ xs) low high n a =
-      grind (arith, common_steps, a, ascends-without xs (number x) high n, ascends-lower xs (number x) low high)
+      grind (
+        arith,
+        common_steps,
+        a,
+        ascends-without xs (number x) high n,
+        ascends-lower xs
+            (number x) low high,
+      )
 
   pub has-changed : (xs : List X) (n m : ℕ) (v : X) → number v ≡ n
       → has number (changed_at number (λ _. v) xs n) m ≡ has number xs m
@@ -188,12 +227,14 @@ module _ {X : Type 0} (number : X → ℕ) where
   has-changed [] n m v e = refl
   has-changed (x ∷ xs) n m v e = grind (arith, common_steps, e, has-changed xs n m v e)
 
-  pub has-without : (xs : List X) (n m : ℕ) → m ≢ n → has number (without number xs n) m ≡ has number xs m
+  pub has-without : (xs : List X) (n m : ℕ) → m ≢ n
+      → has number (without number xs n) m ≡ has number xs m
   unfolding has without
   has-without [] n m h = refl
   has-without (x ∷ xs) n m h = grind (arith, common_steps, h, has-without xs n m h)
 
-  pub has-more : (xs : List X) (v : X) (m : ℕ) → has number xs m ≡ true → has number (xs ++ v ∷ []) m ≡ true
+  pub has-more : (xs : List X) (v : X) (m : ℕ) → has number xs m ≡ true
+      → has number (xs ++ v ∷ []) m ≡ true
   unfolding has
   has-more [] v m h = absurd (grind (arith, h))
   has-more (x ∷ xs) v m h = grind (arith, common_steps, h, has-more xs v m)
@@ -210,31 +251,36 @@ module _ {X : Type 0} (number : X → ℕ) where
 
 -- modes and the count
 
-pub modes-changed : (ss : List Stream) (n : ℕ) (v : Stream) → is_mode v.target v.mode ≡ true → are_modes ss ≡ true
+pub modes-changed : (ss : List Stream) (n : ℕ) (v : Stream) → is_mode v.target v.mode ≡ true
+    → are_modes ss ≡ true
     → are_modes (changed_at number_of (λ _. v) ss n) ≡ true
 unfolding are_modes changed_at
 modes-changed [] n v m a = refl
 modes-changed (s ∷ ss) n v m a = grind (arith, common_steps, m, a, modes-changed ss n v m)
 
-pub mode-found : (ss : List Stream) (n : ℕ) (s : Stream) → found number_of ss n ≡ Some s → are_modes ss ≡ true
+pub mode-found : (ss : List Stream) (n : ℕ) (s : Stream) → found number_of ss n ≡ Some s
+    → are_modes ss ≡ true
     → is_mode s.target s.mode ≡ true
 unfolding are_modes found
 mode-found [] n s e a = absurd (grind (arith, e))
 mode-found (x ∷ ss) n s e a = grind (arith, common_steps, e, a, mode-found ss n s)
 
-pub modes-without : (ss : List Stream) (n : ℕ) → are_modes ss ≡ true → are_modes (without number_of ss n) ≡ true
+pub modes-without : (ss : List Stream) (n : ℕ) → are_modes ss ≡ true
+    → are_modes (without number_of ss n) ≡ true
 unfolding are_modes without
 modes-without [] n a = refl
 modes-without (s ∷ ss) n a = grind (arith, common_steps, a, modes-without ss n)
 
-pub modes-more : (ss : List Stream) (v : Stream) → are_modes ss ≡ true → is_mode v.target v.mode ≡ true
+pub modes-more : (ss : List Stream) (v : Stream) → are_modes ss ≡ true
+    → is_mode v.target v.mode ≡ true
     → are_modes (ss ++ v ∷ []) ≡ true
 unfolding are_modes
 modes-more [] v a m = grind (arith, common_steps, m)
 modes-more (s ∷ ss) v a m = grind (arith, common_steps, a, m, modes-more ss v)
 
 pub count-changed : (ss : List Stream) (n : ℕ) (s v : Stream) → found number_of ss n ≡ Some s
-    → is_window v.target ≡ is_window s.target → count_of (changed_at number_of (λ _. v) ss n) ≡ count_of ss
+    → is_window v.target ≡ is_window s.target
+    → count_of (changed_at number_of (λ _. v) ss n) ≡ count_of ss
 unfolding count_of changed_at found
 count-changed [] n s v e w = refl
 count-changed (x ∷ ss) n s v e w = grind (arith, common_steps, e, w, count-changed ss n s v)
@@ -249,7 +295,8 @@ unfolding count_of
 count-more [] v = grind (arith, common_steps)
 count-more (s ∷ ss) v = grind (arith, common_steps, count-more ss v)
 
-pub count-window : (ss : List Stream) (v : Stream) → is_window v.target ≡ true → count_of (ss ++ v ∷ []) ≡ count_of ss
+pub count-window : (ss : List Stream) (v : Stream) → is_window v.target ≡ true
+    → count_of (ss ++ v ∷ []) ≡ count_of ss
 unfolding count_of
 count-window [] v w = grind (arith, common_steps, w)
 count-window (s ∷ ss) v w = grind (arith, common_steps, w, count-window ss v w)

@@ -64,6 +64,7 @@ fn a_unicode_line_has_words(rt: HostRuntime) {
         text: read_escaped(rt.alloc(), b"=a%CE%B1").expect(&rt, "memory"),
         key: 0,
     };
+    assert!(rt; requests.wants(&line));
     assert!(rt;
         requests.deliver(&mut memory, &line)
             == Ok(Event {

@@ -2,12 +2,28 @@ use glk_windows::*;
 use std::alloc::Global;
 use std::test::Fail;
 
+// A window beside another, which is live.
+fn beside(
+    windows: &mut Windows,
+    alloc: Global,
+    from: u32,
+    method: u32,
+    size: u32,
+    kind: u32,
+    rock: u32,
+) -> Result<u32, Fail> {
+    if !windows.is_live(from) || !is_method(method) {
+        return Err(Fail::from("a live window"));
+    }
+    Ok(windows.split(alloc, from, method, size, kind, rock)?)
+}
+
 // A buffer 1, a grid 2 above it and a buffer 4 at its right. 3 and 5 are pairs.
 fn three(alloc: Global) -> Result<Windows, Fail> {
     let mut windows = Windows::new(alloc);
     windows.split(alloc, 0, 0, 0, 3, 11)?;
-    windows.split(alloc, 1, 0x12, 1, 4, 22)?;
-    windows.split(alloc, 1, 0x21, 33, 3, 44)?;
+    beside(&mut windows, alloc, 1, 0x12, 1, 4, 22)?;
+    beside(&mut windows, alloc, 1, 0x21, 33, 3, 44)?;
     windows.place(alloc, 80, 24)?;
     Ok(windows)
 }
@@ -39,13 +55,16 @@ fn closing_gives_the_place_to_the_sibling(rt: HostRuntime) -> Result<(), Fail> {
     let alloc = rt.alloc();
     let mut windows = three(alloc)?;
     windows.set_stream(4, 7);
+    assert!(rt; windows.is_live(1));
     windows.set_echo(1, 7);
+    assert!(rt; windows.is_live(4));
     windows.close(4);
     windows.place(alloc, 80, 24)?;
     assert_eq!(rt; windows.parent(1), 3);
     assert!(rt; windows.size(1) == (80, 23));
     assert!(rt; !windows.is_live(5));
     assert_eq!(rt; windows.echo(1), 0);
+    assert!(rt; windows.is_live(3));
     windows.close(3);
     assert_eq!(rt; windows.root(), 0);
     assert_eq!(rt; windows.window_after(0), 0);
@@ -57,8 +76,9 @@ fn a_closed_key_leaves_a_fixed_size_of_nothing(rt: HostRuntime) -> Result<(), Fa
     let alloc = rt.alloc();
     let mut windows = Windows::new(alloc);
     windows.split(alloc, 0, 0, 0, 3, 0)?;
-    windows.split(alloc, 1, 0x12, 5, 3, 0)?;
-    windows.split(alloc, 2, 0x21, 50, 3, 0)?;
+    beside(&mut windows, alloc, 1, 0x12, 5, 3, 0)?;
+    beside(&mut windows, alloc, 2, 0x21, 50, 3, 0)?;
+    assert!(rt; windows.is_live(2));
     windows.close(2);
     windows.place(alloc, 80, 24)?;
     assert!(rt; windows.arrangement(3) == (0x12, 5, 0));
@@ -72,7 +92,7 @@ fn sizes_are_held_to_the_screen(rt: HostRuntime) -> Result<(), Fail> {
     let alloc = rt.alloc();
     let mut windows = Windows::new(alloc);
     windows.split(alloc, 0, 0, 0, 3, 0)?;
-    windows.split(alloc, 1, 0x13, 30, 4, 0)?;
+    beside(&mut windows, alloc, 1, 0x13, 30, 4, 0)?;
     for (method, size, wanted) in [
         (0x13, 30, 24),
         (0x123, 50, 12),
@@ -80,6 +100,7 @@ fn sizes_are_held_to_the_screen(rt: HostRuntime) -> Result<(), Fail> {
         (0x23, 33, 7),
         (0x13, 0, 0),
     ] {
+        assert!(rt; windows.kind(3) == 1 && is_method(method) && windows.may_key(3, 0));
         windows.arrange(3, method, size, 0);
         windows.place(alloc, 80, 24)?;
         assert!(rt; windows.size(2) == (80, wanted));
@@ -101,14 +122,17 @@ fn a_grid_wraps_and_drops_what_lies_outside(rt: HostRuntime) -> Result<(), Fail>
     assert!(rt; windows.cursor(1) == (0, 2));
     windows.place(alloc, 2, 3)?;
     assert_eq!(rt; windows.cells(1), [97, 98, 100, 101, 32, 32].as_slice());
+    assert!(rt; windows.kind(1) == 4);
     windows.move_to(1, 1, 2);
     windows.put(alloc, 1, 120, 0)?;
     windows.put(alloc, 1, 10, 0)?;
     assert_eq!(rt; windows.cells(1), [97, 98, 100, 101, 32, 120].as_slice());
     assert!(rt; windows.cursor(1) == (0, 3));
+    assert!(rt; windows.kind(1) == 4);
     windows.move_to(1, 4_294_967_295, 4_294_967_295);
     windows.put(alloc, 1, 121, 0)?;
     assert!(rt; windows.cursor(1) == (0, 4_294_967_295));
+    assert!(rt; windows.is_live(1));
     windows.clear(1);
     assert_eq!(rt; windows.cells(1), [32, 32, 32, 32, 32, 32].as_slice());
     assert!(rt; windows.cursor(1) == (0, 0));
@@ -137,6 +161,7 @@ fn a_buffer_keeps_runs_of_one_style(rt: HostRuntime) -> Result<(), Fail> {
     assert_eq!(rt; windows.runs(1).len(), 3);
     assert_eq!(rt; windows.runs(1)[0].codes.as_slice(), [72, 105].as_slice());
     assert!(rt; !windows.cleared(1));
+    assert!(rt; windows.is_live(1));
     windows.clear(1);
     assert!(rt; windows.cleared(1) && windows.runs(1).is_empty());
     windows.put(alloc, 1, 72, 0)?;
@@ -151,12 +176,12 @@ fn sixty_four_windows_are_all(rt: HostRuntime) -> Result<(), Fail> {
     let mut windows = Windows::new(alloc);
     windows.split(alloc, 0, 0, 0, 2, 0)?;
     assert_eq!(rt; windows.split(alloc, 0, 0, 0, 3, 0)?, 0);
-    assert_eq!(rt; windows.split(alloc, 1, 0x12, 1, 5, 0)?, 0);
+    assert_eq!(rt; beside(&mut windows, alloc, 1, 0x12, 1, 5, 0)?, 0);
     for i in 1..32 {
-        assert_eq!(rt; windows.split(alloc, 1, 0x21, 50, 3, 0)?, 2 * i);
+        assert_eq!(rt; beside(&mut windows, alloc, 1, 0x21, 50, 3, 0)?, 2 * i);
     }
     assert_eq!(rt; windows.slots().len(), 63);
-    assert_eq!(rt; windows.split(alloc, 1, 0x21, 50, 3, 0)?, 0);
+    assert_eq!(rt; beside(&mut windows, alloc, 1, 0x21, 50, 3, 0)?, 0);
     assert_eq!(rt; windows.slots().len(), 63);
     Ok(())
 }

@@ -1,19 +1,21 @@
 -- A window below a pair, by the way up and by the tree.
-use Rattle.std.proofs.Common.{◌≡◌, ◌≢◌, ◌⊎◌, inl, inr, ℕ, zero, suc, ◌≤◌, ◌<◌, ◌==◌, ◌||◌, ◌&&◌, List, [], ◌∷◌, length, refl, sym, ap, ◌∙◌, Option, Some, None, is_some, arith, Bool, true, false, not, if◌then◌else◌, nat_lt}
+use Rattle.std.proofs.Common.{◌≡◌, ◌≢◌, ◌⊎◌, inl, inr, ℕ, zero, suc, ◌≤◌, ◌<◌, ◌==◌, ◌||◌, ◌&&◌, List, [], ◌∷◌, length, refl, sym, ap, ◌∙◌, Option, Some, None, is_some, option_map, arith, Bool, true, false, not, if◌then◌else◌, nat_lt}
 use Rattle.std.proofs.lemmas.Grind.{common_steps}
 use Rattle.glk_numbers.specs.Numbered.{found}
 use Rattle.glk_windows.specs.declared.window.Window.{Window}
 use Rattle.glk_windows.specs.declared.window.Pair as pairs
 use Rattle.glk_windows.specs.declared.window.Content.{Content}
 use Rattle.glk_windows.specs.declared.window.Content.TheVariants.{Pair, Blank, Buffer, Grid}
-use Rattle.glk_windows.specs.Tree.{WindowTree, read, window_at, pair_of, pair_in, pair_content, parent_of}
-use Rattle.glk_windows.specs.Reading.{is_below, kind_in, kind_of}
-use Rattle.glk_windows.specs.OneTree.{Shape, Leaf, Fork, top, count, node_of, Spells, Once, below, has_leaf}
+use Rattle.glk_windows.specs.Tree.{WindowTree, IsLive, read, window_at, pair_of, pair_in, pair_content, parent_of}
+use Rattle.glk_windows.specs.Reading.{is_below, kind_in, kind_of, may_key}
+use Rattle.glk_windows.specs.OneTree.{Shape, Leaf, Fork, top, count, bare, node_of, Spells, Once, below, has_leaf, size, tree_of}
 use Rattle.glk_windows.specs.Valid.{IsValid, IsOrdered}
-use Rattle.glk_windows.specs.Laws.{IsLive, IsKeyOf, MayKeyHolds}
+use Rattle.glk_windows.specs.Laws.{IsKeyOf, MayKeyHolds}
 use Rattle.glk_windows.proofs.OneTreeLemmas.{count_top, is_eq, once_at, once_le, node_parent}
-use Rattle.glk_windows.proofs.CutLemmas.{node_lower}
-use Rattle.glk_windows.proofs.LiftLemmas.{count_below, spells_below}
+use Rattle.glk_windows.proofs.CutLemmas.{node_lower, node_pair, size_length}
+use Rattle.glk_windows.proofs.LiftLemmas.{count_below}
+use Rattle.glk_windows.proofs.CloseLemmas.{size_below, spells_below}
+use Rattle.glk_windows.proofs.KeyLemmas.{leaf_count}
 use Rattle.glk_windows.proofs.TestLemmas.{tree_found}
 use Rattle.glk_windows.proofs.RectangleLemmas.{InFirst, InSecond, below_one}
 use Rattle.glk_windows.proofs.ValidLemmas.{node_live, node_nil, some_tree, SomeTree}
@@ -200,5 +202,110 @@ key-case t n key false e v l h =
     let x : _ = node_live t.slots n l in
     key-tree t n key x.0 (some_tree t v) v.ordered x.1 up pn
 
+-- ---- and the other way: what stands below is found on the way up
+
+or-left : (a b : Bool) → a ≡ true → (a || b) ≡ true
+or-left true b e = refl
+or-left false b e = cc
+
+or-right : (a b : Bool) → b ≡ true → (a || b) ≡ true
+or-right true b e = refl
+or-right false b e = e
+
+same : (a b : ℕ) → a ≡ b → (a == b) ≡ true
+same a b e = grind (arith, common_steps)
+
+climbs-on : (d : ℕ) (ws : List Window) (k m up : ℕ) → is_below d ws k m ≡ true → parent_of ws m ≡ up
+    → is_below (suc d) ws k up ≡ true
+unfolding is_below
+climbs-on zero ws k m up e f = cc
+climbs-on (suc d) ws k m up e f =
+    let u : ℕ = parent_of ws k in
+    or-right (u == up) _ (pick (u == m)
+    (λ i. or-left (parent_of ws u == up) _
+    (same _ up (ap (parent_of ws) (is_eq u m i) ∙ f)))
+    (λ i. climbs-on d ws u m up (or-false (u == m) _ i e) f))
+
+climbs : (d : ℕ) (ws : List Window) (s : Shape) (up k : ℕ) → size s ≤ d → Spells ws up s
+    → 0 < count s k → is_below d ws k up ≡ true
+unfolding is_below
+climbs zero ws (Leaf m) up k h t c = absurd (omega (arith, h))
+climbs zero ws (Fork m p a b) up k h t c = absurd (omega (arith, h))
+climbs (suc d) ws (Leaf m) up k h t c =
+    let e : m ≡ k = grind (arith, common_steps) in
+    or-left (parent_of ws k == up) _
+    (same _ up (ap (parent_of ws) (sym e) ∙ sym (node_parent ws m _ t)))
+climbs (suc d) ws (Fork m p a b) up k h t c =
+    let f : parent_of ws m ≡ up = sym (node_parent ws m _ t.0) in
+    elim (place-of m k p a b c) as (λ _. is_below (suc d) ws k up ≡ true) [
+      | Here e ↦ or-left (parent_of ws k == up) _ (same _ up (ap (parent_of ws) e ∙ f))
+      | InA g ↦ climbs-on d ws k m up (climbs d ws a m k (omega (arith, h)) t.3 g) f
+      | InB g ↦ climbs-on d ws k m up (climbs d ws b m k (omega (arith, h)) t.4 g) f
+    ]
+
+leaf-node : (ws : List Window) (s : Shape) (up k : ℕ) → Spells ws up s → has_leaf s k ≡ true
+    → (u : ℕ) × (node_of ws k ≡ Some (u, None))
+leaf-node ws (Leaf n) up k t e = (up, ap (node_of ws) (sym (is_eq n k e)) ∙ t)
+leaf-node ws (Fork n p a b) up k t e =
+    pick (has_leaf a k) (λ f. leaf-node ws a n k t.3 f)
+    (λ f. leaf-node ws b n k t.4 (or-false (has_leaf a k) _ f e))
+
+none-bare : (o : Option pairs.Pair) → option_map bare o ≡ None → o ≡ None
+none-bare None e = refl
+none-bare (Some q) e = cc
+
+kind-none : (c : Content) → pair_content c ≡ None → (kind_in c == 1) ≡ false
+kind-none (Pair q) e = cc
+kind-none Blank e = refl
+kind-none (Buffer b) e = refl
+kind-none (Grid g) e = refl
+
+kind-single : (o : Option Window) → read None pair_in o ≡ None
+    → (read 0 (λ w. kind_in w.content) o == 1) ≡ false
+kind-single None e = refl
+kind-single (Some w) e = kind-none w.content e
+
+single : (ws : List Window) (k u : ℕ) → node_of ws k ≡ Some (u, None)
+    → (kind_of ws k == 1) ≡ false
+single ws k u e = kind-single (window_at ws k) (none-bare (pair_of ws k) (node_pair ws k _ e))
+
+climbs-part : (d : ℕ) (ws : List Window) (s : Shape) (up n k : ℕ) → top s ≡ n → size s ≤ d
+    → Spells ws up s → kind_of ws n ≡ 1 → has_leaf s k ≡ true → is_below d ws k n ≡ true
+climbs-part d ws (Leaf m) up n k e h t p l =
+    let i : (kind_of ws m == 1) ≡ false = single ws m up t in
+    let j : kind_of ws m ≡ 1 = ap (kind_of ws) e ∙ p in
+    absurd (grind (arith, common_steps))
+climbs-part d ws (Fork m q a b) up n k e h t p l =
+    ap (is_below d ws k) (sym e) ∙ pick (has_leaf a k)
+    (λ f. climbs d ws a m k (omega (arith, h)) t.3 (leaf_count a k f))
+    (λ f. climbs d ws b m k (omega (arith, h)) t.4
+    (leaf_count b k (or-false (has_leaf a k) _ f l)))
+
+key-below : (t : WindowTree) (n key : ℕ) (x : ℕ × Option pairs.Pair) → SomeTree t → IsOrdered t
+    → node_of t.slots n ≡ Some x → kind_of t.slots n ≡ 1
+    → has_leaf (below n (tree_of t)) key ≡ true → may_key t.slots n key ≡ true
+unfolding IsOrdered
+key-below t n key x (None, h, k) o l p e = absurd (node_nil t.slots n x h.1 l)
+key-below t n key x (Some s, h, k) o l p e =
+    let ws : List Window = t.slots in
+    let cn : 0 < count s n = omega (arith, once_at _ _ x l (h.2 n)) in
+    let tb : _ = spells_below ws n s 0 h.1 cn in
+    let sz : size s ≡ length ws = size_length 1 ws t.next 0 s o h.1 h.2 in
+    let f : has_leaf (below n s) key ≡ true =
+    ap (λ y. has_leaf (below n y) key) (sym (tree_found t s o h)) ∙ e in
+    let up : is_below (length ws) ws key n ≡ true =
+    climbs-part (length ws) ws (below n s) (parent_of ws n) n key tb.0
+    (omega (arith, sz, size_below n s)) tb.1 p f in
+    let leaf : _ = leaf-node ws (below n s) (parent_of ws n) key tb.1 f in
+    let kd : (kind_of ws key == 1) ≡ false = single ws key leaf.0 leaf.1 in
+    or-right (key == 0) _ (rw (up, kd) refl)
+
 pub may_key_holds : MayKeyHolds
-may_key_holds t n key v l h = key-case t n key (key == 0) refl v l h
+may_key_holds = record {
+  only = λ t n key v l h. key-case t n key (key == 0) refl v l h;
+  found = λ t n key v l p k. (elim k as (λ _. may_key t.slots n key ≡ true) [
+    | inl e ↦ or-left (key == 0) _ (same key 0 e)
+    | inr e ↦ (let x : _ = node_live t.slots n l in
+        key-below t n key x.0 (some_tree t v) v.ordered x.1 p e)
+  ]);
+}

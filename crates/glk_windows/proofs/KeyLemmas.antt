@@ -15,7 +15,8 @@ use Rattle.glk_windows.specs.Valid.{Ascends, IsOrdered}
 use Rattle.glk_windows.proofs.OrderLemmas.{ascends-closed, ascends-removed}
 use Rattle.glk_windows.proofs.OneTreeLemmas.{count_top, is_eq, isnt_eq, once_at, once_le}
 use Rattle.glk_windows.proofs.CutLemmas.{spells_on, node_pair, node_closed, node_removed, both_nodes, size_length}
-use Rattle.glk_windows.proofs.LiftLemmas.{below_top, count_below, size_below, spells_below}
+use Rattle.glk_windows.proofs.LiftLemmas.{below_top, count_below}
+use Rattle.glk_windows.proofs.CloseLemmas.{size_below, spells_below}
 use Rattle.glk_windows.proofs.RectangleLemmas.{read_set_at}
 
 -- each pair's key is 0, or a window below it that is no pair

@@ -8,11 +8,13 @@ pub mod OneTreeLemmas
 pub mod SameLemmas
 pub mod CutLemmas
 pub mod LiftLemmas
+pub mod CloseLemmas
 pub mod TestLemmas
 pub mod RectangleLemmas
 pub mod SoundLemmas
 pub mod KeyLemmas
 pub mod ValidLemmas
 pub mod BelowLemmas
+pub mod OwnLemmas
 pub mod SpellingLemmas
 pub mod StandardFacts

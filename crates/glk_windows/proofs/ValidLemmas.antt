@@ -7,7 +7,7 @@ use Rattle.glk_windows.specs.declared.window.Window.{Window}
 use Rattle.glk_windows.specs.declared.window.Pair as pairs
 use Rattle.glk_windows.specs.declared.window.Content.{Content}
 use Rattle.glk_windows.specs.declared.window.Content.TheVariants.{Pair, Blank, Buffer, Grid}
-use Rattle.glk_windows.specs.Tree.{WindowTree, number_of, set_at, pair_of, pair_in, parent_of, pair_content, swapped, arranged, moved}
+use Rattle.glk_windows.specs.Tree.{WindowTree, IsLive, number_of, set_at, pair_of, pair_in, parent_of, pair_content, swapped, arranged, moved}
 use Rattle.glk_windows.specs.Opening.{split, joined, first_opened, beside_opened, is_kind, made, fresh}
 use Rattle.glk_windows.specs.Closing.{close, ended, removed, echo_ended, unechoed, closed}
 use Rattle.glk_windows.specs.Reading.{other as sibling}
@@ -16,13 +16,13 @@ use Rattle.glk_windows.specs.Output.{put, clear, begin_turn, window_put, window_
 use Rattle.glk_windows.specs.Placing.{place}
 use Rattle.glk_windows.specs.OneTree.{Shape, Leaf, Fork, top, count, bare, bare_in, node_of, Spells, IsTree, shape_of, is_tree, cut, forked, below, tree_of, key_in, key_of, has_leaf, are_keyed}
 use Rattle.glk_windows.specs.Valid.{Ascends, IsOrdered, IsValid, is_one_tree, is_sound_content, are_sound}
-use Rattle.glk_windows.specs.Laws.{IsLive, IsKeyOf, KeepsValid}
+use Rattle.glk_windows.specs.Laws.{IsKeyOf, KeepsValid}
 use Rattle.glk_windows.proofs.OrderLemmas.{ascends-set_at, ascends-map, ordered_first, ordered_beside, ordered_close, ordered_place}
 use Rattle.glk_windows.proofs.OneTreeLemmas.{node_set_at, node_later, node_joined, renode, tree_first, tree_beside, spells_top, once_le, once_at, is_eq, isnt_eq}
 use Rattle.glk_windows.proofs.KeyLemmas.{Keyed, keyed_of, are_keyed_of, keyed_on, keyed_forked, keyed_cut, left_close, key_append, key_after, key_joined}
 use Rattle.glk_windows.proofs.RectangleLemmas.{read_set_at, read_placed, pair_sized}
 use Rattle.glk_windows.proofs.CutLemmas.{node_lower, nil_of, tree_close-root}
-use Rattle.glk_windows.proofs.LiftLemmas.{tree_close}
+use Rattle.glk_windows.proofs.CloseLemmas.{tree_close}
 use Rattle.glk_windows.proofs.SameLemmas.{same_tree, node_same, node_placed}
 use Rattle.glk_windows.proofs.TestLemmas.{tree_of_test, test_of_tree, tree_found}
 use Rattle.glk_windows.proofs.SoundLemmas.{KeepsSound, sound_set_at, sound_map, sound_append, sound_swapped, sound_arranged, sound_moved, sound_put, sound_cleared, sound_kept, sound_placed, sound_removed, sound_closed, length_set_at, length_removed, length_closed, length_placed}

@@ -1,19 +1,21 @@
 -- What holds of all windows that are one tree (Glk 0.7.5, "The Window Tree").
-use Rattle.std.specs.Prelude.{◌≡◌, ◌≢◌, ℕ, ◌+◌, ◌≤◌, ◌<◌, true, [], ◌∷◌, ◌++◌}
-use Rattle.std.specs.Prelude.{List, length, map, ◌⊎◌, None}
+use Rattle.std.specs.Prelude.{◌≡◌, ◌≢◌, ℕ, ◌+◌, ◌≤◌, ◌<◌, ◌==◌, ◌||◌, nat_lt, Bool, true}
+use Rattle.std.specs.Prelude.{[], ◌∷◌, ◌++◌, List, length, map, ◌⊎◌, Option, Some, None}
+use Rattle.std.specs.Prelude.{if◌then◌else◌}
 use Rattle.glk_windows.specs.declared.text.Run.{Run}
 use Rattle.glk_windows.specs.declared.window.Window.{Window}
 use Rattle.glk_windows.specs.declared.window.Area.{Area}
-use Rattle.glk_windows.specs.Tree.{WindowTree, number_of, read, window_at, pair_of}
-use Rattle.glk_windows.specs.Reading.{may_key}
+use Rattle.glk_windows.specs.declared.window.Content.{Content}
+use Rattle.glk_windows.specs.declared.window.Content.TheVariants.{Pair, Blank, Buffer, Grid}
+use Rattle.glk_windows.specs.Tree.{WindowTree, IsLive, read, window_at, pair_of, parent_of}
+use Rattle.glk_windows.specs.Reading.{kind_of, may_key}
 use Rattle.glk_windows.specs.Placing.{place}
-use Rattle.glk_windows.specs.OneTree.{is_tree, tree_of, below, has_leaf}
+use Rattle.glk_windows.specs.OneTree.{is_tree, tree_of, below, count, has_leaf}
 use Rattle.glk_windows.specs.Valid.{IsOrdered, IsValid}
-use Rattle.glk_windows.specs.Opening.{split}
+use Rattle.glk_windows.specs.Opening.{MaySplit, split}
 use Rattle.glk_windows.specs.Closing.{close, echo_ended}
 use Rattle.glk_windows.specs.Arranging.{arrange, is_method, move_to, stream_set, echo_set}
 use Rattle.glk_windows.specs.Output.{put, clear, begin_turn, run_on}
-use Rattle.glk_numbers.specs.Numbered.{has}
 
 -- a rectangle of no cell
 abbrev pub nowhere : Area
@@ -58,26 +60,46 @@ FillsScreen =
     (t : WindowTree) (cols rows x y : ℕ) → IsOrdered t → is_tree t ≡ true → x < cols → y < rows
     → (n : ℕ) × (pair_of t.slots n ≡ None) × Covers (area_of (place t cols rows).slots n) x y
 
--- a live window
-abbrev pub IsLive : WindowTree → ℕ → Type 0
-IsLive t n = has number_of t.slots n ≡ true
-
 -- no key, or a window below this one that is no pair
 abbrev pub IsKeyOf : WindowTree → ℕ → ℕ → Type 0
 IsKeyOf t n key = (key ≡ 0) ⊎ (has_leaf (below n (tree_of t)) key ≡ true)
 
--- the test of a key is right, in windows that are valid
-abbrev pub MayKeyHolds : Type 0
-MayKeyHolds =
-    (t : WindowTree) (n key : ℕ) → IsValid t → IsLive t n → may_key t.slots n key ≡ true
-    → IsKeyOf t n key
+-- the test of a key is right, in windows that are valid: of a pair it lets each key through
+pub record MayKeyHolds : Type 0 where
+  pub only : (t : WindowTree) (n key : ℕ) → IsValid t → IsLive t n
+      → may_key t.slots n key ≡ true → IsKeyOf t n key
+  pub found : (t : WindowTree) (n key : ℕ) → IsValid t → IsLive t n → kind_of t.slots n ≡ 1
+      → IsKeyOf t n key → may_key t.slots n key ≡ true
+
+-- a window's content; of a pair its method and size alone
+abbrev pub own_content : Content → Content
+own_content (Pair p) = Pair (record p { key = 0; first = 0; second = 0 })
+own_content Blank = Blank
+own_content (Buffer b) = Buffer b
+own_content (Grid g) = Grid g
+
+-- what a window has of its own: all but its echo, the pair above it and, of a pair, its windows
+abbrev pub own : Window → Window
+own w = record w { echo = 0; parent = 0; content = own_content w.content }
+
+abbrev pub own_of : List Window → ℕ → Option Window
+own_of ws n = read None (λ w. Some (own w)) (window_at ws n)
+
+-- the windows that go with this one: itself, those below it, and the pair above it
+abbrev pub goes_with : WindowTree → ℕ → ℕ → Bool
+goes_with t n m = m == parent_of t.slots n || nat_lt 0 (count (below n (tree_of t)) m)
+
+-- closing takes exactly the windows that go, and all others keep what is their own
+abbrev pub ClosesBelow : Type 0
+ClosesBelow =
+    (t : WindowTree) (n m : ℕ) → IsValid t → IsLive t n
+    → own_of (close t n).slots m ≡ (if goes_with t n m then None else own_of t.slots m)
 
 -- each call keeps the windows valid
 pub record KeepsValid : Type 0 where
   pub new : IsValid (record { slots = []; next = 1; root = 0 })
   pub split : (t : WindowTree) (from method size kind rock : ℕ) → IsValid t
-      → (from ≡ 0) ⊎ (IsLive t from × (is_method method ≡ true))
-      → IsValid (split t from method size kind rock).0
+      → MaySplit t from method → IsValid (split t from method size kind rock).0
   pub close : (t : WindowTree) (n : ℕ) → IsValid t → IsLive t n → IsValid (close t n)
   pub place : (t : WindowTree) (cols rows : ℕ) → IsValid t → IsValid (place t cols rows)
   pub arrange : (t : WindowTree) (n method size key : ℕ) → IsValid t

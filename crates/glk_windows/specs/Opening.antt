@@ -1,11 +1,12 @@
 -- Windows that are opened (Glk 0.7.5, "Window Opening, Closing, and Constraints").
 use Rattle.std.specs.Prelude.{ℕ, ◌+◌, ◌==◌, nat_lt, nat_le, not, length, ◌++◌}
 use Rattle.std.specs.Prelude.{◌||◌, ◌&&◌, if◌then◌else◌, Bool, false, List, []}
-use Rattle.std.specs.Prelude.{◌∷◌}
+use Rattle.std.specs.Prelude.{◌∷◌, ◌≡◌, true, ◌⊎◌}
+use Rattle.glk_windows.specs.Arranging.{is_method}
 use Rattle.glk_windows.specs.declared.window.Window.{Window}
 use Rattle.glk_windows.specs.declared.window.Content.{Content}
 use Rattle.glk_windows.specs.declared.window.Content.TheVariants.{Pair, Blank, Buffer, Grid}
-use Rattle.glk_windows.specs.Tree.{WindowTree, set_at, parent_of, swapped}
+use Rattle.glk_windows.specs.Tree.{WindowTree, IsLive, set_at, parent_of, swapped}
 
 -- a blank, a buffer or a grid window
 abbrev pub is_kind : ℕ → Bool
@@ -72,6 +73,10 @@ beside_opened t from method size kind rock =
       },
       t.next,
     )
+
+-- the first window is wanted, or one beside a live window by a method that divides
+abbrev pub MaySplit : WindowTree → ℕ → ℕ → Type 0
+MaySplit t from method = (from ≡ 0) ⊎ (IsLive t from × (is_method method ≡ true))
 
 -- the new window, or 0 where nothing is made
 abbrev pub split : WindowTree → ℕ → ℕ → ℕ → ℕ → ℕ → WindowTree × ℕ

@@ -1,6 +1,6 @@
 -- The windows as a list by number (Glk 0.7.5, "The Window Tree").
-use Rattle.std.specs.Prelude.{ℕ, ◌==◌, if◌then◌else◌, List, Option, Some, None}
-use Rattle.glk_numbers.specs.Numbered.{found, changed_at}
+use Rattle.std.specs.Prelude.{◌≡◌, ℕ, ◌==◌, if◌then◌else◌, true, List, Option, Some, None}
+use Rattle.glk_numbers.specs.Numbered.{found, changed_at, has}
 use Rattle.glk_windows.specs.declared.window.Window.{Window}
 use Rattle.glk_windows.specs.declared.window.Pair as p
 use Rattle.glk_windows.specs.declared.window.Content.{Content}
@@ -17,6 +17,10 @@ pub record WindowTree : Type 0 where
 -- a window's number
 abbrev pub number_of : Window → ℕ
 number_of w = w.number
+
+-- a live window
+abbrev pub IsLive : WindowTree → ℕ → Type 0
+IsLive t n = has number_of t.slots n ≡ true
 
 -- the window with this number
 abbrev pub window_at : List Window → ℕ → Option Window

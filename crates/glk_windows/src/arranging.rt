@@ -1,6 +1,6 @@
 //! What a story sets of a window (Glk 0.7.5, "Changing Window Constraints").
 
-ghost use Rattle.std.specs.Prelude.{◌≡◌, length};
+ghost use Rattle.std.specs.Prelude.{◌≡◌, length, true};
 ghost use Rattle.glk_windows.specs.Arranging as arranging;
 ghost use Rattle.glk_windows.specs.Reading as reading;
 
@@ -20,6 +20,9 @@ impl Windows {
     /// Sets how a pair divides its rectangle; key 0 keeps the key. The rectangles are made anew by
     /// `place`.
     pub fn arrange(&mut self, pair: u32, method: u32, size: u32, key: u32)
+        requires pair { reading.kind_of self.old.slots pair ≡ 1 }
+        requires method { arranging.is_method method ≡ true }
+        requires key { reading.may_key self.old.slots pair key ≡ true }
         ensures { self.new ≡ arranging.arrange self.old pair method size key }
     {
         change_at(
@@ -46,6 +49,7 @@ impl Windows {
 
     /// Moves the cursor of a grid to column `x` of row `y`, outside it too.
     pub fn move_to(&mut self, win: u32, x: u32, y: u32)
+        requires { reading.kind_of self.old.slots win ≡ 4 }
         ensures { self.new ≡ arranging.move_to self.old win x y }
     {
         change_at(&mut self.slots, win, Change::Cursor { x, y })

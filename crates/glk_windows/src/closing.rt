@@ -2,7 +2,7 @@
 
 ghost use Rattle.std.specs.Prelude.{◌≡◌, ◌≤◌, ◌<◌, length, map};
 ghost use Rattle.glk_windows.specs.Tree as tree;
-ghost use Rattle.glk_windows.specs.Tree.{number_of};
+ghost use Rattle.glk_windows.specs.Tree.{IsLive, number_of};
 ghost use Rattle.glk_windows.specs.Closing as closing;
 ghost use Rattle.glk_windows.specs.Closing.{closed, forgotten, removed, unechoed, unlinked};
 ghost use Rattle.glk_numbers.specs.Numbered.{without};
@@ -17,6 +17,7 @@ impl Windows {
     /// Closes a window and all below it. Its sibling takes the place of their pair, which ends. No
     /// pair has a closed window as its key, and no window echoes to the stream of one.
     pub fn close(&mut self, win: u32)
+        requires { IsLive self.old win }
         ensures { self.new ≡ closing.close self.old win }
     {
         let above = parent_at(&self.slots, win);

@@ -1,7 +1,7 @@
 //! Laws of the windows and their rectangles (Glk 0.7.5, "The Window Tree").
 
-ghost use Rattle.glk_windows.specs.Laws.{FillsScreen, KeepsValid, MayKeyHolds, NeverOverlaps};
-ghost use Rattle.glk_windows.specs.Laws.{SpellsOutput, StaysOnScreen};
+ghost use Rattle.glk_windows.specs.Laws.{ClosesBelow, FillsScreen, KeepsValid, MayKeyHolds};
+ghost use Rattle.glk_windows.specs.Laws.{NeverOverlaps, SpellsOutput, StaysOnScreen};
 
 /// Where the windows are one tree, each that is no pair has its rectangle on the screen.
 pub fn stays_on_screen()
@@ -23,9 +23,16 @@ pub fn keeps_valid()
     ensures { KeepsValid }
 {}
 
-/// Where the windows are valid, `Windows::may_key` lets through a key that keeps them so.
+/// Where the windows are valid, `Windows::may_key` lets through no key but those that keep them so,
+/// and of a pair each of these.
 pub fn may_key_holds()
     ensures { MayKeyHolds }
+{}
+
+/// Where the windows are valid, closing one takes exactly it, those below it and the pair above it.
+/// All others keep their number, rock, stream, rectangle and content; a pair its method and size.
+pub fn closes_below()
+    ensures { ClosesBelow }
 {}
 
 /// The runs of a buffer spell the characters that were put, each in its style; no run is empty, and

@@ -23,6 +23,7 @@ impl Windows {
         kind: u32,
         rock: u32,
     ) -> Result<u32, AllocError>
+        requires { opening.MaySplit self.old from method }
         ensures ok { IfOk result (λ win.
             (self.new, win) ≡ opening.split self.old from method size kind rock) }
         ensures within { IfOk result (λ win. win < 4294967295) }

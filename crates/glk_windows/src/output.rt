@@ -5,7 +5,7 @@ ghost use Rattle.glk_windows.specs.Output as output;
 ghost use Rattle.glk_windows.specs.Output.{buffer_put, cell_put, grid_put, next_row};
 ghost use Rattle.glk_windows.specs.Output.{content_cleared, content_kept, put_at, window_put};
 ghost use Rattle.glk_windows.specs.Output.{window_cleared, window_kept};
-ghost use Rattle.glk_windows.specs.Tree.{set_at};
+ghost use Rattle.glk_windows.specs.Tree.{IsLive, set_at};
 
 use crate::window::{Buffer, Content, Grid, Window};
 use crate::windows::Windows;
@@ -25,6 +25,7 @@ impl Windows {
 
     /// Clears a window: a buffer has no text, a grid has spaces and its cursor at the upper left.
     pub fn clear(&mut self, win: u32)
+        requires { IsLive self.old win }
         ensures { self.new ≡ output.clear self.old win }
     {
         clear_in(&mut self.slots, win)

@@ -2,7 +2,7 @@
 
 ghost use Rattle.std.specs.Prelude.{◌≡◌, [], IfOk};
 ghost use Rattle.glk_windows.specs.Arranging as arranging;
-ghost use Rattle.glk_windows.specs.Tree.{number_of};
+ghost use Rattle.glk_windows.specs.Tree.{IsLive, number_of};
 ghost use Rattle.glk_numbers.specs.Numbered.{after, has};
 
 use crate::changing::{Change, change_at};
@@ -84,6 +84,7 @@ impl Windows {
 
     /// Keeps the number of the stream to which a window's output goes too, 0 for none.
     pub fn set_echo(&mut self, win: u32, stream: u32)
+        requires { IsLive self.old win }
         ensures { self.new ≡ arranging.echo_set self.old win stream }
     {
         change_at(&mut self.slots, win, Change::Echo(stream))

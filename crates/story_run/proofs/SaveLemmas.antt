@@ -8,11 +8,13 @@ use Rattle.glk_dispatch.specs.declared.glk.Glk.{Glk}
 use Rattle.story_run.specs.Saves.{rest_of, rest_on}
 
 pub rest_of-more : (most : ℕ) (g : Glk) (m : MemoryMap) (n : ℕ) (bytes : List ℕ) → 0 < most
-    → rest_of most g m n bytes ≡ got_code g m n >>= (λ p. rest_on (λ h read. rest_of (most - 1) h m n read) p.0 bytes p.1)
+    → rest_of most g m n bytes ≡ got_code g m n >>=
+    (λ p. rest_on (λ h read. rest_of (most - 1) h m n read) p.0 bytes p.1)
 unfolding rest_of
 rest_of-more zero g m n bytes h = absurd (omega arith)
 rest_of-more (suc most) g m n bytes h = simp unary_clauses
 
-pub rest_of-none : (g : Glk) (m : MemoryMap) (n : ℕ) (bytes : List ℕ) → rest_of 0 g m n bytes ≡ Ok (g, bytes)
+pub rest_of-none : (g : Glk) (m : MemoryMap) (n : ℕ) (bytes : List ℕ)
+    → rest_of 0 g m n bytes ≡ Ok (g, bytes)
 unfolding rest_of
 rest_of-none g m n bytes = refl

@@ -19,30 +19,35 @@ pub prompt_wants : (m : Machine) → map (wants (AtPrompt m) [])
 prompt_wants m = refl
 
 -- once over nothing is wanted
-pub over_wants : map (wants Quit []) (File [] ∷ Line 1 [] 0 ∷ Char 1 65 ∷ []) ≡ false ∷ false ∷ false ∷ []
+pub over_wants : map (wants Quit []) (File [] ∷ Line 1 [] 0 ∷ Char 1 65 ∷ [])
+    ≡ false ∷ false ∷ false ∷ []
 over_wants = refl
 
 -- a call may read and write as many characters as there are ticks left, and no more
-pub just_enough : (g : Glk) (m : Machine) (answer : Called) → charged 4 4 g m answer ≡ done 0 g m answer
+pub just_enough : (g : Glk) (m : Machine) (answer : Called)
+    → charged 4 4 g m answer ≡ done 0 g m answer
 just_enough g m answer = refl
 
 pub one_too_many : (g : Glk) (m : Machine) (answer : Called) → charged 4 5 g m answer ≡ faults g 24
 one_too_many g m answer = refl
 
 -- what a line begins with: a character past memory's end is 0, as is a word that passes it
-pub past_the_end : initial 3 false (record { bytes = 104 ∷ 105 ∷ []; ramstart = 0; rom = []; endmem = 2 }) 0
+pub past_the_end : initial 3 false
+    (record { bytes = 104 ∷ 105 ∷ []; ramstart = 0; rom = []; endmem = 2 }) 0
     ≡ 104 ∷ 105 ∷ 0 ∷ []
 unfolding initial
 past_the_end = refl
 
-pub words_past_the_end : initial 2 true (record { bytes = 0 ∷ 0 ∷ 1 ∷ 4 ∷ 9 ∷ 9 ∷ []; ramstart = 0; rom = []; endmem = 6 }) 0
+pub words_past_the_end : initial 2 true
+    (record { bytes = 0 ∷ 0 ∷ 1 ∷ 4 ∷ 9 ∷ 9 ∷ []; ramstart = 0; rom = []; endmem = 6 }) 0
     ≡ 260 ∷ 0 ∷ []
 unfolding initial
 words_past_the_end = refl
 
 -- a prompt for data (usage 0) or a save (1), to be written (mode 1)
 pub prompt_shown : (m : Machine)
-    → show_of (record (fresh 80 24) { prompt = record { usage = 1; mode = 1; rock = 7 } }) (AtPrompt m) ≡ codes "P 1 1\n"
+    → show_of (record (fresh 80 24) { prompt = record { usage = 1; mode = 1; rock = 7 } })
+    (AtPrompt m) ≡ codes "P 1 1\n"
 unfolding end_line digits
 prompt_shown m = refl
 

@@ -9,7 +9,7 @@ use Rattle.vm_exec.specs.declared.step.Step.TheVariants as step
 use Rattle.vm_memory.specs.MemoryMap.{MemoryMap}
 use Rattle.vm_memory.specs.declared.fault.Trap.{Trap}
 use Rattle.vm_memory.specs.declared.fault.Trap.TheVariants as trap
-use Rattle.glk_dispatch.specs.Answer.{Desk, Reached, Rule, desk}
+use Rattle.glk_dispatch.specs.Answer.{GlkCall, Reached, Rule, glk_call}
 use Rattle.glk_dispatch.specs.Call.{called}
 use Rattle.glk_dispatch.specs.Output.{put_code}
 use Rattle.glk_dispatch.specs.declared.called.Called.{Called}
@@ -62,7 +62,7 @@ charged left chars g m answer =
     if nat_lt left chars then faults g 24 else done (left - chars) g m answer
 
 -- the machine with a call's memory and stack
-abbrev pub machine_of : Machine → Desk → Machine
+abbrev pub machine_of : Machine → GlkCall → Machine
 machine_of m d = record m { memory = d.memory; stack = d.stack }
 
 -- a call was done over this Glk state, or was a fault
@@ -82,7 +82,7 @@ followed image left g m (step.Ran cost) = Runs (left - cost) (running g m)
 followed image left g m (step.Out code cost) =
     put (left - cost) m (put_code g m.memory g.streams.current code)
 followed image left g m (step.Glk selector args cost) =
-    answered (left - cost) g m (called (desk g m.memory m.stack) selector args)
+    answered (left - cost) g m (called (glk_call g m.memory m.stack) selector args)
 followed image left g m (step.Save stream cost) = went_on (left - cost) (saved image g m stream)
 followed image left g m (step.Restore stream cost) =
     went_on (left - cost) (restored image g m stream)

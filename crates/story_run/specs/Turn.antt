@@ -7,7 +7,7 @@ use Rattle.vm_exec.specs.declared.machine.Machine.{Machine}
 use Rattle.vm_memory.specs.declared.fault.Trap.{Trap}
 use Rattle.vm_memory.specs.declared.fault.Trap.TheVariants as trap
 use Rattle.glk_input.specs.declared.input.Input.{Input}
-use Rattle.glk_dispatch.specs.Answer.{Reached, Rule, desk}
+use Rattle.glk_dispatch.specs.Answer.{Reached, Rule, glk_call}
 use Rattle.glk_dispatch.specs.Events as events
 use Rattle.glk_dispatch.specs.declared.glk.Glk.{Glk}
 use Rattle.story_run.specs.Step.{Next, Runs, Rests, Running, machine_of, next, running}
@@ -46,7 +46,7 @@ restarted m (Err e) = Err e
 
 -- an input is delivered to the call that waits for it, which takes no ticks
 abbrev pub delivered : Glk → Machine → Input → Reached (Glk × Machine)
-delivered g m input = restarted m (events.answered (desk g m.memory m.stack) input)
+delivered g m input = restarted m (events.answered (glk_call g m.memory m.stack) input)
 
 -- the story runs on, or ends with a fault
 abbrev pub resumed : List ℕ → ℕ → Reached (Glk × Machine) → Glk × Stage

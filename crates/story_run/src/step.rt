@@ -1,7 +1,7 @@
 //! One step of the story: an instruction, and then what it asks of Glk.
 
 ghost use Rattle.std.specs.Prelude.{◌≡◌, IfOk};
-ghost use Rattle.glk_dispatch.specs.Answer.{desk};
+ghost use Rattle.glk_dispatch.specs.Answer.{glk_call};
 ghost use Rattle.glk_dispatch.specs.Call.{called};
 ghost use Rattle.story_run.specs.Step.{Advances, answered, done, next, running};
 ghost use Rattle.story_run.specs.World.{IsRunning, IsWaiting, StaysOver};
@@ -77,7 +77,7 @@ fn call_glk<'i>(
     requires { IsWaiting image.now machine.old }
     ensures does { Advances
         (answered left glk.old machine.old
-        (called (desk glk.old machine.old.memory machine.old.stack) selector args))
+        (called (glk_call glk.old machine.old.memory machine.old.stack) selector args))
         glk.new machine.new result }
     ensures kept { IfOk result (λ progress. StaysOver image.now machine.new progress) }
 {

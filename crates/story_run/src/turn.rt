@@ -1,6 +1,7 @@
 //! A turn: steps until the story waits or ends, within its budget.
 
-ghost use Rattle.std.specs.Prelude.{◌≡◌, ℕ, List, IfOk, OnOk};
+ghost use Rattle.std.specs.Prelude.{◌≡◌, ℕ, List, IfOk, OnOk, true};
+ghost use Rattle.glk_dispatch.specs.Events.{is_awaited};
 ghost use Rattle.story_run.specs.Step.{running};
 ghost use Rattle.story_run.specs.Turn.{Resumes, Stops, begun, delivered, rest, turn_on};
 ghost use Rattle.story_run.specs.World.{IsRunning, IsStageOf, IsWaiting};
@@ -77,7 +78,8 @@ fn deliver<'i>(
     machine: &mut Machine<'i>,
     input: &Input,
 ) -> Result<(), Trap>
-    requires { IsWaiting image.now machine.old }
+    requires waits { IsWaiting image.now machine.old }
+    requires awaited { is_awaited glk.old.requests input.now ≡ true }
     ensures does { Resumes (delivered glk.old machine.old input.now) glk.new machine.new result }
     ensures kept { OnOk result (IsRunning image.now machine.new) }
 {
@@ -94,7 +96,8 @@ pub(crate) fn resume<'i>(
     input: &Input,
     budget: u64,
 ) -> Result<Stage<'i>, AllocError>
-    requires { IsWaiting image.now machine }
+    requires waits { IsWaiting image.now machine }
+    requires awaited { is_awaited glk.old.requests input.now ≡ true }
     ensures value { IfOk result (λ stage. (glk.new, stage)
         ≡ turn_on image.now budget glk.old machine.entry input.now) }
     ensures kept { IfOk result (λ stage. IsStageOf image.now stage) }

@@ -2,7 +2,8 @@ use Rattle.std.proofs.Common.{arith, ◌≡◌, ◌+◌, ◌-◌, ◌<◌, ap, s
 use Rattle.std.proofs.lemmas.List.{nil_from_length}
 use Rattle.std.specs.Str.Iter.{chars_rest}
 use Rattle.std.proofs.lemmas.Str.{IsUtf8-past_char, chars_past_char, chars-nil}
-use Rattle.glk_input.proofs.DeliveryLemmas.{counted_none, front_length, goes_on, stops, writes_stop, writes_on, written_none}
+use Rattle.glk_input.proofs.DeliveryLemmas.{counted_none, front_length, goes_on, stops, writes_stop}
+use Rattle.glk_input.proofs.DeliveryLemmas.{writes_on, written_none}
 use Rattle.glk_input.proofs.deliver.write_front.Goals as goal
 
 pub returns-in-Err-clause-value : goal.returns-in-Err-clause-value
@@ -11,12 +12,15 @@ returns-in-Err-clause-value c =
     let step = chars_past_char _ _ c.in-Some.c held.utf8 c.in-Some.ensures.steps.0 in
     let left : 0 < c.args.max - c.loop-c.count = omega arith in
     let e = rw step at held.written in
-    writes_stop c.args.unicode c.loop-c.memory c.args.memory.now c.write_char.new.memory c.loop-c.at c.args.from c.in-Some.c
-    (chars (chars_rest c.next.new.self)) (take c.args.max (chars c.args.text.now)) (c.args.max - c.loop-c.count) c.in-Err.stop left e c.in-Err.ensures.value
+    writes_stop c.args.unicode c.loop-c.memory c.args.memory.now c.write_char.new.memory c.loop-c.at
+    c.args.from c.in-Some.c
+    (chars (chars_rest c.next.new.self)) (take c.args.max (chars c.args.text.now))
+    (c.args.max - c.loop-c.count) c.in-Err.stop left e c.in-Err.ensures.value
 
 pub returns-in-Err-clause-part : goal.returns-in-Err-clause-part
 returns-in-Err-clause-part c =
-    stops c.args.unicode c.args.memory.now c.loop-c.memory c.write_char.new.memory c.args.from c.loop-c.at _ _
+    stops c.args.unicode c.args.memory.now c.loop-c.memory c.write_char.new.memory c.args.from
+    c.loop-c.at _ _
     c.loop-c.invariant.part c.in-Err.ensures.err
 
 pub loop-c-preserved : goal.loop-c-preserved
@@ -25,18 +29,26 @@ loop-c-preserved c =
     let step = chars_past_char _ _ c.in-Some.c held.utf8 c.in-Some.ensures.steps.0 in
     let left : 0 < c.args.max - c.loop-c.count = omega arith in
     let e = rw step at held.written in
-    let on = writes_on c.args.unicode c.loop-c.memory c.args.memory.now c.write_char.new.memory c.loop-c.at c.args.from c.in-Some.c
-    (chars (chars_rest c.next.new.self)) (take c.args.max (chars c.args.text.now)) (c.args.max - c.loop-c.count) left e c.in-Ok.ensures.value in
+    let on = writes_on c.args.unicode c.loop-c.memory c.args.memory.now c.write_char.new.memory
+    c.loop-c.at c.args.from c.in-Some.c
+    (chars (chars_rest c.next.new.self)) (take c.args.max (chars c.args.text.now))
+    (c.args.max - c.loop-c.count) left e c.in-Ok.ensures.value in
     let k : (c.args.max - c.loop-c.count) - 1 ≡ c.args.max - (c.loop-c.count + 1) = omega arith in
-    let n = rw (step, front_length c.in-Some.c (chars (chars_rest c.next.new.self)) (c.args.max - c.loop-c.count) left) at held.counted in
+    let n = rw (
+      step,
+      front_length c.in-Some.c (chars (chars_rest c.next.new.self))
+          (c.args.max - c.loop-c.count) left,
+    ) at held.counted in
     record {
       utf8 = IsUtf8-past_char _ _ c.in-Some.c held.utf8 c.in-Some.ensures.steps.0;
       below = omega arith;
       written = rw (c.width-at.ensures, ← k) on;
       counted = rw (← k) (omega arith);
       part = rw (c.width-at.ensures, ← k)
-          (goes_on c.args.unicode c.args.memory.now c.loop-c.memory c.write_char.new.memory c.args.from c.loop-c.at c.in-Some.c
-          (chars (chars_rest c.next.new.self)) (take c.args.max (chars c.args.text.now)) (c.args.max - c.loop-c.count) left
+          (goes_on c.args.unicode c.args.memory.now c.loop-c.memory c.write_char.new.memory
+          c.args.from c.loop-c.at c.in-Some.c
+          (chars (chars_rest c.next.new.self)) (take c.args.max (chars c.args.text.now))
+          (c.args.max - c.loop-c.count) left
           (rw step at held.part) c.in-Ok.ensures.value);
     }
 

@@ -9,8 +9,12 @@ abbrev pub invariant-loop-c : goal.invariant-loop-c
 invariant-loop-c l = record {
   utf8 : IsUtf8 (chars_rest l.c-iterator);
   below : l.count ≤ l.max;
-  written : line_written l.unicode l.memory l.at (map (taken l.unicode) (take (l.max - l.count) (chars (chars_rest l.c-iterator))))
-      ≡ line_written l.unicode l.fn.memory l.from (map (taken l.unicode) (take l.max (chars l.text)));
-  counted : l.count + length (take (l.max - l.count) (chars (chars_rest l.c-iterator))) ≡ length (take l.max (chars l.text));
-  part : HasWritten l.unicode l.fn.memory l.memory l.from l.at (take (l.max - l.count) (chars (chars_rest l.c-iterator))) (take l.max (chars l.text));
+  written : line_written l.unicode l.memory l.at
+      (map (taken l.unicode) (take (l.max - l.count) (chars (chars_rest l.c-iterator))))
+      ≡ line_written l.unicode l.fn.memory l.from
+      (map (taken l.unicode) (take l.max (chars l.text)));
+  counted : l.count + length (take (l.max - l.count) (chars (chars_rest l.c-iterator))) ≡ length
+      (take l.max (chars l.text));
+  part : HasWritten l.unicode l.fn.memory l.memory l.from l.at
+      (take (l.max - l.count) (chars (chars_rest l.c-iterator))) (take l.max (chars l.text));
 }

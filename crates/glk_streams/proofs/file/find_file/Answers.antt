@@ -1,4 +1,5 @@
-use Rattle.glk_streams.proofs.FileLemmas.{is_had, no_content, is_content, is_changed, is_left, none_is_left}
+use Rattle.glk_streams.proofs.FileLemmas.{is_had, no_content, is_content, is_changed, is_left}
+use Rattle.glk_streams.proofs.FileLemmas.{none_is_left}
 use Rattle.glk_streams.proofs.file.find_file.Goals as goal
 
 pub returns-clause-has : goal.returns-clause-has

@@ -7,7 +7,8 @@ use Rattle.story_run.proofs.turn.run.Given as goal
 -- what is left to do gives what was to do, by a machine that runs over the image
 abbrev pub invariant-loop-rest : goal.invariant-loop-rest
 invariant-loop-rest l =
-    (rest l.image l.left (running l.glk l.machine) ≡ rest l.image l.fn.budget (running l.fn.glk l.fn.machine))
+    (rest l.image l.left (running l.glk l.machine) ≡ rest l.image l.fn.budget
+    (running l.fn.glk l.fn.machine))
     × IsRunning l.image l.machine
 
 abbrev pub decreases-loop-rest : goal.decreases-loop-rest

@@ -4,4 +4,5 @@ use Rattle.story_show.proofs.words.text_of.Goals as goal
 
 pub returns : goal.returns
 returns c =
-    c.of.ensures ∙ sym (chars_from_encodes _ _ (IsUtf8-string_bytes c.in_ok-utf8.utf8) (sym c.in_ok-utf8.ensures))
+    c.of.ensures ∙ sym (chars_from_encodes _ _ (IsUtf8-string_bytes c.in_ok-utf8.utf8)
+    (sym c.in_ok-utf8.ensures))

@@ -1,0 +1,341 @@
+-- The calls of events and input keep what the work of a call keeps.
+use Rattle.std.proofs.Common.{◌≡◌, ℕ, zero, suc, ◌+◌, ◌%◌, ◌^◌, ◌==◌, ◌||◌, ◌&&◌}
+use Rattle.std.proofs.Common.{not, nat_le, Bool, true, false, List, [], ◌∷◌, ◌++◌, length}
+use Rattle.std.proofs.Common.{length-append, refl, arith, ◌<◌, ◌≤◌, Option, Some, None, Result, Ok}
+use Rattle.std.proofs.Common.{Err, cond}
+use Rattle.std.specs.Prelude.{IfOk}
+use Rattle.std.proofs.lemmas.Bool.Decides.{nat_tests}
+use Rattle.std.proofs.lemmas.Grind.{common_steps}
+use Rattle.vm_memory.specs.Access.{read, written}
+use Rattle.vm_memory.specs.Fault.{coded}
+use Rattle.vm_memory.specs.MemoryMap.{MemoryMap, KeepsMap}
+use Rattle.vm_memory.specs.declared.fault.MemFault.{MemFault}
+use Rattle.glk_numbers.specs.Numbered.{has}
+use Rattle.glk_windows.specs.Tree.{number_of}
+use Rattle.glk_windows.specs.Valid.{Ascends, IsOrdered}
+use Rattle.glk_windows.specs.declared.window.Window.{Window as Win}
+use Rattle.glk_input.specs.Delivery as delivery
+use Rattle.glk_input.specs.Request as request
+use Rattle.glk_input.specs.Valid.{is_valid}
+use Rattle.glk_input.specs.declared.event.Event.{Event}
+use Rattle.glk_input.specs.declared.input.Input.{Input}
+use Rattle.glk_input.specs.declared.input.Input.TheVariants as input
+use Rattle.glk_input.specs.declared.request.Request.{Request}
+use Rattle.glk_input.specs.declared.request.Request.TheVariants.{Line, Char}
+use Rattle.glk_input.specs.declared.request.WindowInput.{WindowInput}
+use Rattle.glk_dispatch.specs.Answer.{GlkCall, Done, Reached, ◌>>=◌, glk_call}
+use Rattle.glk_dispatch.specs.Events as events
+use Rattle.glk_dispatch.specs.FileRefs.{prompted}
+use Rattle.glk_dispatch.specs.Glk.{is_window}
+use Rattle.glk_dispatch.specs.Laws.{AreValid}
+use Rattle.glk_dispatch.specs.Output.{code_at, echo_put}
+use Rattle.glk_dispatch.specs.Reference.{refers_all}
+use Rattle.glk_dispatch.specs.declared.events.EventCall.{EventCall}
+use Rattle.glk_dispatch.specs.declared.events.EventCall.TheVariants as ev
+use Rattle.glk_dispatch.specs.declared.events.TheConstants.{INPUT, MAX_INITIAL, NEWLINE}
+use Rattle.glk_dispatch.specs.declared.glk.Glk.{Glk}
+use Rattle.glk_dispatch.proofs.KeptLemmas.{Kept, Keeps, Puts, Valid, begins-puts, beside, between}
+use Rattle.glk_dispatch.proofs.KeptLemmas.{kept-alone, kept-bind, kept-if, kept-read}
+use Rattle.glk_dispatch.proofs.KeptLemmas.{kept-refers_all, kept-step, kept-told, laws, ok-coded}
+use Rattle.glk_dispatch.proofs.KeptLemmas.{ok-written, on, placed-on, puts, row-needs, self}
+use Rattle.glk_dispatch.proofs.KeptLemmas.{with-requests}
+use Rattle.glk_dispatch.proofs.KeptOutput.{kept-echo_put}
+use Rattle.glk_dispatch.proofs.KeptStreams.{prompted-valid}
+
+same-number : (m n : ℕ) → (m == n) ≡ true → m ≡ n
+same-number m n e = grind (arith, nat_tests)
+
+-- a live window has a number from 1 on that is below the next one
+range-case : (t : Bool) (w : Win) (ws : List Win) (a z n : ℕ) → (w.number == n) ≡ t
+    → (a ≤ w.number) × (w.number < z)
+    → (t || has number_of ws n) ≡ true → (has number_of ws n ≡ true → (w.number + 1 ≤ n) × (n < z))
+    → (a ≤ n) × (n < z)
+range-case true w ws a z n e o h k =
+    let x : w.number ≡ n = same-number w.number n e in
+    let l : a ≤ w.number = o.0 in
+    let u : w.number < z = o.1 in
+    (omega arith, omega arith)
+range-case false w ws a z n e o h k =
+    let r = k h in
+    let l : a ≤ w.number = o.0 in
+    let m : w.number + 1 ≤ n = r.0 in
+    (omega arith, r.1)
+
+ascends-range : (ws : List Win) (a z n : ℕ) → Ascends a ws z → has number_of ws n ≡ true
+    → (a ≤ n) × (n < z)
+unfolding has
+ascends-range [] a z n o e = absurd cc
+ascends-range (w ∷ ws) a z n o e =
+    range-case (w.number == n) w ws a z n refl (o.0, o.1) e
+    (λ h. ascends-range ws (w.number + 1) z n o.2 h)
+
+live-range : (g : Glk) (win : ℕ) → AreValid g → is_window g win ≡ true
+    → (0 < win) × (win < 4294967295)
+unfolding IsOrdered
+live-range g win v live =
+    let r = ascends-range g.windows.slots 1 g.windows.next win v.windows.ordered live in
+    let l : 1 ≤ win = r.0 in
+    let u : win < g.windows.next = r.1 in
+    let n : g.windows.next ≤ 4294967295 = v.next in
+    (omega arith, omega arith)
+
+-- the entry of a live window is there, or begins
+begun-requests : (g : Glk) (win : ℕ) → AreValid g → is_window g win ≡ true
+    → is_valid (request.with_window g.requests win) ≡ true
+begun-requests g win v live =
+    let r = live-range g win v live in laws.requests.begun g.requests win r.0 r.1 v.requests
+
+and-first : (a b : Bool) → (a && b) ≡ true → a ≡ true
+and-first true b e = refl
+and-first false b e = e
+
+and-second : (a b : Bool) → (a && b) ≡ true → b ≡ true
+and-second true b e = e
+and-second false b e = absurd cc
+
+at-most : (a b : ℕ) → nat_le a b ≡ true → a ≤ b
+at-most a b e = grind (arith, nat_tests)
+
+words-more : (r : Result ℕ ℕ) (f : ℕ → Result (List ℕ) ℕ) (words xs : List ℕ) (n : ℕ)
+    → (r >>= f) ≡ Ok xs
+    → ((x : ℕ) → f x ≡ Ok xs → length xs ≡ length (words ++ x ∷ []) + n)
+    → length xs ≡ length words + suc n
+words-more (Ok x) f words xs n e k = let h = k x e in omega (arith, length-append {A = ℕ})
+words-more (Err m) f words xs n e k = absurd cc
+
+words-none : (words xs : List ℕ) → ◌≡◌ {A = Result (List ℕ) ℕ} (Ok words) (Ok xs)
+    → length xs ≡ length words + 0
+words-none words xs e = grind (arith, common_steps)
+
+-- an array has as many words as it was read for
+words-length : (n : ℕ) (m : MemoryMap) (at : ℕ) (words xs : List ℕ)
+    → events.words_at n m at words ≡ Ok xs → length xs ≡ length words + n
+unfolding events.words_at
+words-length zero m at words xs e = words-none words xs e
+words-length (suc n) m at words xs e =
+    words-more (coded (read 4 m at))
+    (λ x. events.words_at n m ((at + 4) % 2 ^ 32) (words ++ x ∷ [])) words xs n e
+    (λ x h. words-length n m ((at + 4) % 2 ^ 32) (words ++ x ∷ []) xs h)
+
+-- so it is for each list that is read
+ok-words : (n : ℕ) (m : MemoryMap) (at : ℕ) (r : Result (List ℕ) ℕ) → events.words_at n m at [] ≡ r
+    → IfOk r (λ xs. length xs ≡ n)
+ok-words n m at (Ok xs) e = let h : length xs ≡ 0 + n = words-length n m at [] xs e in
+    omega (arith, h)
+ok-words n m at (Err f) e = tt
+
+-- an input leaves valid requests
+answered-valid : (i : Input) (ws : List WindowInput) → is_valid ws ≡ true
+    → is_valid (delivery.answered ws i) ≡ true
+answered-valid (input.Line win text key) ws e = laws.requests.over ws win e
+answered-valid (input.Char win code) ws e = laws.requests.over ws win e
+answered-valid (input.File name) ws e = e
+
+-- ---- lines that are shown
+
+kept-echoed : (b : GlkCall) (rs : List WindowInput) (cs : List ℕ) (g : Glk) (m : MemoryMap) (n : ℕ)
+    → Puts b rs g m → Kept b (puts b rs) (events.echoed g m n cs)
+kept-echoed b rs [] g m n k = k
+kept-echoed b rs (x ∷ cs) g m n k =
+    kept-bind b (puts b rs) (puts b rs) (echo_put g m n INPUT x) (λ p. events.echoed p.0 p.1 n cs)
+    (kept-echo_put b rs g m n INPUT x k) (λ p h. kept-echoed b rs cs p.0 p.1 n h)
+
+kept-echo_array : (b : GlkCall) (rs : List WindowInput) (count : ℕ) (u : Bool) (g : Glk)
+    (m : MemoryMap) (n at : ℕ) → Puts b rs g m
+    → Kept b (puts b rs) (events.echo_array count u g m n at)
+unfolding events.echo_array
+kept-echo_array b rs zero u g m n at k = k
+kept-echo_array b rs (suc count) u g m n at k =
+    kept-bind b (puts b rs) (puts b rs) (events.echo_item u g m n at)
+    (λ p. events.echo_array count u p.0 p.1 n ((at + delivery.width u) % 2 ^ 32))
+    (kept-read b (puts b rs) g (code_at u m at) (λ x. echo_put g m n INPUT x) k.keeps.parts
+    (λ x. kept-echo_put b rs g m n INPUT x k))
+    (λ p h. kept-echo_array b rs count u p.0 p.1 n ((at + delivery.width u) % 2 ^ 32) h)
+
+-- a line, and a newline
+kept-shown : (b : GlkCall) (rs : List WindowInput) (echo : Bool) (g : Glk) (m : MemoryMap) (n : ℕ)
+    (r : Reached (Glk × MemoryMap)) → Puts b rs g m
+    → Kept b (puts b rs) r
+    → Kept b (puts b rs) (cond echo (r >>= (λ p. echo_put p.0 p.1 n INPUT NEWLINE)) (Ok (g, m)))
+kept-shown b rs echo g m n r k h =
+    kept-if b (puts b rs) echo _ _
+    (λ e. kept-bind b (puts b rs) (puts b rs) r (λ p. echo_put p.0 p.1 n INPUT NEWLINE) h
+    (λ p j. kept-echo_put b rs p.0 p.1 n INPUT NEWLINE j))
+    (λ e. k)
+
+kept-initial : (b : GlkCall) (rs : List WindowInput) (o : Option Request) (g : Glk) (m : MemoryMap)
+    (win : ℕ) → Puts b rs g m
+    → Kept b (puts b rs) (events.initial_echoed o g m win)
+kept-initial b rs None g m win k = k
+kept-initial b rs (Some (Char u)) g m win k = k
+kept-initial b rs (Some (Line r)) g m win k =
+    kept-shown b rs r.echo g m (events.stream_in g win)
+    (events.echo_array r.init r.unicode g m (events.stream_in g win) r.buf) k
+    (kept-echo_array b rs r.init r.unicode g m (events.stream_in g win) r.buf k)
+
+kept-line_echoed : (b : GlkCall) (rs : List WindowInput) (o : Option Request) (g : Glk)
+    (m : MemoryMap)
+    (win : ℕ) (text : List ℕ) → Puts b rs g m
+    → Kept b (puts b rs) (events.line_echoed o g m win text)
+kept-line_echoed b rs None g m win text k = k
+kept-line_echoed b rs (Some (Char u)) g m win text k = k
+kept-line_echoed b rs (Some (Line r)) g m win text k =
+    kept-shown b rs r.echo g m (events.stream_in g win)
+    (events.echoed g m (events.stream_in g win) (delivery.taken_line r text)) k
+    (kept-echoed b rs (delivery.taken_line r text) g m (events.stream_in g win) k)
+
+pub kept-input_echoed : (b : GlkCall) (rs : List WindowInput) (i : Input) (g : Glk) (m : MemoryMap)
+    → Puts b rs g m
+    → Kept b (puts b rs) (events.input_echoed g m i)
+kept-input_echoed b rs (input.Line win text key) g m k = kept-line_echoed b rs
+    (request.request_of g.requests win) g m win text k
+kept-input_echoed b rs (input.Char win code) g m k = k
+kept-input_echoed b rs (input.File name) g m k = k
+
+-- ---- the rows
+
+-- a change of the requests of a window that is live
+kept-asks : (s : GlkCall) (rs : List WindowInput) → (AreValid s.glk → is_valid rs ≡ true)
+    → Kept s (beside s) (events.leaves s.glk rs)
+kept-asks s rs h = λ v. with-requests s.glk rs v (h v)
+
+kept-cancels_line : (s : GlkCall) (win event : ℕ) → Kept s (on s) (events.cancels_line s win event)
+kept-cancels_line s win event =
+    let asked = request.request_of s.glk.requests win in
+    let rs = request.changed request.without_line s.glk.requests win in
+    let g = record s.glk { requests = rs } in
+    let r = events.initial_echoed asked g s.memory win in
+    row-needs s (on s) (is_window s.glk win) 21 _
+    (λ e. kept-told s (r >>=
+    (λ p. refers_all (record s { glk = p.0; memory = p.1 }) event
+    (events.words_of (request.cancelled asked win)))) 0
+    (kept-bind s (puts s rs) (Keeps s) r
+    (λ p. refers_all (record s { glk = p.0; memory = p.1 }) event
+    (events.words_of (request.cancelled asked win)))
+    (kept-initial s rs asked g s.memory win
+    (begins-puts s g (λ v. with-requests s.glk rs v
+    (laws.requests.line_ended s.glk.requests win v.requests))))
+    (λ p k. kept-refers_all s (record s { glk = p.0; memory = p.1 }) event
+    (events.words_of (request.cancelled asked win)) k.keeps)))
+
+pub kept-event_work : (k : EventCall) (s : GlkCall) (l : ℕ → ℕ)
+    → Kept s (on s) (events.event_work k s l)
+unfolding events.event_work
+kept-event_work ev.Select s l = placed-on s _
+    (λ v. record { windows = v.windows; streams = v.streams; requests = v.requests; next = v.next })
+kept-event_work ev.SelectPoll s l =
+    kept-told s (refers_all s (l 0) (0 ∷ 0 ∷ 0 ∷ 0 ∷ [])) 0
+    (kept-refers_all s s (l 0) (0 ∷ 0 ∷ 0 ∷ 0 ∷ []) (self s))
+kept-event_work (ev.RequestLine u) s l =
+    kept-alone s (events.line_asked u s.glk (l 0) (l 1) (l 2) (l 3))
+    (row-needs s (beside s) (is_window s.glk (l 0)) 21 _
+    (λ e. row-needs s (beside s) (events.may_ask s.glk (l 0)) 22 _
+    (λ f. row-needs s (beside s) (nat_le (l 3) (l 2) && nat_le (l 3) MAX_INITIAL) 22 _
+    (λ h. kept-asks s _ (λ v.
+    laws.requests.line (l 1) (l 2) (l 3) u
+    (at-most (l 3) (l 2) (and-first (nat_le (l 3) (l 2)) (nat_le (l 3) MAX_INITIAL) h))
+    (at-most (l 3) 1024 (and-second (nat_le (l 3) (l 2)) (nat_le (l 3) MAX_INITIAL) h))
+    (request.with_window s.glk.requests (l 0)) (l 0) (begun-requests s.glk (l 0) v e))))))
+kept-event_work ev.CancelLine s l = kept-cancels_line s (l 0) (l 1)
+kept-event_work (ev.RequestChar u) s l =
+    kept-alone s (events.char_asked u s.glk (l 0))
+    (row-needs s (beside s) (is_window s.glk (l 0)) 21 _
+    (λ e. row-needs s (beside s) (events.may_ask s.glk (l 0)) 22 _
+    (λ f. kept-asks s _ (λ v. laws.requests.char u (request.with_window s.glk.requests (l 0)) (l 0)
+    (begun-requests s.glk (l 0) v e)))))
+kept-event_work ev.CancelChar s l =
+    kept-alone s (events.char_cancelled s.glk (l 0))
+    (row-needs s (beside s) (is_window s.glk (l 0)) 21 _
+    (λ e. kept-asks s _ (λ v. laws.requests.char_ended s.glk.requests (l 0) v.requests)))
+kept-event_work ev.SetEcho s l =
+    kept-alone s (events.line_echo_set s.glk (l 0) (l 1))
+    (row-needs s (beside s) (is_window s.glk (l 0)) 21 _
+    (λ e. kept-asks s _ (λ v. laws.requests.echo (not (l 1 == 0)) s.glk.requests (l 0) v.requests)))
+kept-event_work ev.SetTerminators s l =
+    kept-alone s (events.terminators_set s.glk s.memory (l 0) (l 1) (l 2))
+    (row-needs s (beside s) (is_window s.glk (l 0)) 21 _
+    (λ e. row-needs s (beside s) (nat_le (l 2) 13) 22 _
+    (λ f. kept-step s (λ xs. length xs ≡ l 2) (beside s) s.glk
+    (events.words_at (l 2) s.memory (l 1) []) _ (λ v. v)
+    (ok-words (l 2) s.memory (l 1) _ refl)
+    (λ list k. kept-asks s _ (λ v.
+    (let few : l 2 ≤ 13 = at-most (l 2) 13 f in
+    laws.requests.keys list (omega (arith, k)) (request.with_window s.glk.requests (l 0)) (l 0)
+    (begun-requests s.glk (l 0) v e)))))))
+
+-- ---- an input that comes
+
+abbrev leading : {A : Type 0} → MemoryMap → MemoryMap × A → Type 0
+leading o p = KeepsMap o p.0
+
+line-on : (o : MemoryMap) (u : Bool) (cs : List ℕ) (at : ℕ) (r : Result MemoryMap MemFault)
+    → IfOk r (KeepsMap o)
+    → ((n : MemoryMap) → KeepsMap o n
+    → IfOk (delivery.line_written u n ((at + delivery.width u) % 2 ^ 32) cs) (KeepsMap o))
+    → IfOk (delivery.◌>>=◌ r (λ n. delivery.line_written u n ((at + delivery.width u) % 2 ^ 32) cs))
+    (KeepsMap o)
+line-on o u cs at (Ok n) h f = f n h
+line-on o u cs at (Err e) h f = tt
+
+line-written : (o : MemoryMap) (u : Bool) (cs : List ℕ) (m : MemoryMap) (at : ℕ) → KeepsMap o m
+    → IfOk (delivery.line_written u m at cs) (KeepsMap o)
+line-written o u [] m at k = k
+line-written o u (c ∷ cs) m at k =
+    line-on o u cs at (written (delivery.width u) m at c) (ok-written o (delivery.width u) m at c k)
+    (λ n h. line-written o u cs n ((at + delivery.width u) % 2 ^ 32) h)
+
+line-event : (o : MemoryMap) (r : Result MemoryMap MemFault) (e : Event) → IfOk r (KeepsMap o)
+    → IfOk (delivery.◌>>=◌ r (λ n. Ok (n, e))) (leading o)
+line-event o (Ok n) e h = h
+line-event o (Err f) e h = tt
+
+line-delivered : (o : MemoryMap) (q : Option Request) (m : MemoryMap) (win : ℕ) (text : List ℕ)
+    (key : ℕ) → KeepsMap o m
+    → IfOk (delivery.line_delivered q m win text key) (leading o)
+line-delivered o (Some (Line r)) m win text key k =
+    line-event o (delivery.line_written r.unicode m r.buf (delivery.taken_line r text)) _
+    (line-written o r.unicode (delivery.taken_line r text) m r.buf k)
+line-delivered o (Some (Char u)) m win text key k = k
+line-delivered o None m win text key k = k
+
+ok-delivered : (o : MemoryMap) (ws : List WindowInput) (m : MemoryMap) (i : Input) → KeepsMap o m
+    → IfOk (delivery.delivered ws m i) (leading o)
+ok-delivered o ws m (input.Line win text key) k = line-delivered o
+    (request.request_of ws win) m win text key k
+ok-delivered o ws m (input.Char win code) k = k
+ok-delivered o ws m (input.File name) k = k
+
+kept-delivered : (b : GlkCall) (g : Glk) (m : MemoryMap) (i : Input)
+    → Keeps b (glk_call g m b.stack)
+    → Kept b (between b) (events.delivered g m i)
+kept-delivered b g m i k =
+    let over : Valid b (events.request_over g i) =
+    λ v. with-requests g (delivery.answered g.requests i) (k.parts v)
+    (answered-valid i g.requests (k.parts v).requests) in
+    kept-step b (leading b.memory) (between b) (events.request_over g i)
+    (coded (delivery.delivered g.requests m i)) (λ p. Ok (events.request_over g i, p.0, p.1)) over
+    (ok-coded (leading b.memory) (delivery.delivered g.requests m i)
+    (ok-delivered b.memory g.requests m i k.map))
+    (λ p h. record { parts = over; map = h; stack = k.stack })
+
+pub kept-event_answered : (s : GlkCall) (i : Input) → Kept s (on s) (events.event_answered s i)
+kept-event_answered s i =
+    let shown = events.input_echoed s.glk s.memory i in
+    let given = shown >>= (λ p. events.delivered p.0 p.1 i) in
+    let told = given >>=
+    (λ p. refers_all (record s { glk = p.0; memory = p.1 }) p.0.event (events.words_of p.2)) in
+    kept-bind s (Keeps s) (on s) told (λ t. Ok (t, 0))
+    (kept-bind s (between s) (Keeps s) given
+    (λ p. refers_all (record s { glk = p.0; memory = p.1 }) p.0.event (events.words_of p.2))
+    (kept-bind s (puts s s.glk.requests) (between s) shown (λ p. events.delivered p.0 p.1 i)
+    (kept-input_echoed s s.glk.requests i s.glk s.memory (begins-puts s s.glk (λ v. v)))
+    (λ p h. kept-delivered s p.0 p.1 i h.keeps))
+    (λ p h. kept-refers_all s (record s { glk = p.0; memory = p.1 }) p.0.event
+    (events.words_of p.2) h))
+    (λ t k. k)
+
+pub kept-answered : (i : Input) (s : GlkCall) → Kept s (on s) (events.answered s i)
+kept-answered (input.Line win text key) s = kept-event_answered s (input.Line win text key)
+kept-answered (input.Char win code) s = kept-event_answered s (input.Char win code)
+kept-answered (input.File name) s = kept-alone s (Done (prompted s.glk name))
+    (prompted-valid s.glk name)

@@ -1,0 +1,11 @@
+use Rattle.std.proofs.Common.{ap, ◌∙◌}
+use Rattle.glk_input.specs.Delivery as delivery
+use Rattle.glk_dispatch.specs.Answer.{glk_call}
+use Rattle.glk_dispatch.proofs.KeptCalls.{echo_asks}
+use Rattle.glk_dispatch.proofs.waiting.answer_event.Goals as goal
+
+pub deliver-requires : goal.deliver-requires
+deliver-requires c =
+    ap (λ rs. delivery.wants rs c.args.input.now)
+    (echo_asks (glk_call c.args.glk.now c.args.memory.now c.args.stack.now) c.args.input.now
+    c.echo_input.new.glk c.echo_input.new.memory c.in_ok-echo_input.ensures) ∙ c.requires

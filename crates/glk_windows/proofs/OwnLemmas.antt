@@ -1,0 +1,193 @@
+-- Closing takes the windows that go with one, and leaves the others what is their own.
+use Rattle.std.proofs.Common.{◌≡◌, ◌≢◌, ◌⊎◌, inl, inr, ℕ, zero, suc, ◌+◌, ◌<◌, ◌==◌, ◌||◌, List, [], ◌∷◌, length, refl, sym, ap, ◌∙◌}
+use Rattle.std.proofs.Common.{Option, Some, None, is_some, option_map, arith, Bool, true, false, cond, if◌then◌else◌, nat_lt}
+use Rattle.std.proofs.lemmas.Grind.{common_steps}
+use Rattle.glk_numbers.specs.Numbered.{found, without}
+use Rattle.glk_windows.specs.declared.window.Window.{Window}
+use Rattle.glk_windows.specs.declared.window.Pair as pairs
+use Rattle.glk_windows.specs.declared.window.Content.{Content}
+use Rattle.glk_windows.specs.declared.window.Content.TheVariants.{Pair, Blank, Buffer, Grid}
+use Rattle.glk_windows.specs.Tree.{WindowTree, number_of, pair_of, parent_of, stream_of, swapped}
+use Rattle.glk_windows.specs.Closing.{both, close, closed, content_unkeyed, ended, forgotten, removed}
+use Rattle.glk_windows.specs.Reading.{other as sibling}
+use Rattle.glk_windows.specs.OneTree.{Shape, bare, below, count, held, node_of, IsTree, top}
+use Rattle.glk_windows.specs.Valid.{Ascends, IsOrdered}
+use Rattle.glk_windows.specs.Laws.{ClosesBelow, goes_with, own, own_content, own_of}
+use Rattle.glk_windows.proofs.CutLemmas.{node_lower, node_pair}
+use Rattle.glk_windows.proofs.CloseLemmas.{node_rest, pair_rest}
+use Rattle.glk_windows.proofs.OneTreeLemmas.{is_eq, isnt_eq, node_parent, spells_top}
+use Rattle.glk_windows.proofs.OrderLemmas.{ascends-closed, ascends-removed}
+use Rattle.glk_windows.proofs.RectangleLemmas.{read_set_at}
+use Rattle.glk_windows.proofs.TestLemmas.{tree_found}
+use Rattle.glk_windows.proofs.ValidLemmas.{node_live, node_nil, some_tree, SomeTree}
+
+-- a window has something of its own where it is there
+own-node : (ws : List Window) (m : ℕ) → is_some (own_of ws m) ≡ is_some (node_of ws m)
+unfolding found
+own-node [] m = refl
+own-node (w ∷ ws) m = let k : _ = own-node ws m in grind (arith, common_steps)
+
+none-of : (o : Option Window) → is_some o ≡ false → o ≡ None
+none-of None e = refl
+none-of (Some w) e = cc
+
+own-none : (ws : List Window) (m : ℕ) → node_of ws m ≡ None → own_of ws m ≡ None
+own-none ws m e = none-of (own_of ws m) (own-node ws m ∙ ap is_some e)
+
+content-unkeyed : (c : Content) (n : ℕ) → own_content (content_unkeyed n c) ≡ own_content c
+content-unkeyed (Pair p) n = grind (arith, common_steps)
+content-unkeyed Blank n = refl
+content-unkeyed (Buffer b) n = refl
+content-unkeyed (Grid g) n = refl
+
+content-swapped : (c : Content) (a b : ℕ) → own_content (swapped c a b) ≡ own_content c
+content-swapped (Pair p) a b = grind (arith, common_steps)
+content-swapped Blank a b = refl
+content-swapped (Buffer x) a b = refl
+content-swapped (Grid g) a b = refl
+
+own-forgotten : (ws : List Window) (n s m : ℕ) → own_of (forgotten ws n s) m ≡ own_of ws m
+unfolding found
+own-forgotten [] n s m = refl
+own-forgotten (w ∷ ws) n s m =
+    let i : _ = content-unkeyed w.content n in
+    let k : _ = own-forgotten ws n s m in
+    grind (arith, common_steps)
+
+own-without : (a : ℕ) (ws : List Window) (z n m : ℕ) → Ascends a ws z
+    → own_of (without number_of ws n) m ≡ (if m == n then None else own_of ws m)
+unfolding found without
+own-without a [] z n m o = grind (arith, common_steps)
+own-without a (w ∷ ws) z n m o =
+    let i : m < w.number + 1 → own_of ws m ≡ None =
+    λ l. own-none ws m (node_lower (w.number + 1) ws z m o.2 l) in
+    let k : _ = own-without (w.number + 1) ws z n m o.2 in
+    grind (arith, common_steps)
+
+own-closed : (a : ℕ) (ws : List Window) (z n m : ℕ) → Ascends a ws z
+    → own_of (closed ws n) m ≡ (if m == n then None else own_of ws m)
+own-closed a ws z n m o =
+    own-forgotten (without number_of ws n) n (stream_of ws n) m ∙ own-without a ws z n m o
+
+-- a window keeps what is its own, or is gone
+abbrev Rests : List Window → List Window → ℕ → Type 0
+Rests ws vs m = (own_of vs m ≡ own_of ws m) ⊎ (own_of vs m ≡ None)
+
+rests-on : (ws vs us : List Window) (m : ℕ) → Rests ws vs m → Rests vs us m → Rests ws us m
+rests-on ws vs us m h (inr e) = inr e
+rests-on ws vs us m (inl e) (inl f) = inl (f ∙ e)
+rests-on ws vs us m (inr e) (inl f) = inr (f ∙ e)
+
+rests-if : (b : Bool) (o v : Option Window) → v ≡ (if b then None else o) → (v ≡ o) ⊎ (v ≡ None)
+rests-if true o v e = inr e
+rests-if false o v e = inl e
+
+rests-closed : (a : ℕ) (ws : List Window) (z n m : ℕ) → Ascends a ws z → Rests ws (closed ws n) m
+rests-closed a ws z n m o = rests-if (m == n) (own_of ws m) _ (own-closed a ws z n m o)
+
+rests-both : (f : List Window → ℕ → List Window) (a z m : ℕ)
+    → ((ws : List Window) (n : ℕ) → Ascends a ws z → Ascends a (f ws n) z × Rests ws (f ws n) m)
+    → (ws : List Window) (o : Option pairs.Pair) → Ascends a ws z → Rests ws (both f ws o) m
+rests-both f a z m h ws None o = inl refl
+rests-both f a z m h ws (Some p) o =
+    let one : _ = h ws p.first o in
+    rests-on ws (f ws p.first) _ m one.1 (h (f ws p.first) p.second one.0).1
+
+rests-removed : (d a : ℕ) (ws : List Window) (z n m : ℕ) → Ascends a ws z
+    → Rests ws (removed d ws n) m
+unfolding removed
+rests-removed zero a ws z n m o = inl refl
+rests-removed (suc d) a ws z n m o =
+    rests-on ws (closed ws n) _ m (rests-closed a ws z n m o)
+    (rests-both (removed d) a z m
+    (λ vs k l. (ascends-removed d a vs z k l, rests-removed d a vs z k m l))
+    (closed ws n) (pair_of ws n) (ascends-closed a ws z n o))
+
+-- the windows that are gone have nothing, and the others what they had
+own-rest : (ws vs : List Window) (m : ℕ) (b : Bool)
+    → node_of vs m ≡ (if b then None else node_of ws m) → Rests ws vs m
+    → own_of vs m ≡ (if b then None else own_of ws m)
+own-rest ws vs m true e r = own-none vs m e
+own-rest ws vs m false e (inl f) = f
+own-rest ws vs m false e (inr f) =
+    f ∙ sym (none-of (own_of ws m)
+    (own-node ws m ∙ ap is_some (sym e) ∙ sym (own-node vs m) ∙ ap is_some f))
+
+-- the pair ends, and its other window takes its place
+own-ended : (u : WindowTree) (pair : ℕ) (o : Option pairs.Pair) (r : pairs.Pair) (n m : ℕ)
+    → option_map bare o ≡ Some r → Ascends 1 u.slots u.next
+    → own_of (ended u pair o n).slots m ≡ (if m == pair then None else own_of u.slots m)
+own-ended u pair None r n m e a = cc
+own-ended u pair (Some q) r n m e a =
+    read_set_at None (λ w. Some (own w)) (λ w. record w { parent = parent_of u.slots pair })
+    (λ w. refl) (λ w. refl) _ (sibling q n) m
+    ∙ read_set_at None (λ w. Some (own w))
+    (λ w. record w { content = swapped w.content pair (sibling q n) }) (λ w. refl)
+    (λ w. ap (λ c. Some (record w { echo = 0; parent = 0; content = c }))
+    (content-swapped w.content pair (sibling q n))) (closed u.slots pair)
+    (parent_of u.slots pair) m
+    ∙ own-closed 1 u.slots u.next pair m a
+
+own-if : (b : Bool) (x y : WindowTree) (m : ℕ) (o : Option Window)
+    → (b ≡ true → own_of x.slots m ≡ o) → (b ≡ false → own_of y.slots m ≡ o)
+    → own_of (cond b x y).slots m ≡ o
+own-if true x y m o h k = h refl
+own-if false x y m o h k = k refl
+
+-- both of two causes
+or-none : (a c : Bool) (o : Option Window) → (a ≡ true → o ≡ None)
+    → (if c then None else o) ≡ (if a || c then None else o)
+or-none true true o h = refl
+or-none true false o h = h refl
+or-none false c o h = refl
+
+or-twice : (a c : Bool) (o : Option Window)
+    → (if a then None else (if c then None else o)) ≡ (if a || c then None else o)
+or-twice true c o = refl
+or-twice false c o = refl
+
+-- a window without a pair above it is the root
+not-root : (t : WindowTree) (s : Shape) (n : ℕ) → IsTree t (Some s)
+    → (parent_of t.slots n == 0) ≡ false → top s ≢ n
+not-root t s n h e = λ i.
+    isnt_eq (parent_of t.slots n) 0 e
+    (ap (parent_of t.slots) (sym i) ∙ sym (node_parent t.slots (top s) _ (spells_top t.slots s 0 h.1)))
+
+own-close : (t : WindowTree) (s : Shape) (n : ℕ) (x : ℕ × Option pairs.Pair) (m : ℕ)
+    → IsOrdered t → IsTree t (Some s) → node_of t.slots n ≡ Some x
+    → own_of (close t n).slots m
+    ≡ (if m == parent_of t.slots n || nat_lt 0 (count (below n s) m) then None
+    else own_of t.slots m)
+unfolding IsOrdered
+own-close t s n x m o h live =
+    let ws : List Window = t.slots in
+    let pair : ℕ = parent_of ws n in
+    let w2 : List Window = removed (length ws) ws n in
+    let u : WindowTree = record t { slots = w2 } in
+    let gone : Bool = nat_lt 0 (count (below n s) m) in
+    let r : own_of w2 m ≡ (if gone then None else own_of ws m) =
+    own-rest ws w2 m gone (node_rest t s n x o h live m)
+    (rests-removed (length ws) 1 ws t.next n m o) in
+    own-if (pair == 0) (record u { root = 0 }) (ended u pair (pair_of w2 pair) n) m
+    (if m == pair || gone then None else own_of ws m)
+    (λ e. r ∙ or-none (m == pair) gone (own_of ws m)
+    (λ i. own-none ws m (node_lower 1 ws t.next m o
+    (omega (arith, is_eq m pair i, is_eq pair 0 e)))))
+    (λ e. own-ended u pair (pair_of w2 pair) (held n s) n m
+    (node_pair w2 pair _ (pair_rest t s n x o h live (not-root t s n h e)))
+    (ascends-removed (length ws) 1 ws t.next n o)
+    ∙ ap (λ v. if m == pair then None else v) r ∙ or-twice (m == pair) gone (own_of ws m))
+
+closes-tree : (t : WindowTree) (n m : ℕ) (x : ℕ × Option pairs.Pair) → IsOrdered t
+    → node_of t.slots n ≡ Some x → SomeTree t
+    → own_of (close t n).slots m ≡ (if goes_with t n m then None else own_of t.slots m)
+closes-tree t n m x o l (None, h, k) = absurd (node_nil t.slots n x h.1 l)
+closes-tree t n m x o l (Some s, h, k) =
+    own-close t s n x m o h l
+    ∙ ap (λ y. if m == parent_of t.slots n || nat_lt 0 (count (below n y) m) then None
+    else own_of t.slots m) (sym (tree_found t s o h))
+
+pub closes_below : ClosesBelow
+closes_below t n m v l =
+    let x : _ = node_live t.slots n l in
+    closes-tree t n m x.0 v.ordered x.1 (some_tree t v)
