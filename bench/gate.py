@@ -51,7 +51,17 @@ def link(store, copy, crates):
         shutil.copytree(f"{store}/{crate}/rlib", rlib, copy_function=os.link)
 
 
-def run_piece(store, crate, kind):
+class Kept:
+    """A verdict's last line, where libraries below were built over what earlier runs kept."""
+
+    def __init__(self, verdict):
+        self.verdict = verdict
+
+    def search(self, said):
+        return self.verdict.search(said.replace(" incremental=trusted", ""))
+
+
+def run_piece(store, crate, kind, is_kept):
     """Runs `rt ci` in the current folder with one piece to do. Returns its status, its seconds,
     those of each edit, and all pieces of the repository, each with the libraries below and its lines.
 
@@ -79,6 +89,8 @@ def run_piece(store, crate, kind):
         return given
 
     rt.must_fail, rt.in_lanes = timed_edit, only_this
+    if is_kept:
+        rt.rtlib.VERDICT = Kept(rt.rtlib.VERDICT)
     if kind != "texts":
         rt.rtlib.stop_on_unread = rt.rtlib.stop_on_text = rt.stop_on_words = lambda *_: None
     with tempfile.TemporaryDirectory() as aside:
@@ -92,7 +104,8 @@ def run_piece(store, crate, kind):
 class Gate:
     """The pieces of a repository, by crate and kind, and what those that ended told."""
 
-    def __init__(self, out):
+    def __init__(self, out, is_kept):
+        self.is_kept = is_kept
         self.out, self.store, self.logs = out, out / "store", out / "logs"
         self.waits, self.behind, self.ended, self.running = {}, {}, {}, set()
         self.turn = threading.Condition()
@@ -117,6 +130,7 @@ class Gate:
             shutil.rmtree(built)
         told = self.logs / f"{crate}.{kind}.json"
         words = [sys.executable, __file__, "--piece", self.store, told, crate, kind]
+        words += ["kept"] * self.is_kept
         with self.log(crate, kind).open("w") as log:
             ran = subprocess.run(words, cwd=copy, stdout=log, stderr=log, stdin=subprocess.DEVNULL)
         ended = json.loads(told.read_text()) if told.exists() else {"seconds": 0.0, "edits": {}}
@@ -224,7 +238,8 @@ def built_libraries():
 
 
 def main(jobs, out, only):
-    began, gate = time.time(), Gate(pathlib.Path(out or tempfile.mkdtemp(prefix="gate-")) / "gate")
+    out = pathlib.Path(out or tempfile.mkdtemp(prefix="gate-")) / "gate"
+    began, gate = time.time(), Gate(out, bool(only))
     texts = gate.run(gate.copy("texts"), "all", "texts")
     if texts["failed"]:
         print(f"the texts are refused: {gate.log('all', 'texts')}")
@@ -252,15 +267,15 @@ def words():
     ours = os.cpu_count()
     parser.add_argument("jobs", nargs="?", type=int, default=ours, help="pieces side by side")
     parser.add_argument("out", nargs="?", help="a folder for logs and copies, in no repository")
-    one = "pieces of these alone, over libraries that rt has built, or else this run builds"
+    one = "these alone, over libraries that rt has kept or this run builds: a figure and no gate"
     parser.add_argument("--only", nargs="+", metavar="CRATE", help=one)
     return vars(parser.parse_args())
 
 
 if __name__ == "__main__":
     if sys.argv[1:2] == ["--piece"]:
-        store, told, crate, kind = sys.argv[2:]
-        found = run_piece(store, crate, kind)
+        store, told, crate, kind, *kept = sys.argv[2:]
+        found = run_piece(store, crate, kind, bool(kept))
         pathlib.Path(told).write_text(json.dumps(found))
         sys.exit(found["status"])
     sys.exit(main(**words()))
