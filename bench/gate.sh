@@ -1,5 +1,4 @@
 #!/usr/bin/env bash
-# What the gate costs, crate by crate, from nothing: docs/CHECKING.md keeps the table.
-set -eu
-cd "$(dirname "$0")"
-exec python3 gate.py
+# What the gate costs, piece by piece, from nothing: docs/CHECKING.md keeps the table.
+#   bench/gate.sh [JOBS] [OUT] [--only CRATE..]
+exec python3 "$(dirname "$0")/gate.py" "$@"

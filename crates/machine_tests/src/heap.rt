@@ -3,43 +3,66 @@
 use std::test::Fail;
 use vm_heap::{Block, Call, Heap, HeapFault, held_after, is_heap};
 
+// Whether a heap behind 0x1000 answers each call so: the address of a new block, if there is room,
+// and 0 for one that is freed.
+fn answers(heap: &mut Heap, rows: &[(Call, Option<u32>)]) -> Result<bool, Fail> {
+    for (call, wanted) in rows {
+        let answer = match call {
+            Call::Malloc(size) if *size > 0 => heap.malloc(*size, 0x1000)?,
+            Call::Free(at) if heap.free(*at).is_ok() => Some(0),
+            _ => None,
+        };
+        if answer != *wanted {
+            return Ok(false);
+        }
+    }
+    Ok(true)
+}
+
+const TWO: &[(Call, Option<u32>)] = &[
+    (Call::Malloc(16), Some(0x1000)),
+    (Call::Malloc(32), Some(0x1010)),
+];
+
+const MORE: &[(Call, Option<u32>)] = &[
+    (Call::Free(0x1000), Some(0)),
+    (Call::Malloc(8), Some(0x1000)),
+    (Call::Malloc(8), Some(0x1008)),
+    (Call::Malloc(16_777_216), None),
+    (Call::Free(0x1008), Some(0)),
+    (Call::Free(0x1000), Some(0)),
+    (Call::Free(0x1010), Some(0)),
+];
+
 #[test]
 fn blocks_stand_at_the_least_addresses(rt: HostRuntime) -> Result<(), Fail> {
     let mut heap = Heap::new(rt.alloc());
-    assert_eq!(rt; heap.malloc(16, 0x1000)?, Some(0x1000));
-    assert_eq!(rt; heap.malloc(32, 0x1000)?, Some(0x1010));
+    assert!(rt; answers(&mut heap, TWO)?);
     assert_eq!(rt; heap.end(), 0x1100);
-    assert_eq!(rt; heap.free(0x1000), Ok(()));
-    assert_eq!(rt; heap.malloc(8, 0x1000)?, Some(0x1000));
-    assert_eq!(rt; heap.malloc(8, 0x1000)?, Some(0x1008));
-    assert_eq!(rt; heap.malloc(16_777_216, 0x1000)?, None);
-    for at in [0x1008, 0x1000, 0x1010] {
-        assert_eq!(rt; heap.free(at), Ok(()), "at {at}");
-    }
-    assert_eq!(rt; heap.start(), 0);
-    assert!(rt; !heap.active());
-    assert_eq!(rt; heap.end(), 0);
-    assert_eq!(rt; heap.free(0x1000), Err(HeapFault::BadBlock(0x1000)));
+    assert!(rt; answers(&mut heap, MORE)?);
+    assert!(rt; heap.start() == 0 && !heap.active() && heap.end() == 0);
+    assert!(rt; heap.free(0x1000) == Err(HeapFault::BadBlock(0x1000)));
     Ok(())
 }
+
+const LOADED: [Block; 2] = [
+    Block {
+        at: 0x110,
+        length: 8,
+    },
+    Block {
+        at: 0x118,
+        length: 1,
+    },
+];
 
 #[test]
 fn a_heap_is_loaded_and_goes_on(rt: HostRuntime) -> Result<(), Fail> {
     let alloc = rt.alloc();
-    let blocks = [
-        Block {
-            at: 0x110,
-            length: 8,
-        },
-        Block {
-            at: 0x118,
-            length: 1,
-        },
-    ];
-    assert!(rt; is_heap(0x100, &blocks));
+    assert!(rt; is_heap(0x100, &LOADED));
     let mut heap = Heap::new(alloc);
-    heap.load(alloc, 0x100, &blocks)?;
-    assert_eq!(rt; heap.malloc(16, 0)?, Some(0x100));
+    heap.load(alloc, 0x100, &LOADED)?;
+    assert!(rt; answers(&mut heap, &[(Call::Malloc(16), Some(0x100))])?);
     assert_eq!(rt; heap.blocks().len(), 3);
     Ok(())
 }

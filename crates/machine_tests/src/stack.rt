@@ -1,52 +1,138 @@
 //! The stack opcodes' and the call frame's rows, and stacks that were saved.
 
+use std::alloc::{AllocError, Global};
 use std::test::Fail;
 use vm_stack::{Stack, StackFault, Stub, is_chain};
 
-// A stack of 256 bytes with one frame of 12 bytes.
-fn frame(rt: &HostRuntime) -> Result<Stack, Fail> {
-    let mut stack = Stack::with_size(rt.alloc(), 256)?;
-    stack.enter(&[0, 0]).ok().ok_or("a frame")?;
-    Ok(stack)
+/// A call of a stack. Places of locals are told by their width.
+#[derive(Drop)]
+pub(crate) enum Call {
+    Enter(&'static [u8]),
+    Leave,
+    Push(u32),
+    Pop,
+    Peek(u32),
+    Count,
+    Roll(u32, u32),
+    Cut(u32),
+    Byte(u32),
+    Short(u32),
+    Word(u32),
+    SetShort(u32, u32),
+    PushStub(Stub),
+    TakeStub,
 }
 
-// The values, the last on top.
-fn values(rt: &HostRuntime, stack: &Stack) -> Result<Vec<u32>, Fail> {
-    let mut all = Vec::new(rt.alloc());
-    let count = stack.count();
-    for i in 0..count {
-        all.push(stack.peek(count - 1 - i).ok().ok_or("a value")?)?;
-    }
-    Ok(all)
+/// What a call answers.
+#[derive(Clone, Copy, PartialEq)]
+pub(crate) enum Answer {
+    Done,
+    Number(u32),
+    Stub(Stub),
 }
+
+/// An empty stack of this size. No clause says what it is, so no proof computes with it.
+pub(crate) fn sized(alloc: Global, size: u16) -> Result<Stack, AllocError> {
+    Stack::with_size(alloc, u32::from(size))
+}
+
+pub(crate) type Row = (Call, Result<Answer, StackFault>);
+
+fn told(stack: &mut Stack, call: &Call) -> Result<Answer, StackFault> {
+    let number = match call {
+        Call::Pop => stack.pop()?,
+        Call::Peek(depth) => stack.peek(*depth)?,
+        Call::Count => stack.count(),
+        Call::Byte(offset) => stack.local(*offset, 1)?,
+        Call::Short(offset) => stack.local(*offset, 2)?,
+        Call::Word(offset) => stack.local(*offset, 4)?,
+        Call::TakeStub => return Ok(Answer::Stub(stack.take_stub()?)),
+        _ => {
+            change(stack, call)?;
+            return Ok(Answer::Done);
+        }
+    };
+    Ok(Answer::Number(number))
+}
+
+fn change(stack: &mut Stack, call: &Call) -> Result<(), StackFault> {
+    match call {
+        Call::Enter(format) => stack.enter(format)?,
+        Call::Leave => stack.leave(),
+        Call::Push(value) => stack.push(*value)?,
+        Call::Roll(count, by) => stack.roll(*count, *by)?,
+        Call::Cut(to) => stack.cut(*to)?,
+        Call::SetShort(offset, value) => stack.set_local(*offset, 2, *value)?,
+        Call::PushStub(stub) => stack.push_stub(*stub)?,
+        _ => {}
+    }
+    Ok(())
+}
+
+/// Whether the stack answers each call so.
+pub(crate) fn answers(stack: &mut Stack, rows: &[Row]) -> bool {
+    for (call, wanted) in rows {
+        if told(stack, call) != *wanted {
+            return false;
+        }
+    }
+    true
+}
+
+// Whether the current frame has these values, the last on top.
+fn has(stack: &Stack, values: &[u32]) -> bool {
+    let mut depth = stack.count();
+    for value in values {
+        if depth == 0 || stack.peek(depth - 1) != Ok(*value) {
+            return false;
+        }
+        depth -= 1;
+    }
+    depth == 0
+}
+
+const DONE: Result<Answer, StackFault> = Ok(Answer::Done);
+
+// A frame of 12 bytes.
+const FRAME: Row = (Call::Enter(&[0, 0]), DONE);
+
+const NINE: &[Row] = &[
+    FRAME,
+    (Call::Push(8), DONE),
+    (Call::Push(7), DONE),
+    (Call::Push(6), DONE),
+    (Call::Push(5), DONE),
+    (Call::Push(4), DONE),
+    (Call::Push(3), DONE),
+    (Call::Push(2), DONE),
+    (Call::Push(1), DONE),
+    (Call::Push(0), DONE),
+    (Call::Roll(5, 1), DONE),
+];
+
+const TURNED: &[Row] = &[
+    (Call::Roll(10, 1), Err(StackFault::Underflow)),
+    (Call::Peek(2), Ok(Answer::Number(8))),
+    (Call::Peek(9), Err(StackFault::Underflow)),
+];
 
 #[test]
 fn values_turn_towards_the_top(rt: HostRuntime) -> Result<(), Fail> {
-    let mut stack = frame(&rt)?;
-    for value in [8, 7, 6, 5, 4, 3, 2, 1, 0] {
-        stack.push(value).ok().ok_or("room")?;
-    }
-    assert!(rt; stack.roll(5, 1).is_ok());
-    assert_eq!(rt;
-        values(&rt, &stack)?.as_slice(),
-        [8, 7, 6, 5, 0, 4, 3, 2, 1].as_slice()
-    );
-    assert!(rt; stack.roll(9, 0xFFFF_FFFD).is_ok());
-    assert_eq!(rt;
-        values(&rt, &stack)?.as_slice(),
-        [5, 0, 4, 3, 2, 1, 8, 7, 6].as_slice()
-    );
-    assert!(rt; stack.roll(10, 1) == Err(StackFault::Underflow));
-    assert!(rt; stack.peek(2) == Ok(8));
-    assert!(rt; stack.peek(9) == Err(StackFault::Underflow));
+    let mut stack = sized(rt.alloc(), 256)?;
+    assert!(rt; answers(&mut stack, NINE));
+    assert!(rt; has(&stack, &[8, 7, 6, 5, 0, 4, 3, 2, 1]));
+    assert!(rt; answers(&mut stack, &[(Call::Roll(9, 0xFFFF_FFFD), DONE)]));
+    assert!(rt; has(&stack, &[5, 0, 4, 3, 2, 1, 8, 7, 6]));
+    assert!(rt; answers(&mut stack, TURNED));
     Ok(())
 }
 
 #[test]
 fn a_small_stack_takes_61_values(rt: HostRuntime) -> Result<(), Fail> {
-    let mut stack = frame(&rt)?;
+    let mut stack = sized(rt.alloc(), 256)?;
+    assert!(rt; answers(&mut stack, &[FRAME]));
     for _ in 0..61 {
-        stack.push(1).ok().ok_or("room")?;
+        assert!(rt; stack.push(1).is_ok());
     }
     assert!(rt; stack.push(1) == Err(StackFault::Overflow));
     assert_eq!(rt; stack.length(), 256);
@@ -58,36 +144,46 @@ const FRESH: [u8; 24] = [
     0, 0, 0, 24, 0, 0, 0, 16, 1, 3, 2, 1, 0, 0, 0, 0, 0, 0, 0, 0, 0, 0, 0, 0,
 ];
 
+const LOCALS: &[Row] = &[
+    (Call::SetShort(4, 0x12345), DONE),
+    (Call::Short(4), Ok(Answer::Number(0x2345))),
+    (Call::Short(7), Err(StackFault::BadLocal)),
+    (Call::Word(0), Ok(Answer::Number(0))),
+];
+
 #[test]
 fn a_frame_has_aligned_locals(rt: HostRuntime) -> Result<(), Fail> {
-    let mut stack = Stack::with_size(rt.alloc(), 256)?;
-    assert!(rt; stack.enter(&[1, 3, 2, 1, 0, 0]).is_ok());
-    assert_eq!(rt; stack.copy_bytes(rt.alloc())?.as_slice(), FRESH.as_slice());
-    assert!(rt; stack.set_local(4, 2, 0x12345).is_ok());
-    assert!(rt; stack.local(4, 2) == Ok(0x2345));
-    assert!(rt; stack.local(7, 2) == Err(StackFault::BadLocal));
-    assert!(rt; stack.local(0, 4) == Ok(0));
+    let mut stack = sized(rt.alloc(), 256)?;
+    assert!(rt; answers(&mut stack, &[(Call::Enter(&[1, 3, 2, 1, 0, 0]), DONE)]));
+    assert!(rt; stack.copy_bytes(rt.alloc())?.as_slice() == FRESH.as_slice());
+    assert!(rt; answers(&mut stack, LOCALS));
     Ok(())
 }
 
+const STUB: Stub = Stub {
+    kind: 3,
+    at: 0,
+    pc: 77,
+    frame: 0,
+};
+
+const LED: &[Row] = &[
+    FRAME,
+    (Call::PushStub(STUB), DONE),
+    (Call::Enter(&[4, 1, 0, 0]), DONE),
+    (Call::Count, Ok(Answer::Number(0))),
+    (Call::Push(5), DONE),
+    (Call::Leave, DONE),
+    (Call::TakeStub, Ok(Answer::Stub(STUB))),
+];
+
 #[test]
 fn a_stub_leads_back(rt: HostRuntime) -> Result<(), Fail> {
-    let mut stack = frame(&rt)?;
-    let stub = Stub {
-        kind: 3,
-        at: 0,
-        pc: 77,
-        frame: 0,
-    };
-    assert!(rt; stack.push_stub(stub).is_ok());
-    assert!(rt; stack.enter(&[4, 1, 0, 0]).is_ok());
-    assert_eq!(rt; stack.count(), 0);
-    assert!(rt; stack.push(5).is_ok());
-    stack.leave();
-    assert!(rt; stack.take_stub() == Ok(stub));
+    let mut stack = sized(rt.alloc(), 256)?;
+    assert!(rt; answers(&mut stack, LED));
     assert_eq!(rt; stack.length(), 12);
-    assert!(rt; stack.pop() == Err(StackFault::Underflow));
-    assert!(rt; stack.cut(6) == Err(StackFault::Underflow));
+    let under = Err(StackFault::Underflow);
+    assert!(rt; answers(&mut stack, &[(Call::Pop, under), (Call::Cut(6), under)]));
     Ok(())
 }
 
@@ -153,23 +249,25 @@ fn padding_is_not_looked_at(rt: HostRuntime) -> Result<(), Fail> {
     Ok(())
 }
 
+const ZERO: Stub = Stub {
+    kind: 0,
+    at: 0,
+    pc: 5,
+    frame: 0,
+};
+
 #[test]
 fn a_stack_that_was_copied_is_loaded(rt: HostRuntime) -> Result<(), Fail> {
-    let mut stack = frame(&rt)?;
-    assert!(rt; !is_chain(stack.copy_bytes(rt.alloc())?.as_slice()));
-    let stub = Stub {
-        kind: 0,
-        at: 0,
-        pc: 5,
-        frame: 0,
-    };
-    assert!(rt; stack.push_stub(stub).is_ok());
+    let mut stack = sized(rt.alloc(), 256)?;
+    assert!(rt; answers(&mut stack, &[FRAME]));
+    assert!(rt; !is_chain(&stack.copy_bytes(rt.alloc())?));
+    assert!(rt; answers(&mut stack, &[(Call::PushStub(ZERO), DONE)]));
     let saved = stack.copy_bytes(rt.alloc())?;
-    assert!(rt; is_chain(saved.as_slice()));
-    let mut other = Stack::with_size(rt.alloc(), 256)?;
-    assert!(rt; other.load(saved.as_slice()).is_ok());
-    assert!(rt; other.take_stub() == Ok(stub));
-    let mut small = Stack::with_size(rt.alloc(), 24)?;
-    assert!(rt; small.load(saved.as_slice()) == Err(StackFault::Overflow));
+    assert!(rt; is_chain(&saved));
+    let mut other = sized(rt.alloc(), 256)?;
+    assert!(rt; other.load(&saved).is_ok());
+    assert!(rt; answers(&mut other, &[(Call::TakeStub, Ok(Answer::Stub(ZERO)))]));
+    let mut small = sized(rt.alloc(), 24)?;
+    assert!(rt; small.load(&saved) == Err(StackFault::Overflow));
     Ok(())
 }

@@ -1,34 +1,49 @@
-ghost use Rattle.std.specs.Prelude.{◌≡◌, IsTrue, IfOk};
-ghost use Rattle.vm_heap.specs.HeapMap.{is_heap};
+ghost use Rattle.std.specs.Prelude.{◌≡◌, []};
 
+use crate::memory::{filled, holds};
 use std::alloc::Global;
 use std::test::Fail;
 use vm_memory::Memory;
 use vm_undo::{Blocks, Saved, StackBytes, Undo};
 
-// A state of two pages, told from others by its byte 256.
-fn state(alloc: Global, mark: u32) -> Result<Saved<'static>, Fail>
-    ensures { IfOk result (λ state. IsTrue (is_heap state.heap_start state.heap)) }
+fn no_blocks(alloc: Global) -> Blocks
+    ensures { result ≡ [] }
 {
-    let mut memory = Memory::new(alloc, &[], 0, 512)?;
-    memory.write1(256, mark).ok().ok_or("a write")?;
-    Ok(Saved {
+    Blocks::of(Vec::new(alloc))
+}
+
+// The state of this memory, without a stack and a heap.
+fn over(alloc: Global, memory: Memory<'static>) -> Saved<'static>
+    ensures start { result.heap_start ≡ 0 }
+    ensures heap { result.heap ≡ [] }
+{
+    let stack = StackBytes::of(Vec::new(alloc));
+    let heap = no_blocks(alloc);
+    Saved {
         memory,
-        stack: StackBytes::of(Vec::new(alloc)),
-        heap: Blocks::of(Vec::new(alloc)),
+        stack,
+        heap,
         heap_start: 0,
-    })
+    }
+}
+
+// What undo keeps once states were kept whose byte 256 is 1 and 2, and the newest was dropped.
+fn kept_once(alloc: Global) -> Result<Undo<'static>, Fail> {
+    let mut undo = Undo::new();
+    let first = over(alloc, filled(alloc, 512, &[(256, &[1])])?);
+    undo.save(alloc, &first)?;
+    let second = over(alloc, filled(alloc, 512, &[(256, &[2])])?);
+    undo.keep(second);
+    undo.discard();
+    Ok(undo)
 }
 
 #[test]
 fn a_copy_is_kept_and_comes_back_once(rt: HostRuntime) -> Result<(), Fail> {
-    let mut undo = Undo::new();
-    undo.save(rt.alloc(), &state(rt.alloc(), 1)?)?;
-    undo.keep(state(rt.alloc(), 2)?);
-    undo.discard();
+    let mut undo = kept_once(rt.alloc())?;
     assert!(rt; undo.has());
     let back = undo.restore().ok_or("a state")?;
-    assert_eq!(rt; back.memory.read1(256).ok(), Some(1));
+    assert!(rt; holds(&back.memory, &[(256, 1)]));
     assert!(rt; !undo.has());
     Ok(())
 }
