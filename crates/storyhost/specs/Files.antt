@@ -1,6 +1,6 @@
 -- What is known of the files and the disks outside (own).
 use Rattle.std.specs.Prelude.{◌≡◌, ℕ, ◌≤◌, List, [], take, Option, None, Some}
-use Rattle.std.specs.Prelude.{IsSomeAnd, if◌then◌else◌}
+use Rattle.std.specs.Prelude.{IfSome, IsSomeAnd, if◌then◌else◌, false}
 use Rattle.std.specs.Map.{update}
 use Rattle.std.specs.Str.{bytes_eq}
 use Rattle.disk_model.specs.Disk.{NoneNew, Only}
@@ -64,6 +64,12 @@ abbrev pub told_at : {A : Type 0} → (List ℕ → Told A) → List ℕ → Tol
 told_at told name now other =
     if bytes_eq name other then told_now (told other) now else told other
 
+-- no disk of another name that was lent has this label
+abbrev pub HasOwnLabel : {D : Type 0} → OutsideState D → List ℕ → ℕ → Type 0
+HasOwnLabel outside name label =
+    (other : List ℕ) → bytes_eq name other ≡ false
+    → IfSome (outside.loan other) (λ loan. loan.label ≡ label → ⊥)
+
 -- a disk of this name was lent
 pub record Lends {D : Type 0} (label faults : D → ℕ) (name : List ℕ) (disk : D)
     (old new : OutsideState D) : Type 0 where
@@ -72,6 +78,7 @@ pub record Lends {D : Type 0} (label faults : D → ℕ) (name : List ℕ) (disk
       ≡ update bytes_eq old.loan name
       (Some (record { label = label disk; from = faults disk; to = None })) other
   pub count : new.disk_faults ≡ old.disk_faults
+  pub own : HasOwnLabel old name (label disk)
 
 -- the disk with this label is lent
 abbrev pub IsLent : Option Loan → ℕ → Type 0

@@ -3,6 +3,7 @@ pub mod Speech
 pub mod RunText
 pub mod HostTurns
 pub mod Piped
+pub mod Served
 pub mod Begun
 pub mod Borrowed
 pub mod Said
