@@ -22,7 +22,7 @@ use Rattle.storyhost.specs.declared.ended.Ended.TheVariants as ended
 use Rattle.storyhost.specs.declared.sink.Stop.{Stop}
 use Rattle.storyhost.specs.declared.sink.Stop.TheVariants as stop
 use Rattle.storyhost.specs.declared.status.Status.{Status}
-use Rattle.storyhost.specs.declared.status.Status.TheVariants.{Done, DiskFault, BadFolder}
+use Rattle.storyhost.specs.declared.status.Status.TheVariants.{Done, BadWords, ReadFault, WriteFault, DiskFault, BadFolder}
 
 -- no other end has this status
 no_end : (how : Ended) (A : Type 0) → DiskFault ≡ status_of_end how → A
@@ -105,3 +105,12 @@ pub failed_six : {D : Type 0} (disks : DiskWords D) (asked : Asked) (status : St
 failed_six disks asked status code outside beyond input now output new follows is e =
     disk_failed disks asked outside beyond input now output new
     (subst (λ (s : Status). Follows disks asked s outside beyond input now output new) (sym (six status code is e)) follows)
+
+pub coded_two : (status : Status) (code : ℕ) → status_of code ≡ Some status → code ≡ 2 → status ≡ BadWords
+coded_two status code is e = cc
+
+pub coded_four : (status : Status) (code : ℕ) → status_of code ≡ Some status → code ≡ 4 → status ≡ ReadFault
+coded_four status code is e = cc
+
+pub coded_five : (status : Status) (code : ℕ) → status_of code ≡ Some status → code ≡ 5 → status ≡ WriteFault
+coded_five status code is e = cc

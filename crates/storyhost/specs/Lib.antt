@@ -28,3 +28,4 @@ pub mod Streams
 pub mod Files
 pub mod MemoryOutside
 pub mod Causes
+pub mod Failing
