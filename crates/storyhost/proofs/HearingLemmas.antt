@@ -152,8 +152,8 @@ hearing_stops {A} {turn} cut {over} {old} {begun} {count} {piece} {output} {mid}
       holds = (
         subst (λ (ls : List Line). StopsBehind turn cut over old ls new output now cause) (heard_behind begun line h.front (b ∷ []) h.all.same_line) (stops_then h.all.answered stops),
         let counts : number ≡ count + length (heard_from begun h.front) = h.all.counts in
-        let few : number < 2 ^ 20 = h.few in
-        omega (arith, counts, few, ap length (heard_behind begun line h.front (b ∷ []) h.all.same_line), ap length (heard_lf line b lf), length-append (heard_from begun h.front) (heard_from line (b ∷ []))),
+            let few : number < 2 ^ 20 = h.few in
+            omega (arith, counts, few, ap length (heard_behind begun line h.front (b ∷ []) h.all.same_line), ap length (heard_lf line b lf), length-append (heard_from begun h.front) (heard_from line (b ∷ []))),
       );
     }
 

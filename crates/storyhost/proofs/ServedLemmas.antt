@@ -112,8 +112,7 @@ pipe_told disks stories budget journal bytes given back input now output new sta
       which = answers_in how c.read read.0 now c.answered c.within read.2 c.which;
       met = c.met;
       writes = c.writes;
-    } in
-    (
+    } in (
       c.written,
       c.wrote,
       subst (λ (s : Status). WritesServed s disks stories budget journal bytes c.written) (sym is)

@@ -149,8 +149,7 @@ tells disks asked status outside beyond input now output new (inl none) files by
 tells disks asked status outside beyond input now output new (inr some) files bytes held files_are left_is held_is =
     let task = tasked asked.action (stories_of some.files) asked.budget asked.folder in
     let t = held_on disks task (steady asked.action (stories_of some.files) asked.budget asked.folder) bytes held some.between beyond input now output new status some.does left_is held_is in
-    let same : stories_of some.files ≡ stories_of (map (take 67108865) files) = sym (settled_told outside.file asked.names some.files files some.are_files some.settled files_are) in
-    (
+    let same : stories_of some.files ≡ stories_of (map (take 67108865) files) = sym (settled_told outside.file asked.names some.files files some.are_files some.settled files_are) in (
       t.0,
       t.1,
       subst (λ (f : Result (List Story) Refusal). WritesFor disks outside.disk status (tasked asked.action f asked.budget asked.folder) bytes t.0) same

@@ -59,8 +59,8 @@ pub record KeepsDisks {D : Type 0} (old new : OutsideState D) : Type 0 where
   pub loan : (name : List ℕ) → new.loan name ≡ old.loan name
   pub disk_faults : new.disk_faults ≡ old.disk_faults
 
--- the disk that is lent reads as the one that is told, and no image is new; where there is told to be
--- none, it is empty
+-- the disk that is lent reads as the one that is told, and no image is new; where there is told to
+-- be none, it is empty
 abbrev pub IsLentFrom : {D : Type 0} → (D → List ℕ) → (D → List ℕ → Type 0) → Told D → D
     → Type 0
 IsLentFrom seen may_leave Untold disk = Unit {0}
