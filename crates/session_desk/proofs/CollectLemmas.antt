@@ -1,9 +1,10 @@
 -- The turns of a host's lines, collected by their outcomes.
-use Rattle.std.proofs.Common.{◌≡◌, ◌⊎◌, inl, inr, ⊎_elim, ℕ, ◌≤◌, Bool, List, [], ◌∷◌, ◌++◌, Option, Some, None, refl, sym, ap, subst, ◌∙◌, append_assoc, arith}
+use Rattle.std.proofs.Common.{◌≡◌, ◌⊎◌, inl, inr, ⊎_elim, ℕ, ◌≤◌, Bool, List, [], ◌∷◌, ◌++◌, Option, Some, None, refl, sym, ap, subst, ◌∙◌, append_assoc, arith, length, length-append}
 use Rattle.std.specs.Prelude.{IsTrue}
 use Rattle.std.proofs.lemmas.List.{append-nil}
 use Rattle.disk_model.specs.Disk.{LeavesOnly, SameDisk}
 use Rattle.gate_journal.specs.Log.{MayOpen, MaySpell, next_row, rows_of}
+use Rattle.gate_journal.specs.Rows.{body, header, opened, spelled}
 use Rattle.gate_journal.specs.declared.command.Command.{Command}
 use Rattle.gate_journal.specs.declared.row.Row.{Row}
 use Rattle.gate_journal.specs.declared.entry.Entry.{Entry as JournalEntry}
@@ -47,6 +48,18 @@ grown {old = old} {line = line} a =
     ap rows_of a.entries
     ∙ rows_of-append old.log.entries (added (rows_of old.log.entries) (session_on line) (decision_at old.stories old.budget (histories_in old.log.entries) line).accepted a.outcome)
 
+opened_grows : (rows more : List Row) → length (opened rows) ≤ length (opened (rows ++ more))
+opened_grows [] more = omega arith
+opened_grows (r ∷ rows) more =
+    let rest : length (opened rows) ≤ length (opened (rows ++ more)) = opened_grows rows more in
+    omega (arith, rest, length-append (body r) (opened rows), length-append (body r) (opened (rows ++ more)))
+
+-- more rows are no shorter
+pub spelled_grows : (first last more : List Row) → last ≡ first ++ more → length (spelled first) ≤ length (spelled last)
+spelled_grows first last more grows =
+    subst (λ (rows : List Row). length (spelled first) ≤ length (spelled rows)) (sym grows)
+    (omega (arith, opened_grows first more, length-append header (opened first), length-append header (opened (first ++ more))))
+
 -- ---- what a stop leaves meanwhile
 
 leaves_nothing : {D : Type 0} (moment : D → ℕ) (left_since : D → ℕ → List ℕ → Type 0) (d : D) (P : List ℕ → Type 0) → LeavesBesides moment left_since d d P
@@ -70,6 +83,17 @@ besides_then first second so = record {
   later = omega (arith, first.later, second.later);
   before = λ t c le left.
       ⊎_elim (λ had. first.before t c le had) (λ is. inr (so c is)) (second.before t c (omega (arith, le, first.later)) left);
+  keeps = λ t c le left. second.keeps t c (omega (arith, le, first.later)) (first.keeps t c le left);
+}
+
+-- the same since an earlier moment from which on each image has another fact
+pub leaves_then : {D : Type 0} {moment : D → ℕ} {left_since : D → ℕ → List ℕ → Type 0} {old mid new : D} {P Q : List ℕ → Type 0} → LeavesOnly moment left_since old mid P
+    → LeavesBesides moment left_since mid new Q → LeavesOnly moment left_since old new (λ c. P c ⊎ Q c)
+leaves_then {moment = moment} {old = old} first second = record {
+  later = omega (arith, first.later, second.later);
+  each = λ c left. ⊎_elim (λ had. inl (first.each c had)) (λ is. inr is) (second.before (moment old) c first.later left);
+  before = λ t c le left.
+      ⊎_elim (λ had. ⊎_elim (λ was. inl was) (λ is. inr (inl is)) (first.before t c le had)) (λ is. inr (inr is)) (second.before t c (omega (arith, le, first.later)) left);
   keeps = λ t c le left. second.keeps t c (omega (arith, le, first.later)) (first.keeps t c le left);
 }
 
@@ -118,9 +142,9 @@ earlier first mid last more c grows b =
 
 -- ---- turns one after the other
 
-pub collected_none : {D : Type 0} (tells : D → Bool) (room label faults moment : D → ℕ) (left_since : D → ℕ → List ℕ → Type 0) (host : DesksState D)
-    → Collected tells room label faults moment left_since host [] [] host
-collected_none tells room label faults moment left_since host = record {
+pub collected_none : {D : Type 0} (tells : D → Bool) (room label faults reach moment : D → ℕ) (left_since : D → ℕ → List ℕ → Type 0) (host : DesksState D)
+    → Collected tells room label faults reach moment left_since host [] [] host
+collected_none tells room label faults reach moment left_since host = record {
   outcomes = [];
   met = tt;
   said = refl;
@@ -132,6 +156,7 @@ collected_none tells room label faults moment left_since host = record {
   since = [];
   grows = sym (append-nil (rows_of host.log.entries));
   crash = λ told. leaves_nothing moment left_since host.log.disk (IsBetween (rows_of host.log.entries) (rows_of host.log.entries));
+  within = omega arith;
 }
 
 same_then : {D : Type 0} {tells : D → Bool} {room label : D → ℕ} {a b c : D} → SameDisk tells room label a b → SameDisk tells room label b c → SameDisk tells room label a c
@@ -140,8 +165,8 @@ same_then p q = record { telling = q.telling ∙ p.telling; size = q.size ∙ p.
 -- one turn, and those behind it
 pub collected_more : {D : Type 0} (tells : D → Bool) (room label faults reach moment : D → ℕ) (left_since : D → ℕ → List ℕ → Type 0)
     (old : DesksState D) (line : List ℕ) (reply : Reply) (mid : DesksState D) (lines : List (List ℕ)) (replies : List Reply) (new : DesksState D)
-    → Answers tells room label faults reach moment left_since old line reply mid → Collected tells room label faults moment left_since mid lines replies new
-    → Collected tells room label faults moment left_since old (line ∷ lines) (reply ∷ replies) new
+    → Answers tells room label faults reach moment left_since old line reply mid → Collected tells room label faults reach moment left_since mid lines replies new
+    → Collected tells room label faults reach moment left_since old (line ∷ lines) (reply ∷ replies) new
 collected_more {D} tells room label faults reach moment left_since old line reply mid lines replies new a rest =
     let first = rows_of old.log.entries in
     let between = rows_of mid.log.entries in
@@ -178,14 +203,16 @@ collected_more {D} tells room label faults reach moment left_since old line repl
           (turned first between more old.log.uncertain (row_for first (session_on line) (decision_at old.stories old.budget (histories_in old.log.entries) line).accepted) c (grown a) leaves)))
           (rest.crash (subst (λ (b : Bool). IsTrue b) (sym a.kept.telling) told))
           (λ c b. earlier first between last more c (grown a) b);
+      within = let fewer : length (spelled first) ≤ length (spelled last) = spelled_grows first last (more ++ rest.since) (rest.grows ∙ ap (λ (x : List Row). x ++ rest.since) (grown a) ∙ append_assoc first more rest.since) in
+          omega (arith, fewer, a.within, rest.within);
     }
 
 -- lines that were answered one after the other are turns by their outcomes
 pub collect : {D : Type 0} (tells : D → Bool) (room label faults reach moment : D → ℕ) (left_since : D → ℕ → List ℕ → Type 0)
     (old : DesksState D) (lines : List (List ℕ)) (replies : List Reply) (new : DesksState D)
-    → AnswersAll tells room label faults reach moment left_since old lines replies new → Collected tells room label faults moment left_since old lines replies new
+    → AnswersAll tells room label faults reach moment left_since old lines replies new → Collected tells room label faults reach moment left_since old lines replies new
 collect {D} tells room label faults reach moment left_since old [] [] new p =
-    subst (λ (n : DesksState D). Collected tells room label faults moment left_since old [] [] n) (sym p) (collected_none tells room label faults moment left_since old)
+    subst (λ (n : DesksState D). Collected tells room label faults reach moment left_since old [] [] n) (sym p) (collected_none tells room label faults reach moment left_since old)
 collect tells room label faults reach moment left_since old [] (reply ∷ replies) new p = absurd p
 collect tells room label faults reach moment left_since old (line ∷ lines) [] new p = absurd p
 collect tells room label faults reach moment left_since old (line ∷ lines) (reply ∷ replies) new p =

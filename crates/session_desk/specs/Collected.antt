@@ -1,8 +1,9 @@
 -- Lines that the desks of a host answer, one after the other (own).
-use Rattle.std.specs.Prelude.{◌≡◌, ◌⊎◌, ℕ, ◌≤◌, Bool, IsTrue, List, [], ◌∷◌, ◌++◌}
-use Rattle.std.specs.Prelude.{Option}
+use Rattle.std.specs.Prelude.{◌≡◌, ◌⊎◌, ℕ, ◌+◌, ◌≤◌, max, Bool, IsTrue, List, [], ◌∷◌, ◌++◌}
+use Rattle.std.specs.Prelude.{length, Option}
 use Rattle.disk_model.specs.Disk.{Rose, SameDisk}
 use Rattle.gate_journal.specs.Log.{MayOpen, MaySpell, rows_of}
+use Rattle.gate_journal.specs.Rows.{spelled}
 use Rattle.gate_journal.specs.declared.row.Row.{Row}
 use Rattle.line_words.specs.declared.reply.Reply.{Reply}
 use Rattle.session_core.specs.Hosts.{AreMet, histories_met, replies_met}
@@ -72,7 +73,7 @@ pub record LeavesBesides
 pub record Collected
     {D : Type 0}
     (tells : D → Bool)
-    (room label faults moment : D → ℕ)
+    (room label faults reach moment : D → ℕ)
     (left_since : D → ℕ → List ℕ → Type 0)
     (old : DesksState D)
     (lines : List (List ℕ))
@@ -96,3 +97,6 @@ pub record Collected
       IsTrue (tells old.log.disk)
       → LeavesBesides moment left_since old.log.disk new.log.disk
       (IsBetween (rows_of old.log.entries) (rows_of new.log.entries))
+  pub within :
+      reach new.log.disk
+      ≤ max (reach old.log.disk) (length (spelled (rows_of new.log.entries)) + 4110)

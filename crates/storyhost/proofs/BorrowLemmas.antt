@@ -54,6 +54,7 @@ borrowed {D} disks name P given back outside mid beyond lends lent same done bac
       given = given;
       back = back;
       lent = lent;
+      own = lends.own;
       kept = same;
       done = done;
       held = λ other. back_is.disks other ∙ ap (λ (t : Told D). cond (bytes_eq name other) (told_now t (There back)) t) (lends.disks other)

@@ -1,5 +1,5 @@
 -- What was heard of a piece of input so far.
-use Rattle.std.proofs.Common.{◌≡◌, ◌≢◌, inr, ℕ, ◌+◌, ◌^◌, ◌<◌, List, [], ◌∷◌, ◌++◌, length, refl, sym, ap, ◌∙◌, subst, arith, append_assoc, length-append, Some, Bool, true, false, cond, nat_eq}
+use Rattle.std.proofs.Common.{◌≡◌, ◌≢◌, inr, ℕ, ◌+◌, ◌^◌, ◌<◌, ◌≤◌, List, [], ◌∷◌, ◌++◌, length, refl, sym, ap, ◌∙◌, subst, arith, append_assoc, length-append, Some, Bool, true, false, cond, nat_eq}
 use Rattle.std.proofs.lemmas.List.{append-nil}
 use Rattle.std.proofs.lemmas.Grind.{common_steps}
 use Rattle.storyhost.specs.declared.sink.Stop.{Stop}
@@ -140,7 +140,7 @@ hearing_limit {rest = rest} r last = record { front = r.front; rest = rest; spli
 pub hearing_stops : {A : Type 0} {turn : Turn A} (cut : Turn A) {over : A → Bool} {old : A} {begun : Line} {count : ℕ} {piece : List ℕ} {output : SinkState}
     {mid : A} {line : Line} {number : ℕ} {all : List ℕ} {between : SinkState} → Hearing turn over old begun count piece output mid line number all between
     → (b : ℕ) (rest : List ℕ) → all ≡ b ∷ rest → b ≡ 10 → (asked : Line) → asked ≡ line → {new : A} {now : SinkState} {cause : Stop} → Breaks cut mid asked new between now cause
-    → HearsPart (λ lines. StopsBehind turn cut over old lines new output now cause) begun piece
+    → HearsPart (λ lines. StopsBehind turn cut over old lines new output now cause × (count + length lines ≤ 2 ^ 20)) begun piece
 hearing_stops {A} {turn} cut {over} {old} {begun} {count} {piece} {output} {mid} {line} {number} {all} {between} h b rest e lf asked same {new} {now} {cause} t =
     let here : Breaks cut mid line new between now cause = subst (λ (l : Line). Breaks cut mid l new between now cause) same t in
     let stops : StopsBehind turn cut over mid (heard_from line (b ∷ [])) new between now cause
@@ -149,13 +149,21 @@ hearing_stops {A} {turn} cut {over} {old} {begun} {count} {piece} {output} {mid}
       front = h.front ++ b ∷ [];
       rest = rest;
       split = split_on piece h.front all rest b h.split e;
-      holds = subst (λ (ls : List Line). StopsBehind turn cut over old ls new output now cause) (heard_behind begun line h.front (b ∷ []) h.all.same_line) (stops_then h.all.answered stops);
+      holds = (
+        subst (λ (ls : List Line). StopsBehind turn cut over old ls new output now cause) (heard_behind begun line h.front (b ∷ []) h.all.same_line) (stops_then h.all.answered stops),
+        let counts : number ≡ count + length (heard_from begun h.front) = h.all.counts in
+            let few : number < 2 ^ 20 = h.few in
+            omega (arith, counts, few, ap length (heard_behind begun line h.front (b ∷ []) h.all.same_line), ap length (heard_lf line b lf), length-append (heard_from begun h.front) (heard_from line (b ∷ []))),
+      );
     }
 
 pub hearing_memory : {A : Type 0} {turn : Turn A} (cut : Turn A) {over : A → Bool} {old : A} {begun : Line} {count : ℕ} {piece : List ℕ} {output : SinkState}
     {new : A} {line : Line} {number : ℕ} {rest : List ℕ} {now : SinkState} → Hearing turn over old begun count piece output new line number rest now
-    → HearsPart (λ lines. StopsBehind turn cut over old lines new output now Memory) begun piece
-hearing_memory cut {rest = rest} h = record { front = h.front; rest = rest; split = h.split; holds = inr (h.all.answered, refl) }
+    → HearsPart (λ lines. StopsBehind turn cut over old lines new output now Memory × (count + length lines ≤ 2 ^ 20)) begun piece
+hearing_memory cut {begun = begun} {count = count} {number = number} {rest = rest} h =
+    let counts : number ≡ count + length (heard_from begun h.front) = h.all.counts in
+    let few : number < 2 ^ 20 = h.few in
+    record { front = h.front; rest = rest; split = h.split; holds = (inr (h.all.answered, refl), omega (arith, counts, few)) }
 
 -- the piece was heard to its end
 pub hearing_done : {A : Type 0} {turn : Turn A} {over : A → Bool} {old : A} {begun : Line} {count : ℕ} {piece : List ℕ} {output : SinkState}

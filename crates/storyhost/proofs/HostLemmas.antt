@@ -1,8 +1,8 @@
 -- Turns of a host, collected by what they met.
-use Rattle.std.proofs.Common.{◌≡◌, inl, inr, ℕ, ◌≤◌, List, [], ◌∷◌, ◌++◌, map, refl, sym, ap, ◌∙◌, subst, arith, Bool, true, false, Some, None, IsTrue}
+use Rattle.std.proofs.Common.{◌≡◌, inl, inr, ◌⊎◌, ℕ, ◌+◌, ◌≤◌, max, length, List, [], ◌∷◌, ◌++◌, map, refl, sym, ap, ◌∙◌, subst, arith, Bool, true, false, Some, None, IsTrue}
 use Rattle.disk_model.specs.Disk.{EachImage, LeavesOnly, SameDisk}
-use Rattle.gate_journal.specs.Log.{Log, MayOpen, MaySpell, kept, rows_of}
-use Rattle.gate_journal.specs.Rows.{SpellsRows, IsJournal}
+use Rattle.gate_journal.specs.Log.{Log, MayOpen, MaySpell, ReachesGate, kept, rows_of}
+use Rattle.gate_journal.specs.Rows.{SpellsRows, IsJournal, spelled}
 use Rattle.gate_journal.specs.declared.row.Row.{Row}
 use Rattle.line_words.specs.Play.{is_long}
 use Rattle.line_words.specs.Reply.{print_reply}
@@ -15,9 +15,9 @@ use Rattle.session_core.specs.Turning.{MayMeet, commands_in, decision_on, turn_o
 use Rattle.session_core.specs.declared.decision.Decision.{Decision}
 use Rattle.session_core.specs.declared.entry.Entry.{Entry}
 use Rattle.session_core.specs.declared.entry.Outcome.TheVariants.{Answered}
-use Rattle.session_desk.specs.Collected.{Collected}
+use Rattle.session_desk.specs.Collected.{Collected, IsBetween}
 use Rattle.session_desk.specs.Desks.{DesksState, histories_in}
-use Rattle.session_desk.proofs.CollectLemmas.{chain_of, collected_none, collected_more}
+use Rattle.session_desk.proofs.CollectLemmas.{chain_of, collected_none, collected_more, leaves_then, spelled_grows}
 use Rattle.session_desk.proofs.HistoryLemmas.{commands_in-histories, histories_in-set}
 use Rattle.story_run.specs.declared.story.Story.{Story}
 use Rattle.storyhost.specs.Conversation.{Line, Turns, Answered as AnsweredLines, BreaksLast, joined}
@@ -63,8 +63,8 @@ no_change log stories budget line e =
     rw (no_session line e) (sym (histories_in-set log.entries log.entries 64 _ (λ below. absurd (omega (arith, below))) (λ t apart. refl)))
 
 collected_dropped : {D : Type 0} (disks : DiskWords D) (old : DesksState D) (line : List ℕ) (lines : List (List ℕ)) (replies : List Reply) (new : DesksState D) → is_long line ≡ true
-    → Collected disks.tells disks.room disks.label disks.faults disks.moment disks.left_since old lines replies new
-    → Collected disks.tells disks.room disks.label disks.faults disks.moment disks.left_since old (line ∷ lines) (No LongLine ∷ replies) new
+    → Collected disks.tells disks.room disks.label disks.faults disks.reach disks.moment disks.left_since old lines replies new
+    → Collected disks.tells disks.room disks.label disks.faults disks.reach disks.moment disks.left_since old (line ∷ lines) (No LongLine ∷ replies) new
 collected_dropped {D} disks old line lines replies new long rest =
     let h : List (List Entry) = histories_in old.log.entries in
     let none : decision_at old.stories old.budget h line ≡ record { reply = No LongLine; accepted = None } = no_decision old.stories old.budget h line long in
@@ -86,6 +86,7 @@ collected_dropped {D} disks old line lines replies new long rest =
       since = rest.since;
       grows = rest.grows;
       crash = rest.crash;
+      within = rest.within;
     }
 
 -- ---- the turns of a conversation
@@ -93,14 +94,14 @@ collected_dropped {D} disks old line lines replies new long rest =
 pub record Served {D : Type 0} (disks : DiskWords D) (old : DesksState D) (lines : List (List ℕ)) (replies : List (List ℕ)) (new : DesksState D) : Type 0 where
   pub said : List Reply
   pub spelled : replies ≡ map print_reply said
-  pub all : Collected disks.tells disks.room disks.label disks.faults disks.moment disks.left_since old lines said new
+  pub all : Collected disks.tells disks.room disks.label disks.faults disks.reach disks.moment disks.left_since old lines said new
 
 served_more : {D : Type 0} (disks : DiskWords D) (old : DesksState D) (line : List ℕ) (long : Bool) → is_long line ≡ long
     → (reply : List ℕ) (mid : DesksState D) (lines : List (List ℕ)) (replies : List (List ℕ)) (new : DesksState D)
     → HostTurn disks old (heard line) reply mid → Served disks mid lines replies new → Served disks old (line ∷ lines) (reply ∷ replies) new
 served_more {D} disks old line true e reply mid lines replies new t rest =
     let turned : Replies disks old None t.said mid = subst (λ (l : Line). Replies disks old l t.said mid) (heard_long line e) t.turned in
-    let all = subst (λ (m : DesksState D). Collected disks.tells disks.room disks.label disks.faults disks.moment disks.left_since m lines rest.said new) turned.1 rest.all in
+    let all = subst (λ (m : DesksState D). Collected disks.tells disks.room disks.label disks.faults disks.reach disks.moment disks.left_since m lines rest.said new) turned.1 rest.all in
     record {
       said = No LongLine ∷ rest.said;
       spelled = ap (λ (r : List ℕ). r ∷ replies) (t.spelled ∙ ap print_reply turned.0) ∙ ap (λ (rs : List (List ℕ)). print_reply (No LongLine) ∷ rs) rest.spelled;
@@ -119,8 +120,8 @@ serve : {D : Type 0} (disks : DiskWords D) (old : DesksState D) (lines : List (L
 serve {D} disks old [] [] new p = record {
   said = [];
   spelled = refl;
-  all = subst (λ (n : DesksState D). Collected disks.tells disks.room disks.label disks.faults disks.moment disks.left_since old [] [] n) (sym p)
-      (collected_none disks.tells disks.room disks.label disks.faults disks.moment disks.left_since old);
+  all = subst (λ (n : DesksState D). Collected disks.tells disks.room disks.label disks.faults disks.reach disks.moment disks.left_since old [] [] n) (sym p)
+      (collected_none disks.tells disks.room disks.label disks.faults disks.reach disks.moment disks.left_since old);
 }
 serve disks old [] (reply ∷ replies) new p = absurd p
 serve disks old (line ∷ lines) [] new p = absurd p
@@ -130,7 +131,7 @@ serve disks old (line ∷ lines) (reply ∷ replies) new p =
 -- what a conversation leaves, by how it ended
 pub record Outcomes {D : Type 0} (disks : DiskWords D) (old : DesksState D) (lines : List (List ℕ)) (new : DesksState D) (output now : SinkState) (ended : Ended) : Type 0 where
   pub said : List Reply
-  pub all : Collected disks.tells disks.room disks.label disks.faults disks.moment disks.left_since old lines said new
+  pub all : Collected disks.tells disks.room disks.label disks.faults disks.reach disks.moment disks.left_since old lines said new
   pub written : List ℕ
   pub wrote : Wrote output now written
   pub writes : WritesReplies ended written said
@@ -210,18 +211,33 @@ outcomes_of disks lines LineLimit a = whole disks lines LineLimit a (λ _. refl)
 
 -- ---- from the disk handed in to the disk handed back
 
+-- what an opening says of the disk that it leaves
+pub record Opened {D : Type 0} (disks : DiskWords D) (given : D) (log : Log D) : Type 0 where
+  pub spells : IsTrue (disks.tells given) → SpellsRows (disks.seen given) (rows_of log.entries)
+  pub fresh : log.entries ≡ kept (rows_of log.entries)
+  pub counted : disks.faults log.disk ≡ disks.faults given
+  pub same : SameDisk disks.tells disks.room disks.label given log.disk
+  pub crash :
+      (start : List Row) → IsJournal start → EachImage disks.tells disks.may_leave given (MayOpen start)
+      → IsTrue (disks.tells given) → LeavesOnly disks.moment disks.left_since given log.disk (MayOpen start)
+  pub ends : disks.reach log.disk ≤ max (disks.reach given) (length (spelled (rows_of log.entries)) + 1)
+
+reached : (given first last now rows after : ℕ) → now ≡ last → first ≤ max given (rows + 1) → rows ≤ after → last ≤ max first (after + 4110) → now ≤ max given (after + 4110)
+reached given first last now rows after same opened grows within = omega (arith, same, opened, grows, within)
+
 pub conversed : {D : Type 0} (disks : DiskWords D) (given : D) (stories : List Story) (budget : ℕ) (log : Log D) (new : DesksState D)
     {input now : SourceState} {output written : SinkState} (ended : Ended)
-    → (IsTrue (disks.tells given) → SpellsRows (disks.seen given) (rows_of log.entries)) → log.entries ≡ kept (rows_of log.entries) → disks.faults log.disk ≡ disks.faults given
+    → Opened disks given log
     → Talked (HostTurn disks) (HostTurn disks) (λ _. false) (record { stories = stories; budget = budget; log = log }) new input now output written ended
     → (back : D) → back ≡ new.log.disk → EachImage disks.tells disks.may_leave back (MaySpell (rows_of new.log.entries) new.log.uncertain)
     → Conversed disks stories budget given back input now output written ended
-conversed {D} disks given stories budget log new {output = output} {written = written} ended opened fresh counted t back is images =
+conversed {D} disks given stories budget log new {output = output} {written = written} ended opened t back is images =
     let o = outcomes_of disks t.answered ended t.how in
-    let start : histories_in log.entries ≡ histories_of (rows_of log.entries) = ap histories_in fresh in
+    let start : histories_in log.entries ≡ histories_of (rows_of log.entries) = ap histories_in opened.fresh in
+    let told : IsTrue (disks.tells given) → IsTrue (disks.tells log.disk) = λ tells. subst (λ (b : Bool). IsTrue b) (sym opened.same.telling) tells in
     record {
       rows = rows_of log.entries;
-      handed_in = opened;
+      handed_in = opened.spells;
       read = t.read;
       answered = t.answered;
       outcomes = o.all.outcomes;
@@ -232,12 +248,16 @@ conversed {D} disks given stories budget log new {output = output} {written = wr
       met = subst (λ (h : List (List Entry)). AreMet stories budget h 0 t.answered o.all.outcomes) start o.all.met;
       wrote = o.wrote;
       writes = subst (λ (rs : List Reply). WritesReplies ended o.written rs) (o.all.said ∙ ap (λ (h : List (List Entry)). replies_met stories budget h 0 t.answered o.all.outcomes) start) o.writes;
-      faults = rw (← counted, is) (chain_of o.all.outcomes (disks.faults log.disk) (disks.faults new.log.disk) o.all.counts);
+      faults = rw (← opened.counted, is) (chain_of o.all.outcomes (disks.faults log.disk) (disks.faults new.log.disk) o.all.counts);
       after = rows_of new.log.entries;
       uncertain = new.log.uncertain;
       accepted = λ s below. sym (commands_in-histories new.log.entries s below)
           ∙ ap (λ (h : List (List Entry)). commands_in (entries_of h s)) (o.all.histories ∙ ap (λ (h : List (List Entry)). histories_met stories budget h 0 t.answered o.all.outcomes) start);
       images = images;
+      meanwhile = λ first journal may tells. subst (λ (d : D). LeavesOnly disks.moment disks.left_since given d (λ c. MayOpen first c ⊎ IsBetween (rows_of log.entries) (rows_of new.log.entries) c)) (sym is)
+          (leaves_then (opened.crash first journal may tells) (o.all.crash (told tells)));
+      reaches = reached (disks.reach given) (disks.reach log.disk) (disks.reach new.log.disk) (disks.reach back) (length (spelled (rows_of log.entries))) (length (spelled (rows_of new.log.entries)))
+          (ap disks.reach is) opened.ends (spelled_grows (rows_of log.entries) (rows_of new.log.entries) o.all.since o.all.grows) o.all.within;
     }
 
 pub conversed_kept : {D : Type 0} (disks : DiskWords D) (given : D) (stories : List Story) (budget : ℕ) (log : Log D) (new : DesksState D)
@@ -252,13 +272,13 @@ conversed_kept {D} disks given stories budget log new ended first t back is =
 -- the same from the host as it was opened, to the journal as it was handed out
 pub conversed_by : {D : Type 0} (disks : DiskWords D) (given : D) (stories : List Story) (budget : ℕ) (log : Log D) (start new : DesksState D)
     {input now : SourceState} {output written : SinkState} (ended : Ended)
-    → (IsTrue (disks.tells given) → SpellsRows (disks.seen given) (rows_of log.entries)) → log.entries ≡ kept (rows_of log.entries) → disks.faults log.disk ≡ disks.faults given
+    → Opened disks given log
     → start ≡ record { stories = stories; budget = budget; log = log }
     → Talked (HostTurn disks) (HostTurn disks) (λ _. false) start new input now output written ended
     → (last : Log D) → last ≡ new.log → (back : D) → back ≡ last.disk → EachImage disks.tells disks.may_leave back (MaySpell (rows_of last.entries) last.uncertain)
     → Conversed disks stories budget given back input now output written ended
-conversed_by {D} disks given stories budget log start new {input} {now} {output} {written} ended opened fresh counted start_is t last last_is back back_is images =
-    conversed disks given stories budget log new ended opened fresh counted
+conversed_by {D} disks given stories budget log start new {input} {now} {output} {written} ended opened start_is t last last_is back back_is images =
+    conversed disks given stories budget log new ended opened
     (subst (λ (s : DesksState D). Talked (HostTurn disks) (HostTurn disks) (λ _. false) s new input now output written ended) start_is t)
     back (back_is ∙ ap (λ (l : Log D). l.disk) last_is)
     (subst (λ (l : Log D). EachImage disks.tells disks.may_leave back (MaySpell (rows_of l.entries) l.uncertain)) last_is images)
@@ -283,3 +303,14 @@ may_open_again {D} tells may_leave moment left_since given mid back same telling
     subst (λ (d : D). EachImage tells may_leave d (MayOpen rows)) (sym same) (λ told c left.
     let leaves : LeavesOnly moment left_since given mid (MayOpen rows) = crash rows journal may (subst (λ (b : Bool). IsTrue b) telling told) in
     leaves.each c (now (moment given) c leaves.later left))
+
+-- and so it is with the images of the meantime, and with how far it was written
+pub meanwhile_again : {D : Type 0} (tells : D → Bool) (may_leave : D → List ℕ → Type 0) (moment : D → ℕ) (left_since : D → ℕ → List ℕ → Type 0) (given mid back : D) → back ≡ mid
+    → ((rows : List Row) → IsJournal rows → EachImage tells may_leave given (MayOpen rows) → IsTrue (tells given) → LeavesOnly moment left_since given mid (MayOpen rows))
+    → (rows : List Row) → IsJournal rows → EachImage tells may_leave given (MayOpen rows) → IsTrue (tells given) → LeavesOnly moment left_since given back (MayOpen rows)
+meanwhile_again {D} tells may_leave moment left_since given mid back same crash rows journal may told =
+    subst (λ (d : D). LeavesOnly moment left_since given d (MayOpen rows)) (sym same) (crash rows journal may told)
+
+pub reaches_again : {D : Type 0} (tells : D → Bool) (seen : D → List ℕ) (reach : D → ℕ) (given mid back : D) → back ≡ mid
+    → (IsTrue (tells given) → ReachesGate (seen given) (reach given) (reach mid)) → IsTrue (tells given) → ReachesGate (seen given) (reach given) (reach back)
+reaches_again {D} tells seen reach given mid back same writes told = subst (λ (d : D). ReachesGate (seen given) (reach given) (reach d)) (sym same) (writes told)

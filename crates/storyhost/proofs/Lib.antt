@@ -7,7 +7,9 @@ pub mod PlainLemmas
 pub mod LinesLemmas
 pub mod SpeechLemmas
 pub mod StoriesLemmas
+pub mod ServedLemmas
 pub mod ToldLemmas
+pub mod CauseLemmas
 pub mod MemoryLemmas
 pub mod StopLemmas
 pub mod KindsLemmas

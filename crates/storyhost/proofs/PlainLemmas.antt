@@ -143,12 +143,12 @@ heard_more read rest = (
   sym (kept_lines (read ++ rest)) ∙ heard_append (Some []) read rest ∙ ap (λ l. l ++ heard_from (begun_after (Some []) read) rest) (kept_lines read),
 )
 
--- the replies to the lines of a part begin those of the whole
-pub replies_more : {A : Type 0} (by : Answering A) (start : A) (read rest : List ℕ)
-    → (more : List ℕ) × (replies by start (lines (read ++ rest)) ≡ replies by start (lines read) ++ more)
-replies_more by start read rest =
-    let h = heard_more read rest in
-    (replies_heard by (after by start (lines read)) h.0, ap (replies_heard by start) h.1 ∙ replies_append by start (map heard (lines read)) h.0)
+-- the replies to some lines begin those to more
+pub replies_more : {A : Type 0} (by : Answering A) (start : A) (some more : List (List ℕ)) → IsPartOf (replies by start some) (replies by start (some ++ more))
+replies_more by start some more = (
+  replies_heard by (after by start some) (map heard more),
+  ap (replies_heard by start) (map-append heard some more) ∙ replies_append by start (map heard some) (map heard more),
+)
 
 -- once no more lines are answered, more bytes change nothing
 pub replies_settled : {A : Type 0} (by : Answering A) (start : A) (read rest : List ℕ) → by.is_over (after by start (lines read)) ≡ true
@@ -193,20 +193,20 @@ talked_plain by {old} {new} {input} {now} Done t = elim t.which [
 ]
 talked_plain by {old} ReadFault t =
     let s = said_all by t.how in
-    talked_all by t s.written s.told (s.says ∙ by_lines by old t.answered (lines t.read) [] (sym t.which ∙ sym (append-nil t.answered)))
+    talked_all by t s.written s.told (s.says ∙ by_lines by old t.answered (talk t.read) [] (sym t.which ∙ sym (append-nil t.answered)))
 talked_plain by {old} WriteFault t = elim t.how [
   | inl k ↦
       let s = said_broken by (map heard t.which.0) k in
-      talked_all by t s.written s.told (part_by s.written _ _ s.says (by_lines by old t.answered (lines t.read) t.which.0 t.which.1))
+      talked_all by t s.written s.told (part_by s.written _ _ s.says (by_lines by old t.answered (talk t.read) t.which.0 t.which.1))
   | inr q ↦ absurd (grind (arith, q.1))
 ]
 talked_plain by {old} NoMemory t = elim t.how [
   | inl k ↦
       let s = said_broken by (map heard t.which.0) k in
-      talked_all by t s.written s.told (part_by s.written _ _ s.says (by_lines by old t.answered (lines t.read) t.which.0 t.which.1))
+      talked_all by t s.written s.told (part_by s.written _ _ s.says (by_lines by old t.answered (talk t.read) t.which.0 t.which.1))
   | inr q ↦
       let s = said_part by (map heard t.which.0) q.0 in
-      talked_all by t s.written s.told (part_by s.written _ _ s.says (by_lines by old t.answered (lines t.read) t.which.0 t.which.1))
+      talked_all by t s.written s.told (part_by s.written _ _ s.says (by_lines by old t.answered (talk t.read) t.which.0 t.which.1))
 ]
 talked_plain by {old} LineLimit t =
     let s = said_all by t.how in
@@ -233,9 +233,9 @@ leaves_held by start Done read now written p = elim p.1 [
   | inl end ↦ (p.0 ∙ held_replies by start (map heard (lines read)), inl end)
   | inr over ↦ (p.0 ∙ held_replies by start (map heard (lines read)), inr (ap (is_over_held by) (sym (held_after by start (map heard (lines read)))) ∙ over))
 ]
-leaves_held by start ReadFault read now written p = p ∙ held_replies by start (map heard (lines read))
-leaves_held by start WriteFault read now written p = part_by written _ _ p (held_replies by start (map heard (lines read)))
-leaves_held by start NoMemory read now written p = part_by written _ _ p (held_replies by start (map heard (lines read)))
+leaves_held by start ReadFault read now written p = p ∙ held_replies by start (map heard (talk read))
+leaves_held by start WriteFault read now written p = part_by written _ _ p (held_replies by start (map heard (talk read)))
+leaves_held by start NoMemory read now written p = part_by written _ _ p (held_replies by start (map heard (talk read)))
 leaves_held by start LineLimit read now written p = (p.0 ∙ held_replies by start (map heard (talk read)), p.1)
 
 pub talked_held : {A : Type 0} (by : Answering A) {start : A} {new : Option A} {input now : SourceState} {output wrote : SinkState} (ended : Ended)

@@ -11,7 +11,7 @@ use Rattle.storyhost.specs.Plain.{Answering, replies, after, PlainLeaves, Talked
 use Rattle.storyhost.specs.declared.ended.Ended.{Ended}
 use Rattle.storyhost.specs.declared.ended.Ended.TheVariants as ended
 use Rattle.storyhost.specs.Headline.{Speech, whole_text}
-use Rattle.storyhost.specs.Lines.{lines}
+use Rattle.storyhost.specs.Lines.{lines, talk}
 use Rattle.storyhost.specs.RunText.{opened, solo, show_text}
 use Rattle.storyhost.specs.CheckText.{good_line}
 use Rattle.storyhost.specs.Speech.{said_once, run_speech, check_speech}
@@ -37,8 +37,8 @@ talk_leaves : {A : Type 0} (by : Answering A) (start : A) (opening : List ℕ) (
     → PlainLeaves e by start read now written → Leaves (status_of_end e) (Ok (speech_by by start opening)) read now (opening ++ written)
 talk_leaves by start opening ended.Done read now written t = (ap (λ w. opening ++ w) t.0, t.1)
 talk_leaves by start opening ended.ReadFault read now written t = ap (λ w. opening ++ w) t
-talk_leaves by start opening ended.WriteFault read now written t = begun_part opening written (replies by start (lines read)) t
-talk_leaves by start opening ended.NoMemory read now written t = begun_part opening written (replies by start (lines read)) t
+talk_leaves by start opening ended.WriteFault read now written t = begun_part opening written (replies by start (talk read)) t
+talk_leaves by start opening ended.NoMemory read now written t = begun_part opening written (replies by start (talk read)) t
 talk_leaves by start opening ended.LineLimit read now written t = (ap (λ w. opening ++ w) t.0, t.1)
 
 -- the opening was written, and then lines were answered
@@ -66,7 +66,7 @@ spoken_over by start opening input wrote over = record {
 }
 
 stop_leaves : (cause : Stop) (said : Result Speech (List ℕ)) (read : List ℕ) (now : SourceState) (written : List ℕ)
-    → IsPartOf written (whole_text said (lines read)) → Leaves (status_of_stop cause) said read now written
+    → IsPartOf written (whole_text said (talk read)) → Leaves (status_of_stop cause) said read now written
 stop_leaves stop.Output said read now written p = p
 stop_leaves stop.Memory said read now written p = p
 
@@ -154,21 +154,20 @@ run_talked story budget {input} {now} {output} {mid} {new} e start is wrote talk
 
 -- a text goes on as its input does
 pub record IsSteady (speech : Speech) : Type 0 where
-  pub more : (read rest : List ℕ) → (more : List ℕ) × (speech.text (lines (read ++ rest)) ≡ speech.text (lines read) ++ more)
+  pub more : (some more : List (List ℕ)) → IsPartOf (speech.text some) (speech.text (some ++ more))
   pub settled : (read rest : List ℕ) → speech.is_over (lines read) ≡ true → speech.text (lines (read ++ rest)) ≡ speech.text (lines read)
   pub still_over : (read rest : List ℕ) → speech.is_over (lines read) ≡ true → speech.is_over (lines (read ++ rest)) ≡ true
 
 steady_by : {A : Type 0} (by : Answering A) (start : A) (opening : List ℕ) → IsSteady (speech_by by start opening)
 steady_by by start opening = record {
-  more = λ read rest. let m = replies_more by start read rest in
-      (m.0, ap (λ l. opening ++ l) m.1 ∙ sym (append_assoc opening (replies by start (lines read)) m.0));
+  more = λ some more. begun_part opening (replies by start some) (replies by start (some ++ more)) (replies_more by start some more);
   settled = λ read rest over. ap (λ l. opening ++ l) (replies_settled by start read rest over);
   still_over = λ read rest over. ap by.is_over (after_settled by start read rest over) ∙ over;
 }
 
 pub steady_once : (text : List ℕ) → IsSteady (said_once text)
 steady_once text = record {
-  more = λ read rest. ([], sym (append-nil text));
+  more = λ some more. ([], sym (append-nil text));
   settled = λ read rest over. refl;
   still_over = λ read rest over. refl;
 }

@@ -15,7 +15,7 @@ use Rattle.storyhost.specs.Hearing.{heard_from, longer}
 use Rattle.storyhost.specs.Hears.{HearsAll, HearsPart, StopsWithin}
 use Rattle.storyhost.specs.Talked.{Talked, AreFirst, AnswersOf, Converses}
 use Rattle.storyhost.proofs.StreamsLemmas.{gave_none, gave_then}
-use Rattle.storyhost.proofs.LinesLemmas.{more_lines}
+use Rattle.storyhost.proofs.LinesLemmas.{more_lines, talk_small, first_of_talk}
 use Rattle.storyhost.proofs.TurnLemmas.{answered_then, stops_then, stops_rose}
 use Rattle.storyhost.proofs.HearingLemmas.{hears_none, hears_then, heard_behind}
 
@@ -115,6 +115,16 @@ talk_end cut {count = count} {room = room} t gave ended at_end more =
       how = all_answered t;
     }
 
+-- all lines that were read are lines that a connection takes
+all_taken : {A : Type 0} {turn : Turn A} {over : A → Bool} {start : A} {input : SourceState} {output : SinkState}
+    {now : SourceState} {new : SinkState} {state : A} {line : Line} {count room : ℕ}
+    → (t : Talking turn over start input output now new state line count room) → lines t.read ≡ talk t.read
+all_taken {count = count} {room = room} t =
+    let fits : length t.read + room ≡ 2 ^ 31 = t.fits in
+    let counts : count ≡ 0 + length (heard_from (Some []) t.read) = t.all.counts in
+    let few : count < 2 ^ 20 = t.few in
+    sym (talk_small t.read (omega (arith, fits)) ∙ take_all (2 ^ 20) (lines t.read) (omega (arith, count_lines t.read, counts, few)))
+
 -- the source has failed
 pub talk_fault : {A : Type 0} {turn : Turn A} (cut : Turn A) {over : A → Bool} {start : A} {input : SourceState} {output : SinkState}
     {now : SourceState} {new : SinkState} {state : A} {line : Line} {count room : ℕ}
@@ -127,31 +137,23 @@ talk_fault cut {room = room} t gave =
       answered = lines t.read;
       gave = gave_nothing t.gave gave;
       within = omega (arith, fits);
-      which = refl;
+      which = all_taken t;
       how = all_answered t;
     }
-
--- at most 2^31 bytes are all looked at
-talk_small : (bytes : List ℕ) → length bytes ≤ 2 ^ 31 → talk bytes ≡ take (2 ^ 20) (lines bytes)
-talk_small bytes few = ap (λ b. take (2 ^ 20) (lines b)) (take_all (2 ^ 31) bytes few)
 
 -- no more bytes are taken
 pub talk_full : {A : Type 0} {turn : Turn A} (cut : Turn A) {over : A → Bool} {start : A} {input : SourceState} {output : SinkState}
     {now : SourceState} {new : SinkState} {state : A} {line : Line} {count room : ℕ}
     → Talking turn over start input output now new state line count room
     → room ≡ 0 → Talked turn cut over start state input now output new LineLimit
-talk_full cut {count = count} {room = room} t none =
+talk_full cut {room = room} t none =
     let fits : length t.read + room ≡ 2 ^ 31 = t.fits in
-    let counts : count ≡ 0 + length (heard_from (Some []) t.read) = t.all.counts in
-    let few : count < 2 ^ 20 = t.few in
-    let within : length t.read ≤ 2 ^ 31 = omega (arith, fits) in
-    let number : length (lines t.read) ≤ 2 ^ 20 = omega (arith, count_lines t.read, counts, few) in
     record {
       read = t.read;
       answered = lines t.read;
       gave = t.gave;
-      within = within;
-      which = (sym (talk_small t.read within ∙ take_all (2 ^ 20) (lines t.read) number), inl (omega (arith, fits, none)));
+      within = omega (arith, fits);
+      which = (all_taken t, inl (omega (arith, fits, none)));
       how = all_answered t;
     }
 
@@ -213,7 +215,7 @@ talk_limit {A} {turn} cut {over} {start} {output = output} {line = line} {count 
     }
 
 stop_which : (cause : Stop) (read : List ℕ) (now : SourceState) (over : Bool) (answered : List (List ℕ))
-    → AreFirst answered (lines read) → AnswersOf (ended_by cause) read now over answered
+    → AreFirst answered (talk read) → AnswersOf (ended_by cause) read now over answered
 stop_which stop.Output read now over answered p = p
 stop_which stop.Memory read now over answered p = p
 
@@ -227,27 +229,34 @@ pub talk_stopped : {A : Type 0} {turn cut : Turn A} {over : A → Bool} {start :
     {now : SourceState} {new : SinkState} {state : A} {line : Line} {count room : ℕ}
     → Talking turn over start input output now new state line count room
     → (piece : List ℕ) {now' : SourceState} {new' : SinkState} {state' : A} {cause : Stop} → Gave now now' piece → length piece ≤ room
-    → StopsWithin turn cut over state line piece state' new new' cause
+    → StopsWithin turn cut over state line count piece state' new new' cause
     → Talked turn cut over start state' input now' output new' (ended_by cause)
-talk_stopped {A} {turn} {cut} {over} {start} {output = output} {room = room} t piece {now' = now'} {new' = new'} {state' = state'} {cause = cause} gave within p = record {
-  read = t.read ++ piece;
-  answered = lines (t.read ++ p.front);
-  gave = gave_then t.gave gave;
-  within = read_within t.read piece room t.fits within;
-  which = stop_which cause (t.read ++ piece) now' (over state') (lines (t.read ++ p.front)) (part_first t.read piece p.front p.rest p.split);
-  how = stop_how cause turn cut over start (map heard (lines (t.read ++ p.front))) state' output new'
-      (subst (λ (ls : List Line). StopsBehind turn cut over start ls state' output new' cause) (part_lines t p.front) (stops_then t.all.answered p.holds));
-}
+talk_stopped {A} {turn} {cut} {over} {start} {output = output} {line = line} {count = count} {room = room} t piece {now' = now'} {new' = new'} {state' = state'} {cause = cause} gave within p =
+    let small : length (t.read ++ piece) ≤ 2 ^ 31 = read_within t.read piece room t.fits within in
+    let counts : count ≡ 0 + length (heard_from (Some []) t.read) = t.all.counts in
+    let number : count + length (heard_from line p.front) ≤ 2 ^ 20 = p.holds.1 in
+    let few : length (lines (t.read ++ p.front)) ≤ 2 ^ 20
+    = omega (arith, counts, number, ap length (part_lines t p.front), length-append (heard_from (Some []) t.read) (heard_from line p.front), length-map (lines (t.read ++ p.front)) heard) in
+    record {
+      read = t.read ++ piece;
+      answered = lines (t.read ++ p.front);
+      gave = gave_then t.gave gave;
+      within = small;
+      which = stop_which cause (t.read ++ piece) now' (over state') (lines (t.read ++ p.front))
+          (first_of_talk (lines (t.read ++ p.front)) (t.read ++ piece) small (part_first t.read piece p.front p.rest p.split) few);
+      how = stop_how cause turn cut over start (map heard (lines (t.read ++ p.front))) state' output new'
+          (subst (λ (ls : List Line). StopsBehind turn cut over start ls state' output new' cause) (part_lines t p.front) (stops_then t.all.answered p.holds.0));
+    }
 
 -- and the sink's faults rose where the status says so
 pub talk_rose : {A : Type 0} {turn cut : Turn A} {over : A → Bool} {start : A} {input : SourceState} {output : SinkState}
     {now : SourceState} {new : SinkState} {state : A} {line : Line} {count room : ℕ}
     → Talking turn over start input output now new state line count room
     → {piece : List ℕ} {new' : SinkState} {state' : A} (cause : Stop)
-    → StopsWithin turn cut over state line piece state' new new' cause
+    → StopsWithin turn cut over state line count piece state' new new' cause
     → ended_by cause ≡ WriteFault → Rose output.faults new'.faults
 talk_rose {output = output} {new = new} t {new' = new'} stop.Output p e =
     let later : output.faults ≤ new.faults = t.all.answered.wrote.later in
-    let rose : Rose new.faults new'.faults = stops_rose p.holds refl in
+    let rose : Rose new.faults new'.faults = stops_rose p.holds.0 refl in
     omega (arith, later, rose)
 talk_rose t stop.Memory p e = absurd (grind (arith, e))

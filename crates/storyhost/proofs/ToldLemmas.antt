@@ -1,26 +1,22 @@
 -- A command for a caller who is told the files, the input and what the output holds.
 use Rattle.std.proofs.Common.{◌≡◌, ℕ, ◌^◌, ◌≤◌, ◌⊎◌, inl, inr, List, [], ◌++◌, map, take, length, refl, sym, ap, ◌∙◌, subst, append_assoc, slice_get, Option, None, Some, IfSome, IsSomeAnd, Result, Ok, Err, IfOk, true}
 use Rattle.std.proofs.lemmas.List.{append-nil}
-use Rattle.std.specs.Io.KnownBytes.{Consumes, Appends, IsAtEnd}
+use Rattle.std.specs.Io.KnownBytes.{Appends}
 use Rattle.story_run.specs.declared.story.Story.{Story}
 use Rattle.storyhost.specs.declared.status.Status.{Status}
 use Rattle.storyhost.specs.declared.status.Status.TheVariants.{Done, BadWords, Refused, ReadFault, WriteFault, DiskFault, NoMemory, BadFolder, LineLimit}
 use Rattle.storyhost.specs.declared.stories.Refusal.{Refusal}
 use Rattle.storyhost.specs.declared.words.Action.{Action}
 use Rattle.storyhost.specs.declared.words.Action.TheVariants.{Run, Check, Pipe, Init, Help, Version}
-use Rattle.storyhost.specs.Files.{OutsideState}
-use Rattle.storyhost.specs.Follows.{Does, Follows, Tells, TellsText}
+use Rattle.storyhost.specs.Borrowed.{journal_in}
+use Rattle.storyhost.specs.Files.{OutsideState, Told}
+use Rattle.storyhost.specs.Follows.{Does, Follows, Tells, WritesFor}
 use Rattle.storyhost.specs.Headline.{Speech, Writes, whole_text}
 use Rattle.storyhost.specs.Help.{help_text, version_text}
-use Rattle.storyhost.specs.Lines.{lines, IsWithinLimits}
-use Rattle.gate_journal.specs.declared.fault.InitFault.{InitFault}
-use Rattle.gate_journal.specs.declared.fault.InitFault.TheVariants as begin
-use Rattle.gate_journal.specs.declared.fault.JournalFault.{JournalFault}
-use Rattle.gate_journal.specs.declared.fault.JournalFault.TheVariants as fault
-use Rattle.storyhost.specs.Begun.{InitsOver, SaysRefusal}
+use Rattle.storyhost.specs.Lines.{lines, talk, IsWithinLimits}
+use Rattle.storyhost.specs.Begun.{WritesBegun}
 use Rattle.storyhost.specs.DiskWords.{DiskWords}
-use Rattle.storyhost.specs.Piped.{PipesOver}
-use Rattle.storyhost.specs.Said.{SaysFault, SaysLine}
+use Rattle.storyhost.specs.Served.{WritesServed}
 use Rattle.storyhost.specs.Speech.{Task, Says, Serves, Begins, tasked}
 use Rattle.storyhost.specs.Status.{status_of}
 use Rattle.storyhost.specs.Spoken.{Spoken, Leaves}
@@ -30,25 +26,16 @@ use Rattle.storyhost.proofs.StreamsLemmas.{gave_none, wrote_none}
 use Rattle.storyhost.specs.Talked.{IsReadToEnd}
 use Rattle.storyhost.specs.Words.{Asked}
 use Rattle.storyhost.specs.Writing.{IsPartOf}
-use Rattle.storyhost.proofs.LinesLemmas.{still_reached, talk_settled}
+use Rattle.storyhost.proofs.LinesLemmas.{still_reached, talk_settled, talk_first}
+use Rattle.storyhost.proofs.ServedLemmas.{WroteSome, consumed, nothing_left, pipe_told, init_told, not_lent_served, not_lent_begun, not_loaded_served, not_loaded_begun}
 use Rattle.storyhost.proofs.BorrowLemmas.{keeps_none, not_lent}
 use Rattle.storyhost.proofs.SpeechLemmas.{spoken_nothing, IsSteady, steady_once, steady_run, steady_check}
 use Rattle.storyhost.proofs.StoriesLemmas.{settled_told}
-
--- what was read of an input that is told
-consumed : (old new : Option (List ℕ)) (bytes read : List ℕ) → Consumes old new read → old ≡ Some bytes → (rest : List ℕ) × (bytes ≡ read ++ rest) × (new ≡ Some rest)
-consumed None new bytes read p e = cc
-consumed (Some xs) None bytes read p e = absurd p
-consumed (Some xs) (Some rest) bytes read p e = (rest, cc, refl)
 
 held_then : (old new : Option (List ℕ)) (held written : List ℕ) → Appends old new written → old ≡ Some held → new ≡ Some (held ++ written)
 held_then None new held written p e = cc
 held_then (Some xs) None held written p e = absurd p
 held_then (Some xs) (Some ys) held written p e = cc
-
-nothing_left : (left : Option (List ℕ)) (rest : List ℕ) → IsAtEnd left → left ≡ Some rest → rest ≡ []
-nothing_left None rest p e = cc
-nothing_left (Some xs) rest p e = cc
 
 part_of_part : (a b c : List ℕ) → IsPartOf a b → IsPartOf b c → IsPartOf a c
 part_of_part a b c p q = (p.0 ++ q.0, q.1 ∙ ap (λ l. l ++ q.0) p.1 ∙ append_assoc a p.0 q.0)
@@ -58,9 +45,12 @@ abbrev IsSteadySaid : Result Speech (List ℕ) → Type 0
 IsSteadySaid said = IfOk said IsSteady
 
 -- the text over a part of the input begins that over the whole
-part_of_whole : (said : Result Speech (List ℕ)) → IsSteadySaid said → (read rest : List ℕ) → IsPartOf (whole_text said (lines read)) (whole_text said (lines (read ++ rest)))
-part_of_whole (Ok speech) s read rest = s.more read rest
-part_of_whole (Err line) s read rest = ([], sym (append-nil line))
+part_of_whole : (said : Result Speech (List ℕ)) → IsSteadySaid said → (read rest : List ℕ) → length read ≤ 2 ^ 31 → IsPartOf (whole_text said (talk read)) (whole_text said (talk (read ++ rest)))
+part_of_whole (Ok speech) s read rest within =
+    let first = talk_first read rest within in
+    let more = s.more (talk read) first.0 in
+    (more.0, ap speech.text first.1 ∙ more.1)
+part_of_whole (Err line) s read rest within = ([], sym (append-nil line))
 
 done_writes : (speech : Speech) → IsSteady speech → (read rest : List ℕ) (now : SourceState) (written : List ℕ) → now.left ≡ Some rest
     → written ≡ speech.text (lines read) → IsReadToEnd read now ⊎ (speech.is_over (lines read) ≡ true)
@@ -80,15 +70,15 @@ writes BadFolder said s read rest now written within left leaves = absurd leaves
 writes Refused said s read rest now written within left leaves = leaves
 writes ReadFault (Ok speech) s read rest now written within left leaves = inr (read, (rest, refl), leaves)
 writes ReadFault (Err line) s read rest now written within left leaves = absurd leaves
-writes WriteFault said s read rest now written within left leaves = part_of_part written _ _ leaves (part_of_whole said s read rest)
-writes NoMemory said s read rest now written within left leaves = part_of_part written _ _ leaves (part_of_whole said s read rest)
+writes WriteFault said s read rest now written within left leaves = part_of_part written _ _ leaves (part_of_whole said s read rest within)
+writes NoMemory said s read rest now written within left leaves = part_of_part written _ _ leaves (part_of_whole said s read rest within)
 writes LineLimit (Ok speech) s read rest now written within left leaves =
     (leaves.0 ∙ ap speech.text (sym (talk_settled read rest within leaves.1)), still_reached read rest leaves.1)
 writes LineLimit (Err line) s read rest now written within left leaves = absurd leaves
 
 nothing_writes : (status : Status) (P : Type 0) (said : Result Speech (List ℕ)) (input : List ℕ) → (status ≡ ReadFault) × P ⊎ (status ≡ NoMemory) → Writes status said input []
 nothing_writes status P said input (inl failed) = subst (λ (s : Status). Writes s said input []) (sym failed.0) (inl refl)
-nothing_writes status P said input (inr wanted) = subst (λ (s : Status). Writes s said input []) (sym wanted) (whole_text said (lines input), refl)
+nothing_writes status P said input (inr wanted) = subst (λ (s : Status). Writes s said input []) (sym wanted) (whole_text said (talk input), refl)
 
 abbrev IsSteadyTask : Result Task (List ℕ) → Type 0
 IsSteadyTask (Ok (Says speech)) = IsSteady speech
@@ -117,65 +107,54 @@ said_held said s bytes held {input} {now} {output} {new} status spoken left_is h
       subst (λ (b : List ℕ). Writes status said b spoken.written) (sym c.1) w,
     )
 
+-- what was written is held behind what was held
+held_so : {output new : SinkState} (held : List ℕ) (P : List ℕ → Type 0) → output.held ≡ Some held → WroteSome output new P → (written : List ℕ) × (new.held ≡ Some (held ++ written)) × P written
+held_so {output} {new} held P held_is w = (w.0, held_then output.held new.held held w.0 w.1.told held_is, w.2)
+
 held_on : {D : Type 0} (disks : DiskWords D) (task : Result Task (List ℕ)) → IsSteadyTask task → (bytes held : List ℕ) (outside beyond : OutsideState D) (input now : SourceState) (output new : SinkState) (status : Status)
     → Does disks task outside beyond input now output new status → input.left ≡ Some bytes → output.held ≡ Some held
-    → ((written : List ℕ) × Wrote output new written) → (written : List ℕ) × (new.held ≡ Some (held ++ written)) × TellsText status task bytes written
-held_on disks (Err line) s bytes held outside beyond input now output new status does left_is held_is any = said_held (Err line) tt bytes held status does.0 left_is held_is
-held_on disks (Ok (Says speech)) s bytes held outside beyond input now output new status does left_is held_is any = said_held (Ok speech) s bytes held status does.0 left_is held_is
-held_on disks (Ok (Serves stories budget folder)) s bytes held outside beyond input now output new status does left_is held_is any =
-    (any.0, held_then output.held new.held held any.0 any.1.told held_is, tt)
-held_on disks (Ok (Begins folder)) s bytes held outside beyond input now output new status does left_is held_is any =
-    (any.0, held_then output.held new.held held any.0 any.1.told held_is, tt)
+    → (written : List ℕ) × (new.held ≡ Some (held ++ written)) × WritesFor disks outside.disk status task bytes written
+held_on disks (Err line) s bytes held outside beyond input now output new status does left_is held_is = said_held (Err line) tt bytes held status does.0 left_is held_is
+held_on disks (Ok (Says speech)) s bytes held outside beyond input now output new status does left_is held_is = said_held (Ok speech) s bytes held status does.0 left_is held_is
+held_on disks (Ok (Serves stories budget folder)) s bytes held outside beyond input now output new status (inl none) left_is held_is =
+    held_so held _ held_is ([], none.wrote, not_lent_served disks stories budget (outside.disk (journal_in folder)) bytes status _ none.cause)
+held_on disks (Ok (Serves stories budget folder)) s bytes held outside beyond input now output new status (inr b) left_is held_is =
+    held_so held _ held_is (pipe_told disks stories budget (outside.disk (journal_in folder)) bytes b.given b.back input now output new status b.lent left_is b.done)
+held_on disks (Ok (Begins folder)) s bytes held outside beyond input now output new status (inl none) left_is held_is =
+    held_so held _ held_is ([], none.wrote, not_lent_begun disks (outside.disk (journal_in folder)) status _ none.cause)
+held_on disks (Ok (Begins folder)) s bytes held outside beyond input now output new status (inr b) left_is held_is =
+    held_so held _ held_is (init_told disks (outside.disk (journal_in folder)) b.given b.back input now output new status b.lent b.done)
 
--- whatever a command does, it writes something behind what was written
-line_wrote : {good status : Status} {line : List ℕ} {output new : SinkState} → SaysLine good line output new status → (written : List ℕ) × Wrote output new written
-line_wrote {line = line} (inl said) = (line, said.1)
-line_wrote (inr stopped) = (stopped.2.wrote.part, stopped.2.wrote.wrote)
+nothing_tells : {D : Type 0} (disks : DiskWords D) (disk : List ℕ → Told D) (status : Status) (P : Type 0) (task : Result Task (List ℕ)) (input : List ℕ)
+    → (status ≡ ReadFault) × P ⊎ (status ≡ NoMemory) → WritesFor disks disk status task input []
+nothing_tells disks disk status P (Err line) input c = nothing_writes status P (Err line) input c
+nothing_tells disks disk status P (Ok (Says speech)) input c = nothing_writes status P (Ok speech) input c
+nothing_tells disks disk status P (Ok (Serves stories budget folder)) input c = not_loaded_served disks stories budget (disk (journal_in folder)) input status P c
+nothing_tells disks disk status P (Ok (Begins folder)) input c = not_loaded_begun disks (disk (journal_in folder)) status P c
 
-fault_wrote : (fault : JournalFault) (status : Status) {output new : SinkState} → SaysFault fault output new status → (written : List ℕ) × Wrote output new written
-fault_wrote fault.NotJournal status p = line_wrote p
-fault_wrote (fault.Corrupt place) status p = line_wrote p
-fault_wrote (fault.DiskFault counts) status p = ([], p.1)
-fault_wrote fault.NoMemory status p = ([], p.1)
-
-refusal_wrote : (refusal : InitFault) (status : Status) {output new : SinkState} → SaysRefusal refusal output new status → (written : List ℕ) × Wrote output new written
-refusal_wrote begin.NotEmpty status p = line_wrote p
-refusal_wrote (begin.DiskFault counts) status p = ([], p.1)
-
-pipe_wrote : {D : Type 0} (disks : DiskWords D) {stories : List Story} {budget : ℕ} {given back : D} {input now : SourceState} {output new : SinkState} {status : Status}
-    → PipesOver disks stories budget given back input now output new status → (written : List ℕ) × Wrote output new written
-pipe_wrote disks (inl c) = (c.2.written, c.2.wrote)
-pipe_wrote disks {status = status} (inr n) = fault_wrote n.fault status n.says
-
-init_wrote : {D : Type 0} (disks : DiskWords D) {given back : D} {input now : SourceState} {output new : SinkState} {status : Status}
-    → InitsOver disks given back input now output new status → (written : List ℕ) × Wrote output new written
-init_wrote disks {status = status} i = elim i.does [ inl b ↦ line_wrote b.says | inr n ↦ refusal_wrote n.fault status n.says ]
-
-any_wrote : {D : Type 0} (disks : DiskWords D) (task : Result Task (List ℕ)) (outside beyond : OutsideState D) (input now : SourceState) (output new : SinkState) (status : Status)
-    → Does disks task outside beyond input now output new status → (written : List ℕ) × Wrote output new written
-any_wrote disks (Err line) outside beyond input now output new status does = (does.0.written, does.0.wrote)
-any_wrote disks (Ok (Says speech)) outside beyond input now output new status does = (does.0.written, does.0.wrote)
-any_wrote disks (Ok (Serves stories budget folder)) outside beyond input now output new status (inl none) = ([], none.wrote)
-any_wrote disks (Ok (Serves stories budget folder)) outside beyond input now output new status (inr b) = pipe_wrote disks b.done
-any_wrote disks (Ok (Begins folder)) outside beyond input now output new status (inl none) = ([], none.wrote)
-any_wrote disks (Ok (Begins folder)) outside beyond input now output new status (inr b) = init_wrote disks b.done
-
-nothing_tells : (status : Status) (P : Type 0) (task : Result Task (List ℕ)) (input : List ℕ) → (status ≡ ReadFault) × P ⊎ (status ≡ NoMemory) → TellsText status task input []
-nothing_tells status P (Err line) input c = nothing_writes status P (Err line) input c
-nothing_tells status P (Ok (Says speech)) input c = nothing_writes status P (Ok speech) input c
-nothing_tells status P (Ok (Serves stories budget folder)) input c = tt
-nothing_tells status P (Ok (Begins folder)) input c = tt
+-- the disks that are told are those from before the loads
+same_told : {D : Type 0} (disks : DiskWords D) (old new : List ℕ → Told D) (status : Status) (task : Result Task (List ℕ)) (input written : List ℕ)
+    → ((name : List ℕ) → new name ≡ old name) → WritesFor disks new status task input written → WritesFor disks old status task input written
+same_told disks old new status (Err line) input written same w = w
+same_told disks old new status (Ok (Says speech)) input written same w = w
+same_told {D} disks old new status (Ok (Serves stories budget folder)) input written same w =
+    subst (λ (t : Told D). WritesServed status disks stories budget t input written) (same (journal_in folder)) w
+same_told {D} disks old new status (Ok (Begins folder)) input written same w =
+    subst (λ (t : Told D). WritesBegun status disks t written) (same (journal_in folder)) w
 
 pub tells : {D : Type 0} (disks : DiskWords D) (asked : Asked) (status : Status) (outside beyond : OutsideState D) (input now : SourceState) (output new : SinkState)
-    → Follows disks asked status outside beyond input now output new → Tells asked status outside input output new
+    → Follows disks asked status outside beyond input now output new → Tells disks asked status outside input output new
 tells disks asked status outside beyond input now output new (inl none) files bytes held files_are left_is held_is =
-    ([], held_then output.held new.held held [] none.wrote.told held_is, nothing_tells status _ _ bytes none.cause)
+    ([], held_then output.held new.held held [] none.wrote.told held_is, nothing_tells disks outside.disk status _ _ bytes none.cause)
 tells disks asked status outside beyond input now output new (inr some) files bytes held files_are left_is held_is =
     let task = tasked asked.action (stories_of some.files) asked.budget asked.folder in
-    let t = held_on disks task (steady asked.action (stories_of some.files) asked.budget asked.folder) bytes held some.between beyond input now output new status some.does left_is held_is
-    (any_wrote disks task some.between beyond input now output new status some.does) in
-    let same : stories_of some.files ≡ stories_of (map (take 67108865) files) = sym (settled_told outside.file asked.names some.files files some.are_files some.settled files_are) in
-    (t.0, t.1, subst (λ (f : Result (List Story) Refusal). TellsText status (tasked asked.action f asked.budget asked.folder) bytes t.0) same t.2)
+    let t = held_on disks task (steady asked.action (stories_of some.files) asked.budget asked.folder) bytes held some.between beyond input now output new status some.does left_is held_is in
+    let same : stories_of some.files ≡ stories_of (map (take 67108865) files) = sym (settled_told outside.file asked.names some.files files some.are_files some.settled files_are) in (
+      t.0,
+      t.1,
+      subst (λ (f : Result (List Story) Refusal). WritesFor disks outside.disk status (tasked asked.action f asked.budget asked.folder) bytes t.0) same
+          (same_told disks outside.disk some.between.disk status task bytes t.0 some.loaded.disk t.2),
+    )
 
 -- memory was wanted before a task was begun
 pub does_nothing : {D : Type 0} (disks : DiskWords D) (task : Result Task (List ℕ)) (outside : OutsideState D) (input : SourceState) (output : SinkState)
@@ -186,19 +165,19 @@ does_nothing disks (Ok (Serves stories budget folder)) outside input output = in
 does_nothing disks (Ok (Begins folder)) outside input output = inl (not_lent outside input output)
 
 -- where memory was wanted before a file was loaded, each caller is told so
-tells_nothing : {D : Type 0} (asked : Asked) (outside : OutsideState D) (input : SourceState) (output : SinkState) → Tells asked NoMemory outside input output output
-tells_nothing asked outside input output files bytes held files_are left_is held_is =
-    ([], held_then output.held output.held held [] (wrote_none output).told held_is, nothing_tells NoMemory (Unit {0}) _ bytes (inr refl))
+tells_nothing : {D : Type 0} (disks : DiskWords D) (asked : Asked) (outside : OutsideState D) (input : SourceState) (output : SinkState) → Tells disks asked NoMemory outside input output output
+tells_nothing disks asked outside input output files bytes held files_are left_is held_is =
+    ([], held_then output.held output.held held [] (wrote_none output).told held_is, nothing_tells disks outside.disk NoMemory (Unit {0}) _ bytes (inr refl))
 
 pub whatever_is_asked : (asked : Option Asked) (P : Asked → Type 0) → ((one : Asked) → P one) → IfSome asked P
 whatever_is_asked None P p = tt
 whatever_is_asked (Some one) P p = p one
 
-pub told_no_memory : {D : Type 0} (asked : Option Asked) (code : ℕ) (outside : OutsideState D) (input : SourceState) (output : SinkState) → status_of code ≡ Some NoMemory
-    → IfSome asked (λ one. IsSomeAnd (status_of code) (λ status. Tells one status outside input output output))
-told_no_memory asked code outside input output is =
-    whatever_is_asked asked (λ (one : Asked). IsSomeAnd (status_of code) (λ status. Tells one status outside input output output))
-    (λ one. subst (λ (s : Option Status). IsSomeAnd s (λ status. Tells one status outside input output output)) (sym is) (tells_nothing one outside input output))
+pub told_no_memory : {D : Type 0} (disks : DiskWords D) (asked : Option Asked) (code : ℕ) (outside : OutsideState D) (input : SourceState) (output : SinkState) → status_of code ≡ Some NoMemory
+    → IfSome asked (λ one. IsSomeAnd (status_of code) (λ status. Tells disks one status outside input output output))
+told_no_memory disks asked code outside input output is =
+    whatever_is_asked asked (λ (one : Asked). IsSomeAnd (status_of code) (λ status. Tells disks one status outside input output output))
+    (λ one. subst (λ (s : Option Status). IsSomeAnd s (λ status. Tells disks one status outside input output output)) (sym is) (tells_nothing disks one outside input output))
 
 -- and so it is with what is done
 pub done_no_memory : {D : Type 0} (disks : DiskWords D) (asked : Option Asked) (code : ℕ) (outside : OutsideState D) (input : SourceState) (output : SinkState) → status_of code ≡ Some NoMemory

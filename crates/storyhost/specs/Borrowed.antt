@@ -4,7 +4,8 @@ use Rattle.std.specs.Map.{update}
 use Rattle.std.specs.Str.{bytes_eq}
 use Rattle.disk_model.specs.Disk.{SameDisk}
 use Rattle.storyhost.specs.Causes.{Rose}
-use Rattle.storyhost.specs.Files.{OutsideState, IsLentFrom, RisesWith, There, told_at}
+use Rattle.storyhost.specs.Files.{OutsideState, HasOwnLabel, IsLentFrom, RisesWith, There}
+use Rattle.storyhost.specs.Files.{told_at}
 use Rattle.storyhost.specs.DiskWords.{DiskWords}
 use Rattle.storyhost.specs.Streams.{SourceState, SinkState, Gave, Wrote}
 use Rattle.storyhost.specs.declared.status.Status.{Status}
@@ -32,6 +33,7 @@ pub record Borrowed {D : Type 0} (disks : DiskWords D) (name : List ℕ) (P : D 
   pub lent :
       IsTrue (disks.tells given)
       → IsLentFrom disks.seen disks.may_leave (outside.disk name) given
+  pub own : HasOwnLabel outside name (disks.label given)
   pub kept : SameDisk disks.tells disks.room disks.label given back
   pub done : P given back
   pub held : (other : List ℕ) → beyond.disk other ≡ told_at outside.disk name (There back) other

@@ -1,17 +1,32 @@
 -- What is known of the files and the disks outside (own).
-use Rattle.std.specs.Prelude.{◌≡◌, ℕ, ◌≤◌, List, [], take, Option, None, Some}
-use Rattle.std.specs.Prelude.{IsSomeAnd, if◌then◌else◌}
+use Rattle.std.specs.Prelude.{◌≡◌, ◌≢◌, ℕ, ◌<◌, ◌≤◌, List, [], take, Option, None, Some}
+use Rattle.std.specs.Prelude.{IsSomeAnd, if◌then◌else◌, Bool, true, false, is_none, Result}
+use Rattle.std.specs.Prelude.{Ok, Err}
 use Rattle.std.specs.Map.{update}
 use Rattle.std.specs.Str.{bytes_eq}
 use Rattle.disk_model.specs.Disk.{NoneNew, Only}
 use Rattle.storyhost.specs.Causes.{Rose}
 use Rattle.storyhost.specs.declared.loan.Loan.{Loan}
+use Rattle.storyhost.specs.declared.outside.Fetch.{Fetch}
+use Rattle.storyhost.specs.declared.outside.Fetch.TheVariants.{Failed, NoMemory}
 
 -- what is told of what stands under a name: nothing, that there is none, or what it is
 pub data Told (A : Type 0) : Type 0 where
   Untold : Told A
   Missing : Told A
   There : A → Told A
+
+-- there is told to be nothing
+abbrev pub is_missing : {A : Type 0} → Told A → Bool
+is_missing Untold = false
+is_missing Missing = true
+is_missing (There a) = false
+
+-- a call of the outside failed
+abbrev pub has_failed : {T : Type 0} → Result T Fetch → Bool
+has_failed (Ok value) = false
+has_failed (Err Failed) = true
+has_failed (Err NoMemory) = false
 
 -- the files and the disks by their names where they are told, the last loan of the disk of a name,
 -- the faults of loads, and those of disks and of the calls that lend them
@@ -44,8 +59,8 @@ pub record KeepsDisks {D : Type 0} (old new : OutsideState D) : Type 0 where
   pub loan : (name : List ℕ) → new.loan name ≡ old.loan name
   pub disk_faults : new.disk_faults ≡ old.disk_faults
 
--- the disk that is lent reads as the one that is told, and no image is new; where there is told to be
--- none, it is empty
+-- the disk that is lent reads as the one that is told, and no image is new; where there is told to
+-- be none, it is empty
 abbrev pub IsLentFrom : {D : Type 0} → (D → List ℕ) → (D → List ℕ → Type 0) → Told D → D
     → Type 0
 IsLentFrom seen may_leave Untold disk = Unit {0}
@@ -64,6 +79,17 @@ abbrev pub told_at : {A : Type 0} → (List ℕ → Told A) → List ℕ → Tol
 told_at told name now other =
     if bytes_eq name other then told_now (told other) now else told other
 
+-- no disk of another name that was lent has this label
+abbrev pub HasOwnLabel : {D : Type 0} → OutsideState D → List ℕ → ℕ → Type 0
+HasOwnLabel outside name label =
+    (other : List ℕ) (loan : Loan) → bytes_eq name other ≡ false
+    → outside.loan other ≡ Some loan → loan.label ≢ label
+
+-- the labels of all loans are below a count
+abbrev pub AreBelow : (List ℕ → Option Loan) → ℕ → Type 0
+AreBelow loans count =
+    (name : List ℕ) (loan : Loan) → loans name ≡ Some loan → loan.label < count
+
 -- a disk of this name was lent
 pub record Lends {D : Type 0} (label faults : D → ℕ) (name : List ℕ) (disk : D)
     (old new : OutsideState D) : Type 0 where
@@ -72,10 +98,16 @@ pub record Lends {D : Type 0} (label faults : D → ℕ) (name : List ℕ) (disk
       ≡ update bytes_eq old.loan name
       (Some (record { label = label disk; from = faults disk; to = None })) other
   pub count : new.disk_faults ≡ old.disk_faults
+  pub own : HasOwnLabel old name (label disk)
 
 -- the disk with this label is lent
 abbrev pub IsLent : Option Loan → ℕ → Type 0
 IsLent loan label = IsSomeAnd loan (λ l. (l.label ≡ label) × (l.to ≡ None))
+
+-- the disk of a loan isn't back
+abbrev pub is_out : Option Loan → Bool
+is_out None = false
+is_out (Some loan) = is_none loan.to
 
 -- a loan whose disk was put back
 abbrev pub returned : ℕ → Option Loan → Option Loan

@@ -1,12 +1,13 @@
 -- What a command leaves of the files, the disks, the input and the output (own).
 use Rattle.std.specs.Prelude.{◌≡◌, ℕ, ◌⊎◌, List, [], ◌++◌, map, take, Some, Result, Ok, Err}
-use Rattle.storyhost.specs.Begun.{InitsOver}
+use Rattle.storyhost.specs.Begun.{InitsOver, WritesBegun}
 use Rattle.storyhost.specs.Borrowed.{UsesDisk, journal_in}
 use Rattle.storyhost.specs.Causes.{Rose}
-use Rattle.storyhost.specs.Files.{OutsideState, KeepsDisks, There}
+use Rattle.storyhost.specs.Files.{OutsideState, KeepsDisks, Told, There}
 use Rattle.storyhost.specs.Headline.{Writes}
 use Rattle.storyhost.specs.DiskWords.{DiskWords}
 use Rattle.storyhost.specs.Piped.{PipesOver}
+use Rattle.storyhost.specs.Served.{WritesServed}
 use Rattle.storyhost.specs.Speech.{Task, Says, Serves, Begins, tasked}
 use Rattle.storyhost.specs.Spoken.{Spoken}
 use Rattle.storyhost.specs.Stories.{stories_of, AreFiles, IsSettled}
@@ -61,21 +62,25 @@ Follows disks asked status outside beyond input now output new =
     NotLoaded outside beyond input now output new status
     ⊎ Loaded disks asked outside beyond input now output new status
 
--- what is written of a text, where the task is to say one
-abbrev pub TellsText : Status → Result Task (List ℕ) → List ℕ → List ℕ → Type 0
-TellsText status (Err line) bytes written = Writes status (Err line) bytes written
-TellsText status (Ok (Says speech)) bytes written = Writes status (Ok speech) bytes written
-TellsText status (Ok (Serves stories budget folder)) bytes written = Unit {0}
-TellsText status (Ok (Begins folder)) bytes written = Unit {0}
+-- what is written for these bytes of an input, by the task and what is told of the disks
+abbrev pub WritesFor : {D : Type 0} → DiskWords D → (List ℕ → Told D) → Status
+    → Result Task (List ℕ) → List ℕ → List ℕ → Type 0
+WritesFor disks disk status (Err line) bytes written = Writes status (Err line) bytes written
+WritesFor disks disk status (Ok (Says speech)) bytes written =
+    Writes status (Ok speech) bytes written
+WritesFor disks disk status (Ok (Serves stories budget folder)) bytes written =
+    WritesServed status disks stories budget (disk (journal_in folder)) bytes written
+WritesFor disks disk status (Ok (Begins folder)) bytes written =
+    WritesBegun status disks (disk (journal_in folder)) written
 
 -- what an output holds then, for a caller who is told its bytes, the files and the input
-abbrev pub Tells : {D : Type 0} → Asked → Status → OutsideState D → SourceState → SinkState
-    → SinkState → Type 0
-Tells asked status outside input output new =
+abbrev pub Tells : {D : Type 0} → DiskWords D → Asked → Status → OutsideState D → SourceState
+    → SinkState → SinkState → Type 0
+Tells disks asked status outside input output new =
     (files : List (List ℕ)) (bytes held : List ℕ)
     → map outside.file asked.names ≡ map There files → input.left ≡ Some bytes
     → output.held ≡ Some held
     → (written : List ℕ) × (new.held ≡ Some (held ++ written))
-    × TellsText status
+    × WritesFor disks outside.disk status
     (tasked asked.action (stories_of (map (take 67108865) files)) asked.budget asked.folder)
     bytes written

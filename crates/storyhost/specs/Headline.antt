@@ -25,9 +25,9 @@ Writes Done said input written = IsOkAnd said (λ speech.
     × (IsWithinLimits input ⊎ (speech.is_over (lines input) ≡ true)))
 Writes Refused said input written = said ≡ Err written
 Writes ReadFault said input written = (written ≡ []) ⊎ IsOkAnd said (λ speech.
-    (read : List ℕ) × IsPartOf read input × (written ≡ speech.text (lines read)))
-Writes WriteFault said input written = IsPartOf written (whole_text said (lines input))
-Writes NoMemory said input written = IsPartOf written (whole_text said (lines input))
+    (read : List ℕ) × IsPartOf read input × (written ≡ speech.text (talk read)))
+Writes WriteFault said input written = IsPartOf written (whole_text said (talk input))
+Writes NoMemory said input written = IsPartOf written (whole_text said (talk input))
 Writes LineLimit said input written = IsOkAnd said (λ speech.
     (written ≡ speech.text (talk input)) × ReachesLimit input)
 Writes BadWords said input written = ⊥

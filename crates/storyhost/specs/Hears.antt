@@ -1,5 +1,5 @@
 -- Where a piece of input leads a conversation (own).
-use Rattle.std.specs.Prelude.{◌≡◌, ℕ, ◌+◌, ◌^◌, ◌<◌, List, ◌++◌, length, Bool, true, false}
+use Rattle.std.specs.Prelude.{◌≡◌, ℕ, ◌+◌, ◌^◌, ◌<◌, ◌≤◌, List, ◌++◌, length, Bool, true, false}
 use Rattle.storyhost.specs.Conversation.{Line, Turn, Answered, StopsBehind}
 use Rattle.storyhost.specs.Hearing.{heard_from, begun_after}
 use Rattle.storyhost.specs.Streams.{SinkState}
@@ -38,7 +38,9 @@ LeadsTo turn over old begun count piece Limit new line number output now =
     begun piece
 
 -- the conversation stopped within the piece
-abbrev pub StopsWithin : {A : Type 0} → Turn A → Turn A → (A → Bool) → A → Line → List ℕ → A
-    → SinkState → SinkState → Stop → Type 0
-StopsWithin turn cut over old begun piece new output now cause =
-    HearsPart (λ lines. StopsBehind turn cut over old lines new output now cause) begun piece
+abbrev pub StopsWithin : {A : Type 0} → Turn A → Turn A → (A → Bool) → A → Line → ℕ → List ℕ
+    → A → SinkState → SinkState → Stop → Type 0
+StopsWithin turn cut over old begun count piece new output now cause =
+    HearsPart (λ lines. StopsBehind turn cut over old lines new output now cause
+    × (count + length lines ≤ 2 ^ 20))
+    begun piece

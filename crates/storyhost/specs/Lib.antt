@@ -3,6 +3,7 @@ pub mod Speech
 pub mod RunText
 pub mod HostTurns
 pub mod Piped
+pub mod Served
 pub mod Begun
 pub mod Borrowed
 pub mod Said
@@ -27,3 +28,4 @@ pub mod Streams
 pub mod Files
 pub mod MemoryOutside
 pub mod Causes
+pub mod Failing

@@ -1,19 +1,19 @@
 -- What `pipe` leaves of its journal's disk, its input and its output (own).
-use Rattle.std.specs.Prelude.{◌≡◌, ◌⊎◌, ℕ, ◌^◌, ◌<◌, ◌≤◌, IsTrue, false, List, [], ◌∷◌, ◌++◌}
-use Rattle.std.specs.Prelude.{length, map, Option}
-use Rattle.disk_model.specs.Disk.{EachImage}
+use Rattle.std.specs.Prelude.{◌≡◌, ◌⊎◌, ℕ, ◌+◌, ◌^◌, ◌<◌, ◌≤◌, max, IsTrue, false, List, []}
+use Rattle.std.specs.Prelude.{◌∷◌, ◌++◌, length, map, Option}
+use Rattle.disk_model.specs.Disk.{EachImage, LeavesOnly}
 use Rattle.gate_journal.specs.declared.row.Row.{Row}
 use Rattle.gate_journal.specs.declared.fault.JournalFault.{JournalFault}
 use Rattle.gate_journal.specs.Faults.{HasCause, Explains}
-use Rattle.gate_journal.specs.Log.{kept, MayOpen, MaySpell}
-use Rattle.gate_journal.specs.Rows.{SpellsRows, IsJournal, commands_of}
+use Rattle.gate_journal.specs.Log.{kept, MayOpen, MaySpell, ReachesGate}
+use Rattle.gate_journal.specs.Rows.{SpellsRows, IsJournal, commands_of, spelled}
 use Rattle.line_words.specs.Reply.{print_reply}
 use Rattle.line_words.specs.declared.reply.Reply.{Reply}
 use Rattle.session_core.specs.Hosts.{AreMet, replies_met, histories_met, entries_of}
 use Rattle.session_core.specs.Turning.{commands_in}
 use Rattle.session_core.specs.declared.entry.Entry.{Entry}
 use Rattle.session_core.specs.declared.entry.Outcome.{Outcome}
-use Rattle.session_desk.specs.Collected.{Chain}
+use Rattle.session_desk.specs.Collected.{Chain, IsBetween}
 use Rattle.session_desk.specs.Desks.{histories_in}
 use Rattle.story_run.specs.declared.story.Story.{Story}
 use Rattle.storyhost.specs.Conversation.{joined}
@@ -84,6 +84,17 @@ pub record Conversed {D : Type 0} (disks : DiskWords D) (stories : List Story) (
       HaveCommands after
       (histories_met stories budget (histories_of rows) 0 answered outcomes)
   pub images : EachImage disks.tells disks.may_leave back (MaySpell after uncertain)
+  -- meanwhile an image is one that the opening may meet, or spells the rows handed in and the first
+  -- of those that were accepted since, or these and one row more
+  pub meanwhile :
+      (start : List Row) → IsJournal start
+      → EachImage disks.tells disks.may_leave given (MayOpen start)
+      → IsTrue (disks.tells given)
+      → LeavesOnly disks.moment disks.left_since given back
+      (λ c. MayOpen start c ⊎ IsBetween rows after c)
+  -- nothing is written farther behind the closing gate than the longest row reaches
+  pub reaches :
+      disks.reach back ≤ max (disks.reach given) (length (spelled after) + 4110)
 
 -- The journal isn't opened: no line is read, and what an opening may meet it may meet again.
 pub record NotOpened {D : Type 0} (disks : DiskWords D) (given back : D)
@@ -97,6 +108,14 @@ pub record NotOpened {D : Type 0} (disks : DiskWords D) (given back : D)
       (rows : List Row) → IsJournal rows
       → EachImage disks.tells disks.may_leave given (MayOpen rows)
       → EachImage disks.tells disks.may_leave back (MayOpen rows)
+  pub meanwhile :
+      (rows : List Row) → IsJournal rows
+      → EachImage disks.tells disks.may_leave given (MayOpen rows)
+      → IsTrue (disks.tells given)
+      → LeavesOnly disks.moment disks.left_since given back (MayOpen rows)
+  pub reaches :
+      IsTrue (disks.tells given)
+      → ReachesGate (disks.seen given) (disks.reach given) (disks.reach back)
 
 -- one of the two, over the disk of a journal
 abbrev pub PipesOver : {D : Type 0} → DiskWords D → List Story → ℕ → D → D → SourceState

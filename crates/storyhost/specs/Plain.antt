@@ -68,9 +68,9 @@ abbrev pub PlainLeaves : {S : Type 0} → Ended → Answering S → S → List �
 PlainLeaves Done by start read now written =
     (written ≡ replies by start (lines read))
     × (IsReadToEnd read now ⊎ (by.is_over (after by start (lines read)) ≡ true))
-PlainLeaves ReadFault by start read now written = written ≡ replies by start (lines read)
-PlainLeaves WriteFault by start read now written = IsPartOf written (replies by start (lines read))
-PlainLeaves NoMemory by start read now written = IsPartOf written (replies by start (lines read))
+PlainLeaves ReadFault by start read now written = written ≡ replies by start (talk read)
+PlainLeaves WriteFault by start read now written = IsPartOf written (replies by start (talk read))
+PlainLeaves NoMemory by start read now written = IsPartOf written (replies by start (talk read))
 PlainLeaves LineLimit by start read now written =
     (written ≡ replies by start (talk read)) × ReachesLimit read
 

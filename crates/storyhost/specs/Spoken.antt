@@ -19,9 +19,9 @@ Leaves Done said read now written = IsOkAnd said (λ speech.
     × (IsReadToEnd read now ⊎ (speech.is_over (lines read) ≡ true)))
 Leaves Refused said read now written = said ≡ Err written
 Leaves ReadFault said read now written =
-    IsOkAnd said (λ speech. written ≡ speech.text (lines read))
-Leaves WriteFault said read now written = IsPartOf written (whole_text said (lines read))
-Leaves NoMemory said read now written = IsPartOf written (whole_text said (lines read))
+    IsOkAnd said (λ speech. written ≡ speech.text (talk read))
+Leaves WriteFault said read now written = IsPartOf written (whole_text said (talk read))
+Leaves NoMemory said read now written = IsPartOf written (whole_text said (talk read))
 Leaves LineLimit said read now written = IsOkAnd said (λ speech.
     (written ≡ speech.text (talk read)) × ReachesLimit read)
 Leaves BadWords said read now written = ⊥

@@ -43,6 +43,12 @@ is_end (got.Bytes n) = false
 is_end got.End = true
 is_end got.Failed = false
 
+-- whether a read failed
+abbrev pub is_failed : Got → Bool
+is_failed (got.Bytes n) = false
+is_failed got.End = false
+is_failed got.Failed = true
+
 -- the count of a read is at least 1, and within the room
 abbrev pub IsCountWithin : Got → ℕ → Type 0
 IsCountWithin (got.Bytes n) room = (0 < n) × (n ≤ room)
@@ -53,6 +59,11 @@ IsCountWithin got.Failed room = Unit {0}
 abbrev pub kept : Put → List ℕ → List ℕ
 kept (put.Took n) piece = take n piece
 kept put.Failed piece = []
+
+-- whether a write failed
+abbrev pub is_refused : Put → Bool
+is_refused (put.Took n) = false
+is_refused put.Failed = true
 
 -- the count of a write is within the piece, and at least 1 where the piece isn't empty
 abbrev pub IsTakenWithin : Put → ℕ → Type 0

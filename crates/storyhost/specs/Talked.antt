@@ -24,9 +24,9 @@ abbrev pub AnswersOf : Ended → List ℕ → SourceState → Bool → List (Lis
 AnswersOf Done read now over answered =
     (answered ≡ lines read) × IsReadToEnd read now
     ⊎ AreFirst answered (lines read) × (over ≡ true)
-AnswersOf ReadFault read now over answered = answered ≡ lines read
-AnswersOf WriteFault read now over answered = AreFirst answered (lines read)
-AnswersOf NoMemory read now over answered = AreFirst answered (lines read)
+AnswersOf ReadFault read now over answered = answered ≡ talk read
+AnswersOf WriteFault read now over answered = AreFirst answered (talk read)
+AnswersOf NoMemory read now over answered = AreFirst answered (talk read)
 AnswersOf LineLimit read now over answered = (answered ≡ talk read) × ReachesLimit read
 
 -- how they were answered, by how it ended

@@ -35,7 +35,7 @@ pub fn hear<A: Answers, K: Sink>(
     ensures leads { IfOk result (λ heard. LeadsTo A.turn A.over speaker.old line.old count.old
         piece.now heard speaker.new line.new count.new (K.sink output.old) (K.sink output.new)) }
     ensures err { IfErr result (λ cause. StopsWithin A.turn A.cut A.over speaker.old line.old
-        piece.now speaker.new (K.sink output.old) (K.sink output.new) cause) }
+        count.old piece.now speaker.new (K.sink output.old) (K.sink output.new) cause) }
 {
     for byte in piece {
         if *byte != b'\n' {

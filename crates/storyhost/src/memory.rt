@@ -22,8 +22,10 @@ pub struct MemorySource {
 impl MemorySource {
     /// All of these bytes are left, and nothing has happened yet.
     pub fn new(bytes: Vec<u8>, most: usize, failing: Vec<u64>) -> MemorySource
-        ensures { ⟦<MemorySource as Source>⟧.source result
+        ensures value { ⟦<MemorySource as Source>⟧.source result
             ≡ record { left = Some bytes.items; taken = 0; ended = false; faults = 0 } }
+        ensures failing { ⟦<MemorySource as Source>⟧.failing_reads result
+            ≡ Some (record { next = 0; listed = failing.items }) }
     {
         MemorySource {
             bytes,
@@ -45,6 +47,8 @@ impl Source for MemorySource {
       faults = s.faults;
     } };
 
+    ghost failing_reads = { λ s. Some (record { next = s.calls; listed = s.failing.items }) };
+
     fn read(&mut self, into: &mut [u8]) -> Got {
         let call = self.calls;
         self.calls = call.saturating_add(1);
@@ -65,7 +69,8 @@ impl Source for MemorySource {
 }
 
 /// Bytes that are held in memory. A write takes at most `most` of them, and at least one.
-/// Writes are counted from 0, and those in `failing` fail, as does one that finds no memory.
+/// Writes are counted from 0, and those in `failing` fail. So does one that finds no memory, which
+/// isn't counted.
 #[derive(Drop)]
 pub struct MemorySink {
     bytes: Vec<u8>,
@@ -78,7 +83,9 @@ pub struct MemorySink {
 impl MemorySink {
     /// Nothing is held, and nothing has happened yet.
     pub fn new(alloc: Global, most: usize, failing: Vec<u64>) -> MemorySink
-        ensures { ⟦<MemorySink as Sink>⟧.sink result ≡ record { held = Some []; faults = 0 } }
+        ensures value { ⟦<MemorySink as Sink>⟧.sink result ≡ record { held = Some []; faults = 0 } }
+        ensures failing { ⟦<MemorySink as Sink>⟧.failing_writes result
+            ≡ Some (record { next = 0; listed = failing.items }) }
     {
         MemorySink {
             bytes: Vec::new(alloc),
@@ -100,14 +107,20 @@ impl MemorySink {
 impl Sink for MemorySink {
     ghost sink = { λ s. record { held = Some s.bytes.items; faults = s.faults } };
 
+    ghost failing_writes = { λ s. Some (record { next = s.calls; listed = s.failing.items }) };
+
     fn write(&mut self, piece: &[u8]) -> Put {
-        let call = self.calls;
-        self.calls = call.saturating_add(1);
-        let count = piece.len().min(self.most.max(1));
-        if !self.failing.contains(&call) && self.bytes.extend_from_slice(&piece[..count]).is_ok() {
-            return Put::Took(count);
+        if self.failing.contains(&self.calls) {
+            self.calls = self.calls.saturating_add(1);
+            self.faults = self.faults.saturating_add(1);
+            return Put::Failed;
         }
-        self.faults = self.faults.saturating_add(1);
-        Put::Failed
+        let count = piece.len().min(self.most.max(1));
+        if self.bytes.extend_from_slice(&piece[..count]).is_err() {
+            self.faults = self.faults.saturating_add(1);
+            return Put::Failed;
+        }
+        self.calls = self.calls.saturating_add(1);
+        Put::Took(count)
     }
 }

@@ -1,9 +1,10 @@
 //! An outside in memory, with the calls that are to fail.
-ghost use Rattle.std.specs.Prelude.{◌≡◌, Some, None, IfSome, IfNone, IsSomeAnd};
+ghost use Rattle.std.specs.Prelude.{◌≡◌, Some, None, IfSome, IfNone, IsSomeAnd, OnOk};
+ghost use Rattle.std.specs.Prelude.{is_some, true, false};
 ghost use Rattle.std.specs.Prelude.{ℕ, List, option_map};
 ghost use Rattle.std.specs.BTreeMap.{get_by_text};
 ghost use Rattle.storyhost.specs.Files.{Told, told_by, IsLentFrom, IsLent, returned, RisesWith};
-ghost use Rattle.storyhost.specs.Files.{told_at};
+ghost use Rattle.storyhost.specs.Files.{told_at, is_out, AreBelow};
 ghost use Rattle.storyhost.specs.MemoryOutside.{disk_in, loan_in};
 ghost use Rattle.std.specs.Map.{update};
 ghost use Rattle.std.specs.Str.{bytes_eq};
@@ -25,25 +26,20 @@ pub struct Shelf {
 }
 
 impl Shelf {
-    /// Lends its disk with this label, or an empty one, unless it is lent already.
-    fn lend(&mut self, alloc: Global, label: u64) -> Option<MemDisk>
-        ensures some { IfSome result (λ disk. self.new ≡ record {
+    /// Lends its disk with this label, or an empty one.
+    fn lend(&mut self, alloc: Global, label: u64) -> MemDisk
+        ensures loan { self.new ≡ record {
           disk = None;
           loan = Some (record {
-            label = ⟦<MemDisk as Disk>⟧.label disk;
-            from = ⟦<MemDisk as Disk>⟧.faults disk;
+            label = ⟦<MemDisk as Disk>⟧.label result;
+            from = ⟦<MemDisk as Disk>⟧.faults result;
             to = None;
           });
-        }) }
-        ensures given { IfSome result (λ disk. IsLentFrom ⟦<MemDisk as Disk>⟧.seen
-            ⟦<MemDisk as Disk>⟧.may_leave (told_by self.old.disk) disk) }
-        ensures none { IfNone result (self.new ≡ self.old) }
+        } }
+        ensures given { IsLentFrom ⟦<MemDisk as Disk>⟧.seen
+            ⟦<MemDisk as Disk>⟧.may_leave (told_by self.old.disk) result }
+        ensures label { ⟦<MemDisk as Disk>⟧.label result ≡ label }
     {
-        if let Some(loan) = &self.loan {
-            if loan.is_out() {
-                return None;
-            }
-        }
         let mut disk = match self.disk.take() {
             Some(disk) => disk,
             None => MemDisk::new(alloc),
@@ -54,7 +50,7 @@ impl Shelf {
             from: disk.faults(),
             to: None,
         });
-        Some(disk)
+        disk
     }
 
     /// Takes its disk back. The count rises where the disk's own did.
@@ -75,14 +71,28 @@ impl Shelf {
     }
 }
 
+/// The disk of that name is lent.
+fn is_lent(shelves: &BTreeMap<String, Shelf>, name: &str) -> bool
+    ensures { result ≡ is_out (loan_in shelves.now name.now) }
+{
+    match shelves.get(name) {
+        Some(shelf) => match &shelf.loan {
+            Some(loan) => loan.is_out(),
+            None => false,
+        },
+        None => false,
+    }
+}
+
 /// A place for the disk of that name.
 fn make_shelf(
     alloc: Global,
     shelves: &mut BTreeMap<String, Shelf>,
     name: &str,
 ) -> Result<(), AllocError>
-    ensures { (other : List ℕ) → (disk_in shelves.new other ≡ disk_in shelves.old other)
+    ensures kept { (other : List ℕ) → (disk_in shelves.new other ≡ disk_in shelves.old other)
         × (loan_in shelves.new other ≡ loan_in shelves.old other) }
+    ensures there { OnOk result (is_some (get_by_text shelves.new name.now) ≡ true) }
 {
     if shelves.get(name).is_some() {
         return Ok(());
@@ -98,7 +108,7 @@ fn make_shelf(
     Ok(())
 }
 
-/// Lends the disk of that name with this label, unless it is lent already or has no place.
+/// Lends the disk of that name with this label, unless it has no place.
 fn lend(
     alloc: Global,
     label: u64,
@@ -117,12 +127,11 @@ fn lend(
         })) other) }
     ensures given { IfSome result (λ disk. IsLentFrom ⟦<MemDisk as Disk>⟧.seen
         ⟦<MemDisk as Disk>⟧.may_leave (disk_in shelves.old name.now) disk) }
-    ensures none { IfNone result ((other : List ℕ)
-        → (disk_in shelves.new other ≡ disk_in shelves.old other)
-        × (loan_in shelves.new other ≡ loan_in shelves.old other)) }
+    ensures label { IfSome result (λ disk. ⟦<MemDisk as Disk>⟧.label disk ≡ label) }
+    ensures none { IfNone result (is_some (get_by_text shelves.old name.now) ≡ false) }
 {
     match shelves.get_mut(name) {
-        Some(shelf) => shelf.lend(alloc, label),
+        Some(shelf) => Some(shelf.lend(alloc, label)),
         None => None,
     }
 }
@@ -137,8 +146,9 @@ pub struct MemoryOutside {
     failing_loads: Vec<u64>,
     faults: u64,
     calls: u64,
-    failing_calls: Vec<u64>,
+    failing_loans: Vec<u64>,
     disk_faults: u64,
+    ghost below: { AreBelow (loan_in shelves) calls },
 }
 
 impl MemoryOutside {
@@ -147,14 +157,19 @@ impl MemoryOutside {
         alloc: Global,
         files: BTreeMap<String, Vec<u8>>,
         failing_loads: Vec<u64>,
+        failing_loans: Vec<u64>,
     ) -> MemoryOutside
-        ensures { ⟦<MemoryOutside as Outside>⟧.outside result ≡ record {
+        ensures value { ⟦<MemoryOutside as Outside>⟧.outside result ≡ record {
           file = λ name. told_by (option_map (λ bytes. bytes.items) (get_by_text files name));
           disk = λ name. Told.Missing;
           loan = λ name. None;
           faults = 0;
           disk_faults = 0;
         } }
+        ensures loads { ⟦<MemoryOutside as Outside>⟧.failing_loads result
+            ≡ Some (record { next = 0; listed = failing_loads.items }) }
+        ensures loans { ⟦<MemoryOutside as Outside>⟧.failing_loans result
+            ≡ Some (record { next = 0; listed = failing_loans.items }) }
     {
         MemoryOutside {
             files,
@@ -163,7 +178,7 @@ impl MemoryOutside {
             failing_loads,
             faults: 0,
             calls: 0,
-            failing_calls: Vec::new(alloc),
+            failing_loans,
             disk_faults: 0,
         }
     }
@@ -179,6 +194,16 @@ impl Outside for MemoryOutside {
       faults = o.faults;
       disk_faults = o.disk_faults;
     } };
+
+    ghost failing_loads = { λ o. Some (record {
+      next = o.loads;
+      listed = o.failing_loads.items;
+    }) };
+
+    ghost failing_loans = { λ o. Some (record {
+      next = o.calls;
+      listed = o.failing_loans.items;
+    }) };
 
     fn load(&mut self, alloc: Global, name: &str) -> Result<Vec<u8>, Fetch> {
         let call = self.loads;
@@ -202,19 +227,19 @@ impl Outside for MemoryOutside {
     fn disk(&mut self, alloc: Global, name: &str) -> Result<MemDisk, Fetch> {
         let call = self.calls;
         self.calls = call.saturating_add(1);
-        if self.failing_calls.contains(&call) {
+        if is_lent(&self.shelves, name) || self.failing_loans.contains(&call) {
             self.disk_faults = self.disk_faults.saturating_add(1);
             return Err(Fetch::Failed);
+        }
+        if call == u64::MAX {
+            return Err(Fetch::NoMemory);
         }
         let Ok(()) = make_shelf(alloc, &mut self.shelves, name) else {
             return Err(Fetch::NoMemory);
         };
         match lend(alloc, call, &mut self.shelves, name) {
             Some(disk) => Ok(disk),
-            None => {
-                self.disk_faults = self.disk_faults.saturating_add(1);
-                Err(Fetch::Failed)
-            }
+            None => unreachable!("it has a place"),
         }
     }
 

@@ -1,5 +1,5 @@
 //! Where stories and disks come from.
-ghost use Rattle.std.specs.Prelude.{◌≡◌, ◌≤◌, ℕ, List, IsTrue, IfOk, OnErr, IsErrOf};
+ghost use Rattle.std.specs.Prelude.{◌≡◌, ◌≤◌, ℕ, List, IsTrue, IfOk, OnErr, IsErrOf, Option};
 
 use disk_model::Disk;
 use std::alloc::Global;
@@ -15,13 +15,21 @@ pub enum Fetch {
 pub trait Outside {
     ghost use Rattle.storyhost.specs.Causes.{Rose};
     ghost use Rattle.storyhost.specs.Files.{OutsideState, IsFile, KeepsFiles, KeepsDisks};
+    ghost use Rattle.storyhost.specs.Failing.{Failing, FailsAsListed};
     ghost use Rattle.storyhost.specs.Files.{IsLentFrom, IsLent, Lends, TakesBack};
+    ghost use Rattle.storyhost.specs.Files.{is_missing, is_out, has_failed};
 
     /// A disk that it lends.
     type Disk: Disk;
 
     /// What is known of it. The fault counts never fall.
     ghost outside: { Self → OutsideState Self.Disk };
+
+    /// Its loads that are to fail, where it tells them.
+    ghost failing_loads: { Self → Option Failing };
+
+    /// Its calls for a disk that are to fail, where it tells them.
+    ghost failing_loans: { Self → Option Failing };
 
     /// The bytes of the file of that name, at most the first 67,108,865.
     fn load(&mut self, alloc: Global, name: &str) -> Result<Vec<u8>, Fetch>
@@ -31,6 +39,10 @@ pub trait Outside {
         ensures later { (outside self.old).faults ≤ (outside self.new).faults }
         ensures cause { IsErrOf result Fetch.Failed
             → Rose (outside self.old).faults (outside self.new).faults }
+        // A load whose file is told to be missing fails, too.
+        ensures listed { FailsAsListed (failing_loads self.old) (failing_loads self.new)
+            (is_missing ((outside self.old).file name.now)) (has_failed result) }
+        ensures others { failing_loans self.new ≡ failing_loans self.old }
         ensures disks { KeepsDisks (outside self.old) (outside self.new) };
 
     /// Lends the disk of that name, or an empty one where there is none. A disk that is lent
@@ -47,6 +59,10 @@ pub trait Outside {
         ensures later { (outside self.old).disk_faults ≤ (outside self.new).disk_faults }
         ensures cause { IsErrOf result Fetch.Failed
             → Rose (outside self.old).disk_faults (outside self.new).disk_faults }
+        // A call for a disk that is lent already fails, too.
+        ensures listed { FailsAsListed (failing_loans self.old) (failing_loans self.new)
+            (is_out ((outside self.old).loan name.now)) (has_failed result) }
+        ensures others { failing_loads self.new ≡ failing_loads self.old }
         ensures files { KeepsFiles (outside self.old) (outside self.new) };
 
     /// Takes a disk back that it lent under that name.
@@ -54,5 +70,7 @@ pub trait Outside {
         requires { IsLent ((outside self.old).loan name.now) (Self.Disk.label disk) }
         ensures back { TakesBack Self.Disk.faults name.now disk
             (outside self.old) (outside self.new) }
+        ensures loads { failing_loads self.new ≡ failing_loads self.old }
+        ensures loans { failing_loans self.new ≡ failing_loans self.old }
         ensures files { KeepsFiles (outside self.old) (outside self.new) };
 }

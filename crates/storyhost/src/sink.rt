@@ -1,5 +1,5 @@
 //! Where bytes go.
-ghost use Rattle.std.specs.Prelude.{◌≡◌, length};
+ghost use Rattle.std.specs.Prelude.{◌≡◌, length, Option};
 ghost use Rattle.storyhost.specs.declared.sink.Stop.TheVariants.{Memory};
 
 use crate::ended::Ended;
@@ -18,15 +18,21 @@ pub enum Put {
 /// A sink of bytes.
 pub trait Sink {
     ghost use Rattle.storyhost.specs.Causes.{Rose};
-    ghost use Rattle.storyhost.specs.Streams.{SinkState, kept, IsTakenWithin, Wrote};
+    ghost use Rattle.storyhost.specs.Failing.{Failing, FailsOrWants};
+    ghost use Rattle.storyhost.specs.Streams.{SinkState, kept, is_refused, IsTakenWithin, Wrote};
 
     /// What is known of it. The fault count never falls.
     ghost sink: { Self → SinkState };
+
+    /// Its writes that are to fail, where it tells them.
+    ghost failing_writes: { Self → Option Failing };
 
     /// Takes bytes from the front of the piece.
     fn write(&mut self, piece: &[u8]) -> Put
         ensures within { IsTakenWithin result (length piece.now) }
         ensures value { Wrote (sink self.old) (sink self.new) (kept result piece.now) }
+        ensures listed { FailsOrWants (failing_writes self.old) (failing_writes self.new)
+            (is_refused result) }
         ensures cause { result ≡ Put.Failed
             → Rose (sink self.old).faults (sink self.new).faults };
 }

@@ -1,5 +1,5 @@
 //! Where bytes come from.
-ghost use Rattle.std.specs.Prelude.{◌≡◌, ◌<◌, ◌||◌, length};
+ghost use Rattle.std.specs.Prelude.{◌≡◌, ◌<◌, ◌||◌, length, false, Option};
 
 /// What a source answers to a read.
 #[derive(Clone, Copy, Debug, PartialEq, Eq)]
@@ -16,10 +16,15 @@ pub enum Got {
 pub trait Source {
     ghost use Rattle.std.specs.Io.KnownBytes.{IsAtEnd};
     ghost use Rattle.storyhost.specs.Causes.{Rose};
-    ghost use Rattle.storyhost.specs.Streams.{SourceState, given, is_end, IsCountWithin, Gave};
+    ghost use Rattle.storyhost.specs.Failing.{Failing, FailsAsListed};
+    ghost use Rattle.storyhost.specs.Streams.{SourceState, given, is_end, is_failed};
+    ghost use Rattle.storyhost.specs.Streams.{IsCountWithin, Gave};
 
     /// What is known of it. The fault count never falls.
     ghost source: { Self → SourceState };
+
+    /// Its reads that are to fail, where it tells them.
+    ghost failing_reads: { Self → Option Failing };
 
     /// Reads bytes into the front of the buffer.
     fn read(&mut self, into: &mut [u8]) -> Got
@@ -28,6 +33,8 @@ pub trait Source {
         ensures value { Gave (source self.old) (source self.new) (given result into.new) }
         ensures at_end { result ≡ Got.End → IsAtEnd (source self.new).left }
         ensures ended { (source self.new).ended ≡ ((source self.old).ended || is_end result) }
+        ensures listed { FailsAsListed (failing_reads self.old) (failing_reads self.new) false
+            (is_failed result) }
         ensures cause { result ≡ Got.Failed
             → Rose (source self.old).faults (source self.new).faults };
 }

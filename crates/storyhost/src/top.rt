@@ -164,15 +164,28 @@ pub fn top<R: Threads + Wait + Sync, O: Outside, S: Source, K: Sink>(
 
     // and in plain words, for a caller who is told the files, the input and what the output holds
     ensures told { IfSome (asked_by (map string_bytes words.now)) (λ asked.
-        IsSomeAnd (status_of result) (λ status. Tells asked status (O.outside outside.old)
+        IsSomeAnd (status_of result) (λ status. Tells (record {
+          tells = O.Disk.tells;
+          seen = O.Disk.seen;
+          may_leave = O.Disk.may_leave;
+          moment = O.Disk.moment;
+          left_since = O.Disk.left_since;
+          faults = O.Disk.faults;
+          reach = O.Disk.reach;
+          room = O.Disk.room;
+          label = O.Disk.label;
+        }) asked status (O.outside outside.old)
         (S.source input.old) (K.sink output.old) (K.sink output.new))) }
 
-    // the causes of faults, and no file changes
+    // the causes of faults, and no file changes; nothing is written where a disk failed
     ensures read_fault { result ≡ 4
         → Rose (O.outside outside.old).faults (O.outside outside.new).faults
         ⊎ Rose (S.source input.old).faults (S.source input.new).faults }
     ensures write_fault { result ≡ 5
         → Rose (K.sink output.old).faults (K.sink output.new).faults }
+    ensures disk_fault { result ≡ 6
+        → Rose (O.outside outside.old).disk_faults (O.outside outside.new).disk_faults
+        × Wrote (K.sink output.old) (K.sink output.new) [] }
     ensures kept { (O.outside outside.new).file ≡ (O.outside outside.old).file }
 {
     let _ = rt;

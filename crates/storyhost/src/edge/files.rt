@@ -1,9 +1,9 @@
 //! The files of the system.
-ghost use Rattle.std.specs.Prelude.{◌≡◌, ℕ, List, Some, OnOk, OnErr};
+ghost use Rattle.std.specs.Prelude.{◌≡◌, ℕ, List, None, Some, OnOk, OnErr};
 ghost use Rattle.std.specs.Map.{update};
 ghost use Rattle.std.specs.Str.{bytes_eq};
 ghost use Rattle.std.specs.BTreeMap.{get_by_text};
-ghost use Rattle.storyhost.specs.Files.{Told};
+ghost use Rattle.storyhost.specs.Files.{Told, AreBelow};
 
 use crate::loan::Loan;
 use crate::outside::{Fetch, Outside};
@@ -27,6 +27,7 @@ pub struct SystemFiles<'r, R: Files<File = File>> {
     calls: u64,
     faults: u64,
     disk_faults: u64,
+    ghost below: { AreBelow (get_by_text loans) calls },
 }
 
 impl<'r, R: Files<File = File>> SystemFiles<'r, R> {
@@ -42,16 +43,21 @@ impl<'r, R: Files<File = File>> SystemFiles<'r, R> {
 }
 
 /// Opens the file of that name for reading and writing, and makes it, with its folder, where it is
-/// missing.
+/// missing. The folder is synced, so that a stop doesn't take the file out of it.
 fn open_or_make<R: Files<File = File>>(rt: &R, name: &str) -> io::Result<File> {
-    if let Some(folder) = Path::new(name).parent() {
+    let folder = Path::new(name).parent();
+    if let Some(folder) = folder {
         fs::create_dir_all(rt, folder)?;
     }
-    OpenOptions::new()
+    let file = OpenOptions::new()
         .read(true)
         .write(true)
         .create(true)
-        .open(rt, name)
+        .open(rt, name)?;
+    if let Some(folder) = folder {
+        fs::open(rt, folder)?.sync_all()?;
+    }
+    Ok(file)
 }
 
 /// The disk of that name is lent.
@@ -90,6 +96,10 @@ impl<'r, R: Files<File = File>> Outside for SystemFiles<'r, R> {
       disk_faults = o.disk_faults;
     } };
 
+    ghost failing_loads = { λ _. None };
+
+    ghost failing_loans = { λ _. None };
+
     fn load(&mut self, alloc: Global, name: &str) -> Result<Vec<u8>, Fetch> {
         let mut bytes = Vec::new(alloc);
         let error = match fs::open(self.rt, name) {
@@ -123,7 +133,10 @@ impl<'r, R: Files<File = File>> Outside for SystemFiles<'r, R> {
         };
         let mut disk = FileDisk::new(file);
         let label = self.calls;
-        self.calls = label.saturating_add(1);
+        if label == u64::MAX {
+            return Err(Fetch::NoMemory);
+        }
+        self.calls = label + 1;
         disk.set_label(label);
         let loan = Loan {
             label,

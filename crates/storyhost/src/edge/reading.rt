@@ -1,5 +1,5 @@
 //! A source over a reader of std.
-ghost use Rattle.std.specs.Prelude.{◌≡◌, false};
+ghost use Rattle.std.specs.Prelude.{◌≡◌, false, None};
 
 use crate::source::{Got, Source};
 use std::io::Read;
@@ -35,6 +35,8 @@ impl<R: Read + Drop> Source for Reading<R> {
       ended = s.ended;
       faults = s.faults;
     } };
+
+    ghost failing_reads = { λ _. None };
 
     fn read(&mut self, into: &mut [u8]) -> Got {
         match self.inner.read(into) {

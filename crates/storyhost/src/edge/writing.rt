@@ -1,5 +1,5 @@
 //! A sink over a writer of std.
-ghost use Rattle.std.specs.Prelude.{◌≡◌};
+ghost use Rattle.std.specs.Prelude.{◌≡◌, None};
 
 use crate::sink::{Put, Sink};
 use std::io::Write;
@@ -21,6 +21,8 @@ impl<W: Write + Drop> Writing<W> {
 
 impl<W: Write + Drop> Sink for Writing<W> {
     ghost sink = { λ s. record { held = W.contents s.inner; faults = s.faults } };
+
+    ghost failing_writes = { λ _. None };
 
     fn write(&mut self, piece: &[u8]) -> Put {
         if piece.is_empty() {

@@ -44,6 +44,13 @@ fn failing_calls_end_a_run_where_they_come(rt: HostRuntime) -> Result<(), Fail> 
             command: &["check"],
             ..unloaded
         },
+        // a call for a disk
+        Run {
+            loans: &[0],
+            status: 6,
+            text: &[],
+            ..pipe
+        },
         // a write
         unwritten,
         Run {

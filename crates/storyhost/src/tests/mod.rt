@@ -66,7 +66,7 @@ const PROMPT: &[u8] = b"W 1 3 0 0 80 24\nT 1 0 =>\nI 1 line 20 =\n.\n";
 const GO: &[u8] = b"W 1 3 0 0 80 24\nT 1 8 =go%0A\nT 1 0 =go%0A>\nI 1 line 20 =\n.\n";
 
 /// A run: the words before the name of the file, the input, the most bytes of a read or write, the
-/// loads, reads and writes that fail, and what is wanted.
+/// loads, calls for a disk, reads and writes that fail, and what is wanted.
 #[derive(Clone, Copy)]
 struct Run {
     file: File,
@@ -74,6 +74,7 @@ struct Run {
     input: &'static [u8],
     most: usize,
     loads: &'static [u64],
+    loans: &'static [u64],
     reads: &'static [u64],
     writes: &'static [u64],
     status: u8,
@@ -86,6 +87,7 @@ const PLAIN: Run = Run {
     input: b"",
     most: 4096,
     loads: &[],
+    loans: &[],
     reads: &[],
     writes: &[],
     status: 0,
@@ -130,7 +132,12 @@ fn ends_as_wanted<R: Threads + Wait + Sync>(
         words.push(String::from_str(alloc, word)?)?;
     }
     words.push(String::from_str(alloc, "a.ulx")?)?;
-    let mut outside = MemoryOutside::new(alloc, files, run.loads.to_vec(alloc)?);
+    let mut outside = MemoryOutside::new(
+        alloc,
+        files,
+        run.loads.to_vec(alloc)?,
+        run.loans.to_vec(alloc)?,
+    );
     let Some(disk) = new_journal(alloc) else {
         return Ok(false);
     };

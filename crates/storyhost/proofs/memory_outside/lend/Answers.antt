@@ -1,13 +1,10 @@
-use Rattle.std.proofs.Common.{rules, Some, sym, ap, ◌∙◌, ℕ, List, Option}
+use Rattle.std.proofs.Common.{rules, Some, ap, ◌∙◌, ℕ, List, Option}
 use Rattle.std.proofs.lemmas.Map.Text.{btree_map_updates_text}
 use Rattle.std.specs.BTreeMap.{get_by_text}
 use Rattle.std.specs.Map.{update}
-use Rattle.std.specs.Option.{option_and_then}
 use Rattle.std.specs.Str.{bytes_eq}
-use Rattle.disk_model.specs.declared.memory.MemDisk.{MemDisk}
-use Rattle.storyhost.specs.Files.{told_by}
 use Rattle.storyhost.specs.declared.memory_outside.Shelf.{Shelf}
-use Rattle.storyhost.proofs.OutsideLemmas.{part_at, told_part_at, same_at, some_so, none_so}
+use Rattle.storyhost.proofs.OutsideLemmas.{part_at, told_part_at}
 use Rattle.storyhost.proofs.memory_outside.lend.Goals as goal
 
 pub returns-in-Some-clause-disks : goal.returns-in-Some-clause-disks
@@ -16,7 +13,7 @@ returns-in-Some-clause-disks c =
     let old : List ℕ → Option Shelf = get_by_text c.args.shelves.now in
     let new : List ℕ → Option Shelf = get_by_text (c.get_mut.follows.lender c.lend.new.self) in
     let at = btree_map_updates_text name c.args.shelves.now (c.get_mut.follows.lender c.lend.new.self) (Some c.lend.new.self) ((c.get_mut.follows.holds c.lend.new.self).3 (search (rules))) in
-    some_so c.lend.result _ _ (λ (disk : MemDisk) is. told_part_at (λ s. s.disk) old new name _ (λ other. at other ∙ ap (λ (s : Shelf). update bytes_eq old name (Some s) other) is)) c.lend.ensures.some
+    told_part_at (λ s. s.disk) old new name _ (λ other. at other ∙ ap (λ (s : Shelf). update bytes_eq old name (Some s) other) c.lend.ensures.loan)
 
 pub returns-in-Some-clause-loans : goal.returns-in-Some-clause-loans
 returns-in-Some-clause-loans c =
@@ -24,15 +21,4 @@ returns-in-Some-clause-loans c =
     let old : List ℕ → Option Shelf = get_by_text c.args.shelves.now in
     let new : List ℕ → Option Shelf = get_by_text (c.get_mut.follows.lender c.lend.new.self) in
     let at = btree_map_updates_text name c.args.shelves.now (c.get_mut.follows.lender c.lend.new.self) (Some c.lend.new.self) ((c.get_mut.follows.holds c.lend.new.self).3 (search (rules))) in
-    some_so c.lend.result _ _ (λ (disk : MemDisk) is. part_at (λ s. s.loan) old new name _ (λ other. at other ∙ ap (λ (s : Shelf). update bytes_eq old name (Some s) other) is)) c.lend.ensures.some
-
-pub returns-in-Some-clause-none : goal.returns-in-Some-clause-none
-returns-in-Some-clause-none c =
-    let name : List ℕ = c.args.name.now in
-    let old : List ℕ → Option Shelf = get_by_text c.args.shelves.now in
-    let new : List ℕ → Option Shelf = get_by_text (c.get_mut.follows.lender c.lend.new.self) in
-    let at = btree_map_updates_text name c.args.shelves.now (c.get_mut.follows.lender c.lend.new.self) (Some c.lend.new.self) ((c.get_mut.follows.holds c.lend.new.self).3 (search (rules))) in
-    none_so c.lend.result _ _ (λ is.
-    let same = same_at old new name c.in-Some.shelf.now (λ other. at other ∙ ap (λ (s : Shelf). update bytes_eq old name (Some s) other) is) (sym c.in-Some.ensures.value) in
-    λ other. (ap (λ (s : Option Shelf). told_by (option_and_then (λ x. x.disk) s)) (same other), ap (λ (s : Option Shelf). option_and_then (λ x. x.loan) s) (same other)))
-    c.lend.ensures.none
+    part_at (λ s. s.loan) old new name _ (λ other. at other ∙ ap (λ (s : Shelf). update bytes_eq old name (Some s) other) c.lend.ensures.loan)

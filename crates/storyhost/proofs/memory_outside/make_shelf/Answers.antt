@@ -1,15 +1,18 @@
-use Rattle.std.proofs.Common.{Some, None, ◌≡◌, refl, sym, ap, ◌∙◌, ℕ, List, string_bytes}
+use Rattle.std.proofs.Common.{Some, None, ◌≡◌, refl, sym, ap, ◌∙◌, ℕ, List, string_bytes, is_some}
 use Rattle.std.proofs.lemmas.Map.Text.{btree_map_updates_text}
 use Rattle.std.specs.BTreeMap.{get_by_text}
 use Rattle.std.specs.Map.{update}
 use Rattle.std.specs.Str.{bytes_eq}
 use Rattle.storyhost.specs.Files.{told_by}
 use Rattle.storyhost.specs.declared.memory_outside.Shelf.{Shelf}
-use Rattle.storyhost.proofs.OutsideLemmas.{no_part_at, none_copied}
+use Rattle.storyhost.proofs.OutsideLemmas.{no_part_at, none_copied, some_copied, stands_at}
 use Rattle.storyhost.proofs.memory_outside.make_shelf.Goals as goal
 
-pub returns : goal.returns
-returns c =
+pub returns-then-is_some-clause-there : goal.returns-then-is_some-clause-there
+returns-then-is_some-clause-there c = some_copied c.get.result _ c.get.ensures.value (sym c.is_some.ensures ∙ c.if-is_some.true)
+
+pub returns-clause-kept : goal.returns-clause-kept
+returns-clause-kept c =
     let name : List ℕ = c.args.name.now in
     let same : string_bytes c.in_ok-name.name ≡ name = c.in_ok-name.ensures.ok in
     let absent : get_by_text c.args.shelves.now name ≡ None = none_copied c.get.result _ c.get.ensures.value (sym c.is_some.ensures ∙ c.if-is_some.false) in
@@ -21,3 +24,12 @@ returns c =
       ap told_by (no_part_at (λ s. s.disk) (get_by_text c.args.shelves.now) (get_by_text c.insert.new.self) name now at refl absent other),
       no_part_at (λ s. s.loan) (get_by_text c.args.shelves.now) (get_by_text c.insert.new.self) name now at refl absent other,
     )
+
+pub returns-clause-there : goal.returns-clause-there
+returns-clause-there c =
+    let name : List ℕ = c.args.name.now in
+    let same : string_bytes c.in_ok-name.name ≡ name = c.in_ok-name.ensures.ok in
+    let now : Shelf = record { disk = None; loan = None } in
+    ap is_some (stands_at (get_by_text c.args.shelves.now) (get_by_text c.insert.new.self) name now
+    (λ other. btree_map_updates_text (string_bytes c.in_ok-name.name) c.args.shelves.now c.insert.new.self (Some now) c.in_ok-insert.ensures.updates other
+    ∙ ap (λ (n : List ℕ). update bytes_eq (get_by_text c.args.shelves.now) n (Some now) other) same))

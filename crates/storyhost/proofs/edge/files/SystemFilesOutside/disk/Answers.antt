@@ -4,7 +4,7 @@ use Rattle.std.specs.Map.{update}
 use Rattle.std.specs.Str.{bytes_eq}
 use Rattle.storyhost.specs.Files.{Missing}
 use Rattle.storyhost.specs.declared.loan.Loan.{Loan}
-use Rattle.storyhost.proofs.OutsideLemmas.{untold_at}
+use Rattle.storyhost.proofs.OutsideLemmas.{own_label, untold_at}
 use Rattle.storyhost.proofs.edge.files.SystemFilesOutside.disk.Goals as goal
 
 pub returns-in-Ok-note-clause-ok : goal.returns-in-Ok-note-clause-ok
@@ -17,4 +17,5 @@ returns-in-Ok-note-clause-ok g c =
           ∙ ap (λ (n : ℕ). update bytes_eq (get_by_text c.args.self.now.loans) name (Some (loan c.args.self.now.calls n)) other) c.faults.ensures.value
           ∙ ap (λ (n : ℕ). update bytes_eq (get_by_text c.args.self.now.loans) name (Some (loan n c.set_label.new.self.faults)) other) (sym c.set_label.ensures.value);
       count = refl;
+      own = λ other one apart is. own_label (get_by_text c.args.self.now.loans) c.args.self.now.calls c.set_label.new.self.label c.args.self.now.below c.set_label.ensures.value other one is;
     }
