@@ -248,7 +248,7 @@ class Pipe:
 
 
 class Address:
-    """A host that answers at an address; where it is gone, it is waited for."""
+    """A host that answers at an address; where it is gone, it is waited for, a minute."""
 
     def __init__(self, address):
         host, _, port = address.rpartition(":")
@@ -256,12 +256,13 @@ class Address:
         self.socket = None
 
     def begin(self):
-        for _ in range(120):
+        tries = 120 if self.socket else 1
+        for more in reversed(range(tries)):
             try:
                 self.socket = socket.create_connection(self.address)
                 return self.socket.makefile("wb"), self.socket.makefile("rb")
             except ConnectionError:
-                time.sleep(0.5)
+                time.sleep(0.5 if more else 0)
         raise SystemExit("play.py: no host answers at {}:{}".format(*self.address))
 
     def end(self):
