@@ -1,10 +1,15 @@
 #!/usr/bin/env python3
-"""Accepted inputs a second of `pipe` on the Echo story, beside a loop that makes the same two writes
-and two syncs an input on the same file system. Both take turns in one run; each figure is the best of
-its rounds.
+"""What a host's journal costs.
+
+Accepted inputs a second of `pipe` on the Echo story, beside a loop that makes the same two writes and
+two syncs an input on the same file system. Both take turns in one run; each figure is the best of its
+rounds. Then journals of as many rows as there may be, 64 sessions of 8,192 each, with short lines and
+with lines of 1,024 characters: how long `pipe` takes to open it, and what memory it then holds besides
+what it holds over an empty one.
 
     bench/journal.py [INPUTS] [FOLDER]"""
 
+import hashlib
 import os
 import pathlib
 import subprocess
@@ -30,13 +35,16 @@ def served(folder, inputs):
     lines = b"OPEN 0 k 0 7 80 24\n" + b"".join(
         b"LINE 0 k %d 1 =go\n" % n for n in range(1, inputs + 1)
     )
-    began = time.perf_counter()
-    ran = subprocess.run(
-        [PROGRAM, "pipe", folder / "d", folder / "echo.ulx"], input=lines, capture_output=True
-    )
-    seconds = time.perf_counter() - began
-    if ran.stdout.count(b"SHOW 0 ") != inputs + 1:
-        raise SystemExit("bench: not every input was accepted")
+    # Input and output in memory, so that no other process takes part.
+    with tempfile.TemporaryFile(dir="/dev/shm") as given, tempfile.TemporaryFile(dir="/dev/shm") as told:
+        given.write(lines)
+        given.seek(0)
+        began = time.perf_counter()
+        subprocess.run([PROGRAM, "pipe", folder / "d", folder / "echo.ulx"], stdin=given, stdout=told)
+        seconds = time.perf_counter() - began
+        told.seek(0)
+        if told.read().count(b"SHOW 0 ") != inputs + 1:
+            raise SystemExit("bench: not every input was accepted")
     return seconds
 
 
@@ -48,13 +56,47 @@ def written(folder, inputs):
     began = time.perf_counter()
     for _ in range(inputs):
         os.pwrite(file, row, end + 1)
-        os.fsync(file)
+        os.fdatasync(file)
         os.pwrite(file, b"\1", end)
-        os.fsync(file)
+        os.fdatasync(file)
         end += len(row)
     seconds = time.perf_counter() - began
     os.close(file)
     return seconds
+
+
+def longest(text):
+    """The bytes of a journal of as many rows as may be: in each session an OPEN, and this line."""
+    opening = (b"\1k\0\0" + hashlib.sha256(echo_story()).digest() + (7).to_bytes(8, "big") + bytes([80, 24])
+               + (50_000_000).to_bytes(8, "big"))
+    line = (1).to_bytes(4, "big") + bytes(4) + text
+    journal = bytearray(bytes.fromhex("5354484A00000001") + bytes(8))
+    for row in range(8192):
+        kind, payload = (2, line) if row else (1, opening)
+        for session in range(64):
+            journal += bytes([1, session, kind]) + len(payload).to_bytes(2, "big") + payload
+    return bytes(journal + b"\0")
+
+
+def opened(room, journal):
+    """Seconds that `pipe` takes to open this journal, and kilobytes that it holds."""
+    folder = room / f"d{len(journal)}"
+    folder.mkdir()
+    (folder / "journal").write_bytes(journal)
+    (room / "echo.ulx").write_bytes(echo_story())
+    began = time.perf_counter()
+    process = subprocess.Popen([PROGRAM, "pipe", folder, room / "echo.ulx"], stdin=subprocess.PIPE,
+                               stdout=subprocess.PIPE)
+    process.stdin.write(b"LAST 0 no\n")
+    process.stdin.flush()
+    if process.stdout.readline() != b"NO 2\n":
+        raise SystemExit("bench: the journal is refused")
+    seconds = time.perf_counter() - began
+    with open(f"/proc/{process.pid}/status") as file:
+        peak = next(int(line.split()[1]) for line in file if line.startswith("VmHWM"))
+    process.stdin.close()
+    process.wait()
+    return seconds, peak
 
 
 def main():
@@ -69,6 +111,15 @@ def main():
     print(f"| two writes and two syncs | {inputs / min(plain):,.0f} |")
     print(f"| `pipe` on the Echo story | {inputs / min(host):,.0f} |")
     print(f"\nratio {min(plain) / min(host):.2f}, {inputs:,} inputs, best of {ROUNDS} rounds each")
+    print("\n| Journal | MB | seconds | memory, MB | times its size |\n|---|---|---|---|---|")
+    for text in (b"take all from cupboard", b"x" * 1024):
+        with tempfile.TemporaryDirectory(prefix="journal-", dir=above) as room:
+            journal = longest(text)
+            _, empty = opened(pathlib.Path(room), journal[:16] + b"\0")
+            seconds, peak = opened(pathlib.Path(room), journal)
+        size, taken = len(journal) / 2**20, (peak - empty) / 1024
+        print(f"| 524,288 rows, lines of {len(text):,} characters | {size:.1f} | {seconds:.2f} "
+              f"| {taken:.1f} | {taken / size:.1f} |")
 
 
 main()

@@ -65,7 +65,7 @@ def in_glulxe(row, program):
         other = Glulxe(os.path.join(STORIES, row.story), folder, program)
         for move in row.moves:
             other.program.send(move + "\r")
-            other.program.settle(0.002)
+            other.program.settle()
         text, peak = solid("".join(other.program.screen.region(0, 1, 80, 23))), other.program.peak()
         for word in ("quit\r", "yes\r"):
             if not other.message().startswith("Hit any key"):

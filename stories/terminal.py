@@ -88,6 +88,12 @@ class Screen:
         return ["".join(row[x : x + width]) for row in self.cells[y : y + height]]
 
 
+# The kernel's call for the number of a terminal (termios has no name for it).
+NUMBER_OF_TERMINAL = 0x80045430
+# The calls in which a program waits for its terminal: poll, select, pselect6, ppoll; and a read of it.
+WAITING, READ, INPUT = {"7", "23", "270", "271"}, "0", "0x0"
+
+
 class Program:
     """A program with a terminal of this size, begun in this folder."""
 
@@ -99,13 +105,29 @@ class Program:
             os.environ.update(TERM="vt52", LANG="C.UTF-8", LC_ALL="C.UTF-8")
             os.execvp(words[0], words)
         fcntl.ioctl(self.end, termios.TIOCSWINSZ, struct.pack("HHHH", rows, columns, 0, 0))
+        number = struct.unpack("i", fcntl.ioctl(self.end, NUMBER_OF_TERMINAL, bytes(4)))[0]
+        self.typed = os.open(f"/dev/pts/{number}", os.O_RDWR | os.O_NOCTTY)
         self.over = False
         self.usage = None
+        self.wanted = 0     # bytes that it has read in all once it has taken what was typed
 
-    def state(self):
-        """The kernel's letter for what the program does: S is asleep, Z is over."""
+    def has_read(self):
+        """How many bytes the program has read, from its terminal and from files."""
+        with open(f"/proc/{self.number}/io") as file:
+            return int(file.readline().split()[1])
+
+    def is_waiting(self):
+        """Whether the program has taken all that was typed, and waits for more."""
+        unread = struct.unpack("i", fcntl.ioctl(self.typed, termios.FIONREAD, bytes(4)))[0]
+        if unread or self.has_read() < self.wanted:
+            return False
+        with open(f"/proc/{self.number}/syscall") as file:
+            call, *given = file.read().split()
+        return call in WAITING or call == READ and given[0] == INPUT
+
+    def is_gone(self):
         with open(f"/proc/{self.number}/stat") as file:
-            return file.read().rpartition(")")[2].split()[0]
+            return file.read().rpartition(")")[2].split()[0] == "Z"
 
     def read(self, seconds):
         """Reads what comes within this time; says whether something came."""
@@ -121,22 +143,29 @@ class Program:
         self.screen.feed(data)
         return True
 
-    def settle(self, pause=0.01):
-        """Reads until the program sleeps and has nothing more to say, or is over."""
-        still = 0
-        while not self.over and still < 3:
-            asleep = self.state() in "SZ"
-            still = 0 if self.read(pause) or not asleep else still + 1
+    def settle(self):
+        """Reads until the program waits for more and has nothing more to say, or is over."""
+        while not self.over:
+            waiting, gone = self.is_waiting(), self.is_gone()
+            if self.read(0 if waiting or gone else 0.002):
+                continue
+            if gone:
+                self.finish()
+            elif waiting:
+                return
 
     def send(self, text):
         if not self.over:
-            os.write(self.end, text.encode())
+            data = text.encode()
+            self.wanted = self.has_read() + len(data)
+            os.write(self.end, data)
 
     def finish(self):
         """Waits for the end, and keeps what the program used."""
         if not self.over:
             self.over = True
             os.close(self.end)
+            os.close(self.typed)
             self.usage = os.wait4(self.number, 0)[2]
 
     def peak(self):

@@ -1,5 +1,6 @@
 pub mod VerdictLemmas
 pub mod LawLemmas
+pub mod GameLemmas
 pub mod HeldLemmas
 pub mod JournalLemmas
 pub mod RunLemmas

@@ -1,7 +1,7 @@
 -- A desk: one session with its commands, and the world that it keeps warm (own).
 use Rattle.std.specs.Prelude.{◌≡◌, ℕ, ◌<◌, ◌≤◌, Bool, true, false, ◌&&◌}
 use Rattle.std.specs.Prelude.{if◌then◌else◌, IsTrue}
-use Rattle.std.specs.Prelude.{List, [], ◌∷◌, ◌++◌, length, Option, Some, None, is_none}
+use Rattle.std.specs.Prelude.{List, [], ◌∷◌, ◌++◌, length, drop, Option, Some, None, is_none}
 use Rattle.gate_journal.specs.declared.command.Command.{Command}
 use Rattle.gate_journal.specs.declared.command.Command.TheVariants as commands
 use Rattle.line_words.specs.declared.request.Request.{Request}
@@ -63,6 +63,10 @@ pub record IsDesk (desk : DeskState) : Type 0 where
   pub numbered : desk.session < 64
   pub within : length desk.commands ≤ 8192
   pub holds : Holds desk.stories (game desk) desk.held
+
+-- the last game begins at this place, or at the end where there is none
+abbrev pub BeginsAt : ℕ → List Command → Type 0
+BeginsAt place commands = (place ≤ length commands) × (drop place commands ≡ game_of commands)
 
 -- this world is held, if there is one
 abbrev pub holding : Option WorldState → Held

@@ -10,7 +10,7 @@ use crate::verdict::Verdict;
 use crate::wanted::story_refusal;
 use gate_journal::Command;
 use line_words::{No, Request};
-use session_core::{MAX_COMMANDS, game_of, is_fresh, is_in_use};
+use session_core::{MAX_COMMANDS, is_fresh, is_in_use};
 use std::alloc::Global;
 use story_run::{Story, World};
 
@@ -21,21 +21,25 @@ fn is_to_story(game: &[Command], request: &Request) -> bool
     is_in_use(game) && !matches!(request, Request::Close { .. })
 }
 
-/// The verdict on a request that no check without the world refuses, where the world is held.
+/// The verdict on a request that no check without the world refuses, where the world is held, which
+/// has played the last OPEN and the commands since.
 pub fn in_world(
     alloc: Global,
     stories: &[Story],
     commands: &[Command],
+    played: &[Command],
     world: &World,
     request: &Request,
 ) -> Verdict
     requires within { length commands.now ≤ 8192 }
+    requires played { played.now ≡ game_of commands.now }
+    requires short { length played.now ≤ 8192 }
     requires world { world_of stories.now (game_of commands.now) ≡ Some world.now }
     requires plain { first_of (plain_checks stories.now (game_of commands.now) request.now)
         ≡ None }
     ensures { result ≡ foretold stories.now commands.now request.now }
 {
-    if !is_fresh(game_of(commands), request) {
+    if !is_fresh(played, request) {
         return Verdict::Again;
     }
     if let Some(why) = story_refusal(alloc, world, request) {
@@ -48,14 +52,20 @@ pub fn in_world(
 }
 
 /// The same where no world is held.
-pub fn in_no_world(stories: &[Story], commands: &[Command], request: &Request) -> Verdict
+pub fn in_no_world(
+    stories: &[Story],
+    commands: &[Command],
+    game: &[Command],
+    request: &Request,
+) -> Verdict
     requires within { length commands.now ≤ 8192 }
+    requires game { game.now ≡ game_of commands.now }
+    requires short { length game.now ≤ 8192 }
     requires plain { first_of (plain_checks stories.now (game_of commands.now) request.now)
         ≡ None }
     ensures { result ≡ (if is_to_story (game_of commands.now) request.now then Cold
         else foretold stories.now commands.now request.now) }
 {
-    let game = game_of(commands);
     if is_to_story(game, request) {
         return Verdict::Cold;
     }

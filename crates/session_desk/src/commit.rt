@@ -8,10 +8,11 @@ ghost use Rattle.gate_journal.specs.Command.{IsCommand};
 ghost use Rattle.gate_journal.specs.Log.{rows_of, next_row};
 ghost use Rattle.gate_journal.specs.Rows.{MayStand, spelled};
 ghost use Rattle.session_core.specs.Checks.{command_of};
-ghost use Rattle.session_desk.specs.Desk.{aside};
+ghost use Rattle.session_desk.specs.Desk.{aside, BeginsAt};
 ghost use Rattle.session_desk.specs.Commit.{Extends, HasDigest, IsInRange, Leaves};
 ghost use Rattle.session_desk.specs.Commit.{LeavesGate, Stops, WhereBegun};
 
+use crate::game::begins_with;
 use crate::held::{Held, aside};
 use crate::refused::Refused;
 use disk_model::Disk;
@@ -84,12 +85,20 @@ pub fn write_down<D: Disk>(
 }
 
 /// Takes a command down, for which there is room.
-pub fn take_down(commands: &mut Vec<Command>, held: &mut Held<'_>, command: Command)
-    requires { vec_len commands.old < vec_capacity commands.old }
+pub fn take_down(
+    commands: &mut Vec<Command>,
+    begins: &mut usize,
+    held: &mut Held<'_>,
+    command: Command,
+)
+    requires room { vec_len commands.old < vec_capacity commands.old }
+    requires begins { BeginsAt begins.old commands.old.items }
     ensures commands { commands.new.items ≡ commands.old.items ++ command ∷ [] }
+    ensures begins { BeginsAt begins.new commands.new.items }
     ensures held { held.new ≡ aside command held.old }
 {
     let before = mem::replace(held, Held::Nothing);
     *held = aside(&command, before);
+    *begins = begins_with(commands, *begins, &command);
     let _ = commands.push(command);
 }

@@ -20,6 +20,7 @@ ghost use Rattle.session_desk.specs.Commit.{Stops, WhereBegun};
 
 use crate::check::{in_no_world, in_world};
 use crate::commit::{asked, take_down, write_down};
+use crate::game::{begins_of, begins_with, game_at};
 use crate::held::{Held, ran, warmed};
 use crate::refused::Refused;
 use crate::rows::commands_of;
@@ -27,7 +28,7 @@ use crate::verdict::Verdict;
 use disk_model::Disk;
 use gate_journal::{Command, Journal, Row};
 use line_words::Request;
-use session_core::{game_of, is_in_use, plain_refusal, shown_number};
+use session_core::{is_in_use, plain_refusal, shown_number};
 use std::alloc::{AllocError, Global};
 use std::marker::Model;
 use std::mem;
@@ -43,11 +44,13 @@ pub struct Desk<'i> {
     stories: &'i [Story<'i>],
     budget: u64,
     commands: Vec<Command>,
+    // where the last game begins
+    begins: usize,
     held: Held<'i>,
 }
 
 impl<'i> Model for Desk<'i> {
-    ghost use Rattle.session_desk.specs.Desk.{DeskState, IsDesk};
+    ghost use Rattle.session_desk.specs.Desk.{BeginsAt, DeskState, IsDesk};
 
     ghost Value = { DeskState };
 
@@ -65,7 +68,7 @@ impl<'i> Model for Desk<'i> {
       budget = d.budget;
       commands = d.commands.items;
       held = d.held;
-    }) };
+    }) × BeginsAt d.begins d.commands.items };
 }
 
 impl<'i> Desk<'i> {
@@ -85,12 +88,14 @@ impl<'i> Desk<'i> {
             ≡ opened session stories.now budget (commands_of rows.now session)) }
     {
         let commands = commands_of(alloc, rows, session)?;
+        let begins = begins_of(&commands);
         Ok(Desk {
             alloc,
             session,
             stories,
             budget,
             commands,
+            begins,
             held: Held::Nothing,
         })
     }
@@ -103,7 +108,9 @@ impl<'i> Desk<'i> {
         ensures err { OnErr result (self.new ≡ emptied self.old) }
     {
         self.held = Held::Nothing;
+        let begins = begins_with(&self.commands, self.begins, &command);
         self.commands.push(command)?;
+        self.begins = begins;
         Ok(())
     }
 
@@ -120,12 +127,17 @@ impl<'i> Desk<'i> {
         ensures cold { result ≡ Cold → IsTrue (is_cold self.now) }
     {
         let commands = self.commands.as_slice();
-        if let Some(why) = plain_refusal(self.stories, game_of(commands), request) {
+        let game = game_at(commands, self.begins);
+        if let Some(why) = plain_refusal(self.stories, game, request) {
             return Verdict::Refuse(why);
         }
         match &self.held {
-            Held::Current(world) => in_world(self.alloc, self.stories, commands, world, request),
-            Held::Nothing | Held::Previous(_) => in_no_world(self.stories, commands, request),
+            Held::Current(world) => {
+                in_world(self.alloc, self.stories, commands, game, world, request)
+            }
+            Held::Nothing | Held::Previous(_) => {
+                in_no_world(self.stories, commands, game, request)
+            }
         }
     }
 
@@ -137,7 +149,7 @@ impl<'i> Desk<'i> {
             (steps.new ≡ steps.old + turns_of self.old.stories (game self.old)) }
         ensures err { OnErr result (self.new ≡ self.old) }
     {
-        self.held = warmed(alloc, self.stories, game_of(&self.commands), steps)?;
+        self.held = warmed(alloc, self.stories, game_at(&self.commands, self.begins), steps)?;
         Ok(())
     }
 
@@ -188,7 +200,7 @@ impl<'i> Desk<'i> {
         let _count = journal.row_count();
         match write_down(alloc, journal, self.session, &command) {
             Ok(()) => {
-                take_down(&mut self.commands, &mut self.held, command);
+                take_down(&mut self.commands, &mut self.begins, &mut self.held, command);
                 Ok(())
             }
             Err(why) => Err(why),
@@ -204,7 +216,7 @@ impl<'i> Desk<'i> {
         ensures err { OnErr result (self.new ≡ emptied self.old) }
     {
         let held = mem::replace(&mut self.held, Held::Nothing);
-        self.held = ran(alloc, self.stories, game_of(&self.commands), held)?;
+        self.held = ran(alloc, self.stories, game_at(&self.commands, self.begins), held)?;
         Ok(())
     }
 
@@ -215,7 +227,7 @@ impl<'i> Desk<'i> {
             (λ show. is_cold self.now ≡ false) }
         ensures value { MatchOption result ⊤ (λ show. show.now ≡ last_show self.now) }
     {
-        let game = game_of(&self.commands);
+        let game = game_at(&self.commands, self.begins);
         match &self.held {
             Held::Current(world) => Some(world.last()),
             _ if is_in_use(game) => None,
@@ -229,6 +241,6 @@ impl<'i> Desk<'i> {
     pub fn number(&self, request: &Request) -> u32
         ensures value { result ≡ shown_number (game self.now) request.now }
     {
-        shown_number(game_of(&self.commands), request)
+        shown_number(game_at(&self.commands, self.begins), request)
     }
 }

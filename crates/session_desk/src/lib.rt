@@ -6,6 +6,7 @@ mod check;
 mod commit;
 mod desk;
 mod desks;
+mod game;
 mod held;
 mod laws;
 mod refused;

@@ -15,6 +15,7 @@ pub mod Conversation
 pub mod Lines
 pub mod CommandLine
 pub mod Help
+pub mod Complaint
 pub mod Words
 pub mod Status
 pub mod Follows

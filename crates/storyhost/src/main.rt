@@ -5,6 +5,7 @@ mod answers;
 mod check;
 mod command;
 mod command_line;
+mod complaint;
 mod converse;
 mod edge;
 mod ended;
@@ -40,17 +41,27 @@ use status::Status;
 use std::process::ExitCode;
 use std::{env, io};
 
+/// Tells standard error why the program ends so, where it isn't done.
+fn exit_with(rt: &HostRuntime, code: u8) -> ExitCode {
+    let text = complaint::complaint_of(code);
+    if !text.is_empty() {
+        // Where standard error fails, too, nobody is left to be told.
+        let _ = rt.eprintln(text);
+    }
+    ExitCode::from(code)
+}
+
 fn main(rt: HostRuntime) -> ExitCode {
     let alloc = rt.alloc();
     let Ok(arguments) = env::args(&rt) else {
-        return ExitCode::from(Status::BadWords.code());
+        return exit_with(&rt, Status::BadWords.code());
     };
     let Ok(words) = arguments.skip(1).collect::<Vec<String>>(alloc) else {
-        return ExitCode::from(Status::NoMemory.code());
+        return exit_with(&rt, Status::NoMemory.code());
     };
     let mut outside = SystemFiles::new(alloc, &rt);
     let mut input = Reading::new(rt.reader());
     let mut output = Writing::new(io::writer(&rt));
     let code = top::top(&rt, alloc, &words, &mut outside, &mut input, &mut output);
-    ExitCode::from(code)
+    exit_with(&rt, code)
 }

@@ -5,7 +5,7 @@ use Rattle.session_desk.proofs.desk.Desk.last.Goals as goal
 
 pub returns-in-Current-clause-value : goal.returns-in-Current-clause-value
 returns-in-Current-clause-value c =
-    let holds = rw c.in-Current.is at c.self.invariant.holds in
+    let holds = rw c.in-Current.is at c.self.invariant.0.holds in
     rw (← c.self.view_is)
     (c.last.ensures.value ∙ shown-held c.self.inside.stories.now (game_of c.self.inside.commands.items) c.in-Current.world holds)
 
