@@ -21,6 +21,14 @@ use Rattle.vm_operand.specs.declared.fault.OpFault.{OpFault}
 use Rattle.vm_operand.specs.declared.fault.OpFault.TheVariants.{Read, BadOpcode, Unsupported}
 use Rattle.vm_operand.specs.declared.fault.OpFault.TheVariants.{BadMode, DivideByZero}
 use Rattle.vm_operand.specs.declared.fault.OpFault.TheVariants.{DivideOverflow}
+use Rattle.vm_operand.specs.Spelling.{spelled}
+use Rattle.vm_operand.specs.Spelling.Operand.{Load as OLoad, Store as OStore}
+use Rattle.vm_operand.specs.declared.opcode.Op.TheVariants as op
+use Rattle.vm_operand.specs.declared.opcode.Flow.TheVariants.{Catch}
+use Rattle.vm_operand.specs.declared.opcode.Move.TheVariants.{Copyb}
+use Rattle.vm_operand.specs.declared.opcode.System.TheVariants.{Glk}
+use Rattle.vm_operand.specs.declared.mode.Mode.TheVariants as mode
+use Rattle.vm_operand.specs.declared.mode.Width.TheVariants as width
 
 -- the instruction that begins a memory of these bytes, where RAMSTART is 0x100
 abbrev first : List ℕ → Result Instr OpFault
@@ -111,3 +119,36 @@ signed_and_unsigned = refl
 -- four loads and a store are in brief
 pub in_brief : IsBrief (kind.Load ∷ kind.Load ∷ kind.Load ∷ kind.Load ∷ kind.Store ∷ [])
 in_brief = record { some = omega arith; few = omega arith; one = omega arith; order = refl }
+
+-- the same three instructions in writing: `glk 0x23 5 -> sp`, `copyb -1 -> sp` and `catch`
+pub glk_spelled :
+    spelled (record {
+      op = op.System Glk;
+      width = width.Two;
+      operands =
+          OLoad (mode.Constant width.One) 0x23 ∷ OLoad (mode.Constant width.One) 5
+          ∷ OStore mode.Stack 0 ∷ [];
+      spare = 0;
+    })
+    ≡ 0x81 ∷ 0x30 ∷ 0x11 ∷ 0x08 ∷ 0x23 ∷ 0x05 ∷ []
+glk_spelled = refl
+
+pub copyb_spelled :
+    spelled (record {
+      op = op.Move Copyb;
+      width = width.Four;
+      operands = OLoad (mode.Constant width.One) 0xFF ∷ OStore mode.Stack 0 ∷ [];
+      spare = 0;
+    })
+    ≡ 0xC0 ∷ 0x00 ∷ 0x00 ∷ 0x42 ∷ 0x81 ∷ 0xFF ∷ []
+copyb_spelled = refl
+
+pub catch_spelled :
+    spelled (record {
+      op = op.Flow Catch;
+      width = width.One;
+      operands = OStore (mode.Ram width.One) 4 ∷ OLoad mode.Stack 0 ∷ [];
+      spare = 0;
+    })
+    ≡ 0x32 ∷ 0x8D ∷ 0x04 ∷ []
+catch_spelled = refl
