@@ -1,5 +1,6 @@
 -- Looking for a number in a table.
-use Rattle.std.proofs.Common.{◌≡◌, ◌≢◌, true, false, cond, nat_eq, ℕ, Option, Some, None, refl, sym, List, [], ◌∷◌}
+use Rattle.std.proofs.Common.{◌≡◌, ◌≢◌, true, false, cond, nat_eq, ℕ, Option, Some, None, refl, sym}
+use Rattle.std.proofs.Common.{List, [], ◌∷◌}
 use Rattle.std.specs.Prelude.{IfSome}
 use Rattle.vm_operand.specs.Opcode.{op_of, opcodes, number_of, first_with}
 use Rattle.vm_operand.specs.declared.opcode.Op.{Op}
@@ -17,8 +18,12 @@ use Rattle.vm_operand.specs.declared.opcode.Search.TheVariants.{Linearsearch}
 use Rattle.std.proofs.lemmas.Bool.{eqb-true}
 
 -- a row of another number is passed over
-pub passed : {A : Type 0} (n k : ℕ) (x : A) (rest : Option A) → n ≢ k → None ≡ rest → None ≡ cond (nat_eq n k) (Some x) rest
-passed n k x rest other h = elim (nat_eq n k) as (λ b. (b ≡ true → n ≡ k) → None ≡ cond b (Some x) rest) [ true ↦ (λ e. absurd (other (e refl))) | false ↦ (λ e. h) ] (eqb-true n k)
+pub passed : {A : Type 0} (n k : ℕ) (x : A) (rest : Option A) → n ≢ k → None ≡ rest
+    → None ≡ cond (nat_eq n k) (Some x) rest
+passed n k x rest other h =
+    elim (nat_eq n k) as (λ b. (b ≡ true → n ≡ k)
+    → None ≡ cond b (Some x) rest) [ true ↦ (λ e. absurd (other (e refl))) | false ↦ (λ e. h) ]
+    (eqb-true n k)
 
 -- the number of a row leads back to it
 pub op_of-number_of : (o : Op) → op_of (number_of o) ≡ Some o
@@ -45,11 +50,14 @@ op_of-number_of (op.Search Linearsearch) = refl
 op_of-number_of (op.Search o) = refl
 
 -- a row that is found has the number
-pub first_with-number : {A : Type 0} (number : A → ℕ) (xs : List A) (n : ℕ) → IfSome (first_with number xs n) (λ x. number x ≡ n)
+pub first_with-number : {A : Type 0} (number : A → ℕ) (xs : List A) (n : ℕ)
+    → IfSome (first_with number xs n) (λ x. number x ≡ n)
 first_with-number number [] n = tt
 first_with-number number (x ∷ xs) n =
-    elim (nat_eq n (number x)) as (λ b. (b ≡ true → n ≡ number x) → IfSome (cond b (Some x) (first_with number xs n)) (λ y. number y ≡ n))
-    [ true ↦ (λ e. sym (e refl)) | false ↦ (λ e. first_with-number number xs n) ] (eqb-true n (number x))
+    elim (nat_eq n (number x)) as (λ b. (b ≡ true → n ≡ number x)
+    → IfSome (cond b (Some x) (first_with number xs n)) (λ y. number y ≡ n))
+    [ true ↦ (λ e. sym (e refl)) | false ↦ (λ e. first_with-number number xs n) ]
+    (eqb-true n (number x))
 
 pub number_of-op_of : (n : ℕ) → IfSome (op_of n) (λ o. number_of o ≡ n)
 unfolding op_of

@@ -1,6 +1,8 @@
--- The bytes of modes and operands, and what is read there.
-use Rattle.std.proofs.Common.{arith, ◌≡◌, ◌∙◌, refl, sym, ap, subst, ℕ, suc, ◌+◌, ◌-◌, ◌*◌, ◌/◌, ◌%◌, ◌^◌, ◌<◌, ◌≤◌, Bool, true, false, cond, List, [], ◌∷◌, ◌++◌, length, map, replicate, set, Option, Some, None, Result, Ok, Err, append_assoc, append-nil, length-append}
-use Rattle.std.specs.Prelude.{IfSome}
+-- The bytes of operands, and what is read there.
+use Rattle.std.proofs.Common.{arith, ◌≡◌, ◌∙◌, refl, sym, ap, subst, ℕ, suc, ◌+◌, ◌-◌}
+use Rattle.std.proofs.Common.{◌^◌, ◌<◌, ◌≤◌, true, List, [], ◌∷◌, ◌++◌}
+use Rattle.std.proofs.Common.{length, map, replicate, set, Result, Ok}
+use Rattle.std.proofs.Common.{append_assoc, append-nil, length-append}
 use Rattle.std.proofs.lemmas.List.Elements.{All-head, All-tail, All-cons, All-nil}
 use Rattle.std.proofs.Math.Seq.{set-append_seam}
 use Rattle.std.specs.List.{All}
@@ -8,11 +10,14 @@ use Rattle.byteorder.specs.Endian.{big_bytes}
 use Rattle.byteorder.specs.Numbers.{length-bytes_high_first}
 use Rattle.vm_memory.specs.MemoryMap.{MemoryMap}
 use Rattle.vm_memory.specs.Access.{read}
-use Rattle.vm_operand.specs.Opcode.{first_with, loads_in, stores_in}
-use Rattle.vm_operand.specs.Mode.{allowed, allows, mode_number, mode_of, modes, size}
+use Rattle.vm_operand.specs.Opcode.{loads_in, stores_in}
+use Rattle.vm_operand.specs.Mode.{allows, size}
 use Rattle.vm_operand.specs.Reading.{◌>>=◌, reads}
-use Rattle.vm_operand.specs.Instruction.{dest_at, load_at, modes_at, operand, operands, with_load, with_store}
-use Rattle.vm_operand.specs.Spelling.{Operand, kind_of, mode_in, number_in, bytes_of, IsOperand, mode_bytes, operand_bytes, load_of, dest_of, loads_of, stores_of, instr, Stand}
+use Rattle.vm_operand.specs.Instruction.{dest_at, load_at, operand, operands, with_load}
+use Rattle.vm_operand.specs.Instruction.{with_store}
+use Rattle.vm_operand.specs.Spelling.{Operand, kind_of, mode_in, number_in, bytes_of, IsOperand}
+use Rattle.vm_operand.specs.Spelling.{operand_bytes, load_of, dest_of, loads_of}
+use Rattle.vm_operand.specs.Spelling.{stores_of, instr, Stand}
 use Rattle.vm_operand.specs.Spelling.Operand.{Load, Store}
 use Rattle.vm_operand.specs.declared.operand.Kind.{Kind}
 use Rattle.vm_operand.specs.declared.operand.Kind.TheVariants as kind
@@ -22,129 +27,17 @@ use Rattle.vm_operand.specs.declared.operand.Dest as d
 use Rattle.vm_operand.specs.declared.operand.Dest.TheVariants as dest
 use Rattle.vm_operand.specs.declared.instruction.Instr.{Instr}
 use Rattle.vm_operand.specs.declared.fault.OpFault.{OpFault}
-use Rattle.vm_operand.specs.declared.fault.OpFault.TheVariants.{BadMode}
 use Rattle.vm_operand.specs.declared.mode.Mode.{Mode}
-use Rattle.vm_operand.specs.declared.mode.Mode.TheVariants.{Zero, Constant, Address, Stack, Local, Ram}
+use Rattle.vm_operand.specs.declared.mode.Mode.TheVariants.{Zero, Constant, Address, Stack, Local}
+use Rattle.vm_operand.specs.declared.mode.Mode.TheVariants.{Ram}
 use Rattle.vm_operand.specs.declared.mode.Width.{Width}
 use Rattle.vm_operand.specs.declared.mode.Width.TheVariants.{One, Two, Four}
-use Rattle.vm_operand.proofs.InstructionLemmas.{after, first_operand, last_mode, two_modes}
-use Rattle.vm_operand.proofs.OpcodeLemmas.{first_with-number}
-use Rattle.vm_operand.proofs.OpcodeBytesLemmas.{Bytes, bound, byte_read, byte_stands, ok_is, was_read}
-use Rattle.vm_operand.proofs.StandLemmas.{Number, read_stands, stand_both, stand_first, stand_read, stand_then}
-
--- ---- modes
-
-mode_found : (a : Mode) → first_with mode_number modes (mode_number a) ≡ Some a
-unfolding modes
-mode_found Zero = refl
-mode_found (Constant One) = refl
-mode_found (Constant w) = refl
-mode_found (Address One) = refl
-mode_found (Address w) = refl
-mode_found Stack = refl
-mode_found (Local One) = refl
-mode_found (Local w) = refl
-mode_found (Ram One) = refl
-mode_found (Ram w) = refl
-
-mode_low : (a : Mode) → mode_number a < 16
-mode_low Zero = omega arith
-mode_low (Constant One) = omega arith
-mode_low (Constant Two) = omega arith
-mode_low (Constant Four) = omega arith
-mode_low (Address One) = omega arith
-mode_low (Address Two) = omega arith
-mode_low (Address Four) = omega arith
-mode_low Stack = omega arith
-mode_low (Local One) = omega arith
-mode_low (Local Two) = omega arith
-mode_low (Local Four) = omega arith
-mode_low (Ram One) = omega arith
-mode_low (Ram Two) = omega arith
-mode_low (Ram Four) = omega arith
-
-mode_is : (k : Kind) (a : Mode) (n : ℕ) → n ≡ mode_number a → allows k a ≡ true → mode_of k n ≡ Ok a
-unfolding mode_of
-mode_is k a n e h = rw e (rw (mode_found a) (rw h refl))
-
-allowed_in : (k : Kind) (n : ℕ) (o : Option Mode) (a : Mode) → IfSome o (λ x. mode_number x ≡ n) → allowed k n o ≡ Ok a → (mode_number a ≡ n) × (allows k a ≡ true)
-allowed_in k n None a h e = absurd cc
-allowed_in k n (Some b) a h e = chosen (allows k b) refl e
-  where
-    chosen : (t : Bool) → allows k b ≡ t → ◌≡◌ {A = Result Mode OpFault} (cond t (Ok b) (Err (BadMode n))) (Ok a) → (mode_number a ≡ n) × (allows k a ≡ true)
-    chosen true t f = subst (λ (x : Mode). (mode_number x ≡ n) × (allows k x ≡ true)) (ok_is f) (h, t)
-    chosen false t f = absurd cc
-
-mode_was : (k : Kind) (n : ℕ) (a : Mode) → mode_of k n ≡ Ok a → (mode_number a ≡ n) × (allows k a ≡ true)
-unfolding mode_of
-mode_was k n a e = allowed_in k n (first_with mode_number modes n) a (first_with-number mode_number modes n) e
-
-pub modes_read : (m : MemoryMap) (p : ℕ) (os : List Operand) (spare : ℕ) → spare < 16 → All IsOperand os → Stand m p (mode_bytes (map mode_in os) spare)
-    → modes_at m p (map kind_of os) ≡ Ok (map mode_in os)
-unfolding modes_at
-modes_read m p [] spare low are s = refl
-modes_read m p (o ∷ []) spare low are s =
-    let n = mode_low (mode_in o) in
-    let byte : ℕ = mode_number (mode_in o) + 16 * spare in
-    last_mode m p byte (kind_of o) (mode_in o) (byte_read m p byte (omega (arith, n, low)) s)
-    (mode_is (kind_of o) (mode_in o) (byte % 16) (omega (arith, n, low)) (All-head IsOperand o [] are).allowed)
-modes_read m p (o ∷ q ∷ os) spare low are s =
-    let n = mode_low (mode_in o) in
-    let k = mode_low (mode_in q) in
-    let byte : ℕ = mode_number (mode_in o) + 16 * mode_number (mode_in q) in
-    let rest : List ℕ = mode_bytes (map mode_in os) spare in
-    let others : All IsOperand (q ∷ os) = All-tail IsOperand o (q ∷ os) are in
-    two_modes m p byte (kind_of o) (kind_of q) (map kind_of os) (mode_in o) (mode_in q)
-    (byte_read m p byte (omega (arith, n, k)) (stand_first m p (byte ∷ []) rest s))
-    (mode_is (kind_of o) (mode_in o) (byte % 16) (omega (arith, n, k)) (All-head IsOperand o (q ∷ os) are).allowed)
-    (mode_is (kind_of q) (mode_in q) (byte / 16) (omega (arith, n, k)) (All-head IsOperand q os others).allowed)
-    ∙ ap (after (mode_in o ∷ mode_in q ∷ [])) (modes_read m (p + 1) os spare low (All-tail IsOperand q os others) (stand_then m p (byte ∷ []) rest s))
-
--- each operand may have its mode
-abbrev pub Allowed : List Kind → List Mode → Type 0
-Allowed [] [] = Unit {0}
-Allowed [] (a ∷ ms) = ⊥
-Allowed (k ∷ ks) [] = ⊥
-Allowed (k ∷ ks) (a ∷ ms) = (allows k a ≡ true) × Allowed ks ms
-
-pub record Modes (m : MemoryMap) (p : ℕ) (ks : List Kind) (ms : List Mode) : Type 0 where
-  pub spare : ℕ
-  pub low : spare < 16
-  pub bytes : Stand m p (mode_bytes ms spare)
-  pub allowed : Allowed ks ms
-
-pub modes_stand : (m : MemoryMap) (p : ℕ) (ks : List Kind) (ms : List Mode) → Bytes m → modes_at m p ks ≡ Ok ms → Modes m p ks ms
-unfolding modes_at
-modes_stand m p [] ms z e = subst (Modes m p []) (ok_is e) (record { spare = 0; low = omega arith; bytes = refl; allowed = tt })
-modes_stand m p (k ∷ []) ms z e =
-    let r = bound (reads (read 1 m p)) _ ms e in
-    let s = byte_stands m p r.0 z (was_read (read 1 m p) r.0 r.1) in
-    let a = bound (mode_of k (r.0 % 16)) _ ms r.2 in
-    let w = mode_was k (r.0 % 16) a.0 a.1 in
-    let whole : r.0 ≡ mode_number a.0 + 16 * (r.0 / 16) = omega (arith, w.0) in
-    subst (Modes m p (k ∷ [])) (ok_is a.2) (record {
-      spare = r.0 / 16;
-      low = omega (arith, s.1);
-      bytes = subst (λ (x : ℕ). Stand m p (x ∷ [])) whole s.0;
-      allowed = (w.1, tt);
-    })
-modes_stand m p (k ∷ j ∷ ks) ms z e =
-    let r = bound (reads (read 1 m p)) _ ms e in
-    let s = byte_stands m p r.0 z (was_read (read 1 m p) r.0 r.1) in
-    let a = bound (mode_of k (r.0 % 16)) _ ms r.2 in
-    let b = bound (mode_of j (r.0 / 16)) _ ms a.2 in
-    let c = bound (modes_at m (p + 1) ks) _ ms b.2 in
-    let w = mode_was k (r.0 % 16) a.0 a.1 in
-    let x = mode_was j (r.0 / 16) b.0 b.1 in
-    let whole : r.0 ≡ mode_number a.0 + 16 * mode_number b.0 = omega (arith, w.0, x.0) in
-    let rest : Modes m (p + 1) ks c.0 = modes_stand m (p + 1) ks c.0 z c.1 in
-    subst (Modes m p (k ∷ j ∷ ks)) (ok_is c.2) (record {
-      spare = rest.spare;
-      low = rest.low;
-      bytes = stand_both m p ((mode_number a.0 + 16 * mode_number b.0) ∷ []) (mode_bytes c.0 rest.spare)
-          (subst (λ (x : ℕ). Stand m p (x ∷ [])) whole s.0) rest.bytes;
-      allowed = (w.1, (x.1, rest.allowed));
-    })
+use Rattle.vm_operand.proofs.InstructionLemmas.{first_operand}
+use Rattle.vm_operand.proofs.OpcodeBytesLemmas.{Bytes, bound, ok_is}
+use Rattle.vm_operand.proofs.OpcodeBytesLemmas.{was_read}
+use Rattle.vm_operand.proofs.StandLemmas.{Number, read_stands, stand_both, stand_first, stand_read}
+use Rattle.vm_operand.proofs.StandLemmas.{stand_then}
+use Rattle.vm_operand.proofs.ModeBytesLemmas.{Allowed}
 
 -- ---- one operand
 
@@ -156,7 +49,8 @@ some_bytes Four = omega arith
 here : {A : Type 0} (x : A) (p : ℕ) → ◌≡◌ {A = Result (A × ℕ) OpFault} (Ok (x, p)) (Ok (x, p + 0))
 here x p = let z : p ≡ p + 0 = omega arith in ap (λ (n : ℕ). Ok (x, n)) z
 
-load_read : (m : MemoryMap) (mode : Mode) (p n : ℕ) → n < 256 ^ bytes_of mode → Stand m p (big_bytes (bytes_of mode) n)
+load_read : (m : MemoryMap) (mode : Mode) (p n : ℕ) → n < 256 ^ bytes_of mode
+    → Stand m p (big_bytes (bytes_of mode) n)
     → load_at m mode p ≡ Ok (load_of m mode n, p + bytes_of mode)
 unfolding load_at
 load_read m Zero p n h s = here (load.Value 0) p
@@ -166,7 +60,8 @@ load_read m Stack p n h s = here load.Pop p
 load_read m (Local w) p n h s = rw (stand_read (size w) m p n (some_bytes w) h s) refl
 load_read m (Ram w) p n h s = rw (stand_read (size w) m p n (some_bytes w) h s) refl
 
-dest_read : (m : MemoryMap) (mode : Mode) (p n : ℕ) → allows kind.Store mode ≡ true → n < 256 ^ bytes_of mode → Stand m p (big_bytes (bytes_of mode) n)
+dest_read : (m : MemoryMap) (mode : Mode) (p n : ℕ) → allows kind.Store mode ≡ true
+    → n < 256 ^ bytes_of mode → Stand m p (big_bytes (bytes_of mode) n)
     → dest_at m mode p ≡ Ok (dest_of m mode n, p + bytes_of mode)
 unfolding dest_at
 dest_read m Zero p n a h s = here dest.Discard p
@@ -182,34 +77,45 @@ record InBytes (m : MemoryMap) (mode : Mode) (p : ℕ) : Type 0 where
   fits : number < 256 ^ bytes_of mode
   bytes : Stand m p (big_bytes (bytes_of mode) number)
 
-found : (m : MemoryMap) (w : Width) (p : ℕ) {A : Type 0} (f : ℕ → Result A OpFault) (x : A) → Bytes m → (reads (read (size w) m p) >>= f) ≡ Ok x
+found : (m : MemoryMap) (w : Width) (p : ℕ) {A : Type 0} (f : ℕ → Result A OpFault) (x : A)
+    → Bytes m → (reads (read (size w) m p) >>= f) ≡ Ok x
     → (n : ℕ) × Number w m p n
 found m w p f x z e =
     let r = bound (reads (read (size w) m p)) f x e in
     (r.0, read_stands w m p r.0 z (was_read (read (size w) m p) r.0 r.1))
 
-load_stands : (m : MemoryMap) (mode : Mode) (p : ℕ) (x : l.Load × ℕ) → Bytes m → load_at m mode p ≡ Ok x → InBytes m mode p
+load_stands : (m : MemoryMap) (mode : Mode) (p : ℕ) (x : l.Load × ℕ) → Bytes m
+    → load_at m mode p ≡ Ok x → InBytes m mode p
 unfolding load_at
 load_stands m Zero p x z e = record { number = 0; fits = omega arith; bytes = refl }
-load_stands m (Constant w) p x z e = let r = found m w p _ x z e in record { number = r.0; fits = r.1.fits; bytes = r.1.bytes }
-load_stands m (Address w) p x z e = let r = found m w p _ x z e in record { number = r.0; fits = r.1.fits; bytes = r.1.bytes }
+load_stands m (Constant w) p x z e = let r =
+    found m w p _ x z e in record { number = r.0; fits = r.1.fits; bytes = r.1.bytes }
+load_stands m (Address w) p x z e = let r =
+    found m w p _ x z e in record { number = r.0; fits = r.1.fits; bytes = r.1.bytes }
 load_stands m Stack p x z e = record { number = 0; fits = omega arith; bytes = refl }
-load_stands m (Local w) p x z e = let r = found m w p _ x z e in record { number = r.0; fits = r.1.fits; bytes = r.1.bytes }
-load_stands m (Ram w) p x z e = let r = found m w p _ x z e in record { number = r.0; fits = r.1.fits; bytes = r.1.bytes }
+load_stands m (Local w) p x z e = let r =
+    found m w p _ x z e in record { number = r.0; fits = r.1.fits; bytes = r.1.bytes }
+load_stands m (Ram w) p x z e = let r =
+    found m w p _ x z e in record { number = r.0; fits = r.1.fits; bytes = r.1.bytes }
 
-dest_stands : (m : MemoryMap) (mode : Mode) (p : ℕ) (x : d.Dest × ℕ) → allows kind.Store mode ≡ true → Bytes m → dest_at m mode p ≡ Ok x → InBytes m mode p
+dest_stands : (m : MemoryMap) (mode : Mode) (p : ℕ) (x : d.Dest × ℕ) → allows kind.Store mode ≡ true
+    → Bytes m → dest_at m mode p ≡ Ok x → InBytes m mode p
 unfolding dest_at
 dest_stands m Zero p x a z e = record { number = 0; fits = omega arith; bytes = refl }
 dest_stands m (Constant w) p x a z e = absurd cc
-dest_stands m (Address w) p x a z e = let r = found m w p _ x z e in record { number = r.0; fits = r.1.fits; bytes = r.1.bytes }
+dest_stands m (Address w) p x a z e = let r =
+    found m w p _ x z e in record { number = r.0; fits = r.1.fits; bytes = r.1.bytes }
 dest_stands m Stack p x a z e = record { number = 0; fits = omega arith; bytes = refl }
-dest_stands m (Local w) p x a z e = let r = found m w p _ x z e in record { number = r.0; fits = r.1.fits; bytes = r.1.bytes }
-dest_stands m (Ram w) p x a z e = let r = found m w p _ x z e in record { number = r.0; fits = r.1.fits; bytes = r.1.bytes }
+dest_stands m (Local w) p x a z e = let r =
+    found m w p _ x z e in record { number = r.0; fits = r.1.fits; bytes = r.1.bytes }
+dest_stands m (Ram w) p x a z e = let r =
+    found m w p _ x z e in record { number = r.0; fits = r.1.fits; bytes = r.1.bytes }
 
 -- ---- operands one after the other
 
 filled : {A : Type 0} (xs : List A) (n : ℕ) (v x : A) → length xs < n
-    → set (xs ++ replicate (n - length xs) v) (length xs) x ≡ (xs ++ x ∷ []) ++ replicate (n - length (xs ++ x ∷ [])) v
+    → set (xs ++ replicate (n - length xs) v) (length xs) x ≡ (xs ++ x ∷ []) ++ replicate
+    (n - length (xs ++ x ∷ [])) v
 filled xs n v x h =
     let k : ℕ = n - (length xs + 1) in
     let a : n - length xs ≡ suc (n - (length xs + 1)) = omega (arith, h) in
@@ -217,7 +123,8 @@ filled xs n v x h =
     let b : n - (length xs + 1) ≡ n - length (xs ++ x ∷ []) = omega (arith, l) in
     ap (λ (i : ℕ). set (xs ++ replicate i v) (length xs) x) a
     ∙ (set-append_seam xs v (replicate k v) x
-    ∙ (sym (append_assoc xs (x ∷ []) (replicate k v)) ∙ ap (λ (i : ℕ). (xs ++ x ∷ []) ++ replicate i v) b))
+    ∙ (sym (append_assoc xs (x ∷ []) (replicate k v))
+    ∙ ap (λ (i : ℕ). (xs ++ x ∷ []) ++ replicate i v) b))
 
 one_more : {A : Type 0} (xs : List A) (x : A) → length xs + 1 ≡ length (xs ++ x ∷ [])
 one_more xs x = let l = length-append xs (x ∷ []) in omega (arith, l)
@@ -225,24 +132,45 @@ one_more xs x = let l = length-append xs (x ∷ []) in omega (arith, l)
 loaded : (number : ℕ) (ls : List l.Load) (ss : List d.Dest) (p q : ℕ) (x : l.Load) → length ls < 8
     → with_load (instr number ls ss p) (x, q) ≡ instr number (ls ++ x ∷ []) ss q
 loaded number ls ss p q x h =
-    ap (λ (c : ℕ). record (instr number ls ss q) { loads = record { count = c; items = set (ls ++ replicate (8 - length ls) (load.Value 0)) (length ls) x } }) (one_more ls x)
-    ∙ ap (λ (xs : List l.Load). record (instr number ls ss q) { loads = record { count = length (ls ++ x ∷ []); items = xs } }) (filled ls 8 (load.Value 0) x h)
+    ap (λ (c : ℕ). record
+    (instr number ls ss q) {
+      loads = record {
+        count = c;
+        items = set (ls ++ replicate (8 - length ls) (load.Value 0))
+            (length ls) x;
+      };
+    }) (one_more ls x)
+    ∙ ap (λ (xs : List l.Load). record
+    (instr number ls ss q) { loads = record { count = length (ls ++ x ∷ []); items = xs } })
+    (filled ls 8 (load.Value 0) x h)
 
 stored : (number : ℕ) (ls : List l.Load) (ss : List d.Dest) (p q : ℕ) (x : d.Dest) → length ss < 2
     → with_store (instr number ls ss p) (x, q) ≡ instr number ls (ss ++ x ∷ []) q
 stored number ls ss p q x h =
-    ap (λ (c : ℕ). record (instr number ls ss q) { stores = record { count = c; items = set (ss ++ replicate (2 - length ss) dest.Discard) (length ss) x } }) (one_more ss x)
-    ∙ ap (λ (xs : List d.Dest). record (instr number ls ss q) { stores = record { count = length (ss ++ x ∷ []); items = xs } }) (filled ss 2 dest.Discard x h)
+    ap (λ (c : ℕ). record
+    (instr number ls ss q) {
+      stores = record {
+        count = c;
+        items = set (ss ++ replicate (2 - length ss) dest.Discard)
+            (length ss) x;
+      };
+    }) (one_more ss x)
+    ∙ ap (λ (xs : List d.Dest). record
+    (instr number ls ss q) { stores = record { count = length (ss ++ x ∷ []); items = xs } })
+    (filled ss 2 dest.Discard x h)
 
-one_load : (m : MemoryMap) (mode : Mode) (i more : Instr) (x : l.Load × ℕ) → load_at m mode i.next ≡ Ok x → with_load i x ≡ more → operand m kind.Load mode i ≡ Ok more
+one_load : (m : MemoryMap) (mode : Mode) (i more : Instr) (x : l.Load × ℕ)
+    → load_at m mode i.next ≡ Ok x → with_load i x ≡ more → operand m kind.Load mode i ≡ Ok more
 unfolding operand
 one_load m mode i more x e f = rw e (ap Ok f)
 
-one_store : (m : MemoryMap) (mode : Mode) (i more : Instr) (x : d.Dest × ℕ) → dest_at m mode i.next ≡ Ok x → with_store i x ≡ more → operand m kind.Store mode i ≡ Ok more
+one_store : (m : MemoryMap) (mode : Mode) (i more : Instr) (x : d.Dest × ℕ)
+    → dest_at m mode i.next ≡ Ok x → with_store i x ≡ more → operand m kind.Store mode i ≡ Ok more
 unfolding operand
 one_store m mode i more x e f = rw e (ap Ok f)
 
-same_instr : {number : ℕ} {ls ls' : List l.Load} {ss ss' : List d.Dest} {p p' : ℕ} → ls ≡ ls' → ss ≡ ss' → p ≡ p' → instr number ls ss p ≡ instr number ls' ss' p'
+same_instr : {number : ℕ} {ls ls' : List l.Load} {ss ss' : List d.Dest} {p p' : ℕ} → ls ≡ ls'
+    → ss ≡ ss' → p ≡ p' → instr number ls ss p ≡ instr number ls' ss' p'
 same_instr e f g = rw (e, f, g) refl
 
 further : (p k n : ℕ) (rest : List ℕ) → p + k + length rest ≡ p + length (big_bytes k n ++ rest)
@@ -252,12 +180,16 @@ further p k n rest =
     omega (arith, a, b)
 
 -- the bytes of the first operand, and of those after it
-bytes_then : (m : MemoryMap) (p k n : ℕ) (rest : List ℕ) → Stand m p (big_bytes k n ++ rest) → Stand m (p + k) rest
+bytes_then : (m : MemoryMap) (p k n : ℕ) (rest : List ℕ) → Stand m p (big_bytes k n ++ rest)
+    → Stand m (p + k) rest
 bytes_then m p k n rest s =
-    subst (λ (i : ℕ). Stand m (p + i) rest) (length-bytes_high_first k n) (stand_then m p (big_bytes k n) rest s)
+    subst (λ (i : ℕ). Stand m (p + i) rest) (length-bytes_high_first k n)
+    (stand_then m p (big_bytes k n) rest s)
 
-pub operands_read : (m : MemoryMap) (number : ℕ) (os : List Operand) (ls : List l.Load) (ss : List d.Dest) (p : ℕ)
-    → length ls + loads_in (map kind_of os) ≤ 8 → length ss + stores_in (map kind_of os) ≤ 2 → All IsOperand os → Stand m p (operand_bytes os)
+pub operands_read : (m : MemoryMap) (number : ℕ) (os : List Operand) (ls : List l.Load)
+    (ss : List d.Dest) (p : ℕ)
+    → length ls + loads_in (map kind_of os) ≤ 8 → length ss + stores_in (map kind_of os) ≤ 2
+    → All IsOperand os → Stand m p (operand_bytes os)
     → operands m (map kind_of os) (map mode_in os) (instr number ls ss p)
     ≡ Ok (instr number (ls ++ loads_of m os) (ss ++ stores_of m os) (p + length (operand_bytes os)))
 unfolding operands
@@ -269,23 +201,29 @@ operands_read m number (Load mode n ∷ os) ls ss p a b are s =
     let o = All-head IsOperand (Load mode n) os are in
     let x : l.Load = load_of m mode n in
     let c = length-append ls (x ∷ []) in
-    first_operand m kind.Load (map kind_of os) mode (map mode_in os) (instr number ls ss p) (instr number (ls ++ x ∷ []) ss (p + k))
+    first_operand m kind.Load (map kind_of os) mode (map mode_in os) (instr number ls ss p)
+    (instr number (ls ++ x ∷ []) ss (p + k))
     (one_load m mode (instr number ls ss p) (instr number (ls ++ x ∷ []) ss (p + k)) (x, p + k)
     (load_read m mode p n o.fits (stand_first m p (big_bytes k n) (operand_bytes os) s))
     (loaded number ls ss p (p + k) x (omega (arith, a))))
-    ∙ (operands_read m number os (ls ++ x ∷ []) ss (p + k) (omega (arith, a, c)) b (All-tail IsOperand (Load mode n) os are) (bytes_then m p k n (operand_bytes os) s)
-    ∙ ap Ok (same_instr (append_assoc ls (x ∷ []) (loads_of m os)) refl (further p k n (operand_bytes os))))
+    ∙ (operands_read m number os (ls ++ x ∷ []) ss (p + k) (omega (arith, a, c)) b
+    (All-tail IsOperand (Load mode n) os are) (bytes_then m p k n (operand_bytes os) s)
+    ∙ ap Ok (same_instr (append_assoc ls (x ∷ []) (loads_of m os)) refl
+    (further p k n (operand_bytes os))))
 operands_read m number (Store mode n ∷ os) ls ss p a b are s =
     let k : ℕ = bytes_of mode in
     let o = All-head IsOperand (Store mode n) os are in
     let x : d.Dest = dest_of m mode n in
     let c = length-append ss (x ∷ []) in
-    first_operand m kind.Store (map kind_of os) mode (map mode_in os) (instr number ls ss p) (instr number ls (ss ++ x ∷ []) (p + k))
+    first_operand m kind.Store (map kind_of os) mode (map mode_in os) (instr number ls ss p)
+    (instr number ls (ss ++ x ∷ []) (p + k))
     (one_store m mode (instr number ls ss p) (instr number ls (ss ++ x ∷ []) (p + k)) (x, p + k)
     (dest_read m mode p n o.allowed o.fits (stand_first m p (big_bytes k n) (operand_bytes os) s))
     (stored number ls ss p (p + k) x (omega (arith, b))))
-    ∙ (operands_read m number os ls (ss ++ x ∷ []) (p + k) a (omega (arith, b, c)) (All-tail IsOperand (Store mode n) os are) (bytes_then m p k n (operand_bytes os) s)
-    ∙ ap Ok (same_instr refl (append_assoc ss (x ∷ []) (stores_of m os)) (further p k n (operand_bytes os))))
+    ∙ (operands_read m number os ls (ss ++ x ∷ []) (p + k) a (omega (arith, b, c))
+    (All-tail IsOperand (Store mode n) os are) (bytes_then m p k n (operand_bytes os) s)
+    ∙ ap Ok (same_instr refl (append_assoc ss (x ∷ []) (stores_of m os))
+    (further p k n (operand_bytes os))))
 
 -- operands that were read, of these kinds and modes
 pub record Operands (m : MemoryMap) (p : ℕ) (ks : List Kind) (ms : List Mode) : Type 0 where
@@ -296,19 +234,24 @@ pub record Operands (m : MemoryMap) (p : ℕ) (ks : List Kind) (ms : List Mode) 
   pub bytes : Stand m p (operand_bytes operands)
 
 with_first : (m : MemoryMap) (p : ℕ) (o : Operand) (ks : List Kind) (ms : List Mode) → IsOperand o
-    → Stand m p (big_bytes (bytes_of (mode_in o)) (number_in o)) → Operands m (p + bytes_of (mode_in o)) ks ms → Operands m p (kind_of o ∷ ks) (mode_in o ∷ ms)
+    → Stand m p (big_bytes (bytes_of (mode_in o)) (number_in o))
+    → Operands m (p + bytes_of (mode_in o)) ks ms → Operands m p (kind_of o ∷ ks) (mode_in o ∷ ms)
 with_first m p o ks ms is s rest = record {
   operands = o ∷ rest.operands;
   kinds = ap (λ (js : List Kind). kind_of o ∷ js) rest.kinds;
   modes = ap (λ (js : List Mode). mode_in o ∷ js) rest.modes;
   are = All-cons IsOperand o rest.operands is rest.are;
-  bytes = stand_both m p (big_bytes (bytes_of (mode_in o)) (number_in o)) (operand_bytes rest.operands) s
-      (subst (λ (i : ℕ). Stand m (p + i) (operand_bytes rest.operands)) (sym (length-bytes_high_first (bytes_of (mode_in o)) (number_in o))) rest.bytes);
+  bytes = stand_both m p (big_bytes (bytes_of (mode_in o)) (number_in o))
+      (operand_bytes rest.operands) s
+      (subst (λ (i : ℕ). Stand m (p + i) (operand_bytes rest.operands))
+      (sym (length-bytes_high_first (bytes_of (mode_in o)) (number_in o))) rest.bytes);
 }
 
-pub operands_stand : (m : MemoryMap) (ks : List Kind) (ms : List Mode) (i j : Instr) → Bytes m → Allowed ks ms → operands m ks ms i ≡ Ok j → Operands m i.next ks ms
+pub operands_stand : (m : MemoryMap) (ks : List Kind) (ms : List Mode) (i j : Instr) → Bytes m
+    → Allowed ks ms → operands m ks ms i ≡ Ok j → Operands m i.next ks ms
 unfolding operands operand
-operands_stand m [] [] i j z a e = record { operands = []; kinds = refl; modes = refl; are = All-nil IsOperand; bytes = refl }
+operands_stand m [] [] i j z a e =
+    record { operands = []; kinds = refl; modes = refl; are = All-nil IsOperand; bytes = refl }
 operands_stand m [] (b ∷ ms) i j z a e = absurd a
 operands_stand m (k ∷ ks) [] i j z a e = absurd a
 operands_stand m (kind.Load ∷ ks) (b ∷ ms) i j z a e =
@@ -316,7 +259,8 @@ operands_stand m (kind.Load ∷ ks) (b ∷ ms) i j z a e =
     let x = bound (load_at m b i.next) (λ (y : l.Load × ℕ). Ok (with_load i y)) r.0 r.1 in
     let n : InBytes m b i.next = load_stands m b i.next x.0 z x.1 in
     let there = ok_is (sym x.1 ∙ load_read m b i.next n.number n.fits n.bytes) in
-    let next : r.0.next ≡ i.next + bytes_of b = ap (λ (y : Instr). y.next) (sym (ok_is x.2)) ∙ ap (λ (y : l.Load × ℕ). y.1) there in
+    let next : r.0.next ≡ i.next + bytes_of b = ap (λ (y : Instr). y.next) (sym (ok_is x.2))
+    ∙ ap (λ (y : l.Load × ℕ). y.1) there in
     with_first m i.next (Load b n.number) ks ms (record { allowed = a.0; fits = n.fits }) n.bytes
     (subst (λ (q : ℕ). Operands m q ks ms) next (operands_stand m ks ms r.0 j z a.1 r.2))
 operands_stand m (kind.Store ∷ ks) (b ∷ ms) i j z a e =
@@ -324,6 +268,7 @@ operands_stand m (kind.Store ∷ ks) (b ∷ ms) i j z a e =
     let x = bound (dest_at m b i.next) (λ (y : d.Dest × ℕ). Ok (with_store i y)) r.0 r.1 in
     let n : InBytes m b i.next = dest_stands m b i.next x.0 a.0 z x.1 in
     let there = ok_is (sym x.1 ∙ dest_read m b i.next n.number a.0 n.fits n.bytes) in
-    let next : r.0.next ≡ i.next + bytes_of b = ap (λ (y : Instr). y.next) (sym (ok_is x.2)) ∙ ap (λ (y : d.Dest × ℕ). y.1) there in
+    let next : r.0.next ≡ i.next + bytes_of b = ap (λ (y : Instr). y.next) (sym (ok_is x.2))
+    ∙ ap (λ (y : d.Dest × ℕ). y.1) there in
     with_first m i.next (Store b n.number) ks ms (record { allowed = a.0; fits = n.fits }) n.bytes
     (subst (λ (q : ℕ). Operands m q ks ms) next (operands_stand m ks ms r.0 j z a.1 r.2))

@@ -1,5 +1,7 @@
 -- What is spelled is decoded, and what is decoded is spelled.
-use Rattle.std.proofs.Common.{arith, ◌≡◌, ◌∙◌, refl, sym, ap, subst, ℕ, ◌+◌, ◌/◌, ◌<◌, ◌≤◌, Bool, true, false, cond, nat_le, nat_lt, List, [], ◌∷◌, ◌++◌, length, map, Option, Some, None, Ok, Err, length-append}
+use Rattle.std.proofs.Common.{arith, ◌≡◌, ◌∙◌, refl, sym, ap, subst, ℕ, ◌+◌, ◌/◌, ◌<◌, ◌≤◌, Bool}
+use Rattle.std.proofs.Common.{true, false, cond, nat_le, nat_lt, List, [], ◌∷◌, ◌++◌, length, map}
+use Rattle.std.proofs.Common.{Option, Some, None, Ok, Err, length-append}
 use Rattle.std.specs.Prelude.{IfSome, ◌&&◌}
 use Rattle.std.proofs.lemmas.Bool.{leb-true}
 use Rattle.std.proofs.lemmas.List.{length-map}
@@ -8,7 +10,10 @@ use Rattle.vm_memory.specs.MemoryMap.{MemoryMap}
 use Rattle.vm_operand.specs.Opcode.{kinds_of, loads_in, number_of, op_of, stores_in}
 use Rattle.vm_operand.specs.Mode.{size}
 use Rattle.vm_operand.specs.Instruction.{bare, instruction_at, known, modes_at, number_at, operands}
-use Rattle.vm_operand.specs.Spelling.{kind_of, mode_in, HasWidth, Writing, IsWriting, opcode_bytes, mode_bytes, operand_bytes, spelled, loads_of, stores_of, instr, Stand, Spells, DecodesWhatIsSpelled, SpellsWhatIsDecoded}
+use Rattle.vm_operand.specs.Spelling.{kind_of, mode_in, HasWidth, Writing, IsWriting, opcode_bytes}
+use Rattle.vm_operand.specs.Spelling.{mode_bytes, operand_bytes, spelled, loads_of, stores_of}
+use Rattle.vm_operand.specs.Spelling.{instr, Stand, Spells, DecodesWhatIsSpelled}
+use Rattle.vm_operand.specs.Spelling.{SpellsWhatIsDecoded}
 use Rattle.vm_operand.specs.declared.opcode.Op.{Op}
 use Rattle.vm_operand.specs.declared.opcode.Op.TheVariants as op
 use Rattle.vm_operand.specs.declared.opcode.Math.TheVariants.{Add}
@@ -29,13 +34,15 @@ use Rattle.vm_operand.specs.declared.mode.Width.{Width}
 use Rattle.vm_operand.specs.declared.mode.Width.TheVariants.{One, Two, Four}
 use Rattle.vm_operand.proofs.OpcodeLemmas.{number_of-op_of, op_of-number_of}
 use Rattle.vm_operand.proofs.OpcodeBytesLemmas.{Opcode, bound, ok_is, opcode_read, opcode_stands}
-use Rattle.vm_operand.proofs.OperandBytesLemmas.{Modes, Operands, modes_read, modes_stand, operands_read, operands_stand}
+use Rattle.vm_operand.proofs.ModeBytesLemmas.{Modes, modes_read, modes_stand}
+use Rattle.vm_operand.proofs.OperandBytesLemmas.{Operands, operands_read, operands_stand}
 use Rattle.vm_operand.proofs.StandLemmas.{stand_both, stand_first, stand_then}
 
 -- ---- the table: low numbers, few operands
 
 abbrev Small : Op → Bool
-Small o = nat_lt (number_of o) 0x200 && nat_le (loads_in (kinds_of o)) 8 && nat_le (stores_in (kinds_of o)) 2
+Small o = nat_lt (number_of o) 0x200 && nat_le (loads_in (kinds_of o)) 8 && nat_le
+    (stores_in (kinds_of o)) 2
 
 small : (o : Op) → Small o ≡ true
 small (op.Math Add) = refl
@@ -72,7 +79,8 @@ three false b c h = cc
 
 is_small : (o : Op) → IsSmall o
 is_small o =
-    let t = three (nat_lt (number_of o) 0x200) (nat_le (loads_in (kinds_of o)) 8) (nat_le (stores_in (kinds_of o)) 2) (small o) in
+    let t = three (nat_lt (number_of o) 0x200) (nat_le (loads_in (kinds_of o)) 8)
+    (nat_le (stores_in (kinds_of o)) 2) (small o) in
     record {
       number = leb-true _ _ t.0;
       loads = leb-true _ _ t.1;
@@ -93,8 +101,10 @@ mode_len (a ∷ b ∷ ms) spare = let e = mode_len ms spare in omega (arith, e)
 
 -- ---- the law
 
-decoded : (m : MemoryMap) (at n p : ℕ) (o : Op) (ms : List Mode) (i : Instr) → number_at m at ≡ Ok (n, p) → known n (op_of n) ≡ Ok o → modes_at m p (kinds_of o) ≡ Ok ms
-    → operands m (kinds_of o) ms (bare n (p + (length (kinds_of o) + 1) / 2)) ≡ Ok i → instruction_at m at ≡ Ok i
+decoded : (m : MemoryMap) (at n p : ℕ) (o : Op) (ms : List Mode) (i : Instr)
+    → number_at m at ≡ Ok (n, p) → known n (op_of n) ≡ Ok o → modes_at m p (kinds_of o) ≡ Ok ms
+    → operands m (kinds_of o) ms (bare n (p + (length (kinds_of o) + 1) / 2)) ≡ Ok i
+    → instruction_at m at ≡ Ok i
 unfolding instruction_at
 decoded m at n p o ms i e f g h = rw e (rw f (rw g h))
 
@@ -118,23 +128,31 @@ decodes_what_is_spelled m at i s =
     let whole = length-append front (middle ++ rest) in
     let half = length-append middle rest in
     let q : ℕ = p + (length (kinds_of w.op) + 1) / 2 in
-    let behind : Stand m p (middle ++ rest) = subst (λ (k : ℕ). Stand m (at + k) (middle ++ rest)) a (stand_then m at front (middle ++ rest) s.bytes) in
+    let behind : Stand m p (middle ++ rest) =
+    subst (λ (k : ℕ). Stand m (at + k) (middle ++ rest)) a
+    (stand_then m at front (middle ++ rest) s.bytes) in
     let place : p + length middle ≡ q = omega (arith, b, c, d, e) in
-    let last : Stand m q rest = subst (λ (k : ℕ). Stand m k rest) place (stand_then m p middle rest behind) in
+    let last : Stand m q rest =
+    subst (λ (k : ℕ). Stand m k rest) place (stand_then m p middle rest behind) in
     let next : q + length rest ≡ at + length (spelled w) = omega (arith, place, whole, half, a) in
     decoded m at n p w.op ms i
     (opcode_read m at n w.width s.is.width (stand_first m at front (middle ++ rest) s.bytes))
     (ap (known n) (op_of-number_of w.op))
-    (subst (λ (ks : List Kind). modes_at m p ks ≡ Ok ms) s.is.kinds (modes_read m p w.operands w.spare s.is.spare s.is.operands (stand_first m p middle rest behind)))
-    (subst (λ (ks : List Kind). operands m ks ms (bare n q) ≡ Ok (instr n (loads_of m w.operands) (stores_of m w.operands) (q + length rest))) s.is.kinds
+    (subst (λ (ks : List Kind). modes_at m p ks ≡ Ok ms) s.is.kinds
+    (modes_read m p w.operands w.spare s.is.spare s.is.operands
+    (stand_first m p middle rest behind)))
+    (subst (λ (ks : List Kind). operands m ks ms (bare n q) ≡ Ok
+    (instr n (loads_of m w.operands) (stores_of m w.operands) (q + length rest))) s.is.kinds
     (operands_read m n w.operands [] [] q
     (subst (λ (ks : List Kind). 0 + loads_in ks ≤ 8) (sym s.is.kinds) (omega (arith, loads)))
     (subst (λ (ks : List Kind). 0 + stores_in ks ≤ 2) (sym s.is.kinds) (omega (arith, stores)))
     s.is.operands last)
     ∙ ap Ok (ap (instr n (loads_of m w.operands) (stores_of m w.operands)) next ∙ sym s.reads))
 
-was_known : (n : ℕ) (o : Option Op) (x : Op) → IfSome o (λ y. number_of y ≡ n) → known n o ≡ Ok x → (o ≡ Some x) × (number_of x ≡ n)
-was_known n (Some y) x h e = subst (λ (z : Op). (Some y ≡ Some z) × (number_of z ≡ n)) (ok_is e) (refl, h)
+was_known : (n : ℕ) (o : Option Op) (x : Op) → IfSome o (λ y. number_of y ≡ n) → known n o ≡ Ok x
+    → (o ≡ Some x) × (number_of x ≡ n)
+was_known n (Some y) x h e =
+    subst (λ (z : Op). (Some y ≡ Some z) × (number_of z ≡ n)) (ok_is e) (refl, h)
 was_known n None x h e = absurd (unknown _ _ (nat_le 0x190 n && nat_lt n 0x300) e)
   where
     unknown : (f g : OpFault) (b : Bool) → cond b (Err f) (Err g) ≡ Ok x → ⊥
@@ -146,12 +164,15 @@ has_width One n low h = low refl
 has_width Two n low h = omega (arith, h)
 has_width Four n low h = omega (arith, h)
 
-spelled_so : (m : MemoryMap) (at n p : ℕ) (o : Op) (ms : List Mode) (i : Instr) → Opcode m at (n, p) → number_of o ≡ n → Modes m p (kinds_of o) ms
-    → Operands m (p + (length (kinds_of o) + 1) / 2) (kinds_of o) ms → instruction_at m at ≡ Ok i → Spells m at i
+spelled_so : (m : MemoryMap) (at n p : ℕ) (o : Op) (ms : List Mode) (i : Instr) → Opcode m at (n, p)
+    → number_of o ≡ n → Modes m p (kinds_of o) ms
+    → Operands m (p + (length (kinds_of o) + 1) / 2) (kinds_of o) ms → instruction_at m at ≡ Ok i
+    → Spells m at i
 spelled_so m at n p o ms i c same f g e =
     let w : Writing = record { op = o; width = c.width; operands = g.operands; spare = f.spare } in
     let is : IsWriting w = record {
-      width = has_width c.width (number_of o) (λ one. subst (λ (k : ℕ). k < 0x80) (sym same) (c.low one)) (is_small o).number;
+      width = has_width c.width (number_of o)
+          (λ one. subst (λ (k : ℕ). k < 0x80) (sym same) (c.low one)) (is_small o).number;
       kinds = g.kinds;
       operands = g.are;
       spare = f.low;
@@ -168,16 +189,21 @@ spelled_so m at n p o ms i c same f g e =
     let second : p ≡ at + length front = omega (arith, a, next) in
     let third : p + (length (kinds_of o) + 1) / 2 ≡ p + length middle = omega (arith, b, k, x, y) in
     let bytes : Stand m at (spelled w) =
-    stand_both m at front (middle ++ rest) (subst (λ (j : ℕ). Stand m at (opcode_bytes c.width j)) (sym same) c.bytes)
+    stand_both m at front (middle ++ rest)
+    (subst (λ (j : ℕ). Stand m at (opcode_bytes c.width j)) (sym same) c.bytes)
     (subst (λ (j : ℕ). Stand m j (middle ++ rest)) second
-    (stand_both m p middle rest (subst (λ (js : List Mode). Stand m p (mode_bytes js f.spare)) (sym g.modes) f.bytes)
+    (stand_both m p middle rest
+    (subst (λ (js : List Mode). Stand m p (mode_bytes js f.spare)) (sym g.modes) f.bytes)
     (subst (λ (j : ℕ). Stand m j rest) third g.bytes))) in
-    let j : Instr = instr (number_of o) (loads_of m g.operands) (stores_of m g.operands) (at + length (spelled w)) in
+    let j : Instr = instr (number_of o) (loads_of m g.operands) (stores_of m g.operands)
+    (at + length (spelled w)) in
     record {
       writing = w;
       is = is;
       bytes = bytes;
-      reads = ok_is (sym e ∙ decodes_what_is_spelled m at j (record { writing = w; is = is; bytes = bytes; reads = refl }));
+      reads = ok_is (sym e
+          ∙ decodes_what_is_spelled m at j
+          (record { writing = w; is = is; bytes = bytes; reads = refl }));
     }
 
 pub spells_what_is_decoded : SpellsWhatIsDecoded
@@ -189,4 +215,5 @@ spells_what_is_decoded m at i z e =
     let w = was_known x.0.0 (op_of x.0.0) k.0 (number_of-op_of x.0.0) k.1 in
     let f : Modes m x.0.1 (kinds_of k.0) v.0 = modes_stand m x.0.1 (kinds_of k.0) v.0 z v.1 in
     spelled_so m at x.0.0 x.0.1 k.0 v.0 i (opcode_stands m at x.0 z x.1) w.1 f
-    (operands_stand m (kinds_of k.0) v.0 (bare x.0.0 (x.0.1 + (length (kinds_of k.0) + 1) / 2)) i z f.allowed v.2) e
+    (operands_stand m (kinds_of k.0) v.0
+    (bare x.0.0 (x.0.1 + (length (kinds_of k.0) + 1) / 2)) i z f.allowed v.2) e
