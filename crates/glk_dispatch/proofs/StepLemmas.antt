@@ -6,7 +6,6 @@ use Rattle.vm_memory.specs.MemoryMap.{MemoryMap}
 use Rattle.vm_memory.specs.Access.{read}
 use Rattle.vm_memory.specs.Fault.{coded}
 use Rattle.vm_stack.specs.StackState.{StackState}
-use Rattle.glk_windows.specs.Reading.{children_of}
 use Rattle.glk_input.specs.Delivery.{width}
 use Rattle.glk_dispatch.specs.Answer.{◌>>=◌, within}
 use Rattle.glk_dispatch.specs.Arguments.{popped, taken}
@@ -17,7 +16,6 @@ use Rattle.glk_dispatch.specs.Glk.{charged, style_of}
 use Rattle.glk_dispatch.specs.Output.{code_at, echo_from, put_array, put_code, put_item, put_once}
 use Rattle.glk_dispatch.specs.Output.{put_text, spread}
 use Rattle.glk_dispatch.specs.Streams.{got_array, got_item, got_on}
-use Rattle.glk_dispatch.specs.Windows.{all_dropped, both_dropped, dropped}
 use Rattle.glk_dispatch.specs.declared.case.Case.{Case}
 use Rattle.glk_dispatch.specs.declared.glk.Glk.{Glk}
 
@@ -132,17 +130,6 @@ pub got_array-none : (line u : Bool) (g : Glk) (m : MemoryMap) (s at count : ℕ
     → got_array 0 line u g m s at count ≡ Ok (g, m, count)
 unfolding got_array
 got_array-none line u g m s at count = refl
-
-pub all_dropped-more : (n : ℕ) (g : Glk) (win : ℕ) → 0 < n
-    → all_dropped n g win ≡ both_dropped (all_dropped (n - 1)) (dropped g win)
-    (children_of g.windows.slots win)
-unfolding all_dropped
-all_dropped-more zero g win h = absurd (omega arith)
-all_dropped-more (suc n) g win h = simp unary_clauses
-
-pub all_dropped-none : (g : Glk) (win : ℕ) → all_dropped 0 g win ≡ g
-unfolding all_dropped
-all_dropped-none g win = refl
 
 pub set_outside : (xs : List ℕ) (i v : ℕ) → length xs ≤ i → slice_set xs i v ≡ xs
 set_outside [] i v h = refl

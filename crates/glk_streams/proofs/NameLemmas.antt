@@ -1,5 +1,5 @@
 -- How a name is cleaned, character by character.
-use Rattle.std.proofs.Common.{◌≡◌, ◌≢◌, ◌<◌, ◌-◌, ◌+◌, ℕ, suc, true, false, List, [], ◌∷◌, ◌++◌}
+use Rattle.std.proofs.Common.{◌≡◌, ◌≢◌, ◌<◌, ◌-◌, ◌+◌, ℕ, suc, false, List, [], ◌∷◌, ◌++◌}
 use Rattle.std.proofs.Common.{refl, sym, ap, ◌∙◌, arith, length}
 use Rattle.std.proofs.lemmas.Grind.{common_steps}
 use Rattle.std.proofs.lemmas.Str.{chars-append, chars-IsAscii, chars-nil, chars_past_char}
@@ -10,9 +10,6 @@ use Rattle.std.specs.Prelude.{codes}
 use mathlib.Core.List.{append-nil, append_assoc}
 use Rattle.glk_streams.specs.Names.{is_taken_out, before_period, cut, cleaned, or_null}
 
-pub cut-none : (cs : List ℕ) → cut 0 cs ≡ []
-cut-none cs = refl
-
 pub cut-nil : (n : ℕ) → cut n [] ≡ []
 unfolding before_period
 cut-nil n = grind (arith, common_steps)
@@ -20,9 +17,6 @@ cut-nil n = grind (arith, common_steps)
 pub cut-period : (n : ℕ) (cs : List ℕ) → cut n (0x2E ∷ cs) ≡ []
 unfolding before_period
 cut-period n cs = grind (arith, common_steps)
-
-pub cut-out : (n c : ℕ) (cs : List ℕ) → is_taken_out c ≡ true → cut n (c ∷ cs) ≡ cut n cs
-cut-out n c cs e = rw e refl
 
 pub cut-in : (n m c : ℕ) (cs : List ℕ) → is_taken_out c ≡ false → c ≢ 0x2E → n ≡ m + 1
     → cut n (c ∷ cs) ≡ c ∷ cut m cs
@@ -33,10 +27,6 @@ cut-in n m c cs e h s = let t : n ≡ suc m =
 pub or_null-empty : (cs : List ℕ) → length (encode_utf8_all cs) ≡ 0 → codes "null" ≡ or_null cs
 or_null-empty [] e = refl
 or_null-empty (c ∷ cs) e = absurd (grind (arith, common_steps, length-encode c))
-
-pub or_null-some : (cs : List ℕ) → length (encode_utf8_all cs) ≢ 0 → cs ≡ or_null cs
-or_null-some [] e = absurd (e refl)
-or_null-some (c ∷ cs) e = refl
 
 chars-encode : (c : ℕ) → IsScalar c → chars (encode_utf8 c) ≡ c ∷ []
 chars-encode c h =

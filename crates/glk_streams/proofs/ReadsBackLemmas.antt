@@ -1,8 +1,8 @@
 -- What is put to one stream is what another gives.
-use Rattle.std.proofs.Common.{◌≡◌, ◌≢◌, ◌≤◌, ◌<◌, ℕ, zero, suc, ◌+◌, ◌-◌, ◌*◌, Bool, true, false}
-use Rattle.std.proofs.Common.{◌&&◌, ◌||◌, List, [], ◌∷◌, ◌++◌, refl, sym, ap, ◌∙◌, subst, Option}
-use Rattle.std.proofs.Common.{Some, None, Result, Ok, Err, arith, nat_lt, nat_le, length}
-use Rattle.std.proofs.Common.{length-append, min}
+use Rattle.std.proofs.Common.{◌≡◌, ◌≢◌, ◌≤◌, ℕ, ◌+◌, ◌-◌, Bool, true, false}
+use Rattle.std.proofs.Common.{◌&&◌, List, [], ◌∷◌, ◌++◌, refl, sym, ap, ◌∙◌, subst}
+use Rattle.std.proofs.Common.{Some, Ok, arith, nat_le, length}
+use Rattle.std.proofs.Common.{length-append}
 use Rattle.std.proofs.lemmas.Grind.{common_steps}
 use mathlib.Core.List.{append_assoc, append-nil}
 use Rattle.std.specs.Ordering.{is_eq, nat_cmp, ordering_reverse}
@@ -12,22 +12,18 @@ use Rattle.std.specs.Cmp.Lexicographic.{slice_cmp, nat_list_cmp_total}
 use Rattle.vm_memory.specs.MemoryMap.{MemoryMap, replaced}
 use Rattle.glk_numbers.specs.Numbered.{found, changed_at}
 use Rattle.glk_streams.specs.declared.coding.Coding.{Coding}
-use Rattle.glk_streams.specs.declared.coding.Reading.{Reading}
-use Rattle.glk_streams.specs.declared.fault.StreamStop.{StreamStop}
 use Rattle.glk_streams.specs.declared.file.File as file
 use Rattle.glk_streams.specs.declared.stream.Stream.{Stream}
 use Rattle.glk_streams.specs.declared.stream.Target.TheVariants.{File}
-use Rattle.glk_streams.specs.Answer.{◌>>=◌, live}
-use Rattle.glk_streams.specs.Coding.{coding_of, kept, bytes_in, unit_of, units_of, steps_of}
-use Rattle.glk_streams.specs.Coding.{char_at}
+use Rattle.glk_streams.specs.Coding.{coding_of, kept, bytes_in, units_of, steps_of}
 use Rattle.glk_streams.specs.Files.{key_of, is_named, has_file, content_of, with_bytes, with_file}
 use Rattle.glk_streams.specs.Files.{holding, bytes_of, may_stand, room_of, file_of}
-use Rattle.glk_streams.specs.Input.{got, got_by, behind, passed}
-use Rattle.glk_streams.specs.Output.{put, put_by, put_bytes, is_kept, start_of, held, counted}
+use Rattle.glk_streams.specs.Input.{passed}
+use Rattle.glk_streams.specs.Output.{put, put_by, put_bytes, start_of, held, counted}
 use Rattle.glk_streams.specs.Output.{placed}
 use Rattle.glk_streams.specs.RoundTrip.{has_code, AreHeld, spelled, Reads, IsOpen, put_all, Gives}
 use Rattle.glk_streams.specs.RoundTrip.{ReadsBack}
-use Rattle.glk_streams.specs.Streams.{StreamTable, number_of, stream_at, with_stream, is_read_mode}
+use Rattle.glk_streams.specs.Streams.{StreamTable, number_of, with_stream, is_read_mode}
 use Rattle.glk_streams.specs.Streams.{is_write_mode}
 use Rattle.glk_streams.proofs.ValidLemmas.{bytes-bytes, bytes-file, number-found}
 use Rattle.glk_streams.proofs.ValidLaws.{both, no-content}

@@ -1,6 +1,6 @@
 -- What is written through a stream and read back through another (own).
 use Rattle.std.specs.Prelude.{◌≡◌, ℕ, ◌+◌, nat_lt, Bool, true, ◌≢◌, ◌≤◌}
-use Rattle.std.specs.Prelude.{List, [], ◌∷◌, ◌++◌, length, Option, Some, None, Result, Ok}
+use Rattle.std.specs.Prelude.{List, [], ◌∷◌, ◌++◌, length, Some, None, Result, Ok}
 use lib.Utf8.{scalar}
 use Rattle.vm_memory.specs.MemoryMap.{MemoryMap, replaced}
 use Rattle.glk_streams.specs.Answer.{◌>>=◌}

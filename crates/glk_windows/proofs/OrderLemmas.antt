@@ -5,8 +5,7 @@ use Rattle.glk_windows.specs.declared.window.Area.{Area}
 use Rattle.glk_windows.specs.declared.window.Pair as p
 use Rattle.glk_numbers.specs.Numbered.{changed_at, without}
 use Rattle.glk_windows.specs.Tree.{WindowTree, number_of, set_at, pair_of, swapped, parent_of, stream_of}
-use Rattle.glk_windows.specs.Opening.{split, joined, first_opened, beside_opened, is_kind}
-use Rattle.glk_windows.specs.Output.{put, window_put}
+use Rattle.glk_windows.specs.Opening.{joined, first_opened, beside_opened, is_kind}
 use Rattle.glk_windows.specs.Reading.{other as sibling}
 use Rattle.glk_windows.specs.Placing.{placed, divided, with_area, place}
 use Rattle.glk_windows.specs.Closing.{closed, unlinked, removed, both, close, ended}
@@ -107,19 +106,9 @@ ordered_beside t from method size kind rock o =
     _ _ o (ascends-two 1 (joined t.slots from (t.next + 1)) t.next _ _ refl refl
     (ascends-joined 1 t.slots t.next from (t.next + 1) o))
 
-pub ordered_split : (t : WindowTree) (from method size kind rock : ℕ) → IsOrdered t
-    → IsOrdered (split t from method size kind rock).0
-unfolding IsOrdered
-ordered_split t from method size kind rock o =
-    ordered-cond (from == 0) _ _ (ordered_first t kind rock o) (ordered_beside t from method size kind rock o)
-
 pub ordered_place : (t : WindowTree) (cols rows : ℕ) → IsOrdered t → IsOrdered (place t cols rows)
 unfolding IsOrdered
 ordered_place t cols rows o = ascends-placed (length t.slots) 1 t.slots t.next t.root _ o
-
-pub ordered_put : (t : WindowTree) (n code style : ℕ) → IsOrdered t → IsOrdered (put t n code style)
-unfolding IsOrdered
-ordered_put t n code style o = ascends-set_at (λ w. window_put w code style) (λ w. refl) 1 t.slots t.next n o
 
 ordered-if : (b : Bool) (x y : WindowTree) → IsOrdered x → IsOrdered y → IsOrdered (cond b x y)
 unfolding IsOrdered

@@ -1,5 +1,5 @@
 -- Output and placing leave the tree as it is.
-use Rattle.std.proofs.Common.{◌≡◌, ℕ, zero, suc, List, refl, sym, ap, ◌∙◌, Option, Some, None, is_some, option_map, arith, if◌then◌else◌, ◌==◌, length}
+use Rattle.std.proofs.Common.{◌≡◌, ℕ, zero, suc, List, refl, sym, ap, ◌∙◌, Option, Some, None, is_some, option_map, arith, if◌then◌else◌, ◌==◌}
 use Rattle.std.proofs.lemmas.Grind.{common_steps}
 use Rattle.glk_windows.specs.declared.window.Window.{Window}
 use Rattle.glk_windows.specs.declared.window.Area.{Area}
@@ -7,9 +7,7 @@ use Rattle.glk_windows.specs.declared.window.Pair as p
 use Rattle.glk_windows.specs.declared.window.Content.{Content}
 use Rattle.glk_windows.specs.declared.window.Content.TheVariants.{Pair, Blank, Buffer, Grid}
 use Rattle.glk_windows.specs.Tree.{WindowTree, set_at, pair_of, pair_content}
-use Rattle.glk_windows.specs.Output.{put, window_put, content_put}
-use Rattle.glk_windows.specs.Arranging.{stream_set}
-use Rattle.glk_windows.specs.Placing.{placed, divided, with_area, place}
+use Rattle.glk_windows.specs.Placing.{placed, divided, with_area}
 use Rattle.glk_windows.specs.Resizing.{sized, content_sized}
 use Rattle.glk_windows.specs.OneTree.{Shape, node_of, bare, bare_in, IsTree}
 use Rattle.glk_windows.proofs.OneTreeLemmas.{node_set_at}
@@ -32,23 +30,11 @@ pub node_same : (f : Window → Window) (num : (w : Window) → (f w).number ≡
     → (ws : List Window) (n m : ℕ) → node_of (set_at f ws n) m ≡ node_of ws m
 node_same f num nd ws n m = node_set_at f (λ x. x) num nd ws n m ∙ same-mapped (node_of ws m) m n
 
-put-content : (c : Content) (code style : ℕ) → option_map bare (pair_content (content_put c code style)) ≡ option_map bare (pair_content c)
-put-content (Pair p) code style = refl
-put-content Blank code style = refl
-put-content (Buffer b) code style = refl
-put-content (Grid g) code style = refl
-
 sized-content : (c : Content) (a : Area) → option_map bare (pair_content (content_sized c a)) ≡ option_map bare (pair_content c)
 sized-content (Pair p) a = refl
 sized-content Blank a = refl
 sized-content (Buffer b) a = refl
 sized-content (Grid g) a = refl
-
-pub tree_put : (t : WindowTree) (n code style : ℕ) (s : Shape) → IsTree t (Some s) → IsTree (put t n code style) (Some s)
-tree_put t n code style s h =
-    same_tree t (put t n code style) s
-    (node_same (λ w. window_put w code style) (λ w. refl) (λ w. ap (λ o. (w.parent, o)) (put-content w.content code style)) t.slots n)
-    refl h
 
 -- a rectangle leaves the tree as it is
 pub node_with : (ws : List Window) (n : ℕ) (r : Area) (m : ℕ) → node_of (with_area ws n r) m ≡ node_of ws m
@@ -67,10 +53,3 @@ node_placed zero ws n r m = refl
 node_placed (suc d) ws n r m =
     node-divided (placed d) (node_placed d) (with_area ws n r) (pair_of ws n) r m
     ∙ node_same (sized r) (λ w. refl) (λ w. ap (λ o. (w.parent, o)) (sized-content w.content r)) ws n m
-
-pub tree_place : (t : WindowTree) (cols rows : ℕ) (s : Shape) → IsTree t (Some s) → IsTree (place t cols rows) (Some s)
-tree_place t cols rows s h = same_tree t (place t cols rows) s (node_placed (length t.slots) t.slots t.root _) refl h
-
-pub tree_stream : (t : WindowTree) (n stream : ℕ) (s : Shape) → IsTree t (Some s) → IsTree (stream_set t n stream) (Some s)
-tree_stream t n stream s h =
-    same_tree t (stream_set t n stream) s (node_same (λ w. record w { stream = stream }) (λ w. refl) (λ w. refl) t.slots n) refl h

@@ -525,10 +525,6 @@ tree-beside t from method size kind rock x o l (Some s, h, k) = (
       (keyed-beside t from method size kind rock s o h k),
 )
 
-tree-split-if : (b : Bool) (x y : WindowTree × ℕ) → (b ≡ true → SomeTree x.0) → (b ≡ false → SomeTree y.0) → SomeTree (cond b x y).0
-tree-split-if true x y f g = f refl
-tree-split-if false x y f g = g refl
-
 few-if : (b : Bool) (x y : WindowTree × ℕ) → length x.0.slots ≤ 64 → (b ≡ false → length y.0.slots ≤ 64) → length (cond b x y).0.slots ≤ 64
 few-if true x y f g = f
 few-if false x y f g = g refl

@@ -80,16 +80,6 @@ abbrev pub turned_by : WorldState → List Input → WorldState
 turned_by w [] = w
 turned_by w (x ∷ xs) = turned_by (turned w x) xs
 
--- the shows of the turns on inputs
-abbrev pub shows_from : WorldState → List Input → List (List ℕ)
-shows_from w [] = []
-shows_from w (x ∷ xs) = shown (turned w x) ∷ shows_from (turned w x) xs
-
 -- the world of a story after these inputs
 abbrev pub world_after : List ℕ → Setup → List Input → WorldState
 world_after image setup inputs = turned_by (opening image setup) inputs
-
--- the shows of a story on these inputs, that of the opening first
-abbrev pub shows_of : List ℕ → Setup → List Input → List (List ℕ)
-shows_of image setup inputs =
-    shown (opening image setup) ∷ shows_from (opening image setup) inputs

@@ -1,4 +1,4 @@
-use Rattle.std.proofs.Common.{arith, ◌≡◌, ◌*◌, ◌+◌, ◌%◌, ◌^◌}
+use Rattle.std.proofs.Common.{arith, ◌*◌, ◌^◌}
 use Rattle.std.proofs.lemmas.Grind.{common_steps}
 use Rattle.std.proofs.Math.Nat.{add-mod-mod}
 use Rattle.glk_streams.proofs.output.address_of.Goals as goal

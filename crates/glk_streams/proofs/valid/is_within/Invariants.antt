@@ -1,4 +1,4 @@
-use Rattle.std.proofs.Common.{◌≡◌, ◌≤◌, drop, nat_le}
+use Rattle.std.proofs.Common.{◌≡◌, drop, nat_le}
 use Rattle.glk_streams.specs.Files.{bytes_of}
 use Rattle.glk_streams.proofs.valid.is_within.Given as goal
 
