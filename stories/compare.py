@@ -13,6 +13,7 @@ with the host's main window, each one. The status is 0 where all agree.
 import argparse
 import os
 import re
+import shutil
 import sys
 import tempfile
 
@@ -176,6 +177,8 @@ def main():
     print(f"{waits} waits compared, the host ended as {host.ended}, {bad} differences")
     if given.keep:
         print(folder)
+    else:
+        shutil.rmtree(folder)
     return bad != 0
 
 
