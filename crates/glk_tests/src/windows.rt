@@ -176,12 +176,15 @@ fn sixty_four_windows_are_all(rt: HostRuntime) -> Result<(), Fail> {
     let mut windows = Windows::new(alloc);
     windows.split(alloc, 0, 0, 0, 2, 0)?;
     assert_eq!(rt; windows.split(alloc, 0, 0, 0, 3, 0)?, 0);
-    assert_eq!(rt; beside(&mut windows, alloc, 1, 0x12, 1, 5, 0)?, 0);
+    let other_kind = beside(&mut windows, alloc, 1, 0x12, 1, 5, 0)?;
+    assert_eq!(rt; other_kind, 0);
     for i in 1..32 {
-        assert_eq!(rt; beside(&mut windows, alloc, 1, 0x21, 50, 3, 0)?, 2 * i);
+        let made = beside(&mut windows, alloc, 1, 0x21, 50, 3, 0)?;
+        assert_eq!(rt; made, 2 * i);
     }
     assert_eq!(rt; windows.slots().len(), 63);
-    assert_eq!(rt; beside(&mut windows, alloc, 1, 0x21, 50, 3, 0)?, 0);
+    let one_more = beside(&mut windows, alloc, 1, 0x21, 50, 3, 0)?;
+    assert_eq!(rt; one_more, 0);
     assert_eq!(rt; windows.slots().len(), 63);
     Ok(())
 }
