@@ -3,5 +3,7 @@ pub mod Torn
 pub mod Moments
 pub mod RangeLaws
 pub mod StateLaws
+pub mod PlainLaws
+pub mod PieceLaws
 pub mod CallLaws
 pub mod WorkLaws

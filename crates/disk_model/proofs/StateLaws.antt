@@ -123,7 +123,7 @@ widened p seen r c image = record {
 }
 
 -- the piece in its place
-wrote :
+pub wrote :
     (p : DiskState) (at : ℕ) (piece : List ℕ)
     → IsImage p p.seen
     → IsImage (with_range p (written p.seen at piece) (at, at + length piece))
@@ -147,7 +147,7 @@ pub well_settled : (s : List ℕ) → length s ≤ 2 ^ 40 → IsWell (settled s)
 well_settled s le = record { stays = settled_image s; within = le; ends = le }
 
 -- what a write makes where the test of the room says this
-abbrev if_fits : Bool → Bool → ℕ → List ℕ → DiskState → DiskState
+abbrev pub if_fits : Bool → Bool → ℕ → List ℕ → DiskState → DiskState
 if_fits fits good at piece p =
     if fits
     then with_range p (if good then written p.seen at piece else p.seen) (at, at + length piece)

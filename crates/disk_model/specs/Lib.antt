@@ -6,3 +6,4 @@ pub mod Calls
 pub mod Memory
 pub mod Flat
 pub mod File
+pub mod Plain

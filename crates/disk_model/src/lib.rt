@@ -7,6 +7,7 @@ mod file;
 mod flat;
 mod memory;
 mod note;
+mod plain;
 mod stop;
 mod through;
 
@@ -15,4 +16,5 @@ pub use disk::{Disk, Failed};
 pub use file::FileDisk;
 pub use flat::FlatDisk;
 pub use memory::MemDisk;
+pub use plain::PlainDisk;
 pub use through::write_through;

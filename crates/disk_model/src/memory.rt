@@ -13,7 +13,7 @@ use crate::stop::draw_image;
 use crate::{Disk, Failed};
 use std::alloc::{AllocError, Global};
 
-const ROOM: u64 = 1 << 40;
+pub const ROOM: u64 = 1 << 40;
 
 /// A disk in memory of at most 2^40 bytes. It keeps all calls, so that a stop may leave all that a
 /// disk may. A call that finds no memory fails.

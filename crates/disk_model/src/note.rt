@@ -1,8 +1,8 @@
 //! The calls of a disk in memory: what each does to its bytes, its ranges and its list of calls.
 
 ghost use Rattle.std.specs.Prelude.{◌≡◌, ℕ, List, ◌+◌, ◌≤◌, ◌<◌, ◌^◌};
-ghost use Rattle.std.specs.Prelude.{◌++◌, [], ◌∷◌, length};
-ghost use Rattle.std.specs.Prelude.{if◌then◌else◌, IfOk, OnOk, OnErr};
+ghost use Rattle.std.specs.Prelude.{◌++◌, [], ◌∷◌, length, take, drop};
+ghost use Rattle.std.specs.Prelude.{if◌then◌else◌, OnOk, OnErr};
 ghost use Rattle.disk_model.specs.Disk.{written, Reads, Elapses};
 ghost use Rattle.disk_model.specs.DiskState.{IsImage, IsWell, after_write, after_sync};
 ghost use Rattle.disk_model.specs.Calls.{state_after, LeftSince};
@@ -10,26 +10,34 @@ ghost use Rattle.disk_model.specs.Calls.{state_after, LeftSince};
 use crate::call::Call;
 use std::alloc::{AllocError, Global};
 
-fn next_bytes(
-    alloc: Global,
-    bytes: &[u8],
-    place: usize,
-    piece: &[u8],
-) -> Result<Vec<u8>, AllocError>
+// Puts a piece in the place of as many bytes.
+fn overwrite(bytes: &mut [u8], place: usize, piece: &[u8])
+    requires { place + length piece.now ≤ length bytes.old }
+    ensures { bytes.new
+        ≡ take place bytes.old ++ piece.now ++ drop (place + length piece.now) bytes.old }
+{
+    bytes[place..place + piece.len()].copy_from_slice(piece);
+}
+
+/// Puts a piece in its place, behind zeros where it begins past the end.
+#[tactic(
+    auto,
+    using(crate::proofs::PieceLaws::written_inside, crate::proofs::PieceLaws::written_behind)
+)]
+pub fn put_piece(bytes: &mut Vec<u8>, place: usize, piece: &[u8]) -> Result<(), AllocError>
     requires { place + length piece.now < 2 ^ 63 }
-    ensures { IfOk result (λ v. v.items ≡ written bytes.now place piece.now) }
+    ensures ok { OnOk result (bytes.new.items ≡ written bytes.old.items place piece.now) }
+    ensures err { OnErr result (bytes.new.items ≡ bytes.old.items) }
 {
     let end = place + piece.len();
-    let mut next = bytes.to_vec(alloc)?;
-    if place > next.len() {
-        next.resize(place, 0)?;
+    if end <= bytes.len() {
+        overwrite(bytes, place, piece);
+        return Ok(());
     }
-    next.truncate(place);
-    next.extend_from_slice(piece)?;
-    if end < bytes.len() {
-        next.extend_from_slice(&bytes[end..])?;
-    }
-    Ok(next)
+    bytes.reserve(end - bytes.len())?;
+    let _ = bytes.resize(place, 0);
+    let _ = bytes.extend_from_slice(piece);
+    Ok(())
 }
 
 /// Notes a call that changes nothing.
@@ -100,17 +108,17 @@ pub fn put(
         × (calls.new.items ≡ calls.old.items)) }
 {
     let piece_kept = piece.to_vec(alloc)?;
-    let next = next_bytes(alloc, bytes, place as usize, piece)?;
     ranges.reserve(1)?;
-    calls.push(Call::Write {
+    calls.reserve(1)?;
+    if good {
+        put_piece(bytes, place as usize, piece)?;
+    }
+    let _ = calls.push(Call::Write {
         place,
         piece: piece_kept,
         good,
-    })?;
+    });
     let _ = ranges.push((place, place + piece.len() as u64));
-    if good {
-        *bytes = next;
-    }
     Ok(())
 }
 

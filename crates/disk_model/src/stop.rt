@@ -7,7 +7,8 @@ ghost use Rattle.disk_model.specs.Drawn.{keeps, IsDrawn};
 
 use std::alloc::{AllocError, Global};
 
-fn last_end(ranges: &[(u64, u64)], size: u64) -> u64
+/// The greatest of this size and the ends of the ranges.
+pub fn last_end(ranges: &[(u64, u64)], size: u64) -> u64
     ensures { result ≡ greatest_end ranges.now size }
 {
     let mut end = size;

@@ -21,3 +21,8 @@ IsCommand (Line win term text) = (win ≤ 4294967295) × IsTerminator term × Is
 IsCommand (Char win code) = (win ≤ 4294967295) × (is_code code ≡ true)
 IsCommand (File name) = IsText name
 IsCommand Close = Unit {0}
+
+-- an OPEN has a digest of 32 bytes
+abbrev pub HasDigest : Command → Type 0
+HasDigest (Open key story digest seed cols rows budget) = length digest ≡ 32
+HasDigest command = Unit {0}

@@ -2,7 +2,7 @@
 
 ghost use Rattle.std.specs.Prelude.{◌≡◌, ◌↔◌, ◌+◌, ◌≤◌, IfOk, IsTrue, length};
 ghost use Rattle.story_text.specs.Text.{IsText};
-ghost use Rattle.gate_journal.specs.Command.{IsCommand};
+ghost use Rattle.gate_journal.specs.Command.{IsCommand, HasDigest};
 ghost use Rattle.gate_journal.specs.declared.command.Command.TheVariants as Command;
 ghost use Rattle.gate_journal.specs.Rows.{is_open, is_close, kind_of, payload_of};
 
@@ -80,7 +80,21 @@ fn is_char_in_range(win: u32, code: u32) -> bool
     is_code(code)
 }
 
+// Every digest has 32 bytes.
+fn is_whole(_digest: [u8; 32])
+    ensures { length _digest ≡ 32 }
+{}
+
 impl Command {
+    /// Says that the digest of an OPEN is whole; does nothing.
+    pub fn has_digest(&self)
+        ensures { HasDigest self.now }
+    {
+        if let Command::Open { digest, .. } = self {
+            is_whole(*digest);
+        }
+    }
+
     /// Whether its fields are in the ranges of a journal's rows.
     pub fn is_in_range(&self) -> bool
         ensures { IsTrue result ↔ IsCommand self.now }
@@ -130,7 +144,7 @@ impl Command {
     }
 
     /// How many bytes a row carries of it.
-    pub(crate) fn payload_len(&self) -> usize
+    pub fn payload_len(&self) -> usize
         requires { IsCommand self.now }
         ensures value { result ≡ length (payload_of self.now) }
         ensures within { result ≤ 4104 }

@@ -28,5 +28,7 @@ pub use laws::{
     ends_within, has_one_corrupt_place, has_one_reading, opening_finds, spells_one_list,
     spells_or_is_corrupt,
 };
+pub use parse::{Rows, read_rows, row_behind};
+pub use room::row_bytes;
 pub use row::Row;
 pub use stop::stop_and_open;

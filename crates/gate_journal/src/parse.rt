@@ -1,9 +1,9 @@
 //! The rows that bytes spell (own).
 
-ghost use Rattle.std.specs.Prelude.{◌≡◌, ◌+◌, ◌≤◌, ◌++◌, List, ℕ};
+ghost use Rattle.std.specs.Prelude.{◌≡◌, ◌+◌, ◌≤◌, ◌++◌, [], List, ℕ};
 ghost use Rattle.std.specs.Prelude.{IfOk, IfErr, MatchOption};
 ghost use Rattle.std.specs.Prelude.{length, drop};
-ghost use Rattle.gate_journal.specs.Rows.{spelled, SpellsRows};
+ghost use Rattle.gate_journal.specs.Rows.{spelled, IsJournal, SpellsRows};
 ghost use Rattle.gate_journal.specs.Parsing.{IsFirst, IsNoNext};
 ghost use Rattle.gate_journal.specs.Seats.{Counts};
 ghost use Rattle.gate_journal.specs.Faults.{Refuses};
@@ -16,10 +16,57 @@ use crate::payload::read_command;
 use crate::row::Row;
 use crate::seats::Seats;
 use std::alloc::{AllocError, Global};
+use std::marker::Model;
 
 const HEADER: [u8; 16] = [83, 84, 72, 74, 0, 0, 0, 1, 0, 0, 0, 0, 0, 0, 0, 0];
 
-/// Rows, and the place of the closing gate behind them.
+/// Rows that a journal may have, and the place of the closing gate behind them.
+#[derive(Drop)]
+pub struct Rows {
+    list: Vec<Row>,
+    end: u64,
+}
+
+impl Model for Rows {
+    ghost use Rattle.std.specs.Prelude.{◌≡◌, List, length};
+    ghost use Rattle.gate_journal.specs.Rows.{spelled, IsJournal};
+    ghost use Rattle.gate_journal.specs.declared.row.Row.{Row};
+
+    ghost Value = { List Row };
+
+    ghost view = { λ r. r.list.items };
+
+    ghost invariant = { λ r. IsJournal r.list.items × (r.end ≡ length (spelled r.list.items)) };
+}
+
+impl Rows {
+    /// No rows.
+    pub fn new(alloc: Global) -> Rows
+        ensures { result ≡ [] }
+    {
+        Rows {
+            list: Vec::new(alloc),
+            end: 16,
+        }
+    }
+
+    /// The rows, lent.
+    pub fn as_slice(&self) -> &[Row]
+        ensures value { result.now ≡ self.now }
+        ensures journal { IsJournal self.now }
+    {
+        self.list.as_slice()
+    }
+
+    /// The place of the closing gate.
+    pub fn end(&self) -> u64
+        ensures { result ≡ length (spelled self.now) }
+    {
+        self.end
+    }
+}
+
+/// Rows as entries, and the place of the closing gate behind them.
 #[derive(Drop)]
 pub struct Parsed {
     pub history: History,
@@ -59,11 +106,18 @@ fn next_row(
     }))
 }
 
-/// The rows, and the place of the closing gate.
-pub fn parse(alloc: Global, bytes: &[u8]) -> Result<Parsed, JournalFault>
-    ensures ok { IfOk result (λ p. SpellsRows bytes.now (rows_of p.history.list)
-        × (p.end ≡ length (spelled (rows_of p.history.list)))) }
-    ensures fresh { IfOk result (λ p. p.history.list ≡ kept (rows_of p.history.list)) }
+/// The row that may stand next behind these rows, where the bytes past a gate begin with one.
+pub fn row_behind(alloc: Global, rows: &Rows, past: &[u8]) -> Result<Option<Row>, AllocError>
+    ensures { IfOk result (λ o.
+        MatchOption o (IsNoNext rows.now past.now) (IsFirst rows.now past.now)) }
+{
+    let seats = Seats::of(rows.as_slice());
+    next_row(alloc, &seats, rows.end, past)
+}
+
+/// The rows that the bytes spell.
+pub fn read_rows(alloc: Global, bytes: &[u8]) -> Result<Rows, JournalFault>
+    ensures ok { IfOk result (λ rows. SpellsRows bytes.now rows) }
     ensures exact { IfErr result (Refuses bytes.now) }
 {
     if !bytes.starts_with(&HEADER) {
@@ -75,9 +129,8 @@ pub fn parse(alloc: Global, bytes: &[u8]) -> Result<Parsed, JournalFault>
     let mut rest = &bytes[16..];
     while let [gate, past @ ..] = rest {
         if *gate != 1 {
-            let history = History::of(alloc, rows)?;
-            return Ok(Parsed {
-                history,
+            return Ok(Rows {
+                list: rows,
                 end: place as u64,
             });
         }
@@ -91,4 +144,16 @@ pub fn parse(alloc: Global, bytes: &[u8]) -> Result<Parsed, JournalFault>
         rows.push(row)?;
     }
     Err(JournalFault::Corrupt(place as u64))
+}
+
+/// The rows that the bytes spell, as entries, and the place of the closing gate.
+pub fn parse(alloc: Global, bytes: &[u8]) -> Result<Parsed, JournalFault>
+    ensures ok { IfOk result (λ p. SpellsRows bytes.now (rows_of p.history.list)
+        × (p.end ≡ length (spelled (rows_of p.history.list)))) }
+    ensures fresh { IfOk result (λ p. p.history.list ≡ kept (rows_of p.history.list)) }
+    ensures exact { IfErr result (Refuses bytes.now) }
+{
+    let Rows { list, end } = read_rows(alloc, bytes)?;
+    let history = History::of(alloc, list)?;
+    Ok(Parsed { history, end })
 }

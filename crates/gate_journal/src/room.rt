@@ -3,7 +3,7 @@
 ghost use Rattle.std.specs.Prelude.{◌≡◌, ◌+◌, ◌<◌, ◌≤◌, ◌++◌, [], ◌∷◌};
 ghost use Rattle.std.specs.Prelude.{length};
 ghost use Rattle.std.specs.Prelude.{vec_capacity, string_bytes, string_len, string_capacity};
-ghost use Rattle.std.specs.Prelude.{true};
+ghost use Rattle.std.specs.Prelude.{true, IfOk};
 ghost use Rattle.story_text.specs.Text.{IsText};
 ghost use Rattle.line_words.specs.Field.{is_key};
 ghost use Rattle.gate_journal.specs.Command.{IsCommand};
@@ -87,18 +87,31 @@ fn put_payload(out: &mut Vec<u8>, command: &Command)
     }
 }
 
-// The row past its gate, and a zero byte for the next gate.
-fn put_row(out: &mut Vec<u8>, row: &Row)
+// The row of a session with this command past its gate, and a zero byte for the next gate.
+fn put_row(out: &mut Vec<u8>, session: u8, command: &Command)
     requires empty { out.old.items ≡ [] }
     requires fits { 4109 ≤ vec_capacity out.old }
-    requires ranges { IsCommand row.now.command }
-    ensures { out.new.items ≡ body row.now ++ 0 ∷ [] }
+    requires ranges { IsCommand command.now }
+    ensures { (r : Row) → r.session ≡ session → r.command ≡ command.now
+        → out.new.items ≡ body r ++ 0 ∷ [] }
 {
-    let size = row.command.payload_len() as u16;
-    put(out, &[row.session, row.command.kind()]);
+    let size = command.payload_len() as u16;
+    put(out, &[session, command.kind()]);
     put(out, &size.to_be_bytes());
-    put_payload(out, &row.command);
+    put_payload(out, command);
     put(out, &[0]);
+}
+
+/// What is written of a session's row with this command past its gate: its bytes, and a zero byte
+/// for the next gate.
+pub fn row_bytes(alloc: Global, session: u8, command: &Command) -> Result<Vec<u8>, AllocError>
+    requires { IsCommand command.now }
+    ensures { IfOk result (λ bytes. (r : Row) → r.session ≡ session → r.command ≡ command.now
+        → bytes.items ≡ body r ++ 0 ∷ []) }
+{
+    let mut bytes = Vec::with_capacity(alloc, MAX_ROW)?;
+    put_row(&mut bytes, session, command);
+    Ok(bytes)
 }
 
 // The same text in this string.
@@ -199,7 +212,7 @@ impl Room {
             by: u64::from(session) + 1,
             command: command_in(key, text, command),
         };
-        put_row(&mut bytes, &row);
+        put_row(&mut bytes, session, command);
         (row, bytes)
     }
 }

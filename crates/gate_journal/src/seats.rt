@@ -31,6 +31,19 @@ impl Seats {
         }
     }
 
+    /// Those of these rows.
+    pub fn of(rows: &[Row]) -> Seats
+        ensures { Counts rows.now result.counts result.uses }
+    {
+        let mut seats = Seats::new();
+        for row in rows {
+            if row.session < 64 {
+                seats.count(row.session, &row.command);
+            }
+        }
+        seats
+    }
+
     /// Whether a row of this session with this command may stand behind the rows that were counted.
     pub fn may_stand(&self, session: u8, command: &Command) -> bool
         ensures { (rows : List Row) → Counts rows self.now.counts self.now.uses
@@ -63,11 +76,5 @@ impl Seats {
 pub fn may_stand(rows: &[Row], session: u8, command: &Command) -> bool
     ensures { IsTrue result ↔ MayStand rows.now session command.now }
 {
-    let mut seats = Seats::new();
-    for row in rows {
-        if row.session < 64 {
-            seats.count(row.session, &row.command);
-        }
-    }
-    seats.may_stand(session, command)
+    Seats::of(rows).may_stand(session, command)
 }

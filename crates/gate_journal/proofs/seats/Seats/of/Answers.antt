@@ -4,8 +4,8 @@ use Rattle.gate_journal.specs.Seats.{Counts}
 use Rattle.gate_journal.specs.declared.row.Row.{Row}
 use Rattle.gate_journal.specs.declared.seats.Seats.{Seats}
 use Rattle.gate_journal.proofs.SeatLemmas.{counted_other}
-use Rattle.gate_journal.proofs.seats.may_stand.Goals as goal
-use Rattle.gate_journal.proofs.seats.may_stand.Goals.{then-row-lt64, else-row-lt64}
+use Rattle.gate_journal.proofs.seats.Seats.of.Goals as goal
+use Rattle.gate_journal.proofs.seats.Seats.of.Goals.{then-row-lt64, else-row-lt64}
 
 pub loop-row-init : goal.loop-row-init
 loop-row-init c = c.new-seats.ensures
@@ -31,5 +31,4 @@ loop-row-preserved c =
 pub returns : goal.returns
 returns c =
     let all : take c.loop-row.row-index c.args.rows.now ≡ c.args.rows.now = take_all c.loop-row.row-index c.args.rows.now c.loop-row-test.false in
-    c.may_stand.ensures c.args.rows.now
-    (subst (λ (l : List Row). Counts l c.loop-row.seats.counts c.loop-row.seats.uses) all c.loop-row.invariant)
+    subst (λ (l : List Row). Counts l c.loop-row.seats.counts c.loop-row.seats.uses) all c.loop-row.invariant

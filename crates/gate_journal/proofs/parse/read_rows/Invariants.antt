@@ -1,7 +1,7 @@
 use Rattle.std.proofs.Common.{◌≡◌, ◌++◌, length}
 use Rattle.gate_journal.specs.Rows.{spelled, IsJournal}
 use Rattle.gate_journal.specs.Seats.{Counts}
-use Rattle.gate_journal.proofs.parse.parse.Given as goal
+use Rattle.gate_journal.proofs.parse.read_rows.Given as goal
 
 abbrev pub invariant-loop-rest : goal.invariant-loop-rest
 invariant-loop-rest l = record {
