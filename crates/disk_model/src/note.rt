@@ -20,10 +20,7 @@ fn overwrite(bytes: &mut [u8], place: usize, piece: &[u8])
 }
 
 /// Puts a piece in its place, behind zeros where it begins past the end.
-#[tactic(
-    auto,
-    using(crate::proofs::PieceLaws::written_inside, crate::proofs::PieceLaws::written_behind)
-)]
+#[tactic(auto, using(crate::proofs::PieceLaws::written_inside, crate::proofs::PieceLaws::written_behind))]
 pub fn put_piece(bytes: &mut Vec<u8>, place: usize, piece: &[u8]) -> Result<(), AllocError>
     requires { place + length piece.now < 2 ^ 63 }
     ensures ok { OnOk result (bytes.new.items ≡ written bytes.old.items place piece.now) }

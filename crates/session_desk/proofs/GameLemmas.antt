@@ -53,15 +53,17 @@ joined_on (g ∷ gs) c some = refl
 pub begins-none : (xs : List Command) (c : Command) → journals.is_open c ≡ false → BeginsAt (length xs) xs → BeginsAt (length xs + 1) (xs ++ c ∷ [])
 begins-none xs c e b =
     let none : game_of xs ≡ [] = sym b.1 ∙ drop-length xs in
-    let len : length (xs ++ c ∷ []) ≡ length xs + 1 = length-append xs (c ∷ []) in
-    (omega (arith, len),
-     ap (λ (k : ℕ). drop k (xs ++ c ∷ [])) (sym len) ∙ drop-length (xs ++ c ∷ [])
-     ∙ sym (game_of-append xs c (sym (opens c) ∙ e) ∙ ap (λ (g : List Command). joined g c) none))
+    let len : length (xs ++ c ∷ []) ≡ length xs + 1 = length-append xs (c ∷ []) in (
+      omega (arith, len),
+      ap (λ (k : ℕ). drop k (xs ++ c ∷ [])) (sym len) ∙ drop-length (xs ++ c ∷ [])
+          ∙ sym (game_of-append xs c (sym (opens c) ∙ e) ∙ ap (λ (g : List Command). joined g c) none),
+    )
 
 -- the game goes on
 pub begins-on : (xs : List Command) (n : ℕ) (c : Command) → journals.is_open c ≡ false → n < length xs → BeginsAt n xs → BeginsAt n (xs ++ c ∷ [])
 begins-on xs n c e some b =
-    let more : 0 < length (game_of xs) = subst (λ (g : List Command). 0 < length g) b.1 (omega (arith, some, length-drop n xs)) in
-    (omega (arith, some, length-append xs (c ∷ [])),
-     drop-append-le n xs (c ∷ []) (omega (arith, some)) ∙ ap (λ (g : List Command). g ++ c ∷ []) b.1
-     ∙ sym (game_of-append xs c (sym (opens c) ∙ e) ∙ joined_on (game_of xs) c more))
+    let more : 0 < length (game_of xs) = subst (λ (g : List Command). 0 < length g) b.1 (omega (arith, some, length-drop n xs)) in (
+      omega (arith, some, length-append xs (c ∷ [])),
+      drop-append-le n xs (c ∷ []) (omega (arith, some)) ∙ ap (λ (g : List Command). g ++ c ∷ []) b.1
+          ∙ sym (game_of-append xs c (sym (opens c) ∙ e) ∙ joined_on (game_of xs) c more),
+    )

@@ -149,7 +149,12 @@ impl<'i> Desk<'i> {
             (steps.new ≡ steps.old + turns_of self.old.stories (game self.old)) }
         ensures err { OnErr result (self.new ≡ self.old) }
     {
-        self.held = warmed(alloc, self.stories, game_at(&self.commands, self.begins), steps)?;
+        self.held = warmed(
+            alloc,
+            self.stories,
+            game_at(&self.commands, self.begins),
+            steps,
+        )?;
         Ok(())
     }
 
@@ -200,7 +205,12 @@ impl<'i> Desk<'i> {
         let _count = journal.row_count();
         match write_down(alloc, journal, self.session, &command) {
             Ok(()) => {
-                take_down(&mut self.commands, &mut self.begins, &mut self.held, command);
+                take_down(
+                    &mut self.commands,
+                    &mut self.begins,
+                    &mut self.held,
+                    command,
+                );
                 Ok(())
             }
             Err(why) => Err(why),
@@ -216,7 +226,12 @@ impl<'i> Desk<'i> {
         ensures err { OnErr result (self.new ≡ emptied self.old) }
     {
         let held = mem::replace(&mut self.held, Held::Nothing);
-        self.held = ran(alloc, self.stories, game_at(&self.commands, self.begins), held)?;
+        self.held = ran(
+            alloc,
+            self.stories,
+            game_at(&self.commands, self.begins),
+            held,
+        )?;
         Ok(())
     }
 

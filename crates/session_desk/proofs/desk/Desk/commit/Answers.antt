@@ -53,8 +53,7 @@ invariant_of-self-in-Ok-write_down g c =
     let fresh : verdict desk c.args.request.now ≡ Fresh =
     subst (λ (d : DeskState). verdict d c.args.request.now ≡ Fresh) (sym c.self.view_is) c.requires.fresh in
     let accepted = accepts desk c.args.request.now fresh in
-    let more : c.take_down.new.commands.items ≡ c.self.inside.commands.items ++ c.in-Ok.command ∷ [] = cc in
-    (
+    let more : c.take_down.new.commands.items ≡ c.self.inside.commands.items ++ c.in-Ok.command ∷ [] = cc in (
       is_desk-committed desk c.in-Ok.command c.take_down.new.commands.items c.take_down.new.held c.self.invariant.0 accepted.room more c.take_down.ensures.held,
       c.take_down.ensures.begins,
     )
