@@ -1,5 +1,5 @@
 -- The stories of files, as the files are loaded and read one after the other.
-use Rattle.std.proofs.Common.{◌≡◌, ℕ, suc, ◌+◌, ◌<◌, inl, inr, List, [], ◌∷◌, ◌++◌, length, map, take, drop, drop-cons, add-one, get_or, refl, sym, ap, ◌∙◌, arith, append_assoc, length-append, Result, Ok, Err, IsErr, is_err, is_ok, subst, true, false}
+use Rattle.std.proofs.Common.{◌≡◌, ℕ, suc, ◌+◌, ◌<◌, inl, inr, List, [], ◌∷◌, ◌++◌, length, map, take, drop, drop-cons, add-one, get_or, refl, sym, ap, ◌∙◌, arith, append_assoc, length-append, Result, Ok, Err, IsErr, IsOk, IfErr, is_err, is_ok, subst, true, false}
 use Rattle.std.proofs.lemmas.List.{append-nil, length-map, map-append, get_or-map}
 use Rattle.story_run.specs.declared.story.Story.{Story}
 use Rattle.storyhost.specs.Files.{IsFile, Told, Untold, Missing, There}
@@ -112,6 +112,35 @@ loaded_last contents loaded new one pushed refused =
     let longer : map contents new ≡ map contents loaded ++ contents one ∷ [] = ap (map contents) pushed ∙ map-append contents loaded (one ∷ []) in
     subst (λ (l : List (List ℕ)). IsErr (stories_of l)) (sym longer)
     (err_last 0 (map contents loaded) (contents one) (no_story (story_of (contents one)) refused))
+
+ok_more : (position : ℕ) (story : Result Story StoryFault) (x y : Found) → (IsOk x → IsOk y) → IsOk (followed_by position story x) → IsOk (followed_by position story y)
+ok_more position (Err fault) x y f e = cc
+ok_more position (Ok story) (Err refusal) y f e = cc
+ok_more position (Ok story) (Ok stories) (Ok more) f e = refl
+ok_more position (Ok story) (Ok stories) (Err refusal) f e = f refl
+
+ok_one : (position : ℕ) (story : Result Story StoryFault) → is_ok story ≡ true → IsOk (followed_by position story (Ok []))
+ok_one position (Ok story) e = refl
+ok_one position (Err fault) e = cc
+
+ok_last : (position : ℕ) (loaded : List (List ℕ)) (bytes : List ℕ) → IsOk (stories_from position loaded) → is_ok (story_of bytes) ≡ true
+    → IsOk (stories_from position (loaded ++ bytes ∷ []))
+ok_last position [] bytes e good = ok_one position (story_of bytes) good
+ok_last position (file ∷ loaded) bytes e good =
+    ok_more position (story_of file) (stories_from (suc position) loaded) (stories_from (suc position) (loaded ++ bytes ∷ [])) (λ ok. ok_last (suc position) loaded bytes ok good) e
+
+-- whatever the error is
+pub any_error : {A E : Type 0} (r : Result A E) (P : E → Type 0) → ((e : E) → P e) → IfErr r P
+any_error (Ok x) P all = tt
+any_error (Err e) P all = all e
+
+-- each file that was loaded is a story, with one more
+pub loaded_story : {A : Type 0} (contents : A → List ℕ) (loaded new : List A) (one : A) → new ≡ loaded ++ one ∷ [] → IsOk (stories_of (map contents loaded))
+    → is_ok (story_of (contents one)) ≡ true → IsOk (stories_of (map contents new))
+loaded_story contents loaded new one pushed all good =
+    let longer : map contents new ≡ map contents loaded ++ contents one ∷ [] = ap (map contents) pushed ∙ map-append contents loaded (one ∷ []) in
+    subst (λ (l : List (List ℕ)). IsOk (stories_of l)) (sym longer)
+    (ok_last 0 (map contents loaded) (contents one) all good)
 
 next_of : {A : Type 0} (xs : List A) (i : ℕ) (x : A) → i < length xs → x ≡ get_or xs i x → drop i xs ≡ x ∷ drop (i + 1) xs
 next_of xs i x lt is = rw (add-one, drop-cons xs i x) (ap (λ y. y ∷ drop (suc i) xs) (sym is))

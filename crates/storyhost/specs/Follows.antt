@@ -10,7 +10,7 @@ use Rattle.storyhost.specs.Piped.{PipesOver}
 use Rattle.storyhost.specs.Served.{WritesServed}
 use Rattle.storyhost.specs.Speech.{Task, Says, Serves, Begins, tasked}
 use Rattle.storyhost.specs.Spoken.{Spoken}
-use Rattle.storyhost.specs.Stories.{stories_of, AreFiles, IsSettled}
+use Rattle.storyhost.specs.Stories.{stories_of, AreFiles, IsSettled, StopsBehind}
 use Rattle.storyhost.specs.Streams.{SourceState, SinkState, Gave, Wrote}
 use Rattle.storyhost.specs.Words.{Asked}
 use Rattle.storyhost.specs.declared.status.Status.{Status}
@@ -33,10 +33,10 @@ Does disks (Ok (Begins folder)) outside beyond input now output new status =
     (λ given back. InitsOver disks given back input now output new status)
     outside beyond input now output new status
 
--- a load failed, and nothing was read or written
-pub record NotLoaded {D : Type 0} (outside beyond : OutsideState D) (input now : SourceState)
-    (output new : SinkState)
-    (status : Status) : Type 0 where
+-- a load failed behind stories alone, or memory was wanted; and nothing was read or written
+pub record NotLoaded {D : Type 0} (names : List (List ℕ)) (outside beyond : OutsideState D)
+    (input now : SourceState) (output new : SinkState) (status : Status) : Type 0 where
+  pub behind : StopsBehind outside.file names (status ≡ ReadFault)
   pub cause : (status ≡ ReadFault) × Rose outside.faults beyond.faults ⊎ (status ≡ NoMemory)
   pub gave : Gave input now []
   pub wrote : Wrote output new []
@@ -59,7 +59,7 @@ pub record Loaded {D : Type 0} (disks : DiskWords D) (asked : Asked)
 abbrev pub Follows : {D : Type 0} → DiskWords D → Asked → Status → OutsideState D
     → OutsideState D → SourceState → SourceState → SinkState → SinkState → Type 0
 Follows disks asked status outside beyond input now output new =
-    NotLoaded outside beyond input now output new status
+    NotLoaded asked.names outside beyond input now output new status
     ⊎ Loaded disks asked outside beyond input now output new status
 
 -- what is written for these bytes of an input, by the task and what is told of the disks

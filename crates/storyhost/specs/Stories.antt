@@ -1,6 +1,6 @@
 -- The stories that a command names (own).
-use Rattle.std.specs.Prelude.{◌≡◌, ℕ, suc, List, [], ◌∷◌, length, ◌⊎◌}
-use Rattle.std.specs.Prelude.{Result, Ok, Err, IsErr}
+use Rattle.std.specs.Prelude.{◌≡◌, ℕ, ◌<◌, suc, List, [], ◌∷◌, length, ◌⊎◌}
+use Rattle.std.specs.Prelude.{Result, Ok, Err, IsErr, IsOk}
 use Rattle.story_run.specs.declared.story.Story.{Story}
 use Rattle.storyhost.specs.Files.{IsFile, Told}
 use Rattle.storyhost.specs.StoryFile.{story_of}
@@ -42,3 +42,12 @@ AreFiles file (name ∷ names) (bytes ∷ loaded) =
 -- no more is loaded: each name was, or a story is refused
 abbrev pub IsSettled : List (List ℕ) → List (List ℕ) → Type 0
 IsSettled names loaded = (length loaded ≡ length names) ⊎ IsErr (stories_of loaded)
+
+-- no more is loaded: files of the first names were, and each is a story
+pub record StopsBehind (file : List ℕ → Told (List ℕ)) (names : List (List ℕ)) (P : Type 0)
+    : Type 0 where
+  pub front : List (List ℕ)
+  pub are_files : AreFiles file names front
+  pub are_stories : IsOk (stories_of front)
+  -- the file of the next name failed, where P
+  pub next : P → length front < length names

@@ -2,7 +2,7 @@
 ghost use Rattle.std.specs.Prelude.{◌≡◌, ◌≤◌, map, Ok, IfOk, IfErr, IsErrOf};
 ghost use Rattle.storyhost.specs.Causes.{Rose};
 ghost use Rattle.storyhost.specs.Files.{KeepsDisks};
-ghost use Rattle.storyhost.specs.Stories.{AreFiles, IsSettled, Refuses, stories_of};
+ghost use Rattle.storyhost.specs.Stories.{AreFiles, IsSettled, Refuses, StopsBehind, stories_of};
 
 use crate::outside::{Fetch, Outside};
 use crate::story_file::{StoryFault, is_story, story_of};
@@ -33,6 +33,8 @@ pub fn load_files<O: Outside>(
         (map (λ n. n.now) names.now) (map (λ f. f.items) files.items)) }
     ensures settled { IfOk result (λ files. IsSettled
         (map (λ n. n.now) names.now) (map (λ f. f.items) files.items)) }
+    ensures behind { IfErr result (λ why. StopsBehind (O.outside outside.old).file
+        (map (λ n. n.now) names.now) (why ≡ Fetch.Failed)) }
     ensures cause { IsErrOf result Fetch.Failed
         → Rose (O.outside outside.old).faults (O.outside outside.new).faults }
     ensures kept { (O.outside outside.new).file ≡ (O.outside outside.old).file }
