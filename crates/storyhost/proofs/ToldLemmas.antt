@@ -185,7 +185,13 @@ pub done_no_memory : {D : Type 0} (disks : DiskWords D) (asked : Option Asked) (
 done_no_memory disks asked code outside input output is =
     whatever_is_asked asked (λ (one : Asked). IsSomeAnd (status_of code) (λ status. Follows disks one status outside outside input input output output))
     (λ one. subst (λ (s : Option Status). IsSomeAnd s (λ status. Follows disks one status outside outside input input output output)) (sym is)
-    (inl (record { cause = inr refl; gave = gave_none input; wrote = wrote_none output; disks = keeps_none outside })))
+    (inl (record {
+      behind = record { front = []; are_files = tt; are_stories = refl; next = λ e. cc };
+      cause = inr refl;
+      gave = gave_none input;
+      wrote = wrote_none output;
+      disks = keeps_none outside;
+    })))
 
 -- two facts as one
 pub both : {A B : Type 0} → A → B → A × B
