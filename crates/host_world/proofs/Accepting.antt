@@ -10,12 +10,9 @@ use Rattle.gate_journal.specs.Command.{HasDigest, IsBudget, IsCommand}
 use Rattle.gate_journal.specs.Log.{next_row}
 use Rattle.gate_journal.specs.declared.command.Command.{Command}
 use Rattle.gate_journal.specs.declared.row.Row.{Row}
-use Rattle.line_words.specs.Spelling.{number, session}
+use Rattle.line_words.specs.Spelling.{number}
 use Rattle.story_run.specs.declared.story.Story.{Story}
-use Rattle.disk_model.specs.Plain.{agree}
-use Rattle.host_world.specs.Events.{free}
 use Rattle.host_world.specs.Headline.{AreGiven}
-use Rattle.host_world.specs.Sessions.{found}
 use Rattle.gate_journal.specs.Rows.{commands_of, is_free, is_close, may_follow, EachNext, IsJournal}
 use Rattle.gate_journal.specs.Rows.{IsNext, MayStand}
 use Rattle.gate_journal.specs.declared.command.Command.TheVariants as commands
@@ -30,10 +27,10 @@ use Rattle.line_words.proofs.RequestLaws.{request_only}
 use Rattle.session_core.specs.History.{game_of, count, goes_on, has_key, is_in_use, is_open}
 use Rattle.session_core.specs.History.{story_at}
 use Rattle.session_core.specs.Checks.{command_of, is_fresh, is_full, opened}
-use Rattle.session_core.specs.Answer.{answer, checks, decided, accepted_by, first_of, plain_checks}
+use Rattle.session_core.specs.Answer.{answer, decided, accepted_by, first_of, plain_checks}
 use Rattle.session_core.specs.Answer.{story_checks, refusal_of}
 use Rattle.session_core.specs.Sessions.{with_budget}
-use Rattle.session_core.specs.Turning.{commands_in, decided_by, decision_on}
+use Rattle.session_core.specs.Turning.{decided_by, decision_on}
 use Rattle.session_core.proofs.AnswerLemmas.{accepted_has_room}
 use Rattle.session_core.proofs.RepeatLemmas.{all_fail, chosen, joined, game_of-append}
 use Rattle.session_core.proofs.RepeatLemmas.{game_of-append-open, last_of-joined, some_is}
@@ -253,9 +250,17 @@ module _ (stories : List Story) (budget : ℕ) where
       → command_of stories (with_budget budget request) ≡ Some c → HasDigest c → IsCommand c
   in_range (Open s key story seed cols rows own) c range r e digest =
       let opens_it = opens (story_at stories story) key story seed cols rows budget c e in
-      subst (λ (x : Command). IsCommand x) (sym opens_it.2)
-      (r.0.1, r.1, subst (λ (x : Command). HasDigest x) opens_it.2 digest, r.2, r.3, r.4, r.5, r.6,
-      range)
+      subst (λ (x : Command). IsCommand x) (sym opens_it.2) (
+        r.0.1,
+        r.1,
+        subst (λ (x : Command). HasDigest x) opens_it.2 digest,
+        r.2,
+        r.3,
+        r.4,
+        r.5,
+        r.6,
+        range,
+      )
   in_range (Line s key n win text term) c range r e digest =
       subst (λ (x : Command). IsCommand x) (some_is _ c e) (r.1, r.3, r.2)
   in_range (Char s key n win code) c range r e digest =

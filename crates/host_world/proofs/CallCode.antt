@@ -1,20 +1,14 @@
 -- A device call, as it is made.
 use Rattle.std.proofs.Common.{Bool, List, None, Option, Some, ap, false, refl, sym, true, ℕ, ◌==◌, ◌∙◌, ◌≡◌}
 use Rattle.std.specs.Prelude.{if◌then◌else◌, slice_index, length}
-use Rattle.std.specs.List.{slice_get}
 use Rattle.gate_journal.specs.Rows.{spelled}
-use Rattle.gate_journal.specs.Log.{next_row}
-use Rattle.gate_journal.specs.declared.command.Command.{Command}
 use Rattle.gate_journal.specs.declared.row.Row.{Row}
 use Rattle.story_run.specs.declared.story.Story.{Story}
-use Rattle.session_core.specs.Turning.{commands_in, decision_on}
-use Rattle.host_world.specs.Disk.{disk_after, may_happen}
-use Rattle.host_world.specs.Events.{begin_append, begin_held, begin_session, begin_turn, begun}
-use Rattle.host_world.specs.Events.{begun_with, first_step}
+use Rattle.host_world.specs.Disk.{may_happen}
+use Rattle.host_world.specs.Events.{begin_held}
 use Rattle.host_world.specs.Journal.{call_ended, called, comes_up, is_idle, looked, next_call, onward}
 use Rattle.host_world.specs.Journal.{with_disk}
 use Rattle.host_world.specs.Reading.{rows_in}
-use Rattle.host_world.specs.Sessions.{phase_set, turn_set}
 use Rattle.host_world.specs.declared.disk.DiskCall.{DiskCall}
 use Rattle.host_world.specs.declared.state.HostState.{HostState}
 use Rattle.host_world.specs.declared.state.Step.{Step}
@@ -22,9 +16,6 @@ use Rattle.host_world.specs.declared.state.Step.TheVariants.{AskSize, CloseSync,
 use Rattle.host_world.specs.declared.state.Step.TheVariants.{FirstSync, GateSync, GateWrite, Idle}
 use Rattle.host_world.specs.declared.state.Step.TheVariants.{ReadAll, RepairSync, RepairWrite}
 use Rattle.host_world.specs.declared.state.Step.TheVariants.{RowSync, RowWrite}
-use Rattle.host_world.specs.declared.turn.Phase.TheVariants.{Asked, Begun}
-use Rattle.host_world.specs.declared.turn.Session.{Session}
-use Rattle.host_world.specs.declared.turn.Turn.{Turn}
 
 -- where something is under way no append begins
 pub busy_begins : (stories : List Story) (budget : ℕ) (w : HostState) (step : Step)

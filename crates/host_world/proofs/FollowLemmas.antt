@@ -1,11 +1,11 @@
 -- A list of events, one by one, and what holds over it.
-use Rattle.std.proofs.Common.{List, [], ap, append_assoc, arith, drop, get_or, length, refl, subst}
+use Rattle.std.proofs.Common.{List, [], ap, arith, drop, get_or, length, refl, subst}
 use Rattle.std.proofs.Common.{suc, sym, zero, ℕ, ◌++◌, ◌+◌, ◌<◌, ◌∙◌, ◌∷◌, ◌≡◌, ◌≤◌}
 use Rattle.std.proofs.lemmas.List.{drop_more}
 use Rattle.std.specs.List.{slice_get}
 use Rattle.story_run.specs.declared.story.Story.{Story}
 use Rattle.host_world.specs.Events.{after, run}
-use Rattle.host_world.specs.Headline.{AreGiven, EachLives, IsIsolated, NothingIsLost}
+use Rattle.host_world.specs.Headline.{EachLives, IsIsolated, NothingIsLost}
 use Rattle.host_world.specs.declared.event.Event.{Event}
 use Rattle.host_world.specs.declared.state.HostState.{HostState}
 use Rattle.host_world.proofs.Apart.{isolated_holds, nothing_lost}

@@ -1,24 +1,20 @@
 -- What device calls do to the images.
-use Rattle.std.proofs.Common.{Bool, List, None, Option, Some, [], ap, arith, false, inl, inr}
-use Rattle.std.proofs.Common.{length, refl, subst, suc, sym, true, zero, ℕ, ⊎_elim, ◌+◌, ◌<◌, ◌^◌}
-use Rattle.std.proofs.Common.{◌∙◌, ◌∷◌, ◌≡◌, ◌≤◌, ◌⊎◌}
-use Rattle.std.proofs.lemmas.Bool.{and_from, and_parts, cases_eq, cases_lt}
-use Rattle.std.proofs.lemmas.Bool.Decides.{nat_tests}
-use Rattle.std.specs.Prelude.{if◌then◌else◌, nat_eq, nat_le, nat_lt, slice_index, ◌&&◌, ◌||◌}
-use Rattle.disk_model.proofs.RangeLaws.{greatest_end-push, untouched-front, untouched-last}
+use Rattle.std.proofs.Common.{Bool, List, None, Option, Some, [], ap, false}
+use Rattle.std.proofs.Common.{length, refl, subst, sym, true, ℕ, ◌+◌, ◌^◌}
+use Rattle.std.proofs.Common.{◌∙◌, ◌∷◌, ◌≡◌}
+use Rattle.std.specs.Prelude.{if◌then◌else◌, nat_le}
 use Rattle.disk_model.proofs.PlainLaws.{image_is}
 use Rattle.disk_model.proofs.StateLaws.{if_fits, image_torn, only_settled, settled_image, wrote}
-use Rattle.disk_model.proofs.Torn.{length-written, torn_same, written_above, written_below}
+use Rattle.disk_model.proofs.Torn.{torn_same}
 use Rattle.disk_model.specs.Disk.{AfterWrite, written}
-use Rattle.disk_model.specs.DiskState.{DiskState, IsImage, Untouched, after_write, greatest_end}
-use Rattle.disk_model.specs.DiskState.{with_range}
+use Rattle.disk_model.specs.DiskState.{DiskState, IsImage, after_write}
 use Rattle.gate_journal.proofs.Steps.{shut_torn, unsure_torn}
 use Rattle.gate_journal.specs.Gate.{IsShut, IsUnsure}
 use Rattle.gate_journal.specs.Log.{StandsAt}
 use Rattle.gate_journal.specs.Rows.{spelled}
 use Rattle.gate_journal.specs.declared.row.Row.{Row}
 use Rattle.story_run.specs.declared.story.Story.{Story}
-use Rattle.disk_model.specs.Plain.{agree, is_image, is_touched, reading}
+use Rattle.disk_model.specs.Plain.{is_image, reading}
 use Rattle.host_world.specs.Disk.{disk_after}
 use Rattle.host_world.specs.Journal.{next_call, past_gate}
 use Rattle.host_world.specs.Sessions.{found}
@@ -30,7 +26,7 @@ use Rattle.host_world.specs.declared.state.Step.TheVariants.{AskSize, CloseSync,
 use Rattle.host_world.specs.declared.state.Step.TheVariants.{FirstSync, GateSync, GateWrite, Idle}
 use Rattle.host_world.specs.declared.state.Step.TheVariants.{ReadAll, RepairSync, RepairWrite}
 use Rattle.host_world.specs.declared.state.Step.TheVariants.{RowSync, RowWrite}
-use Rattle.host_world.proofs.Lists.{false_true, some_none, some_same}
+use Rattle.host_world.proofs.Lists.{some_none, some_same}
 use Rattle.host_world.proofs.Sound.{StepFact}
 
 -- a disk that reads otherwise has the same images

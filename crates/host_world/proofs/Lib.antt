@@ -1,3 +1,4 @@
+pub mod AcceptCode
 pub mod Accepting
 pub mod Apart
 pub mod AppendCalls

@@ -15,7 +15,7 @@ use Rattle.session_core.specs.declared.entry.Outcome.TheVariants.{OutOfMemory, F
 use Rattle.session_core.specs.Turning.{commands_in, decision_on, turn_of}
 use Rattle.host_world.specs.declared.turn.Phase.{Phase}
 use Rattle.host_world.specs.declared.turn.Phase.TheVariants.{Asked, Begun, Kept, Broken, Freed}
-use Rattle.host_world.specs.declared.turn.Phase.TheVariants.{Ready, Taken, Plain}
+use Rattle.host_world.specs.declared.turn.Phase.TheVariants.{Ready, Plain}
 use Rattle.host_world.specs.declared.turn.Turn.{Turn}
 use Rattle.host_world.specs.declared.turn.Session.{Session}
 use Rattle.host_world.specs.declared.state.Step.{Step}

@@ -66,13 +66,19 @@ abbrev pub with_entry : List Entry → Option Entry → List Entry
 with_entry history None = history
 with_entry history (Some entry) = history ++ entry ∷ []
 
--- a session that has taken an entry, and whose turn has come to this phase
-abbrev pub with_taken : Session → Turn → Option Entry → Phase → Session
-with_taken x t entry phase =
+-- a session that has taken an entry, and whose turn, if it has one, has come to this phase
+abbrev pub with_taken : Session → Option Entry → Phase → Option Turn → Session
+with_taken x entry phase None = record { history = with_entry x.history entry; turn = None }
+with_taken x entry phase (Some t) =
     record {
       history = with_entry x.history entry;
       turn = Some (record t { phase = phase });
     }
+
+-- the sessions, where one has taken an entry
+abbrev pub taken_in : List Session → ℕ → Option Entry → Phase → Option Session → List Session
+taken_in sessions s entry phase None = sessions
+taken_in sessions s entry phase (Some x) = set sessions s (with_taken x entry phase x.turn)
 
 -- its history has taken the entry of its turn
 abbrev pub taking : Turn → Outcome → Turned → Session

@@ -1,11 +1,11 @@
 //! The events of a turn that decide: it begins, and its history takes its entry (own).
 
 ghost use Rattle.std.specs.Prelude.{◌≡◌, ◌≤◌, ◌<◌, ℕ, List, Some, IfOk, IfSome, OnOk, OnErr};
-ghost use Rattle.std.specs.Prelude.{length, set};
+ghost use Rattle.std.specs.Prelude.{length};
 ghost use Rattle.std.specs.List.{slice_get};
 ghost use Rattle.session_core.specs.Turning.{commands_in, decision_on, turn_met};
 ghost use Rattle.session_core.specs.declared.entry.Entry.{Entry};
-ghost use Rattle.host_world.specs.Sessions.{first_phase, turn_begun, with_entry, with_taken};
+ghost use Rattle.host_world.specs.Sessions.{first_phase, turn_begun, with_entry, taken_in};
 ghost use Rattle.host_world.specs.Events.{after};
 ghost use Rattle.host_world.specs.declared.event.Event.TheVariants as Event;
 ghost use Rattle.host_world.specs.declared.turn.Session.{Session};
@@ -85,9 +85,8 @@ fn take_entry(
 ) -> Result<(), AllocError>
     requires { (x : Session) → slice_get sessions.old.items s ≡ Some x
         → length (commands_in (with_entry x.history entry)) ≤ 8192 }
-    ensures { OnOk result ((x : Session) (t : Turn)
-        → slice_get sessions.old.items s ≡ Some x → x.turn ≡ Some t
-        → sessions.new.items ≡ set sessions.old.items s (with_taken x t entry phase)) }
+    ensures { OnOk result (sessions.new.items
+        ≡ taken_in sessions.old.items s entry phase (slice_get sessions.old.items s)) }
 {
     if let Some(session) = sessions.get_mut(s as usize) {
         session.history.take(entry)?;
@@ -154,6 +153,17 @@ impl HostState {
         Ok(())
     }
 
+    // The history of a session takes this entry, and its turn goes on to this phase.
+    fn take_entry(&mut self, s: u8, entry: Option<Entry>, phase: Phase) -> Result<(), AllocError>
+        requires { (x : Session) → slice_get self.old.sessions s ≡ Some x
+            → length (commands_in (with_entry x.history entry)) ≤ 8192 }
+        ensures { OnOk result (self.new ≡ record self.old {
+          sessions = taken_in self.old.sessions s entry phase (slice_get self.old.sessions s);
+        }) }
+    {
+        take_entry(&mut self.sessions.list, s, entry, phase)
+    }
+
     /// The history takes the entry of a turn whose reply is ready.
     pub(crate) fn accept(
         &mut self,
@@ -176,6 +186,6 @@ impl HostState {
         let commands = session.history.commands(alloc)?;
         let decision = decision_on(alloc, stories, budget, &commands, turn.line.as_slice())?;
         let (reply, entry) = met(decision, turn.pass, outcome);
-        take_entry(&mut self.sessions.list, s, entry, Phase::Taken(outcome, reply))
+        self.take_entry(s, entry, Phase::Taken(outcome, reply))
     }
 }

@@ -29,11 +29,7 @@ fn one_byte(alloc: Global, byte: u8) -> Result<Bytes, AllocError>
 }
 
 // The device call that a step makes.
-fn next_call(
-    alloc: Global,
-    rows: &JournalRows,
-    step: &Step,
-) -> Result<Option<DiskCall>, AllocError>
+fn next_call(alloc: Global, rows: &JournalRows, step: &Step) -> Result<Option<DiskCall>, AllocError>
     ensures { IfOk result (λ call. call ≡ next_call rows.now step.now) }
 {
     let call = match step {
@@ -84,10 +80,7 @@ fn is_append(step: &Step) -> bool
 
 impl HostState {
     // The row of the append that begins with the next call, if one does.
-    #[tactic(
-        auto,
-        using(crate::proofs::CallCode::busy_begins, crate::proofs::CallCode::idle_is)
-    )]
+    #[tactic(auto, using(crate::proofs::CallCode::busy_begins, crate::proofs::CallCode::idle_is))]
     fn row_begun(
         &self,
         alloc: Global,

@@ -18,8 +18,8 @@ mod turn;
 
 pub use disk::DiskCall;
 pub use event::{Event, Images};
-pub use items::Items;
 pub use following::follow;
+pub use items::Items;
 pub use law::definitions;
 pub use state::{Given, HostState, Step};
 pub use turn::{Phase, Session, Turn};

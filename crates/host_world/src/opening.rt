@@ -38,14 +38,7 @@ fn found_sessions(alloc: Global, rows: &Rows) -> Result<Vec<Session>, AllocError
 }
 
 // The rows that bytes spell, if they spell some.
-#[tactic(
-    auto,
-    using(
-        crate::proofs::ReadingLemmas::reads_rows,
-        crate::proofs::ReadCode::headless_none,
-        crate::proofs::ReadCode::corrupt_none
-    )
-)]
+#[tactic(auto, using(crate::proofs::ReadingLemmas::reads_rows, crate::proofs::ReadCode::headless_none, crate::proofs::ReadCode::corrupt_none))]
 fn rows_in(alloc: Global, bytes: &[u8]) -> Result<Option<Rows>, AllocError>
     ensures value { IfOk result (λ rows. rows ≡ rows_in bytes.now) }
     ensures within { IfOk result (λ rows.
@@ -108,14 +101,7 @@ impl HostState {
     }
 
     /// An opening has read all bytes.
-    #[tactic(
-        auto,
-        using(
-            crate::proofs::ReadCode::looks_none,
-            crate::proofs::ReadCode::looks_shut,
-            crate::proofs::ReadCode::looks_open
-        )
-    )]
+    #[tactic(auto, using(crate::proofs::ReadCode::looks_none, crate::proofs::ReadCode::looks_shut, crate::proofs::ReadCode::looks_open))]
     pub(crate) fn look(&mut self, alloc: Global) -> Result<(), AllocError>
         ensures { OnOk result (self.new ≡ looked self.old (rows_in self.old.disk.seen)) }
     {

@@ -1,5 +1,4 @@
-use Rattle.std.proofs.Common.{◌≡◌, ◌∙◌, sym}
-use Rattle.host_world.specs.Events.{run}
+use Rattle.std.proofs.Common.{◌∙◌, sym}
 use Rattle.host_world.proofs.FollowLemmas.{each_lives, isolated, none_lost, run_end, run_next}
 use Rattle.host_world.proofs.Shows.{shows_alone}
 use Rattle.host_world.proofs.following.follow.Goals as goal

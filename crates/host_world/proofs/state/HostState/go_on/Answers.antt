@@ -1,9 +1,9 @@
-use Rattle.std.proofs.Common.{◌≡◌, ◌∙◌, ap, Bool, false, sym, subst, true, OnOk}
-use Rattle.std.specs.Prelude.{if◌then◌else◌, Some}
+use Rattle.std.proofs.Common.{◌≡◌, ◌∙◌, ap, Bool, sym, subst, true, OnOk}
+use Rattle.std.specs.Prelude.{if◌then◌else◌}
 use Rattle.disk_model.specs.DiskState.{DiskState}
-use Rattle.host_world.specs.Disk.{disk_after, may_happen}
+use Rattle.host_world.specs.Disk.{disk_after}
 use Rattle.host_world.specs.Events.{call_next}
-use Rattle.host_world.specs.Journal.{call_ended, next_call}
+use Rattle.host_world.specs.Journal.{call_ended}
 use Rattle.host_world.specs.declared.state.HostState.{HostState}
 use Rattle.host_world.specs.declared.state.Step.{Step}
 use Rattle.host_world.specs.declared.state.Step.TheVariants.{Idle}
