@@ -6,16 +6,13 @@ use Rattle.std.proofs.lemmas.Bool.Decides.{nat_tests}
 use Rattle.std.proofs.lemmas.List.{append-nil}
 use Rattle.std.specs.List.{slice_get}
 use Rattle.std.specs.Prelude.{nat_le, nat_lt, not, ◌&&◌, ◌||◌}
-use Rattle.gate_journal.specs.Command.{IsCommand}
+use Rattle.gate_journal.specs.Command.{HasDigest, IsBudget, IsCommand}
 use Rattle.gate_journal.specs.Log.{next_row}
 use Rattle.gate_journal.specs.declared.command.Command.{Command}
 use Rattle.gate_journal.specs.declared.row.Row.{Row}
-use Rattle.line_words.specs.Spelling.{number, session}
+use Rattle.line_words.specs.Spelling.{number}
 use Rattle.story_run.specs.declared.story.Story.{Story}
-use Rattle.host_world.specs.Disk.{agree}
-use Rattle.host_world.specs.Events.{free}
 use Rattle.host_world.specs.Headline.{AreGiven}
-use Rattle.host_world.specs.Sessions.{found}
 use Rattle.gate_journal.specs.Rows.{commands_of, is_free, is_close, may_follow, EachNext, IsJournal}
 use Rattle.gate_journal.specs.Rows.{IsNext, MayStand}
 use Rattle.gate_journal.specs.declared.command.Command.TheVariants as commands
@@ -30,10 +27,10 @@ use Rattle.line_words.proofs.RequestLaws.{request_only}
 use Rattle.session_core.specs.History.{game_of, count, goes_on, has_key, is_in_use, is_open}
 use Rattle.session_core.specs.History.{story_at}
 use Rattle.session_core.specs.Checks.{command_of, is_fresh, is_full, opened}
-use Rattle.session_core.specs.Answer.{answer, checks, decided, accepted_by, first_of, plain_checks}
+use Rattle.session_core.specs.Answer.{answer, decided, accepted_by, first_of, plain_checks}
 use Rattle.session_core.specs.Answer.{story_checks, refusal_of}
 use Rattle.session_core.specs.Sessions.{with_budget}
-use Rattle.session_core.specs.Turning.{commands_in, decided_by, decision_on}
+use Rattle.session_core.specs.Turning.{decided_by, decision_on}
 use Rattle.session_core.proofs.AnswerLemmas.{accepted_has_room}
 use Rattle.session_core.proofs.RepeatLemmas.{all_fail, chosen, joined, game_of-append}
 use Rattle.session_core.proofs.RepeatLemmas.{game_of-append-open, last_of-joined, some_is}
@@ -247,23 +244,64 @@ story_there stories number there e = of (nat_lt number 65536) e
     of true e = e
     of false e = absurd cc
 
-module _ (stories : List Story) (budget : ℕ) (premise : AreGiven stories budget) where
+module _ (stories : List Story) (budget : ℕ) where
   -- its fields are in their ranges
-  in_range : (request : Request) (c : Command) → IsRequest request
-      → command_of stories (with_budget budget request) ≡ Some c → IsCommand c
-  in_range (Open s key story seed cols rows own) c r e =
+  in_range : (request : Request) (c : Command) → IsBudget budget → IsRequest request
+      → command_of stories (with_budget budget request) ≡ Some c → HasDigest c → IsCommand c
+  in_range (Open s key story seed cols rows own) c range r e digest =
       let opens_it = opens (story_at stories story) key story seed cols rows budget c e in
-      let digest =
-      premise.digests story opens_it.0 (story_there stories story opens_it.0 opens_it.1) in
-      subst (λ (x : Command). IsCommand x) (sym opens_it.2)
-      (r.0.1, r.1, digest, r.2, r.3, r.4, r.5, r.6, premise.range)
-  in_range (Line s key n win text term) c r e =
+      subst (λ (x : Command). IsCommand x) (sym opens_it.2) (
+        r.0.1,
+        r.1,
+        subst (λ (x : Command). HasDigest x) opens_it.2 digest,
+        r.2,
+        r.3,
+        r.4,
+        r.5,
+        r.6,
+        range,
+      )
+  in_range (Line s key n win text term) c range r e digest =
       subst (λ (x : Command). IsCommand x) (some_is _ c e) (r.1, r.3, r.2)
-  in_range (Char s key n win code) c r e =
+  in_range (Char s key n win code) c range r e digest =
       subst (λ (x : Command). IsCommand x) (some_is _ c e) (r.1, r.2)
-  in_range (File s key n name) c r e = subst (λ (x : Command). IsCommand x) (some_is _ c e) r.1
-  in_range (Last s key) c r e = absurd cc
-  in_range (Close s key n) c r e = subst (λ (x : Command). IsCommand x) (some_is _ c e) tt
+  in_range (File s key n name) c range r e digest =
+      subst (λ (x : Command). IsCommand x) (some_is _ c e) r.1
+  in_range (Last s key) c range r e digest = absurd cc
+  in_range (Close s key n) c range r e digest =
+      subst (λ (x : Command). IsCommand x) (some_is _ c e) tt
+
+  fits_by : (cs : List Command) (line : List ℕ) (c : Command) → IsBudget budget
+      → (read : Option Request) → request_of line ≡ read
+      → (decided_by stories budget cs line read).accepted ≡ Some c → HasDigest c → IsCommand c
+  fits_by cs line c range None read e digest = absurd cc
+  fits_by cs line c range (Some request) read e digest =
+      in_range request c range (request_only line request read).1.0
+      (asks stories cs (with_budget budget request) c e).asked digest
+
+  -- an accepted command's fields are in their ranges
+  pub accepted_fits : (cs : List Command) (line : List ℕ) (c : Command) → IsBudget budget
+      → (decision_on stories budget cs line).accepted ≡ Some c → HasDigest c → IsCommand c
+  unfolding decision_on
+  accepted_fits cs line c range e digest =
+      fits_by cs line c range (request_of line) refl e digest
+
+module _ (stories : List Story) (budget : ℕ) (premise : AreGiven stories budget) where
+  -- an accepted OPEN has the digest of its story
+  given_digest : (request : Request) (c : Command) → command_of stories request ≡ Some c
+      → HasDigest c
+  given_digest (Open s key story seed cols rows own) c e =
+      let opens_it = opens (story_at stories story) key story seed cols rows own c e in
+      subst (λ (x : Command). HasDigest x) (sym opens_it.2)
+      (premise.digests story opens_it.0 (story_there stories story opens_it.0 opens_it.1))
+  given_digest (Line s key n win text term) c e =
+      subst (λ (x : Command). HasDigest x) (some_is _ c e) tt
+  given_digest (Char s key n win code) c e =
+      subst (λ (x : Command). HasDigest x) (some_is _ c e) tt
+  given_digest (File s key n name) c e =
+      subst (λ (x : Command). HasDigest x) (some_is _ c e) tt
+  given_digest (Last s key) c e = absurd cc
+  given_digest (Close s key n) c e = subst (λ (x : Command). HasDigest x) (some_is _ c e) tt
 
   stands_by : (rows : List Row) (s : ℕ) (cs : List Command) (line : List ℕ) (c : Command) → s < 64
       → IsJournal rows → commands_of rows s ≡ cs
@@ -275,7 +313,9 @@ module _ (stories : List Story) (budget : ℕ) (premise : AreGiven stories budge
       let agree : Agree cs = subst (λ (l : List Command). Agree l) same (agrees rows s journal) in
       record {
         below = low;
-        ranges = in_range request c (request_only line request read).1.0 a.asked;
+        ranges =
+            in_range stories budget request c premise.range (request_only line request read).1.0
+            a.asked (given_digest (with_budget budget request) c a.asked);
         follows =
             subst (λ (l : List Command). may_follow l c ≡ true) (sym same)
             (follows stories cs (with_budget budget request) c agree a.none a.fresh a.asked);

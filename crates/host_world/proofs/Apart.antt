@@ -11,7 +11,7 @@ use Rattle.session_core.specs.declared.entry.Entry.{Entry}
 use Rattle.session_core.specs.declared.entry.Outcome.{Outcome}
 use Rattle.session_core.specs.declared.entry.Outcome.TheVariants.{Answered, DiskFailed, Forgotten}
 use Rattle.session_core.specs.declared.entry.Outcome.TheVariants.{OutOfMemory}
-use Rattle.host_world.specs.Disk.{agree}
+use Rattle.disk_model.specs.Plain.{agree}
 use Rattle.host_world.specs.Events.{run}
 use Rattle.host_world.specs.Happenings.{Cut, Ended, Happening, Opened, all_told, cut_at, history_of}
 use Rattle.host_world.specs.Happenings.{replies_of, replies_to}

@@ -15,11 +15,11 @@ use Rattle.gate_journal.specs.Log.{StandsAt}
 use Rattle.gate_journal.specs.Rows.{commands_of, spelled}
 use Rattle.gate_journal.specs.declared.command.Command.{Command}
 use Rattle.gate_journal.specs.declared.row.Row.{Row}
-use Rattle.line_words.specs.Spelling.{session}
 use Rattle.story_run.specs.declared.story.Story.{Story}
 use Rattle.session_core.specs.Turning.{commands_in, decision_on}
 use Rattle.session_core.specs.declared.entry.Entry.{Entry}
-use Rattle.host_world.specs.Disk.{counted, disk_after, is_image, may_work}
+use Rattle.disk_model.specs.Plain.{is_image}
+use Rattle.host_world.specs.Disk.{counted, disk_after, may_work}
 use Rattle.host_world.specs.Happenings.{Happening, history_of}
 use Rattle.host_world.specs.Headline.{AreGiven}
 use Rattle.host_world.specs.Journal.{broken, next_call, onward, past_gate}

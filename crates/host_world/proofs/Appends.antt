@@ -9,7 +9,6 @@ use Rattle.gate_journal.specs.Log.{next_row}
 use Rattle.gate_journal.specs.Rows.{IsNext, commands_of}
 use Rattle.gate_journal.specs.declared.command.Command.{Command}
 use Rattle.gate_journal.specs.declared.row.Row.{Row}
-use Rattle.line_words.specs.Spelling.{session}
 use Rattle.story_run.specs.declared.story.Story.{Story}
 use Rattle.session_core.specs.Turning.{commands_in, decision_on}
 use Rattle.session_core.specs.declared.entry.Entry.{Entry}

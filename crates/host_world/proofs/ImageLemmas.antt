@@ -1,23 +1,21 @@
 -- What device calls do to the images.
-use Rattle.std.proofs.Common.{Bool, List, None, Option, Some, [], ap, arith, false, inl, inr}
-use Rattle.std.proofs.Common.{length, refl, subst, suc, sym, true, zero, ℕ, ⊎_elim, ◌+◌, ◌<◌, ◌^◌}
-use Rattle.std.proofs.Common.{◌∙◌, ◌∷◌, ◌≡◌, ◌≤◌, ◌⊎◌}
-use Rattle.std.proofs.lemmas.Bool.{and_from, and_parts, cases_eq, cases_lt}
-use Rattle.std.proofs.lemmas.Bool.Decides.{nat_tests}
-use Rattle.std.specs.Prelude.{if◌then◌else◌, nat_eq, nat_le, nat_lt, slice_index, ◌&&◌, ◌||◌}
-use Rattle.disk_model.proofs.RangeLaws.{greatest_end-push, untouched-front, untouched-last}
-use Rattle.disk_model.proofs.StateLaws.{image_torn, only_settled, settled_image}
-use Rattle.disk_model.proofs.Torn.{length-written, torn_same, written_above, written_below}
+use Rattle.std.proofs.Common.{Bool, List, None, Option, Some, [], ap, false}
+use Rattle.std.proofs.Common.{length, refl, subst, sym, true, ℕ, ◌+◌, ◌^◌}
+use Rattle.std.proofs.Common.{◌∙◌, ◌∷◌, ◌≡◌}
+use Rattle.std.specs.Prelude.{if◌then◌else◌, nat_le}
+use Rattle.disk_model.proofs.PlainLaws.{image_is}
+use Rattle.disk_model.proofs.StateLaws.{if_fits, image_torn, only_settled, settled_image, wrote}
+use Rattle.disk_model.proofs.Torn.{torn_same}
 use Rattle.disk_model.specs.Disk.{AfterWrite, written}
-use Rattle.disk_model.specs.DiskState.{DiskState, IsImage, Untouched, after_write, greatest_end}
-use Rattle.disk_model.specs.DiskState.{with_range}
+use Rattle.disk_model.specs.DiskState.{DiskState, IsImage, after_write}
 use Rattle.gate_journal.proofs.Steps.{shut_torn, unsure_torn}
 use Rattle.gate_journal.specs.Gate.{IsShut, IsUnsure}
 use Rattle.gate_journal.specs.Log.{StandsAt}
 use Rattle.gate_journal.specs.Rows.{spelled}
 use Rattle.gate_journal.specs.declared.row.Row.{Row}
 use Rattle.story_run.specs.declared.story.Story.{Story}
-use Rattle.host_world.specs.Disk.{agree, disk_after, is_image, is_touched, reading}
+use Rattle.disk_model.specs.Plain.{is_image, reading}
+use Rattle.host_world.specs.Disk.{disk_after}
 use Rattle.host_world.specs.Journal.{next_call, past_gate}
 use Rattle.host_world.specs.Sessions.{found}
 use Rattle.host_world.specs.declared.disk.DiskCall.{DiskCall}
@@ -28,134 +26,13 @@ use Rattle.host_world.specs.declared.state.Step.TheVariants.{AskSize, CloseSync,
 use Rattle.host_world.specs.declared.state.Step.TheVariants.{FirstSync, GateSync, GateWrite, Idle}
 use Rattle.host_world.specs.declared.state.Step.TheVariants.{ReadAll, RepairSync, RepairWrite}
 use Rattle.host_world.specs.declared.state.Step.TheVariants.{RowSync, RowWrite}
-use Rattle.host_world.proofs.Lists.{false_true, some_none, some_same}
+use Rattle.host_world.proofs.Lists.{some_none, some_same}
 use Rattle.host_world.proofs.Sound.{StepFact}
-
--- a place that no range has
-untouched_test : (i : ℕ) (ranges : List (ℕ × ℕ)) → Untouched i ranges → is_touched i ranges ≡ false
-untouched_test i [] all = refl
-untouched_test i (r ∷ ranges) all = elim all.0 [
-  | inl before ↦ grind (arith, nat_tests, untouched_test i ranges all.1)
-  | inr behind ↦ grind (arith, nat_tests, untouched_test i ranges all.1)
-]
-
-agree_at : (n i : ℕ) (p : DiskState) (c : List ℕ) → agree n p.synced p.ranges c ≡ true → i < n
-    → Untouched i p.ranges → slice_index c i ≡ slice_index p.synced i
-agree_at zero i p c is lt untouched = absurd (omega (arith, lt))
-agree_at (suc n) i p c is lt untouched =
-    let both =
-    and_parts (is_touched n p.ranges || nat_eq (slice_index c n) (slice_index p.synced n))
-    (agree n p.synced p.ranges c) is in
-    elim (cases_eq i n) [
-      | inl same ↦ here both.0 same
-      | inr other ↦ agree_at n i p c both.1 (omega (arith, lt, other)) untouched
-    ]
-  where
-    here : (is_touched n p.ranges || nat_eq (slice_index c n) (slice_index p.synced n)) ≡ true
-        → i ≡ n → slice_index c i ≡ slice_index p.synced i
-    here test same =
-        let quiet : is_touched n p.ranges ≡ false =
-        untouched_test n p.ranges (subst (λ (k : ℕ). Untouched k p.ranges) same untouched) in
-        let eq : nat_eq (slice_index c n) (slice_index p.synced n) ≡ true =
-        sym (ap (λ (b : Bool). b || nat_eq (slice_index c n) (slice_index p.synced n)) quiet)
-        ∙ test in
-        let there : slice_index c n ≡ slice_index p.synced n = grind (arith, nat_tests) in
-        subst (λ (k : ℕ). slice_index c k ≡ slice_index p.synced k) (sym same) there
-
--- what the test of an image says, it is
-pub image_is : (p : DiskState) (c : List ℕ) → is_image p c ≡ true → IsImage p c
-image_is p c is =
-    let outer =
-    and_parts (nat_le (length p.synced) (length c) && nat_le (length c)
-    (greatest_end p.ranges (length p.synced)))
-    (agree (length p.synced) p.synced p.ranges c) is in
-    let inner =
-    and_parts (nat_le (length p.synced) (length c))
-    (nat_le (length c) (greatest_end p.ranges (length p.synced))) outer.0 in
-    let low = inner.0 in
-    let high = inner.1 in
-    record {
-      no_shorter = grind (arith, nat_tests);
-      no_longer = grind (arith, nat_tests);
-      same = λ i lt untouched. agree_at (length p.synced) i p c outer.1 lt untouched;
-    }
-
-or_none : (a b : Bool) → (a || b) ≡ false → (a ≡ false) × (b ≡ false)
-or_none true b is = absurd (false_true (sym is))
-or_none false b is = (refl, is)
-
-out_of : (i : ℕ) (r : ℕ × ℕ) → (nat_le r.0 i && nat_lt i r.1) ≡ false → (i < r.0) ⊎ (r.1 ≤ i)
-out_of i r is = elim (cases_lt i r.0) [
-  | inl before ↦ inl before
-  | inr from ↦ inr (grind (arith, nat_tests))
-]
-
-untouched_of : (i : ℕ) (ranges : List (ℕ × ℕ)) → is_touched i ranges ≡ false → Untouched i ranges
-untouched_of i [] is = tt
-untouched_of i (r ∷ ranges) is =
-    let both = or_none (nat_le r.0 i && nat_lt i r.1) (is_touched i ranges) is in
-    (out_of i r both.0, untouched_of i ranges both.1)
-
-or_both : (a b : Bool) → (a ≡ false → b ≡ true) → (a || b) ≡ true
-or_both true b then_ = refl
-or_both false b then_ = then_ refl
-
-agree_all : (n : ℕ) (p : DiskState) (c : List ℕ)
-    → ((i : ℕ) → i < n → Untouched i p.ranges → slice_index c i ≡ slice_index p.synced i)
-    → agree n p.synced p.ranges c ≡ true
-agree_all zero p c each = refl
-agree_all (suc n) p c each =
-    and_from (is_touched n p.ranges || nat_eq (slice_index c n) (slice_index p.synced n))
-    (agree n p.synced p.ranges c)
-    (or_both (is_touched n p.ranges) (nat_eq (slice_index c n) (slice_index p.synced n))
-    (λ quiet. let there =
-    each n (omega arith) (untouched_of n p.ranges quiet) in grind (arith, nat_tests)))
-    (agree_all n p c (λ i lt untouched. each i (omega (arith, lt)) untouched))
-
--- and takes every image
-pub image_told : (p : DiskState) (c : List ℕ) → IsImage p c → is_image p c ≡ true
-image_told p c image =
-    let low = image.no_shorter in
-    let high = image.no_longer in
-    and_from (nat_le (length p.synced) (length c) && nat_le (length c)
-    (greatest_end p.ranges (length p.synced))) (agree (length p.synced) p.synced p.ranges c)
-    (and_from (nat_le (length p.synced) (length c))
-    (nat_le (length c) (greatest_end p.ranges (length p.synced))) (grind (arith, nat_tests))
-    (grind (arith, nat_tests)))
-    (agree_all (length p.synced) p c image.same)
 
 -- a disk that reads otherwise has the same images
 pub read_otherwise : (p : DiskState) (seen c : List ℕ) → IsImage (reading seen p) c → IsImage p c
 read_otherwise p seen c image =
     record { no_shorter = image.no_shorter; no_longer = image.no_longer; same = image.same }
-
--- what a write makes where the test of the room says this
-abbrev if_fits : Bool → Bool → ℕ → List ℕ → DiskState → DiskState
-if_fits fits good at piece p =
-    if fits
-    then with_range p (if good then written p.seen at piece else p.seen) (at, at + length piece)
-    else p
-
--- the piece in its place
-wrote_image : (p : DiskState) (at : ℕ) (piece : List ℕ) → IsImage p p.seen
-    → IsImage (with_range p (written p.seen at piece) (at, at + length piece))
-    (written p.seen at piece)
-wrote_image p at piece image = record {
-  no_shorter = omega (arith, image.no_shorter, length-written p.seen at piece);
-  no_longer =
-      omega (
-        arith,
-        image.no_longer,
-        length-written p.seen at piece,
-        greatest_end-push p.ranges
-            (at, at + length piece) (length p.synced),
-      );
-  same = λ i lt untouched.
-      ⊎_elim (λ before. written_below p.seen at piece i before)
-      (λ behind. written_above p.seen at piece i behind)
-      (untouched-last i p.ranges (at, at + length piece) untouched)
-      ∙ image.same i lt (untouched-front i p.ranges (at, at + length piece) untouched);
-}
 
 -- nothing written is a write too
 not_torn : (at n : ℕ) (p : DiskState) (c : List ℕ) → IsImage p c → AfterWrite at n (IsImage p) c
@@ -191,7 +68,7 @@ look_leaves false reads p c image = read_otherwise p reads c image
 -- a good write within the room
 wrote_there : (at : ℕ) (piece : List ℕ) (p : DiskState) (fits : Bool) → IsImage p p.seen
     → IsImage (if_fits fits true at piece p) (if_fits fits true at piece p).seen
-wrote_there at piece p true stays = wrote_image p at piece stays
+wrote_there at piece p true stays = wrote p at piece stays
 wrote_there at piece p false stays = stays
 
 -- after a good call the disk reads as one of its images

@@ -22,7 +22,8 @@ use Rattle.gate_journal.specs.declared.row.Row.{Row}
 use Rattle.story_run.specs.declared.story.Story.{Story}
 use Rattle.session_core.specs.Turning.{commands_in}
 use Rattle.session_core.specs.declared.entry.Entry.{Entry}
-use Rattle.host_world.specs.Disk.{counted, disk_after, is_image, may_work}
+use Rattle.disk_model.specs.Plain.{is_image}
+use Rattle.host_world.specs.Disk.{counted, disk_after, may_work}
 use Rattle.host_world.specs.Events.{after, begun, call_next}
 use Rattle.host_world.specs.Happenings.{Happening, Opened, further, history_of, news, replies_of}
 use Rattle.host_world.specs.Headline.{AreGiven}
@@ -416,7 +417,7 @@ module _ (stories : List Story) (budget : ℕ) (premise : AreGiven stories budge
   made_well : (first : ℕ → List Entry) (past : ℕ → List Happening) (w : HostState) (good : Bool)
       (reads : List ℕ) → Sound stories budget first past w
       → CallsWell stories budget first past w
-      (call_next stories budget w (begun stories budget w) good reads)
+      (call_next w (begun stories budget w) good reads)
   made_well first past w true reads sound =
       let b = begun_well stories budget premise first past w sound in
       good_well first past w (begun stories budget w) sound b.1 b.0 reads
@@ -431,6 +432,6 @@ module _ (stories : List Story) (budget : ℕ) (premise : AreGiven stories budge
       → CallsWell stories budget first past w (after stories budget w (Call disk good reads))
   call_well first past w disk good reads sound =
       if_kept stories budget (λ (new : HostState). CallsWell stories budget first past w new)
-      (call_next stories budget w (begun stories budget w) good reads) w (disk == 0)
+      (call_next w (begun stories budget w) good reads) w (disk == 0)
       (same_up stories budget first past w w refl sound)
       (λ is. made_well first past w good reads sound)

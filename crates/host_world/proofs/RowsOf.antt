@@ -5,7 +5,6 @@ use Rattle.std.specs.Prelude.{if◌then◌else◌}
 use Rattle.gate_journal.specs.Rows.{commands_of}
 use Rattle.gate_journal.specs.declared.command.Command.{Command}
 use Rattle.gate_journal.specs.declared.row.Row.{Row}
-use Rattle.line_words.specs.Spelling.{session}
 use Rattle.session_core.specs.Turning.{commands_in}
 use Rattle.host_world.specs.Sessions.{found}
 use Rattle.host_world.proofs.Folds.{eq_other, eq_self}

@@ -13,12 +13,11 @@ use Rattle.gate_journal.specs.Log.{StandsAt}
 use Rattle.gate_journal.specs.Rows.{IsJournal, IsNext, commands_of}
 use Rattle.gate_journal.specs.declared.command.Command.{Command}
 use Rattle.gate_journal.specs.declared.row.Row.{Row}
-use Rattle.line_words.specs.Spelling.{session}
 use Rattle.story_run.specs.declared.story.Story.{Story}
 use Rattle.session_core.specs.Turning.{commands_in}
 use Rattle.session_core.specs.declared.entry.Entry.{Entry}
-use Rattle.host_world.specs.Disk.{is_image}
-use Rattle.host_world.specs.Events.{after, run, stop}
+use Rattle.disk_model.specs.Plain.{is_image}
+use Rattle.host_world.specs.Events.{after, run}
 use Rattle.host_world.specs.Happenings.{Happening, Opened, all_told, cut, cut_at, cut_in, ended}
 use Rattle.host_world.specs.Happenings.{ended_at, ended_in, further, history_of, replies_of}
 use Rattle.host_world.specs.Happenings.{replies_to, told}
@@ -49,7 +48,7 @@ use Rattle.host_world.proofs.RowsOf.{commands-found, rows-here, rows-other}
 use Rattle.host_world.proofs.Sound.{RowsFact, Sound, StepFact, TurnFact}
 use Rattle.host_world.proofs.Stops.{cut_fact, image_spells, stop_well}
 
-down_well : (bytes : List ℕ) (rows : List Row) (u : Option Row) → IsJournal rows
+pub down_well : (bytes : List ℕ) (rows : List Row) (u : Option Row) → IsJournal rows
     → IfSome u (IsNext rows) → StandsAt rows u bytes → IsDown (down_over bytes rows u)
 down_well bytes rows u all next stands = record {
   down = refl;

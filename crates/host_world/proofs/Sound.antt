@@ -9,7 +9,6 @@ use Rattle.gate_journal.specs.Log.{StandsAt}
 use Rattle.gate_journal.specs.Rows.{IsJournal, IsNext, commands_of, spelled}
 use Rattle.gate_journal.specs.declared.command.Command.{Command}
 use Rattle.gate_journal.specs.declared.row.Row.{Row}
-use Rattle.line_words.specs.Spelling.{session}
 use Rattle.story_run.specs.declared.story.Story.{Story}
 use Rattle.session_core.specs.Turning.{commands_in, decision_on, turn_of}
 use Rattle.session_core.specs.declared.entry.Entry.{Entry}

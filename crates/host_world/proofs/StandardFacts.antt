@@ -11,7 +11,7 @@ use Rattle.host_world.specs.Reading.{rows_in}
 use Rattle.host_world.specs.Starts.{IsOpened, down_over}
 use Rattle.host_world.specs.declared.state.HostState.{HostState}
 use Rattle.host_world.specs.declared.turn.Session.{Session}
-use Rattle.host_world.proofs.Reopening.{found_at, nobody}
+use Rattle.host_world.proofs.Reopening.{found_at}
 
 -- the bytes of a journal without rows
 abbrev empty : List ℕ

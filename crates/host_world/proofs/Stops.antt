@@ -15,14 +15,13 @@ use Rattle.gate_journal.specs.Log.{StandsAt}
 use Rattle.gate_journal.specs.Rows.{IsNext, SpellsRows, commands_of}
 use Rattle.gate_journal.specs.declared.command.Command.{Command}
 use Rattle.gate_journal.specs.declared.row.Row.{Row}
-use Rattle.line_words.specs.Spelling.{session}
 use Rattle.line_words.specs.declared.reply.Reply.{Reply}
 use Rattle.story_run.specs.declared.story.Story.{Story}
 use Rattle.session_core.specs.Turning.{Turned, commands_in, decision_on}
 use Rattle.session_core.specs.declared.entry.Entry.{Entry}
 use Rattle.session_core.specs.declared.entry.Outcome.TheVariants.{Answered, DiskFailed, Forgotten}
 use Rattle.session_core.specs.declared.entry.Outcome.TheVariants.{OutOfMemory}
-use Rattle.host_world.specs.Disk.{is_image}
+use Rattle.disk_model.specs.Plain.{is_image}
 use Rattle.host_world.specs.Events.{stop, stopped}
 use Rattle.host_world.specs.Happenings.{Cut, Happening, cut, cut_at, cut_in, history_of, lost}
 use Rattle.host_world.specs.Happenings.{replies_of}
@@ -35,7 +34,7 @@ use Rattle.host_world.specs.declared.turn.Phase.TheVariants.{Plain, Ready, Taken
 use Rattle.host_world.specs.declared.turn.Session.{Session}
 use Rattle.host_world.specs.declared.turn.Turn.{Turn}
 use Rattle.host_world.proofs.Folds.{history-push, replies-push}
-use Rattle.host_world.proofs.ImageLemmas.{image_is}
+use Rattle.disk_model.proofs.PlainLaws.{image_is}
 use Rattle.host_world.proofs.Lists.{false_true, some_none, some_same}
 use Rattle.host_world.proofs.Phases.{same_past}
 use Rattle.host_world.proofs.RowsOf.{rows-here, rows-other}

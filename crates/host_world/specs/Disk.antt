@@ -1,14 +1,9 @@
--- What a call leaves of a disk, and the test of an image (own).
-use Rattle.std.specs.Prelude.{ℕ, zero, suc, ◌+◌, ◌-◌, ◌^◌, min, nat_eq, nat_le, nat_lt}
-use Rattle.std.specs.Prelude.{Bool, true, false, [], ◌∷◌}
-use Rattle.std.specs.Prelude.{◌&&◌, ◌||◌, List, length, slice_index}
-use Rattle.disk_model.specs.DiskState.{DiskState, Ranges, greatest_end, after_write, after_sync}
+-- What a call leaves of a disk, and whether it may happen so (own).
+use Rattle.std.specs.Prelude.{ℕ, ◌+◌, ◌-◌, ◌^◌, min, nat_le, Bool, true, false, List, length}
+use Rattle.disk_model.specs.DiskState.{DiskState, after_write, after_sync}
+use Rattle.disk_model.specs.Plain.{is_image, reading}
 use Rattle.host_world.specs.declared.disk.DiskCall.{DiskCall}
 use Rattle.host_world.specs.declared.disk.DiskCall.TheVariants.{Write, Sync, Look}
-
--- the disk reads as these bytes
-abbrev pub reading : List ℕ → DiskState → DiskState
-reading bytes p = record { synced = p.synced; seen = bytes; ranges = p.ranges }
 
 -- the disk after a call; after one that isn't good it reads as these bytes
 abbrev pub disk_after : DiskCall → Bool → List ℕ → DiskState → DiskState
@@ -29,21 +24,8 @@ may_work Look = true
 abbrev pub counted : ℕ → ℕ
 counted faults = min (faults + 1) (2 ^ 64 - 1)
 
--- the test whether a range has this place
-abbrev pub is_touched : ℕ → Ranges → Bool
-is_touched i [] = false
-is_touched i (r ∷ ranges) = (nat_le r.0 i && nat_lt i r.1) || is_touched i ranges
-
--- below this place, the bytes are the synced ones outside the ranges
-abbrev pub agree : ℕ → List ℕ → Ranges → List ℕ → Bool
-agree zero synced ranges c = true
-agree (suc n) synced ranges c =
-    (is_touched n ranges || nat_eq (slice_index c n) (slice_index synced n))
-    && agree n synced ranges c
-
--- the test of an image that a stop may leave
-abbrev pub is_image : DiskState → List ℕ → Bool
-is_image p c =
-    nat_le (length p.synced) (length c)
-    && nat_le (length c) (greatest_end p.ranges (length p.synced))
-    && agree (length p.synced) p.synced p.ranges c
+-- Whether a call may happen so: a write past the room isn't good, and after a call that isn't good a
+-- disk reads as one of its images.
+abbrev pub may_happen : DiskCall → Bool → List ℕ → DiskState → Bool
+may_happen call true reads p = may_work call
+may_happen call false reads p = is_image (disk_after call false reads p) reads

@@ -15,7 +15,7 @@ use Rattle.session_core.specs.declared.entry.Outcome.TheVariants.{OutOfMemory, F
 use Rattle.session_core.specs.Turning.{commands_in, decision_on, turn_of}
 use Rattle.host_world.specs.declared.turn.Phase.{Phase}
 use Rattle.host_world.specs.declared.turn.Phase.TheVariants.{Asked, Begun, Kept, Broken, Freed}
-use Rattle.host_world.specs.declared.turn.Phase.TheVariants.{Ready, Taken, Plain}
+use Rattle.host_world.specs.declared.turn.Phase.TheVariants.{Ready, Plain}
 use Rattle.host_world.specs.declared.turn.Turn.{Turn}
 use Rattle.host_world.specs.declared.turn.Session.{Session}
 use Rattle.host_world.specs.declared.state.Step.{Step}
@@ -25,7 +25,7 @@ use Rattle.host_world.specs.declared.state.HostState.{HostState}
 use Rattle.host_world.specs.declared.event.Event.{Event}
 use Rattle.host_world.specs.declared.event.Event.TheVariants.{Take, Want, Hold, Call, Free, Run}
 use Rattle.host_world.specs.declared.event.Event.TheVariants.{Accept, Give, Stop, Recover}
-use Rattle.host_world.specs.Disk.{is_image}
+use Rattle.disk_model.specs.Plain.{is_image}
 use Rattle.host_world.specs.Journal.{next_call, sessions_with, called}
 use Rattle.host_world.specs.Sessions.{phase_of, asking, taking, without_turn, in_phase}
 use Rattle.host_world.specs.Sessions.{answer_in, turn_ended}
@@ -88,6 +88,14 @@ abbrev pub first_step : Option Row → Row → ℕ → Step
 first_step None r from = RowWrite r from
 first_step (Some u) r from = RepairWrite r from
 
+-- the append of this row begins
+abbrev pub begun_with : HostState → Row → HostState
+begun_with w r =
+    record w {
+      sessions = sessions_with w r.session Begun;
+      step = first_step w.uncertain r w.faults;
+    }
+
 -- Stop: the disk holds the image, the host is down, and no turn stands
 abbrev pub stopped : HostState → List ℕ → HostState
 stopped w image =
@@ -102,6 +110,10 @@ stopped w image =
 abbrev pub stop : HostState → List (List ℕ) → HostState
 stop w (image ∷ []) = if is_image w.disk image then stopped w image else w
 stop w images = w
+
+-- Call: the next call of the journal's disk
+abbrev pub call_next : HostState → HostState → Bool → List ℕ → HostState
+call_next w new good reads = called w new good reads new.step (next_call new.rows new.step)
 
 -- by the stories that the host was handed and the budget of its turns
 module _ (stories : List Story) (budget : ℕ) where
@@ -156,10 +168,6 @@ module _ (stories : List Story) (budget : ℕ) where
 
   abbrev pub begun : HostState → HostState
   begun w = begin_held w w.step w.holder
-
-  -- Call: the next call of the journal's disk
-  abbrev pub call_next : HostState → HostState → Bool → List ℕ → HostState
-  call_next w new good reads = called w new good reads new.step (next_call new.rows new.step)
 
   -- the host after an event; one that isn't enabled leaves it
   abbrev pub after : HostState → Event → HostState

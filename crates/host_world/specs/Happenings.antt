@@ -17,7 +17,7 @@ use Rattle.host_world.specs.declared.state.Given.{Given}
 use Rattle.host_world.specs.declared.state.HostState.{HostState}
 use Rattle.host_world.specs.declared.event.Event.{Event}
 use Rattle.host_world.specs.declared.event.Event.TheVariants.{Call, Give, Stop}
-use Rattle.host_world.specs.Disk.{is_image}
+use Rattle.disk_model.specs.Plain.{is_image}
 use Rattle.host_world.specs.Sessions.{found}
 use Rattle.host_world.specs.Events.{after}
 

@@ -72,32 +72,32 @@ pub record Lives
       × OneMore (commands_in y.history) (commands_of rows s)
       × (w.up ≡ true → Keeps stories budget s w y rows)
 
--- Over every list of events from a host that is opened or down, each session lives so.
-abbrev pub EachLives : Type 0
-EachLives = (stories : List Story) (budget : ℕ) → AreGiven stories budget
-    → (w : HostState) (events : List Event) → IsStart w → (s : ℕ) (x y : Session)
-    → slice_get w.sessions s ≡ Some x
-    → slice_get (run stories budget w events).sessions s ≡ Some y
-    → Lives stories budget s x (all_told stories budget s w events)
-    (run stories budget w events) y
+-- From a host w that is opened or down these events lead to the host v.
+module _ (stories : List Story) (budget : ℕ) (w : HostState) (events : List Event)
+    (v : HostState) where
+  -- each session lives so
+  abbrev pub EachLives : Type 0
+  EachLives = AreGiven stories budget → IsStart w → (s : ℕ) (x y : Session)
+      → slice_get w.sessions s ≡ Some x → slice_get v.sessions s ≡ Some y
+      → Lives stories budget s x (all_told stories budget s w events) v y
 
--- What a session had accepted when it had no turn under way, so all that was acknowledged, it keeps
--- in its order, whatever comes.
-abbrev pub NothingIsLost : Type 0
-NothingIsLost = (stories : List Story) (budget : ℕ) → AreGiven stories budget
-    → (w : HostState) (events later : List Event) → IsStart w → (s : ℕ) (x y : Session)
-    → slice_get (run stories budget w events).sessions s ≡ Some x → x.turn ≡ None
-    → slice_get (run stories budget (run stories budget w events) later).sessions s ≡ Some y
-    → (more : List Command) × (commands_in y.history ≡ commands_in x.history ++ more)
+  -- What a session had accepted at some event when it had no turn under way, so all that was
+  -- acknowledged, it keeps in its order, whatever comes.
+  abbrev pub NothingIsLost : Type 0
+  NothingIsLost = AreGiven stories budget → IsStart w → (earlier later : List Event)
+      → events ≡ earlier ++ later → (s : ℕ) (x y : Session)
+      → slice_get (run stories budget w earlier).sessions s ≡ Some x → x.turn ≡ None
+      → slice_get v.sessions s ≡ Some y
+      → (more : List Command) × (commands_in y.history ≡ commands_in x.history ++ more)
 
--- Two lists of events that tell the same of a session give it the same replies, but for the counts
--- of faults, whatever else they hold.
-abbrev pub IsIsolated : Type 0
-IsIsolated = (stories : List Story) (budget : ℕ) → AreGiven stories budget
-    → (w v : HostState) (es fs : List Event) → IsStart w → IsStart v → (s : ℕ) (x y : Session)
-    → slice_get w.sessions s ≡ Some x → slice_get v.sessions s ≡ Some y
-    → commands_in x.history ≡ commands_in y.history
-    → map uncounted (all_told stories budget s w es)
-    ≡ map uncounted (all_told stories budget s v fs)
-    → map uncounted_reply (replies_to s (run stories budget w es).given)
-    ≡ map uncounted_reply (replies_to s (run stories budget v fs).given)
+  -- Another list of events that tells the same of a session gives it the same replies, but for the
+  -- counts of faults, whatever else it holds.
+  abbrev pub IsIsolated : Type 0
+  IsIsolated = AreGiven stories budget → IsStart w → (other : HostState) (others : List Event)
+      → IsStart other → (s : ℕ) (x y : Session)
+      → slice_get w.sessions s ≡ Some x → slice_get other.sessions s ≡ Some y
+      → commands_in x.history ≡ commands_in y.history
+      → map uncounted (all_told stories budget s w events)
+      ≡ map uncounted (all_told stories budget s other others)
+      → map uncounted_reply (replies_to s v.given)
+      ≡ map uncounted_reply (replies_to s (run stories budget other others).given)

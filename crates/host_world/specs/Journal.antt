@@ -15,7 +15,8 @@ use Rattle.host_world.specs.declared.state.Step.TheVariants.{RowWrite, RowSync, 
 use Rattle.host_world.specs.declared.state.Step.TheVariants.{FirstSync, AskSize, ReadAll}
 use Rattle.host_world.specs.declared.state.Step.TheVariants.{CloseWrite, CloseSync}
 use Rattle.host_world.specs.declared.state.HostState.{HostState}
-use Rattle.host_world.specs.Disk.{disk_after, may_work, counted, is_image}
+use Rattle.disk_model.specs.Plain.{is_image}
+use Rattle.host_world.specs.Disk.{disk_after, may_work, counted}
 use Rattle.host_world.specs.Reading.{rows_in}
 use Rattle.host_world.specs.Sessions.{phase_set, found_sessions}
 
@@ -61,6 +62,21 @@ looked w (Some rows) =
     else record w { step = CloseWrite rows }
 looked w None = record w { step = Idle }
 
+-- nothing is under way
+abbrev pub is_idle : Step → Bool
+is_idle Idle = true
+is_idle step = false
+
+-- the step is one of an append
+abbrev pub is_append : Step → Bool
+is_append (RepairWrite r from) = true
+is_append (RepairSync r from) = true
+is_append (RowWrite r from) = true
+is_append (RowSync r from) = true
+is_append (GateWrite r from) = true
+is_append (GateSync r from) = true
+is_append step = false
+
 -- after a good call of this step. From the gate's write on the row may be found by an opening.
 abbrev pub onward : HostState → Step → HostState
 onward w Idle = w
@@ -96,6 +112,11 @@ failed w (RowSync r from) = broken w r from
 failed w (GateWrite r from) = broken w r from
 failed w (GateSync r from) = broken w r from
 failed w step = record w { step = Idle }
+
+-- after a call of this step
+abbrev pub call_ended : HostState → Bool → Step → HostState
+call_ended w true step = onward w step
+call_ended w false step = failed (record w { faults = counted w.faults }) step
 
 -- the host, where its disk was called
 abbrev pub with_disk : HostState → DiskCall → Bool → List ℕ → HostState

@@ -11,7 +11,7 @@ use Rattle.session_core.specs.declared.entry.Outcome.{Outcome}
 use Rattle.session_core.specs.History.{game_of}
 use Rattle.session_core.specs.Answer.{show_of}
 use Rattle.session_core.specs.Turning.{commands_in, turn_of}
-use Rattle.host_world.specs.Disk.{is_image}
+use Rattle.disk_model.specs.Plain.{is_image}
 use Rattle.host_world.specs.Reading.{rows_in}
 use Rattle.host_world.specs.Starts.{IsDown, down_over}
 

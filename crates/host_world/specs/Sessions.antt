@@ -1,5 +1,5 @@
 -- Sessions, and how their turns go on (own).
-use Rattle.std.specs.Prelude.{ℕ, List, [], ◌∷◌, map, set, Option, Some, None}
+use Rattle.std.specs.Prelude.{ℕ, List, [], ◌∷◌, ◌++◌, map, set, Option, Some, None}
 use Rattle.std.specs.List.{range_with_len}
 use Rattle.gate_journal.specs.declared.command.Command.{Command}
 use Rattle.gate_journal.specs.declared.row.Row.{Row}
@@ -60,6 +60,25 @@ abbrev pub turn_begun : List Session → ℕ → Turn → Option Session → Lis
 turn_begun sessions s turn None = sessions
 turn_begun sessions s turn (Some x) =
     set sessions s (record { history = x.history; turn = Some turn })
+
+-- a history with this entry, if there is one
+abbrev pub with_entry : List Entry → Option Entry → List Entry
+with_entry history None = history
+with_entry history (Some entry) = history ++ entry ∷ []
+
+-- a session that has taken an entry, and whose turn, if it has one, has come to this phase
+abbrev pub with_taken : Session → Option Entry → Phase → Option Turn → Session
+with_taken x entry phase None = record { history = with_entry x.history entry; turn = None }
+with_taken x entry phase (Some t) =
+    record {
+      history = with_entry x.history entry;
+      turn = Some (record t { phase = phase });
+    }
+
+-- the sessions, where one has taken an entry
+abbrev pub taken_in : List Session → ℕ → Option Entry → Phase → Option Session → List Session
+taken_in sessions s entry phase None = sessions
+taken_in sessions s entry phase (Some x) = set sessions s (with_taken x entry phase x.turn)
 
 -- its history has taken the entry of its turn
 abbrev pub taking : Turn → Outcome → Turned → Session

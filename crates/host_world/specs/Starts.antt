@@ -44,6 +44,11 @@ pub record IsDown (w : HostState) : Type 0 where
 abbrev pub IsStart : HostState → Type 0
 IsStart w = IsOpened w ⊎ IsDown w
 
+-- the rows that bytes spell, or none where they spell none
+abbrev pub rows_or_none : Option (List Row) → List Row
+rows_or_none None = []
+rows_or_none (Some rows) = rows
+
 -- a host that is down over these bytes, with nothing pending in its disk
 abbrev pub down_over : List ℕ → List Row → Option Row → HostState
 down_over bytes rows uncertain =

@@ -1,97 +1,61 @@
-//! A disk as plain data (own).
+//! Calls of a disk, and whether they may happen as an event says (own).
 
-ghost use Rattle.std.specs.Prelude.{◌≡◌, ◌≤◌, length, IfOk};
-ghost use Rattle.disk_model.specs.DiskState.{greatest_end, settled};
-ghost use Rattle.host_world.specs.Disk.{is_touched, agree, is_image};
+ghost use Rattle.std.specs.Prelude.{◌≡◌, ◌+◌, ◌^◌, nat_le, length, if◌then◌else◌, IfOk};
+ghost use Rattle.host_world.specs.Disk.{disk_after, may_happen};
 
-use crate::items::Items;
+use disk_model::PlainDisk;
 use std::alloc::{AllocError, Global};
-use std::marker::Model;
 use story_text::Bytes;
+
+/// The most bytes of a disk.
+const ROOM: u128 = 1 << 40;
 
 /// A call of a disk.
 #[derive(Drop)]
 pub enum DiskCall {
     /// Bytes are put at this place.
-    Write { at: u64, piece: Bytes },
+    Write { at: u128, piece: Bytes },
     /// All that was written is made durable.
     Sync,
     /// The size is asked, or something is read.
     Look,
 }
 
-/// A disk: the bytes as a sync left them, those that it reads as, and the ranges written since,
-/// each a place and its end.
-#[derive(Drop)]
-pub struct PlainDisk {
-    synced: Bytes,
-    seen: Bytes,
-    ranges: Items<(u64, u64)>,
-}
-
-impl Model for PlainDisk {
-    ghost use Rattle.disk_model.specs.DiskState.{DiskState};
-
-    ghost Value = { DiskState };
-
-    ghost view = { λ d. record { synced = d.synced; seen = d.seen; ranges = d.ranges } };
-}
-
-fn is_touched(ranges: &[(u64, u64)], place: u64) -> bool
-    ensures { result ≡ is_touched place ranges.now }
+fn has_room(at: u128, piece: &[u8]) -> bool
+    ensures { result ≡ nat_le (at + length piece.now) (2 ^ 40) }
 {
-    for range in ranges {
-        if range.0 <= place && place < range.1 {
-            return true;
+    at.saturating_add(piece.len() as u128) <= ROOM
+}
+
+/// The disk makes the call, where it may happen so, and where it isn't good reads as `reads` from
+/// then on. Answers whether it did.
+pub fn make_call(
+    alloc: Global,
+    disk: &mut PlainDisk,
+    call: &DiskCall,
+    good: bool,
+    reads: &[u8],
+) -> Result<bool, AllocError>
+    ensures made { IfOk result (λ made. made ≡ may_happen call.now good reads.now disk.old) }
+    ensures disk { IfOk result (λ made. disk.new
+        ≡ (if made then disk_after call.now good reads.now disk.old else disk.old)) }
+{
+    if !good {
+        return match call {
+            DiskCall::Write { at, piece } => disk.fail_write(alloc, *at, piece.as_slice(), reads),
+            DiskCall::Sync => disk.fail(alloc, reads),
+            DiskCall::Look => disk.fail(alloc, reads),
+        };
+    }
+    match call {
+        DiskCall::Write { at, piece } => {
+            if !has_room(*at, piece.as_slice()) {
+                return Ok(false);
+            }
+            disk.write(*at, piece.as_slice())?;
         }
+        DiskCall::Sync => disk.sync(alloc)?,
+        DiskCall::Look => {}
     }
-    false
-}
-
-fn last_end(ranges: &[(u64, u64)], size: u64) -> u64
-    ensures { result ≡ greatest_end ranges.now size }
-{
-    let mut end = size;
-    for range in ranges {
-        end = end.max(range.1);
-    }
-    end
-}
-
-// Outside the ranges the image has the synced bytes.
-#[tactic(auto, using(crate::proofs::AgreeLemmas::agree_on, crate::proofs::AgreeLemmas::agree_off))]
-fn agrees(synced: &[u8], ranges: &[(u64, u64)], image: &[u8]) -> bool
-    requires { length synced.now ≤ length image.now }
-    ensures { result ≡ agree (length synced.now) synced.now ranges.now image.now }
-{
-    for place in 0..synced.len() {
-        if !is_touched(ranges, place as u64) && image[place] != synced[place] {
-            return false;
-        }
-    }
-    true
-}
-
-impl PlainDisk {
-    /// Whether a stop may leave these bytes.
-    pub fn is_image(&self, image: &[u8]) -> bool
-        ensures { result ≡ is_image self.now image.now }
-    {
-        let synced = self.synced.as_slice();
-        let ranges = self.ranges.as_slice();
-        synced.len() <= image.len()
-            && image.len() as u64 <= last_end(ranges, synced.len() as u64)
-            && agrees(synced, ranges, image)
-    }
-
-    /// A disk that holds these bytes, all of them synced.
-    pub fn settled(alloc: Global, bytes: &[u8]) -> Result<PlainDisk, AllocError>
-        ensures { IfOk result (λ disk. disk ≡ settled bytes.now) }
-    {
-        Ok(PlainDisk {
-            synced: Bytes::of(Vec::from_slice(alloc, bytes)?),
-            seen: Bytes::of(Vec::from_slice(alloc, bytes)?),
-            ranges: Items::of(Vec::new(alloc)),
-        })
-    }
+    Ok(true)
 }

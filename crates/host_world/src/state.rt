@@ -1,9 +1,12 @@
 //! The state of a host (own).
 
-use crate::disk::PlainDisk;
+ghost use Rattle.std.specs.Prelude.{◌≡◌};
+
 use crate::items::Items;
+use crate::rows::{JournalRows, NewRow};
 use crate::turn::Session;
-use gate_journal::Row;
+use disk_model::PlainDisk;
+use gate_journal::Rows;
 use line_words::Reply;
 
 /// What the journal's disk is asked next. An append has its row, and the disk's count of faults as
@@ -13,21 +16,28 @@ pub enum Step {
     /// Nothing.
     Idle,
     /// An append closes the gate of an earlier row, of which nothing is known.
-    RepairWrite { row: Row, from: u64 },
-    RepairSync { row: Row, from: u64 },
+    RepairWrite { row: NewRow, from: u64 },
+    RepairSync { row: NewRow, from: u64 },
     /// It writes its row behind the closed gate, and the next gate.
-    RowWrite { row: Row, from: u64 },
-    RowSync { row: Row, from: u64 },
+    RowWrite { row: NewRow, from: u64 },
+    RowSync { row: NewRow, from: u64 },
     /// It opens the gate.
-    GateWrite { row: Row, from: u64 },
-    GateSync { row: Row, from: u64 },
+    GateWrite { row: NewRow, from: u64 },
+    GateSync { row: NewRow, from: u64 },
     /// An opening syncs, asks the size and reads all bytes.
     FirstSync,
     AskSize,
     ReadAll,
     /// It closes a gate that isn't 0.
-    CloseWrite { rows: Items<Row> },
-    CloseSync { rows: Items<Row> },
+    CloseWrite { rows: Rows },
+    CloseSync { rows: Rows },
+}
+
+/// The step is this from now on.
+pub fn set_step(step: &mut Step, next: Step)
+    ensures { step.new ≡ next }
+{
+    *step = next;
 }
 
 /// A reply, and the session that it was given to.
@@ -47,16 +57,14 @@ pub struct HostState {
     pub(crate) disk: PlainDisk,
     pub(crate) faults: u64,
     // The rows that are synced, and the row behind a gate of which nothing is known.
-    pub(crate) rows: Items<Row>,
-    pub(crate) uncertain: Option<Row>,
+    pub(crate) rows: JournalRows,
+    pub(crate) uncertain: Option<NewRow>,
     // The session that holds the journal.
     pub(crate) holder: Option<u8>,
     pub(crate) step: Step,
 }
 
 impl HostState {
-    ghost use Rattle.std.specs.Prelude.{◌≡◌};
-
     /// The replies, in the order in which they were given.
     pub fn replies(&self) -> &[Given]
         ensures { result.now ≡ self.now.given }

@@ -5,11 +5,11 @@ ghost use Rattle.story_run.specs.declared.story.Story.{Story};
 ghost use Rattle.host_world.specs.Events.{after, held_by};
 ghost use Rattle.host_world.specs.declared.event.Event.TheVariants as Event;
 
-use crate::disk::PlainDisk;
 use crate::event::Images;
 use crate::sessions::{end_turn, end_turns, has_answer, phase_of, set_phase};
-use crate::state::{Given, HostState, Step};
+use crate::state::{Given, HostState, Step, set_step};
 use crate::turn::Phase;
+use disk_model::PlainDisk;
 use line_words::{No, Reply};
 use session_core::Outcome;
 use std::alloc::{AllocError, Global};
@@ -25,7 +25,7 @@ fn holds(holder: Option<u8>, s: u8) -> bool
 
 impl HostState {
     /// Memory runs out in a turn of which no append has begun: `NO 12` is its reply.
-    pub fn want(&mut self, s: u8)
+    pub(crate) fn want(&mut self, s: u8)
         ensures { (stories : List Story) (budget : ℕ)
             → self.new ≡ after stories budget self.old (Event.Want s) }
     {
@@ -46,7 +46,7 @@ impl HostState {
     }
 
     /// A turn takes the journal, where nobody holds it.
-    pub fn hold(&mut self, s: u8)
+    pub(crate) fn hold(&mut self, s: u8)
         ensures { (stories : List Story) (budget : ℕ)
             → self.new ≡ after stories budget self.old (Event.Hold s) }
     {
@@ -58,7 +58,7 @@ impl HostState {
     }
 
     /// It gives the journal back, once its append has ended.
-    pub fn free(&mut self, s: u8)
+    pub(crate) fn free(&mut self, s: u8)
         ensures { (stories : List Story) (budget : ℕ)
             → self.new ≡ after stories budget self.old (Event.Free s) }
     {
@@ -83,7 +83,7 @@ impl HostState {
     }
 
     /// It answers; `found` says whether memory for the reply was found.
-    pub fn run_turn(&mut self, s: u8, found: bool)
+    pub(crate) fn run_turn(&mut self, s: u8, found: bool)
         ensures { (stories : List Story) (budget : ℕ)
             → self.new ≡ after stories budget self.old (Event.Run s found) }
     {
@@ -99,9 +99,9 @@ impl HostState {
 
     /// The reply that is ready is given, and the turn is over. Where memory runs out nothing has
     /// changed.
-    pub fn give(&mut self, s: u8) -> Result<(), AllocError>
-        ensures ok { OnOk result ((stories : List Story) (budget : ℕ)
-            → self.new ≡ after stories budget self.old (Event.Give s)) }
+    pub(crate) fn give(&mut self, s: u8) -> Result<(), AllocError>
+        ensures ok { (stories : List Story) (budget : ℕ)
+            → OnOk result (self.new ≡ after stories budget self.old (Event.Give s)) }
         ensures err { OnErr result (self.new ≡ self.old) }
     {
         if !has_answer(self.sessions.as_slice(), s) {
@@ -116,9 +116,9 @@ impl HostState {
 
     /// The host stops, and its disk holds the image, where a stop may leave it. Where memory runs
     /// out nothing has changed.
-    pub fn stop(&mut self, alloc: Global, images: &Images) -> Result<(), AllocError>
-        ensures ok { OnOk result ((stories : List Story) (budget : ℕ)
-            → self.new ≡ after stories budget self.old (Event.Stop images.now)) }
+    pub(crate) fn stop(&mut self, alloc: Global, images: &Images) -> Result<(), AllocError>
+        ensures ok { (stories : List Story) (budget : ℕ)
+            → OnOk result (self.new ≡ after stories budget self.old (Event.Stop images.now)) }
         ensures err { OnErr result (self.new ≡ self.old) }
     {
         let [image] = images.as_slice() else {
@@ -131,17 +131,17 @@ impl HostState {
         end_turns(&mut self.sessions.list);
         self.up = false;
         self.holder = None;
-        self.step = Step::Idle;
+        set_step(&mut self.step, Step::Idle);
         Ok(())
     }
 
     /// An opening begins, where the host is down.
-    pub fn recover(&mut self)
+    pub(crate) fn recover(&mut self)
         ensures { (stories : List Story) (budget : ℕ)
             → self.new ≡ after stories budget self.old Event.Recover }
     {
         if !self.up {
-            self.step = Step::FirstSync;
+            set_step(&mut self.step, Step::FirstSync);
         }
     }
 }

@@ -1,8 +1,8 @@
 //! The turn of a session (own).
 
-use crate::items::Items;
+use crate::history::History;
 use line_words::Reply;
-use session_core::{Entry, Outcome};
+use session_core::Outcome;
 use story_text::Bytes;
 
 /// How far a turn has come. A turn whose line makes the session accept a command goes on by an
@@ -39,6 +39,6 @@ pub struct Turn {
 /// A session: its history, oldest entry first, and the turn that is under way.
 #[derive(Drop)]
 pub struct Session {
-    pub history: Items<Entry>,
+    pub history: History,
     pub turn: Option<Turn>,
 }

@@ -1,4 +1,4 @@
-use Rattle.host_world.proofs.ImageLemmas.{image_is, image_told}
+use Rattle.disk_model.proofs.PlainLaws.{image_is, image_told}
 use Rattle.host_world.proofs.ReadingLemmas.{reads_rows, found_rows}
 use Rattle.host_world.proofs.Runs.{starts_over}
 use Rattle.host_world.proofs.law.definitions.Goals as goal

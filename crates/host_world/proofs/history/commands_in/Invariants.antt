@@ -1,6 +1,6 @@
 use Rattle.std.proofs.Common.{◌≡◌, ◌++◌, drop}
 use Rattle.session_core.specs.Turning.{commands_in}
-use Rattle.host_world.proofs.deciding.commands_in.Given as goal
+use Rattle.host_world.proofs.history.commands_in.Given as goal
 
 abbrev pub invariant-loop-entry : goal.invariant-loop-entry
 invariant-loop-entry l =

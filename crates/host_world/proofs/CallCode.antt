@@ -1,0 +1,139 @@
+-- A device call, as it is made.
+use Rattle.std.proofs.Common.{Bool, List, None, Option, Some, ap, false, refl, sym, true, ℕ, ◌==◌, ◌∙◌, ◌≡◌}
+use Rattle.std.specs.Prelude.{if◌then◌else◌, slice_index, length}
+use Rattle.gate_journal.specs.Rows.{spelled}
+use Rattle.gate_journal.specs.declared.row.Row.{Row}
+use Rattle.story_run.specs.declared.story.Story.{Story}
+use Rattle.host_world.specs.Disk.{may_happen}
+use Rattle.host_world.specs.Events.{begin_held}
+use Rattle.host_world.specs.Journal.{call_ended, called, comes_up, is_idle, looked, next_call, onward}
+use Rattle.host_world.specs.Journal.{with_disk}
+use Rattle.host_world.specs.Reading.{rows_in}
+use Rattle.host_world.specs.declared.disk.DiskCall.{DiskCall}
+use Rattle.host_world.specs.declared.state.HostState.{HostState}
+use Rattle.host_world.specs.declared.state.Step.{Step}
+use Rattle.host_world.specs.declared.state.Step.TheVariants.{AskSize, CloseSync, CloseWrite}
+use Rattle.host_world.specs.declared.state.Step.TheVariants.{FirstSync, GateSync, GateWrite, Idle}
+use Rattle.host_world.specs.declared.state.Step.TheVariants.{ReadAll, RepairSync, RepairWrite}
+use Rattle.host_world.specs.declared.state.Step.TheVariants.{RowSync, RowWrite}
+
+-- where something is under way no append begins
+pub busy_begins : (stories : List Story) (budget : ℕ) (w : HostState) (step : Step)
+    (holder : Option ℕ) → is_idle step ≡ false → begin_held stories budget w step holder ≡ w
+busy_begins stories budget w Idle holder is = absurd cc
+busy_begins stories budget w (RepairWrite r from) holder is = refl
+busy_begins stories budget w (RepairSync r from) holder is = refl
+busy_begins stories budget w (RowWrite r from) holder is = refl
+busy_begins stories budget w (RowSync r from) holder is = refl
+busy_begins stories budget w (GateWrite r from) holder is = refl
+busy_begins stories budget w (GateSync r from) holder is = refl
+busy_begins stories budget w FirstSync holder is = refl
+busy_begins stories budget w AskSize holder is = refl
+busy_begins stories budget w ReadAll holder is = refl
+busy_begins stories budget w (CloseWrite rows) holder is = refl
+busy_begins stories budget w (CloseSync rows) holder is = refl
+
+pub idle_is : (step : Step) → is_idle step ≡ true → step ≡ Idle
+idle_is Idle is = refl
+idle_is (RepairWrite r from) is = absurd cc
+idle_is (RepairSync r from) is = absurd cc
+idle_is (RowWrite r from) is = absurd cc
+idle_is (RowSync r from) is = absurd cc
+idle_is (GateWrite r from) is = absurd cc
+idle_is (GateSync r from) is = absurd cc
+idle_is FirstSync is = absurd cc
+idle_is AskSize is = absurd cc
+idle_is ReadAll is = absurd cc
+idle_is (CloseWrite rows) is = absurd cc
+idle_is (CloseSync rows) is = absurd cc
+
+-- the step is taken out of the host before the call ends
+abbrev without_step : HostState → HostState
+without_step w = record w { step = Idle }
+
+looks_on : (w : HostState) (read : Option (List Row)) → looked (without_step w) read ≡ looked w read
+looks_on w None = refl
+looks_on w (Some rows) = of (slice_index w.disk.seen (length (spelled rows)) == 0)
+  where
+    of : (b : Bool)
+        → (if b then comes_up (without_step w) rows
+        else record (without_step w) { step = CloseWrite rows })
+        ≡ (if b then comes_up w rows else record w { step = CloseWrite rows })
+    of true = refl
+    of false = refl
+
+onward_alike : (w : HostState) (step : Step) (call : DiskCall) → next_call w.rows step ≡ Some call
+    → onward (without_step w) step ≡ onward w step
+onward_alike w Idle call is = absurd cc
+onward_alike w (RepairWrite r from) call is = refl
+onward_alike w (RepairSync r from) call is = refl
+onward_alike w (RowWrite r from) call is = refl
+onward_alike w (RowSync r from) call is = refl
+onward_alike w (GateWrite r from) call is = refl
+onward_alike w (GateSync r from) call is = refl
+onward_alike w FirstSync call is = refl
+onward_alike w AskSize call is = refl
+onward_alike w ReadAll call is = looks_on w (rows_in w.disk.seen)
+onward_alike w (CloseWrite rows) call is = refl
+onward_alike w (CloseSync rows) call is = refl
+
+ended_alike : (w : HostState) (good : Bool) (step : Step) (call : DiskCall)
+    → next_call w.rows step ≡ Some call
+    → call_ended (without_step w) good step ≡ call_ended w good step
+ended_alike w true step call is = onward_alike w step call is
+ended_alike w false Idle call is = refl
+ended_alike w false (RepairWrite r from) call is = refl
+ended_alike w false (RepairSync r from) call is = refl
+ended_alike w false (RowWrite r from) call is = refl
+ended_alike w false (RowSync r from) call is = refl
+ended_alike w false (GateWrite r from) call is = refl
+ended_alike w false (GateSync r from) call is = refl
+ended_alike w false FirstSync call is = refl
+ended_alike w false AskSize call is = refl
+ended_alike w false ReadAll call is = refl
+ended_alike w false (CloseWrite rows) call is = refl
+ended_alike w false (CloseSync rows) call is = refl
+
+abbrev on_disk : HostState → DiskCall → Bool → List ℕ → HostState
+on_disk v call good reads = with_disk v call good reads
+
+if_true : (b : Bool) (x y : HostState) → b ≡ true → (if b then x else y) ≡ x
+if_true true x y is = refl
+if_true false x y is = absurd cc
+
+if_false : (b : Bool) (x y : HostState) → b ≡ false → (if b then x else y) ≡ y
+if_false false x y is = refl
+if_false true x y is = absurd cc
+
+may_happens : (w v : HostState) (good : Bool) (reads : List ℕ) (step : Step) (call : DiskCall)
+    → may_happen call good reads v.disk ≡ true
+    → called w v good reads step (Some call) ≡ call_ended (with_disk v call good reads) good step
+may_happens w v true reads step call is = if_true _ _ _ is
+may_happens w v false reads step call is = if_true _ _ _ is
+
+-- a call that is made, of a step that was taken out
+pub call_made : (w v u : HostState) (good : Bool) (reads : List ℕ) (call : DiskCall)
+    → next_call v.rows v.step ≡ Some call → may_happen call good reads v.disk ≡ true
+    → u ≡ without_step (with_disk v call good reads)
+    → call_ended u good v.step
+    ≡ called w v good reads v.step (next_call v.rows v.step)
+call_made w v u good reads call next is alike =
+    ap (λ (z : HostState). call_ended z good v.step) alike
+    ∙ ended_alike (with_disk v call good reads) good v.step call next
+    ∙ sym (may_happens w v good reads v.step call is)
+    ∙ ap (λ (o : Option DiskCall). called w v good reads v.step o) (sym next)
+
+-- one that isn't made
+pub call_not_made : (w v : HostState) (good : Bool) (reads : List ℕ) (call : DiskCall)
+    → next_call v.rows v.step ≡ Some call → may_happen call good reads v.disk ≡ false
+    → w ≡ called w v good reads v.step (next_call v.rows v.step)
+call_not_made w v true reads call next is =
+    sym (ap (λ (o : Option DiskCall). called w v true reads v.step o) next ∙ if_false _ _ _ is)
+call_not_made w v false reads call next is =
+    sym (ap (λ (o : Option DiskCall). called w v false reads v.step o) next ∙ if_false _ _ _ is)
+
+-- where there is no next call
+pub call_none : (w v : HostState) (good : Bool) (reads : List ℕ)
+    → next_call v.rows v.step ≡ None → w ≡ called w v good reads v.step (next_call v.rows v.step)
+call_none w v good reads next =
+    sym (ap (λ (o : Option DiskCall). called w v good reads v.step o) next)

@@ -1,0 +1,53 @@
+-- A list of events, one by one, and what holds over it.
+use Rattle.std.proofs.Common.{List, [], ap, arith, drop, get_or, length, refl, subst}
+use Rattle.std.proofs.Common.{suc, sym, zero, ℕ, ◌++◌, ◌+◌, ◌<◌, ◌∙◌, ◌∷◌, ◌≡◌, ◌≤◌}
+use Rattle.std.proofs.lemmas.List.{drop_more}
+use Rattle.std.specs.List.{slice_get}
+use Rattle.story_run.specs.declared.story.Story.{Story}
+use Rattle.host_world.specs.Events.{after, run}
+use Rattle.host_world.specs.Headline.{EachLives, IsIsolated, NothingIsLost}
+use Rattle.host_world.specs.declared.event.Event.{Event}
+use Rattle.host_world.specs.declared.state.HostState.{HostState}
+use Rattle.host_world.proofs.Apart.{isolated_holds, nothing_lost}
+use Rattle.host_world.proofs.Runs.{lives_holds}
+
+module _ (stories : List Story) (budget : ℕ) where
+  pub run_next : (events : List Event) (i : ℕ) (event : Event) (w v : HostState) → i < length events
+      → event ≡ get_or events i event → v ≡ after stories budget w event
+      → run stories budget v (drop (i + 1) events) ≡ run stories budget w (drop i events)
+  run_next events i event w v lt here is =
+      ap (λ (u : HostState). run stories budget u (drop (i + 1) events)) is
+      ∙ ap (λ (e : Event). run stories budget (after stories budget w e) (drop (i + 1) events)) here
+      ∙ sym (ap (λ (l : List Event). run stories budget w l) (drop_more events i event lt))
+
+  pub run_end : (events : List Event) (i : ℕ) (w : HostState) → length events ≤ i
+      → run stories budget w (drop i events) ≡ w
+  run_end [] zero w le = refl
+  run_end [] (suc i) w le = refl
+  run_end (e ∷ events) zero w le = absurd (omega (arith, le))
+  run_end (e ∷ events) (suc i) w le = run_end events i w (omega (arith, le))
+
+  run-append : (earlier later : List Event) (w : HostState)
+      → run stories budget w (earlier ++ later)
+      ≡ run stories budget (run stories budget w earlier) later
+  run-append [] later w = refl
+  run-append (e ∷ earlier) later w = run-append earlier later (after stories budget w e)
+
+  module _ (w : HostState) (events : List Event) (v : HostState)
+      (is : v ≡ run stories budget w events) where
+    pub each_lives : EachLives stories budget w events v
+    each_lives = subst (λ (u : HostState). EachLives stories budget w events u) (sym is)
+        (λ premise start s x y. lives_holds stories budget premise w events start s x y)
+
+    pub none_lost : NothingIsLost stories budget w events v
+    none_lost premise start earlier later split s x y at free_ at_later =
+        nothing_lost stories budget premise w earlier later start s x y at free_
+        (ap (λ (u : HostState). slice_get u.sessions s) (sym (is
+        ∙ ap (λ (l : List Event). run stories budget w l) split
+        ∙ run-append earlier later w)) ∙ at_later)
+
+    pub isolated : IsIsolated stories budget w events v
+    isolated = subst (λ (u : HostState). IsIsolated stories budget w events u) (sym is)
+        (λ premise start other others. λ second s x y at_x at_y same agree.
+        isolated_holds stories budget premise w other events others start second s x y at_x at_y
+        same agree)

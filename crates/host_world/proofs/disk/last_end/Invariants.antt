@@ -1,7 +1,0 @@
-use Rattle.std.proofs.Common.{◌≡◌, ◌≤◌, max, drop}
-use Rattle.disk_model.specs.DiskState.{greatest_end}
-use Rattle.host_world.proofs.disk.last_end.Given as goal
-
-abbrev pub invariant-loop-range : goal.invariant-loop-range
-invariant-loop-range l = (l.size ≤ l.end) × (max l.end
-    (greatest_end (drop l.range-index l.ranges) l.size) ≡ greatest_end l.ranges l.size)

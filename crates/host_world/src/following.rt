@@ -1,0 +1,71 @@
+//! A list of events, one after the other, and what holds over every such list (own).
+
+ghost use Rattle.std.specs.Prelude.{◌≡◌, IfOk, OnOk};
+ghost use Rattle.gate_journal.specs.Command.{IsBudget};
+ghost use Rattle.host_world.specs.Events.{after, run};
+ghost use Rattle.host_world.specs.Headline.{EachLives, NothingIsLost, IsIsolated};
+ghost use Rattle.host_world.specs.Laws.{ShowsRunAlone};
+
+use crate::event::Event;
+use crate::state::HostState;
+use std::alloc::{AllocError, Global};
+use story_run::Story;
+
+impl HostState {
+    // An event happens; one that isn't enabled changes nothing.
+    fn happen(
+        &mut self,
+        alloc: Global,
+        stories: &[Story],
+        budget: u64,
+        event: &Event,
+    ) -> Result<(), AllocError>
+        requires { IsBudget budget }
+        ensures { OnOk result (self.new ≡ after stories.now budget self.old event.now) }
+    {
+        match event {
+            Event::Take { s, pass, line } => {
+                return self.take(alloc, stories, budget, *s, *pass, line);
+            }
+            Event::Want { s } => self.want(*s),
+            Event::Hold { s } => self.hold(*s),
+            Event::Call { disk, good, reads } => {
+                return self.call(alloc, stories, budget, *disk, *good, reads);
+            }
+            Event::Free { s } => self.free(*s),
+            Event::Run { s, found } => self.run_turn(*s, *found),
+            Event::Accept { s } => return self.accept(alloc, stories, budget, *s),
+            Event::Give { s } => return self.give(*s),
+            Event::Stop { images } => return self.stop(alloc, images),
+            Event::Recover => self.recover(),
+        }
+        Ok(())
+    }
+}
+
+/// The host after these events, one after the other, with these stories and this budget of a turn in
+/// ticks. One that isn't enabled changes nothing.
+///
+/// Whatever happens in whatever order: each session's history and replies are the fold of its own
+/// turns; a stop leaves what it accepted, or that and one command more; and what happens to other
+/// sessions changes no reply. An error is want of memory.
+pub fn follow(
+    alloc: Global,
+    stories: &[Story],
+    budget: u64,
+    mut state: HostState,
+    events: &[Event],
+) -> Result<HostState, AllocError>
+    requires { IsBudget budget }
+    ensures value { IfOk result (λ w. w ≡ run stories.now budget state events.now) }
+    // Of hosts that are opened or down:
+    ensures lives { IfOk result (EachLives stories.now budget state events.now) }
+    ensures shows { ShowsRunAlone }
+    ensures kept { IfOk result (NothingIsLost stories.now budget state events.now) }
+    ensures isolated { IfOk result (IsIsolated stories.now budget state events.now) }
+{
+    for event in events {
+        state.happen(alloc, stories, budget, event)?;
+    }
+    Ok(state)
+}

@@ -1,0 +1,130 @@
+//! The rows of a host's journal (own).
+
+ghost use Rattle.std.specs.Prelude.{◌≡◌, ◌<◌, ◌^◌, ◌++◌, ◌∷◌, [], length, IfOk, OnOk};
+ghost use Rattle.gate_journal.specs.Command.{IsCommand};
+ghost use Rattle.gate_journal.specs.Log.{next_row};
+ghost use Rattle.gate_journal.specs.Rows.{spelled};
+ghost use Rattle.host_world.specs.Journal.{past_gate};
+
+use gate_journal::{Command, Rows, row_bytes};
+use std::alloc::{AllocError, Global};
+use std::marker::Model;
+use story_text::Bytes;
+
+/// A row that an append is to write or has written: the place of its gate, its session, and its
+/// command, whose fields are in their ranges.
+#[derive(Drop)]
+pub struct NewRow {
+    place: u128,
+    session: u8,
+    command: Command,
+}
+
+impl Model for NewRow {
+    ghost use Rattle.std.specs.Prelude.{◌+◌};
+    ghost use Rattle.gate_journal.specs.Command.{IsCommand};
+    ghost use Rattle.gate_journal.specs.declared.row.Row.{Row};
+
+    ghost Value = { Row };
+
+    ghost view = { λ r. record {
+      place = r.place;
+      session = r.session;
+      by = r.session + 1;
+      command = r.command;
+    } };
+
+    ghost invariant = { λ r. IsCommand r.command };
+}
+
+impl NewRow {
+    /// The session that accepted its command.
+    pub fn session(&self) -> u8
+        ensures { result ≡ self.now.session }
+    {
+        self.session
+    }
+
+    /// An equal row; an error where memory runs out.
+    pub fn copy_of(&self, alloc: Global) -> Result<NewRow, AllocError>
+        ensures { IfOk result (λ row. row ≡ self.now) }
+    {
+        Ok(NewRow {
+            place: self.place,
+            session: self.session,
+            command: self.command.copy_of(alloc)?,
+        })
+    }
+
+    /// What an append writes past its gate: the row, and the next gate closed.
+    pub fn past_gate(&self, alloc: Global) -> Result<Bytes, AllocError>
+        ensures { IfOk result (λ bytes. bytes ≡ past_gate self.now) }
+    {
+        Ok(Bytes::of(row_bytes(alloc, self.session, &self.command)?))
+    }
+}
+
+/// Rows, and the place of the closing gate: those that an opening found, and those added since.
+#[derive(Drop)]
+pub struct JournalRows {
+    found: Rows,
+    added: Vec<NewRow>,
+    end: u128,
+}
+
+impl Model for JournalRows {
+    ghost use Rattle.std.specs.Prelude.{◌≡◌, ◌≤◌, ◌+◌, ◌*◌, ◌^◌, ◌++◌, List, length};
+    ghost use Rattle.gate_journal.specs.Rows.{spelled};
+    ghost use Rattle.gate_journal.specs.declared.row.Row.{Row};
+
+    ghost Value = { List Row };
+
+    ghost view = { λ j. j.found ++ j.added.items };
+
+    ghost invariant = { λ j. (j.end ≡ length (spelled (j.found ++ j.added.items)))
+        × (j.end ≤ 2 ^ 64 + 4109 * length j.added.items) };
+}
+
+impl JournalRows {
+    /// Those that an opening found.
+    pub fn of(alloc: Global, found: Rows) -> JournalRows
+        ensures { result ≡ found }
+    {
+        let end = u128::from(found.end());
+        JournalRows {
+            found,
+            added: Vec::new(alloc),
+            end,
+        }
+    }
+
+    /// The place of the closing gate.
+    pub fn end(&self) -> u128
+        ensures value { result ≡ length (spelled self.now) }
+        ensures within { result < 2 ^ 100 }
+    {
+        self.end
+    }
+
+    /// The row that is to stand next.
+    pub fn next(&self, session: u8, command: Command) -> NewRow
+        requires { IsCommand command }
+        ensures { result ≡ next_row self.now session command }
+    {
+        NewRow {
+            place: self.end,
+            session,
+            command,
+        }
+    }
+
+    /// Takes a row.
+    pub fn push(&mut self, row: NewRow) -> Result<(), AllocError>
+        ensures { OnOk result (self.new ≡ self.old ++ row ∷ []) }
+    {
+        let size = 5 + row.command.payload_len() as u128;
+        self.added.push(row)?;
+        self.end += size;
+        Ok(())
+    }
+}

@@ -1,0 +1,5 @@
+//! Lists of events: what no clause says.
+#![tactic(auto)]
+
+#[cfg(test)]
+mod events;
