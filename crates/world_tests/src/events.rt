@@ -1,5 +1,5 @@
-use host_world::{Event, HostState, Images, follow};
-use line_words::{Reply, write_reply};
+use host_world::{Event, HostState, follow};
+use line_words::write_reply;
 use session_core::Sessions;
 use std::alloc::Global;
 use std::test::{Fail, *};
@@ -10,6 +10,9 @@ use story_text::Bytes;
 // A turn's ticks.
 const BUDGET: u64 = 50_000_000;
 
+// How many turns a script has behind its first line.
+const TURNS: u32 = 20;
+
 // A journal without rows.
 const JOURNAL: [u8; 17] = *b"STHJ\x00\x00\x00\x01\x00\x00\x00\x00\x00\x00\x00\x00\x00";
 
@@ -17,39 +20,72 @@ fn bytes(alloc: Global, list: &[u8]) -> Result<Bytes, Fail> {
     Ok(Bytes::of(Vec::from_slice(alloc, list)?))
 }
 
-// So many calls of the journal's disk, all of them good.
-fn push_calls(alloc: Global, events: &mut Vec<Event>, calls: u8) -> Result<(), Fail> {
-    for _ in 0..calls {
-        events.push(Event::Call {
-            disk: 0,
-            good: true,
-            reads: bytes(alloc, b"")?,
-        })?;
+// A line of the script of a session: the one that opens it, or the one of a turn.
+fn script_line(alloc: Global, s: u8, at: u32) -> Result<Vec<u8>, Fail> {
+    let script = script(alloc, 7, s, TURNS)?;
+    let mut lines = script.split(|byte| *byte == b'\n');
+    let line = lines.nth(at as usize).ok_or("a line")?;
+    Ok(Vec::from_slice(alloc, line)?)
+}
+
+// The first lines of the eight scripts, then the second ones, and so on.
+fn script_lines(alloc: Global) -> Result<Vec<Vec<u8>>, Fail> {
+    let mut lines = Vec::new(alloc);
+    for at in 0..=TURNS {
+        for s in 0..8 {
+            lines.push(script_line(alloc, s, at)?)?;
+        }
     }
-    Ok(())
+    Ok(lines)
 }
 
-// An opening: a sync, a size and a read.
-fn push_opening(alloc: Global, events: &mut Vec<Event>) -> Result<(), Fail> {
-    events.push(Event::Recover)?;
-    push_calls(alloc, events, 3)
+// A call of the journal's disk that is good.
+fn good_call(alloc: Global) -> Result<Event, Fail> {
+    Ok(Event::Call {
+        disk: 0,
+        good: true,
+        reads: bytes(alloc, b"")?,
+    })
 }
 
-// A line's turn, in which nothing goes wrong. Where the line makes the session accept nothing, the
-// events between the first and the last aren't enabled.
-fn push_turn(alloc: Global, events: &mut Vec<Event>, s: u8, line: &[u8]) -> Result<(), Fail> {
-    events.push(Event::Take {
-        s,
-        pass: 1,
-        line: bytes(alloc, line)?,
-    })?;
-    events.push(Event::Hold { s })?;
-    push_calls(alloc, events, 4)?;
-    events.push(Event::Free { s })?;
-    events.push(Event::Run { s, found: true })?;
-    events.push(Event::Accept { s })?;
-    events.push(Event::Give { s })?;
-    Ok(())
+// An event of an opening of a journal with a closed gate: it syncs, asks the size and reads.
+fn opening_event(alloc: Global, at: u8) -> Result<Event, Fail> {
+    match at {
+        0 => Ok(Event::Recover),
+        _ => good_call(alloc),
+    }
+}
+
+// An event of a line's turn, in which nothing goes wrong. Where the line makes the session accept
+// nothing, the events between the first and the last aren't enabled.
+fn turn_event(alloc: Global, s: u8, line: &[u8], at: u8) -> Result<Event, Fail> {
+    match at {
+        0 => Ok(Event::Take {
+            s,
+            pass: 1,
+            line: bytes(alloc, line)?,
+        }),
+        1 => Ok(Event::Hold { s }),
+        6 => Ok(Event::Free { s }),
+        7 => Ok(Event::Run { s, found: true }),
+        8 => Ok(Event::Accept { s }),
+        9 => Ok(Event::Give { s }),
+        _ => good_call(alloc),
+    }
+}
+
+// An opening, and then the turns of these lines, of the eight sessions in turn.
+fn events(alloc: Global, lines: &[Vec<u8>]) -> Result<Vec<Event>, Fail> {
+    let mut events = Vec::new(alloc);
+    for at in 0..4 {
+        events.push(opening_event(alloc, at)?)?;
+    }
+    for (k, line) in lines.iter().enumerate() {
+        for at in 0..10 {
+            events.push(turn_event(alloc, (k % 8) as u8, line, at)?)?;
+        }
+    }
+    Ok(events)
 }
 
 // The replies that a host gives from the start, over a journal without rows.
@@ -63,19 +99,15 @@ fn replies(alloc: Global, stories: &[Story], events: &[Event]) -> Result<Vec<u8>
     Ok(replies)
 }
 
-// The lines of eight scripts of this length, in turn: the first of each, then the second of each.
-fn push_lines(alloc: Global, lines: &mut Vec<Vec<u8>>, turns: u32) -> Result<(), Fail> {
-    for at in 0..=turns {
-        for s in 0..8 {
-            let all = script(alloc, 7, s, turns)?;
-            for (k, line) in all.split(|byte| *byte == b'\n').enumerate() {
-                if k == at as usize {
-                    lines.push(Vec::from_slice(alloc, line)?)?;
-                }
-            }
-        }
+// The replies of plain sessions.
+fn wanted(alloc: Global, stories: &[Story], lines: &[Vec<u8>]) -> Result<Vec<u8>, Fail> {
+    let mut sessions = Sessions::new(alloc)?;
+    let mut wanted = Vec::new(alloc);
+    for line in lines {
+        let reply = sessions.answer(alloc, stories, BUDGET, line)?;
+        wanted.extend_from_slice(&write_reply(alloc, &reply)?)?;
     }
-    Ok(())
+    Ok(wanted)
 }
 
 #[test]
@@ -83,18 +115,8 @@ fn eight_scripts_in_turn_are_answered_as_by_plain_sessions(rt: HostRuntime) -> R
     let alloc = rt.alloc();
     let file = echo_story(alloc)?;
     let stories = [Story::of(&file).ok().ok_or("a story")?];
-    let mut lines = Vec::new(alloc);
-    push_lines(alloc, &mut lines, 99)?;
-    assert!(rt; lines.len() == 800);
-    let mut events = Vec::new(alloc);
-    push_opening(alloc, &mut events)?;
-    let mut sessions = Sessions::new(alloc)?;
-    let mut wanted = Vec::new(alloc);
-    for (at, line) in lines.iter().enumerate() {
-        push_turn(alloc, &mut events, (at % 8) as u8, line)?;
-        let reply = sessions.answer(alloc, &stories, BUDGET, line)?;
-        wanted.extend_from_slice(&write_reply(alloc, &reply)?)?;
-    }
-    assert!(rt; replies(alloc, &stories, &events)? == wanted);
+    let lines = script_lines(alloc)?;
+    let given = replies(alloc, &stories, &events(alloc, &lines)?)?;
+    assert!(rt; given == wanted(alloc, &stories, &lines)?);
     Ok(())
 }
