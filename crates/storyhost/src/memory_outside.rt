@@ -251,7 +251,7 @@ impl Outside for MemoryOutside {
     }
 }
 
-#[cfg(test)]
+// For whoever makes such an outside, and looks at its disks afterwards.
 impl MemoryOutside {
     /// Puts a disk under a name.
     pub fn hold(&mut self, alloc: Global, name: &str, disk: MemDisk) -> Result<(), AllocError> {
