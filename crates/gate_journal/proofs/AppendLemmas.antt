@@ -139,7 +139,7 @@ module _
       → from ≡ faults log.disk → to ≡ faults new → faults mid ≡ faults log.disk
       → (faults mid ≤ faults new) × Rose (faults mid) (faults new)
       → IsSound tells may_leave room faults
-      (record { disk = new; entries = entries; uncertain = uncertain; since = log.since; ready = ready }) end
+      (record { disk = new; entries = entries; uncertain = uncertain; opening = log.opening; ready = ready }) end
 
   -- a fault, after which the gate is known so
   faulted :
@@ -192,10 +192,10 @@ module _
       → entries ≡ log.entries ++ Kept q ∷ [] → room new ≡ room log.disk
       → faults log.disk ≤ faults new → later ≡ end + length past → later < room new
       → IsSound tells may_leave room faults
-      (record { disk = new; entries = entries; uncertain = uncertain; since = log.since; ready = ready }) later
+      (record { disk = new; entries = entries; uncertain = uncertain; opening = log.opening; ready = ready }) later
   sound_row {new = new} {entries = entries} {ready = ready} {q = q} {past = past} {later = later} made bytes none repairs same writes same_then pushed size le is_later within =
       subst (λ (u : Option Row). IsSound tells may_leave room faults
-      (record { disk = new; entries = entries; uncertain = u; since = log.since; ready = ready }) later) (sym none)
+      (record { disk = new; entries = entries; uncertain = u; opening = log.opening; ready = ready }) later) (sym none)
       (sound_kept tells may_leave room faults log end later new entries q ready sound pushed size le
       (is_later ∙ ap (λ (l : List ℕ). end + length l) bytes) within
       (subst (λ (x : Row). IsNext rows x) (sym (row_is made)) next)

@@ -10,3 +10,4 @@ pub mod HistoryLemmas
 pub mod StopLemmas
 mod ReadingLemmas
 pub mod AppendLemmas
+pub mod SinceLemmas

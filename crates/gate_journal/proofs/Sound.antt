@@ -17,24 +17,24 @@ module _ {D : Type 0} (tells : D → Bool) (may_leave : D → List ℕ → Type 
   pub sound_faulted : (log : Log D) (end : ℕ) (disk : D) (entries : List Entry) (uncertain : Option Row) (by from to : ℕ) (ready : Bool) → IsSound tells may_leave room faults log end
       → entries ≡ log.entries ++ Faulted by from to ∷ [] → room disk ≡ room log.disk → from ≡ faults log.disk → to ≡ faults disk → from ≤ to → Rose from to
       → IfSome uncertain (IsNext (rows_of log.entries)) → EachImage tells may_leave disk (StandsAt (rows_of log.entries) uncertain)
-      → IsSound tells may_leave room faults (record { disk = disk; entries = entries; uncertain = uncertain; since = log.since; ready = ready }) end
+      → IsSound tells may_leave room faults (record { disk = disk; entries = entries; uncertain = uncertain; opening = log.opening; ready = ready }) end
   sound_faulted log end disk entries uncertain by from to ready sound pushed same_room is_from is_to le rose next images =
       let same : rows_of log.entries ≡ rows_of entries = sym (ap rows_of pushed ∙ rows_of-faulted log.entries by from to) in
-      let counts : Rises log.since log.entries from = subst (λ (n : ℕ). Rises log.since log.entries n) (sym is_from) sound.counts in
+      let counts : Rises (faults log.opening.disk) log.entries from = subst (λ (n : ℕ). Rises (faults log.opening.disk) log.entries n) (sym is_from) sound.counts in
       record {
         journal = subst (λ (rows : List Row). IsJournal rows) same sound.journal;
         ends = sound.ends ∙ ap (λ (rows : List Row). length (spelled rows)) same;
         within = omega (arith, sound.within, same_room);
         next = subst (λ (rows : List Row). IfSome uncertain (IsNext rows)) same next;
         images = subst (λ (rows : List Row). EachImage tells may_leave disk (StandsAt rows uncertain)) same images;
-        counts = subst (λ (l : List Entry). Rises log.since l (faults disk)) (sym pushed) (subst (λ (n : ℕ). Rises log.since (log.entries ++ Faulted by from to ∷ []) n) is_to (rises-faulted log.entries by from to log.since counts le rose));
+        counts = subst (λ (l : List Entry). Rises (faults log.opening.disk) l (faults disk)) (sym pushed) (subst (λ (n : ℕ). Rises (faults log.opening.disk) (log.entries ++ Faulted by from to ∷ []) n) is_to (rises-faulted log.entries by from to (faults log.opening.disk) counts le rose));
       }
 
   -- after a row
   pub sound_kept : (log : Log D) (end later : ℕ) (disk : D) (entries : List Entry) (r : Row) (ready : Bool) → IsSound tells may_leave room faults log end
       → entries ≡ log.entries ++ Kept r ∷ [] → room disk ≡ room log.disk → faults log.disk ≤ faults disk → later ≡ end + length (body r ++ 0 ∷ []) → later < room disk
       → IsNext (rows_of log.entries) r → EachImage tells may_leave disk (IsShut (spelled (rows_of log.entries ++ r ∷ [])))
-      → IsSound tells may_leave room faults (record { disk = disk; entries = entries; uncertain = None; since = log.since; ready = ready }) later
+      → IsSound tells may_leave room faults (record { disk = disk; entries = entries; uncertain = None; opening = log.opening; ready = ready }) later
   sound_kept log end later disk entries r ready sound pushed same_room le is_later within next images =
       let same : rows_of log.entries ++ r ∷ [] ≡ rows_of entries = sym (ap rows_of pushed ∙ rows_of-kept log.entries r) in
       record {
@@ -43,7 +43,7 @@ module _ {D : Type 0} (tells : D → Bool) (may_leave : D → List ℕ → Type 
         within = within;
         next = tt;
         images = subst (λ (rows : List Row). EachImage tells may_leave disk (StandsAt rows None)) same images;
-        counts = subst (λ (l : List Entry). Rises log.since l (faults disk)) (sym pushed) (rises-kept log.entries r log.since (faults log.disk) (faults disk) sound.counts le);
+        counts = subst (λ (l : List Entry). Rises (faults log.opening.disk) l (faults disk)) (sym pushed) (rises-kept log.entries r (faults log.opening.disk) (faults log.disk) (faults disk) sound.counts le);
       }
 
 module _ {D : Type 0} (moment : D → ℕ) (left_since : D → ℕ → List ℕ → Type 0) (rows : List Row) (uncertain : Option Row) (r : Row) (all : IsJournal rows) (next : IsNext rows r) (stood : IfSome uncertain (IsNext rows)) where

@@ -1,8 +1,9 @@
 -- A journal as contracts see it, and what a stop may leave of it (own).
-use Rattle.std.specs.Prelude.{◌≡◌, ◌⊎◌, ℕ, ◌+◌, ◌<◌, ◌≤◌, Bool}
+use Rattle.std.specs.Prelude.{◌≡◌, ◌⊎◌, ℕ, ◌+◌, ◌<◌, ◌≤◌, Bool, IsTrue}
 use Rattle.std.specs.Prelude.{max, Option, Some, None}
-use Rattle.std.specs.Prelude.{IfSome, List, [], ◌∷◌, ◌++◌, length, map, slice_index}
-use Rattle.disk_model.specs.Disk.{Holds, Rose, EachImage}
+use Rattle.std.specs.Prelude.{IfSome, List, [], ◌∷◌, ◌++◌, length, map, slice_index, take}
+use Rattle.turn_cell.specs.History.{Each}
+use Rattle.disk_model.specs.Disk.{Holds, Rose, EachImage, LeavesOnly, SameDisk}
 use Rattle.gate_journal.specs.Gate.{IsShut, IsUnsure}
 use Rattle.gate_journal.specs.Rows.{SpellsRows, body, spelled, IsJournal, IsNext}
 use Rattle.gate_journal.specs.declared.command.Command.{Command}
@@ -32,16 +33,25 @@ Rises low (Kept r ∷ entries) high = Rises low entries high
 Rises low (Faulted by from to ∷ entries) high =
     (low ≤ from) × (from ≤ to) × Rose from to × Rises to entries high
 
+-- what a journal was opened on, which never changes: the disk as it was handed in, and how many
+-- entries were found on it
+pub record Opening (D : Type 0) : Type 0 where
+  pub disk : D
+  pub found : ℕ
+
 pub record Log (D : Type 0) : Type 0 where
   pub disk : D
   -- rows and faults, oldest first
   pub entries : List Entry
   -- the row behind an uncertain gate
   pub uncertain : Option Row
-  -- the disk's count of faults as the journal was opened
-  pub since : ℕ
+  pub opening : Opening D
   -- there is room for one row more
   pub ready : Bool
+
+-- the rows that the opening found
+abbrev pub rows_found : {D : Type 0} → Log D → List Row
+rows_found log = rows_of (take log.opening.found log.entries)
 
 -- the row that is to stand next
 abbrev pub next_row : List Row → ℕ → Command → Row
@@ -62,7 +72,7 @@ pub record SameLog {D : Type 0} (old new : Log D) : Type 0 where
   pub disk : new.disk ≡ old.disk
   pub entries : new.entries ≡ old.entries
   pub uncertain : new.uncertain ≡ old.uncertain
-  pub since : new.since ≡ old.since
+  pub opening : new.opening ≡ old.opening
 
 -- what stands in an image: the rows and a closed gate, or a gate of which nothing is known before
 -- this row and a zero byte
@@ -114,7 +124,7 @@ pub record IsSound
   pub within : end < room log.disk
   pub next : IfSome log.uncertain (IsNext (rows_of log.entries))
   pub images : EachImage tells may_leave log.disk (StandsAt (rows_of log.entries) log.uncertain)
-  pub counts : Rises log.since log.entries (faults log.disk)
+  pub counts : Rises (faults log.opening.disk) log.entries (faults log.disk)
 
 -- the reach after an opening of these bytes: as it was, or the end of the closing gate, where that
 -- is farther
@@ -123,3 +133,42 @@ ReachesGate bytes before now =
     (now ≡ before)
     ⊎ ((rows : List Row) × SpellsRows bytes rows
     × (now ≡ max before (length (spelled rows) + 1)))
+
+-- An image from the time in which a journal's rows grew from the first list to the last: it spells
+-- the first rows and those of the later ones that stood then, or these and one row more; and an
+-- opening may meet it.
+pub record IsBetween (first last : List Row) (c : List ℕ) : Type 0 where
+  pub since : List Row
+  pub after : List Row
+  pub grows : last ≡ (first ++ since) ++ after
+  pub one_more : Option Row
+  pub spells : MaySpell (first ++ since) one_more c
+  pub opens : MayOpen (first ++ since) c
+
+-- the entry is of a session below 64
+abbrev pub IsOfSession : Entry → Type 0
+IsOfSession e = (0 < number_of e) × (number_of e ≤ 64)
+
+-- What holds of each journal since it was opened: it is on the same disk, which wasn't written
+-- farther behind the closing gate than the longest row reaches; its entries are those found and
+-- more. Each image of that time is one that the opening may meet, or spells the rows found and the
+-- first of those written since, or these and one row more.
+pub record IsSinceOpened
+    {D : Type 0}
+    (tells : D → Bool)
+    (may_leave : D → List ℕ → Type 0)
+    (room label reach moment : D → ℕ)
+    (left_since : D → ℕ → List ℕ → Type 0)
+    (log : Log D) : Type 0 where
+  pub same : SameDisk tells room label log.opening.disk log.disk
+  pub many : log.opening.found ≤ length log.entries
+  pub numbers : Each IsOfSession log.entries
+  pub meanwhile :
+      (start : List Row) → IsJournal start
+      → EachImage tells may_leave log.opening.disk (MayOpen start)
+      → IsTrue (tells log.opening.disk)
+      → LeavesOnly moment left_since log.opening.disk log.disk
+      (λ c. MayOpen start c ⊎ IsBetween (rows_found log) (rows_of log.entries) c)
+  pub reaches :
+      reach log.disk
+      ≤ max (reach log.opening.disk) (length (spelled (rows_of log.entries)) + 4110)

@@ -11,6 +11,7 @@ ghost use Rattle.gate_journal.specs.declared.row.Row.{Row};
 ghost use Rattle.gate_journal.specs.declared.entry.Entry.TheVariants.{Kept, Faulted};
 
 use crate::command::Command;
+use crate::entry::Entry;
 use crate::fault::{DiskFault, JournalFault};
 use crate::gate::{RowFault, write_row};
 use crate::history::History;
@@ -22,6 +23,8 @@ use crate::settle::{let_go, note_uncertain, settle};
 use disk_model::Disk;
 use std::alloc::{AllocError, Global};
 use std::marker::Model;
+use std::snapshot::Snapshot;
+use turn_cell::Told;
 
 /// Rows on a disk, each of them there through any stop once its append has answered Ok.
 #[derive(Drop)]
@@ -30,13 +33,15 @@ pub struct Journal<D: Disk> {
     history: History,
     end: u64,
     uncertain: Option<Row>,
-    since: u64,
+    // the disk as it was handed in, and how many entries were found on it
+    opened: Snapshot<D>,
+    found: u64,
     room: Option<Room>,
 }
 
 impl<D: Disk> Model for Journal<D> {
     ghost use Rattle.std.specs.Prelude.{is_some, ◌&&◌};
-    ghost use Rattle.gate_journal.specs.Log.{Log, IsSound};
+    ghost use Rattle.gate_journal.specs.Log.{Log, IsSound, IsSinceOpened};
 
     ghost Value = { Log D };
 
@@ -44,7 +49,7 @@ impl<D: Disk> Model for Journal<D> {
       disk = j.disk;
       entries = j.history.list;
       uncertain = j.uncertain;
-      since = j.since;
+      opening = record { disk = j.opened.value; found = j.found };
       ready = is_some j.room && j.history.room;
     } };
 
@@ -53,15 +58,42 @@ impl<D: Disk> Model for Journal<D> {
           disk = j.disk;
           entries = j.history.list;
           uncertain = j.uncertain;
-          since = j.since;
+          opening = record { disk = j.opened.value; found = j.found };
           ready = is_some j.room && j.history.room;
         })
-        j.end };
+        j.end
+        × IsSinceOpened D.tells D.may_leave D.room D.label D.reach D.moment D.left_since
+        (record {
+          disk = j.disk;
+          entries = j.history.list;
+          uncertain = j.uncertain;
+          opening = record { disk = j.opened.value; found = j.found };
+          ready = is_some j.room && j.history.room;
+        }) };
+}
+
+impl<D: Disk> Told for Journal<D> {
+    ghost use Rattle.gate_journal.specs.Log.{Opening, number_of};
+
+    type Entry = Entry;
+
+    ghost Tag = { Opening D };
+
+    ghost entries = { λ j. j.entries };
+
+    ghost by = { number_of };
+
+    ghost tag = { λ j. j.opening };
+
+    fn count(&self) -> u64 {
+        self.history.len()
+    }
 }
 
 impl<D: Disk> Journal<D> {
     ghost use Rattle.gate_journal.specs.Log.{rows_of, kept, Rises, SameLog, next_row, end_of};
     ghost use Rattle.gate_journal.specs.Log.{MaySpell, MayOpen, Meanwhile, ReachesGate};
+    ghost use Rattle.gate_journal.specs.Log.{IsSinceOpened};
 
     /// The journal of a disk, with the rows that its bytes spell. It syncs first. A refusal hands
     /// the disk back.
@@ -69,7 +101,8 @@ impl<D: Disk> Journal<D> {
         ensures ok { IfOk result (λ j. IsTrue (D.tells disk)
             → SpellsRows (D.seen disk) (rows_of j.entries)) }
         ensures fresh { IfOk result (λ j. (j.entries ≡ kept (rows_of j.entries))
-            × (j.uncertain ≡ None) × (j.since ≡ D.faults disk)) }
+            × (j.uncertain ≡ None)
+            × (j.opening ≡ record { disk = disk; found = length j.entries })) }
         ensures exact { IfErr result (λ e. IsTrue (D.tells disk)
             → Explains (D.seen disk) e.0) }
         ensures cause { MatchResult result (λ j. D.faults j.disk ≡ D.faults disk)
@@ -110,18 +143,20 @@ impl<D: Disk> Journal<D> {
             → slice_index (D.seen disk) (length (spelled (rows_of j.entries))) ≡ 0
             → D.reach j.disk ≡ D.reach disk) }
     {
+        let opened = Snapshot::of(&disk);
         let mut disk = disk;
-        let from = disk.faults();
         let Parsed { history, end } = match load(alloc, &mut disk) {
             Ok(parsed) => parsed,
             Err(fault) => return Err((fault, disk)),
         };
+        let found = history.len();
         Ok(Journal {
             disk,
             history,
             end,
             uncertain: None,
-            since: from,
+            opened,
+            found,
             room: None,
         })
     }
@@ -181,7 +216,7 @@ impl<D: Disk> Journal<D> {
             ++ next_row (rows_of self.old.entries) session command.now ∷ [])
             (λ _. rows_of self.new.entries ≡ rows_of self.old.entries) }
         ensures kept { SameDisk D.tells D.room D.label self.old.disk self.new.disk
-            × (self.new.since ≡ self.old.since) }
+            × (self.new.opening ≡ self.old.opening) }
 
         // Meanwhile an image spells the rows from before alone, or these and the uncertain one, or
         // these and the new one.
@@ -224,7 +259,10 @@ impl<D: Disk> Journal<D> {
     pub fn row_count(&self) -> u64
         ensures value { result ≡ length (rows_of self.now.entries) }
         ensures journal { IsJournal (rows_of self.now.entries) }
-        ensures rises { Rises self.now.since self.now.entries (D.faults self.now.disk) }
+        ensures rises { Rises (D.faults self.now.opening.disk) self.now.entries
+            (D.faults self.now.disk) }
+        ensures since { IsSinceOpened D.tells D.may_leave D.room D.label D.reach D.moment
+            D.left_since self.now }
         ensures images { EachImage D.tells D.may_leave self.now.disk
             (MaySpell (rows_of self.now.entries) self.now.uncertain) }
         ensures opens { EachImage D.tells D.may_leave self.now.disk
@@ -248,6 +286,9 @@ impl<D: Disk> Journal<D> {
         ensures images { EachImage D.tells D.may_leave result
             (MaySpell (rows_of self.entries) self.uncertain) }
         ensures opens { EachImage D.tells D.may_leave result (MayOpen (rows_of self.entries)) }
+        ensures rises { Rises (D.faults self.opening.disk) self.entries (D.faults result) }
+        ensures since { IsSinceOpened D.tells D.may_leave D.room D.label D.reach D.moment
+            D.left_since self }
     {
         let Journal { disk, .. } = self;
         disk

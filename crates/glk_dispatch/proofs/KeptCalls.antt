@@ -1,29 +1,43 @@
 -- What every call and every input keeps.
 use Rattle.std.proofs.Common.{◌≡◌, ◌∙◌, subst, ℕ, zero, suc, ◌+◌, ◌-◌, ◌%◌, ◌^◌, ◌==◌, ◌&&◌}
 use Rattle.std.proofs.Common.{not, min, arith, Option, Some, None, Result, Ok, Err, List, cond}
-use Rattle.std.proofs.Common.{slice_index}
+use Rattle.std.proofs.Common.{[], ap, refl, slice_index}
 use Rattle.std.specs.Prelude.{IfOk, OnOk}
 use Rattle.vm_memory.specs.Access.{read, written}
 use Rattle.vm_memory.specs.Fault.{coded}
 use Rattle.vm_memory.specs.MemoryMap.{MemoryMap, KeepsMap}
 use Rattle.vm_memory.specs.declared.fault.Trap.{Trap}
+use Rattle.vm_memory.specs.declared.fault.Trap.TheVariants.{Fault, NoMemory}
 use Rattle.vm_stack.specs.StackState.{StackState}
+use Rattle.glk_numbers.specs.Numbered.{found, has}
+use Rattle.glk_windows.proofs.AreaLemmas.{SamePlacement, areas-alike, content-placed}
+use Rattle.glk_windows.proofs.AreaLemmas.{placement-map}
+use Rattle.glk_windows.specs.Output as output
+use Rattle.glk_windows.specs.Reading as reading
+use Rattle.glk_windows.specs.Tree as tree
+use Rattle.glk_windows.specs.declared.window.Content.{Content}
+use Rattle.glk_windows.specs.declared.window.Content.TheVariants as wc
 use Rattle.glk_streams.specs.FileRefs as refs
 use Rattle.glk_input.specs.declared.input.Input.{Input}
 use Rattle.glk_input.specs.declared.request.WindowInput.{WindowInput}
-use Rattle.glk_dispatch.specs.Answer.{GlkCall, Does, Puts as Leaves, Reached, ◌>>=◌, glk_call}
-use Rattle.glk_dispatch.specs.Answer.{within}
+use Rattle.glk_dispatch.specs.Answer.{Answers, GlkCall, Does, Puts as LeavesPut, Reached, Rule}
+use Rattle.glk_dispatch.specs.Answer.{UnlessNoMemory, ◌>>=◌, glk_call, within}
 use Rattle.glk_dispatch.specs.Arguments.{arguments}
-use Rattle.glk_dispatch.specs.Call.{called_with, work}
+use Rattle.glk_dispatch.specs.Call.{called, called_with, work}
 use Rattle.glk_dispatch.specs.Case as cases
 use Rattle.glk_dispatch.specs.Events as events
+use Rattle.glk_dispatch.specs.FileRefs.{prompted}
 use Rattle.glk_dispatch.specs.Gestalt as base
-use Rattle.glk_dispatch.specs.Glk.{charged, is_stream, is_window}
+use Rattle.glk_dispatch.specs.Glk.{charged, fresh, is_stream, is_window, turn_begun}
 use Rattle.glk_dispatch.specs.Keeping.{KeepsFrames, KeepsStory}
 use Rattle.glk_dispatch.specs.Laws as law
+use Rattle.glk_dispatch.specs.Laws.{Reaches}
+use Rattle.glk_dispatch.specs.Links.{ends, link_of, links, next}
 use Rattle.glk_dispatch.specs.Output as out
 use Rattle.glk_dispatch.specs.Selector.{call_of}
+use Rattle.glk_dispatch.specs.Streams as rows
 use Rattle.glk_dispatch.specs.Style as styles
+use Rattle.glk_dispatch.specs.Valid.{IsReady, IsValid, LeavesValid, Stands}
 use Rattle.glk_dispatch.specs.declared.base.BaseCall.{BaseCall}
 use Rattle.glk_dispatch.specs.declared.base.BaseCall.TheVariants as b
 use Rattle.glk_dispatch.specs.declared.called.Called.{Called}
@@ -38,34 +52,42 @@ use Rattle.glk_dispatch.specs.declared.selector.Call.TheVariants.{Output, Style,
 use Rattle.glk_dispatch.specs.declared.selector.Call.TheVariants.{Event, Nothing}
 use Rattle.glk_dispatch.specs.declared.style.StyleCall.{StyleCall}
 use Rattle.glk_dispatch.specs.declared.style.StyleCall.TheVariants as sty
-use Rattle.glk_dispatch.proofs.KeptLemmas.{Kept, Keeps, Puts, Valid, at-first, begins-puts}
-use Rattle.glk_dispatch.proofs.KeptLemmas.{charged-valid, kept-array_begun, kept-bind, kept-if}
-use Rattle.glk_dispatch.proofs.KeptLemmas.{kept-leaves, kept-left, kept-puts, kept-read, kept-step}
-use Rattle.glk_dispatch.proofs.KeptLemmas.{kept-told, laws, ok-arguments, ok-word, on}
-use Rattle.glk_dispatch.proofs.KeptLemmas.{puts, row-needs, self}
-use Rattle.glk_dispatch.proofs.KeptEvents.{kept-answered, kept-event_answered, kept-event_work}
-use Rattle.glk_dispatch.proofs.KeptEvents.{kept-input_echoed}
-use Rattle.glk_dispatch.proofs.KeptOutput.{kept-output_work, kept-spread_all}
-use Rattle.glk_dispatch.proofs.KeptStreams.{kept-fileref_work, kept-stream_work}
+use Rattle.glk_dispatch.proofs.FoundLemmas.{part-map}
+use Rattle.glk_dispatch.proofs.LoopLemmas.{end-go, end-stop}
+use Rattle.glk_dispatch.proofs.StreamLemmas.{styled-more}
+use Rattle.glk_dispatch.proofs.PartLemmas.{valid-alike}
+use Rattle.glk_dispatch.proofs.KeptLemmas.{Kept, Keeps, Leaves, Puts, Valid, answers, at-first}
+use Rattle.glk_dispatch.proofs.KeptLemmas.{begins-puts, beside, charged-valid, kept-array_begun}
+use Rattle.glk_dispatch.proofs.KeptLemmas.{kept-bind, kept-if, kept-leaves, kept-left, kept-puts}
+use Rattle.glk_dispatch.proofs.KeptLemmas.{kept-read, kept-step, kept-told, laws, ok-arguments}
+use Rattle.glk_dispatch.proofs.KeptLemmas.{ok-word, on, puts, rested-valid, row, row-needs, self}
+use Rattle.glk_dispatch.proofs.KeptEvents.{at_rest, kept-answered, kept-event_answered}
+use Rattle.glk_dispatch.proofs.KeptEvents.{kept-event_work, kept-input_echoed}
+use Rattle.glk_dispatch.proofs.KeptOutput.{kept-output_work, kept-put_code, kept-spread_all}
+use Rattle.glk_dispatch.proofs.KeptStreams.{kept-fileref_work, kept-got_code, kept-stream_work}
+use Rattle.glk_dispatch.proofs.KeptStreams.{prompted-valid}
 use Rattle.glk_dispatch.proofs.KeptWindows.{kept-window_work}
 
-kept-sets : (s : GlkCall) (n style : ℕ) → Kept s (on s) (styles.sets s n style)
+kept-sets : (s : GlkCall) (n style : ℕ) → Kept s (row s) (styles.sets s n style)
 kept-sets s n style =
     kept-leaves s (styles.styled s.glk n style)
     (kept-if s (Valid s) (n == 0) _ _ (λ e. λ v. v)
     (λ e. kept-left s s.glk (refs.styled s.glk.streams n style) (λ v. v)
-    (λ v. (laws.streams s.glk.streams v.streams).style n style)))
+    (λ v. (laws.streams s.glk.streams v.streams).style n style)
+    (λ v. styled-more s.glk.streams n style)))
 
 kept-style_work : (k : StyleCall) (s : GlkCall) (l : ℕ → ℕ)
-    → Kept s (on s) (styles.style_work k s l)
+    → Kept s (row s) (styles.style_work k s l)
 unfolding styles.style_work
 kept-style_work sty.Set s l = kept-sets s s.glk.streams.current (l 0)
-kept-style_work sty.SetStream s l = row-needs s (on s) (is_stream s.glk (l 0)) 21 _
+kept-style_work sty.SetStream s l = row-needs s (row s) (is_stream s.glk (l 0)) 21 _
     (λ e. kept-sets s (l 0) (l 1))
-kept-style_work sty.HintSet s l = self s
-kept-style_work sty.HintClear s l = self s
-kept-style_work sty.Distinguish s l = row-needs s (on s) (is_window s.glk (l 0)) 21 _ (λ e. self s)
-kept-style_work sty.Measure s l = row-needs s (on s) (is_window s.glk (l 0)) 21 _ (λ e. self s)
+kept-style_work sty.HintSet s l = answers s s 0 (self s)
+kept-style_work sty.HintClear s l = answers s s 0 (self s)
+kept-style_work sty.Distinguish s l = row-needs s (row s) (is_window s.glk (l 0)) 21 _
+    (λ e. answers s s 0 (self s))
+kept-style_work sty.Measure s l = row-needs s (row s) (is_window s.glk (l 0)) 21 _
+    (λ e. answers s s 0 (self s))
 
 -- a word in another case
 kept-last : (s : GlkCall) (rs : List WindowInput) (g : Glk) (r : Result MemoryMap ℕ)
@@ -103,16 +125,16 @@ kept-words s rs (suc count) k g m at h =
 
 kept-cases : (s : GlkCall) (len n : ℕ) (done : Reached (Glk × MemoryMap))
     → (Puts s s.glk.requests s.glk s.memory → Kept s (puts s s.glk.requests) done)
-    → Kept s (on s) (cases.cases s len n done)
+    → Kept s (row s) (cases.cases s len n done)
 kept-cases s len n done h =
     kept-puts s s.glk.requests (within s.glk (cases.checked len n) >>= (λ x. done)) n
     (kept-read s (puts s s.glk.requests) s.glk (cases.checked len n) (λ x. done) (λ v. v)
     (λ x. h (begins-puts s s.glk (λ v. v))))
 
-kept-case_work : (k : CaseCall) (s : GlkCall) (l : ℕ → ℕ) → Kept s (on s) (cases.case_work k s l)
+kept-case_work : (k : CaseCall) (s : GlkCall) (l : ℕ → ℕ) → Kept s (row s) (cases.case_work k s l)
 unfolding cases.case_work
-kept-case_work c.CharToLower s l = self s
-kept-case_work c.CharToUpper s l = self s
+kept-case_work c.CharToLower s l = answers s s _ (self s)
+kept-case_work c.CharToUpper s l = answers s s _ (self s)
 kept-case_work c.BufferToLower s l = kept-cases s (l 1) (l 2) _
     (kept-words s s.glk.requests (l 2) Lower s.glk s.memory (l 0))
 kept-case_work c.BufferToUpper s l = kept-cases s (l 1) (l 2) _
@@ -126,19 +148,23 @@ kept-case_work c.BufferToTitle s l =
     (λ p h. kept-words s rs (cond (not (l 3 == 0)) (l 2 - 1) 0) Lower p.0 p.1
     ((l 0 + 4) % 2 ^ 32) h))
 
-kept-base_work : (k : BaseCall) (s : GlkCall) (l : ℕ → ℕ) → Kept s (on s) (base.base_work k s l)
+kept-base_work : (k : BaseCall) (s : GlkCall) (l : ℕ → ℕ) → Kept s (row s) (base.base_work k s l)
 unfolding base.base_work
-kept-base_work b.Exit s l = self s
-kept-base_work b.SetInterruptHandler s l = self s
-kept-base_work b.Tick s l = self s
-kept-base_work b.Gestalt s l = self s
+kept-base_work b.Exit s l = record {
+  parts = λ v. record { valid = v.valid; waits = v.rests };
+  map = (self s).map;
+  stack = (self s).stack;
+}
+kept-base_work b.SetInterruptHandler s l = answers s s 0 (self s)
+kept-base_work b.Tick s l = answers s s 0 (self s)
+kept-base_work b.Gestalt s l = answers s s _ (self s)
 kept-base_work b.GestaltExt s l =
     kept-told s (cond (l 0 == 3 && not (l 3 == 0)) (base.array_begun s (l 2) 1) (Ok s))
     (base.gestalt (l 0) (l 1))
     (kept-if s (Keeps s) (l 0 == 3 && not (l 3 == 0)) (base.array_begun s (l 2) 1) (Ok s)
     (λ e. kept-array_begun s (l 2) 1) (λ e. self s))
 
-kept-work : (k : call.Call) (s : GlkCall) (l : ℕ → ℕ) → Kept s (on s) (work k s l)
+kept-work : (k : call.Call) (s : GlkCall) (l : ℕ → ℕ) → Kept s (row s) (work k s l)
 kept-work (Base k) s l = kept-base_work k s l
 kept-work (Window k) s l = kept-window_work k s l
 kept-work (Stream k) s l = kept-stream_work k s l
@@ -147,12 +173,11 @@ kept-work (Output k) s l = kept-output_work k s l
 kept-work (Style k) s l = kept-style_work k s l
 kept-work (InCase k) s l = kept-case_work k s l
 kept-work (Event k) s l = kept-event_work k s l
-kept-work Nothing s l = self s
+kept-work Nothing s l = answers s s 0 (self s)
 
 -- the arguments are taken from the stack first
-kept-since : {A : Type 0} (s : GlkCall) (t : StackState) (r : Reached (GlkCall × A))
-    → KeepsFrames s.stack t
-    → Kept (record s { stack = t }) (on (record s { stack = t })) r → Kept s (on s) r
+kept-since : (s : GlkCall) (t : StackState) (r : Rule Called) → KeepsFrames s.stack t
+    → Kept (record s { stack = t }) (row (record s { stack = t })) r → Kept s (row s) r
 kept-since s t (Ok p) k h = record {
   parts = h.parts;
   map = h.map;
@@ -164,45 +189,169 @@ kept-since s t (Ok p) k h = record {
 kept-since s t (Err e) k h = h
 
 kept-taken : (s : GlkCall) (k : call.Call) (t : StackState) (l : ℕ → ℕ) → KeepsFrames s.stack t
-    → Kept s (on s) (work k (record s { stack = t }) l)
+    → Kept s (row s) (work k (record s { stack = t }) l)
 kept-taken s k t l h = kept-since s t (work k (record s { stack = t }) l) h
     (kept-work k (record s { stack = t }) l)
 
 kept-called_with : (o : Option (call.Call × Option ℕ)) (s : GlkCall) (given : ℕ)
-    → Kept s (on s) (called_with o s given)
+    → Kept s (row s) (called_with o s given)
 kept-called_with None s given = λ v. v
 kept-called_with (Some p) s given =
-    kept-step s (at-first s.stack) (on s) s.glk (arguments s.stack p.1 given)
+    kept-step s (at-first s.stack) (row s) s.glk (arguments s.stack p.1 given)
     (λ t. work p.0 (record s { stack = t.0 }) (slice_index t.1)) (λ v. v)
     (ok-arguments s.stack p.1 given) (λ t h. kept-taken s p.0 t.0 (slice_index t.1) h)
 
--- ---- the parts stay valid
+-- ---- Glk states stay valid
 
-as-law : {A : Type 0} (s : GlkCall) (r : Reached (GlkCall × A)) → Kept s (on s) r
-    → law.AreValid s.glk
-    → law.Kept (λ p. p.0.glk) r
-as-law s (Ok p) k v = k.parts v
-as-law s (Err e) k v = k v
+reaches : {A : Type 0} (s : GlkCall) (Is : A → Type 0) (Then : A → Type 0) (r : Reached A)
+    → IsReady s.glk → ((x : A) → Is x → Then x) → Kept s Is r → Reaches Then r
+reaches s Is Then (Ok x) v f k = f x k
+reaches s Is Then (Err e) v f k = k v
 
-pub parts_stay_valid : law.PartsStayValid
-parts_stay_valid = record {
-  new = λ cols rows. record {
-    windows = laws.windows.new;
-    streams = laws.begins;
-    requests = laws.requests.none;
-    next = omega arith;
+-- an empty screen
+new-ready : (cols rows : ℕ) → IsReady (fresh cols rows)
+unfolding found has
+new-ready cols rows = record {
+  valid = record {
+    parts = record {
+      windows = laws.windows.new;
+      streams = laws.begins;
+      requests = laws.requests.none;
+      next = omega arith;
+    };
+    linked = record {
+      streams = λ win l e. absurd cc;
+      windows = λ n win e. absurd cc;
+      plain = λ n e f. absurd cc;
+      echoes = λ win l e z. absurd cc;
+      no_loop = λ n. end-go (next (links (fresh cols rows)) (ends (fresh cols rows))) n 0 refl
+          (end-stop (next (links (fresh cols rows)) (ends (fresh cols rows))) 0 refl);
+    };
+    asked = record { listed = λ win. refl; askers = λ win e. absurd cc };
+    areas = record {
+      root = λ e. absurd cc;
+      first = λ n p e. absurd cc;
+      second = λ n p e. absurd cc;
+    };
   };
-  begun = λ g v. record {
-    windows = laws.windows.begin_turn g.windows v.windows;
-    streams = v.streams;
-    requests = v.requests;
-    next = v.next;
-  };
-  called = λ s selector given v. as-law s _ (kept-called_with (call_of selector) s given) v;
-  answered = λ s i v. as-law s _ (kept-answered i s) v;
+  rests = record { event = refl; prompt = refl };
+}
+
+pub fresh-ready : (g : Glk) (cols rows : ℕ) → g ≡ fresh cols rows → IsReady g
+fresh-ready g cols rows e = rw e (new-ready cols rows)
+
+kind-kept : (c : Content) → reading.kind_in (output.content_kept c) ≡ reading.kind_in c
+kind-kept (wc.Pair p) = refl
+kind-kept wc.Blank = refl
+kind-kept (wc.Buffer x) = refl
+kind-kept (wc.Grid g) = refl
+
+-- a turn begins
+kept-placement : SamePlacement output.content_kept
+kept-placement (wc.Pair p) = (refl, refl)
+kept-placement wc.Blank = (refl, refl)
+kept-placement (wc.Buffer x) = (refl, refl)
+kept-placement (wc.Grid g) = (refl, refl)
+
+begun-valid : (g : Glk) → IsValid g → IsValid (turn_begun g)
+begun-valid g v =
+    valid-alike g (turn_begun g)
+    (record {
+      windows = λ m. part-map tree.number_of link_of
+          (λ w. record w { content = output.content_kept w.content }) (λ w. refl)
+          (λ w. ap (λ k. record { stream = w.stream; echo = w.echo; kind = k })
+          (kind-kept w.content)) g.windows.slots m;
+      streams = λ m. refl;
+    }) refl
+    (record {
+      windows = laws.windows.begin_turn g.windows v.parts.windows;
+      streams = v.parts.streams;
+      requests = v.parts.requests;
+      next = v.parts.next;
+    })
+    (areas-alike g.windows (output.begin_turn g.windows) g.cols g.rows refl
+    (placement-map (λ w. record w { content = output.content_kept w.content }) (λ w. refl)
+    (content-placed output.content_kept kept-placement) g.windows.slots) v.areas) v
+
+pub calls_keep_valid : law.CallsKeepValid
+calls_keep_valid = record {
+  new = new-ready;
+  begun = begun-valid;
+  called = λ s selector given v.
+      reaches s (row s) (λ p. Stands p.1 p.0.glk) (called s selector given) v (λ p k. k.parts v)
+      (kept-called_with (call_of selector) s given);
+  answered = λ s i v. let w = rested-valid s.glk v in
+      reaches (at_rest s) (on (at_rest s)) (λ p. IsReady p.0.glk) (events.answered s i) w
+      (λ p k. k.parts w) (kept-answered i s);
+  put = λ s n code v.
+      reaches s (puts s s.glk.requests) (λ p. IsReady p.0) (out.put_code s.glk s.memory n code) v
+      (λ p k. k.keeps.parts v)
+      (kept-put_code s s.glk.requests s.glk s.memory n code (begins-puts s s.glk (λ w. w)));
+  got = λ s n v.
+      reaches s (beside s) (λ p. IsReady p.0) (rows.got_code s.glk s.memory n) v (λ p k. k v)
+      (kept-got_code s s.glk s.memory n (λ w. w));
 }
 
 -- ---- what calls answered and left
+
+-- by the row's value: memory and stack, and the Glk state
+does-row : (s : GlkCall) (should : Rule Called) (g : Glk) (m : MemoryMap) (t : StackState)
+    (r : Result Called Trap)
+    → Kept s (row s) should → Does should g m t r → OnOk r (KeepsStory s.memory s.stack m t)
+does-row s should g m t (Ok x) k e =
+    let h : Leaves s (glk_call g m t) x =
+    subst (λ (y : Rule Called). Kept s (row s) y) e k in
+    record { map = h.map; stack = h.stack }
+does-row s should g m t (Err f) k e = tt
+
+does-stand : (s : GlkCall) (should : Rule Called) (g : Glk) (m : MemoryMap) (t : StackState)
+    (r : Result Called Trap)
+    → Kept s (row s) should → Does should g m t r → LeavesValid s.glk g r
+does-stand s should g m t (Ok x) k e =
+    let h : Leaves s (glk_call g m t) x =
+    subst (λ (y : Rule Called). Kept s (row s) y) e k in
+    h.parts
+does-stand s should g m t (Err (Fault n)) k e =
+    subst (λ (y : Rule Called). Kept s (row s) y) e k
+does-stand s should g m t (Err NoMemory) k e = tt
+
+-- the arguments of a call were taken, and then its work was done
+taken-kept : (s : GlkCall) (k : call.Call) (count : Option ℕ) (given : ℕ) (t : StackState)
+    (args : List ℕ) → arguments s.stack count given ≡ Ok (t, args)
+    → Kept s (row s) (work k (record s { stack = t }) (slice_index args))
+taken-kept s k count given t args taken =
+    let frames : KeepsFrames s.stack t =
+    subst (λ (y : Result (StackState × List ℕ) ℕ). IfOk y (at-first s.stack)) taken
+    (ok-arguments s.stack count given) in
+    kept-taken s k t (slice_index args) frames
+
+pub call_keeps : (s : GlkCall) (k : call.Call) (count : Option ℕ) (given : ℕ) (t : StackState)
+    (args : List ℕ) (g : Glk) (m : MemoryMap) (u : StackState) (r : Result Called Trap)
+    → arguments s.stack count given ≡ Ok (t, args)
+    → Does (work k (record s { stack = t }) (slice_index args)) g m u r
+    → OnOk r (KeepsStory s.memory s.stack m u)
+call_keeps s k count given t args g m u r taken does =
+    does-row s _ g m u r (taken-kept s k count given t args taken) does
+
+pub call_stands : (s : GlkCall) (k : call.Call) (count : Option ℕ) (given : ℕ) (t : StackState)
+    (args : List ℕ) (g : Glk) (m : MemoryMap) (u : StackState) (r : Result Called Trap)
+    → arguments s.stack count given ≡ Ok (t, args)
+    → Does (work k (record s { stack = t }) (slice_index args)) g m u r
+    → LeavesValid s.glk g r
+call_stands s k count given t args g m u r taken does =
+    does-stand s _ g m u r (taken-kept s k count given t args taken) does
+
+-- a call that is refused before its work leaves the Glk state as it was
+pub unchanged-valid : (g : Glk) (e : Trap) → LeavesValid g g (Err e)
+unchanged-valid g (Fault n) = λ v. v
+unchanged-valid g NoMemory = tt
+
+-- what holds under a condition
+pub under : {A : Type 0} (Is Then : Type 0) (r : Result A Trap) → (Is → UnlessNoMemory r Then)
+    → UnlessNoMemory r (Is → Then)
+under Is Then (Ok x) h = h
+under Is Then (Err (Fault n)) h = h
+under Is Then (Err NoMemory) h = tt
 
 does-keeps : {A : Type 0} (s : GlkCall) (should : Reached (GlkCall × A)) (g : Glk) (m : MemoryMap)
     (t : StackState) (r : Result A Trap)
@@ -212,23 +361,34 @@ does-keeps {A} s should g m t (Ok x) k e =
     record { map = h.map; stack = h.stack }
 does-keeps s should g m t (Err f) k e = tt
 
--- the arguments of a call were taken, and then its work was done
-pub call_keeps : (s : GlkCall) (k : call.Call) (count : Option ℕ) (given : ℕ) (t : StackState)
-    (args : List ℕ) (g : Glk) (m : MemoryMap) (u : StackState) (r : Result Called Trap)
-    → arguments s.stack count given ≡ Ok (t, args)
-    → Does (work k (record s { stack = t }) (slice_index args)) g m u r
-    → OnOk r (KeepsStory s.memory s.stack m u)
-call_keeps s k count given t args g m u r taken does =
-    let frames : KeepsFrames s.stack t =
-    subst (λ (y : Result (StackState × List ℕ) ℕ). IfOk y (at-first s.stack)) taken
-    (ok-arguments s.stack count given) in
-    does-keeps s _ g m u r (kept-taken s k t (slice_index args) frames) does
+does-ready : {A : Type 0} (s : GlkCall) (should : Reached (GlkCall × A)) (g : Glk) (m : MemoryMap)
+    (t : StackState) (r : Result A Trap) → IsReady s.glk
+    → Kept s (on s) should → Does should g m t r → UnlessNoMemory r (IsReady g)
+does-ready {A} s should g m t (Ok x) v k e =
+    let h : Keeps s (glk_call g m t) = subst (λ (y : Reached (GlkCall × A)). Kept s (on s) y) e k in
+    h.parts v
+does-ready {A} s should g m t (Err (Fault n)) v k e =
+    subst (λ (y : Reached (GlkCall × A)). Kept s (on s) y) e k v
+does-ready s should g m t (Err NoMemory) v k e = tt
 
 pub event_keeps : (s : GlkCall) (i : Input) (g : Glk) (m : MemoryMap) (t : StackState)
     (r : Result ℕ Trap)
     → Does (events.event_answered s i) g m t r → OnOk r (KeepsStory s.memory s.stack m t)
-event_keeps s i g m t r does = does-keeps s (events.event_answered s i) g m t r
+event_keeps s i g m t r does = does-keeps (at_rest s) (events.event_answered s i) g m t r
     (kept-event_answered s i) does
+
+pub event_readies : (s : GlkCall) (i : Input) (g : Glk) (m : MemoryMap) (t : StackState)
+    (r : Result ℕ Trap)
+    → Does (events.event_answered s i) g m t r → UnlessNoMemory r (IsValid s.glk → IsReady g)
+event_readies s i g m t r does = under (IsValid s.glk) (IsReady g) r (λ v.
+    does-ready (at_rest s) (events.event_answered s i) g m t r (rested-valid s.glk v)
+    (kept-event_answered s i) does)
+
+pub prompt_readies : (g h : Glk) (name : List ℕ) (n : ℕ)
+    → ◌≡◌ {A = Reached (Glk × ℕ)} (Ok (prompted g name)) (Ok (h, n)) → IsValid g → IsReady h
+prompt_readies g h name n e v =
+    subst (λ (y : Reached (Glk × ℕ)). IfOk y (λ p. IsReady p.0)) e
+    (prompted-valid g name (rested-valid g v))
 
 puts-left : (s : GlkCall) (should : Reached (Glk × MemoryMap)) (g : Glk) (m : MemoryMap)
     → Kept s (puts s s.glk.requests) should
@@ -236,13 +396,48 @@ puts-left : (s : GlkCall) (should : Reached (Glk × MemoryMap)) (g : Glk) (m : M
 puts-left s should g m k e = subst
     (λ (y : Reached (Glk × MemoryMap)). Kept s (puts s s.glk.requests) y) e k
 
+-- a character that was put, and one that was read
 pub put_keeps : (s : GlkCall) (g : Glk) (m : MemoryMap) (stream code : ℕ)
     (r : Result (Unit {0}) Trap)
-    → Leaves (out.spread_all s.glk s.memory stream code) g m r → OnOk r (KeepsMap s.memory m)
+    → LeavesPut (out.spread_all s.glk s.memory stream code) g m r → OnOk r (KeepsMap s.memory m)
 put_keeps s g m stream code (Ok x) does =
     (puts-left s _ g m (kept-spread_all s s.glk.requests s.glk s.memory stream code
     (begins-puts s s.glk (λ v. v))) does).keeps.map
 put_keeps s g m stream code (Err t) does = tt
+
+pub put_readies : (s : GlkCall) (g : Glk) (m : MemoryMap) (stream code : ℕ)
+    (r : Result (Unit {0}) Trap)
+    → LeavesPut (out.put_code s.glk s.memory stream code) g m r
+    → UnlessNoMemory r (IsReady s.glk → IsReady g)
+put_readies s g m stream code r does = under (IsReady s.glk) (IsReady g) r (λ v.
+    by-result v r does (kept-put_code s s.glk.requests s.glk s.memory stream code
+    (begins-puts s s.glk (λ w. w))))
+  where
+    by-result : IsReady s.glk → (r : Result (Unit {0}) Trap)
+        → LeavesPut (out.put_code s.glk s.memory stream code) g m r
+        → Kept s (puts s s.glk.requests) (out.put_code s.glk s.memory stream code)
+        → UnlessNoMemory r (IsReady g)
+    by-result v (Ok x) e k = (puts-left s _ g m k e).keeps.parts v
+    by-result v (Err (Fault n)) e k =
+        subst (λ (y : Reached (Glk × MemoryMap)). Kept s (puts s s.glk.requests) y) e k v
+    by-result v (Err NoMemory) e k = tt
+
+pub got_readies : (g h : Glk) (m : MemoryMap) (stream : ℕ) (r : Result (Option ℕ) Trap)
+    → Answers (rows.got_code g m stream) h r → UnlessNoMemory r (IsReady g → IsReady h)
+got_readies g h m stream r does = under (IsReady g) (IsReady h) r (λ v.
+    by-result v r does (kept-got_code call_on g m stream (λ w. w)))
+  where
+    -- no stack is at hand, and none is reached
+    call_on : GlkCall
+    call_on = glk_call g m (record { bytes = []; frame = 0; limit = 0 })
+
+    by-result : IsReady g → (r : Result (Option ℕ) Trap) → Answers (rows.got_code g m stream) h r
+        → Kept call_on (beside call_on) (rows.got_code g m stream) → UnlessNoMemory r (IsReady h)
+    by-result v (Ok x) e k =
+        subst (λ (y : Reached (Glk × Option ℕ)). Kept call_on (beside call_on) y) e k v
+    by-result v (Err (Fault n)) e k =
+        subst (λ (y : Reached (Glk × Option ℕ)). Kept call_on (beside call_on) y) e k v
+    by-result v (Err NoMemory) e k = tt
 
 -- an echo leaves the requests
 pub echo_asks : (s : GlkCall) (i : Input) (g : Glk) (m : MemoryMap)

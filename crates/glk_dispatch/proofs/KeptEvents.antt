@@ -2,7 +2,7 @@
 use Rattle.std.proofs.Common.{◌≡◌, ℕ, zero, suc, ◌+◌, ◌%◌, ◌^◌, ◌==◌, ◌||◌, ◌&&◌}
 use Rattle.std.proofs.Common.{not, nat_le, Bool, true, false, List, [], ◌∷◌, ◌++◌, length}
 use Rattle.std.proofs.Common.{length-append, refl, arith, ◌<◌, ◌≤◌, Option, Some, None, Result, Ok}
-use Rattle.std.proofs.Common.{Err, cond}
+use Rattle.std.proofs.Common.{Err, cond, ◌⊎◌, ◌∙◌, inl, inr, is_some}
 use Rattle.std.specs.Prelude.{IfOk}
 use Rattle.std.proofs.lemmas.Bool.Decides.{nat_tests}
 use Rattle.std.proofs.lemmas.Grind.{common_steps}
@@ -26,19 +26,20 @@ use Rattle.glk_input.specs.declared.request.WindowInput.{WindowInput}
 use Rattle.glk_dispatch.specs.Answer.{GlkCall, Done, Reached, ◌>>=◌, glk_call}
 use Rattle.glk_dispatch.specs.Events as events
 use Rattle.glk_dispatch.specs.FileRefs.{prompted}
-use Rattle.glk_dispatch.specs.Glk.{is_window}
-use Rattle.glk_dispatch.specs.Laws.{AreValid}
+use Rattle.glk_dispatch.specs.Glk.{is_window, rested}
+use Rattle.glk_dispatch.specs.Valid.{AreAsked, AreValid}
 use Rattle.glk_dispatch.specs.Output.{code_at, echo_put}
 use Rattle.glk_dispatch.specs.Reference.{refers_all}
 use Rattle.glk_dispatch.specs.declared.events.EventCall.{EventCall}
 use Rattle.glk_dispatch.specs.declared.events.EventCall.TheVariants as ev
 use Rattle.glk_dispatch.specs.declared.events.TheConstants.{INPUT, MAX_INITIAL, NEWLINE}
 use Rattle.glk_dispatch.specs.declared.glk.Glk.{Glk}
-use Rattle.glk_dispatch.proofs.KeptLemmas.{Kept, Keeps, Puts, Valid, begins-puts, beside, between}
+use Rattle.glk_dispatch.proofs.AskLemmas.{asked-changed, with-live}
+use Rattle.glk_dispatch.proofs.KeptLemmas.{Kept, Keeps, Puts, Valid, begins-puts, between}
 use Rattle.glk_dispatch.proofs.KeptLemmas.{kept-alone, kept-bind, kept-if, kept-read}
-use Rattle.glk_dispatch.proofs.KeptLemmas.{kept-refers_all, kept-step, kept-told, laws, ok-coded}
-use Rattle.glk_dispatch.proofs.KeptLemmas.{ok-written, on, placed-on, puts, row-needs, self}
-use Rattle.glk_dispatch.proofs.KeptLemmas.{with-requests}
+use Rattle.glk_dispatch.proofs.KeptLemmas.{kept-refers_all, kept-row, kept-step, kept-told, laws}
+use Rattle.glk_dispatch.proofs.KeptLemmas.{ok-coded, ok-written, on, puts, row, row-needs}
+use Rattle.glk_dispatch.proofs.KeptLemmas.{same-parts, self, stands, told, with-requests}
 use Rattle.glk_dispatch.proofs.KeptOutput.{kept-echo_put}
 use Rattle.glk_dispatch.proofs.KeptStreams.{prompted-valid}
 
@@ -131,6 +132,13 @@ answered-valid (input.Line win text key) ws e = laws.requests.over ws win e
 answered-valid (input.Char win code) ws e = laws.requests.over ws win e
 answered-valid (input.File name) ws e = e
 
+answered-asked : (i : Input) (g : Glk) → AreAsked g → AreAsked (events.request_over g i)
+answered-asked (input.Line win text key) g v =
+    asked-changed g request.ended win (λ w. refl) (λ w e. absurd cc) v
+answered-asked (input.Char win code) g v =
+    asked-changed g request.ended win (λ w. refl) (λ w e. absurd cc) v
+answered-asked (input.File name) g v = v
+
 -- ---- lines that are shown
 
 kept-echoed : (b : GlkCall) (rs : List WindowInput) (cs : List ℕ) (g : Glk) (m : MemoryMap) (n : ℕ)
@@ -194,18 +202,40 @@ kept-input_echoed b rs (input.File name) g m k = k
 
 -- ---- the rows
 
--- a change of the requests of a window that is live
+-- a change of the requests of a window
 kept-asks : (s : GlkCall) (rs : List WindowInput) → (AreValid s.glk → is_valid rs ≡ true)
-    → Kept s (beside s) (events.leaves s.glk rs)
-kept-asks s rs h = λ v. with-requests s.glk rs v (h v)
+    → (AreAsked s.glk → AreAsked (record s.glk { requests = rs }))
+    → Kept s (told s) (events.leaves s.glk rs)
+kept-asks s rs h asked =
+    λ v. stands (record s.glk { requests = rs }) 0
+    (with-requests s.glk rs v (h v.valid.parts) (asked v.valid.asked))
 
-kept-cancels_line : (s : GlkCall) (win event : ℕ) → Kept s (on s) (events.cancels_line s win event)
+-- a live window's entry is there, and is changed
+asked-live : (g : Glk) (f : WindowInput → WindowInput) (win : ℕ) → is_window g win ≡ true
+    → ((w : WindowInput) → (f w).win ≡ w.win)
+    → ((w : WindowInput) → is_some (f w).request ≡ true
+    → (events.may_ask g win ≡ true) ⊎ (is_some w.request ≡ true))
+    → AreAsked g
+    → AreAsked (record g { requests = request.changed f (request.with_window g.requests win) win })
+asked-live g f win live same may v =
+    rw (with-live g win v (v.listed win ∙ live)) (asked-changed g f win same may v)
+
+some-line_ended : (o : Option Request) → is_some (request.line_ended o) ≡ true → is_some o ≡ true
+some-line_ended None e = e
+some-line_ended (Some r) e = refl
+
+some-char_ended : (o : Option Request) → is_some (request.char_ended o) ≡ true → is_some o ≡ true
+some-char_ended None e = e
+some-char_ended (Some r) e = refl
+
+kept-cancels_line : (s : GlkCall) (win event : ℕ)
+    → Kept s (row s) (events.cancels_line s win event)
 kept-cancels_line s win event =
     let asked = request.request_of s.glk.requests win in
     let rs = request.changed request.without_line s.glk.requests win in
     let g = record s.glk { requests = rs } in
     let r = events.initial_echoed asked g s.memory win in
-    row-needs s (on s) (is_window s.glk win) 21 _
+    row-needs s (row s) (is_window s.glk win) 21 _
     (λ e. kept-told s (r >>=
     (λ p. refers_all (record s { glk = p.0; memory = p.1 }) event
     (events.words_of (request.cancelled asked win)))) 0
@@ -214,54 +244,69 @@ kept-cancels_line s win event =
     (events.words_of (request.cancelled asked win)))
     (kept-initial s rs asked g s.memory win
     (begins-puts s g (λ v. with-requests s.glk rs v
-    (laws.requests.line_ended s.glk.requests win v.requests))))
+    (laws.requests.line_ended s.glk.requests win v.valid.parts.requests)
+    (asked-changed s.glk request.without_line win (λ w. refl)
+    (λ w i. inr (some-line_ended w.request i)) v.valid.asked))))
     (λ p k. kept-refers_all s (record s { glk = p.0; memory = p.1 }) event
     (events.words_of (request.cancelled asked win)) k.keeps)))
 
 pub kept-event_work : (k : EventCall) (s : GlkCall) (l : ℕ → ℕ)
-    → Kept s (on s) (events.event_work k s l)
+    → Kept s (row s) (events.event_work k s l)
 unfolding events.event_work
-kept-event_work ev.Select s l = placed-on s _
-    (λ v. record { windows = v.windows; streams = v.streams; requests = v.requests; next = v.next })
+kept-event_work ev.Select s l = record {
+  parts = λ v. record {
+    valid = same-parts s.glk (record s.glk { event = l 0 }) refl refl refl refl refl v.valid;
+    waits = v.rests.prompt;
+  };
+  map = (self s).map;
+  stack = (self s).stack;
+}
 kept-event_work ev.SelectPoll s l =
     kept-told s (refers_all s (l 0) (0 ∷ 0 ∷ 0 ∷ 0 ∷ [])) 0
     (kept-refers_all s s (l 0) (0 ∷ 0 ∷ 0 ∷ 0 ∷ []) (self s))
 kept-event_work (ev.RequestLine u) s l =
-    kept-alone s (events.line_asked u s.glk (l 0) (l 1) (l 2) (l 3))
-    (row-needs s (beside s) (is_window s.glk (l 0)) 21 _
-    (λ e. row-needs s (beside s) (events.may_ask s.glk (l 0)) 22 _
-    (λ f. row-needs s (beside s) (nat_le (l 3) (l 2) && nat_le (l 3) MAX_INITIAL) 22 _
+    kept-row s (events.line_asked u s.glk (l 0) (l 1) (l 2) (l 3))
+    (row-needs s (told s) (is_window s.glk (l 0)) 21 _
+    (λ e. row-needs s (told s) (events.may_ask s.glk (l 0)) 22 _
+    (λ f. row-needs s (told s) (nat_le (l 3) (l 2) && nat_le (l 3) MAX_INITIAL) 22 _
     (λ h. kept-asks s _ (λ v.
     laws.requests.line (l 1) (l 2) (l 3) u
     (at-most (l 3) (l 2) (and-first (nat_le (l 3) (l 2)) (nat_le (l 3) MAX_INITIAL) h))
     (at-most (l 3) 1024 (and-second (nat_le (l 3) (l 2)) (nat_le (l 3) MAX_INITIAL) h))
-    (request.with_window s.glk.requests (l 0)) (l 0) (begun-requests s.glk (l 0) v e))))))
+    (request.with_window s.glk.requests (l 0)) (l 0) (begun-requests s.glk (l 0) v e))
+    (asked-live s.glk (request.line_asked (l 1) (l 2) (l 3) u) (l 0) e (λ w. refl)
+    (λ w i. inl f))))))
 kept-event_work ev.CancelLine s l = kept-cancels_line s (l 0) (l 1)
 kept-event_work (ev.RequestChar u) s l =
-    kept-alone s (events.char_asked u s.glk (l 0))
-    (row-needs s (beside s) (is_window s.glk (l 0)) 21 _
-    (λ e. row-needs s (beside s) (events.may_ask s.glk (l 0)) 22 _
+    kept-row s (events.char_asked u s.glk (l 0))
+    (row-needs s (told s) (is_window s.glk (l 0)) 21 _
+    (λ e. row-needs s (told s) (events.may_ask s.glk (l 0)) 22 _
     (λ f. kept-asks s _ (λ v. laws.requests.char u (request.with_window s.glk.requests (l 0)) (l 0)
-    (begun-requests s.glk (l 0) v e)))))
+    (begun-requests s.glk (l 0) v e))
+    (asked-live s.glk (request.char_asked u) (l 0) e (λ w. refl) (λ w i. inl f)))))
 kept-event_work ev.CancelChar s l =
-    kept-alone s (events.char_cancelled s.glk (l 0))
-    (row-needs s (beside s) (is_window s.glk (l 0)) 21 _
-    (λ e. kept-asks s _ (λ v. laws.requests.char_ended s.glk.requests (l 0) v.requests)))
+    kept-row s (events.char_cancelled s.glk (l 0))
+    (row-needs s (told s) (is_window s.glk (l 0)) 21 _
+    (λ e. kept-asks s _ (λ v. laws.requests.char_ended s.glk.requests (l 0) v.requests)
+    (asked-changed s.glk request.without_char (l 0) (λ w. refl)
+    (λ w i. inr (some-char_ended w.request i)))))
 kept-event_work ev.SetEcho s l =
-    kept-alone s (events.line_echo_set s.glk (l 0) (l 1))
-    (row-needs s (beside s) (is_window s.glk (l 0)) 21 _
-    (λ e. kept-asks s _ (λ v. laws.requests.echo (not (l 1 == 0)) s.glk.requests (l 0) v.requests)))
+    kept-row s (events.line_echo_set s.glk (l 0) (l 1))
+    (row-needs s (told s) (is_window s.glk (l 0)) 21 _
+    (λ e. kept-asks s _ (λ v. laws.requests.echo (not (l 1 == 0)) s.glk.requests (l 0) v.requests)
+    (asked-changed s.glk (request.with_echo (not (l 1 == 0))) (l 0) (λ w. refl) (λ w i. inr i))))
 kept-event_work ev.SetTerminators s l =
-    kept-alone s (events.terminators_set s.glk s.memory (l 0) (l 1) (l 2))
-    (row-needs s (beside s) (is_window s.glk (l 0)) 21 _
-    (λ e. row-needs s (beside s) (nat_le (l 2) 13) 22 _
-    (λ f. kept-step s (λ xs. length xs ≡ l 2) (beside s) s.glk
+    kept-row s (events.terminators_set s.glk s.memory (l 0) (l 1) (l 2))
+    (row-needs s (told s) (is_window s.glk (l 0)) 21 _
+    (λ e. row-needs s (told s) (nat_le (l 2) 13) 22 _
+    (λ f. kept-step s (λ xs. length xs ≡ l 2) (told s) s.glk
     (events.words_at (l 2) s.memory (l 1) []) _ (λ v. v)
     (ok-words (l 2) s.memory (l 1) _ refl)
     (λ list k. kept-asks s _ (λ v.
     (let few : l 2 ≤ 13 = at-most (l 2) 13 f in
     laws.requests.keys list (omega (arith, k)) (request.with_window s.glk.requests (l 0)) (l 0)
-    (begun-requests s.glk (l 0) v e)))))))
+    (begun-requests s.glk (l 0) v e)))
+    (asked-live s.glk (request.with_keys list) (l 0) e (λ w. refl) (λ w i. inr i))))))
 
 -- ---- an input that comes
 
@@ -310,32 +355,40 @@ kept-delivered : (b : GlkCall) (g : Glk) (m : MemoryMap) (i : Input)
     → Kept b (between b) (events.delivered g m i)
 kept-delivered b g m i k =
     let over : Valid b (events.request_over g i) =
-    λ v. with-requests g (delivery.answered g.requests i) (k.parts v)
-    (answered-valid i g.requests (k.parts v).requests) in
+    λ v. let w = k.parts v in
+    with-requests g (delivery.answered g.requests i) w
+    (answered-valid i g.requests w.valid.parts.requests) (answered-asked i g w.valid.asked) in
     kept-step b (leading b.memory) (between b) (events.request_over g i)
     (coded (delivery.delivered g.requests m i)) (λ p. Ok (events.request_over g i, p.0, p.1)) over
     (ok-coded (leading b.memory) (delivery.delivered g.requests m i)
     (ok-delivered b.memory g.requests m i k.map))
     (λ p h. record { parts = over; map = h; stack = k.stack })
 
-pub kept-event_answered : (s : GlkCall) (i : Input) → Kept s (on s) (events.event_answered s i)
+-- what was waited with is set back before an input comes
+abbrev pub at_rest : GlkCall → GlkCall
+at_rest s = record s { glk = rested s.glk }
+
+pub kept-event_answered : (s : GlkCall) (i : Input)
+    → Kept (at_rest s) (on (at_rest s)) (events.event_answered s i)
 kept-event_answered s i =
-    let shown = events.input_echoed s.glk s.memory i in
+    let b = at_rest s in
+    let shown = events.input_echoed b.glk b.memory i in
     let given = shown >>= (λ p. events.delivered p.0 p.1 i) in
-    let told = given >>=
-    (λ p. refers_all (record s { glk = p.0; memory = p.1 }) p.0.event (events.words_of p.2)) in
-    kept-bind s (Keeps s) (on s) told (λ t. Ok (t, 0))
-    (kept-bind s (between s) (Keeps s) given
-    (λ p. refers_all (record s { glk = p.0; memory = p.1 }) p.0.event (events.words_of p.2))
-    (kept-bind s (puts s s.glk.requests) (between s) shown (λ p. events.delivered p.0 p.1 i)
-    (kept-input_echoed s s.glk.requests i s.glk s.memory (begins-puts s s.glk (λ v. v)))
-    (λ p h. kept-delivered s p.0 p.1 i h.keeps))
-    (λ p h. kept-refers_all s (record s { glk = p.0; memory = p.1 }) p.0.event
+    let told_at = given >>=
+    (λ p. refers_all (record b { glk = p.0; memory = p.1 }) s.glk.event (events.words_of p.2)) in
+    kept-bind b (Keeps b) (on b) told_at (λ t. Ok (t, 0))
+    (kept-bind b (between b) (Keeps b) given
+    (λ p. refers_all (record b { glk = p.0; memory = p.1 }) s.glk.event (events.words_of p.2))
+    (kept-bind b (puts b b.glk.requests) (between b) shown (λ p. events.delivered p.0 p.1 i)
+    (kept-input_echoed b b.glk.requests i b.glk b.memory (begins-puts b b.glk (λ v. v)))
+    (λ p h. kept-delivered b p.0 p.1 i h.keeps))
+    (λ p h. kept-refers_all b (record b { glk = p.0; memory = p.1 }) s.glk.event
     (events.words_of p.2) h))
     (λ t k. k)
 
-pub kept-answered : (i : Input) (s : GlkCall) → Kept s (on s) (events.answered s i)
+pub kept-answered : (i : Input) (s : GlkCall)
+    → Kept (at_rest s) (on (at_rest s)) (events.answered s i)
 kept-answered (input.Line win text key) s = kept-event_answered s (input.Line win text key)
 kept-answered (input.Char win code) s = kept-event_answered s (input.Char win code)
-kept-answered (input.File name) s = kept-alone s (Done (prompted s.glk name))
+kept-answered (input.File name) s = kept-alone (at_rest s) (Done (prompted s.glk name))
     (prompted-valid s.glk name)

@@ -3,7 +3,8 @@ use Rattle.std.proofs.Common.{◌≡◌, ◌≤◌, ℕ, zero, suc, ◌+◌, ◌
 use Rattle.std.proofs.Common.{true, false}
 use Rattle.std.proofs.Common.{List, [], ◌∷◌, ◌++◌, length, take, drop, refl, Option, Result, Ok}
 use Rattle.std.proofs.Common.{Err, cond, arith, sym}
-use Rattle.std.proofs.Common.{slice_set, replicate, length-append, length-drop, ◌∙◌, inl, inr}
+use Rattle.std.proofs.Common.{slice_set, replicate, length-append, length-drop, ◌∙◌, inl, inr, ap}
+use Rattle.std.proofs.Common.{subst}
 use Rattle.std.specs.Prelude.{IfOk}
 use Rattle.std.proofs.lemmas.List.{length-take-le}
 use Rattle.std.proofs.lemmas.Bool.{cases_Bool, leb-true}
@@ -16,6 +17,7 @@ use Rattle.vm_stack.specs.Values as stack
 use Rattle.vm_stack.specs.Values.{pushed}
 use Rattle.vm_stack.specs.declared.fault.StackFault.TheVariants.{Overflow}
 use Rattle.vm_stack.proofs.ChainLemmas.{appended_keeps, length_word, without_keeps, without_there}
+use Rattle.glk_windows.specs.Areas.{HaveAreas}
 use Rattle.glk_windows.specs.Laws as of_windows
 use Rattle.glk_windows.specs.Valid as windows
 use Rattle.glk_windows.specs.Tree.{WindowTree}
@@ -34,12 +36,18 @@ use Rattle.glk_dispatch.specs.Answer.{GlkCall, Reached, ◌>>=◌, alone, glk_ca
 use Rattle.glk_dispatch.specs.Arguments.{arguments, popped, taken, takes}
 use Rattle.glk_dispatch.specs.Fault.{numbered, stacked}
 use Rattle.glk_dispatch.specs.Gestalt.{array_begun}
-use Rattle.glk_dispatch.specs.Glk.{charged}
+use Rattle.glk_dispatch.specs.Glk.{charged, rested}
 use Rattle.glk_dispatch.specs.Keeping.{KeepsFrames, KeepsStory}
-use Rattle.glk_dispatch.specs.Laws.{AreValid}
+use Rattle.glk_dispatch.specs.Links.{links}
+use Rattle.glk_dispatch.specs.Valid.{AreAsked, AreValid, IsReady, IsValid, Stands}
 use Rattle.glk_dispatch.specs.Reference.{gives, next_field, referred, referred_all, refers}
 use Rattle.glk_dispatch.specs.Reference.{refers_all}
+use Rattle.glk_dispatch.specs.declared.called.Called.{Called}
+use Rattle.glk_dispatch.specs.declared.called.Called.TheVariants.{Value}
 use Rattle.glk_dispatch.specs.declared.glk.Glk.{Glk}
+use Rattle.glk_dispatch.proofs.CloseLemmas.{ends_in, links_in}
+use Rattle.glk_dispatch.proofs.StreamLemmas.{LeavesAlone, LeavesMore, More, added-linked}
+use Rattle.glk_dispatch.proofs.PartLemmas.{Alike, valid-alike}
 
 -- what the crates of windows, streams and requests promise
 pub record Parts : Type 0 where
@@ -60,13 +68,19 @@ laws = record {
 
 -- ---- what is kept
 
--- a Glk state is valid where that of the call was
+-- a Glk state is valid, with nothing to wait with, where that of the call was
 abbrev pub Valid : GlkCall → Glk → Type 0
-Valid b g = AreValid b.glk → AreValid g
+Valid b g = IsReady b.glk → IsReady g
 
 -- what a call keeps of what it works on
 pub record Keeps (b d : GlkCall) : Type 0 where
   pub parts : Valid b d.glk
+  pub map : KeepsMap b.memory d.memory
+  pub stack : KeepsFrames b.stack d.stack
+
+-- what a row leaves, with its answer
+pub record Leaves (b d : GlkCall) (answer : Called) : Type 0 where
+  pub parts : IsReady b.glk → Stands answer d.glk
   pub map : KeepsMap b.memory d.memory
   pub stack : KeepsFrames b.stack d.stack
 
@@ -82,6 +96,13 @@ on b p = Keeps b p.0
 
 abbrev pub beside : {A : Type 0} → GlkCall → Glk × A → Type 0
 beside b p = Valid b p.0
+
+-- those of rows: all that a call works on, or its Glk state, and the call's answer
+abbrev pub row : GlkCall → GlkCall × Called → Type 0
+row b p = Leaves b p.0 p.1
+
+abbrev pub told : GlkCall → Glk × Called → Type 0
+told b p = IsReady b.glk → Stands p.1 p.0
 
 abbrev pub between : {A : Type 0} → GlkCall → Glk × MemoryMap × A → Type 0
 between b p = Keeps b (glk_call p.0 p.1 b.stack)
@@ -144,50 +165,113 @@ pub ok-coded : {A : Type 0} (P : A → Type 0) (r : Result A MemFault) → IfOk 
 ok-coded P (Ok x) h = h
 ok-coded P (Err e) h = tt
 
--- ---- valid parts
+-- ---- valid states
 
-pub with-windows : (g : Glk) (t : WindowTree) → AreValid g → windows.IsValid t → t.next ≤ 4294967295
-    → AreValid (record g { windows = t })
-with-windows g t v h
+-- what changes neither how windows and streams name each other nor the requests
+pub ready-alike : (g h : Glk) → Alike g h → h.requests ≡ g.requests → h.event ≡ g.event
+    → h.prompt ≡ g.prompt → AreValid h → HaveAreas h.windows h.cols h.rows → IsReady g
+    → IsReady h
+ready-alike g h same asked event prompt parts areas v = record {
+  valid = valid-alike g h same asked parts areas v.valid;
+  rests = record { event = event ∙ v.rests.event; prompt = prompt ∙ v.rests.prompt };
+}
+
+pub parts-windows : (g : Glk) (t : WindowTree) → AreValid g → windows.IsValid t
+    → t.next ≤ 4294967295 → AreValid (record g { windows = t })
+parts-windows g t v h
     n = record { windows = h; streams = v.streams; requests = v.requests; next = n }
 
-pub with-streams : (g : Glk) (t : StreamTable) → AreValid g → of_streams.IsValid t
-    → AreValid (record g { streams = t })
-with-streams g t v h = record {
-  windows = v.windows;
-  streams = h;
-  requests = v.requests;
-  next = v.next;
+-- other windows that name their streams as before, and have their rectangles
+pub with-windows : (g : Glk) (t : WindowTree) → IsReady g → windows.IsValid t
+    → t.next ≤ 4294967295 → ((m : ℕ) → links (record g { windows = t }) m ≡ links g m)
+    → HaveAreas t g.cols g.rows → IsReady (record g { windows = t })
+with-windows g t v h n same areas =
+    ready-alike g (record g { windows = t }) (record { windows = same; streams = λ m. refl })
+    refl refl refl (parts-windows g t v.valid.parts h n) areas v
+
+-- other streams: each window's stream is as it was, and no other is one
+pub with-streams : (g : Glk) (t : StreamTable) → IsReady g → of_streams.IsValid t
+    → More g.streams t → IsReady (record g { streams = t })
+with-streams g t v h more = record {
+  valid = record {
+    parts = record {
+      windows = v.valid.parts.windows;
+      streams = h;
+      requests = v.valid.parts.requests;
+      next = v.valid.parts.next;
+    };
+    linked = added-linked g t more v.valid.linked;
+    asked = record { listed = v.valid.asked.listed; askers = v.valid.asked.askers };
+    areas = v.valid.areas;
+  };
+  rests = record { event = v.rests.event; prompt = v.rests.prompt };
 }
 
-pub with-requests : (g : Glk) (r : List WindowInput) → AreValid g → requests.is_valid r ≡ true
-    → AreValid (record g { requests = r })
-with-requests g r v h = record {
-  windows = v.windows;
-  streams = v.streams;
-  requests = h;
-  next = v.next;
+pub with-requests : (g : Glk) (r : List WindowInput) → IsReady g → requests.is_valid r ≡ true
+    → AreAsked (record g { requests = r }) → IsReady (record g { requests = r })
+with-requests g r v h asked = record {
+  valid = record {
+    parts = record {
+      windows = v.valid.parts.windows;
+      streams = v.valid.parts.streams;
+      requests = h;
+      next = v.valid.parts.next;
+    };
+    linked = v.valid.linked;
+    asked = asked;
+    areas = v.valid.areas;
+  };
+  rests = record { event = v.rests.event; prompt = v.rests.prompt };
 }
 
-pub charged-valid : (g : Glk) → AreValid g → AreValid (charged g)
+-- other counts, and other words to wait with
+pub same-parts : (g h : Glk) → h.windows ≡ g.windows → h.streams ≡ g.streams
+    → h.requests ≡ g.requests → h.cols ≡ g.cols → h.rows ≡ g.rows → IsValid g → IsValid h
+same-parts g h a b c cols rows v =
+    valid-alike g h
+    (record {
+      windows = λ m. ap (λ t. links_in t.slots m) a;
+      streams = λ m. ap (λ t. ends_in t m) b;
+    }) c
+    (record {
+      windows = subst windows.IsValid (sym a) v.parts.windows;
+      streams = subst of_streams.IsValid (sym b) v.parts.streams;
+      requests = ap requests.is_valid c ∙ v.parts.requests;
+      next = subst (λ t. t.next ≤ 4294967295) (sym a) v.parts.next;
+    })
+    (subst (λ t. HaveAreas t h.cols h.rows) (sym a)
+    (subst (λ n. HaveAreas g.windows n h.rows) (sym cols)
+    (subst (λ n. HaveAreas g.windows g.cols n) (sym rows) v.areas))) v
+
+pub charged-valid : (g : Glk) → IsReady g → IsReady (charged g)
 charged-valid g v = record {
-  windows = v.windows;
-  streams = v.streams;
-  requests = v.requests;
-  next = v.next;
+  valid = same-parts g (charged g) refl refl refl refl refl v.valid;
+  rests = record { event = v.rests.event; prompt = v.rests.prompt };
 }
+
+pub rested-valid : (g : Glk) → IsValid g → IsReady (rested g)
+rested-valid g v = record {
+  valid = same-parts g (rested g) refl refl refl refl refl v;
+  rests = record { event = refl; prompt = refl };
+}
+
+-- a call that answers a value waits with nothing
+pub stands : (g : Glk) (x : ℕ) → IsReady g → Stands (Value x) g
+stands g x v = record { valid = v.valid; waits = v.rests }
 
 pub kept-made : {A : Type 0} (b : GlkCall) (g : Glk) (r : Result (StreamTable × A) StreamStop)
-    → Valid b g → (AreValid g → of_streams.LeavesBeside r)
+    → Valid b g → (AreValid g → of_streams.LeavesBeside r) → (AreValid g → LeavesMore g.streams r)
     → Kept b (beside b) (within g (numbered r) >>= (λ p. Ok (record g { streams = p.0 }, p.1)))
-kept-made b g (Ok p) k h = λ v. with-streams g p.0 (k v) (h (k v))
-kept-made b g (Err e) k h = k
+kept-made b g (Ok p) k h more =
+    λ v. let w = k v in with-streams g p.0 w (h w.valid.parts) (more w.valid.parts)
+kept-made b g (Err e) k h more = k
 
 pub kept-left : (b : GlkCall) (g : Glk) (r : Result StreamTable StreamStop) → Valid b g
-    → (AreValid g → of_streams.Leaves r)
+    → (AreValid g → of_streams.Leaves r) → (AreValid g → LeavesAlone g.streams r)
     → Kept b (Valid b) (within g (numbered r) >>= (λ t. Ok (record g { streams = t })))
-kept-left b g (Ok t) k h = λ v. with-streams g t (k v) (h (k v))
-kept-left b g (Err e) k h = k
+kept-left b g (Ok t) k h more =
+    λ v. let w = k v in with-streams g t w (h w.valid.parts) (more w.valid.parts)
+kept-left b g (Err e) k h more = k
 
 -- a Glk state alone is changed
 pub placed-on : (s : GlkCall) (g : Glk) → Valid s g → Keeps s (record s { glk = g })
@@ -205,21 +289,36 @@ pub kept-alone : {A : Type 0} (s : GlkCall) (r : Reached (Glk × A)) → Kept s 
 kept-alone s r h = kept-bind s (beside s) (on s) r (λ p. Ok (record s { glk = p.0 }, p.1)) h
     (λ p v. placed-on s p.0 v)
 
+-- the same of a row
+pub kept-row : (s : GlkCall) (r : Reached (Glk × Called)) → Kept s (told s) r
+    → Kept s (row s) (alone s r)
+kept-row s r h = kept-bind s (told s) (row s) r (λ p. Ok (record s { glk = p.0 }, p.1)) h
+    (λ p v. record { parts = v; map = (self s).map; stack = (self s).stack })
+
+-- a call that answers a value
+pub answers : (b d : GlkCall) (x : ℕ) → Keeps b d → Leaves b d (Value x)
+answers b d x k = record {
+  parts = λ v. stands d.glk x (k.parts v);
+  map = k.map;
+  stack = k.stack;
+}
+
 pub kept-makes : (s : GlkCall) (r : Reached (Glk × ℕ)) → Kept s (beside s) r
-    → Kept s (on s) (r >>= (λ p. gives p.1 (record s { glk = p.0 })))
-kept-makes s r h = kept-bind s (beside s) (on s) r (λ p. gives p.1 (record s { glk = p.0 })) h
-    (λ p v. placed-on s p.0 v)
+    → Kept s (row s) (r >>= (λ p. gives p.1 (record s { glk = p.0 })))
+kept-makes s r h = kept-bind s (beside s) (row s) r (λ p. gives p.1 (record s { glk = p.0 })) h
+    (λ p v. answers s (record s { glk = p.0 }) p.1 (placed-on s p.0 v))
 
 pub kept-leaves : (s : GlkCall) (r : Reached Glk) → Kept s (Valid s) r
-    → Kept s (on s) (r >>= (λ g. gives 0 (record s { glk = g })))
-kept-leaves s r h = kept-bind s (Valid s) (on s) r (λ g. gives 0 (record s { glk = g })) h
-    (λ g v. placed-on s g v)
+    → Kept s (row s) (r >>= (λ g. gives 0 (record s { glk = g })))
+kept-leaves s r h = kept-bind s (Valid s) (row s) r (λ g. gives 0 (record s { glk = g })) h
+    (λ g v. answers s (record s { glk = g }) 0 (placed-on s g v))
 
 pub kept-puts : (s : GlkCall) (rs : List WindowInput) (r : Reached (Glk × MemoryMap)) (x : ℕ)
     → Kept s (puts s rs) r
-    → Kept s (on s) (r >>= (λ p. gives x (record s { glk = p.0; memory = p.1 })))
-kept-puts s rs r x h = kept-bind s (puts s rs) (on s) r
-    (λ p. gives x (record s { glk = p.0; memory = p.1 })) h (λ p k. k.keeps)
+    → Kept s (row s) (r >>= (λ p. gives x (record s { glk = p.0; memory = p.1 })))
+kept-puts s rs r x h = kept-bind s (puts s rs) (row s) r
+    (λ p. gives x (record s { glk = p.0; memory = p.1 })) h
+    (λ p k. answers s (record s { glk = p.0; memory = p.1 }) x k.keeps)
 
 pub begins-puts : (s : GlkCall) (g : Glk) → Valid s g → Puts s g.requests g s.memory
 begins-puts s g v = record { keeps = placed-on s g v; asked = refl }
@@ -366,10 +465,10 @@ kept-then s r at x h = kept-bind s (Keeps s) (Keeps s) r (λ t. refers t at x) h
 
 -- references, and then an answer
 pub kept-told : (s : GlkCall) (r : Reached GlkCall) (x : ℕ) → Kept s (Keeps s) r
-    → Kept s (on s) (r >>= gives x)
-kept-told s r x h = kept-bind s (Keeps s) (on s) r (gives x) h (λ t k. k)
+    → Kept s (row s) (r >>= gives x)
+kept-told s r x h = kept-bind s (Keeps s) (row s) r (gives x) h (λ t k. answers s t x k)
 
-pub kept-one : (s : GlkCall) (at x n : ℕ) → Kept s (on s) (refers s at x >>= gives n)
+pub kept-one : (s : GlkCall) (at x n : ℕ) → Kept s (row s) (refers s at x >>= gives n)
 kept-one s at x n = kept-told s (refers s at x) n (kept-refers s s at x (self s))
 
 pub kept-array_begun : (s : GlkCall) (at x : ℕ) → Kept s (Keeps s) (array_begun s at x)

@@ -1,11 +1,15 @@
 -- Output keeps what the work of a call keeps, and the requests.
 use Rattle.std.proofs.Common.{◌≡◌, ℕ, zero, suc, ◌+◌, ◌%◌, ◌^◌, ◌==◌, nat_le, nat_lt, Bool, true}
 use Rattle.std.proofs.Common.{false, length, Option, Some, None, Result, Ok, Err, List, cond, refl}
-use Rattle.std.proofs.Common.{◌∙◌}
+use Rattle.std.proofs.Common.{◌∙◌, inl}
 use Rattle.std.specs.Prelude.{IfOk}
 use Rattle.vm_memory.specs.Access.{written}
 use Rattle.vm_memory.specs.MemoryMap.{MemoryMap, KeepsMap}
 use Rattle.vm_memory.specs.declared.fault.MemFault.{MemFault}
+use Rattle.glk_windows.specs.Output as windows
+use Rattle.glk_windows.specs.declared.window.Content.TheVariants.{Pair, Blank, Buffer, Grid}
+use Rattle.glk_windows.proofs.AreaLemmas.{SamePlacement, areas-alike, content-placed}
+use Rattle.glk_windows.proofs.AreaLemmas.{placement-changed}
 use Rattle.glk_streams.specs.Answer as answer
 use Rattle.glk_streams.specs.Coding.{coding_of, kept_code, unit_of}
 use Rattle.glk_streams.specs.Laws as of_streams
@@ -22,7 +26,7 @@ use Rattle.glk_input.specs.declared.request.WindowInput.{WindowInput}
 use Rattle.glk_dispatch.specs.Answer.{GlkCall, Reached, ◌>>=◌, within}
 use Rattle.glk_dispatch.specs.Fault.{numbered}
 use Rattle.glk_dispatch.specs.Glk.{charged, is_stream, style_of, window_of}
-use Rattle.glk_dispatch.specs.Laws.{AreValid}
+use Rattle.glk_dispatch.specs.Valid.{AreValid, IsReady}
 use Rattle.glk_dispatch.specs.Output as out
 use Rattle.glk_dispatch.specs.declared.glk.Glk.{Glk}
 use Rattle.glk_dispatch.specs.declared.output.OutputCall.{OutputCall}
@@ -31,8 +35,9 @@ use Rattle.glk_dispatch.specs.declared.output.OutputCall.TheVariants.{PutString,
 use Rattle.glk_dispatch.specs.declared.output.OutputCall.TheVariants.{PutBuffer, PutBufferStream}
 use Rattle.glk_dispatch.specs.declared.output.TheConstants.{MAX_PRINTED}
 use Rattle.glk_dispatch.proofs.KeptLemmas.{Kept, Puts, begins-puts, charged-valid, kept-bind}
-use Rattle.glk_dispatch.proofs.KeptLemmas.{kept-if, kept-puts, kept-read, laws, ok-written, on}
-use Rattle.glk_dispatch.proofs.KeptLemmas.{puts, row-needs, with-streams}
+use Rattle.glk_dispatch.proofs.KeptLemmas.{kept-if, kept-puts, kept-read, laws, ok-written, row}
+use Rattle.glk_dispatch.proofs.KeptLemmas.{puts, ready-alike, row-needs, with-streams}
+use Rattle.glk_dispatch.proofs.PartLemmas.{LeavesEnds, put-ends, put-links}
 
 -- ---- a character in a stream: the array of a memory stream lies in the story's memory
 
@@ -97,37 +102,51 @@ put-live o t n (Some x) m code k =
 
 kept-put : (b : GlkCall) (rs : List WindowInput) (g : Glk) (m : MemoryMap)
     (r : Result (StreamTable × MemoryMap) StreamStop) → Puts b rs g m
-    → (AreValid g → of_streams.LeavesBeside r) → IfOk r (second b.memory)
+    → (AreValid g → of_streams.LeavesBeside r) → LeavesEnds g.streams r → IfOk r (second b.memory)
     → Kept b (puts b rs) (within g (numbered r) >>= (λ p. Ok (record g { streams = p.0 }, p.1)))
-kept-put b rs g m (Ok p) k l h = record {
+kept-put b rs g m (Ok p) k l same h = record {
   keeps = record {
-    parts = λ v. with-streams g p.0 (k.keeps.parts v)
-        (l (k.keeps.parts v));
+    parts = λ v. let w = k.keeps.parts v in
+        with-streams g p.0 w (l w.valid.parts) (λ n. inl (same n));
     map = h;
     stack = k.keeps.stack;
   };
   asked = k.asked;
 }
-kept-put b rs g m (Err e) k l h = k.keeps.parts
+kept-put b rs g m (Err e) k l same h = k.keeps.parts
 
 kept-streamed : (b : GlkCall) (rs : List WindowInput) (g : Glk) (m : MemoryMap) (n code : ℕ)
     → Puts b rs g m → Kept b (puts b rs) (out.streamed g m n code)
 kept-streamed b rs g m n code k =
     kept-put b rs g m (sout.put g.streams m n code) k
     (λ v. (laws.streams g.streams v.streams).write m n code)
+    (put-ends g.streams m n code)
     (put-live b.memory g.streams n (stream_at g.streams n) m code k.keeps.map)
 
-shown-valid : (g : Glk) (win style code : ℕ) → AreValid g → AreValid (out.shown g win style code)
-shown-valid g win style code v = record {
-  windows = laws.windows.put g.windows win code style v.windows;
-  streams = v.streams;
-  requests = v.requests;
-  next = v.next;
-}
+put-placement : (code style : ℕ) → SamePlacement (λ c. windows.content_put c code style)
+put-placement code style (Pair p) = (refl, refl)
+put-placement code style Blank = (refl, refl)
+put-placement code style (Buffer b) = (refl, refl)
+put-placement code style (Grid g) = (refl, refl)
+
+shown-valid : (g : Glk) (win style code : ℕ) → IsReady g → IsReady (out.shown g win style code)
+shown-valid g win style code v =
+    ready-alike g (out.shown g win style code)
+    (record { windows = put-links g.windows win code style; streams = λ m. refl }) refl refl refl
+    (record {
+      windows = laws.windows.put g.windows win code style v.valid.parts.windows;
+      streams = v.valid.parts.streams;
+      requests = v.valid.parts.requests;
+      next = v.valid.parts.next;
+    })
+    (areas-alike g.windows (windows.put g.windows win code style) g.cols g.rows refl
+    (placement-changed (λ w. windows.window_put w code style) (λ w. refl)
+    (content-placed (λ c. windows.content_put c code style) (put-placement code style))
+    g.windows.slots win) v.valid.areas) v
 
 -- another Glk state with the same requests
 puts-in : (b : GlkCall) (rs : List WindowInput) (g h : Glk) (m : MemoryMap)
-    → (AreValid g → AreValid h)
+    → (IsReady g → IsReady h)
     → h.requests ≡ g.requests → Puts b rs g m → Puts b rs h m
 puts-in b rs g h m f e k = record {
   keeps = record { parts = λ v. f (k.keeps.parts v); map = k.keeps.map; stack = k.keeps.stack };
@@ -161,7 +180,7 @@ pub kept-spread_all : (b : GlkCall) (rs : List WindowInput) (g : Glk) (m : Memor
     → Kept b (puts b rs) (out.spread_all g m n code)
 kept-spread_all b rs g m n code k = kept-spread b rs (length g.windows.slots + 1) g m n code k
 
-kept-put_code : (b : GlkCall) (rs : List WindowInput) (g : Glk) (m : MemoryMap) (n code : ℕ)
+pub kept-put_code : (b : GlkCall) (rs : List WindowInput) (g : Glk) (m : MemoryMap) (n code : ℕ)
     → Puts b rs g m → Kept b (puts b rs) (out.put_code g m n code)
 kept-put_code b rs g m n code k = kept-spread_all b rs (charged g) m n code
     (puts-in b rs g _ m (charged-valid g) refl k)
@@ -212,26 +231,27 @@ kept-echo_put b rs g m n style code k =
     (kept-put_once b rs g m n style code k)
     (λ p h. kept-spread_all b rs p.0 p.1 (out.echo_from p.0 n) code h)
 
-row : (s : GlkCall) (r : Reached (Glk × MemoryMap))
+kept-put_row : (s : GlkCall) (r : Reached (Glk × MemoryMap))
     → (Puts s s.glk.requests s.glk s.memory → Kept s (puts s s.glk.requests) r)
-    → Kept s (on s) (out.puts s r)
-row s r h = kept-puts s s.glk.requests r 0 (h (begins-puts s s.glk (λ v. v)))
+    → Kept s (row s) (out.puts s r)
+kept-put_row s r h = kept-puts s s.glk.requests r 0 (h (begins-puts s s.glk (λ v. v)))
 
 pub kept-output_work : (c : OutputCall) (s : GlkCall) (l : ℕ → ℕ)
-    → Kept s (on s) (out.output_work c s l)
+    → Kept s (row s) (out.output_work c s l)
 unfolding out.output_work
-kept-output_work (PutChar u) s l = row s _
+kept-output_work (PutChar u) s l = kept-put_row s _
     (kept-put_code s s.glk.requests s.glk s.memory (out.current s) (out.char_of u (l 0)))
 kept-output_work (PutCharStream u) s l =
-    row-needs s (on s) (is_stream s.glk (l 0)) 21 _
-    (λ e. row s _ (kept-put_code s s.glk.requests s.glk s.memory (l 0) (out.char_of u (l 1))))
-kept-output_work (PutString u) s l = row s _
+    row-needs s (row s) (is_stream s.glk (l 0)) 21 _
+    (λ e. kept-put_row s _ (kept-put_code s s.glk.requests s.glk s.memory (l 0)
+    (out.char_of u (l 1))))
+kept-output_work (PutString u) s l = kept-put_row s _
     (kept-put_string s s.glk.requests u s.glk s.memory (out.current s) (l 0))
 kept-output_work (PutStringStream u) s l =
-    row-needs s (on s) (is_stream s.glk (l 0)) 21 _
-    (λ e. row s _ (kept-put_string s s.glk.requests u s.glk s.memory (l 0) (l 1)))
-kept-output_work (PutBuffer u) s l = row s _
+    row-needs s (row s) (is_stream s.glk (l 0)) 21 _
+    (λ e. kept-put_row s _ (kept-put_string s s.glk.requests u s.glk s.memory (l 0) (l 1)))
+kept-output_work (PutBuffer u) s l = kept-put_row s _
     (kept-put_array s s.glk.requests (l 1) u s.glk s.memory (out.current s) (l 0))
 kept-output_work (PutBufferStream u) s l =
-    row-needs s (on s) (is_stream s.glk (l 0)) 21 _
-    (λ e. row s _ (kept-put_array s s.glk.requests (l 2) u s.glk s.memory (l 0) (l 1)))
+    row-needs s (row s) (is_stream s.glk (l 0)) 21 _
+    (λ e. kept-put_row s _ (kept-put_array s s.glk.requests (l 2) u s.glk s.memory (l 0) (l 1)))

@@ -1,54 +1,114 @@
 -- The calls of streams and file references keep what the work of a call keeps.
 use Rattle.std.proofs.Common.{ℕ, zero, suc, ◌+◌, ◌-◌, ◌%◌, ◌^◌, ◌==◌, ◌||◌, ◌&&◌, not, Bool}
 use Rattle.std.proofs.Common.{true, false, List, [], ◌∷◌, ◌++◌, length, Option, Some, None, Ok}
-use Rattle.std.proofs.Common.{cond}
+use Rattle.std.proofs.Common.{◌≡◌, ◌∙◌, ap, cond, Err, option_map, refl}
 use Rattle.vm_memory.specs.Access.{read}
 use Rattle.vm_memory.specs.Fault.{coded}
 use Rattle.vm_memory.specs.MemoryMap.{MemoryMap, KeepsMap}
 use Rattle.glk_numbers.specs.Numbered.{after}
 use Rattle.glk_input.specs.Delivery.{taken, width}
 use Rattle.glk_windows.specs.Closing as closing
+use Rattle.glk_windows.proofs.AreaLemmas.{areas-alike, placement-map}
 use Rattle.glk_streams.specs.Files.{has_file}
+use Rattle.glk_streams.specs.Answer as answer
 use Rattle.glk_streams.specs.FileRefs as refs
 use Rattle.glk_streams.specs.Input as input
 use Rattle.glk_streams.specs.Names.{cleaned, temporary}
 use Rattle.glk_streams.specs.Opening as opening
 use Rattle.glk_streams.specs.Position as place
+use Rattle.glk_streams.specs.Laws as of_streams
 use Rattle.glk_streams.specs.Streams as table
+use Rattle.glk_streams.specs.declared.fault.StreamStop.TheVariants.{BadArgument}
+use Rattle.glk_streams.specs.declared.stream.Stream.{Stream}
+use Rattle.glk_streams.specs.declared.stream.Target as target
+use Rattle.glk_streams.specs.declared.stream.Target.TheVariants as to
 use Rattle.glk_dispatch.specs.Answer.{GlkCall, Reached, ◌>>=◌, glk_call, within}
 use Rattle.glk_dispatch.specs.FileRefs as names
-use Rattle.glk_dispatch.specs.Glk.{charged, is_ref, is_stream, ref_rock, stream_rock}
-use Rattle.glk_dispatch.specs.Laws.{AreValid}
+use Rattle.glk_dispatch.specs.Glk.{charged, is_ref, is_stream, ref_rock, rested, stream_rock}
+use Rattle.glk_dispatch.specs.Links.{end_of, ends, owner, owner_in}
+use Rattle.glk_dispatch.specs.Valid.{AreValid, IsReady}
 use Rattle.glk_dispatch.specs.Output.{code_written, text_start}
 use Rattle.glk_dispatch.specs.Reference.{gives, refers_all}
 use Rattle.glk_dispatch.specs.Streams as rows
 use Rattle.glk_dispatch.specs.declared.glk.Glk.{Glk}
+use Rattle.glk_dispatch.specs.declared.glk.Prompt.{Prompt}
 use Rattle.glk_dispatch.specs.declared.streams.StreamCall.{StreamCall}
 use Rattle.glk_dispatch.specs.declared.streams.StreamCall.TheVariants as str
 use Rattle.glk_dispatch.specs.declared.filerefs.FileRefCall.{FileRefCall}
 use Rattle.glk_dispatch.specs.declared.filerefs.FileRefCall.TheVariants as ref
-use Rattle.glk_dispatch.proofs.KeptLemmas.{Kept, Keeps, Valid, beside, between, charged-valid}
-use Rattle.glk_dispatch.proofs.KeptLemmas.{keeps-map, kept-bind, kept-if, kept-leaves, kept-left}
-use Rattle.glk_dispatch.proofs.KeptLemmas.{kept-made, kept-makes, kept-one, kept-read}
-use Rattle.glk_dispatch.proofs.KeptLemmas.{kept-refers_all, kept-step, kept-told, laws, ok-word, on}
-use Rattle.glk_dispatch.proofs.KeptLemmas.{placed-on, row-needs, self, with-streams, with-windows}
+use Rattle.glk_dispatch.proofs.KeptLemmas.{Kept, Keeps, Valid, answers, beside, between}
+use Rattle.glk_dispatch.proofs.KeptLemmas.{charged-valid, keeps-map, kept-bind, kept-if}
+use Rattle.glk_dispatch.proofs.KeptLemmas.{kept-leaves, kept-left, kept-made, kept-makes, kept-one}
+use Rattle.glk_dispatch.proofs.KeptLemmas.{kept-read, kept-refers_all, kept-step, kept-told, laws}
+use Rattle.glk_dispatch.proofs.KeptLemmas.{ok-word, placed-on, row, row-needs, same-parts, self}
+use Rattle.glk_dispatch.proofs.KeptLemmas.{with-streams}
+use Rattle.glk_dispatch.proofs.StreamLemmas.{alone-more, copied-more, current-more, file-more}
+use Rattle.glk_dispatch.proofs.StreamLemmas.{got-more, made_ref-more, memory-more, sought-more}
+use Rattle.glk_dispatch.proofs.PartLemmas.{asked-kinds, closed-kinds, closed-linked, stream_closed}
+use Rattle.glk_dispatch.proofs.EchoLemmas.{streams-ascend}
 
 kept-gets : (s : GlkCall) (r : Reached (Glk × MemoryMap × ℕ)) → Kept s (between s) r
-    → Kept s (on s) (rows.gets s r)
-kept-gets s r h = kept-bind s (between s) (on s) r
-    (λ p. gives p.2 (record s { glk = p.0; memory = p.1 })) h (λ p k. k)
+    → Kept s (row s) (rows.gets s r)
+kept-gets s r h = kept-bind s (between s) (row s) r
+    (λ p. gives p.2 (record s { glk = p.0; memory = p.1 })) h
+    (λ p k. answers s (record s { glk = p.0; memory = p.1 }) p.2 k)
+
+-- a stream of no window less, to which no window echoes any more
+stream_closed-ready : (g : Glk) (n : ℕ) → of_streams.IsValid (opening.dropped g.streams n)
+    → owner (ends g n) ≡ None → IsReady g → IsReady (stream_closed g n)
+stream_closed-ready g n parts alone v = record {
+  valid = record {
+    parts = record {
+      windows = laws.windows.end_echo g.windows n v.valid.parts.windows;
+      streams = parts;
+      requests = v.valid.parts.requests;
+      next = v.valid.parts.next;
+    };
+    linked = closed-linked g n v.valid.parts v.valid.linked alone;
+    asked = asked-kinds g (stream_closed g n) (closed-kinds g n) refl v.valid.asked;
+    areas = areas-alike g.windows (closing.echo_ended g.windows n) g.cols g.rows refl
+        (placement-map (closing.unechoed n) (λ w. refl) (λ w. refl) g.windows.slots)
+        v.valid.areas;
+  };
+  rests = record { event = v.rests.event; prompt = v.rests.prompt };
+}
 
 kept-closed : (s : GlkCall) (n : ℕ) → Kept s (beside s) (rows.closed s.glk n)
 kept-closed s n =
-    let g = s.glk in
-    kept-bind s (beside s) (beside s) (rows.made g (opening.closed g.streams n))
-    (λ p. Ok (record p.0 { windows = closing.echo_ended g.windows n }, p.1))
-    (kept-made s g (opening.closed g.streams n) (λ v. v)
-    (λ v. (laws.streams g.streams v.streams).close n))
-    (λ p k v. with-windows p.0 (closing.echo_ended g.windows n) (k v)
-    (laws.windows.end_echo g.windows n v.windows) v.next)
+    close-live (table.stream_at g.streams n) refl
+    (λ v. (laws.streams g.streams v.streams).close n)
+  where
+    g : Glk
+    g = s.glk
 
-kept-closes : (s : GlkCall) (n at : ℕ) → Kept s (on s) (rows.closes s n at)
+    no-owner : (t : target.Target) → table.is_window t ≡ false → owner_in t ≡ None
+    no-owner (to.Window w) e = absurd cc
+    no-owner (to.Memory b l) e = refl
+    no-owner (to.File u m) e = refl
+
+    close-as : (x : Stream) (b : Bool) → table.stream_at g.streams n ≡ Some x
+        → table.is_window x.target ≡ b
+        → (AreValid g
+        → of_streams.LeavesBeside (cond b (Err BadArgument) (Ok (opening.taken g.streams n))))
+        → Kept s (beside s)
+        (rows.made g (cond b (Err BadArgument) (Ok (opening.taken g.streams n)))
+        >>= (λ p. Ok (record p.0 { windows = closing.echo_ended g.windows n }, p.1)))
+    close-as x true e f h = λ v. v
+    close-as x false e f h = λ v.
+        stream_closed-ready g n (h v.valid.parts)
+        (ap (λ o. owner (option_map end_of o)) e ∙ no-owner x.target f) v
+
+    close-live : (o : Option Stream) → table.stream_at g.streams n ≡ o
+        → (AreValid g → of_streams.LeavesBeside (answer.live o
+        (λ x. cond (table.is_window x.target) (Err BadArgument) (Ok (opening.taken g.streams n)))))
+        → Kept s (beside s)
+        (rows.made g (answer.live o
+        (λ x. cond (table.is_window x.target) (Err BadArgument) (Ok (opening.taken g.streams n))))
+        >>= (λ p. Ok (record p.0 { windows = closing.echo_ended g.windows n }, p.1)))
+    close-live None e h = λ v. v
+    close-live (Some x) e h = close-as x (table.is_window x.target) e refl h
+
+kept-closes : (s : GlkCall) (n at : ℕ) → Kept s (row s) (rows.closes s n at)
 kept-closes s n at =
     kept-told s (rows.closed s.glk n >>=
     (λ p. refers_all (record s { glk = p.0 }) at (p.1.read ∷ p.1.written ∷ []))) 0
@@ -57,15 +117,16 @@ kept-closes s n at =
     (kept-closed s n) (λ p k. kept-refers_all s (record s { glk = p.0 }) at
     (p.1.read ∷ p.1.written ∷ []) (placed-on s p.0 k)))
 
-counted-valid : (o : Option ℕ) (g : Glk) → AreValid g → AreValid (rows.counted o g)
+counted-valid : (o : Option ℕ) (g : Glk) → IsReady g → IsReady (rows.counted o g)
 counted-valid None g v = v
 counted-valid (Some c) g v = charged-valid g v
 
-kept-got_code : (b : GlkCall) (g : Glk) (m : MemoryMap) (n : ℕ) → Valid b g
+pub kept-got_code : (b : GlkCall) (g : Glk) (m : MemoryMap) (n : ℕ) → Valid b g
     → Kept b (beside b) (rows.got_code g m n)
 kept-got_code b g m n k =
     kept-bind b (beside b) (beside b) (rows.got g m n) (λ p. Ok (rows.counted p.1 p.0, p.1))
-    (kept-made b g (input.got g.streams m n) k (λ v. (laws.streams g.streams v.streams).read m n))
+    (kept-made b g (input.got g.streams m n) k (λ v. (laws.streams g.streams v.streams).read m n)
+    (λ v. got-more g.streams m n))
     (λ p h v. counted-valid p.1 p.0 (h v))
 
 kept-char_read : (s : GlkCall) (u : Bool) (n : ℕ)
@@ -143,34 +204,39 @@ kept-buffer_read s u n buf len =
     (λ e. kept-got_array s len false u s.glk s.memory n buf 0 (self s))
 
 pub kept-stream_work : (c : StreamCall) (s : GlkCall) (l : ℕ → ℕ)
-    → Kept s (on s) (rows.stream_work c s l)
+    → Kept s (row s) (rows.stream_work c s l)
 unfolding rows.stream_work
 kept-stream_work str.Iterate s l =
-    row-needs s (on s) (l 0 == 0 || is_stream s.glk (l 0)) 21 _
+    row-needs s (row s) (l 0 == 0 || is_stream s.glk (l 0)) 21 _
     (λ e. kept-one s (l 1) (stream_rock s.glk (after table.number_of s.glk.streams.streams (l 0)))
     (after table.number_of s.glk.streams.streams (l 0)))
-kept-stream_work str.GetRock s l = row-needs s (on s) (is_stream s.glk (l 0)) 21 _ (λ e. self s)
+kept-stream_work str.GetRock s l = row-needs s (row s) (is_stream s.glk (l 0)) 21 _
+    (λ e. answers s s _ (self s))
 kept-stream_work (str.OpenFile u) s l =
     kept-makes s (rows.file_opened s.glk (l 0) (l 1) (l 2) u)
     (kept-made s s.glk (opening.opened_file s.glk.streams (l 0) (l 1) (l 2) u) (λ v. v)
-    (λ v. (laws.streams s.glk.streams v.streams).file (l 0) (l 1) (l 2) u))
+    (λ v. (laws.streams s.glk.streams v.streams).file (l 0) (l 1) (l 2) u)
+    (λ v. file-more s.glk.streams (l 0) (l 1) (l 2) u (streams-ascend s.glk v)))
 kept-stream_work (str.OpenMemory u) s l =
     kept-makes s (rows.memory_opened s.glk (l 0) (l 1) (l 2) (l 3) u)
     (kept-made s s.glk (opening.opened_memory s.glk.streams (l 0) (l 1) (l 2) (l 3) u) (λ v. v)
-    (λ v. (laws.streams s.glk.streams v.streams).memory (l 0) (l 1) (l 2) (l 3) u))
+    (λ v. (laws.streams s.glk.streams v.streams).memory (l 0) (l 1) (l 2) (l 3) u)
+    (λ v. memory-more s.glk.streams (l 0) (l 1) (l 2) (l 3) u (streams-ascend s.glk v)))
 kept-stream_work str.Close s l = kept-closes s (l 0) (l 1)
 kept-stream_work str.SetPosition s l =
     kept-leaves s (rows.moved s.glk (l 0) (l 1) (l 2))
     (kept-left s s.glk (place.sought s.glk.streams (l 0) (l 1) (l 2)) (λ v. v)
-    (λ v. (laws.streams s.glk.streams v.streams).seek (l 0) (l 1) (l 2)))
-kept-stream_work str.GetPosition s l = kept-read s (on s) s.glk (rows.place_of s.glk (l 0))
-    (λ x. gives x s) (λ v. v) (λ x. self s)
+    (λ v. (laws.streams s.glk.streams v.streams).seek (l 0) (l 1) (l 2))
+    (λ v. sought-more s.glk.streams (l 0) (l 1) (l 2)))
+kept-stream_work str.GetPosition s l = kept-read s (row s) s.glk (rows.place_of s.glk (l 0))
+    (λ x. gives x s) (λ v. v) (λ x. answers s s x (self s))
 kept-stream_work str.SetCurrent s l =
     kept-leaves s (rows.current_set s.glk (l 0))
     (kept-left s s.glk (refs.with_current s.glk.streams (l 0)) (λ v. v)
-    (λ v. (laws.streams s.glk.streams v.streams).current (l 0)))
-kept-stream_work str.GetCurrent s l = self s
-kept-stream_work str.OpenResource s l = self s
+    (λ v. (laws.streams s.glk.streams v.streams).current (l 0))
+    (λ v. current-more s.glk.streams (l 0)))
+kept-stream_work str.GetCurrent s l = answers s s _ (self s)
+kept-stream_work str.OpenResource s l = answers s s 0 (self s)
 kept-stream_work (str.GetChar u) s l = kept-makes s (rows.char_read u s.glk s.memory (l 0))
     (kept-char_read s u (l 0))
 kept-stream_work (str.GetLine u) s l =
@@ -197,58 +263,75 @@ kept-name_at s at =
     kept-read s (beside s) s.glk (text_start false s.memory at) _ (λ v. v)
     (λ from. kept-name_read s (length s.memory.bytes + 1) s.glk s.memory from [] (λ v. v))
 
-named-valid : (g : Glk) (usage : ℕ) (name : List ℕ) (rock : ℕ) → AreValid g
-    → AreValid (names.named g usage name rock).0
+named-valid : (g : Glk) (usage : ℕ) (name : List ℕ) (rock : ℕ) → IsReady g
+    → IsReady (names.named g usage name rock).0
 named-valid g usage name rock v =
     with-streams g (refs.made_ref g.streams usage (cleaned name) rock).0 v
-    ((laws.streams g.streams v.streams).refer usage (cleaned name) rock)
+    ((laws.streams g.streams v.valid.parts.streams).refer usage (cleaned name) rock)
+    (made_ref-more g.streams usage (cleaned name) rock)
 
-valid-if : (b : Bool) (x y : Glk × ℕ) → AreValid x.0 → AreValid y.0 → AreValid (cond b x y).0
+valid-if : (b : Bool) (x y : Glk × ℕ) → IsReady x.0 → IsReady y.0 → IsReady (cond b x y).0
 valid-if true x y v w = v
 valid-if false x y v w = w
 
-pub prompted-valid : (g : Glk) (name : List ℕ) → AreValid g → AreValid (names.prompted g name).0
-prompted-valid g name v =
-    let made = names.named g g.prompt.usage name g.prompt.rock in
-    let misses = names.reads g.prompt.mode && not
-    (has_file g.streams.files g.prompt.usage (cleaned name)) in
+prompted_for-valid : (g : Glk) (asked : Prompt) (name : List ℕ) → IsReady g
+    → IsReady (names.prompted_for g asked name).0
+prompted_for-valid g asked name v =
+    let made = names.named g asked.usage name asked.rock in
+    let misses = names.reads asked.mode && not
+    (has_file g.streams.files asked.usage (cleaned name)) in
     valid-if (length name == 0) (g, 0) (cond misses (g, 0) made) v
-    (valid-if misses (g, 0) made v (named-valid g g.prompt.usage name g.prompt.rock v))
+    (valid-if misses (g, 0) made v (named-valid g asked.usage name asked.rock v))
+
+pub prompted-valid : (g : Glk) (name : List ℕ) → IsReady (rested g)
+    → IsReady (names.prompted g name).0
+prompted-valid g name v = prompted_for-valid (rested g) g.prompt name v
 
 pub kept-fileref_work : (c : FileRefCall) (s : GlkCall) (l : ℕ → ℕ)
-    → Kept s (on s) (names.fileref_work c s l)
+    → Kept s (row s) (names.fileref_work c s l)
 unfolding names.fileref_work
 kept-fileref_work ref.CreateTemp s l =
-    placed-on s _ (λ v. with-streams s.glk _ v
-    ((laws.streams s.glk.streams v.streams).refer (l 0) (temporary s.glk.streams.next_ref) (l 1)))
+    let name = temporary s.glk.streams.next_ref in
+    let g = (names.temp_made s.glk (l 0) (l 1)).0 in
+    answers s (record s { glk = g }) (names.temp_made s.glk (l 0) (l 1)).1
+    (placed-on s g (λ v. with-streams s.glk (refs.made_ref s.glk.streams (l 0) name (l 1)).0 v
+    ((laws.streams s.glk.streams v.valid.parts.streams).refer (l 0) name (l 1))
+    (made_ref-more s.glk.streams (l 0) name (l 1))))
 kept-fileref_work ref.CreateByName s l =
     kept-makes s (names.named_made s.glk s.memory (l 0) (l 1) (l 2))
     (kept-bind s (beside s) (beside s) (names.name_at s.glk s.memory (l 1))
     (λ p. Ok (names.named p.0 (l 0) p.1 (l 2)))
     (kept-name_at s (l 1)) (λ p k v. named-valid p.0 (l 0) p.1 (l 2) (k v)))
-kept-fileref_work ref.CreateByPrompt s l =
-    placed-on s _ (λ v. record {
-      windows = v.windows;
-      streams = v.streams;
-      requests = v.requests;
-      next = v.next;
-    })
+kept-fileref_work ref.CreateByPrompt s l = record {
+  parts = λ v. record {
+    valid = same-parts s.glk
+        (record s.glk { prompt = record { usage = l 0; mode = l 1; rock = l 2 } })
+        refl refl refl refl refl v.valid;
+    waits = v.rests.event;
+  };
+  map = (self s).map;
+  stack = (self s).stack;
+}
 kept-fileref_work ref.CreateFromFileref s l =
     kept-makes s (names.copied s.glk (l 0) (l 1) (l 2))
     (kept-made s s.glk (refs.copied_ref s.glk.streams (l 0) (l 1) (l 2)) (λ v. v)
-    (λ v. (laws.streams s.glk.streams v.streams).copy (l 0) (l 1) (l 2)))
+    (λ v. (laws.streams s.glk.streams v.streams).copy (l 0) (l 1) (l 2))
+    (λ v. copied-more s.glk.streams (l 0) (l 1) (l 2)))
 kept-fileref_work ref.Destroy s l =
     kept-leaves s (names.dropped s.glk (l 0))
     (kept-left s s.glk (refs.dropped_ref s.glk.streams (l 0)) (λ v. v)
-    (λ v. (laws.streams s.glk.streams v.streams).forget (l 0)))
+    (λ v. (laws.streams s.glk.streams v.streams).forget (l 0))
+    (λ v. alone-more s.glk.streams (table.ref_at s.glk.streams (l 0)) _ (λ r. refl)))
 kept-fileref_work ref.Iterate s l =
-    row-needs s (on s) (l 0 == 0 || is_ref s.glk (l 0)) 21 _
+    row-needs s (row s) (l 0 == 0 || is_ref s.glk (l 0)) 21 _
     (λ e. kept-one s (l 1) (ref_rock s.glk (after table.ref_number_of s.glk.streams.refs (l 0)))
     (after table.ref_number_of s.glk.streams.refs (l 0)))
-kept-fileref_work ref.GetRock s l = row-needs s (on s) (is_ref s.glk (l 0)) 21 _ (λ e. self s)
+kept-fileref_work ref.GetRock s l = row-needs s (row s) (is_ref s.glk (l 0)) 21 _
+    (λ e. answers s s _ (self s))
 kept-fileref_work ref.DeleteFile s l =
     kept-leaves s (names.deleted s.glk (l 0))
     (kept-left s s.glk (refs.deleted s.glk.streams (l 0)) (λ v. v)
-    (λ v. (laws.streams s.glk.streams v.streams).delete (l 0)))
-kept-fileref_work ref.DoesFileExist s l = kept-read s (on s) s.glk (names.file_told s.glk (l 0))
-    (λ x. gives x s) (λ v. v) (λ x. self s)
+    (λ v. (laws.streams s.glk.streams v.streams).delete (l 0))
+    (λ v. alone-more s.glk.streams (table.ref_at s.glk.streams (l 0)) _ (λ r. refl)))
+kept-fileref_work ref.DoesFileExist s l = kept-read s (row s) s.glk (names.file_told s.glk (l 0))
+    (λ x. gives x s) (λ v. v) (λ x. answers s s x (self s))

@@ -1,4 +1,15 @@
 pub mod StepLemmas
+pub mod FoundLemmas
+pub mod LoopLemmas
+pub mod LinkLemmas
+pub mod EchoLemmas
+pub mod PartLemmas
+pub mod AskLemmas
+pub mod CloseLemmas
+pub mod BelowLemmas
+pub mod OpenLemmas
+pub mod ClosingLemmas
+pub mod StreamLemmas
 pub mod KeptLemmas
 pub mod KeptOutput
 pub mod KeptWindows

@@ -119,3 +119,9 @@ abbrev pub Lists : {A Z : Type 0} → Result (List A) ℕ → Result (Vec A Z) T
 Lists should (Ok v) = should ≡ Ok v.items
 Lists should (Err (Fault n)) = should ≡ Err n
 Lists should (Err NoMemory) = Unit {0}
+
+-- So it is, unless memory ran out.
+abbrev pub UnlessNoMemory : {A : Type 0} → Result A Trap → Type 0 → Type 0
+UnlessNoMemory (Ok x) Is = Is
+UnlessNoMemory (Err (Fault n)) Is = Is
+UnlessNoMemory (Err NoMemory) Is = Unit {0}

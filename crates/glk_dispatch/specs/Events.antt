@@ -20,7 +20,7 @@ use Rattle.glk_input.specs.declared.request.WindowInput.{WindowInput}
 use Rattle.glk_input.specs.declared.request.Request.TheVariants.{Line, Char}
 use Rattle.glk_dispatch.specs.Answer.{GlkCall, Done, Reached, Rule, ◌>>=◌, alone, within}
 use Rattle.glk_dispatch.specs.FileRefs.{prompted}
-use Rattle.glk_dispatch.specs.Glk.{takes, window}
+use Rattle.glk_dispatch.specs.Glk.{rested, takes, window}
 use Rattle.glk_dispatch.specs.Output.{code_at, echo_put}
 use Rattle.glk_dispatch.specs.Reference.{gives, refers_all}
 use Rattle.glk_dispatch.specs.declared.called.Called.{Called}
@@ -181,13 +181,13 @@ delivered g m i =
     within (request_over g i) (coded (delivery.delivered g.requests m i))
     >>= (λ p. Ok (request_over g i, p.0, p.1))
 
--- the input is shown, delivered, and its event told where glk_select waits for it; that call
--- answers 0
+-- what was waited with is set back first; the input is shown, delivered, and its event told where
+-- glk_select waited for it; that call answers 0
 abbrev pub event_answered : GlkCall → Input → Rule ℕ
 event_answered s i =
-    input_echoed s.glk s.memory i
+    input_echoed (rested s.glk) s.memory i
     >>= (λ p. delivered p.0 p.1 i)
-    >>= (λ p. refers_all (record s { glk = p.0; memory = p.1 }) p.0.event (words_of p.2))
+    >>= (λ p. refers_all (record s { glk = p.0; memory = p.1 }) s.glk.event (words_of p.2))
     >>= (λ t. Ok (t, 0))
 
 -- what an input that is waited for does, and the answer of the call that waited

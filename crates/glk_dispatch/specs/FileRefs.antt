@@ -13,13 +13,14 @@ use Rattle.glk_streams.specs.Files.{has_file}
 use Rattle.glk_streams.specs.Names.{cleaned, temporary}
 use Rattle.glk_dispatch.specs.Answer.{GlkCall, Reached, Rule, ◌>>=◌, within}
 use Rattle.glk_dispatch.specs.Fault.{numbered}
-use Rattle.glk_dispatch.specs.Glk.{charged, fref, fref_or_none, ref_rock}
+use Rattle.glk_dispatch.specs.Glk.{charged, fref, fref_or_none, ref_rock, rested}
 use Rattle.glk_dispatch.specs.Output.{text_start}
 use Rattle.glk_dispatch.specs.Reference.{gives, refers}
 use Rattle.glk_dispatch.specs.Streams.{leaves, left, made, makes}
 use Rattle.glk_dispatch.specs.declared.called.Called.{Called}
 use Rattle.glk_dispatch.specs.declared.called.Called.TheVariants.{Prompt}
 use Rattle.glk_dispatch.specs.declared.glk.Glk.{Glk}
+use Rattle.glk_dispatch.specs.declared.glk.Prompt as p
 use Rattle.glk_dispatch.specs.declared.filerefs.FileRefCall.{FileRefCall}
 use Rattle.glk_dispatch.specs.declared.filerefs.FileRefCall.TheVariants.{CreateTemp, CreateByName}
 use Rattle.glk_dispatch.specs.declared.filerefs.FileRefCall.TheVariants.{CreateByPrompt}
@@ -75,13 +76,17 @@ prompts s usage mode rock =
 abbrev pub reads : ℕ → Bool
 reads mode = mode == 2
 
--- the name that a prompt asked for: none cancels, and a file that is to be read must be there
-abbrev pub prompted : Glk → List ℕ → Glk × ℕ
-prompted g name =
+-- the name that this prompt asked for: none cancels, and a file that is to be read must be there
+abbrev pub prompted_for : Glk → p.Prompt → List ℕ → Glk × ℕ
+prompted_for g asked name =
     if length name == 0 then (g, 0)
-    else (if reads g.prompt.mode && not (has_file g.streams.files g.prompt.usage (cleaned name))
+    else (if reads asked.mode && not (has_file g.streams.files asked.usage (cleaned name))
     then (g, 0)
-    else named g g.prompt.usage name g.prompt.rock)
+    else named g asked.usage name asked.rock)
+
+-- the name of a file comes: what was waited with is set back first
+abbrev pub prompted : Glk → List ℕ → Glk × ℕ
+prompted g name = prompted_for (rested g) g.prompt name
 
 -- glk_fileref_iterate fref or 0, &rock
 abbrev pub iterates : GlkCall → ℕ → ℕ → Rule Called

@@ -8,6 +8,11 @@ use Rattle.glk_streams.specs.Streams as streams
 use Rattle.glk_streams.specs.FileRefs as refs
 use Rattle.glk_dispatch.specs.Answer.{Reached, needs}
 use Rattle.glk_dispatch.specs.declared.glk.Glk.{Glk}
+use Rattle.glk_dispatch.specs.declared.glk.Prompt.{Prompt}
+
+-- no prompt is waited with
+abbrev pub no_prompt : Prompt
+no_prompt = record { usage = 0; mode = 0; rock = 0 }
 
 -- a screen without windows, streams and requests
 abbrev pub fresh : ℕ → ℕ → Glk
@@ -20,12 +25,16 @@ fresh cols rows = record {
   chars = 0;
   printed = 0;
   event = 0;
-  prompt = record { usage = 0; mode = 0; rock = 0 };
+  prompt = no_prompt;
 }
 
 -- a turn begins: nothing was read, written or printed in it
 abbrev pub turn_begun : Glk → Glk
 turn_begun g = record g { windows = output.begin_turn g.windows; chars = 0; printed = 0 }
+
+-- what a select or a prompt waited with is set back
+abbrev pub rested : Glk → Glk
+rested g = record g { event = 0; prompt = no_prompt }
 
 -- one more character was read or written in this turn; the greatest count stays
 abbrev pub charged : Glk → Glk

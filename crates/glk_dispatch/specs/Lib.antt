@@ -13,5 +13,7 @@ pub mod Case
 pub mod Gestalt
 pub mod Events
 pub mod Call
+pub mod Links
+pub mod Valid
 pub mod Laws
 pub mod Keeping

@@ -4,6 +4,7 @@ ghost use Rattle.std.specs.Prelude.{◌≡◌, slice_index, OnOk};
 ghost use Rattle.glk_dispatch.specs.Answer.{Does, glk_call};
 ghost use Rattle.glk_dispatch.specs.Call as table;
 ghost use Rattle.glk_dispatch.specs.Keeping.{KeepsStory};
+ghost use Rattle.glk_dispatch.specs.Valid.{LeavesValid};
 
 use crate::arguments::{MAX_ARGUMENTS, take_arguments};
 use crate::base::do_base;
@@ -37,6 +38,7 @@ pub fn call(
     ensures does { Does (table.called (glk_call glk.old memory.old stack.old) selector args)
         glk.new memory.new stack.new result }
     ensures kept { OnOk result (KeepsStory memory.old stack.old memory.new stack.new) }
+    ensures valid { LeavesValid glk.old glk.new result }
 {
     match Call::of(selector) {
         Some((call, count)) => {

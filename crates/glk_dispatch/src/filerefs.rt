@@ -153,15 +153,15 @@ fn count_chars(text: &str) -> usize
     text.chars().count()
 }
 
-/// The reference to the file with the name that a prompt asked for; 0 where it is empty, and where
-/// the file is to be read and isn't there.
-pub(crate) fn answer_prompt(alloc: Global, glk: &mut Glk, name: &Text) -> Result<u32, Trap>
-    ensures { Answers (Done (rows.prompted glk.old name.now)) glk.new result }
+// The reference to the file with the name that this prompt asked for; 0 where it is empty, and
+// where the file is to be read and isn't there.
+fn answer_prompt_for(alloc: Global, glk: &mut Glk, asked: Prompt, name: &Text) -> Result<u32, Trap>
+    ensures { Answers (Done (rows.prompted_for glk.old asked name.now)) glk.new result }
 {
     if count_chars(name.as_str()) == 0 {
         return Ok(0);
     }
-    let Prompt { usage, mode, rock } = glk.prompt;
+    let Prompt { usage, mode, rock } = asked;
     let Ok(clean) = clean_name(alloc, name) else {
         return Err(Trap::NoMemory);
     };
@@ -172,6 +172,15 @@ pub(crate) fn answer_prompt(alloc: Global, glk: &mut Glk, name: &Text) -> Result
         Ok(fref) => Ok(fref),
         Err(_) => Err(Trap::NoMemory),
     }
+}
+
+/// Gives a file's name to the prompt that waits for it, which is set back.
+pub(crate) fn answer_prompt(alloc: Global, glk: &mut Glk, name: &Text) -> Result<u32, Trap>
+    ensures { Answers (Done (rows.prompted glk.old name.now)) glk.new result }
+{
+    let asked = glk.prompt;
+    glk.rest();
+    answer_prompt_for(alloc, glk, asked, name)
 }
 
 fn copy(alloc: Global, glk: &mut Glk, usage: u32, fref: u32, rock: u32) -> Result<u32, Trap>

@@ -2,6 +2,7 @@
 
 ghost use Rattle.std.specs.Prelude.{◌≡◌, ◌||◌, ◌==◌, IfOk};
 ghost use Rattle.glk_dispatch.specs.Glk as state;
+ghost use Rattle.glk_dispatch.specs.Valid.{IsReady};
 
 use glk_input::Requests;
 use glk_streams::Streams;
@@ -9,7 +10,7 @@ use glk_windows::Windows;
 use std::alloc::{AllocError, Global};
 
 /// What a prompt for a file's name waits with: the reference's usage, the mode in which the file is
-/// to be opened, and the reference's rock.
+/// to be opened, and the reference's rock. All are 0 where no prompt is waited with.
 #[derive(Clone, Copy, Debug, PartialEq, Eq)]
 pub struct Prompt {
     pub usage: u32,
@@ -17,8 +18,8 @@ pub struct Prompt {
     pub rock: u32,
 }
 
-/// Windows, streams and requests, the screen, the counts of this turn, and what the last select and
-/// the last prompt wait with. `chars` counts the characters that calls read or wrote in this turn,
+/// Windows, streams and requests, the screen, the counts of this turn, and what a select or a
+/// prompt waits with: 0 where none does. `chars` counts the characters that calls read or wrote in this turn,
 /// `printed` those that windows showed.
 #[derive(Drop)]
 pub struct Glk {
@@ -33,10 +34,18 @@ pub struct Glk {
     pub(crate) prompt: Prompt,
 }
 
+// No prompt is waited with.
+const NO_PROMPT: Prompt = Prompt {
+    usage: 0,
+    mode: 0,
+    rock: 0,
+};
+
 impl Glk {
     /// A screen of so many columns and rows without a window. The error is want of memory.
     pub fn new(alloc: Global, cols: u8, rows: u8) -> Result<Glk, AllocError>
-        ensures { IfOk result (λ glk. glk ≡ state.fresh cols rows) }
+        ensures value { IfOk result (λ glk. glk ≡ state.fresh cols rows) }
+        ensures valid { IfOk result (λ glk. IsReady glk) }
     {
         Ok(Glk {
             windows: Windows::new(alloc),
@@ -47,11 +56,7 @@ impl Glk {
             chars: 0,
             printed: 0,
             event: 0,
-            prompt: Prompt {
-                usage: 0,
-                mode: 0,
-                rock: 0,
-            },
+            prompt: NO_PROMPT,
         })
     }
 
@@ -69,14 +74,14 @@ impl Glk {
         (self.cols, self.rows)
     }
 
-    /// The reference to which the event of the last `glk_select` goes.
+    /// The reference to which the event that `glk_select` waits for goes.
     pub fn event(&self) -> u32
         ensures { result ≡ self.now.event }
     {
         self.event
     }
 
-    /// What the last prompt waits with.
+    /// What a prompt waits with.
     pub fn prompt(&self) -> Prompt
         ensures { result ≡ self.now.prompt }
     {
@@ -90,6 +95,14 @@ impl Glk {
         self.windows.begin_turn();
         self.chars = 0;
         self.printed = 0;
+    }
+
+    /// Sets back what a select or a prompt waited with.
+    pub(crate) fn rest(&mut self)
+        ensures { self.new ≡ state.rested self.old }
+    {
+        self.event = 0;
+        self.prompt = NO_PROMPT;
     }
 
     /// Counts a character that a call reads or writes.

@@ -27,7 +27,7 @@ pub use dispatch::call;
 pub use events::EventCall;
 pub use filerefs::FileRefCall;
 pub use glk::{Glk, Prompt};
-pub use laws::parts_stay_valid;
+pub use laws::calls_keep_valid;
 pub use output::{MAX_PRINTED, OutputCall, put_code};
 pub use selector::Call;
 pub use streams::{StreamCall, get_code, position};

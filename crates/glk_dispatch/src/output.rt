@@ -2,9 +2,10 @@
 
 ghost use Rattle.std.specs.Prelude.{◌≡◌, ◌≤◌, ◌+◌, length, slice_index, OnOk};
 ghost use Rattle.glk_input.specs.Delivery.{width};
-ghost use Rattle.glk_dispatch.specs.Answer.{Does, Makes, Puts, Writes, glk_call};
+ghost use Rattle.glk_dispatch.specs.Answer.{Does, Makes, Puts, UnlessNoMemory, Writes, glk_call};
 ghost use Rattle.glk_dispatch.specs.Output as rows;
 ghost use Rattle.glk_dispatch.specs.Selector as selector;
+ghost use Rattle.glk_dispatch.specs.Valid.{IsReady};
 ghost use Rattle.vm_memory.specs.MemoryMap.{KeepsMap};
 
 use crate::arguments::MAX_ARGUMENTS;
@@ -144,6 +145,7 @@ pub fn put_code(
 ) -> Result<(), Trap>
     ensures does { Puts (rows.put_code glk.old memory.old stream code) glk.new memory.new result }
     ensures kept { OnOk result (KeepsMap memory.old memory.new) }
+    ensures valid { UnlessNoMemory result (IsReady glk.old → IsReady glk.new) }
 {
     glk.charge();
     spread_all(alloc, glk, memory, stream, code)

@@ -3,9 +3,11 @@
 ghost use Rattle.std.specs.Prelude.{◌≡◌, ◌≤◌, ◌<◌, ◌+◌, ◌-◌, ◌==◌};
 ghost use Rattle.std.specs.Prelude.{◌&&◌, slice_index};
 ghost use Rattle.glk_input.specs.Delivery as delivery;
-ghost use Rattle.glk_dispatch.specs.Answer.{Answers, Changes, Does, Gets, Makes, glk_call};
+ghost use Rattle.glk_dispatch.specs.Answer.{Answers, Changes, Does, Gets, Makes, UnlessNoMemory};
+ghost use Rattle.glk_dispatch.specs.Answer.{glk_call};
 ghost use Rattle.glk_dispatch.specs.Selector as selector;
 ghost use Rattle.glk_dispatch.specs.Streams as rows;
+ghost use Rattle.glk_dispatch.specs.Valid.{IsReady};
 
 use crate::arguments::MAX_ARGUMENTS;
 use crate::called::Called;
@@ -190,7 +192,8 @@ fn get_of_stream(glk: &mut Glk, memory: &Memory, stream: u32) -> Result<Option<u
 
 /// A character of a stream, which is counted as read; None at the end.
 pub fn get_code(glk: &mut Glk, memory: &Memory, stream: u32) -> Result<Option<u32>, Trap>
-    ensures { Answers (rows.got_code glk.old memory.now stream) glk.new result }
+    ensures does { Answers (rows.got_code glk.old memory.now stream) glk.new result }
+    ensures valid { UnlessNoMemory result (IsReady glk.old → IsReady glk.new) }
 {
     let code = get_of_stream(glk, memory, stream)?;
     if code.is_some() {

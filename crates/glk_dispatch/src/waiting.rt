@@ -3,9 +3,10 @@
 ghost use Rattle.std.specs.Prelude.{◌≡◌, OnOk, true};
 ghost use Rattle.glk_input.specs.Delivery as delivery;
 ghost use Rattle.glk_input.specs.Request as request;
-ghost use Rattle.glk_dispatch.specs.Answer.{Does, Gets, Puts, glk_call};
+ghost use Rattle.glk_dispatch.specs.Answer.{Does, Gets, Puts, UnlessNoMemory, glk_call};
 ghost use Rattle.glk_dispatch.specs.Events as rows;
 ghost use Rattle.glk_dispatch.specs.Keeping.{KeepsStory};
+ghost use Rattle.glk_dispatch.specs.Valid.{IsReady, IsValid};
 
 use crate::events::{INPUT, NEWLINE, tell_event};
 use crate::filerefs::answer_prompt;
@@ -99,15 +100,18 @@ fn answer_event(
     ensures { Does (rows.event_answered (glk_call glk.old memory.old stack.old) input.now)
         glk.new memory.new stack.new result }
 {
+    let told_at = glk.event;
+    glk.rest();
     echo_input(alloc, glk, memory, input)?;
     let event = deliver(glk, memory, input)?;
-    tell_event(memory, stack, glk.event, event)?;
+    tell_event(memory, stack, told_at, event)?;
     Ok(0)
 }
 
 /// Gives an input to the call that waits for it, and answers what that call answers: 0 for
 /// `glk_select`, whose reference takes the event of what a window asks for; for a prompt, which
-/// takes a file's name, the new file reference, or 0.
+/// takes a file's name, the new file reference, or 0. What the call waited with is set back, after
+/// a fault too.
 pub fn answer(
     alloc: Global,
     glk: &mut Glk,
@@ -119,6 +123,7 @@ pub fn answer(
     ensures does { Does (rows.answered (glk_call glk.old memory.old stack.old) input.now)
         glk.new memory.new stack.new result }
     ensures kept { OnOk result (KeepsStory memory.old stack.old memory.new stack.new) }
+    ensures valid { UnlessNoMemory result (IsValid glk.old → IsReady glk.new) }
 {
     match input {
         Input::Line { .. } | Input::Char { .. } => answer_event(alloc, glk, memory, stack, input),

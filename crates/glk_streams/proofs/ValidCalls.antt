@@ -35,7 +35,7 @@ use Rattle.glk_streams.specs.Streams.{stream_of_window, is_window, with_stream, 
 use Rattle.glk_streams.specs.Valid.{is_current, are_files, are_streams}
 use Rattle.glk_streams.proofs.ValidLemmas.{count-window, count-more, or_parts}
 use Rattle.glk_streams.proofs.ValidLaws.{Parts, parts_of, of_parts, files_of, files-held}
-use Rattle.glk_streams.proofs.ValidLaws.{files-without, held_of, streams-more, streams-changed}
+use Rattle.glk_streams.proofs.ValidLaws.{both, files-without, held_of, streams-more, streams-changed}
 use Rattle.glk_streams.proofs.ValidLaws.{streams-without, streams-current, refs-more, refs-without}
 
 negated : (x : Bool) → not x ≡ false → x ≡ true
@@ -77,7 +77,8 @@ memory-by t buf len mode rock unicode true false e f h =
     let few : count_of (t.streams ++ v ∷ []) ≤ 64 =
     grind (arith, common_steps, count-more t.streams v, room.1) in
     rw (e, f) (of_parts (joined t v).0 (record {
-      streams = streams-more t.next t.current t.streams v p.streams room.0 refl e few;
+      streams = streams-more t.next t.current t.streams v p.streams room.0 refl
+          (both (is_memory_mode mode) true e refl) few;
       refs = p.refs;
       files = p.files;
     }))
@@ -102,7 +103,8 @@ name-by t u n mode rock unicode s e m stand f h =
     let room = room-of t f in
     let few : count_of (t.streams ++ v ∷ []) ≤ 64 =
     grind (arith, common_steps, count-more t.streams v, room.1) in
-    let streams = streams-more t.next t.current t.streams v p.streams room.0 refl m few in
+    let streams = streams-more t.next t.current t.streams v p.streams room.0 refl
+    (both (is_file_mode mode) true m refl) few in
     by s e v streams p stand
   where
     by : (s : Bool) → (mode == 1 || not (has_file t.files u n)) ≡ s → (v : Stream)
@@ -161,12 +163,13 @@ close-by t n (Some s) h = by (is_window s.target)
 
 changed-valid : (t : StreamTable) (n : ℕ) (s v : Stream) (fs : List file.File)
     → stream_at t n ≡ Some s → v.number ≡ s.number
-    → v.target ≡ s.target → v.mode ≡ s.mode → are_files fs ≡ true → IsValid t
+    → v.target ≡ s.target → v.mode ≡ s.mode
+    → (nat_le s.style 10 ≡ true → nat_le v.style 10 ≡ true) → are_files fs ≡ true → IsValid t
     → IsValid (with_stream (record t { files = fs }) n v)
-changed-valid t n s v fs f e g m k h =
+changed-valid t n s v fs f e g m y k h =
     let p = parts_of t h in
     of_parts (with_stream (record t { files = fs }) n v) (record {
-      streams = streams-changed t.next t.current t.streams n s v f e g m p.streams;
+      streams = streams-changed t.next t.current t.streams n s v f e g m y p.streams;
       refs = p.refs;
       files = k;
     })
@@ -234,7 +237,7 @@ put-then : (t : StreamTable) (n : ℕ) (s : Stream) (r : Put) → stream_at t n 
     → LeavesBeside (r >>=
     (λ done. Ok (with_stream (record t { files = done.0 }) n (counted (placed done.2 s)), done.1)))
 put-then t n s (Ok done) f k h =
-    changed-valid t n s (counted (placed done.2 s)) done.0 f refl refl refl k h
+    changed-valid t n s (counted (placed done.2 s)) done.0 f refl refl refl (λ y. y) k h
 put-then t n s (Err e) f k h = tt
 
 write-by : (t : StreamTable) (m : MemoryMap) (n code : ℕ) (o : Option Stream) → stream_at t n ≡ o
@@ -256,7 +259,8 @@ read-then : (t : StreamTable) (n : ℕ) (s : Stream) (r : Result (Option Reading
 read-then t n s (Err e) f h = tt
 read-then t n s (Ok None) f h = h
 read-then t n s (Ok (Some r)) f h =
-    changed-valid t n s (passed r s) t.files f refl refl refl (parts_of t h).files h
+    changed-valid t n s (passed r s) t.files f refl refl refl (λ y. y)
+    (parts_of t h).files h
 
 read-by : (t : StreamTable) (m : MemoryMap) (n : ℕ) (o : Option Stream) → stream_at t n ≡ o
     → IsValid t
@@ -268,9 +272,10 @@ sought-same : (to : Target) (fs : List file.File) (s : Stream) (by from : ℕ)
     → ((sought_in to fs s by from).number ≡ s.number) ×
     ((sought_in to fs s by from).target ≡ s.target)
     × ((sought_in to fs s by from).mode ≡ s.mode)
-sought-same (Window win) fs s by from = (refl, refl, refl)
-sought-same (Memory buf len) fs s by from = (refl, refl, refl)
-sought-same (File u n) fs s by from = (refl, refl, refl)
+    × ((sought_in to fs s by from).style ≡ s.style)
+sought-same (Window win) fs s by from = (refl, refl, refl, refl)
+sought-same (Memory buf len) fs s by from = (refl, refl, refl, refl)
+sought-same (File u n) fs s by from = (refl, refl, refl, refl)
 
 seek-by : (t : StreamTable) (n by from : ℕ) (o : Option Stream) (b : Bool) → stream_at t n ≡ o
     → nat_lt 2 from ≡ b → IsValid t
@@ -281,14 +286,17 @@ seek-by t n by from (Some s) true f e h = rw e tt
 seek-by t n by from (Some s) false f e h =
     let same = sought-same s.target t.files s by from in
     rw e (changed-valid t n s (sought_in s.target t.files s by from) t.files f same.0 same.1 same.2
-    (parts_of t h).files h)
+    (λ y. rw same.3 y) (parts_of t h).files h)
+
+few-styles : (style : ℕ) → nat_le (style_of style) 10 ≡ true
+few-styles style = grind (arith, common_steps)
 
 style-by : (t : StreamTable) (n style : ℕ) (o : Option Stream) → stream_at t n ≡ o → IsValid t
     → Leaves (live o (λ s. Ok (with_stream t n (record s { style = style_of style }))))
 style-by t n style None f h = tt
 style-by t n style (Some s) f h =
     changed-valid t n s (record s { style = style_of style }) t.files f refl refl refl
-    (parts_of t h).files h
+    (λ y. few-styles style) (parts_of t h).files h
 
 current-by : (t : StreamTable) (n : ℕ) (b : Bool) → is_current t.streams n ≡ b → IsValid t
     → Leaves (with_current t n)

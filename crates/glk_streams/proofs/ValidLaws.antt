@@ -12,7 +12,7 @@ use Rattle.glk_streams.specs.Files.{has_file, content_of, with_bytes, with_file,
 use Rattle.glk_streams.specs.Files.{holding, bytes_of, may_stand}
 use Rattle.glk_streams.specs.Streams.{StreamTable, no_streams, number_of, ref_number_of, is_window}
 use Rattle.glk_streams.specs.Opening.{count_of}
-use Rattle.glk_streams.specs.Valid.{is_mode, are_modes, is_current, is_next, in_order, are_kinds}
+use Rattle.glk_streams.specs.Valid.{is_mode, is_sound, are_sound, is_current, is_next, in_order, are_kinds}
 use Rattle.glk_streams.specs.Valid.{are_files, are_streams, are_refs, is_valid}
 use Rattle.glk_streams.proofs.ValidLemmas.{in_order-bytes, in_order-file, in_order-without}
 use Rattle.glk_streams.proofs.ValidLemmas.{kinds-bytes, kinds-file, kinds-without, length-bytes}
@@ -93,7 +93,7 @@ files-without fs u n h =
 pub record Held (next current : ℕ) (ss : List Stream) : Type 0 where
   pub next_is : is_next next ≡ true
   pub order : ascends number_of 0 next ss ≡ true
-  pub modes : are_modes ss ≡ true
+  pub modes : are_sound ss ≡ true
   pub count : nat_le (count_of ss) 64 ≡ true
   pub live : is_current ss current ≡ true
 
@@ -123,7 +123,7 @@ next-some next h = grind (arith, common_steps, h)
 
 pub streams-more : (next current : ℕ) (ss : List Stream) (v : Stream)
     → are_streams next current ss ≡ true
-    → next ≤ 4294967294 → v.number ≡ next → is_mode v.target v.mode ≡ true
+    → next ≤ 4294967294 → v.number ≡ next → is_sound v ≡ true
     → count_of (ss ++ v ∷ []) ≤ 64
     → are_streams (next + 1) current (ss ++ v ∷ []) ≡ true
 streams-more next current ss v h l e m k =
@@ -139,12 +139,17 @@ streams-more next current ss v h l e m k =
 pub streams-changed : (next current : ℕ) (ss : List Stream) (n : ℕ) (s v : Stream)
     → found number_of ss n ≡ Some s
     → v.number ≡ s.number → v.target ≡ s.target → v.mode ≡ s.mode
+    → (nat_le s.style 10 ≡ true → nat_le v.style 10 ≡ true)
     → are_streams next current ss ≡ true
     → are_streams next current (changed_at number_of (λ _. v) ss n) ≡ true
-streams-changed next current ss n s v f e t m h =
+streams-changed next current ss n s v f e t m y h =
     let r = held_of next current ss h in
     let num : v.number ≡ n = e ∙ number-found number_of ss n s f in
-    let mode : is_mode v.target v.mode ≡ true = rw (t, m) (mode-found ss n s f r.modes) in
+    let was = and_parts (is_mode s.target s.mode) (nat_le s.style 10)
+    (mode-found ss n s f r.modes) in
+    let kind : is_mode v.target v.mode ≡ true = rw (t, m) was.0 in
+    let mode : is_sound v ≡ true =
+    both (is_mode v.target v.mode) (nat_le v.style 10) kind (y was.1) in
     of_held next current (changed_at number_of (λ _. v) ss n) (record {
       next_is = r.next_is;
       order = ascends-changed number_of ss 0 next n v num ∙ r.order;
@@ -221,5 +226,5 @@ pub of_parts : (t : StreamTable) → Parts t → is_valid t ≡ true
 of_parts t p = both _ _ (both _ _ p.streams p.refs) p.files
 
 pub begins : is_valid no_streams ≡ true
-unfolding are_modes ascends in_order are_kinds count_of bytes_of
+unfolding are_sound ascends in_order are_kinds count_of bytes_of
 begins = refl

@@ -14,7 +14,7 @@ use Rattle.glk_streams.specs.Files.{key_of, file_key, is_named, stands_before, h
 use Rattle.glk_streams.specs.Files.{with_bytes, with_file, without_file, bytes_of}
 use Rattle.glk_streams.specs.Streams.{number_of, is_window}
 use Rattle.glk_streams.specs.Opening.{count_of}
-use Rattle.glk_streams.specs.Valid.{is_mode, are_modes, is_first, in_order, are_kinds}
+use Rattle.glk_streams.specs.Valid.{is_sound, are_sound, is_first, in_order, are_kinds}
 
 pub or_parts : (x y : Bool) → (x || y) ≡ false → (x ≡ false) × (y ≡ false)
 or_parts true y e = absurd (grind (arith, e))
@@ -251,30 +251,30 @@ module _ {X : Type 0} (number : X → ℕ) where
 
 -- modes and the count
 
-pub modes-changed : (ss : List Stream) (n : ℕ) (v : Stream) → is_mode v.target v.mode ≡ true
-    → are_modes ss ≡ true
-    → are_modes (changed_at number_of (λ _. v) ss n) ≡ true
-unfolding are_modes changed_at
+pub modes-changed : (ss : List Stream) (n : ℕ) (v : Stream) → is_sound v ≡ true
+    → are_sound ss ≡ true
+    → are_sound (changed_at number_of (λ _. v) ss n) ≡ true
+unfolding are_sound changed_at
 modes-changed [] n v m a = refl
 modes-changed (s ∷ ss) n v m a = grind (arith, common_steps, m, a, modes-changed ss n v m)
 
 pub mode-found : (ss : List Stream) (n : ℕ) (s : Stream) → found number_of ss n ≡ Some s
-    → are_modes ss ≡ true
-    → is_mode s.target s.mode ≡ true
-unfolding are_modes found
+    → are_sound ss ≡ true
+    → is_sound s ≡ true
+unfolding are_sound found
 mode-found [] n s e a = absurd (grind (arith, e))
 mode-found (x ∷ ss) n s e a = grind (arith, common_steps, e, a, mode-found ss n s)
 
-pub modes-without : (ss : List Stream) (n : ℕ) → are_modes ss ≡ true
-    → are_modes (without number_of ss n) ≡ true
-unfolding are_modes without
+pub modes-without : (ss : List Stream) (n : ℕ) → are_sound ss ≡ true
+    → are_sound (without number_of ss n) ≡ true
+unfolding are_sound without
 modes-without [] n a = refl
 modes-without (s ∷ ss) n a = grind (arith, common_steps, a, modes-without ss n)
 
-pub modes-more : (ss : List Stream) (v : Stream) → are_modes ss ≡ true
-    → is_mode v.target v.mode ≡ true
-    → are_modes (ss ++ v ∷ []) ≡ true
-unfolding are_modes
+pub modes-more : (ss : List Stream) (v : Stream) → are_sound ss ≡ true
+    → is_sound v ≡ true
+    → are_sound (ss ++ v ∷ []) ≡ true
+unfolding are_sound
 modes-more [] v a m = grind (arith, common_steps, m)
 modes-more (s ∷ ss) v a m = grind (arith, common_steps, a, m, modes-more ss v)
 

@@ -23,9 +23,13 @@ is_mode (Window win) mode = mode == 1
 is_mode (Memory buf len) mode = is_memory_mode mode
 is_mode (File usage name) mode = is_file_mode mode
 
-unfoldable pub are_modes : List Stream → Bool
-are_modes [] = true
-are_modes (s ∷ ss) = is_mode s.target s.mode && are_modes ss
+-- a stream with a mode of its kind, and with one of the eleven styles
+abbrev pub is_sound : Stream → Bool
+is_sound s = is_mode s.target s.mode && nat_le s.style 10
+
+unfoldable pub are_sound : List Stream → Bool
+are_sound [] = true
+are_sound (s ∷ ss) = is_sound s && are_sound ss
 
 -- the next number is from 1 on, and is one that may be given or the first that may not
 abbrev pub is_next : ℕ → Bool
@@ -35,10 +39,10 @@ is_next n = nat_lt 0 n && nat_le n 4294967295
 abbrev pub is_current : List Stream → ℕ → Bool
 is_current ss current = current == 0 || has number_of ss current
 
--- streams by number with modes of their kinds, at most 64 besides those of windows
+-- sound streams by number, at most 64 besides those of windows
 abbrev pub are_streams : ℕ → ℕ → List Stream → Bool
 are_streams next current ss =
-    is_next next && ascends number_of 0 next ss && are_modes ss && nat_le (count_of ss) MAX_STREAMS
+    is_next next && ascends number_of 0 next ss && are_sound ss && nat_le (count_of ss) MAX_STREAMS
     && is_current ss current
 
 -- at most 64 file references by number

@@ -38,15 +38,22 @@ impl Stream {
             Target::File { .. } => matches!(self.mode, 1 | 2 | 3 | 5),
         }
     }
+
+    /// Whether it has a mode of its kind, and one of the eleven styles.
+    fn is_sound(&self) -> bool
+        ensures { result ≡ valid.is_sound self.now }
+    {
+        self.has_mode() && self.style <= 10
+    }
 }
 
-/// Whether each stream has a mode of its kind.
-#[tactic(auto, unfolding(crate::specs::Valid::are_modes))]
-fn are_modes(streams: &[Stream]) -> bool
-    ensures { result ≡ valid.are_modes streams.now }
+/// Whether each stream is sound.
+#[tactic(auto, unfolding(crate::specs::Valid::are_sound))]
+fn are_sound(streams: &[Stream]) -> bool
+    ensures { result ≡ valid.are_sound streams.now }
 {
     for stream in streams {
-        if !stream.has_mode() {
+        if !stream.is_sound() {
             return false;
         }
     }
@@ -126,7 +133,7 @@ impl Streams {
     {
         is_next(self.next)
             && ascend(&self.streams, 0, self.next)
-            && are_modes(&self.streams)
+            && are_sound(&self.streams)
             && count_of(&self.streams) <= MAX_STREAMS
             && (self.current == 0 || is_live(&self.streams, self.current))
     }

@@ -18,3 +18,4 @@ pub mod BelowLemmas
 pub mod OwnLemmas
 pub mod SpellingLemmas
 pub mod StandardFacts
+pub mod AreaLemmas

@@ -65,7 +65,7 @@ unfolding changed_at found
 area-other [] n m r h = refl
 area-other (w ∷ ws) n m r h = let k : _ = area-other ws n m r h in grind (arith, common_steps)
 
-area-own : (ws : List Window) (n : ℕ) (r : Area) (x : ℕ × Option pairs.Pair) → node_of ws n ≡ Some x
+pub area-own : (ws : List Window) (n : ℕ) (r : Area) (x : ℕ × Option pairs.Pair) → node_of ws n ≡ Some x
     → area_of (with_area ws n r) n ≡ r
 unfolding changed_at found
 area-own [] n r x e = absurd (grind (arith, common_steps))
@@ -148,11 +148,11 @@ cuts-cover false false k l a hk hl x y c =
 share-within : (p : pairs.Pair) (s : Bool) (e : ℕ) → share p s e ≤ e
 share-within p s e = min-le_left e _
 
-some_of : (o : Option pairs.Pair) (p : pairs.Pair) → option_map bare o ≡ Some p → (q : pairs.Pair) × (o ≡ Some q) × (bare q ≡ p)
+pub some_of : (o : Option pairs.Pair) (p : pairs.Pair) → option_map bare o ≡ Some p → (q : pairs.Pair) × (o ≡ Some q) × (bare q ≡ p)
 some_of None p e = cc
 some_of (Some q) p e = (q, refl, cc)
 
-none_of : (o : Option pairs.Pair) → option_map bare o ≡ None → o ≡ None
+pub none_of : (o : Option pairs.Pair) → option_map bare o ≡ None → o ≡ None
 none_of None e = refl
 none_of (Some q) e = cc
 
@@ -192,19 +192,19 @@ parts d ws n r p a b up t e f =
       all = cuts-cover (is_stacked q) (is_after q) (share q z r.h) (share q z r.w) r h l;
     }
 
-placed-leaf : (d : ℕ) (ws : List Window) (n : ℕ) (r : Area) (up : ℕ)
+pub placed-leaf : (d : ℕ) (ws : List Window) (n : ℕ) (r : Area) (up : ℕ)
     → node_of ws n ≡ Some (up, None) → placed (suc d) ws n r ≡ with_area ws n r
 unfolding placed
 placed-leaf d ws n r up t =
     ap (λ o. divided (placed d) (with_area ws n r) o r) (none_of _ (node_pair ws n _ t))
 
 -- the tree below a window, once the windows before it are placed
-spells-placed : (d : ℕ) (ws : List Window) (n k : ℕ) (r f : Area) (b : Shape) (up : ℕ)
+pub spells-placed : (d : ℕ) (ws : List Window) (n k : ℕ) (r f : Area) (b : Shape) (up : ℕ)
     → Spells ws up b → Spells (placed d (with_area ws n r) k f) up b
 spells-placed d ws n k r f b up t =
     spells_on ws _ b up (λ m c. node_placed d (with_area ws n r) k f m ∙ node_with ws n r m) t
 
-spells-with : (ws : List Window) (n : ℕ) (r : Area) (b : Shape) (up : ℕ) → Spells ws up b → Spells (with_area ws n r) up b
+pub spells-with : (ws : List Window) (n : ℕ) (r : Area) (b : Shape) (up : ℕ) → Spells ws up b → Spells (with_area ws n r) up b
 spells-with ws n r b up t = spells_on ws _ b up (λ m c. node_with ws n r m) t
 
 -- a window that isn't below another keeps its rectangle

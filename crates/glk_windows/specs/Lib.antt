@@ -9,3 +9,4 @@ pub mod Closing
 pub mod Valid
 pub mod OneTree
 pub mod Laws
+pub mod Areas

@@ -1,5 +1,6 @@
 //! Laws of the windows and their rectangles (Glk 0.7.5, "The Window Tree").
 
+ghost use Rattle.glk_windows.specs.Areas.{PlacesWindows};
 ghost use Rattle.glk_windows.specs.Laws.{ClosesBelow, FillsScreen, KeepsValid, MayKeyHolds};
 ghost use Rattle.glk_windows.specs.Laws.{NeverOverlaps, SpellsOutput, StaysOnScreen};
 
@@ -39,4 +40,10 @@ pub fn closes_below()
 /// neighbours have different styles.
 pub fn runs_spell_output()
     ensures { SpellsOutput }
+{}
+
+/// Windows that are placed have their rectangles: the root the whole screen, and a pair's windows
+/// their parts of its own. Where they have them, placing them changes nothing.
+pub fn places_windows()
+    ensures { PlacesWindows }
 {}

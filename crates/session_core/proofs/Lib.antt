@@ -2,3 +2,4 @@ pub mod HistoryLemmas
 pub mod AnswerLemmas
 pub mod IsolationLemmas
 pub mod RepeatLemmas
+pub mod TurningLemmas

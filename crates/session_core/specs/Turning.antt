@@ -1,6 +1,6 @@
 -- A turn of a session: its reply, and what its history takes (own).
-use Rattle.std.specs.Prelude.{ℕ, if◌then◌else◌, List, [], ◌∷◌, ◌++◌, Option, Some}
-use Rattle.std.specs.Prelude.{None}
+use Rattle.std.specs.Prelude.{◌≡◌, ◌⊎◌, ℕ, if◌then◌else◌, List, [], ◌∷◌, ◌++◌, Option}
+use Rattle.std.specs.Prelude.{Some, None}
 use Rattle.gate_journal.specs.declared.command.Command.{Command}
 use Rattle.line_words.specs.Play.{is_long}
 use Rattle.line_words.specs.Request.{request_of}
@@ -17,6 +17,16 @@ use Rattle.session_core.specs.declared.entry.Outcome.TheVariants.{Answered, Disk
 use Rattle.session_core.specs.declared.entry.Outcome.TheVariants.{OutOfMemory, Forgotten}
 use Rattle.session_core.specs.Answer.{answer}
 use Rattle.session_core.specs.Sessions.{with_budget}
+
+-- the number of the pass that made an entry
+abbrev pub entry_by : Entry → ℕ
+entry_by (Accepted by command) = by
+entry_by (Faulted by from to) = by
+
+-- the history has nothing more, or one entry more, of this number
+abbrev pub AddsTo : List Entry → ℕ → List Entry → Type 0
+AddsTo before by after =
+    (after ≡ before) ⊎ ((e : Entry) × (after ≡ before ++ e ∷ []) × (entry_by e ≡ by))
 
 -- the commands that a history's entries accepted, oldest first
 abbrev pub commands_in : List Entry → List Command

@@ -3,8 +3,9 @@ use Rattle.std.proofs.Common.{◌≡◌, ◌⊎◌, inl, inr, ⊎_elim, ℕ, ◌
 use Rattle.std.specs.Prelude.{IsTrue}
 use Rattle.std.proofs.lemmas.List.{append-nil}
 use Rattle.disk_model.specs.Disk.{LeavesOnly, SameDisk}
-use Rattle.gate_journal.specs.Log.{MayOpen, MaySpell, next_row, rows_of}
-use Rattle.gate_journal.specs.Rows.{body, header, opened, spelled}
+use Rattle.gate_journal.specs.Log.{IsBetween, MayOpen, MaySpell, next_row, rows_of}
+use Rattle.gate_journal.proofs.SinceLemmas.{between_later, rows_of-append, same_then, spelled_grows}
+use Rattle.gate_journal.specs.Rows.{spelled}
 use Rattle.gate_journal.specs.declared.command.Command.{Command}
 use Rattle.gate_journal.specs.declared.row.Row.{Row}
 use Rattle.gate_journal.specs.declared.entry.Entry.{Entry as JournalEntry}
@@ -17,7 +18,7 @@ use Rattle.session_core.specs.declared.entry.Outcome.TheVariants.{Answered, Disk
 use Rattle.session_core.specs.Hosts.{AreMet, decision_at, histories_met, replies_met, session_on, turn_on}
 use Rattle.session_desk.specs.Turn.{added, IsCounted, MayLeave, row_for}
 use Rattle.session_desk.specs.Desks.{Answers, DesksState, histories_in}
-use Rattle.session_desk.specs.Collected.{AnswersAll, AreCounted, Chain, Collected, IsBetween, LeavesBesides}
+use Rattle.session_desk.specs.Collected.{AnswersAll, AreCounted, Chain, Collected, LeavesBesides}
 
 -- ---- the chain of faults
 
@@ -35,11 +36,6 @@ chain_of (Forgotten ∷ outcomes) before now c = subst (λ (n : ℕ). Chain n ou
 
 -- ---- how the rows grow
 
-rows_of-append : (xs ys : List JournalEntry) → rows_of (xs ++ ys) ≡ rows_of xs ++ rows_of ys
-rows_of-append [] ys = refl
-rows_of-append (Kept r ∷ xs) ys = ap (λ (x : List Row). r ∷ x) (rows_of-append xs ys)
-rows_of-append (Faulted by from to ∷ xs) ys = rows_of-append xs ys
-
 pub grown : {D : Type 0} {tells : D → Bool} {room label faults reach moment : D → ℕ} {left_since : D → ℕ → List ℕ → Type 0} {old new : DesksState D} {line : List ℕ} {reply : Reply}
     → (a : Answers tells room label faults reach moment left_since old line reply new)
     → rows_of new.log.entries ≡ rows_of old.log.entries
@@ -47,18 +43,6 @@ pub grown : {D : Type 0} {tells : D → Bool} {room label faults reach moment : 
 grown {old = old} {line = line} a =
     ap rows_of a.entries
     ∙ rows_of-append old.log.entries (added (rows_of old.log.entries) (session_on line) (decision_at old.stories old.budget (histories_in old.log.entries) line).accepted a.outcome)
-
-opened_grows : (rows more : List Row) → length (opened rows) ≤ length (opened (rows ++ more))
-opened_grows [] more = omega arith
-opened_grows (r ∷ rows) more =
-    let rest : length (opened rows) ≤ length (opened (rows ++ more)) = opened_grows rows more in
-    omega (arith, rest, length-append (body r) (opened rows), length-append (body r) (opened (rows ++ more)))
-
--- more rows are no shorter
-pub spelled_grows : (first last more : List Row) → last ≡ first ++ more → length (spelled first) ≤ length (spelled last)
-spelled_grows first last more grows =
-    subst (λ (rows : List Row). length (spelled first) ≤ length (spelled rows)) (sym grows)
-    (omega (arith, opened_grows first more, length-append header (opened first), length-append header (opened (first ++ more))))
 
 -- ---- what a stop leaves meanwhile
 
@@ -116,17 +100,6 @@ turned first last more uncertain new c grows ((inr spells), opens) = record {
   opens = subst (λ (x : List Row). MayOpen x c) (sym (append-nil first)) opens;
 }
 
--- an image from the turns up to a later row is one from those up to a last one
-longer : (first mid last more : List Row) (c : List ℕ) → last ≡ mid ++ more → IsBetween first mid c → IsBetween first last c
-longer first mid last more c grows b = record {
-  since = b.since;
-  after = b.after ++ more;
-  grows = grows ∙ ap (λ (x : List Row). x ++ more) b.grows ∙ append_assoc (first ++ b.since) b.after more;
-  one_more = b.one_more;
-  spells = b.spells;
-  opens = b.opens;
-}
-
 -- one from the turns behind a first one is one from all
 earlier : (first mid last more : List Row) (c : List ℕ) → mid ≡ first ++ more → IsBetween mid last c → IsBetween first last c
 earlier first mid last more c grows b =
@@ -158,9 +131,6 @@ collected_none tells room label faults reach moment left_since host = record {
   crash = λ told. leaves_nothing moment left_since host.log.disk (IsBetween (rows_of host.log.entries) (rows_of host.log.entries));
   within = omega arith;
 }
-
-same_then : {D : Type 0} {tells : D → Bool} {room label : D → ℕ} {a b c : D} → SameDisk tells room label a b → SameDisk tells room label b c → SameDisk tells room label a c
-same_then p q = record { telling = q.telling ∙ p.telling; size = q.size ∙ p.size; name = q.name ∙ p.name }
 
 -- one turn, and those behind it
 pub collected_more : {D : Type 0} (tells : D → Bool) (room label faults reach moment : D → ℕ) (left_since : D → ℕ → List ℕ → Type 0)
@@ -199,7 +169,7 @@ collected_more {D} tells room label faults reach moment left_since old line repl
       crash = λ told.
           besides_then
           (besides (a.crash told)
-          (λ c leaves. longer first between last rest.since c rest.grows
+          (λ c leaves. between_later first between last rest.since c rest.grows
           (turned first between more old.log.uncertain (row_for first (session_on line) (decision_at old.stories old.budget (histories_in old.log.entries) line).accepted) c (grown a) leaves)))
           (rest.crash (subst (λ (b : Bool). IsTrue b) (sym a.kept.telling) told))
           (λ c b. earlier first between last more c (grown a) b);

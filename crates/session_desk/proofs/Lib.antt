@@ -10,3 +10,6 @@ pub mod CommitLemmas
 pub mod TurnLemmas
 pub mod DesksLemmas
 pub mod CollectLemmas
+pub mod MarkLemmas
+pub mod SharedLemmas
+pub mod SharedTurnLemmas

@@ -1,8 +1,8 @@
 -- Lines that the desks of a host answer, one after the other (own).
 use Rattle.std.specs.Prelude.{◌≡◌, ◌⊎◌, ℕ, ◌+◌, ◌≤◌, max, Bool, IsTrue, List, [], ◌∷◌, ◌++◌}
-use Rattle.std.specs.Prelude.{length, Option}
+use Rattle.std.specs.Prelude.{length}
 use Rattle.disk_model.specs.Disk.{Rose, SameDisk}
-use Rattle.gate_journal.specs.Log.{MayOpen, MaySpell, rows_of}
+use Rattle.gate_journal.specs.Log.{IsBetween, rows_of}
 use Rattle.gate_journal.specs.Rows.{spelled}
 use Rattle.gate_journal.specs.declared.row.Row.{Row}
 use Rattle.line_words.specs.declared.reply.Reply.{Reply}
@@ -43,17 +43,6 @@ Chain low (DiskFailed from to ∷ outcomes) high =
     (low ≤ from) × (from ≤ to) × Rose from to × Chain to outcomes high
 Chain low (OutOfMemory ∷ outcomes) high = Chain low outcomes high
 Chain low (Forgotten ∷ outcomes) high = Chain low outcomes high
-
--- An image from the time in which a journal's rows grew from the first list to the last: it spells
--- the first rows and those of the later ones that stood then, or these and one row more; and an
--- opening may meet it.
-pub record IsBetween (first last : List Row) (c : List ℕ) : Type 0 where
-  pub since : List Row
-  pub after : List Row
-  pub grows : last ≡ (first ++ since) ++ after
-  pub one_more : Option Row
-  pub spells : MaySpell (first ++ since) one_more c
-  pub opens : MayOpen (first ++ since) c
 
 -- each image that is new since the old disk has P
 pub record LeavesBesides

@@ -6,3 +6,5 @@ pub mod Laws
 pub mod Turn
 pub mod Desks
 pub mod Collected
+pub mod Marks
+pub mod Shared

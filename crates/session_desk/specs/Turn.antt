@@ -8,7 +8,9 @@ use Rattle.gate_journal.specs.declared.command.Command.{Command}
 use Rattle.gate_journal.specs.declared.row.Row.{Row}
 use Rattle.gate_journal.specs.declared.entry.Entry.{Entry as JournalEntry}
 use Rattle.gate_journal.specs.declared.entry.Entry.TheVariants.{Kept, Faulted}
+use Rattle.line_words.specs.declared.reply.No.TheVariants.{NoMemory}
 use Rattle.line_words.specs.declared.reply.Reply.{Reply}
+use Rattle.line_words.specs.declared.reply.Reply.TheVariants.{No}
 use Rattle.session_core.specs.declared.decision.Decision.{Decision}
 use Rattle.session_core.specs.declared.entry.Entry.{Entry}
 use Rattle.session_core.specs.declared.entry.Entry.TheVariants as entries
@@ -16,6 +18,7 @@ use Rattle.session_core.specs.declared.entry.Outcome.{Outcome}
 use Rattle.session_core.specs.declared.entry.Outcome.TheVariants.{Answered, DiskFailed}
 use Rattle.session_core.specs.declared.entry.Outcome.TheVariants.{OutOfMemory, Forgotten}
 use Rattle.session_core.specs.Turning.{MayMeet, turn_met}
+use Rattle.session_desk.specs.declared.turned.Turned.{Turned}
 use Rattle.session_desk.specs.Desk.{DeskState}
 
 -- the history of a session in a journal: its rows, and the faults of the disk in its appends; one
@@ -95,3 +98,20 @@ pub record IsSameSession (old new : DeskState) : Type 0 where
   pub session : new.session ≡ old.session
   pub stories : new.stories ≡ old.stories
   pub budget : new.budget ≡ old.budget
+
+-- a turn in which memory ran out before anything was written
+abbrev pub out_of_memory : Turned
+out_of_memory = record { reply = No NoMemory; outcome = OutOfMemory }
+
+-- a turn that makes the session accept nothing: the session decides so, or memory ran out
+abbrev pub IsQuiet : Decision → Turned → Type 0
+IsQuiet decision turned =
+    (turned ≡ out_of_memory)
+    ⊎ ((decision ≡ record { reply = turned.reply; accepted = None })
+    × (turned.outcome ≡ Answered))
+
+-- the turn of a command that was kept: its show, or memory ran out before that could be given
+abbrev pub IsShown : Reply → Turned → Type 0
+IsShown show turned =
+    (turned ≡ record { reply = show; outcome = Answered })
+    ⊎ (turned ≡ record { reply = No NoMemory; outcome = Forgotten })

@@ -63,7 +63,8 @@ pub fn write_down<D: Disk>(
         (λ _. rows_of journal.new.entries ≡ rows_of journal.old.entries
         ++ next_row (rows_of journal.old.entries) session command.now ∷ [])
         (λ _. rows_of journal.new.entries ≡ rows_of journal.old.entries) }
-    ensures kept { SameDisk D.tells D.room D.label journal.old.disk journal.new.disk }
+    ensures kept { SameDisk D.tells D.room D.label journal.old.disk journal.new.disk
+        × (journal.new.opening ≡ journal.old.opening) }
     ensures crash { WhereBegun result
         (Stops D.tells D.moment D.left_since session command.now journal.old journal.new) }
     ensures certain { OnOk result (journal.new.uncertain ≡ None) }

@@ -114,6 +114,13 @@ impl<'i> Desk<'i> {
         Ok(())
     }
 
+    /// How many commands the session accepted.
+    pub(crate) fn len(&self) -> usize
+        ensures { result ≡ length self.now.commands }
+    {
+        self.commands.len()
+    }
+
     /// The budget of a turn, in ticks, with which the session is to be opened.
     pub fn budget(&self) -> u64
         ensures value { result ≡ self.now.budget }
@@ -180,7 +187,8 @@ impl<'i> Desk<'i> {
         ensures cause { IfErr result (λ why.
             Leaves D.faults self.old.session journal.old journal.new why) }
         ensures rows { IsKept self.new journal.new }
-        ensures kept { SameDisk D.tells D.room D.label journal.old.disk journal.new.disk }
+        ensures kept { SameDisk D.tells D.room D.label journal.old.disk journal.new.disk
+            × (journal.new.opening ≡ journal.old.opening) }
         ensures crash { (command : Command)
             → command_of self.old.stories request.now ≡ Some command
             → WhereBegun result (Stops D.tells D.moment D.left_since self.old.session command

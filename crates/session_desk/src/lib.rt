@@ -11,7 +11,9 @@ mod held;
 mod laws;
 mod refused;
 mod rows;
+mod shared;
 mod turn;
+mod turned;
 mod verdict;
 mod wanted;
 
@@ -22,4 +24,6 @@ pub use laws::{
     stays_warm,
 };
 pub use refused::Refused;
+pub use shared::SharedDesk;
+pub use turned::Turned;
 pub use verdict::Verdict;

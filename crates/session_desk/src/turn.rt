@@ -1,6 +1,6 @@
 //! A turn of one desk over a journal (own).
 
-ghost use Rattle.std.specs.Prelude.{◌≡◌, ◌≢◌, IfOk, IsTrue, Option, false};
+ghost use Rattle.std.specs.Prelude.{◌≡◌, ◌≢◌, IfOk, IsTrue, MatchOption, Option, false};
 ghost use Rattle.disk_model.specs.Disk.{LeavesOnly};
 ghost use Rattle.gate_journal.specs.Log.{rows_of};
 ghost use Rattle.gate_journal.specs.declared.row.Row.{Row};
@@ -8,18 +8,20 @@ ghost use Rattle.session_desk.specs.Commit.{IsInRange, IsKept};
 ghost use Rattle.session_core.specs.History.{last_of};
 ghost use Rattle.session_desk.specs.Desk.{game, is_cold, is_to_run, shown_to, warmed};
 ghost use Rattle.session_desk.specs.Laws.{answered};
-ghost use Rattle.session_desk.specs.Turn.{IsSameDesk, IsSameSession, MayLeave, TurnsBy};
+ghost use Rattle.session_desk.specs.Turn.{IsQuiet, IsSameDesk, IsSameSession, IsShown, MayLeave};
+ghost use Rattle.session_desk.specs.Turn.{out_of_memory, TurnsBy};
 ghost use Rattle.session_desk.specs.Verdict.{verdict};
 ghost use Rattle.session_desk.specs.declared.verdict.Verdict.TheVariants.{Cold, Fresh};
 
 use crate::desk::Desk;
 use crate::laws::{refuses_alike, shows_again, shows_fresh, stays_warm};
 use crate::refused::Refused;
+use crate::turned::Turned;
 use crate::verdict::Verdict;
 use disk_model::Disk;
 use gate_journal::{DiskFault, Journal};
 use line_words::{No, Reply, Request};
-use session_core::session_of;
+use session_core::{Outcome, session_of};
 use std::alloc::{AllocError, Global};
 use std::marker::Brand;
 use std::sync::ledger::{Blank, Ledger};
@@ -88,6 +90,66 @@ fn run_and_show(alloc: Global, desk: &mut Desk<'_>, request: &Request) -> Result
     show(alloc, desk, request)
 }
 
+/// The turn in which memory ran out before anything was written.
+pub fn out_of_memory() -> Turned
+    ensures { result ≡ out_of_memory }
+{
+    Turned {
+        reply: Reply::No(No::NoMemory),
+        outcome: Outcome::OutOfMemory,
+    }
+}
+
+/// The turn of a request that makes the session accept nothing, or of one for which there is no
+/// memory; None where the request is fresh. A cold desk is made warm where the answer needs its
+/// world.
+pub fn unless_fresh(alloc: Global, desk: &mut Desk<'_>, request: &Request) -> Option<Turned>
+    ensures value { MatchOption result (verdict desk.new request.now ≡ Fresh)
+        (IsQuiet (answered desk.old request.now)) }
+    ensures kept { IsSameDesk desk.old desk.new }
+{
+    refuses_alike();
+    shows_again();
+    stays_warm();
+    let Ok(said) = prepare::<Brand>(alloc, desk, request, Blank::new(1)) else {
+        return Some(out_of_memory());
+    };
+    match said {
+        Verdict::Refuse(why) => Some(Turned {
+            reply: Reply::No(why),
+            outcome: Outcome::Answered,
+        }),
+        Verdict::Again => match show(alloc, desk, request) {
+            Ok(reply) => Some(Turned {
+                reply,
+                outcome: Outcome::Answered,
+            }),
+            Err(_) => Some(out_of_memory()),
+        },
+        Verdict::Fresh => None,
+        Verdict::Cold => unreachable!(),
+    }
+}
+
+/// The turn of a request whose command was just committed: it is run, and then shown.
+pub fn shown_after(alloc: Global, desk: &mut Desk<'_>, request: &Request) -> Turned
+    requires runs { IsTrue (is_to_run desk.old.held (last_of (game desk.old))) }
+    requires warm { is_cold (warmed desk.old) ≡ false }
+    ensures value { IsShown (shown_to desk.old request.now) result }
+    ensures kept { IsSameDesk desk.old desk.new }
+{
+    match run_and_show(alloc, desk, request) {
+        Ok(reply) => Turned {
+            reply,
+            outcome: Outcome::Answered,
+        },
+        Err(_) => Turned {
+            reply: Reply::No(No::NoMemory),
+            outcome: Outcome::Forgotten,
+        },
+    }
+}
+
 /// A fresh request: its command is committed, and then its turn is made and shown.
 fn accept<D: Disk>(
     alloc: Global,
@@ -107,15 +169,9 @@ fn accept<D: Disk>(
     shows_fresh();
     stays_warm();
     match desk.commit(alloc, 0, journal, request) {
-        Ok(()) => {}
-        Err(Refused::DiskFault(DiskFault { from, to })) => {
-            return Reply::No(No::DiskFault { from, to });
-        }
-        Err(Refused::NoMemory) => return Reply::No(No::NoMemory),
-    }
-    match run_and_show(alloc, desk, request) {
-        Ok(reply) => reply,
-        Err(_) => Reply::No(No::NoMemory),
+        Ok(()) => shown_after(alloc, desk, request).reply,
+        Err(Refused::DiskFault(DiskFault { from, to })) => Reply::No(No::DiskFault { from, to }),
+        Err(Refused::NoMemory) => Reply::No(No::NoMemory),
     }
 }
 
@@ -135,19 +191,8 @@ pub fn answer_at<D: Disk>(
     ensures kept { IsSameSession desk.old desk.new }
 {
     rests(journal);
-    refuses_alike();
-    shows_again();
-    stays_warm();
-    let Ok(said) = prepare::<Brand>(alloc, desk, request, Blank::new(1)) else {
-        return Reply::No(No::NoMemory);
-    };
-    match said {
-        Verdict::Refuse(why) => Reply::No(why),
-        Verdict::Again => match show(alloc, desk, request) {
-            Ok(reply) => reply,
-            Err(_) => Reply::No(No::NoMemory),
-        },
-        Verdict::Fresh => accept(alloc, desk, journal, request),
-        Verdict::Cold => unreachable!(),
+    match unless_fresh(alloc, desk, request) {
+        Some(turned) => turned.reply,
+        None => accept(alloc, desk, journal, request),
     }
 }

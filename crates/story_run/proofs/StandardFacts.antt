@@ -1,5 +1,5 @@
 -- Rows of the profile's tables, so that a wrong rule in the specs does not check.
-use Rattle.std.proofs.Common.{◌≡◌, ℕ, true, false, [], ◌∷◌, map, codes, refl}
+use Rattle.std.proofs.Common.{◌≡◌, true, false, [], ◌∷◌, map, codes, refl}
 use Rattle.std.specs.Fmt.{digits}
 use Rattle.vm_exec.specs.declared.machine.Machine.{Machine}
 use Rattle.glk_input.specs.declared.input.Input.TheVariants.{Line, Char, File}

@@ -1,11 +1,12 @@
 -- What turns keep to (own).
 use Rattle.std.specs.Prelude.{◌≡◌, ◌≢◌, ℕ, ◌+◌, ◌<◌, List, true, false}
 use Rattle.glk_input.specs.declared.input.Input.{Input}
-use Rattle.story_run.specs.Solo.{is_over, is_wanted, turned}
+use Rattle.story_run.specs.Solo.{is_over, is_wanted, opening, turned}
 use Rattle.story_run.specs.Step.{Running}
 use Rattle.story_run.specs.Turn.{rest, steps}
-use Rattle.story_run.specs.World.{WorldState}
+use Rattle.story_run.specs.World.{StandsAt, WorldState}
 use Rattle.glk_dispatch.specs.declared.glk.Glk.{Glk}
+use Rattle.story_run.specs.declared.setup.Setup.{Setup}
 use Rattle.story_run.specs.declared.stage.Stage.{Stage}
 use Rattle.story_run.specs.declared.stage.Stage.TheVariants.{Fault}
 
@@ -31,3 +32,11 @@ OverWantsNothing =
 abbrev pub UnwantedLeaves : Type 0
 UnwantedLeaves =
     (w : WorldState) (input : Input) → is_wanted w input ≡ false → turned w input ≡ w
+
+-- Glk states stay valid: the opening makes one that waits with what the story waits for, and each
+-- turn makes such a one of such a one
+pub record GlkStaysValid : Type 0 where
+  pub opened : (image : List ℕ) (setup : Setup)
+      → StandsAt (opening image setup).stage (opening image setup).glk
+  pub turned : (w : WorldState) (input : Input) → StandsAt w.stage w.glk
+      → StandsAt (turned w input).stage (turned w input).glk

@@ -15,9 +15,10 @@ use Rattle.story_run.specs.declared.stage.Stage.{Stage}
 use Rattle.story_run.specs.declared.stage.Stage.TheVariants.{AtSelect, AtPrompt, Quit, Fault}
 
 -- a turn has come to rest: its show is made, and then the next may begin
-abbrev pub rested : List ℕ → ℕ → Glk × Stage → WorldState
-rested image budget x = record {
+abbrev pub rested : List ℕ → ℕ → ℕ → Glk × Stage → WorldState
+rested image seed budget x = record {
   image = image;
+  seed = seed;
   budget = budget;
   glk = turn_begun x.0;
   stage = x.1;
@@ -27,7 +28,7 @@ rested image budget x = record {
 -- the world after the opening turn of the story with this image
 unfoldable pub opening : List ℕ → Setup → WorldState
 opening image setup =
-    rested image setup.budget
+    rested image setup.seed setup.budget
     (begun image setup.budget (fresh setup.cols setup.rows) (started image setup.seed))
 
 -- the name of a file
@@ -50,9 +51,9 @@ is_wanted w input = wants w.stage w.glk.requests input
 -- the world after a turn on this input, which the story waits for
 abbrev pub answered : WorldState → Stage → Input → WorldState
 answered w (AtSelect m) input =
-    rested w.image w.budget (turn_on w.image w.budget w.glk m input)
+    rested w.image w.seed w.budget (turn_on w.image w.budget w.glk m input)
 answered w (AtPrompt m) input =
-    rested w.image w.budget (turn_on w.image w.budget w.glk m input)
+    rested w.image w.seed w.budget (turn_on w.image w.budget w.glk m input)
 answered w Quit input = w
 answered w (Fault n) input = w
 

@@ -3,6 +3,8 @@ use Rattle.std.specs.Prelude.{ℕ, List}
 use Rattle.vm_exec.specs.Machine.{IsFit, IsSound}
 use Rattle.vm_exec.specs.Start.{IsOver}
 use Rattle.vm_exec.specs.declared.machine.Machine.{Machine}
+use Rattle.glk_dispatch.specs.Valid.{IsValid, Stands}
+use Rattle.glk_dispatch.specs.declared.called.Called.TheVariants as call
 use Rattle.glk_dispatch.specs.declared.glk.Glk.{Glk}
 use Rattle.story_run.specs.declared.stage.Stage.{Stage}
 use Rattle.story_run.specs.declared.stage.Stage.TheVariants.{AtSelect, AtPrompt, Quit, Fault}
@@ -10,10 +12,11 @@ use Rattle.story_run.specs.declared.world.Held.{Held}
 use Rattle.story_run.specs.declared.step.Progress.{Progress}
 use Rattle.story_run.specs.declared.step.Progress.TheVariants.{Runs, Waits, Prompts, Quits}
 
--- the image, the budget of a turn, the Glk state, the story that waits or how it ended, and the
--- last show
+-- the image, the seed with which the story began, the budget of a turn, the Glk state, the story
+-- that waits or how it ended, and the last show
 pub record WorldState : Type 0 where
   pub image : List ℕ
+  pub seed : ℕ
   pub budget : ℕ
   pub glk : Glk
   pub stage : Stage
@@ -23,6 +26,7 @@ pub record WorldState : Type 0 where
 abbrev pub state_of : Held → WorldState
 state_of h = record {
   image = h.image;
+  seed = h.seed;
   budget = h.budget;
   glk = h.glk;
   stage = h.stage;
@@ -52,3 +56,15 @@ StaysOver image m (Runs left) = IsRunning image m
 StaysOver image m Waits = IsWaiting image m
 StaysOver image m Prompts = IsWaiting image m
 StaysOver image m Quits = Unit {0}
+
+-- the Glk state is valid, and waits with what the story waits for
+abbrev pub StandsAt : Stage → Glk → Type 0
+StandsAt (AtSelect m) g = Stands call.Wait g
+StandsAt (AtPrompt m) g = Stands call.Prompt g
+StandsAt Quit g = Stands call.Exit g
+StandsAt (Fault n) g = IsValid g
+
+-- a world as turns make it
+pub record IsValidWorld (w : WorldState) : Type 0 where
+  pub machine : IsStageOf w.image w.stage
+  pub glk : StandsAt w.stage w.glk

@@ -1,6 +1,7 @@
 //! Laws of turns.
 
-ghost use Rattle.story_run.specs.Laws.{BudgetsOnlyEnd, OverWantsNothing, TurnsEnd, UnwantedLeaves};
+ghost use Rattle.story_run.specs.Laws.{BudgetsOnlyEnd, GlkStaysValid, OverWantsNothing};
+ghost use Rattle.story_run.specs.Laws.{TurnsEnd, UnwantedLeaves};
 
 /// A turn ends within its budget: each of its steps takes a tick at least.
 pub fn turns_end()
@@ -20,4 +21,9 @@ pub fn over_wants_nothing()
 /// An input that isn't wanted leaves the world as it is.
 pub fn unwanted_leaves()
     ensures { UnwantedLeaves }
+{}
+
+/// The Glk state stays valid through each turn, and waits with what the story waits for.
+pub fn glk_stays_valid()
+    ensures { GlkStaysValid }
 {}

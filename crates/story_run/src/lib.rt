@@ -12,7 +12,7 @@ mod story;
 mod turn;
 mod world;
 
-pub use laws::{budgets_only_end, over_wants_nothing, turns_end, unwanted_leaves};
+pub use laws::{budgets_only_end, glk_stays_valid, over_wants_nothing, turns_end, unwanted_leaves};
 pub use setup::Setup;
 pub use steps::Steps;
 pub use story::Story;

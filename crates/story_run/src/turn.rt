@@ -2,9 +2,10 @@
 
 ghost use Rattle.std.specs.Prelude.{◌≡◌, ℕ, List, IfOk, OnOk, true};
 ghost use Rattle.glk_dispatch.specs.Events.{is_awaited};
+ghost use Rattle.glk_dispatch.specs.Valid.{IsReady, IsValid};
 ghost use Rattle.story_run.specs.Step.{running};
 ghost use Rattle.story_run.specs.Turn.{Resumes, Stops, begun, delivered, rest, turn_on};
-ghost use Rattle.story_run.specs.World.{IsRunning, IsStageOf, IsWaiting};
+ghost use Rattle.story_run.specs.World.{IsRunning, IsStageOf, IsWaiting, StandsAt};
 ghost use Rattle.vm_exec.specs.Start.{started};
 
 use crate::stage::Stage;
@@ -60,9 +61,11 @@ pub(crate) fn begin<'i>(
     seed: u64,
     budget: u64,
 ) -> Result<Stage<'i>, AllocError>
+    requires { IsReady glk.old }
     ensures value { IfOk result (λ stage. (glk.new, stage)
         ≡ begun image.now budget glk.old (started image.now seed)) }
     ensures kept { IfOk result (λ stage. IsStageOf image.now stage) }
+    ensures stands { IfOk result (λ stage. StandsAt stage glk.new) }
 {
     match Machine::start(alloc, image, seed) {
         Ok(machine) => run(alloc, glk, image, machine, budget),
@@ -98,9 +101,11 @@ pub(crate) fn resume<'i>(
 ) -> Result<Stage<'i>, AllocError>
     requires waits { IsWaiting image.now machine }
     requires awaited { is_awaited glk.old.requests input.now ≡ true }
+    requires valid { IsValid glk.old }
     ensures value { IfOk result (λ stage. (glk.new, stage)
         ≡ turn_on image.now budget glk.old machine.entry input.now) }
     ensures kept { IfOk result (λ stage. IsStageOf image.now stage) }
+    ensures stands { IfOk result (λ stage. StandsAt stage glk.new) }
 {
     match deliver(alloc, glk, image, &mut machine, input) {
         Ok(()) => run(alloc, glk, image, machine, budget),

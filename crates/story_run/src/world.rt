@@ -2,7 +2,7 @@
 
 ghost use Rattle.std.specs.Prelude.{◌≡◌, ◌+◌, true, IfOk};
 ghost use Rattle.story_run.specs.Solo.{is_over, is_wanted, opening, rested, shown, turned};
-ghost use Rattle.story_run.specs.World.{IsStageOf, state_of};
+ghost use Rattle.story_run.specs.World.{IsStageOf, IsValidWorld, StandsAt, state_of};
 
 use crate::ends::lines_of;
 use crate::stage::Stage;
@@ -17,7 +17,8 @@ use std::sync::ledger::Ledger;
 use story_text::Bytes;
 
 /// A story that waits for its player or is over, with the show of its last turn, seen by contracts
-/// as a record. Where it waits its machine is fit and lies over its image.
+/// as a record. Where it waits its machine is fit and lies over its image; its Glk state is valid,
+/// and waits with what the story waits for.
 #[derive(Drop)]
 pub struct World<'i> {
     held: Box<Held<'i>>,
@@ -27,6 +28,7 @@ pub struct World<'i> {
 #[derive(Drop)]
 pub(crate) struct Held<'i> {
     image: Image<'i>,
+    seed: u64,
     budget: u64,
     glk: Glk,
     stage: Stage<'i>,
@@ -34,13 +36,13 @@ pub(crate) struct Held<'i> {
 }
 
 impl<'i> Model for World<'i> {
-    ghost use Rattle.story_run.specs.World.{IsStageOf, WorldState, state_of};
+    ghost use Rattle.story_run.specs.World.{IsValidWorld, WorldState, state_of};
 
     ghost Value = { WorldState };
 
     ghost view = { λ w. state_of w.held.value };
 
-    ghost invariant = { λ w. IsStageOf w.held.value.image w.held.value.stage };
+    ghost invariant = { λ w. IsValidWorld (state_of w.held.value) };
 }
 
 impl<'i> World<'i> {
@@ -51,7 +53,8 @@ impl<'i> World<'i> {
     {
         let mut glk = Glk::new(alloc, setup.cols, setup.rows)?;
         let stage = begin(alloc, &mut glk, &story.image, setup.seed, setup.budget)?;
-        rest(alloc, story.image.lend(), setup.budget, glk, stage)
+        let image = story.image.lend();
+        rest(alloc, image, setup.seed, setup.budget, glk, stage)
     }
 
     /// Whether the story waits for this input: what a window asks for, or at a prompt the name of a
@@ -83,6 +86,7 @@ impl<'i> World<'i> {
         steps.tick();
         let Held {
             image,
+            seed,
             budget,
             mut glk,
             stage,
@@ -91,12 +95,13 @@ impl<'i> World<'i> {
         match stage {
             Stage::AtSelect(machine) | Stage::AtPrompt(machine) => {
                 let stage = resume(alloc, &mut glk, &image, machine, input, budget)?;
-                rest(alloc, image, budget, glk, stage)
+                rest(alloc, image, seed, budget, glk, stage)
             }
             stage => hold(
                 alloc,
                 Held {
                     image,
+                    seed,
                     budget,
                     glk,
                     stage,
@@ -106,10 +111,11 @@ impl<'i> World<'i> {
         }
     }
 
-    /// Whether the story is over: it quit or met a fault.
+    /// Whether the story is over: it quit or met a fault. The world is valid then and before.
     #[tactic(auto, unfolding(crate::specs::Solo::is_over))]
     pub fn is_over(&self) -> bool
         ensures value { result ≡ is_over self.now }
+        ensures valid { IsValidWorld self.now }
     {
         matches!(self.held.stage, Stage::Quit | Stage::Fault(_))
     }
@@ -127,12 +133,14 @@ impl<'i> World<'i> {
 fn rest<'i>(
     alloc: Global,
     image: Image<'i>,
+    seed: u64,
     budget: u64,
     mut glk: Glk,
     stage: Stage<'i>,
 ) -> Result<World<'i>, AllocError>
-    requires { IsStageOf image stage }
-    ensures { IfOk result (λ world. world ≡ rested image.entry budget (glk, stage.entry)) }
+    requires machine { IsStageOf image stage }
+    requires glk { StandsAt stage glk }
+    ensures { IfOk result (λ world. world ≡ rested image.entry seed budget (glk, stage.entry)) }
 {
     let last = Bytes::of(lines_of(alloc, &glk, &stage)?);
     glk.begin_turn();
@@ -140,6 +148,7 @@ fn rest<'i>(
         alloc,
         Held {
             image,
+            seed,
             budget,
             glk,
             stage,
@@ -150,7 +159,7 @@ fn rest<'i>(
 
 // The world that holds this.
 fn hold<'i>(alloc: Global, held: Held<'i>) -> Result<World<'i>, AllocError>
-    requires { IsStageOf held.image held.stage }
+    requires { IsValidWorld (state_of held) }
     ensures { IfOk result (λ world. world ≡ state_of held.entry) }
 {
     Ok(World {

@@ -6,10 +6,10 @@ use Rattle.disk_model.specs.Disk.{SameDisk}
 use Rattle.storyhost.specs.Borrowed.{Borrowed, NotLent}
 use Rattle.storyhost.specs.Files.{OutsideState, KeepsDisks, IsLent, IsLentFrom, Lends, RisesWith, TakesBack, Told, Untold, Missing, There, told_now, returned}
 use Rattle.storyhost.specs.DiskWords.{DiskWords}
-use Rattle.storyhost.specs.Streams.{SourceState, SinkState}
+use Rattle.line_talk.specs.Streams.{SourceState, SinkState}
 use Rattle.storyhost.specs.declared.loan.Loan.{Loan}
 use Rattle.storyhost.specs.declared.status.Status.TheVariants.{NoMemory}
-use Rattle.storyhost.proofs.StreamsLemmas.{gave_none, wrote_none}
+use Rattle.line_talk.proofs.StreamsLemmas.{gave_none, wrote_none}
 
 -- what is told of a name is the last that stands there
 told_last : {X : Type 0} (b : Bool) (was last : Told X) → cond b (told_now (cond b (told_now was Missing) was) last) (cond b (told_now was Missing) was) ≡ cond b (told_now was last) was

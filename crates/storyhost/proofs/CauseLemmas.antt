@@ -7,7 +7,7 @@ use Rattle.gate_journal.specs.declared.fault.JournalFault.{JournalFault}
 use Rattle.gate_journal.specs.declared.fault.JournalFault.TheVariants as fault
 use Rattle.story_run.specs.declared.story.Story.{Story}
 use Rattle.storyhost.specs.Begun.{InitsOver, SaysRefusal}
-use Rattle.storyhost.specs.Causes.{Rose}
+use Rattle.line_talk.specs.Causes.{Rose}
 use Rattle.storyhost.specs.DiskWords.{DiskWords}
 use Rattle.storyhost.specs.Files.{OutsideState}
 use Rattle.storyhost.specs.Follows.{Does, Follows}
@@ -15,12 +15,12 @@ use Rattle.storyhost.specs.Piped.{PipesOver}
 use Rattle.storyhost.specs.Said.{SaysFault, SaysLine}
 use Rattle.storyhost.specs.Speech.{Task, Says, Serves, Begins}
 use Rattle.storyhost.specs.Status.{status_of, status_of_end, status_of_stop}
-use Rattle.storyhost.specs.Streams.{SourceState, SinkState, Wrote}
+use Rattle.line_talk.specs.Streams.{SourceState, SinkState, Wrote}
 use Rattle.storyhost.specs.Words.{Asked}
-use Rattle.storyhost.specs.declared.ended.Ended.{Ended}
-use Rattle.storyhost.specs.declared.ended.Ended.TheVariants as ended
-use Rattle.storyhost.specs.declared.sink.Stop.{Stop}
-use Rattle.storyhost.specs.declared.sink.Stop.TheVariants as stop
+use Rattle.line_talk.specs.declared.ended.Ended.{Ended}
+use Rattle.line_talk.specs.declared.ended.Ended.TheVariants as ended
+use Rattle.line_talk.specs.declared.sink.Stop.{Stop}
+use Rattle.line_talk.specs.declared.sink.Stop.TheVariants as stop
 use Rattle.storyhost.specs.declared.status.Status.{Status}
 use Rattle.storyhost.specs.declared.status.Status.TheVariants.{Done, BadWords, ReadFault, WriteFault, DiskFault, BadFolder}
 

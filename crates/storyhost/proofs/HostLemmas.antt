@@ -1,7 +1,8 @@
 -- Turns of a host, collected by what they met.
 use Rattle.std.proofs.Common.{◌≡◌, inl, inr, ◌⊎◌, ℕ, ◌+◌, ◌≤◌, max, length, List, [], ◌∷◌, ◌++◌, map, refl, sym, ap, ◌∙◌, subst, arith, Bool, true, false, Some, None, IsTrue}
 use Rattle.disk_model.specs.Disk.{EachImage, LeavesOnly, SameDisk}
-use Rattle.gate_journal.specs.Log.{Log, MayOpen, MaySpell, ReachesGate, kept, rows_of}
+use Rattle.gate_journal.specs.Log.{IsBetween, Log, MayOpen, MaySpell, ReachesGate, kept, rows_of}
+use Rattle.gate_journal.proofs.SinceLemmas.{spelled_grows}
 use Rattle.gate_journal.specs.Rows.{SpellsRows, IsJournal, spelled}
 use Rattle.gate_journal.specs.declared.row.Row.{Row}
 use Rattle.line_words.specs.Play.{is_long}
@@ -15,23 +16,23 @@ use Rattle.session_core.specs.Turning.{MayMeet, commands_in, decision_on, turn_o
 use Rattle.session_core.specs.declared.decision.Decision.{Decision}
 use Rattle.session_core.specs.declared.entry.Entry.{Entry}
 use Rattle.session_core.specs.declared.entry.Outcome.TheVariants.{Answered}
-use Rattle.session_desk.specs.Collected.{Collected, IsBetween}
+use Rattle.session_desk.specs.Collected.{Collected}
 use Rattle.session_desk.specs.Desks.{DesksState, histories_in}
-use Rattle.session_desk.proofs.CollectLemmas.{chain_of, collected_none, collected_more, leaves_then, spelled_grows}
+use Rattle.session_desk.proofs.CollectLemmas.{chain_of, collected_none, collected_more, leaves_then}
 use Rattle.session_desk.proofs.HistoryLemmas.{commands_in-histories, histories_in-set}
 use Rattle.story_run.specs.declared.story.Story.{Story}
-use Rattle.storyhost.specs.Conversation.{Line, Turns, Answered as AnsweredLines, BreaksLast, joined}
+use Rattle.line_talk.specs.Conversation.{Line, Turns, Answered as AnsweredLines, BreaksLast, joined}
 use Rattle.storyhost.specs.DiskWords.{DiskWords}
 use Rattle.storyhost.specs.HostTurns.{Replies, HostTurn}
-use Rattle.storyhost.specs.Lines.{heard}
+use Rattle.line_talk.specs.Lines.{heard}
 use Rattle.storyhost.specs.Piped.{Conversed, IsCutText, WritesReplies, histories_of}
-use Rattle.storyhost.specs.Streams.{SourceState, SinkState, Wrote}
-use Rattle.storyhost.specs.Talked.{Talked, Converses}
-use Rattle.storyhost.specs.declared.ended.Ended.{Ended}
-use Rattle.storyhost.specs.declared.ended.Ended.TheVariants.{Done, ReadFault, WriteFault, NoMemory, LineLimit}
-use Rattle.storyhost.specs.declared.sink.Stop.{Stop}
-use Rattle.storyhost.proofs.StreamsLemmas.{wrote_then}
-use Rattle.storyhost.proofs.TurnLemmas.{turns_then}
+use Rattle.line_talk.specs.Streams.{SourceState, SinkState, Wrote}
+use Rattle.line_talk.specs.Talked.{Talked, Converses}
+use Rattle.line_talk.specs.declared.ended.Ended.{Ended}
+use Rattle.line_talk.specs.declared.ended.Ended.TheVariants.{Done, ReadFault, WriteFault, NoMemory, LineLimit}
+use Rattle.line_talk.specs.declared.sink.Stop.{Stop}
+use Rattle.line_talk.proofs.StreamsLemmas.{wrote_then}
+use Rattle.line_talk.proofs.TurnLemmas.{turns_then}
 
 -- ---- a line that was dropped is a turn that changes nothing
 

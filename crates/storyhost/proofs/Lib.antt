@@ -1,16 +1,9 @@
-pub mod StreamsLemmas
-pub mod WritingLemmas
-pub mod HearingLemmas
-pub mod TurnLemmas
-pub mod TalkLemmas
 pub mod PlainLemmas
-pub mod LinesLemmas
 pub mod SpeechLemmas
 pub mod StoriesLemmas
 pub mod ServedLemmas
 pub mod ToldLemmas
 pub mod CauseLemmas
-pub mod MemoryLemmas
 pub mod StopLemmas
 pub mod KindsLemmas
 pub mod OutsideLemmas

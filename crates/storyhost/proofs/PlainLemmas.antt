@@ -1,19 +1,19 @@
 -- Conversations that are answered by functions of the state.
 use Rattle.std.proofs.Common.{◌≡◌, ℕ, ◌⊎◌, inl, inr, List, [], ◌∷◌, ◌++◌, map, refl, sym, ap, ◌∙◌, arith, append_assoc, cond, Option, Some, Bool, true, false}
 use Rattle.std.proofs.lemmas.List.{append-nil, map-append}
-use Rattle.storyhost.specs.declared.sink.Stop.{Stop}
-use Rattle.storyhost.specs.declared.ended.Ended.{Ended}
-use Rattle.storyhost.specs.declared.ended.Ended.TheVariants.{Done, ReadFault, WriteFault, NoMemory, LineLimit}
-use Rattle.storyhost.specs.Streams.{SourceState, SinkState, Wrote}
-use Rattle.storyhost.specs.Hearing.{heard_from, begun_after}
-use Rattle.storyhost.specs.Lines.{heard, lines, talk}
-use Rattle.storyhost.specs.Writing.{IsPartOf}
-use Rattle.storyhost.specs.Conversation.{Line, Turns, Answered, BreaksLast, joined}
-use Rattle.storyhost.specs.Talked.{Talked}
+use Rattle.line_talk.specs.declared.sink.Stop.{Stop}
+use Rattle.line_talk.specs.declared.ended.Ended.{Ended}
+use Rattle.line_talk.specs.declared.ended.Ended.TheVariants.{Done, ReadFault, WriteFault, NoMemory, LineLimit}
+use Rattle.line_talk.specs.Streams.{SourceState, SinkState, Wrote}
+use Rattle.line_talk.specs.Hearing.{heard_from, begun_after}
+use Rattle.line_talk.specs.Lines.{heard, lines, talk}
+use Rattle.line_talk.specs.Writing.{IsPartOf}
+use Rattle.line_talk.specs.Conversation.{Line, Turns, Answered, BreaksLast, joined}
+use Rattle.line_talk.specs.Talked.{Talked}
 use Rattle.storyhost.specs.Plain.{Answering, Plain, PlainReply, held_by, is_over_held, replies_heard, after_heard, replies, after, PlainLeaves, TalkedPlain}
-use Rattle.storyhost.proofs.HearingLemmas.{heard_append}
-use Rattle.storyhost.proofs.StreamsLemmas.{wrote_then}
-use Rattle.storyhost.proofs.TalkLemmas.{kept_lines}
+use Rattle.line_talk.proofs.HearingLemmas.{heard_append}
+use Rattle.line_talk.proofs.StreamsLemmas.{wrote_then}
+use Rattle.line_talk.proofs.TalkLemmas.{kept_lines}
 
 replies_going : {A : Type 0} (by : Answering A) (state : A) (line : Line) (lines : List Line) → by.is_over state ≡ false
     → replies_heard by state (line ∷ lines) ≡ by.reply state line ++ replies_heard by (by.next state line) lines
@@ -193,7 +193,7 @@ talked_plain by {old} {new} {input} {now} Done t = elim t.which [
 ]
 talked_plain by {old} ReadFault t =
     let s = said_all by t.how in
-    talked_all by t s.written s.told (s.says ∙ by_lines by old t.answered (talk t.read) [] (sym t.which ∙ sym (append-nil t.answered)))
+    talked_all by t s.written s.told (s.says ∙ by_lines by old t.answered (talk t.read) [] (sym t.which.0 ∙ sym (append-nil t.answered)))
 talked_plain by {old} WriteFault t = elim t.how [
   | inl k ↦
       let s = said_broken by (map heard t.which.0) k in

@@ -11,24 +11,24 @@ use Rattle.gate_journal.specs.Faults.{HasCause, HasInitCause}
 use Rattle.story_run.specs.declared.story.Story.{Story}
 use Rattle.storyhost.specs.Begun.{InitsOver, SaysRefusal, WritesBegun, ready, not_empty}
 use Rattle.storyhost.specs.Borrowed.{NotLent}
-use Rattle.storyhost.specs.Causes.{Rose}
+use Rattle.line_talk.specs.Causes.{Rose}
 use Rattle.storyhost.specs.DiskWords.{DiskWords}
 use Rattle.storyhost.specs.Files.{OutsideState, IsLentFrom, Told, Untold, Missing, There}
-use Rattle.storyhost.specs.Lines.{lines, talk, IsWithinLimits}
+use Rattle.line_talk.specs.Lines.{lines, talk, IsWithinLimits}
 use Rattle.storyhost.specs.Piped.{PipesOver, NotOpened}
 use Rattle.storyhost.specs.Said.{SaysFault, SaysLine, bad_journal, bad_journal_at}
 use Rattle.storyhost.specs.Served.{BytesHave, WhereTold, AnswersIn, WritesTurns, RefusesJournal, WritesServed}
 use Rattle.storyhost.specs.Status.{status_of_end, status_of_stop}
-use Rattle.storyhost.specs.Streams.{SourceState, SinkState, Wrote}
-use Rattle.storyhost.specs.Talked.{AnswersOf, AreFirst}
-use Rattle.storyhost.specs.Writing.{IsPartOf, Stopped}
-use Rattle.storyhost.specs.declared.ended.Ended.{Ended}
-use Rattle.storyhost.specs.declared.ended.Ended.TheVariants as ended
-use Rattle.storyhost.specs.declared.sink.Stop.{Stop}
-use Rattle.storyhost.specs.declared.sink.Stop.TheVariants as stop
+use Rattle.line_talk.specs.Streams.{SourceState, SinkState, Wrote}
+use Rattle.line_talk.specs.Talked.{AnswersOf, AreFirst}
+use Rattle.line_talk.specs.Writing.{IsPartOf, Stopped}
+use Rattle.line_talk.specs.declared.ended.Ended.{Ended}
+use Rattle.line_talk.specs.declared.ended.Ended.TheVariants as ended
+use Rattle.line_talk.specs.declared.sink.Stop.{Stop}
+use Rattle.line_talk.specs.declared.sink.Stop.TheVariants as stop
 use Rattle.storyhost.specs.declared.status.Status.{Status}
 use Rattle.storyhost.specs.declared.status.Status.TheVariants.{Done, ReadFault, DiskFault, NoMemory, BadFolder}
-use Rattle.storyhost.proofs.LinesLemmas.{still_reached, talk_settled, talk_first, first_then}
+use Rattle.line_talk.proofs.LinesLemmas.{still_reached, talk_settled, talk_first, first_then}
 
 -- what was read of an input that is told
 pub consumed : (old new : Option (List ℕ)) (bytes read : List ℕ) → Consumes old new read → old ≡ Some bytes → (rest : List ℕ) × (bytes ≡ read ++ rest) × (new ≡ Some rest)
@@ -54,7 +54,7 @@ answers_in ended.Done read rest now answered within left (inl end) =
     let all : read ++ rest ≡ read = ap (λ l. read ++ l) (nothing_left now.left rest end.1.at_end left) ∙ append-nil read in
     (end.0 ∙ ap lines (sym all), subst IsWithinLimits (sym all) end.1.within)
 answers_in ended.Done read rest now answered within left (inr over) = absurd (grind (arith, over.1))
-answers_in ended.ReadFault read rest now answered within left is = (read, (rest, refl), is)
+answers_in ended.ReadFault read rest now answered within left is = (read, (rest, refl), is.0)
 answers_in ended.WriteFault read rest now answered within left first = first_then answered (talk read) (talk (read ++ rest)) first (talk_first read rest within)
 answers_in ended.NoMemory read rest now answered within left first = first_then answered (talk read) (talk (read ++ rest)) first (talk_first read rest within)
 answers_in ended.LineLimit read rest now answered within left is = (is.0 ∙ sym (talk_settled read rest within is.1), still_reached read rest is.1)

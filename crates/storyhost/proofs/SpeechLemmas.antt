@@ -4,26 +4,26 @@ use Rattle.std.proofs.lemmas.List.{append-nil}
 use Rattle.story_run.specs.Solo.{is_over}
 use Rattle.story_run.specs.World.{WorldState}
 use Rattle.story_run.specs.declared.story.Story.{Story}
-use Rattle.storyhost.specs.declared.sink.Stop.{Stop}
-use Rattle.storyhost.specs.declared.sink.Stop.TheVariants as stop
+use Rattle.line_talk.specs.declared.sink.Stop.{Stop}
+use Rattle.line_talk.specs.declared.sink.Stop.TheVariants as stop
 use Rattle.storyhost.specs.declared.status.Status.TheVariants.{Done, Refused, NoMemory}
 use Rattle.storyhost.specs.Plain.{Answering, replies, after, PlainLeaves, TalkedPlain, held_by, is_over_held}
-use Rattle.storyhost.specs.declared.ended.Ended.{Ended}
-use Rattle.storyhost.specs.declared.ended.Ended.TheVariants as ended
+use Rattle.line_talk.specs.declared.ended.Ended.{Ended}
+use Rattle.line_talk.specs.declared.ended.Ended.TheVariants as ended
 use Rattle.storyhost.specs.Headline.{Speech, whole_text}
-use Rattle.storyhost.specs.Lines.{lines, talk}
+use Rattle.line_talk.specs.Lines.{lines, talk}
 use Rattle.storyhost.specs.RunText.{opened, solo, show_text}
 use Rattle.storyhost.specs.CheckText.{good_line}
 use Rattle.storyhost.specs.Speech.{said_once, run_speech, check_speech}
 use Rattle.storyhost.specs.Spoken.{Spoken, Leaves}
 use Rattle.storyhost.specs.Status.{status_of_end, status_of_stop}
-use Rattle.storyhost.specs.Streams.{SourceState, SinkState, Wrote}
-use Rattle.storyhost.specs.Writing.{IsPartOf, Stopped}
-use Rattle.storyhost.proofs.StreamsLemmas.{gave_none, wrote_none, wrote_then}
+use Rattle.line_talk.specs.Streams.{SourceState, SinkState, Wrote}
+use Rattle.line_talk.specs.Writing.{IsPartOf, Stopped}
+use Rattle.line_talk.proofs.StreamsLemmas.{gave_none, wrote_none, wrote_then}
 use Rattle.storyhost.specs.Plain.{Plain, PlainReply}
-use Rattle.storyhost.specs.Talked.{Talked}
+use Rattle.line_talk.specs.Talked.{Talked}
 use Rattle.storyhost.proofs.PlainLemmas.{replies_more, replies_settled, after_settled, talked_held}
-use Rattle.storyhost.proofs.WritingLemmas.{stopped_more}
+use Rattle.line_talk.proofs.WritingLemmas.{stopped_more}
 
 -- an opening, and then the replies to lines
 abbrev pub speech_by : {A : Type 0} → Answering A → A → List ℕ → Speech

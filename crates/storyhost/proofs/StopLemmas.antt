@@ -1,8 +1,8 @@
 -- What ended the writing of a text, as the program's status.
 use Rattle.std.proofs.Common.{◌≡◌, refl, arith}
 use Rattle.storyhost.specs.Status.{status_of_stop}
-use Rattle.storyhost.specs.declared.sink.Stop.{Stop}
-use Rattle.storyhost.specs.declared.sink.Stop.TheVariants.{Output, Memory}
+use Rattle.line_talk.specs.declared.sink.Stop.{Stop}
+use Rattle.line_talk.specs.declared.sink.Stop.TheVariants.{Output, Memory}
 use Rattle.storyhost.specs.declared.status.Status.TheVariants.{ReadFault, WriteFault}
 
 pub stop_is_no_read : (stop : Stop) (A : Type 0) → status_of_stop stop ≡ ReadFault → A

@@ -13,7 +13,7 @@ use Rattle.storyhost.specs.Files.{OutsideState, Told}
 use Rattle.storyhost.specs.Follows.{Does, Follows, Tells, WritesFor}
 use Rattle.storyhost.specs.Headline.{Speech, Writes, whole_text}
 use Rattle.storyhost.specs.Help.{help_text, version_text}
-use Rattle.storyhost.specs.Lines.{lines, talk, IsWithinLimits}
+use Rattle.line_talk.specs.Lines.{lines, talk, IsWithinLimits}
 use Rattle.storyhost.specs.Begun.{WritesBegun}
 use Rattle.storyhost.specs.DiskWords.{DiskWords}
 use Rattle.storyhost.specs.Served.{WritesServed}
@@ -21,12 +21,12 @@ use Rattle.storyhost.specs.Speech.{Task, Says, Serves, Begins, tasked}
 use Rattle.storyhost.specs.Status.{status_of}
 use Rattle.storyhost.specs.Spoken.{Spoken, Leaves}
 use Rattle.storyhost.specs.Stories.{stories_of}
-use Rattle.storyhost.specs.Streams.{SourceState, SinkState, Wrote}
-use Rattle.storyhost.proofs.StreamsLemmas.{gave_none, wrote_none}
-use Rattle.storyhost.specs.Talked.{IsReadToEnd}
+use Rattle.line_talk.specs.Streams.{SourceState, SinkState, Wrote}
+use Rattle.line_talk.proofs.StreamsLemmas.{gave_none, wrote_none}
+use Rattle.line_talk.specs.Talked.{IsReadToEnd}
 use Rattle.storyhost.specs.Words.{Asked}
-use Rattle.storyhost.specs.Writing.{IsPartOf}
-use Rattle.storyhost.proofs.LinesLemmas.{still_reached, talk_settled, talk_first}
+use Rattle.line_talk.specs.Writing.{IsPartOf}
+use Rattle.line_talk.proofs.LinesLemmas.{still_reached, talk_settled, talk_first}
 use Rattle.storyhost.proofs.ServedLemmas.{WroteSome, consumed, nothing_left, pipe_told, init_told, not_lent_served, not_lent_begun, not_loaded_served, not_loaded_begun}
 use Rattle.storyhost.proofs.BorrowLemmas.{keeps_none, not_lent}
 use Rattle.storyhost.proofs.SpeechLemmas.{spoken_nothing, IsSteady, steady_once, steady_run, steady_check}

@@ -10,8 +10,8 @@ use Rattle.storyhost.specs.DiskWords.{DiskWords}
 use Rattle.storyhost.specs.Files.{Told}
 use Rattle.storyhost.specs.Said.{SaysLine}
 use Rattle.storyhost.specs.Served.{WhereTold}
-use Rattle.storyhost.specs.Streams.{SourceState, SinkState, Gave, Wrote}
-use Rattle.storyhost.specs.Writing.{IsPartOf}
+use Rattle.line_talk.specs.Streams.{SourceState, SinkState, Gave, Wrote}
+use Rattle.line_talk.specs.Writing.{IsPartOf}
 use Rattle.storyhost.specs.declared.status.Status.{Status}
 use Rattle.storyhost.specs.declared.status.Status.TheVariants as ends
 

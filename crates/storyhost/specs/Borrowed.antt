@@ -3,11 +3,11 @@ use Rattle.std.specs.Prelude.{◌≡◌, ◌⊎◌, ℕ, IsTrue, List, [], ◌++
 use Rattle.std.specs.Map.{update}
 use Rattle.std.specs.Str.{bytes_eq}
 use Rattle.disk_model.specs.Disk.{SameDisk}
-use Rattle.storyhost.specs.Causes.{Rose}
+use Rattle.line_talk.specs.Causes.{Rose}
 use Rattle.storyhost.specs.Files.{OutsideState, HasOwnLabel, IsLentFrom, RisesWith, There}
 use Rattle.storyhost.specs.Files.{told_at}
 use Rattle.storyhost.specs.DiskWords.{DiskWords}
-use Rattle.storyhost.specs.Streams.{SourceState, SinkState, Gave, Wrote}
+use Rattle.line_talk.specs.Streams.{SourceState, SinkState, Gave, Wrote}
 use Rattle.storyhost.specs.declared.status.Status.{Status}
 use Rattle.storyhost.specs.declared.status.Status.TheVariants.{DiskFault, NoMemory}
 

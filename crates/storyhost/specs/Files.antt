@@ -5,7 +5,7 @@ use Rattle.std.specs.Prelude.{Ok, Err}
 use Rattle.std.specs.Map.{update}
 use Rattle.std.specs.Str.{bytes_eq}
 use Rattle.disk_model.specs.Disk.{NoneNew, Only}
-use Rattle.storyhost.specs.Causes.{Rose}
+use Rattle.line_talk.specs.Causes.{Rose}
 use Rattle.storyhost.specs.declared.loan.Loan.{Loan}
 use Rattle.storyhost.specs.declared.outside.Fetch.{Fetch}
 use Rattle.storyhost.specs.declared.outside.Fetch.TheVariants.{Failed, NoMemory}

@@ -2,7 +2,7 @@
 use Rattle.std.specs.Prelude.{◌≡◌, ℕ, ◌⊎◌, List, [], ◌++◌, map, take, Some, Result, Ok, Err}
 use Rattle.storyhost.specs.Begun.{InitsOver, WritesBegun}
 use Rattle.storyhost.specs.Borrowed.{UsesDisk, journal_in}
-use Rattle.storyhost.specs.Causes.{Rose}
+use Rattle.line_talk.specs.Causes.{Rose}
 use Rattle.storyhost.specs.Files.{OutsideState, KeepsDisks, Told, There}
 use Rattle.storyhost.specs.Headline.{Writes}
 use Rattle.storyhost.specs.DiskWords.{DiskWords}
@@ -11,7 +11,7 @@ use Rattle.storyhost.specs.Served.{WritesServed}
 use Rattle.storyhost.specs.Speech.{Task, Says, Serves, Begins, tasked}
 use Rattle.storyhost.specs.Spoken.{Spoken}
 use Rattle.storyhost.specs.Stories.{stories_of, AreFiles, IsSettled, StopsBehind}
-use Rattle.storyhost.specs.Streams.{SourceState, SinkState, Gave, Wrote}
+use Rattle.line_talk.specs.Streams.{SourceState, SinkState, Gave, Wrote}
 use Rattle.storyhost.specs.Words.{Asked}
 use Rattle.storyhost.specs.declared.status.Status.{Status}
 use Rattle.storyhost.specs.declared.status.Status.TheVariants.{ReadFault, NoMemory}

@@ -1,8 +1,8 @@
 -- What a command writes for an input, by its exit status (own).
 use Rattle.std.specs.Prelude.{◌≡◌, ℕ, ◌⊎◌, List, [], Bool, true, Result, Ok, Err}
 use Rattle.std.specs.Prelude.{IsOkAnd}
-use Rattle.storyhost.specs.Lines.{lines, talk, IsWithinLimits, ReachesLimit}
-use Rattle.storyhost.specs.Writing.{IsPartOf}
+use Rattle.line_talk.specs.Lines.{lines, talk, IsWithinLimits, ReachesLimit}
+use Rattle.line_talk.specs.Writing.{IsPartOf}
 use Rattle.storyhost.specs.declared.status.Status.{Status}
 use Rattle.storyhost.specs.declared.status.Status.TheVariants.{Done, BadWords, Refused, ReadFault}
 use Rattle.storyhost.specs.declared.status.Status.TheVariants.{WriteFault, NoMemory, LineLimit}

@@ -5,7 +5,7 @@ use Rattle.line_words.specs.declared.reply.No.TheVariants.{LongLine}
 use Rattle.line_words.specs.declared.reply.Reply.{Reply}
 use Rattle.line_words.specs.declared.reply.Reply.TheVariants.{No}
 use Rattle.session_desk.specs.Desks.{DesksState, Answers}
-use Rattle.storyhost.specs.Conversation.{Line}
+use Rattle.line_talk.specs.Conversation.{Line}
 use Rattle.storyhost.specs.DiskWords.{DiskWords}
 
 -- from old to new the host gave this reply to a line as it is heard

@@ -11,8 +11,6 @@ pub mod DiskWords
 pub mod CheckText
 pub mod Stories
 pub mod StoryFile
-pub mod Conversation
-pub mod Lines
 pub mod CommandLine
 pub mod Help
 pub mod Complaint
@@ -20,13 +18,6 @@ pub mod Words
 pub mod Status
 pub mod Follows
 pub mod Spoken
-pub mod Talked
 pub mod Plain
-pub mod Hears
-pub mod Hearing
-pub mod Writing
-pub mod Streams
 pub mod Files
 pub mod MemoryOutside
-pub mod Causes
-pub mod Failing

@@ -5,7 +5,7 @@ use Rattle.disk_model.specs.Disk.{EachImage, LeavesOnly}
 use Rattle.gate_journal.specs.declared.row.Row.{Row}
 use Rattle.gate_journal.specs.declared.fault.JournalFault.{JournalFault}
 use Rattle.gate_journal.specs.Faults.{HasCause, Explains}
-use Rattle.gate_journal.specs.Log.{kept, MayOpen, MaySpell, ReachesGate}
+use Rattle.gate_journal.specs.Log.{IsBetween, kept, MayOpen, MaySpell, ReachesGate}
 use Rattle.gate_journal.specs.Rows.{SpellsRows, IsJournal, commands_of, spelled}
 use Rattle.line_words.specs.Reply.{print_reply}
 use Rattle.line_words.specs.declared.reply.Reply.{Reply}
@@ -13,19 +13,19 @@ use Rattle.session_core.specs.Hosts.{AreMet, replies_met, histories_met, entries
 use Rattle.session_core.specs.Turning.{commands_in}
 use Rattle.session_core.specs.declared.entry.Entry.{Entry}
 use Rattle.session_core.specs.declared.entry.Outcome.{Outcome}
-use Rattle.session_desk.specs.Collected.{Chain, IsBetween}
+use Rattle.session_desk.specs.Collected.{Chain}
 use Rattle.session_desk.specs.Desks.{histories_in}
 use Rattle.story_run.specs.declared.story.Story.{Story}
-use Rattle.storyhost.specs.Conversation.{joined}
+use Rattle.line_talk.specs.Conversation.{joined}
 use Rattle.storyhost.specs.DiskWords.{DiskWords}
 use Rattle.storyhost.specs.Said.{SaysFault}
 use Rattle.storyhost.specs.Status.{status_of_end}
-use Rattle.storyhost.specs.Streams.{SourceState, SinkState, Gave, Wrote}
-use Rattle.storyhost.specs.Talked.{AnswersOf}
-use Rattle.storyhost.specs.Writing.{IsPartOf}
-use Rattle.storyhost.specs.declared.ended.Ended.{Ended}
-use Rattle.storyhost.specs.declared.ended.Ended.TheVariants.{Done, ReadFault, WriteFault, NoMemory}
-use Rattle.storyhost.specs.declared.ended.Ended.TheVariants.{LineLimit}
+use Rattle.line_talk.specs.Streams.{SourceState, SinkState, Gave, Wrote}
+use Rattle.line_talk.specs.Talked.{AnswersOf}
+use Rattle.line_talk.specs.Writing.{IsPartOf}
+use Rattle.line_talk.specs.declared.ended.Ended.{Ended}
+use Rattle.line_talk.specs.declared.ended.Ended.TheVariants.{Done, ReadFault, WriteFault, NoMemory}
+use Rattle.line_talk.specs.declared.ended.Ended.TheVariants.{LineLimit}
 use Rattle.storyhost.specs.declared.status.Status.{Status}
 
 -- the histories of the sessions that these rows give

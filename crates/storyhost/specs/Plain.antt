@@ -1,14 +1,14 @@
 -- A conversation in which each line is answered by functions of the state (own).
 use Rattle.std.specs.Prelude.{◌≡◌, ℕ, ◌^◌, ◌≤◌, ◌⊎◌, if◌then◌else◌, List, [], ◌∷◌, ◌++◌, map}
 use Rattle.std.specs.Prelude.{length, Bool, true, Option, None, Some}
-use Rattle.storyhost.specs.Conversation.{Line, Turn}
-use Rattle.storyhost.specs.Lines.{lines, talk, heard, ReachesLimit}
-use Rattle.storyhost.specs.Streams.{SourceState, SinkState, Gave, Wrote}
-use Rattle.storyhost.specs.Talked.{IsReadToEnd}
-use Rattle.storyhost.specs.Writing.{IsPartOf}
-use Rattle.storyhost.specs.declared.ended.Ended.{Ended}
-use Rattle.storyhost.specs.declared.ended.Ended.TheVariants.{Done, ReadFault, WriteFault, NoMemory}
-use Rattle.storyhost.specs.declared.ended.Ended.TheVariants.{LineLimit}
+use Rattle.line_talk.specs.Conversation.{Line, Turn}
+use Rattle.line_talk.specs.Lines.{lines, talk, heard, ReachesLimit}
+use Rattle.line_talk.specs.Streams.{SourceState, SinkState, Gave, Wrote}
+use Rattle.line_talk.specs.Talked.{IsReadToEnd}
+use Rattle.line_talk.specs.Writing.{IsPartOf}
+use Rattle.line_talk.specs.declared.ended.Ended.{Ended}
+use Rattle.line_talk.specs.declared.ended.Ended.TheVariants.{Done, ReadFault, WriteFault, NoMemory}
+use Rattle.line_talk.specs.declared.ended.Ended.TheVariants.{LineLimit}
 
 -- how lines are answered: when no more are, the reply to a line, and the state after it
 pub record Answering (State : Type 0) : Type 0 where

@@ -4,9 +4,9 @@ use Rattle.std.specs.Fmt.{decimal}
 use Rattle.gate_journal.specs.declared.fault.JournalFault.{JournalFault}
 use Rattle.gate_journal.specs.declared.fault.JournalFault.TheVariants as fault
 use Rattle.storyhost.specs.Status.{status_of_stop}
-use Rattle.storyhost.specs.Streams.{SinkState, Wrote}
-use Rattle.storyhost.specs.Writing.{Stopped}
-use Rattle.storyhost.specs.declared.sink.Stop.{Stop}
+use Rattle.line_talk.specs.Streams.{SinkState, Wrote}
+use Rattle.line_talk.specs.Writing.{Stopped}
+use Rattle.line_talk.specs.declared.sink.Stop.{Stop}
 use Rattle.storyhost.specs.declared.status.Status.{Status}
 use Rattle.storyhost.specs.declared.status.Status.TheVariants as ends
 

@@ -7,13 +7,13 @@ use Rattle.session_core.specs.declared.entry.Outcome.{Outcome}
 use Rattle.story_run.specs.declared.story.Story.{Story}
 use Rattle.storyhost.specs.DiskWords.{DiskWords}
 use Rattle.storyhost.specs.Files.{Told, Untold, Missing, There}
-use Rattle.storyhost.specs.Lines.{lines, talk, IsWithinLimits, ReachesLimit}
+use Rattle.line_talk.specs.Lines.{lines, talk, IsWithinLimits, ReachesLimit}
 use Rattle.storyhost.specs.Piped.{WritesReplies, histories_of}
 use Rattle.storyhost.specs.Said.{bad_journal, bad_journal_at}
-use Rattle.storyhost.specs.Talked.{AreFirst}
-use Rattle.storyhost.specs.Writing.{IsPartOf}
-use Rattle.storyhost.specs.declared.ended.Ended.{Ended}
-use Rattle.storyhost.specs.declared.ended.Ended.TheVariants as ended
+use Rattle.line_talk.specs.Talked.{AreFirst}
+use Rattle.line_talk.specs.Writing.{IsPartOf}
+use Rattle.line_talk.specs.declared.ended.Ended.{Ended}
+use Rattle.line_talk.specs.declared.ended.Ended.TheVariants as ended
 use Rattle.storyhost.specs.declared.status.Status.{Status}
 use Rattle.storyhost.specs.declared.status.Status.TheVariants.{Done, BadWords, Refused, ReadFault}
 use Rattle.storyhost.specs.declared.status.Status.TheVariants.{WriteFault, NoMemory, LineLimit}

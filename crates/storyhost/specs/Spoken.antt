@@ -2,10 +2,10 @@
 use Rattle.std.specs.Prelude.{◌≡◌, ℕ, ◌^◌, ◌≤◌, ◌⊎◌, List, length, true}
 use Rattle.std.specs.Prelude.{Result, Err, IsOkAnd}
 use Rattle.storyhost.specs.Headline.{Speech, whole_text}
-use Rattle.storyhost.specs.Lines.{lines, talk, ReachesLimit}
-use Rattle.storyhost.specs.Streams.{SourceState, SinkState, Gave, Wrote}
-use Rattle.storyhost.specs.Talked.{IsReadToEnd}
-use Rattle.storyhost.specs.Writing.{IsPartOf}
+use Rattle.line_talk.specs.Lines.{lines, talk, ReachesLimit}
+use Rattle.line_talk.specs.Streams.{SourceState, SinkState, Gave, Wrote}
+use Rattle.line_talk.specs.Talked.{IsReadToEnd}
+use Rattle.line_talk.specs.Writing.{IsPartOf}
 use Rattle.storyhost.specs.declared.status.Status.{Status}
 use Rattle.storyhost.specs.declared.status.Status.TheVariants.{Done, BadWords, Refused, ReadFault}
 use Rattle.storyhost.specs.declared.status.Status.TheVariants.{WriteFault, NoMemory, LineLimit}

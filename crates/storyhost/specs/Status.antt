@@ -1,9 +1,9 @@
 -- Exit statuses (own).
 use Rattle.std.specs.Prelude.{ℕ, ◌==◌, if◌then◌else◌, Option, None, Some}
-use Rattle.storyhost.specs.declared.ended.Ended.{Ended}
-use Rattle.storyhost.specs.declared.ended.Ended.TheVariants as ended
-use Rattle.storyhost.specs.declared.sink.Stop.{Stop}
-use Rattle.storyhost.specs.declared.sink.Stop.TheVariants as stop
+use Rattle.line_talk.specs.Ends.{ended_by}
+use Rattle.line_talk.specs.declared.ended.Ended.{Ended}
+use Rattle.line_talk.specs.declared.ended.Ended.TheVariants as ended
+use Rattle.line_talk.specs.declared.sink.Stop.{Stop}
 use Rattle.storyhost.specs.declared.status.Status.{Status}
 use Rattle.storyhost.specs.declared.status.Status.TheVariants.{Done, BadWords, Refused, ReadFault}
 use Rattle.storyhost.specs.declared.status.Status.TheVariants.{WriteFault, NoMemory, LineLimit}
@@ -21,11 +21,6 @@ status_of code =
     (if code == 7 then Some NoMemory else
     (if code == 8 then Some BadFolder else
     (if code == 10 then Some LineLimit else None))))))))
-
--- how a conversation ends by a reply that was not written whole
-abbrev pub ended_by : Stop → Ended
-ended_by stop.Output = ended.WriteFault
-ended_by stop.Memory = ended.NoMemory
 
 -- the status of a conversation
 abbrev pub status_of_end : Ended → Status

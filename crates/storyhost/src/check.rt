@@ -1,15 +1,15 @@
 //! The command `check`, which tells what a story's header says.
 ghost use Rattle.std.specs.Prelude.{◌≡◌, slice_get, Ok, IfOk, string_bytes};
-ghost use Rattle.storyhost.specs.Causes.{Rose};
+ghost use Rattle.line_talk.specs.Causes.{Rose};
 ghost use Rattle.storyhost.specs.CheckText.{good_line, hexadecimal, line_of, memory_text};
 ghost use Rattle.storyhost.specs.Speech.{check_speech};
 ghost use Rattle.storyhost.specs.Spoken.{Spoken};
-ghost use Rattle.storyhost.specs.Streams.{SourceState};
+ghost use Rattle.line_talk.specs.Streams.{SourceState};
 
 use crate::once::say_once;
-use crate::sink::Sink;
 use crate::status::Status;
 use glulx_image::Image;
+use line_talk::Sink;
 use std::alloc::{AllocError, Global};
 use story_run::Story;
 

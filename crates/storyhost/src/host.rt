@@ -2,13 +2,11 @@
 ghost use Rattle.std.specs.Option.{option_map};
 ghost use Rattle.storyhost.specs.HostTurns.{Replies};
 
-use crate::answers::Answers;
-use crate::sink::{Sink, Stop};
-use crate::write::write_all;
 use disk_model::Disk;
+use line_talk::{Answers, Sink, Stop, write_all};
 use line_words::{No, Reply, write_reply};
 use session_desk::Desks;
-use std::alloc::Global;
+use std::alloc::{AllocError, Global};
 
 /// The reply to a line, or to one that was dropped.
 fn reply_to<D: Disk>(alloc: Global, desks: &mut Desks<'_, D>, line: Option<&[u8]>) -> Reply
@@ -30,9 +28,20 @@ fn reply_to<D: Disk>(alloc: Global, desks: &mut Desks<'_, D>, line: Option<&[u8]
     }
 }
 
-impl<'i, D: Disk> Answers for Desks<'i, D> {
+/// The sessions of a host, which answer lines.
+#[derive(Drop)]
+pub struct Hosting<'i, D: Disk> {
+    pub desks: Desks<'i, D>,
+}
+
+impl<'i, D: Disk> Answers for Hosting<'i, D> {
     ghost use Rattle.std.specs.Prelude.{false};
+    ghost use Rattle.session_desk.specs.Desks.{DesksState};
     ghost use Rattle.storyhost.specs.HostTurns.{HostTurn};
+
+    ghost State = { DesksState D };
+
+    ghost state = { λ host. host.desks };
 
     ghost turn = { HostTurn (record {
       tells = D.tells;
@@ -60,8 +69,21 @@ impl<'i, D: Disk> Answers for Desks<'i, D> {
 
     ghost over = { λ _. false };
 
+    ghost invariant = { λ _. Unit {0} };
+
+    ghost ready = { λ _. Unit {0} };
+
+    ghost Lent = { Unit {0} };
+
+    ghost lent = { λ _. tt };
+
     fn is_over(&self) -> bool {
         false
+    }
+
+    fn make_room(&mut self, alloc: Global) -> Result<(), AllocError> {
+        let _ = alloc;
+        Ok(())
     }
 
     fn answer<K: Sink>(
@@ -70,7 +92,7 @@ impl<'i, D: Disk> Answers for Desks<'i, D> {
         line: Option<&[u8]>,
         output: &mut K,
     ) -> Result<(), Stop> {
-        let reply = reply_to(alloc, self, line);
+        let reply = reply_to(alloc, &mut self.desks, line);
         let Ok(text) = write_reply(alloc, &reply) else {
             return Err(Stop::Memory);
         };

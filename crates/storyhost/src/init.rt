@@ -3,16 +3,16 @@ ghost use Rattle.std.specs.Prelude.{◌≡◌};
 ghost use Rattle.disk_model.specs.Disk.{SameDisk};
 ghost use Rattle.storyhost.specs.Begun.{InitsOver};
 ghost use Rattle.storyhost.specs.Borrowed.{UsesDisk, journal_in};
-ghost use Rattle.storyhost.specs.Causes.{Rose};
-ghost use Rattle.storyhost.specs.Streams.{SourceState};
+ghost use Rattle.line_talk.specs.Causes.{Rose};
+ghost use Rattle.line_talk.specs.Streams.{SourceState};
 
 use crate::folder::journal_name;
 use crate::outside::{Fetch, Outside};
 use crate::say::say_line;
-use crate::sink::Sink;
 use crate::status::Status;
 use disk_model::Disk;
 use gate_journal::{InitFault, init};
+use line_talk::Sink;
 use std::alloc::Global;
 
 /// Begins a journal on this disk. No input is read.

@@ -1,22 +1,16 @@
 //! Plays stories over standard input and output.
 #![tactic(auto)]
 
-mod answers;
 mod check;
 mod command;
 mod command_line;
 mod complaint;
-mod converse;
 mod edge;
-mod ended;
 mod folder;
-mod hear;
 mod help;
 mod host;
 mod init;
-mod line_buffer;
 mod loan;
-mod memory;
 mod memory_outside;
 mod once;
 mod outside;
@@ -25,8 +19,6 @@ mod player;
 mod refuse;
 mod run;
 mod say;
-mod sink;
-mod source;
 mod status;
 mod stories;
 mod story_file;
@@ -34,7 +26,6 @@ mod story_file;
 mod tests;
 mod top;
 mod words;
-mod write;
 
 use edge::{Reading, SystemFiles, Writing};
 use status::Status;

@@ -1,13 +1,12 @@
 //! Texts that are written whatever the input.
 ghost use Rattle.std.specs.Prelude.{◌≡◌, Ok};
-ghost use Rattle.storyhost.specs.Causes.{Rose};
+ghost use Rattle.line_talk.specs.Causes.{Rose};
 ghost use Rattle.storyhost.specs.Speech.{said_once};
 ghost use Rattle.storyhost.specs.Spoken.{Spoken};
-ghost use Rattle.storyhost.specs.Streams.{SourceState};
+ghost use Rattle.line_talk.specs.Streams.{SourceState};
 
-use crate::sink::Sink;
 use crate::status::Status;
-use crate::write::write_all;
+use line_talk::{Sink, write_all};
 
 /// Writes a text. No input is read.
 pub fn say_once<K: Sink>(text: &[u8], output: &mut K) -> Status
@@ -19,6 +18,6 @@ pub fn say_once<K: Sink>(text: &[u8], output: &mut K) -> Status
 {
     match write_all(output, text) {
         Ok(()) => Status::Done,
-        Err(stop) => stop.status(),
+        Err(stop) => Status::of_stop(stop),
     }
 }

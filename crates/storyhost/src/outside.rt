@@ -13,9 +13,9 @@ pub enum Fetch {
 
 /// The files and the disks outside, by their names.
 pub trait Outside {
-    ghost use Rattle.storyhost.specs.Causes.{Rose};
+    ghost use Rattle.line_talk.specs.Causes.{Rose};
     ghost use Rattle.storyhost.specs.Files.{OutsideState, IsFile, KeepsFiles, KeepsDisks};
-    ghost use Rattle.storyhost.specs.Failing.{Failing, FailsAsListed};
+    ghost use Rattle.line_talk.specs.Failing.{Failing, FailsAsListed};
     ghost use Rattle.storyhost.specs.Files.{IsLentFrom, IsLent, Lends, TakesBack};
     ghost use Rattle.storyhost.specs.Files.{is_missing, is_out, has_failed};
 

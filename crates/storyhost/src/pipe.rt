@@ -3,18 +3,17 @@ ghost use Rattle.std.specs.Prelude.{◌≡◌, ◌<◌, length};
 ghost use Rattle.disk_model.specs.Disk.{SameDisk};
 ghost use Rattle.gate_journal.specs.Command.{IsBudget};
 ghost use Rattle.storyhost.specs.Borrowed.{UsesDisk, journal_in};
-ghost use Rattle.storyhost.specs.Causes.{Rose};
+ghost use Rattle.line_talk.specs.Causes.{Rose};
 ghost use Rattle.storyhost.specs.Piped.{PipesOver};
 
-use crate::converse::converse;
 use crate::folder::journal_name;
+use crate::host::Hosting;
 use crate::outside::{Fetch, Outside};
 use crate::say::say_fault;
-use crate::sink::Sink;
-use crate::source::Source;
 use crate::status::Status;
 use disk_model::Disk;
 use gate_journal::Journal;
+use line_talk::{Sink, Source, converse_between};
 use session_desk::Desks;
 use std::alloc::Global;
 use story_run::Story;
@@ -54,12 +53,13 @@ fn pipe_over<'i, D: Disk, S: Source, K: Sink>(
         Ok(journal) => journal,
         Err((fault, disk)) => return (say_fault(alloc, fault, output), disk),
     };
-    let mut desks = match Desks::open(alloc, stories, budget, journal) {
+    let desks = match Desks::open(alloc, stories, budget, journal) {
         Ok(desks) => desks,
         Err(journal) => return (Status::NoMemory, journal.into_disk()),
     };
-    let ended = converse(alloc, &mut desks, input, output, buffer);
-    (ended.status(), desks.into_journal().into_disk())
+    let mut host = Hosting { desks };
+    let ended = converse_between(alloc, &mut host, input, output, buffer);
+    (Status::of_end(ended), host.desks.into_journal().into_disk())
 }
 
 /// Answers the requests of the input by the sessions of the journal in a folder.

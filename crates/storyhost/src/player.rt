@@ -2,16 +2,14 @@
 ghost use Rattle.std.specs.Prelude.{◌≡◌, ◌<◌, OnOk, IfOk, IfErr, true, Some};
 ghost use Rattle.std.specs.Option.{option_map};
 ghost use Rattle.story_run.specs.Solo.{is_wanted, turned};
-ghost use Rattle.storyhost.specs.Streams.{Wrote};
-ghost use Rattle.storyhost.specs.Writing.{Stopped};
-ghost use Rattle.storyhost.specs.Lines.{IsHeard};
+ghost use Rattle.line_talk.specs.Streams.{Wrote};
+ghost use Rattle.line_talk.specs.Writing.{Stopped};
+ghost use Rattle.line_talk.specs.Lines.{IsHeard};
 ghost use Rattle.storyhost.specs.RunText.{show_text, input_of, input_next, input_reply};
 ghost use Rattle.storyhost.specs.RunText.{line_next, line_reply};
 
-use crate::answers::Answers;
-use crate::sink::{Sink, Stop};
-use crate::write::write_all;
 use glk_input::Input;
+use line_talk::{Answers, Sink, Stop, write_all};
 use line_words::{LineFault, Play, read_play};
 use std::alloc::{AllocError, Global};
 use std::marker::{Brand, Model};
@@ -23,6 +21,7 @@ pub fn say<K: Sink>(output: &mut K, world: &World<'_>) -> Result<(), Stop>
     ensures ok { OnOk result (Wrote (K.sink output.old) (K.sink output.new) (show_text world.now)) }
     ensures err { IfErr result (λ cause.
         Stopped (K.sink output.old) (K.sink output.new) (show_text world.now) cause) }
+    ensures beside { K.beside output.new ≡ K.beside output.old }
 {
     write_all(output, world.last())?;
     write_all(output, b".\n")
@@ -76,6 +75,7 @@ fn reply_to<'i, K: Sink>(
         (input_reply world.entry input.now)) }
     ensures err { IfErr result (λ cause. Stopped (K.sink output.old) (K.sink output.new)
         (input_reply world.entry input.now) cause) }
+    ensures beside { K.beside output.new ≡ K.beside output.old }
 {
     if !world.wants(input) {
         write_all(output, b"NO 8\n")?;
@@ -100,6 +100,7 @@ fn answer_line<'i, K: Sink>(
         (line_reply world.entry (option_map (λ l. l.now) line.entry))) }
     ensures err { IfErr result (λ cause. Stopped (K.sink output.old) (K.sink output.new)
         (line_reply world.entry (option_map (λ l. l.now) line.entry)) cause) }
+    ensures beside { K.beside output.new ≡ K.beside output.old }
 {
     let Some(line) = line else {
         write_all(output, b"NO 14\n")?;
@@ -142,6 +143,12 @@ impl<'i> Player<'i> {
 impl<'i> Answers for Player<'i> {
     ghost use Rattle.storyhost.specs.Plain.{Plain, PlainReply, held_by, is_over_held};
     ghost use Rattle.storyhost.specs.RunText.{solo};
+    ghost use Rattle.std.specs.Prelude.{Option};
+    ghost use Rattle.story_run.specs.World.{WorldState};
+
+    ghost State = { Option WorldState };
+
+    ghost state = { λ player. player };
 
     ghost turn = { Plain (held_by solo) };
 
@@ -149,11 +156,24 @@ impl<'i> Answers for Player<'i> {
 
     ghost over = { is_over_held solo };
 
+    ghost invariant = { λ _. Unit {0} };
+
+    ghost ready = { λ _. Unit {0} };
+
+    ghost Lent = { Unit {0} };
+
+    ghost lent = { λ _. tt };
+
     fn is_over(&self) -> bool {
         match &self.world {
             Some(world) => world.is_over(),
             None => true,
         }
+    }
+
+    fn make_room(&mut self, alloc: Global) -> Result<(), AllocError> {
+        let _ = alloc;
+        Ok(())
     }
 
     fn answer<K: Sink>(

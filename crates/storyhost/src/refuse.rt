@@ -1,16 +1,15 @@
 //! The line by which a story is refused.
 ghost use Rattle.std.specs.Prelude.{◌≡◌, Err, OnOk, IfOk, IfErr, string_bytes};
-ghost use Rattle.storyhost.specs.Causes.{Rose};
+ghost use Rattle.line_talk.specs.Causes.{Rose};
 ghost use Rattle.storyhost.specs.Spoken.{Spoken};
-ghost use Rattle.storyhost.specs.Streams.{SourceState, Wrote};
-ghost use Rattle.storyhost.specs.Writing.{Stopped};
+ghost use Rattle.line_talk.specs.Streams.{SourceState, Wrote};
+ghost use Rattle.line_talk.specs.Writing.{Stopped};
 ghost use Rattle.storyhost.specs.StoryFile.{bad_container, bad_image, bad_line};
 
-use crate::sink::{Sink, Stop};
 use crate::status::Status;
 use crate::stories::Refusal;
 use crate::story_file::StoryFault;
-use crate::write::write_all;
+use line_talk::{Sink, Stop, write_all};
 use std::alloc::{AllocError, Global};
 
 /// The line for an image that is refused, by the story's position and the fault's number.
@@ -58,6 +57,6 @@ pub fn refuse<K: Sink>(alloc: Global, refusal: Refusal, output: &mut K) -> Statu
 {
     match say_bad(alloc, refusal, output) {
         Ok(()) => Status::Refused,
-        Err(stop) => stop.status(),
+        Err(stop) => Status::of_stop(stop),
     }
 }

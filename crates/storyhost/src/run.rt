@@ -1,15 +1,13 @@
 //! The command `run`, which plays one story alone.
 ghost use Rattle.std.specs.Prelude.{◌≡◌, ◌<◌, length, slice_get, Ok};
-ghost use Rattle.storyhost.specs.Causes.{Rose};
+ghost use Rattle.line_talk.specs.Causes.{Rose};
 ghost use Rattle.storyhost.specs.RunText.{alone};
 ghost use Rattle.storyhost.specs.Speech.{run_speech};
 ghost use Rattle.storyhost.specs.Spoken.{Spoken};
 
-use crate::converse::converse;
 use crate::player::{Player, say};
-use crate::sink::Sink;
-use crate::source::Source;
 use crate::status::Status;
+use line_talk::{Sink, Source, converse_between};
 use std::alloc::Global;
 use story_run::{Setup, Story, World};
 
@@ -50,11 +48,11 @@ pub fn run<S: Source, K: Sink>(
     };
     match say(output, &world) {
         Ok(()) => {}
-        Err(stop) => return stop.status(),
+        Err(stop) => return Status::of_stop(stop),
     }
     if world.is_over() {
         return Status::Done;
     }
     let mut player = Player::new(world);
-    converse(alloc, &mut player, input, output, buffer).status()
+    Status::of_end(converse_between(alloc, &mut player, input, output, buffer))
 }

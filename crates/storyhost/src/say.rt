@@ -1,12 +1,11 @@
 //! One line that is written, after which the program ends.
 ghost use Rattle.std.specs.Prelude.{◌≡◌, ◌⊎◌, IfOk, string_bytes};
-ghost use Rattle.storyhost.specs.Causes.{Rose};
+ghost use Rattle.line_talk.specs.Causes.{Rose};
 ghost use Rattle.storyhost.specs.Said.{bad_journal_at, SaysLine, SaysFault};
 
-use crate::sink::Sink;
 use crate::status::Status;
-use crate::write::write_all;
 use gate_journal::JournalFault;
+use line_talk::{Sink, write_all};
 use std::alloc::{AllocError, Global};
 
 /// Writes a line, and ends with the status where it is written whole.
@@ -18,7 +17,7 @@ pub fn say_line<K: Sink>(line: &[u8], status: Status, output: &mut K) -> Status
 {
     match write_all(output, line) {
         Ok(()) => status,
-        Err(stop) => stop.status(),
+        Err(stop) => Status::of_stop(stop),
     }
 }
 

@@ -1,6 +1,8 @@
 //! Exit statuses.
 ghost use Rattle.std.specs.Prelude.{◌≡◌, Some};
 
+use line_talk::{Ended, Stop};
+
 /// How the program ends.
 #[derive(Clone, Copy, Debug, PartialEq, Eq)]
 pub enum Status {
@@ -25,7 +27,27 @@ pub enum Status {
 }
 
 impl Status {
-    ghost use Rattle.storyhost.specs.Status.{status_of};
+    ghost use Rattle.storyhost.specs.Status.{status_of, status_of_end, status_of_stop};
+
+    /// That of a conversation.
+    pub fn of_end(ended: Ended) -> Status
+        ensures { result ≡ status_of_end ended }
+    {
+        match ended {
+            Ended::Done => Status::Done,
+            Ended::ReadFault => Status::ReadFault,
+            Ended::WriteFault => Status::WriteFault,
+            Ended::NoMemory => Status::NoMemory,
+            Ended::LineLimit => Status::LineLimit,
+        }
+    }
+
+    /// That of a text that was not written whole.
+    pub fn of_stop(stop: Stop) -> Status
+        ensures { result ≡ status_of_stop stop }
+    {
+        Status::of_end(stop.ended())
+    }
 
     /// The exit code.
     pub fn code(self) -> u8

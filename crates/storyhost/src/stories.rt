@@ -1,6 +1,6 @@
 //! The stories that a command names.
 ghost use Rattle.std.specs.Prelude.{◌≡◌, ◌≤◌, map, Ok, IfOk, IfErr, IsErrOf};
-ghost use Rattle.storyhost.specs.Causes.{Rose};
+ghost use Rattle.line_talk.specs.Causes.{Rose};
 ghost use Rattle.storyhost.specs.Files.{KeepsDisks};
 ghost use Rattle.storyhost.specs.Stories.{AreFiles, IsSettled, Refuses, StopsBehind, stories_of};
 

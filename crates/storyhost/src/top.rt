@@ -1,8 +1,8 @@
 //! The whole program but for the streams and files of the system.
 ghost use Rattle.std.specs.Prelude.{◌≡◌, ◌⊎◌, [], map, string_bytes, None, IfSome};
 ghost use Rattle.std.specs.Prelude.{IsSomeAnd};
-ghost use Rattle.storyhost.specs.Causes.{Rose};
-ghost use Rattle.storyhost.specs.Streams.{Gave, Wrote};
+ghost use Rattle.line_talk.specs.Causes.{Rose};
+ghost use Rattle.line_talk.specs.Streams.{Gave, Wrote};
 ghost use Rattle.storyhost.specs.Status.{status_of};
 ghost use Rattle.storyhost.specs.Words.{asked, asked_by};
 ghost use Rattle.storyhost.specs.Speech.{tasked};
@@ -18,11 +18,10 @@ use crate::outside::{Fetch, Outside};
 use crate::pipe::pipe;
 use crate::refuse::refuse;
 use crate::run::run;
-use crate::sink::Sink;
-use crate::source::Source;
 use crate::status::Status;
 use crate::stories::{Unplayed, load_files, stories_of};
 use crate::words::{Action, command_of};
+use line_talk::{Sink, Source};
 use std::alloc::Global;
 use std::sync::Wait;
 use std::thread::Threads;

@@ -1,3 +1,5 @@
 pub mod MemoryMap
 pub mod Access
 pub mod Fault
+pub mod Pages
+pub mod OwnPages

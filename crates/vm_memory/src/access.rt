@@ -1,13 +1,17 @@
 //! Reads and writes of numbers, most significant byte first, and of blocks.
 
-ghost use Rattle.std.specs.Prelude.{◌≡◌, ◌≤◌, ◌<◌, ◌+◌, ◌&&◌, length};
+ghost use Rattle.std.specs.Prelude.{◌≡◌, ◌≤◌, ◌<◌, ◌+◌, ◌&&◌, drop, length, replicate, take};
 ghost use Rattle.std.specs.Prelude.{nat_le, OnErr, OnOk, IfOk};
-ghost use Rattle.vm_memory.specs.MemoryMap.{KeepsMap};
-ghost use Rattle.vm_memory.specs.Access.{read, written, zeroed, copied, copied_from, Leaves};
+ghost use Rattle.vm_memory.specs.MemoryMap.{KeepsMap, number_at};
+ghost use Rattle.vm_memory.specs.OwnPages.{own_pages};
+ghost use Rattle.vm_memory.specs.Access.{Leaves, copied, copied_from, read, with_bytes};
+ghost use Rattle.vm_memory.specs.Access.{written, zeroed};
 
-use crate::bytes::{clear, put, put_from, shift};
+use crate::laid::{block_at, byte_at, four_at, two_at};
+use crate::pages::{clear, write};
 use crate::{MAX_SIZE, MemFault, MemStop, Memory};
 use byteorder::{BigEndian, ByteOrder};
+use std::alloc::{AllocError, Global};
 
 impl<'i> Memory<'i> {
     /// The byte at the address; BadRead where it lies past memory's end.
@@ -17,11 +21,13 @@ impl<'i> Memory<'i> {
         ensures within { OnOk result (at + 1 ≤ MAX_SIZE) }
         ensures fits { IfOk result (λ x. x < 256) }
     {
-        if self.is_inside(at, 1) {
-            Ok(u32::from(self.bytes[at as usize]))
-        } else {
-            Err(MemFault::BadRead(at))
+        if self.is_front(at, 1) {
+            return Ok(self.front_one(at));
         }
+        if !self.is_inside(at, 1) {
+            return Err(MemFault::BadRead(at));
+        }
+        Ok(self.one(at))
     }
 
     /// The number of two bytes at the address; BadRead where it passes memory's end.
@@ -31,11 +37,13 @@ impl<'i> Memory<'i> {
         ensures within { OnOk result (at + 2 ≤ MAX_SIZE) }
         ensures fits { IfOk result (λ x. x < 65536) }
     {
-        if self.is_inside(at, 2) {
-            Ok(u32::from(BigEndian::read_u16(&self.bytes[at as usize..])))
-        } else {
-            Err(MemFault::BadRead(at))
+        if self.is_front(at, 2) {
+            return Ok(self.front_two(at));
         }
+        if !self.is_inside(at, 2) {
+            return Err(MemFault::BadRead(at));
+        }
+        Ok(self.two(at))
     }
 
     /// The number of four bytes at the address; BadRead where it passes memory's end.
@@ -44,11 +52,91 @@ impl<'i> Memory<'i> {
         ensures value { result ≡ read 4 self.now at }
         ensures within { OnOk result (at + 4 ≤ MAX_SIZE) }
     {
-        if self.is_inside(at, 4) {
-            Ok(BigEndian::read_u32(&self.bytes[at as usize..]))
-        } else {
-            Err(MemFault::BadRead(at))
+        if self.is_front(at, 4) {
+            return Ok(self.front_four(at));
         }
+        if !self.is_inside(at, 4) {
+            return Err(MemFault::BadRead(at));
+        }
+        Ok(self.four(at))
+    }
+
+    // Whether so many bytes at the address lie below RAMSTART, where the file's stand.
+    #[inline(always)]
+    fn is_front(&self, at: u32, width: u32) -> bool
+        ensures { result ≡ nat_le (at + width) self.now.ramstart }
+    {
+        u64::from(at) + u64::from(width) <= u64::from(self.ramstart)
+    }
+
+    // The byte below RAMSTART at the address.
+    #[inline(always)]
+    #[tactic(auto, using(crate::proofs::LaidLemmas::length_laid))]
+    fn front_one(&self, at: u32) -> u32
+        requires { at + 1 ≤ self.now.ramstart }
+        ensures value { result ≡ number_at 1 self.now.bytes at }
+        ensures inside { at + 1 ≤ length self.now.bytes }
+        ensures within { at + 1 ≤ MAX_SIZE }
+        ensures fits { result < 256 }
+    {
+        u32::from(self.rom[at as usize])
+    }
+
+    // The number of two bytes below RAMSTART at the address.
+    #[inline(always)]
+    #[tactic(auto, using(crate::proofs::LaidLemmas::length_laid))]
+    fn front_two(&self, at: u32) -> u32
+        requires { at + 2 ≤ self.now.ramstart }
+        ensures value { result ≡ number_at 2 self.now.bytes at }
+        ensures inside { at + 2 ≤ length self.now.bytes }
+        ensures within { at + 2 ≤ MAX_SIZE }
+        ensures fits { result < 65536 }
+    {
+        u32::from(BigEndian::read_u16(&self.rom[at as usize..]))
+    }
+
+    // The number of four bytes below RAMSTART at the address.
+    #[inline(always)]
+    #[tactic(auto, using(crate::proofs::LaidLemmas::length_laid))]
+    fn front_four(&self, at: u32) -> u32
+        requires { at + 4 ≤ self.now.ramstart }
+        ensures value { result ≡ number_at 4 self.now.bytes at }
+        ensures inside { at + 4 ≤ length self.now.bytes }
+        ensures within { at + 4 ≤ MAX_SIZE }
+    {
+        BigEndian::read_u32(&self.rom[at as usize..])
+    }
+
+    // The byte at the address.
+    #[tactic(auto, using(crate::proofs::LaidLemmas::length_laid, crate::proofs::LaidLemmas::number_of_one))]
+    fn one(&self, at: u32) -> u32
+        requires { at + 1 ≤ length self.now.bytes }
+        ensures value { result ≡ number_at 1 self.now.bytes at }
+        ensures within { at + 1 ≤ MAX_SIZE }
+        ensures fits { result < 256 }
+    {
+        u32::from(byte_at(self.rom, self.ramstart, &self.rows, at))
+    }
+
+    // The number of two bytes at the address.
+    #[tactic(auto, using(crate::proofs::LaidLemmas::length_laid))]
+    fn two(&self, at: u32) -> u32
+        requires { at + 2 ≤ length self.now.bytes }
+        ensures value { result ≡ number_at 2 self.now.bytes at }
+        ensures within { at + 2 ≤ MAX_SIZE }
+        ensures fits { result < 65536 }
+    {
+        two_at(self.rom, self.ramstart, &self.rows, at)
+    }
+
+    // The number of four bytes at the address.
+    #[tactic(auto, using(crate::proofs::LaidLemmas::length_laid))]
+    fn four(&self, at: u32) -> u32
+        requires { at + 4 ≤ length self.now.bytes }
+        ensures value { result ≡ number_at 4 self.now.bytes at }
+        ensures within { at + 4 ≤ MAX_SIZE }
+    {
+        four_at(self.rom, self.ramstart, &self.rows, at)
     }
 
     /// Whether so many bytes at the address lie in RAM.
@@ -60,49 +148,85 @@ impl<'i> Memory<'i> {
         self.ramstart() <= at && self.is_inside(at, width)
     }
 
+    /// Writes bytes in RAM, or none of them.
+    #[inline(always)]
+    #[tactic(auto, using(crate::proofs::LaidLemmas::length_laid, crate::proofs::LaidLemmas::laid_puts, crate::proofs::LaidLemmas::laid_shows))]
+    pub(crate) fn put(&mut self, at: u32, new: &[u8]) -> Result<(), AllocError>
+        requires some { 0 < length new.now }
+        requires ram { self.old.ramstart ≤ at }
+        requires inside { at + length new.now ≤ length self.old.bytes }
+        ensures ok { OnOk result (self.new ≡ with_bytes self.old at new.now) }
+        ensures err { OnErr result (self.new ≡ self.old) }
+    {
+        write(self.alloc, self.rom, &mut self.rows, at, new)
+    }
+
+    // Makes so many bytes in RAM zero, or none of them.
+    #[tactic(auto, using(crate::proofs::LaidLemmas::length_laid, crate::proofs::LaidLemmas::laid_zeros, crate::proofs::LaidLemmas::laid_shows))]
+    fn clear(&mut self, at: u32, count: u32) -> Result<(), AllocError>
+        requires some { 0 < count }
+        requires ram { self.old.ramstart ≤ at }
+        requires inside { at + count ≤ length self.old.bytes }
+        ensures ok { OnOk result (self.new ≡ with_bytes self.old at (replicate count 0)) }
+        ensures err { OnErr result (self.new ≡ self.old) }
+    {
+        clear(self.alloc, self.rom, &mut self.rows, at, count)
+    }
+
+    /// So many bytes at the address, in a vector of their own.
+    #[tactic(auto, using(crate::proofs::LaidLemmas::length_laid))]
+    pub(crate) fn block(&self, alloc: Global, at: u32, count: u32) -> Result<Vec<u8>, AllocError>
+        requires { at + count ≤ length self.now.bytes }
+        ensures { IfOk result (λ v. v.items ≡ take count (drop at self.now.bytes)) }
+    {
+        block_at(alloc, self.rom, self.ramstart, &self.rows, at, count)
+    }
+
     /// Writes the low byte of the value; BadWrite below RAMSTART or past memory's end.
     #[inline(always)]
+    #[tactic(auto, using(crate::proofs::OwnLemmas::own_put))]
     pub fn write1(&mut self, at: u32, value: u32) -> Result<(), MemStop>
         ensures value { Leaves (written 1 self.old at value) self.new result }
         ensures err { OnErr result (self.new ≡ self.old) }
         ensures kept { KeepsMap self.old self.new }
+        ensures own { own_pages self.new ≤ own_pages self.old + 2 }
     {
         if !self.is_writable(at, 1) {
             return Err(MemStop::Fault(MemFault::BadWrite(at)));
         }
-        put(&mut self.bytes, at as usize, &[(value & 0xff) as u8]);
+        self.put(at, &[(value & 0xff) as u8])?;
         Ok(())
     }
 
     /// Writes the low two bytes of the value; BadWrite below RAMSTART or past memory's end.
     #[inline(always)]
+    #[tactic(auto, using(crate::proofs::OwnLemmas::own_put))]
     pub fn write2(&mut self, at: u32, value: u32) -> Result<(), MemStop>
         ensures value { Leaves (written 2 self.old at value) self.new result }
         ensures err { OnErr result (self.new ≡ self.old) }
         ensures kept { KeepsMap self.old self.new }
+        ensures own { own_pages self.new ≤ own_pages self.old + 2 }
     {
         if !self.is_writable(at, 2) {
             return Err(MemStop::Fault(MemFault::BadWrite(at)));
         }
-        put(
-            &mut self.bytes,
-            at as usize,
-            &((value & 0xffff) as u16).to_be_bytes(),
-        );
+        self.put(at, &((value & 0xffff) as u16).to_be_bytes())?;
         Ok(())
     }
 
     /// Writes the value's four bytes; BadWrite below RAMSTART or past memory's end.
     #[inline(always)]
+    #[tactic(auto, using(crate::proofs::OwnLemmas::own_put))]
     pub fn write4(&mut self, at: u32, value: u32) -> Result<(), MemStop>
         ensures value { Leaves (written 4 self.old at value) self.new result }
         ensures err { OnErr result (self.new ≡ self.old) }
         ensures kept { KeepsMap self.old self.new }
+        ensures own { own_pages self.new ≤ own_pages self.old + 2 }
     {
         if !self.is_writable(at, 4) {
             return Err(MemStop::Fault(MemFault::BadWrite(at)));
         }
-        put(&mut self.bytes, at as usize, &value.to_be_bytes());
+        self.put(at, &value.to_be_bytes())?;
         Ok(())
     }
 
@@ -119,7 +243,7 @@ impl<'i> Memory<'i> {
         if !self.is_writable(at, count) {
             return Err(MemStop::Fault(MemFault::BadWrite(at)));
         }
-        clear(&mut self.bytes, at as usize, count as usize);
+        self.clear(at, count)?;
         Ok(())
     }
 
@@ -140,7 +264,8 @@ impl<'i> Memory<'i> {
         if !self.is_writable(to, count) {
             return Err(MemStop::Fault(MemFault::BadWrite(to)));
         }
-        shift(&mut self.bytes, from as usize, to as usize, count as usize);
+        let block = self.block(self.alloc, from, count)?;
+        self.put(to, &block)?;
         Ok(())
     }
 
@@ -160,7 +285,8 @@ impl<'i> Memory<'i> {
         if !self.is_writable(at, size) {
             return Err(MemStop::Fault(MemFault::BadWrite(at)));
         }
-        put_from(&mut self.bytes, &other.bytes, at as usize, size as usize);
+        let block = other.block(self.alloc, at, size)?;
+        self.put(at, &block)?;
         Ok(())
     }
 }

@@ -1,6 +1,7 @@
 //! The faults of memory, and of a story as a whole.
 
 use crate::faults::{BAD_READ, BAD_WRITE};
+use std::alloc::AllocError;
 
 /// An access outside memory, or a write below RAMSTART, with its address.
 #[derive(Clone, Copy, Debug, PartialEq, Eq)]
@@ -24,6 +25,17 @@ impl From<MemFault> for MemStop {
 
     fn from(fault: MemFault) -> MemStop {
         MemStop::Fault(fault)
+    }
+}
+
+impl From<AllocError> for MemStop {
+    ghost use Rattle.std.specs.Prelude.{◌≡◌};
+    ghost use Rattle.vm_memory.specs.declared.fault.MemStop.TheVariants.{NoMemory};
+
+    ghost from_gives = { λ e stop. stop ≡ NoMemory };
+
+    fn from(_: AllocError) -> MemStop {
+        MemStop::NoMemory
     }
 }
 

@@ -2,11 +2,13 @@
 #![tactic(auto)]
 
 mod access;
-mod bytes;
 mod fault;
 pub mod faults;
+mod laid;
 mod memory;
+mod pages;
 mod ram;
+mod table;
 
 pub use fault::{MemFault, MemStop, Trap};
 pub use memory::{MAX_SIZE, Memory};

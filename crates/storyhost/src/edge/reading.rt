@@ -1,7 +1,7 @@
 //! A source over a reader of std.
 ghost use Rattle.std.specs.Prelude.{◌≡◌, false, None};
 
-use crate::source::{Got, Source};
+use line_talk::{Got, Source};
 use std::io::Read;
 
 /// A source over a reader. Each error counts as a fault.
@@ -37,6 +37,10 @@ impl<R: Read + Drop> Source for Reading<R> {
     } };
 
     ghost failing_reads = { λ _. None };
+
+    ghost Beside = { Unit {0} };
+
+    ghost beside = { λ _. tt };
 
     fn read(&mut self, into: &mut [u8]) -> Got {
         match self.inner.read(into) {

@@ -1,7 +1,7 @@
 //! A sink over a writer of std.
 ghost use Rattle.std.specs.Prelude.{◌≡◌, None};
 
-use crate::sink::{Put, Sink};
+use line_talk::{Put, Sink};
 use std::io::Write;
 
 /// A sink over a writer. Each error counts as a fault, and so does a write that takes nothing.
@@ -23,6 +23,10 @@ impl<W: Write + Drop> Sink for Writing<W> {
     ghost sink = { λ s. record { held = W.contents s.inner; faults = s.faults } };
 
     ghost failing_writes = { λ _. None };
+
+    ghost Beside = { Unit {0} };
+
+    ghost beside = { λ _. tt };
 
     fn write(&mut self, piece: &[u8]) -> Put {
         if piece.is_empty() {

@@ -1,10 +1,10 @@
 //! Hosts whose journal's disk fails at one of its calls, stops, and is opened again.
 
 use super::{ECHO, GO, PROMPT, bytes_of, new_journal};
-use crate::memory::{MemorySink, MemorySource};
 use crate::memory_outside::MemoryOutside;
 use crate::top::top;
 use disk_model::MemDisk;
+use line_talk::{MemorySink, MemorySource};
 use std::alloc::Global;
 use std::collections::BTreeMap;
 use std::sync::Wait;

@@ -3,11 +3,11 @@
 mod faults;
 mod journal;
 
-use crate::memory::{MemorySink, MemorySource};
 use crate::memory_outside::MemoryOutside;
 use crate::top::top;
 use disk_model::MemDisk;
 use gate_journal::init;
+use line_talk::{MemorySink, MemorySource};
 use std::alloc::{AllocError, Global};
 use std::collections::BTreeMap;
 use std::sync::Wait;

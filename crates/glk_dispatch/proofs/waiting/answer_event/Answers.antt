@@ -7,5 +7,6 @@ use Rattle.glk_dispatch.proofs.waiting.answer_event.Goals as goal
 pub deliver-requires : goal.deliver-requires
 deliver-requires c =
     ap (λ rs. delivery.wants rs c.args.input.now)
-    (echo_asks (glk_call c.args.glk.now c.args.memory.now c.args.stack.now) c.args.input.now
-    c.echo_input.new.glk c.echo_input.new.memory c.in_ok-echo_input.ensures) ∙ c.requires
+    (echo_asks (glk_call c.rest.new.self c.args.memory.now c.args.stack.now) c.args.input.now
+    c.echo_input.new.glk c.echo_input.new.memory c.in_ok-echo_input.ensures
+    ∙ ap (λ g. g.requests) c.rest.ensures) ∙ c.requires

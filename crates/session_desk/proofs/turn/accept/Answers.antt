@@ -1,5 +1,3 @@
-use Rattle.std.proofs.Common.{◌≡◌, Some}
-use Rattle.session_core.specs.Checks.{command_of}
 use Rattle.session_desk.specs.Desk.{committed, shown_to}
 use Rattle.session_desk.specs.Laws.{answered}
 use Rattle.session_desk.proofs.TurnLemmas.{fails, forgets}
@@ -14,7 +12,7 @@ returns-in-Err-DiskFault-clause-turn g c =
     rw c.in-Err-DiskFault.field-0-0-is
     (fails g.D.Disk.tells g.D.Disk.room g.D.Disk.label g.D.Disk.faults g.D.Disk.reach g.D.Disk.moment g.D.Disk.left_since
     (answered c.args.desk.now c.args.request.now) c.args.desk.now.session c.args.journal.now c.commit.new.journal
-    (shown_to (committed c.args.desk.now fresh.0) c.args.request.now) fresh.0 fault fresh.2 cause.0 cause.1 c.commit.ensures.kept crash c.commit.ensures.reach)
+    (shown_to (committed c.args.desk.now fresh.0) c.args.request.now) fresh.0 fault fresh.2 cause.0 cause.1 c.commit.ensures.kept.0 crash c.commit.ensures.reach)
 
 pub returns-in-Err-NoMemory-clause-turn : goal.returns-in-Err-NoMemory-clause-turn
 returns-in-Err-NoMemory-clause-turn g c =

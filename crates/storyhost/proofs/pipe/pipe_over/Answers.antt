@@ -2,7 +2,7 @@ use Rattle.std.proofs.Common.{refl, rules, inl, inr, ap, ◌∙◌}
 use Rattle.gate_journal.specs.declared.fault.JournalFault.TheVariants.{NoMemory}
 use Rattle.gate_journal.specs.Log.{Log}
 use Rattle.storyhost.proofs.HostLemmas.{conversed_by, kept_by, may_open_again, meanwhile_again, reaches_again}
-use Rattle.storyhost.proofs.StreamsLemmas.{gave_none, wrote_none}
+use Rattle.line_talk.proofs.StreamsLemmas.{gave_none, wrote_none}
 use Rattle.storyhost.proofs.pipe.pipe_over.Goals as goal
 
 pub returns-in-Err-clause-value : goal.returns-in-Err-clause-value
@@ -37,9 +37,9 @@ returns-in-Err-open-clause-value g c =
 pub returns-clause-value : goal.returns-clause-value
 returns-clause-value g c =
     inl (
-      c.converse-ended.result,
-      c.status.ensures,
-      conversed_by _ c.args.disk c.args.stories.now c.args.budget c.in-Ok.journal c.in-Ok-open.desks c.converse-ended.new.speaker c.converse-ended.result
+      c.converse_between-ended.result,
+      c.of_end.ensures,
+      conversed_by _ c.args.disk c.args.stories.now c.args.budget c.in-Ok.journal c.in-Ok-open.desks c.converse_between-ended.new.speaker.desks c.converse_between-ended.result
           (record {
             spells = c.in-Ok.ensures.ok;
             fresh = c.in-Ok.ensures.fresh.0;
@@ -48,12 +48,12 @@ returns-clause-value g c =
             crash = c.in-Ok.ensures.crash;
             ends = c.in-Ok.ensures.ends;
           })
-          c.in-Ok-open.ensures.ok c.converse-ended.ensures.value
+          c.in-Ok-open.ensures.ok c.converse_between-ended.ensures.value
           c.into_journal.result c.into_journal.ensures.value c.into_disk-2.result c.into_disk-2.ensures.value c.into_disk-2.ensures.images,
     )
 
 pub returns-clause-kept : goal.returns-clause-kept
 returns-clause-kept g c =
-    kept_by _ c.args.disk c.args.stories.now c.args.budget c.in-Ok.journal c.in-Ok-open.desks c.converse-ended.new.speaker c.converse-ended.result
-    c.in-Ok.ensures.kept c.in-Ok-open.ensures.ok c.converse-ended.ensures.value
+    kept_by _ c.args.disk c.args.stories.now c.args.budget c.in-Ok.journal c.in-Ok-open.desks c.converse_between-ended.new.speaker.desks c.converse_between-ended.result
+    c.in-Ok.ensures.kept c.in-Ok-open.ensures.ok c.converse_between-ended.ensures.value
     c.into_journal.result c.into_journal.ensures.value c.into_disk-2.result c.into_disk-2.ensures.value

@@ -1,4 +1,4 @@
-use Rattle.storyhost.proofs.WritingLemmas.{stopped_at_once}
+use Rattle.line_talk.proofs.WritingLemmas.{stopped_at_once}
 use Rattle.storyhost.proofs.player.answer_line.Goals as goal
 
 pub returns-clause-err : goal.returns-clause-err

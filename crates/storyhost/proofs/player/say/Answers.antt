@@ -1,5 +1,5 @@
 use Rattle.std.proofs.lemmas.Result.{err_from_is_err_and, IfErr-weaker}
-use Rattle.storyhost.proofs.WritingLemmas.{stopped_more, stopped_then}
+use Rattle.line_talk.proofs.WritingLemmas.{stopped_more, stopped_then}
 use Rattle.storyhost.proofs.player.say.Goals as goal
 
 pub returns-in_err-write_all-clause-err : goal.returns-in_err-write_all-clause-err

@@ -1,7 +1,7 @@
 use Rattle.std.proofs.Common.{refl, inr, ◌∙◌}
-use Rattle.storyhost.specs.declared.sink.Stop.TheVariants.{Memory}
-use Rattle.storyhost.proofs.StreamsLemmas.{wrote_none}
-use Rattle.storyhost.proofs.WritingLemmas.{stopped_at_once}
+use Rattle.line_talk.specs.declared.sink.Stop.TheVariants.{Memory}
+use Rattle.line_talk.proofs.StreamsLemmas.{wrote_none}
+use Rattle.line_talk.proofs.WritingLemmas.{stopped_at_once}
 use Rattle.storyhost.proofs.say.say_fault.Goals as goal
 
 pub returns-in-NotJournal-clause-value : goal.returns-in-NotJournal-clause-value

@@ -3,7 +3,7 @@ use Rattle.gate_journal.proofs.AppendLemmas.{images_spell, images_open}
 use Rattle.gate_journal.proofs.journal.Journal.into_disk.Goals as goal
 
 pub returns-clause-images : goal.returns-clause-images
-returns-clause-images g c = images_spell c.self.view_is c.self.invariant _ refl
+returns-clause-images g c = images_spell c.self.view_is c.self.invariant.0 _ refl
 
 pub returns-clause-opens : goal.returns-clause-opens
-returns-clause-opens g c = images_open c.self.view_is c.self.invariant _ refl
+returns-clause-opens g c = images_open c.self.view_is c.self.invariant.0 _ refl

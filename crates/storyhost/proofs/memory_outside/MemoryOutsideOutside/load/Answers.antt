@@ -1,7 +1,9 @@
-use Rattle.std.proofs.Common.{◌≡◌, take, length, arith, ap, ◌∙◌, rules}
+use Rattle.std.proofs.Common.{◌≡◌, ℕ, List, min, take, length, arith, ap, ◌∙◌, rules}
 use Rattle.std.proofs.lemmas.Grind.{common_steps}
-use Rattle.storyhost.proofs.MemoryLemmas.{take_capped}
 use Rattle.storyhost.proofs.memory_outside.MemoryOutsideOutside.load.Goals as goal
+
+take_capped : (xs : List ℕ) (n most : ℕ) → most ≡ min (length xs) n → take most xs ≡ take n xs
+take_capped xs n most is = grind (arith, common_steps)
 
 pub returns-in-Ok-clause-value : goal.returns-in-Ok-clause-value
 returns-in-Ok-clause-value c =

@@ -1,0 +1,293 @@
+-- What holds of a journal since it was opened, with one entry more.
+use Rattle.std.proofs.Common.{◌≡◌, ◌⊎◌, inl, inr, ⊎_elim, ℕ, ◌+◌, ◌<◌, ◌≤◌, max, Bool}
+use Rattle.std.proofs.Common.{List, [], ◌∷◌, ◌++◌, length, take, drop, refl, sym, ◌∙◌, ap, subst}
+use Rattle.std.proofs.Common.{arith, append_assoc, length-append, Option, Some, None}
+use Rattle.std.specs.Prelude.{IsTrue}
+use Rattle.std.proofs.lemmas.List.{take-append-le, take-append-drop}
+use Rattle.disk_model.specs.Disk.{EachImage, LeavesOnly, SameDisk}
+use Rattle.disk_model.proofs.Moments.{weaker, and_then}
+use Rattle.turn_cell.specs.History.{Each}
+use Rattle.turn_cell.proofs.HistoryLemmas.{each_append}
+use Rattle.gate_journal.specs.declared.command.Command.{Command}
+use Rattle.gate_journal.specs.declared.row.Row.{Row}
+use Rattle.gate_journal.specs.declared.entry.Entry.{Entry}
+use Rattle.gate_journal.specs.declared.entry.Entry.TheVariants.{Kept, Faulted}
+use Rattle.gate_journal.specs.Rows.{body, header, opened, spelled, EachNext, IsJournal, MayStand}
+use Rattle.gate_journal.specs.Log.{Log, IsBetween, IsOfSession, IsSinceOpened, IsSound, kept}
+use Rattle.gate_journal.specs.Log.{MayOpen, MaySpell, Meanwhile, next_row, rows_found, rows_of}
+use Rattle.gate_journal.specs.Command.{IsCommand}
+use Rattle.gate_journal.proofs.LimitLemmas.{payload_most}
+use Rattle.gate_journal.proofs.LogLemmas.{rows_of-all}
+
+pub rows_of-append : (xs ys : List Entry) → rows_of (xs ++ ys) ≡ rows_of xs ++ rows_of ys
+rows_of-append [] ys = refl
+rows_of-append (Kept r ∷ xs) ys = ap (λ (x : List Row). r ∷ x) (rows_of-append xs ys)
+rows_of-append (Faulted by from to ∷ xs) ys = rows_of-append xs ys
+
+opened_grows : (rows more : List Row) → length (opened rows) ≤ length (opened (rows ++ more))
+opened_grows [] more = omega arith
+opened_grows (r ∷ rows) more =
+    let rest : length (opened rows) ≤ length (opened (rows ++ more)) = opened_grows rows more in
+    omega (
+      arith,
+      rest,
+      length-append (body r) (opened rows),
+      length-append (body r) (opened (rows ++ more)),
+    )
+
+-- more rows are no shorter
+pub spelled_grows :
+    (first last more : List Row) → last ≡ first ++ more
+    → length (spelled first) ≤ length (spelled last)
+spelled_grows first last more grows =
+    subst (λ (rows : List Row). length (spelled first) ≤ length (spelled rows)) (sym grows)
+    (omega (
+      arith,
+      opened_grows first more,
+      length-append header (opened first),
+      length-append header (opened (first ++ more)),
+    ))
+
+-- an image of the time up to a row is one of the time up to a later one
+pub between_later :
+    (first mid last more : List Row) (c : List ℕ) → last ≡ mid ++ more
+    → IsBetween first mid c → IsBetween first last c
+between_later first mid last more c grows b = record {
+  since = b.since;
+  after = b.after ++ more;
+  grows = grows ∙ ap (λ (x : List Row). x ++ more) b.grows
+      ∙ append_assoc (first ++ b.since) b.after more;
+  one_more = b.one_more;
+  spells = b.spells;
+  opens = b.opens;
+}
+
+-- the images of one append
+between_meanwhile :
+    (first since rows last more : List Row) (uncertain : Option Row) (r : Row) (c : List ℕ)
+    → rows ≡ first ++ since → last ≡ rows ++ more → Meanwhile rows uncertain r c
+    → IsBetween first last c
+between_meanwhile first since rows last more uncertain r c is grows (spells, opens) =
+    of spells
+  where
+    one : (one_more : Option Row) → MaySpell rows one_more c → IsBetween first last c
+    one one_more spelled_so = record {
+      since = since;
+      after = more;
+      grows = grows ∙ ap (λ (x : List Row). x ++ more) is;
+      one_more = one_more;
+      spells = subst (λ (x : List Row). MaySpell x one_more c) is spelled_so;
+      opens = subst (λ (x : List Row). MayOpen x c) is opens;
+    }
+
+    of : MaySpell rows uncertain c ⊎ MaySpell rows (Some r) c → IsBetween first last c
+    of (inl old) = one uncertain old
+    of (inr new) = one (Some r) new
+
+-- the rows found come first
+rows_after :
+    (found : ℕ) (entries : List Entry)
+    → rows_of entries ≡ rows_of (take found entries) ++ rows_of (drop found entries)
+rows_after found entries =
+    sym (ap rows_of (take-append-drop found entries))
+    ∙ rows_of-append (take found entries) (drop found entries)
+
+-- the longest row
+row_most :
+    (rows : List Row) (session : ℕ) (command : Command) → IsCommand command
+    → length (body (next_row rows session command)) ≤ 4108
+row_most rows session command is = omega (arith, payload_most command is)
+
+-- one piece of work on a disk after another
+pub same_then :
+    {D : Type 0} {tells : D → Bool} {room label : D → ℕ} {a b c : D}
+    → SameDisk tells room label a b → SameDisk tells room label b c
+    → SameDisk tells room label a c
+same_then p q = record {
+  telling = q.telling ∙ p.telling;
+  size = q.size ∙ p.size;
+  name = q.name ∙ p.name;
+}
+
+module _
+    {D : Type 0} {tells : D → Bool} {may_leave : D → List ℕ → Type 0}
+    {room label reach moment : D → ℕ} {left_since : D → ℕ → List ℕ → Type 0}
+    {log old : Log D} {session : ℕ} {command : Command} (is : log ≡ old)
+    (since : IsSinceOpened tells may_leave room label reach moment left_since log)
+    (stands : MayStand (rows_of old.entries) session command) where
+  abbrev rows : List Row
+  rows = rows_of log.entries
+
+  abbrev found_in : List Entry → List Row
+  found_in entries = rows_of (take log.opening.found entries)
+
+  -- one entry more, of this session, after the calls of an append
+  pub since_more :
+      {disk : D} {entries : List Entry} {ready : Bool} (uncertain : Option Row) (e : Entry)
+      → entries ≡ log.entries ++ e ∷ [] → IsOfSession e → SameDisk tells room label log.disk disk
+      → (IsTrue (tells old.disk) → LeavesOnly moment left_since old.disk disk
+      (Meanwhile (rows_of old.entries) old.uncertain
+      (next_row (rows_of old.entries) session command)))
+      → reach disk ≤ max (reach log.disk) (length (spelled (rows_of log.entries)) + 4110)
+      → IsSinceOpened tells may_leave room label reach moment left_since (record {
+        disk = disk;
+        entries = entries;
+        uncertain = uncertain;
+        opening = log.opening;
+        ready = ready;
+      })
+  since_more {disk = disk} {entries = entries} uncertain e pushed numbered same leaves asked =
+      record {
+        same = same_then since.same same;
+        many = omega (arith, since.many, ap length pushed, length-append log.entries (e ∷ []));
+        numbers = subst (λ (es : List Entry). Each IsOfSession es) (sym pushed)
+            (each_append IsOfSession log.entries (e ∷ []) since.numbers (numbered, tt));
+        meanwhile = λ start journal may told. images start journal may told;
+        reaches = omega (arith, since.reaches, asked, longer);
+      }
+    where
+      grows : rows_of entries ≡ rows ++ rows_of (e ∷ [])
+      grows = ap rows_of pushed ∙ rows_of-append log.entries (e ∷ [])
+
+      longer : length (spelled rows) ≤ length (spelled (rows_of entries))
+      longer = spelled_grows rows (rows_of entries) (rows_of (e ∷ [])) grows
+
+      same_found : found_in log.entries ≡ found_in entries
+      same_found = sym (ap (λ (es : List Entry). found_in es) pushed
+          ∙ ap rows_of (take-append-le log.opening.found log.entries (e ∷ []) since.many))
+
+      here :
+          IsTrue (tells log.disk) → LeavesOnly moment left_since log.disk disk
+          (Meanwhile rows log.uncertain (next_row rows session command))
+      here = subst (λ (l : Log D). IsTrue (tells l.disk)
+          → LeavesOnly moment left_since l.disk disk (Meanwhile (rows_of l.entries) l.uncertain
+          (next_row (rows_of l.entries) session command))) (sym is) leaves
+
+      images :
+          (start : List Row) → IsJournal start
+          → EachImage tells may_leave log.opening.disk (MayOpen start)
+          → IsTrue (tells log.opening.disk)
+          → LeavesOnly moment left_since log.opening.disk disk
+          (λ c. MayOpen start c ⊎ IsBetween (found_in entries) (rows_of entries) c)
+      images start journal may told =
+          let P : List ℕ → Type 0
+          = λ c. MayOpen start c ⊎ IsBetween (found_in entries) (rows_of entries) c
+          in
+          let told_now = subst (λ (b : Bool). IsTrue b) (sym since.same.telling) told in
+          and_then moment left_since log.opening.disk log.disk disk P
+          (weaker moment left_since log.opening.disk log.disk
+          (λ c. MayOpen start c ⊎ IsBetween (found_in log.entries) rows c) P
+          (since.meanwhile start journal may told)
+          (λ c. ⊎_elim (λ opens. inl opens)
+          (λ b. inr (subst (λ (x : List Row). IsBetween x (rows_of entries) c) same_found
+          (between_later (found_in log.entries) rows (rows_of entries) (rows_of (e ∷ [])) c grows b)))))
+          (weaker moment left_since log.disk disk
+          (Meanwhile rows log.uncertain (next_row rows session command)) P (here told_now)
+          (λ c m. inr (subst (λ (x : List Row). IsBetween x (rows_of entries) c) same_found
+          (between_meanwhile (found_in log.entries) (rows_of (drop log.opening.found log.entries)) rows (rows_of entries) (rows_of (e ∷ [])) log.uncertain
+          (next_row rows session command) c (rows_after log.opening.found log.entries) grows m))))
+
+  -- how far a repair writes, and then a row
+  pub asked_gate :
+      (before now end : ℕ) → end ≡ length (spelled (rows_of log.entries))
+      → now ≤ max before (end + 1)
+      → now ≤ max before (length (spelled (rows_of log.entries)) + 4110)
+  asked_gate before now end ends asked = omega (arith, ends, asked)
+
+  pub asked_row :
+      (before mid now end : ℕ) {q : Row} {past : List ℕ}
+      → end ≡ length (spelled (rows_of log.entries))
+      → q ≡ record { place = end; session = session; by = session + 1; command = command }
+      → past ≡ body q ++ 0 ∷ [] → mid ≤ max before (end + 1)
+      → now ≤ max mid (end + 1 + length past)
+      → now ≤ max before (length (spelled (rows_of log.entries)) + 4110)
+  asked_row before mid now end {q} {past} ends made bytes first second =
+      let same : length (body q) ≡ length (body (next_row (rows_of log.entries) session command))
+      = ap (λ (r : Row). length (body r)) made
+      in
+      omega (
+        arith,
+        ends,
+        first,
+        second,
+        same,
+        ap length bytes,
+        length-append (body q) (0 ∷ []),
+        row_most (rows_of log.entries) session command stands.ranges,
+      )
+
+  -- the number of an entry of this session
+  pub numbered : (n : ℕ) → n ≡ session + 1 → (0 < n) × (n ≤ 64)
+  numbered n same = (omega (arith, same), omega (arith, same, stands.below))
+
+-- of a journal that was just opened
+pub since_begun :
+    {D : Type 0} {tells : D → Bool} {may_leave : D → List ℕ → Type 0}
+    {room label reach moment : D → ℕ} {left_since : D → ℕ → List ℕ → Type 0} {given now : D}
+    {entries : List Entry} {ready : Bool} (found : ℕ)
+    → found ≡ length entries → entries ≡ kept (rows_of entries) → IsJournal (rows_of entries)
+    → SameDisk tells room label given now
+    → ((start : List Row) → IsJournal start → EachImage tells may_leave given (MayOpen start)
+    → IsTrue (tells given) → LeavesOnly moment left_since given now (MayOpen start))
+    → reach now ≤ max (reach given) (length (spelled (rows_of entries)) + 1)
+    → IsSinceOpened tells may_leave room label reach moment left_since (record {
+      disk = now;
+      entries = entries;
+      uncertain = None;
+      opening = record { disk = given; found = found };
+      ready = ready;
+    })
+since_begun {D} {tells} {may_leave} {room} {label} {reach} {moment} {left_since} {given} {now}
+    {entries} found many fresh journal same crash asked = record {
+      same = same;
+      many = omega (arith, many);
+      numbers = subst (λ (es : List Entry). Each IsOfSession es) (sym fresh)
+          (numbers_of [] (rows_of entries) journal);
+      meanwhile = λ start is_journal may told.
+          weaker moment left_since given now (MayOpen start)
+          (λ c. MayOpen start c ⊎ IsBetween (rows_of (take found entries)) (rows_of entries) c)
+          (crash start is_journal may told) (λ c opens. inl opens);
+      reaches = omega (arith, asked);
+    }
+  where
+    numbers_of :
+        (before rows : List Row) → EachNext before rows → Each IsOfSession (kept rows)
+    numbers_of before [] all = tt
+    numbers_of before (r ∷ rows) all = (
+      (omega (arith, all.0.by), omega (arith, all.0.by, all.0.stands.below)),
+      numbers_of (before ++ r ∷ []) rows all.1,
+    )
+
+-- room is no part of what holds
+pub reserved :
+    {D : Type 0} {tells : D → Bool} {may_leave : D → List ℕ → Type 0}
+    {room faults label reach moment : D → ℕ} {left_since : D → ℕ → List ℕ → Type 0} {log : Log D}
+    {entries : List Entry} {end : ℕ} {ready : Bool}
+    → entries ≡ log.entries
+    → IsSound tells may_leave room faults log end
+    × IsSinceOpened tells may_leave room label reach moment left_since log
+    → IsSound tells may_leave room faults (record log { entries = entries; ready = ready }) end
+    × IsSinceOpened tells may_leave room label reach moment left_since
+    (record log { entries = entries; ready = ready })
+reserved {D} {tells} {may_leave} {room} {faults} {label} {reach} {moment} {left_since} {log}
+    {end = end} {ready = ready} same (sound, since) =
+    subst (λ (es : List Entry).
+    IsSound tells may_leave room faults (record log { entries = es; ready = ready }) end
+    × IsSinceOpened tells may_leave room label reach moment left_since
+    (record log { entries = es; ready = ready })) (sym same) (
+      record {
+        journal = sound.journal;
+        ends = sound.ends;
+        within = sound.within;
+        next = sound.next;
+        images = sound.images;
+        counts = sound.counts;
+      },
+      record {
+        same = since.same;
+        many = since.many;
+        numbers = since.numbers;
+        meanwhile = since.meanwhile;
+        reaches = since.reaches;
+      },
+    )

@@ -1,0 +1,9 @@
+pub mod ListLemmas
+pub mod TurnLemmas
+pub mod ExactLemmas
+pub mod ChainLemmas
+pub mod ServesLemmas
+pub mod PassLemmas
+pub mod ToldLemmas
+pub mod OpeningLemmas
+pub mod EndLemmas

@@ -1,0 +1,161 @@
+-- The passes of all sessions, and one of them in the place of another.
+use Rattle.std.proofs.Common.{◌≡◌, ℕ, zero, suc, ◌+◌, ◌<◌, ◌≤◌, List, [], ◌∷◌, ◌++◌, length, map, get_or, set, ap, sym, ◌∙◌, refl, subst, inl, arith, Option, Some, None}
+use Rattle.std.specs.List.{range_with_len}
+use Rattle.std.proofs.lemmas.List.{length-map, map-set, get_or-map}
+use Rattle.std.proofs.Math.Seq.{map-set_same}
+use Rattle.atomic_table.specs.Seated.{TableId}
+use Rattle.turn_cell.specs.declared.pass.Pass.{Pass}
+use Rattle.turn_cell.specs.declared.cell.Cell.{Cell}
+use Rattle.turn_cell.specs.Passes.{IsOf, IsOutside, KeepsNumbers, made, seen, tag_of}
+use Rattle.turn_cell.specs.Views.{tag_in}
+use Rattle.story_run.specs.declared.story.Story.{Story}
+use Rattle.session_core.specs.declared.entry.Entry.{Entry}
+use Rattle.session_core.specs.Hosts.{session_on}
+use Rattle.session_desk.specs.Shared.{DeskTag}
+use Rattle.host_serve.specs.Holders.{Holder, nobody, holder_of, holder_at, seen_at, holders, seens}
+use Rattle.host_serve.specs.Hosts.{ArePasses, cell_id, pass_id, sessions_below, tag_at, tags_below}
+use Rattle.host_serve.specs.Serves.{Turn}
+use Rattle.host_serve.specs.Chain.{TurnsIn, Answers}
+use Rattle.host_serve.proofs.ListLemmas.{each_at, each_set}
+
+-- the tag of each session
+range_at : (first many s : ℕ) → s < many → get_or (range_with_len first many) s 0 ≡ first + s
+range_at first zero s low = absurd (omega arith)
+range_at first (suc many) zero low = omega arith
+range_at first (suc many) (suc s) low = range_at (first + 1) many s (omega arith) ∙ omega arith
+
+range_long : (first many : ℕ) → length (range_with_len first many) ≡ many
+range_long first zero = refl
+range_long first (suc many) = ap suc (range_long (first + 1) many)
+
+pub sessions_long : (n : ℕ) → length (sessions_below n) ≡ n
+unfolding sessions_below
+sessions_long n = range_long 0 n
+
+pub session_there : (n s : ℕ) → s < n → get_or (sessions_below n) s 0 ≡ s
+unfolding sessions_below
+session_there n s low = range_at 0 n s low ∙ omega arith
+
+range_more : (first many : ℕ)
+    → range_with_len first (suc many) ≡ range_with_len first many ++ (first + many) ∷ []
+range_more first zero =
+    let same : first ≡ first + 0 = omega arith in ap (λ (k : ℕ). k ∷ []) same
+range_more first (suc many) =
+    let same : (first + 1) + many ≡ first + suc many = omega arith in
+    ap (λ (l : List ℕ). first ∷ l) (range_more (first + 1) many
+    ∙ ap (λ (k : ℕ). range_with_len (first + 1) many ++ k ∷ []) same)
+
+pub sessions_more : (n : ℕ) → sessions_below (n + 1) ≡ sessions_below n ++ n ∷ []
+unfolding sessions_below
+sessions_more n = let next : n + 1 ≡ suc n = omega arith in
+    let same : 0 + n ≡ n = omega arith in
+    ap (λ (k : ℕ). range_with_len 0 k) next ∙ (range_more 0 n
+    ∙ ap (λ (k : ℕ). range_with_len 0 n ++ k ∷ []) same)
+
+pub tag_there : (stories : List Story) (budget : ℕ) (journal : TableId) (s : ℕ)
+    (other : Option DeskTag) → s < 64
+    → get_or (tags_below stories budget journal 64) s other
+    ≡ Some (tag_at stories budget journal s)
+tag_there stories budget journal s other low =
+    get_or-map (λ (k : ℕ). Some (tag_at stories budget journal k)) (sessions_below 64) s 0 other
+    (let many = sessions_long 64 in omega arith)
+    ∙ ap (λ (k : ℕ). Some (tag_at stories budget journal k)) (session_there 64 s low)
+
+module _ {T E G : Type 0} (tag : T → G) (tags : List (Option G)) where
+  pub as_many : (cells : List (Cell T E)) (passes : List (Pass T E))
+      → ArePasses tag tags cells passes → length passes ≡ length cells
+  as_many cells passes a = sym (length-map passes pass_id)
+      ∙ (ap (λ (l : List TableId). length l) (sym a.same) ∙ length-map cells cell_id)
+
+  pub pass_ready : (cells : List (Cell T E)) (passes : List (Pass T E)) (s : ℕ) (c : Cell T E)
+      (p : Pass T E) → ArePasses tag tags cells passes → s < length cells → c ≡ get_or cells s c
+      → p ≡ get_or passes s p → IsOf c p × IsOutside p
+  pass_ready cells passes s c p a low at_c at_p = let many = as_many cells passes a in
+      let low' : s < length passes = omega arith in (
+        ap (λ (q : Pass T E). pass_id q) at_p
+            ∙ (sym (get_or-map (λ (q : Pass T E). pass_id q) passes s p (cell_id c) low')
+            ∙ (ap (λ (l : List TableId). get_or l s (cell_id c)) (sym a.same)
+            ∙ (get_or-map (λ (d : Cell T E). cell_id d) cells s c (cell_id c) low
+            ∙ ap (λ (d : Cell T E). cell_id d) (sym at_c)))),
+        subst IsOutside (sym at_p) (each_at IsOutside passes s p a.outside low'),
+      )
+
+  pub pass_tagged : (cells : List (Cell T E)) (passes : List (Pass T E)) (s : ℕ) (p : Pass T E)
+      → ArePasses tag tags cells passes → s < length cells → p ≡ get_or passes s p
+      → tag_of tag p ≡ get_or tags s None
+  pass_tagged cells passes s p a low at_p = let many = as_many cells passes a in
+      ap (λ (q : Pass T E). tag_of tag q) at_p
+      ∙ (sym (get_or-map (λ (q : Pass T E). tag_of tag q) passes s p None (omega arith))
+      ∙ ap (λ (l : List (Option G)). get_or l s None) a.tagged)
+
+  pub are_still : (cells : List (Cell T E)) (passes : List (Pass T E)) (s : ℕ) (c : Cell T E)
+      (p q : Pass T E) → ArePasses tag tags cells passes → s < length cells
+      → c ≡ get_or cells s c → p ≡ get_or passes s p → IsOf c q → IsOutside q → KeepsNumbers p q
+      → ArePasses tag tags cells (set passes s q)
+  are_still cells passes s c p q a low at_c at_p of outside kept =
+      let ready = pass_ready cells passes s c p a low at_c at_p in
+      record {
+        same = a.same ∙ sym (map-set_same (λ (r : Pass T E). pass_id r) passes s q p
+            (of ∙ (sym ready.0 ∙ ap (λ (r : Pass T E). pass_id r) at_p)));
+        outside = each_set IsOutside passes s q a.outside outside;
+        tagged = map-set_same (λ (r : Pass T E). tag_of tag r) passes s q p
+            (ap (λ (x : Option T). tag_in tag x) kept.2
+            ∙ ap (λ (r : Pass T E). tag_of tag r) at_p) ∙ a.tagged;
+      }
+
+  pub holders_many : (cells : List (Cell T E)) (passes : List (Pass T E))
+      → ArePasses tag tags cells passes → length cells ≡ 64 → length (holders passes) ≡ 64
+  holders_many cells passes a many =
+      length-map passes holder_of ∙ (as_many cells passes a ∙ many)
+
+  pub seens_many : (cells : List (Cell T E)) (passes : List (Pass T E))
+      → ArePasses tag tags cells passes → length cells ≡ 64 → length (seens passes) ≡ 64
+  seens_many cells passes a many = length-map passes seen ∙ (as_many cells passes a ∙ many)
+
+pub holders_still : {T E : Type 0} (passes : List (Pass T E)) (s : ℕ) (p q : Pass T E)
+    → p ≡ get_or passes s p → KeepsNumbers p q → made q ≡ made p
+    → holders (set passes s q) ≡ holders passes
+holders_still passes s p q at_p kept made_kept =
+    let same : holder_of q ≡ holder_of p =
+    λ i. record { number = kept.0 i; made = made_kept i; holds = kept.1 i } in
+    map-set_same holder_of passes s q p (same ∙ ap holder_of at_p)
+
+-- who holds a session's pass, and what that has seen
+pub holder_there : {T E : Type 0} (passes : List (Pass T E)) (s : ℕ) (p : Pass T E)
+    → s < length passes → p ≡ get_or passes s p → holder_at (holders passes) s ≡ holder_of p
+holder_there passes s p low at_p =
+    get_or-map holder_of passes s p nobody low ∙ ap holder_of (sym at_p)
+
+pub seen_of_pass : {T : Type 0} (passes : List (Pass T Entry)) (s : ℕ) (p : Pass T Entry)
+    → s < length passes → p ≡ get_or passes s p → seen_at (seens passes) s ≡ seen p
+seen_of_pass passes s p low at_p = get_or-map seen passes s p [] low ∙ ap seen (sym at_p)
+
+-- a pass that stands where it stood
+pub pass_at : {A : Type 0} (now old : List A) (s : ℕ) (p : A) → p ≡ get_or now s p
+    → ((t : ℕ) (d : A) → s ≤ t → get_or now t d ≡ get_or old t d)
+    → get_or now s p ≡ get_or old s (get_or now s p)
+pass_at now old s p is later =
+    ap (λ (d : _). get_or now s d) is ∙ later s (get_or now s p) (omega arith)
+
+-- a turn by one of the passes
+pub answers_in : {T : Type 0} (stories : List Story) (budget : ℕ) (passes : List (Pass T Entry))
+    (s : ℕ) (p q : Pass T Entry) (t : Turn) → length passes ≡ 64 → p ≡ get_or passes s p
+    → s < 64 → t.mark.session ≡ s → session_on t.line ≡ s
+    → TurnsIn stories budget (holder_of p) (seen p) t (seen q)
+    → Answers stories budget (holders passes) (seens passes) t (seens (set passes s q))
+answers_in stories budget passes s p q t many at_p low marked named turn =
+    let low' : s < length passes = omega arith in
+    let h : holder_at (holders passes) t.mark.session ≡ holder_of p =
+    ap (λ (k : ℕ). holder_at (holders passes) k) marked
+    ∙ (get_or-map holder_of passes s p nobody low' ∙ ap holder_of (sym at_p)) in
+    let l : seen_at (seens passes) t.mark.session ≡ seen p =
+    ap (λ (k : ℕ). seen_at (seens passes) k) marked
+    ∙ (get_or-map seen passes s p [] low' ∙ ap seen (sym at_p)) in
+    inl (record {
+      session = (omega arith, marked ∙ sym named);
+      after = seen q;
+      turn = subst (λ (x : Holder × List Entry). TurnsIn stories budget x.0 x.1 t (seen q))
+          (λ i. (sym h i, sym l i)) turn;
+      seen = map-set seen passes s q
+          ∙ ap (λ (k : ℕ). set (seens passes) k (seen q)) (sym marked);
+    })

@@ -1,0 +1,382 @@
+-- From turns one after the other to what is said of all of them.
+use Rattle.std.proofs.Common.{◌≡◌, ◌⊎◌, ◌≢◌, ℕ, zero, suc, ◌+◌, ◌<◌, ◌≤◌, Some, List, [], ◌∷◌, ◌++◌, length, set, take, refl, ap, sym, ◌∙◌, subst, inl, inr, ⊎_elim, append_assoc, arith}
+use Rattle.std.specs.Prelude.{slice_get}
+use Rattle.std.proofs.lemmas.Bool.{cases_lt}
+use Rattle.std.proofs.Math.Seq.{take-append_seam}
+use Rattle.std.proofs.Math.ListN.{get_or-eq_default}
+use Rattle.turn_cell.specs.History.{IsAmong, IsForeign}
+use Rattle.story_run.specs.declared.story.Story.{Story}
+use Rattle.session_core.specs.declared.entry.Entry.{Entry}
+use Rattle.session_core.specs.Turning.{entry_by, AddsTo, Turned}
+use Rattle.session_core.proofs.TurningLemmas.{turn_adds}
+use Rattle.host_serve.specs.Holders.{Holder, nobody, IsAloneHolder, holder_at, seen_at}
+use Rattle.host_serve.specs.Serves.{Turn, IsTurn, IsOfItsSession, IsOfNoSession, MayMeetIn, marked, turned_on, turned, Adds, AddsNothing, AddedOnce, Folds, IsExact, Serves}
+use Rattle.host_serve.specs.Chain.{TurnsIn, Answers, Chain}
+use Rattle.host_serve.proofs.TurnLemmas.{none_adds}
+use Rattle.host_serve.proofs.ExactLemmas.{exact}
+use Rattle.host_serve.proofs.ListLemmas.{eq_or_ne, same_some, none_some, each_there, there_after, nothing_past, set_past, length_more, length_both}
+use Rattle.host_serve.proofs.ChainLemmas.{Grows, seen_there, seen_elsewhere, answer_wide, answer_grows, chain_wide, chain_grows}
+
+take_none : (n : ℕ) → n ≡ 0 → take {A = Entry} n [] ≡ []
+take_none n e = ap (λ (k : ℕ). take {A = Entry} k []) e
+
+empty_there : (seens : List (List Entry)) (s : ℕ) → length seens ≡ 64 → s ≡ 64
+    → seen_at seens s ≡ []
+empty_there seens s wide e = get_or-eq_default seens [] (omega arith)
+
+module _ (stories : List Story) (budget : ℕ) where
+  -- in one session: the turn on the prefix of the final history that its mark names
+  abbrev MarkedTurn : Holder → List Entry → Turn → Turned
+  MarkedTurn h final t = turned_on stories budget (take t.mark.length final) h.number t
+
+  -- in one session: the turn adds the entry that stands there in the end
+  abbrev AddsIn : Holder → List Entry → Turn → Type 0
+  AddsIn h final t = (e : Entry)
+      × ((MarkedTurn h final t).history ≡ take t.mark.length final ++ e ∷ [])
+      × (slice_get final t.mark.length ≡ Some e) × (entry_by e ≡ h.number)
+
+  -- in one session: what a turn is, with what was seen before it, after it and in the end
+  record Stands (h : Holder) (old : List Entry) (t : Turn) (mid final : List Entry) : Type 0 where
+    pub prefix : t.mark.length ≤ length final
+    pub begins : length old ≤ t.mark.length
+    pub least : t.mark.length ≤ length mid
+    pub more : AddsIn h final t → length mid ≡ t.mark.length + 1
+    pub reply : t.reply ≡ (MarkedTurn h final t).reply
+    pub met : MayMeetIn stories budget (take t.mark.length final) t
+    pub adds : ((MarkedTurn h final t).history ≡ take t.mark.length final) ⊎ AddsIn h final t
+    pub made : (place : ℕ) (e : Entry) → length old ≤ place → place < length mid
+        → slice_get final place ≡ Some e → IsAmong (entry_by e) h.holds
+        → (t.mark.length ≡ place) × AddsIn h final t
+
+  stands_in : (h : Holder) (old : List Entry) (t : Turn) (mid final rest : List Entry)
+      → TurnsIn stories budget h old t mid → final ≡ mid ++ rest → Stands h old t mid final
+  stands_in h old t mid final rest i goes =
+      of (turn_adds stories budget i.before h.number t.line t.outcome)
+    where
+      marked_is : (tail : List Entry) → final ≡ i.before ++ tail
+          → take t.mark.length final ≡ i.before
+      marked_is tail e = subst (λ (x : ℕ × List Entry). take x.0 x.1 ≡ i.before)
+          (λ j. (sym i.length j, sym e j)) (take-append_seam i.before tail)
+
+      begins_in : length old ≤ t.mark.length
+      begins_in = let a = ap (λ (l : List Entry). length l) i.since.1 in
+          let b = length_both old i.since.0 in let c = i.length in omega arith
+
+      same_turn : (tail : List Entry) → final ≡ i.before ++ tail
+          → MarkedTurn h final t ≡ turned_on stories budget i.before h.number t
+      same_turn tail e =
+          ap (λ (l : List Entry). turned_on stories budget l h.number t) (marked_is tail e)
+
+      met_in : (tail : List Entry) → final ≡ i.before ++ tail
+          → MayMeetIn stories budget (take t.mark.length final) t
+      met_in tail e =
+          subst (λ (l : List Entry). MayMeetIn stories budget l t) (sym (marked_is tail e)) i.met
+
+      -- an entry that came since and was there as the turn began is another's
+      others : (tail : List Entry) → final ≡ i.before ++ tail → (place : ℕ) (e : Entry)
+          → length old ≤ place → place < length i.before → slice_get final place ≡ Some e
+          → IsAmong (entry_by e) h.holds → ⊥
+      others tail is place e low high there held =
+          each_there (IsForeign entry_by h.holds) old i.since.0 tail place e i.since.2 low
+          (subst (λ (l : List Entry). place < length l) i.since.1 high)
+          (subst (λ (l : List Entry). slice_get l place ≡ Some e)
+          (is ∙ ap (λ (l : List Entry). l ++ tail) i.since.1) there) held
+
+      of : AddsTo i.before h.number (turned_on stories budget i.before h.number t).history
+          → Stands h old t mid final
+      of (inl same) = let ended : mid ≡ i.before = i.history ∙ same in
+          let is : final ≡ i.before ++ rest = goes ∙ ap (λ (l : List Entry). l ++ rest) ended in
+          let a = ap (λ (l : List Entry). length l) is in let b = length_both i.before rest in
+          let c = i.length in let d = ap (λ (l : List Entry). length l) ended in
+          let nothing : (MarkedTurn h final t).history ≡ take t.mark.length final =
+          ap (λ (x : Turned). x.history) (same_turn rest is)
+          ∙ (same ∙ sym (marked_is rest is)) in
+          record {
+            prefix = omega arith;
+            begins = begins_in;
+            least = omega arith;
+            more = λ p. let f = ap (λ (l : List Entry). length l) (sym nothing ∙ p.1) in
+                let g = length_more (take t.mark.length final) p.0 in absurd (omega arith);
+            reply = i.reply ∙ sym (ap (λ (x : Turned). x.reply) (same_turn rest is));
+            met = met_in rest is;
+            adds = inl nothing;
+            made = λ place e low high there held. absurd (others rest is place e low
+                (subst (λ (l : List Entry). place < length l) ended high) there held);
+          }
+      of (inr more) = let ended : mid ≡ i.before ++ more.0 ∷ [] = i.history ∙ more.1 in
+          let whole : final ≡ (i.before ++ more.0 ∷ []) ++ rest =
+          goes ∙ ap (λ (l : List Entry). l ++ rest) ended in
+          let is : final ≡ i.before ++ (more.0 ∷ rest) =
+          whole ∙ append_assoc i.before (more.0 ∷ []) rest in
+          let a = ap (λ (l : List Entry). length l) is in
+          let b = length_both i.before (more.0 ∷ rest) in let c = i.length in
+          let d = ap (λ (l : List Entry). length l) ended in
+          let f = length_more i.before more.0 in
+          let taken = marked_is (more.0 ∷ rest) is in
+          let added : AddsIn h final t = (
+            more.0,
+            ap (λ (x : Turned). x.history) (same_turn (more.0 ∷ rest) is)
+                ∙ (more.1 ∙ ap (λ (l : List Entry). l ++ more.0 ∷ []) (sym taken)),
+            subst (λ (x : ℕ × List Entry). slice_get x.1 x.0 ≡ Some more.0)
+                (λ j. (sym i.length j, sym whole j)) (there_after i.before rest more.0),
+            more.2,
+          ) in
+          record {
+            prefix = omega arith;
+            begins = begins_in;
+            least = omega arith;
+            more = λ p. omega arith;
+            reply = i.reply ∙ sym (ap (λ (x : Turned). x.reply) (same_turn (more.0 ∷ rest) is));
+            met = met_in (more.0 ∷ rest) is;
+            adds = inr added;
+            made = λ place e low high there held. ⊎_elim
+                (λ (within : place < length i.before).
+                absurd (others (more.0 ∷ rest) is place e low within there held))
+                (λ (past : length i.before ≤ place). (omega arith, added))
+                (cases_lt place (length i.before));
+          }
+
+  stands_none : (t : Turn) → IsOfNoSession t → MayMeetIn stories budget [] t
+      → t.reply ≡ (turned_on stories budget [] 0 t).reply → Stands nobody [] t [] []
+  stands_none t none met reply = let e = none.1 in let nil = take_none t.mark.length none.1 in
+      let same = ap (λ (l : List Entry). turned_on stories budget l 0 t) nil in
+      record {
+        prefix = omega arith;
+        begins = omega arith;
+        least = omega arith;
+        more = λ p. absurd (none_some p.0 p.2);
+        reply = reply ∙ sym (ap (λ (x : Turned). x.reply) same);
+        met = subst (λ (l : List Entry). MayMeetIn stories budget l t) (sym nil) met;
+        adds = inl (ap (λ (x : Turned). x.history) same
+            ∙ (none_adds stories budget t.line t.outcome none.2 ∙ sym nil));
+        made = λ place x low high there held. absurd (omega arith);
+      }
+
+  module _ (holders : List Holder) (many : length holders ≡ 64) where
+    -- an answered line, against what is seen in the end
+    abbrev StandsAt : List (List Entry) → Turn → List (List Entry) → List (List Entry) → Type 0
+    StandsAt old t mid new = Stands (holder_at holders t.mark.session)
+        (seen_at old t.mark.session) t (seen_at mid t.mark.session) (seen_at new t.mark.session)
+
+    head_stands : (old : List (List Entry)) (t : Turn) (mid new : List (List Entry))
+        → length old ≡ 64 → length new ≡ 64 → Answers stories budget holders old t mid
+        → Grows mid new → StandsAt old t mid new
+    head_stands old t mid new wide wide' (inl o) grows = let g = grows t.mark.session in
+        let there = seen_there stories budget holders old t mid wide o in
+        subst (λ (l : List Entry). Stands (holder_at holders t.mark.session)
+        (seen_at old t.mark.session) t l (seen_at new t.mark.session)) (sym there)
+        (stands_in (holder_at holders t.mark.session) (seen_at old t.mark.session) t o.after
+        (seen_at new t.mark.session) g.0 o.turn
+        (g.1 ∙ ap (λ (l : List Entry). l ++ g.0) there))
+    head_stands old t mid new wide wide' (inr n) grows = let s = n.none.0 in
+        let h : holder_at holders t.mark.session ≡ nobody =
+        get_or-eq_default holders nobody (omega arith) in
+        let a = empty_there old t.mark.session wide s in
+        let b = ap (λ (x : List (List Entry)). seen_at x t.mark.session) n.seen ∙ a in
+        let c = empty_there new t.mark.session wide' s in
+        subst (λ (x : Holder × List Entry × List Entry × List Entry). Stands x.0 x.1 t x.2 x.3)
+        (λ j. (sym h j, sym a j, sym b j, sym c j)) (stands_none t n.none n.met n.reply)
+
+    -- the first turn of a chain
+    first_stands : (old : List (List Entry)) (t : Turn) (ts : List Turn)
+        (new : List (List Entry)) → length old ≡ 64
+        → (c : Chain stories budget holders old (t ∷ ts) new) → StandsAt old t c.0 new
+    first_stands old t ts new wide c =
+        let wide' = answer_wide stories budget holders old t c.0 wide c.1 in
+        head_stands old t c.0 new wide (chain_wide stories budget holders c.0 ts new wide' c.2) c.1
+        (chain_grows stories budget holders c.0 ts new wide' c.2)
+
+    session_of_turn : (old : List (List Entry)) (t : Turn) (mid : List (List Entry))
+        → Answers stories budget holders old t mid → IsOfItsSession t ⊎ IsOfNoSession t
+    session_of_turn old t mid (inl o) = inl o.session
+    session_of_turn old t mid (inr n) = inr n.none
+
+    -- what holds of each turn by itself
+    abbrev Settled : List (List Entry) → Turn → Type 0
+    Settled new t = (IsOfItsSession t ⊎ IsOfNoSession t)
+        × (t.mark.length ≤ length (seen_at new t.mark.session))
+        × (t.reply ≡ (turned stories budget holders new t).reply)
+        × (AddsNothing stories budget holders new t ⊎ Adds stories budget holders new t)
+        × MayMeetIn stories budget (marked new t) t
+
+    settled : (old : List (List Entry)) (ts : List Turn) (new : List (List Entry))
+        → length old ≡ 64 → Chain stories budget holders old ts new → (i : ℕ) (t : Turn)
+        → IsTurn ts i t → Settled new t
+    settled old [] new wide c i t is = absurd (none_some t is)
+    settled old (x ∷ xs) new wide c zero t is =
+        let s = first_stands old x xs new wide c in
+        subst (Settled new) (same_some x t is)
+        (session_of_turn old x c.0 c.1, s.prefix, s.reply, s.adds, s.met)
+    settled old (x ∷ xs) new wide c (suc i) t is =
+        settled c.0 xs new (answer_wide stories budget holders old x c.0 wide c.1) c.2 i t is
+
+    begins_all : (old : List (List Entry)) (ts : List Turn) (new : List (List Entry))
+        → length old ≡ 64 → Chain stories budget holders old ts new → (i : ℕ) (t : Turn)
+        → IsTurn ts i t → length (seen_at old t.mark.session) ≤ t.mark.length
+    begins_all old [] new wide c i t is = absurd (none_some t is)
+    begins_all old (x ∷ xs) new wide c zero t is =
+        let s = first_stands old x xs new wide c in
+        subst (λ (u : Turn). length (seen_at old u.mark.session) ≤ u.mark.length)
+        (same_some x t is) s.begins
+    begins_all old (x ∷ xs) new wide c (suc i) t is =
+        let more = begins_all c.0 xs new
+        (answer_wide stories budget holders old x c.0 wide c.1) c.2 i t is in
+        let g = answer_grows stories budget holders old x c.0 wide c.1 t.mark.session in
+        let a = ap (λ (l : List Entry). length l) g.1 in
+        let b = length_both (seen_at old t.mark.session) g.0 in omega arith
+
+    abbrev Rises : List (List Entry) → Turn → Turn → Type 0
+    Rises new t u = (t.mark.length ≤ u.mark.length)
+        × (Adds stories budget holders new t → t.mark.length < u.mark.length)
+
+    rises_all : (old : List (List Entry)) (ts : List Turn) (new : List (List Entry))
+        → length old ≡ 64 → Chain stories budget holders old ts new → (i j : ℕ) (t u : Turn)
+        → IsTurn ts i t → IsTurn ts j u → i < j → t.mark.session ≡ u.mark.session
+        → Rises new t u
+    rises_all old [] new wide c i j t u is at low same = absurd (none_some t is)
+    rises_all old (x ∷ xs) new wide c i zero t u is at low same = absurd (omega arith)
+    rises_all old (x ∷ xs) new wide c zero (suc j) t u is at low same =
+        let wide' = answer_wide stories budget holders old x c.0 wide c.1 in
+        let s = first_stands old x xs new wide c in
+        let after = begins_all c.0 xs new wide' c.2 j u at in
+        let e = same_some x t is in
+        let there : length (seen_at c.0 x.mark.session) ≤ u.mark.length =
+        subst (λ (k : ℕ). length (seen_at c.0 k) ≤ u.mark.length)
+        (sym (ap (λ (y : Turn). y.mark.session) e ∙ same)) after in
+        subst (λ (y : Turn). Rises new y u) e
+        (let a = s.least in omega arith, λ p. let b = s.more p in omega arith)
+    rises_all old (x ∷ xs) new wide c (suc i) (suc j) t u is at low same =
+        rises_all c.0 xs new (answer_wide stories budget holders old x c.0 wide c.1) c.2
+        i j t u is at (omega arith) same
+
+    once_all : (old : List (List Entry)) (ts : List Turn) (new : List (List Entry))
+        → length old ≡ 64 → Chain stories budget holders old ts new → (s place : ℕ) (e : Entry)
+        → length (seen_at old s) ≤ place → slice_get (seen_at new s) place ≡ Some e
+        → IsAmong (entry_by e) (holder_at holders s).holds
+        → AddedOnce stories budget holders new ts s place
+    once_all old [] new wide c s place e low is held =
+        absurd (nothing_past (seen_at new s) place e
+        (subst (λ (x : List (List Entry)). length (seen_at x s) ≤ place) (sym c) low) is)
+    once_all old (x ∷ xs) new wide c s place e low is held =
+        of (λ past. once_all c.0 xs new (answer_wide stories budget holders old x c.0 wide c.1) c.2
+        s place e past is held) (cases_lt place (length (seen_at c.0 s)))
+      where
+        wide' : length c.0 ≡ 64
+        wide' = answer_wide stories budget holders old x c.0 wide c.1
+
+        stands : StandsAt old x c.0 new
+        stands = first_stands old x xs new wide c
+
+        later : length (seen_at c.0 s) ≤ place → AddedOnce stories budget holders new xs s place
+            → AddedOnce stories budget holders new (x ∷ xs) s place
+        later past r = record {
+          which = suc r.which;
+          turn = r.turn;
+          stands = r.stands;
+          session = r.session;
+          place = r.place;
+          adds = r.adds;
+          only = only_later;
+        }
+          where
+            only_later : (j : ℕ) (u : Turn) → IsTurn (x ∷ xs) j u → u.mark.session ≡ s
+                → u.mark.length ≡ place → Adds stories budget holders new u → j ≡ suc r.which
+            only_later (suc j) u at session long adds = ap suc (r.only j u at session long adds)
+            only_later zero u at session long adds = let same = same_some x u at in
+                let more = stands.more
+                (subst (Adds stories budget holders new) (sym same) adds) in
+                let a = ap (λ (y : Turn). y.mark.length) same in
+                let b = ap (λ (k : ℕ). length (seen_at c.0 k))
+                (ap (λ (y : Turn). y.mark.session) same ∙ session) in
+                absurd (omega arith)
+
+        here : place < length (seen_at c.0 s) → s ≡ x.mark.session
+            → AddedOnce stories budget holders new (x ∷ xs) s place
+        here high same = let m = stands.made place e
+            (subst (λ (k : ℕ). length (seen_at old k) ≤ place) same low)
+            (subst (λ (k : ℕ). place < length (seen_at c.0 k)) same high)
+            (subst (λ (k : ℕ). slice_get (seen_at new k) place ≡ Some e) same is)
+            (subst (λ (k : ℕ). IsAmong (entry_by e) (holder_at holders k).holds) same held) in
+            record {
+              which = 0;
+              turn = x;
+              stands = refl;
+              session = sym same;
+              place = m.0;
+              adds = m.1;
+              only = only_here;
+            }
+          where
+            only_here : (j : ℕ) (u : Turn) → IsTurn (x ∷ xs) j u → u.mark.session ≡ s
+                → u.mark.length ≡ place → Adds stories budget holders new u → j ≡ 0
+            only_here zero u at session long adds = refl
+            only_here (suc j) u at session long adds =
+                let a = begins_all c.0 xs new wide' c.2 j u at in
+                let b = ap (λ (k : ℕ). length (seen_at c.0 k)) session in absurd (omega arith)
+
+        of : (length (seen_at c.0 s) ≤ place → AddedOnce stories budget holders new xs s place)
+            → (place < length (seen_at c.0 s)) ⊎ (length (seen_at c.0 s) ≤ place)
+            → AddedOnce stories budget holders new (x ∷ xs) s place
+        of more (inr past) = later past (more past)
+        of more (inl high) = ⊎_elim (λ (same : s ≡ x.mark.session). here high same)
+            (λ (other : s ≢ x.mark.session). let a = ap (λ (l : List Entry). length l)
+            (seen_elsewhere stories budget holders old x c.0 s other c.1) in absurd (omega arith))
+            (eq_or_ne s x.mark.session)
+
+    abbrev AllAlone : Type 0
+    AllAlone = (s : ℕ) → IsAloneHolder (holder_at holders s)
+
+    folds_all : (old : List (List Entry)) (ts : List Turn) (new : List (List Entry))
+        → length old ≡ 64 → Chain stories budget holders old ts new → AllAlone
+        → Folds stories budget holders old ts new
+    folds_all old [] new wide c alone = c
+    folds_all old (x ∷ xs) new wide c alone = of (folds_all c.0 xs new
+        (answer_wide stories budget holders old x c.0 wide c.1) c.2 alone) c.1
+      where
+        of : Folds stories budget holders c.0 xs new → Answers stories budget holders old x c.0
+            → Folds stories budget holders old (x ∷ xs) new
+        of rest (inl o) = let h = holder_at holders x.mark.session in
+            let same = o.turn.alone (alone x.mark.session) in (
+              o.turn.length ∙ ap (λ (l : List Entry). length l) same,
+              o.turn.reply
+                  ∙ ap (λ (l : List Entry). (turned_on stories budget l h.number x).reply) same,
+              subst (λ (l : List (List Entry)). Folds stories budget holders l xs new)
+                  (o.seen ∙ ap (λ (l : List Entry). set old x.mark.session l) (o.turn.history
+                  ∙ ap (λ (l : List Entry). (turned_on stories budget l h.number x).history) same))
+                  rest,
+            )
+        of rest (inr n) = let s = n.none.0 in let nil = empty_there old x.mark.session wide s in
+            let h : holder_at holders x.mark.session ≡ nobody =
+            get_or-eq_default holders nobody (omega arith) in
+            let turn = turned_on stories budget (seen_at old x.mark.session)
+            (holder_at holders x.mark.session).number x in
+            let same : turn ≡ turned_on stories budget [] 0 x =
+            ap (λ (y : List Entry × Holder). turned_on stories budget y.0 y.1.number x)
+            (λ i. (nil i, h i)) in (
+              n.none.1 ∙ ap (λ (l : List Entry). length l) (sym nil),
+              n.reply ∙ ap (λ (y : Turned). y.reply) (sym same),
+              subst (λ (l : List (List Entry)). Folds stories budget holders l xs new)
+                  (n.seen ∙ sym (set_past old x.mark.session turn.history (omega arith))) rest,
+            )
+
+    pub serves_of : (old : List (List Entry)) (ts : List Turn) (new : List (List Entry))
+        → length old ≡ 64 → Chain stories budget holders old ts new
+        → Serves stories budget holders old ts new
+    serves_of old ts new wide c = record {
+      marks = λ i t is. (settled old ts new wide c i t is).0;
+      prefix = λ i t is. (settled old ts new wide c i t is).1;
+      begins = begins_all old ts new wide c;
+      rises = λ i j t u is at low same. rises_all old ts new wide c i j t u is at low same;
+      replies = λ i t is. let s = settled old ts new wide c i t is in (s.2, s.3);
+      exact = λ i t is. let s = settled old ts new wide c i t is in
+          exact stories budget holders new t s.2 s.3 s.4;
+      once = once_all old ts new wide c;
+      grows = chain_grows stories budget holders old ts new wide c;
+      alone = folds_all old ts new wide c;
+    }
+
+    -- the turn of one line
+    pub exact_of : (old : List (List Entry)) (t : Turn) (new : List (List Entry))
+        → length old ≡ 64 → Answers stories budget holders old t new
+        → IsExact stories budget holders new t
+    exact_of old t new wide a = (serves_of old (t ∷ []) new wide (new, a, refl)).exact 0 t refl

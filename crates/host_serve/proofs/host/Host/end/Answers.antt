@@ -1,0 +1,48 @@
+use Rattle.std.proofs.Common.{List, length, ap, sym, subst, ◌∙◌}
+use Rattle.turn_cell.specs.declared.cell.Cell.{Cell}
+use Rattle.turn_cell.specs.declared.pass.Pass.{Pass}
+use Rattle.session_core.specs.declared.entry.Entry.{Entry}
+use Rattle.session_desk.specs.Shared.{SharedState, desk_tag}
+use Rattle.host_serve.specs.Gathering.{Gathers}
+use Rattle.host_serve.specs.Holders.{holders, seens}
+use Rattle.host_serve.specs.Hosts.{ArePasses, cell_id, tags_below}
+use Rattle.host_serve.proofs.EndLemmas.{ends_with}
+use Rattle.host_serve.proofs.host.Host.end.Goals as goal
+
+pub gather-requires-clause-many : goal.gather-requires-clause-many
+gather-requires-clause-many g c =
+    ap (λ (l : List (Cell (SharedState g.row.D.Denot) Entry)). length l) c.deref.ensures.value
+    ∙ c.requires.passes.whole.many
+
+pub gather-requires-clause-root : goal.gather-requires-clause-root
+gather-requires-clause-root g c = c.requires.passes.whole.root
+
+pub gather-requires-clause-passes : goal.gather-requires-clause-passes
+gather-requires-clause-passes g c = (
+  c.args.self.stories.now,
+  c.args.self.budget,
+  subst (λ (x : List (Cell (SharedState g.row.D.Denot) Entry)
+      × List (Pass (SharedState g.row.D.Denot) Entry)). ArePasses desk_tag
+      (tags_below c.args.self.stories.now c.args.self.budget (cell_id c.args.self.journal) 64)
+      x.0 x.1) (λ i. (sym c.deref.ensures.value i, sym c.deref_mut.ensures.value i))
+      c.requires.passes.each,
+)
+
+pub returns : goal.returns
+returns g c = record {
+  value = (
+    c.enter.result,
+    c.into_disk.ensures.value,
+    ends_with c.args.self c.args.passes c.gather.new.root c.enter.result
+        c.requires.passes.whole
+        (subst (λ (l : List (Pass (SharedState g.row.D.Denot) Entry)). Gathers 64 (holders l)
+        (seens l) c.args.self.root c.gather.new.root) c.deref_mut.ensures.value
+        c.gather.ensures.value)
+        c.enter.ensures.value c.enter.ensures.tag c.into_disk.ensures.journal,
+    c.into_disk.ensures.journal,
+    c.into_disk.ensures.images,
+    c.into_disk.ensures.opens,
+    c.into_disk.ensures.rises,
+    c.into_disk.ensures.since,
+  );
+}

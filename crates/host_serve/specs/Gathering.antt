@@ -1,0 +1,43 @@
+-- The desks' passes of the journal, joined into its root one after the other (own).
+use Rattle.std.specs.Prelude.{◌≡◌, ℕ, ◌+◌, ◌<◌, List, [], ◌∷◌, ◌++◌, length, map}
+use Rattle.turn_cell.specs.History.{Continues, IsAmong, IsForeign}
+use Rattle.turn_cell.specs.declared.pass.Pass.{Pass}
+use Rattle.turn_cell.specs.Passes.{holds, made, number, sample, seen}
+use Rattle.gate_journal.specs.Log.{Log, number_of}
+use Rattle.gate_journal.specs.declared.entry.Entry.{Entry as JournalEntry}
+use Rattle.session_core.specs.declared.entry.Entry.{Entry}
+use Rattle.session_desk.specs.Shared.{unnumbered}
+use Rattle.session_desk.specs.Turn.{history_in}
+use Rattle.host_serve.specs.Ending.{EndsAt}
+use Rattle.host_serve.specs.Holders.{Holder, holder_at, seen_at}
+
+-- a session's history as its desk has it, what that desk's pass has seen of the journal, and what
+-- has come since
+pub record Heard (s : ℕ) (journal : List JournalEntry) (final : List Entry) : Type 0 where
+  pub seen : List JournalEntry
+  pub since : Continues (IsForeign number_of ((s + 1) ∷ [])) journal seen
+  pub entries : map unnumbered final ≡ history_in seen s
+
+module _ {D : Type 0} where
+  -- the session's desk was entered, by this holder, and its pass joined into the root
+  pub record BringsIn (s : ℕ) (h : Holder) (old : List Entry) (root : Pass (Log D) JournalEntry)
+      : Type 0 where
+    pub final : List Entry
+    pub ends : EndsAt h old final
+    pub heard : Heard s (seen root) final
+
+  -- the root holds these numbers more; what it has seen goes on by entries of others
+  pub record KeepsRoot (more : List ℕ) (old new : Pass (Log D) JournalEntry) : Type 0 where
+    pub holds_both : holds new ≡ holds old ++ more
+    pub since : Continues (IsForeign number_of (holds old)) (seen new) (seen old)
+    pub kept : (number new ≡ number old) × (sample new ≡ sample old)
+
+  -- the sessions below this number were brought in
+  pub record Gathers (n : ℕ) (holders : List Holder) (old : List (List Entry))
+      (first root : Pass (Log D) JournalEntry) : Type 0 where
+    pub finals : List (List Entry)
+    pub many : length finals ≡ n
+    pub ends : (s : ℕ) → s < n → EndsAt (holder_at holders s) (seen_at old s) (seen_at finals s)
+    pub heard : (s : ℕ) → s < n → Heard s (seen root) (seen_at finals s)
+    pub held : (s : ℕ) → s < n → IsAmong (s + 1) (holds root)
+    pub grows : (rest : List ℕ) × KeepsRoot rest first root

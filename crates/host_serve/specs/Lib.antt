@@ -1,0 +1,10 @@
+pub mod Holders
+pub mod Serves
+pub mod Chain
+pub mod Speaking
+pub mod Told
+pub mod Reading
+pub mod Hosts
+pub mod Opening
+pub mod Ending
+pub mod Gathering

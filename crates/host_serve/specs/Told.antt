@@ -1,0 +1,68 @@
+-- What a call tells of the lines that it answered (own).
+use Rattle.std.specs.Prelude.{◌≡◌, ◌⊎◌, ℕ, ◌^◌, ◌≤◌, List, ◌∷◌, [], ◌++◌, length, map}
+use Rattle.line_talk.specs.Conversation.{joined}
+use Rattle.line_talk.specs.Lines.{lines, talk, IsWithinLimits, ReachesLimit}
+use Rattle.line_talk.specs.Streams.{SourceState, SinkState, Gave, Wrote}
+use Rattle.line_talk.specs.Talked.{AreFirst, IsReadToEnd}
+use Rattle.line_talk.specs.Writing.{IsPartOf}
+use Rattle.line_talk.specs.declared.ended.Ended.{Ended}
+use Rattle.line_talk.specs.declared.ended.Ended.TheVariants as ended
+use Rattle.line_words.specs.Reply.{print_reply}
+use Rattle.line_words.specs.declared.reply.Reply.{Reply}
+use Rattle.host_serve.specs.declared.answer.Answer.{Answer}
+use Rattle.host_serve.specs.declared.mark.Mark.{Mark}
+use Rattle.host_serve.specs.declared.served.Served.{Served}
+use Rattle.host_serve.specs.declared.served.Served.TheVariants.{End, ReadFault, WriteFault}
+use Rattle.host_serve.specs.declared.served.Served.TheVariants.{LineLimit, NoMemory}
+use Rattle.host_serve.specs.Serves.{Turn}
+use Rattle.host_serve.specs.Speaking.{turn_with}
+
+-- the turn of a line with this answer
+abbrev pub turn_on : List ℕ → Answer → Turn
+turn_on line answer = turn_with line answer.outcome answer.mark answer.reply
+
+-- how a call ends, by how its conversation ended
+abbrev pub served_of : Ended → Served
+served_of ended.Done = End
+served_of ended.ReadFault = ReadFault
+served_of ended.WriteFault = WriteFault
+served_of ended.NoMemory = NoMemory
+served_of ended.LineLimit = LineLimit
+
+-- which of the lines that were read were answered, by how the call ended
+abbrev pub AnsweredOf : Served → List ℕ → SourceState → List (List ℕ) → Type 0
+AnsweredOf End read now answered = (answered ≡ lines read) × IsReadToEnd read now
+AnsweredOf ReadFault read now answered = (answered ≡ talk read) × IsWithinLimits read
+AnsweredOf WriteFault read now answered = AreFirst answered (talk read)
+AnsweredOf LineLimit read now answered = (answered ≡ talk read) × ReachesLimit read
+AnsweredOf NoMemory read now answered = AreFirst answered (talk read)
+
+-- all replies were written but for an end of the last one
+pub record IsCutText (written : List ℕ) (replies : List Reply) : Type 0 where
+  pub before : List Reply
+  pub last : Reply
+  pub part : List ℕ
+  pub all : replies ≡ before ++ last ∷ []
+  pub begins : IsPartOf part (print_reply last)
+  pub text : written ≡ joined (map print_reply before) ++ part
+
+-- what is written of the replies to the answered lines, by how the call ended
+abbrev pub WritesReplies : Served → List ℕ → List Reply → Type 0
+WritesReplies End written replies = written ≡ joined (map print_reply replies)
+WritesReplies ReadFault written replies = written ≡ joined (map print_reply replies)
+WritesReplies WriteFault written replies = IsCutText written replies
+WritesReplies LineLimit written replies = written ≡ joined (map print_reply replies)
+WritesReplies NoMemory written replies =
+    IsCutText written replies ⊎ (written ≡ joined (map print_reply replies))
+
+-- what was read, which lines of it had these turns, what was written, and the marks
+pub record Tells (turns : List Turn) (input now : SourceState) (output new : SinkState)
+    (old_marks new_marks : List Mark) (served : Served) : Type 0 where
+  pub read : List ℕ
+  pub written : List ℕ
+  pub gave : Gave input now read
+  pub within : length read ≤ 2 ^ 31
+  pub lines : AnsweredOf served read now (map (λ (t : Turn). t.line) turns)
+  pub wrote : Wrote output new written
+  pub replies : WritesReplies served written (map (λ (t : Turn). t.reply) turns)
+  pub marks : new_marks ≡ old_marks ++ map (λ (t : Turn). t.mark) turns

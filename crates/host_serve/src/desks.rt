@@ -1,0 +1,85 @@
+//! The desks of a host, each in a cell of its own (own).
+ghost use Rattle.std.specs.Prelude.{◌≡◌, ◌+◌, ◌<◌, IfOk};
+ghost use Rattle.turn_cell.specs.Passes.{IsOf, IsOutside, KeepsNumbers, made, number, seen};
+ghost use Rattle.gate_journal.specs.Log.{kept, rows_of};
+ghost use Rattle.gate_journal.specs.Rows.{IsJournal};
+ghost use Rattle.host_serve.specs.Hosts.{cell_id};
+ghost use Rattle.host_serve.specs.Opening.{AreOpenedDesks, IsOpenedDesk};
+
+use disk_model::Disk;
+use gate_journal::{Journal, Row};
+use session_desk::{SharedDesk, journals_fit};
+use std::alloc::{AllocError, Global};
+use story_run::Story;
+use turn_cell::{Cell, Pass};
+
+/// How many sessions a host has.
+pub const SESSIONS: u8 = 64;
+
+/// Equal rows to those of a journal.
+pub fn rows_copied<D: Disk>(alloc: Global, journal: &Journal<D>) -> Result<Vec<Row>, AllocError>
+    ensures value { IfOk result (λ rows. rows.items ≡ rows_of journal.now.entries) }
+    ensures journal { IsJournal (rows_of journal.now.entries) }
+{
+    let mut rows = Vec::new(alloc);
+    for at in 0..journal.row_count() {
+        let Some(row) = journal.row(at) else {
+            unreachable!();
+        };
+        rows.push(row.copy_of(alloc)?)?;
+    }
+    Ok(rows)
+}
+
+/// The desk of a session in a cell, with a pass that is split from the root of the journal's cell,
+/// and the root of its own.
+fn open_desk<'i, D: Disk + Drop>(
+    alloc: Global,
+    session: u8,
+    stories: &'i [Story<'i>],
+    budget: u64,
+    journal: &Cell<Journal<D>>,
+    root: &mut Pass<Journal<D>>,
+    rows: &[Row],
+) -> Result<(Cell<SharedDesk<'i, D>>, Pass<SharedDesk<'i, D>>), AllocError>
+    requires session { session < 64 }
+    requires cell { IsOf journal.now root.old × IsOutside root.old }
+    requires root { (number root.old ≡ 0) × (made root.old ≡ session) }
+    requires rows { (seen root.old ≡ kept rows.now) × IsJournal rows.now }
+    ensures ok { IfOk result (λ pair. IsOpenedDesk stories.now budget (cell_id journal.now)
+        rows.now session pair.0 pair.1 × (made root.new ≡ session + 1)) }
+    ensures kept { IsOf journal.now root.new × IsOutside root.new
+        × KeepsNumbers root.old root.new × (seen root.new ≡ seen root.old) }
+{
+    journals_fit();
+    let pass = journal.split(alloc, root)?;
+    let desk = SharedDesk::open(alloc, session, stories, budget, rows, pass)?;
+    Cell::new(alloc, desk)
+}
+
+/// The desks of all sessions, each in a cell, and the roots of these cells.
+pub fn open_desks<'i, D: Disk + Drop>(
+    alloc: Global,
+    stories: &'i [Story<'i>],
+    budget: u64,
+    journal: &Cell<Journal<D>>,
+    root: &mut Pass<Journal<D>>,
+    rows: &[Row],
+) -> Result<(Vec<Cell<SharedDesk<'i, D>>>, Vec<Pass<SharedDesk<'i, D>>>), AllocError>
+    requires cell { IsOf journal.now root.old × IsOutside root.old }
+    requires root { (number root.old ≡ 0) × (made root.old ≡ 0) }
+    requires rows { (seen root.old ≡ kept rows.now) × IsJournal rows.now }
+    ensures ok { IfOk result (λ pair. AreOpenedDesks stories.now budget (cell_id journal.now)
+        rows.now 64 pair.0.items pair.1.items) }
+    ensures kept { IsOf journal.now root.new × IsOutside root.new
+        × KeepsNumbers root.old root.new × (seen root.new ≡ seen root.old) }
+{
+    let mut cells = Vec::new(alloc);
+    let mut passes = Vec::new(alloc);
+    for s in 0..SESSIONS {
+        let (cell, pass) = open_desk(alloc, s, stories, budget, journal, root, rows)?;
+        cells.push(cell)?;
+        passes.push(pass)?;
+    }
+    Ok((cells, passes))
+}

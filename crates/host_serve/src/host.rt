@@ -1,0 +1,23 @@
+//! A host: a cell for each session, and one for the journal that they share (own).
+use disk_model::Disk;
+use gate_journal::Journal;
+use session_desk::SharedDesk;
+use story_run::Story;
+use turn_cell::{Cell, Pass};
+
+/// 64 sessions over one journal, each in a cell of its own.
+#[derive(Drop)]
+pub struct Host<'i, D: Disk> {
+    pub(crate) stories: &'i [Story<'i>],
+    pub(crate) budget: u64,
+    pub(crate) journal: Cell<Journal<D>>,
+    /// The root of the journal's cell.
+    pub(crate) root: Pass<Journal<D>>,
+    pub(crate) desks: Vec<Cell<SharedDesk<'i, D>>>,
+}
+
+/// A pass for each session of one host.
+#[derive(Drop)]
+pub struct Passes<'i, D: Disk> {
+    pub(crate) desks: Vec<Pass<SharedDesk<'i, D>>>,
+}

@@ -1,0 +1,23 @@
+//! A host of many sessions, each in a cell of its own, and links whose lines are answered in order.
+#![tactic(auto)]
+
+mod answer;
+mod desks;
+mod end;
+mod fault;
+mod host;
+mod mark;
+mod open;
+mod pause;
+mod read;
+mod request;
+mod serve;
+mod served;
+mod speaker;
+mod turn;
+
+pub use fault::OpenFault;
+pub use host::{Host, Passes};
+pub use mark::Mark;
+pub use pause::{NoPause, Pause};
+pub use served::Served;

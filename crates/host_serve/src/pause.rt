@@ -1,0 +1,46 @@
+//! Moments of a host at which a test may hold a thread (own).
+ghost use Rattle.turn_cell.specs.Passes.{IsInside};
+
+use turn_cell::{Pass, Told};
+
+/// What is told of two moments of each answered line. A thread that it holds waits there.
+pub trait Pause: Sync {
+    /// The session's turn is this pass's, and the reply is known.
+    fn in_turn<T: Told>(&self, session: u8, pass: &Pass<T>)
+        requires inside { IsInside pass.now };
+
+    /// The reply is about to be written on the link of this number.
+    fn before_reply(&self, link: u32);
+}
+
+/// It holds nobody.
+#[derive(Clone, Copy, Debug)]
+pub struct NoPause;
+
+impl Pause for NoPause {
+    fn in_turn<T: Told>(&self, _session: u8, _pass: &Pass<T>) {}
+
+    fn before_reply(&self, _link: u32) {}
+}
+
+/// The same, as the one thread sees it that it holds.
+pub(crate) trait Moments {
+    fn in_turn<T: Told>(&self, session: u8, pass: &Pass<T>)
+        requires inside { IsInside pass.now };
+
+    fn before_reply(&self, link: u32);
+}
+
+/// A pause that was lent to one thread.
+#[derive(Drop)]
+pub(crate) struct Lent<'a, P>(pub &'a P);
+
+impl<'a, P: Pause> Moments for Lent<'a, P> {
+    fn in_turn<T: Told>(&self, session: u8, pass: &Pass<T>) {
+        self.0.in_turn(session, pass);
+    }
+
+    fn before_reply(&self, link: u32) {
+        self.0.before_reply(link);
+    }
+}

@@ -1,0 +1,10 @@
+pub mod Talked
+pub mod Conversation
+pub mod Lines
+pub mod Hears
+pub mod Hearing
+pub mod Writing
+pub mod Ends
+pub mod Streams
+pub mod Failing
+pub mod Causes

@@ -1,0 +1,269 @@
+-- A shared desk and the journal that it stands on.
+use Rattle.std.proofs.Common.{◌≡◌, ◌⊎◌, inl, inr, ⊎_elim, ℕ, ◌+◌, ◌==◌, Bool, true, false, cond, List, [], ◌∷◌, ◌++◌, length, map, replicate, Option, Some, None, Result, Ok, Err, refl, sym, ap, subst, ◌∙◌, ne_eqb}
+use Rattle.std.specs.Prelude.{IfErr, OnErr, OnOk}
+use Rattle.std.proofs.lemmas.List.{append-nil, map-append}
+use Rattle.atomic_table.specs.Seated.{TableId}
+use Rattle.turn_cell.specs.declared.pass.Pass.{Pass}
+use Rattle.turn_cell.specs.History.{Continues, Each, IsForeign}
+use Rattle.turn_cell.specs.Passes.{holds, seen}
+use Rattle.turn_cell.specs.Views.{MayLeave, tag_in}
+use Rattle.turn_cell.specs.declared.view.View.{View}
+use Rattle.gate_journal.specs.Log.{kept, Log, next_row, number_of, rows_of}
+use Rattle.gate_journal.specs.Rows.{commands_of, EachNext, IsJournal}
+use Rattle.gate_journal.specs.declared.command.Command.{Command}
+use Rattle.gate_journal.specs.declared.row.Row.{Row}
+use Rattle.gate_journal.specs.declared.entry.Entry.{Entry as JournalEntry}
+use Rattle.gate_journal.specs.declared.entry.Entry.TheVariants.{Kept, Faulted}
+use Rattle.line_words.specs.declared.reply.No.TheVariants as no
+use Rattle.line_words.specs.declared.reply.Reply.TheVariants as replies
+use Rattle.line_words.specs.declared.request.Request.{Request}
+use Rattle.story_run.specs.declared.story.Story.{Story}
+use Rattle.session_core.specs.declared.entry.Entry.{Entry}
+use Rattle.session_core.specs.declared.entry.Entry.TheVariants as entries
+use Rattle.session_core.specs.declared.entry.Outcome.{Outcome}
+use Rattle.session_core.specs.declared.entry.Outcome.TheVariants.{Answered, DiskFailed, OutOfMemory, Forgotten}
+use Rattle.session_core.specs.Checks.{command_of}
+use Rattle.session_core.specs.Turning.{commands_in}
+use Rattle.session_core.proofs.RepeatLemmas.{some_is}
+use Rattle.session_desk.specs.declared.refused.Refused.{Refused}
+use Rattle.session_desk.specs.declared.refused.Refused.TheVariants.{DiskFault, NoMemory}
+use Rattle.session_desk.specs.Commit.{Commits, Leaves}
+use Rattle.session_desk.specs.declared.shared.mark.Mark.{Mark}
+use Rattle.session_desk.specs.declared.shared.mark.Mark.TheVariants as marks
+use Rattle.session_desk.specs.Desk.{committed, DeskState, opened}
+use Rattle.session_desk.specs.Marks.{count_commands, marks_by, woven}
+use Rattle.session_desk.specs.Shared.{desk_tag, DeskTag, history_met, IsPassOf, IsWhole, LeavesHistory, met_by, SharedState, TakesEntry, unnumbered}
+use Rattle.session_desk.specs.Turn.{added, history_in, IsSameDesk}
+use Rattle.session_desk.proofs.MarkLemmas.{commands_in-woven, count-all, count-by, woven-all, woven-by}
+use Rattle.session_desk.proofs.HistoryLemmas.{commands_in-history, history_in-added, history_in-append}
+
+-- ---- without the numbers of passes
+
+pub commands_in-unnumbered : (h : List Entry) → commands_in (map unnumbered h) ≡ commands_in h
+commands_in-unnumbered [] = refl
+commands_in-unnumbered (entries.Accepted by c ∷ h) = ap (λ (m : List Command). c ∷ m) (commands_in-unnumbered h)
+commands_in-unnumbered (entries.Faulted by from to ∷ h) = commands_in-unnumbered h
+
+pub unnumbered-met : (h : List Entry) (by : ℕ) (accepted : Option Command) (outcome : Outcome)
+    → map unnumbered (history_met h by accepted outcome) ≡ history_met (map unnumbered h) 0 accepted outcome
+unnumbered-met h by None Answered = refl
+unnumbered-met h by None (DiskFailed from to) = refl
+unnumbered-met h by None OutOfMemory = refl
+unnumbered-met h by None Forgotten = refl
+unnumbered-met h by (Some c) Answered = map-append unnumbered h (entries.Accepted by c ∷ [])
+unnumbered-met h by (Some c) (DiskFailed from to) = map-append unnumbered h (entries.Faulted by from to ∷ [])
+unnumbered-met h by (Some c) OutOfMemory = refl
+unnumbered-met h by (Some c) Forgotten = map-append unnumbered h (entries.Accepted by c ∷ [])
+
+-- ---- entries of other sessions change nothing of one
+
+-- the number of a row is that of its session and 1
+abbrev IsNumbered : Row → Type 0
+IsNumbered r = r.by ≡ r.session + 1
+
+next_numbered : (before rows : List Row) → EachNext before rows → Each IsNumbered rows
+next_numbered before [] each = tt
+next_numbered before (r ∷ rows) each = (each.0.by, next_numbered (before ++ r ∷ []) rows each.1)
+
+later_numbered : (seen rest : List JournalEntry) → Each IsNumbered (rows_of (seen ++ rest)) → Each IsNumbered (rows_of rest)
+later_numbered [] rest each = each
+later_numbered (Kept r ∷ seen) rest each = later_numbered seen rest each.1
+later_numbered (Faulted by from to ∷ seen) rest each = later_numbered seen rest each
+
+abbrev Others : ℕ → List JournalEntry → Type 0
+Others s rest = Each (IsForeign number_of ((s + 1) ∷ [])) rest
+
+foreign_none : (s : ℕ) (rest : List JournalEntry) → Each IsNumbered (rows_of rest) → Others s rest → history_in rest s ≡ []
+foreign_none s [] n f = refl
+foreign_none s (Kept r ∷ rest) n f =
+    let differ : (r.session == s) ≡ false = ne_eqb r.session s (λ e. f.0 (inl (sym (n.0 ∙ ap (λ (k : ℕ). k + 1) e)))) in
+    rw differ (foreign_none s rest n.1 f.1)
+foreign_none s (Faulted by from to ∷ rest) n f =
+    let differ : (by == s + 1) ≡ false = ne_eqb by (s + 1) (λ e. f.0 (inl (sym e))) in
+    rw differ (foreign_none s rest n f.1)
+
+-- the history of a session in a journal is the one in what its pass had seen of it
+pub history_in-since : (s : ℕ) (log seen : List JournalEntry) → IsJournal (rows_of log) → Continues (IsForeign number_of ((s + 1) ∷ [])) log seen
+    → history_in log s ≡ history_in seen s
+history_in-since s log seen journal on =
+    let rows : IsJournal (rows_of (seen ++ on.0)) = subst (λ (es : List JournalEntry). IsJournal (rows_of es)) on.1 journal in
+    let none : history_in on.0 s ≡ [] = foreign_none s on.0 (later_numbered seen on.0 (next_numbered [] (rows_of (seen ++ on.0)) rows)) on.2 in
+    ap (λ (es : List JournalEntry). history_in es s) on.1
+    ∙ history_in-append seen on.0 s
+    ∙ ap (λ (h : List Entry). history_in seen s ++ h) none
+    ∙ append-nil (history_in seen s)
+
+-- so are its commands
+pub kept-since : (s : ℕ) (log seen : List JournalEntry) (commands : List Command) → IsJournal (rows_of log)
+    → Continues (IsForeign number_of ((s + 1) ∷ [])) log seen → commands_of (rows_of seen) s ≡ commands → commands_of (rows_of log) s ≡ commands
+kept-since s log seen commands journal on is =
+    sym (commands_in-history log s) ∙ ap commands_in (history_in-since s log seen journal on) ∙ commands_in-history seen s ∙ is
+
+-- ---- what a commit adds
+
+pub appended : {D T : Type 0} (faults : D → ℕ) (request : Request) (desk new_desk : DeskState) (old new : Log D) (c : Command) (done : Result T Refused)
+    → command_of desk.stories request ≡ Some c → OnOk done (Commits request desk old new_desk new) → IfErr done (λ why. Leaves faults desk.session old new why)
+    → new.entries ≡ old.entries ++ added (rows_of old.entries) desk.session (Some c) (met_by done)
+appended faults request desk new_desk old new c (Ok x) asked ok err =
+    ok.row ∙ ap (λ (d : Command). old.entries ++ Kept (next_row (rows_of old.entries) desk.session d) ∷ []) (some_is ok.command c (sym ok.asked ∙ asked))
+appended faults request desk new_desk old new c (Err (DiskFault fault)) asked ok err = err.1
+appended faults request desk new_desk old new c (Err NoMemory) asked ok err = err.entries ∙ sym (append-nil old.entries)
+
+-- at most one entry, of the number of the session and 1
+pub at_most_one : (s : ℕ) (rows : List Row) (accepted : Option Command) (outcome : Outcome) (old new : List JournalEntry) → new ≡ old ++ added rows s accepted outcome
+    → (new ≡ old) ⊎ ((e : JournalEntry) × (new ≡ old ++ e ∷ []) × (number_of e ≡ s + 1))
+at_most_one s rows None Answered old new is = inl (is ∙ append-nil old)
+at_most_one s rows None (DiskFailed from to) old new is = inl (is ∙ append-nil old)
+at_most_one s rows None OutOfMemory old new is = inl (is ∙ append-nil old)
+at_most_one s rows None Forgotten old new is = inl (is ∙ append-nil old)
+at_most_one s rows (Some c) Answered old new is = inr (Kept (next_row rows s c), is, refl)
+at_most_one s rows (Some c) (DiskFailed from to) old new is = inr (Faulted (s + 1) from to, is, refl)
+at_most_one s rows (Some c) OutOfMemory old new is = inl (is ∙ append-nil old)
+at_most_one s rows (Some c) Forgotten old new is = inr (Kept (next_row rows s c), is, refl)
+
+-- the session's history behind it
+pub history_in-behind : (s : ℕ) (log seen new : List JournalEntry) (c : Command) (outcome : Outcome) → IsJournal (rows_of log)
+    → Continues (IsForeign number_of ((s + 1) ∷ [])) log seen → new ≡ log ++ added (rows_of log) s (Some c) outcome
+    → history_in new s ≡ history_met (history_in seen s) 0 (Some c) outcome
+history_in-behind s log seen new c outcome journal on is =
+    ap (λ (es : List JournalEntry). history_in es s) is
+    ∙ history_in-added log (rows_of log) s (replies.No no.NoMemory) (Some c) outcome tt
+    ∙ ap (λ (h : List Entry). history_met h 0 (Some c) outcome) (history_in-since s log seen journal on)
+
+-- it may be put back
+pub leaves : {D : Type 0} (v : View JournalEntry (Log D)) (s : ℕ) (old new : Log D) (accepted : Option Command) (outcome : Outcome) → v.seen ≡ old.entries → v.number ≡ s + 1
+    → tag_in (λ (log : Log D). log.opening) v.sample ≡ Some old.opening → new.opening ≡ old.opening → new.entries ≡ old.entries ++ added (rows_of old.entries) s accepted outcome
+    → MayLeave (λ (log : Log D). log.entries) number_of (λ (log : Log D). log.opening) v new
+leaves {D} v s old new accepted outcome saw number tagged opening is = (
+  tagged ∙ ap Some (sym opening),
+  ⊎_elim (λ e. inl (e ∙ sym saw))
+      (λ e. inr (e.0, e.1 ∙ ap (λ (l : List JournalEntry). l ++ e.0 ∷ []) (sym saw), e.2 ∙ sym number))
+      (at_most_one s (rows_of old.entries) accepted outcome old.entries new.entries is),
+)
+
+-- what a pass of the session finds is other sessions' alone
+pub others : {D : Type 0} (pass : Pass (Log D) JournalEntry) (s : ℕ) (log : List JournalEntry) → IsPassOf s pass
+    → Continues (IsForeign number_of (holds pass)) log (seen pass) → Continues (IsForeign number_of ((s + 1) ∷ [])) log (seen pass)
+others pass s log of on = subst (λ (numbers : List ℕ). Continues (IsForeign number_of numbers) log (seen pass)) of.only on
+
+-- ---- a desk as it is opened
+
+pub history_in-kept : (rows : List Row) (s : ℕ) → history_in (kept rows) s ≡ map (entries.Accepted 0) (commands_of rows s)
+history_in-kept [] s = refl
+history_in-kept (r ∷ rows) s = rw (history_in-kept rows s) (front (r.session == s) r.command (commands_of rows s))
+  where
+    front : (own : Bool) (c : Command) (commands : List Command)
+        → cond own (entries.Accepted 0 c ∷ map (entries.Accepted 0) commands) (map (entries.Accepted 0) commands) ≡ map (entries.Accepted 0) (cond own (c ∷ commands) commands)
+    front true c commands = refl
+    front false c commands = refl
+
+pub unnumbered-all : (commands : List Command) → map unnumbered (map (entries.Accepted 0) commands) ≡ map (entries.Accepted 0) commands
+unnumbered-all [] = refl
+unnumbered-all (c ∷ commands) = ap (λ (h : List Entry). entries.Accepted 0 c ∷ h) (unnumbered-all commands)
+
+-- ---- what holds of the fields
+
+-- a desk that has no other world than before
+pub whole-same : {D : Type 0} (l : List Mark) (old new : DeskState) (pass : Pass (Log D) JournalEntry) → IsSameDesk old new → IsWhole l old pass → IsWhole l new pass
+whole-same l old new pass same w = rw same (record {
+  counted = w.counted;
+  shared = record { pass = w.shared.pass; commands = w.shared.commands; entries = w.shared.entries };
+})
+
+-- the rows that the pass has seen of its session are the desk's commands
+pub rows-seen : {D : Type 0} (l : List Mark) (desk : DeskState) (pass : Pass (Log D) JournalEntry) → IsWhole l desk pass
+    → commands_of (rows_of (seen pass)) desk.session ≡ desk.commands
+rows-seen l desk pass w =
+    sym (commands_in-history (seen pass) desk.session)
+    ∙ ap commands_in (sym w.shared.entries)
+    ∙ commands_in-unnumbered (woven l desk.commands)
+    ∙ w.shared.commands
+
+-- behind a commit
+whole_behind : {D : Type 0} (l m : List Mark) (by : ℕ) (old new : DeskState) (pass next : Pass (Log D) JournalEntry) (c : Command) (outcome : Outcome)
+    → IsWhole l old pass → new.session ≡ old.session → count_commands m ≡ length new.commands
+    → woven m new.commands ≡ history_met (woven l old.commands) by (Some c) outcome → IsPassOf old.session next
+    → history_in (seen next) old.session ≡ history_met (history_in (seen pass) old.session) 0 (Some c) outcome
+    → IsWhole m new next
+whole_behind l m by old new pass next c outcome w same many weaves of adds = record {
+  counted = many;
+  shared = record {
+    pass = rw same of;
+    commands = commands_in-woven m new.commands many;
+    entries = ap (map unnumbered) weaves
+        ∙ unnumbered-met (woven l old.commands) by (Some c) outcome
+        ∙ ap (λ (h : List Entry). history_met h 0 (Some c) outcome) w.shared.entries
+        ∙ sym adds
+        ∙ sym (ap (history_in (seen next)) same);
+  };
+}
+
+session_by : {T : Type 0} (done : Result T Refused) (old new : DeskState) (c : Command) → OnOk done (new ≡ committed old c) → OnErr done (new ≡ old) → new.session ≡ old.session
+session_by (Ok x) old new c ok err = ap (λ (d : DeskState). d.session) ok
+session_by (Err why) old new c ok err = ap (λ (d : DeskState). d.session) err
+
+pub whole-by : {D T : Type 0} (l m : List Mark) (by : ℕ) (old new : DeskState) (pass next : Pass (Log D) JournalEntry) (c : Command) (done : Result T Refused)
+    → m ≡ l ++ marks_by by done → IsWhole l old pass → OnOk done (new ≡ committed old c) → OnErr done (new ≡ old) → IsPassOf old.session next
+    → history_in (seen next) old.session ≡ history_met (history_in (seen pass) old.session) 0 (Some c) (met_by done)
+    → IsWhole m new next
+whole-by l m by old new pass next c done is w ok err of adds =
+    whole_behind l m by old new pass next c (met_by done) w (session_by done old new c ok err)
+    (ap count_commands is ∙ count-by l done by old new c w.counted ok err)
+    (ap (λ (x : List Mark). woven x new.commands) is ∙ woven-by l done by old new c w.counted ok err) of adds
+
+-- as it is opened
+opened_whole : {D : Type 0} (l : List Mark) (s : ℕ) (stories : List Story) (budget : ℕ) (rows : List Row) (pass : Pass (Log D) JournalEntry)
+    → woven l (commands_of rows s) ≡ history_in (kept rows) s → count_commands l ≡ length (commands_of rows s) → IsPassOf s pass → seen pass ≡ kept rows
+    → IsWhole l (opened s stories budget (commands_of rows s)) pass
+opened_whole l s stories budget rows pass weaves many of saw = record {
+  counted = many;
+  shared = record {
+    pass = of;
+    commands = commands_in-woven l (commands_of rows s) many;
+    entries = ap (map unnumbered) (weaves ∙ history_in-kept rows s) ∙ unnumbered-all (commands_of rows s)
+        ∙ sym (ap (λ (es : List JournalEntry). history_in es s) saw ∙ history_in-kept rows s);
+  };
+}
+
+abbrev state : {D : Type 0} → DeskState → List Entry → Pass (Log D) JournalEntry → SharedState D
+state desk history pass = record { desk = desk; history = history; pass = pass }
+
+same_state : {D : Type 0} (a b : DeskState) (h k : List Entry) (pass : Pass (Log D) JournalEntry) → a ≡ b → h ≡ k → state a h pass ≡ state b k pass
+same_state a b h k pass e f = ap (λ (d : DeskState). state d h pass) e ∙ ap (λ (x : List Entry). state b x pass) f
+
+pub whole-opened : {D : Type 0} (l : List Mark) (desk : DeskState) (s : ℕ) (stories : List Story) (budget : ℕ) (rows : List Row) (pass : Pass (Log D) JournalEntry)
+    → l ≡ replicate (length desk.commands) (marks.Accepted 0) → desk ≡ opened s stories budget (commands_of rows s) → IsPassOf s pass → seen pass ≡ kept rows
+    → IsWhole l desk pass
+    × (state desk (woven l desk.commands) pass ≡ state (opened s stories budget (commands_of rows s)) (history_in (kept rows) s) pass)
+whole-opened l desk s stories budget rows pass is has of saw =
+    let commands : desk.commands ≡ commands_of rows s = ap (λ (d : DeskState). d.commands) has in
+    let many : count_commands l ≡ length (commands_of rows s) =
+    ap count_commands is ∙ count-all (length desk.commands) 0 ∙ ap (λ (x : List Command). length x) commands in
+    let weaves : woven l (commands_of rows s) ≡ history_in (kept rows) s =
+    ap (λ (m : List Mark). woven m (commands_of rows s)) (is ∙ ap (λ (x : List Command). replicate (length x) (marks.Accepted 0)) commands)
+    ∙ woven-all (commands_of rows s) 0 ∙ sym (history_in-kept rows s) in (
+      rw has (opened_whole l s stories budget rows pass weaves many of saw),
+      same_state desk (opened s stories budget (commands_of rows s)) (woven l desk.commands) (history_in (kept rows) s) pass has
+          (ap (λ (x : List Command). woven l x) commands ∙ weaves),
+    )
+
+-- ---- what a commit gives
+
+pub takes : {D T : Type 0} (done : Result T Refused) (request : Request) (by : ℕ) (old new : SharedState D) (c : Command) → command_of old.desk.stories request ≡ Some c
+    → OnOk done (new.desk ≡ committed old.desk c) → new.history ≡ history_met old.history by (Some c) (met_by done) → OnOk done (TakesEntry request by old new)
+takes (Ok x) request by old new c asked ok entry = record { command = c; asked = asked; taken = ok; entry = entry }
+takes (Err why) request by old new c asked ok entry = tt
+
+pub leaves_history : {T : Type 0} (done : Result T Refused) (by : ℕ) (old new : List Entry) (c : Command) → new ≡ history_met old by (Some c) (met_by done)
+    → IfErr done (LeavesHistory by old new)
+leaves_history (Ok x) by old new c entry = tt
+leaves_history (Err (DiskFault fault)) by old new c entry = entry
+leaves_history (Err NoMemory) by old new c entry = entry
+
+abbrev tag_at : DeskState → TableId → DeskTag
+tag_at desk cell = record { session = desk.session; stories = desk.stories; budget = desk.budget; cell = cell }
+
+pub tag-by : {D T : Type 0} (done : Result T Refused) (old new : SharedState D) (c : Command) → OnOk done (new.desk ≡ committed old.desk c) → OnErr done (new.desk ≡ old.desk)
+    → new.pass.known.place.table_id ≡ old.pass.known.place.table_id → desk_tag new ≡ desk_tag old
+tag-by (Ok x) old new c ok err cell = ap (λ (d : DeskState). tag_at d new.pass.known.place.table_id) ok ∙ ap (λ (t : TableId). tag_at old.desk t) cell
+tag-by (Err why) old new c ok err cell = ap (λ (d : DeskState). tag_at d new.pass.known.place.table_id) err ∙ ap (λ (t : TableId). tag_at old.desk t) cell

@@ -1,0 +1,134 @@
+-- A desk of a host that many share: its history, and its pass of the journal (own).
+use Rattle.std.specs.Prelude.{◌≡◌, ℕ, ◌+◌, List, [], ◌∷◌, ◌++◌, length, map, Option, Some}
+use Rattle.std.specs.Prelude.{Result, Ok, Err}
+use Rattle.atomic_table.specs.Seated.{TableId}
+use Rattle.turn_cell.specs.declared.pass.Pass.{Pass}
+use Rattle.turn_cell.specs.History.{Continues, IsForeign}
+use Rattle.turn_cell.specs.Passes.{holds, IsOutside, number, seen}
+use Rattle.gate_journal.specs.Log.{Log, number_of, rows_of}
+use Rattle.gate_journal.specs.declared.command.Command.{Command}
+use Rattle.gate_journal.specs.declared.entry.Entry.{Entry as JournalEntry}
+use Rattle.line_words.specs.declared.reply.No.TheVariants as no
+use Rattle.line_words.specs.declared.reply.Reply.TheVariants as replies
+use Rattle.line_words.specs.declared.request.Request.{Request}
+use Rattle.story_run.specs.declared.story.Story.{Story}
+use Rattle.session_core.specs.declared.entry.Entry.{Entry}
+use Rattle.session_core.specs.declared.entry.Entry.TheVariants as entries
+use Rattle.session_core.specs.declared.entry.Outcome.{Outcome}
+use Rattle.session_core.specs.declared.entry.Outcome.TheVariants.{Answered, DiskFailed}
+use Rattle.session_core.specs.declared.entry.Outcome.TheVariants.{OutOfMemory}
+use Rattle.session_core.specs.Checks.{command_of}
+use Rattle.session_core.specs.Turning.{commands_in, MayMeet, turn_met}
+use Rattle.session_core.specs.declared.decision.Decision.{Decision}
+use Rattle.session_desk.specs.declared.refused.Refused.{Refused}
+use Rattle.session_desk.specs.declared.refused.Refused.TheVariants.{DiskFault, NoMemory}
+use Rattle.session_desk.specs.declared.shared.mark.Mark.{Mark}
+use Rattle.session_desk.specs.declared.turned.Turned.{Turned}
+use Rattle.session_desk.specs.Desk.{DeskState, committed}
+use Rattle.session_desk.specs.Marks.{count_commands, woven}
+use Rattle.session_desk.specs.Turn.{added, history_in}
+
+-- the entry with 0 in the place of its pass's number, as `history_in` gives it
+abbrev pub unnumbered : Entry → Entry
+unnumbered (entries.Accepted by command) = entries.Accepted 0 command
+unnumbered (entries.Faulted by from to) = entries.Faulted 0 from to
+
+-- a desk, its session's history, oldest first, and its pass of the journal's cell
+pub record SharedState (D : Type 0) : Type 0 where
+  pub desk : DeskState
+  pub history : List Entry
+  pub pass : Pass (Log D) JournalEntry
+
+-- the pass of a session's desk is in no turn; its number is the session's and 1, and it holds no
+-- other
+pub record IsPassOf {D : Type 0} (s : ℕ) (pass : Pass (Log D) JournalEntry) : Type 0 where
+  pub outside : IsOutside pass
+  pub numbered : number pass ≡ s + 1
+  pub only : holds pass ≡ (s + 1) ∷ []
+
+-- What holds of each such desk: its commands are those of its history, and its history is the one
+-- of its session in what its pass has seen of the journal, entry for entry, but for who made them.
+pub record IsShared {D : Type 0} (state : SharedState D) : Type 0 where
+  pub pass : IsPassOf state.desk.session state.pass
+  pub commands : commands_in state.history ≡ state.desk.commands
+  pub entries : map unnumbered state.history ≡ history_in (seen state.pass) state.desk.session
+
+-- what holds of the fields of each: its marks, its desk and its pass
+pub record IsWhole
+    {D : Type 0}
+    (marks : List Mark)
+    (desk : DeskState)
+    (pass : Pass (Log D) JournalEntry) : Type 0 where
+  pub counted : count_commands marks ≡ length desk.commands
+  pub shared :
+      IsShared (record { desk = desk; history = woven marks desk.commands; pass = pass })
+
+-- what never changes of such a desk: its session, stories and budget, and the journal's cell
+pub record DeskTag : Type 0 where
+  pub session : ℕ
+  pub stories : List Story
+  pub budget : ℕ
+  pub cell : TableId
+
+abbrev pub desk_tag : {D : Type 0} → SharedState D → DeskTag
+desk_tag state = record {
+  session = state.desk.session;
+  stories = state.desk.stories;
+  budget = state.desk.budget;
+  cell = state.pass.known.place.table_id;
+}
+
+-- A journal goes on from what a session's pass had seen: other sessions' entries came, and then
+-- what the session's turn added.
+pub record GoesOn
+    (s : ℕ)
+    (accepted : Option Command)
+    (outcome : Outcome)
+    (old new : List JournalEntry) : Type 0 where
+  pub before : List JournalEntry
+  pub since : Continues (IsForeign number_of ((s + 1) ∷ [])) before old
+  pub adds : new ≡ before ++ added (rows_of before) s accepted outcome
+
+-- the history behind a turn that accepts this command, if any, by what it met, whatever its reply
+abbrev pub history_met : List Entry → ℕ → Option Command → Outcome → List Entry
+history_met history by accepted outcome =
+    (turn_met history by (replies.No no.NoMemory) accepted outcome).history
+
+-- The turn of a session, which decides so on a request, by what it met: its reply, and the history
+-- behind it.
+pub record TurnsTo
+    (decision : Decision)
+    (by : ℕ)
+    (old : List Entry)
+    (turned : Turned)
+    (new : List Entry) : Type 0 where
+  pub met : MayMeet decision.accepted turned.outcome
+  pub reply :
+      turned.reply
+      ≡ (turn_met old by decision.reply decision.accepted turned.outcome).reply
+  pub history :
+      new ≡ (turn_met old by decision.reply decision.accepted turned.outcome).history
+
+-- what a commit met
+abbrev pub met_by : {T : Type 0} → Result T Refused → Outcome
+met_by (Ok x) = Answered
+met_by (Err (DiskFault fault)) = DiskFailed fault.from fault.to
+met_by (Err NoMemory) = OutOfMemory
+
+-- the desk has taken the command that the request asks for, and the history its entry, made by the
+-- pass of this number
+pub record TakesEntry
+    {D : Type 0}
+    (request : Request)
+    (by : ℕ)
+    (old new : SharedState D) : Type 0 where
+  pub command : Command
+  pub asked : command_of old.desk.stories request ≡ Some command
+  pub taken : new.desk ≡ committed old.desk command
+  pub entry : new.history ≡ old.history ++ entries.Accepted by command ∷ []
+
+-- what a refusal leaves of the history: the disk's fault as an entry, or all as before
+abbrev pub LeavesHistory : ℕ → List Entry → List Entry → Refused → Type 0
+LeavesHistory by old new (DiskFault fault) =
+    new ≡ old ++ entries.Faulted by fault.from fault.to ∷ []
+LeavesHistory by old new NoMemory = new ≡ old

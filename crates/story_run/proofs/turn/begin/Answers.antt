@@ -1,0 +1,7 @@
+use Rattle.story_run.proofs.ValidLemmas.{run-stands}
+use Rattle.story_run.proofs.turn.begin.Goals as goal
+
+pub returns-in-Ok-clause-stands : goal.returns-in-Ok-clause-stands
+returns-in-Ok-clause-stands c =
+    run-stands c.args.image.now c.args.budget c.args.glk.now c.run.new.glk c.in-Ok.machine
+    c.run.result c.requires c.run.ensures.value

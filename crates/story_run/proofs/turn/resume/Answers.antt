@@ -1,0 +1,13 @@
+use Rattle.std.proofs.Common.{rules}
+use Rattle.story_run.proofs.ValidLemmas.{turn-stands}
+use Rattle.story_run.proofs.turn.resume.Goals as goal
+
+pub returns-in-Ok-clause-stands : goal.returns-in-Ok-clause-stands
+returns-in-Ok-clause-stands c =
+    turn-stands c.args.image.now c.args.budget c.args.glk.now c.run.new.glk c.args.machine
+    c.args.input.now c.run.result c.requires.valid (search rules)
+
+pub returns-clause-stands : goal.returns-clause-stands
+returns-clause-stands c =
+    turn-stands c.args.image.now c.args.budget c.args.glk.now c.deliver.new.glk c.args.machine
+    c.args.input.now c.stopped.result c.requires.valid (search rules)

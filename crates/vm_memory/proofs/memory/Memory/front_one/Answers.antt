@@ -1,0 +1,15 @@
+use Rattle.std.proofs.Common.{◌≡◌, ap, arith}
+use Rattle.vm_memory.specs.MemoryMap.{MemoryMap, number_at}
+use Rattle.vm_memory.proofs.LaidLemmas.{byte_of_front}
+use Rattle.vm_memory.proofs.memory.Memory.front_one.Goals as goal
+
+pub returns-clause-value : goal.returns-clause-value
+returns-clause-value c =
+    let m = c.self.inside in
+    let ramstart : m.ramstart ≡ c.args.self.now.ramstart =
+    ap (λ (v : MemoryMap). v.ramstart) c.self.view_is in
+    let view = ap (λ (v : MemoryMap). number_at 1 v.bytes c.args.at) c.self.view_is in
+    let number =
+    byte_of_front m.rom.now m.ramstart m.rows.items m.size c.args.at (omega arith)
+    (omega arith) in
+    omega (arith, c.from.ensures, number, view)
