@@ -14,23 +14,23 @@ use Rattle.storyhost.specs.Follows.{Does, Follows}
 use Rattle.storyhost.specs.Piped.{PipesOver}
 use Rattle.storyhost.specs.Said.{SaysFault, SaysLine}
 use Rattle.storyhost.specs.Speech.{Task, Says, Serves, Begins}
-use Rattle.storyhost.specs.Status.{status_of, status_of_end, status_of_stop}
+use Rattle.storyhost.specs.Status.{status_of, status_of_served, status_of_stop}
 use Rattle.line_talk.specs.Streams.{SourceState, SinkState, Wrote}
 use Rattle.storyhost.specs.Words.{Asked}
-use Rattle.line_talk.specs.declared.ended.Ended.{Ended}
-use Rattle.line_talk.specs.declared.ended.Ended.TheVariants as ended
+use Rattle.host_serve.specs.declared.served.Served.{Served}
+use Rattle.host_serve.specs.declared.served.Served.TheVariants as served
 use Rattle.line_talk.specs.declared.sink.Stop.{Stop}
 use Rattle.line_talk.specs.declared.sink.Stop.TheVariants as stop
 use Rattle.storyhost.specs.declared.status.Status.{Status}
 use Rattle.storyhost.specs.declared.status.Status.TheVariants.{Done, BadWords, ReadFault, WriteFault, DiskFault, BadFolder}
 
--- no other end has this status
-no_end : (how : Ended) (A : Type 0) → DiskFault ≡ status_of_end how → A
-no_end ended.Done A e = absurd (grind (arith, e))
-no_end ended.ReadFault A e = absurd (grind (arith, e))
-no_end ended.WriteFault A e = absurd (grind (arith, e))
-no_end ended.NoMemory A e = absurd (grind (arith, e))
-no_end ended.LineLimit A e = absurd (grind (arith, e))
+-- no end of a connection has this status
+no_end : (how : Served) (A : Type 0) → DiskFault ≡ status_of_served how → A
+no_end served.End A e = absurd (grind (arith, e))
+no_end served.ReadFault A e = absurd (grind (arith, e))
+no_end served.WriteFault A e = absurd (grind (arith, e))
+no_end served.NoMemory A e = absurd (grind (arith, e))
+no_end served.LineLimit A e = absurd (grind (arith, e))
 
 no_stop : (cause : Stop) (A : Type 0) → DiskFault ≡ status_of_stop cause → A
 no_stop stop.Output A e = absurd (grind (arith, e))
@@ -71,13 +71,14 @@ does_failed : {D : Type 0} (disks : DiskWords D) (task : Result Task (List ℕ))
     → Does disks task outside beyond input now output new DiskFault → Failed outside.disk_faults beyond.disk_faults output new
 does_failed disks (Err line) outside beyond input now output new does = absurd does.0.leaves
 does_failed disks (Ok (Says speech)) outside beyond input now output new does = absurd does.0.leaves
-does_failed disks (Ok (Serves stories budget folder)) outside beyond input now output new (inl none) = elim none.cause [
+does_failed disks (Ok (Serves stories budget folder)) outside beyond input now output new (inl (inl none)) = elim none.cause [
   | inl failed ↦ (failed.1, none.wrote)
   | inr wanted ↦ absurd (grind (arith, wanted))
 ]
-does_failed disks (Ok (Serves stories budget folder)) outside beyond input now output new (inr b) =
+does_failed disks (Ok (Serves stories budget folder)) outside beyond input now output new (inl (inr b)) =
     let failed = pipe_failed disks output new b.done in
     (b.count.rose failed.0, failed.1)
+does_failed disks (Ok (Serves stories budget folder)) outside beyond input now output new (inr gone) = absurd (grind (arith, gone.wanted))
 does_failed disks (Ok (Begins folder)) outside beyond input now output new (inl none) = elim none.cause [
   | inl failed ↦ (failed.1, none.wrote)
   | inr wanted ↦ absurd (grind (arith, wanted))

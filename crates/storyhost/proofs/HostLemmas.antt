@@ -1,317 +1,176 @@
--- Turns of a host, collected by what they met.
-use Rattle.std.proofs.Common.{◌≡◌, inl, inr, ◌⊎◌, ℕ, ◌+◌, ◌≤◌, max, length, List, [], ◌∷◌, ◌++◌, map, refl, sym, ap, ◌∙◌, subst, arith, Bool, true, false, Some, None, IsTrue}
-use Rattle.disk_model.specs.Disk.{EachImage, LeavesOnly, SameDisk}
-use Rattle.gate_journal.specs.Log.{IsBetween, Log, MayOpen, MaySpell, ReachesGate, kept, rows_of}
-use Rattle.gate_journal.proofs.SinceLemmas.{spelled_grows}
-use Rattle.gate_journal.specs.Rows.{SpellsRows, IsJournal, spelled}
+-- Turns of a host's passes that were never split, as the histories of session_core have them.
+use Rattle.std.proofs.Common.{◌≡◌, ◌≢◌, ◌⊎◌, inl, inr, ℕ, ◌<◌, ◌≤◌, List, [], ◌∷◌, ◌++◌, length, map, set, refl, sym, ap, ◌∙◌, subst, arith, Option, Some, None}
+use Rattle.std.proofs.lemmas.Bool.{cases_lt}
+use Rattle.std.proofs.lemmas.List.{map-append, get_or_past, get_or-set_same, get_or-set_other, set-get_or, set_past}
+use Rattle.std.proofs.lemmas.List.FromFn.{get_or-map-range_with_len, length-map-range_with_len}
+use Rattle.gate_journal.specs.Log.{kept}
+use Rattle.gate_journal.specs.Rows.{commands_of}
+use Rattle.gate_journal.specs.declared.command.Command.{Command}
 use Rattle.gate_journal.specs.declared.row.Row.{Row}
-use Rattle.line_words.specs.Play.{is_long}
-use Rattle.line_words.specs.Reply.{print_reply}
-use Rattle.line_words.specs.Request.{request_of}
-use Rattle.line_words.specs.declared.reply.No.TheVariants.{LongLine}
+use Rattle.host_serve.specs.Chain.{Answers, Chain, TurnsIn, TurnsOn, TurnsOnNone}
+use Rattle.host_serve.specs.Holders.{Holder, IsAloneHolder, holder_at, seen_at}
+use Rattle.host_serve.specs.Hosts.{sessions_below}
+use Rattle.host_serve.specs.Opening.{histories_of, lone, roots}
+use Rattle.host_serve.specs.Serves.{Turn, turned_on, MayMeetIn}
+use Rattle.host_serve.proofs.ChainLemmas.{answer_wide}
+use Rattle.host_serve.proofs.ListLemmas.{eq_or_ne}
 use Rattle.line_words.specs.declared.reply.Reply.{Reply}
-use Rattle.line_words.specs.declared.reply.Reply.TheVariants.{No}
-use Rattle.session_core.specs.Hosts.{AreMet, replies_met, histories_met, decision_at, turn_on, histories_after, session_on, entries_of}
-use Rattle.session_core.specs.Turning.{MayMeet, commands_in, decision_on, turn_of}
-use Rattle.session_core.specs.declared.decision.Decision.{Decision}
 use Rattle.session_core.specs.declared.entry.Entry.{Entry}
-use Rattle.session_core.specs.declared.entry.Outcome.TheVariants.{Answered}
-use Rattle.session_desk.specs.Collected.{Collected}
-use Rattle.session_desk.specs.Desks.{DesksState, histories_in}
-use Rattle.session_desk.proofs.CollectLemmas.{chain_of, collected_none, collected_more, leaves_then}
-use Rattle.session_desk.proofs.HistoryLemmas.{commands_in-histories, histories_in-set}
+use Rattle.session_core.specs.declared.entry.Entry.TheVariants as entries
+use Rattle.session_core.specs.declared.entry.Outcome.{Outcome}
+use Rattle.session_core.specs.declared.entry.Outcome.TheVariants.{OutOfMemory}
+use Rattle.session_core.specs.Hosts.{AreMet, decision_at, entries_of, histories_after, histories_met, replies_met, session_on, turn_on}
+use Rattle.session_core.specs.Turning.{AddsTo, MayMeet, Turned, commands_in, decision_on, entry_by, turn_of}
+use Rattle.session_core.proofs.TurningLemmas.{turn_adds}
+use Rattle.session_desk.specs.Shared.{unnumbered}
+use Rattle.session_desk.specs.Turn.{history_in}
+use Rattle.session_desk.proofs.SharedLemmas.{history_in-kept, unnumbered-all}
 use Rattle.story_run.specs.declared.story.Story.{Story}
-use Rattle.line_talk.specs.Conversation.{Line, Turns, Answered as AnsweredLines, BreaksLast, joined}
-use Rattle.storyhost.specs.DiskWords.{DiskWords}
-use Rattle.storyhost.specs.HostTurns.{Replies, HostTurn}
-use Rattle.line_talk.specs.Lines.{heard}
-use Rattle.storyhost.specs.Piped.{Conversed, IsCutText, WritesReplies, histories_of}
-use Rattle.line_talk.specs.Streams.{SourceState, SinkState, Wrote}
-use Rattle.line_talk.specs.Talked.{Talked, Converses}
-use Rattle.line_talk.specs.declared.ended.Ended.{Ended}
-use Rattle.line_talk.specs.declared.ended.Ended.TheVariants.{Done, ReadFault, WriteFault, NoMemory, LineLimit}
-use Rattle.line_talk.specs.declared.sink.Stop.{Stop}
-use Rattle.line_talk.proofs.StreamsLemmas.{wrote_then}
-use Rattle.line_talk.proofs.TurnLemmas.{turns_then}
 
--- ---- a line that was dropped is a turn that changes nothing
+abbrev Histories : Type 0
+Histories = List (List Entry)
 
-heard_short : (line : List ℕ) → is_long line ≡ false → heard line ≡ Some line
-heard_short line e = rw e refl
+-- ---- who holds the passes of a host that was just opened
 
-heard_long : (line : List ℕ) → is_long line ≡ true → heard line ≡ None
-heard_long line e = rw e refl
+lone_there : (s : ℕ) → s < 64 → holder_at roots s ≡ lone
+unfolding sessions_below
+lone_there s below = get_or-map-range_with_len (λ (t : ℕ). lone) 0 64 s s _ below refl
 
-spells_nothing : (line : List ℕ) → is_long line ≡ true → request_of line ≡ None
-spells_nothing line e = rw e refl
+pub alone_there : (s : ℕ) → s < 64 → IsAloneHolder (holder_at roots s)
+alone_there s below = subst IsAloneHolder (sym (lone_there s below)) (refl, refl)
 
-no_decision : (stories : List Story) (budget : ℕ) (histories : List (List Entry)) (line : List ℕ) → is_long line ≡ true
-    → decision_at stories budget histories line ≡ record { reply = No LongLine; accepted = None }
-unfolding decision_on
-no_decision stories budget histories line e = rw (spells_nothing line e) (rw e refl)
+pub many_histories : (rows : List Row) → length (histories_of rows) ≡ 64
+unfolding sessions_below
+many_histories rows = length-map-range_with_len (history_in (kept rows)) 0 64
 
-no_session : (line : List ℕ) → is_long line ≡ true → session_on line ≡ 64
-no_session line e = rw (spells_nothing line e) refl
+pub history_there : (rows : List Row) (s : ℕ) → s < 64 → seen_at (histories_of rows) s ≡ history_in (kept rows) s
+unfolding sessions_below
+history_there rows s below = get_or-map-range_with_len (history_in (kept rows)) 0 64 s s [] below refl
 
-no_reply : (stories : List Story) (budget : ℕ) (histories : List (List Entry)) (line : List ℕ) → is_long line ≡ true
-    → (turn_on stories budget histories 0 line Answered).reply ≡ No LongLine
-unfolding turn_of
-no_reply stories budget histories line e = rw (no_decision stories budget histories line e) refl
+module _ (stories : List Story) (budget : ℕ) where
+  -- ---- one line
 
-no_change : {D : Type 0} (log : Log D) (stories : List Story) (budget : ℕ) (line : List ℕ) → is_long line ≡ true
-    → histories_after stories budget (histories_in log.entries) 0 line Answered ≡ histories_in log.entries
-no_change log stories budget line e =
-    rw (no_session line e) (sym (histories_in-set log.entries log.entries 64 _ (λ below. absurd (omega (arith, below))) (λ t apart. refl)))
+  -- its turn is that of the session that it names, on that session's history
+  pub record IsMet (old : Histories) (t : Turn) (new : Histories) : Type 0 where
+    pub may : MayMeet (decision_at stories budget old t.line).accepted t.outcome
+    pub said : t.reply ≡ (turn_on stories budget old 0 t.line t.outcome).reply
+    pub after : new ≡ histories_after stories budget old 0 t.line t.outcome
 
-collected_dropped : {D : Type 0} (disks : DiskWords D) (old : DesksState D) (line : List ℕ) (lines : List (List ℕ)) (replies : List Reply) (new : DesksState D) → is_long line ≡ true
-    → Collected disks.tells disks.room disks.label disks.faults disks.reach disks.moment disks.left_since old lines replies new
-    → Collected disks.tells disks.room disks.label disks.faults disks.reach disks.moment disks.left_since old (line ∷ lines) (No LongLine ∷ replies) new
-collected_dropped {D} disks old line lines replies new long rest =
-    let h : List (List Entry) = histories_in old.log.entries in
-    let none : decision_at old.stories old.budget h line ≡ record { reply = No LongLine; accepted = None } = no_decision old.stories old.budget h line long in
-    let stays : h ≡ histories_after old.stories old.budget h 0 line Answered = sym (no_change old.log old.stories old.budget line long) in
-    record {
-      outcomes = Answered ∷ rest.outcomes;
-      met = (
-        subst (λ (d : Decision). MayMeet d.accepted Answered) (sym none) tt,
-        subst (λ (x : List (List Entry)). AreMet old.stories old.budget x 0 lines rest.outcomes) stays rest.met,
-      );
-      said = ap (λ (r : Reply). r ∷ replies) (sym (no_reply old.stories old.budget h line long))
-          ∙ ap (λ (rs : List Reply). (turn_on old.stories old.budget h 0 line Answered).reply ∷ rs)
-          (rest.said ∙ ap (λ (x : List (List Entry)). replies_met old.stories old.budget x 0 lines rest.outcomes) stays);
-      histories = rest.histories ∙ ap (λ (x : List (List Entry)). histories_met old.stories old.budget x 0 lines rest.outcomes) stays;
-      stories = rest.stories;
-      budget = rest.budget;
-      counts = (disks.faults old.log.disk, refl, rest.counts);
-      kept = rest.kept;
-      since = rest.since;
-      grows = rest.grows;
-      crash = rest.crash;
-      within = rest.within;
-    }
+  -- in its session, where its pass is alone
+  met_in : (old : Histories) (t : Turn) (new : Histories) (h : Holder) (after : List Entry) → h ≡ lone → t.mark.session ≡ session_on t.line
+      → TurnsIn stories budget h (seen_at old t.mark.session) t after → new ≡ set old t.mark.session after → IsMet old t new
+  met_in old t new h after is there i is_new =
+      let before : i.before ≡ entries_of old (session_on t.line) = i.alone (subst IsAloneHolder (sym is) (refl, refl)) ∙ ap (λ (k : ℕ). seen_at old k) there in
+      let turned : turned_on stories budget i.before h.number t ≡ turn_on stories budget old 0 t.line t.outcome
+      = ap (λ (b : List Entry). turned_on stories budget b h.number t) before ∙ ap (λ (g : Holder). turned_on stories budget (entries_of old (session_on t.line)) g.number t) is in
+      record {
+        may = subst (λ (b : List Entry). MayMeetIn stories budget b t) before i.met;
+        said = i.reply ∙ ap (λ (u : Turned). u.reply) turned;
+        after = is_new ∙ ap (λ (k : ℕ). set old k after) there ∙ ap (λ (x : List Entry). set old (session_on t.line) x) (i.history ∙ ap (λ (u : Turned). u.history) turned);
+      }
 
--- ---- the turns of a conversation
+  -- a line that names no session is answered on an empty history
+  met_nowhere : (old : Histories) (t : Turn) (new : Histories) → length old ≡ 64 → session_on t.line ≡ 64
+      → TurnsOnNone stories budget old t new → IsMet old t new
+  met_nowhere old t new wide none n =
+      let far : length old ≤ session_on t.line = omega (arith, wide, none) in
+      let empty : entries_of old (session_on t.line) ≡ [] = get_or_past old (session_on t.line) [] far in
+      record {
+        may = subst (λ (b : List Entry). MayMeetIn stories budget b t) (sym empty) n.met;
+        said = n.reply ∙ ap (λ (b : List Entry). (turned_on stories budget b 0 t).reply) (sym empty);
+        after = n.seen ∙ sym (set_past old (session_on t.line) (turn_on stories budget old 0 t.line t.outcome).history far);
+      }
 
-pub record Served {D : Type 0} (disks : DiskWords D) (old : DesksState D) (lines : List (List ℕ)) (replies : List (List ℕ)) (new : DesksState D) : Type 0 where
-  pub said : List Reply
-  pub spelled : replies ≡ map print_reply said
-  pub all : Collected disks.tells disks.room disks.label disks.faults disks.reach disks.moment disks.left_since old lines said new
+  -- and so is one whose reading found no memory
+  wanted_memory : (h : List Entry) (line : List ℕ) → (turn_of stories budget h 0 line OutOfMemory).history ≡ h
+  unfolding turn_of
+  wanted_memory h line = refl
 
-served_more : {D : Type 0} (disks : DiskWords D) (old : DesksState D) (line : List ℕ) (long : Bool) → is_long line ≡ long
-    → (reply : List ℕ) (mid : DesksState D) (lines : List (List ℕ)) (replies : List (List ℕ)) (new : DesksState D)
-    → HostTurn disks old (heard line) reply mid → Served disks mid lines replies new → Served disks old (line ∷ lines) (reply ∷ replies) new
-served_more {D} disks old line true e reply mid lines replies new t rest =
-    let turned : Replies disks old None t.said mid = subst (λ (l : Line). Replies disks old l t.said mid) (heard_long line e) t.turned in
-    let all = subst (λ (m : DesksState D). Collected disks.tells disks.room disks.label disks.faults disks.reach disks.moment disks.left_since m lines rest.said new) turned.1 rest.all in
-    record {
-      said = No LongLine ∷ rest.said;
-      spelled = ap (λ (r : List ℕ). r ∷ replies) (t.spelled ∙ ap print_reply turned.0) ∙ ap (λ (rs : List (List ℕ)). print_reply (No LongLine) ∷ rs) rest.spelled;
-      all = collected_dropped disks old line lines rest.said new e all;
-    }
-served_more {D} disks old line false e reply mid lines replies new t rest =
-    let turned : Replies disks old (Some line) t.said mid = subst (λ (l : Line). Replies disks old l t.said mid) (heard_short line e) t.turned in
-    record {
-      said = t.said ∷ rest.said;
-      spelled = ap (λ (r : List ℕ). r ∷ replies) t.spelled ∙ ap (λ (rs : List (List ℕ)). print_reply t.said ∷ rs) rest.spelled;
-      all = collected_more disks.tells disks.room disks.label disks.faults disks.reach disks.moment disks.left_since old line t.said mid lines rest.said new turned rest.all;
-    }
+  same_wanted : (h g : List Entry) (line : List ℕ) → (turn_of stories budget h 0 line OutOfMemory).reply ≡ (turn_of stories budget g 0 line OutOfMemory).reply
+  unfolding turn_of
+  same_wanted h g line = refl
 
-serve : {D : Type 0} (disks : DiskWords D) (old : DesksState D) (lines : List (List ℕ)) (replies : List (List ℕ)) (new : DesksState D)
-    → Turns (HostTurn disks) (λ _. false) old (map heard lines) replies new → Served disks old lines replies new
-serve {D} disks old [] [] new p = record {
-  said = [];
-  spelled = refl;
-  all = subst (λ (n : DesksState D). Collected disks.tells disks.room disks.label disks.faults disks.reach disks.moment disks.left_since old [] [] n) (sym p)
-      (collected_none disks.tells disks.room disks.label disks.faults disks.reach disks.moment disks.left_since old);
-}
-serve disks old [] (reply ∷ replies) new p = absurd p
-serve disks old (line ∷ lines) [] new p = absurd p
-serve disks old (line ∷ lines) (reply ∷ replies) new p =
-    served_more disks old line (is_long line) refl reply p.1.0 lines replies new p.1.1 (serve disks p.1.0 lines replies new p.1.2)
+  may_want : (accepted : Option Command) → MayMeet accepted OutOfMemory
+  may_want None = tt
+  may_want (Some command) = tt
 
--- what a conversation leaves, by how it ended
-pub record Outcomes {D : Type 0} (disks : DiskWords D) (old : DesksState D) (lines : List (List ℕ)) (new : DesksState D) (output now : SinkState) (ended : Ended) : Type 0 where
-  pub said : List Reply
-  pub all : Collected disks.tells disks.room disks.label disks.faults disks.reach disks.moment disks.left_since old lines said new
-  pub written : List ℕ
-  pub wrote : Wrote output now written
-  pub writes : WritesReplies ended written said
+  met_wanting : (old : Histories) (t : Turn) (new : Histories) → t.outcome ≡ OutOfMemory → TurnsOnNone stories budget old t new → IsMet old t new
+  met_wanting old t new wanted n =
+      let h : List Entry = entries_of old (session_on t.line) in
+      record {
+        may = subst (λ (o : Outcome). MayMeet (decision_at stories budget old t.line).accepted o) (sym wanted) (may_want (decision_at stories budget old t.line).accepted);
+        said = n.reply ∙ subst (λ (o : Outcome). (turn_of stories budget [] 0 t.line o).reply ≡ (turn_of stories budget h 0 t.line o).reply) (sym wanted) (same_wanted [] h t.line);
+        after = n.seen ∙ sym (ap (λ (x : List Entry). set old (session_on t.line) x)
+            (subst (λ (o : Outcome). (turn_of stories budget h 0 t.line o).history ≡ h) (sym wanted) (wanted_memory h t.line))
+            ∙ set-get_or old (session_on t.line) []);
+      }
 
-whole : {D : Type 0} (disks : DiskWords D) {old new : DesksState D} (lines : List (List ℕ)) {output now : SinkState} (ended : Ended)
-    → AnsweredLines (HostTurn disks) (λ _. false) old (map heard lines) new output now
-    → ((said : List Reply) → WritesReplies ended (joined (map print_reply said)) said) → Outcomes disks old lines new output now ended
-whole disks {old} {new} lines {output} {now} ended a w =
-    let s : Served disks old lines a.replies new = serve disks old lines a.replies new a.turns in
-    record {
-      said = s.said;
-      all = s.all;
-      written = joined (map print_reply s.said);
-      wrote = subst (λ (rs : List (List ℕ)). Wrote output now (joined rs)) s.spelled a.wrote;
-      writes = w s.said;
-    }
+  met_one : (old : Histories) (t : Turn) (new : Histories) → length old ≡ 64 → Answers stories budget roots old t new → IsMet old t new
+  met_one old t new wide (inl o) = met_in old t new (holder_at roots t.mark.session) o.after (lone_there t.mark.session o.session.0) o.session.1 o.turn o.seen
+  met_one old t new wide (inr n) = elim n.none.1.1 [
+    | inl nowhere ↦ met_nowhere old t new wide nowhere n
+    | inr wanted ↦ met_wanting old t new wanted n
+  ]
 
--- the last of several replies
-pub record IsLast (replies : List (List ℕ)) (last : List ℕ) (said : List Reply) : Type 0 where
-  pub before : List Reply
-  pub end : Reply
-  pub all : said ≡ before ++ end ∷ []
-  pub front : replies ≡ map print_reply before
-  pub behind : last ≡ print_reply end
+  -- ---- lines one after the other
 
-last_of : (replies : List (List ℕ)) (last : List ℕ) (said : List Reply) → replies ++ last ∷ [] ≡ map print_reply said → IsLast replies last said
-last_of [] last [] e = absurd (grind (arith, e))
-last_of [] last (r ∷ []) e = record { before = []; end = r; all = refl; front = refl; behind = cc }
-last_of [] last (r ∷ (q ∷ said)) e = absurd (grind (arith, e))
-last_of (x ∷ replies) last [] e = absurd (grind (arith, e))
-last_of (x ∷ replies) last (r ∷ said) e =
-    let tail : replies ++ last ∷ [] ≡ map print_reply said = cc in
-    let head : x ≡ print_reply r = cc in
-    let l : IsLast replies last said = last_of replies last said tail in
-    record {
-      before = r ∷ l.before;
-      end = l.end;
-      all = ap (λ (rs : List Reply). r ∷ rs) l.all;
-      front = ap (λ (h : List ℕ). h ∷ replies) head ∙ ap (λ (rs : List (List ℕ)). print_reply r ∷ rs) l.front;
-      behind = l.behind;
-    }
+  pub record AreMetBy (old : Histories) (turns : List Turn) (new : Histories) : Type 0 where
+    pub met : AreMet stories budget old 0 (map (λ (t : Turn). t.line) turns) (map (λ (t : Turn). t.outcome) turns)
+    pub said : map (λ (t : Turn). t.reply) turns ≡ replies_met stories budget old 0 (map (λ (t : Turn). t.line) turns) (map (λ (t : Turn). t.outcome) turns)
+    pub after : new ≡ histories_met stories budget old 0 (map (λ (t : Turn). t.line) turns) (map (λ (t : Turn). t.outcome) turns)
 
-broken : {D : Type 0} (disks : DiskWords D) {old new : DesksState D} (lines : List (List ℕ)) {output now : SinkState} {cause : Stop} (ended : Ended)
-    → BreaksLast (HostTurn disks) (HostTurn disks) (λ _. false) old (map heard lines) new output now cause
-    → ((written : List ℕ) (said : List Reply) → IsCutText written said → WritesReplies ended written said) → Outcomes disks old lines new output now ended
-broken {D} disks {old} {new} lines {output} {now} {cause} ended k w =
-    let replies : List (List ℕ) = k.answered.replies ++ k.breaks.reply ∷ [] in
-    let turns : Turns (HostTurn disks) (λ _. false) old (k.before ++ k.last ∷ []) replies new
-    = turns_then (HostTurn disks) (λ _. false) old k.before k.answered.replies k.mid (k.last ∷ []) (k.breaks.reply ∷ []) new k.answered.turns (refl, (new, k.breaks.turned, refl)) in
-    let s : Served disks old lines replies new
-    = serve disks old lines replies new (subst (λ (ls : List Line). Turns (HostTurn disks) (λ _. false) old ls replies new) (sym k.all) turns) in
-    let l : IsLast k.answered.replies k.breaks.reply s.said = last_of k.answered.replies k.breaks.reply s.said s.spelled in
-    record {
-      said = s.said;
-      all = s.all;
-      written = joined k.answered.replies ++ k.breaks.stopped.wrote.part;
-      wrote = wrote_then k.answered.wrote k.breaks.stopped.wrote.wrote;
-      writes = w _ s.said (record {
-        before = l.before;
-        last = l.end;
-        part = k.breaks.stopped.wrote.part;
-        all = l.all;
-        begins = (k.breaks.stopped.rest, sym l.behind ∙ k.breaks.stopped.wrote.split);
-        text = ap (λ (rs : List (List ℕ)). joined rs ++ k.breaks.stopped.wrote.part) l.front;
-      });
-    }
+  met_more : (old : Histories) (t : Turn) (mid : Histories) (turns : List Turn) (new : Histories) → IsMet old t mid → AreMetBy mid turns new → AreMetBy old (t ∷ turns) new
+  met_more old t mid turns new one more =
+      let lines : List (List ℕ) = map (λ (u : Turn). u.line) turns in
+      let outcomes : List Outcome = map (λ (u : Turn). u.outcome) turns in
+      record {
+        met = (one.may, subst (λ (h : Histories). AreMet stories budget h 0 lines outcomes) one.after more.met);
+        said = ap (λ (r : Reply). r ∷ map (λ (u : Turn). u.reply) turns) one.said
+            ∙ ap (λ (rs : List Reply). (turn_on stories budget old 0 t.line t.outcome).reply ∷ rs) (more.said ∙ ap (λ (h : Histories). replies_met stories budget h 0 lines outcomes) one.after);
+        after = more.after ∙ ap (λ (h : Histories). histories_met stories budget h 0 lines outcomes) one.after;
+      }
 
-pub outcomes_of : {D : Type 0} (disks : DiskWords D) {old new : DesksState D} (lines : List (List ℕ)) {output now : SinkState} (ended : Ended)
-    → Converses ended (HostTurn disks) (HostTurn disks) (λ _. false) old (map heard lines) new output now → Outcomes disks old lines new output now ended
-outcomes_of disks lines Done a = whole disks lines Done a (λ _. refl)
-outcomes_of disks lines ReadFault a = whole disks lines ReadFault a (λ _. refl)
-outcomes_of disks lines WriteFault (inl k) = broken disks lines WriteFault k (λ _ _ w. w)
-outcomes_of disks lines WriteFault (inr q) = absurd (grind (arith, q.1))
-outcomes_of disks lines NoMemory (inl k) = broken disks lines NoMemory k (λ _ _ w. inl w)
-outcomes_of disks lines NoMemory (inr q) = whole disks lines NoMemory q.0 (λ _. inr refl)
-outcomes_of disks lines LineLimit a = whole disks lines LineLimit a (λ _. refl)
+  pub met_all : (old : Histories) (turns : List Turn) (new : Histories) → length old ≡ 64 → Chain stories budget roots old turns new → AreMetBy old turns new
+  met_all old [] new wide c = record { met = tt; said = refl; after = c }
+  met_all old (t ∷ turns) new wide c =
+      met_more old t c.0 turns new (met_one old t c.0 wide c.1) (met_all c.0 turns new (answer_wide stories budget roots old t c.0 wide c.1) c.2)
 
--- ---- from the disk handed in to the disk handed back
+  -- ---- the one pass has the number 0
 
--- what an opening says of the disk that it leaves
-pub record Opened {D : Type 0} (disks : DiskWords D) (given : D) (log : Log D) : Type 0 where
-  pub spells : IsTrue (disks.tells given) → SpellsRows (disks.seen given) (rows_of log.entries)
-  pub fresh : log.entries ≡ kept (rows_of log.entries)
-  pub counted : disks.faults log.disk ≡ disks.faults given
-  pub same : SameDisk disks.tells disks.room disks.label given log.disk
-  pub crash :
-      (start : List Row) → IsJournal start → EachImage disks.tells disks.may_leave given (MayOpen start)
-      → IsTrue (disks.tells given) → LeavesOnly disks.moment disks.left_since given log.disk (MayOpen start)
-  pub ends : disks.reach log.disk ≤ max (disks.reach given) (length (spelled (rows_of log.entries)) + 1)
+  own_entry : (e : Entry) → entry_by e ≡ 0 → unnumbered e ≡ e
+  own_entry (entries.Accepted by command) is = ap (λ (n : ℕ). entries.Accepted n command) (sym is)
+  own_entry (entries.Faulted by from to) is = ap (λ (n : ℕ). entries.Faulted n from to) (sym is)
 
-reached : (given first last now rows after : ℕ) → now ≡ last → first ≤ max given (rows + 1) → rows ≤ after → last ≤ max first (after + 4110) → now ≤ max given (after + 4110)
-reached given first last now rows after same opened grows within = omega (arith, same, opened, grows, within)
+  own_more : (h after : List Entry) → map unnumbered h ≡ h → AddsTo h 0 after → map unnumbered after ≡ after
+  own_more h after own (inl same) = subst (λ (l : List Entry). map unnumbered l ≡ l) (sym same) own
+  own_more h after own (inr more) = subst (λ (l : List Entry). map unnumbered l ≡ l) (sym more.1.0)
+      (map-append unnumbered h (more.0 ∷ []) ∙ ap (λ (l : List Entry). l ++ unnumbered more.0 ∷ []) own ∙ ap (λ (e : Entry). h ++ e ∷ []) (own_entry more.0 more.1.1))
 
-pub conversed : {D : Type 0} (disks : DiskWords D) (given : D) (stories : List Story) (budget : ℕ) (log : Log D) (new : DesksState D)
-    {input now : SourceState} {output written : SinkState} (ended : Ended)
-    → Opened disks given log
-    → Talked (HostTurn disks) (HostTurn disks) (λ _. false) (record { stories = stories; budget = budget; log = log }) new input now output written ended
-    → (back : D) → back ≡ new.log.disk → EachImage disks.tells disks.may_leave back (MaySpell (rows_of new.log.entries) new.log.uncertain)
-    → Conversed disks stories budget given back input now output written ended
-conversed {D} disks given stories budget log new {output = output} {written = written} ended opened t back is images =
-    let o = outcomes_of disks t.answered ended t.how in
-    let start : histories_in log.entries ≡ histories_of (rows_of log.entries) = ap histories_in opened.fresh in
-    let told : IsTrue (disks.tells given) → IsTrue (disks.tells log.disk) = λ tells. subst (λ (b : Bool). IsTrue b) (sym opened.same.telling) tells in
-    record {
-      rows = rows_of log.entries;
-      handed_in = opened.spells;
-      read = t.read;
-      answered = t.answered;
-      outcomes = o.all.outcomes;
-      written = o.written;
-      gave = t.gave;
-      within = t.within;
-      which = t.which;
-      met = subst (λ (h : List (List Entry)). AreMet stories budget h 0 t.answered o.all.outcomes) start o.all.met;
-      wrote = o.wrote;
-      writes = subst (λ (rs : List Reply). WritesReplies ended o.written rs) (o.all.said ∙ ap (λ (h : List (List Entry)). replies_met stories budget h 0 t.answered o.all.outcomes) start) o.writes;
-      faults = rw (← opened.counted, is) (chain_of o.all.outcomes (disks.faults log.disk) (disks.faults new.log.disk) o.all.counts);
-      after = rows_of new.log.entries;
-      uncertain = new.log.uncertain;
-      accepted = λ s below. sym (commands_in-histories new.log.entries s below)
-          ∙ ap (λ (h : List (List Entry)). commands_in (entries_of h s)) (o.all.histories ∙ ap (λ (h : List (List Entry)). histories_met stories budget h 0 t.answered o.all.outcomes) start);
-      images = images;
-      meanwhile = λ first journal may tells. subst (λ (d : D). LeavesOnly disks.moment disks.left_since given d (λ c. MayOpen first c ⊎ IsBetween (rows_of log.entries) (rows_of new.log.entries) c)) (sym is)
-          (leaves_then (opened.crash first journal may tells) (o.all.crash (told tells)));
-      reaches = reached (disks.reach given) (disks.reach log.disk) (disks.reach new.log.disk) (disks.reach back) (length (spelled (rows_of log.entries))) (length (spelled (rows_of new.log.entries)))
-          (ap disks.reach is) opened.ends (spelled_grows (rows_of log.entries) (rows_of new.log.entries) o.all.since o.all.grows) o.all.within;
-    }
+  -- all entries of these histories are that pass's
+  pub AreOwn : Histories → Type 0
+  AreOwn histories = (s : ℕ) → map unnumbered (seen_at histories s) ≡ seen_at histories s
 
-pub conversed_kept : {D : Type 0} (disks : DiskWords D) (given : D) (stories : List Story) (budget : ℕ) (log : Log D) (new : DesksState D)
-    {input now : SourceState} {output written : SinkState} (ended : Ended) → SameDisk disks.tells disks.room disks.label given log.disk
-    → Talked (HostTurn disks) (HostTurn disks) (λ _. false) (record { stories = stories; budget = budget; log = log }) new input now output written ended
-    → (back : D) → back ≡ new.log.disk → SameDisk disks.tells disks.room disks.label given back
-conversed_kept {D} disks given stories budget log new ended first t back is =
-    let more = (outcomes_of disks t.answered ended t.how).all.kept in
-    subst (λ (d : D). SameDisk disks.tells disks.room disks.label given d) (sym is)
-    (record { telling = more.telling ∙ first.telling; size = more.size ∙ first.size; name = more.name ∙ first.name })
+  own_at : (old : Histories) (s k : ℕ) (after : List Entry) → (s ≡ k) ⊎ (s ≢ k) → AreOwn old → map unnumbered after ≡ after
+      → map unnumbered (seen_at (set old k after) s) ≡ seen_at (set old k after) s
+  own_at old s k after (inr other) own is = subst (λ (l : List Entry). map unnumbered l ≡ l) (sym (get_or-set_other old k s after [] other)) (own s)
+  own_at old s k after (inl same) own is = elim (cases_lt k (length old)) [
+    | inl within ↦ subst (λ (l : List Entry). map unnumbered l ≡ l) (sym (ap (λ (i : ℕ). seen_at (set old k after) i) same ∙ get_or-set_same old k after [] within)) is
+    | inr past ↦ subst (λ (hs : Histories). map unnumbered (seen_at hs s) ≡ seen_at hs s) (sym (set_past old k after past)) (own s)
+  ]
 
--- the same from the host as it was opened, to the journal as it was handed out
-pub conversed_by : {D : Type 0} (disks : DiskWords D) (given : D) (stories : List Story) (budget : ℕ) (log : Log D) (start new : DesksState D)
-    {input now : SourceState} {output written : SinkState} (ended : Ended)
-    → Opened disks given log
-    → start ≡ record { stories = stories; budget = budget; log = log }
-    → Talked (HostTurn disks) (HostTurn disks) (λ _. false) start new input now output written ended
-    → (last : Log D) → last ≡ new.log → (back : D) → back ≡ last.disk → EachImage disks.tells disks.may_leave back (MaySpell (rows_of last.entries) last.uncertain)
-    → Conversed disks stories budget given back input now output written ended
-conversed_by {D} disks given stories budget log start new {input} {now} {output} {written} ended opened start_is t last last_is back back_is images =
-    conversed disks given stories budget log new ended opened
-    (subst (λ (s : DesksState D). Talked (HostTurn disks) (HostTurn disks) (λ _. false) s new input now output written ended) start_is t)
-    back (back_is ∙ ap (λ (l : Log D). l.disk) last_is)
-    (subst (λ (l : Log D). EachImage disks.tells disks.may_leave back (MaySpell (rows_of l.entries) l.uncertain)) last_is images)
+  own_one : (old : Histories) (t : Turn) (new : Histories) → AreOwn old → IsMet old t new → AreOwn new
+  own_one old t new own m = λ s. subst (λ (hs : Histories). map unnumbered (seen_at hs s) ≡ seen_at hs s) (sym m.after)
+      (own_at old s (session_on t.line) (turn_on stories budget old 0 t.line t.outcome).history (eq_or_ne s (session_on t.line)) own
+      (own_more (entries_of old (session_on t.line)) (turn_on stories budget old 0 t.line t.outcome).history (own (session_on t.line))
+      (turn_adds stories budget (entries_of old (session_on t.line)) 0 t.line t.outcome)))
 
-pub kept_by : {D : Type 0} (disks : DiskWords D) (given : D) (stories : List Story) (budget : ℕ) (log : Log D) (start new : DesksState D)
-    {input now : SourceState} {output written : SinkState} (ended : Ended) → SameDisk disks.tells disks.room disks.label given log.disk
-    → start ≡ record { stories = stories; budget = budget; log = log }
-    → Talked (HostTurn disks) (HostTurn disks) (λ _. false) start new input now output written ended
-    → (last : Log D) → last ≡ new.log → (back : D) → back ≡ last.disk → SameDisk disks.tells disks.room disks.label given back
-kept_by {D} disks given stories budget log start new {input} {now} {output} {written} ended first start_is t last last_is back back_is =
-    conversed_kept disks given stories budget log new ended first
-    (subst (λ (s : DesksState D). Talked (HostTurn disks) (HostTurn disks) (λ _. false) s new input now output written ended) start_is t)
-    back (back_is ∙ ap (λ (l : Log D). l.disk) last_is)
+  pub own_all : (old : Histories) (turns : List Turn) (new : Histories) → length old ≡ 64 → AreOwn old → Chain stories budget roots old turns new → AreOwn new
+  own_all old [] new wide own c = subst AreOwn (sym c) own
+  own_all old (t ∷ turns) new wide own c =
+      own_all c.0 turns new (answer_wide stories budget roots old t c.0 wide c.1) (own_one old t c.0 own (met_one old t c.0 wide c.1)) c.2
 
--- what an opening may meet it may meet again on the disk that came back
-pub may_open_again : {D : Type 0} (tells : D → Bool) (may_leave : D → List ℕ → Type 0) (moment : D → ℕ) (left_since : D → ℕ → List ℕ → Type 0) (given mid back : D)
-    → back ≡ mid → tells mid ≡ tells given
-    → ((rows : List Row) → IsJournal rows → EachImage tells may_leave given (MayOpen rows) → IsTrue (tells given) → LeavesOnly moment left_since given mid (MayOpen rows))
-    → ((t : ℕ) (c : List ℕ) → t ≤ moment mid → may_leave mid c → left_since mid t c)
-    → (rows : List Row) → IsJournal rows → EachImage tells may_leave given (MayOpen rows) → EachImage tells may_leave back (MayOpen rows)
-may_open_again {D} tells may_leave moment left_since given mid back same telling crash now rows journal may =
-    subst (λ (d : D). EachImage tells may_leave d (MayOpen rows)) (sym same) (λ told c left.
-    let leaves : LeavesOnly moment left_since given mid (MayOpen rows) = crash rows journal may (subst (λ (b : Bool). IsTrue b) telling told) in
-    leaves.each c (now (moment given) c leaves.later left))
-
--- and so it is with the images of the meantime, and with how far it was written
-pub meanwhile_again : {D : Type 0} (tells : D → Bool) (may_leave : D → List ℕ → Type 0) (moment : D → ℕ) (left_since : D → ℕ → List ℕ → Type 0) (given mid back : D) → back ≡ mid
-    → ((rows : List Row) → IsJournal rows → EachImage tells may_leave given (MayOpen rows) → IsTrue (tells given) → LeavesOnly moment left_since given mid (MayOpen rows))
-    → (rows : List Row) → IsJournal rows → EachImage tells may_leave given (MayOpen rows) → IsTrue (tells given) → LeavesOnly moment left_since given back (MayOpen rows)
-meanwhile_again {D} tells may_leave moment left_since given mid back same crash rows journal may told =
-    subst (λ (d : D). LeavesOnly moment left_since given d (MayOpen rows)) (sym same) (crash rows journal may told)
-
-pub reaches_again : {D : Type 0} (tells : D → Bool) (seen : D → List ℕ) (reach : D → ℕ) (given mid back : D) → back ≡ mid
-    → (IsTrue (tells given) → ReachesGate (seen given) (reach given) (reach mid)) → IsTrue (tells given) → ReachesGate (seen given) (reach given) (reach back)
-reaches_again {D} tells seen reach given mid back same writes told = subst (λ (d : D). ReachesGate (seen given) (reach given) (reach d)) (sym same) (writes told)
+  pub own_rows : (rows : List Row) → AreOwn (histories_of rows)
+  own_rows rows s = elim (cases_lt s 64) [
+    | inl below ↦ subst (λ (l : List Entry). map unnumbered l ≡ l) (sym (history_there rows s below ∙ history_in-kept rows s)) (unnumbered-all (commands_of rows s))
+    | inr past ↦ subst (λ (l : List Entry). map unnumbered l ≡ l) (sym (get_or_past (histories_of rows) s [] (omega (arith, past, many_histories rows)))) refl
+  ]

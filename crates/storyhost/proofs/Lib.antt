@@ -9,3 +9,4 @@ pub mod KindsLemmas
 pub mod OutsideLemmas
 pub mod BorrowLemmas
 pub mod HostLemmas
+pub mod ConversedLemmas

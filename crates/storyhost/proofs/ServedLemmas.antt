@@ -18,12 +18,13 @@ use Rattle.line_talk.specs.Lines.{lines, talk, IsWithinLimits}
 use Rattle.storyhost.specs.Piped.{PipesOver, NotOpened}
 use Rattle.storyhost.specs.Said.{SaysFault, SaysLine, bad_journal, bad_journal_at}
 use Rattle.storyhost.specs.Served.{BytesHave, WhereTold, AnswersIn, WritesTurns, RefusesJournal, WritesServed}
-use Rattle.storyhost.specs.Status.{status_of_end, status_of_stop}
+use Rattle.storyhost.specs.Status.{status_of_served, status_of_stop}
 use Rattle.line_talk.specs.Streams.{SourceState, SinkState, Wrote}
-use Rattle.line_talk.specs.Talked.{AnswersOf, AreFirst}
+use Rattle.line_talk.specs.Talked.{AreFirst}
 use Rattle.line_talk.specs.Writing.{IsPartOf, Stopped}
-use Rattle.line_talk.specs.declared.ended.Ended.{Ended}
-use Rattle.line_talk.specs.declared.ended.Ended.TheVariants as ended
+use Rattle.host_serve.specs.Told.{AnsweredOf}
+use Rattle.host_serve.specs.declared.served.Served.{Served}
+use Rattle.host_serve.specs.declared.served.Served.TheVariants as served
 use Rattle.line_talk.specs.declared.sink.Stop.{Stop}
 use Rattle.line_talk.specs.declared.sink.Stop.TheVariants as stop
 use Rattle.storyhost.specs.declared.status.Status.{Status}
@@ -48,24 +49,23 @@ where_told disks Missing given P lent has all = subst P (lent (all given)).0 (ha
 where_told disks (There told) given P lent has all = subst P (lent (all given)).0 (has (all given))
 
 -- the lines read are those of the input that they began
-answers_in : (how : Ended) (read rest : List ℕ) (now : SourceState) (answered : List (List ℕ)) → length read ≤ 2 ^ 31 → now.left ≡ Some rest
-    → AnswersOf how read now false answered → AnswersIn how (read ++ rest) answered
-answers_in ended.Done read rest now answered within left (inl end) =
+answers_in : (how : Served) (read rest : List ℕ) (now : SourceState) (answered : List (List ℕ)) → length read ≤ 2 ^ 31 → now.left ≡ Some rest
+    → AnsweredOf how read now answered → AnswersIn how (read ++ rest) answered
+answers_in served.End read rest now answered within left end =
     let all : read ++ rest ≡ read = ap (λ l. read ++ l) (nothing_left now.left rest end.1.at_end left) ∙ append-nil read in
     (end.0 ∙ ap lines (sym all), subst IsWithinLimits (sym all) end.1.within)
-answers_in ended.Done read rest now answered within left (inr over) = absurd (grind (arith, over.1))
-answers_in ended.ReadFault read rest now answered within left is = (read, (rest, refl), is.0)
-answers_in ended.WriteFault read rest now answered within left first = first_then answered (talk read) (talk (read ++ rest)) first (talk_first read rest within)
-answers_in ended.NoMemory read rest now answered within left first = first_then answered (talk read) (talk (read ++ rest)) first (talk_first read rest within)
-answers_in ended.LineLimit read rest now answered within left is = (is.0 ∙ sym (talk_settled read rest within is.1), still_reached read rest is.1)
+answers_in served.ReadFault read rest now answered within left is = (read, (rest, refl), is.0)
+answers_in served.WriteFault read rest now answered within left first = first_then answered (talk read) (talk (read ++ rest)) first (talk_first read rest within)
+answers_in served.NoMemory read rest now answered within left first = first_then answered (talk read) (talk (read ++ rest)) first (talk_first read rest within)
+answers_in served.LineLimit read rest now answered within left is = (is.0 ∙ sym (talk_settled read rest within is.1), still_reached read rest is.1)
 
-served_by : {D : Type 0} (disks : DiskWords D) (stories : List Story) (budget : ℕ) (journal : Told D) (input written : List ℕ) (how : Ended)
-    → WritesTurns disks stories budget journal input written how → WritesServed (status_of_end how) disks stories budget journal input written
-served_by disks stories budget journal input written ended.Done w = w
-served_by disks stories budget journal input written ended.ReadFault w = inr w
-served_by disks stories budget journal input written ended.WriteFault w = inl w
-served_by disks stories budget journal input written ended.NoMemory w = inr (inl w)
-served_by disks stories budget journal input written ended.LineLimit w = w
+served_by : {D : Type 0} (disks : DiskWords D) (stories : List Story) (budget : ℕ) (journal : Told D) (input written : List ℕ) (how : Served)
+    → WritesTurns disks stories budget journal input written how → WritesServed (status_of_served how) disks stories budget journal input written
+served_by disks stories budget journal input written served.End w = w
+served_by disks stories budget journal input written served.ReadFault w = inr w
+served_by disks stories budget journal input written served.WriteFault w = inl w
+served_by disks stories budget journal input written served.NoMemory w = inr (inl w)
+served_by disks stories budget journal input written served.LineLimit w = w
 
 -- something was written, and it has P
 abbrev pub WroteSome : SinkState → SinkState → (List ℕ → Type 0) → Type 0

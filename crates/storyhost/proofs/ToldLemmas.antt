@@ -116,10 +116,12 @@ held_on : {D : Type 0} (disks : DiskWords D) (task : Result Task (List ℕ)) →
     → (written : List ℕ) × (new.held ≡ Some (held ++ written)) × WritesFor disks outside.disk status task bytes written
 held_on disks (Err line) s bytes held outside beyond input now output new status does left_is held_is = said_held (Err line) tt bytes held status does.0 left_is held_is
 held_on disks (Ok (Says speech)) s bytes held outside beyond input now output new status does left_is held_is = said_held (Ok speech) s bytes held status does.0 left_is held_is
-held_on disks (Ok (Serves stories budget folder)) s bytes held outside beyond input now output new status (inl none) left_is held_is =
+held_on disks (Ok (Serves stories budget folder)) s bytes held outside beyond input now output new status (inl (inl none)) left_is held_is =
     held_so held _ held_is ([], none.wrote, not_lent_served disks stories budget (outside.disk (journal_in folder)) bytes status _ none.cause)
-held_on disks (Ok (Serves stories budget folder)) s bytes held outside beyond input now output new status (inr b) left_is held_is =
+held_on disks (Ok (Serves stories budget folder)) s bytes held outside beyond input now output new status (inl (inr b)) left_is held_is =
     held_so held _ held_is (pipe_told disks stories budget (outside.disk (journal_in folder)) bytes b.given b.back input now output new status b.lent left_is b.done)
+held_on disks (Ok (Serves stories budget folder)) s bytes held outside beyond input now output new status (inr gone) left_is held_is =
+    held_so held _ held_is ([], gone.wrote, not_lent_served disks stories budget (outside.disk (journal_in folder)) bytes status (Unit {0}) (inr gone.wanted))
 held_on disks (Ok (Begins folder)) s bytes held outside beyond input now output new status (inl none) left_is held_is =
     held_so held _ held_is ([], none.wrote, not_lent_begun disks (outside.disk (journal_in folder)) status _ none.cause)
 held_on disks (Ok (Begins folder)) s bytes held outside beyond input now output new status (inr b) left_is held_is =
@@ -161,7 +163,7 @@ pub does_nothing : {D : Type 0} (disks : DiskWords D) (task : Result Task (List 
     → Does disks task outside outside input input output output NoMemory
 does_nothing disks (Err line) outside input output = (spoken_nothing (Err line) input output, keeps_none outside)
 does_nothing disks (Ok (Says speech)) outside input output = (spoken_nothing (Ok speech) input output, keeps_none outside)
-does_nothing disks (Ok (Serves stories budget folder)) outside input output = inl (not_lent outside input output)
+does_nothing disks (Ok (Serves stories budget folder)) outside input output = inl (inl (not_lent outside input output))
 does_nothing disks (Ok (Begins folder)) outside input output = inl (not_lent outside input output)
 
 -- where memory was wanted before a file was loaded, each caller is told so

@@ -4,7 +4,7 @@ use Rattle.std.specs.Map.{update}
 use Rattle.std.specs.Str.{bytes_eq}
 use Rattle.disk_model.specs.Disk.{SameDisk}
 use Rattle.line_talk.specs.Causes.{Rose}
-use Rattle.storyhost.specs.Files.{OutsideState, HasOwnLabel, IsLentFrom, RisesWith, There}
+use Rattle.storyhost.specs.Files.{OutsideState, HasOwnLabel, IsLentFrom, Lends, RisesWith, There}
 use Rattle.storyhost.specs.Files.{told_at}
 use Rattle.storyhost.specs.DiskWords.{DiskWords}
 use Rattle.line_talk.specs.Streams.{SourceState, SinkState, Gave, Wrote}
@@ -55,3 +55,25 @@ abbrev pub UsesDisk : {D : Type 0} → DiskWords D → List ℕ → (D → D →
 UsesDisk disks name P outside beyond input now output new status =
     NotLent outside beyond input now output new status
     ⊎ Borrowed disks name P outside beyond
+
+-- the disk of this name was lent and isn't put back, since memory was wanted behind the opening of
+-- its journal; nothing was read or written
+pub record LetsGo {D : Type 0} (disks : DiskWords D) (name : List ℕ)
+    (outside beyond : OutsideState D) (input now : SourceState) (output new : SinkState)
+    (status : Status) : Type 0 where
+  pub wanted : status ≡ NoMemory
+  pub given : D
+  pub lent :
+      IsTrue (disks.tells given)
+      → IsLentFrom disks.seen disks.may_leave (outside.disk name) given
+  pub lends : Lends disks.label disks.faults name given outside beyond
+  pub gave : Gave input now []
+  pub wrote : Wrote output new []
+
+-- a disk is put back, as P has it, or none was lent, or one is let go
+abbrev pub UsesJournal : {D : Type 0} → DiskWords D → List ℕ → (D → D → Type 0)
+    → OutsideState D → OutsideState D → SourceState → SourceState → SinkState → SinkState
+    → Status → Type 0
+UsesJournal disks name P outside beyond input now output new status =
+    UsesDisk disks name P outside beyond input now output new status
+    ⊎ LetsGo disks name outside beyond input now output new status

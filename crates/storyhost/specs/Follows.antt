@@ -1,7 +1,7 @@
 -- What a command leaves of the files, the disks, the input and the output (own).
 use Rattle.std.specs.Prelude.{◌≡◌, ℕ, ◌⊎◌, List, [], ◌++◌, map, take, Some, Result, Ok, Err}
 use Rattle.storyhost.specs.Begun.{InitsOver, WritesBegun}
-use Rattle.storyhost.specs.Borrowed.{UsesDisk, journal_in}
+use Rattle.storyhost.specs.Borrowed.{UsesDisk, UsesJournal, journal_in}
 use Rattle.line_talk.specs.Causes.{Rose}
 use Rattle.storyhost.specs.Files.{OutsideState, KeepsDisks, Told, There}
 use Rattle.storyhost.specs.Headline.{Writes}
@@ -25,7 +25,7 @@ Does disks (Err line) outside beyond input now output new status =
 Does disks (Ok (Says speech)) outside beyond input now output new status =
     Spoken (Ok speech) input now output new status × KeepsDisks outside beyond
 Does disks (Ok (Serves stories budget folder)) outside beyond input now output new status =
-    UsesDisk disks (journal_in folder)
+    UsesJournal disks (journal_in folder)
     (λ given back. PipesOver disks stories budget given back input now output new status)
     outside beyond input now output new status
 Does disks (Ok (Begins folder)) outside beyond input now output new status =

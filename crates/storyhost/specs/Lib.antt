@@ -1,7 +1,7 @@
 pub mod Headline
 pub mod Speech
 pub mod RunText
-pub mod HostTurns
+pub mod Between
 pub mod Piped
 pub mod Served
 pub mod Begun

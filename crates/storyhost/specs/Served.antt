@@ -8,12 +8,13 @@ use Rattle.story_run.specs.declared.story.Story.{Story}
 use Rattle.storyhost.specs.DiskWords.{DiskWords}
 use Rattle.storyhost.specs.Files.{Told, Untold, Missing, There}
 use Rattle.line_talk.specs.Lines.{lines, talk, IsWithinLimits, ReachesLimit}
-use Rattle.storyhost.specs.Piped.{WritesReplies, histories_of}
+use Rattle.host_serve.specs.Opening.{histories_of}
+use Rattle.host_serve.specs.Told.{WritesReplies}
+use Rattle.host_serve.specs.declared.served.Served.{Served}
+use Rattle.host_serve.specs.declared.served.Served.TheVariants as served
 use Rattle.storyhost.specs.Said.{bad_journal, bad_journal_at}
 use Rattle.line_talk.specs.Talked.{AreFirst}
 use Rattle.line_talk.specs.Writing.{IsPartOf}
-use Rattle.line_talk.specs.declared.ended.Ended.{Ended}
-use Rattle.line_talk.specs.declared.ended.Ended.TheVariants as ended
 use Rattle.storyhost.specs.declared.status.Status.{Status}
 use Rattle.storyhost.specs.declared.status.Status.TheVariants.{Done, BadWords, Refused, ReadFault}
 use Rattle.storyhost.specs.declared.status.Status.TheVariants.{WriteFault, NoMemory, LineLimit}
@@ -30,25 +31,25 @@ abbrev pub WhereTold : {D : Type 0} → DiskWords D → Told D → (List ℕ →
 WhereTold {D} disks told P = ((d : D) → IsTrue (disks.tells d)) → BytesHave disks.seen told P
 
 -- the lines of an input that were answered, by how it ended
-abbrev pub AnswersIn : Ended → List ℕ → List (List ℕ) → Type 0
-AnswersIn ended.Done input answered = (answered ≡ lines input) × IsWithinLimits input
-AnswersIn ended.ReadFault input answered =
+abbrev pub AnswersIn : Served → List ℕ → List (List ℕ) → Type 0
+AnswersIn served.End input answered = (answered ≡ lines input) × IsWithinLimits input
+AnswersIn served.ReadFault input answered =
     (read : List ℕ) × IsPartOf read input × (answered ≡ talk read)
-AnswersIn ended.WriteFault input answered = AreFirst answered (talk input)
-AnswersIn ended.NoMemory input answered = AreFirst answered (talk input)
-AnswersIn ended.LineLimit input answered = (answered ≡ talk input) × ReachesLimit input
+AnswersIn served.WriteFault input answered = AreFirst answered (talk input)
+AnswersIn served.NoMemory input answered = AreFirst answered (talk input)
+AnswersIn served.LineLimit input answered = (answered ≡ talk input) × ReachesLimit input
 
 -- each of these lines has one reply, by what its turn met, from the sessions of the journal's rows
 pub record WritesTurns {D : Type 0} (disks : DiskWords D) (stories : List Story) (budget : ℕ)
-    (journal : Told D) (input written : List ℕ) (ended : Ended) : Type 0 where
+    (journal : Told D) (input written : List ℕ) (how : Served) : Type 0 where
   pub rows : List Row
   pub handed_in : WhereTold disks journal (λ bytes. SpellsRows bytes rows)
   pub answered : List (List ℕ)
   pub outcomes : List Outcome
-  pub which : AnswersIn ended input answered
+  pub which : AnswersIn how input answered
   pub met : AreMet stories budget (histories_of rows) 0 answered outcomes
   pub writes :
-      WritesReplies ended written
+      WritesReplies how written
       (replies_met stories budget (histories_of rows) 0 answered outcomes)
 
 -- the line by which a journal is refused
@@ -67,19 +68,19 @@ BeginsRefusal disks journal written =
 abbrev pub WritesServed : {D : Type 0} → Status → DiskWords D → List Story → ℕ → Told D
     → List ℕ → List ℕ → Type 0
 WritesServed Done disks stories budget journal input written =
-    WritesTurns disks stories budget journal input written ended.Done
+    WritesTurns disks stories budget journal input written served.End
 WritesServed BadWords disks stories budget journal input written = ⊥
 WritesServed Refused disks stories budget journal input written = ⊥
 WritesServed ReadFault disks stories budget journal input written =
-    (written ≡ []) ⊎ WritesTurns disks stories budget journal input written ended.ReadFault
+    (written ≡ []) ⊎ WritesTurns disks stories budget journal input written served.ReadFault
 WritesServed WriteFault disks stories budget journal input written =
-    WritesTurns disks stories budget journal input written ended.WriteFault
+    WritesTurns disks stories budget journal input written served.WriteFault
     ⊎ BeginsRefusal disks journal written
 WritesServed DiskFault disks stories budget journal input written = written ≡ []
 WritesServed NoMemory disks stories budget journal input written =
-    (written ≡ []) ⊎ WritesTurns disks stories budget journal input written ended.NoMemory
+    (written ≡ []) ⊎ WritesTurns disks stories budget journal input written served.NoMemory
     ⊎ BeginsRefusal disks journal written
 WritesServed BadFolder disks stories budget journal input written =
     RefusesJournal disks journal written
 WritesServed LineLimit disks stories budget journal input written =
-    WritesTurns disks stories budget journal input written ended.LineLimit
+    WritesTurns disks stories budget journal input written served.LineLimit

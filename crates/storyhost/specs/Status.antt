@@ -4,6 +4,8 @@ use Rattle.line_talk.specs.Ends.{ended_by}
 use Rattle.line_talk.specs.declared.ended.Ended.{Ended}
 use Rattle.line_talk.specs.declared.ended.Ended.TheVariants as ended
 use Rattle.line_talk.specs.declared.sink.Stop.{Stop}
+use Rattle.host_serve.specs.declared.served.Served.{Served}
+use Rattle.host_serve.specs.declared.served.Served.TheVariants as served
 use Rattle.storyhost.specs.declared.status.Status.{Status}
 use Rattle.storyhost.specs.declared.status.Status.TheVariants.{Done, BadWords, Refused, ReadFault}
 use Rattle.storyhost.specs.declared.status.Status.TheVariants.{WriteFault, NoMemory, LineLimit}
@@ -29,6 +31,14 @@ status_of_end ended.ReadFault = ReadFault
 status_of_end ended.WriteFault = WriteFault
 status_of_end ended.NoMemory = NoMemory
 status_of_end ended.LineLimit = LineLimit
+
+-- the status of a host's connection
+abbrev pub status_of_served : Served → Status
+status_of_served served.End = Done
+status_of_served served.ReadFault = ReadFault
+status_of_served served.WriteFault = WriteFault
+status_of_served served.LineLimit = LineLimit
+status_of_served served.NoMemory = NoMemory
 
 -- the status of a text that was not written whole
 abbrev pub status_of_stop : Stop → Status

@@ -8,7 +8,6 @@ mod complaint;
 mod edge;
 mod folder;
 mod help;
-mod host;
 mod init;
 mod loan;
 mod memory_outside;

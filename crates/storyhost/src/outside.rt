@@ -20,7 +20,7 @@ pub trait Outside {
     ghost use Rattle.storyhost.specs.Files.{is_missing, is_out, has_failed};
 
     /// A disk that it lends.
-    type Disk: Disk;
+    type Disk: Disk + Drop;
 
     /// What is known of it. The fault counts never fall.
     ghost outside: { Self → OutsideState Self.Disk };

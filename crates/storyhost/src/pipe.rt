@@ -1,37 +1,66 @@
 //! The command `pipe`, which answers the numbered requests of one connection.
-ghost use Rattle.std.specs.Prelude.{◌≡◌, ◌<◌, length};
+ghost use Rattle.std.specs.Prelude.{◌≡◌, [], None, IfSome};
 ghost use Rattle.disk_model.specs.Disk.{SameDisk};
 ghost use Rattle.gate_journal.specs.Command.{IsBudget};
-ghost use Rattle.storyhost.specs.Borrowed.{UsesDisk, journal_in};
+ghost use Rattle.host_serve.specs.Holders.{holders};
+ghost use Rattle.host_serve.specs.Hosts.{AreOf};
 ghost use Rattle.line_talk.specs.Causes.{Rose};
+ghost use Rattle.line_talk.specs.Streams.{Gave, Wrote};
+ghost use Rattle.storyhost.specs.Borrowed.{UsesJournal, journal_in};
 ghost use Rattle.storyhost.specs.Piped.{PipesOver};
+ghost use Rattle.storyhost.specs.Between.{ServesBetween};
 
 use crate::folder::journal_name;
-use crate::host::Hosting;
 use crate::outside::{Fetch, Outside};
 use crate::say::say_fault;
 use crate::status::Status;
 use disk_model::Disk;
-use gate_journal::Journal;
-use line_talk::{Sink, Source, converse_between};
-use session_desk::Desks;
+use host_serve::{Host, NoPause, OpenFault, Passes, Served};
+use line_talk::{Both, Sink, Source};
 use std::alloc::Global;
+use std::sync::Wait;
 use story_run::Story;
 
+/// Answers the lines of an input by a host's passes.
+fn answer_lines<'i, R: Wait, D: Disk + Drop, S: Source, K: Sink>(
+    rt: &R,
+    alloc: Global,
+    host: &Host<'i, D>,
+    passes: &mut Passes<'i, D>,
+    input: &mut S,
+    output: &mut K,
+) -> Served
+    requires passes { AreOf host.now passes.old }
+    ensures value { ServesBetween host.now passes.old passes.new (S.source input.old)
+        (S.source input.new) (K.sink output.old) (K.sink output.new) result }
+    ensures kept { AreOf host.now passes.new }
+    ensures holders { holders passes.new.desks.items ≡ holders passes.old.desks.items }
+    ensures read_fault { result ≡ Served.ReadFault
+        → Rose (S.source input.old).faults (S.source input.new).faults }
+    ensures write_fault { result ≡ Served.WriteFault
+        → Rose (K.sink output.old).faults (K.sink output.new).faults }
+{
+    let mut marks = Vec::new(alloc);
+    let mut link = Both {
+        source: input,
+        sink: output,
+    };
+    host.serve(rt, alloc, passes, &NoPause, 0, &mut link, &mut marks)
+}
+
 /// Answers the requests of the input by the sessions of the journal on this disk, and hands the
-/// disk back.
-fn pipe_over<'i, D: Disk, S: Source, K: Sink>(
+/// disk back, but where memory is wanted behind the journal's opening.
+fn pipe_over<'i, R: Wait, D: Disk + Drop, S: Source, K: Sink>(
+    rt: &R,
     alloc: Global,
     stories: &'i [Story<'i>],
     budget: u64,
     disk: D,
     input: &mut S,
     output: &mut K,
-    buffer: &mut [u8],
-) -> (Status, D)
+) -> (Status, Option<D>)
     requires budget { IsBudget budget }
-    requires buffer { 0 < length buffer.old }
-    ensures value { PipesOver (record {
+    ensures value { IfSome result.1 (λ back. PipesOver (record {
       tells = D.tells;
       seen = D.seen;
       may_leave = D.may_leave;
@@ -41,29 +70,32 @@ fn pipe_over<'i, D: Disk, S: Source, K: Sink>(
       reach = D.reach;
       room = D.room;
       label = D.label;
-    }) stories.now budget disk result.1 (S.source input.old) (S.source input.new)
-        (K.sink output.old) (K.sink output.new) result.0 }
-    ensures kept { SameDisk D.tells D.room D.label disk result.1 }
+    }) stories.now budget disk back (S.source input.old) (S.source input.new)
+        (K.sink output.old) (K.sink output.new) result.0) }
+    ensures kept { IfSome result.1 (λ back. SameDisk D.tells D.room D.label disk back) }
+    ensures gone { result.1 ≡ None → (result.0 ≡ Status.NoMemory)
+        × Gave (S.source input.old) (S.source input.new) []
+        × Wrote (K.sink output.old) (K.sink output.new) [] }
     ensures read_fault { result.0 ≡ Status.ReadFault
         → Rose (S.source input.old).faults (S.source input.new).faults }
     ensures write_fault { result.0 ≡ Status.WriteFault
         → Rose (K.sink output.old).faults (K.sink output.new).faults }
 {
-    let journal = match Journal::open(alloc, disk) {
-        Ok(journal) => journal,
-        Err((fault, disk)) => return (say_fault(alloc, fault, output), disk),
+    let (host, mut passes) = match Host::open(alloc, stories, disk, budget) {
+        Ok(opened) => opened,
+        Err(OpenFault::Journal(fault, disk)) => {
+            return (say_fault(alloc, fault, output), Some(disk));
+        }
+        Err(OpenFault::NoMemory) => return (Status::NoMemory, None),
     };
-    let desks = match Desks::open(alloc, stories, budget, journal) {
-        Ok(desks) => desks,
-        Err(journal) => return (Status::NoMemory, journal.into_disk()),
-    };
-    let mut host = Hosting { desks };
-    let ended = converse_between(alloc, &mut host, input, output, buffer);
-    (Status::of_end(ended), host.desks.into_journal().into_disk())
+    let served = answer_lines(rt, alloc, &host, &mut passes, input, output);
+    let disk = host.end(rt, passes);
+    (Status::of_served(served), Some(disk))
 }
 
 /// Answers the requests of the input by the sessions of the journal in a folder.
-pub fn pipe<'i, O: Outside, S: Source, K: Sink>(
+pub fn pipe<'i, R: Wait, O: Outside, S: Source, K: Sink>(
+    rt: &R,
     alloc: Global,
     stories: &'i [Story<'i>],
     budget: u64,
@@ -71,11 +103,9 @@ pub fn pipe<'i, O: Outside, S: Source, K: Sink>(
     outside: &mut O,
     input: &mut S,
     output: &mut K,
-    buffer: &mut [u8],
 ) -> Status
     requires budget { IsBudget budget }
-    requires buffer { 0 < length buffer.old }
-    ensures value { UsesDisk (record {
+    ensures value { UsesJournal (record {
       tells = O.Disk.tells;
       seen = O.Disk.seen;
       may_leave = O.Disk.may_leave;
@@ -114,7 +144,9 @@ pub fn pipe<'i, O: Outside, S: Source, K: Sink>(
         Err(Fetch::Failed) => return Status::DiskFault,
         Err(Fetch::NoMemory) => return Status::NoMemory,
     };
-    let (status, disk) = pipe_over(alloc, stories, budget, disk, input, output, buffer);
-    outside.put_back(&name, disk);
+    let (status, disk) = pipe_over(rt, alloc, stories, budget, disk, input, output);
+    if let Some(disk) = disk {
+        outside.put_back(&name, disk);
+    }
     status
 }

@@ -1,6 +1,7 @@
 //! Exit statuses.
 ghost use Rattle.std.specs.Prelude.{◌≡◌, Some};
 
+use host_serve::Served;
 use line_talk::{Ended, Stop};
 
 /// How the program ends.
@@ -28,6 +29,7 @@ pub enum Status {
 
 impl Status {
     ghost use Rattle.storyhost.specs.Status.{status_of, status_of_end, status_of_stop};
+    ghost use Rattle.storyhost.specs.Status.{status_of_served};
 
     /// That of a conversation.
     pub fn of_end(ended: Ended) -> Status
@@ -39,6 +41,19 @@ impl Status {
             Ended::WriteFault => Status::WriteFault,
             Ended::NoMemory => Status::NoMemory,
             Ended::LineLimit => Status::LineLimit,
+        }
+    }
+
+    /// That of a host's connection.
+    pub fn of_served(served: Served) -> Status
+        ensures { result ≡ status_of_served served }
+    {
+        match served {
+            Served::End => Status::Done,
+            Served::ReadFault => Status::ReadFault,
+            Served::WriteFault => Status::WriteFault,
+            Served::LineLimit => Status::LineLimit,
+            Served::NoMemory => Status::NoMemory,
         }
     }
 

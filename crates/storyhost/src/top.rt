@@ -30,7 +30,8 @@ use std::thread::Threads;
 const ROOM: usize = 4096;
 
 /// Does what the action does over the stories of files.
-fn act<O: Outside, S: Source, K: Sink>(
+fn act<R: Wait, O: Outside, S: Source, K: Sink>(
+    rt: &R,
     alloc: Global,
     command: &Command<'_>,
     files: &[Vec<u8>],
@@ -75,14 +76,7 @@ fn act<O: Outside, S: Source, K: Sink>(
         Action::Pipe => {
             let folder = command.folder;
             pipe(
-                alloc,
-                &stories,
-                budget,
-                folder,
-                outside,
-                input,
-                output,
-                &mut buffer,
+                rt, alloc, &stories, budget, folder, outside, input, output,
             )
         }
         Action::Help(topic) => say_once(help_text(topic).as_bytes(), output),
@@ -91,7 +85,8 @@ fn act<O: Outside, S: Source, K: Sink>(
 }
 
 /// Does what a command asks for.
-fn follow<O: Outside, S: Source, K: Sink>(
+fn follow<R: Wait, O: Outside, S: Source, K: Sink>(
+    rt: &R,
     alloc: Global,
     command: Command<'_>,
     outside: &mut O,
@@ -124,7 +119,7 @@ fn follow<O: Outside, S: Source, K: Sink>(
         Err(Fetch::Failed) => return Status::ReadFault,
         Err(Fetch::NoMemory) => return Status::NoMemory,
     };
-    act(alloc, &command, &files, outside, input, output)
+    act(rt, alloc, &command, &files, outside, input, output)
 }
 
 /// Does what the words after the program's name ask for, and answers the exit status.
@@ -187,12 +182,11 @@ pub fn top<R: Threads + Wait + Sync, O: Outside, S: Source, K: Sink>(
         × Wrote (K.sink output.old) (K.sink output.new) [] }
     ensures kept { (O.outside outside.new).file ≡ (O.outside outside.old).file }
 {
-    let _ = rt;
     let command = match command_of(alloc, words) {
         Ok(Some(command)) => command,
         Ok(None) => return Status::BadWords.code(),
         Err(_) => return Status::NoMemory.code(),
     };
-    let status = follow(alloc, command, outside, input, output);
+    let status = follow(rt, alloc, command, outside, input, output);
     status.code()
 }

@@ -1,0 +1,21 @@
+-- The lines that a host answers between a source and a sink (own).
+use Rattle.std.specs.Prelude.{List, []}
+use Rattle.host_serve.specs.Chain.{Chain}
+use Rattle.host_serve.specs.Holders.{holders, seens}
+use Rattle.host_serve.specs.Serves.{Turn}
+use Rattle.host_serve.specs.Told.{Tells}
+use Rattle.host_serve.specs.declared.host.Host.{Host}
+use Rattle.host_serve.specs.declared.host.Passes.{Passes}
+use Rattle.host_serve.specs.declared.mark.Mark.{Mark}
+use Rattle.host_serve.specs.declared.served.Served.{Served}
+use Rattle.line_talk.specs.Streams.{SourceState, SinkState}
+
+-- what was read, which lines of it had which turns, what was written, and how these turns follow
+-- one another on what the passes had seen
+pub record ServesBetween {D : Type 0} (host : Host D) (old new : Passes D)
+    (input now : SourceState) (output after : SinkState) (served : Served) : Type 0 where
+  pub turns : List Turn
+  pub marks : List Mark
+  pub tells : Tells turns input now output after [] marks served
+  pub chain : Chain host.stories.now host.budget (holders old.desks.items)
+      (seens old.desks.items) turns (seens new.desks.items)
