@@ -52,42 +52,42 @@ module _ {D : Type 0} (disks : DiskWords D) (given back : D) (stories : List Sto
   log = end.0
 
   abbrev since : IsSinceOpened disks.tells disks.may_leave disks.room disks.label disks.reach disks.moment disks.left_since end.0
-  since = end.1.1.1.1.1.1.1
+  since = end.7
 
   -- it is the journal that was opened on this disk, with these rows
   opening : end.0.opening ≡ record { disk = given; found = length rows }
-  opening = sym (same_some (record { disk = given; found = length rows }) end.0.opening (sym opened.root ∙ end.1.1.0.opening))
+  opening = sym (same_some (record { disk = given; found = length rows }) end.0.opening (sym opened.root ∙ end.2.opening))
 
   opened_on : end.0.opening.disk ≡ given
   opened_on = ap (λ (o : Opening D). o.disk) opening
 
   found : rows_found end.0 ≡ rows
   found =
-      let many : end.0.opening.found ≡ length (kept rows) = ap (λ (o : Opening D). o.found) opening ∙ sym (length-map _ rows) in
-      let all : end.0.entries ≡ kept rows ++ end.1.1.0.grows.0 = end.1.1.0.grows.1.0 ∙ ap (λ (es : List JournalEntry). es ++ end.1.1.0.grows.0) opened.begins in
+      let many : end.0.opening.found ≡ length (kept rows) = ap (λ (o : Opening D). o.found) opening ∙ sym (length-map rows _) in
+      let all : end.0.entries ≡ kept rows ++ end.2.grows.0 = end.2.grows.1 ∙ ap (λ (es : List JournalEntry). es ++ end.2.grows.0) opened.begins in
       ap (λ (n : ℕ). rows_of (take n end.0.entries)) many ∙ ap (λ (es : List JournalEntry). rows_of (take (length (kept rows)) es)) all
-      ∙ ap rows_of (take-append_seam (kept rows) end.1.1.0.grows.0) ∙ rows_of-all rows
+      ∙ ap rows_of (take-append_seam (kept rows) end.2.grows.0) ∙ rows_of-all rows
 
   pub same_back : SameDisk disks.tells disks.room disks.label given back
   same_back =
-      subst (λ (d : D). SameDisk disks.tells disks.room disks.label given d) (sym end.1.0)
+      subst (λ (d : D). SameDisk disks.tells disks.room disks.label given d) (sym end.1)
       (subst (λ (d : D). SameDisk disks.tells disks.room disks.label d end.0.disk) opened_on since.same)
 
   counts : Rises (disks.faults given) end.0.entries (disks.faults back)
-  counts = subst (λ (d : D). Rises (disks.faults d) end.0.entries (disks.faults back)) opened_on end.1.1.1.1.1.1.0
+  counts = subst (λ (d : D). Rises (disks.faults d) end.0.entries (disks.faults back)) opened_on end.6
 
   meanwhile : (start : List Row) → IsJournal start → EachImage disks.tells disks.may_leave given (MayOpen start) → IsTrue (disks.tells given)
       → LeavesOnly disks.moment disks.left_since given back (λ c. MayOpen start c ⊎ IsBetween rows (rows_of end.0.entries) c)
   meanwhile start journal may tells =
       let leaves = since.meanwhile start journal (subst (λ (d : D). EachImage disks.tells disks.may_leave d (MayOpen start)) (sym opened_on) may)
       (subst (λ (d : D). IsTrue (disks.tells d)) (sym opened_on) tells) in
-      subst (λ (d : D). LeavesOnly disks.moment disks.left_since given d (λ c. MayOpen start c ⊎ IsBetween rows (rows_of end.0.entries) c)) (sym end.1.0)
+      subst (λ (d : D). LeavesOnly disks.moment disks.left_since given d (λ c. MayOpen start c ⊎ IsBetween rows (rows_of end.0.entries) c)) (sym end.1)
       (subst (λ (d : D). LeavesOnly disks.moment disks.left_since d end.0.disk (λ c. MayOpen start c ⊎ IsBetween rows (rows_of end.0.entries) c)) opened_on
       (subst (λ (rs : List Row). LeavesOnly disks.moment disks.left_since end.0.opening.disk end.0.disk (λ c. MayOpen start c ⊎ IsBetween rs (rows_of end.0.entries) c)) found leaves))
 
   reaches : disks.reach back ≤ max (disks.reach given) (length (spelled (rows_of end.0.entries)) + 4110)
   reaches =
-      subst (λ (d : D). disks.reach d ≤ max (disks.reach given) (length (spelled (rows_of end.0.entries)) + 4110)) (sym end.1.0)
+      subst (λ (d : D). disks.reach d ≤ max (disks.reach given) (length (spelled (rows_of end.0.entries)) + 4110)) (sym end.1)
       (subst (λ (d : D). disks.reach end.0.disk ≤ max (disks.reach d) (length (spelled (rows_of end.0.entries)) + 4110)) opened_on since.reaches)
 
   -- the lines between the two
@@ -107,9 +107,9 @@ module _ {D : Type 0} (disks : DiskWords D) (given back : D) (stories : List Sto
 
     entries : (s : ℕ) → s < 64 → history_in end.0.entries s ≡ seen_at (seens last.desks.items) s
     entries s below =
-        let alone = subst (λ (h : List Holder). seen_at end.1.1.0.finals s ≡ seen_at (seens last.desks.items) s) holds
-        ((end.1.1.0.each s below).alone (subst (λ (h : List Holder). (holder_at h s).number ≡ 0 × ((holder_at h s).made ≡ 0)) (sym (holds ∙ opened.alone)) (alone_there s below))) in
-        end.1.1.0.kept s below ∙ ap (map unnumbered) alone ∙ own s
+        let alone = subst (λ (h : List Holder). seen_at end.2.finals s ≡ seen_at (seens last.desks.items) s) holds
+        ((end.2.each s below).alone (subst (λ (h : List Holder). ((holder_at h s).number ≡ 0) × ((holder_at h s).made ≡ 0)) (sym (holds ∙ opened.alone)) (alone_there s below))) in
+        end.2.kept s below ∙ ap (map unnumbered) alone ∙ own s
 
     pub conversed : (IsTrue (disks.tells given) → SpellsRows (disks.seen given) rows) → Conversed disks stories budget given back input now output new served
     conversed spells = record {
@@ -130,7 +130,7 @@ module _ {D : Type 0} (disks : DiskWords D) (given back : D) (stories : List Sto
       faults = counts;
       accepted = λ s below. sym (commands_in-history end.0.entries s) ∙ ap commands_in (entries s below ∙ ap (λ (h : List (List Entry)). entries_of h s) met.after);
       uncertain = end.0.uncertain;
-      images = end.1.1.1.1.0;
+      images = end.4;
       meanwhile = meanwhile;
       reaches = reaches;
     }

@@ -34,7 +34,7 @@ Histories = List (List Entry)
 
 lone_there : (s : ℕ) → s < 64 → holder_at roots s ≡ lone
 unfolding sessions_below
-lone_there s below = get_or-map-range_with_len (λ (t : ℕ). lone) 0 64 s s _ below refl
+lone_there s below = get_or-map-range_with_len (λ (t : ℕ). lone) 0 64 s s _ below (omega arith)
 
 pub alone_there : (s : ℕ) → s < 64 → IsAloneHolder (holder_at roots s)
 alone_there s below = subst IsAloneHolder (sym (lone_there s below)) (refl, refl)
@@ -45,7 +45,7 @@ many_histories rows = length-map-range_with_len (history_in (kept rows)) 0 64
 
 pub history_there : (rows : List Row) (s : ℕ) → s < 64 → seen_at (histories_of rows) s ≡ history_in (kept rows) s
 unfolding sessions_below
-history_there rows s below = get_or-map-range_with_len (history_in (kept rows)) 0 64 s s [] below refl
+history_there rows s below = get_or-map-range_with_len (history_in (kept rows)) 0 64 s s [] below (omega arith)
 
 module _ (stories : List Story) (budget : ℕ) where
   -- ---- one line
@@ -107,7 +107,7 @@ module _ (stories : List Story) (budget : ℕ) where
 
   met_one : (old : Histories) (t : Turn) (new : Histories) → length old ≡ 64 → Answers stories budget roots old t new → IsMet old t new
   met_one old t new wide (inl o) = met_in old t new (holder_at roots t.mark.session) o.after (lone_there t.mark.session o.session.0) o.session.1 o.turn o.seen
-  met_one old t new wide (inr n) = elim n.none.1.1 [
+  met_one old t new wide (inr n) = elim n.none.2 [
     | inl nowhere ↦ met_nowhere old t new wide nowhere n
     | inr wanted ↦ met_wanting old t new wanted n
   ]
@@ -143,11 +143,11 @@ module _ (stories : List Story) (budget : ℕ) where
 
   own_more : (h after : List Entry) → map unnumbered h ≡ h → AddsTo h 0 after → map unnumbered after ≡ after
   own_more h after own (inl same) = subst (λ (l : List Entry). map unnumbered l ≡ l) (sym same) own
-  own_more h after own (inr more) = subst (λ (l : List Entry). map unnumbered l ≡ l) (sym more.1.0)
-      (map-append unnumbered h (more.0 ∷ []) ∙ ap (λ (l : List Entry). l ++ unnumbered more.0 ∷ []) own ∙ ap (λ (e : Entry). h ++ e ∷ []) (own_entry more.0 more.1.1))
+  own_more h after own (inr more) = subst (λ (l : List Entry). map unnumbered l ≡ l) (sym more.1)
+      (map-append unnumbered h (more.0 ∷ []) ∙ ap (λ (l : List Entry). l ++ unnumbered more.0 ∷ []) own ∙ ap (λ (e : Entry). h ++ e ∷ []) (own_entry more.0 more.2))
 
   -- all entries of these histories are that pass's
-  pub AreOwn : Histories → Type 0
+  abbrev pub AreOwn : Histories → Type 0
   AreOwn histories = (s : ℕ) → map unnumbered (seen_at histories s) ≡ seen_at histories s
 
   own_at : (old : Histories) (s k : ℕ) (after : List Entry) → (s ≡ k) ⊎ (s ≢ k) → AreOwn old → map unnumbered after ≡ after
