@@ -1,14 +1,13 @@
 -- A disk that is lent and put back.
-use Rattle.std.proofs.Common.{◌≡◌, inr, ℕ, List, [], arith, refl, sym, ap, ◌∙◌, subst, cond, Bool, true, false, Option, Some, None, IsSomeAnd, IsTrue}
+use Rattle.std.proofs.Common.{◌≡◌, inr, ℕ, List, arith, refl, sym, ap, ◌∙◌, subst, cond, Bool, true, false, Option, Some, None, IsSomeAnd, IsTrue}
 use Rattle.std.proofs.lemmas.Slice.Eq.{bytes_eq-Decides}
 use Rattle.std.specs.Str.{bytes_eq}
 use Rattle.disk_model.specs.Disk.{SameDisk}
-use Rattle.storyhost.specs.Borrowed.{Borrowed, LetsGo, NotLent}
+use Rattle.storyhost.specs.Borrowed.{Borrowed, NotLent}
 use Rattle.storyhost.specs.Files.{OutsideState, KeepsDisks, IsLent, IsLentFrom, Lends, RisesWith, TakesBack, Told, Untold, Missing, There, told_now, returned}
 use Rattle.storyhost.specs.DiskWords.{DiskWords}
-use Rattle.line_talk.specs.Streams.{SourceState, SinkState, Gave, Wrote}
+use Rattle.line_talk.specs.Streams.{SourceState, SinkState}
 use Rattle.storyhost.specs.declared.loan.Loan.{Loan}
-use Rattle.storyhost.specs.declared.status.Status.{Status}
 use Rattle.storyhost.specs.declared.status.Status.TheVariants.{NoMemory}
 use Rattle.line_talk.proofs.StreamsLemmas.{gave_none, wrote_none}
 
@@ -101,17 +100,3 @@ borrowed_as {D} disks name P given back outside mid beyond first second is again
     (subst (λ (n : List ℕ). IsTrue (disks.tells given) → IsLentFrom disks.seen disks.may_leave (outside.disk n) given) is lent)
     same done
     (subst (λ (n : List ℕ). TakesBack disks.faults n back mid beyond) again back_is)
-
--- a disk that isn't put back
-pub lets_go : {D : Type 0} (disks : DiskWords D) (name : List ℕ) (given : D) (outside beyond : OutsideState D) {input now : SourceState} {output new : SinkState} {status : Status}
-    (spelled : List ℕ) → spelled ≡ name → Lends disks.label disks.faults spelled given outside beyond
-    → (IsTrue (disks.tells given) → IsLentFrom disks.seen disks.may_leave (outside.disk spelled) given)
-    → (status ≡ NoMemory) × (Gave input now [] × Wrote output new []) → LetsGo disks name outside beyond input now output new status
-lets_go {D} disks name given outside beyond spelled is lends lent wanted = record {
-  wanted = wanted.0;
-  given = given;
-  lent = subst (λ (n : List ℕ). IsTrue (disks.tells given) → IsLentFrom disks.seen disks.may_leave (outside.disk n) given) is lent;
-  lends = subst (λ (n : List ℕ). Lends disks.label disks.faults n given outside beyond) is lends;
-  gave = wanted.1;
-  wrote = wanted.2;
-}

@@ -145,8 +145,11 @@ pub fn pipe<'i, R: Wait, O: Outside, S: Source, K: Sink>(
         Err(Fetch::NoMemory) => return Status::NoMemory,
     };
     let (status, disk) = pipe_over(rt, alloc, stories, budget, disk, input, output);
-    if let Some(disk) = disk {
-        outside.put_back(&name, disk);
+    match disk {
+        Some(disk) => {
+            outside.put_back(&name, disk);
+            status
+        }
+        None => status,
     }
-    status
 }
