@@ -14,6 +14,7 @@ mod request;
 mod serve;
 mod served;
 mod speaker;
+mod split;
 mod turn;
 
 pub use fault::OpenFault;
