@@ -1,0 +1,5 @@
+//! Hosts and their links: what no clause says.
+#![tactic(auto)]
+
+#[cfg(test)]
+mod hosts;
