@@ -14,12 +14,12 @@ use story_make::echo_story;
 use story_run::Story;
 
 /// Whether a host answers each line as the sessions do that are played from the start.
-fn are_alike<R: Wait>(
+fn are_alike<'i, R: Wait>(
     rt: &R,
     alloc: Global,
     stories: &[Story],
-    host: &Host<'_, MemDisk>,
-    passes: &mut Passes<'_, MemDisk>,
+    host: &Host<'i, MemDisk>,
+    passes: &mut Passes<'i, MemDisk>,
     sessions: &mut Sessions,
     lines: &[&[u8]],
 ) -> Result<bool, Fail>
