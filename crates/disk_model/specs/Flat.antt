@@ -6,6 +6,10 @@ use Rattle.disk_model.specs.declared.flat.FlatDisk.{FlatDisk}
 abbrev pub flat_room : FlatDisk → ℕ
 flat_room d = length d.bytes.items
 
+-- how many bytes it holds
+abbrev pub flat_size : FlatDisk → ℕ
+flat_size d = d.size
+
 -- the greatest end of any write asked of it
 abbrev pub flat_reach : FlatDisk → ℕ
 flat_reach d = d.reach

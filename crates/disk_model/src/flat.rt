@@ -19,12 +19,14 @@ pub struct FlatDisk {
 }
 
 impl FlatDisk {
-    ghost use Rattle.disk_model.specs.Flat.{flat_room, flat_reach, flat_faults, flat_label};
+    ghost use Rattle.disk_model.specs.Flat.{flat_room, flat_size, flat_reach, flat_faults};
+    ghost use Rattle.disk_model.specs.Flat.{flat_label};
 
     /// An empty disk of this many bytes of room, all of them reserved here.
     pub fn new(alloc: Global, room: u32) -> Result<FlatDisk, AllocError>
         ensures value { IfOk result (λ d.
-            (flat_room d ≡ room) × (flat_reach d ≡ 0) × (flat_faults d ≡ 0)) }
+            (flat_room d ≡ room) × (flat_size d ≡ 0)
+            × (flat_reach d ≡ 0) × (flat_faults d ≡ 0)) }
         ensures label { IfOk result (λ d. flat_label d ≡ 0) }
     {
         let bytes = vec![in alloc; 0; room as usize]?;
@@ -41,6 +43,7 @@ impl FlatDisk {
     pub fn set_label(&mut self, label: u64)
         ensures value { flat_label self.new ≡ label }
         ensures kept { (flat_room self.new ≡ flat_room self.old)
+            × (flat_size self.new ≡ flat_size self.old)
             × (flat_reach self.new ≡ flat_reach self.old)
             × (flat_faults self.new ≡ flat_faults self.old) }
     {
