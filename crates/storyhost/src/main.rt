@@ -11,6 +11,7 @@ mod help;
 mod init;
 mod loan;
 mod memory_outside;
+mod numbers;
 mod once;
 mod outside;
 mod pipe;
