@@ -8,3 +8,4 @@ pub mod Hosts
 pub mod Opening
 pub mod Ending
 pub mod Gathering
+pub mod Doors

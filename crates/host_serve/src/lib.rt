@@ -3,6 +3,7 @@
 
 mod answer;
 mod desks;
+mod door;
 mod end;
 mod fault;
 mod host;
@@ -15,9 +16,12 @@ mod serve;
 mod served;
 mod speaker;
 mod turn;
+mod worked;
 
+pub use door::{Door, Next};
 pub use fault::OpenFault;
 pub use host::{Host, Passes};
 pub use mark::Mark;
 pub use pause::{NoPause, Pause};
 pub use served::Served;
+pub use worked::Worked;

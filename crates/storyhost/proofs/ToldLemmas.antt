@@ -4,7 +4,7 @@ use Rattle.std.proofs.lemmas.List.{append-nil}
 use Rattle.std.specs.Io.KnownBytes.{Appends}
 use Rattle.story_run.specs.declared.story.Story.{Story}
 use Rattle.storyhost.specs.declared.status.Status.{Status}
-use Rattle.storyhost.specs.declared.status.Status.TheVariants.{Done, BadWords, Refused, ReadFault, WriteFault, DiskFault, NoMemory, BadFolder, LineLimit}
+use Rattle.storyhost.specs.declared.status.Status.TheVariants.{Done, BadWords, Refused, ReadFault, WriteFault, DiskFault, NoMemory, BadFolder, DoorFault, LineLimit}
 use Rattle.storyhost.specs.declared.stories.Refusal.{Refusal}
 use Rattle.storyhost.specs.declared.words.Action.{Action}
 use Rattle.storyhost.specs.declared.words.Action.TheVariants.{Run, Check, Pipe, Init, Help, Version}
@@ -67,6 +67,7 @@ writes Done (Err line) s read rest now written within left leaves = absurd leave
 writes BadWords said s read rest now written within left leaves = absurd leaves
 writes DiskFault said s read rest now written within left leaves = absurd leaves
 writes BadFolder said s read rest now written within left leaves = absurd leaves
+writes DoorFault said s read rest now written within left leaves = absurd leaves
 writes Refused said s read rest now written within left leaves = leaves
 writes ReadFault (Ok speech) s read rest now written within left leaves = inr (read, (rest, refl), leaves)
 writes ReadFault (Err line) s read rest now written within left leaves = absurd leaves

@@ -23,3 +23,4 @@ pub mod Spoken
 pub mod Plain
 pub mod Files
 pub mod MemoryOutside
+pub mod Outsides

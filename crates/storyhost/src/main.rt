@@ -10,6 +10,7 @@ mod folder;
 mod help;
 mod init;
 mod loan;
+mod memory_door;
 mod memory_outside;
 mod numbers;
 mod once;

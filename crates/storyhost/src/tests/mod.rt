@@ -137,6 +137,7 @@ fn ends_as_wanted<R: Threads + Wait + Sync>(
         files,
         run.loads.to_vec(alloc)?,
         run.loans.to_vec(alloc)?,
+        Vec::new(alloc),
     );
     let Some(disk) = new_journal(alloc) else {
         return Ok(false);
