@@ -7,3 +7,7 @@ pub mod PassLemmas
 pub mod ToldLemmas
 pub mod OpeningLemmas
 pub mod EndLemmas
+pub mod MixLemmas
+pub mod NewestLemmas
+pub mod RootLemmas
+pub mod SplitLemmas

@@ -6,7 +6,7 @@ use Rattle.std.proofs.Math.Seq.{map-set_same}
 use Rattle.atomic_table.specs.Seated.{TableId}
 use Rattle.turn_cell.specs.declared.pass.Pass.{Pass}
 use Rattle.turn_cell.specs.declared.cell.Cell.{Cell}
-use Rattle.turn_cell.specs.Passes.{IsOf, IsOutside, KeepsNumbers, made, seen, tag_of}
+use Rattle.turn_cell.specs.Passes.{IsOf, IsOutside, KeepsNumbers, made, sample, seen, tag_of}
 use Rattle.turn_cell.specs.Views.{tag_in}
 use Rattle.story_run.specs.declared.story.Story.{Story}
 use Rattle.session_core.specs.declared.entry.Entry.{Entry}
@@ -88,20 +88,28 @@ module _ {T E G : Type 0} (tag : T → G) (tags : List (Option G)) where
       ∙ (sym (get_or-map (λ (q : Pass T E). tag_of tag q) passes s p None (omega arith))
       ∙ ap (λ (l : List (Option G)). get_or l s None) a.tagged)
 
-  pub are_still : (cells : List (Cell T E)) (passes : List (Pass T E)) (s : ℕ) (c : Cell T E)
+  -- another pass of the same cell in the place of one of them
+  pub are_put : (cells : List (Cell T E)) (passes : List (Pass T E)) (s : ℕ) (c : Cell T E)
       (p q : Pass T E) → ArePasses tag tags cells passes → s < length cells
-      → c ≡ get_or cells s c → p ≡ get_or passes s p → IsOf c q → IsOutside q → KeepsNumbers p q
-      → ArePasses tag tags cells (set passes s q)
-  are_still cells passes s c p q a low at_c at_p of outside kept =
+      → c ≡ get_or cells s c → p ≡ get_or passes s p → IsOf c q → IsOutside q
+      → sample q ≡ sample p → ArePasses tag tags cells (set passes s q)
+  are_put cells passes s c p q a low at_c at_p of outside kept =
       let ready = pass_ready cells passes s c p a low at_c at_p in
       record {
         same = a.same ∙ sym (map-set_same (λ (r : Pass T E). pass_id r) passes s q p
             (of ∙ (sym ready.0 ∙ ap (λ (r : Pass T E). pass_id r) at_p)));
         outside = each_set IsOutside passes s q a.outside outside;
         tagged = map-set_same (λ (r : Pass T E). tag_of tag r) passes s q p
-            (ap (λ (x : Option T). tag_in tag x) kept.2
+            (ap (λ (x : Option T). tag_in tag x) kept
             ∙ ap (λ (r : Pass T E). tag_of tag r) at_p) ∙ a.tagged;
       }
+
+  pub are_still : (cells : List (Cell T E)) (passes : List (Pass T E)) (s : ℕ) (c : Cell T E)
+      (p q : Pass T E) → ArePasses tag tags cells passes → s < length cells
+      → c ≡ get_or cells s c → p ≡ get_or passes s p → IsOf c q → IsOutside q → KeepsNumbers p q
+      → ArePasses tag tags cells (set passes s q)
+  are_still cells passes s c p q a low at_c at_p of outside kept =
+      are_put cells passes s c p q a low at_c at_p of outside kept.2
 
   pub holders_many : (cells : List (Cell T E)) (passes : List (Pass T E))
       → ArePasses tag tags cells passes → length cells ≡ 64 → length (holders passes) ≡ 64

@@ -24,7 +24,7 @@ use Rattle.host_serve.specs.Chain.{Answers, Chain}
 use Rattle.host_serve.specs.Holders.{Holder}
 use Rattle.host_serve.specs.Serves.{Serves, Turn}
 use Rattle.host_serve.specs.Speaking.{Speaking, Speaks, seen_and_marked, turn_with}
-use Rattle.host_serve.specs.Told.{AnsweredOf, IsCutText, Tells, WritesReplies, served_of, turn_on}
+use Rattle.host_serve.specs.Told.{AnsweredOf, IsCutText, Tells, WritesReplies, served_of, turn_from}
 use Rattle.host_serve.proofs.ChainLemmas.{chain_more}
 use Rattle.host_serve.proofs.ServesLemmas.{serves_of}
 
@@ -42,7 +42,7 @@ pub speaks_of : (old : Speaking) (line : Line) (holders : List Holder) (seen : L
     (marks : List Mark) (answer : Answer) → holders ≡ old.holders
     → marks ≡ old.marks ++ answer.mark ∷ []
     → ((bytes : List ℕ) → heard bytes ≡ line → Answers old.stories old.budget old.holders old.seen
-    (turn_on bytes answer) seen)
+    (turn_from bytes answer) seen)
     → Speaks old line (print_reply answer.reply) (record { stories = old.stories; budget = old.budget; holders = holders; seen = seen; marks = marks })
 speaks_of old line holders seen marks answer same grown answers = record {
   outcome = answer.outcome;

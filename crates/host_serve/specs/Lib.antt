@@ -9,3 +9,4 @@ pub mod Opening
 pub mod Ending
 pub mod Gathering
 pub mod Doors
+pub mod Splitting

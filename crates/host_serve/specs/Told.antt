@@ -18,8 +18,8 @@ use Rattle.host_serve.specs.Serves.{Turn}
 use Rattle.host_serve.specs.Speaking.{turn_with}
 
 -- the turn of a line with this answer
-abbrev pub turn_on : List ℕ → Answer → Turn
-turn_on line answer = turn_with line answer.outcome answer.mark answer.reply
+abbrev pub turn_from : List ℕ → Answer → Turn
+turn_from line answer = turn_with line answer.outcome answer.mark answer.reply
 
 -- how a call ends, by how its conversation ended
 abbrev pub served_of : Ended → Served

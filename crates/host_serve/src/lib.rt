@@ -15,6 +15,7 @@ mod request;
 mod serve;
 mod served;
 mod speaker;
+mod split;
 mod turn;
 mod worked;
 

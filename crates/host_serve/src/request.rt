@@ -4,7 +4,7 @@ ghost use Rattle.host_serve.specs.Chain.{Answers};
 ghost use Rattle.host_serve.specs.Holders.{holders, seens};
 ghost use Rattle.host_serve.specs.Hosts.{AreOf};
 ghost use Rattle.host_serve.specs.Serves.{IsExact, Turn};
-ghost use Rattle.host_serve.specs.Told.{turn_on};
+ghost use Rattle.host_serve.specs.Told.{turn_from};
 
 use crate::answer::{Answer, to_absent, to_unread};
 use crate::host::{Host, Passes};
@@ -30,7 +30,7 @@ impl<'i, D: Disk + Drop> Host<'i, D> {
         requires passes { AreOf self.now passes.old }
         ensures value { Answers self.now.stories.now self.now.budget
             (holders passes.old.desks.items) (seens passes.old.desks.items)
-            (turn_on line.now result) (seens passes.new.desks.items) }
+            (turn_from line.now result) (seens passes.new.desks.items) }
         ensures kept { AreOf self.now passes.new }
         ensures holders { holders passes.new.desks.items ≡ holders passes.old.desks.items }
     {

@@ -8,7 +8,7 @@ ghost use Rattle.line_words.specs.Reply.{print_reply};
 ghost use Rattle.host_serve.specs.Chain.{Answers};
 ghost use Rattle.host_serve.specs.Holders.{holders, seens};
 ghost use Rattle.host_serve.specs.Hosts.{AreOf};
-ghost use Rattle.host_serve.specs.Told.{turn_on};
+ghost use Rattle.host_serve.specs.Told.{turn_from};
 
 use crate::answer::{Answer, to_dropped};
 use crate::host::{Host, Passes};
@@ -44,7 +44,7 @@ fn answer_to<'i, D: Disk + Drop, R: Wait, P: Moments>(
     requires passes { AreOf host.now passes.old }
     ensures value { (bytes : List ℕ) → heard bytes ≡ option_map (λ l. l.now) line.entry
         → Answers host.now.stories.now host.now.budget (holders passes.old.desks.items)
-        (seens passes.old.desks.items) (turn_on bytes result) (seens passes.new.desks.items) }
+        (seens passes.old.desks.items) (turn_from bytes result) (seens passes.new.desks.items) }
     ensures kept { AreOf host.now passes.new }
     ensures holders { holders passes.new.desks.items ≡ holders passes.old.desks.items }
 {

@@ -6,7 +6,7 @@ ghost use Rattle.session_desk.specs.Shared.{desk_tag};
 ghost use Rattle.host_serve.specs.Reading.{IsReadAs};
 ghost use Rattle.host_serve.specs.Holders.{holder_of};
 ghost use Rattle.host_serve.specs.Hosts.{cell_id, tag_at};
-ghost use Rattle.host_serve.specs.Told.{turn_on};
+ghost use Rattle.host_serve.specs.Told.{turn_from};
 ghost use Rattle.host_serve.specs.Chain.{TurnsIn};
 
 use crate::answer::Answer;
@@ -38,7 +38,7 @@ pub fn turn_in<'i, D: Disk + Drop, R: Wait, P: Moments>(
         (cell_id host.now.journal) (session_of request.now)) }
     requires read { IsReadAs host.now.budget _line.now request.now }
     ensures value { TurnsIn host.now.stories.now host.now.budget (holder_of pass.old)
-        (seen pass.old) (turn_on _line.now result) (seen pass.new) }
+        (seen pass.old) (turn_from _line.now result) (seen pass.new) }
     ensures session { result.mark.session ≡ session_of request.now }
     ensures kept { IsOf cell.now pass.new × IsOutside pass.new × KeepsNumbers pass.old pass.new
         × (made pass.new ≡ made pass.old) }

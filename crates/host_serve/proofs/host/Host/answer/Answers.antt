@@ -1,6 +1,6 @@
 use Rattle.std.proofs.Common.{ℕ, Some, None, inr, ap, sym, ◌∙◌, arith}
 use Rattle.host_serve.specs.Hosts.{cell_id, tag_at}
-use Rattle.host_serve.specs.Told.{turn_on}
+use Rattle.host_serve.specs.Told.{turn_from}
 use Rattle.host_serve.proofs.TurnLemmas.{session_read}
 use Rattle.host_serve.proofs.PassLemmas.{as_many, tag_there, pass_ready, pass_tagged, are_still, holders_still, answers_in}
 use Rattle.host_serve.proofs.host.Host.answer.Goals as goal
@@ -30,7 +30,7 @@ turn_in-requires-clause-tag g c =
 pub returns-clause-value : goal.returns-clause-value
 returns-clause-value g c = answers_in c.args.self.now.stories.now c.args.self.now.budget
     c.args.passes.now.desks.items c.session_of-s.result c.index_mut.result.now c.turn_in.new.pass
-    (turn_on c.args.line.now c.turn_in.result)
+    (turn_from c.args.line.now c.turn_in.result)
     (as_many _ _ c.args.self.now.desks.items c.args.passes.now.desks.items c.requires.passes.each
     ∙ c.requires.passes.whole.many) c.index_mut.ensures.value c.if-s-ge64.false
     (c.turn_in.ensures.session ∙ sym c.session_of-s.ensures)

@@ -1,12 +1,12 @@
 use Rattle.std.proofs.Common.{refl}
-use Rattle.host_serve.specs.Told.{turn_on}
+use Rattle.host_serve.specs.Told.{turn_from}
 use Rattle.host_serve.proofs.PassLemmas.{holders_many, seens_many}
 use Rattle.host_serve.proofs.ServesLemmas.{exact_of}
 use Rattle.host_serve.proofs.host.Host.request.Goals as goal
 
 pub returns-clause-value : goal.returns-clause-value
 returns-clause-value g c = (
-  turn_on c.args.line.now c.answer.result,
+  turn_from c.args.line.now c.answer.result,
   refl,
   refl,
   c.answer.ensures.value,

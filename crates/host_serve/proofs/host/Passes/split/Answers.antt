@@ -1,0 +1,163 @@
+use Rattle.std.proofs.Common.{◌≡◌, ℕ, ◌<◌, ◌≤◌, ◌+◌, ap, sym, ◌∙◌, subst, set, arith, refl}
+use Rattle.std.specs.Vec.{with_item}
+use Rattle.std.proofs.lemmas.List.{with_items_is}
+use Rattle.session_desk.specs.Shared.{desk_tag}
+use Rattle.host_serve.specs.Holders.{Holder, holders, seens}
+use Rattle.host_serve.specs.Hosts.{ArePasses, cell_id, tags_below}
+use Rattle.host_serve.specs.Splitting.{AreRoots, after_split, with_newest}
+use Rattle.host_serve.proofs.PassLemmas.{pass_ready}
+use Rattle.host_serve.proofs.RootLemmas.{roots_first}
+use Rattle.host_serve.proofs.SplitLemmas.{SplitsOff, newest_there, own_tags, root_here, splits_all, splits_back, splits_kept, splits_none, splits_not, splits_on}
+use Rattle.host_serve.proofs.host.Passes.split.Goals as goal
+
+pub loop-s-init : goal.loop-s-init
+loop-s-init g c = record {
+  done = splits_none desk_tag _ _ _ c.in_ok-desks.ensures.items c.requires.passes.each;
+  room = (c.in_ok-desks.ensures.len, c.in_ok-desks.ensures.exact ∙ c.from.ensures);
+}
+
+pub split-requires-clause-cell : goal.split-requires-clause-cell
+split-requires-clause-cell g c = (pass_ready _ _ _ _ _ _ _ c.loop-s.invariant.done.are
+    (omega (arith, c.requires.passes.whole.many, c.loop-s-test.true, c.from-s-end.ensures))
+    c.index.ensures c.index_mut.ensures.value).0
+
+pub split-requires-clause-outside : goal.split-requires-clause-outside
+split-requires-clause-outside g c = (pass_ready _ _ _ _ _ _ _ c.loop-s.invariant.done.are
+    (omega (arith, c.requires.passes.whole.many, c.loop-s-test.true, c.from-s-end.ensures))
+    c.index.ensures c.index_mut.ensures.value).1
+
+pub split-requires-clause-root : goal.split-requires-clause-root
+split-requires-clause-root g c = let root = root_here desk_tag _ _ c.requires.roots.0 _ _ _ _
+    c.loop-s.invariant.done c.requires.roots.2
+    (omega (arith, c.requires.passes.whole.many, c.loop-s-test.true, c.from-s-end.ensures))
+    c.index_mut.ensures.value in
+    let most = c.requires.roots.1 in
+    let low = root.1 in
+    (root.0, omega arith)
+
+pub push_reserved-requires : goal.push_reserved-requires
+push_reserved-requires g c =
+    let room = c.loop-s.invariant.room in
+    let len = room.0 in
+    let capacity = room.1 in
+    omega (arith, c.loop-s-test.true, c.from-s-end.ensures)
+
+pub join_again-requires-clause-roots : goal.join_again-requires-clause-roots
+join_again-requires-clause-roots g c = let split = splits_not desk_tag _ _ _ _ _ _ _ _ c.loop-s.invariant.done
+    (omega (arith, c.requires.passes.whole.many, c.loop-s-test.true, c.from-s-end.ensures))
+    c.index.ensures c.index_mut.ensures.value c.in-Err.ensures.err c.in-Err.ensures.kept
+    c.in-Err.ensures.outside c.in-Err.ensures.seen in
+    own_tags desk_tag _ _ _ _ split.are c.deref.ensures.value c.deref_mut.ensures.value
+
+pub join_again-requires-clause-newest : goal.join_again-requires-clause-newest
+join_again-requires-clause-newest g c = let split = splits_not desk_tag _ _ _ _ _ _ _ _ c.loop-s.invariant.done
+    (omega (arith, c.requires.passes.whole.many, c.loop-s-test.true, c.from-s-end.ensures))
+    c.index.ensures c.index_mut.ensures.value c.in-Err.ensures.err c.in-Err.ensures.kept
+    c.in-Err.ensures.outside c.in-Err.ensures.seen in
+    newest_there desk_tag _ _ _ _ _ _ _ split c.deref.ensures.value c.deref_mut.ensures.value
+
+pub returns-in-Err-clause-err : goal.returns-in-Err-clause-err
+returns-in-Err-clause-err g c = let split = splits_not desk_tag _ _ _ _ _ _ _ _ c.loop-s.invariant.done
+    (omega (arith, c.requires.passes.whole.many, c.loop-s-test.true, c.from-s-end.ensures))
+    c.index.ensures c.index_mut.ensures.value c.in-Err.ensures.err c.in-Err.ensures.kept
+    c.in-Err.ensures.outside c.in-Err.ensures.seen in
+    let back = splits_back desk_tag _ _ _ _ _ _ _ _ _ split c.requires.passes.each
+    c.deref.ensures.value c.deref_mut.ensures.value c.join_again.ensures.holders
+    c.join_again.ensures.seen c.join_again.ensures.kept in
+    let long = c.join_again.auto.roots in
+    let is = with_items_is (with_item c.loop-s.self.desks c.loop-s.s c.split.new.pass)
+    c.join_again.new.roots (long ∙ c.deref_mut.ensures.len) in (
+      c.loop-s.s,
+      omega (arith, c.loop-s-test.true, c.from-s-end.ensures),
+      ap (λ l. holders l) is ∙ back.0,
+    )
+
+pub returns-in-Err-clause-kept : goal.returns-in-Err-clause-kept
+returns-in-Err-clause-kept g c = let split = splits_not desk_tag _ _ _ _ _ _ _ _ c.loop-s.invariant.done
+    (omega (arith, c.requires.passes.whole.many, c.loop-s-test.true, c.from-s-end.ensures))
+    c.index.ensures c.index_mut.ensures.value c.in-Err.ensures.err c.in-Err.ensures.kept
+    c.in-Err.ensures.outside c.in-Err.ensures.seen in
+    let back = splits_back desk_tag _ _ _ _ _ _ _ _ _ split c.requires.passes.each
+    c.deref.ensures.value c.deref_mut.ensures.value c.join_again.ensures.holders
+    c.join_again.ensures.seen c.join_again.ensures.kept in
+    let long = c.join_again.auto.roots in
+    let is = with_items_is (with_item c.loop-s.self.desks c.loop-s.s c.split.new.pass)
+    c.join_again.new.roots (long ∙ c.deref_mut.ensures.len) in
+    record {
+      whole = c.requires.passes.whole;
+      each = subst (λ l. ArePasses desk_tag (tags_below c.args.host.now.stories.now
+          c.args.host.now.budget (cell_id c.args.host.now.journal) 64) c.args.host.now.desks.items l)
+          (sym is) back.2;
+    }
+
+pub returns-in-Err-clause-seen : goal.returns-in-Err-clause-seen
+returns-in-Err-clause-seen g c = let split = splits_not desk_tag _ _ _ _ _ _ _ _ c.loop-s.invariant.done
+    (omega (arith, c.requires.passes.whole.many, c.loop-s-test.true, c.from-s-end.ensures))
+    c.index.ensures c.index_mut.ensures.value c.in-Err.ensures.err c.in-Err.ensures.kept
+    c.in-Err.ensures.outside c.in-Err.ensures.seen in
+    let back = splits_back desk_tag _ _ _ _ _ _ _ _ _ split c.requires.passes.each
+    c.deref.ensures.value c.deref_mut.ensures.value c.join_again.ensures.holders
+    c.join_again.ensures.seen c.join_again.ensures.kept in
+    let long = c.join_again.auto.roots in
+    let is = with_items_is (with_item c.loop-s.self.desks c.loop-s.s c.split.new.pass)
+    c.join_again.new.roots (long ∙ c.deref_mut.ensures.len) in
+    ap (λ l. seens l) is ∙ back.1
+
+pub returns-in-Err-clause-roots : goal.returns-in-Err-clause-roots
+returns-in-Err-clause-roots g c = let split = splits_not desk_tag _ _ _ _ _ _ _ _ c.loop-s.invariant.done
+    (omega (arith, c.requires.passes.whole.many, c.loop-s-test.true, c.from-s-end.ensures))
+    c.index.ensures c.index_mut.ensures.value c.in-Err.ensures.err c.in-Err.ensures.kept
+    c.in-Err.ensures.outside c.in-Err.ensures.seen in
+    let back = splits_back desk_tag _ _ _ _ _ _ _ _ _ split c.requires.passes.each
+    c.deref.ensures.value c.deref_mut.ensures.value c.join_again.ensures.holders
+    c.join_again.ensures.seen c.join_again.ensures.kept in
+    let long = c.join_again.auto.roots in
+    let is = with_items_is (with_item c.loop-s.self.desks c.loop-s.s c.split.new.pass)
+    c.join_again.new.roots (long ∙ c.deref_mut.ensures.len) in
+    λ most roots. subst (λ hs. AreRoots (most + 1) hs) (sym (ap (λ l. holders l) is ∙ back.0))
+    (roots_first (λ (h : Holder). with_newest (after_split h)) (λ h. (refl, refl)) _ most _ roots)
+
+pub loop-s-preserved : goal.loop-s-preserved
+loop-s-preserved g c =
+    let room = c.loop-s.invariant.room in
+    let len = room.0 in
+    record {
+      done = subst (λ l. SplitsOff desk_tag c.args.host.now.desks.items (c.loop-s.s + 1)
+          c.args.self.now.desks.items
+          (set c.loop-s.self.desks.items c.loop-s.s c.split.new.pass) l)
+          (sym c.push_reserved.ensures.items)
+          (splits_on desk_tag _ _ _ _ _ _ _ _ _ c.loop-s.invariant.done
+          (omega (arith, c.requires.passes.whole.many, c.loop-s-test.true, c.from-s-end.ensures))
+          c.index.ensures c.index_mut.ensures.value c.in-Ok.ensures.ok c.in-Ok.ensures.kept
+          c.in-Ok.ensures.outside c.in-Ok.ensures.seen);
+      room = (
+        omega (arith, len, c.push_reserved.ensures.len),
+        c.push_reserved.ensures.capacity ∙ room.1,
+      );
+    }
+
+pub returns-clause-ok : goal.returns-clause-ok
+returns-clause-ok g c =
+    let all = splits_all desk_tag _ _ _ _ _ _ c.loop-s.invariant.done c.requires.passes.each
+    (omega (
+      arith,
+      c.requires.passes.whole.many,
+      c.loop-s-test.false,
+      c.from-s-end.ensures,
+      c.loop-s.auto.s-end,
+    )) in
+    (record { whole = c.requires.passes.whole; each = all.0 }, all.1, all.2, all.3)
+
+pub returns-clause-kept : goal.returns-clause-kept
+returns-clause-kept g c = record {
+  whole = c.requires.passes.whole;
+  each = splits_kept desk_tag _ _ _ _ _ _ c.loop-s.invariant.done c.requires.passes.each;
+}
+
+pub returns-clause-seen : goal.returns-clause-seen
+returns-clause-seen g c = c.loop-s.invariant.done.heard
+
+pub returns-clause-roots : goal.returns-clause-roots
+returns-clause-roots g c = λ most roots.
+    subst (λ hs. AreRoots (most + 1) hs) (sym c.loop-s.invariant.done.who)
+    (roots_first after_split (λ h. (refl, refl)) _ most _ roots)
