@@ -88,6 +88,18 @@ abbrev pub Counts : {T E : Type 0} → Result T E → ℕ → ℕ → Type 0
 Counts result before now =
     MatchResult result (λ _. now ≡ before) (λ _. (before ≤ now) × Rose before now)
 
+-- a call that found no memory: it isn't counted among the calls, and leaves what the disk reads as
+-- and what a stop may leave
+pub record FindsNoMemory
+    {D : Type 0}
+    (seen : D → List ℕ)
+    (may_leave : D → List ℕ → Type 0)
+    (moment : D → ℕ)
+    (old new : D) : Type 0 where
+  pub clock : moment new ≡ moment old
+  pub reads : seen new ≡ seen old
+  pub images : NoneNew (may_leave old) (may_leave new)
+
 -- what no call changes
 pub record SameDisk
     {D : Type 0} (tells : D → Bool) (room label : D → ℕ) (old new : D) : Type 0 where

@@ -4,7 +4,7 @@ ghost use Rattle.std.specs.Prelude.{◌≡◌, ◌⊎◌, ◌+◌, ◌<◌, ◌�
 ghost use Rattle.std.specs.Prelude.{ℕ, Bool, List, length, max};
 ghost use Rattle.std.specs.Prelude.{IsTrue, IsOk, IsErr, IfOk, OnOk, OnErr};
 ghost use Rattle.disk_model.specs.Disk.{Reads, written, Torn, Follows, NoneNew, Only, Elapses};
-ghost use Rattle.disk_model.specs.Disk.{Counts, SameDisk};
+ghost use Rattle.disk_model.specs.Disk.{Counts, SameDisk, FindsNoMemory};
 
 /// The call failed, and was counted.
 #[derive(Clone, Copy, Debug, PartialEq, Eq)]
@@ -20,8 +20,8 @@ pub trait Disk {
     /// It fails in nothing but a write past its room.
     ghost steady: { Self → Bool };
 
-    /// Its next call is to fail.
-    ghost fails_next: { Self → Bool };
+    /// The call of this moment is to fail.
+    ghost fails_at: { Self → ℕ → Bool };
 
     /// The bytes that it reads as. Past their end stand zeros.
     ghost seen: { Self → List ℕ };
@@ -52,10 +52,12 @@ pub trait Disk {
         ensures ok { IfOk result (λ n. (n ≤ room self.old)
             × (IsTrue (tells self.old) → n ≡ length (seen self.old))) }
         ensures works { IsTrue (steady self.old) → IsOk result × IsTrue (steady self.new) }
-        ensures err { IsTrue (fails_next self.old) → IsErr result }
-        // One that tells fails where it was to fail; or it found no memory, and isn't counted.
+        ensures err { IsTrue (fails_at self.old (moment self.old)) → IsErr result }
+        // One that tells fails where it was to fail, or for want of memory alone.
         ensures only { OnErr result (IsTrue (tells self.old)
-            → (moment self.new ≡ moment self.old) ⊎ IsTrue (fails_next self.old)) }
+            → FindsNoMemory seen may_leave moment self.old self.new
+            ⊎ IsTrue (fails_at self.old (moment self.old))) }
+        ensures listed { fails_at self.new ≡ fails_at self.old }
         ensures cause { Counts result (faults self.old) (faults self.new) }
         ensures seen { OnOk result (IsTrue (tells self.old) → seen self.new ≡ seen self.old) }
         ensures crash { IsTrue (tells self.old)
@@ -72,10 +74,12 @@ pub trait Disk {
         ensures ok { OnOk result (IsTrue (tells self.old)
             → Reads (seen self.old) place into.new) }
         ensures works { IsTrue (steady self.old) → IsOk result × IsTrue (steady self.new) }
-        ensures err { IsTrue (fails_next self.old) → IsErr result }
-        // One that tells fails where it was to fail; or it found no memory, and isn't counted.
+        ensures err { IsTrue (fails_at self.old (moment self.old)) → IsErr result }
+        // One that tells fails where it was to fail, or for want of memory alone.
         ensures only { OnErr result (IsTrue (tells self.old)
-            → (moment self.new ≡ moment self.old) ⊎ IsTrue (fails_next self.old)) }
+            → FindsNoMemory seen may_leave moment self.old self.new
+            ⊎ IsTrue (fails_at self.old (moment self.old))) }
+        ensures listed { fails_at self.new ≡ fails_at self.old }
         ensures cause { Counts result (faults self.old) (faults self.new) }
         ensures seen { OnOk result (IsTrue (tells self.old) → seen self.new ≡ seen self.old) }
         ensures crash { IsTrue (tells self.old)
@@ -95,15 +99,16 @@ pub trait Disk {
         ensures works { IsTrue (steady self.old)
             → (place + length piece.now ≤ room self.old → IsOk result)
             × IsTrue (steady self.new) }
-        ensures err { IsTrue (fails_next self.old) → IsErr result }
+        ensures err { IsTrue (fails_at self.old (moment self.old)) → IsErr result }
         ensures full { room self.old < place + length piece.now
             → IsErr result
             × (IsTrue (tells self.old) → NoneNew (may_leave self.old) (may_leave self.new)) }
-        // One that tells fails where it was to fail, or past the room; or it found no memory, and
-        // isn't counted.
+        // One that tells fails where it was to fail, past the room, or for want of memory alone.
         ensures only { OnErr result (IsTrue (tells self.old)
-            → (moment self.new ≡ moment self.old) ⊎ IsTrue (fails_next self.old)
+            → FindsNoMemory seen may_leave moment self.old self.new
+            ⊎ IsTrue (fails_at self.old (moment self.old))
             ⊎ (room self.old < place + length piece.now)) }
+        ensures listed { fails_at self.new ≡ fails_at self.old }
         ensures cause { Counts result (faults self.old) (faults self.new) }
         ensures crash { IsTrue (tells self.old)
             → Follows (Torn place (length piece.now)) (may_leave self.old) (may_leave self.new) }
@@ -120,10 +125,12 @@ pub trait Disk {
         ensures ok { OnOk result (IsTrue (tells self.old)
             → Only (seen self.old) (may_leave self.new)) }
         ensures works { IsTrue (steady self.old) → IsOk result × IsTrue (steady self.new) }
-        ensures err { IsTrue (fails_next self.old) → IsErr result }
-        // One that tells fails where it was to fail; or it found no memory, and isn't counted.
+        ensures err { IsTrue (fails_at self.old (moment self.old)) → IsErr result }
+        // One that tells fails where it was to fail, or for want of memory alone.
         ensures only { OnErr result (IsTrue (tells self.old)
-            → (moment self.new ≡ moment self.old) ⊎ IsTrue (fails_next self.old)) }
+            → FindsNoMemory seen may_leave moment self.old self.new
+            ⊎ IsTrue (fails_at self.old (moment self.old))) }
+        ensures listed { fails_at self.new ≡ fails_at self.old }
         ensures cause { Counts result (faults self.old) (faults self.new) }
         ensures seen { OnOk result (IsTrue (tells self.old) → seen self.new ≡ seen self.old) }
         ensures crash { IsTrue (tells self.old)

@@ -105,7 +105,7 @@ impl Disk for FileDisk {
 
     ghost steady = { λ _. false };
 
-    ghost fails_next = { λ _. false };
+    ghost fails_at = { λ _ _. false };
 
     ghost seen = { λ _. [] };
 

@@ -56,7 +56,7 @@ impl Disk for FlatDisk {
 
     ghost steady = { λ _. true };
 
-    ghost fails_next = { λ _. false };
+    ghost fails_at = { λ _ _. false };
 
     ghost seen = { λ _. [] };
 

@@ -144,7 +144,7 @@ impl Disk for MemDisk {
 
     ghost steady = { λ _. false };
 
-    ghost fails_next = { λ m. list_any (λ call. call == length m.calls.items) m.failing.items };
+    ghost fails_at = { λ m t. list_any (λ call. call == t) m.failing.items };
 
     ghost seen = { λ m. (state_after m.start.items m.calls.items).seen };
 

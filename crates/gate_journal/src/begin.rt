@@ -27,7 +27,7 @@ pub fn init<D: Disk>(disk: &mut D) -> Result<(), InitFault>
     // Where the disk holds something, or fails as its size is asked, nothing is written, whatever
     // is answered.
     ensures looks { (IsTrue (D.tells disk.old) × (0 < length (D.seen disk.old)))
-        ⊎ IsTrue (D.fails_next disk.old)
+        ⊎ IsTrue (D.fails_at disk.old (D.moment disk.old))
         → OnlyLooks D.tells D.may_leave D.moment D.left_since D.reach D.room D.label
         disk.old disk.new }
     ensures seen { IfErr result (λ e. e ≡ InitFault.NotEmpty

@@ -3,22 +3,25 @@
 use std::alloc::{AllocError, AllocFailed};
 
 /// The disk failed: its counts of faults at the start and at the end of the call.
-#[derive(Clone, Copy, Debug, PartialEq, Eq)]
+#[derive(Clone, Copy, Debug, PartialEq, Eq, thiserror::Error)]
+#[error("the disk failed: its faults went from {from} to {to}")]
 pub struct DiskFault {
     pub from: u64,
     pub to: u64,
 }
 
 /// Why a journal isn't opened.
-#[derive(Clone, Copy, Debug, PartialEq, Eq)]
+#[derive(Clone, Copy, Debug, PartialEq, Eq, thiserror::Error)]
 pub enum JournalFault {
     /// The first 16 bytes aren't the header.
+    #[error("the bytes are no journal")]
     NotJournal,
     /// The row behind the open gate at this place may not stand there, or the gate is missing.
+    #[error("no row may stand behind the gate at {0}")]
     Corrupt(u64),
-    /// The disk failed.
+    #[error(transparent)]
     DiskFault(DiskFault),
-    /// Memory ran out.
+    #[error("memory ran out")]
     NoMemory,
 }
 
@@ -45,10 +48,10 @@ impl<T: Drop> From<AllocFailed<T>> for JournalFault {
 }
 
 /// Why a journal isn't begun.
-#[derive(Clone, Copy, Debug, PartialEq, Eq)]
+#[derive(Clone, Copy, Debug, PartialEq, Eq, thiserror::Error)]
 pub enum InitFault {
-    /// The disk holds something.
+    #[error("the disk holds something")]
     NotEmpty,
-    /// The disk failed.
+    #[error(transparent)]
     DiskFault(DiskFault),
 }

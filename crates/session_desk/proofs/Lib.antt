@@ -8,8 +8,6 @@ pub mod WarmLemmas
 pub mod HistoryLemmas
 pub mod CommitLemmas
 pub mod TurnLemmas
-pub mod DesksLemmas
-pub mod CollectLemmas
 pub mod MarkLemmas
 pub mod SharedLemmas
 pub mod SharedTurnLemmas

@@ -4,7 +4,5 @@ pub mod Verdict
 pub mod Commit
 pub mod Laws
 pub mod Turn
-pub mod Desks
-pub mod Collected
 pub mod Marks
 pub mod Shared

@@ -1,9 +1,7 @@
 -- A turn of a session over a journal (own).
-use Rattle.std.specs.Prelude.{◌≡◌, ◌⊎◌, ℕ, ◌+◌, ◌≤◌, ◌==◌, max, Bool, IsTrue}
-use Rattle.std.specs.Prelude.{if◌then◌else◌, List, [], ◌∷◌, ◌++◌, length, Option, Some, None}
-use Rattle.disk_model.specs.Disk.{LeavesOnly, Rose, SameDisk}
-use Rattle.gate_journal.specs.Log.{Log, MayOpen, MaySpell, next_row, rows_of}
-use Rattle.gate_journal.specs.Rows.{spelled}
+use Rattle.std.specs.Prelude.{◌≡◌, ◌⊎◌, ℕ, ◌+◌, ◌==◌, if◌then◌else◌, List, [], ◌∷◌}
+use Rattle.std.specs.Prelude.{Option, Some, None}
+use Rattle.gate_journal.specs.Log.{next_row}
 use Rattle.gate_journal.specs.declared.command.Command.{Command}
 use Rattle.gate_journal.specs.declared.row.Row.{Row}
 use Rattle.gate_journal.specs.declared.entry.Entry.{Entry as JournalEntry}
@@ -17,7 +15,6 @@ use Rattle.session_core.specs.declared.entry.Entry.TheVariants as entries
 use Rattle.session_core.specs.declared.entry.Outcome.{Outcome}
 use Rattle.session_core.specs.declared.entry.Outcome.TheVariants.{Answered, DiskFailed}
 use Rattle.session_core.specs.declared.entry.Outcome.TheVariants.{OutOfMemory, Forgotten}
-use Rattle.session_core.specs.Turning.{MayMeet, turn_met}
 use Rattle.session_desk.specs.declared.turned.Turned.{Turned}
 use Rattle.session_desk.specs.Desk.{DeskState}
 
@@ -40,64 +37,9 @@ added rows s (Some command) Answered = Kept (next_row rows s command) ∷ []
 added rows s (Some command) (DiskFailed from to) = Faulted (s + 1) from to ∷ []
 added rows s (Some command) Forgotten = Kept (next_row rows s command) ∷ []
 
--- The disk's count of faults over a turn: a turn in which the disk failed tells the counts from
--- before and behind it, and in any other the count stays.
-abbrev pub IsCounted : Outcome → ℕ → ℕ → Type 0
-IsCounted (DiskFailed from to) before now =
-    (from ≡ before) × (to ≡ now) × (before ≤ now) × Rose before now
-IsCounted Answered before now = now ≡ before
-IsCounted OutOfMemory before now = now ≡ before
-IsCounted Forgotten before now = now ≡ before
-
--- the row of a command that a session accepts, behind these rows
-abbrev pub row_for : List Row → ℕ → Option Command → Option Row
-row_for rows s (Some command) = Some (next_row rows s command)
-row_for rows s None = None
-
--- while a turn is made an image spells the rows from before, or these and the uncertain one, or
--- these and the new one; and an opening may meet it
-abbrev pub MayLeave : List Row → Option Row → Option Row → List ℕ → Type 0
-MayLeave rows uncertain new c =
-    (MaySpell rows uncertain c ⊎ MaySpell rows new c) × MayOpen rows c
-
--- A turn of a session, which decides so on a request, over a journal, by what the turn met.
-pub record TurnsBy
-    {D : Type 0}
-    (tells : D → Bool)
-    (room label faults reach moment : D → ℕ)
-    (left_since : D → ℕ → List ℕ → Type 0)
-    (decision : Decision)
-    (s : ℕ)
-    (old : Log D)
-    (reply : Reply)
-    (new : Log D) : Type 0 where
-  pub outcome : Outcome
-  pub met : MayMeet decision.accepted outcome
-  pub said :
-      reply
-      ≡ (turn_met (history_in old.entries s) 0 decision.reply decision.accepted outcome).reply
-  pub entries :
-      new.entries
-      ≡ old.entries ++ added (rows_of old.entries) s decision.accepted outcome
-  pub counts : IsCounted outcome (faults old.disk) (faults new.disk)
-  pub kept : SameDisk tells room label old.disk new.disk
-  pub crash :
-      IsTrue (tells old.disk)
-      → LeavesOnly moment left_since old.disk new.disk
-      (MayLeave (rows_of old.entries) old.uncertain
-      (row_for (rows_of old.entries) s decision.accepted))
-  pub within :
-      reach new.disk ≤ max (reach old.disk) (length (spelled (rows_of old.entries)) + 4110)
-
 -- the same desk, but for the world that it holds
 abbrev pub IsSameDesk : DeskState → DeskState → Type 0
 IsSameDesk old new = new ≡ record old { held = new.held }
-
--- the desk of the same session, over the same stories with the same budget
-pub record IsSameSession (old new : DeskState) : Type 0 where
-  pub session : new.session ≡ old.session
-  pub stories : new.stories ≡ old.stories
-  pub budget : new.budget ≡ old.budget
 
 -- a turn in which memory ran out before anything was written
 abbrev pub out_of_memory : Turned

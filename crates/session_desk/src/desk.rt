@@ -20,7 +20,7 @@ ghost use Rattle.session_desk.specs.Commit.{Stops, WhereBegun};
 
 use crate::check::{in_no_world, in_world};
 use crate::commit::{asked, take_down, write_down};
-use crate::game::{begins_of, begins_with, game_at};
+use crate::game::{begins_of, game_at};
 use crate::held::{Held, ran, warmed};
 use crate::refused::Refused;
 use crate::rows::commands_of;
@@ -98,20 +98,6 @@ impl<'i> Desk<'i> {
             begins,
             held: Held::Nothing,
         })
-    }
-
-    /// Takes the command of one row more of its session, and holds no world.
-    pub(crate) fn note(&mut self, command: Command) -> Result<(), AllocError>
-        requires { length self.old.commands < 8192 }
-        ensures ok { OnOk result (self.new ≡ opened self.old.session self.old.stories
-            self.old.budget (self.old.commands ++ command ∷ [])) }
-        ensures err { OnErr result (self.new ≡ emptied self.old) }
-    {
-        self.held = Held::Nothing;
-        let begins = begins_with(&self.commands, self.begins, &command);
-        self.commands.push(command)?;
-        self.begins = begins;
-        Ok(())
     }
 
     /// How many commands the session accepted.

@@ -5,7 +5,6 @@
 mod check;
 mod commit;
 mod desk;
-mod desks;
 mod game;
 mod held;
 mod laws;
@@ -18,7 +17,6 @@ mod verdict;
 mod wanted;
 
 pub use desk::Desk;
-pub use desks::Desks;
 pub use laws::{
     is_cold_alone, journals_fit, reads_in_range, refuses_alike, shows_again, shows_fresh,
     stays_warm,

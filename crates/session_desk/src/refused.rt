@@ -3,10 +3,11 @@
 use gate_journal::DiskFault;
 
 /// Why a command wasn't committed.
-#[derive(Clone, Copy, Debug, PartialEq, Eq)]
+#[derive(Clone, Copy, Debug, PartialEq, Eq, thiserror::Error)]
 pub enum Refused {
     /// The journal's disk failed in this call.
+    #[error(transparent)]
     DiskFault(DiskFault),
-    /// Memory ran out.
+    #[error("memory ran out")]
     NoMemory,
 }

@@ -1,25 +1,17 @@
-//! A turn of one desk over a journal (own).
+//! A turn of one desk but for its commit (own).
 
-ghost use Rattle.std.specs.Prelude.{◌≡◌, ◌≢◌, IfOk, IsTrue, MatchOption, Option, false};
-ghost use Rattle.disk_model.specs.Disk.{LeavesOnly};
-ghost use Rattle.gate_journal.specs.Log.{rows_of};
-ghost use Rattle.gate_journal.specs.declared.row.Row.{Row};
-ghost use Rattle.session_desk.specs.Commit.{IsInRange, IsKept};
+ghost use Rattle.std.specs.Prelude.{◌≡◌, ◌≢◌, IfOk, IsTrue, MatchOption, false};
 ghost use Rattle.session_core.specs.History.{last_of};
 ghost use Rattle.session_desk.specs.Desk.{game, is_cold, is_to_run, shown_to, warmed};
 ghost use Rattle.session_desk.specs.Laws.{answered};
-ghost use Rattle.session_desk.specs.Turn.{IsQuiet, IsSameDesk, IsSameSession, IsShown, MayLeave};
-ghost use Rattle.session_desk.specs.Turn.{out_of_memory, TurnsBy};
+ghost use Rattle.session_desk.specs.Turn.{IsQuiet, IsSameDesk, IsShown, out_of_memory};
 ghost use Rattle.session_desk.specs.Verdict.{verdict};
 ghost use Rattle.session_desk.specs.declared.verdict.Verdict.TheVariants.{Cold, Fresh};
 
 use crate::desk::Desk;
-use crate::laws::{refuses_alike, shows_again, shows_fresh, stays_warm};
-use crate::refused::Refused;
+use crate::laws::{refuses_alike, shows_again, stays_warm};
 use crate::turned::Turned;
 use crate::verdict::Verdict;
-use disk_model::Disk;
-use gate_journal::{DiskFault, Journal};
 use line_words::{No, Reply, Request};
 use session_core::{Outcome, session_of};
 use std::alloc::{AllocError, Global};
@@ -27,17 +19,6 @@ use std::marker::Brand;
 use std::sync::ledger::{Blank, Ledger};
 use story_run::Steps;
 use story_text::Bytes;
-
-/// Where nothing is written a stop leaves what it would have left before.
-pub fn rests<D: Disk>(journal: &Journal<D>)
-    ensures { IsTrue (D.tells journal.now.disk)
-        → (new : Option Row)
-        → LeavesOnly D.moment D.left_since journal.now.disk journal.now.disk
-        (MayLeave (rows_of journal.now.entries) journal.now.uncertain new) }
-{
-    // with the count comes what holds of every journal
-    let _count = journal.row_count();
-}
 
 /// The verdict on a request, for which a cold desk is made warm. The count of steps begins with
 /// this blank.
@@ -147,52 +128,5 @@ pub fn shown_after(alloc: Global, desk: &mut Desk<'_>, request: &Request) -> Tur
             reply: Reply::No(No::NoMemory),
             outcome: Outcome::Forgotten,
         },
-    }
-}
-
-/// A fresh request: its command is committed, and then its turn is made and shown.
-fn accept<D: Disk>(
-    alloc: Global,
-    desk: &mut Desk<'_>,
-    journal: &mut Journal<D>,
-    request: &Request,
-) -> Reply
-    requires fresh { verdict desk.old request.now ≡ Fresh }
-    requires ranges { IsInRange request.now }
-    requires rows { IsKept desk.old journal.old }
-    ensures turn { TurnsBy D.tells D.room D.label D.faults D.reach D.moment D.left_since
-        (answered desk.old request.now) desk.old.session journal.old result journal.new }
-    ensures rows { IsKept desk.new journal.new }
-    ensures kept { IsSameSession desk.old desk.new }
-{
-    rests(journal);
-    shows_fresh();
-    stays_warm();
-    match desk.commit(alloc, 0, journal, request) {
-        Ok(()) => shown_after(alloc, desk, request).reply,
-        Err(Refused::DiskFault(DiskFault { from, to })) => Reply::No(No::DiskFault { from, to }),
-        Err(Refused::NoMemory) => Reply::No(No::NoMemory),
-    }
-}
-
-/// The reply to a request: one turn of the desk's session. A cold desk is made warm where the
-/// answer needs its world; a command that is accepted is a row of the journal before it is shown.
-pub fn answer_at<D: Disk>(
-    alloc: Global,
-    desk: &mut Desk<'_>,
-    journal: &mut Journal<D>,
-    request: &Request,
-) -> Reply
-    requires ranges { IsInRange request.now }
-    requires rows { IsKept desk.old journal.old }
-    ensures turn { TurnsBy D.tells D.room D.label D.faults D.reach D.moment D.left_since
-        (answered desk.old request.now) desk.old.session journal.old result journal.new }
-    ensures rows { IsKept desk.new journal.new }
-    ensures kept { IsSameSession desk.old desk.new }
-{
-    rests(journal);
-    match unless_fresh(alloc, desk, request) {
-        Some(turned) => turned.reply,
-        None => accept(alloc, desk, journal, request),
     }
 }

@@ -4,6 +4,4 @@
 #[cfg(test)]
 mod automaton;
 #[cfg(test)]
-mod desks;
-#[cfg(test)]
 mod scripts;
