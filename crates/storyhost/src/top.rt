@@ -75,7 +75,9 @@ fn act<R: Wait, O: Outside, S: Source, K: Sink>(
         Action::Init => init_folder(alloc, command.folder, outside, output),
         Action::Pipe => {
             let folder = command.folder;
-            pipe(rt, alloc, &stories, budget, folder, outside, input, output)
+            pipe(
+                rt, alloc, &stories, budget, folder, outside, input, output,
+            )
         }
         Action::Help(topic) => say_once(help_text(topic).as_bytes(), output),
         Action::Version => say_once(VERSION_TEXT.as_bytes(), output),
