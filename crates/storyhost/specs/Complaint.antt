@@ -14,6 +14,6 @@ complaint code =
     (if code == 8 then
     codes "storyhost: what the folder holds is refused; the line that was written says why" else
     (if code == 9 then
-    codes "storyhost: the port can't be listened on, or no connection can be taken from it" else
+    codes "storyhost: the port can't be served; another program may be using it" else
     (if code == 10 then
     codes "storyhost: the connection's limit of lines or bytes was reached" else []))))))))
