@@ -138,8 +138,8 @@ fn lend(
     }
 }
 
-/// Files and disks by their names, and doors that are shut. Loads are counted from 0, and so are the
-/// calls for a disk and those for a door; those that are listed fail.
+/// Files and disks by their names, and doors that are shut. Loads are counted from 0, and so are
+/// the calls for a disk and those for a door; those that are listed fail.
 #[derive(Drop)]
 pub struct MemoryOutside {
     files: BTreeMap<String, Vec<u8>>,

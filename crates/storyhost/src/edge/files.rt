@@ -169,7 +169,12 @@ where
 
     fn door(&mut self, port: u16, links: u32) -> Result<TcpDoor, Failed> {
         match TcpDoor::open(self.rt, port, links) {
-            Ok(door) => Ok(door),
+            Ok(door) => {
+                let port = door.port();
+                // Where standard error fails, too, nobody is left to be told.
+                let _ = self.rt.eprintln(format_args!("storyhost: serving on 127.0.0.1:{port}"));
+                Ok(door)
+            }
             Err(_) => {
                 self.door_faults = self.door_faults.saturating_add(1);
                 Err(Failed)

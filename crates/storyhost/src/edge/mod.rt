@@ -7,4 +7,6 @@ mod writing;
 
 pub use files::SystemFiles;
 pub use reading::Reading;
+#[cfg(test)]
+pub use tcp::{Connection, TcpDoor};
 pub use writing::Writing;

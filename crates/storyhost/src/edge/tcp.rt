@@ -3,7 +3,7 @@ ghost use Rattle.std.specs.Prelude.{◌≡◌, false, None};
 
 use host_serve::{Door, Next, Served};
 use line_talk::{Got, Link, Put, Sink, Source};
-use std::io::{self, Eprint, ErrorKind, Read, Write};
+use std::io::{self, ErrorKind, Read, Write};
 use std::net::{Ipv4Addr, Net, SocketAddr, SocketAddrV4, TcpListener, TcpStream};
 use std::sync::Wait;
 use std::sync::atomic::{AtomicU64, Ordering};
@@ -128,18 +128,19 @@ pub struct AllTaken(());
 #[derive(Drop)]
 pub struct AcceptFault(());
 
-/// A door on a port of this machine's own, 127.0.0.1, for so many links.
+/// A door on a port of 127.0.0.1, for so many links.
 #[derive(Drop)]
 pub struct TcpDoor {
     listener: TcpListener,
+    port: u16,
     /// How many calls for a link have begun.
     calls: AtomicU64,
     links: u32,
 }
 
 impl TcpDoor {
-    /// Listens on this port, or on a free one where it is 0, and tells standard error which it is.
-    pub fn open<R: Net<Listener = TcpListener, Stream = TcpStream> + Eprint>(
+    /// Listens on this port, or on a free one where it is 0.
+    pub fn open<R: Net<Listener = TcpListener, Stream = TcpStream>>(
         rt: &R,
         port: u16,
         links: u32,
@@ -147,13 +148,17 @@ impl TcpDoor {
         let address = SocketAddr::V4(SocketAddrV4::new(Ipv4Addr::LOCALHOST, port));
         let listener = TcpListener::bind(rt, address)?;
         let port = listener.local_addr()?.port();
-        // Where standard error fails, too, nobody is left to be told.
-        let _ = eprintln!(rt; "storyhost: serving on 127.0.0.1:{port}");
         Ok(TcpDoor {
             listener,
+            port,
             calls: AtomicU64::new(0),
             links,
         })
+    }
+
+    /// The port on which it listens.
+    pub fn port(&self) -> u16 {
+        self.port
     }
 }
 

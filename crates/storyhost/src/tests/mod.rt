@@ -2,6 +2,7 @@
 
 mod faults;
 mod journal;
+mod links;
 
 use crate::memory_outside::MemoryOutside;
 use crate::top::top;
