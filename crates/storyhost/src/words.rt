@@ -26,6 +26,17 @@ const MOST_BUDGET: u64 = 1_000_000_000_000;
 /// The most stories of a command.
 const MOST_STORIES: usize = 64;
 
+/// How links are served.
+#[derive(Clone, Copy, Debug, PartialEq, Eq)]
+pub struct Serving {
+    /// The port of this machine, or 0 for one that is free.
+    pub port: u16,
+    /// How many workers serve.
+    pub workers: u8,
+    /// After how many links no more are taken.
+    pub links: u32,
+}
+
 /// What the program does.
 #[derive(Clone, Copy, Debug, PartialEq, Eq)]
 pub enum Action {
