@@ -24,3 +24,4 @@ pub mod Plain
 pub mod Files
 pub mod MemoryOutside
 pub mod Outsides
+pub mod LinksServed

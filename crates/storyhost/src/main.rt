@@ -20,6 +20,7 @@ mod player;
 mod refuse;
 mod run;
 mod say;
+mod serve;
 mod status;
 mod stories;
 mod story_file;

@@ -3,6 +3,7 @@
 mod faults;
 mod journal;
 mod links;
+mod serving;
 
 use crate::memory_outside::MemoryOutside;
 use crate::top::top;
