@@ -9,4 +9,5 @@ pub mod Opening
 pub mod Ending
 pub mod Gathering
 pub mod Doors
+pub mod Crews
 pub mod Splitting

@@ -18,7 +18,7 @@ pub trait Door: Sync {
     ghost use Rattle.host_serve.specs.Doors.{IsAnswer, IsFresh, MayHangUp};
 
     /// A link. Only `hang_up` ends one.
-    type Conn: Link;
+    type Conn: Link + Send;
 
     /// What tells that the door is shut.
     type End: Drop + Send;

@@ -17,6 +17,7 @@ mod served;
 mod speaker;
 mod split;
 mod turn;
+mod work;
 mod worked;
 
 pub use door::{Door, Next};

@@ -18,6 +18,7 @@ use Rattle.storyhost.specs.Speech.{Task, Says, Serves, ServesLinks, Begins}
 use Rattle.storyhost.specs.Status.{status_of, status_of_served, status_of_stop}
 use Rattle.line_talk.specs.Streams.{SourceState, SinkState, Wrote}
 use Rattle.storyhost.specs.Words.{Asked}
+use Rattle.storyhost.proofs.LinksLemmas.{fault_no_door}
 use Rattle.host_serve.specs.declared.served.Served.{Served}
 use Rattle.host_serve.specs.declared.served.Served.TheVariants as served
 use Rattle.line_talk.specs.declared.sink.Stop.{Stop}
@@ -143,12 +144,6 @@ unsaid : {good : Status} {line : List ℕ} {output new : SinkState} (A : Type 0)
 unsaid A f (inl said) = f said.0
 unsaid A f (inr (cause, is, stopped)) = no_cut cause A is
 
-unfaulted : (why : JournalFault) (output new : SinkState) (A : Type 0) → SaysFault why output new DoorFault → A
-unfaulted fault.NotJournal output new A says = unsaid A (λ e. absurd (grind (arith, e))) says
-unfaulted (fault.Corrupt place) output new A says = unsaid A (λ e. absurd (grind (arith, e))) says
-unfaulted (fault.DiskFault counts) output new A says = absurd (grind (arith, says.0))
-unfaulted fault.NoMemory output new A says = absurd (grind (arith, says.0))
-
 unrefused : (why : InitFault) (output new : SinkState) (A : Type 0) → SaysRefusal why output new DoorFault → A
 unrefused begin.NotEmpty output new A says = unsaid A (λ e. absurd (grind (arith, e))) says
 unrefused (begin.DiskFault counts) output new A says = absurd (grind (arith, says.0))
@@ -163,7 +158,7 @@ door_in disks (Ok (Serves stories budget folder)) outside beyond input now outpu
 ]
 door_in disks (Ok (Serves stories budget folder)) outside beyond input now output new (inl (inr b)) = elim b.done [
   | inl (how, is, c) ↦ no_served how _ is
-  | inr n ↦ unfaulted n.fault output new _ n.says
+  | inr n ↦ absurd (fault_no_door n.fault output new DoorFault n.says refl)
 ]
 door_in disks (Ok (Serves stories budget folder)) outside beyond input now output new (inr gone) = absurd (grind (arith, gone.wanted))
 door_in disks (Ok (ServesLinks folder)) outside beyond input now output new does = does.1.fault refl

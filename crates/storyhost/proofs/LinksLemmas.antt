@@ -1,17 +1,11 @@
 -- What `serve` leaves of its disk, its output and its doors, from what its host says as it is opened and ends.
-use Rattle.std.proofs.Common.{◌≡◌, ◌⊎◌, inl, inr, ℕ, ◌+◌, ◌≤◌, max, List, [], ◌∷◌, ◌++◌, length, map, take, refl, sym, ap, ◌∙◌, subst, arith, cond, IsTrue, Option, Some, IsSomeAnd}
-use Rattle.std.proofs.lemmas.List.{length-map}
-use Rattle.std.proofs.Math.Seq.{take-append_seam}
+use Rattle.std.proofs.Common.{◌≡◌, ◌⊎◌, inl, inr, ℕ, ◌+◌, ◌≤◌, max, List, [], ◌∷◌, ◌++◌, length, map, take, refl, sym, ap, ◌∙◌, subst, arith, cond, IsTrue, Option, None, Some, IsSomeAnd, IfSome}
 use Rattle.std.specs.Str.{bytes_eq}
-use Rattle.disk_model.specs.Disk.{EachImage, LeavesOnly, SameDisk}
-use Rattle.gate_journal.specs.Log.{IsBetween, IsSinceOpened, Log, MayOpen, MaySpell, Opening, Rises, kept, rows_found, rows_of}
-use Rattle.gate_journal.specs.Rows.{SpellsRows, IsJournal, spelled}
-use Rattle.gate_journal.specs.declared.entry.Entry.{Entry as JournalEntry}
+use Rattle.gate_journal.specs.Log.{rows_of}
+use Rattle.gate_journal.specs.Rows.{SpellsRows}
 use Rattle.gate_journal.specs.declared.fault.JournalFault.{JournalFault}
 use Rattle.gate_journal.specs.declared.fault.JournalFault.TheVariants as fault
 use Rattle.gate_journal.specs.declared.row.Row.{Row}
-use Rattle.gate_journal.proofs.LogLemmas.{rows_of-all}
-use Rattle.gate_journal.proofs.SinceLemmas.{rows_of-append}
 use Rattle.host_serve.specs.Opening.{IsOpened, lone, roots}
 use Rattle.host_serve.specs.declared.host.Host.{Host}
 use Rattle.host_serve.specs.declared.host.Passes.{Passes}
@@ -27,85 +21,38 @@ use Rattle.line_talk.specs.declared.sink.Stop.TheVariants as stop
 use Rattle.line_talk.proofs.StreamsLemmas.{gave_none, wrote_none}
 use Rattle.turn_cell.specs.History.{Each}
 use Rattle.story_run.specs.declared.story.Story.{Story}
+use Rattle.storyhost.specs.Borrowed.{LetsGo}
 use Rattle.storyhost.specs.DiskWords.{DiskWords}
-use Rattle.storyhost.specs.Files.{OutsideState, Closes, KeepsDisks, KeepsDoors, KeepsFiles, IsLent, Lends, RisesWith, TakesBack, Told, There, told_now, returned, after_one}
+use Rattle.storyhost.specs.Files.{OutsideState, Closes, KeepsDisks, KeepsDoors, KeepsFiles, IsLent, IsLentFrom, Lends, RisesWith, TakesBack, Told, There, told_now, returned, after_one}
 use Rattle.storyhost.specs.LinksServed.{DoorsBy, LinksServed}
 use Rattle.storyhost.specs.Said.{SaysFault, SaysLine}
 use Rattle.storyhost.specs.Status.{status_of_stop, status_of_worked}
 use Rattle.storyhost.specs.declared.loan.Loan.{Loan}
 use Rattle.storyhost.specs.declared.status.Status.{Status}
 use Rattle.storyhost.specs.declared.status.Status.TheVariants as ends
-use Rattle.storyhost.proofs.ConversedLemmas.{EndsOn}
-
-same_some : {A : Type 0} (a b : A) → Some a ≡ Some b → a ≡ b
-same_some a b e = cc
+use Rattle.storyhost.proofs.ConversedLemmas.{EndsOn, counts, grows, meanwhile, reaches}
 
 -- ---- the journal
 
-module _ {D : Type 0} (disks : DiskWords D) (given back : D) (stories : List Story) (budget : ℕ) (rows : List Row) (host : Host D) (first last : Passes D)
-    (opened : IsOpened stories budget rows (record { disk = given; found = length rows }) host first)
-    (end : EndsOn disks host last back) where
-  abbrev since : IsSinceOpened disks.tells disks.may_leave disks.room disks.label disks.reach disks.moment disks.left_since end.0
-  since = end.1.1.1.1.1.1.1
-
-  -- it is the journal that was opened on this disk, with these rows and more
-  opening : end.0.opening ≡ record { disk = given; found = length rows }
-  opening = sym (same_some (record { disk = given; found = length rows }) end.0.opening (sym opened.root ∙ end.1.1.0.opening))
-
-  opened_on : end.0.opening.disk ≡ given
-  opened_on = ap (λ (o : Opening D). o.disk) opening
-
-  all_rows : end.0.entries ≡ kept rows ++ end.1.1.0.grows.0
-  all_rows = end.1.1.0.grows.1.0 ∙ ap (λ (es : List JournalEntry). es ++ end.1.1.0.grows.0) opened.begins
-
-  grows : rows_of end.0.entries ≡ rows ++ rows_of end.1.1.0.grows.0
-  grows = ap rows_of all_rows ∙ rows_of-append (kept rows) end.1.1.0.grows.0 ∙ ap (λ (rs : List Row). rs ++ rows_of end.1.1.0.grows.0) (rows_of-all rows)
-
-  found : rows_found end.0 ≡ rows
-  found =
-      let many : end.0.opening.found ≡ length (kept rows) = ap (λ (o : Opening D). o.found) opening ∙ sym (length-map _ rows) in
-      ap (λ (n : ℕ). rows_of (take n end.0.entries)) many ∙ ap (λ (es : List JournalEntry). rows_of (take (length (kept rows)) es)) all_rows
-      ∙ ap rows_of (take-append_seam (kept rows) end.1.1.0.grows.0) ∙ rows_of-all rows
-
-  pub same_served : SameDisk disks.tells disks.room disks.label given back
-  same_served =
-      subst (λ (d : D). SameDisk disks.tells disks.room disks.label given d) (sym end.1.0)
-      (subst (λ (d : D). SameDisk disks.tells disks.room disks.label d end.0.disk) opened_on since.same)
-
-  counts : Rises (disks.faults given) end.0.entries (disks.faults back)
-  counts = subst (λ (d : D). Rises (disks.faults d) end.0.entries (disks.faults back)) opened_on end.1.1.1.1.1.1.0
-
-  meanwhile : (start : List Row) → IsJournal start → EachImage disks.tells disks.may_leave given (MayOpen start) → IsTrue (disks.tells given)
-      → LeavesOnly disks.moment disks.left_since given back (λ c. MayOpen start c ⊎ IsBetween rows (rows_of end.0.entries) c)
-  meanwhile start journal may tells =
-      let leaves = since.meanwhile start journal (subst (λ (d : D). EachImage disks.tells disks.may_leave d (MayOpen start)) (sym opened_on) may)
-      (subst (λ (d : D). IsTrue (disks.tells d)) (sym opened_on) tells) in
-      subst (λ (d : D). LeavesOnly disks.moment disks.left_since given d (λ c. MayOpen start c ⊎ IsBetween rows (rows_of end.0.entries) c)) (sym end.1.0)
-      (subst (λ (d : D). LeavesOnly disks.moment disks.left_since d end.0.disk (λ c. MayOpen start c ⊎ IsBetween rows (rows_of end.0.entries) c)) opened_on
-      (subst (λ (rs : List Row). LeavesOnly disks.moment disks.left_since end.0.opening.disk end.0.disk (λ c. MayOpen start c ⊎ IsBetween rs (rows_of end.0.entries) c)) found leaves))
-
-  reaches : disks.reach back ≤ max (disks.reach given) (length (spelled (rows_of end.0.entries)) + 4110)
-  reaches =
-      subst (λ (d : D). disks.reach d ≤ max (disks.reach given) (length (spelled (rows_of end.0.entries)) + 4110)) (sym end.1.0)
-      (subst (λ (d : D). disks.reach end.0.disk ≤ max (disks.reach d) (length (spelled (rows_of end.0.entries)) + 4110)) opened_on since.reaches)
-
-  pub links_served : (input : SourceState) (output : SinkState) (status : Status) → (status ≡ ends.Done) ⊎ (status ≡ ends.DoorFault) ⊎ (status ≡ ends.NoMemory)
-      → (IsTrue (disks.tells given) → SpellsRows (disks.seen given) rows) → LinksServed disks given back input input output output status
-  links_served input output status how spells = record {
-    how = how;
-    gave = gave_none input;
-    wrote = wrote_none output;
-    rows = rows;
-    handed_in = spells;
-    journal = end.0.entries;
-    more = rows_of end.1.1.0.grows.0;
-    grows = grows;
-    faults = counts;
-    uncertain = end.0.uncertain;
-    images = end.1.1.1.1.0;
-    meanwhile = meanwhile;
-    reaches = reaches;
-  }
+pub links_served : {D : Type 0} (disks : DiskWords D) (given back : D) (stories : List Story) (budget : ℕ) (rows : List Row) (host : Host D) (first last : Passes D)
+    → IsOpened stories budget rows (record { disk = given; found = length rows }) host first → EndsOn disks host last back
+    → (input : SourceState) (output : SinkState) (status : Status) → (status ≡ ends.Done) ⊎ (status ≡ ends.DoorFault) ⊎ (status ≡ ends.NoMemory)
+    → (IsTrue (disks.tells given) → SpellsRows (disks.seen given) rows) → LinksServed disks given back input input output output status
+links_served disks given back stories budget rows host first last opened end input output status how spells = record {
+  how = how;
+  gave = gave_none input;
+  wrote = wrote_none output;
+  rows = rows;
+  handed_in = spells;
+  journal = end.0.entries;
+  more = rows_of end.2.grows.0;
+  grows = grows disks given back stories budget rows host first last opened end;
+  faults = counts disks given back stories budget rows host first last opened end;
+  uncertain = end.0.uncertain;
+  images = end.4;
+  meanwhile = meanwhile disks given back stories budget rows host first last opened end;
+  reaches = reaches disks given back stories budget rows host first last opened end;
+}
 
 -- ---- passes
 
@@ -174,7 +121,7 @@ doors_before a b c status before by = doors_through a b c c status before by (re
 line_kinds : (good : Status) (line : List ℕ) (output new : SinkState) (status bad : Status) → (good ≡ bad → ⊥) → ((cause : Stop) → status_of_stop cause ≡ bad → ⊥)
     → SaysLine good line output new status → status ≡ bad → ⊥
 line_kinds good line output new status bad other stops (inl said) e = other (sym said.0 ∙ e)
-line_kinds good line output new status bad other stops (inr stopped) e = stops stopped.0 (sym stopped.1.0 ∙ e)
+line_kinds good line output new status bad other stops (inr stopped) e = stops stopped.0 (sym stopped.1 ∙ e)
 
 stop_not_done : (cause : Stop) → status_of_stop cause ≡ ends.Done → ⊥
 stop_not_done stop.Output e = absurd (grind (arith, e))
@@ -218,3 +165,22 @@ lends_still label faults name disk a b c lends keeps = record {
   count = keeps.disk_faults ∙ lends.count;
   own = lends.own;
 }
+
+-- a disk that isn't put back, where the disks stayed since it was lent
+pub let_go : {D : Type 0} (disks : DiskWords D) (name : List ℕ) (given : D) (outside mid beyond : OutsideState D) (input : SourceState) (output new : SinkState) (status : Status)
+    (spelled : List ℕ) → spelled ≡ name → Lends disks.label disks.faults spelled given outside mid → KeepsDisks mid beyond
+    → (IsTrue (disks.tells given) → IsLentFrom disks.seen disks.may_leave (outside.disk spelled) given)
+    → (status ≡ ends.NoMemory) × Wrote output new [] → LetsGo disks name outside beyond input input output new status
+let_go {D} disks name given outside mid beyond input output new status spelled is lends keeps lent wanted = record {
+  wanted = wanted.0;
+  given = given;
+  lent = subst (λ (n : List ℕ). IsTrue (disks.tells given) → IsLentFrom disks.seen disks.may_leave (outside.disk n) given) is lent;
+  lends = subst (λ (n : List ℕ). Lends disks.label disks.faults n given outside beyond) is (lends_still _ _ spelled given outside mid beyond lends keeps);
+  gave = gave_none input;
+  wrote = wanted.1;
+}
+
+-- a fact of what may be there follows from another
+pub if_some : {D : Type 0} {P Q : D → Type 0} (r : Option D) → ((d : D) → P d → Q d) → IfSome r P → IfSome r Q
+if_some None f p = tt
+if_some (Some d) f p = f d p

@@ -14,6 +14,7 @@ mod memory_door;
 mod memory_outside;
 mod numbers;
 mod once;
+mod opening;
 mod outside;
 mod pipe;
 mod player;

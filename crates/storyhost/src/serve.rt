@@ -13,12 +13,12 @@ ghost use Rattle.storyhost.specs.LinksServed.{DoorsBy, ServesOver};
 ghost use Rattle.turn_cell.specs.History.{Each};
 
 use crate::folder::journal_name;
+use crate::opening::open_host;
 use crate::outside::{Fetch, Outside};
-use crate::say::say_fault;
 use crate::status::Status;
 use crate::words::Serving;
 use disk_model::{Disk, Failed};
-use host_serve::{Host, NoPause, OpenFault, Passes};
+use host_serve::{Host, NoPause, Passes};
 use line_talk::Sink;
 use std::alloc::{AllocError, Global};
 use std::sync::Wait;
@@ -100,30 +100,35 @@ fn serve_links<'i, R: Threads + Wait + Sync, O: Outside>(
 
 /// Serves links by the sessions of the journal on this disk, and hands the disk back, but where
 /// memory is wanted behind the journal's opening. No input is read.
-fn serve_over<'i, R: Threads + Wait + Sync, O: Outside, K: Sink>(
+fn serve_over<'i, R, D, O, K>(
     rt: &R,
     alloc: Global,
     stories: &'i [Story<'i>],
     budget: u64,
-    disk: O::Disk,
+    disk: D,
     serving: Serving,
     outside: &mut O,
     output: &mut K,
-) -> (Status, Option<O::Disk>)
+) -> (Status, Option<D>)
+where
+    R: Threads + Wait + Sync,
+    D: Disk + Drop + Send,
+    O: Outside<Disk = D>,
+    K: Sink,
     requires budget { IsBudget budget }
     requires workers { (0 < serving.workers) × (serving.workers ≤ 16) }
-    ensures value { (input : SourceState) → IfSome result.1 (λ back. ServesOver (record {
-      tells = O.Disk.tells;
-      seen = O.Disk.seen;
-      may_leave = O.Disk.may_leave;
-      moment = O.Disk.moment;
-      left_since = O.Disk.left_since;
-      faults = O.Disk.faults;
-      reach = O.Disk.reach;
-      room = O.Disk.room;
-      label = O.Disk.label;
+    ensures value { IfSome result.1 (λ back. (input : SourceState) → ServesOver (record {
+      tells = D.tells;
+      seen = D.seen;
+      may_leave = D.may_leave;
+      moment = D.moment;
+      left_since = D.left_since;
+      faults = D.faults;
+      reach = D.reach;
+      room = D.room;
+      label = D.label;
     }) disk back input input (K.sink output.old) (K.sink output.new) result.0) }
-    ensures kept { IfSome result.1 (λ back. SameDisk O.Disk.tells O.Disk.room O.Disk.label
+    ensures kept { IfSome result.1 (λ back. SameDisk D.tells D.room D.label
         disk back) }
     ensures gone { result.1 ≡ None → (result.0 ≡ Status.NoMemory)
         × Wrote (K.sink output.old) (K.sink output.new) [] }
@@ -134,12 +139,9 @@ fn serve_over<'i, R: Threads + Wait + Sync, O: Outside, K: Sink>(
     ensures write_fault { result.0 ≡ Status.WriteFault
         → Rose (K.sink output.old).faults (K.sink output.new).faults }
 {
-    let (host, mut roots) = match Host::open(alloc, stories, disk, budget) {
+    let (host, mut roots) = match open_host(alloc, stories, budget, disk, output) {
         Ok(opened) => opened,
-        Err(OpenFault::Journal(fault, disk)) => {
-            return (say_fault(alloc, fault, output), Some(disk));
-        }
-        Err(OpenFault::NoMemory) => return (Status::NoMemory, None),
+        Err(refusal) => return refusal,
     };
     let status = serve_links(rt, alloc, &host, &mut roots, serving, outside);
     let disk = host.end(rt, roots);
@@ -199,8 +201,11 @@ pub fn serve<'i, R: Threads + Wait + Sync, O: Outside, K: Sink>(
         Err(Fetch::NoMemory) => return Status::NoMemory,
     };
     let (status, disk) = serve_over(rt, alloc, stories, budget, disk, serving, outside, output);
-    if let Some(disk) = disk {
-        outside.put_back(&name, disk);
+    match disk {
+        Some(disk) => {
+            outside.put_back(&name, disk);
+            status
+        }
+        None => status,
     }
-    status
 }

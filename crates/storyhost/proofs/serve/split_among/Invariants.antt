@@ -7,8 +7,8 @@ use Rattle.storyhost.proofs.serve.split_among.Given as goal
 
 abbrev pub invariant-loop : goal.invariant-loop
 invariant-loop g l = record {
-  many : length l.passes.items ≡ l.index;
+  many : length l.passes.items ≡ l.counter;
   each : Each (AreOf l.host) l.passes.items;
   kept : AreOf l.host l.roots;
-  made : AreRoots l.index (holders l.roots.desks.items);
+  made : AreRoots l.counter (holders l.roots.desks.items);
 }
