@@ -1,0 +1,7 @@
+//! Hosts and their links: what no clause says.
+#![tactic(auto)]
+
+#[cfg(test)]
+mod alike;
+#[cfg(test)]
+mod hosts;
