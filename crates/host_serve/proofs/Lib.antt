@@ -7,3 +7,5 @@ pub mod PassLemmas
 pub mod ToldLemmas
 pub mod OpeningLemmas
 pub mod EndLemmas
+pub mod CrewLemmas
+pub mod DoorLemmas

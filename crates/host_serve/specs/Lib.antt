@@ -8,3 +8,5 @@ pub mod Hosts
 pub mod Opening
 pub mod Ending
 pub mod Gathering
+pub mod Crews
+pub mod Doors
