@@ -9,3 +9,4 @@ pub mod OpeningLemmas
 pub mod EndLemmas
 pub mod CrewLemmas
 pub mod DoorLemmas
+pub mod SharingLemmas

@@ -18,6 +18,7 @@ mod served;
 mod shift;
 mod speaker;
 mod turn;
+mod work;
 mod worked;
 
 pub use door::{Door, Next};
