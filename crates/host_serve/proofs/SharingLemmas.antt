@@ -7,6 +7,7 @@ use denote.Param.Send.{IsSend, IsSync, part_keyless, recorded_send, recorded_syn
 use Rattle.atomic_table.specs.contracts.shared.Seat as seat
 use Rattle.atomic_table.proofs.shared.Seat.TheSendSync as seat_shares
 use Rattle.std.proofs.alloc.Global.TheSendSync as global
+use Rattle.std.below.std_heap.proofs.GlobalAllocator.TheSendSync as heap
 use Rattle.std.proofs.sync.Mutex.TheSendSync as mutex
 use Rattle.std.proofs.vec.Vec.TheSendSync as vec
 use Rattle.turn_cell.specs.contracts.pass.Known as known
@@ -45,7 +46,7 @@ journal_send T g s =
 
 pub desk_send : (κ : NamedLft) (T : RattleType) (g : Ghosts T.Denot) → IsSend T
     → IsSend (desk.the_row κ T g)
-desk_send κ T g s = search (sendable, view_send, inner_desk.the_send, mark.the_send, vec.the_send, pass_shares.the_send, journal_send) depth 30
+desk_send κ T g s = search (sendable, view_send, inner_desk.the_send, mark.the_send, vec.the_send, global.the_send, heap.the_frees, pass_shares.the_send, journal_send) depth 30
 
 pub host_fields : (κ : NamedLft) (T : RattleType) (g : Ghosts T.Denot) → IsSend T → IsSync T
     → IsSync (Struct (shape (host.the_type κ T g)))
@@ -94,7 +95,7 @@ shift_sync κ ι T R O P g s y r o p = recorded_sync _ _ _ (shift.the_type κ ι
 pub passes_fields : (κ : NamedLft) (T : RattleType) (g : Ghosts T.Denot) → IsSend T
     → IsSend (Struct (shape (passes.the_type κ T g)))
 passes_fields κ T g s = struct_send (shape (passes.the_type κ T g))
-    (search (sendable, vec.the_send, pass_shares.the_send, desk_send) depth 20, tt)
+    (search (sendable, vec.the_send, global.the_send, heap.the_frees, pass_shares.the_send, desk_send) depth 20, tt)
 
 -- passes of a host may go to another thread
 pub passes_send : (κ : NamedLft) (T : RattleType) (g : Ghosts T.Denot) → IsSend T
