@@ -1,5 +1,5 @@
 -- A door, and what a worker does with the links that it gives (own).
-use Rattle.std.specs.Prelude.{◌≡◌, ℕ, ◌^◌, ◌<◌, ◌≤◌, List, [], ◌∷◌, ◌++◌, true, false}
+use Rattle.std.specs.Prelude.{◌≡◌, ◌^◌, ◌<◌, ◌≤◌, List, [], ◌∷◌, ◌++◌, true, false}
 use Rattle.line_talk.specs.Streams.{SourceState, SinkState}
 use Rattle.host_serve.specs.declared.door.Next.{Next}
 use Rattle.host_serve.specs.declared.door.Next.TheVariants.{Link, Shut, Failed}

@@ -2,6 +2,7 @@
 #![tactic(auto)]
 
 mod answer;
+mod crew;
 mod desks;
 mod door;
 mod end;
@@ -14,6 +15,7 @@ mod read;
 mod request;
 mod serve;
 mod served;
+mod shift;
 mod speaker;
 mod split;
 mod turn;
