@@ -3,7 +3,7 @@ use denote.RattleType.{RattleType}
 use denote.Ref.{NamedLft}
 use denote.Struct.Struct.{Struct}
 use denote.Struct.Declared.{shape}
-use denote.Param.Send.{IsSend, IsSync, part_keyless, recorded_send, recorded_sync, struct_send, struct_sync, sendable, view_send}
+use denote.Param.Send.{IsSend, IsSync, part_keyless, recorded_send, recorded_sync, struct_send, struct_sync, sendable}
 use Rattle.atomic_table.specs.contracts.shared.Seat as seat
 use Rattle.atomic_table.proofs.shared.Seat.TheSendSync as seat_shares
 use Rattle.std.proofs.alloc.Global.TheSendSync as global
@@ -17,13 +17,9 @@ use Rattle.turn_cell.proofs.pass.Pass.TheSendSync as pass_shares
 use Rattle.disk_model.specs.declared.disk.Disk.{Ghosts}
 use Rattle.gate_journal.specs.contracts.entry.Entry as journal_entry
 use Rattle.gate_journal.specs.contracts.journal.Journal as journal
-use Rattle.gate_journal.proofs.history.History.TheSendSync as history
-use Rattle.gate_journal.proofs.room.Room.TheSendSync as room
-use Rattle.gate_journal.proofs.row.Row.TheSendSync as row
 use Rattle.session_desk.specs.contracts.shared.SharedDesk as desk
-use Rattle.session_desk.proofs.desk.Desk.TheSendSync as inner_desk
-use Rattle.session_desk.proofs.shared.mark.Mark.TheSendSync as mark
 use Rattle.story_run.proofs.story.Story.TheSendSync as story
+use Rattle.session_desk.proofs.SharingLemmas.{desk_send, journal_send}
 use Rattle.host_serve.specs.contracts.host.Host as host
 use Rattle.host_serve.specs.contracts.host.Passes as passes
 use Rattle.host_serve.specs.contracts.shift.Shift as shift
@@ -38,15 +34,6 @@ known_sync T E s = search (sendable, seat_sync) depth 20
 
 pub pass_fields : (T E : RattleType) → IsSend T → IsSync (Struct (shape (pass.the_type T E)))
 pass_fields T E s = struct_sync (shape (pass.the_type T E)) (known_sync T E s, tt)
-
-pub journal_send : (T : RattleType) (g : Ghosts T.Denot) → IsSend T
-    → IsSend (journal.the_row T g)
-journal_send T g s =
-    search (sendable, view_send, history.the_send, room.the_send, row.the_send) depth 30
-
-pub desk_send : (κ : NamedLft) (T : RattleType) (g : Ghosts T.Denot) → IsSend T
-    → IsSend (desk.the_row κ T g)
-desk_send κ T g s = search (sendable, view_send, inner_desk.the_send, mark.the_send, vec.the_send, global.the_send, heap.the_frees, pass_shares.the_send, journal_send) depth 30
 
 pub host_fields : (κ : NamedLft) (T : RattleType) (g : Ghosts T.Denot) → IsSend T → IsSync T
     → IsSync (Struct (shape (host.the_type κ T g)))

@@ -23,7 +23,7 @@ pub trait Outside {
     ghost use Rattle.storyhost.specs.Files.{is_missing, is_out, has_failed};
 
     /// A disk that it lends.
-    type Disk: Disk + Drop + Send;
+    type Disk: Disk + Drop + Send + Sync;
 
     /// A door that it gives.
     type Door: Door + Drop;

@@ -112,7 +112,7 @@ fn serve_over<'i, R, D, O, K>(
 ) -> (Status, Option<D>)
 where
     R: Threads + Wait + Sync,
-    D: Disk + Drop + Send,
+    D: Disk + Drop + Send + Sync,
     O: Outside<Disk = D>,
     K: Sink,
     requires budget { IsBudget budget }
