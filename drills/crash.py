@@ -295,17 +295,18 @@ def main():
     words.add_argument("--seed", type=int, default=1)
     words.add_argument("--serve", action="store_true")
     words.add_argument("--sessions", type=int)
-    words.add_argument("--moves", type=int, default=12)
+    words.add_argument("--moves", type=int)
     words.add_argument("--story")
     asked = words.parse_args()
     killed = met = 0
+    moves = asked.moves or (60 if asked.serve else 12)
     for number in range(asked.rounds):
         draw = random.Random(f"{asked.seed}/{number}")
         room = pathlib.Path(tempfile.mkdtemp(prefix="crash-"))
         story = room / "story.ulx"
         story.write_bytes(pathlib.Path(asked.story).read_bytes() if asked.story else echo_story())
         sessions = [
-            Session(s, ["".join(draw.choices("abcdefgh", k=draw.randint(1, 19))) for _ in range(asked.moves)])
+            Session(s, ["".join(draw.choices("abcdefgh", k=draw.randint(1, 19))) for _ in range(moves)])
             for s in range(asked.sessions or (8 if asked.serve else 3))
         ]
         try:
