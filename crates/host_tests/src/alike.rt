@@ -71,9 +71,29 @@ fn a_host_answers_as_sessions_that_are_played_from_the_start(rt: HostRuntime) ->
     let stories = [Story::of(&bytes).ok().ok_or("a story")?];
     let mut sessions = Sessions::new(alloc)?;
     let (host, mut passes) = opened(alloc, &stories, new_journal(alloc)?)?;
-    assert!(rt; are_alike(&rt, alloc, &stories, &host, &mut passes, &mut sessions, &lines)?);
+    assert!(rt;
+        are_alike(
+            &rt,
+            alloc,
+            &stories,
+            &host,
+            &mut passes,
+            &mut sessions,
+            &lines
+        )?
+    );
     let journal = host.end(&rt, passes);
     let (host, mut passes) = opened(alloc, &stories, journal)?;
-    assert!(rt; are_alike(&rt, alloc, &stories, &host, &mut passes, &mut sessions, &later)?);
+    assert!(rt;
+        are_alike(
+            &rt,
+            alloc,
+            &stories,
+            &host,
+            &mut passes,
+            &mut sessions,
+            &later
+        )?
+    );
     Ok(())
 }

@@ -76,9 +76,7 @@ fn act<R: Threads + Wait + Sync, O: Outside, S: Source, K: Sink>(
         Action::Init => init_folder(alloc, command.folder, outside, output),
         Action::Pipe => {
             let folder = command.folder;
-            pipe(
-                rt, alloc, &stories, budget, folder, outside, input, output,
-            )
+            pipe(rt, alloc, &stories, budget, folder, outside, input, output)
         }
         Action::Serve(serving) => {
             let folder = command.folder;

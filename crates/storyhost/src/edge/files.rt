@@ -172,7 +172,9 @@ where
             Ok(door) => {
                 let port = door.port();
                 // Where standard error fails, too, nobody is left to be told.
-                let _ = self.rt.eprintln(format_args!("storyhost: serving on 127.0.0.1:{port}"));
+                let _ = self
+                    .rt
+                    .eprintln(format_args!("storyhost: serving on 127.0.0.1:{port}"));
                 Ok(door)
             }
             Err(_) => {

@@ -7,6 +7,4 @@ mod writing;
 
 pub use files::SystemFiles;
 pub use reading::Reading;
-#[cfg(test)]
-pub use tcp::{Connection, TcpDoor};
 pub use writing::Writing;

@@ -2,7 +2,6 @@
 
 mod faults;
 mod journal;
-mod links;
 mod serving;
 
 use crate::memory_outside::MemoryOutside;
