@@ -11,3 +11,6 @@ pub mod MixLemmas
 pub mod NewestLemmas
 pub mod RootLemmas
 pub mod SplitLemmas
+pub mod CrewLemmas
+pub mod DoorLemmas
+pub mod SharingLemmas

@@ -8,4 +8,6 @@ pub mod Hosts
 pub mod Opening
 pub mod Ending
 pub mod Gathering
+pub mod Doors
+pub mod Crews
 pub mod Splitting

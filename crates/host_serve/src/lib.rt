@@ -2,7 +2,9 @@
 #![tactic(auto)]
 
 mod answer;
+mod crew;
 mod desks;
+mod door;
 mod end;
 mod fault;
 mod host;
@@ -13,12 +15,17 @@ mod read;
 mod request;
 mod serve;
 mod served;
+mod shift;
 mod speaker;
 mod split;
 mod turn;
+mod work;
+mod worked;
 
+pub use door::{Door, Next};
 pub use fault::OpenFault;
 pub use host::{Host, Passes};
 pub use mark::Mark;
 pub use pause::{NoPause, Pause};
 pub use served::Served;
+pub use worked::Worked;

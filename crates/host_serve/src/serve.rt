@@ -9,7 +9,7 @@ ghost use Rattle.host_serve.specs.Told.{Tells};
 
 use crate::host::{Host, Passes};
 use crate::mark::Mark;
-use crate::pause::{Lent, Pause};
+use crate::pause::{Lent, Moments, Pause};
 use crate::served::Served;
 use crate::speaker::Speaker;
 use disk_model::Disk;
@@ -51,13 +51,45 @@ impl<'i, D: Disk + Drop> Host<'i, D> {
         ensures holders { holders passes.new.desks.items ≡ holders passes.old.desks.items }
         ensures link { L.lent link.new ≡ L.lent link.old }
     {
+        self.serve_by(rt, alloc, passes, &Lent(pause), number, link, marks)
+    }
+
+    /// The same with a pause that one thread sees.
+    pub(crate) fn serve_by<R: Wait, L: Link, P: Moments>(
+        &self,
+        rt: &R,
+        alloc: Global,
+        passes: &mut Passes<'i, D>,
+        pause: &P,
+        number: u32,
+        link: &mut L,
+        marks: &mut Vec<Mark>,
+    ) -> Served
+        requires passes { AreOf self.now passes.old }
+        ensures value { (turns : List Turn)
+            × Tells turns (L.source link.old) (L.source link.new) (L.sink link.old)
+            (L.sink link.new) marks.old.items marks.new.items result
+            × Chain self.now.stories.now self.now.budget (holders passes.old.desks.items)
+            (seens passes.old.desks.items) turns (seens passes.new.desks.items)
+            × Serves self.now.stories.now self.now.budget (holders passes.old.desks.items)
+            (seens passes.old.desks.items) turns (seens passes.new.desks.items) }
+        ensures end { ¬ (result ≡ Served.End)
+            → (L.source link.new).ended ≡ (L.source link.old).ended }
+        ensures read_fault { result ≡ Served.ReadFault
+            → Rose (L.source link.old).faults (L.source link.new).faults }
+        ensures write_fault { result ≡ Served.WriteFault
+            → Rose (L.sink link.old).faults (L.sink link.new).faults }
+        ensures kept { AreOf self.now passes.new }
+        ensures holders { holders passes.new.desks.items ≡ holders passes.old.desks.items }
+        ensures link { L.lent link.new ≡ L.lent link.old }
+    {
         let Ok(mut buffer) = vec![in alloc; 0; PIECE] else {
             return Served::NoMemory;
         };
         let mut speaker = Speaker {
             host: self,
             rt,
-            pause: &Lent(pause),
+            pause,
             number,
             passes,
             marks,

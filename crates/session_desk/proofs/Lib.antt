@@ -11,3 +11,4 @@ pub mod TurnLemmas
 pub mod MarkLemmas
 pub mod SharedLemmas
 pub mod SharedTurnLemmas
+pub mod SharingLemmas

@@ -4,7 +4,7 @@ use Rattle.std.proofs.lemmas.Slice.Eq.{bytes_eq-Decides}
 use Rattle.std.specs.Str.{bytes_eq}
 use Rattle.disk_model.specs.Disk.{SameDisk}
 use Rattle.storyhost.specs.Borrowed.{Borrowed, NotLent}
-use Rattle.storyhost.specs.Files.{OutsideState, KeepsDisks, IsLent, IsLentFrom, Lends, RisesWith, TakesBack, Told, Untold, Missing, There, told_now, returned}
+use Rattle.storyhost.specs.Files.{OutsideState, KeepsDisks, KeepsDoors, IsLent, IsLentFrom, Lends, RisesWith, TakesBack, Told, Untold, Missing, There, told_now, returned}
 use Rattle.storyhost.specs.DiskWords.{DiskWords}
 use Rattle.line_talk.specs.Streams.{SourceState, SinkState}
 use Rattle.storyhost.specs.declared.loan.Loan.{Loan}
@@ -76,6 +76,9 @@ keeps_then p q = record {
   loan = λ name. q.loan name ∙ p.loan name;
   disk_faults = q.disk_faults ∙ p.disk_faults;
 }
+
+pub doors_then : {D : Type 0} {a b c : OutsideState D} → KeepsDoors a b → KeepsDoors b c → KeepsDoors a c
+doors_then p q = record { door_faults = q.door_faults ∙ p.door_faults; shut = q.shut ∙ p.shut }
 
 -- memory was wanted before a disk was lent
 pub not_lent : {D : Type 0} (outside : OutsideState D) (input : SourceState) (output : SinkState) → NotLent outside outside input input output output NoMemory

@@ -5,6 +5,7 @@ use Rattle.std.proofs.Math.Seq.{take-append_seam}
 use Rattle.disk_model.specs.Disk.{EachImage, LeavesOnly, SameDisk}
 use Rattle.gate_journal.specs.Log.{IsBetween, IsSinceOpened, Log, MayOpen, MaySpell, Opening, ReachesGate, Rises, kept, rows_found, rows_of}
 use Rattle.gate_journal.proofs.LogLemmas.{rows_of-all}
+use Rattle.gate_journal.proofs.SinceLemmas.{rows_of-append}
 use Rattle.gate_journal.specs.Rows.{SpellsRows, IsJournal, spelled}
 use Rattle.gate_journal.specs.declared.entry.Entry.{Entry as JournalEntry}
 use Rattle.gate_journal.specs.declared.row.Row.{Row}
@@ -46,11 +47,7 @@ same_some a b e = cc
 
 module _ {D : Type 0} (disks : DiskWords D) (given back : D) (stories : List Story) (budget : ℕ) (rows : List Row) (host : Host D) (first last : Passes D)
     (opened : IsOpened stories budget rows (record { disk = given; found = length rows }) host first)
-    (holds : holders last.desks.items ≡ holders first.desks.items)
     (end : EndsOn disks host last back) where
-  abbrev log : Log D
-  log = end.0
-
   abbrev since : IsSinceOpened disks.tells disks.may_leave disks.room disks.label disks.reach disks.moment disks.left_since end.0
   since = end.7
 
@@ -61,11 +58,16 @@ module _ {D : Type 0} (disks : DiskWords D) (given back : D) (stories : List Sto
   opened_on : end.0.opening.disk ≡ given
   opened_on = ap (λ (o : Opening D). o.disk) opening
 
+  all_rows : end.0.entries ≡ kept rows ++ end.2.grows.0
+  all_rows = end.2.grows.1 ∙ ap (λ (es : List JournalEntry). es ++ end.2.grows.0) opened.begins
+
+  pub grows : rows_of end.0.entries ≡ rows ++ rows_of end.2.grows.0
+  grows = ap rows_of all_rows ∙ rows_of-append (kept rows) end.2.grows.0 ∙ ap (λ (rs : List Row). rs ++ rows_of end.2.grows.0) (rows_of-all rows)
+
   found : rows_found end.0 ≡ rows
   found =
       let many : end.0.opening.found ≡ length (kept rows) = ap (λ (o : Opening D). o.found) opening ∙ sym (length-map rows _) in
-      let all : end.0.entries ≡ kept rows ++ end.2.grows.0 = end.2.grows.1 ∙ ap (λ (es : List JournalEntry). es ++ end.2.grows.0) opened.begins in
-      ap (λ (n : ℕ). rows_of (take n end.0.entries)) many ∙ ap (λ (es : List JournalEntry). rows_of (take (length (kept rows)) es)) all
+      ap (λ (n : ℕ). rows_of (take n end.0.entries)) many ∙ ap (λ (es : List JournalEntry). rows_of (take (length (kept rows)) es)) all_rows
       ∙ ap rows_of (take-append_seam (kept rows) end.2.grows.0) ∙ rows_of-all rows
 
   pub same_back : SameDisk disks.tells disks.room disks.label given back
@@ -73,10 +75,10 @@ module _ {D : Type 0} (disks : DiskWords D) (given back : D) (stories : List Sto
       subst (λ (d : D). SameDisk disks.tells disks.room disks.label given d) (sym end.1)
       (subst (λ (d : D). SameDisk disks.tells disks.room disks.label d end.0.disk) opened_on since.same)
 
-  counts : Rises (disks.faults given) end.0.entries (disks.faults back)
+  pub counts : Rises (disks.faults given) end.0.entries (disks.faults back)
   counts = subst (λ (d : D). Rises (disks.faults d) end.0.entries (disks.faults back)) opened_on end.6
 
-  meanwhile : (start : List Row) → IsJournal start → EachImage disks.tells disks.may_leave given (MayOpen start) → IsTrue (disks.tells given)
+  pub meanwhile : (start : List Row) → IsJournal start → EachImage disks.tells disks.may_leave given (MayOpen start) → IsTrue (disks.tells given)
       → LeavesOnly disks.moment disks.left_since given back (λ c. MayOpen start c ⊎ IsBetween rows (rows_of end.0.entries) c)
   meanwhile start journal may tells =
       let leaves = since.meanwhile start journal (subst (λ (d : D). EachImage disks.tells disks.may_leave d (MayOpen start)) (sym opened_on) may)
@@ -85,13 +87,13 @@ module _ {D : Type 0} (disks : DiskWords D) (given back : D) (stories : List Sto
       (subst (λ (d : D). LeavesOnly disks.moment disks.left_since d end.0.disk (λ c. MayOpen start c ⊎ IsBetween rows (rows_of end.0.entries) c)) opened_on
       (subst (λ (rs : List Row). LeavesOnly disks.moment disks.left_since end.0.opening.disk end.0.disk (λ c. MayOpen start c ⊎ IsBetween rs (rows_of end.0.entries) c)) found leaves))
 
-  reaches : disks.reach back ≤ max (disks.reach given) (length (spelled (rows_of end.0.entries)) + 4110)
+  pub reaches : disks.reach back ≤ max (disks.reach given) (length (spelled (rows_of end.0.entries)) + 4110)
   reaches =
       subst (λ (d : D). disks.reach d ≤ max (disks.reach given) (length (spelled (rows_of end.0.entries)) + 4110)) (sym end.1)
       (subst (λ (d : D). disks.reach end.0.disk ≤ max (disks.reach d) (length (spelled (rows_of end.0.entries)) + 4110)) opened_on since.reaches)
 
   -- the lines between the two
-  module _ {input now : SourceState} {output new : SinkState} (served : Served) (lines : ServesBetween host first last input now output new served) where
+  module _ (holds : holders last.desks.items ≡ holders first.desks.items) {input now : SourceState} {output new : SinkState} (served : Served) (lines : ServesBetween host first last input now output new served) where
     chain : Chain stories budget roots (histories_of rows) lines.turns (seens last.desks.items)
     chain =
         subst (λ (h : List (List Entry)). Chain stories budget roots h lines.turns (seens last.desks.items)) opened.histories

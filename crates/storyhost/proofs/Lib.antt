@@ -10,3 +10,4 @@ pub mod OutsideLemmas
 pub mod BorrowLemmas
 pub mod HostLemmas
 pub mod ConversedLemmas
+pub mod LinksLemmas

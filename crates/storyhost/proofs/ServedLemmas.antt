@@ -10,7 +10,7 @@ use Rattle.gate_journal.specs.declared.fault.JournalFault.TheVariants as fault
 use Rattle.gate_journal.specs.Faults.{HasCause, HasInitCause}
 use Rattle.story_run.specs.declared.story.Story.{Story}
 use Rattle.storyhost.specs.Begun.{InitsOver, SaysRefusal, WritesBegun, ready, not_empty}
-use Rattle.storyhost.specs.Borrowed.{NotLent}
+use Rattle.storyhost.specs.LinksServed.{ServesOver, WritesLinks}
 use Rattle.line_talk.specs.Causes.{Rose}
 use Rattle.storyhost.specs.DiskWords.{DiskWords}
 use Rattle.storyhost.specs.Files.{OutsideState, IsLentFrom, Told, Untold, Missing, There}
@@ -28,7 +28,7 @@ use Rattle.host_serve.specs.declared.served.Served.TheVariants as served
 use Rattle.line_talk.specs.declared.sink.Stop.{Stop}
 use Rattle.line_talk.specs.declared.sink.Stop.TheVariants as stop
 use Rattle.storyhost.specs.declared.status.Status.{Status}
-use Rattle.storyhost.specs.declared.status.Status.TheVariants.{Done, ReadFault, DiskFault, NoMemory, BadFolder}
+use Rattle.storyhost.specs.declared.status.Status.TheVariants.{Done, ReadFault, DiskFault, NoMemory, BadFolder, DoorFault}
 use Rattle.line_talk.proofs.LinesLemmas.{still_reached, talk_settled, talk_first, first_then}
 
 -- what was read of an input that is told
@@ -121,6 +121,54 @@ pipe_told disks stories budget journal bytes given back input now output new sta
     )
 pipe_told disks stories budget journal bytes given back input now output new status lent left (inr n) =
     fault_told disks stories budget journal bytes given output new status n.fault lent n.explains n.says
+
+-- ---- what `serve` writes
+
+cut_links : {D : Type 0} (disks : DiskWords D) (journal : Told D) (line part : List ℕ) (cause : Stop)
+    → RefusesJournal disks journal line → IsPartOf part line → WritesLinks (status_of_stop cause) disks journal part
+cut_links disks journal line part stop.Output refuses begins = (line, refuses, begins)
+cut_links disks journal line part stop.Memory refuses begins = inr (line, refuses, begins)
+
+refusal_links : {D : Type 0} (disks : DiskWords D) (journal : Told D) (line : List ℕ) (output new : SinkState) (status : Status)
+    → RefusesJournal disks journal line → SaysLine BadFolder line output new status → WroteSome output new (WritesLinks status disks journal)
+refusal_links disks journal line output new status refuses (inl said) = (line, said.1, subst (λ (s : Status). WritesLinks s disks journal line) (sym said.0) refuses)
+refusal_links disks journal line output new status refuses (inr (cause, is, stopped)) = (
+  stopped.wrote.part,
+  stopped.wrote.wrote,
+  subst (λ (s : Status). WritesLinks s disks journal stopped.wrote.part) (sym is)
+      (cut_links disks journal line stopped.wrote.part cause refuses (stopped.rest, stopped.wrote.split)),
+)
+
+fault_links : {D : Type 0} (disks : DiskWords D) (journal : Told D) (given : D) (output new : SinkState) (status : Status) (why : JournalFault)
+    → (IsTrue (disks.tells given) → IsLentFrom disks.seen disks.may_leave journal given) → (IsTrue (disks.tells given) → Explains (disks.seen given) why)
+    → SaysFault why output new status → WroteSome output new (WritesLinks status disks journal)
+fault_links disks journal given output new status fault.NotJournal lent explains says =
+    refusal_links disks journal bad_journal output new status (inl (refl, where_told disks journal given _ lent explains)) says
+fault_links disks journal given output new status (fault.Corrupt place) lent explains says =
+    refusal_links disks journal (bad_journal_at place) output new status (inr (place, refl, where_told disks journal given _ lent explains)) says
+fault_links disks journal given output new status (fault.DiskFault counts) lent explains says =
+    ([], says.1, subst (λ (s : Status). WritesLinks s disks journal []) (sym says.0) refl)
+fault_links disks journal given output new status fault.NoMemory lent explains says =
+    ([], says.1, subst (λ (s : Status). WritesLinks s disks journal []) (sym says.0) (inl refl))
+
+nothing_links : {D : Type 0} (disks : DiskWords D) (journal : Told D) (status : Status) → (status ≡ Done) ⊎ (status ≡ DoorFault) ⊎ (status ≡ NoMemory) → WritesLinks status disks journal []
+nothing_links disks journal status (inl done) = subst (λ (s : Status). WritesLinks s disks journal []) (sym done) refl
+nothing_links disks journal status (inr (inl door)) = subst (λ (s : Status). WritesLinks s disks journal []) (sym door) refl
+nothing_links disks journal status (inr (inr wanted)) = subst (λ (s : Status). WritesLinks s disks journal []) (sym wanted) (inl refl)
+
+pub links_told : {D : Type 0} (disks : DiskWords D) (journal : Told D) (given back : D) (input now : SourceState) (output new : SinkState) (status : Status)
+    → (IsTrue (disks.tells given) → IsLentFrom disks.seen disks.may_leave journal given)
+    → ServesOver disks given back input now output new status → WroteSome output new (WritesLinks status disks journal)
+links_told disks journal given back input now output new status lent (inl served) = ([], served.wrote, nothing_links disks journal status served.how)
+links_told disks journal given back input now output new status lent (inr n) = fault_links disks journal given output new status n.fault lent n.explains n.says
+
+pub not_lent_links : {D : Type 0} (disks : DiskWords D) (journal : Told D) (status : Status) (P : Type 0) → (status ≡ DiskFault) × P ⊎ (status ≡ NoMemory) → WritesLinks status disks journal []
+not_lent_links disks journal status P (inl failed) = subst (λ (s : Status). WritesLinks s disks journal []) (sym failed.0) refl
+not_lent_links disks journal status P (inr wanted) = subst (λ (s : Status). WritesLinks s disks journal []) (sym wanted) (inl refl)
+
+pub not_loaded_links : {D : Type 0} (disks : DiskWords D) (journal : Told D) (status : Status) (P : Type 0) → (status ≡ ReadFault) × P ⊎ (status ≡ NoMemory) → WritesLinks status disks journal []
+not_loaded_links disks journal status P (inl failed) = subst (λ (s : Status). WritesLinks s disks journal []) (sym failed.0) refl
+not_loaded_links disks journal status P (inr wanted) = subst (λ (s : Status). WritesLinks s disks journal []) (sym wanted) (inl refl)
 
 -- no disk was lent
 pub not_lent_served : {D : Type 0} (disks : DiskWords D) (stories : List Story) (budget : ℕ) (journal : Told D) (input : List ℕ) (status : Status) (P : Type 0)

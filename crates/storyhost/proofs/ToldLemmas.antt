@@ -4,10 +4,10 @@ use Rattle.std.proofs.lemmas.List.{append-nil}
 use Rattle.std.specs.Io.KnownBytes.{Appends}
 use Rattle.story_run.specs.declared.story.Story.{Story}
 use Rattle.storyhost.specs.declared.status.Status.{Status}
-use Rattle.storyhost.specs.declared.status.Status.TheVariants.{Done, BadWords, Refused, ReadFault, WriteFault, DiskFault, NoMemory, BadFolder, LineLimit}
+use Rattle.storyhost.specs.declared.status.Status.TheVariants.{Done, BadWords, Refused, ReadFault, WriteFault, DiskFault, NoMemory, BadFolder, DoorFault, LineLimit}
 use Rattle.storyhost.specs.declared.stories.Refusal.{Refusal}
 use Rattle.storyhost.specs.declared.words.Action.{Action}
-use Rattle.storyhost.specs.declared.words.Action.TheVariants.{Run, Check, Pipe, Init, Help, Version}
+use Rattle.storyhost.specs.declared.words.Action.TheVariants.{Run, Check, Pipe, Serve, Init, Help, Version}
 use Rattle.storyhost.specs.Borrowed.{journal_in}
 use Rattle.storyhost.specs.Files.{OutsideState, Told}
 use Rattle.storyhost.specs.Follows.{Does, Follows, Tells, WritesFor}
@@ -17,7 +17,8 @@ use Rattle.line_talk.specs.Lines.{lines, talk, IsWithinLimits}
 use Rattle.storyhost.specs.Begun.{WritesBegun}
 use Rattle.storyhost.specs.DiskWords.{DiskWords}
 use Rattle.storyhost.specs.Served.{WritesServed}
-use Rattle.storyhost.specs.Speech.{Task, Says, Serves, Begins, tasked}
+use Rattle.storyhost.specs.LinksServed.{WritesLinks}
+use Rattle.storyhost.specs.Speech.{Task, Says, Serves, ServesLinks, Begins, tasked}
 use Rattle.storyhost.specs.Status.{status_of}
 use Rattle.storyhost.specs.Spoken.{Spoken, Leaves}
 use Rattle.storyhost.specs.Stories.{stories_of}
@@ -27,7 +28,7 @@ use Rattle.line_talk.specs.Talked.{IsReadToEnd}
 use Rattle.storyhost.specs.Words.{Asked}
 use Rattle.line_talk.specs.Writing.{IsPartOf}
 use Rattle.line_talk.proofs.LinesLemmas.{still_reached, talk_settled, talk_first}
-use Rattle.storyhost.proofs.ServedLemmas.{WroteSome, consumed, nothing_left, pipe_told, init_told, not_lent_served, not_lent_begun, not_loaded_served, not_loaded_begun}
+use Rattle.storyhost.proofs.ServedLemmas.{WroteSome, consumed, nothing_left, pipe_told, init_told, links_told, not_lent_served, not_lent_links, not_lent_begun, not_loaded_served, not_loaded_links, not_loaded_begun}
 use Rattle.storyhost.proofs.BorrowLemmas.{keeps_none, not_lent}
 use Rattle.storyhost.proofs.SpeechLemmas.{spoken_nothing, IsSteady, steady_once, steady_run, steady_check}
 use Rattle.storyhost.proofs.StoriesLemmas.{settled_told}
@@ -67,6 +68,7 @@ writes Done (Err line) s read rest now written within left leaves = absurd leave
 writes BadWords said s read rest now written within left leaves = absurd leaves
 writes DiskFault said s read rest now written within left leaves = absurd leaves
 writes BadFolder said s read rest now written within left leaves = absurd leaves
+writes DoorFault said s read rest now written within left leaves = absurd leaves
 writes Refused said s read rest now written within left leaves = leaves
 writes ReadFault (Ok speech) s read rest now written within left leaves = inr (read, (rest, refl), leaves)
 writes ReadFault (Err line) s read rest now written within left leaves = absurd leaves
@@ -83,6 +85,7 @@ nothing_writes status P said input (inr wanted) = subst (λ (s : Status). Writes
 abbrev IsSteadyTask : Result Task (List ℕ) → Type 0
 IsSteadyTask (Ok (Says speech)) = IsSteady speech
 IsSteadyTask (Ok (Serves stories budget folder)) = Unit {0}
+IsSteadyTask (Ok (ServesLinks folder)) = Unit {0}
 IsSteadyTask (Ok (Begins folder)) = Unit {0}
 IsSteadyTask (Err line) = Unit {0}
 
@@ -90,6 +93,7 @@ steady : (action : Action) (found : Result (List Story) Refusal) (budget : ℕ) 
 steady Run (Ok stories) budget folder = steady_run (slice_get stories 0) budget
 steady Check (Ok stories) budget folder = steady_check (slice_get stories 0)
 steady Pipe (Ok stories) budget folder = tt
+steady (Serve serving) (Ok stories) budget folder = tt
 steady Init (Ok stories) budget folder = tt
 steady (Help topic) (Ok stories) budget folder = steady_once (help_text topic)
 steady Version (Ok stories) budget folder = steady_once version_text
@@ -122,6 +126,12 @@ held_on disks (Ok (Serves stories budget folder)) s bytes held outside beyond in
     held_so held _ held_is (pipe_told disks stories budget (outside.disk (journal_in folder)) bytes b.given b.back input now output new status b.lent left_is b.done)
 held_on disks (Ok (Serves stories budget folder)) s bytes held outside beyond input now output new status (inr gone) left_is held_is =
     held_so held _ held_is ([], gone.wrote, not_lent_served disks stories budget (outside.disk (journal_in folder)) bytes status (Unit {0}) (inr gone.wanted))
+held_on disks (Ok (ServesLinks folder)) s bytes held outside beyond input now output new status (inl (inl none), doors) left_is held_is =
+    held_so held _ held_is ([], none.wrote, not_lent_links disks (outside.disk (journal_in folder)) status _ none.cause)
+held_on disks (Ok (ServesLinks folder)) s bytes held outside beyond input now output new status (inl (inr b), doors) left_is held_is =
+    held_so held _ held_is (links_told disks (outside.disk (journal_in folder)) b.given b.back input now output new status b.lent b.done)
+held_on disks (Ok (ServesLinks folder)) s bytes held outside beyond input now output new status (inr gone, doors) left_is held_is =
+    held_so held _ held_is ([], gone.wrote, not_lent_links disks (outside.disk (journal_in folder)) status (Unit {0}) (inr gone.wanted))
 held_on disks (Ok (Begins folder)) s bytes held outside beyond input now output new status (inl none) left_is held_is =
     held_so held _ held_is ([], none.wrote, not_lent_begun disks (outside.disk (journal_in folder)) status _ none.cause)
 held_on disks (Ok (Begins folder)) s bytes held outside beyond input now output new status (inr b) left_is held_is =
@@ -132,6 +142,7 @@ nothing_tells : {D : Type 0} (disks : DiskWords D) (disk : List ℕ → Told D) 
 nothing_tells disks disk status P (Err line) input c = nothing_writes status P (Err line) input c
 nothing_tells disks disk status P (Ok (Says speech)) input c = nothing_writes status P (Ok speech) input c
 nothing_tells disks disk status P (Ok (Serves stories budget folder)) input c = not_loaded_served disks stories budget (disk (journal_in folder)) input status P c
+nothing_tells disks disk status P (Ok (ServesLinks folder)) input c = not_loaded_links disks (disk (journal_in folder)) status P c
 nothing_tells disks disk status P (Ok (Begins folder)) input c = not_loaded_begun disks (disk (journal_in folder)) status P c
 
 -- the disks that are told are those from before the loads
@@ -141,6 +152,8 @@ same_told disks old new status (Err line) input written same w = w
 same_told disks old new status (Ok (Says speech)) input written same w = w
 same_told {D} disks old new status (Ok (Serves stories budget folder)) input written same w =
     subst (λ (t : Told D). WritesServed status disks stories budget t input written) (same (journal_in folder)) w
+same_told {D} disks old new status (Ok (ServesLinks folder)) input written same w =
+    subst (λ (t : Told D). WritesLinks status disks t written) (same (journal_in folder)) w
 same_told {D} disks old new status (Ok (Begins folder)) input written same w =
     subst (λ (t : Told D). WritesBegun status disks t written) (same (journal_in folder)) w
 
@@ -164,6 +177,8 @@ pub does_nothing : {D : Type 0} (disks : DiskWords D) (task : Result Task (List 
 does_nothing disks (Err line) outside input output = (spoken_nothing (Err line) input output, keeps_none outside)
 does_nothing disks (Ok (Says speech)) outside input output = (spoken_nothing (Ok speech) input output, keeps_none outside)
 does_nothing disks (Ok (Serves stories budget folder)) outside input output = inl (inl (not_lent outside input output))
+does_nothing disks (Ok (ServesLinks folder)) outside input output =
+    (inl (inl (not_lent outside input output)), record { done = λ e. cc; not_done = λ e. refl; fault = λ e. cc })
 does_nothing disks (Ok (Begins folder)) outside input output = inl (not_lent outside input output)
 
 -- where memory was wanted before a file was loaded, each caller is told so

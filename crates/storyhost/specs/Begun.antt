@@ -77,4 +77,5 @@ WritesBegun ends.NoMemory disks journal written =
     IsPartOf written ready ⊎ IsPartOf written not_empty
 WritesBegun ends.BadFolder disks journal written =
     (written ≡ not_empty) × WhereTold disks journal (λ bytes. 0 < length bytes)
+WritesBegun ends.DoorFault disks journal written = ⊥
 WritesBegun ends.LineLimit disks journal written = ⊥

@@ -11,6 +11,13 @@ file_rule = record (new_rule (codes "FILE")) { required = true }
 abbrev pub folder_rule : Rule
 folder_rule = record (new_rule (codes "DIR")) { required = true }
 
+-- PORT, and WORKERS
+abbrev pub port_rule : Rule
+port_rule = record (new_rule (codes "PORT")) { required = true }
+
+abbrev pub workers_rule : Rule
+workers_rule = record (new_rule (codes "WORKERS")) { required = true }
+
 -- STORY.., one or more
 abbrev pub stories_rule : Rule
 stories_rule = record (new_rule (codes "STORY")) { required = true; action = Some Append }
@@ -18,6 +25,10 @@ stories_rule = record (new_rule (codes "STORY")) { required = true; action = Som
 -- `--budget N`
 abbrev pub budget_rule : Rule
 budget_rule = record (new_rule (codes "budget")) { long = Some (codes "budget") }
+
+-- `--links K`
+abbrev pub links_rule : Rule
+links_rule = record (new_rule (codes "links")) { long = Some (codes "links") }
 
 -- `run FILE [--budget N]`
 abbrev pub run_app : App
@@ -36,6 +47,15 @@ abbrev pub pipe_app : App
 pipe_app =
     with_rule (with_rule (with_rule (new_app (codes "pipe")) folder_rule) stories_rule) budget_rule
 
+-- `serve DIR PORT WORKERS`, without what follows
+abbrev pub served_app : App
+served_app =
+    with_rule (with_rule (with_rule (new_app (codes "serve")) folder_rule) port_rule) workers_rule
+
+-- `serve DIR PORT WORKERS STORY.. [--budget N] [--links K]`
+abbrev pub serve_app : App
+serve_app = with_rule (with_rule (with_rule served_app stories_rule) budget_rule) links_rule
+
 -- the program, with a version, which does nothing but by one of its commands
 abbrev pub bare_app : App
 bare_app = on_top (λ s. record s {
@@ -52,4 +72,5 @@ solo_app = with_subcommand (with_subcommand bare_app run_app.top) check_app.top
 -- `storyhost` with its commands
 abbrev pub storyhost_app : App
 storyhost_app =
-    with_subcommand (with_subcommand solo_app init_app.top) pipe_app.top
+    with_subcommand (with_subcommand (with_subcommand solo_app init_app.top) pipe_app.top)
+    serve_app.top

@@ -13,5 +13,7 @@ complaint code =
     (if code == 7 then codes "storyhost: there is too little memory" else
     (if code == 8 then
     codes "storyhost: what the folder holds is refused; the line that was written says why" else
+    (if code == 9 then
+    codes "storyhost: the port can't be served; another program may be using it" else
     (if code == 10 then
-    codes "storyhost: the connection's limit of lines or bytes was reached" else [])))))))
+    codes "storyhost: the connection's limit of lines or bytes was reached" else []))))))))

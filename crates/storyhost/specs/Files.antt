@@ -1,10 +1,13 @@
 -- What is known of the files and the disks outside (own).
-use Rattle.std.specs.Prelude.{◌≡◌, ◌≢◌, ℕ, ◌<◌, ◌≤◌, List, [], take, Option, None, Some}
+use Rattle.std.specs.Prelude.{◌≡◌, ◌≢◌, ℕ, ◌+◌, ◌-◌, ◌^◌, ◌<◌, ◌≤◌, min, List, [], take, Option}
+use Rattle.std.specs.Prelude.{None, Some}
 use Rattle.std.specs.Prelude.{IsSomeAnd, if◌then◌else◌, Bool, true, false, is_none, Result}
 use Rattle.std.specs.Prelude.{Ok, Err}
 use Rattle.std.specs.Map.{update}
 use Rattle.std.specs.Str.{bytes_eq}
 use Rattle.disk_model.specs.Disk.{NoneNew, Only}
+use Rattle.host_serve.specs.declared.worked.Worked.{Worked}
+use Rattle.host_serve.specs.declared.worked.Worked.TheVariants.{Shut, DoorFault}
 use Rattle.line_talk.specs.Causes.{Rose}
 use Rattle.storyhost.specs.declared.loan.Loan.{Loan}
 use Rattle.storyhost.specs.declared.outside.Fetch.{Fetch}
@@ -29,13 +32,16 @@ has_failed (Err Failed) = true
 has_failed (Err NoMemory) = false
 
 -- the files and the disks by their names where they are told, the last loan of the disk of a name,
--- the faults of loads, and those of disks and of the calls that lend them
+-- the faults of loads, those of disks and of the calls that lend them, those of doors and of the
+-- calls that give them, and how many doors were shut
 pub record OutsideState (D : Type 0) : Type 0 where
   pub file : List ℕ → Told (List ℕ)
   pub disk : List ℕ → Told D
   pub loan : List ℕ → Option Loan
   pub faults : ℕ
   pub disk_faults : ℕ
+  pub door_faults : ℕ
+  pub shut : ℕ
 
 -- what is told by one who knows all names
 abbrev pub told_by : {A : Type 0} → Option A → Told A
@@ -58,6 +64,23 @@ pub record KeepsDisks {D : Type 0} (old new : OutsideState D) : Type 0 where
   pub disk : (name : List ℕ) → new.disk name ≡ old.disk name
   pub loan : (name : List ℕ) → new.loan name ≡ old.loan name
   pub disk_faults : new.disk_faults ≡ old.disk_faults
+
+-- the faults of doors, and the number of those that were shut, stay
+pub record KeepsDoors {D : Type 0} (old new : OutsideState D) : Type 0 where
+  pub door_faults : new.door_faults ≡ old.door_faults
+  pub shut : new.shut ≡ old.shut
+
+-- a count after one more, which stands still at its type's end
+abbrev pub after_one : ℕ → ℕ
+after_one count = min (count + 1) (2 ^ 64 - 1)
+
+-- the work at a door ended so: one door more was shut, or one fault more is counted
+abbrev pub Closes : {D O C E F : Type 0} → Worked O C E F → OutsideState D → OutsideState D
+    → Type 0
+Closes (Shut end) old new =
+    (new.shut ≡ after_one old.shut) × (new.door_faults ≡ old.door_faults)
+Closes (DoorFault fault) old new =
+    (new.shut ≡ old.shut) × (new.door_faults ≡ after_one old.door_faults)
 
 -- the disk that is lent reads as the one that is told, and no image is new; where there is told to
 -- be none, it is empty

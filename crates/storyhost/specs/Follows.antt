@@ -3,12 +3,13 @@ use Rattle.std.specs.Prelude.{◌≡◌, ℕ, ◌⊎◌, List, [], ◌++◌, map
 use Rattle.storyhost.specs.Begun.{InitsOver, WritesBegun}
 use Rattle.storyhost.specs.Borrowed.{UsesDisk, UsesJournal, journal_in}
 use Rattle.line_talk.specs.Causes.{Rose}
-use Rattle.storyhost.specs.Files.{OutsideState, KeepsDisks, Told, There}
+use Rattle.storyhost.specs.Files.{OutsideState, KeepsDisks, KeepsDoors, Told, There}
 use Rattle.storyhost.specs.Headline.{Writes}
 use Rattle.storyhost.specs.DiskWords.{DiskWords}
+use Rattle.storyhost.specs.LinksServed.{DoorsBy, ServesOver, WritesLinks}
 use Rattle.storyhost.specs.Piped.{PipesOver}
 use Rattle.storyhost.specs.Served.{WritesServed}
-use Rattle.storyhost.specs.Speech.{Task, Says, Serves, Begins, tasked}
+use Rattle.storyhost.specs.Speech.{Task, Says, Serves, ServesLinks, Begins, tasked}
 use Rattle.storyhost.specs.Spoken.{Spoken}
 use Rattle.storyhost.specs.Stories.{stories_of, AreFiles, IsSettled, StopsBehind}
 use Rattle.line_talk.specs.Streams.{SourceState, SinkState, Gave, Wrote}
@@ -28,6 +29,11 @@ Does disks (Ok (Serves stories budget folder)) outside beyond input now output n
     UsesJournal disks (journal_in folder)
     (λ given back. PipesOver disks stories budget given back input now output new status)
     outside beyond input now output new status
+Does disks (Ok (ServesLinks folder)) outside beyond input now output new status =
+    UsesJournal disks (journal_in folder)
+    (λ given back. ServesOver disks given back input now output new status)
+    outside beyond input now output new status
+    × DoorsBy outside beyond status
 Does disks (Ok (Begins folder)) outside beyond input now output new status =
     UsesDisk disks (journal_in folder)
     (λ given back. InitsOver disks given back input now output new status)
@@ -51,6 +57,7 @@ pub record Loaded {D : Type 0} (disks : DiskWords D) (asked : Asked)
   pub settled : IsSettled asked.names files
   pub between : OutsideState D
   pub loaded : KeepsDisks outside between
+  pub doors : KeepsDoors outside between
   pub does : Does disks (tasked asked.action (stories_of files) asked.budget asked.folder)
       between beyond input now output new status
   pub cause : status ≡ ReadFault → Rose input.faults now.faults
@@ -70,6 +77,8 @@ WritesFor disks disk status (Ok (Says speech)) bytes written =
     Writes status (Ok speech) bytes written
 WritesFor disks disk status (Ok (Serves stories budget folder)) bytes written =
     WritesServed status disks stories budget (disk (journal_in folder)) bytes written
+WritesFor disks disk status (Ok (ServesLinks folder)) bytes written =
+    WritesLinks status disks (disk (journal_in folder)) written
 WritesFor disks disk status (Ok (Begins folder)) bytes written =
     WritesBegun status disks (disk (journal_in folder)) written
 

@@ -6,7 +6,7 @@ use Rattle.line_talk.specs.Writing.{IsPartOf}
 use Rattle.storyhost.specs.declared.status.Status.{Status}
 use Rattle.storyhost.specs.declared.status.Status.TheVariants.{Done, BadWords, Refused, ReadFault}
 use Rattle.storyhost.specs.declared.status.Status.TheVariants.{WriteFault, NoMemory, LineLimit}
-use Rattle.storyhost.specs.declared.status.Status.TheVariants.{DiskFault, BadFolder}
+use Rattle.storyhost.specs.declared.status.Status.TheVariants.{DiskFault, BadFolder, DoorFault}
 
 -- what a command says: its text for the lines of an input, and whether it is over after them
 pub record Speech : Type 0 where
@@ -33,3 +33,4 @@ Writes LineLimit said input written = IsOkAnd said (λ speech.
 Writes BadWords said input written = ⊥
 Writes DiskFault said input written = ⊥
 Writes BadFolder said input written = ⊥
+Writes DoorFault said input written = ⊥

@@ -13,6 +13,8 @@ pub mod Stories
 pub mod StoryFile
 pub mod CommandLine
 pub mod Help
+pub mod Numbers
+pub mod Serving
 pub mod Complaint
 pub mod Words
 pub mod Status
@@ -21,3 +23,5 @@ pub mod Spoken
 pub mod Plain
 pub mod Files
 pub mod MemoryOutside
+pub mod Outsides
+pub mod LinksServed

@@ -18,7 +18,7 @@ use Rattle.line_talk.specs.Writing.{IsPartOf}
 use Rattle.storyhost.specs.declared.status.Status.{Status}
 use Rattle.storyhost.specs.declared.status.Status.TheVariants.{Done, BadWords, Refused, ReadFault}
 use Rattle.storyhost.specs.declared.status.Status.TheVariants.{WriteFault, NoMemory, LineLimit}
-use Rattle.storyhost.specs.declared.status.Status.TheVariants.{DiskFault, BadFolder}
+use Rattle.storyhost.specs.declared.status.Status.TheVariants.{DiskFault, BadFolder, DoorFault}
 
 -- the bytes of a disk that is told have P; where there is told to be none, no bytes have
 abbrev pub BytesHave : {D : Type 0} → (D → List ℕ) → Told D → (List ℕ → Type 0) → Type 0
@@ -82,5 +82,6 @@ WritesServed NoMemory disks stories budget journal input written =
     ⊎ BeginsRefusal disks journal written
 WritesServed BadFolder disks stories budget journal input written =
     RefusesJournal disks journal written
+WritesServed DoorFault disks stories budget journal input written = ⊥
 WritesServed LineLimit disks stories budget journal input written =
     WritesTurns disks stories budget journal input written served.LineLimit

@@ -11,7 +11,7 @@ use Rattle.storyhost.specs.StoryFile.{bad_line}
 use Rattle.storyhost.specs.declared.stories.Refusal.{Refusal}
 use Rattle.storyhost.specs.declared.words.Action.{Action}
 use Rattle.storyhost.specs.declared.words.Action.TheVariants.{Run, Check, Pipe, Init, Help}
-use Rattle.storyhost.specs.declared.words.Action.TheVariants.{Version}
+use Rattle.storyhost.specs.declared.words.Action.TheVariants.{Serve, Version}
 
 -- one text, whatever the input
 abbrev pub said_once : List ℕ → Speech
@@ -31,11 +31,12 @@ abbrev pub check_speech : Option Story → Speech
 check_speech None = said_once []
 check_speech (Some story) = said_once (good_line story.image)
 
--- what a command does: it says a text, serves these stories with this budget from a folder, or
--- begins the journal of a folder
+-- what a command does: it says a text, serves these stories with this budget from a folder to its
+-- input, serves the links of a door from a folder, or begins the journal of a folder
 pub data Task : Type 0 where
   Says : Speech → Task
   Serves : List Story → ℕ → List ℕ → Task
+  ServesLinks : List ℕ → Task
   Begins : List ℕ → Task
 
 -- what a command does over its stories, with a budget, on a folder
@@ -43,6 +44,7 @@ abbrev pub task_of : Action → List Story → ℕ → List ℕ → Task
 task_of Run stories budget folder = Says (run_speech (slice_get stories 0) budget)
 task_of Check stories budget folder = Says (check_speech (slice_get stories 0))
 task_of Pipe stories budget folder = Serves stories budget folder
+task_of (Serve serving) stories budget folder = ServesLinks folder
 task_of Init stories budget folder = Begins folder
 task_of (Help topic) stories budget folder = Says (said_once (help_text topic))
 task_of Version stories budget folder = Says (said_once version_text)

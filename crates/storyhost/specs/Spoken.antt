@@ -9,7 +9,7 @@ use Rattle.line_talk.specs.Writing.{IsPartOf}
 use Rattle.storyhost.specs.declared.status.Status.{Status}
 use Rattle.storyhost.specs.declared.status.Status.TheVariants.{Done, BadWords, Refused, ReadFault}
 use Rattle.storyhost.specs.declared.status.Status.TheVariants.{WriteFault, NoMemory, LineLimit}
-use Rattle.storyhost.specs.declared.status.Status.TheVariants.{DiskFault, BadFolder}
+use Rattle.storyhost.specs.declared.status.Status.TheVariants.{DiskFault, BadFolder, DoorFault}
 
 -- what is left, by the bytes read, the source after them and the bytes written
 abbrev pub Leaves : Status → Result Speech (List ℕ) → List ℕ → SourceState → List ℕ
@@ -27,6 +27,7 @@ Leaves LineLimit said read now written = IsOkAnd said (λ speech.
 Leaves BadWords said read now written = ⊥
 Leaves DiskFault said read now written = ⊥
 Leaves BadFolder said read now written = ⊥
+Leaves DoorFault said read now written = ⊥
 
 -- what was read and what was written
 pub record Spoken (said : Result Speech (List ℕ)) (input now : SourceState)

@@ -4,12 +4,14 @@ use Rattle.line_talk.specs.Ends.{ended_by}
 use Rattle.line_talk.specs.declared.ended.Ended.{Ended}
 use Rattle.line_talk.specs.declared.ended.Ended.TheVariants as ended
 use Rattle.line_talk.specs.declared.sink.Stop.{Stop}
+use Rattle.host_serve.specs.declared.worked.Worked.{Worked}
+use Rattle.host_serve.specs.declared.worked.Worked.TheVariants as worked
 use Rattle.host_serve.specs.declared.served.Served.{Served}
 use Rattle.host_serve.specs.declared.served.Served.TheVariants as served
 use Rattle.storyhost.specs.declared.status.Status.{Status}
 use Rattle.storyhost.specs.declared.status.Status.TheVariants.{Done, BadWords, Refused, ReadFault}
 use Rattle.storyhost.specs.declared.status.Status.TheVariants.{WriteFault, NoMemory, LineLimit}
-use Rattle.storyhost.specs.declared.status.Status.TheVariants.{DiskFault, BadFolder}
+use Rattle.storyhost.specs.declared.status.Status.TheVariants.{DiskFault, BadFolder, DoorFault}
 
 -- the status of an exit code
 abbrev pub status_of : ℕ → Option Status
@@ -22,7 +24,8 @@ status_of code =
     (if code == 6 then Some DiskFault else
     (if code == 7 then Some NoMemory else
     (if code == 8 then Some BadFolder else
-    (if code == 10 then Some LineLimit else None))))))))
+    (if code == 9 then Some DoorFault else
+    (if code == 10 then Some LineLimit else None)))))))))
 
 -- the status of a conversation
 abbrev pub status_of_end : Ended → Status
@@ -39,6 +42,11 @@ status_of_served served.ReadFault = ReadFault
 status_of_served served.WriteFault = WriteFault
 status_of_served served.LineLimit = LineLimit
 status_of_served served.NoMemory = NoMemory
+
+-- the status of the work at a door
+abbrev pub status_of_worked : {O C E F : Type 0} → Worked O C E F → Status
+status_of_worked (worked.Shut end) = Done
+status_of_worked (worked.DoorFault fault) = DoorFault
 
 -- the status of a text that was not written whole
 abbrev pub status_of_stop : Stop → Status

@@ -1,9 +1,7 @@
 -- What the words of the command line ask for (own).
 use Rattle.std.specs.Prelude.{ℕ, if◌then◌else◌, List, [], ◌∷◌, length, map}
-use Rattle.std.specs.Prelude.{◌&&◌, nat_le, nat_lt, slice_index, option_and_then, Option, None}
-use Rattle.std.specs.Prelude.{Some, codes}
-use Rattle.std.specs.Str.{bytes_eq, all_ascii_digits}
-use Rattle.std.specs.Str.Parse.{digits_value}
+use Rattle.std.specs.Prelude.{nat_le, option_and_then, Option, None, Some, codes}
+use Rattle.std.specs.Str.{bytes_eq}
 use Rattle.clap.specs.Faults.{fault_of}
 use Rattle.clap.specs.Kinds.{Kinds}
 use Rattle.clap.specs.Simple.{subcommand_of}
@@ -12,10 +10,13 @@ use Rattle.clap.specs.declared.error.kind.ErrorKind.{ErrorKind}
 use Rattle.clap.specs.declared.error.kind.ErrorKind.TheVariants.{DisplayHelp, DisplayVersion}
 use Rattle.storyhost.specs.CommandLine.{storyhost_app}
 use Rattle.storyhost.specs.Help.{topic_of}
+use Rattle.storyhost.specs.Numbers.{budget_given}
+use Rattle.storyhost.specs.Serving.{serving_in}
 use Rattle.storyhost.specs.declared.help.Topic.{Topic}
 use Rattle.storyhost.specs.declared.words.Action.{Action}
 use Rattle.storyhost.specs.declared.words.Action.TheVariants.{Run, Check, Pipe, Init, Help}
-use Rattle.storyhost.specs.declared.words.Action.TheVariants.{Version}
+use Rattle.storyhost.specs.declared.words.Action.TheVariants.{Serve, Version}
+use Rattle.storyhost.specs.declared.words.Serving.{Serving}
 use Rattle.storyhost.specs.declared.command.Command.{Command}
 
 -- what the program is asked to do, with the folder, the names of its story files and the budget of
@@ -34,18 +35,6 @@ asked command = record {
   names = map (λ name. name.now) command.names.items;
   budget = command.budget;
 }
-
--- the budget of a turn that a word spells: 1 to 1,000,000,000,000, without sign or leading zero
-abbrev pub budget_of : Text → Option ℕ
-budget_of word =
-    if all_ascii_digits word &&
-    (nat_lt 48 (slice_index word 0) && nat_le (digits_value 10 word) 1000000000000)
-    then Some (digits_value 10 word) else None
-
--- the budget that is given, or 50,000,000
-abbrev pub budget_given : Option Text → Option ℕ
-budget_given None = Some 50000000
-budget_given (Some word) = budget_of word
 
 -- this folder, these story files, at most 64, and this budget
 abbrev pub asked_for : Action → Option Text → Option (List Text) → Option ℕ → Option Asked
@@ -72,6 +61,12 @@ asked_on action None = None
 asked_on action (Some folder) =
     Some (record { action = action; folder = folder; names = []; budget = 50000000 })
 
+-- a folder and its story files, served so
+abbrev pub asked_serving : Option Serving → List Row → Option Asked
+asked_serving None rows = None
+asked_serving (Some serving) rows =
+    asked_with (Serve serving) (folder_in rows) (codes "STORY") rows
+
 -- what a command of the program asks for, by its name and what it is given
 abbrev pub asked_in : Text × List Row → Option Asked
 asked_in given =
@@ -80,7 +75,9 @@ asked_in given =
     then asked_with Check (Some []) (codes "FILE") given.1 else
     (if bytes_eq given.0 (codes "init") then asked_on Init (folder_in given.1) else
     (if bytes_eq given.0 (codes "pipe")
-    then asked_with Pipe (folder_in given.1) (codes "STORY") given.1 else None)))
+    then asked_with Pipe (folder_in given.1) (codes "STORY") given.1 else
+    (if bytes_eq given.0 (codes "serve")
+    then asked_serving (serving_in given.1) given.1 else None))))
 
 -- the action that shows a text where `clap` says that one is wanted
 abbrev pub shown_by : Topic → ErrorKind → Option Action

@@ -3,7 +3,8 @@ ghost use Rattle.std.specs.Prelude.{◌≡◌, IfOk, false};
 ghost use Rattle.clap.specs.Simple.{app_of};
 ghost use Rattle.clap.specs.declared.builder.command.Command.TheViews.{out-Command as fields_of};
 ghost use Rattle.storyhost.specs.CommandLine.{bare_app, check_app, init_app, pipe_app, run_app};
-ghost use Rattle.storyhost.specs.CommandLine.{solo_app, storyhost_app};
+ghost use Rattle.storyhost.specs.CommandLine.{serve_app, served_app, solo_app};
+ghost use Rattle.storyhost.specs.CommandLine.{storyhost_app};
 
 use crate::help::VERSION;
 use clap::{Arg, ArgAction, Command};
@@ -53,6 +54,33 @@ fn pipe_command<'w>(alloc: Global) -> Result<Command<'w>, AllocError>
         .arg(budget)
 }
 
+/// `serve DIR PORT WORKERS`, without what follows.
+fn served_command<'w>(alloc: Global) -> Result<Command<'w>, AllocError>
+    ensures app { IfOk result (λ c. app_of c ≡ served_app) }
+    ensures local { IfOk result (λ c. (fields_of c).has_globals ≡ false) }
+{
+    let folder = Arg::new(alloc, "DIR").required(true);
+    let port = Arg::new(alloc, "PORT").required(true);
+    let workers = Arg::new(alloc, "WORKERS").required(true);
+    Command::new(alloc, "serve")
+        .arg(folder)?
+        .arg(port)?
+        .arg(workers)
+}
+
+/// `serve DIR PORT WORKERS STORY.. [--budget N] [--links K]`.
+fn serve_command<'w>(alloc: Global) -> Result<Command<'w>, AllocError>
+    ensures app { IfOk result (λ c. app_of c ≡ serve_app) }
+    ensures local { IfOk result (λ c. (fields_of c).has_globals ≡ false) }
+{
+    let stories = Arg::new(alloc, "STORY")
+        .required(true)
+        .action(ArgAction::Append);
+    let budget = Arg::new(alloc, "budget").long("budget");
+    let links = Arg::new(alloc, "links").long("links");
+    served_command(alloc)?.arg(stories)?.arg(budget)?.arg(links)
+}
+
 /// The program without its commands.
 fn bare_command<'w>(alloc: Global) -> Command<'w>
     ensures { app_of result ≡ bare_app }
@@ -79,5 +107,9 @@ pub fn storyhost<'w>(alloc: Global) -> Result<Command<'w>, AllocError>
 {
     let init = init_command(alloc)?;
     let pipe = pipe_command(alloc)?;
-    solo_command(alloc)?.subcommand(init)?.subcommand(pipe)
+    let serve = serve_command(alloc)?;
+    solo_command(alloc)?
+        .subcommand(init)?
+        .subcommand(pipe)?
+        .subcommand(serve)
 }

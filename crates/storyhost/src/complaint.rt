@@ -14,6 +14,7 @@ pub fn complaint_of(code: u8) -> &'static str
         6 => "storyhost: the journal can't be opened, made, read or written",
         7 => "storyhost: there is too little memory",
         8 => "storyhost: what the folder holds is refused; the line that was written says why",
+        9 => "storyhost: the port can't be served; another program may be using it",
         10 => "storyhost: the connection's limit of lines or bytes was reached",
         _ => "",
     }

@@ -10,6 +10,7 @@ pub enum Topic {
     Check,
     Init,
     Pipe,
+    Serve,
 }
 
 /// The version of the program, and the text of `--version`.
@@ -28,12 +29,14 @@ Commands:
   check FILE                       tell what the header of a story says
   init DIR                         begin the journal of a folder
   pipe DIR STORY.. [--budget N]    serve up to 64 sessions over one connection
+  serve DIR PORT WORKERS STORY.. [--budget N] [--links K]
+                                   serve them over TCP, on this machine alone
 
   storyhost COMMAND --help         tells more of a command
   storyhost --version              tells the version
 
 Exit status:
-  0   done: the input was read to its end, or the story is over
+  0   done: the input was read to its end, the story is over, or K links ended
   2   the words aren't understood; nothing is written
   3   a story is refused; the line written says which, and why
   4   the input failed, or a file could not be read
@@ -41,6 +44,7 @@ Exit status:
   6   a file of the folder failed
   7   there was too little memory
   8   what the folder holds is refused; the line written says why
+  9   the port can't be served
   10  the input reached the limit of a connection: 1,048,576 lines or 2 GiB
 ";
 
@@ -122,6 +126,25 @@ Each is answered by the line SHOW S N, the turn as `run` writes it and the line
 `.`, or by a line NO with a number. A repeated request is played once.
 ";
 
+/// What `serve` does.
+pub const SERVE_HELP: &str = "\
+Serves up to 64 sessions over TCP, on this machine alone.
+
+Usage: storyhost serve DIR PORT WORKERS STORY.. [--budget N] [--links K]
+
+  DIR           a folder that `init` made; its journal keeps every move
+  PORT          0 to 65535; for 0 a free one is taken, and standard error says
+                which
+  WORKERS       1 to 16, the most links that are served at one time
+  STORY..       1 to 64 story files, numbered from 0
+  --budget N    the most ticks of a turn, 1 to 1000000000000; else 50000000
+  --links K     the links after which it ends, 1 to 4294967295; else 4294967295
+
+A link is one connection to the port. Its lines are requests to sessions, and
+are answered as `pipe` answers those of its input. A link that comes while each
+worker serves one waits. A link that fails ends alone.
+";
+
 /// The text for a topic.
 pub fn help_text(topic: Topic) -> &'static str
     ensures { result.now ≡ help_text topic }
@@ -132,5 +155,6 @@ pub fn help_text(topic: Topic) -> &'static str
         Topic::Check => CHECK_HELP,
         Topic::Init => INIT_HELP,
         Topic::Pipe => PIPE_HELP,
+        Topic::Serve => SERVE_HELP,
     }
 }

@@ -10,8 +10,10 @@ ghost use Rattle.std.specs.Map.{update};
 ghost use Rattle.std.specs.Str.{bytes_eq};
 
 use crate::loan::Loan;
+use crate::memory_door::MemoryDoor;
 use crate::outside::{Fetch, Outside};
-use disk_model::{Disk, MemDisk};
+use disk_model::{Disk, Failed, MemDisk};
+use host_serve::Worked;
 use std::alloc::{AllocError, Global};
 use std::collections::BTreeMap;
 
@@ -136,8 +138,8 @@ fn lend(
     }
 }
 
-/// Files and disks by their names. Loads are counted from 0, and so are the calls for a disk; those
-/// that are listed fail.
+/// Files and disks by their names, and doors that are shut. Loads are counted from 0, and so are
+/// the calls for a disk and those for a door; those that are listed fail.
 #[derive(Drop)]
 pub struct MemoryOutside {
     files: BTreeMap<String, Vec<u8>>,
@@ -148,6 +150,10 @@ pub struct MemoryOutside {
     calls: u64,
     failing_loans: Vec<u64>,
     disk_faults: u64,
+    doors: u64,
+    failing_doors: Vec<u64>,
+    door_faults: u64,
+    shut: u64,
     ghost below: { AreBelow (loan_in shelves) calls },
 }
 
@@ -158,6 +164,7 @@ impl MemoryOutside {
         files: BTreeMap<String, Vec<u8>>,
         failing_loads: Vec<u64>,
         failing_loans: Vec<u64>,
+        failing_doors: Vec<u64>,
     ) -> MemoryOutside
         ensures value { ⟦<MemoryOutside as Outside>⟧.outside result ≡ record {
           file = λ name. told_by (option_map (λ bytes. bytes.items) (get_by_text files name));
@@ -165,11 +172,15 @@ impl MemoryOutside {
           loan = λ name. None;
           faults = 0;
           disk_faults = 0;
+          door_faults = 0;
+          shut = 0;
         } }
         ensures loads { ⟦<MemoryOutside as Outside>⟧.failing_loads result
             ≡ Some (record { next = 0; listed = failing_loads.items }) }
         ensures loans { ⟦<MemoryOutside as Outside>⟧.failing_loans result
             ≡ Some (record { next = 0; listed = failing_loans.items }) }
+        ensures doors { ⟦<MemoryOutside as Outside>⟧.failing_doors result
+            ≡ Some (record { next = 0; listed = failing_doors.items }) }
     {
         MemoryOutside {
             files,
@@ -180,30 +191,29 @@ impl MemoryOutside {
             calls: 0,
             failing_loans,
             disk_faults: 0,
+            doors: 0,
+            failing_doors,
+            door_faults: 0,
+            shut: 0,
         }
     }
 }
 
 impl Outside for MemoryOutside {
+    ghost use Rattle.storyhost.specs.Files.{Closes, KeepsDisks, KeepsFiles};
+    ghost use Rattle.storyhost.specs.Outsides.{memory_state, loads_due, loans_due, doors_due};
+
     type Disk = MemDisk;
 
-    ghost outside = { λ o. record {
-      file = λ name. told_by (option_map (λ bytes. bytes.items) (get_by_text o.files name));
-      disk = disk_in o.shelves;
-      loan = loan_in o.shelves;
-      faults = o.faults;
-      disk_faults = o.disk_faults;
-    } };
+    type Door = MemoryDoor;
 
-    ghost failing_loads = { λ o. Some (record {
-      next = o.loads;
-      listed = o.failing_loads.items;
-    }) };
+    ghost outside = { memory_state };
 
-    ghost failing_loans = { λ o. Some (record {
-      next = o.calls;
-      listed = o.failing_loans.items;
-    }) };
+    ghost failing_loads = { loads_due };
+
+    ghost failing_loans = { loans_due };
+
+    ghost failing_doors = { doors_due };
 
     fn load(&mut self, alloc: Global, name: &str) -> Result<Vec<u8>, Fetch> {
         let call = self.loads;
@@ -247,6 +257,30 @@ impl Outside for MemoryOutside {
         match self.shelves.get_mut(name) {
             Some(shelf) => shelf.take_back(disk, &mut self.disk_faults),
             None => unreachable!("its disk is lent"),
+        }
+    }
+
+    fn door(&mut self, _port: u16, _links: u32) -> Result<MemoryDoor, Failed> {
+        let call = self.doors;
+        self.doors = call.saturating_add(1);
+        if self.failing_doors.contains(&call) {
+            self.door_faults = self.door_faults.saturating_add(1);
+            return Err(Failed);
+        }
+        Ok(MemoryDoor::new())
+    }
+
+    fn closed(&mut self, how: Worked<MemoryDoor>)
+        ensures value { Closes how (memory_state self.old) (memory_state self.new) }
+        ensures others { (loads_due self.new ≡ loads_due self.old)
+            × (loans_due self.new ≡ loans_due self.old)
+            × (doors_due self.new ≡ doors_due self.old) }
+        ensures files { KeepsFiles (memory_state self.old) (memory_state self.new) }
+        ensures disks { KeepsDisks (memory_state self.old) (memory_state self.new) }
+    {
+        match how {
+            Worked::Shut(_) => self.shut = self.shut.saturating_add(1),
+            Worked::DoorFault(_) => self.door_faults = self.door_faults.saturating_add(1),
         }
     }
 }

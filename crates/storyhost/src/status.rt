@@ -1,7 +1,7 @@
 //! Exit statuses.
 ghost use Rattle.std.specs.Prelude.{◌≡◌, Some};
 
-use host_serve::Served;
+use host_serve::{Door, Served, Worked};
 use line_talk::{Ended, Stop};
 
 /// How the program ends.
@@ -23,13 +23,15 @@ pub enum Status {
     NoMemory,
     /// What the folder holds is refused, and a line says why.
     BadFolder,
+    /// A door failed, or the call that gives it.
+    DoorFault,
     /// A connection's limit of lines or bytes was reached.
     LineLimit,
 }
 
 impl Status {
     ghost use Rattle.storyhost.specs.Status.{status_of, status_of_end, status_of_stop};
-    ghost use Rattle.storyhost.specs.Status.{status_of_served};
+    ghost use Rattle.storyhost.specs.Status.{status_of_served, status_of_worked};
 
     /// That of a conversation.
     pub fn of_end(ended: Ended) -> Status
@@ -57,6 +59,16 @@ impl Status {
         }
     }
 
+    /// That of the work at a door.
+    pub fn of_worked<O: Door>(how: &Worked<O>) -> Status
+        ensures { result ≡ status_of_worked how.now }
+    {
+        match how {
+            Worked::Shut(_) => Status::Done,
+            Worked::DoorFault(_) => Status::DoorFault,
+        }
+    }
+
     /// That of a text that was not written whole.
     pub fn of_stop(stop: Stop) -> Status
         ensures { result ≡ status_of_stop stop }
@@ -77,6 +89,7 @@ impl Status {
             Status::DiskFault => 6,
             Status::NoMemory => 7,
             Status::BadFolder => 8,
+            Status::DoorFault => 9,
             Status::LineLimit => 10,
         }
     }

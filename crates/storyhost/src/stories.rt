@@ -1,7 +1,7 @@
 //! The stories that a command names.
 ghost use Rattle.std.specs.Prelude.{◌≡◌, ◌≤◌, map, Ok, IfOk, IfErr, IsErrOf};
 ghost use Rattle.line_talk.specs.Causes.{Rose};
-ghost use Rattle.storyhost.specs.Files.{KeepsDisks};
+ghost use Rattle.storyhost.specs.Files.{KeepsDisks, KeepsDoors};
 ghost use Rattle.storyhost.specs.Stories.{AreFiles, IsSettled, Refuses, StopsBehind, stories_of};
 
 use crate::outside::{Fetch, Outside};
@@ -39,6 +39,7 @@ pub fn load_files<O: Outside>(
         → Rose (O.outside outside.old).faults (O.outside outside.new).faults }
     ensures kept { (O.outside outside.new).file ≡ (O.outside outside.old).file }
     ensures disks { KeepsDisks (O.outside outside.old) (O.outside outside.new) }
+    ensures doors { KeepsDoors (O.outside outside.old) (O.outside outside.new) }
     ensures later { (O.outside outside.old).faults ≤ (O.outside outside.new).faults }
 {
     let mut files = Vec::new(alloc);

@@ -18,6 +18,7 @@ use crate::outside::{Fetch, Outside};
 use crate::pipe::pipe;
 use crate::refuse::refuse;
 use crate::run::run;
+use crate::serve::serve;
 use crate::status::Status;
 use crate::stories::{Unplayed, load_files, stories_of};
 use crate::words::{Action, command_of};
@@ -30,7 +31,7 @@ use std::thread::Threads;
 const ROOM: usize = 4096;
 
 /// Does what the action does over the stories of files.
-fn act<R: Wait, O: Outside, S: Source, K: Sink>(
+fn act<R: Threads + Wait + Sync, O: Outside, S: Source, K: Sink>(
     rt: &R,
     alloc: Global,
     command: &Command<'_>,
@@ -77,13 +78,19 @@ fn act<R: Wait, O: Outside, S: Source, K: Sink>(
             let folder = command.folder;
             pipe(rt, alloc, &stories, budget, folder, outside, input, output)
         }
+        Action::Serve(serving) => {
+            let folder = command.folder;
+            serve(
+                rt, alloc, &stories, budget, folder, serving, outside, output,
+            )
+        }
         Action::Help(topic) => say_once(help_text(topic).as_bytes(), output),
         Action::Version => say_once(VERSION_TEXT.as_bytes(), output),
     }
 }
 
 /// Does what a command asks for.
-fn follow<R: Wait, O: Outside, S: Source, K: Sink>(
+fn follow<R: Threads + Wait + Sync, O: Outside, S: Source, K: Sink>(
     rt: &R,
     alloc: Global,
     command: Command<'_>,
@@ -178,6 +185,8 @@ pub fn top<R: Threads + Wait + Sync, O: Outside, S: Source, K: Sink>(
     ensures disk_fault { result ≡ 6
         → Rose (O.outside outside.old).disk_faults (O.outside outside.new).disk_faults
         × Wrote (K.sink output.old) (K.sink output.new) [] }
+    ensures door_fault { result ≡ 9
+        → Rose (O.outside outside.old).door_faults (O.outside outside.new).door_faults }
     ensures kept { (O.outside outside.new).file ≡ (O.outside outside.old).file }
 {
     let command = match command_of(alloc, words) {

@@ -1,30 +1,37 @@
 //! What the words of the command line ask for.
-ghost use Rattle.std.specs.Prelude.{◌≡◌, IfOk, IfSome, Some, map, option_and_then, string_bytes};
+ghost use Rattle.std.specs.Prelude.{◌≡◌, IfOk, IfSome, Some, codes, map, option_and_then};
+ghost use Rattle.std.specs.Prelude.{string_bytes};
 ghost use Rattle.std.specs.Option.{option_map};
 ghost use Rattle.clap.specs.Matches.{found_of};
 ghost use Rattle.clap.specs.Simple.{subcommand_rows_of};
 ghost use Rattle.clap.specs.Walk.{first_of, rows_of};
-ghost use Rattle.gate_journal.specs.Command.{IsBudget};
 ghost use Rattle.storyhost.specs.Help.{topic_named, topic_of};
-ghost use Rattle.storyhost.specs.Words.{asked, asked_by, asked_in, asked_on, asked_with};
-ghost use Rattle.storyhost.specs.Words.{budget_given, folder_in};
-ghost use Rattle.storyhost.specs.Words.{budget_of, shown_by, showing};
+ghost use Rattle.storyhost.specs.Numbers.{IsWorkerCount};
+ghost use Rattle.storyhost.specs.Serving.{HasWorkers, port_in, serving_in, workers_in};
+ghost use Rattle.storyhost.specs.Words.{asked, asked_by, asked_in, asked_on, asked_serving};
+ghost use Rattle.storyhost.specs.Words.{asked_with, folder_in, shown_by, showing};
 
 use crate::command::Command;
 use crate::command_line::storyhost;
 use crate::help::Topic;
+use crate::numbers::{BUDGET, budget_given, links_given, port_of, workers_of};
 use clap::ArgMatches;
 use clap::error::ErrorKind;
 use std::alloc::{AllocError, Global};
 
-/// The budget of a turn unless set, in ticks.
-const BUDGET: u64 = 50_000_000;
-
-/// The greatest budget of a turn, in ticks.
-const MOST_BUDGET: u64 = 1_000_000_000_000;
-
 /// The most stories of a command.
 const MOST_STORIES: usize = 64;
+
+/// How links are served.
+#[derive(Clone, Copy, Debug, PartialEq, Eq)]
+pub struct Serving {
+    /// The port of this machine, or 0 for one that is free.
+    pub port: u16,
+    /// How many workers serve.
+    pub workers: u8,
+    /// After how many links no more are taken.
+    pub links: u32,
+}
 
 /// What the program does.
 #[derive(Clone, Copy, Debug, PartialEq, Eq)]
@@ -37,47 +44,74 @@ pub enum Action {
     Init,
     /// Answers the numbered requests of one connection, from the journal of a folder.
     Pipe,
+    /// Answers the numbered requests of links to a port, from the journal of a folder.
+    Serve(Serving),
     /// Shows help.
     Help(Topic),
     /// Shows the program's version.
     Version,
 }
 
-/// The budget that a word spells.
-fn budget_of(word: &str) -> Option<u64>
-    ensures value { result ≡ budget_of word.now }
-    ensures range { IfSome result IsBudget }
+/// The first word that is given for an argument.
+fn word_given<'w>(matches: &ArgMatches<'w>, id: &str) -> Option<&'w str>
+    ensures { option_map (λ w. w.now) result
+        ≡ first_of id.now (rows_of (found_of matches.now)) }
 {
-    let [b'1'..=b'9', ..] = word.as_bytes() else {
-        return None;
-    };
-    match word.parse::<u64>() {
-        Ok(budget) if budget <= MOST_BUDGET => Some(budget),
-        Ok(_) => None,
-        Err(_) => None,
-    }
-}
-
-/// The budget that is given, or the usual one.
-fn budget_given(word: Option<&str>) -> Option<u64>
-    ensures value { result ≡ budget_given (option_map (λ w. w.now) word.entry) }
-    ensures range { IfSome result IsBudget }
-{
-    match word {
-        Some(word) => budget_of(word),
-        None => Some(BUDGET),
-    }
+    matches.get_str(id)
 }
 
 /// The folder that is given.
 fn folder_in<'w>(matches: &ArgMatches<'w>) -> Option<&'w str>
     ensures { option_map (λ f. f.now) result ≡ folder_in (rows_of (found_of matches.now)) }
 {
-    matches.get_str("DIR")
+    word_given(matches, "DIR")
+}
+
+/// The port that is given.
+fn port_in(matches: &ArgMatches<'_>) -> Option<u16>
+    ensures { result ≡ port_in (rows_of (found_of matches.now)) }
+{
+    match word_given(matches, "PORT") {
+        Some(word) => port_of(word),
+        None => None,
+    }
+}
+
+/// The number of workers that is given.
+fn workers_in(matches: &ArgMatches<'_>) -> Option<u8>
+    ensures value { result ≡ workers_in (rows_of (found_of matches.now)) }
+    ensures range { IfSome result IsWorkerCount }
+{
+    match word_given(matches, "WORKERS") {
+        Some(word) => workers_of(word),
+        None => None,
+    }
+}
+
+/// How links are to be served, by what is given.
+fn serving_in(matches: &ArgMatches<'_>) -> Option<Serving>
+    ensures value { result ≡ serving_in (rows_of (found_of matches.now)) }
+    ensures range { IfSome result (λ serving. IsWorkerCount serving.workers) }
+{
+    let Some(port) = port_in(matches) else {
+        return None;
+    };
+    let Some(workers) = workers_in(matches) else {
+        return None;
+    };
+    match links_given(word_given(matches, "links")) {
+        Some(links) => Some(Serving {
+            port,
+            workers,
+            links,
+        }),
+        None => None,
+    }
 }
 
 /// What an action is given: a folder alone.
 fn command_on<'w>(alloc: Global, action: Action, folder: Option<&'w str>) -> Option<Command<'w>>
+    requires workers { HasWorkers action }
     ensures { option_map asked result ≡ asked_on action (option_map (λ f. f.now) folder.entry) }
 {
     match folder {
@@ -99,6 +133,7 @@ fn command_with<'w>(
     files: &str,
     matches: &ArgMatches<'w>,
 ) -> Result<Option<Command<'w>>, AllocError>
+    requires workers { HasWorkers action }
     ensures { IfOk result (λ command. option_map asked command
         ≡ asked_with action (Some folder.now) files.now
         (rows_of (found_of matches.now))) }
@@ -106,7 +141,7 @@ fn command_with<'w>(
     let Some(given) = matches.get_strs(files) else {
         return Ok(None);
     };
-    let Some(budget) = budget_given(matches.get_str("budget")) else {
+    let Some(budget) = budget_given(word_given(matches, "budget")) else {
         return Ok(None);
     };
     if given.len() > MOST_STORIES {
@@ -119,6 +154,38 @@ fn command_with<'w>(
         names,
         budget,
     }))
+}
+
+/// What an action is given: the folder, its stories, and the budget.
+fn command_over<'w>(
+    alloc: Global,
+    action: Action,
+    matches: &ArgMatches<'w>,
+) -> Result<Option<Command<'w>>, AllocError>
+    requires workers { HasWorkers action }
+    ensures { IfOk result (λ command. option_map asked command
+        ≡ asked_with action (folder_in (rows_of (found_of matches.now))) (codes "STORY")
+        (rows_of (found_of matches.now))) }
+{
+    match folder_in(matches) {
+        Some(folder) => command_with(alloc, action, folder, "STORY", matches),
+        None => Ok(None),
+    }
+}
+
+/// What `serve` is given.
+fn command_serving<'w>(
+    alloc: Global,
+    matches: &ArgMatches<'w>,
+) -> Result<Option<Command<'w>>, AllocError>
+    ensures { IfOk result (λ command. option_map asked command
+        ≡ asked_serving (serving_in (rows_of (found_of matches.now)))
+        (rows_of (found_of matches.now))) }
+{
+    match serving_in(matches) {
+        Some(serving) => command_over(alloc, Action::Serve(serving), matches),
+        None => Ok(None),
+    }
 }
 
 /// What a command of the program asks for.
@@ -134,10 +201,8 @@ fn command_in<'w>(
             "run" => command_with(alloc, Action::Run, "", "FILE", given),
             "check" => command_with(alloc, Action::Check, "", "FILE", given),
             "init" => Ok(command_on(alloc, Action::Init, folder_in(given))),
-            "pipe" => match folder_in(given) {
-                Some(folder) => command_with(alloc, Action::Pipe, folder, "STORY", given),
-                None => Ok(None),
-            },
+            "pipe" => command_over(alloc, Action::Pipe, given),
+            "serve" => command_serving(alloc, given),
             _ => Ok(None),
         },
         None => Ok(None),
@@ -153,6 +218,7 @@ fn topic_named(word: &str) -> Topic
         "check" => Topic::Check,
         "init" => Topic::Init,
         "pipe" => Topic::Pipe,
+        "serve" => Topic::Serve,
         _ => Topic::Program,
     }
 }
@@ -167,21 +233,31 @@ fn topic_of(words: &[String]) -> Topic
     }
 }
 
+/// The action that shows a text where `clap` says that one is wanted.
+fn shown_by(topic: Topic, kind: ErrorKind) -> Option<Action>
+    ensures value { result ≡ shown_by topic kind }
+    ensures range { IfSome result HasWorkers }
+{
+    match kind {
+        ErrorKind::DisplayHelp => Some(Action::Help(topic)),
+        ErrorKind::DisplayVersion => Some(Action::Version),
+        _ => None,
+    }
+}
+
 /// The command that shows a text where `clap` says that one is wanted.
 fn command_shown<'w>(alloc: Global, topic: Topic, kind: ErrorKind) -> Option<Command<'w>>
     ensures { option_map asked result ≡ showing (shown_by topic kind) }
 {
-    let action = match kind {
-        ErrorKind::DisplayHelp => Action::Help(topic),
-        ErrorKind::DisplayVersion => Action::Version,
-        _ => return None,
-    };
-    Some(Command {
-        action,
-        folder: "",
-        names: Vec::new(alloc),
-        budget: BUDGET,
-    })
+    match shown_by(topic, kind) {
+        Some(action) => Some(Command {
+            action,
+            folder: "",
+            names: Vec::new(alloc),
+            budget: BUDGET,
+        }),
+        None => None,
+    }
 }
 
 /// What the words after the program's name ask for, or nothing where they aren't taken.

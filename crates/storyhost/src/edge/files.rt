@@ -1,36 +1,41 @@
-//! The files of the system.
+//! The files of the system, and its loopback TCP.
 ghost use Rattle.std.specs.Prelude.{◌≡◌, ℕ, List, None, Some, OnOk, OnErr};
 ghost use Rattle.std.specs.Map.{update};
 ghost use Rattle.std.specs.Str.{bytes_eq};
 ghost use Rattle.std.specs.BTreeMap.{get_by_text};
 ghost use Rattle.storyhost.specs.Files.{Told, AreBelow};
 
+use super::tcp::TcpDoor;
 use crate::loan::Loan;
 use crate::outside::{Fetch, Outside};
-use disk_model::{Disk, FileDisk};
+use disk_model::{Disk, Failed, FileDisk};
+use host_serve::Worked;
 use std::alloc::{AllocError, Global};
 use std::collections::BTreeMap;
 use std::fs::{self, File, OpenOptions};
-use std::io::{self, ErrorKind, Read};
+use std::io::{self, Eprint, ErrorKind, Read};
+use std::net::{Net, TcpListener, TcpStream};
 use std::path::Path;
 use std::rt::Files;
 
 /// The most bytes of a file that a load gives.
 const MOST_OF_FILE: u64 = 67_108_865;
 
-/// The files of the system, and disks on them. Each error counts as a fault, but for want of
-/// memory.
+/// The files of the system, disks on them, and doors on its loopback TCP. Each error counts as a
+/// fault, but for want of memory.
 #[derive(Drop)]
-pub struct SystemFiles<'r, R: Files<File = File>> {
+pub struct SystemFiles<'r, R> {
     rt: &'r R,
     loans: BTreeMap<String, Loan>,
     calls: u64,
     faults: u64,
     disk_faults: u64,
+    door_faults: u64,
+    shut: u64,
     ghost below: { AreBelow (get_by_text loans) calls },
 }
 
-impl<'r, R: Files<File = File>> SystemFiles<'r, R> {
+impl<'r, R> SystemFiles<'r, R> {
     pub fn new(alloc: Global, rt: &'r R) -> SystemFiles<'r, R> {
         SystemFiles {
             rt,
@@ -38,6 +43,8 @@ impl<'r, R: Files<File = File>> SystemFiles<'r, R> {
             calls: 0,
             faults: 0,
             disk_faults: 0,
+            door_faults: 0,
+            shut: 0,
         }
     }
 }
@@ -85,20 +92,24 @@ fn note(
     Ok(())
 }
 
-impl<'r, R: Files<File = File>> Outside for SystemFiles<'r, R> {
+impl<'r, R> Outside for SystemFiles<'r, R>
+where
+    R: Files<File = File> + Net<Listener = TcpListener, Stream = TcpStream> + Eprint,
+{
+    ghost use Rattle.storyhost.specs.Files.{Closes, KeepsDisks, KeepsFiles};
+    ghost use Rattle.storyhost.specs.Outsides.{system_state, none_due};
+
     type Disk = FileDisk;
 
-    ghost outside = { λ o. record {
-      file = λ name. Told.Untold;
-      disk = λ name. Told.Untold;
-      loan = get_by_text o.loans;
-      faults = o.faults;
-      disk_faults = o.disk_faults;
-    } };
+    type Door = TcpDoor;
 
-    ghost failing_loads = { λ _. None };
+    ghost outside = { system_state };
 
-    ghost failing_loans = { λ _. None };
+    ghost failing_loads = { none_due };
+
+    ghost failing_loans = { none_due };
+
+    ghost failing_doors = { none_due };
 
     fn load(&mut self, alloc: Global, name: &str) -> Result<Vec<u8>, Fetch> {
         let mut bytes = Vec::new(alloc);
@@ -153,6 +164,37 @@ impl<'r, R: Files<File = File>> Outside for SystemFiles<'r, R> {
         match self.loans.get_mut(name) {
             Some(loan) => loan.end(disk.faults(), &mut self.disk_faults),
             None => unreachable!("the disk is lent"),
+        }
+    }
+
+    fn door(&mut self, port: u16, links: u32) -> Result<TcpDoor, Failed> {
+        match TcpDoor::open(self.rt, port, links) {
+            Ok(door) => {
+                let port = door.port();
+                // Where standard error fails, too, nobody is left to be told.
+                let _ = self
+                    .rt
+                    .eprintln(format_args!("storyhost: serving on 127.0.0.1:{port}"));
+                Ok(door)
+            }
+            Err(_) => {
+                self.door_faults = self.door_faults.saturating_add(1);
+                Err(Failed)
+            }
+        }
+    }
+
+    fn closed(&mut self, how: Worked<TcpDoor>)
+        ensures value { Closes how (system_state self.old) (system_state self.new) }
+        ensures others { (none_due self.new ≡ none_due self.old)
+            × (none_due self.new ≡ none_due self.old)
+            × (none_due self.new ≡ none_due self.old) }
+        ensures files { KeepsFiles (system_state self.old) (system_state self.new) }
+        ensures disks { KeepsDisks (system_state self.old) (system_state self.new) }
+    {
+        match how {
+            Worked::Shut(_) => self.shut = self.shut.saturating_add(1),
+            Worked::DoorFault(_) => self.door_faults = self.door_faults.saturating_add(1),
         }
     }
 }

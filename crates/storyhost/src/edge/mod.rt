@@ -1,7 +1,8 @@
-//! The system's files and standard streams: what is trusted, since nothing is told of their
-//! content.
+//! The system's files, standard streams and loopback TCP: what is trusted, since nothing is told of
+//! their content.
 mod files;
 mod reading;
+mod tcp;
 mod writing;
 
 pub use files::SystemFiles;

@@ -32,7 +32,13 @@ fn pipe_over<R: Threads + Wait + Sync>(
     for word in ["pipe", "d", "a.ulx"] {
         words.push(String::from_str(alloc, word)?)?;
     }
-    let mut outside = MemoryOutside::new(alloc, files, Vec::new(alloc), Vec::new(alloc));
+    let mut outside = MemoryOutside::new(
+        alloc,
+        files,
+        Vec::new(alloc),
+        Vec::new(alloc),
+        Vec::new(alloc),
+    );
     outside.hold(alloc, "d/journal", disk)?;
     let mut input = MemorySource::new(input.to_vec(alloc)?, 4096, Vec::new(alloc));
     let mut output = MemorySink::new(alloc, 4096, Vec::new(alloc));

@@ -2,6 +2,7 @@
 
 mod faults;
 mod journal;
+mod serving;
 
 use crate::memory_outside::MemoryOutside;
 use crate::top::top;
@@ -137,6 +138,7 @@ fn ends_as_wanted<R: Threads + Wait + Sync>(
         files,
         run.loads.to_vec(alloc)?,
         run.loans.to_vec(alloc)?,
+        Vec::new(alloc),
     );
     let Some(disk) = new_journal(alloc) else {
         return Ok(false);

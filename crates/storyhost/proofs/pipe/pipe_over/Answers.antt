@@ -28,7 +28,7 @@ returns-clause-value g c =
       c.answer_lines-served.result,
       c.of_served.ensures,
       conversed _ c.args.disk c.end-disk.result c.args.stories.now c.args.budget c.in-Ok.ensures.ok.0 _ _ _ c.in-Ok.ensures.ok.3
-          c.answer_lines-served.ensures.holders c.end-disk.ensures.value c.answer_lines-served.result c.answer_lines-served.ensures.value c.in-Ok.ensures.ok.2,
+          c.end-disk.ensures.value c.answer_lines-served.ensures.holders c.answer_lines-served.result c.answer_lines-served.ensures.value c.in-Ok.ensures.ok.2,
     )
 
 pub returns-clause-kept : goal.returns-clause-kept
@@ -44,4 +44,4 @@ returns-clause-kept g c =
       room = g.D.Disk.room;
       label = g.D.Disk.label;
     }) c.args.disk c.end-disk.result c.args.stories.now c.args.budget c.in-Ok.ensures.ok.0 _ _ _ c.in-Ok.ensures.ok.3
-    c.answer_lines-served.ensures.holders c.end-disk.ensures.value
+    c.end-disk.ensures.value

@@ -1,7 +1,7 @@
 use Rattle.std.proofs.Common.{◌∙◌, ap, sym, arith, inr, is_ok, map, List, ℕ}
 use Rattle.std.proofs.lemmas.List.{length-map}
 use Rattle.storyhost.specs.StoryFile.{story_of}
-use Rattle.storyhost.proofs.BorrowLemmas.{keeps_then}
+use Rattle.storyhost.proofs.BorrowLemmas.{doors_then, keeps_then}
 use Rattle.storyhost.proofs.StoriesLemmas.{any_error, loaded_more, loaded_last, loaded_story}
 use Rattle.storyhost.proofs.stories.load_files.Goals as goal
 
@@ -20,6 +20,7 @@ loop-name-preserved g c = record {
   kept = c.in_ok-bytes.ensures.kept ∙ c.loop-name.invariant.kept;
   later = omega (arith, c.in_ok-bytes.ensures.later);
   disks = keeps_then c.loop-name.invariant.disks c.in_ok-bytes.ensures.disks;
+  doors = doors_then c.loop-name.invariant.doors c.in_ok-bytes.ensures.doors;
 }
 
 pub returns-in_err-bytes-clause-behind : goal.returns-in_err-bytes-clause-behind

@@ -1,5 +1,5 @@
 use Rattle.std.proofs.Common.{◌≡◌, ◌≤◌, map, length, IsOk}
-use Rattle.storyhost.specs.Files.{KeepsDisks}
+use Rattle.storyhost.specs.Files.{KeepsDisks, KeepsDoors}
 use Rattle.storyhost.specs.Stories.{AreFiles, stories_of}
 use Rattle.storyhost.proofs.stories.load_files.Given as goal
 
@@ -10,5 +10,6 @@ invariant-loop-name g l = record {
   count : length l.files.items ≡ l.name-index;
   kept : (g.O.Outside.outside l.outside).file ≡ (g.O.Outside.outside l.initial.outside).file;
   disks : KeepsDisks (g.O.Outside.outside l.initial.outside) (g.O.Outside.outside l.outside);
+  doors : KeepsDoors (g.O.Outside.outside l.initial.outside) (g.O.Outside.outside l.outside);
   later : (g.O.Outside.outside l.initial.outside).faults ≤ (g.O.Outside.outside l.outside).faults;
 }

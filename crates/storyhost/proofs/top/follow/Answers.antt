@@ -8,6 +8,7 @@ returns-clause-done g c = inr (record {
   settled = rw c.deref.ensures.value at c.in-Ok.ensures.settled;
   between = g.O.Outside.outside c.load_files.new.outside;
   loaded = c.load_files.ensures.disks;
+  doors = c.load_files.ensures.doors;
   does = rw c.deref-2.ensures.value at c.act.ensures.value;
   cause = c.act.ensures.read_fault;
 })

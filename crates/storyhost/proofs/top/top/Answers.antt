@@ -1,7 +1,7 @@
 use Rattle.std.proofs.Common.{◌∙◌, ap, map, string_bytes, sym}
 use Rattle.std.specs.Option.{option_map}
 use Rattle.storyhost.specs.Words.{asked, asked_by}
-use Rattle.storyhost.proofs.CauseLemmas.{failed_six, coded_two, coded_four, coded_five}
+use Rattle.storyhost.proofs.CauseLemmas.{failed_six, failed_nine, coded_two, coded_four, coded_five}
 use Rattle.storyhost.proofs.ToldLemmas.{tells, told_no_memory, done_no_memory}
 use Rattle.storyhost.proofs.top.top.Goals as goal
 
@@ -36,6 +36,9 @@ returns-clause-write_fault g c = λ e. c.follow-status.ensures.write_fault (code
 
 pub returns-clause-disk_fault : goal.returns-clause-disk_fault
 returns-clause-disk_fault g c = failed_six _ _ _ _ _ _ _ _ _ _ c.follow-status.ensures.done c.code-2.ensures
+
+pub returns-clause-door_fault : goal.returns-clause-door_fault
+returns-clause-door_fault g c = failed_nine _ _ _ _ _ _ _ _ _ _ c.follow-status.ensures.done c.code-2.ensures
 
 pub returns-clause-kept : goal.returns-clause-kept
 returns-clause-kept g c = c.follow-status.ensures.kept

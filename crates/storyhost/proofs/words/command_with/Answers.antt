@@ -1,12 +1,13 @@
 use Rattle.std.proofs.Common.{◌≡◌, ◌<◌, ◌≤◌, ◌∙◌, ap, refl, arith, List, length, map, Option, None, Some, ℕ, codes, option_map}
 use Rattle.std.proofs.lemmas.Bool.Decides.{nat_tests}
 use Rattle.std.proofs.lemmas.List.{length-map}
-use Rattle.clap.proofs.WalkLemmas.{first_value-rows, raw_values-rows}
-use Rattle.clap.specs.Matches.{first_value, found_of, matched_of, raw_values}
+use Rattle.clap.proofs.WalkLemmas.{raw_values-rows}
+use Rattle.clap.specs.Matches.{found_of, matched_of, raw_values}
 use Rattle.clap.specs.Walk.{Text, all_of, first_of, rows_of}
 use Rattle.clap.specs.declared.parser.matches.Found.{Found}
 use Rattle.std.specs.Borrow.{Bor}
-use Rattle.storyhost.specs.Words.{asked_for, budget_given}
+use Rattle.storyhost.specs.Numbers.{budget_given}
+use Rattle.storyhost.specs.Words.{asked_for}
 use Rattle.storyhost.specs.declared.words.Action.{Action}
 use Rattle.storyhost.proofs.words.command_with.Goals as goal
 
@@ -37,9 +38,9 @@ as_asked action folder names b (Some given) (Some n) e f few =
 files_are : (f : Found) (files : Text) {all : Option (List Text)} → all ≡ option_map raw_values (matched_of f files) → all ≡ all_of files (rows_of f)
 files_are f files e = e ∙ raw_values-rows f files
 
-budget_is : (f : Found) {b : Option ℕ} {word : Option Text} → b ≡ budget_given word → word ≡ first_value f (codes "budget")
+budget_is : (f : Found) {b : Option ℕ} {word : Option Text} → b ≡ budget_given word → word ≡ first_of (codes "budget") (rows_of f)
     → b ≡ budget_given (first_of (codes "budget") (rows_of f))
-budget_is f e w = e ∙ ap budget_given (w ∙ first_value-rows f (codes "budget"))
+budget_is f e w = e ∙ ap budget_given w
 
 pub returns-in_default : goal.returns-in_default
 returns-in_default c =
@@ -51,7 +52,7 @@ pub returns-in_default-budget_given : goal.returns-in_default-budget_given
 returns-in_default-budget_given c =
     let f = found_of c.args.matches.now in
     no_budget c.args.action c.args.folder.now (all_of c.args.files.now (rows_of f)) (budget_given (first_of (codes "budget") (rows_of f)))
-    (budget_is f c.in_default-budget_given.ensures.value c.get_str.ensures)
+    (budget_is f c.in_default-budget_given.ensures.value c.word_given.ensures)
 
 pub returns-then-given-gt-MOST_STORIES : goal.returns-then-given-gt-MOST_STORIES
 returns-then-given-gt-MOST_STORIES c =
@@ -66,5 +67,5 @@ returns c =
     as_asked c.args.action c.args.folder.now (map (λ (s : Bor Text). s.now) c.in_ok-names.names.items) c.in-Some-budget_given.budget
     (all_of c.args.files.now (rows_of f)) (budget_given (first_of (codes "budget") (rows_of f)))
     (ap (λ (l : List (Bor Text)). Some (map (λ (s : Bor Text). s.now) l)) names ∙ files_are f c.args.files.now c.in-Some.ensures)
-    (budget_is f c.in-Some-budget_given.ensures.value c.get_str.ensures)
+    (budget_is f c.in-Some-budget_given.ensures.value c.word_given.ensures)
     (omega (arith, ap (λ (l : List (Bor Text)). length l) names, length-map c.in_ok-names.names.items (λ (s : Bor Text). s.now), c.if-given-gt-MOST_STORIES.false))

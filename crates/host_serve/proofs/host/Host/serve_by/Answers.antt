@@ -1,7 +1,7 @@
 use Rattle.std.proofs.Common.{rules, sym, ◌∙◌}
 use Rattle.host_serve.proofs.PassLemmas.{holders_many, seens_many}
 use Rattle.host_serve.proofs.ToldLemmas.{not_end, read_failed, told_at, told_holders, told_nothing, write_failed}
-use Rattle.host_serve.proofs.host.Host.serve.Goals as goal
+use Rattle.host_serve.proofs.host.Host.serve_by.Goals as goal
 
 pub returns-in_default-clause-value : goal.returns-in_default-clause-value
 returns-in_default-clause-value g c = told_nothing _ _ _

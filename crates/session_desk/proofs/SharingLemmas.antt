@@ -1,0 +1,39 @@
+-- A shared desk may go to another thread where its journal's disk may.
+use denote.RattleType.{RattleType}
+use denote.Ref.{NamedLft}
+use denote.Struct.Declared.{shape}
+use denote.Param.Send.{IsSend, recorded_send, struct_send, sendable, view_send}
+use Rattle.std.proofs.alloc.Global.TheSendSync as global
+use Rattle.std.below.std_heap.proofs.GlobalAllocator.TheSendSync as heap
+use Rattle.std.specs.contracts.vec.Vec as vec_type
+use Rattle.std.specs.contracts.alloc.Global as global_type
+use Rattle.std.specs.contracts.impls.GlobalAllocator.TheImpl as heap_type
+use Rattle.std.proofs.vec.Vec.TheSendSync as vec
+use Rattle.turn_cell.proofs.pass.Pass.TheSendSync as pass_shares
+use Rattle.disk_model.specs.declared.disk.Disk.{Ghosts}
+use Rattle.gate_journal.specs.contracts.entry.Entry as journal_entry
+use Rattle.gate_journal.specs.contracts.journal.Journal as journal
+use Rattle.gate_journal.proofs.history.History.TheSendSync as history
+use Rattle.gate_journal.proofs.room.Room.TheSendSync as room
+use Rattle.gate_journal.proofs.row.Row.TheSendSync as row
+use Rattle.session_desk.specs.contracts.shared.SharedDesk as shared_desk
+use Rattle.session_desk.specs.contracts.shared.SharedDesk.TheInside as inside
+use Rattle.session_desk.specs.contracts.shared.mark.Mark as mark_type
+use Rattle.session_desk.proofs.desk.Desk.TheSendSync as desk
+use Rattle.session_desk.proofs.shared.mark.Mark.TheSendSync as mark
+
+pub journal_send : (T : RattleType) (g : Ghosts T.Denot) → IsSend T → IsSend (journal.the_row T g)
+journal_send T g s =
+    search (sendable, view_send, history.the_send, room.the_send, row.the_send) depth 30
+
+marks_send : IsSend (vec_type.the_field mark_type.the_row global_type.the_row heap_type.ghosts).row
+marks_send = search (sendable, mark.the_send, vec.the_send, global.the_send, heap.the_frees) depth 20
+
+pub inside_send : (κ : NamedLft) (T : RattleType) (g : Ghosts T.Denot) → IsSend T → IsSend (inside.the_row κ T g)
+inside_send κ T g s = recorded_send _ _ _ (inside.the_type κ T g).to_one (struct_send (shape (inside.the_type κ T g)) (
+  desk.the_send κ,
+  (marks_send, (search (sendable, pass_shares.the_field_send, journal_send) depth 20, tt)),
+))
+
+pub desk_send : (κ : NamedLft) (T : RattleType) (g : Ghosts T.Denot) → IsSend T → IsSend (shared_desk.the_row κ T g)
+desk_send κ T g s = view_send (inside.the_row κ T g) _ _ _ _ (inside_send κ T g s)
