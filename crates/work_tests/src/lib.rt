@@ -1,0 +1,11 @@
+//! Workers at a door: what no clause says.
+#![tactic(auto)]
+
+#[cfg(test)]
+mod door;
+#[cfg(test)]
+mod holds;
+#[cfg(test)]
+mod hosts;
+#[cfg(test)]
+mod work;
