@@ -77,7 +77,7 @@ def ground(room, workers):
     def player(s):
         link, window = opened(host, s)
         for n in range(1, TURNS + 1):
-            shown = ask(link, b"LINE %d k %d %s =grind 3 counts" % (s, n, window))
+            shown = ask(link, b"LINE %d k %d %s =grind%%2010" % (s, n, window))
             if not shown.startswith(b"SHOW"):
                 raise SystemExit(f"bench: {shown!r}")
         link[0].close()
