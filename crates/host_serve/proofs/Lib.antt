@@ -3,6 +3,7 @@ pub mod TurnLemmas
 pub mod ExactLemmas
 pub mod ChainLemmas
 pub mod ServesLemmas
+pub mod AloneLemmas
 pub mod PassLemmas
 pub mod ToldLemmas
 pub mod OpeningLemmas

@@ -16,7 +16,8 @@ use Rattle.line_words.specs.Request.{request_of}
 use Rattle.line_words.proofs.WordLaws.{all_digits, digits-decimal, both}
 use Rattle.line_words.proofs.RequestLaws.{prints, request_again}
 use Rattle.story_make.specs.Script.{generator, letters, opening, typed, Place, begun, turned, turns_from, requests, line_of, script_bytes}
-use Rattle.story_make.specs.Laws.{cut, IsReadAsRequests, HasALineEachTurn, TakesAWordATurn, IsLetter, IsNext, AskInOrder, AsksInOrder}
+use Rattle.line_talk.specs.Lines.{lines_from}
+use Rattle.story_make.specs.Laws.{IsReadAsRequests, HasALineEachTurn, TakesAWordATurn, IsLetter, IsNext, AskInOrder, AsksInOrder}
 use Rattle.story_make.proofs.LineLemmas.{AreLetters, letters_are, length-letters, print_typed, print_opening}
 
 -- ---- the words
@@ -131,10 +132,10 @@ letters_no_lf [] h = tt
 letters_no_lf (c ∷ cs) h = (grind (arith, nat_tests, h.0), letters_no_lf cs h.1)
 
 -- the first line of bytes
-cut_line : (before bs rest : List ℕ) → NoLf bs → cut before ((bs ++ 10 ∷ []) ++ rest) ≡ (before ++ bs) ∷ cut [] rest
+cut_line : (before bs rest : List ℕ) → NoLf bs → lines_from before ((bs ++ 10 ∷ []) ++ rest) ≡ (before ++ bs) ∷ lines_from [] rest
 cut_line before [] rest h = rw (append-nil before) refl
 cut_line before (b ∷ bs) rest h =
-    rw h.0 (cut_line (before ++ b ∷ []) bs rest h.1 ∙ ap (λ (t : List ℕ). t ∷ cut [] rest) (append_assoc before (b ∷ []) bs))
+    rw h.0 (cut_line (before ++ b ∷ []) bs rest h.1 ∙ ap (λ (t : List ℕ). t ∷ lines_from [] rest) (append_assoc before (b ∷ []) bs))
 
 -- ---- each line is read as its request
 
@@ -145,7 +146,7 @@ record IsReadBack (request : Request) : Type 0 where
 abbrev some : Request → Option Request
 some request = Some request
 
-read_all : (rs : List Request) → AllByRecursion IsReadBack rs → map request_of (cut [] (flat_map line_of rs)) ≡ map some rs
+read_all : (rs : List Request) → AllByRecursion IsReadBack rs → map request_of (lines_from [] (flat_map line_of rs)) ≡ map some rs
 read_all [] h = refl
 read_all (r ∷ rs) h =
     rw (cut_line [] (print_request r) (flat_map line_of rs) h.0.clean, h.0.again) (ap (λ (t : List (Option Request)). some r ∷ t) (read_all rs h.1))

@@ -5,23 +5,17 @@ use Rattle.std.specs.Prelude.{◌∷◌, ◌++◌, length, map, slice_index, cod
 use Rattle.std.specs.List.{All}
 use Rattle.rand_pcg.specs.Lcg.{advance}
 use Rattle.rand_pcg.specs.Pcg.{multiplier_64, output_xsh_rr}
+use Rattle.line_talk.specs.Lines.{lines}
 use Rattle.line_words.specs.declared.request.Request.{Request}
 use Rattle.line_words.specs.Request.{request_of}
 use Rattle.story_make.specs.Script.{generator, opening, typed, words_of, requests}
 use Rattle.story_make.specs.Script.{script_bytes}
 
--- the lines of bytes without their LF, where these bytes stand before: bytes behind the last LF
--- are no line
-abbrev pub cut : List ℕ → List ℕ → List (List ℕ)
-cut before [] = []
-cut before (byte ∷ bytes) =
-    if byte == 10 then before ∷ cut [] bytes else cut (before ++ byte ∷ []) bytes
-
 -- the bytes of a script, cut into lines, are read as its requests, one by one
 abbrev pub IsReadAsRequests : Type 0
 IsReadAsRequests =
     (number s turns : ℕ) → number < 2 ^ 64 → s < 2 ^ 8 → turns < 2 ^ 32 - 1
-    → map request_of (cut [] (script_bytes number s turns))
+    → map request_of (lines (script_bytes number s turns))
     ≡ map (λ request. Some request) (requests number s turns)
 
 -- a script has a line that opens its session, and one for each turn

@@ -11,7 +11,7 @@ use Rattle.line_talk.specs.Causes.{Rose}
 use Rattle.storyhost.specs.DiskWords.{DiskWords}
 use Rattle.storyhost.specs.Files.{OutsideState}
 use Rattle.storyhost.specs.Follows.{Does, Follows}
-use Rattle.storyhost.specs.LinksServed.{DoorsBy, ServesOver}
+use Rattle.storyhost.specs.LinksServed.{ServesOver}
 use Rattle.storyhost.specs.Piped.{PipesOver}
 use Rattle.storyhost.specs.Said.{SaysFault, SaysLine}
 use Rattle.storyhost.specs.Speech.{Task, Says, Serves, ServesLinks, Begins}
@@ -24,7 +24,7 @@ use Rattle.host_serve.specs.declared.served.Served.TheVariants as served
 use Rattle.line_talk.specs.declared.sink.Stop.{Stop}
 use Rattle.line_talk.specs.declared.sink.Stop.TheVariants as stop
 use Rattle.storyhost.specs.declared.status.Status.{Status}
-use Rattle.storyhost.specs.declared.status.Status.TheVariants.{Done, BadWords, ReadFault, WriteFault, DiskFault, BadFolder, DoorFault}
+use Rattle.storyhost.specs.declared.status.Status.TheVariants.{BadWords, ReadFault, WriteFault, DiskFault, DoorFault}
 
 -- no end of a connection has this status
 no_end : (how : Served) (A : Type 0) → DiskFault ≡ status_of_served how → A

@@ -1,9 +1,9 @@
 -- What `pipe` leaves of its disk, its input and its output, from what its host says as it is opened, serves and ends.
-use Rattle.std.proofs.Common.{◌≡◌, ◌⊎◌, ℕ, ◌+◌, ◌<◌, ◌≤◌, max, List, [], ◌++◌, length, map, take, refl, sym, ap, ◌∙◌, subst, arith, Bool, IsTrue, Option, Some, None}
+use Rattle.std.proofs.Common.{◌≡◌, ◌⊎◌, ℕ, ◌+◌, ◌<◌, ◌≤◌, max, List, ◌++◌, length, map, take, sym, ap, ◌∙◌, subst, Bool, IsTrue, Some}
 use Rattle.std.proofs.lemmas.List.{length-map}
 use Rattle.std.proofs.Math.Seq.{take-append_seam}
 use Rattle.disk_model.specs.Disk.{EachImage, LeavesOnly, SameDisk}
-use Rattle.gate_journal.specs.Log.{IsBetween, IsSinceOpened, Log, MayOpen, MaySpell, Opening, ReachesGate, Rises, kept, rows_found, rows_of}
+use Rattle.gate_journal.specs.Log.{IsBetween, IsSinceOpened, Log, MayOpen, MaySpell, Opening, Rises, kept, rows_found, rows_of}
 use Rattle.gate_journal.proofs.LogLemmas.{rows_of-all}
 use Rattle.gate_journal.proofs.SinceLemmas.{rows_of-append}
 use Rattle.gate_journal.specs.Rows.{SpellsRows, IsJournal, spelled}
@@ -30,7 +30,7 @@ use Rattle.story_run.specs.declared.story.Story.{Story}
 use Rattle.storyhost.specs.Between.{ServesBetween}
 use Rattle.storyhost.specs.DiskWords.{DiskWords}
 use Rattle.storyhost.specs.Piped.{Conversed}
-use Rattle.storyhost.proofs.HostLemmas.{AreMetBy, AreOwn, alone_there, many_histories, met_all, own_all, own_rows}
+use Rattle.host_serve.proofs.AloneLemmas.{AreMetBy, AreOwn, alone_there, many_histories, met_all, own_all, own_rows}
 
 -- what the end of a host says of the disk that it hands back
 abbrev pub EndsOn : {D : Type 0} → DiskWords D → Host D → Passes D → D → Type 0

@@ -20,7 +20,7 @@ use Rattle.clap.specs.declared.error.kind.ErrorKind.{ErrorKind}
 use Rattle.clap.specs.declared.error.kind.ErrorKind.TheVariants as kind
 use Rattle.storyhost.specs.CommandLine.{storyhost_app}
 use Rattle.storyhost.specs.Help.{topic_of}
-use Rattle.storyhost.specs.Words.{asked_after, showing, shown_by}
+use Rattle.storyhost.specs.Words.{asked_after, asked_alone, shown_by}
 use Rattle.storyhost.specs.declared.help.Topic.{Topic}
 use Rattle.storyhost.specs.declared.words.Action.{Action}
 
@@ -240,7 +240,7 @@ alike_faults words = alike_built (built storyhost_app) nothing_held (argument_wo
 
 -- what words ask for that `clap` has something against
 pub asked_shown : (kinds : Kinds) (words : List Text) (topic : Topic) (one : ErrorKind) → Alike kinds → IsAmong one kinds → topic ≡ topic_of words
-    → showing (shown_by topic one) ≡ asked_after kinds words
+    → asked_alone (shown_by topic one) ≡ asked_after kinds words
 asked_shown [] words topic one alike among e = absurd among
 asked_shown (k ∷ ks) words topic one alike among e =
-    ap (λ (t : Topic). showing (shown_by t one)) e ∙ ap showing (alike.same (topic_of words) one among)
+    ap (λ (t : Topic). asked_alone (shown_by t one)) e ∙ ap asked_alone (alike.same (topic_of words) one among)

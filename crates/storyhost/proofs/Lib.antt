@@ -8,6 +8,5 @@ pub mod StopLemmas
 pub mod KindsLemmas
 pub mod OutsideLemmas
 pub mod BorrowLemmas
-pub mod HostLemmas
 pub mod ConversedLemmas
 pub mod LinksLemmas

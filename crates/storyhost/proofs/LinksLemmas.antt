@@ -1,5 +1,5 @@
 -- What `serve` leaves of its disk, its output and its doors, from what its host says as it is opened and ends.
-use Rattle.std.proofs.Common.{◌≡◌, ◌⊎◌, inl, inr, ℕ, ◌+◌, ◌≤◌, max, List, [], ◌∷◌, ◌++◌, length, map, take, refl, sym, ap, ◌∙◌, subst, arith, cond, IsTrue, Option, None, Some, IsSomeAnd, IfSome}
+use Rattle.std.proofs.Common.{◌≡◌, ◌⊎◌, inl, inr, ℕ, ◌≤◌, List, [], ◌∷◌, length, map, refl, sym, ap, ◌∙◌, subst, arith, cond, IsTrue, Option, None, Some, IsSomeAnd, IfSome}
 use Rattle.std.specs.Str.{bytes_eq}
 use Rattle.gate_journal.specs.Log.{rows_of}
 use Rattle.gate_journal.specs.Rows.{SpellsRows}

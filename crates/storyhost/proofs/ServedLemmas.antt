@@ -1,5 +1,5 @@
 -- What `pipe` and `init` write, for a caller who is told the input, what the output holds and the disks.
-use Rattle.std.proofs.Common.{◌≡◌, ℕ, ◌^◌, ◌≤◌, ◌⊎◌, inl, inr, List, [], ◌++◌, length, refl, sym, ap, ◌∙◌, subst, arith, IsTrue, false, Option, Some, None}
+use Rattle.std.proofs.Common.{◌≡◌, ℕ, ◌^◌, ◌≤◌, ◌⊎◌, inl, inr, List, [], ◌++◌, length, refl, sym, ap, ◌∙◌, subst, IsTrue, Option, Some, None}
 use Rattle.std.proofs.lemmas.List.{append-nil}
 use Rattle.std.specs.Io.KnownBytes.{Consumes, IsAtEnd}
 use Rattle.gate_journal.specs.Faults.{Explains}
@@ -7,21 +7,19 @@ use Rattle.gate_journal.specs.declared.fault.InitFault.{InitFault}
 use Rattle.gate_journal.specs.declared.fault.InitFault.TheVariants as begin
 use Rattle.gate_journal.specs.declared.fault.JournalFault.{JournalFault}
 use Rattle.gate_journal.specs.declared.fault.JournalFault.TheVariants as fault
-use Rattle.gate_journal.specs.Faults.{HasCause, HasInitCause}
+use Rattle.gate_journal.specs.Faults.{HasInitCause}
 use Rattle.story_run.specs.declared.story.Story.{Story}
 use Rattle.storyhost.specs.Begun.{InitsOver, SaysRefusal, WritesBegun, ready, not_empty}
 use Rattle.storyhost.specs.LinksServed.{ServesOver, WritesLinks}
-use Rattle.line_talk.specs.Causes.{Rose}
 use Rattle.storyhost.specs.DiskWords.{DiskWords}
-use Rattle.storyhost.specs.Files.{OutsideState, IsLentFrom, Told, Untold, Missing, There}
+use Rattle.storyhost.specs.Files.{IsLentFrom, Told, Untold, Missing, There}
 use Rattle.line_talk.specs.Lines.{lines, talk, IsWithinLimits}
-use Rattle.storyhost.specs.Piped.{PipesOver, NotOpened}
+use Rattle.storyhost.specs.Piped.{PipesOver}
 use Rattle.storyhost.specs.Said.{SaysFault, SaysLine, bad_journal, bad_journal_at}
-use Rattle.storyhost.specs.Served.{BytesHave, WhereTold, AnswersIn, WritesTurns, RefusesJournal, WritesServed}
+use Rattle.storyhost.specs.Served.{WhereTold, AnswersIn, WritesTurns, RefusesJournal, WritesServed}
 use Rattle.storyhost.specs.Status.{status_of_served, status_of_stop}
 use Rattle.line_talk.specs.Streams.{SourceState, SinkState, Wrote}
-use Rattle.line_talk.specs.Talked.{AreFirst}
-use Rattle.line_talk.specs.Writing.{IsPartOf, Stopped}
+use Rattle.line_talk.specs.Writing.{IsPartOf}
 use Rattle.host_serve.specs.Told.{AnsweredOf}
 use Rattle.host_serve.specs.declared.served.Served.{Served}
 use Rattle.host_serve.specs.declared.served.Served.TheVariants as served

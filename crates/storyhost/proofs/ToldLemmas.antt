@@ -6,8 +6,9 @@ use Rattle.story_run.specs.declared.story.Story.{Story}
 use Rattle.storyhost.specs.declared.status.Status.{Status}
 use Rattle.storyhost.specs.declared.status.Status.TheVariants.{Done, BadWords, Refused, ReadFault, WriteFault, DiskFault, NoMemory, BadFolder, DoorFault, LineLimit}
 use Rattle.storyhost.specs.declared.stories.Refusal.{Refusal}
+use Rattle.host_drill.specs.Drill.{drill_text}
 use Rattle.storyhost.specs.declared.words.Action.{Action}
-use Rattle.storyhost.specs.declared.words.Action.TheVariants.{Run, Check, Pipe, Serve, Init, Help, Version}
+use Rattle.storyhost.specs.declared.words.Action.TheVariants.{Run, Check, Pipe, Serve, Drill, Init, Help, Version}
 use Rattle.storyhost.specs.Borrowed.{journal_in}
 use Rattle.storyhost.specs.Files.{OutsideState, Told}
 use Rattle.storyhost.specs.Follows.{Does, Follows, Tells, WritesFor}
@@ -22,7 +23,7 @@ use Rattle.storyhost.specs.Speech.{Task, Says, Serves, ServesLinks, Begins, task
 use Rattle.storyhost.specs.Status.{status_of}
 use Rattle.storyhost.specs.Spoken.{Spoken, Leaves}
 use Rattle.storyhost.specs.Stories.{stories_of}
-use Rattle.line_talk.specs.Streams.{SourceState, SinkState, Wrote}
+use Rattle.line_talk.specs.Streams.{SourceState, SinkState}
 use Rattle.line_talk.proofs.StreamsLemmas.{gave_none, wrote_none}
 use Rattle.line_talk.specs.Talked.{IsReadToEnd}
 use Rattle.storyhost.specs.Words.{Asked}
@@ -95,6 +96,7 @@ steady Check (Ok stories) budget folder = steady_check (slice_get stories 0)
 steady Pipe (Ok stories) budget folder = tt
 steady (Serve serving) (Ok stories) budget folder = tt
 steady Init (Ok stories) budget folder = tt
+steady (Drill number) (Ok stories) budget folder = steady_once (drill_text number)
 steady (Help topic) (Ok stories) budget folder = steady_once (help_text topic)
 steady Version (Ok stories) budget folder = steady_once version_text
 steady action (Err refusal) budget folder = tt

@@ -18,6 +18,10 @@ port_rule = record (new_rule (codes "PORT")) { required = true }
 abbrev pub workers_rule : Rule
 workers_rule = record (new_rule (codes "WORKERS")) { required = true }
 
+-- N
+abbrev pub number_rule : Rule
+number_rule = record (new_rule (codes "N")) { required = true }
+
 -- STORY.., one or more
 abbrev pub stories_rule : Rule
 stories_rule = record (new_rule (codes "STORY")) { required = true; action = Some Append }
@@ -56,6 +60,10 @@ served_app =
 abbrev pub serve_app : App
 serve_app = with_rule (with_rule (with_rule served_app stories_rule) budget_rule) links_rule
 
+-- `drill N`
+abbrev pub drill_app : App
+drill_app = with_rule (new_app (codes "drill")) number_rule
+
 -- the program, with a version, which does nothing but by one of its commands
 abbrev pub bare_app : App
 bare_app = on_top (λ s. record s {
@@ -69,8 +77,10 @@ bare_app = on_top (λ s. record s {
 abbrev pub solo_app : App
 solo_app = with_subcommand (with_subcommand bare_app run_app.top) check_app.top
 
+-- with these and the commands over a folder and one connection
+abbrev pub folder_app : App
+folder_app = with_subcommand (with_subcommand solo_app init_app.top) pipe_app.top
+
 -- `storyhost` with its commands
 abbrev pub storyhost_app : App
-storyhost_app =
-    with_subcommand (with_subcommand (with_subcommand solo_app init_app.top) pipe_app.top)
-    serve_app.top
+storyhost_app = with_subcommand (with_subcommand folder_app serve_app.top) drill_app.top

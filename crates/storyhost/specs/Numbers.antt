@@ -42,6 +42,10 @@ workers_of word = number_within 1 16 word
 abbrev pub IsWorkerCount : ℕ → Type 0
 IsWorkerCount workers = (1 ≤ workers) × (workers ≤ 16)
 
+-- the number of a drill that a word spells: 0 to 18,446,744,073,709,551,615
+abbrev pub drill_number_of : Text → Option ℕ
+drill_number_of word = number_within 0 18446744073709551615 word
+
 -- the number of links that a word spells: 1 to 4,294,967,295
 abbrev pub links_of : Text → Option ℕ
 links_of word = number_within 1 4294967295 word

@@ -1,6 +1,7 @@
 -- What each command does (own).
 use Rattle.std.specs.Prelude.{ℕ, List, [], slice_get, true, Option, None, Some, Result, Ok}
 use Rattle.std.specs.Prelude.{Err}
+use Rattle.host_drill.specs.Drill.{drill_text}
 use Rattle.story_run.specs.Solo.{is_over}
 use Rattle.story_run.specs.declared.story.Story.{Story}
 use Rattle.storyhost.specs.CheckText.{good_line}
@@ -11,7 +12,7 @@ use Rattle.storyhost.specs.StoryFile.{bad_line}
 use Rattle.storyhost.specs.declared.stories.Refusal.{Refusal}
 use Rattle.storyhost.specs.declared.words.Action.{Action}
 use Rattle.storyhost.specs.declared.words.Action.TheVariants.{Run, Check, Pipe, Init, Help}
-use Rattle.storyhost.specs.declared.words.Action.TheVariants.{Serve, Version}
+use Rattle.storyhost.specs.declared.words.Action.TheVariants.{Serve, Drill, Version}
 
 -- one text, whatever the input
 abbrev pub said_once : List ℕ → Speech
@@ -46,6 +47,7 @@ task_of Check stories budget folder = Says (check_speech (slice_get stories 0))
 task_of Pipe stories budget folder = Serves stories budget folder
 task_of (Serve serving) stories budget folder = ServesLinks folder
 task_of Init stories budget folder = Begins folder
+task_of (Drill number) stories budget folder = Says (said_once (drill_text number))
 task_of (Help topic) stories budget folder = Says (said_once (help_text topic))
 task_of Version stories budget folder = Says (said_once version_text)
 

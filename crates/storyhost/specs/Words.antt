@@ -1,6 +1,6 @@
 -- What the words of the command line ask for (own).
 use Rattle.std.specs.Prelude.{ℕ, if◌then◌else◌, List, [], ◌∷◌, length, map}
-use Rattle.std.specs.Prelude.{nat_le, option_and_then, Option, None, Some, codes}
+use Rattle.std.specs.Prelude.{nat_le, option_and_then, option_map, Option, None, Some, codes}
 use Rattle.std.specs.Str.{bytes_eq}
 use Rattle.clap.specs.Faults.{fault_of}
 use Rattle.clap.specs.Kinds.{Kinds}
@@ -10,12 +10,12 @@ use Rattle.clap.specs.declared.error.kind.ErrorKind.{ErrorKind}
 use Rattle.clap.specs.declared.error.kind.ErrorKind.TheVariants.{DisplayHelp, DisplayVersion}
 use Rattle.storyhost.specs.CommandLine.{storyhost_app}
 use Rattle.storyhost.specs.Help.{topic_of}
-use Rattle.storyhost.specs.Numbers.{budget_given}
+use Rattle.storyhost.specs.Numbers.{budget_given, drill_number_of}
 use Rattle.storyhost.specs.Serving.{serving_in}
 use Rattle.storyhost.specs.declared.help.Topic.{Topic}
 use Rattle.storyhost.specs.declared.words.Action.{Action}
 use Rattle.storyhost.specs.declared.words.Action.TheVariants.{Run, Check, Pipe, Init, Help}
-use Rattle.storyhost.specs.declared.words.Action.TheVariants.{Serve, Version}
+use Rattle.storyhost.specs.declared.words.Action.TheVariants.{Serve, Drill, Version}
 use Rattle.storyhost.specs.declared.words.Serving.{Serving}
 use Rattle.storyhost.specs.declared.command.Command.{Command}
 
@@ -67,6 +67,17 @@ asked_serving None rows = None
 asked_serving (Some serving) rows =
     asked_with (Serve serving) (folder_in rows) (codes "STORY") rows
 
+-- an action that needs neither a folder nor files
+abbrev pub asked_alone : Option Action → Option Asked
+asked_alone None = None
+asked_alone (Some action) =
+    Some (record { action = action; folder = []; names = []; budget = 50000000 })
+
+-- the drill of the number that is given
+abbrev pub drill_in : List Row → Option Action
+drill_in rows =
+    option_map Drill (option_and_then drill_number_of (first_of (codes "N") rows))
+
 -- what a command of the program asks for, by its name and what it is given
 abbrev pub asked_in : Text × List Row → Option Asked
 asked_in given =
@@ -77,7 +88,8 @@ asked_in given =
     (if bytes_eq given.0 (codes "pipe")
     then asked_with Pipe (folder_in given.1) (codes "STORY") given.1 else
     (if bytes_eq given.0 (codes "serve")
-    then asked_serving (serving_in given.1) given.1 else None))))
+    then asked_serving (serving_in given.1) given.1 else
+    (if bytes_eq given.0 (codes "drill") then asked_alone (drill_in given.1) else None)))))
 
 -- the action that shows a text where `clap` says that one is wanted
 abbrev pub shown_by : Topic → ErrorKind → Option Action
@@ -85,16 +97,10 @@ shown_by topic DisplayHelp = Some (Help topic)
 shown_by topic DisplayVersion = Some Version
 shown_by topic kind = None
 
--- a text is shown without files
-abbrev pub showing : Option Action → Option Asked
-showing None = None
-showing (Some action) =
-    Some (record { action = action; folder = []; names = []; budget = 50000000 })
-
 -- what words ask for, by what `clap` has against them
 abbrev pub asked_after : Kinds → List Text → Option Asked
 asked_after [] words = option_and_then asked_in (subcommand_of storyhost_app words)
-asked_after (kind ∷ more) words = showing (shown_by (topic_of words) kind)
+asked_after (kind ∷ more) words = asked_alone (shown_by (topic_of words) kind)
 
 -- what words ask for, where they are taken
 abbrev pub asked_by : List Text → Option Asked

@@ -2,9 +2,9 @@
 ghost use Rattle.std.specs.Prelude.{◌≡◌, IfOk, false};
 ghost use Rattle.clap.specs.Simple.{app_of};
 ghost use Rattle.clap.specs.declared.builder.command.Command.TheViews.{out-Command as fields_of};
-ghost use Rattle.storyhost.specs.CommandLine.{bare_app, check_app, init_app, pipe_app, run_app};
-ghost use Rattle.storyhost.specs.CommandLine.{serve_app, served_app, solo_app};
-ghost use Rattle.storyhost.specs.CommandLine.{storyhost_app};
+ghost use Rattle.storyhost.specs.CommandLine.{bare_app, check_app, drill_app, folder_app};
+ghost use Rattle.storyhost.specs.CommandLine.{init_app, pipe_app, run_app, serve_app};
+ghost use Rattle.storyhost.specs.CommandLine.{served_app, solo_app, storyhost_app};
 
 use crate::help::VERSION;
 use clap::{Arg, ArgAction, Command};
@@ -81,6 +81,15 @@ fn serve_command<'w>(alloc: Global) -> Result<Command<'w>, AllocError>
     served_command(alloc)?.arg(stories)?.arg(budget)?.arg(links)
 }
 
+/// `drill N`.
+fn drill_command<'w>(alloc: Global) -> Result<Command<'w>, AllocError>
+    ensures app { IfOk result (λ c. app_of c ≡ drill_app) }
+    ensures local { IfOk result (λ c. (fields_of c).has_globals ≡ false) }
+{
+    let number = Arg::new(alloc, "N").required(true);
+    Command::new(alloc, "drill").arg(number)
+}
+
 /// The program without its commands.
 fn bare_command<'w>(alloc: Global) -> Command<'w>
     ensures { app_of result ≡ bare_app }
@@ -101,15 +110,20 @@ fn solo_command<'w>(alloc: Global) -> Result<Command<'w>, AllocError>
     bare_command(alloc).subcommand(run)?.subcommand(check)
 }
 
+/// The program with these and the commands over a folder and one connection.
+fn folder_command<'w>(alloc: Global) -> Result<Command<'w>, AllocError>
+    ensures { IfOk result (λ c. app_of c ≡ folder_app) }
+{
+    let init = init_command(alloc)?;
+    let pipe = pipe_command(alloc)?;
+    solo_command(alloc)?.subcommand(init)?.subcommand(pipe)
+}
+
 /// The program with its commands.
 pub fn storyhost<'w>(alloc: Global) -> Result<Command<'w>, AllocError>
     ensures { IfOk result (λ c. app_of c ≡ storyhost_app) }
 {
-    let init = init_command(alloc)?;
-    let pipe = pipe_command(alloc)?;
     let serve = serve_command(alloc)?;
-    solo_command(alloc)?
-        .subcommand(init)?
-        .subcommand(pipe)?
-        .subcommand(serve)
+    let drill = drill_command(alloc)?;
+    folder_command(alloc)?.subcommand(serve)?.subcommand(drill)
 }

@@ -11,6 +11,7 @@ pub enum Topic {
     Init,
     Pipe,
     Serve,
+    Drill,
 }
 
 /// The version of the program, and the text of `--version`.
@@ -31,6 +32,7 @@ Commands:
   pipe DIR STORY.. [--budget N]    serve up to 64 sessions over one connection
   serve DIR PORT WORKERS STORY.. [--budget N] [--links K]
                                    serve them over TCP, on this machine alone
+  drill N                          play eight sessions by scripts, as a trial
 
   storyhost COMMAND --help         tells more of a command
   storyhost --version              tells the version
@@ -145,6 +147,23 @@ are answered as `pipe` answers those of its input. A link that comes while each
 worker serves one waits. A link that fails ends alone.
 ";
 
+/// What `drill` does.
+pub const DRILL_HELP: &str = "\
+Plays eight sessions of a small story, which only says what it is told, on a
+host that is kept in memory. No file is read or written.
+
+Usage: storyhost drill N
+
+  N             0 to 18446744073709551615; the moves of each session are drawn
+                from it
+
+Each session is opened and given 1000 lines: new moves, repeats, and moves that
+leave a number out. Writes a line for each session, and then the line `done`:
+  S A R H       of session S, A commands were accepted and R lines refused; H is
+                the SHA-256 digest of all replies
+What is written depends on N alone.
+";
+
 /// The text for a topic.
 pub fn help_text(topic: Topic) -> &'static str
     ensures { result.now ≡ help_text topic }
@@ -156,5 +175,6 @@ pub fn help_text(topic: Topic) -> &'static str
         Topic::Init => INIT_HELP,
         Topic::Pipe => PIPE_HELP,
         Topic::Serve => SERVE_HELP,
+        Topic::Drill => DRILL_HELP,
     }
 }

@@ -5,6 +5,7 @@ mod check;
 mod command;
 mod command_line;
 mod complaint;
+mod drill;
 mod edge;
 mod folder;
 mod help;

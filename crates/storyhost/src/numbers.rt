@@ -3,8 +3,8 @@ ghost use Rattle.std.specs.Prelude.{◌≡◌, ◌≤◌, IfSome};
 ghost use Rattle.std.specs.Option.{option_map};
 ghost use Rattle.gate_journal.specs.Command.{IsBudget};
 ghost use Rattle.storyhost.specs.Numbers.{IsWorkerCount, begins_number, budget_given, budget_of};
-ghost use Rattle.storyhost.specs.Numbers.{links_given, links_of, number_within, port_of};
-ghost use Rattle.storyhost.specs.Numbers.{workers_of};
+ghost use Rattle.storyhost.specs.Numbers.{drill_number_of, links_given, links_of};
+ghost use Rattle.storyhost.specs.Numbers.{number_within, port_of, workers_of};
 
 /// The budget of a turn unless set, in ticks.
 pub const BUDGET: u64 = 50_000_000;
@@ -17,6 +17,9 @@ const MOST_PORT: u64 = 65_535;
 
 /// The most workers.
 const MOST_WORKERS: u64 = 16;
+
+/// The greatest number of a drill.
+const MOST_DRILL: u64 = 18_446_744_073_709_551_615;
 
 /// The most links that are taken, and how many unless set.
 const MOST_LINKS: u32 = 4_294_967_295;
@@ -85,6 +88,13 @@ pub fn workers_of(word: &str) -> Option<u8>
         Some(workers) => Some(workers as u8),
         None => None,
     }
+}
+
+/// The number of a drill that a word spells.
+pub fn drill_number_of(word: &str) -> Option<u64>
+    ensures { result ≡ drill_number_of word.now }
+{
+    number_within(word, 0, MOST_DRILL)
 }
 
 /// The number of links that a word spells.

@@ -11,11 +11,11 @@ ghost use Rattle.storyhost.specs.Piped.{PipesOver};
 ghost use Rattle.storyhost.specs.Between.{ServesBetween};
 
 use crate::folder::journal_name;
+use crate::opening::open_host;
 use crate::outside::{Fetch, Outside};
-use crate::say::say_fault;
 use crate::status::Status;
 use disk_model::Disk;
-use host_serve::{Host, NoPause, OpenFault, Passes, Served};
+use host_serve::{Host, NoPause, Passes, Served};
 use line_talk::{Both, Sink, Source};
 use std::alloc::Global;
 use std::sync::Wait;
@@ -81,12 +81,9 @@ fn pipe_over<'i, R: Wait, D: Disk + Drop, S: Source, K: Sink>(
     ensures write_fault { result.0 ≡ Status.WriteFault
         → Rose (K.sink output.old).faults (K.sink output.new).faults }
 {
-    let (host, mut passes) = match Host::open(alloc, stories, disk, budget) {
+    let (host, mut passes) = match open_host(alloc, stories, budget, disk, output) {
         Ok(opened) => opened,
-        Err(OpenFault::Journal(fault, disk)) => {
-            return (say_fault(alloc, fault, output), Some(disk));
-        }
-        Err(OpenFault::NoMemory) => return (Status::NoMemory, None),
+        Err(refusal) => return refusal,
     };
     let served = answer_lines(rt, alloc, &host, &mut passes, input, output);
     let disk = host.end(rt, passes);

@@ -11,6 +11,7 @@ ghost use Rattle.storyhost.specs.Follows.{Does, Follows, Tells};
 
 use crate::check::check;
 use crate::command::Command;
+use crate::drill::drill;
 use crate::help::{VERSION_TEXT, help_text};
 use crate::init::init_folder;
 use crate::once::say_once;
@@ -84,6 +85,7 @@ fn act<R: Threads + Wait + Sync, O: Outside, S: Source, K: Sink>(
                 rt, alloc, &stories, budget, folder, serving, outside, output,
             )
         }
+        Action::Drill(number) => drill(rt, alloc, number, output),
         Action::Help(topic) => say_once(help_text(topic).as_bytes(), output),
         Action::Version => say_once(VERSION_TEXT.as_bytes(), output),
     }

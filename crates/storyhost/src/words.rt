@@ -8,13 +8,13 @@ ghost use Rattle.clap.specs.Walk.{first_of, rows_of};
 ghost use Rattle.storyhost.specs.Help.{topic_named, topic_of};
 ghost use Rattle.storyhost.specs.Numbers.{IsWorkerCount};
 ghost use Rattle.storyhost.specs.Serving.{HasWorkers, port_in, serving_in, workers_in};
-ghost use Rattle.storyhost.specs.Words.{asked, asked_by, asked_in, asked_on, asked_serving};
-ghost use Rattle.storyhost.specs.Words.{asked_with, folder_in, shown_by, showing};
+ghost use Rattle.storyhost.specs.Words.{asked, asked_alone, asked_by, asked_in, asked_on};
+ghost use Rattle.storyhost.specs.Words.{asked_serving, asked_with, drill_in, folder_in, shown_by};
 
 use crate::command::Command;
 use crate::command_line::storyhost;
 use crate::help::Topic;
-use crate::numbers::{BUDGET, budget_given, links_given, port_of, workers_of};
+use crate::numbers::{BUDGET, budget_given, drill_number_of, links_given, port_of, workers_of};
 use clap::ArgMatches;
 use clap::error::ErrorKind;
 use std::alloc::{AllocError, Global};
@@ -46,6 +46,8 @@ pub enum Action {
     Pipe,
     /// Answers the numbered requests of links to a port, from the journal of a folder.
     Serve(Serving),
+    /// Plays eight sessions by the scripts of a number.
+    Drill(u64),
     /// Shows help.
     Help(Topic),
     /// Shows the program's version.
@@ -104,6 +106,36 @@ fn serving_in(matches: &ArgMatches<'_>) -> Option<Serving>
             port,
             workers,
             links,
+        }),
+        None => None,
+    }
+}
+
+/// The drill of the number that is given.
+fn drill_in(matches: &ArgMatches<'_>) -> Option<Action>
+    ensures value { result ≡ drill_in (rows_of (found_of matches.now)) }
+    ensures range { IfSome result HasWorkers }
+{
+    let Some(word) = word_given(matches, "N") else {
+        return None;
+    };
+    match drill_number_of(word) {
+        Some(number) => Some(Action::Drill(number)),
+        None => None,
+    }
+}
+
+/// What an action is given that needs neither a folder nor files.
+fn command_alone<'w>(alloc: Global, action: Option<Action>) -> Option<Command<'w>>
+    requires workers { IfSome action HasWorkers }
+    ensures { option_map asked result ≡ asked_alone action }
+{
+    match action {
+        Some(action) => Some(Command {
+            action,
+            folder: "",
+            names: Vec::new(alloc),
+            budget: BUDGET,
         }),
         None => None,
     }
@@ -203,6 +235,7 @@ fn command_in<'w>(
             "init" => Ok(command_on(alloc, Action::Init, folder_in(given))),
             "pipe" => command_over(alloc, Action::Pipe, given),
             "serve" => command_serving(alloc, given),
+            "drill" => Ok(command_alone(alloc, drill_in(given))),
             _ => Ok(None),
         },
         None => Ok(None),
@@ -219,6 +252,7 @@ fn topic_named(word: &str) -> Topic
         "init" => Topic::Init,
         "pipe" => Topic::Pipe,
         "serve" => Topic::Serve,
+        "drill" => Topic::Drill,
         _ => Topic::Program,
     }
 }
@@ -245,21 +279,6 @@ fn shown_by(topic: Topic, kind: ErrorKind) -> Option<Action>
     }
 }
 
-/// The command that shows a text where `clap` says that one is wanted.
-fn command_shown<'w>(alloc: Global, topic: Topic, kind: ErrorKind) -> Option<Command<'w>>
-    ensures { option_map asked result ≡ showing (shown_by topic kind) }
-{
-    match shown_by(topic, kind) {
-        Some(action) => Some(Command {
-            action,
-            folder: "",
-            names: Vec::new(alloc),
-            budget: BUDGET,
-        }),
-        None => None,
-    }
-}
-
 /// What the words after the program's name ask for, or nothing where they aren't taken.
 pub fn command_of<'w>(alloc: Global, words: &'w [String]) -> Result<Option<Command<'w>>, AllocError>
     ensures { IfOk result (λ command.
@@ -270,7 +289,7 @@ pub fn command_of<'w>(alloc: Global, words: &'w [String]) -> Result<Option<Comma
         Ok(matches) => command_in(alloc, &matches),
         Err(error) => match error.kind() {
             ErrorKind::OutOfMemory => Err(AllocError),
-            kind => Ok(command_shown(alloc, topic_of(words), kind)),
+            kind => Ok(command_alone(alloc, shown_by(topic_of(words), kind))),
         },
     }
 }

@@ -1,10 +1,11 @@
 //! Two workers at a door.
 use crate::door::Lines;
 use crate::holds::{HeldReply, HeldTurn};
-use crate::hosts::{is_answered, opened_for_two, worked};
+use crate::hosts::{is_answered, opened_for_four, opened_for_two, worked};
 use host_serve::{NoPause, Worked};
+use std::sync::atomic::Ordering;
 use std::test::{Fail, *};
-use story_make::echo_story;
+use story_make::{echo_story, script};
 use story_run::Story;
 
 const OPEN: &[u8] = b"OPEN 0 k1 0 7 80 24";
@@ -97,5 +98,31 @@ fn the_other_worker_goes_on_where_the_door_fails_for_one(rt: HostRuntime) -> Res
     let ended = worked(&rt, alloc, &host, one, two, &door, &NoPause);
     assert!(rt; matches!(ended, Worked::DoorFault(())));
     assert!(rt; door.answered(&rt, OPENED) == 2);
+    Ok(())
+}
+
+#[test]
+fn scripts_are_answered_by_four_workers_as_by_two(rt: HostRuntime) -> Result<(), Fail> {
+    let alloc = rt.alloc();
+    let bytes = echo_story(alloc)?;
+    let stories = [Story::of(&bytes).ok().ok_or("a story")?];
+    let mut scripts = Vec::new(alloc);
+    for session in 0..8 {
+        scripts.push(script(alloc, 1, session, 100)?)?;
+    }
+    let mut gives: Vec<Option<&[u8]>> = Vec::new(alloc);
+    for lines in &scripts {
+        gives.push(Some(lines.as_slice()))?;
+    }
+    let (host, one, two) = opened_for_two(alloc, &stories)?;
+    let by_two = Lines::new(alloc, &gives);
+    let ended = worked(&rt, alloc, &host, one, two, &by_two, &NoPause);
+    assert!(rt; matches!(ended, Worked::Shut(())));
+    let (host, mut workers) = opened_for_four(alloc, &stories)?;
+    let by_four = Lines::new(alloc, &gives);
+    let ended = host.work(&rt, alloc, &by_four, &NoPause, &mut workers);
+    assert!(rt; matches!(ended, Worked::Shut(())));
+    assert!(rt; by_two.hung_up.load(Ordering::SeqCst) == 8 && by_two.is_like(&rt, &by_four));
+    assert!(rt; by_four.hung_up.load(Ordering::SeqCst) == 8 && by_four.is_like(&rt, &by_two));
     Ok(())
 }

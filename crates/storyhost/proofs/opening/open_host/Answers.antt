@@ -1,4 +1,3 @@
-use Rattle.std.proofs.Common.{refl}
 use Rattle.line_talk.proofs.StreamsLemmas.{gave_none}
 use Rattle.storyhost.proofs.ConversedLemmas.{may_open_again}
 use Rattle.storyhost.proofs.LinksLemmas.{fault_no_door, fault_not_done}

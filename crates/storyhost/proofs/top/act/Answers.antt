@@ -34,6 +34,10 @@ pub returns-in-Serve-clause-value : goal.returns-in-Serve-clause-value
 returns-in-Serve-clause-value g c =
     rw (c.in-Serve.is, c.in-Ok-stories_of.ensures.ok) (both (c.serve.ensures.value (g.S.Source.source c.args.input.now)) c.serve.ensures.doors)
 
+pub returns-in-Drill-clause-value : goal.returns-in-Drill-clause-value
+returns-in-Drill-clause-value g c =
+    let said = both (c.drill.ensures.value (g.S.Source.source c.args.input.now)) (keeps_none (g.O.Outside.outside c.args.outside.now)) in search (rules)
+
 pub returns-in-Help-clause-value : goal.returns-in-Help-clause-value
 returns-in-Help-clause-value g c =
     let said = both (c.say_once.ensures.value (g.S.Source.source c.args.input.now)) (keeps_none (g.O.Outside.outside c.args.outside.now)) in search (rules)

@@ -8,7 +8,7 @@ use Rattle.clap.specs.Walk.{Text}
 use Rattle.clap.specs.declared.error.kind.ErrorKind.{ErrorKind}
 use Rattle.clap.specs.declared.error.kind.ErrorKind.TheVariants.{OutOfMemory}
 use Rattle.storyhost.specs.CommandLine.{storyhost_app}
-use Rattle.storyhost.specs.Words.{asked_after, asked_in}
+use Rattle.storyhost.specs.Words.{asked_after, asked_alone, asked_in}
 use Rattle.storyhost.proofs.KindsLemmas.{alike_faults, asked_shown}
 use Rattle.storyhost.proofs.words.command_of.Goals as goal
 
@@ -38,5 +38,5 @@ returns c =
     let has : (c.kind.result ≡ OutOfMemory) ⊎ IsAmong c.kind.result (fault_of storyhost_app words)
     = subst (λ (k : ErrorKind). (k ≡ OutOfMemory) ⊎ IsAmong k (fault_of storyhost_app words)) (sym c.kind.ensures)
     (subst (λ (a : App). (kind_of c.in-Err.error ≡ OutOfMemory) ⊎ IsAmong (kind_of c.in-Err.error) (fault_of a words)) app (c.in-Err.ensures.kinds (free _ app))) in
-    c.command_shown.ensures
+    c.command_alone.ensures ∙ ap asked_alone c.shown_by.ensures.value
     ∙ asked_shown (fault_of storyhost_app words) words c.topic_of.result c.kind.result (alike_faults words) (among _ _ has c.in_default.not-OutOfMemory) c.topic_of.ensures

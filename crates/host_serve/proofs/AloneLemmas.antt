@@ -105,7 +105,7 @@ module _ (stories : List Story) (budget : ℕ) where
             ∙ set-get_or old (session_on t.line) []);
       }
 
-  met_one : (old : Histories) (t : Turn) (new : Histories) → length old ≡ 64 → Answers stories budget roots old t new → IsMet old t new
+  pub met_one : (old : Histories) (t : Turn) (new : Histories) → length old ≡ 64 → Answers stories budget roots old t new → IsMet old t new
   met_one old t new wide (inl o) = met_in old t new (holder_at roots t.mark.session) o.after (lone_there t.mark.session o.session.0) o.session.1 o.turn o.seen
   met_one old t new wide (inr n) = elim n.none.2 [
     | inl nowhere ↦ met_nowhere old t new wide nowhere n

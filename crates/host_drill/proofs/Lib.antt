@@ -1,0 +1,5 @@
+pub mod SessionLemmas
+pub mod ScriptLemmas
+pub mod LinkLemmas
+pub mod PlayLemmas
+pub mod OpenLemmas

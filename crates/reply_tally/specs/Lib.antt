@@ -1,0 +1,4 @@
+pub mod ShowLines
+pub mod Refusals
+pub mod Tally
+pub mod Laws
