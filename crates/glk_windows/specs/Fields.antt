@@ -29,7 +29,8 @@ is_ordered t = not (t.next == 0) && ascends number_of 0 t.next t.slots
 abbrev pub is_valid : WindowTree → Bool
 is_valid t =
     is_ordered t
-    && (nat_le (length t.slots) 64 && (are_sound t.slots && (is_one_tree t && are_keyed t.slots (tree_of t))))
+    && (nat_le (length t.slots) 64
+    && (are_sound t.slots && (is_one_tree t && are_keyed t.slots (tree_of t))))
 
 -- one rectangle
 abbrev pub is_same : Area → Area → Bool
