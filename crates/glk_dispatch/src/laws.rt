@@ -1,4 +1,4 @@
-//! What calls keep valid.
+//! Laws of a Glk state: what calls keep valid, and which entries and streams are a window's.
 
 ghost use Rattle.glk_dispatch.specs.Fields.{EntriesFollowWindows, StreamsFollowWindows};
 ghost use Rattle.glk_dispatch.specs.Laws.{CallsKeepValid};
