@@ -19,7 +19,7 @@ abbrev pub request_in : Option WindowInput → Option Request
 request_in None = None
 request_in (Some w) = w.request
 
-request-found : (ws : List WindowInput) (m : ℕ) → request.request_of ws m
+pub request-found : (ws : List WindowInput) (m : ℕ) → request.request_of ws m
     ≡ request_in (found request.number_of ws m)
 unfolding found
 request-found [] m = refl

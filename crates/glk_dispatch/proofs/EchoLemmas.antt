@@ -65,7 +65,7 @@ owner-some (Some s) win e = owner-target s.target win e
     owner-target (to.Memory b l) win e = absurd cc
     owner-target (to.File u n) win e = absurd cc
 
-echo-link : (o : Option Window) → tree.read 0 (λ w. w.echo) o ≡ echo_in (option_map link_of o)
+pub echo-link : (o : Option Window) → tree.read 0 (λ w. w.echo) o ≡ echo_in (option_map link_of o)
 echo-link None = refl
 echo-link (Some w) = refl
 
@@ -78,7 +78,7 @@ pub stream-none : (g : Glk) → AreValid g → ends g 0 ≡ None
 stream-none g v = ap (option_map end_of) (found-low streams.number_of g.streams.streams 0
     g.streams.next 0 (streams-ascend g v) (omega arith))
 
-window-some : (g : Glk) (o : Option ℕ) (n : ℕ) → owner (ends g n) ≡ o
+pub window-some : (g : Glk) (o : Option ℕ) (n : ℕ) → owner (ends g n) ≡ o
     → (o ≡ None → window_of g n ≡ 0) × ((x : ℕ) → o ≡ Some x → window_of g n ≡ x)
 window-some g o n e = (
   λ h. owner-window (streams.stream_at g.streams n) (e ∙ h),
@@ -90,10 +90,10 @@ not-none x h = grind (arith, common_steps, h)
 
 -- the test looks at what the echoes pass
 module _ (g : Glk) (valid : AreValid g) (v : AreLinked (links g) (ends g)) (win : ℕ) where
-  pub follows : ℕ → ℕ
+  unfoldable pub follows : ℕ → ℕ
   follows = next (links g) (ends g)
 
-  pub comes : ℕ → Bool
+  unfoldable pub comes : ℕ → Bool
   comes m = owns win (owner (ends g m))
 
   reaches-on : (k n : ℕ) (o : Option ℕ) → owner (ends g n) ≡ o
@@ -156,8 +156,8 @@ module _ (g : Glk) (valid : AreValid g) (v : AreLinked (links g) (ends g)) (win 
           ap (λ y. is_in (λ (w : Window). w.echo == echo_in y) g.windows.slots) f
           ∙ live-listed g.windows.slots x l f
 
-  all-listed : AreListed follows comes (λ n. is_some (owner (ends g n))) (λ (w : Window). w.echo)
-      g.windows.slots
+  pub all-listed : AreListed follows comes (λ n. is_some (owner (ends g n)))
+      (λ (w : Window). w.echo) g.windows.slots
   unfolding follows comes
   all-listed = record {
     listed = λ n h. echo-listed (owner (ends g n)) n refl h;
@@ -206,7 +206,7 @@ is-same n = grind (arith, common_steps)
 is-other : (m n : ℕ) → m ≢ n → (m == n) ≡ false
 is-other m n h = grind (arith, common_steps, h)
 
-some-stream : (g : Glk) (n : ℕ) → is_some (ends g n) ≡ is_stream g n
+pub some-stream : (g : Glk) (n : ℕ) → is_some (ends g n) ≡ is_stream g n
 some-stream g n = some-of (streams.stream_at g.streams n)
     ∙ sym (has-found streams.number_of g.streams.streams n)
   where

@@ -16,4 +16,7 @@ pub mod KeptWindows
 pub mod KeptStreams
 pub mod KeptEvents
 pub mod KeptCalls
+pub mod NamedLemmas
+pub mod FitLemmas
+pub mod EntryLemmas
 pub mod StandardFacts

@@ -1,6 +1,9 @@
 -- Echoes that come to an end.
-use Rattle.std.proofs.Common.{◌≡◌, ◌≢◌, if◌then◌else◌, ◌⊎◌, inl, inr, ℕ, zero, suc, ◌+◌, ◌≤◌, ◌==◌}
-use Rattle.std.proofs.Common.{◌||◌, Bool, true, false, List, [], ◌∷◌, length, refl, sym, ap, ◌∙◌}
+use native.Mathlib.Numerals.{unary_clauses}
+use Rattle.std.proofs.Common.{◌≡◌, ◌≢◌, if◌then◌else◌, ◌⊎◌, inl, inr, ℕ, zero, suc, ◌+◌, ◌-◌, ◌<◌}
+use Rattle.std.proofs.Common.{◌≤◌}
+use Rattle.std.proofs.Common.{◌==◌, ◌||◌, Bool, true, false, List, [], ◌∷◌, length, refl, sym, ap}
+use Rattle.std.proofs.Common.{◌∙◌}
 use Rattle.std.proofs.Common.{arith}
 use Rattle.std.proofs.lemmas.Grind.{common_steps}
 use Rattle.std.proofs.lemmas.Bool.{cases_Bool}
@@ -305,4 +308,58 @@ module _ {X : Type 0} (f : ℕ → ℕ) (hit own : ℕ → Bool) (echo : X
   passes-within n j ends e = elim (cases_Bool (passes j f hit n)) [
     | inl h ↦ let c : true ≡ false = sym (first-over ends.steps n j ends.over h) ∙ e in absurd cc
     | inr h ↦ h
+  ]
+
+-- ---- echoes that end do so within as many steps as there are windows, and one
+
+pub over-step : (k : ℕ) (f : ℕ → ℕ) (n : ℕ) → 0 < k → n ≢ 0
+    → is_over k f n ≡ is_over (k - 1) f (f n)
+unfolding is_over
+over-step zero f n l h = absurd (omega arith)
+over-step (suc k) f n l h =
+    let other : (n == 0) ≡ false = grind (arith, common_steps, h) in
+    simp unary_clauses (ap (λ b. b || is_over k f (f n)) other)
+
+pub over-same : (f g : ℕ → ℕ) → ((n : ℕ) → f n ≡ g n) → (k n : ℕ) → is_over k f n ≡ is_over k g n
+unfolding is_over
+over-same f g e zero n = refl
+over-same f g e (suc k) n =
+    ap (λ m. n == 0 || is_over k f m) (e n) ∙ ap (λ b. n == 0 || b) (over-same f g e k (g n))
+
+over-most : (f : ℕ → ℕ) (j k n : ℕ) → j ≤ k → is_over j f n ≡ true → is_over k f n ≡ true
+over-most f zero k n l e = over-stop k f n (over-zero f n e)
+over-most f (suc j) zero n l e = absurd (omega (arith, l))
+over-most f (suc j) (suc k) n l e = elim (over-cases j f n e) [
+  | inl z ↦ over-stop (suc k) f n z
+  | inr r ↦ over-go k f n (over-most f j k (f n) (omega (arith, l)) r)
+]
+
+module _ {X : Type 0} (f : ℕ → ℕ) (echo : X → ℕ) (ws : List X)
+    (listed : (n : ℕ) → f n ≢ 0 → is_in (λ x. echo x == f n) ws ≡ true) where
+  steps-counted : (k n : ℕ) → is_over (suc k) f n ≡ true → is_over k f n ≡ false
+      → k ≤ count (λ x. is_over k f (echo x)) ws
+  steps-counted zero n o not = omega arith
+  steps-counted (suc k) n o not =
+      let before = over-before k f n not in
+      let on = over-on (suc k) f n o not in
+      let less = steps-counted k (f n) on before in
+      let some = count-some (λ x. is_over k f (echo x)) (λ x. is_over (suc k) f (echo x))
+      (λ x. echo x == f n)
+      (λ x h. over-more f k (echo x) h)
+      (λ x h. (
+        ap (is_over k f) (same-number (echo x) (f n) h)
+            ∙ before,
+        ap (is_over (suc k) f) (same-number (echo x) (f n) h) ∙ on,
+      ))
+      ws (listed n (over-not f k (f n) before)) in
+      omega (arith, less, some)
+
+  pub over-within : (k n : ℕ) → is_over k f n ≡ true → is_over (suc (length ws)) f n ≡ true
+  over-within zero n o = over-stop (suc (length ws)) f n (over-zero f n o)
+  over-within (suc k) n o = elim (cases_Bool (is_over k f n)) [
+    | inl before ↦ over-within k n before
+    | inr before ↦
+        let some = steps-counted k n o before in
+        let all = count-length (λ x. is_over k f (echo x)) ws in
+        over-most f (suc k) (suc (length ws)) n (omega (arith, some, all)) o
   ]

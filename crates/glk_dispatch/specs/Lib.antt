@@ -14,6 +14,7 @@ pub mod Gestalt
 pub mod Events
 pub mod Call
 pub mod Links
+pub mod Fields
 pub mod Valid
 pub mod Laws
 pub mod Keeping

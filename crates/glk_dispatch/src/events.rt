@@ -68,7 +68,7 @@ pub(crate) fn event_call(number: u32) -> Option<(EventCall, u32)>
 }
 
 // Whether the window asks for input: a buffer or a grid.
-fn may_ask(glk: &Glk, win: u32) -> bool
+pub(crate) fn may_ask(glk: &Glk, win: u32) -> bool
     ensures { result ≡ rows.may_ask glk.now win }
 {
     glk.windows.kind(win) == BUFFER || glk.windows.kind(win) == GRID

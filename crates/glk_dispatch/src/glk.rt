@@ -26,16 +26,16 @@ pub struct Glk {
     pub windows: Windows,
     pub streams: Streams,
     pub requests: Requests,
-    pub(crate) cols: u32,
-    pub(crate) rows: u32,
+    pub(crate) cols: u8,
+    pub(crate) rows: u8,
     pub(crate) chars: u64,
     pub(crate) printed: u32,
     pub(crate) event: u32,
     pub(crate) prompt: Prompt,
 }
 
-// No prompt is waited with.
-const NO_PROMPT: Prompt = Prompt {
+/// No prompt is waited with.
+pub(crate) const NO_PROMPT: Prompt = Prompt {
     usage: 0,
     mode: 0,
     rock: 0,
@@ -51,8 +51,8 @@ impl Glk {
             windows: Windows::new(alloc),
             streams: Streams::new(alloc),
             requests: Requests::new(alloc),
-            cols: u32::from(cols),
-            rows: u32::from(rows),
+            cols,
+            rows,
             chars: 0,
             printed: 0,
             event: 0,
@@ -67,11 +67,18 @@ impl Glk {
         self.chars
     }
 
-    /// The screen: columns and rows.
-    pub fn screen(&self) -> (u32, u32)
-        ensures { result ≡ (self.now.cols, self.now.rows) }
+    /// The columns of the screen.
+    pub fn cols(&self) -> u8
+        ensures { result ≡ self.now.cols }
     {
-        (self.cols, self.rows)
+        self.cols
+    }
+
+    /// The rows of the screen.
+    pub fn rows(&self) -> u8
+        ensures { result ≡ self.now.rows }
+    {
+        self.rows
     }
 
     /// The reference to which the event that `glk_select` waits for goes.

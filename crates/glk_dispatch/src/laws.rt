@@ -1,5 +1,6 @@
-//! What calls keep valid.
+//! Laws of a Glk state: what calls keep valid, and which entries and streams are a window's.
 
+ghost use Rattle.glk_dispatch.specs.Fields.{EntriesFollowWindows, StreamsFollowWindows};
 ghost use Rattle.glk_dispatch.specs.Laws.{CallsKeepValid};
 
 /// A law: from a valid Glk state in which nothing is waited with, every call leaves a valid one that
@@ -7,4 +8,14 @@ ghost use Rattle.glk_dispatch.specs.Laws.{CallsKeepValid};
 /// nothing is waited with. So does a fault of either.
 pub fn calls_keep_valid()
     ensures { CallsKeepValid }
+{}
+
+/// A law: the entries for input of a valid Glk state are those of its windows, in their order.
+pub fn entries_follow_windows()
+    ensures { EntriesFollowWindows }
+{}
+
+/// A law: in a valid Glk state a stream that is a window's is that of the one window that has it.
+pub fn streams_follow_windows()
+    ensures { StreamsFollowWindows }
 {}

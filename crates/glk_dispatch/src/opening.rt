@@ -20,7 +20,10 @@ impl Glk {
     pub(crate) fn place(&mut self, alloc: Global) -> Result<(), Trap>
         ensures { Changes (Done (state.placed self.old)) self.new result }
     {
-        match self.windows.place(alloc, self.cols, self.rows) {
+        match self
+            .windows
+            .place(alloc, u32::from(self.cols), u32::from(self.rows))
+        {
             Ok(()) => Ok(()),
             Err(_) => Err(Trap::NoMemory),
         }

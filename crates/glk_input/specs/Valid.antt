@@ -1,22 +1,30 @@
 -- Requests as calls leave them (own).
-use Rattle.std.specs.Prelude.{◌&&◌, nat_le, Bool, true, List, [], ◌∷◌, length}
+use Rattle.std.specs.Prelude.{ℕ, ◌&&◌, nat_le, Bool, true, List, [], ◌∷◌, length}
 use Rattle.std.specs.Prelude.{Option, Some, None}
 use Rattle.glk_numbers.specs.Numbered.{ascends}
 use Rattle.glk_input.specs.Request.{number_of}
+use Rattle.glk_input.specs.declared.request.LineRequest.{LineRequest}
 use Rattle.glk_input.specs.declared.request.Request.{Request}
 use Rattle.glk_input.specs.declared.request.Request.TheVariants.{Line, Char}
 use Rattle.glk_input.specs.declared.request.WindowInput.{WindowInput}
 
+-- at most 13 terminators
+abbrev pub are_few : List ℕ → Bool
+are_few keys = nat_le (length keys) 13
+
 -- a line begins with at most its maximum of characters, and with at most 1,024; it has at most 13
 -- terminators
+abbrev pub is_line : LineRequest → Bool
+is_line r = nat_le r.init r.max && nat_le r.init 1024 && are_few r.keys
+
 abbrev pub is_request : Option Request → Bool
-is_request (Some (Line r)) = nat_le r.init r.max && nat_le r.init 1024 && nat_le (length r.keys) 13
+is_request (Some (Line r)) = is_line r
 is_request (Some (Char unicode)) = true
 is_request None = true
 
 -- a window's request is one, and it has at most 13 terminators for later lines
 abbrev pub is_window : WindowInput → Bool
-is_window w = nat_le (length w.keys) 13 && is_request w.request
+is_window w = are_few w.keys && is_request w.request
 
 abbrev pub are_windows : List WindowInput → Bool
 are_windows [] = true

@@ -9,6 +9,7 @@ mod keys;
 mod laws;
 mod request;
 mod requests;
+mod valid;
 
 pub use event::Event;
 pub use input::Input;

@@ -15,7 +15,7 @@ use std::marker::Model;
 /// list of windows, their numbers ascending.
 #[derive(Drop)]
 pub struct Requests {
-    windows: Vec<WindowInput>,
+    pub(crate) windows: Vec<WindowInput>,
 }
 
 impl Model for Requests {

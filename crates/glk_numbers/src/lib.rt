@@ -5,4 +5,4 @@ mod laws;
 mod numbered;
 
 pub use laws::next_is_least;
-pub use numbered::{MAX_NUMBER, Numbered, is_live, next_above, place_of};
+pub use numbered::{MAX_NUMBER, Numbered, ascend, is_live, next_above, place_of};

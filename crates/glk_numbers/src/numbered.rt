@@ -2,7 +2,7 @@
 
 ghost use Rattle.std.specs.Prelude.{ℕ, ◌≡◌, ◌<◌, length, IfSome};
 ghost use Rattle.glk_numbers.specs.Numbered as numbered;
-ghost use Rattle.glk_numbers.specs.Numbered.{after, has};
+ghost use Rattle.glk_numbers.specs.Numbered.{after, ascends, has};
 
 /// The greatest number that an object is given.
 pub const MAX_NUMBER: u32 = 4_294_967_294;
@@ -54,4 +54,19 @@ pub fn place_of<T: Numbered>(items: &[T], number: u32) -> Option<usize>
         }
     }
     None
+}
+
+/// Whether the numbers ascend, each above `low` and below `high`.
+#[tactic(auto, unfolding(crate::specs::Numbered::ascends))]
+pub fn ascend<T: Numbered>(items: &[T], low: u32, high: u32) -> bool
+    ensures { result ≡ ascends T.number_of low high items.now }
+{
+    let mut before = low;
+    for item in items {
+        if item.number() <= before || item.number() >= high {
+            return false;
+        }
+        before = item.number();
+    }
+    true
 }

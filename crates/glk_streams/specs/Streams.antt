@@ -18,6 +18,18 @@ pub record StreamTable : Type 0 where
   pub next_ref : ℕ
   pub files : List file.File.File
 
+-- a session's streams, file references and files with these fields
+abbrev pub table_of : ℕ → ℕ → List Stream → ℕ → List FileRef → List file.File.File
+    → StreamTable
+table_of next current streams next_ref refs files = record {
+  streams = streams;
+  next = next;
+  current = current;
+  refs = refs;
+  next_ref = next_ref;
+  files = files;
+}
+
 abbrev pub number_of : Stream → ℕ
 number_of s = s.number
 

@@ -55,7 +55,7 @@ impl Contents {
     }
 
     /// These bytes; an error where memory runs out.
-    pub(crate) fn of(alloc: Global, bytes: &[u8]) -> Result<Contents, AllocError>
+    pub fn of(alloc: Global, bytes: &[u8]) -> Result<Contents, AllocError>
         requires { length bytes.now ≤ 1048576 }
         ensures { IfOk result (λ c. c ≡ bytes.now) }
     {

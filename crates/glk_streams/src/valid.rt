@@ -1,8 +1,8 @@
 //! Streams, file references and files that a session may have (Glk 0.7.5, "Opaque Objects").
 
-ghost use Rattle.std.specs.Prelude.{◌≡◌, nat_le};
-ghost use Rattle.glk_numbers.specs.Numbered.{ascends};
+ghost use Rattle.std.specs.Prelude.{◌≡◌, ◌≢◌, nat_le, true, IfNone, IfSome};
 ghost use Rattle.glk_streams.specs.Files.{bytes_of};
+ghost use Rattle.glk_streams.specs.Streams.{table_of};
 ghost use Rattle.glk_streams.specs.Valid as valid;
 
 use crate::file::{File, MAX_FILE_BYTES, MAX_FILES};
@@ -10,22 +10,7 @@ use crate::fileref::{FileRef, MAX_REFS};
 use crate::opening::count_of;
 use crate::stream::{MAX_STREAMS, Stream, Target};
 use crate::streams::Streams;
-use glk_numbers::{Numbered, is_live};
-
-/// Whether the numbers ascend, each above `low` and below `high`.
-#[tactic(auto, unfolding(glk_numbers::specs::Numbered::ascends))]
-fn ascend<T: Numbered>(items: &[T], low: u32, high: u32) -> bool
-    ensures { result ≡ ascends T.number_of low high items.now }
-{
-    let mut before = low;
-    for item in items {
-        if item.number() <= before || item.number() >= high {
-            return false;
-        }
-        before = item.number();
-    }
-    true
-}
+use glk_numbers::{ascend, is_live};
 
 impl Stream {
     /// Whether a stream of its kind may have its mode.
@@ -126,6 +111,34 @@ impl Streams {
         ensures { result ≡ valid.is_valid self.now }
     {
         self.has_valid_streams() && self.has_valid_refs() && are_files(&self.files)
+    }
+
+    /// The streams, file references and files with these fields; None where no session may have
+    /// them.
+    pub fn of_fields(
+        next: u32,
+        current: u32,
+        streams: Vec<Stream>,
+        next_ref: u32,
+        refs: Vec<FileRef>,
+        files: Vec<File>,
+    ) -> Option<Streams>
+        ensures found { IfSome result (λ s.
+            (s ≡ table_of next current streams.items next_ref refs.items files.items)
+            × (valid.is_valid s ≡ true)) }
+        ensures only { IfNone result
+            (valid.is_valid (table_of next current streams.items next_ref refs.items files.items)
+            ≢ true) }
+    {
+        let table = Streams {
+            streams,
+            next,
+            current,
+            refs,
+            next_ref,
+            files,
+        };
+        if table.is_valid() { Some(table) } else { None }
     }
 
     fn has_valid_streams(&self) -> bool

@@ -19,3 +19,5 @@ pub mod OwnLemmas
 pub mod SpellingLemmas
 pub mod StandardFacts
 pub mod AreaLemmas
+pub mod FieldLemmas
+pub mod AreaTestLemmas

@@ -10,3 +10,4 @@ pub mod Valid
 pub mod OneTree
 pub mod Laws
 pub mod Areas
+pub mod Fields

@@ -1,6 +1,7 @@
 //! The windows of a story: their tree, their rectangles and what they show.
 #![tactic(auto)]
 
+mod areas;
 mod arranging;
 mod changing;
 mod closing;
@@ -11,6 +12,7 @@ mod placing;
 mod reading;
 mod resizing;
 mod text;
+mod valid;
 mod window;
 mod windows;
 

@@ -62,7 +62,7 @@ fn place_at(
 }
 
 // A window that is no blank one is there.
-fn has_size(slots: &[Window], win: u32) -> bool
+pub(crate) fn has_size(slots: &[Window], win: u32) -> bool
     ensures { result ≡ placing.has_size slots.now win }
 {
     match window_at(slots, win) {
@@ -78,7 +78,7 @@ fn shows(content: &Content) -> bool
 }
 
 // How much of the extent the second window gets.
-fn share(pair: Pair, sized: bool, extent: u32) -> u32
+pub(crate) fn share(pair: Pair, sized: bool, extent: u32) -> u32
     ensures value { result ≡ placing.share pair sized extent }
     ensures within { result ≤ extent }
 {

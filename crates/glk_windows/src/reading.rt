@@ -221,7 +221,7 @@ pub(crate) fn pair_at(slots: &[Window], win: u32) -> Option<Pair>
     }
 }
 
-fn pair_in(content: &Content) -> Option<Pair>
+pub(crate) fn pair_in(content: &Content) -> Option<Pair>
     ensures { result ≡ tree.pair_content content.now }
 {
     match content {

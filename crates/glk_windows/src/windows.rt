@@ -68,6 +68,13 @@ impl Windows {
         self.root
     }
 
+    /// The number of the next window.
+    pub fn next(&self) -> u32
+        ensures { result ≡ self.now.next }
+    {
+        self.next
+    }
+
     /// The windows by ascending number, lent.
     pub fn slots(&self) -> &[Window]
         ensures { result.now ≡ self.now.slots }

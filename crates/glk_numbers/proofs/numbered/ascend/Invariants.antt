@@ -1,6 +1,6 @@
 use Rattle.std.proofs.Common.{◌≡◌, drop}
 use Rattle.glk_numbers.specs.Numbered.{ascends}
-use Rattle.glk_streams.proofs.valid.ascend.Given as goal
+use Rattle.glk_numbers.proofs.numbered.ascend.Given as goal
 
 abbrev pub invariant-loop-item : goal.invariant-loop-item
 invariant-loop-item g l = record {

@@ -1,0 +1,196 @@
+-- Windows and streams of lists as they name each other.
+use Rattle.std.proofs.Common.{◌≡◌, ◌∙◌, inl, inr, ℕ, ◌==◌, ◌&&◌}
+use Rattle.std.proofs.Common.{Bool, true, false, List, [], ◌∷◌, refl, sym, ap}
+use Rattle.std.proofs.Common.{arith, Option, Some, None, option_map, is_some}
+use Rattle.std.proofs.Common.{if◌then◌else◌, nat_lt}
+use Rattle.std.specs.List.{list_all}
+use Rattle.std.proofs.lemmas.Bool.{and_parts, cases_Bool}
+use Rattle.std.proofs.lemmas.Grind.{common_steps}
+use Rattle.glk_numbers.specs.Numbered.{ascends, found}
+use Rattle.glk_windows.specs.Tree as tree
+use Rattle.glk_windows.specs.Reading as reading
+use Rattle.glk_windows.specs.declared.window.Window.{Window}
+use Rattle.glk_streams.specs.Streams as streams
+use Rattle.glk_streams.specs.declared.stream.Stream.{Stream}
+use Rattle.glk_streams.specs.declared.stream.Target as target
+use Rattle.glk_streams.specs.declared.stream.Target.TheVariants as to
+use Rattle.glk_dispatch.specs.Fields.{is_named, is_named_by}
+use Rattle.glk_dispatch.specs.Glk.{is_window, window_of}
+use Rattle.glk_dispatch.specs.Links.{ComesToAnEnd, End, Link, echo_by, echo_in}
+use Rattle.glk_dispatch.specs.Links.{end_of, ends, link_of, links, next, owner}
+use Rattle.glk_dispatch.specs.Links.{owner_in, stream_in}
+use Rattle.glk_dispatch.specs.Output.{echo_from}
+use Rattle.glk_dispatch.specs.Valid.{AreValid}
+use Rattle.glk_dispatch.specs.declared.glk.Glk.{Glk}
+use Rattle.glk_dispatch.proofs.EchoLemmas.{echo-link}
+use Rattle.glk_dispatch.proofs.EchoLemmas.{window-none, window-some}
+use Rattle.glk_dispatch.proofs.FoundLemmas.{found-low, has-found}
+use Rattle.glk_dispatch.proofs.LoopLemmas.{end-go, end-stop}
+
+pub both : (a b : Bool) → a ≡ true → b ≡ true → (a && b) ≡ true
+both true b e f = f
+both false b e f = e
+
+-- ---- what holds of each of a list by its number
+
+module _ {X : Type 0} (number : X → ℕ) (p : X → Bool) where
+  pub all-found : (xs : List X) (n : ℕ) (x : X) → list_all p xs ≡ true → found number xs n ≡ Some x
+      → p x ≡ true
+  unfolding found
+  all-found [] n x e h = absurd cc
+  all-found (y ∷ ys) n x e h =
+      let t = and_parts (p y) (list_all p ys) e in
+      elim (cases_Bool (number y == n)) [
+        | inl k ↦
+            let same : ◌≡◌ {A = Option X} (Some y) (Some x) =
+            sym (ap (λ b. if b then Some y else found number ys n) k) ∙ h in
+            let is : y ≡ x = cc in
+            ap p (sym is) ∙ t.0
+        | inr k ↦ all-found ys n x t.1
+            (sym (ap (λ b. if b then Some y else found number ys n) k) ∙ h)
+      ]
+
+  found-first : (y : X) (ys : List X) → found number (y ∷ ys) (number y) ≡ Some y
+  unfolding found
+  found-first y ys = grind (arith, common_steps)
+
+  found-later : (y x : X) (ys : List X) (high : ℕ) → ascends number (number y) high ys ≡ true
+      → found number ys (number x) ≡ Some x → found number (y ∷ ys) (number x) ≡ Some x
+  unfolding found
+  found-later y x ys high a h = elim (cases_Bool (number y == number x)) [
+    | inl k ↦
+        let same : number y ≡ number x = grind (arith, common_steps, k) in
+        let none = found-low number ys (number y) high (number x) a (omega (arith, same)) in
+        let c : ◌≡◌ {A = Option X} None (Some x) = sym none ∙ h in absurd cc
+    | inr k ↦ ap (λ b. if b then Some y else found number ys (number x)) k ∙ h
+  ]
+
+  pub found-all : (xs : List X) (low high : ℕ) → ascends number low high xs ≡ true
+      → ((x : X) → found number xs (number x) ≡ Some x → p x ≡ true) → list_all p xs ≡ true
+  unfolding ascends
+  found-all [] low high a h = refl
+  found-all (y ∷ ys) low high a h =
+      let t = and_parts (nat_lt low (number y) && nat_lt (number y) high)
+      (ascends number (number y) high ys) a in
+      both (p y) (list_all p ys) (h y (found-first y ys))
+      (found-all ys (number y) high t.1 (λ x e. h x (found-later y x ys high t.1 e)))
+
+-- ---- one window or stream, as it is named
+
+pub owned-owner : (o : Option Stream) (win : ℕ)
+    → streams.of_stream o false (λ s. streams.is_of_window win s.target) ≡ true
+    → owner (option_map end_of o) ≡ Some win
+owned-owner None win e = absurd cc
+owned-owner (Some s) win e = by-target s.target e
+  where
+    by-target : (t : target.Target) → streams.is_of_window win t ≡ true → owner_in t ≡ Some win
+    by-target (to.Window w) e = let is : w ≡ win = grind (arith, common_steps, e) in ap Some is
+    by-target (to.Memory b l) e = absurd cc
+    by-target (to.File u n) e = absurd cc
+
+pub owner-owned : (o : Option Stream) (win : ℕ) → owner (option_map end_of o) ≡ Some win
+    → streams.of_stream o false (λ s. streams.is_of_window win s.target) ≡ true
+owner-owned None win e = absurd cc
+owner-owned (Some s) win e = by-target s.target e
+  where
+    by-target : (t : target.Target) → owner_in t ≡ Some win → streams.is_of_window win t ≡ true
+    by-target (to.Window w) e =
+        let same : Some w ≡ Some win = e in
+        let is : w ≡ win = cc in
+        grind (arith, common_steps, is)
+    by-target (to.Memory b l) e = absurd cc
+    by-target (to.File u n) e = absurd cc
+
+-- a link is that of a window
+pub window-of-link : (o : Option Window) (l : Link) → option_map link_of o ≡ Some l
+    → (w : Window) × (o ≡ Some w) × (l ≡ link_of w)
+window-of-link None l e = absurd cc
+window-of-link (Some w) l e =
+    let same : ◌≡◌ {A = Option Link} (Some (link_of w)) (Some l) = e in
+    let is : link_of w ≡ l = cc in
+    (w, refl, sym is)
+
+pub stream-of-end : (o : Option Stream) (e : End) → option_map end_of o ≡ Some e
+    → (s : Stream) × (o ≡ Some s) × (e ≡ end_of s)
+stream-of-end None e h = absurd cc
+stream-of-end (Some s) e h =
+    let same : ◌≡◌ {A = Option End} (Some (end_of s)) (Some e) = h in
+    let is : end_of s ≡ e = cc in
+    (s, refl, sym is)
+
+pub stream-of-owner : (o : Option Stream) (win : ℕ) → owner (option_map end_of o) ≡ Some win
+    → (s : Stream) × (o ≡ Some s) × (owner_in s.target ≡ Some win)
+stream-of-owner None win e = absurd cc
+stream-of-owner (Some s) win e = (s, refl, e)
+
+named-in : (o : Option Window) (n : ℕ) → is_some o ≡ true → tree.read 0 (λ w. w.stream) o ≡ n
+    → stream_in (option_map link_of o) ≡ Some n
+named-in None n e h = absurd cc
+named-in (Some w) n e h = ap Some h
+
+in-named : (o : Option Window) (n : ℕ) → stream_in (option_map link_of o) ≡ Some n
+    → (is_some o ≡ true) × (tree.read 0 (λ w. w.stream) o ≡ n)
+in-named None n e = absurd cc
+in-named (Some w) n e =
+    let same : Some w.stream ≡ Some n = e in
+    let is : w.stream ≡ n = cc in
+    (refl, is)
+
+pub named-target : (g : Glk) (n win : ℕ) (t : target.Target) → owner_in t ≡ Some win
+    → is_named_by g n t ≡ true → is_named g win n ≡ true
+named-target g n win (to.Window w) e h =
+    let same : Some w ≡ Some win = e in
+    let is : w ≡ win = cc in
+    sym (ap (λ v. is_named g v n) is) ∙ h
+named-target g n win (to.Memory b l) e h = absurd cc
+named-target g n win (to.File u m) e h = absurd cc
+
+pub target-named : (g : Glk) (n : ℕ) (t : target.Target)
+    → ((win : ℕ) → owner_in t ≡ Some win → is_named g win n ≡ true) → is_named_by g n t ≡ true
+target-named g n (to.Window w) h = h w refl
+target-named g n (to.Memory b l) h = refl
+target-named g n (to.File u m) h = refl
+
+pub named-stream : (g : Glk) (win n : ℕ) → is_named g win n ≡ true
+    → stream_in (links g win) ≡ Some n
+named-stream g win n e =
+    let t = and_parts (is_window g win) (tree.stream_of g.windows.slots win == n) e in
+    let is : tree.stream_of g.windows.slots win ≡ n = grind (arith, common_steps, t.1) in
+    named-in (tree.window_at g.windows.slots win) n
+    (sym (has-found tree.number_of g.windows.slots win) ∙ t.0) is
+
+pub stream-named : (g : Glk) (win n : ℕ) → stream_in (links g win) ≡ Some n
+    → is_named g win n ≡ true
+stream-named g win n e =
+    let t = in-named (tree.window_at g.windows.slots win) n e in
+    let is = t.1 in
+    both (is_window g win) (tree.stream_of g.windows.slots win == n)
+    (has-found tree.number_of g.windows.slots win ∙ t.0) (grind (arith, common_steps, is))
+
+-- ---- the echoes, as the code follows them
+
+pub echo-next : (g : Glk) → AreValid g → (n : ℕ) → echo_from g n ≡ next (links g) (ends g) n
+echo-next g v n = by-owner (owner (ends g n)) refl
+  where
+    at : ℕ → ℕ
+    at x = reading.echo_of g.windows.slots x
+
+    by-owner : (o : Option ℕ) → owner (ends g n) ≡ o
+        → reading.echo_of g.windows.slots (window_of g n) ≡ echo_by (links g) (owner (ends g n))
+    by-owner None e =
+        ap (reading.echo_of g.windows.slots) ((window-some g None n e).0 refl)
+        ∙ echo-link (tree.window_at g.windows.slots 0)
+        ∙ ap echo_in (window-none g v.windows)
+        ∙ sym (ap (echo_by (links g)) e)
+    by-owner (Some x) e =
+        ap (reading.echo_of g.windows.slots) ((window-some g (Some x) n e).1 x refl)
+        ∙ echo-link (tree.window_at g.windows.slots x)
+        ∙ sym (ap (echo_by (links g)) e)
+
+-- a stream that isn't live echoes to none
+pub no-stream : (g : Glk) (n : ℕ) → streams.stream_at g.streams n ≡ None
+    → ComesToAnEnd (next (links g) (ends g)) n
+no-stream g n e =
+    end-go (next (links g) (ends g)) n 0
+    (ap (λ o. echo_by (links g) (owner (option_map end_of o))) e)
+    (end-stop (next (links g) (ends g)) 0 refl)

@@ -1,0 +1,305 @@
+-- The tests of windows that are made again from what was kept of them.
+use native.Mathlib.Numerals.{unary_clauses}
+use Rattle.std.proofs.Common.{◌≡◌, ◌∙◌, ℕ, zero, suc, ◌+◌, ◌-◌, ◌<◌, ◌≤◌, ◌==◌, ◌&&◌, not}
+use Rattle.std.proofs.Common.{nat_le, nat_lt, Bool, true, false, List, [], ◌∷◌, length, Option}
+use Rattle.std.proofs.Common.{Some, None}
+use Rattle.std.proofs.Common.{arith, refl, sym, ap, inl, inr, is_some, option_map}
+use Rattle.std.proofs.lemmas.Bool.{and_parts, cases_Bool}
+use Rattle.std.proofs.lemmas.Bool.Decides.{nat_tests}
+use Rattle.std.proofs.lemmas.Grind.{common_steps}
+use Rattle.glk_numbers.specs.Numbered.{ascends, found}
+use Rattle.glk_windows.specs.Fields.{IsRest, is_ordered, is_valid}
+use Rattle.glk_windows.specs.OneTree.{Shape, Leaf, Fork, are_keyed, bare, bare_in, count}
+use Rattle.glk_windows.specs.OneTree.{is_spelled, is_under, key_of, no_pair, node_of, once}
+use Rattle.glk_windows.specs.OneTree.{shape_of, size}
+use Rattle.glk_windows.specs.OneTree.{shape_with, tested, top, tree_of, key_in}
+use Rattle.glk_windows.specs.Tree.{WindowTree, number_of, pair_in, pair_of, read, window_at}
+use Rattle.glk_windows.specs.Valid.{Ascends, IsOrdered, IsValid, are_sound, is_one_tree}
+use Rattle.glk_windows.specs.declared.window.Pair as p
+use Rattle.glk_windows.specs.declared.window.Window.{Window}
+
+both : (a b : Bool) → a ≡ true → b ≡ true → (a && b) ≡ true
+both true b e f = f
+both false b e f = e
+
+-- ---- what a list has at a number
+
+pub node_window : (ws : List Window) (n : ℕ)
+    → node_of ws n ≡ option_map (λ w. (w.parent, bare_in w)) (window_at ws n)
+unfolding found
+node_window [] n = refl
+node_window (w ∷ ws) n = grind (arith, common_steps, node_window ws n)
+
+pub shape_leaf : (d : ℕ) (ws : List Window) (n : ℕ) → pair_of ws n ≡ None
+    → shape_of d ws n ≡ Leaf n
+unfolding shape_of
+shape_leaf zero ws n e = refl
+shape_leaf (suc d) ws n e = ap (λ o. shape_with (shape_of d ws) n (option_map bare o)) e
+
+pub shape_end : (d : ℕ) (ws : List Window) (n : ℕ) → d ≡ 0 → shape_of d ws n ≡ Leaf n
+unfolding shape_of
+shape_end zero ws n e = refl
+shape_end (suc d) ws n e = absurd (omega (arith, e))
+
+pub shape_fork : (d : ℕ) (ws : List Window) (n : ℕ) (q : p.Pair) → 0 < d → pair_of ws n ≡ Some q
+    → shape_of d ws n
+    ≡ Fork n (bare q) (shape_of (d - 1) ws q.first) (shape_of (d - 1) ws q.second)
+unfolding shape_of
+shape_fork zero ws n q h e = absurd (omega arith)
+shape_fork (suc d) ws n q h e =
+    simp unary_clauses (ap (λ o. shape_with (shape_of d ws) n (option_map bare o)) e)
+
+-- ---- counting down
+
+size_some : (s : Shape) → 0 < size s
+size_some (Leaf n) = omega arith
+size_some (Fork n q a b) = omega arith
+
+-- a tree that is there has its top there
+tested_top : (ws : List Window) (up : ℕ) (s : Shape) → tested ws up s ≡ true
+    → is_under up (node_of ws (top s)) ≡ true
+tested_top ws up (Leaf n) e = (and_parts (is_under up (node_of ws n)) (no_pair (node_of ws n)) e).0
+tested_top ws up (Fork n q a b) e =
+    (and_parts (is_under up (node_of ws n)) (tested ws n a && tested ws n b) e).0
+
+top_of : (d : ℕ) (ws : List Window) (n : ℕ) → top (shape_of d ws n) ≡ n
+unfolding shape_of
+top_of zero ws n = refl
+top_of (suc d) ws n = top_with (shape_of d ws) n (option_map bare (pair_of ws n))
+  where
+    top_with : (f : ℕ → Shape) (n : ℕ) (o : Option p.Pair) → top (shape_with f n o) ≡ n
+    top_with f n None = refl
+    top_with f n (Some q) = refl
+
+pub rest-full : (ws : List Window) (up : ℕ) (s : Shape) (most : ℕ) → most ≡ 0
+    → IsRest ws up s most None
+rest-full ws up s most e t = let h = size_some s in omega (arith, e, h)
+
+pub rest-away : (ws : List Window) (up d n most : ℕ) → is_under up (node_of ws n) ≡ false
+    → IsRest ws up (shape_of d ws n) most None
+rest-away ws up d n most e t =
+    let h : is_under up (node_of ws n) ≡ true =
+    ap (λ m. is_under up (node_of ws m)) (sym (top_of d ws n))
+    ∙ tested_top ws up (shape_of d ws n) t in
+    let c : true ≡ false = sym h ∙ e in absurd cc
+
+-- what a window is there as, by what it holds
+leaf-there : (o : Option Window) (x : Option (ℕ × Option p.Pair)) (up : ℕ)
+    → x ≡ option_map (λ w. (w.parent, bare_in w)) o → is_under up x ≡ true
+    → read None pair_in o ≡ None → (is_under up x && no_pair x) ≡ true
+leaf-there None x up e u h =
+    let c : is_under up None ≡ true = ap (is_under up) (sym e) ∙ u in absurd cc
+leaf-there (Some w) x up e u h =
+    let none : x ≡ Some (w.parent, None) = e ∙ ap (λ q. Some (w.parent, option_map bare q)) h in
+    both (is_under up x) (no_pair x) u (ap no_pair none)
+
+pair-there : (o : Option Window) (x : Option (ℕ × Option p.Pair)) (q : p.Pair)
+    → x ≡ option_map (λ w. (w.parent, bare_in w)) o → read None pair_in o ≡ Some q
+    → no_pair x ≡ false
+pair-there None x q e h = absurd cc
+pair-there (Some w) x q e h = ap no_pair (e ∙ ap (λ r. Some (w.parent, option_map bare r)) h)
+
+pub rest-leaf : (ws : List Window) (up d n most : ℕ) → 0 < most
+    → is_under up (node_of ws n) ≡ true → pair_of ws n ≡ None
+    → IsRest ws up (shape_of d ws n) most (Some (most - 1))
+rest-leaf ws up d n most m u h =
+    rw (shape_leaf d ws n h)
+    (leaf-there (window_at ws n) (node_of ws n) up (node_window ws n) u h, omega arith)
+
+pub rest-cut : (ws : List Window) (up d n most : ℕ) (q : p.Pair) → d ≡ 0 → pair_of ws n ≡ Some q
+    → IsRest ws up (shape_of d ws n) most None
+rest-cut ws up d n most q z h =
+    rw (shape_end d ws n z) (λ t.
+    let c : true ≡ false = sym (and_parts (is_under up (node_of ws n)) (no_pair (node_of ws n)) t).1
+    ∙ pair-there (window_at ws n) (node_of ws n) q (node_window ws n) h in absurd cc)
+
+rest-first : (ws : List Window) (up n most : ℕ) (q : p.Pair) (a b : Shape) → 0 < most
+    → IsRest ws n a (most - 1) None → IsRest ws up (Fork n q a b) most None
+rest-first ws up n most q a b m r t =
+    let l = r (and_parts (tested ws n a) (tested ws n b)
+    (and_parts (is_under up (node_of ws n)) (tested ws n a && tested ws n b) t).1).0 in
+    omega (arith, l)
+
+rest-both : (ws : List Window) (up n most left : ℕ) (q : p.Pair) (a b : Shape) (o : Option ℕ)
+    → 0 < most → is_under up (node_of ws n) ≡ true → IsRest ws n a (most - 1) (Some left)
+    → IsRest ws n b left o → IsRest ws up (Fork n q a b) most o
+rest-both ws up n most left q a b None m u f r = λ t.
+    let l = r (and_parts (tested ws n a) (tested ws n b)
+    (and_parts (is_under up (node_of ws n)) (tested ws n a && tested ws n b) t).1).1 in
+    let k = f.1 in
+    omega (arith, l, k)
+rest-both ws up n most left q a b (Some x) m u f r =
+    let k = f.1 in
+    let l = r.1 in (
+      both (is_under up (node_of ws n)) (tested ws n a && tested ws n b) u
+          (both (tested ws n a) (tested ws n b) f.0 r.0),
+      omega (arith, k, l),
+    )
+
+pub rest-none : (ws : List Window) (up d n most : ℕ) (q : p.Pair) → 0 < d → 0 < most
+    → pair_of ws n ≡ Some q → IsRest ws n (shape_of (d - 1) ws q.first) (most - 1) None
+    → IsRest ws up (shape_of d ws n) most None
+rest-none ws up d n most q l m h r =
+    rw (shape_fork d ws n q l h)
+    (rest-first ws up n most (bare q) (shape_of (d - 1) ws q.first) (shape_of (d - 1) ws q.second)
+    m r)
+
+pub rest-fork : (ws : List Window) (up d n most left : ℕ) (q : p.Pair) (o : Option ℕ) → 0 < d
+    → 0 < most → is_under up (node_of ws n) ≡ true → pair_of ws n ≡ Some q
+    → IsRest ws n (shape_of (d - 1) ws q.first) (most - 1) (Some left)
+    → IsRest ws n (shape_of (d - 1) ws q.second) left o → IsRest ws up (shape_of d ws n) most o
+rest-fork ws up d n most left q o l m u h f r =
+    rw (shape_fork d ws n q l h)
+    (rest-both ws up n most left (bare q) (shape_of (d - 1) ws q.first)
+    (shape_of (d - 1) ws q.second) o m u f r)
+
+-- ---- a tree whose windows are each met once has no more of them than there are
+
+met : List Window → Shape → ℕ
+met [] s = 0
+met (w ∷ ws) s = count s w.number + met ws s
+
+met-leaf : (ws : List Window) (n up : ℕ) → is_under up (node_of ws n) ≡ true → 1 ≤ met ws (Leaf n)
+unfolding met
+met-leaf [] n up e = absurd cc
+met-leaf (w ∷ ws) n up e = grind (arith, common_steps, e, met-leaf ws n up)
+
+met-fork : (ws : List Window) (n : ℕ) (q : p.Pair) (a b : Shape)
+    → met ws (Fork n q a b) ≡ met ws (Leaf n) + met ws a + met ws b
+unfolding met
+met-fork [] n q a b = refl
+met-fork (w ∷ ws) n q a b = let i = met-fork ws n q a b in omega (arith, i)
+
+met-size : (ws : List Window) (up : ℕ) (s : Shape) → tested ws up s ≡ true → size s ≤ met ws s
+met-size ws up (Leaf n) e = met-leaf ws n up (tested_top ws up (Leaf n) e)
+met-size ws up (Fork n q a b) e =
+    let t = and_parts (tested ws n a) (tested ws n b)
+    (and_parts (is_under up (node_of ws n)) (tested ws n a && tested ws n b) e).1 in
+    let here = met-leaf ws n up (tested_top ws up (Fork n q a b) e) in
+    let i = met-size ws n a t.0 in
+    let j = met-size ws n b t.1 in
+    let k = met-fork ws n q a b in
+    omega (arith, here, i, j, k)
+
+met-once : (ws : List Window) (s : Shape) → once ws s ≡ true → met ws s ≡ length ws
+unfolding met
+met-once [] s e = refl
+met-once (w ∷ ws) s e =
+    let t = and_parts (count s w.number == 1) (once ws s) e in
+    let i = met-once ws s t.1 in
+    let one : count s w.number ≡ 1 = grind (arith, nat_tests, t.0) in
+    omega (arith, i, one)
+
+pub once_size : (ws : List Window) (up : ℕ) (s : Shape) → tested ws up s ≡ true → once ws s ≡ true
+    → size s ≤ length ws
+once_size ws up s t e =
+    let a = met-size ws up s t in
+    let b = met-once ws s e in
+    omega (arith, a, b)
+
+-- where the list doesn't have the tree, or less of it, it doesn't spell it
+pub spelled-none : (ws : List Window) (s : Shape) (o : Option ℕ) → IsRest ws 0 s (length ws) o
+    → is_some o ≡ false → is_spelled ws s ≡ false
+spelled-none ws s None r e = elim (cases_Bool (is_spelled ws s)) [
+  | inl h ↦
+      let t = and_parts (tested ws 0 s) (once ws s) h in
+      let few = once_size ws 0 s t.0 t.1 in
+      let more = r t.0 in
+      absurd (omega (arith, few, more))
+  | inr h ↦ h
+]
+spelled-none ws s (Some x) r e = absurd cc
+
+-- how often a window is met is no more than there are
+pub count_size : (s : Shape) (m : ℕ) → count s m ≤ size s
+count_size (Leaf n) m = grind (arith, common_steps)
+count_size (Fork n q a b) m =
+    let i = count_size a m in
+    let j = count_size b m in
+    grind (arith, common_steps, i, j)
+
+-- ---- the key of a pair
+
+pub key_found : (ws : List Window) (n : ℕ) (q : p.Pair) → pair_of ws n ≡ Some q
+    → key_of ws n ≡ q.key
+key_found ws n q e = key-in (window_at ws n) e
+  where
+    key-in : (o : Option Window) → read None pair_in o ≡ Some q
+        → read 0 (λ w. key_in (pair_in w)) o ≡ q.key
+    key-in None h = absurd cc
+    key-in (Some w) h = ap key_in h
+
+-- ---- the numbers ascend
+
+ascends-of : (ws : List Window) (a z : ℕ) → a < z → ascends number_of a z ws ≡ true
+    → Ascends (a + 1) ws z
+unfolding ascends
+ascends-of [] a z l e = omega arith
+ascends-of (w ∷ ws) a z l e =
+    let t = and_parts (nat_lt a w.number && nat_lt w.number z) (ascends number_of w.number z ws)
+    e in
+    let u = and_parts (nat_lt a w.number) (nat_lt w.number z) t.0 in
+    let low : a < w.number = grind (arith, nat_tests, u.0) in
+    let high : w.number < z = grind (arith, nat_tests, u.1) in
+    (omega (arith, low), high, ascends-of ws w.number z high t.1)
+
+to-ascends : (ws : List Window) (a z : ℕ) → Ascends (a + 1) ws z → ascends number_of a z ws ≡ true
+unfolding ascends
+to-ascends [] a z o = refl
+to-ascends (w ∷ ws) a z o =
+    let l = o.0 in
+    let h = o.1 in
+    let low : nat_lt a w.number ≡ true = grind (arith, nat_tests, l) in
+    let high : nat_lt w.number z ≡ true = grind (arith, nat_tests, h) in
+    both (nat_lt a w.number && nat_lt w.number z) (ascends number_of w.number z ws)
+    (both (nat_lt a w.number) (nat_lt w.number z) low high) (to-ascends ws w.number z o.2)
+
+-- the last bound is above the first
+ascends-bounds : (a : ℕ) (ws : List Window) (z : ℕ) → Ascends a ws z → a ≤ z
+ascends-bounds a [] z o = o
+ascends-bounds a (w ∷ ws) z o =
+    let i = ascends-bounds (w.number + 1) ws z o.2 in
+    let l = o.0 in
+    omega (arith, i, l)
+
+ordered-of : (t : WindowTree) → is_ordered t ≡ true → IsOrdered t
+unfolding IsOrdered
+ordered-of t e =
+    let k = and_parts (not (t.next == 0)) (ascends number_of 0 t.next t.slots) e in
+    let l : 0 < t.next = grind (arith, nat_tests, k.0) in
+    ascends-of t.slots 0 t.next l k.1
+
+to-ordered : (t : WindowTree) → IsOrdered t → is_ordered t ≡ true
+unfolding IsOrdered
+to-ordered t o =
+    let l = ascends-bounds 1 t.slots t.next o in
+    let k : not (t.next == 0) ≡ true = grind (arith, nat_tests, l) in
+    both (not (t.next == 0)) (ascends number_of 0 t.next t.slots) k (to-ascends t.slots 0 t.next o)
+
+-- ---- the test tells what is valid
+
+pub valid-of : (t : WindowTree) → is_valid t ≡ true → IsValid t
+valid-of t e =
+    let f : Bool = nat_le (length t.slots) 64 in
+    let k : Bool = are_keyed t.slots (tree_of t) in
+    let a = and_parts (is_ordered t) (f && (are_sound t.slots && (is_one_tree t && k))) e in
+    let b = and_parts f (are_sound t.slots && (is_one_tree t && k)) a.1 in
+    let d = and_parts (are_sound t.slots) (is_one_tree t && k) b.1 in
+    let g = and_parts (is_one_tree t) k d.1 in
+    record {
+      ordered = ordered-of t a.0;
+      one_tree = g.0;
+      keyed = g.1;
+      few = grind (arith, nat_tests, b.0);
+      sound = d.0;
+    }
+
+pub of-valid : (t : WindowTree) → IsValid t → is_valid t ≡ true
+of-valid t v =
+    let f : Bool = nat_le (length t.slots) 64 in
+    let k : Bool = are_keyed t.slots (tree_of t) in
+    let few = v.few in
+    both (is_ordered t) (f && (are_sound t.slots && (is_one_tree t && k))) (to-ordered t v.ordered)
+    (both f (are_sound t.slots && (is_one_tree t && k)) (grind (arith, nat_tests, few))
+    (both (are_sound t.slots) (is_one_tree t && k) v.sound
+    (both (is_one_tree t) k v.one_tree v.keyed)))

@@ -1,0 +1,4 @@
+use Rattle.glk_windows.proofs.valid.+rest_of.Given as goal
+
+abbrev pub decreases-rest_of : goal.decreases-rest_of
+decreases-rest_of l = l.depth
