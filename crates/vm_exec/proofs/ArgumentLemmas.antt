@@ -1,5 +1,5 @@
 -- Arguments taken one by one, and values copied one by one.
-use Rattle.std.proofs.Common.{◌≡◌, ◌<◌, ℕ, zero, suc, ◌+◌, ◌-◌, List, [], ◌∷◌, ◌++◌, Result, Ok, Err, refl, arith, ap, sym, ◌∙◌}
+use Rattle.std.proofs.Common.{◌≡◌, ◌<◌, ℕ, suc, ◌+◌, ◌-◌, List, [], ◌∷◌, ◌++◌, Result, Ok, Err, refl, arith, ap, sym, ◌∙◌}
 use native.Mathlib.Numerals.{unary_clauses}
 use mathlib.Core.List.{append_assoc, append-nil}
 use Rattle.vm_operand.specs.Reading.{◌>>=◌}

@@ -1,5 +1,5 @@
 -- The digits of a number, by powers of ten.
-use Rattle.std.proofs.Common.{◌≡◌, ℕ, ◌+◌, ◌-◌, ◌*◌, ◌/◌, ◌%◌, ◌^◌, ◌<◌, ◌≤◌, zero, suc, List, [], ◌∷◌, ◌++◌, length, get_or, nat_lt, true, false, refl, arith, ◌∙◌, sym, ap, length-append, slice_index, if◌then◌else◌}
+use Rattle.std.proofs.Common.{◌≡◌, ℕ, ◌+◌, ◌-◌, ◌/◌, ◌%◌, ◌^◌, ◌<◌, ◌≤◌, zero, suc, List, [], ◌∷◌, ◌++◌, length, get_or, nat_lt, true, false, refl, arith, ◌∙◌, sym, ap, length-append, slice_index, if◌then◌else◌}
 use Rattle.std.proofs.lemmas.Bool.Decides.{nat_tests}
 use Rattle.std.proofs.lemmas.Fmt.{decimal_by_steps}
 use Rattle.std.proofs.lemmas.List.{get_or_append_left, get_or_push}
@@ -7,7 +7,7 @@ use Rattle.std.specs.Fmt.{decimal, signed_decimal}
 use Rattle.std.specs.Int.{cast_signed, w32}
 use Rattle.std.proofs.Math.Facts.{to_z_pos, to_z-neg}
 use Rattle.vm_exec.specs.Number.{number_text}
-use native.Mathlib.Nat.{pow-suc, mul_comm, div-div-eq-div-mul, div-one, pow-zero}
+use native.Mathlib.Nat.{pow-suc, mul_comm, div-div-eq-div-mul, div-one}
 
 -- how many digits a number below 2^32 has
 abbrev pub count : ℕ → ℕ

@@ -1,5 +1,5 @@
 -- A machine whose heap, memory or undo list changes stays fit.
-use Rattle.std.proofs.Common.{◌≡◌, ◌≤◌, ◌<◌, ℕ, ◌+◌, ◌-◌, ◌%◌, ◌⊎◌, inl, inr, true, false, nat_le, nat_eq, cond, max, List, [], ◌∷◌, ◌++◌, length, take, replicate, Option, Some, None, Result, Ok, Err, IsTrue, refl, arith, ap, sym, ◌∙◌, subst}
+use Rattle.std.proofs.Common.{◌≡◌, ◌≤◌, ◌<◌, ℕ, ◌+◌, ◌-◌, ◌%◌, ◌⊎◌, inl, inr, true, false, nat_le, nat_eq, cond, max, List, [], ◌∷◌, length, take, replicate, Option, Some, None, Result, Ok, Err, IsTrue, refl, arith, ap, sym, ◌∙◌, subst}
 use Rattle.std.specs.Prelude.{All, OnOk}
 use Rattle.std.proofs.lemmas.List.{length-append, length-replicate, length-take}
 use Rattle.std.proofs.lemmas.List.Elements.{All-take, All-drop, All-cons}
@@ -12,12 +12,10 @@ use Rattle.vm_heap.specs.HeapMap.{HeapMap, is_heap, heap_end}
 use Rattle.vm_heap.specs.FirstFit.{first_fit}
 use Rattle.vm_heap.specs.Allocation.{malloced, placed, with_block, start_from, freed, begins, without, heap_of}
 use Rattle.vm_heap.specs.declared.block.Block.{Block}
-use Rattle.vm_heap.specs.declared.fault.HeapFault.{HeapFault}
 use Rattle.vm_heap.specs.declared.fault.HeapFault.TheVariants.{BadBlock}
 use Rattle.vm_heap.proofs.HeapLemmas.{heap_end-page, start-below}
 use Rattle.vm_stack.specs.StackState.{StackState}
 use Rattle.vm_stack.specs.Frame.{loaded, in_named_frame}
-use Rattle.vm_stack.specs.declared.fault.StackFault.{StackFault}
 use Rattle.vm_stack.specs.declared.fault.StackFault.TheVariants.{Overflow}
 use Rattle.vm_stack.specs.Chain.{Chain, HasFrame, IsReady, EndsInOwnStub}
 use Rattle.vm_stack.specs.Saved.{LinkedFrames}

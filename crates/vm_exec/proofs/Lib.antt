@@ -8,4 +8,6 @@ pub mod SearchLemmas
 pub mod FitLemmas
 pub mod KeepingLemmas
 pub mod KeepingRows
+pub mod KeepingCalls
+pub mod FieldsLemmas
 pub mod StandardFacts

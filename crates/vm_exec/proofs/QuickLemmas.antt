@@ -3,7 +3,7 @@ use Rattle.std.proofs.Common.{◌≡◌, refl, sym, ◌∙◌, ap, ℕ, ◌+◌,
 use Rattle.vm_memory.specs.Access.{read}
 use Rattle.vm_operand.specs.Brief.{OpcodeAt, dest_by, instr_of, load_by, operands_from}
 use Rattle.vm_operand.specs.Instruction.{instruction_at}
-use Rattle.vm_operand.specs.Opcode.{kinds_of, number_of, op_of}
+use Rattle.vm_operand.specs.Opcode.{kinds_of, number_of}
 use Rattle.vm_operand.specs.declared.brief.Brief.{Brief}
 use Rattle.vm_operand.specs.declared.opcode.Op.{Op}
 use Rattle.vm_operand.specs.declared.operand.Kind.{Kind}
@@ -18,7 +18,6 @@ use Rattle.vm_exec.specs.Quick.{IsFetched}
 use Rattle.vm_exec.specs.Row.{fetched, width_of, work_of}
 use Rattle.vm_exec.specs.Rules.{loaded, loaded_all}
 use Rattle.vm_exec.specs.declared.machine.Machine.{Machine}
-use Rattle.vm_exec.specs.declared.quick.Quick.{Quick}
 use Rattle.vm_exec.proofs.Told.{fetched_is}
 
 -- an instruction in brief with its loads taken

@@ -1,5 +1,5 @@
 -- A search within the ticks that are left, and as its row has it.
-use Rattle.std.proofs.Common.{◌≡◌, ℕ, zero, suc, ◌+◌, ◌^◌, Bool, true, false, cond, nat_lt, Option, Some, None, Result, Ok, Err, refl, ap, sym, ◌∙◌}
+use Rattle.std.proofs.Common.{◌≡◌, ℕ, zero, suc, ◌^◌, Bool, true, false, cond, nat_lt, Option, Some, None, Result, Ok, Err, refl, ap, sym, ◌∙◌}
 use Rattle.vm_memory.specs.Fault.{coded}
 use Rattle.vm_memory.specs.MemoryMap.{MemoryMap, number_at}
 use Rattle.vm_memory.specs.declared.fault.MemFault.{MemFault}
@@ -7,21 +7,19 @@ use Rattle.vm_memory.specs.declared.fault.MemFault.TheVariants.{BadRead, BadWrit
 use Rattle.vm_operand.specs.Reading.{◌>>=◌}
 use Rattle.vm_operand.specs.declared.operand.Dest.{Dest}
 use Rattle.vm_search.specs.Binary.{interval_at, half, middle, binary_ends, ends_in}
-use Rattle.vm_search.specs.Ending.{Ending, ending, first_ending, or_next, search_of, told, told_answer}
-use Rattle.vm_search.specs.Fault.{code_of}
+use Rattle.vm_search.specs.Ending.{Ending, first_ending, search_of, told, told_answer}
 use Rattle.vm_search.specs.Key.{is_search, compared}
 use Rattle.vm_search.specs.Linear.{linear_ends, structure_at}
 use Rattle.vm_search.specs.Linked.{linked_ends, ends_at, place_at, link_of}
 use Rattle.vm_search.specs.declared.fault.SearchStop.{SearchStop}
-use Rattle.vm_search.specs.declared.fault.SearchStop.TheVariants.{Read, BadSearch, Spent}
+use Rattle.vm_search.specs.declared.fault.SearchStop.TheVariants.{BadSearch, Spent}
 use Rattle.vm_search.specs.declared.binary_search.Interval.{Interval}
 use Rattle.vm_search.specs.declared.query.Found.{Found}
 use Rattle.vm_search.specs.declared.query.Query.{Query}
 use Rattle.vm_exec.specs.Rules.{puts}
-use Rattle.vm_exec.specs.Rows.Searching.{answered, searched, found_in, query_of, linked_query, linear_work, binary_work, linked_work}
-use Rattle.vm_exec.specs.Rows.Work.{Work, Free, Costs, budgeted, costing}
+use Rattle.vm_exec.specs.Rows.Searching.{answered, found_in, query_of, linked_query, linear_work, binary_work, linked_work}
+use Rattle.vm_exec.specs.Rows.Work.{Free, Costs, budgeted}
 use Rattle.vm_exec.specs.declared.machine.Machine.{Machine}
-use Rattle.vm_exec.specs.declared.step.Done.{Done}
 
 -- an end, within the ticks or past them
 answer_is : (left k : ℕ) (m : Machine) (to : Dest) (a : Result ℕ MemFault) (b : Bool) → nat_lt left k ≡ b

@@ -1,5 +1,5 @@
 -- Values that the dictionary of opcodes gives, so that a wrong rule in the specs doesn't check.
-use Rattle.std.proofs.Common.{◌≡◌, ◌%◌, refl, ℕ}
+use Rattle.std.proofs.Common.{◌≡◌, ◌%◌, refl}
 use Rattle.vm_exec.specs.Rows.Array.{byte_with_bit, bit, with_bit, element}
 use Rattle.vm_exec.specs.Rows.Moving.{sign_extended}
 use Rattle.rand_pcg.specs.Lcg.{state_after}

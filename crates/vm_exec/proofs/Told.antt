@@ -1,5 +1,5 @@
 -- One tick before an opcode's work.
-use Rattle.std.proofs.Common.{IsErrAnd, ◌≡◌, ℕ, ◌+◌, ◌-◌, ◌<◌, ◌≤◌, Bool, true, false, nat_lt, Result, Ok, Err, refl, arith, List, replicate, take, slice_index, Option, Some, None, ◌∙◌, sym, ap, subst, cond}
+use Rattle.std.proofs.Common.{IsErrAnd, ◌≡◌, ℕ, ◌+◌, ◌-◌, ◌<◌, Bool, true, false, nat_lt, Result, Ok, Err, refl, arith, List, replicate, take, slice_index, Option, Some, ◌∙◌, sym, ap, subst, cond}
 use Rattle.std.proofs.lemmas.Bool.Decides.{nat_tests}
 use Rattle.vm_operand.specs.Reading.{◌>>=◌}
 use Rattle.vm_memory.specs.declared.fault.Trap.{Trap}

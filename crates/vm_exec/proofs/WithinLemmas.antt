@@ -1,5 +1,5 @@
 -- What the work of an opcode costs, and the memory with which a machine begins.
-use Rattle.std.proofs.Common.{◌≡◌, ◌≤◌, ℕ, ◌+◌, ◌-◌, ◌%◌, ◌++◌, length, replicate, take, List, [], Result, Ok, Err, IfOk, refl, arith, ap, sym, ◌∙◌, subst}
+use Rattle.std.proofs.Common.{◌≡◌, ◌≤◌, ℕ, ◌-◌, length, replicate, take, List, [], Result, Ok, Err, IfOk, refl, arith, ap, sym, ◌∙◌}
 use Rattle.std.proofs.lemmas.List.{length-append, length-replicate, length-take-le}
 use Rattle.glulx_image.specs.Header.{IsLaidOut, extstart, endmem}
 use Rattle.vm_memory.specs.MemoryMap.{original, origin_of}

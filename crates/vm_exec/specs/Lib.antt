@@ -9,3 +9,4 @@ pub mod Rows
 pub mod Row
 pub mod Quick
 pub mod Start
+pub mod Fields

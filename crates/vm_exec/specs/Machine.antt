@@ -1,5 +1,5 @@
 -- The machine while its story runs (Glulx 3.1.3, "Machine State").
-use Rattle.std.specs.Prelude.{ℕ, ◌≡◌, ◌%◌, length, List, [], All}
+use Rattle.std.specs.Prelude.{ℕ, ◌≡◌, ◌≤◌, ◌%◌, length, List, [], All}
 use Rattle.vm_memory.specs.MemoryMap.{Origin, origin_of}
 use Rattle.vm_stack.specs.Chain.{Chain, HasFrame, IsReady}
 use Rattle.vm_heap.specs.HeapMap.{HeapMap}
@@ -56,10 +56,26 @@ pub record IsSaving (m : Machine) : Type 0 where
   pub ready : IsReady m.stack
   pub still : m.text ≡ Off
 
--- memory stays over the same image, and the stack has the same greatest size
+-- memory stays over the same image, and the stack has the same greatest size; what verify stores,
+-- what a restart goes back to and the seed of the random words stay
 pub record KeepsImage (old new : Machine) : Type 0 where
   pub origin : origin_of old.memory ≡ origin_of new.memory
   pub limit : old.stack.limit ≡ new.stack.limit
+  pub verified : old.verified ≡ new.verified
+  pub start_function : old.start_function ≡ new.start_function
+  pub first_table : old.first_table ≡ new.first_table
+  pub seed : old.random.seed ≡ new.random.seed
+
+-- a saved state whose stack has at most so many bytes
+abbrev pub IsHeldBy : ℕ → Saved → Type 0
+IsHeldBy size s = length s.stack ≤ size
+
+-- the I/O system is one of the three, and undo keeps four states at most, each of which a stack of
+-- this size holds
+pub record IsWithin (size mode : ℕ) (states : List Saved) : Type 0 where
+  pub system : mode ≤ 2
+  pub few : length states ≤ 4
+  pub held : All (IsHeldBy size) states
 
 -- the machine is sound unless its story is over; no text is in progress where it waits for Glk, a
 -- save or a restore, or is over

@@ -1,7 +1,7 @@
 -- Random words (Glulx 3.1.3, "Random Number Generator"; the generator is own: PCG XSH RR 64/32).
 use Rattle.std.specs.Prelude.{ℕ, ◌+◌, ◌-◌, ◌%◌, ◌^◌, ◌==◌, nat_lt}
 use Rattle.std.specs.Prelude.{if◌then◌else◌}
-use Rattle.rand_pcg.specs.Lcg.{Lcg, advance, started, increment_of}
+use Rattle.rand_pcg.specs.Lcg.{advance, started, increment_of}
 use Rattle.rand_pcg.specs.Pcg.{multiplier_64, output_xsh_rr}
 use Rattle.vm_exec.specs.declared.random.Random.{Random}
 

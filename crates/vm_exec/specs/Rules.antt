@@ -1,7 +1,7 @@
 -- What opcodes are made of: loads, stores, branches, calls (Glulx 3.1.3, "Instruction Format").
-use Rattle.std.specs.Prelude.{ℕ, zero, suc, ◌+◌, ◌-◌, ◌*◌, ◌%◌, ◌^◌, ◌==◌}
-use Rattle.std.specs.Prelude.{◌||◌, nat_le, nat_lt, Bool, if◌then◌else◌, List, []}
-use Rattle.std.specs.Prelude.{◌∷◌, length, slice_set, Option, Some, None, Result, Ok, Err}
+use Rattle.std.specs.Prelude.{ℕ, zero, suc, ◌+◌, ◌-◌, ◌%◌, ◌^◌, ◌==◌}
+use Rattle.std.specs.Prelude.{◌||◌, nat_le, Bool, if◌then◌else◌, List, []}
+use Rattle.std.specs.Prelude.{◌∷◌, slice_set, Option, Some, None, Result, Ok, Err}
 use Rattle.vm_memory.specs.Access.{read, written}
 use Rattle.vm_memory.specs.Fault.{coded}
 use Rattle.vm_operand.specs.Reading.{◌>>=◌}
@@ -16,13 +16,12 @@ use Rattle.vm_stack.specs.Stub.{stub_pushed}
 use Rattle.vm_stack.specs.declared.stub.Stub.{Stub}
 use Rattle.vm_flow.specs.Call.{called}
 use Rattle.vm_flow.specs.Return.{given_back}
-use Rattle.vm_flow.specs.Throw.{thrown}
 use Rattle.vm_exec.specs.Fault.{stacked, flowed}
 use Rattle.vm_exec.specs.TextStub.{text_on}
 use Rattle.vm_memory.specs.declared.faults.TheConstants.{BAD_STUB}
 use Rattle.vm_exec.specs.declared.machine.Machine.{Machine}
 use Rattle.vm_exec.specs.declared.step.Out.{Out}
-use Rattle.vm_exec.specs.declared.step.Out.TheVariants.{Ran, Char, Glk, Quit}
+use Rattle.vm_exec.specs.declared.step.Out.TheVariants.{Ran, Char, Quit}
 
 -- what an opcode does: the new machine with what it tells, or a fault
 abbrev pub Rule : Type 0

@@ -9,7 +9,7 @@ use Rattle.vm_operand.specs.declared.operand.Dest.TheVariants.{Discard}
 use Rattle.vm_stack.specs.StackState.{StackState}
 use Rattle.vm_flow.specs.Call.{called}
 use Rattle.vm_exec.specs.Fault.{flowed}
-use Rattle.vm_exec.specs.Machine.{no_heap}
+use Rattle.vm_exec.specs.Machine.{IsWithin, no_heap}
 use Rattle.vm_exec.specs.Random.{seeded}
 use Rattle.vm_exec.specs.Rules.{stored}
 use Rattle.vm_exec.specs.Rows.Undo.{save_over}
@@ -26,10 +26,15 @@ image_memory file = memory_of (take (extstart file) file) (ramstart file) (endme
 abbrev pub empty_stack : List ℕ → StackState
 empty_stack file = record { bytes = []; frame = 0; limit = stack_size file }
 
--- the machine's memory lies over the image, and its stack has the image's size
+-- the machine's memory lies over the image, and its stack has the image's size; what verify stores
+-- and what a restart goes back to are the image's; and what undo keeps fits the image's stack
 pub record IsOver (image : List ℕ) (m : Machine) : Type 0 where
   pub origin : origin_of m.memory ≡ origin_of (image_memory image)
   pub limit : m.stack.limit ≡ stack_size image
+  pub verified : m.verified ≡ verified image
+  pub start_function : m.start_function ≡ start_function image
+  pub first_table : m.first_table ≡ string_table image
+  pub within : IsWithin (stack_size image) m.mode m.undo
 
 -- the start function is called without arguments, over an empty stack
 abbrev pub started : List ℕ → ℕ → Result Machine ℕ

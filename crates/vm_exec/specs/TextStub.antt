@@ -4,7 +4,6 @@ use Rattle.std.specs.Prelude.{Result, Ok, Err}
 use Rattle.vm_operand.specs.Reading.{◌>>=◌}
 use Rattle.vm_stack.specs.Stub.{stub_pushed, stub_taken}
 use Rattle.vm_stack.specs.declared.stub.Stub.{Stub}
-use Rattle.vm_string.specs.declared.piece.Cursor.{Cursor}
 use Rattle.vm_exec.specs.Fault.{stacked}
 use Rattle.vm_exec.specs.Number.{number_text}
 use Rattle.vm_memory.specs.declared.faults.TheConstants.{BAD_STUB}

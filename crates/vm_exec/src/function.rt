@@ -11,6 +11,7 @@ ghost use Rattle.vm_stack.specs.Chain.{IsReady};
 
 use crate::Machine;
 use crate::arguments::take_arguments;
+use crate::fields::store_fields;
 use crate::step::{Done, Out};
 use crate::trap::{BAD_STUB, of_flow, of_stack};
 use std::alloc::Global;
@@ -21,15 +22,11 @@ use vm_stack::Stub;
 
 impl<'i> Machine<'i> {
     // The stub that stores a result there and goes on behind this instruction.
+    #[tactic(auto, using(crate::proofs::FieldsLemmas::stub_is))]
     fn stub_for(&self, to: Dest) -> Stub
         ensures { result ≡ rules.stub_for self.now to }
     {
-        let (kind, at) = match to {
-            Dest::Discard => (0, 0),
-            Dest::At(at) => (1, at),
-            Dest::Local(offset) => (2, offset),
-            Dest::Push => (3, 0),
-        };
+        let (kind, at) = store_fields(to);
         Stub {
             kind,
             at,

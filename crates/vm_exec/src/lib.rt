@@ -5,6 +5,7 @@ mod arguments;
 mod array;
 mod branch;
 mod brief;
+mod fields;
 mod function;
 mod heap;
 mod machine;
@@ -29,6 +30,9 @@ mod trap;
 mod undo;
 mod values;
 
+pub use fields::{MachineFields, store_fields, store_of_fields};
 pub use machine::Machine;
+pub use random::Random;
 pub use step::{Done, Out, Step, Waiting};
 pub use text::Text;
+pub use undo::Protection;

@@ -1,6 +1,6 @@
 //! The machine, and how it starts and goes on.
 
-ghost use Rattle.std.specs.Prelude.{◌≡◌, ◌≤◌, ◌%◌, ◌<◌, [], length, IfOk, OnOk};
+ghost use Rattle.std.specs.Prelude.{◌≡◌, ◌≤◌, ◌%◌, ◌<◌, ℕ, List, [], length, IfOk, OnOk};
 ghost use Rattle.std.specs.Prelude.{Ok};
 ghost use Rattle.vm_exec.specs.Answer.{Changes, Does, Makes};
 ghost use Rattle.vm_exec.specs.Fault.{flowed};
@@ -63,6 +63,7 @@ impl<'i> Machine<'i> {
         ensures value { Makes (started image.now seed) result }
         ensures fit { IfOk result (λ machine. IsFit machine) }
         ensures over { IfOk result (λ machine. IsOver image.now machine) }
+        ensures seed { IfOk result (λ machine. machine.random.seed ≡ seed) }
     {
         let memory = image_memory(alloc, image)?;
         let mut stack = empty_stack(alloc, image)?;
@@ -96,6 +97,10 @@ impl<'i> Machine<'i> {
         ensures saving { IsSaving self.old → OnOk result (IsFit self.new) }
         ensures kept { IsFit self.old → OnOk result (KeepsImage self.old self.new) }
         ensures kept_saving { IsSaving self.old → OnOk result (KeepsImage self.old self.new) }
+        ensures over { (image : List ℕ) → IsFit self.old → IsOver image self.old
+            → OnOk result (IsOver image self.new) }
+        ensures over_saving { (image : List ℕ) → IsSaving self.old → IsOver image self.old
+            → OnOk result (IsOver image self.new) }
     {
         match self.waiting {
             Waiting::Store(to) => self.store(to, value),
@@ -109,6 +114,8 @@ impl<'i> Machine<'i> {
         ensures does { Does (told left (row self.old)) self.new result }
         ensures fit { IsSound self.old → IfOk result (λ step. GoesOnFit self.new step) }
         ensures kept { IsSound self.old → OnOk result (KeepsImage self.old self.new) }
+        ensures over { (image : List ℕ) → IsSound self.old → IsOver image self.old
+            → OnOk result (IsOver image self.new) }
         ensures cost { IfOk result (λ step. IsPriced left step) }
     {
         if left == 0 {

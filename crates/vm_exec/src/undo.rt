@@ -1,10 +1,11 @@
 //! Saved states, restart and the protected range.
 
-ghost use Rattle.std.specs.Prelude.{◌≡◌, ◌≤◌, length, IsTrue, IfOk, OnOk, Ok};
+ghost use Rattle.std.specs.Prelude.{◌≡◌, ◌≤◌, ℕ, List, length, IsTrue, IfOk, OnOk, Ok};
 ghost use Rattle.vm_exec.specs.Answer.{Changes, Makes};
 ghost use Rattle.vm_exec.specs.Machine.{IsFit, IsSaving, KeepsImage, StaysFit};
 ghost use Rattle.vm_exec.specs.Rows.Undo as rows;
 ghost use Rattle.vm_exec.specs.Rows.Work.{Tells};
+ghost use Rattle.vm_exec.specs.Start.{IsOver};
 ghost use Rattle.vm_heap.specs.HeapMap.{is_heap};
 ghost use Rattle.vm_memory.specs.MemoryMap.{KeepsMap, origin_of, reset};
 ghost use Rattle.vm_stack.specs.Chain.{EndsInOwnStub, IsReady};
@@ -108,6 +109,9 @@ impl<'i> Machine<'i> {
             → OnOk result (IsFit self.new) }
         ensures kept { IsFit self.old → IsSavedOf (origin_of self.old.memory) state.entry
             → OnOk result (KeepsImage self.old self.new) }
+        ensures over { (image : List ℕ) → IsFit self.old
+            → IsSavedOf (origin_of self.old.memory) state.entry → IsOver image self.old
+            → OnOk result (IsOver image self.new) }
     {
         self.put_state(alloc, state)?;
         self.come_back(0xFFFF_FFFF)

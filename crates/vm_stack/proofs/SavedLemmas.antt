@@ -9,7 +9,7 @@ use Rattle.byteorder.specs.Numbers.{length-bytes_high_first}
 use Rattle.vm_stack.specs.StackState.{StackState, number}
 use Rattle.vm_stack.specs.Locals.{IsWidth}
 use Rattle.vm_stack.specs.Frame.{frame_head, padding_len, locals_pos_of, locals_len, frame_len_of, in_named_frame}
-use Rattle.vm_stack.specs.Chain.{Frame, IsFormat, IsBelow, IsChain, Chain, HasFrame, IsReady, spelled}
+use Rattle.vm_stack.specs.Chain.{Frame, IsFormat, IsBelow, IsChain, Chain, HasFrame, IsReady, spelled, start}
 use Rattle.vm_stack.specs.Saved.{LinkedFrames, SavedStack, OneFrame, format_from, is_type}
 use Rattle.vm_stack.proofs.NumberLemmas.{number_behind}
 use Rattle.vm_stack.proofs.FrameLemmas.{aligned_up}
@@ -108,9 +108,9 @@ four_times a b ha hb h = omega (arith, ha, hb, h)
 length_fours : (format : List ℕ) → frame_len_of format % 4 ≡ 0
 length_fours format = omega arith
 
-pub framed : (b f : List ℕ) → IsFormat f → frame_len_of f + 16 ≤ length b → length b % 4 ≡ 0 → length b ≤ 1048576
-    → take (8 + length f) b ≡ frame_head f → OneFrame b
-framed b f is long fours small h =
+pub framed : (room : ℕ) (b f : List ℕ) → IsFormat f → frame_len_of f + room ≤ length b → length b % 4 ≡ 0 → length b ≤ 1048576
+    → take (8 + length f) b ≡ frame_head f → OneFrame room b
+framed room b f is long fours small h =
     let u = head_then_padding f in
     let m = 8 + length f in
     let p = padding_len f in
@@ -137,7 +137,7 @@ framed b f is long fours small h =
             ∙ four_times (length b) (frame_len_of f) fours ff (omega (arith, long)));
         fits = omega (arith, long, small);
       };
-      four = omega (arith, dn, long, size);
+      least = omega (arith, dn, long, size);
       bytes =
           sym (take-append-drop (m + p + n) b)
           ∙ ap (λ (ys : List ℕ). ys ++ drop (m + p + n) b)
@@ -153,17 +153,17 @@ after_head : (h z l v : List ℕ) → h ++ z ++ l ++ v ≡ h ++ (z ++ (l ++ v))
 after_head h z l v = simp append_assoc refl
 
 -- what a frame's bytes say
-pub record Parts (b f : List ℕ) : Type 0 where
+pub record Parts (room : ℕ) (b f : List ℕ) : Type 0 where
   pub format : IsFormat f
   pub size : format_from 0 (drop 8 b) ≡ length f
   pub taken : take (length f) (drop 8 b) ≡ f
   pub inside : 8 + length f ≤ length b
-  pub long : frame_len_of f + 16 ≤ length b
+  pub long : frame_len_of f + room ≤ length b
   pub fours : length b % 4 ≡ 0
   pub head : take (8 + length f) b ≡ frame_head f
 
-pub parts : (b : List ℕ) (h : OneFrame b) → Parts b h.frame.format
-parts b h =
+pub parts : (room : ℕ) (b : List ℕ) (h : OneFrame room b) → Parts room b h.frame.format
+parts room b h =
     let fr = h.frame in
     let a = length-append (frame_head fr.format ++ fr.padding ++ fr.locals) fr.values in
     let c = length-append (frame_head fr.format ++ fr.padding) fr.locals in
@@ -172,7 +172,7 @@ parts b h =
     let s = h.is.locals in
     let z = h.is.padding in
     let v = h.is.values in
-    let four = h.four in
+    let four = h.least in
     let e = ap length h.bytes in
     let u = head_then_padding fr.format in
     let ff = length_fours fr.format in
@@ -198,7 +198,7 @@ parts b h =
 under : (low h z l v : List ℕ) → low ++ h ++ z ++ l ++ v ≡ low ++ (h ++ z ++ l ++ v)
 under low h z l v = simp append_assoc refl
 
-link_in : (xs : List ℕ) (at : ℕ) (h : OneFrame (drop at xs)) (below : List Frame) → at < length xs → number 4 xs (length xs - 4) ≡ at
+link_in : (xs : List ℕ) (at : ℕ) (h : OneFrame 16 (drop at xs)) (below : List Frame) → at < length xs → number 4 xs (length xs - 4) ≡ at
     → IsBelow below → IsChain below → take at xs ≡ spelled below → LinkedFrames xs
 link_in xs at h below inside names ends linked bytes =
     let fr = h.frame in
@@ -208,7 +208,7 @@ link_in xs at h below inside names ends linked bytes =
     ∙ (ap (λ (ys : List ℕ). spelled below ++ ys) h.bytes ∙ sym (under (spelled below) (frame_head fr.format) fr.padding fr.locals fr.values))) in
     let base = spelled below ++ frame_head fr.format ++ fr.padding ++ fr.locals in
     let l = length-append base fr.values in
-    let four = h.four in
+    let four = h.least in
     let low : length (spelled below) ≡ at = ap length (sym bytes) ∙ length-take-le at xs (omega (arith, inside)) in
     record {
       frames = fr ∷ below;
@@ -223,12 +223,12 @@ link_in xs at h below inside names ends linked bytes =
     }
 
 -- a frame on a chain
-pub link_up : (xs : List ℕ) (at : ℕ) → at < length xs → number 4 xs (length xs - 4) ≡ at → OneFrame (drop at xs) → LinkedFrames (take at xs) → LinkedFrames xs
+pub link_up : (xs : List ℕ) (at : ℕ) → at < length xs → number 4 xs (length xs - 4) ≡ at → OneFrame 16 (drop at xs) → LinkedFrames (take at xs) → LinkedFrames xs
 link_up xs at inside names h c = link_in xs at h c.frames inside names c.ends c.linked c.bytes
 
 pub record Below (xs : List ℕ) (at : ℕ) : Type 0 where
   pub inside : at < length xs
-  pub frame : OneFrame (drop at xs)
+  pub frame : OneFrame 16 (drop at xs)
   pub low : LinkedFrames (take at xs)
 
 down_in : (xs : List ℕ) (at : ℕ) (frames : List Frame) → 0 < length xs → number 4 xs (length xs - 4) ≡ at → IsBelow frames → IsChain frames
@@ -248,7 +248,7 @@ down_in xs at (fr ∷ below) some names ends linked bytes =
       frame = record {
         frame = fr;
         is = linked.0;
-        four = four;
+        least = four;
         bytes = rw (place, split) (drop-append_seam (spelled below) over);
       };
       low = record {
@@ -287,26 +287,26 @@ some_format [] is = absurd is
 some_format (x ∷ []) is = absurd is
 some_format (x ∷ y ∷ g) is = omega arith
 
-pub no_frame : (b : List ℕ) (n : ℕ) → n ≡ format_from 0 (drop 8 b) → n ≡ 0 → OneFrame b → false ≡ true
-no_frame b n e z h =
-    let p = parts b h in
+pub no_frame : (room : ℕ) (b : List ℕ) (n : ℕ) → n ≡ format_from 0 (drop 8 b) → n ≡ 0 → OneFrame room b → false ≡ true
+no_frame room b n e z h =
+    let p = parts room b h in
     let two = some_format h.frame.format p.format in
     let size = p.size in
     absurd (omega (arith, e, z, two, size))
 
-pub read_frame : (b f : List ℕ) (n : ℕ) → n ≡ format_from 0 (drop 8 b) → n ≢ 0 → f ≡ take n (drop 8 b)
-    → frame_len_of f + 16 ≤ length b → length b % 4 ≡ 0 → length b ≤ 1048576 → take (8 + length f) b ≡ frame_head f → OneFrame b
-read_frame b f n e some is long fours small h =
+pub read_frame : (room : ℕ) (b f : List ℕ) (n : ℕ) → n ≡ format_from 0 (drop 8 b) → n ≢ 0 → f ≡ take n (drop 8 b)
+    → frame_len_of f + room ≤ length b → length b % 4 ≡ 0 → length b ≤ 1048576 → take (8 + length f) b ≡ frame_head f → OneFrame room b
+read_frame room b f n e some is long fours small h =
     let k = found 0 (drop 8 b) (λ z. some (e ∙ z)) in
     let size : n ≡ k.size = let z = k.is in omega (arith, e, z) in
-    framed b f (subst IsFormat (sym (is ∙ ap (λ (m : ℕ). take m (drop 8 b)) size)) k.format) long fours small h
+    framed room b f (subst IsFormat (sym (is ∙ ap (λ (m : ℕ). take m (drop 8 b)) size)) k.format) long fours small h
 
-pub frame_read : (b f : List ℕ) (n : ℕ) (r : Bool) → n ≡ format_from 0 (drop 8 b) → f ≡ take n (drop 8 b)
-    → (frame_len_of f + 16 ≤ length b → length b % 4 ≡ 0 → take (8 + length f) b ≡ frame_head f → r ≡ true) → OneFrame b → r ≡ true
-frame_read b f n r e is all h =
-    let p = parts b h in
+pub frame_read : (room : ℕ) (b f : List ℕ) (n : ℕ) (r : Bool) → n ≡ format_from 0 (drop 8 b) → f ≡ take n (drop 8 b)
+    → (frame_len_of f + room ≤ length b → length b % 4 ≡ 0 → take (8 + length f) b ≡ frame_head f → r ≡ true) → OneFrame room b → r ≡ true
+frame_read room b f n r e is all h =
+    let p = parts room b h in
     let same : f ≡ h.frame.format = is ∙ (ap (λ (m : ℕ). take m (drop 8 b)) (e ∙ p.size) ∙ p.taken) in
-    all (subst (λ (g : List ℕ). frame_len_of g + 16 ≤ length b) (sym same) p.long) p.fours
+    all (subst (λ (g : List ℕ). frame_len_of g + room ≤ length b) (sym same) p.long) p.fours
     (subst (λ (g : List ℕ). take (8 + length g) b ≡ frame_head g) (sym same) p.head)
 
 add_back : (a b : ℕ) → a ≤ b → b ≡ a + (b - a)
@@ -325,16 +325,16 @@ named_end b at end h e = ap (λ (n : ℕ). number 4 (take end b) (n - 4)) (lengt
 
 -- one step of the walk
 pub step_up : (b : List ℕ) (at end : ℕ) → at < end → end ≤ length b → at ≡ number 4 (take end b) (end - 4)
-    → OneFrame (take (end - at) (drop at b)) → LinkedFrames (take at b) → LinkedFrames (take end b)
+    → OneFrame 16 (take (end - at) (drop at b)) → LinkedFrames (take at b) → LinkedFrames (take end b)
 step_up b at end lt le e h low =
     let l = length-take-le end b le in
     link_up (take end b) at (omega (arith, l, lt)) (named_end b at end le e)
-    (subst OneFrame (sym (part_is b at end (omega (arith, lt)))) h)
+    (subst (OneFrame 16) (sym (part_is b at end (omega (arith, lt)))) h)
     (subst LinkedFrames (sym (take_within b at end (omega (arith, lt)) le)) low)
 
 pub record Step (b : List ℕ) (at end : ℕ) : Type 0 where
   pub inside : at < end
-  pub frame : OneFrame (take (end - at) (drop at b))
+  pub frame : OneFrame 16 (take (end - at) (drop at b))
   pub low : LinkedFrames (take at b)
 
 pub step_down : (b : List ℕ) (at end : ℕ) → 0 < end → end ≤ length b → at ≡ number 4 (take end b) (end - 4) → LinkedFrames (take end b) → Step b at end
@@ -345,9 +345,97 @@ step_down b at end some le e c =
     let lt : at < end = omega (arith, inside, l) in
     record {
       inside = lt;
-      frame = subst OneFrame (part_is b at end (omega (arith, lt))) below.frame;
+      frame = subst (OneFrame 16) (part_is b at end (omega (arith, lt))) below.frame;
       low = subst LinkedFrames (take_within b at end (omega (arith, lt)) le) below.low;
     }
+
+-- the current frame of a chain, and what lies below it
+pub record Top (s : StackState) : Type 0 where
+  pub inside : s.frame < length s.bytes
+  pub frame : OneFrame 0 (drop s.frame s.bytes)
+  pub low : LinkedFrames (take s.frame s.bytes)
+
+pub chain_up : (s : StackState) → s.frame < length s.bytes → OneFrame 0 (drop s.frame s.bytes) → LinkedFrames (take s.frame s.bytes) → Chain s
+chain_up s inside h low =
+    let fr = h.frame in
+    record {
+      frames = fr ∷ low.frames;
+      linked = (h.is, (low.ends, low.linked));
+      bytes =
+          sym (take-append-drop s.frame s.bytes)
+          ∙ (ap (λ (ys : List ℕ). ys ++ drop s.frame s.bytes) low.bytes
+          ∙ (ap (λ (ys : List ℕ). spelled low.frames ++ ys) h.bytes
+          ∙ sym (under (spelled low.frames) (frame_head fr.format) fr.padding fr.locals fr.values)));
+      frame = sym (ap length (sym low.bytes) ∙ length-take-le s.frame s.bytes (omega (arith, inside)));
+    }
+
+top_in : (s : StackState) (frames : List Frame) → HasFrame s → IsChain frames → s.bytes ≡ spelled frames → s.frame ≡ start frames → Top s
+top_in s [] some linked bytes place = absurd (let l = ap length bytes in omega (arith, l, some))
+top_in s (fr ∷ below) some linked bytes place =
+    let over = frame_head fr.format ++ fr.padding ++ fr.locals ++ fr.values in
+    let split : s.bytes ≡ spelled below ++ over = bytes ∙ under (spelled below) (frame_head fr.format) fr.padding fr.locals fr.values in
+    let l = ap length split in
+    let a = length-append (spelled below) over in
+    let b = length-append (frame_head fr.format ++ fr.padding ++ fr.locals) fr.values in
+    let c = length-append (frame_head fr.format ++ fr.padding) fr.locals in
+    let d = length-append (frame_head fr.format) fr.padding in
+    let h = length_head fr.format in
+    record {
+      inside = omega (arith, place, l, a, b, c, d, h);
+      frame = record {
+        frame = fr;
+        is = linked.0;
+        least = omega arith;
+        bytes = rw (place, split) (drop-append_seam (spelled below) over);
+      };
+      low = record {
+        frames = below;
+        ends = linked.1.0;
+        linked = linked.1.1;
+        bytes = rw (place, split) (take-append_seam (spelled below) over);
+      };
+    }
+
+pub chain_down : (s : StackState) → Chain s → HasFrame s → Top s
+chain_down s c some = top_in s c.frames some c.linked c.bytes c.frame
+
+tail_whole : (b : List ℕ) (at : ℕ) → take (length b - at) (drop at b) ≡ drop at b
+tail_whole b at = let l = length-drop at b in take_all (length b - at) (drop at b) (omega (arith, l))
+
+-- the same of bytes and a place that the code holds
+pub framed_up : (s : StackState) (b : List ℕ) (at : ℕ) → b ≡ s.bytes → at ≡ s.frame → at < length b
+    → OneFrame 0 (take (length b - at) (drop at b)) → LinkedFrames (take at b) → Chain s × HasFrame s
+framed_up s b at is place inside h low =
+    let within : at < length s.bytes = subst (λ (xs : List ℕ). at < length xs) is inside in
+    let top : OneFrame 0 (drop at s.bytes) =
+    subst (λ (xs : List ℕ). OneFrame 0 (drop at xs)) is (subst (OneFrame 0) (tail_whole b at) h) in
+    let under : LinkedFrames (take at s.bytes) = subst (λ (xs : List ℕ). LinkedFrames (take at xs)) is low in (
+      chain_up s (subst (λ (n : ℕ). n < length s.bytes) place within)
+          (subst (λ (n : ℕ). OneFrame 0 (drop n s.bytes)) place top)
+          (subst (λ (n : ℕ). LinkedFrames (take n s.bytes)) place under),
+      omega (arith, within),
+    )
+
+pub framed_low : (s : StackState) (b : List ℕ) (at : ℕ) → b ≡ s.bytes → at ≡ s.frame → at < length b → at ≢ 0
+    → Chain s → HasFrame s → SavedStack (take at b)
+framed_low s b at is place inside some c has =
+    let l = length-take-le at b (omega (arith, inside)) in
+    record {
+      some = omega (arith, l, some);
+      linked = subst (λ (n : ℕ). LinkedFrames (take n b)) (sym place)
+          (subst (λ (xs : List ℕ). LinkedFrames (take s.frame xs)) (sym is) (chain_down s c has).low);
+    }
+
+pub framed_top : (s : StackState) (b : List ℕ) (at : ℕ) → b ≡ s.bytes → at ≡ s.frame → Chain s → HasFrame s
+    → OneFrame 0 (take (length b - at) (drop at b))
+framed_top s b at is place c has =
+    subst (OneFrame 0) (sym (tail_whole b at))
+    (subst (λ (n : ℕ). OneFrame 0 (drop n b)) (sym place)
+    (subst (λ (xs : List ℕ). OneFrame 0 (drop s.frame xs)) (sym is) (chain_down s c has).frame))
+
+pub no_frames : (xs : List ℕ) → length xs ≡ 0 → LinkedFrames xs
+no_frames [] e = record { frames = []; ends = tt; linked = tt; bytes = refl }
+no_frames (x ∷ xs) e = absurd (omega (arith, e))
 
 -- what is loaded is a chain, and a chain with a stub of its own on top is one that can be loaded
 pub linked_keeps : (s : StackState) (b : List ℕ) → LinkedFrames b → Chain (in_named_frame s b)

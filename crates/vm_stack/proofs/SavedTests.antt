@@ -11,7 +11,7 @@ use Rattle.vm_stack.specs.Frame.{frame_head, frame_len_of}
 use Rattle.vm_stack.specs.Chain.{IsFormat}
 use Rattle.vm_stack.specs.Saved.{LinkedFrames, SavedStack, OneFrame, format_from}
 use Rattle.vm_stack.specs.SavedTest.{is_frame_of, is_one_frame, is_frame_over, are_linked, is_saved_stack}
-use Rattle.vm_stack.proofs.SavedLemmas.{parts, link_up, link_down, read_frame, frame_read}
+use Rattle.vm_stack.proofs.SavedLemmas.{parts, no_frames, link_up, link_down, read_frame, frame_read}
 
 left : (a b : Bool) → (a && b) ≡ true → a ≡ true
 left true b h = refl
@@ -31,7 +31,7 @@ second false b h = h
 -- one frame
 
 tested : (b f : List ℕ) (n : ℕ) → n ≡ format_from 0 (drop 8 b) → f ≡ take n (drop 8 b) → length b ≤ 1048576
-    → is_frame_of f b ≡ true → OneFrame b
+    → is_frame_of f b ≡ true → OneFrame 16 b
 tested b f n size is small e =
     let head_is = bytes_eq (take (8 + length f) b) (frame_head f) in
     let in_fours = length b % 4 == 0 in
@@ -47,9 +47,9 @@ tested b f n size is small e =
     (bytes_eq-Decides (take (8 + length f) b) (frame_head f)).0 (right in_fours head_is e3) in
     let taken : length f ≡ length (take n (drop 8 b)) = ap length is in
     let short = length-take n (drop 8 b) in
-    read_frame b f n size (λ z. absurd (omega (arith, z, some, taken, short))) is long fours small head
+    read_frame 16 b f n size (λ z. absurd (omega (arith, z, some, taken, short))) is long fours small head
 
-frame_tested : (b : List ℕ) → length b ≤ 1048576 → is_one_frame b ≡ true → OneFrame b
+frame_tested : (b : List ℕ) → length b ≤ 1048576 → is_one_frame b ≡ true → OneFrame 16 b
 frame_tested b small e =
     tested b (take (format_from 0 (drop 8 b)) (drop 8 b)) (format_from 0 (drop 8 b)) refl refl small e
 
@@ -68,21 +68,17 @@ passed b f some long fours head =
     (bytes_eq-Decides (take (8 + length f) b) (frame_head f)).1 head in
     both _ _ one (both _ _ two (both _ _ three four))
 
-frame_passes : (b : List ℕ) → OneFrame b → is_one_frame b ≡ true
+frame_passes : (b : List ℕ) → OneFrame 16 b → is_one_frame b ≡ true
 frame_passes b h =
-    let p = parts b h in
+    let p = parts 16 b h in
     let f = take (format_from 0 (drop 8 b)) (drop 8 b) in
     let same : f ≡ h.frame.format = ap (λ (n : ℕ). take n (drop 8 b)) p.size ∙ p.taken in
     let two = some_format h.frame.format p.format in
     let l = ap length same in
-    frame_read b f (format_from 0 (drop 8 b)) (is_one_frame b) refl refl
+    frame_read 16 b f (format_from 0 (drop 8 b)) (is_one_frame b) refl refl
     (λ long fours head. passed b f (omega (arith, two, l)) long fours head) h
 
 -- frames on one another
-
-nothing : (xs : List ℕ) → length xs ≡ 0 → LinkedFrames xs
-nothing [] e = record { frames = []; ends = tt; linked = tt; bytes = refl }
-nothing (x ∷ xs) e = absurd (omega (arith, e))
 
 up_from : (below : List ℕ → Bool) (xs : List ℕ) (at : ℕ) → ((ys : List ℕ) → length ys ≤ 1048576 → below ys ≡ true → LinkedFrames ys)
     → at ≡ number 4 xs (length xs - 4) → length xs ≤ 1048576 → is_frame_over below xs at ≡ true → LinkedFrames xs
@@ -100,10 +96,10 @@ up_from below xs at low is small e =
 
 linked_up : (n : ℕ) (xs : List ℕ) → length xs ≤ 1048576 → are_linked n xs ≡ true → LinkedFrames xs
 unfolding are_linked
-linked_up zero xs small e = nothing xs (eqb-true (length xs) 0 e)
+linked_up zero xs small e = no_frames xs (eqb-true (length xs) 0 e)
 linked_up (suc n) xs small e =
     elim (or_cases (length xs == 0) (is_frame_over (are_linked n) xs (number 4 xs (length xs - 4))) e) [
-      | inl z ↦ nothing xs (eqb-true (length xs) 0 z)
+      | inl z ↦ no_frames xs (eqb-true (length xs) 0 z)
       | inr h ↦ up_from (are_linked n) xs (number 4 xs (length xs - 4)) (linked_up n) refl small h
     ]
 

@@ -17,11 +17,11 @@ pub record SavedStack (xs : List ℕ) : Type 0 where
   pub some : 0 < length xs
   pub linked : LinkedFrames xs
 
--- the bytes are one frame with room for a stub among its values
-pub record OneFrame (xs : List ℕ) : Type 0 where
+-- the bytes are one frame with so many bytes of values at least
+pub record OneFrame (room : ℕ) (xs : List ℕ) : Type 0 where
   pub frame : Frame
   pub is : IsFrame frame
-  pub four : 16 ≤ length frame.values
+  pub least : room ≤ length frame.values
   pub bytes : xs ≡ frame_head frame.format ++ frame.padding ++ frame.locals ++ frame.values
 
 -- a local's type is its number of bytes

@@ -1,12 +1,12 @@
 // A stack as bytes of its own: copied, loaded, and told from other bytes.
 ghost use Rattle.std.specs.Prelude.{◌≡◌, ◌≤◌, ◌<◌, ◌+◌, ◌-◌, ◌%◌};
-ghost use Rattle.std.specs.Prelude.{◌++◌, length, take, drop, true};
+ghost use Rattle.std.specs.Prelude.{◌++◌, length, take, drop, true, Some, None};
 ghost use Rattle.std.specs.Prelude.{IfOk, OnErr, OnOk};
 ghost use Rattle.byteorder.specs.Endian.{big_bytes};
 ghost use Rattle.vm_stack.specs.Answer.{Leaves};
 ghost use Rattle.vm_stack.specs.StackState as state;
 ghost use Rattle.vm_stack.specs.Frame as frames;
-ghost use Rattle.vm_stack.specs.Chain.{Chain, EndsInOwnStub};
+ghost use Rattle.vm_stack.specs.Chain.{Chain, EndsInOwnStub, HasFrame};
 ghost use Rattle.vm_stack.specs.Saved.{SavedStack, LinkedFrames, OneFrame, format_from, is_type};
 
 use crate::bytes::number;
@@ -15,7 +15,49 @@ use crate::frame::{aligned, locals_end};
 use crate::stack::{MAX_STACK, Stack};
 use std::alloc::{AllocError, Global};
 
+/// The bytes of a stub.
+const STUB_SIZE: u32 = 16;
+
 impl Stack {
+    /// The stack of this size on which these bytes stand, its current frame at this place. None
+    /// where the bytes are more.
+    pub fn of_fields(
+        alloc: Global,
+        size: u32,
+        bytes: &[u8],
+        frame: u32,
+    ) -> Result<Option<Stack>, AllocError>
+        requires { size ≤ MAX_STACK }
+        ensures found { length bytes.now ≤ size → IfOk result (λ stack. stack
+            ≡ Some (record { bytes = bytes.now; frame = frame; limit = size })) }
+        ensures none { size < length bytes.now → IfOk result (λ stack. stack ≡ None) }
+    {
+        if bytes.len() > size as usize {
+            return Ok(None);
+        }
+        let mut stack = Stack::with_size(alloc, size)?;
+        stack.add(bytes);
+        stack.set_frame(frame);
+        Ok(Some(stack))
+    }
+
+    /// Whether the stack is call frames down to 0, each but the current one with a stub on top that
+    /// names it, and there is one at least.
+    pub fn is_framed(&self) -> bool
+        ensures only { result ≡ true → Chain self.now × HasFrame self.now }
+        ensures found { Chain self.now → HasFrame self.now → result ≡ true }
+    {
+        let bytes = self.live();
+        let start = self.frame() as usize;
+        if start >= bytes.len() {
+            return false;
+        }
+        if !is_frame(&bytes[start..], 0) {
+            return false;
+        }
+        start == 0 || is_chain(&bytes[..start])
+    }
+
     /// The bytes that stand, in a vector of their own.
     pub fn copy_bytes(&self, alloc: Global) -> Result<Vec<u8>, AllocError>
         ensures value { IfOk result (λ v. v.items ≡ self.now.bytes) }
@@ -71,7 +113,7 @@ pub fn is_chain(bytes: &[u8]) -> bool
         if start >= end {
             return false;
         }
-        if !is_frame(&bytes[start..end]) {
+        if !is_frame(&bytes[start..end], STUB_SIZE) {
             return false;
         }
         end = start;
@@ -87,11 +129,12 @@ fn stub_frame(bytes: &[u8], end: usize) -> usize
     number(&bytes[..end], end.saturating_sub(4), 4) as usize
 }
 
-// Whether the bytes are a frame with room for a stub among its values.
-fn is_frame(bytes: &[u8]) -> bool
-    requires { length bytes.now ≤ MAX_STACK }
-    ensures only { result ≡ true → OneFrame bytes.now }
-    ensures found { OneFrame bytes.now → result ≡ true }
+// Whether the bytes are a frame with so many bytes of values at least.
+fn is_frame(bytes: &[u8], room: u32) -> bool
+    requires size { length bytes.now ≤ MAX_STACK }
+    requires room { room ≤ STUB_SIZE }
+    ensures only { result ≡ true → OneFrame room bytes.now }
+    ensures found { OneFrame room bytes.now → result ≡ true }
 {
     if bytes.len() < 8 {
         return false;
@@ -100,25 +143,26 @@ fn is_frame(bytes: &[u8]) -> bool
     if size == 0 {
         return false;
     }
-    is_frame_of(bytes, &bytes[8..8 + size])
+    is_frame_of(bytes, &bytes[8..8 + size], room)
 }
 
-// Whether the bytes are a frame of this format, with room for a stub among its values.
-fn is_frame_of(bytes: &[u8], format: &[u8]) -> bool
+// Whether the bytes are a frame of this format, with so many bytes of values at least.
+fn is_frame_of(bytes: &[u8], format: &[u8], room: u32) -> bool
     requires size { length bytes.now ≤ MAX_STACK }
+    requires room { room ≤ STUB_SIZE }
     requires inside { 8 + length format.now ≤ length bytes.now }
-    ensures long { result ≡ true → frames.frame_len_of format.now + 16 ≤ length bytes.now }
+    ensures long { result ≡ true → frames.frame_len_of format.now + room ≤ length bytes.now }
     ensures fours { result ≡ true → length bytes.now % 4 ≡ 0 }
     ensures head { result ≡ true → take (8 + length format.now) bytes.now
         ≡ frames.frame_head format.now }
-    ensures found { frames.frame_len_of format.now + 16 ≤ length bytes.now
+    ensures found { frames.frame_len_of format.now + room ≤ length bytes.now
         → length bytes.now % 4 ≡ 0
         → take (8 + length format.now) bytes.now ≡ frames.frame_head format.now
         → result ≡ true }
 {
     let head = aligned(4, 8 + format.len() as u64);
     let rest = aligned(4, locals_end(0, format));
-    if (bytes.len() as u64) < head + rest + 16 {
+    if (bytes.len() as u64) < head + rest + u64::from(room) {
         return false;
     }
     if bytes.len() % 4 != 0 {

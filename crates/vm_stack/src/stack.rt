@@ -58,17 +58,17 @@ impl Stack {
         self.len as u32
     }
 
-    // The bytes that stand.
+    /// The bytes that stand.
     #[inline(always)]
-    pub(crate) fn live(&self) -> &[u8]
+    pub fn live(&self) -> &[u8]
         ensures bytes { result.now ≡ self.now.bytes }
         ensures limit { length self.now.bytes ≤ MAX_STACK }
     {
         &self.buf[..self.len]
     }
 
-    // The stack's size.
-    pub(crate) fn size(&self) -> usize
+    /// The stack's size in bytes.
+    pub fn size(&self) -> usize
         ensures value { result ≡ self.now.limit }
         ensures within { result ≤ MAX_STACK }
         ensures holds { length self.now.bytes ≤ result }

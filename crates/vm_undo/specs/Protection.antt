@@ -1,5 +1,5 @@
 -- The protected range of memory (Glulx 3.1.3, "Game State").
-use Rattle.std.specs.Prelude.{ℕ, ◌+◌, ◌-◌, nat_lt, max, min, if◌then◌else◌, List}
+use Rattle.std.specs.Prelude.{ℕ, ◌+◌, ◌-◌, nat_lt, max, min, if◌then◌else◌}
 use Rattle.std.specs.Prelude.{length, take, drop}
 use Rattle.vm_memory.specs.MemoryMap.{MemoryMap, replaced}
 

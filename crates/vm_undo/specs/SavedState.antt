@@ -1,6 +1,6 @@
 -- Saved states: memory, stack and heap (Glulx 3.1.3, "Saving and Restoring").
 use Rattle.std.specs.Prelude.{ℕ, ◌≡◌, ◌≤◌, ◌<◌, ◌%◌, List, length, IsTrue}
-use Rattle.vm_memory.specs.MemoryMap.{MemoryMap, Origin, origin_of}
+use Rattle.vm_memory.specs.MemoryMap.{Origin, origin_of}
 use Rattle.vm_memory.specs.declared.memory.TheConstants.{MAX_SIZE}
 use Rattle.vm_stack.specs.Saved.{SavedStack}
 use Rattle.vm_heap.specs.HeapMap.{is_heap, heap_end}
@@ -32,3 +32,7 @@ pub record IsSaved (s : Saved) : Type 0 where
 pub record IsSavedOf (origin : Origin) (s : Saved) : Type 0 where
   pub image : origin_of s.memory ≡ origin
   pub saved : IsSaved s
+
+-- the same with a stack of at most so many bytes
+abbrev pub IsSavedWithin : Origin → ℕ → Saved → Type 0
+IsSavedWithin origin size s = IsSavedOf origin s × (length s.stack ≤ size)

@@ -1,6 +1,6 @@
 -- The states that undo keeps (Glulx 3.1.3, "Game State"; how many is own).
-use Rattle.std.specs.Prelude.{◌≡◌, ℕ, Bool, true, false, ◌&&◌, List, [], ◌∷◌}
-use Rattle.std.specs.Prelude.{take, drop, IsTrue, Option, Some, None}
+use Rattle.std.specs.Prelude.{Bool, true, false, ◌&&◌, List, [], ◌∷◌}
+use Rattle.std.specs.Prelude.{take, drop, Option, Some, None}
 use Rattle.vm_heap.specs.HeapMap.{is_heap}
 use Rattle.vm_undo.specs.declared.saved.Saved.{Saved}
 

@@ -1,12 +1,17 @@
 //! The states that undo keeps.
 
 ghost use Rattle.std.specs.Prelude.{◌≡◌, ◌≤◌, ◌∷◌, [], IsTrue, IfSome, OnErr, OnOk, length};
+ghost use Rattle.std.specs.Prelude.{MatchOption, None, Some, slice_get, All, true};
+ghost use Rattle.vm_memory.specs.MemoryMap.{origin_of};
+ghost use Rattle.vm_undo.specs.SavedState.{IsSavedWithin};
 ghost use Rattle.vm_heap.specs.HeapMap.{is_heap};
 ghost use Rattle.vm_undo.specs.UndoList as list;
 
 use crate::saved::Saved;
 use std::alloc::{AllocError, Global};
 use std::marker::Model;
+use vm_memory::Memory;
+use vm_stack::MAX_STACK;
 
 /// The states that undo keeps, four at most, seen by contracts as their list, the newest first.
 #[derive(Drop)]
@@ -87,10 +92,59 @@ impl<'i> Undo<'i> {
         self.newest.is_some()
     }
 
+    /// The state of this index, 0 the newest; None exactly where none is kept there.
+    pub fn state(&self, index: u32) -> Option<&Saved<'i>>
+        ensures value { MatchOption result (slice_get self.now index ≡ None)
+            (λ s. slice_get self.now index ≡ Some s.now) }
+    {
+        match index {
+            0 => self.newest.as_ref(),
+            1 => self.second.as_ref(),
+            2 => self.third.as_ref(),
+            3 => self.oldest.as_ref(),
+            _ => None,
+        }
+    }
+
+    /// Whether each state is a saved state of the story whose memory this is, with a stack of at
+    /// most so many bytes.
+    pub fn are_of(&self, memory: &Memory<'_>, stack_size: u32) -> bool
+        requires { stack_size ≤ MAX_STACK }
+        ensures only { result ≡ true
+            → All (IsSavedWithin (origin_of memory.now) stack_size) self.now }
+        ensures found { All (IsSavedWithin (origin_of memory.now) stack_size) self.now
+            → result ≡ true }
+    {
+        if !is_of(&self.newest, memory, stack_size) {
+            return false;
+        }
+        if !is_of(&self.second, memory, stack_size) {
+            return false;
+        }
+        if !is_of(&self.third, memory, stack_size) {
+            return false;
+        }
+        is_of(&self.oldest, memory, stack_size)
+    }
+
     /// Drops the newest state, if one is kept.
     pub fn discard(&mut self)
         ensures ok { self.new ≡ list.without_newest self.old }
     {
         self.restore();
+    }
+}
+
+// The same of the state in one slot, if one is there.
+fn is_of(slot: &Option<Saved<'_>>, memory: &Memory<'_>, stack_size: u32) -> bool
+    requires { stack_size ≤ MAX_STACK }
+    ensures only { result ≡ true
+        → IfSome slot.now (IsSavedWithin (origin_of memory.now) stack_size) }
+    ensures found { IfSome slot.now (IsSavedWithin (origin_of memory.now) stack_size)
+        → result ≡ true }
+{
+    match slot {
+        Some(state) => state.is_of(memory, stack_size),
+        None => true,
     }
 }

@@ -1,6 +1,6 @@
 -- Array data (Glulx 3.1.3, "Array Data").
 use Rattle.std.specs.Prelude.{ℕ, ◌+◌, ◌-◌, ◌*◌, ◌/◌, ◌%◌, ◌^◌, ◌==◌}
-use Rattle.std.specs.Prelude.{nat_lt, if◌then◌else◌, Result, Ok, Err}
+use Rattle.std.specs.Prelude.{nat_lt, if◌then◌else◌}
 use Rattle.vm_memory.specs.Access.{read}
 use Rattle.vm_memory.specs.Fault.{coded}
 use Rattle.vm_operand.specs.Reading.{◌>>=◌}
@@ -8,7 +8,7 @@ use Rattle.vm_operand.specs.declared.opcode.Array.{Array}
 use Rattle.vm_operand.specs.declared.opcode.Array.TheVariants.{Aload, Aloads, Aloadb, Aloadbit}
 use Rattle.vm_operand.specs.declared.opcode.Array.TheVariants.{Astore, Astores, Astoreb, Astorebit}
 use Rattle.vm_operand.specs.declared.operand.Dest as d
-use Rattle.vm_exec.specs.Rows.Work.{Work, Free, Costs}
+use Rattle.vm_exec.specs.Rows.Work.{Work, Free}
 use Rattle.vm_exec.specs.declared.machine.Machine.{Machine}
 use Rattle.vm_exec.specs.Rules.{Rule, puts, reads_to, writes, wrap}
 

@@ -1,5 +1,5 @@
 -- Calls and continuations (Glulx 3.1.3, "Functions" and "Continuations").
-use Rattle.std.specs.Prelude.{ℕ, List, [], ◌∷◌, length, Result, Ok, Err}
+use Rattle.std.specs.Prelude.{ℕ, List, [], ◌∷◌, length}
 use Rattle.vm_operand.specs.Reading.{◌>>=◌}
 use Rattle.vm_operand.specs.declared.opcode.Flow.{Flow}
 use Rattle.vm_operand.specs.declared.opcode.Flow.TheVariants.{Call, Return, Catch, Throw, Tailcall}
@@ -7,7 +7,7 @@ use Rattle.vm_operand.specs.declared.opcode.Flow.TheVariants.{Callf, Callfi, Cal
 use Rattle.vm_stack.specs.Frame.{left}
 use Rattle.vm_flow.specs.Throw.{thrown}
 use Rattle.vm_operand.specs.declared.operand.Dest as d
-use Rattle.vm_exec.specs.Rows.Work.{Work, Free, Costs}
+use Rattle.vm_exec.specs.Rows.Work.{Work, Free}
 use Rattle.vm_exec.specs.declared.machine.Machine.{Machine}
 use Rattle.vm_exec.specs.Fault.{flowed}
 use Rattle.vm_exec.specs.Rules.{Rule, stored, with_stub, enters, calls, resumes, returns, branches}

@@ -1,11 +1,11 @@
 -- Integer math (Glulx 3.1.3, "Integer Math").
-use Rattle.std.specs.Prelude.{ℕ, Result, Ok, Err}
+use Rattle.std.specs.Prelude.{ℕ}
 use Rattle.vm_operand.specs.Fault as operand
 use Rattle.vm_operand.specs.Reading.{◌>>=◌}
 use Rattle.vm_operand.specs.Arithmetic.{applied}
 use Rattle.vm_operand.specs.declared.opcode.Math.{Math}
 use Rattle.vm_operand.specs.declared.operand.Dest as d
-use Rattle.vm_exec.specs.Rows.Work.{Work, Free, Costs}
+use Rattle.vm_exec.specs.Rows.Work.{Work, Free}
 use Rattle.vm_exec.specs.declared.machine.Machine.{Machine}
 use Rattle.vm_exec.specs.Rules.{puts}
 

@@ -5,7 +5,7 @@ use Rattle.vm_operand.specs.Reading.{◌>>=◌}
 use Rattle.vm_operand.specs.declared.opcode.Move.{Move}
 use Rattle.vm_operand.specs.declared.opcode.Move.TheVariants.{Copy, Copys, Copyb, Sexs, Sexb}
 use Rattle.vm_operand.specs.declared.operand.Dest as d
-use Rattle.vm_exec.specs.Rows.Work.{Work, Free, Costs}
+use Rattle.vm_exec.specs.Rows.Work.{Work, Free}
 use Rattle.vm_exec.specs.declared.machine.Machine.{Machine}
 use Rattle.vm_exec.specs.Rules.{Rule, goes, puts, stored_in}
 

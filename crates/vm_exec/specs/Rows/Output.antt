@@ -1,12 +1,12 @@
 -- Output and the I/O systems (Glulx 3.1.3, "Output").
-use Rattle.std.specs.Prelude.{ℕ, ◌%◌, nat_le, false, if◌then◌else◌, Result, Ok}
+use Rattle.std.specs.Prelude.{ℕ, ◌%◌, nat_le, false, if◌then◌else◌}
 use Rattle.vm_operand.specs.Reading.{◌>>=◌}
 use Rattle.vm_operand.specs.declared.opcode.Stream.{Stream}
 use Rattle.vm_operand.specs.declared.opcode.Stream.TheVariants.{Streamchar, Streamnum, Streamstr}
 use Rattle.vm_operand.specs.declared.opcode.Stream.TheVariants.{Streamunichar, Getstringtbl}
 use Rattle.vm_operand.specs.declared.opcode.Stream.TheVariants.{Setstringtbl, Getiosys, Setiosys}
 use Rattle.vm_operand.specs.declared.operand.Dest as d
-use Rattle.vm_exec.specs.Rows.Work.{Work, Free, Costs}
+use Rattle.vm_exec.specs.Rows.Work.{Work, Free}
 use Rattle.vm_exec.specs.declared.machine.Machine.{Machine}
 use Rattle.vm_exec.specs.Rules.{Rule, goes, puts, stored, streams}
 use Rattle.vm_exec.specs.Rows.Text.{begins, numbers}

@@ -1,5 +1,5 @@
 -- Blocks, searches and the heap (Glulx 3.1.3, "Block Copy and Clear", "Searching").
-use Rattle.std.specs.Prelude.{ℕ, ◌/◌, length, Result, Ok, Err}
+use Rattle.std.specs.Prelude.{ℕ, ◌/◌, length}
 use Rattle.vm_memory.specs.Access.{zeroed, copied}
 use Rattle.vm_memory.specs.Fault.{coded}
 use Rattle.vm_operand.specs.Reading.{◌>>=◌}
@@ -10,7 +10,7 @@ use Rattle.vm_operand.specs.declared.opcode.Search.TheVariants.{Mfree}
 use Rattle.vm_operand.specs.declared.operand.Dest as d
 use Rattle.vm_exec.specs.Rows.Searching.{linear_work, binary_work, linked_work}
 use Rattle.vm_exec.specs.Rows.Heap.{mallocs, frees}
-use Rattle.vm_exec.specs.Rows.Work.{Work, Free, Costs}
+use Rattle.vm_exec.specs.Rows.Work.{Work, Costs}
 use Rattle.vm_exec.specs.declared.machine.Machine.{Machine}
 use Rattle.vm_exec.specs.Rules.{Rule, goes}
 

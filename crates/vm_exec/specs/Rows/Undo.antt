@@ -1,6 +1,6 @@
 -- Saved states, restart and protection (Glulx 3.1.3, "Game State").
 use Rattle.std.specs.Prelude.{ℕ, ◌-◌, ◌/◌, ◌^◌, ◌==◌, if◌then◌else◌, []}
-use Rattle.std.specs.Prelude.{length, Option, Some, None, Result, Ok, Err}
+use Rattle.std.specs.Prelude.{length, Option, Some, None, Result, Ok}
 use Rattle.vm_memory.specs.MemoryMap.{MemoryMap, reset}
 use Rattle.vm_stack.specs.StackState.{StackState}
 use Rattle.vm_stack.specs.Frame.{loaded}

@@ -1,4 +1,4 @@
-use Rattle.std.proofs.Common.{rules, ◌≡◌, ◌<◌, ℕ, ◌+◌, ◌-◌, ◌∙◌, ap, sym, subst, arith, List, [], ◌∷◌, ◌++◌}
+use Rattle.std.proofs.Common.{ℕ, ◌+◌, ◌-◌, ◌∙◌, ap, sym, arith, List}
 use Rattle.vm_exec.specs.Rules as table
 use Rattle.vm_exec.proofs.ArgumentLemmas.{with_front, arguments-begin, arguments-more, arguments-stop, arguments-end, one_less}
 use Rattle.vm_exec.proofs.arguments.take_arguments.Goals as goal

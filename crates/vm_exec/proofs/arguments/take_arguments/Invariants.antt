@@ -1,4 +1,4 @@
-use Rattle.std.proofs.Common.{◌≡◌, ℕ, ◌-◌}
+use Rattle.std.proofs.Common.{◌≡◌, ◌-◌}
 use Rattle.vm_stack.specs.Chain.{Chain, HasFrame}
 use Rattle.vm_exec.specs.Rules as rules
 use Rattle.vm_exec.proofs.ArgumentLemmas.{with_front}

@@ -1,4 +1,3 @@
-use Rattle.std.proofs.Common.{◌≡◌, ℕ, List, ap, sym, subst, ◌%◌, length}
 use Rattle.vm_exec.proofs.WithinLemmas.{image-mapped}
 use Rattle.vm_exec.proofs.machine.image_memory.Goals as goal
 

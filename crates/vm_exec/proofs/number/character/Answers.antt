@@ -1,5 +1,4 @@
-use Rattle.std.proofs.Common.{◌≡◌, ◌∙◌, ◌<◌, ◌+◌, ◌-◌, ℕ, suc, List, length, arith, ap, sym}
-use Rattle.std.specs.Fmt.{decimal}
+use Rattle.std.proofs.Common.{◌≡◌, ◌∙◌, ◌-◌, ℕ, suc, List, length, arith, ap, sym}
 use Rattle.vm_exec.proofs.DigitLemmas.{text_of_natural, text_of_negative, natural_character, minus_character, negative_character}
 use Rattle.vm_exec.proofs.number.character.Goals as goal
 

@@ -1,4 +1,4 @@
-use Rattle.std.proofs.Common.{◌≡◌, ℕ, sym}
+use Rattle.std.proofs.Common.{sym}
 use Rattle.vm_exec.proofs.DigitLemmas.{digit_is}
 use Rattle.vm_exec.proofs.number.digit.Goals as goal
 

@@ -1,6 +1,6 @@
-use Rattle.std.proofs.Common.{arith, ◌≡◌, ℕ}
+use Rattle.std.proofs.Common.{arith}
 use Rattle.std.proofs.lemmas.Bool.Decides.{nat_tests}
-use Rattle.vm_exec.proofs.DigitLemmas.{digits_are, count}
+use Rattle.vm_exec.proofs.DigitLemmas.{digits_are}
 use Rattle.vm_exec.proofs.number.digits.Goals as goal
 
 pub returns-in-0-to-9-clause-value : goal.returns-in-0-to-9-clause-value

@@ -1,4 +1,4 @@
-use Rattle.std.proofs.Common.{◌≡◌, ◌∙◌, ◌+◌, ℕ, List, length, arith, ap, sym}
+use Rattle.std.proofs.Common.{◌∙◌, ℕ, List, length, arith, ap, sym}
 use Rattle.vm_exec.proofs.DigitLemmas.{text_of_natural, text_of_negative}
 use Rattle.vm_exec.proofs.number.places.Goals as goal
 

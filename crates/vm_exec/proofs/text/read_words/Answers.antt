@@ -1,4 +1,4 @@
-use Rattle.std.proofs.Common.{rules, ◌≡◌, ◌<◌, ℕ, ◌+◌, ◌-◌, ◌∙◌, ap, sym, arith, List, ◌∷◌, ◌++◌}
+use Rattle.std.proofs.Common.{ℕ, ◌+◌, ◌-◌, ◌∙◌, ap, sym, arith, List}
 use Rattle.vm_exec.specs.Rows.Text as rows
 use Rattle.vm_exec.proofs.ArgumentLemmas.{one_less}
 use Rattle.vm_exec.proofs.WordLemmas.{behind, words-more, words-stop, words-end}

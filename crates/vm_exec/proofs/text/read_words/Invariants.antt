@@ -1,4 +1,4 @@
-use Rattle.std.proofs.Common.{◌≡◌, ◌<◌, ℕ, ◌-◌}
+use Rattle.std.proofs.Common.{◌≡◌, ◌-◌}
 use Rattle.vm_exec.specs.Rows.Text as rows
 use Rattle.vm_exec.proofs.WordLemmas.{behind}
 use Rattle.vm_exec.proofs.text.read_words.Given as goal

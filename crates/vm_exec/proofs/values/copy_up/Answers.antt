@@ -1,5 +1,4 @@
-use Rattle.std.proofs.Common.{rules, ◌≡◌, ◌<◌, ℕ, ◌+◌, ◌-◌, ◌∙◌, ap, sym, subst, arith, refl}
-use Rattle.vm_exec.specs.Rows.Values as rows
+use Rattle.std.proofs.Common.{◌+◌, ◌-◌, ◌∙◌, arith}
 use Rattle.vm_exec.proofs.ArgumentLemmas.{copied_up-begin, copied_up-more, copied_up-stop, copied_up-end, one_less}
 use Rattle.vm_exec.proofs.values.copy_up.Goals as goal
 

@@ -1,4 +1,4 @@
-use Rattle.std.proofs.Common.{◌≡◌, ℕ, ◌-◌}
+use Rattle.std.proofs.Common.{◌≡◌, ◌-◌}
 use Rattle.vm_stack.specs.Chain.{Chain, HasFrame}
 use Rattle.vm_exec.specs.Rows.Values as rows
 use Rattle.vm_exec.proofs.values.copy_up.Given as goal

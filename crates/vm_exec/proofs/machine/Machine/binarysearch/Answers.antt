@@ -1,5 +1,4 @@
-use Rattle.std.proofs.Common.{◌≡◌, ◌∙◌, ℕ, Result, ap, sym, subst, slice_index}
-use Rattle.vm_search.specs.Ending.{search_of}
+use Rattle.std.proofs.Common.{ℕ, Result, sym, subst, slice_index}
 use Rattle.vm_exec.specs.Answer.{Does}
 use Rattle.vm_exec.specs.declared.machine.Machine.{Machine}
 use Rattle.vm_exec.specs.declared.step.Done.{Done}

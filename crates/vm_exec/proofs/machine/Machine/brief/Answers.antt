@@ -1,4 +1,4 @@
-use Rattle.std.proofs.Common.{◌≡◌, ℕ, Result, Ok, Option, Some, subst, sym, ◌∙◌, ap}
+use Rattle.std.proofs.Common.{ℕ, Result, Ok, Option, subst, sym, ◌∙◌, ap}
 use Rattle.vm_operand.specs.Brief.{instr_of}
 use Rattle.vm_operand.specs.declared.opcode.Op.{Op}
 use Rattle.vm_operand.proofs.OpcodeLemmas.{op_of-number_of}

@@ -1,4 +1,4 @@
-use Rattle.std.proofs.Common.{◌≡◌, ℕ, max, ap, ◌∙◌}
+use Rattle.std.proofs.Common.{ℕ, max, ap, ◌∙◌}
 use Rattle.vm_exec.proofs.FitLemmas.{ended}
 use Rattle.vm_exec.proofs.machine.Machine.end_at.Goals as goal
 

@@ -1,4 +1,4 @@
-use Rattle.std.proofs.Common.{◌≡◌, ℕ, Result, Ok, Option, subst, sym, ◌∙◌, ap}
+use Rattle.std.proofs.Common.{ℕ, Result, Ok, Option, subst, ◌∙◌, ap}
 use Rattle.vm_operand.specs.declared.opcode.Op.{Op}
 use Rattle.vm_exec.specs.Answer.{Does}
 use Rattle.vm_exec.specs.Row.{charged, told, work_of, width_of}

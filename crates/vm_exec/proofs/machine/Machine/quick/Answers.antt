@@ -1,4 +1,4 @@
-use Rattle.std.proofs.Common.{◌≡◌, ℕ, Option, IfSome, Result, sym, subst}
+use Rattle.std.proofs.Common.{ℕ, Option, IfSome, Result, sym, subst}
 use Rattle.vm_exec.specs.Answer.{Does}
 use Rattle.vm_exec.specs.Quick.{IsFetched}
 use Rattle.vm_exec.specs.Row.{charged, told}

@@ -1,4 +1,4 @@
-use Rattle.std.proofs.Common.{◌≡◌, Some, sym, ◌∙◌}
+use Rattle.std.proofs.Common.{sym}
 use Rattle.vm_memory.specs.MemoryMap.{origin_of}
 use Rattle.vm_exec.proofs.FitLemmas.{taken-fit, newest-saved}
 use Rattle.vm_exec.proofs.machine.Machine.restore_undo.Goals as goal

@@ -1,4 +1,4 @@
-use Rattle.std.proofs.Common.{◌≡◌, ◌∷◌, []}
+use Rattle.std.proofs.Common.{◌∷◌, []}
 use Rattle.vm_undo.proofs.UndoLemmas.{are_filled-shifted}
 use Rattle.vm_undo.proofs.undo.Undo.restore.Goals as goal
 
