@@ -1,0 +1,6 @@
+pub mod Readers
+pub mod Lists
+pub mod Loop
+pub mod ItemLaws
+pub mod GlkLaws
+pub mod WholeLaws

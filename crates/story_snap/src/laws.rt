@@ -1,0 +1,13 @@
+//! Laws of the format.
+
+ghost use Rattle.story_snap.specs.Laws.{HasOneSpelling, ReadsEachSpelling};
+
+/// What is printed of fields is read as these fields, unless memory runs out.
+pub fn reads_each_spelling()
+    ensures { ReadsEachSpelling }
+{}
+
+/// No two fields have the same bytes.
+pub fn has_one_spelling()
+    ensures { HasOneSpelling }
+{}

@@ -1,0 +1,21 @@
+//! A world's bytes as plain fields: written and read, one to one.
+#![tactic(auto)]
+
+mod cursor;
+mod entries;
+mod fault;
+mod fields;
+mod glk;
+mod glk_reading;
+mod item;
+mod items;
+mod laws;
+mod read;
+mod reading;
+
+pub use fault::SnapFault;
+pub use fields::{Fields, Machine, Numbers, Random, Settings, Setup, Store, Waiting};
+pub use glk::{Area, Content, File, FileRef, Request, Stream, Target, Window};
+pub use items::Items;
+pub use laws::{has_one_spelling, reads_each_spelling};
+pub use read::read_fields;
