@@ -1,12 +1,11 @@
 -- Windows, streams, file references and files: each is read exactly as it is printed.
-use Rattle.std.proofs.Common.{◌≡◌, ℕ, ◌*◌, ◌==◌, Bool, true, false, List, [], ◌∷◌, ◌++◌, length}
-use Rattle.std.proofs.Common.{refl, sym, ap, ◌∙◌, arith, append_assoc}
-use Rattle.std.specs.List.{flat_map, AllByRecursion}
+use Rattle.std.proofs.Common.{◌≡◌, ℕ, ◌*◌, ◌==◌, Bool, false, List, [], ◌++◌, length}
+use Rattle.std.proofs.Common.{refl, sym, arith, append_assoc}
+use Rattle.std.specs.List.{AllByRecursion}
 use Rattle.std.proofs.lemmas.Bool.Decides.{nat_tests}
-use Rattle.std.proofs.lemmas.List.{length-append}
-use Rattle.story_snap.specs.Numbers.{n1, n4, flag, IsByte, IsWord, IsListOf, list_of, text_of, bytes_of}
-use Rattle.story_snap.specs.Reading.{Reader, ◌then◌, joined, led_by, made, none_at, pure_at, n1_at}
-use Rattle.story_snap.specs.Reading.{n4_at, many_at, list_at, bytes_at, flag1_at, flag4_at}
+use Rattle.story_snap.specs.Numbers.{n1, n4, flag, IsByte, IsWord, IsListOf, list_of}
+use Rattle.story_snap.specs.Reading.{n1_at}
+use Rattle.story_snap.specs.Reading.{n4_at, list_at}
 use Rattle.story_snap.specs.declared.glk.Area.{Area}
 use Rattle.story_snap.specs.declared.glk.Content.{Content}
 use Rattle.story_snap.specs.declared.glk.Content.TheVariants.{Pair, Blank, Buffer, Grid}

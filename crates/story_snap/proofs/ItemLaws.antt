@@ -1,12 +1,10 @@
 -- The items: each is read exactly as it is printed.
-use Rattle.std.proofs.Common.{◌≡◌, ℕ, ◌*◌, ◌==◌, Bool, true, false, List, [], ◌∷◌, ◌++◌, length}
+use Rattle.std.proofs.Common.{◌≡◌, ℕ, ◌==◌, true, false, List, [], ◌++◌}
 use Rattle.std.proofs.Common.{refl, sym, arith}
-use Rattle.std.specs.List.{flat_map, AllByRecursion}
 use Rattle.std.proofs.lemmas.Bool.Decides.{nat_tests}
 use Rattle.vm_heap.specs.declared.block.Block.{Block}
-use Rattle.story_snap.specs.Numbers.{n1, n4, n8, IsByte, IsWord, IsLong, IsListOf, list_of, bytes_of}
-use Rattle.story_snap.specs.Reading.{Reader, ◌then◌, led_by, made, none_at, pure_at, n1_at, n4_at}
-use Rattle.story_snap.specs.Reading.{n8_at, list_at, bytes_at}
+use Rattle.story_snap.specs.Numbers.{n1, n4, IsByte, IsWord}
+use Rattle.story_snap.specs.Reading.{n1_at}
 use Rattle.story_snap.specs.declared.fields.Machine.{Machine}
 use Rattle.story_snap.specs.declared.fields.Numbers.{Numbers}
 use Rattle.story_snap.specs.declared.fields.Random.{Random}

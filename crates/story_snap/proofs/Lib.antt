@@ -4,3 +4,4 @@ pub mod Loop
 pub mod ItemLaws
 pub mod GlkLaws
 pub mod WholeLaws
+pub mod PutLemmas

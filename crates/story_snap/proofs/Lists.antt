@@ -1,14 +1,14 @@
 -- Flags and lists: they are read exactly as they are printed.
-use Rattle.std.proofs.Common.{◌≡◌, ℕ, zero, suc, ◌+◌, ◌-◌, ◌^◌, ◌<◌, ◌≤◌, Bool, true, false, cond}
-use Rattle.std.proofs.Common.{◌==◌, nat_lt, List, [], ◌∷◌, ◌++◌, length, get_or, take, drop}
-use Rattle.std.proofs.Common.{Option, Some, None, refl, ap, sym, subst, ◌∙◌, arith, append_assoc}
+use Rattle.std.proofs.Common.{◌≡◌, ℕ, zero, suc, ◌≤◌, Bool, true, false}
+use Rattle.std.proofs.Common.{◌==◌, nat_lt, List, [], ◌∷◌, ◌++◌, length, take, drop}
+use Rattle.std.proofs.Common.{Some, refl, ap, sym, subst, ◌∙◌, arith, append_assoc}
 use Rattle.std.specs.List.{flat_map, AllByRecursion}
 use Rattle.std.proofs.lemmas.Bool.{ltb-false, le-ltb}
 use Rattle.std.proofs.lemmas.Bool.Decides.{nat_tests}
 use Rattle.std.proofs.lemmas.List.{length-append, length-take, take-append-drop, take_at, drop_at}
 use Rattle.std.proofs.lemmas.List.Concat.{flat_map-cons}
 use Rattle.story_snap.specs.Numbers.{n1, n4, IsByte, IsWord, IsListOf, flag, list_of, bytes_of}
-use Rattle.story_snap.specs.Reading.{Reader, ◌>>=◌, led_by, none_at, pure_at, n1_at, n4_at, bool_at}
+use Rattle.story_snap.specs.Reading.{Reader, ◌>>=◌, none_at, pure_at, n1_at, n4_at, bool_at}
 use Rattle.story_snap.specs.Reading.{flag1_at, flag4_at, many_at, taken_at, list_at, bytes_at}
 use Rattle.story_snap.proofs.Readers.{bind_some, some_is, else_some, IsBytes, bytes_take}
 use Rattle.story_snap.proofs.Readers.{rest_bytes, Takes, IsReader, led_reads, none_reads, pure_reads}

@@ -1,22 +1,17 @@
 -- Readers and what they read: each takes exactly what is printed, and these laws compose.
-use Rattle.std.proofs.Common.{◌≡◌, ℕ, zero, suc, ◌+◌, ◌-◌, ◌^◌, ◌<◌, ◌≤◌, Bool, true, false, cond}
-use Rattle.std.proofs.Common.{◌==◌, nat_lt, List, [], ◌∷◌, ◌++◌, length, get_or, take, drop}
+use Rattle.std.proofs.Common.{◌≡◌, ℕ, ◌+◌, ◌^◌, ◌<◌, ◌≤◌, Bool, true, false, cond}
+use Rattle.std.proofs.Common.{nat_lt, List, [], ◌∷◌, ◌++◌, length, get_or, take, drop}
 use Rattle.std.proofs.Common.{Option, Some, None, refl, ap, sym, subst, ◌∙◌, arith, append_assoc, inl, inr}
 use Rattle.std.specs.Int.{Width, w32, w64, byte_len, from_be_bytes, to_be_bytes}
-use Rattle.std.specs.List.{flat_map, AllByRecursion}
-use Rattle.std.proofs.lemmas.Bool.Decides.{nat_tests}
-use Rattle.std.proofs.lemmas.List.{append-nil, length-append, length-take, take-append-drop}
+use Rattle.std.proofs.lemmas.List.{length-append, length-take, take-append-drop}
 use Rattle.std.proofs.lemmas.List.{take_at, drop_at, get_or-append-add, get_or-drop, get_or-take}
 use Rattle.std.proofs.lemmas.List.{get_or_past}
 use Rattle.std.proofs.lemmas.Bool.{cases_lt, ltb-false, le-ltb}
-use Rattle.std.proofs.lemmas.List.Concat.{flat_map-cons}
 use Rattle.std.proofs.lemmas.Nat.{be_bytes_4, be_bytes_8, from_be_bytes-to_be_bytes_4}
 use Rattle.std.proofs.lemmas.Nat.{from_be_bytes-to_be_bytes_8}
-use Rattle.story_snap.specs.Numbers.{n1, n4, n8, IsByte, IsWord, IsLong, list_of, bytes_of}
-use Rattle.story_snap.specs.Numbers.{IsListOf, flag}
+use Rattle.story_snap.specs.Numbers.{n1, n4, n8, IsByte, IsWord, IsLong}
 use Rattle.story_snap.specs.Reading.{Reader, ◌>>=◌, joined, ◌then◌, led_by, made, none_at, pure_at}
-use Rattle.story_snap.specs.Reading.{number_at, n1_at, n4_at, n8_at, bool_at, flag1_at, flag4_at}
-use Rattle.story_snap.specs.Reading.{many_at, taken_at, list_at, bytes_at}
+use Rattle.story_snap.specs.Reading.{number_at, n1_at, n4_at, n8_at}
 
 -- ---- tools
 

@@ -1,24 +1,23 @@
 -- All of the bytes: what is read is spelled so, and what is spelled so is read.
-use Rattle.std.proofs.Common.{◌≡◌, ℕ, ◌==◌, Bool, true, false, cond, List, [], ◌∷◌, ◌++◌, length}
+use Rattle.std.proofs.Common.{◌≡◌, ℕ, ◌==◌, Bool, true, false, cond, List, [], ◌++◌, length}
 use Rattle.std.proofs.Common.{Option, Some, None, Result, Ok, Err, refl, sym, ap, subst, ◌∙◌, arith}
 use Rattle.std.specs.Prelude.{IfOk, IfErr}
 use Rattle.std.proofs.lemmas.Bool.Decides.{nat_tests}
 use Rattle.std.proofs.lemmas.List.{append-nil, nil_from_length}
 use Rattle.story_snap.specs.Numbers.{n4, IsWord, list_of, bytes_of, IsListOf, IsByte}
-use Rattle.story_snap.specs.Reading.{Reader, ◌then◌, led_by, made, none_at, n4_at, bytes_at, list_at}
-use Rattle.story_snap.specs.Reading.{Fails}
+use Rattle.story_snap.specs.Reading.{made, n4_at, bytes_at}
 use Rattle.story_snap.specs.declared.fault.SnapFault.{SnapFault}
 use Rattle.story_snap.specs.declared.fault.SnapFault.TheVariants.{BadSnap, NoMemory}
 use Rattle.story_snap.specs.declared.fields.Fields.{Fields}
-use Rattle.story_snap.specs.Printing.{signature, print_setup, print_machine, print_settings}
+use Rattle.story_snap.specs.Printing.{print_setup, print_machine, print_settings}
 use Rattle.story_snap.specs.Printing.{print_random, print_waiting, print_numbers, print_window}
 use Rattle.story_snap.specs.Printing.{print_stream, print_fileref, print_file, print_fields}
 use Rattle.story_snap.specs.Printable.{IsWindow, IsStream, IsFileRef, IsFile, IsPrintable}
 use Rattle.story_snap.specs.GlkItems.{window_at, stream_at, fileref_at, file_at}
-use Rattle.story_snap.specs.Whole.{Parts, parts_at, fields_of, signed, fields_at, whole, Finds}
-use Rattle.story_snap.specs.Laws.{Spells, SpellsNothing, Refuses, ReadsFields, IsReadAs}
+use Rattle.story_snap.specs.Whole.{parts_at, fields_of, signed, fields_at, whole, Finds}
+use Rattle.story_snap.specs.Laws.{Spells, Refuses, ReadsFields}
 use Rattle.story_snap.specs.Laws.{ReadsEachSpelling, HasOneSpelling}
-use Rattle.story_snap.proofs.Readers.{IsBytes, Takes, IsReader, ◌before◌, made_reads, led_reads}
+use Rattle.story_snap.proofs.Readers.{IsBytes, IsReader, ◌before◌, made_reads, led_reads}
 use Rattle.story_snap.proofs.Readers.{none_reads, if_reads, n4_reads, some_is}
 use Rattle.story_snap.proofs.Lists.{list_reads, bytes_reads}
 use Rattle.story_snap.proofs.ItemLaws.{equal, setup_reads, machine_reads, settings_reads}

@@ -1,8 +1,8 @@
 -- Windows, streams, file references and files, read from the left (own: docs/FORMATS.md,
 -- "Snapshot bytes").
-use Rattle.std.specs.Prelude.{ℕ, ◌*◌, ◌==◌, if◌then◌else◌, Bool, List, Option, Some}
-use Rattle.story_snap.specs.Reading.{Reader, ◌then◌, ◌>>=◌, joined, led_by, made, none_at, pure_at}
-use Rattle.story_snap.specs.Reading.{n1_at, n4_at, n8_at, flag1_at, flag4_at, many_at, list_at}
+use Rattle.std.specs.Prelude.{ℕ, ◌*◌, ◌==◌, if◌then◌else◌, Bool, List}
+use Rattle.story_snap.specs.Reading.{Reader, ◌then◌, joined, led_by, made, none_at, pure_at}
+use Rattle.story_snap.specs.Reading.{n1_at, n4_at, flag1_at, flag4_at, many_at, list_at}
 use Rattle.story_snap.specs.Reading.{bytes_at}
 use Rattle.story_snap.specs.declared.glk.Area.{Area}
 use Rattle.story_snap.specs.declared.glk.Content.{Content}

@@ -1,10 +1,9 @@
 -- The items, read from the left (own: docs/FORMATS.md, "Snapshot bytes").
-use Rattle.std.specs.Prelude.{ℕ, ◌*◌, ◌==◌, if◌then◌else◌, Bool, List, Option, Some}
+use Rattle.std.specs.Prelude.{ℕ, ◌==◌, if◌then◌else◌, List}
 use Rattle.vm_heap.specs.declared.block.Block.{Block}
-use Rattle.story_snap.specs.Reading.{Reader, ◌then◌, ◌>>=◌, joined, led_by, made, none_at, pure_at}
-use Rattle.story_snap.specs.Reading.{n1_at, n4_at, n8_at, flag1_at, flag4_at, many_at, list_at}
+use Rattle.story_snap.specs.Reading.{Reader, ◌then◌, led_by, made, none_at, pure_at}
+use Rattle.story_snap.specs.Reading.{n1_at, n4_at, n8_at, list_at}
 use Rattle.story_snap.specs.Reading.{bytes_at}
-use Rattle.story_snap.specs.declared.fields.Fields.{Fields}
 use Rattle.story_snap.specs.declared.fields.Machine.{Machine}
 use Rattle.story_snap.specs.declared.fields.Numbers.{Numbers}
 use Rattle.story_snap.specs.declared.fields.Random.{Random}

@@ -28,6 +28,16 @@ abbrev pub flag : Bool → ℕ
 flag false = 0
 flag true = 1
 
+abbrev pub flag1 : Bool → List ℕ
+flag1 b = n1 (flag b)
+
+abbrev pub flag4 : Bool → List ℕ
+flag4 b = n4 (flag b)
+
+-- each of the two has bytes
+abbrev pub IsFlag : Bool → Type 0
+IsFlag b = Unit {0}
+
 -- a list is its count and its items
 abbrev pub list_of : {A : Type 0} → (A → List ℕ) → List A → List ℕ
 list_of print xs = n4 (length xs) ++ flat_map print xs

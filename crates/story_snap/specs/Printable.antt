@@ -1,5 +1,5 @@
 -- What fields have bytes (own: docs/FORMATS.md, "Snapshot bytes").
-use Rattle.std.specs.Prelude.{ℕ, ◌≡◌, ◌*◌, List, length}
+use Rattle.std.specs.Prelude.{◌≡◌, ◌*◌, length}
 use Rattle.std.specs.List.{AllByRecursion}
 use Rattle.vm_heap.specs.declared.block.Block.{Block}
 use Rattle.story_snap.specs.Numbers.{IsByte, IsWord, IsLong, IsListOf}

@@ -1,7 +1,7 @@
 -- All of a world's bytes, read from the left (own: docs/FORMATS.md, "Snapshot bytes").
-use Rattle.std.specs.Prelude.{ℕ, ◌≡◌, ◌==◌, ◌&&◌, if◌then◌else◌, Bool, List, [], ◌∷◌, length, take}
-use Rattle.std.specs.Prelude.{drop, nat_lt, Option, Some, None, Result, Ok, Err}
-use Rattle.story_snap.specs.Reading.{Reader, ◌>>=◌, ◌then◌, led_by, made, none_at, pure_at}
+use Rattle.std.specs.Prelude.{ℕ, ◌≡◌, ◌==◌, if◌then◌else◌, List, length}
+use Rattle.std.specs.Prelude.{Option, Some, None, Result, Ok, Err}
+use Rattle.story_snap.specs.Reading.{Reader, ◌then◌, led_by, made, none_at}
 use Rattle.story_snap.specs.Reading.{n4_at, bytes_at, list_at, Fails}
 use Rattle.story_snap.specs.Items.{setup_at, machine_at, settings_at, random_at, waiting_at}
 use Rattle.story_snap.specs.Items.{numbers_at}

@@ -1,6 +1,12 @@
 //! What stands in lists: codes, blocks, undo states, and the objects of Glk (own).
 
+ghost use Rattle.story_snap.specs.Counts.{CountsFile, CountsFileRef, CountsStream, CountsWindow};
+ghost use Rattle.story_snap.specs.Counts.{HasNoList};
 ghost use Rattle.story_snap.specs.Items.{block_at};
+ghost use Rattle.story_snap.specs.Numbers.{IsByte, IsCounted, IsListOf, IsWord, bytes_of, n4};
+ghost use Rattle.story_snap.specs.Printable.{IsBlock, IsFile, IsFileRef, IsStream, IsWindow};
+ghost use Rattle.story_snap.specs.Printing.{print_block, print_file, print_fileref, print_stream};
+ghost use Rattle.story_snap.specs.Printing.{print_window};
 ghost use Rattle.story_snap.specs.Reading.{bytes_at, n4_at};
 ghost use Rattle.story_snap.specs.GlkItems.{file_at, fileref_at, stream_at, window_at};
 
@@ -8,29 +14,57 @@ use crate::cursor::Cursor;
 use crate::fault::SnapFault;
 use crate::glk::{File, FileRef, Stream, Window};
 use crate::glk_reading::{area, content, request, target};
-use crate::item::{Item, list};
+use crate::glk_writing::{put_area, put_content, put_request, put_target};
+use crate::item::{Item, list, put_list};
 use crate::items::Items;
-use std::alloc::Global;
+use crate::put::{put_bytes, put_flag1, put_flag4, put1, put4};
+use std::alloc::{AllocError, Global};
 use vm_heap::Block;
 
 impl Item for u32 {
     ghost read_as = { n4_at };
 
+    ghost print = { n4 };
+
+    ghost is_printable = { IsWord };
+
+    ghost has_counts = { HasNoList };
+
     fn read(_alloc: Global, from: &mut Cursor<'_>) -> Result<u32, SnapFault> {
         from.n4()
+    }
+
+    fn write(&self, out: &mut Vec<u8>) -> Result<(), AllocError> {
+        put4(out, *self)
     }
 }
 
 impl Item for Items<u8> {
     ghost read_as = { bytes_at };
 
+    ghost print = { bytes_of };
+
+    ghost is_printable = { IsListOf IsByte };
+
+    ghost has_counts = { IsCounted };
+
     fn read(alloc: Global, from: &mut Cursor<'_>) -> Result<Items<u8>, SnapFault> {
         from.bytes(alloc)
+    }
+
+    fn write(&self, out: &mut Vec<u8>) -> Result<(), AllocError> {
+        put_bytes(out, self.as_slice())
     }
 }
 
 impl Item for Block {
     ghost read_as = { block_at };
+
+    ghost print = { print_block };
+
+    ghost is_printable = { IsBlock };
+
+    ghost has_counts = { HasNoList };
 
     #[tactic(auto, unfolding(crate::specs::Items::block_at))]
     fn read(_alloc: Global, from: &mut Cursor<'_>) -> Result<Block, SnapFault> {
@@ -39,10 +73,21 @@ impl Item for Block {
             length: from.n4()?,
         })
     }
+
+    fn write(&self, out: &mut Vec<u8>) -> Result<(), AllocError> {
+        put4(out, self.at)?;
+        put4(out, self.length)
+    }
 }
 
 impl Item for Window {
     ghost read_as = { window_at };
+
+    ghost print = { print_window };
+
+    ghost is_printable = { IsWindow };
+
+    ghost has_counts = { CountsWindow };
 
     #[tactic(auto, unfolding(crate::specs::GlkItems::window_at))]
     fn read(alloc: Global, from: &mut Cursor<'_>) -> Result<Window, SnapFault> {
@@ -68,10 +113,31 @@ impl Item for Window {
             request: request(alloc, from)?,
         })
     }
+
+    fn write(&self, out: &mut Vec<u8>) -> Result<(), AllocError> {
+        put4(out, self.number)?;
+        put4(out, self.content.kind())?;
+        put4(out, self.rock)?;
+        put4(out, self.stream)?;
+        put4(out, self.echo_stream)?;
+        put4(out, self.parent)?;
+        put_flag4(out, self.echo)?;
+        put_list(out, self.keys.as_slice())?;
+        put_area(out, self.area)?;
+        put_content(out, self.area, &self.content)?;
+        put_request(out, &self.request)?;
+        Ok(())
+    }
 }
 
 impl Item for Stream {
     ghost read_as = { stream_at };
+
+    ghost print = { print_stream };
+
+    ghost is_printable = { IsStream };
+
+    ghost has_counts = { CountsStream };
 
     #[tactic(auto, unfolding(crate::specs::GlkItems::stream_at))]
     fn read(alloc: Global, from: &mut Cursor<'_>) -> Result<Stream, SnapFault> {
@@ -89,10 +155,30 @@ impl Item for Stream {
             target: target(alloc, from, kind)?,
         })
     }
+
+    fn write(&self, out: &mut Vec<u8>) -> Result<(), AllocError> {
+        put4(out, self.number)?;
+        put1(out, self.target.kind())?;
+        put4(out, self.rock)?;
+        put4(out, self.mode)?;
+        put4(out, self.style)?;
+        put4(out, self.read)?;
+        put4(out, self.written)?;
+        put4(out, self.position)?;
+        put_flag1(out, self.unicode)?;
+        put_target(out, &self.target)?;
+        Ok(())
+    }
 }
 
 impl Item for FileRef {
     ghost read_as = { fileref_at };
+
+    ghost print = { print_fileref };
+
+    ghost is_printable = { IsFileRef };
+
+    ghost has_counts = { CountsFileRef };
 
     #[tactic(auto, unfolding(crate::specs::GlkItems::fileref_at))]
     fn read(alloc: Global, from: &mut Cursor<'_>) -> Result<FileRef, SnapFault> {
@@ -103,10 +189,24 @@ impl Item for FileRef {
             name: list(alloc, from)?,
         })
     }
+
+    fn write(&self, out: &mut Vec<u8>) -> Result<(), AllocError> {
+        put4(out, self.number)?;
+        put4(out, self.usage)?;
+        put4(out, self.rock)?;
+        put_list(out, self.name.as_slice())?;
+        Ok(())
+    }
 }
 
 impl Item for File {
     ghost read_as = { file_at };
+
+    ghost print = { print_file };
+
+    ghost is_printable = { IsFile };
+
+    ghost has_counts = { CountsFile };
 
     #[tactic(auto, unfolding(crate::specs::GlkItems::file_at))]
     fn read(alloc: Global, from: &mut Cursor<'_>) -> Result<File, SnapFault> {
@@ -115,5 +215,11 @@ impl Item for File {
             name: list(alloc, from)?,
             bytes: from.bytes(alloc)?,
         })
+    }
+
+    fn write(&self, out: &mut Vec<u8>) -> Result<(), AllocError> {
+        put4(out, self.usage)?;
+        put_list(out, self.name.as_slice())?;
+        put_bytes(out, self.bytes.as_slice())
     }
 }
