@@ -3,5 +3,7 @@ pub mod Lists
 pub mod Loop
 pub mod ItemLaws
 pub mod GlkLaws
+pub mod StreamLaws
+pub mod CountLemmas
 pub mod WholeLaws
 pub mod PutLemmas

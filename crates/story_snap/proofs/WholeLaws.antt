@@ -22,7 +22,10 @@ use Rattle.story_snap.proofs.Readers.{none_reads, if_reads, n4_reads, some_is}
 use Rattle.story_snap.proofs.Lists.{list_reads, bytes_reads}
 use Rattle.story_snap.proofs.ItemLaws.{equal, setup_reads, machine_reads, settings_reads}
 use Rattle.story_snap.proofs.ItemLaws.{random_reads, waiting_reads, numbers_reads}
-use Rattle.story_snap.proofs.GlkLaws.{window_reads, stream_reads, fileref_reads, file_reads}
+use Rattle.story_snap.specs.Counts.{HasCounts}
+use Rattle.story_snap.proofs.CountLemmas.{has_counts}
+use Rattle.story_snap.proofs.GlkLaws.{window_reads}
+use Rattle.story_snap.proofs.StreamLaws.{stream_reads, fileref_reads, file_reads}
 
 -- what stands behind the signature
 abbrev behind : Fields → List ℕ
@@ -189,3 +192,8 @@ pub exact : (bytes : List ℕ) (result : Result Fields SnapFault) → ReadsField
     → IfErr result (Refuses bytes)
 exact bytes (Ok f) h = tt
 exact bytes (Err e) h = h
+
+pub kept : (bytes : List ℕ) (result : Result Fields SnapFault) → ReadsFields bytes result
+    → IfOk result HasCounts
+kept bytes (Ok f) h = has_counts f h.ranges
+kept bytes (Err e) h = tt

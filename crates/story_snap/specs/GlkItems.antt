@@ -1,5 +1,4 @@
--- Windows, streams, file references and files, read from the left (own: docs/FORMATS.md,
--- "Snapshot bytes").
+-- Windows, streams and files, read from the left (own: docs/FORMATS.md, "Snapshot bytes").
 use Rattle.std.specs.Prelude.{ℕ, ◌*◌, ◌==◌, if◌then◌else◌, Bool, List}
 use Rattle.story_snap.specs.Reading.{Reader, ◌then◌, joined, led_by, made, none_at, pure_at}
 use Rattle.story_snap.specs.Reading.{n1_at, n4_at, flag1_at, flag4_at, many_at, list_at}
