@@ -1,5 +1,5 @@
 -- Fields that have bytes have lists whose counts have four.
-use Rattle.std.proofs.Common.{◌≡◌, ℕ, List, [], ◌∷◌, refl}
+use Rattle.std.proofs.Common.{List, [], ◌∷◌}
 use Rattle.std.specs.List.{AllByRecursion}
 use Rattle.story_snap.specs.Counts.{CountsList, CountsWindow, HasCells, CountsRequest, CountsTarget}
 use Rattle.story_snap.specs.Counts.{HasCounts}

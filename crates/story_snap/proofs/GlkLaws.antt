@@ -9,27 +9,18 @@ use Rattle.story_snap.specs.Reading.{n4_at, list_at}
 use Rattle.story_snap.specs.declared.glk.Area.{Area}
 use Rattle.story_snap.specs.declared.glk.Content.{Content}
 use Rattle.story_snap.specs.declared.glk.Content.TheVariants.{Pair, Blank, Buffer, Grid}
-use Rattle.story_snap.specs.declared.glk.File.{File}
-use Rattle.story_snap.specs.declared.glk.FileRef.{FileRef}
 use Rattle.story_snap.specs.declared.glk.Request.{Request}
 use Rattle.story_snap.specs.declared.glk.Request.TheVariants.{Nothing, Line, Char}
-use Rattle.story_snap.specs.declared.glk.Stream.{Stream}
-use Rattle.story_snap.specs.declared.glk.Target.{Target}
-use Rattle.story_snap.specs.declared.glk.Target.TheVariants as target
 use Rattle.story_snap.specs.declared.glk.Window.{Window}
 use Rattle.story_snap.specs.Printing.{type_of, print_area, print_content, print_request}
-use Rattle.story_snap.specs.Printing.{print_window, kind_of, print_target, print_stream}
-use Rattle.story_snap.specs.Printing.{print_fileref, print_file}
-use Rattle.story_snap.specs.Printable.{IsArea, IsContent, IsRequest, IsWindow, IsTarget, IsStream}
-use Rattle.story_snap.specs.Printable.{IsFileRef, IsFile}
+use Rattle.story_snap.specs.Printing.{print_window}
+use Rattle.story_snap.specs.Printable.{IsArea, IsContent, IsRequest, IsWindow}
 use Rattle.story_snap.specs.GlkItems.{area_of, area_at, pair_of, grid_of, content_at, line_of}
 use Rattle.story_snap.specs.GlkItems.{request_with, request_at, Head, head_at, behind_head}
-use Rattle.story_snap.specs.GlkItems.{window_of, window_at, memory_of, file_target_of, target_at}
-use Rattle.story_snap.specs.GlkItems.{StreamHead, stream_head_at, behind_stream, stream_of, stream_at}
-use Rattle.story_snap.specs.GlkItems.{fileref_of, fileref_at, file_of, file_at}
+use Rattle.story_snap.specs.GlkItems.{window_of, window_at}
 use Rattle.story_snap.proofs.Readers.{IsReader, ◌before◌, made_reads, led_reads, joined_reads}
 use Rattle.story_snap.proofs.Readers.{none_reads, pure_reads, if_reads, n1_reads, n4_reads}
-use Rattle.story_snap.proofs.Lists.{list_reads, many_reads, bytes_reads, flag1_reads, flag4_reads}
+use Rattle.story_snap.proofs.Lists.{list_reads, many_reads, flag1_reads, flag4_reads}
 use Rattle.story_snap.proofs.ItemLaws.{equal}
 
 pub codes_reads : IsReader (List ℕ) (list_of n4) (IsListOf IsWord) (list_at n4_at)

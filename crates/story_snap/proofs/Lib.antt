@@ -6,4 +6,5 @@ pub mod GlkLaws
 pub mod StreamLaws
 pub mod CountLemmas
 pub mod WholeLaws
+mod StandardFacts
 pub mod PutLemmas

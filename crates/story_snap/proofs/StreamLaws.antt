@@ -1,5 +1,5 @@
 -- Streams, file references and files: each is read exactly as it is printed.
-use Rattle.std.proofs.Common.{◌≡◌, ℕ, ◌==◌, Bool, true, false, List, [], ◌++◌, refl, sym, arith}
+use Rattle.std.proofs.Common.{◌≡◌, ℕ, ◌==◌, false, List, ◌++◌, refl, sym, arith}
 use Rattle.std.proofs.lemmas.Bool.Decides.{nat_tests}
 use Rattle.story_snap.specs.Numbers.{n1, n4, flag, IsByte, IsWord, IsListOf}
 use Rattle.story_snap.specs.declared.glk.File.{File}

@@ -24,3 +24,6 @@ pub use items::Items;
 pub use laws::{has_one_spelling, reads_each_spelling};
 pub use read::read_fields;
 pub use write::write_fields;
+
+#[cfg(test)]
+mod tests;
