@@ -32,7 +32,7 @@ cells area (Grid x y codes) h = h.2
 
 request : (r : Request) → IsRequest r → CountsRequest r
 request Nothing h = tt
-request (Line unicode buffer maximum initial echo keys) h = h.3.0
+request (Line unicode buffer maximum initial echo terminators) h = h.3.0
 request (Char unicode) h = tt
 
 goes_to : (t : Target) → IsTarget t → CountsTarget t
@@ -42,7 +42,7 @@ goes_to (target.File usage name) h = h.1.0
 
 window : (w : Window) → IsWindow w → CountsWindow w
 window w h = record {
-  keys = h.keys.0;
+  terminators = h.terminators.0;
   cells = cells w.area w.content h.content;
   request = request w.request h.request;
 }

@@ -97,14 +97,14 @@ content_reads n area =
 
 abbrev kind_in : Request → ℕ
 kind_in Nothing = 0
-kind_in (Line unicode buffer maximum initial echo keys) = 1
+kind_in (Line unicode buffer maximum initial echo terminators) = 1
 kind_in (Char unicode) = 2
 
 abbrev behind_kind : Request → List ℕ
 behind_kind Nothing = []
-behind_kind (Line unicode buffer maximum initial echo keys) =
+behind_kind (Line unicode buffer maximum initial echo terminators) =
     n1 (flag unicode) ++ (n4 buffer ++ (n4 maximum ++ (n4 initial
-    ++ (n1 (flag echo) ++ list_of n4 keys))))
+    ++ (n1 (flag echo) ++ list_of n4 terminators))))
 behind_kind (Char unicode) = n1 (flag unicode)
 
 abbrev Asks : ℕ → Request → Type 0
@@ -112,12 +112,12 @@ Asks kind r = (kind_in r ≡ kind) × IsRequest r
 
 kind_small : (r : Request) → IsRequest r → IsByte (kind_in r)
 kind_small Nothing h = omega arith
-kind_small (Line unicode buffer maximum initial echo keys) h = omega arith
+kind_small (Line unicode buffer maximum initial echo terminators) h = omega arith
 kind_small (Char unicode) h = omega arith
 
 led : (r : Request) → print_request r ≡ n1 (kind_in r) ++ behind_kind r
 led Nothing = refl
-led (Line unicode buffer maximum initial echo keys) = refl
+led (Line unicode buffer maximum initial echo terminators) = refl
 led (Char unicode) = refl
 
 nothing_only : (n : ℕ) → n ≡ 0 → (r : Request) → Asks n r → Nothing ≡ r
@@ -128,8 +128,8 @@ line_only : (n : ℕ) → n ≡ 1 → (r : Request) → Asks n r
     → (x : Bool × (ℕ × (ℕ × (ℕ × (Bool × List ℕ))))) × (line_of x ≡ r)
     × (Unit {0} × (IsWord x.1.0 × (IsWord x.1.1.0 × (IsWord x.1.1.1.0
     × (Unit {0} × IsListOf IsWord x.1.1.1.1.1)))))
-line_only n e (Line unicode buffer maximum initial echo keys) h = (
-  (unicode, (buffer, (maximum, (initial, (echo, keys))))),
+line_only n e (Line unicode buffer maximum initial echo terminators) h = (
+  (unicode, (buffer, (maximum, (initial, (echo, terminators))))),
   refl,
   (tt, (h.1.0, (h.1.1, (h.1.2, (tt, h.1.3))))),
 )
@@ -143,7 +143,7 @@ char_only n e r h = absurd (omega (arith, e, h.0))
 no_request : (n : ℕ) → (n == 0) ≡ false → (n == 1) ≡ false → (n == 2) ≡ false
     → (r : Request) → Asks n r → ⊥
 no_request n a b c Nothing h = grind (arith, nat_tests, a, h.0)
-no_request n a b c (Line unicode buffer maximum initial echo keys) h =
+no_request n a b c (Line unicode buffer maximum initial echo terminators) h =
     grind (arith, nat_tests, b, h.0)
 no_request n a b c (Char unicode) h = grind (arith, nat_tests, c, h.0)
 
@@ -173,14 +173,14 @@ request_reads =
 
 -- a window up to its rectangle, and what stands behind it
 abbrev print_head : Head → List ℕ
-print_head (number, (type, (rock, (stream, (echo_stream, (parent, (echo, (keys, area)))))))) =
+print_head (number, (type, (rock, (stream, (echo_stream, (parent, (echo, (terminators, area)))))))) =
     n4 number ++ (n4 type ++ (n4 rock ++ (n4 stream ++ (n4 echo_stream ++ (n4 parent
-    ++ (n4 (flag echo) ++ (list_of n4 keys ++ print_area area)))))))
+    ++ (n4 (flag echo) ++ (list_of n4 terminators ++ print_area area)))))))
 
 abbrev IsHead : Head → Type 0
-IsHead (number, (type, (rock, (stream, (echo_stream, (parent, (echo, (keys, area)))))))) =
+IsHead (number, (type, (rock, (stream, (echo_stream, (parent, (echo, (terminators, area)))))))) =
     IsWord number × (IsWord type × (IsWord rock × (IsWord stream × (IsWord echo_stream
-    × (IsWord parent × (Unit {0} × (IsListOf IsWord keys × IsArea area)))))))
+    × (IsWord parent × (Unit {0} × (IsListOf IsWord terminators × IsArea area)))))))
 
 head_reads : IsReader Head print_head IsHead head_at
 head_reads =
@@ -191,12 +191,12 @@ abbrev print_behind : Content × Request → List ℕ
 print_behind p = print_content p.0 ++ print_request p.1
 
 abbrev IsBehind : Head → Content × Request → Type 0
-IsBehind (number, (type, (rock, (stream, (echo_stream, (parent, (echo, (keys, area))))))))
+IsBehind (number, (type, (rock, (stream, (echo_stream, (parent, (echo, (terminators, area))))))))
     p = Holds area type p.0 × IsRequest p.1
 
 behind_reads : (head : Head) → IsReader (Content × Request) print_behind (IsBehind head)
     (behind_head head)
-behind_reads (number, (type, (rock, (stream, (echo_stream, (parent, (echo, (keys, area)))))))) =
+behind_reads (number, (type, (rock, (stream, (echo_stream, (parent, (echo, (terminators, area)))))))) =
     content_reads type area before request_reads
 
 type_small : (content : Content) → IsWord (type_of content)
@@ -225,7 +225,7 @@ window_reads =
                   w.echo_stream,
                   (
                     w.parent,
-                    (w.echo, (w.keys, w.area)),
+                    (w.echo, (w.terminators, w.area)),
                   ),
                 ),
               ),
@@ -248,7 +248,7 @@ window_reads =
                   h.echo_stream,
                   (
                     h.parent,
-                    (tt, (h.keys, h.area)),
+                    (tt, (h.terminators, h.area)),
                   ),
                 ),
               ),
@@ -264,7 +264,7 @@ window_reads =
       stream = h.0.1.1.1.0;
       echo_stream = h.0.1.1.1.1.0;
       parent = h.0.1.1.1.1.1.0;
-      keys = h.0.1.1.1.1.1.1.1.0;
+      terminators = h.0.1.1.1.1.1.1.1.0;
       area = h.0.1.1.1.1.1.1.1.1;
       content = h.1.0.1;
       request = h.1.1;

@@ -72,14 +72,14 @@ settings_reads =
     made_reads print_settings IsSettings settings_of
     (n4_reads before n4_reads before n4_reads before n4_reads before n4_reads)
     (λ s h. (
-      (s.mode, (s.rock, (s.table, (s.protect_start, s.protect_length)))),
+      (s.mode, (s.rock, (s.string_table, (s.protect_start, s.protect_length)))),
       refl,
-      (h.mode, (h.rock, (h.table, (h.protect_start, h.protect_length)))),
+      (h.mode, (h.rock, (h.string_table, (h.protect_start, h.protect_length)))),
     ))
     (λ x h. record {
       mode = h.0;
       rock = h.1.0;
-      table = h.1.1.0;
+      string_table = h.1.1.0;
       protect_start = h.1.1.1.0;
       protect_length = h.1.1.1.1;
     })
@@ -91,11 +91,11 @@ random_reads =
     made_reads print_random IsRandom random_of
     (n8_reads before n8_reads before n8_reads before n8_reads)
     (λ r h. (
-      (r.start, (r.stream, (r.next, r.fresh))),
+      (r.start, (r.stream, (r.taken, r.fresh))),
       refl,
-      (h.start, (h.stream, (h.next, h.fresh))),
+      (h.start, (h.stream, (h.taken, h.fresh))),
     ))
-    (λ x h. record { start = h.0; stream = h.1.0; next = h.1.1.0; fresh = h.1.1.1 })
+    (λ x h. record { start = h.0; stream = h.1.0; taken = h.1.1.0; fresh = h.1.1.1 })
     (λ x h. refl)
 
 -- ---- 5. what the story waits for, or how it ended

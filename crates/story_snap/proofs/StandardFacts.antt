@@ -36,7 +36,7 @@ pub a_grid : print_window (record {
   echo_stream = 0;
   parent = 1;
   echo = true;
-  keys = [];
+  terminators = [];
   area = record { x = 0; y = 5; w = 1; h = 1 };
   content = Grid 1 0 (72 ∷ []);
   request = Char true;
@@ -73,8 +73,8 @@ pub a_world_that_has_quit : print_fields (record {
     heap_start = 0;
     heap = [];
   };
-  settings = record { mode = 0; rock = 0; table = 0; protect_start = 0; protect_length = 0 };
-  random = record { start = 0; stream = 0; next = 0; fresh = 0 };
+  settings = record { mode = 0; rock = 0; string_table = 0; protect_start = 0; protect_length = 0 };
+  random = record { start = 0; stream = 0; taken = 0; fresh = 0 };
   undo = [];
   waiting = Quit;
   numbers = record { window = 1; stream = 1; fileref = 1; root = 0; current = 0 };

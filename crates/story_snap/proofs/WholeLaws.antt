@@ -16,7 +16,7 @@ use Rattle.story_snap.specs.Printable.{IsWindow, IsStream, IsFileRef, IsFile, Is
 use Rattle.story_snap.specs.GlkItems.{window_at, stream_at, fileref_at, file_at}
 use Rattle.story_snap.specs.Whole.{parts_at, fields_of, signed, fields_at, whole, Finds}
 use Rattle.story_snap.specs.Laws.{Spells, Refuses, ReadsFields}
-use Rattle.story_snap.specs.Laws.{ReadsEachSpelling, HasOneSpelling}
+use Rattle.story_snap.specs.Laws.{ReadsEachSpelling, HasOneSpelling, BeginsNoOther}
 use Rattle.story_snap.proofs.Readers.{IsBytes, IsReader, ◌before◌, made_reads, led_reads}
 use Rattle.story_snap.proofs.Readers.{none_reads, if_reads, n4_reads, some_is}
 use Rattle.story_snap.proofs.Lists.{list_reads, bytes_reads}
@@ -197,3 +197,13 @@ pub kept : (bytes : List ℕ) (result : Result Fields SnapFault) → ReadsFields
     → IfOk result HasCounts
 kept bytes (Ok f) h = has_counts f h.ranges
 kept bytes (Err e) h = tt
+
+rest_of : (f g : Fields) (r s : List ℕ) → done f r ≡ done g s → r ≡ s
+rest_of f g r s e =
+    ap (λ (p : Fields × List ℕ). p.1) (some_is {A = Fields × List ℕ} (f, r) (g, s) e)
+
+pub no_other : BeginsNoOther
+no_other f g rest a b e =
+    let whole : fields_at (print_fields g) ≡ done g [] =
+    subst (λ t. fields_at t ≡ done g []) (append-nil (print_fields g)) (fields_reads.again g [] b) in
+    rest_of f g rest [] (sym (fields_reads.again f rest a) ∙ ap fields_at e ∙ whole)

@@ -39,11 +39,11 @@ HasCells area (Grid x y cells) = length cells ≡ area.w * area.h
 
 abbrev pub CountsRequest : Request → Type 0
 CountsRequest Nothing = Unit {0}
-CountsRequest (Line unicode buffer maximum initial echo keys) = IsCounted keys
+CountsRequest (Line unicode buffer maximum initial echo terminators) = IsCounted terminators
 CountsRequest (Char unicode) = Unit {0}
 
 pub record CountsWindow (w : Window) : Type 0 where
-  pub keys : IsCounted w.keys
+  pub terminators : IsCounted w.terminators
   pub cells : HasCells w.area w.content
   pub request : CountsRequest w.request
 

@@ -38,8 +38,8 @@ content_at type area =
     else none_at)))
 
 abbrev pub line_of : Bool × (ℕ × (ℕ × (ℕ × (Bool × List ℕ)))) → Request
-line_of (unicode, (buffer, (maximum, (initial, (echo, keys))))) =
-    Line unicode buffer maximum initial echo keys
+line_of (unicode, (buffer, (maximum, (initial, (echo, terminators))))) =
+    Line unicode buffer maximum initial echo terminators
 
 abbrev pub request_with : ℕ → Reader Request
 request_with kind =
@@ -64,12 +64,12 @@ head_at =
     then list_at n4_at then area_at
 
 abbrev pub behind_head : Head → Reader (Content × Request)
-behind_head (number, (type, (rock, (stream, (echo_stream, (parent, (echo, (keys, area)))))))) =
+behind_head (number, (type, (rock, (stream, (echo_stream, (parent, (echo, (terminators, area)))))))) =
     content_at type area then request_at
 
 abbrev pub window_of : Head × (Content × Request) → Window
 window_of (
-  (number, (type, (rock, (stream, (echo_stream, (parent, (echo, (keys, area)))))))),
+  (number, (type, (rock, (stream, (echo_stream, (parent, (echo, (terminators, area)))))))),
   (content, request),
 ) = record {
   number = number;
@@ -78,7 +78,7 @@ window_of (
   echo_stream = echo_stream;
   parent = parent;
   echo = echo;
-  keys = keys;
+  terminators = terminators;
   area = area;
   content = content;
   request = request;

@@ -48,10 +48,10 @@ machine_at =
 -- ---- 3. its settings, and its random words
 
 abbrev pub settings_of : ℕ × (ℕ × (ℕ × (ℕ × ℕ))) → Settings
-settings_of (mode, (rock, (table, (start, length)))) = record {
+settings_of (mode, (rock, (string_table, (start, length)))) = record {
   mode = mode;
   rock = rock;
-  table = table;
+  string_table = string_table;
   protect_start = start;
   protect_length = length;
 }
@@ -60,8 +60,8 @@ unfoldable pub settings_at : Reader Settings
 settings_at = made settings_of (n4_at then n4_at then n4_at then n4_at then n4_at)
 
 abbrev pub random_of : ℕ × (ℕ × (ℕ × ℕ)) → Random
-random_of (start, (stream, (next, fresh))) =
-    record { start = start; stream = stream; next = next; fresh = fresh }
+random_of (start, (stream, (taken, fresh))) =
+    record { start = start; stream = stream; taken = taken; fresh = fresh }
 
 unfoldable pub random_at : Reader Random
 random_at = made random_of (n8_at then n8_at then n8_at then n8_at)

@@ -1,5 +1,5 @@
 -- What ties bytes to fields (own: docs/FORMATS.md, "Snapshot bytes").
-use Rattle.std.specs.Prelude.{◌≡◌, ℕ, List, Result, Ok, Err}
+use Rattle.std.specs.Prelude.{◌≡◌, ◌++◌, ℕ, List, [], Result, Ok, Err}
 use Rattle.story_snap.specs.declared.fault.SnapFault.{SnapFault}
 use Rattle.story_snap.specs.declared.fault.SnapFault.TheVariants.{BadSnap, NoMemory}
 use Rattle.story_snap.specs.declared.fields.Fields.{Fields}
@@ -39,3 +39,9 @@ ReadsEachSpelling =
 abbrev pub HasOneSpelling : Type 0
 HasOneSpelling =
     (f g : Fields) → IsPrintable f → IsPrintable g → print_fields f ≡ print_fields g → f ≡ g
+
+-- the bytes of fields begin no others': no front of them is a world's bytes, and none may follow
+abbrev pub BeginsNoOther : Type 0
+BeginsNoOther =
+    (f g : Fields) (rest : List ℕ) → IsPrintable f → IsPrintable g
+    → print_fields f ++ rest ≡ print_fields g → rest ≡ []

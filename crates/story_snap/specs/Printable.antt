@@ -45,14 +45,14 @@ pub record IsMachine (m : Machine) : Type 0 where
 pub record IsSettings (s : Settings) : Type 0 where
   pub mode : IsWord s.mode
   pub rock : IsWord s.rock
-  pub table : IsWord s.table
+  pub string_table : IsWord s.string_table
   pub protect_start : IsWord s.protect_start
   pub protect_length : IsWord s.protect_length
 
 pub record IsRandom (r : Random) : Type 0 where
   pub start : IsLong r.start
   pub stream : IsLong r.stream
-  pub next : IsLong r.next
+  pub taken : IsLong r.taken
   pub fresh : IsLong r.fresh
 
 abbrev pub IsStore : Store → Type 0
@@ -89,8 +89,8 @@ IsContent area (Grid x y cells) =
 
 abbrev pub IsRequest : Request → Type 0
 IsRequest Nothing = Unit {0}
-IsRequest (Line unicode buffer maximum initial echo keys) =
-    IsWord buffer × IsWord maximum × IsWord initial × IsListOf IsWord keys
+IsRequest (Line unicode buffer maximum initial echo terminators) =
+    IsWord buffer × IsWord maximum × IsWord initial × IsListOf IsWord terminators
 IsRequest (Char unicode) = Unit {0}
 
 pub record IsWindow (w : Window) : Type 0 where
@@ -99,7 +99,7 @@ pub record IsWindow (w : Window) : Type 0 where
   pub stream : IsWord w.stream
   pub echo_stream : IsWord w.echo_stream
   pub parent : IsWord w.parent
-  pub keys : IsListOf IsWord w.keys
+  pub terminators : IsListOf IsWord w.terminators
   pub area : IsArea w.area
   pub content : IsContent w.area w.content
   pub request : IsRequest w.request

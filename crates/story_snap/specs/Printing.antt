@@ -46,11 +46,11 @@ print_machine m =
 
 abbrev pub print_settings : Settings → List ℕ
 print_settings s =
-    n4 s.mode ++ (n4 s.rock ++ (n4 s.table ++ (n4 s.protect_start
+    n4 s.mode ++ (n4 s.rock ++ (n4 s.string_table ++ (n4 s.protect_start
     ++ n4 s.protect_length)))
 
 abbrev pub print_random : Random → List ℕ
-print_random r = n8 r.start ++ (n8 r.stream ++ (n8 r.next ++ n8 r.fresh))
+print_random r = n8 r.start ++ (n8 r.stream ++ (n8 r.taken ++ n8 r.fresh))
 
 -- ---- 5. what the story waits for, or how it ended
 
@@ -90,15 +90,15 @@ print_content (Grid x y cells) = n4 x ++ (n4 y ++ flat_map n4 cells)
 
 abbrev pub print_request : Request → List ℕ
 print_request Nothing = n1 0
-print_request (Line unicode buffer maximum initial echo keys) =
+print_request (Line unicode buffer maximum initial echo terminators) =
     n1 1 ++ (n1 (flag unicode) ++ (n4 buffer ++ (n4 maximum ++ (n4 initial
-    ++ (n1 (flag echo) ++ list_of n4 keys)))))
+    ++ (n1 (flag echo) ++ list_of n4 terminators)))))
 print_request (Char unicode) = n1 2 ++ n1 (flag unicode)
 
 abbrev pub print_window : Window → List ℕ
 print_window w =
     n4 w.number ++ (n4 (type_of w.content) ++ (n4 w.rock ++ (n4 w.stream
-    ++ (n4 w.echo_stream ++ (n4 w.parent ++ (n4 (flag w.echo) ++ (list_of n4 w.keys
+    ++ (n4 w.echo_stream ++ (n4 w.parent ++ (n4 (flag w.echo) ++ (list_of n4 w.terminators
     ++ (print_area w.area ++ (print_content w.content ++ print_request w.request)))))))))
 
 -- ---- 8. streams

@@ -98,7 +98,7 @@ impl Item for Window {
         let echo_stream = from.n4()?;
         let parent = from.n4()?;
         let echo = from.flag4()?;
-        let keys = list(alloc, from)?;
+        let terminators = list(alloc, from)?;
         let area = area(from)?;
         Ok(Window {
             number,
@@ -107,7 +107,7 @@ impl Item for Window {
             echo_stream,
             parent,
             echo,
-            keys,
+            terminators,
             area,
             content: content(alloc, from, kind, area)?,
             request: request(alloc, from)?,
@@ -122,7 +122,7 @@ impl Item for Window {
         put4(out, self.echo_stream)?;
         put4(out, self.parent)?;
         put_flag4(out, self.echo)?;
-        put_list(out, self.keys.as_slice())?;
+        put_list(out, self.terminators.as_slice())?;
         put_area(out, self.area)?;
         put_content(out, self.area, &self.content)?;
         put_request(out, &self.request)?;

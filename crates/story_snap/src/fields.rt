@@ -30,18 +30,18 @@ pub struct Machine {
 pub struct Settings {
     pub mode: u32,
     pub rock: u32,
-    pub table: u32,
+    pub string_table: u32,
     pub protect_start: u32,
     pub protect_length: u32,
 }
 
-/// The random words: what they began with, their stream, which is next, and how many seeds were
-/// drawn afresh, modulo 2^64.
+/// The random words: what they began with, their stream, how many were taken of it, and how often
+/// they were started afresh, modulo 2^64.
 #[derive(Clone, Copy)]
 pub struct Random {
     pub start: u64,
     pub stream: u64,
-    pub next: u64,
+    pub taken: u64,
     pub fresh: u64,
 }
 

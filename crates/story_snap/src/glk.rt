@@ -40,7 +40,7 @@ pub enum Request {
         maximum: u32,
         initial: u32,
         echo: bool,
-        keys: Items<u32>,
+        terminators: Items<u32>,
     },
     Char {
         unicode: bool,
@@ -48,7 +48,7 @@ pub enum Request {
 }
 
 /// A window's number and rock, the streams that it has and echoes to, and its parent, each 0 for
-/// none; `echo` and `keys` are its settings for later lines.
+/// none; `echo` and `terminators` are its settings for later lines.
 #[derive(Drop)]
 pub struct Window {
     pub number: u32,
@@ -57,7 +57,7 @@ pub struct Window {
     pub echo_stream: u32,
     pub parent: u32,
     pub echo: bool,
-    pub keys: Items<u32>,
+    pub terminators: Items<u32>,
     pub area: Area,
     pub content: Content,
     pub request: Request,

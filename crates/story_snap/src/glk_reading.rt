@@ -62,7 +62,7 @@ pub fn request(alloc: Global, from: &mut Cursor<'_>) -> Result<Request, SnapFaul
             maximum: from.n4()?,
             initial: from.n4()?,
             echo: from.flag1()?,
-            keys: list(alloc, from)?,
+            terminators: list(alloc, from)?,
         }),
         2 => Ok(Request::Char {
             unicode: from.flag1()?,

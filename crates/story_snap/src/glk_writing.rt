@@ -90,7 +90,7 @@ pub fn put_request(out: &mut Vec<u8>, request: &Request) -> Result<(), AllocErro
             maximum,
             initial,
             echo,
-            keys,
+            terminators,
         } => {
             put1(out, 1)?;
             put_flag1(out, *unicode)?;
@@ -98,7 +98,7 @@ pub fn put_request(out: &mut Vec<u8>, request: &Request) -> Result<(), AllocErro
             put4(out, *maximum)?;
             put4(out, *initial)?;
             put_flag1(out, *echo)?;
-            put_list(out, keys.as_slice())?;
+            put_list(out, terminators.as_slice())?;
             Ok(())
         }
         Request::Char { unicode } => {

@@ -1,6 +1,6 @@
 //! Laws of the format.
 
-ghost use Rattle.story_snap.specs.Laws.{HasOneSpelling, ReadsEachSpelling};
+ghost use Rattle.story_snap.specs.Laws.{BeginsNoOther, HasOneSpelling, ReadsEachSpelling};
 
 /// What is printed of fields is read as these fields, unless memory runs out.
 pub fn reads_each_spelling()
@@ -10,4 +10,9 @@ pub fn reads_each_spelling()
 /// No two fields have the same bytes.
 pub fn has_one_spelling()
     ensures { HasOneSpelling }
+{}
+
+/// No front of a world's bytes is a world's bytes.
+pub fn begins_no_other()
+    ensures { BeginsNoOther }
 {}

@@ -21,7 +21,7 @@ pub use fault::SnapFault;
 pub use fields::{Fields, Machine, Numbers, Random, Settings, Setup, Store, Waiting};
 pub use glk::{Area, Content, File, FileRef, Request, Stream, Target, Window};
 pub use items::Items;
-pub use laws::{has_one_spelling, reads_each_spelling};
+pub use laws::{begins_no_other, has_one_spelling, reads_each_spelling};
 pub use read::read_fields;
 pub use write::write_fields;
 

@@ -43,7 +43,7 @@ pub fn settings(from: &mut Cursor<'_>) -> Result<Settings, SnapFault>
     Ok(Settings {
         mode: from.n4()?,
         rock: from.n4()?,
-        table: from.n4()?,
+        string_table: from.n4()?,
         protect_start: from.n4()?,
         protect_length: from.n4()?,
     })
@@ -56,7 +56,7 @@ pub fn random(from: &mut Cursor<'_>) -> Result<Random, SnapFault>
     Ok(Random {
         start: from.n8()?,
         stream: from.n8()?,
-        next: from.n8()?,
+        taken: from.n8()?,
         fresh: from.n8()?,
     })
 }

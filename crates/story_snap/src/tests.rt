@@ -53,7 +53,7 @@ fn what_is_read_is_written_again(rt: HostRuntime) -> Result<(), Fail> {
     let fields = read_fields(rt.alloc(), &WAITING)
         .ok()
         .ok_or("it is refused")?;
-    assert_eq!(rt; fields.random.next, 13);
+    assert_eq!(rt; fields.random.taken, 13);
     assert_eq!(rt; fields.windows.as_slice().len(), 3);
     assert_eq!(rt; fields.streams.as_slice().len(), 4);
     assert!(rt;

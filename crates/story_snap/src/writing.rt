@@ -41,7 +41,7 @@ pub fn put_settings(out: &mut Vec<u8>, settings: Settings) -> Result<(), AllocEr
 {
     put4(out, settings.mode)?;
     put4(out, settings.rock)?;
-    put4(out, settings.table)?;
+    put4(out, settings.string_table)?;
     put4(out, settings.protect_start)?;
     put4(out, settings.protect_length)?;
     Ok(())
@@ -52,7 +52,7 @@ pub fn put_random(out: &mut Vec<u8>, random: Random) -> Result<(), AllocError>
 {
     put8(out, random.start)?;
     put8(out, random.stream)?;
-    put8(out, random.next)?;
+    put8(out, random.taken)?;
     put8(out, random.fresh)
 }
 

@@ -10,7 +10,7 @@ returns c =
       good = record {
         mode = h.good.0;
         rock = h.good.1.0;
-        table = h.good.1.1.0;
+        string_table = h.good.1.1.0;
         protect_start = h.good.1.1.1.0;
         protect_length = h.good.1.1.1.1;
       };

@@ -4,10 +4,10 @@ use Rattle.story_snap.proofs.entries.WindowItem.write.Goals as goal
 pub returns : goal.returns
 returns c =
     let kind = rw c.kind.ensures at c.in_ok-put4-2.ensures in
-    let keys = rw c.as_slice.ensures at c.in_ok-put_list.ensures in
+    let terminators = rw c.as_slice.ensures at c.in_ok-put_list.ensures in
     let h = c.in_ok-put4.ensures followed kind followed c.in_ok-put4-3.ensures
     followed c.in_ok-put4-4.ensures followed c.in_ok-put4-5.ensures
-    followed c.in_ok-put4-6.ensures followed c.in_ok-put_flag4.ensures followed keys
+    followed c.in_ok-put4-6.ensures followed c.in_ok-put_flag4.ensures followed terminators
     followed c.in_ok-put_area.ensures followed c.in_ok-put_content.ensures
     followed c.in_ok-put_request.ensures in
     record {
@@ -18,7 +18,7 @@ returns c =
         stream = h.good.1.1.1.0;
         echo_stream = h.good.1.1.1.1.0;
         parent = h.good.1.1.1.1.1.0;
-        keys = h.good.1.1.1.1.1.1.1.0;
+        terminators = h.good.1.1.1.1.1.1.1.0;
         area = h.good.1.1.1.1.1.1.1.1.0;
         content = h.good.1.1.1.1.1.1.1.1.1.0;
         request = h.good.1.1.1.1.1.1.1.1.1.1;
