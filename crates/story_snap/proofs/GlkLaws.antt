@@ -173,7 +173,8 @@ request_reads =
 
 -- a window up to its rectangle, and what stands behind it
 abbrev print_head : Head → List ℕ
-print_head (number, (type, (rock, (stream, (echo_stream, (parent, (echo, (terminators, area)))))))) =
+print_head
+    (number, (type, (rock, (stream, (echo_stream, (parent, (echo, (terminators, area)))))))) =
     n4 number ++ (n4 type ++ (n4 rock ++ (n4 stream ++ (n4 echo_stream ++ (n4 parent
     ++ (n4 (flag echo) ++ (list_of n4 terminators ++ print_area area)))))))
 
@@ -196,7 +197,8 @@ IsBehind (number, (type, (rock, (stream, (echo_stream, (parent, (echo, (terminat
 
 behind_reads : (head : Head) → IsReader (Content × Request) print_behind (IsBehind head)
     (behind_head head)
-behind_reads (number, (type, (rock, (stream, (echo_stream, (parent, (echo, (terminators, area)))))))) =
+behind_reads
+    (number, (type, (rock, (stream, (echo_stream, (parent, (echo, (terminators, area)))))))) =
     content_reads type area before request_reads
 
 type_small : (content : Content) → IsWord (type_of content)

@@ -18,11 +18,13 @@ use Rattle.story_snap.specs.Printing.{print_random, print_store, print_waiting, 
 use Rattle.story_snap.specs.Printable.{IsSetup, IsBlock, IsMachine, IsSettings, IsRandom, IsStore}
 use Rattle.story_snap.specs.Printable.{IsWaiting, IsNumbers}
 use Rattle.story_snap.specs.Items.{setup_of, setup_at, block_of, block_at, machine_of, machine_at}
-use Rattle.story_snap.specs.Items.{settings_of, settings_at, random_of, random_at, store_of, store_at}
+use Rattle.story_snap.specs.Items.{settings_of, settings_at, random_of, random_at}
+use Rattle.story_snap.specs.Items.{store_of, store_at}
 use Rattle.story_snap.specs.Items.{select_of, prompt_of, waiting_with, waiting_at, numbers_of}
 use Rattle.story_snap.specs.Items.{numbers_at}
 use Rattle.story_snap.proofs.Readers.{IsReader, ◌before◌, made_reads, led_reads}
-use Rattle.story_snap.proofs.Readers.{none_reads, pure_reads, if_reads, n1_reads, n4_reads, n8_reads}
+use Rattle.story_snap.proofs.Readers.{none_reads, pure_reads, if_reads}
+use Rattle.story_snap.proofs.Readers.{n1_reads, n4_reads, n8_reads}
 use Rattle.story_snap.proofs.Lists.{list_reads, bytes_reads}
 
 -- ---- 1. the beginning
@@ -30,7 +32,8 @@ use Rattle.story_snap.proofs.Lists.{list_reads, bytes_reads}
 pub setup_reads : IsReader Setup print_setup IsSetup setup_at
 unfolding setup_at
 setup_reads =
-    made_reads print_setup IsSetup setup_of (n8_reads before n1_reads before n1_reads before n8_reads)
+    made_reads print_setup IsSetup setup_of
+    (n8_reads before n1_reads before n1_reads before n8_reads)
     (λ s h. ((s.seed, (s.cols, (s.rows, s.budget))), refl, (h.seed, (h.cols, (h.rows, h.budget)))))
     (λ x h. record { seed = h.0; cols = h.1.0; rows = h.1.1.0; budget = h.1.1.1 })
     (λ x h. refl)

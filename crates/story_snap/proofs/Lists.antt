@@ -11,7 +11,8 @@ use Rattle.story_snap.specs.Numbers.{n1, n4, IsByte, IsWord, IsListOf, flag, lis
 use Rattle.story_snap.specs.Reading.{Reader, ◌>>=◌, none_at, pure_at, n1_at, n4_at, bool_at}
 use Rattle.story_snap.specs.Reading.{flag1_at, flag4_at, many_at, taken_at, list_at, bytes_at}
 use Rattle.story_snap.proofs.Readers.{bind_some, some_is, else_some, IsBytes, bytes_take}
-use Rattle.story_snap.proofs.Readers.{rest_bytes, Takes, IsReader, led_reads, none_reads, pure_reads}
+use Rattle.story_snap.proofs.Readers.{rest_bytes, Takes, IsReader, led_reads}
+use Rattle.story_snap.proofs.Readers.{none_reads, pure_reads}
 use Rattle.story_snap.proofs.Readers.{if_reads, n1_reads, n4_reads}
 
 -- ---- flags
@@ -154,7 +155,8 @@ taken_reads n small = record {
       le-ltb _ _ (omega (arith, length-append bytes rest, h.0)) in
       rw (long, take_at bytes rest n h.0, drop_at bytes rest n h.0) refl;
   only = λ bytes rest xs fits e.
-      let g = else_some (nat_lt (length bytes) n) (Some (take n bytes, drop n bytes)) (xs, rest) e in
+      let g = else_some (nat_lt (length bytes) n) (Some (take n bytes, drop n bytes)) (xs, rest)
+      e in
       let long : n ≤ length bytes = ltb-false _ _ g.0 in
       let len : length (take n bytes) ≡ n = omega (arith, length-take n bytes) in
       subst (λ (q : List ℕ × List ℕ). Takes (List ℕ) itself (So n) bytes q.1 q.0)

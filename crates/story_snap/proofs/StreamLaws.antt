@@ -62,7 +62,8 @@ target_reads n =
 
 -- a stream up to its target
 abbrev print_stream_head : StreamHead → List ℕ
-print_stream_head (number, (kind, (rock, (mode, (style, (read, (written, (position, unicode)))))))) =
+print_stream_head
+    (number, (kind, (rock, (mode, (style, (read, (written, (position, unicode)))))))) =
     n4 number ++ (n1 kind ++ (n4 rock ++ (n4 mode ++ (n4 style ++ (n4 read ++ (n4 written
     ++ (n4 position ++ n1 (flag unicode))))))))
 
@@ -166,7 +167,11 @@ unfolding fileref_at
 fileref_reads =
     made_reads print_fileref IsFileRef fileref_of
     (n4_reads before n4_reads before n4_reads before codes_reads)
-    (λ r h. ((r.number, (r.usage, (r.rock, r.name))), refl, (h.number, (h.usage, (h.rock, h.name)))))
+    (λ r h. (
+      (r.number, (r.usage, (r.rock, r.name))),
+      refl,
+      (h.number, (h.usage, (h.rock, h.name))),
+    ))
     (λ x h. record { number = h.0; usage = h.1.0; rock = h.1.1.0; name = h.1.1.1 })
     (λ x h. refl)
 

@@ -158,7 +158,8 @@ spelled bytes f fits e =
 again : (f : Fields) → IsPrintable f → whole (fields_at (print_fields f)) ≡ Some f
 again f h =
     let one : fields_at (print_fields f) ≡ Some (f, []) =
-    subst (λ t. fields_at t ≡ Some (f, [])) (append-nil (print_fields f)) (fields_reads.again f [] h) in
+    subst (λ t. fields_at t ≡ Some (f, [])) (append-nil (print_fields f))
+    (fields_reads.again f [] h) in
     rw one refl
 
 pub reads_fields : (bytes : List ℕ) (result : Result Fields SnapFault) → IsBytes bytes
@@ -205,5 +206,6 @@ rest_of f g r s e =
 pub no_other : BeginsNoOther
 no_other f g rest a b e =
     let whole : fields_at (print_fields g) ≡ done g [] =
-    subst (λ t. fields_at t ≡ done g []) (append-nil (print_fields g)) (fields_reads.again g [] b) in
+    subst (λ t. fields_at t ≡ done g []) (append-nil (print_fields g))
+    (fields_reads.again g [] b) in
     rest_of f g rest [] (sym (fields_reads.again f rest a) ∙ ap fields_at e ∙ whole)

@@ -64,7 +64,8 @@ head_at =
     then list_at n4_at then area_at
 
 abbrev pub behind_head : Head → Reader (Content × Request)
-behind_head (number, (type, (rock, (stream, (echo_stream, (parent, (echo, (terminators, area)))))))) =
+behind_head
+    (number, (type, (rock, (stream, (echo_stream, (parent, (echo, (terminators, area)))))))) =
     content_at type area then request_at
 
 abbrev pub window_of : Head × (Content × Request) → Window

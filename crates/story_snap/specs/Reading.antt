@@ -1,6 +1,7 @@
 -- Reading bytes from the left (own: docs/FORMATS.md, "Snapshot bytes").
 use Rattle.std.specs.Prelude.{◌≡◌, ℕ, zero, suc, ◌==◌, nat_lt, if◌then◌else◌, Bool, true, false}
-use Rattle.std.specs.Prelude.{List, [], ◌∷◌, length, take, drop, Option, Some, None, Result, Ok, Err}
+use Rattle.std.specs.Prelude.{List, [], ◌∷◌, length, take, drop, Option, Some, None}
+use Rattle.std.specs.Prelude.{Result, Ok, Err}
 use Rattle.std.specs.Int.{Width, w32, w64, byte_len, from_be_bytes}
 use Rattle.story_snap.specs.declared.fault.SnapFault.{SnapFault}
 use Rattle.story_snap.specs.declared.fault.SnapFault.TheVariants.{BadSnap, NoMemory}

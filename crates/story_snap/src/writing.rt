@@ -5,7 +5,8 @@ ghost use Rattle.story_snap.specs.Counts.{CountsMachine};
 ghost use Rattle.story_snap.specs.Printable.{IsMachine, IsNumbers, IsRandom, IsSettings, IsSetup};
 ghost use Rattle.story_snap.specs.Printable.{IsStore, IsWaiting};
 ghost use Rattle.story_snap.specs.Printing.{print_machine, print_numbers, print_random};
-ghost use Rattle.story_snap.specs.Printing.{print_settings, print_setup, print_store, print_waiting};
+ghost use Rattle.story_snap.specs.Printing.{print_settings, print_setup, print_store};
+ghost use Rattle.story_snap.specs.Printing.{print_waiting};
 ghost use Rattle.story_snap.specs.Writing.{Puts};
 
 use crate::fields::{Machine, Numbers, Random, Settings, Setup, Store, Waiting};
