@@ -1,0 +1,10 @@
+pub mod Numbers
+pub mod Printing
+pub mod Printable
+pub mod Counts
+pub mod Writing
+pub mod Reading
+pub mod Items
+pub mod GlkItems
+pub mod Whole
+pub mod Laws
