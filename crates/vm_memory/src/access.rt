@@ -7,7 +7,7 @@ ghost use Rattle.vm_memory.specs.OwnPages.{own_pages};
 ghost use Rattle.vm_memory.specs.Access.{Leaves, copied, copied_from, read, with_bytes};
 ghost use Rattle.vm_memory.specs.Access.{written, zeroed};
 
-use crate::laid::{block_at, byte_at, four_at, two_at};
+use crate::laid::{block_at, byte_at, four_apart, four_near, two_apart, two_near};
 use crate::pages::{clear, write};
 use crate::{MAX_SIZE, MemFault, MemStop, Memory};
 use byteorder::{BigEndian, ByteOrder};
@@ -119,6 +119,7 @@ impl<'i> Memory<'i> {
     }
 
     // The number of two bytes at the address.
+    #[inline(always)]
     #[tactic(auto, using(crate::proofs::LaidLemmas::length_laid))]
     fn two(&self, at: u32) -> u32
         requires { at + 2 ≤ length self.now.bytes }
@@ -126,17 +127,47 @@ impl<'i> Memory<'i> {
         ensures within { at + 2 ≤ MAX_SIZE }
         ensures fits { result < 65536 }
     {
-        two_at(self.rom, self.ramstart, &self.rows, at)
+        match two_near(self.rom, self.ramstart, &self.rows, at) {
+            Some(value) => value,
+            None => self.two_apart(at),
+        }
+    }
+
+    // The same where the bytes stand apart. It is a call, so that the others stay short.
+    #[cold]
+    #[inline(never)]
+    #[tactic(auto, using(crate::proofs::LaidLemmas::length_laid))]
+    fn two_apart(&self, at: u32) -> u32
+        requires { at + 2 ≤ length self.now.bytes }
+        ensures value { result ≡ number_at 2 self.now.bytes at }
+        ensures fits { result < 65536 }
+    {
+        two_apart(self.rom, self.ramstart, &self.rows, at)
     }
 
     // The number of four bytes at the address.
+    #[inline(always)]
     #[tactic(auto, using(crate::proofs::LaidLemmas::length_laid))]
     fn four(&self, at: u32) -> u32
         requires { at + 4 ≤ length self.now.bytes }
         ensures value { result ≡ number_at 4 self.now.bytes at }
         ensures within { at + 4 ≤ MAX_SIZE }
     {
-        four_at(self.rom, self.ramstart, &self.rows, at)
+        match four_near(self.rom, self.ramstart, &self.rows, at) {
+            Some(value) => value,
+            None => self.four_apart(at),
+        }
+    }
+
+    // The same where the bytes stand apart. It is a call, so that the others stay short.
+    #[cold]
+    #[inline(never)]
+    #[tactic(auto, using(crate::proofs::LaidLemmas::length_laid))]
+    fn four_apart(&self, at: u32) -> u32
+        requires { at + 4 ≤ length self.now.bytes }
+        ensures value { result ≡ number_at 4 self.now.bytes at }
+    {
+        four_apart(self.rom, self.ramstart, &self.rows, at)
     }
 
     /// Whether so many bytes at the address lie in RAM.

@@ -39,9 +39,39 @@ fn image_byte(rom: &[u8], at: u32) -> u8
     }
 }
 
-/// So many bytes at an address, where they stand in one place.
+/// So many bytes at an address in RAM, where they stand in one place.
 #[inline(always)]
-#[tactic(auto, using(crate::proofs::LaidLemmas::slice_rom, crate::proofs::LaidLemmas::slice_page, crate::proofs::LaidLemmas::slice_image))]
+#[tactic(auto, using(crate::proofs::LaidLemmas::slice_page, crate::proofs::LaidLemmas::slice_image))]
+fn near_at<'a>(
+    rom: &'a [u8],
+    ramstart: u32,
+    rows: &'a [Row],
+    at: u32,
+    count: u32,
+) -> Option<&'a [u8]>
+    requires { at + count < 2 ^ 32 }
+    ensures value { IfSome result (λ s. (size : ℕ) → at + count ≤ size
+        → s.now ≡ take count (drop at (laid rom.now ramstart rows.now size))) }
+    ensures count { IfSome result (λ s. length s.now ≡ count) }
+{
+    let start = at as usize % 256;
+    let end = start + count as usize;
+    if at < ramstart || end > 256 {
+        return None;
+    }
+    let page = page_of(rows, at / PAGE);
+    if end <= page.len() {
+        return Some(&page[start..end]);
+    }
+    let first = at as usize;
+    if page.is_empty() && first + count as usize <= rom.len() {
+        return Some(&rom[first..first + count as usize]);
+    }
+    None
+}
+
+/// So many bytes at an address, where they stand in one place.
+#[tactic(auto, using(crate::proofs::LaidLemmas::slice_rom))]
 pub(crate) fn slice_at<'a>(
     rom: &'a [u8],
     ramstart: u32,
@@ -55,74 +85,59 @@ pub(crate) fn slice_at<'a>(
         → s.now ≡ take count (drop at (laid rom.now ramstart rows.now size))) }
     ensures count { IfSome result (λ s. length s.now ≡ count) }
 {
-    let end = at + count;
-    if end <= ramstart {
-        return Some(&rom[at as usize..end as usize]);
+    if at + count <= ramstart {
+        return Some(&rom[at as usize..(at + count) as usize]);
     }
-    let offset = at % PAGE;
-    if at < ramstart || offset + count > PAGE {
-        return None;
-    }
-    let page = page_of(rows, at / PAGE);
-    if (offset + count) as usize <= page.len() {
-        return Some(&page[offset as usize..(offset + count) as usize]);
-    }
-    if page.len() <= offset as usize && end as usize <= rom.len() {
-        return Some(&rom[at as usize..end as usize]);
-    }
-    None
+    near_at(rom, ramstart, rows, at, count)
 }
 
-/// The number of two bytes at an address.
+/// The number of two bytes at an address in RAM, where they stand in one place.
 #[inline(always)]
-#[tactic(auto, using(crate::proofs::LaidLemmas::number_of_slice, crate::proofs::LaidLemmas::number_of_two))]
-pub(crate) fn two_at(rom: &[u8], ramstart: u32, rows: &[Row], at: u32) -> u32
+#[tactic(auto, using(crate::proofs::LaidLemmas::number_of_slice))]
+pub(crate) fn two_near(rom: &[u8], ramstart: u32, rows: &[Row], at: u32) -> Option<u32>
+    requires { at + 2 < 2 ^ 32 }
+    ensures value { IfSome result (λ x. (size : ℕ) → at + 2 ≤ size
+        → x ≡ number_at 2 (laid rom.now ramstart rows.now size) at) }
+    ensures fits { IfSome result (λ x. x < 65536) }
+{
+    match near_at(rom, ramstart, rows, at, 2) {
+        Some(bytes) => Some(u32::from(BigEndian::read_u16(bytes))),
+        None => None,
+    }
+}
+
+/// The number of two bytes at an address, wherever each stands.
+#[tactic(auto, using(crate::proofs::LaidLemmas::number_of_two))]
+pub(crate) fn two_apart(rom: &[u8], ramstart: u32, rows: &[Row], at: u32) -> u32
     requires ram { ramstart ≤ length rom.now }
     requires limit { at + 2 < 2 ^ 32 }
     ensures value { (size : ℕ) → at + 2 ≤ size
         → result ≡ number_at 2 (laid rom.now ramstart rows.now size) at }
     ensures fits { result < 65536 }
 {
-    u32::from(match slice_at(rom, ramstart, rows, at, 2) {
-        Some(bytes) => BigEndian::read_u16(bytes),
-        None => two_apart(rom, ramstart, rows, at),
-    })
-}
-
-// The same of two bytes that stand apart.
-#[cold]
-#[tactic(auto, using(crate::proofs::LaidLemmas::number_of_two))]
-fn two_apart(rom: &[u8], ramstart: u32, rows: &[Row], at: u32) -> u16
-    requires ram { ramstart ≤ length rom.now }
-    requires limit { at + 2 < 2 ^ 32 }
-    ensures { (size : ℕ) → at + 2 ≤ size
-        → result ≡ number_at 2 (laid rom.now ramstart rows.now size) at }
-{
-    u16::from_be_bytes([
+    u32::from(u16::from_be_bytes([
         byte_at(rom, ramstart, rows, at),
         byte_at(rom, ramstart, rows, at + 1),
-    ])
+    ]))
 }
 
-/// The number of four bytes at an address.
+/// The number of four bytes at an address in RAM, where they stand in one place.
 #[inline(always)]
-#[tactic(auto, using(crate::proofs::LaidLemmas::number_of_slice, crate::proofs::LaidLemmas::number_of_four))]
-pub(crate) fn four_at(rom: &[u8], ramstart: u32, rows: &[Row], at: u32) -> u32
-    requires ram { ramstart ≤ length rom.now }
-    requires limit { at + 4 < 2 ^ 32 }
-    ensures { (size : ℕ) → at + 4 ≤ size
-        → result ≡ number_at 4 (laid rom.now ramstart rows.now size) at }
+#[tactic(auto, using(crate::proofs::LaidLemmas::number_of_slice))]
+pub(crate) fn four_near(rom: &[u8], ramstart: u32, rows: &[Row], at: u32) -> Option<u32>
+    requires { at + 4 < 2 ^ 32 }
+    ensures { IfSome result (λ x. (size : ℕ) → at + 4 ≤ size
+        → x ≡ number_at 4 (laid rom.now ramstart rows.now size) at) }
 {
-    match slice_at(rom, ramstart, rows, at, 4) {
-        Some(bytes) => BigEndian::read_u32(bytes),
-        None => four_apart(rom, ramstart, rows, at),
+    match near_at(rom, ramstart, rows, at, 4) {
+        Some(bytes) => Some(BigEndian::read_u32(bytes)),
+        None => None,
     }
 }
 
-// The same of four bytes that stand apart.
-#[cold]
+/// The number of four bytes at an address, wherever each stands.
 #[tactic(auto, using(crate::proofs::LaidLemmas::number_of_four))]
-fn four_apart(rom: &[u8], ramstart: u32, rows: &[Row], at: u32) -> u32
+pub(crate) fn four_apart(rom: &[u8], ramstart: u32, rows: &[Row], at: u32) -> u32
     requires ram { ramstart ≤ length rom.now }
     requires limit { at + 4 < 2 ^ 32 }
     ensures { (size : ℕ) → at + 4 ≤ size
