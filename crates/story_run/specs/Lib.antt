@@ -6,3 +6,4 @@ pub mod Turn
 pub mod World
 pub mod Solo
 pub mod Laws
+pub mod Fields

@@ -1,8 +1,9 @@
 -- A world: a story between two turns (own).
-use Rattle.std.specs.Prelude.{ℕ, List}
+use Rattle.std.specs.Prelude.{◌≡◌, ◌≤◌, ℕ, List, length}
 use Rattle.vm_exec.specs.Machine.{IsFit, IsSound}
 use Rattle.vm_exec.specs.Start.{IsOver}
 use Rattle.vm_exec.specs.declared.machine.Machine.{Machine}
+use Rattle.glk_dispatch.specs.Glk.{turn_begun}
 use Rattle.glk_dispatch.specs.Valid.{IsValid, Stands}
 use Rattle.glk_dispatch.specs.declared.called.Called.TheVariants as call
 use Rattle.glk_dispatch.specs.declared.glk.Glk.{Glk}
@@ -43,12 +44,19 @@ pub record IsWaiting (image : List ℕ) (m : Machine) : Type 0 where
   pub fit : IsFit m
   pub over : IsOver image m
 
--- where a story with this image waits, its machine is fit and lies over the image
-abbrev pub IsStageOf : List ℕ → Stage → Type 0
-IsStageOf image (AtSelect m) = IsWaiting image m
-IsStageOf image (AtPrompt m) = IsWaiting image m
-IsStageOf image Quit = Unit {0}
-IsStageOf image (Fault n) = Unit {0}
+-- the machine of one that rests, begun with this seed: it waits, and its stack has room for what
+-- stands on it
+pub record IsResting (image : List ℕ) (seed : ℕ) (m : Machine) : Type 0 where
+  pub waiting : IsWaiting image m
+  pub room : length m.stack.bytes ≤ m.stack.limit
+  pub begun : m.random.seed ≡ seed
+
+-- where a story with this image and this seed waits, its machine is so
+abbrev pub IsStageOf : List ℕ → ℕ → Stage → Type 0
+IsStageOf image seed (AtSelect m) = IsResting image seed m
+IsStageOf image seed (AtPrompt m) = IsResting image seed m
+IsStageOf image seed Quit = Unit {0}
+IsStageOf image seed (Fault n) = Unit {0}
 
 -- after a step the machine is so, unless the story has quit
 abbrev pub StaysOver : List ℕ → Machine → Progress → Type 0
@@ -64,7 +72,8 @@ StandsAt (AtPrompt m) g = Stands call.Prompt g
 StandsAt Quit g = Stands call.Exit g
 StandsAt (Fault n) g = IsValid g
 
--- a world as turns make it
+-- a world as turns make it: the counts of its last turn are set back
 pub record IsValidWorld (w : WorldState) : Type 0 where
-  pub machine : IsStageOf w.image w.stage
+  pub machine : IsStageOf w.image w.seed w.stage
   pub glk : StandsAt w.stage w.glk
+  pub begun : turn_begun w.glk ≡ w.glk

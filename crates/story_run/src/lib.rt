@@ -2,6 +2,7 @@
 #![tactic(auto)]
 
 mod ends;
+mod fields;
 mod laws;
 mod save;
 mod setup;
@@ -12,8 +13,10 @@ mod story;
 mod turn;
 mod world;
 
+pub use fields::{StageFields, WorldFields};
 pub use laws::{budgets_only_end, glk_stays_valid, over_wants_nothing, turns_end, unwanted_leaves};
 pub use setup::Setup;
+pub use stage::Stage;
 pub use steps::Steps;
 pub use story::Story;
 pub use world::World;

@@ -35,6 +35,7 @@ pub(crate) fn save<'i>(
     ensures does { Leaves (saves.saved image.now glk.old machine.old stream)
         glk.new machine.new result }
     ensures kept { OnOk result (IsWaiting image.now machine.new) }
+    ensures seed { OnOk result (machine.new.random.seed ≡ machine.old.random.seed) }
 {
     if !is_writable(glk, stream) {
         return machine.finish(alloc, 1);
@@ -129,6 +130,7 @@ pub(crate) fn restore<'i>(
     ensures does { Leaves (saves.restored image.now glk.old machine.old stream)
         glk.new machine.new result }
     ensures kept { OnOk result (IsWaiting image.now machine.new) }
+    ensures seed { OnOk result (machine.new.random.seed ≡ machine.old.random.seed) }
 {
     if !is_readable(glk, stream) {
         return machine.finish(alloc, 1);
@@ -173,6 +175,7 @@ fn bring_back<'i>(
     ensures does { Changes (saves.brought_back machine.old (state_in image.now bytes.now))
         machine.new result }
     ensures kept { OnOk result (IsWaiting image.now machine.new) }
+    ensures seed { OnOk result (machine.new.random.seed ≡ machine.old.random.seed) }
 {
     match read(alloc, bytes, image) {
         Ok(state) => machine.resume(alloc, state),

@@ -5,7 +5,7 @@ use vm_exec::Machine;
 /// A story that waits for its player, at a select or at a prompt for a file's name; or one that is
 /// over, by its own quitting or by a fault, whose machine is put away.
 #[derive(Drop)]
-pub(crate) enum Stage<'i> {
+pub enum Stage<'i> {
     AtSelect(Machine<'i>),
     AtPrompt(Machine<'i>),
     Quit,

@@ -1,6 +1,6 @@
 //! One step of the story: an instruction, and then what it asks of Glk.
 
-ghost use Rattle.std.specs.Prelude.{◌≡◌, IfOk};
+ghost use Rattle.std.specs.Prelude.{◌≡◌, IfOk, OnOk};
 ghost use Rattle.glk_dispatch.specs.Answer.{glk_call};
 ghost use Rattle.glk_dispatch.specs.Call.{called};
 ghost use Rattle.story_run.specs.Step.{Advances, answered, done, next, running};
@@ -39,6 +39,7 @@ pub(crate) fn advance<'i>(
     ensures does { Advances (next image.now left (running glk.old machine.old))
         glk.new machine.new result }
     ensures kept { IfOk result (λ progress. StaysOver image.now machine.new progress) }
+    ensures seed { OnOk result (machine.new.random.seed ≡ machine.old.random.seed) }
 {
     match machine.step(alloc, left)? {
         Step::Ran(cost) => Ok(Progress::Runs { left: left - cost }),
@@ -80,6 +81,7 @@ fn call_glk<'i>(
         (called (glk_call glk.old machine.old.memory machine.old.stack) selector args))
         glk.new machine.new result }
     ensures kept { IfOk result (λ progress. StaysOver image.now machine.new progress) }
+    ensures seed { OnOk result (machine.new.random.seed ≡ machine.old.random.seed) }
 {
     let before = glk.chars();
     let answer = call(
@@ -109,6 +111,7 @@ fn follow<'i>(
     requires { IsWaiting image.now machine.old }
     ensures does { Advances (done left glk.now machine.old answer) glk.now machine.new result }
     ensures kept { IfOk result (λ progress. StaysOver image.now machine.new progress) }
+    ensures seed { OnOk result (machine.new.random.seed ≡ machine.old.random.seed) }
 {
     match answer {
         Called::Value(value) => {

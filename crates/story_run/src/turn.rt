@@ -1,11 +1,12 @@
 //! A turn: steps until the story waits or ends, within its budget.
 
-ghost use Rattle.std.specs.Prelude.{◌≡◌, ℕ, List, IfOk, OnOk, true};
+ghost use Rattle.std.specs.Prelude.{◌≡◌, ◌≤◌, ℕ, List, length, IfOk, OnOk, true};
 ghost use Rattle.glk_dispatch.specs.Events.{is_awaited};
 ghost use Rattle.glk_dispatch.specs.Valid.{IsReady, IsValid};
 ghost use Rattle.story_run.specs.Step.{running};
 ghost use Rattle.story_run.specs.Turn.{Resumes, Stops, begun, delivered, rest, turn_on};
 ghost use Rattle.story_run.specs.World.{IsRunning, IsStageOf, IsWaiting, StandsAt};
+ghost use Rattle.story_run.specs.declared.stage.Stage.TheVariants.{AtPrompt, AtSelect};
 ghost use Rattle.vm_exec.specs.Start.{started};
 
 use crate::stage::Stage;
@@ -28,24 +29,44 @@ fn run<'i>(
     requires { IsRunning image.now machine }
     ensures value { IfOk result (λ stage. (glk.new, stage)
         ≡ rest image.now budget (running glk.old machine.entry)) }
-    ensures kept { IfOk result (λ stage. IsStageOf image.now stage) }
+    ensures kept { (seed : ℕ) → machine.entry.random.seed ≡ seed
+        → IfOk result (λ stage. IsStageOf image.now seed stage) }
 {
     let mut left = budget;
     loop {
         match advance(alloc, glk, image, &mut machine, left) {
             Ok(Progress::Runs { left: rest }) => left = rest,
-            Ok(Progress::Waits) => return Ok(Stage::AtSelect(machine)),
-            Ok(Progress::Prompts) => return Ok(Stage::AtPrompt(machine)),
+            Ok(Progress::Waits) => return Ok(at_select(machine)),
+            Ok(Progress::Prompts) => return Ok(at_prompt(machine)),
             Ok(Progress::Quits) => return Ok(Stage::Quit),
             Err(trap) => return stopped(trap),
         }
     }
 }
 
+// The story waits at a select.
+fn at_select<'i>(machine: Machine<'i>) -> Stage<'i>
+    ensures value { result ≡ AtSelect machine.entry }
+    ensures room { length machine.entry.stack.bytes ≤ machine.entry.stack.limit }
+{
+    let _size = machine.stack.size();
+    Stage::AtSelect(machine)
+}
+
+// The story waits at a prompt for a file's name.
+fn at_prompt<'i>(machine: Machine<'i>) -> Stage<'i>
+    ensures value { result ≡ AtPrompt machine.entry }
+    ensures room { length machine.entry.stack.bytes ≤ machine.entry.stack.limit }
+{
+    let _size = machine.stack.size();
+    Stage::AtPrompt(machine)
+}
+
 // The story is over with a fault; want of memory is an error.
 fn stopped<'i>(trap: Trap) -> Result<Stage<'i>, AllocError>
     ensures ends { Stops trap result }
-    ensures kept { (image : List ℕ) → IfOk result (λ stage. IsStageOf image stage) }
+    ensures kept { (image : List ℕ) (seed : ℕ)
+        → IfOk result (λ stage. IsStageOf image seed stage) }
 {
     match trap {
         Trap::Fault(code) => Ok(Stage::Fault(code)),
@@ -64,7 +85,7 @@ pub(crate) fn begin<'i>(
     requires { IsReady glk.old }
     ensures value { IfOk result (λ stage. (glk.new, stage)
         ≡ begun image.now budget glk.old (started image.now seed)) }
-    ensures kept { IfOk result (λ stage. IsStageOf image.now stage) }
+    ensures kept { IfOk result (λ stage. IsStageOf image.now seed stage) }
     ensures stands { IfOk result (λ stage. StandsAt stage glk.new) }
 {
     match Machine::start(alloc, image, seed) {
@@ -85,6 +106,7 @@ fn deliver<'i>(
     requires awaited { is_awaited glk.old.requests input.now ≡ true }
     ensures does { Resumes (delivered glk.old machine.old input.now) glk.new machine.new result }
     ensures kept { OnOk result (IsRunning image.now machine.new) }
+    ensures seed { OnOk result (machine.new.random.seed ≡ machine.old.random.seed) }
 {
     let value = answer(alloc, glk, &mut machine.memory, &mut machine.stack, input)?;
     machine.finish(alloc, value)
@@ -104,7 +126,8 @@ pub(crate) fn resume<'i>(
     requires valid { IsValid glk.old }
     ensures value { IfOk result (λ stage. (glk.new, stage)
         ≡ turn_on image.now budget glk.old machine.entry input.now) }
-    ensures kept { IfOk result (λ stage. IsStageOf image.now stage) }
+    ensures kept { (seed : ℕ) → machine.entry.random.seed ≡ seed
+        → IfOk result (λ stage. IsStageOf image.now seed stage) }
     ensures stands { IfOk result (λ stage. StandsAt stage glk.new) }
 {
     match deliver(alloc, glk, image, &mut machine, input) {

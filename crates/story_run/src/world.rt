@@ -27,12 +27,12 @@ pub struct World<'i> {
 /// What a world holds. It stands in a box, so that whoever lets a world go has one thing to drop.
 #[derive(Drop)]
 pub(crate) struct Held<'i> {
-    image: Image<'i>,
-    seed: u64,
-    budget: u64,
-    glk: Glk,
-    stage: Stage<'i>,
-    last: Bytes,
+    pub(crate) image: Image<'i>,
+    pub(crate) seed: u64,
+    pub(crate) budget: u64,
+    pub(crate) glk: Glk,
+    pub(crate) stage: Stage<'i>,
+    pub(crate) last: Bytes,
 }
 
 impl<'i> Model for World<'i> {
@@ -127,6 +127,42 @@ impl<'i> World<'i> {
     {
         self.held.last.as_slice()
     }
+
+    /// The seed of its random words.
+    pub fn seed(&self) -> u64
+        ensures value { result ≡ self.now.seed }
+    {
+        self.held.seed
+    }
+
+    /// The budget of each of its turns in ticks.
+    pub fn budget(&self) -> u64
+        ensures value { result ≡ self.now.budget }
+    {
+        self.held.budget
+    }
+
+    /// Its image.
+    pub fn image(&self) -> &Image<'i>
+        ensures value { result.now ≡ self.now.image }
+    {
+        &self.held.image
+    }
+
+    /// Its Glk state.
+    pub fn glk(&self) -> &Glk
+        ensures value { result.now ≡ self.now.glk }
+    {
+        &self.held.glk
+    }
+
+    /// Where it waits, or how it ended. The world is valid.
+    pub fn stage(&self) -> &Stage<'i>
+        ensures value { result.now ≡ self.now.stage }
+        ensures valid { IsValidWorld self.now }
+    {
+        &self.held.stage
+    }
 }
 
 // The world after a turn that came to rest: its show is made, and then the next may begin.
@@ -138,7 +174,7 @@ fn rest<'i>(
     mut glk: Glk,
     stage: Stage<'i>,
 ) -> Result<World<'i>, AllocError>
-    requires machine { IsStageOf image stage }
+    requires machine { IsStageOf image seed stage }
     requires glk { StandsAt stage glk }
     ensures { IfOk result (λ world. world ≡ rested image.entry seed budget (glk, stage.entry)) }
 {
@@ -158,7 +194,7 @@ fn rest<'i>(
 }
 
 // The world that holds this.
-fn hold<'i>(alloc: Global, held: Held<'i>) -> Result<World<'i>, AllocError>
+pub(crate) fn hold<'i>(alloc: Global, held: Held<'i>) -> Result<World<'i>, AllocError>
     requires { IsValidWorld (state_of held) }
     ensures { IfOk result (λ world. world ≡ state_of held.entry) }
 {

@@ -5,3 +5,6 @@ pub returns-in-Ok-clause-stands : goal.returns-in-Ok-clause-stands
 returns-in-Ok-clause-stands c =
     run-stands c.args.image.now c.args.budget c.args.glk.now c.run.new.glk c.in-Ok.machine
     c.run.result c.requires c.run.ensures.value
+
+pub returns-in-Ok-clause-kept : goal.returns-in-Ok-clause-kept
+returns-in-Ok-clause-kept c = c.run.ensures.kept c.args.seed c.in-Ok.ensures.seed

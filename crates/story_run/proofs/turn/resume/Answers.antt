@@ -1,4 +1,4 @@
-use Rattle.std.proofs.Common.{rules}
+use Rattle.std.proofs.Common.{rules, ◌∙◌}
 use Rattle.story_run.proofs.ValidLemmas.{turn-stands}
 use Rattle.story_run.proofs.turn.resume.Goals as goal
 
@@ -11,3 +11,6 @@ pub returns-clause-stands : goal.returns-clause-stands
 returns-clause-stands c =
     turn-stands c.args.image.now c.args.budget c.args.glk.now c.deliver.new.glk c.args.machine
     c.args.input.now c.stopped.result c.requires.valid (search rules)
+
+pub returns-in-Ok-clause-kept : goal.returns-in-Ok-clause-kept
+returns-in-Ok-clause-kept c = λ seed e. c.run.ensures.kept seed (c.in-Ok.ensures.seed ∙ e)

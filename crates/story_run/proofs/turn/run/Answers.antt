@@ -11,17 +11,42 @@ pub loop-rest-preserved : goal.loop-rest-preserved
 loop-rest-preserved c =
     let e = rw c.in-Ok-Runs.field-0-is at c.in-Ok-Runs.ensures.does in
     let kept = rw c.in-Ok-Runs.field-0-is at c.in-Ok-Runs.ensures.kept in
-    (sym (rest-runs _ _ _ _ _ e) ∙ c.loop-rest.invariant.0, kept)
+    let seed = c.in-Ok-Runs.ensures.seed in (
+      sym (rest-runs _ _ _ _ _ e) ∙ c.loop-rest.invariant.0,
+      (kept, seed ∙ c.loop-rest.invariant.1.1),
+    )
 
 pub returns-in-Ok-Waits-clause-value : goal.returns-in-Ok-Waits-clause-value
 returns-in-Ok-Waits-clause-value c =
     let e = rw c.in-Ok-Waits.field-0-is at c.in-Ok-Waits.ensures.does in
-    sym (rest-rests _ _ _ _ _ e) ∙ c.loop-rest.invariant.0
+    rw c.at_select.ensures.value (sym (rest-rests _ _ _ _ _ e) ∙ c.loop-rest.invariant.0)
+
+pub returns-in-Ok-Waits-clause-kept : goal.returns-in-Ok-Waits-clause-kept
+returns-in-Ok-Waits-clause-kept c = λ seed e.
+    let kept = rw c.in-Ok-Waits.field-0-is at c.in-Ok-Waits.ensures.kept in
+    let same = c.in-Ok-Waits.ensures.seed in
+    rw c.at_select.ensures.value
+    (record {
+      waiting = kept;
+      room = c.at_select.ensures.room;
+      begun = same ∙ (c.loop-rest.invariant.1.1 ∙ e);
+    })
 
 pub returns-in-Ok-Prompts-clause-value : goal.returns-in-Ok-Prompts-clause-value
 returns-in-Ok-Prompts-clause-value c =
     let e = rw c.in-Ok-Prompts.field-0-is at c.in-Ok-Prompts.ensures.does in
-    sym (rest-rests _ _ _ _ _ e) ∙ c.loop-rest.invariant.0
+    rw c.at_prompt.ensures.value (sym (rest-rests _ _ _ _ _ e) ∙ c.loop-rest.invariant.0)
+
+pub returns-in-Ok-Prompts-clause-kept : goal.returns-in-Ok-Prompts-clause-kept
+returns-in-Ok-Prompts-clause-kept c = λ seed e.
+    let kept = rw c.in-Ok-Prompts.field-0-is at c.in-Ok-Prompts.ensures.kept in
+    let same = c.in-Ok-Prompts.ensures.seed in
+    rw c.at_prompt.ensures.value
+    (record {
+      waiting = kept;
+      room = c.at_prompt.ensures.room;
+      begun = same ∙ (c.loop-rest.invariant.1.1 ∙ e);
+    })
 
 pub returns-in-Ok-Quits-clause-value : goal.returns-in-Ok-Quits-clause-value
 returns-in-Ok-Quits-clause-value c =

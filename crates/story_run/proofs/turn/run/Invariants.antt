@@ -9,7 +9,7 @@ abbrev pub invariant-loop-rest : goal.invariant-loop-rest
 invariant-loop-rest l =
     (rest l.image l.left (running l.glk l.machine) ≡ rest l.image l.fn.budget
     (running l.fn.glk l.fn.machine))
-    × IsRunning l.image l.machine
+    × (IsRunning l.image l.machine × (l.machine.random.seed ≡ l.fn.machine.random.seed))
 
 abbrev pub decreases-loop-rest : goal.decreases-loop-rest
 decreases-loop-rest l = l.left
