@@ -1,0 +1,150 @@
+-- Windows, streams and files, read from the left (own: docs/FORMATS.md, "Snapshot bytes").
+use Rattle.std.specs.Prelude.{ℕ, ◌*◌, ◌==◌, if◌then◌else◌, Bool, List}
+use Rattle.snap_fields.specs.Reading.{Reader, ◌then◌, joined, led_by, made, none_at, pure_at}
+use Rattle.snap_fields.specs.Reading.{n1_at, n4_at, flag1_at, flag4_at, many_at, list_at}
+use Rattle.snap_fields.specs.Reading.{bytes_at}
+use Rattle.snap_fields.specs.declared.glk.Area.{Area}
+use Rattle.snap_fields.specs.declared.glk.Content.{Content}
+use Rattle.snap_fields.specs.declared.glk.Content.TheVariants.{Pair, Blank, Buffer, Grid}
+use Rattle.snap_fields.specs.declared.glk.File.{File}
+use Rattle.snap_fields.specs.declared.glk.FileRef.{FileRef}
+use Rattle.snap_fields.specs.declared.glk.Request.{Request}
+use Rattle.snap_fields.specs.declared.glk.Request.TheVariants.{Nothing, Line, Char}
+use Rattle.snap_fields.specs.declared.glk.Stream.{Stream}
+use Rattle.snap_fields.specs.declared.glk.Target.{Target}
+use Rattle.snap_fields.specs.declared.glk.Target.TheVariants as target
+use Rattle.snap_fields.specs.declared.glk.Window.{Window}
+
+-- ---- 7. windows
+
+abbrev pub area_of : ℕ × (ℕ × (ℕ × ℕ)) → Area
+area_of (x, (y, (w, h))) = record { x = x; y = y; w = w; h = h }
+
+unfoldable pub area_at : Reader Area
+area_at = made area_of (n4_at then n4_at then n4_at then n4_at)
+
+abbrev pub pair_of : ℕ × (ℕ × (ℕ × (ℕ × ℕ))) → Content
+pair_of (method, (size, (key, (first, second)))) = Pair method size key first second
+
+abbrev pub grid_of : ℕ × (ℕ × List ℕ) → Content
+grid_of (x, (y, cells)) = Grid x y cells
+
+unfoldable pub content_at : ℕ → Area → Reader Content
+content_at type area =
+    if type == 1 then made pair_of (n4_at then n4_at then n4_at then n4_at then n4_at)
+    else (if type == 2 then pure_at Blank
+    else (if type == 3 then pure_at Buffer
+    else (if type == 4 then made grid_of (n4_at then n4_at then many_at n4_at (area.w * area.h))
+    else none_at)))
+
+abbrev pub line_of : Bool × (ℕ × (ℕ × (ℕ × (Bool × List ℕ)))) → Request
+line_of (unicode, (buffer, (maximum, (initial, (echo, terminators))))) =
+    Line unicode buffer maximum initial echo terminators
+
+abbrev pub request_with : ℕ → Reader Request
+request_with kind =
+    if kind == 0 then pure_at Nothing
+    else (if kind == 1
+    then made line_of
+    (flag1_at then n4_at then n4_at then n4_at then flag1_at then list_at n4_at)
+    else (if kind == 2 then made Char flag1_at
+    else none_at))
+
+unfoldable pub request_at : Reader Request
+request_at = led_by n1_at request_with
+
+-- a window up to its rectangle: number, type, rock, stream, echo stream, parent, echo setting,
+-- terminators, rectangle
+abbrev pub Head : Type 0
+Head = ℕ × (ℕ × (ℕ × (ℕ × (ℕ × (ℕ × (Bool × (List ℕ × Area)))))))
+
+abbrev pub head_at : Reader Head
+head_at =
+    n4_at then n4_at then n4_at then n4_at then n4_at then n4_at then flag4_at
+    then list_at n4_at then area_at
+
+abbrev pub behind_head : Head → Reader (Content × Request)
+behind_head
+    (number, (type, (rock, (stream, (echo_stream, (parent, (echo, (terminators, area)))))))) =
+    content_at type area then request_at
+
+abbrev pub window_of : Head × (Content × Request) → Window
+window_of (
+  (number, (type, (rock, (stream, (echo_stream, (parent, (echo, (terminators, area)))))))),
+  (content, request),
+) = record {
+  number = number;
+  rock = rock;
+  stream = stream;
+  echo_stream = echo_stream;
+  parent = parent;
+  echo = echo;
+  terminators = terminators;
+  area = area;
+  content = content;
+  request = request;
+}
+
+unfoldable pub window_at : Reader Window
+window_at = made window_of (joined head_at behind_head)
+
+-- ---- 8. streams
+
+abbrev pub memory_of : ℕ × ℕ → Target
+memory_of (buffer, length) = target.Memory buffer length
+
+abbrev pub file_target_of : ℕ × List ℕ → Target
+file_target_of (usage, name) = target.File usage name
+
+unfoldable pub target_at : ℕ → Reader Target
+target_at kind =
+    if kind == 0 then pure_at target.Window
+    else (if kind == 1 then made memory_of (n4_at then n4_at)
+    else (if kind == 2 then made file_target_of (n4_at then list_at n4_at)
+    else none_at))
+
+-- a stream up to its target: number, kind, rock, mode, style, counts, position, Unicode
+abbrev pub StreamHead : Type 0
+StreamHead = ℕ × (ℕ × (ℕ × (ℕ × (ℕ × (ℕ × (ℕ × (ℕ × Bool)))))))
+
+abbrev pub stream_head_at : Reader StreamHead
+stream_head_at =
+    n4_at then n1_at then n4_at then n4_at then n4_at then n4_at then n4_at then n4_at
+    then flag1_at
+
+abbrev pub behind_stream : StreamHead → Reader Target
+behind_stream (number, (kind, rest)) = target_at kind
+
+abbrev pub stream_of : StreamHead × Target → Stream
+stream_of (
+  (number, (kind, (rock, (mode, (style, (read, (written, (position, unicode)))))))),
+  target,
+) = record {
+  number = number;
+  rock = rock;
+  mode = mode;
+  style = style;
+  read = read;
+  written = written;
+  position = position;
+  unicode = unicode;
+  target = target;
+}
+
+unfoldable pub stream_at : Reader Stream
+stream_at = made stream_of (joined stream_head_at behind_stream)
+
+-- ---- 9. file references and files
+
+abbrev pub fileref_of : ℕ × (ℕ × (ℕ × List ℕ)) → FileRef
+fileref_of (number, (usage, (rock, name))) =
+    record { number = number; usage = usage; rock = rock; name = name }
+
+unfoldable pub fileref_at : Reader FileRef
+fileref_at = made fileref_of (n4_at then n4_at then n4_at then list_at n4_at)
+
+abbrev pub file_of : ℕ × (List ℕ × List ℕ) → File
+file_of (usage, (name, bytes)) = record { usage = usage; name = name; bytes = bytes }
+
+unfoldable pub file_at : Reader File
+file_at = made file_of (n4_at then list_at n4_at then bytes_at)

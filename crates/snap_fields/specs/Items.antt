@@ -1,0 +1,106 @@
+-- The items, read from the left (own: docs/FORMATS.md, "Snapshot bytes").
+use Rattle.std.specs.Prelude.{ℕ, ◌==◌, if◌then◌else◌, List}
+use Rattle.vm_heap.specs.declared.block.Block.{Block}
+use Rattle.snap_fields.specs.Reading.{Reader, ◌then◌, led_by, made, none_at, pure_at}
+use Rattle.snap_fields.specs.Reading.{n1_at, n4_at, n8_at, list_at}
+use Rattle.snap_fields.specs.Reading.{bytes_at}
+use Rattle.snap_fields.specs.declared.fields.Machine.{Machine}
+use Rattle.snap_fields.specs.declared.fields.Numbers.{Numbers}
+use Rattle.snap_fields.specs.declared.fields.Random.{Random}
+use Rattle.snap_fields.specs.declared.fields.Settings.{Settings}
+use Rattle.snap_fields.specs.declared.fields.Setup.{Setup}
+use Rattle.snap_fields.specs.declared.fields.Store.{Store}
+use Rattle.snap_fields.specs.declared.fields.Waiting.{Waiting}
+use Rattle.snap_fields.specs.declared.fields.Waiting.TheVariants.{Quit, Fault, Select, Prompt}
+
+-- ---- 1. the beginning
+
+abbrev pub setup_of : ℕ × (ℕ × (ℕ × ℕ)) → Setup
+setup_of (seed, (cols, (rows, budget))) =
+    record { seed = seed; cols = cols; rows = rows; budget = budget }
+
+unfoldable pub setup_at : Reader Setup
+setup_at = made setup_of (n8_at then n1_at then n1_at then n8_at)
+
+-- ---- 2. the machine
+
+abbrev pub block_of : ℕ × ℕ → Block
+block_of (at, length) = record { at = at; length = length }
+
+unfoldable pub block_at : Reader Block
+block_at = made block_of (n4_at then n4_at)
+
+abbrev pub machine_of
+    : ℕ × (ℕ × (List ℕ × (List ℕ × (ℕ × List Block)))) → Machine
+machine_of (pc, (frame, (memory, (stack, (heap_start, heap))))) = record {
+  pc = pc;
+  frame = frame;
+  memory = memory;
+  stack = stack;
+  heap_start = heap_start;
+  heap = heap;
+}
+
+unfoldable pub machine_at : Reader Machine
+machine_at =
+    made machine_of (n4_at then n4_at then bytes_at then bytes_at then n4_at then list_at block_at)
+
+-- ---- 3. its settings, and its random words
+
+abbrev pub settings_of : ℕ × (ℕ × (ℕ × (ℕ × ℕ))) → Settings
+settings_of (mode, (rock, (string_table, (start, length)))) = record {
+  mode = mode;
+  rock = rock;
+  string_table = string_table;
+  protect_start = start;
+  protect_length = length;
+}
+
+unfoldable pub settings_at : Reader Settings
+settings_at = made settings_of (n4_at then n4_at then n4_at then n4_at then n4_at)
+
+abbrev pub random_of : ℕ × (ℕ × (ℕ × ℕ)) → Random
+random_of (start, (stream, (taken, fresh))) =
+    record { start = start; stream = stream; taken = taken; fresh = fresh }
+
+unfoldable pub random_at : Reader Random
+random_at = made random_of (n8_at then n8_at then n8_at then n8_at)
+
+-- ---- 5. what the story waits for, or how it ended
+
+abbrev pub store_of : ℕ × ℕ → Store
+store_of (kind, address) = record { kind = kind; address = address }
+
+unfoldable pub store_at : Reader Store
+store_at = made store_of (n4_at then n4_at)
+
+abbrev pub select_of : ℕ × Store → Waiting
+select_of (reference, store) = Select reference store
+
+abbrev pub prompt_of : ℕ × (ℕ × (ℕ × Store)) → Waiting
+prompt_of (usage, (mode, (rock, store))) = Prompt usage mode rock store
+
+abbrev pub waiting_with : ℕ → Reader Waiting
+waiting_with kind =
+    if kind == 0 then pure_at Quit
+    else (if kind == 1 then made Fault n1_at
+    else (if kind == 2 then made select_of (n4_at then store_at)
+    else (if kind == 3 then made prompt_of (n4_at then n4_at then n4_at then store_at)
+    else none_at)))
+
+unfoldable pub waiting_at : Reader Waiting
+waiting_at = led_by n1_at waiting_with
+
+-- ---- 6. numbers of objects
+
+abbrev pub numbers_of : ℕ × (ℕ × (ℕ × (ℕ × ℕ))) → Numbers
+numbers_of (window, (stream, (fileref, (root, current)))) = record {
+  window = window;
+  stream = stream;
+  fileref = fileref;
+  root = root;
+  current = current;
+}
+
+unfoldable pub numbers_at : Reader Numbers
+numbers_at = made numbers_of (n4_at then n4_at then n4_at then n4_at then n4_at)

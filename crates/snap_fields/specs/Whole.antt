@@ -1,0 +1,91 @@
+-- All of a world's bytes, read from the left (own: docs/FORMATS.md, "Snapshot bytes").
+use Rattle.std.specs.Prelude.{ℕ, ◌≡◌, ◌==◌, if◌then◌else◌, List, length}
+use Rattle.std.specs.Prelude.{Option, Some, None, Result, Ok, Err}
+use Rattle.snap_fields.specs.Reading.{Reader, ◌then◌, led_by, made, none_at}
+use Rattle.snap_fields.specs.Reading.{n4_at, bytes_at, list_at, Fails}
+use Rattle.snap_fields.specs.Items.{setup_at, machine_at, settings_at, random_at, waiting_at}
+use Rattle.snap_fields.specs.Items.{numbers_at}
+use Rattle.snap_fields.specs.GlkItems.{window_at, stream_at, fileref_at, file_at}
+use Rattle.snap_fields.specs.declared.fault.SnapFault.{SnapFault}
+use Rattle.snap_fields.specs.declared.fields.Fields.{Fields}
+use Rattle.snap_fields.specs.declared.fields.Machine.{Machine}
+use Rattle.snap_fields.specs.declared.fields.Numbers.{Numbers}
+use Rattle.snap_fields.specs.declared.fields.Random.{Random}
+use Rattle.snap_fields.specs.declared.fields.Settings.{Settings}
+use Rattle.snap_fields.specs.declared.fields.Setup.{Setup}
+use Rattle.snap_fields.specs.declared.fields.Waiting.{Waiting}
+use Rattle.snap_fields.specs.declared.glk.File.{File}
+use Rattle.snap_fields.specs.declared.glk.FileRef.{FileRef}
+use Rattle.snap_fields.specs.declared.glk.Stream.{Stream}
+use Rattle.snap_fields.specs.declared.glk.Window.{Window}
+
+-- the items behind the signature
+abbrev pub Parts : Type 0
+Parts = Setup × (Machine × (Settings × (Random × (List (List ℕ) × (Waiting × (Numbers
+    × (List Window × (List Stream × (List FileRef × (List File × List ℕ))))))))))
+
+abbrev pub parts_at : Reader Parts
+parts_at =
+    setup_at then machine_at then settings_at then random_at then list_at bytes_at
+    then waiting_at then numbers_at then list_at window_at then list_at stream_at
+    then list_at fileref_at then list_at file_at then bytes_at
+
+abbrev pub fields_of : Parts → Fields
+fields_of (
+  setup,
+  (
+    machine,
+    (
+      settings,
+      (
+        random,
+        (
+          undo,
+          (
+            waiting,
+            (
+              numbers,
+              (
+                windows,
+                (
+                  streams,
+                  (filerefs, (files, show)),
+                ),
+              ),
+            ),
+          ),
+        ),
+      ),
+    ),
+  ),
+) = record {
+  setup = setup;
+  machine = machine;
+  settings = settings;
+  random = random;
+  undo = undo;
+  waiting = waiting;
+  numbers = numbers;
+  windows = windows;
+  streams = streams;
+  filerefs = filerefs;
+  files = files;
+  show = show;
+}
+
+-- `STW1`
+abbrev pub signed : ℕ → Reader Fields
+signed n = if n == 0x53545731 then made fields_of parts_at else none_at
+
+unfoldable pub fields_at : Reader Fields
+fields_at = led_by n4_at signed
+
+-- nothing may follow
+abbrev pub whole : {A : Type 0} → Option (A × List ℕ) → Option A
+whole None = None
+whole (Some x) = if length x.1 == 0 then Some x.0 else None
+
+-- what a function that reads all of the bytes returned
+abbrev pub Finds : {A : Type 0} → Option A → Result A SnapFault → Type 0
+Finds read (Ok x) = read ≡ Some x
+Finds read (Err e) = Fails e read

@@ -1,0 +1,126 @@
+//! Writing windows and streams (own).
+
+ghost use Rattle.std.specs.Prelude.{◌≡◌, OnOk};
+ghost use Rattle.snap_fields.specs.Counts.{CountsRequest, CountsTarget, HasCells};
+ghost use Rattle.snap_fields.specs.Printable.{IsArea, IsContent, IsRequest, IsTarget};
+ghost use Rattle.snap_fields.specs.Printing.{kind_of, print_area, print_content, print_request};
+ghost use Rattle.snap_fields.specs.Printing.{print_target, type_of};
+ghost use Rattle.snap_fields.specs.Writing.{Puts};
+
+use crate::glk::{Area, Content, Request, Target};
+use crate::item::{put_list, put_many};
+use crate::put::{put_flag1, put1, put4};
+use std::alloc::AllocError;
+
+impl Content {
+    /// The window's type.
+    pub fn kind(&self) -> u32
+        ensures { result ≡ type_of self.now }
+    {
+        match self {
+            Content::Pair { .. } => 1,
+            Content::Blank => 2,
+            Content::Buffer => 3,
+            Content::Grid { .. } => 4,
+        }
+    }
+}
+
+impl Target {
+    /// The stream's kind: 0 of a window, 1 of memory, 2 of a file.
+    pub fn kind(&self) -> u8
+        ensures { result ≡ kind_of self.now }
+    {
+        match self {
+            Target::Window => 0,
+            Target::Memory { .. } => 1,
+            Target::File { .. } => 2,
+        }
+    }
+}
+
+pub fn put_area(out: &mut Vec<u8>, area: Area) -> Result<(), AllocError>
+    ensures { OnOk result (Puts print_area IsArea area out.old.items out.new.items) }
+{
+    put4(out, area.x)?;
+    put4(out, area.y)?;
+    put4(out, area.w)?;
+    put4(out, area.h)
+}
+
+pub fn put_content(out: &mut Vec<u8>, area: Area, content: &Content) -> Result<(), AllocError>
+    requires { HasCells area content.now }
+    ensures { OnOk result (Puts print_content (IsContent area) content.now
+        out.old.items out.new.items) }
+{
+    match content {
+        Content::Pair {
+            method,
+            size,
+            key,
+            first,
+            second,
+        } => {
+            put4(out, *method)?;
+            put4(out, *size)?;
+            put4(out, *key)?;
+            put4(out, *first)?;
+            put4(out, *second)?;
+            Ok(())
+        }
+        Content::Blank => Ok(()),
+        Content::Buffer => Ok(()),
+        Content::Grid { x, y, cells } => {
+            put4(out, *x)?;
+            put4(out, *y)?;
+            put_many(out, cells.as_slice())
+        }
+    }
+}
+
+pub fn put_request(out: &mut Vec<u8>, request: &Request) -> Result<(), AllocError>
+    requires { CountsRequest request.now }
+    ensures { OnOk result (Puts print_request IsRequest request.now out.old.items out.new.items) }
+{
+    match request {
+        Request::Nothing => put1(out, 0),
+        Request::Line {
+            unicode,
+            buffer,
+            maximum,
+            initial,
+            echo,
+            terminators,
+        } => {
+            put1(out, 1)?;
+            put_flag1(out, *unicode)?;
+            put4(out, *buffer)?;
+            put4(out, *maximum)?;
+            put4(out, *initial)?;
+            put_flag1(out, *echo)?;
+            put_list(out, terminators.as_slice())?;
+            Ok(())
+        }
+        Request::Char { unicode } => {
+            put1(out, 2)?;
+            put_flag1(out, *unicode)
+        }
+    }
+}
+
+pub fn put_target(out: &mut Vec<u8>, target: &Target) -> Result<(), AllocError>
+    requires { CountsTarget target.now }
+    ensures { OnOk result (Puts print_target IsTarget target.now out.old.items out.new.items) }
+{
+    match target {
+        Target::Window => Ok(()),
+        Target::Memory { buffer, length } => {
+            put4(out, *buffer)?;
+            put4(out, *length)
+        }
+        Target::File { usage, name } => {
+            put4(out, *usage)?;
+            put_list(out, name.as_slice())
+        }
+    }
+}

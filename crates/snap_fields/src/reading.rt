@@ -1,0 +1,106 @@
+//! Reading the items in their order (own).
+
+ghost use Rattle.snap_fields.specs.Reading.{Reads};
+ghost use Rattle.snap_fields.specs.Items.{block_at, machine_at, numbers_at, random_at, settings_at};
+ghost use Rattle.snap_fields.specs.Items.{setup_at, store_at, waiting_at};
+
+use crate::cursor::Cursor;
+use crate::fault::SnapFault;
+use crate::fields::{Machine, Numbers, Random, Settings, Setup, Store, Waiting};
+use crate::item::list;
+use std::alloc::Global;
+
+#[tactic(auto, unfolding(crate::specs::Items::setup_at))]
+pub fn setup(from: &mut Cursor<'_>) -> Result<Setup, SnapFault>
+    ensures { Reads setup_at from.old from.new result }
+{
+    Ok(Setup {
+        seed: from.n8()?,
+        cols: from.n1()?,
+        rows: from.n1()?,
+        budget: from.n8()?,
+    })
+}
+
+#[tactic(auto, unfolding(crate::specs::Items::machine_at))]
+pub fn machine(alloc: Global, from: &mut Cursor<'_>) -> Result<Machine, SnapFault>
+    ensures { Reads machine_at from.old from.new result }
+{
+    Ok(Machine {
+        pc: from.n4()?,
+        frame: from.n4()?,
+        memory: from.bytes(alloc)?,
+        stack: from.bytes(alloc)?,
+        heap_start: from.n4()?,
+        heap: list(alloc, from)?,
+    })
+}
+
+#[tactic(auto, unfolding(crate::specs::Items::settings_at))]
+pub fn settings(from: &mut Cursor<'_>) -> Result<Settings, SnapFault>
+    ensures { Reads settings_at from.old from.new result }
+{
+    Ok(Settings {
+        mode: from.n4()?,
+        rock: from.n4()?,
+        string_table: from.n4()?,
+        protect_start: from.n4()?,
+        protect_length: from.n4()?,
+    })
+}
+
+#[tactic(auto, unfolding(crate::specs::Items::random_at))]
+pub fn random(from: &mut Cursor<'_>) -> Result<Random, SnapFault>
+    ensures { Reads random_at from.old from.new result }
+{
+    Ok(Random {
+        start: from.n8()?,
+        stream: from.n8()?,
+        taken: from.n8()?,
+        fresh: from.n8()?,
+    })
+}
+
+#[tactic(auto, unfolding(crate::specs::Items::store_at))]
+fn store(from: &mut Cursor<'_>) -> Result<Store, SnapFault>
+    ensures { Reads store_at from.old from.new result }
+{
+    Ok(Store {
+        kind: from.n4()?,
+        address: from.n4()?,
+    })
+}
+
+#[tactic(auto, unfolding(crate::specs::Items::waiting_at))]
+pub fn waiting(from: &mut Cursor<'_>) -> Result<Waiting, SnapFault>
+    ensures { Reads waiting_at from.old from.new result }
+{
+    match from.n1()? {
+        0 => Ok(Waiting::Quit),
+        1 => Ok(Waiting::Fault(from.n1()?)),
+        2 => Ok(Waiting::Select {
+            reference: from.n4()?,
+            store: store(from)?,
+        }),
+        3 => Ok(Waiting::Prompt {
+            usage: from.n4()?,
+            mode: from.n4()?,
+            rock: from.n4()?,
+            store: store(from)?,
+        }),
+        _ => Err(SnapFault::BadSnap),
+    }
+}
+
+#[tactic(auto, unfolding(crate::specs::Items::numbers_at))]
+pub fn numbers(from: &mut Cursor<'_>) -> Result<Numbers, SnapFault>
+    ensures { Reads numbers_at from.old from.new result }
+{
+    Ok(Numbers {
+        window: from.n4()?,
+        stream: from.n4()?,
+        fileref: from.n4()?,
+        root: from.n4()?,
+        current: from.n4()?,
+    })
+}

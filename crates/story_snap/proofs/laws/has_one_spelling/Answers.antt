@@ -1,5 +1,0 @@
-use Rattle.story_snap.proofs.WholeLaws.{one_spelling}
-use Rattle.story_snap.proofs.laws.has_one_spelling.Goals as goal
-
-pub returns : goal.returns
-returns c = one_spelling
