@@ -105,7 +105,7 @@ impl Glk {
     }
 
     /// Sets back what a select or a prompt waited with.
-    pub(crate) fn rest(&mut self)
+    pub fn rest(&mut self)
         ensures { self.new ≡ state.rested self.old }
     {
         self.event = 0;

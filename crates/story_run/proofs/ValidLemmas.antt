@@ -19,7 +19,7 @@ use Rattle.glk_input.specs.declared.input.Input.{Input}
 use Rattle.glk_dispatch.specs.Answer.{Reached, Rule, ◌>>=◌, glk_call, within}
 use Rattle.glk_dispatch.specs.Call.{called}
 use Rattle.glk_dispatch.specs.Events as events
-use Rattle.glk_dispatch.specs.Glk.{fresh, turn_begun}
+use Rattle.glk_dispatch.specs.Glk.{fresh, rested, turn_begun}
 use Rattle.glk_dispatch.specs.Laws.{Reaches}
 use Rattle.glk_dispatch.specs.Output.{put_code}
 use Rattle.glk_dispatch.specs.Streams.{got_code, place_of}
@@ -28,13 +28,14 @@ use Rattle.glk_dispatch.specs.declared.called.Called.{Called}
 use Rattle.glk_dispatch.specs.declared.called.Called.TheVariants as call
 use Rattle.glk_dispatch.specs.declared.glk.Glk.{Glk}
 use Rattle.glk_dispatch.proofs.KeptCalls as glk
+use Rattle.glk_dispatch.proofs.KeptLemmas.{rested-valid}
 use Rattle.story_run.specs.Laws.{GlkStaysValid}
 use Rattle.story_run.specs.Saves as saves
 use Rattle.story_run.specs.Solo as solo
 use Rattle.story_run.specs.Step as s
 use Rattle.story_run.specs.Step.{Next, Rests, Running, Runs, running}
 use Rattle.story_run.specs.Turn as turn
-use Rattle.story_run.specs.World.{StandsAt, WorldState}
+use Rattle.story_run.specs.World.{ComesTo, StandsAt, WorldState}
 use Rattle.story_run.specs.declared.setup.Setup.{Setup}
 use Rattle.story_run.specs.declared.stage.Stage.{Stage}
 use Rattle.story_run.specs.declared.stage.Stage.TheVariants.{AtSelect, AtPrompt, Quit, Fault}
@@ -42,7 +43,7 @@ use Rattle.story_run.specs.declared.stage.Stage.TheVariants.{AtSelect, AtPrompt,
 -- what a step comes to
 abbrev IsNext : Next → Type 0
 IsNext (Runs left r) = IsReady r.glk
-IsNext (Rests g s) = StandsAt s g
+IsNext (Rests g s) = ComesTo s g
 
 -- steps of saves and restores
 abbrev first : {A : Type 0} → Glk × A → Type 0
@@ -197,7 +198,7 @@ stepped-next image left g (Err n) v = v.valid
 -- ---- a turn
 
 abbrev Rested : Glk × Stage → Type 0
-Rested x = StandsAt x.1 x.0
+Rested x = ComesTo x.1 x.0
 
 steps-rest : (image : List ℕ) (n left : ℕ) (r : Running) → IsReady r.glk
     → Rested (turn.steps image n left r)
@@ -260,11 +261,26 @@ begun-stage Quit g v = record {
   valid = glk.calls_keep_valid.begun g v.valid;
   waits = record { event = v.waits.event; prompt = v.waits.prompt };
 }
-begun-stage (Fault n) g v = glk.calls_keep_valid.begun g v
+begun-stage (Fault n) g v = record {
+  valid = glk.calls_keep_valid.begun g v.valid;
+  waits = record { event = v.waits.event; prompt = v.waits.prompt };
+}
+
+-- what a story that is over waited with is set back
+over-stage : (g : Glk) → IsValid g → Stands call.Exit (rested g)
+over-stage g v = let ready = rested-valid g v in record { valid = ready.valid; waits = ready.rests }
+
+pub settled-stage : (stage : Stage) (g : Glk) → ComesTo stage g
+    → StandsAt stage (solo.settled stage g)
+settled-stage (AtSelect m) g v = v
+settled-stage (AtPrompt m) g v = v
+settled-stage Quit g v = over-stage g v.valid
+settled-stage (Fault n) g v = over-stage g v
 
 pub rested-stage : (image : List ℕ) (seed budget : ℕ) (x : Glk × Stage) → Rested x
     → StandsAt (solo.rested image seed budget x).stage (solo.rested image seed budget x).glk
-rested-stage image seed budget x v = begun-stage x.1 x.0 v
+rested-stage image seed budget x v =
+    begun-stage x.1 (solo.settled x.1 x.0) (settled-stage x.1 x.0 v)
 
 answered-stage : (w : WorldState) (stage : Stage) (input : Input) → StandsAt w.stage w.glk
     → w.stage ≡ stage
@@ -272,11 +288,11 @@ answered-stage : (w : WorldState) (stage : Stage) (input : Input) → StandsAt w
 answered-stage w (AtSelect m) input v e =
     rested-stage w.image w.seed w.budget (turn.turn_on w.image w.budget w.glk m input)
     (turn-rest w.image w.budget w.glk m input
-    (subst (λ t. StandsAt t w.glk) e v).valid)
+    v.valid)
 answered-stage w (AtPrompt m) input v e =
     rested-stage w.image w.seed w.budget (turn.turn_on w.image w.budget w.glk m input)
     (turn-rest w.image w.budget w.glk m input
-    (subst (λ t. StandsAt t w.glk) e v).valid)
+    v.valid)
 answered-stage w Quit input v e = v
 answered-stage w (Fault n) input v e = v
 
@@ -308,18 +324,18 @@ glk_stays_valid = record { opened = opened-stage; turned = turned-stage }
 
 -- the story came to rest so
 left-as : (x : Glk × Stage) (g : Glk) (r : Result Stage AllocError) → Rested x
-    → IfOk r (λ t. (g, t) ≡ x) → IfOk r (λ t. StandsAt t g)
+    → IfOk r (λ t. (g, t) ≡ x) → IfOk r (λ t. ComesTo t g)
 left-as x g (Ok t) v e = subst Rested (sym e) v
 left-as x g (Err e) v h = tt
 
 pub run-stands : (image : List ℕ) (budget : ℕ) (g h : Glk) (m : Machine)
     (r : Result Stage AllocError) → IsReady g
-    → IfOk r (λ t. (h, t) ≡ turn.rest image budget (running g m)) → IfOk r (λ t. StandsAt t h)
+    → IfOk r (λ t. (h, t) ≡ turn.rest image budget (running g m)) → IfOk r (λ t. ComesTo t h)
 run-stands image budget g h m r v e =
     left-as (turn.rest image budget (running g m)) h r (rest-rest image budget (running g m) v) e
 
 pub turn-stands : (image : List ℕ) (budget : ℕ) (g h : Glk) (m : Machine) (input : Input)
     (r : Result Stage AllocError) → IsValid g
-    → IfOk r (λ t. (h, t) ≡ turn.turn_on image budget g m input) → IfOk r (λ t. StandsAt t h)
+    → IfOk r (λ t. (h, t) ≡ turn.turn_on image budget g m input) → IfOk r (λ t. ComesTo t h)
 turn-stands image budget g h m input r v e =
     left-as (turn.turn_on image budget g m input) h r (turn-rest image budget g m input v) e

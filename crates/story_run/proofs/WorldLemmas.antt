@@ -11,10 +11,9 @@ use Rattle.glk_windows.specs.declared.window.Window.{Window}
 use Rattle.glk_dispatch.specs.Events.{is_awaited}
 use Rattle.glk_dispatch.specs.Glk.{turn_begun}
 use Rattle.vm_exec.specs.declared.machine.Machine.{Machine}
-use Rattle.glk_dispatch.specs.Valid.{IsValid}
+use Rattle.glk_dispatch.specs.Valid.{IsValid, WaitsFor}
 use Rattle.glk_dispatch.specs.declared.glk.Glk.{Glk}
-use Rattle.story_run.specs.Fields.{WaitsAs}
-use Rattle.story_run.specs.World.{IsStageOf, StandsAt}
+use Rattle.story_run.specs.World.{IsStageOf, StandsAt, answer_of}
 use Rattle.story_run.specs.Solo.{is_over, is_at_end, is_wanted, turned, wants, answered}
 use Rattle.story_run.specs.World.{WorldState}
 use Rattle.story_run.specs.declared.stage.Stage.{Stage}
@@ -86,14 +85,11 @@ begun-again g =
 
 -- ---- worlds of their fields
 
-pub stands-of : (s : Stage) (g : Glk) → IsValid g → WaitsAs s g → StandsAt s g
-stands-of (AtSelect m) g valid waits = record { valid = valid; waits = waits }
-stands-of (AtPrompt m) g valid waits = record { valid = valid; waits = waits }
-stands-of Quit g valid waits = record { valid = valid; waits = waits }
-stands-of (Fault n) g valid waits = valid
+pub stands-of : (s : Stage) (g : Glk) → IsValid g → WaitsFor (answer_of s) g → StandsAt s g
+stands-of s g valid waits = record { valid = valid; waits = waits }
 
-pub waits-of : (s : Stage) (g : Glk) → StandsAt s (turn_begun g) → WaitsAs s g
+pub waits-of : (s : Stage) (g : Glk) → StandsAt s (turn_begun g) → WaitsFor (answer_of s) g
 waits-of (AtSelect m) g stands = stands.waits
 waits-of (AtPrompt m) g stands = stands.waits
 waits-of Quit g stands = record { event = stands.waits.event; prompt = stands.waits.prompt }
-waits-of (Fault n) g stands = tt
+waits-of (Fault n) g stands = record { event = stands.waits.event; prompt = stands.waits.prompt }

@@ -2,9 +2,6 @@
 use Rattle.std.specs.Prelude.{ℕ, List}
 use Rattle.vm_exec.specs.Fields.{machine_of}
 use Rattle.glk_dispatch.specs.Glk.{turn_begun}
-use Rattle.glk_dispatch.specs.Valid.{WaitsFor}
-use Rattle.glk_dispatch.specs.declared.called.Called.TheVariants as call
-use Rattle.glk_dispatch.specs.declared.glk.Glk.{Glk}
 use Rattle.story_run.specs.World.{WorldState}
 use Rattle.story_run.specs.declared.fields.StageFields.{StageFields}
 use Rattle.story_run.specs.declared.fields.StageFields.TheVariants as fields
@@ -29,10 +26,3 @@ world_of image f = record {
   stage = stage_of image f.stage;
   last = f.last;
 }
-
--- the Glk state waits with what the story waits for, and with nothing else
-abbrev pub WaitsAs : Stage → Glk → Type 0
-WaitsAs (AtSelect m) g = WaitsFor call.Wait g
-WaitsAs (AtPrompt m) g = WaitsFor call.Prompt g
-WaitsAs Quit g = WaitsFor call.Exit g
-WaitsAs (Fault n) g = Unit {0}

@@ -4,6 +4,7 @@ use Rattle.glk_input.specs.Delivery as delivery
 use Rattle.glk_input.specs.declared.input.Input.{Input}
 use Rattle.glk_input.specs.declared.input.Input.TheVariants.{Line, Char, File}
 use Rattle.glk_input.specs.declared.request.WindowInput.{WindowInput}
+use Rattle.glk_dispatch.specs.Glk as state
 use Rattle.glk_dispatch.specs.Glk.{fresh, turn_begun}
 use Rattle.glk_dispatch.specs.declared.glk.Glk.{Glk}
 use Rattle.vm_exec.specs.Start.{started}
@@ -14,13 +15,24 @@ use Rattle.story_run.specs.declared.setup.Setup.{Setup}
 use Rattle.story_run.specs.declared.stage.Stage.{Stage}
 use Rattle.story_run.specs.declared.stage.Stage.TheVariants.{AtSelect, AtPrompt, Quit, Fault}
 
+-- how a turn came to rest says whether the story is over
+abbrev pub is_at_end : Stage → Bool
+is_at_end (AtSelect m) = false
+is_at_end (AtPrompt m) = false
+is_at_end Quit = true
+is_at_end (Fault n) = true
+
+-- a story that is over waits with nothing
+abbrev pub settled : Stage → Glk → Glk
+settled stage g = if is_at_end stage then state.rested g else g
+
 -- a turn has come to rest: its show is made, and then the next may begin
 abbrev pub rested : List ℕ → ℕ → ℕ → Glk × Stage → WorldState
 rested image seed budget x = record {
   image = image;
   seed = seed;
   budget = budget;
-  glk = turn_begun x.0;
+  glk = turn_begun (settled x.1 x.0);
   stage = x.1;
   last = show_of x.0 x.1;
 }
@@ -60,13 +72,6 @@ answered w (Fault n) input = w
 -- the world after an input; one that isn't wanted leaves it
 unfoldable pub turned : WorldState → Input → WorldState
 turned w input = if is_wanted w input then answered w w.stage input else w
-
--- how a turn came to rest says whether the story is over
-abbrev pub is_at_end : Stage → Bool
-is_at_end (AtSelect m) = false
-is_at_end (AtPrompt m) = false
-is_at_end Quit = true
-is_at_end (Fault n) = true
 
 -- the story has quit or met a fault
 unfoldable pub is_over : WorldState → Bool

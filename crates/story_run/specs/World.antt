@@ -5,6 +5,7 @@ use Rattle.vm_exec.specs.Start.{IsOver}
 use Rattle.vm_exec.specs.declared.machine.Machine.{Machine}
 use Rattle.glk_dispatch.specs.Glk.{turn_begun}
 use Rattle.glk_dispatch.specs.Valid.{IsValid, Stands}
+use Rattle.glk_dispatch.specs.declared.called.Called.{Called}
 use Rattle.glk_dispatch.specs.declared.called.Called.TheVariants as call
 use Rattle.glk_dispatch.specs.declared.glk.Glk.{Glk}
 use Rattle.story_run.specs.declared.stage.Stage.{Stage}
@@ -65,12 +66,23 @@ StaysOver image m Waits = IsWaiting image m
 StaysOver image m Prompts = IsWaiting image m
 StaysOver image m Quits = Unit {0}
 
--- the Glk state is valid, and waits with what the story waits for
+-- the answer of the call with which the Glk state waits; that of an exit once the story is over
+abbrev pub answer_of : Stage → Called
+answer_of (AtSelect m) = call.Wait
+answer_of (AtPrompt m) = call.Prompt
+answer_of Quit = call.Exit
+answer_of (Fault n) = call.Exit
+
+-- the Glk state is valid, and waits with what the story waits for, and with nothing else
 abbrev pub StandsAt : Stage → Glk → Type 0
-StandsAt (AtSelect m) g = Stands call.Wait g
-StandsAt (AtPrompt m) g = Stands call.Prompt g
-StandsAt Quit g = Stands call.Exit g
-StandsAt (Fault n) g = IsValid g
+StandsAt stage g = Stands (answer_of stage) g
+
+-- so it is where a turn came to rest, but that a fault may come while it waits
+abbrev pub ComesTo : Stage → Glk → Type 0
+ComesTo (AtSelect m) g = Stands call.Wait g
+ComesTo (AtPrompt m) g = Stands call.Prompt g
+ComesTo Quit g = Stands call.Exit g
+ComesTo (Fault n) g = IsValid g
 
 -- a world as turns make it: the counts of its last turn are set back
 pub record IsValidWorld (w : WorldState) : Type 0 where

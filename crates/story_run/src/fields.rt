@@ -1,16 +1,15 @@
 //! What a snapshot keeps of a world, and the world that it makes.
 
-ghost use Rattle.std.specs.Prelude.{◌≡◌, true, IfOk, IfSome, IsSome};
+ghost use Rattle.std.specs.Prelude.{◌≡◌, IfOk, IfSome, IsSome};
 ghost use Rattle.glk_dispatch.specs.Valid.{IsValid};
-ghost use Rattle.glk_dispatch.specs.Glk.{no_prompt};
-ghost use Rattle.story_run.specs.Fields.{WaitsAs, stage_of, world_of};
+ghost use Rattle.story_run.specs.Fields.{stage_of, world_of};
 ghost use Rattle.story_run.specs.World.{IsResting, IsStageOf, IsValidWorld};
 ghost use Rattle.vm_exec.specs.Fields as vm;
 
 use crate::stage::Stage;
 use crate::world::{Held, hold};
 use crate::{Story, World};
-use glk_dispatch::{Glk, Prompt};
+use glk_dispatch::Glk;
 use glulx_image::Image;
 use std::alloc::{AllocError, Global};
 use story_text::Bytes;
@@ -60,7 +59,7 @@ impl<'i> World<'i> {
         let Some(stage) = stage_of(&story.image, seed, stage) else {
             return Ok(None);
         };
-        if !waits_as(&glk, &stage) {
+        if !glk.waits_for(stage.answer()) {
             return Ok(None);
         }
         glk.begin_turn();
@@ -113,26 +112,4 @@ fn machine_of<'i>(image: &Image<'i>, seed: u64, fields: MachineFields<'i>) -> Op
     }
     let _size = fields.stack.size();
     Machine::of_fields(image, fields)
-}
-
-// Whether the Glk state waits with what the story waits for, and with nothing else.
-fn waits_as(glk: &Glk, stage: &Stage<'_>) -> bool
-    ensures only { result ≡ true → WaitsAs stage.now glk.now }
-    ensures found { WaitsAs stage.now glk.now → result ≡ true }
-{
-    let no_event = glk.event() == 0;
-    let no_prompt = is_no_prompt(glk.prompt());
-    match stage {
-        Stage::AtSelect(_) => no_prompt,
-        Stage::AtPrompt(_) => no_event,
-        Stage::Quit => no_event && no_prompt,
-        Stage::Fault(_) => true,
-    }
-}
-
-fn is_no_prompt(prompt: Prompt) -> bool
-    ensures only { result ≡ true → prompt ≡ no_prompt }
-    ensures found { prompt ≡ no_prompt → result ≡ true }
-{
-    prompt.usage == 0 && prompt.mode == 0 && prompt.rock == 0
 }

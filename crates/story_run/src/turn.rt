@@ -5,7 +5,7 @@ ghost use Rattle.glk_dispatch.specs.Events.{is_awaited};
 ghost use Rattle.glk_dispatch.specs.Valid.{IsReady, IsValid};
 ghost use Rattle.story_run.specs.Step.{running};
 ghost use Rattle.story_run.specs.Turn.{Resumes, Stops, begun, delivered, rest, turn_on};
-ghost use Rattle.story_run.specs.World.{IsRunning, IsStageOf, IsWaiting, StandsAt};
+ghost use Rattle.story_run.specs.World.{ComesTo, IsRunning, IsStageOf, IsWaiting};
 ghost use Rattle.story_run.specs.declared.stage.Stage.TheVariants.{AtPrompt, AtSelect};
 ghost use Rattle.vm_exec.specs.Start.{started};
 
@@ -86,7 +86,7 @@ pub(crate) fn begin<'i>(
     ensures value { IfOk result (λ stage. (glk.new, stage)
         ≡ begun image.now budget glk.old (started image.now seed)) }
     ensures kept { IfOk result (λ stage. IsStageOf image.now seed stage) }
-    ensures stands { IfOk result (λ stage. StandsAt stage glk.new) }
+    ensures stands { IfOk result (λ stage. ComesTo stage glk.new) }
 {
     match Machine::start(alloc, image, seed) {
         Ok(machine) => run(alloc, glk, image, machine, budget),
@@ -128,7 +128,7 @@ pub(crate) fn resume<'i>(
         ≡ turn_on image.now budget glk.old machine.entry input.now) }
     ensures kept { (seed : ℕ) → machine.entry.random.seed ≡ seed
         → IfOk result (λ stage. IsStageOf image.now seed stage) }
-    ensures stands { IfOk result (λ stage. StandsAt stage glk.new) }
+    ensures stands { IfOk result (λ stage. ComesTo stage glk.new) }
 {
     match deliver(alloc, glk, image, &mut machine, input) {
         Ok(()) => run(alloc, glk, image, machine, budget),

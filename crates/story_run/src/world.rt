@@ -1,8 +1,9 @@
 //! A world: a story between two turns.
 
 ghost use Rattle.std.specs.Prelude.{◌≡◌, ◌+◌, true, IfOk};
-ghost use Rattle.story_run.specs.Solo.{is_over, is_wanted, opening, rested, shown, turned};
-ghost use Rattle.story_run.specs.World.{IsStageOf, IsValidWorld, StandsAt, state_of};
+ghost use Rattle.story_run.specs.Solo.{is_over, is_wanted, opening, rested, settled, shown};
+ghost use Rattle.story_run.specs.Solo.{turned};
+ghost use Rattle.story_run.specs.World.{ComesTo, IsStageOf, IsValidWorld, state_of};
 
 use crate::ends::lines_of;
 use crate::stage::Stage;
@@ -117,7 +118,7 @@ impl<'i> World<'i> {
         ensures value { result ≡ is_over self.now }
         ensures valid { IsValidWorld self.now }
     {
-        matches!(self.held.stage, Stage::Quit | Stage::Fault(_))
+        self.held.stage.is_at_end()
     }
 
     /// The lines of the last turn's show, each with its newline.
@@ -165,6 +166,15 @@ impl<'i> World<'i> {
     }
 }
 
+// A story that is over waits with nothing.
+fn settle(glk: &mut Glk, stage: &Stage<'_>)
+    ensures { glk.new ≡ settled stage.now glk.old }
+{
+    if stage.is_at_end() {
+        glk.rest();
+    }
+}
+
 // The world after a turn that came to rest: its show is made, and then the next may begin.
 fn rest<'i>(
     alloc: Global,
@@ -175,10 +185,11 @@ fn rest<'i>(
     stage: Stage<'i>,
 ) -> Result<World<'i>, AllocError>
     requires machine { IsStageOf image seed stage }
-    requires glk { StandsAt stage glk }
+    requires glk { ComesTo stage glk }
     ensures { IfOk result (λ world. world ≡ rested image.entry seed budget (glk, stage.entry)) }
 {
     let last = Bytes::of(lines_of(alloc, &glk, &stage)?);
+    settle(&mut glk, &stage);
     glk.begin_turn();
     hold(
         alloc,

@@ -1,5 +1,7 @@
-use Rattle.std.proofs.Common.{◌≡◌, subst, sym}
+use Rattle.std.proofs.Common.{◌≡◌, rules, subst, sym}
 use Rattle.glk_dispatch.specs.Glk.{turn_begun}
+use Rattle.glk_dispatch.specs.Valid.{WaitsFor}
+use Rattle.glk_dispatch.specs.declared.called.Called.{Called}
 use Rattle.glk_dispatch.specs.declared.glk.Glk.{Glk}
 use Rattle.story_run.specs.World.{StandsAt}
 use Rattle.story_run.proofs.ValidLemmas.{begun-stage}
@@ -11,6 +13,7 @@ hold-requires c = record {
   machine = rw c.lend-image.ensures.value c.in-Some.ensures.kept;
   glk = subst (StandsAt c.in-Some.stage) (sym c.begin_turn.ensures)
       (begun-stage c.in-Some.stage c.args.fields.glk
-      (stands-of c.in-Some.stage c.args.fields.glk c.requires (c.waits_as.ensures.only c.if-not-waits_as.false)));
+      (stands-of c.in-Some.stage c.args.fields.glk c.requires (subst (λ (a : Called). WaitsFor a c.args.fields.glk) c.answer.ensures
+      (c.waits_for.ensures.0 (search rules)))));
   begun = subst (λ (g : Glk). turn_begun g ≡ g) (sym c.begin_turn.ensures) (begun-again c.args.fields.glk);
 }
