@@ -22,8 +22,6 @@ use Rattle.snap_fields.proofs.Readers.{none_reads, if_reads, n4_reads, some_is}
 use Rattle.snap_fields.proofs.Lists.{list_reads, bytes_reads}
 use Rattle.snap_fields.proofs.ItemLaws.{equal, setup_reads, machine_reads, settings_reads}
 use Rattle.snap_fields.proofs.ItemLaws.{random_reads, waiting_reads, numbers_reads}
-use Rattle.snap_fields.specs.Counts.{HasCounts}
-use Rattle.snap_fields.proofs.CountLemmas.{has_counts}
 use Rattle.snap_fields.proofs.GlkLaws.{window_reads}
 use Rattle.snap_fields.proofs.StreamLaws.{stream_reads, fileref_reads, file_reads}
 
@@ -193,11 +191,6 @@ pub exact : (bytes : List ℕ) (result : Result Fields SnapFault) → ReadsField
     → IfErr result (Refuses bytes)
 exact bytes (Ok f) h = tt
 exact bytes (Err e) h = h
-
-pub kept : (bytes : List ℕ) (result : Result Fields SnapFault) → ReadsFields bytes result
-    → IfOk result HasCounts
-kept bytes (Ok f) h = has_counts f h.ranges
-kept bytes (Err e) h = tt
 
 rest_of : (f g : Fields) (r s : List ℕ) → done f r ≡ done g s → r ≡ s
 rest_of f g r s e =

@@ -10,6 +10,7 @@ ghost use Rattle.snap_fields.specs.Printing.{print_window};
 ghost use Rattle.snap_fields.specs.Reading.{bytes_at, n4_at};
 ghost use Rattle.snap_fields.specs.GlkItems.{file_at, fileref_at, stream_at, window_at};
 
+use crate::counts::{has_cells, is_counted, request_has_counts, target_has_counts};
 use crate::cursor::Cursor;
 use crate::fault::SnapFault;
 use crate::glk::{File, FileRef, Stream, Window};
@@ -30,6 +31,10 @@ impl Item for u32 {
 
     ghost has_counts = { HasNoList };
 
+    fn has_counts(&self) -> bool {
+        true
+    }
+
     fn read(_alloc: Global, from: &mut Cursor<'_>) -> Result<u32, SnapFault> {
         from.n4()
     }
@@ -48,6 +53,10 @@ impl Item for Items<u8> {
 
     ghost has_counts = { IsCounted };
 
+    fn has_counts(&self) -> bool {
+        is_counted(self.as_slice())
+    }
+
     fn read(alloc: Global, from: &mut Cursor<'_>) -> Result<Items<u8>, SnapFault> {
         from.bytes(alloc)
     }
@@ -65,6 +74,10 @@ impl Item for Block {
     ghost is_printable = { IsBlock };
 
     ghost has_counts = { HasNoList };
+
+    fn has_counts(&self) -> bool {
+        true
+    }
 
     #[tactic(auto, unfolding(crate::specs::Items::block_at))]
     fn read(_alloc: Global, from: &mut Cursor<'_>) -> Result<Block, SnapFault> {
@@ -88,6 +101,12 @@ impl Item for Window {
     ghost is_printable = { IsWindow };
 
     ghost has_counts = { CountsWindow };
+
+    fn has_counts(&self) -> bool {
+        is_counted(self.terminators.as_slice())
+            && has_cells(self.area, &self.content)
+            && request_has_counts(&self.request)
+    }
 
     #[tactic(auto, unfolding(crate::specs::GlkItems::window_at))]
     fn read(alloc: Global, from: &mut Cursor<'_>) -> Result<Window, SnapFault> {
@@ -139,6 +158,10 @@ impl Item for Stream {
 
     ghost has_counts = { CountsStream };
 
+    fn has_counts(&self) -> bool {
+        target_has_counts(&self.target)
+    }
+
     #[tactic(auto, unfolding(crate::specs::GlkItems::stream_at))]
     fn read(alloc: Global, from: &mut Cursor<'_>) -> Result<Stream, SnapFault> {
         let number = from.n4()?;
@@ -180,6 +203,10 @@ impl Item for FileRef {
 
     ghost has_counts = { CountsFileRef };
 
+    fn has_counts(&self) -> bool {
+        is_counted(self.name.as_slice())
+    }
+
     #[tactic(auto, unfolding(crate::specs::GlkItems::fileref_at))]
     fn read(alloc: Global, from: &mut Cursor<'_>) -> Result<FileRef, SnapFault> {
         Ok(FileRef {
@@ -207,6 +234,10 @@ impl Item for File {
     ghost is_printable = { IsFile };
 
     ghost has_counts = { CountsFile };
+
+    fn has_counts(&self) -> bool {
+        is_counted(self.name.as_slice()) && is_counted(self.bytes.as_slice())
+    }
 
     #[tactic(auto, unfolding(crate::specs::GlkItems::file_at))]
     fn read(alloc: Global, from: &mut Cursor<'_>) -> Result<File, SnapFault> {

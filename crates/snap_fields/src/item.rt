@@ -1,6 +1,6 @@
 //! What stands in lists (own).
 
-ghost use Rattle.std.specs.Prelude.{ℕ, List, OnOk, Option};
+ghost use Rattle.std.specs.Prelude.{◌↔◌, ℕ, List, IsTrue, OnOk, Option};
 ghost use Rattle.std.specs.List.{AllByRecursion, flat_map};
 ghost use Rattle.snap_fields.specs.Counts.{CountsList};
 ghost use Rattle.snap_fields.specs.Numbers.{IsListOf, list_of};
@@ -26,6 +26,10 @@ pub trait Item {
 
     /// Those whose lists have counts of four bytes.
     ghost has_counts: { Self → Type 0 };
+
+    /// Whether it is one of those.
+    fn has_counts(&self) -> bool
+        ensures { IsTrue result ↔ has_counts self.now };
 
     fn read(alloc: Global, from: &mut Cursor<'_>) -> Result<Self, SnapFault>
         ensures { Reads read_as from.old from.new result };

@@ -1,6 +1,7 @@
 //! A world's bytes as plain fields: written and read, one to one.
 #![tactic(auto)]
 
+mod counts;
 mod cursor;
 mod entries;
 mod fault;

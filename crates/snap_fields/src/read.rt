@@ -1,7 +1,6 @@
 //! Reading all of a world's bytes (own).
 
 ghost use Rattle.std.specs.Prelude.{IfErr, IfOk};
-ghost use Rattle.snap_fields.specs.Counts.{HasCounts};
 ghost use Rattle.snap_fields.specs.Laws.{Refuses, Spells};
 ghost use Rattle.snap_fields.specs.Reading.{Reads};
 ghost use Rattle.snap_fields.specs.Whole.{Finds, fields_at, whole};
@@ -55,8 +54,6 @@ fn all(alloc: Global, bytes: &[u8]) -> Result<Fields, SnapFault>
 pub fn read_fields(alloc: Global, bytes: &[u8]) -> Result<Fields, SnapFault>
     // What is read is spelled so, each byte of it.
     ensures found { IfOk result (Spells bytes.now) }
-    // What is read may be written again.
-    ensures kept { IfOk result HasCounts }
     // `BadSnap` exactly where no fields have these bytes.
     ensures exact { IfErr result (Refuses bytes.now) }
 {

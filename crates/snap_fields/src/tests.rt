@@ -65,7 +65,7 @@ fn what_is_read_is_written_again(rt: HostRuntime) -> Result<(), Fail> {
             }
         )
     );
-    let bytes = write_fields(rt.alloc(), &fields)?;
+    let bytes = write_fields(rt.alloc(), &fields)?.ok_or("it has no bytes")?;
     assert_eq!(rt; bytes.as_slice(), WAITING.as_slice());
     Ok(())
 }
@@ -89,7 +89,7 @@ fn a_changed_byte_is_refused_or_told_again(rt: HostRuntime) -> Result<(), Fail> 
         changed[at] = 255;
         match read_fields(rt.alloc(), &changed) {
             Ok(fields) => {
-                let bytes = write_fields(rt.alloc(), &fields)?;
+                let bytes = write_fields(rt.alloc(), &fields)?.ok_or("it has no bytes")?;
                 assert_eq!(rt; bytes.as_slice(), changed.as_slice());
             }
             Err(fault) => assert!(rt; matches!(fault, SnapFault::BadSnap)),

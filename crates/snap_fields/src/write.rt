@@ -1,11 +1,13 @@
 //! Writing a world's bytes (own).
 
-ghost use Rattle.std.specs.Prelude.{◌≡◌, IfOk, OnOk};
+ghost use Rattle.std.specs.Prelude.{IfNone, IfOk, IfSome, OnOk};
 ghost use Rattle.snap_fields.specs.Counts.{HasCounts};
+ghost use Rattle.snap_fields.specs.Laws.{Spells};
 ghost use Rattle.snap_fields.specs.Printable.{IsPrintable};
 ghost use Rattle.snap_fields.specs.Printing.{print_fields};
 ghost use Rattle.snap_fields.specs.Writing.{Puts};
 
+use crate::counts::has_counts;
 use crate::fields::Fields;
 use crate::item::put_list;
 use crate::put::{put_bytes, put4};
@@ -33,15 +35,16 @@ fn put_fields(out: &mut Vec<u8>, fields: &Fields) -> Result<(), AllocError>
     Ok(())
 }
 
-/// The bytes of the fields. An error is want of memory.
-pub fn write_fields(alloc: Global, fields: &Fields) -> Result<Vec<u8>, AllocError>
-    // Each list is shorter than 2^32, and each grid has a cell for each place of its rectangle.
-    requires { HasCounts fields.now }
-    ensures value { IfOk result (λ v. v.items ≡ print_fields fields.now) }
-    // The fields have such bytes: the numbers are in their ranges, by their types.
-    ensures within { IfOk result (λ _. IsPrintable fields.now) }
+/// The bytes of the fields. None exactly where they have none, since a list is too long for its
+/// count or a grid hasn't its cells. An error is want of memory.
+pub fn write_fields(alloc: Global, fields: &Fields) -> Result<Option<Vec<u8>>, AllocError>
+    ensures value { IfOk result (λ bytes. IfSome bytes (λ v. Spells v.items fields.now)) }
+    ensures none { IfOk result (λ bytes. IfNone bytes (¬ IsPrintable fields.now)) }
 {
+    if !has_counts(fields) {
+        return Ok(None);
+    }
     let mut out = Vec::new(alloc);
     put_fields(&mut out, fields)?;
-    Ok(out)
+    Ok(Some(out))
 }
