@@ -46,7 +46,18 @@ class Player:
         self.terminal, self.read_lines, self.past = terminal, {}, []
         terminal.keypad(True)
         rows, columns = terminal.getmaxyx()
-        self.host = make(max(min(columns, 255), 1), max(min(rows - 1, 255), 1))
+        self.remark("[the story is begun, or where it is kept played to where it was]")
+        self.host = make((max(min(columns, 255), 1), max(min(rows - 1, 255), 1)), self.remark)
+        self.measure()
+
+    def measure(self):
+        """Tells the player where the game was begun on a larger screen."""
+        rows, columns = self.terminal.getmaxyx()
+        windows = self.host.windows.values()
+        wide = max((window.x + window.width for window in windows), default=0)
+        high = max((window.y + window.height for window in windows), default=0)
+        if wide > columns or high > rows - 1:
+            self.host.note = f"[the game has {wide} columns and {high} rows; this terminal has less]"
 
     def play(self):
         self.show()
@@ -190,7 +201,7 @@ class Player:
 
 
 def play(make):
-    """Plays the story of the host that `make` gives for a screen of some columns and rows."""
+    """Plays the story of the host that `make` gives for a screen's columns and rows."""
     locale.setlocale(locale.LC_ALL, "")
     curses.set_escdelay(25)
     return curses.wrapper(lambda terminal: Player(terminal, make).play())
