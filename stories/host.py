@@ -190,10 +190,17 @@ class Session(Game):
     def __init__(self, link, number, key, say, shows=None):
         super().__init__(shows)
         self.link, self.number, self.key, self.say, self.count = link, number, key, say, 0
-        try:
-            self.requests, self.replies = self.link.begin()
-        except OSError:
-            raise SystemExit(f"play.py: no host answers at {self.link}") from None
+        self.requests, self.replies = self.begun_link()
+
+    def begun_link(self):
+        """The link to the host, which may have been started just now."""
+        for more in reversed(range(10)):
+            try:
+                return self.link.begin()
+            except OSError:
+                if not more:
+                    raise SystemExit(f"play.py: no host answers at {self.link}") from None
+                time.sleep(0.5)
 
     def play_on(self, story, seed, size):
         """Shows what the story said last; where the session is free, opens it."""
