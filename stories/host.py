@@ -62,6 +62,14 @@ def launched(words):
                          "it is built; --host names another program") from None
 
 
+def close(pipe):
+    """Ends the input of a program, which may be gone."""
+    try:
+        pipe.close()
+    except BrokenPipeError:
+        pass
+
+
 class Window:
     def __init__(self, kind, x, y, width, height):
         self.kind, self.x, self.y, self.width, self.height = kind, x, y, width, height
@@ -167,7 +175,10 @@ class Host(Game):
         self.read()
 
     def give(self, move):
-        self.send(self.line_of(move))
+        try:
+            self.send(self.line_of(move))
+        except BrokenPipeError:
+            pass    # The program is gone, and reading tells why.
         self.read()
 
     def read(self):
@@ -179,7 +190,7 @@ class Host(Game):
     def finish(self):
         """Ends the input, and keeps what the program used."""
         if self.usage is None:
-            self.process.stdin.close()
+            close(self.process.stdin)
             _, self.status, self.usage = os.wait4(self.process.pid, 0)
             self.process.returncode = os.waitstatus_to_exitcode(self.status)
 
@@ -277,10 +288,7 @@ class Pipe:
 
     def end(self, said=""):
         """Ends the host; where it ends by itself with a status, that is the end of this program."""
-        try:
-            self.process.stdin.close()
-        except BrokenPipeError:
-            pass
+        close(self.process.stdin)
         if self.process.wait() > 0:
             cause = self.process.stderr.read().decode().strip()
             raise SystemExit(f"play.py: the host says: {said}\n{cause}" if said else cause)
