@@ -18,7 +18,7 @@ STORIES = os.path.join(HERE, "../stories")
 sys.path.insert(0, STORIES)
 
 from compare import Glulxe, solid  # noqa: E402
-from play import HOST, Host  # noqa: E402
+from host import HOST, Host  # noqa: E402
 from terminal import peak_of  # noqa: E402
 
 WALK = ["n", "look", "open cupboard", "take all from cupboard", "e", "examine clock", "wind clock",

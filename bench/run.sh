@@ -3,8 +3,8 @@
 # Markdown: processor seconds, their ratio, work a second, peak memory. It takes some two minutes.
 # Wants, on Debian:
 #     apt-get update; apt-get install -y --no-install-recommends glulxe
-# and a storyhost that was built (`cd crates/storyhost && rt run -- run data/hi.ulx < stdin`). The
-# stories lie in stories/ as compiled files. It needs no network.
+# and a storyhost that was built (README.md, "Begin"). The stories lie in stories/ as compiled files.
+# It needs no network.
 set -eu
 cd "$(dirname "$0")"
 exec python3 measure.py "$@"

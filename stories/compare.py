@@ -17,7 +17,8 @@ import shutil
 import sys
 import tempfile
 
-from play import CLEARED, HOST, Host, read_moves
+from host import CLEARED, HOST, Host
+from play import read_moves
 from terminal import Program
 
 COLUMNS, ROWS = 80, 24

@@ -44,9 +44,23 @@ class Player:
 
     def __init__(self, terminal, make):
         self.terminal, self.read_lines, self.past = terminal, {}, []
+        self.above = 0      # how many of the game's rows stand above the terminal's first
         terminal.keypad(True)
         rows, columns = terminal.getmaxyx()
-        self.host = make(max(min(columns, 255), 1), max(min(rows - 1, 255), 1))
+        self.remark("[the story is begun, or where it is kept played to where it was]")
+        self.host = make((max(min(columns, 255), 1), max(min(rows - 1, 255), 1)), self.remark)
+        self.host.note = self.host.note or self.measure()
+
+    def measure(self):
+        """Whether the game's screen is larger than this one, of which its last rows are shown then."""
+        rows, columns = self.terminal.getmaxyx()
+        windows = self.host.windows.values()
+        wide = max((window.x + window.width for window in windows), default=0)
+        high = max((window.y + window.height for window in windows), default=0)
+        self.above = max(high - rows, 0)
+        if self.above or wide > columns:
+            return f"[the game has {wide} columns and {high} rows: make the terminal larger]"
+        return ""
 
     def play(self):
         self.show()
@@ -64,6 +78,7 @@ class Player:
 
     def show(self):
         """Draws all windows, a page of each buffer at a time where more came than it holds."""
+        self.measure()
         self.terminal.erase()
         for number, window in sorted(self.host.windows.items()):
             if window.kind == 4:
@@ -103,18 +118,28 @@ class Player:
             self.put(window.y + row, window.x, text, drawn)
 
     def put(self, y, x, text, drawn=curses.A_NORMAL):
+        """Draws a text at a place of the game's screen."""
         rows, columns = self.terminal.getmaxyx()
-        if 0 <= y < rows and 0 <= x < columns:
+        if 0 <= y - self.above < rows and 0 <= x < columns:
             shown = "".join(code if code.isprintable() else "?" for code in text[: columns - x])
             try:
-                self.terminal.addstr(y, x, shown, drawn)
+                self.terminal.addstr(y - self.above, x, shown, drawn)
             except curses.error:
                 pass    # The terminal's last cell is drawn, and then the cursor has no place.
 
+    def move(self, y, x):
+        """Puts the cursor at a place of the game's screen."""
+        rows, columns = self.terminal.getmaxyx()
+        self.terminal.move(min(max(y - self.above, 0), rows - 1), min(max(x, 0), columns - 1))
+
+    def last_row(self):
+        """The row of the game's screen that is the terminal's last."""
+        return self.terminal.getmaxyx()[0] - 1 + self.above
+
     def remark(self, text):
         """Says something of the host in the terminal's last line."""
-        rows, columns = self.terminal.getmaxyx()
-        self.put(rows - 1, 0, text[:columns].ljust(columns - 1), curses.A_REVERSE)
+        columns = self.terminal.getmaxyx()[1]
+        self.put(self.last_row(), 0, text[:columns].ljust(columns - 1), curses.A_REVERSE)
         self.terminal.refresh()
 
     def key(self):
@@ -133,13 +158,13 @@ class Player:
         """What the player gives the story, or None where the player leaves."""
         kind, number = self.host.wanted()
         if kind == "char":
-            self.terminal.move(*self.end_of(number))
+            self.move(*self.end_of(number))
             return self.character()
         if kind == "P":
-            rows, columns = self.terminal.getmaxyx()
             asked = "The name of a file (nothing cancels): "
             self.remark(asked)
-            return self.line(rows - 1, len(asked), columns - len(asked) - 1, "", 255)
+            room = self.terminal.getmaxyx()[1] - len(asked) - 1
+            return self.line(self.last_row(), len(asked), room, "", 255)
         y, x = self.end_of(number)
         window = self.host.windows[number]
         most = int(self.host.waits[0][3])
@@ -170,7 +195,7 @@ class Player:
         while True:
             shown = text[-(room - 1) :] if room > 1 else ""
             self.put(y, x, shown.ljust(room), attribute(8))
-            self.terminal.move(y, min(x + len(shown), self.terminal.getmaxyx()[1] - 1))
+            self.move(y, x + len(shown))
             key = self.key()
             if key in ("\n", "\r", curses.KEY_ENTER):
                 self.past += [text] if text else []
@@ -190,7 +215,7 @@ class Player:
 
 
 def play(make):
-    """Plays the story of the host that `make` gives for a screen of some columns and rows."""
+    """Plays the story of the host that `make` gives for a screen's columns and rows."""
     locale.setlocale(locale.LC_ALL, "")
     curses.set_escdelay(25)
     return curses.wrapper(lambda terminal: Player(terminal, make).play())
