@@ -1,26 +1,22 @@
 -- A Glk state that is told and made again, and fields that are made and told again.
-use Rattle.std.proofs.Common.{◌≡◌, ◌∙◌, ℕ, ◌==◌, ◌&&◌, true, false, List, [], ◌∷◌, map, nat_le}
-use Rattle.std.proofs.Common.{refl, sym, ap, arith, Option, Some, None, option_map}
-use Rattle.std.specs.List.{AllByRecursion, zip}
-use Rattle.glk_numbers.specs.Numbered.{ascends, found}
+use Rattle.std.proofs.Common.{◌≡◌, ◌∙◌, ℕ, true}
+use Rattle.std.proofs.Common.{refl, ap, Option, Some, None, option_map}
+use Rattle.std.specs.List.{AllByRecursion}
+use Rattle.glk_numbers.specs.Numbered.{ascends}
 use Rattle.glk_windows.specs.Tree as tree
 use Rattle.glk_windows.specs.Valid as windows
 use Rattle.glk_windows.specs.declared.window.Window as window
 use Rattle.glk_streams.specs.Streams as streams
 use Rattle.glk_streams.specs.declared.stream.Stream as stream
-use Rattle.glk_streams.specs.declared.stream.Target as target
-use Rattle.glk_streams.specs.declared.stream.Target.TheVariants as to
-use Rattle.glk_dispatch.specs.Glk.{turn_begun}
-use Rattle.glk_dispatch.specs.Links.{end_of, ends, link_of, links, owner, owner_in, stream_in}
+use Rattle.glk_dispatch.specs.Links.{end_of, ends, link_of, owner, owner_in, stream_in}
 use Rattle.glk_dispatch.specs.Valid.{IsValid}
 use Rattle.glk_dispatch.specs.declared.glk.Glk.{Glk}
 use Rattle.glk_dispatch.proofs.CloseLemmas.{to-ascends}
 use Rattle.glk_dispatch.proofs.EchoLemmas.{streams-ascend}
 use Rattle.glk_dispatch.proofs.EntryLemmas.{entries_follow, streams_follow}
-use Rattle.snap_fields.specs.declared.glk.Window.{Window}
 use Rattle.snap_glk.specs.Laws.{GivesBack, TakesBack}
-use Rattle.snap_glk.specs.Made.{file_made, fileref_made, glk_with_fields, stream_made, window_with}
-use Rattle.snap_glk.specs.Told.{file_told, fileref_told, glk_fields, stream_told, window_told}
+use Rattle.snap_glk.specs.Made.{file_made, fileref_made, stream_made}
+use Rattle.snap_glk.specs.Told.{file_told, fileref_told, glk_fields, stream_told}
 use Rattle.snap_glk.proofs.ListLemmas.{IsFound, all-found, all-weaker, map-back}
 use Rattle.snap_glk.proofs.StreamLemmas.{IsTold, Owns, stream-again, streams-back, window-found}
 use Rattle.snap_glk.proofs.WindowLemmas.{inputs-back, windows-again, windows-back}

@@ -1,10 +1,9 @@
 -- Fields of a valid Glk state fit the types of its parts.
-use Rattle.std.proofs.Common.{◌≡◌, ◌∙◌, ℕ, ◌+◌, ◌≤◌, ◌&&◌, nat_le, Bool, true, false, List, [], ◌∷◌, map}
-use Rattle.std.proofs.Common.{refl, sym, ap, arith, length}
+use Rattle.std.proofs.Common.{◌≡◌, ◌∙◌, ◌≤◌, ◌&&◌, nat_le, Bool, true, false, List, [], ◌∷◌, map}
+use Rattle.std.proofs.Common.{refl, sym, arith, length, Err}
 use Rattle.std.specs.List.{list_all}
 use Rattle.std.proofs.lemmas.Bool.{and_parts}
 use Rattle.std.proofs.lemmas.Bool.Decides.{nat_tests}
-use Rattle.std.proofs.lemmas.Grind.{common_steps}
 use Rattle.glk_numbers.specs.Numbered.{ascends}
 use Rattle.glk_input.specs.Request.{number_of}
 use Rattle.glk_input.specs.Valid as inputs
@@ -17,8 +16,10 @@ use Rattle.snap_fields.specs.declared.glk.Request.{Request}
 use Rattle.snap_fields.specs.declared.glk.Request.TheVariants.{Nothing, Line, Char}
 use Rattle.snap_fields.specs.declared.glk.Window.{Window}
 use Rattle.snap_glk.specs.Made.{file_made, input_made, request_made}
-use Rattle.snap_glk.specs.Making.{has_few, has_few_keys, is_file}
+use Rattle.snap_glk.specs.Making.{Makes, MakesSound, has_few, has_few_keys, is_file}
 use Rattle.snap_glk.specs.Texts.{is_text_of_file}
+use Rattle.snap_glk.specs.declared.unfit.Unfit.{Unfit}
+use Rattle.snap_glk.specs.declared.unfit.Unfit.TheVariants.{Invalid, NoMemory}
 
 both : (a b : Bool) → a ≡ true → b ≡ true → (a && b) ≡ true
 both a b h k = rw (h, k) refl
@@ -35,9 +36,10 @@ windows-few : (ws : List Window) → inputs.are_windows (map input_made ws) ≡ 
     → list_all has_few_keys ws ≡ true
 windows-few [] e = refl
 windows-few (w ∷ ws) e =
-    let p = and_parts (inputs.is_window (input_made w)) (inputs.are_windows (map input_made ws)) e in
-    let q = and_parts (inputs.are_few w.terminators) (inputs.is_request (request_made w.request)) p.0
-    in
+    let p = and_parts (inputs.is_window (input_made w))
+    (inputs.are_windows (map input_made ws)) e in
+    let q = and_parts (inputs.are_few w.terminators)
+    (inputs.is_request (request_made w.request)) p.0 in
     both (has_few_keys w) (list_all has_few_keys ws)
     (both (inputs.are_few w.terminators) (has_few w.request) q.0 (request-few w.request q.1))
     (windows-few ws p.1)
@@ -72,3 +74,17 @@ are-files t fs e v x =
     let few : bytes_of (map file_made fs) ≤ MAX_FILE_BYTES =
     grind (arith, nat_tests, bytes, e) in
     file-bytes fs few x
+
+-- ---- what wasn't made
+
+-- fields that don't fit are no sound value's
+pub unsound : {A B C : Type 0} (make : A → B) (fits : A → Bool) (x : A) (Given : Type 0)
+    (Is : C → Type 0) (it : C) (e : Unfit) → Makes make fits x (Err e)
+    → (Given → Is it → fits x ≡ true) → MakesSound Given Is it (Err e)
+unsound make fits x Given Is it NoMemory m h = tt
+unsound make fits x Given Is it Invalid m h =
+    λ g i. let c : true ≡ false = sym (h g i) ∙ m in cc
+
+pub all-fit : {A : Type 0} (xs : List A) → list_all (λ _. true) xs ≡ true
+all-fit [] = refl
+all-fit (x ∷ xs) = all-fit xs

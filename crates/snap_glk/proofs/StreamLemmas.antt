@@ -1,11 +1,10 @@
 -- Streams told and made again: the window of a window's stream is the one that has it.
-use Rattle.std.proofs.Common.{◌≡◌, ◌∙◌, ℕ, ◌==◌, ◌&&◌, true, false, List, [], ◌∷◌, map}
-use Rattle.std.proofs.Common.{refl, sym, ap, arith, Option, Some, None, option_map, if◌then◌else◌}
+use Rattle.std.proofs.Common.{◌≡◌, ◌∙◌, ℕ, ◌==◌, List, [], ◌∷◌, map}
+use Rattle.std.proofs.Common.{refl, ap, arith, Some}
 use Rattle.std.proofs.Common.{inl, inr}
 use Rattle.std.specs.List.{AllByRecursion, zip}
-use Rattle.std.proofs.lemmas.Bool.{and_parts, cases_Bool}
+use Rattle.std.proofs.lemmas.Bool.{cases_Bool}
 use Rattle.std.proofs.lemmas.Bool.Decides.{nat_tests}
-use Rattle.std.proofs.lemmas.Grind.{common_steps}
 use Rattle.glk_numbers.specs.Numbered.{found}
 use Rattle.glk_windows.specs.Tree as tree
 use Rattle.glk_windows.specs.declared.window.Window as window
@@ -20,7 +19,6 @@ use Rattle.snap_fields.specs.declared.glk.Target.TheVariants as told
 use Rattle.snap_fields.specs.declared.glk.Window.{Window}
 use Rattle.snap_glk.specs.Made.{stream_made, target_made, window_with}
 use Rattle.snap_glk.specs.Told.{stream_told, target_told, window_told}
-use Rattle.snap_glk.proofs.ListLemmas.{all-weaker}
 use Rattle.snap_glk.proofs.WindowLemmas.{numbers}
 
 -- the windows that have this stream are those of this number

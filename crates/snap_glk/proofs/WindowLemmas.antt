@@ -1,6 +1,6 @@
 -- Windows and their entries for input, told and made again.
-use Rattle.std.proofs.Common.{◌≡◌, ◌∙◌, ℕ, ◌+◌, ◌*◌, ◌==◌, ◌&&◌, true, false, List, [], ◌∷◌, map, length}
-use Rattle.std.proofs.Common.{refl, sym, ap, arith, Option, Some, None}
+use Rattle.std.proofs.Common.{◌≡◌, ◌∙◌, ℕ, ◌*◌, ◌==◌, ◌&&◌, true, List, [], ◌∷◌, map, length}
+use Rattle.std.proofs.Common.{refl, ap, arith, Option, Some, None}
 use Rattle.std.specs.List.{zip}
 use Rattle.std.proofs.lemmas.Bool.{and_parts}
 use Rattle.std.proofs.lemmas.Bool.Decides.{nat_tests}
@@ -21,7 +21,7 @@ use Rattle.snap_fields.specs.declared.glk.Area.{Area}
 use Rattle.snap_fields.specs.declared.glk.Request.{Request}
 use Rattle.snap_fields.specs.declared.glk.Request.TheVariants.{Nothing, Line, Char}
 use Rattle.snap_fields.specs.declared.glk.Window.{Window}
-use Rattle.snap_glk.specs.Made.{area_made, content_made, input_made, request_made, window_made}
+use Rattle.snap_glk.specs.Made.{content_made, input_made, request_made, window_made}
 use Rattle.snap_glk.specs.Told.{area_told, content_told, request_told, window_told}
 
 -- ---- from a Glk state and back

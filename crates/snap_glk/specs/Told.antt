@@ -1,5 +1,5 @@
 -- What a world's bytes say of a Glk state (own: docs/FORMATS.md, "Snapshot bytes").
-use Rattle.std.specs.Prelude.{List, map, Option, Some, None}
+use Rattle.std.specs.Prelude.{map, Option, Some, None}
 use Rattle.std.specs.List.{zip}
 use Rattle.glk_windows.specs.declared.window.Area as area
 use Rattle.glk_windows.specs.declared.window.Content as content

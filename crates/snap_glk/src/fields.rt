@@ -64,8 +64,9 @@ fn make_tree(alloc: Global, fields: &GlkFields) -> Result<Windows, Unfit>
 {
     let list = fields.windows.as_slice();
     let slots = make_all(alloc, list, list)?;
-    Windows::of_fields(fields.numbers.window, fields.numbers.root, slots.into_vec())
-        .ok_or(Unfit::Invalid)
+    Windows::of_fields(fields.numbers.window, fields.numbers.root, slots.into_vec()).ok_or(
+        Unfit::Invalid,
+    )
 }
 
 fn make_requests(alloc: Global, fields: &GlkFields) -> Result<Requests, Unfit>

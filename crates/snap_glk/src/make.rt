@@ -2,6 +2,7 @@
 
 ghost use Rattle.std.specs.Prelude.{Bool, List, map};
 ghost use Rattle.std.specs.List.{list_all};
+ghost use Rattle.snap_fields.specs.declared.glk.Window.{Window};
 ghost use Rattle.snap_glk.specs.Making.{Makes};
 
 use crate::unfit::Unfit;

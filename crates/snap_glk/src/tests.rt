@@ -168,32 +168,47 @@ fn made(alloc: Global, fields: &GlkFields) -> Result<Option<Glk>, AllocError> {
     glk_of(alloc, 2, 4, 304, NO_PROMPT, fields)
 }
 
+/// The windows as they were given.
+fn are_windows(windows: &[Window]) -> bool {
+    let [buffer, grid, pair] = windows else {
+        return false;
+    };
+    matches!(buffer.request, Request::Line { initial: 2, .. })
+        && buffer.echo_stream == 4
+        && matches!(grid.request, Request::Char { unicode: false })
+        && matches!(&grid.content, Content::Grid { cells, .. } if cells.as_slice() == [72, 105])
+        && matches!(pair.content, Content::Pair { key: 2, .. })
+}
+
+/// The streams as they were given.
+fn are_streams(streams: &[Stream]) -> bool {
+    let [first, _, _, memory, file] = streams else {
+        return false;
+    };
+    matches!(first.target, Target::Window)
+        && matches!(memory.target, Target::Memory { buffer: 384, .. })
+        && matches!(&file.target, Target::File { name, .. } if name.as_slice() == NAME)
+}
+
+/// The file reference and the file as they were given.
+fn are_files(filerefs: &[FileRef], files: &[File]) -> bool {
+    let ([fileref], [file]) = (filerefs, files) else {
+        return false;
+    };
+    fileref.name.as_slice() == NAME && file.bytes.as_slice() == b"xy"
+}
+
 #[test]
-fn what_is_told_is_made_and_told_again(rt: HostRuntime) -> Result<(), Fail> {
+fn what_is_made_is_told_and_made_again(rt: HostRuntime) -> Result<(), Fail> {
     let given = fields(rt.alloc(), &[0xFFFF_FFEF], &NAME)?;
     let glk = made(rt.alloc(), &given)?.ok_or("no session may have it")?;
     assert_eq!(rt; glk.event(), 304);
-    assert!(rt; glk.streams.streams()[1].target.is_of_window(2));
+    assert_eq!(rt; glk.windows.stream(2), 2);
     let told = fields_of(rt.alloc(), &glk)?;
     assert_eq!(rt; told.numbers.current, 4);
-    let windows = told.windows.as_slice();
-    assert_eq!(rt; windows.len(), 3);
-    assert!(rt; matches!(windows[0].request, Request::Line { initial: 2, .. }));
-    assert!(rt; matches!(windows[1].request, Request::Char { unicode: false }));
-    assert!(rt; matches!(windows[2].content, Content::Pair { key: 2, .. }));
-    match &windows[1].content {
-        Content::Grid { cells, .. } => assert_eq!(rt; cells.as_slice(), [72, 105].as_slice()),
-        _ => return Err("no grid".into()),
-    }
-    let streams = told.streams.as_slice();
-    assert!(rt; matches!(streams[0].target, Target::Window));
-    assert!(rt; matches!(streams[3].target, Target::Memory { buffer: 384, .. }));
-    match &streams[4].target {
-        Target::File { name, .. } => assert_eq!(rt; name.as_slice(), NAME.as_slice()),
-        _ => return Err("no file".into()),
-    }
-    assert_eq!(rt; told.filerefs.as_slice()[0].name.as_slice(), NAME.as_slice());
-    assert_eq!(rt; told.files.as_slice()[0].bytes.as_slice(), b"xy".as_slice());
+    assert!(rt; are_windows(told.windows.as_slice()));
+    assert!(rt; are_streams(told.streams.as_slice()));
+    assert!(rt; are_files(told.filerefs.as_slice(), told.files.as_slice()));
     assert!(rt; made(rt.alloc(), &told)?.is_some());
     Ok(())
 }

@@ -77,7 +77,7 @@ pub(crate) fn tell_windows(
     ensures { IfOk result (λ ws. ws ≡ map told.window_told (zip windows.now inputs.now)) }
 {
     let mut list = Vec::new(alloc);
-    for (window, input) in windows.iter().zip(inputs.iter()) {
+    for (window, input) in windows.iter().zip(inputs) {
         list.push(tell_window(alloc, window, input)?)?;
     }
     Ok(Items::of(list))
