@@ -176,7 +176,7 @@ fn are_windows(windows: &[Window]) -> bool {
     matches!(buffer.request, Request::Line { initial: 2, .. })
         && buffer.echo_stream == 4
         && matches!(grid.request, Request::Char { unicode: false })
-        && matches!(&grid.content, Content::Grid { cells, .. } if cells.as_slice() == [72, 105])
+        && matches!(&grid.content, Content::Grid { cells, .. } if matches!(cells.as_slice(), [72, 105]))
         && matches!(pair.content, Content::Pair { key: 2, .. })
 }
 
@@ -187,7 +187,7 @@ fn are_streams(streams: &[Stream]) -> bool {
     };
     matches!(first.target, Target::Window)
         && matches!(memory.target, Target::Memory { buffer: 384, .. })
-        && matches!(&file.target, Target::File { name, .. } if name.as_slice() == NAME)
+        && matches!(&file.target, Target::File { name, .. } if name.as_slice() == NAME.as_slice())
 }
 
 /// The file reference and the file as they were given.
@@ -195,7 +195,7 @@ fn are_files(filerefs: &[FileRef], files: &[File]) -> bool {
     let ([fileref], [file]) = (filerefs, files) else {
         return false;
     };
-    fileref.name.as_slice() == NAME && file.bytes.as_slice() == b"xy"
+    fileref.name.as_slice() == NAME.as_slice() && file.bytes.as_slice() == b"xy".as_slice()
 }
 
 #[test]
