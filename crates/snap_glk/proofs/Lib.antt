@@ -1,0 +1,5 @@
+pub mod ListLemmas
+pub mod WindowLemmas
+pub mod StreamLemmas
+pub mod BackLemmas
+pub mod FitLemmas

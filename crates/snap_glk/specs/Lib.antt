@@ -1,0 +1,5 @@
+pub mod Told
+pub mod Made
+pub mod Texts
+pub mod Making
+pub mod Laws
