@@ -15,11 +15,13 @@ use Rattle.vm_stack.proofs.SavedTests.{saved_decided}
 use Rattle.vm_undo.specs.declared.saved.Saved.{Saved}
 use Rattle.quetzal.specs.Chunks.{Pieces, parts_of}
 use Rattle.quetzal.specs.Heap.{HaveOrder, IsHeapIn, fits, listed}
-use Rattle.quetzal.specs.Save.{identity, loaded, ram_in, IsStackOf, Refuses, IsStateIn, HasNoHeap, Reads, ReadsHeapOf, ReadsStack, ReadsMemory, ReadsStory, ReadsParts}
+use Rattle.quetzal.specs.Save.{identity, loaded, ram_in, IsStackOf, Refuses, IsStateIn, HasNoHeap, Reads, ReadsHeapOf, ReadsStack, ReadsMemory, ReadsStory, ReadsParts, canon}
 use Rattle.quetzal.specs.State.{Finds, by_address, heap_of, is_stack_of, state_in, state_of, state_over, state_with}
 use Rattle.quetzal.specs.declared.fault.SaveFault.{SaveFault}
 use Rattle.quetzal.specs.declared.fault.SaveFault.TheVariants.{NotSave, Cut, OtherStory, BadRuns, BadStack, BadHeap, NoMemory}
+use Rattle.quetzal.specs.Returns.{GivesStateBack}
 use Rattle.quetzal.proofs.OrderLemmas.{and_left, and_right, fits-order, same_order}
+use Rattle.quetzal.proofs.WriteLemmas.{written_reads}
 
 -- ---- blocks by their addresses
 
@@ -196,3 +198,7 @@ pub reader_finds : (image bytes : List ℕ) (result : Result Saved SaveFault) �
     → Finds (state_in image bytes) result
 unfolding state_in
 reader_finds image bytes result laid h = parts_finds image (parts_of bytes) result laid h
+
+pub state_given_back : GivesStateBack
+state_given_back image s laid is kept =
+    reader_finds image (canon image s) (Ok s) laid (written_reads image s laid is kept)

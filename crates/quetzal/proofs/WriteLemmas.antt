@@ -13,14 +13,16 @@ use Rattle.vm_heap.specs.declared.block.Block.{Block}
 use Rattle.vm_heap.proofs.HeapLemmas.{none, Next, next_of, in_order-limit, is_heap-order, in_order-lower, positive}
 use Rattle.quetzal.specs.Runs.{differences, pairs, last_run, zeros, coded}
 use Rattle.glulx_image.specs.Header.{IsLaidOut, ramstart, extstart, endmem, stack_size}
-use Rattle.vm_memory.specs.MemoryMap.{MemoryMap, KeepsRom, original, ram_of, resized, with_ram}
-use Rattle.vm_undo.specs.SavedState.{IsHeapOver}
+use Rattle.vm_memory.specs.MemoryMap.{MemoryMap, KeepsRom, origin_of, original, ram_of, resized, with_ram}
+use Rattle.vm_undo.specs.SavedState.{IsHeapOver, IsSize}
 use Rattle.vm_undo.specs.declared.saved.Saved.{Saved}
 use Rattle.quetzal.specs.Chunks.{Pieces, word, parts_of}
+use Rattle.quetzal.specs.Fault.{◌>>=◌}
 use Rattle.quetzal.specs.Heap.{HaveOrder, IsHeapIn, block_bytes, blocks_in, fits, is_without, listed, print_heap}
 use Rattle.quetzal.specs.Memory.{is_size, original as original_ram, print_memory}
 use Rattle.quetzal.specs.Printing.{padding, chunk, heap_chunk, chunks_of, print_save}
 use Rattle.quetzal.specs.Save.{rom, image_memory, loaded, identity, ram_in, origin, canon, IsStackOf, Refuses, IsStateIn, IsStateOf, HasNoHeap, Reads, ReadsHeapOf, ReadsStack, ReadsMemory, ReadsStory, ReadsParts, Gives, IsReadAs}
+use Rattle.quetzal.specs.Returns.{HasRom, GivesMemoryBack, GivesStateBack}
 use Rattle.quetzal.specs.declared.fault.SaveFault.{SaveFault}
 use Rattle.quetzal.specs.declared.fault.SaveFault.TheVariants.{NotSave, Cut, OtherStory, BadRuns, BadStack, BadHeap, NoMemory}
 use Rattle.quetzal.proofs.MemoryLemmas.{word_again, memory_again}
@@ -146,29 +148,28 @@ written_parts image s = record {
   heap = print_heap s.heap_start s.heap;
 }
 
--- RAM of a state of the story
-record Sizes (image : List ℕ) (s : Saved) : Type 0 where
-  ramstart-is : s.memory.ramstart ≡ ramstart image
-  rom-is : s.memory.rom ≡ rom image
-  endmem-is : s.memory.endmem ≡ endmem image
-  ram : ramstart image + length (ram_of s.memory) ≡ length s.memory.bytes
+-- RAM of memory of the story
+record Sizes (image : List ℕ) (m : MemoryMap) : Type 0 where
+  ramstart-is : m.ramstart ≡ ramstart image
+  rom-is : m.rom ≡ rom image
+  endmem-is : m.endmem ≡ endmem image
+  ram : ramstart image + length (ram_of m) ≡ length m.bytes
   low : ramstart image ≤ length (rom image)
   high : length (rom image) ≤ endmem image
-  size : is_size (endmem image) (ramstart image + length (ram_of s.memory)) ≡ true
+  size : is_size (endmem image) (ramstart image + length (ram_of m)) ≡ true
 
-sizes_of : (image : List ℕ) (s : Saved) → IsLaidOut image → IsStateOf image s → Sizes image s
-sizes_of image s laid is =
-    let rs : s.memory.ramstart ≡ ramstart image = ap (λ o. o.ramstart) is.saved.image in
-    let ro : s.memory.rom ≡ rom image = ap (λ o. o.rom) is.saved.image in
-    let en : s.memory.endmem ≡ endmem image = ap (λ o. o.endmem) is.saved.image in
-    let size = is.saved.saved.size in
+sizes_of : (image : List ℕ) (m : MemoryMap) → IsLaidOut image → origin_of m ≡ origin image → IsSize m.endmem (length m.bytes) → Sizes image m
+sizes_of image m laid is size =
+    let rs : m.ramstart ≡ ramstart image = ap (λ o. o.ramstart) is in
+    let ro : m.rom ≡ rom image = ap (λ o. o.rom) is in
+    let en : m.endmem ≡ endmem image = ap (λ o. o.endmem) is in
     let rom-length : length (rom image) ≡ extstart image = omega (arith, length-take (extstart image) image, laid.ext_inside) in
-    let least : endmem image ≤ length s.memory.bytes = rw en at size.least in
-    let ram : ramstart image + length (ram_of s.memory) ≡ length s.memory.bytes =
-    omega (arith, length-drop s.memory.ramstart s.memory.bytes, rs, least, laid.ram_below, laid.ext_below) in
-    let pages : (length s.memory.bytes % 256 == 0) ≡ true = grind (arith, nat_tests, size.pages) in
-    let from : nat_le (endmem image) (length s.memory.bytes) ≡ true = grind (arith, nat_tests, least) in
-    let to : nat_le (length s.memory.bytes) 16777216 ≡ true = grind (arith, nat_tests, size.limit) in
+    let least : endmem image ≤ length m.bytes = rw en at size.least in
+    let ram : ramstart image + length (ram_of m) ≡ length m.bytes =
+    omega (arith, length-drop m.ramstart m.bytes, rs, least, laid.ram_below, laid.ext_below) in
+    let pages : (length m.bytes % 256 == 0) ≡ true = grind (arith, nat_tests, size.pages) in
+    let from : nat_le (endmem image) (length m.bytes) ≡ true = grind (arith, nat_tests, least) in
+    let to : nat_le (length m.bytes) 16777216 ≡ true = grind (arith, nat_tests, size.limit) in
     record {
       ramstart-is = rs;
       rom-is = ro;
@@ -178,6 +179,9 @@ sizes_of image s laid is =
       high = omega (arith, rom-length, laid.ext_below);
       size = rw (ram, pages, from, to) refl;
     }
+
+state_sizes : (image : List ℕ) (s : Saved) → IsLaidOut image → IsStateOf image s → Sizes image s.memory
+state_sizes image s laid is = sizes_of image s.memory laid is.saved.image is.saved.saved.size
 
 length-padding : (n : ℕ) (t : Bool) → length {A = ℕ} (cond t (0 ∷ []) []) ≤ 1
 length-padding n true = omega arith
@@ -198,7 +202,7 @@ heap-most start (b ∷ bs) h =
 pub save_fits : (image : List ℕ) (s : Saved) → IsLaidOut image → IsStateOf image s
     → 4 + length (chunks_of (identity image) (print_memory (rom image) (ramstart image) (ram_of s.memory)) s.stack (print_heap s.heap_start s.heap)) < 2 ^ 32
 save_fits image s laid is =
-    let z = sizes_of image s laid is in
+    let z = state_sizes image s laid is in
     let h = heap_chunk (print_heap s.heap_start s.heap) in
     let memory = print_memory (rom image) (ramstart image) (ram_of s.memory) in
     let r2 = chunk 0x53746B73 s.stack ++ h in
@@ -255,29 +259,33 @@ same_map : (m : MemoryMap) (bytes rom : List ℕ) (ramstart endmem : ℕ) → by
     → record { bytes = bytes; ramstart = ramstart; rom = rom; endmem = endmem } ≡ m
 same_map m bytes rom ramstart endmem a b c d = rw (a, b, c, d) refl
 
--- the state's memory is the story's with what RAM holds
-same_memory : (image : List ℕ) (s : Saved) → Sizes image s
-    → KeepsRom s.memory.ramstart s.memory.rom s.memory.bytes → loaded image (ram_of s.memory) ≡ s.memory
-same_memory image s z kept =
-    let whole : s.memory.bytes ≡ take s.memory.ramstart s.memory.bytes ++ ram_of s.memory =
-    sym (take-append-drop s.memory.ramstart s.memory.bytes) in
+-- memory of the story is the story's with what RAM holds
+same_memory : (image : List ℕ) (m : MemoryMap) → Sizes image m → HasRom m → loaded image (ram_of m) ≡ m
+same_memory image m z kept =
+    let whole : m.bytes ≡ take m.ramstart m.bytes ++ ram_of m = sym (take-append-drop m.ramstart m.bytes) in
     let zeros = replicate (endmem image - length (rom image)) 0 in
-    let size = ramstart image + length (ram_of s.memory) in
+    let size = ramstart image + length (ram_of m) in
     let rest = replicate (size - length (original (rom image) (endmem image))) 0 in
-    let front : take (ramstart image) (take size (rom image ++ zeros) ++ rest) ≡ take s.memory.ramstart s.memory.bytes =
+    let front : take (ramstart image) (take size (rom image ++ zeros) ++ rest) ≡ take m.ramstart m.bytes =
     front_of (ramstart image) size (rom image) rest zeros z.low (omega arith)
     ∙ rw (sym z.ramstart-is, sym z.rom-is) (sym kept.same) in
-    same_map s.memory _ _ _ _ (ap (λ t. t ++ ram_of s.memory) front ∙ sym whole) (sym z.ramstart-is) (sym z.rom-is) (sym z.endmem-is)
+    same_map m _ _ _ _ (ap (λ t. t ++ ram_of m) front ∙ sym whole) (sym z.ramstart-is) (sym z.rom-is) (sym z.endmem-is)
 
-memory_back : (image : List ℕ) (s : Saved) → Sizes image s → ram_in image (written_parts image s) ≡ Ok (ram_of s.memory)
+pub memory_given_back : GivesMemoryBack
+memory_given_back image m laid is size kept =
+    let z = sizes_of image m laid is size in
+    ap (λ r. r >>= (λ ram. Ok (loaded image ram))) (memory_again (rom image) (ram_of m) (ramstart image) (endmem image) z.low z.high z.size)
+    ∙ ap Ok (same_memory image m z kept)
+
+memory_back : (image : List ℕ) (s : Saved) → Sizes image s.memory → ram_in image (written_parts image s) ≡ Ok (ram_of s.memory)
 memory_back image s z = memory_again (rom image) (ram_of s.memory) (ramstart image) (endmem image) z.low z.high z.size
 
 state_back : (image : List ℕ) (s t : Saved) → IsLaidOut image → IsStateOf image s → s.heap_start < 2 ^ 32
     → KeepsRom s.memory.ramstart s.memory.rom s.memory.bytes
     → IsStateIn image (written_parts image s) (ram_of s.memory) t → t ≡ s
 state_back image s t laid is small kept in-parts =
-    let z = sizes_of image s laid is in
-    let memory : t.memory ≡ s.memory = in-parts.memory ∙ same_memory image s z kept in
+    let z = state_sizes image s laid is in
+    let memory : t.memory ≡ s.memory = in-parts.memory ∙ same_memory image s.memory z kept in
     let heap = heap_back image (ramstart image + length (ram_of s.memory)) s t.heap_start t.heap small is.saved.saved.heap.heap in-parts.heap in
     rw (memory, in-parts.stack, heap.0, heap.1) refl
 
@@ -292,7 +300,7 @@ fits_from end size start (b ∷ bs) h =
       all_true : (a b c d : Bool) → a ≡ true → b ≡ true → c ≡ true → d ≡ true → (a && (b && (c && d))) ≡ true
       all_true a b c d e f g h = rw (e, f, g, h) refl
 
-heap_stands : (image : List ℕ) (s : Saved) → Sizes image s → IsStateOf image s → s.heap_start < 2 ^ 32
+heap_stands : (image : List ℕ) (s : Saved) → Sizes image s.memory → IsStateOf image s → s.heap_start < 2 ^ 32
     → IsHeapIn (endmem image) (ramstart image + length (ram_of s.memory)) (print_heap s.heap_start s.heap) s.heap_start s.heap
 heap_stands image s z is small = record {
   pairs = s.heap;
@@ -310,7 +318,7 @@ answered_back : (image : List ℕ) (s : Saved) (r : Result Saved SaveFault) → 
 answered_back image s (Ok t) laid is small kept h = state_back image s t laid is small kept h
 answered_back image s (Err NoMemory) laid is small kept h = refl
 answered_back image s (Err BadHeap) laid is small kept h =
-    absurd (h.1 refl s.heap_start s.heap (heap_stands image s (sizes_of image s laid is) is small))
+    absurd (h.1 refl s.heap_start s.heap (heap_stands image s (state_sizes image s laid is) is small))
 answered_back image s (Err NotSave) laid is small kept h = absurd (grind (arith, h.0))
 answered_back image s (Err Cut) laid is small kept h = absurd (grind (arith, h.0))
 answered_back image s (Err OtherStory) laid is small kept h = absurd (grind (arith, h.0))
@@ -320,7 +328,7 @@ answered_back image s (Err BadStack) laid is small kept h = absurd (grind (arith
 pub read_back : (image : List ℕ) (s : Saved) → IsLaidOut image → IsStateOf image s → s.heap_start < 2 ^ 32
     → KeepsRom s.memory.ramstart s.memory.rom s.memory.bytes → IsReadAs image (canon image s) s
 read_back image s laid is small kept result h =
-    let z = sizes_of image s laid is in
+    let z = state_sizes image s laid is in
     let parts : parts_of (canon image s) ≡ Ok (written_parts image s) =
     reads_printed (identity image) (print_memory (rom image) (ramstart image) (ram_of s.memory)) s.stack (print_heap s.heap_start s.heap) (save_fits image s laid is) in
     let story : ReadsParts image (Ok (written_parts image s)) result = subst (λ p. ReadsParts image p result) parts h in
@@ -328,3 +336,35 @@ read_back image s laid is small kept result h =
     subst (λ m. ReadsMemory image (written_parts image s) m result) (memory_back image s z) (story.own refl) in
     answered_back image s result laid is small kept
     (stack.good (record { frames = is.saved.saved.stack; size = is.size }))
+
+-- ---- the state of the bytes that are written
+
+small_start : (start : ℕ) (bs : List Block) → IsTrue (is_heap start bs) → start < 2 ^ 32
+small_start start [] h = let none : start ≡ 0 = grind (arith, nat_tests, h) in omega (arith, none)
+small_start start (b ∷ bs) h =
+    let limit : start ≤ 16777216 = in_order-limit start (b ∷ bs) (is_heap-order start (b ∷ bs) h) in
+    omega (arith, limit)
+
+written_state : (image : List ℕ) (s : Saved) → Sizes image s.memory → IsStateOf image s → HasRom s.memory
+    → IsStateIn image (written_parts image s) (ram_of s.memory) s
+written_state image s z is kept = record {
+  memory = sym (same_memory image s.memory z kept);
+  stack = refl;
+  heap = heap_stands image s z is (small_start s.heap_start s.heap is.saved.saved.heap.heap);
+}
+
+pub written_reads : (image : List ℕ) (s : Saved) → IsLaidOut image → IsStateOf image s → HasRom s.memory
+    → Reads image (canon image s) (Ok s)
+written_reads image s laid is kept =
+    let z = state_sizes image s laid is in
+    let parts : parts_of (canon image s) ≡ Ok (written_parts image s) =
+    reads_printed (identity image) (print_memory (rom image) (ramstart image) (ram_of s.memory)) s.stack (print_heap s.heap_start s.heap) (save_fits image s laid is) in
+    let stack : ReadsStack image (written_parts image s) (ram_of s.memory) (Ok s) = record {
+      good = λ frames. written_state image s z is kept;
+      bad = λ no. no (record { frames = is.saved.saved.stack; size = is.size });
+    } in
+    let memory : ReadsMemory image (written_parts image s) (ram_in image (written_parts image s)) (Ok s) =
+    subst (λ m. ReadsMemory image (written_parts image s) m (Ok s)) (sym (memory_back image s z)) stack in
+    let story : ReadsParts image (Ok (written_parts image s)) (Ok s) =
+    record { own = λ e. memory; other = λ ne. absurd (ne refl) } in
+    subst (λ p. ReadsParts image p (Ok s)) (sym parts) story

@@ -6,4 +6,5 @@ pub mod Printing
 pub mod Heap
 pub mod Save
 pub mod State
+pub mod Returns
 pub mod Laws

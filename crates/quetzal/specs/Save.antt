@@ -1,6 +1,6 @@
 -- A save, and the state of a story that it spells (Quetzal 1.4, "Overall Structure").
 use Rattle.std.specs.Prelude.{◌≡◌, ◌≢◌, ℕ, ◌+◌, ◌≤◌, ◌++◌, List, length}
-use Rattle.std.specs.Prelude.{take, drop, Option, Ok, Err, Result}
+use Rattle.std.specs.Prelude.{take, drop, Option, Ok, Err, Result, true}
 use Rattle.glulx_image.specs.Header.{ramstart, extstart, endmem, stack_size}
 use Rattle.vm_memory.specs.MemoryMap.{MemoryMap, Origin, memory_of as original_of, origin_of}
 use Rattle.vm_memory.specs.MemoryMap.{ram_of, resized, with_ram}
@@ -9,6 +9,7 @@ use Rattle.vm_heap.specs.declared.block.Block.{Block}
 use Rattle.vm_undo.specs.SavedState.{IsSavedOf}
 use Rattle.vm_undo.specs.declared.saved.Saved.{Saved}
 use Rattle.quetzal.specs.Chunks.{Pieces, parts_of}
+use Rattle.quetzal.specs.Fault.{◌>>=◌}
 use Rattle.quetzal.specs.Heap.{IsHeapIn, print_heap}
 use Rattle.quetzal.specs.Memory.{memory_of, print_memory}
 use Rattle.quetzal.specs.Printing.{print_save}
@@ -35,6 +36,16 @@ ram_in image p = memory_of (rom image) (ramstart image) (endmem image) p.memory 
 -- the memory of a story with this in RAM
 abbrev pub loaded : List ℕ → List ℕ → MemoryMap
 loaded image ram = with_ram (resized (image_memory image) (ramstart image + length ram)) ram
+
+-- the contents of the CMem chunk of a story's memory
+abbrev pub memory_contents : List ℕ → MemoryMap → List ℕ
+memory_contents image m = print_memory (rom image) (ramstart image) (ram_of m)
+
+-- the memory of a story that such contents give
+abbrev pub memory_in : List ℕ → List ℕ → Result MemoryMap SaveFault
+memory_in image contents = do
+  ram ← memory_of (rom image) (ramstart image) (endmem image) contents true
+  Ok (loaded image ram)
 
 -- frames with a stub on top, which the story's stack holds
 pub record IsStackOf (image bytes : List ℕ) : Type 0 where
@@ -109,7 +120,7 @@ pub record IsStateOf (image : List ℕ) (s : Saved) : Type 0 where
 abbrev pub canon : List ℕ → Saved → List ℕ
 canon image s = print_save
     (identity image)
-    (print_memory (rom image) (ramstart image) (ram_of s.memory))
+    (memory_contents image s.memory)
     s.stack
     (print_heap s.heap_start s.heap)
 

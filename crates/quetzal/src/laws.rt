@@ -3,6 +3,7 @@
 ghost use Rattle.quetzal.specs.Laws.{ReadsFirstOfEachName, RestoresPieces};
 ghost use Rattle.quetzal.specs.Memory.{RestoresMemory};
 ghost use Rattle.quetzal.specs.Printing.{ReadsWhatIsPrinted};
+ghost use Rattle.quetzal.specs.Returns.{GivesMemoryBack, GivesStateBack};
 ghost use Rattle.quetzal.specs.Runs.{RestoresWhatIsWritten};
 
 /// The differences that are coded are those that are restored.
@@ -28,4 +29,14 @@ pub fn reads_first_of_each_name()
 /// Bytes that stay and bytes that change, piece by piece, are what their coding restores.
 pub fn restores_pieces()
     ensures { RestoresPieces }
+{}
+
+/// A story's memory is what the contents of its CMem chunk give.
+pub fn gives_memory_back()
+    ensures { GivesMemoryBack }
+{}
+
+/// A story's state is the one that its save spells.
+pub fn gives_state_back()
+    ensures { GivesStateBack }
 {}

@@ -12,8 +12,9 @@ mod writer;
 
 pub use fault::SaveFault;
 pub use laws::{
-    reads_first_of_each_name, reads_what_is_printed, restores_memory, restores_pieces,
-    restores_what_is_written,
+    gives_memory_back, gives_state_back, reads_first_of_each_name, reads_what_is_printed,
+    restores_memory, restores_pieces, restores_what_is_written,
 };
+pub use memory::{first_memory, memory_contents, memory_in};
 pub use reader::read;
 pub use writer::write;

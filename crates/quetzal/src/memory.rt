@@ -8,7 +8,8 @@ ghost use Rattle.quetzal.specs.Memory.{is_size, original, coded_memory, plain_me
 ghost use Rattle.quetzal.specs.Memory.{print_memory};
 ghost use Rattle.glulx_image.specs.Header as header;
 ghost use Rattle.quetzal.specs.Fault.{Gives};
-ghost use Rattle.quetzal.specs.Save.{loaded};
+ghost use Rattle.quetzal.specs.Save.{image_memory, loaded, memory_contents, memory_in, origin};
+ghost use Rattle.vm_memory.specs.MemoryMap.{origin_of};
 
 use crate::fault::SaveFault;
 use crate::form::word;
@@ -134,9 +135,44 @@ pub fn memory_with<'i>(
         ≡ true }
     ensures { IfOk result (λ m. m ≡ loaded image.now ram.now) }
 {
-    let rom = story_rom(image);
-    let mut memory = Memory::new(alloc, rom, image.ramstart(), image.endmem())?;
+    let mut memory = first_memory(alloc, image)?;
     memory.resize(image.ramstart() + ram.len() as u32)?;
     memory.load_ram(ram)?;
     Ok(memory)
+}
+
+/// The memory of a story as it begins. The error is want of memory.
+pub fn first_memory<'i>(alloc: Global, image: &Image<'i>) -> Result<Memory<'i>, AllocError>
+    ensures value { IfOk result (λ memory. memory ≡ image_memory image.now) }
+{
+    Memory::new(alloc, story_rom(image), image.ramstart(), image.endmem())
+}
+
+/// The contents of the CMem chunk of a story's memory, in the one coding that is written. The error
+/// is want of memory.
+pub fn memory_contents(
+    alloc: Global,
+    memory: &Memory<'_>,
+    image: &Image<'_>,
+) -> Result<Vec<u8>, AllocError>
+    requires { origin_of memory.now ≡ origin image.now }
+    ensures value { IfOk result (λ v. v.items ≡ memory_contents image.now memory.now) }
+{
+    let ram = memory.copy_ram(alloc)?;
+    let _size = memory.size();
+    write_memory(alloc, story_rom(image), image.ramstart(), ram.as_slice())
+}
+
+/// The memory of a story that the contents of a CMem chunk give. BadRuns exactly where they give
+/// none.
+pub fn memory_in<'i>(
+    alloc: Global,
+    contents: &[u8],
+    image: &Image<'i>,
+) -> Result<Memory<'i>, SaveFault>
+    ensures exact { Gives (λ memory. memory) result (memory_in image.now contents.now) }
+{
+    let (ramstart, endmem) = (image.ramstart(), image.endmem());
+    let ram = read_memory(alloc, story_rom(image), ramstart, endmem, contents, true)?;
+    Ok(memory_with(alloc, image, ram.as_slice())?)
 }

@@ -1,0 +1,5 @@
+use Rattle.quetzal.proofs.StateLemmas.{state_given_back}
+use Rattle.quetzal.proofs.laws.gives_state_back.Goals as goal
+
+pub returns : goal.returns
+returns c = state_given_back
