@@ -1,11 +1,11 @@
 -- The parts of a machine give it back.
-use Rattle.std.proofs.Common.{◌≡◌, ℕ, ◌<◌, ◌≤◌, Bool, true, cond, nat_le, List, [], ◌∷◌, length, Option, Some, None, Result, Ok, refl, ap, sym, subst, ◌∙◌, arith}
+use Rattle.std.proofs.Common.{◌≡◌, ℕ, ◌≤◌, Bool, true, cond, nat_le, List, [], ◌∷◌, length, Option, Some, None, refl, ap, sym, subst, ◌∙◌, arith}
 use Rattle.std.proofs.lemmas.Bool.Decides.{nat_tests}
 use Rattle.std.proofs.lemmas.List.Elements.{All-cons, All-head, All-nil, All-tail}
 use Rattle.std.specs.Prelude.{All, IsTrue}
 use Rattle.glulx_image.specs.Header.{IsLaidOut, stack_size, start_function, string_table}
 use Rattle.glulx_image.specs.Checksum.{verified}
-use Rattle.quetzal.specs.Save.{IsStateOf, canon, memory_contents, memory_in, origin}
+use Rattle.quetzal.specs.Save.{IsStateOf, memory_contents, origin}
 use Rattle.quetzal.proofs.WriteLemmas.{memory_given_back}
 use Rattle.vm_exec.specs.Fields.{machine_of}
 use Rattle.vm_exec.specs.Machine.{IsFit, IsHeldBy, IsStore}
@@ -17,16 +17,16 @@ use Rattle.vm_exec.specs.declared.step.Waiting.TheVariants.{Store, Stub}
 use Rattle.vm_exec.specs.declared.text.Text.{Text}
 use Rattle.vm_exec.specs.declared.text.Text.TheVariants.{Off}
 use Rattle.vm_heap.specs.HeapMap.{HeapMap, is_heap}
-use Rattle.vm_memory.specs.MemoryMap.{MemoryMap, Origin, origin_of}
+use Rattle.vm_memory.specs.MemoryMap.{Origin, origin_of}
 use Rattle.vm_operand.specs.declared.operand.Dest.{Dest}
-use Rattle.vm_operand.specs.declared.operand.Dest.TheVariants.{Discard, At, Local, Push}
 use Rattle.vm_stack.specs.StackState.{StackState}
 use Rattle.vm_undo.specs.SavedState.{IsSavedOf}
 use Rattle.vm_undo.specs.declared.saved.Saved.{Saved}
 use Rattle.snap_machine.specs.Fields.{◌>>=◌, memory_given, memory_of, stack_of, heap_of, undo_of, dest_of, fields_with}
-use Rattle.snap_machine.specs.Laws.{GivesBack, HasRoms, IsGivenBack, StateHasRom}
+use Rattle.snap_machine.specs.Laws.{GivesBack, HasRoms}
 use Rattle.snap_machine.specs.Parts.{machine_parts, store, store_at}
-use Rattle.snap_machine.proofs.SaveLemmas.{undo_back}
+use Rattle.snap_machine.proofs.SaveLemmas.{same_some, undo_back}
+use Rattle.snap_machine.proofs.StoreLemmas.{dest_back}
 
 -- ---- each part gives back what it was made of
 
@@ -73,10 +73,7 @@ abbrev StoreOf : Waiting → Type 0
 StoreOf w = (to : Dest) × (Store to ≡ w) × (dest_of (store_at w) ≡ Some to)
 
 store_back : (w : Waiting) → IsStore w → StoreOf w
-store_back (Store Discard) is = (Discard, refl, refl)
-store_back (Store (At a)) is = (At a, refl, refl)
-store_back (Store (Local o)) is = (Local o, refl, refl)
-store_back (Store Push) is = (Push, refl, refl)
+store_back (Store to) is = (to, refl, dest_back to)
 store_back Stub is = absurd is
 
 -- ---- and all together the machine
@@ -120,12 +117,6 @@ fields_back image m to laid fit over room kept at =
     (bind_is _ (heap_back m.heap fit.map.heap.heap)
     (bind_is _ (undo_given image m laid fit over kept)
     (bind_is _ at refl))))
-
-same_some : {A : Type 0} {x y : A} → Some x ≡ Some y → x ≡ y
-same_some {A} {x} {y} e = ap (λ (o : Option A). or_else x o) e where
-  or_else : A → Option A → A
-  or_else d None = d
-  or_else d (Some z) = z
 
 pub given_back : GivesBack
 given_back image m laid fit over room kept =

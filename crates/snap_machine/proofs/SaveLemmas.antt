@@ -1,10 +1,10 @@
 -- Saves of undo states, and the states that they spell.
-use Rattle.std.proofs.Common.{◌≡◌, ℕ, zero, suc, ◌+◌, ◌<◌, ◌≤◌, Bool, true, cond, nat_le, List, [], ◌∷◌, ◌++◌, length, map, reverse, take, drop, Option, Some, None, refl, ap, sym, subst, ◌∙◌, append_assoc, arith}
+use Rattle.std.proofs.Common.{◌≡◌, ℕ, zero, suc, ◌+◌, ◌<◌, ◌≤◌, Bool, true, cond, nat_le, List, [], ◌∷◌, ◌++◌, length, map, reverse, drop, Option, Some, None, refl, ap, sym, subst, ◌∙◌, append_assoc, arith}
 use Rattle.std.proofs.Math.ListN.{get_or}
 use Rattle.std.proofs.Math.Seq.{drop-cons}
 use Rattle.std.proofs.lemmas.Bool.Decides.{nat_tests}
-use Rattle.std.proofs.lemmas.List.{append-nil, length-map, length-reverse, map-append, reverse-append, reverse-reverse, take_all}
-use Rattle.std.proofs.lemmas.List.Elements.{All-head, All-nil, All-push, All-tail}
+use Rattle.std.proofs.lemmas.List.{drop_all, length-map, length-reverse, map-append, reverse-append, reverse-reverse, take_all}
+use Rattle.std.proofs.lemmas.List.Elements.{All-cons, All-head, All-push, All-tail}
 use Rattle.std.specs.Prelude.{All, option_map, slice_get}
 use Rattle.glulx_image.specs.Header.{IsLaidOut}
 use Rattle.quetzal.specs.Save.{IsStateOf, canon}
@@ -14,6 +14,12 @@ use Rattle.vm_undo.specs.UndoList.{with_newest}
 use Rattle.vm_undo.specs.declared.saved.Saved.{Saved}
 use Rattle.snap_machine.specs.Fields.{◌>>=◌, each_of, undo_of}
 use Rattle.snap_machine.specs.Laws.{StateHasRom}
+
+pub same_some : {A : Type 0} {x y : A} → Some x ≡ Some y → x ≡ y
+same_some {A} {x} {y} e = ap (λ (o : Option A). or_else x o) e where
+  or_else : A → Option A → A
+  or_else d None = d
+  or_else d (Some z) = z
 
 -- ---- saves are read as the states that they were made of
 
@@ -67,6 +73,66 @@ onto_more undo s None = refl
 onto_more undo s (Some states) =
     ap Some (ap (λ ys. ys ++ undo) (reverse-cons s states) ∙ append_assoc (reverse states) (s ∷ []) undo)
 
-onto_none : (left : Option (List Saved)) → onto [] left ≡ option_map reverse left
-onto_none None = refl
-onto_none (Some states) = ap Some (append-nil (reverse states))
+next_of : {A : Type 0} (xs : List A) (i : ℕ) (x : A) → i < length xs → x ≡ get_or xs i x → drop i xs ≡ x ∷ drop (i + 1) xs
+next_of xs i x room item =
+    let next : i + 1 ≡ suc i = omega arith in
+    drop-cons xs i x room ∙ (ap (λ y. y ∷ drop (suc i) xs) (sym item) ∙ ap (λ k. x ∷ drop k xs) (sym next))
+
+pub newest_first : (undo : List Saved) (s : Saved) → length undo ≤ 3 → with_newest undo s ≡ s ∷ undo
+newest_first undo s few = take_all 4 (s ∷ undo) (omega (arith, few))
+
+-- a save more is read, and its state kept
+pub kept_on : (f : List ℕ → Option Saved) (saves : List (List ℕ)) (i : ℕ) (save : List ℕ) (s : Saved) (undo new : List Saved)
+    → i < length saves → save ≡ get_or saves i save → f save ≡ Some s → new ≡ s ∷ undo
+    → onto undo (each_of f (drop i saves)) ≡ onto [] (each_of f saves)
+    → onto new (each_of f (drop (i + 1) saves)) ≡ onto [] (each_of f saves)
+kept_on f saves i save s undo new room item is put before =
+    let left = each_of f (drop (i + 1) saves) in
+    ap (λ u. onto u left) put
+    ∙ (sym (onto_more undo s left)
+    ∙ (ap (λ o. onto undo (o >>= (λ b. left >>= (λ bs. Some (b ∷ bs))))) (sym is)
+    ∙ (ap (λ l. onto undo (each_of f l)) (sym (next_of saves i save room item)) ∙ before)))
+
+-- ---- states written one after the other
+
+here : {A : Type 0} (xs : List A) (i : ℕ) (x : A) → slice_get xs i ≡ Some x → drop i xs ≡ x ∷ drop (suc i) xs
+here [] i x e = absurd cc
+here (y ∷ ys) zero x e = ap (λ z. z ∷ ys) (same_some e)
+here (y ∷ ys) (suc i) x e = here ys i x e
+
+gone : {A : Type 0} (xs : List A) (i : ℕ) → slice_get xs i ≡ None → length xs ≤ i
+gone [] i e = omega arith
+gone (y ∷ ys) zero e = absurd cc
+gone (y ∷ ys) (suc i) e = let h = gone ys i e in omega (arith, h)
+
+stands_next : {A : Type 0} (xs : List A) (i : ℕ) (x : A) → slice_get xs i ≡ Some x → drop i xs ≡ x ∷ drop (i + 1) xs
+stands_next xs i x e =
+    let next : i + 1 ≡ suc i = omega arith in
+    here xs i x e ∙ ap (λ k. x ∷ drop k xs) (sym next)
+
+ends_next : {A : Type 0} (xs : List A) (i : ℕ) → slice_get xs i ≡ None → drop i xs ≡ drop (i + 1) xs
+ends_next xs i e =
+    let most : length xs ≤ i = gone xs i e in
+    drop_all i xs most ∙ sym (drop_all (i + 1) xs (omega (arith, most)))
+
+pub saved_more : (f : Saved → List ℕ) (states : List Saved) (i : ℕ) (s : Saved) (old new : List (List ℕ)) → slice_get states i ≡ Some s
+    → new ≡ old ++ f s ∷ [] → old ++ map f (drop i states) ≡ map f states → new ++ map f (drop (i + 1) states) ≡ map f states
+saved_more f states i s old new at is sofar =
+    let left = map f (drop (i + 1) states) in
+    ap (λ l. l ++ left) is
+    ∙ (append_assoc old (f s ∷ []) left
+    ∙ (ap (λ l. old ++ map f l) (sym (stands_next states i s at)) ∙ sofar))
+
+pub all_more : (P : Saved → Type 0) (states : List Saved) (i : ℕ) (s : Saved) → slice_get states i ≡ Some s → P s
+    → (All P (drop i states) → All P states) → All P (drop (i + 1) states) → All P states
+all_more P states i s at p kept rest =
+    kept (subst (All P) (sym (stands_next states i s at)) (All-cons P s (drop (i + 1) states) p rest))
+
+pub saved_same : (f : Saved → List ℕ) (states : List Saved) (i : ℕ) (old new : List (List ℕ)) → slice_get states i ≡ None
+    → new ≡ old → old ++ map f (drop i states) ≡ map f states → new ++ map f (drop (i + 1) states) ≡ map f states
+saved_same f states i old new none is sofar =
+    ap (λ l. l ++ map f (drop (i + 1) states)) is ∙ (ap (λ l. old ++ map f l) (sym (ends_next states i none)) ∙ sofar)
+
+pub all_same : (P : Saved → Type 0) (states : List Saved) (i : ℕ) → slice_get states i ≡ None
+    → (All P (drop i states) → All P states) → All P (drop (i + 1) states) → All P states
+all_same P states i none kept rest = kept (subst (All P) (sym (ends_next states i none)) rest)
