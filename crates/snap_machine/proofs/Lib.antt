@@ -1,0 +1,3 @@
+pub mod SaveLemmas
+pub mod StoreLemmas
+pub mod GiveLemmas
