@@ -1,0 +1,5 @@
+//! A world's bytes: what no clause says.
+#![tactic(auto)]
+
+#[cfg(test)]
+mod worlds;

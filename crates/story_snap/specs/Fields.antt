@@ -1,0 +1,55 @@
+-- The fields of a world's bytes (own: docs/FORMATS.md, "Snapshot bytes").
+use Rattle.std.specs.Prelude.{ℕ, List}
+use Rattle.glk_dispatch.specs.declared.glk.Glk.{Glk}
+use Rattle.snap_fields.specs.declared.fields.Fields.{Fields}
+use Rattle.snap_fields.specs.declared.fields.Setup.{Setup}
+use Rattle.snap_fields.specs.declared.fields.Waiting.{Waiting}
+use Rattle.snap_fields.specs.declared.fields.Waiting.TheVariants as waiting
+use Rattle.snap_glk.specs.Told.{glk_fields}
+use Rattle.snap_glk.specs.declared.fields.GlkFields.{GlkFields}
+use Rattle.snap_machine.specs.Parts.{machine_parts, put_back, store}
+use Rattle.snap_machine.specs.declared.parts.MachineParts.{MachineParts}
+use Rattle.story_run.specs.World.{WorldState}
+use Rattle.story_run.specs.declared.stage.Stage.{Stage}
+use Rattle.story_run.specs.declared.stage.Stage.TheVariants.{AtSelect, AtPrompt, Quit, Fault}
+
+-- what the session began with
+abbrev pub setup_of : WorldState → Setup
+setup_of w = record { seed = w.seed; cols = w.glk.cols; rows = w.glk.rows; budget = w.budget }
+
+-- the machine where the story waits; that of a story that is over is put back
+abbrev pub parts_of : List ℕ → Stage → MachineParts
+parts_of image (AtSelect m) = machine_parts image m
+parts_of image (AtPrompt m) = machine_parts image m
+parts_of image Quit = put_back image
+parts_of image (Fault n) = put_back image
+
+-- what the story waits for and with, or how it ended
+abbrev pub waiting_of : Glk → Stage → Waiting
+waiting_of g (AtSelect m) = waiting.Select g.event (store m)
+waiting_of g (AtPrompt m) =
+    waiting.Prompt g.prompt.usage g.prompt.mode g.prompt.rock (store m)
+waiting_of g Quit = waiting.Quit
+waiting_of g (Fault n) = waiting.Fault n
+
+-- the fields of a setup, a machine, a Glk state, what is waited for, and a show
+abbrev pub joined : Setup → MachineParts → Waiting → GlkFields → List ℕ → Fields
+joined setup parts waiting glk show = record {
+  setup = setup;
+  machine = parts.machine;
+  settings = parts.settings;
+  random = parts.random;
+  undo = parts.undo;
+  waiting = waiting;
+  numbers = glk.numbers;
+  windows = glk.windows;
+  streams = glk.streams;
+  filerefs = glk.filerefs;
+  files = glk.files;
+  show = show;
+}
+
+abbrev pub fields_of : WorldState → Fields
+fields_of w =
+    joined (setup_of w) (parts_of w.image w.stage) (waiting_of w.glk w.stage)
+    (glk_fields w.glk) w.last

@@ -1,0 +1,19 @@
+-- What ties worlds to bytes (own).
+use Rattle.std.specs.Prelude.{◌≡◌, ℕ, List, Some}
+use Rattle.story_run.specs.World.{WorldState}
+use Rattle.story_snap.specs.Bytes.{HasBytes, IsWorldOf}
+use Rattle.story_snap.specs.Fields.{fields_of}
+use Rattle.story_snap.specs.Made.{world_made}
+
+-- the fields of a world make that world
+abbrev pub GivesBack : Type 0
+GivesBack =
+    (image : List ℕ) (w : WorldState) → IsWorldOf image w
+    → world_made image (fields_of w) ≡ Some w
+
+-- no two worlds of a story have the same bytes, and no world has two spellings
+pub record HasOneWorld : Type 0 where
+  pub world : (image bytes : List ℕ) (v w : WorldState) → HasBytes image bytes v
+      → HasBytes image bytes w → v ≡ w
+  pub spelling : (image a b : List ℕ) (w : WorldState) → HasBytes image a w → HasBytes image b w
+      → a ≡ b

@@ -1,0 +1,124 @@
+//! The world of its fields.
+
+ghost use Rattle.std.specs.Prelude.{◌≡◌, IfOk, IfSome, IsSome, Some};
+ghost use Rattle.story_run.specs.World.{WorldState};
+ghost use Rattle.story_snap.specs.Bytes.{IsWorldOf};
+ghost use Rattle.story_snap.specs.Fields.{fields_of};
+ghost use Rattle.story_snap.specs.Made as spec;
+
+use glk_dispatch::Prompt;
+use glulx_image::Image;
+use snap_fields::{Fields, Waiting};
+use snap_glk::{GlkFields, glk_of};
+use snap_machine::{MachineParts, machine_fields_of};
+use std::alloc::{AllocError, Global};
+use story_run::{StageFields, Story, World, WorldFields};
+use story_text::Bytes;
+
+fn event_in(waiting: Waiting) -> u32
+    ensures { result ≡ spec.event_in waiting }
+{
+    match waiting {
+        Waiting::Select { reference, .. } => reference,
+        Waiting::Quit | Waiting::Fault(_) | Waiting::Prompt { .. } => 0,
+    }
+}
+
+fn prompt_in(waiting: Waiting) -> Prompt
+    ensures { result ≡ spec.prompt_in waiting }
+{
+    match waiting {
+        Waiting::Prompt {
+            usage,
+            mode,
+            rock,
+            ..
+        } => Prompt { usage, mode, rock },
+        Waiting::Quit | Waiting::Fault(_) | Waiting::Select { .. } => Prompt {
+            usage: 0,
+            mode: 0,
+            rock: 0,
+        },
+    }
+}
+
+// Where the story with this image, begun with this seed, waits, or how it ended.
+fn stage_made<'i>(
+    alloc: Global,
+    image: &Image<'i>,
+    seed: u64,
+    parts: &MachineParts,
+    waiting: Waiting,
+) -> Result<Option<StageFields<'i>>, AllocError>
+    ensures { IfOk result (λ stage. stage
+        ≡ spec.stage_made image.now seed parts.now waiting) }
+{
+    match waiting {
+        Waiting::Quit => Ok(Some(StageFields::Quit)),
+        Waiting::Fault(code) => Ok(Some(StageFields::Fault(code))),
+        Waiting::Select { store, .. } => {
+            let fields = machine_fields_of(alloc, image, seed, parts, store)?;
+            Ok(fields.map(StageFields::AtSelect))
+        }
+        Waiting::Prompt { store, .. } => {
+            let fields = machine_fields_of(alloc, image, seed, parts, store)?;
+            Ok(fields.map(StageFields::AtPrompt))
+        }
+    }
+}
+
+/// The world of the story that has these fields. None where the story can have none. The error is
+/// want of memory.
+pub fn world_made<'i>(
+    alloc: Global,
+    fields: Fields,
+    story: &Story<'i>,
+) -> Result<Option<World<'i>>, AllocError>
+    ensures value { IfOk result (λ made. IfSome made (λ world.
+        spec.world_made story.now.image fields ≡ Some world)) }
+    ensures found { (w : WorldState) → IsWorldOf story.now.image w
+        → fields ≡ fields_of w → IfOk result (λ made. IsSome made) }
+{
+    let Fields {
+        setup,
+        machine,
+        settings,
+        random,
+        undo,
+        waiting,
+        numbers,
+        windows,
+        streams,
+        filerefs,
+        files,
+        show,
+    } = fields;
+    let parts = MachineParts {
+        machine,
+        settings,
+        random,
+        undo,
+    };
+    let Some(stage) = stage_made(alloc, &story.image, setup.seed, &parts, waiting)? else {
+        return Ok(None);
+    };
+    let fields = GlkFields {
+        numbers,
+        windows,
+        streams,
+        filerefs,
+        files,
+    };
+    let (event, prompt) = (event_in(waiting), prompt_in(waiting));
+    let Some(glk) = glk_of(alloc, setup.cols, setup.rows, event, prompt, &fields)? else {
+        return Ok(None);
+    };
+    let fields = WorldFields {
+        seed: setup.seed,
+        budget: setup.budget,
+        glk,
+        stage,
+        last: Bytes::of(show.into_vec()),
+    };
+    World::of_fields(alloc, story, fields)
+}
