@@ -50,7 +50,8 @@ fn is_refused(read: &Result<World<'_>, SnapFault>) -> bool {
 
 // How a snapshot of it begins: the signature, seed 7, 80 by 24, the budget, and behind PC and frame
 // start the contents of the memory chunk that a save at this place has.
-const BEGINS: [u8; 22] = *b"STW1\x00\x00\x00\x00\x00\x00\x00\x07\x50\x18\x00\x00\x00\x00\x02\xFA\xF0\x80";
+const BEGINS: [u8; 22] =
+    *b"STW1\x00\x00\x00\x00\x00\x00\x00\x07\x50\x18\x00\x00\x00\x00\x02\xFA\xF0\x80";
 
 const MEMORY: [u8; 19] =
     *b"\x00\x00\x00\x0F\x00\x00\x02\x00\x67\x6F\x00\x20\x03\x00\x02\x01\x00\x02\x02";
@@ -71,7 +72,9 @@ fn a_world_goes_on_from_its_bytes_as_it_would_have(rt: HostRuntime) -> Result<()
     let story = Story::of(&file).ok().ok_or("a story")?;
     let world = World::start(rt.alloc(), &story, setup(50_000_000))?;
     let bytes = to_bytes(rt.alloc(), &world)?;
-    let again = from_bytes(rt.alloc(), &bytes, &story).ok().ok_or("it is refused")?;
+    let again = from_bytes(rt.alloc(), &bytes, &story)
+        .ok()
+        .ok_or("it is refused")?;
     assert_eq!(rt; again.last(), world.last());
     let world = turned(rt.alloc(), world, "up")?;
     let again = turned(rt.alloc(), again, "up")?;
@@ -86,7 +89,9 @@ fn a_story_that_is_over_is_read_again(rt: HostRuntime) -> Result<(), Fail> {
     let world = World::start(rt.alloc(), &story, setup(15))?;
     assert!(rt; world.is_over());
     let bytes = to_bytes(rt.alloc(), &world)?;
-    let again = from_bytes(rt.alloc(), &bytes, &story).ok().ok_or("it is refused")?;
+    let again = from_bytes(rt.alloc(), &bytes, &story)
+        .ok()
+        .ok_or("it is refused")?;
     assert!(rt; again.is_over());
     assert_eq!(rt; again.last(), world.last());
     Ok(())
