@@ -14,12 +14,13 @@ use Rattle.glk_dispatch.specs.declared.glk.Glk.{Glk}
 use Rattle.glk_dispatch.proofs.CloseLemmas.{to-ascends}
 use Rattle.glk_dispatch.proofs.EchoLemmas.{streams-ascend}
 use Rattle.glk_dispatch.proofs.EntryLemmas.{entries_follow, streams_follow}
-use Rattle.snap_glk.specs.Laws.{GivesBack, TakesBack}
+use Rattle.snap_glk.specs.Laws.{GivesBack, StandsBetweenTurns, TakesBack}
 use Rattle.snap_glk.specs.Made.{file_made, fileref_made, stream_made}
 use Rattle.snap_glk.specs.Told.{file_told, fileref_told, glk_fields, stream_told}
 use Rattle.snap_glk.proofs.ListLemmas.{IsFound, all-found, all-weaker, map-back}
 use Rattle.snap_glk.proofs.StreamLemmas.{IsTold, Owns, stream-again, streams-back, window-found}
 use Rattle.snap_glk.proofs.WindowLemmas.{inputs-back, windows-again, windows-back}
+use Rattle.snap_glk.proofs.WindowLemmas.{windows-begun}
 
 -- ---- which window a stream is told to have
 
@@ -74,3 +75,6 @@ takes-back cols rows event prompt f =
     let rs = map-back fileref_made fileref_told (λ r. refl) f.filerefs in
     let fs = map-back file_made file_told (λ x. refl) f.files in
     rw (ws, ss, rs, fs) refl
+
+pub stands-begun : StandsBetweenTurns
+stands-begun cols rows event prompt f = rw (windows-begun f.windows) refl

@@ -113,3 +113,21 @@ windows-again (w ∷ ws) =
     ap (λ (v : Window). v ∷ map window_told (zip (map window_made ws) (map input_made ws)))
     (window-again w)
     ∙ ap (λ (vs : List Window). w ∷ vs) (windows-again ws)
+
+-- ---- between two turns
+
+content-begun : (a : Area) (c : Content) → content_kept (content_made a c) ≡ content_made a c
+content-begun a (Pair method size key first second) = refl
+content-begun a Blank = refl
+content-begun a Buffer = refl
+content-begun a (Grid x y cells) = refl
+
+window-begun : (w : Window) → window_kept (window_made w) ≡ window_made w
+window-begun w = ap (λ (c : content.Content). record (window_made w) { content = c })
+    (content-begun w.area w.content)
+
+pub windows-begun : (ws : List Window) → map window_kept (map window_made ws) ≡ map window_made ws
+windows-begun [] = refl
+windows-begun (w ∷ ws) =
+    ap (λ (v : window.Window). v ∷ map window_kept (map window_made ws)) (window-begun w)
+    ∙ ap (λ (vs : List window.Window). window_made w ∷ vs) (windows-begun ws)

@@ -20,3 +20,10 @@ abbrev pub TakesBack : Type 0
 TakesBack =
     (cols rows event : ℕ) (prompt : Prompt) (f : GlkFields)
     → glk_fields (glk_with_fields cols rows event prompt f) ≡ f
+
+-- what is made of fields is between two turns: no count, no clearing and no text of one is there
+abbrev pub StandsBetweenTurns : Type 0
+StandsBetweenTurns =
+    (cols rows event : ℕ) (prompt : Prompt) (f : GlkFields)
+    → turn_begun (glk_with_fields cols rows event prompt f)
+    ≡ glk_with_fields cols rows event prompt f

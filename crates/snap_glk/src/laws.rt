@@ -1,6 +1,6 @@
 //! Laws of a Glk state and its fields.
 
-ghost use Rattle.snap_glk.specs.Laws.{GivesBack, TakesBack};
+ghost use Rattle.snap_glk.specs.Laws.{GivesBack, StandsBetweenTurns, TakesBack};
 
 /// A law: a valid Glk state between two turns is the one that is made of its fields.
 pub fn gives_back()
@@ -10,4 +10,9 @@ pub fn gives_back()
 /// A law: the fields of the Glk state that is made of fields are these.
 pub fn takes_back()
     ensures { TakesBack }
+{}
+
+/// A law: to begin a turn changes nothing of the Glk state that is made of fields.
+pub fn stands_between_turns()
+    ensures { StandsBetweenTurns }
 {}

@@ -13,7 +13,7 @@ mod unfit;
 mod windows;
 
 pub use fields::{GlkFields, fields_of, glk_of};
-pub use laws::{gives_back, takes_back};
+pub use laws::{gives_back, stands_between_turns, takes_back};
 
 #[cfg(test)]
 mod tests;

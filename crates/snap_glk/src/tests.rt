@@ -14,6 +14,8 @@ const NO_PROMPT: Prompt = Prompt {
 
 const NAME: [u32; 3] = [0x61, 0xE9, 0x1_F600];
 
+const CELLS: [u32; 2] = [72, 105];
+
 fn items(alloc: Global, list: &[u32]) -> Result<Items<u32>, AllocError> {
     Ok(Items::of(Vec::from_slice(alloc, list)?))
 }
@@ -65,7 +67,7 @@ fn grid(alloc: Global) -> Result<Window, AllocError> {
         content: Content::Grid {
             x: 1,
             y: 0,
-            cells: items(alloc, &[72, 105])?,
+            cells: items(alloc, &CELLS)?,
         },
         request: Request::Char { unicode: false },
     })
@@ -173,10 +175,13 @@ fn are_windows(windows: &[Window]) -> bool {
     let [buffer, grid, pair] = windows else {
         return false;
     };
-    matches!(buffer.request, Request::Line { initial: 2, .. })
+    let Content::Grid { cells, .. } = &grid.content else {
+        return false;
+    };
+    cells.as_slice() == CELLS.as_slice()
         && buffer.echo_stream == 4
+        && matches!(buffer.request, Request::Line { initial: 2, .. })
         && matches!(grid.request, Request::Char { unicode: false })
-        && matches!(&grid.content, Content::Grid { cells, .. } if matches!(cells.as_slice(), [72, 105]))
         && matches!(pair.content, Content::Pair { key: 2, .. })
 }
 
