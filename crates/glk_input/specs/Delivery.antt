@@ -102,6 +102,18 @@ answered ws (input.Line win text key) = changed ended ws win
 answered ws (input.Char win code) = changed ended ws win
 answered ws (input.File name) = ws
 
+-- the characters that a line writes: none where no line is asked for
+abbrev pub line_front : Option Request → List ℕ → List ℕ
+line_front (Some (Line r)) text = take r.max text
+line_front (Some (Char unicode)) text = []
+line_front None text = []
+
+-- the characters that an input writes to the story's memory
+abbrev pub to_write : List WindowInput → Input → List ℕ
+to_write ws (input.Line win text key) = line_front (request_of ws win) text
+to_write ws (input.Char win code) = []
+to_write ws (input.File name) = []
+
 -- The call answered this event and left this memory, as it should, unless room was wanting.
 abbrev pub Delivers : Result (MemoryMap × Event) MemFault → MemoryMap → Result Event MemStop
     → Type 0

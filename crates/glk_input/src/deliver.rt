@@ -1,6 +1,6 @@
 //! The delivery of an input (Glk 0.7.5, "Line Input Events", "Character Input Events").
 
-ghost use Rattle.std.specs.Prelude.{◌≡◌, OnErr, take, true};
+ghost use Rattle.std.specs.Prelude.{◌≡◌, [], IsOk, OnErr, take, true};
 ghost use Rattle.std.specs.Str.{chars};
 ghost use Rattle.vm_memory.specs.Access.{Leaves, written};
 ghost use Rattle.glk_input.specs.Delivery as delivery;
@@ -46,7 +46,8 @@ impl Requests {
 
     /// Delivers an input that is wanted: the request is over, then a line's characters go to its
     /// array, and the event tells what came. The refusal is that of a write to memory; what the
-    /// work had reached stands: the request is over, and memory has a first part of the line.
+    /// work had reached stands: the request is over, and memory has a first part of the line. A
+    /// character is always delivered, and so is a line of which nothing is written.
     pub fn deliver(&mut self, memory: &mut Memory, input: &Input) -> Result<Event, MemStop>
         requires { delivery.wants self.old input.now ≡ true }
         ensures value { delivery.Delivers (delivery.delivered self.old memory.old input.now)
@@ -54,6 +55,7 @@ impl Requests {
         ensures over { self.new ≡ delivery.answered self.old input.now }
         ensures part { OnErr result
             (delivery.LeavesPart self.old memory.old input.now memory.new) }
+        ensures always { delivery.to_write self.old input.now ≡ [] → IsOk result }
     {
         match input {
             Input::Line { win, text, key } => self.deliver_line(memory, *win, text, *key),
@@ -74,6 +76,8 @@ impl Requests {
         ensures over { self.new ≡ request.changed request.ended self.old win }
         ensures part { OnErr result (delivery.LeavesLinePart
             (request.request_of self.old win) memory.old text.now memory.new) }
+        ensures always { delivery.line_front (request.request_of self.old win) text.now ≡ []
+            → IsOk result }
     {
         let asked = self.request(win);
         self.change(win, Change::End);
@@ -109,6 +113,7 @@ fn take_line(
         memory.new result }
     ensures part { OnErr result (delivery.WritesPart line.now.unicode memory.old line.now.buf
         (take line.now.max text.now) memory.new) }
+    ensures always { take line.now.max text.now ≡ [] → IsOk result }
 {
     let count = write_front(memory, line.buf, line.unicode, text.as_str(), line.max)?;
     Ok(Event::line(win, count, key))
@@ -146,6 +151,7 @@ fn write_front(
         (take max (chars text.now)) memory.new result }
     ensures part { OnErr result (delivery.WritesPart unicode memory.old from
         (take max (chars text.now)) memory.new) }
+    ensures always { take max (chars text.now) ≡ [] → IsOk result }
 {
     let mut at = from;
     let mut count = 0;

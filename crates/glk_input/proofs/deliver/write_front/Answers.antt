@@ -1,4 +1,4 @@
-use Rattle.std.proofs.Common.{arith, ◌≡◌, ◌+◌, ◌-◌, ◌<◌, ap, sym, ◌∙◌, chars, take}
+use Rattle.std.proofs.Common.{arith, ◌≡◌, ◌+◌, ◌-◌, ◌<◌, ap, sym, ◌∙◌, chars, length, take}
 use Rattle.std.proofs.lemmas.List.{nil_from_length}
 use Rattle.std.specs.Str.Iter.{chars_rest}
 use Rattle.std.proofs.lemmas.Str.{IsUtf8-past_char, chars_past_char, chars-nil}
@@ -22,6 +22,20 @@ returns-in-Err-clause-part c =
     stops c.args.unicode c.args.memory.now c.loop-c.memory c.write_char.new.memory c.args.from
     c.loop-c.at _ _
     c.loop-c.invariant.part c.in-Err.ensures.err
+
+-- no character is written where there is none to write
+pub returns-in-Err-clause-always : goal.returns-in-Err-clause-always
+returns-in-Err-clause-always c none =
+    let held = c.loop-c.invariant in
+    let step = chars_past_char _ _ c.in-Some.c held.utf8 c.in-Some.ensures.steps.0 in
+    let left : 0 < c.args.max - c.loop-c.count = omega arith in
+    let n = rw (
+      step,
+      front_length c.in-Some.c (chars (chars_rest c.next.new.self))
+          (c.args.max - c.loop-c.count) left,
+    ) at held.counted in
+    let zero : length (take c.args.max (chars c.args.text.now)) ≡ 0 = ap length none in
+    absurd (omega arith)
 
 pub loop-c-preserved : goal.loop-c-preserved
 loop-c-preserved c =
