@@ -1,11 +1,12 @@
 -- The texts that the program shows of itself (own).
 use Rattle.std.specs.Prelude.{ℕ, if◌then◌else◌, List, [], ◌∷◌, codes}
 use Rattle.std.specs.Str.{bytes_eq}
-use Rattle.command_words.specs.declared.help.TheConstants.{PROGRAM_HELP, RUN_HELP, CHECK_HELP, INIT_HELP}
-use Rattle.command_words.specs.declared.help.TheConstants.{PIPE_HELP, SERVE_HELP, DRILL_HELP, VERSION_TEXT}
+use Rattle.command_words.specs.declared.help.TheConstants.{PROGRAM_HELP, RUN_HELP, CHECK_HELP}
+use Rattle.command_words.specs.declared.help.TheConstants.{INIT_HELP, PIPE_HELP, SERVE_HELP}
+use Rattle.command_words.specs.declared.help.TheConstants.{DRILL_HELP, VERSION_TEXT}
 use Rattle.command_words.specs.declared.help.Topic.{Topic}
-use Rattle.command_words.specs.declared.help.Topic.TheVariants.{Program, Run, Check, Init, Pipe, Serve}
-use Rattle.command_words.specs.declared.help.Topic.TheVariants.{Drill}
+use Rattle.command_words.specs.declared.help.Topic.TheVariants.{Program, Run, Check, Init}
+use Rattle.command_words.specs.declared.help.Topic.TheVariants.{Pipe, Serve, Drill}
 
 -- the text for a topic
 abbrev pub help_text : Topic → List ℕ

@@ -2,8 +2,8 @@
 ghost use Rattle.std.specs.Prelude.{◌≡◌, ◌≤◌, IfSome};
 ghost use Rattle.std.specs.Option.{option_map};
 ghost use Rattle.gate_journal.specs.Command.{IsBudget};
-ghost use Rattle.command_words.specs.Numbers.{IsWorkerCount, begins_number, budget_given, budget_of};
-ghost use Rattle.command_words.specs.Numbers.{drill_number_of, links_given, links_of};
+ghost use Rattle.command_words.specs.Numbers.{IsWorkerCount, begins_number, budget_given};
+ghost use Rattle.command_words.specs.Numbers.{budget_of, drill_number_of, links_given, links_of};
 ghost use Rattle.command_words.specs.Numbers.{number_within, port_of, workers_of};
 
 /// The budget of a turn unless set, in ticks.

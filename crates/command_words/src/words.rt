@@ -9,7 +9,8 @@ ghost use Rattle.command_words.specs.Help.{topic_named, topic_of};
 ghost use Rattle.command_words.specs.Numbers.{IsWorkerCount};
 ghost use Rattle.command_words.specs.Serving.{HasWorkers, port_in, serving_in, workers_in};
 ghost use Rattle.command_words.specs.Words.{asked, asked_alone, asked_by, asked_in, asked_on};
-ghost use Rattle.command_words.specs.Words.{asked_serving, asked_with, drill_in, folder_in, shown_by};
+ghost use Rattle.command_words.specs.Words.{asked_serving, asked_with, drill_in, folder_in};
+ghost use Rattle.command_words.specs.Words.{shown_by};
 
 use crate::command::Command;
 use crate::command_line::storyhost;
