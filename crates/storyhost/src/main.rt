@@ -1,38 +1,11 @@
 //! Plays stories over standard input and output.
 #![tactic(auto)]
 
-mod check;
-mod command;
-mod command_line;
 mod complaint;
-mod drill;
 mod edge;
-mod folder;
-mod help;
-mod init;
-mod loan;
-mod memory_door;
-mod memory_outside;
-mod numbers;
-mod once;
-mod opening;
-mod outside;
-mod pipe;
-mod player;
-mod refuse;
-mod run;
-mod say;
-mod serve;
-mod status;
-mod stories;
-mod story_file;
-#[cfg(test)]
-mod tests;
-mod top;
-mod words;
 
 use edge::{Reading, SystemFiles, Writing};
-use status::Status;
+use host_top::{Status, top};
 use std::process::ExitCode;
 use std::{env, io};
 
@@ -57,6 +30,6 @@ fn main(rt: HostRuntime) -> ExitCode {
     let mut outside = SystemFiles::new(alloc, &rt);
     let mut input = Reading::new(rt.reader());
     let mut output = Writing::new(io::writer(&rt));
-    let code = top::top(&rt, alloc, &words, &mut outside, &mut input, &mut output);
+    let code = top(&rt, alloc, &words, &mut outside, &mut input, &mut output);
     exit_with(&rt, code)
 }

@@ -3,13 +3,12 @@ ghost use Rattle.std.specs.Prelude.{◌≡◌, ℕ, List, None, Some, OnOk, OnEr
 ghost use Rattle.std.specs.Map.{update};
 ghost use Rattle.std.specs.Str.{bytes_eq};
 ghost use Rattle.std.specs.BTreeMap.{get_by_text};
-ghost use Rattle.storyhost.specs.Files.{Told, AreBelow};
+ghost use Rattle.host_top.specs.Files.{Told, AreBelow};
 
 use super::tcp::TcpDoor;
-use crate::loan::Loan;
-use crate::outside::{Fetch, Outside};
 use disk_model::{Disk, Failed, FileDisk};
 use host_serve::Worked;
+use host_top::{Fetch, Loan, Outside};
 use std::alloc::{AllocError, Global};
 use std::collections::BTreeMap;
 use std::fs::{self, File, OpenOptions};
@@ -96,8 +95,8 @@ impl<'r, R> Outside for SystemFiles<'r, R>
 where
     R: Files<File = File> + Net<Listener = TcpListener, Stream = TcpStream> + Eprint,
 {
-    ghost use Rattle.storyhost.specs.Files.{Closes, KeepsDisks, KeepsFiles};
-    ghost use Rattle.storyhost.specs.Outsides.{system_state, none_due};
+    ghost use Rattle.host_top.specs.Files.{Closes, KeepsDisks, KeepsFiles};
+    ghost use Rattle.storyhost.specs.SystemOutside.{system_state, none_due};
 
     type Disk = FileDisk;
 

@@ -2,9 +2,9 @@ use Rattle.std.proofs.Common.{Some, None, sym, ap, ◌∙◌, ℕ, List, refl}
 use Rattle.std.specs.BTreeMap.{get_by_text}
 use Rattle.std.specs.Map.{update}
 use Rattle.std.specs.Str.{bytes_eq}
-use Rattle.storyhost.specs.Files.{Missing}
-use Rattle.storyhost.specs.declared.loan.Loan.{Loan}
-use Rattle.storyhost.proofs.OutsideLemmas.{own_label, untold_at}
+use Rattle.host_top.specs.Files.{Missing}
+use Rattle.host_top.specs.declared.loan.Loan.{Loan}
+use Rattle.host_top.proofs.OutsideLemmas.{own_label, untold_at}
 use Rattle.storyhost.proofs.edge.files.SystemFilesOutside.disk.Goals as goal
 
 pub returns-in-Ok-note-clause-ok : goal.returns-in-Ok-note-clause-ok

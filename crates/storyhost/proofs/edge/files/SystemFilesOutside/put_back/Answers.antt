@@ -3,9 +3,9 @@ use Rattle.std.proofs.lemmas.Map.Text.{btree_map_updates_text}
 use Rattle.std.specs.BTreeMap.{get_by_text}
 use Rattle.std.specs.Map.{update}
 use Rattle.std.specs.Str.{bytes_eq}
-use Rattle.storyhost.specs.Files.{There, returned, RisesWith}
-use Rattle.storyhost.specs.declared.loan.Loan.{Loan}
-use Rattle.storyhost.proofs.OutsideLemmas.{below_at, one_below, untold_at}
+use Rattle.host_top.specs.Files.{There, returned, RisesWith}
+use Rattle.host_top.specs.declared.loan.Loan.{Loan}
+use Rattle.host_top.proofs.OutsideLemmas.{below_at, one_below, untold_at}
 use Rattle.storyhost.proofs.edge.files.SystemFilesOutside.put_back.Goals as goal
 
 pub returns-clause-back : goal.returns-clause-back

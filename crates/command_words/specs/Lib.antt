@@ -1,0 +1,5 @@
+pub mod CommandLine
+pub mod Help
+pub mod Numbers
+pub mod Serving
+pub mod Words

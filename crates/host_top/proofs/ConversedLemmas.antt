@@ -1,0 +1,148 @@
+-- What `pipe` leaves of its disk, its input and its output, from what its host says as it is opened, serves and ends.
+use Rattle.std.proofs.Common.{◌≡◌, ◌⊎◌, ℕ, ◌+◌, ◌<◌, ◌≤◌, max, List, ◌++◌, length, map, take, sym, ap, ◌∙◌, subst, Bool, IsTrue, Some}
+use Rattle.std.proofs.lemmas.List.{length-map}
+use Rattle.std.proofs.Math.Seq.{take-append_seam}
+use Rattle.disk_model.specs.Disk.{EachImage, LeavesOnly, SameDisk}
+use Rattle.gate_journal.specs.Log.{IsBetween, IsSinceOpened, Log, MayOpen, MaySpell, Opening, Rises, kept, rows_found, rows_of}
+use Rattle.gate_journal.proofs.LogLemmas.{rows_of-all}
+use Rattle.gate_journal.proofs.SinceLemmas.{rows_of-append}
+use Rattle.gate_journal.specs.Rows.{SpellsRows, IsJournal, spelled}
+use Rattle.gate_journal.specs.declared.entry.Entry.{Entry as JournalEntry}
+use Rattle.gate_journal.specs.declared.row.Row.{Row}
+use Rattle.host_serve.specs.Chain.{Chain}
+use Rattle.host_serve.specs.Ending.{EndsWith}
+use Rattle.host_serve.specs.Holders.{Holder, holder_at, holders, seen_at, seens}
+use Rattle.host_serve.specs.Opening.{IsOpened, histories_of, roots}
+use Rattle.host_serve.specs.Told.{WritesReplies}
+use Rattle.host_serve.specs.Serves.{Turn}
+use Rattle.host_serve.specs.declared.host.Host.{Host}
+use Rattle.host_serve.specs.declared.host.Passes.{Passes}
+use Rattle.host_serve.specs.declared.served.Served.{Served}
+use Rattle.line_talk.specs.Streams.{SourceState, SinkState}
+use Rattle.line_words.specs.declared.reply.Reply.{Reply}
+use Rattle.session_core.specs.Hosts.{entries_of}
+use Rattle.session_core.specs.Turning.{commands_in}
+use Rattle.session_core.specs.declared.entry.Entry.{Entry}
+use Rattle.session_desk.specs.Shared.{unnumbered}
+use Rattle.session_desk.specs.Turn.{history_in}
+use Rattle.session_desk.proofs.HistoryLemmas.{commands_in-history}
+use Rattle.story_run.specs.declared.story.Story.{Story}
+use Rattle.host_top.specs.Between.{ServesBetween}
+use Rattle.host_top.specs.DiskWords.{DiskWords}
+use Rattle.host_top.specs.Piped.{Conversed}
+use Rattle.host_serve.proofs.AloneLemmas.{AreMetBy, AreOwn, alone_there, many_histories, met_all, own_all, own_rows}
+
+-- what the end of a host says of the disk that it hands back
+abbrev pub EndsOn : {D : Type 0} → DiskWords D → Host D → Passes D → D → Type 0
+EndsOn {D} disks host passes back =
+    (log : Log D) × (back ≡ log.disk) × EndsWith host passes log
+    × IsJournal (rows_of log.entries)
+    × EachImage disks.tells disks.may_leave back (MaySpell (rows_of log.entries) log.uncertain)
+    × EachImage disks.tells disks.may_leave back (MayOpen (rows_of log.entries))
+    × Rises (disks.faults log.opening.disk) log.entries (disks.faults back)
+    × IsSinceOpened disks.tells disks.may_leave disks.room disks.label disks.reach disks.moment disks.left_since log
+
+same_some : {A : Type 0} (a b : A) → Some a ≡ Some b → a ≡ b
+same_some a b e = cc
+
+module _ {D : Type 0} (disks : DiskWords D) (given back : D) (stories : List Story) (budget : ℕ) (rows : List Row) (host : Host D) (first last : Passes D)
+    (opened : IsOpened stories budget rows (record { disk = given; found = length rows }) host first)
+    (end : EndsOn disks host last back) where
+  abbrev since : IsSinceOpened disks.tells disks.may_leave disks.room disks.label disks.reach disks.moment disks.left_since end.0
+  since = end.7
+
+  -- it is the journal that was opened on this disk, with these rows
+  opening : end.0.opening ≡ record { disk = given; found = length rows }
+  opening = sym (same_some (record { disk = given; found = length rows }) end.0.opening (sym opened.root ∙ end.2.opening))
+
+  opened_on : end.0.opening.disk ≡ given
+  opened_on = ap (λ (o : Opening D). o.disk) opening
+
+  all_rows : end.0.entries ≡ kept rows ++ end.2.grows.0
+  all_rows = end.2.grows.1 ∙ ap (λ (es : List JournalEntry). es ++ end.2.grows.0) opened.begins
+
+  pub grows : rows_of end.0.entries ≡ rows ++ rows_of end.2.grows.0
+  grows = ap rows_of all_rows ∙ rows_of-append (kept rows) end.2.grows.0 ∙ ap (λ (rs : List Row). rs ++ rows_of end.2.grows.0) (rows_of-all rows)
+
+  found : rows_found end.0 ≡ rows
+  found =
+      let many : end.0.opening.found ≡ length (kept rows) = ap (λ (o : Opening D). o.found) opening ∙ sym (length-map rows _) in
+      ap (λ (n : ℕ). rows_of (take n end.0.entries)) many ∙ ap (λ (es : List JournalEntry). rows_of (take (length (kept rows)) es)) all_rows
+      ∙ ap rows_of (take-append_seam (kept rows) end.2.grows.0) ∙ rows_of-all rows
+
+  pub same_back : SameDisk disks.tells disks.room disks.label given back
+  same_back =
+      subst (λ (d : D). SameDisk disks.tells disks.room disks.label given d) (sym end.1)
+      (subst (λ (d : D). SameDisk disks.tells disks.room disks.label d end.0.disk) opened_on since.same)
+
+  pub counts : Rises (disks.faults given) end.0.entries (disks.faults back)
+  counts = subst (λ (d : D). Rises (disks.faults d) end.0.entries (disks.faults back)) opened_on end.6
+
+  pub meanwhile : (start : List Row) → IsJournal start → EachImage disks.tells disks.may_leave given (MayOpen start) → IsTrue (disks.tells given)
+      → LeavesOnly disks.moment disks.left_since given back (λ c. MayOpen start c ⊎ IsBetween rows (rows_of end.0.entries) c)
+  meanwhile start journal may tells =
+      let leaves = since.meanwhile start journal (subst (λ (d : D). EachImage disks.tells disks.may_leave d (MayOpen start)) (sym opened_on) may)
+      (subst (λ (d : D). IsTrue (disks.tells d)) (sym opened_on) tells) in
+      subst (λ (d : D). LeavesOnly disks.moment disks.left_since given d (λ c. MayOpen start c ⊎ IsBetween rows (rows_of end.0.entries) c)) (sym end.1)
+      (subst (λ (d : D). LeavesOnly disks.moment disks.left_since d end.0.disk (λ c. MayOpen start c ⊎ IsBetween rows (rows_of end.0.entries) c)) opened_on
+      (subst (λ (rs : List Row). LeavesOnly disks.moment disks.left_since end.0.opening.disk end.0.disk (λ c. MayOpen start c ⊎ IsBetween rs (rows_of end.0.entries) c)) found leaves))
+
+  pub reaches : disks.reach back ≤ max (disks.reach given) (length (spelled (rows_of end.0.entries)) + 4110)
+  reaches =
+      subst (λ (d : D). disks.reach d ≤ max (disks.reach given) (length (spelled (rows_of end.0.entries)) + 4110)) (sym end.1)
+      (subst (λ (d : D). disks.reach end.0.disk ≤ max (disks.reach d) (length (spelled (rows_of end.0.entries)) + 4110)) opened_on since.reaches)
+
+  -- the lines between the two
+  module _ (holds : holders last.desks.items ≡ holders first.desks.items) {input now : SourceState} {output new : SinkState} (served : Served) (lines : ServesBetween host first last input now output new served) where
+    chain : Chain stories budget roots (histories_of rows) lines.turns (seens last.desks.items)
+    chain =
+        subst (λ (h : List (List Entry)). Chain stories budget roots h lines.turns (seens last.desks.items)) opened.histories
+        (subst (λ (h : List Holder). Chain stories budget h (seens first.desks.items) lines.turns (seens last.desks.items)) opened.alone
+        (subst (λ (b : ℕ). Chain stories b (holders first.desks.items) (seens first.desks.items) lines.turns (seens last.desks.items)) opened.budget
+        (subst (λ (s : List Story). Chain s host.budget (holders first.desks.items) (seens first.desks.items) lines.turns (seens last.desks.items)) opened.stories lines.chain)))
+
+    met : AreMetBy stories budget (histories_of rows) lines.turns (seens last.desks.items)
+    met = met_all stories budget (histories_of rows) lines.turns (seens last.desks.items) (many_histories rows) chain
+
+    own : AreOwn stories budget (seens last.desks.items)
+    own = own_all stories budget (histories_of rows) lines.turns (seens last.desks.items) (many_histories rows) (own_rows stories budget rows) chain
+
+    entries : (s : ℕ) → s < 64 → history_in end.0.entries s ≡ seen_at (seens last.desks.items) s
+    entries s below =
+        let alone = subst (λ (h : List Holder). seen_at end.2.finals s ≡ seen_at (seens last.desks.items) s) holds
+        ((end.2.each s below).alone (subst (λ (h : List Holder). ((holder_at h s).number ≡ 0) × ((holder_at h s).made ≡ 0)) (sym (holds ∙ opened.alone)) (alone_there s below))) in
+        end.2.kept s below ∙ ap (map unnumbered) alone ∙ own s
+
+    pub conversed : (IsTrue (disks.tells given) → SpellsRows (disks.seen given) rows) → Conversed disks stories budget given back input now output new served
+    conversed spells = record {
+      rows = rows;
+      handed_in = spells;
+      read = lines.tells.read;
+      answered = map (λ (t : Turn). t.line) lines.turns;
+      outcomes = map (λ (t : Turn). t.outcome) lines.turns;
+      written = lines.tells.written;
+      gave = lines.tells.gave;
+      within = lines.tells.within;
+      which = lines.tells.lines;
+      met = met.met;
+      wrote = lines.tells.wrote;
+      writes = subst (λ (rs : List Reply). WritesReplies served lines.tells.written rs) met.said lines.tells.replies;
+      journal = end.0.entries;
+      entries = λ s below. entries s below ∙ ap (λ (h : List (List Entry)). entries_of h s) met.after;
+      faults = counts;
+      accepted = λ s below. sym (commands_in-history end.0.entries s) ∙ ap commands_in (entries s below ∙ ap (λ (h : List (List Entry)). entries_of h s) met.after);
+      uncertain = end.0.uncertain;
+      images = end.4;
+      meanwhile = meanwhile;
+      reaches = reaches;
+    }
+
+-- what an opening may meet it may meet again on the disk that came back
+pub may_open_again : {D : Type 0} (tells : D → Bool) (may_leave : D → List ℕ → Type 0) (moment : D → ℕ) (left_since : D → ℕ → List ℕ → Type 0) (given back : D)
+    → tells back ≡ tells given
+    → ((rows : List Row) → IsJournal rows → EachImage tells may_leave given (MayOpen rows) → IsTrue (tells given) → LeavesOnly moment left_since given back (MayOpen rows))
+    → ((t : ℕ) (c : List ℕ) → t ≤ moment back → may_leave back c → left_since back t c)
+    → (rows : List Row) → IsJournal rows → EachImage tells may_leave given (MayOpen rows) → EachImage tells may_leave back (MayOpen rows)
+may_open_again tells may_leave moment left_since given back telling crash now rows journal may told c left =
+    let leaves : LeavesOnly moment left_since given back (MayOpen rows) = crash rows journal may (subst (λ (b : Bool). IsTrue b) telling told) in
+    leaves.each c (now (moment given) c leaves.later left)

@@ -1,0 +1,11 @@
+pub mod PlainLemmas
+pub mod SpeechLemmas
+pub mod StoriesLemmas
+pub mod ServedLemmas
+pub mod ToldLemmas
+pub mod CauseLemmas
+pub mod StopLemmas
+pub mod OutsideLemmas
+pub mod BorrowLemmas
+pub mod ConversedLemmas
+pub mod LinksLemmas

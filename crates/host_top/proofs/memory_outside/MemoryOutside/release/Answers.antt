@@ -1,0 +1,23 @@
+use Rattle.std.proofs.Common.{rules, arith, Some, ◌≡◌, sym, ap, ◌∙◌, ℕ, List, Option}
+use Rattle.std.proofs.lemmas.Map.Text.{btree_map_updates_text}
+use Rattle.std.specs.BTreeMap.{get_by_text}
+use Rattle.std.specs.Option.{option_and_then}
+use Rattle.host_top.specs.MemoryOutside.{loan_in}
+use Rattle.host_top.specs.declared.memory_outside.Shelf.{Shelf}
+use Rattle.host_top.proofs.OutsideLemmas.{below_at, part_at}
+use Rattle.host_top.proofs.memory_outside.MemoryOutside.release.Goals as goal
+
+pub invariant_of-self : goal.invariant_of-self
+invariant_of-self c =
+    let name : List ℕ = c.args.name.now in
+    let calls : ℕ = c.args.self.now.calls in
+    let old : List ℕ → Option Shelf = get_by_text c.args.self.now.shelves in
+    let now : Shelf = record { disk = c.take.new.self; loan = c.in-Some.shelf.now.loan } in
+    let new : List ℕ → Option Shelf = get_by_text (c.get_mut.follows.lender now) in
+    let at = btree_map_updates_text name c.args.self.now.shelves (c.get_mut.follows.lender now) (Some now) ((c.get_mut.follows.holds now).3 (search (rules))) in
+    let here : loan_in c.args.self.now.shelves name ≡ c.in-Some.shelf.now.loan = ap (option_and_then (λ s. s.loan)) (sym c.in-Some.ensures.value) in
+    record {
+      below = below_at (loan_in c.args.self.now.shelves) (loan_in (c.get_mut.follows.lender now)) name c.in-Some.shelf.now.loan calls calls
+          (part_at (λ s. s.loan) old new name now at) (omega arith)
+          (λ l e. c.args.self.now.below name l (here ∙ e)) c.args.self.now.below;
+    }

@@ -1,0 +1,33 @@
+use Rattle.line_talk.proofs.StreamsLemmas.{gave_none}
+use Rattle.host_top.proofs.ConversedLemmas.{may_open_again}
+use Rattle.host_top.proofs.LinksLemmas.{fault_no_door, fault_not_done}
+use Rattle.host_top.proofs.opening.open_host.Goals as goal
+
+pub returns-in-Ok-clause-ok : goal.returns-in-Ok-clause-ok
+returns-in-Ok-clause-ok g c = (c.in-Ok.ensures.ok.0, c.in-Ok.ensures.ok.2, c.in-Ok.ensures.ok.3)
+
+pub returns-in-Err-Journal-clause-refused : goal.returns-in-Err-Journal-clause-refused
+returns-in-Err-Journal-clause-refused g c =
+    let same = rw c.in-Err-Journal.field-0-is at c.in-Err-Journal.ensures.kept in
+    let crash = rw c.in-Err-Journal.field-0-is at c.in-Err-Journal.ensures.crash in
+    λ input. record {
+      fault = c.in-Err-Journal.fault;
+      explains = rw c.in-Err-Journal.field-0-is at c.in-Err-Journal.ensures.exact;
+      cause = rw c.in-Err-Journal.field-0-is at c.in-Err-Journal.ensures.cause;
+      gave = gave_none input;
+      says = c.say_fault.ensures.value;
+      images = may_open_again g.D.Disk.tells g.D.Disk.may_leave g.D.Disk.moment g.D.Disk.left_since c.args.disk c.in-Err-Journal.disk
+          same.telling crash (g.met.D.Disk.counts_now c.in-Err-Journal.disk);
+      meanwhile = crash;
+      reaches = rw c.in-Err-Journal.field-0-is at c.in-Err-Journal.ensures.writes;
+    }
+
+pub returns-in-Err-Journal-clause-kept : goal.returns-in-Err-Journal-clause-kept
+returns-in-Err-Journal-clause-kept g c = rw c.in-Err-Journal.field-0-is at c.in-Err-Journal.ensures.kept
+
+pub returns-in-Err-Journal-clause-status : goal.returns-in-Err-Journal-clause-status
+returns-in-Err-Journal-clause-status g c = (
+  fault_not_done c.in-Err-Journal.fault _ _ c.say_fault.result c.say_fault.ensures.value,
+  fault_no_door c.in-Err-Journal.fault _ _ c.say_fault.result c.say_fault.ensures.value,
+  c.say_fault.ensures.no_read,
+)

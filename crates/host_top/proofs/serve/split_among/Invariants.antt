@@ -1,0 +1,14 @@
+use Rattle.std.proofs.Common.{◌≡◌, length}
+use Rattle.turn_cell.specs.History.{Each}
+use Rattle.host_serve.specs.Holders.{holders}
+use Rattle.host_serve.specs.Hosts.{AreOf}
+use Rattle.host_serve.specs.Splitting.{AreRoots}
+use Rattle.host_top.proofs.serve.split_among.Given as goal
+
+abbrev pub invariant-loop : goal.invariant-loop
+invariant-loop g l = record {
+  many : length l.passes.items ≡ l.counter;
+  each : Each (AreOf l.host) l.passes.items;
+  kept : AreOf l.host l.roots;
+  made : AreRoots l.counter (holders l.roots.desks.items);
+}

@@ -1,0 +1,76 @@
+-- What `serve` leaves of its journal's disk, its output and its door (own).
+use Rattle.std.specs.Prelude.{◌≡◌, ◌⊎◌, ℕ, ◌+◌, ◌≤◌, max, IsTrue, List, [], ◌++◌, length, Option}
+use Rattle.disk_model.specs.Disk.{EachImage, LeavesOnly}
+use Rattle.gate_journal.specs.declared.entry.Entry.{Entry as JournalEntry}
+use Rattle.gate_journal.specs.declared.row.Row.{Row}
+use Rattle.gate_journal.specs.Log.{IsBetween, MayOpen, MaySpell, Rises, rows_of}
+use Rattle.gate_journal.specs.Rows.{SpellsRows, IsJournal, spelled}
+use Rattle.line_talk.specs.Causes.{Rose}
+use Rattle.line_talk.specs.Streams.{SourceState, SinkState, Gave, Wrote}
+use Rattle.host_top.specs.DiskWords.{DiskWords}
+use Rattle.host_top.specs.Files.{OutsideState, Told, after_one}
+use Rattle.host_top.specs.Piped.{NotOpened}
+use Rattle.host_top.specs.Served.{BeginsRefusal, RefusesJournal}
+use Rattle.host_top.specs.declared.status.Status.{Status}
+use Rattle.host_top.specs.declared.status.Status.TheVariants as ends
+
+-- The links were served from the rows handed in, or no door was given, or memory was wanted first:
+-- what a stop leaves of the journal handed back. Of what was answered nothing is said.
+pub record LinksServed {D : Type 0} (disks : DiskWords D) (given back : D)
+    (input now : SourceState) (output new : SinkState) (status : Status) : Type 0 where
+  pub how : (status ≡ ends.Done) ⊎ (status ≡ ends.DoorFault) ⊎ (status ≡ ends.NoMemory)
+  pub gave : Gave input now []
+  pub wrote : Wrote output new []
+  pub rows : List Row
+  pub handed_in : IsTrue (disks.tells given) → SpellsRows (disks.seen given) rows
+  -- the journal afterwards has these rows, and more behind them, so each session's commands begin
+  -- with those handed in; the counts of the faults rise, from the disk's as it was handed in to the
+  -- disk's as it was handed back
+  pub journal : List JournalEntry
+  pub more : List Row
+  pub grows : rows_of journal ≡ rows ++ more
+  pub faults : Rises (disks.faults given) journal (disks.faults back)
+  -- each image spells these rows, or these and the one row whose gate is uncertain
+  pub uncertain : Option Row
+  pub images :
+      EachImage disks.tells disks.may_leave back (MaySpell (rows_of journal) uncertain)
+  -- meanwhile an image is one that the opening may meet, or spells the rows handed in and the first
+  -- of those that were accepted since, or these and one row more
+  pub meanwhile :
+      (start : List Row) → IsJournal start
+      → EachImage disks.tells disks.may_leave given (MayOpen start)
+      → IsTrue (disks.tells given)
+      → LeavesOnly disks.moment disks.left_since given back
+      (λ c. MayOpen start c ⊎ IsBetween rows (rows_of journal) c)
+  -- nothing is written farther behind the closing gate than the longest row reaches
+  pub reaches :
+      disks.reach back ≤ max (disks.reach given) (length (spelled (rows_of journal)) + 4110)
+
+-- the links were served, or the journal isn't opened
+abbrev pub ServesOver : {D : Type 0} → DiskWords D → D → D → SourceState → SourceState
+    → SinkState → SinkState → Status → Type 0
+ServesOver disks given back input now output new status =
+    LinksServed disks given back input now output new status
+    ⊎ NotOpened disks given back input now output new status
+
+-- What becomes of doors, by the exit status: one more was shut where the command is done, and else
+-- none; a door, or the call that gives it, failed where the status says so.
+pub record DoorsBy {D : Type 0} (outside beyond : OutsideState D) (status : Status) : Type 0 where
+  pub done : status ≡ ends.Done → beyond.shut ≡ after_one outside.shut
+  pub not_done : (status ≡ ends.Done → ⊥) → beyond.shut ≡ outside.shut
+  pub fault : status ≡ ends.DoorFault → Rose outside.door_faults beyond.door_faults
+
+-- what `serve` writes on the program's output, by its exit status, and what is told of its journal's
+-- disk: the line by which a journal is refused, and else nothing
+abbrev pub WritesLinks : {D : Type 0} → Status → DiskWords D → Told D → List ℕ → Type 0
+WritesLinks ends.Done disks journal written = written ≡ []
+WritesLinks ends.BadWords disks journal written = ⊥
+WritesLinks ends.Refused disks journal written = ⊥
+WritesLinks ends.ReadFault disks journal written = written ≡ []
+WritesLinks ends.WriteFault disks journal written = BeginsRefusal disks journal written
+WritesLinks ends.DiskFault disks journal written = written ≡ []
+WritesLinks ends.NoMemory disks journal written =
+    (written ≡ []) ⊎ BeginsRefusal disks journal written
+WritesLinks ends.BadFolder disks journal written = RefusesJournal disks journal written
+WritesLinks ends.DoorFault disks journal written = written ≡ []
+WritesLinks ends.LineLimit disks journal written = ⊥

@@ -1,0 +1,57 @@
+-- What each command does (own).
+use Rattle.std.specs.Prelude.{ℕ, List, [], slice_get, true, Option, None, Some, Result, Ok}
+use Rattle.std.specs.Prelude.{Err}
+use Rattle.host_drill.specs.Drill.{drill_text}
+use Rattle.story_run.specs.Solo.{is_over}
+use Rattle.story_run.specs.declared.story.Story.{Story}
+use Rattle.host_top.specs.CheckText.{good_line}
+use Rattle.host_top.specs.Headline.{Speech}
+use Rattle.command_words.specs.Help.{help_text, version_text}
+use Rattle.host_top.specs.RunText.{run_text, run_world}
+use Rattle.host_top.specs.StoryFile.{bad_line}
+use Rattle.host_top.specs.declared.stories.Refusal.{Refusal}
+use Rattle.command_words.specs.declared.words.Action.{Action}
+use Rattle.command_words.specs.declared.words.Action.TheVariants.{Run, Check, Pipe, Init, Help}
+use Rattle.command_words.specs.declared.words.Action.TheVariants.{Serve, Drill, Version}
+
+-- one text, whatever the input
+abbrev pub said_once : List ℕ → Speech
+said_once text = record { text = λ lines. text; is_over = λ lines. true }
+
+-- `run` plays its one story, until that is over
+abbrev pub run_speech : Option Story → ℕ → Speech
+run_speech None budget = said_once []
+run_speech (Some story) budget =
+    record {
+      text = run_text story budget;
+      is_over = λ lines. is_over (run_world story budget lines);
+    }
+
+-- `check` tells what the header of its one story says
+abbrev pub check_speech : Option Story → Speech
+check_speech None = said_once []
+check_speech (Some story) = said_once (good_line story.image)
+
+-- what a command does: it says a text, serves these stories with this budget from a folder to its
+-- input, serves the links of a door from a folder, or begins the journal of a folder
+pub data Task : Type 0 where
+  Says : Speech → Task
+  Serves : List Story → ℕ → List ℕ → Task
+  ServesLinks : List ℕ → Task
+  Begins : List ℕ → Task
+
+-- what a command does over its stories, with a budget, on a folder
+abbrev pub task_of : Action → List Story → ℕ → List ℕ → Task
+task_of Run stories budget folder = Says (run_speech (slice_get stories 0) budget)
+task_of Check stories budget folder = Says (check_speech (slice_get stories 0))
+task_of Pipe stories budget folder = Serves stories budget folder
+task_of (Serve serving) stories budget folder = ServesLinks folder
+task_of Init stories budget folder = Begins folder
+task_of (Drill number) stories budget folder = Says (said_once (drill_text number))
+task_of (Help topic) stories budget folder = Says (said_once (help_text topic))
+task_of Version stories budget folder = Says (said_once version_text)
+
+-- or the line by which a story is refused
+abbrev pub tasked : Action → Result (List Story) Refusal → ℕ → List ℕ → Result Task (List ℕ)
+tasked action (Ok stories) budget folder = Ok (task_of action stories budget folder)
+tasked action (Err refusal) budget folder = Err (bad_line refusal.story refusal.fault)

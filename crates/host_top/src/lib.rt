@@ -1,0 +1,30 @@
+//! The whole program but for the streams and files of the system.
+#![tactic(auto)]
+
+mod check;
+mod drill;
+mod folder;
+mod init;
+mod loan;
+mod memory_door;
+mod memory_outside;
+mod once;
+mod opening;
+mod outside;
+mod pipe;
+mod player;
+mod refuse;
+mod run;
+mod say;
+mod serve;
+mod status;
+mod stories;
+mod story_file;
+mod top;
+
+pub use loan::Loan;
+pub use memory_door::MemoryDoor;
+pub use memory_outside::MemoryOutside;
+pub use outside::{Fetch, Outside};
+pub use status::Status;
+pub use top::top;

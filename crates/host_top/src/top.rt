@@ -1,0 +1,199 @@
+//! The whole program but for the streams and files of the system.
+ghost use Rattle.std.specs.Prelude.{◌≡◌, ◌⊎◌, [], map, string_bytes, None, IfSome};
+ghost use Rattle.std.specs.Prelude.{IsSomeAnd};
+ghost use Rattle.line_talk.specs.Causes.{Rose};
+ghost use Rattle.line_talk.specs.Streams.{Gave, Wrote};
+ghost use Rattle.host_top.specs.Status.{status_of};
+ghost use Rattle.command_words.specs.Words.{asked, asked_by};
+ghost use Rattle.host_top.specs.Speech.{tasked};
+ghost use Rattle.host_top.specs.Stories.{stories_of};
+ghost use Rattle.host_top.specs.Follows.{Does, Follows, Tells};
+
+use crate::check::check;
+use crate::drill::drill;
+use crate::init::init_folder;
+use crate::once::say_once;
+use crate::outside::{Fetch, Outside};
+use crate::pipe::pipe;
+use crate::refuse::refuse;
+use crate::run::run;
+use crate::serve::serve;
+use crate::status::Status;
+use crate::stories::{Unplayed, load_files, stories_of};
+use command_words::{Action, Command, VERSION_TEXT, command_of, help_text};
+use line_talk::{Sink, Source};
+use std::alloc::Global;
+use std::sync::Wait;
+use std::thread::Threads;
+
+/// The room for one read of input, in bytes.
+const ROOM: usize = 4096;
+
+/// Does what the action does over the stories of files.
+fn act<R: Threads + Wait + Sync, O: Outside, S: Source, K: Sink>(
+    rt: &R,
+    alloc: Global,
+    command: &Command<'_>,
+    files: &[Vec<u8>],
+    outside: &mut O,
+    input: &mut S,
+    output: &mut K,
+) -> Status
+    ensures value { Does (record {
+      tells = O.Disk.tells;
+      seen = O.Disk.seen;
+      may_leave = O.Disk.may_leave;
+      moment = O.Disk.moment;
+      left_since = O.Disk.left_since;
+      faults = O.Disk.faults;
+      reach = O.Disk.reach;
+      room = O.Disk.room;
+      label = O.Disk.label;
+    })
+        (tasked command.now.action (stories_of (map (λ f. f.items) files.now))
+        command.now.budget command.now.folder.now)
+        (O.outside outside.old) (O.outside outside.new) (S.source input.old) (S.source input.new)
+        (K.sink output.old) (K.sink output.new) result }
+    ensures read_fault { result ≡ Status.ReadFault
+        → Rose (S.source input.old).faults (S.source input.new).faults }
+    ensures write_fault { result ≡ Status.WriteFault
+        → Rose (K.sink output.old).faults (K.sink output.new).faults }
+    ensures kept { (O.outside outside.new).file ≡ (O.outside outside.old).file }
+{
+    let Ok(mut buffer) = vec![in alloc; 0u8; ROOM] else {
+        return Status::NoMemory;
+    };
+    let stories = match stories_of(alloc, files) {
+        Ok(stories) => stories,
+        Err(Unplayed::Refused(refusal)) => return refuse(alloc, refusal, output),
+        Err(Unplayed::NoMemory) => return Status::NoMemory,
+    };
+    let budget = command.budget;
+    match command.action {
+        Action::Run => run(alloc, &stories, budget, input, output, &mut buffer),
+        Action::Check => check(alloc, &stories, output),
+        Action::Init => init_folder(alloc, command.folder, outside, output),
+        Action::Pipe => {
+            let folder = command.folder;
+            pipe(rt, alloc, &stories, budget, folder, outside, input, output)
+        }
+        Action::Serve(serving) => {
+            let folder = command.folder;
+            serve(
+                rt, alloc, &stories, budget, folder, serving, outside, output,
+            )
+        }
+        Action::Drill(number) => drill(rt, alloc, number, output),
+        Action::Help(topic) => say_once(help_text(topic).as_bytes(), output),
+        Action::Version => say_once(VERSION_TEXT.as_bytes(), output),
+    }
+}
+
+/// Does what a command asks for.
+fn follow<R: Threads + Wait + Sync, O: Outside, S: Source, K: Sink>(
+    rt: &R,
+    alloc: Global,
+    command: Command<'_>,
+    outside: &mut O,
+    input: &mut S,
+    output: &mut K,
+) -> Status
+    ensures done { Follows (record {
+      tells = O.Disk.tells;
+      seen = O.Disk.seen;
+      may_leave = O.Disk.may_leave;
+      moment = O.Disk.moment;
+      left_since = O.Disk.left_since;
+      faults = O.Disk.faults;
+      reach = O.Disk.reach;
+      room = O.Disk.room;
+      label = O.Disk.label;
+    }) (asked command.entry) result
+        (O.outside outside.old) (O.outside outside.new) (S.source input.old) (S.source input.new)
+        (K.sink output.old) (K.sink output.new) }
+    ensures bad_words { ¬ (result ≡ Status.BadWords) }
+    ensures read_fault { result ≡ Status.ReadFault
+        → Rose (O.outside outside.old).faults (O.outside outside.new).faults
+        ⊎ Rose (S.source input.old).faults (S.source input.new).faults }
+    ensures write_fault { result ≡ Status.WriteFault
+        → Rose (K.sink output.old).faults (K.sink output.new).faults }
+    ensures kept { (O.outside outside.new).file ≡ (O.outside outside.old).file }
+{
+    let files = match load_files(alloc, &command.names, outside) {
+        Ok(files) => files,
+        Err(Fetch::Failed) => return Status::ReadFault,
+        Err(Fetch::NoMemory) => return Status::NoMemory,
+    };
+    act(rt, alloc, &command, &files, outside, input, output)
+}
+
+/// Does what the words after the program's name ask for, and answers the exit status.
+pub fn top<R: Threads + Wait + Sync, O: Outside, S: Source, K: Sink>(
+    rt: &R,
+    alloc: Global,
+    words: &[String],
+    outside: &mut O,
+    input: &mut S,
+    output: &mut K,
+) -> u8
+    // 2 comes exactly where the words aren't taken, unless memory was wanted before that was known,
+    // and nothing is read or written then
+    ensures bad_words { result ≡ 2 → asked_by (map string_bytes words.now) ≡ None }
+    ensures untaken { asked_by (map string_bytes words.now) ≡ None
+        → (result ≡ 2) ⊎ (result ≡ 7) }
+    ensures nothing { asked_by (map string_bytes words.now) ≡ None
+        → Gave (S.source input.old) (S.source input.new) []
+        × Wrote (K.sink output.old) (K.sink output.new) [] }
+
+    // what was asked is done as far as the status says
+    ensures done { IfSome (asked_by (map string_bytes words.now)) (λ asked.
+        IsSomeAnd (status_of result) (λ status. Follows (record {
+          tells = O.Disk.tells;
+          seen = O.Disk.seen;
+          may_leave = O.Disk.may_leave;
+          moment = O.Disk.moment;
+          left_since = O.Disk.left_since;
+          faults = O.Disk.faults;
+          reach = O.Disk.reach;
+          room = O.Disk.room;
+          label = O.Disk.label;
+        }) asked status
+        (O.outside outside.old) (O.outside outside.new) (S.source input.old) (S.source input.new)
+        (K.sink output.old) (K.sink output.new))) }
+
+    // and in plain words, for a caller who is told the files, the input and what the output holds
+    ensures told { IfSome (asked_by (map string_bytes words.now)) (λ asked.
+        IsSomeAnd (status_of result) (λ status. Tells (record {
+          tells = O.Disk.tells;
+          seen = O.Disk.seen;
+          may_leave = O.Disk.may_leave;
+          moment = O.Disk.moment;
+          left_since = O.Disk.left_since;
+          faults = O.Disk.faults;
+          reach = O.Disk.reach;
+          room = O.Disk.room;
+          label = O.Disk.label;
+        }) asked status (O.outside outside.old)
+        (S.source input.old) (K.sink output.old) (K.sink output.new))) }
+
+    // the causes of faults, and no file changes; nothing is written where a disk failed
+    ensures read_fault { result ≡ 4
+        → Rose (O.outside outside.old).faults (O.outside outside.new).faults
+        ⊎ Rose (S.source input.old).faults (S.source input.new).faults }
+    ensures write_fault { result ≡ 5
+        → Rose (K.sink output.old).faults (K.sink output.new).faults }
+    ensures disk_fault { result ≡ 6
+        → Rose (O.outside outside.old).disk_faults (O.outside outside.new).disk_faults
+        × Wrote (K.sink output.old) (K.sink output.new) [] }
+    ensures door_fault { result ≡ 9
+        → Rose (O.outside outside.old).door_faults (O.outside outside.new).door_faults }
+    ensures kept { (O.outside outside.new).file ≡ (O.outside outside.old).file }
+{
+    let command = match command_of(alloc, words) {
+        Ok(Some(command)) => command,
+        Ok(None) => return Status::BadWords.code(),
+        Err(_) => return Status::NoMemory.code(),
+    };
+    let status = follow(rt, alloc, command, outside, input, output);
+    status.code()
+}

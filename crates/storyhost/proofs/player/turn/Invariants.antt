@@ -1,4 +1,0 @@
-use Rattle.storyhost.proofs.player.turn.Given as goal
-
-abbrev pub ghosts-turn_counted : goal.ghosts-turn_counted
-ghosts-turn_counted a = record { name = a.blank.name; parts = a.blank.parts }

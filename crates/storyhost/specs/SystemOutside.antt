@@ -1,0 +1,23 @@
+-- What is known of the system's outside (own).
+use Rattle.std.specs.Prelude.{Option, None}
+use Rattle.std.specs.BTreeMap.{get_by_text}
+use Rattle.disk_model.specs.declared.file.FileDisk.{FileDisk}
+use Rattle.line_talk.specs.Failing.{Failing}
+use Rattle.host_top.specs.Files.{OutsideState, Untold}
+use Rattle.storyhost.specs.declared.edge.files.SystemFiles.{SystemFiles}
+
+-- no name is told; the loans, and the counts
+abbrev pub system_state : {R : Type 0} → SystemFiles R → OutsideState FileDisk
+system_state o = record {
+  file = λ name. Untold;
+  disk = λ name. Untold;
+  loan = get_by_text o.loans;
+  faults = o.faults;
+  disk_faults = o.disk_faults;
+  door_faults = o.door_faults;
+  shut = o.shut;
+}
+
+-- which of its calls are to fail isn't told
+abbrev pub none_due : {R : Type 0} → SystemFiles R → Option Failing
+none_due o = None

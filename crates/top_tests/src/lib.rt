@@ -1,0 +1,11 @@
+//! Runs of the whole program in memory: what no clause says.
+#![tactic(auto)]
+
+#[cfg(test)]
+mod faults;
+#[cfg(test)]
+mod journal;
+#[cfg(test)]
+mod runs;
+#[cfg(test)]
+mod serving;
