@@ -70,3 +70,14 @@ beside (Some side) = other side
 
 abbrev pub taken_side : Slots → Side
 taken_side slots = beside (newest_side slots)
+
+-- the gate is known to be open, before the area of this OPEN row after so many inputs
+abbrev pub is_open_for : ℕ → ℕ → Slot → Bool
+is_open_for place count Closed = false
+is_open_for place count Unsure = false
+is_open_for place count (Open place' count') = (place' == place) && (count' == count)
+
+-- one of the two gates is
+abbrev pub is_stored : ℕ → ℕ → Slots → Bool
+is_stored place count slots =
+    is_open_for place count slots.a || is_open_for place count slots.b

@@ -2,7 +2,7 @@
 
 ghost use Rattle.std.specs.Prelude.{◌≡◌};
 ghost use Rattle.snap_store.specs.Slots.{slot_of, with_slot, is_closed, is_before};
-ghost use Rattle.snap_store.specs.Slots.{newest_side, taken_side};
+ghost use Rattle.snap_store.specs.Slots.{newest_side, taken_side, is_open_for, is_stored};
 ghost use Rattle.snap_store.specs.Images.{loosened};
 
 use crate::side::Side;
@@ -26,6 +26,16 @@ impl Slot {
         match self {
             Slot::Closed => true,
             Slot::Open { .. } | Slot::Unsure => false,
+        }
+    }
+
+    /// It is known to be open, before the area of this OPEN row after so many inputs.
+    fn is_open_for(self, row: u64, inputs: u32) -> bool
+        ensures { result ≡ is_open_for row inputs self }
+    {
+        match self {
+            Slot::Open { place, count } => place == row && count == inputs,
+            Slot::Closed | Slot::Unsure => false,
         }
     }
 
@@ -72,6 +82,13 @@ impl Slots {
             Side::A => self.a = slot,
             Side::B => self.b = slot,
         }
+    }
+
+    /// The area of this OPEN row after so many inputs is open and synced.
+    pub fn has(&self, place: u64, count: u32) -> bool
+        ensures { result ≡ is_stored place count self.now }
+    {
+        self.a.is_open_for(place, count) || self.b.is_open_for(place, count)
     }
 
     // The newest of the areas that are open and synced.

@@ -44,6 +44,7 @@ impl<D: Disk> Store<D> {
     ghost use Rattle.snap_store.specs.File.{Stored, has_header, start_of, open_area, openable_area};
     ghost use Rattle.snap_store.specs.File.{newest_area, given};
     ghost use Rattle.snap_store.specs.Slots.{other, slot_of, slot_in, with_slot, taken_side};
+    ghost use Rattle.snap_store.specs.Slots.{is_stored};
     ghost use Rattle.snap_store.specs.Store.{area_of, IsImageOf, IsPutImage, IsGiven};
     ghost use Rattle.snap_store.specs.declared.side.Side.{Side};
     ghost use Rattle.snap_store.specs.declared.slot.Slot.TheVariants.{Closed, Open, Unsure};
@@ -93,6 +94,14 @@ impl<D: Disk> Store<D> {
         ensures images { EachImage D.tells D.may_leave self.now.disk (IsImageOf D.seen self.now) }
     {
         self.made
+    }
+
+    /// The area of this OPEN row after so many inputs is known to be open, so it is in each image.
+    pub fn is_stored(&self, place: u64, count: u32) -> bool
+        ensures value { result ≡ is_stored place count self.now.slots }
+        ensures images { EachImage D.tells D.may_leave self.now.disk (IsImageOf D.seen self.now) }
+    {
+        self.slots.has(place, count)
     }
 
     /// Writes an area of at most 8,388,608 bytes: the snapshot of this OPEN row after so many
