@@ -2,7 +2,7 @@
 
 ghost use Rattle.std.specs.Prelude.{◌≡◌, ◌+◌, IfOk, OnOk, None, Some, MatchOption};
 ghost use Rattle.std.specs.List.{filter_map};
-ghost use Rattle.story_run.specs.Solo.{opening, world_after};
+ghost use Rattle.story_run.specs.Solo.{opening, turned_by, world_after};
 ghost use Rattle.session_core.specs.History.{story_at, input_of, turned_on, world_of};
 ghost use Rattle.session_core.specs.Turns.{turns_on, turns_by, turns_of};
 
@@ -59,6 +59,25 @@ pub fn turn_on<'i, L: Ledger>(
     }
 }
 
+/// The world after what these commands give the story, one after the other. Each turn is one step.
+pub fn play_on<'i, L: Ledger>(
+    alloc: Global,
+    world: World<'i>,
+    commands: &[Command],
+    steps: &mut Steps<L>,
+) -> Result<World<'i>, AllocError>
+    ensures value { IfOk result (λ after. after
+        ≡ turned_by world.entry (filter_map input_of commands.now)) }
+    ensures cost { OnOk result (steps.new
+        ≡ steps.old + turns_by world.entry (filter_map input_of commands.now)) }
+{
+    let mut after = world;
+    for at in 0..commands.len() {
+        after = turn_on(alloc, after, &commands[at], steps)?;
+    }
+    Ok(after)
+}
+
 /// The world of a story after the inputs of these commands.
 fn play<'i, L: Ledger>(
     alloc: Global,
@@ -72,11 +91,8 @@ fn play<'i, L: Ledger>(
     ensures cost { OnOk result (steps.new
         ≡ steps.old + turns_by (opening story.now.image setup) (filter_map input_of after.now)) }
 {
-    let mut world = World::start(alloc, story, setup)?;
-    for at in 0..after.len() {
-        world = turn_on(alloc, world, &after[at], steps)?;
-    }
-    Ok(world)
+    let world = World::start(alloc, story, setup)?;
+    play_on(alloc, world, after, steps)
 }
 
 /// The world that a game has come to, played from the start, or none where its story isn't there.
