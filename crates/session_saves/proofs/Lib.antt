@@ -1,0 +1,5 @@
+pub mod GameLemmas
+pub mod KeptUpLemmas
+pub mod AgreementLemmas
+pub mod WarmingLemmas
+pub mod KeepLemmas

@@ -1,0 +1,44 @@
+-- What the areas of a session's snapshot file have to do with its commands (own).
+use Rattle.std.specs.Prelude.{◌≡◌, ◌≤◌, ℕ, false, List, length, Option, Some, None}
+use Rattle.std.specs.List.{Contains, last_or}
+use Rattle.gate_journal.specs.declared.command.Command.{Command}
+use Rattle.story_run.specs.declared.story.Story.{Story}
+use Rattle.story_run.specs.World.{WorldState}
+use Rattle.story_snap.specs.Snapshot.{HasBytes}
+use Rattle.session_core.specs.Checks.{is_other_story}
+use Rattle.snap_store.specs.File.{Stored, openable_area}
+use Rattle.snap_store.specs.Store.{Snapshots, area_of}
+use Rattle.snap_store.specs.declared.side.Side.{Side}
+use Rattle.session_saves.specs.Game.{inputs_of, world_at}
+
+-- the place of a session's last OPEN row, of the places of all of them, oldest first
+abbrev pub last_row : List ℕ → Option ℕ
+last_row rows = last_or None rows
+
+-- An area of a session with OPEN rows at these places, whose last one began this game: its place is
+-- that of one of them. Where that is the last one, its count is at most the inputs since, and, where
+-- the story handed in has that row's digest, its bytes are those of the world after so many.
+pub record Agrees
+    (stories : List Story)
+    (rows : List ℕ)
+    (game : List Command)
+    (area : Stored) : Type 0 where
+  pub row : Contains rows area.place
+  pub fits : last_row rows ≡ Some area.place → area.count ≤ length (inputs_of game)
+  pub holds :
+      last_row rows ≡ Some area.place → is_other_story stories game ≡ false
+      → (world : WorldState) → world_at stories game area.count ≡ Some world
+      → HasBytes world.image area.bytes world
+
+-- each area of the store does
+abbrev pub IsAgreed :
+    {D : Type 0} → (D → List ℕ) → List Story → List ℕ → List Command → Snapshots D → Type 0
+IsAgreed seen stories rows game store =
+    (side : Side) (area : Stored) → area_of seen store side ≡ Some area
+    → Agrees stories rows game area
+
+-- each area of a file that may open does
+abbrev pub IsAgreedFile : List Story → List ℕ → List Command → List ℕ → Type 0
+IsAgreedFile stories rows game file =
+    (side : Side) (area : Stored) → openable_area side file ≡ Some area
+    → Agrees stories rows game area

@@ -1,0 +1,114 @@
+-- What becomes of a snapshot that is due (own).
+use Rattle.std.specs.Prelude.{◌≡◌, ◌⊎◌, ◌≤◌, ◌<◌, ℕ, Bool, true, false, List, length, Option, Some}
+use Rattle.disk_model.specs.Disk.{EachImage, Rose}
+use Rattle.story_run.specs.World.{WorldState}
+use Rattle.story_snap.specs.Snapshot.{HasBytes}
+use Rattle.snap_store.specs.File.{Stored, open_area}
+use Rattle.snap_store.specs.Slots.{taken_side, with_slot}
+use Rattle.snap_store.specs.Store.{Snapshots, IsImageOf, IsPutImage, area_of}
+use Rattle.snap_store.specs.declared.outline.TheConstants.{MAX_SNAPSHOT}
+use Rattle.snap_store.specs.declared.side.Side.{Side}
+use Rattle.snap_store.specs.declared.slot.Slot.TheVariants.{Open}
+use Rattle.session_saves.specs.Saves.{SavesState, with_cause}
+use Rattle.session_saves.specs.declared.missed.Cause.{Cause}
+use Rattle.session_saves.specs.declared.missed.Cause.TheVariants.{NoMemory, TooLong, DiskFailed}
+use Rattle.session_saves.specs.declared.missed.Cause.TheVariants.{NotMade}
+
+-- the area of a snapshot
+abbrev pub area_with : ℕ → ℕ → List ℕ → Stored
+area_with place count bytes = record { place = place; count = count; bytes = bytes }
+
+-- bytes of the world that a store takes
+pub record Fits (world : WorldState) (bytes : List ℕ) : Type 0 where
+  pub of_world : HasBytes world.image bytes world
+  pub short : length bytes ≤ MAX_SNAPSHOT
+
+-- bytes of the world that are too many for a store
+pub record IsTooLong (world : WorldState) (bytes : List ℕ) : Type 0 where
+  pub of_world : HasBytes world.image bytes world
+  pub long : MAX_SNAPSHOT < length bytes
+
+-- When each cause prevents a put, by whether the store is made and by the disk's counts of faults.
+-- Memory may run out at any place.
+abbrev pub Prevents : Cause → Bool → WorldState → ℕ → ℕ → Type 0
+Prevents NotMade made world before now = (made ≡ false) × (now ≡ before)
+Prevents NoMemory made world before now = (made ≡ true) × (now ≡ before)
+Prevents TooLong made world before now =
+    (made ≡ true) × (now ≡ before) × ((bytes : List ℕ) × IsTooLong world bytes)
+Prevents DiskFailed made world before now =
+    (made ≡ true) × (before ≤ now) × Rose before now × ((bytes : List ℕ) × Fits world bytes)
+
+-- a put that didn't begin leaves the store
+abbrev pub Leaves : {D : Type 0} → Cause → Snapshots D → Snapshots D → Type 0
+Leaves DiskFailed old new = new.made ≡ old.made
+Leaves NotMade old new = new ≡ old
+Leaves NoMemory old new = new ≡ old
+Leaves TooLong old new = new ≡ old
+
+-- the snapshot of a world was missed
+pub record IsMissed
+    {D : Type 0}
+    (faults : D → ℕ)
+    (world : WorldState)
+    (place count : ℕ)
+    (old new : SavesState D) : Type 0 where
+  pub cause : Cause
+  pub prevents :
+      Prevents cause old.store.made world (faults old.store.disk) (faults new.store.disk)
+  pub leaves : Leaves cause old.store new.store
+  pub counted : new.missed ≡ with_cause cause old.missed
+  pub last : new.last ≡ Some (record { place = place; count = count })
+
+-- it was put into a store: its area is known to be open, and is in each image
+pub record Puts
+    {D : Type 0}
+    (tells : D → Bool)
+    (may_leave : D → List ℕ → Type 0)
+    (faults : D → ℕ)
+    (world : WorldState)
+    (place count : ℕ)
+    (old new : Snapshots D) : Type 0 where
+  pub bytes : List ℕ
+  pub fits : Fits world bytes
+  pub made : old.made ≡ true
+  pub slots : new.slots ≡ with_slot old.slots (taken_side old.slots) (Open place count)
+  pub durable :
+      EachImage tells may_leave new.disk (λ image.
+      open_area (taken_side old.slots) image ≡ Some (area_with place count bytes))
+  pub same_faults : faults new.disk ≡ faults old.disk
+
+-- and nothing was missed
+pub record IsPut
+    {D : Type 0}
+    (tells : D → Bool)
+    (may_leave : D → List ℕ → Type 0)
+    (faults : D → ℕ)
+    (world : WorldState)
+    (place count : ℕ)
+    (old new : SavesState D) : Type 0 where
+  pub store : Puts tells may_leave faults world place count old.store new.store
+  pub missed : new.missed ≡ old.missed
+  pub last : new.last ≡ old.last
+
+-- the area is the one of beforehand, or the snapshot of this world
+abbrev pub IsOldOrNew : WorldState → ℕ → ℕ → Option Stored → Stored → Type 0
+IsOldOrNew world place count old area =
+    (old ≡ Some area)
+    ⊎ ((bytes : List ℕ) × HasBytes world.image bytes world
+    × (area ≡ area_with place count bytes))
+
+-- each area of the store afterwards is
+abbrev pub AddsOnly :
+    {D : Type 0} → (D → List ℕ) → WorldState → ℕ → ℕ → Snapshots D → Snapshots D → Type 0
+AddsOnly seen world place count old new =
+    (side : Side) (area : Stored) → area_of seen new side ≡ Some area
+    → IsOldOrNew world place count (area_of seen old side) area
+
+-- an image that a stop may leave meanwhile: one of the store, or one during a put of the snapshot,
+-- in which the newest area of beforehand stands
+abbrev pub MayStand :
+    {D : Type 0} → (D → List ℕ) → WorldState → ℕ → ℕ → Snapshots D → List ℕ → Type 0
+MayStand seen world place count store image =
+    IsImageOf seen store image
+    ⊎ ((bytes : List ℕ) × HasBytes world.image bytes world
+    × IsPutImage seen store (area_with place count bytes) image)
