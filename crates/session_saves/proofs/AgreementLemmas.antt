@@ -1,5 +1,5 @@
 -- Areas stay in agreement with a session's commands.
-use Rattle.std.proofs.Common.{◌≡◌, ◌⊎◌, ◌∙◌, ◌≤◌, ◌<◌, ℕ, false, List, [], ◌∷◌, ◌++◌, length, Option, Some, None, inl, inr, refl, sym, ap, subst, arith}
+use Rattle.std.proofs.Common.{◌≡◌, ◌⊎◌, ◌∙◌, ℕ, List, [], ◌∷◌, ◌++◌, length, Option, Some, None, inl, inr, refl, sym, subst, arith}
 use Rattle.std.proofs.lemmas.List.Elements.{Contains-append_left, Contains-append_right}
 use Rattle.std.specs.List.{Contains, last_or}
 use Rattle.gate_journal.specs.declared.command.Command.{Command}
@@ -12,8 +12,8 @@ use Rattle.snap_store.specs.Slots.{other, taken_side}
 use Rattle.snap_store.specs.Store.{Snapshots, area_of}
 use Rattle.snap_store.specs.declared.side.Side.{Side}
 use Rattle.snap_store.specs.declared.side.Side.TheVariants.{A, B}
-use Rattle.session_saves.specs.Agreement.{Agrees, IsAgreed, IsAgreedFile, last_row}
-use Rattle.session_saves.specs.Game.{inputs_of, world_at}
+use Rattle.session_saves.specs.Agreement.{Agrees, IsAgreed, last_row}
+use Rattle.session_saves.specs.Game.{inputs_of}
 use Rattle.session_saves.specs.Keeping.{AddsOnly, IsOldOrNew, MayStand, area_with}
 use Rattle.session_saves.specs.Laws.{ImagesStayAgreed, MoreCommandsStayAgreed, NewOpensStayAgreed}
 use Rattle.session_saves.proofs.GameLemmas.{inputs_of-more, is_other_story-more, world_at-all, world_at-more}

@@ -1,6 +1,8 @@
 -- The worlds of a game: after all its inputs, with a command more, and from one of them on.
-use Rattle.std.proofs.Common.{◌≡◌, ◌∙◌, ◌≤◌, ◌+◌, ℕ, Bool, true, false, List, [], ◌∷◌, ◌++◌, length, take, drop, Option, Some, None, cond, refl, sym, ap, arith}
-use Rattle.std.proofs.lemmas.List.{length-append, take-append-drop, take-append-le}
+use Rattle.std.proofs.Common.{◌≡◌, ◌∙◌, ◌≤◌, ◌+◌, ℕ, Bool, true, false, List, [], ◌∷◌, ◌++◌, length, take, drop, Option, Some, None, cond, refl, sym, ap, arith, ◌-◌, ◌<◌, zero, suc, get_or}
+use Rattle.std.specs.Prelude.{is_some}
+use Rattle.std.proofs.lemmas.List.{length-append, length-drop, take-append-drop, take-append-le, take_all}
+use Rattle.std.proofs.Math.Seq.{drop-cons, take-length}
 use Rattle.std.proofs.lemmas.List.Elements.{filter_map-append}
 use Rattle.std.specs.List.{filter_map}
 use Rattle.glk_input.specs.declared.input.Input.{Input}
@@ -16,13 +18,9 @@ use Rattle.session_core.specs.History.{input_of, is_open, story_at, world_in, wo
 use Rattle.session_core.specs.Checks.{is_other_story}
 use Rattle.session_core.specs.Turns.{turns_by}
 use Rattle.session_saves.specs.Game.{inputs_of, played, setup_of, story_of, world_at}
-use Rattle.session_saves.specs.Laws.{AreWanted, WantedInputsAreTurns}
+use Rattle.session_saves.specs.Laws.{WantedInputsAreTurns}
 
 -- ---- after all its inputs
-
-pub take-all : (xs : List Input) → take (length xs) xs ≡ xs
-take-all [] = refl
-take-all (x ∷ xs) = ap (λ (l : List Input). x ∷ l) (take-all xs)
 
 played_in : (story : Option Story) (setup : Setup) (after : List Command) → played story setup (filter_map input_of after) ≡ world_in story setup after
 played_in None setup after = refl
@@ -31,7 +29,7 @@ played_in (Some story) setup after = refl
 played_all : (story : Option Story) (setup : Setup) (after : List Command)
     → played story setup (take (length (filter_map input_of after)) (filter_map input_of after)) ≡ world_in story setup after
 played_all story setup after =
-    ap (λ (l : List Input). played story setup l) (take-all (filter_map input_of after)) ∙ played_in story setup after
+    ap (λ (l : List Input). played story setup l) (take-length (filter_map input_of after)) ∙ played_in story setup after
 
 pub world_at-all : (stories : List Story) (game : List Command) → world_at stories game (length (inputs_of game)) ≡ world_of stories game
 world_at-all stories [] = refl
@@ -107,6 +105,53 @@ turned_by-append w (x ∷ xs) ys = turned_by-append (turned w x) xs ys
 pub turned_by-rest : (w : WorldState) (n : ℕ) (xs : List Input) → turned_by (turned_by w (take n xs)) (drop n xs) ≡ turned_by w xs
 turned_by-rest w n xs =
     turned_by-append w (take n xs) (drop n xs) ∙ ap (λ (l : List Input). turned_by w l) (take-append-drop n xs)
+
+-- ---- behind its first inputs
+
+drop_given :
+    (given : Option Input) (c : Command) (cs : List Command) (left : ℕ)
+    → input_of c ≡ given → is_some given ≡ true → (left ≡ 0 → ⊥)
+    → drop left (inputs_of (c ∷ cs)) ≡ drop (left - 1) (inputs_of cs)
+drop_given None c cs left is some e = absurd cc
+drop_given (Some x) c cs zero is some e = absurd (e refl)
+drop_given (Some x) c cs (suc n) is some e = let less : suc n - 1 ≡ n = omega arith in rw (is, less) refl
+
+drop_not_given :
+    (given : Option Input) (c : Command) (cs : List Command) (left : ℕ)
+    → input_of c ≡ given → is_some given ≡ false
+    → drop left (inputs_of (c ∷ cs)) ≡ drop left (inputs_of cs)
+drop_not_given None c cs left is none = rw is refl
+drop_not_given (Some x) c cs left is none = absurd cc
+
+at_command : (game : List Command) (at : ℕ) (c : Command) → at < length game → c ≡ get_or game at c
+    → drop at game ≡ c ∷ drop (at + 1) game
+at_command game at c lt e =
+    let next : suc at ≡ at + 1 = omega arith in
+    drop-cons game at c lt ∙ ap (λ (d : Command). d ∷ drop (suc at) game) (sym e)
+    ∙ ap (λ (n : ℕ). c ∷ drop n game) next
+
+pub behind_input : (game : List Command) (at left : ℕ) (c : Command) → at < length game → c ≡ get_or game at c
+    → is_some (input_of c) ≡ true → (left ≡ 0 → ⊥)
+    → drop (left - 1) (inputs_of (drop (at + 1) game)) ≡ drop left (inputs_of (drop at game))
+behind_input game at left c lt e some more =
+    sym (ap (λ (l : List Command). drop left (inputs_of l)) (at_command game at c lt e)
+    ∙ drop_given (input_of c) c (drop (at + 1) game) left refl some more)
+
+pub behind_other : (game : List Command) (at left : ℕ) (c : Command) → at < length game → c ≡ get_or game at c
+    → is_some (input_of c) ≡ false
+    → drop left (inputs_of (drop (at + 1) game)) ≡ drop left (inputs_of (drop at game))
+behind_other game at left c lt e none =
+    sym (ap (λ (l : List Command). drop left (inputs_of l)) (at_command game at c lt e)
+    ∙ drop_not_given (input_of c) c (drop (at + 1) game) left refl none)
+
+none_left : (left : ℕ) (xs : List Input) → left ≡ 0 → drop left xs ≡ xs
+none_left left xs e = rw e refl
+
+pub behind_all : (game : List Command) (at left : ℕ) → left ≡ 0
+    → inputs_of (take (length game - at) (drop at game)) ≡ drop left (inputs_of (drop at game))
+behind_all game at left e =
+    ap (λ (l : List Command). inputs_of l) (take_all (length game - at) (drop at game) (omega (arith, length-drop at game)))
+    ∙ sym (none_left left (inputs_of (drop at game)) e)
 
 -- ---- its image
 

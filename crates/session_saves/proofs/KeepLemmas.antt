@@ -1,18 +1,20 @@
 -- What a put leaves of a store: its areas, its images, and how far it writes.
-use Rattle.std.proofs.Common.{◌≡◌, ◌⊎◌, ◌∙◌, ◌+◌, ◌≤◌, ℕ, Bool, List, length, max, Option, Some, None, inl, inr, refl, sym, subst, arith}
+use Rattle.std.proofs.Common.{◌≡◌, ◌⊎◌, ◌∙◌, ◌+◌, ◌≤◌, ℕ, Bool, List, max, Option, Some, None, inl, inr, true, sym, ap, subst, arith}
 use Rattle.std.specs.Prelude.{IsTrue}
 use Rattle.disk_model.specs.Disk.{EachImage, LeavesOnly}
 use Rattle.disk_model.proofs.Moments.{started, weaker}
 use Rattle.story_run.specs.World.{WorldState}
 use Rattle.story_snap.specs.Snapshot.{HasBytes}
 use Rattle.snap_store.specs.File.{Stored, start_of}
-use Rattle.snap_store.specs.Slots.{other, taken_side}
+use Rattle.snap_store.specs.Slots.{is_stored, other, taken_side}
 use Rattle.snap_store.specs.Store.{Snapshots, IsImageOf, IsPutImage, area_of}
 use Rattle.snap_store.specs.declared.outline.TheConstants.{MAX_SNAPSHOT}
 use Rattle.snap_store.specs.declared.side.Side.{Side}
 use Rattle.snap_store.specs.declared.side.Side.TheVariants.{A, B}
-use Rattle.session_saves.specs.Keeping.{AddsOnly, IsOldOrNew, MayStand, area_with}
+use Rattle.snap_store.specs.declared.slot.Slots.{Slots}
+use Rattle.session_saves.specs.Keeping.{AddsOnly, IsOldOrNew, MayStand, Puts, area_with}
 use Rattle.session_saves.proofs.AgreementLemmas.{side_cases}
+use Rattle.session_saves.proofs.KeptUpLemmas.{stored_with}
 
 -- ---- its areas
 
@@ -64,6 +66,13 @@ module _ {D : Type 0} (tells : D → Bool) (may_leave : D → List ℕ → Type 
   put_crash world place count bytes old new has leaves =
       weaker moment left_since old.disk new (IsPutImage seen old (area_with place count bytes)) (MayStand seen world place count old) leaves
       (λ c put. inr (bytes, has, put))
+
+-- ---- what is stored
+
+pub put_stored : {D : Type 0} (tells : D → Bool) (may_leave : D → List ℕ → Type 0) (faults : D → ℕ) (world : WorldState) (place count : ℕ) (old new : Snapshots D)
+    → Puts tells may_leave faults world place count old new → is_stored place count new.slots ≡ true
+put_stored tells may_leave faults world place count old new puts =
+    ap (λ (s : Slots). is_stored place count s) puts.slots ∙ stored_with old.slots (taken_side old.slots) place count
 
 -- ---- how far it writes
 

@@ -1,5 +1,5 @@
 -- Snapshots that are kept up: at an OPEN, with an input more, and what they say of the last inputs.
-use Rattle.std.proofs.Common.{◌≡◌, ◌⊎◌, ◌<◌, ◌≤◌, ◌+◌, ◌*◌, ◌/◌, ◌%◌, ◌==◌, ◌&&◌, ◌||◌, ◌∙◌, ℕ, Bool, true, false, not, nat_lt, inl, inr, refl, sym, ap, subst, arith}
+use Rattle.std.proofs.Common.{◌≡◌, ◌<◌, ◌≤◌, ◌+◌, ◌*◌, ◌/◌, ◌%◌, ◌&&◌, ◌∙◌, ℕ, Bool, true, false, not, inl, inr, refl, sym, ap, arith}
 use Rattle.std.specs.Prelude.{Option, Some, None}
 use Rattle.std.proofs.lemmas.Bool.{or_cases, or_right, cases_order}
 use Rattle.std.proofs.lemmas.Bool.Decides.{nat_tests}
@@ -44,6 +44,13 @@ earlier_since place count least slots le has =
 at_first : (slots : Slots) (missed : Missed) (place count : ℕ) → count ≤ 16 → IsKeptUp place count slots missed
 at_first slots missed place count few clear due some before = absurd (omega (arith, few, some, before))
 
+-- ---- behind an open area
+
+behind_open : (slots : Slots) (missed : Missed) (place due count : ℕ) → HasSince place (due * 16) slots → count ≤ due * 16 + 16
+    → IsKeptUp place count slots missed
+behind_open slots missed place due count has few clear earlier some before =
+    earlier_since place (due * 16) (earlier * 16) slots (omega (arith, few, before)) has
+
 -- ---- with an input more
 
 falls : (due count : ℕ) → 0 < due → due * 16 ≡ count → falls_due count ≡ true
@@ -78,7 +85,7 @@ goes_on slots missed last place count counted shut kept clear due some before =
     ]
 
 pub stays_kept_up : StaysKeptUp
-stays_kept_up = record { begins = at_first; goes_on = goes_on }
+stays_kept_up = record { begins = at_first; resumes = behind_open; goes_on = goes_on }
 
 -- ---- the last 16 inputs
 

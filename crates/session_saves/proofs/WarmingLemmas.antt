@@ -1,9 +1,8 @@
 -- A session that is warmed from an area that agrees with its commands comes to its own world.
-use Rattle.std.proofs.Common.{◌≡◌, ◌⊎◌, ◌∙◌, ◌+◌, ◌<◌, ℕ, Bool, false, List, [], length, take, drop, Option, Some, None, inl, inr, refl, sym, ap, subst, arith}
-use Rattle.std.specs.Prelude.{IfSome, IsTrue}
+use Rattle.std.proofs.Common.{◌≡◌, ◌∙◌, ◌+◌, ℕ, Bool, false, List, length, take, drop, Option, Some, None, inl, inr, refl, sym, ap, subst, arith}
+use Rattle.std.specs.Prelude.{IfSome}
 use Rattle.glk_input.specs.declared.input.Input.{Input}
 use Rattle.gate_journal.specs.declared.command.Command.{Command}
-use Rattle.story_run.specs.declared.setup.Setup.{Setup}
 use Rattle.story_run.specs.declared.story.Story.{Story}
 use Rattle.story_run.specs.World.{WorldState}
 use Rattle.story_run.specs.Solo.{opening, turned_by, world_after}
@@ -11,13 +10,14 @@ use Rattle.story_snap.specs.Snapshot.{HasBytes, HasOneWorld}
 use Rattle.session_core.specs.Checks.{is_other_story}
 use Rattle.session_core.specs.History.{world_of}
 use Rattle.session_core.specs.Turns.{turns_by}
-use Rattle.snap_store.specs.File.{Stored}
+use Rattle.snap_store.specs.File.{given, newest_area}
 use Rattle.snap_store.specs.Store.{Snapshots, IsGiven}
 use Rattle.snap_store.specs.declared.area.Area.{Area}
 use Rattle.session_saves.specs.Agreement.{IsAgreed, last_row}
 use Rattle.session_saves.specs.Game.{inputs_of, played, setup_of, story_of, turns_after, turns_from, world_at}
-use Rattle.session_saves.specs.Warming.{Beginning, BeginsWith, Warms, WarmsIn, at_start, count_in}
-use Rattle.session_saves.proofs.GameLemmas.{image-world_after, take-all, turned_by-rest, world_at-all}
+use Rattle.session_saves.specs.Warming.{Beginning, BeginsWith, Warms, WarmsFrom, WarmsIn, at_start, count_in}
+use Rattle.session_saves.proofs.GameLemmas.{image-world_after, turned_by-rest, world_at-all}
+use Rattle.std.proofs.Math.Seq.{take-length}
 
 -- the world of a story that is there
 at_story : (stories : List Story) (game : List Command) (story : Story) (n : ℕ) → story_of stories game ≡ Some story
@@ -67,7 +67,7 @@ module _ {D : Type 0} (seen : D → List ℕ) (one : HasOneWorld) (stories : Lis
   begins_own most None b given begins = begins_none stories game story b begins
   begins_own most (Some area) b given begins = begins_some most area b given begins
 
-  warms_own : (most : ℕ) (area : Option Area) (world : WorldState) (before after : ℕ) → IfSome area (IsGiven seen store place most)
+  pub warms_own : (most : ℕ) (area : Option Area) (world : WorldState) (before after : ℕ) → IfSome area (IsGiven seen store place most)
       → Warms story (setup_of game) (inputs_of game) area world before after
       → (Some world ≡ world_of stories game) × (after ≡ before + turns_after stories game (count_in area))
   warms_own most area world before after given warms =
@@ -82,34 +82,20 @@ module _ {D : Type 0} (seen : D → List ℕ) (one : HasOneWorld) (stories : Lis
       ap (λ (o : Option WorldState). turns_from o (drop b.count (inputs_of game)))
       (at_story stories game story b.count there ∙ ap (λ (w : WorldState). Some w) (sym own.world)) in (
         ap (λ (w : WorldState). Some w) comes
-            ∙ ap (λ (l : List Input). Some (world_after story.image (setup_of game) l)) (sym (take-all (inputs_of game)))
+            ∙ ap (λ (l : List Input). Some (world_after story.image (setup_of game) l)) (sym (take-length (inputs_of game)))
             ∙ all,
         warms.takes ∙ ap (λ (n : ℕ). before + n) (sym turns ∙ ap (λ (n : ℕ). turns_after stories game n) own.count),
       )
 
--- ---- whether its story is there or not
+-- ---- where its story isn't there
 
-module _ {D : Type 0} (seen : D → List ℕ) (one : HasOneWorld) (stories : List Story) (rows : List ℕ) (game : List Command) (place : ℕ) (store : Snapshots D)
-    (last : last_row rows ≡ Some place) (same : is_other_story stories game ≡ false) (agreed : IsAgreed seen stories rows game store) where
-  by_story : (o : Option Story) → story_of stories game ≡ o → (most : ℕ) (area : Option Area) (world : Option WorldState) (before after : ℕ)
-      → IfSome area (IsGiven seen store place most)
-      → WarmsIn o (setup_of game) (inputs_of game) area world before after
-      → (world ≡ world_of stories game) × (after ≡ before + turns_after stories game (count_in area))
-  by_story None e most area None before after given warms =
-      let none : (n : ℕ) → world_at stories game n ≡ None =
-      λ n. ap (λ (o : Option Story). played o (setup_of game) (take n (inputs_of game))) e in
-      let zero = ap (λ (o : Option WorldState). turns_from o (drop (count_in area) (inputs_of game))) (none (count_in area)) in (
-        sym (none (length (inputs_of game))) ∙ world_at-all stories game,
-        omega (arith, warms, zero),
-      )
-  by_story None e most area (Some world) before after given warms = absurd warms
-  by_story (Some story) e most area None before after given warms = absurd warms
-  by_story (Some story) e most area (Some world) before after given warms =
-      warms_own seen one stories rows game place store last same agreed story e most area world before after given warms
-
-  pub warms_to_own : (most : ℕ) (area : Option Area) (world : Option WorldState) (before after : ℕ)
-      → IfSome area (IsGiven seen store place most)
-      → WarmsIn (story_of stories game) (setup_of game) (inputs_of game) area world before after
-      → (world ≡ world_of stories game) × (after ≡ before + turns_after stories game (count_in area))
-  warms_to_own most area world before after given warms =
-      by_story (story_of stories game) refl most area world before after given warms
+pub no_story :
+    (told : Bool) (file : List ℕ) (place faults : ℕ) (stories : List Story) (game : List Command)
+    (steps : ℕ) → story_of stories game ≡ None
+    → WarmsFrom told file place faults faults stories game None steps steps
+no_story told file place faults stories game steps e =
+    record {
+      area = given (newest_area place (length (inputs_of game)) file);
+      finds = record { newest = λ _ _. refl; failed = λ rose. absurd (omega (arith, rose)) };
+      warms = subst (λ (o : Option Story). WarmsIn o (setup_of game) (inputs_of game) (given (newest_area place (length (inputs_of game)) file)) None steps steps) (sym e) refl;
+    }

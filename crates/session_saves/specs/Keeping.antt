@@ -8,7 +8,7 @@ use Rattle.snap_store.specs.Slots.{taken_side, with_slot}
 use Rattle.snap_store.specs.Store.{Snapshots, IsImageOf, IsPutImage, area_of}
 use Rattle.snap_store.specs.declared.outline.TheConstants.{MAX_SNAPSHOT}
 use Rattle.snap_store.specs.declared.side.Side.{Side}
-use Rattle.snap_store.specs.declared.slot.Slot.TheVariants.{Open}
+use Rattle.snap_store.specs.declared.slot.Slot.TheVariants.{Closed, Open, Unsure}
 use Rattle.session_saves.specs.Saves.{SavesState, with_cause}
 use Rattle.session_saves.specs.declared.missed.Cause.{Cause}
 use Rattle.session_saves.specs.declared.missed.Cause.TheVariants.{NoMemory, TooLong, DiskFailed}
@@ -38,9 +38,12 @@ Prevents TooLong made world before now =
 Prevents DiskFailed made world before now =
     (made ≡ true) × (before ≤ now) × Rose before now × ((bytes : List ℕ) × Fits world bytes)
 
--- a put that didn't begin leaves the store
+-- a put that didn't begin leaves the store; one that failed has taken the area that isn't the newest,
+-- whose gate isn't known to be open then
 abbrev pub Leaves : {D : Type 0} → Cause → Snapshots D → Snapshots D → Type 0
-Leaves DiskFailed old new = new.made ≡ old.made
+Leaves DiskFailed old new =
+    (new.slots ≡ with_slot old.slots (taken_side old.slots) Closed)
+    ⊎ (new.slots ≡ with_slot old.slots (taken_side old.slots) Unsure)
 Leaves NotMade old new = new ≡ old
 Leaves NoMemory old new = new ≡ old
 Leaves TooLong old new = new ≡ old

@@ -1,5 +1,5 @@
 -- What keeps a session's snapshots in agreement with its commands, and kept up (own).
-use Rattle.std.specs.Prelude.{◌≡◌, ◌≤◌, ◌<◌, ℕ, ◌+◌, true, false, List, [], ◌∷◌, ◌++◌, length}
+use Rattle.std.specs.Prelude.{◌≡◌, ◌≤◌, ◌<◌, ℕ, ◌+◌, ◌*◌, true, false, List, [], ◌∷◌, ◌++◌, length}
 use Rattle.std.specs.Prelude.{Option, Some}
 use Rattle.std.specs.List.{Contains}
 use Rattle.glk_input.specs.declared.input.Input.{Input}
@@ -49,11 +49,15 @@ ImagesStayAgreed {D} seen =
     → MayStand seen world place (length (inputs_of game)) store image
     → IsAgreedFile stories rows game image
 
--- Snapshots are kept up at most 16 inputs after an OPEN, and stay so with an input more where none
--- was due before it.
+-- Snapshots are kept up at most 16 inputs after an OPEN, or behind an open area of that OPEN row; and
+-- they stay so with an input more where none was due before it.
 pub record StaysKeptUp : Type 0 where
   pub begins :
       (slots : Slots) (missed : Missed) (place count : ℕ) → count ≤ 16
+      → IsKeptUp place count slots missed
+  pub resumes :
+      (slots : Slots) (missed : Missed) (place due count : ℕ)
+      → HasSince place (due * 16) slots → count ≤ due * 16 + 16
       → IsKeptUp place count slots missed
   pub goes_on :
       (slots : Slots) (missed : Missed) (last : Option Point) (place count : ℕ)
