@@ -1,5 +1,6 @@
 -- Areas stay in agreement with a session's commands.
-use Rattle.std.proofs.Common.{◌≡◌, ◌⊎◌, ◌∙◌, ℕ, List, [], ◌∷◌, ◌++◌, length, Option, Some, None, inl, inr, refl, sym, subst, arith}
+use Rattle.std.proofs.Common.{◌≡◌, ◌⊎◌, ◌∙◌, ℕ, List, [], ◌∷◌, ◌++◌, length, Option, Some, None}
+use Rattle.std.proofs.Common.{inl, inr, refl, sym, subst, arith}
 use Rattle.std.proofs.lemmas.List.Elements.{Contains-append_left, Contains-append_right}
 use Rattle.std.specs.List.{Contains, last_or}
 use Rattle.gate_journal.specs.declared.command.Command.{Command}
@@ -16,11 +17,13 @@ use Rattle.session_saves.specs.Agreement.{Agrees, IsAgreed, last_row}
 use Rattle.session_saves.specs.Game.{inputs_of}
 use Rattle.session_saves.specs.Keeping.{AddsOnly, IsOldOrNew, MayStand, area_with}
 use Rattle.session_saves.specs.Laws.{ImagesStayAgreed, MoreCommandsStayAgreed, NewOpensStayAgreed}
-use Rattle.session_saves.proofs.GameLemmas.{inputs_of-more, is_other_story-more, world_at-all, world_at-more}
+use Rattle.session_saves.proofs.GameLemmas.{inputs_of-more, is_other_story-more, world_at-all}
+use Rattle.session_saves.proofs.GameLemmas.{world_at-more}
 
 -- ---- the last row
 
-last-append : (o : Option ℕ) (rows : List ℕ) (place : ℕ) → last_or o (rows ++ place ∷ []) ≡ Some place
+last-append : (o : Option ℕ) (rows : List ℕ) (place : ℕ)
+    → last_or o (rows ++ place ∷ []) ≡ Some place
 last-append o [] place = refl
 last-append o (row ∷ rows) place = last-append (Some row) rows place
 
@@ -30,7 +33,8 @@ some_same x y e = cc
 first_there : (x : ℕ) (xs : List ℕ) (place : ℕ) → Some x ≡ Some place → Contains (x ∷ xs) place
 first_there x xs place e = (0, omega arith, some_same x place e)
 
-last_there : (o : Option ℕ) (rows : List ℕ) (place : ℕ) → last_or o rows ≡ Some place → (o ≡ Some place) ⊎ Contains rows place
+last_there : (o : Option ℕ) (rows : List ℕ) (place : ℕ) → last_or o rows ≡ Some place
+    → (o ≡ Some place) ⊎ Contains rows place
 last_there o [] place e = inl e
 last_there o (row ∷ rows) place e =
     elim (last_there (Some row) rows place e) [
@@ -54,7 +58,8 @@ pub new_opens : NewOpensStayAgreed
 new_opens stories rows game new_game area place above agrees =
     let lower = above area.place agrees.row in
     let passed : (last_row (rows ++ place ∷ []) ≡ Some area.place) → ⊥ =
-    λ e. let same = some_same place area.place (sym (last-append None rows place) ∙ e) in omega (arith, lower, same) in
+    λ e. let same = some_same place area.place (sym (last-append None rows place) ∙ e) in
+    omega (arith, lower, same) in
     record {
       row = Contains-append_left rows (place ∷ []) area.place agrees.row;
       fits = λ e. absurd (passed e);
@@ -76,31 +81,39 @@ more_commands stories rows game c area shut agrees =
 one_world : (v w : WorldState) → Some v ≡ Some w → v ≡ w
 one_world v w e = cc
 
-own_agrees : (stories : List Story) (rows : List ℕ) (game : List Command) (world : WorldState) (place : ℕ) (bytes : List ℕ)
-    → last_row rows ≡ Some place → world_of stories game ≡ Some world → HasBytes world.image bytes world
+own_agrees : (stories : List Story) (rows : List ℕ) (game : List Command) (world : WorldState)
+    (place : ℕ) (bytes : List ℕ)
+    → last_row rows ≡ Some place → world_of stories game ≡ Some world
+    → HasBytes world.image bytes world
     → Agrees stories rows game (area_with place (length (inputs_of game)) bytes)
 own_agrees stories rows game world place bytes last is has =
     record {
       row = last_contained rows place last;
       fits = λ _. omega arith;
       holds = λ _ _ w at.
-          subst (λ (v : WorldState). HasBytes v.image bytes v) (one_world world w (sym is ∙ sym (world_at-all stories game) ∙ at)) has;
+          subst (λ (v : WorldState). HasBytes v.image bytes v)
+          (one_world world w (sym is ∙ sym (world_at-all stories game) ∙ at)) has;
     }
 
-old_or_new : (stories : List Story) (rows : List ℕ) (game : List Command) (world : WorldState) (place : ℕ) (old : Option Stored) (area : Stored)
+old_or_new : (stories : List Story) (rows : List ℕ) (game : List Command) (world : WorldState)
+    (place : ℕ) (old : Option Stored) (area : Stored)
     → last_row rows ≡ Some place → world_of stories game ≡ Some world
     → ((area : Stored) → old ≡ Some area → Agrees stories rows game area)
     → IsOldOrNew world place (length (inputs_of game)) old area → Agrees stories rows game area
 old_or_new stories rows game world place old area last is agreed (inl kept) = agreed area kept
 old_or_new stories rows game world place old area last is agreed (inr (bytes, has, same)) =
-    subst (λ (a : Stored). Agrees stories rows game a) (sym same) (own_agrees stories rows game world place bytes last is has)
+    subst (λ (a : Stored). Agrees stories rows game a) (sym same)
+    (own_agrees stories rows game world place bytes last is has)
 
-pub after_keep : {D : Type 0} (seen : D → List ℕ) (stories : List Story) (rows : List ℕ) (game : List Command) (world : WorldState) (place : ℕ)
+pub after_keep : {D : Type 0} (seen : D
+    → List ℕ) (stories : List Story) (rows : List ℕ) (game : List Command) (world : WorldState)
+    (place : ℕ)
     (old new : Snapshots D) → last_row rows ≡ Some place → world_of stories game ≡ Some world
     → AddsOnly seen world place (length (inputs_of game)) old new
     → IsAgreed seen stories rows game old → IsAgreed seen stories rows game new
 after_keep seen stories rows game world place old new last is adds agreed side area e =
-    old_or_new stories rows game world place (area_of seen old side) area last is (agreed side) (adds side area e)
+    old_or_new stories rows game world place (area_of seen old side) area last is (agreed side)
+    (adds side area e)
 
 -- ---- what a stop may leave
 
@@ -110,21 +123,28 @@ side_cases A B = inr refl
 side_cases B A = inr refl
 side_cases B B = inl refl
 
-put_or_kept : (world : WorldState) (place count : ℕ) (bytes : List ℕ) (old : Option Stored) (area : Stored) → HasBytes world.image bytes world
-    → (old ≡ Some area) ⊎ (area ≡ area_with place count bytes) → IsOldOrNew world place count old area
+put_or_kept : (world : WorldState) (place count : ℕ) (bytes : List ℕ) (old : Option Stored)
+    (area : Stored) → HasBytes world.image bytes world
+    → (old ≡ Some area) ⊎ (area ≡ area_with place count bytes)
+    → IsOldOrNew world place count old area
 put_or_kept world place count bytes old area has (inl kept) = inl kept
 put_or_kept world place count bytes old area has (inr put) = inr (bytes, has, put)
 
-pub in_image : {D : Type 0} (seen : D → List ℕ) (world : WorldState) (place count : ℕ) (store : Snapshots D) (image : List ℕ)
-    → MayStand seen world place count store image → (side : Side) (area : Stored) → openable_area side image ≡ Some area
+pub in_image : {D : Type 0} (seen : D
+    → List ℕ) (world : WorldState) (place count : ℕ) (store : Snapshots D) (image : List ℕ)
+    → MayStand seen world place count store image → (side : Side) (area : Stored)
+    → openable_area side image ≡ Some area
     → IsOldOrNew world place count (area_of seen store side) area
 in_image seen world place count store image (inl is) side area e = inl (is.openable side area e)
 in_image seen world place count store image (inr (bytes, has, put)) side area e =
     elim (side_cases (taken_side store.slots) side) [
-      | inl taken ↦ subst (λ (s : Side). IsOldOrNew world place count (area_of seen store s) area) (sym taken)
-          (put_or_kept world place count bytes (area_of seen store (taken_side store.slots)) area has
+      | inl taken ↦ subst (λ (s : Side). IsOldOrNew world place count (area_of seen store s) area)
+          (sym taken)
+          (put_or_kept world place count bytes (area_of seen store (taken_side store.slots)) area
+          has
           (put.taken area (subst (λ (s : Side). openable_area s image ≡ Some area) taken e)))
-      | inr beside ↦ subst (λ (s : Side). IsOldOrNew world place count (area_of seen store s) area) (sym beside)
+      | inr beside ↦ subst (λ (s : Side). IsOldOrNew world place count (area_of seen store s) area)
+          (sym beside)
           (inl (put.beside area (subst (λ (s : Side). openable_area s image ≡ Some area) beside e)))
     ]
 

@@ -1,7 +1,10 @@
 -- The worlds of a game: after all its inputs, with a command more, and from one of them on.
-use Rattle.std.proofs.Common.{◌≡◌, ◌∙◌, ◌≤◌, ◌+◌, ℕ, Bool, true, false, List, [], ◌∷◌, ◌++◌, length, take, drop, Option, Some, None, cond, refl, sym, ap, arith, ◌-◌, ◌<◌, zero, suc, get_or}
+use Rattle.std.proofs.Common.{◌≡◌, ◌∙◌, ◌≤◌, ◌+◌, ℕ, Bool, true, false, List, [], ◌∷◌, ◌++◌, length}
+use Rattle.std.proofs.Common.{take, drop, Option, Some, None, cond, refl, sym, ap, arith, ◌-◌, ◌<◌}
+use Rattle.std.proofs.Common.{zero, suc, get_or}
 use Rattle.std.specs.Prelude.{is_some}
-use Rattle.std.proofs.lemmas.List.{length-append, length-drop, take-append-drop, take-append-le, take_all}
+use Rattle.std.proofs.lemmas.List.{length-append, length-drop, take-append-drop, take-append-le}
+use Rattle.std.proofs.lemmas.List.{take_all}
 use Rattle.std.proofs.Math.Seq.{drop-cons, take-length}
 use Rattle.std.proofs.lemmas.List.Elements.{filter_map-append}
 use Rattle.std.specs.List.{filter_map}
@@ -22,19 +25,24 @@ use Rattle.session_saves.specs.Laws.{WantedInputsAreTurns}
 
 -- ---- after all its inputs
 
-played_in : (story : Option Story) (setup : Setup) (after : List Command) → played story setup (filter_map input_of after) ≡ world_in story setup after
+played_in : (story : Option Story) (setup : Setup) (after : List Command)
+    → played story setup (filter_map input_of after) ≡ world_in story setup after
 played_in None setup after = refl
 played_in (Some story) setup after = refl
 
 played_all : (story : Option Story) (setup : Setup) (after : List Command)
-    → played story setup (take (length (filter_map input_of after)) (filter_map input_of after)) ≡ world_in story setup after
+    → played story setup (take (length (filter_map input_of after))
+    (filter_map input_of after)) ≡ world_in story setup after
 played_all story setup after =
-    ap (λ (l : List Input). played story setup l) (take-length (filter_map input_of after)) ∙ played_in story setup after
+    ap (λ (l : List Input). played story setup l) (take-length (filter_map input_of after))
+    ∙ played_in story setup after
 
-pub world_at-all : (stories : List Story) (game : List Command) → world_at stories game (length (inputs_of game)) ≡ world_of stories game
+pub world_at-all : (stories : List Story) (game : List Command)
+    → world_at stories game (length (inputs_of game)) ≡ world_of stories game
 world_at-all stories [] = refl
 world_at-all stories (Open key story digest seed cols rows budget ∷ after) =
-    played_all (story_at stories story) (record { seed = seed; cols = cols; rows = rows; budget = budget }) after
+    played_all (story_at stories story)
+    (record { seed = seed; cols = cols; rows = rows; budget = budget }) after
 world_at-all stories (Line win term text ∷ after) = refl
 world_at-all stories (Char win code ∷ after) = refl
 world_at-all stories (File name ∷ after) = refl
@@ -42,7 +50,8 @@ world_at-all stories (Close ∷ after) = refl
 
 -- ---- with a command more
 
-story_of-more : (stories : List Story) (game : List Command) (c : Command) → is_open c ≡ false → story_of stories (game ++ c ∷ []) ≡ story_of stories game
+story_of-more : (stories : List Story) (game : List Command) (c : Command) → is_open c ≡ false
+    → story_of stories (game ++ c ∷ []) ≡ story_of stories game
 story_of-more stories [] (Open key story digest seed cols rows budget) shut = absurd cc
 story_of-more stories [] (Line win term text) shut = refl
 story_of-more stories [] (Char win code) shut = refl
@@ -54,7 +63,8 @@ story_of-more stories (Char win code ∷ after) c shut = refl
 story_of-more stories (File name ∷ after) c shut = refl
 story_of-more stories (Close ∷ after) c shut = refl
 
-setup_of-more : (game : List Command) (c : Command) → is_open c ≡ false → setup_of (game ++ c ∷ []) ≡ setup_of game
+setup_of-more : (game : List Command) (c : Command) → is_open c ≡ false
+    → setup_of (game ++ c ∷ []) ≡ setup_of game
 setup_of-more [] (Open key story digest seed cols rows budget) shut = absurd cc
 setup_of-more [] (Line win term text) shut = refl
 setup_of-more [] (Char win code) shut = refl
@@ -66,7 +76,8 @@ setup_of-more (Char win code ∷ after) c shut = refl
 setup_of-more (File name ∷ after) c shut = refl
 setup_of-more (Close ∷ after) c shut = refl
 
-pub is_other_story-more : (stories : List Story) (game : List Command) (c : Command) → is_open c ≡ false
+pub is_other_story-more : (stories : List Story) (game : List Command) (c : Command)
+    → is_open c ≡ false
     → is_other_story stories (game ++ c ∷ []) ≡ is_other_story stories game
 is_other_story-more stories [] (Open key story digest seed cols rows budget) shut = absurd cc
 is_other_story-more stories [] (Line win term text) shut = refl
@@ -79,32 +90,44 @@ is_other_story-more stories (Char win code ∷ after) c shut = refl
 is_other_story-more stories (File name ∷ after) c shut = refl
 is_other_story-more stories (Close ∷ after) c shut = refl
 
-pub inputs_of-more : (game : List Command) (c : Command) → length (inputs_of game) ≤ length (inputs_of (game ++ c ∷ []))
+pub inputs_of-more : (game : List Command) (c : Command)
+    → length (inputs_of game) ≤ length (inputs_of (game ++ c ∷ []))
 inputs_of-more game c =
-    let both : length (inputs_of (game ++ c ∷ [])) ≡ length (inputs_of game) + length (inputs_of (c ∷ [])) =
-    ap (λ (l : List Input). length l) (filter_map-append input_of game (c ∷ [])) ∙ length-append (inputs_of game) (inputs_of (c ∷ [])) in
+    let both : length (inputs_of (game ++ c ∷ [])) ≡ length (inputs_of game) + length
+    (inputs_of (c ∷ [])) =
+    ap (λ (l : List Input). length l) (filter_map-append input_of game (c ∷ []))
+    ∙ length-append (inputs_of game) (inputs_of (c ∷ [])) in
     omega (arith, both)
 
-take-more : (game : List Command) (c : Command) (n : ℕ) → n ≤ length (inputs_of game) → take n (inputs_of (game ++ c ∷ [])) ≡ take n (inputs_of game)
+take-more : (game : List Command) (c : Command) (n : ℕ) → n ≤ length (inputs_of game)
+    → take n (inputs_of (game ++ c ∷ [])) ≡ take n (inputs_of game)
 take-more game c n le =
-    ap (λ (l : List Input). take n l) (filter_map-append input_of game (c ∷ [])) ∙ take-append-le n (inputs_of game) (inputs_of (c ∷ [])) le
+    ap (λ (l : List Input). take n l) (filter_map-append input_of game (c ∷ []))
+    ∙ take-append-le n (inputs_of game) (inputs_of (c ∷ [])) le
 
-pub world_at-more : (stories : List Story) (game : List Command) (c : Command) (n : ℕ) → is_open c ≡ false → n ≤ length (inputs_of game)
+pub world_at-more : (stories : List Story) (game : List Command) (c : Command) (n : ℕ)
+    → is_open c ≡ false → n ≤ length (inputs_of game)
     → world_at stories (game ++ c ∷ []) n ≡ world_at stories game n
 world_at-more stories game c n shut le =
-    ap (λ (o : Option Story). played o (setup_of (game ++ c ∷ [])) (take n (inputs_of (game ++ c ∷ [])))) (story_of-more stories game c shut)
-    ∙ ap (λ (s : Setup). played (story_of stories game) s (take n (inputs_of (game ++ c ∷ [])))) (setup_of-more game c shut)
-    ∙ ap (λ (l : List Input). played (story_of stories game) (setup_of game) l) (take-more game c n le)
+    ap (λ (o : Option Story). played o (setup_of (game ++ c ∷ []))
+    (take n (inputs_of (game ++ c ∷ [])))) (story_of-more stories game c shut)
+    ∙ ap (λ (s : Setup). played (story_of stories game) s (take n (inputs_of (game ++ c ∷ []))))
+    (setup_of-more game c shut)
+    ∙ ap (λ (l : List Input). played (story_of stories game) (setup_of game) l)
+    (take-more game c n le)
 
 -- ---- from one of its worlds on
 
-turned_by-append : (w : WorldState) (xs ys : List Input) → turned_by (turned_by w xs) ys ≡ turned_by w (xs ++ ys)
+turned_by-append : (w : WorldState) (xs ys : List Input)
+    → turned_by (turned_by w xs) ys ≡ turned_by w (xs ++ ys)
 turned_by-append w [] ys = refl
 turned_by-append w (x ∷ xs) ys = turned_by-append (turned w x) xs ys
 
-pub turned_by-rest : (w : WorldState) (n : ℕ) (xs : List Input) → turned_by (turned_by w (take n xs)) (drop n xs) ≡ turned_by w xs
+pub turned_by-rest : (w : WorldState) (n : ℕ) (xs : List Input)
+    → turned_by (turned_by w (take n xs)) (drop n xs) ≡ turned_by w xs
 turned_by-rest w n xs =
-    turned_by-append w (take n xs) (drop n xs) ∙ ap (λ (l : List Input). turned_by w l) (take-append-drop n xs)
+    turned_by-append w (take n xs) (drop n xs)
+    ∙ ap (λ (l : List Input). turned_by w l) (take-append-drop n xs)
 
 -- ---- behind its first inputs
 
@@ -114,7 +137,8 @@ drop_given :
     → drop left (inputs_of (c ∷ cs)) ≡ drop (left - 1) (inputs_of cs)
 drop_given None c cs left is some e = absurd cc
 drop_given (Some x) c cs zero is some e = absurd (e refl)
-drop_given (Some x) c cs (suc n) is some e = let less : suc n - 1 ≡ n = omega arith in rw (is, less) refl
+drop_given (Some x) c cs (suc n) is some e = let less : suc n - 1 ≡ n = omega arith in
+    rw (is, less) refl
 
 drop_not_given :
     (given : Option Input) (c : Command) (cs : List Command) (left : ℕ)
@@ -130,14 +154,16 @@ at_command game at c lt e =
     drop-cons game at c lt ∙ ap (λ (d : Command). d ∷ drop (suc at) game) (sym e)
     ∙ ap (λ (n : ℕ). c ∷ drop n game) next
 
-pub behind_input : (game : List Command) (at left : ℕ) (c : Command) → at < length game → c ≡ get_or game at c
+pub behind_input : (game : List Command) (at left : ℕ) (c : Command) → at < length game
+    → c ≡ get_or game at c
     → is_some (input_of c) ≡ true → (left ≡ 0 → ⊥)
     → drop (left - 1) (inputs_of (drop (at + 1) game)) ≡ drop left (inputs_of (drop at game))
 behind_input game at left c lt e some more =
     sym (ap (λ (l : List Command). drop left (inputs_of l)) (at_command game at c lt e)
     ∙ drop_given (input_of c) c (drop (at + 1) game) left refl some more)
 
-pub behind_other : (game : List Command) (at left : ℕ) (c : Command) → at < length game → c ≡ get_or game at c
+pub behind_other : (game : List Command) (at left : ℕ) (c : Command) → at < length game
+    → c ≡ get_or game at c
     → is_some (input_of c) ≡ false
     → drop left (inputs_of (drop (at + 1) game)) ≡ drop left (inputs_of (drop at game))
 behind_other game at left c lt e none =
@@ -150,24 +176,28 @@ none_left left xs e = rw e refl
 pub behind_all : (game : List Command) (at left : ℕ) → left ≡ 0
     → inputs_of (take (length game - at) (drop at game)) ≡ drop left (inputs_of (drop at game))
 behind_all game at left e =
-    ap (λ (l : List Command). inputs_of l) (take_all (length game - at) (drop at game) (omega (arith, length-drop at game)))
+    ap (λ (l : List Command). inputs_of l)
+    (take_all (length game - at) (drop at game) (omega (arith, length-drop at game)))
     ∙ sym (none_left left (inputs_of (drop at game)) e)
 
 -- ---- its image
 
-image-answered : (w : WorldState) (stage : Stage) (input : Input) → (answered w stage input).image ≡ w.image
+image-answered : (w : WorldState) (stage : Stage) (input : Input)
+    → (answered w stage input).image ≡ w.image
 image-answered w (AtSelect m) input = refl
 image-answered w (AtPrompt m) input = refl
 image-answered w Quit input = refl
 image-answered w (Fault n) input = refl
 
-image-if : (wanted : Bool) (w after : WorldState) → after.image ≡ w.image → (cond wanted after w).image ≡ w.image
+image-if : (wanted : Bool) (w after : WorldState) → after.image ≡ w.image
+    → (cond wanted after w).image ≡ w.image
 image-if true w after e = e
 image-if false w after e = refl
 
 image-turned : (w : WorldState) (input : Input) → (turned w input).image ≡ w.image
 unfolding turned
-image-turned w input = image-if (is_wanted w input) w (answered w w.stage input) (image-answered w w.stage input)
+image-turned w input = image-if (is_wanted w input) w (answered w w.stage input)
+    (image-answered w w.stage input)
 
 image-turned_by : (w : WorldState) (xs : List Input) → (turned_by w xs).image ≡ w.image
 image-turned_by w [] = refl
@@ -177,8 +207,10 @@ image-opening : (image : List ℕ) (setup : Setup) → (opening image setup).ima
 unfolding opening
 image-opening image setup = refl
 
-pub image-world_after : (image : List ℕ) (setup : Setup) (xs : List Input) → (world_after image setup xs).image ≡ image
-image-world_after image setup xs = image-turned_by (opening image setup) xs ∙ image-opening image setup
+pub image-world_after : (image : List ℕ) (setup : Setup) (xs : List Input)
+    → (world_after image setup xs).image ≡ image
+image-world_after image setup xs = image-turned_by (opening image setup) xs
+    ∙ image-opening image setup
 
 -- ---- its turns
 

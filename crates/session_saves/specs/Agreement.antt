@@ -15,9 +15,9 @@ use Rattle.session_saves.specs.Game.{inputs_of, world_at}
 abbrev pub last_row : List ℕ → Option ℕ
 last_row rows = last_or None rows
 
--- An area of a session with OPEN rows at these places, whose last one began this game: its place is
--- that of one of them. Where that is the last one, its count is at most the inputs since, and, where
--- the story handed in has that row's digest, its bytes are those of the world after so many.
+-- An area of a session with OPEN rows at these places, whose last one began this game: its place
+-- is that of one of them. Where that is the last one, its count is at most the inputs since, and,
+-- where the story handed in has that row's digest, its bytes are those of the world after so many.
 pub record Agrees
     (stories : List Story)
     (rows : List ℕ)

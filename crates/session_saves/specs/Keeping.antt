@@ -38,8 +38,8 @@ Prevents TooLong made world before now =
 Prevents DiskFailed made world before now =
     (made ≡ true) × (before ≤ now) × Rose before now × ((bytes : List ℕ) × Fits world bytes)
 
--- a put that didn't begin leaves the store; one that failed has taken the area that isn't the newest,
--- whose gate isn't known to be open then
+-- a put that didn't begin leaves the store; one that failed has taken the area that isn't the
+-- newest, whose gate isn't known to be open then
 abbrev pub Leaves : {D : Type 0} → Cause → Snapshots D → Snapshots D → Type 0
 Leaves DiskFailed old new =
     (new.slots ≡ with_slot old.slots (taken_side old.slots) Closed)

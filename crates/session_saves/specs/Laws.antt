@@ -49,8 +49,8 @@ ImagesStayAgreed {D} seen =
     → MayStand seen world place (length (inputs_of game)) store image
     → IsAgreedFile stories rows game image
 
--- Snapshots are kept up at most 16 inputs after an OPEN, or behind an open area of that OPEN row; and
--- they stay so with an input more where none was due before it.
+-- Snapshots are kept up at most 16 inputs after an OPEN, or behind an open area of that OPEN row;
+-- and they stay so with an input more where none was due before it.
 pub record StaysKeptUp : Type 0 where
   pub begins :
       (slots : Slots) (missed : Missed) (place count : ℕ) → count ≤ 16
@@ -66,8 +66,8 @@ pub record StaysKeptUp : Type 0 where
       → IsKeptUp place count slots missed
       → IsKeptUp place (count + 1) slots missed
 
--- Of snapshots that are kept up, and none of which was missed, one of this OPEN row is open that has
--- all inputs behind it but for the last 16.
+-- Of snapshots that are kept up, and none of which was missed, one of this OPEN row is open that
+-- has all inputs behind it but for the last 16.
 abbrev pub IsWithinSixteen : Type 0
 IsWithinSixteen =
     (slots : Slots) (place least : ℕ)

@@ -132,9 +132,9 @@ impl<D: Disk> Saves<D> {
         }
     }
 
-    /// The world that a game has come to, from the newest area of its OPEN row on, or from the start
-    /// where there is none that can be read or where no world has its bytes. Each turn is one step.
-    /// None where the game's story isn't there.
+    /// The world that a game has come to, from the newest area of its OPEN row on, or from the
+    /// start where there is none that can be read or where no world has its bytes. Each turn is one
+    /// step. None where the game's story isn't there.
     pub fn warm<'i, L: Ledger>(
         &mut self,
         alloc: Global,

@@ -14,9 +14,11 @@ loop-at-preserved c =
     let at = c.loop-at.at in
     elim c.if-is_input.branch [
       | then-is_input w ↦ ap (λ n. drop n (inputs_of (drop (at + 1) game))) w.left-is
-          ∙ behind_input game at c.loop-at.left c.index-game-at.result c.loop-at-test.true c.index-game-at.is (sym c.is_input.ensures ∙ w.if-is_input.true) c.if-left-eq0.false
+          ∙ behind_input game at c.loop-at.left c.index-game-at.result c.loop-at-test.true
+          c.index-game-at.is (sym c.is_input.ensures ∙ w.if-is_input.true) c.if-left-eq0.false
           ∙ c.loop-at.invariant
       | else-is_input w ↦ ap (λ n. drop n (inputs_of (drop (at + 1) game))) w.left-is
-          ∙ behind_other game at c.loop-at.left c.index-game-at.result c.loop-at-test.true c.index-game-at.is (sym c.is_input.ensures ∙ w.if-is_input.false)
+          ∙ behind_other game at c.loop-at.left c.index-game-at.result c.loop-at-test.true
+          c.index-game-at.is (sym c.is_input.ensures ∙ w.if-is_input.false)
           ∙ c.loop-at.invariant
     ]

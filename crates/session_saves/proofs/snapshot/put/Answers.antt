@@ -7,14 +7,18 @@ pub returns-in-Ok-put-clause-areas : goal.returns-in-Ok-put-clause-areas
 returns-in-Ok-put-clause-areas g c told =
     let made : c.args.store.now.made ≡ true = sym c.if-not-is_made.ensures.value in
     let world = c.args.world.now in
-    let has = subst (λ (l : List ℕ). HasBytes world.image l world) (sym c.as_slice.ensures.value) c.in-Ok.ensures.value in
-    adds_only g.D.Disk.seen world c.args.place c.args.count c.as_slice.result.now c.args.store.now c.put.new.self
+    let has = subst (λ (l : List ℕ). HasBytes world.image l world) (sym c.as_slice.ensures.value)
+    c.in-Ok.ensures.value in
+    adds_only g.D.Disk.seen world c.args.place c.args.count c.as_slice.result.now c.args.store.now
+    c.put.new.self
     has (inr (inr (c.in-Ok-put.ensures.taken made told))) (c.in-Ok-put.ensures.beside told)
 
 pub returns-clause-areas : goal.returns-clause-areas
 returns-clause-areas g c told =
     let made : c.args.store.now.made ≡ true = sym c.if-not-is_made.ensures.value in
     let world = c.args.world.now in
-    let has = subst (λ (l : List ℕ). HasBytes world.image l world) (sym c.as_slice.ensures.value) c.in-Ok.ensures.value in
-    adds_only g.D.Disk.seen world c.args.place c.args.count c.as_slice.result.now c.args.store.now c.put.new.self
+    let has = subst (λ (l : List ℕ). HasBytes world.image l world) (sym c.as_slice.ensures.value)
+    c.in-Ok.ensures.value in
+    adds_only g.D.Disk.seen world c.args.place c.args.count c.as_slice.result.now c.args.store.now
+    c.put.new.self
     has (c.in-Err.ensures.taken made told) (c.in-Err.ensures.beside told)

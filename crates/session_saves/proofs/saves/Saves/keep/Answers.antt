@@ -10,44 +10,57 @@ use Rattle.session_saves.proofs.saves.Saves.keep.Goals as goal
 pub returns-in-Ok-clause-due : goal.returns-in-Ok-clause-due
 returns-in-Ok-clause-due g c =
     put_not_due c.put.new.store.slots c.self.inside.last c.args.place c.args.count
-    (put_stored g.D.Disk.tells g.D.Disk.may_leave g.D.Disk.faults c.args.world.now c.args.place c.args.count c.self.inside.store c.put.new.store c.in-Ok.ensures.ok)
+    (put_stored g.D.Disk.tells g.D.Disk.may_leave g.D.Disk.faults c.args.world.now c.args.place
+    c.args.count c.self.inside.store c.put.new.store c.in-Ok.ensures.ok)
 
 pub returns-in-Ok-clause-kept_up : goal.returns-in-Ok-clause-kept_up
 returns-in-Ok-clause-kept_up g c kept =
     put_keeps_up c.put.new.store.slots c.self.inside.missed c.args.place c.args.count
-    (put_stored g.D.Disk.tells g.D.Disk.may_leave g.D.Disk.faults c.args.world.now c.args.place c.args.count c.self.inside.store c.put.new.store c.in-Ok.ensures.ok)
+    (put_stored g.D.Disk.tells g.D.Disk.may_leave g.D.Disk.faults c.args.world.now c.args.place
+    c.args.count c.self.inside.store c.put.new.store c.in-Ok.ensures.ok)
 
 pub returns-in-Ok-clause-areas : goal.returns-in-Ok-clause-areas
 returns-in-Ok-clause-areas g c =
-    subst (λ (s : SavesState g.row.D.Denot). IsTrue (g.D.Disk.tells s.store.disk) → AddsOnly g.D.Disk.seen c.args.world.now c.args.place c.args.count s.store c.put.new.store)
+    subst (λ (s : SavesState g.row.D.Denot). IsTrue (g.D.Disk.tells s.store.disk)
+    → AddsOnly g.D.Disk.seen c.args.world.now c.args.place c.args.count s.store c.put.new.store)
     c.self.view_is c.in-Ok.ensures.areas
 
 pub returns-in-Ok-clause-agreed : goal.returns-in-Ok-clause-agreed
 returns-in-Ok-clause-agreed g c stories rows game told last counts at agreed =
     let old = c.args.self.now.store in
-    let adds = subst (λ (s : SavesState g.row.D.Denot). IsTrue (g.D.Disk.tells s.store.disk) → AddsOnly g.D.Disk.seen c.args.world.now c.args.place c.args.count s.store c.put.new.store)
+    let adds = subst (λ (s : SavesState g.row.D.Denot). IsTrue (g.D.Disk.tells s.store.disk)
+    → AddsOnly g.D.Disk.seen c.args.world.now c.args.place c.args.count s.store c.put.new.store)
     c.self.view_is c.in-Ok.ensures.areas told in
-    after_keep g.D.Disk.seen stories rows game c.args.world.now c.args.place old c.put.new.store last at
-    (subst (λ (n : ℕ). AddsOnly g.D.Disk.seen c.args.world.now c.args.place n old c.put.new.store) (sym counts) adds) agreed
+    after_keep g.D.Disk.seen stories rows game c.args.world.now c.args.place old c.put.new.store
+    last at
+    (subst (λ (n : ℕ). AddsOnly g.D.Disk.seen c.args.world.now c.args.place n old c.put.new.store)
+    (sym counts) adds) agreed
 
 pub returns-in-Err-clause-due : goal.returns-in-Err-clause-due
 returns-in-Err-clause-due g c =
-    missed_not_due c.put.new.store.slots (Some (record { place = c.args.place; count = c.args.count })) c.args.place c.args.count refl
+    missed_not_due c.put.new.store.slots
+    (Some (record { place = c.args.place; count = c.args.count })) c.args.place c.args.count
+    refl
 
 pub returns-in-Err-clause-areas : goal.returns-in-Err-clause-areas
 returns-in-Err-clause-areas g c =
-    subst (λ (s : SavesState g.row.D.Denot). IsTrue (g.D.Disk.tells s.store.disk) → AddsOnly g.D.Disk.seen c.args.world.now c.args.place c.args.count s.store c.put.new.store)
+    subst (λ (s : SavesState g.row.D.Denot). IsTrue (g.D.Disk.tells s.store.disk)
+    → AddsOnly g.D.Disk.seen c.args.world.now c.args.place c.args.count s.store c.put.new.store)
     c.self.view_is c.in-Err.ensures.areas
 
 pub returns-in-Err-clause-agreed : goal.returns-in-Err-clause-agreed
 returns-in-Err-clause-agreed g c stories rows game told last counts at agreed =
     let old = c.args.self.now.store in
-    let adds = subst (λ (s : SavesState g.row.D.Denot). IsTrue (g.D.Disk.tells s.store.disk) → AddsOnly g.D.Disk.seen c.args.world.now c.args.place c.args.count s.store c.put.new.store)
+    let adds = subst (λ (s : SavesState g.row.D.Denot). IsTrue (g.D.Disk.tells s.store.disk)
+    → AddsOnly g.D.Disk.seen c.args.world.now c.args.place c.args.count s.store c.put.new.store)
     c.self.view_is c.in-Err.ensures.areas told in
-    after_keep g.D.Disk.seen stories rows game c.args.world.now c.args.place old c.put.new.store last at
-    (subst (λ (n : ℕ). AddsOnly g.D.Disk.seen c.args.world.now c.args.place n old c.put.new.store) (sym counts) adds) agreed
+    after_keep g.D.Disk.seen stories rows game c.args.world.now c.args.place old c.put.new.store
+    last at
+    (subst (λ (n : ℕ). AddsOnly g.D.Disk.seen c.args.world.now c.args.place n old c.put.new.store)
+    (sym counts) adds) agreed
 
 pub returns-else-is_due-clause-crash : goal.returns-else-is_due-clause-crash
 returns-else-is_due-clause-crash g c =
-    untouched g.D.Disk.tells g.D.Disk.may_leave g.D.Disk.moment g.D.Disk.left_since g.D.Disk.seen g.met.D.Disk.only_now
+    untouched g.D.Disk.tells g.D.Disk.may_leave g.D.Disk.moment g.D.Disk.left_since g.D.Disk.seen
+    g.met.D.Disk.only_now
     c.args.world.now c.args.place c.args.count c.args.self.now.store c.is_due.ensures.images
