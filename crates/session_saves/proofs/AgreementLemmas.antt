@@ -6,7 +6,7 @@ use Rattle.std.specs.List.{Contains, last_or}
 use Rattle.gate_journal.specs.declared.command.Command.{Command}
 use Rattle.story_run.specs.declared.story.Story.{Story}
 use Rattle.story_run.specs.World.{WorldState}
-use Rattle.story_snap.specs.Snapshot.{HasBytes}
+use Rattle.story_snap.specs.Bytes.{HasBytes}
 use Rattle.session_core.specs.History.{world_of}
 use Rattle.snap_store.specs.File.{Stored, openable_area}
 use Rattle.snap_store.specs.Slots.{other, taken_side}

@@ -5,7 +5,7 @@ use Rattle.std.specs.Prelude.{IsTrue}
 use Rattle.disk_model.specs.Disk.{EachImage, LeavesOnly}
 use Rattle.disk_model.proofs.Moments.{started, weaker}
 use Rattle.story_run.specs.World.{WorldState}
-use Rattle.story_snap.specs.Snapshot.{HasBytes}
+use Rattle.story_snap.specs.Bytes.{HasBytes}
 use Rattle.snap_store.specs.File.{Stored, start_of}
 use Rattle.snap_store.specs.Slots.{is_stored, other, taken_side}
 use Rattle.snap_store.specs.Store.{Snapshots, IsImageOf, IsPutImage, area_of}

@@ -7,7 +7,8 @@ use Rattle.gate_journal.specs.declared.command.Command.{Command}
 use Rattle.story_run.specs.declared.story.Story.{Story}
 use Rattle.story_run.specs.World.{WorldState}
 use Rattle.story_run.specs.Solo.{opening, turned_by, world_after}
-use Rattle.story_snap.specs.Snapshot.{HasBytes, HasOneWorld}
+use Rattle.story_snap.specs.Bytes.{HasBytes}
+use Rattle.story_snap.specs.Laws.{HasOneWorld}
 use Rattle.session_core.specs.Checks.{is_other_story}
 use Rattle.session_core.specs.History.{world_of}
 use Rattle.session_core.specs.Turns.{turns_by}

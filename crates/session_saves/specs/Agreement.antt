@@ -4,7 +4,7 @@ use Rattle.std.specs.List.{Contains, last_or}
 use Rattle.gate_journal.specs.declared.command.Command.{Command}
 use Rattle.story_run.specs.declared.story.Story.{Story}
 use Rattle.story_run.specs.World.{WorldState}
-use Rattle.story_snap.specs.Snapshot.{HasBytes}
+use Rattle.story_snap.specs.Bytes.{HasBytes}
 use Rattle.session_core.specs.Checks.{is_other_story}
 use Rattle.snap_store.specs.File.{Stored, openable_area}
 use Rattle.snap_store.specs.Store.{Snapshots, area_of}

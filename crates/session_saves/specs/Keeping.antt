@@ -2,7 +2,7 @@
 use Rattle.std.specs.Prelude.{◌≡◌, ◌⊎◌, ◌≤◌, ◌<◌, ℕ, Bool, true, false, List, length, Option, Some}
 use Rattle.disk_model.specs.Disk.{EachImage, Rose}
 use Rattle.story_run.specs.World.{WorldState}
-use Rattle.story_snap.specs.Snapshot.{HasBytes}
+use Rattle.story_snap.specs.Bytes.{HasBytes}
 use Rattle.snap_store.specs.File.{Stored, open_area}
 use Rattle.snap_store.specs.Slots.{taken_side, with_slot}
 use Rattle.snap_store.specs.Store.{Snapshots, IsImageOf, IsPutImage, area_of}

@@ -7,7 +7,7 @@ use Rattle.story_run.specs.declared.setup.Setup.{Setup}
 use Rattle.story_run.specs.declared.story.Story.{Story}
 use Rattle.story_run.specs.World.{WorldState}
 use Rattle.story_run.specs.Solo.{opening, turned_by}
-use Rattle.story_snap.specs.Snapshot.{HasBytes, HasNoWorld}
+use Rattle.story_snap.specs.Bytes.{HasBytes, HasNoWorld}
 use Rattle.disk_model.specs.Disk.{Rose}
 use Rattle.session_core.specs.Turns.{turns_by}
 use Rattle.snap_store.specs.File.{given, newest_area}

@@ -3,7 +3,7 @@
 ghost use Rattle.std.specs.Prelude.{◌≡◌, ◌≤◌, IsTrue};
 ghost use Rattle.std.specs.Prelude.{IfOk, IfSome, MatchOption};
 ghost use Rattle.disk_model.specs.Disk.{EachImage, OnlyLooks};
-ghost use Rattle.story_snap.specs.Snapshot.{HasBytes, HasNoWorld};
+ghost use Rattle.story_snap.specs.Bytes.{HasBytes, HasNoWorld};
 ghost use Rattle.snap_store.specs.Store.{IsGiven, IsImageOf, area_of};
 ghost use Rattle.snap_store.specs.declared.side.Side.{Side};
 ghost use Rattle.session_saves.specs.Game.{inputs_of};

@@ -11,9 +11,13 @@ GivesBack =
     (image : List ℕ) (w : WorldState) → IsWorldOf image w
     → world_made image (fields_of w) ≡ Some w
 
--- no two worlds of a story have the same bytes, and no world has two spellings
-pub record HasOneWorld : Type 0 where
-  pub world : (image bytes : List ℕ) (v w : WorldState) → HasBytes image bytes v
-      → HasBytes image bytes w → v ≡ w
-  pub spelling : (image a b : List ℕ) (w : WorldState) → HasBytes image a w → HasBytes image b w
-      → a ≡ b
+-- no two worlds of a story have the same bytes
+abbrev pub HasOneWorld : Type 0
+HasOneWorld =
+    (image bytes : List ℕ) (v w : WorldState) → HasBytes image bytes v → HasBytes image bytes w
+    → v ≡ w
+
+-- no world of a story has two spellings
+abbrev pub HasOneSpelling : Type 0
+HasOneSpelling =
+    (image a b : List ℕ) (w : WorldState) → HasBytes image a w → HasBytes image b w → a ≡ b

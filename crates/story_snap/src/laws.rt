@@ -1,13 +1,18 @@
 //! Laws of a world's bytes.
 
-ghost use Rattle.story_snap.specs.Laws.{GivesBack, HasOneWorld};
+ghost use Rattle.story_snap.specs.Laws.{GivesBack, HasOneSpelling, HasOneWorld};
 
 /// The fields of a valid world make that world again.
 pub fn gives_back()
     ensures { GivesBack }
 {}
 
-/// Worlds of a story and their bytes are one to one.
+/// No two worlds of a story have the same bytes.
 pub fn has_one_world()
     ensures { HasOneWorld }
+{}
+
+/// No world of a story has two spellings.
+pub fn has_one_spelling()
+    ensures { HasOneSpelling }
 {}

@@ -1,5 +1,5 @@
 use Rattle.std.proofs.Common.{◌≡◌, ℕ, List, true, sym, subst, inr}
-use Rattle.story_snap.specs.Snapshot.{HasBytes}
+use Rattle.story_snap.specs.Bytes.{HasBytes}
 use Rattle.session_saves.proofs.KeepLemmas.{adds_only}
 use Rattle.session_saves.proofs.snapshot.put.Goals as goal
 

@@ -1,5 +1,5 @@
-use Rattle.story_snap.proofs.WorldLemmas.{one-spelling, one-world}
+use Rattle.story_snap.proofs.WorldLemmas.{one-world}
 use Rattle.story_snap.proofs.laws.has_one_world.Goals as goal
 
 pub returns : goal.returns
-returns c = record { world = one-world; spelling = one-spelling }
+returns c = one-world
