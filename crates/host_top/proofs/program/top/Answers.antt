@@ -3,7 +3,7 @@ use Rattle.std.specs.Option.{option_map}
 use Rattle.command_words.specs.Words.{asked, asked_by}
 use Rattle.host_top.proofs.CauseLemmas.{failed_six, failed_nine, coded_two, coded_four, coded_five}
 use Rattle.host_top.proofs.ToldLemmas.{tells, told_no_memory, done_no_memory}
-use Rattle.host_top.proofs.top.top.Goals as goal
+use Rattle.host_top.proofs.program.top.Goals as goal
 
 pub returns-in-Err-clause-told : goal.returns-in-Err-clause-told
 returns-in-Err-clause-told g c =

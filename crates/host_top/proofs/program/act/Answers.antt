@@ -1,7 +1,7 @@
 use Rattle.std.proofs.Common.{rules, sym, ap, ◌∙◌, Err}
 use Rattle.host_top.proofs.BorrowLemmas.{keeps_none}
 use Rattle.host_top.proofs.ToldLemmas.{does_nothing, both}
-use Rattle.host_top.proofs.top.act.Goals as goal
+use Rattle.host_top.proofs.program.act.Goals as goal
 
 pub returns-in_default-clause-value : goal.returns-in_default-clause-value
 returns-in_default-clause-value g c = does_nothing _ _ _ _ _

@@ -1,5 +1,5 @@
 use Rattle.std.proofs.Common.{inr, map}
-use Rattle.host_top.proofs.top.follow.Goals as goal
+use Rattle.host_top.proofs.program.follow.Goals as goal
 
 pub returns-clause-done : goal.returns-clause-done
 returns-clause-done g c = inr (record {
