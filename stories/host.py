@@ -14,7 +14,7 @@ REFUSALS = {
     "2": "the session has another key, or its number isn't 0 to 63", "3": "the session is in use, with another key",
     "4": "the host has no such story", "8": "the story doesn't wait for that",
     "9": "the story is over", "10": "the session is full: it has 8,192 moves",
-    "11": "the disk failed; the move isn't kept", "12": "the host wants memory",
+    "11": "the disk failed; the move isn't accepted", "12": "the host wants memory",
     "13": "the session was kept with another story",
 }
 GREATEST = 0xFFFFFFFF       # the greatest number of a command
