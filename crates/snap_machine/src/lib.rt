@@ -5,8 +5,6 @@ mod fields;
 mod laws;
 mod parts;
 mod saves;
-#[cfg(test)]
-mod tests;
 
 pub use fields::machine_fields_of;
 pub use laws::gives_back;
