@@ -29,7 +29,7 @@ use Rattle.story_run.specs.declared.fields.StageFields.TheVariants as fields
 use Rattle.story_run.specs.declared.stage.Stage.{Stage}
 use Rattle.story_run.specs.declared.stage.Stage.TheVariants.{AtSelect, AtPrompt, Quit, Fault}
 use Rattle.story_snap.specs.Bytes.{HasBytes, HasRomsAt, IsWorldOf}
-use Rattle.story_snap.specs.Fields.{fields_of, joined, parts_of, setup_of, waiting_of}
+use Rattle.story_snap.specs.Fields.{fields_of, all_fields, parts_of, setup_of, waiting_of}
 use Rattle.story_snap.specs.Made.{event_in, glk_in, glk_made, machine_in, prompt_in}
 use Rattle.story_snap.specs.Made.{stage_made, world_made}
 
@@ -124,7 +124,7 @@ one-spelling image a b w x y = x.spelled.printed ∙ sym y.spelled.printed
 pub fields-are : (w : WorldState) (setup : Setup) (parts : MachineParts) (waiting : Waiting)
     (glk : GlkFields) (show : List ℕ) → setup ≡ setup_of w → parts ≡ parts_of w.image w.stage
     → waiting ≡ waiting_of w.glk w.stage → glk ≡ glk_fields w.glk → show ≡ w.last
-    → joined setup parts waiting glk show ≡ fields_of w
+    → all_fields setup parts waiting glk show ≡ fields_of w
 fields-are w setup parts waiting glk show a b c d e = rw (a, b, c, d, e) refl
 
 pub shown-is : (w : WorldState) → shown w ≡ w.last

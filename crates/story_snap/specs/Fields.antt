@@ -33,8 +33,8 @@ waiting_of g Quit = waiting.Quit
 waiting_of g (Fault n) = waiting.Fault n
 
 -- the fields of a setup, a machine, a Glk state, what is waited for, and a show
-abbrev pub joined : Setup → MachineParts → Waiting → GlkFields → List ℕ → Fields
-joined setup parts waiting glk show = record {
+abbrev pub all_fields : Setup → MachineParts → Waiting → GlkFields → List ℕ → Fields
+all_fields setup parts waiting glk show = record {
   setup = setup;
   machine = parts.machine;
   settings = parts.settings;
@@ -51,5 +51,5 @@ joined setup parts waiting glk show = record {
 
 abbrev pub fields_of : WorldState → Fields
 fields_of w =
-    joined (setup_of w) (parts_of w.image w.stage) (waiting_of w.glk w.stage)
+    all_fields (setup_of w) (parts_of w.image w.stage) (waiting_of w.glk w.stage)
     (glk_fields w.glk) w.last
