@@ -4,8 +4,8 @@
   bench/watch.py FOLDER TABLE      until it is interrupted; TABLE is written anew every 20 seconds
 
 A piece is a crate's proof, its tests, or its edits. Seconds are those that the system counted for
-`rattle`'s processes, as they were last seen: they are looked for every half second, so that a piece may miss
-that much. Pieces that an earlier run has kept have no process, and no number."""
+`rattle`'s processes below the `rt ci` that runs in the folder, as they were last seen: they are looked for every
+half second, so that a piece may miss that much. Pieces that an earlier run has kept have no process, and no number."""
 
 import os
 import pathlib
@@ -32,12 +32,30 @@ def kind_of(words):
     return "tests" if "--test" in words else "proof"
 
 
+def parent_of(process):
+    return (process / "stat").read_text().rsplit(")", 1)[1].split()[1]
+
+
+def is_gate(process, folder):
+    words = words_of(process)
+    runs_ci = any(a.endswith("/rt") and b == "ci" for a, b in zip(words, words[1:]))
+    return runs_ci and os.readlink(process / "cwd") == folder
+
+
+def is_below_gate(process, folder):
+    while process.name != "0":
+        if is_gate(process, folder):
+            return True
+        process = process.parent / parent_of(process)
+    return False
+
+
 def look(folder, seen):
-    """Adds what stands now of the processes that prove over the libraries of the folder."""
+    """Adds what stands now of the processes that prove below the gate of the folder."""
     for process in pathlib.Path("/proc").glob("[0-9]*"):
         try:
             words = words_of(process)
-            if not words[0].endswith("/rattle") or f"{folder}/" not in " ".join(words):
+            if not words[0].endswith("/rattle") or not is_below_gate(process, folder):
                 continue
             began, seconds = spent(process)
         except (OSError, IndexError):

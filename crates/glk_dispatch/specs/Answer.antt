@@ -1,6 +1,6 @@
 -- What a call does to a session's Glk state, memory and stack (own: a fault keeps the Glk state
 -- that the call's work had reached).
-use Rattle.std.specs.Prelude.{◌≡◌, ℕ, Bool, if◌then◌else◌, List, Vec, Result, Ok, Err}
+use Rattle.std.specs.Prelude.{◌≡◌, ◌≢◌, ℕ, Bool, if◌then◌else◌, List, Vec, Result, Ok, Err}
 use Rattle.vm_memory.specs.MemoryMap.{MemoryMap}
 use Rattle.vm_memory.specs.declared.fault.Trap.{Trap}
 use Rattle.vm_memory.specs.declared.fault.Trap.TheVariants.{Fault, NoMemory}
@@ -125,3 +125,8 @@ abbrev pub UnlessNoMemory : {A : Type 0} → Result A Trap → Type 0 → Type 0
 UnlessNoMemory (Ok x) Is = Is
 UnlessNoMemory (Err (Fault n)) Is = Is
 UnlessNoMemory (Err NoMemory) Is = Unit {0}
+
+-- The call takes no memory, so it isn't refused for want of it.
+abbrev pub TakesNoMemory : {A : Type 0} → Result A Trap → Type 0
+TakesNoMemory (Ok x) = Unit {0}
+TakesNoMemory (Err trap) = trap ≢ NoMemory

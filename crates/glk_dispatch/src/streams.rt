@@ -4,7 +4,7 @@ ghost use Rattle.std.specs.Prelude.{◌≡◌, ◌≤◌, ◌<◌, ◌+◌, ◌-
 ghost use Rattle.std.specs.Prelude.{◌&&◌, slice_index};
 ghost use Rattle.glk_input.specs.Delivery as delivery;
 ghost use Rattle.glk_dispatch.specs.Answer.{Answers, Changes, Does, Gets, Makes, UnlessNoMemory};
-ghost use Rattle.glk_dispatch.specs.Answer.{glk_call};
+ghost use Rattle.glk_dispatch.specs.Answer.{TakesNoMemory, glk_call};
 ghost use Rattle.glk_dispatch.specs.Selector as selector;
 ghost use Rattle.glk_dispatch.specs.Streams as rows;
 ghost use Rattle.glk_dispatch.specs.Valid.{IsReady};
@@ -163,7 +163,8 @@ fn seek(glk: &mut Glk, stream: u32, place: u32, from: u32) -> Result<(), Trap>
 
 /// A stream's position; fault 21 where it isn't live.
 pub fn position(glk: &Glk, stream: u32) -> Result<u32, Trap>
-    ensures { Makes (rows.place_of glk.now stream) result }
+    ensures value { Makes (rows.place_of glk.now stream) result }
+    ensures refusal { TakesNoMemory result }
 {
     match glk.streams.position(stream) {
         Ok(place) => Ok(place),
@@ -182,7 +183,8 @@ fn set_current(glk: &mut Glk, stream: u32) -> Result<(), Trap>
 
 // A character of a stream, without a count.
 fn get_of_stream(glk: &mut Glk, memory: &Memory, stream: u32) -> Result<Option<u32>, Trap>
-    ensures { Answers (rows.got glk.old memory.now stream) glk.new result }
+    ensures value { Answers (rows.got glk.old memory.now stream) glk.new result }
+    ensures refusal { TakesNoMemory result }
 {
     match glk.streams.get(memory, stream) {
         Ok(code) => Ok(code),
@@ -194,6 +196,7 @@ fn get_of_stream(glk: &mut Glk, memory: &Memory, stream: u32) -> Result<Option<u
 pub fn get_code(glk: &mut Glk, memory: &Memory, stream: u32) -> Result<Option<u32>, Trap>
     ensures does { Answers (rows.got_code glk.old memory.now stream) glk.new result }
     ensures valid { UnlessNoMemory result (IsReady glk.old → IsReady glk.new) }
+    ensures refusal { TakesNoMemory result }
 {
     let code = get_of_stream(glk, memory, stream)?;
     if code.is_some() {

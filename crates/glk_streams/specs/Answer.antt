@@ -1,5 +1,5 @@
 -- What a call on streams answered and left, against what it should (own).
-use Rattle.std.specs.Prelude.{◌≡◌, Option, Some, None, Result, Ok, Err}
+use Rattle.std.specs.Prelude.{◌≡◌, ◌≢◌, Option, Some, None, Result, Ok, Err}
 use Rattle.vm_memory.specs.declared.fault.MemFault.{MemFault}
 use Rattle.glk_streams.specs.declared.fault.StreamStop.{StreamStop}
 use Rattle.glk_streams.specs.declared.fault.StreamStop.TheVariants.{Memory, BadObject, BadArgument}
@@ -60,3 +60,8 @@ abbrev pub LeavesBoth : {S T A : Type 0}
     → Result (S × T) StreamStop → S → T → Result A StreamStop → Type 0
 LeavesBoth should new also (Ok x) = should ≡ Ok (new, also)
 LeavesBoth should new also (Err e) = Refuses should e
+
+-- The call takes no memory, so it isn't refused for want of it.
+abbrev pub TakesNoMemory : {A : Type 0} → Result A StreamStop → Type 0
+TakesNoMemory (Ok x) = Unit {0}
+TakesNoMemory (Err e) = e ≢ NoMemory

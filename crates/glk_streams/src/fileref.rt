@@ -1,7 +1,7 @@
 //! File references (Glk 0.7.5, "File References").
 
 ghost use Rattle.std.specs.Prelude.{◌≡◌, IfOk, OnErr};
-ghost use Rattle.glk_streams.specs.Answer.{Answers, Gives, Leaves, Yields};
+ghost use Rattle.glk_streams.specs.Answer.{Answers, Gives, Leaves, TakesNoMemory, Yields};
 ghost use Rattle.glk_streams.specs.FileRefs as refs;
 
 use crate::fault::StreamStop;
@@ -84,6 +84,7 @@ impl Streams {
     pub fn drop_ref(&mut self, fref: u32) -> Result<(), StreamStop>
         ensures value { Leaves (refs.dropped_ref self.old fref) self.new result }
         ensures err { OnErr result (self.new ≡ self.old) }
+        ensures refusal { TakesNoMemory result }
     {
         match find(&self.refs, fref) {
             None => Err(StreamStop::BadObject),
@@ -98,6 +99,7 @@ impl Streams {
     pub fn delete_file(&mut self, fref: u32) -> Result<(), StreamStop>
         ensures value { Leaves (refs.deleted self.old fref) self.new result }
         ensures err { OnErr result (self.new ≡ self.old) }
+        ensures refusal { TakesNoMemory result }
     {
         match find(&self.refs, fref) {
             None => Err(StreamStop::BadObject),
@@ -112,6 +114,7 @@ impl Streams {
     /// Whether the reference's file is there. BadObject where the reference isn't live.
     pub fn has_file(&self, fref: u32) -> Result<bool, StreamStop>
         ensures value { Answers (refs.is_there self.now fref) result }
+        ensures refusal { TakesNoMemory result }
     {
         match find(&self.refs, fref) {
             None => Err(StreamStop::BadObject),
@@ -126,6 +129,7 @@ impl Streams {
     pub fn set_current(&mut self, stream: u32) -> Result<(), StreamStop>
         ensures value { Leaves (refs.with_current self.old stream) self.new result }
         ensures err { OnErr result (self.new ≡ self.old) }
+        ensures refusal { TakesNoMemory result }
     {
         if stream != 0 && !is_live(&self.streams, stream) {
             return Err(StreamStop::BadObject);
@@ -138,6 +142,7 @@ impl Streams {
     pub fn set_style(&mut self, stream: u32, style: u32) -> Result<(), StreamStop>
         ensures value { Leaves (refs.styled self.old stream style) self.new result }
         ensures err { OnErr result (self.new ≡ self.old) }
+        ensures refusal { TakesNoMemory result }
     {
         match find(&self.streams, stream) {
             None => Err(StreamStop::BadObject),

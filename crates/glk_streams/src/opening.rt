@@ -1,7 +1,7 @@
 //! Opening and closing of streams (Glk 0.7.5, "Streams").
 
 ghost use Rattle.std.specs.Prelude.{◌≡◌, ◌≤◌, IfOk, OnErr};
-ghost use Rattle.glk_streams.specs.Answer.{Gives, Yields};
+ghost use Rattle.glk_streams.specs.Answer.{Gives, TakesNoMemory, Yields};
 ghost use Rattle.glk_streams.specs.Opening as opening;
 
 use crate::fault::StreamStop;
@@ -160,6 +160,7 @@ impl Streams {
     pub fn close(&mut self, stream: u32) -> Result<Counts, StreamStop>
         ensures value { Gives (opening.closed self.old stream) self.new result }
         ensures err { OnErr result (self.new ≡ self.old) }
+        ensures refusal { TakesNoMemory result }
     {
         match find(&self.streams, stream) {
             None => Err(StreamStop::BadObject),

@@ -1,7 +1,7 @@
 //! Positions in streams (Glk 0.7.5, "Streams").
 
 ghost use Rattle.std.specs.Prelude.{◌≡◌, ◌≤◌, OnErr};
-ghost use Rattle.glk_streams.specs.Answer.{Answers, Leaves};
+ghost use Rattle.glk_streams.specs.Answer.{Answers, Leaves, TakesNoMemory};
 ghost use Rattle.glk_streams.specs.Position as position;
 
 use crate::fault::StreamStop;
@@ -66,6 +66,7 @@ impl Streams {
     /// BadObject where the stream isn't live.
     pub fn position(&self, stream: u32) -> Result<u32, StreamStop>
         ensures value { Answers (position.position self.now stream) result }
+        ensures refusal { TakesNoMemory result }
     {
         match find(&self.streams, stream) {
             None => Err(StreamStop::BadObject),
@@ -79,6 +80,7 @@ impl Streams {
     pub fn seek(&mut self, stream: u32, place: u32, from: u32) -> Result<(), StreamStop>
         ensures value { Leaves (position.sought self.old stream place from) self.new result }
         ensures err { OnErr result (self.new ≡ self.old) }
+        ensures refusal { TakesNoMemory result }
     {
         match find(&self.streams, stream) {
             None => Err(StreamStop::BadObject),

@@ -25,6 +25,3 @@ pub use items::Items;
 pub use laws::{begins_no_other, has_one_spelling, reads_each_spelling};
 pub use read::read_fields;
 pub use write::write_fields;
-
-#[cfg(test)]
-mod tests;

@@ -14,6 +14,3 @@ mod windows;
 
 pub use fields::{GlkFields, fields_of, glk_of};
 pub use laws::{gives_back, stands_between_turns, takes_back};
-
-#[cfg(test)]
-mod tests;

@@ -2,4 +2,8 @@
 #![tactic(auto)]
 
 #[cfg(test)]
+mod spellings;
+#[cfg(test)]
+mod states;
+#[cfg(test)]
 mod worlds;

@@ -1,7 +1,6 @@
-//! What no clause says: that there is a way to an answer where there is memory.
-
-use super::*;
-use std::test::*;
+use snap_fields::{SnapFault, Waiting, read_fields, write_fields};
+use std::alloc::{AllocError, Global};
+use std::test::{Fail, *};
 
 /// A story that has quit.
 const QUIT: [u8; 154] = [
@@ -37,9 +36,45 @@ const WAITING: [u8; 584] = [
     97, 0, 0, 0, 1, 0, 0, 0, 1, 0, 0, 0, 1, 0, 0, 0, 97, 0, 0, 0, 2, 120, 121, 0, 0, 0, 2, 46, 10,
 ];
 
+// Functions of their own, whose callers know no byte of them.
+fn quit(alloc: Global) -> Result<Vec<u8>, AllocError> {
+    Vec::from_slice(alloc, &QUIT)
+}
+
+fn waiting(alloc: Global) -> Result<Vec<u8>, AllocError> {
+    Vec::from_slice(alloc, &WAITING)
+}
+
+// The bytes with the one at this place all ones.
+fn with_ones(alloc: Global, bytes: &[u8], at: usize) -> Result<Vec<u8>, Fail> {
+    let mut changed = Vec::new(alloc);
+    for (i, byte) in bytes.iter().enumerate() {
+        changed.push(if i == at { 255 } else { *byte })?;
+    }
+    Ok(changed)
+}
+
+// Whether the bytes are refused.
+fn are_refused(alloc: Global, bytes: &[u8]) -> bool {
+    matches!(read_fields(alloc, bytes), Err(SnapFault::BadSnap))
+}
+
+// Whether they are refused, or are those of the fields that are read.
+fn are_one_to_one(alloc: Global, bytes: &[u8]) -> Result<bool, Fail> {
+    match read_fields(alloc, bytes) {
+        Ok(fields) => match write_fields(alloc, &fields)? {
+            Some(again) => Ok(again.as_slice() == bytes),
+            None => Ok(false),
+        },
+        Err(SnapFault::BadSnap) => Ok(true),
+        Err(SnapFault::NoMemory) => Ok(false),
+    }
+}
+
 #[test]
 fn a_story_that_has_quit_is_read(rt: HostRuntime) -> Result<(), Fail> {
-    let fields = read_fields(rt.alloc(), &QUIT).ok().ok_or("it is refused")?;
+    let bytes = quit(rt.alloc())?;
+    let fields = read_fields(rt.alloc(), &bytes).ok().ok_or("it is refused")?;
     assert_eq!(rt; fields.setup.seed, 1);
     assert_eq!(rt; fields.setup.budget, 50_000_000);
     assert!(rt; matches!(fields.waiting, Waiting::Quit));
@@ -50,9 +85,8 @@ fn a_story_that_has_quit_is_read(rt: HostRuntime) -> Result<(), Fail> {
 
 #[test]
 fn what_is_read_is_written_again(rt: HostRuntime) -> Result<(), Fail> {
-    let fields = read_fields(rt.alloc(), &WAITING)
-        .ok()
-        .ok_or("it is refused")?;
+    let bytes = waiting(rt.alloc())?;
+    let fields = read_fields(rt.alloc(), &bytes).ok().ok_or("it is refused")?;
     assert_eq!(rt; fields.random.taken, 13);
     assert_eq!(rt; fields.windows.as_slice().len(), 3);
     assert_eq!(rt; fields.streams.as_slice().len(), 4);
@@ -65,35 +99,27 @@ fn what_is_read_is_written_again(rt: HostRuntime) -> Result<(), Fail> {
             }
         )
     );
-    let bytes = write_fields(rt.alloc(), &fields)?.ok_or("it has no bytes")?;
-    assert_eq!(rt; bytes.as_slice(), WAITING.as_slice());
+    assert!(rt; are_one_to_one(rt.alloc(), &bytes)?);
     Ok(())
 }
 
 #[test]
-fn a_byte_short_is_refused_and_so_is_one_more(rt: HostRuntime) -> Result<(), Fail> {
-    for end in 0..WAITING.len() {
-        let read = read_fields(rt.alloc(), &WAITING[..end]);
-        assert!(rt; matches!(read, Err(SnapFault::BadSnap)));
+fn fields_short_of_a_byte_are_refused_and_so_are_longer_ones(rt: HostRuntime) -> Result<(), Fail> {
+    let mut bytes = waiting(rt.alloc())?;
+    for end in 0..bytes.len() {
+        assert!(rt; are_refused(rt.alloc(), &bytes[..end]));
     }
-    let mut more = Vec::from_slice(rt.alloc(), &WAITING)?;
-    more.push(0)?;
-    assert!(rt; matches!(read_fields(rt.alloc(), &more), Err(SnapFault::BadSnap)));
+    bytes.push(0)?;
+    assert!(rt; are_refused(rt.alloc(), &bytes));
     Ok(())
 }
 
 #[test]
-fn a_changed_byte_is_refused_or_told_again(rt: HostRuntime) -> Result<(), Fail> {
-    for at in 0..WAITING.len() {
-        let mut changed = WAITING;
-        changed[at] = 255;
-        match read_fields(rt.alloc(), &changed) {
-            Ok(fields) => {
-                let bytes = write_fields(rt.alloc(), &fields)?.ok_or("it has no bytes")?;
-                assert_eq!(rt; bytes.as_slice(), changed.as_slice());
-            }
-            Err(fault) => assert!(rt; matches!(fault, SnapFault::BadSnap)),
-        }
+fn fields_with_a_changed_byte_are_refused_or_others(rt: HostRuntime) -> Result<(), Fail> {
+    let bytes = waiting(rt.alloc())?;
+    for at in 0..bytes.len() {
+        let changed = with_ones(rt.alloc(), &bytes, at)?;
+        assert!(rt; are_one_to_one(rt.alloc(), &changed)?);
     }
     Ok(())
 }

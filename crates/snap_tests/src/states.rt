@@ -1,10 +1,8 @@
-//! What no clause says: that there is a way to an answer where there is memory.
-
-use super::*;
 use glk_dispatch::{Glk, Prompt};
 use snap_fields::{Area, Content, File, FileRef, Items, Numbers, Request, Stream, Target, Window};
+use snap_glk::{GlkFields, fields_of, glk_of};
 use std::alloc::{AllocError, Global};
-use std::test::*;
+use std::test::{Fail, *};
 
 const NO_PROMPT: Prompt = Prompt {
     usage: 0,
