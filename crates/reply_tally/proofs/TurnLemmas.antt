@@ -1,6 +1,5 @@
 -- Each show of a session is one that was written, or the line of a closed session.
-use Rattle.std.proofs.Common.{ℕ, Bool, true, false, cond, List, [], ◌∷◌, ◌++◌, Option, Some, None}
-use Rattle.std.specs.Prelude.{codes}
+use Rattle.std.proofs.Common.{ℕ, Bool, true, false, cond, List, [], ◌∷◌, Option, Some, None}
 use Rattle.std.specs.List.{filter_map}
 use Rattle.glk_input.specs.declared.input.Input.{Input}
 use Rattle.glk_dispatch.specs.Glk.{fresh}
@@ -21,7 +20,8 @@ use Rattle.story_run.specs.declared.setup.Setup.{Setup}
 use Rattle.story_run.specs.declared.stage.Stage.{Stage}
 use Rattle.story_run.specs.declared.stage.Stage.TheVariants.{AtSelect, AtPrompt, Quit, Fault}
 use Rattle.story_run.specs.declared.story.Story.{Story}
-use Rattle.session_core.specs.Answer.{show_in, show_of, refusal_of, decided, answer}
+use Rattle.session_core.specs.Answer.{show_in, show_of, show_while, refusal_of, decided, extended}
+use Rattle.session_core.specs.Answer.{answer}
 use Rattle.session_core.specs.History.{story_at, game_of, is_in_use, input_of, world_in, world_of}
 use Rattle.session_core.specs.Sessions.{with_budget}
 use Rattle.session_core.specs.Turning.{commands_in, decided_by, decision_on, turn_met, turn_of}
@@ -94,24 +94,24 @@ world_of_lines stories (commands.Close ∷ after) = are_none
 show_lines : (stories : List Story) (game : List Command) → AreShowLines (show_of stories game)
 unfolding show_of
 show_lines stories game = either (is_in_use game) where
-  either : (used : Bool)
-      → AreShowLines (cond used (show_in (world_of stories game)) (codes "E closed" ++ 10 ∷ []))
+  either : (used : Bool) → AreShowLines (show_while used (world_of stories game))
   either true = world_of_lines stories game
   either false = closed_lines
 
 -- ---- replies
 
-decided_lines : (stories : List Story) (history game : List Command) (request : Request)
+decided_lines : (stories : List Story) (history : List Command) (request : Request)
     (refusal : Option No)
-    → HasShowLines (decided stories history game request refusal).reply
-decided_lines stories history game request (Some why) = tt
-decided_lines stories history game request None = show_lines stories _
+    → HasShowLines (decided stories (game_of history)
+    (λ accepted. show_of stories (game_of (extended history accepted))) request refusal).reply
+decided_lines stories history request (Some why) = tt
+decided_lines stories history request None = show_lines stories _
 
 answer_lines : (stories : List Story) (history : List Command) (request : Request)
     → HasShowLines (answer stories history request).reply
 unfolding answer
 answer_lines stories history request =
-    decided_lines stories history (game_of history) request
+    decided_lines stories history request
     (refusal_of stories history (game_of history) request)
 
 decision_lines : (stories : List Story) (budget : ℕ) (history : List Command) (line : List ℕ)
@@ -119,7 +119,8 @@ decision_lines : (stories : List Story) (budget : ℕ) (history : List Command) 
 unfolding decision_on
 decision_lines stories budget history line = read (request_of line) where
   read : (request : Option Request)
-      → HasShowLines (decided_by stories budget history line request).reply
+      → HasShowLines (decided_by
+      (λ request. answer stories history (with_budget budget request)) line request).reply
   read (Some request) = answer_lines stories history (with_budget budget request)
   read None = tt
 

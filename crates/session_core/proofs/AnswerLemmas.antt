@@ -1,5 +1,5 @@
 -- The first check that holds, and the world after one command more.
-use Rattle.std.proofs.Common.{◌≡◌, ℕ, ◌<◌, Bool, true, false, ◌&&◌, nat_le, cond, length, List, [], ◌∷◌, ◌++◌, Option, Some, None, IfSome, refl, sym, ◌∙◌, arith}
+use Rattle.std.proofs.Common.{◌≡◌, ℕ, ◌<◌, Bool, true, false, ◌&&◌, nat_le, cond, length, List, [], ◌∷◌, ◌++◌, Option, Some, None, IfSome, refl, ap, sym, ◌∙◌, arith}
 use Rattle.std.proofs.lemmas.Bool.Decides.{nat_tests}
 use Rattle.std.specs.List.{filter_map}
 use Rattle.glk_input.specs.declared.input.Input.{Input}
@@ -10,9 +10,9 @@ use Rattle.line_words.specs.declared.reply.No.TheVariants.{Full}
 use Rattle.line_words.specs.declared.request.Request.{Request}
 use Rattle.story_run.specs.declared.story.Story.{Story}
 use Rattle.story_run.specs.Solo.{is_wanted, turned, turned_by}
-use Rattle.session_core.specs.History.{input_of, turned_on}
+use Rattle.session_core.specs.History.{input_of, turned_on, world_of}
 use Rattle.session_core.specs.Checks.{command_of, is_fresh, is_full}
-use Rattle.session_core.specs.Answer.{first_of, plain_checks, story_checks, refusal_of, accepted_by}
+use Rattle.session_core.specs.Answer.{first_of, plain_checks, story_checks, refusal_in, refusal_of, accepted_by}
 
 pub first_of-append-some : (xs ys : List (Bool × No)) (why : No) → first_of xs ≡ Some why → first_of (xs ++ ys) ≡ Some why
 first_of-append-some [] ys why e = absurd cc
@@ -38,18 +38,38 @@ pub turned_on-unwanted : (world : WorldState) (input : Input) (given : Option In
 unfolding turned
 turned_on-unwanted world input given e unwanted = rw (e, unwanted) refl
 
+pub turned_by-more : (w : WorldState) (cs : List Command) (c : Command)
+    → turned_by w (filter_map input_of (cs ++ c ∷ [])) ≡ turned_on (turned_by w (filter_map input_of cs)) (input_of c)
+turned_by-more w [] c = turned_by-command w c []
+turned_by-more w (d ∷ ds) c =
+    turned_by-command w d (ds ++ c ∷ [])
+    ∙ turned_by-more (turned_on w (input_of d)) ds c
+    ∙ ap (λ (x : WorldState). turned_on x (input_of c)) (sym (turned_by-command w d ds))
+
+-- a check without the world refuses whatever the world is
+pub refusal_in-plain : (now : Option WorldState) (stories : List Story) (history game : List Command) (request : Request) (why : No)
+    → first_of (plain_checks stories game request) ≡ Some why → Some why ≡ refusal_in now stories history game request
+unfolding refusal_in
+refusal_in-plain now stories history game request why e =
+    sym (first_of-append-some (plain_checks stories game request) (story_checks now stories game request ++ (is_full history game request, Full) ∷ []) why e)
+
+pub refusal_in-story : (now : Option WorldState) (stories : List Story) (history game : List Command) (request : Request) (why : No)
+    → first_of (plain_checks stories game request) ≡ None → first_of (story_checks now stories game request) ≡ Some why → Some why ≡ refusal_in now stories history game request
+unfolding refusal_in
+refusal_in-story now stories history game request why none e =
+    sym (first_of-append-none (plain_checks stories game request) (story_checks now stories game request ++ (is_full history game request, Full) ∷ []) none
+    ∙ first_of-append-some (story_checks now stories game request) ((is_full history game request, Full) ∷ []) why e)
+
 pub refusal_of-plain : (stories : List Story) (history game : List Command) (request : Request) (why : No)
     → first_of (plain_checks stories game request) ≡ Some why → Some why ≡ refusal_of stories history game request
 unfolding refusal_of
-refusal_of-plain stories history game request why e =
-    sym (first_of-append-some (plain_checks stories game request) (story_checks stories game request ++ (is_full history game request, Full) ∷ []) why e)
+refusal_of-plain stories history game request why e = refusal_in-plain (world_of stories game) stories history game request why e
 
 pub refusal_of-story : (stories : List Story) (history game : List Command) (request : Request) (why : No)
-    → first_of (plain_checks stories game request) ≡ None → first_of (story_checks stories game request) ≡ Some why → Some why ≡ refusal_of stories history game request
+    → first_of (plain_checks stories game request) ≡ None → first_of (story_checks (world_of stories game) stories game request) ≡ Some why
+    → Some why ≡ refusal_of stories history game request
 unfolding refusal_of
-refusal_of-story stories history game request why none e =
-    sym (first_of-append-none (plain_checks stories game request) (story_checks stories game request ++ (is_full history game request, Full) ∷ []) none
-    ∙ first_of-append-some (story_checks stories game request) ((is_full history game request, Full) ∷ []) why e)
+refusal_of-story stories history game request why none e = refusal_in-story (world_of stories game) stories history game request why none e
 
 -- no check of a list holds, so none of its end does
 first_of-end : (xs ys : List (Bool × No)) → first_of (xs ++ ys) ≡ None → first_of ys ≡ None
@@ -70,11 +90,17 @@ fresh_has_room true many asked e = if_accepted many asked (grind (arith, nat_tes
 fresh_has_room false many asked e = tt
 
 -- a command is accepted only by a history that isn't full
-pub accepted_has_room : (stories : List Story) (history game : List Command) (request : Request) (accepted : Option Command)
-    → refusal_of stories history game request ≡ None → accepted ≡ accepted_by stories game request → IfSome accepted (λ _. length history < 8192)
-unfolding refusal_of accepted_by
-accepted_has_room stories history game request accepted none same =
-    let past = first_of-end (plain_checks stories game request) (story_checks stories game request ++ (is_full history game request, Full) ∷ []) none in
-    let full = first_of-end (story_checks stories game request) ((is_full history game request, Full) ∷ []) past in
+pub accepted_has_room_in : (now : Option WorldState) (stories : List Story) (history game : List Command) (request : Request) (accepted : Option Command)
+    → refusal_in now stories history game request ≡ None → accepted ≡ accepted_by stories game request → IfSome accepted (λ _. length history < 8192)
+unfolding refusal_in accepted_by
+accepted_has_room_in now stories history game request accepted none same =
+    let past = first_of-end (plain_checks stories game request) (story_checks now stories game request ++ (is_full history game request, Full) ∷ []) none in
+    let full = first_of-end (story_checks now stories game request) ((is_full history game request, Full) ∷ []) past in
     let fails = last_fails (is_full history game request) Full full in
     rw same (fresh_has_room (is_fresh game request) (length history) (command_of stories request) fails)
+
+pub accepted_has_room : (stories : List Story) (history game : List Command) (request : Request) (accepted : Option Command)
+    → refusal_of stories history game request ≡ None → accepted ≡ accepted_by stories game request → IfSome accepted (λ _. length history < 8192)
+unfolding refusal_of
+accepted_has_room stories history game request accepted none same =
+    accepted_has_room_in (world_of stories game) stories history game request accepted none same

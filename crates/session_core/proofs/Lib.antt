@@ -3,3 +3,4 @@ pub mod AnswerLemmas
 pub mod IsolationLemmas
 pub mod RepeatLemmas
 pub mod TurningLemmas
+pub mod WorldLemmas

@@ -12,9 +12,10 @@ use Rattle.line_words.specs.declared.reply.No.{No}
 use Rattle.line_words.specs.declared.reply.Reply.TheVariants as replies
 use Rattle.story_run.specs.declared.story.Story.{Story}
 use Rattle.session_core.specs.declared.decision.Decision.{Decision}
-use Rattle.session_core.specs.History.{is_open, later, game_of, count, last_of, is_in_use, story_at}
+use Rattle.story_run.specs.World.{WorldState}
+use Rattle.session_core.specs.History.{is_open, later, game_of, count, last_of, is_in_use, story_at, world_of}
 use Rattle.session_core.specs.Checks.{session_of, command_of, opened, is_fresh, is_absent, is_taken, is_missing, is_changed, is_early, is_different, is_ahead}
-use Rattle.session_core.specs.Answer.{first_of, checks, refusal_of, accepted_by, show_of, shown_number, show_reply, decided, answer}
+use Rattle.session_core.specs.Answer.{first_of, checks, refusal_in, refusal_of, accepted_by, extended, show_of, show_with, shown_number, show_reply, decided, answer, answer_in}
 use Rattle.session_core.specs.Repeats.{again}
 
 -- ---- the game after a command
@@ -70,10 +71,10 @@ all_fail [] e = tt
 all_fail ((true, why) ∷ more) e = absurd cc
 all_fail ((false, why) ∷ more) e = (refl, all_fail more e)
 
-accepted_none : (stories : List Story) (history game : List Command) (request : Request) (refusal : Option No) (command : Command)
-    → (decided stories history game request refusal).accepted ≡ Some command → (refusal ≡ None) × (accepted_by stories game request ≡ Some command)
-accepted_none stories history game request (Some why) command e = absurd cc
-accepted_none stories history game request None command e = (refl, e)
+accepted_none : (stories : List Story) (game : List Command) (show : Option Command → List ℕ) (request : Request) (refusal : Option No) (command : Command)
+    → (decided stories game show request refusal).accepted ≡ Some command → (refusal ≡ None) × (accepted_by stories game request ≡ Some command)
+accepted_none stories game show request (Some why) command e = absurd cc
+accepted_none stories game show request None command e = (refl, e)
 
 pub chosen : (fresh : Bool) (asked : Option Command) (command : Command) → cond fresh asked None ≡ Some command → (fresh ≡ true) × (asked ≡ Some command)
 chosen true asked command e = (refl, e)
@@ -81,12 +82,13 @@ chosen false asked command e = absurd cc
 
 passed : (stories : List Story) (history : List Command) (request : Request) (command : Command) → (answer stories history request).accepted ≡ Some command
     → Passed stories history request command
-unfolding answer refusal_of accepted_by
+unfolding answer refusal_of refusal_in accepted_by
 passed stories history request command e =
     let game = game_of history in
-    let parts = accepted_none stories history game request (refusal_of stories history game request) command e in
+    let show : Option Command → List ℕ = λ accepted. show_of stories (game_of (extended history accepted)) in
+    let parts = accepted_none stories game show request (refusal_of stories history game request) command e in
     let taken = chosen (is_fresh game request) (command_of stories request) command parts.1 in
-    let fails = all_fail (checks stories history game request) parts.0 in
+    let fails = all_fail (checks (world_of stories game) stories history game request) parts.0 in
     record { present = fails.0; unchanged = fails.1.1.1.0; fresh = taken.0; asked = taken.1; told = parts.0 }
 
 -- ---- no check holds of the same request then
@@ -102,7 +104,7 @@ record Passes (stories : List Story) (game : List Command) (request : Request) :
   pub stale : is_fresh game request ≡ false
 
 none_holds : (stories : List Story) (history game : List Command) (request : Request) → Passes stories game request → refusal_of stories history game request ≡ None
-unfolding refusal_of
+unfolding refusal_of refusal_in
 none_holds stories history game request p =
     rw (p.present, p.taken, p.missing, p.changed, p.early, p.different, p.ahead, p.stale) refl
 
@@ -115,16 +117,27 @@ taken-some : (stories : List Story) (game : List Command) (request : Request) (c
 unfolding accepted_by
 taken-some stories game request command f e = rw (f, e) refl
 
-decided-none : (stories : List Story) (history game : List Command) (request : Request) (refusal : Option No) (accepted : Option Command) → refusal ≡ None → accepted_by stories game request ≡ accepted
-    → decided stories history game request refusal ≡ record { reply = show_reply stories history game accepted request; accepted = accepted }
-decided-none stories history game request refusal accepted e a = rw (e, a) refl
+decided-none : (stories : List Story) (game : List Command) (show : Option Command → List ℕ) (request : Request) (refusal : Option No) (accepted : Option Command)
+    → refusal ≡ None → accepted_by stories game request ≡ accepted
+    → decided stories game show request refusal ≡ record { reply = show_reply game (show accepted) request; accepted = accepted }
+decided-none stories game show request refusal accepted e a = rw (e, a) refl
 
 pub answer-none : (stories : List Story) (history : List Command) (request : Request) (accepted : Option Command)
     → refusal_of stories history (game_of history) request ≡ None → accepted_by stories (game_of history) request ≡ accepted
-    → answer stories history request ≡ record { reply = show_reply stories history (game_of history) accepted request; accepted = accepted }
+    → answer stories history request
+    ≡ record { reply = show_reply (game_of history) (show_of stories (game_of (extended history accepted))) request; accepted = accepted }
 unfolding answer
 answer-none stories history request accepted e a =
-    decided-none stories history (game_of history) request (refusal_of stories history (game_of history) request) accepted e a
+    decided-none stories (game_of history) (λ taken. show_of stories (game_of (extended history taken))) request
+    (refusal_of stories history (game_of history) request) accepted e a
+
+pub answer_in-none : (stories : List Story) (history : List Command) (now : Option WorldState) (request : Request) (accepted : Option Command)
+    → refusal_in now stories history (game_of history) request ≡ None → accepted_by stories (game_of history) request ≡ accepted
+    → answer_in stories history now request
+    ≡ record { reply = show_reply (game_of history) (show_with stories history now accepted) request; accepted = accepted }
+unfolding answer_in
+answer_in-none stories history now request accepted e a =
+    decided-none stories (game_of history) (show_with stories history now) request (refusal_in now stories history (game_of history) request) accepted e a
 
 pub some_is : (x y : Command) → Some x ≡ Some y → x ≡ y
 some_is x y e = cc

@@ -3,11 +3,12 @@ use Rattle.std.proofs.Common.{ℕ, List, Option, Some, None, refl, inl, inr}
 use Rattle.gate_journal.specs.declared.command.Command.{Command}
 use Rattle.line_words.specs.declared.reply.Reply.{Reply}
 use Rattle.story_run.specs.declared.story.Story.{Story}
+use Rattle.story_run.specs.World.{WorldState}
 use Rattle.session_core.specs.declared.entry.Entry.{Entry}
 use Rattle.session_core.specs.declared.entry.Entry.TheVariants.{Accepted, Faulted}
 use Rattle.session_core.specs.declared.entry.Outcome.{Outcome}
 use Rattle.session_core.specs.declared.entry.Outcome.TheVariants.{Answered, DiskFailed, OutOfMemory, Forgotten}
-use Rattle.session_core.specs.Turning.{AddsTo, commands_in, decision_on, turn_met, turn_of}
+use Rattle.session_core.specs.Turning.{AddsTo, commands_in, decision_in, decision_on, turn_in, turn_met, turn_of}
 
 -- whatever is decided and met, a turn adds nothing, or one entry of its number
 pub met_adds : (h : List Entry) (by : ℕ) (reply : Reply) (accepted : Option Command) (outcome : Outcome)
@@ -26,3 +27,9 @@ pub turn_adds : (stories : List Story) (budget : ℕ) (h : List Entry) (by : ℕ
 unfolding turn_of
 turn_adds stories budget h by line outcome =
     met_adds h by (decision_on stories budget (commands_in h) line).reply (decision_on stories budget (commands_in h) line).accepted outcome
+
+pub turn_in_adds : (stories : List Story) (budget : ℕ) (h : List Entry) (now : Option WorldState) (by : ℕ) (line : List ℕ) (outcome : Outcome)
+    → AddsTo h by (turn_in stories budget h now by line outcome).history
+unfolding turn_in
+turn_in_adds stories budget h now by line outcome =
+    met_adds h by (decision_in stories budget (commands_in h) now line).reply (decision_in stories budget (commands_in h) now line).accepted outcome

@@ -1,7 +1,9 @@
 -- The reply to a request, and the command that it makes a session accept (own).
-use Rattle.std.specs.Prelude.{ℕ, Bool, if◌then◌else◌, List, [], ◌∷◌, ◌++◌, Option}
+use Rattle.std.specs.Prelude.{ℕ, Bool, true, false, if◌then◌else◌, List, [], ◌∷◌, ◌++◌, Option}
 use Rattle.std.specs.Prelude.{Some, None, codes}
+use Rattle.glk_input.specs.declared.input.Input.{Input}
 use Rattle.gate_journal.specs.declared.command.Command.{Command}
+use Rattle.gate_journal.specs.declared.command.Command.TheVariants as commands
 use Rattle.line_words.specs.declared.request.Request.{Request}
 use Rattle.line_words.specs.declared.request.Request.TheVariants.{Open, Line, Char, File, Last}
 use Rattle.line_words.specs.declared.request.Request.TheVariants.{Close}
@@ -13,7 +15,7 @@ use Rattle.story_run.specs.declared.story.Story.{Story}
 use Rattle.story_run.specs.World.{WorldState}
 use Rattle.story_run.specs.Solo.{shown}
 use Rattle.session_core.specs.declared.decision.Decision.{Decision}
-use Rattle.session_core.specs.History.{game_of, count, is_in_use, world_of}
+use Rattle.session_core.specs.History.{game_of, count, input_of, is_in_use, turned_on, world_of}
 use Rattle.session_core.specs.Checks.{session_of, command_of, is_fresh, is_absent, is_taken}
 use Rattle.session_core.specs.Checks.{is_missing, is_changed, is_early, is_different, is_ahead}
 use Rattle.session_core.specs.Checks.{comes_late, is_unwanted, is_full}
@@ -35,22 +37,32 @@ plain_checks stories game request =
     ∷ (is_ahead game request, no.Early (count game))
     ∷ []
 
--- those by the story's world, behind them
-abbrev pub story_checks : List Story → List Command → Request → List (Bool × No)
-story_checks stories game request =
-    (comes_late stories game request, no.Over)
-    ∷ (is_unwanted stories game request, no.Unwanted)
+-- those by the session's world, behind them
+abbrev pub story_checks :
+    Option WorldState → List Story → List Command → Request → List (Bool × No)
+story_checks now stories game request =
+    (comes_late now stories game request, no.Over)
+    ∷ (is_unwanted now stories game request, no.Unwanted)
     ∷ []
 
 -- all checks in their order
-abbrev pub checks : List Story → List Command → List Command → Request → List (Bool × No)
-checks stories history game request =
+abbrev pub checks :
+    Option WorldState → List Story → List Command → List Command → Request
+    → List (Bool × No)
+checks now stories history game request =
     plain_checks stories game request
-    ++ (story_checks stories game request ++ (is_full history game request, no.Full) ∷ [])
+    ++ (story_checks now stories game request ++ (is_full history game request, no.Full) ∷ [])
 
--- why a request is refused, if it is
+-- why a session whose world is `now` refuses a request, if it does
+unfoldable pub refusal_in :
+    Option WorldState → List Story → List Command → List Command → Request → Option No
+refusal_in now stories history game request =
+    first_of (checks now stories history game request)
+
+-- the same, by the world that the game has come to
 unfoldable pub refusal_of : List Story → List Command → List Command → Request → Option No
-refusal_of stories history game request = first_of (checks stories history game request)
+refusal_of stories history game request =
+    refusal_in (world_of stories game) stories history game request
 
 -- the command that is accepted where the request isn't refused
 unfoldable pub accepted_by : List Story → List Command → Request → Option Command
@@ -67,10 +79,40 @@ abbrev pub show_in : Option WorldState → List ℕ
 show_in (Some world) = shown world
 show_in None = []
 
--- the show of a game: what its world shows, or the line of a session that was closed
+-- the show of a session: what its world shows while it is in use, then the line of a session that
+-- was closed
+abbrev pub show_while : Bool → Option WorldState → List ℕ
+show_while true now = show_in now
+show_while false now = codes "E closed" ++ 10 ∷ []
+
+-- the show of a game, by the world that it has come to
 unfoldable pub show_of : List Story → List Command → List ℕ
-show_of stories game =
-    if is_in_use game then show_in (world_of stories game) else codes "E closed" ++ 10 ∷ []
+show_of stories game = show_while (is_in_use game) (world_of stories game)
+
+-- a session's world, if there is one, after what a command gives its story
+abbrev pub turned_in : Option WorldState → Option Input → Option WorldState
+turned_in (Some world) input = Some (turned_on world input)
+turned_in None input = None
+
+-- the world that a session comes to with an accepted command: OPEN begins its story, CLOSE leaves
+-- none, an input turns the world
+abbrev pub world_with : List Story → Option WorldState → Command → Option WorldState
+world_with stories now (commands.Open key story digest seed cols rows budget) =
+    world_of stories (commands.Open key story digest seed cols rows budget ∷ [])
+world_with stories now commands.Close = None
+world_with stories now command = turned_in now (input_of command)
+
+-- the same with the accepted command, if there is one
+abbrev pub world_then : List Story → Option WorldState → Option Command → Option WorldState
+world_then stories now None = now
+world_then stories now (Some command) = world_with stories now command
+
+-- the show that a session then has, by its world and the accepted command, if any
+abbrev pub show_with :
+    List Story → List Command → Option WorldState → Option Command → List ℕ
+show_with stories history now accepted =
+    show_while (is_in_use (game_of (extended history accepted)))
+    (world_then stories now accepted)
 
 -- the number in a show: 0 for OPEN, that of the last command for LAST, else the request's own
 abbrev pub shown_number : List Command → Request → ℕ
@@ -81,26 +123,34 @@ shown_number game (File s key n name) = n
 shown_number game (Last s key) = count game
 shown_number game (Close s key n) = n
 
--- the reply of a request that isn't refused: the show that the session then has
-abbrev pub show_reply : List Story → List Command → List Command → Option Command → Request
-    → Reply
-show_reply stories history game accepted request =
-    replies.Show (session_of request) (shown_number game request)
-    (show_of stories (game_of (extended history accepted)))
+-- the reply to a request that isn't refused
+abbrev pub show_reply : List Command → List ℕ → Request → Reply
+show_reply game show request =
+    replies.Show (session_of request) (shown_number game request) show
 
--- the reply and the accepted command, by the refusal if there is one
-abbrev pub decided : List Story → List Command → List Command → Request → Option No
+-- the reply and the accepted command, by the show that the session then has and by the refusal, if
+-- there is one
+abbrev pub decided :
+    List Story → List Command → (Option Command → List ℕ) → Request → Option No
     → Decision
-decided stories history game request (Some why) =
+decided stories game show request (Some why) =
     record { reply = replies.No why; accepted = None }
-decided stories history game request None =
+decided stories game show request None =
     record {
-      reply = show_reply stories history game (accepted_by stories game request) request;
+      reply = show_reply game (show (accepted_by stories game request)) request;
       accepted = accepted_by stories game request;
     }
 
 -- what a session with this history answers to a request, and the command that it accepts
 unfoldable pub answer : List Story → List Command → Request → Decision
 answer stories history request =
-    decided stories history (game_of history) request
+    decided stories (game_of history)
+    (λ accepted. show_of stories (game_of (extended history accepted))) request
     (refusal_of stories history (game_of history) request)
+
+-- the same of a session whose world is `now`, whatever its history is
+unfoldable pub answer_in :
+    List Story → List Command → Option WorldState → Request → Decision
+answer_in stories history now request =
+    decided stories (game_of history) (show_with stories history now) request
+    (refusal_in now stories history (game_of history) request)

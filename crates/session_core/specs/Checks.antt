@@ -13,7 +13,6 @@ use Rattle.story_run.specs.declared.story.Story.{Story}
 use Rattle.story_run.specs.World.{WorldState}
 use Rattle.story_run.specs.Solo.{is_over, is_wanted}
 use Rattle.session_core.specs.History.{story_at, count, last_of, is_in_use, has_key, input_of}
-use Rattle.session_core.specs.History.{world_of}
 
 -- a request's session
 abbrev pub session_of : Request → ℕ
@@ -148,25 +147,23 @@ abbrev pub given : Option Command → Option Input
 given (Some command) = input_of command
 given None = None
 
--- NO 9: a new input, and the story is over
+-- NO 9: a new input, and the story is over. The session's world is `now`.
 abbrev pub over_in : Option WorldState → Option Input → Bool
 over_in (Some world) (Some input) = is_over world
 over_in _ _ = false
 
-abbrev pub comes_late : List Story → List Command → Request → Bool
-comes_late stories game request =
-    is_fresh game request
-    && over_in (world_of stories game) (given (command_of stories request))
+abbrev pub comes_late : Option WorldState → List Story → List Command → Request → Bool
+comes_late now stories game request =
+    is_fresh game request && over_in now (given (command_of stories request))
 
 -- NO 8: a new input that the story doesn't wait for
 abbrev pub unwanted_in : Option WorldState → Option Input → Bool
 unwanted_in (Some world) (Some input) = not (is_wanted world input)
 unwanted_in _ _ = false
 
-abbrev pub is_unwanted : List Story → List Command → Request → Bool
-is_unwanted stories game request =
-    is_fresh game request
-    && unwanted_in (world_of stories game) (given (command_of stories request))
+abbrev pub is_unwanted : Option WorldState → List Story → List Command → Request → Bool
+is_unwanted now stories game request =
+    is_fresh game request && unwanted_in now (given (command_of stories request))
 
 -- NO 10: a new command, and the session number has accepted 8,192
 abbrev pub is_full : List Command → List Command → Request → Bool

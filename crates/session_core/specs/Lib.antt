@@ -7,3 +7,4 @@ pub mod Turning
 pub mod Hosts
 pub mod Isolation
 pub mod Repeats
+pub mod Worlds

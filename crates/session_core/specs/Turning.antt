@@ -9,13 +9,14 @@ use Rattle.line_words.specs.declared.reply.No.TheVariants.{BadLine, LongLine, Di
 use Rattle.line_words.specs.declared.reply.Reply.{Reply}
 use Rattle.line_words.specs.declared.reply.Reply.TheVariants.{No}
 use Rattle.story_run.specs.declared.story.Story.{Story}
+use Rattle.story_run.specs.World.{WorldState}
 use Rattle.session_core.specs.declared.decision.Decision.{Decision}
 use Rattle.session_core.specs.declared.entry.Entry.{Entry}
 use Rattle.session_core.specs.declared.entry.Entry.TheVariants.{Accepted, Faulted}
 use Rattle.session_core.specs.declared.entry.Outcome.{Outcome}
 use Rattle.session_core.specs.declared.entry.Outcome.TheVariants.{Answered, DiskFailed}
 use Rattle.session_core.specs.declared.entry.Outcome.TheVariants.{OutOfMemory, Forgotten}
-use Rattle.session_core.specs.Answer.{answer}
+use Rattle.session_core.specs.Answer.{answer, answer_in}
 use Rattle.session_core.specs.Sessions.{with_budget}
 
 -- the number of the pass that made an entry
@@ -34,18 +35,24 @@ commands_in [] = []
 commands_in (Accepted by command ∷ entries) = command ∷ commands_in entries
 commands_in (Faulted by from to ∷ entries) = commands_in entries
 
--- what a session with these commands answers to what a line spells, where it spells a request
-abbrev pub decided_by : List Story → ℕ → List Command → List ℕ → Option Request
-    → Decision
-decided_by stories budget commands line (Some request) =
-    answer stories commands (with_budget budget request)
-decided_by stories budget commands line None =
+-- the decision on a line, by what it spells and by what is answered to a request
+abbrev pub decided_by : (Request → Decision) → List ℕ → Option Request → Decision
+decided_by answered line (Some request) = answered request
+decided_by answered line None =
     record { reply = No (if is_long line then LongLine else BadLine); accepted = None }
 
--- what it answers to a line, and the command that it accepts
+-- what a session with these commands answers to a line, and the command that it accepts
 unfoldable pub decision_on : List Story → ℕ → List Command → List ℕ → Decision
 decision_on stories budget commands line =
-    decided_by stories budget commands line (request_of line)
+    decided_by (λ request. answer stories commands (with_budget budget request)) line
+    (request_of line)
+
+-- the same of a session whose world is `now`
+unfoldable pub decision_in :
+    List Story → ℕ → List Command → Option WorldState → List ℕ → Decision
+decision_in stories budget commands now line =
+    decided_by (λ request. answer_in stories commands now (with_budget budget request)) line
+    (request_of line)
 
 -- the reply of a turn, and the history behind it
 pub record Turned : Type 0 where
@@ -68,6 +75,13 @@ unfoldable pub turn_of : List Story → ℕ → List Entry → ℕ → List ℕ 
 turn_of stories budget history by line outcome =
     turn_met history by (decision_on stories budget (commands_in history) line).reply
     (decision_on stories budget (commands_in history) line).accepted outcome
+
+-- the same of a session whose world is `now`
+unfoldable pub turn_in :
+    List Story → ℕ → List Entry → Option WorldState → ℕ → List ℕ → Outcome → Turned
+turn_in stories budget history now by line outcome =
+    turn_met history by (decision_in stories budget (commands_in history) now line).reply
+    (decision_in stories budget (commands_in history) now line).accepted outcome
 
 -- what a turn may meet: where no command is accepted, nothing is written, so no disk fails in it
 abbrev pub MayMeet : Option Command → Outcome → Type 0

@@ -1,7 +1,7 @@
 //! The reply to a request, and the command that it makes a session accept (own).
 
 ghost use Rattle.std.specs.Prelude.{◌≡◌, ◌≤◌, ◌<◌, length, IfOk, IfSome};
-ghost use Rattle.session_core.specs.History.{game_of};
+ghost use Rattle.session_core.specs.History.{game_of, world_of};
 ghost use Rattle.session_core.specs.Checks.{command_of, session_of};
 ghost use Rattle.session_core.specs.Answer.{answer, first_of, plain_checks, story_checks};
 ghost use Rattle.session_core.specs.Answer.{refusal_of, accepted_by, extended, show_of};
@@ -90,7 +90,8 @@ fn story_refusal(
 ) -> Result<Option<No>, AllocError>
     requires { length game.now ≤ 8192 }
     ensures { IfOk result (λ why. why
-        ≡ first_of (story_checks stories.now game.now request.now)) }
+        ≡ first_of (story_checks (world_of stories.now game.now) stories.now game.now
+        request.now)) }
 {
     if !is_fresh(game, request) {
         return Ok(None);
@@ -143,7 +144,7 @@ pub fn plain_refusal(stories: &[Story], game: &[Command], request: &Request) -> 
 }
 
 /// Why the request is refused, if it is.
-#[tactic(auto, unfolding(crate::specs::Answer::refusal_of))]
+#[tactic(auto, unfolding(crate::specs::Answer::refusal_of, crate::specs::Answer::refusal_in))]
 fn refusal_of(
     alloc: Global,
     stories: &[Story],
