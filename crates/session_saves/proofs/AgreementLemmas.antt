@@ -22,7 +22,7 @@ use Rattle.session_saves.proofs.GameLemmas.{world_at-more}
 
 -- ---- the last row
 
-last-append : (o : Option ℕ) (rows : List ℕ) (place : ℕ)
+pub last-append : (o : Option ℕ) (rows : List ℕ) (place : ℕ)
     → last_or o (rows ++ place ∷ []) ≡ Some place
 last-append o [] place = refl
 last-append o (row ∷ rows) place = last-append (Some row) rows place
@@ -45,7 +45,7 @@ last_there o (row ∷ rows) place e =
 not_some : (place : ℕ) → None ≡ Some place → ⊥
 not_some place e = cc
 
-last_contained : (rows : List ℕ) (place : ℕ) → last_row rows ≡ Some place → Contains rows place
+pub last_contained : (rows : List ℕ) (place : ℕ) → last_row rows ≡ Some place → Contains rows place
 last_contained rows place e =
     elim (last_there None rows place e) [
       | inl none ↦ absurd (not_some place none)

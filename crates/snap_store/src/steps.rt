@@ -78,8 +78,8 @@ fn open_gate<D: Disk>(disk: &mut D, side: Side) -> Result<(), Failed>
     write_through(disk, side.gate(), &[1])
 }
 
-// The sixteen bytes with which an area starts.
-fn head_bytes(place: u64, count: u32, length: u32) -> [u8; 16]
+/// The sixteen bytes with which an area starts.
+pub fn head_bytes(place: u64, count: u32, length: u32) -> [u8; 16]
     ensures { result ≡ head_bytes place count length }
 {
     let mut bytes = [0; 16];
