@@ -1,0 +1,9 @@
+pub mod ImageLemmas
+pub mod SteadyLemmas
+pub mod AreaLemmas
+pub mod KnownLemmas
+pub mod NewestLemmas
+pub mod FollowLemmas
+pub mod SessionLemmas
+pub mod RowLemmas
+mod StandardFacts

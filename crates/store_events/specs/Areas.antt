@@ -1,0 +1,35 @@
+-- What is so of each area that may open (own).
+use Rattle.std.specs.Prelude.{◌≡◌, ℕ, List, Option, Some, None, IfSome}
+use Rattle.snap_store.specs.declared.side.Side.{Side}
+use Rattle.snap_store.specs.File.{Stored, openable_area}
+use Rattle.snap_store.specs.Store.{area_of}
+use Rattle.store_events.specs.declared.event.Event.{Event}
+use Rattle.store_events.specs.declared.event.Event.TheVariants.{Keep, Call, Stop, Recover}
+use Rattle.store_events.specs.declared.state.Step.{Step}
+use Rattle.store_events.specs.declared.state.Step.TheVariants.{Idle, Put, Opening}
+use Rattle.store_events.specs.declared.state.StoreState.{StoreState}
+use Rattle.store_events.specs.Steady.{seen_of, store_of}
+
+-- the area that a put is writing
+abbrev pub put_in : Step → Option Stored
+put_in Idle = None
+put_in (Put stage side area) = Some area
+put_in (Opening reading) = None
+
+-- Each area that the store holds has this, and the one that a put is writing.
+pub record EachArea (P : Stored → Type 0) (w : StoreState) : Type 0 where
+  pub held :
+      (side : Side) (area : Stored) → area_of seen_of (store_of w) side ≡ Some area → P area
+  pub put : IfSome (put_in w.step) P
+
+-- Each area that may open in a file has it.
+abbrev pub EachOpenable : (Stored → Type 0) → List ℕ → Type 0
+EachOpenable P file = (side : Side) (area : Stored) → openable_area side file ≡ Some area → P area
+
+-- an event brings no area that doesn't
+abbrev pub Brings : (Stored → Type 0) → Event → Type 0
+Brings P (Keep place count bytes) =
+    P (record { place = place; count = count; bytes = bytes })
+Brings P (Call good reads) = Unit {0}
+Brings P (Stop image) = Unit {0}
+Brings P Recover = Unit {0}

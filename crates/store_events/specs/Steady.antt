@@ -1,0 +1,96 @@
+-- What holds of a session's snapshot file at any time (own).
+use Rattle.std.specs.Prelude.{◌≡◌, ℕ, ◌^◌, ◌<◌, ◌≤◌, Bool, true, List, [], ◌∷◌, length}
+use Rattle.std.specs.Prelude.{Some}
+use Rattle.disk_model.specs.Disk.{written}
+use Rattle.disk_model.specs.DiskState.{DiskState, IsImage}
+use Rattle.snap_store.specs.declared.outline.TheConstants.{MAX_SNAPSHOT}
+use Rattle.snap_store.specs.declared.side.Side.{Side}
+use Rattle.snap_store.specs.declared.slot.Slot.TheVariants.{Closed, Open, Unsure}
+use Rattle.snap_store.specs.File.{Stored, gate_byte, head_bytes, start_of, whole_area}
+use Rattle.snap_store.specs.Images.{Spares, Stands, loosened}
+use Rattle.snap_store.specs.Slots.{other, slot_of}
+use Rattle.snap_store.specs.Store.{IsSound, Snapshots}
+use Rattle.store_events.specs.declared.event.Event.{Event}
+use Rattle.store_events.specs.declared.event.Event.TheVariants.{Keep, Call, Stop, Recover}
+use Rattle.store_events.specs.declared.state.Reading.TheVariants.{FirstSync, AskSize, ReadFront}
+use Rattle.store_events.specs.declared.state.Reading.TheVariants.{ReadA, ReadB}
+use Rattle.store_events.specs.declared.state.Stage.{Stage}
+use Rattle.store_events.specs.declared.state.Stage.TheVariants.{CloseWrite, CloseSync, HeadWrite}
+use Rattle.store_events.specs.declared.state.Stage.TheVariants.{BytesWrite, AreaSync, OpenWrite}
+use Rattle.store_events.specs.declared.state.Stage.TheVariants.{OpenSync}
+use Rattle.store_events.specs.declared.state.Step.{Step}
+use Rattle.store_events.specs.declared.state.Step.TheVariants.{Idle, Put, Opening}
+use Rattle.store_events.specs.declared.state.StoreState.{StoreState}
+
+-- what a disk reads as; and each disk tells its bytes here
+abbrev pub seen_of : DiskState → List ℕ
+seen_of p = p.seen
+
+abbrev pub tells : DiskState → Bool
+tells p = true
+
+-- the store, as snap_store's contracts see one
+abbrev pub store_of : StoreState → Snapshots DiskState
+store_of w = record { disk = w.disk; made = w.made; slots = w.slots }
+
+-- numbers that an area has room for
+pub record IsInRange (at inputs : ℕ) : Type 0 where
+  pub place : at < 2 ^ 64
+  pub count : inputs < 2 ^ 32
+
+-- while a put is under way: the area fits, its gate isn't one that is known to be open, and the
+-- other area isn't one that it writes over
+pub record IsPutting (w : StoreState) (side : Side) (area : Stored) : Type 0 where
+  pub ranges : IsInRange area.place area.count
+  pub short : length area.bytes ≤ MAX_SNAPSHOT
+  pub made : w.made ≡ true
+  pub loose : loosened (slot_of w.slots side) ≡ slot_of w.slots side
+  pub spares : Spares side (slot_of w.slots (other side))
+
+-- what is known of its own gate then, and what the disk reads as
+abbrev pub HasStage : StoreState → Stage → Side → Stored → Type 0
+HasStage w CloseWrite side area = slot_of w.slots side ≡ Unsure
+HasStage w CloseSync side area = gate_byte side w.disk.seen ≡ 0
+HasStage w HeadWrite side area = slot_of w.slots side ≡ Closed
+HasStage w BytesWrite side area =
+    (slot_of w.slots side ≡ Closed)
+    × ((old : List ℕ) × (w.disk.seen
+    ≡ written old (start_of side) (head_bytes area.place area.count (length area.bytes))))
+HasStage w AreaSync side area =
+    (slot_of w.slots side ≡ Closed) × (whole_area side w.disk.seen ≡ Some area)
+HasStage w OpenWrite side area =
+    (slot_of w.slots side ≡ Unsure) × (whole_area side w.disk.seen ≡ Some area)
+HasStage w OpenSync side area =
+    (slot_of w.slots side ≡ Unsure)
+    × Stands side (Open area.place area.count) (Some area) w.disk.seen
+
+-- nothing is pending once an opening's sync was good
+abbrev pub IsSettled : DiskState → Type 0
+IsSettled p = (image : List ℕ) → IsImage p image → image ≡ p.seen
+
+abbrev pub HasStep : StoreState → Step → Type 0
+HasStep w Idle = Unit {0}
+HasStep w (Put stage side area) = IsPutting w side area × HasStage w stage side area
+HasStep w (Opening FirstSync) = Unit {0}
+HasStep w (Opening AskSize) = IsSettled w.disk
+HasStep w (Opening ReadFront) = IsSettled w.disk
+HasStep w (Opening ReadA) = IsSettled w.disk
+HasStep w (Opening ReadB) = IsSettled w.disk
+
+-- What the slots say holds in each image that a stop may leave, at every moment: a put that is
+-- under way included.
+pub record IsSteady (w : StoreState) : Type 0 where
+  pub reads : IsImage w.disk w.disk.seen
+  pub sound : IsSound tells IsImage seen_of (store_of w)
+  pub step : HasStep w w.step
+
+-- an event whose numbers are in their ranges
+abbrev pub HasRanges : Event → Type 0
+HasRanges (Keep place count bytes) = IsInRange place count
+HasRanges (Call good reads) = Unit {0}
+HasRanges (Stop image) = Unit {0}
+HasRanges Recover = Unit {0}
+
+abbrev pub EachHasRanges : List Event → Type 0
+EachHasRanges [] = Unit {0}
+EachHasRanges (event ∷ events) = HasRanges event × EachHasRanges events

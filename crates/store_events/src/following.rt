@@ -1,0 +1,45 @@
+//! A list of events, one after the other (own).
+
+ghost use Rattle.std.specs.Prelude.{◌≡◌, IfOk, OnOk};
+ghost use Rattle.store_events.specs.Events.{after, run};
+ghost use Rattle.store_events.specs.Steady.{EachHasRanges, IsSteady};
+
+use crate::event::Event;
+use crate::state::StoreState;
+use std::alloc::{AllocError, Global};
+
+impl StoreState {
+    // An event happens; one that isn't enabled changes nothing.
+    fn happen(&mut self, alloc: Global, event: &Event) -> Result<(), AllocError>
+        ensures { OnOk result (self.new ≡ after self.old event.now) }
+    {
+        match event {
+            Event::Keep {
+                place,
+                count,
+                bytes,
+            } => return self.keep(alloc, *place, *count, bytes),
+            Event::Call { good, reads } => return self.call(alloc, *good, reads),
+            Event::Stop { image } => return self.stop(alloc, image),
+            Event::Recover => self.recover(),
+        }
+        Ok(())
+    }
+}
+
+/// The file after these events, one after the other. One that isn't enabled changes nothing. An
+/// error is want of memory.
+pub fn follow(
+    alloc: Global,
+    mut state: StoreState,
+    events: &[Event],
+) -> Result<StoreState, AllocError>
+    ensures value { IfOk result (λ w. w ≡ run state events.now) }
+    // what is known of the gates holds in each image, wherever the list ends
+    ensures steady { IsSteady state → EachHasRanges events.now → IfOk result IsSteady }
+{
+    for event in events {
+        state.happen(alloc, event)?;
+    }
+    Ok(state)
+}

@@ -1,0 +1,269 @@
+//! The events of a session's snapshot file (own).
+
+ghost use Rattle.std.specs.Prelude.{◌≡◌, IfOk, OnOk, OnErr, [], ◌∷◌};
+ghost use Rattle.store_events.specs.Events.{after, comes_up, down_over, first_stage, next_call};
+ghost use Rattle.store_events.specs.Events.{is_opening, is_putting, onward, opens, put_call};
+ghost use Rattle.store_events.specs.Events.{put_onward};
+ghost use Rattle.disk_model.specs.Plain.{is_image};
+ghost use Rattle.store_events.specs.Steady.{IsSteady};
+ghost use Rattle.store_events.specs.declared.event.Event.TheVariants as Event;
+ghost use Rattle.store_events.specs.declared.state.Step.TheVariants as Steps;
+
+use crate::area::NewArea;
+use crate::disk::{DiskCall, make_call};
+use crate::look::{outline_of, slots_in};
+use crate::state::{Reading, Stage, Step, StoreState, set_step};
+use disk_model::PlainDisk;
+use snap_store::{MAX_SNAPSHOT, Side, Slot};
+use std::alloc::{AllocError, Global};
+use std::mem;
+use story_text::Bytes;
+
+fn one_byte(alloc: Global, byte: u8) -> Result<Bytes, AllocError>
+    ensures { IfOk result (λ bytes. bytes ≡ byte ∷ []) }
+{
+    Ok(Bytes::of(Vec::from_slice(alloc, &[byte])?))
+}
+
+// The device call that a stage of a put makes.
+fn put_call(alloc: Global, stage: Stage, side: Side, area: &NewArea) -> Result<DiskCall, AllocError>
+    ensures { IfOk result (λ call. call ≡ put_call stage side area.now) }
+{
+    let call = match stage {
+        Stage::CloseWrite => DiskCall::Write {
+            at: u128::from(side.gate()),
+            piece: one_byte(alloc, 0)?,
+        },
+        Stage::HeadWrite => DiskCall::Write {
+            at: u128::from(side.start()),
+            piece: area.head(alloc)?,
+        },
+        Stage::BytesWrite => DiskCall::Write {
+            at: u128::from(side.start()) + 16,
+            piece: area.bytes(alloc)?,
+        },
+        Stage::OpenWrite => DiskCall::Write {
+            at: u128::from(side.gate()),
+            piece: one_byte(alloc, 1)?,
+        },
+        Stage::CloseSync | Stage::AreaSync | Stage::OpenSync => DiskCall::Sync,
+    };
+    Ok(call)
+}
+
+// The device call that a step makes.
+fn next_call(alloc: Global, step: &Step) -> Result<Option<DiskCall>, AllocError>
+    ensures { IfOk result (λ call. call ≡ next_call step.now) }
+{
+    let call = match step {
+        Step::Idle => return Ok(None),
+        Step::Put { stage, side, area } => put_call(alloc, *stage, *side, area)?,
+        Step::Opening(Reading::FirstSync) => DiskCall::Sync,
+        Step::Opening(_) => DiskCall::Look,
+    };
+    Ok(Some(call))
+}
+
+// The stage with which a put begins, by what is known of the gate.
+fn first_stage(slot: Slot) -> Stage
+    ensures { result ≡ first_stage slot }
+{
+    if slot.is_closed() {
+        Stage::CloseSync
+    } else {
+        Stage::CloseWrite
+    }
+}
+
+impl StoreState {
+    /// A host that is down over a file with these bytes, with nothing pending.
+    pub fn down(alloc: Global, file: &Bytes) -> Result<StoreState, AllocError>
+        ensures value { IfOk result (λ w. w ≡ down_over file.now) }
+        ensures steady { IfOk result IsSteady }
+    {
+        let bytes = file.as_slice();
+        Ok(StoreState {
+            up: false,
+            disk: PlainDisk::settled(alloc, bytes)?,
+            faults: 0,
+            made: outline_of(bytes).made,
+            slots: slots_in(bytes),
+            step: Step::Idle,
+        })
+    }
+
+    /// A put begins, where an opening has ended well, the file has its header, nothing is under way
+    /// and the bytes aren't too many. Where memory runs out nothing has changed.
+    pub fn keep(
+        &mut self,
+        alloc: Global,
+        place: u64,
+        count: u32,
+        bytes: &Bytes,
+    ) -> Result<(), AllocError>
+        ensures ok { OnOk result (self.new ≡ after self.old (Event.Keep place count bytes.now)) }
+        ensures err { OnErr result (self.new ≡ self.old) }
+    {
+        let Step::Idle = self.step else {
+            return Ok(());
+        };
+        if !self.up || !self.made || bytes.as_slice().len() > MAX_SNAPSHOT as usize {
+            return Ok(());
+        }
+        let area = NewArea::of(place, count, bytes.copy_of(alloc)?);
+        let side = self.slots.taken();
+        let slot = self.slots.of(side);
+        self.slots.set(side, slot.loosened());
+        let stage = first_stage(slot);
+        set_step(&mut self.step, Step::Put { stage, side, area });
+        Ok(())
+    }
+
+    // A good call of a put was made.
+    fn put_onward(&mut self, stage: Stage, side: Side, area: NewArea)
+        ensures { self.new ≡ put_onward self.old stage side area }
+    {
+        let next = match stage {
+            Stage::CloseWrite => Stage::CloseSync,
+            Stage::CloseSync => {
+                self.slots.set(side, Slot::Closed);
+                Stage::HeadWrite
+            }
+            Stage::HeadWrite => Stage::BytesWrite,
+            Stage::BytesWrite => Stage::AreaSync,
+            Stage::AreaSync => {
+                self.slots.set(side, Slot::Unsure);
+                Stage::OpenWrite
+            }
+            Stage::OpenWrite => Stage::OpenSync,
+            Stage::OpenSync => {
+                let slot = Slot::Open {
+                    place: area.place(),
+                    count: area.count(),
+                };
+                self.slots.set(side, slot);
+                set_step(&mut self.step, Step::Idle);
+                return;
+            }
+        };
+        set_step(
+            &mut self.step,
+            Step::Put {
+                stage: next,
+                side,
+                area,
+            },
+        );
+    }
+
+    // An opening has ended well.
+    fn come_up(&mut self)
+        ensures { self.new ≡ comes_up self.old }
+    {
+        self.made = outline_of(self.disk.seen()).made;
+        self.slots = slots_in(self.disk.seen());
+        self.up = true;
+        set_step(&mut self.step, Step::Idle);
+    }
+
+    // A good call of this step was made.
+    fn go_onward(&mut self, step: Step)
+        ensures { self.new ≡ onward self.old step }
+    {
+        let next = match step {
+            Step::Idle => return,
+            Step::Put { stage, side, area } => {
+                self.put_onward(stage, side, area);
+                return;
+            }
+            Step::Opening(Reading::FirstSync) => Reading::AskSize,
+            Step::Opening(Reading::AskSize) => Reading::ReadFront,
+            Step::Opening(Reading::ReadFront) => Reading::ReadA,
+            Step::Opening(Reading::ReadA) => Reading::ReadB,
+            Step::Opening(Reading::ReadB) => {
+                self.come_up();
+                return;
+            }
+        };
+        set_step(&mut self.step, Step::Opening(next));
+    }
+
+    /// The disk makes its next call. Where that isn't good the disk reads as `reads` from then on.
+    pub fn call(&mut self, alloc: Global, good: bool, reads: &Bytes) -> Result<(), AllocError>
+        ensures { OnOk result (self.new ≡ after self.old (Event.Call good reads.now)) }
+    {
+        let Some(call) = next_call(alloc, &self.step)? else {
+            return Ok(());
+        };
+        if !make_call(alloc, &mut self.disk, &call, good, reads.as_slice())? {
+            return Ok(());
+        }
+        let step = mem::replace(&mut self.step, Step::Idle);
+        if good {
+            self.go_onward(step);
+        } else {
+            self.faults = self.faults.saturating_add(1);
+        }
+        Ok(())
+    }
+
+    /// The host stops, and the disk holds the image, where a stop may leave it. Where memory runs
+    /// out nothing has changed.
+    pub fn stop(&mut self, alloc: Global, image: &Bytes) -> Result<(), AllocError>
+        ensures ok { OnOk result (self.new ≡ after self.old (Event.Stop image.now)) }
+        ensures err { OnErr result (self.new ≡ self.old) }
+    {
+        if !self.disk.is_image(image.as_slice()) {
+            return Ok(());
+        }
+        self.disk = PlainDisk::settled(alloc, image.as_slice())?;
+        self.up = false;
+        set_step(&mut self.step, Step::Idle);
+        Ok(())
+    }
+
+    /// An opening begins, where the host is down.
+    pub fn recover(&mut self)
+        ensures { self.new ≡ after self.old Event.Recover }
+    {
+        if !self.up {
+            set_step(&mut self.step, Step::Opening(Reading::FirstSync));
+        }
+    }
+
+    /// An opening begins, whatever was under way.
+    pub fn open_anew(&mut self)
+        ensures { self.new ≡ opens self.old }
+    {
+        self.up = false;
+        set_step(&mut self.step, Step::Opening(Reading::FirstSync));
+    }
+
+    /// Whether an opening has ended well, and no stop has come since.
+    pub fn is_up(&self) -> bool
+        ensures { result ≡ self.now.up }
+    {
+        self.up
+    }
+
+    /// Whether an opening is under way.
+    pub fn is_opening(&self) -> bool
+        ensures { result ≡ is_opening self.now.step }
+    {
+        matches!(self.step, Step::Opening(_))
+    }
+
+    /// Whether a put is under way.
+    pub fn is_putting(&self) -> bool
+        ensures { result ≡ is_putting self.now.step }
+    {
+        matches!(self.step, Step::Put { .. })
+    }
+
+    /// Whether a stop may leave this image.
+    pub fn is_image(&self, image: &[u8]) -> bool
+        ensures { result ≡ is_image self.now.disk image.now }
+    {
+        self.disk.is_image(image)
+    }
+}
