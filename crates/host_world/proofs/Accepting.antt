@@ -25,10 +25,10 @@ use Rattle.line_words.specs.Request.{request_of}
 use Rattle.line_words.specs.Spelling.{IsRequest}
 use Rattle.line_words.proofs.RequestLaws.{request_only}
 use Rattle.session_core.specs.History.{game_of, count, goes_on, has_key, is_in_use, is_open}
-use Rattle.session_core.specs.History.{story_at}
+use Rattle.session_core.specs.History.{story_at, world_of}
 use Rattle.session_core.specs.Checks.{command_of, is_fresh, is_full, opened}
 use Rattle.session_core.specs.Answer.{answer, decided, accepted_by, first_of, plain_checks}
-use Rattle.session_core.specs.Answer.{story_checks, refusal_of}
+use Rattle.session_core.specs.Answer.{extended, story_checks, refusal_in, refusal_of, show_of}
 use Rattle.session_core.specs.Sessions.{with_budget}
 use Rattle.session_core.specs.Turning.{decided_by, decision_on}
 use Rattle.session_core.proofs.AnswerLemmas.{accepted_has_room}
@@ -196,12 +196,12 @@ first_of-front [] ys e = refl
 first_of-front ((true, why) ∷ xs) ys e = e
 first_of-front ((false, why) ∷ xs) ys e = first_of-front xs ys e
 
-accepted_none : (stories : List Story) (history game : List Command) (request : Request)
-    (refusal : Option Refusal) (command : Command)
-    → (decided stories history game request refusal).accepted ≡ Some command
+accepted_none : (stories : List Story) (game : List Command) (show : Option Command → List ℕ)
+    (request : Request) (refusal : Option Refusal) (command : Command)
+    → (decided stories game show request refusal).accepted ≡ Some command
     → (refusal ≡ None) × (accepted_by stories game request ≡ Some command)
-accepted_none stories history game request (Some why) command e = absurd cc
-accepted_none stories history game request None command e = (refl, e)
+accepted_none stories game show request (Some why) command e = absurd cc
+accepted_none stories game show request None command e = (refl, e)
 
 -- a request was accepted: no check held of it, it was fresh, and it asked for the command
 record Asks (stories : List Story) (history : List Command) (request : Request)
@@ -214,10 +214,11 @@ record Asks (stories : List Story) (history : List Command) (request : Request)
 asks : (stories : List Story) (history : List Command) (request : Request) (command : Command)
     → (answer stories history request).accepted ≡ Some command
     → Asks stories history request command
-unfolding answer refusal_of accepted_by
+unfolding answer refusal_of refusal_in accepted_by
 asks stories history request command e =
     let parts =
-    accepted_none stories history (game_of history) request
+    accepted_none stories (game_of history)
+    (λ accepted. show_of stories (game_of (extended history accepted))) request
     (refusal_of stories history (game_of history) request) command e in
     let taken =
     chosen (is_fresh (game_of history) request) (command_of stories request) command parts.1 in
@@ -227,7 +228,7 @@ asks stories history request command e =
     record {
       none =
           first_of-front (plain_checks stories (game_of history) request)
-          (story_checks stories (game_of history) request ++
+          (story_checks (world_of stories (game_of history)) stories (game_of history) request ++
           (is_full history (game_of history) request, no.Full) ∷ []) parts.0;
       fresh = taken.0;
       asked =
@@ -273,7 +274,8 @@ module _ (stories : List Story) (budget : ℕ) where
 
   fits_by : (cs : List Command) (line : List ℕ) (c : Command) → IsBudget budget
       → (read : Option Request) → request_of line ≡ read
-      → (decided_by stories budget cs line read).accepted ≡ Some c → HasDigest c → IsCommand c
+      → (decided_by (λ request. answer stories cs (with_budget budget request)) line
+      read).accepted ≡ Some c → HasDigest c → IsCommand c
   fits_by cs line c range None read e digest = absurd cc
   fits_by cs line c range (Some request) read e digest =
       in_range request c range (request_only line request read).1.0
@@ -306,7 +308,8 @@ module _ (stories : List Story) (budget : ℕ) (premise : AreGiven stories budge
   stands_by : (rows : List Row) (s : ℕ) (cs : List Command) (line : List ℕ) (c : Command) → s < 64
       → IsJournal rows → commands_of rows s ≡ cs
       → (read : Option Request) → request_of line ≡ read
-      → (decided_by stories budget cs line read).accepted ≡ Some c → MayStand rows s c
+      → (decided_by (λ request. answer stories cs (with_budget budget request)) line
+      read).accepted ≡ Some c → MayStand rows s c
   stands_by rows s cs line c low journal same None read e = absurd cc
   stands_by rows s cs line c low journal same (Some request) read e =
       let a = asks stories cs (with_budget budget request) c e in

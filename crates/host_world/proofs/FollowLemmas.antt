@@ -27,7 +27,7 @@ module _ (stories : List Story) (budget : ℕ) where
   run_end (e ∷ events) zero w le = absurd (omega (arith, le))
   run_end (e ∷ events) (suc i) w le = run_end events i w (omega (arith, le))
 
-  run-append : (earlier later : List Event) (w : HostState)
+  pub run-append : (earlier later : List Event) (w : HostState)
       → run stories budget w (earlier ++ later)
       ≡ run stories budget (run stories budget w earlier) later
   run-append [] later w = refl

@@ -24,3 +24,6 @@ pub mod Sound
 pub mod StandardFacts
 pub mod Stops
 pub mod Turning
+pub mod WholeRows
+pub mod WholeLemmas
+pub mod WholeCode

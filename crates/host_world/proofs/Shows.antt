@@ -26,7 +26,9 @@ IsSolo stories cs d =
     → show ≡ show_of stories (game_of (extended cs d.accepted))
 
 decided_solo : (stories : List Story) (cs : List Command) (request : Request)
-    (refusal : Option Refusal) → IsSolo stories cs (decided stories cs (game_of cs) request refusal)
+    (refusal : Option Refusal)
+    → IsSolo stories cs (decided stories (game_of cs)
+    (λ accepted. show_of stories (game_of (extended cs accepted))) request refusal)
 decided_solo stories cs request (Some why) s n show is = absurd cc
 decided_solo stories cs request None s n show is = sym cc
 
@@ -37,7 +39,9 @@ answer_solo stories cs request =
     decided_solo stories cs request (refusal_of stories cs (game_of cs) request)
 
 read_solo : (stories : List Story) (budget : ℕ) (cs : List Command) (line : List ℕ)
-    (read : Option Request) → IsSolo stories cs (decided_by stories budget cs line read)
+    (read : Option Request)
+    → IsSolo stories cs (decided_by (λ request. answer stories cs (with_budget budget request))
+    line read)
 read_solo stories budget cs line (Some request) =
     answer_solo stories cs (with_budget budget request)
 read_solo stories budget cs line None = λ s n show is. absurd cc

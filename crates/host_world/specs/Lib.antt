@@ -8,3 +8,5 @@ pub mod Starts
 pub mod Pending
 pub mod Laws
 pub mod Headline
+pub mod Whole
+pub mod WholeHeadline

@@ -15,6 +15,7 @@ mod sessions;
 mod state;
 mod steps;
 mod turn;
+mod whole;
 
 pub use disk::DiskCall;
 pub use event::{Event, Images};
@@ -23,3 +24,4 @@ pub use items::Items;
 pub use law::definitions;
 pub use state::{Given, HostState, Step};
 pub use turn::{Phase, Session, Turn};
+pub use whole::{WholeEvent, WholeState, follow_all};

@@ -14,7 +14,8 @@ use line_words::{No, Reply};
 use session_core::Outcome;
 use std::alloc::{AllocError, Global};
 
-fn holds(holder: Option<u8>, s: u8) -> bool
+/// Whether this session holds the journal.
+pub fn holds(holder: Option<u8>, s: u8) -> bool
     ensures { result ≡ held_by holder s }
 {
     match holder {

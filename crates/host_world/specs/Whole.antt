@@ -1,0 +1,151 @@
+-- A host with the snapshot files of its sessions, after an event and after a list of events (own).
+use Rattle.std.specs.Prelude.{ℕ, ◌-◌, ◌==◌, ◌&&◌, not, if◌then◌else◌, Bool, true, false}
+use Rattle.std.specs.Prelude.{List, [], ◌∷◌, ◌++◌, map, set, Option, Some, None}
+use Rattle.std.specs.List.{slice_get}
+use Rattle.disk_model.specs.Plain.{is_image}
+use Rattle.story_run.specs.declared.story.Story.{Story}
+use Rattle.store_events.specs.declared.event.Event.{Event as FileEvent}
+use Rattle.store_events.specs.declared.event.Event.TheVariants as files
+use Rattle.store_events.specs.declared.state.StoreState.{StoreState}
+use Rattle.store_events.specs.Events.{is_opening, is_putting, opens}
+use Rattle.store_events.specs.Events.{after as file_after}
+use Rattle.store_events.specs.Events.{down_over as file_down}
+use Rattle.host_world.specs.declared.event.Event.{Event}
+use Rattle.host_world.specs.declared.event.Event.TheVariants as journal
+use Rattle.host_world.specs.declared.state.HostState.{HostState}
+use Rattle.host_world.specs.declared.whole.WholeEvent.{WholeEvent}
+use Rattle.host_world.specs.declared.whole.WholeEvent.TheVariants.{Take, Want, Hold, Call, Free, Run}
+use Rattle.host_world.specs.declared.whole.WholeEvent.TheVariants.{Keep, Accept, Give, Stop, Recover}
+use Rattle.host_world.specs.declared.whole.WholeState.{WholeState}
+use Rattle.host_world.specs.Events.{holds, run}
+use Rattle.host_world.specs.Reading.{rows_in}
+use Rattle.host_world.specs.Starts.{down_over, rows_or_none}
+
+-- the journal and each file are opened
+abbrev pub all_up : List StoreState → Bool
+all_up [] = true
+all_up (x ∷ stores) = x.up && all_up stores
+
+abbrev pub is_up : WholeState → Bool
+is_up w = w.host.up && all_up w.stores
+
+-- a stop may leave these images of the files
+abbrev pub are_images : List StoreState → List (List ℕ) → Bool
+are_images [] [] = true
+are_images [] (image ∷ images) = false
+are_images (x ∷ stores) [] = false
+are_images (x ∷ stores) (image ∷ images) = is_image x.disk image && are_images stores images
+
+-- no put of a file is under way
+abbrev pub no_put : Option StoreState → Bool
+no_put None = true
+no_put (Some x) = not (is_putting x.step)
+
+-- the opening of a file failed in this call
+abbrev pub fails : StoreState → StoreState → Bool
+fails x y = is_opening x.step && (not (is_opening y.step) && not y.up)
+
+abbrev pub fails_at : Option StoreState → Bool → List ℕ → Bool
+fails_at None good reads = false
+fails_at (Some x) good reads = fails x (file_after x (files.Call good reads))
+
+-- The host, of which a file can't be opened, is down again: nothing is pending in its journal, so it
+-- stays as it reads.
+abbrev pub closes : HostState → List Event
+closes w = journal.Stop (w.disk.seen ∷ []) ∷ []
+
+-- What an event is to the host with its journal alone: nothing where it isn't enabled.
+abbrev pub to_host : WholeState → WholeEvent → List Event
+to_host w (Take s pass line) = if is_up w then journal.Take s pass line ∷ [] else []
+to_host w (Want s) = journal.Want s ∷ []
+to_host w (Hold s) = journal.Hold s ∷ []
+to_host w (Call disk good reads) =
+    if disk == 0 then journal.Call 0 good reads ∷ []
+    else if w.host.up && fails_at (slice_get w.stores (disk - 1)) good reads then closes w.host
+    else []
+to_host w (Free s) = journal.Free s ∷ []
+to_host w (Run s found) = journal.Run s found ∷ []
+to_host w (Keep s place count bytes) = []
+to_host w (Accept s) = journal.Accept s ∷ []
+to_host w (Give s) = if no_put (slice_get w.stores s) then journal.Give s ∷ [] else []
+to_host w (Stop []) = []
+to_host w (Stop (image ∷ images)) =
+    if is_image w.host.disk image && are_images w.stores images
+    then journal.Stop (image ∷ []) ∷ []
+    else []
+to_host w Recover =
+    if is_up w then []
+    else (if w.host.up then closes w.host else []) ++ journal.Recover ∷ []
+
+-- the files, where one of them has lived through an event of its own
+abbrev pub file_set : List StoreState → ℕ → FileEvent → Option StoreState → List StoreState
+file_set stores s event None = stores
+file_set stores s event (Some x) = set stores s (file_after x event)
+
+abbrev pub with_event : List StoreState → ℕ → FileEvent → List StoreState
+with_event stores s event = file_set stores s event (slice_get stores s)
+
+-- each file holds its image
+abbrev pub stopped_files : List StoreState → List (List ℕ) → List StoreState
+stopped_files [] images = []
+stopped_files (x ∷ stores) [] = x ∷ stores
+stopped_files (x ∷ stores) (image ∷ images) =
+    file_after x (files.Stop image) ∷ stopped_files stores images
+
+-- What an event is to the files. A put begins where the turn of its session holds no journal; a file
+-- is called once the journal is open.
+abbrev pub to_files : WholeState → WholeEvent → List StoreState
+to_files w (Take s pass line) = w.stores
+to_files w (Want s) = w.stores
+to_files w (Hold s) = w.stores
+to_files w (Call disk good reads) =
+    if disk == 0 then w.stores
+    else if w.host.up then with_event w.stores (disk - 1) (files.Call good reads)
+    else w.stores
+to_files w (Free s) = w.stores
+to_files w (Run s found) = w.stores
+to_files w (Keep s place count bytes) =
+    if is_up w && not (holds w.host s)
+    then with_event w.stores s (files.Keep place count bytes)
+    else w.stores
+to_files w (Accept s) = w.stores
+to_files w (Give s) = w.stores
+to_files w (Stop []) = w.stores
+to_files w (Stop (image ∷ images)) =
+    if is_image w.host.disk image && are_images w.stores images
+    then stopped_files w.stores images
+    else w.stores
+to_files w Recover = if is_up w then w.stores else map opens w.stores
+
+-- with another host, or other files
+abbrev pub with_host : WholeState → HostState → WholeState
+with_host w host = record { host = host; stores = w.stores }
+
+abbrev pub with_files : WholeState → List StoreState → WholeState
+with_files w stores = record { host = w.host; stores = stores }
+
+module _ (stories : List Story) (budget : ℕ) where
+  -- the host and its files after an event, and after these, one after the other
+  abbrev pub whole_after : WholeState → WholeEvent → WholeState
+  whole_after w event =
+      record { host = run stories budget w.host (to_host w event); stores = to_files w event }
+
+  abbrev pub whole_run : WholeState → List WholeEvent → WholeState
+  whole_run w [] = w
+  whole_run w (event ∷ events) = whole_run (whole_after w event) events
+
+  -- what the host with its journal alone lives through
+  abbrev pub all_to_host : WholeState → List WholeEvent → List Event
+  all_to_host w [] = []
+  all_to_host w (event ∷ events) = to_host w event ++ all_to_host (whole_after w event) events
+
+-- a host that is down over these bytes, with nothing pending in its disks
+abbrev pub file_over : List ℕ → StoreState
+file_over bytes = file_down bytes
+
+abbrev pub whole_down : List ℕ → List (List ℕ) → WholeState
+whole_down bytes files =
+    record {
+      host = down_over bytes (rows_or_none (rows_in bytes)) None;
+      stores = map file_over files;
+    }

@@ -1,0 +1,105 @@
+-- What holds of a host with the snapshot files of its sessions, whatever happens (own).
+use Rattle.std.specs.Prelude.{◌≡◌, ℕ, ◌≤◌, List, [], ◌∷◌, ◌++◌, length, Some}
+use Rattle.std.specs.List.{slice_get}
+use Rattle.disk_model.specs.DiskState.{IsImage}
+use Rattle.gate_journal.specs.declared.row.Row.{Row}
+use Rattle.gate_journal.specs.Gate.{IsShut}
+use Rattle.gate_journal.specs.Rows.{IsJournal, commands_of, spelled}
+use Rattle.story_run.specs.declared.story.Story.{Story}
+use Rattle.session_core.specs.History.{game_of}
+use Rattle.snap_store.specs.File.{given, newest_area}
+use Rattle.session_saves.specs.Agreement.{IsAgreedFile, last_row}
+use Rattle.session_saves.specs.Game.{inputs_of, turns_after}
+use Rattle.session_saves.specs.Warming.{count_in}
+use Rattle.store_events.specs.declared.state.StoreState.{StoreState}
+use Rattle.store_events.specs.Rows.{opens_of, session_of, told_of}
+use Rattle.store_events.specs.Session.{EachMissesNone, IsInAgreement, IsOwn, IsUpToDate}
+use Rattle.host_world.specs.Events.{run}
+use Rattle.host_world.specs.Headline.{AreGiven}
+use Rattle.host_world.specs.Starts.{IsStart}
+use Rattle.host_world.specs.declared.whole.WholeEvent.{WholeEvent}
+use Rattle.host_world.specs.declared.whole.WholeEvent.TheVariants.{Take, Want, Hold, Call, Free, Run}
+use Rattle.host_world.specs.declared.whole.WholeEvent.TheVariants.{Keep, Accept, Give, Stop, Recover}
+use Rattle.host_world.specs.declared.whole.WholeState.{WholeState}
+use Rattle.host_world.specs.Whole.{all_to_host, whole_after}
+
+module _ (stories : List Story) (budget : ℕ) where
+  -- a put is of the session's own snapshot: of its last OPEN row, after no more inputs than its
+  -- synced rows have, with the bytes of the world after so many
+  abbrev pub IsOwnPut : WholeState → WholeEvent → Type 0
+  IsOwnPut w (Keep s place count bytes) =
+      (x : StoreState) → slice_get w.stores s ≡ Some x
+      → IsOwn stories (session_of w.host.rows s x) place count bytes
+  IsOwnPut w (Take s pass line) = Unit {0}
+  IsOwnPut w (Want s) = Unit {0}
+  IsOwnPut w (Hold s) = Unit {0}
+  IsOwnPut w (Call disk good reads) = Unit {0}
+  IsOwnPut w (Free s) = Unit {0}
+  IsOwnPut w (Run s found) = Unit {0}
+  IsOwnPut w (Accept s) = Unit {0}
+  IsOwnPut w (Give s) = Unit {0}
+  IsOwnPut w (Stop images) = Unit {0}
+  IsOwnPut w Recover = Unit {0}
+
+  abbrev pub AreOwnPuts : WholeState → List WholeEvent → Type 0
+  AreOwnPuts w [] = Unit {0}
+  AreOwnPuts w (event ∷ events) =
+      IsOwnPut w event × AreOwnPuts (whole_after stories budget w event) events
+
+  -- each session's file is in agreement with its rows and its commands
+  abbrev pub EachInAgreement : WholeState → Type 0
+  EachInAgreement w =
+      (s : ℕ) (x : StoreState) → slice_get w.stores s ≡ Some x
+      → IsInAgreement stories (session_of w.host.rows s x)
+
+  -- From a host that is opened or down these events lead to the host v.
+  module _ (w : WholeState) (events : List WholeEvent) (v : WholeState) where
+    -- What the host lived through with its journal alone, to which its theorems apply.
+    abbrev pub LivesAsHost : Type 0
+    LivesAsHost = v.host ≡ run stories budget w.host (all_to_host stories budget w events)
+
+    -- Each image that a stop may leave of a session's file agrees with its rows and its commands.
+    abbrev pub FilesAgree : Type 0
+    FilesAgree =
+        AreGiven stories budget → IsStart w.host → EachInAgreement w → AreOwnPuts w events
+        → EachInAgreement v
+        × ((s : ℕ) (x : StoreState) (image : List ℕ) → slice_get v.stores s ≡ Some x
+        → IsImage x.disk image
+        → IsAgreedFile stories (opens_of v.host.rows s) (game_of (commands_of v.host.rows s)) image)
+
+  -- Where this event adds a row of the session with an input, no snapshot of it is due.
+  abbrev pub NoneIsMissed : ℕ → WholeState → WholeEvent → Type 0
+  NoneIsMissed s w event =
+      (x : StoreState) (r : Row) → slice_get w.stores s ≡ Some x
+      → (whole_after stories budget w event).host.rows ≡ w.host.rows ++ r ∷ []
+      → EachMissesNone (session_of w.host.rows s x) (told_of r s)
+
+  abbrev pub NoneAreMissed : ℕ → WholeState → List WholeEvent → Type 0
+  NoneAreMissed s w [] = Unit {0}
+  NoneAreMissed s w (event ∷ events) =
+      NoneIsMissed s w event × NoneAreMissed s (whole_after stories budget w event) events
+
+  -- A session of which no due snapshot was missed warms in at most 16 turns.
+  abbrev pub SessionWarmsInSixteen : WholeState → List WholeEvent → WholeState → Type 0
+  SessionWarmsInSixteen w events v =
+      AreGiven stories budget → IsStart w.host → EachInAgreement w → AreOwnPuts w events
+      → (s : ℕ) (first last : StoreState)
+      → slice_get w.stores s ≡ Some first → IsUpToDate (session_of w.host.rows s first)
+      → NoneAreMissed s w events
+      → slice_get v.stores s ≡ Some last
+      → (place : ℕ) (image : List ℕ)
+      → last_row (opens_of v.host.rows s) ≡ Some place → IsImage last.disk image
+      → turns_after stories (game_of (commands_of v.host.rows s))
+      (count_in (given (newest_area place
+      (length (inputs_of (game_of (commands_of v.host.rows s)))) image))) ≤ 16
+
+-- Over a journal whose closing gate is closed, and files that agree with its rows, a list of events
+-- may begin at this host.
+abbrev pub MayBegin : List ℕ → List (List ℕ) → WholeState → Type 0
+MayBegin journal files w =
+    (rows : List Row) → IsJournal rows → IsShut (spelled rows) journal
+    → IsStart w.host
+    × ((stories : List Story) (budget : ℕ)
+    → ((s : ℕ) (bytes : List ℕ) → slice_get files s ≡ Some bytes
+    → IsAgreedFile stories (opens_of rows s) (game_of (commands_of rows s)) bytes)
+    → EachInAgreement stories budget w)
