@@ -1,5 +1,5 @@
 -- How far an append writes.
-use Rattle.std.proofs.Common.{◌≡◌, ℕ, ◌+◌, ◌≤◌, max, length, List, subst, sym, ap, arith}
+use Rattle.std.proofs.Common.{◌≡◌, ℕ, ◌+◌, ◌≤◌, max, length, List, subst, ap, arith}
 use Rattle.gate_journal.specs.Laws.{EndsWithin}
 use Rattle.gate_journal.specs.Log.{end_of, Log, next_row, rows_of, SameLog}
 use Rattle.gate_journal.specs.Rows.{MayStand, spelled}

@@ -1,5 +1,5 @@
 -- The rows of one session, and what may follow them.
-use Rattle.std.proofs.Common.{◌≡◌, ℕ, suc, ◌+◌, ◌<◌, ◌≤◌, Bool, true, false, ◌&&◌, ◌||◌, ◌==◌, not, nat_le, cond, List, [], ◌∷◌, ◌++◌, length, Option, Some, None, IsSome, refl, sym, ap, subst, ◌∙◌, append_assoc, arith}
+use Rattle.std.proofs.Common.{◌≡◌, ℕ, ◌<◌, ◌≤◌, Bool, true, false, ◌==◌, not, nat_le, cond, List, [], ◌∷◌, ◌++◌, length, Some, None, refl, sym, ap, subst, ◌∙◌, append_assoc, arith}
 use Rattle.std.proofs.lemmas.Bool.Decides.{nat_tests}
 use Rattle.std.proofs.lemmas.List.{length-append}
 use Rattle.gate_journal.specs.Command.{IsBudget, IsCommand}
@@ -14,16 +14,14 @@ use Rattle.line_words.specs.Spelling.{IsRequest}
 use Rattle.line_words.proofs.RequestLaws.{request_only}
 use Rattle.story_run.specs.declared.story.Story.{Story}
 use Rattle.session_core.specs.History.{game_of, count, goes_on, has_key, is_in_use, is_open, story_at}
-use Rattle.session_core.specs.Checks.{command_of, is_fresh, opened}
+use Rattle.session_core.specs.Checks.{command_of, is_fresh}
 use Rattle.session_core.specs.Answer.{first_of, plain_checks}
-use Rattle.session_core.proofs.RepeatLemmas.{all_fail, known, joined, game_of-append, game_of-append-open, last_of-joined, some_is}
-use Rattle.session_desk.specs.declared.verdict.Verdict.TheVariants.{Fresh}
-use Rattle.session_desk.specs.Desk.{DeskState, game}
-use Rattle.session_desk.specs.Verdict.{verdict}
+use Rattle.session_core.proofs.RepeatLemmas.{all_fail, joined, game_of-append, game_of-append-open, last_of-joined, some_is}
+use Rattle.session_desk.specs.Desk.{DeskState}
 use Rattle.session_core.specs.Sessions.{with_budget}
 use Rattle.session_desk.specs.Commit.{HasDigest, IsInRange}
 use Rattle.session_desk.specs.Laws.{JournalsFit, ReadsInRange}
-use Rattle.session_desk.proofs.LawLemmas.{Accepts}
+use Rattle.session_desk.proofs.LawLemmas.{Accepts, closes, knows, not_last, opens}
 
 -- ---- the rows of a session, with one row more
 
@@ -114,26 +112,6 @@ agrees rows s journal = agree-all s [] rows journal refl
 
 -- ---- a fresh command may follow
 
-pub opens : (found : Option Story) (key : List ℕ) (story seed cols rows budget : ℕ) (c : Command)
-    → opened found (λ digest. commands.Open key story digest seed cols rows budget) ≡ Some c → (digest : List ℕ) × (c ≡ commands.Open key story digest seed cols rows budget)
-opens None key story seed cols rows budget c e = absurd cc
-opens (Some there) key story seed cols rows budget c e = (there.digest, sym (some_is _ c e))
-
-pub knows : (far key used : Bool) → (far || not (key && (used || false))) ≡ false → used ≡ true
-knows true key used e = absurd cc
-knows false true true e = refl
-knows false true false e = absurd cc
-knows false false used e = absurd cc
-
-pub closes : (far key used again : Bool) → (far || not (key && (used || again))) ≡ false → again ≡ false → used ≡ true
-closes true key used again e a = absurd cc
-closes false true true again e a = refl
-closes false true false again e a = absurd cc
-closes false false used again e a = absurd cc
-
-pub not_last : (n c : ℕ) → (n == c + 1) ≡ true → (n == c) ≡ false
-not_last n c e = grind (arith, nat_tests, e)
-
 -- a session in use isn't free
 one_follows : (xs : List Command) → Agree xs → is_in_use (game_of xs) ≡ true → not (is_free xs) ≡ true
 one_follows xs a used = rw (a, used) refl
@@ -147,20 +125,20 @@ follows stories xs (Open s key story seed cols rows budget) c a none fresh e =
 follows stories xs (Line s key n win text term) c a none fresh e =
     let g = game_of xs in
     let used = knows (nat_le 64 s) (has_key g key) (is_in_use g) (all_fail (plain_checks stories g (Line s key n win text term)) none).0 in
-    rw (sym (some_is _ c e)) (one_follows xs a used)
+    rw (sym (some_is _ c e)) (one_follows xs a used.1)
 follows stories xs (Char s key n win code) c a none fresh e =
     let g = game_of xs in
     let used = knows (nat_le 64 s) (has_key g key) (is_in_use g) (all_fail (plain_checks stories g (Char s key n win code)) none).0 in
-    rw (sym (some_is _ c e)) (one_follows xs a used)
+    rw (sym (some_is _ c e)) (one_follows xs a used.1)
 follows stories xs (File s key n name) c a none fresh e =
     let g = game_of xs in
     let used = knows (nat_le 64 s) (has_key g key) (is_in_use g) (all_fail (plain_checks stories g (File s key n name)) none).0 in
-    rw (sym (some_is _ c e)) (one_follows xs a used)
+    rw (sym (some_is _ c e)) (one_follows xs a used.1)
 follows stories xs (Last s key) c a none fresh e = absurd cc
 follows stories xs (Close s key n) c a none fresh e =
     let g = game_of xs in
     let used = closes (nat_le 64 s) (has_key g key) (is_in_use g) (n == count g) (all_fail (plain_checks stories g (Close s key n)) none).0 (not_last n (count g) fresh) in
-    rw (sym (some_is _ c e)) (one_follows xs a used)
+    rw (sym (some_is _ c e)) (one_follows xs a used.1)
 
 -- the journal may keep what a desk accepts
 pub may_stand : (desk : DeskState) (rows : List Row) (request : Request) (command : Command)

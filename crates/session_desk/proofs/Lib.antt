@@ -5,10 +5,15 @@ pub mod HeldLemmas
 pub mod JournalLemmas
 pub mod RunLemmas
 pub mod WarmLemmas
+pub mod NowLemmas
 pub mod HistoryLemmas
 pub mod CommitLemmas
 pub mod TurnLemmas
 pub mod MarkLemmas
+pub mod OpensLemmas
 pub mod SharedLemmas
 pub mod SharedTurnLemmas
+pub mod StoryLemmas
+pub mod SoundLemmas
+pub mod DeskWarming
 pub mod SharingLemmas

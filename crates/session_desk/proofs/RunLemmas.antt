@@ -1,23 +1,19 @@
 -- What is left to do once a command was committed, and where a desk is cold.
-use Rattle.std.proofs.Common.{◌≡◌, ℕ, Bool, true, false, ◌&&◌, ◌||◌, ◌==◌, not, nat_le, cond, List, [], ◌∷◌, ◌++◌, Option, Some, None, is_none, refl, sym, ◌∙◌}
+use Rattle.std.proofs.Common.{◌≡◌, ℕ, Bool, true, false, ◌&&◌, ◌==◌, nat_le, List, [], ◌∷◌, ◌++◌, Option, Some, is_none, refl, sym}
 use Rattle.gate_journal.specs.declared.command.Command.{Command}
 use Rattle.gate_journal.specs.declared.command.Command.TheVariants as commands
-use Rattle.line_words.specs.declared.reply.Reply.{Reply}
 use Rattle.line_words.specs.declared.request.Request.{Request}
 use Rattle.line_words.specs.declared.request.Request.TheVariants.{Open, Line, Char, File, Last, Close}
-use Rattle.story_run.specs.declared.story.Story.{Story}
 use Rattle.session_core.specs.History.{game_of, count, has_key, is_in_use, last_of, story_at}
-use Rattle.session_core.specs.Checks.{command_of, is_fresh}
-use Rattle.session_core.specs.Answer.{answer, first_of, plain_checks}
-use Rattle.session_core.proofs.RepeatLemmas.{all_fail, known, joined, game_of-append, game_of-append-open, last_of-joined, some_is}
+use Rattle.session_core.specs.Checks.{command_of}
+use Rattle.session_core.specs.Answer.{first_of, plain_checks}
+use Rattle.session_core.proofs.RepeatLemmas.{all_fail, joined, game_of-append, game_of-append-open, last_of-joined, some_is}
 use Rattle.session_desk.specs.declared.held.Held.{Held}
 use Rattle.session_desk.specs.declared.held.Held.TheVariants.{Nothing, Current, Previous}
-use Rattle.session_desk.specs.declared.verdict.Verdict.{Verdict}
 use Rattle.session_desk.specs.declared.verdict.Verdict.TheVariants.{Fresh, Cold}
 use Rattle.session_desk.specs.Desk.{aside, changes_use, game, is_cold, is_to_run, world_now, DeskState}
-use Rattle.session_desk.specs.Verdict.{foretold, is_to_story, lacks_world, needs_world, verdict}
-use Rattle.session_desk.proofs.LawLemmas.{Accepts, cold_alone}
-use Rattle.session_desk.proofs.JournalLemmas.{closes, knows, not_last, opens}
+use Rattle.session_desk.specs.Verdict.{is_to_story, needs_world, verdict}
+use Rattle.session_desk.proofs.LawLemmas.{Accepts, closes, cold_alone, held_now, knows, not_last, opens}
 
 -- ---- cold
 
@@ -35,23 +31,6 @@ cold_is_cold desk request e =
     rw (used.0, lacks.1) refl
 
 -- ---- a command to run
-
-not_lacking : (lacks : Bool) (said : Verdict) → cond lacks Cold said ≡ Fresh → lacks ≡ false
-not_lacking true said e = absurd cc
-not_lacking false said e = refl
-
-holds_one : (needs lacks : Bool) → (needs && lacks) ≡ false → needs ≡ true → lacks ≡ false
-holds_one true true e n = absurd cc
-holds_one true false e n = refl
-holds_one false lacks e n = absurd cc
-
--- a fresh request to the story of a session in use finds its world held
-held_now : (desk : DeskState) (request : Request) → verdict desk request ≡ Fresh → first_of (plain_checks desk.stories (game desk) request) ≡ None
-    → is_to_story (game desk) request ≡ true → is_none (world_now desk.held) ≡ false
-held_now desk request e none asks =
-    holds_one (needs_world desk.stories (game desk) request) (is_none (world_now desk.held))
-    (not_lacking (lacks_world desk request) (foretold desk.stories desk.commands request) e)
-    (rw (none, asks) refl)
 
 line_runs : (held : Held) (win term : ℕ) (text : List ℕ) (last : Option Command) → is_none (world_now held) ≡ false → is_to_run (aside (commands.Line win term text) held) last ≡ true
 line_runs Nothing win term text last e = absurd cc
@@ -88,17 +67,17 @@ to_run desk (Open s key story seed cols rows budget) c v a e =
 to_run desk (Line s key n win text term) c v a e =
     let g = game_of desk.commands in
     let used = knows (nat_le 64 s) (has_key g key) (is_in_use g) (all_fail (plain_checks desk.stories g (Line s key n win text term)) a.none).0 in
-    rw (sym (some_is _ c e)) (line_runs desk.held win term text _ (held_now desk (Line s key n win text term) v a.none (rw used refl)))
+    rw (sym (some_is _ c e)) (line_runs desk.held win term text _ (held_now desk (Line s key n win text term) v a.none (rw used.1 refl)))
 to_run desk (Char s key n win code) c v a e =
     let g = game_of desk.commands in
     let used = knows (nat_le 64 s) (has_key g key) (is_in_use g) (all_fail (plain_checks desk.stories g (Char s key n win code)) a.none).0 in
-    rw (sym (some_is _ c e)) (char_runs desk.held win code _ (held_now desk (Char s key n win code) v a.none (rw used refl)))
+    rw (sym (some_is _ c e)) (char_runs desk.held win code _ (held_now desk (Char s key n win code) v a.none (rw used.1 refl)))
 to_run desk (File s key n name) c v a e =
     let g = game_of desk.commands in
     let used = knows (nat_le 64 s) (has_key g key) (is_in_use g) (all_fail (plain_checks desk.stories g (File s key n name)) a.none).0 in
-    rw (sym (some_is _ c e)) (file_runs desk.held name _ (held_now desk (File s key n name) v a.none (rw used refl)))
+    rw (sym (some_is _ c e)) (file_runs desk.held name _ (held_now desk (File s key n name) v a.none (rw used.1 refl)))
 to_run desk (Last s key) c v a e = absurd cc
 to_run desk (Close s key n) c v a e =
     let g = game_of desk.commands in
     let used = closes (nat_le 64 s) (has_key g key) (is_in_use g) (n == count g) (all_fail (plain_checks desk.stories g (Close s key n)) a.none).0 (not_last n (count g) a.fresh) in
-    rw (sym (some_is _ c e)) (close_runs desk.commands desk.held used)
+    rw (sym (some_is _ c e)) (close_runs desk.commands desk.held used.1)

@@ -9,7 +9,7 @@ use Rattle.turn_cell.specs.Passes.{holds, seen}
 use Rattle.turn_cell.specs.Views.{MayLeave, tag_in}
 use Rattle.turn_cell.specs.declared.view.View.{View}
 use Rattle.gate_journal.specs.Log.{kept, Log, next_row, number_of, rows_of}
-use Rattle.gate_journal.specs.Rows.{commands_of, EachNext, IsJournal}
+use Rattle.gate_journal.specs.Rows.{commands_of, IsJournal}
 use Rattle.gate_journal.specs.declared.command.Command.{Command}
 use Rattle.gate_journal.specs.declared.row.Row.{Row}
 use Rattle.gate_journal.specs.declared.entry.Entry.{Entry as JournalEntry}
@@ -32,8 +32,10 @@ use Rattle.session_desk.specs.declared.shared.mark.Mark.{Mark}
 use Rattle.session_desk.specs.declared.shared.mark.Mark.TheVariants as marks
 use Rattle.session_desk.specs.Desk.{committed, DeskState, opened}
 use Rattle.session_desk.specs.Marks.{count_commands, marks_by, woven}
-use Rattle.session_desk.specs.Shared.{desk_tag, DeskTag, history_met, IsPassOf, IsWhole, LeavesHistory, met_by, SharedState, TakesEntry, unnumbered}
-use Rattle.session_desk.specs.Turn.{added, history_in, IsSameDesk}
+use Rattle.session_desk.specs.Shared.{desk_tag, DeskTag, history_met, IsMarked, IsPassOf, LeavesHistory, met_by, SharedState, TakesEntry, unnumbered, unplaced}
+use Rattle.session_desk.specs.Turn.{added, history_in}
+use Rattle.session_desk.proofs.OpensLemmas.{IsNumbered, later_numbered, next_numbered, Others}
+use Rattle.snap_store.specs.Store.{Snapshots}
 use Rattle.session_desk.proofs.MarkLemmas.{commands_in-woven, count-all, count-by, woven-all, woven-by}
 use Rattle.session_desk.proofs.HistoryLemmas.{commands_in-history, history_in-added, history_in-append}
 
@@ -56,22 +58,6 @@ unnumbered-met h by (Some c) OutOfMemory = refl
 unnumbered-met h by (Some c) Forgotten = map-append unnumbered h (entries.Accepted by c ∷ [])
 
 -- ---- entries of other sessions change nothing of one
-
--- the number of a row is that of its session and 1
-abbrev IsNumbered : Row → Type 0
-IsNumbered r = r.by ≡ r.session + 1
-
-next_numbered : (before rows : List Row) → EachNext before rows → Each IsNumbered rows
-next_numbered before [] each = tt
-next_numbered before (r ∷ rows) each = (each.0.by, next_numbered (before ++ r ∷ []) rows each.1)
-
-later_numbered : (seen rest : List JournalEntry) → Each IsNumbered (rows_of (seen ++ rest)) → Each IsNumbered (rows_of rest)
-later_numbered [] rest each = each
-later_numbered (Kept r ∷ seen) rest each = later_numbered seen rest each.1
-later_numbered (Faulted by from to ∷ seen) rest each = later_numbered seen rest each
-
-abbrev Others : ℕ → List JournalEntry → Type 0
-Others s rest = Each (IsForeign number_of ((s + 1) ∷ [])) rest
 
 foreign_none : (s : ℕ) (rest : List JournalEntry) → Each IsNumbered (rows_of rest) → Others s rest → history_in rest s ≡ []
 foreign_none s [] n f = refl
@@ -163,88 +149,70 @@ unnumbered-all (c ∷ commands) = ap (λ (h : List Entry). entries.Accepted 0 c 
 
 -- ---- what holds of the fields
 
--- a desk that has no other world than before
-pub whole-same : {D : Type 0} (l : List Mark) (old new : DeskState) (pass : Pass (Log D) JournalEntry) → IsSameDesk old new → IsWhole l old pass → IsWhole l new pass
-whole-same l old new pass same w = rw same (record {
-  counted = w.counted;
-  shared = record { pass = w.shared.pass; commands = w.shared.commands; entries = w.shared.entries };
-})
-
 -- the rows that the pass has seen of its session are the desk's commands
-pub rows-seen : {D : Type 0} (l : List Mark) (desk : DeskState) (pass : Pass (Log D) JournalEntry) → IsWhole l desk pass
+pub rows-seen : {D : Type 0} (l : List Mark) (desk : DeskState) (pass : Pass (Log D) JournalEntry) → IsMarked l desk pass
     → commands_of (rows_of (seen pass)) desk.session ≡ desk.commands
 rows-seen l desk pass w =
     sym (commands_in-history (seen pass) desk.session)
-    ∙ ap commands_in (sym w.shared.entries)
+    ∙ ap commands_in (sym w.entries)
     ∙ commands_in-unnumbered (woven l desk.commands)
-    ∙ w.shared.commands
+    ∙ w.commands
 
 -- behind a commit
-whole_behind : {D : Type 0} (l m : List Mark) (by : ℕ) (old new : DeskState) (pass next : Pass (Log D) JournalEntry) (c : Command) (outcome : Outcome)
-    → IsWhole l old pass → new.session ≡ old.session → count_commands m ≡ length new.commands
+marked_behind : {D : Type 0} (l m : List Mark) (by : ℕ) (old new : DeskState) (pass next : Pass (Log D) JournalEntry) (c : Command) (outcome : Outcome)
+    → IsMarked l old pass → new.session ≡ old.session → count_commands m ≡ length new.commands
     → woven m new.commands ≡ history_met (woven l old.commands) by (Some c) outcome → IsPassOf old.session next
     → history_in (seen next) old.session ≡ history_met (history_in (seen pass) old.session) 0 (Some c) outcome
-    → IsWhole m new next
-whole_behind l m by old new pass next c outcome w same many weaves of adds = record {
+    → IsMarked m new next
+marked_behind l m by old new pass next c outcome w same many weaves of adds = record {
   counted = many;
-  shared = record {
-    pass = rw same of;
-    commands = commands_in-woven m new.commands many;
-    entries = ap (map unnumbered) weaves
-        ∙ unnumbered-met (woven l old.commands) by (Some c) outcome
-        ∙ ap (λ (h : List Entry). history_met h 0 (Some c) outcome) w.shared.entries
-        ∙ sym adds
-        ∙ sym (ap (history_in (seen next)) same);
-  };
+  of_session = rw same of;
+  commands = commands_in-woven m new.commands many;
+  entries = ap (map unnumbered) weaves
+      ∙ unnumbered-met (woven l old.commands) by (Some c) outcome
+      ∙ ap (λ (h : List Entry). history_met h 0 (Some c) outcome) w.entries
+      ∙ sym adds
+      ∙ sym (ap (history_in (seen next)) same);
 }
 
 session_by : {T : Type 0} (done : Result T Refused) (old new : DeskState) (c : Command) → OnOk done (new ≡ committed old c) → OnErr done (new ≡ old) → new.session ≡ old.session
 session_by (Ok x) old new c ok err = ap (λ (d : DeskState). d.session) ok
 session_by (Err why) old new c ok err = ap (λ (d : DeskState). d.session) err
 
-pub whole-by : {D T : Type 0} (l m : List Mark) (by : ℕ) (old new : DeskState) (pass next : Pass (Log D) JournalEntry) (c : Command) (done : Result T Refused)
-    → m ≡ l ++ marks_by by done → IsWhole l old pass → OnOk done (new ≡ committed old c) → OnErr done (new ≡ old) → IsPassOf old.session next
+pub marked-by : {D T : Type 0} (l m : List Mark) (by : ℕ) (old new : DeskState) (pass next : Pass (Log D) JournalEntry) (c : Command) (done : Result T Refused)
+    → m ≡ l ++ marks_by by done → IsMarked l old pass → OnOk done (new ≡ committed old c) → OnErr done (new ≡ old) → IsPassOf old.session next
     → history_in (seen next) old.session ≡ history_met (history_in (seen pass) old.session) 0 (Some c) (met_by done)
-    → IsWhole m new next
-whole-by l m by old new pass next c done is w ok err of adds =
-    whole_behind l m by old new pass next c (met_by done) w (session_by done old new c ok err)
+    → IsMarked m new next
+marked-by l m by old new pass next c done is w ok err of adds =
+    marked_behind l m by old new pass next c (met_by done) w (session_by done old new c ok err)
     (ap count_commands is ∙ count-by l done by old new c w.counted ok err)
     (ap (λ (x : List Mark). woven x new.commands) is ∙ woven-by l done by old new c w.counted ok err) of adds
 
 -- as it is opened
-opened_whole : {D : Type 0} (l : List Mark) (s : ℕ) (stories : List Story) (budget : ℕ) (rows : List Row) (pass : Pass (Log D) JournalEntry)
+opened_marked : {D : Type 0} (l : List Mark) (s : ℕ) (stories : List Story) (budget : ℕ) (rows : List Row) (pass : Pass (Log D) JournalEntry)
     → woven l (commands_of rows s) ≡ history_in (kept rows) s → count_commands l ≡ length (commands_of rows s) → IsPassOf s pass → seen pass ≡ kept rows
-    → IsWhole l (opened s stories budget (commands_of rows s)) pass
-opened_whole l s stories budget rows pass weaves many of saw = record {
+    → IsMarked l (opened s stories budget (commands_of rows s)) pass
+opened_marked l s stories budget rows pass weaves many of saw = record {
   counted = many;
-  shared = record {
-    pass = of;
-    commands = commands_in-woven l (commands_of rows s) many;
-    entries = ap (map unnumbered) (weaves ∙ history_in-kept rows s) ∙ unnumbered-all (commands_of rows s)
-        ∙ sym (ap (λ (es : List JournalEntry). history_in es s) saw ∙ history_in-kept rows s);
-  };
+  of_session = of;
+  commands = commands_in-woven l (commands_of rows s) many;
+  entries = ap (map unnumbered) (weaves ∙ history_in-kept rows s) ∙ unnumbered-all (commands_of rows s)
+      ∙ sym (ap (λ (es : List JournalEntry). history_in es s) saw ∙ history_in-kept rows s);
 }
 
-abbrev state : {D : Type 0} → DeskState → List Entry → Pass (Log D) JournalEntry → SharedState D
-state desk history pass = record { desk = desk; history = history; pass = pass }
-
-same_state : {D : Type 0} (a b : DeskState) (h k : List Entry) (pass : Pass (Log D) JournalEntry) → a ≡ b → h ≡ k → state a h pass ≡ state b k pass
-same_state a b h k pass e f = ap (λ (d : DeskState). state d h pass) e ∙ ap (λ (x : List Entry). state b x pass) f
-
-pub whole-opened : {D : Type 0} (l : List Mark) (desk : DeskState) (s : ℕ) (stories : List Story) (budget : ℕ) (rows : List Row) (pass : Pass (Log D) JournalEntry)
+-- the history of a desk as it is opened
+pub marked-opened : {D : Type 0} (l : List Mark) (desk : DeskState) (s : ℕ) (stories : List Story) (budget : ℕ) (rows : List Row) (pass : Pass (Log D) JournalEntry)
     → l ≡ replicate (length desk.commands) (marks.Accepted 0) → desk ≡ opened s stories budget (commands_of rows s) → IsPassOf s pass → seen pass ≡ kept rows
-    → IsWhole l desk pass
-    × (state desk (woven l desk.commands) pass ≡ state (opened s stories budget (commands_of rows s)) (history_in (kept rows) s) pass)
-whole-opened l desk s stories budget rows pass is has of saw =
+    → IsMarked l desk pass × (woven l desk.commands ≡ history_in (kept rows) s)
+marked-opened l desk s stories budget rows pass is has of saw =
     let commands : desk.commands ≡ commands_of rows s = ap (λ (d : DeskState). d.commands) has in
     let many : count_commands l ≡ length (commands_of rows s) =
     ap count_commands is ∙ count-all (length desk.commands) 0 ∙ ap (λ (x : List Command). length x) commands in
     let weaves : woven l (commands_of rows s) ≡ history_in (kept rows) s =
     ap (λ (m : List Mark). woven m (commands_of rows s)) (is ∙ ap (λ (x : List Command). replicate (length x) (marks.Accepted 0)) commands)
     ∙ woven-all (commands_of rows s) 0 ∙ sym (history_in-kept rows s) in (
-      rw has (opened_whole l s stories budget rows pass weaves many of saw),
-      same_state desk (opened s stories budget (commands_of rows s)) (woven l desk.commands) (history_in (kept rows) s) pass has
-          (ap (λ (x : List Command). woven l x) commands ∙ weaves),
+      rw has (opened_marked l s stories budget rows pass weaves many of saw),
+      ap (λ (x : List Command). woven l x) commands ∙ weaves,
     )
 
 -- ---- what a commit gives
@@ -260,10 +228,30 @@ leaves_history (Ok x) by old new c entry = tt
 leaves_history (Err (DiskFault fault)) by old new c entry = entry
 leaves_history (Err NoMemory) by old new c entry = entry
 
-abbrev tag_at : DeskState → TableId → DeskTag
-tag_at desk cell = record { session = desk.session; stories = desk.stories; budget = desk.budget; cell = cell }
+abbrev tag_at : {D : Type 0} → DeskState → TableId → Snapshots D → List Row → DeskTag D
+tag_at desk cell store rows =
+    record { session = desk.session; stories = desk.stories; budget = desk.budget; cell = cell; store = store; rows = rows }
 
 pub tag-by : {D T : Type 0} (done : Result T Refused) (old new : SharedState D) (c : Command) → OnOk done (new.desk ≡ committed old.desk c) → OnErr done (new.desk ≡ old.desk)
-    → new.pass.known.place.table_id ≡ old.pass.known.place.table_id → desk_tag new ≡ desk_tag old
-tag-by (Ok x) old new c ok err cell = ap (λ (d : DeskState). tag_at d new.pass.known.place.table_id) ok ∙ ap (λ (t : TableId). tag_at old.desk t) cell
-tag-by (Err why) old new c ok err cell = ap (λ (d : DeskState). tag_at d new.pass.known.place.table_id) err ∙ ap (λ (t : TableId). tag_at old.desk t) cell
+    → new.pass.known.place.table_id ≡ old.pass.known.place.table_id → new.store ≡ old.store → new.rows ≡ old.rows → desk_tag new ≡ desk_tag old
+tag-by (Ok x) old new c ok err cell store rows = rw (ok, cell, store, rows) refl
+tag-by (Err why) old new c ok err cell store rows = rw (err, cell, store, rows) refl
+
+-- ---- without the place of the row
+
+pub ok_unplaced : (done : Result ℕ Refused) (P : Type 0) → OnOk done P → OnOk (unplaced done) P
+ok_unplaced (Ok place) P p = p
+ok_unplaced (Err why) P p = tt
+
+pub err_unplaced : (done : Result ℕ Refused) (P : Type 0) → OnErr done P → OnErr (unplaced done) P
+err_unplaced (Ok place) P p = tt
+err_unplaced (Err why) P p = p
+
+pub why_unplaced : (done : Result ℕ Refused) (P : Refused → Type 0) → IfErr done P → IfErr (unplaced done) P
+why_unplaced (Ok place) P p = tt
+why_unplaced (Err why) P p = p
+
+pub met_unplaced : (done : Result ℕ Refused) → met_by done ≡ met_by (unplaced done)
+met_unplaced (Ok place) = refl
+met_unplaced (Err (DiskFault fault)) = refl
+met_unplaced (Err NoMemory) = refl

@@ -1,5 +1,5 @@
 -- Turns of a shared desk, by what they met.
-use Rattle.std.proofs.Common.{◌≡◌, inl, inr, ℕ, ◌+◌, List, [], ◌∷◌, ◌++◌, Option, Some, refl, sym, subst, ◌∙◌}
+use Rattle.std.proofs.Common.{◌≡◌, ◌≢◌, inl, inr, ℕ, ◌+◌, Bool, true, false, List, [], ◌∷◌, ◌++◌, Option, Some, refl, sym, ap, subst, ◌∙◌}
 use Rattle.std.proofs.lemmas.List.{append-nil}
 use Rattle.turn_cell.specs.History.{Continues, IsForeign}
 use Rattle.gate_journal.specs.Log.{number_of}
@@ -12,10 +12,25 @@ use Rattle.session_core.specs.declared.decision.Decision.{Decision}
 use Rattle.session_core.specs.declared.entry.Entry.{Entry}
 use Rattle.session_core.specs.declared.entry.Entry.TheVariants as entries
 use Rattle.session_core.specs.declared.entry.Outcome.TheVariants.{Answered, DiskFailed, OutOfMemory}
-use Rattle.session_core.specs.Turning.{AddsTo}
+use Rattle.session_core.specs.Turning.{AddsTo, MayMeet, turn_met}
+use Rattle.session_core.specs.Answer.{answer_in}
+use Rattle.session_core.specs.Checks.{command_of}
+use Rattle.session_core.specs.History.{game_of, world_of}
+use Rattle.session_core.proofs.RepeatLemmas.{some_is}
+use Rattle.story_run.specs.declared.story.Story.{Story}
+use Rattle.line_words.specs.declared.request.Request.{Request}
+use Rattle.turn_cell.specs.Passes.{seen}
 use Rattle.session_core.proofs.TurningLemmas.{met_adds}
+use Rattle.session_desk.specs.declared.held.Held.{Held}
 use Rattle.session_desk.specs.declared.turned.Turned.{Turned}
-use Rattle.session_desk.specs.Shared.{GoesOn, TurnsTo}
+use Rattle.session_desk.specs.declared.verdict.Verdict.TheVariants.{Cold}
+use Rattle.session_desk.specs.Desk.{committed, DeskState, game, Holds, ran, shown_to}
+use Rattle.session_desk.specs.Laws.{answered}
+use Rattle.session_desk.specs.Shared.{desk_tag, DeskTag, GoesOn, Rests, SharedState, TakesEntry, TurnsTo}
+use Rattle.session_desk.specs.Sound.{Decides, IsSoundDesk, TurnsBy}
+use Rattle.session_desk.specs.Verdict.{lacks_world, verdict}
+use Rattle.session_desk.proofs.LawLemmas.{cold_alone}
+use Rattle.session_desk.proofs.NowLemmas.{is_by}
 use Rattle.session_desk.specs.Turn.{IsQuiet, IsShown}
 use Rattle.session_desk.proofs.TurnLemmas.{may_forget}
 
@@ -34,9 +49,6 @@ pub turns-failed : (d : Decision) (by from to : ℕ) (h : List Entry) (show : Re
     → TurnsTo d by h (record { reply = replies.No (no.DiskFault from to); outcome = DiskFailed from to }) (h ++ entries.Faulted by from to ∷ [])
 turns-failed d by from to h show c e = rw e (record { met = tt; reply = refl; history = refl })
 
-pub turns-add : (d : Decision) (by : ℕ) (h new : List Entry) (t : Turned) → TurnsTo d by h t new → AddsTo h by new
-turns-add d by h new t turns = subst (λ (x : List Entry). AddsTo h by x) (sym turns.history) (met_adds h by d.reply d.accepted t.outcome)
-
 -- ---- the journal
 
 rests : (s : ℕ) (old : List JournalEntry) → Continues (IsForeign number_of ((s + 1) ∷ [])) old old
@@ -53,3 +65,108 @@ pub goes-shown : (s : ℕ) (accepted : Option Command) (old new : List JournalEn
     → IsShown show t → GoesOn s (Some c) Answered old new → GoesOn s accepted t.outcome old new
 goes-shown s accepted old new t show c e (inl is) on = rw (e, is) on
 goes-shown s accepted old new t show c e (inr is) on = rw (e, is) (record { before = on.before; since = on.since; adds = on.adds })
+
+-- ---- by the world that is held
+
+-- a desk that isn't cold to the request decides so
+pub lacks-not : (desk : DeskState) (request : Request) → verdict desk request ≢ Cold → lacks_world desk request ≡ false
+lacks-not desk request warm = either (lacks_world desk request) refl
+  where
+    either : (lacks : Bool) → lacks_world desk request ≡ lacks → lacks ≡ false
+    either true e = absurd (warm ((cold_alone desk request).1 e))
+    either false e = refl
+
+pub decides-held : {D : Type 0} (tells : D → Bool) (seen_of : D → List ℕ) (request : Request) (old : SharedState D) (held : Held)
+    → lacks_world (record old.desk { held = held }) request ≡ false
+    → (IsSoundDesk tells seen_of (desk_tag old) → Holds old.desk.stories (game old.desk) held)
+    → Decides tells seen_of request old (answered (record old.desk { held = held }) request)
+decides-held tells seen_of request old held lacks holds =
+    let b = is_by old.desk.stories old.desk.commands held request lacks in
+    record { now = b.now; own = λ sound. b.own (holds sound); decides = b.same }
+
+pub decides-rested : {D : Type 0} (tells : D → Bool) (seen_of : D → List ℕ) (request : Request) (old new : SharedState D) → Rests old new
+    → verdict new.desk request ≢ Cold
+    → (IsSoundDesk tells seen_of (desk_tag new) → Holds new.desk.stories (game new.desk) new.desk.held)
+    → Decides tells seen_of request old (answered new.desk request)
+decides-rested {D = D} tells seen_of request old new rests warm holds =
+    let same = rests.desk in
+    subst (λ (d : DeskState). Decides tells seen_of request old (answered d request)) (sym same)
+    (decides-held tells seen_of request old new.desk.held
+    (subst (λ (d : DeskState). lacks_world d request ≡ false) same (lacks-not new.desk request warm))
+    (λ sound. subst (λ (d : DeskState). Holds d.stories (game d) d.held) same
+    (holds (subst (λ (t : DeskTag D). IsSoundDesk tells seen_of t) (sym rests.tag) sound))))
+
+-- memory may run out, whatever is decided
+pub decides-any : {D : Type 0} (tells : D → Bool) (seen_of : D → List ℕ) (request : Request) (old : SharedState D)
+    → Decides tells seen_of request old (answer_in old.desk.stories old.desk.commands (world_of old.desk.stories (game_of old.desk.commands)) request)
+decides-any tells seen_of request old = record { now = world_of old.desk.stories (game_of old.desk.commands); own = λ sound. refl; decides = refl }
+
+pub turns-by : {D : Type 0} (tells : D → Bool) (seen_of : D → List ℕ) (request : Request) (by : ℕ) (old new : SharedState D) (t : Turned) (d : Decision)
+    → Decides tells seen_of request old d → TurnsTo d by old.history t new.history
+    → GoesOn old.desk.session d.accepted t.outcome (seen old.pass) (seen new.pass) → TurnsBy tells seen_of request by old t new
+turns-by tells seen_of request by old new t d decides turns goes = record {
+  now = decides.now;
+  own = decides.own;
+  met = subst (λ (x : Decision). MayMeet x.accepted t.outcome) decides.decides turns.met;
+  reply = subst (λ (x : Decision). t.reply ≡ (turn_met old.history by x.reply x.accepted t.outcome).reply) decides.decides turns.reply;
+  history = subst (λ (x : Decision). new.history ≡ (turn_met old.history by x.reply x.accepted t.outcome).history) decides.decides turns.history;
+  journal = subst (λ (x : Decision). GoesOn old.desk.session x.accepted t.outcome (seen old.pass) (seen new.pass)) decides.decides goes;
+}
+
+-- a turn that makes the session accept nothing
+pub turns-by-quiet : {D : Type 0} (tells : D → Bool) (seen_of : D → List ℕ) (request : Request) (by : ℕ) (old new : SharedState D) (t : Turned)
+    → Rests old new → ((d : Decision) × Decides tells seen_of request old d × IsQuiet d t) → TurnsBy tells seen_of request by old t new
+turns-by-quiet tells seen_of request by old new t rests (d, decides, quiet) =
+    turns-by tells seen_of request by old new t d decides
+    (subst (λ (h : List Entry). TurnsTo d by old.history t h) (sym rests.history) (turns-quiet d by old.history t quiet))
+    (subst (λ (es : List JournalEntry). GoesOn old.desk.session d.accepted t.outcome (seen old.pass) es) (sym (ap seen rests.pass))
+    (goes-quiet d old.desk.session (seen old.pass) t quiet))
+
+-- a turn of a command, behind the steps that leave the session
+pub turns-by-fresh : {D : Type 0} (tells : D → Bool) (seen_of : D → List ℕ) (request : Request) (by : ℕ) (old mid new : SharedState D) (t : Turned)
+    → Rests old mid → Decides tells seen_of request old (answered mid.desk request)
+    → TurnsTo (answered mid.desk request) by mid.history t new.history
+    → GoesOn mid.desk.session (answered mid.desk request).accepted t.outcome (seen mid.pass) (seen new.pass)
+    → TurnsBy tells seen_of request by old t new
+turns-by-fresh tells seen_of request by old mid new t rests decides turns goes =
+    turns-by tells seen_of request by old new t (answered mid.desk request) decides
+    (subst (λ (h : List Entry). TurnsTo (answered mid.desk request) by h t new.history) rests.history turns)
+    (subst (λ (es : List JournalEntry). GoesOn old.desk.session (answered mid.desk request).accepted t.outcome es (seen new.pass)) (ap seen rests.pass)
+    (subst (λ (s : ℕ). GoesOn s (answered mid.desk request).accepted t.outcome (seen mid.pass) (seen new.pass)) (ap (λ (d : DeskState). d.session) rests.desk) goes))
+
+pub turns-by-add : {D : Type 0} (tells : D → Bool) (seen_of : D → List ℕ) (request : Request) (by : ℕ) (old new : SharedState D) (t : Turned)
+    → TurnsBy tells seen_of request by old t new → AddsTo old.history by new.history
+turns-by-add tells seen_of request by old new t turns =
+    subst (λ (x : List Entry). AddsTo old.history by x) (sym turns.history) (met_adds old.history by (answer_in old.desk.stories old.desk.commands turns.now request).reply
+    (answer_in old.desk.stories old.desk.commands turns.now request).accepted t.outcome)
+
+-- ---- a command that was committed
+
+-- what a fresh request is answered, by the desk that has run its command
+abbrev pub AnswersFresh : DeskState → Request → Type 0
+AnswersFresh desk request =
+    (c : Command) × (command_of desk.stories request ≡ Some c) × (answered desk request ≡ record { reply = shown_to (ran (committed desk c)) request; accepted = Some c })
+
+same_command : (stories : List Story) (request : Request) (c d : Command) → command_of stories request ≡ Some c → command_of stories request ≡ Some d → c ≡ d
+same_command stories request c d e f = some_is c d (sym e ∙ f)
+
+pub fresh-shown : {D : Type 0} (request : Request) (by : ℕ) (old mid new : SharedState D) (t : Turned) → AnswersFresh old.desk request → TakesEntry request by old mid
+    → IsShown (shown_to (ran mid.desk) request) t → Rests mid new → TurnsTo (answered old.desk request) by old.history t new.history
+fresh-shown request by old mid new t f takes shown rests =
+    let same : f.0 ≡ takes.command = same_command old.desk.stories request f.0 takes.command f.1 takes.asked in
+    let is : IsShown (shown_to (ran (committed old.desk f.0)) request) t =
+    subst (λ (c : Command). IsShown (shown_to (ran (committed old.desk c)) request) t) (sym same)
+    (subst (λ (d : DeskState). IsShown (shown_to (ran d) request) t) takes.taken shown) in
+    let history : new.history ≡ old.history ++ entries.Accepted by f.0 ∷ [] =
+    rests.history ∙ takes.entry ∙ ap (λ (c : Command). old.history ++ entries.Accepted by c ∷ []) (sym same) in
+    subst (λ (h : List Entry). TurnsTo (answered old.desk request) by old.history t h) (sym history)
+    (turns-shown (answered old.desk request) by old.history t (shown_to (ran (committed old.desk f.0)) request) f.0 f.2 is)
+
+pub fresh-goes : {D : Type 0} (request : Request) (by : ℕ) (old mid new : SharedState D) (t : Turned) → AnswersFresh old.desk request
+    → ((c : Command) → command_of old.desk.stories request ≡ Some c → GoesOn old.desk.session (Some c) Answered (seen old.pass) (seen mid.pass))
+    → IsShown (shown_to (ran mid.desk) request) t → Rests mid new
+    → GoesOn old.desk.session (answered old.desk request).accepted t.outcome (seen old.pass) (seen new.pass)
+fresh-goes request by old mid new t f goes shown rests =
+    subst (λ (es : List JournalEntry). GoesOn old.desk.session (answered old.desk request).accepted t.outcome (seen old.pass) es) (sym (ap seen rests.pass))
+    (goes-shown old.desk.session (answered old.desk request).accepted (seen old.pass) (seen mid.pass) t (shown_to (ran mid.desk) request) f.0
+    (ap (λ (d : Decision). d.accepted) f.2) shown (goes f.0 f.1))

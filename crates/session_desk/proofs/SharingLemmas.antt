@@ -11,11 +11,13 @@ use Rattle.std.specs.contracts.impls.GlobalAllocator.TheImpl as heap_type
 use Rattle.std.proofs.vec.Vec.TheSendSync as vec
 use Rattle.turn_cell.proofs.pass.Pass.TheSendSync as pass_shares
 use Rattle.disk_model.specs.declared.disk.Disk.{Ghosts}
-use Rattle.gate_journal.specs.contracts.entry.Entry as journal_entry
 use Rattle.gate_journal.specs.contracts.journal.Journal as journal
 use Rattle.gate_journal.proofs.history.History.TheSendSync as history
 use Rattle.gate_journal.proofs.room.Room.TheSendSync as room
 use Rattle.gate_journal.proofs.row.Row.TheSendSync as row
+use Rattle.snap_store.specs.contracts.store.Store as store
+use Rattle.session_saves.specs.contracts.saves.Saves as saves
+use Rattle.session_saves.proofs.saves.Point.TheSendSync as point
 use Rattle.session_desk.specs.contracts.shared.SharedDesk as shared_desk
 use Rattle.session_desk.specs.contracts.shared.SharedDesk.TheInside as inside
 use Rattle.session_desk.specs.contracts.shared.mark.Mark as mark_type
@@ -29,10 +31,25 @@ journal_send T g s =
 marks_send : IsSend (vec_type.the_field mark_type.the_row global_type.the_row heap_type.ghosts).row
 marks_send = search (sendable, mark.the_send, vec.the_send, global.the_send, heap.the_frees) depth 20
 
+store_send : (T : RattleType) (g : Ghosts T.Denot) → IsSend T → IsSend (store.the_row T g)
+store_send T g s = search (sendable, view_send) depth 30
+
+pub saves_send : (T : RattleType) (g : Ghosts T.Denot) → IsSend T → IsSend (saves.the_row T g)
+saves_send T g s = search (sendable, view_send, store_send, point.the_send) depth 30
+
 pub inside_send : (κ : NamedLft) (T : RattleType) (g : Ghosts T.Denot) → IsSend T → IsSend (inside.the_row κ T g)
 inside_send κ T g s = recorded_send _ _ _ (inside.the_type κ T g).to_one (struct_send (shape (inside.the_type κ T g)) (
   desk.the_send κ,
-  (marks_send, (search (sendable, pass_shares.the_field_send, journal_send) depth 20, tt)),
+  (
+    marks_send,
+    (
+      search (sendable, pass_shares.the_field_send, journal_send) depth 20,
+      (
+        search (sendable, saves_send) depth 20,
+        (search sendable depth 20, (search sendable depth 20, (search sendable depth 20, tt))),
+      ),
+    ),
+  ),
 ))
 
 pub desk_send : (κ : NamedLft) (T : RattleType) (g : Ghosts T.Denot) → IsSend T → IsSend (shared_desk.the_row κ T g)

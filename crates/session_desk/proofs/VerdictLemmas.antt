@@ -1,5 +1,5 @@
 -- What a session will answer, by the checks that hold.
-use Rattle.std.proofs.Common.{◌≡◌, ℕ, ◌<◌, ◌≤◌, Bool, true, false, ◌&&◌, ◌||◌, not, cond, nat_le, List, [], ◌∷◌, ◌++◌, length, Option, Some, None, is_none, refl, sym, ap, ◌∙◌, arith}
+use Rattle.std.proofs.Common.{◌≡◌, ℕ, ◌<◌, ◌≤◌, Bool, true, false, ◌&&◌, ◌||◌, not, nat_le, List, [], ◌∷◌, ◌++◌, length, Option, Some, None, is_none, refl, sym, ap, ◌∙◌, arith}
 use Rattle.std.proofs.lemmas.Bool.Decides.{nat_tests}
 use Rattle.glk_input.specs.declared.input.Input.{Input}
 use Rattle.glk_input.specs.declared.input.Input.TheVariants as inputs
@@ -13,64 +13,63 @@ use Rattle.story_run.specs.declared.story.Story.{Story}
 use Rattle.story_run.specs.declared.stage.Stage.{Stage}
 use Rattle.story_run.specs.declared.stage.Stage.TheVariants.{AtSelect, AtPrompt, Quit, Fault}
 use Rattle.story_run.specs.World.{WorldState}
-use Rattle.story_run.specs.Solo.{is_over, is_wanted, wants}
-use Rattle.session_core.specs.History.{game_of, is_in_use, has_key, world_of, story_at}
+use Rattle.story_run.specs.Solo.{is_wanted, wants}
+use Rattle.session_core.specs.History.{game_of, is_in_use, has_key, story_at}
 use Rattle.session_core.specs.Checks.{command_of, opened, given, is_fresh, is_full, over_in, unwanted_in}
-use Rattle.session_core.specs.Answer.{first_of, plain_checks, story_checks, refusal_of, accepted_by, answer}
-use Rattle.session_core.proofs.AnswerLemmas.{first_of-append-none, first_of-append-some, refusal_of-plain, refusal_of-story}
-use Rattle.session_core.proofs.RepeatLemmas.{AllFail, all_fail, known}
-use Rattle.session_desk.specs.declared.verdict.Verdict.{Verdict}
-use Rattle.session_desk.specs.declared.verdict.Verdict.TheVariants.{Refuse, Again, Fresh, Cold}
-use Rattle.session_desk.specs.Wanted.{outline, refusal_in, request_input}
-use Rattle.session_desk.specs.Desk.{DeskState, game}
-use Rattle.session_desk.specs.Verdict.{foretold, is_close, is_to_story, told, verdict}
+use Rattle.session_core.specs.Answer.{first_of, plain_checks, story_checks, refusal_in, accepted_by, answer_in}
+use Rattle.session_core.proofs.AnswerLemmas.{first_of-append-none, refusal_in-plain, refusal_in-story}
+use Rattle.session_core.proofs.RepeatLemmas.{all_fail}
+use Rattle.session_desk.specs.declared.verdict.Verdict.TheVariants.{Refuse, Again, Fresh}
+use Rattle.session_desk.specs.Wanted.{declines, outline, request_input}
+use Rattle.session_desk.specs.Desk.{DeskState, game, world_now}
+use Rattle.session_desk.specs.Verdict.{foretold, is_close, verdict}
 
 -- ---- the answer, by its refusal and its command
 
-pub told-refused : (stories : List Story) (history : List Command) (request : Request) (why : No)
-    → refusal_of stories history (game_of history) request ≡ Some why → Refuse why ≡ foretold stories history request
-unfolding answer
-told-refused stories history request why e = rw e refl
+pub told-refused : (stories : List Story) (history : List Command) (now : Option WorldState) (request : Request) (why : No)
+    → refusal_in now stories history (game_of history) request ≡ Some why → Refuse why ≡ foretold stories history now request
+unfolding answer_in
+told-refused stories history now request why e = rw e refl
 
-pub told-again : (stories : List Story) (history : List Command) (request : Request)
-    → refusal_of stories history (game_of history) request ≡ None → is_fresh (game_of history) request ≡ false → Again ≡ foretold stories history request
-unfolding answer accepted_by
-told-again stories history request e f = rw (e, f) refl
+pub told-again : (stories : List Story) (history : List Command) (now : Option WorldState) (request : Request)
+    → refusal_in now stories history (game_of history) request ≡ None → is_fresh (game_of history) request ≡ false → Again ≡ foretold stories history now request
+unfolding answer_in accepted_by
+told-again stories history now request e f = rw (e, f) refl
 
-pub told-fresh : (stories : List Story) (history : List Command) (request : Request) (command : Command)
-    → refusal_of stories history (game_of history) request ≡ None → is_fresh (game_of history) request ≡ true → command_of stories request ≡ Some command
-    → Fresh ≡ foretold stories history request
-unfolding answer accepted_by
-told-fresh stories history request command e f c = rw (e, f, c) refl
+pub told-fresh : (stories : List Story) (history : List Command) (now : Option WorldState) (request : Request) (command : Command)
+    → refusal_in now stories history (game_of history) request ≡ None → is_fresh (game_of history) request ≡ true → command_of stories request ≡ Some command
+    → Fresh ≡ foretold stories history now request
+unfolding answer_in accepted_by
+told-fresh stories history now request command e f c = rw (e, f, c) refl
 
 -- ---- the checks behind the plain ones
 
-pub past_plain : (stories : List Story) (history game : List Command) (request : Request) → first_of (plain_checks stories game request) ≡ None
-    → refusal_of stories history game request ≡ first_of (story_checks stories game request ++ (is_full history game request, no.Full) ∷ [])
-unfolding refusal_of
-past_plain stories history game request none =
-    first_of-append-none (plain_checks stories game request) (story_checks stories game request ++ (is_full history game request, no.Full) ∷ []) none
+pub past_plain : (stories : List Story) (history game : List Command) (now : Option WorldState) (request : Request) → first_of (plain_checks stories game request) ≡ None
+    → refusal_in now stories history game request ≡ first_of (story_checks now stories game request ++ (is_full history game request, no.Full) ∷ [])
+unfolding refusal_in
+past_plain stories history game now request none =
+    first_of-append-none (plain_checks stories game request) (story_checks now stories game request ++ (is_full history game request, no.Full) ∷ []) none
 
-pub stale-passes : (stories : List Story) (history game : List Command) (request : Request) → first_of (plain_checks stories game request) ≡ None
-    → is_fresh game request ≡ false → refusal_of stories history game request ≡ None
-stale-passes stories history game request none stale = past_plain stories history game request none ∙ rw stale refl
+pub stale-passes : (stories : List Story) (history game : List Command) (now : Option WorldState) (request : Request) → first_of (plain_checks stories game request) ≡ None
+    → is_fresh game request ≡ false → refusal_in now stories history game request ≡ None
+stale-passes stories history game now request none stale = past_plain stories history game now request none ∙ rw stale refl
 
-pub past_story : (stories : List Story) (history game : List Command) (request : Request) → first_of (plain_checks stories game request) ≡ None
-    → first_of (story_checks stories game request) ≡ None
-    → refusal_of stories history game request ≡ first_of ((is_full history game request, no.Full) ∷ [])
-past_story stories history game request none fits =
-    past_plain stories history game request none
-    ∙ first_of-append-none (story_checks stories game request) ((is_full history game request, no.Full) ∷ []) fits
+pub past_story : (stories : List Story) (history game : List Command) (now : Option WorldState) (request : Request) → first_of (plain_checks stories game request) ≡ None
+    → first_of (story_checks now stories game request) ≡ None
+    → refusal_in now stories history game request ≡ first_of ((is_full history game request, no.Full) ∷ [])
+past_story stories history game now request none fits =
+    past_plain stories history game now request none
+    ∙ first_of-append-none (story_checks now stories game request) ((is_full history game request, no.Full) ∷ []) fits
 
-pub full-refuses : (stories : List Story) (history game : List Command) (request : Request) → first_of (plain_checks stories game request) ≡ None
-    → first_of (story_checks stories game request) ≡ None → is_fresh game request ≡ true → nat_le 8192 (length history) ≡ true
-    → refusal_of stories history game request ≡ Some no.Full
-full-refuses stories history game request none fits fresh full = past_story stories history game request none fits ∙ rw (fresh, full) refl
+pub full-refuses : (stories : List Story) (history game : List Command) (now : Option WorldState) (request : Request) → first_of (plain_checks stories game request) ≡ None
+    → first_of (story_checks now stories game request) ≡ None → is_fresh game request ≡ true → nat_le 8192 (length history) ≡ true
+    → refusal_in now stories history game request ≡ Some no.Full
+full-refuses stories history game now request none fits fresh full = past_story stories history game now request none fits ∙ rw (fresh, full) refl
 
-pub room-passes : (stories : List Story) (history game : List Command) (request : Request) → first_of (plain_checks stories game request) ≡ None
-    → first_of (story_checks stories game request) ≡ None → nat_le 8192 (length history) ≡ false
-    → refusal_of stories history game request ≡ None
-room-passes stories history game request none fits room = past_story stories history game request none fits ∙ no_room (is_fresh game request) (nat_le 8192 (length history)) room
+pub room-passes : (stories : List Story) (history game : List Command) (now : Option WorldState) (request : Request) → first_of (plain_checks stories game request) ≡ None
+    → first_of (story_checks now stories game request) ≡ None → nat_le 8192 (length history) ≡ false
+    → refusal_in now stories history game request ≡ None
+room-passes stories history game now request none fits room = past_story stories history game now request none fits ∙ no_room (is_fresh game request) (nat_le 8192 (length history)) room
   where
     no_room : (fresh full : Bool) → full ≡ false → first_of ((fresh && full, no.Full) ∷ []) ≡ None
     no_room true full e = rw e refl
@@ -113,10 +112,9 @@ given-asked stories (Close s key n) = refl
 -- ---- the checks by the world
 
 -- of a new request, in the world that is held
-pub checks_in : (stories : List Story) (game : List Command) (request : Request) (world : WorldState)
-    → world_of stories game ≡ Some world → is_fresh game request ≡ true
-    → first_of (story_checks stories game request) ≡ refusal_in world (request_input request)
-checks_in stories game request world w fresh = rw (fresh, w, given-asked stories request) refl
+pub checks_in : (stories : List Story) (game : List Command) (request : Request) (world : WorldState) → is_fresh game request ≡ true
+    → first_of (story_checks (Some world) stories game request) ≡ declines world (request_input request)
+checks_in stories game request world fresh = rw (fresh, given-asked stories request) refl
 
 over_none : (world : Option WorldState) → over_in world None ≡ false
 over_none None = refl
@@ -127,10 +125,10 @@ unwanted_none None = refl
 unwanted_none (Some w) = refl
 
 -- and of one that gives the story nothing
-nothing_given : (stories : List Story) (game : List Command) (request : Request) → is_fresh game request ≡ true → request_input request ≡ None
-    → first_of (story_checks stories game request) ≡ None
-nothing_given stories game request fresh none =
-    rw (fresh, given-asked stories request, none, over_none (world_of stories game), unwanted_none (world_of stories game)) refl
+nothing_given : (stories : List Story) (game : List Command) (now : Option WorldState) (request : Request) → is_fresh game request ≡ true → request_input request ≡ None
+    → first_of (story_checks now stories game request) ≡ None
+nothing_given stories game now request fresh none =
+    rw (fresh, given-asked stories request, none, over_none now, unwanted_none now) refl
 
 both_false : (used closes : Bool) → (used && not closes) ≡ false → closes ≡ false → used ≡ false
 both_false true false e f = absurd cc
@@ -159,9 +157,9 @@ free_gives stories game (File s key n name) none free =
 free_gives stories game (Last s key) none free = refl
 free_gives stories game (Close s key n) none free = refl
 
-pub checks_free : (stories : List Story) (game : List Command) (request : Request) → first_of (plain_checks stories game request) ≡ None
-    → (is_in_use game && not (is_close request)) ≡ false → is_fresh game request ≡ true → first_of (story_checks stories game request) ≡ None
-checks_free stories game request none free fresh = nothing_given stories game request fresh (free_gives stories game request none free)
+pub checks_free : (stories : List Story) (game : List Command) (now : Option WorldState) (request : Request) → first_of (plain_checks stories game request) ≡ None
+    → (is_in_use game && not (is_close request)) ≡ false → is_fresh game request ≡ true → first_of (story_checks now stories game request) ≡ None
+checks_free stories game now request none free fresh = nothing_given stories game now request fresh (free_gives stories game request none free)
 
 -- ---- a story asks nothing of a text before it takes it
 
@@ -185,7 +183,7 @@ wants-file w name = same w.stage
     same Quit = refl
     same (Fault n) = refl
 
-pub refusal-outline : (w : WorldState) (request : Request) → refusal_in w (outline request) ≡ refusal_in w (request_input request)
+pub refusal-outline : (w : WorldState) (request : Request) → declines w (outline request) ≡ declines w (request_input request)
 refusal-outline w (Open s key story seed cols rows budget) = refl
 refusal-outline w (Line s key n win text term) = rw (wants-line w win text term) refl
 refusal-outline w (Char s key n win code) = refl
@@ -195,8 +193,8 @@ refusal-outline w (Close s key n) = refl
 
 -- the refusal of what stands for the input is that of the input
 pub by_outline : (w : WorldState) (request : Request) (given : Option Input) → outline request ≡ given
-    → refusal_in w given ≡ refusal_in w (request_input request)
-by_outline w request given e = ap (refusal_in w) (sym e) ∙ refusal-outline w request
+    → declines w given ≡ declines w (request_input request)
+by_outline w request given e = ap (declines w) (sym e) ∙ refusal-outline w request
 
 -- ---- the verdicts
 
@@ -209,30 +207,30 @@ below_limit n lt = grind (arith, nat_tests, lt)
 -- by a check without the world
 pub plain-told : (desk : DeskState) (request : Request) (why : No) → first_of (plain_checks desk.stories (game desk) request) ≡ Some why → Refuse why ≡ verdict desk request
 plain-told desk request why e =
-    rw e (told-refused desk.stories desk.commands request why (sym (refusal_of-plain desk.stories desk.commands (game desk) request why e)))
+    rw e (told-refused desk.stories desk.commands (world_now desk.held) request why (sym (refusal_in-plain (world_now desk.held) desk.stories desk.commands (game desk) request why e)))
 
 -- where nothing else is asked
-pub stale-told : (stories : List Story) (history : List Command) (request : Request) → first_of (plain_checks stories (game_of history) request) ≡ None
-    → is_fresh (game_of history) request ≡ false → Again ≡ foretold stories history request
-stale-told stories history request none stale =
-    told-again stories history request (stale-passes stories history (game_of history) request none stale) stale
+pub stale-told : (stories : List Story) (history : List Command) (now : Option WorldState) (request : Request) → first_of (plain_checks stories (game_of history) request) ≡ None
+    → is_fresh (game_of history) request ≡ false → Again ≡ foretold stories history now request
+stale-told stories history now request none stale =
+    told-again stories history now request (stale-passes stories history (game_of history) now request none stale) stale
 
 -- where no check by the world holds
-pub full-told : (stories : List Story) (history : List Command) (request : Request) → first_of (plain_checks stories (game_of history) request) ≡ None
-    → first_of (story_checks stories (game_of history) request) ≡ None → is_fresh (game_of history) request ≡ true → 8192 ≤ length history
-    → Refuse no.Full ≡ foretold stories history request
-full-told stories history request none fits fresh le =
-    told-refused stories history request no.Full (full-refuses stories history (game_of history) request none fits fresh (at_limit (length history) le))
+pub full-told : (stories : List Story) (history : List Command) (now : Option WorldState) (request : Request) → first_of (plain_checks stories (game_of history) request) ≡ None
+    → first_of (story_checks now stories (game_of history) request) ≡ None → is_fresh (game_of history) request ≡ true → 8192 ≤ length history
+    → Refuse no.Full ≡ foretold stories history now request
+full-told stories history now request none fits fresh le =
+    told-refused stories history now request no.Full (full-refuses stories history (game_of history) now request none fits fresh (at_limit (length history) le))
 
-pub fresh-told : (stories : List Story) (history : List Command) (request : Request) → first_of (plain_checks stories (game_of history) request) ≡ None
-    → first_of (story_checks stories (game_of history) request) ≡ None → is_fresh (game_of history) request ≡ true → length history < 8192
-    → Fresh ≡ foretold stories history request
-fresh-told stories history request none fits fresh lt =
+pub fresh-told : (stories : List Story) (history : List Command) (now : Option WorldState) (request : Request) → first_of (plain_checks stories (game_of history) request) ≡ None
+    → first_of (story_checks now stories (game_of history) request) ≡ None → is_fresh (game_of history) request ≡ true → length history < 8192
+    → Fresh ≡ foretold stories history now request
+fresh-told stories history now request none fits fresh lt =
     let asked = asks stories (game_of history) request none fresh in
-    told-fresh stories history request asked.0 (room-passes stories history (game_of history) request none fits (below_limit (length history) lt)) fresh asked.1
+    told-fresh stories history now request asked.0 (room-passes stories history (game_of history) now request none fits (below_limit (length history) lt)) fresh asked.1
 
 -- where one does
-pub story-told : (stories : List Story) (history : List Command) (request : Request) (why : No) → first_of (plain_checks stories (game_of history) request) ≡ None
-    → first_of (story_checks stories (game_of history) request) ≡ Some why → Refuse why ≡ foretold stories history request
-story-told stories history request why none e =
-    told-refused stories history request why (sym (refusal_of-story stories history (game_of history) request why none e))
+pub story-told : (stories : List Story) (history : List Command) (now : Option WorldState) (request : Request) (why : No) → first_of (plain_checks stories (game_of history) request) ≡ None
+    → first_of (story_checks now stories (game_of history) request) ≡ Some why → Refuse why ≡ foretold stories history now request
+story-told stories history now request why none e =
+    told-refused stories history now request why (sym (refusal_in-story now stories history (game_of history) request why none e))

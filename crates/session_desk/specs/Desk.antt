@@ -9,9 +9,9 @@ use Rattle.line_words.specs.declared.reply.Reply.{Reply}
 use Rattle.line_words.specs.declared.reply.Reply.TheVariants as replies
 use Rattle.story_run.specs.declared.story.Story.{Story}
 use Rattle.story_run.specs.World.{WorldState}
-use Rattle.session_core.specs.History.{game_of, is_in_use, is_open, last_of, turned_on, world_of}
+use Rattle.session_core.specs.History.{game_of, is_in_use, last_of, turned_on, world_of}
 use Rattle.session_core.specs.Checks.{given, session_of}
-use Rattle.session_core.specs.Answer.{show_of, shown_number}
+use Rattle.session_core.specs.Answer.{show_while, shown_number}
 use Rattle.session_desk.specs.declared.held.Held.{Held}
 use Rattle.session_desk.specs.declared.held.Held.TheVariants.{Nothing, Current, Previous}
 
@@ -48,21 +48,25 @@ world_now (Previous world) = None
 abbrev pub is_cold : DeskState → Bool
 is_cold desk = is_in_use (game desk) && is_none (world_now desk.held)
 
--- A world is held only while the session is in use: the one that the game has come to, or the one
--- that its last command turns into that.
-abbrev pub Holds : List Story → List Command → Held → Type 0
-Holds stories game Nothing = Unit {0}
-Holds stories game (Current world) =
-    IsTrue (is_in_use game) × (world_of stories game ≡ Some world)
-Holds stories game (Previous world) =
-    IsTrue (is_in_use game)
-    × (world_of stories game ≡ Some (turned_on world (given (last_of game))))
+-- a world is held only while the session is in use
+abbrev pub IsHeldInUse : List Command → Held → Type 0
+IsHeldInUse game Nothing = Unit {0}
+IsHeldInUse game (Current world) = IsTrue (is_in_use game)
+IsHeldInUse game (Previous world) = IsTrue (is_in_use game)
 
 -- what holds of every desk
 pub record IsDesk (desk : DeskState) : Type 0 where
   pub numbered : desk.session < 64
   pub within : length desk.commands ≤ 8192
-  pub holds : Holds desk.stories (game desk) desk.held
+  pub in_use : IsHeldInUse (game desk) desk.held
+
+-- The world that is held is the session's own: the one that the game has come to, or the one that
+-- its last command turns into that.
+abbrev pub Holds : List Story → List Command → Held → Type 0
+Holds stories game Nothing = Unit {0}
+Holds stories game (Current world) = world_of stories game ≡ Some world
+Holds stories game (Previous world) =
+    world_of stories game ≡ Some (turned_on world (given (last_of game)))
 
 -- the last game begins at this place, or at the end where there is none
 abbrev pub BeginsAt : ℕ → List Command → Type 0
@@ -73,13 +77,23 @@ abbrev pub holding : Option WorldState → Held
 holding (Some world) = Current world
 holding None = Nothing
 
--- what a warm desk holds: the world of a session in use
+-- what is held of a session that was just opened: the world with which its story begins
 abbrev pub held_of : List Story → List Command → Held
 held_of stories game = if is_in_use game then holding (world_of stories game) else Nothing
 
--- the desk made warm
-abbrev pub warmed : DeskState → DeskState
-warmed desk = record desk { held = held_of desk.stories (game desk) }
+-- what is held once the last command was run
+abbrev pub held_then : List Story → List Command → Held → Held
+held_then stories game Nothing = held_of stories game
+held_then stories game (Current world) = Current world
+held_then stories game (Previous world) = Current (turned_on world (given (last_of game)))
+
+-- the desk once its last command was run
+abbrev pub ran : DeskState → DeskState
+ran desk = record desk { held = held_then desk.stories (game desk) desk.held }
+
+-- the desk made warm with this world
+abbrev pub warmed : DeskState → WorldState → DeskState
+warmed desk world = record desk { held = Current world }
 
 -- the desk without a world
 abbrev pub emptied : DeskState → DeskState
@@ -114,14 +128,14 @@ is_to_run (Previous world) last = true
 is_to_run (Current world) last = false
 is_to_run Nothing last = changes_use last
 
--- the show of a game; nothing was shown before the first OPEN
-abbrev pub show_at : List Story → List Command → List ℕ
-show_at stories [] = []
-show_at stories (command ∷ after) = show_of stories (command ∷ after)
+-- the show of a session with this game and world; nothing was shown before the first OPEN
+abbrev pub show_at : List Command → Option WorldState → List ℕ
+show_at [] now = []
+show_at (command ∷ after) now = show_while (is_in_use (command ∷ after)) now
 
 -- the last show of the session
 abbrev pub last_show : DeskState → List ℕ
-last_show desk = show_at desk.stories (game desk)
+last_show desk = show_at (game desk) (world_now desk.held)
 
 -- the reply that gives a request the last show
 abbrev pub shown_to : DeskState → Request → Reply

@@ -1,5 +1,5 @@
--- A desk answers as a session that is played from the start (own).
-use Rattle.std.specs.Prelude.{◌≡◌, ℕ, ◌≤◌, true, false, List, length, Option, Some}
+-- What a session answers whose world is the one that its desk holds (own).
+use Rattle.std.specs.Prelude.{◌≡◌, ℕ, ◌≤◌, true, false, List, length, Some}
 use Rattle.std.specs.Prelude.{None}
 use Rattle.gate_journal.specs.Command.{IsBudget}
 use Rattle.gate_journal.specs.Rows.{commands_of, IsJournal}
@@ -9,20 +9,20 @@ use Rattle.line_words.specs.Request.{request_of}
 use Rattle.line_words.specs.declared.request.Request.{Request}
 use Rattle.line_words.specs.declared.reply.No.{No}
 use Rattle.line_words.specs.declared.reply.Reply.TheVariants as replies
-use Rattle.story_run.specs.declared.story.Story.{Story}
 use Rattle.session_core.specs.declared.decision.Decision.{Decision}
-use Rattle.session_core.specs.Checks.{command_of}
-use Rattle.session_core.specs.Answer.{answer}
+use Rattle.session_core.specs.Checks.{command_of, is_other_story}
+use Rattle.session_core.specs.Answer.{answer_in}
 use Rattle.session_core.specs.Sessions.{with_budget}
 use Rattle.session_desk.specs.Commit.{IsInRange}
-use Rattle.session_desk.specs.declared.verdict.Verdict.{Verdict}
 use Rattle.session_desk.specs.declared.verdict.Verdict.TheVariants.{Refuse, Again, Fresh, Cold}
-use Rattle.session_desk.specs.Desk.{DeskState, committed, is_cold, shown_to, warmed}
+use Rattle.session_desk.specs.Desk.{DeskState, committed, game, is_cold, ran, shown_to}
+use Rattle.session_desk.specs.Desk.{world_now}
 use Rattle.session_desk.specs.Verdict.{lacks_world, verdict}
 
--- what the session answers to a request, played from the start
+-- what the session answers to a request, by the world that the desk holds
 abbrev pub answered : DeskState → Request → Decision
-answered desk request = answer desk.stories desk.commands request
+answered desk request =
+    answer_in desk.stories desk.commands (world_now desk.held) request
 
 -- The desk refuses what the session refuses, for the same cause.
 abbrev pub RefusesAlike : Type 0
@@ -40,14 +40,17 @@ ShowsAgain =
     → answered desk request ≡ record { reply = shown_to desk request; accepted = None }
 
 -- Where a request is fresh, the session accepts the command that it asks for, and the last show of
--- the desk with that command is its reply.
+-- the desk that has run that command is its reply.
 abbrev pub ShowsFresh : Type 0
 ShowsFresh =
     (desk : DeskState) (request : Request)
     → verdict desk request ≡ Fresh
     → (command : Command) × (command_of desk.stories request ≡ Some command)
     × (answered desk request
-    ≡ record { reply = shown_to (committed desk command) request; accepted = Some command })
+    ≡ record {
+      reply = shown_to (ran (committed desk command)) request;
+      accepted = Some command;
+    })
 
 -- A desk says that it is cold where the answer needs the world that it doesn't hold, and nowhere
 -- else.
@@ -57,15 +60,16 @@ IsColdAlone =
     → (verdict desk request ≡ Cold → lacks_world desk request ≡ true)
     × (lacks_world desk request ≡ true → verdict desk request ≡ Cold)
 
--- A desk that a request finds cold isn't cold once it was warmed; nor is one with a fresh request's
--- command, once that was run; nor one that gives a request its last show again.
+-- A desk that a request finds cold may be warmed, since its story is there as at the OPEN. One with
+-- a fresh request's command isn't cold once that was run; nor is one that gives a request its last
+-- show again.
 abbrev pub StaysWarm : Type 0
 StaysWarm =
     (desk : DeskState) (request : Request)
-    → (verdict desk request ≡ Cold → is_cold (warmed desk) ≡ false)
+    → (verdict desk request ≡ Cold → is_other_story desk.stories (game desk) ≡ false)
     × ((command : Command) → verdict desk request ≡ Fresh
     → command_of desk.stories request ≡ Some command
-    → is_cold (warmed (committed desk command)) ≡ false)
+    → is_cold (ran (committed desk command)) ≡ false)
     × (verdict desk request ≡ Again → is_cold desk ≡ false)
 
 -- A journal has at most 8,192 rows of each session, as many as a desk takes.

@@ -5,4 +5,7 @@ pub mod Commit
 pub mod Laws
 pub mod Turn
 pub mod Marks
+pub mod Opens
 pub mod Shared
+pub mod Sound
+pub mod Keeping

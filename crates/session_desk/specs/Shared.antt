@@ -5,8 +5,10 @@ use Rattle.atomic_table.specs.Seated.{TableId}
 use Rattle.turn_cell.specs.declared.pass.Pass.{Pass}
 use Rattle.turn_cell.specs.History.{Continues, IsForeign}
 use Rattle.turn_cell.specs.Passes.{holds, IsOutside, number, seen}
-use Rattle.gate_journal.specs.Log.{Log, number_of, rows_of}
+use Rattle.gate_journal.specs.Log.{Log, kept, number_of, rows_of}
+use Rattle.gate_journal.specs.Rows.{commands_of}
 use Rattle.gate_journal.specs.declared.command.Command.{Command}
+use Rattle.gate_journal.specs.declared.row.Row.{Row}
 use Rattle.gate_journal.specs.declared.entry.Entry.{Entry as JournalEntry}
 use Rattle.line_words.specs.declared.reply.No.TheVariants as no
 use Rattle.line_words.specs.declared.reply.Reply.TheVariants as replies
@@ -17,27 +19,48 @@ use Rattle.session_core.specs.declared.entry.Entry.TheVariants as entries
 use Rattle.session_core.specs.declared.entry.Outcome.{Outcome}
 use Rattle.session_core.specs.declared.entry.Outcome.TheVariants.{Answered, DiskFailed}
 use Rattle.session_core.specs.declared.entry.Outcome.TheVariants.{OutOfMemory}
+use Rattle.snap_store.specs.Store.{Snapshots}
 use Rattle.session_core.specs.Checks.{command_of}
 use Rattle.session_core.specs.Turning.{commands_in, MayMeet, turn_met}
 use Rattle.session_core.specs.declared.decision.Decision.{Decision}
+use Rattle.session_saves.specs.Saves as saves
+use Rattle.session_saves.specs.Saves.{SavesState}
 use Rattle.session_desk.specs.declared.refused.Refused.{Refused}
 use Rattle.session_desk.specs.declared.refused.Refused.TheVariants.{DiskFault, NoMemory}
-use Rattle.session_desk.specs.declared.shared.mark.Mark.{Mark}
 use Rattle.session_desk.specs.declared.turned.Turned.{Turned}
-use Rattle.session_desk.specs.Desk.{DeskState, committed}
+use Rattle.session_desk.specs.declared.shared.mark.Mark.{Mark}
+use Rattle.session_desk.specs.Desk.{DeskState, committed, opened}
 use Rattle.session_desk.specs.Marks.{count_commands, woven}
-use Rattle.session_desk.specs.Turn.{added, history_in}
+use Rattle.session_desk.specs.Turn.{added, history_in, IsSameDesk}
 
 -- the entry with 0 in the place of its pass's number, as `history_in` gives it
 abbrev pub unnumbered : Entry → Entry
 unnumbered (entries.Accepted by command) = entries.Accepted 0 command
 unnumbered (entries.Faulted by from to) = entries.Faulted 0 from to
 
--- a desk, its session's history, oldest first, and its pass of the journal's cell
+-- A desk, its session's history, oldest first, its pass of the journal's cell, and its snapshots;
+-- and the store of these and the journal's rows as the desk was opened.
 pub record SharedState (D : Type 0) : Type 0 where
   pub desk : DeskState
   pub history : List Entry
   pub pass : Pass (Log D) JournalEntry
+  pub saves : SavesState D
+  pub store : Snapshots D
+  pub rows : List Row
+
+-- a desk with the rows of its session that holds no world and missed no snapshot
+abbrev pub as_opened :
+    {D : Type 0}
+    → ℕ → List Story → ℕ → List Row → Pass (Log D) JournalEntry → Snapshots D
+    → SharedState D
+as_opened session stories budget rows pass store = record {
+  desk = opened session stories budget (commands_of rows session);
+  history = history_in (kept rows) session;
+  pass = pass;
+  saves = saves.opened store;
+  store = store;
+  rows = rows;
+}
 
 -- the pass of a session's desk is in no turn; its number is the session's and 1, and it holds no
 -- other
@@ -53,30 +76,44 @@ pub record IsShared {D : Type 0} (state : SharedState D) : Type 0 where
   pub commands : commands_in state.history ≡ state.desk.commands
   pub entries : map unnumbered state.history ≡ history_in (seen state.pass) state.desk.session
 
--- what holds of the fields of each: its marks, its desk and its pass
-pub record IsWhole
+-- what holds of the marks of each: with the commands they are its history
+pub record IsMarked
     {D : Type 0}
     (marks : List Mark)
     (desk : DeskState)
     (pass : Pass (Log D) JournalEntry) : Type 0 where
   pub counted : count_commands marks ≡ length desk.commands
-  pub shared :
-      IsShared (record { desk = desk; history = woven marks desk.commands; pass = pass })
+  pub of_session : IsPassOf desk.session pass
+  pub commands : commands_in (woven marks desk.commands) ≡ desk.commands
+  pub entries :
+      map unnumbered (woven marks desk.commands) ≡ history_in (seen pass) desk.session
 
--- what never changes of such a desk: its session, stories and budget, and the journal's cell
-pub record DeskTag : Type 0 where
+-- what never changes of such a desk: its session, stories and budget, the journal's cell, and the
+-- store and the journal's rows as it was opened
+pub record DeskTag (D : Type 0) : Type 0 where
   pub session : ℕ
   pub stories : List Story
   pub budget : ℕ
   pub cell : TableId
+  pub store : Snapshots D
+  pub rows : List Row
 
-abbrev pub desk_tag : {D : Type 0} → SharedState D → DeskTag
+abbrev pub desk_tag : {D : Type 0} → SharedState D → DeskTag D
 desk_tag state = record {
   session = state.desk.session;
   stories = state.desk.stories;
   budget = state.desk.budget;
   cell = state.pass.known.place.table_id;
+  store = state.store;
+  rows = state.rows;
 }
+
+-- nothing changes but the world that is held and the snapshots
+pub record Rests {D : Type 0} (old new : SharedState D) : Type 0 where
+  pub desk : IsSameDesk old.desk new.desk
+  pub history : new.history ≡ old.history
+  pub pass : new.pass ≡ old.pass
+  pub tag : desk_tag new ≡ desk_tag old
 
 -- A journal goes on from what a session's pass had seen: other sessions' entries came, and then
 -- what the session's turn added.
@@ -114,6 +151,11 @@ abbrev pub met_by : {T : Type 0} → Result T Refused → Outcome
 met_by (Ok x) = Answered
 met_by (Err (DiskFault fault)) = DiskFailed fault.from fault.to
 met_by (Err NoMemory) = OutOfMemory
+
+-- what a commit gave, without the place of the row
+abbrev pub unplaced : Result ℕ Refused → Result (Unit {0}) Refused
+unplaced (Ok place) = Ok tt
+unplaced (Err why) = Err why
 
 -- the desk has taken the command that the request asks for, and the history its entry, made by the
 -- pass of this number

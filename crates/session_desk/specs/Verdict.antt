@@ -9,9 +9,10 @@ use Rattle.line_words.specs.declared.request.Request.TheVariants.{Close}
 use Rattle.line_words.specs.declared.reply.Reply.{Reply}
 use Rattle.line_words.specs.declared.reply.Reply.TheVariants as replies
 use Rattle.story_run.specs.declared.story.Story.{Story}
+use Rattle.story_run.specs.World.{WorldState}
 use Rattle.session_core.specs.declared.decision.Decision.{Decision}
-use Rattle.session_core.specs.History.{game_of, is_in_use}
-use Rattle.session_core.specs.Answer.{answer, first_of, plain_checks}
+use Rattle.session_core.specs.History.{is_in_use}
+use Rattle.session_core.specs.Answer.{answer_in, first_of, plain_checks}
 use Rattle.session_desk.specs.declared.verdict.Verdict.{Verdict}
 use Rattle.session_desk.specs.declared.verdict.Verdict.TheVariants.{Refuse, Again, Fresh, Cold}
 use Rattle.session_desk.specs.Desk.{DeskState, game, world_now}
@@ -50,11 +51,12 @@ told_by (replies.Show s n body) None = Again
 abbrev pub told : Decision → Verdict
 told decision = told_by decision.reply decision.accepted
 
--- what a session with these commands will answer
-abbrev pub foretold : List Story → List Command → Request → Verdict
-foretold stories commands request = told (answer stories commands request)
+-- what a session with these commands and this world will answer
+abbrev pub foretold : List Story → List Command → Option WorldState → Request → Verdict
+foretold stories commands now request = told (answer_in stories commands now request)
 
--- what a desk says of a request
+-- what a desk says of a request, by the world that it holds
 abbrev pub verdict : DeskState → Request → Verdict
 verdict desk request =
-    if lacks_world desk request then Cold else foretold desk.stories desk.commands request
+    if lacks_world desk request then Cold
+    else foretold desk.stories desk.commands (world_now desk.held) request

@@ -1,5 +1,5 @@
 -- Whether a story takes what a request gives it (own).
-use Rattle.std.specs.Prelude.{List, [], ◌∷◌, Option, Some, None}
+use Rattle.std.specs.Prelude.{[], ◌∷◌, Option, Some, None}
 use Rattle.glk_input.specs.declared.input.Input.{Input}
 use Rattle.glk_input.specs.declared.input.Input.TheVariants as inputs
 use Rattle.line_words.specs.declared.request.Request.{Request}
@@ -30,7 +30,7 @@ outline (Last s key) = None
 outline (Close s key n) = None
 
 -- why the story doesn't take a new input: it is over, or doesn't wait for that one
-abbrev pub refusal_in : WorldState → Option Input → Option No
-refusal_in world input =
+abbrev pub declines : WorldState → Option Input → Option No
+declines world input =
     first_of
     ((over_in (Some world) input, Over) ∷ (unwanted_in (Some world) input, Unwanted) ∷ [])

@@ -1,7 +1,7 @@
 //! The verdict on a request (own).
 
 ghost use Rattle.std.specs.Prelude.{◌≡◌, ◌≤◌, if◌then◌else◌, length, None, Some};
-ghost use Rattle.session_core.specs.History.{game_of, world_of};
+ghost use Rattle.session_core.specs.History.{game_of};
 ghost use Rattle.session_core.specs.Answer.{first_of, plain_checks};
 ghost use Rattle.session_desk.specs.declared.verdict.Verdict.TheVariants.{Cold};
 ghost use Rattle.session_desk.specs.Verdict.{foretold, is_to_story};
@@ -34,10 +34,9 @@ pub fn in_world(
     requires within { length commands.now ≤ 8192 }
     requires played { played.now ≡ game_of commands.now }
     requires short { length played.now ≤ 8192 }
-    requires world { world_of stories.now (game_of commands.now) ≡ Some world.now }
     requires plain { first_of (plain_checks stories.now (game_of commands.now) request.now)
         ≡ None }
-    ensures { result ≡ foretold stories.now commands.now request.now }
+    ensures { result ≡ foretold stories.now commands.now (Some world.now) request.now }
 {
     if !is_fresh(played, request) {
         return Verdict::Again;
@@ -64,7 +63,7 @@ pub fn in_no_world(
     requires plain { first_of (plain_checks stories.now (game_of commands.now) request.now)
         ≡ None }
     ensures { result ≡ (if is_to_story (game_of commands.now) request.now then Cold
-        else foretold stories.now commands.now request.now) }
+        else foretold stories.now commands.now None request.now) }
 {
     if is_to_story(game, request) {
         return Verdict::Cold;

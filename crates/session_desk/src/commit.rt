@@ -49,15 +49,17 @@ pub fn asked(alloc: Global, stories: &[Story], request: &Request) -> Result<Comm
     Ok(command)
 }
 
-/// Takes the memory of a row, and then writes it.
+/// Takes the memory of a row, and then writes it; the answer is its place.
 pub fn write_down<D: Disk>(
     alloc: Global,
     journal: &mut Journal<D>,
     session: u8,
     command: &Command,
-) -> Result<(), Refused>
+) -> Result<u64, Refused>
     requires { MayStand (rows_of journal.old.entries) session command.now }
     ensures ok { OnOk result (Extends session command.now journal.old journal.new) }
+    ensures place { IfOk result (λ place.
+        place ≡ length (spelled (rows_of journal.old.entries))) }
     ensures err { IfErr result (λ why. Leaves D.faults session journal.old journal.new why) }
     ensures rows { MatchResult result
         (λ _. rows_of journal.new.entries ≡ rows_of journal.old.entries
@@ -80,7 +82,7 @@ pub fn write_down<D: Disk>(
         return Err(Refused::NoMemory);
     };
     match journal.append(session, command) {
-        Ok(_) => Ok(()),
+        Ok(place) => Ok(place),
         Err(fault) => Err(Refused::DiskFault(fault)),
     }
 }

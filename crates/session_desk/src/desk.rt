@@ -7,13 +7,14 @@ ghost use Rattle.disk_model.specs.Disk.{SameDisk};
 ghost use Rattle.gate_journal.specs.Log.{rows_of};
 ghost use Rattle.gate_journal.specs.Rows.{commands_of, spelled};
 ghost use Rattle.gate_journal.specs.declared.command.Command.{Command};
-ghost use Rattle.session_core.specs.History.{last_of};
+ghost use Rattle.session_core.specs.History.{is_in_use, last_of};
 ghost use Rattle.session_core.specs.Checks.{command_of};
 ghost use Rattle.session_core.specs.Answer.{shown_number};
-ghost use Rattle.session_core.specs.Turns.{turns_of};
-ghost use Rattle.session_desk.specs.Desk.{game, is_cold, is_to_run, last_show, warmed, emptied};
-ghost use Rattle.session_desk.specs.Desk.{opened};
+ghost use Rattle.session_saves.specs.Game.{inputs_of};
+ghost use Rattle.session_desk.specs.Desk.{emptied, game, is_cold, is_to_run, last_show, opened};
+ghost use Rattle.session_desk.specs.Desk.{ran, warmed, world_now};
 ghost use Rattle.session_desk.specs.Verdict.{verdict};
+ghost use Rattle.session_desk.specs.declared.held.Held.TheVariants.{Current};
 ghost use Rattle.session_desk.specs.declared.verdict.Verdict.TheVariants.{Fresh, Cold};
 ghost use Rattle.session_desk.specs.Commit.{Commits, IsInRange, IsKept, Leaves, LeavesGate};
 ghost use Rattle.session_desk.specs.Commit.{Stops, WhereBegun};
@@ -21,7 +22,7 @@ ghost use Rattle.session_desk.specs.Commit.{Stops, WhereBegun};
 use crate::check::{in_no_world, in_world};
 use crate::commit::{asked, take_down, write_down};
 use crate::game::{begins_of, game_at};
-use crate::held::{Held, ran, warmed};
+use crate::held::{Held, ran};
 use crate::refused::Refused;
 use crate::rows::commands_of;
 use crate::verdict::Verdict;
@@ -29,14 +30,14 @@ use disk_model::Disk;
 use gate_journal::{Command, Journal, Row};
 use line_words::Request;
 use session_core::{is_in_use, plain_refusal, shown_number};
+use session_saves::inputs_of;
 use std::alloc::{AllocError, Global};
 use std::marker::Model;
 use std::mem;
-use std::sync::ledger::Ledger;
-use story_run::{Steps, Story};
+use story_run::{Story, World};
 
-/// One session, with the commands that it accepted and, where it is warm, the world that they have
-/// come to. It is cold where the session is in use and its world isn't held.
+/// One session, with the commands that it accepted and, where it is warm, a world. It is cold where
+/// the session is in use and its world isn't held.
 #[derive(Drop)]
 pub struct Desk<'i> {
     alloc: Global,
@@ -134,39 +135,64 @@ impl<'i> Desk<'i> {
         }
     }
 
-    /// Plays a cold session from the start. One step is one turn.
-    pub fn warm<L: Ledger>(&mut self, alloc: Global, steps: &mut Steps<L>) -> Result<(), AllocError>
-        requires cold { IsTrue (is_cold self.old) }
-        ensures ok { OnOk result (self.new ≡ warmed self.old) }
-        ensures cost { OnOk result
-            (steps.new ≡ steps.old + turns_of self.old.stories (game self.old)) }
-        ensures err { OnErr result (self.new ≡ self.old) }
+    /// The stories.
+    pub fn stories(&self) -> &'i [Story<'i>]
+        ensures { result.now ≡ self.now.stories }
     {
-        self.held = warmed(
-            alloc,
-            self.stories,
-            game_at(&self.commands, self.begins),
-            steps,
-        )?;
-        Ok(())
+        self.stories
+    }
+
+    /// The last OPEN and the commands since.
+    pub fn game(&self) -> &[Command]
+        ensures value { result.now ≡ game self.now }
+        ensures within { length result.now ≤ 8192 }
+    {
+        game_at(&self.commands, self.begins)
+    }
+
+    /// How many inputs came since the last OPEN.
+    pub fn inputs(&self) -> u32
+        ensures { result ≡ length (inputs_of (game self.now)) }
+    {
+        inputs_of(self.game())
+    }
+
+    /// The world of the session as it is now, if that is held.
+    pub fn world(&self) -> Option<&World<'i>>
+        ensures { MatchOption result (world_now self.now.held ≡ None)
+            (λ world. self.now.held ≡ Current world.now) }
+    {
+        match &self.held {
+            Held::Current(world) => Some(world),
+            Held::Nothing | Held::Previous(_) => None,
+        }
+    }
+
+    /// Makes the desk warm with the world of its session, which is in use.
+    pub fn hold(&mut self, world: World<'i>)
+        requires { IsTrue (is_in_use (game self.old)) }
+        ensures { self.new ≡ warmed self.old world.entry }
+    {
+        self.held = Held::Current(world);
     }
 
     /// Makes the session accept the command that a fresh request asks for, by a row in the journal;
-    /// the world is set aside for `run`. The memory is taken before the row is written. Of `_by`,
-    /// the number of the pass of a host that many share, nothing is kept.
+    /// the world is set aside for `run`. The memory is taken before the row is written. The answer
+    /// is the row's place.
     pub fn commit<D: Disk>(
         &mut self,
         alloc: Global,
-        _by: u64,
         journal: &mut Journal<D>,
         request: &Request,
-    ) -> Result<(), Refused>
+    ) -> Result<u64, Refused>
         requires fresh { verdict self.old request.now ≡ Fresh }
         requires ranges { IsInRange request.now }
         requires rows { IsKept self.old journal.old }
 
         ensures ok { OnOk result
             (Commits request.now self.old journal.old self.new journal.new) }
+        ensures place { IfOk result (λ place.
+            place ≡ length (spelled (rows_of journal.old.entries))) }
         ensures runs { OnOk result
             (IsTrue (is_to_run self.new.held (last_of (game self.new)))) }
         ensures err { OnErr result (self.new ≡ self.old) }
@@ -198,14 +224,14 @@ impl<'i> Desk<'i> {
         // with the count comes what holds of every journal
         let _count = journal.row_count();
         match write_down(alloc, journal, self.session, &command) {
-            Ok(()) => {
+            Ok(place) => {
                 take_down(
                     &mut self.commands,
                     &mut self.begins,
                     &mut self.held,
                     command,
                 );
-                Ok(())
+                Ok(place)
             }
             Err(why) => Err(why),
         }
@@ -216,7 +242,7 @@ impl<'i> Desk<'i> {
     /// is gone.
     pub fn run(&mut self, alloc: Global) -> Result<(), AllocError>
         requires { IsTrue (is_to_run self.old.held (last_of (game self.old))) }
-        ensures ok { OnOk result (self.new ≡ warmed self.old) }
+        ensures ok { OnOk result (self.new ≡ ran self.old) }
         ensures err { OnErr result (self.new ≡ emptied self.old) }
     {
         let held = mem::replace(&mut self.held, Held::Nothing);

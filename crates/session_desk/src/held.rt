@@ -1,12 +1,11 @@
 //! The world that a desk holds (own).
 
-ghost use Rattle.std.specs.Prelude.{◌≡◌, ◌+◌, IsTrue, IfOk, OnOk};
-ghost use Rattle.session_core.specs.History.{game_of, is_in_use, turned_on, input_of};
-ghost use Rattle.session_core.specs.Turns.{turns_of};
-ghost use Rattle.session_desk.specs.Desk.{aside, held_of, Holds};
+ghost use Rattle.std.specs.Prelude.{◌≡◌, IfOk};
+ghost use Rattle.session_core.specs.History.{turned_on, input_of};
+ghost use Rattle.session_desk.specs.Desk.{aside, held_of, held_then};
 
 use gate_journal::Command;
-use session_core::{game_of, is_in_use, replay, turn_on, world_of};
+use session_core::{is_in_use, turn_on, world_of};
 use std::alloc::{AllocError, Global};
 use std::marker::Brand;
 use std::sync::ledger::{Blank, Ledger};
@@ -20,23 +19,6 @@ pub enum Held<'i> {
     Current(World<'i>),
     /// The world that the last command turns into that.
     Previous(World<'i>),
-}
-
-/// The world of a session in use, played from the start.
-pub fn warmed<'i, L: Ledger>(
-    alloc: Global,
-    stories: &[Story<'i>],
-    game: &[Command],
-    steps: &mut Steps<L>,
-) -> Result<Held<'i>, AllocError>
-    requires { IsTrue (is_in_use game.now) }
-    ensures value { IfOk result (λ held. held ≡ held_of stories.now game.now) }
-    ensures cost { OnOk result (steps.new ≡ steps.old + turns_of stories.now game.now) }
-{
-    match replay(alloc, stories, game, steps)? {
-        Some(world) => Ok(Held::Current(world)),
-        None => Ok(Held::Nothing),
-    }
 }
 
 /// The world of a session that was just opened, or nothing of one that was closed.
@@ -75,8 +57,7 @@ pub fn ran<'i>(
     game: &[Command],
     held: Held<'i>,
 ) -> Result<Held<'i>, AllocError>
-    requires { Holds stories.now game.now held }
-    ensures { IfOk result (λ now. now ≡ held_of stories.now game.now) }
+    ensures { IfOk result (λ now. now ≡ held_then stories.now game.now held.entry) }
 {
     match held {
         Held::Nothing => begun(alloc, stories, game),

@@ -1,5 +1,5 @@
-//! Sessions kept warm over one journal: each answers as one that is played from the start for each
-//! request.
+//! Sessions kept warm over one journal, each from its snapshots: a sound one answers as one that is
+//! played from the start for each request.
 #![tactic(auto)]
 
 mod check;
@@ -11,12 +11,10 @@ mod laws;
 mod refused;
 mod rows;
 mod shared;
-mod turn;
 mod turned;
 mod verdict;
 mod wanted;
 
-pub use desk::Desk;
 pub use laws::{
     is_cold_alone, journals_fit, reads_in_range, refuses_alike, shows_again, shows_fresh,
     stays_warm,

@@ -1,7 +1,9 @@
-//! The commands of a session among a journal's rows (own).
+//! The rows of a session among a journal's (own).
 
 ghost use Rattle.std.specs.Prelude.{◌≡◌, IfOk};
 ghost use Rattle.gate_journal.specs.Rows.{commands_of};
+ghost use Rattle.session_saves.specs.Agreement.{last_row};
+ghost use Rattle.session_desk.specs.Opens.{opens_of};
 
 use gate_journal::{Command, Row};
 use std::alloc::{AllocError, Global};
@@ -17,4 +19,17 @@ pub fn commands_of(alloc: Global, rows: &[Row], session: u8) -> Result<Vec<Comma
         }
     }
     Ok(commands)
+}
+
+/// The place of the session's last OPEN row.
+pub fn last_open(rows: &[Row], session: u8) -> Option<u64>
+    ensures { result ≡ last_row (opens_of rows.now session) }
+{
+    let mut place = None;
+    for at in 0..rows.len() {
+        if rows[at].session == session && matches!(rows[at].command, Command::Open { .. }) {
+            place = Some(rows[at].place);
+        }
+    }
+    place
 }

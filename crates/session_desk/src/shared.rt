@@ -1,49 +1,71 @@
 //! A desk that many threads have in turn (own).
 
 ghost use Rattle.std.specs.Prelude.{◌≡◌, ◌≤◌, ◌<◌, length, IsTrue, IfOk, OnOk, OnErr};
-ghost use Rattle.std.specs.Prelude.{MatchOption, ⊤, ◌+◌, false};
+ghost use Rattle.std.specs.Prelude.{MatchOption, ⊤, ◌+◌, true, false, max, ℕ, [], Some};
+ghost use Rattle.disk_model.specs.Disk.{LeavesOnly, OnlyLooks, Rose};
 ghost use Rattle.turn_cell.specs.Passes.{seen};
 ghost use Rattle.gate_journal.specs.Log.{kept};
 ghost use Rattle.gate_journal.specs.Rows.{commands_of};
 ghost use Rattle.session_core.specs.Answer.{shown_number};
-ghost use Rattle.session_core.specs.History.{last_of};
-ghost use Rattle.session_core.specs.Turns.{turns_of};
-ghost use Rattle.session_desk.specs.Desk.{emptied, game, is_cold, is_to_run, last_show, opened};
-ghost use Rattle.session_desk.specs.Desk.{warmed};
-ghost use Rattle.session_desk.specs.Shared.{IsPassOf, IsShared};
-ghost use Rattle.session_desk.specs.Turn.{history_in};
+ghost use Rattle.session_core.specs.Checks.{is_other_story};
+ghost use Rattle.session_core.specs.History.{last_of, world_of};
+ghost use Rattle.snap_store.specs.File.{given, newest_area};
+ghost use Rattle.session_saves.specs.Agreement.{last_row};
+ghost use Rattle.session_saves.specs.Game.{inputs_of, turns_after};
+ghost use Rattle.session_saves.specs.Keeping.{MayStand};
+ghost use Rattle.session_saves.specs.Saves.{IsKeptUp};
+ghost use Rattle.session_saves.specs.Warming.{count_in};
+ghost use Rattle.session_desk.specs.Desk.{emptied, game, Holds, is_cold, is_to_run, last_show};
+ghost use Rattle.session_desk.specs.Desk.{ran};
+ghost use Rattle.session_desk.specs.Keeping.{due, Keeps, IsWarmed};
+ghost use Rattle.session_desk.specs.Shared.{as_opened, desk_tag, IsPassOf, IsShared, Rests};
+ghost use Rattle.session_desk.specs.Sound.{AreKeptUp, EndsStore, IsSoundDesk, open_rows};
 ghost use Rattle.session_desk.specs.Verdict.{verdict};
 ghost use Rattle.session_desk.specs.declared.verdict.Verdict.TheVariants.{Cold};
 
 use crate::desk::Desk;
+use crate::rows::last_open;
 use crate::verdict::Verdict;
 use disk_model::Disk;
 use gate_journal::{Journal, Row};
 use line_words::Request;
 use mark::Mark;
 use session_core::Entry;
+use session_saves::{Missed, Saves};
+use snap_store::Store;
 use std::alloc::{AllocError, Global};
 use std::marker::Model;
+use std::snapshot::Snapshot;
 use std::sync::ledger::Ledger;
 use story_run::{Steps, Story};
 use turn_cell::{Pass, Told};
 
 mod commit;
 mod mark;
+mod prepare;
 mod turn;
 
-/// One session of a host that many share: its desk, the history with who made each entry, and a
-/// pass of the journal's cell. It lies in a cell of its own.
+/// One session of a host that many share: its desk, the history with who made each entry, a pass of
+/// the journal's cell, and its snapshots. It lies in a cell of its own.
 #[derive(Drop)]
 pub struct SharedDesk<'i, D: Disk> {
     desk: Desk<'i>,
     marks: Vec<Mark>,
     pass: Pass<Journal<D>>,
+    saves: Saves<D>,
+    // the place of the session's last OPEN row
+    place: Option<u64>,
+    // the store and the pass as they were handed in
+    store: Snapshot<Store<D>>,
+    first: Snapshot<Pass<Journal<D>>>,
 }
 
 impl<'i, D: Disk> Model for SharedDesk<'i, D> {
+    ghost use Rattle.gate_journal.specs.Log.{rows_of};
+    ghost use Rattle.turn_cell.specs.Passes.{seen};
     ghost use Rattle.session_desk.specs.Marks.{woven};
-    ghost use Rattle.session_desk.specs.Shared.{IsWhole, SharedState};
+    ghost use Rattle.session_desk.specs.Shared.{SharedState};
+    ghost use Rattle.session_desk.specs.Sound.{IsWhole};
 
     ghost Value = { SharedState D };
 
@@ -51,9 +73,21 @@ impl<'i, D: Disk> Model for SharedDesk<'i, D> {
       desk = d.desk;
       history = woven d.marks.items d.desk.commands;
       pass = d.pass;
+      saves = d.saves;
+      store = d.store.value;
+      rows = rows_of (seen d.first.value);
     } };
 
-    ghost invariant = { λ d. IsWhole d.marks.items d.desk d.pass };
+    ghost invariant = { λ d. IsWhole D.tells D.seen D.room D.label D.faults D.reach
+        d.marks.items d.place
+        (record {
+          desk = d.desk;
+          history = woven d.marks.items d.desk.commands;
+          pass = d.pass;
+          saves = d.saves;
+          store = d.store.value;
+          rows = rows_of (seen d.first.value);
+        }) };
 }
 
 impl<'i, D: Disk> Told for SharedDesk<'i, D> {
@@ -62,7 +96,7 @@ impl<'i, D: Disk> Told for SharedDesk<'i, D> {
 
     type Entry = Entry;
 
-    ghost Tag = { DeskTag };
+    ghost Tag = { DeskTag D };
 
     ghost entries = { λ d. d.history };
 
@@ -75,10 +109,11 @@ impl<'i, D: Disk> Told for SharedDesk<'i, D> {
     }
 }
 
-impl<'i, D: Disk> SharedDesk<'i, D> {
+impl<'i, D: Disk + Drop> SharedDesk<'i, D> {
     /// The desk of a session, below 64, with the commands of its rows, at most 8,192, as its
-    /// history; its world isn't held. The rows are all that the pass has seen of the journal. The
-    /// budget is that of a turn, in ticks, for whoever reads requests to open the session.
+    /// history; its world isn't held. The rows are all that the pass has seen of the journal, and
+    /// the store is that of the session's snapshots. The budget is that of a turn, in ticks, for
+    /// whoever reads requests to open the session.
     pub fn open(
         alloc: Global,
         session: u8,
@@ -86,20 +121,30 @@ impl<'i, D: Disk> SharedDesk<'i, D> {
         budget: u64,
         rows: &[Row],
         pass: Pass<Journal<D>>,
+        store: Store<D>,
     ) -> Result<SharedDesk<'i, D>, AllocError>
         requires session { session < 64 }
         requires within { length (commands_of rows.now session) ≤ 8192 }
         requires pass { IsPassOf session pass }
         requires rows { seen pass ≡ kept rows.now }
-        ensures value { IfOk result (λ desk. desk ≡ record {
-          desk = opened session stories.now budget (commands_of rows.now session);
-          history = history_in (kept rows.now) session;
-          pass = pass;
-        }) }
+        ensures value { IfOk result (λ desk. desk
+            ≡ as_opened session stories.now budget rows.now pass store) }
     {
         let desk = Desk::open(alloc, session, stories, budget, rows)?;
         let marks = vec![in alloc; Mark::Accepted { by: 0 }; desk.len()]?;
-        Ok(SharedDesk { desk, marks, pass })
+        let place = last_open(rows, session);
+        let given = Snapshot::of(&store);
+        let first = Snapshot::of(&pass);
+        let saves = Saves::open(store);
+        Ok(SharedDesk {
+            desk,
+            marks,
+            pass,
+            saves,
+            place,
+            store: given,
+            first,
+        })
     }
 
     /// The budget of a turn, in ticks, with which the session is to be opened.
@@ -109,35 +154,112 @@ impl<'i, D: Disk> SharedDesk<'i, D> {
         self.desk.budget()
     }
 
-    /// What the request will be answered, as `Desk::check`.
+    /// What the request will be answered, by the world that is held. It takes no memory.
     pub fn check(&self, request: &Request) -> Verdict
         ensures value { result ≡ verdict self.now.desk request.now }
         ensures cold { result ≡ Cold → IsTrue (is_cold self.now.desk) }
+
+        // a sound desk holds the session's own world
+        ensures own { IsSoundDesk D.tells D.seen (desk_tag self.now)
+            → Holds self.now.desk.stories (game self.now.desk) self.now.desk.held }
     {
         self.desk.check(request)
     }
 
-    /// Plays a cold session from the start, as `Desk::warm`.
+    /// Plays a cold session from the newest area of its last OPEN row on, or from the start. One
+    /// step is one turn.
     pub fn warm<L: Ledger>(&mut self, alloc: Global, steps: &mut Steps<L>) -> Result<(), AllocError>
         requires cold { IsTrue (is_cold self.old.desk) }
-        ensures ok { OnOk result (self.new ≡ record self.old { desk = warmed self.old.desk }) }
-        ensures cost { OnOk result
-            (steps.new ≡ steps.old + turns_of self.old.desk.stories (game self.old.desk)) }
-        ensures err { OnErr result (self.new ≡ self.old) }
+        requires story { is_other_story self.old.desk.stories (game self.old.desk) ≡ false }
+        ensures found { OnOk result
+            (IsWarmed D.tells D.seen D.faults self.old self.new steps.old steps.new) }
+
+        // on a sound desk it is the session's own world, and the inputs behind the newest area are
+        // all that is played
+        ensures own { IsSoundDesk D.tells D.seen (desk_tag self.old)
+            → Holds self.new.desk.stories (game self.new.desk) self.new.desk.held }
+        ensures cost { (place : ℕ)
+            → IsSoundDesk D.tells D.seen (desk_tag self.old)
+            → (Rose (D.faults self.old.saves.store.disk) (D.faults self.new.saves.store.disk)
+            → ⊥)
+            → last_row (open_rows self.old) ≡ Some place
+            → OnOk result (steps.new ≡ steps.old
+            + turns_after self.old.desk.stories (game self.old.desk)
+            (count_in (given (newest_area place (length (inputs_of (game self.old.desk)))
+            (D.seen self.old.saves.store.disk))))) }
+
+        ensures err { OnErr result (self.new.desk ≡ self.old.desk) }
+        ensures rests { Rests self.old self.new }
+        ensures counts { D.faults self.old.saves.store.disk ≤ D.faults self.new.saves.store.disk }
+        ensures looks { OnlyLooks D.tells D.may_leave D.moment D.left_since D.reach D.room D.label
+            self.old.saves.store.disk self.new.saves.store.disk }
+        ensures slots { (self.new.saves.store.slots ≡ self.old.saves.store.slots)
+            × (self.new.saves.missed ≡ self.old.saves.missed)
+            × (self.new.saves.last ≡ self.old.saves.last) }
     {
-        self.desk.warm(alloc, steps)
+        let place = self.place.unwrap();
+        let world = self
+            .saves
+            .warm(alloc, self.desk.stories(), place, self.desk.game(), steps)?;
+        self.desk.hold(world.unwrap());
+        Ok(())
     }
 
-    /// Gives the story the command that was just committed, as `Desk::run`.
+    /// Gives the story the command that was just committed: the turn of the world that was set
+    /// aside. An OPEN begins the story, and a CLOSE does nothing. Where memory runs out the world
+    /// is gone.
     pub fn run(&mut self, alloc: Global) -> Result<(), AllocError>
         requires { IsTrue (is_to_run self.old.desk.held (last_of (game self.old.desk))) }
-        ensures ok { OnOk result (self.new ≡ record self.old { desk = warmed self.old.desk }) }
+        ensures ok { OnOk result (self.new ≡ record self.old { desk = ran self.old.desk }) }
         ensures err { OnErr result (self.new ≡ record self.old { desk = emptied self.old.desk }) }
     {
         self.desk.run(alloc)
     }
 
-    /// The lines of the last show, as `Desk::last`.
+    /// The desk is warm, its session is in use, and the inputs since the last OPEN are a positive
+    /// multiple of 16, whose snapshot is neither stored nor counted among those that were missed.
+    pub fn due(&self) -> bool
+        ensures value { result ≡ due self.now }
+    {
+        match self.place {
+            Some(place) => match self.desk.world() {
+                Some(_) => self.saves.is_due(place, self.desk.inputs()),
+                None => false,
+            },
+            None => false,
+        }
+    }
+
+    /// Puts the snapshot into the store where it is due. What prevents it is counted.
+    pub fn keep(&mut self, alloc: Global)
+        ensures idle { due self.old ≡ false → self.new ≡ self.old }
+        ensures ok { due self.old ≡ true
+            → Keeps D.tells D.may_leave D.faults self.old self.new }
+        ensures due { due self.new ≡ false }
+        ensures kept { self.new ≡ record self.old { saves = self.new.saves } }
+        ensures counts { D.faults self.old.saves.store.disk ≤ D.faults self.new.saves.store.disk }
+        ensures reach { D.reach self.new.saves.store.disk
+            ≤ max (D.reach self.old.saves.store.disk) 16781344 }
+    {
+        let Some(place) = self.place else {
+            return;
+        };
+        let Some(world) = self.desk.world() else {
+            return;
+        };
+        self.saves.keep(alloc, world, place, self.desk.inputs());
+    }
+
+    /// How many snapshots were missed, by cause.
+    pub fn missed(&self) -> Missed
+        ensures value { result ≡ self.now.saves.missed }
+        ensures kept_up { AreKeptUp self.now }
+    {
+        self.saves.missed()
+    }
+
+    /// The lines of the last show: `E closed` once the session was closed, and none before it was
+    /// first opened. None where the desk is cold.
     pub fn last(&self) -> Option<&[u8]>
         ensures cold { MatchOption result (IsTrue (is_cold self.now.desk))
             (λ show. is_cold self.now.desk ≡ false) }
@@ -146,19 +268,34 @@ impl<'i, D: Disk> SharedDesk<'i, D> {
         self.desk.last()
     }
 
-    /// The number in the show that the request gets, as `Desk::number`.
+    /// The number in the show that the request gets: 0 for OPEN, that of the last command for LAST,
+    /// else the request's own.
     pub fn number(&self, request: &Request) -> u32
         ensures value { result ≡ shown_number (game self.now.desk) request.now }
     {
         self.desk.number(request)
     }
 
-    /// Its pass. What it has seen of the journal has the history's entries, one for one.
-    pub fn into_parts(self) -> Pass<Journal<D>>
-        ensures value { result ≡ self.entry.pass }
+    /// Its pass and its store. What the pass has seen of the journal has the history's entries, one
+    /// for one.
+    pub fn into_parts(self) -> (Pass<Journal<D>>, Store<D>)
+        ensures value { result ≡ (self.entry.pass, self.entry.saves.store) }
         ensures shared { IsShared self.entry }
+        ensures store { EndsStore D.tells D.may_leave D.seen D.room D.label D.faults D.reach
+            self.entry }
     {
-        let SharedDesk { pass, .. } = self;
-        pass
+        let SharedDesk {
+            desk: _,
+            marks: _,
+            pass,
+            saves,
+            place: _,
+            store: _,
+            first: _,
+        } = self;
+        let store = saves.into_store();
+        // with the header comes what holds of every store's images
+        let _made = store.is_made();
+        (pass, store)
     }
 }

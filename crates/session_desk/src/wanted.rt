@@ -1,7 +1,7 @@
 //! Whether a story takes what a request gives it (own).
 
 ghost use Rattle.std.specs.Prelude.{◌≡◌, [], Some};
-ghost use Rattle.session_desk.specs.Wanted.{outline, refusal_in, request_input};
+ghost use Rattle.session_desk.specs.Wanted.{outline, declines, request_input};
 
 use glk_input::Input;
 use line_words::{No, Request};
@@ -38,8 +38,8 @@ fn outline(alloc: Global, request: &Request) -> Option<Input>
 }
 
 /// Why the story doesn't take a new input: it is over, or doesn't wait for that one.
-fn refusal_in(world: &World, input: &Input) -> Option<No>
-    ensures { result ≡ refusal_in world.now (Some input.now) }
+fn declines(world: &World, input: &Input) -> Option<No>
+    ensures { result ≡ declines world.now (Some input.now) }
 {
     if world.is_over() {
         return Some(No::Over);
@@ -52,10 +52,10 @@ fn refusal_in(world: &World, input: &Input) -> Option<No>
 
 /// Why the story doesn't take what a new request gives it.
 pub fn story_refusal(alloc: Global, world: &World, request: &Request) -> Option<No>
-    ensures { result ≡ refusal_in world.now (request_input request.now) }
+    ensures { result ≡ declines world.now (request_input request.now) }
 {
     match outline(alloc, request) {
-        Some(input) => refusal_in(world, &input),
+        Some(input) => declines(world, &input),
         None => None,
     }
 }

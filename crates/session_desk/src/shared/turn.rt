@@ -1,28 +1,63 @@
 //! A turn of a shared desk (own).
 
-ghost use Rattle.std.specs.Prelude.{◌≡◌, Some};
+ghost use Rattle.std.specs.Prelude.{◌≡◌, IsTrue, IfOk, false};
 ghost use Rattle.turn_cell.specs.Passes.{IsOf, seen};
-ghost use Rattle.session_core.specs.Turning.{AddsTo, commands_in, MayMeet, turn_met};
+ghost use Rattle.session_core.specs.History.{last_of};
+ghost use Rattle.session_core.specs.Turning.{AddsTo, commands_in};
 ghost use Rattle.session_desk.specs.Commit.{IsInRange};
+ghost use Rattle.session_desk.specs.Desk.{game, is_cold, is_to_run, ran, shown_to};
+ghost use Rattle.session_desk.specs.Keeping.{due};
 ghost use Rattle.session_desk.specs.Laws.{answered};
-ghost use Rattle.session_desk.specs.Shared.{desk_tag, GoesOn, TurnsTo};
+ghost use Rattle.session_desk.specs.Shared.{desk_tag, GoesOn, Rests, TurnsTo};
+ghost use Rattle.session_desk.specs.Sound.{TurnsBy};
+ghost use Rattle.session_desk.specs.Turn.{IsShown};
 ghost use Rattle.session_desk.specs.Verdict.{verdict};
 ghost use Rattle.session_desk.specs.declared.verdict.Verdict.TheVariants.{Fresh};
 
 use super::SharedDesk;
+use super::prepare::out_of_memory;
 use crate::laws::shows_fresh;
 use crate::refused::Refused;
-use crate::turn::{out_of_memory, shown_after, unless_fresh};
 use crate::turned::Turned;
 use disk_model::Disk;
 use gate_journal::{DiskFault, Journal};
 use line_words::{No, Reply, Request};
 use session_core::Outcome;
-use std::alloc::Global;
+use std::alloc::{AllocError, Global};
 use std::sync::Wait;
 use turn_cell::Cell;
 
 impl<'i, D: Disk + Drop> SharedDesk<'i, D> {
+    /// The reply to a request whose command was just committed: its turn is made, and then shown.
+    fn run_and_show(&mut self, alloc: Global, request: &Request) -> Result<Reply, AllocError>
+        requires runs { IsTrue (is_to_run self.old.desk.held (last_of (game self.old.desk))) }
+        requires warm { is_cold (ran self.old.desk) ≡ false }
+        ensures value { IfOk result (λ reply. reply ≡ shown_to (ran self.old.desk) request.now) }
+        ensures rests { Rests self.old self.new }
+    {
+        self.run(alloc)?;
+        self.show(alloc, request)
+    }
+
+    /// The turn of a request whose command was just committed: it is run, and then shown.
+    fn shown_after(&mut self, alloc: Global, request: &Request) -> Turned
+        requires runs { IsTrue (is_to_run self.old.desk.held (last_of (game self.old.desk))) }
+        requires warm { is_cold (ran self.old.desk) ≡ false }
+        ensures value { IsShown (shown_to (ran self.old.desk) request.now) result }
+        ensures rests { Rests self.old self.new }
+    {
+        match self.run_and_show(alloc, request) {
+            Ok(reply) => Turned {
+                reply,
+                outcome: Outcome::Answered,
+            },
+            Err(_) => Turned {
+                reply: Reply::No(No::NoMemory),
+                outcome: Outcome::Forgotten,
+            },
+        }
+    }
+
     /// The turn of a fresh request: its command is committed, and then run and shown.
     fn accept<R: Wait>(
         &mut self,
@@ -34,6 +69,7 @@ impl<'i, D: Disk + Drop> SharedDesk<'i, D> {
     ) -> Turned
         requires cell { IsOf journal.now self.old.pass }
         requires fresh { verdict self.old.desk request.now ≡ Fresh }
+        requires due { due self.old ≡ false }
         requires ranges { IsInRange request.now }
         ensures turn { TurnsTo (answered self.old.desk request.now) by self.old.history result
             self.new.history }
@@ -44,7 +80,7 @@ impl<'i, D: Disk + Drop> SharedDesk<'i, D> {
     {
         shows_fresh();
         match self.commit(rt, alloc, by, journal, request) {
-            Ok(()) => shown_after(alloc, &mut self.desk, request),
+            Ok(()) => self.shown_after(alloc, request),
             Err(Refused::DiskFault(DiskFault { from, to })) => Turned {
                 reply: Reply::No(No::DiskFault { from, to }),
                 outcome: Outcome::DiskFailed { from, to },
@@ -53,10 +89,31 @@ impl<'i, D: Disk + Drop> SharedDesk<'i, D> {
         }
     }
 
+    /// The turn of a request.
+    fn decide<R: Wait>(
+        &mut self,
+        rt: &R,
+        alloc: Global,
+        by: u64,
+        journal: &Cell<Journal<D>>,
+        request: &Request,
+    ) -> Turned
+        requires cell { IsOf journal.now self.old.pass }
+        requires ranges { IsInRange request.now }
+        ensures turn { TurnsBy D.tells D.seen request.now by self.old result self.new }
+        ensures kept { desk_tag self.new ≡ desk_tag self.old }
+    {
+        match self.unless_fresh(alloc, request) {
+            Some(turned) => turned,
+            None => self.accept(rt, alloc, by, journal, request),
+        }
+    }
+
     /// One turn of the session: the reply to a request, whose command, if one is accepted, is a row
     /// of the journal before it is shown. A cold desk is made warm where the answer needs its
-    /// world. `by` is the number of the pass of the desk's own cell with which the turn is made. It
-    /// waits for the journal's cell where it accepts a command, and nowhere else.
+    /// world, and a snapshot that is due is put before a command is committed and before the reply
+    /// is given. `by` is the number of the pass of the desk's own cell with which the turn is made.
+    /// It waits for the journal's cell where it accepts a command, and nowhere else.
     pub fn answer<R: Wait>(
         &mut self,
         rt: &R,
@@ -68,22 +125,15 @@ impl<'i, D: Disk + Drop> SharedDesk<'i, D> {
         requires cell { IsOf journal.now self.old.pass }
         requires ranges { IsInRange request.now }
         ensures commands { commands_in self.old.history ≡ self.old.desk.commands }
-        ensures met { MayMeet (answered self.old.desk request.now).accepted result.outcome }
-        ensures reply { result.reply
-            ≡ (turn_met self.old.history by (answered self.old.desk request.now).reply
-            (answered self.old.desk request.now).accepted result.outcome).reply }
-        ensures history { self.new.history
-            ≡ (turn_met self.old.history by (answered self.old.desk request.now).reply
-            (answered self.old.desk request.now).accepted result.outcome).history }
+        ensures turn { TurnsBy D.tells D.seen request.now by self.old result self.new }
         ensures adds { AddsTo self.old.history by self.new.history }
-        ensures journal { GoesOn self.old.desk.session
-            (answered self.old.desk request.now).accepted result.outcome (seen self.old.pass)
-            (seen self.new.pass) }
+        ensures due { due self.new ≡ false }
         ensures kept { desk_tag self.new ≡ desk_tag self.old }
     {
-        match unless_fresh(alloc, &mut self.desk, request) {
-            Some(turned) => turned,
-            None => self.accept(rt, alloc, by, journal, request),
-        }
+        // with the marks comes what holds of every history
+        let _many = self.marks.len();
+        let turned = self.decide(rt, alloc, by, journal, request);
+        self.keep(alloc);
+        turned
     }
 }

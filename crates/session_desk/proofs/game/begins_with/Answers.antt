@@ -1,4 +1,4 @@
-use Rattle.std.proofs.Common.{◌≡◌, ◌≢◌, ◌<◌, ℕ, length, sym, subst, ◌∙◌, arith}
+use Rattle.std.proofs.Common.{ℕ, sym, subst, ◌∙◌, arith}
 use Rattle.session_desk.specs.Desk.{BeginsAt}
 use Rattle.session_desk.proofs.GameLemmas.{begins-none, begins-on, begins-open}
 use Rattle.session_desk.proofs.game.begins_with.Goals as goal

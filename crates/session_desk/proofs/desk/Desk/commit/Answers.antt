@@ -1,4 +1,4 @@
-use Rattle.std.proofs.Common.{◌≡◌, List, [], ◌∷◌, ◌++◌, Some, refl, sym, subst, ◌∙◌}
+use Rattle.std.proofs.Common.{◌≡◌, [], ◌∷◌, ◌++◌, refl, sym, subst}
 use Rattle.gate_journal.specs.Log.{rows_of}
 use Rattle.gate_journal.specs.Rows.{commands_of}
 use Rattle.session_desk.specs.declared.verdict.Verdict.TheVariants.{Fresh}

@@ -1,6 +1,7 @@
 use Rattle.std.proofs.Common.{◌∙◌}
 use Rattle.turn_cell.specs.Passes.{seen}
 use Rattle.session_desk.specs.Shared.{met_by}
+use Rattle.session_desk.proofs.OpensLemmas.{opens_by}
 use Rattle.session_desk.proofs.SharedLemmas.{appended, history_in-behind, kept-since, others}
 use Rattle.session_desk.proofs.shared.commit.commit_in_turn.Goals as goal
 
@@ -26,3 +27,13 @@ returns-clause-history g c = λ command asked.
     (c.leave.ensures.seen
     ∙ appended g.D.Disk.faults c.args.request.now c.args.desk.now c.commit-done.new.self c.enter-journal.result c.commit-done.new.journal command c.commit-done.result
     asked c.commit-done.ensures.ok c.commit-done.ensures.cause)
+
+pub returns-clause-opens : goal.returns-clause-opens
+returns-clause-opens g c = λ command asked.
+    opens_by c.args.desk.now.session c.enter-journal.result.entries (seen c.args.pass.now) (seen c.leave.new.pass) command c.commit-done.result
+    c.row_count-count.ensures.journal
+    (others c.args.pass.now c.args.desk.now.session c.enter-journal.result.entries c.requires.pass c.enter-journal.ensures.value)
+    (c.leave.ensures.seen
+    ∙ appended g.D.Disk.faults c.args.request.now c.args.desk.now c.commit-done.new.self c.enter-journal.result c.commit-done.new.journal command c.commit-done.result
+    asked c.commit-done.ensures.ok c.commit-done.ensures.cause)
+    c.commit-done.ensures.place

@@ -1,0 +1,140 @@
+-- A sound desk answers as a session that is played from the start (own).
+use Rattle.std.specs.Prelude.{◌≡◌, ◌≤◌, ℕ, max, Bool, IsTrue, List, length, [], Option, Some}
+use Rattle.disk_model.specs.Disk.{EachImage, SameDisk}
+use Rattle.turn_cell.specs.Passes.{seen}
+use Rattle.gate_journal.specs.Log.{rows_of}
+use Rattle.gate_journal.specs.Rows.{commands_of}
+use Rattle.line_words.specs.declared.request.Request.{Request}
+use Rattle.story_run.specs.World.{WorldState}
+use Rattle.session_core.specs.declared.decision.Decision.{Decision}
+use Rattle.session_core.specs.History.{game_of, world_of}
+use Rattle.session_core.specs.Answer.{answer_in}
+use Rattle.session_core.specs.Turning.{MayMeet, turn_met}
+use Rattle.snap_store.specs.Store.{Snapshots}
+use Rattle.session_saves.specs.Agreement.{IsAgreed, IsAgreedFile, last_row}
+use Rattle.session_saves.specs.Game.{inputs_of}
+use Rattle.session_saves.specs.Saves.{IsKeptUp}
+use Rattle.session_desk.specs.declared.shared.mark.Mark.{Mark}
+use Rattle.session_desk.specs.declared.turned.Turned.{Turned}
+use Rattle.session_desk.specs.Desk.{game, Holds}
+use Rattle.session_desk.specs.Opens.{opens_of}
+use Rattle.session_desk.specs.Shared.{DeskTag, desk_tag, GoesOn, IsMarked, SharedState}
+
+-- a desk is sound where its store's disk tells its bytes, and as the desk was opened the store's
+-- areas agreed with the journal's rows
+abbrev pub IsSoundDesk : {D : Type 0} → (D → Bool) → (D → List ℕ) → DeskTag D → Type 0
+IsSoundDesk tells seen_of tag =
+    IsTrue (tells tag.store.disk)
+    × IsAgreed seen_of tag.stories (opens_of tag.rows tag.session)
+    (game_of (commands_of tag.rows tag.session)) tag.store
+
+-- the places of the session's OPEN rows in what its desk has seen of the journal
+abbrev pub open_rows : {D : Type 0} → SharedState D → List ℕ
+open_rows state = opens_of (rows_of (seen state.pass)) state.desk.session
+
+-- the world that a desk holds is its session's own, and its store's areas agree with the commands
+pub record IsOwn {D : Type 0} (seen_of : D → List ℕ) (state : SharedState D) : Type 0 where
+  pub holds : Holds state.desk.stories (game state.desk) state.desk.held
+  pub agreed :
+      IsAgreed seen_of state.desk.stories (open_rows state) (game state.desk)
+      state.saves.store
+
+-- what became of a store: it is on the same disk, which wasn't written farther than the end of the
+-- longest area of B
+pub record IsSameStore
+    {D : Type 0}
+    (tells : D → Bool)
+    (room label faults reach : D → ℕ)
+    (old new : Snapshots D) : Type 0 where
+  pub same : SameDisk tells room label old.disk new.disk
+  pub counts : faults old.disk ≤ faults new.disk
+  pub reaches : reach new.disk ≤ max (reach old.disk) 16781344
+  pub made : new.made ≡ old.made
+
+-- while nothing was missed, on a desk whose session had no command as it was opened, the snapshots
+-- of its last OPEN row are kept up
+abbrev pub AreKeptUp : {D : Type 0} → SharedState D → Type 0
+AreKeptUp state =
+    commands_of state.rows state.desk.session ≡ []
+    → (place : ℕ) → last_row (open_rows state) ≡ Some place
+    → IsKeptUp place (length (inputs_of (game state.desk))) state.saves.store.slots
+    state.saves.missed
+
+-- what holds of each desk, with its marks and the place of its session's last OPEN row
+pub record IsWhole
+    {D : Type 0}
+    (tells : D → Bool)
+    (seen_of : D → List ℕ)
+    (room label faults reach : D → ℕ)
+    (marks : List Mark)
+    (place : Option ℕ)
+    (state : SharedState D) : Type 0 where
+  pub marked : IsMarked marks state.desk state.pass
+  pub row : place ≡ last_row (open_rows state)
+  pub store : IsSameStore tells room label faults reach state.store state.saves.store
+  pub own : IsSoundDesk tells seen_of (desk_tag state) → IsOwn seen_of state
+  pub kept_up : AreKeptUp state
+
+-- The session decides so on a request by a world `now`, which is its own where the desk is sound.
+pub record Decides
+    {D : Type 0}
+    (tells : D → Bool)
+    (seen_of : D → List ℕ)
+    (request : Request)
+    (old : SharedState D)
+    (decision : Decision) : Type 0 where
+  pub now : Option WorldState
+  pub own :
+      IsSoundDesk tells seen_of (desk_tag old)
+      → now ≡ world_of old.desk.stories (game_of old.desk.commands)
+  pub decides : decision ≡ answer_in old.desk.stories old.desk.commands now request
+
+-- The turn of a session on a request, by what it met. It is made on a world `now`, which is the
+-- session's own where the desk is sound.
+pub record TurnsBy
+    {D : Type 0}
+    (tells : D → Bool)
+    (seen_of : D → List ℕ)
+    (request : Request)
+    (by : ℕ)
+    (old : SharedState D)
+    (turned : Turned)
+    (new : SharedState D) : Type 0 where
+  pub now : Option WorldState
+  pub own :
+      IsSoundDesk tells seen_of (desk_tag old)
+      → now ≡ world_of old.desk.stories (game_of old.desk.commands)
+  pub met :
+      MayMeet (answer_in old.desk.stories old.desk.commands now request).accepted
+      turned.outcome
+  pub reply :
+      turned.reply
+      ≡ (turn_met old.history by
+      (answer_in old.desk.stories old.desk.commands now request).reply
+      (answer_in old.desk.stories old.desk.commands now request).accepted
+      turned.outcome).reply
+  pub history :
+      new.history
+      ≡ (turn_met old.history by
+      (answer_in old.desk.stories old.desk.commands now request).reply
+      (answer_in old.desk.stories old.desk.commands now request).accepted
+      turned.outcome).history
+  pub journal :
+      GoesOn old.desk.session
+      (answer_in old.desk.stories old.desk.commands now request).accepted turned.outcome
+      (seen old.pass) (seen new.pass)
+
+-- What a desk leaves of its store: the disk that it was given, and, where the desk is sound, images
+-- that agree with the session's commands.
+pub record EndsStore
+    {D : Type 0}
+    (tells : D → Bool)
+    (may_leave : D → List ℕ → Type 0)
+    (seen_of : D → List ℕ)
+    (room label faults reach : D → ℕ)
+    (state : SharedState D) : Type 0 where
+  pub store : IsSameStore tells room label faults reach state.store state.saves.store
+  pub agreed :
+      IsSoundDesk tells seen_of (desk_tag state)
+      → EachImage tells may_leave state.saves.store.disk
+      (IsAgreedFile state.desk.stories (open_rows state) (game state.desk))
