@@ -7,11 +7,11 @@ use Rattle.gate_journal.specs.Log.{kept}
 use Rattle.gate_journal.specs.Rows.{commands_of}
 use Rattle.gate_journal.specs.declared.command.Command.{Command}
 use Rattle.gate_journal.specs.declared.row.Row.{Row}
-use Rattle.host_serve.specs.Chain.{Answers, Chain, TurnsIn, TurnsOn, TurnsOnNone}
+use Rattle.host_serve.specs.Chain.{Answers, Chain, TurnsIn, TurnsOnNone}
 use Rattle.host_serve.specs.Holders.{Holder, IsAloneHolder, holder_at, seen_at}
 use Rattle.host_serve.specs.Hosts.{sessions_below}
 use Rattle.host_serve.specs.Opening.{histories_of, lone, roots}
-use Rattle.host_serve.specs.Serves.{Turn, turned_on, MayMeetIn}
+use Rattle.host_serve.specs.Serves.{Turn, MayMeetIn, decided, own_world, turned_on}
 use Rattle.host_serve.proofs.ChainLemmas.{answer_wide}
 use Rattle.host_serve.proofs.ListLemmas.{eq_or_ne}
 use Rattle.line_words.specs.declared.reply.Reply.{Reply}
@@ -20,12 +20,15 @@ use Rattle.session_core.specs.declared.entry.Entry.TheVariants as entries
 use Rattle.session_core.specs.declared.entry.Outcome.{Outcome}
 use Rattle.session_core.specs.declared.entry.Outcome.TheVariants.{OutOfMemory}
 use Rattle.session_core.specs.Hosts.{AreMet, decision_at, entries_of, histories_after, histories_met, replies_met, session_on, turn_on}
-use Rattle.session_core.specs.Turning.{AddsTo, MayMeet, Turned, commands_in, decision_on, entry_by, turn_of}
-use Rattle.session_core.proofs.TurningLemmas.{turn_adds}
+use Rattle.session_core.specs.declared.decision.Decision.{Decision}
+use Rattle.session_core.specs.Turning.{AddsTo, MayMeet, Turned, commands_in, decision_in, decision_on, entry_by, turn_in, turn_of}
+use Rattle.session_core.proofs.WorldLemmas.{decides_alike, turns_alike}
+use Rattle.session_core.proofs.TurningLemmas.{turn_in_adds}
 use Rattle.session_desk.specs.Shared.{unnumbered}
 use Rattle.session_desk.specs.Turn.{history_in}
 use Rattle.session_desk.proofs.SharedLemmas.{history_in-kept, unnumbered-all}
 use Rattle.story_run.specs.declared.story.Story.{Story}
+use Rattle.story_run.specs.World.{WorldState}
 
 abbrev Histories : Type 0
 Histories = List (List Entry)
@@ -48,6 +51,22 @@ unfolding sessions_below
 history_there rows s below = get_or-map-range_with_len (history_in (kept rows)) 0 64 s s [] below (omega arith)
 
 module _ (stories : List Story) (budget : ℕ) where
+  -- ---- a turn in the session's own world
+
+  own_decides : (history : List Entry) (t : Turn) → t.world ≡ own_world stories history
+      → decided stories budget history t ≡ decision_on stories budget (commands_in history) t.line
+  own_decides history t own = ap (λ (w : Option WorldState). decision_in stories budget (commands_in history) w t.line) own
+      ∙ decides_alike stories budget (commands_in history) t.line
+
+  own_turns : (history : List Entry) (by : ℕ) (t : Turn) → t.world ≡ own_world stories history
+      → turned_on stories budget history by t ≡ turn_of stories budget history by t.line t.outcome
+  own_turns history by t own = ap (λ (w : Option WorldState). turn_in stories budget history w by t.line t.outcome) own
+      ∙ turns_alike stories budget history by t.line t.outcome
+
+  own_may : (history : List Entry) (t : Turn) → t.world ≡ own_world stories history → MayMeetIn stories budget history t
+      → MayMeet (decision_on stories budget (commands_in history) t.line).accepted t.outcome
+  own_may history t own met = subst (λ (d : Decision). MayMeet d.accepted t.outcome) (own_decides history t own) met
+
   -- ---- one line
 
   -- its turn is that of the session that it names, on that session's history
@@ -56,19 +75,6 @@ module _ (stories : List Story) (budget : ℕ) where
     pub said : t.reply ≡ (turn_on stories budget old 0 t.line t.outcome).reply
     pub after : new ≡ histories_after stories budget old 0 t.line t.outcome
 
-  -- in its session, where its pass is alone
-  met_in : (old : Histories) (t : Turn) (new : Histories) (h : Holder) (after : List Entry) → h ≡ lone → t.mark.session ≡ session_on t.line
-      → TurnsIn stories budget h (seen_at old t.mark.session) t after → new ≡ set old t.mark.session after → IsMet old t new
-  met_in old t new h after is there i is_new =
-      let before : i.before ≡ entries_of old (session_on t.line) = i.alone (subst IsAloneHolder (sym is) (refl, refl)) ∙ ap (λ (k : ℕ). seen_at old k) there in
-      let turned : turned_on stories budget i.before h.number t ≡ turn_on stories budget old 0 t.line t.outcome
-      = ap (λ (b : List Entry). turned_on stories budget b h.number t) before ∙ ap (λ (g : Holder). turned_on stories budget (entries_of old (session_on t.line)) g.number t) is in
-      record {
-        may = subst (λ (b : List Entry). MayMeetIn stories budget b t) before i.met;
-        said = i.reply ∙ ap (λ (u : Turned). u.reply) turned;
-        after = is_new ∙ ap (λ (k : ℕ). set old k after) there ∙ ap (λ (x : List Entry). set old (session_on t.line) x) (i.history ∙ ap (λ (u : Turned). u.history) turned);
-      }
-
   -- a line that names no session is answered on an empty history
   met_nowhere : (old : Histories) (t : Turn) (new : Histories) → length old ≡ 64 → session_on t.line ≡ 64
       → TurnsOnNone stories budget old t new → IsMet old t new
@@ -76,8 +82,9 @@ module _ (stories : List Story) (budget : ℕ) where
       let far : length old ≤ session_on t.line = omega (arith, wide, none) in
       let empty : entries_of old (session_on t.line) ≡ [] = get_or_past old (session_on t.line) [] far in
       record {
-        may = subst (λ (b : List Entry). MayMeetIn stories budget b t) (sym empty) n.met;
-        said = n.reply ∙ ap (λ (b : List Entry). (turned_on stories budget b 0 t).reply) (sym empty);
+        may = subst (λ (b : List Entry). MayMeet (decision_on stories budget (commands_in b) t.line).accepted t.outcome) (sym empty) (own_may [] t n.world n.met);
+        said = n.reply ∙ (ap (λ (u : Turned). u.reply) (own_turns [] 0 t n.world)
+            ∙ ap (λ (b : List Entry). (turn_of stories budget b 0 t.line t.outcome).reply) (sym empty));
         after = n.seen ∙ sym (set_past old (session_on t.line) (turn_on stories budget old 0 t.line t.outcome).history far);
       }
 
@@ -99,18 +106,12 @@ module _ (stories : List Story) (budget : ℕ) where
       let h : List Entry = entries_of old (session_on t.line) in
       record {
         may = subst (λ (o : Outcome). MayMeet (decision_at stories budget old t.line).accepted o) (sym wanted) (may_want (decision_at stories budget old t.line).accepted);
-        said = n.reply ∙ subst (λ (o : Outcome). (turn_of stories budget [] 0 t.line o).reply ≡ (turn_of stories budget h 0 t.line o).reply) (sym wanted) (same_wanted [] h t.line);
+        said = n.reply ∙ (ap (λ (u : Turned). u.reply) (own_turns [] 0 t n.world)
+            ∙ subst (λ (o : Outcome). (turn_of stories budget [] 0 t.line o).reply ≡ (turn_of stories budget h 0 t.line o).reply) (sym wanted) (same_wanted [] h t.line));
         after = n.seen ∙ sym (ap (λ (x : List Entry). set old (session_on t.line) x)
             (subst (λ (o : Outcome). (turn_of stories budget h 0 t.line o).history ≡ h) (sym wanted) (wanted_memory h t.line))
             ∙ set-get_or old (session_on t.line) []);
       }
-
-  pub met_one : (old : Histories) (t : Turn) (new : Histories) → length old ≡ 64 → Answers stories budget roots old t new → IsMet old t new
-  met_one old t new wide (inl o) = met_in old t new (holder_at roots t.mark.session) o.after (lone_there t.mark.session o.session.0) o.session.1 o.turn o.seen
-  met_one old t new wide (inr n) = elim n.none.2 [
-    | inl nowhere ↦ met_nowhere old t new wide nowhere n
-    | inr wanted ↦ met_wanting old t new wanted n
-  ]
 
   -- ---- lines one after the other
 
@@ -129,11 +130,6 @@ module _ (stories : List Story) (budget : ℕ) where
             ∙ ap (λ (rs : List Reply). (turn_on stories budget old 0 t.line t.outcome).reply ∷ rs) (more.said ∙ ap (λ (h : Histories). replies_met stories budget h 0 lines outcomes) one.after);
         after = more.after ∙ ap (λ (h : Histories). histories_met stories budget h 0 lines outcomes) one.after;
       }
-
-  pub met_all : (old : Histories) (turns : List Turn) (new : Histories) → length old ≡ 64 → Chain stories budget roots old turns new → AreMetBy old turns new
-  met_all old [] new wide c = record { met = tt; said = refl; after = c }
-  met_all old (t ∷ turns) new wide c =
-      met_more old t c.0 turns new (met_one old t c.0 wide c.1) (met_all c.0 turns new (answer_wide stories budget roots old t c.0 wide c.1) c.2)
 
   -- ---- the one pass has the number 0
 
@@ -158,19 +154,56 @@ module _ (stories : List Story) (budget : ℕ) where
     | inr past ↦ subst (λ (hs : Histories). map unnumbered (seen_at hs s) ≡ seen_at hs s) (sym (set_past old k after past)) (own s)
   ]
 
-  own_one : (old : Histories) (t : Turn) (new : Histories) → AreOwn old → IsMet old t new → AreOwn new
-  own_one old t new own m = λ s. subst (λ (hs : Histories). map unnumbered (seen_at hs s) ≡ seen_at hs s) (sym m.after)
-      (own_at old s (session_on t.line) (turn_on stories budget old 0 t.line t.outcome).history (eq_or_ne s (session_on t.line)) own
-      (own_more (entries_of old (session_on t.line)) (turn_on stories budget old 0 t.line t.outcome).history (own (session_on t.line))
-      (turn_adds stories budget (entries_of old (session_on t.line)) 0 t.line t.outcome)))
-
-  pub own_all : (old : Histories) (turns : List Turn) (new : Histories) → length old ≡ 64 → AreOwn old → Chain stories budget roots old turns new → AreOwn new
-  own_all old [] new wide own c = subst AreOwn (sym c) own
-  own_all old (t ∷ turns) new wide own c =
-      own_all c.0 turns new (answer_wide stories budget roots old t c.0 wide c.1) (own_one old t c.0 own (met_one old t c.0 wide c.1)) c.2
-
   pub own_rows : (rows : List Row) → AreOwn (histories_of rows)
   own_rows rows s = elim (cases_lt s 64) [
     | inl below ↦ subst (λ (l : List Entry). map unnumbered l ≡ l) (sym (history_there rows s below ∙ history_in-kept rows s)) (unnumbered-all (commands_of rows s))
     | inr past ↦ subst (λ (l : List Entry). map unnumbered l ≡ l) (sym (get_or_past (histories_of rows) s [] (omega (arith, past, many_histories rows)))) refl
   ]
+
+  -- on a sound host, as `sound` says
+  module _ (sound : Type 0) where
+    -- in its session, where its pass is alone
+    met_in : sound → (old : Histories) (t : Turn) (new : Histories) (h : Holder) (after : List Entry) → h ≡ lone → t.mark.session ≡ session_on t.line
+        → TurnsIn stories budget sound h (seen_at old t.mark.session) t after → new ≡ set old t.mark.session after → IsMet old t new
+    met_in holds old t new h after is there i is_new =
+        let before : i.before ≡ entries_of old (session_on t.line) = i.alone (subst IsAloneHolder (sym is) (refl, refl)) ∙ ap (λ (k : ℕ). seen_at old k) there in
+        let turned : turned_on stories budget i.before h.number t ≡ turn_on stories budget old 0 t.line t.outcome
+        = own_turns i.before h.number t (i.own holds)
+        ∙ (ap (λ (b : List Entry). turn_of stories budget b h.number t.line t.outcome) before ∙ ap (λ (g : Holder). turn_of stories budget (entries_of old (session_on t.line)) g.number t.line t.outcome) is) in
+        record {
+          may = subst (λ (b : List Entry). MayMeet (decision_on stories budget (commands_in b) t.line).accepted t.outcome) before (own_may i.before t (i.own holds) i.met);
+          said = i.reply ∙ ap (λ (u : Turned). u.reply) turned;
+          after = is_new ∙ ap (λ (k : ℕ). set old k after) there ∙ ap (λ (x : List Entry). set old (session_on t.line) x) (i.history ∙ ap (λ (u : Turned). u.history) turned);
+        }
+
+    pub met_one : sound → (old : Histories) (t : Turn) (new : Histories) → length old ≡ 64 → Answers stories budget sound roots old t new → IsMet old t new
+    met_one holds old t new wide (inl o) = met_in holds old t new (holder_at roots t.mark.session) o.after (lone_there t.mark.session o.session.0) o.session.1 o.turn o.seen
+    met_one holds old t new wide (inr n) = elim n.none.2 [
+      | inl nowhere ↦ met_nowhere old t new wide nowhere n
+      | inr wanted ↦ met_wanting old t new wanted n
+    ]
+
+    pub met_all : sound → (old : Histories) (turns : List Turn) (new : Histories) → length old ≡ 64 → Chain stories budget sound roots old turns new → AreMetBy old turns new
+    met_all holds old [] new wide c = record { met = tt; said = refl; after = c }
+    met_all holds old (t ∷ turns) new wide c =
+        met_more old t c.0 turns new (met_one holds old t c.0 wide c.1) (met_all holds c.0 turns new (answer_wide stories budget sound roots old t c.0 wide c.1) c.2)
+
+    own_in : (old : Histories) (t : Turn) (h : Holder) (after : List Entry) → h ≡ lone → AreOwn old
+        → TurnsIn stories budget sound h (seen_at old t.mark.session) t after → map unnumbered after ≡ after
+    own_in old t h after is own i =
+        let before : i.before ≡ seen_at old t.mark.session = i.alone (subst IsAloneHolder (sym is) (refl, refl)) in
+        own_more i.before after (subst (λ (l : List Entry). map unnumbered l ≡ l) (sym before) (own t.mark.session))
+        (subst (λ (l : List Entry). AddsTo i.before 0 l) (sym i.history)
+        (subst (λ (g : Holder). AddsTo i.before g.number (turned_on stories budget i.before h.number t).history) is
+        (turn_in_adds stories budget i.before t.world h.number t.line t.outcome)))
+
+    own_one : (old : Histories) (t : Turn) (new : Histories) → AreOwn old → Answers stories budget sound roots old t new → AreOwn new
+    own_one old t new own (inl o) = λ s. subst (λ (hs : Histories). map unnumbered (seen_at hs s) ≡ seen_at hs s) (sym o.seen)
+        (own_at old s t.mark.session o.after (eq_or_ne s t.mark.session) own
+        (own_in old t (holder_at roots t.mark.session) o.after (lone_there t.mark.session o.session.0) own o.turn))
+    own_one old t new own (inr n) = subst AreOwn (sym n.seen) own
+
+    pub own_all : (old : Histories) (turns : List Turn) (new : Histories) → length old ≡ 64 → AreOwn old → Chain stories budget sound roots old turns new → AreOwn new
+    own_all old [] new wide own c = subst AreOwn (sym c) own
+    own_all old (t ∷ turns) new wide own c =
+        own_all c.0 turns new (answer_wide stories budget sound roots old t c.0 wide c.1) (own_one old t c.0 own c.1) c.2

@@ -5,7 +5,7 @@ use Rattle.turn_cell.proofs.HistoryLemmas.{nil_right}
 use Rattle.story_run.specs.declared.story.Story.{Story}
 use Rattle.session_core.specs.declared.entry.Entry.{Entry}
 use Rattle.session_core.specs.Turning.{AddsTo}
-use Rattle.session_core.proofs.TurningLemmas.{turn_adds}
+use Rattle.session_core.proofs.TurningLemmas.{turn_in_adds}
 use Rattle.host_serve.specs.Holders.{Holder, holder_at, seen_at}
 use Rattle.host_serve.specs.Serves.{Turn, turned_on}
 use Rattle.host_serve.specs.Chain.{TurnsIn, TurnsOn, Answers, Chain}
@@ -26,29 +26,29 @@ grows_trans a b c f g s = let p = f s in let q = g s in (
       ∙ append_assoc (seen_at a s) p.0 q.0),
 )
 
-module _ (stories : List Story) (budget : ℕ) where
+module _ (stories : List Story) (budget : ℕ) (sound : Type 0) where
   -- one more answered line at the end
   pub chain_more : (holders : List Holder) (old mid new : List (List Entry)) (ts : List Turn)
-      (t : Turn) → Chain stories budget holders old ts mid
-      → Answers stories budget holders mid t new
-      → Chain stories budget holders old (ts ++ t ∷ []) new
+      (t : Turn) → Chain stories budget sound holders old ts mid
+      → Answers stories budget sound holders mid t new
+      → Chain stories budget sound holders old (ts ++ t ∷ []) new
   chain_more holders old mid new [] t c a =
-      (new, subst (λ (x : List (List Entry)). Answers stories budget holders x t new) c a, refl)
+      (new, subst (λ (x : List (List Entry)). Answers stories budget sound holders x t new) c a, refl)
   chain_more holders old mid new (x ∷ xs) t c a =
       (c.0, c.1, chain_more holders c.0 mid new xs t c.2 a)
 
   -- lists of lines add up
   pub chain_append : (holders : List Holder) (old mid new : List (List Entry))
-      (ts us : List Turn) → Chain stories budget holders old ts mid
-      → Chain stories budget holders mid us new → Chain stories budget holders old (ts ++ us) new
+      (ts us : List Turn) → Chain stories budget sound holders old ts mid
+      → Chain stories budget sound holders mid us new → Chain stories budget sound holders old (ts ++ us) new
   chain_append holders old mid new [] us c d =
-      subst (λ (x : List (List Entry)). Chain stories budget holders x us new) c d
+      subst (λ (x : List (List Entry)). Chain stories budget sound holders x us new) c d
   chain_append holders old mid new (x ∷ xs) us c d =
       (c.0, c.1, chain_append holders c.0 mid new xs us c.2 d)
 
   turn_grows : (h : Holder) (old : List Entry) (t : Turn) (new : List Entry)
-      → TurnsIn stories budget h old t new → (rest : List Entry) × (new ≡ old ++ rest)
-  turn_grows h old t new i = of (turn_adds stories budget i.before h.number t.line t.outcome)
+      → TurnsIn stories budget sound h old t new → (rest : List Entry) × (new ≡ old ++ rest)
+  turn_grows h old t new i = of (turn_in_adds stories budget i.before t.world h.number t.line t.outcome)
     where
       of : AddsTo i.before h.number (turned_on stories budget i.before h.number t).history
           → (rest : List Entry) × (new ≡ old ++ rest)
@@ -62,7 +62,7 @@ module _ (stories : List Story) (budget : ℕ) where
 
   -- what is seen of the turn's session, and of others
   pub seen_there : (holders : List Holder) (old : List (List Entry)) (t : Turn)
-      (new : List (List Entry)) → length old ≡ 64 → (o : TurnsOn stories budget holders old t new)
+      (new : List (List Entry)) → length old ≡ 64 → (o : TurnsOn stories budget sound holders old t new)
       → seen_at new t.mark.session ≡ o.after
   seen_there holders old t new wide o =
       ap (λ (x : List (List Entry)). seen_at x t.mark.session) o.seen
@@ -70,7 +70,7 @@ module _ (stories : List Story) (budget : ℕ) where
 
   pub seen_elsewhere : (holders : List Holder) (old : List (List Entry)) (t : Turn)
       (new : List (List Entry)) (s : ℕ) → s ≢ t.mark.session
-      → Answers stories budget holders old t new → seen_at new s ≡ seen_at old s
+      → Answers stories budget sound holders old t new → seen_at new s ≡ seen_at old s
   seen_elsewhere holders old t new s other (inl o) =
       ap (λ (x : List (List Entry)). seen_at x s) o.seen
       ∙ get_or-set_other old t.mark.session s o.after [] other
@@ -78,7 +78,7 @@ module _ (stories : List Story) (budget : ℕ) where
       ap (λ (x : List (List Entry)). seen_at x s) n.seen
 
   pub answer_wide : (holders : List Holder) (old : List (List Entry)) (t : Turn)
-      (new : List (List Entry)) → length old ≡ 64 → Answers stories budget holders old t new
+      (new : List (List Entry)) → length old ≡ 64 → Answers stories budget sound holders old t new
       → length new ≡ 64
   answer_wide holders old t new wide (inl o) = ap (λ (x : List (List Entry)). length x) o.seen
       ∙ (length-set old t.mark.session o.after ∙ wide)
@@ -86,11 +86,11 @@ module _ (stories : List Story) (budget : ℕ) where
       ap (λ (x : List (List Entry)). length x) n.seen ∙ wide
 
   pub answer_grows : (holders : List Holder) (old : List (List Entry)) (t : Turn)
-      (new : List (List Entry)) → length old ≡ 64 → Answers stories budget holders old t new
+      (new : List (List Entry)) → length old ≡ 64 → Answers stories budget sound holders old t new
       → Grows old new
   answer_grows holders old t new wide a = of_answer a
     where
-      of : TurnsOn stories budget holders old t new → (s : ℕ)
+      of : TurnsOn stories budget sound holders old t new → (s : ℕ)
           → (s ≡ t.mark.session) ⊎ (s ≢ t.mark.session)
           → (rest : List Entry) × (seen_at new s ≡ seen_at old s ++ rest)
       of o s (inr other) = (
@@ -107,19 +107,19 @@ module _ (stories : List Story) (budget : ℕ) where
                 ∙ (more.1 ∙ ap (λ (k : ℕ). seen_at old k ++ more.0) (sym e))),
           )
 
-      of_answer : Answers stories budget holders old t new → Grows old new
+      of_answer : Answers stories budget sound holders old t new → Grows old new
       of_answer (inr n) = grows_same old new n.seen
       of_answer (inl o) = λ s. of o s (eq_or_ne s t.mark.session)
 
   pub chain_wide : (holders : List Holder) (old : List (List Entry)) (ts : List Turn)
-      (new : List (List Entry)) → length old ≡ 64 → Chain stories budget holders old ts new
+      (new : List (List Entry)) → length old ≡ 64 → Chain stories budget sound holders old ts new
       → length new ≡ 64
   chain_wide holders old [] new wide c = ap (λ (x : List (List Entry)). length x) c ∙ wide
   chain_wide holders old (t ∷ ts) new wide c =
       chain_wide holders c.0 ts new (answer_wide holders old t c.0 wide c.1) c.2
 
   pub chain_grows : (holders : List Holder) (old : List (List Entry)) (ts : List Turn)
-      (new : List (List Entry)) → length old ≡ 64 → Chain stories budget holders old ts new
+      (new : List (List Entry)) → length old ≡ 64 → Chain stories budget sound holders old ts new
       → Grows old new
   chain_grows holders old [] new wide c = grows_same old new c
   chain_grows holders old (t ∷ ts) new wide c =

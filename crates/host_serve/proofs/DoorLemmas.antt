@@ -80,9 +80,9 @@ visit_of source sink lent Gives taken left why turns none marks is given tells s
     }
 
 module _ {Conn Lent D : Type 0} (source : Conn → SourceState) (sink : Conn → SinkState)
-    (lent : Conn → Lent) (Gives : Conn → Type 0) (host : Host D) where
+    (lent : Conn → Lent) (Gives : Conn → Type 0) (sound : Host D → Type 0) (host : Host D) where
   pub visits_none : (passes : Passes D) → AreOf host passes
-      → Visits source sink lent Gives host passes passes
+      → Visits source sink lent Gives sound host passes passes
   visits_none passes kept = record {
     visits = [];
     each = tt;
@@ -92,20 +92,20 @@ module _ {Conn Lent D : Type 0} (source : Conn → SourceState) (sink : Conn →
   }
 
   -- one more link
-  pub visits_more : (old mid new : Passes D) → Visits source sink lent Gives host old mid
+  pub visits_more : (old mid new : Passes D) → Visits source sink lent Gives sound host old mid
       → (visit : Visit Conn) × IsVisit source sink lent Gives visit
-      × Chain host.stories.now host.budget (holders mid.desks.items) (seens mid.desks.items)
+      × Chain host.stories.now host.budget (sound host) (holders mid.desks.items) (seens mid.desks.items)
       visit.turns (seens new.desks.items)
       → AreOf host new → holders new.desks.items ≡ holders mid.desks.items
-      → Visits source sink lent Gives host old new
+      → Visits source sink lent Gives sound host old new
   visits_more old mid new v more kept held = let hs = holders old.desks.items in record {
     visits = v.visits ++ more.0 ∷ [];
     each = each_append (IsVisit source sink lent Gives) v.visits (more.0 ∷ []) v.each (more.1, tt);
-    chain = subst (λ (ts : List Turn). Chain host.stories.now host.budget hs
+    chain = subst (λ (ts : List Turn). Chain host.stories.now host.budget (sound host) hs
         (seens old.desks.items) ts (seens new.desks.items)) (sym (turns_more v.visits more.0))
-        (chain_append host.stories.now host.budget hs (seens old.desks.items)
+        (chain_append host.stories.now host.budget (sound host) hs (seens old.desks.items)
         (seens mid.desks.items) (seens new.desks.items) (turns_of v.visits) more.0.turns v.chain
-        (subst (λ (x : List Holder). Chain host.stories.now host.budget x
+        (subst (λ (x : List Holder). Chain host.stories.now host.budget (sound host) x
         (seens mid.desks.items) more.0.turns (seens new.desks.items)) v.held more.2));
     kept = kept;
     held = held ∙ v.held;
@@ -114,11 +114,11 @@ module _ {Conn Lent D : Type 0} (source : Conn → SourceState) (sink : Conn →
   -- the door is shut, or failed
   pub works_of : {O Done Fault : Type 0} (Shuts : Done → Type 0) (Fails : Fault → Type 0)
       (old new : Passes D) (answer : Worked O Conn Done Fault) → AreOf host old
-      → Visits source sink lent Gives host old new → IsEndOf Shuts Fails answer
-      → Works source sink lent Gives Shuts Fails host old new answer
+      → Visits source sink lent Gives sound host old new → IsEndOf Shuts Fails answer
+      → Works source sink lent Gives Shuts Fails sound host old new answer
   works_of Shuts Fails old new answer of v ends = record {
     served = v;
-    serves = serves_of host.stories.now host.budget (holders old.desks.items)
+    serves = serves_of host.stories.now host.budget (sound host) (holders old.desks.items)
         (holders_many _ _ _ _ of.each of.whole.many) (seens old.desks.items) (turns_of v.visits)
         (seens new.desks.items) (seens_many _ _ _ _ of.each of.whole.many) v.chain;
     ends = ends;

@@ -1,30 +1,39 @@
 -- The desks of a host that ends, and their entries of the journal.
-use Rattle.std.proofs.Common.{◌≡◌, ◌⊎◌, ◌≢◌, ℕ, zero, suc, ◌+◌, ◌==◌, ◌<◌, ◌≤◌, Bool, true, false, cond, List, [], ◌∷◌, ◌++◌, length, map, get_or, set, refl, ap, sym, ◌∙◌, subst, inl, inr, ⊎_elim, arith, append_assoc, Option, Some, None}
-use Rattle.std.specs.Prelude.{if◌then◌else◌}
-use Rattle.std.proofs.lemmas.Bool.Decides.{nat_tests}
-use Rattle.std.proofs.lemmas.List.{get_or-set_other}
-use Rattle.turn_cell.specs.History.{Continues, Each, IsAmong, IsForeign}
+use Rattle.std.proofs.Common.{◌≡◌, ◌⊎◌, ℕ, zero, suc, ◌+◌, ◌<◌, ◌≤◌, Bool, List, [], ◌∷◌, ◌++◌, length, map, get_or, set, refl, ap, sym, ◌∙◌, subst, inl, inr, ⊎_elim, arith, append_assoc, Option, Some, None}
+use Rattle.std.specs.Prelude.{slice_get}
+use Rattle.std.specs.List.{AllZip}
+use Rattle.std.proofs.lemmas.List.{get_or-map, get_or-set_other}
+use Rattle.turn_cell.specs.History.{Continues, IsAmong, IsForeign}
 use Rattle.turn_cell.specs.declared.pass.Pass.{Pass}
-use Rattle.turn_cell.specs.Passes.{holds, number, sample, seen, tag_of}
+use Rattle.turn_cell.specs.Passes.{holds, seen, tag_of}
 use Rattle.turn_cell.specs.Views.{tag_in}
 use Rattle.turn_cell.proofs.HistoryLemmas.{among_first, among_second, continues_all, each_append, each_map, nil_right}
 use Rattle.gate_journal.specs.Log.{Log, number_of, rows_of}
-use Rattle.gate_journal.specs.Rows.{EachNext, IsJournal}
-use Rattle.gate_journal.specs.declared.row.Row.{Row}
+use Rattle.disk_model.specs.Disk.{EachImage}
+use Rattle.gate_journal.specs.Rows.{IsJournal, commands_of}
+use Rattle.gate_journal.specs.declared.command.Command.{Command}
+use Rattle.snap_store.specs.Store.{Snapshots}
+use Rattle.story_run.specs.declared.story.Story.{Story}
 use Rattle.gate_journal.specs.declared.entry.Entry.{Entry as JournalEntry}
-use Rattle.gate_journal.specs.declared.entry.Entry.TheVariants.{Kept, Faulted}
 use Rattle.session_core.specs.declared.entry.Entry.{Entry}
-use Rattle.session_core.specs.declared.entry.Entry.TheVariants as entries
-use Rattle.session_core.specs.Turning.{entry_by}
+use Rattle.session_core.specs.History.{game_of}
+use Rattle.session_core.specs.Turning.{commands_in, entry_by}
+use Rattle.session_saves.specs.Agreement.{IsAgreedFile}
 use Rattle.session_desk.specs.Shared.{DeskTag, IsShared, SharedState, desk_tag, unnumbered}
+use Rattle.session_desk.specs.Sound.{EndsStore, IsSoundDesk, open_rows}
 use Rattle.session_desk.specs.Turn.{history_in}
+use Rattle.session_desk.proofs.HistoryLemmas.{commands_in-history}
+use Rattle.session_desk.proofs.OpensLemmas.{opens_of-since}
+use Rattle.session_desk.proofs.SharedLemmas.{commands_in-unnumbered, history_in-since, kept-since}
 use Rattle.host_serve.specs.declared.host.Host.{Host}
 use Rattle.host_serve.specs.declared.host.Passes.{Passes}
-use Rattle.host_serve.specs.Ending.{EndsAt, EndsWith}
-use Rattle.host_serve.specs.Gathering.{BringsIn, Gathers, Heard, KeepsRoot}
+use Rattle.host_serve.specs.Ending.{AreAgreedDisks, EndsAt, EndsWith, GivesBack, IsAgreedDisk}
+use Rattle.host_serve.specs.Gathering.{BringsIn, Gathers, Heard, KeepsRoot, Returns}
 use Rattle.host_serve.specs.Holders.{Holder, IsAloneHolder, holder_at, holder_of, holders, seen_at, seens}
-use Rattle.host_serve.specs.Hosts.{IsHost}
-use Rattle.host_serve.proofs.PassLemmas.{holder_there, seen_of_pass}
+use Rattle.host_serve.specs.Hosts.{AreOf, IsHost, IsSound, cell_id, rows_at_opening, stores_of, tag_at}
+use Rattle.host_serve.proofs.ListLemmas.{length_more, same_some}
+use Rattle.host_serve.proofs.PassLemmas.{holder_there, seen_of_pass, tag_of_store}
+use Rattle.host_serve.proofs.StoreLemmas.{get_first, get_last, get_within, get_below, zip_of}
 
 module _ {A : Type 0} where
   -- what goes on from what goes on
@@ -48,39 +57,25 @@ fewer e n numbers there foreign (inl is) = foreign (subst (λ (k : ℕ). IsAmong
 fewer e n numbers there foreign (inr none) = none
 
 -- what a desk's pass had seen goes on by others' entries, where its number is among these
+since_to : (s : ℕ) (numbers : List ℕ) (seen mid new : List JournalEntry)
+    → Continues (IsForeign number_of ((s + 1) ∷ [])) mid seen → IsAmong (s + 1) numbers
+    → Continues (IsForeign number_of numbers) new mid
+    → Continues (IsForeign number_of ((s + 1) ∷ [])) new seen
+since_to s numbers seen mid new first held since =
+    goes_on (IsForeign number_of ((s + 1) ∷ [])) seen mid new first
+    (goes_by (IsForeign number_of numbers) (IsForeign number_of ((s + 1) ∷ [])) mid new
+    (λ e foreign. fewer e (s + 1) numbers held foreign) since)
+
 heard_to : (s : ℕ) (final : List Entry) (numbers : List ℕ) (mid new : List JournalEntry)
     → Heard s mid final → IsAmong (s + 1) numbers
     → Continues (IsForeign number_of numbers) new mid → Heard s new final
 heard_to s final numbers mid new h held since = record {
   seen = h.seen;
-  since = goes_on (IsForeign number_of ((s + 1) ∷ [])) h.seen mid new h.since
-      (goes_by (IsForeign number_of numbers) (IsForeign number_of ((s + 1) ∷ [])) mid new
-      (λ e foreign. fewer e (s + 1) numbers held foreign) since);
+  since = since_to s numbers h.seen mid new h.since held since;
   entries = h.entries;
 }
 
 module _ {D : Type 0} where
-  -- a session's desk, and its pass joined into the root
-  pub brings_in : (s : ℕ) (h : Holder) (old : List Entry) (desk : SharedState D)
-      (other root : Pass (Log D) JournalEntry)
-      → Continues (IsForeign entry_by h.holds) desk.history old
-      → (IsAloneHolder h → desk.history ≡ old) → desk.desk.session ≡ s → IsShared desk
-      → other ≡ desk.pass → Continues (IsForeign number_of (holds other)) (seen root) (seen other)
-      → BringsIn s h old root
-  brings_in s h old desk other root since alone same shared is joined = record {
-    final = desk.history;
-    ends = record { since = since; alone = alone };
-    heard = record {
-      seen = seen other;
-      since = subst (λ (l : List ℕ). Continues (IsForeign number_of l) (seen root) (seen other))
-          (ap (λ (p : Pass (Log D) JournalEntry). holds p) is ∙ (shared.pass.only
-          ∙ ap (λ (k : ℕ). (k + 1) ∷ []) same)) joined;
-      entries = shared.entries
-          ∙ ap (λ (x : List JournalEntry × ℕ). history_in x.0 x.1)
-          (λ i. (sym (ap (λ (p : Pass (Log D) JournalEntry). seen p) is) i, same i));
-    };
-  }
-
   -- the number that the root holds then
   pub own_number : (s : ℕ) (desk : SharedState D) (other root : Pass (Log D) JournalEntry)
       → desk.desk.session ≡ s → IsShared desk → other ≡ desk.pass
@@ -117,54 +112,140 @@ module _ {D : Type 0} where
   heard_on s final more mid new h held k =
       heard_to s final (holds mid) (seen mid) (seen new) h held k.since
 
-module _ {D : Type 0} (holders : List Holder) (old : List (List Entry))
+  -- the commands of a desk are those of its session in what its pass has seen
+  own_commands : (desk : SharedState D) → IsShared desk
+      → desk.desk.commands ≡ commands_of (rows_of (seen desk.pass)) desk.desk.session
+  own_commands desk shared = sym shared.commands ∙ (sym (commands_in-unnumbered desk.history)
+      ∙ (ap commands_in shared.entries
+      ∙ commands_in-history (seen desk.pass) desk.desk.session))
+
+module _ {D : Type 0} (tells : D → Bool) (may_leave : D → List ℕ → Type 0)
+    (reads : D → List ℕ) (faults reach room label : D → ℕ) where
+  -- what a desk leaves of its store
+  desk_returns : (s : ℕ) (desk : SharedState D) (its : DeskTag D) (back : D)
+      (other : Pass (Log D) JournalEntry) (journal : List JournalEntry) → desk_tag desk ≡ its
+      → desk.desk.session ≡ s → IsShared desk
+      → EndsStore tells may_leave reads room label faults reach desk
+      → back ≡ desk.saves.store.disk → other ≡ desk.pass
+      → Continues (IsForeign number_of ((s + 1) ∷ [])) journal (seen other)
+      → Returns tells may_leave reads faults reach room label s its back journal
+  desk_returns s desk its back other journal tag same shared e is_back is since = record {
+    gives = subst (λ (x : DeskTag D × D). GivesBack tells faults reach room label x.0.store x.1)
+        (λ i. (tag i, sym is_back i)) (record {
+          same = e.store.same;
+          counts = e.store.counts;
+          reaches = e.store.reaches;
+        });
+    seen = seen other;
+    since = since;
+    agreed = λ sound.
+        subst (λ (x : List Story × Pass (Log D) JournalEntry × ℕ × D). IsAgreedDisk tells
+        may_leave x.0 (rows_of (seen x.1)) x.2 x.3)
+        (λ i. (
+          ap (λ (t : DeskTag D). t.stories) tag i,
+          sym is i,
+          same i,
+          sym is_back i,
+        ))
+        (subst (λ (cs : List Command). EachImage tells may_leave desk.saves.store.disk
+        (IsAgreedFile desk.desk.stories (open_rows desk) (game_of cs)))
+        (own_commands desk shared)
+        (e.agreed (subst (IsSoundDesk tells reads) (sym tag) sound)));
+  }
+
+  -- a session's desk, and its pass joined into the root
+  pub brings_in : (s : ℕ) (h : Holder) (old : List Entry) (tag : Option (DeskTag D))
+      (desk : SharedState D) (other root : Pass (Log D) JournalEntry) (back : D)
+      → Continues (IsForeign entry_by h.holds) desk.history old
+      → (IsAloneHolder h → desk.history ≡ old) → tag ≡ Some (desk_tag desk)
+      → desk.desk.session ≡ s → IsShared desk
+      → EndsStore tells may_leave reads room label faults reach desk
+      → back ≡ desk.saves.store.disk → other ≡ desk.pass
+      → Continues (IsForeign number_of (holds other)) (seen root) (seen other)
+      → BringsIn tells may_leave reads faults reach room label s h old tag root back
+  brings_in s h old tag desk other root back since alone tagged same shared e is_back is joined =
+      let after = subst (λ (l : List ℕ). Continues (IsForeign number_of l) (seen root)
+      (seen other)) (ap (λ (p : Pass (Log D) JournalEntry). holds p) is ∙ (shared.pass.only
+      ∙ ap (λ (k : ℕ). (k + 1) ∷ []) same)) joined in
+      record {
+        final = desk.history;
+        ends = record { since = since; alone = alone };
+        heard = record {
+          seen = seen other;
+          since = after;
+          entries = shared.entries
+              ∙ ap (λ (x : List JournalEntry × ℕ). history_in x.0 x.1)
+              (λ i. (sym (ap (λ (p : Pass (Log D) JournalEntry). seen p) is) i, same i));
+        };
+        returns = λ its there. desk_returns s desk its back other (seen root)
+            (same_some (desk_tag desk) its (sym tagged ∙ there)) same shared e is_back is after;
+      }
+
+  -- a store that came back is as it was, as the root joins more
+  returns_on : (s : ℕ) (tag : DeskTag D) (back : D) (numbers : List ℕ)
+      (mid new : List JournalEntry)
+      → Returns tells may_leave reads faults reach room label s tag back mid
+      → IsAmong (s + 1) numbers → Continues (IsForeign number_of numbers) new mid
+      → Returns tells may_leave reads faults reach room label s tag back new
+  returns_on s tag back numbers mid new r held since = record {
+    gives = r.gives;
+    seen = r.seen;
+    since = since_to s numbers r.seen mid new r.since held since;
+    agreed = r.agreed;
+  }
+
+there_or : (finals : List (List Entry)) (final : List Entry) (s : ℕ) → s < length finals
+    → seen_at (finals ++ final ∷ []) s ≡ seen_at finals s
+there_or [] final s low = absurd (omega arith)
+there_or (x ∷ xs) final zero low = refl
+there_or (x ∷ xs) final (suc s) low = there_or xs final s (omega arith)
+
+there_last : (finals : List (List Entry)) (final : List Entry) (s : ℕ) → s ≡ length finals
+    → seen_at (finals ++ final ∷ []) s ≡ final
+there_last [] final zero e = refl
+there_last [] final (suc s) e = absurd (omega arith)
+there_last (x ∷ xs) final zero e = absurd (omega arith)
+there_last (x ∷ xs) final (suc s) e = there_last xs final s (omega arith)
+
+below_or_last : (s n : ℕ) → s < n + 1 → (s < n) ⊎ (s ≡ n)
+below_or_last zero zero low = inr refl
+below_or_last zero (suc n) low = inl (omega arith)
+below_or_last (suc s) zero low = absurd (omega arith)
+below_or_last (suc s) (suc n) low = ⊎_elim
+    (λ (t : s < n). inl (omega arith)) (λ (t : s ≡ n). inr (ap suc t))
+    (below_or_last s n (omega arith))
+
+module _ {D : Type 0} (tells : D → Bool) (may_leave : D → List ℕ → Type 0)
+    (reads : D → List ℕ) (faults reach room label : D → ℕ) (holders : List Holder)
+    (old : List (List Entry)) (tags : List (Option (DeskTag D)))
     (first : Pass (Log D) JournalEntry) where
-  pub gathers_none : Gathers 0 holders old first first
-  gathers_none = record {
+  pub gathers_none : (backs : List D) → backs ≡ []
+      → Gathers tells may_leave reads faults reach room label 0 holders old tags first first backs
+  gathers_none backs none = record {
     finals = [];
     many = refl;
     ends = λ s low. absurd (omega arith);
     heard = λ s low. absurd (omega arith);
     held = λ s low. absurd (omega arith);
     grows = ([], keeps_none first);
+    disks = ap (λ (l : List D). length l) none;
+    returns = λ s tag back low. absurd (omega arith);
   }
 
-  there_or : (finals : List (List Entry)) (final : List Entry) (s : ℕ) → s < length finals
-      → seen_at (finals ++ final ∷ []) s ≡ seen_at finals s
-  there_or [] final s low = absurd (omega arith)
-  there_or (x ∷ xs) final zero low = refl
-  there_or (x ∷ xs) final (suc s) low = there_or xs final s (omega arith)
-
-  there_last : (finals : List (List Entry)) (final : List Entry) (s : ℕ) → s ≡ length finals
-      → seen_at (finals ++ final ∷ []) s ≡ final
-  there_last [] final zero e = refl
-  there_last [] final (suc s) e = absurd (omega arith)
-  there_last (x ∷ xs) final zero e = absurd (omega arith)
-  there_last (x ∷ xs) final (suc s) e = there_last xs final s (omega arith)
-
-  long_more : (finals : List (List Entry)) (final : List Entry)
-      → length (finals ++ final ∷ []) ≡ length finals + 1
-  long_more [] final = omega arith
-  long_more (x ∷ xs) final = let t = long_more xs final in omega arith
-
-  below_or_last : (s n : ℕ) → s < n + 1 → (s < n) ⊎ (s ≡ n)
-  below_or_last zero zero low = inr refl
-  below_or_last zero (suc n) low = inl (omega arith)
-  below_or_last (suc s) zero low = absurd (omega arith)
-  below_or_last (suc s) (suc n) low = ⊎_elim
-      (λ (t : s < n). inl (omega arith)) (λ (t : s ≡ n). inr (ap suc t))
-      (below_or_last s n (omega arith))
-
   -- one session more
-  pub gathers_more : (n : ℕ) (mid new : Pass (Log D) JournalEntry)
-      → Gathers n holders old first mid
-      → BringsIn n (holder_at holders n) (seen_at old n) new → KeepsRoot ((n + 1) ∷ []) mid new
-      → Gathers (n + 1) holders old first new
-  gathers_more n mid new g b k =
+  pub gathers_more : (n : ℕ) (mid new : Pass (Log D) JournalEntry) (backs backs' : List D)
+      (back : D)
+      → Gathers tells may_leave reads faults reach room label n holders old tags first mid backs
+      → BringsIn tells may_leave reads faults reach room label n (holder_at holders n)
+      (seen_at old n) (get_or tags n None) new back
+      → KeepsRoot ((n + 1) ∷ []) mid new → backs' ≡ backs ++ back ∷ []
+      → Gathers tells may_leave reads faults reach room label (n + 1) holders old tags first new
+      backs'
+  gathers_more n mid new backs backs' back g b k pushed =
       let finals = g.finals ++ b.final ∷ [] in
       record {
         finals = finals;
-        many = long_more g.finals b.final ∙ ap (λ (m : ℕ). m + 1) g.many;
+        many = length_more g.finals b.final ∙ ap (λ (m : ℕ). m + 1) g.many;
         ends = λ s low. ⊎_elim
             (λ (below : s < n). subst (λ (l : List Entry). EndsAt (holder_at holders s)
             (seen_at old s) l) (sym (there_or g.finals b.final s
@@ -193,6 +274,24 @@ module _ {D : Type 0} (holders : List Holder) (old : List (List Entry))
           g.grows.0 ++ (n + 1) ∷ [],
           keeps_more g.grows.0 ((n + 1) ∷ []) first mid new g.grows.1 k,
         );
+        disks = ap (λ (l : List D). length l) pushed
+            ∙ (length_more backs back ∙ ap (λ (m : ℕ). m + 1) g.disks);
+        returns = λ s tag there low tagged at. let at' = ap (λ (l : List D). slice_get l s)
+            (sym pushed) ∙ at in ⊎_elim
+            (λ (below : s < n). returns_on tells may_leave reads faults reach room label s tag
+            there (holds mid) (seen mid) (seen new) (g.returns s tag there below tagged
+            (sym (get_first backs back s (let many = g.disks in omega arith)) ∙ at'))
+            (g.held s below) k.since)
+            (λ (last : s ≡ n). let place = last ∙ sym g.disks in
+            subst (λ (x : ℕ × D). Returns tells may_leave reads faults reach room label x.0 tag x.1
+            (seen new))
+            (λ i. (
+              sym last i,
+              same_some back there (sym (get_last backs [] back)
+                  ∙ (ap (λ (m : ℕ). slice_get (backs ++ back ∷ []) m) (sym place) ∙ at')) i,
+            ))
+            (b.returns tag (ap (λ (m : ℕ). get_or tags m None) (sym last) ∙ tagged)))
+            (below_or_last s n low);
       }
 
 -- one of the passes in the place of another
@@ -203,104 +302,104 @@ later_on now old s q later t d low =
     get_or-set_other now s t q d (λ (e : t ≡ s). omega arith) ∙ later t d (omega arith)
 
 -- what was brought in of a session, by its place among the passes
-pub brought_at : {D T : Type 0} (passes : List (Pass T Entry)) (s : ℕ) (p : Pass T Entry)
-    (root : Pass (Log D) JournalEntry) → s < length passes → p ≡ get_or passes s p
-    → BringsIn s (holder_of p) (seen p) root
-    → BringsIn s (holder_at (holders passes) s) (seen_at (seens passes) s) root
-brought_at passes s p root low at_p = subst (λ (x : Holder × List Entry). BringsIn s x.0 x.1 root)
-    (λ i. (sym (holder_there passes s p low at_p) i, sym (seen_of_pass passes s p low at_p) i))
+pub brought_at : {D : Type 0} (tells : D → Bool) (may_leave : D → List ℕ → Type 0)
+    (reads : D → List ℕ) (faults reach room label : D → ℕ)
+    (passes : List (Pass (SharedState D) Entry)) (s : ℕ) (p : Pass (SharedState D) Entry)
+    (root : Pass (Log D) JournalEntry) (back : D) → s < length passes → p ≡ get_or passes s p
+    → BringsIn tells may_leave reads faults reach room label s (holder_of p) (seen p)
+    (tag_of desk_tag p) root back
+    → BringsIn tells may_leave reads faults reach room label s (holder_at (holders passes) s)
+    (seen_at (seens passes) s) (get_or (map (tag_of desk_tag) passes) s None) root back
+brought_at tells may_leave reads faults reach room label passes s p root back low at_p =
+    subst (λ (x : Holder × List Entry × Option (DeskTag _)).
+    BringsIn tells may_leave reads faults reach room label s x.0 x.1 x.2 root back)
+    (λ i. (
+      sym (holder_there passes s p low at_p) i,
+      sym (seen_of_pass passes s p low at_p) i,
+      sym (get_or-map (tag_of desk_tag) passes s p None low
+          ∙ ap (tag_of desk_tag) (sym at_p)) i,
+    ))
 
--- ---- entries of other sessions add nothing to a session's history
-
-others_row : (r : Row) (s : ℕ) → r.by ≡ r.session + 1 → ((r.by ≡ s + 1) → ⊥)
-    → (r.session == s) ≡ false
-others_row r s by other = of (r.session == s) refl
-  where
-    of : (b : Bool) → (r.session == s) ≡ b → (r.session == s) ≡ false
-    of false e = e
-    of true e = let same : r.session ≡ s = grind (arith, nat_tests, e) in
-        absurd (other (by ∙ ap (λ (n : ℕ). n + 1) same))
-
-others_fault : (by s : ℕ) → ((by ≡ s + 1) → ⊥) → (by == s + 1) ≡ false
-others_fault by s other = of (by == s + 1) refl
-  where
-    of : (b : Bool) → (by == s + 1) ≡ b → (by == s + 1) ≡ false
-    of false e = e
-    of true e = let same : by ≡ s + 1 = grind (arith, nat_tests, e) in absurd (other same)
-
--- each row has the number of its session and 1
-abbrev RowsNumbered : List Row → Type 0
-RowsNumbered rows = Each (λ (r : Row). r.by ≡ r.session + 1) rows
-
-rows_numbered : (before rows : List Row) → EachNext before rows → RowsNumbered rows
-rows_numbered before [] each = tt
-rows_numbered before (r ∷ rows) each =
-    (each.0.by, rows_numbered (before ++ r ∷ []) rows each.1)
-
-history_others : (rest : List JournalEntry) (s : ℕ) → RowsNumbered (rows_of rest)
-    → Each (IsForeign number_of ((s + 1) ∷ [])) rest → history_in rest s ≡ []
-history_others [] s numbered each = refl
-history_others (Kept r ∷ rest) s numbered each =
-    rw (others_row r s numbered.0 (λ e. each.0 (inl (sym e))))
-    (history_others rest s numbered.1 each.1)
-history_others (Faulted by from to ∷ rest) s numbered each =
-    rw (others_fault by s (λ e. each.0 (inl (sym e)))) (history_others rest s numbered each.1)
-
-rest_numbered : (seen rest : List JournalEntry) → RowsNumbered (rows_of (seen ++ rest))
-    → RowsNumbered (rows_of rest)
-rest_numbered [] rest numbered = numbered
-rest_numbered (Kept r ∷ seen) rest numbered = rest_numbered seen rest numbered.1
-rest_numbered (Faulted by from to ∷ seen) rest numbered = rest_numbered seen rest numbered
-
-abbrev put : Bool → Entry → List Entry → List Entry
-put own e more = if own then e ∷ more else more
-
-history_before : (seen rest : List JournalEntry) (s : ℕ) → history_in rest s ≡ []
-    → history_in (seen ++ rest) s ≡ history_in seen s
-history_before [] rest s none = none
-history_before (Kept r ∷ seen) rest s none =
-    ap (λ (l : List Entry). put (r.session == s) (entries.Accepted 0 r.command) l)
-    (history_before seen rest s none)
-history_before (Faulted by from to ∷ seen) rest s none =
-    ap (λ (l : List Entry). put (by == s + 1) (entries.Faulted 0 from to) l)
-    (history_before seen rest s none)
-
--- so the journal has of a session what its desk has
+-- the journal has of a session what its desk has
 pub heard_kept : (s : ℕ) (journal : List JournalEntry) (final : List Entry)
     → IsJournal (rows_of journal) → Heard s journal final
     → history_in journal s ≡ map unnumbered final
 heard_kept s journal final rows h =
-    let numbered = rows_numbered [] (rows_of journal) rows in
-    let after = rest_numbered h.seen h.since.0
-    (subst (λ (l : List JournalEntry). RowsNumbered (rows_of l)) h.since.1 numbered) in
-    ap (λ (l : List JournalEntry). history_in l s) h.since.1
-    ∙ (history_before h.seen h.since.0 s (history_others h.since.0 s after h.since.2)
-    ∙ sym h.entries)
+    history_in-since s journal h.seen rows h.since ∙ sym h.entries
 
 -- what a host ends with
-pub ends_with : {D : Type 0} (host : Host D) (passes : Passes D)
-    (root : Pass (Log D) JournalEntry) (log : Log D) → IsHost host
-    → Gathers 64 (holders passes.desks.items) (seens passes.desks.items) host.root root
-    → Continues (IsForeign number_of (holds root)) log.entries (seen root)
-    → tag_of (λ (j : Log D). j.opening) root ≡ Some log.opening → IsJournal (rows_of log.entries)
-    → EndsWith host passes log
-ends_with {D} host passes root log whole g since tagged rows =
-    let k = g.grows.1 in
-    record {
-      finals = g.finals;
-      many = g.many;
-      each = g.ends;
-      kept = λ s low. heard_kept s log.entries (seen_at g.finals s) rows
-          (heard_to s (seen_at g.finals s) (holds root) (seen root) log.entries (g.heard s low)
-          (g.held s low) since);
-      opening = ap (λ (x : Option (Log D)). tag_in (λ (j : Log D). j.opening) x) (sym k.kept.1)
-          ∙ tagged;
-      grows = subst (λ (l : List ℕ). Continues (IsForeign number_of l) log.entries
-          (seen host.root)) whole.numbered.1
-          (goes_on (IsForeign number_of (holds host.root)) (seen host.root) (seen root)
-          log.entries k.since
-          (goes_by (IsForeign number_of (holds root)) (IsForeign number_of (holds host.root))
-          (seen root) log.entries (λ e foreign there. foreign
-          (subst (λ (l : List ℕ). IsAmong (number_of e) l) (sym k.holds_both)
-          (among_first (number_of e) (holds host.root) g.grows.0 there))) since));
-    }
+module _ {D : Type 0} (tells : D → Bool) (may_leave : D → List ℕ → Type 0)
+    (reads : D → List ℕ) (faults reach room label : D → ℕ) (host : Host D) (passes : Passes D)
+    (root : Pass (Log D) JournalEntry) (backs : List D) where
+  -- all desks were brought in
+  abbrev pub AllIn : Type 0
+  AllIn = Gathers tells may_leave reads faults reach room label 64 (holders passes.desks.items)
+      (seens passes.desks.items) (map (tag_of desk_tag) passes.desks.items) host.root root backs
+
+  pub ends_with : (log : Log D) → IsHost host → AllIn
+      → Continues (IsForeign number_of (holds root)) log.entries (seen root)
+      → tag_of (λ (j : Log D). j.opening) root ≡ Some log.opening → IsJournal (rows_of log.entries)
+      → EndsWith host passes log
+  ends_with log whole g since tagged rows =
+      let k = g.grows.1 in
+      record {
+        finals = g.finals;
+        many = g.many;
+        each = g.ends;
+        kept = λ s low. heard_kept s log.entries (seen_at g.finals s) rows
+            (heard_to s (seen_at g.finals s) (holds root) (seen root) log.entries (g.heard s low)
+            (g.held s low) since);
+        opening = ap (λ (x : Option (Log D)). tag_in (λ (j : Log D). j.opening) x) (sym k.kept.1)
+            ∙ tagged;
+        grows = subst (λ (l : List ℕ). Continues (IsForeign number_of l) log.entries
+            (seen host.root)) whole.numbered.1
+            (goes_on (IsForeign number_of (holds host.root)) (seen host.root) (seen root)
+            log.entries k.since
+            (goes_by (IsForeign number_of (holds root)) (IsForeign number_of (holds host.root))
+            (seen root) log.entries (λ e foreign there. foreign
+            (subst (λ (l : List ℕ). IsAmong (number_of e) l) (sym k.holds_both)
+            (among_first (number_of e) (holds host.root) g.grows.0 there))) since));
+      }
+
+  -- the store of a session, and its disk
+  store_returns : AreOf host passes → AllIn → (s : ℕ) (store : Snapshots D) (back : D)
+      → slice_get (stores_of host) s ≡ Some store → slice_get backs s ≡ Some back
+      → Returns tells may_leave reads faults reach room label s
+      (tag_at host.stories.now host.budget (cell_id host.journal) (rows_at_opening host) s store)
+      back (seen root)
+  store_returns of g s store back there there' =
+      let low = get_within backs s back there' in
+      let many = g.disks in
+      g.returns s _ back (omega arith)
+      (ap (λ (l : List (Option (DeskTag D))). get_or l s None) of.each.tagged
+      ∙ tag_of_store host.stories.now host.budget (cell_id host.journal) (rows_at_opening host)
+      (stores_of host) s store there) there'
+
+  -- the stores' disks
+  pub gives_back : AreOf host passes → AllIn
+      → AllZip (GivesBack tells faults reach room label) (stores_of host) backs
+  gives_back of g = zip_of (GivesBack tells faults reach room label) (stores_of host) backs
+      (g.disks ∙ sym of.whole.stores)
+      (λ s store back there there'. (store_returns of g s store back there there').gives)
+
+  -- which agree with the rows, where the host is sound
+  pub agrees_back : (log : Log D) → AreOf host passes → AllIn
+      → Continues (IsForeign number_of (holds root)) log.entries (seen root)
+      → IsJournal (rows_of log.entries) → IsSound tells reads host
+      → AreAgreedDisks tells may_leave host.stories.now (rows_of log.entries) backs
+  agrees_back log of g since rows sound = λ s back there.
+      let low = get_within backs s back there in
+      let many = g.disks in
+      let whole = of.whole.stores in
+      let low' : s < 64 = omega arith in
+      let store = get_below (stores_of host) s (omega arith) in
+      let r = store_returns of g s store.0 back store.1 there in
+      let since' = since_to s (holds root) r.seen (seen root) log.entries r.since (g.held s low')
+      since in
+      subst (λ (x : List ℕ × List Command). EachImage tells may_leave back
+      (IsAgreedFile host.stories.now x.0 (game_of x.1)))
+      (λ i. (
+        sym (opens_of-since s log.entries r.seen rows since') i,
+        sym (kept-since s log.entries r.seen (commands_of (rows_of r.seen) s) rows since' refl) i,
+      ))
+      (r.agreed (sound s store.0 store.1))

@@ -1,5 +1,5 @@
 -- What a turn replies, by what it meets.
-use Rattle.std.proofs.Common.{◌≡◌, ◌⊎◌, ℕ, ◌+◌, Option, Some, None, List, [], ◌∷◌, ◌++◌, length, take, refl, ap, sym, ◌∙◌, inl, inr, arith}
+use Rattle.std.proofs.Common.{◌≡◌, ◌⊎◌, ℕ, Option, Some, None, List, [], ◌∷◌, ◌++◌, length, refl, ap, sym, ◌∙◌, inl, inr, arith}
 use Rattle.std.specs.Prelude.{slice_get}
 use Rattle.gate_journal.specs.declared.command.Command.{Command}
 use Rattle.line_words.specs.declared.reply.No.TheVariants as no
@@ -10,7 +10,7 @@ use Rattle.session_core.specs.declared.entry.Entry.{Entry}
 use Rattle.session_core.specs.declared.entry.Entry.TheVariants.{Faulted}
 use Rattle.session_core.specs.declared.entry.Outcome.{Outcome}
 use Rattle.session_core.specs.declared.entry.Outcome.TheVariants.{Answered, DiskFailed, OutOfMemory, Forgotten}
-use Rattle.session_core.specs.Turning.{MayMeet, turn_met, turn_of}
+use Rattle.session_core.specs.Turning.{MayMeet, turn_in, turn_met}
 use Rattle.host_serve.specs.Holders.{Holder, holder_at, seen_at}
 use Rattle.host_serve.specs.Serves.{Turn, Adds, AddsNothing, IsExact, MayMeetIn, decided, marked, turned}
 use Rattle.host_serve.proofs.ListLemmas.{length_more, same_last}
@@ -42,7 +42,7 @@ module _ (stories : List Story) (budget : ℕ) (holders : List Holder) (new : Li
       → Replies (decided stories budget (marked new t) t).reply (marked new t)
       (holder_at holders t.mark.session).number (turned stories budget holders new t).reply
       (turned stories budget holders new t).history
-  unfolding turn_of
+  unfolding turn_in
   turned_replies met = met_replies (marked new t) (holder_at holders t.mark.session).number
       (decided stories budget (marked new t) t).reply
       (decided stories budget (marked new t) t).accepted t.outcome met

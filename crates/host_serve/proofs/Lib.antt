@@ -4,6 +4,7 @@ pub mod ExactLemmas
 pub mod ChainLemmas
 pub mod ServesLemmas
 pub mod AloneLemmas
+pub mod StoreLemmas
 pub mod PassLemmas
 pub mod ToldLemmas
 pub mod OpeningLemmas

@@ -3,7 +3,7 @@ use Rattle.std.proofs.Common.{◌≡◌, ◌≢◌, ℕ, ◌+◌, ◌<◌, List,
 use Rattle.std.proofs.lemmas.List.{length-map, map-set, get_or-map, take_all}
 use Rattle.turn_cell.specs.declared.cell.Cell.{Cell}
 use Rattle.turn_cell.specs.declared.pass.Pass.{Pass}
-use Rattle.turn_cell.specs.Passes.{IsOf, IsOutside, IsSplitFrom, holds, made, number, sample, seen, tag_of}
+use Rattle.turn_cell.specs.Passes.{IsOf, IsOutside, IsSplitFrom, number, sample, seen, tag_of}
 use Rattle.turn_cell.specs.Views.{tag_in}
 use Rattle.turn_cell.proofs.HistoryLemmas.{each_append}
 use Rattle.host_serve.specs.Holders.{holder_of, holders, nobody, seens}

@@ -1,5 +1,6 @@
 -- The passes of all sessions, and one of them in the place of another.
-use Rattle.std.proofs.Common.{◌≡◌, ℕ, zero, suc, ◌+◌, ◌<◌, ◌≤◌, List, [], ◌∷◌, ◌++◌, length, map, get_or, set, ap, sym, ◌∙◌, refl, subst, inl, arith, Option, Some, None}
+use Rattle.std.proofs.Common.{◌≡◌, ℕ, zero, suc, ◌+◌, ◌<◌, ◌≤◌, List, [], ◌∷◌, ◌++◌, length, get_or, set, ap, sym, ◌∙◌, refl, subst, inl, arith, Option, Some, None}
+use Rattle.std.specs.Prelude.{slice_get}
 use Rattle.std.specs.List.{range_with_len}
 use Rattle.std.proofs.lemmas.List.{length-map, map-set, get_or-map}
 use Rattle.std.proofs.Math.Seq.{map-set_same}
@@ -8,15 +9,19 @@ use Rattle.turn_cell.specs.declared.pass.Pass.{Pass}
 use Rattle.turn_cell.specs.declared.cell.Cell.{Cell}
 use Rattle.turn_cell.specs.Passes.{IsOf, IsOutside, KeepsNumbers, made, sample, seen, tag_of}
 use Rattle.turn_cell.specs.Views.{tag_in}
+use Rattle.gate_journal.specs.declared.row.Row.{Row}
+use Rattle.snap_store.specs.Store.{Snapshots}
 use Rattle.story_run.specs.declared.story.Story.{Story}
 use Rattle.session_core.specs.declared.entry.Entry.{Entry}
 use Rattle.session_core.specs.Hosts.{session_on}
 use Rattle.session_desk.specs.Shared.{DeskTag}
 use Rattle.host_serve.specs.Holders.{Holder, nobody, holder_of, holder_at, seen_at, holders, seens}
-use Rattle.host_serve.specs.Hosts.{ArePasses, cell_id, pass_id, sessions_below, tag_at, tags_below}
+use Rattle.host_serve.specs.declared.host.Host.{Host}
+use Rattle.host_serve.specs.Hosts.{ArePasses, IsTagOf, cell_id, pass_id, rows_at_opening, sessions_below, stores_of, tag_at, tags_from, tags_in}
 use Rattle.host_serve.specs.Serves.{Turn}
 use Rattle.host_serve.specs.Chain.{TurnsIn, Answers}
-use Rattle.host_serve.proofs.ListLemmas.{each_at, each_set}
+use Rattle.host_serve.proofs.ListLemmas.{each_at, each_set, same_some}
+use Rattle.host_serve.proofs.StoreLemmas.{get_within}
 
 -- the tag of each session
 range_at : (first many s : ℕ) → s < many → get_or (range_with_len first many) s 0 ≡ first + s
@@ -31,6 +36,9 @@ range_long first (suc many) = ap suc (range_long (first + 1) many)
 pub sessions_long : (n : ℕ) → length (sessions_below n) ≡ n
 unfolding sessions_below
 sessions_long n = range_long 0 n
+
+plus_none : (n : ℕ) → n ≡ n + 0
+plus_none n = omega arith
 
 pub session_there : (n s : ℕ) → s < n → get_or (sessions_below n) s 0 ≡ s
 unfolding sessions_below
@@ -52,14 +60,65 @@ sessions_more n = let next : n + 1 ≡ suc n = omega arith in
     ap (λ (k : ℕ). range_with_len 0 k) next ∙ (range_more 0 n
     ∙ ap (λ (k : ℕ). range_with_len 0 n ++ k ∷ []) same)
 
-pub tag_there : (stories : List Story) (budget : ℕ) (journal : TableId) (s : ℕ)
-    (other : Option DeskTag) → s < 64
-    → get_or (tags_below stories budget journal 64) s other
-    ≡ Some (tag_at stories budget journal s)
-tag_there stories budget journal s other low =
-    get_or-map (λ (k : ℕ). Some (tag_at stories budget journal k)) (sessions_below 64) s 0 other
-    (let many = sessions_long 64 in omega arith)
-    ∙ ap (λ (k : ℕ). Some (tag_at stories budget journal k)) (session_there 64 s low)
+module _ {D : Type 0} (stories : List Story) (budget : ℕ) (journal : TableId) (rows : List Row)
+  where
+    -- the tag of each session's desk, from this session on
+    pub tag_there : (first : ℕ) (stores : List (Snapshots D)) (s : ℕ)
+        (other : Option (DeskTag D)) → s < length stores
+        → (store : Snapshots D) × (slice_get stores s ≡ Some store)
+        × (get_or (tags_from stories budget journal rows first stores) s other
+        ≡ Some (tag_at stories budget journal rows (first + s) store))
+    tag_there first [] s other low = absurd (omega arith)
+    tag_there first (store ∷ stores) zero other low = (
+      store,
+      refl,
+      ap (λ (k : ℕ). Some (tag_at stories budget journal rows k store)) (plus_none first),
+    )
+    tag_there first (store ∷ stores) (suc s) other low =
+        let more = tag_there (first + 1) stores s other (omega arith) in
+        let next : (first + 1) + s ≡ first + suc s = omega arith in (
+          more.0,
+          more.1,
+          more.2 ∙ ap (λ (k : ℕ). Some (tag_at stories budget journal rows k more.0)) next,
+        )
+
+    pub tag_of_store : (stores : List (Snapshots D)) (s : ℕ) (store : Snapshots D)
+        → slice_get stores s ≡ Some store
+        → get_or (tags_from stories budget journal rows 0 stores) s None
+        ≡ Some (tag_at stories budget journal rows s store)
+    tag_of_store stores s store is =
+        let there = tag_there 0 stores s None (get_within stores s store is) in
+        let same : 0 + s ≡ s = omega arith in
+        there.2 ∙ (λ i. Some (tag_at stories budget journal rows (same i)
+        (same_some there.0 store (sym there.1 ∙ is) i)))
+
+    -- with one store more
+    pub tags_more : (first : ℕ) (stores : List (Snapshots D)) (store : Snapshots D)
+        → tags_from stories budget journal rows first (stores ++ store ∷ [])
+        ≡ tags_from stories budget journal rows first stores
+        ++ Some (tag_at stories budget journal rows (first + length stores) store) ∷ []
+    tags_more first [] store = ap (λ (k : ℕ). Some (tag_at stories budget journal rows k store) ∷ [])
+        (plus_none first)
+    tags_more first (x ∷ stores) store =
+        let next : (first + 1) + length stores ≡ first + suc (length stores) = omega arith in
+        ap (λ (l : List (Option (DeskTag D))). Some (tag_at stories budget journal rows first x) ∷ l)
+        (tags_more (first + 1) stores store
+        ∙ ap (λ (k : ℕ). tags_from stories budget journal rows (first + 1) stores
+        ++ Some (tag_at stories budget journal rows k store) ∷ []) next)
+
+-- the tag of a host's desk
+pub tag_in_host : {D : Type 0} (host : Host D) (s n : ℕ) (tag : Option (DeskTag D))
+    → length (stores_of host) ≡ 64 → s < 64 → s ≡ n → tag ≡ get_or (tags_in host) s None
+    → IsTagOf host n tag
+tag_in_host host s n tag many low named is =
+    let there = tag_there host.stories.now host.budget (cell_id host.journal)
+    (rows_at_opening host) 0 (stores_of host) s None (omega arith) in
+    let same : 0 + s ≡ n = omega arith in (
+      there.0,
+      ap (λ (k : ℕ). slice_get (stores_of host) k) (sym named) ∙ there.1,
+      is ∙ (there.2 ∙ ap (λ (k : ℕ). Some (tag_at host.stories.now host.budget
+          (cell_id host.journal) (rows_at_opening host) k there.0)) same),
+    )
 
 module _ {T E G : Type 0} (tag : T → G) (tags : List (Option G)) where
   pub as_many : (cells : List (Cell T E)) (passes : List (Pass T E))
@@ -146,12 +205,13 @@ pass_at now old s p is later =
     ap (λ (d : _). get_or now s d) is ∙ later s (get_or now s p) (omega arith)
 
 -- a turn by one of the passes
-pub answers_in : {T : Type 0} (stories : List Story) (budget : ℕ) (passes : List (Pass T Entry))
+pub answers_in : {T : Type 0} (stories : List Story) (budget : ℕ) (sound : Type 0)
+    (passes : List (Pass T Entry))
     (s : ℕ) (p q : Pass T Entry) (t : Turn) → length passes ≡ 64 → p ≡ get_or passes s p
     → s < 64 → t.mark.session ≡ s → session_on t.line ≡ s
-    → TurnsIn stories budget (holder_of p) (seen p) t (seen q)
-    → Answers stories budget (holders passes) (seens passes) t (seens (set passes s q))
-answers_in stories budget passes s p q t many at_p low marked named turn =
+    → TurnsIn stories budget sound (holder_of p) (seen p) t (seen q)
+    → Answers stories budget sound (holders passes) (seens passes) t (seens (set passes s q))
+answers_in stories budget sound passes s p q t many at_p low marked named turn =
     let low' : s < length passes = omega arith in
     let h : holder_at (holders passes) t.mark.session ≡ holder_of p =
     ap (λ (k : ℕ). holder_at (holders passes) k) marked
@@ -162,7 +222,7 @@ answers_in stories budget passes s p q t many at_p low marked named turn =
     inl (record {
       session = (omega arith, marked ∙ sym named);
       after = seen q;
-      turn = subst (λ (x : Holder × List Entry). TurnsIn stories budget x.0 x.1 t (seen q))
+      turn = subst (λ (x : Holder × List Entry). TurnsIn stories budget sound x.0 x.1 t (seen q))
           (λ i. (sym h i, sym l i)) turn;
       seen = map-set seen passes s q
           ∙ ap (λ (k : ℕ). set (seens passes) k (seen q)) (sym marked);

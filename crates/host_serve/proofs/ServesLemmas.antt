@@ -1,5 +1,5 @@
 -- From turns one after the other to what is said of all of them.
-use Rattle.std.proofs.Common.{◌≡◌, ◌⊎◌, ◌≢◌, ℕ, zero, suc, ◌+◌, ◌<◌, ◌≤◌, Some, List, [], ◌∷◌, ◌++◌, length, set, take, refl, ap, sym, ◌∙◌, subst, inl, inr, ⊎_elim, append_assoc, arith}
+use Rattle.std.proofs.Common.{◌≡◌, ◌⊎◌, ◌≢◌, ℕ, zero, suc, ◌+◌, ◌<◌, ◌≤◌, Some, None, List, [], ◌∷◌, ◌++◌, length, set, take, refl, ap, sym, ◌∙◌, subst, inl, inr, ⊎_elim, append_assoc, arith}
 use Rattle.std.specs.Prelude.{slice_get}
 use Rattle.std.proofs.lemmas.Bool.{cases_lt}
 use Rattle.std.proofs.Math.Seq.{take-append_seam}
@@ -8,9 +8,9 @@ use Rattle.turn_cell.specs.History.{IsAmong, IsForeign}
 use Rattle.story_run.specs.declared.story.Story.{Story}
 use Rattle.session_core.specs.declared.entry.Entry.{Entry}
 use Rattle.session_core.specs.Turning.{entry_by, AddsTo, Turned}
-use Rattle.session_core.proofs.TurningLemmas.{turn_adds}
+use Rattle.session_core.proofs.TurningLemmas.{turn_in_adds}
 use Rattle.host_serve.specs.Holders.{Holder, nobody, IsAloneHolder, holder_at, seen_at}
-use Rattle.host_serve.specs.Serves.{Turn, IsTurn, IsOfItsSession, IsOfNoSession, MayMeetIn, marked, turned_on, turned, Adds, AddsNothing, AddedOnce, Folds, IsExact, Serves}
+use Rattle.host_serve.specs.Serves.{Turn, IsTurn, IsOfItsSession, IsOfNoSession, MayMeetIn, marked, own_world, turned_on, turned, Adds, AddsNothing, AddedOnce, Folds, IsExact, Serves}
 use Rattle.host_serve.specs.Chain.{TurnsIn, Answers, Chain}
 use Rattle.host_serve.proofs.TurnLemmas.{none_adds}
 use Rattle.host_serve.proofs.ExactLemmas.{exact}
@@ -24,7 +24,7 @@ empty_there : (seens : List (List Entry)) (s : ℕ) → length seens ≡ 64 → 
     → seen_at seens s ≡ []
 empty_there seens s wide e = get_or-eq_default seens [] (omega arith)
 
-module _ (stories : List Story) (budget : ℕ) where
+module _ (stories : List Story) (budget : ℕ) (sound : Type 0) where
   -- in one session: the turn on the prefix of the final history that its mark names
   abbrev MarkedTurn : Holder → List Entry → Turn → Turned
   MarkedTurn h final t = turned_on stories budget (take t.mark.length final) h.number t
@@ -42,6 +42,7 @@ module _ (stories : List Story) (budget : ℕ) where
     pub least : t.mark.length ≤ length mid
     pub more : AddsIn h final t → length mid ≡ t.mark.length + 1
     pub reply : t.reply ≡ (MarkedTurn h final t).reply
+    pub own : sound → t.world ≡ own_world stories (take t.mark.length final)
     pub met : MayMeetIn stories budget (take t.mark.length final) t
     pub adds : ((MarkedTurn h final t).history ≡ take t.mark.length final) ⊎ AddsIn h final t
     pub made : (place : ℕ) (e : Entry) → length old ≤ place → place < length mid
@@ -49,9 +50,9 @@ module _ (stories : List Story) (budget : ℕ) where
         → (t.mark.length ≡ place) × AddsIn h final t
 
   stands_in : (h : Holder) (old : List Entry) (t : Turn) (mid final rest : List Entry)
-      → TurnsIn stories budget h old t mid → final ≡ mid ++ rest → Stands h old t mid final
+      → TurnsIn stories budget sound h old t mid → final ≡ mid ++ rest → Stands h old t mid final
   stands_in h old t mid final rest i goes =
-      of (turn_adds stories budget i.before h.number t.line t.outcome)
+      of (turn_in_adds stories budget i.before t.world h.number t.line t.outcome)
     where
       marked_is : (tail : List Entry) → final ≡ i.before ++ tail
           → take t.mark.length final ≡ i.before
@@ -66,6 +67,10 @@ module _ (stories : List Story) (budget : ℕ) where
           → MarkedTurn h final t ≡ turned_on stories budget i.before h.number t
       same_turn tail e =
           ap (λ (l : List Entry). turned_on stories budget l h.number t) (marked_is tail e)
+
+      own_in : (tail : List Entry) → final ≡ i.before ++ tail → sound
+          → t.world ≡ own_world stories (take t.mark.length final)
+      own_in tail e s = i.own s ∙ ap (own_world stories) (sym (marked_is tail e))
 
       met_in : (tail : List Entry) → final ≡ i.before ++ tail
           → MayMeetIn stories budget (take t.mark.length final) t
@@ -98,6 +103,7 @@ module _ (stories : List Story) (budget : ℕ) where
             more = λ p. let f = ap (λ (l : List Entry). length l) (sym nothing ∙ p.1) in
                 let g = length_more (take t.mark.length final) p.0 in absurd (omega arith);
             reply = i.reply ∙ sym (ap (λ (x : Turned). x.reply) (same_turn rest is));
+            own = own_in rest is;
             met = met_in rest is;
             adds = inl nothing;
             made = λ place e low high there held. absurd (others rest is place e low
@@ -127,6 +133,7 @@ module _ (stories : List Story) (budget : ℕ) where
             least = omega arith;
             more = λ p. omega arith;
             reply = i.reply ∙ sym (ap (λ (x : Turned). x.reply) (same_turn (more.0 ∷ rest) is));
+            own = own_in (more.0 ∷ rest) is;
             met = met_in (more.0 ∷ rest) is;
             adds = inr added;
             made = λ place e low high there held. ⊎_elim
@@ -136,9 +143,9 @@ module _ (stories : List Story) (budget : ℕ) where
                 (cases_lt place (length i.before));
           }
 
-  stands_none : (t : Turn) → IsOfNoSession t → MayMeetIn stories budget [] t
+  stands_none : (t : Turn) → IsOfNoSession t → t.world ≡ None → MayMeetIn stories budget [] t
       → t.reply ≡ (turned_on stories budget [] 0 t).reply → Stands nobody [] t [] []
-  stands_none t none met reply = let e = none.1 in let nil = take_none t.mark.length none.1 in
+  stands_none t none world met reply = let e = none.1 in let nil = take_none t.mark.length none.1 in
       let same = ap (λ (l : List Entry). turned_on stories budget l 0 t) nil in
       record {
         prefix = omega arith;
@@ -146,9 +153,10 @@ module _ (stories : List Story) (budget : ℕ) where
         least = omega arith;
         more = λ p. absurd (none_some p.0 p.2);
         reply = reply ∙ sym (ap (λ (x : Turned). x.reply) same);
+        own = λ s. world ∙ ap (own_world stories) (sym nil);
         met = subst (λ (l : List Entry). MayMeetIn stories budget l t) (sym nil) met;
         adds = inl (ap (λ (x : Turned). x.history) same
-            ∙ (none_adds stories budget t.line t.outcome none.2 ∙ sym nil));
+            ∙ (none_adds stories budget t.world t.line t.outcome none.2 ∙ sym nil));
         made = λ place x low high there held. absurd (omega arith);
       }
 
@@ -159,10 +167,10 @@ module _ (stories : List Story) (budget : ℕ) where
         (seen_at old t.mark.session) t (seen_at mid t.mark.session) (seen_at new t.mark.session)
 
     head_stands : (old : List (List Entry)) (t : Turn) (mid new : List (List Entry))
-        → length old ≡ 64 → length new ≡ 64 → Answers stories budget holders old t mid
+        → length old ≡ 64 → length new ≡ 64 → Answers stories budget sound holders old t mid
         → Grows mid new → StandsAt old t mid new
     head_stands old t mid new wide wide' (inl o) grows = let g = grows t.mark.session in
-        let there = seen_there stories budget holders old t mid wide o in
+        let there = seen_there stories budget sound holders old t mid wide o in
         subst (λ (l : List Entry). Stands (holder_at holders t.mark.session)
         (seen_at old t.mark.session) t l (seen_at new t.mark.session)) (sym there)
         (stands_in (holder_at holders t.mark.session) (seen_at old t.mark.session) t o.after
@@ -175,19 +183,19 @@ module _ (stories : List Story) (budget : ℕ) where
         let b = ap (λ (x : List (List Entry)). seen_at x t.mark.session) n.seen ∙ a in
         let c = empty_there new t.mark.session wide' s in
         subst (λ (x : Holder × List Entry × List Entry × List Entry). Stands x.0 x.1 t x.2 x.3)
-        (λ j. (sym h j, sym a j, sym b j, sym c j)) (stands_none t n.none n.met n.reply)
+        (λ j. (sym h j, sym a j, sym b j, sym c j)) (stands_none t n.none n.world n.met n.reply)
 
     -- the first turn of a chain
     first_stands : (old : List (List Entry)) (t : Turn) (ts : List Turn)
         (new : List (List Entry)) → length old ≡ 64
-        → (c : Chain stories budget holders old (t ∷ ts) new) → StandsAt old t c.0 new
+        → (c : Chain stories budget sound holders old (t ∷ ts) new) → StandsAt old t c.0 new
     first_stands old t ts new wide c =
-        let wide' = answer_wide stories budget holders old t c.0 wide c.1 in
-        head_stands old t c.0 new wide (chain_wide stories budget holders c.0 ts new wide' c.2) c.1
-        (chain_grows stories budget holders c.0 ts new wide' c.2)
+        let wide' = answer_wide stories budget sound holders old t c.0 wide c.1 in
+        head_stands old t c.0 new wide (chain_wide stories budget sound holders c.0 ts new wide' c.2) c.1
+        (chain_grows stories budget sound holders c.0 ts new wide' c.2)
 
     session_of_turn : (old : List (List Entry)) (t : Turn) (mid : List (List Entry))
-        → Answers stories budget holders old t mid → IsOfItsSession t ⊎ IsOfNoSession t
+        → Answers stories budget sound holders old t mid → IsOfItsSession t ⊎ IsOfNoSession t
     session_of_turn old t mid (inl o) = inl o.session
     session_of_turn old t mid (inr n) = inr n.none
 
@@ -198,20 +206,21 @@ module _ (stories : List Story) (budget : ℕ) where
         × (t.reply ≡ (turned stories budget holders new t).reply)
         × (AddsNothing stories budget holders new t ⊎ Adds stories budget holders new t)
         × MayMeetIn stories budget (marked new t) t
+        × (sound → t.world ≡ own_world stories (marked new t))
 
     settled : (old : List (List Entry)) (ts : List Turn) (new : List (List Entry))
-        → length old ≡ 64 → Chain stories budget holders old ts new → (i : ℕ) (t : Turn)
+        → length old ≡ 64 → Chain stories budget sound holders old ts new → (i : ℕ) (t : Turn)
         → IsTurn ts i t → Settled new t
     settled old [] new wide c i t is = absurd (none_some t is)
     settled old (x ∷ xs) new wide c zero t is =
         let s = first_stands old x xs new wide c in
         subst (Settled new) (same_some x t is)
-        (session_of_turn old x c.0 c.1, s.prefix, s.reply, s.adds, s.met)
+        (session_of_turn old x c.0 c.1, s.prefix, s.reply, s.adds, s.met, s.own)
     settled old (x ∷ xs) new wide c (suc i) t is =
-        settled c.0 xs new (answer_wide stories budget holders old x c.0 wide c.1) c.2 i t is
+        settled c.0 xs new (answer_wide stories budget sound holders old x c.0 wide c.1) c.2 i t is
 
     begins_all : (old : List (List Entry)) (ts : List Turn) (new : List (List Entry))
-        → length old ≡ 64 → Chain stories budget holders old ts new → (i : ℕ) (t : Turn)
+        → length old ≡ 64 → Chain stories budget sound holders old ts new → (i : ℕ) (t : Turn)
         → IsTurn ts i t → length (seen_at old t.mark.session) ≤ t.mark.length
     begins_all old [] new wide c i t is = absurd (none_some t is)
     begins_all old (x ∷ xs) new wide c zero t is =
@@ -220,8 +229,8 @@ module _ (stories : List Story) (budget : ℕ) where
         (same_some x t is) s.begins
     begins_all old (x ∷ xs) new wide c (suc i) t is =
         let more = begins_all c.0 xs new
-        (answer_wide stories budget holders old x c.0 wide c.1) c.2 i t is in
-        let g = answer_grows stories budget holders old x c.0 wide c.1 t.mark.session in
+        (answer_wide stories budget sound holders old x c.0 wide c.1) c.2 i t is in
+        let g = answer_grows stories budget sound holders old x c.0 wide c.1 t.mark.session in
         let a = ap (λ (l : List Entry). length l) g.1 in
         let b = length_both (seen_at old t.mark.session) g.0 in omega arith
 
@@ -230,13 +239,13 @@ module _ (stories : List Story) (budget : ℕ) where
         × (Adds stories budget holders new t → t.mark.length < u.mark.length)
 
     rises_all : (old : List (List Entry)) (ts : List Turn) (new : List (List Entry))
-        → length old ≡ 64 → Chain stories budget holders old ts new → (i j : ℕ) (t u : Turn)
+        → length old ≡ 64 → Chain stories budget sound holders old ts new → (i j : ℕ) (t u : Turn)
         → IsTurn ts i t → IsTurn ts j u → i < j → t.mark.session ≡ u.mark.session
         → Rises new t u
     rises_all old [] new wide c i j t u is at low same = absurd (none_some t is)
     rises_all old (x ∷ xs) new wide c i zero t u is at low same = absurd (omega arith)
     rises_all old (x ∷ xs) new wide c zero (suc j) t u is at low same =
-        let wide' = answer_wide stories budget holders old x c.0 wide c.1 in
+        let wide' = answer_wide stories budget sound holders old x c.0 wide c.1 in
         let s = first_stands old x xs new wide c in
         let after = begins_all c.0 xs new wide' c.2 j u at in
         let e = same_some x t is in
@@ -246,11 +255,11 @@ module _ (stories : List Story) (budget : ℕ) where
         subst (λ (y : Turn). Rises new y u) e
         (let a = s.least in omega arith, λ p. let b = s.more p in omega arith)
     rises_all old (x ∷ xs) new wide c (suc i) (suc j) t u is at low same =
-        rises_all c.0 xs new (answer_wide stories budget holders old x c.0 wide c.1) c.2
+        rises_all c.0 xs new (answer_wide stories budget sound holders old x c.0 wide c.1) c.2
         i j t u is at (omega arith) same
 
     once_all : (old : List (List Entry)) (ts : List Turn) (new : List (List Entry))
-        → length old ≡ 64 → Chain stories budget holders old ts new → (s place : ℕ) (e : Entry)
+        → length old ≡ 64 → Chain stories budget sound holders old ts new → (s place : ℕ) (e : Entry)
         → length (seen_at old s) ≤ place → slice_get (seen_at new s) place ≡ Some e
         → IsAmong (entry_by e) (holder_at holders s).holds
         → AddedOnce stories budget holders new ts s place
@@ -258,11 +267,11 @@ module _ (stories : List Story) (budget : ℕ) where
         absurd (nothing_past (seen_at new s) place e
         (subst (λ (x : List (List Entry)). length (seen_at x s) ≤ place) (sym c) low) is)
     once_all old (x ∷ xs) new wide c s place e low is held =
-        of (λ past. once_all c.0 xs new (answer_wide stories budget holders old x c.0 wide c.1) c.2
+        of (λ past. once_all c.0 xs new (answer_wide stories budget sound holders old x c.0 wide c.1) c.2
         s place e past is held) (cases_lt place (length (seen_at c.0 s)))
       where
         wide' : length c.0 ≡ 64
-        wide' = answer_wide stories budget holders old x c.0 wide c.1
+        wide' = answer_wide stories budget sound holders old x c.0 wide c.1
 
         stands : StandsAt old x c.0 new
         stands = first_stands old x xs new wide c
@@ -320,20 +329,20 @@ module _ (stories : List Story) (budget : ℕ) where
         of more (inr past) = later past (more past)
         of more (inl high) = ⊎_elim (λ (same : s ≡ x.mark.session). here high same)
             (λ (other : s ≢ x.mark.session). let a = ap (λ (l : List Entry). length l)
-            (seen_elsewhere stories budget holders old x c.0 s other c.1) in absurd (omega arith))
+            (seen_elsewhere stories budget sound holders old x c.0 s other c.1) in absurd (omega arith))
             (eq_or_ne s x.mark.session)
 
     abbrev AllAlone : Type 0
     AllAlone = (s : ℕ) → IsAloneHolder (holder_at holders s)
 
     folds_all : (old : List (List Entry)) (ts : List Turn) (new : List (List Entry))
-        → length old ≡ 64 → Chain stories budget holders old ts new → AllAlone
+        → length old ≡ 64 → Chain stories budget sound holders old ts new → AllAlone
         → Folds stories budget holders old ts new
     folds_all old [] new wide c alone = c
     folds_all old (x ∷ xs) new wide c alone = of (folds_all c.0 xs new
-        (answer_wide stories budget holders old x c.0 wide c.1) c.2 alone) c.1
+        (answer_wide stories budget sound holders old x c.0 wide c.1) c.2 alone) c.1
       where
-        of : Folds stories budget holders c.0 xs new → Answers stories budget holders old x c.0
+        of : Folds stories budget holders c.0 xs new → Answers stories budget sound holders old x c.0
             → Folds stories budget holders old (x ∷ xs) new
         of rest (inl o) = let h = holder_at holders x.mark.session in
             let same = o.turn.alone (alone x.mark.session) in (
@@ -360,23 +369,24 @@ module _ (stories : List Story) (budget : ℕ) where
             )
 
     pub serves_of : (old : List (List Entry)) (ts : List Turn) (new : List (List Entry))
-        → length old ≡ 64 → Chain stories budget holders old ts new
-        → Serves stories budget holders old ts new
+        → length old ≡ 64 → Chain stories budget sound holders old ts new
+        → Serves stories budget sound holders old ts new
     serves_of old ts new wide c = record {
       marks = λ i t is. (settled old ts new wide c i t is).0;
       prefix = λ i t is. (settled old ts new wide c i t is).1;
       begins = begins_all old ts new wide c;
       rises = λ i j t u is at low same. rises_all old ts new wide c i j t u is at low same;
+      own = λ s i t is. (settled old ts new wide c i t is).5 s;
       replies = λ i t is. let s = settled old ts new wide c i t is in (s.2, s.3);
       exact = λ i t is. let s = settled old ts new wide c i t is in
           exact stories budget holders new t s.2 s.3 s.4;
       once = once_all old ts new wide c;
-      grows = chain_grows stories budget holders old ts new wide c;
+      grows = chain_grows stories budget sound holders old ts new wide c;
       alone = folds_all old ts new wide c;
     }
 
     -- the turn of one line
     pub exact_of : (old : List (List Entry)) (t : Turn) (new : List (List Entry))
-        → length old ≡ 64 → Answers stories budget holders old t new
+        → length old ≡ 64 → Answers stories budget sound holders old t new
         → IsExact stories budget holders new t
     exact_of old t new wide a = (serves_of old (t ∷ []) new wide (new, a, refl)).exact 0 t refl

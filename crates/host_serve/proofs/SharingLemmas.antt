@@ -8,6 +8,7 @@ use Rattle.atomic_table.specs.contracts.shared.Seat as seat
 use Rattle.atomic_table.proofs.shared.Seat.TheSendSync as seat_shares
 use Rattle.std.proofs.alloc.Global.TheSendSync as global
 use Rattle.std.below.std_heap.proofs.GlobalAllocator.TheSendSync as heap
+use Rattle.std.below.core.proofs.snapshot.Sent.{snapshot_sync}
 use Rattle.std.proofs.sync.Mutex.TheSendSync as mutex
 use Rattle.std.proofs.vec.Vec.TheSendSync as vec
 use Rattle.turn_cell.specs.contracts.pass.Known as known
@@ -17,7 +18,6 @@ use Rattle.turn_cell.proofs.pass.Pass.TheSendSync as pass_shares
 use Rattle.disk_model.specs.declared.disk.Disk.{Ghosts}
 use Rattle.gate_journal.specs.contracts.entry.Entry as journal_entry
 use Rattle.gate_journal.specs.contracts.journal.Journal as journal
-use Rattle.session_desk.specs.contracts.shared.SharedDesk as desk
 use Rattle.story_run.proofs.story.Story.TheSendSync as story
 use Rattle.session_desk.proofs.SharingLemmas.{desk_send, journal_send}
 use Rattle.host_serve.specs.contracts.host.Host as host
@@ -45,7 +45,13 @@ host_fields κ T g s y = struct_sync (shape (host.the_type κ T g)) (
       search (sendable, cell.the_field_sync, journal_send) depth 20,
       (
         pass_fields (journal.the_row T g) journal_entry.the_row (journal_send T g s),
-        (search (sendable, vec.the_sync, cell.the_sync, desk_send) depth 20, tt),
+        (
+          search (sendable, vec.the_sync, cell.the_sync, desk_send) depth 20,
+          (
+            search (sendable, snapshot_sync) depth 20,
+            (search (sendable, vec.the_sync) depth 20, tt),
+          ),
+        ),
       ),
     ),
   ),

@@ -1,22 +1,22 @@
 -- From a conversation to the turns of its lines.
-use Rattle.std.proofs.Common.{◌≡◌, ◌⊎◌, ℕ, ◌^◌, ◌≤◌, List, [], ◌∷◌, ◌++◌, length, map, None, Bool, true, false, refl, ap, sym, ◌∙◌, subst, inl, inr, append_assoc, arith}
+use Rattle.std.proofs.Common.{◌≡◌, ℕ, ◌^◌, ◌≤◌, List, [], ◌∷◌, ◌++◌, length, map, Option, None, Bool, true, false, refl, ap, sym, ◌∙◌, subst, inl, inr, append_assoc, arith}
 use Rattle.std.proofs.lemmas.List.{map-append}
 use Rattle.turn_cell.proofs.HistoryLemmas.{nil_right}
 use Rattle.line_words.specs.Reply.{print_reply}
 use Rattle.line_words.specs.declared.reply.Reply.{Reply}
 use Rattle.line_talk.specs.Conversation.{Answered, BreaksLast, Line, StopsBehind, Turns, joined}
-use Rattle.line_talk.specs.Lines.{heard, lines, talk, ReachesLimit}
+use Rattle.line_talk.specs.Lines.{heard, talk}
 use Rattle.line_talk.specs.Streams.{SinkState, SourceState, Gave, Wrote}
-use Rattle.line_talk.specs.Talked.{AnswersOf, AreFirst, Converses, IsReadToEnd, Talked}
-use Rattle.line_talk.specs.Writing.{IsPartOf}
+use Rattle.line_talk.specs.Talked.{AnswersOf, Talked}
 use Rattle.line_talk.specs.declared.ended.Ended.{Ended}
 use Rattle.line_talk.specs.declared.ended.Ended.TheVariants as ended
 use Rattle.line_talk.specs.declared.sink.Stop.{Stop}
 use Rattle.line_talk.specs.declared.sink.Stop.TheVariants.{Output, Memory}
 use Rattle.line_talk.proofs.StreamsLemmas.{gave_none, wrote_none, wrote_then}
-use Rattle.story_run.specs.declared.story.Story.{Story}
+use Rattle.story_run.specs.World.{WorldState}
 use Rattle.session_core.specs.declared.entry.Entry.{Entry}
 use Rattle.host_serve.specs.declared.answer.Answer.{Answer}
+use Rattle.host_serve.specs.declared.host.Host.{Host}
 use Rattle.host_serve.specs.declared.mark.Mark.{Mark}
 use Rattle.host_serve.specs.declared.served.Served.{Served}
 use Rattle.host_serve.specs.declared.served.Served.TheVariants.{End, ReadFault, WriteFault, NoMemory}
@@ -36,72 +36,6 @@ mark_of t = t.mark
 
 abbrev pub reply_of : Turn → Reply
 reply_of t = t.reply
-
--- one answer, as a host speaks it
-pub speaks_of : (old : Speaking) (line : Line) (holders : List Holder) (seen : List (List Entry))
-    (marks : List Mark) (answer : Answer) → holders ≡ old.holders
-    → marks ≡ old.marks ++ answer.mark ∷ []
-    → ((bytes : List ℕ) → heard bytes ≡ line → Answers old.stories old.budget old.holders old.seen
-    (turn_from bytes answer) seen)
-    → Speaks old line (print_reply answer.reply) (record { stories = old.stories; budget = old.budget; holders = holders; seen = seen; marks = marks })
-speaks_of old line holders seen marks answer same grown answers = record {
-  outcome = answer.outcome;
-  mark = answer.mark;
-  reply = answer.reply;
-  spelled = refl;
-  answers = answers;
-  after = λ i. record {
-    stories = old.stories;
-    budget = old.budget;
-    holders = same i;
-    seen = seen;
-    marks = grown i;
-  };
-}
-
--- the turns of lines that were answered
-record SpokenTurns (old : Speaking) (answered : List (List ℕ)) (texts : List (List ℕ))
-    (new : Speaking) : Type 0 where
-  pub turns : List Turn
-  pub lines : map line_of turns ≡ answered
-  pub replies : texts ≡ map print_reply (map reply_of turns)
-  pub chain : Chain old.stories old.budget old.holders old.seen turns new.seen
-  pub after : new ≡ seen_and_marked old new.seen (old.marks ++ map mark_of turns)
-
-abbrev never : Speaking → Bool
-never _ = false
-
-spoken : (old : Speaking) (answered texts : List (List ℕ)) (new : Speaking)
-    → Turns Speaks never old (map heard answered) texts new → SpokenTurns old answered texts new
-spoken old [] [] new turns = record {
-  turns = [];
-  lines = refl;
-  replies = refl;
-  chain = ap (λ (s : Speaking). s.seen) turns;
-  after = turns ∙ ap (λ (l : List Mark). record old { marks = l }) (sym (nil_right old.marks))
-      ∙ ap (λ (l : List (List Entry)).
-      record old { seen = l; marks = old.marks ++ [] }) (ap (λ (s : Speaking). s.seen) (sym turns));
-}
-spoken old [] (text ∷ texts) new turns = absurd turns
-spoken old (line ∷ answered) [] new turns = absurd turns
-spoken old (line ∷ answered) (text ∷ texts) new (going, (mid, speaks, turns)) =
-    let rest = spoken mid answered texts new turns in
-    record {
-      turns = turn_with line speaks.outcome speaks.mark speaks.reply ∷ rest.turns;
-      lines = ap (λ (l : List (List ℕ)). line ∷ l) rest.lines;
-      replies = λ i. speaks.spelled i ∷ rest.replies i;
-      chain = (
-        mid.seen,
-        speaks.answers line refl,
-        subst (λ (s : Speaking). Chain s.stories s.budget s.holders mid.seen rest.turns new.seen)
-            speaks.after rest.chain,
-      );
-      after = rest.after
-          ∙ (ap (λ (s : Speaking). seen_and_marked s new.seen (s.marks ++ map mark_of rest.turns))
-          speaks.after
-          ∙ ap (λ (l : List Mark). seen_and_marked old new.seen l)
-          (append_assoc old.marks (speaks.mark ∷ []) (map mark_of rest.turns)));
-    }
 
 -- the last of some lines
 record SplitLines (answered : List (List ℕ)) (before : List Line) (last : Line) : Type 0 where
@@ -140,184 +74,6 @@ split_lines (line ∷ answered) (b ∷ before) last e =
       backs = rest.backs;
     }
 
--- what was said of some lines that were answered
-record SaidAll (old : Speaking) (answered : List (List ℕ)) (new : Speaking) (turns : List Turn)
-    : Type 0 where
-  pub lines : map line_of turns ≡ answered
-  pub chain : Chain old.stories old.budget old.holders old.seen turns new.seen
-  pub after : new ≡ seen_and_marked old new.seen (old.marks ++ map mark_of turns)
-
--- all replies were written whole
-said_whole : (old new : Speaking) (answered : List (List ℕ)) (output now : SinkState)
-    → Answered Speaks never old (map heard answered) new output now
-    → (turns : List Turn) × SaidAll old answered new turns
-    × Wrote output now (joined (map print_reply (map reply_of turns)))
-said_whole old new answered output now a = let s = spoken old answered a.replies new a.turns in (
-  s.turns,
-  record { lines = s.lines; chain = s.chain; after = s.after },
-  subst (λ (texts : List (List ℕ)). Wrote output now (joined texts)) s.replies a.wrote,
-)
-
--- all but an end of the last one
-said_cut : (old new : Speaking) (answered : List (List ℕ)) (output now : SinkState)
-    (cause : Stop) → BreaksLast Speaks Speaks never old (map heard answered) new output now cause
-    → (turns : List Turn) × SaidAll old answered new turns
-    × ((written : List ℕ) × Wrote output now written × IsCutText written (map reply_of turns))
-said_cut old new answered output now cause b =
-    let at = split_lines answered b.before b.last b.all in
-    let first = said_whole old b.mid at.front output b.between
-    (subst (λ (l : List Line). Answered Speaks never old l b.mid output b.between)
-    (sym at.fronts) b.answered) in
-    let speaks = b.breaks.turned in
-    let t = turn_with at.back speaks.outcome speaks.mark speaks.reply in
-    let said = first.1 in
-    let part = b.breaks.stopped.wrote.part in
-    let before = map reply_of first.0 in (
-      first.0 ++ t ∷ [],
-      record {
-        lines = map-append line_of first.0 (t ∷ [])
-            ∙ (ap (λ (l : List (List ℕ)). l ++ at.back ∷ []) said.lines ∙ sym at.all);
-        chain = chain_more old.stories old.budget old.holders old.seen b.mid.seen new.seen first.0 t
-            said.chain (subst (λ (s : Speaking).
-            Answers s.stories s.budget s.holders b.mid.seen t new.seen) said.after
-            (speaks.answers at.back at.backs));
-        after = speaks.after
-            ∙ (ap (λ (s : Speaking). seen_and_marked s new.seen (s.marks ++ speaks.mark ∷ []))
-            said.after
-            ∙ ap (λ (l : List Mark). seen_and_marked old new.seen l)
-            (append_assoc old.marks (map mark_of first.0) (speaks.mark ∷ [])
-            ∙ ap (λ (l : List Mark). old.marks ++ l) (sym (map-append mark_of first.0 (t ∷ [])))));
-      },
-      (
-        joined (map print_reply before) ++ part,
-        wrote_then first.2 b.breaks.stopped.wrote.wrote,
-        record {
-          before = before;
-          last = speaks.reply;
-          part = part;
-          all = map-append reply_of first.0 (t ∷ []);
-          begins = (
-            b.breaks.stopped.rest,
-            sym speaks.spelled ∙ b.breaks.stopped.wrote.split,
-          );
-          text = refl;
-        },
-      ),
-    )
-
-module _ (old new : Speaking) (input now : SourceState) (output written : SinkState)
-    (many : length old.holders ≡ 64) (wide : length old.seen ≡ 64) where
-  -- what a call tells of its turns
-  abbrev pub Told : Served → Type 0
-  Told served = (turns : List Turn)
-      × Tells turns input now output written old.marks new.marks served
-      × Chain old.stories old.budget old.holders old.seen turns new.seen
-      × Serves old.stories old.budget old.holders old.seen turns new.seen
-      × (new ≡ seen_and_marked old new.seen new.marks)
-
-  tell : (served : Served) (read : List ℕ) (answered : List (List ℕ)) (turns : List Turn)
-      (text : List ℕ) → Gave input now read → length read ≤ 2 ^ 31
-      → AnsweredOf served read now answered → SaidAll old answered new turns
-      → Wrote output written text → WritesReplies served text (map reply_of turns) → Told served
-  tell served read answered turns text gave within which said wrote writes = (
-    turns,
-    record {
-      read = read;
-      written = text;
-      gave = gave;
-      within = within;
-      lines = subst (λ (l : List (List ℕ)). AnsweredOf served read now l) (sym said.lines) which;
-      wrote = wrote;
-      replies = writes;
-      marks = ap (λ (s : Speaking). s.marks) said.after;
-    },
-    said.chain,
-    serves_of old.stories old.budget old.holders many old.seen turns new.seen wide said.chain,
-    said.after ∙ ap (λ (l : List Mark). seen_and_marked old new.seen l)
-        (sym (ap (λ (s : Speaking). s.marks) said.after)),
-  )
-
-  abbrev Talks : Ended → Type 0
-  Talks ended = Talked Speaks Speaks never old new input now output written ended
-
-  -- each reply was written whole
-  tell_whole : (served : Served) (read : List ℕ) (answered : List (List ℕ)) → Gave input now read
-      → length read ≤ 2 ^ 31 → AnsweredOf served read now answered
-      → Answered Speaks never old (map heard answered) new output written
-      → ((replies : List Reply) → WritesReplies served (joined (map print_reply replies)) replies)
-      → Told served
-  tell_whole served read answered gave within which how writes =
-      let s = said_whole old new answered output written how in
-      tell served read answered s.0 (joined (map print_reply (map reply_of s.0))) gave within which
-      s.1 s.2 (writes (map reply_of s.0))
-
-  -- the last reply wasn't written whole
-  tell_cut : (served : Served) (read : List ℕ) (answered : List (List ℕ)) (cause : Stop)
-      → Gave input now read → length read ≤ 2 ^ 31 → AnsweredOf served read now answered
-      → BreaksLast Speaks Speaks never old (map heard answered) new output written cause
-      → ((text : List ℕ) (replies : List Reply) → IsCutText text replies
-      → WritesReplies served text replies) → Told served
-  tell_cut served read answered cause gave within which how writes =
-      let s = said_cut old new answered output written cause how in
-      tell served read answered s.0 s.2.0 gave within which s.1 s.2.1
-      (writes s.2.0 (map reply_of s.0) s.2.2)
-
-  not_over : Bool → Type 0
-  not_over true = ⊥
-  not_over false = Unit {0}
-
-  abbrev is_output : Stop → Type 0
-  is_output Output = Unit {0}
-  is_output Memory = ⊥
-
-  pub told_of : (ended : Ended) → Talks ended → Told (served_of ended)
-  unfolding not_over
-  told_of ended.Done t = of t.which
-    where
-      of : AnswersOf ended.Done t.read now false t.answered → Told (served_of ended.Done)
-      of (inl which) = tell_whole (served_of ended.Done) t.read t.answered t.gave t.within which
-          t.how (λ replies. refl)
-      of (inr over) = absurd (subst not_over over.1 tt)
-  told_of ended.ReadFault t = tell_whole (served_of ended.ReadFault) t.read t.answered t.gave
-      t.within t.which t.how (λ replies. refl)
-  told_of ended.LineLimit t = tell_whole (served_of ended.LineLimit) t.read t.answered t.gave
-      t.within t.which t.how (λ replies. refl)
-  told_of ended.WriteFault t = of t.how
-    where
-      of : StopsBehind Speaks Speaks never old (map heard t.answered) new output written Output
-          → Told (served_of ended.WriteFault)
-      of (inl how) = tell_cut (served_of ended.WriteFault) t.read t.answered Output t.gave t.within
-          t.which how (λ text replies cut. cut)
-      of (inr done) = absurd (subst is_output done.1 tt)
-  told_of ended.NoMemory t = of t.how
-    where
-      of : StopsBehind Speaks Speaks never old (map heard t.answered) new output written Memory
-          → Told (served_of ended.NoMemory)
-      of (inl how) = tell_cut (served_of ended.NoMemory) t.read t.answered Memory t.gave t.within
-          t.which how (λ text replies cut. inl cut)
-      of (inr done) = tell_whole (served_of ended.NoMemory) t.read t.answered t.gave t.within
-          t.which done.0 (λ replies. inr refl)
-
-  -- what the caller's passes and marks then are
-  pub told_at : (ended : Ended) → Talks ended → (served : Served) (seen : List (List Entry))
-      (marks : List Mark) → served ≡ served_of ended → seen ≡ new.seen → marks ≡ new.marks
-      → (turns : List Turn) × Tells turns input now output written old.marks marks served
-      × Chain old.stories old.budget old.holders old.seen turns seen
-      × Serves old.stories old.budget old.holders old.seen turns seen
-  told_at ended talks served seen marks is_served is_seen is_marks =
-      let t = told_of ended talks in (
-        t.0,
-        subst (λ (x : Served × List Mark). Tells t.0 input now output written old.marks x.1 x.0)
-            (λ i. (sym is_served i, sym is_marks i)) t.1,
-        subst (λ (x : List (List Entry)). Chain old.stories old.budget old.holders old.seen t.0 x)
-            (sym is_seen) t.2,
-        subst (λ (x : List (List Entry)). Serves old.stories old.budget old.holders old.seen t.0 x)
-            (sym is_seen) t.3,
-      )
-
-  pub told_holders : (ended : Ended) → Talks ended → new.holders ≡ old.holders
-  told_holders ended talks = ap (λ (s : Speaking). s.holders) (told_of ended talks).4
-
 -- a call ends so, where its conversation does
 abbrev is_end : Served → Type 0
 is_end End = Unit {0}
@@ -349,18 +105,265 @@ write_failed ended.WriteFault e = refl
 write_failed ended.LineLimit e = absurd (subst is_write_fault (sym e) tt)
 write_failed ended.NoMemory e = absurd (subst is_write_fault (sym e) tt)
 
--- no room was found before the first read
-pub told_nothing : (old : Speaking) (input : SourceState) (output : SinkState)
-    → length old.holders ≡ 64 → length old.seen ≡ 64
-    → (turns : List Turn) × Tells turns input input output output old.marks old.marks NoMemory
-    × Chain old.stories old.budget old.holders old.seen turns old.seen
-    × Serves old.stories old.budget old.holders old.seen turns old.seen
-told_nothing old input output many wide =
-    let t = tell old old input input output output many wide NoMemory [] [] [] [] (gave_none input)
-    (omega arith) (talk [], refl)
-    (record {
-      lines = refl;
-      chain = refl;
-      after = ap (λ (l : List Mark). record old { marks = l }) (sym (nil_right old.marks));
-    }) (wrote_none output) (inr refl) in
-    (t.0, t.1, t.2, t.3)
+-- `sound` says that a host is sound
+module _ {D : Type 0} (sound : Host D → Type 0) where
+  -- one answer, as a host speaks it
+  pub speaks_of : (old : Speaking D) (line : Line) (holders : List Holder) (seen : List (List Entry))
+      (marks : List Mark) (answer : Answer) → holders ≡ old.holders
+      → marks ≡ old.marks ++ answer.mark ∷ []
+      → (world : Option WorldState) × ((bytes : List ℕ) → heard bytes ≡ line
+      → Answers old.host.stories.now old.host.budget (sound old.host) old.holders old.seen
+      (turn_from bytes world answer) seen)
+      → Speaks sound old line (print_reply answer.reply) (record { host = old.host; holders = holders; seen = seen; marks = marks })
+  speaks_of old line holders seen marks answer same grown answers = record {
+    world = answers.0;
+    outcome = answer.outcome;
+    mark = answer.mark;
+    reply = answer.reply;
+    spelled = refl;
+    answers = answers.1;
+    after = λ i. record {
+      host = old.host;
+      holders = same i;
+      seen = seen;
+      marks = grown i;
+    };
+  }
+
+  -- the turns of lines that were answered
+  record SpokenTurns (old : Speaking D) (answered : List (List ℕ)) (texts : List (List ℕ))
+      (new : Speaking D) : Type 0 where
+    pub turns : List Turn
+    pub lines : map line_of turns ≡ answered
+    pub replies : texts ≡ map print_reply (map reply_of turns)
+    pub chain : Chain old.host.stories.now old.host.budget (sound old.host) old.holders old.seen turns new.seen
+    pub after : new ≡ seen_and_marked old new.seen (old.marks ++ map mark_of turns)
+
+  abbrev never : Speaking D → Bool
+  never _ = false
+
+  spoken : (old : Speaking D) (answered texts : List (List ℕ)) (new : Speaking D)
+      → Turns (Speaks sound) never old (map heard answered) texts new → SpokenTurns old answered texts new
+  spoken old [] [] new turns = record {
+    turns = [];
+    lines = refl;
+    replies = refl;
+    chain = ap (λ (s : Speaking D). s.seen) turns;
+    after = turns ∙ ap (λ (l : List Mark). record old { marks = l }) (sym (nil_right old.marks))
+        ∙ ap (λ (l : List (List Entry)).
+        record old { seen = l; marks = old.marks ++ [] }) (ap (λ (s : Speaking D). s.seen) (sym turns));
+  }
+  spoken old [] (text ∷ texts) new turns = absurd turns
+  spoken old (line ∷ answered) [] new turns = absurd turns
+  spoken old (line ∷ answered) (text ∷ texts) new (going, (mid, speaks, turns)) =
+      let rest = spoken mid answered texts new turns in
+      record {
+        turns = turn_with line speaks.world speaks.outcome speaks.mark speaks.reply ∷ rest.turns;
+        lines = ap (λ (l : List (List ℕ)). line ∷ l) rest.lines;
+        replies = λ i. speaks.spelled i ∷ rest.replies i;
+        chain = (
+          mid.seen,
+          speaks.answers line refl,
+          subst (λ (s : Speaking D). Chain s.host.stories.now s.host.budget (sound s.host) s.holders mid.seen rest.turns new.seen)
+              speaks.after rest.chain,
+        );
+        after = rest.after
+            ∙ (ap (λ (s : Speaking D). seen_and_marked s new.seen (s.marks ++ map mark_of rest.turns))
+            speaks.after
+            ∙ ap (λ (l : List Mark). seen_and_marked old new.seen l)
+            (append_assoc old.marks (speaks.mark ∷ []) (map mark_of rest.turns)));
+      }
+
+  -- what was said of some lines that were answered
+  record SaidAll (old : Speaking D) (answered : List (List ℕ)) (new : Speaking D) (turns : List Turn)
+      : Type 0 where
+    pub lines : map line_of turns ≡ answered
+    pub chain : Chain old.host.stories.now old.host.budget (sound old.host) old.holders old.seen turns new.seen
+    pub after : new ≡ seen_and_marked old new.seen (old.marks ++ map mark_of turns)
+
+  -- all replies were written whole
+  said_whole : (old new : Speaking D) (answered : List (List ℕ)) (output now : SinkState)
+      → Answered (Speaks sound) never old (map heard answered) new output now
+      → (turns : List Turn) × SaidAll old answered new turns
+      × Wrote output now (joined (map print_reply (map reply_of turns)))
+  said_whole old new answered output now a = let s = spoken old answered a.replies new a.turns in (
+    s.turns,
+    record { lines = s.lines; chain = s.chain; after = s.after },
+    subst (λ (texts : List (List ℕ)). Wrote output now (joined texts)) s.replies a.wrote,
+  )
+
+  -- all but an end of the last one
+  said_cut : (old new : Speaking D) (answered : List (List ℕ)) (output now : SinkState)
+      (cause : Stop) → BreaksLast (Speaks sound) (Speaks sound) never old (map heard answered) new output now cause
+      → (turns : List Turn) × SaidAll old answered new turns
+      × ((written : List ℕ) × Wrote output now written × IsCutText written (map reply_of turns))
+  said_cut old new answered output now cause b =
+      let at = split_lines answered b.before b.last b.all in
+      let first = said_whole old b.mid at.front output b.between
+      (subst (λ (l : List Line). Answered (Speaks sound) never old l b.mid output b.between)
+      (sym at.fronts) b.answered) in
+      let speaks = b.breaks.turned in
+      let t = turn_with at.back speaks.world speaks.outcome speaks.mark speaks.reply in
+      let said = first.1 in
+      let part = b.breaks.stopped.wrote.part in
+      let before = map reply_of first.0 in (
+        first.0 ++ t ∷ [],
+        record {
+          lines = map-append line_of first.0 (t ∷ [])
+              ∙ (ap (λ (l : List (List ℕ)). l ++ at.back ∷ []) said.lines ∙ sym at.all);
+          chain = chain_more old.host.stories.now old.host.budget (sound old.host) old.holders old.seen b.mid.seen new.seen first.0 t
+              said.chain (subst (λ (s : Speaking D).
+              Answers s.host.stories.now s.host.budget (sound s.host) s.holders b.mid.seen t new.seen) said.after
+              (speaks.answers at.back at.backs));
+          after = speaks.after
+              ∙ (ap (λ (s : Speaking D). seen_and_marked s new.seen (s.marks ++ speaks.mark ∷ []))
+              said.after
+              ∙ ap (λ (l : List Mark). seen_and_marked old new.seen l)
+              (append_assoc old.marks (map mark_of first.0) (speaks.mark ∷ [])
+              ∙ ap (λ (l : List Mark). old.marks ++ l) (sym (map-append mark_of first.0 (t ∷ [])))));
+        },
+        (
+          joined (map print_reply before) ++ part,
+          wrote_then first.2 b.breaks.stopped.wrote.wrote,
+          record {
+            before = before;
+            last = speaks.reply;
+            part = part;
+            all = map-append reply_of first.0 (t ∷ []);
+            begins = (
+              b.breaks.stopped.rest,
+              sym speaks.spelled ∙ b.breaks.stopped.wrote.split,
+            );
+            text = refl;
+          },
+        ),
+      )
+
+  module _ (old new : Speaking D) (input now : SourceState) (output written : SinkState)
+      (many : length old.holders ≡ 64) (wide : length old.seen ≡ 64) where
+    -- what a call tells of its turns
+    abbrev pub Told : Served → Type 0
+    Told served = (turns : List Turn)
+        × Tells turns input now output written old.marks new.marks served
+        × Chain old.host.stories.now old.host.budget (sound old.host) old.holders old.seen turns new.seen
+        × Serves old.host.stories.now old.host.budget (sound old.host) old.holders old.seen turns new.seen
+        × (new ≡ seen_and_marked old new.seen new.marks)
+
+    tell : (served : Served) (read : List ℕ) (answered : List (List ℕ)) (turns : List Turn)
+        (text : List ℕ) → Gave input now read → length read ≤ 2 ^ 31
+        → AnsweredOf served read now answered → SaidAll old answered new turns
+        → Wrote output written text → WritesReplies served text (map reply_of turns) → Told served
+    tell served read answered turns text gave within which said wrote writes = (
+      turns,
+      record {
+        read = read;
+        written = text;
+        gave = gave;
+        within = within;
+        lines = subst (λ (l : List (List ℕ)). AnsweredOf served read now l) (sym said.lines) which;
+        wrote = wrote;
+        replies = writes;
+        marks = ap (λ (s : Speaking D). s.marks) said.after;
+      },
+      said.chain,
+      serves_of old.host.stories.now old.host.budget (sound old.host) old.holders many old.seen turns new.seen wide said.chain,
+      said.after ∙ ap (λ (l : List Mark). seen_and_marked old new.seen l)
+          (sym (ap (λ (s : Speaking D). s.marks) said.after)),
+    )
+
+    abbrev Talks : Ended → Type 0
+    Talks ended = Talked (Speaks sound) (Speaks sound) never old new input now output written ended
+
+    -- each reply was written whole
+    tell_whole : (served : Served) (read : List ℕ) (answered : List (List ℕ)) → Gave input now read
+        → length read ≤ 2 ^ 31 → AnsweredOf served read now answered
+        → Answered (Speaks sound) never old (map heard answered) new output written
+        → ((replies : List Reply) → WritesReplies served (joined (map print_reply replies)) replies)
+        → Told served
+    tell_whole served read answered gave within which how writes =
+        let s = said_whole old new answered output written how in
+        tell served read answered s.0 (joined (map print_reply (map reply_of s.0))) gave within which
+        s.1 s.2 (writes (map reply_of s.0))
+
+    -- the last reply wasn't written whole
+    tell_cut : (served : Served) (read : List ℕ) (answered : List (List ℕ)) (cause : Stop)
+        → Gave input now read → length read ≤ 2 ^ 31 → AnsweredOf served read now answered
+        → BreaksLast (Speaks sound) (Speaks sound) never old (map heard answered) new output written cause
+        → ((text : List ℕ) (replies : List Reply) → IsCutText text replies
+        → WritesReplies served text replies) → Told served
+    tell_cut served read answered cause gave within which how writes =
+        let s = said_cut old new answered output written cause how in
+        tell served read answered s.0 s.2.0 gave within which s.1 s.2.1
+        (writes s.2.0 (map reply_of s.0) s.2.2)
+
+    not_over : Bool → Type 0
+    not_over true = ⊥
+    not_over false = Unit {0}
+
+    abbrev is_output : Stop → Type 0
+    is_output Output = Unit {0}
+    is_output Memory = ⊥
+
+    pub told_of : (ended : Ended) → Talks ended → Told (served_of ended)
+    unfolding not_over
+    told_of ended.Done t = of t.which
+      where
+        of : AnswersOf ended.Done t.read now false t.answered → Told (served_of ended.Done)
+        of (inl which) = tell_whole (served_of ended.Done) t.read t.answered t.gave t.within which
+            t.how (λ replies. refl)
+        of (inr over) = absurd (subst not_over over.1 tt)
+    told_of ended.ReadFault t = tell_whole (served_of ended.ReadFault) t.read t.answered t.gave
+        t.within t.which t.how (λ replies. refl)
+    told_of ended.LineLimit t = tell_whole (served_of ended.LineLimit) t.read t.answered t.gave
+        t.within t.which t.how (λ replies. refl)
+    told_of ended.WriteFault t = of t.how
+      where
+        of : StopsBehind (Speaks sound) (Speaks sound) never old (map heard t.answered) new output written Output
+            → Told (served_of ended.WriteFault)
+        of (inl how) = tell_cut (served_of ended.WriteFault) t.read t.answered Output t.gave t.within
+            t.which how (λ text replies cut. cut)
+        of (inr done) = absurd (subst is_output done.1 tt)
+    told_of ended.NoMemory t = of t.how
+      where
+        of : StopsBehind (Speaks sound) (Speaks sound) never old (map heard t.answered) new output written Memory
+            → Told (served_of ended.NoMemory)
+        of (inl how) = tell_cut (served_of ended.NoMemory) t.read t.answered Memory t.gave t.within
+            t.which how (λ text replies cut. inl cut)
+        of (inr done) = tell_whole (served_of ended.NoMemory) t.read t.answered t.gave t.within
+            t.which done.0 (λ replies. inr refl)
+
+    -- what the caller's passes and marks then are
+    pub told_at : (ended : Ended) → Talks ended → (served : Served) (seen : List (List Entry))
+        (marks : List Mark) → served ≡ served_of ended → seen ≡ new.seen → marks ≡ new.marks
+        → (turns : List Turn) × Tells turns input now output written old.marks marks served
+        × Chain old.host.stories.now old.host.budget (sound old.host) old.holders old.seen turns seen
+        × Serves old.host.stories.now old.host.budget (sound old.host) old.holders old.seen turns seen
+    told_at ended talks served seen marks is_served is_seen is_marks =
+        let t = told_of ended talks in (
+          t.0,
+          subst (λ (x : Served × List Mark). Tells t.0 input now output written old.marks x.1 x.0)
+              (λ i. (sym is_served i, sym is_marks i)) t.1,
+          subst (λ (x : List (List Entry)). Chain old.host.stories.now old.host.budget (sound old.host) old.holders old.seen t.0 x)
+              (sym is_seen) t.2,
+          subst (λ (x : List (List Entry)). Serves old.host.stories.now old.host.budget (sound old.host) old.holders old.seen t.0 x)
+              (sym is_seen) t.3,
+        )
+
+    pub told_holders : (ended : Ended) → Talks ended → new.holders ≡ old.holders
+    told_holders ended talks = ap (λ (s : Speaking D). s.holders) (told_of ended talks).4
+
+  -- no room was found before the first read
+  pub told_nothing : (old : Speaking D) (input : SourceState) (output : SinkState)
+      → length old.holders ≡ 64 → length old.seen ≡ 64
+      → (turns : List Turn) × Tells turns input input output output old.marks old.marks NoMemory
+      × Chain old.host.stories.now old.host.budget (sound old.host) old.holders old.seen turns old.seen
+      × Serves old.host.stories.now old.host.budget (sound old.host) old.holders old.seen turns old.seen
+  told_nothing old input output many wide =
+      let t = tell old old input input output output many wide NoMemory [] [] [] [] (gave_none input)
+      (omega arith) (talk [], refl)
+      (record {
+        lines = refl;
+        chain = refl;
+        after = ap (λ (l : List Mark). record old { marks = l }) (sym (nil_right old.marks));
+      }) (wrote_none output) (inr refl) in
+      (t.0, t.1, t.2, t.3)

@@ -1,5 +1,5 @@
 -- A turn of a line: of one without a session, and of one that a desk is asked for.
-use Rattle.std.proofs.Common.{◌≡◌, ◌≢◌, ◌⊎◌, ℕ, ◌≤◌, ◌<◌, min, List, [], length, Option, Some, None, refl, ap, sym, ◌∙◌, subst, inl, inr, arith, nat_le, Bool, true, false, cond}
+use Rattle.std.proofs.Common.{◌≡◌, ◌≢◌, ◌⊎◌, ℕ, ◌≤◌, ◌<◌, List, [], length, Option, Some, None, refl, ap, sym, ◌∙◌, subst, inl, inr, arith, nat_le, Bool, true, false, cond}
 use Rattle.std.proofs.lemmas.Bool.Decides.{nat_tests}
 use Rattle.line_talk.specs.Lines.{heard}
 use Rattle.line_words.specs.Play.{is_long}
@@ -12,18 +12,19 @@ use Rattle.line_words.specs.declared.request.Request.{Request}
 use Rattle.line_words.specs.declared.request.Request.TheVariants.{Open, Line, Char, File, Last, Close}
 use Rattle.gate_journal.specs.declared.command.Command.{Command}
 use Rattle.story_run.specs.declared.story.Story.{Story}
+use Rattle.story_run.specs.World.{WorldState}
 use Rattle.session_core.specs.declared.decision.Decision.{Decision}
 use Rattle.session_core.specs.declared.entry.Entry.{Entry}
 use Rattle.session_core.specs.declared.entry.Outcome.{Outcome}
 use Rattle.session_core.specs.declared.entry.Outcome.TheVariants.{Answered, DiskFailed, OutOfMemory, Forgotten}
-use Rattle.session_core.specs.Answer.{answer, refusal_of}
+use Rattle.session_core.specs.Answer.{answer_in, refusal_in}
 use Rattle.session_core.specs.Checks.{session_of}
 use Rattle.session_core.specs.Sessions.{with_budget}
+use Rattle.session_core.specs.History.{game_of, world_of}
 use Rattle.session_core.specs.Hosts.{session_in, session_on}
-use Rattle.session_core.specs.Turning.{decided_by, decision_on, commands_in, entry_by, MayMeet, turn_met, turn_of}
+use Rattle.session_core.specs.Turning.{decided_by, decision_in, commands_in, entry_by, MayMeet, turn_in, turn_met}
 use Rattle.turn_cell.specs.History.{Continues, IsForeign}
 use Rattle.session_desk.specs.Desk.{DeskState}
-use Rattle.session_desk.specs.Laws.{answered}
 use Rattle.host_serve.specs.Holders.{Holder, IsAloneHolder}
 use Rattle.host_serve.specs.Reading.{IsReadAs, IsUnread}
 use Rattle.host_serve.specs.Serves.{Turn, IsOfNoSession}
@@ -34,10 +35,11 @@ far : (n : ℕ) → 64 ≤ n → nat_le 64 n ≡ true
 far n le = grind (arith, nat_tests, le)
 
 -- a session that no host has is refused
-pub absent : (stories : List Story) (request : Request) → 64 ≤ session_of request
-    → answer stories [] request ≡ record { reply = replies.No no.NoSession; accepted = None }
-unfolding answer refusal_of
-absent stories request le = rw (far (session_of request) le) refl
+pub absent : (stories : List Story) (now : Option WorldState) (request : Request)
+    → 64 ≤ session_of request
+    → answer_in stories [] now request ≡ record { reply = replies.No no.NoSession; accepted = None }
+unfolding answer_in refusal_in
+absent stories now request le = rw (far (session_of request) le) refl
 
 -- the host's budget leaves a request's session
 pub budgeted_session : (budget : ℕ) (request : Request)
@@ -49,70 +51,78 @@ budgeted_session budget (File s key n name) = refl
 budgeted_session budget (Last s key) = refl
 budgeted_session budget (Close s key n) = refl
 
-module _ (stories : List Story) (budget : ℕ) where
+module _ (stories : List Story) (budget : ℕ) (now : Option WorldState) where
   -- without a session nothing is accepted
   pub none_accepted : (line : List ℕ) → session_on line ≡ 64
-      → (decision_on stories budget [] line).accepted ≡ None
-  unfolding decision_on
+      → (decision_in stories budget [] now line).accepted ≡ None
+  unfolding decision_in
   none_accepted line e = of (request_of line) e
     where
       of : (spelled : Option Request) → session_in spelled ≡ 64
-          → (decided_by stories budget [] line spelled).accepted ≡ None
+          → (decided_by (λ request. answer_in stories [] now (with_budget budget request)) line
+          spelled).accepted ≡ None
       of None e = refl
       of (Some request) e = ap (λ (d : Decision). d.accepted)
-          (absent stories (with_budget budget request)
+          (absent stories now (with_budget budget request)
           (let same = budgeted_session budget request in omega arith))
 
   pub none_adds : (line : List ℕ) (outcome : Outcome)
       → (session_on line ≡ 64) ⊎ (outcome ≡ OutOfMemory)
-      → (turn_of stories budget [] 0 line outcome).history ≡ []
-  unfolding turn_of
+      → (turn_in stories budget [] now 0 line outcome).history ≡ []
+  unfolding turn_in
   none_adds line outcome (inl absent) =
-      subst (λ (accepted : Option Command). (turn_met [] 0 (decision_on stories budget [] line).reply
-      accepted outcome).history ≡ []) (sym (none_accepted line absent)) (of outcome)
+      subst (λ (accepted : Option Command). (turn_met [] 0
+      (decision_in stories budget [] now line).reply accepted outcome).history ≡ [])
+      (sym (none_accepted line absent)) (of outcome)
     where
       of : (outcome : Outcome)
-          → (turn_met [] 0 (decision_on stories budget [] line).reply None outcome).history ≡ []
+          → (turn_met [] 0 (decision_in stories budget [] now line).reply None outcome).history ≡ []
       of Answered = refl
       of (DiskFailed from to) = refl
       of OutOfMemory = refl
       of Forgotten = refl
   none_adds line outcome (inr e) =
-      subst (λ (o : Outcome). (turn_met [] 0 (decision_on stories budget [] line).reply
-      (decision_on stories budget [] line).accepted o).history ≡ []) (sym e) refl
+      subst (λ (o : Outcome). (turn_met [] 0 (decision_in stories budget [] now line).reply
+      (decision_in stories budget [] now line).accepted o).history ≡ []) (sym e) refl
 
 -- what a desk answers to a request is what its session decides on the line that was read so
-pub answered_on : (stories : List Story) (budget : ℕ) (desk : DeskState) (history : List Entry)
-    (line : List ℕ) (request : Request) → IsReadAs budget line request → desk.stories ≡ stories
-    → commands_in history ≡ desk.commands
-    → answered desk request ≡ decision_on stories budget (commands_in history) line
-unfolding decision_on
-answered_on stories budget desk history line request read same commands =
-    ap (λ (x : List Story × List Command × Request). answer x.0 x.1 x.2)
+pub answered_on : (stories : List Story) (budget : ℕ) (desk : DeskState)
+    (now : Option WorldState) (history : List Entry) (line : List ℕ) (request : Request)
+    → IsReadAs budget line request → desk.stories ≡ stories → commands_in history ≡ desk.commands
+    → answer_in desk.stories desk.commands now request
+    ≡ decision_in stories budget (commands_in history) now line
+unfolding decision_in
+answered_on stories budget desk now history line request read same commands =
+    ap (λ (x : List Story × List Command × Request). answer_in x.0 x.1 now x.2)
     (λ i. (same i, sym commands i, read.budgeted i))
-    ∙ ap (λ (o : Option Request). decided_by stories budget (commands_in history) line o)
+    ∙ ap (λ (o : Option Request). decided_by
+    (λ r. answer_in stories (commands_in history) now (with_budget budget r)) line o)
     (sym read.spelled)
 
--- a turn of a desk is one of `turn_of`
-pub turns_in : (stories : List Story) (budget : ℕ) (h : Holder) (old new : List Entry) (t : Turn)
-    (desk : DeskState) (before : List Entry) (by : ℕ) (request : Request) → by ≡ h.number
+-- a turn of a desk is one of `turn_in`
+pub turns_in : (stories : List Story) (budget : ℕ) (sound : Type 0) (h : Holder)
+    (old new : List Entry) (t : Turn) (desk : DeskState) (before : List Entry) (by : ℕ)
+    (request : Request) → by ≡ h.number
     → Continues (IsForeign entry_by h.holds) before old → (IsAloneHolder h → before ≡ old)
     → IsReadAs budget t.line request → desk.stories ≡ stories
     → commands_in before ≡ desk.commands → t.mark.length ≡ length before
-    → MayMeet (answered desk request).accepted t.outcome
-    → t.reply ≡ (turn_met before by (answered desk request).reply
-    (answered desk request).accepted t.outcome).reply
-    → new ≡ (turn_met before by (answered desk request).reply
-    (answered desk request).accepted t.outcome).history
-    → TurnsIn stories budget h old t new
-unfolding turn_of
-turns_in stories budget h old new t desk before by request own since alone read same commands long met reply history =
-    let is = answered_on stories budget desk before t.line request read same commands in
+    → (sound → t.world ≡ world_of desk.stories (game_of desk.commands))
+    → MayMeet (answer_in desk.stories desk.commands t.world request).accepted t.outcome
+    → t.reply ≡ (turn_met before by (answer_in desk.stories desk.commands t.world request).reply
+    (answer_in desk.stories desk.commands t.world request).accepted t.outcome).reply
+    → new ≡ (turn_met before by (answer_in desk.stories desk.commands t.world request).reply
+    (answer_in desk.stories desk.commands t.world request).accepted t.outcome).history
+    → TurnsIn stories budget sound h old t new
+unfolding turn_in
+turns_in stories budget sound h old new t desk before by request own since alone read same commands long world met reply history =
+    let is = answered_on stories budget desk t.world before t.line request read same commands in
     record {
       before = before;
       since = since;
       alone = alone;
       length = long;
+      own = λ s. world s ∙ ap (λ (x : List Story × List Command). world_of x.0 (game_of x.1))
+          (λ i. (same i, sym commands i));
       met = subst (λ (d : Decision). MayMeet d.accepted t.outcome) is met;
       reply = reply ∙ ap (λ (x : ℕ × Decision).
           (turn_met before x.0 x.1.reply x.1.accepted t.outcome).reply) (λ i. (own i, is i));
@@ -124,6 +134,7 @@ turns_in stories budget h old new t desk before by request own since alone read 
 abbrev pub nowhere : List ℕ → Reply → Outcome → Turn
 nowhere line reply outcome = record {
   line = line;
+  world = None;
   outcome = outcome;
   mark = record { session = 64; length = 0 };
   reply = reply;
@@ -132,20 +143,22 @@ nowhere line reply outcome = record {
 module _ (stories : List Story) (budget : ℕ) where
   -- what is decided on a line that isn't read
   unread : (line : List ℕ) → request_of line ≡ None
-      → decision_on stories budget [] line
+      → decision_in stories budget [] None line
       ≡ record { reply = replies.No (cond (is_long line) no.LongLine no.BadLine); accepted = None }
-  unfolding decision_on
-  unread line none = ap (λ (o : Option Request). decided_by stories budget [] line o) none
+  unfolding decision_in
+  unread line none = ap (λ (o : Option Request). decided_by
+      (λ r. answer_in stories [] None (with_budget budget r)) line o) none
 
   -- a turn without a session
   none_turned : (t : Turn) (seen : List (List Entry)) (reply : Reply) (accepted : Option Command)
-      → decision_on stories budget [] t.line ≡ record { reply = reply; accepted = accepted }
-      → IsOfNoSession t → MayMeet accepted t.outcome
+      → decision_in stories budget [] t.world t.line ≡ record { reply = reply; accepted = accepted }
+      → t.world ≡ None → IsOfNoSession t → MayMeet accepted t.outcome
       → t.reply ≡ (turn_met [] 0 reply accepted t.outcome).reply
       → TurnsOnNone stories budget seen t seen
-  unfolding turn_of
-  none_turned t seen reply accepted is none met said = record {
+  unfolding turn_in
+  none_turned t seen reply accepted is world none met said = record {
     none = none;
+    world = world;
     met = subst (λ (d : Decision). MayMeet d.accepted t.outcome) (sym is) met;
     reply = said ∙ ap (λ (d : Decision). (turn_met [] 0 d.reply d.accepted t.outcome).reply)
         (sym is);
@@ -159,7 +172,7 @@ module _ (stories : List Story) (budget : ℕ) where
   unread_turned line why seen (inl found) fine =
       none_turned (nowhere line (replies.No why) Answered) seen
       (replies.No (cond (is_long line) no.LongLine no.BadLine)) None
-      (unread line found.0) (refl, refl, inl (ap session_in found.0)) tt
+      (unread line found.0) refl (refl, refl, inl (ap session_in found.0)) tt
       (ap replies.No found.1)
   unread_turned line why seen (inr wants) fine = absurd (fine wants)
 
@@ -171,19 +184,20 @@ module _ (stories : List Story) (budget : ℕ) where
   -- no memory was found to read the line
   pub wanting_turned : (line : List ℕ) (seen : List (List Entry))
       → TurnsOnNone stories budget seen (nowhere line (replies.No no.NoMemory) OutOfMemory) seen
-  wanting_turned line seen = let d = decision_on stories budget [] line in
+  wanting_turned line seen = let d = decision_in stories budget [] None line in
       none_turned (nowhere line (replies.No no.NoMemory) OutOfMemory) seen d.reply d.accepted refl
-      (refl, refl, inr refl) (may_want d.accepted) refl
+      refl (refl, refl, inr refl) (may_want d.accepted) refl
 
   -- what is decided on a line whose session no host has
   absent_decision : (line : List ℕ) (request : Request) → IsReadAs budget line request
       → 64 ≤ session_of request
-      → decision_on stories budget [] line
+      → decision_in stories budget [] None line
       ≡ record { reply = replies.No no.NoSession; accepted = None }
-  unfolding decision_on
+  unfolding decision_in
   absent_decision line request read far =
-      ap (λ (o : Option Request). decided_by stories budget [] line o) read.spelled
-      ∙ absent stories (with_budget budget read.given)
+      ap (λ (o : Option Request). decided_by
+      (λ r. answer_in stories [] None (with_budget budget r)) line o) read.spelled
+      ∙ absent stories None (with_budget budget read.given)
       (subst (λ (r : Request). 64 ≤ session_of r) read.budgeted far)
 
   pub absent_turned : (line : List ℕ) (request : Request) (seen : List (List Entry))
@@ -191,7 +205,7 @@ module _ (stories : List Story) (budget : ℕ) where
       → TurnsOnNone stories budget seen (nowhere line (replies.No no.NoSession) Answered) seen
   absent_turned line request seen read far =
       none_turned (nowhere line (replies.No no.NoSession) Answered) seen (replies.No no.NoSession)
-      None (absent_decision line request read far)
+      None (absent_decision line request read far) refl
       (refl, refl, inl (ap session_in read.spelled ∙ past)) tt refl
     where
       past : session_in (Some read.given) ≡ 64

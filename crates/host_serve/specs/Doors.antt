@@ -77,18 +77,20 @@ module _ {Conn Lent : Type 0} (source : Conn → SourceState) (sink : Conn → S
 
   -- the links that one worker has served: their lines were answered one after the other, from what
   -- its passes had seen
-  pub record Visits {D : Type 0} (host : Host D) (old new : Passes D) : Type 0 where
+  pub record Visits {D : Type 0} (sound : Host D → Type 0) (host : Host D) (old new : Passes D)
+      : Type 0 where
     pub visits : List (Visit Conn)
     pub each : Each IsVisit visits
-    pub chain : Chain host.stories.now host.budget (holders old.desks.items)
+    pub chain : Chain host.stories.now host.budget (sound host) (holders old.desks.items)
         (seens old.desks.items) (turns_of visits) (seens new.desks.items)
     pub kept : AreOf host new
     pub held : holders new.desks.items ≡ holders old.desks.items
 
   -- one worker: its links, and what ended it
   pub record Works {D O Done Fault : Type 0} (Shuts : Done → Type 0) (Fails : Fault → Type 0)
-      (host : Host D) (old new : Passes D) (answer : Worked O Conn Done Fault) : Type 0 where
-    pub served : Visits host old new
-    pub serves : Serves host.stories.now host.budget (holders old.desks.items)
+      (sound : Host D → Type 0) (host : Host D) (old new : Passes D)
+      (answer : Worked O Conn Done Fault) : Type 0 where
+    pub served : Visits sound host old new
+    pub serves : Serves host.stories.now host.budget (sound host) (holders old.desks.items)
         (seens old.desks.items) (turns_of served.visits) (seens new.desks.items)
     pub ends : IsEndOf Shuts Fails answer

@@ -1,11 +1,19 @@
 -- What the end of a host promises (own).
-use Rattle.std.specs.Prelude.{◌≡◌, ℕ, ◌+◌, ◌<◌, List, [], ◌∷◌, length, map, Some}
+use Rattle.std.specs.Prelude.{◌≡◌, ℕ, ◌<◌, ◌≤◌, List, [], ◌∷◌, length, map, max, Some, Bool}
+use Rattle.std.specs.Prelude.{slice_get}
 use Rattle.turn_cell.specs.History.{Continues, IsForeign}
-use Rattle.turn_cell.specs.Passes.{holds, seen, tag_of}
+use Rattle.turn_cell.specs.Passes.{seen, tag_of}
+use Rattle.disk_model.specs.Disk.{EachImage, SameDisk}
 use Rattle.gate_journal.specs.Log.{Log, number_of}
-use Rattle.gate_journal.specs.declared.entry.Entry.{Entry as JournalEntry}
+use Rattle.gate_journal.specs.Rows.{commands_of}
+use Rattle.gate_journal.specs.declared.row.Row.{Row}
+use Rattle.snap_store.specs.Store.{Snapshots}
+use Rattle.story_run.specs.declared.story.Story.{Story}
 use Rattle.session_core.specs.declared.entry.Entry.{Entry}
+use Rattle.session_core.specs.History.{game_of}
 use Rattle.session_core.specs.Turning.{entry_by}
+use Rattle.session_saves.specs.Agreement.{IsAgreedFile}
+use Rattle.session_desk.specs.Opens.{opens_of}
 use Rattle.session_desk.specs.Shared.{unnumbered}
 use Rattle.session_desk.specs.Turn.{history_in}
 use Rattle.host_serve.specs.declared.host.Host.{Host}
@@ -31,3 +39,25 @@ pub record EndsWith {D : Type 0} (host : Host D) (passes : Passes D) (log : Log 
   -- it is the journal that the host was opened over, with more entries
   pub opening : tag_of (λ (j : Log D). j.opening) host.root ≡ Some log.opening
   pub grows : Continues (IsForeign number_of (0 ∷ [])) log.entries (seen host.root)
+
+module _ {D : Type 0} where
+  -- a store's disk comes back: it is the one that the store was opened on, and wasn't written past
+  -- the end of area B
+  pub record GivesBack (tells : D → Bool) (faults reach room label : D → ℕ)
+      (store : Snapshots D) (back : D) : Type 0 where
+    pub same : SameDisk tells room label store.disk back
+    pub counts : faults store.disk ≤ faults back
+    pub reaches : reach back ≤ max (reach store.disk) 16781344
+
+  -- each image of a disk agrees with the rows of its session
+  abbrev pub IsAgreedDisk : (D → Bool) → (D → List ℕ → Type 0) → List Story → List Row → ℕ
+      → D → Type 0
+  IsAgreedDisk tells may_leave stories rows s disk = EachImage tells may_leave disk
+      (IsAgreedFile stories (opens_of rows s) (game_of (commands_of rows s)))
+
+  -- and so do those of the disks of all sessions
+  abbrev pub AreAgreedDisks : (D → Bool) → (D → List ℕ → Type 0) → List Story → List Row
+      → List D → Type 0
+  AreAgreedDisks tells may_leave stories rows disks =
+      (s : ℕ) (disk : D) → slice_get disks s ≡ Some disk
+      → IsAgreedDisk tells may_leave stories rows s disk

@@ -1,14 +1,19 @@
 -- A host, and the passes that are of it (own).
-use Rattle.std.specs.Prelude.{◌≡◌, ℕ, List, [], ◌∷◌, length, map, Option, Some}
+use Rattle.std.specs.Prelude.{◌≡◌, ◌≤◌, ℕ, ◌+◌, List, [], ◌∷◌, length, Option, Some}
+use Rattle.std.specs.Prelude.{Bool, map, slice_get, vec_capacity}
 use Rattle.std.specs.List.{range_with_len}
 use Rattle.atomic_table.specs.Seated.{TableId}
 use Rattle.turn_cell.specs.History.{Each}
 use Rattle.turn_cell.specs.declared.cell.Cell.{Cell}
 use Rattle.turn_cell.specs.declared.pass.Pass.{Pass}
-use Rattle.turn_cell.specs.Passes.{IsOf, IsOutside, number, holds, tag_of}
+use Rattle.turn_cell.specs.Passes.{IsOf, IsOutside, number, holds, seen, tag_of}
 use Rattle.gate_journal.specs.Command.{IsBudget}
+use Rattle.gate_journal.specs.Log.{rows_of}
+use Rattle.gate_journal.specs.declared.row.Row.{Row}
+use Rattle.snap_store.specs.Store.{Snapshots}
 use Rattle.story_run.specs.declared.story.Story.{Story}
 use Rattle.session_desk.specs.Shared.{DeskTag, desk_tag}
+use Rattle.session_desk.specs.Sound.{IsSoundDesk}
 use Rattle.host_serve.specs.declared.host.Host.{Host}
 use Rattle.host_serve.specs.declared.host.Passes.{Passes}
 
@@ -28,33 +33,70 @@ module _ {T E : Type 0} where
     pub outside : Each IsOutside passes
     pub tagged : map (tag_of tag) passes ≡ tags
 
--- the tag of a session's desk
-abbrev pub tag_at : List Story → ℕ → TableId → ℕ → DeskTag
-tag_at stories budget journal s =
-    record { session = s; stories = stories; budget = budget; cell = journal }
-
 -- the sessions below this number
 unfoldable pub sessions_below : ℕ → List ℕ
 sessions_below n = range_with_len 0 n
 
--- the tags of the desks of the sessions below this number, over these stories with this budget,
--- whose passes are of this journal
-abbrev pub tags_below : List Story → ℕ → TableId → ℕ → List (Option DeskTag)
-tags_below stories budget journal n =
-    map (λ (s : ℕ). Some (tag_at stories budget journal s)) (sessions_below n)
+-- over these stories with this budget, whose passes are of this journal, which had these rows
+module _ {D : Type 0} (stories : List Story) (budget : ℕ) (journal : TableId) (rows : List Row)
+  where
+    -- the tag of the desk of a session, which was opened with this store
+    abbrev pub tag_at : ℕ → Snapshots D → DeskTag D
+    tag_at s store = record {
+      session = s;
+      stories = stories;
+      budget = budget;
+      cell = journal;
+      store = store;
+      rows = rows;
+    }
+
+    -- the tags of the desks of the sessions from this one on, with these stores
+    abbrev pub tags_from : ℕ → List (Snapshots D) → List (Option (DeskTag D))
+    tags_from s [] = []
+    tags_from s (store ∷ stores) = Some (tag_at s store) ∷ tags_from (s + 1) stores
 
 module _ {D : Type 0} where
+  -- the stores of the sessions, as they were opened
+  abbrev pub stores_of : Host D → List (Snapshots D)
+  stores_of host = host.opened.value.items
+
+  -- the journal's rows as the host was opened
+  abbrev pub rows_at_opening : Host D → List Row
+  rows_at_opening host = rows_of (seen host.root)
+
+  -- the tags of its desks
+  abbrev pub tags_in : Host D → List (Option (DeskTag D))
+  tags_in host = tags_from host.stories.now host.budget (cell_id host.journal)
+      (rows_at_opening host) 0 (stores_of host)
+
+  -- the tag is that of the desk of this session
+  abbrev pub IsTagOf : Host D → ℕ → Option (DeskTag D) → Type 0
+  IsTagOf host s tag = (store : Snapshots D)
+      × (slice_get (stores_of host) s ≡ Some store)
+      × (tag ≡ Some (tag_at host.stories.now host.budget (cell_id host.journal)
+      (rows_at_opening host) s store))
+
   -- what holds of each host
   pub record IsHost (host : Host D) : Type 0 where
     pub many : length host.desks.items ≡ 64
+    pub stores : length (stores_of host) ≡ 64
     pub budget : IsBudget host.budget
     -- the root of the journal's cell, from which the desks' passes were split
     pub root : IsOf host.journal host.root × IsOutside host.root
     pub numbered : (number host.root ≡ 0) × (holds host.root ≡ 0 ∷ [])
+    -- room for the stores' disks
+    pub room : (host.room.items ≡ []) × (64 ≤ vec_capacity host.room)
 
   -- the passes are of this host, one for each session
   pub record AreOf (host : Host D) (passes : Passes D) : Type 0 where
     pub whole : IsHost host
-    pub each : ArePasses desk_tag
-        (tags_below host.stories.now host.budget (cell_id host.journal) 64) host.desks.items
-        passes.desks.items
+    pub each : ArePasses desk_tag (tags_in host) host.desks.items passes.desks.items
+
+  -- The host is sound: the stores' disks tell their bytes, and as it was opened each store's areas
+  -- agreed with the journal's rows.
+  abbrev pub IsSound : (D → Bool) → (D → List ℕ) → Host D → Type 0
+  IsSound tells reads host =
+      (s : ℕ) (store : Snapshots D) → slice_get (stores_of host) s ≡ Some store
+      → IsSoundDesk tells reads (tag_at host.stories.now host.budget (cell_id host.journal)
+      (rows_at_opening host) s store)

@@ -1,25 +1,29 @@
 -- What the answers to lines tell: each is one turn on the history of its session (own).
 use Rattle.std.specs.Prelude.{◌≡◌, ◌⊎◌, ℕ, ◌<◌, ◌≤◌, List, [], ◌∷◌, ◌++◌, length}
-use Rattle.std.specs.Prelude.{take, set, slice_get, Some}
+use Rattle.std.specs.Prelude.{take, set, slice_get, Option, Some}
 use Rattle.turn_cell.specs.History.{IsAmong}
 use Rattle.line_words.specs.declared.reply.No.TheVariants.{DiskFault, NoMemory}
 use Rattle.line_words.specs.declared.reply.Reply.{Reply}
 use Rattle.line_words.specs.declared.reply.Reply.TheVariants.{No}
 use Rattle.story_run.specs.declared.story.Story.{Story}
+use Rattle.story_run.specs.World.{WorldState}
 use Rattle.session_core.specs.declared.decision.Decision.{Decision}
 use Rattle.session_core.specs.declared.entry.Entry.{Entry}
 use Rattle.session_core.specs.declared.entry.Entry.TheVariants.{Faulted}
 use Rattle.session_core.specs.declared.entry.Outcome.{Outcome}
 use Rattle.session_core.specs.declared.entry.Outcome.TheVariants.{OutOfMemory}
+use Rattle.session_core.specs.History.{game_of, world_of}
 use Rattle.session_core.specs.Hosts.{session_on}
-use Rattle.session_core.specs.Turning.{commands_in, decision_on, entry_by, MayMeet, Turned}
-use Rattle.session_core.specs.Turning.{turn_of}
+use Rattle.session_core.specs.Turning.{commands_in, decision_in, entry_by, MayMeet, Turned}
+use Rattle.session_core.specs.Turning.{turn_in}
 use Rattle.host_serve.specs.declared.mark.Mark.{Mark}
 use Rattle.host_serve.specs.Holders.{Holder, IsAloneHolder, holder_at, seen_at}
 
--- one answered line: what its turn met, its mark and its reply
+-- one answered line: the world that its session had come to, as the host held it, what its turn met,
+-- its mark and its reply
 pub record Turn : Type 0 where
   pub line : List ℕ
+  pub world : Option WorldState
   pub outcome : Outcome
   pub mark : Mark
   pub reply : Reply
@@ -41,18 +45,23 @@ IsTurn turns i t = slice_get turns i ≡ Some t
 abbrev pub marked : List (List Entry) → Turn → List Entry
 marked new t = take t.mark.length (seen_at new t.mark.session)
 
+-- the world that a session with this history has come to
+abbrev pub own_world : List Story → List Entry → Option WorldState
+own_world stories history = world_of stories (game_of (commands_in history))
+
 module _ (stories : List Story) (budget : ℕ) where
-  -- what the session decides on the line, with this history
+  -- what the session decides on the line, with this history and in the world that the host held
   abbrev pub decided : List Entry → Turn → Decision
-  decided history t = decision_on stories budget (commands_in history) t.line
+  decided history t = decision_in stories budget (commands_in history) t.world t.line
 
   -- a turn on this history may meet what this one met
   abbrev pub MayMeetIn : List Entry → Turn → Type 0
   MayMeetIn history t = MayMeet (decided history t).accepted t.outcome
 
-  -- the turn of the same line on this history, by a pass of this number, where it meets the same
+  -- the turn of the same line on this history and in the same world, by a pass of this number, where
+  -- it meets the same
   abbrev pub turned_on : List Entry → ℕ → Turn → Turned
-  turned_on history by t = turn_of stories budget history by t.line t.outcome
+  turned_on history by t = turn_in stories budget history t.world by t.line t.outcome
 
   -- the turn on the prefix that its mark names
   abbrev pub turned : List Holder → List (List Entry) → Turn → Turned
@@ -100,8 +109,8 @@ module _ (stories : List Story) (budget : ℕ) where
       (holder_at holders t.mark.session).number t).history) ts new
 
   -- the turns of one call: what the passes had seen as it began is `old`, as it ended `new`
-  pub record Serves (holders : List Holder) (old : List (List Entry)) (turns : List Turn)
-      (new : List (List Entry)) : Type 0 where
+  pub record Serves (sound : Type 0) (holders : List Holder) (old : List (List Entry))
+      (turns : List Turn) (new : List (List Entry)) : Type 0 where
     -- the mark is the line's session and the length of a prefix of its history, or (64, 0)
     pub marks : (i : ℕ) (t : Turn) → IsTurn turns i t → IsOfItsSession t ⊎ IsOfNoSession t
     pub prefix : (i : ℕ) (t : Turn) → IsTurn turns i t
@@ -113,8 +122,11 @@ module _ (stories : List Story) (budget : ℕ) where
     pub rises : (i j : ℕ) (t u : Turn) → IsTurn turns i t → IsTurn turns j u → i < j
         → t.mark.session ≡ u.mark.session → t.mark.length ≤ u.mark.length
         × (Adds holders new t → t.mark.length < u.mark.length)
-    -- a reply is that of `turn_of` on the marked prefix, by an outcome with which it adds nothing,
-    -- or the entry that stands there
+    -- on a sound host a turn is made in the world to which its session had come
+    pub own : sound → (i : ℕ) (t : Turn) → IsTurn turns i t
+        → t.world ≡ own_world stories (marked new t)
+    -- a reply is that of `turn_in` on the marked prefix, in the turn's world and by an outcome with
+    -- which it adds nothing, or the entry that stands there
     pub replies : (i : ℕ) (t : Turn) → IsTurn turns i t
         → (t.reply ≡ (turned holders new t).reply)
         × (AddsNothing holders new t ⊎ Adds holders new t)

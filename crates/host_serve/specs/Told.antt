@@ -1,5 +1,5 @@
 -- What a call tells of the lines that it answered (own).
-use Rattle.std.specs.Prelude.{◌≡◌, ◌⊎◌, ℕ, ◌^◌, ◌≤◌, List, ◌∷◌, [], ◌++◌, length, map}
+use Rattle.std.specs.Prelude.{◌≡◌, ◌⊎◌, ℕ, ◌^◌, ◌≤◌, List, ◌∷◌, [], ◌++◌, length, map, Option}
 use Rattle.line_talk.specs.Conversation.{joined}
 use Rattle.line_talk.specs.Lines.{lines, talk, IsWithinLimits, ReachesLimit}
 use Rattle.line_talk.specs.Streams.{SourceState, SinkState, Gave, Wrote}
@@ -9,6 +9,7 @@ use Rattle.line_talk.specs.declared.ended.Ended.{Ended}
 use Rattle.line_talk.specs.declared.ended.Ended.TheVariants as ended
 use Rattle.line_words.specs.Reply.{print_reply}
 use Rattle.line_words.specs.declared.reply.Reply.{Reply}
+use Rattle.story_run.specs.World.{WorldState}
 use Rattle.host_serve.specs.declared.answer.Answer.{Answer}
 use Rattle.host_serve.specs.declared.mark.Mark.{Mark}
 use Rattle.host_serve.specs.declared.served.Served.{Served}
@@ -17,9 +18,9 @@ use Rattle.host_serve.specs.declared.served.Served.TheVariants.{LineLimit, NoMem
 use Rattle.host_serve.specs.Serves.{Turn}
 use Rattle.host_serve.specs.Speaking.{turn_with}
 
--- the turn of a line with this answer
-abbrev pub turn_from : List ℕ → Answer → Turn
-turn_from line answer = turn_with line answer.outcome answer.mark answer.reply
+-- the turn of a line with this answer, in this world
+abbrev pub turn_from : List ℕ → Option WorldState → Answer → Turn
+turn_from line world answer = turn_with line world answer.outcome answer.mark answer.reply
 
 -- how a call ends, by how its conversation ended
 abbrev pub served_of : Ended → Served

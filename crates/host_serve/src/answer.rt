@@ -30,7 +30,7 @@ const NOWHERE: Mark = Mark {
 pub fn to_unread(_line: &[u8], why: No) -> Answer
     requires { IsUnread _line.now why }
     ensures { (stories : List Story) (budget : ℕ) (seen : List (List Entry))
-        → TurnsOnNone stories budget seen (turn_from _line.now result) seen }
+        → TurnsOnNone stories budget seen (turn_from _line.now None result) seen }
 {
     let outcome = match why {
         No::NoMemory => Outcome::OutOfMemory,
@@ -48,7 +48,7 @@ pub fn to_absent(_line: &[u8], _request: &Request) -> Answer
     requires { 64 ≤ session_of _request.now }
     ensures { (stories : List Story) (budget : ℕ) (seen : List (List Entry))
         → IsReadAs budget _line.now _request.now
-        → TurnsOnNone stories budget seen (turn_from _line.now result) seen }
+        → TurnsOnNone stories budget seen (turn_from _line.now None result) seen }
 {
     Answer {
         reply: Reply::No(No::NoSession),
@@ -60,7 +60,7 @@ pub fn to_absent(_line: &[u8], _request: &Request) -> Answer
 /// The answer to a line that was dropped, since it is too long.
 pub fn to_dropped() -> Answer
     ensures { (stories : List Story) (budget : ℕ) (seen : List (List Entry)) (line : List ℕ)
-        → heard line ≡ None → TurnsOnNone stories budget seen (turn_from line result) seen }
+        → heard line ≡ None → TurnsOnNone stories budget seen (turn_from line None result) seen }
 {
     Answer {
         reply: Reply::No(No::LongLine),

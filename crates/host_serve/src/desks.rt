@@ -1,14 +1,19 @@
 //! The desks of a host, each in a cell of its own (own).
-ghost use Rattle.std.specs.Prelude.{◌≡◌, ◌+◌, ◌<◌, IfOk};
+ghost use Rattle.std.specs.Prelude.{◌≡◌, ◌+◌, ◌<◌, ◌≤◌, [], IfOk, IfErr, OnOk, length};
+ghost use Rattle.std.specs.Prelude.{vec_capacity};
+ghost use Rattle.std.specs.List.{AllZip};
 ghost use Rattle.turn_cell.specs.Passes.{IsOf, IsOutside, KeepsNumbers, made, number, seen};
 ghost use Rattle.gate_journal.specs.Log.{kept, rows_of};
 ghost use Rattle.gate_journal.specs.Rows.{IsJournal};
 ghost use Rattle.host_serve.specs.Hosts.{cell_id};
-ghost use Rattle.host_serve.specs.Opening.{AreOpenedDesks, IsOpenedDesk};
+ghost use Rattle.host_serve.specs.Opening.{AreOpenedDesks, IsOfStores, IsOpenedDesk, IsRefused};
+ghost use Rattle.host_serve.specs.Opening.{IsStoreOf};
 
+use crate::fault::OpenFault;
 use disk_model::Disk;
 use gate_journal::{Journal, Row};
 use session_desk::{SharedDesk, journals_fit};
+use snap_store::Store;
 use std::alloc::{AllocError, Global};
 use story_run::Story;
 use turn_cell::{Cell, Pass};
@@ -31,6 +36,37 @@ pub fn rows_copied<D: Disk>(alloc: Global, journal: &Journal<D>) -> Result<Vec<R
     Ok(rows)
 }
 
+/// The stores of the disks of all sessions, one after the other. The room of the disks is left.
+pub fn open_stores<D: Disk + Drop>(
+    alloc: Global,
+    disks: &mut Vec<D>,
+) -> Result<Vec<Store<D>>, OpenFault<D>>
+    requires many { length disks.old.items ≡ 64 }
+    ensures ok { IfOk result (λ stores. AllZip (IsStoreOf D.tells D.may_leave D.seen
+        D.moment D.left_since D.faults D.reach D.room D.label) disks.old.items stores.items) }
+    ensures err { IfErr result (λ f. IsOfStores f (IsRefused D.tells D.may_leave D.seen
+        D.moment D.left_since D.faults D.reach D.room D.label disks.old.items)) }
+    ensures room { OnOk result ((disks.new.items ≡ []) × (64 ≤ vec_capacity disks.new)) }
+{
+    let Ok(mut stores) = Vec::with_capacity(alloc, usize::from(SESSIONS)) else {
+        return Err(OpenFault::NoMemory);
+    };
+    for disk in disks.drain(..) {
+        match Store::open(disk) {
+            Ok(store) => stores.push_reserved(store),
+            Err((fault, disk)) => {
+                let session = stores.len() as u8;
+                return Err(OpenFault::Snap {
+                    session,
+                    fault,
+                    disk,
+                });
+            }
+        }
+    }
+    Ok(stores)
+}
+
 /// The desk of a session in a cell, with a pass that is split from the root of the journal's cell,
 /// and the root of its own.
 fn open_desk<'i, D: Disk + Drop>(
@@ -41,19 +77,20 @@ fn open_desk<'i, D: Disk + Drop>(
     journal: &Cell<Journal<D>>,
     root: &mut Pass<Journal<D>>,
     rows: &[Row],
+    store: Store<D>,
 ) -> Result<(Cell<SharedDesk<'i, D>>, Pass<SharedDesk<'i, D>>), AllocError>
     requires session { session < 64 }
     requires cell { IsOf journal.now root.old × IsOutside root.old }
     requires root { (number root.old ≡ 0) × (made root.old ≡ session) }
     requires rows { (seen root.old ≡ kept rows.now) × IsJournal rows.now }
     ensures ok { IfOk result (λ pair. IsOpenedDesk stories.now budget (cell_id journal.now)
-        rows.now session pair.0 pair.1 × (made root.new ≡ session + 1)) }
+        rows.now session store pair.0 pair.1 × (made root.new ≡ session + 1)) }
     ensures kept { IsOf journal.now root.new × IsOutside root.new
         × KeepsNumbers root.old root.new × (seen root.new ≡ seen root.old) }
 {
     journals_fit();
     let pass = journal.split(alloc, root)?;
-    let desk = SharedDesk::open(alloc, session, stories, budget, rows, pass)?;
+    let desk = SharedDesk::open(alloc, session, stories, budget, rows, pass, store)?;
     Cell::new(alloc, desk)
 }
 
@@ -65,19 +102,22 @@ pub fn open_desks<'i, D: Disk + Drop>(
     journal: &Cell<Journal<D>>,
     root: &mut Pass<Journal<D>>,
     rows: &[Row],
+    stores: Vec<Store<D>>,
 ) -> Result<(Vec<Cell<SharedDesk<'i, D>>>, Vec<Pass<SharedDesk<'i, D>>>), AllocError>
+    requires many { length stores.items ≡ 64 }
     requires cell { IsOf journal.now root.old × IsOutside root.old }
     requires root { (number root.old ≡ 0) × (made root.old ≡ 0) }
     requires rows { (seen root.old ≡ kept rows.now) × IsJournal rows.now }
     ensures ok { IfOk result (λ pair. AreOpenedDesks stories.now budget (cell_id journal.now)
-        rows.now 64 pair.0.items pair.1.items) }
+        rows.now stores.items pair.0.items pair.1.items) }
     ensures kept { IsOf journal.now root.new × IsOutside root.new
         × KeepsNumbers root.old root.new × (seen root.new ≡ seen root.old) }
 {
     let mut cells = Vec::new(alloc);
     let mut passes = Vec::new(alloc);
-    for s in 0..SESSIONS {
-        let (cell, pass) = open_desk(alloc, s, stories, budget, journal, root, rows)?;
+    for store in stores {
+        let s = cells.len() as u8;
+        let (cell, pass) = open_desk(alloc, s, stories, budget, journal, root, rows, store)?;
         cells.push(cell)?;
         passes.push(pass)?;
     }

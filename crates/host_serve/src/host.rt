@@ -2,6 +2,8 @@
 use disk_model::Disk;
 use gate_journal::Journal;
 use session_desk::SharedDesk;
+use snap_store::Store;
+use std::snapshot::Snapshot;
 use story_run::Story;
 use turn_cell::{Cell, Pass};
 
@@ -14,6 +16,10 @@ pub struct Host<'i, D: Disk> {
     /// The root of the journal's cell.
     pub(crate) root: Pass<Journal<D>>,
     pub(crate) desks: Vec<Cell<SharedDesk<'i, D>>>,
+    /// The stores of the sessions' snapshots, as they were opened.
+    pub(crate) opened: Snapshot<Vec<Store<D>>>,
+    /// Room for the stores' disks, since `end` takes no memory.
+    pub(crate) room: Vec<D>,
 }
 
 /// A pass for each session of one host.

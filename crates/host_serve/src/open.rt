@@ -1,38 +1,50 @@
 //! A host is opened (own).
-ghost use Rattle.std.specs.Prelude.{◌≡◌, ◌≤◌, IsTrue, IfOk, IfErr, List, length, max};
+ghost use Rattle.std.specs.Prelude.{◌≡◌, ◌≤◌, IsTrue, IfOk, IfErr, List, [], length, max};
+ghost use Rattle.std.specs.Prelude.{vec_capacity};
+ghost use Rattle.std.specs.List.{AllZip};
 ghost use Rattle.disk_model.specs.Disk.{EachImage, LeavesOnly, OnlyLooks, SameDisk};
 ghost use Rattle.gate_journal.specs.Command.{IsBudget};
 ghost use Rattle.gate_journal.specs.Faults.{Explains, HasCause, IsNoFault};
 ghost use Rattle.gate_journal.specs.Log.{MayOpen, ReachesGate, kept, rows_of};
 ghost use Rattle.gate_journal.specs.Rows.{IsJournal, SpellsRows};
 ghost use Rattle.gate_journal.specs.declared.row.Row.{Row};
-ghost use Rattle.host_serve.specs.Opening.{IsOpened, OnJournal};
+ghost use Rattle.host_serve.specs.Hosts.{IsSound, rows_at_opening, stores_of};
+ghost use Rattle.host_serve.specs.Opening.{AreAgreed, IsOpened, IsRefused, IsStoreOf, OnJournal};
+ghost use Rattle.host_serve.specs.Opening.{OnStore};
 
-use crate::desks::{open_desks, rows_copied};
+use crate::desks::{open_desks, open_stores, rows_copied};
 use crate::fault::OpenFault;
 use crate::host::{Host, Passes};
 use disk_model::Disk;
 use gate_journal::Journal;
+use snap_store::Store;
 use std::alloc::{AllocError, Global};
+use std::snapshot::Snapshot;
 use story_run::Story;
 use turn_cell::Cell;
 
-/// The host of a journal that was just opened.
+/// The host of a journal and of stores that were just opened.
 fn open_over<'i, D: Disk + Drop>(
     alloc: Global,
     stories: &'i [Story<'i>],
     budget: u64,
     journal: Journal<D>,
+    stores: Vec<Store<D>>,
+    room: Vec<D>,
 ) -> Result<(Host<'i, D>, Passes<'i, D>), AllocError>
     requires budget { IsBudget budget }
+    requires many { length stores.items ≡ 64 }
+    requires room { (room.items ≡ []) × (64 ≤ vec_capacity room) }
     requires fresh { journal.entries ≡ kept (rows_of journal.entries) }
     ensures ok { IfOk result (λ pair. IsOpened stories.now budget (rows_of journal.entries)
         journal.opening pair.0 pair.1) }
     ensures journal { IfOk result (λ _. IsJournal (rows_of journal.entries)) }
+    ensures stores { IfOk result (λ pair. stores_of pair.0 ≡ stores.items) }
 {
     let rows = rows_copied(alloc, &journal)?;
     let (cell, mut root) = Cell::new(alloc, journal)?;
-    let (desks, passes) = open_desks(alloc, stories, budget, &cell, &mut root, &rows)?;
+    let opened = Snapshot::of(&stores);
+    let (desks, passes) = open_desks(alloc, stories, budget, &cell, &mut root, &rows, stores)?;
     Ok((
         Host {
             stories,
@@ -40,28 +52,44 @@ fn open_over<'i, D: Disk + Drop>(
             journal: cell,
             root,
             desks,
+            opened,
+            room,
         },
         Passes { desks: passes },
     ))
 }
 
 impl<'i, D: Disk + Drop> Host<'i, D> {
-    /// The sessions of a journal, each with the commands of its rows, cold and in a cell of its
-    /// own, and the roots of these cells. The budget is that of a turn, in ticks, with which
-    /// sessions are opened. A journal that is refused comes back; the disk is let go where memory
-    /// runs out behind its opening.
+    /// The sessions of a journal, each with the commands of its rows, its snapshots on a disk of its
+    /// own, cold and in a cell of its own, and the roots of these cells. The budget is that of a
+    /// turn, in ticks, with which sessions are opened. The disk of a journal or of snapshots that is
+    /// refused comes back; the other disks are let go, and all of them where memory runs out behind
+    /// the journal's opening.
+    #[tactic(auto, using(crate::proofs::StoreLemmas::off_journal, crate::proofs::StoreLemmas::on_store))]
     pub fn open(
         alloc: Global,
         stories: &'i [Story<'i>],
         journal: D,
+        snaps: Vec<D>,
         budget: u64,
     ) -> Result<(Host<'i, D>, Passes<'i, D>), OpenFault<D>>
         requires budget { IsBudget budget }
+        requires snaps { length snaps.items ≡ 64 }
 
         ensures ok { IfOk result (λ pair. (rows : List Row) × IsJournal rows
             × (IsTrue (D.tells journal) → SpellsRows (D.seen journal) rows)
             × IsOpened stories.now budget rows (record { disk = journal; found = length rows })
             pair.0 pair.1) }
+        ensures stores { IfOk result (λ pair. AllZip (IsStoreOf D.tells D.may_leave D.seen
+            D.moment D.left_since D.faults D.reach D.room D.label) snaps.items
+            (stores_of pair.0)) }
+        ensures sound { IfOk result (λ pair.
+            AreAgreed D.tells D.seen stories.now (rows_at_opening pair.0) snaps.items
+            → IsSound D.tells D.seen pair.0) }
+
+        // Snapshots are refused only where their disk failed.
+        ensures snap { IfErr result (λ f. OnStore f (IsRefused D.tells D.may_leave D.seen
+            D.moment D.left_since D.faults D.reach D.room D.label snaps.items)) }
 
         // A journal that is refused comes back as its own opening leaves it.
         ensures exact { IfErr result (λ f. OnJournal f (λ why back. IsTrue (D.tells journal)
@@ -90,7 +118,12 @@ impl<'i, D: Disk + Drop> Host<'i, D> {
             Ok(journal) => journal,
             Err((fault, disk)) => return Err(OpenFault::Journal(fault, disk)),
         };
-        match open_over(alloc, stories, budget, journal) {
+        let mut room = snaps;
+        let stores = match open_stores(alloc, &mut room) {
+            Ok(stores) => stores,
+            Err(fault) => return Err(fault),
+        };
+        match open_over(alloc, stories, budget, journal, stores, room) {
             Ok(opened) => Ok(opened),
             Err(_) => Err(OpenFault::NoMemory),
         }

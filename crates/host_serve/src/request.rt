@@ -1,8 +1,9 @@
 //! Requests to a host (own).
-ghost use Rattle.std.specs.Prelude.{◌≡◌, List};
+ghost use Rattle.std.specs.Prelude.{◌≡◌, List, Option};
+ghost use Rattle.story_run.specs.World.{WorldState};
 ghost use Rattle.host_serve.specs.Chain.{Answers};
 ghost use Rattle.host_serve.specs.Holders.{holders, seens};
-ghost use Rattle.host_serve.specs.Hosts.{AreOf};
+ghost use Rattle.host_serve.specs.Hosts.{AreOf, IsSound};
 ghost use Rattle.host_serve.specs.Serves.{IsExact, Turn};
 ghost use Rattle.host_serve.specs.Told.{turn_from};
 
@@ -28,9 +29,10 @@ impl<'i, D: Disk + Drop> Host<'i, D> {
         line: &[u8],
     ) -> Answer
         requires passes { AreOf self.now passes.old }
-        ensures value { Answers self.now.stories.now self.now.budget
+        ensures value { (world : Option WorldState)
+            × Answers self.now.stories.now self.now.budget (IsSound D.tells D.seen self.now)
             (holders passes.old.desks.items) (seens passes.old.desks.items)
-            (turn_from line.now result) (seens passes.new.desks.items) }
+            (turn_from line.now world result) (seens passes.new.desks.items) }
         ensures kept { AreOf self.now passes.new }
         ensures holders { holders passes.new.desks.items ≡ holders passes.old.desks.items }
     {
@@ -65,8 +67,9 @@ impl<'i, D: Disk + Drop> Host<'i, D> {
     ) -> Reply
         requires passes { AreOf self.now passes.old }
         ensures value { (turn : Turn) × (turn.line ≡ line.now) × (turn.reply ≡ result)
-            × Answers self.now.stories.now self.now.budget (holders passes.old.desks.items)
-            (seens passes.old.desks.items) turn (seens passes.new.desks.items)
+            × Answers self.now.stories.now self.now.budget (IsSound D.tells D.seen self.now)
+            (holders passes.old.desks.items) (seens passes.old.desks.items) turn
+            (seens passes.new.desks.items)
             × IsExact self.now.stories.now self.now.budget (holders passes.old.desks.items)
             (seens passes.new.desks.items) turn }
         ensures kept { AreOf self.now passes.new }

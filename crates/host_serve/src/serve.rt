@@ -3,7 +3,7 @@ ghost use Rattle.std.specs.Prelude.{◌≡◌, List};
 ghost use Rattle.line_talk.specs.Causes.{Rose};
 ghost use Rattle.host_serve.specs.Chain.{Chain};
 ghost use Rattle.host_serve.specs.Holders.{holders, seens};
-ghost use Rattle.host_serve.specs.Hosts.{AreOf};
+ghost use Rattle.host_serve.specs.Hosts.{AreOf, IsSound};
 ghost use Rattle.host_serve.specs.Serves.{Serves, Turn};
 ghost use Rattle.host_serve.specs.Told.{Tells};
 
@@ -37,10 +37,12 @@ impl<'i, D: Disk + Drop> Host<'i, D> {
         ensures value { (turns : List Turn)
             × Tells turns (L.source link.old) (L.source link.new) (L.sink link.old)
             (L.sink link.new) marks.old.items marks.new.items result
-            × Chain self.now.stories.now self.now.budget (holders passes.old.desks.items)
-            (seens passes.old.desks.items) turns (seens passes.new.desks.items)
-            × Serves self.now.stories.now self.now.budget (holders passes.old.desks.items)
-            (seens passes.old.desks.items) turns (seens passes.new.desks.items) }
+            × Chain self.now.stories.now self.now.budget (IsSound D.tells D.seen self.now)
+            (holders passes.old.desks.items) (seens passes.old.desks.items) turns
+            (seens passes.new.desks.items)
+            × Serves self.now.stories.now self.now.budget (IsSound D.tells D.seen self.now)
+            (holders passes.old.desks.items) (seens passes.old.desks.items) turns
+            (seens passes.new.desks.items) }
         ensures end { ¬ (result ≡ Served.End)
             → (L.source link.new).ended ≡ (L.source link.old).ended }
         ensures read_fault { result ≡ Served.ReadFault
@@ -69,10 +71,12 @@ impl<'i, D: Disk + Drop> Host<'i, D> {
         ensures value { (turns : List Turn)
             × Tells turns (L.source link.old) (L.source link.new) (L.sink link.old)
             (L.sink link.new) marks.old.items marks.new.items result
-            × Chain self.now.stories.now self.now.budget (holders passes.old.desks.items)
-            (seens passes.old.desks.items) turns (seens passes.new.desks.items)
-            × Serves self.now.stories.now self.now.budget (holders passes.old.desks.items)
-            (seens passes.old.desks.items) turns (seens passes.new.desks.items) }
+            × Chain self.now.stories.now self.now.budget (IsSound D.tells D.seen self.now)
+            (holders passes.old.desks.items) (seens passes.old.desks.items) turns
+            (seens passes.new.desks.items)
+            × Serves self.now.stories.now self.now.budget (IsSound D.tells D.seen self.now)
+            (holders passes.old.desks.items) (seens passes.old.desks.items) turns
+            (seens passes.new.desks.items) }
         ensures end { ¬ (result ≡ Served.End)
             → (L.source link.new).ended ≡ (L.source link.old).ended }
         ensures read_fault { result ≡ Served.ReadFault

@@ -24,12 +24,13 @@ pub struct Shift<'a, 'i, D: Disk, R, O, P> {
 impl<'a, 'i, D: Disk + Drop, R: Wait, O: Door, P: Moments> Crew<Passes<'i, D>, Worked<O>>
     for Shift<'a, 'i, D, R, O, P> {
     ghost use Rattle.host_serve.specs.Doors.{IsShut, Works};
-    ghost use Rattle.host_serve.specs.Hosts.{AreOf};
+    ghost use Rattle.host_serve.specs.Hosts.{AreOf, IsSound};
 
     ghost ready = { λ s passes. AreOf s.host.now passes };
 
     ghost did = { λ s old new answer. Works O.Conn.source O.Conn.sink O.Conn.lent
-        (O.gives s.door.now) (O.shuts s.door.now) (O.fails s.door.now) s.host.now old new answer };
+        (O.gives s.door.now) (O.shuts s.door.now) (O.fails s.door.now) (IsSound D.tells D.seen)
+        s.host.now old new answer };
 
     ghost is_end = { IsShut };
 

@@ -1,13 +1,14 @@
 //! Who answers the lines of a link (own).
-ghost use Rattle.std.specs.Prelude.{◌≡◌, ℕ, List, OnOk, IfErr};
+ghost use Rattle.std.specs.Prelude.{◌≡◌, ℕ, List, Option, OnOk, IfErr};
 ghost use Rattle.std.specs.Option.{option_map};
 ghost use Rattle.line_talk.specs.Lines.{heard};
 ghost use Rattle.line_talk.specs.Streams.{Wrote};
 ghost use Rattle.line_talk.specs.Writing.{Stopped};
 ghost use Rattle.line_words.specs.Reply.{print_reply};
+ghost use Rattle.story_run.specs.World.{WorldState};
 ghost use Rattle.host_serve.specs.Chain.{Answers};
 ghost use Rattle.host_serve.specs.Holders.{holders, seens};
-ghost use Rattle.host_serve.specs.Hosts.{AreOf};
+ghost use Rattle.host_serve.specs.Hosts.{AreOf, IsSound};
 ghost use Rattle.host_serve.specs.Told.{turn_from};
 
 use crate::answer::{Answer, to_dropped};
@@ -42,9 +43,11 @@ fn answer_to<'i, D: Disk + Drop, R: Wait, P: Moments>(
     line: Option<&[u8]>,
 ) -> Answer
     requires passes { AreOf host.now passes.old }
-    ensures value { (bytes : List ℕ) → heard bytes ≡ option_map (λ l. l.now) line.entry
-        → Answers host.now.stories.now host.now.budget (holders passes.old.desks.items)
-        (seens passes.old.desks.items) (turn_from bytes result) (seens passes.new.desks.items) }
+    ensures value { (world : Option WorldState)
+        × ((bytes : List ℕ) → heard bytes ≡ option_map (λ l. l.now) line.entry
+        → Answers host.now.stories.now host.now.budget (IsSound D.tells D.seen host.now)
+        (holders passes.old.desks.items) (seens passes.old.desks.items)
+        (turn_from bytes world result) (seens passes.new.desks.items)) }
     ensures kept { AreOf host.now passes.new }
     ensures holders { holders passes.new.desks.items ≡ holders passes.old.desks.items }
 {
@@ -72,22 +75,21 @@ impl<'a, 'i, D: Disk + Drop, R: Wait, P: Moments> Answers for Speaker<'a, 'i, D,
     ghost use Rattle.std.specs.Prelude.{◌<◌, ℕ, false, vec_len, vec_capacity};
     ghost use Rattle.host_serve.specs.declared.host.Host.{Host};
     ghost use Rattle.host_serve.specs.Holders.{holders, seens};
-    ghost use Rattle.host_serve.specs.Hosts.{AreOf};
+    ghost use Rattle.host_serve.specs.Hosts.{AreOf, IsSound};
     ghost use Rattle.host_serve.specs.Speaking.{Speaking, Speaks};
 
-    ghost State = { Speaking };
+    ghost State = { Speaking D };
 
     ghost state = { λ s. record {
-      stories = s.host.now.stories.now;
-      budget = s.host.now.budget;
+      host = s.host.now;
       holders = holders s.passes.now.desks.items;
       seen = seens s.passes.now.desks.items;
       marks = s.marks.now.items;
     } };
 
-    ghost turn = { Speaks };
+    ghost turn = { Speaks (IsSound D.tells D.seen) };
 
-    ghost cut = { Speaks };
+    ghost cut = { Speaks (IsSound D.tells D.seen) };
 
     ghost over = { λ _. false };
 

@@ -1,11 +1,12 @@
 //! One turn on a session's cell (own).
-ghost use Rattle.std.specs.Prelude.{◌≡◌, ◌<◌, Some};
+ghost use Rattle.std.specs.Prelude.{◌≡◌, ◌<◌, Option};
 ghost use Rattle.turn_cell.specs.Passes.{IsOf, IsOutside, KeepsNumbers, made, seen, tag_of};
+ghost use Rattle.story_run.specs.World.{WorldState};
 ghost use Rattle.session_core.specs.Checks.{session_of};
 ghost use Rattle.session_desk.specs.Shared.{desk_tag};
 ghost use Rattle.host_serve.specs.Reading.{IsReadAs};
 ghost use Rattle.host_serve.specs.Holders.{holder_of};
-ghost use Rattle.host_serve.specs.Hosts.{cell_id, tag_at};
+ghost use Rattle.host_serve.specs.Hosts.{IsSound, IsTagOf};
 ghost use Rattle.host_serve.specs.Told.{turn_from};
 ghost use Rattle.host_serve.specs.Chain.{TurnsIn};
 
@@ -34,11 +35,11 @@ pub fn turn_in<'i, D: Disk + Drop, R: Wait, P: Moments>(
 ) -> Answer
     requires cell { IsOf cell.now pass.old × IsOutside pass.old }
     requires session { session_of request.now < 64 }
-    requires tag { tag_of desk_tag pass.old ≡ Some (tag_at host.now.stories.now host.now.budget
-        (cell_id host.now.journal) (session_of request.now)) }
+    requires tag { IsTagOf host.now (session_of request.now) (tag_of desk_tag pass.old) }
     requires read { IsReadAs host.now.budget _line.now request.now }
-    ensures value { TurnsIn host.now.stories.now host.now.budget (holder_of pass.old)
-        (seen pass.old) (turn_from _line.now result) (seen pass.new) }
+    ensures value { (world : Option WorldState)
+        × TurnsIn host.now.stories.now host.now.budget (IsSound D.tells D.seen host.now)
+        (holder_of pass.old) (seen pass.old) (turn_from _line.now world result) (seen pass.new) }
     ensures session { result.mark.session ≡ session_of request.now }
     ensures kept { IsOf cell.now pass.new × IsOutside pass.new × KeepsNumbers pass.old pass.new
         × (made pass.new ≡ made pass.old) }

@@ -1,4 +1,4 @@
-use Rattle.std.proofs.Common.{◌≡◌, ℕ, ◌<◌, [], length, ap, sym, ◌∙◌, get_or, arith}
+use Rattle.std.proofs.Common.{length, ap, ◌∙◌, get_or, arith}
 use Rattle.session_desk.specs.Shared.{desk_tag}
 use Rattle.host_serve.proofs.ListLemmas.{length_more}
 use Rattle.host_serve.proofs.PassLemmas.{as_many}

@@ -1,8 +1,13 @@
-use Rattle.std.proofs.Common.{subst}
+use Rattle.std.proofs.Common.{subst, sym, ◌∙◌}
 use Rattle.gate_journal.specs.Log.{Opening, rows_of}
 use Rattle.host_serve.specs.Opening.{IsOpened}
 use Rattle.host_serve.proofs.OpeningLemmas.{opening_on}
+use Rattle.host_serve.proofs.StoreLemmas.{AreStoresOf, sound_of, zip_long}
 use Rattle.host_serve.proofs.host.Host.open.Goals as goal
+
+pub open_over-requires-clause-many : goal.open_over-requires-clause-many
+open_over-requires-clause-many g c =
+    zip_long _ c.args.snaps.items _ c.in-Ok-open_stores.ensures.ok ∙ c.requires.snaps
 
 pub returns-in-Ok-open_over-clause-ok : goal.returns-in-Ok-open_over-clause-ok
 returns-in-Ok-open_over-clause-ok g c = (
@@ -14,3 +19,19 @@ returns-in-Ok-open_over-clause-ok g c = (
       (opening_on c.args.journal c.in-Ok.journal c.in-Ok.ensures.fresh.0 c.in-Ok.ensures.fresh.2)
       c.in-Ok-open_over.ensures.ok,
 )
+
+pub returns-in-Ok-open_over-clause-stores : goal.returns-in-Ok-open_over-clause-stores
+returns-in-Ok-open_over-clause-stores g c =
+    subst (AreStoresOf g.D.Disk.tells g.D.Disk.may_leave g.D.Disk.seen g.D.Disk.moment
+    g.D.Disk.left_since g.D.Disk.faults g.D.Disk.reach g.D.Disk.room g.D.Disk.label
+    c.args.snaps.items) (sym c.in-Ok-open_over.ensures.stores) c.in-Ok-open_stores.ensures.ok
+
+pub returns-in-Ok-open_over-clause-sound : goal.returns-in-Ok-open_over-clause-sound
+returns-in-Ok-open_over-clause-sound g c = λ agreed.
+    sound_of g.D.Disk.tells g.D.Disk.may_leave g.D.Disk.seen g.D.Disk.moment
+    g.D.Disk.left_since g.D.Disk.faults g.D.Disk.reach g.D.Disk.room g.D.Disk.label
+    c.in-Ok-open_over.opened.0 c.args.stories.now c.args.snaps.items
+    (subst (AreStoresOf g.D.Disk.tells g.D.Disk.may_leave g.D.Disk.seen g.D.Disk.moment
+    g.D.Disk.left_since g.D.Disk.faults g.D.Disk.reach g.D.Disk.room g.D.Disk.label
+    c.args.snaps.items) (sym c.in-Ok-open_over.ensures.stores) c.in-Ok-open_stores.ensures.ok)
+    c.in-Ok-open_over.ensures.ok.stories agreed

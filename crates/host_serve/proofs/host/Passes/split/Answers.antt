@@ -1,9 +1,9 @@
-use Rattle.std.proofs.Common.{◌≡◌, ℕ, ◌<◌, ◌≤◌, ◌+◌, ap, sym, ◌∙◌, subst, set, arith, refl}
+use Rattle.std.proofs.Common.{◌+◌, ap, sym, ◌∙◌, subst, set, arith, refl}
 use Rattle.std.specs.Vec.{with_item}
 use Rattle.std.proofs.lemmas.List.{with_items_is}
 use Rattle.session_desk.specs.Shared.{desk_tag}
 use Rattle.host_serve.specs.Holders.{Holder, holders, seens}
-use Rattle.host_serve.specs.Hosts.{ArePasses, cell_id, tags_below}
+use Rattle.host_serve.specs.Hosts.{ArePasses, tags_in}
 use Rattle.host_serve.specs.Splitting.{AreRoots, after_split, with_newest}
 use Rattle.host_serve.proofs.PassLemmas.{pass_ready}
 use Rattle.host_serve.proofs.RootLemmas.{roots_first}
@@ -85,8 +85,8 @@ returns-in-Err-clause-kept g c = let split = splits_not desk_tag _ _ _ _ _ _ _ _
     c.join_again.new.roots (long ∙ c.deref_mut.ensures.len) in
     record {
       whole = c.requires.passes.whole;
-      each = subst (λ l. ArePasses desk_tag (tags_below c.args.host.now.stories.now
-          c.args.host.now.budget (cell_id c.args.host.now.journal) 64) c.args.host.now.desks.items l)
+      each = subst (λ l. ArePasses desk_tag (tags_in c.args.host.now)
+          c.args.host.now.desks.items l)
           (sym is) back.2;
     }
 

@@ -3,7 +3,7 @@ use Rattle.host_serve.proofs.shift.ShiftCrewPassesWorked.run.Goals as goal
 
 pub loop-init : goal.loop-init
 loop-init g c = visits_none g.O.Conn.Source.source g.O.Conn.Sink.sink g.O.Conn.Link.lent
-    (g.O.Door.gives c.args.self.now.door.now) _ _ c.requires
+    (g.O.Door.gives c.args.self.now.door.now) _ _ _ c.requires
 
 pub hang_up-requires : goal.hang_up-requires
 hang_up-requires g c = let s = c.serve_by-why.ensures in
@@ -12,7 +12,7 @@ hang_up-requires g c = let s = c.serve_by-why.ensures in
 pub loop-preserved : goal.loop-preserved
 loop-preserved g c = let s = c.serve_by-why.ensures in
     visits_more g.O.Conn.Source.source g.O.Conn.Sink.sink g.O.Conn.Link.lent
-    (g.O.Door.gives c.args.self.now.door.now) _ _ _ _ c.loop.invariant (
+    (g.O.Door.gives c.args.self.now.door.now) _ _ _ _ _ c.loop.invariant (
       record {
         taken = c.in-Link.link;
         left = c.serve_by-why.new.link;
@@ -30,12 +30,12 @@ loop-preserved g c = let s = c.serve_by-why.ensures in
 
 pub returns-in-Shut : goal.returns-in-Shut
 returns-in-Shut g c = works_of g.O.Conn.Source.source g.O.Conn.Sink.sink g.O.Conn.Link.lent
-    (g.O.Door.gives c.args.self.now.door.now) _ (g.O.Door.shuts c.args.self.now.door.now)
+    (g.O.Door.gives c.args.self.now.door.now) _ _ (g.O.Door.shuts c.args.self.now.door.now)
     (g.O.Door.fails c.args.self.now.door.now) _ _ _ c.requires c.loop.invariant
     c.in-Shut.ensures
 
 pub returns-in-Failed : goal.returns-in-Failed
 returns-in-Failed g c = works_of g.O.Conn.Source.source g.O.Conn.Sink.sink g.O.Conn.Link.lent
-    (g.O.Door.gives c.args.self.now.door.now) _ (g.O.Door.shuts c.args.self.now.door.now)
+    (g.O.Door.gives c.args.self.now.door.now) _ _ (g.O.Door.shuts c.args.self.now.door.now)
     (g.O.Door.fails c.args.self.now.door.now) _ _ _ c.requires c.loop.invariant
     c.in-Failed.ensures

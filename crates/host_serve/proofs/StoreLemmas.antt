@@ -1,0 +1,138 @@
+-- The stores of a host, in the order of its sessions.
+use Rattle.std.proofs.Common.{◌≡◌, ℕ, zero, suc, ◌<◌, Bool, List, [], ◌∷◌, ◌++◌, length, refl, ap, sym, ◌∙◌, subst, arith, append_assoc, Some, IsTrue}
+use Rattle.std.specs.Prelude.{slice_get}
+use Rattle.std.specs.List.{AllZip}
+use Rattle.gate_journal.specs.declared.fault.JournalFault.{JournalFault}
+use Rattle.snap_store.specs.Store.{Snapshots}
+use Rattle.snap_store.specs.declared.fault.DiskFault.{DiskFault as StoreFault}
+use Rattle.story_run.specs.declared.story.Story.{Story}
+use Rattle.session_core.specs.History.{game_of}
+use Rattle.gate_journal.specs.Rows.{commands_of}
+use Rattle.session_saves.specs.Agreement.{Agrees}
+use Rattle.session_desk.specs.Opens.{opens_of}
+use Rattle.host_serve.specs.declared.host.Host.{Host}
+use Rattle.host_serve.specs.Hosts.{IsSound, rows_at_opening, stores_of}
+use Rattle.host_serve.specs.declared.fault.OpenFault.{OpenFault}
+use Rattle.host_serve.specs.declared.fault.OpenFault.TheVariants as faults
+use Rattle.host_serve.specs.Opening.{AreAgreed, IsOfStores, IsStoreOf, OnJournal, OnStore}
+use Rattle.host_serve.proofs.ListLemmas.{length_both, none_some, same_some}
+
+module _ {A : Type 0} where
+  pub get_first : (xs : List A) (x : A) (s : ℕ) → s < length xs
+      → slice_get (xs ++ x ∷ []) s ≡ slice_get xs s
+  get_first [] x s low = absurd (omega arith)
+  get_first (y ∷ xs) x zero low = refl
+  get_first (y ∷ xs) x (suc s) low = get_first xs x s (omega arith)
+
+  pub get_last : (xs rest : List A) (x : A) → slice_get (xs ++ x ∷ rest) (length xs) ≡ Some x
+  get_last [] rest x = refl
+  get_last (y ∷ xs) rest x = get_last xs rest x
+
+  -- what stands somewhere stands before the end
+  pub get_within : (xs : List A) (s : ℕ) (x : A) → slice_get xs s ≡ Some x → s < length xs
+  get_within [] s x is = absurd (none_some x is)
+  get_within (y ∷ xs) zero x is = omega arith
+  get_within (y ∷ xs) (suc s) x is = let low = get_within xs s x is in omega arith
+
+  -- the first ones are fewer than all
+  pub fewer_before : (all done rest : List A) (x : A) → all ≡ done ++ x ∷ rest
+      → length done < length all
+  fewer_before all done rest x is =
+      let a = ap (λ (l : List A). length l) is in
+      let b = length_both done (x ∷ rest) in omega arith
+
+  pub stands_behind : (all done rest : List A) (x : A) (s : ℕ) → all ≡ done ++ x ∷ rest
+      → s ≡ length done → slice_get all s ≡ Some x
+  stands_behind all done rest x s is at =
+      (λ i. slice_get (is i) (at i)) ∙ get_last done rest x
+
+  -- and before the end something stands
+  pub get_below : (xs : List A) (s : ℕ) → s < length xs
+      → (x : A) × (slice_get xs s ≡ Some x)
+  get_below [] s low = absurd (omega arith)
+  get_below (y ∷ xs) zero low = (y, refl)
+  get_below (y ∷ xs) (suc s) low = get_below xs s (omega arith)
+
+module _ {A B : Type 0} (R : A → B → Type 0) where
+  pub zip_long : (xs : List A) (ys : List B) → AllZip R xs ys → length ys ≡ length xs
+  zip_long [] [] z = refl
+  zip_long [] (y ∷ ys) z = absurd z
+  zip_long (x ∷ xs) [] z = absurd z
+  zip_long (x ∷ xs) (y ∷ ys) z = ap suc (zip_long xs ys z.1)
+
+  pub zip_more : (xs : List A) (ys : List B) (x : A) (y : B) → AllZip R xs ys → R x y
+      → AllZip R (xs ++ x ∷ []) (ys ++ y ∷ [])
+  zip_more [] [] x y z r = (r, tt)
+  zip_more [] (b ∷ ys) x y z r = absurd z
+  zip_more (a ∷ xs) [] x y z r = absurd z
+  zip_more (a ∷ xs) (b ∷ ys) x y z r = (z.0, zip_more xs ys x y z.1 r)
+
+  -- the one at a place of the first list, by the other
+  pub zip_at : (xs : List A) (ys : List B) (s : ℕ) (y : B) → AllZip R xs ys
+      → slice_get ys s ≡ Some y → (x : A) × (slice_get xs s ≡ Some x) × R x y
+  zip_at [] [] s y z is = absurd (none_some y is)
+  zip_at [] (b ∷ ys) s y z is = absurd z
+  zip_at (a ∷ xs) [] s y z is = absurd z
+  zip_at (a ∷ xs) (b ∷ ys) zero y z is = (a, refl, subst (R a) (same_some b y is) z.0)
+  zip_at (a ∷ xs) (b ∷ ys) (suc s) y z is = zip_at xs ys s y z.1 is
+
+  pub zip_of : (xs : List A) (ys : List B) → length ys ≡ length xs
+      → ((s : ℕ) (x : A) (y : B) → slice_get xs s ≡ Some x → slice_get ys s ≡ Some y → R x y)
+      → AllZip R xs ys
+  zip_of [] [] many each = tt
+  zip_of [] (y ∷ ys) many each = absurd (omega arith)
+  zip_of (x ∷ xs) [] many each = absurd (omega arith)
+  zip_of (x ∷ xs) (y ∷ ys) many each = (
+    each 0 x y refl refl,
+    zip_of xs ys (omega arith) (λ s a b there there'. each (suc s) a b there there'),
+  )
+
+-- a fault of the stores
+module _ {D : Type 0} (P : ℕ → StoreFault → D → Type 0) where
+  pub on_store : (f : OpenFault D) → IsOfStores f P → OnStore f P
+  on_store (faults.Journal fault disk) of = absurd of
+  on_store (faults.Snap session fault disk) of = of
+  on_store faults.NoMemory of = tt
+
+  -- is none of the journal
+  pub off_journal : (Q : JournalFault → D → Type 0) (f : OpenFault D) → IsOfStores f P
+      → OnJournal f Q
+  off_journal Q (faults.Journal fault disk) of = absurd of
+  off_journal Q (faults.Snap session fault disk) of = tt
+  off_journal Q faults.NoMemory of = tt
+
+module _ {D : Type 0} (tells : D → Bool) (may_leave : D → List ℕ → Type 0)
+    (reads : D → List ℕ) (moment : D → ℕ) (left_since : D → ℕ → List ℕ → Type 0)
+    (faults reach room label : D → ℕ) where
+  abbrev pub AreStoresOf : List D → List (Snapshots D) → Type 0
+  AreStoresOf disks stores =
+      AllZip (IsStoreOf tells may_leave reads moment left_since faults reach room label) disks stores
+
+  -- one store more
+  pub stores_pushed : (all done rest : List D) (disk : D) (stores stores' : List (Snapshots D))
+      (store : Snapshots D) → all ≡ done ++ disk ∷ rest → stores' ≡ stores ++ store ∷ []
+      → AreStoresOf done stores
+      → IsStoreOf tells may_leave reads moment left_since faults reach room label disk store
+      → (opened : List D) × (all ≡ opened ++ rest) × AreStoresOf opened stores'
+  stores_pushed all done rest disk stores stores' store is pushed are its = (
+    done ++ disk ∷ [],
+    is ∙ sym (append_assoc done (disk ∷ []) rest),
+    subst (AreStoresOf (done ++ disk ∷ [])) (sym pushed)
+        (zip_more (IsStoreOf tells may_leave reads moment left_since faults reach room label) done
+        stores disk store are its),
+  )
+
+  -- a host whose disks told their bytes, and agreed with the rows, is sound
+  pub sound_of : (host : Host D) (stories : List Story) (disks : List D)
+      → AreStoresOf disks (stores_of host) → host.stories.now ≡ stories
+      → AreAgreed tells reads stories (rows_at_opening host) disks → IsSound tells reads host
+  sound_of host stories disks stores is agreed = λ s store there.
+      let of = zip_at (IsStoreOf tells may_leave reads moment left_since faults reach room label)
+      disks (stores_of host) s store stores there in
+      let its = agreed s of.0 of.1 in (
+        subst IsTrue (sym of.2.kept.same.telling) its.0,
+        λ side area stands. subst (λ (l : List Story). Agrees l
+            (opens_of (rows_at_opening host) s)
+            (game_of (commands_of (rows_at_opening host) s)) area) (sym is)
+            (its.1 side area (sym (of.2.areas its.0 side) ∙ stands)),
+      )
