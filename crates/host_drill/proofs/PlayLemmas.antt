@@ -7,7 +7,7 @@ use Rattle.hex.specs.Hex.{encode_lower}
 use Rattle.turn_cell.specs.History.{Each}
 use Rattle.host_serve.specs.Chain.{Answers, Chain}
 use Rattle.host_serve.specs.Holders.{Holder, holders, seen_at, seens}
-use Rattle.host_serve.specs.Hosts.{AreOf}
+use Rattle.host_serve.specs.Hosts.{AreOf, IsSound}
 use Rattle.host_serve.specs.Opening.{roots}
 use Rattle.host_serve.specs.Serves.{Turn}
 use Rattle.host_serve.specs.declared.host.Host.{Host}
@@ -57,35 +57,40 @@ fine_replies [] e = tt
 fine_replies (replies.Show s n body ∷ rs) e = (refl, fine_replies rs e)
 fine_replies (replies.No why ∷ rs) e = let p = neither (is_failure why) (list_any is_failure (refusals_in rs)) e in (p.0, fine_replies rs p.1)
 
-module _ (stories : List Story) (budget : ℕ) where
+module _ (stories : List Story) (budget : ℕ) (sound : Type 0) where
   -- the shows of replies are lines of shows
-  show_lines : (old : List (List Entry)) (turns : List Turn) (new : List (List Entry)) → length old ≡ 64 → Chain stories budget roots old turns new
-      → Each HasShowLines (map (λ (t : Turn). t.reply) turns)
-  show_lines old [] new wide c = tt
-  show_lines old (t ∷ turns) new wide c = (
-    subst HasShowLines (sym (met_one stories budget old t c.0 wide c.1).said) (turn_lines stories budget 0 (seen_at old (session_on t.line)) t.line t.outcome),
-    show_lines c.0 turns new (answer_wide stories budget roots old t c.0 wide c.1) c.2,
+  show_lines : (sure : sound) (old : List (List Entry)) (turns : List Turn) (new : List (List Entry)) → length old ≡ 64
+      → Chain stories budget sound roots old turns new → Each HasShowLines (map (λ (t : Turn). t.reply) turns)
+  show_lines sure old [] new wide c = tt
+  show_lines sure old (t ∷ turns) new wide c = (
+    subst HasShowLines (sym (met_one stories budget sound sure old t c.0 wide c.1).said)
+        (turn_lines stories budget 0 (seen_at old (session_on t.line)) t.line t.outcome),
+    show_lines sure c.0 turns new (answer_wide stories budget sound roots old t c.0 wide c.1) c.2,
   )
 
   -- the mark of the first line has the length of its session's history
-  one_mark : (old : List (List Entry)) (t : Turn) (mid : List (List Entry)) (s : ℕ) → s < 64 → t.mark.session ≡ s → Answers stories budget roots old t mid
-      → t.mark.length ≡ length (seen_at old s)
+  one_mark : (old : List (List Entry)) (t : Turn) (mid : List (List Entry)) (s : ℕ) → s < 64 → t.mark.session ≡ s
+      → Answers stories budget sound roots old t mid → t.mark.length ≡ length (seen_at old s)
   one_mark old t mid s below is (inl o) =
       o.turn.length ∙ ap (λ (h : List Entry). length h) (o.turn.alone (alone_there t.mark.session o.session.0)) ∙ ap (λ (k : ℕ). length (seen_at old k)) is
   one_mark old t mid s below is (inr n) = absurd (omega (arith, below, is, n.none.0))
 
-  pub first_mark : (old : List (List Entry)) (turns : List Turn) (new : List (List Entry)) (s : ℕ) (mark : Mark) → s < 64 → Chain stories budget roots old turns new
-      → slice_get (map (λ (t : Turn). t.mark) turns) 0 ≡ Some mark → mark.session ≡ s → mark.length ≡ length (seen_at old s)
+  pub first_mark : (old : List (List Entry)) (turns : List Turn) (new : List (List Entry)) (s : ℕ) (mark : Mark) → s < 64
+      → Chain stories budget sound roots old turns new → slice_get (map (λ (t : Turn). t.mark) turns) 0 ≡ Some mark → mark.session ≡ s
+      → mark.length ≡ length (seen_at old s)
   first_mark old [] new s mark below c e is = cc
   first_mark old (t ∷ turns) new s mark below c e is =
       let same : mark ≡ t.mark = cc in
       ap (λ (m : Mark). m.length) same ∙ one_mark old t c.0 s below (ap (λ (m : Mark). m.session) (sym same) ∙ is) c.1
 
-module _ {D : Type 0} (host : Host D) (old new : Passes D) (drilled : IsDrilled host old) (bytes written : List ℕ) (marks : List Mark)
-    (a : AnswersAll host old new bytes written marks) where
+module _ {D : Type 0} (tells : D → Bool) (reads : D → List ℕ) (host : Host D) (old new : Passes D) (drilled : IsDrilled tells reads host old)
+    (bytes written : List ℕ) (marks : List Mark) (a : AnswersAll tells reads host old new bytes written marks) where
+  abbrev Sound : Type 0
+  Sound = IsSound tells reads host
+
   -- the turns of the Echo story by passes that were never split
   abbrev IsChain : List Story → ℕ → List Holder → Type 0
-  IsChain stories budget held = Chain stories budget held (seens old.desks.items) a.turns (seens new.desks.items)
+  IsChain stories budget held = Chain stories budget Sound held (seens old.desks.items) a.turns (seens new.desks.items)
 
   chain : IsChain (echo ∷ []) 50000000 roots
   chain = subst (λ (h : List Holder). IsChain (echo ∷ []) 50000000 h) drilled.alone
@@ -93,28 +98,29 @@ module _ {D : Type 0} (host : Host D) (old new : Passes D) (drilled : IsDrilled 
       (subst (λ (ss : List Story). IsChain ss host.budget (holders old.desks.items)) drilled.stories a.chain))
 
   -- the host stays the drill's
-  pub still_drilled : AreOf host new → holders new.desks.items ≡ holders old.desks.items → IsDrilled host new
+  pub still_drilled : AreOf host new → holders new.desks.items ≡ holders old.desks.items → IsDrilled tells reads host new
   still_drilled of same = record {
     of = of;
+    sound = drilled.sound;
     alone = same ∙ drilled.alone;
-    many = chain_wide (echo ∷ []) 50000000 roots (seens old.desks.items) a.turns (seens new.desks.items) drilled.many chain;
+    many = chain_wide (echo ∷ []) 50000000 Sound roots (seens old.desks.items) a.turns (seens new.desks.items) drilled.many chain;
     stories = drilled.stories;
     budget = drilled.budget;
   }
 
   module _ (number s turns : ℕ) (below : s < 64) (fits : number < 2 ^ 64) (few : turns < 2 ^ 32 - 1) (is : bytes ≡ script_bytes number s turns) where
-    on : Each (IsOn (echo ∷ []) 50000000 s below) a.turns
+    on : Each (IsOn s) a.turns
     on = each_map (λ (l : List ℕ). session_on l ≡ s) (λ (t : Turn). t.line) a.turns
         (subst (λ (ls : List (List ℕ)). Each (λ (l : List ℕ). session_on l ≡ s) ls) (sym (a.answered ∙ ap lines is)) (script_names s below number turns fits few))
 
     -- other sessions have what they had
     pub others : (k : ℕ) → k ≢ s → history_in new k ≡ history_in old k
-    others = others_all (echo ∷ []) 50000000 s below (seens old.desks.items) a.turns (seens new.desks.items) drilled.many chain on
+    others = others_all (echo ∷ []) 50000000 Sound drilled.sound s below (seens old.desks.items) a.turns (seens new.desks.items) drilled.many chain on
 
     -- the length of what was seen of the session
     pub length_told : (mark : Mark) → slice_get marks 0 ≡ Some mark → mark.session ≡ s → mark.length ≡ length (history_in old s)
     length_told mark e there =
-        first_mark (echo ∷ []) 50000000 (seens old.desks.items) a.turns (seens new.desks.items) s mark below chain
+        first_mark (echo ∷ []) 50000000 Sound (seens old.desks.items) a.turns (seens new.desks.items) s mark below chain
         (subst (λ (ms : List Mark). slice_get ms 0 ≡ Some mark) a.marked e) there
 
     module _ (tally : Tally)
@@ -125,10 +131,10 @@ module _ {D : Type 0} (host : Host D) (old new : Passes D) (drilled : IsDrilled 
 
       tallied : IsTallyOf said tally
       tallied = counts said (All-from_recursion HasShowLines said (by_recursion HasShowLines said
-          (show_lines (echo ∷ []) 50000000 (seens old.desks.items) a.turns (seens new.desks.items) drilled.many chain))) a.replies
+          (show_lines (echo ∷ []) 50000000 Sound drilled.sound (seens old.desks.items) a.turns (seens new.desks.items) drilled.many chain))) a.replies
 
-      alone : IsAlone (echo ∷ []) 50000000 s below (history_in old s) a.turns (history_in new s)
-      alone = alone_all (echo ∷ []) 50000000 s below (seens old.desks.items) a.turns (seens new.desks.items) drilled.many chain on
+      alone : IsAlone (echo ∷ []) 50000000 (history_in old s) a.turns (history_in new s)
+      alone = alone_all (echo ∷ []) 50000000 Sound drilled.sound s below (seens old.desks.items) a.turns (seens new.desks.items) drilled.many chain on
           (each_map (λ (r : Reply). is_failing r ≡ false) (λ (t : Turn). t.reply) a.turns (fine_replies said (sym tallied.failed ∙ fine)))
 
       -- a session of which nothing was seen has the replies and the history of its script alone

@@ -29,6 +29,10 @@ abbrev pub is_failing : Reply → Bool
 is_failing (replies.Show s n body) = false
 is_failing (replies.No why) = is_failure why
 
+-- the turn is one of this session
+abbrev pub IsOn : ℕ → Turn → Type 0
+IsOn s t = session_on t.line ≡ s
+
 module _ (stories : List Story) (budget : ℕ) where
   -- ---- what a turn met
 
@@ -80,32 +84,41 @@ module _ (stories : List Story) (budget : ℕ) where
 
   -- ---- in one session
 
-  module _ (s : ℕ) (below : s < 64) where
-    abbrev pub IsOn : Turn → Type 0
-    IsOn t = session_on t.line ≡ s
+  -- the session's replies and its history are those of the session alone
+  pub record IsAlone (h : List Entry) (turns : List Turn) (after : List Entry) : Type 0 where
+    pub replies : map (λ (t : Turn). t.reply) turns ≡ replies_alone stories budget h (map (λ (t : Turn). t.line) turns)
+    pub history : after ≡ history_alone stories budget h (map (λ (t : Turn). t.line) turns)
 
-    others_one : (old : Histories) (t : Turn) (new : Histories) → IsMet stories budget old t new → IsOn t → (k : ℕ) → k ≢ s → seen_at new k ≡ seen_at old k
+  record IsAloneOnce (h : List Entry) (t : Turn) (after : List Entry) : Type 0 where
+    reply : t.reply ≡ (turn_alone stories budget h t.line).reply
+    history : after ≡ (turn_alone stories budget h t.line).history
+
+  alone_more : (h : List Entry) (t : Turn) (mid : List Entry) (turns : List Turn) (after : List Entry) → IsAloneOnce h t mid → IsAlone mid turns after
+      → IsAlone h (t ∷ turns) after
+  alone_more h t mid turns after one more =
+      let lines : List (List ℕ) = map (λ (u : Turn). u.line) turns in
+      record {
+        replies = ap (λ (r : Reply). r ∷ map (λ (u : Turn). u.reply) turns) one.reply
+            ∙ ap (λ (rs : List Reply). (turn_alone stories budget h t.line).reply ∷ rs)
+            (more.replies ∙ ap (λ (g : List Entry). replies_alone stories budget g lines) one.history);
+        history = more.history ∙ ap (λ (g : List Entry). history_alone stories budget g lines) one.history;
+      }
+
+  -- where the host is sound
+  module _ (sound : Type 0) (sure : sound) (s : ℕ) (below : s < 64) where
+    others_one : (old : Histories) (t : Turn) (new : Histories) → IsMet stories budget old t new → IsOn s t → (k : ℕ) → k ≢ s → seen_at new k ≡ seen_at old k
     others_one old t new m on k other =
         ap (λ (h : Histories). seen_at h k) m.after ∙ get_or-set_other old (session_on t.line) k _ [] (λ (e : k ≡ session_on t.line). other (e ∙ on))
 
     -- other sessions have what they had
-    pub others_all : (old : Histories) (turns : List Turn) (new : Histories) → length old ≡ 64 → Chain stories budget roots old turns new → Each IsOn turns
-        → (k : ℕ) → k ≢ s → seen_at new k ≡ seen_at old k
+    pub others_all : (old : Histories) (turns : List Turn) (new : Histories) → length old ≡ 64 → Chain stories budget sound roots old turns new
+        → Each (IsOn s) turns → (k : ℕ) → k ≢ s → seen_at new k ≡ seen_at old k
     others_all old [] new wide c on k other = ap (λ (h : Histories). seen_at h k) c
     others_all old (t ∷ turns) new wide c on k other =
-        others_all c.0 turns new (answer_wide stories budget roots old t c.0 wide c.1) c.2 on.1 k other
-        ∙ others_one old t c.0 (met_one stories budget old t c.0 wide c.1) on.0 k other
+        others_all c.0 turns new (answer_wide stories budget sound roots old t c.0 wide c.1) c.2 on.1 k other
+        ∙ others_one old t c.0 (met_one stories budget sound sure old t c.0 wide c.1) on.0 k other
 
-    -- the session's replies and its history are those of the session alone
-    pub record IsAlone (h : List Entry) (turns : List Turn) (after : List Entry) : Type 0 where
-      pub replies : map (λ (t : Turn). t.reply) turns ≡ replies_alone stories budget h (map (λ (t : Turn). t.line) turns)
-      pub history : after ≡ history_alone stories budget h (map (λ (t : Turn). t.line) turns)
-
-    record IsAloneOnce (h : List Entry) (t : Turn) (after : List Entry) : Type 0 where
-      reply : t.reply ≡ (turn_alone stories budget h t.line).reply
-      history : after ≡ (turn_alone stories budget h t.line).history
-
-    alone_one : (old : Histories) (t : Turn) (new : Histories) → length old ≡ 64 → IsMet stories budget old t new → IsOn t → is_failing t.reply ≡ false
+    alone_one : (old : Histories) (t : Turn) (new : Histories) → length old ≡ 64 → IsMet stories budget old t new → IsOn s t → is_failing t.reply ≡ false
         → IsAloneOnce (seen_at old s) t (seen_at new s)
     alone_one old t new wide m on fine =
         let there : seen_at old (session_on t.line) ≡ seen_at old s = ap (λ (k : ℕ). seen_at old k) on in
@@ -124,21 +137,10 @@ module _ (stories : List Story) (budget : ℕ) where
               ∙ ap (λ u. u.history) turned;
         }
 
-    alone_more : (h : List Entry) (t : Turn) (mid : List Entry) (turns : List Turn) (after : List Entry) → IsAloneOnce h t mid → IsAlone mid turns after
-        → IsAlone h (t ∷ turns) after
-    alone_more h t mid turns after one more =
-        let lines : List (List ℕ) = map (λ (u : Turn). u.line) turns in
-        record {
-          replies = ap (λ (r : Reply). r ∷ map (λ (u : Turn). u.reply) turns) one.reply
-              ∙ ap (λ (rs : List Reply). (turn_alone stories budget h t.line).reply ∷ rs)
-              (more.replies ∙ ap (λ (g : List Entry). replies_alone stories budget g lines) one.history);
-          history = more.history ∙ ap (λ (g : List Entry). history_alone stories budget g lines) one.history;
-        }
-
-    pub alone_all : (old : Histories) (turns : List Turn) (new : Histories) → length old ≡ 64 → Chain stories budget roots old turns new → Each IsOn turns
-        → Each (λ (t : Turn). is_failing t.reply ≡ false) turns → IsAlone (seen_at old s) turns (seen_at new s)
+    pub alone_all : (old : Histories) (turns : List Turn) (new : Histories) → length old ≡ 64 → Chain stories budget sound roots old turns new
+        → Each (IsOn s) turns → Each (λ (t : Turn). is_failing t.reply ≡ false) turns → IsAlone (seen_at old s) turns (seen_at new s)
     alone_all old [] new wide c on fine = record { replies = refl; history = ap (λ (h : Histories). seen_at h s) c }
     alone_all old (t ∷ turns) new wide c on fine =
         alone_more (seen_at old s) t (seen_at c.0 s) turns (seen_at new s)
-        (alone_one old t c.0 wide (met_one stories budget old t c.0 wide c.1) on.0 fine.0)
-        (alone_all c.0 turns new (answer_wide stories budget roots old t c.0 wide c.1) c.2 on.1 fine.1)
+        (alone_one old t c.0 wide (met_one stories budget sound sure old t c.0 wide c.1) on.0 fine.0)
+        (alone_all c.0 turns new (answer_wide stories budget sound roots old t c.0 wide c.1) c.2 on.1 fine.1)

@@ -1,8 +1,9 @@
 -- The host of a drill, and what the lines of its links were answered (own).
-use Rattle.std.specs.Prelude.{◌≡◌, ◌≢◌, ℕ, ◌≤◌, List, [], ◌∷◌, length, map}
+use Rattle.std.specs.Prelude.{◌≡◌, ◌≢◌, ℕ, ◌≤◌, List, [], ◌∷◌, length, map, Bool, IsTrue}
+use Rattle.turn_cell.specs.History.{Each}
 use Rattle.host_serve.specs.Chain.{Chain}
 use Rattle.host_serve.specs.Holders.{holders, seen_at, seens}
-use Rattle.host_serve.specs.Hosts.{AreOf}
+use Rattle.host_serve.specs.Hosts.{AreOf, IsSound}
 use Rattle.host_serve.specs.Opening.{roots}
 use Rattle.host_serve.specs.Serves.{Turn}
 use Rattle.host_serve.specs.declared.host.Host.{Host}
@@ -16,30 +17,20 @@ use Rattle.reply_tally.specs.Refusals.{refusals_in}
 use Rattle.sha2.specs.Sha256.{sha256}
 use Rattle.host_drill.specs.Drill.{echo, history_of, replies_of}
 
-module _ {D : Type 0} where
-  -- the passes are the host's, and were never split; it has the Echo story alone
+module _ {D : Type 0} (tells : D → Bool) (reads : D → List ℕ) where
+  -- there is a disk for each session, and all of them are empty
+  pub record AreEmpty (disks : List D) : Type 0 where
+    pub many : length disks ≡ 64
+    pub each : Each (λ (d : D). IsTrue (tells d) × (reads d ≡ [])) disks
+
+  -- the passes are the host's, and were never split; it has the Echo story alone, and is sound
   pub record IsDrilled (host : Host D) (passes : Passes D) : Type 0 where
     pub of : AreOf host passes
+    pub sound : IsSound tells reads host
     pub alone : holders passes.desks.items ≡ roots
     pub many : length (seens passes.desks.items) ≡ 64
     pub stories : host.stories.now ≡ echo ∷ []
     pub budget : host.budget ≡ 50000000
-
-  -- what the pass of a session has seen
-  abbrev pub history_in : Passes D → ℕ → List Entry
-  history_in passes s = seen_at (seens passes.desks.items) s
-
-  -- nothing was seen yet of the sessions from this number on
-  abbrev pub AreFreshFrom : ℕ → Passes D → Type 0
-  AreFreshFrom s passes = (k : ℕ) → s ≤ k → history_in passes k ≡ []
-
-  -- a session was played by its script: how many of the replies are refusals, the digest of all, and
-  -- what was seen
-  pub record IsPlayed (old new : Passes D) (number s count : ℕ) (sum : List ℕ) : Type 0 where
-    pub refused : count ≡ length (refusals_in (replies_of number s))
-    pub digest : sum ≡ sha256 (joined (map print_reply (replies_of number s)))
-    pub history : history_in new s ≡ history_of number s
-    pub others : (k : ℕ) → k ≢ s → history_in new k ≡ history_in old k
 
   -- all lines of a link were answered: their turns one after the other, the replies as they were
   -- written, and the marks
@@ -50,5 +41,22 @@ module _ {D : Type 0} where
     pub replies : written ≡ joined (map print_reply (map (λ (t : Turn). t.reply) turns))
     pub marked : marks ≡ map (λ (t : Turn). t.mark) turns
     pub chain :
-        Chain host.stories.now host.budget (holders old.desks.items)
-        (seens old.desks.items) turns (seens new.desks.items)
+        Chain host.stories.now host.budget (IsSound tells reads host)
+        (holders old.desks.items) (seens old.desks.items) turns (seens new.desks.items)
+
+module _ {D : Type 0} where
+  -- what the pass of a session has seen
+  abbrev pub history_in : Passes D → ℕ → List Entry
+  history_in passes s = seen_at (seens passes.desks.items) s
+
+  -- nothing was seen yet of the sessions from this number on
+  abbrev pub AreFreshFrom : ℕ → Passes D → Type 0
+  AreFreshFrom s passes = (k : ℕ) → s ≤ k → history_in passes k ≡ []
+
+  -- a session was played by its script: how many of the replies are refusals, the digest of all,
+  -- and what was seen
+  pub record IsPlayed (old new : Passes D) (number s count : ℕ) (sum : List ℕ) : Type 0 where
+    pub refused : count ≡ length (refusals_in (replies_of number s))
+    pub digest : sum ≡ sha256 (joined (map print_reply (replies_of number s)))
+    pub history : history_in new s ≡ history_of number s
+    pub others : (k : ℕ) → k ≢ s → history_in new k ≡ history_in old k

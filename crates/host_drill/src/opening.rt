@@ -1,7 +1,9 @@
 //! The host of a drill.
-ghost use Rattle.std.specs.Prelude.{◌≡◌, [], ◌∷◌, IfOk, IsTrue};
+ghost use Rattle.std.specs.Prelude.{◌≡◌, [], ◌∷◌, IfOk, IsTrue, length};
+ghost use Rattle.turn_cell.specs.History.{Each};
+ghost use Rattle.disk_model.specs.Memory.{state_in};
 ghost use Rattle.host_drill.specs.Drill.{echo};
-ghost use Rattle.host_drill.specs.Drilled.{AreFreshFrom, IsDrilled};
+ghost use Rattle.host_drill.specs.Drilled.{AreEmpty, AreFreshFrom, IsDrilled};
 
 use disk_model::{Disk, MemDisk};
 use gate_journal::init;
@@ -12,34 +14,41 @@ use story_run::Story;
 /// The ticks of a turn.
 const BUDGET: u64 = 50_000_000;
 
-/// A host over a new journal on this disk. An error where memory ran out, or the disk failed.
-fn open_over<'i, D: Disk + Drop>(
+/// How many sessions a host has.
+const SESSIONS: u8 = 64;
+
+/// The disks of the sessions' snapshots, in memory. They are empty and without a header, so nothing
+/// is put into them.
+pub fn empty_disks(alloc: Global) -> Result<Vec<MemDisk>, AllocError>
+    ensures many { IfOk result (λ disks. length disks.items ≡ 64) }
+    ensures empty { IfOk result (λ disks. Each (λ d. (state_in d).seen ≡ []) disks.items) }
+{
+    let mut disks = Vec::new(alloc);
+    for _ in 0..SESSIONS {
+        disks.push(MemDisk::new(alloc))?;
+    }
+    Ok(disks)
+}
+
+/// A host over a new journal on this disk, with these disks for snapshots. An error where memory
+/// ran out, or a disk failed.
+pub fn open_host<'i, D: Disk + Drop>(
     alloc: Global,
     stories: &'i [Story<'i>],
-    mut disk: D,
+    mut journal: D,
+    snaps: Vec<D>,
 ) -> Result<(Host<'i, D>, Passes<'i, D>), AllocError>
-    requires tells { IsTrue (D.tells disk) }
+    requires tells { IsTrue (D.tells journal) }
+    requires empty { AreEmpty D.tells D.seen snaps.items }
     requires stories { stories.now ≡ echo ∷ [] }
-    ensures drilled { IfOk result (λ pair. IsDrilled pair.0 pair.1) }
+    ensures drilled { IfOk result (λ pair. IsDrilled D.tells D.seen pair.0 pair.1) }
     ensures fresh { IfOk result (λ pair. AreFreshFrom 0 pair.1) }
 {
-    let Ok(()) = init(&mut disk) else {
+    let Ok(()) = init(&mut journal) else {
         return Err(AllocError);
     };
-    match Host::open(alloc, stories, disk, BUDGET) {
+    match Host::open(alloc, stories, journal, snaps, BUDGET) {
         Ok(opened) => Ok(opened),
         Err(_) => Err(AllocError),
     }
-}
-
-/// A host over a new journal in memory. An error where memory ran out.
-pub fn open_host<'i>(
-    alloc: Global,
-    stories: &'i [Story<'i>],
-) -> Result<(Host<'i, MemDisk>, Passes<'i, MemDisk>), AllocError>
-    requires stories { stories.now ≡ echo ∷ [] }
-    ensures drilled { IfOk result (λ pair. IsDrilled pair.0 pair.1) }
-    ensures fresh { IfOk result (λ pair. AreFreshFrom 0 pair.1) }
-{
-    open_over(alloc, stories, MemDisk::new(alloc))
 }

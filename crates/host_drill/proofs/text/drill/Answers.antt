@@ -1,31 +1,11 @@
-use Rattle.std.proofs.Common.{◌≡◌, List, ℕ, ◌++◌, ◌∙◌, ap, arith, codes, sym}
-use Rattle.std.specs.List.{flat_map, range_with_len}
-use Rattle.host_drill.specs.Drill.{drill_text, session_line}
-use Rattle.host_drill.proofs.PlayLemmas.{text_more}
+use Rattle.std.proofs.Common.{◌≡◌, []}
+use Rattle.disk_model.specs.Memory.{state_in}
+use Rattle.disk_model.specs.declared.memory.MemDisk.{MemDisk}
+use Rattle.host_drill.proofs.OpenLemmas.{each_told}
 use Rattle.host_drill.proofs.text.drill.Goals as goal
 
-pub loop-session-init : goal.loop-session-init
-loop-session-init g c = record {
-  told = c.new-text.ensures.items;
-  fresh = c.in_ok-host.ensures.fresh;
-  drilled = c.in_ok-host.ensures.drilled;
+pub drill_over-requires-clause-empty : goal.drill_over-requires-clause-empty
+drill_over-requires-clause-empty c opened = record {
+  many = opened.in_ok-snaps.ensures.many;
+  each = each_told (λ (d : MemDisk). (state_in d).seen ≡ []) _ opened.in_ok-snaps.ensures.empty;
 }
-
-pub loop-session-preserved : goal.loop-session-preserved
-loop-session-preserved g c =
-    record {
-      told = c.in_ok-add_session.ensures.told ∙ ap (λ (text : List ℕ). text ++ session_line c.args.number c.loop-session.session) c.loop-session.invariant.told
-          ∙ sym (text_more (session_line c.args.number) c.loop-session.session);
-      fresh = c.in_ok-add_session.ensures.fresh;
-      drilled = c.in_ok-add_session.ensures.kept;
-    }
-
-pub returns : goal.returns
-unfolding drill_text
-returns g c =
-    let all : c.loop-session.session ≡ 8 = omega (arith, c.loop-session-test.false, c.loop-session.auto.session-end) in
-    record {
-      value = c.in_ok-extend_from_slice.ensures.items
-          ∙ ap (λ (text : List ℕ). text ++ codes "done\n")
-          (c.loop-session.invariant.told ∙ ap (λ (n : ℕ). flat_map (session_line c.args.number) (range_with_len 0 n)) all);
-    }
