@@ -28,7 +28,7 @@ Usage: storyhost COMMAND
 Commands:
   run FILE [--budget N]            play one story over standard input and output
   check FILE                       tell what the header of a story says
-  init DIR                         begin the journal of a folder
+  init DIR                         begin the files of a folder
   pipe DIR STORY.. [--budget N]    serve up to 64 sessions over one connection
   serve DIR PORT WORKERS STORY.. [--budget N] [--links K]
                                    serve them over TCP, on this machine alone
@@ -96,14 +96,15 @@ For a file that is refused, with exit status 3:
 
 /// What `init` does.
 pub const INIT_HELP: &str = "\
-Begins the journal of a folder, which is made where it is missing.
+Begins the journal and the snapshot files of a folder, which is made where it
+is missing.
 
 Usage: storyhost init DIR
 
   DIR           the folder
 
 Writes `ready`. A folder that has a journal is refused with exit status 8, and
-the line `not empty`; nothing in it is changed.
+the line `not empty`; no file of it is changed.
 ";
 
 /// What `pipe` does.
@@ -112,7 +113,8 @@ Serves up to 64 sessions over standard input and output.
 
 Usage: storyhost pipe DIR STORY.. [--budget N]
 
-  DIR           a folder that `init` made; its journal keeps every move
+  DIR           a folder that `init` made; its journal keeps every move, and its
+                snapshots spare playing all of them again after a start
   STORY..       1 to 64 story files, numbered from 0
   --budget N    the most ticks of a turn, 1 to 1000000000000; else 50000000
 
@@ -134,7 +136,8 @@ Serves up to 64 sessions over TCP, on this machine alone.
 
 Usage: storyhost serve DIR PORT WORKERS STORY.. [--budget N] [--links K]
 
-  DIR           a folder that `init` made; its journal keeps every move
+  DIR           a folder that `init` made; its journal keeps every move, and its
+                snapshots spare playing all of them again after a start
   PORT          0 to 65535; for 0 a free one is taken, and standard error says
                 which
   WORKERS       1 to 16, the most links that are served at one time

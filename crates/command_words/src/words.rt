@@ -41,7 +41,7 @@ pub enum Action {
     Run,
     /// Tells what the header of one story says.
     Check,
-    /// Begins the journal of a folder.
+    /// Begins the files of a folder.
     Init,
     /// Answers the numbered requests of one connection, from the journal of a folder.
     Pipe,

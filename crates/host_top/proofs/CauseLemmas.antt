@@ -1,24 +1,31 @@
 -- The status of a disk that failed.
-use Rattle.std.proofs.Common.{◌≡◌, ℕ, Bool, inl, inr, List, [], refl, sym, subst, arith, Some, Result, Ok, Err}
+use Rattle.std.proofs.Common.{◌≡◌, ◌∙◌, ℕ, zero, suc, Bool, inl, inr, List, [], ◌∷◌, length, slice_get, refl, sym, subst, arith, Some, Result, Ok, Err}
 use Rattle.gate_journal.specs.Faults.{HasCause, HasInitCause}
 use Rattle.gate_journal.specs.declared.fault.InitFault.{InitFault}
 use Rattle.gate_journal.specs.declared.fault.InitFault.TheVariants as begin
 use Rattle.gate_journal.specs.declared.fault.JournalFault.{JournalFault}
 use Rattle.gate_journal.specs.declared.fault.JournalFault.TheVariants as fault
 use Rattle.story_run.specs.declared.story.Story.{Story}
-use Rattle.host_top.specs.Begun.{InitsOver, SaysRefusal}
+use Rattle.host_top.specs.Begun.{InitsOn, SaysRefusal}
+use Rattle.host_top.specs.Borrowed.{CountsFaults, HasFailed, NotLent, journal_in, lent_as, snaps_below}
+use Rattle.host_top.specs.Folder.{Takes, back_at, folder_back}
+use Rattle.host_top.specs.declared.folder.Back.{Back}
+use Rattle.host_top.specs.declared.folder.Back.TheVariants as back
 use Rattle.line_talk.specs.Causes.{Rose}
 use Rattle.host_top.specs.DiskWords.{DiskWords}
 use Rattle.host_top.specs.Files.{OutsideState}
 use Rattle.host_top.specs.Follows.{Does, Follows}
-use Rattle.host_top.specs.LinksServed.{ServesOver}
-use Rattle.host_top.specs.Piped.{PipesOver}
+use Rattle.host_top.specs.LinksServed.{LinksServed, ServesOver}
+use Rattle.host_top.specs.Piped.{HostedOver, PipesOver}
 use Rattle.host_top.specs.Said.{SaysFault, SaysLine}
 use Rattle.host_top.specs.Speech.{Task, Says, Serves, ServesLinks, Begins}
 use Rattle.host_top.specs.Status.{status_of, status_of_served, status_of_stop}
 use Rattle.line_talk.specs.Streams.{SourceState, SinkState, Wrote}
 use Rattle.command_words.specs.Words.{Asked}
 use Rattle.host_top.proofs.LinksLemmas.{fault_no_door}
+use Rattle.host_top.proofs.LendingLemmas.{same_item}
+use Rattle.host_top.proofs.NameLemmas.{snaps_many}
+use Rattle.turn_cell.specs.History.{Each}
 use Rattle.host_serve.specs.declared.served.Served.{Served}
 use Rattle.host_serve.specs.declared.served.Served.TheVariants as served
 use Rattle.line_talk.specs.declared.sink.Stop.{Stop}
@@ -52,59 +59,80 @@ opening_failed (fault.Corrupt place) before now output new cause says = no_line 
 opening_failed (fault.DiskFault counts) before now output new cause says = (cause.rose, says.1)
 opening_failed fault.NoMemory before now output new cause says = absurd (grind (arith, says.0))
 
-pipe_failed : {D : Type 0} (disks : DiskWords D) {stories : List Story} {budget : ℕ} {given back : D} {input now : SourceState} (output new : SinkState)
-    → PipesOver disks stories budget given back input now output new DiskFault → Failed (disks.faults given) (disks.faults back) output new
-pipe_failed disks output new (inl (how, is, c)) = no_end how _ is
-pipe_failed disks {given = given} {back = back} output new (inr n) = opening_failed n.fault (disks.faults given) (disks.faults back) output new n.cause n.says
+-- a store's disk rose among those of all
+rose_at : {D : Type 0} (disks : DiskWords D) (P : Type 0) (ns : List (List ℕ)) (gs : List D) (s : ℕ) (g d : D) → length gs ≡ length ns → slice_get gs s ≡ Some g
+    → Each (λ l. HasFailed disks l → P) (back_at s d (lent_as ns gs)) → Rose (disks.faults g) (disks.faults d) → P
+rose_at disks P ns [] s g d many there each rose = absurd (grind (arith, there))
+rose_at disks P [] (h ∷ gs) s g d many there each rose = absurd (omega (arith, many))
+rose_at {D} disks P (n ∷ ns) (h ∷ gs) zero g d many there each rose = each.0 (subst (λ (x : D). Rose (disks.faults x) (disks.faults d)) (sym (same_item h g there)) rose)
+rose_at disks P (n ∷ ns) (h ∷ gs) (suc s) g d many there each rose = rose_at disks P ns gs s g d (omega (arith, many)) there each.1 rose
 
-links_failed : {D : Type 0} (disks : DiskWords D) {given back : D} {input now : SourceState} (output new : SinkState)
-    → ServesOver disks given back input now output new DiskFault → Failed (disks.faults given) (disks.faults back) output new
-links_failed disks output new (inl served) = elim served.how [
+-- where a host isn't opened, since a disk failed
+hosted_failed : {D : Type 0} (disks : DiskWords D) (Hosts : D → List D → Type 0) (folder : List ℕ) (given : D) (givens : List D) (b : Back D) (outside beyond : OutsideState D)
+    (input now : SourceState) (output new : SinkState) → length givens ≡ 64 → CountsFaults disks outside beyond (folder_back (journal_in folder) (snaps_below folder 64) given givens b)
+    → ((journal : D) (snaps : List D) → Hosts journal snaps → Failed outside.disk_faults beyond.disk_faults output new)
+    → HostedOver Hosts disks given givens b input now output new DiskFault → Failed outside.disk_faults beyond.disk_faults output new
+hosted_failed disks Hosts folder given givens (back.All journal snaps) outside beyond input now output new many counts f hosts = f journal snaps.items hosts
+hosted_failed disks Hosts folder given givens (back.Journal journal) outside beyond input now output new many counts f n =
+    let failed = opening_failed n.fault (disks.faults given) (disks.faults journal) output new n.cause n.says in (counts.rose.0 failed.0, failed.1)
+hosted_failed disks Hosts folder given givens (back.Snap session snap) outside beyond input now output new many counts f s =
+    (rose_at disks _ (snaps_below folder 64) givens session s.given snap (many ∙ sym (snaps_many folder 64)) s.stands counts.rose.1 s.rose, s.wrote)
+hosted_failed disks Hosts folder given givens back.Nothing outside beyond input now output new many counts f l = absurd (grind (arith, l.wanted))
+
+pipe_failed : {D : Type 0} (disks : DiskWords D) {stories : List Story} {budget : ℕ} (folder : List ℕ) (outside beyond : OutsideState D) {input now : SourceState} (output new : SinkState)
+    → Takes disks folder (λ given givens b. PipesOver disks stories budget given givens b input now output new DiskFault) outside beyond → Failed outside.disk_faults beyond.disk_faults output new
+pipe_failed disks {stories} {budget} folder outside beyond {input} {now} output new t =
+    hosted_failed disks _ folder t.given t.givens t.back outside beyond input now output new t.many t.counts (λ journal snaps hosts. no_end hosts.0 _ hosts.1) t.done
+
+no_links : {D : Type 0} (disks : DiskWords D) {stories : List Story} {given back : D} {givens backs : List D} {input now : SourceState} {output new : SinkState} (A : Type 0)
+    → LinksServed disks stories given givens back backs input now output new DiskFault → A
+no_links disks A served = elim served.how [
   | inl done ↦ absurd (grind (arith, done))
   | inr (inl door) ↦ absurd (grind (arith, door))
   | inr (inr wanted) ↦ absurd (grind (arith, wanted))
 ]
-links_failed disks {given = given} {back = back} output new (inr n) = opening_failed n.fault (disks.faults given) (disks.faults back) output new n.cause n.says
+
+links_failed : {D : Type 0} (disks : DiskWords D) {stories : List Story} (folder : List ℕ) (outside beyond : OutsideState D) {input now : SourceState} (output new : SinkState)
+    → Takes disks folder (λ given givens b. ServesOver disks stories given givens b input now output new DiskFault) outside beyond → Failed outside.disk_faults beyond.disk_faults output new
+links_failed disks {stories} folder outside beyond {input} {now} output new t =
+    hosted_failed disks _ folder t.given t.givens t.back outside beyond input now output new t.many t.counts (λ journal snaps hosts. no_links disks _ hosts) t.done
 
 refusal_failed : (why : InitFault) (tells : Bool) (seen : List ℕ) (before now : ℕ) (output new : SinkState) → HasInitCause tells seen before now why → SaysRefusal why output new DiskFault
     → Failed before now output new
 refusal_failed begin.NotEmpty tells seen before now output new cause says = no_line _ (λ e. absurd (grind (arith, e))) says
 refusal_failed (begin.DiskFault counts) tells seen before now output new cause says = (cause.rose, says.1)
 
-init_failed : {D : Type 0} (disks : DiskWords D) (given back : D) {input now : SourceState} (output new : SinkState)
-    → InitsOver disks given back input now output new DiskFault → Failed (disks.faults given) (disks.faults back) output new
-init_failed disks given back output new i = elim i.does [
-  | inl b ↦ no_line _ (λ e. absurd (grind (arith, e))) b.says
-  | inr n ↦ refusal_failed n.fault (disks.tells given) (disks.seen given) (disks.faults given) (disks.faults back) output new n.cause n.says
+not_lent_failed : {D : Type 0} (disks : DiskWords D) (names : List (List ℕ)) (outside beyond : OutsideState D) {input now : SourceState} (output new : SinkState)
+    → NotLent disks names outside beyond input now output new DiskFault → Failed outside.disk_faults beyond.disk_faults output new
+not_lent_failed disks names outside beyond output new none = elim none.cause [
+  | inl failed ↦ (failed.1, none.wrote)
+  | inr wanted ↦ absurd (grind (arith, wanted))
+]
+
+init_failed : {D : Type 0} (disks : DiskWords D) (folder : List ℕ) (outside beyond : OutsideState D) {input now : SourceState} (output new : SinkState)
+    → InitsOn disks folder outside beyond input now output new DiskFault → Failed outside.disk_faults beyond.disk_faults output new
+init_failed disks folder outside beyond output new (inl none) = not_lent_failed disks (journal_in folder ∷ []) outside beyond output new none
+init_failed disks folder outside beyond output new (inr i) = elim i.inits.does [
+  | inl done ↦ elim done.1 [
+    | inl b ↦ no_line _ (λ e. absurd (grind (arith, e))) b.0.says
+    | inr n ↦ let failed = refusal_failed n.0.fault (disks.tells i.given) (disks.seen i.given) (disks.faults i.given) (disks.faults i.back) output new n.0.cause n.0.says in
+        (done.0.rose.0 failed.0, failed.1)
+  ]
+  | inr u ↦ elim u.cause [
+    | inl failed ↦ (failed.1, u.wrote)
+    | inr wanted ↦ absurd (grind (arith, wanted))
+  ]
 ]
 
 does_failed : {D : Type 0} (disks : DiskWords D) (task : Result Task (List ℕ)) (outside beyond : OutsideState D) (input now : SourceState) (output new : SinkState)
     → Does disks task outside beyond input now output new DiskFault → Failed outside.disk_faults beyond.disk_faults output new
 does_failed disks (Err line) outside beyond input now output new does = absurd does.0.leaves
 does_failed disks (Ok (Says speech)) outside beyond input now output new does = absurd does.0.leaves
-does_failed disks (Ok (Serves stories budget folder)) outside beyond input now output new (inl (inl none)) = elim none.cause [
-  | inl failed ↦ (failed.1, none.wrote)
-  | inr wanted ↦ absurd (grind (arith, wanted))
-]
-does_failed disks (Ok (Serves stories budget folder)) outside beyond input now output new (inl (inr b)) =
-    let failed = pipe_failed disks output new b.done in
-    (b.count.rose failed.0, failed.1)
-does_failed disks (Ok (Serves stories budget folder)) outside beyond input now output new (inr gone) = absurd (grind (arith, gone.wanted))
-does_failed disks (Ok (ServesLinks folder)) outside beyond input now output new (inl (inl none), doors) = elim none.cause [
-  | inl failed ↦ (failed.1, none.wrote)
-  | inr wanted ↦ absurd (grind (arith, wanted))
-]
-does_failed disks (Ok (ServesLinks folder)) outside beyond input now output new (inl (inr b), doors) =
-    let failed = links_failed disks output new b.done in
-    (b.count.rose failed.0, failed.1)
-does_failed disks (Ok (ServesLinks folder)) outside beyond input now output new (inr gone, doors) = absurd (grind (arith, gone.wanted))
-does_failed disks (Ok (Begins folder)) outside beyond input now output new (inl none) = elim none.cause [
-  | inl failed ↦ (failed.1, none.wrote)
-  | inr wanted ↦ absurd (grind (arith, wanted))
-]
-does_failed disks (Ok (Begins folder)) outside beyond input now output new (inr b) =
-    let failed = init_failed disks b.given b.back output new b.done in
-    (b.count.rose failed.0, failed.1)
+does_failed disks (Ok (Serves stories budget folder)) outside beyond input now output new (inl none) = not_lent_failed disks _ outside beyond output new none
+does_failed disks (Ok (Serves stories budget folder)) outside beyond input now output new (inr t) = pipe_failed disks folder outside beyond output new t
+does_failed disks (Ok (ServesLinks stories folder)) outside beyond input now output new (inl none, doors) = not_lent_failed disks _ outside beyond output new none
+does_failed disks (Ok (ServesLinks stories folder)) outside beyond input now output new (inr t, doors) = links_failed disks folder outside beyond output new t
+does_failed disks (Ok (Begins folder)) outside beyond input now output new does = init_failed disks folder outside beyond output new does
 
 disk_failed : {D : Type 0} (disks : DiskWords D) (asked : Asked) (outside beyond : OutsideState D) (input now : SourceState) (output new : SinkState)
     → Follows disks asked DiskFault outside beyond input now output new → Failed outside.disk_faults beyond.disk_faults output new
@@ -148,27 +176,38 @@ unrefused : (why : InitFault) (output new : SinkState) (A : Type 0) → SaysRefu
 unrefused begin.NotEmpty output new A says = unsaid A (λ e. absurd (grind (arith, e))) says
 unrefused (begin.DiskFault counts) output new A says = absurd (grind (arith, says.0))
 
+not_lent_door : {D : Type 0} (disks : DiskWords D) (names : List (List ℕ)) (outside beyond : OutsideState D) {input now : SourceState} {output new : SinkState} (A : Type 0)
+    → NotLent disks names outside beyond input now output new DoorFault → A
+not_lent_door disks names outside beyond A none = elim none.cause [
+  | inl failed ↦ absurd (grind (arith, failed.0))
+  | inr wanted ↦ absurd (grind (arith, wanted))
+]
+
+hosted_door : {D : Type 0} (disks : DiskWords D) (Hosts : D → List D → Type 0) (given : D) (givens : List D) (b : Back D) (input now : SourceState) (output new : SinkState) (A : Type 0)
+    → ((journal : D) (snaps : List D) → Hosts journal snaps → A) → HostedOver Hosts disks given givens b input now output new DoorFault → A
+hosted_door disks Hosts given givens (back.All journal snaps) input now output new A f hosts = f journal snaps.items hosts
+hosted_door disks Hosts given givens (back.Journal journal) input now output new A f n = absurd (fault_no_door n.fault output new DoorFault n.says refl)
+hosted_door disks Hosts given givens (back.Snap session snap) input now output new A f s = absurd (grind (arith, s.failed))
+hosted_door disks Hosts given givens back.Nothing input now output new A f l = absurd (grind (arith, l.wanted))
+
 door_in : {D : Type 0} (disks : DiskWords D) (task : Result Task (List ℕ)) (outside beyond : OutsideState D) (input now : SourceState) (output new : SinkState)
     → Does disks task outside beyond input now output new DoorFault → Rose outside.door_faults beyond.door_faults
 door_in disks (Err line) outside beyond input now output new does = absurd does.0.leaves
 door_in disks (Ok (Says speech)) outside beyond input now output new does = absurd does.0.leaves
-door_in disks (Ok (Serves stories budget folder)) outside beyond input now output new (inl (inl none)) = elim none.cause [
-  | inl failed ↦ absurd (grind (arith, failed.0))
-  | inr wanted ↦ absurd (grind (arith, wanted))
-]
-door_in disks (Ok (Serves stories budget folder)) outside beyond input now output new (inl (inr b)) = elim b.done [
-  | inl (how, is, c) ↦ no_served how _ is
-  | inr n ↦ absurd (fault_no_door n.fault output new DoorFault n.says refl)
-]
-door_in disks (Ok (Serves stories budget folder)) outside beyond input now output new (inr gone) = absurd (grind (arith, gone.wanted))
-door_in disks (Ok (ServesLinks folder)) outside beyond input now output new does = does.1.fault refl
-door_in disks (Ok (Begins folder)) outside beyond input now output new (inl none) = elim none.cause [
-  | inl failed ↦ absurd (grind (arith, failed.0))
-  | inr wanted ↦ absurd (grind (arith, wanted))
-]
-door_in disks (Ok (Begins folder)) outside beyond input now output new (inr b) = elim b.done.does [
-  | inl begun ↦ unsaid _ (λ e. absurd (grind (arith, e))) begun.says
-  | inr n ↦ unrefused n.fault output new _ n.says
+door_in disks (Ok (Serves stories budget folder)) outside beyond input now output new (inl none) = not_lent_door disks _ outside beyond _ none
+door_in disks (Ok (Serves stories budget folder)) outside beyond input now output new (inr t) =
+    hosted_door disks _ t.given t.givens t.back input now output new _ (λ journal snaps hosts. no_served hosts.0 _ hosts.1) t.done
+door_in disks (Ok (ServesLinks stories folder)) outside beyond input now output new does = does.1.fault refl
+door_in disks (Ok (Begins folder)) outside beyond input now output new (inl none) = not_lent_door disks _ outside beyond _ none
+door_in disks (Ok (Begins folder)) outside beyond input now output new (inr i) = elim i.inits.does [
+  | inl done ↦ elim done.1 [
+    | inl b ↦ unsaid _ (λ e. absurd (grind (arith, e))) b.0.says
+    | inr n ↦ unrefused n.0.fault output new _ n.0.says
+  ]
+  | inr u ↦ elim u.cause [
+    | inl failed ↦ absurd (grind (arith, failed.0))
+    | inr wanted ↦ absurd (grind (arith, wanted))
+  ]
 ]
 
 door_failed : {D : Type 0} (disks : DiskWords D) (asked : Asked) (outside beyond : OutsideState D) (input now : SourceState) (output new : SinkState)

@@ -1,5 +1,5 @@
 -- What `pipe` leaves of its disk, its input and its output, from what its host says as it is opened, serves and ends.
-use Rattle.std.proofs.Common.{◌≡◌, ◌⊎◌, ℕ, ◌+◌, ◌<◌, ◌≤◌, max, List, ◌++◌, length, map, take, sym, ap, ◌∙◌, subst, Bool, IsTrue, Some}
+use Rattle.std.proofs.Common.{◌≡◌, ◌⊎◌, ℕ, ◌+◌, ◌<◌, ◌≤◌, max, List, [], ◌∷◌, ◌++◌, length, map, take, sym, ap, ◌∙◌, subst, Bool, IsTrue, Some, arith, refl}
 use Rattle.std.proofs.lemmas.List.{length-map}
 use Rattle.std.proofs.Math.Seq.{take-append_seam}
 use Rattle.disk_model.specs.Disk.{EachImage, LeavesOnly, SameDisk}
@@ -10,17 +10,16 @@ use Rattle.gate_journal.specs.Rows.{SpellsRows, IsJournal, spelled}
 use Rattle.gate_journal.specs.declared.entry.Entry.{Entry as JournalEntry}
 use Rattle.gate_journal.specs.declared.row.Row.{Row}
 use Rattle.host_serve.specs.Chain.{Chain}
-use Rattle.host_serve.specs.Ending.{EndsWith}
+use Rattle.host_serve.specs.Ending.{AreAgreedDisks, EndsWith, GivesBack}
+use Rattle.host_serve.specs.Hosts.{IsSound, rows_at_opening, stores_of}
 use Rattle.host_serve.specs.Holders.{Holder, holder_at, holders, seen_at, seens}
-use Rattle.host_serve.specs.Opening.{IsOpened, histories_of, roots}
-use Rattle.host_serve.specs.Told.{WritesReplies}
-use Rattle.host_serve.specs.Serves.{Turn}
+use Rattle.host_serve.specs.Opening.{AreAgreed, IsOpened, IsStoreOf, histories_of, roots}
+use Rattle.snap_store.specs.Store.{Snapshots}
+use Rattle.std.specs.List.{AllZip}
 use Rattle.host_serve.specs.declared.host.Host.{Host}
 use Rattle.host_serve.specs.declared.host.Passes.{Passes}
 use Rattle.host_serve.specs.declared.served.Served.{Served}
 use Rattle.line_talk.specs.Streams.{SourceState, SinkState}
-use Rattle.line_words.specs.declared.reply.Reply.{Reply}
-use Rattle.session_core.specs.Hosts.{entries_of}
 use Rattle.session_core.specs.Turning.{commands_in}
 use Rattle.session_core.specs.declared.entry.Entry.{Entry}
 use Rattle.session_desk.specs.Shared.{unnumbered}
@@ -29,25 +28,68 @@ use Rattle.session_desk.proofs.HistoryLemmas.{commands_in-history}
 use Rattle.story_run.specs.declared.story.Story.{Story}
 use Rattle.host_top.specs.Between.{ServesBetween}
 use Rattle.host_top.specs.DiskWords.{DiskWords}
-use Rattle.host_top.specs.Piped.{Conversed}
-use Rattle.host_serve.proofs.AloneLemmas.{AreMetBy, AreOwn, alone_there, many_histories, met_all, own_all, own_rows}
+use Rattle.host_top.specs.Folder.{AreSame}
+use Rattle.host_top.specs.Piped.{Conversed, IsStoreBack, StoresBack}
+use Rattle.host_serve.proofs.AloneLemmas.{AreOwn, alone_there, many_histories, own_all, own_rows}
+use Rattle.host_top.proofs.MeetLemmas.{led_all, led_alone}
 
--- what the end of a host says of the disk that it hands back
-abbrev pub EndsOn : {D : Type 0} → DiskWords D → Host D → Passes D → D → Type 0
-EndsOn {D} disks host passes back =
+-- what the end of a host says of the disks that it hands back
+abbrev pub EndsOn : {D : Type 0} → DiskWords D → Host D → Passes D → D → List D → Type 0
+EndsOn {D} disks host passes back backs =
     (log : Log D) × (back ≡ log.disk) × EndsWith host passes log
     × IsJournal (rows_of log.entries)
     × EachImage disks.tells disks.may_leave back (MaySpell (rows_of log.entries) log.uncertain)
     × EachImage disks.tells disks.may_leave back (MayOpen (rows_of log.entries))
     × Rises (disks.faults log.opening.disk) log.entries (disks.faults back)
     × IsSinceOpened disks.tells disks.may_leave disks.room disks.label disks.reach disks.moment disks.left_since log
+    × (IsSound disks.tells disks.seen host → AreAgreedDisks disks.tells disks.may_leave host.stories.now (rows_of log.entries) backs)
+
+module _ {D : Type 0} (disks : DiskWords D) where
+  pub same_zip : (gs : List D) (ss : List (Snapshots D)) (bs : List D)
+      → AllZip (IsStoreOf disks.tells disks.may_leave disks.seen disks.moment disks.left_since disks.faults disks.reach disks.room disks.label) gs ss
+      → AllZip (GivesBack disks.tells disks.faults disks.reach disks.room disks.label) ss bs → AreSame disks gs bs
+  same_zip [] [] [] of gives = tt
+  same_zip [] [] (b ∷ bs) of gives = absurd gives
+  same_zip [] (s ∷ ss) bs of gives = absurd of
+  same_zip (g ∷ gs) [] bs of gives = absurd of
+  same_zip (g ∷ gs) (s ∷ ss) [] of gives = absurd gives
+  same_zip (g ∷ gs) (s ∷ ss) (b ∷ bs) of gives = (
+    record {
+      telling = gives.0.same.telling ∙ of.0.kept.same.telling;
+      size = gives.0.same.size ∙ of.0.kept.same.size;
+      name = gives.0.same.name ∙ of.0.kept.same.name;
+    },
+    same_zip gs ss bs of.1 gives.1,
+  )
+
+  pub same_long : (gs bs : List D) → AreSame disks gs bs → length bs ≡ length gs
+  same_long [] [] same = refl
+  same_long [] (b ∷ bs) same = absurd same
+  same_long (g ∷ gs) [] same = absurd same
+  same_long (g ∷ gs) (b ∷ bs) same = omega (arith, same_long gs bs same.1)
+
+  pub back_zip : (gs : List D) (ss : List (Snapshots D)) (bs : List D)
+      → AllZip (IsStoreOf disks.tells disks.may_leave disks.seen disks.moment disks.left_since disks.faults disks.reach disks.room disks.label) gs ss
+      → AllZip (GivesBack disks.tells disks.faults disks.reach disks.room disks.label) ss bs → AllZip (IsStoreBack disks) gs bs
+  back_zip [] [] [] of gives = tt
+  back_zip [] [] (b ∷ bs) of gives = absurd gives
+  back_zip [] (s ∷ ss) bs of gives = absurd of
+  back_zip (g ∷ gs) [] bs of gives = absurd of
+  back_zip (g ∷ gs) (s ∷ ss) [] of gives = absurd gives
+  back_zip (g ∷ gs) (s ∷ ss) (b ∷ bs) of gives = (
+    record {
+      counts = omega (arith, of.0.counts, gives.0.counts);
+      reaches = omega (arith, of.0.kept.asked, gives.0.reaches);
+    },
+    back_zip gs ss bs of.1 gives.1,
+  )
 
 same_some : {A : Type 0} (a b : A) → Some a ≡ Some b → a ≡ b
 same_some a b e = cc
 
-module _ {D : Type 0} (disks : DiskWords D) (given back : D) (stories : List Story) (budget : ℕ) (rows : List Row) (host : Host D) (first last : Passes D)
+module _ {D : Type 0} (disks : DiskWords D) (given back : D) (givens backs : List D) (stories : List Story) (budget : ℕ) (rows : List Row) (host : Host D) (first last : Passes D)
     (opened : IsOpened stories budget rows (record { disk = given; found = length rows }) host first)
-    (end : EndsOn disks host last back) where
+    (end : EndsOn disks host last back backs) where
   abbrev since : IsSinceOpened disks.tells disks.may_leave disks.room disks.label disks.reach disks.moment disks.left_since end.0
   since = end.7
 
@@ -92,20 +134,39 @@ module _ {D : Type 0} (disks : DiskWords D) (given back : D) (stories : List Sto
       subst (λ (d : D). disks.reach d ≤ max (disks.reach given) (length (spelled (rows_of end.0.entries)) + 4110)) (sym end.1)
       (subst (λ (d : D). disks.reach end.0.disk ≤ max (disks.reach d) (length (spelled (rows_of end.0.entries)) + 4110)) opened_on since.reaches)
 
-  -- the lines between the two
-  module _ (holds : holders last.desks.items ≡ holders first.desks.items) {input now : SourceState} {output new : SinkState} (served : Served) (lines : ServesBetween host first last input now output new served) where
-    chain : Chain stories budget roots (histories_of rows) lines.turns (seens last.desks.items)
-    chain =
-        subst (λ (h : List (List Entry)). Chain stories budget roots h lines.turns (seens last.desks.items)) opened.histories
-        (subst (λ (h : List Holder). Chain stories budget h (seens first.desks.items) lines.turns (seens last.desks.items)) opened.alone
-        (subst (λ (b : ℕ). Chain stories b (holders first.desks.items) (seens first.desks.items) lines.turns (seens last.desks.items)) opened.budget
-        (subst (λ (s : List Story). Chain s host.budget (holders first.desks.items) (seens first.desks.items) lines.turns (seens last.desks.items)) opened.stories lines.chain)))
+  at_opening : rows_at_opening host ≡ rows
+  at_opening = ap rows_of opened.begins ∙ rows_of-all rows
 
-    met : AreMetBy stories budget (histories_of rows) lines.turns (seens last.desks.items)
-    met = met_all stories budget (histories_of rows) lines.turns (seens last.desks.items) (many_histories rows) chain
+  -- ---- the stores
+
+  module _ (stores : AllZip (IsStoreOf disks.tells disks.may_leave disks.seen disks.moment disks.left_since disks.faults disks.reach disks.room disks.label) givens (stores_of host))
+      (returned : AllZip (GivesBack disks.tells disks.faults disks.reach disks.room disks.label) (stores_of host) backs) where
+    pub same_stores : AreSame disks givens backs
+    same_stores = same_zip disks givens (stores_of host) backs stores returned
+
+    pub stores_back : (AreAgreed disks.tells disks.seen stories (rows_at_opening host) givens → IsSound disks.tells disks.seen host) → StoresBack disks stories rows (rows_of end.0.entries) givens backs
+    stores_back sound = record {
+      each = back_zip disks givens (stores_of host) backs stores returned;
+      agreed = λ agreed. subst (λ (s : List Story). AreAgreedDisks disks.tells disks.may_leave s (rows_of end.0.entries) backs) opened.stories
+          (end.8 (sound (subst (λ (rs : List Row). AreAgreed disks.tells disks.seen stories rs givens) (sym at_opening) agreed)));
+    }
+
+  -- ---- the lines between the two
+
+  module _ (holds : holders last.desks.items ≡ holders first.desks.items) {input now : SourceState} {output new : SinkState} (served : Served)
+      (lines : ServesBetween (IsSound disks.tells disks.seen host) host first last input now output new served) where
+    abbrev Sound : Type 0
+    Sound = IsSound disks.tells disks.seen host
+
+    chain : Chain stories budget Sound roots (histories_of rows) lines.turns (seens last.desks.items)
+    chain =
+        subst (λ (h : List (List Entry)). Chain stories budget Sound roots h lines.turns (seens last.desks.items)) opened.histories
+        (subst (λ (h : List Holder). Chain stories budget Sound h (seens first.desks.items) lines.turns (seens last.desks.items)) opened.alone
+        (subst (λ (b : ℕ). Chain stories b Sound (holders first.desks.items) (seens first.desks.items) lines.turns (seens last.desks.items)) opened.budget
+        (subst (λ (s : List Story). Chain s host.budget Sound (holders first.desks.items) (seens first.desks.items) lines.turns (seens last.desks.items)) opened.stories lines.chain)))
 
     own : AreOwn stories budget (seens last.desks.items)
-    own = own_all stories budget (histories_of rows) lines.turns (seens last.desks.items) (many_histories rows) (own_rows stories budget rows) chain
+    own = own_all stories budget Sound (histories_of rows) lines.turns (seens last.desks.items) (many_histories rows) (own_rows stories budget rows) chain
 
     entries : (s : ℕ) → s < 64 → history_in end.0.entries s ≡ seen_at (seens last.desks.items) s
     entries s below =
@@ -113,28 +174,32 @@ module _ {D : Type 0} (disks : DiskWords D) (given back : D) (stories : List Sto
         ((end.2.each s below).alone (subst (λ (h : List Holder). ((holder_at h s).number ≡ 0) × ((holder_at h s).made ≡ 0)) (sym (holds ∙ opened.alone)) (alone_there s below))) in
         end.2.kept s below ∙ ap (map unnumbered) alone ∙ own s
 
-    pub conversed : (IsTrue (disks.tells given) → SpellsRows (disks.seen given) rows) → Conversed disks stories budget given back input now output new served
-    conversed spells = record {
+    pub conversed : (IsTrue (disks.tells given) → SpellsRows (disks.seen given) rows) → (AreAgreed disks.tells disks.seen stories (rows_at_opening host) givens → Sound)
+        → StoresBack disks stories rows (rows_of end.0.entries) givens backs → Conversed disks stories budget given givens back backs input now output new served
+    conversed spells sound stores = record {
       rows = rows;
       handed_in = spells;
       read = lines.tells.read;
-      answered = map (λ (t : Turn). t.line) lines.turns;
-      outcomes = map (λ (t : Turn). t.outcome) lines.turns;
+      turns = lines.turns;
       written = lines.tells.written;
       gave = lines.tells.gave;
       within = lines.tells.within;
       which = lines.tells.lines;
-      met = met.met;
       wrote = lines.tells.wrote;
-      writes = subst (λ (rs : List Reply). WritesReplies served lines.tells.written rs) met.said lines.tells.replies;
+      writes = lines.tells.replies;
+      histories = seens last.desks.items;
+      led = led_all stories budget Sound (histories_of rows) lines.turns (seens last.desks.items) (many_histories rows) chain;
+      sound = λ agreed. led_alone stories budget Sound (sound (subst (λ (rs : List Row). AreAgreed disks.tells disks.seen stories rs givens) (sym at_opening) agreed))
+          (histories_of rows) lines.turns (seens last.desks.items) (many_histories rows) chain;
       journal = end.0.entries;
-      entries = λ s below. entries s below ∙ ap (λ (h : List (List Entry)). entries_of h s) met.after;
+      entries = entries;
       faults = counts;
-      accepted = λ s below. sym (commands_in-history end.0.entries s) ∙ ap commands_in (entries s below ∙ ap (λ (h : List (List Entry)). entries_of h s) met.after);
+      accepted = λ s below. sym (commands_in-history end.0.entries s) ∙ ap commands_in (entries s below);
       uncertain = end.0.uncertain;
       images = end.4;
       meanwhile = meanwhile;
       reaches = reaches;
+      stores = stores;
     }
 
 -- what an opening may meet it may meet again on the disk that came back

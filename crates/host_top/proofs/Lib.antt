@@ -7,5 +7,10 @@ pub mod CauseLemmas
 pub mod StopLemmas
 pub mod OutsideLemmas
 pub mod BorrowLemmas
+pub mod NameLemmas
+pub mod LendingLemmas
+pub mod InitLemmas
+pub mod FolderLemmas
+pub mod MeetLemmas
 pub mod ConversedLemmas
 pub mod LinksLemmas

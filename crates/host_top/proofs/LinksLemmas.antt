@@ -1,6 +1,5 @@
 -- What `serve` leaves of its disk, its output and its doors, from what its host says as it is opened and ends.
-use Rattle.std.proofs.Common.{◌≡◌, ◌⊎◌, inl, inr, ℕ, ◌≤◌, List, [], ◌∷◌, length, map, refl, sym, ap, ◌∙◌, subst, arith, cond, IsTrue, Option, None, Some, IsSomeAnd, IfSome}
-use Rattle.std.specs.Str.{bytes_eq}
+use Rattle.std.proofs.Common.{◌≡◌, ◌⊎◌, inl, inr, ℕ, ◌≤◌, List, [], ◌∷◌, length, map, refl, sym, ap, ◌∙◌, subst, arith, IsTrue}
 use Rattle.gate_journal.specs.Log.{rows_of}
 use Rattle.gate_journal.specs.Rows.{SpellsRows}
 use Rattle.gate_journal.specs.declared.fault.JournalFault.{JournalFault}
@@ -15,30 +14,30 @@ use Rattle.host_serve.specs.Splitting.{AreRoots}
 use Rattle.host_serve.specs.declared.worked.Worked.{Worked}
 use Rattle.host_serve.specs.declared.worked.Worked.TheVariants as worked
 use Rattle.line_talk.specs.Causes.{Rose}
-use Rattle.line_talk.specs.Streams.{SourceState, SinkState, Wrote}
+use Rattle.line_talk.specs.Streams.{SourceState, SinkState}
 use Rattle.line_talk.specs.declared.sink.Stop.{Stop}
 use Rattle.line_talk.specs.declared.sink.Stop.TheVariants as stop
 use Rattle.line_talk.proofs.StreamsLemmas.{gave_none, wrote_none}
 use Rattle.turn_cell.specs.History.{Each}
 use Rattle.story_run.specs.declared.story.Story.{Story}
-use Rattle.host_top.specs.Borrowed.{LetsGo}
 use Rattle.host_top.specs.DiskWords.{DiskWords}
-use Rattle.host_top.specs.Files.{OutsideState, Closes, KeepsDisks, KeepsDoors, KeepsFiles, IsLent, IsLentFrom, Lends, RisesWith, TakesBack, Told, There, told_now, returned, after_one}
+use Rattle.host_top.specs.Files.{OutsideState, Closes, KeepsDoors, KeepsFiles, after_one}
+use Rattle.host_top.specs.Piped.{StoresBack}
 use Rattle.host_top.specs.LinksServed.{DoorsBy, LinksServed}
 use Rattle.host_top.specs.Said.{SaysFault, SaysLine}
 use Rattle.host_top.specs.Status.{status_of_stop, status_of_worked}
-use Rattle.host_top.specs.declared.loan.Loan.{Loan}
 use Rattle.host_top.specs.declared.status.Status.{Status}
 use Rattle.host_top.specs.declared.status.Status.TheVariants as ends
 use Rattle.host_top.proofs.ConversedLemmas.{EndsOn, counts, grows, meanwhile, reaches}
 
 -- ---- the journal
 
-pub links_served : {D : Type 0} (disks : DiskWords D) (given back : D) (stories : List Story) (budget : ℕ) (rows : List Row) (host : Host D) (first last : Passes D)
-    → IsOpened stories budget rows (record { disk = given; found = length rows }) host first → EndsOn disks host last back
+pub links_served : {D : Type 0} (disks : DiskWords D) (given back : D) (givens backs : List D) (stories : List Story) (budget : ℕ) (rows : List Row) (host : Host D) (first last : Passes D)
+    → IsOpened stories budget rows (record { disk = given; found = length rows }) host first → (end : EndsOn disks host last back backs)
     → (input : SourceState) (output : SinkState) (status : Status) → (status ≡ ends.Done) ⊎ (status ≡ ends.DoorFault) ⊎ (status ≡ ends.NoMemory)
-    → (IsTrue (disks.tells given) → SpellsRows (disks.seen given) rows) → LinksServed disks given back input input output output status
-links_served disks given back stories budget rows host first last opened end input output status how spells = record {
+    → (IsTrue (disks.tells given) → SpellsRows (disks.seen given) rows) → StoresBack disks stories rows (rows_of end.0.entries) givens backs
+    → LinksServed disks stories given givens back backs input input output output status
+links_served disks given back givens backs stories budget rows host first last opened end input output status how spells stores = record {
   how = how;
   gave = gave_none input;
   wrote = wrote_none output;
@@ -46,12 +45,13 @@ links_served disks given back stories budget rows host first last opened end inp
   handed_in = spells;
   journal = end.0.entries;
   more = rows_of end.2.grows.0;
-  grows = grows disks given back stories budget rows host first last opened end;
-  faults = counts disks given back stories budget rows host first last opened end;
+  grows = grows disks given back givens backs stories budget rows host first last opened end;
+  faults = counts disks given back givens backs stories budget rows host first last opened end;
   uncertain = end.0.uncertain;
   images = end.4;
-  meanwhile = meanwhile disks given back stories budget rows host first last opened end;
-  reaches = reaches disks given back stories budget rows host first last opened end;
+  meanwhile = meanwhile disks given back givens backs stories budget rows host first last opened end;
+  reaches = reaches disks given back givens backs stories budget rows host first last opened end;
+  stores = stores;
 }
 
 -- ---- passes
@@ -142,45 +142,3 @@ fault_no_door fault.NotJournal output new status says e = line_kinds _ _ output 
 fault_no_door (fault.Corrupt place) output new status says e = line_kinds _ _ output new status ends.DoorFault (λ x. absurd (grind (arith, x))) stop_no_door says e
 fault_no_door (fault.DiskFault counts) output new status says e = absurd (grind (arith, says.0, e))
 fault_no_door fault.NoMemory output new status says e = absurd (grind (arith, says.0, e))
-
--- ---- a disk that is put back, where the disks stayed meanwhile
-
-pub lent_still : {D : Type 0} (name : List ℕ) (label : ℕ) (a b : OutsideState D) → KeepsDisks a b → IsLent (a.loan name) label → IsLent (b.loan name) label
-lent_still name label a b keeps lent = subst (λ (l : Option Loan). IsLent l label) (sym (keeps.loan name)) lent
-
-pub takes_back_from : {D : Type 0} (faults : D → ℕ) (name : List ℕ) (disk : D) (a b c : OutsideState D) → KeepsDisks a b → TakesBack faults name disk b c → TakesBack faults name disk a c
-takes_back_from {D} faults name disk a b c keeps takes = record {
-  disks = λ other. takes.disks other ∙ ap (λ (t : Told D). cond (bytes_eq name other) (told_now t (There disk)) t) (keeps.disk other);
-  loans = λ other. takes.loans other
-      ∙ ap (λ (l : Option Loan). cond (bytes_eq name other) (returned (faults disk) l) (b.loan other)) (keeps.loan name)
-      ∙ ap (λ (l : Option Loan). cond (bytes_eq name other) (returned (faults disk) (a.loan name)) l) (keeps.loan other);
-  count = subst (λ (n : ℕ). IsSomeAnd (a.loan name) (λ loan. RisesWith loan.from (faults disk) n c.disk_faults)) keeps.disk_faults
-      (subst (λ (l : Option Loan). IsSomeAnd l (λ loan. RisesWith loan.from (faults disk) b.disk_faults c.disk_faults)) (keeps.loan name) takes.count);
-}
-
-pub lends_still : {D : Type 0} (label faults : D → ℕ) (name : List ℕ) (disk : D) (a b c : OutsideState D) → Lends label faults name disk a b → KeepsDisks b c → Lends label faults name disk a c
-lends_still label faults name disk a b c lends keeps = record {
-  disks = λ other. keeps.disk other ∙ lends.disks other;
-  loans = λ other. keeps.loan other ∙ lends.loans other;
-  count = keeps.disk_faults ∙ lends.count;
-  own = lends.own;
-}
-
--- a disk that isn't put back, where the disks stayed since it was lent
-pub let_go : {D : Type 0} (disks : DiskWords D) (name : List ℕ) (given : D) (outside mid beyond : OutsideState D) (input : SourceState) (output new : SinkState) (status : Status)
-    (spelled : List ℕ) → spelled ≡ name → Lends disks.label disks.faults spelled given outside mid → KeepsDisks mid beyond
-    → (IsTrue (disks.tells given) → IsLentFrom disks.seen disks.may_leave (outside.disk spelled) given)
-    → (status ≡ ends.NoMemory) × Wrote output new [] → LetsGo disks name outside beyond input input output new status
-let_go {D} disks name given outside mid beyond input output new status spelled is lends keeps lent wanted = record {
-  wanted = wanted.0;
-  given = given;
-  lent = subst (λ (n : List ℕ). IsTrue (disks.tells given) → IsLentFrom disks.seen disks.may_leave (outside.disk n) given) is lent;
-  lends = subst (λ (n : List ℕ). Lends disks.label disks.faults n given outside beyond) is (lends_still _ _ spelled given outside mid beyond lends keeps);
-  gave = gave_none input;
-  wrote = wanted.1;
-}
-
--- a fact of what may be there follows from another
-pub if_some : {D : Type 0} {P Q : D → Type 0} (r : Option D) → ((d : D) → P d → Q d) → IfSome r P → IfSome r Q
-if_some None f p = tt
-if_some (Some d) f p = f d p

@@ -1,5 +1,5 @@
 -- What `pipe` and `init` write, for a caller who is told the input, what the output holds and the disks.
-use Rattle.std.proofs.Common.{◌≡◌, ℕ, ◌^◌, ◌≤◌, ◌⊎◌, inl, inr, List, [], ◌++◌, length, refl, sym, ap, ◌∙◌, subst, IsTrue, Option, Some, None}
+use Rattle.std.proofs.Common.{◌≡◌, ℕ, ◌^◌, ◌≤◌, ◌⊎◌, inl, inr, List, [], ◌++◌, ◌<◌, length, map, refl, sym, ap, ◌∙◌, subst, IsTrue, Option, Some, None, slice_get}
 use Rattle.std.proofs.lemmas.List.{append-nil}
 use Rattle.std.specs.Io.KnownBytes.{Consumes, IsAtEnd}
 use Rattle.gate_journal.specs.Faults.{Explains}
@@ -9,18 +9,28 @@ use Rattle.gate_journal.specs.declared.fault.JournalFault.{JournalFault}
 use Rattle.gate_journal.specs.declared.fault.JournalFault.TheVariants as fault
 use Rattle.gate_journal.specs.Faults.{HasInitCause}
 use Rattle.story_run.specs.declared.story.Story.{Story}
-use Rattle.host_top.specs.Begun.{InitsOver, SaysRefusal, WritesBegun, ready, not_empty}
+use Rattle.host_top.specs.Begun.{InitsOn, SaysRefusal, WritesBegun, ready, not_empty}
+use Rattle.host_top.specs.Borrowed.{journal_in, snap_in}
 use Rattle.host_top.specs.LinksServed.{ServesOver, WritesLinks}
-use Rattle.host_top.specs.DiskWords.{DiskWords}
-use Rattle.host_top.specs.Files.{IsLentFrom, Told, Untold, Missing, There}
+use Rattle.host_top.specs.DiskWords.{DiskWords, WhereTold}
+use Rattle.host_top.specs.Files.{IsLentFrom, OutsideState, Told, Untold, Missing, There}
+use Rattle.host_top.specs.declared.folder.Back.{Back}
+use Rattle.host_top.specs.declared.folder.Back.TheVariants as back
 use Rattle.line_talk.specs.Lines.{lines, talk, IsWithinLimits}
 use Rattle.host_top.specs.Piped.{PipesOver}
 use Rattle.host_top.specs.Said.{SaysFault, SaysLine, bad_journal, bad_journal_at}
-use Rattle.host_top.specs.Served.{WhereTold, AnswersIn, WritesTurns, RefusesJournal, WritesServed}
+use Rattle.host_top.specs.Served.{AnswersIn, AreSound, AreTold, RefusesJournal, WritesServed, WritesTurns}
 use Rattle.host_top.specs.Status.{status_of_served, status_of_stop}
 use Rattle.line_talk.specs.Streams.{SourceState, SinkState, Wrote}
 use Rattle.line_talk.specs.Writing.{IsPartOf}
+use Rattle.gate_journal.specs.Rows.{commands_of}
+use Rattle.gate_journal.specs.declared.row.Row.{Row}
+use Rattle.host_serve.specs.Opening.{AreAgreed}
+use Rattle.host_serve.specs.Serves.{Turn}
 use Rattle.host_serve.specs.Told.{AnsweredOf}
+use Rattle.session_core.specs.History.{game_of}
+use Rattle.session_desk.specs.Opens.{opens_of}
+use Rattle.session_saves.specs.Agreement.{IsAgreedFile}
 use Rattle.host_serve.specs.declared.served.Served.{Served}
 use Rattle.host_serve.specs.declared.served.Served.TheVariants as served
 use Rattle.line_talk.specs.declared.sink.Stop.{Stop}
@@ -57,68 +67,91 @@ answers_in served.WriteFault read rest now answered within left first = first_th
 answers_in served.NoMemory read rest now answered within left first = first_then answered (talk read) (talk (read ++ rest)) first (talk_first read rest within)
 answers_in served.LineLimit read rest now answered within left is = (is.0 ∙ sym (talk_settled read rest within is.1), still_reached read rest is.1)
 
-served_by : {D : Type 0} (disks : DiskWords D) (stories : List Story) (budget : ℕ) (journal : Told D) (input written : List ℕ) (how : Served)
-    → WritesTurns disks stories budget journal input written how → WritesServed (status_of_served how) disks stories budget journal input written
-served_by disks stories budget journal input written served.End w = w
-served_by disks stories budget journal input written served.ReadFault w = inr w
-served_by disks stories budget journal input written served.WriteFault w = inl w
-served_by disks stories budget journal input written served.NoMemory w = inr (inl w)
-served_by disks stories budget journal input written served.LineLimit w = w
+served_by : {D : Type 0} (disks : DiskWords D) (stories : List Story) (budget : ℕ) (disk : List ℕ → Told D) (folder : List ℕ) (input written : List ℕ) (how : Served)
+    → WritesTurns disks stories budget disk folder input written how → WritesServed (status_of_served how) disks stories budget disk folder input written
+served_by disks stories budget disk folder input written served.End w = w
+served_by disks stories budget disk folder input written served.ReadFault w = inr w
+served_by disks stories budget disk folder input written served.WriteFault w = inl w
+served_by disks stories budget disk folder input written served.NoMemory w = inr (inl w)
+served_by disks stories budget disk folder input written served.LineLimit w = w
 
 -- something was written, and it has P
 abbrev pub WroteSome : SinkState → SinkState → (List ℕ → Type 0) → Type 0
 WroteSome output new P = (written : List ℕ) × Wrote output new written × P written
 
-cut_refusal : {D : Type 0} (disks : DiskWords D) (stories : List Story) (budget : ℕ) (journal : Told D) (input line part : List ℕ) (cause : Stop)
-    → RefusesJournal disks journal line → IsPartOf part line → WritesServed (status_of_stop cause) disks stories budget journal input part
-cut_refusal disks stories budget journal input line part stop.Output refuses begins = inr (line, refuses, begins)
-cut_refusal disks stories budget journal input line part stop.Memory refuses begins = inr (inr (line, refuses, begins))
+cut_refusal : {D : Type 0} (disks : DiskWords D) (stories : List Story) (budget : ℕ) (disk : List ℕ → Told D) (folder : List ℕ) (input line part : List ℕ) (cause : Stop)
+    → RefusesJournal disks (disk (journal_in folder)) line → IsPartOf part line → WritesServed (status_of_stop cause) disks stories budget disk folder input part
+cut_refusal disks stories budget disk folder input line part stop.Output refuses begins = inr (line, refuses, begins)
+cut_refusal disks stories budget disk folder input line part stop.Memory refuses begins = inr (inr (line, refuses, begins))
 
-refusal_told : {D : Type 0} (disks : DiskWords D) (stories : List Story) (budget : ℕ) (journal : Told D) (input line : List ℕ) (output new : SinkState) (status : Status)
-    → RefusesJournal disks journal line → SaysLine BadFolder line output new status → WroteSome output new (WritesServed status disks stories budget journal input)
-refusal_told disks stories budget journal input line output new status refuses (inl said) =
-    (line, said.1, subst (λ (s : Status). WritesServed s disks stories budget journal input line) (sym said.0) refuses)
-refusal_told disks stories budget journal input line output new status refuses (inr (cause, is, stopped)) = (
+refusal_told : {D : Type 0} (disks : DiskWords D) (stories : List Story) (budget : ℕ) (disk : List ℕ → Told D) (folder : List ℕ) (input line : List ℕ) (output new : SinkState) (status : Status)
+    → RefusesJournal disks (disk (journal_in folder)) line → SaysLine BadFolder line output new status → WroteSome output new (WritesServed status disks stories budget disk folder input)
+refusal_told disks stories budget disk folder input line output new status refuses (inl said) =
+    (line, said.1, subst (λ (s : Status). WritesServed s disks stories budget disk folder input line) (sym said.0) refuses)
+refusal_told disks stories budget disk folder input line output new status refuses (inr (cause, is, stopped)) = (
   stopped.wrote.part,
   stopped.wrote.wrote,
-  subst (λ (s : Status). WritesServed s disks stories budget journal input stopped.wrote.part) (sym is)
-      (cut_refusal disks stories budget journal input line stopped.wrote.part cause refuses (stopped.rest, stopped.wrote.split)),
+  subst (λ (s : Status). WritesServed s disks stories budget disk folder input stopped.wrote.part) (sym is)
+      (cut_refusal disks stories budget disk folder input line stopped.wrote.part cause refuses (stopped.rest, stopped.wrote.split)),
 )
 
-fault_told : {D : Type 0} (disks : DiskWords D) (stories : List Story) (budget : ℕ) (journal : Told D) (input : List ℕ) (given : D) (output new : SinkState) (status : Status) (why : JournalFault)
-    → (IsTrue (disks.tells given) → IsLentFrom disks.seen disks.may_leave journal given) → (IsTrue (disks.tells given) → Explains (disks.seen given) why)
-    → SaysFault why output new status → WroteSome output new (WritesServed status disks stories budget journal input)
-fault_told disks stories budget journal input given output new status fault.NotJournal lent explains says =
-    refusal_told disks stories budget journal input bad_journal output new status (inl (refl, where_told disks journal given _ lent explains)) says
-fault_told disks stories budget journal input given output new status (fault.Corrupt place) lent explains says =
-    refusal_told disks stories budget journal input (bad_journal_at place) output new status (inr (place, refl, where_told disks journal given _ lent explains)) says
-fault_told disks stories budget journal input given output new status (fault.DiskFault counts) lent explains says =
-    ([], says.1, subst (λ (s : Status). WritesServed s disks stories budget journal input []) (sym says.0) refl)
-fault_told disks stories budget journal input given output new status fault.NoMemory lent explains says =
-    ([], says.1, subst (λ (s : Status). WritesServed s disks stories budget journal input []) (sym says.0) (inl refl))
+fault_told : {D : Type 0} (disks : DiskWords D) (stories : List Story) (budget : ℕ) (disk : List ℕ → Told D) (folder : List ℕ) (input : List ℕ) (given : D) (output new : SinkState) (status : Status) (why : JournalFault)
+    → (IsTrue (disks.tells given) → IsLentFrom disks.seen disks.may_leave (disk (journal_in folder)) given) → (IsTrue (disks.tells given) → Explains (disks.seen given) why)
+    → SaysFault why output new status → WroteSome output new (WritesServed status disks stories budget disk folder input)
+fault_told disks stories budget disk folder input given output new status fault.NotJournal lent explains says =
+    refusal_told disks stories budget disk folder input bad_journal output new status (inl (refl, where_told disks (disk (journal_in folder)) given _ lent explains)) says
+fault_told disks stories budget disk folder input given output new status (fault.Corrupt place) lent explains says =
+    refusal_told disks stories budget disk folder input (bad_journal_at place) output new status (inr (place, refl, where_told disks (disk (journal_in folder)) given _ lent explains)) says
+fault_told disks stories budget disk folder input given output new status (fault.DiskFault counts) lent explains says =
+    ([], says.1, subst (λ (s : Status). WritesServed s disks stories budget disk folder input []) (sym says.0) refl)
+fault_told disks stories budget disk folder input given output new status fault.NoMemory lent explains says =
+    ([], says.1, subst (λ (s : Status). WritesServed s disks stories budget disk folder input []) (sym says.0) (inl refl))
 
-pub pipe_told : {D : Type 0} (disks : DiskWords D) (stories : List Story) (budget : ℕ) (journal : Told D) (bytes : List ℕ) (given back : D) (input now : SourceState) (output new : SinkState) (status : Status)
-    → (IsTrue (disks.tells given) → IsLentFrom disks.seen disks.may_leave journal given) → input.left ≡ Some bytes
-    → PipesOver disks stories budget given back input now output new status → WroteSome output new (WritesServed status disks stories budget journal bytes)
-pipe_told disks stories budget journal bytes given back input now output new status lent left (inl (how, is, c)) =
+-- a store's disk that was lent is the one that is told
+agreed_from : {D : Type 0} (disks : DiskWords D) (told : Told D) (given : D) (P : List ℕ → Type 0) → IsLentFrom disks.seen disks.may_leave told given → AreTold disks.seen told P → P (disks.seen given)
+agreed_from disks Untold given P lent told = absurd told
+agreed_from disks Missing given P lent told = subst P (sym lent.0) told
+agreed_from disks (There d) given P lent told = subst P (sym lent.0) told
+
+-- what is told of the disks of a folder, and those that were lent
+abbrev pub AreLentFrom : {D : Type 0} → DiskWords D → (List ℕ → Told D) → List ℕ → D → List D → Type 0
+AreLentFrom {D} disks disk folder given givens =
+    (IsTrue (disks.tells given) → IsLentFrom disks.seen disks.may_leave (disk (journal_in folder)) given)
+    × ((s : ℕ) (g : D) → slice_get givens s ≡ Some g → (s < 64) × (IsTrue (disks.tells g) → IsLentFrom disks.seen disks.may_leave (disk (snap_in folder s)) g))
+
+sound_from : {D : Type 0} (disks : DiskWords D) (stories : List Story) (disk : List ℕ → Told D) (folder : List ℕ) (given : D) (givens : List D) (rows : List Row)
+    → AreLentFrom disks disk folder given givens → AreSound disks stories disk folder rows → AreAgreed disks.tells disks.seen stories rows givens
+sound_from disks stories disk folder given givens rows lent sound s g there =
+    let l = lent.1 s g there in
+    (sound.0 g, agreed_from disks (disk (snap_in folder s)) g (IsAgreedFile stories (opens_of rows s) (game_of (commands_of rows s))) (l.1 (sound.0 g)) (sound.1 s l.0))
+
+pub pipe_told : {D : Type 0} (disks : DiskWords D) (stories : List Story) (budget : ℕ) (disk : List ℕ → Told D) (folder bytes : List ℕ) (given : D) (givens : List D) (b : Back D)
+    (input now : SourceState) (output new : SinkState) (status : Status) → AreLentFrom disks disk folder given givens → input.left ≡ Some bytes
+    → PipesOver disks stories budget given givens b input now output new status → WroteSome output new (WritesServed status disks stories budget disk folder bytes)
+pipe_told disks stories budget disk folder bytes given givens (back.All journal snaps) input now output new status lent left (how, is, c) =
     let read = consumed input.left now.left bytes c.read c.gave.told left in
-    let turns : WritesTurns disks stories budget journal (c.read ++ read.0) c.written how = record {
+    let turns : WritesTurns disks stories budget disk folder (c.read ++ read.0) c.written how = record {
       rows = c.rows;
-      handed_in = where_told disks journal given _ lent c.handed_in;
-      answered = c.answered;
-      outcomes = c.outcomes;
-      which = answers_in how c.read read.0 now c.answered c.within read.2 c.which;
-      met = c.met;
+      handed_in = where_told disks (disk (journal_in folder)) given _ lent.0 c.handed_in;
+      turns = c.turns;
+      which = answers_in how c.read read.0 now (map (λ (t : Turn). t.line) c.turns) c.within read.2 c.which;
       writes = c.writes;
+      histories = c.histories;
+      led = c.led;
+      sound = λ sound. c.sound (sound_from disks stories disk folder given givens c.rows lent sound);
     } in (
       c.written,
       c.wrote,
-      subst (λ (s : Status). WritesServed s disks stories budget journal bytes c.written) (sym is)
-          (served_by disks stories budget journal bytes c.written how
-          (subst (λ (b : List ℕ). WritesTurns disks stories budget journal b c.written how) (sym read.1) turns)),
+      subst (λ (s : Status). WritesServed s disks stories budget disk folder bytes c.written) (sym is)
+          (served_by disks stories budget disk folder bytes c.written how
+          (subst (λ (b : List ℕ). WritesTurns disks stories budget disk folder b c.written how) (sym read.1) turns)),
     )
-pipe_told disks stories budget journal bytes given back input now output new status lent left (inr n) =
-    fault_told disks stories budget journal bytes given output new status n.fault lent n.explains n.says
+pipe_told disks stories budget disk folder bytes given givens (back.Journal journal) input now output new status lent left n =
+    fault_told disks stories budget disk folder bytes given output new status n.fault lent.0 n.explains n.says
+pipe_told disks stories budget disk folder bytes given givens (back.Snap session snap) input now output new status lent left f =
+    ([], f.wrote, subst (λ (s : Status). WritesServed s disks stories budget disk folder bytes []) (sym f.failed) refl)
+pipe_told disks stories budget disk folder bytes given givens back.Nothing input now output new status lent left l =
+    ([], l.wrote, subst (λ (s : Status). WritesServed s disks stories budget disk folder bytes []) (sym l.wanted) (inl refl))
 
 -- ---- what `serve` writes
 
@@ -154,11 +187,15 @@ nothing_links disks journal status (inl done) = subst (λ (s : Status). WritesLi
 nothing_links disks journal status (inr (inl door)) = subst (λ (s : Status). WritesLinks s disks journal []) (sym door) refl
 nothing_links disks journal status (inr (inr wanted)) = subst (λ (s : Status). WritesLinks s disks journal []) (sym wanted) (inl refl)
 
-pub links_told : {D : Type 0} (disks : DiskWords D) (journal : Told D) (given back : D) (input now : SourceState) (output new : SinkState) (status : Status)
+pub links_told : {D : Type 0} (disks : DiskWords D) (stories : List Story) (journal : Told D) (given : D) (givens : List D) (b : Back D) (input now : SourceState) (output new : SinkState) (status : Status)
     → (IsTrue (disks.tells given) → IsLentFrom disks.seen disks.may_leave journal given)
-    → ServesOver disks given back input now output new status → WroteSome output new (WritesLinks status disks journal)
-links_told disks journal given back input now output new status lent (inl served) = ([], served.wrote, nothing_links disks journal status served.how)
-links_told disks journal given back input now output new status lent (inr n) = fault_links disks journal given output new status n.fault lent n.explains n.says
+    → ServesOver disks stories given givens b input now output new status → WroteSome output new (WritesLinks status disks journal)
+links_told disks stories journal given givens (back.All j snaps) input now output new status lent served = ([], served.wrote, nothing_links disks journal status served.how)
+links_told disks stories journal given givens (back.Journal j) input now output new status lent n = fault_links disks journal given output new status n.fault lent n.explains n.says
+links_told disks stories journal given givens (back.Snap session snap) input now output new status lent f =
+    ([], f.wrote, subst (λ (s : Status). WritesLinks s disks journal []) (sym f.failed) refl)
+links_told disks stories journal given givens back.Nothing input now output new status lent l =
+    ([], l.wrote, subst (λ (s : Status). WritesLinks s disks journal []) (sym l.wanted) (inl refl))
 
 pub not_lent_links : {D : Type 0} (disks : DiskWords D) (journal : Told D) (status : Status) (P : Type 0) → (status ≡ DiskFault) × P ⊎ (status ≡ NoMemory) → WritesLinks status disks journal []
 not_lent_links disks journal status P (inl failed) = subst (λ (s : Status). WritesLinks s disks journal []) (sym failed.0) refl
@@ -169,20 +206,20 @@ not_loaded_links disks journal status P (inl failed) = subst (λ (s : Status). W
 not_loaded_links disks journal status P (inr wanted) = subst (λ (s : Status). WritesLinks s disks journal []) (sym wanted) (inl refl)
 
 -- no disk was lent
-pub not_lent_served : {D : Type 0} (disks : DiskWords D) (stories : List Story) (budget : ℕ) (journal : Told D) (input : List ℕ) (status : Status) (P : Type 0)
-    → (status ≡ DiskFault) × P ⊎ (status ≡ NoMemory) → WritesServed status disks stories budget journal input []
-not_lent_served disks stories budget journal input status P (inl failed) = subst (λ (s : Status). WritesServed s disks stories budget journal input []) (sym failed.0) refl
-not_lent_served disks stories budget journal input status P (inr wanted) = subst (λ (s : Status). WritesServed s disks stories budget journal input []) (sym wanted) (inl refl)
+pub not_lent_served : {D : Type 0} (disks : DiskWords D) (stories : List Story) (budget : ℕ) (disk : List ℕ → Told D) (folder : List ℕ) (input : List ℕ) (status : Status) (P : Type 0)
+    → (status ≡ DiskFault) × P ⊎ (status ≡ NoMemory) → WritesServed status disks stories budget disk folder input []
+not_lent_served disks stories budget disk folder input status P (inl failed) = subst (λ (s : Status). WritesServed s disks stories budget disk folder input []) (sym failed.0) refl
+not_lent_served disks stories budget disk folder input status P (inr wanted) = subst (λ (s : Status). WritesServed s disks stories budget disk folder input []) (sym wanted) (inl refl)
 
 pub not_lent_begun : {D : Type 0} (disks : DiskWords D) (journal : Told D) (status : Status) (P : Type 0) → (status ≡ DiskFault) × P ⊎ (status ≡ NoMemory) → WritesBegun status disks journal []
 not_lent_begun disks journal status P (inl failed) = subst (λ (s : Status). WritesBegun s disks journal []) (sym failed.0) refl
 not_lent_begun disks journal status P (inr wanted) = subst (λ (s : Status). WritesBegun s disks journal []) (sym wanted) (inl (ready, refl))
 
 -- no file was loaded
-pub not_loaded_served : {D : Type 0} (disks : DiskWords D) (stories : List Story) (budget : ℕ) (journal : Told D) (input : List ℕ) (status : Status) (P : Type 0)
-    → (status ≡ ReadFault) × P ⊎ (status ≡ NoMemory) → WritesServed status disks stories budget journal input []
-not_loaded_served disks stories budget journal input status P (inl failed) = subst (λ (s : Status). WritesServed s disks stories budget journal input []) (sym failed.0) (inl refl)
-not_loaded_served disks stories budget journal input status P (inr wanted) = subst (λ (s : Status). WritesServed s disks stories budget journal input []) (sym wanted) (inl refl)
+pub not_loaded_served : {D : Type 0} (disks : DiskWords D) (stories : List Story) (budget : ℕ) (disk : List ℕ → Told D) (folder : List ℕ) (input : List ℕ) (status : Status) (P : Type 0)
+    → (status ≡ ReadFault) × P ⊎ (status ≡ NoMemory) → WritesServed status disks stories budget disk folder input []
+not_loaded_served disks stories budget disk folder input status P (inl failed) = subst (λ (s : Status). WritesServed s disks stories budget disk folder input []) (sym failed.0) (inl refl)
+not_loaded_served disks stories budget disk folder input status P (inr wanted) = subst (λ (s : Status). WritesServed s disks stories budget disk folder input []) (sym wanted) (inl refl)
 
 pub not_loaded_begun : {D : Type 0} (disks : DiskWords D) (journal : Told D) (status : Status) (P : Type 0) → (status ≡ ReadFault) × P ⊎ (status ≡ NoMemory) → WritesBegun status disks journal []
 not_loaded_begun disks journal status P (inl failed) = subst (λ (s : Status). WritesBegun s disks journal []) (sym failed.0) refl
@@ -212,10 +249,15 @@ refused_begun disks journal given before now output new status begin.NotEmpty le
 refused_begun disks journal given before now output new status (begin.DiskFault counts) lent cause says =
     ([], says.1, subst (λ (s : Status). WritesBegun s disks journal []) (sym says.0) refl)
 
-pub init_told : {D : Type 0} (disks : DiskWords D) (journal : Told D) (given back : D) (input now : SourceState) (output new : SinkState) (status : Status)
-    → (IsTrue (disks.tells given) → IsLentFrom disks.seen disks.may_leave journal given)
-    → InitsOver disks given back input now output new status → WroteSome output new (WritesBegun status disks journal)
-init_told disks journal given back input now output new status lent i = elim i.does [
-  | inl b ↦ line_begun disks journal ready output new Done status (refl, where_told disks journal given _ lent b.empty) (λ part begins. inl begins) b.says
-  | inr n ↦ refused_begun disks journal given (disks.faults given) (disks.faults back) output new status n.fault lent n.cause n.says
-]
+pub init_told : {D : Type 0} (disks : DiskWords D) (folder : List ℕ) (outside beyond : OutsideState D) (input now : SourceState) (output new : SinkState) (status : Status)
+    → InitsOn disks folder outside beyond input now output new status → WroteSome output new (WritesBegun status disks (outside.disk (journal_in folder)))
+init_told disks folder outside beyond input now output new status (inl none) = ([], none.wrote, not_lent_begun disks (outside.disk (journal_in folder)) status _ none.cause)
+init_told disks folder outside beyond input now output new status (inr i) =
+    let lent = i.inits.borrowed.each.0.lent in
+    elim i.inits.does [
+      | inl done ↦ elim done.1 [
+        | inl b ↦ line_begun disks (outside.disk (journal_in folder)) ready output new Done status (refl, where_told disks (outside.disk (journal_in folder)) i.given _ lent b.0.empty) (λ part begins. inl begins) b.0.says
+        | inr n ↦ refused_begun disks (outside.disk (journal_in folder)) i.given (disks.faults i.given) (disks.faults i.back) output new status n.0.fault lent n.0.cause n.0.says
+      ]
+      | inr u ↦ ([], u.wrote, not_lent_begun disks (outside.disk (journal_in folder)) status _ u.cause)
+    ]

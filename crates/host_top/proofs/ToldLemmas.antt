@@ -1,5 +1,5 @@
 -- A command for a caller who is told the files, the input and what the output holds.
-use Rattle.std.proofs.Common.{◌≡◌, ℕ, ◌^◌, ◌≤◌, ◌⊎◌, inl, inr, List, [], ◌++◌, map, take, length, refl, sym, ap, ◌∙◌, subst, append_assoc, slice_get, Option, None, Some, IfSome, IsSomeAnd, Result, Ok, Err, IfOk, true}
+use Rattle.std.proofs.Common.{◌≡◌, ℕ, ◌^◌, ◌≤◌, ◌⊎◌, inl, inr, List, [], ◌∷◌, ◌++◌, map, take, length, refl, sym, ap, ◌∙◌, subst, append_assoc, slice_get, Option, None, Some, IfSome, IsSomeAnd, Result, Ok, Err, IfOk, true}
 use Rattle.std.proofs.lemmas.List.{append-nil}
 use Rattle.std.specs.Io.KnownBytes.{Appends}
 use Rattle.story_run.specs.declared.story.Story.{Story}
@@ -9,16 +9,13 @@ use Rattle.host_top.specs.declared.stories.Refusal.{Refusal}
 use Rattle.host_drill.specs.Drill.{drill_text}
 use Rattle.command_words.specs.declared.words.Action.{Action}
 use Rattle.command_words.specs.declared.words.Action.TheVariants.{Run, Check, Pipe, Serve, Drill, Init, Help, Version}
-use Rattle.host_top.specs.Borrowed.{journal_in}
+use Rattle.host_top.specs.Borrowed.{journal_in, snaps_below}
 use Rattle.host_top.specs.Files.{OutsideState, Told}
 use Rattle.host_top.specs.Follows.{Does, Follows, Tells, WritesFor}
 use Rattle.host_top.specs.Headline.{Speech, Writes, whole_text}
 use Rattle.command_words.specs.Help.{help_text, version_text}
 use Rattle.line_talk.specs.Lines.{lines, talk, IsWithinLimits}
-use Rattle.host_top.specs.Begun.{WritesBegun}
 use Rattle.host_top.specs.DiskWords.{DiskWords}
-use Rattle.host_top.specs.Served.{WritesServed}
-use Rattle.host_top.specs.LinksServed.{WritesLinks}
 use Rattle.host_top.specs.Speech.{Task, Says, Serves, ServesLinks, Begins, tasked}
 use Rattle.host_top.specs.Status.{status_of}
 use Rattle.host_top.specs.Spoken.{Spoken, Leaves}
@@ -29,8 +26,9 @@ use Rattle.line_talk.specs.Talked.{IsReadToEnd}
 use Rattle.command_words.specs.Words.{Asked}
 use Rattle.line_talk.specs.Writing.{IsPartOf}
 use Rattle.line_talk.proofs.LinesLemmas.{still_reached, talk_settled, talk_first}
-use Rattle.host_top.proofs.ServedLemmas.{WroteSome, consumed, nothing_left, pipe_told, init_told, links_told, not_lent_served, not_lent_links, not_lent_begun, not_loaded_served, not_loaded_links, not_loaded_begun}
-use Rattle.host_top.proofs.BorrowLemmas.{keeps_none, not_lent}
+use Rattle.host_top.proofs.ServedLemmas.{WroteSome, consumed, nothing_left, pipe_told, init_told, links_told, not_lent_served, not_lent_links, not_loaded_served, not_loaded_links, not_loaded_begun}
+use Rattle.host_top.proofs.BorrowLemmas.{keeps_none}
+use Rattle.host_top.proofs.FolderLemmas.{not_lent, takes_lent}
 use Rattle.host_top.proofs.SpeechLemmas.{spoken_nothing, IsSteady, steady_once, steady_run, steady_check}
 use Rattle.host_top.proofs.StoriesLemmas.{settled_told}
 
@@ -86,7 +84,7 @@ nothing_writes status P said input (inr wanted) = subst (λ (s : Status). Writes
 abbrev IsSteadyTask : Result Task (List ℕ) → Type 0
 IsSteadyTask (Ok (Says speech)) = IsSteady speech
 IsSteadyTask (Ok (Serves stories budget folder)) = Unit {0}
-IsSteadyTask (Ok (ServesLinks folder)) = Unit {0}
+IsSteadyTask (Ok (ServesLinks stories folder)) = Unit {0}
 IsSteadyTask (Ok (Begins folder)) = Unit {0}
 IsSteadyTask (Err line) = Unit {0}
 
@@ -122,42 +120,30 @@ held_on : {D : Type 0} (disks : DiskWords D) (task : Result Task (List ℕ)) →
     → (written : List ℕ) × (new.held ≡ Some (held ++ written)) × WritesFor disks outside.disk status task bytes written
 held_on disks (Err line) s bytes held outside beyond input now output new status does left_is held_is = said_held (Err line) tt bytes held status does.0 left_is held_is
 held_on disks (Ok (Says speech)) s bytes held outside beyond input now output new status does left_is held_is = said_held (Ok speech) s bytes held status does.0 left_is held_is
-held_on disks (Ok (Serves stories budget folder)) s bytes held outside beyond input now output new status (inl (inl none)) left_is held_is =
-    held_so held _ held_is ([], none.wrote, not_lent_served disks stories budget (outside.disk (journal_in folder)) bytes status _ none.cause)
-held_on disks (Ok (Serves stories budget folder)) s bytes held outside beyond input now output new status (inl (inr b)) left_is held_is =
-    held_so held _ held_is (pipe_told disks stories budget (outside.disk (journal_in folder)) bytes b.given b.back input now output new status b.lent left_is b.done)
-held_on disks (Ok (Serves stories budget folder)) s bytes held outside beyond input now output new status (inr gone) left_is held_is =
-    held_so held _ held_is ([], gone.wrote, not_lent_served disks stories budget (outside.disk (journal_in folder)) bytes status (Unit {0}) (inr gone.wanted))
-held_on disks (Ok (ServesLinks folder)) s bytes held outside beyond input now output new status (inl (inl none), doors) left_is held_is =
+held_on disks (Ok (Serves stories budget folder)) s bytes held outside beyond input now output new status (inl none) left_is held_is =
+    held_so held _ held_is ([], none.wrote, not_lent_served disks stories budget outside.disk folder bytes status _ none.cause)
+held_on disks (Ok (Serves stories budget folder)) s bytes held outside beyond input now output new status (inr t) left_is held_is =
+    held_so held _ held_is (pipe_told disks stories budget outside.disk folder bytes t.given t.givens t.back input now output new status
+    (takes_lent disks folder t.given t.givens t.back outside beyond t.many t.borrowed) left_is t.done)
+held_on disks (Ok (ServesLinks stories folder)) s bytes held outside beyond input now output new status (inl none, doors) left_is held_is =
     held_so held _ held_is ([], none.wrote, not_lent_links disks (outside.disk (journal_in folder)) status _ none.cause)
-held_on disks (Ok (ServesLinks folder)) s bytes held outside beyond input now output new status (inl (inr b), doors) left_is held_is =
-    held_so held _ held_is (links_told disks (outside.disk (journal_in folder)) b.given b.back input now output new status b.lent b.done)
-held_on disks (Ok (ServesLinks folder)) s bytes held outside beyond input now output new status (inr gone, doors) left_is held_is =
-    held_so held _ held_is ([], gone.wrote, not_lent_links disks (outside.disk (journal_in folder)) status (Unit {0}) (inr gone.wanted))
-held_on disks (Ok (Begins folder)) s bytes held outside beyond input now output new status (inl none) left_is held_is =
-    held_so held _ held_is ([], none.wrote, not_lent_begun disks (outside.disk (journal_in folder)) status _ none.cause)
-held_on disks (Ok (Begins folder)) s bytes held outside beyond input now output new status (inr b) left_is held_is =
-    held_so held _ held_is (init_told disks (outside.disk (journal_in folder)) b.given b.back input now output new status b.lent b.done)
+held_on disks (Ok (ServesLinks stories folder)) s bytes held outside beyond input now output new status (inr t, doors) left_is held_is =
+    held_so held _ held_is (links_told disks stories (outside.disk (journal_in folder)) t.given t.givens t.back input now output new status t.borrowed.each.0.lent t.done)
+held_on disks (Ok (Begins folder)) s bytes held outside beyond input now output new status does left_is held_is =
+    held_so held _ held_is (init_told disks folder outside beyond input now output new status does)
 
 nothing_tells : {D : Type 0} (disks : DiskWords D) (disk : List ℕ → Told D) (status : Status) (P : Type 0) (task : Result Task (List ℕ)) (input : List ℕ)
     → (status ≡ ReadFault) × P ⊎ (status ≡ NoMemory) → WritesFor disks disk status task input []
 nothing_tells disks disk status P (Err line) input c = nothing_writes status P (Err line) input c
 nothing_tells disks disk status P (Ok (Says speech)) input c = nothing_writes status P (Ok speech) input c
-nothing_tells disks disk status P (Ok (Serves stories budget folder)) input c = not_loaded_served disks stories budget (disk (journal_in folder)) input status P c
-nothing_tells disks disk status P (Ok (ServesLinks folder)) input c = not_loaded_links disks (disk (journal_in folder)) status P c
+nothing_tells disks disk status P (Ok (Serves stories budget folder)) input c = not_loaded_served disks stories budget disk folder input status P c
+nothing_tells disks disk status P (Ok (ServesLinks stories folder)) input c = not_loaded_links disks (disk (journal_in folder)) status P c
 nothing_tells disks disk status P (Ok (Begins folder)) input c = not_loaded_begun disks (disk (journal_in folder)) status P c
 
 -- the disks that are told are those from before the loads
 same_told : {D : Type 0} (disks : DiskWords D) (old new : List ℕ → Told D) (status : Status) (task : Result Task (List ℕ)) (input written : List ℕ)
     → ((name : List ℕ) → new name ≡ old name) → WritesFor disks new status task input written → WritesFor disks old status task input written
-same_told disks old new status (Err line) input written same w = w
-same_told disks old new status (Ok (Says speech)) input written same w = w
-same_told {D} disks old new status (Ok (Serves stories budget folder)) input written same w =
-    subst (λ (t : Told D). WritesServed status disks stories budget t input written) (same (journal_in folder)) w
-same_told {D} disks old new status (Ok (ServesLinks folder)) input written same w =
-    subst (λ (t : Told D). WritesLinks status disks t written) (same (journal_in folder)) w
-same_told {D} disks old new status (Ok (Begins folder)) input written same w =
-    subst (λ (t : Told D). WritesBegun status disks t written) (same (journal_in folder)) w
+same_told {D} disks old new status task input written same w = subst (λ (f : List ℕ → Told D). WritesFor disks f status task input written) (λ i name. same name i) w
 
 pub tells : {D : Type 0} (disks : DiskWords D) (asked : Asked) (status : Status) (outside beyond : OutsideState D) (input now : SourceState) (output new : SinkState)
     → Follows disks asked status outside beyond input now output new → Tells disks asked status outside input output new
@@ -178,10 +164,10 @@ pub does_nothing : {D : Type 0} (disks : DiskWords D) (task : Result Task (List 
     → Does disks task outside outside input input output output NoMemory
 does_nothing disks (Err line) outside input output = (spoken_nothing (Err line) input output, keeps_none outside)
 does_nothing disks (Ok (Says speech)) outside input output = (spoken_nothing (Ok speech) input output, keeps_none outside)
-does_nothing disks (Ok (Serves stories budget folder)) outside input output = inl (inl (not_lent outside input output))
-does_nothing disks (Ok (ServesLinks folder)) outside input output =
-    (inl (inl (not_lent outside input output)), record { done = λ e. cc; not_done = λ e. refl; fault = λ e. cc })
-does_nothing disks (Ok (Begins folder)) outside input output = inl (not_lent outside input output)
+does_nothing disks (Ok (Serves stories budget folder)) outside input output = inl (not_lent disks (journal_in folder ∷ snaps_below folder 64) outside input output)
+does_nothing disks (Ok (ServesLinks stories folder)) outside input output =
+    (inl (not_lent disks (journal_in folder ∷ snaps_below folder 64) outside input output), record { done = λ e. cc; not_done = λ e. refl; fault = λ e. cc })
+does_nothing disks (Ok (Begins folder)) outside input output = inl (not_lent disks (journal_in folder ∷ []) outside input output)
 
 -- where memory was wanted before a file was loaded, each caller is told so
 tells_nothing : {D : Type 0} (disks : DiskWords D) (asked : Asked) (outside : OutsideState D) (input : SourceState) (output : SinkState) → Tells disks asked NoMemory outside input output output

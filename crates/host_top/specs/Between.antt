@@ -11,11 +11,11 @@ use Rattle.host_serve.specs.declared.served.Served.{Served}
 use Rattle.line_talk.specs.Streams.{SourceState, SinkState}
 
 -- what was read, which lines of it had which turns, what was written, and how these turns follow
--- one another on what the passes had seen
-pub record ServesBetween {D : Type 0} (host : Host D) (old new : Passes D)
+-- one another on what the passes had seen; `sound` says that the host is sound
+pub record ServesBetween {D : Type 0} (sound : Type 0) (host : Host D) (old new : Passes D)
     (input now : SourceState) (output after : SinkState) (served : Served) : Type 0 where
   pub turns : List Turn
   pub marks : List Mark
   pub tells : Tells turns input now output after [] marks served
-  pub chain : Chain host.stories.now host.budget (holders old.desks.items)
+  pub chain : Chain host.stories.now host.budget sound (holders old.desks.items)
       (seens old.desks.items) turns (seens new.desks.items)

@@ -1,7 +1,8 @@
 -- What a command leaves of the files, the disks, the input and the output (own).
 use Rattle.std.specs.Prelude.{◌≡◌, ℕ, ◌⊎◌, List, [], ◌++◌, map, take, Some, Result, Ok, Err}
-use Rattle.host_top.specs.Begun.{InitsOver, WritesBegun}
-use Rattle.host_top.specs.Borrowed.{UsesDisk, UsesJournal, journal_in}
+use Rattle.host_top.specs.Begun.{InitsOn, WritesBegun}
+use Rattle.host_top.specs.Borrowed.{journal_in}
+use Rattle.host_top.specs.Folder.{UsesFolder}
 use Rattle.line_talk.specs.Causes.{Rose}
 use Rattle.host_top.specs.Files.{OutsideState, KeepsDisks, KeepsDoors, Told, There}
 use Rattle.host_top.specs.Headline.{Writes}
@@ -26,18 +27,17 @@ Does disks (Err line) outside beyond input now output new status =
 Does disks (Ok (Says speech)) outside beyond input now output new status =
     Spoken (Ok speech) input now output new status × KeepsDisks outside beyond
 Does disks (Ok (Serves stories budget folder)) outside beyond input now output new status =
-    UsesJournal disks (journal_in folder)
-    (λ given back. PipesOver disks stories budget given back input now output new status)
+    UsesFolder disks folder
+    (λ given givens back. PipesOver disks stories budget given givens back input now output new
+    status)
     outside beyond input now output new status
-Does disks (Ok (ServesLinks folder)) outside beyond input now output new status =
-    UsesJournal disks (journal_in folder)
-    (λ given back. ServesOver disks given back input now output new status)
+Does disks (Ok (ServesLinks stories folder)) outside beyond input now output new status =
+    UsesFolder disks folder
+    (λ given givens back. ServesOver disks stories given givens back input now output new status)
     outside beyond input now output new status
     × DoorsBy outside beyond status
 Does disks (Ok (Begins folder)) outside beyond input now output new status =
-    UsesDisk disks (journal_in folder)
-    (λ given back. InitsOver disks given back input now output new status)
-    outside beyond input now output new status
+    InitsOn disks folder outside beyond input now output new status
 
 -- a load failed behind stories alone, or memory was wanted; and nothing was read or written
 pub record NotLoaded {D : Type 0} (names : List (List ℕ)) (outside beyond : OutsideState D)
@@ -76,8 +76,8 @@ WritesFor disks disk status (Err line) bytes written = Writes status (Err line) 
 WritesFor disks disk status (Ok (Says speech)) bytes written =
     Writes status (Ok speech) bytes written
 WritesFor disks disk status (Ok (Serves stories budget folder)) bytes written =
-    WritesServed status disks stories budget (disk (journal_in folder)) bytes written
-WritesFor disks disk status (Ok (ServesLinks folder)) bytes written =
+    WritesServed status disks stories budget disk folder bytes written
+WritesFor disks disk status (Ok (ServesLinks stories folder)) bytes written =
     WritesLinks status disks (disk (journal_in folder)) written
 WritesFor disks disk status (Ok (Begins folder)) bytes written =
     WritesBegun status disks (disk (journal_in folder)) written

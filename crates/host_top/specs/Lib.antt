@@ -6,6 +6,7 @@ pub mod Piped
 pub mod Served
 pub mod Begun
 pub mod Borrowed
+pub mod Folder
 pub mod Said
 pub mod DiskWords
 pub mod CheckText

@@ -1,4 +1,4 @@
--- What `serve` leaves of its journal's disk, its output and its door (own).
+-- What `serve` leaves of the disks of a folder, of its output and of its door (own).
 use Rattle.std.specs.Prelude.{◌≡◌, ◌⊎◌, ℕ, ◌+◌, ◌≤◌, max, IsTrue, List, [], ◌++◌, length, Option}
 use Rattle.disk_model.specs.Disk.{EachImage, LeavesOnly}
 use Rattle.gate_journal.specs.declared.entry.Entry.{Entry as JournalEntry}
@@ -6,18 +6,21 @@ use Rattle.gate_journal.specs.declared.row.Row.{Row}
 use Rattle.gate_journal.specs.Log.{IsBetween, MayOpen, MaySpell, Rises, rows_of}
 use Rattle.gate_journal.specs.Rows.{SpellsRows, IsJournal, spelled}
 use Rattle.line_talk.specs.Causes.{Rose}
+use Rattle.story_run.specs.declared.story.Story.{Story}
 use Rattle.line_talk.specs.Streams.{SourceState, SinkState, Gave, Wrote}
 use Rattle.host_top.specs.DiskWords.{DiskWords}
 use Rattle.host_top.specs.Files.{OutsideState, Told, after_one}
-use Rattle.host_top.specs.Piped.{NotOpened}
+use Rattle.host_top.specs.Piped.{HostedOver, StoresBack}
 use Rattle.host_top.specs.Served.{BeginsRefusal, RefusesJournal}
+use Rattle.host_top.specs.declared.folder.Back.{Back}
 use Rattle.host_top.specs.declared.status.Status.{Status}
 use Rattle.host_top.specs.declared.status.Status.TheVariants as ends
 
 -- The links were served from the rows handed in, or no door was given, or memory was wanted first:
--- what a stop leaves of the journal handed back. Of what was answered nothing is said.
-pub record LinksServed {D : Type 0} (disks : DiskWords D) (given back : D)
-    (input now : SourceState) (output new : SinkState) (status : Status) : Type 0 where
+-- what a stop leaves of the disks handed back. Of what was answered nothing is said.
+pub record LinksServed {D : Type 0} (disks : DiskWords D) (stories : List Story)
+    (given : D) (givens : List D) (back : D) (backs : List D) (input now : SourceState)
+    (output new : SinkState) (status : Status) : Type 0 where
   pub how : (status ≡ ends.Done) ⊎ (status ≡ ends.DoorFault) ⊎ (status ≡ ends.NoMemory)
   pub gave : Gave input now []
   pub wrote : Wrote output new []
@@ -45,13 +48,15 @@ pub record LinksServed {D : Type 0} (disks : DiskWords D) (given back : D)
   -- nothing is written farther behind the closing gate than the longest row reaches
   pub reaches :
       disks.reach back ≤ max (disks.reach given) (length (spelled (rows_of journal)) + 4110)
+  pub stores : StoresBack disks stories rows (rows_of journal) givens backs
 
--- the links were served, or the journal isn't opened
-abbrev pub ServesOver : {D : Type 0} → DiskWords D → D → D → SourceState → SourceState
-    → SinkState → SinkState → Status → Type 0
-ServesOver disks given back input now output new status =
-    LinksServed disks given back input now output new status
-    ⊎ NotOpened disks given back input now output new status
+-- the links were served, or a disk of the folder is refused, or all are let go
+abbrev pub ServesOver : {D : Type 0} → DiskWords D → List Story → D → List D → Back D
+    → SourceState → SourceState → SinkState → SinkState → Status → Type 0
+ServesOver disks stories given givens back input now output new status =
+    HostedOver (λ journal snaps.
+    LinksServed disks stories given givens journal snaps input now output new status)
+    disks given givens back input now output new status
 
 -- What becomes of doors, by the exit status: one more was shut where the command is done, and else
 -- none; a door, or the call that gives it, failed where the status says so.

@@ -1,6 +1,7 @@
--- What `pipe` leaves of its journal's disk, its input and its output (own).
-use Rattle.std.specs.Prelude.{◌≡◌, ◌⊎◌, ℕ, ◌+◌, ◌^◌, ◌<◌, ◌≤◌, max, IsTrue, List, [], length}
-use Rattle.std.specs.Prelude.{Option}
+-- What `pipe` leaves of the disks of a folder, of its input and of its output (own).
+use Rattle.std.specs.Prelude.{◌≡◌, ◌⊎◌, ℕ, ◌+◌, ◌^◌, ◌<◌, ◌≤◌, max, IsTrue, List, [], ◌∷◌, length}
+use Rattle.std.specs.Prelude.{Option, map, slice_set}
+use Rattle.std.specs.List.{AllZip}
 use Rattle.disk_model.specs.Disk.{EachImage, LeavesOnly}
 use Rattle.gate_journal.specs.declared.entry.Entry.{Entry as JournalEntry}
 use Rattle.gate_journal.specs.declared.row.Row.{Row}
@@ -8,16 +9,21 @@ use Rattle.gate_journal.specs.declared.fault.JournalFault.{JournalFault}
 use Rattle.gate_journal.specs.Faults.{HasCause, Explains}
 use Rattle.gate_journal.specs.Log.{IsBetween, MayOpen, MaySpell, ReachesGate, Rises, rows_of}
 use Rattle.gate_journal.specs.Rows.{SpellsRows, IsJournal, commands_of, spelled}
-use Rattle.host_serve.specs.Opening.{histories_of}
+use Rattle.host_serve.specs.Ending.{AreAgreedDisks}
+use Rattle.host_serve.specs.Opening.{AreAgreed, histories_of}
+use Rattle.host_serve.specs.Serves.{Turn}
 use Rattle.host_serve.specs.Told.{AnsweredOf, WritesReplies}
 use Rattle.host_serve.specs.declared.served.Served.{Served}
-use Rattle.session_core.specs.Hosts.{AreMet, replies_met, histories_met, entries_of}
-use Rattle.session_core.specs.Turning.{commands_in}
+use Rattle.session_core.specs.Hosts.{AreMet, entries_of, histories_met, replies_met, session_on}
+use Rattle.session_core.specs.Turning.{MayMeet, Turned, commands_in, decision_in, turn_in}
+use Rattle.session_core.specs.declared.decision.Decision.{Decision}
 use Rattle.session_core.specs.declared.entry.Entry.{Entry}
-use Rattle.session_core.specs.declared.entry.Outcome.{Outcome}
 use Rattle.session_desk.specs.Turn.{history_in}
 use Rattle.story_run.specs.declared.story.Story.{Story}
 use Rattle.host_top.specs.DiskWords.{DiskWords}
+use Rattle.host_top.specs.Folder.{LetsGo, StoreFails}
+use Rattle.host_top.specs.declared.folder.Back.{Back}
+use Rattle.host_top.specs.declared.folder.Back.TheVariants.{All, Journal, Snap, Nothing}
 use Rattle.host_top.specs.Said.{SaysFault}
 use Rattle.host_top.specs.Status.{status_of_served}
 use Rattle.line_talk.specs.Streams.{SourceState, SinkState, Gave, Wrote}
@@ -33,36 +39,84 @@ abbrev pub HasEntries : List JournalEntry → List (List Entry) → Type 0
 HasEntries journal histories =
     (s : ℕ) → s < 64 → history_in journal s ≡ entries_of histories s
 
+-- the turn of an answered line on the history of the session that it names, in the world that the
+-- host held of that session
+abbrev pub turn_held : List Story → ℕ → List (List Entry) → Turn → Turned
+turn_held stories budget histories t =
+    turn_in stories budget (entries_of histories (session_on t.line)) t.world 0 t.line t.outcome
+
+-- and what the session decides on it
+abbrev pub decision_held : List Story → ℕ → List (List Entry) → Turn → Decision
+decision_held stories budget histories t =
+    decision_in stories budget (commands_in (entries_of histories (session_on t.line))) t.world
+    t.line
+
+-- the turns of lines, one after the other, lead from these histories to those
+abbrev pub Lead : List Story → ℕ → List (List Entry) → List Turn → List (List Entry) → Type 0
+Lead stories budget histories [] after = after ≡ histories
+Lead stories budget histories (t ∷ turns) after =
+    MayMeet (decision_held stories budget histories t).accepted t.outcome
+    × (t.reply ≡ (turn_held stories budget histories t).reply)
+    × Lead stories budget
+    (slice_set histories (session_on t.line) (turn_held stories budget histories t).history) turns
+    after
+
+-- the same turns by each session's own world
+pub record LeadAlone (stories : List Story) (budget : ℕ) (histories : List (List Entry))
+    (turns : List Turn) (after : List (List Entry)) : Type 0 where
+  pub met :
+      AreMet stories budget histories 0 (map (λ (t : Turn). t.line) turns)
+      (map (λ (t : Turn). t.outcome) turns)
+  pub replies :
+      map (λ (t : Turn). t.reply) turns
+      ≡ replies_met stories budget histories 0 (map (λ (t : Turn). t.line) turns)
+      (map (λ (t : Turn). t.outcome) turns)
+  pub accepted :
+      after ≡ histories_met stories budget histories 0 (map (λ (t : Turn). t.line) turns)
+      (map (λ (t : Turn). t.outcome) turns)
+
+-- the disk of a store comes back: it isn't written past the end of area B
+pub record IsStoreBack {D : Type 0} (disks : DiskWords D) (given back : D) : Type 0 where
+  pub counts : disks.faults given ≤ disks.faults back
+  pub reaches : disks.reach back ≤ max (disks.reach given) 16781344
+
+-- and so do those of all stores; where they were sound, each image agrees with these rows
+pub record StoresBack {D : Type 0} (disks : DiskWords D) (stories : List Story)
+    (rows after : List Row) (givens backs : List D) : Type 0 where
+  pub each : AllZip (IsStoreBack disks) givens backs
+  pub agreed :
+      AreAgreed disks.tells disks.seen stories rows givens
+      → AreAgreedDisks disks.tells disks.may_leave stories after backs
+
 -- The lines that were answered, from the sessions of the journal handed in, each by what its turn
--- met; what was written; and what a stop leaves of the journal handed back.
+-- met; what was written; and what a stop leaves of the disks handed back.
 pub record Conversed {D : Type 0} (disks : DiskWords D) (stories : List Story) (budget : ℕ)
-    (given back : D) (input now : SourceState) (output new : SinkState)
-    (served : Served) : Type 0 where
+    (given : D) (givens : List D) (back : D) (backs : List D) (input now : SourceState)
+    (output new : SinkState) (served : Served) : Type 0 where
   pub rows : List Row
   pub handed_in : IsTrue (disks.tells given) → SpellsRows (disks.seen given) rows
   pub read : List ℕ
-  pub answered : List (List ℕ)
-  pub outcomes : List Outcome
+  pub turns : List Turn
   pub written : List ℕ
   pub gave : Gave input now read
   pub within : length read ≤ 2 ^ 31
-  pub which : AnsweredOf served read now answered
-  pub met : AreMet stories budget (histories_of rows) 0 answered outcomes
+  pub which : AnsweredOf served read now (map (λ (t : Turn). t.line) turns)
   pub wrote : Wrote output new written
-  pub writes :
-      WritesReplies served written
-      (replies_met stories budget (histories_of rows) 0 answered outcomes)
+  pub writes : WritesReplies served written (map (λ (t : Turn). t.reply) turns)
+  -- each line's turn is made in the world that the host held of its session; where the stores
+  -- handed in are sound, this is the session's own
+  pub histories : List (List Entry)
+  pub led : Lead stories budget (histories_of rows) turns histories
+  pub sound :
+      AreAgreed disks.tells disks.seen stories rows givens
+      → LeadAlone stories budget (histories_of rows) turns histories
   -- the journal afterwards has the commands that the sessions accepted, and the faults that replies
   -- told, each session's in their order; the counts of the faults rise, from the disk's as it was
   -- handed in to the disk's as it was handed back
   pub journal : List JournalEntry
-  pub entries :
-      HasEntries journal
-      (histories_met stories budget (histories_of rows) 0 answered outcomes)
+  pub entries : HasEntries journal histories
   pub faults : Rises (disks.faults given) journal (disks.faults back)
-  pub accepted :
-      HaveCommands (rows_of journal)
-      (histories_met stories budget (histories_of rows) 0 answered outcomes)
+  pub accepted : HaveCommands (rows_of journal) histories
   -- each image spells these rows, or these and the one row whose gate is uncertain
   pub uncertain : Option Row
   pub images :
@@ -78,6 +132,7 @@ pub record Conversed {D : Type 0} (disks : DiskWords D) (stories : List Story) (
   -- nothing is written farther behind the closing gate than the longest row reaches
   pub reaches :
       disks.reach back ≤ max (disks.reach given) (length (spelled (rows_of journal)) + 4110)
+  pub stores : StoresBack disks stories rows (rows_of journal) givens backs
 
 -- The journal isn't opened: no line is read, and what an opening may meet it may meet again.
 pub record NotOpened {D : Type 0} (disks : DiskWords D) (given back : D)
@@ -100,10 +155,22 @@ pub record NotOpened {D : Type 0} (disks : DiskWords D) (given back : D)
       IsTrue (disks.tells given)
       → ReachesGate (disks.seen given) (disks.reach given) (disks.reach back)
 
--- one of the two, over the disk of a journal
-abbrev pub PipesOver : {D : Type 0} → DiskWords D → List Story → ℕ → D → D → SourceState
-    → SourceState → SinkState → SinkState → Status → Type 0
-PipesOver disks stories budget given back input now output new status =
-    ((served : Served) × (status ≡ status_of_served served)
-    × Conversed disks stories budget given back input now output new served)
-    ⊎ NotOpened disks given back input now output new status
+-- a host served with the disks of a folder, or one of them is refused, or all are let go
+abbrev pub HostedOver : {D : Type 0} → (D → List D → Type 0) → DiskWords D → D → List D
+    → Back D → SourceState → SourceState → SinkState → SinkState → Status → Type 0
+HostedOver Hosts disks given givens (All journal snaps) input now output new status =
+    Hosts journal snaps.items
+HostedOver Hosts disks given givens (Journal journal) input now output new status =
+    NotOpened disks given journal input now output new status
+HostedOver Hosts disks given givens (Snap session snap) input now output new status =
+    StoreFails disks givens session snap input now output new status
+HostedOver Hosts disks given givens Nothing input now output new status =
+    LetsGo input now output new status
+
+-- the same for `pipe`
+abbrev pub PipesOver : {D : Type 0} → DiskWords D → List Story → ℕ → D → List D → Back D
+    → SourceState → SourceState → SinkState → SinkState → Status → Type 0
+PipesOver disks stories budget given givens back input now output new status =
+    HostedOver (λ journal snaps. (served : Served) × (status ≡ status_of_served served)
+    × Conversed disks stories budget given givens journal snaps input now output new served)
+    disks given givens back input now output new status

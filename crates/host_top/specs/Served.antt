@@ -1,17 +1,22 @@
 -- What `pipe` writes for an input, by its exit status, for a caller who is told the bytes (own).
-use Rattle.std.specs.Prelude.{◌≡◌, ◌⊎◌, ℕ, IsTrue, List, []}
-use Rattle.gate_journal.specs.Rows.{SpellsRows, HasNoHeader, IsCorrupt}
+use Rattle.std.specs.Prelude.{◌≡◌, ◌⊎◌, ℕ, ◌<◌, IsTrue, List, [], map}
+use Rattle.gate_journal.specs.Rows.{SpellsRows, HasNoHeader, IsCorrupt, commands_of}
 use Rattle.gate_journal.specs.declared.row.Row.{Row}
-use Rattle.session_core.specs.Hosts.{AreMet, replies_met}
-use Rattle.session_core.specs.declared.entry.Outcome.{Outcome}
+use Rattle.session_core.specs.History.{game_of}
+use Rattle.session_core.specs.declared.entry.Entry.{Entry}
+use Rattle.session_desk.specs.Opens.{opens_of}
+use Rattle.session_saves.specs.Agreement.{IsAgreedFile}
 use Rattle.story_run.specs.declared.story.Story.{Story}
-use Rattle.host_top.specs.DiskWords.{DiskWords}
+use Rattle.host_top.specs.Borrowed.{journal_in, snap_in}
+use Rattle.host_top.specs.DiskWords.{DiskWords, WhereTold}
 use Rattle.host_top.specs.Files.{Told, Untold, Missing, There}
 use Rattle.line_talk.specs.Lines.{lines, talk, IsWithinLimits, ReachesLimit}
 use Rattle.host_serve.specs.Opening.{histories_of}
+use Rattle.host_serve.specs.Serves.{Turn}
 use Rattle.host_serve.specs.Told.{WritesReplies}
 use Rattle.host_serve.specs.declared.served.Served.{Served}
 use Rattle.host_serve.specs.declared.served.Served.TheVariants as served
+use Rattle.host_top.specs.Piped.{Lead, LeadAlone}
 use Rattle.host_top.specs.Said.{bad_journal, bad_journal_at}
 use Rattle.line_talk.specs.Talked.{AreFirst}
 use Rattle.line_talk.specs.Writing.{IsPartOf}
@@ -19,16 +24,6 @@ use Rattle.host_top.specs.declared.status.Status.{Status}
 use Rattle.host_top.specs.declared.status.Status.TheVariants.{Done, BadWords, Refused, ReadFault}
 use Rattle.host_top.specs.declared.status.Status.TheVariants.{WriteFault, NoMemory, LineLimit}
 use Rattle.host_top.specs.declared.status.Status.TheVariants.{DiskFault, BadFolder, DoorFault}
-
--- the bytes of a disk that is told have P; where there is told to be none, no bytes have
-abbrev pub BytesHave : {D : Type 0} → (D → List ℕ) → Told D → (List ℕ → Type 0) → Type 0
-BytesHave seen Untold P = Unit {0}
-BytesHave seen Missing P = P []
-BytesHave seen (There disk) P = P (seen disk)
-
--- the same where all disks tell what they hold
-abbrev pub WhereTold : {D : Type 0} → DiskWords D → Told D → (List ℕ → Type 0) → Type 0
-WhereTold {D} disks told P = ((d : D) → IsTrue (disks.tells d)) → BytesHave disks.seen told P
 
 -- the lines of an input that were answered, by how it ended
 abbrev pub AnswersIn : Served → List ℕ → List (List ℕ) → Type 0
@@ -39,18 +34,35 @@ AnswersIn served.WriteFault input answered = AreFirst answered (talk input)
 AnswersIn served.NoMemory input answered = AreFirst answered (talk input)
 AnswersIn served.LineLimit input answered = (answered ≡ talk input) × ReachesLimit input
 
--- each of these lines has one reply, by what its turn met, from the sessions of the journal's rows
+-- the bytes of a disk are told, and have P; where there is told to be none, no bytes have
+abbrev pub AreTold : {D : Type 0} → (D → List ℕ) → Told D → (List ℕ → Type 0) → Type 0
+AreTold seen Untold P = ⊥
+AreTold seen Missing P = P []
+AreTold seen (There disk) P = P (seen disk)
+
+-- The stores of a folder are sound: all disks tell what they hold, each store's is told, and its
+-- file agrees with the rows of its session.
+abbrev pub AreSound : {D : Type 0} → DiskWords D → List Story → (List ℕ → Told D) → List ℕ
+    → List Row → Type 0
+AreSound {D} disks stories disk folder rows =
+    ((d : D) → IsTrue (disks.tells d))
+    × ((s : ℕ) → s < 64 → AreTold disks.seen (disk (snap_in folder s))
+    (IsAgreedFile stories (opens_of rows s) (game_of (commands_of rows s))))
+
+-- each of these lines has one reply, by what its turn met, from the sessions of the journal's rows;
+-- where the folder's stores are sound, that of `turn_of`
 pub record WritesTurns {D : Type 0} (disks : DiskWords D) (stories : List Story) (budget : ℕ)
-    (journal : Told D) (input written : List ℕ) (how : Served) : Type 0 where
+    (disk : List ℕ → Told D) (folder input written : List ℕ) (how : Served) : Type 0 where
   pub rows : List Row
-  pub handed_in : WhereTold disks journal (λ bytes. SpellsRows bytes rows)
-  pub answered : List (List ℕ)
-  pub outcomes : List Outcome
-  pub which : AnswersIn how input answered
-  pub met : AreMet stories budget (histories_of rows) 0 answered outcomes
-  pub writes :
-      WritesReplies how written
-      (replies_met stories budget (histories_of rows) 0 answered outcomes)
+  pub handed_in : WhereTold disks (disk (journal_in folder)) (λ bytes. SpellsRows bytes rows)
+  pub turns : List Turn
+  pub which : AnswersIn how input (map (λ (t : Turn). t.line) turns)
+  pub writes : WritesReplies how written (map (λ (t : Turn). t.reply) turns)
+  pub histories : List (List Entry)
+  pub led : Lead stories budget (histories_of rows) turns histories
+  pub sound :
+      AreSound disks stories disk folder rows
+      → LeadAlone stories budget (histories_of rows) turns histories
 
 -- the line by which a journal is refused
 abbrev pub RefusesJournal : {D : Type 0} → DiskWords D → Told D → List ℕ → Type 0
@@ -65,23 +77,23 @@ BeginsRefusal disks journal written =
     (line : List ℕ) × RefusesJournal disks journal line × IsPartOf written line
 
 -- what is written
-abbrev pub WritesServed : {D : Type 0} → Status → DiskWords D → List Story → ℕ → Told D
-    → List ℕ → List ℕ → Type 0
-WritesServed Done disks stories budget journal input written =
-    WritesTurns disks stories budget journal input written served.End
-WritesServed BadWords disks stories budget journal input written = ⊥
-WritesServed Refused disks stories budget journal input written = ⊥
-WritesServed ReadFault disks stories budget journal input written =
-    (written ≡ []) ⊎ WritesTurns disks stories budget journal input written served.ReadFault
-WritesServed WriteFault disks stories budget journal input written =
-    WritesTurns disks stories budget journal input written served.WriteFault
-    ⊎ BeginsRefusal disks journal written
-WritesServed DiskFault disks stories budget journal input written = written ≡ []
-WritesServed NoMemory disks stories budget journal input written =
-    (written ≡ []) ⊎ WritesTurns disks stories budget journal input written served.NoMemory
-    ⊎ BeginsRefusal disks journal written
-WritesServed BadFolder disks stories budget journal input written =
-    RefusesJournal disks journal written
-WritesServed DoorFault disks stories budget journal input written = ⊥
-WritesServed LineLimit disks stories budget journal input written =
-    WritesTurns disks stories budget journal input written served.LineLimit
+abbrev pub WritesServed : {D : Type 0} → Status → DiskWords D → List Story → ℕ
+    → (List ℕ → Told D) → List ℕ → List ℕ → List ℕ → Type 0
+WritesServed Done disks stories budget disk folder input written =
+    WritesTurns disks stories budget disk folder input written served.End
+WritesServed BadWords disks stories budget disk folder input written = ⊥
+WritesServed Refused disks stories budget disk folder input written = ⊥
+WritesServed ReadFault disks stories budget disk folder input written =
+    (written ≡ []) ⊎ WritesTurns disks stories budget disk folder input written served.ReadFault
+WritesServed WriteFault disks stories budget disk folder input written =
+    WritesTurns disks stories budget disk folder input written served.WriteFault
+    ⊎ BeginsRefusal disks (disk (journal_in folder)) written
+WritesServed DiskFault disks stories budget disk folder input written = written ≡ []
+WritesServed NoMemory disks stories budget disk folder input written =
+    (written ≡ []) ⊎ WritesTurns disks stories budget disk folder input written served.NoMemory
+    ⊎ BeginsRefusal disks (disk (journal_in folder)) written
+WritesServed BadFolder disks stories budget disk folder input written =
+    RefusesJournal disks (disk (journal_in folder)) written
+WritesServed DoorFault disks stories budget disk folder input written = ⊥
+WritesServed LineLimit disks stories budget disk folder input written =
+    WritesTurns disks stories budget disk folder input written served.LineLimit

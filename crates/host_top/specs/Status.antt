@@ -8,6 +8,8 @@ use Rattle.host_serve.specs.declared.worked.Worked.{Worked}
 use Rattle.host_serve.specs.declared.worked.Worked.TheVariants as worked
 use Rattle.host_serve.specs.declared.served.Served.{Served}
 use Rattle.host_serve.specs.declared.served.Served.TheVariants as served
+use Rattle.host_top.specs.declared.outside.Fetch.{Fetch}
+use Rattle.host_top.specs.declared.outside.Fetch.TheVariants as fetch
 use Rattle.host_top.specs.declared.status.Status.{Status}
 use Rattle.host_top.specs.declared.status.Status.TheVariants.{Done, BadWords, Refused, ReadFault}
 use Rattle.host_top.specs.declared.status.Status.TheVariants.{WriteFault, NoMemory, LineLimit}
@@ -51,3 +53,8 @@ status_of_worked (worked.DoorFault fault) = DoorFault
 -- the status of a text that was not written whole
 abbrev pub status_of_stop : Stop → Status
 status_of_stop stop = status_of_end (ended_by stop)
+
+-- the status of a disk that the outside doesn't lend
+abbrev pub status_of_fetch : Fetch → Status
+status_of_fetch fetch.Failed = DiskFault
+status_of_fetch fetch.NoMemory = NoMemory

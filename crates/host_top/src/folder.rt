@@ -1,12 +1,74 @@
-//! The disks of a folder.
-ghost use Rattle.std.specs.Prelude.{◌≡◌, IfOk, string_bytes};
-ghost use Rattle.host_top.specs.Borrowed.{journal_in};
+//! The disks of a folder, and their names.
+ghost use Rattle.std.specs.Prelude.{◌≡◌, ◌<◌, IfOk, map, string_bytes};
+ghost use Rattle.host_top.specs.Borrowed.{journal_in, snap_in, snaps_below};
 
 use std::alloc::{AllocError, Global};
+
+/// How many sessions a folder has.
+pub const SESSIONS: u8 = 64;
+
+/// The names of a folder's disks.
+#[derive(Drop)]
+pub struct Names {
+    pub journal: String,
+    pub snaps: Vec<String>,
+}
+
+/// The disks of a folder, those of the stores in the order of the sessions.
+#[derive(Drop)]
+pub struct Disks<D> {
+    pub journal: D,
+    pub snaps: Vec<D>,
+}
+
+/// What comes back of the disks of a folder.
+#[derive(Drop)]
+pub enum Back<D> {
+    /// The journal's, and those of all stores.
+    All(D, Vec<D>),
+    /// The journal's alone, which is refused.
+    Journal(D),
+    /// That of this session's store alone, which failed.
+    Snap(u8, D),
+    /// None of them.
+    Nothing,
+}
 
 /// The name of the journal of a folder.
 pub fn journal_name(alloc: Global, folder: &str) -> Result<String, AllocError>
     ensures { IfOk result (λ name. string_bytes name ≡ journal_in folder.now) }
 {
     format!(in alloc; "{folder}/journal")
+}
+
+/// The name of a session's store.
+pub fn snap_name(alloc: Global, folder: &str, session: u8) -> Result<String, AllocError>
+    ensures { IfOk result (λ name. string_bytes name ≡ snap_in folder.now session) }
+{
+    let tens = session / 10;
+    let units = session % 10;
+    format!(in alloc; "{folder}/snap{tens}{units}")
+}
+
+/// The names of the stores of all sessions.
+pub fn snap_names(alloc: Global, folder: &str) -> Result<Vec<String>, AllocError>
+    ensures { IfOk result (λ names. map string_bytes names.items ≡ snaps_below folder.now 64) }
+{
+    let mut names = Vec::new(alloc);
+    for session in 0..SESSIONS {
+        names.push(snap_name(alloc, folder, session)?)?;
+    }
+    Ok(names)
+}
+
+/// The names of a folder's disks.
+pub fn names_in(alloc: Global, folder: &str) -> Result<Names, AllocError>
+    ensures journal { IfOk result (λ names. string_bytes names.journal ≡ journal_in folder.now) }
+    ensures snaps { IfOk result (λ names.
+        map string_bytes names.snaps.items ≡ snaps_below folder.now 64) }
+{
+    Ok(Names {
+        journal: journal_name(alloc, folder)?,
+        snaps: snap_names(alloc, folder)?,
+    })
 }

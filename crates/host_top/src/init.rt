@@ -1,23 +1,29 @@
-//! The command `init`, which begins the journal of a folder.
-ghost use Rattle.std.specs.Prelude.{◌≡◌};
-ghost use Rattle.disk_model.specs.Disk.{SameDisk};
-ghost use Rattle.host_top.specs.Begun.{InitsOver};
-ghost use Rattle.host_top.specs.Borrowed.{UsesDisk, journal_in};
+//! The command `init`, which makes the stores of a folder and begins its journal.
+ghost use Rattle.std.specs.Prelude.{◌≡◌, ◌≤◌, ◌<◌, ◌∷◌, [], List, true, false, length, IsTrue};
+ghost use Rattle.std.specs.Prelude.{IfOk, OnOk, OnErr, IsErrOf};
+ghost use Rattle.disk_model.specs.Disk.{Counts, SameDisk};
+ghost use Rattle.host_top.specs.Begun.{Inits, InitsOn, InitsOver, IsLookedAt, MakesStores};
+ghost use Rattle.host_top.specs.Begun.{TriesStores};
+ghost use Rattle.host_top.specs.Borrowed.{Lending, snap_in, snaps_below};
+ghost use Rattle.host_top.specs.Files.{KeepsDoors, KeepsFiles};
 ghost use Rattle.line_talk.specs.Causes.{Rose};
 ghost use Rattle.line_talk.specs.Streams.{SourceState};
 
-use crate::folder::journal_name;
+use crate::folder::{SESSIONS, journal_name, snap_name};
 use crate::outside::{Fetch, Outside};
 use crate::say::say_line;
 use crate::status::Status;
-use disk_model::Disk;
+use disk_model::{Disk, Failed};
 use gate_journal::{InitFault, init};
 use line_talk::Sink;
+use snap_store::make;
 use std::alloc::Global;
 
-/// Begins a journal on this disk. No input is read.
-fn init_over<D: Disk, K: Sink>(disk: &mut D, output: &mut K) -> Status
-    ensures value { (input : SourceState) → InitsOver (record {
+/// Whether a disk holds nothing.
+fn is_empty<D: Disk>(disk: &mut D) -> Result<bool, Failed>
+    ensures ok { IfOk result (λ empty. IsTrue (D.tells disk.old)
+        → (empty ≡ true → D.seen disk.old ≡ []) × (empty ≡ false → 0 < length (D.seen disk.old))) }
+    ensures looks { IsLookedAt (record {
       tells = D.tells;
       seen = D.seen;
       may_leave = D.may_leave;
@@ -27,7 +33,28 @@ fn init_over<D: Disk, K: Sink>(disk: &mut D, output: &mut K) -> Status
       reach = D.reach;
       room = D.room;
       label = D.label;
-    }) disk.old disk.new input input (K.sink output.old) (K.sink output.new) result }
+    }) disk.old disk.new }
+    ensures seen { OnOk result (IsTrue (D.tells disk.old) → D.seen disk.new ≡ D.seen disk.old) }
+    ensures cause { Counts result (D.faults disk.old) (D.faults disk.new) }
+    ensures kept { SameDisk D.tells D.room D.label disk.old disk.new }
+{
+    let size = disk.size()?;
+    Ok(size == 0)
+}
+
+/// Begins a journal on this disk.
+fn init_over<D: Disk, K: Sink>(disk: &mut D, output: &mut K) -> Status
+    ensures value { InitsOver (record {
+      tells = D.tells;
+      seen = D.seen;
+      may_leave = D.may_leave;
+      moment = D.moment;
+      left_since = D.left_since;
+      faults = D.faults;
+      reach = D.reach;
+      room = D.room;
+      label = D.label;
+    }) disk.old disk.new (K.sink output.old) (K.sink output.new) result }
     ensures kept { SameDisk D.tells D.room D.label disk.old disk.new }
     ensures read_fault { ¬ (result ≡ Status.ReadFault) }
     ensures write_fault { result ≡ Status.WriteFault
@@ -40,14 +67,14 @@ fn init_over<D: Disk, K: Sink>(disk: &mut D, output: &mut K) -> Status
     }
 }
 
-/// Begins the journal of a folder. No input is read.
-pub fn init_folder<O: Outside, K: Sink>(
+/// Makes the store of a session.
+fn make_store<O: Outside>(
     alloc: Global,
     folder: &str,
+    session: u8,
     outside: &mut O,
-    output: &mut K,
-) -> Status
-    ensures value { (input : SourceState) → UsesDisk (record {
+) -> Result<(), Fetch>
+    ensures ok { OnOk result (MakesStores (record {
       tells = O.Disk.tells;
       seen = O.Disk.seen;
       may_leave = O.Disk.may_leave;
@@ -57,34 +84,142 @@ pub fn init_folder<O: Outside, K: Sink>(
       reach = O.Disk.reach;
       room = O.Disk.room;
       label = O.Disk.label;
-    }) (journal_in folder.now)
-        (λ given back. InitsOver (record {
-          tells = O.Disk.tells;
-          seen = O.Disk.seen;
-          may_leave = O.Disk.may_leave;
-          moment = O.Disk.moment;
-          left_since = O.Disk.left_since;
-          faults = O.Disk.faults;
-          reach = O.Disk.reach;
-          room = O.Disk.room;
-          label = O.Disk.label;
-        }) given back input input (K.sink output.old) (K.sink output.new) result)
-        (O.outside outside.old) (O.outside outside.new) input input
+    }) (snap_in folder.now session ∷ []) (O.outside outside.old) (O.outside outside.new)) }
+    ensures err { OnErr result (TriesStores (record {
+      tells = O.Disk.tells;
+      seen = O.Disk.seen;
+      may_leave = O.Disk.may_leave;
+      moment = O.Disk.moment;
+      left_since = O.Disk.left_since;
+      faults = O.Disk.faults;
+      reach = O.Disk.reach;
+      room = O.Disk.room;
+      label = O.Disk.label;
+    }) (snap_in folder.now session ∷ []) (O.outside outside.old) (O.outside outside.new)) }
+    ensures cause { IsErrOf result Fetch.Failed
+        → Rose (O.outside outside.old).disk_faults (O.outside outside.new).disk_faults }
+    ensures later { (O.outside outside.old).disk_faults ≤ (O.outside outside.new).disk_faults }
+    ensures files { KeepsFiles (O.outside outside.old) (O.outside outside.new) }
+    ensures doors { KeepsDoors (O.outside outside.old) (O.outside outside.new) }
+{
+    let Ok(name) = snap_name(alloc, folder, session) else {
+        return Err(Fetch::NoMemory);
+    };
+    let mut disk = outside.disk(alloc, &name)?;
+    let made = make(&mut disk);
+    outside.put_back(&name, disk);
+    match made {
+        Ok(()) => Ok(()),
+        Err(_) => Err(Fetch::Failed),
+    }
+}
+
+/// Makes the stores of all sessions, each with its disk back before the next one's is lent.
+fn make_stores<O: Outside>(alloc: Global, folder: &str, outside: &mut O) -> Result<(), Fetch>
+    ensures ok { OnOk result (MakesStores (record {
+      tells = O.Disk.tells;
+      seen = O.Disk.seen;
+      may_leave = O.Disk.may_leave;
+      moment = O.Disk.moment;
+      left_since = O.Disk.left_since;
+      faults = O.Disk.faults;
+      reach = O.Disk.reach;
+      room = O.Disk.room;
+      label = O.Disk.label;
+    }) (snaps_below folder.now 64) (O.outside outside.old) (O.outside outside.new)) }
+    ensures err { OnErr result (TriesStores (record {
+      tells = O.Disk.tells;
+      seen = O.Disk.seen;
+      may_leave = O.Disk.may_leave;
+      moment = O.Disk.moment;
+      left_since = O.Disk.left_since;
+      faults = O.Disk.faults;
+      reach = O.Disk.reach;
+      room = O.Disk.room;
+      label = O.Disk.label;
+    }) (snaps_below folder.now 64) (O.outside outside.old) (O.outside outside.new)) }
+    ensures cause { IsErrOf result Fetch.Failed
+        → Rose (O.outside outside.old).disk_faults (O.outside outside.new).disk_faults }
+    ensures later { (O.outside outside.old).disk_faults ≤ (O.outside outside.new).disk_faults }
+    ensures files { KeepsFiles (O.outside outside.old) (O.outside outside.new) }
+    ensures doors { KeepsDoors (O.outside outside.old) (O.outside outside.new) }
+{
+    for session in 0..SESSIONS {
+        make_store(alloc, folder, session, outside)?;
+    }
+    Ok(())
+}
+
+/// Makes the stores of a folder, whose journal's disk this is, and begins the journal. The size of
+/// that disk is looked at before anything is written.
+fn init_all<O: Outside, K: Sink>(
+    alloc: Global,
+    folder: &str,
+    disk: &mut O::Disk,
+    outside: &mut O,
+    output: &mut K,
+) -> Status
+    ensures value { (stores : List (Lending O.Disk)) × Inits (record {
+      tells = O.Disk.tells;
+      seen = O.Disk.seen;
+      may_leave = O.Disk.may_leave;
+      moment = O.Disk.moment;
+      left_since = O.Disk.left_since;
+      faults = O.Disk.faults;
+      reach = O.Disk.reach;
+      room = O.Disk.room;
+      label = O.Disk.label;
+    }) folder.now disk.old disk.new stores stores (O.outside outside.old) (O.outside outside.new)
+        (K.sink output.old) (K.sink output.new) result }
+    ensures kept { SameDisk O.Disk.tells O.Disk.room O.Disk.label disk.old disk.new }
+    ensures read_fault { ¬ (result ≡ Status.ReadFault) }
+    ensures write_fault { result ≡ Status.WriteFault
+        → Rose (K.sink output.old).faults (K.sink output.new).faults }
+    ensures files { KeepsFiles (O.outside outside.old) (O.outside outside.new) }
+    ensures doors { KeepsDoors (O.outside outside.old) (O.outside outside.new) }
+{
+    match is_empty(disk) {
+        Ok(true) => match make_stores(alloc, folder, outside) {
+            Ok(()) => init_over(disk, output),
+            Err(why) => Status::of_fetch(why),
+        },
+        Ok(false) => say_line(b"not empty\n", Status::BadFolder, output),
+        Err(Failed) => Status::DiskFault,
+    }
+}
+
+/// Makes the stores of a folder and begins its journal. No input is read.
+pub fn init_folder<O: Outside, K: Sink>(
+    alloc: Global,
+    folder: &str,
+    outside: &mut O,
+    output: &mut K,
+) -> Status
+    ensures value { (input : SourceState) → InitsOn (record {
+      tells = O.Disk.tells;
+      seen = O.Disk.seen;
+      may_leave = O.Disk.may_leave;
+      moment = O.Disk.moment;
+      left_since = O.Disk.left_since;
+      faults = O.Disk.faults;
+      reach = O.Disk.reach;
+      room = O.Disk.room;
+      label = O.Disk.label;
+    }) folder.now (O.outside outside.old) (O.outside outside.new) input input
         (K.sink output.old) (K.sink output.new) result }
     ensures read_fault { ¬ (result ≡ Status.ReadFault) }
     ensures write_fault { result ≡ Status.WriteFault
         → Rose (K.sink output.old).faults (K.sink output.new).faults }
-    ensures files { (O.outside outside.new).file ≡ (O.outside outside.old).file }
+    ensures files { KeepsFiles (O.outside outside.old) (O.outside outside.new) }
 {
     let Ok(name) = journal_name(alloc, folder) else {
         return Status::NoMemory;
     };
     let mut disk = match outside.disk(alloc, &name) {
         Ok(disk) => disk,
-        Err(Fetch::Failed) => return Status::DiskFault,
-        Err(Fetch::NoMemory) => return Status::NoMemory,
+        Err(why) => return Status::of_fetch(why),
     };
-    let status = init_over(&mut disk, output);
+    let status = init_all(alloc, folder, &mut disk, outside, output);
     outside.put_back(&name, disk);
     status
 }

@@ -5,6 +5,7 @@ mod check;
 mod drill;
 mod folder;
 mod init;
+mod lending;
 mod loan;
 mod memory_door;
 mod memory_outside;

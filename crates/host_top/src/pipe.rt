@@ -1,18 +1,18 @@
 //! The command `pipe`, which answers the numbered requests of one connection.
-ghost use Rattle.std.specs.Prelude.{◌≡◌, [], None, IfSome};
-ghost use Rattle.disk_model.specs.Disk.{SameDisk};
+ghost use Rattle.std.specs.Prelude.{◌≡◌, length};
 ghost use Rattle.gate_journal.specs.Command.{IsBudget};
 ghost use Rattle.host_serve.specs.Holders.{holders};
-ghost use Rattle.host_serve.specs.Hosts.{AreOf};
+ghost use Rattle.host_serve.specs.Hosts.{AreOf, IsSound};
 ghost use Rattle.line_talk.specs.Causes.{Rose};
-ghost use Rattle.line_talk.specs.Streams.{Gave, Wrote};
-ghost use Rattle.host_top.specs.Borrowed.{UsesJournal, journal_in};
+ghost use Rattle.host_top.specs.Folder.{FitsNames, IsSameBack, UsesFolder};
+ghost use Rattle.host_top.specs.Files.{KeepsFiles};
 ghost use Rattle.host_top.specs.Piped.{PipesOver};
 ghost use Rattle.host_top.specs.Between.{ServesBetween};
 
-use crate::folder::journal_name;
+use crate::folder::{Back, Disks, names_in};
+use crate::lending::{put_folder_back, take_folder};
 use crate::opening::open_host;
-use crate::outside::{Fetch, Outside};
+use crate::outside::Outside;
 use crate::status::Status;
 use disk_model::Disk;
 use host_serve::{Host, NoPause, Passes, Served};
@@ -31,7 +31,8 @@ fn answer_lines<'i, R: Wait, D: Disk + Drop, S: Source, K: Sink>(
     output: &mut K,
 ) -> Served
     requires passes { AreOf host.now passes.old }
-    ensures value { ServesBetween host.now passes.old passes.new (S.source input.old)
+    ensures value { ServesBetween (IsSound D.tells D.seen host.now) host.now passes.old
+        passes.new (S.source input.old)
         (S.source input.new) (K.sink output.old) (K.sink output.new) result }
     ensures kept { AreOf host.now passes.new }
     ensures holders { holders passes.new.desks.items ≡ holders passes.old.desks.items }
@@ -48,19 +49,20 @@ fn answer_lines<'i, R: Wait, D: Disk + Drop, S: Source, K: Sink>(
     host.serve(rt, alloc, passes, &NoPause, 0, &mut link, &mut marks)
 }
 
-/// Answers the requests of the input by the sessions of the journal on this disk, and hands the
-/// disk back, but where memory is wanted behind the journal's opening.
+/// Answers the requests of the input by the sessions of the folder whose disks these are, and tells
+/// what comes back of these.
 fn pipe_over<'i, R: Wait, D: Disk + Drop, S: Source, K: Sink>(
     rt: &R,
     alloc: Global,
     stories: &'i [Story<'i>],
     budget: u64,
-    disk: D,
+    disks: Disks<D>,
     input: &mut S,
     output: &mut K,
-) -> (Status, Option<D>)
+) -> (Status, Back<D>)
     requires budget { IsBudget budget }
-    ensures value { IfSome result.1 (λ back. PipesOver (record {
+    requires many { length disks.snaps.items ≡ 64 }
+    ensures value { PipesOver (record {
       tells = D.tells;
       seen = D.seen;
       may_leave = D.may_leave;
@@ -70,27 +72,36 @@ fn pipe_over<'i, R: Wait, D: Disk + Drop, S: Source, K: Sink>(
       reach = D.reach;
       room = D.room;
       label = D.label;
-    }) stories.now budget disk back (S.source input.old) (S.source input.new)
-        (K.sink output.old) (K.sink output.new) result.0) }
-    ensures kept { IfSome result.1 (λ back. SameDisk D.tells D.room D.label disk back) }
-    ensures gone { result.1 ≡ None → (result.0 ≡ Status.NoMemory)
-        × Gave (S.source input.old) (S.source input.new) []
-        × Wrote (K.sink output.old) (K.sink output.new) [] }
+    }) stories.now budget disks.journal disks.snaps.items result.1
+        (S.source input.old) (S.source input.new) (K.sink output.old) (K.sink output.new)
+        result.0 }
+    ensures kept { IsSameBack (record {
+      tells = D.tells;
+      seen = D.seen;
+      may_leave = D.may_leave;
+      moment = D.moment;
+      left_since = D.left_since;
+      faults = D.faults;
+      reach = D.reach;
+      room = D.room;
+      label = D.label;
+    }) disks.journal disks.snaps.items result.1 }
+    ensures fits { FitsNames 64 result.1 }
     ensures read_fault { result.0 ≡ Status.ReadFault
         → Rose (S.source input.old).faults (S.source input.new).faults }
     ensures write_fault { result.0 ≡ Status.WriteFault
         → Rose (K.sink output.old).faults (K.sink output.new).faults }
 {
-    let (host, mut passes) = match open_host(alloc, stories, budget, disk, output) {
+    let (host, mut passes) = match open_host(alloc, stories, budget, disks, output) {
         Ok(opened) => opened,
         Err(refusal) => return refusal,
     };
     let served = answer_lines(rt, alloc, &host, &mut passes, input, output);
-    let disk = host.end(rt, passes);
-    (Status::of_served(served), Some(disk))
+    let (journal, snaps) = host.end(rt, passes);
+    (Status::of_served(served), Back::All(journal, snaps))
 }
 
-/// Answers the requests of the input by the sessions of the journal in a folder.
+/// Answers the requests of the input by the sessions of a folder.
 pub fn pipe<'i, R: Wait, O: Outside, S: Source, K: Sink>(
     rt: &R,
     alloc: Global,
@@ -102,7 +113,7 @@ pub fn pipe<'i, R: Wait, O: Outside, S: Source, K: Sink>(
     output: &mut K,
 ) -> Status
     requires budget { IsBudget budget }
-    ensures value { UsesJournal (record {
+    ensures value { UsesFolder (record {
       tells = O.Disk.tells;
       seen = O.Disk.seen;
       may_leave = O.Disk.may_leave;
@@ -112,8 +123,8 @@ pub fn pipe<'i, R: Wait, O: Outside, S: Source, K: Sink>(
       reach = O.Disk.reach;
       room = O.Disk.room;
       label = O.Disk.label;
-    }) (journal_in folder.now)
-        (λ given back. PipesOver (record {
+    }) folder.now
+        (λ given givens back. PipesOver (record {
           tells = O.Disk.tells;
           seen = O.Disk.seen;
           may_leave = O.Disk.may_leave;
@@ -123,30 +134,24 @@ pub fn pipe<'i, R: Wait, O: Outside, S: Source, K: Sink>(
           reach = O.Disk.reach;
           room = O.Disk.room;
           label = O.Disk.label;
-        }) stories.now budget given back (S.source input.old) (S.source input.new)
-        (K.sink output.old) (K.sink output.new) result)
+        }) stories.now budget given givens back
+        (S.source input.old) (S.source input.new) (K.sink output.old) (K.sink output.new) result)
         (O.outside outside.old) (O.outside outside.new) (S.source input.old) (S.source input.new)
         (K.sink output.old) (K.sink output.new) result }
     ensures read_fault { result ≡ Status.ReadFault
         → Rose (S.source input.old).faults (S.source input.new).faults }
     ensures write_fault { result ≡ Status.WriteFault
         → Rose (K.sink output.old).faults (K.sink output.new).faults }
-    ensures files { (O.outside outside.new).file ≡ (O.outside outside.old).file }
+    ensures files { KeepsFiles (O.outside outside.old) (O.outside outside.new) }
 {
-    let Ok(name) = journal_name(alloc, folder) else {
+    let Ok(names) = names_in(alloc, folder) else {
         return Status::NoMemory;
     };
-    let disk = match outside.disk(alloc, &name) {
-        Ok(disk) => disk,
-        Err(Fetch::Failed) => return Status::DiskFault,
-        Err(Fetch::NoMemory) => return Status::NoMemory,
+    let disks = match take_folder(alloc, &names, outside) {
+        Ok(disks) => disks,
+        Err(why) => return Status::of_fetch(why),
     };
-    let (status, disk) = pipe_over(rt, alloc, stories, budget, disk, input, output);
-    match disk {
-        Some(disk) => {
-            outside.put_back(&name, disk);
-            status
-        }
-        None => status,
-    }
+    let (status, back) = pipe_over(rt, alloc, stories, budget, disks, input, output);
+    put_folder_back(&names, back, outside);
+    status
 }

@@ -1,20 +1,20 @@
 //! The command `serve`, which answers the numbered requests of many connections.
-ghost use Rattle.std.specs.Prelude.{◌≡◌, ◌⊎◌, ◌<◌, ◌≤◌, [], None, IfSome, IfOk, length};
-ghost use Rattle.disk_model.specs.Disk.{SameDisk};
+ghost use Rattle.std.specs.Prelude.{◌≡◌, ◌⊎◌, ◌<◌, ◌≤◌, IfOk, length};
 ghost use Rattle.gate_journal.specs.Command.{IsBudget};
 ghost use Rattle.host_serve.specs.Holders.{holders};
 ghost use Rattle.host_serve.specs.Hosts.{AreOf};
 ghost use Rattle.host_serve.specs.Splitting.{AreRoots};
 ghost use Rattle.line_talk.specs.Causes.{Rose};
-ghost use Rattle.line_talk.specs.Streams.{SourceState, Wrote};
-ghost use Rattle.host_top.specs.Borrowed.{UsesJournal, journal_in};
+ghost use Rattle.line_talk.specs.Streams.{SourceState};
 ghost use Rattle.host_top.specs.Files.{KeepsDisks, KeepsFiles};
+ghost use Rattle.host_top.specs.Folder.{FitsNames, IsSameBack, UsesFolder};
 ghost use Rattle.host_top.specs.LinksServed.{DoorsBy, ServesOver};
 ghost use Rattle.turn_cell.specs.History.{Each};
 
-use crate::folder::journal_name;
+use crate::folder::{Back, Disks, names_in};
+use crate::lending::{put_folder_back, take_folder};
 use crate::opening::open_host;
-use crate::outside::{Fetch, Outside};
+use crate::outside::Outside;
 use crate::status::Status;
 use command_words::Serving;
 use disk_model::{Disk, Failed};
@@ -98,26 +98,27 @@ fn serve_links<'i, R: Threads + Wait + Sync, O: Outside>(
     }
 }
 
-/// Serves links by the sessions of the journal on this disk, and hands the disk back, but where
-/// memory is wanted behind the journal's opening. No input is read.
+/// Serves links by the sessions of the folder whose disks these are, and tells what comes back of
+/// these. No input is read.
 fn serve_over<'i, R, D, O, K>(
     rt: &R,
     alloc: Global,
     stories: &'i [Story<'i>],
     budget: u64,
-    disk: D,
+    disks: Disks<D>,
     serving: Serving,
     outside: &mut O,
     output: &mut K,
-) -> (Status, Option<D>)
+) -> (Status, Back<D>)
 where
     R: Threads + Wait + Sync,
     D: Disk + Drop + Send + Sync,
     O: Outside<Disk = D>,
     K: Sink,
     requires budget { IsBudget budget }
+    requires many { length disks.snaps.items ≡ 64 }
     requires workers { (0 < serving.workers) × (serving.workers ≤ 16) }
-    ensures value { IfSome result.1 (λ back. (input : SourceState) → ServesOver (record {
+    ensures value { (input : SourceState) → ServesOver (record {
       tells = D.tells;
       seen = D.seen;
       may_leave = D.may_leave;
@@ -127,11 +128,20 @@ where
       reach = D.reach;
       room = D.room;
       label = D.label;
-    }) disk back input input (K.sink output.old) (K.sink output.new) result.0) }
-    ensures kept { IfSome result.1 (λ back. SameDisk D.tells D.room D.label
-        disk back) }
-    ensures gone { result.1 ≡ None → (result.0 ≡ Status.NoMemory)
-        × Wrote (K.sink output.old) (K.sink output.new) [] }
+    }) stories.now disks.journal
+        disks.snaps.items result.1 input input (K.sink output.old) (K.sink output.new) result.0 }
+    ensures kept { IsSameBack (record {
+      tells = D.tells;
+      seen = D.seen;
+      may_leave = D.may_leave;
+      moment = D.moment;
+      left_since = D.left_since;
+      faults = D.faults;
+      reach = D.reach;
+      room = D.room;
+      label = D.label;
+    }) disks.journal disks.snaps.items result.1 }
+    ensures fits { FitsNames 64 result.1 }
     ensures doors { DoorsBy (O.outside outside.old) (O.outside outside.new) result.0 }
     ensures files { KeepsFiles (O.outside outside.old) (O.outside outside.new) }
     ensures disks { KeepsDisks (O.outside outside.old) (O.outside outside.new) }
@@ -139,17 +149,17 @@ where
     ensures write_fault { result.0 ≡ Status.WriteFault
         → Rose (K.sink output.old).faults (K.sink output.new).faults }
 {
-    let (host, mut roots) = match open_host(alloc, stories, budget, disk, output) {
+    let (host, mut roots) = match open_host(alloc, stories, budget, disks, output) {
         Ok(opened) => opened,
         Err(refusal) => return refusal,
     };
     let status = serve_links(rt, alloc, &host, &mut roots, serving, outside);
-    let disk = host.end(rt, roots);
-    (status, Some(disk))
+    let (journal, snaps) = host.end(rt, roots);
+    (status, Back::All(journal, snaps))
 }
 
-/// Serves links by the sessions of the journal in a folder, until so many were taken. No input is
-/// read. Where a link fails it ends alone.
+/// Serves links by the sessions of a folder, until so many were taken. No input is read. Where a
+/// link fails it ends alone.
 pub fn serve<'i, R: Threads + Wait + Sync, O: Outside, K: Sink>(
     rt: &R,
     alloc: Global,
@@ -162,7 +172,7 @@ pub fn serve<'i, R: Threads + Wait + Sync, O: Outside, K: Sink>(
 ) -> Status
     requires budget { IsBudget budget }
     requires workers { (0 < serving.workers) × (serving.workers ≤ 16) }
-    ensures value { (input : SourceState) → UsesJournal (record {
+    ensures value { (input : SourceState) → UsesFolder (record {
       tells = O.Disk.tells;
       seen = O.Disk.seen;
       may_leave = O.Disk.may_leave;
@@ -172,8 +182,8 @@ pub fn serve<'i, R: Threads + Wait + Sync, O: Outside, K: Sink>(
       reach = O.Disk.reach;
       room = O.Disk.room;
       label = O.Disk.label;
-    }) (journal_in folder.now)
-        (λ given back. ServesOver (record {
+    }) folder.now
+        (λ given givens back. ServesOver (record {
           tells = O.Disk.tells;
           seen = O.Disk.seen;
           may_leave = O.Disk.may_leave;
@@ -183,7 +193,8 @@ pub fn serve<'i, R: Threads + Wait + Sync, O: Outside, K: Sink>(
           reach = O.Disk.reach;
           room = O.Disk.room;
           label = O.Disk.label;
-        }) given back input input (K.sink output.old) (K.sink output.new) result)
+        }) stories.now given givens back input input
+        (K.sink output.old) (K.sink output.new) result)
         (O.outside outside.old) (O.outside outside.new) input input
         (K.sink output.old) (K.sink output.new) result }
     ensures doors { DoorsBy (O.outside outside.old) (O.outside outside.new) result }
@@ -192,20 +203,14 @@ pub fn serve<'i, R: Threads + Wait + Sync, O: Outside, K: Sink>(
         → Rose (K.sink output.old).faults (K.sink output.new).faults }
     ensures files { KeepsFiles (O.outside outside.old) (O.outside outside.new) }
 {
-    let Ok(name) = journal_name(alloc, folder) else {
+    let Ok(names) = names_in(alloc, folder) else {
         return Status::NoMemory;
     };
-    let disk = match outside.disk(alloc, &name) {
-        Ok(disk) => disk,
-        Err(Fetch::Failed) => return Status::DiskFault,
-        Err(Fetch::NoMemory) => return Status::NoMemory,
+    let disks = match take_folder(alloc, &names, outside) {
+        Ok(disks) => disks,
+        Err(why) => return Status::of_fetch(why),
     };
-    let (status, disk) = serve_over(rt, alloc, stories, budget, disk, serving, outside, output);
-    match disk {
-        Some(disk) => {
-            outside.put_back(&name, disk);
-            status
-        }
-        None => status,
-    }
+    let (status, back) = serve_over(rt, alloc, stories, budget, disks, serving, outside, output);
+    put_folder_back(&names, back, outside);
+    status
 }

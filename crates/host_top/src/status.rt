@@ -1,6 +1,7 @@
 //! Exit statuses.
 ghost use Rattle.std.specs.Prelude.{◌≡◌, Some};
 
+use crate::outside::Fetch;
 use host_serve::{Door, Served, Worked};
 use line_talk::{Ended, Stop};
 
@@ -31,7 +32,7 @@ pub enum Status {
 
 impl Status {
     ghost use Rattle.host_top.specs.Status.{status_of, status_of_end, status_of_stop};
-    ghost use Rattle.host_top.specs.Status.{status_of_served, status_of_worked};
+    ghost use Rattle.host_top.specs.Status.{status_of_fetch, status_of_served, status_of_worked};
 
     /// That of a conversation.
     pub fn of_end(ended: Ended) -> Status
@@ -74,6 +75,16 @@ impl Status {
         ensures { result ≡ status_of_stop stop }
     {
         Status::of_end(stop.ended())
+    }
+
+    /// That of a disk that the outside doesn't lend.
+    pub fn of_fetch(why: Fetch) -> Status
+        ensures { result ≡ status_of_fetch why }
+    {
+        match why {
+            Fetch::Failed => Status::DiskFault,
+            Fetch::NoMemory => Status::NoMemory,
+        }
     }
 
     /// The exit code.

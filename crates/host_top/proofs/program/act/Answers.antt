@@ -32,7 +32,7 @@ returns-in-Pipe-clause-value g c =
 
 pub returns-in-Serve-clause-value : goal.returns-in-Serve-clause-value
 returns-in-Serve-clause-value g c =
-    rw (c.in-Serve.is, c.in-Ok-stories_of.ensures.ok) (both (c.serve.ensures.value (g.S.Source.source c.args.input.now)) c.serve.ensures.doors)
+    rw (c.in-Serve.is, c.in-Ok-stories_of.ensures.ok, ← c.deref-in-Serve.ensures.value) (both (c.serve.ensures.value (g.S.Source.source c.args.input.now)) c.serve.ensures.doors)
 
 pub returns-in-Drill-clause-value : goal.returns-in-Drill-clause-value
 returns-in-Drill-clause-value g c =

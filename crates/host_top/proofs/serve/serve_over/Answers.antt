@@ -1,10 +1,22 @@
-use Rattle.std.proofs.Common.{inl, inr, refl, rules}
-use Rattle.host_top.proofs.ConversedLemmas.{same_back}
-use Rattle.host_top.proofs.LinksLemmas.{are_roots, if_some, links_served, no_doors}
+use Rattle.std.proofs.Common.{arith, refl, rules}
+use Rattle.host_top.proofs.ConversedLemmas.{same_back, same_stores, same_long, stores_back}
+use Rattle.host_top.proofs.FolderLemmas.{hosted_so}
+use Rattle.host_top.proofs.LinksLemmas.{are_roots, links_served, no_doors}
 use Rattle.host_top.proofs.serve.serve_over.Goals as goal
 
 pub returns-in-Err-clause-value : goal.returns-in-Err-clause-value
-returns-in-Err-clause-value g c = if_some c.in-Err.refusal.1 (λ back refused input. inr (refused input)) c.in-Err.ensures.refused
+returns-in-Err-clause-value g c = λ input.
+    hosted_so (record {
+      tells = g.D.Disk.tells;
+      seen = g.D.Disk.seen;
+      may_leave = g.D.Disk.may_leave;
+      moment = g.D.Disk.moment;
+      left_since = g.D.Disk.left_since;
+      faults = g.D.Disk.faults;
+      reach = g.D.Disk.reach;
+      room = g.D.Disk.room;
+      label = g.D.Disk.label;
+    }) _ _ c.args.disks.journal c.args.disks.snaps.items c.in-Err.refusal.1 _ _ _ _ _ (λ journal snaps none. absurd none) (c.in-Err.ensures.refused input)
 
 pub returns-in-Err-clause-doors : goal.returns-in-Err-clause-doors
 returns-in-Err-clause-doors g c = no_doors _ _ c.in-Err.refusal.0 c.in-Err.ensures.status.0 c.in-Err.ensures.status.1 refl
@@ -13,11 +25,7 @@ pub serve_links-status-requires-clause-roots : goal.serve_links-status-requires-
 serve_links-status-requires-clause-roots g c = search (rules, are_roots)
 
 pub returns-clause-value : goal.returns-clause-value
-returns-clause-value g c = λ input. inl (rw c.in-Ok.ensures.silent (links_served _ c.args.disk c.end-disk.result c.args.stories.now c.args.budget c.in-Ok.ensures.ok.0 _ _ _
-    c.in-Ok.ensures.ok.2 c.end-disk.ensures.value input _ c.serve_links-status.result c.serve_links-status.ensures.value c.in-Ok.ensures.ok.1))
-
-pub returns-clause-kept : goal.returns-clause-kept
-returns-clause-kept g c = same_back (record {
+returns-clause-value g c = λ input. rw c.in-Ok.ensures.silent (links_served (record {
   tells = g.D.Disk.tells;
   seen = g.D.Disk.seen;
   may_leave = g.D.Disk.may_leave;
@@ -27,4 +35,73 @@ returns-clause-kept g c = same_back (record {
   reach = g.D.Disk.reach;
   room = g.D.Disk.room;
   label = g.D.Disk.label;
-}) c.args.disk c.end-disk.result c.args.stories.now c.args.budget c.in-Ok.ensures.ok.0 _ _ _ c.in-Ok.ensures.ok.2 c.end-disk.ensures.value
+}) c.args.disks.journal c.end-journal.result.0 c.args.disks.snaps.items c.end-journal.result.1.items c.args.stories.now c.args.budget c.in-Ok.ensures.ok.0 _ _ _
+    c.in-Ok.ensures.ok.2 c.end-journal.ensures.value input _ c.serve_links-status.result c.serve_links-status.ensures.value c.in-Ok.ensures.ok.1
+    (stores_back (record {
+      tells = g.D.Disk.tells;
+      seen = g.D.Disk.seen;
+      may_leave = g.D.Disk.may_leave;
+      moment = g.D.Disk.moment;
+      left_since = g.D.Disk.left_since;
+      faults = g.D.Disk.faults;
+      reach = g.D.Disk.reach;
+      room = g.D.Disk.room;
+      label = g.D.Disk.label;
+    }) c.args.disks.journal c.end-journal.result.0 c.args.disks.snaps.items c.end-journal.result.1.items c.args.stories.now c.args.budget c.in-Ok.ensures.ok.0 _ _ _ c.in-Ok.ensures.ok.2
+    c.end-journal.ensures.value c.in-Ok.ensures.stores c.end-journal.ensures.stores c.in-Ok.ensures.sound))
+
+pub returns-clause-kept : goal.returns-clause-kept
+returns-clause-kept g c = (
+  same_back (record {
+    tells = g.D.Disk.tells;
+    seen = g.D.Disk.seen;
+    may_leave = g.D.Disk.may_leave;
+    moment = g.D.Disk.moment;
+    left_since = g.D.Disk.left_since;
+    faults = g.D.Disk.faults;
+    reach = g.D.Disk.reach;
+    room = g.D.Disk.room;
+    label = g.D.Disk.label;
+  }) c.args.disks.journal c.end-journal.result.0 c.args.disks.snaps.items c.end-journal.result.1.items c.args.stories.now c.args.budget c.in-Ok.ensures.ok.0 _ _ _ c.in-Ok.ensures.ok.2 c.end-journal.ensures.value,
+  same_stores (record {
+    tells = g.D.Disk.tells;
+    seen = g.D.Disk.seen;
+    may_leave = g.D.Disk.may_leave;
+    moment = g.D.Disk.moment;
+    left_since = g.D.Disk.left_since;
+    faults = g.D.Disk.faults;
+    reach = g.D.Disk.reach;
+    room = g.D.Disk.room;
+    label = g.D.Disk.label;
+  }) c.args.disks.journal c.end-journal.result.0 c.args.disks.snaps.items c.end-journal.result.1.items c.args.stories.now c.args.budget c.in-Ok.ensures.ok.0 _ _ _ c.in-Ok.ensures.ok.2 c.end-journal.ensures.value
+      c.in-Ok.ensures.stores c.end-journal.ensures.stores,
+)
+
+pub returns-clause-fits : goal.returns-clause-fits
+returns-clause-fits g c = omega (
+  arith,
+  same_long (record {
+    tells = g.D.Disk.tells;
+    seen = g.D.Disk.seen;
+    may_leave = g.D.Disk.may_leave;
+    moment = g.D.Disk.moment;
+    left_since = g.D.Disk.left_since;
+    faults = g.D.Disk.faults;
+    reach = g.D.Disk.reach;
+    room = g.D.Disk.room;
+    label = g.D.Disk.label;
+  }) c.args.disks.snaps.items c.end-journal.result.1.items
+      (same_stores (record {
+        tells = g.D.Disk.tells;
+        seen = g.D.Disk.seen;
+        may_leave = g.D.Disk.may_leave;
+        moment = g.D.Disk.moment;
+        left_since = g.D.Disk.left_since;
+        faults = g.D.Disk.faults;
+        reach = g.D.Disk.reach;
+        room = g.D.Disk.room;
+        label = g.D.Disk.label;
+      }) c.args.disks.journal c.end-journal.result.0 c.args.disks.snaps.items c.end-journal.result.1.items c.args.stories.now c.args.budget c.in-Ok.ensures.ok.0 _ _ _ c.in-Ok.ensures.ok.2 c.end-journal.ensures.value
+      c.in-Ok.ensures.stores c.end-journal.ensures.stores),
+  c.requires.many,
+)

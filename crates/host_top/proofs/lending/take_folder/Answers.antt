@@ -1,0 +1,80 @@
+use Rattle.std.proofs.Common.{[], map, string_bytes}
+use Rattle.host_top.proofs.BorrowLemmas.{lent_nothing}
+use Rattle.host_top.proofs.FolderLemmas.{folder_taken, journal_alone, journal_lent}
+use Rattle.host_top.proofs.LendingLemmas.{on_err}
+use Rattle.host_top.proofs.lending.take_folder.Goals as goal
+
+pub returns-in_err-journal-clause-err : goal.returns-in_err-journal-clause-err
+returns-in_err-journal-clause-err g c = on_err c.from_residual.result _ (
+  [],
+  tt,
+  (λ other away. tt),
+  lent_nothing (record {
+    tells = g.O.Disk.Disk.tells;
+    seen = g.O.Disk.Disk.seen;
+    may_leave = g.O.Disk.Disk.may_leave;
+    moment = g.O.Disk.Disk.moment;
+    left_since = g.O.Disk.Disk.left_since;
+    faults = g.O.Disk.Disk.faults;
+    reach = g.O.Disk.Disk.reach;
+    room = g.O.Disk.Disk.room;
+    label = g.O.Disk.Disk.label;
+  }) _ _ c.in_err-journal.ensures.err,
+)
+
+pub returns-in-Ok-clause-ok : goal.returns-in-Ok-clause-ok
+returns-in-Ok-clause-ok g c =
+    let taken = rw c.deref-2.ensures.value at c.in-Ok.ensures.ok in
+    let lends = rw c.deref.ensures at c.in_ok-journal.ensures.ok in
+    let given = rw c.deref.ensures at c.in_ok-journal.ensures.given in (
+      taken.0,
+      folder_taken (record {
+        tells = g.O.Disk.Disk.tells;
+        seen = g.O.Disk.Disk.seen;
+        may_leave = g.O.Disk.Disk.may_leave;
+        moment = g.O.Disk.Disk.moment;
+        left_since = g.O.Disk.Disk.left_since;
+        faults = g.O.Disk.Disk.faults;
+        reach = g.O.Disk.Disk.reach;
+        room = g.O.Disk.Disk.room;
+        label = g.O.Disk.Disk.label;
+      }) (string_bytes c.args.names.now.journal) (map string_bytes c.args.names.now.snaps.items) c.in_ok-journal.journal c.in-Ok.snaps.items
+          (g.O.Outside.outside c.args.outside.now) (g.O.Outside.outside c.disk.new.self) (g.O.Outside.outside c.take_all.new.outside) c.requires.journal lends given taken.1,
+    )
+
+pub put_back-requires : goal.put_back-requires
+put_back-requires g c =
+    let refused = rw c.deref-2.ensures.value at c.in-Err.ensures.err in
+    let lends = rw c.deref.ensures at c.in_ok-journal.ensures.ok in
+    journal_lent (record {
+      tells = g.O.Disk.Disk.tells;
+      seen = g.O.Disk.Disk.seen;
+      may_leave = g.O.Disk.Disk.may_leave;
+      moment = g.O.Disk.Disk.moment;
+      left_since = g.O.Disk.Disk.left_since;
+      faults = g.O.Disk.Disk.faults;
+      reach = g.O.Disk.Disk.reach;
+      room = g.O.Disk.Disk.room;
+      label = g.O.Disk.Disk.label;
+    }) (string_bytes c.args.names.now.journal) c.deref-in-Err.result.now (map string_bytes c.args.names.now.snaps.items) c.in_ok-journal.journal
+    (g.O.Outside.outside c.args.outside.now) (g.O.Outside.outside c.disk.new.self) (g.O.Outside.outside c.take_all.new.outside) refused.0 c.deref-in-Err.ensures c.requires.journal
+    lends refused.2 refused.3
+
+pub returns-in-Err-clause-err : goal.returns-in-Err-clause-err
+returns-in-Err-clause-err g c =
+    let refused = rw c.deref-2.ensures.value at c.in-Err.ensures.err in
+    let lends = rw c.deref.ensures at c.in_ok-journal.ensures.ok in
+    let given = rw c.deref.ensures at c.in_ok-journal.ensures.given in
+    journal_alone (record {
+      tells = g.O.Disk.Disk.tells;
+      seen = g.O.Disk.Disk.seen;
+      may_leave = g.O.Disk.Disk.may_leave;
+      moment = g.O.Disk.Disk.moment;
+      left_since = g.O.Disk.Disk.left_since;
+      faults = g.O.Disk.Disk.faults;
+      reach = g.O.Disk.Disk.reach;
+      room = g.O.Disk.Disk.room;
+      label = g.O.Disk.Disk.label;
+    }) (string_bytes c.args.names.now.journal) c.deref-in-Err.result.now (map string_bytes c.args.names.now.snaps.items) c.in_ok-journal.journal
+    (g.O.Outside.outside c.args.outside.now) (g.O.Outside.outside c.disk.new.self) (g.O.Outside.outside c.take_all.new.outside) (g.O.Outside.outside c.put_back.new.self) refused.0 c.deref-in-Err.ensures c.requires.journal
+    lends given refused.1 refused.2 refused.3 c.put_back.ensures.back

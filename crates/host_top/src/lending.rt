@@ -1,0 +1,224 @@
+//! Disks that a command is lent by their names, and that it puts back.
+ghost use Rattle.std.specs.Prelude.{◌≡◌, ◌≤◌, ◌∷◌, [], ◌++◌, ℕ, List, Some, IfOk, OnOk, OnErr};
+ghost use Rattle.std.specs.Prelude.{false};
+ghost use Rattle.std.specs.Prelude.{IsErrOf, length, map, string_bytes, slice_get};
+ghost use Rattle.std.specs.Str.{bytes_eq};
+ghost use Rattle.line_talk.specs.Causes.{Rose};
+ghost use Rattle.host_top.specs.Borrowed.{AreApart, AreAsGiven, AreNamed, Borrowed};
+ghost use Rattle.host_top.specs.Borrowed.{Lending, PutsBack, lent_as};
+ghost use Rattle.host_top.specs.Files.{IsLent, KeepsDoors, KeepsFiles};
+ghost use Rattle.host_top.specs.Folder.{FitsNames, MayPutBack, PutsFolderBack, folder_back};
+ghost use Rattle.turn_cell.specs.History.{Each};
+ghost use Rattle.host_top.specs.declared.folder.Back.TheVariants as Back;
+
+use crate::folder::{Back, Disks, Names};
+use crate::outside::{Fetch, Outside};
+use std::alloc::Global;
+
+/// Takes the disk of a name behind others.
+fn take_one<O: Outside>(
+    alloc: Global,
+    name: &str,
+    disks: &mut Vec<O::Disk>,
+    outside: &mut O,
+) -> Result<(), Fetch>
+    ensures ok { OnOk result ((disk : O.Disk) × (disks.new.items ≡ disks.old.items ++ disk ∷ [])
+        × Borrowed (record {
+          tells = O.Disk.tells;
+          seen = O.Disk.seen;
+          may_leave = O.Disk.may_leave;
+          moment = O.Disk.moment;
+          left_since = O.Disk.left_since;
+          faults = O.Disk.faults;
+          reach = O.Disk.reach;
+          room = O.Disk.room;
+          label = O.Disk.label;
+        }) (O.outside outside.old) (O.outside outside.new) (lent_as (name.now ∷ []) (disk ∷ []))) }
+    ensures count { OnOk result
+        ((O.outside outside.new).disk_faults ≡ (O.outside outside.old).disk_faults) }
+    ensures err { OnErr result ((disks.new.items ≡ disks.old.items)
+        × ((ls : List (Lending O.Disk)) × AreAsGiven ls × AreNamed (name.now ∷ []) ls
+        × Borrowed (record {
+          tells = O.Disk.tells;
+          seen = O.Disk.seen;
+          may_leave = O.Disk.may_leave;
+          moment = O.Disk.moment;
+          left_since = O.Disk.left_since;
+          faults = O.Disk.faults;
+          reach = O.Disk.reach;
+          room = O.Disk.room;
+          label = O.Disk.label;
+        }) (O.outside outside.old) (O.outside outside.new) ls)) }
+    ensures cause { IsErrOf result Fetch.Failed
+        → Rose (O.outside outside.old).disk_faults (O.outside outside.new).disk_faults }
+    ensures later { (O.outside outside.old).disk_faults ≤ (O.outside outside.new).disk_faults }
+    ensures files { KeepsFiles (O.outside outside.old) (O.outside outside.new) }
+    ensures doors { KeepsDoors (O.outside outside.old) (O.outside outside.new) }
+{
+    let disk = outside.disk(alloc, name)?;
+    match disks.push(disk) {
+        Ok(()) => Ok(()),
+        Err(failed) => {
+            outside.put_back(name, failed.value);
+            Err(Fetch::NoMemory)
+        }
+    }
+}
+
+/// Puts disks back under these names.
+pub fn put_all_back<O: Outside>(names: &[String], disks: Vec<O::Disk>, outside: &mut O)
+    requires many { length disks.items ≤ length names.now }
+    requires names { AreApart (map string_bytes names.now) }
+    requires lent { (i : ℕ) (name : List ℕ) (disk : O.Disk)
+        → slice_get (map string_bytes names.now) i ≡ Some name
+        → slice_get disks.items i ≡ Some disk
+        → IsLent ((O.outside outside.old).loan name) (O.Disk.label disk) }
+    ensures back { PutsBack O.Disk.faults (map string_bytes names.now) disks.items
+        (O.outside outside.old) (O.outside outside.new) }
+    ensures files { KeepsFiles (O.outside outside.old) (O.outside outside.new) }
+    ensures doors { KeepsDoors (O.outside outside.old) (O.outside outside.new) }
+{
+    let mut disks = disks;
+    let many = disks.len();
+    for _ in 0..many {
+        let Some(disk) = disks.pop() else {
+            unreachable!("each turn takes one of them");
+        };
+        outside.put_back(&names[disks.len()], disk);
+    }
+}
+
+/// Takes the disks of these names. Where one isn't lent, those that were are put back.
+pub fn take_all<O: Outside>(
+    alloc: Global,
+    names: &[String],
+    outside: &mut O,
+) -> Result<Vec<O::Disk>, Fetch>
+    requires names { AreApart (map string_bytes names.now) }
+    ensures ok { IfOk result (λ disks. (length disks.items ≡ length names.now)
+        × Borrowed (record {
+          tells = O.Disk.tells;
+          seen = O.Disk.seen;
+          may_leave = O.Disk.may_leave;
+          moment = O.Disk.moment;
+          left_since = O.Disk.left_since;
+          faults = O.Disk.faults;
+          reach = O.Disk.reach;
+          room = O.Disk.room;
+          label = O.Disk.label;
+        }) (O.outside outside.old) (O.outside outside.new)
+        (lent_as (map string_bytes names.now) disks.items)) }
+    ensures count { OnOk result
+        ((O.outside outside.new).disk_faults ≡ (O.outside outside.old).disk_faults) }
+    ensures err { OnErr result ((ls : List (Lending O.Disk)) × AreAsGiven ls
+        × AreNamed (map string_bytes names.now) ls
+        × Borrowed (record {
+          tells = O.Disk.tells;
+          seen = O.Disk.seen;
+          may_leave = O.Disk.may_leave;
+          moment = O.Disk.moment;
+          left_since = O.Disk.left_since;
+          faults = O.Disk.faults;
+          reach = O.Disk.reach;
+          room = O.Disk.room;
+          label = O.Disk.label;
+        }) (O.outside outside.old) (O.outside outside.new) ls) }
+    ensures cause { IsErrOf result Fetch.Failed
+        → Rose (O.outside outside.old).disk_faults (O.outside outside.new).disk_faults }
+    ensures later { (O.outside outside.old).disk_faults ≤ (O.outside outside.new).disk_faults }
+    ensures files { KeepsFiles (O.outside outside.old) (O.outside outside.new) }
+    ensures doors { KeepsDoors (O.outside outside.old) (O.outside outside.new) }
+{
+    let mut disks = Vec::new(alloc);
+    for name in names {
+        match take_one(alloc, name, &mut disks, outside) {
+            Ok(()) => {}
+            Err(why) => {
+                put_all_back(names, disks, outside);
+                return Err(why);
+            }
+        }
+    }
+    Ok(disks)
+}
+
+/// Takes the disks of a folder. Where one isn't lent, those that were are put back.
+pub fn take_folder<O: Outside>(
+    alloc: Global,
+    names: &Names,
+    outside: &mut O,
+) -> Result<Disks<O::Disk>, Fetch>
+    requires names { AreApart (map string_bytes names.now.snaps.items) }
+    requires journal { Each (λ n. bytes_eq (string_bytes names.now.journal) n ≡ false)
+        (map string_bytes names.now.snaps.items) }
+    ensures ok { IfOk result (λ disks.
+        (length disks.snaps.items ≡ length names.now.snaps.items)
+        × Borrowed (record {
+          tells = O.Disk.tells;
+          seen = O.Disk.seen;
+          may_leave = O.Disk.may_leave;
+          moment = O.Disk.moment;
+          left_since = O.Disk.left_since;
+          faults = O.Disk.faults;
+          reach = O.Disk.reach;
+          room = O.Disk.room;
+          label = O.Disk.label;
+        }) (O.outside outside.old) (O.outside outside.new)
+        (folder_back (string_bytes names.now.journal) (map string_bytes names.now.snaps.items)
+        disks.journal disks.snaps.items Back.Nothing)) }
+    ensures count { OnOk result
+        ((O.outside outside.new).disk_faults ≡ (O.outside outside.old).disk_faults) }
+    ensures err { OnErr result ((ls : List (Lending O.Disk)) × AreAsGiven ls
+        × AreNamed (string_bytes names.now.journal ∷ map string_bytes names.now.snaps.items) ls
+        × Borrowed (record {
+          tells = O.Disk.tells;
+          seen = O.Disk.seen;
+          may_leave = O.Disk.may_leave;
+          moment = O.Disk.moment;
+          left_since = O.Disk.left_since;
+          faults = O.Disk.faults;
+          reach = O.Disk.reach;
+          room = O.Disk.room;
+          label = O.Disk.label;
+        }) (O.outside outside.old) (O.outside outside.new) ls) }
+    ensures cause { IsErrOf result Fetch.Failed
+        → Rose (O.outside outside.old).disk_faults (O.outside outside.new).disk_faults }
+    ensures files { KeepsFiles (O.outside outside.old) (O.outside outside.new) }
+    ensures doors { KeepsDoors (O.outside outside.old) (O.outside outside.new) }
+{
+    let journal = outside.disk(alloc, &names.journal)?;
+    match take_all(alloc, &names.snaps, outside) {
+        Ok(snaps) => Ok(Disks { journal, snaps }),
+        Err(why) => {
+            outside.put_back(&names.journal, journal);
+            Err(why)
+        }
+    }
+}
+
+/// Puts back what comes back of the disks of a folder.
+pub fn put_folder_back<O: Outside>(names: &Names, back: Back<O::Disk>, outside: &mut O)
+    requires names { AreApart (map string_bytes names.now.snaps.items) }
+    requires journal { Each (λ n. bytes_eq (string_bytes names.now.journal) n ≡ false)
+        (map string_bytes names.now.snaps.items) }
+    requires back { FitsNames (length names.now.snaps.items) back }
+    requires lent { MayPutBack O.Disk.label (string_bytes names.now.journal)
+        (map string_bytes names.now.snaps.items) back (O.outside outside.old) }
+    ensures back { PutsFolderBack O.Disk.faults (string_bytes names.now.journal)
+        (map string_bytes names.now.snaps.items) back
+        (O.outside outside.old) (O.outside outside.new) }
+    ensures files { KeepsFiles (O.outside outside.old) (O.outside outside.new) }
+    ensures doors { KeepsDoors (O.outside outside.old) (O.outside outside.new) }
+{
+    match back {
+        Back::All(journal, snaps) => {
+            put_all_back(&names.snaps, snaps, outside);
+            outside.put_back(&names.journal, journal);
+        }
+        Back::Journal(journal) => outside.put_back(&names.journal, journal),
+        Back::Snap(session, snap) => {
+            outside.put_back(&names.snaps[usize::from(session)], snap);
+        }
+        Back::Nothing => {}
+    }
+}
