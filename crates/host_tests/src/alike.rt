@@ -2,7 +2,7 @@
 ghost use Rattle.std.specs.Prelude.{IfOk};
 ghost use Rattle.host_serve.specs.Hosts.{AreOf};
 
-use crate::hosts::{BUDGET, new_journal, opened};
+use crate::hosts::{BUDGET, ended, new_disks, opened};
 use disk_model::MemDisk;
 use host_serve::{Host, NoPause, Passes};
 use line_words::write_reply;
@@ -70,7 +70,7 @@ fn a_host_answers_as_sessions_that_are_played_from_the_start(rt: HostRuntime) ->
     let bytes = echo_story(alloc)?;
     let stories = [Story::of(&bytes).ok().ok_or("a story")?];
     let mut sessions = Sessions::new(alloc)?;
-    let (host, mut passes) = opened(alloc, &stories, new_journal(alloc)?)?;
+    let (host, mut passes) = opened(alloc, &stories, new_disks(alloc)?, BUDGET)?;
     assert!(rt;
         are_alike(
             &rt,
@@ -82,8 +82,8 @@ fn a_host_answers_as_sessions_that_are_played_from_the_start(rt: HostRuntime) ->
             &lines
         )?
     );
-    let journal = host.end(&rt, passes);
-    let (host, mut passes) = opened(alloc, &stories, journal)?;
+    let disks = ended(&rt, host, passes);
+    let (host, mut passes) = opened(alloc, &stories, disks, BUDGET)?;
     assert!(rt;
         are_alike(
             &rt,

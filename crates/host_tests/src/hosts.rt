@@ -1,5 +1,6 @@
-//! Hosts over a journal in memory.
+//! Hosts over disks in memory.
 ghost use Rattle.std.specs.Prelude.{◌≡◌, IfOk};
+ghost use Rattle.gate_journal.specs.Command.{IsBudget};
 ghost use Rattle.host_serve.specs.Holders.{holders};
 ghost use Rattle.host_serve.specs.Hosts.{AreOf};
 ghost use Rattle.host_serve.specs.Splitting.{AreRoots};
@@ -9,6 +10,7 @@ use gate_journal::init;
 use host_serve::{Host, Mark, NoPause, Passes, Served};
 use line_talk::{MemoryLink, MemorySink, MemorySource};
 use line_words::write_reply;
+use snap_store::make;
 use std::alloc::Global;
 use std::sync::Wait;
 use std::test::{Fail, *};
@@ -18,7 +20,7 @@ use story_run::Story;
 /// A turn's ticks.
 pub const BUDGET: u64 = 50_000_000;
 
-const OPENED: &[u8] = b"SHOW 0 0\nW 1 3 0 0 80 24\nT 1 0 =>\nI 1 line 20 =\n.\n";
+pub const OPENED: &[u8] = b"SHOW 0 0\nW 1 3 0 0 80 24\nT 1 0 =>\nI 1 line 20 =\n.\n";
 
 const A: &[u8] = b"SHOW 0 1\nW 1 3 0 0 80 24\nT 1 8 =a%0A\nT 1 0 =a%0A>\nI 1 line 20 =\n.\n";
 
@@ -26,28 +28,57 @@ const B: &[u8] = b"SHOW 0 2\nW 1 3 0 0 80 24\nT 1 8 =b%0A\nT 1 0 =b%0A>\nI 1 lin
 
 const REFUSED_AND_CLOSED: &[u8] = b"NO 2\nNO 2\nSHOW 0 3\nE closed\n.\n";
 
-/// A journal without rows.
-pub fn new_journal(alloc: Global) -> Result<MemDisk, Fail> {
-    let mut disk = MemDisk::new(alloc);
-    let Ok(()) = init(&mut disk) else {
-        return Err("a disk".into());
-    };
-    Ok(disk)
+/// The disks of a host: its journal's, and those of the snapshots of the 64 sessions.
+#[derive(Drop)]
+pub struct Disks {
+    pub journal: MemDisk,
+    pub snaps: Vec<MemDisk>,
 }
 
-/// The host of this journal, with its first passes.
+/// A journal without rows, and files without snapshots.
+pub fn new_disks(alloc: Global) -> Result<Disks, Fail> {
+    let mut journal = MemDisk::new(alloc);
+    let Ok(()) = init(&mut journal) else {
+        return Err("a journal".into());
+    };
+    let mut snaps = Vec::new(alloc);
+    for _ in 0..64 {
+        let mut disk = MemDisk::new(alloc);
+        let Ok(()) = make(&mut disk) else {
+            return Err("a snapshot file".into());
+        };
+        snaps.push(disk)?;
+    }
+    Ok(Disks { journal, snaps })
+}
+
+/// The host of these disks, with its first passes.
 pub fn opened<'i>(
     alloc: Global,
     stories: &'i [Story<'i>],
-    journal: MemDisk,
+    disks: Disks,
+    budget: u64,
 ) -> Result<(Host<'i, MemDisk>, Passes<'i, MemDisk>), Fail>
+    requires budget { IsBudget budget }
     ensures passes { IfOk result (λ pair. AreOf pair.0 pair.1) }
     ensures roots { IfOk result (λ pair. AreRoots 0 (holders pair.1.desks.items)) }
 {
-    match Host::open(alloc, stories, journal, BUDGET) {
+    let Disks { journal, snaps } = disks;
+    if snaps.len() != 64 {
+        return Err("64 disks".into());
+    }
+    match Host::open(alloc, stories, journal, snaps, budget) {
         Ok(opened) => Ok(opened),
         Err(_) => Err("a host".into()),
     }
+}
+
+/// Ends a host, which gives its disks back.
+pub fn ended<'i, R: Wait>(rt: &R, host: Host<'i, MemDisk>, passes: Passes<'i, MemDisk>) -> Disks
+    requires passes { AreOf host passes }
+{
+    let (journal, snaps) = host.end(rt, passes);
+    Disks { journal, snaps }
 }
 
 /// What a line is answered.
@@ -68,7 +99,7 @@ fn reply<'i, R: Wait>(
 
 /// What the lines of a link are answered, how they end, and their marks. Writes of these numbers
 /// fail.
-fn served<'i, R: Wait>(
+pub fn served<'i, R: Wait>(
     rt: &R,
     alloc: Global,
     host: &Host<'i, MemDisk>,
@@ -94,7 +125,7 @@ fn two_passes_of_one_host_have_one_history(rt: HostRuntime) -> Result<(), Fail> 
     let alloc = rt.alloc();
     let bytes = echo_story(alloc)?;
     let stories = [Story::of(&bytes).ok().ok_or("a story")?];
-    let (host, mut one) = opened(alloc, &stories, new_journal(alloc)?)?;
+    let (host, mut one) = opened(alloc, &stories, new_disks(alloc)?, BUDGET)?;
     let begun = reply(&rt, alloc, &host, &mut one, b"OPEN 0 k1 0 7 80 24")?;
     assert!(rt; begun.as_slice() == OPENED);
     let mut two = one.split(alloc, &host)?;
@@ -112,7 +143,7 @@ fn a_link_that_fails_ends_alone(rt: HostRuntime) -> Result<(), Fail> {
     let alloc = rt.alloc();
     let bytes = echo_story(alloc)?;
     let stories = [Story::of(&bytes).ok().ok_or("a story")?];
-    let (host, mut passes) = opened(alloc, &stories, new_journal(alloc)?)?;
+    let (host, mut passes) = opened(alloc, &stories, new_disks(alloc)?, BUDGET)?;
     let lines = b"OPEN 0 k1 0 7 80 24\nLINE 0 k1 1 1 =a\nLINE 0 k1 2 1 =b\nLAST 0 k1\n";
     let first = served(&rt, alloc, &host, &mut passes, lines, &[2])?;
     assert!(rt; first.0 == Served::WriteFault);
@@ -135,12 +166,12 @@ fn a_host_that_has_ended_is_opened_again(rt: HostRuntime) -> Result<(), Fail> {
     let alloc = rt.alloc();
     let bytes = echo_story(alloc)?;
     let stories = [Story::of(&bytes).ok().ok_or("a story")?];
-    let (host, mut passes) = opened(alloc, &stories, new_journal(alloc)?)?;
+    let (host, mut passes) = opened(alloc, &stories, new_disks(alloc)?, BUDGET)?;
     let lines = b"OPEN 0 k1 0 7 80 24\nLINE 0 k1 1 1 =a\nLINE 0 k1 2 1 =b\nOPEN 5 k2 0 7 80 24\n";
     let served = served(&rt, alloc, &host, &mut passes, lines, &[])?;
     assert!(rt; served.0 == Served::End);
-    let journal = host.end(&rt, passes);
-    let (host, mut passes) = opened(alloc, &stories, journal)?;
+    let disks = ended(&rt, host, passes);
+    let (host, mut passes) = opened(alloc, &stories, disks, BUDGET)?;
     assert!(rt; reply(&rt, alloc, &host, &mut passes, b"LAST 0 k1")?.as_slice() == B);
     let other = reply(&rt, alloc, &host, &mut passes, b"LAST 5 k2")?;
     assert!(rt; other.starts_with(b"SHOW 5 0\n") && other.ends_with(&OPENED[9..]));

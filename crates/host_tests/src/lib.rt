@@ -5,3 +5,5 @@
 mod alike;
 #[cfg(test)]
 mod hosts;
+#[cfg(test)]
+mod snapshots;

@@ -6,7 +6,7 @@ use disk_model::{Disk, MemDisk};
 use gate_journal::Command;
 use line_words::Key;
 use session_core::world_of;
-use session_saves::Saves;
+use session_saves::{Missed, Saves};
 use snap_store::{Store, make};
 use std::alloc::Global;
 use std::marker::Brand;
@@ -17,6 +17,14 @@ use story_text::Text;
 
 /// The place of the OPEN row's gate, where it is the journal's first row.
 pub const ROW: u64 = 16;
+
+/// Nothing was missed.
+pub const NOTHING: Missed = Missed {
+    memory: 0,
+    size: 0,
+    fault: 0,
+    none: 0,
+};
 
 /// The snapshots of a session, in a box: a test lets go of one thing then.
 pub type Boxed = Box<Saves<MemDisk>>;
@@ -55,13 +63,17 @@ pub fn opened(alloc: Global, disk: MemDisk) -> Result<Boxed, Fail> {
     Ok(Box::new(alloc, Saves::open(store))?)
 }
 
-/// Those of a new disk, of which one call is to fail. Its making takes two calls, its opening
-/// five.
-pub fn made(alloc: Global, fails: u64) -> Result<Boxed, Fail> {
+/// A new disk, of which one call is to fail. Its making takes two calls, its opening five.
+pub fn new_file(alloc: Global, fails: u64) -> Result<MemDisk, Fail> {
     let mut disk = MemDisk::new(alloc);
     disk.fail_at(fails)?;
     make(&mut disk).ok().ok_or("make")?;
-    opened(alloc, disk)
+    Ok(disk)
+}
+
+/// The snapshots of such a disk.
+pub fn made(alloc: Global, fails: u64) -> Result<Boxed, Fail> {
+    opened(alloc, new_file(alloc, fails)?)
 }
 
 /// Keeps the snapshot of a game's world, as of this OPEN row and after so many inputs.

@@ -1,7 +1,7 @@
 //! What is due, kept, missed and warmed from, with ample memory. The areas hold other worlds than
 //! the game's where a test is to see which of them was taken.
 
-use crate::play::{ROW, game, keep, made, opened, warmed};
+use crate::play::{NOTHING, ROW, game, keep, made, opened, warmed};
 use disk_model::{Disk, MemDisk};
 use session_core::world_of;
 use session_saves::Missed;
@@ -17,13 +17,6 @@ const B: &[u8] = b"W 1 3 0 0 80 24\nT 1 8 =b%0A\nT 1 0 =b%0A>\nI 1 line 20 =\n";
 const ALL_A: &[u8] = b"aaaaaaaaaaaaaaaaaaaaaaaaaaaaaaaaaaaa";
 
 const ALL_B: &[u8] = b"bbbbbbbbbbbbbbbbbbbbbbbbbbbbbbbbbbbb";
-
-const NOTHING: Missed = Missed {
-    memory: 0,
-    size: 0,
-    fault: 0,
-    none: 0,
-};
 
 #[test]
 fn a_session_warms_from_the_newest_snapshot(rt: HostRuntime) -> Result<(), Fail> {

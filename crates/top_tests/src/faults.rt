@@ -44,9 +44,15 @@ fn failing_calls_end_a_run_where_they_come(rt: HostRuntime) -> Result<(), Fail> 
             command: &["check"],
             ..unloaded
         },
-        // a call for a disk
+        // a call for a disk, the first and the last of the journal's and the snapshots'
         Run {
             loans: &[0],
+            status: 6,
+            text: &[],
+            ..pipe
+        },
+        Run {
+            loans: &[64],
             status: 6,
             text: &[],
             ..pipe

@@ -28,7 +28,8 @@ fn new_journal(alloc: Global) -> Result<MemDisk, Fail> {
     Ok(disk)
 }
 
-/// The host of this journal, with its first passes.
+/// The host of this journal, with its first passes. It keeps no snapshots, since their disks are
+/// empty.
 fn opened<'i>(
     alloc: Global,
     stories: &'i [Story<'i>],
@@ -37,7 +38,14 @@ fn opened<'i>(
     ensures passes { IfOk result (λ pair. AreOf pair.0 pair.1) }
     ensures roots { IfOk result (λ pair. AreRoots 0 (holders pair.1.desks.items)) }
 {
-    match Host::open(alloc, stories, journal, BUDGET) {
+    let mut snaps = Vec::new(alloc);
+    for _ in 0..64 {
+        snaps.push(MemDisk::new(alloc))?;
+    }
+    if snaps.len() != 64 {
+        return Err("64 disks".into());
+    }
+    match Host::open(alloc, stories, journal, snaps, BUDGET) {
         Ok(opened) => Ok(opened),
         Err(_) => Err("a host".into()),
     }
