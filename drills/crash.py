@@ -1,17 +1,31 @@
 #!/usr/bin/env python3
 """Kills a host while it plays, starts it again, and looks whether a game is where it was left.
 
-    drills/crash.py [ROUNDS] [--serve] [--seed N] [--sessions N] [--moves N] [--story FILE]
+    drills/crash.py [ROUNDS] [--serve] [--seed N] [--sessions N] [--moves N] [--story FILE] [--starts]
 
-A round: `init` makes a folder; `pipe` serves it; moves are sent one after the other to sessions in
-turn, and the host is killed (signal 9) at moments drawn from the seed, up to three times on the way
-(a kill that comes late may pass the next one's place). After each start `LAST` must show the last move whose reply had been read, or the one that was under way;
-then that move is sent again. With `--serve` it is `serve` with four workers, and each session's player, eight
-unless told otherwise, has a connection and a thread of its own; all of them are at work when the host is killed. At the end each session's shows must be those that `run` writes for the
-same moves, each applied once. It says how many rounds it ran and how many kills met a move under way,
-and ends with 1 where a round lost an acknowledged move or applied one twice."""
+A round: `init` makes a folder; `pipe` serves it; each session plays a game, closes it and plays another
+one, the requests are sent one after the other to sessions in turn, and the host is killed (signal 9) at
+moments drawn from the seed, up to three times on the way (a kill that comes late may pass the next one's
+place); about half of the kills are aimed at an input behind which a snapshot is put. After each start `LAST`
+must show the last request whose reply had been read, or the one that was under way; then that one is sent
+again. With `--serve` it is `serve` with four workers, and each session's player, eight unless told
+otherwise, has a connection and a thread of its own; all of them are at work when the host is killed. At the
+end the host is started once more, and each session's shows must be those that `run` writes for the same
+moves, each applied once.
+
+Before each start it reads the folder by a reader of its own: which areas of the snapshot files are open, how
+many inputs each session has behind the newest one of its game, which must be 16 at most, and how many puts
+the kill met. Before every third start or so it then spoils an open area by hand: its gate is 0, or it is
+torn too, or cut, or its bytes are no world's, or the file loses its header. The games must be the same. A
+session whose file was spoiled may have more inputs to play, so it isn't counted in that round any more.
+
+It says how many rounds it ran, how many kills met a move under way, and, with `--starts` start by start,
+what stood in the folder. It ends with 1 where a round lost an acknowledged move or applied one twice, where
+more than 16 inputs stood behind a snapshot, or where `init` doesn't make the snapshot files: then
+the rounds are run all the same."""
 
 import argparse
+import collections
 import pathlib
 import random
 import shutil
@@ -22,6 +36,8 @@ import sys
 import tempfile
 import threading
 import time
+
+import folder as files
 
 TOP = pathlib.Path(__file__).resolve().parent.parent
 PROGRAM = TOP / "crates" / "storyhost" / "out" / "storyhost"
@@ -143,29 +159,100 @@ class Server:
 
 
 class Session:
-    """What a player of one session knows."""
+    """What a player of one session knows. A step is a request, and the number of the show that LAST
+    has behind it, if any."""
 
-    def __init__(self, number, moves):
-        self.number, self.moves = number, moves
-        self.acknowledged = -1
+    def __init__(self, number, games):
+        self.number, self.games = number, games
+        self.steps = []
+        for moves in games:
+            self.steps.append((f"OPEN {number} k{number} 0 1 80 24", 0))
+            for n, move in enumerate(moves, 1):
+                self.steps.append((f"LINE {number} k{number} {n} 1 ={move}", n))
+            self.steps.append((f"CLOSE {number} k{number} {len(moves) + 1}", None))
+        self.steps.pop()
         self.shows = []
 
-    def line(self, n):
-        if n == 0:
-            return f"OPEN {self.number} k{self.number} 0 1 80 24"
-        return f"LINE {self.number} k{self.number} {n} 1 ={self.moves[n - 1]}"
+    def line(self, step):
+        return self.steps[step][0]
 
-    def take(self, n, reply):
+    def shown_behind(self, step):
+        return None if step < 0 else self.steps[step][1]
+
+    def take(self, step, reply):
         head, _, show = reply.partition("\n")
-        if head != f"SHOW {self.number} {n}":
-            raise Lost(f"session {self.number}, move {n}: {reply.splitlines()[0]}")
-        del self.shows[n:]
+        if head.split()[:2] != ["SHOW", str(self.number)]:
+            raise Lost(f"session {self.number}, {self.line(step)}: {head}")
+        del self.shows[step:]
         self.shows.append(show)
-        self.acknowledged = n
+
+    def wanted(self, story):
+        """The shows of all steps, played alone."""
+        shows = []
+        for moves in self.games:
+            shows += [*alone(story, moves), "E closed\n.\n"]
+        return shows[:-1]
+
+
+class Starts:
+    """What stood in a folder before each start of its host."""
+
+    def __init__(self, tells):
+        self.tells = tells
+        self.made = True
+        self.open = collections.Counter()
+        self.spoils = collections.Counter()
+        self.starts = self.met = self.behind = 0
+
+    def begin_round(self, folder):
+        """Behind `init`."""
+        self.folder, self.spoiled = pathlib.Path(folder), set()
+        self.made = self.made and files.are_made(self.folder)
+
+    def look(self, sessions):
+        """Before a start, while no host runs."""
+        self.starts += 1
+        if not self.made:
+            return
+        games = files.games_of(self.folder)
+        opened = behind = 0
+        for session in sessions:
+            areas = list(files.areas_of(self.folder, session.number))
+            opened += sum(area.is_open for area in areas)
+            if session.number in self.spoiled:
+                continue
+            self.met += sum(area.written and area.gate == 0 for area in areas)
+            if session.number in games:
+                behind = max(behind, files.turns_to_play(areas, games[session.number]))
+        self.open[opened] += 1
+        self.behind = max(self.behind, behind)
+        if self.tells:
+            print(f"crash: a start with {opened} areas open, at most {behind} inputs behind one")
+        if behind > files.INTERVAL:
+            raise Lost(f"{behind} inputs stand behind the newest snapshot")
+
+    def spoil(self, draw, sessions):
+        """Spoils an area, before a start."""
+        if not self.made or draw.random() > 1 / 3:
+            return
+        done = files.spoil_one(draw, self.folder, [session.number for session in sessions])
+        if done:
+            session, way = done
+            self.spoiled.add(session)
+            self.spoils[way] += 1
+            if self.tells:
+                print(f"crash: {way}, of session {session}")
+
+    def told(self):
+        spoils = ", ".join(f"{count} {way}" for way, count in sorted(self.spoils.items()))
+        return (
+            f"{self.starts} starts with {min(self.open)} to {max(self.open)} areas open, at most "
+            f"{self.behind} inputs behind one; {self.met} puts were met under way; spoiled: {spoils or 'none'}"
+        )
 
 
 def look_again(host, session):
-    """After a start: the last move is the last acknowledged one, or the one behind it."""
+    """After a start: whether the request behind the last acknowledged one was kept."""
     reply = host.ask(f"LAST {session.number} k{session.number}")
     if reply is None:
         raise Lost("the host is gone although nobody killed it")
@@ -173,17 +260,21 @@ def look_again(host, session):
 
 
 def is_one_more(session, reply):
-    """Whether LAST shows the move behind the last acknowledged one, and not that one."""
+    """Whether LAST shows what stands behind the request after the last acknowledged one; if not, it must
+    show what the latter was answered."""
     head, _, show = reply.partition("\n")
-    if session.acknowledged < 0 and head == "NO 2":
+    words = head.split()
+    if head != "NO 2" and words[:2] != ["SHOW", str(session.number)]:
+        raise Lost(f"session {session.number}: LAST is answered by {head}")
+    n = None if head == "NO 2" else int(words[2])
+    step = len(session.shows) - 1
+    if n == session.shown_behind(step):
+        if n is not None and show != session.shows[-1]:
+            raise Lost(f"session {session.number}: {session.line(step)} is shown otherwise than before")
         return False
-    _, _, n = head.split()
-    behind = int(n) - session.acknowledged
-    if behind not in (0, 1):
-        raise Lost(f"session {session.number}: {session.acknowledged} acknowledged, {n} shown")
-    if behind == 0 and show != session.shows[-1]:
-        raise Lost(f"session {session.number}: move {n} is shown otherwise than before")
-    return behind == 1
+    if step + 1 < len(session.steps) and n == session.shown_behind(step + 1):
+        return True
+    raise Lost(f"session {session.number}: {step + 1} requests were acknowledged, and LAST is answered by {head}")
 
 
 def alone(story, moves):
@@ -198,53 +289,88 @@ def alone(story, moves):
     return shows
 
 
-def play(draw, folder, story, sessions, kills):
-    """Plays all moves, with so many kills on the way at most; how many there were, and how many
-    moves were kept though their reply wasn't read."""
-    killed = met = 0
+def begin(folder):
     if subprocess.run([PROGRAM, "init", folder], capture_output=True).stdout != b"ready\n":
         raise Lost("init didn't write `ready`")
-    turns = [(session, n) for n in range(len(sessions[0].moves) + 1) for session in sessions]
-    stops = sorted(draw.sample(range(len(turns)), kills))
+
+
+def draw_kills(draw, turns, kills):
+    """So many turns at which the host is to be killed, and how soon behind their beginning."""
+    due = [at for at, (session, step) in enumerate(turns) if falls_due(session.shown_behind(step))]
+    drawn = {}
+    for at in draw.sample(range(len(turns)), kills):
+        if due and draw.random() < 0.5:
+            drawn[draw.choice(due)] = draw.random() ** 2 * 0.004
+        else:
+            drawn[at] = draw.random() ** 3 * 0.02
+    return sorted(drawn.items())
+
+
+def falls_due(n):
+    return bool(n) and n % files.INTERVAL == 0
+
+
+def play(draw, folder, story, sessions, kills, starts):
+    """Plays all games, with so many kills on the way at most; how many there were, and how many
+    requests were kept though their reply wasn't read."""
+    killed = met = 0
+    begin(folder)
+    starts.begin_round(folder)
+    turns = [(session, step) for step in range(len(sessions[0].steps)) for session in sessions]
+    stops = draw_kills(draw, turns, kills)
     host, at = Host(folder, story), 0
     while at < len(turns):
-        session, n = turns[at]
-        if stops and at == stops[0]:
-            stops.pop(0)
-            host.kill_in(draw.random() ** 3 * 0.02)
+        session, step = turns[at]
+        if stops and at == stops[0][0]:
+            host.kill_in(stops.pop(0)[1])
             while at < len(turns):
-                session, n = turns[at]
-                reply = host.ask(session.line(n))
+                session, step = turns[at]
+                reply = host.ask(session.line(step))
                 if reply is None:
                     break
-                session.take(n, reply)
+                session.take(step, reply)
                 at += 1
             host.process.kill()
             host.end()
             killed += 1
+            starts.look(sessions)
+            starts.spoil(draw, sessions)
             host = Host(folder, story)
             for other in sessions:
                 met += look_again(host, other)
-            stops = [stop for stop in stops if stop >= at]
+            stops = [stop for stop in stops if stop[0] >= at]
             continue
-        reply = host.ask(session.line(n))
+        reply = host.ask(session.line(step))
         if reply is None:
             raise Lost("the host is gone although nobody killed it")
-        session.take(n, reply)
+        session.take(step, reply)
         at += 1
-    status = host.end()
-    if status != 0:
-        raise Lost(f"the host ended with status {status}")
+    ends(host)
+    starts.look(sessions)
+    host = Host(folder, story)
+    for session in sessions:
+        look_again(host, session)
+    ends(host)
     return killed, met
 
 
+def ends(host):
+    status = host.end()
+    if status != 0:
+        raise Lost(f"the host ended with status {status}")
+
+
+def are_alive(players):
+    return any(player.is_alive() for player in players)
+
+
 def play_session(server, session, kept, lost):
-    """Plays the moves of one session over a connection of its own, whoever kills the host."""
+    """Plays the games of one session over a connection of its own, whoever kills the host."""
     try:
         link, run = server.link_after(0)
-        n = 0
-        while n <= len(session.moves):
-            reply = link.ask(session.line(n))
+        step = 0
+        while step < len(session.steps):
+            reply = link.ask(session.line(step))
             while reply is None:
                 link.close()
                 link, run = server.link_after(run)
@@ -252,19 +378,19 @@ def play_session(server, session, kept, lost):
                 if last is None:
                     continue
                 if is_one_more(session, last):
-                    kept.append(n)
-                reply = link.ask(session.line(n))
-            session.take(n, reply)
-            n += 1
+                    kept.append(step)
+                reply = link.ask(session.line(step))
+            session.take(step, reply)
+            step += 1
         link.close()
     except (Lost, ValueError) as cause:
         lost.append(cause)
 
 
-def play_links(draw, folder, story, sessions, kills):
+def play_links(draw, folder, story, sessions, kills, starts):
     """The same over `serve`, with all sessions at work at once."""
-    if subprocess.run([PROGRAM, "init", folder], capture_output=True).stdout != b"ready\n":
-        raise Lost("init didn't write `ready`")
+    begin(folder)
+    starts.begin_round(folder)
     server, kept, lost, killed = Server(folder, story), [], [], 0
     players = [
         threading.Thread(target=play_session, args=(server, session, kept, lost), daemon=True)
@@ -272,21 +398,35 @@ def play_links(draw, folder, story, sessions, kills):
     ]
     for player in players:
         player.start()
-    for _ in range(kills):
-        time.sleep(draw.random() * 0.05)
-        if not any(player.is_alive() for player in players):
+    turns = sum(len(session.steps) for session in sessions)
+    for answered in sorted(draw.sample(range(turns), kills)):
+        while sum(len(session.shows) for session in sessions) < answered and are_alive(players):
+            time.sleep(0.001)
+        time.sleep(draw.random() * 0.005)
+        if not are_alive(players):
             break
         server.stop()
         killed += 1
+        starts.look(sessions)
+        starts.spoil(draw, sessions)
         server.start()
     for player in players:
         player.join(timeout=120)
     server.stop()
     if lost:
         raise lost[0]
-    if any(player.is_alive() for player in players):
+    if are_alive(players):
         raise Lost("a player waits for ever")
+    starts.look(sessions)
+    host = Host(folder, story)
+    for session in sessions:
+        look_again(host, session)
+    ends(host)
     return killed, len(kept)
+
+
+def draw_moves(draw, count):
+    return ["".join(draw.choices("abcdefgh", k=draw.randint(1, 19))) for _ in range(count)]
 
 
 def main():
@@ -295,32 +435,38 @@ def main():
     words.add_argument("--seed", type=int, default=1)
     words.add_argument("--serve", action="store_true")
     words.add_argument("--sessions", type=int)
-    words.add_argument("--moves", type=int)
+    words.add_argument("--moves", type=int, default=40, help="of each of a session's two games")
     words.add_argument("--story")
+    words.add_argument("--starts", action="store_true", help="tell what stood in the folder before each start")
     asked = words.parse_args()
     killed = met = 0
-    moves = asked.moves or (60 if asked.serve else 12)
+    starts = Starts(asked.starts)
     for number in range(asked.rounds):
         draw = random.Random(f"{asked.seed}/{number}")
         room = pathlib.Path(tempfile.mkdtemp(prefix="crash-"))
         story = room / "story.ulx"
         story.write_bytes(pathlib.Path(asked.story).read_bytes() if asked.story else echo_story())
         sessions = [
-            Session(s, ["".join(draw.choices("abcdefgh", k=draw.randint(1, 19))) for _ in range(moves)])
+            Session(s, [draw_moves(draw, asked.moves) for _ in range(2)])
             for s in range(asked.sessions or (8 if asked.serve else 3))
         ]
         try:
             played = play_links if asked.serve else play
-            kills, kept = played(draw, str(room / "d"), str(story), sessions, 3)
+            kills, kept = played(draw, str(room / "d"), str(story), sessions, 3, starts)
             killed, met = killed + kills, met + kept
             for session in sessions:
-                if session.shows != alone(str(story), session.moves):
+                if session.shows != session.wanted(str(story)):
                     raise Lost(f"session {session.number}: its shows aren't those of its moves played alone")
         except (Lost, subprocess.TimeoutExpired) as cause:
             print(f"crash: round {number} of seed {asked.seed}: {cause}; its folder is {room}")
             return 1
         shutil.rmtree(room)
-    print(f"crash{' --serve' if asked.serve else ''}: {asked.rounds} rounds, {killed} kills, {met} moves were kept before their reply: none lost, none applied twice")
+    name = f"crash{' --serve' if asked.serve else ''}"
+    print(f"{name}: {asked.rounds} rounds, {killed} kills, {met} requests were kept before their reply: none lost, none applied twice")
+    if not starts.made:
+        print(f"{name}: init makes no snapshot files, or others than docs/FORMATS.md has")
+        return 1
+    print(f"{name}: {starts.told()}")
     return 0
 
 
