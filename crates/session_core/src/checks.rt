@@ -155,7 +155,7 @@ pub fn is_missing(stories: &[Story], game: &[Command], request: &Request) -> boo
 }
 
 /// The game's story isn't there, or its file has another digest than at the OPEN.
-fn is_other_story(stories: &[Story], game: &[Command]) -> bool
+pub fn is_other_story(stories: &[Story], game: &[Command]) -> bool
     ensures { result ≡ is_other_story stories.now game.now }
 {
     match game {

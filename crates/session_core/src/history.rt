@@ -18,6 +18,7 @@ pub fn story_at<'a, 'i>(stories: &'a [Story<'i>], number: u32) -> Option<&'a Sto
     }
 }
 
+/// The command opens a session.
 pub fn is_open(command: &Command) -> bool
     ensures { result ≡ is_open command.now }
 {
