@@ -116,6 +116,17 @@ world_at-more stories game c n shut le =
     ∙ ap (λ (l : List Input). played (story_of stories game) (setup_of game) l)
     (take-more game c n le)
 
+-- ---- no more inputs than commands
+
+one_within : (given : Option Input) (c : Command) (cs : List Command) → input_of c ≡ given
+    → length (inputs_of cs) ≤ length cs → length (inputs_of (c ∷ cs)) ≤ length (c ∷ cs)
+one_within None c cs is le = rw is (omega (arith, le))
+one_within (Some x) c cs is le = rw is (omega (arith, le))
+
+pub inputs_within : (game : List Command) → length (inputs_of game) ≤ length game
+inputs_within [] = omega arith
+inputs_within (c ∷ cs) = one_within (input_of c) c cs refl (inputs_within cs)
+
 -- ---- from one of its worlds on
 
 turned_by-append : (w : WorldState) (xs ys : List Input)

@@ -1,11 +1,12 @@
 -- What a put leaves of a store: its areas, its images, and how far it writes.
-use Rattle.std.proofs.Common.{◌≡◌, ◌⊎◌, ◌∙◌, ◌+◌, ◌≤◌, ℕ, Bool, List, max, Option, Some, None, inl}
-use Rattle.std.proofs.Common.{inr, true, sym, ap, subst, arith}
+use Rattle.std.proofs.Common.{◌≡◌, ◌⊎◌, ◌∙◌, ◌+◌, ◌≤◌, ℕ, Bool, List, max, length, Option, Some}
+use Rattle.std.proofs.Common.{None, inl, inr, true, false, sym, ap, subst, arith}
 use Rattle.std.specs.Prelude.{IsTrue}
 use Rattle.disk_model.specs.Disk.{EachImage, LeavesOnly}
 use Rattle.disk_model.proofs.Moments.{started, weaker}
 use Rattle.story_run.specs.World.{WorldState}
 use Rattle.story_snap.specs.Bytes.{HasBytes}
+use Rattle.story_snap.specs.Laws.{HasOneSpelling}
 use Rattle.snap_store.specs.File.{Stored, start_of}
 use Rattle.snap_store.specs.Slots.{is_stored, other, taken_side}
 use Rattle.snap_store.specs.Store.{Snapshots, IsImageOf, IsPutImage, area_of}
@@ -13,7 +14,15 @@ use Rattle.snap_store.specs.declared.outline.TheConstants.{MAX_SNAPSHOT}
 use Rattle.snap_store.specs.declared.side.Side.{Side}
 use Rattle.snap_store.specs.declared.side.Side.TheVariants.{A, B}
 use Rattle.snap_store.specs.declared.slot.Slots.{Slots}
-use Rattle.session_saves.specs.Keeping.{AddsOnly, IsOldOrNew, MayStand, Puts, area_with}
+use Rattle.session_saves.specs.declared.missed.Cause.{Cause}
+use Rattle.session_saves.specs.declared.missed.Cause.TheVariants.{NoMemory, TooLong, DiskFailed}
+use Rattle.session_saves.specs.declared.missed.Cause.TheVariants.{NotMade}
+use Rattle.session_saves.specs.declared.missed.Missed.{Missed}
+use Rattle.session_saves.specs.declared.saves.Point.{Point}
+use Rattle.session_saves.specs.Keeping.{AddsOnly, CountsExactly, Fits, IsMissed, IsOldOrNew, IsPut}
+use Rattle.session_saves.specs.Keeping.{IsTooLong, Leaves, MayStand, Prevents, Puts, area_with}
+use Rattle.session_saves.specs.Keeping.{with_missed}
+use Rattle.session_saves.specs.Saves.{SavesState, with_cause}
 use Rattle.session_saves.proofs.AgreementLemmas.{side_cases}
 use Rattle.session_saves.proofs.KeptUpLemmas.{stored_with}
 
@@ -94,6 +103,79 @@ pub put_stored : {D : Type 0} (tells : D → Bool) (may_leave : D → List ℕ �
 put_stored tells may_leave faults world place count old new puts =
     ap (λ (s : Slots). is_stored place count s) puts.slots
     ∙ stored_with old.slots (taken_side old.slots) place count
+
+-- ---- which count rises
+
+true_false : true ≡ false → ⊥
+true_false e = cc
+
+-- bytes that fit leave no longer ones
+not_long : (world : WorldState) (bytes long : List ℕ) → HasOneSpelling → Fits world bytes
+    → IsTooLong world long → ⊥
+not_long world bytes long one fits is =
+    let same : length bytes ≡ length long =
+    ap (λ (l : List ℕ). length l) (one world.image bytes long world fits.of_world is.of_world) in
+    omega (arith, fits.short, is.long, same)
+
+module _ {D : Type 0} (faults : D → ℕ) (one : HasOneSpelling) (world : WorldState)
+    (place count : ℕ) (old new : SavesState D) where
+  abbrev point : Option Point
+  point = Some (record { place = place; count = count })
+
+  left_with : (cause : Cause) → new.store ≡ old.store → new.missed ≡ with_cause cause old.missed
+      → new.last ≡ point → new ≡ with_missed cause place count old
+  left_with cause store missed last =
+      ap (λ (s : Snapshots D). record { store = s; missed = new.missed; last = new.last }) store
+      ∙ ap (λ (m : Missed). record { store = old.store; missed = m; last = new.last }) missed
+      ∙ ap (λ (l : Option Point). record {
+        store = old.store;
+        missed = with_cause cause old.missed;
+        last = l;
+      }) last
+
+  pub put_counts : (tells : D → Bool) (may_leave : D → List ℕ → Type 0)
+      → IsPut tells may_leave faults world place count old new
+      → CountsExactly world place count old new
+  put_counts tells may_leave put = record {
+    unmade = λ unmade. absurd (true_false (sym put.store.made ∙ unmade));
+    made = λ _. ap (λ (m : Missed). m.none) put.missed;
+    long = λ _ bytes is. absurd (not_long world put.store.bytes bytes one put.store.fits is);
+    short = λ _. ap (λ (m : Missed). m.size) put.missed;
+  }
+
+  by_cause : (cause : Cause)
+      → Prevents cause old.store.made world (faults old.store.disk) (faults new.store.disk)
+      → Leaves cause old.store new.store → new.missed ≡ with_cause cause old.missed
+      → new.last ≡ point → CountsExactly world place count old new
+  by_cause NotMade prevents leaves missed last = record {
+    unmade = λ _. left_with NotMade leaves missed last;
+    made = λ made. absurd (true_false (sym made ∙ prevents.0));
+    long = λ made bytes is. absurd (true_false (sym made ∙ prevents.0));
+    short = λ _. ap (λ (m : Missed). m.size) missed;
+  }
+  by_cause NoMemory prevents leaves missed last = record {
+    unmade = λ unmade. absurd (true_false (sym prevents.0 ∙ unmade));
+    made = λ _. ap (λ (m : Missed). m.none) missed;
+    long = λ _ bytes is. inr (left_with NoMemory leaves missed last);
+    short = λ _. ap (λ (m : Missed). m.size) missed;
+  }
+  by_cause TooLong prevents leaves missed last = record {
+    unmade = λ unmade. absurd (true_false (sym prevents.0 ∙ unmade));
+    made = λ _. ap (λ (m : Missed). m.none) missed;
+    long = λ _ bytes is. inl (left_with TooLong leaves missed last);
+    short = λ none. absurd (none prevents.2.0 prevents.2.1);
+  }
+  by_cause DiskFailed prevents leaves missed last = record {
+    unmade = λ unmade. absurd (true_false (sym prevents.0 ∙ unmade));
+    made = λ _. ap (λ (m : Missed). m.none) missed;
+    long = λ _ bytes is. absurd (not_long world prevents.3.0 bytes one prevents.3.1 is);
+    short = λ _. ap (λ (m : Missed). m.size) missed;
+  }
+
+  pub missed_counts : IsMissed faults world place count old new
+      → CountsExactly world place count old new
+  missed_counts missed =
+      by_cause missed.cause missed.prevents missed.leaves missed.counted missed.last
 
 -- ---- how far it writes
 

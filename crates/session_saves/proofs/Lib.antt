@@ -3,3 +3,4 @@ pub mod KeptUpLemmas
 pub mod AgreementLemmas
 pub mod WarmingLemmas
 pub mod KeepLemmas
+pub mod StandardFacts

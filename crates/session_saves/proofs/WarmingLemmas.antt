@@ -24,7 +24,7 @@ use Rattle.session_saves.proofs.GameLemmas.{image-world_after, turned_by-rest, w
 use Rattle.std.proofs.Math.Seq.{take-length}
 
 -- the world of a story that is there
-at_story : (stories : List Story) (game : List Command) (story : Story) (n : ℕ)
+pub at_story : (stories : List Story) (game : List Command) (story : Story) (n : ℕ)
     → story_of stories game ≡ Some story
     → world_at stories game n ≡ Some
     (world_after story.image (setup_of game) (take n (inputs_of game)))

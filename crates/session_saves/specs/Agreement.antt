@@ -1,17 +1,26 @@
 -- What the areas of a session's snapshot file have to do with its commands (own).
-use Rattle.std.specs.Prelude.{◌≡◌, ◌≤◌, ℕ, false, List, length, Option, Some, None}
+use Rattle.std.specs.Prelude.{◌≡◌, ◌≤◌, ℕ, false, ◌==◌, ◌&&◌, if◌then◌else◌}
+use Rattle.std.specs.Prelude.{List, [], ◌∷◌, length, Option, Some, None}
 use Rattle.std.specs.List.{Contains, last_or}
 use Rattle.gate_journal.specs.declared.command.Command.{Command}
+use Rattle.gate_journal.specs.declared.row.Row.{Row}
 use Rattle.story_run.specs.declared.story.Story.{Story}
 use Rattle.story_run.specs.World.{WorldState}
 use Rattle.story_snap.specs.Bytes.{HasBytes}
 use Rattle.session_core.specs.Checks.{is_other_story}
+use Rattle.session_core.specs.History.{is_open}
 use Rattle.snap_store.specs.File.{Stored, openable_area}
 use Rattle.snap_store.specs.Store.{Snapshots, area_of}
 use Rattle.snap_store.specs.declared.side.Side.{Side}
 use Rattle.session_saves.specs.Game.{inputs_of, world_at}
 
--- the place of a session's last OPEN row, of the places of all of them, oldest first
+-- the places of a session's OPEN rows in a journal, oldest first
+abbrev pub opens_of : List Row → ℕ → List ℕ
+opens_of [] s = []
+opens_of (r ∷ rows) s =
+    if r.session == s && is_open r.command then r.place ∷ opens_of rows s else opens_of rows s
+
+-- the place of the last one
 abbrev pub last_row : List ℕ → Option ℕ
 last_row rows = last_or None rows
 

@@ -62,6 +62,32 @@ pub record IsMissed
   pub counted : new.missed ≡ with_cause cause old.missed
   pub last : new.last ≡ Some (record { place = place; count = count })
 
+-- what is left where this cause prevented a put before it began
+abbrev pub with_missed : {D : Type 0} → Cause → ℕ → ℕ → SavesState D → SavesState D
+with_missed cause place count old =
+    record {
+      store = old.store;
+      missed = with_cause cause old.missed;
+      last = Some (record { place = place; count = count });
+    }
+
+-- The counts are exact. Where the store isn't made `none` rises, and nowhere else. Where it is made
+-- and some bytes of the world are too many for it, `size` rises, unless memory ran out before; and
+-- where none are, `size` doesn't.
+pub record CountsExactly
+    {D : Type 0}
+    (world : WorldState)
+    (place count : ℕ)
+    (old new : SavesState D) : Type 0 where
+  pub unmade : old.store.made ≡ false → new ≡ with_missed NotMade place count old
+  pub made : old.store.made ≡ true → new.missed.none ≡ old.missed.none
+  pub long :
+      old.store.made ≡ true → (bytes : List ℕ) → IsTooLong world bytes
+      → (new ≡ with_missed TooLong place count old)
+      ⊎ (new ≡ with_missed NoMemory place count old)
+  pub short :
+      ((bytes : List ℕ) → IsTooLong world bytes → ⊥) → new.missed.size ≡ old.missed.size
+
 -- it was put into a store: its area is known to be open, and is in each image
 pub record Puts
     {D : Type 0}

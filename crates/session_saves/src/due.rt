@@ -8,9 +8,9 @@ use crate::saves::Point;
 /// A snapshot falls due after so many inputs, again and again.
 const INTERVAL: u32 = 16;
 
-/// It does after this many.
+/// It does after this many: a positive multiple of 16.
 pub fn falls_due(count: u32) -> bool
-    ensures { result ≡ falls_due count }
+    ensures value { result ≡ falls_due count }
 {
     count > 0 && count % INTERVAL == 0
 }

@@ -1,6 +1,6 @@
 //! A session's game: its story and its inputs (own).
 
-ghost use Rattle.std.specs.Prelude.{◌≡◌, ◌≤◌, length, drop, is_some, None, Some, MatchOption};
+ghost use Rattle.std.specs.Prelude.{◌≡◌, length, drop, is_some, None, Some, MatchOption};
 ghost use Rattle.std.specs.List.{filter_map};
 ghost use Rattle.session_core.specs.History.{input_of};
 ghost use Rattle.session_saves.specs.Game.{inputs_of, setup_of, story_of};
@@ -52,8 +52,7 @@ fn is_input(command: &Command) -> bool
 }
 
 /// How many inputs came since the OPEN.
-pub fn inputs_of(game: &[Command]) -> u32
-    requires { length game.now ≤ 8192 }
+pub fn inputs_of(game: &[Command]) -> usize
     ensures value { result ≡ length (inputs_of game.now) }
 {
     let mut count = 0;

@@ -9,6 +9,7 @@ mod saves;
 mod snapshot;
 mod warming;
 
+pub use due::falls_due;
 pub use game::inputs_of;
 pub use laws::{
     images_stay_agreed, is_within_sixteen, more_commands_stay_agreed, new_opens_stay_agreed,

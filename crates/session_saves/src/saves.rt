@@ -20,7 +20,7 @@ use std::alloc::{AllocError, Global};
 use std::marker::Model;
 use std::sync::ledger::Ledger;
 use story_run::{Steps, Story, World};
-use story_snap::has_one_world;
+use story_snap::{has_one_spelling, has_one_world};
 
 /// Where a snapshot stands in a session: the place of its OPEN row, and how many inputs came since.
 #[derive(Clone, Copy)]
@@ -53,7 +53,7 @@ impl<D: Disk> Saves<D> {
     ghost use Rattle.snap_store.specs.declared.side.Side.{Side};
     ghost use Rattle.session_saves.specs.Agreement.{IsAgreed, last_row};
     ghost use Rattle.session_saves.specs.Game.{inputs_of, turns_after};
-    ghost use Rattle.session_saves.specs.Keeping.{AddsOnly, IsMissed, IsPut, MayStand};
+    ghost use Rattle.session_saves.specs.Keeping.{AddsOnly, CountsExactly, IsMissed, IsPut, MayStand};
     ghost use Rattle.session_saves.specs.Saves.{IsCounted, IsKeptUp, is_due, opened};
     ghost use Rattle.session_saves.specs.Warming.{WarmsFrom, count_in};
 
@@ -94,6 +94,8 @@ impl<D: Disk> Saves<D> {
         ensures ok { is_due self.old place count ≡ true
             → IsPut D.tells D.may_leave D.faults world.now place count self.old self.new
             ⊎ IsMissed D.faults world.now place count self.old self.new }
+        ensures exact { is_due self.old place count ≡ true
+            → CountsExactly world.now place count self.old self.new }
         ensures counts { D.faults self.old.store.disk ≤ D.faults self.new.store.disk }
         ensures due { is_due self.new place count ≡ false }
         ensures kept_up { IsKeptUp place count self.old.store.slots self.old.missed
@@ -121,6 +123,8 @@ impl<D: Disk> Saves<D> {
         ensures kept { SameDisk D.tells D.room D.label self.old.store.disk self.new.store.disk
             × (self.new.store.made ≡ self.old.store.made) }
     {
+        // so some bytes of the world are too many for a store exactly where its own are
+        has_one_spelling();
         if self.is_due(place, count) {
             match put(alloc, &mut self.store, world, place, count) {
                 Ok(()) => {}
@@ -185,7 +189,8 @@ impl<D: Disk> Saves<D> {
         let Some((story, setup)) = opened(stories, game) else {
             return Ok(None);
         };
-        let area = found(alloc, &mut self.store, place, inputs_of(game))?;
+        let most = inputs_of(game) as u32;
+        let area = found(alloc, &mut self.store, place, most)?;
         // so an area that agrees with the game has the game's own world
         has_one_world();
         let world = play(alloc, story, setup, game, &area, steps)?;

@@ -1,9 +1,9 @@
 use Rattle.std.proofs.Common.{ℕ, Some, refl, sym, subst}
 use Rattle.std.specs.Prelude.{IsTrue}
-use Rattle.session_saves.specs.Keeping.{AddsOnly}
+use Rattle.session_saves.specs.Keeping.{AddsOnly, CountsExactly}
 use Rattle.session_saves.specs.Saves.{SavesState}
 use Rattle.session_saves.proofs.AgreementLemmas.{after_keep}
-use Rattle.session_saves.proofs.KeepLemmas.{put_stored, untouched}
+use Rattle.session_saves.proofs.KeepLemmas.{missed_counts, put_counts, put_stored, untouched}
 use Rattle.session_saves.proofs.KeptUpLemmas.{missed_not_due, put_keeps_up, put_not_due}
 use Rattle.session_saves.proofs.saves.Saves.keep.Goals as goal
 
@@ -18,6 +18,44 @@ returns-in-Ok-clause-kept_up g c kept =
     put_keeps_up c.put.new.store.slots c.self.inside.missed c.args.place c.args.count
     (put_stored g.D.Disk.tells g.D.Disk.may_leave g.D.Disk.faults c.args.world.now c.args.place
     c.args.count c.self.inside.store c.put.new.store c.in-Ok.ensures.ok)
+
+pub returns-in-Ok-clause-exact : goal.returns-in-Ok-clause-exact
+returns-in-Ok-clause-exact g c due =
+    let inside : SavesState g.row.D.Denot = record {
+      store = c.self.inside.store;
+      missed = c.self.inside.missed;
+      last = c.self.inside.last;
+    } in
+    let new : SavesState g.row.D.Denot = record inside { store = c.put.new.store } in
+    subst (λ (s : SavesState g.row.D.Denot).
+    CountsExactly c.args.world.now c.args.place c.args.count s new) c.self.view_is
+    (put_counts g.D.Disk.faults c.has_one_spelling.ensures c.args.world.now c.args.place
+    c.args.count inside new g.D.Disk.tells g.D.Disk.may_leave
+    (record { store = c.in-Ok.ensures.ok; missed = refl; last = refl }))
+
+pub returns-in-Err-clause-exact : goal.returns-in-Err-clause-exact
+returns-in-Err-clause-exact g c due =
+    let inside : SavesState g.row.D.Denot = record {
+      store = c.self.inside.store;
+      missed = c.self.inside.missed;
+      last = c.self.inside.last;
+    } in
+    let new : SavesState g.row.D.Denot = record {
+      store = c.put.new.store;
+      missed = c.count.new.self;
+      last = Some (record { place = c.args.place; count = c.args.count });
+    } in
+    subst (λ (s : SavesState g.row.D.Denot).
+    CountsExactly c.args.world.now c.args.place c.args.count s new) c.self.view_is
+    (missed_counts g.D.Disk.faults c.has_one_spelling.ensures c.args.world.now c.args.place
+    c.args.count inside new
+    (record {
+      cause = c.in-Err.cause;
+      prevents = c.in-Err.ensures.cause;
+      leaves = c.in-Err.ensures.err;
+      counted = c.count.ensures;
+      last = refl;
+    }))
 
 pub returns-in-Ok-clause-areas : goal.returns-in-Ok-clause-areas
 returns-in-Ok-clause-areas g c =
