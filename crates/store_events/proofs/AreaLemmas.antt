@@ -1,11 +1,10 @@
 -- What is so of each area stays so, through every event.
 use Rattle.std.proofs.Common.{◌≡◌, ◌⊎◌, inl, inr, ◌∙◌, ℕ, Bool, true, false, List, refl, sym, ap, subst}
-use Rattle.std.specs.Prelude.{◌&&◌, nat_le, length, if◌then◌else◌, Option, Some, None, IfSome}
+use Rattle.std.specs.Prelude.{◌&&◌, if◌then◌else◌, Option, Some, None, IfSome}
 use Rattle.std.proofs.lemmas.Bool.{cases_Bool}
 use Rattle.disk_model.specs.DiskState.{IsImage}
 use Rattle.disk_model.specs.Plain.{is_image}
 use Rattle.disk_model.proofs.PlainLaws.{image_is}
-use Rattle.snap_store.specs.declared.outline.TheConstants.{MAX_SNAPSHOT}
 use Rattle.snap_store.specs.declared.side.Side.{Side}
 use Rattle.snap_store.specs.declared.side.Side.TheVariants.{A, B}
 use Rattle.snap_store.specs.declared.slot.Slot.{Slot}
@@ -32,8 +31,8 @@ use Rattle.store_events.specs.declared.state.Step.{Step}
 use Rattle.store_events.specs.declared.state.Step.TheVariants.{Idle, Put, Opening}
 use Rattle.store_events.specs.declared.state.StoreState.{StoreState}
 use Rattle.store_events.specs.Disk.{counted, disk_after, may_work}
-use Rattle.store_events.specs.Events.{after, called, comes_up, keep_at, next_call, onward, opens}
-use Rattle.store_events.specs.Events.{put_begins, put_call, put_onward, slots_in, stopped}
+use Rattle.store_events.specs.Events.{after, called, comes_up, has_room, keep_at, next_call}
+use Rattle.store_events.specs.Events.{onward, opens, put_begins, put_call, put_onward, slots_in, stopped}
 use Rattle.store_events.specs.Steady.{HasStage, HasStep, IsPutting, IsSteady}
 use Rattle.store_events.specs.Steady.{seen_of, store_of, tells}
 use Rattle.store_events.specs.Areas.{Brings, EachArea, EachOpenable, put_in}
@@ -321,7 +320,7 @@ module _ (P : Stored → Type 0) where
   keep_areas : (w : StoreState) → EachArea P w → (area : Stored) → P area → (step : Step)
       → EachArea P (keep_at w area step)
   keep_areas w all area new Idle =
-      of (w.up && w.made && nat_le (length area.bytes) MAX_SNAPSHOT)
+      of (w.up && w.made && has_room area)
     where
       of : (b : Bool) → EachArea P (if b then put_begins w (taken_side w.slots) area else w)
       of true = begins_areas w (taken_side w.slots) area all new

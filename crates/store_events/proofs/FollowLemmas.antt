@@ -3,7 +3,7 @@ use Rattle.std.proofs.Common.{List, [], ap, arith, drop, get_or, length, refl}
 use Rattle.std.proofs.Common.{suc, sym, zero, ℕ, ◌+◌, ◌<◌, ◌∙◌, ◌∷◌, ◌≡◌, ◌≤◌}
 use Rattle.std.proofs.lemmas.List.{drop_more}
 use Rattle.store_events.specs.Events.{after, run}
-use Rattle.store_events.specs.Steady.{EachHasRanges, IsSteady}
+use Rattle.store_events.specs.Steady.{IsSteady}
 use Rattle.store_events.specs.declared.event.Event.{Event}
 use Rattle.store_events.specs.declared.state.StoreState.{StoreState}
 use Rattle.store_events.proofs.SteadyLemmas.{after_steady}
@@ -23,8 +23,7 @@ run_end [] (suc i) w le = refl
 run_end (e ∷ events) zero w le = absurd (omega (arith, le))
 run_end (e ∷ events) (suc i) w le = run_end events i w (omega (arith, le))
 
-pub run_steady : (events : List Event) (w : StoreState) → EachHasRanges events → IsSteady w
-    → IsSteady (run w events)
-run_steady [] w ranges steady = steady
-run_steady (event ∷ events) w ranges steady =
-    run_steady events (after w event) ranges.1 (after_steady w event ranges.0 steady)
+pub run_steady : (events : List Event) (w : StoreState) → IsSteady w → IsSteady (run w events)
+run_steady [] w steady = steady
+run_steady (event ∷ events) w steady =
+    run_steady events (after w event) (after_steady w event steady)

@@ -1,11 +1,10 @@
 -- An area that is known to be open stays so until a newer one is.
 use Rattle.std.proofs.Common.{◌≡◌, ◌⊎◌, inl, inr, ◌∙◌, ℕ, ◌≤◌, Bool, true, false, List, refl}
 use Rattle.std.proofs.Common.{ap, subst, arith}
-use Rattle.std.specs.Prelude.{◌&&◌, ◌==◌, nat_le, length, if◌then◌else◌, Option, Some, None}
+use Rattle.std.specs.Prelude.{◌&&◌, ◌==◌, if◌then◌else◌, Option, Some, None}
 use Rattle.std.proofs.lemmas.Bool.Decides.{nat_tests}
 use Rattle.disk_model.specs.DiskState.{IsImage}
 use Rattle.disk_model.specs.Plain.{is_image}
-use Rattle.snap_store.specs.declared.outline.TheConstants.{MAX_SNAPSHOT}
 use Rattle.snap_store.specs.declared.side.Side.{Side}
 use Rattle.snap_store.specs.declared.side.Side.TheVariants.{A, B}
 use Rattle.snap_store.specs.declared.slot.Slot.{Slot}
@@ -31,8 +30,8 @@ use Rattle.store_events.specs.declared.state.Step.{Step}
 use Rattle.store_events.specs.declared.state.Step.TheVariants.{Idle, Put, Opening}
 use Rattle.store_events.specs.declared.state.StoreState.{StoreState}
 use Rattle.store_events.specs.Disk.{counted, disk_after, may_work}
-use Rattle.store_events.specs.Events.{after, called, comes_up, keep_at, next_call, onward, opens}
-use Rattle.store_events.specs.Events.{put_begins, put_onward, slots_in, stopped}
+use Rattle.store_events.specs.Events.{after, called, comes_up, has_room, keep_at, next_call}
+use Rattle.store_events.specs.Events.{onward, opens, put_begins, put_onward, slots_in, stopped}
 use Rattle.store_events.specs.Steady.{HasStep, IsPutting, IsSteady, seen_of, store_of, tells}
 use Rattle.store_events.specs.Areas.{EachArea}
 
@@ -297,7 +296,7 @@ module _ (place least : ℕ) (w : StoreState) (steady : IsSteady w)
 
   keep_has : Has place least w.slots → (area : Stored) (step : Step)
       → Has place least (keep_at w area step).slots
-  keep_has has area Idle = of (w.up && w.made && nat_le (length area.bytes) MAX_SNAPSHOT)
+  keep_has has area Idle = of (w.up && w.made && has_room area)
     where
       of : (b : Bool) → Has place least
           (if b then put_begins w (taken_side w.slots) area else w).slots

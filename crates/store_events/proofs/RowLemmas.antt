@@ -19,8 +19,8 @@ use Rattle.story_run.specs.declared.story.Story.{Story}
 use Rattle.session_core.specs.History.{game_of, is_open, later}
 use Rattle.session_core.proofs.RepeatLemmas.{game_of-append, game_of-append-open, joined}
 use Rattle.store_events.specs.declared.state.StoreState.{StoreState}
-use Rattle.session_saves.specs.Agreement.{last_row}
-use Rattle.store_events.specs.Rows.{BeginsByRows, RowsAreTold, opens_of, session_of, told_of}
+use Rattle.session_saves.specs.Agreement.{last_row, opens_of}
+use Rattle.store_events.specs.Rows.{BeginsByRows, RowsAreTold, session_of, told_of}
 use Rattle.store_events.specs.Session.{Begins, EachMayCome, Happening, SessionState, Takes, lived}
 use Rattle.store_events.proofs.SessionLemmas.{last_behind, stays_in_agreement}
 

@@ -40,7 +40,7 @@ use Rattle.store_events.specs.Laws.{WarmsInSixteen}
 use Rattle.store_events.specs.Session.{Begins, Does, EachMayCome, EachMissesNone, Happening, IsDue}
 use Rattle.store_events.specs.Session.{IsInAgreement, IsOwn, IsUpToDate, MayCome, MissesNone}
 use Rattle.store_events.specs.Session.{SessionState, Takes, inputs, lived, next}
-use Rattle.store_events.specs.Steady.{HasRanges, IsSteady}
+use Rattle.store_events.specs.Steady.{IsSteady}
 use Rattle.store_events.proofs.AreaLemmas.{after_areas, in_image}
 use Rattle.store_events.proofs.KnownLemmas.{Has, after_has, has_open, shown, slot_shown}
 use Rattle.store_events.proofs.NewestLemmas.{newest_since}
@@ -114,13 +114,6 @@ own_agrees stories x place count bytes own = record {
 -- ---- what happens to a session
 
 module _ (stories : List Story) where
-  has_ranges : (x : SessionState) (event : Event) → MayCome stories x (Does event)
-      → HasRanges event
-  has_ranges x (Keep place count bytes) may = may.ranges
-  has_ranges x (Call good reads) may = tt
-  has_ranges x (Stop image) may = tt
-  has_ranges x Recover may = tt
-
   brings : (x : SessionState) (event : Event) → MayCome stories x (Does event)
       → Brings (Agrees stories x.rows x.game) event
   brings x (Keep place count bytes) may = own_agrees stories x place count bytes may
@@ -153,7 +146,7 @@ module _ (stories : List Story) where
   next_agrees : (x : SessionState) (one : Happening) → MayCome stories x one
       → IsInAgreement stories x → IsInAgreement stories (next x one)
   next_agrees x (Does event) may kept = record {
-    steady = after_steady x.store event (has_ranges x event may) kept.steady;
+    steady = after_steady x.store event kept.steady;
     areas =
         after_areas (Agrees stories x.rows x.game) x.store event kept.steady (brings x event may)
         kept.areas;

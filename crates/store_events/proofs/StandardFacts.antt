@@ -59,6 +59,15 @@ one_at_a_time : run (knowing (record { a = Closed; b = Closed })) (put 16 ∷ pu
     ≡ run (knowing (record { a = Closed; b = Closed })) (put 16 ∷ [])
 one_at_a_time = refl
 
+-- there is no room for these numbers, so no put begins
+counts_pass : run (knowing (record { a = Closed; b = Closed })) (Keep 16 4294967296 [] ∷ [])
+    ≡ knowing (record { a = Closed; b = Closed })
+counts_pass = refl
+
+places_pass : run (knowing (record { a = Closed; b = Closed })) (Keep 18446744073709551616 16 [] ∷ [])
+    ≡ knowing (record { a = Closed; b = Closed })
+places_pass = refl
+
 -- a call that fails ends it
 failed_close : (run (knowing (record { a = Open 16 16; b = Open 16 32 })) (put 48 ∷ Call false [] ∷ [])).step
     ≡ Idle

@@ -1,7 +1,7 @@
 -- What the slots say holds in each image, through every event.
-use Rattle.std.proofs.Common.{◌≡◌, ◌∙◌, ℕ, ◌+◌, ◌^◌, ◌≤◌, Bool, true, false, List}
+use Rattle.std.proofs.Common.{◌≡◌, ◌∙◌, ℕ, ◌+◌, ◌^◌, ◌<◌, ◌≤◌, Bool, true, false, List}
 use Rattle.std.proofs.Common.{[], ◌∷◌, length, refl, sym, ap, subst, arith}
-use Rattle.std.specs.Prelude.{◌&&◌, nat_le, if◌then◌else◌, Option, Some, None}
+use Rattle.std.specs.Prelude.{◌&&◌, nat_le, nat_lt, if◌then◌else◌, Option, Some, None}
 use Rattle.std.proofs.lemmas.Bool.{and_parts}
 use Rattle.std.proofs.lemmas.Bool.Decides.{nat_tests}
 use Rattle.disk_model.specs.Disk.{written}
@@ -41,10 +41,10 @@ use Rattle.store_events.specs.declared.state.Step.{Step}
 use Rattle.store_events.specs.declared.state.Step.TheVariants.{Idle, Put, Opening}
 use Rattle.store_events.specs.declared.state.StoreState.{StoreState}
 use Rattle.store_events.specs.Disk.{counted, disk_after, may_work}
-use Rattle.store_events.specs.Events.{after, called, down_over, keep_at}
+use Rattle.store_events.specs.Events.{after, called, down_over, has_room, keep_at}
 use Rattle.store_events.specs.Events.{next_call, onward, opens, put_begins, put_call, put_onward}
 use Rattle.store_events.specs.Events.{slots_in, stopped}
-use Rattle.store_events.specs.Steady.{HasRanges, HasStage, HasStep, IsInRange, IsPutting, IsSettled}
+use Rattle.store_events.specs.Steady.{HasStage, HasStep, IsPutting, IsSettled}
 use Rattle.store_events.specs.Steady.{IsSteady, seen_of, tells}
 use Rattle.store_events.proofs.ImageLemmas.{look_leaves, stays_after, stays_bad, sync_leaves}
 use Rattle.store_events.proofs.ImageLemmas.{write_leaves}
@@ -55,6 +55,34 @@ Sound p made slots =
 
 true_false : true ≡ false → ⊥
 true_false is = cc
+
+-- ---- an area that there is room for
+
+by_le : (n m : ℕ) → nat_le n m ≡ true → n ≤ m
+by_le n m is = grind (arith, nat_tests)
+
+by_lt : (n m : ℕ) → nat_lt n m ≡ true → n < m
+by_lt n m is = grind (arith, nat_tests)
+
+place_fits : (area : Stored) → has_room area ≡ true → area.place < 2 ^ 64
+place_fits area room =
+    let numbers = and_parts (nat_lt area.place (2 ^ 64) && nat_lt area.count (2 ^ 32))
+    (nat_le (length area.bytes) MAX_SNAPSHOT) room in
+    by_lt area.place (2 ^ 64)
+    (and_parts (nat_lt area.place (2 ^ 64)) (nat_lt area.count (2 ^ 32)) numbers.0).0
+
+count_fits : (area : Stored) → has_room area ≡ true → area.count < 2 ^ 32
+count_fits area room =
+    let numbers = and_parts (nat_lt area.place (2 ^ 64) && nat_lt area.count (2 ^ 32))
+    (nat_le (length area.bytes) MAX_SNAPSHOT) room in
+    by_lt area.count (2 ^ 32)
+    (and_parts (nat_lt area.place (2 ^ 64)) (nat_lt area.count (2 ^ 32)) numbers.0).1
+
+has_few : (area : Stored) → has_room area ≡ true → length area.bytes ≤ MAX_SNAPSHOT
+has_few area room =
+    by_le (length area.bytes) MAX_SNAPSHOT
+    (and_parts (nat_lt area.place (2 ^ 64) && nat_lt area.count (2 ^ 32))
+    (nat_le (length area.bytes) MAX_SNAPSHOT) room).1
 
 -- ---- both sides of an image, seen from one of them
 
@@ -191,7 +219,7 @@ module _ (w : StoreState) (steady : IsSteady w) (side : Side) (area : Stored)
       (omega arith) (omega (arith, length-head area.place area.count (length area.bytes))) c image
   put_leaves BytesWrite has good reads c image =
       area_leaves has.0 (start_of side + 16) area.bytes good reads
-      (omega arith) (omega (arith, putting.short)) c image
+      (omega arith) (omega (arith, has_few area putting.room)) c image
   put_leaves AreaSync has good reads c image =
       laid c (sync_leaves good reads p c steady.reads image)
   put_leaves OpenWrite has good reads c image = gate_leaves has.0 1 good reads c image
@@ -249,8 +277,7 @@ module _ (w : StoreState) (steady : IsSteady w) (side : Side) (area : Stored)
     sound = put_sound CloseWrite has true reads (read_after (put_call CloseWrite side area) reads);
     step = (
       record {
-        ranges = putting.ranges;
-        short = putting.short;
+        room = putting.room;
         made = putting.made;
         loose = putting.loose;
         spares = putting.spares;
@@ -266,8 +293,7 @@ module _ (w : StoreState) (steady : IsSteady w) (side : Side) (area : Stored)
     sound = sound_known Closed old (seen_stands Closed old has);
     step = (
       record {
-        ranges = putting.ranges;
-        short = putting.short;
+        room = putting.room;
         made = putting.made;
         loose = kept_loose Closed refl;
         spares = kept_spares Closed;
@@ -280,8 +306,7 @@ module _ (w : StoreState) (steady : IsSteady w) (side : Side) (area : Stored)
     sound = put_sound HeadWrite has true reads (read_after (put_call HeadWrite side area) reads);
     step = (
       record {
-        ranges = putting.ranges;
-        short = putting.short;
+        room = putting.room;
         made = putting.made;
         loose = putting.loose;
         spares = putting.spares;
@@ -305,8 +330,7 @@ module _ (w : StoreState) (steady : IsSteady w) (side : Side) (area : Stored)
     sound = put_sound BytesWrite has true reads (read_after (put_call BytesWrite side area) reads);
     step = (
       record {
-        ranges = putting.ranges;
-        short = putting.short;
+        room = putting.room;
         made = putting.made;
         loose = putting.loose;
         spares = putting.spares;
@@ -315,10 +339,11 @@ module _ (w : StoreState) (steady : IsSteady w) (side : Side) (area : Stored)
         has.0,
         ap (λ (l : List ℕ). whole_area side l)
             (seen_write (start_of side + 16) area.bytes p
-            (omega (arith, start_first side, putting.short))
+            (omega (arith, start_first side, has_few area putting.room))
             ∙ ap (λ (l : List ℕ). written l (start_of side + 16) area.bytes) has.1.1)
-            ∙ whole_there side has.1.0 area.place area.count area.bytes putting.ranges.place
-            putting.ranges.count putting.short,
+            ∙ whole_there side has.1.0 area.place area.count area.bytes
+            (place_fits area putting.room) (count_fits area putting.room)
+            (has_few area putting.room),
       ),
     );
   }
@@ -327,8 +352,7 @@ module _ (w : StoreState) (steady : IsSteady w) (side : Side) (area : Stored)
     sound = sound_known Unsure (Some area) (seen_stands Unsure (Some area) has.1);
     step = (
       record {
-        ranges = putting.ranges;
-        short = putting.short;
+        room = putting.room;
         made = putting.made;
         loose = kept_loose Unsure refl;
         spares = kept_spares Unsure;
@@ -341,8 +365,7 @@ module _ (w : StoreState) (steady : IsSteady w) (side : Side) (area : Stored)
     sound = put_sound OpenWrite has true reads (read_after (put_call OpenWrite side area) reads);
     step = (
       record {
-        ranges = putting.ranges;
-        short = putting.short;
+        room = putting.room;
         made = putting.made;
         loose = putting.loose;
         spares = putting.spares;
@@ -516,8 +539,8 @@ twice_loosened Closed = refl
 twice_loosened Unsure = refl
 twice_loosened (Open place count) = refl
 
-module _ (w : StoreState) (steady : IsSteady w) (area : Stored) (ranges : IsInRange area.place area.count)
-    (short : length area.bytes ≤ MAX_SNAPSHOT) (made : w.made ≡ true) where
+module _ (w : StoreState) (steady : IsSteady w) (area : Stored) (room : has_room area ≡ true)
+    (made : w.made ≡ true) where
   abbrev taken : Side
   taken = taken_side w.slots
 
@@ -549,8 +572,7 @@ module _ (w : StoreState) (steady : IsSteady w) (area : Stored) (ranges : IsInRa
         (laid_taken c image));
     step = (
       record {
-        ranges = ranges;
-        short = short;
+        room = room;
         made = made;
         loose = subst (λ (s : Slot). loosened s ≡ s)
             (sym (slot_set taken w.slots (loosened taken_slot)))
@@ -563,23 +585,18 @@ module _ (w : StoreState) (steady : IsSteady w) (area : Stored) (ranges : IsInRa
     );
   }
 
-by_test : (n m : ℕ) → nat_le n m ≡ true → n ≤ m
-by_test n m is = grind (arith, nat_tests)
-
-keep_steady : (w : StoreState) → IsSteady w → (area : Stored)
-    → IsInRange area.place area.count → (step : Step)
+keep_steady : (w : StoreState) → IsSteady w → (area : Stored) (step : Step)
     → IsSteady (keep_at w area step)
-keep_steady w steady area ranges Idle = of (w.up && w.made && nat_le (length area.bytes) MAX_SNAPSHOT) refl
+keep_steady w steady area Idle = of (w.up && w.made && has_room area) refl
   where
-    of : (b : Bool) → (w.up && w.made && nat_le (length area.bytes) MAX_SNAPSHOT) ≡ b
+    of : (b : Bool) → (w.up && w.made && has_room area) ≡ b
         → IsSteady (if b then put_begins w (taken_side w.slots) area else w)
     of true is =
-        let outer = and_parts (w.up && w.made) (nat_le (length area.bytes) MAX_SNAPSHOT) is in
-        begins_steady w steady area ranges (by_test (length area.bytes) MAX_SNAPSHOT outer.1)
-        (and_parts w.up w.made outer.0).1
+        let outer = and_parts (w.up && w.made) (has_room area) is in
+        begins_steady w steady area outer.1 (and_parts w.up w.made outer.0).1
     of false is = steady
-keep_steady w steady area ranges (Put stage side other_area) = steady
-keep_steady w steady area ranges (Opening reading) = steady
+keep_steady w steady area (Put stage side other_area) = steady
+keep_steady w steady area (Opening reading) = steady
 
 pub stop_steady : (w : StoreState) → IsSteady w → (image : List ℕ) → IsImage w.disk image
     → IsSteady (stopped w image)
@@ -594,18 +611,17 @@ stop_steady w steady image is = record {
 pub opens_steady : (w : StoreState) → IsSteady w → IsSteady (opens w)
 opens_steady w steady = record { reads = steady.reads; sound = steady.sound; step = tt }
 
-pub after_steady : (w : StoreState) (event : Event) → HasRanges event → IsSteady w
-    → IsSteady (after w event)
-after_steady w (Keep place count bytes) ranges steady =
-    keep_steady w steady (record { place = place; count = count; bytes = bytes }) ranges w.step
-after_steady w (Call good reads) ranges steady =
+pub after_steady : (w : StoreState) (event : Event) → IsSteady w → IsSteady (after w event)
+after_steady w (Keep place count bytes) steady =
+    keep_steady w steady (record { place = place; count = count; bytes = bytes }) w.step
+after_steady w (Call good reads) steady =
     called_steady w steady good reads w.step steady.step (next_call w.step) refl
-after_steady w (Stop image) ranges steady = of (is_image w.disk image) refl
+after_steady w (Stop image) steady = of (is_image w.disk image) refl
   where
     of : (b : Bool) → is_image w.disk image ≡ b → IsSteady (if b then stopped w image else w)
     of true is = stop_steady w steady image (image_is w.disk image is)
     of false is = steady
-after_steady w Recover ranges steady = of w.up
+after_steady w Recover steady = of w.up
   where
     of : (b : Bool) → IsSteady (if b then w else opens w)
     of true = steady

@@ -1,5 +1,5 @@
 -- A session's snapshot file after an event, and after a list of events (own).
-use Rattle.std.specs.Prelude.{ℕ, ◌+◌, ◌&&◌, nat_le, if◌then◌else◌, Bool, true, false}
+use Rattle.std.specs.Prelude.{ℕ, ◌+◌, ◌^◌, ◌&&◌, nat_le, nat_lt, if◌then◌else◌, Bool, true, false}
 use Rattle.std.specs.Prelude.{List, [], ◌∷◌, length, Option, Some, None}
 use Rattle.disk_model.specs.DiskState.{settled}
 use Rattle.disk_model.specs.Plain.{is_image}
@@ -123,10 +123,16 @@ put_begins w side area =
       step = Put (first_stage (slot_of w.slots side)) side area;
     }
 
+-- a file has room for an area: for its place, its count, and so many bytes
+abbrev pub has_room : Stored → Bool
+has_room area =
+    nat_lt area.place (2 ^ 64) && nat_lt area.count (2 ^ 32)
+    && nat_le (length area.bytes) MAX_SNAPSHOT
+
 -- Keep, where nothing is under way
 abbrev pub keep_at : StoreState → Stored → Step → StoreState
 keep_at w area Idle =
-    if w.up && w.made && nat_le (length area.bytes) MAX_SNAPSHOT
+    if w.up && w.made && has_room area
     then put_begins w (taken_side w.slots) area
     else w
 keep_at w area step = w

@@ -17,14 +17,14 @@ use Rattle.store_events.specs.Areas.{EachArea}
 use Rattle.store_events.specs.Events.{after, down_over}
 use Rattle.store_events.specs.Session.{EachMayCome, EachMissesNone, Happening, IsInAgreement}
 use Rattle.store_events.specs.Session.{IsUpToDate, SessionState, inputs, lived}
-use Rattle.store_events.specs.Steady.{HasRanges, IsSteady, seen_of, store_of}
+use Rattle.store_events.specs.Steady.{IsSteady, seen_of, store_of}
 
 -- Whatever happens, what is known of the gates holds in each image that a stop may leave, and each
 -- image shows the store that these tell of.
 pub record StaysSteady : Type 0 where
   pub begins : (bytes : List ℕ) → IsSteady (down_over bytes)
   pub goes_on :
-      (w : StoreState) (event : Event) → HasRanges event → IsSteady w → IsSteady (after w event)
+      (w : StoreState) (event : Event) → IsSteady w → IsSteady (after w event)
   pub shows :
       (w : StoreState) (image : List ℕ) → IsSteady w → IsImage w.disk image
       → IsImageOf seen_of (store_of w) image

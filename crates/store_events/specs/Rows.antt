@@ -1,20 +1,14 @@
 -- A session, as the rows of its journal tell of it (own).
-use Rattle.std.specs.Prelude.{◌≡◌, ℕ, ◌&&◌, ◌==◌, if◌then◌else◌, List, [], ◌∷◌, ◌++◌}
+use Rattle.std.specs.Prelude.{◌≡◌, ℕ, ◌==◌, if◌then◌else◌, List, [], ◌∷◌, ◌++◌}
 use Rattle.gate_journal.specs.declared.row.Row.{Row}
 use Rattle.gate_journal.specs.Rows.{IsJournal, IsNext, commands_of}
 use Rattle.story_run.specs.declared.story.Story.{Story}
 use Rattle.session_core.specs.History.{game_of, is_open}
-use Rattle.session_saves.specs.Agreement.{IsAgreedFile}
+use Rattle.session_saves.specs.Agreement.{IsAgreedFile, opens_of}
 use Rattle.store_events.specs.declared.state.StoreState.{StoreState}
 use Rattle.store_events.specs.Events.{down_over}
 use Rattle.store_events.specs.Session.{Begins, EachMayCome, Happening, IsInAgreement, SessionState}
 use Rattle.store_events.specs.Session.{Takes, lived}
-
--- the places of a session's OPEN rows, oldest first
-abbrev pub opens_of : List Row → ℕ → List ℕ
-opens_of [] s = []
-opens_of (r ∷ rows) s =
-    if r.session == s && is_open r.command then r.place ∷ opens_of rows s else opens_of rows s
 
 -- the session of this number, with this file
 abbrev pub session_of : List Row → ℕ → StoreState → SessionState

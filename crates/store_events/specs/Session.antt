@@ -16,7 +16,7 @@ use Rattle.store_events.specs.declared.event.Event.TheVariants.{Keep}
 use Rattle.store_events.specs.declared.state.StoreState.{StoreState}
 use Rattle.store_events.specs.Areas.{EachArea}
 use Rattle.store_events.specs.Events.{after}
-use Rattle.store_events.specs.Steady.{IsInRange, IsSteady}
+use Rattle.store_events.specs.Steady.{IsSteady}
 
 -- the places of its OPEN rows, oldest first, its last OPEN and the commands since, and its file
 pub record SessionState : Type 0 where
@@ -52,7 +52,6 @@ pub record IsOwn
     (x : SessionState)
     (place count : ℕ)
     (bytes : List ℕ) : Type 0 where
-  pub ranges : IsInRange place count
   pub row : last_row x.rows ≡ Some place
   pub fits : count ≤ inputs x
   pub world : WorldState

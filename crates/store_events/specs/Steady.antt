@@ -1,17 +1,13 @@
 -- What holds of a session's snapshot file at any time (own).
-use Rattle.std.specs.Prelude.{◌≡◌, ℕ, ◌^◌, ◌<◌, ◌≤◌, Bool, true, List, [], ◌∷◌, length}
-use Rattle.std.specs.Prelude.{Some}
+use Rattle.std.specs.Prelude.{◌≡◌, ℕ, Bool, true, List, length, Some}
 use Rattle.disk_model.specs.Disk.{written}
 use Rattle.disk_model.specs.DiskState.{DiskState, IsImage}
-use Rattle.snap_store.specs.declared.outline.TheConstants.{MAX_SNAPSHOT}
 use Rattle.snap_store.specs.declared.side.Side.{Side}
 use Rattle.snap_store.specs.declared.slot.Slot.TheVariants.{Closed, Open, Unsure}
 use Rattle.snap_store.specs.File.{Stored, gate_byte, head_bytes, start_of, whole_area}
 use Rattle.snap_store.specs.Images.{Spares, Stands, loosened}
 use Rattle.snap_store.specs.Slots.{other, slot_of}
 use Rattle.snap_store.specs.Store.{IsSound, Snapshots}
-use Rattle.store_events.specs.declared.event.Event.{Event}
-use Rattle.store_events.specs.declared.event.Event.TheVariants.{Keep, Call, Stop, Recover}
 use Rattle.store_events.specs.declared.state.Reading.TheVariants.{FirstSync, AskSize, ReadFront}
 use Rattle.store_events.specs.declared.state.Reading.TheVariants.{ReadA, ReadB}
 use Rattle.store_events.specs.declared.state.Stage.{Stage}
@@ -21,6 +17,7 @@ use Rattle.store_events.specs.declared.state.Stage.TheVariants.{OpenSync}
 use Rattle.store_events.specs.declared.state.Step.{Step}
 use Rattle.store_events.specs.declared.state.Step.TheVariants.{Idle, Put, Opening}
 use Rattle.store_events.specs.declared.state.StoreState.{StoreState}
+use Rattle.store_events.specs.Events.{has_room}
 
 -- what a disk reads as; and each disk tells its bytes here
 abbrev pub seen_of : DiskState → List ℕ
@@ -33,16 +30,10 @@ tells p = true
 abbrev pub store_of : StoreState → Snapshots DiskState
 store_of w = record { disk = w.disk; made = w.made; slots = w.slots }
 
--- numbers that an area has room for
-pub record IsInRange (at inputs : ℕ) : Type 0 where
-  pub place : at < 2 ^ 64
-  pub count : inputs < 2 ^ 32
-
--- while a put is under way: the area fits, its gate isn't one that is known to be open, and the
--- other area isn't one that it writes over
+-- while a put is under way: the file has room for the area, its gate isn't one that is known to be
+-- open, and the other area isn't one that it writes over
 pub record IsPutting (w : StoreState) (side : Side) (area : Stored) : Type 0 where
-  pub ranges : IsInRange area.place area.count
-  pub short : length area.bytes ≤ MAX_SNAPSHOT
+  pub room : has_room area ≡ true
   pub made : w.made ≡ true
   pub loose : loosened (slot_of w.slots side) ≡ slot_of w.slots side
   pub spares : Spares side (slot_of w.slots (other side))
@@ -83,14 +74,3 @@ pub record IsSteady (w : StoreState) : Type 0 where
   pub reads : IsImage w.disk w.disk.seen
   pub sound : IsSound tells IsImage seen_of (store_of w)
   pub step : HasStep w w.step
-
--- an event whose numbers are in their ranges
-abbrev pub HasRanges : Event → Type 0
-HasRanges (Keep place count bytes) = IsInRange place count
-HasRanges (Call good reads) = Unit {0}
-HasRanges (Stop image) = Unit {0}
-HasRanges Recover = Unit {0}
-
-abbrev pub EachHasRanges : List Event → Type 0
-EachHasRanges [] = Unit {0}
-EachHasRanges (event ∷ events) = HasRanges event × EachHasRanges events

@@ -2,7 +2,7 @@
 
 ghost use Rattle.std.specs.Prelude.{◌≡◌, IfOk, OnOk};
 ghost use Rattle.store_events.specs.Events.{after, run};
-ghost use Rattle.store_events.specs.Steady.{EachHasRanges, IsSteady};
+ghost use Rattle.store_events.specs.Steady.{IsSteady};
 
 use crate::event::Event;
 use crate::state::StoreState;
@@ -36,7 +36,7 @@ pub fn follow(
 ) -> Result<StoreState, AllocError>
     ensures value { IfOk result (λ w. w ≡ run state events.now) }
     // what is known of the gates holds in each image, wherever the list ends
-    ensures steady { IsSteady state → EachHasRanges events.now → IfOk result IsSteady }
+    ensures steady { IsSteady state → IfOk result IsSteady }
 {
     for event in events {
         state.happen(alloc, event)?;

@@ -1,10 +1,11 @@
 //! The events of a session's snapshot file (own).
 
-ghost use Rattle.std.specs.Prelude.{◌≡◌, IfOk, OnOk, OnErr, [], ◌∷◌};
+ghost use Rattle.std.specs.Prelude.{◌≡◌, IfOk, OnOk, OnErr, None, [], ◌∷◌};
 ghost use Rattle.store_events.specs.Events.{after, comes_up, down_over, first_stage, next_call};
 ghost use Rattle.store_events.specs.Events.{is_opening, is_putting, onward, opens, put_call};
 ghost use Rattle.store_events.specs.Events.{put_onward};
 ghost use Rattle.disk_model.specs.Plain.{is_image};
+ghost use Rattle.session_saves.specs.Saves.{due_in};
 ghost use Rattle.store_events.specs.Steady.{IsSteady};
 ghost use Rattle.store_events.specs.declared.event.Event.TheVariants as Event;
 ghost use Rattle.store_events.specs.declared.state.Step.TheVariants as Steps;
@@ -14,6 +15,7 @@ use crate::disk::{DiskCall, make_call};
 use crate::look::{outline_of, slots_in};
 use crate::state::{Reading, Stage, Step, StoreState, set_step};
 use disk_model::PlainDisk;
+use session_saves::falls_due;
 use snap_store::{MAX_SNAPSHOT, Side, Slot};
 use std::alloc::{AllocError, Global};
 use std::mem;
@@ -237,6 +239,22 @@ impl StoreState {
     {
         self.up = false;
         set_step(&mut self.step, Step::Opening(Reading::FirstSync));
+    }
+
+    /// The snapshot of this OPEN row after so many inputs is due: their number is a positive multiple
+    /// of 16, and that snapshot isn't known to be open.
+    #[tactic(auto, unfolding(session_saves::specs::Saves::due_in))]
+    pub fn is_due(&self, place: u64, count: u32) -> bool
+        ensures { result ≡ due_in self.now.slots None place count }
+    {
+        falls_due(count) && !self.slots.has(place, count)
+    }
+
+    /// What the disk reads as.
+    pub fn seen(&self) -> &[u8]
+        ensures { result.now ≡ self.now.disk.seen }
+    {
+        self.disk.seen()
     }
 
     /// Whether an opening has ended well, and no stop has come since.

@@ -18,9 +18,9 @@ returns-clause-value c =
     ∙ c.loop-event.invariant
 
 pub returns-clause-steady : goal.returns-clause-steady
-returns-clause-steady c = λ steady ranges.
+returns-clause-steady c = λ steady.
     subst (λ (w : StoreState). IsSteady w)
     (sym (sym (run_end c.args.events.now c.loop-event.event-index c.loop-event.state
     c.loop-event-test.false)
     ∙ c.loop-event.invariant))
-    (run_steady c.args.events.now c.args.state ranges steady)
+    (run_steady c.args.events.now c.args.state steady)
