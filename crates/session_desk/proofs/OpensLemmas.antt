@@ -20,11 +20,11 @@ use Rattle.story_run.specs.declared.story.Story.{Story}
 use Rattle.session_core.specs.Checks.{command_of, opened}
 use Rattle.session_core.specs.History.{game_of, is_in_use, is_open, later, story_at}
 use Rattle.session_core.proofs.RepeatLemmas.{some_is}
-use Rattle.session_saves.specs.Agreement.{last_row}
+use Rattle.session_saves.specs.Agreement.{last_row, opens_of}
 use Rattle.session_saves.proofs.AgreementLemmas.{last-append}
 use Rattle.session_desk.specs.declared.refused.Refused.{Refused}
 use Rattle.session_desk.specs.declared.refused.Refused.TheVariants.{DiskFault, NoMemory}
-use Rattle.session_desk.specs.Opens.{AreBefore, is_to_open, opens_behind, OpensBy, opens_of, row_behind}
+use Rattle.session_desk.specs.Opens.{AreBefore, is_to_open, opens_behind, OpensBy, row_behind}
 use Rattle.session_desk.specs.Shared.{met_by}
 use Rattle.session_desk.specs.Turn.{added}
 

@@ -25,7 +25,7 @@ use Rattle.session_core.specs.Answer.{plain_checks}
 use Rattle.session_core.proofs.RepeatLemmas.{all_fail, joined, game_of-append, game_of-append-open, some_is}
 use Rattle.snap_store.specs.Store.{IsImageOf, Snapshots, area_of}
 use Rattle.snap_store.specs.declared.side.Side.{Side}
-use Rattle.session_saves.specs.Agreement.{IsAgreed, last_row}
+use Rattle.session_saves.specs.Agreement.{IsAgreed, last_row, opens_of}
 use Rattle.session_saves.specs.Game.{inputs_of}
 use Rattle.session_saves.specs.Saves as own
 use Rattle.session_saves.specs.Saves.{IsCounted, IsKeptUp, SavesState, is_due}
@@ -40,7 +40,7 @@ use Rattle.session_desk.specs.declared.verdict.Verdict.TheVariants.{Fresh}
 use Rattle.session_desk.specs.Desk.{committed, DeskState, emptied, game, Holds, opened, ran, world_now}
 use Rattle.session_desk.specs.Keeping as keeping
 use Rattle.session_desk.specs.Marks.{woven}
-use Rattle.session_desk.specs.Opens.{opens_behind, OpensBy, opens_of, row_behind}
+use Rattle.session_desk.specs.Opens.{opens_behind, OpensBy, row_behind}
 use Rattle.session_desk.specs.Shared.{as_opened, desk_tag, IsMarked, IsPassOf, SharedState}
 use Rattle.session_desk.specs.Turn.{history_in}
 use Rattle.session_desk.specs.Sound.{AreKeptUp, EndsStore, IsSameStore, IsSoundDesk, IsWhole, open_rows}

@@ -3,7 +3,7 @@ use Rattle.std.specs.Prelude.{◌≡◌, ◌⊎◌, ℕ, Bool, false, List, leng
 use Rattle.story_run.specs.World.{WorldState}
 use Rattle.session_saves.specs.Agreement.{last_row}
 use Rattle.session_saves.specs.Game.{inputs_of}
-use Rattle.session_saves.specs.Keeping.{IsMissed, IsPut}
+use Rattle.session_saves.specs.Keeping.{CountsExactly, IsMissed, IsPut}
 use Rattle.session_saves.specs.Saves.{SavesState, is_due}
 use Rattle.session_saves.specs.Warming.{WarmsFrom}
 use Rattle.session_desk.specs.declared.held.Held.TheVariants.{Current}
@@ -22,7 +22,7 @@ due state =
     due_with state.saves (world_now state.desk.held) (last_row (open_rows state))
     (length (inputs_of (game state.desk)))
 
--- the snapshot of the world that is held was put into the store, or was missed
+-- the snapshot of the world that is held was put into the store, or was missed and counted exactly
 pub record Keeps
     {D : Type 0}
     (tells : D → Bool)
@@ -37,6 +37,8 @@ pub record Keeps
       IsPut tells may_leave faults world place (length (inputs_of (game old.desk)))
       old.saves new.saves
       ⊎ IsMissed faults world place (length (inputs_of (game old.desk))) old.saves new.saves
+  pub exact :
+      CountsExactly world place (length (inputs_of (game old.desk))) old.saves new.saves
 
 -- the desk was made warm: with a world of an area of the last OPEN row, or from the start, and with
 -- the inputs behind that

@@ -1,22 +1,15 @@
 -- Where the games of a session begin in a journal (own).
-use Rattle.std.specs.Prelude.{◌≡◌, ℕ, ◌<◌, Bool, true, false, ◌==◌, ◌&&◌, if◌then◌else◌}
+use Rattle.std.specs.Prelude.{◌≡◌, ℕ, ◌<◌, Bool, true, false, if◌then◌else◌}
 use Rattle.std.specs.Prelude.{List, [], ◌∷◌, ◌++◌, Option, Some, Result, Ok, Err}
 use Rattle.std.specs.List.{Contains}
 use Rattle.gate_journal.specs.Log.{rows_of}
 use Rattle.gate_journal.specs.declared.command.Command.{Command}
 use Rattle.gate_journal.specs.declared.entry.Entry.{Entry as JournalEntry}
-use Rattle.gate_journal.specs.declared.row.Row.{Row}
 use Rattle.line_words.specs.declared.request.Request.{Request}
 use Rattle.line_words.specs.declared.request.Request.TheVariants.{Open}
 use Rattle.session_core.specs.History.{is_open}
+use Rattle.session_saves.specs.Agreement.{opens_of}
 use Rattle.session_desk.specs.declared.refused.Refused.{Refused}
-
--- the places of a session's OPEN rows, oldest first
-abbrev pub opens_of : List Row → ℕ → List ℕ
-opens_of [] s = []
-opens_of (r ∷ rows) s =
-    if r.session == s && is_open r.command then r.place ∷ opens_of rows s
-    else opens_of rows s
 
 -- the row of a command that was committed gave its place, if it was
 abbrev pub opens_behind : List ℕ → Command → Result ℕ Refused → List ℕ

@@ -11,13 +11,12 @@ use Rattle.session_core.specs.History.{game_of, world_of}
 use Rattle.session_core.specs.Answer.{answer_in}
 use Rattle.session_core.specs.Turning.{MayMeet, turn_met}
 use Rattle.snap_store.specs.Store.{Snapshots}
-use Rattle.session_saves.specs.Agreement.{IsAgreed, IsAgreedFile, last_row}
+use Rattle.session_saves.specs.Agreement.{IsAgreed, IsAgreedFile, last_row, opens_of}
 use Rattle.session_saves.specs.Game.{inputs_of}
 use Rattle.session_saves.specs.Saves.{IsKeptUp}
 use Rattle.session_desk.specs.declared.shared.mark.Mark.{Mark}
 use Rattle.session_desk.specs.declared.turned.Turned.{Turned}
 use Rattle.session_desk.specs.Desk.{game, Holds}
-use Rattle.session_desk.specs.Opens.{opens_of}
 use Rattle.session_desk.specs.Shared.{DeskTag, desk_tag, GoesOn, IsMarked, SharedState}
 
 -- a desk is sound where its store's disk tells its bytes, and as the desk was opened the store's

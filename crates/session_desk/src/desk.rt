@@ -154,7 +154,7 @@ impl<'i> Desk<'i> {
     pub fn inputs(&self) -> u32
         ensures { result ≡ length (inputs_of (game self.now)) }
     {
-        inputs_of(self.game())
+        inputs_of(self.game()) as u32
     }
 
     /// The world of the session as it is now, if that is held.

@@ -2,8 +2,7 @@
 
 ghost use Rattle.std.specs.Prelude.{◌≡◌, IfOk};
 ghost use Rattle.gate_journal.specs.Rows.{commands_of};
-ghost use Rattle.session_saves.specs.Agreement.{last_row};
-ghost use Rattle.session_desk.specs.Opens.{opens_of};
+ghost use Rattle.session_saves.specs.Agreement.{last_row, opens_of};
 
 use gate_journal::{Command, Row};
 use std::alloc::{AllocError, Global};

@@ -6,6 +6,7 @@ ghost use Rattle.disk_model.specs.Disk.{LeavesOnly, OnlyLooks, Rose};
 ghost use Rattle.turn_cell.specs.Passes.{seen};
 ghost use Rattle.gate_journal.specs.Log.{kept};
 ghost use Rattle.gate_journal.specs.Rows.{commands_of};
+ghost use Rattle.story_run.specs.World.{WorldState};
 ghost use Rattle.session_core.specs.Answer.{shown_number};
 ghost use Rattle.session_core.specs.Checks.{is_other_story};
 ghost use Rattle.session_core.specs.History.{last_of, world_of};
@@ -21,6 +22,7 @@ ghost use Rattle.session_desk.specs.Keeping.{due, Keeps, IsWarmed};
 ghost use Rattle.session_desk.specs.Shared.{as_opened, desk_tag, IsPassOf, IsShared, Rests};
 ghost use Rattle.session_desk.specs.Sound.{AreKeptUp, EndsStore, IsSoundDesk, open_rows};
 ghost use Rattle.session_desk.specs.Verdict.{verdict};
+ghost use Rattle.session_desk.specs.declared.held.Held.TheVariants.{Current};
 ghost use Rattle.session_desk.specs.declared.verdict.Verdict.TheVariants.{Cold};
 
 use crate::desk::Desk;
@@ -237,6 +239,16 @@ impl<'i, D: Disk + Drop> SharedDesk<'i, D> {
             → Keeps D.tells D.may_leave D.faults self.old self.new }
         ensures due { due self.new ≡ false }
         ensures kept { self.new ≡ record self.old { saves = self.new.saves } }
+
+        // what a stop may leave meanwhile, and after it
+        ensures crash { (world : WorldState) (place : ℕ)
+            → self.old.desk.held ≡ Current world
+            → last_row (open_rows self.old) ≡ Some place
+            → IsTrue (D.tells self.old.saves.store.disk)
+            → LeavesOnly D.moment D.left_since self.old.saves.store.disk self.new.saves.store.disk
+            (MayStand D.seen world place (length (inputs_of (game self.old.desk)))
+            self.old.saves.store) }
+
         ensures counts { D.faults self.old.saves.store.disk ≤ D.faults self.new.saves.store.disk }
         ensures reach { D.reach self.new.saves.store.disk
             ≤ max (D.reach self.old.saves.store.disk) 16781344 }

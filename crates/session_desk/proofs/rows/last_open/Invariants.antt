@@ -1,7 +1,6 @@
 use Rattle.std.proofs.Common.{◌≡◌, drop}
 use Rattle.std.specs.List.{last_or}
-use Rattle.session_saves.specs.Agreement.{last_row}
-use Rattle.session_desk.specs.Opens.{opens_of}
+use Rattle.session_saves.specs.Agreement.{last_row, opens_of}
 use Rattle.session_desk.proofs.rows.last_open.Given as goal
 
 abbrev pub invariant-loop-at : goal.invariant-loop-at
