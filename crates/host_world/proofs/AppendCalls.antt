@@ -19,14 +19,14 @@ use Rattle.story_run.specs.declared.story.Story.{Story}
 use Rattle.session_core.specs.Turning.{commands_in, decision_on}
 use Rattle.session_core.specs.declared.entry.Entry.{Entry}
 use Rattle.disk_model.specs.Plain.{is_image}
-use Rattle.host_world.specs.Disk.{counted, disk_after, may_work}
+use Rattle.store_events.specs.Disk.{counted, disk_after, may_work}
 use Rattle.host_world.specs.Happenings.{Happening, history_of}
 use Rattle.host_world.specs.Headline.{AreGiven}
 use Rattle.host_world.specs.Journal.{broken, next_call, onward, past_gate}
 use Rattle.host_world.specs.Pending.{listed, pending, pending_at, pending_of}
 use Rattle.host_world.specs.Sessions.{in_phase, phase_set, turn_set}
-use Rattle.host_world.specs.declared.disk.DiskCall.{DiskCall}
-use Rattle.host_world.specs.declared.disk.DiskCall.TheVariants.{Sync, Write}
+use Rattle.store_events.specs.declared.disk.DiskCall.{DiskCall}
+use Rattle.store_events.specs.declared.disk.DiskCall.TheVariants.{Sync, Write}
 use Rattle.host_world.specs.declared.state.HostState.{HostState}
 use Rattle.host_world.specs.declared.state.Step.{Step}
 use Rattle.host_world.specs.declared.state.Step.TheVariants.{GateSync, GateWrite, Idle, RepairSync}

@@ -4,12 +4,12 @@ use Rattle.std.specs.Prelude.{if◌then◌else◌, slice_index, length}
 use Rattle.gate_journal.specs.Rows.{spelled}
 use Rattle.gate_journal.specs.declared.row.Row.{Row}
 use Rattle.story_run.specs.declared.story.Story.{Story}
-use Rattle.host_world.specs.Disk.{may_happen}
+use Rattle.store_events.specs.Disk.{may_happen}
 use Rattle.host_world.specs.Events.{begin_held}
 use Rattle.host_world.specs.Journal.{call_ended, called, comes_up, is_idle, looked, next_call, onward}
 use Rattle.host_world.specs.Journal.{with_disk}
 use Rattle.host_world.specs.Reading.{rows_in}
-use Rattle.host_world.specs.declared.disk.DiskCall.{DiskCall}
+use Rattle.store_events.specs.declared.disk.DiskCall.{DiskCall}
 use Rattle.host_world.specs.declared.state.HostState.{HostState}
 use Rattle.host_world.specs.declared.state.Step.{Step}
 use Rattle.host_world.specs.declared.state.Step.TheVariants.{AskSize, CloseSync, CloseWrite}

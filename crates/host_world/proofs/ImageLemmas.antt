@@ -15,11 +15,11 @@ use Rattle.gate_journal.specs.Rows.{spelled}
 use Rattle.gate_journal.specs.declared.row.Row.{Row}
 use Rattle.story_run.specs.declared.story.Story.{Story}
 use Rattle.disk_model.specs.Plain.{is_image, reading}
-use Rattle.host_world.specs.Disk.{disk_after}
+use Rattle.store_events.specs.Disk.{disk_after}
 use Rattle.host_world.specs.Journal.{next_call, past_gate}
 use Rattle.host_world.specs.Sessions.{found}
-use Rattle.host_world.specs.declared.disk.DiskCall.{DiskCall}
-use Rattle.host_world.specs.declared.disk.DiskCall.TheVariants.{Look, Sync, Write}
+use Rattle.store_events.specs.declared.disk.DiskCall.{DiskCall}
+use Rattle.store_events.specs.declared.disk.DiskCall.TheVariants.{Look, Sync, Write}
 use Rattle.host_world.specs.declared.state.HostState.{HostState}
 use Rattle.host_world.specs.declared.state.Step.{Step}
 use Rattle.host_world.specs.declared.state.Step.TheVariants.{AskSize, CloseSync, CloseWrite}

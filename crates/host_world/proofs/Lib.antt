@@ -24,6 +24,7 @@ pub mod Sound
 pub mod StandardFacts
 pub mod Stops
 pub mod Turning
+pub mod KeepingLemmas
 pub mod WholeRows
 pub mod WholeLemmas
 pub mod WholeCode

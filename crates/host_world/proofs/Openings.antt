@@ -23,15 +23,15 @@ use Rattle.story_run.specs.declared.story.Story.{Story}
 use Rattle.session_core.specs.Turning.{commands_in}
 use Rattle.session_core.specs.declared.entry.Entry.{Entry}
 use Rattle.disk_model.specs.Plain.{is_image}
-use Rattle.host_world.specs.Disk.{counted, disk_after, may_work}
+use Rattle.store_events.specs.Disk.{counted, disk_after, may_work}
 use Rattle.host_world.specs.Events.{after, begun, call_next}
 use Rattle.host_world.specs.Happenings.{Happening, Opened, further, history_of, news, replies_of}
 use Rattle.host_world.specs.Headline.{AreGiven}
 use Rattle.host_world.specs.Journal.{broken, called, comes_up, looked, next_call, onward, past_gate}
 use Rattle.host_world.specs.Reading.{rows_in}
 use Rattle.host_world.specs.Sessions.{found, found_session, found_sessions}
-use Rattle.host_world.specs.declared.disk.DiskCall.{DiskCall}
-use Rattle.host_world.specs.declared.disk.DiskCall.TheVariants.{Look, Sync, Write}
+use Rattle.store_events.specs.declared.disk.DiskCall.{DiskCall}
+use Rattle.store_events.specs.declared.disk.DiskCall.TheVariants.{Look, Sync, Write}
 use Rattle.host_world.specs.declared.event.Event.TheVariants.{Call}
 use Rattle.host_world.specs.declared.state.HostState.{HostState}
 use Rattle.host_world.specs.declared.state.Step.{Step}

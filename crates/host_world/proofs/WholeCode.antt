@@ -14,7 +14,8 @@ use Rattle.store_events.specs.Events.{opens}
 use Rattle.store_events.specs.Events.{after as file_after}
 use Rattle.host_world.specs.Events.{after, run}
 use Rattle.host_world.specs.Whole.{are_images, closes, fails_at, is_up, no_put, stopped_files}
-use Rattle.host_world.specs.Whole.{whole_after, with_event, with_files, with_host}
+use Rattle.host_world.specs.Keeping.{with_event}
+use Rattle.host_world.specs.Whole.{whole_after, with_files, with_host}
 use Rattle.host_world.specs.declared.event.Event.{Event}
 use Rattle.host_world.specs.declared.event.Event.TheVariants as journal
 use Rattle.host_world.specs.declared.state.HostState.{HostState}

@@ -26,14 +26,16 @@ use Rattle.store_events.proofs.SteadyLemmas.{opens_steady}
 use Rattle.host_world.specs.Events.{after, holds, run}
 use Rattle.host_world.specs.Happenings.{Happening, all_told}
 use Rattle.host_world.specs.Headline.{AreGiven}
-use Rattle.host_world.specs.Whole.{all_to_host, are_images, closes, fails_at, file_set, is_up, no_put}
+use Rattle.host_world.specs.Keeping.{IsOwnSnapshot, file_set, put_begun, with_event}
+use Rattle.host_world.specs.Puts.{AreOwnPuts, IsOwnPut}
+use Rattle.host_world.specs.Whole.{all_to_host, are_images, closes, fails_at, is_up, no_put, put_of}
 use Rattle.host_world.specs.Whole.{stopped_files, to_files, to_host, whole_after, whole_run}
-use Rattle.host_world.specs.Whole.{with_event}
-use Rattle.host_world.specs.WholeHeadline.{AreOwnPuts, EachInAgreement, FilesAgree, IsOwnPut}
-use Rattle.host_world.specs.WholeHeadline.{LivesAsHost, NoneAreMissed, NoneIsMissed}
+use Rattle.host_world.specs.WholeHeadline.{EachInAgreement, FilesAgree, LivesAsHost}
+use Rattle.host_world.specs.WholeHeadline.{NoneAreMissed, NoneIsMissed}
 use Rattle.host_world.specs.WholeHeadline.{SessionWarmsInSixteen}
 use Rattle.host_world.specs.declared.event.Event.{Event}
 use Rattle.host_world.specs.declared.event.Event.TheVariants as journal
+use Rattle.host_world.specs.declared.keeping.Snapshot.{Snapshot}
 use Rattle.host_world.specs.declared.whole.WholeEvent.{WholeEvent}
 use Rattle.host_world.specs.declared.whole.WholeEvent.TheVariants.{Take, Want, Hold, Call, Free, Run}
 use Rattle.host_world.specs.declared.whole.WholeEvent.TheVariants.{Keep, Accept, Give, Stop, Recover}
@@ -194,8 +196,8 @@ module _ (stories : List Story) where
               is_y ∙ ap (λ (v : StoreState). file_after v event) (sym is_x),
             ))
 
-    files_of : (event : WholeEvent) → IsOwnPut stories budget w event → (s : ℕ) (y : StoreState)
-        → slice_get (to_files w event) s ≡ Some y → FileOf s y
+    files_of : (event : WholeEvent) → IsOwnPut stories w event → (s : ℕ) (y : StoreState)
+        → slice_get (to_files stories w event) s ≡ Some y → FileOf s y
     files_of (Take t pass line) own s y at = as_it_is s y at
     files_of (Want t) own s y at = as_it_is s y at
     files_of (Hold t) own s y at = as_it_is s y at
@@ -211,10 +213,14 @@ module _ (stories : List Story) where
             (slice_get w.stores (disk - 1)) refl s y) at
     files_of (Free t) own s y at = as_it_is s y at
     files_of (Run t found) own s y at = as_it_is s y at
-    files_of (Keep t place count bytes) own s y at =
-        if_of (is_up w && not (holds w.host t))
-        (with_event w.stores t (files.Keep place count bytes)) s y
-        (event_of t (files.Keep place count bytes) own (slice_get w.stores t) refl s y) at
+    files_of (Keep t) own s y at = of (put_of stories w t) refl at
+      where
+        of : (o : Option Snapshot) → put_of stories w t ≡ o
+            → slice_get (put_begun w.stores t o) s ≡ Some y → FileOf s y
+        of None is at = as_it_is s y at
+        of (Some snapshot) is at =
+            event_of t (files.Keep snapshot.place snapshot.count snapshot.bytes)
+            (λ x there. own x snapshot there is) (slice_get w.stores t) refl s y at
     files_of (Accept t) own s y at = as_it_is s y at
     files_of (Give t) own s y at = as_it_is s y at
     files_of (Stop []) own s y at = as_it_is s y at
@@ -249,10 +255,10 @@ module _ (stories : List Story) where
         ((run stories budget w.host events).rows ≡ w.host.rows)
         ⊎ ((r : Row) × IsNext w.host.rows r
         × ((run stories budget w.host events).rows ≡ w.host.rows ++ r ∷ [])
-        × (to_files w event ≡ w.stores))
+        × (to_files stories w event ≡ w.stores))
 
     by_one : (event : WholeEvent) (one : Event)
-        → (to_files w event ≡ w.stores)
+        → (to_files stories w event ≡ w.stores)
         → WholeStep event (one ∷ [])
     by_one event one same = of (after_rows stories budget premise first past w.host sound one)
       where
@@ -262,7 +268,7 @@ module _ (stories : List Story) where
         of (inr (r, next, is)) = inr (r, next, is, same)
 
     if_one : (event : WholeEvent) (one : Event) (b : Bool)
-        → (to_files w event ≡ w.stores)
+        → (to_files stories w event ≡ w.stores)
         → WholeStep event (if b then one ∷ [] else [])
     if_one event one true same = by_one event one same
     if_one event one false same = inl refl
@@ -306,7 +312,7 @@ module _ (stories : List Story) where
             inl (closed_rows (w.host.up && fails_at (slice_get w.stores (disk - 1)) good reads))
     whole_step (Free s) = by_one (Free s) (journal.Free s) refl
     whole_step (Run s found) = by_one (Run s found) (journal.Run s found) refl
-    whole_step (Keep s place count bytes) = inl refl
+    whole_step (Keep s) = inl refl
     whole_step (Accept s) = by_one (Accept s) (journal.Accept s) refl
     whole_step (Give s) =
         if_one (Give s) (journal.Give s) (no_put (slice_get w.stores s)) refl
@@ -326,7 +332,7 @@ module _ (stories : List Story) where
         of (inl same) = inl same
         of (inr (r, next, is, files_same)) = inr (r, next, is)
 
-    pub each_agrees : (event : WholeEvent) → IsOwnPut stories budget w event
+    pub each_agrees : (event : WholeEvent) → IsOwnPut stories w event
         → EachInAgreement stories budget w
         → EachInAgreement stories budget (whole_after stories budget w event)
     each_agrees event own all s y at =
@@ -335,12 +341,12 @@ module _ (stories : List Story) where
         (rows_grow event)
         (step_agrees (session_of w.host.rows s found.0) y found.2 (all s found.0 found.1))
 
-    session_dates : (event : WholeEvent) → IsOwnPut stories budget w event → (s : ℕ)
+    session_dates : (event : WholeEvent) → IsOwnPut stories w event → (s : ℕ)
         → EachInAgreement stories budget w
         → NoneIsMissed stories budget s w event
         → ((x : StoreState) → slice_get w.stores s ≡ Some x
         → IsUpToDate (session_of w.host.rows s x))
-        → (y : StoreState) → slice_get (to_files w event) s ≡ Some y
+        → (y : StoreState) → slice_get (to_files stories w event) s ≡ Some y
         → IsUpToDate (session_of (run stories budget w.host (to_host w event)).rows s y)
     session_dates event own s all none date y at = of (whole_step event)
       where
@@ -398,8 +404,9 @@ module _ (stories : List Story) where
       (all_to_host stories budget (whole_after stories budget w event) events) w.host)
 
   pub files_agree : (budget : ℕ) (w : WholeState) (events : List WholeEvent)
+      → AreOwnPuts stories budget w events
       → FilesAgree stories budget w events (whole_run stories budget w events)
-  files_agree budget w events premise start all own =
+  files_agree budget w events own premise start all =
       let agree = all_agree budget premise events w (first_of stories budget premise w.host) (λ s. [])
       (start_well stories budget premise w.host start) all own in (
         agree,
@@ -409,11 +416,12 @@ module _ (stories : List Story) where
       )
 
   pub session_warms : (budget : ℕ) (w : WholeState) (events : List WholeEvent)
+      → AreOwnPuts stories budget w events
       → SessionWarmsInSixteen stories budget w events (whole_run stories budget w events)
-  session_warms budget w events premise start all own s first last at date none there place image
+  session_warms budget w events own premise start all s first last at date none there place image
       row is =
       let v = whole_run stories budget w events in
-      let agree = (files_agree budget w events premise start all own).0 in
+      let agree = (files_agree budget w events own premise start all).0 in
       let up = all_date budget premise events w (first_of stories budget premise w.host) (λ t. [])
       (start_well stories budget premise w.host start) all own s
       (λ x here. subst (λ (z : StoreState). IsUpToDate (session_of w.host.rows s z))
@@ -444,6 +452,28 @@ module _ (stories : List Story) where
   whole_end budget [] (suc i) w le = refl
   whole_end budget (e ∷ events) zero w le = absurd (omega (arith, le))
   whole_end budget (e ∷ events) (suc i) w le = whole_end budget events i w (omega (arith, le))
+
+-- ---- own puts, one by one
+
+module _ (stories : List Story) where
+  pub own_next : (budget : ℕ) (events : List WholeEvent) (i : ℕ) (event : WholeEvent)
+      (w v : WholeState) → i < length events
+      → event ≡ get_or events i event → v ≡ whole_after stories budget w event
+      → IsOwnPut stories w event → AreOwnPuts stories budget v (drop (i + 1) events)
+      → AreOwnPuts stories budget w (drop i events)
+  own_next budget events i event w v lt here is own more =
+      subst (λ (l : List WholeEvent). AreOwnPuts stories budget w l)
+      (sym (drop_more events i event lt))
+      (subst (λ (e : WholeEvent). IsOwnPut stories w e
+      × AreOwnPuts stories budget (whole_after stories budget w e) (drop (i + 1) events)) here
+      (own, subst (λ (u : WholeState). AreOwnPuts stories budget u (drop (i + 1) events)) is more))
+
+  pub own_end : (budget : ℕ) (events : List WholeEvent) (i : ℕ) (w : WholeState)
+      → length events ≤ i → AreOwnPuts stories budget w (drop i events)
+  own_end budget [] zero w le = tt
+  own_end budget [] (suc i) w le = tt
+  own_end budget (e ∷ events) zero w le = absurd (omega (arith, le))
+  own_end budget (e ∷ events) (suc i) w le = own_end budget events i w (omega (arith, le))
 
 -- ---- where it begins
 

@@ -9,7 +9,7 @@ use Rattle.gate_journal.specs.declared.row.Row.{Row}
 use Rattle.line_words.specs.declared.reply.Reply.{Reply}
 use Rattle.story_run.specs.declared.story.Story.{Story}
 use Rattle.session_core.specs.declared.entry.Entry.{Entry}
-use Rattle.host_world.specs.Disk.{disk_after, may_work}
+use Rattle.store_events.specs.Disk.{disk_after, may_work}
 use Rattle.host_world.specs.Events.{accept, accept_at, accept_turn, after, begun, call_next, free}
 use Rattle.host_world.specs.Events.{gives, hold, holds, run_turn, stop, stopped, take_turn, takes_at}
 use Rattle.host_world.specs.Events.{want}
@@ -19,7 +19,7 @@ use Rattle.host_world.specs.Journal.{called, comes_up, failed, looked, next_call
 use Rattle.host_world.specs.Journal.{with_fault}
 use Rattle.host_world.specs.Reading.{rows_in}
 use Rattle.host_world.specs.Sessions.{answer_in, phase_of}
-use Rattle.host_world.specs.declared.disk.DiskCall.{DiskCall}
+use Rattle.store_events.specs.declared.disk.DiskCall.{DiskCall}
 use Rattle.host_world.specs.declared.event.Event.{Event}
 use Rattle.host_world.specs.declared.event.Event.TheVariants.{Accept, Call, Free, Give, Hold}
 use Rattle.host_world.specs.declared.event.Event.TheVariants.{Recover, Run, Stop, Take, Want}

@@ -4,8 +4,8 @@ use Rattle.std.specs.Prelude.{◌++◌, length, slice_index, Option, Some, None}
 use Rattle.std.specs.List.{slice_get}
 use Rattle.gate_journal.specs.declared.row.Row.{Row}
 use Rattle.gate_journal.specs.Rows.{body, spelled}
-use Rattle.host_world.specs.declared.disk.DiskCall.{DiskCall}
-use Rattle.host_world.specs.declared.disk.DiskCall.TheVariants.{Write, Sync, Look}
+use Rattle.store_events.specs.declared.disk.DiskCall.{DiskCall}
+use Rattle.store_events.specs.declared.disk.DiskCall.TheVariants.{Write, Sync, Look}
 use Rattle.host_world.specs.declared.turn.Phase.{Phase}
 use Rattle.host_world.specs.declared.turn.Phase.TheVariants.{Kept, Broken}
 use Rattle.host_world.specs.declared.turn.Session.{Session}
@@ -16,7 +16,7 @@ use Rattle.host_world.specs.declared.state.Step.TheVariants.{FirstSync, AskSize,
 use Rattle.host_world.specs.declared.state.Step.TheVariants.{CloseWrite, CloseSync}
 use Rattle.host_world.specs.declared.state.HostState.{HostState}
 use Rattle.disk_model.specs.Plain.{is_image}
-use Rattle.host_world.specs.Disk.{disk_after, may_work, counted}
+use Rattle.store_events.specs.Disk.{disk_after, may_work, counted}
 use Rattle.host_world.specs.Reading.{rows_in}
 use Rattle.host_world.specs.Sessions.{phase_set, found_sessions}
 

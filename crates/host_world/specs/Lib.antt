@@ -1,4 +1,3 @@
-pub mod Disk
 pub mod Reading
 pub mod Sessions
 pub mod Journal
@@ -8,5 +7,7 @@ pub mod Starts
 pub mod Pending
 pub mod Laws
 pub mod Headline
+pub mod Keeping
 pub mod Whole
+pub mod Puts
 pub mod WholeHeadline

@@ -1,10 +1,9 @@
 -- A host with the snapshot files of its sessions, after an event and after a list of events (own).
 use Rattle.std.specs.Prelude.{ℕ, ◌-◌, ◌==◌, ◌&&◌, not, if◌then◌else◌, Bool, true, false}
-use Rattle.std.specs.Prelude.{List, [], ◌∷◌, ◌++◌, map, set, Option, Some, None}
+use Rattle.std.specs.Prelude.{List, [], ◌∷◌, ◌++◌, map, Option, Some, None}
 use Rattle.std.specs.List.{slice_get}
 use Rattle.disk_model.specs.Plain.{is_image}
 use Rattle.story_run.specs.declared.story.Story.{Story}
-use Rattle.store_events.specs.declared.event.Event.{Event as FileEvent}
 use Rattle.store_events.specs.declared.event.Event.TheVariants as files
 use Rattle.store_events.specs.declared.state.StoreState.{StoreState}
 use Rattle.store_events.specs.Events.{is_opening, is_putting, opens}
@@ -12,12 +11,14 @@ use Rattle.store_events.specs.Events.{after as file_after}
 use Rattle.store_events.specs.Events.{down_over as file_down}
 use Rattle.host_world.specs.declared.event.Event.{Event}
 use Rattle.host_world.specs.declared.event.Event.TheVariants as journal
+use Rattle.host_world.specs.declared.keeping.Snapshot.{Snapshot}
 use Rattle.host_world.specs.declared.state.HostState.{HostState}
 use Rattle.host_world.specs.declared.whole.WholeEvent.{WholeEvent}
 use Rattle.host_world.specs.declared.whole.WholeEvent.TheVariants.{Take, Want, Hold, Call, Free, Run}
 use Rattle.host_world.specs.declared.whole.WholeEvent.TheVariants.{Keep, Accept, Give, Stop, Recover}
 use Rattle.host_world.specs.declared.whole.WholeState.{WholeState}
 use Rattle.host_world.specs.Events.{holds, run}
+use Rattle.host_world.specs.Keeping.{due_snapshot, put_begun, with_event}
 use Rattle.host_world.specs.Reading.{rows_in}
 use Rattle.host_world.specs.Starts.{down_over, rows_or_none}
 
@@ -65,7 +66,7 @@ to_host w (Call disk good reads) =
     else []
 to_host w (Free s) = journal.Free s ∷ []
 to_host w (Run s found) = journal.Run s found ∷ []
-to_host w (Keep s place count bytes) = []
+to_host w (Keep s) = []
 to_host w (Accept s) = journal.Accept s ∷ []
 to_host w (Give s) = if no_put (slice_get w.stores s) then journal.Give s ∷ [] else []
 to_host w (Stop []) = []
@@ -77,45 +78,12 @@ to_host w Recover =
     if is_up w then []
     else (if w.host.up then closes w.host else []) ++ journal.Recover ∷ []
 
--- the files, where one of them has lived through an event of its own
-abbrev pub file_set : List StoreState → ℕ → FileEvent → Option StoreState → List StoreState
-file_set stores s event None = stores
-file_set stores s event (Some x) = set stores s (file_after x event)
-
-abbrev pub with_event : List StoreState → ℕ → FileEvent → List StoreState
-with_event stores s event = file_set stores s event (slice_get stores s)
-
 -- each file holds its image
 abbrev pub stopped_files : List StoreState → List (List ℕ) → List StoreState
 stopped_files [] images = []
 stopped_files (x ∷ stores) [] = x ∷ stores
 stopped_files (x ∷ stores) (image ∷ images) =
     file_after x (files.Stop image) ∷ stopped_files stores images
-
--- What an event is to the files. A put begins where the turn of its session holds no journal; a file
--- is called once the journal is open.
-abbrev pub to_files : WholeState → WholeEvent → List StoreState
-to_files w (Take s pass line) = w.stores
-to_files w (Want s) = w.stores
-to_files w (Hold s) = w.stores
-to_files w (Call disk good reads) =
-    if disk == 0 then w.stores
-    else if w.host.up then with_event w.stores (disk - 1) (files.Call good reads)
-    else w.stores
-to_files w (Free s) = w.stores
-to_files w (Run s found) = w.stores
-to_files w (Keep s place count bytes) =
-    if is_up w && not (holds w.host s)
-    then with_event w.stores s (files.Keep place count bytes)
-    else w.stores
-to_files w (Accept s) = w.stores
-to_files w (Give s) = w.stores
-to_files w (Stop []) = w.stores
-to_files w (Stop (image ∷ images)) =
-    if is_image w.host.disk image && are_images w.stores images
-    then stopped_files w.stores images
-    else w.stores
-to_files w Recover = if is_up w then w.stores else map opens w.stores
 
 -- with another host, or other files
 abbrev pub with_host : WholeState → HostState → WholeState
@@ -124,11 +92,46 @@ with_host w host = record { host = host; stores = w.stores }
 abbrev pub with_files : WholeState → List StoreState → WholeState
 with_files w stores = record { host = w.host; stores = stores }
 
+module _ (stories : List Story) where
+  -- The snapshot of a session that is due: by its synced rows, where the host is up and the turn of
+  -- the session doesn't hold the journal.
+  abbrev pub put_in : WholeState → ℕ → Option StoreState → Option Snapshot
+  put_in w s None = None
+  put_in w s (Some x) =
+      if is_up w && not (holds w.host s) then due_snapshot stories w.host.rows s x else None
+
+  abbrev pub put_of : WholeState → ℕ → Option Snapshot
+  put_of w s = put_in w s (slice_get w.stores s)
+
+  -- What an event is to the files. A file is called once the journal is open.
+  abbrev pub to_files : WholeState → WholeEvent → List StoreState
+  to_files w (Take s pass line) = w.stores
+  to_files w (Want s) = w.stores
+  to_files w (Hold s) = w.stores
+  to_files w (Call disk good reads) =
+      if disk == 0 then w.stores
+      else if w.host.up then with_event w.stores (disk - 1) (files.Call good reads)
+      else w.stores
+  to_files w (Free s) = w.stores
+  to_files w (Run s found) = w.stores
+  to_files w (Keep s) = put_begun w.stores s (put_of w s)
+  to_files w (Accept s) = w.stores
+  to_files w (Give s) = w.stores
+  to_files w (Stop []) = w.stores
+  to_files w (Stop (image ∷ images)) =
+      if is_image w.host.disk image && are_images w.stores images
+      then stopped_files w.stores images
+      else w.stores
+  to_files w Recover = if is_up w then w.stores else map opens w.stores
+
 module _ (stories : List Story) (budget : ℕ) where
   -- the host and its files after an event, and after these, one after the other
   abbrev pub whole_after : WholeState → WholeEvent → WholeState
   whole_after w event =
-      record { host = run stories budget w.host (to_host w event); stores = to_files w event }
+      record {
+        host = run stories budget w.host (to_host w event);
+        stores = to_files stories w event;
+      }
 
   abbrev pub whole_run : WholeState → List WholeEvent → WholeState
   whole_run w [] = w

@@ -8,44 +8,20 @@ use Rattle.gate_journal.specs.Rows.{IsJournal, commands_of, spelled}
 use Rattle.story_run.specs.declared.story.Story.{Story}
 use Rattle.session_core.specs.History.{game_of}
 use Rattle.snap_store.specs.File.{given, newest_area}
-use Rattle.session_saves.specs.Agreement.{IsAgreedFile, last_row}
+use Rattle.session_saves.specs.Agreement.{IsAgreedFile, last_row, opens_of}
 use Rattle.session_saves.specs.Game.{inputs_of, turns_after}
 use Rattle.session_saves.specs.Warming.{count_in}
 use Rattle.store_events.specs.declared.state.StoreState.{StoreState}
-use Rattle.store_events.specs.Rows.{opens_of, session_of, told_of}
-use Rattle.store_events.specs.Session.{EachMissesNone, IsInAgreement, IsOwn, IsUpToDate}
+use Rattle.store_events.specs.Rows.{session_of, told_of}
+use Rattle.store_events.specs.Session.{EachMissesNone, IsInAgreement, IsUpToDate}
 use Rattle.host_world.specs.Events.{run}
 use Rattle.host_world.specs.Headline.{AreGiven}
 use Rattle.host_world.specs.Starts.{IsStart}
 use Rattle.host_world.specs.declared.whole.WholeEvent.{WholeEvent}
-use Rattle.host_world.specs.declared.whole.WholeEvent.TheVariants.{Take, Want, Hold, Call, Free, Run}
-use Rattle.host_world.specs.declared.whole.WholeEvent.TheVariants.{Keep, Accept, Give, Stop, Recover}
 use Rattle.host_world.specs.declared.whole.WholeState.{WholeState}
 use Rattle.host_world.specs.Whole.{all_to_host, whole_after}
 
 module _ (stories : List Story) (budget : ℕ) where
-  -- a put is of the session's own snapshot: of its last OPEN row, after no more inputs than its
-  -- synced rows have, with the bytes of the world after so many
-  abbrev pub IsOwnPut : WholeState → WholeEvent → Type 0
-  IsOwnPut w (Keep s place count bytes) =
-      (x : StoreState) → slice_get w.stores s ≡ Some x
-      → IsOwn stories (session_of w.host.rows s x) place count bytes
-  IsOwnPut w (Take s pass line) = Unit {0}
-  IsOwnPut w (Want s) = Unit {0}
-  IsOwnPut w (Hold s) = Unit {0}
-  IsOwnPut w (Call disk good reads) = Unit {0}
-  IsOwnPut w (Free s) = Unit {0}
-  IsOwnPut w (Run s found) = Unit {0}
-  IsOwnPut w (Accept s) = Unit {0}
-  IsOwnPut w (Give s) = Unit {0}
-  IsOwnPut w (Stop images) = Unit {0}
-  IsOwnPut w Recover = Unit {0}
-
-  abbrev pub AreOwnPuts : WholeState → List WholeEvent → Type 0
-  AreOwnPuts w [] = Unit {0}
-  AreOwnPuts w (event ∷ events) =
-      IsOwnPut w event × AreOwnPuts (whole_after stories budget w event) events
-
   -- each session's file is in agreement with its rows and its commands
   abbrev pub EachInAgreement : WholeState → Type 0
   EachInAgreement w =
@@ -61,7 +37,7 @@ module _ (stories : List Story) (budget : ℕ) where
     -- Each image that a stop may leave of a session's file agrees with its rows and its commands.
     abbrev pub FilesAgree : Type 0
     FilesAgree =
-        AreGiven stories budget → IsStart w.host → EachInAgreement w → AreOwnPuts w events
+        AreGiven stories budget → IsStart w.host → EachInAgreement w
         → EachInAgreement v
         × ((s : ℕ) (x : StoreState) (image : List ℕ) → slice_get v.stores s ≡ Some x
         → IsImage x.disk image
@@ -82,7 +58,7 @@ module _ (stories : List Story) (budget : ℕ) where
   -- A session of which no due snapshot was missed warms in at most 16 turns.
   abbrev pub SessionWarmsInSixteen : WholeState → List WholeEvent → WholeState → Type 0
   SessionWarmsInSixteen w events v =
-      AreGiven stories budget → IsStart w.host → EachInAgreement w → AreOwnPuts w events
+      AreGiven stories budget → IsStart w.host → EachInAgreement w
       → (s : ℕ) (first last : StoreState)
       → slice_get w.stores s ≡ Some first → IsUpToDate (session_of w.host.rows s first)
       → NoneAreMissed s w events

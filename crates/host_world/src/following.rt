@@ -5,9 +5,14 @@ ghost use Rattle.gate_journal.specs.Command.{IsBudget};
 ghost use Rattle.host_world.specs.Events.{after, run};
 ghost use Rattle.host_world.specs.Headline.{EachLives, NothingIsLost, IsIsolated};
 ghost use Rattle.host_world.specs.Laws.{ShowsRunAlone};
+ghost use Rattle.host_world.specs.Puts.{AreOwnPuts};
+ghost use Rattle.host_world.specs.Whole.{whole_run};
+ghost use Rattle.host_world.specs.WholeHeadline.{FilesAgree, LivesAsHost};
+ghost use Rattle.host_world.specs.WholeHeadline.{SessionWarmsInSixteen};
 
 use crate::event::Event;
 use crate::state::HostState;
+use crate::whole::{WholeEvent, WholeState};
 use std::alloc::{AllocError, Global};
 use story_run::Story;
 
@@ -63,6 +68,33 @@ pub fn follow(
     ensures shows { ShowsRunAlone }
     ensures kept { IfOk result (NothingIsLost stories.now budget state events.now) }
     ensures isolated { IfOk result (IsIsolated stories.now budget state events.now) }
+{
+    for event in events {
+        state.happen(alloc, stories, budget, event)?;
+    }
+    Ok(state)
+}
+
+/// The host and its sessions' files after these events, one after the other, with these stories and
+/// this budget of a turn in ticks. One that isn't enabled changes nothing.
+///
+/// Whatever happens in whatever order: the host lives through what one with its journal alone lives
+/// through; each put is of the session's own snapshot; each image of a session's file agrees with
+/// its rows and its commands; and a session of which no due snapshot was missed warms in at most 16
+/// turns. An error is want of memory.
+pub fn follow_all(
+    alloc: Global,
+    stories: &[Story],
+    budget: u64,
+    mut state: WholeState,
+    events: &[WholeEvent],
+) -> Result<WholeState, AllocError>
+    requires { IsBudget budget }
+    ensures value { IfOk result (λ w. w ≡ whole_run stories.now budget state events.now) }
+    ensures own { IfOk result (λ _. AreOwnPuts stories.now budget state events.now) }
+    ensures host { IfOk result (LivesAsHost stories.now budget state events.now) }
+    ensures files { IfOk result (FilesAgree stories.now budget state events.now) }
+    ensures warms { IfOk result (SessionWarmsInSixteen stories.now budget state events.now) }
 {
     for event in events {
         state.happen(alloc, stories, budget, event)?;

@@ -11,7 +11,6 @@ ghost use Rattle.host_world.specs.declared.state.Step.TheVariants as Steps;
 ghost use Rattle.host_world.specs.declared.turn.Phase.TheVariants as Phases;
 
 use crate::deciding::decision_on;
-use crate::disk::{DiskCall, make_call};
 use crate::rows::{JournalRows, NewRow};
 use crate::sessions::set_phase;
 use crate::state::{HostState, Step, set_step};
@@ -19,6 +18,7 @@ use crate::turn::Phase;
 use session_core::Decision;
 use std::alloc::{AllocError, Global};
 use std::mem;
+use store_events::{DiskCall, make_call};
 use story_run::Story;
 use story_text::Bytes;
 

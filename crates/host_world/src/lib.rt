@@ -2,12 +2,13 @@
 #![tactic(auto)]
 
 mod deciding;
-mod disk;
 mod event;
+mod files;
 mod following;
 mod history;
 mod items;
 mod journal;
+mod keeping;
 mod law;
 mod opening;
 mod rows;
@@ -17,11 +18,10 @@ mod steps;
 mod turn;
 mod whole;
 
-pub use disk::DiskCall;
 pub use event::{Event, Images};
-pub use following::follow;
+pub use following::{follow, follow_all};
 pub use items::Items;
 pub use law::definitions;
 pub use state::{Given, HostState, Step};
 pub use turn::{Phase, Session, Turn};
-pub use whole::{WholeEvent, WholeState, follow_all};
+pub use whole::{WholeEvent, WholeState};

@@ -3,10 +3,12 @@
 ghost use Rattle.std.specs.Prelude.{◌≡◌, ◌<◌, ◌^◌, ◌++◌, ◌∷◌, [], length, IfOk, OnOk};
 ghost use Rattle.gate_journal.specs.Command.{IsCommand};
 ghost use Rattle.gate_journal.specs.Log.{next_row};
-ghost use Rattle.gate_journal.specs.Rows.{spelled};
+ghost use Rattle.gate_journal.specs.Rows.{commands_of, spelled};
+ghost use Rattle.session_saves.specs.Agreement.{last_row, opens_of};
 ghost use Rattle.host_world.specs.Journal.{past_gate};
 
 use gate_journal::{Command, Rows, row_bytes};
+use session_core::is_open;
 use std::alloc::{AllocError, Global};
 use std::marker::Model;
 use story_text::Bytes;
@@ -126,5 +128,42 @@ impl JournalRows {
         self.added.push(row)?;
         self.end += size;
         Ok(())
+    }
+    /// The commands of a session's rows, oldest first.
+    pub fn commands_of(&self, alloc: Global, s: u8) -> Result<Vec<Command>, AllocError>
+        ensures { IfOk result (λ commands. commands.items ≡ commands_of self.now s) }
+    {
+        let (found, added) = (self.found.as_slice(), self.added.as_slice());
+        let mut commands = Vec::new(alloc);
+        for row in found {
+            if row.session == s {
+                commands.push(row.command.copy_of(alloc)?)?;
+            }
+        }
+        for new in added {
+            if new.session == s {
+                commands.push(new.command.copy_of(alloc)?)?;
+            }
+        }
+        Ok(commands)
+    }
+
+    /// The place of a session's last OPEN row.
+    pub fn last_open(&self, s: u8) -> Option<u128>
+        ensures { result ≡ last_row (opens_of self.now s) }
+    {
+        let (found, added) = (self.found.as_slice(), self.added.as_slice());
+        let mut place = None;
+        for row in found {
+            if row.session == s && is_open(&row.command) {
+                place = Some(u128::from(row.place));
+            }
+        }
+        for new in added {
+            if new.session == s && is_open(&new.command) {
+                place = Some(new.place);
+            }
+        }
+        place
     }
 }

@@ -71,4 +71,11 @@ impl HostState {
     {
         self.given.as_slice()
     }
+
+    /// What the journal's disk reads as.
+    pub fn journal(&self) -> &[u8]
+        ensures { result.now ≡ self.now.disk.seen }
+    {
+        self.disk.seen()
+    }
 }

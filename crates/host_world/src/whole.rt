@@ -1,26 +1,31 @@
 //! A host with the snapshot files of its sessions, and every order of events that may happen to it
 //! (own).
 
-ghost use Rattle.std.specs.Prelude.{◌≡◌, IfOk, OnOk, List, [], ◌∷◌, ℕ, map};
+ghost use Rattle.std.specs.Prelude.{◌≡◌, IfOk, IfSome, OnOk, List, [], ◌∷◌, ℕ, map, Some};
 ghost use Rattle.std.specs.Prelude.{if◌then◌else◌};
 ghost use Rattle.std.specs.List.{slice_get};
 ghost use Rattle.story_run.specs.declared.story.Story.{Story};
 ghost use Rattle.gate_journal.specs.Command.{IsBudget};
 ghost use Rattle.store_events.specs.Events.{opens};
+ghost use Rattle.store_events.specs.declared.state.StoreState.{StoreState};
 ghost use Rattle.store_events.specs.declared.event.Event.TheVariants as FileEvent;
 ghost use Rattle.disk_model.specs.Plain.{is_image};
 ghost use Rattle.host_world.specs.Events.{after, run};
-ghost use Rattle.host_world.specs.Whole.{all_up, are_images, closes, fails_at, is_up, no_put};
-ghost use Rattle.host_world.specs.Whole.{stopped_files, to_files, to_host, whole_after, whole_run};
-ghost use Rattle.host_world.specs.Whole.{file_over, whole_down, with_event, with_files};
-ghost use Rattle.host_world.specs.Whole.{with_host};
-ghost use Rattle.host_world.specs.WholeHeadline.{FilesAgree, LivesAsHost, MayBegin};
-ghost use Rattle.host_world.specs.WholeHeadline.{SessionWarmsInSixteen};
+ghost use Rattle.host_world.specs.Keeping.{IsOwnSnapshot, with_event};
+ghost use Rattle.host_world.specs.Puts.{IsOwnPut};
+ghost use Rattle.host_world.specs.Whole.{are_images, closes, fails_at, is_up, put_of};
+ghost use Rattle.host_world.specs.Whole.{stopped_files, whole_after, whole_down};
+ghost use Rattle.host_world.specs.Whole.{with_files, with_host};
+ghost use Rattle.host_world.specs.WholeHeadline.{MayBegin};
 ghost use Rattle.host_world.specs.declared.event.Event.TheVariants as HostEvent;
 ghost use Rattle.host_world.specs.declared.whole.WholeEvent.TheVariants as Event;
 
 use crate::event::Images;
+use crate::files::{
+    all_up, are_images, call_file, files_over, keep_file, no_put, open_files, stop_files,
+};
 use crate::items::Items;
+use crate::keeping::{Snapshot, due_snapshot};
 use crate::state::HostState;
 use crate::steps::holds;
 use std::alloc::{AllocError, Global};
@@ -40,174 +45,27 @@ pub struct WholeState {
 #[derive(Drop)]
 pub enum WholeEvent {
     /// The session `s` begins a turn by the pass of this number, with this line, given without LF.
-    Take {
-        s: u8,
-        pass: u64,
-        line: Bytes,
-    },
+    Take { s: u8, pass: u64, line: Bytes },
     /// Memory runs out in its turn before an append has begun.
-    Want {
-        s: u8,
-    },
+    Want { s: u8 },
     /// It takes the journal.
-    Hold {
-        s: u8,
-    },
+    Hold { s: u8 },
     /// A disk makes its next call. Where that isn't good the disk reads as `reads` from then on.
-    Call {
-        disk: u8,
-        good: bool,
-        reads: Bytes,
-    },
+    Call { disk: u8, good: bool, reads: Bytes },
     /// It gives the journal back.
-    Free {
-        s: u8,
-    },
+    Free { s: u8 },
     /// It answers; `found` says whether memory for the reply was found.
-    Run {
-        s: u8,
-        found: bool,
-    },
-    /// The put of a snapshot of it begins: that of the OPEN row at this place, after so many inputs.
-    Keep {
-        s: u8,
-        place: u64,
-        count: u32,
-        bytes: Bytes,
-    },
+    Run { s: u8, found: bool },
+    /// The put of its snapshot begins, where one is due that isn't stored.
+    Keep { s: u8 },
     /// Its history takes the entry.
-    Accept {
-        s: u8,
-    },
+    Accept { s: u8 },
     /// Its reply is given, and the turn ends.
-    Give {
-        s: u8,
-    },
+    Give { s: u8 },
     /// The host stops, and its disks hold these images: the journal's, and then those of the files.
-    Stop {
-        images: Images,
-    },
+    Stop { images: Images },
     /// An opening begins.
     Recover,
-}
-
-// Files of a host that is down, which hold these bytes.
-fn files_over(alloc: Global, files: &[Bytes]) -> Result<Vec<StoreState>, AllocError>
-    ensures { IfOk result (λ stores. stores.items ≡ map file_over files.now) }
-{
-    let mut stores = Vec::new(alloc);
-    for file in files {
-        let store = StoreState::down(alloc, file)?;
-        stores.push(store)?;
-    }
-    Ok(stores)
-}
-
-// The journal and each file are opened.
-fn all_up(stores: &[StoreState]) -> bool
-    ensures { result ≡ all_up stores.now }
-{
-    let mut rest = stores;
-    while let [first, others @ ..] = rest {
-        if !first.is_up() {
-            return false;
-        }
-        rest = others;
-    }
-    true
-}
-
-// A stop may leave these images of the files.
-fn are_images(stores: &[StoreState], images: &[Bytes]) -> bool
-    ensures { result ≡ are_images stores.now images.now }
-{
-    let mut files = stores;
-    let mut rest = images;
-    while let [file, files_behind @ ..] = files {
-        let [image, images_behind @ ..] = rest else {
-            return false;
-        };
-        if !file.is_image(image.as_slice()) {
-            return false;
-        }
-        files = files_behind;
-        rest = images_behind;
-    }
-    rest.is_empty()
-}
-
-// No put of this file is under way.
-fn no_put(stores: &[StoreState], s: u8) -> bool
-    ensures { result ≡ no_put (slice_get stores.now s) }
-{
-    match stores.get(s as usize) {
-        None => true,
-        Some(store) => !store.is_putting(),
-    }
-}
-
-// A file is called. Answers whether its opening failed in this call.
-fn call_file(
-    alloc: Global,
-    stores: &mut Vec<StoreState>,
-    s: u8,
-    good: bool,
-    reads: &Bytes,
-) -> Result<bool, AllocError>
-    ensures fails { IfOk result (λ fails. fails
-        ≡ fails_at (slice_get stores.old.items s) good reads.now) }
-    ensures files { IfOk result (λ _. stores.new.items
-        ≡ with_event stores.old.items s (FileEvent.Call good reads.now)) }
-{
-    let Some(store) = stores.get_mut(s as usize) else {
-        return Ok(false);
-    };
-    let was_opening = store.is_opening();
-    store.call(alloc, good, reads)?;
-    Ok(was_opening && !store.is_opening() && !store.is_up())
-}
-
-// The put of a snapshot begins in a file.
-fn keep_file(
-    alloc: Global,
-    stores: &mut Vec<StoreState>,
-    s: u8,
-    place: u64,
-    count: u32,
-    bytes: &Bytes,
-) -> Result<(), AllocError>
-    ensures { OnOk result (stores.new.items
-        ≡ with_event stores.old.items s (FileEvent.Keep place count bytes.now)) }
-{
-    if let Some(store) = stores.get_mut(s as usize) {
-        store.keep(alloc, place, count, bytes)?;
-    }
-    Ok(())
-}
-
-// Each file holds its image.
-fn stop_files(
-    alloc: Global,
-    stores: &mut Vec<StoreState>,
-    images: &[Bytes],
-) -> Result<(), AllocError>
-    ensures { OnOk result (stores.new.items ≡ stopped_files stores.old.items images.now) }
-{
-    for at in 0..stores.len() {
-        if at < images.len() {
-            stores[at].stop(alloc, &images[at])?;
-        }
-    }
-    Ok(())
-}
-
-// The openings of all files begin.
-fn open_files(stores: &mut Vec<StoreState>)
-    ensures { stores.new.items ≡ map opens stores.old.items }
-{
-    for at in 0..stores.len() {
-        stores[at].open_anew();
-    }
 }
 
 // An image of one disk.
@@ -220,6 +78,20 @@ fn one_image(alloc: Global, bytes: &[u8]) -> Result<Images, AllocError>
 }
 
 impl WholeState {
+    /// The host with its journal.
+    pub fn host(&self) -> &HostState
+        ensures { result.now ≡ self.now.host }
+    {
+        &self.host
+    }
+
+    /// The snapshot files, by session.
+    pub fn files(&self) -> &[StoreState]
+        ensures { result.now ≡ self.now.stores }
+    {
+        self.stores.as_slice()
+    }
+
     /// A host that is down over a journal and files that hold these bytes, with nothing pending and
     /// counts of 0, and that gave no replies.
     pub fn down(alloc: Global, journal: &Bytes, files: &[Bytes]) -> Result<WholeState, AllocError>
@@ -314,22 +186,37 @@ impl WholeState {
         Ok(())
     }
 
-    // A put of a session's snapshot begins.
-    fn keep(
-        &mut self,
+    // The snapshot of a session that is due, where a put of it may begin.
+    fn put_of(
+        &self,
         alloc: Global,
+        stories: &[Story],
         s: u8,
-        place: u64,
-        count: u32,
-        bytes: &Bytes,
-    ) -> Result<(), AllocError>
-        ensures { (stories : List Story) (budget : ℕ) → OnOk result (self.new
-            ≡ whole_after stories budget self.old (Event.Keep s place count bytes.now)) }
+    ) -> Result<Option<Snapshot>, AllocError>
+        ensures value { IfOk result (λ made. made ≡ put_of stories.now self.now s) }
+        ensures own { IfOk result (λ made. IfSome made (λ snapshot.
+            (x : StoreState) → slice_get self.now.stores s ≡ Some x
+            → IsOwnSnapshot stories.now self.now.host.rows s x snapshot)) }
     {
+        let Some(file) = self.stores.list.get(s as usize) else {
+            return Ok(None);
+        };
         if !self.is_up() || holds(self.host.holder, s) {
-            return Ok(());
+            return Ok(None);
         }
-        keep_file(alloc, &mut self.stores.list, s, place, count, bytes)
+        due_snapshot(alloc, stories, &self.host.rows, s, file)
+    }
+
+    // The put of a session's snapshot begins.
+    fn keep(&mut self, alloc: Global, stories: &[Story], s: u8) -> Result<(), AllocError>
+        ensures value { (budget : ℕ) → OnOk result (self.new
+            ≡ whole_after stories.now budget self.old (Event.Keep s)) }
+        ensures own { OnOk result (IsOwnPut stories.now self.old (Event.Keep s)) }
+    {
+        let Some(snapshot) = self.put_of(alloc, stories, s)? else {
+            return Ok(());
+        };
+        keep_file(alloc, &mut self.stores.list, s, &snapshot)
     }
 
     // The reply that is ready is given.
@@ -444,8 +331,8 @@ impl WholeState {
         Ok(())
     }
 
-    // An event happens; one that isn't enabled changes nothing.
-    fn happen(
+    /// An event happens; one that isn't enabled changes nothing.
+    pub(crate) fn happen(
         &mut self,
         alloc: Global,
         stories: &[Story],
@@ -453,7 +340,9 @@ impl WholeState {
         event: &WholeEvent,
     ) -> Result<(), AllocError>
         requires { IsBudget budget }
-        ensures { OnOk result (self.new ≡ whole_after stories.now budget self.old event.now) }
+        ensures value { OnOk result (self.new
+            ≡ whole_after stories.now budget self.old event.now) }
+        ensures own { OnOk result (IsOwnPut stories.now self.old event.now) }
     {
         match event {
             WholeEvent::Take { s, pass, line } => {
@@ -466,12 +355,7 @@ impl WholeState {
             }
             WholeEvent::Free { s } => self.host.free(*s),
             WholeEvent::Run { s, found } => self.host.run_turn(*s, *found),
-            WholeEvent::Keep {
-                s,
-                place,
-                count,
-                bytes,
-            } => return self.keep(alloc, *s, *place, *count, bytes),
+            WholeEvent::Keep { s } => return self.keep(alloc, stories, *s),
             WholeEvent::Accept { s } => return self.host.accept(alloc, stories, budget, *s),
             WholeEvent::Give { s } => return self.give(*s),
             WholeEvent::Stop { images } => return self.stop(alloc, images),
@@ -479,29 +363,4 @@ impl WholeState {
         }
         Ok(())
     }
-}
-
-/// The host and its sessions' files after these events, one after the other, with these stories and
-/// this budget of a turn in ticks. One that isn't enabled changes nothing.
-///
-/// Whatever happens in whatever order: the host lives through what one with its journal alone lives
-/// through; each image of a session's file agrees with its rows and its commands; and a session of
-/// which no due snapshot was missed warms in at most 16 turns. An error is want of memory.
-pub fn follow_all(
-    alloc: Global,
-    stories: &[Story],
-    budget: u64,
-    mut state: WholeState,
-    events: &[WholeEvent],
-) -> Result<WholeState, AllocError>
-    requires { IsBudget budget }
-    ensures value { IfOk result (λ w. w ≡ whole_run stories.now budget state events.now) }
-    ensures host { IfOk result (LivesAsHost stories.now budget state events.now) }
-    ensures files { IfOk result (FilesAgree stories.now budget state events.now) }
-    ensures warms { IfOk result (SessionWarmsInSixteen stories.now budget state events.now) }
-{
-    for event in events {
-        state.happen(alloc, stories, budget, event)?;
-    }
-    Ok(state)
 }

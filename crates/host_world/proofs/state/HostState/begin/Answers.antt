@@ -1,7 +1,7 @@
 use Rattle.std.proofs.Common.{◌≡◌, ◌∙◌, ap, Bool, sym, subst, true, ℕ, OnOk}
 use Rattle.std.specs.Prelude.{if◌then◌else◌}
 use Rattle.disk_model.specs.DiskState.{DiskState}
-use Rattle.host_world.specs.Disk.{disk_after}
+use Rattle.store_events.specs.Disk.{disk_after}
 use Rattle.host_world.specs.Events.{begun_with, call_next}
 use Rattle.host_world.specs.Journal.{call_ended, next_call, sessions_with}
 use Rattle.host_world.specs.declared.state.HostState.{HostState}

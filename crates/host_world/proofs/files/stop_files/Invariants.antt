@@ -1,6 +1,6 @@
 use Rattle.std.proofs.Common.{◌≡◌, ◌++◌, take, drop}
 use Rattle.host_world.specs.Whole.{stopped_files}
-use Rattle.host_world.proofs.whole.stop_files.Given as goal
+use Rattle.host_world.proofs.files.stop_files.Given as goal
 
 abbrev pub invariant-loop-at : goal.invariant-loop-at
 invariant-loop-at l = l.stores.items

@@ -2,7 +2,7 @@ use Rattle.std.proofs.Common.{◌∙◌, ◌++◌, ◌∷◌, [], List, ap, map,
 use Rattle.std.proofs.lemmas.List.{map_more}
 use Rattle.store_events.specs.declared.state.StoreState.{StoreState}
 use Rattle.host_world.specs.Whole.{file_over}
-use Rattle.host_world.proofs.whole.files_over.Goals as goal
+use Rattle.host_world.proofs.files.files_over.Goals as goal
 
 pub loop-file-preserved : goal.loop-file-preserved
 loop-file-preserved c =

@@ -3,7 +3,7 @@ use Rattle.std.specs.Prelude.{set}
 use Rattle.std.proofs.lemmas.List.Edits.{map_over_more}
 use Rattle.store_events.specs.Events.{opens}
 use Rattle.store_events.specs.declared.state.StoreState.{StoreState}
-use Rattle.host_world.proofs.whole.open_files.Goals as goal
+use Rattle.host_world.proofs.files.open_files.Goals as goal
 
 pub loop-at-preserved : goal.loop-at-preserved
 loop-at-preserved c =

@@ -3,8 +3,8 @@ use Rattle.std.specs.List.{slice_get}
 use Rattle.std.proofs.lemmas.Option.{slice_get-get_or, slice_get_past}
 use Rattle.store_events.specs.declared.state.StoreState.{StoreState}
 use Rattle.host_world.proofs.WholeCode.{skips_next, stops_end, stops_next}
-use Rattle.host_world.proofs.whole.stop_files.Goals.{then-at-images+in_ok-stop, else-at-images}
-use Rattle.host_world.proofs.whole.stop_files.Goals as goal
+use Rattle.host_world.proofs.files.stop_files.Goals.{then-at-images+in_ok-stop, else-at-images}
+use Rattle.host_world.proofs.files.stop_files.Goals as goal
 
 pub returns : goal.returns
 returns c =

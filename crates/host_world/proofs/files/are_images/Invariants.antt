@@ -1,6 +1,6 @@
 use Rattle.std.proofs.Common.{◌≡◌, length}
 use Rattle.host_world.specs.Whole.{are_images}
-use Rattle.host_world.proofs.whole.are_images.Given as goal
+use Rattle.host_world.proofs.files.are_images.Given as goal
 
 abbrev pub invariant-loop-files : goal.invariant-loop-files
 invariant-loop-files l = are_images l.files l.rest ≡ are_images l.stores l.images

@@ -1,0 +1,54 @@
+use Rattle.std.proofs.Common.{◌≡◌, ◌∙◌, subst, sym}
+use Rattle.host_world.specs.Puts.{AreOwnPuts}
+use Rattle.host_world.specs.Whole.{whole_run}
+use Rattle.host_world.specs.WholeHeadline.{FilesAgree, LivesAsHost, SessionWarmsInSixteen}
+use Rattle.host_world.specs.declared.whole.WholeState.{WholeState}
+use Rattle.host_world.proofs.WholeLemmas.{files_agree, lives_as_host, own_end, own_next}
+use Rattle.host_world.proofs.WholeLemmas.{session_warms, whole_end, whole_next}
+use Rattle.host_world.proofs.following.follow_all.Goals as goal
+
+pub loop-event-preserved : goal.loop-event-preserved
+loop-event-preserved c = (
+  whole_next c.args.stories.now c.args.budget c.args.events.now c.loop-event.event-index
+      c.event-item.result c.loop-event.state c.happen.new.self c.loop-event-test.true
+      c.event-item.is c.in_ok-happen.ensures.value
+      ∙ c.loop-event.invariant.0,
+  (λ own. c.loop-event.invariant.1
+      (own_next c.args.stories.now c.args.budget c.args.events.now c.loop-event.event-index
+      c.event-item.result c.loop-event.state c.happen.new.self c.loop-event-test.true
+      c.event-item.is c.in_ok-happen.ensures.value c.in_ok-happen.ensures.own own)),
+)
+
+pub returns-clause-value : goal.returns-clause-value
+returns-clause-value c =
+    sym (whole_end c.args.stories.now c.args.budget c.args.events.now c.loop-event.event-index
+    c.loop-event.state c.loop-event-test.false)
+    ∙ c.loop-event.invariant.0
+
+pub returns-clause-own : goal.returns-clause-own
+returns-clause-own c =
+    c.loop-event.invariant.1 (own_end c.args.stories.now c.args.budget c.args.events.now
+    c.loop-event.event-index c.loop-event.state c.loop-event-test.false)
+
+pub returns-clause-host : goal.returns-clause-host
+returns-clause-host c =
+    subst (λ (v : WholeState). LivesAsHost c.args.stories.now c.args.budget c.args.state
+    c.args.events.now v)
+    (sym (returns-clause-value c))
+    (lives_as_host c.args.stories.now c.args.budget c.args.state c.args.events.now)
+
+pub returns-clause-files : goal.returns-clause-files
+returns-clause-files c =
+    subst (λ (v : WholeState). FilesAgree c.args.stories.now c.args.budget c.args.state
+    c.args.events.now v)
+    (sym (returns-clause-value c))
+    (files_agree c.args.stories.now c.args.budget c.args.state c.args.events.now
+    (returns-clause-own c))
+
+pub returns-clause-warms : goal.returns-clause-warms
+returns-clause-warms c =
+    subst (λ (v : WholeState). SessionWarmsInSixteen c.args.stories.now c.args.budget c.args.state
+    c.args.events.now v)
+    (sym (returns-clause-value c))
+    (session_warms c.args.stories.now c.args.budget c.args.state c.args.events.now
+    (returns-clause-own c))

@@ -1,0 +1,167 @@
+use host_world::{Images, WholeEvent, WholeState, follow_all};
+use line_words::write_reply;
+use session_core::Sessions;
+use std::alloc::Global;
+use std::test::{Fail, *};
+use story_make::echo_story;
+use story_run::Story;
+use story_text::Bytes;
+
+// A turn's ticks.
+const BUDGET: u64 = 50_000_000;
+
+// A journal without rows.
+const JOURNAL: [u8; 17] = *b"STHJ\x00\x00\x00\x01\x00\x00\x00\x00\x00\x00\x00\x00\x00";
+
+// How a new snapshot file begins; 4,088 zeros follow.
+const FRONT: [u8; 8] = *b"STHS\x00\x00\x00\x01";
+
+fn bytes(alloc: Global, list: &[u8]) -> Result<Bytes, Fail> {
+    Ok(Bytes::of(Vec::from_slice(alloc, list)?))
+}
+
+fn new_file(alloc: Global) -> Result<Bytes, Fail> {
+    let mut file = Vec::from_slice(alloc, &FRONT)?;
+    while file.len() < 4096 {
+        file.push(0)?;
+    }
+    Ok(Bytes::of(file))
+}
+
+// A host that is down over a new journal and 64 new files.
+fn new_host(alloc: Global) -> Result<WholeState, Fail> {
+    let mut files = Vec::new(alloc);
+    for _ in 0..64 {
+        files.push(new_file(alloc)?)?;
+    }
+    Ok(WholeState::down(alloc, &bytes(alloc, &JOURNAL)?, &files)?)
+}
+
+// A disk's next calls, so many, all good.
+fn call(alloc: Global, events: &mut Vec<WholeEvent>, disk: u8, calls: u8) -> Result<(), Fail> {
+    for _ in 0..calls {
+        events.push(WholeEvent::Call {
+            disk,
+            good: true,
+            reads: bytes(alloc, b"")?,
+        })?;
+    }
+    Ok(())
+}
+
+// The journal is opened, and then each file.
+fn open(alloc: Global, events: &mut Vec<WholeEvent>) -> Result<(), Fail> {
+    events.push(WholeEvent::Recover)?;
+    call(alloc, events, 0, 3)?;
+    for disk in 1..=64 {
+        call(alloc, events, disk, 5)?;
+    }
+    Ok(())
+}
+
+// A line's turn of session 0, with a put where one is due.
+fn turn(alloc: Global, events: &mut Vec<WholeEvent>, line: &[u8]) -> Result<(), Fail> {
+    events.push(WholeEvent::Take {
+        s: 0,
+        pass: 1,
+        line: bytes(alloc, line)?,
+    })?;
+    events.push(WholeEvent::Hold { s: 0 })?;
+    call(alloc, events, 0, 4)?;
+    events.push(WholeEvent::Free { s: 0 })?;
+    events.push(WholeEvent::Run { s: 0, found: true })?;
+    events.push(WholeEvent::Keep { s: 0 })?;
+    call(alloc, events, 1, 7)?;
+    events.push(WholeEvent::Accept { s: 0 })?;
+    events.push(WholeEvent::Give { s: 0 })?;
+    Ok(())
+}
+
+// The line of this number: the one that opens the session, or an input.
+fn line_of(alloc: Global, n: u8) -> Result<Vec<u8>, Fail> {
+    if n == 0 {
+        return Ok(Vec::from_slice(alloc, b"OPEN 0 k1 0 7 80 24")?);
+    }
+    let mut line = Vec::from_slice(alloc, b"LINE 0 k1 ")?;
+    if n > 9 {
+        line.push(b'0' + n / 10)?;
+    }
+    line.push(b'0' + n % 10)?;
+    line.extend_from_slice(b" 1 =go")?;
+    Ok(line)
+}
+
+// The replies that a host has given.
+fn replies(alloc: Global, host: &WholeState) -> Result<Vec<u8>, Fail> {
+    let mut replies = Vec::new(alloc);
+    for given in host.host().replies() {
+        replies.extend_from_slice(&write_reply(alloc, &given.reply)?)?;
+    }
+    Ok(replies)
+}
+
+// Those of a plain session to the first lines.
+fn wanted(alloc: Global, stories: &[Story], lines: u8) -> Result<Vec<u8>, Fail> {
+    let mut sessions = Sessions::new(alloc)?;
+    let mut wanted = Vec::new(alloc);
+    for n in 0..lines {
+        let reply = sessions.answer(alloc, stories, BUDGET, &line_of(alloc, n)?)?;
+        wanted.extend_from_slice(&write_reply(alloc, &reply)?)?;
+    }
+    Ok(wanted)
+}
+
+// A host that was opened and has answered the line that opens a session, and 16 inputs.
+fn played(alloc: Global, stories: &[Story]) -> Result<WholeState, Fail> {
+    let mut events = Vec::new(alloc);
+    open(alloc, &mut events)?;
+    for n in 0..17 {
+        turn(alloc, &mut events, &line_of(alloc, n)?)?;
+    }
+    Ok(follow_all(alloc, stories, BUDGET, new_host(alloc)?, &events)?)
+}
+
+// What its disks read as: the journal's, and then the files'.
+fn images_of(alloc: Global, host: &WholeState) -> Result<Images, Fail> {
+    let mut images = Vec::new(alloc);
+    images.push(bytes(alloc, host.host().journal())?)?;
+    for file in host.files() {
+        images.push(bytes(alloc, file.seen())?)?;
+    }
+    Ok(Images::of(images))
+}
+
+#[test]
+fn a_snapshot_is_put_behind_the_sixteenth_input(rt: HostRuntime) -> Result<(), Fail> {
+    let alloc = rt.alloc();
+    let image = echo_story(alloc)?;
+    let stories = [Story::of(&image).ok().ok_or("a story")?];
+    let host = played(alloc, &stories)?;
+    assert!(rt; replies(alloc, &host)? == wanted(alloc, &stories, 17)?);
+    let file = host.files().first().ok_or("a file")?.seen();
+    assert!(rt; file.get(8) == Some(&1));
+    assert!(rt; file.get(9) == Some(&0));
+    // the OPEN row's place, and 16 inputs
+    let head = file.get(4096..4108).ok_or("an area")?;
+    assert!(rt; head == b"\x00\x00\x00\x00\x00\x00\x00\x10\x00\x00\x00\x10".as_slice());
+    let other = host.files().last().ok_or("a file")?.seen();
+    assert!(rt; other.len() == 4096);
+    Ok(())
+}
+
+#[test]
+fn a_host_with_files_goes_on_behind_a_stop(rt: HostRuntime) -> Result<(), Fail> {
+    let alloc = rt.alloc();
+    let image = echo_story(alloc)?;
+    let stories = [Story::of(&image).ok().ok_or("a story")?];
+    let host = played(alloc, &stories)?;
+    let mut events = Vec::new(alloc);
+    events.push(WholeEvent::Stop {
+        images: images_of(alloc, &host)?,
+    })?;
+    open(alloc, &mut events)?;
+    turn(alloc, &mut events, &line_of(alloc, 17)?)?;
+    let host = follow_all(alloc, &stories, BUDGET, host, &events)?;
+    assert!(rt; replies(alloc, &host)? == wanted(alloc, &stories, 18)?);
+    Ok(())
+}
