@@ -3,6 +3,7 @@ use line_words::write_reply;
 use session_core::Sessions;
 use std::alloc::Global;
 use std::test::{Fail, *};
+use store_events::StoreState;
 use story_make::echo_story;
 use story_run::Story;
 use story_text::Bytes;
@@ -22,7 +23,7 @@ fn bytes(alloc: Global, list: &[u8]) -> Result<Bytes, Fail> {
 
 fn new_file(alloc: Global) -> Result<Bytes, Fail> {
     let mut file = Vec::from_slice(alloc, &FRONT)?;
-    while file.len() < 4096 {
+    for _ in 0..4088 {
         file.push(0)?;
     }
     Ok(Bytes::of(file))
@@ -121,6 +122,21 @@ fn played(alloc: Global, stories: &[Story]) -> Result<WholeState, Fail> {
     Ok(follow_all(alloc, stories, BUDGET, new_host(alloc)?, &events)?)
 }
 
+// An area as the first one begins: the place of its OPEN row, and 16 inputs.
+const HEAD: [u8; 12] = [0, 0, 0, 0, 0, 0, 0, 16, 0, 0, 0, 16];
+
+// Area A of the file is open, and begins so.
+fn has_snapshot(file: Option<&StoreState>) -> bool {
+    let Some(file) = file else {
+        return false;
+    };
+    let bytes = file.seen();
+    match bytes.get(4096..4108) {
+        Some(head) => head == HEAD.as_slice() && bytes.get(8) == Some(&1),
+        None => false,
+    }
+}
+
 // What its disks read as: the journal's, and then the files'.
 fn images_of(alloc: Global, host: &WholeState) -> Result<Images, Fail> {
     let mut images = Vec::new(alloc);
@@ -138,14 +154,8 @@ fn a_snapshot_is_put_behind_the_sixteenth_input(rt: HostRuntime) -> Result<(), F
     let stories = [Story::of(&image).ok().ok_or("a story")?];
     let host = played(alloc, &stories)?;
     assert!(rt; replies(alloc, &host)? == wanted(alloc, &stories, 17)?);
-    let file = host.files().first().ok_or("a file")?.seen();
-    assert!(rt; file.get(8) == Some(&1));
-    assert!(rt; file.get(9) == Some(&0));
-    // the OPEN row's place, and 16 inputs
-    let head = file.get(4096..4108).ok_or("an area")?;
-    assert!(rt; head == b"\x00\x00\x00\x00\x00\x00\x00\x10\x00\x00\x00\x10".as_slice());
-    let other = host.files().last().ok_or("a file")?.seen();
-    assert!(rt; other.len() == 4096);
+    assert!(rt; has_snapshot(host.files().first()));
+    assert!(rt; !has_snapshot(host.files().last()));
     Ok(())
 }
 
