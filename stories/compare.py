@@ -1,7 +1,7 @@
 #!/usr/bin/env python3
 """Plays the same moves in storyhost and in glulxe, side by side, and compares what both show.
 
-usage: compare.py STORY MOVES [--host PROGRAM] [--glulxe PROGRAM] [--keep]
+usage: compare.py STORY MOVES [--host PROGRAM] [--glulxe PROGRAM] [--but FORM] [--keep]
 
 Wants `apt-get install -y --no-install-recommends glulxe`. At each wait every window of the host's
 show is compared with its rectangle of glulxe's screen of 80 by 24: a grid cell by cell, a buffer by
@@ -29,14 +29,18 @@ REDRAW, PAGE_DOWN, TAKE_AWAY = "\x0c", "\x16", "\x15"
 TYPED = {"{Return}": "\r", "{Space}": " ", "{Escape}": "\x1b", "{Up}": "\x1bA", "{Down}": "\x1bB"}
 # What an interpreter says of itself: docs/PROFILE.md has what gestalt tells.
 OWN_NAME = re.compile(r"Interpreter ?version ?[0-9.]+ ?/ ?VM ?[0-9.]+ ?/")
+# What is passed over, and what stands in its place.
+PASSED = [(OWN_NAME, "(an interpreter)")]
 
 
 def named(text):
-    return OWN_NAME.sub("(an interpreter)", text)
+    for form, word in PASSED:
+        text = form.sub(word, text)
+    return text
 
 
 def solid(text):
-    """The characters of a text but for its white space, and for the interpreter's name."""
+    """The characters of a text but for its white space, and for what is passed over."""
     return named("".join(text.split()))
 
 
@@ -143,8 +147,11 @@ def main():
     words.add_argument("moves")
     words.add_argument("--host", default=HOST)
     words.add_argument("--glulxe", default="/usr/games/glulxe")
+    words.add_argument("--but", metavar="FORM", help="pass over what fits, in a text without white space")
     words.add_argument("--keep", action="store_true", help="keep glulxe's folder, and say where it is")
     given = words.parse_args()
+    if given.but:
+        PASSED.append((re.compile(given.but), "(passed over)"))
     folder = tempfile.mkdtemp(prefix="glulxe-")
     host, other = Host(given.story, given.host), Glulxe(given.story, folder, given.glulxe)
     bad = waits = 0

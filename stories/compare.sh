@@ -16,9 +16,13 @@ for moves in *.moves; do
         continue
     fi
     wanted=0
-    case $moves in *-differs.moves) wanted=1 ;; esac
+    but=()
+    case $moves in
+        *-differs.moves) wanted=1 ;;
+        two_rooms.moves) but=(--but 'Rolled[0-9]') ;; # random words are the interpreter's own
+    esac
     status=0
-    python3 compare.py "$story" "$moves" "$@" > compared.tmp || status=$?
+    python3 compare.py "$story" "$moves" "${but[@]}" "$@" > compared.tmp || status=$?
     if [ $status = $wanted ]; then
         tail -1 compared.tmp
     else

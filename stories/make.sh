@@ -9,5 +9,7 @@ compile() { inform6 -G -w '$OMIT_UNUSED_ROUTINES=1' "+include_path=$PWD,$library
 for name in cottage mill workbench; do
     compile "$name.inf" "$name.ulx"
 done
+# Two Rooms, which isn't compiled, and isn't kept.
+python3 two_rooms.py two_rooms.ulx
 # The Well House with the library's verbs for finding faults; it isn't kept.
 compile -D cottage.inf debug.ulx
