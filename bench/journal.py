@@ -1,9 +1,10 @@
 #!/usr/bin/env python3
 """What a host's journal costs.
 
-Accepted inputs a second of `pipe` on the Echo story, beside a loop that makes the same two writes and
-two syncs an input on the same file system. Both take turns in one run; each figure is the best of its
-rounds. Then journals of as many rows as there may be, 64 sessions of 8,192 each, with short lines and
+Accepted inputs a second of `pipe` on the Echo story, beside a loop that makes the same writes and
+syncs on the same file system: two of each an input, and, unless it leaves them out, four writes and three
+syncs more for a snapshot of the same length behind every 16th input. All take turns in one run; each
+figure is the best of its rounds. Then journals of as many rows as there may be, 64 sessions of 8,192 each, with short lines and
 with lines of 1,024 characters: how long `pipe` takes to open it, and what memory it then holds besides
 what it holds over an empty one.
 
@@ -20,6 +21,7 @@ import time
 TOP = pathlib.Path(__file__).resolve().parent.parent
 PROGRAM = TOP / "crates" / "storyhost" / "out" / "storyhost"
 ROUNDS = 5
+AREA = 4096
 
 
 def echo_story():
@@ -29,7 +31,7 @@ def echo_story():
 
 
 def served(folder, inputs):
-    """Seconds of `pipe` for so many inputs, from its start to its end."""
+    """Seconds of `pipe` for so many inputs, from its start to its end, and a snapshot's length."""
     (folder / "echo.ulx").write_bytes(echo_story())
     subprocess.run([PROGRAM, "init", folder / "d"], check=True, capture_output=True)
     lines = b"OPEN 0 k 0 7 80 24\n" + b"".join(
@@ -45,23 +47,40 @@ def served(folder, inputs):
         told.seek(0)
         if told.read().count(b"SHOW 0 ") != inputs + 1:
             raise SystemExit("bench: not every input was accepted")
-    return seconds
+    length = (folder / "d" / "snap00").read_bytes()[AREA + 12 : AREA + 16]
+    return seconds, int.from_bytes(length, "big")
 
 
-def written(folder, inputs):
-    """Seconds of the same writes and syncs alone: a row of 15 bytes and its next gate, then its gate."""
+def put(file, area):
+    """The writes and syncs of a snapshot: its gate is closed, its area written, its gate opened."""
+    os.pwrite(file, b"\0", 8)
+    os.fdatasync(file)
+    os.pwrite(file, area[:16], AREA)
+    os.pwrite(file, area[16:], AREA + 16)
+    os.fdatasync(file)
+    os.pwrite(file, b"\1", 8)
+    os.fdatasync(file)
+
+
+def written(folder, inputs, area):
+    """Seconds of the same writes and syncs alone: a row of 15 bytes and its next gate, then its gate; and
+    the areas of snapshots, where there are any."""
     file = os.open(folder / "plain", os.O_RDWR | os.O_CREAT)
+    beside = os.open(folder / "beside", os.O_RDWR | os.O_CREAT)
     row = bytes.fromhex("00 02 00 0A 00 00 00 01 00 00 00 00 67 6F 00".replace(" ", ""))
     end = 76
     began = time.perf_counter()
-    for _ in range(inputs):
+    for n in range(1, inputs + 1):
         os.pwrite(file, row, end + 1)
         os.fdatasync(file)
         os.pwrite(file, b"\1", end)
         os.fdatasync(file)
         end += len(row)
+        if area and n % 16 == 0:
+            put(beside, area)
     seconds = time.perf_counter() - began
     os.close(file)
+    os.close(beside)
     return seconds
 
 
@@ -102,15 +121,18 @@ def opened(room, journal):
 def main():
     inputs = int(sys.argv[1]) if len(sys.argv) > 1 else 1000
     above = sys.argv[2] if len(sys.argv) > 2 else None
-    plain, host = [], []
+    rows, both, host = [], [], []
     for _ in range(ROUNDS):
         with tempfile.TemporaryDirectory(prefix="journal-", dir=above) as room:
-            plain.append(written(pathlib.Path(room), inputs))
-            host.append(served(pathlib.Path(room), inputs))
+            seconds, length = served(pathlib.Path(room), inputs)
+            host.append(seconds)
+            both.append(written(pathlib.Path(room), inputs, bytes(16 + length)))
+            rows.append(written(pathlib.Path(room), inputs, b""))
     print("| Work | inputs a second |\n|---|---|")
-    print(f"| two writes and two syncs | {inputs / min(plain):,.0f} |")
+    print(f"| the writes and syncs of rows | {inputs / min(rows):,.0f} |")
+    print(f"| those of rows and of snapshots of {length} bytes | {inputs / min(both):,.0f} |")
     print(f"| `pipe` on the Echo story | {inputs / min(host):,.0f} |")
-    print(f"\nratio {min(plain) / min(host):.2f}, {inputs:,} inputs, best of {ROUNDS} rounds each")
+    print(f"\nratio {min(both) / min(host):.2f}, {inputs:,} inputs, best of {ROUNDS} rounds each")
     print("\n| Journal | MB | seconds | memory, MB | times its size |\n|---|---|---|---|---|")
     for text in (b"take all from cupboard", b"x" * 1024):
         with tempfile.TemporaryDirectory(prefix="journal-", dir=above) as room:

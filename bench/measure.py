@@ -41,9 +41,12 @@ def rows(part, folder):
     loop, turns = os.path.join(folder, "loop.ulx"), share(25_000_000)
     subprocess.run([sys.executable, os.path.join(HERE, "loop_story.py"), loop, str(turns)], check=True)
     grinds, counts, calls, hauls, walks = share(1000), share(9000), share(6000), share(4000), share(60)
+    prints, filters = share(4000), share(8000)
     return [
         Row("The Well House, its moves", "cottage.ulx", WALK * walks, len(WALK) * walks, "moves"),
         Row("The Mill, `grind`", "mill.ulx", [f"grind {grinds}"], grinds, "rounds"),
+        Row("strings to memory, `grind N prints`", "mill.ulx", [f"grind {prints} prints"], prints, "rounds"),
+        Row("strings to a filter, `grind N filters`", "mill.ulx", [f"grind {filters} filters"], filters, "rounds"),
         Row("add, bitxor, sub, jnz", loop, [], turns * 4, "steps"),
         # A round of each loop has 6, 13 or 22 instructions, as `inform6 -a` lists them.
         Row("arithmetic, `count`", "mill.ulx", [f"count {counts}"], counts * 6000, "steps"),
