@@ -1,5 +1,6 @@
 -- One answered line keeps what was said, and lists of lines add up.
-use Rattle.std.proofs.Common.{◌≡◌, ◌⊎◌, ◌≢◌, ℕ, List, [], ◌∷◌, ◌++◌, length, refl, ap, sym, ◌∙◌, subst, inl, inr, append_assoc, arith}
+use Rattle.std.proofs.Common.{◌≡◌, ◌⊎◌, ◌≢◌, ℕ, List, [], ◌∷◌, ◌++◌, length, refl, ap, sym, ◌∙◌}
+use Rattle.std.proofs.Common.{subst, inl, inr, append_assoc, arith}
 use Rattle.std.proofs.lemmas.List.{length-set, get_or-set_same, get_or-set_other}
 use Rattle.turn_cell.proofs.HistoryLemmas.{nil_right}
 use Rattle.story_run.specs.declared.story.Story.{Story}
@@ -32,15 +33,19 @@ module _ (stories : List Story) (budget : ℕ) (sound : Type 0) where
       (t : Turn) → Chain stories budget sound holders old ts mid
       → Answers stories budget sound holders mid t new
       → Chain stories budget sound holders old (ts ++ t ∷ []) new
-  chain_more holders old mid new [] t c a =
-      (new, subst (λ (x : List (List Entry)). Answers stories budget sound holders x t new) c a, refl)
+  chain_more holders old mid new [] t c a = (
+    new,
+    subst (λ (x : List (List Entry)). Answers stories budget sound holders x t new) c a,
+    refl,
+  )
   chain_more holders old mid new (x ∷ xs) t c a =
       (c.0, c.1, chain_more holders c.0 mid new xs t c.2 a)
 
   -- lists of lines add up
   pub chain_append : (holders : List Holder) (old mid new : List (List Entry))
       (ts us : List Turn) → Chain stories budget sound holders old ts mid
-      → Chain stories budget sound holders mid us new → Chain stories budget sound holders old (ts ++ us) new
+      → Chain stories budget sound holders mid us new
+      → Chain stories budget sound holders old (ts ++ us) new
   chain_append holders old mid new [] us c d =
       subst (λ (x : List (List Entry)). Chain stories budget sound holders x us new) c d
   chain_append holders old mid new (x ∷ xs) us c d =
@@ -48,7 +53,8 @@ module _ (stories : List Story) (budget : ℕ) (sound : Type 0) where
 
   turn_grows : (h : Holder) (old : List Entry) (t : Turn) (new : List Entry)
       → TurnsIn stories budget sound h old t new → (rest : List Entry) × (new ≡ old ++ rest)
-  turn_grows h old t new i = of (turn_in_adds stories budget i.before t.world h.number t.line t.outcome)
+  turn_grows h old t new i =
+      of (turn_in_adds stories budget i.before t.world h.number t.line t.outcome)
     where
       of : AddsTo i.before h.number (turned_on stories budget i.before h.number t).history
           → (rest : List Entry) × (new ≡ old ++ rest)
@@ -62,7 +68,8 @@ module _ (stories : List Story) (budget : ℕ) (sound : Type 0) where
 
   -- what is seen of the turn's session, and of others
   pub seen_there : (holders : List Holder) (old : List (List Entry)) (t : Turn)
-      (new : List (List Entry)) → length old ≡ 64 → (o : TurnsOn stories budget sound holders old t new)
+      (new : List (List Entry)) → length old ≡ 64
+      → (o : TurnsOn stories budget sound holders old t new)
       → seen_at new t.mark.session ≡ o.after
   seen_there holders old t new wide o =
       ap (λ (x : List (List Entry)). seen_at x t.mark.session) o.seen

@@ -1,5 +1,6 @@
 -- The work of two parts of a crew is that of the whole.
-use Rattle.std.proofs.Common.{◌≡◌, ◌⊎◌, List, [], ◌∷◌, ◌++◌, length, set, refl, sym, subst, inl, inr, arith, Option, Some, None, get_or}
+use Rattle.std.proofs.Common.{◌≡◌, ◌⊎◌, List, [], ◌∷◌, ◌++◌, length, set, refl, sym, subst, inl}
+use Rattle.std.proofs.Common.{inr, arith, Option, Some, None, get_or}
 use Rattle.turn_cell.specs.History.{Each}
 use Rattle.turn_cell.proofs.HistoryLemmas.{each_append}
 use Rattle.host_serve.specs.Crews.{AllDid, EachDid, Has, IsOfTwo, OfBoth, OfSome}

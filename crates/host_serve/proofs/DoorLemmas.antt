@@ -1,5 +1,6 @@
 -- Links that one worker serves, one after the other.
-use Rattle.std.proofs.Common.{◌≡◌, ℕ, Bool, true, false, ◌^◌, ◌≤◌, List, [], ◌∷◌, ◌++◌, length, refl, ap, sym, ◌∙◌, subst, inl, inr, append_assoc, arith}
+use Rattle.std.proofs.Common.{◌≡◌, ℕ, Bool, true, false, ◌^◌, ◌≤◌, List, [], ◌∷◌, ◌++◌, length}
+use Rattle.std.proofs.Common.{refl, ap, sym, ◌∙◌, subst, inl, inr, append_assoc, arith}
 use Rattle.std.specs.Prelude.{if◌then◌else◌, ◌==◌}
 use Rattle.turn_cell.proofs.HistoryLemmas.{each_append, nil_right}
 use Rattle.line_talk.specs.Causes.{Rose}
@@ -9,10 +10,12 @@ use Rattle.host_serve.specs.declared.host.Host.{Host}
 use Rattle.host_serve.specs.declared.host.Passes.{Passes}
 use Rattle.host_serve.specs.declared.mark.Mark.{Mark}
 use Rattle.host_serve.specs.declared.served.Served.{Served}
-use Rattle.host_serve.specs.declared.served.Served.TheVariants.{End, ReadFault, WriteFault, LineLimit, NoMemory}
+use Rattle.host_serve.specs.declared.served.Served.TheVariants.{End, ReadFault, WriteFault}
+use Rattle.host_serve.specs.declared.served.Served.TheVariants.{LineLimit, NoMemory}
 use Rattle.host_serve.specs.declared.worked.Worked.{Worked}
 use Rattle.host_serve.specs.Chain.{Chain}
-use Rattle.host_serve.specs.Doors.{IsEndOf, IsFresh, IsVisit, MayHangUp, Visit, Visits, Works, turns_of}
+use Rattle.host_serve.specs.Doors.{IsEndOf, IsFresh, IsVisit, MayHangUp, Visit, Visits, Works}
+use Rattle.host_serve.specs.Doors.{turns_of}
 use Rattle.host_serve.specs.Holders.{Holder, holders, seens}
 use Rattle.host_serve.specs.Hosts.{AreOf}
 use Rattle.host_serve.specs.Serves.{Turn}
@@ -94,7 +97,8 @@ module _ {Conn Lent D : Type 0} (source : Conn → SourceState) (sink : Conn →
   -- one more link
   pub visits_more : (old mid new : Passes D) → Visits source sink lent Gives sound host old mid
       → (visit : Visit Conn) × IsVisit source sink lent Gives visit
-      × Chain host.stories.now host.budget (sound host) (holders mid.desks.items) (seens mid.desks.items)
+      × Chain host.stories.now host.budget (sound host) (holders mid.desks.items)
+      (seens mid.desks.items)
       visit.turns (seens new.desks.items)
       → AreOf host new → holders new.desks.items ≡ holders mid.desks.items
       → Visits source sink lent Gives sound host old new

@@ -1,5 +1,7 @@
 -- The desks of a host that ends, and their entries of the journal.
-use Rattle.std.proofs.Common.{◌≡◌, ◌⊎◌, ℕ, zero, suc, ◌+◌, ◌<◌, ◌≤◌, Bool, List, [], ◌∷◌, ◌++◌, length, map, get_or, set, refl, ap, sym, ◌∙◌, subst, inl, inr, ⊎_elim, arith, append_assoc, Option, Some, None}
+use Rattle.std.proofs.Common.{◌≡◌, ◌⊎◌, ℕ, zero, suc, ◌+◌, ◌<◌, ◌≤◌, Bool, List, [], ◌∷◌, ◌++◌}
+use Rattle.std.proofs.Common.{length, map, get_or, set, refl, ap, sym, ◌∙◌, subst, inl, inr, ⊎_elim}
+use Rattle.std.proofs.Common.{arith, append_assoc, Option, Some, None}
 use Rattle.std.specs.Prelude.{slice_get}
 use Rattle.std.specs.List.{AllZip}
 use Rattle.std.proofs.lemmas.List.{get_or-map, get_or-set_other}
@@ -7,7 +9,8 @@ use Rattle.turn_cell.specs.History.{Continues, IsAmong, IsForeign}
 use Rattle.turn_cell.specs.declared.pass.Pass.{Pass}
 use Rattle.turn_cell.specs.Passes.{holds, seen, tag_of}
 use Rattle.turn_cell.specs.Views.{tag_in}
-use Rattle.turn_cell.proofs.HistoryLemmas.{among_first, among_second, continues_all, each_append, each_map, nil_right}
+use Rattle.turn_cell.proofs.HistoryLemmas.{among_first, among_second, continues_all, each_append}
+use Rattle.turn_cell.proofs.HistoryLemmas.{each_map, nil_right}
 use Rattle.gate_journal.specs.Log.{Log, number_of, rows_of}
 use Rattle.disk_model.specs.Disk.{EachImage}
 use Rattle.gate_journal.specs.Rows.{IsJournal, commands_of}
@@ -29,26 +32,13 @@ use Rattle.host_serve.specs.declared.host.Host.{Host}
 use Rattle.host_serve.specs.declared.host.Passes.{Passes}
 use Rattle.host_serve.specs.Ending.{AreAgreedDisks, EndsAt, EndsWith, GivesBack, IsAgreedDisk}
 use Rattle.host_serve.specs.Gathering.{BringsIn, Gathers, Heard, KeepsRoot, Returns}
-use Rattle.host_serve.specs.Holders.{Holder, IsAloneHolder, holder_at, holder_of, holders, seen_at, seens}
-use Rattle.host_serve.specs.Hosts.{AreOf, IsHost, IsSound, cell_id, rows_at_opening, stores_of, tag_at}
-use Rattle.host_serve.proofs.ListLemmas.{length_more, same_some}
+use Rattle.host_serve.specs.Holders.{Holder, IsAloneHolder, holder_at, holder_of, holders, seen_at}
+use Rattle.host_serve.specs.Holders.{seens}
+use Rattle.host_serve.specs.Hosts.{AreOf, IsHost, IsSound, cell_id, rows_at_opening, stores_of}
+use Rattle.host_serve.specs.Hosts.{tag_at}
+use Rattle.host_serve.proofs.ListLemmas.{goes_by, goes_on, length_more, same_some}
 use Rattle.host_serve.proofs.PassLemmas.{holder_there, seen_of_pass, tag_of_store}
 use Rattle.host_serve.proofs.StoreLemmas.{get_first, get_last, get_within, get_below, zip_of}
-
-module _ {A : Type 0} where
-  -- what goes on from what goes on
-  pub goes_on : (P : A → Type 0) (a b c : List A) → Continues P b a → Continues P c b
-      → Continues P c a
-  goes_on P a b c s t = (
-    s.0 ++ t.0,
-    t.1 ∙ (ap (λ (l : List A). l ++ t.0) s.1
-        ∙ append_assoc a s.0 t.0),
-    each_append P s.0 t.0 s.2 t.2,
-  )
-
-  pub goes_by : (P Q : A → Type 0) (a b : List A) → ((x : A) → P x → Q x) → Continues P b a
-      → Continues Q b a
-  goes_by P Q a b f s = (s.0, s.1, each_map P Q s.0 f s.2)
 
 -- an entry of none of these numbers is of none of some of them
 fewer : (e : JournalEntry) (n : ℕ) (numbers : List ℕ) → IsAmong n numbers

@@ -1,5 +1,6 @@
 -- What a turn replies, by what it meets.
-use Rattle.std.proofs.Common.{◌≡◌, ◌⊎◌, ℕ, Option, Some, None, List, [], ◌∷◌, ◌++◌, length, refl, ap, sym, ◌∙◌, inl, inr, arith}
+use Rattle.std.proofs.Common.{◌≡◌, ◌⊎◌, ℕ, Option, Some, None, List, [], ◌∷◌, ◌++◌, length, refl}
+use Rattle.std.proofs.Common.{ap, sym, ◌∙◌, inl, inr, arith}
 use Rattle.std.specs.Prelude.{slice_get}
 use Rattle.gate_journal.specs.declared.command.Command.{Command}
 use Rattle.line_words.specs.declared.reply.No.TheVariants as no
@@ -9,10 +10,12 @@ use Rattle.story_run.specs.declared.story.Story.{Story}
 use Rattle.session_core.specs.declared.entry.Entry.{Entry}
 use Rattle.session_core.specs.declared.entry.Entry.TheVariants.{Faulted}
 use Rattle.session_core.specs.declared.entry.Outcome.{Outcome}
-use Rattle.session_core.specs.declared.entry.Outcome.TheVariants.{Answered, DiskFailed, OutOfMemory, Forgotten}
+use Rattle.session_core.specs.declared.entry.Outcome.TheVariants.{Answered, DiskFailed, OutOfMemory}
+use Rattle.session_core.specs.declared.entry.Outcome.TheVariants.{Forgotten}
 use Rattle.session_core.specs.Turning.{MayMeet, turn_in, turn_met}
 use Rattle.host_serve.specs.Holders.{Holder, holder_at, seen_at}
-use Rattle.host_serve.specs.Serves.{Turn, Adds, AddsNothing, IsExact, MayMeetIn, decided, marked, turned}
+use Rattle.host_serve.specs.Serves.{Turn, Adds, AddsNothing, IsExact, MayMeetIn, decided, marked}
+use Rattle.host_serve.specs.Serves.{turned}
 use Rattle.host_serve.proofs.ListLemmas.{length_more, same_last}
 
 -- the reply that is decided, or want of memory, or a fault that is added

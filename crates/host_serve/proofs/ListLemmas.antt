@@ -1,8 +1,11 @@
 -- Lists that go on, and entries at their places.
-use Rattle.std.proofs.Common.{◌≡◌, ◌∙◌, ◌⊎◌, ◌≢◌, ℕ, zero, suc, ◌+◌, ◌<◌, ◌≤◌, Option, Some, None, List, [], ◌∷◌, ◌++◌, length, take, set, get_or, refl, ap, subst, inl, inr, ⊎_elim, arith}
+use Rattle.std.proofs.Common.{◌≡◌, ◌∙◌, ◌⊎◌, ◌≢◌, ℕ, zero, suc, ◌+◌, ◌<◌, ◌≤◌, Option, Some, None}
+use Rattle.std.proofs.Common.{List, [], ◌∷◌, ◌++◌, length, take, set, get_or, refl, ap, subst, inl}
+use Rattle.std.proofs.Common.{inr, ⊎_elim, arith, append_assoc}
 use Rattle.std.specs.Prelude.{slice_get}
 use Rattle.std.proofs.lemmas.Bool.{cases_lt}
-use Rattle.turn_cell.specs.History.{Each}
+use Rattle.turn_cell.specs.History.{Continues, Each}
+use Rattle.turn_cell.proofs.HistoryLemmas.{each_append, each_map}
 
 pub eq_or_ne : (m n : ℕ) → (m ≡ n) ⊎ (m ≢ n)
 eq_or_ne m n = ⊎_elim
@@ -96,3 +99,20 @@ module _ {A : Type 0} where
       → take (i + 1) xs ≡ take i xs ++ x ∷ []
   take_more xs i x e = let next : i + 1 ≡ suc i = omega arith in
       ap (λ (n : ℕ). take n xs) next ∙ take_next xs i x e
+
+module _ {A : Type 0} where
+  -- what goes on from what goes on
+  pub goes_on : (P : A → Type 0) (a b c : List A) → Continues P b a → Continues P c b
+      → Continues P c a
+  goes_on P a b c s t = (
+    s.0 ++ t.0,
+    t.1 ∙ (ap (λ (l : List A). l ++ t.0) s.1 ∙ append_assoc a s.0 t.0),
+    each_append P s.0 t.0 s.2 t.2,
+  )
+
+  pub goes_by : (P Q : A → Type 0) (a b : List A) → ((x : A) → P x → Q x) → Continues P b a
+      → Continues Q b a
+  goes_by P Q a b f s = (s.0, s.1, each_map P Q s.0 f s.2)
+
+  pub take_none : (n : ℕ) → n ≡ 0 → take {A = A} n [] ≡ []
+  take_none n e = ap (λ (k : ℕ). take {A = A} k []) e

@@ -1,5 +1,6 @@
 -- Lists whose first items are another list's, one more or one less.
-use Rattle.std.proofs.Common.{◌≡◌, ℕ, zero, suc, ◌+◌, ◌<◌, List, [], ◌∷◌, ◌++◌, length, map, take, drop, get_or, set, ap, sym, ◌∙◌, refl, arith}
+use Rattle.std.proofs.Common.{◌≡◌, ℕ, zero, suc, ◌+◌, ◌<◌, List, [], ◌∷◌, ◌++◌, length, map, take}
+use Rattle.std.proofs.Common.{drop, get_or, set, ap, sym, ◌∙◌, refl, arith}
 use Rattle.std.proofs.lemmas.List.{map-append}
 use Rattle.turn_cell.specs.History.{Each}
 use Rattle.host_serve.proofs.ListLemmas.{length_more}

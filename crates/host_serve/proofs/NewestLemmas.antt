@@ -1,5 +1,6 @@
 -- The passes that were split off last: one more, one less, and all.
-use Rattle.std.proofs.Common.{◌≡◌, ◌≢◌, ℕ, ◌+◌, ◌<◌, List, [], ◌∷◌, ◌++◌, length, map, take, get_or, set, ap, sym, ◌∙◌, refl, subst, arith, Option, None}
+use Rattle.std.proofs.Common.{◌≡◌, ◌≢◌, ℕ, ◌+◌, ◌<◌, List, [], ◌∷◌, ◌++◌, length, map, take, get_or}
+use Rattle.std.proofs.Common.{set, ap, sym, ◌∙◌, refl, subst, arith, Option, None}
 use Rattle.std.proofs.lemmas.List.{length-map, map-set, get_or-map, take_all}
 use Rattle.turn_cell.specs.declared.cell.Cell.{Cell}
 use Rattle.turn_cell.specs.declared.pass.Pass.{Pass}
@@ -59,7 +60,8 @@ module _ {T E : Type 0} (cells : List (Cell T E)) where
   pub newest_more : (n : ℕ) (now new : List (Pass T E)) (c : Cell T E) (p p' q : Pass T E)
       → AreNewest n cells now new → length now ≡ length cells → n < length cells
       → c ≡ get_or cells n c → holder_of p' ≡ after_split (holder_of p) → seen p' ≡ seen p
-      → sample p' ≡ sample p → IsSplitFrom c p q → AreNewest (n + 1) cells (set now n p') (new ++ q ∷ [])
+      → sample p' ≡ sample p → IsSplitFrom c p q
+      → AreNewest (n + 1) cells (set now n p') (new ++ q ∷ [])
   newest_more n now new c p p' q a long low at_c held heard like split =
       let still = newest_still n now new p' a in
       let now' = set now n p' in
@@ -148,7 +150,9 @@ module _ {T E : Type 0} (cells : List (Cell T E)) where
   newest_all tag tags n now new a are long =
       let many = as_many tag tags cells now are in (
         record {
-          same = sym (a.same ∙ take_all n (map cell_id cells) (let l = length-map cells cell_id in omega arith));
+          same =
+              sym (a.same ∙ take_all n (map cell_id cells)
+              (let l = length-map cells cell_id in omega arith));
           outside = a.outside;
           tagged = tags_same tag new now (a.sampled
               ∙ take_all n (map sample now) (let l = length-map now sample in omega arith))

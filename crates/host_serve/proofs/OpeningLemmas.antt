@@ -1,5 +1,6 @@
 -- The desks of a host as it is opened.
-use Rattle.std.proofs.Common.{◌≡◌, ℕ, ◌+◌, ◌≤◌, List, [], ◌∷◌, ◌++◌, length, map, refl, ap, sym, ◌∙◌, subst, arith, append_assoc, Some, vec_capacity}
+use Rattle.std.proofs.Common.{◌≡◌, ℕ, ◌+◌, ◌≤◌, List, [], ◌∷◌, ◌++◌, length, map, refl, ap, sym}
+use Rattle.std.proofs.Common.{◌∙◌, subst, arith, append_assoc, Some, vec_capacity}
 use Rattle.std.proofs.lemmas.List.{length-map, map-append}
 use Rattle.atomic_table.specs.Seated.{TableId}
 use Rattle.turn_cell.specs.declared.cell.Cell.{Cell}
@@ -20,7 +21,8 @@ use Rattle.snap_store.specs.Store.{Snapshots}
 use Rattle.host_serve.specs.declared.host.Host.{Host}
 use Rattle.host_serve.specs.declared.host.Passes.{Passes}
 use Rattle.host_serve.specs.Holders.{holder_of, holders, seens}
-use Rattle.host_serve.specs.Hosts.{ArePasses, cell_id, pass_id, rows_at_opening, sessions_below, stores_of, tag_at, tags_from}
+use Rattle.host_serve.specs.Hosts.{ArePasses, cell_id, pass_id, rows_at_opening, sessions_below}
+use Rattle.host_serve.specs.Hosts.{stores_of, tag_at, tags_from}
 use Rattle.host_serve.specs.Opening.{AreOpenedDesks, IsOpened, IsOpenedDesk, lone}
 use Rattle.host_serve.proofs.ListLemmas.{length_more}
 use Rattle.host_serve.proofs.PassLemmas.{sessions_more, tags_more}
@@ -47,26 +49,28 @@ module _ {D : Type 0} (stories : List Story) (budget : ℕ) (journal : TableId) 
         → IsOpenedDesk stories budget journal rows (length stores) store c p
         → AreOpenedDesks stories budget journal rows (stores ++ store ∷ []) (cells ++ c ∷ [])
         (passes ++ p ∷ [])
-    desks_more stores store cells passes c p are is = let long = length_more stores store in record {
-      many = length_more cells c ∙ (ap (λ (k : ℕ). k + 1) are.many ∙ sym long);
-      each = record {
-        same = map-append cell_id cells (c ∷ []) ∙ ((λ i. are.each.same i ++ sym is.of i ∷ [])
-            ∙ sym (map-append pass_id passes (p ∷ [])));
-        outside = each_append IsOutside passes (p ∷ []) are.each.outside (is.outside, tt);
-        tagged = map-append (tag_of desk_tag) passes (p ∷ [])
-            ∙ ((λ i. are.each.tagged i ++ is.tagged i ∷ [])
-            ∙ (ap (λ (k : ℕ). tags_from stories budget journal rows 0 stores
-            ++ Some (tag_at stories budget journal rows k store) ∷ []) (from_none (length stores))
-            ∙ sym (tags_more stories budget journal rows 0 stores store)));
-      };
-      roots = map-append holder_of passes (p ∷ [])
-          ∙ (map_more (λ (s : ℕ). lone) (length stores) (holders passes) (holder_of p) are.roots
-          is.root ∙ ap (λ (k : ℕ). map (λ (s : ℕ). lone) (sessions_below k)) (sym long));
-      histories = map-append seen passes (p ∷ [])
-          ∙ (map_more (history_in (kept rows)) (length stores) (seens passes) (seen p)
-          are.histories is.history
-          ∙ ap (λ (k : ℕ). map (history_in (kept rows)) (sessions_below k)) (sym long));
-    }
+    desks_more stores store cells passes c p are is = let long =
+        length_more stores store in record {
+          many = length_more cells c ∙ (ap (λ (k : ℕ). k + 1) are.many ∙ sym long);
+          each = record {
+            same = map-append cell_id cells (c ∷ []) ∙ ((λ i. are.each.same i ++ sym is.of i ∷ [])
+                ∙ sym (map-append pass_id passes (p ∷ [])));
+            outside = each_append IsOutside passes (p ∷ []) are.each.outside (is.outside, tt);
+            tagged = map-append (tag_of desk_tag) passes (p ∷ [])
+                ∙ ((λ i. are.each.tagged i ++ is.tagged i ∷ [])
+                ∙ (ap (λ (k : ℕ). tags_from stories budget journal rows 0 stores
+                ++ Some (tag_at stories budget journal rows k store) ∷ [])
+                (from_none (length stores))
+                ∙ sym (tags_more stories budget journal rows 0 stores store)));
+          };
+          roots = map-append holder_of passes (p ∷ [])
+              ∙ (map_more (λ (s : ℕ). lone) (length stores) (holders passes) (holder_of p) are.roots
+              is.root ∙ ap (λ (k : ℕ). map (λ (s : ℕ). lone) (sessions_below k)) (sym long));
+          histories = map-append seen passes (p ∷ [])
+              ∙ (map_more (history_in (kept rows)) (length stores) (seens passes) (seen p)
+              are.histories is.history
+              ∙ ap (λ (k : ℕ). map (history_in (kept rows)) (sessions_below k)) (sym long));
+        }
 
     pub desks_none : (cells : List (Cell (SharedState D) Entry))
         (passes : List (Pass (SharedState D) Entry)) → cells ≡ [] → passes ≡ []
@@ -106,13 +110,14 @@ module _ {D : Type 0} (stories : List Story) (budget : ℕ) (journal : TableId) 
         → (opened : List (Snapshots D)) × (all ≡ opened ++ rest)
         × AreOpenedDesks stories budget journal rows opened cells' passes'
         × (made root ≡ length opened)
-    stores_next all done rest store cells cells' passes passes' c p s root is more more' at are its = (
-      done ++ store ∷ [],
-      is ∙ sym (append_assoc done (store ∷ []) rest),
-      desks_pushed done store cells cells' passes passes' c p more more' are
-          (subst (λ (n : ℕ). IsOpenedDesk stories budget journal rows n store c p) at its.0),
-      its.1 ∙ (ap (λ (n : ℕ). n + 1) at ∙ sym (length_more done store)),
-    )
+    stores_next all done rest store cells cells' passes passes' c p s root is more more' at are
+        its = (
+          done ++ store ∷ [],
+          is ∙ sym (append_assoc done (store ∷ []) rest),
+          desks_pushed done store cells cells' passes passes' c p more more' are
+              (subst (λ (n : ℕ). IsOpenedDesk stories budget journal rows n store c p) at its.0),
+          its.1 ∙ (ap (λ (n : ℕ). n + 1) at ∙ sym (length_more done store)),
+        )
 
 module _ {D : Type 0} where
   -- the host of a journal that was just opened, and of these stores
@@ -128,7 +133,8 @@ module _ {D : Type 0} where
       → (number host.root ≡ 0) × (holds host.root ≡ 0 ∷ [])
       → tag_of (λ (j : Log D). j.opening) host.root ≡ Some opening → seen host.root ≡ kept rows
       → IsOpened stories budget rows opening host passes
-  opened_host stories budget copies rows stores opening host passes within is_stories is_budget same is_stores many room had root own tagged begins =
+  opened_host stories budget copies rows stores opening host passes within is_stories is_budget same
+      is_stores many room had root own tagged begins =
       let are = subst (λ (l : List Row). AreOpenedDesks stories budget (cell_id host.journal) l
       stores host.desks.items passes.desks.items) same had in
       let is_rows : rows_at_opening host ≡ rows =
@@ -162,5 +168,6 @@ module _ {D : Type 0} where
       → log.opening ≡ record { disk = disk; found = length log.entries }
       → log.opening ≡ record { disk = disk; found = length (rows_of log.entries) }
   opening_on disk log fresh is = is
-      ∙ ap (λ (n : ℕ). record { disk = disk; found = n }) (ap (λ (l : List JournalEntry). length l) fresh
+      ∙ ap (λ (n : ℕ). record { disk = disk; found = n })
+      (ap (λ (l : List JournalEntry). length l) fresh
       ∙ length-map (rows_of log.entries) Kept)

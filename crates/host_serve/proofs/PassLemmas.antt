@@ -1,5 +1,6 @@
 -- The passes of all sessions, and one of them in the place of another.
-use Rattle.std.proofs.Common.{◌≡◌, ℕ, zero, suc, ◌+◌, ◌<◌, ◌≤◌, List, [], ◌∷◌, ◌++◌, length, get_or, set, ap, sym, ◌∙◌, refl, subst, inl, arith, Option, Some, None}
+use Rattle.std.proofs.Common.{◌≡◌, ℕ, zero, suc, ◌+◌, ◌<◌, ◌≤◌, List, [], ◌∷◌, ◌++◌, length, get_or}
+use Rattle.std.proofs.Common.{set, ap, sym, ◌∙◌, refl, subst, inl, arith, Option, Some, None}
 use Rattle.std.specs.Prelude.{slice_get}
 use Rattle.std.specs.List.{range_with_len}
 use Rattle.std.proofs.lemmas.List.{length-map, map-set, get_or-map}
@@ -17,7 +18,8 @@ use Rattle.session_core.specs.Hosts.{session_on}
 use Rattle.session_desk.specs.Shared.{DeskTag}
 use Rattle.host_serve.specs.Holders.{Holder, nobody, holder_of, holder_at, seen_at, holders, seens}
 use Rattle.host_serve.specs.declared.host.Host.{Host}
-use Rattle.host_serve.specs.Hosts.{ArePasses, IsTagOf, cell_id, pass_id, rows_at_opening, sessions_below, stores_of, tag_at, tags_from, tags_in}
+use Rattle.host_serve.specs.Hosts.{ArePasses, IsTagOf, cell_id, pass_id, rows_at_opening}
+use Rattle.host_serve.specs.Hosts.{sessions_below, stores_of, tag_at, tags_from, tags_in}
 use Rattle.host_serve.specs.Serves.{Turn}
 use Rattle.host_serve.specs.Chain.{TurnsIn, Answers}
 use Rattle.host_serve.proofs.ListLemmas.{each_at, each_set, same_some}
@@ -97,11 +99,13 @@ module _ {D : Type 0} (stories : List Story) (budget : ℕ) (journal : TableId) 
         → tags_from stories budget journal rows first (stores ++ store ∷ [])
         ≡ tags_from stories budget journal rows first stores
         ++ Some (tag_at stories budget journal rows (first + length stores) store) ∷ []
-    tags_more first [] store = ap (λ (k : ℕ). Some (tag_at stories budget journal rows k store) ∷ [])
+    tags_more first [] store =
+        ap (λ (k : ℕ). Some (tag_at stories budget journal rows k store) ∷ [])
         (plus_none first)
     tags_more first (x ∷ stores) store =
         let next : (first + 1) + length stores ≡ first + suc (length stores) = omega arith in
-        ap (λ (l : List (Option (DeskTag D))). Some (tag_at stories budget journal rows first x) ∷ l)
+        ap (λ (l : List (Option (DeskTag D))). Some
+        (tag_at stories budget journal rows first x) ∷ l)
         (tags_more (first + 1) stores store
         ∙ ap (λ (k : ℕ). tags_from stories budget journal rows (first + 1) stores
         ++ Some (tag_at stories budget journal rows k store) ∷ []) next)

@@ -1,5 +1,6 @@
 -- Who holds the roots, of which the first ones have become others.
-use Rattle.std.proofs.Common.{◌≡◌, ℕ, zero, suc, ◌+◌, ◌<◌, ◌≤◌, List, [], ◌∷◌, ◌++◌, length, map, take, drop, get_or, set, ap, sym, ◌∙◌, refl, arith}
+use Rattle.std.proofs.Common.{◌≡◌, ℕ, zero, suc, ◌+◌, ◌<◌, ◌≤◌, List, [], ◌∷◌, ◌++◌, length, map}
+use Rattle.std.proofs.Common.{take, drop, get_or, set, ap, sym, ◌∙◌, refl, arith}
 use Rattle.std.proofs.lemmas.List.{length-map, map-set, get_or-map, take_all, drop_all}
 use Rattle.turn_cell.specs.declared.pass.Pass.{Pass}
 use Rattle.host_serve.specs.Holders.{Holder, holder_of, holders, nobody}
@@ -7,7 +8,8 @@ use Rattle.host_serve.specs.Hosts.{sessions_below}
 use Rattle.host_serve.specs.Opening.{lone, roots}
 use Rattle.host_serve.specs.Splitting.{AreRoots, first_by}
 use Rattle.host_serve.proofs.ListLemmas.{each_at}
-use Rattle.host_serve.proofs.MixLemmas.{append_none, mix_down, mix_first, mix_long, mix_rest, mix_up}
+use Rattle.host_serve.proofs.MixLemmas.{append_none, mix_down, mix_first, mix_long, mix_rest}
+use Rattle.host_serve.proofs.MixLemmas.{mix_up}
 
 -- what holders become, one after the other
 pub first_long : (f : Holder → Holder) (n : ℕ) (hs : List Holder)

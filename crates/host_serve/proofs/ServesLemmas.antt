@@ -1,6 +1,7 @@
 -- From turns one after the other to what is said of all of them.
-use Rattle.std.proofs.Common.{◌≡◌, ◌⊎◌, ◌≢◌, ℕ, zero, suc, ◌+◌, ◌<◌, ◌≤◌, Some, None, List, [], ◌∷◌, ◌++◌, length, set, take, refl, ap, sym, ◌∙◌, subst, inl, inr, ⊎_elim, append_assoc, arith}
-use Rattle.std.specs.Prelude.{slice_get}
+use Rattle.std.proofs.Common.{◌≡◌, ◌⊎◌, ◌≢◌, ℕ, zero, suc, ◌+◌, ◌<◌, ◌≤◌, Some, None, List, [], ◌∷◌}
+use Rattle.std.proofs.Common.{◌++◌, length, set, take, refl, ap, sym, ◌∙◌, subst, inl, inr, ⊎_elim}
+use Rattle.std.proofs.Common.{append_assoc, arith, slice_get}
 use Rattle.std.proofs.lemmas.Bool.{cases_lt}
 use Rattle.std.proofs.Math.Seq.{take-append_seam}
 use Rattle.std.proofs.Math.ListN.{get_or-eq_default}
@@ -10,15 +11,17 @@ use Rattle.session_core.specs.declared.entry.Entry.{Entry}
 use Rattle.session_core.specs.Turning.{entry_by, AddsTo, Turned}
 use Rattle.session_core.proofs.TurningLemmas.{turn_in_adds}
 use Rattle.host_serve.specs.Holders.{Holder, nobody, IsAloneHolder, holder_at, seen_at}
-use Rattle.host_serve.specs.Serves.{Turn, IsTurn, IsOfItsSession, IsOfNoSession, MayMeetIn, marked, own_world, turned_on, turned, Adds, AddsNothing, AddedOnce, Folds, IsExact, Serves}
+use Rattle.host_serve.specs.Serves.{Turn, IsTurn, IsOfItsSession, IsOfNoSession, MayMeetIn, marked}
+use Rattle.host_serve.specs.Serves.{own_world, turned_on, turned, Adds, AddsNothing, AddedOnce}
+use Rattle.host_serve.specs.Serves.{Folds, IsExact, Serves}
 use Rattle.host_serve.specs.Chain.{TurnsIn, Answers, Chain}
 use Rattle.host_serve.proofs.TurnLemmas.{none_adds}
 use Rattle.host_serve.proofs.ExactLemmas.{exact}
-use Rattle.host_serve.proofs.ListLemmas.{eq_or_ne, same_some, none_some, each_there, there_after, nothing_past, set_past, length_more, length_both}
-use Rattle.host_serve.proofs.ChainLemmas.{Grows, seen_there, seen_elsewhere, answer_wide, answer_grows, chain_wide, chain_grows}
-
-take_none : (n : ℕ) → n ≡ 0 → take {A = Entry} n [] ≡ []
-take_none n e = ap (λ (k : ℕ). take {A = Entry} k []) e
+use Rattle.host_serve.proofs.ListLemmas.{eq_or_ne, same_some, none_some, each_there, there_after}
+use Rattle.host_serve.proofs.ListLemmas.{nothing_past, set_past, length_more, length_both}
+use Rattle.host_serve.proofs.ListLemmas.{take_none}
+use Rattle.host_serve.proofs.ChainLemmas.{Grows, seen_there, seen_elsewhere, answer_wide}
+use Rattle.host_serve.proofs.ChainLemmas.{answer_grows, chain_wide, chain_grows}
 
 empty_there : (seens : List (List Entry)) (s : ℕ) → length seens ≡ 64 → s ≡ 64
     → seen_at seens s ≡ []
@@ -191,7 +194,8 @@ module _ (stories : List Story) (budget : ℕ) (sound : Type 0) where
         → (c : Chain stories budget sound holders old (t ∷ ts) new) → StandsAt old t c.0 new
     first_stands old t ts new wide c =
         let wide' = answer_wide stories budget sound holders old t c.0 wide c.1 in
-        head_stands old t c.0 new wide (chain_wide stories budget sound holders c.0 ts new wide' c.2) c.1
+        head_stands old t c.0 new wide
+        (chain_wide stories budget sound holders c.0 ts new wide' c.2) c.1
         (chain_grows stories budget sound holders c.0 ts new wide' c.2)
 
     session_of_turn : (old : List (List Entry)) (t : Turn) (mid : List (List Entry))
@@ -259,7 +263,8 @@ module _ (stories : List Story) (budget : ℕ) (sound : Type 0) where
         i j t u is at (omega arith) same
 
     once_all : (old : List (List Entry)) (ts : List Turn) (new : List (List Entry))
-        → length old ≡ 64 → Chain stories budget sound holders old ts new → (s place : ℕ) (e : Entry)
+        → length old ≡ 64 → Chain stories budget sound holders old ts new
+        → (s place : ℕ) (e : Entry)
         → length (seen_at old s) ≤ place → slice_get (seen_at new s) place ≡ Some e
         → IsAmong (entry_by e) (holder_at holders s).holds
         → AddedOnce stories budget holders new ts s place
@@ -267,7 +272,8 @@ module _ (stories : List Story) (budget : ℕ) (sound : Type 0) where
         absurd (nothing_past (seen_at new s) place e
         (subst (λ (x : List (List Entry)). length (seen_at x s) ≤ place) (sym c) low) is)
     once_all old (x ∷ xs) new wide c s place e low is held =
-        of (λ past. once_all c.0 xs new (answer_wide stories budget sound holders old x c.0 wide c.1) c.2
+        of (λ past. once_all c.0 xs new
+        (answer_wide stories budget sound holders old x c.0 wide c.1) c.2
         s place e past is held) (cases_lt place (length (seen_at c.0 s)))
       where
         wide' : length c.0 ≡ 64
@@ -329,7 +335,8 @@ module _ (stories : List Story) (budget : ℕ) (sound : Type 0) where
         of more (inr past) = later past (more past)
         of more (inl high) = ⊎_elim (λ (same : s ≡ x.mark.session). here high same)
             (λ (other : s ≢ x.mark.session). let a = ap (λ (l : List Entry). length l)
-            (seen_elsewhere stories budget sound holders old x c.0 s other c.1) in absurd (omega arith))
+            (seen_elsewhere stories budget sound holders old x c.0 s other c.1) in
+            absurd (omega arith))
             (eq_or_ne s x.mark.session)
 
     abbrev AllAlone : Type 0
@@ -342,7 +349,8 @@ module _ (stories : List Story) (budget : ℕ) (sound : Type 0) where
     folds_all old (x ∷ xs) new wide c alone = of (folds_all c.0 xs new
         (answer_wide stories budget sound holders old x c.0 wide c.1) c.2 alone) c.1
       where
-        of : Folds stories budget holders c.0 xs new → Answers stories budget sound holders old x c.0
+        of : Folds stories budget holders c.0 xs new
+            → Answers stories budget sound holders old x c.0
             → Folds stories budget holders old (x ∷ xs) new
         of rest (inl o) = let h = holder_at holders x.mark.session in
             let same = o.turn.alone (alone x.mark.session) in (

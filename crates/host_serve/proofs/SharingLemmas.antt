@@ -3,7 +3,8 @@ use denote.RattleType.{RattleType}
 use denote.Ref.{NamedLft}
 use denote.Struct.Struct.{Struct}
 use denote.Struct.Declared.{shape}
-use denote.Param.Send.{IsSend, IsSync, part_keyless, recorded_send, recorded_sync, struct_send, struct_sync, sendable}
+use denote.Param.Send.{IsSend, IsSync, part_keyless, recorded_send, recorded_sync, struct_send}
+use denote.Param.Send.{struct_sync, sendable}
 use Rattle.atomic_table.specs.contracts.shared.Seat as seat
 use Rattle.atomic_table.proofs.shared.Seat.TheSendSync as seat_shares
 use Rattle.std.proofs.alloc.Global.TheSendSync as global
@@ -87,8 +88,17 @@ shift_sync κ ι T R O P g s y r o p = recorded_sync _ _ _ (shift.the_type κ ι
 
 pub passes_fields : (κ : NamedLft) (T : RattleType) (g : Ghosts T.Denot) → IsSend T
     → IsSend (Struct (shape (passes.the_type κ T g)))
-passes_fields κ T g s = struct_send (shape (passes.the_type κ T g))
-    (search (sendable, vec.the_send, global.the_send, heap.the_frees, pass_shares.the_send, desk_send) depth 20, tt)
+passes_fields κ T g s = struct_send (shape (passes.the_type κ T g)) (
+  search (
+    sendable,
+    vec.the_send,
+    global.the_send,
+    heap.the_frees,
+    pass_shares.the_send,
+    desk_send,
+  ) depth 20,
+  tt,
+)
 
 -- passes of a host may go to another thread
 pub passes_send : (κ : NamedLft) (T : RattleType) (g : Ghosts T.Denot) → IsSend T

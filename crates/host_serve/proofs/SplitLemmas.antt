@@ -1,18 +1,23 @@
 -- Passes that are split off the roots of all sessions, one after the other, and joined again.
-use Rattle.std.proofs.Common.{◌≡◌, ◌≢◌, ◌⊎◌, ℕ, ◌+◌, ◌<◌, ◌≤◌, List, [], ◌∷◌, ◌++◌, length, map, get_or, set, ap, sym, ◌∙◌, refl, subst, ⊎_elim, arith, Option}
+use Rattle.std.proofs.Common.{◌≡◌, ◌≢◌, ◌⊎◌, ℕ, ◌+◌, ◌<◌, ◌≤◌, List, [], ◌∷◌, ◌++◌, length, map}
+use Rattle.std.proofs.Common.{get_or, set, ap, sym, ◌∙◌, refl, subst, ⊎_elim, arith, Option}
 use Rattle.std.proofs.lemmas.List.{length-map, get_or-map}
 use Rattle.std.proofs.Math.Seq.{map-set_same}
 use Rattle.turn_cell.specs.declared.cell.Cell.{Cell}
 use Rattle.turn_cell.specs.declared.pass.Pass.{Pass}
-use Rattle.turn_cell.specs.Passes.{IsOf, IsOutside, IsSplitFrom, KeepsNumbers, holds, made, number, sample, seen, tag_of}
+use Rattle.turn_cell.specs.Passes.{IsOf, IsOutside, IsSplitFrom, KeepsNumbers, holds, made, number}
+use Rattle.turn_cell.specs.Passes.{sample, seen, tag_of}
 use Rattle.host_serve.specs.Holders.{Holder, holder_of, holders, nobody, seens}
 use Rattle.host_serve.specs.Hosts.{ArePasses}
-use Rattle.host_serve.specs.Splitting.{AreNewest, AreRoots, after_split, first_by, newest_of, with_newest}
+use Rattle.host_serve.specs.Splitting.{AreNewest, AreRoots, after_split, first_by, newest_of}
+use Rattle.host_serve.specs.Splitting.{with_newest}
 use Rattle.host_serve.proofs.ListLemmas.{length_more}
 use Rattle.host_serve.proofs.MixLemmas.{mix_rest}
-use Rattle.host_serve.proofs.NewestLemmas.{newest_all, newest_less, newest_more, newest_none, newest_still}
+use Rattle.host_serve.proofs.NewestLemmas.{newest_all, newest_less, newest_more, newest_none}
+use Rattle.host_serve.proofs.NewestLemmas.{newest_still}
 use Rattle.host_serve.proofs.PassLemmas.{are_put, as_many, holders_still, pass_ready}
-use Rattle.host_serve.proofs.RootLemmas.{AreDown, all_first, both_first, down_from, first_long, holders_down, holders_up, root_at}
+use Rattle.host_serve.proofs.RootLemmas.{AreDown, all_first, both_first, down_from, first_long}
+use Rattle.host_serve.proofs.RootLemmas.{holders_down, holders_up, root_at}
 
 module _ {T E G : Type 0} (tag : T → G) (cells : List (Cell T E)) where
   pub record JoinsBack (n : ℕ) (first now newest : List (Pass T E)) : Type 0 where
@@ -117,7 +122,8 @@ module _ {T E G : Type 0} (tag : T → G) (cells : List (Cell T E)) where
       → p ≡ get_or now n p → (number p ≡ 0) × (made p ≤ most)
   root_here n most first now newest p s roots low at_p =
       let long = as_many tag (map (tag_of tag) first) cells now s.are in
-      let even = ap (λ (l : List Holder). length l) s.who ∙ first_long after_split n (holders first) in
+      let even =
+      ap (λ (l : List Holder). length l) s.who ∙ first_long after_split n (holders first) in
       let now_long = length-map now holder_of in
       let all_long = length-map (holders first) after_split in
       let was : holder_of p ≡ get_or (holders first) n nobody =
@@ -165,7 +171,8 @@ module _ {T E G : Type 0} (tag : T → G) (cells : List (Cell T E)) where
       → ArePasses tag tags cells now → cells' ≡ cells → now' ≡ now
       → ArePasses tag (map (tag_of tag) now') cells' now'
   own_tags cells' now now' a is is' =
-      subst (λ (x : List (Cell T E) × List (Pass T E)). ArePasses tag (map (tag_of tag) x.1) x.0 x.1)
+      subst (λ (x : List (Cell T E) × List (Pass T E)). ArePasses tag (map (tag_of tag) x.1) x.0
+      x.1)
       (λ i. (sym is i, sym is' i))
       (record { same = a.same; outside = a.outside; tagged = refl })
 
@@ -187,7 +194,8 @@ module _ {T E G : Type 0} (tag : T → G) (cells : List (Cell T E)) where
       × (seens final ≡ seens first) × ArePasses tag tags cells final
   splits_back tags n cells' first now now' newest final s a is is' who heard are =
       let whole : ArePasses tag (map (tag_of tag) now) cells final =
-      subst (λ (x : List (Cell T E) × List (Pass T E)). ArePasses tag (map (tag_of tag) x.1) x.0 final)
+      subst (λ (x : List (Cell T E) × List (Pass T E)). ArePasses tag (map (tag_of tag) x.1) x.0
+      final)
       (λ i. (is i, is' i)) are in (
         who ∙ ((λ i. first_by with_newest (s.left.many i) (holders (is' i)))
             ∙ (ap (first_by with_newest n) s.who

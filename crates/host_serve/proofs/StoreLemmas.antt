@@ -1,5 +1,6 @@
 -- The stores of a host, in the order of its sessions.
-use Rattle.std.proofs.Common.{◌≡◌, ℕ, zero, suc, ◌<◌, Bool, List, [], ◌∷◌, ◌++◌, length, refl, ap, sym, ◌∙◌, subst, arith, append_assoc, Some, IsTrue}
+use Rattle.std.proofs.Common.{◌≡◌, ℕ, zero, suc, ◌<◌, Bool, List, [], ◌∷◌, ◌++◌, length, refl, ap}
+use Rattle.std.proofs.Common.{sym, ◌∙◌, subst, arith, append_assoc, Some, IsTrue}
 use Rattle.std.specs.Prelude.{slice_get}
 use Rattle.std.specs.List.{AllZip}
 use Rattle.gate_journal.specs.declared.fault.JournalFault.{JournalFault}
@@ -8,8 +9,7 @@ use Rattle.snap_store.specs.declared.fault.DiskFault.{DiskFault as StoreFault}
 use Rattle.story_run.specs.declared.story.Story.{Story}
 use Rattle.session_core.specs.History.{game_of}
 use Rattle.gate_journal.specs.Rows.{commands_of}
-use Rattle.session_saves.specs.Agreement.{Agrees}
-use Rattle.session_desk.specs.Opens.{opens_of}
+use Rattle.session_saves.specs.Agreement.{Agrees, opens_of}
 use Rattle.host_serve.specs.declared.host.Host.{Host}
 use Rattle.host_serve.specs.Hosts.{IsSound, rows_at_opening, stores_of}
 use Rattle.host_serve.specs.declared.fault.OpenFault.{OpenFault}
@@ -88,14 +88,14 @@ module _ {A B : Type 0} (R : A → B → Type 0) where
   )
 
 -- a fault of the stores
-module _ {D : Type 0} (P : ℕ → StoreFault → D → Type 0) where
-  pub on_store : (f : OpenFault D) → IsOfStores f P → OnStore f P
+module _ {D : Type 0} (P : ℕ → StoreFault → D → Type 0) (W : Type 0) where
+  pub on_store : (f : OpenFault D) → IsOfStores f P W → OnStore f P
   on_store (faults.Journal fault disk) of = absurd of
   on_store (faults.Snap session fault disk) of = of
   on_store faults.NoMemory of = tt
 
   -- is none of the journal
-  pub off_journal : (Q : JournalFault → D → Type 0) (f : OpenFault D) → IsOfStores f P
+  pub off_journal : (Q : JournalFault → D → Type 0) (f : OpenFault D) → IsOfStores f P W
       → OnJournal f Q
   off_journal Q (faults.Journal fault disk) of = absurd of
   off_journal Q (faults.Snap session fault disk) of = tt
@@ -106,7 +106,8 @@ module _ {D : Type 0} (tells : D → Bool) (may_leave : D → List ℕ → Type 
     (faults reach room label : D → ℕ) where
   abbrev pub AreStoresOf : List D → List (Snapshots D) → Type 0
   AreStoresOf disks stores =
-      AllZip (IsStoreOf tells may_leave reads moment left_since faults reach room label) disks stores
+      AllZip (IsStoreOf tells may_leave reads moment left_since faults reach room label) disks
+      stores
 
   -- one store more
   pub stores_pushed : (all done rest : List D) (disk : D) (stores stores' : List (Snapshots D))

@@ -1,5 +1,7 @@
 -- From a conversation to the turns of its lines.
-use Rattle.std.proofs.Common.{◌≡◌, ℕ, ◌^◌, ◌≤◌, List, [], ◌∷◌, ◌++◌, length, map, Option, None, Bool, true, false, refl, ap, sym, ◌∙◌, subst, inl, inr, append_assoc, arith}
+use Rattle.std.proofs.Common.{◌≡◌, ℕ, ◌^◌, ◌≤◌, List, [], ◌∷◌, ◌++◌, length, map, Option, None}
+use Rattle.std.proofs.Common.{Bool, true, false, refl, ap, sym, ◌∙◌, subst, inl, inr, append_assoc}
+use Rattle.std.proofs.Common.{arith}
 use Rattle.std.proofs.lemmas.List.{map-append}
 use Rattle.turn_cell.proofs.HistoryLemmas.{nil_right}
 use Rattle.line_words.specs.Reply.{print_reply}
@@ -19,7 +21,8 @@ use Rattle.host_serve.specs.declared.answer.Answer.{Answer}
 use Rattle.host_serve.specs.declared.host.Host.{Host}
 use Rattle.host_serve.specs.declared.mark.Mark.{Mark}
 use Rattle.host_serve.specs.declared.served.Served.{Served}
-use Rattle.host_serve.specs.declared.served.Served.TheVariants.{End, ReadFault, WriteFault, NoMemory}
+use Rattle.host_serve.specs.declared.served.Served.TheVariants.{End, ReadFault, WriteFault}
+use Rattle.host_serve.specs.declared.served.Served.TheVariants.{NoMemory}
 use Rattle.host_serve.specs.Chain.{Answers, Chain}
 use Rattle.host_serve.specs.Holders.{Holder}
 use Rattle.host_serve.specs.Serves.{Serves, Turn}
@@ -108,13 +111,15 @@ write_failed ended.NoMemory e = absurd (subst is_write_fault (sym e) tt)
 -- `sound` says that a host is sound
 module _ {D : Type 0} (sound : Host D → Type 0) where
   -- one answer, as a host speaks it
-  pub speaks_of : (old : Speaking D) (line : Line) (holders : List Holder) (seen : List (List Entry))
+  pub speaks_of : (old : Speaking D) (line : Line) (holders : List Holder)
+      (seen : List (List Entry))
       (marks : List Mark) (answer : Answer) → holders ≡ old.holders
       → marks ≡ old.marks ++ answer.mark ∷ []
       → (world : Option WorldState) × ((bytes : List ℕ) → heard bytes ≡ line
       → Answers old.host.stories.now old.host.budget (sound old.host) old.holders old.seen
       (turn_from bytes world answer) seen)
-      → Speaks sound old line (print_reply answer.reply) (record { host = old.host; holders = holders; seen = seen; marks = marks })
+      → Speaks sound old line (print_reply answer.reply)
+      (record { host = old.host; holders = holders; seen = seen; marks = marks })
   speaks_of old line holders seen marks answer same grown answers = record {
     world = answers.0;
     outcome = answer.outcome;
@@ -136,14 +141,16 @@ module _ {D : Type 0} (sound : Host D → Type 0) where
     pub turns : List Turn
     pub lines : map line_of turns ≡ answered
     pub replies : texts ≡ map print_reply (map reply_of turns)
-    pub chain : Chain old.host.stories.now old.host.budget (sound old.host) old.holders old.seen turns new.seen
+    pub chain : Chain old.host.stories.now old.host.budget (sound old.host) old.holders old.seen
+        turns new.seen
     pub after : new ≡ seen_and_marked old new.seen (old.marks ++ map mark_of turns)
 
   abbrev never : Speaking D → Bool
   never _ = false
 
   spoken : (old : Speaking D) (answered texts : List (List ℕ)) (new : Speaking D)
-      → Turns (Speaks sound) never old (map heard answered) texts new → SpokenTurns old answered texts new
+      → Turns (Speaks sound) never old (map heard answered) texts new
+      → SpokenTurns old answered texts new
   spoken old [] [] new turns = record {
     turns = [];
     lines = refl;
@@ -151,7 +158,8 @@ module _ {D : Type 0} (sound : Host D → Type 0) where
     chain = ap (λ (s : Speaking D). s.seen) turns;
     after = turns ∙ ap (λ (l : List Mark). record old { marks = l }) (sym (nil_right old.marks))
         ∙ ap (λ (l : List (List Entry)).
-        record old { seen = l; marks = old.marks ++ [] }) (ap (λ (s : Speaking D). s.seen) (sym turns));
+        record old { seen = l; marks = old.marks ++ [] })
+        (ap (λ (s : Speaking D). s.seen) (sym turns));
   }
   spoken old [] (text ∷ texts) new turns = absurd turns
   spoken old (line ∷ answered) [] new turns = absurd turns
@@ -164,21 +172,25 @@ module _ {D : Type 0} (sound : Host D → Type 0) where
         chain = (
           mid.seen,
           speaks.answers line refl,
-          subst (λ (s : Speaking D). Chain s.host.stories.now s.host.budget (sound s.host) s.holders mid.seen rest.turns new.seen)
+          subst (λ (s : Speaking D). Chain s.host.stories.now s.host.budget (sound s.host) s.holders
+              mid.seen rest.turns new.seen)
               speaks.after rest.chain,
         );
         after = rest.after
-            ∙ (ap (λ (s : Speaking D). seen_and_marked s new.seen (s.marks ++ map mark_of rest.turns))
+            ∙ (ap (λ (s : Speaking D). seen_and_marked s new.seen
+            (s.marks ++ map mark_of rest.turns))
             speaks.after
             ∙ ap (λ (l : List Mark). seen_and_marked old new.seen l)
             (append_assoc old.marks (speaks.mark ∷ []) (map mark_of rest.turns)));
       }
 
   -- what was said of some lines that were answered
-  record SaidAll (old : Speaking D) (answered : List (List ℕ)) (new : Speaking D) (turns : List Turn)
+  record SaidAll (old : Speaking D) (answered : List (List ℕ)) (new : Speaking D)
+      (turns : List Turn)
       : Type 0 where
     pub lines : map line_of turns ≡ answered
-    pub chain : Chain old.host.stories.now old.host.budget (sound old.host) old.holders old.seen turns new.seen
+    pub chain : Chain old.host.stories.now old.host.budget (sound old.host) old.holders old.seen
+        turns new.seen
     pub after : new ≡ seen_and_marked old new.seen (old.marks ++ map mark_of turns)
 
   -- all replies were written whole
@@ -194,7 +206,8 @@ module _ {D : Type 0} (sound : Host D → Type 0) where
 
   -- all but an end of the last one
   said_cut : (old new : Speaking D) (answered : List (List ℕ)) (output now : SinkState)
-      (cause : Stop) → BreaksLast (Speaks sound) (Speaks sound) never old (map heard answered) new output now cause
+      (cause : Stop) → BreaksLast (Speaks sound) (Speaks sound) never old (map heard answered) new
+      output now cause
       → (turns : List Turn) × SaidAll old answered new turns
       × ((written : List ℕ) × Wrote output now written × IsCutText written (map reply_of turns))
   said_cut old new answered output now cause b =
@@ -211,16 +224,20 @@ module _ {D : Type 0} (sound : Host D → Type 0) where
         record {
           lines = map-append line_of first.0 (t ∷ [])
               ∙ (ap (λ (l : List (List ℕ)). l ++ at.back ∷ []) said.lines ∙ sym at.all);
-          chain = chain_more old.host.stories.now old.host.budget (sound old.host) old.holders old.seen b.mid.seen new.seen first.0 t
+          chain =
+              chain_more old.host.stories.now old.host.budget (sound old.host) old.holders old.seen
+              b.mid.seen new.seen first.0 t
               said.chain (subst (λ (s : Speaking D).
-              Answers s.host.stories.now s.host.budget (sound s.host) s.holders b.mid.seen t new.seen) said.after
+              Answers s.host.stories.now s.host.budget (sound s.host) s.holders b.mid.seen t
+              new.seen) said.after
               (speaks.answers at.back at.backs));
           after = speaks.after
               ∙ (ap (λ (s : Speaking D). seen_and_marked s new.seen (s.marks ++ speaks.mark ∷ []))
               said.after
               ∙ ap (λ (l : List Mark). seen_and_marked old new.seen l)
               (append_assoc old.marks (map mark_of first.0) (speaks.mark ∷ [])
-              ∙ ap (λ (l : List Mark). old.marks ++ l) (sym (map-append mark_of first.0 (t ∷ [])))));
+              ∙ ap (λ (l : List Mark). old.marks ++ l)
+              (sym (map-append mark_of first.0 (t ∷ [])))));
         },
         (
           joined (map print_reply before) ++ part,
@@ -245,8 +262,10 @@ module _ {D : Type 0} (sound : Host D → Type 0) where
     abbrev pub Told : Served → Type 0
     Told served = (turns : List Turn)
         × Tells turns input now output written old.marks new.marks served
-        × Chain old.host.stories.now old.host.budget (sound old.host) old.holders old.seen turns new.seen
-        × Serves old.host.stories.now old.host.budget (sound old.host) old.holders old.seen turns new.seen
+        × Chain old.host.stories.now old.host.budget (sound old.host) old.holders old.seen turns
+        new.seen
+        × Serves old.host.stories.now old.host.budget (sound old.host) old.holders old.seen turns
+        new.seen
         × (new ≡ seen_and_marked old new.seen new.marks)
 
     tell : (served : Served) (read : List ℕ) (answered : List (List ℕ)) (turns : List Turn)
@@ -266,7 +285,8 @@ module _ {D : Type 0} (sound : Host D → Type 0) where
         marks = ap (λ (s : Speaking D). s.marks) said.after;
       },
       said.chain,
-      serves_of old.host.stories.now old.host.budget (sound old.host) old.holders many old.seen turns new.seen wide said.chain,
+      serves_of old.host.stories.now old.host.budget (sound old.host) old.holders many old.seen
+          turns new.seen wide said.chain,
       said.after ∙ ap (λ (l : List Mark). seen_and_marked old new.seen l)
           (sym (ap (λ (s : Speaking D). s.marks) said.after)),
     )
@@ -282,13 +302,14 @@ module _ {D : Type 0} (sound : Host D → Type 0) where
         → Told served
     tell_whole served read answered gave within which how writes =
         let s = said_whole old new answered output written how in
-        tell served read answered s.0 (joined (map print_reply (map reply_of s.0))) gave within which
-        s.1 s.2 (writes (map reply_of s.0))
+        tell served read answered s.0 (joined (map print_reply (map reply_of s.0)))
+        gave within which s.1 s.2 (writes (map reply_of s.0))
 
     -- the last reply wasn't written whole
     tell_cut : (served : Served) (read : List ℕ) (answered : List (List ℕ)) (cause : Stop)
         → Gave input now read → length read ≤ 2 ^ 31 → AnsweredOf served read now answered
-        → BreaksLast (Speaks sound) (Speaks sound) never old (map heard answered) new output written cause
+        → BreaksLast (Speaks sound) (Speaks sound) never old (map heard answered) new output written
+        cause
         → ((text : List ℕ) (replies : List Reply) → IsCutText text replies
         → WritesReplies served text replies) → Told served
     tell_cut served read answered cause gave within which how writes =
@@ -318,14 +339,17 @@ module _ {D : Type 0} (sound : Host D → Type 0) where
         t.within t.which t.how (λ replies. refl)
     told_of ended.WriteFault t = of t.how
       where
-        of : StopsBehind (Speaks sound) (Speaks sound) never old (map heard t.answered) new output written Output
+        of : StopsBehind (Speaks sound) (Speaks sound) never old (map heard t.answered) new output
+            written Output
             → Told (served_of ended.WriteFault)
-        of (inl how) = tell_cut (served_of ended.WriteFault) t.read t.answered Output t.gave t.within
+        of (inl how) =
+            tell_cut (served_of ended.WriteFault) t.read t.answered Output t.gave t.within
             t.which how (λ text replies cut. cut)
         of (inr done) = absurd (subst is_output done.1 tt)
     told_of ended.NoMemory t = of t.how
       where
-        of : StopsBehind (Speaks sound) (Speaks sound) never old (map heard t.answered) new output written Memory
+        of : StopsBehind (Speaks sound) (Speaks sound) never old (map heard t.answered) new output
+            written Memory
             → Told (served_of ended.NoMemory)
         of (inl how) = tell_cut (served_of ended.NoMemory) t.read t.answered Memory t.gave t.within
             t.which how (λ text replies cut. inl cut)
@@ -336,16 +360,20 @@ module _ {D : Type 0} (sound : Host D → Type 0) where
     pub told_at : (ended : Ended) → Talks ended → (served : Served) (seen : List (List Entry))
         (marks : List Mark) → served ≡ served_of ended → seen ≡ new.seen → marks ≡ new.marks
         → (turns : List Turn) × Tells turns input now output written old.marks marks served
-        × Chain old.host.stories.now old.host.budget (sound old.host) old.holders old.seen turns seen
-        × Serves old.host.stories.now old.host.budget (sound old.host) old.holders old.seen turns seen
+        × Chain old.host.stories.now old.host.budget (sound old.host) old.holders old.seen turns
+        seen
+        × Serves old.host.stories.now old.host.budget (sound old.host) old.holders old.seen turns
+        seen
     told_at ended talks served seen marks is_served is_seen is_marks =
         let t = told_of ended talks in (
           t.0,
           subst (λ (x : Served × List Mark). Tells t.0 input now output written old.marks x.1 x.0)
               (λ i. (sym is_served i, sym is_marks i)) t.1,
-          subst (λ (x : List (List Entry)). Chain old.host.stories.now old.host.budget (sound old.host) old.holders old.seen t.0 x)
+          subst (λ (x : List (List Entry)). Chain old.host.stories.now old.host.budget
+              (sound old.host) old.holders old.seen t.0 x)
               (sym is_seen) t.2,
-          subst (λ (x : List (List Entry)). Serves old.host.stories.now old.host.budget (sound old.host) old.holders old.seen t.0 x)
+          subst (λ (x : List (List Entry)). Serves old.host.stories.now old.host.budget
+              (sound old.host) old.holders old.seen t.0 x)
               (sym is_seen) t.3,
         )
 
@@ -356,10 +384,13 @@ module _ {D : Type 0} (sound : Host D → Type 0) where
   pub told_nothing : (old : Speaking D) (input : SourceState) (output : SinkState)
       → length old.holders ≡ 64 → length old.seen ≡ 64
       → (turns : List Turn) × Tells turns input input output output old.marks old.marks NoMemory
-      × Chain old.host.stories.now old.host.budget (sound old.host) old.holders old.seen turns old.seen
-      × Serves old.host.stories.now old.host.budget (sound old.host) old.holders old.seen turns old.seen
+      × Chain old.host.stories.now old.host.budget (sound old.host) old.holders old.seen turns
+      old.seen
+      × Serves old.host.stories.now old.host.budget (sound old.host) old.holders old.seen turns
+      old.seen
   told_nothing old input output many wide =
-      let t = tell old old input input output output many wide NoMemory [] [] [] [] (gave_none input)
+      let t =
+      tell old old input input output output many wide NoMemory [] [] [] [] (gave_none input)
       (omega arith) (talk [], refl)
       (record {
         lines = refl;

@@ -1,5 +1,7 @@
 -- A turn of a line: of one without a session, and of one that a desk is asked for.
-use Rattle.std.proofs.Common.{◌≡◌, ◌≢◌, ◌⊎◌, ℕ, ◌≤◌, ◌<◌, List, [], length, Option, Some, None, refl, ap, sym, ◌∙◌, subst, inl, inr, arith, nat_le, Bool, true, false, cond}
+use Rattle.std.proofs.Common.{◌≡◌, ◌≢◌, ◌⊎◌, ℕ, ◌≤◌, ◌<◌, List, [], length, Option, Some, None}
+use Rattle.std.proofs.Common.{refl, ap, sym, ◌∙◌, subst, inl, inr, arith, nat_le, Bool, true, false}
+use Rattle.std.proofs.Common.{cond}
 use Rattle.std.proofs.lemmas.Bool.Decides.{nat_tests}
 use Rattle.line_talk.specs.Lines.{heard}
 use Rattle.line_words.specs.Play.{is_long}
@@ -9,20 +11,23 @@ use Rattle.line_words.specs.declared.reply.No.TheVariants as no
 use Rattle.line_words.specs.declared.reply.Reply.{Reply}
 use Rattle.line_words.specs.declared.reply.Reply.TheVariants as replies
 use Rattle.line_words.specs.declared.request.Request.{Request}
-use Rattle.line_words.specs.declared.request.Request.TheVariants.{Open, Line, Char, File, Last, Close}
+use Rattle.line_words.specs.declared.request.Request.TheVariants.{Open, Line, Char, File, Last}
+use Rattle.line_words.specs.declared.request.Request.TheVariants.{Close}
 use Rattle.gate_journal.specs.declared.command.Command.{Command}
 use Rattle.story_run.specs.declared.story.Story.{Story}
 use Rattle.story_run.specs.World.{WorldState}
 use Rattle.session_core.specs.declared.decision.Decision.{Decision}
 use Rattle.session_core.specs.declared.entry.Entry.{Entry}
 use Rattle.session_core.specs.declared.entry.Outcome.{Outcome}
-use Rattle.session_core.specs.declared.entry.Outcome.TheVariants.{Answered, DiskFailed, OutOfMemory, Forgotten}
+use Rattle.session_core.specs.declared.entry.Outcome.TheVariants.{Answered, DiskFailed, OutOfMemory}
+use Rattle.session_core.specs.declared.entry.Outcome.TheVariants.{Forgotten}
 use Rattle.session_core.specs.Answer.{answer_in, refusal_in}
 use Rattle.session_core.specs.Checks.{session_of}
 use Rattle.session_core.specs.Sessions.{with_budget}
 use Rattle.session_core.specs.History.{game_of, world_of}
 use Rattle.session_core.specs.Hosts.{session_in, session_on}
-use Rattle.session_core.specs.Turning.{decided_by, decision_in, commands_in, entry_by, MayMeet, turn_in, turn_met}
+use Rattle.session_core.specs.Turning.{decided_by, decision_in, commands_in, entry_by, MayMeet}
+use Rattle.session_core.specs.Turning.{turn_in, turn_met}
 use Rattle.turn_cell.specs.History.{Continues, IsForeign}
 use Rattle.session_desk.specs.Desk.{DeskState}
 use Rattle.host_serve.specs.Holders.{Holder, IsAloneHolder}
@@ -114,7 +119,8 @@ pub turns_in : (stories : List Story) (budget : ℕ) (sound : Type 0) (h : Holde
     (answer_in desk.stories desk.commands t.world request).accepted t.outcome).history
     → TurnsIn stories budget sound h old t new
 unfolding turn_in
-turns_in stories budget sound h old new t desk before by request own since alone read same commands long world met reply history =
+turns_in stories budget sound h old new t desk before by request own since alone read same commands
+    long world met reply history =
     let is = answered_on stories budget desk t.world before t.line request read same commands in
     record {
       before = before;

@@ -12,8 +12,7 @@ use Rattle.story_run.specs.declared.story.Story.{Story}
 use Rattle.session_core.specs.declared.entry.Entry.{Entry}
 use Rattle.session_core.specs.History.{game_of}
 use Rattle.session_core.specs.Turning.{entry_by}
-use Rattle.session_saves.specs.Agreement.{IsAgreedFile}
-use Rattle.session_desk.specs.Opens.{opens_of}
+use Rattle.session_saves.specs.Agreement.{IsAgreedFile, opens_of}
 use Rattle.session_desk.specs.Shared.{unnumbered}
 use Rattle.session_desk.specs.Turn.{history_in}
 use Rattle.host_serve.specs.declared.host.Host.{Host}

@@ -1,5 +1,5 @@
--- The desks' passes of the journal, joined into its root one after the other, and the disks of their
--- stores (own).
+-- The desks' passes of the journal, joined into its root one after the other, and the disks of
+-- their stores (own).
 use Rattle.std.specs.Prelude.{◌≡◌, ℕ, ◌+◌, ◌<◌, List, [], ◌∷◌, ◌++◌, length, map, Option, Some}
 use Rattle.std.specs.Prelude.{None, Bool, get_or, slice_get}
 use Rattle.turn_cell.specs.History.{Continues, IsAmong, IsForeign}

@@ -17,8 +17,7 @@ use Rattle.snap_store.specs.declared.side.Side.{Side}
 use Rattle.story_run.specs.declared.story.Story.{Story}
 use Rattle.session_core.specs.declared.entry.Entry.{Entry}
 use Rattle.session_core.specs.History.{game_of}
-use Rattle.session_saves.specs.Agreement.{IsAgreedFile}
-use Rattle.session_desk.specs.Opens.{opens_of}
+use Rattle.session_saves.specs.Agreement.{IsAgreedFile, opens_of}
 use Rattle.session_desk.specs.Shared.{SharedState, desk_tag}
 use Rattle.session_desk.specs.Turn.{history_in}
 use Rattle.host_serve.specs.declared.fault.OpenFault.{OpenFault}
@@ -85,11 +84,11 @@ module _ {D : Type 0} where
   OnStore (Snap session fault disk) P = P session fault disk
   OnStore NoMemory P = Unit {0}
 
-  -- it is a fault of the stores, and this holds of the disk that comes back
-  abbrev pub IsOfStores : OpenFault D → (ℕ → StoreFault → D → Type 0) → Type 0
-  IsOfStores (Journal fault disk) P = ⊥
-  IsOfStores (Snap session fault disk) P = P session fault disk
-  IsOfStores NoMemory P = Unit {0}
+  -- it is a fault of the stores: P holds of the disk that comes back, or Q where memory is wanted
+  abbrev pub IsOfStores : OpenFault D → (ℕ → StoreFault → D → Type 0) → Type 0 → Type 0
+  IsOfStores (Journal fault disk) P Q = ⊥
+  IsOfStores (Snap session fault disk) P Q = P session fault disk
+  IsOfStores NoMemory P Q = Q
 
   -- the disks tell their bytes, and each file agrees with the rows of its session
   abbrev pub AreAgreed : (D → Bool) → (D → List ℕ) → List Story → List Row → List D → Type 0

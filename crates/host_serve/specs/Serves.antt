@@ -19,8 +19,8 @@ use Rattle.session_core.specs.Turning.{turn_in}
 use Rattle.host_serve.specs.declared.mark.Mark.{Mark}
 use Rattle.host_serve.specs.Holders.{Holder, IsAloneHolder, holder_at, seen_at}
 
--- one answered line: the world that its session had come to, as the host held it, what its turn met,
--- its mark and its reply
+-- one answered line: the world that its session had come to, as the host held it, what its turn
+-- met, its mark and its reply
 pub record Turn : Type 0 where
   pub line : List ℕ
   pub world : Option WorldState
@@ -58,8 +58,8 @@ module _ (stories : List Story) (budget : ℕ) where
   abbrev pub MayMeetIn : List Entry → Turn → Type 0
   MayMeetIn history t = MayMeet (decided history t).accepted t.outcome
 
-  -- the turn of the same line on this history and in the same world, by a pass of this number, where
-  -- it meets the same
+  -- the turn of the same line on this history and in the same world, by a pass of this number,
+  -- where it meets the same
   abbrev pub turned_on : List Entry → ℕ → Turn → Turned
   turned_on history by t = turn_in stories budget history t.world by t.line t.outcome
 

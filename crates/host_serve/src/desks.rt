@@ -37,6 +37,7 @@ pub fn rows_copied<D: Disk>(alloc: Global, journal: &Journal<D>) -> Result<Vec<R
 }
 
 /// The stores of the disks of all sessions, one after the other. The room of the disks is left.
+/// Memory is wanted before the first of them is opened, or not at all.
 pub fn open_stores<D: Disk + Drop>(
     alloc: Global,
     disks: &mut Vec<D>,
@@ -45,7 +46,8 @@ pub fn open_stores<D: Disk + Drop>(
     ensures ok { IfOk result (λ stores. AllZip (IsStoreOf D.tells D.may_leave D.seen
         D.moment D.left_since D.faults D.reach D.room D.label) disks.old.items stores.items) }
     ensures err { IfErr result (λ f. IsOfStores f (IsRefused D.tells D.may_leave D.seen
-        D.moment D.left_since D.faults D.reach D.room D.label disks.old.items)) }
+        D.moment D.left_since D.faults D.reach D.room D.label disks.old.items)
+        (disks.new.items ≡ disks.old.items)) }
     ensures room { OnOk result ((disks.new.items ≡ []) × (64 ≤ vec_capacity disks.new)) }
 {
     let Ok(mut stores) = Vec::with_capacity(alloc, usize::from(SESSIONS)) else {

@@ -60,11 +60,11 @@ fn open_over<'i, D: Disk + Drop>(
 }
 
 impl<'i, D: Disk + Drop> Host<'i, D> {
-    /// The sessions of a journal, each with the commands of its rows, its snapshots on a disk of its
-    /// own, cold and in a cell of its own, and the roots of these cells. The budget is that of a
-    /// turn, in ticks, with which sessions are opened. The disk of a journal or of snapshots that is
-    /// refused comes back; the other disks are let go, and all of them where memory runs out behind
-    /// the journal's opening.
+    /// The sessions of a journal, each with the commands of its rows, its snapshots on a disk of
+    /// its own, cold and in a cell of its own, and the roots of these cells. The budget is that of
+    /// a turn, in ticks, with which sessions are opened. The disk of a journal or of snapshots that
+    /// is refused comes back; the other disks are let go, and all of them where memory runs out
+    /// behind the journal's opening. Memory is wanted before a store is opened or once all are.
     #[tactic(auto, using(crate::proofs::StoreLemmas::off_journal, crate::proofs::StoreLemmas::on_store))]
     pub fn open(
         alloc: Global,

@@ -1,7 +1,8 @@
 use Rattle.std.proofs.Common.{None, inr, sym, ◌∙◌, arith}
 use Rattle.host_serve.specs.Told.{turn_from}
 use Rattle.host_serve.proofs.TurnLemmas.{session_read}
-use Rattle.host_serve.proofs.PassLemmas.{as_many, tag_in_host, pass_ready, pass_tagged, are_still, holders_still, answers_in}
+use Rattle.host_serve.proofs.PassLemmas.{as_many, tag_in_host, pass_ready, pass_tagged, are_still}
+use Rattle.host_serve.proofs.PassLemmas.{holders_still, answers_in}
 use Rattle.host_serve.proofs.host.Host.answer.Goals as goal
 
 pub returns-in-Err-clause-value : goal.returns-in-Err-clause-value

@@ -2,7 +2,8 @@ use Rattle.std.proofs.Common.{rules, sym, ◌∙◌}
 use Rattle.host_serve.specs.Holders.{holders, seens}
 use Rattle.host_serve.specs.Hosts.{IsSound}
 use Rattle.host_serve.proofs.PassLemmas.{holders_many, seens_many}
-use Rattle.host_serve.proofs.ToldLemmas.{not_end, read_failed, told_at, told_holders, told_nothing, write_failed}
+use Rattle.host_serve.proofs.ToldLemmas.{not_end, read_failed, told_at, told_holders, told_nothing}
+use Rattle.host_serve.proofs.ToldLemmas.{write_failed}
 use Rattle.host_serve.proofs.host.Host.serve_by.Goals as goal
 
 pub returns-in_default-clause-value : goal.returns-in_default-clause-value

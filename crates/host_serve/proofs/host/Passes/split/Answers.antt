@@ -7,7 +7,9 @@ use Rattle.host_serve.specs.Hosts.{ArePasses, tags_in}
 use Rattle.host_serve.specs.Splitting.{AreRoots, after_split, with_newest}
 use Rattle.host_serve.proofs.PassLemmas.{pass_ready}
 use Rattle.host_serve.proofs.RootLemmas.{roots_first}
-use Rattle.host_serve.proofs.SplitLemmas.{SplitsOff, newest_there, own_tags, root_here, splits_all, splits_back, splits_kept, splits_none, splits_not, splits_on}
+use Rattle.host_serve.proofs.SplitLemmas.{SplitsOff, newest_there, own_tags, root_here, splits_all}
+use Rattle.host_serve.proofs.SplitLemmas.{splits_back, splits_kept, splits_none, splits_not}
+use Rattle.host_serve.proofs.SplitLemmas.{splits_on}
 use Rattle.host_serve.proofs.host.Passes.split.Goals as goal
 
 pub loop-s-init : goal.loop-s-init
@@ -43,21 +45,24 @@ push_reserved-requires g c =
     omega (arith, c.loop-s-test.true, c.from-s-end.ensures)
 
 pub join_again-requires-clause-roots : goal.join_again-requires-clause-roots
-join_again-requires-clause-roots g c = let split = splits_not desk_tag _ _ _ _ _ _ _ _ c.loop-s.invariant.done
+join_again-requires-clause-roots g c = let split =
+    splits_not desk_tag _ _ _ _ _ _ _ _ c.loop-s.invariant.done
     (omega (arith, c.requires.passes.whole.many, c.loop-s-test.true, c.from-s-end.ensures))
     c.index.ensures c.index_mut.ensures.value c.in-Err.ensures.err c.in-Err.ensures.kept
     c.in-Err.ensures.outside c.in-Err.ensures.seen in
     own_tags desk_tag _ _ _ _ split.are c.deref.ensures.value c.deref_mut.ensures.value
 
 pub join_again-requires-clause-newest : goal.join_again-requires-clause-newest
-join_again-requires-clause-newest g c = let split = splits_not desk_tag _ _ _ _ _ _ _ _ c.loop-s.invariant.done
+join_again-requires-clause-newest g c = let split =
+    splits_not desk_tag _ _ _ _ _ _ _ _ c.loop-s.invariant.done
     (omega (arith, c.requires.passes.whole.many, c.loop-s-test.true, c.from-s-end.ensures))
     c.index.ensures c.index_mut.ensures.value c.in-Err.ensures.err c.in-Err.ensures.kept
     c.in-Err.ensures.outside c.in-Err.ensures.seen in
     newest_there desk_tag _ _ _ _ _ _ _ split c.deref.ensures.value c.deref_mut.ensures.value
 
 pub returns-in-Err-clause-err : goal.returns-in-Err-clause-err
-returns-in-Err-clause-err g c = let split = splits_not desk_tag _ _ _ _ _ _ _ _ c.loop-s.invariant.done
+returns-in-Err-clause-err g c = let split =
+    splits_not desk_tag _ _ _ _ _ _ _ _ c.loop-s.invariant.done
     (omega (arith, c.requires.passes.whole.many, c.loop-s-test.true, c.from-s-end.ensures))
     c.index.ensures c.index_mut.ensures.value c.in-Err.ensures.err c.in-Err.ensures.kept
     c.in-Err.ensures.outside c.in-Err.ensures.seen in
@@ -73,7 +78,8 @@ returns-in-Err-clause-err g c = let split = splits_not desk_tag _ _ _ _ _ _ _ _ 
     )
 
 pub returns-in-Err-clause-kept : goal.returns-in-Err-clause-kept
-returns-in-Err-clause-kept g c = let split = splits_not desk_tag _ _ _ _ _ _ _ _ c.loop-s.invariant.done
+returns-in-Err-clause-kept g c = let split =
+    splits_not desk_tag _ _ _ _ _ _ _ _ c.loop-s.invariant.done
     (omega (arith, c.requires.passes.whole.many, c.loop-s-test.true, c.from-s-end.ensures))
     c.index.ensures c.index_mut.ensures.value c.in-Err.ensures.err c.in-Err.ensures.kept
     c.in-Err.ensures.outside c.in-Err.ensures.seen in
@@ -91,7 +97,8 @@ returns-in-Err-clause-kept g c = let split = splits_not desk_tag _ _ _ _ _ _ _ _
     }
 
 pub returns-in-Err-clause-seen : goal.returns-in-Err-clause-seen
-returns-in-Err-clause-seen g c = let split = splits_not desk_tag _ _ _ _ _ _ _ _ c.loop-s.invariant.done
+returns-in-Err-clause-seen g c = let split =
+    splits_not desk_tag _ _ _ _ _ _ _ _ c.loop-s.invariant.done
     (omega (arith, c.requires.passes.whole.many, c.loop-s-test.true, c.from-s-end.ensures))
     c.index.ensures c.index_mut.ensures.value c.in-Err.ensures.err c.in-Err.ensures.kept
     c.in-Err.ensures.outside c.in-Err.ensures.seen in
@@ -104,7 +111,8 @@ returns-in-Err-clause-seen g c = let split = splits_not desk_tag _ _ _ _ _ _ _ _
     ap (λ l. seens l) is ∙ back.1
 
 pub returns-in-Err-clause-roots : goal.returns-in-Err-clause-roots
-returns-in-Err-clause-roots g c = let split = splits_not desk_tag _ _ _ _ _ _ _ _ c.loop-s.invariant.done
+returns-in-Err-clause-roots g c = let split =
+    splits_not desk_tag _ _ _ _ _ _ _ _ c.loop-s.invariant.done
     (omega (arith, c.requires.passes.whole.many, c.loop-s-test.true, c.from-s-end.ensures))
     c.index.ensures c.index_mut.ensures.value c.in-Err.ensures.err c.in-Err.ensures.kept
     c.in-Err.ensures.outside c.in-Err.ensures.seen in
