@@ -1,5 +1,6 @@
 -- The status of a disk that failed.
-use Rattle.std.proofs.Common.{◌≡◌, ◌∙◌, ℕ, zero, suc, Bool, inl, inr, List, [], ◌∷◌, length, slice_get, refl, sym, subst, arith, Some, Result, Ok, Err}
+use Rattle.std.proofs.Common.{◌≡◌, ◌∙◌, ℕ, zero, suc, Bool, inl, inr, List, [], ◌∷◌, length}
+use Rattle.std.proofs.Common.{slice_get, refl, sym, subst, arith, Some, Result, Ok, Err}
 use Rattle.gate_journal.specs.Faults.{HasCause, HasInitCause}
 use Rattle.gate_journal.specs.declared.fault.InitFault.{InitFault}
 use Rattle.gate_journal.specs.declared.fault.InitFault.TheVariants as begin
@@ -7,7 +8,8 @@ use Rattle.gate_journal.specs.declared.fault.JournalFault.{JournalFault}
 use Rattle.gate_journal.specs.declared.fault.JournalFault.TheVariants as fault
 use Rattle.story_run.specs.declared.story.Story.{Story}
 use Rattle.host_top.specs.Begun.{InitsOn, SaysRefusal}
-use Rattle.host_top.specs.Borrowed.{CountsFaults, HasFailed, NotLent, journal_in, lent_as, snaps_below}
+use Rattle.host_top.specs.Borrowed.{CountsFaults, HasFailed, NotLent, journal_in, lent_as}
+use Rattle.host_top.specs.Borrowed.{snaps_below}
 use Rattle.host_top.specs.Folder.{Takes, back_at, folder_back}
 use Rattle.host_top.specs.declared.folder.Back.{Back}
 use Rattle.host_top.specs.declared.folder.Back.TheVariants as back
@@ -31,7 +33,8 @@ use Rattle.host_serve.specs.declared.served.Served.TheVariants as served
 use Rattle.line_talk.specs.declared.sink.Stop.{Stop}
 use Rattle.line_talk.specs.declared.sink.Stop.TheVariants as stop
 use Rattle.host_top.specs.declared.status.Status.{Status}
-use Rattle.host_top.specs.declared.status.Status.TheVariants.{BadWords, ReadFault, WriteFault, DiskFault, DoorFault}
+use Rattle.host_top.specs.declared.status.Status.TheVariants.{BadWords, ReadFault, WriteFault}
+use Rattle.host_top.specs.declared.status.Status.TheVariants.{DiskFault, DoorFault}
 
 -- no end of a connection has this status
 no_end : (how : Served) (A : Type 0) → DiskFault ≡ status_of_served how → A
@@ -45,7 +48,8 @@ no_stop : (cause : Stop) (A : Type 0) → DiskFault ≡ status_of_stop cause →
 no_stop stop.Output A e = absurd (grind (arith, e))
 no_stop stop.Memory A e = absurd (grind (arith, e))
 
-no_line : {good : Status} {line : List ℕ} {output new : SinkState} (A : Type 0) → (DiskFault ≡ good → A) → SaysLine good line output new DiskFault → A
+no_line : {good : Status} {line : List ℕ} {output new : SinkState} (A : Type 0)
+    → (DiskFault ≡ good → A) → SaysLine good line output new DiskFault → A
 no_line A f (inl said) = f said.0
 no_line A f (inr (cause, is, stopped)) = no_stop cause A is
 
@@ -53,38 +57,65 @@ no_line A f (inr (cause, is, stopped)) = no_stop cause A is
 abbrev Failed : ℕ → ℕ → SinkState → SinkState → Type 0
 Failed before now output new = Rose before now × Wrote output new []
 
-opening_failed : (why : JournalFault) (before now : ℕ) (output new : SinkState) → HasCause before now why → SaysFault why output new DiskFault → Failed before now output new
-opening_failed fault.NotJournal before now output new cause says = no_line _ (λ e. absurd (grind (arith, e))) says
-opening_failed (fault.Corrupt place) before now output new cause says = no_line _ (λ e. absurd (grind (arith, e))) says
+opening_failed : (why : JournalFault) (before now : ℕ) (output new : SinkState)
+    → HasCause before now why → SaysFault why output new DiskFault → Failed before now output new
+opening_failed fault.NotJournal before now output new cause says =
+    no_line _ (λ e. absurd (grind (arith, e))) says
+opening_failed (fault.Corrupt place) before now output new cause says =
+    no_line _ (λ e. absurd (grind (arith, e))) says
 opening_failed (fault.DiskFault counts) before now output new cause says = (cause.rose, says.1)
 opening_failed fault.NoMemory before now output new cause says = absurd (grind (arith, says.0))
 
 -- a store's disk rose among those of all
-rose_at : {D : Type 0} (disks : DiskWords D) (P : Type 0) (ns : List (List ℕ)) (gs : List D) (s : ℕ) (g d : D) → length gs ≡ length ns → slice_get gs s ≡ Some g
-    → Each (λ l. HasFailed disks l → P) (back_at s d (lent_as ns gs)) → Rose (disks.faults g) (disks.faults d) → P
+rose_at : {D : Type 0} (disks : DiskWords D) (P : Type 0) (ns : List (List ℕ)) (gs : List D) (s : ℕ)
+    (g d : D) → length gs ≡ length ns → slice_get gs s ≡ Some g
+    → Each (λ l. HasFailed disks l → P) (back_at s d (lent_as ns gs))
+    → Rose (disks.faults g) (disks.faults d) → P
 rose_at disks P ns [] s g d many there each rose = absurd (grind (arith, there))
 rose_at disks P [] (h ∷ gs) s g d many there each rose = absurd (omega (arith, many))
-rose_at {D} disks P (n ∷ ns) (h ∷ gs) zero g d many there each rose = each.0 (subst (λ (x : D). Rose (disks.faults x) (disks.faults d)) (sym (same_item h g there)) rose)
-rose_at disks P (n ∷ ns) (h ∷ gs) (suc s) g d many there each rose = rose_at disks P ns gs s g d (omega (arith, many)) there each.1 rose
+rose_at {D} disks P (n ∷ ns) (h ∷ gs) zero g d many there each rose =
+    each.0 (subst (λ (x : D). Rose (disks.faults x) (disks.faults d)) (sym (same_item h g there))
+    rose)
+rose_at disks P (n ∷ ns) (h ∷ gs) (suc s) g d many there each rose =
+    rose_at disks P ns gs s g d (omega (arith, many)) there each.1 rose
 
 -- where a host isn't opened, since a disk failed
-hosted_failed : {D : Type 0} (disks : DiskWords D) (Hosts : D → List D → Type 0) (folder : List ℕ) (given : D) (givens : List D) (b : Back D) (outside beyond : OutsideState D)
-    (input now : SourceState) (output new : SinkState) → length givens ≡ 64 → CountsFaults disks outside beyond (folder_back (journal_in folder) (snaps_below folder 64) given givens b)
-    → ((journal : D) (snaps : List D) → Hosts journal snaps → Failed outside.disk_faults beyond.disk_faults output new)
-    → HostedOver Hosts disks given givens b input now output new DiskFault → Failed outside.disk_faults beyond.disk_faults output new
-hosted_failed disks Hosts folder given givens (back.All journal snaps) outside beyond input now output new many counts f hosts = f journal snaps.items hosts
-hosted_failed disks Hosts folder given givens (back.Journal journal) outside beyond input now output new many counts f n =
-    let failed = opening_failed n.fault (disks.faults given) (disks.faults journal) output new n.cause n.says in (counts.rose.0 failed.0, failed.1)
-hosted_failed disks Hosts folder given givens (back.Snap session snap) outside beyond input now output new many counts f s =
-    (rose_at disks _ (snaps_below folder 64) givens session s.given snap (many ∙ sym (snaps_many folder 64)) s.stands counts.rose.1 s.rose, s.wrote)
-hosted_failed disks Hosts folder given givens back.Nothing outside beyond input now output new many counts f l = absurd (grind (arith, l.wanted))
+hosted_failed : {D : Type 0} (disks : DiskWords D) (Hosts : D → List D → Type 0) (folder : List ℕ)
+    (given : D) (givens : List D) (b : Back D) (outside beyond : OutsideState D)
+    (input now : SourceState) (output new : SinkState) → length givens ≡ 64
+    → CountsFaults disks outside beyond
+    (folder_back (journal_in folder) (snaps_below folder 64) given givens b)
+    → ((journal : D) (snaps : List D) → Hosts journal snaps
+    → Failed outside.disk_faults beyond.disk_faults output new)
+    → HostedOver Hosts disks given givens b input now output new DiskFault
+    → Failed outside.disk_faults beyond.disk_faults output new
+hosted_failed disks Hosts folder given givens (back.All journal snaps) outside beyond input now
+    output new many counts f hosts = f journal snaps.items hosts
+hosted_failed disks Hosts folder given givens (back.Journal journal) outside beyond input now output
+    new many counts f n =
+    let failed =
+    opening_failed n.fault (disks.faults given) (disks.faults journal) output new n.cause n.says
+    in (counts.rose.0 failed.0, failed.1)
+hosted_failed disks Hosts folder given givens (back.Snap session snap) outside beyond input now
+    output new many counts f s = (
+      rose_at disks _ (snaps_below folder 64) givens session s.given snap
+          (many ∙ sym (snaps_many folder 64)) s.stands counts.rose.1 s.rose,
+      s.wrote,
+    )
+hosted_failed disks Hosts folder given givens back.Nothing outside beyond input now output new many
+    counts f l = absurd (grind (arith, l.wanted))
 
-pipe_failed : {D : Type 0} (disks : DiskWords D) {stories : List Story} {budget : ℕ} (folder : List ℕ) (outside beyond : OutsideState D) {input now : SourceState} (output new : SinkState)
-    → Takes disks folder (λ given givens b. PipesOver disks stories budget given givens b input now output new DiskFault) outside beyond → Failed outside.disk_faults beyond.disk_faults output new
+pipe_failed : {D : Type 0} (disks : DiskWords D) {stories : List Story} {budget : ℕ}
+    (folder : List ℕ) (outside beyond : OutsideState D) {input now : SourceState}
+    (output new : SinkState)
+    → Takes disks folder (λ given givens b. PipesOver disks stories budget given givens b input now
+    output new DiskFault) outside beyond → Failed outside.disk_faults beyond.disk_faults output new
 pipe_failed disks {stories} {budget} folder outside beyond {input} {now} output new t =
-    hosted_failed disks _ folder t.given t.givens t.back outside beyond input now output new t.many t.counts (λ journal snaps hosts. no_end hosts.0 _ hosts.1) t.done
+    hosted_failed disks _ folder t.given t.givens t.back outside beyond input now output new t.many
+    t.counts (λ journal snaps hosts. no_end hosts.0 _ hosts.1) t.done
 
-no_links : {D : Type 0} (disks : DiskWords D) {stories : List Story} {given back : D} {givens backs : List D} {input now : SourceState} {output new : SinkState} (A : Type 0)
+no_links : {D : Type 0} (disks : DiskWords D) {stories : List Story} {given back : D}
+    {givens backs : List D} {input now : SourceState} {output new : SinkState} (A : Type 0)
     → LinksServed disks stories given givens back backs input now output new DiskFault → A
 no_links disks A served = elim served.how [
   | inl done ↦ absurd (grind (arith, done))
@@ -92,30 +123,44 @@ no_links disks A served = elim served.how [
   | inr (inr wanted) ↦ absurd (grind (arith, wanted))
 ]
 
-links_failed : {D : Type 0} (disks : DiskWords D) {stories : List Story} (folder : List ℕ) (outside beyond : OutsideState D) {input now : SourceState} (output new : SinkState)
-    → Takes disks folder (λ given givens b. ServesOver disks stories given givens b input now output new DiskFault) outside beyond → Failed outside.disk_faults beyond.disk_faults output new
+links_failed : {D : Type 0} (disks : DiskWords D) {stories : List Story} (folder : List ℕ)
+    (outside beyond : OutsideState D) {input now : SourceState} (output new : SinkState)
+    → Takes disks folder (λ given givens b. ServesOver disks stories given givens b input now output
+    new DiskFault) outside beyond → Failed outside.disk_faults beyond.disk_faults output new
 links_failed disks {stories} folder outside beyond {input} {now} output new t =
-    hosted_failed disks _ folder t.given t.givens t.back outside beyond input now output new t.many t.counts (λ journal snaps hosts. no_links disks _ hosts) t.done
+    hosted_failed disks _ folder t.given t.givens t.back outside beyond input now output new t.many
+    t.counts (λ journal snaps hosts. no_links disks _ hosts) t.done
 
-refusal_failed : (why : InitFault) (tells : Bool) (seen : List ℕ) (before now : ℕ) (output new : SinkState) → HasInitCause tells seen before now why → SaysRefusal why output new DiskFault
+refusal_failed : (why : InitFault) (tells : Bool) (seen : List ℕ) (before now : ℕ)
+    (output new : SinkState) → HasInitCause tells seen before now why
+    → SaysRefusal why output new DiskFault
     → Failed before now output new
-refusal_failed begin.NotEmpty tells seen before now output new cause says = no_line _ (λ e. absurd (grind (arith, e))) says
-refusal_failed (begin.DiskFault counts) tells seen before now output new cause says = (cause.rose, says.1)
+refusal_failed begin.NotEmpty tells seen before now output new cause says =
+    no_line _ (λ e. absurd (grind (arith, e))) says
+refusal_failed (begin.DiskFault counts) tells seen before now output new cause says =
+    (cause.rose, says.1)
 
-not_lent_failed : {D : Type 0} (disks : DiskWords D) (names : List (List ℕ)) (outside beyond : OutsideState D) {input now : SourceState} (output new : SinkState)
-    → NotLent disks names outside beyond input now output new DiskFault → Failed outside.disk_faults beyond.disk_faults output new
+not_lent_failed : {D : Type 0} (disks : DiskWords D) (names : List (List ℕ))
+    (outside beyond : OutsideState D) {input now : SourceState} (output new : SinkState)
+    → NotLent disks names outside beyond input now output new DiskFault
+    → Failed outside.disk_faults beyond.disk_faults output new
 not_lent_failed disks names outside beyond output new none = elim none.cause [
   | inl failed ↦ (failed.1, none.wrote)
   | inr wanted ↦ absurd (grind (arith, wanted))
 ]
 
-init_failed : {D : Type 0} (disks : DiskWords D) (folder : List ℕ) (outside beyond : OutsideState D) {input now : SourceState} (output new : SinkState)
-    → InitsOn disks folder outside beyond input now output new DiskFault → Failed outside.disk_faults beyond.disk_faults output new
-init_failed disks folder outside beyond output new (inl none) = not_lent_failed disks (journal_in folder ∷ []) outside beyond output new none
+init_failed : {D : Type 0} (disks : DiskWords D) (folder : List ℕ) (outside beyond : OutsideState D)
+    {input now : SourceState} (output new : SinkState)
+    → InitsOn disks folder outside beyond input now output new DiskFault
+    → Failed outside.disk_faults beyond.disk_faults output new
+init_failed disks folder outside beyond output new (inl none) =
+    not_lent_failed disks (journal_in folder ∷ []) outside beyond output new none
 init_failed disks folder outside beyond output new (inr i) = elim i.inits.does [
   | inl done ↦ elim done.1 [
     | inl b ↦ no_line _ (λ e. absurd (grind (arith, e))) b.0.says
-    | inr n ↦ let failed = refusal_failed n.0.fault (disks.tells i.given) (disks.seen i.given) (disks.faults i.given) (disks.faults i.back) output new n.0.cause n.0.says in
+    | inr n ↦ let failed =
+        refusal_failed n.0.fault (disks.tells i.given) (disks.seen i.given) (disks.faults i.given)
+        (disks.faults i.back) output new n.0.cause n.0.says in
         (done.0.rose.0 failed.0, failed.1)
   ]
   | inr u ↦ elim u.cause [
@@ -124,18 +169,27 @@ init_failed disks folder outside beyond output new (inr i) = elim i.inits.does [
   ]
 ]
 
-does_failed : {D : Type 0} (disks : DiskWords D) (task : Result Task (List ℕ)) (outside beyond : OutsideState D) (input now : SourceState) (output new : SinkState)
-    → Does disks task outside beyond input now output new DiskFault → Failed outside.disk_faults beyond.disk_faults output new
+does_failed : {D : Type 0} (disks : DiskWords D) (task : Result Task (List ℕ))
+    (outside beyond : OutsideState D) (input now : SourceState) (output new : SinkState)
+    → Does disks task outside beyond input now output new DiskFault
+    → Failed outside.disk_faults beyond.disk_faults output new
 does_failed disks (Err line) outside beyond input now output new does = absurd does.0.leaves
 does_failed disks (Ok (Says speech)) outside beyond input now output new does = absurd does.0.leaves
-does_failed disks (Ok (Serves stories budget folder)) outside beyond input now output new (inl none) = not_lent_failed disks _ outside beyond output new none
-does_failed disks (Ok (Serves stories budget folder)) outside beyond input now output new (inr t) = pipe_failed disks folder outside beyond output new t
-does_failed disks (Ok (ServesLinks stories folder)) outside beyond input now output new (inl none, doors) = not_lent_failed disks _ outside beyond output new none
-does_failed disks (Ok (ServesLinks stories folder)) outside beyond input now output new (inr t, doors) = links_failed disks folder outside beyond output new t
-does_failed disks (Ok (Begins folder)) outside beyond input now output new does = init_failed disks folder outside beyond output new does
+does_failed disks (Ok (Serves stories budget folder)) outside beyond input now output new
+    (inl none) = not_lent_failed disks _ outside beyond output new none
+does_failed disks (Ok (Serves stories budget folder)) outside beyond input now output new (inr t) =
+    pipe_failed disks folder outside beyond output new t
+does_failed disks (Ok (ServesLinks stories folder)) outside beyond input now output new
+    (inl none, doors) = not_lent_failed disks _ outside beyond output new none
+does_failed disks (Ok (ServesLinks stories folder)) outside beyond input now output new
+    (inr t, doors) = links_failed disks folder outside beyond output new t
+does_failed disks (Ok (Begins folder)) outside beyond input now output new does =
+    init_failed disks folder outside beyond output new does
 
-disk_failed : {D : Type 0} (disks : DiskWords D) (asked : Asked) (outside beyond : OutsideState D) (input now : SourceState) (output new : SinkState)
-    → Follows disks asked DiskFault outside beyond input now output new → Failed outside.disk_faults beyond.disk_faults output new
+disk_failed : {D : Type 0} (disks : DiskWords D) (asked : Asked) (outside beyond : OutsideState D)
+    (input now : SourceState) (output new : SinkState)
+    → Follows disks asked DiskFault outside beyond input now output new
+    → Failed outside.disk_faults beyond.disk_faults output new
 disk_failed disks asked outside beyond input now output new (inl none) = elim none.cause [
   | inl failed ↦ absurd (grind (arith, failed.0))
   | inr wanted ↦ absurd (grind (arith, wanted))
@@ -148,11 +202,14 @@ six : (status : Status) (code : ℕ) → status_of code ≡ Some status → code
 six status code is e = cc
 
 -- exit code 6 is a disk's
-pub failed_six : {D : Type 0} (disks : DiskWords D) (asked : Asked) (status : Status) (code : ℕ) (outside beyond : OutsideState D) (input now : SourceState) (output new : SinkState)
-    → Follows disks asked status outside beyond input now output new → status_of code ≡ Some status → code ≡ 6 → Failed outside.disk_faults beyond.disk_faults output new
+pub failed_six : {D : Type 0} (disks : DiskWords D) (asked : Asked) (status : Status) (code : ℕ)
+    (outside beyond : OutsideState D) (input now : SourceState) (output new : SinkState)
+    → Follows disks asked status outside beyond input now output new → status_of code ≡ Some status
+    → code ≡ 6 → Failed outside.disk_faults beyond.disk_faults output new
 failed_six disks asked status code outside beyond input now output new follows is e =
     disk_failed disks asked outside beyond input now output new
-    (subst (λ (s : Status). Follows disks asked s outside beyond input now output new) (sym (six status code is e)) follows)
+    (subst (λ (s : Status). Follows disks asked s outside beyond input now output new)
+    (sym (six status code is e)) follows)
 
 -- ---- the status of a door that failed
 
@@ -168,37 +225,53 @@ no_cut stop.Output A e = absurd (grind (arith, e))
 no_cut stop.Memory A e = absurd (grind (arith, e))
 
 -- no line ends so
-unsaid : {good : Status} {line : List ℕ} {output new : SinkState} (A : Type 0) → (DoorFault ≡ good → A) → SaysLine good line output new DoorFault → A
+unsaid : {good : Status} {line : List ℕ} {output new : SinkState} (A : Type 0)
+    → (DoorFault ≡ good → A) → SaysLine good line output new DoorFault → A
 unsaid A f (inl said) = f said.0
 unsaid A f (inr (cause, is, stopped)) = no_cut cause A is
 
-unrefused : (why : InitFault) (output new : SinkState) (A : Type 0) → SaysRefusal why output new DoorFault → A
+unrefused : (why : InitFault) (output new : SinkState) (A : Type 0)
+    → SaysRefusal why output new DoorFault → A
 unrefused begin.NotEmpty output new A says = unsaid A (λ e. absurd (grind (arith, e))) says
 unrefused (begin.DiskFault counts) output new A says = absurd (grind (arith, says.0))
 
-not_lent_door : {D : Type 0} (disks : DiskWords D) (names : List (List ℕ)) (outside beyond : OutsideState D) {input now : SourceState} {output new : SinkState} (A : Type 0)
+not_lent_door : {D : Type 0} (disks : DiskWords D) (names : List (List ℕ))
+    (outside beyond : OutsideState D) {input now : SourceState} {output new : SinkState}
+    (A : Type 0)
     → NotLent disks names outside beyond input now output new DoorFault → A
 not_lent_door disks names outside beyond A none = elim none.cause [
   | inl failed ↦ absurd (grind (arith, failed.0))
   | inr wanted ↦ absurd (grind (arith, wanted))
 ]
 
-hosted_door : {D : Type 0} (disks : DiskWords D) (Hosts : D → List D → Type 0) (given : D) (givens : List D) (b : Back D) (input now : SourceState) (output new : SinkState) (A : Type 0)
-    → ((journal : D) (snaps : List D) → Hosts journal snaps → A) → HostedOver Hosts disks given givens b input now output new DoorFault → A
-hosted_door disks Hosts given givens (back.All journal snaps) input now output new A f hosts = f journal snaps.items hosts
-hosted_door disks Hosts given givens (back.Journal journal) input now output new A f n = absurd (fault_no_door n.fault output new DoorFault n.says refl)
-hosted_door disks Hosts given givens (back.Snap session snap) input now output new A f s = absurd (grind (arith, s.failed))
-hosted_door disks Hosts given givens back.Nothing input now output new A f l = absurd (grind (arith, l.wanted))
+hosted_door : {D : Type 0} (disks : DiskWords D) (Hosts : D → List D → Type 0) (given : D)
+    (givens : List D) (b : Back D) (input now : SourceState) (output new : SinkState) (A : Type 0)
+    → ((journal : D) (snaps : List D) → Hosts journal snaps → A)
+    → HostedOver Hosts disks given givens b input now output new DoorFault → A
+hosted_door disks Hosts given givens (back.All journal snaps) input now output new A f hosts =
+    f journal snaps.items hosts
+hosted_door disks Hosts given givens (back.Journal journal) input now output new A f n =
+    absurd (fault_no_door n.fault output new DoorFault n.says refl)
+hosted_door disks Hosts given givens (back.Snap session snap) input now output new A f s =
+    absurd (grind (arith, s.failed))
+hosted_door disks Hosts given givens back.Nothing input now output new A f l =
+    absurd (grind (arith, l.wanted))
 
-door_in : {D : Type 0} (disks : DiskWords D) (task : Result Task (List ℕ)) (outside beyond : OutsideState D) (input now : SourceState) (output new : SinkState)
-    → Does disks task outside beyond input now output new DoorFault → Rose outside.door_faults beyond.door_faults
+door_in : {D : Type 0} (disks : DiskWords D) (task : Result Task (List ℕ))
+    (outside beyond : OutsideState D) (input now : SourceState) (output new : SinkState)
+    → Does disks task outside beyond input now output new DoorFault
+    → Rose outside.door_faults beyond.door_faults
 door_in disks (Err line) outside beyond input now output new does = absurd does.0.leaves
 door_in disks (Ok (Says speech)) outside beyond input now output new does = absurd does.0.leaves
-door_in disks (Ok (Serves stories budget folder)) outside beyond input now output new (inl none) = not_lent_door disks _ outside beyond _ none
+door_in disks (Ok (Serves stories budget folder)) outside beyond input now output new (inl none) =
+    not_lent_door disks _ outside beyond _ none
 door_in disks (Ok (Serves stories budget folder)) outside beyond input now output new (inr t) =
-    hosted_door disks _ t.given t.givens t.back input now output new _ (λ journal snaps hosts. no_served hosts.0 _ hosts.1) t.done
-door_in disks (Ok (ServesLinks stories folder)) outside beyond input now output new does = does.1.fault refl
-door_in disks (Ok (Begins folder)) outside beyond input now output new (inl none) = not_lent_door disks _ outside beyond _ none
+    hosted_door disks _ t.given t.givens t.back input now output new _
+    (λ journal snaps hosts. no_served hosts.0 _ hosts.1) t.done
+door_in disks (Ok (ServesLinks stories folder)) outside beyond input now output new does =
+    does.1.fault refl
+door_in disks (Ok (Begins folder)) outside beyond input now output new (inl none) =
+    not_lent_door disks _ outside beyond _ none
 door_in disks (Ok (Begins folder)) outside beyond input now output new (inr i) = elim i.inits.does [
   | inl done ↦ elim done.1 [
     | inl b ↦ unsaid _ (λ e. absurd (grind (arith, e))) b.0.says
@@ -210,30 +283,39 @@ door_in disks (Ok (Begins folder)) outside beyond input now output new (inr i) =
   ]
 ]
 
-door_failed : {D : Type 0} (disks : DiskWords D) (asked : Asked) (outside beyond : OutsideState D) (input now : SourceState) (output new : SinkState)
-    → Follows disks asked DoorFault outside beyond input now output new → Rose outside.door_faults beyond.door_faults
+door_failed : {D : Type 0} (disks : DiskWords D) (asked : Asked) (outside beyond : OutsideState D)
+    (input now : SourceState) (output new : SinkState)
+    → Follows disks asked DoorFault outside beyond input now output new
+    → Rose outside.door_faults beyond.door_faults
 door_failed disks asked outside beyond input now output new (inl none) = elim none.cause [
   | inl failed ↦ absurd (grind (arith, failed.0))
   | inr wanted ↦ absurd (grind (arith, wanted))
 ]
 door_failed disks asked outside beyond input now output new (inr some) =
-    subst (λ (n : ℕ). Rose n beyond.door_faults) some.doors.door_faults (door_in disks _ some.between beyond input now output new some.does)
+    subst (λ (n : ℕ). Rose n beyond.door_faults) some.doors.door_faults
+    (door_in disks _ some.between beyond input now output new some.does)
 
 nine : (status : Status) (code : ℕ) → status_of code ≡ Some status → code ≡ 9 → DoorFault ≡ status
 nine status code is e = cc
 
 -- exit code 9 is a door's
-pub failed_nine : {D : Type 0} (disks : DiskWords D) (asked : Asked) (status : Status) (code : ℕ) (outside beyond : OutsideState D) (input now : SourceState) (output new : SinkState)
-    → Follows disks asked status outside beyond input now output new → status_of code ≡ Some status → code ≡ 9 → Rose outside.door_faults beyond.door_faults
+pub failed_nine : {D : Type 0} (disks : DiskWords D) (asked : Asked) (status : Status) (code : ℕ)
+    (outside beyond : OutsideState D) (input now : SourceState) (output new : SinkState)
+    → Follows disks asked status outside beyond input now output new → status_of code ≡ Some status
+    → code ≡ 9 → Rose outside.door_faults beyond.door_faults
 failed_nine disks asked status code outside beyond input now output new follows is e =
     door_failed disks asked outside beyond input now output new
-    (subst (λ (s : Status). Follows disks asked s outside beyond input now output new) (sym (nine status code is e)) follows)
+    (subst (λ (s : Status). Follows disks asked s outside beyond input now output new)
+    (sym (nine status code is e)) follows)
 
-pub coded_two : (status : Status) (code : ℕ) → status_of code ≡ Some status → code ≡ 2 → status ≡ BadWords
+pub coded_two : (status : Status) (code : ℕ) → status_of code ≡ Some status → code ≡ 2
+    → status ≡ BadWords
 coded_two status code is e = cc
 
-pub coded_four : (status : Status) (code : ℕ) → status_of code ≡ Some status → code ≡ 4 → status ≡ ReadFault
+pub coded_four : (status : Status) (code : ℕ) → status_of code ≡ Some status → code ≡ 4
+    → status ≡ ReadFault
 coded_four status code is e = cc
 
-pub coded_five : (status : Status) (code : ℕ) → status_of code ≡ Some status → code ≡ 5 → status ≡ WriteFault
+pub coded_five : (status : Status) (code : ℕ) → status_of code ≡ Some status → code ≡ 5
+    → status ≡ WriteFault
 coded_five status code is e = cc

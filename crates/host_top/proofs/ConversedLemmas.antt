@@ -1,9 +1,12 @@
--- What `pipe` leaves of its disk, its input and its output, from what its host says as it is opened, serves and ends.
-use Rattle.std.proofs.Common.{◌≡◌, ◌⊎◌, ℕ, ◌+◌, ◌<◌, ◌≤◌, max, List, [], ◌∷◌, ◌++◌, length, map, take, sym, ap, ◌∙◌, subst, Bool, IsTrue, Some, arith, refl}
+-- What `pipe` leaves of its disk, its input and its output, from what its host says as it is
+-- opened, serves and ends.
+use Rattle.std.proofs.Common.{◌≡◌, ◌⊎◌, ℕ, ◌+◌, ◌<◌, ◌≤◌, max, List, [], ◌∷◌, ◌++◌, length, map}
+use Rattle.std.proofs.Common.{take, sym, ap, ◌∙◌, subst, Bool, IsTrue, Some, arith, refl}
 use Rattle.std.proofs.lemmas.List.{length-map}
 use Rattle.std.proofs.Math.Seq.{take-append_seam}
 use Rattle.disk_model.specs.Disk.{EachImage, LeavesOnly, SameDisk}
-use Rattle.gate_journal.specs.Log.{IsBetween, IsSinceOpened, Log, MayOpen, MaySpell, Opening, Rises, kept, rows_found, rows_of}
+use Rattle.gate_journal.specs.Log.{IsBetween, IsSinceOpened, Log, MayOpen, MaySpell, Opening, Rises}
+use Rattle.gate_journal.specs.Log.{kept, rows_found, rows_of}
 use Rattle.gate_journal.proofs.LogLemmas.{rows_of-all}
 use Rattle.gate_journal.proofs.SinceLemmas.{rows_of-append}
 use Rattle.gate_journal.specs.Rows.{SpellsRows, IsJournal, spelled}
@@ -41,13 +44,17 @@ EndsOn {D} disks host passes back backs =
     × EachImage disks.tells disks.may_leave back (MaySpell (rows_of log.entries) log.uncertain)
     × EachImage disks.tells disks.may_leave back (MayOpen (rows_of log.entries))
     × Rises (disks.faults log.opening.disk) log.entries (disks.faults back)
-    × IsSinceOpened disks.tells disks.may_leave disks.room disks.label disks.reach disks.moment disks.left_since log
-    × (IsSound disks.tells disks.seen host → AreAgreedDisks disks.tells disks.may_leave host.stories.now (rows_of log.entries) backs)
+    × IsSinceOpened disks.tells disks.may_leave disks.room disks.label disks.reach disks.moment
+    disks.left_since log
+    × (IsSound disks.tells disks.seen host
+    → AreAgreedDisks disks.tells disks.may_leave host.stories.now (rows_of log.entries) backs)
 
 module _ {D : Type 0} (disks : DiskWords D) where
   pub same_zip : (gs : List D) (ss : List (Snapshots D)) (bs : List D)
-      → AllZip (IsStoreOf disks.tells disks.may_leave disks.seen disks.moment disks.left_since disks.faults disks.reach disks.room disks.label) gs ss
-      → AllZip (GivesBack disks.tells disks.faults disks.reach disks.room disks.label) ss bs → AreSame disks gs bs
+      → AllZip (IsStoreOf disks.tells disks.may_leave disks.seen disks.moment disks.left_since
+      disks.faults disks.reach disks.room disks.label) gs ss
+      → AllZip (GivesBack disks.tells disks.faults disks.reach disks.room disks.label) ss bs
+      → AreSame disks gs bs
   same_zip [] [] [] of gives = tt
   same_zip [] [] (b ∷ bs) of gives = absurd gives
   same_zip [] (s ∷ ss) bs of gives = absurd of
@@ -69,8 +76,10 @@ module _ {D : Type 0} (disks : DiskWords D) where
   same_long (g ∷ gs) (b ∷ bs) same = omega (arith, same_long gs bs same.1)
 
   pub back_zip : (gs : List D) (ss : List (Snapshots D)) (bs : List D)
-      → AllZip (IsStoreOf disks.tells disks.may_leave disks.seen disks.moment disks.left_since disks.faults disks.reach disks.room disks.label) gs ss
-      → AllZip (GivesBack disks.tells disks.faults disks.reach disks.room disks.label) ss bs → AllZip (IsStoreBack disks) gs bs
+      → AllZip (IsStoreOf disks.tells disks.may_leave disks.seen disks.moment disks.left_since
+      disks.faults disks.reach disks.room disks.label) gs ss
+      → AllZip (GivesBack disks.tells disks.faults disks.reach disks.room disks.label) ss bs
+      → AllZip (IsStoreBack disks) gs bs
   back_zip [] [] [] of gives = tt
   back_zip [] [] (b ∷ bs) of gives = absurd gives
   back_zip [] (s ∷ ss) bs of gives = absurd of
@@ -87,15 +96,20 @@ module _ {D : Type 0} (disks : DiskWords D) where
 same_some : {A : Type 0} (a b : A) → Some a ≡ Some b → a ≡ b
 same_some a b e = cc
 
-module _ {D : Type 0} (disks : DiskWords D) (given back : D) (givens backs : List D) (stories : List Story) (budget : ℕ) (rows : List Row) (host : Host D) (first last : Passes D)
-    (opened : IsOpened stories budget rows (record { disk = given; found = length rows }) host first)
+module _ {D : Type 0} (disks : DiskWords D) (given back : D) (givens backs : List D)
+    (stories : List Story) (budget : ℕ) (rows : List Row) (host : Host D) (first last : Passes D)
+    (opened : IsOpened stories budget rows (record { disk = given; found = length rows }) host
+    first)
     (end : EndsOn disks host last back backs) where
-  abbrev since : IsSinceOpened disks.tells disks.may_leave disks.room disks.label disks.reach disks.moment disks.left_since end.0
+  abbrev since : IsSinceOpened disks.tells disks.may_leave disks.room disks.label disks.reach
+      disks.moment disks.left_since end.0
   since = end.7
 
   -- it is the journal that was opened on this disk, with these rows
   opening : end.0.opening ≡ record { disk = given; found = length rows }
-  opening = sym (same_some (record { disk = given; found = length rows }) end.0.opening (sym opened.root ∙ end.2.opening))
+  opening =
+      sym (same_some (record { disk = given; found = length rows }) end.0.opening
+      (sym opened.root ∙ end.2.opening))
 
   opened_on : end.0.opening.disk ≡ given
   opened_on = ap (λ (o : Opening D). o.disk) opening
@@ -104,78 +118,117 @@ module _ {D : Type 0} (disks : DiskWords D) (given back : D) (givens backs : Lis
   all_rows = end.2.grows.1 ∙ ap (λ (es : List JournalEntry). es ++ end.2.grows.0) opened.begins
 
   pub grows : rows_of end.0.entries ≡ rows ++ rows_of end.2.grows.0
-  grows = ap rows_of all_rows ∙ rows_of-append (kept rows) end.2.grows.0 ∙ ap (λ (rs : List Row). rs ++ rows_of end.2.grows.0) (rows_of-all rows)
+  grows =
+      ap rows_of all_rows ∙ rows_of-append (kept rows) end.2.grows.0
+      ∙ ap (λ (rs : List Row). rs ++ rows_of end.2.grows.0) (rows_of-all rows)
 
   found : rows_found end.0 ≡ rows
   found =
-      let many : end.0.opening.found ≡ length (kept rows) = ap (λ (o : Opening D). o.found) opening ∙ sym (length-map rows _) in
-      ap (λ (n : ℕ). rows_of (take n end.0.entries)) many ∙ ap (λ (es : List JournalEntry). rows_of (take (length (kept rows)) es)) all_rows
+      let many : end.0.opening.found ≡ length (kept rows) =
+      ap (λ (o : Opening D). o.found) opening ∙ sym (length-map rows _) in
+      ap (λ (n : ℕ). rows_of (take n end.0.entries)) many
+      ∙ ap (λ (es : List JournalEntry). rows_of (take (length (kept rows)) es)) all_rows
       ∙ ap rows_of (take-append_seam (kept rows) end.2.grows.0) ∙ rows_of-all rows
 
   pub same_back : SameDisk disks.tells disks.room disks.label given back
   same_back =
       subst (λ (d : D). SameDisk disks.tells disks.room disks.label given d) (sym end.1)
-      (subst (λ (d : D). SameDisk disks.tells disks.room disks.label d end.0.disk) opened_on since.same)
+      (subst (λ (d : D). SameDisk disks.tells disks.room disks.label d end.0.disk) opened_on
+      since.same)
 
   pub counts : Rises (disks.faults given) end.0.entries (disks.faults back)
-  counts = subst (λ (d : D). Rises (disks.faults d) end.0.entries (disks.faults back)) opened_on end.6
+  counts =
+      subst (λ (d : D). Rises (disks.faults d) end.0.entries (disks.faults back)) opened_on end.6
 
-  pub meanwhile : (start : List Row) → IsJournal start → EachImage disks.tells disks.may_leave given (MayOpen start) → IsTrue (disks.tells given)
-      → LeavesOnly disks.moment disks.left_since given back (λ c. MayOpen start c ⊎ IsBetween rows (rows_of end.0.entries) c)
+  pub meanwhile : (start : List Row) → IsJournal start
+      → EachImage disks.tells disks.may_leave given (MayOpen start) → IsTrue (disks.tells given)
+      → LeavesOnly disks.moment disks.left_since given back
+      (λ c. MayOpen start c ⊎ IsBetween rows (rows_of end.0.entries) c)
   meanwhile start journal may tells =
-      let leaves = since.meanwhile start journal (subst (λ (d : D). EachImage disks.tells disks.may_leave d (MayOpen start)) (sym opened_on) may)
+      let leaves =
+      since.meanwhile start journal (subst
+      (λ (d : D). EachImage disks.tells disks.may_leave d (MayOpen start)) (sym opened_on) may)
       (subst (λ (d : D). IsTrue (disks.tells d)) (sym opened_on) tells) in
-      subst (λ (d : D). LeavesOnly disks.moment disks.left_since given d (λ c. MayOpen start c ⊎ IsBetween rows (rows_of end.0.entries) c)) (sym end.1)
-      (subst (λ (d : D). LeavesOnly disks.moment disks.left_since d end.0.disk (λ c. MayOpen start c ⊎ IsBetween rows (rows_of end.0.entries) c)) opened_on
-      (subst (λ (rs : List Row). LeavesOnly disks.moment disks.left_since end.0.opening.disk end.0.disk (λ c. MayOpen start c ⊎ IsBetween rs (rows_of end.0.entries) c)) found leaves))
+      subst (λ (d : D). LeavesOnly disks.moment disks.left_since given d
+      (λ c. MayOpen start c ⊎ IsBetween rows (rows_of end.0.entries) c)) (sym end.1)
+      (subst (λ (d : D). LeavesOnly disks.moment disks.left_since d end.0.disk
+      (λ c. MayOpen start c ⊎ IsBetween rows (rows_of end.0.entries) c)) opened_on
+      (subst (λ (rs : List Row). LeavesOnly disks.moment disks.left_since end.0.opening.disk
+      end.0.disk (λ c. MayOpen start c ⊎ IsBetween rs (rows_of end.0.entries) c)) found leaves))
 
-  pub reaches : disks.reach back ≤ max (disks.reach given) (length (spelled (rows_of end.0.entries)) + 4110)
+  pub reaches : disks.reach back ≤ max (disks.reach given)
+      (length (spelled (rows_of end.0.entries)) + 4110)
   reaches =
-      subst (λ (d : D). disks.reach d ≤ max (disks.reach given) (length (spelled (rows_of end.0.entries)) + 4110)) (sym end.1)
-      (subst (λ (d : D). disks.reach end.0.disk ≤ max (disks.reach d) (length (spelled (rows_of end.0.entries)) + 4110)) opened_on since.reaches)
+      subst (λ (d : D). disks.reach d ≤ max (disks.reach given)
+      (length (spelled (rows_of end.0.entries)) + 4110)) (sym end.1)
+      (subst (λ (d : D). disks.reach end.0.disk ≤ max (disks.reach d)
+      (length (spelled (rows_of end.0.entries)) + 4110)) opened_on since.reaches)
 
   at_opening : rows_at_opening host ≡ rows
   at_opening = ap rows_of opened.begins ∙ rows_of-all rows
 
   -- ---- the stores
 
-  module _ (stores : AllZip (IsStoreOf disks.tells disks.may_leave disks.seen disks.moment disks.left_since disks.faults disks.reach disks.room disks.label) givens (stores_of host))
-      (returned : AllZip (GivesBack disks.tells disks.faults disks.reach disks.room disks.label) (stores_of host) backs) where
+  module _ (stores : AllZip (IsStoreOf disks.tells disks.may_leave disks.seen disks.moment
+      disks.left_since disks.faults disks.reach disks.room disks.label) givens (stores_of host))
+      (returned : AllZip (GivesBack disks.tells disks.faults disks.reach disks.room disks.label)
+      (stores_of host) backs) where
     pub same_stores : AreSame disks givens backs
     same_stores = same_zip disks givens (stores_of host) backs stores returned
 
-    pub stores_back : (AreAgreed disks.tells disks.seen stories (rows_at_opening host) givens → IsSound disks.tells disks.seen host) → StoresBack disks stories rows (rows_of end.0.entries) givens backs
+    pub stores_back : (AreAgreed disks.tells disks.seen stories (rows_at_opening host) givens
+        → IsSound disks.tells disks.seen host)
+        → StoresBack disks stories rows (rows_of end.0.entries) givens backs
     stores_back sound = record {
       each = back_zip disks givens (stores_of host) backs stores returned;
-      agreed = λ agreed. subst (λ (s : List Story). AreAgreedDisks disks.tells disks.may_leave s (rows_of end.0.entries) backs) opened.stories
-          (end.8 (sound (subst (λ (rs : List Row). AreAgreed disks.tells disks.seen stories rs givens) (sym at_opening) agreed)));
+      agreed =
+          λ agreed. subst (λ (s : List Story). AreAgreedDisks disks.tells disks.may_leave s
+          (rows_of end.0.entries) backs) opened.stories
+          (end.8 (sound (subst (λ (rs : List Row). AreAgreed disks.tells disks.seen stories rs
+          givens) (sym at_opening) agreed)));
     }
 
   -- ---- the lines between the two
 
-  module _ (holds : holders last.desks.items ≡ holders first.desks.items) {input now : SourceState} {output new : SinkState} (served : Served)
-      (lines : ServesBetween (IsSound disks.tells disks.seen host) host first last input now output new served) where
+  module _ (holds : holders last.desks.items ≡ holders first.desks.items) {input now : SourceState}
+      {output new : SinkState} (served : Served)
+      (lines : ServesBetween (IsSound disks.tells disks.seen host) host first last input now output
+      new served) where
     abbrev Sound : Type 0
     Sound = IsSound disks.tells disks.seen host
 
-    chain : Chain stories budget Sound roots (histories_of rows) lines.turns (seens last.desks.items)
+    chain : Chain stories budget Sound roots (histories_of rows) lines.turns
+        (seens last.desks.items)
     chain =
-        subst (λ (h : List (List Entry)). Chain stories budget Sound roots h lines.turns (seens last.desks.items)) opened.histories
-        (subst (λ (h : List Holder). Chain stories budget Sound h (seens first.desks.items) lines.turns (seens last.desks.items)) opened.alone
-        (subst (λ (b : ℕ). Chain stories b Sound (holders first.desks.items) (seens first.desks.items) lines.turns (seens last.desks.items)) opened.budget
-        (subst (λ (s : List Story). Chain s host.budget Sound (holders first.desks.items) (seens first.desks.items) lines.turns (seens last.desks.items)) opened.stories lines.chain)))
+        subst (λ (h : List (List Entry)). Chain stories budget Sound roots h lines.turns
+        (seens last.desks.items)) opened.histories
+        (subst (λ (h : List Holder). Chain stories budget Sound h (seens first.desks.items)
+        lines.turns (seens last.desks.items)) opened.alone
+        (subst (λ (b : ℕ). Chain stories b Sound (holders first.desks.items)
+        (seens first.desks.items) lines.turns (seens last.desks.items)) opened.budget
+        (subst (λ (s : List Story). Chain s host.budget Sound (holders first.desks.items)
+        (seens first.desks.items) lines.turns (seens last.desks.items)) opened.stories
+        lines.chain)))
 
     own : AreOwn stories budget (seens last.desks.items)
-    own = own_all stories budget Sound (histories_of rows) lines.turns (seens last.desks.items) (many_histories rows) (own_rows stories budget rows) chain
+    own =
+        own_all stories budget Sound (histories_of rows) lines.turns (seens last.desks.items)
+        (many_histories rows) (own_rows stories budget rows) chain
 
     entries : (s : ℕ) → s < 64 → history_in end.0.entries s ≡ seen_at (seens last.desks.items) s
     entries s below =
-        let alone = subst (λ (h : List Holder). seen_at end.2.finals s ≡ seen_at (seens last.desks.items) s) holds
-        ((end.2.each s below).alone (subst (λ (h : List Holder). ((holder_at h s).number ≡ 0) × ((holder_at h s).made ≡ 0)) (sym (holds ∙ opened.alone)) (alone_there s below))) in
+        let alone =
+        subst (λ (h : List Holder). seen_at end.2.finals s ≡ seen_at (seens last.desks.items) s)
+        holds
+        ((end.2.each s below).alone (subst
+        (λ (h : List Holder). ((holder_at h s).number ≡ 0) × ((holder_at h s).made ≡ 0))
+        (sym (holds ∙ opened.alone)) (alone_there s below))) in
         end.2.kept s below ∙ ap (map unnumbered) alone ∙ own s
 
-    pub conversed : (IsTrue (disks.tells given) → SpellsRows (disks.seen given) rows) → (AreAgreed disks.tells disks.seen stories (rows_at_opening host) givens → Sound)
-        → StoresBack disks stories rows (rows_of end.0.entries) givens backs → Conversed disks stories budget given givens back backs input now output new served
+    pub conversed : (IsTrue (disks.tells given) → SpellsRows (disks.seen given) rows)
+        → (AreAgreed disks.tells disks.seen stories (rows_at_opening host) givens → Sound)
+        → StoresBack disks stories rows (rows_of end.0.entries) givens backs
+        → Conversed disks stories budget given givens back backs input now output new served
     conversed spells sound stores = record {
       rows = rows;
       handed_in = spells;
@@ -188,13 +241,19 @@ module _ {D : Type 0} (disks : DiskWords D) (given back : D) (givens backs : Lis
       wrote = lines.tells.wrote;
       writes = lines.tells.replies;
       histories = seens last.desks.items;
-      led = led_all stories budget Sound (histories_of rows) lines.turns (seens last.desks.items) (many_histories rows) chain;
-      sound = λ agreed. led_alone stories budget Sound (sound (subst (λ (rs : List Row). AreAgreed disks.tells disks.seen stories rs givens) (sym at_opening) agreed))
+      led =
+          led_all stories budget Sound (histories_of rows) lines.turns (seens last.desks.items)
+          (many_histories rows) chain;
+      sound =
+          λ agreed. led_alone stories budget Sound
+          (sound (subst (λ (rs : List Row). AreAgreed disks.tells disks.seen stories rs givens)
+          (sym at_opening) agreed))
           (histories_of rows) lines.turns (seens last.desks.items) (many_histories rows) chain;
       journal = end.0.entries;
       entries = entries;
       faults = counts;
-      accepted = λ s below. sym (commands_in-history end.0.entries s) ∙ ap commands_in (entries s below);
+      accepted =
+          λ s below. sym (commands_in-history end.0.entries s) ∙ ap commands_in (entries s below);
       uncertain = end.0.uncertain;
       images = end.4;
       meanwhile = meanwhile;
@@ -203,11 +262,16 @@ module _ {D : Type 0} (disks : DiskWords D) (given back : D) (givens backs : Lis
     }
 
 -- what an opening may meet it may meet again on the disk that came back
-pub may_open_again : {D : Type 0} (tells : D → Bool) (may_leave : D → List ℕ → Type 0) (moment : D → ℕ) (left_since : D → ℕ → List ℕ → Type 0) (given back : D)
+pub may_open_again : {D : Type 0} (tells : D → Bool) (may_leave : D → List ℕ → Type 0)
+    (moment : D → ℕ) (left_since : D → ℕ → List ℕ → Type 0) (given back : D)
     → tells back ≡ tells given
-    → ((rows : List Row) → IsJournal rows → EachImage tells may_leave given (MayOpen rows) → IsTrue (tells given) → LeavesOnly moment left_since given back (MayOpen rows))
+    → ((rows : List Row) → IsJournal rows → EachImage tells may_leave given (MayOpen rows)
+    → IsTrue (tells given) → LeavesOnly moment left_since given back (MayOpen rows))
     → ((t : ℕ) (c : List ℕ) → t ≤ moment back → may_leave back c → left_since back t c)
-    → (rows : List Row) → IsJournal rows → EachImage tells may_leave given (MayOpen rows) → EachImage tells may_leave back (MayOpen rows)
-may_open_again tells may_leave moment left_since given back telling crash now rows journal may told c left =
-    let leaves : LeavesOnly moment left_since given back (MayOpen rows) = crash rows journal may (subst (λ (b : Bool). IsTrue b) telling told) in
+    → (rows : List Row) → IsJournal rows → EachImage tells may_leave given (MayOpen rows)
+    → EachImage tells may_leave back (MayOpen rows)
+may_open_again tells may_leave moment left_since given back telling crash now rows journal may told
+    c left =
+    let leaves : LeavesOnly moment left_since given back (MayOpen rows) =
+    crash rows journal may (subst (λ (b : Bool). IsTrue b) telling told) in
     leaves.each c (now (moment given) c leaves.later left)

@@ -1,36 +1,35 @@
--- How `init` makes stores and begins a journal.
-use Rattle.std.proofs.Common.{◌≡◌, ◌⊎◌, inl, inr, ℕ, ◌+◌, ◌<◌, ◌≤◌, List, [], ◌∷◌, ◌++◌, length, map, arith, refl, sym, ap, ◌∙◌, subst, Option, None, Some, Bool, true, false, IsTrue, IsSomeAnd, Err, IsErrOf}
+-- The stores of a new folder are made.
+use Rattle.std.proofs.Common.{◌≡◌, ℕ, ◌+◌, ◌<◌, ◌≤◌, List, [], ◌∷◌, ◌++◌, length}
+use Rattle.std.proofs.Common.{map, arith, refl, sym, ap, ◌∙◌, subst, None, Some, Bool, true}
+use Rattle.std.proofs.Common.{false, IsTrue, IsSomeAnd}
 use Rattle.std.proofs.lemmas.List.{map-append}
 use Rattle.std.specs.Str.{bytes_eq}
-use Rattle.disk_model.specs.Disk.{Elapses, NoneNew, SameDisk, Rose as Rises}
+use Rattle.disk_model.specs.Disk.{Elapses, NoneNew, SameDisk}
 use Rattle.disk_model.proofs.Moments.{goes_on, started}
-use Rattle.gate_journal.specs.Faults.{HasInitCause, IsFault}
-use Rattle.gate_journal.specs.declared.fault.InitFault.{InitFault}
-use Rattle.gate_journal.specs.declared.fault.InitFault.TheVariants as fault
 use Rattle.line_talk.specs.Causes.{Rose}
-use Rattle.line_talk.specs.Streams.{SourceState, SinkState}
-use Rattle.line_talk.proofs.StreamsLemmas.{gave_none, wrote_none}
 use Rattle.turn_cell.specs.History.{Each}
 use Rattle.turn_cell.proofs.HistoryLemmas.{each_append, each_first, each_map}
-use Rattle.host_top.specs.Begun.{Begun, Inits, InitsFolder, InitsOver, IsLookedAt, IsMade, IsTried, LooksOnly, MakesAll, MakesStores, NotBegun, SaysRefusal, TriesStores, Unmade}
-use Rattle.host_top.specs.Borrowed.{AreNamed, Borrowed, CountsFaults, HasFailed, IsOther, Lending, NotLent, journal_in, loan_by, snap_in, snaps_below}
+use Rattle.host_top.specs.Begun.{IsLookedAt, IsMade, IsTried}
+use Rattle.host_top.specs.Begun.{MakesStores}
+use Rattle.host_top.specs.Begun.{TriesStores}
+use Rattle.host_top.specs.Borrowed.{AreNamed, CountsFaults, HasFailed, IsOther, Lending}
+use Rattle.host_top.specs.Borrowed.{snap_in, snaps_below}
 use Rattle.host_top.specs.DiskWords.{DiskWords}
-use Rattle.host_top.specs.Files.{IsLent, IsLentFrom, Lends, OutsideState, TakesBack}
-use Rattle.host_top.specs.declared.loan.Loan.{Loan}
-use Rattle.host_top.specs.Status.{status_of_fetch}
-use Rattle.host_top.specs.declared.outside.Fetch.{Fetch}
-use Rattle.host_top.specs.declared.outside.Fetch.TheVariants as fetch
-use Rattle.host_top.specs.declared.status.Status.{Status}
-use Rattle.host_top.specs.declared.status.Status.TheVariants as ends
-use Rattle.host_top.proofs.BorrowLemmas.{counts_one, counts_out, each_last, lent_loan, lent_nothing, lent_one, one_back, together, turned_about}
-use Rattle.host_top.proofs.NameLemmas.{each_snap, journal_apart, snap_each, snaps_before, snaps_more, snaps_none}
+use Rattle.host_top.specs.Files.{IsLentFrom, Lends, OutsideState, TakesBack}
+use Rattle.host_top.proofs.BorrowLemmas.{each_last, lent_loan}
+use Rattle.host_top.proofs.LoansLemmas.{counts_one, counts_out, lent_nothing}
+use Rattle.host_top.proofs.BorrowLemmas.{together, turned_about}
+use Rattle.host_top.proofs.NameLemmas.{each_snap, snap_each, snaps_before}
+use Rattle.host_top.proofs.NameLemmas.{snaps_more, snaps_none}
 use Rattle.host_top.proofs.LendingLemmas.{returned_one}
 
 -- ---- a disk's size
 
-pub empty_so : (seen : List ℕ) (size : ℕ) (empty : Bool) → size ≡ length seen → (empty ≡ true → size ≡ 0) → (empty ≡ false → 0 < size)
+pub empty_so : (seen : List ℕ) (size : ℕ) (empty : Bool) → size ≡ length seen
+    → (empty ≡ true → size ≡ 0) → (empty ≡ false → 0 < size)
     → (empty ≡ true → seen ≡ []) × (empty ≡ false → 0 < length seen)
-empty_so seen size empty is none some = ((λ e. of seen (omega (arith, none e, is))), λ e. omega (arith, some e, is))
+empty_so seen size empty is none some =
+    ((λ e. of seen (omega (arith, none e, is))), λ e. omega (arith, some e, is))
   where
     of : (s : List ℕ) → length s ≡ 0 → s ≡ []
     of [] e = refl
@@ -38,7 +37,8 @@ empty_so seen size empty is none some = ((λ e. of seen (omega (arith, none e, i
 
 pub looked_at : {D : Type 0} (disks : DiskWords D) (old new : D) → disks.reach new ≡ disks.reach old
     → (IsTrue (disks.tells old) → NoneNew (disks.may_leave old) (disks.may_leave new))
-    → Elapses (disks.moment old) (disks.moment new) (disks.left_since old) (disks.left_since new) (disks.may_leave new)
+    → Elapses (disks.moment old) (disks.moment new) (disks.left_since old) (disks.left_since new)
+    (disks.may_leave new)
     → ((c : List ℕ) → disks.left_since old (disks.moment old) c → disks.may_leave old c)
     → IsLookedAt disks old new
 looked_at disks old new reach crash time now = (
@@ -54,18 +54,25 @@ module _ {D : Type 0} (disks : DiskWords D) where
   abbrev one : List ℕ → D → D → Lending D
   one name given back = record { name = name; given = given; back = Some back }
 
-  counts_at : (name : List ℕ) (given back : D) (a b c : OutsideState D) → Lends disks.label disks.faults name given a b → TakesBack disks.faults name back b c
+  counts_at : (name : List ℕ) (given back : D) (a b c : OutsideState D)
+      → Lends disks.label disks.faults name given a b → TakesBack disks.faults name back b c
       → CountsFaults disks a c (one name given back ∷ [])
   counts_at name given back a b c lends takes =
       let l : Lending D = record { name = name; given = given; back = None } in
-      counts_one disks a b c [] l [] back (counts_out disks a b (l ∷ []) (refl, tt) lends.count) refl (lent_loan disks name given a b lends) takes
+      counts_one disks a b c [] l [] back (counts_out disks a b (l ∷ []) (refl, tt) lends.count)
+      refl (lent_loan disks name given a b lends) takes
 
-  pub store_made : (name first second : List ℕ) (given back : D) (a b c : OutsideState D) → first ≡ name → second ≡ name → Lends disks.label disks.faults first given a b
-      → (IsTrue (disks.tells given) → IsLentFrom disks.seen disks.may_leave (a.disk first) given) → SameDisk disks.tells disks.room disks.label given back
-      → TakesBack disks.faults second back b c → IsTried disks given back → IsMade disks given back → MakesStores disks (name ∷ []) a c
+  pub store_made : (name first second : List ℕ) (given back : D) (a b c : OutsideState D)
+      → first ≡ name → second ≡ name → Lends disks.label disks.faults first given a b
+      → (IsTrue (disks.tells given) → IsLentFrom disks.seen disks.may_leave (a.disk first) given)
+      → SameDisk disks.tells disks.room disks.label given back
+      → TakesBack disks.faults second back b c → IsTried disks given back → IsMade disks given back
+      → MakesStores disks (name ∷ []) a c
   store_made name first second given back a b c is again lends lent same takes tried made =
       let lends' = subst (λ (n : List ℕ). Lends disks.label disks.faults n given a b) is lends in
-      let lent' = subst (λ (n : List ℕ). IsTrue (disks.tells given) → IsLentFrom disks.seen disks.may_leave (a.disk n) given) is lent in
+      let lent' =
+      subst (λ (n : List ℕ). IsTrue (disks.tells given)
+      → IsLentFrom disks.seen disks.may_leave (a.disk n) given) is lent in
       let takes' = subst (λ (n : List ℕ). TakesBack disks.faults n back b c) again takes in
       record {
         stores = one name given back ∷ [];
@@ -76,64 +83,98 @@ module _ {D : Type 0} (disks : DiskWords D) where
         counts = counts_at name given back a b c lends' takes';
       }
 
-  pub store_tried : (name first second : List ℕ) (given back : D) (a b c : OutsideState D) → first ≡ name → second ≡ name → Lends disks.label disks.faults first given a b
-      → (IsTrue (disks.tells given) → IsLentFrom disks.seen disks.may_leave (a.disk first) given) → SameDisk disks.tells disks.room disks.label given back
-      → TakesBack disks.faults second back b c → IsTried disks given back → TriesStores disks (name ∷ []) a c
+  pub store_tried : (name first second : List ℕ) (given back : D) (a b c : OutsideState D)
+      → first ≡ name → second ≡ name → Lends disks.label disks.faults first given a b
+      → (IsTrue (disks.tells given) → IsLentFrom disks.seen disks.may_leave (a.disk first) given)
+      → SameDisk disks.tells disks.room disks.label given back
+      → TakesBack disks.faults second back b c → IsTried disks given back
+      → TriesStores disks (name ∷ []) a c
   store_tried name first second given back a b c is again lends lent same takes tried = record {
     stores = one name given back ∷ [];
     named = λ other away. away;
     tried = (tried, tt);
     borrowed = returned_one disks name given back a b c
         (subst (λ (n : List ℕ). Lends disks.label disks.faults n given a b) is lends)
-        (subst (λ (n : List ℕ). IsTrue (disks.tells given) → IsLentFrom disks.seen disks.may_leave (a.disk n) given) is lent)
+        (subst (λ (n : List ℕ). IsTrue (disks.tells given)
+        → IsLentFrom disks.seen disks.may_leave (a.disk n) given) is lent)
         same (subst (λ (n : List ℕ). TakesBack disks.faults n back b c) again takes);
   }
 
   -- it failed, and so did its disk
-  pub store_failed : (name second : List ℕ) (given back : D) (a b c : OutsideState D) → second ≡ name → Lends disks.label disks.faults name given a b
-      → TakesBack disks.faults second back b c → Rose (disks.faults given) (disks.faults back) → Rose a.disk_faults c.disk_faults
+  pub store_failed : (name second : List ℕ) (given back : D) (a b c : OutsideState D)
+      → second ≡ name → Lends disks.label disks.faults name given a b
+      → TakesBack disks.faults second back b c → Rose (disks.faults given) (disks.faults back)
+      → Rose a.disk_faults c.disk_faults
   store_failed name second given back a b c again lends takes rose =
-      let counts = counts_at name given back a b c lends (subst (λ (n : List ℕ). TakesBack disks.faults n back b c) again takes) in
+      let counts =
+      counts_at name given back a b c lends
+      (subst (λ (n : List ℕ). TakesBack disks.faults n back b c) again takes) in
       counts.rose.0 rose
 
-  pub store_later : (name second : List ℕ) (given back : D) (a b c : OutsideState D) → second ≡ name → Lends disks.label disks.faults name given a b
+  pub store_later : (name second : List ℕ) (given back : D) (a b c : OutsideState D) → second ≡ name
+      → Lends disks.label disks.faults name given a b
       → TakesBack disks.faults second back b c → a.disk_faults ≤ c.disk_faults
   store_later name second given back a b c again lends takes =
-      let counts = counts_at name given back a b c lends (subst (λ (n : List ℕ). TakesBack disks.faults n back b c) again takes) in
+      let counts =
+      counts_at name given back a b c lends
+      (subst (λ (n : List ℕ). TakesBack disks.faults n back b c) again takes) in
       counts.later
 
-  pub no_stores : (names : List (List ℕ)) (a c : OutsideState D) → ((other : List ℕ) → (c.disk other ≡ a.disk other) × (c.loan other ≡ a.loan other)) → TriesStores disks names a c
-  no_stores names a c same = record { stores = []; named = λ other away. tt; tried = tt; borrowed = lent_nothing disks a c same }
+  pub no_stores : (names : List (List ℕ)) (a c : OutsideState D)
+      → ((other : List ℕ) → (c.disk other ≡ a.disk other) × (c.loan other ≡ a.loan other))
+      → TriesStores disks names a c
+  no_stores names a c same =
+      record {
+        stores = [];
+        named = λ other away. tt;
+        tried = tt;
+        borrowed = lent_nothing disks a c
+            same;
+      }
 
   -- ---- stores one after the other
 
-  pub counts_then : (a b c : OutsideState D) (ls ks : List (Lending D)) → CountsFaults disks a b ls → CountsFaults disks b c ks → CountsFaults disks a c (ls ++ ks)
+  pub counts_then : (a b c : OutsideState D) (ls ks : List (Lending D)) → CountsFaults disks a b ls
+      → CountsFaults disks b c ks → CountsFaults disks a c (ls ++ ks)
   counts_then a b c ls ks first more = record {
     rose = each_append (λ l. HasFailed disks l → Rose a.disk_faults c.disk_faults) ls ks
-        (each_map (λ l. HasFailed disks l → Rose a.disk_faults b.disk_faults) (λ l. HasFailed disks l → Rose a.disk_faults c.disk_faults) ls
+        (each_map (λ l. HasFailed disks l → Rose a.disk_faults b.disk_faults)
+        (λ l. HasFailed disks l → Rose a.disk_faults c.disk_faults) ls
         (λ l f failed. let rose = f failed in omega (arith, rose, more.later)) first.rose)
-        (each_map (λ l. HasFailed disks l → Rose b.disk_faults c.disk_faults) (λ l. HasFailed disks l → Rose a.disk_faults c.disk_faults) ks
+        (each_map (λ l. HasFailed disks l → Rose b.disk_faults c.disk_faults)
+        (λ l. HasFailed disks l → Rose a.disk_faults c.disk_faults) ks
         (λ l f failed. let rose = f failed in omega (arith, rose, first.later)) more.rose);
-    stays = λ none. more.stays (each_last (λ l. HasFailed disks l → ⊥) ls ks none) ∙ first.stays (each_first (λ l. HasFailed disks l → ⊥) ls ks none);
+    stays =
+        λ none. more.stays (each_last (λ l. HasFailed disks l → ⊥) ls ks none)
+        ∙ first.stays (each_first (λ l. HasFailed disks l → ⊥) ls ks none);
     later = omega (arith, first.later, more.later);
   }
 
   -- what holds of the names holds of those disks
-  pub each_named : (P : List ℕ → Type 0) (ls : List (Lending D)) → Each P (map (λ (l : Lending D). l.name) ls) → Each (λ (l : Lending D). P l.name) ls
+  pub each_named : (P : List ℕ → Type 0) (ls : List (Lending D))
+      → Each P (map (λ (l : Lending D). l.name) ls) → Each (λ (l : Lending D). P l.name) ls
   each_named P [] each = tt
   each_named P (l ∷ ls) each = (each.0, each_named P ls each.1)
 
-  apart_so : (folder : List ℕ) (s : ℕ) (ls ks : List (Lending D)) → s < 64 → map (λ (l : Lending D). l.name) ls ≡ snaps_below folder s → AreNamed (snap_in folder s ∷ []) ks
+  apart_so : (folder : List ℕ) (s : ℕ) (ls ks : List (Lending D)) → s < 64
+      → map (λ (l : Lending D). l.name) ls ≡ snaps_below folder s
+      → AreNamed (snap_in folder s ∷ []) ks
       → Each (λ l. Each (IsOther l.name) ks) ls
-  apart_so folder s ls ks within names named = each_map (λ l. bytes_eq l.name (snap_in folder s) ≡ false) (λ l. Each (IsOther l.name) ks) ls
+  apart_so folder s ls ks within names named =
+      each_map (λ l. bytes_eq l.name (snap_in folder s) ≡ false) (λ l. Each (IsOther l.name) ks) ls
       (λ l away. named l.name (turned_about l.name (snap_in folder s) away, tt))
       (each_named (λ n. bytes_eq n (snap_in folder s) ≡ false) ls
-      (subst (Each (λ n. bytes_eq n (snap_in folder s) ≡ false)) (sym names) (snaps_before folder s within)))
+      (subst (Each (λ n. bytes_eq n (snap_in folder s) ≡ false)) (sym names)
+      (snaps_before folder s within)))
 
-  one_named : (name : List ℕ) (ks : List (Lending D)) → map (λ (l : Lending D). l.name) ks ≡ name ∷ [] → AreNamed (name ∷ []) ks
-  one_named name ks is = λ other away. each_named (λ n. bytes_eq n other ≡ false) ks (subst (Each (λ n. bytes_eq n other ≡ false)) (sym is) away)
+  one_named : (name : List ℕ) (ks : List (Lending D))
+      → map (λ (l : Lending D). l.name) ks ≡ name ∷ [] → AreNamed (name ∷ []) ks
+  one_named name ks is =
+      λ other away. each_named (λ n. bytes_eq n other ≡ false) ks
+      (subst (Each (λ n. bytes_eq n other ≡ false)) (sym is) away)
 
-  pub stores_none : (folder : List ℕ) (a : OutsideState D) → MakesStores disks (snaps_below folder 0) a a
+  pub stores_none : (folder : List ℕ) (a : OutsideState D)
+      → MakesStores disks (snaps_below folder 0) a a
   stores_none folder a = record {
     stores = [];
     names_are = sym (snaps_none folder);
@@ -143,243 +184,50 @@ module _ {D : Type 0} (disks : DiskWords D) where
     counts = record { rose = tt; stays = λ none. refl; later = omega arith };
   }
 
-  pub stores_more : (folder : List ℕ) (s : ℕ) (a b c : OutsideState D) → s < 64 → MakesStores disks (snaps_below folder s) a b → MakesStores disks (snap_in folder s ∷ []) b c
+  pub stores_more : (folder : List ℕ) (s : ℕ) (a b c : OutsideState D) → s < 64
+      → MakesStores disks (snaps_below folder s) a b → MakesStores disks (snap_in folder s ∷ []) b c
       → MakesStores disks (snaps_below folder (s + 1)) a c
   stores_more folder s a b c within first more = record {
     stores = first.stores ++ more.stores;
-    names_are = map-append (λ (l : Lending D). l.name) first.stores more.stores ∙ ap (λ (x : List (List ℕ)). x ++ map (λ (l : Lending D). l.name) more.stores) first.names_are
-        ∙ ap (λ (x : List (List ℕ)). snaps_below folder s ++ x) more.names_are ∙ sym (snaps_more folder s);
-    tried = each_append (λ l. IsSomeAnd l.back (IsTried disks l.given)) first.stores more.stores first.tried more.tried;
-    made = each_append (λ l. IsSomeAnd l.back (IsMade disks l.given)) first.stores more.stores first.made more.made;
+    names_are =
+        map-append (λ (l : Lending D). l.name) first.stores more.stores
+        ∙ ap (λ (x : List (List ℕ)). x ++ map (λ (l : Lending D). l.name) more.stores)
+        first.names_are
+        ∙ ap (λ (x : List (List ℕ)). snaps_below folder s ++ x) more.names_are
+        ∙ sym (snaps_more folder s);
+    tried =
+        each_append (λ l. IsSomeAnd l.back (IsTried disks l.given)) first.stores more.stores
+        first.tried more.tried;
+    made =
+        each_append (λ l. IsSomeAnd l.back (IsMade disks l.given)) first.stores more.stores
+        first.made more.made;
     borrowed = together disks a b c first.stores more.stores first.borrowed more.borrowed
-        (apart_so folder s first.stores more.stores within first.names_are (one_named (snap_in folder s) more.stores more.names_are));
+        (apart_so folder s first.stores more.stores within first.names_are
+        (one_named (snap_in folder s) more.stores more.names_are));
     counts = counts_then a b c first.stores more.stores first.counts more.counts;
   }
 
-  pub stores_tried : (folder : List ℕ) (s : ℕ) (a b c : OutsideState D) → s < 64 → MakesStores disks (snaps_below folder s) a b → TriesStores disks (snap_in folder s ∷ []) b c
+  pub stores_tried : (folder : List ℕ) (s : ℕ) (a b c : OutsideState D) → s < 64
+      → MakesStores disks (snaps_below folder s) a b → TriesStores disks (snap_in folder s ∷ []) b c
       → TriesStores disks (snaps_below folder 64) a c
   stores_tried folder s a b c within first more = record {
     stores = first.stores ++ more.stores;
     named = λ other away. each_append (IsOther other) first.stores more.stores
-        (each_named (λ n. bytes_eq n other ≡ false) first.stores (subst (Each (λ n. bytes_eq n other ≡ false)) (sym first.names_are)
-        (snap_each (λ n. bytes_eq n other ≡ false) folder s (λ t low. each_snap (λ n. bytes_eq n other ≡ false) folder 64 t away (omega arith)))))
+        (each_named (λ n. bytes_eq n other ≡ false) first.stores
+        (subst (Each (λ n. bytes_eq n other ≡ false)) (sym first.names_are)
+        (snap_each (λ n. bytes_eq n other ≡ false) folder s
+        (λ t low. each_snap (λ n. bytes_eq n other ≡ false) folder 64 t away (omega arith)))))
         (more.named other (each_snap (λ n. bytes_eq n other ≡ false) folder 64 s away within, tt));
-    tried = each_append (λ l. IsSomeAnd l.back (IsTried disks l.given)) first.stores more.stores first.tried more.tried;
+    tried =
+        each_append (λ l. IsSomeAnd l.back (IsTried disks l.given)) first.stores more.stores
+        first.tried more.tried;
     borrowed = together disks a b c first.stores more.stores first.borrowed more.borrowed
         (apart_so folder s first.stores more.stores within first.names_are more.named);
   }
 
-  pub all_named : (folder : List ℕ) (ls : List (Lending D)) → map (λ (l : Lending D). l.name) ls ≡ snaps_below folder 64 → AreNamed (snaps_below folder 64) ls
-  all_named folder ls is = λ other away. each_named (λ n. bytes_eq n other ≡ false) ls (subst (Each (λ n. bytes_eq n other ≡ false)) (sym is) away)
-
--- ---- the journal, behind a look at its disk
-
-module _ {D : Type 0} (disks : DiskWords D) (given mid : D) (looks : IsLookedAt disks given mid) (same : SameDisk disks.tells disks.room disks.label given mid) where
-  still_told : IsTrue (disks.tells given) → IsTrue (disks.tells mid)
-  still_told told = subst (λ (b : Bool). IsTrue b) (sym same.telling) told
-
-  module _ (empty : IsTrue (disks.tells given) → disks.seen given ≡ []) (seen : IsTrue (disks.tells given) → disks.seen mid ≡ disks.seen given)
-      (faults : disks.faults mid ≡ disks.faults given) (back : D) (output new : SinkState) (status : Status) where
-    begun_from : Begun disks mid back output new status → Begun disks given back output new status
-    begun_from b = record {
-      empty = empty;
-      holds = λ told. b.holds (still_told told);
-      count = b.count ∙ faults;
-      says = b.says;
-    }
-
-    cause_from : (why : InitFault) → HasInitCause (disks.tells mid) (disks.seen mid) (disks.faults mid) (disks.faults back) why
-        → HasInitCause (disks.tells given) (disks.seen given) (disks.faults given) (disks.faults back) why
-    cause_from fault.NotEmpty c = ((λ told. subst (λ (s : List ℕ). 0 < length s) (seen told) (c.0 (still_told told))), c.1 ∙ faults)
-    cause_from (fault.DiskFault f) c = subst (λ (n : ℕ). IsFault f n (disks.faults back)) faults c
-
-    looks_from : (why : InitFault) → HasInitCause (disks.tells mid) (disks.seen mid) (disks.faults mid) (disks.faults back) why → LooksOnly disks mid back why → LooksOnly disks given back why
-    looks_from fault.NotEmpty c l = (
-      l.0 ∙ looks.0,
-      λ told. let some : 0 < length (disks.seen mid) = c.0 (still_told told) in absurd (omega (arith, some, ap length (seen told ∙ empty told))),
-    )
-    looks_from (fault.DiskFault f) c l = tt
-
-    not_begun_from : NotBegun disks mid back output new status → NotBegun disks given back output new status
-    not_begun_from n = record {
-      fault = n.fault;
-      cause = cause_from n.fault n.cause;
-      looks = looks_from n.fault n.cause n.looks;
-      says = n.says;
-    }
-
-    pub inits_over : (folder : List ℕ) (a b : OutsideState D) → MakesStores disks (snaps_below folder 64) a b → InitsOver disks mid back output new status
-        → (stores : List (Lending D)) × Inits disks folder given back stores stores a b output new status
-    inits_over folder a b made over =
-        let all : MakesAll disks folder given made.stores = record { empty = empty; names = made.names_are; each = made.made } in (
-          made.stores,
-          record {
-            borrowed = made.borrowed;
-            named = all_named disks folder made.stores made.names_are;
-            tried = made.tried;
-            reaches = omega (arith, over.reaches, looks.0);
-            later = made.counts.later;
-            does = inl (
-              made.counts,
-              elim over.does [
-                | inl begun ↦ inl (begun_from begun, all)
-                | inr not ↦ inr (not_begun_from not, inr all)
-              ],
-            );
-          },
-        )
-
-  unmade_so : (why : Fetch) (status : Status) (a b : OutsideState D) → status ≡ status_of_fetch why → (IsErrOf {T = Unit {0}} (Err why) fetch.Failed → Rose a.disk_faults b.disk_faults)
-      → (status ≡ ends.DiskFault) × Rose a.disk_faults b.disk_faults ⊎ (status ≡ ends.NoMemory)
-  unmade_so fetch.Failed status a b is rose = inl (is, rose refl)
-  unmade_so fetch.NoMemory status a b is rose = inr is
-
-  pub inits_unmade : (folder : List ℕ) (a b : OutsideState D) (output : SinkState) (why : Fetch) (status : Status) → (IsTrue (disks.tells given) → disks.seen given ≡ [])
-      → TriesStores disks (snaps_below folder 64) a b → status ≡ status_of_fetch why → (IsErrOf {T = Unit {0}} (Err why) fetch.Failed → Rose a.disk_faults b.disk_faults) → a.disk_faults ≤ b.disk_faults
-      → (stores : List (Lending D)) × Inits disks folder given mid stores stores a b output output status
-  inits_unmade folder a b output why status empty tries is rose later = (
-    tries.stores,
-    record {
-      borrowed = tries.borrowed;
-      named = tries.named;
-      tried = tries.tried;
-      reaches = omega (arith, looks.0);
-      later = later;
-      does = inr (record { empty = empty; looks = looks; cause = unmade_so why status a b is rose; wrote = wrote_none output });
-    },
-  )
-
-  none_named : (names : List (List ℕ)) → AreNamed {D = D} names []
-  none_named names other away = tt
-
-  not_begun_alone : (folder : List ℕ) (a : OutsideState D) (output new : SinkState) (status : Status) → NotBegun disks given mid output new status
-      → (stores : List (Lending D)) × Inits disks folder given mid stores stores a a output new status
-  not_begun_alone folder a output new status n = (
-    [],
-    record {
-      borrowed = lent_nothing disks a a (λ other. (refl, refl));
-      named = none_named (snaps_below folder 64);
-      tried = tt;
-      reaches = omega (arith, looks.0);
-      later = omega arith;
-      does = inl (record { rose = tt; stays = λ none. refl; later = omega arith }, inr (n, inl refl));
-    },
-  )
-
-  pub inits_in_use : (folder : List ℕ) (a : OutsideState D) (output new : SinkState) (status : Status) → (IsTrue (disks.tells given) → 0 < length (disks.seen given))
-      → disks.faults mid ≡ disks.faults given → SaysRefusal fault.NotEmpty output new status → (stores : List (Lending D)) × Inits disks folder given mid stores stores a a output new status
-  inits_in_use folder a output new status some faults says =
-      not_begun_alone folder a output new status (record { fault = fault.NotEmpty; cause = (some, faults); looks = looks; says = says })
-
-  pub inits_failed : (folder : List ℕ) (a : OutsideState D) (output : SinkState) → disks.faults given ≤ disks.faults mid → Rises (disks.faults given) (disks.faults mid)
-      → (stores : List (Lending D)) × Inits disks folder given mid stores stores a a output output ends.DiskFault
-  inits_failed folder a output later rose =
-      not_begun_alone folder a output output ends.DiskFault (record {
-        fault = fault.DiskFault (record { from = disks.faults given; to = disks.faults mid });
-        cause = record { at_start = refl; at_end = refl; no_lower = later; rose = rose };
-        looks = tt;
-        says = (refl, wrote_none output);
-      })
-
--- ---- the journal's disk is lent before, and put back behind
-
-module _ {D : Type 0} (disks : DiskWords D) where
-  pub folder_inits : (folder first second : List ℕ) (given back : D) (o a b beyond : OutsideState D) (input : SourceState) (output new : SinkState) (status : Status)
-      → first ≡ journal_in folder → second ≡ journal_in folder → Lends disks.label disks.faults first given o a
-      → (IsTrue (disks.tells given) → IsLentFrom disks.seen disks.may_leave (o.disk first) given) → SameDisk disks.tells disks.room disks.label given back
-      → (stores : List (Lending D)) × Inits disks folder given back stores stores a b output new status → TakesBack disks.faults second back b beyond
-      → InitsFolder disks folder o beyond input input output new status
-  folder_inits folder first second given back o a b beyond input output new status is again lends lent same init takes =
-      let name : List ℕ = journal_in folder in
-      let lends' = subst (λ (n : List ℕ). Lends disks.label disks.faults n given o a) is lends in
-      let lent' = subst (λ (n : List ℕ). IsTrue (disks.tells given) → IsLentFrom disks.seen disks.may_leave (o.disk n) given) is lent in
-      let takes' = subst (λ (n : List ℕ). TakesBack disks.faults n back b beyond) again takes in
-      let stores : List (Lending D) = init.0 in
-      let i : Inits disks folder given back stores stores a b output new status = init.1 in
-      let l : Lending D = record { name = name; given = given; back = None } in
-      let far : Each (IsOther name) stores = i.named name (snap_each (λ n. bytes_eq n name ≡ false) folder 64 (λ t low. turned_about name (snap_in folder t) (each_snap (λ n. bytes_eq name n ≡ false) folder 64 t (journal_apart folder 64) low))) in
-      let both : Borrowed disks o b (l ∷ stores) = together disks o a b (l ∷ []) stores (lent_one disks name given o a lends' lent') i.borrowed (far, tt) in
-      record {
-        given = given;
-        back = back;
-        stores = stores;
-        inits = record {
-          borrowed = one_back disks o b beyond [] l stores back both tt far takes' same;
-          named = i.named;
-          tried = i.tried;
-          reaches = i.reaches;
-          later = later_so lends' i takes' (both.each.0.loan);
-          does = does_so lends' i takes' (both.each.0.loan);
-        };
-        gave = gave_none input;
-      }
-    where
-      counted : (stores : List (Lending D)) → Lends disks.label disks.faults (journal_in folder) given o a → CountsFaults disks a b stores → TakesBack disks.faults (journal_in folder) back b beyond
-          → b.loan (journal_in folder) ≡ Some (loan_by disks (record { name = journal_in folder; given = given; back = None }))
-          → CountsFaults disks o beyond (record { name = journal_in folder; given = given; back = Some back } ∷ stores)
-      counted stores lends counts takes loan =
-          let l : Lending D = record { name = journal_in folder; given = given; back = None } in
-          counts_one disks o b beyond [] l stores back (counts_then disks o a b (l ∷ []) stores (counts_out disks o a (l ∷ []) (refl, tt) lends.count) counts) refl loan takes
-
-      rises : Lends disks.label disks.faults (journal_in folder) given o a → TakesBack disks.faults (journal_in folder) back b beyond
-          → b.loan (journal_in folder) ≡ Some (loan_by disks (record { name = journal_in folder; given = given; back = None })) → b.disk_faults ≤ beyond.disk_faults
-      rises lends takes loan =
-          let l : Lending D = record { name = journal_in folder; given = given; back = None } in
-          let c = counts_one disks b b beyond [] l [] back (counts_out disks b b (l ∷ []) (refl, tt) refl) refl loan takes in c.later
-
-      later_so : {stores : List (Lending D)} → Lends disks.label disks.faults (journal_in folder) given o a → Inits disks folder given back stores stores a b output new status
-          → TakesBack disks.faults (journal_in folder) back b beyond → b.loan (journal_in folder) ≡ Some (loan_by disks (record { name = journal_in folder; given = given; back = None }))
-          → o.disk_faults ≤ beyond.disk_faults
-      later_so lends i takes loan = let up = rises lends takes loan in omega (arith, lends.count, i.later, up)
-
-      cause_so : Lends disks.label disks.faults (journal_in folder) given o a → TakesBack disks.faults (journal_in folder) back b beyond
-          → b.loan (journal_in folder) ≡ Some (loan_by disks (record { name = journal_in folder; given = given; back = None }))
-          → (status ≡ ends.DiskFault) × Rose a.disk_faults b.disk_faults ⊎ (status ≡ ends.NoMemory) → (status ≡ ends.DiskFault) × Rose o.disk_faults beyond.disk_faults ⊎ (status ≡ ends.NoMemory)
-      cause_so lends takes loan (inl failed) = let up = rises lends takes loan in inl (failed.0, omega (arith, failed.1, up, lends.count))
-      cause_so lends takes loan (inr wanted) = inr wanted
-
-      does_so : {stores : List (Lending D)} → Lends disks.label disks.faults (journal_in folder) given o a → Inits disks folder given back stores stores a b output new status
-          → TakesBack disks.faults (journal_in folder) back b beyond → b.loan (journal_in folder) ≡ Some (loan_by disks (record { name = journal_in folder; given = given; back = None }))
-          → CountsFaults disks o beyond (record { name = journal_in folder; given = given; back = Some back } ∷ stores)
-          × (Begun disks given back output new status × MakesAll disks folder given stores
-          ⊎ NotBegun disks given back output new status × ((stores ≡ []) ⊎ MakesAll disks folder given stores))
-          ⊎ Unmade disks given back o beyond output new status
-      does_so {stores} lends i takes loan = elim i.does [
-        | inl done ↦ inl (counted stores lends done.0 takes loan, done.1)
-        | inr u ↦ inr (record {
-          empty = u.empty;
-          looks = u.looks;
-          cause = cause_so lends takes loan u.cause;
-          wrote = u.wrote;
-        })
-      ]
-
-  pub folder_lent : (folder first second : List ℕ) (given back : D) (o a b : OutsideState D) (output new : SinkState) (status : Status)
-      → first ≡ journal_in folder → second ≡ journal_in folder → Lends disks.label disks.faults first given o a
-      → SameDisk disks.tells disks.room disks.label given back
-      → (stores : List (Lending D)) × Inits disks folder given back stores stores a b output new status → IsLent (b.loan second) (disks.label back)
-  folder_lent folder first second given back o a b output new status is again lends same init =
-      let name : List ℕ = journal_in folder in
-      let l : Lending D = record { name = name; given = given; back = None } in
-      let far : Each (IsOther name) init.0 = init.1.named name (snap_each (λ n. bytes_eq n name ≡ false) folder 64 (λ t low. turned_about name (snap_in folder t) (each_snap (λ n. bytes_eq name n ≡ false) folder 64 t (journal_apart folder 64) low))) in
-      let loan : b.loan name ≡ Some (loan_by disks l) = (init.1.borrowed.others name far).1 ∙ lent_loan disks name given o a (subst (λ (n : List ℕ). Lends disks.label disks.faults n given o a) is lends) in
-      subst (λ (n : List ℕ). IsLent (b.loan n) (disks.label back)) (sym again)
-      (subst (λ (x : Option Loan). IsLent x (disks.label back)) (sym loan) (sym same.name, refl))
-
-  pub no_folder : (names : List (List ℕ)) (outside beyond : OutsideState D) (input : SourceState) (output : SinkState) (status : Status)
-      → ((other : List ℕ) → (beyond.disk other ≡ outside.disk other) × (beyond.loan other ≡ outside.loan other))
-      → (status ≡ ends.DiskFault) × Rose outside.disk_faults beyond.disk_faults ⊎ (status ≡ ends.NoMemory) → NotLent disks names outside beyond input input output output status
-  no_folder names outside beyond input output status same cause = record {
-    cause = cause;
-    gave = gave_none input;
-    wrote = wrote_none output;
-    loans = [];
-    named = λ other away. tt;
-    given = tt;
-    borrowed = lent_nothing disks outside beyond same;
-  }
-
-pub fetch_cause : {D T : Type 0} (why : Fetch) (status : Status) (a b : OutsideState D) → status ≡ status_of_fetch why → (IsErrOf {T = T} (Err why) fetch.Failed → Rose a.disk_faults b.disk_faults)
-    → (status ≡ ends.DiskFault) × Rose a.disk_faults b.disk_faults ⊎ (status ≡ ends.NoMemory)
-fetch_cause fetch.Failed status a b is rose = inl (is, rose refl)
-fetch_cause fetch.NoMemory status a b is rose = inr is
+  pub all_named : (folder : List ℕ) (ls : List (Lending D))
+      → map (λ (l : Lending D). l.name) ls ≡ snaps_below folder 64
+      → AreNamed (snaps_below folder 64) ls
+  all_named folder ls is =
+      λ other away. each_named (λ n. bytes_eq n other ≡ false) ls
+      (subst (Each (λ n. bytes_eq n other ≡ false)) (sym is) away)

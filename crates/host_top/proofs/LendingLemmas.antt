@@ -1,5 +1,8 @@
 -- The loops over the disks of a folder.
-use Rattle.std.proofs.Common.{◌≡◌, ℕ, zero, suc, ◌<◌, ◌≤◌, List, [], ◌∷◌, ◌++◌, length, map, take, drop, arith, refl, sym, ap, ◌∙◌, subst, Option, None, Some, IsSomeAnd, Result, Ok, Err, OnErr, IsErrOf, slice_get, get_or, String, false, IsTrue, string_bytes}
+use Rattle.std.proofs.Common.{◌≡◌, ℕ, zero, suc, ◌<◌, ◌≤◌, List, [], ◌∷◌, ◌++◌, length, map, take}
+use Rattle.std.proofs.Common.{drop, arith, refl, sym, ap, ◌∙◌, subst, Option, None, Some, IsSomeAnd}
+use Rattle.std.proofs.Common.{Result, Ok, Err, OnErr, IsErrOf, slice_get, get_or, String, false}
+use Rattle.std.proofs.Common.{IsTrue, string_bytes}
 use Rattle.std.proofs.Math.ListN.{drop_of_length-le}
 use Rattle.std.proofs.lemmas.Option.{slice_get-get_or, slice_get-map}
 use Rattle.std.specs.Option.{option_map}
@@ -7,14 +10,18 @@ use Rattle.std.specs.Str.{bytes_eq}
 use Rattle.disk_model.specs.Disk.{SameDisk}
 use Rattle.turn_cell.specs.History.{Each}
 use Rattle.turn_cell.proofs.HistoryLemmas.{each_append, each_first, each_map}
-use Rattle.host_top.specs.Borrowed.{AreApart, AreAsGiven, AreNamed, Borrowed, IsLending, IsOther, Lending, PutsBack, back_as, lent_as}
+use Rattle.host_top.specs.Borrowed.{AreApart, AreAsGiven, AreNamed, Borrowed, IsLending, IsOther}
+use Rattle.host_top.specs.Borrowed.{Lending, PutsBack, back_as, lent_as}
 use Rattle.host_top.specs.DiskWords.{DiskWords}
 use Rattle.host_top.specs.Files.{IsLent, IsLentFrom, Lends, OutsideState, RisesWith, TakesBack}
 use Rattle.line_talk.specs.Causes.{Rose}
 use Rattle.host_top.specs.declared.loan.Loan.{Loan}
 use Rattle.host_top.specs.declared.outside.Fetch.{Fetch}
 use Rattle.host_top.specs.declared.outside.Fetch.TheVariants as fetch
-use Rattle.host_top.proofs.BorrowLemmas.{all_back, elsewhere, keeps_none, lent_nothing, lent_one, named_each, one_back, same_all, together, turned_about}
+use Rattle.host_top.proofs.BorrowLemmas.{elsewhere, lent_one}
+use Rattle.host_top.proofs.LoansLemmas.{all_back, keeps_none, lent_nothing}
+use Rattle.host_top.proofs.BorrowLemmas.{one_back, together, turned_about}
+use Rattle.host_top.proofs.LoansLemmas.{named_each, same_all}
 
 pub on_err : {T E : Type 0} (r : Result T E) (P : Type 0) → P → OnErr r P
 on_err (Ok x) P p = tt
@@ -22,12 +29,15 @@ on_err (Err e) P p = p
 
 module _ {D : Type 0} (disks : DiskWords D) where
   -- a disk that was lent and put back at once
-  pub returned_one : (name : List ℕ) (given back : D) (a b c : OutsideState D) → Lends disks.label disks.faults name given a b
+  pub returned_one : (name : List ℕ) (given back : D) (a b c : OutsideState D)
+      → Lends disks.label disks.faults name given a b
       → (IsTrue (disks.tells given) → IsLentFrom disks.seen disks.may_leave (a.disk name) given)
-      → SameDisk disks.tells disks.room disks.label given back → TakesBack disks.faults name back b c
+      → SameDisk disks.tells disks.room disks.label given back
+      → TakesBack disks.faults name back b c
       → Borrowed disks a c (record { name = name; given = given; back = Some back } ∷ [])
   returned_one name given back a b c lends lent same takes =
-      one_back disks a b c [] (record { name = name; given = given; back = None }) [] back (lent_one disks name given a b lends lent) tt tt takes same
+      one_back disks a b c [] (record { name = name; given = given; back = None }) [] back
+      (lent_one disks name given a b lends lent) tt tt takes same
 
 -- ---- places in lists
 
@@ -47,7 +57,8 @@ module _ {A : Type 0} where
   no_end [] x B e = absurd (grind (arith, ap length e))
   no_end (y ∷ ys) x B e = absurd (grind (arith, ap length e))
 
-  pub drop_step : (xs : List A) (k : ℕ) (x : A) → slice_get xs k ≡ Some x → drop k xs ≡ x ∷ drop (suc k) xs
+  pub drop_step : (xs : List A) (k : ℕ) (x : A) → slice_get xs k ≡ Some x
+      → drop k xs ≡ x ∷ drop (suc k) xs
   drop_step [] k x e = cc
   drop_step (y ∷ ys) zero x e = ap (λ (z : A). z ∷ ys) (same_item y x e)
   drop_step (y ∷ ys) (suc k) x e = drop_step ys k x e
@@ -57,7 +68,8 @@ module _ {A : Type 0} where
   none_taken k (x ∷ xs) B e low = absurd (grind (arith, ap length e))
 
   -- the last of the first ones
-  pub pop_last : (xs : List A) (k : ℕ) (rest : List A) (x : A) → rest ++ x ∷ [] ≡ take (suc k) xs → k < length xs → (rest ≡ take k xs) × (slice_get xs k ≡ Some x)
+  pub pop_last : (xs : List A) (k : ℕ) (rest : List A) (x : A) → rest ++ x ∷ [] ≡ take (suc k) xs
+      → k < length xs → (rest ≡ take k xs) × (slice_get xs k ≡ Some x)
   pop_last [] k rest x e within = absurd (omega arith)
   pop_last (y ∷ ys) zero [] x e within = (refl, ap (λ (l : List A). Some (head_of x l)) (sym e))
   pop_last (y ∷ ys) zero (z ∷ zs) x e within = no_end zs x _ (ap behind_one e)
@@ -67,12 +79,16 @@ module _ {A : Type 0} where
       (ap (λ (w : A). w ∷ zs) (ap (head_of z) e) ∙ ap (λ (l : List A). y ∷ l) more.0, more.1)
 
 -- the name at a place
-pub named_at : {Y : Type 0} (names : List (String Y)) (k : ℕ) (name : String Y) → k < length names → name ≡ get_or names k name
+pub named_at : {Y : Type 0} (names : List (String Y)) (k : ℕ) (name : String Y) → k < length names
+    → name ≡ get_or names k name
     → slice_get (map string_bytes names) k ≡ Some (string_bytes name)
 named_at {Y} names k name within is =
-    slice_get-map string_bytes names k ∙ ap (option_map string_bytes) (slice_get-get_or names k name within ∙ ap (λ (n : String Y). Some n) (sym is))
+    slice_get-map string_bytes names k
+    ∙ ap (option_map string_bytes)
+    (slice_get-get_or names k name within ∙ ap (λ (n : String Y). Some n) (sym is))
 
-pub each_at : (P : List ℕ → Type 0) (ns : List (List ℕ)) (i : ℕ) (n : List ℕ) → Each P ns → slice_get ns i ≡ Some n → P n
+pub each_at : (P : List ℕ → Type 0) (ns : List (List ℕ)) (i : ℕ) (n : List ℕ) → Each P ns
+    → slice_get ns i ≡ Some n → P n
 each_at P [] i n each e = cc
 each_at P (m ∷ ns) zero n each e = subst P (same_item m n e) each.0
 each_at P (m ∷ ns) (suc i) n each e = each_at P ns i n each.1 e
@@ -82,51 +98,71 @@ each_take P zero ns each = tt
 each_take P (suc n) [] each = tt
 each_take P (suc n) (m ∷ ns) each = (each.0, each_take P n ns each.1)
 
-pub apart_at : (ns : List (List ℕ)) (i k : ℕ) (a b : List ℕ) → AreApart ns → slice_get ns i ≡ Some a → slice_get ns k ≡ Some b → i < k → bytes_eq a b ≡ false
+pub apart_at : (ns : List (List ℕ)) (i k : ℕ) (a b : List ℕ) → AreApart ns → slice_get ns i ≡ Some a
+    → slice_get ns k ≡ Some b → i < k → bytes_eq a b ≡ false
 apart_at [] i k a b apart here there low = cc
 apart_at (n ∷ ns) zero zero a b apart here there low = absurd (omega arith)
 apart_at (n ∷ ns) zero (suc k) a b apart here there low =
-    subst (λ (m : List ℕ). bytes_eq m b ≡ false) (same_item n a here) (each_at (λ other. bytes_eq n other ≡ false) ns k b apart.0 there)
+    subst (λ (m : List ℕ). bytes_eq m b ≡ false) (same_item n a here)
+    (each_at (λ other. bytes_eq n other ≡ false) ns k b apart.0 there)
 apart_at (n ∷ ns) (suc i) zero a b apart here there low = absurd (omega arith)
-apart_at (n ∷ ns) (suc i) (suc k) a b apart here there low = apart_at ns i k a b apart.1 here there (omega arith)
+apart_at (n ∷ ns) (suc i) (suc k) a b apart here there low =
+    apart_at ns i k a b apart.1 here there (omega arith)
 
 -- ---- one disk more is put back
 
 module _ {D : Type 0} (faults : D → ℕ) where
-  pub puts_none : (ns : List (List ℕ)) (ds : List D) (a : OutsideState D) (n : ℕ) → length ds ≤ n → PutsBack faults (drop n ns) (drop n ds) a a
-  puts_none ns ds a n le = subst (λ (l : List D). PutsBack faults (drop n ns) l a a) (sym (drop_of_length-le ds le)) (nothing (drop n ns))
+  pub puts_none : (ns : List (List ℕ)) (ds : List D) (a : OutsideState D) (n : ℕ) → length ds ≤ n
+      → PutsBack faults (drop n ns) (drop n ds) a a
+  puts_none ns ds a n le =
+      subst (λ (l : List D). PutsBack faults (drop n ns) l a a) (sym (drop_of_length-le ds le))
+      (nothing (drop n ns))
     where
       nothing : (l : List (List ℕ)) → PutsBack faults l [] a a
       nothing [] = keeps_none a
       nothing (x ∷ xs) = keeps_none a
 
-  pub puts_more : (ns : List (List ℕ)) (ds : List D) (k : ℕ) (name : List ℕ) (d : D) (a b c : OutsideState D) → PutsBack faults (drop (suc k) ns) (drop (suc k) ds) a b
-      → slice_get ns k ≡ Some name → slice_get ds k ≡ Some d → TakesBack faults name d b c → PutsBack faults (drop k ns) (drop k ds) a c
+  pub puts_more : (ns : List (List ℕ)) (ds : List D) (k : ℕ) (name : List ℕ) (d : D)
+      (a b c : OutsideState D) → PutsBack faults (drop (suc k) ns) (drop (suc k) ds) a b
+      → slice_get ns k ≡ Some name → slice_get ds k ≡ Some d → TakesBack faults name d b c
+      → PutsBack faults (drop k ns) (drop k ds) a c
   puts_more ns ds k name d a b c puts named is takes =
-      subst (λ (l : List (List ℕ)). PutsBack faults l (drop k ds) a c) (sym (drop_step ns k name named))
-      (subst (λ (l : List D). PutsBack faults (name ∷ drop (suc k) ns) l a c) (sym (drop_step ds k d is)) (b, puts, takes))
+      subst (λ (l : List (List ℕ)). PutsBack faults l (drop k ds) a c)
+      (sym (drop_step ns k name named))
+      (subst (λ (l : List D). PutsBack faults (name ∷ drop (suc k) ns) l a c)
+      (sym (drop_step ds k d is)) (b, puts, takes))
 
   -- the others are lent still
-  pub lent_beside : (ns : List (List ℕ)) (i k : ℕ) (name other : List ℕ) (d : D) (b c : OutsideState D) (label : ℕ) → AreApart ns → slice_get ns k ≡ Some name → slice_get ns i ≡ Some other
-      → i < k → TakesBack faults name d b c → IsLent (b.loan other) label → IsLent (c.loan other) label
+  pub lent_beside : (ns : List (List ℕ)) (i k : ℕ) (name other : List ℕ) (d : D)
+      (b c : OutsideState D) (label : ℕ) → AreApart ns → slice_get ns k ≡ Some name
+      → slice_get ns i ≡ Some other
+      → i < k → TakesBack faults name d b c → IsLent (b.loan other) label
+      → IsLent (c.loan other) label
   lent_beside ns i k name other d b c label apart named there low takes lent =
       subst (λ (l : Option Loan). IsLent l label)
-      (sym (takes.loans other ∙ elsewhere (bytes_eq name other) _ (b.loan other) (turned_about other name (apart_at ns i k other name apart there named low)))) lent
+      (sym (takes.loans other ∙ elsewhere (bytes_eq name other) _ (b.loan other)
+      (turned_about other name (apart_at ns i k other name apart there named low)))) lent
 
-  takes_later : (name : List ℕ) (d : D) (b c : OutsideState D) → TakesBack faults name d b c → b.disk_faults ≤ c.disk_faults
+  takes_later : (name : List ℕ) (d : D) (b c : OutsideState D) → TakesBack faults name d b c
+      → b.disk_faults ≤ c.disk_faults
   takes_later name d b c takes = of (b.loan name) takes.count
     where
-      of : (l : Option Loan) → IsSomeAnd l (λ loan. RisesWith loan.from (faults d) b.disk_faults c.disk_faults) → b.disk_faults ≤ c.disk_faults
+      of : (l : Option Loan) → IsSomeAnd l
+          (λ loan. RisesWith loan.from (faults d) b.disk_faults c.disk_faults)
+          → b.disk_faults ≤ c.disk_faults
       of None is = absurd is
       of (Some loan) is = is.later
 
-  pub puts_later : (ns : List (List ℕ)) (ds : List D) (a b : OutsideState D) → PutsBack faults ns ds a b → a.disk_faults ≤ b.disk_faults
+  pub puts_later : (ns : List (List ℕ)) (ds : List D) (a b : OutsideState D)
+      → PutsBack faults ns ds a b → a.disk_faults ≤ b.disk_faults
   puts_later [] ds a b keeps = omega (arith, keeps.disk_faults)
   puts_later (n ∷ ns) [] a b keeps = omega (arith, keeps.disk_faults)
-  puts_later (n ∷ ns) (d ∷ ds) a b puts = let more = puts_later ns ds a puts.0 puts.1 in omega (arith, more, takes_later n d puts.0 b puts.2)
+  puts_later (n ∷ ns) (d ∷ ds) a b puts = let more =
+      puts_later ns ds a puts.0 puts.1 in omega (arith, more, takes_later n d puts.0 b puts.2)
 
   -- names that are left over put nothing back
-  pub puts_first : (ns : List (List ℕ)) (ds : List D) (a b : OutsideState D) → PutsBack faults ns ds a b → PutsBack faults (take (length ds) ns) ds a b
+  pub puts_first : (ns : List (List ℕ)) (ds : List D) (a b : OutsideState D)
+      → PutsBack faults ns ds a b → PutsBack faults (take (length ds) ns) ds a b
   puts_first [] [] a b puts = puts
   puts_first [] (d ∷ ds) a b puts = puts
   puts_first (n ∷ ns) [] a b puts = puts
@@ -139,70 +175,107 @@ module _ {D : Type 0} (disks : DiskWords D) where
   lent_first [] [] = refl
   lent_first [] (d ∷ ds) = refl
   lent_first (n ∷ ns) [] = refl
-  lent_first (n ∷ ns) (d ∷ ds) = ap (λ (l : List (Lending D)). record { name = n; given = d; back = None } ∷ l) (lent_first ns ds)
+  lent_first (n ∷ ns) (d ∷ ds) =
+      ap (λ (l : List (Lending D)). record { name = n; given = d; back = None } ∷ l)
+      (lent_first ns ds)
 
-  lent_more : (ns : List (List ℕ)) (ds : List D) (name : List ℕ) (d : D) → slice_get ns (length ds) ≡ Some name
-      → lent_as ns (ds ++ d ∷ []) ≡ lent_as ns ds ++ record { name = name; given = d; back = None } ∷ []
+  lent_more : (ns : List (List ℕ)) (ds : List D) (name : List ℕ) (d : D)
+      → slice_get ns (length ds) ≡ Some name
+      → lent_as ns (ds ++ d ∷ []) ≡ lent_as ns ds
+      ++ record { name = name; given = d; back = None } ∷ []
   lent_more [] ds name d e = cc
-  lent_more (n ∷ ns) [] name d e = ap (λ (m : List ℕ). record { name = m; given = d; back = None } ∷ lent_as ns []) (same_item n name e) ∙ ap (λ (l : List (Lending D)). record { name = name; given = d; back = None } ∷ l) (lent_none ns)
+  lent_more (n ∷ ns) [] name d e =
+      ap (λ (m : List ℕ). record { name = m; given = d; back = None } ∷ lent_as ns [])
+      (same_item n name e) ∙ ap (λ (l : List (Lending D)).
+      record { name = name; given = d; back = None } ∷ l) (lent_none ns)
     where
       lent_none : (l : List (List ℕ)) → lent_as {D = D} l [] ≡ []
       lent_none [] = refl
       lent_none (m ∷ ms) = refl
-  lent_more (n ∷ ns) (g ∷ gs) name d e = ap (λ (l : List (Lending D)). record { name = n; given = g; back = None } ∷ l) (lent_more ns gs name d e)
+  lent_more (n ∷ ns) (g ∷ gs) name d e =
+      ap (λ (l : List (Lending D)). record { name = n; given = g; back = None } ∷ l)
+      (lent_more ns gs name d e)
 
   -- the next name is another
-  next_apart : (ns : List (List ℕ)) (ds : List D) (name : List ℕ) → AreApart ns → slice_get ns (length ds) ≡ Some name → Each (λ n. bytes_eq n name ≡ false) (take (length ds) ns)
+  next_apart : (ns : List (List ℕ)) (ds : List D) (name : List ℕ) → AreApart ns
+      → slice_get ns (length ds) ≡ Some name
+      → Each (λ n. bytes_eq n name ≡ false) (take (length ds) ns)
   next_apart [] ds name apart e = cc
   next_apart (n ∷ ns) [] name apart e = tt
-  next_apart (n ∷ ns) (d ∷ ds) name apart e = (each_at (λ other. bytes_eq n other ≡ false) ns (length ds) name apart.0 e, next_apart ns ds name apart.1 e)
+  next_apart (n ∷ ns) (d ∷ ds) name apart e = (
+    each_at (λ other. bytes_eq n other ≡ false) ns (length ds) name apart.0 e,
+    next_apart ns ds
+        name apart.1 e,
+  )
 
   apart_first : (ns : List (List ℕ)) (ds : List D) → AreApart ns → AreApart (take (length ds) ns)
   apart_first [] [] apart = tt
   apart_first [] (d ∷ ds) apart = tt
   apart_first (n ∷ ns) [] apart = tt
-  apart_first (n ∷ ns) (d ∷ ds) apart = (each_take (λ other. bytes_eq n other ≡ false) (length ds) ns apart.0, apart_first ns ds apart.1)
+  apart_first (n ∷ ns) (d ∷ ds) apart = (
+    each_take (λ other. bytes_eq n other ≡ false) (length ds) ns apart.0,
+    apart_first ns ds
+        apart.1,
+  )
 
   -- disks that are lent then, of this name alone, are others
-  others_named : (ns : List (List ℕ)) (ds : List D) (name : List ℕ) (ls : List (Lending D)) → AreApart ns → slice_get ns (length ds) ≡ Some name → AreNamed (name ∷ []) ls
+  others_named : (ns : List (List ℕ)) (ds : List D) (name : List ℕ) (ls : List (Lending D))
+      → AreApart ns → slice_get ns (length ds) ≡ Some name → AreNamed (name ∷ []) ls
       → Each (λ n. Each (IsOther n) ls) (take (length ds) ns)
-  others_named ns ds name ls apart e named = each_map (λ n. bytes_eq n name ≡ false) (λ n. Each (IsOther n) ls) (take (length ds) ns)
+  others_named ns ds name ls apart e named =
+      each_map (λ n. bytes_eq n name ≡ false) (λ n. Each (IsOther n) ls) (take (length ds) ns)
       (λ n other. named n (turned_about n name other, tt)) (next_apart ns ds name apart e)
 
-  pub take_on : (a b c : OutsideState D) (ns : List (List ℕ)) (ds : List D) (name : List ℕ) (ls : List (Lending D)) → AreApart ns → slice_get ns (length ds) ≡ Some name
-      → AreNamed (name ∷ []) ls → Borrowed disks a b (lent_as ns ds) → Borrowed disks b c ls → Borrowed disks a c (lent_as ns ds ++ ls)
-  take_on a b c ns ds name ls apart e named first more = together disks a b c (lent_as ns ds) ls first more
-      (subst (λ (l : List (Lending D)). Each (λ k. Each (IsOther k.name) ls) l) (sym (lent_first ns ds))
-      (named_each disks (λ n. Each (IsOther n) ls) (take (length ds) ns) ds (others_named ns ds name ls apart e named)))
+  pub take_on : (a b c : OutsideState D) (ns : List (List ℕ)) (ds : List D) (name : List ℕ)
+      (ls : List (Lending D)) → AreApart ns → slice_get ns (length ds) ≡ Some name
+      → AreNamed (name ∷ []) ls → Borrowed disks a b (lent_as ns ds) → Borrowed disks b c ls
+      → Borrowed disks a c (lent_as ns ds ++ ls)
+  take_on a b c ns ds name ls apart e named first more =
+      together disks a b c (lent_as ns ds) ls first more
+      (subst (λ (l : List (Lending D)). Each (λ k. Each (IsOther k.name) ls) l)
+      (sym (lent_first ns ds))
+      (named_each disks (λ n. Each (IsOther n) ls) (take (length ds) ns) ds
+      (others_named ns ds name ls apart e named)))
 
-  pub take_more : (a b c : OutsideState D) (ns : List (List ℕ)) (ds : List D) (name : List ℕ) (d : D) → AreApart ns → slice_get ns (length ds) ≡ Some name
-      → Borrowed disks a b (lent_as ns ds) → Borrowed disks b c (lent_as (name ∷ []) (d ∷ [])) → Borrowed disks a c (lent_as ns (ds ++ d ∷ []))
+  pub take_more : (a b c : OutsideState D) (ns : List (List ℕ)) (ds : List D) (name : List ℕ)
+      (d : D) → AreApart ns → slice_get ns (length ds) ≡ Some name
+      → Borrowed disks a b (lent_as ns ds) → Borrowed disks b c (lent_as (name ∷ []) (d ∷ []))
+      → Borrowed disks a c (lent_as ns (ds ++ d ∷ []))
   take_more a b c ns ds name d apart e first more =
       subst (λ (l : List (Lending D)). Borrowed disks a c l) (sym (lent_more ns ds name d e))
-      (take_on a b c ns ds name (lent_as (name ∷ []) (d ∷ [])) apart e (λ other away. away) first more)
+      (take_on a b c ns ds name (lent_as (name ∷ []) (d ∷ [])) apart e (λ other away. away) first
+      more)
 
   given_all : (ns : List (List ℕ)) (ds : List D) → AreAsGiven (back_as (lent_as ns ds) ds)
   given_all [] ds = tt
   given_all (n ∷ ns) [] = tt
   given_all (n ∷ ns) (d ∷ ds) = (refl, given_all ns ds)
 
-  back_named : (P : List ℕ → Type 0) (ns : List (List ℕ)) (ds : List D) → Each P ns → Each (λ (l : Lending D). P l.name) (back_as (lent_as ns ds) ds)
+  back_named : (P : List ℕ → Type 0) (ns : List (List ℕ)) (ds : List D) → Each P ns
+      → Each (λ (l : Lending D). P l.name) (back_as (lent_as ns ds) ds)
   back_named P [] ds each = tt
   back_named P (n ∷ ns) [] each = tt
   back_named P (n ∷ ns) (d ∷ ds) each = (each.0, back_named P ns ds each.1)
 
   -- where one isn't lent, the others are put back as they were given
-  pub refused_back : (a b c : OutsideState D) (ns : List (List ℕ)) (ds : List D) (name : List ℕ) (ls : List (Lending D)) → AreApart ns → slice_get ns (length ds) ≡ Some name
-      → AreNamed (name ∷ []) ls → AreAsGiven ls → Borrowed disks a b (lent_as ns ds ++ ls) → PutsBack disks.faults ns ds b c
+  pub refused_back : (a b c : OutsideState D) (ns : List (List ℕ)) (ds : List D) (name : List ℕ)
+      (ls : List (Lending D)) → AreApart ns → slice_get ns (length ds) ≡ Some name
+      → AreNamed (name ∷ []) ls → AreAsGiven ls → Borrowed disks a b (lent_as ns ds ++ ls)
+      → PutsBack disks.faults ns ds b c
       → (ks : List (Lending D)) × AreAsGiven ks × AreNamed ns ks × Borrowed disks a c ks
   refused_back a b c ns ds name ls apart e named given is puts = (
     back_as (lent_as (take (length ds) ns) ds) ds ++ ls,
-    each_append (λ l. l.back ≡ Some l.given) (back_as (lent_as (take (length ds) ns) ds) ds) ls (given_all (take (length ds) ns) ds) given,
+    each_append (λ l. l.back ≡ Some l.given) (back_as (lent_as (take (length ds) ns) ds) ds) ls
+        (given_all (take (length ds) ns) ds) given,
     (λ other away. each_append (IsOther other) (back_as (lent_as (take (length ds) ns) ds) ds) ls
-        (back_named (λ n. bytes_eq n other ≡ false) (take (length ds) ns) ds (each_take (λ n. bytes_eq n other ≡ false) (length ds) ns away))
+        (back_named (λ n. bytes_eq n other ≡ false) (take (length ds) ns) ds
+        (each_take (λ n. bytes_eq n other ≡ false) (length ds) ns away))
         (named other (each_at (λ n. bytes_eq n other ≡ false) ns (length ds) name away e, tt))),
-    (all_back disks a a b c [] ls (take (length ds) ns) ds ds (subst (λ (l : List (Lending D)). Borrowed disks a b (l ++ ls)) (lent_first ns ds) is)
-        (apart_first ns ds apart) (no_front (take (length ds) ns)) (others_named ns ds name ls apart e named) (same_all disks ds) (puts_first disks.faults ns ds b c puts)).0,
+    (all_back disks a a b c [] ls (take (length ds) ns) ds ds
+        (subst (λ (l : List (Lending D)). Borrowed disks a b (l ++ ls)) (lent_first ns ds) is)
+        (apart_first ns ds apart) (no_front (take (length ds) ns))
+        (others_named ns ds name ls apart e named) (same_all disks ds)
+        (puts_first disks.faults ns ds b c puts)).0,
   )
     where
       no_front : (l : List (List ℕ)) → Each (λ n. Each {A = Lending D} (IsOther n) []) l
@@ -210,34 +283,48 @@ module _ {D : Type 0} (disks : DiskWords D) where
       no_front (x ∷ xs) = (tt, no_front xs)
 
   -- each that is out may be put back
-  pub lent_at : (a b : OutsideState D) (ns : List (List ℕ)) (ds : List D) (i : ℕ) (name : List ℕ) (d : D) → Each (IsLending disks a b) (lent_as ns ds)
+  pub lent_at : (a b : OutsideState D) (ns : List (List ℕ)) (ds : List D) (i : ℕ) (name : List ℕ)
+      (d : D) → Each (IsLending disks a b) (lent_as ns ds)
       → slice_get ns i ≡ Some name → slice_get ds i ≡ Some d → IsLent (b.loan name) (disks.label d)
   lent_at a b [] ds i name d each named is = cc
   lent_at a b (n ∷ ns) [] i name d each named is = cc
   lent_at a b (n ∷ ns) (g ∷ gs) zero name d each named is =
       subst (λ (m : List ℕ). IsLent (b.loan m) (disks.label d)) (same_item n name named)
-      (subst (λ (l : Option Loan). IsLent l (disks.label d)) (sym each.0.loan) (ap disks.label (same_item g d is), refl))
-  lent_at a b (n ∷ ns) (g ∷ gs) (suc i) name d each named is = lent_at a b ns gs i name d each.1 named is
+      (subst (λ (l : Option Loan). IsLent l (disks.label d)) (sym each.0.loan)
+      (ap disks.label (same_item g d is), refl))
+  lent_at a b (n ∷ ns) (g ∷ gs) (suc i) name d each named is =
+      lent_at a b ns gs i name d each.1 named is
 
-  pub lent_first_at : (a b : OutsideState D) (ns : List (List ℕ)) (ds : List D) (ls : List (Lending D)) (i : ℕ) (name : List ℕ) (d : D) → Borrowed disks a b (lent_as ns ds ++ ls)
+  pub lent_first_at : (a b : OutsideState D) (ns : List (List ℕ)) (ds : List D)
+      (ls : List (Lending D)) (i : ℕ) (name : List ℕ) (d : D)
+      → Borrowed disks a b (lent_as ns ds ++ ls)
       → slice_get ns i ≡ Some name → slice_get ds i ≡ Some d → IsLent (b.loan name) (disks.label d)
-  lent_first_at a b ns ds ls i name d is = lent_at a b ns ds i name d (each_first (IsLending disks a b) (lent_as ns ds) ls is.each)
+  lent_first_at a b ns ds ls i name d is =
+      lent_at a b ns ds i name d (each_first (IsLending disks a b) (lent_as ns ds) ls is.each)
 
-  pub none_lent : (a : OutsideState D) (ns : List (List ℕ)) (ds : List D) → ds ≡ [] → Borrowed disks a a (lent_as ns ds)
-  none_lent a ns ds none = subst (λ (l : List D). Borrowed disks a a (lent_as ns l)) (sym none) (of ns)
+  pub none_lent : (a : OutsideState D) (ns : List (List ℕ)) (ds : List D) → ds ≡ []
+      → Borrowed disks a a (lent_as ns ds)
+  none_lent a ns ds none =
+      subst (λ (l : List D). Borrowed disks a a (lent_as ns l)) (sym none) (of ns)
     where
       of : (l : List (List ℕ)) → Borrowed disks a a (lent_as l [])
       of [] = lent_nothing disks a a (λ other. (refl, refl))
       of (n ∷ l) = lent_nothing disks a a (λ other. (refl, refl))
 
-failed_so : {T U : Type 0} (why : Fetch) → IsErrOf {T = T} (Err why) fetch.Failed → IsErrOf {T = U} (Err why) fetch.Failed
+failed_so : {T U : Type 0} (why : Fetch) → IsErrOf {T = T} (Err why) fetch.Failed
+    → IsErrOf {T = U} (Err why) fetch.Failed
 failed_so why is = of why is
   where
-    of : {T U : Type 0} (why : Fetch) → IsErrOf {T = T} (Err why) fetch.Failed → IsErrOf {T = U} (Err why) fetch.Failed
+    of : {T U : Type 0} (why : Fetch) → IsErrOf {T = T} (Err why) fetch.Failed
+        → IsErrOf {T = U} (Err why) fetch.Failed
     of fetch.Failed is = refl
     of fetch.NoMemory is = absurd (grind (arith, is))
 
 -- the call that lends a disk failed, and its count rose
-pub cause_failed : {D T U : Type 0} (why : Fetch) (a b c e : OutsideState D) → b.disk_faults ≡ a.disk_faults → (IsErrOf {T = U} (Err why) fetch.Failed → Rose b.disk_faults c.disk_faults) → c.disk_faults ≤ e.disk_faults
+pub cause_failed : {D T U : Type 0} (why : Fetch) (a b c e : OutsideState D)
+    → b.disk_faults ≡ a.disk_faults
+    → (IsErrOf {T = U} (Err why) fetch.Failed → Rose b.disk_faults c.disk_faults)
+    → c.disk_faults ≤ e.disk_faults
     → IsErrOf {T = T} (Err why) fetch.Failed → Rose a.disk_faults e.disk_faults
-cause_failed {D} {T} {U} why a b c e same rose later failed = let up = rose (failed_so why failed) in omega (arith, up, same, later)
+cause_failed {D} {T} {U} why a b c e same rose later failed = let up =
+    rose (failed_so why failed) in omega (arith, up, same, later)

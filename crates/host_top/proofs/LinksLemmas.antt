@@ -1,5 +1,7 @@
--- What `serve` leaves of its disk, its output and its doors, from what its host says as it is opened and ends.
-use Rattle.std.proofs.Common.{◌≡◌, ◌⊎◌, inl, inr, ℕ, ◌≤◌, List, [], ◌∷◌, length, map, refl, sym, ap, ◌∙◌, subst, arith, IsTrue}
+-- What `serve` leaves of its disk, its output and its doors, from what its host says as it is
+-- opened and ends.
+use Rattle.std.proofs.Common.{◌≡◌, ◌⊎◌, inl, inr, ℕ, ◌≤◌, List, [], ◌∷◌, length, map, refl, sym, ap}
+use Rattle.std.proofs.Common.{◌∙◌, subst, arith, IsTrue}
 use Rattle.gate_journal.specs.Log.{rows_of}
 use Rattle.gate_journal.specs.Rows.{SpellsRows}
 use Rattle.gate_journal.specs.declared.fault.JournalFault.{JournalFault}
@@ -32,31 +34,39 @@ use Rattle.host_top.proofs.ConversedLemmas.{EndsOn, counts, grows, meanwhile, re
 
 -- ---- the journal
 
-pub links_served : {D : Type 0} (disks : DiskWords D) (given back : D) (givens backs : List D) (stories : List Story) (budget : ℕ) (rows : List Row) (host : Host D) (first last : Passes D)
-    → IsOpened stories budget rows (record { disk = given; found = length rows }) host first → (end : EndsOn disks host last back backs)
-    → (input : SourceState) (output : SinkState) (status : Status) → (status ≡ ends.Done) ⊎ (status ≡ ends.DoorFault) ⊎ (status ≡ ends.NoMemory)
-    → (IsTrue (disks.tells given) → SpellsRows (disks.seen given) rows) → StoresBack disks stories rows (rows_of end.0.entries) givens backs
+pub links_served : {D : Type 0} (disks : DiskWords D) (given back : D) (givens backs : List D)
+    (stories : List Story) (budget : ℕ) (rows : List Row) (host : Host D) (first last : Passes D)
+    → IsOpened stories budget rows (record { disk = given; found = length rows }) host first
+    → (end : EndsOn disks host last back backs)
+    → (input : SourceState) (output : SinkState) (status : Status)
+    → (status ≡ ends.Done) ⊎ (status ≡ ends.DoorFault) ⊎ (status ≡ ends.NoMemory)
+    → (IsTrue (disks.tells given) → SpellsRows (disks.seen given) rows)
+    → StoresBack disks stories rows (rows_of end.0.entries) givens backs
     → LinksServed disks stories given givens back backs input input output output status
-links_served disks given back givens backs stories budget rows host first last opened end input output status how spells stores = record {
-  how = how;
-  gave = gave_none input;
-  wrote = wrote_none output;
-  rows = rows;
-  handed_in = spells;
-  journal = end.0.entries;
-  more = rows_of end.2.grows.0;
-  grows = grows disks given back givens backs stories budget rows host first last opened end;
-  faults = counts disks given back givens backs stories budget rows host first last opened end;
-  uncertain = end.0.uncertain;
-  images = end.4;
-  meanwhile = meanwhile disks given back givens backs stories budget rows host first last opened end;
-  reaches = reaches disks given back givens backs stories budget rows host first last opened end;
-  stores = stores;
-}
+links_served disks given back givens backs stories budget rows host first last opened end input
+    output status how spells stores = record {
+      how = how;
+      gave = gave_none input;
+      wrote = wrote_none output;
+      rows = rows;
+      handed_in = spells;
+      journal = end.0.entries;
+      more = rows_of end.2.grows.0;
+      grows = grows disks given back givens backs stories budget rows host first last opened end;
+      faults = counts disks given back givens backs stories budget rows host first last opened end;
+      uncertain = end.0.uncertain;
+      images = end.4;
+      meanwhile =
+          meanwhile disks given back givens backs stories budget rows host first last opened end;
+      reaches =
+          reaches disks given back givens backs stories budget rows host first last opened end;
+      stores = stores;
+    }
 
 -- ---- passes
 
-lone_roots : (xs : List ℕ) → Each (λ (h : Holder). (h.number ≡ 0) × (h.made ≤ 0)) (map (λ (s : ℕ). lone) xs)
+lone_roots : (xs : List ℕ) → Each (λ (h : Holder). (h.number ≡ 0) × (h.made ≤ 0))
+    (map (λ (s : ℕ). lone) xs)
 lone_roots [] = tt
 lone_roots (x ∷ xs) = ((refl, omega arith), lone_roots xs)
 
@@ -66,17 +76,21 @@ are_roots holders is = subst (AreRoots 0) (sym is) (lone_roots (sessions_below 6
 
 -- ---- doors
 
-pub keeps_files_then : {D : Type 0} {a b c : OutsideState D} → KeepsFiles a b → KeepsFiles b c → KeepsFiles a c
+pub keeps_files_then : {D : Type 0} {a b c : OutsideState D} → KeepsFiles a b → KeepsFiles b c
+    → KeepsFiles a c
 keeps_files_then p q = record { file = q.file ∙ p.file; faults = q.faults ∙ p.faults }
 
 -- the work at a door ends in one of two ways
-pub worked_so : {O C E F : Type 0} (how : Worked O C E F) (status : Status) → status ≡ status_of_worked how → (status ≡ ends.Done) ⊎ (status ≡ ends.DoorFault)
+pub worked_so : {O C E F : Type 0} (how : Worked O C E F) (status : Status)
+    → status ≡ status_of_worked how → (status ≡ ends.Done) ⊎ (status ≡ ends.DoorFault)
 worked_so (worked.Shut end) status is = inl is
 worked_so (worked.DoorFault fault) status is = inr is
 
 -- and the outside is told so
-pub doors_closed : {D O C E F : Type 0} (how : Worked O C E F) (outside mid beyond : OutsideState D) (status : Status) → status ≡ status_of_worked how
-    → mid.shut ≡ outside.shut → outside.door_faults ≤ mid.door_faults → Closes how mid beyond → DoorsBy outside beyond status
+pub doors_closed : {D O C E F : Type 0} (how : Worked O C E F) (outside mid beyond : OutsideState D)
+    (status : Status) → status ≡ status_of_worked how
+    → mid.shut ≡ outside.shut → outside.door_faults ≤ mid.door_faults → Closes how mid beyond
+    → DoorsBy outside beyond status
 doors_closed (worked.Shut end) outside mid beyond status is same later closes = record {
   done = λ e. closes.0 ∙ ap after_one same;
   not_done = λ other. absurd (other is);
@@ -89,7 +103,8 @@ doors_closed (worked.DoorFault fault) outside mid beyond status is same later cl
 }
 
 -- or no door was given
-pub doors_failed : {D : Type 0} (outside beyond : OutsideState D) → beyond.shut ≡ outside.shut → Rose outside.door_faults beyond.door_faults → DoorsBy outside beyond ends.DoorFault
+pub doors_failed : {D : Type 0} (outside beyond : OutsideState D) → beyond.shut ≡ outside.shut
+    → Rose outside.door_faults beyond.door_faults → DoorsBy outside beyond ends.DoorFault
 doors_failed outside beyond same rose = record {
   done = λ e. absurd (grind (arith, e));
   not_done = λ other. same;
@@ -97,7 +112,8 @@ doors_failed outside beyond same rose = record {
 }
 
 -- a status that is neither of the two leaves the doors
-pub no_doors : {D : Type 0} (outside beyond : OutsideState D) (status : Status) → (status ≡ ends.Done → ⊥) → (status ≡ ends.DoorFault → ⊥)
+pub no_doors : {D : Type 0} (outside beyond : OutsideState D) (status : Status)
+    → (status ≡ ends.Done → ⊥) → (status ≡ ends.DoorFault → ⊥)
     → beyond.shut ≡ outside.shut → DoorsBy outside beyond status
 no_doors outside beyond status not_done no_fault same = record {
   done = λ e. absurd (not_done e);
@@ -106,22 +122,29 @@ no_doors outside beyond status not_done no_fault same = record {
 }
 
 -- what happens before and after leaves them, too
-pub doors_through : {D : Type 0} (a b c d : OutsideState D) (status : Status) → KeepsDoors a b → DoorsBy b c status → KeepsDoors c d → DoorsBy a d status
+pub doors_through : {D : Type 0} (a b c d : OutsideState D) (status : Status) → KeepsDoors a b
+    → DoorsBy b c status → KeepsDoors c d → DoorsBy a d status
 doors_through a b c d status before by after = record {
   done = λ e. after.shut ∙ by.done e ∙ ap after_one before.shut;
   not_done = λ e. after.shut ∙ by.not_done e ∙ before.shut;
-  fault = λ e. subst (λ (n : ℕ). Rose n d.door_faults) before.door_faults (subst (λ (n : ℕ). Rose b.door_faults n) (sym after.door_faults) (by.fault e));
+  fault =
+      λ e. subst (λ (n : ℕ). Rose n d.door_faults) before.door_faults
+      (subst (λ (n : ℕ). Rose b.door_faults n) (sym after.door_faults) (by.fault e));
 }
 
-pub doors_before : {D : Type 0} (a b c : OutsideState D) (status : Status) → KeepsDoors a b → DoorsBy b c status → DoorsBy a c status
-doors_before a b c status before by = doors_through a b c c status before by (record { door_faults = refl; shut = refl })
+pub doors_before : {D : Type 0} (a b c : OutsideState D) (status : Status) → KeepsDoors a b
+    → DoorsBy b c status → DoorsBy a c status
+doors_before a b c status before by =
+    doors_through a b c c status before by (record { door_faults = refl; shut = refl })
 
 -- ---- a journal that isn't opened
 
-line_kinds : (good : Status) (line : List ℕ) (output new : SinkState) (status bad : Status) → (good ≡ bad → ⊥) → ((cause : Stop) → status_of_stop cause ≡ bad → ⊥)
+line_kinds : (good : Status) (line : List ℕ) (output new : SinkState) (status bad : Status)
+    → (good ≡ bad → ⊥) → ((cause : Stop) → status_of_stop cause ≡ bad → ⊥)
     → SaysLine good line output new status → status ≡ bad → ⊥
 line_kinds good line output new status bad other stops (inl said) e = other (sym said.0 ∙ e)
-line_kinds good line output new status bad other stops (inr stopped) e = stops stopped.0 (sym stopped.1 ∙ e)
+line_kinds good line output new status bad other stops (inr stopped) e =
+    stops stopped.0 (sym stopped.1 ∙ e)
 
 stop_not_done : (cause : Stop) → status_of_stop cause ≡ ends.Done → ⊥
 stop_not_done stop.Output e = absurd (grind (arith, e))
@@ -131,14 +154,22 @@ stop_no_door : (cause : Stop) → status_of_stop cause ≡ ends.DoorFault → �
 stop_no_door stop.Output e = absurd (grind (arith, e))
 stop_no_door stop.Memory e = absurd (grind (arith, e))
 
-pub fault_not_done : (why : JournalFault) (output new : SinkState) (status : Status) → SaysFault why output new status → status ≡ ends.Done → ⊥
-fault_not_done fault.NotJournal output new status says e = line_kinds _ _ output new status ends.Done (λ x. absurd (grind (arith, x))) stop_not_done says e
-fault_not_done (fault.Corrupt place) output new status says e = line_kinds _ _ output new status ends.Done (λ x. absurd (grind (arith, x))) stop_not_done says e
+pub fault_not_done : (why : JournalFault) (output new : SinkState) (status : Status)
+    → SaysFault why output new status → status ≡ ends.Done → ⊥
+fault_not_done fault.NotJournal output new status says e =
+    line_kinds _ _ output new status ends.Done (λ x. absurd (grind (arith, x))) stop_not_done says e
+fault_not_done (fault.Corrupt place) output new status says e =
+    line_kinds _ _ output new status ends.Done (λ x. absurd (grind (arith, x))) stop_not_done says e
 fault_not_done (fault.DiskFault counts) output new status says e = absurd (grind (arith, says.0, e))
 fault_not_done fault.NoMemory output new status says e = absurd (grind (arith, says.0, e))
 
-pub fault_no_door : (why : JournalFault) (output new : SinkState) (status : Status) → SaysFault why output new status → status ≡ ends.DoorFault → ⊥
-fault_no_door fault.NotJournal output new status says e = line_kinds _ _ output new status ends.DoorFault (λ x. absurd (grind (arith, x))) stop_no_door says e
-fault_no_door (fault.Corrupt place) output new status says e = line_kinds _ _ output new status ends.DoorFault (λ x. absurd (grind (arith, x))) stop_no_door says e
+pub fault_no_door : (why : JournalFault) (output new : SinkState) (status : Status)
+    → SaysFault why output new status → status ≡ ends.DoorFault → ⊥
+fault_no_door fault.NotJournal output new status says e =
+    line_kinds _ _ output new status ends.DoorFault (λ x. absurd (grind (arith, x))) stop_no_door
+    says e
+fault_no_door (fault.Corrupt place) output new status says e =
+    line_kinds _ _ output new status ends.DoorFault (λ x. absurd (grind (arith, x))) stop_no_door
+    says e
 fault_no_door (fault.DiskFault counts) output new status says e = absurd (grind (arith, says.0, e))
 fault_no_door fault.NoMemory output new status says e = absurd (grind (arith, says.0, e))

@@ -1,25 +1,22 @@
--- What `pipe` and `init` write, for a caller who is told the input, what the output holds and the disks.
-use Rattle.std.proofs.Common.{◌≡◌, ℕ, ◌^◌, ◌≤◌, ◌⊎◌, inl, inr, List, [], ◌++◌, ◌<◌, length, map, refl, sym, ap, ◌∙◌, subst, IsTrue, Option, Some, None, slice_get}
+-- What `pipe` writes, for a caller who is told the input, what the output holds and the disks.
+use Rattle.std.proofs.Common.{◌≡◌, ℕ, ◌^◌, ◌≤◌, inl, inr, List, [], ◌++◌, ◌<◌, length, map}
+use Rattle.std.proofs.Common.{refl, sym, ap, ◌∙◌, subst, IsTrue, Option, Some, None, slice_get}
 use Rattle.std.proofs.lemmas.List.{append-nil}
 use Rattle.std.specs.Io.KnownBytes.{Consumes, IsAtEnd}
 use Rattle.gate_journal.specs.Faults.{Explains}
-use Rattle.gate_journal.specs.declared.fault.InitFault.{InitFault}
-use Rattle.gate_journal.specs.declared.fault.InitFault.TheVariants as begin
 use Rattle.gate_journal.specs.declared.fault.JournalFault.{JournalFault}
 use Rattle.gate_journal.specs.declared.fault.JournalFault.TheVariants as fault
-use Rattle.gate_journal.specs.Faults.{HasInitCause}
 use Rattle.story_run.specs.declared.story.Story.{Story}
-use Rattle.host_top.specs.Begun.{InitsOn, SaysRefusal, WritesBegun, ready, not_empty}
 use Rattle.host_top.specs.Borrowed.{journal_in, snap_in}
-use Rattle.host_top.specs.LinksServed.{ServesOver, WritesLinks}
 use Rattle.host_top.specs.DiskWords.{DiskWords, WhereTold}
-use Rattle.host_top.specs.Files.{IsLentFrom, OutsideState, Told, Untold, Missing, There}
+use Rattle.host_top.specs.Files.{IsLentFrom, Told, Untold, Missing, There}
 use Rattle.host_top.specs.declared.folder.Back.{Back}
 use Rattle.host_top.specs.declared.folder.Back.TheVariants as back
 use Rattle.line_talk.specs.Lines.{lines, talk, IsWithinLimits}
 use Rattle.host_top.specs.Piped.{PipesOver}
 use Rattle.host_top.specs.Said.{SaysFault, SaysLine, bad_journal, bad_journal_at}
-use Rattle.host_top.specs.Served.{AnswersIn, AreSound, AreTold, RefusesJournal, WritesServed, WritesTurns}
+use Rattle.host_top.specs.Served.{AnswersIn, AreSound, AreTold, RefusesJournal, WritesServed}
+use Rattle.host_top.specs.Served.{WritesTurns}
 use Rattle.host_top.specs.Status.{status_of_served, status_of_stop}
 use Rattle.line_talk.specs.Streams.{SourceState, SinkState, Wrote}
 use Rattle.line_talk.specs.Writing.{IsPartOf}
@@ -29,46 +26,57 @@ use Rattle.host_serve.specs.Opening.{AreAgreed}
 use Rattle.host_serve.specs.Serves.{Turn}
 use Rattle.host_serve.specs.Told.{AnsweredOf}
 use Rattle.session_core.specs.History.{game_of}
-use Rattle.session_desk.specs.Opens.{opens_of}
-use Rattle.session_saves.specs.Agreement.{IsAgreedFile}
+use Rattle.session_saves.specs.Agreement.{IsAgreedFile, opens_of}
 use Rattle.host_serve.specs.declared.served.Served.{Served}
 use Rattle.host_serve.specs.declared.served.Served.TheVariants as served
 use Rattle.line_talk.specs.declared.sink.Stop.{Stop}
 use Rattle.line_talk.specs.declared.sink.Stop.TheVariants as stop
 use Rattle.host_top.specs.declared.status.Status.{Status}
-use Rattle.host_top.specs.declared.status.Status.TheVariants.{Done, ReadFault, DiskFault, NoMemory, BadFolder, DoorFault}
+use Rattle.host_top.specs.declared.status.Status.TheVariants.{ReadFault, DiskFault, NoMemory}
+use Rattle.host_top.specs.declared.status.Status.TheVariants.{BadFolder}
 use Rattle.line_talk.proofs.LinesLemmas.{still_reached, talk_settled, talk_first, first_then}
 
 -- what was read of an input that is told
-pub consumed : (old new : Option (List ℕ)) (bytes read : List ℕ) → Consumes old new read → old ≡ Some bytes → (rest : List ℕ) × (bytes ≡ read ++ rest) × (new ≡ Some rest)
+pub consumed : (old new : Option (List ℕ)) (bytes read : List ℕ) → Consumes old new read
+    → old ≡ Some bytes → (rest : List ℕ) × (bytes ≡ read ++ rest) × (new ≡ Some rest)
 consumed None new bytes read p e = cc
 consumed (Some xs) None bytes read p e = absurd p
 consumed (Some xs) (Some rest) bytes read p e = (rest, cc, refl)
 
-pub nothing_left : (left : Option (List ℕ)) (rest : List ℕ) → IsAtEnd left → left ≡ Some rest → rest ≡ []
+pub nothing_left : (left : Option (List ℕ)) (rest : List ℕ) → IsAtEnd left → left ≡ Some rest
+    → rest ≡ []
 nothing_left None rest p e = cc
 nothing_left (Some xs) rest p e = cc
 
 -- what a disk that was lent says of the one that is told
-where_told : {D : Type 0} (disks : DiskWords D) (journal : Told D) (given : D) (P : List ℕ → Type 0)
-    → (IsTrue (disks.tells given) → IsLentFrom disks.seen disks.may_leave journal given) → (IsTrue (disks.tells given) → P (disks.seen given)) → WhereTold disks journal P
+pub where_told : {D : Type 0} (disks : DiskWords D) (journal : Told D) (given : D)
+    (P : List ℕ → Type 0)
+    → (IsTrue (disks.tells given) → IsLentFrom disks.seen disks.may_leave journal given)
+    → (IsTrue (disks.tells given) → P (disks.seen given)) → WhereTold disks journal P
 where_told disks Untold given P lent has all = tt
 where_told disks Missing given P lent has all = subst P (lent (all given)).0 (has (all given))
 where_told disks (There told) given P lent has all = subst P (lent (all given)).0 (has (all given))
 
 -- the lines read are those of the input that they began
-answers_in : (how : Served) (read rest : List ℕ) (now : SourceState) (answered : List (List ℕ)) → length read ≤ 2 ^ 31 → now.left ≡ Some rest
+answers_in : (how : Served) (read rest : List ℕ) (now : SourceState) (answered : List (List ℕ))
+    → length read ≤ 2 ^ 31 → now.left ≡ Some rest
     → AnsweredOf how read now answered → AnswersIn how (read ++ rest) answered
 answers_in served.End read rest now answered within left end =
-    let all : read ++ rest ≡ read = ap (λ l. read ++ l) (nothing_left now.left rest end.1.at_end left) ∙ append-nil read in
+    let all : read ++ rest ≡ read =
+    ap (λ l. read ++ l) (nothing_left now.left rest end.1.at_end left) ∙ append-nil read in
     (end.0 ∙ ap lines (sym all), subst IsWithinLimits (sym all) end.1.within)
 answers_in served.ReadFault read rest now answered within left is = (read, (rest, refl), is.0)
-answers_in served.WriteFault read rest now answered within left first = first_then answered (talk read) (talk (read ++ rest)) first (talk_first read rest within)
-answers_in served.NoMemory read rest now answered within left first = first_then answered (talk read) (talk (read ++ rest)) first (talk_first read rest within)
-answers_in served.LineLimit read rest now answered within left is = (is.0 ∙ sym (talk_settled read rest within is.1), still_reached read rest is.1)
+answers_in served.WriteFault read rest now answered within left first =
+    first_then answered (talk read) (talk (read ++ rest)) first (talk_first read rest within)
+answers_in served.NoMemory read rest now answered within left first =
+    first_then answered (talk read) (talk (read ++ rest)) first (talk_first read rest within)
+answers_in served.LineLimit read rest now answered within left is =
+    (is.0 ∙ sym (talk_settled read rest within is.1), still_reached read rest is.1)
 
-served_by : {D : Type 0} (disks : DiskWords D) (stories : List Story) (budget : ℕ) (disk : List ℕ → Told D) (folder : List ℕ) (input written : List ℕ) (how : Served)
-    → WritesTurns disks stories budget disk folder input written how → WritesServed (status_of_served how) disks stories budget disk folder input written
+served_by : {D : Type 0} (disks : DiskWords D) (stories : List Story) (budget : ℕ)
+    (disk : List ℕ → Told D) (folder : List ℕ) (input written : List ℕ) (how : Served)
+    → WritesTurns disks stories budget disk folder input written how
+    → WritesServed (status_of_served how) disks stories budget disk folder input written
 served_by disks stories budget disk folder input written served.End w = w
 served_by disks stories budget disk folder input written served.ReadFault w = inr w
 served_by disks stories budget disk folder input written served.WriteFault w = inl w
@@ -79,185 +87,143 @@ served_by disks stories budget disk folder input written served.LineLimit w = w
 abbrev pub WroteSome : SinkState → SinkState → (List ℕ → Type 0) → Type 0
 WroteSome output new P = (written : List ℕ) × Wrote output new written × P written
 
-cut_refusal : {D : Type 0} (disks : DiskWords D) (stories : List Story) (budget : ℕ) (disk : List ℕ → Told D) (folder : List ℕ) (input line part : List ℕ) (cause : Stop)
-    → RefusesJournal disks (disk (journal_in folder)) line → IsPartOf part line → WritesServed (status_of_stop cause) disks stories budget disk folder input part
-cut_refusal disks stories budget disk folder input line part stop.Output refuses begins = inr (line, refuses, begins)
-cut_refusal disks stories budget disk folder input line part stop.Memory refuses begins = inr (inr (line, refuses, begins))
+cut_refusal : {D : Type 0} (disks : DiskWords D) (stories : List Story) (budget : ℕ)
+    (disk : List ℕ → Told D) (folder : List ℕ) (input line part : List ℕ) (cause : Stop)
+    → RefusesJournal disks (disk (journal_in folder)) line → IsPartOf part line
+    → WritesServed (status_of_stop cause) disks stories budget disk folder input part
+cut_refusal disks stories budget disk folder input line part stop.Output refuses begins =
+    inr (line, refuses, begins)
+cut_refusal disks stories budget disk folder input line part stop.Memory refuses begins =
+    inr (inr (line, refuses, begins))
 
-refusal_told : {D : Type 0} (disks : DiskWords D) (stories : List Story) (budget : ℕ) (disk : List ℕ → Told D) (folder : List ℕ) (input line : List ℕ) (output new : SinkState) (status : Status)
-    → RefusesJournal disks (disk (journal_in folder)) line → SaysLine BadFolder line output new status → WroteSome output new (WritesServed status disks stories budget disk folder input)
-refusal_told disks stories budget disk folder input line output new status refuses (inl said) =
-    (line, said.1, subst (λ (s : Status). WritesServed s disks stories budget disk folder input line) (sym said.0) refuses)
-refusal_told disks stories budget disk folder input line output new status refuses (inr (cause, is, stopped)) = (
-  stopped.wrote.part,
-  stopped.wrote.wrote,
-  subst (λ (s : Status). WritesServed s disks stories budget disk folder input stopped.wrote.part) (sym is)
-      (cut_refusal disks stories budget disk folder input line stopped.wrote.part cause refuses (stopped.rest, stopped.wrote.split)),
+refusal_told : {D : Type 0} (disks : DiskWords D) (stories : List Story) (budget : ℕ)
+    (disk : List ℕ → Told D) (folder : List ℕ) (input line : List ℕ) (output new : SinkState)
+    (status : Status)
+    → RefusesJournal disks (disk (journal_in folder)) line
+    → SaysLine BadFolder line output new status
+    → WroteSome output new (WritesServed status disks stories budget disk folder input)
+refusal_told disks stories budget disk folder input line output new status refuses (inl said) = (
+  line,
+  said.1,
+  subst (λ (s : Status). WritesServed s disks stories budget disk folder input
+      line) (sym said.0) refuses,
 )
+refusal_told disks stories budget disk folder input line output new status refuses
+    (inr (cause, is, stopped)) = (
+      stopped.wrote.part,
+      stopped.wrote.wrote,
+      subst (λ (s : Status). WritesServed s disks stories budget disk folder input
+          stopped.wrote.part) (sym is)
+          (cut_refusal disks stories budget disk folder input line stopped.wrote.part cause refuses
+          (stopped.rest, stopped.wrote.split)),
+    )
 
-fault_told : {D : Type 0} (disks : DiskWords D) (stories : List Story) (budget : ℕ) (disk : List ℕ → Told D) (folder : List ℕ) (input : List ℕ) (given : D) (output new : SinkState) (status : Status) (why : JournalFault)
-    → (IsTrue (disks.tells given) → IsLentFrom disks.seen disks.may_leave (disk (journal_in folder)) given) → (IsTrue (disks.tells given) → Explains (disks.seen given) why)
-    → SaysFault why output new status → WroteSome output new (WritesServed status disks stories budget disk folder input)
-fault_told disks stories budget disk folder input given output new status fault.NotJournal lent explains says =
-    refusal_told disks stories budget disk folder input bad_journal output new status (inl (refl, where_told disks (disk (journal_in folder)) given _ lent explains)) says
-fault_told disks stories budget disk folder input given output new status (fault.Corrupt place) lent explains says =
-    refusal_told disks stories budget disk folder input (bad_journal_at place) output new status (inr (place, refl, where_told disks (disk (journal_in folder)) given _ lent explains)) says
-fault_told disks stories budget disk folder input given output new status (fault.DiskFault counts) lent explains says =
-    ([], says.1, subst (λ (s : Status). WritesServed s disks stories budget disk folder input []) (sym says.0) refl)
-fault_told disks stories budget disk folder input given output new status fault.NoMemory lent explains says =
-    ([], says.1, subst (λ (s : Status). WritesServed s disks stories budget disk folder input []) (sym says.0) (inl refl))
+fault_told : {D : Type 0} (disks : DiskWords D) (stories : List Story) (budget : ℕ)
+    (disk : List ℕ → Told D) (folder : List ℕ) (input : List ℕ) (given : D) (output new : SinkState)
+    (status : Status) (why : JournalFault)
+    → (IsTrue (disks.tells given) → IsLentFrom disks.seen disks.may_leave (disk (journal_in folder))
+    given) → (IsTrue (disks.tells given) → Explains (disks.seen given) why)
+    → SaysFault why output new status
+    → WroteSome output new (WritesServed status disks stories budget disk folder input)
+fault_told disks stories budget disk folder input given output new status fault.NotJournal lent
+    explains says =
+    refusal_told disks stories budget disk folder input bad_journal output new status
+    (inl (refl, where_told disks (disk (journal_in folder)) given _ lent explains)) says
+fault_told disks stories budget disk folder input given output new status (fault.Corrupt place) lent
+    explains says =
+    refusal_told disks stories budget disk folder input (bad_journal_at place) output new status
+    (inr (place, refl, where_told disks (disk (journal_in folder)) given _ lent explains)) says
+fault_told disks stories budget disk folder input given output new status (fault.DiskFault counts)
+    lent explains says = (
+      [],
+      says.1,
+      subst (λ (s : Status). WritesServed s disks stories budget disk folder input [])
+          (sym says.0) refl,
+    )
+fault_told disks stories budget disk folder input given output new status fault.NoMemory lent
+    explains says = (
+      [],
+      says.1,
+      subst (λ (s : Status). WritesServed s disks stories budget disk folder input [])
+          (sym says.0) (inl refl),
+    )
 
 -- a store's disk that was lent is the one that is told
-agreed_from : {D : Type 0} (disks : DiskWords D) (told : Told D) (given : D) (P : List ℕ → Type 0) → IsLentFrom disks.seen disks.may_leave told given → AreTold disks.seen told P → P (disks.seen given)
+agreed_from : {D : Type 0} (disks : DiskWords D) (told : Told D) (given : D) (P : List ℕ → Type 0)
+    → IsLentFrom disks.seen disks.may_leave told given → AreTold disks.seen told P
+    → P (disks.seen given)
 agreed_from disks Untold given P lent told = absurd told
 agreed_from disks Missing given P lent told = subst P (sym lent.0) told
 agreed_from disks (There d) given P lent told = subst P (sym lent.0) told
 
 -- what is told of the disks of a folder, and those that were lent
-abbrev pub AreLentFrom : {D : Type 0} → DiskWords D → (List ℕ → Told D) → List ℕ → D → List D → Type 0
+abbrev pub AreLentFrom : {D : Type 0} → DiskWords D → (List ℕ → Told D) → List ℕ → D → List D
+    → Type 0
 AreLentFrom {D} disks disk folder given givens =
-    (IsTrue (disks.tells given) → IsLentFrom disks.seen disks.may_leave (disk (journal_in folder)) given)
-    × ((s : ℕ) (g : D) → slice_get givens s ≡ Some g → (s < 64) × (IsTrue (disks.tells g) → IsLentFrom disks.seen disks.may_leave (disk (snap_in folder s)) g))
+    (IsTrue (disks.tells given) → IsLentFrom disks.seen disks.may_leave (disk (journal_in folder))
+    given)
+    × ((s : ℕ) (g : D) → slice_get givens s ≡ Some g
+    → (s < 64) × (IsTrue (disks.tells g)
+    → IsLentFrom disks.seen disks.may_leave (disk (snap_in folder s)) g))
 
-sound_from : {D : Type 0} (disks : DiskWords D) (stories : List Story) (disk : List ℕ → Told D) (folder : List ℕ) (given : D) (givens : List D) (rows : List Row)
-    → AreLentFrom disks disk folder given givens → AreSound disks stories disk folder rows → AreAgreed disks.tells disks.seen stories rows givens
+sound_from : {D : Type 0} (disks : DiskWords D) (stories : List Story) (disk : List ℕ → Told D)
+    (folder : List ℕ) (given : D) (givens : List D) (rows : List Row)
+    → AreLentFrom disks disk folder given givens → AreSound disks stories disk folder rows
+    → AreAgreed disks.tells disks.seen stories rows givens
 sound_from disks stories disk folder given givens rows lent sound s g there =
-    let l = lent.1 s g there in
-    (sound.0 g, agreed_from disks (disk (snap_in folder s)) g (IsAgreedFile stories (opens_of rows s) (game_of (commands_of rows s))) (l.1 (sound.0 g)) (sound.1 s l.0))
+    let l = lent.1 s g there in (
+      sound.0 g,
+      agreed_from disks (disk (snap_in folder s)) g
+          (IsAgreedFile stories (opens_of rows s) (game_of (commands_of rows s))) (l.1 (sound.0 g))
+          (sound.1 s l.0),
+    )
 
-pub pipe_told : {D : Type 0} (disks : DiskWords D) (stories : List Story) (budget : ℕ) (disk : List ℕ → Told D) (folder bytes : List ℕ) (given : D) (givens : List D) (b : Back D)
-    (input now : SourceState) (output new : SinkState) (status : Status) → AreLentFrom disks disk folder given givens → input.left ≡ Some bytes
-    → PipesOver disks stories budget given givens b input now output new status → WroteSome output new (WritesServed status disks stories budget disk folder bytes)
-pipe_told disks stories budget disk folder bytes given givens (back.All journal snaps) input now output new status lent left (how, is, c) =
+pub pipe_told : {D : Type 0} (disks : DiskWords D) (stories : List Story) (budget : ℕ)
+    (disk : List ℕ → Told D) (folder bytes : List ℕ) (given : D) (givens : List D) (b : Back D)
+    (input now : SourceState) (output new : SinkState) (status : Status)
+    → AreLentFrom disks disk folder given givens → input.left ≡ Some bytes
+    → PipesOver disks stories budget given givens b input now output new status
+    → WroteSome output new (WritesServed status disks stories budget disk folder bytes)
+pipe_told disks stories budget disk folder bytes given givens (back.All journal snaps) input now
+    output new status lent left (how, is, c) =
     let read = consumed input.left now.left bytes c.read c.gave.told left in
-    let turns : WritesTurns disks stories budget disk folder (c.read ++ read.0) c.written how = record {
+    let turns : WritesTurns disks stories budget disk folder (c.read ++ read.0) c.written how =
+    record {
       rows = c.rows;
       handed_in = where_told disks (disk (journal_in folder)) given _ lent.0 c.handed_in;
       turns = c.turns;
-      which = answers_in how c.read read.0 now (map (λ (t : Turn). t.line) c.turns) c.within read.2 c.which;
+      which =
+          answers_in how c.read read.0 now (map (λ (t : Turn). t.line) c.turns) c.within read.2
+          c.which;
       writes = c.writes;
       histories = c.histories;
       led = c.led;
-      sound = λ sound. c.sound (sound_from disks stories disk folder given givens c.rows lent sound);
+      sound =
+          λ sound. c.sound (sound_from disks stories disk folder given givens c.rows lent sound);
     } in (
       c.written,
       c.wrote,
-      subst (λ (s : Status). WritesServed s disks stories budget disk folder bytes c.written) (sym is)
+      subst (λ (s : Status). WritesServed s disks stories budget disk folder bytes c.written)
+          (sym is)
           (served_by disks stories budget disk folder bytes c.written how
-          (subst (λ (b : List ℕ). WritesTurns disks stories budget disk folder b c.written how) (sym read.1) turns)),
+          (subst (λ (b : List ℕ). WritesTurns disks stories budget disk folder b c.written how)
+          (sym read.1) turns)),
     )
-pipe_told disks stories budget disk folder bytes given givens (back.Journal journal) input now output new status lent left n =
-    fault_told disks stories budget disk folder bytes given output new status n.fault lent.0 n.explains n.says
-pipe_told disks stories budget disk folder bytes given givens (back.Snap session snap) input now output new status lent left f =
-    ([], f.wrote, subst (λ (s : Status). WritesServed s disks stories budget disk folder bytes []) (sym f.failed) refl)
-pipe_told disks stories budget disk folder bytes given givens back.Nothing input now output new status lent left l =
-    ([], l.wrote, subst (λ (s : Status). WritesServed s disks stories budget disk folder bytes []) (sym l.wanted) (inl refl))
-
--- ---- what `serve` writes
-
-cut_links : {D : Type 0} (disks : DiskWords D) (journal : Told D) (line part : List ℕ) (cause : Stop)
-    → RefusesJournal disks journal line → IsPartOf part line → WritesLinks (status_of_stop cause) disks journal part
-cut_links disks journal line part stop.Output refuses begins = (line, refuses, begins)
-cut_links disks journal line part stop.Memory refuses begins = inr (line, refuses, begins)
-
-refusal_links : {D : Type 0} (disks : DiskWords D) (journal : Told D) (line : List ℕ) (output new : SinkState) (status : Status)
-    → RefusesJournal disks journal line → SaysLine BadFolder line output new status → WroteSome output new (WritesLinks status disks journal)
-refusal_links disks journal line output new status refuses (inl said) = (line, said.1, subst (λ (s : Status). WritesLinks s disks journal line) (sym said.0) refuses)
-refusal_links disks journal line output new status refuses (inr (cause, is, stopped)) = (
-  stopped.wrote.part,
-  stopped.wrote.wrote,
-  subst (λ (s : Status). WritesLinks s disks journal stopped.wrote.part) (sym is)
-      (cut_links disks journal line stopped.wrote.part cause refuses (stopped.rest, stopped.wrote.split)),
-)
-
-fault_links : {D : Type 0} (disks : DiskWords D) (journal : Told D) (given : D) (output new : SinkState) (status : Status) (why : JournalFault)
-    → (IsTrue (disks.tells given) → IsLentFrom disks.seen disks.may_leave journal given) → (IsTrue (disks.tells given) → Explains (disks.seen given) why)
-    → SaysFault why output new status → WroteSome output new (WritesLinks status disks journal)
-fault_links disks journal given output new status fault.NotJournal lent explains says =
-    refusal_links disks journal bad_journal output new status (inl (refl, where_told disks journal given _ lent explains)) says
-fault_links disks journal given output new status (fault.Corrupt place) lent explains says =
-    refusal_links disks journal (bad_journal_at place) output new status (inr (place, refl, where_told disks journal given _ lent explains)) says
-fault_links disks journal given output new status (fault.DiskFault counts) lent explains says =
-    ([], says.1, subst (λ (s : Status). WritesLinks s disks journal []) (sym says.0) refl)
-fault_links disks journal given output new status fault.NoMemory lent explains says =
-    ([], says.1, subst (λ (s : Status). WritesLinks s disks journal []) (sym says.0) (inl refl))
-
-nothing_links : {D : Type 0} (disks : DiskWords D) (journal : Told D) (status : Status) → (status ≡ Done) ⊎ (status ≡ DoorFault) ⊎ (status ≡ NoMemory) → WritesLinks status disks journal []
-nothing_links disks journal status (inl done) = subst (λ (s : Status). WritesLinks s disks journal []) (sym done) refl
-nothing_links disks journal status (inr (inl door)) = subst (λ (s : Status). WritesLinks s disks journal []) (sym door) refl
-nothing_links disks journal status (inr (inr wanted)) = subst (λ (s : Status). WritesLinks s disks journal []) (sym wanted) (inl refl)
-
-pub links_told : {D : Type 0} (disks : DiskWords D) (stories : List Story) (journal : Told D) (given : D) (givens : List D) (b : Back D) (input now : SourceState) (output new : SinkState) (status : Status)
-    → (IsTrue (disks.tells given) → IsLentFrom disks.seen disks.may_leave journal given)
-    → ServesOver disks stories given givens b input now output new status → WroteSome output new (WritesLinks status disks journal)
-links_told disks stories journal given givens (back.All j snaps) input now output new status lent served = ([], served.wrote, nothing_links disks journal status served.how)
-links_told disks stories journal given givens (back.Journal j) input now output new status lent n = fault_links disks journal given output new status n.fault lent n.explains n.says
-links_told disks stories journal given givens (back.Snap session snap) input now output new status lent f =
-    ([], f.wrote, subst (λ (s : Status). WritesLinks s disks journal []) (sym f.failed) refl)
-links_told disks stories journal given givens back.Nothing input now output new status lent l =
-    ([], l.wrote, subst (λ (s : Status). WritesLinks s disks journal []) (sym l.wanted) (inl refl))
-
-pub not_lent_links : {D : Type 0} (disks : DiskWords D) (journal : Told D) (status : Status) (P : Type 0) → (status ≡ DiskFault) × P ⊎ (status ≡ NoMemory) → WritesLinks status disks journal []
-not_lent_links disks journal status P (inl failed) = subst (λ (s : Status). WritesLinks s disks journal []) (sym failed.0) refl
-not_lent_links disks journal status P (inr wanted) = subst (λ (s : Status). WritesLinks s disks journal []) (sym wanted) (inl refl)
-
-pub not_loaded_links : {D : Type 0} (disks : DiskWords D) (journal : Told D) (status : Status) (P : Type 0) → (status ≡ ReadFault) × P ⊎ (status ≡ NoMemory) → WritesLinks status disks journal []
-not_loaded_links disks journal status P (inl failed) = subst (λ (s : Status). WritesLinks s disks journal []) (sym failed.0) refl
-not_loaded_links disks journal status P (inr wanted) = subst (λ (s : Status). WritesLinks s disks journal []) (sym wanted) (inl refl)
-
--- no disk was lent
-pub not_lent_served : {D : Type 0} (disks : DiskWords D) (stories : List Story) (budget : ℕ) (disk : List ℕ → Told D) (folder : List ℕ) (input : List ℕ) (status : Status) (P : Type 0)
-    → (status ≡ DiskFault) × P ⊎ (status ≡ NoMemory) → WritesServed status disks stories budget disk folder input []
-not_lent_served disks stories budget disk folder input status P (inl failed) = subst (λ (s : Status). WritesServed s disks stories budget disk folder input []) (sym failed.0) refl
-not_lent_served disks stories budget disk folder input status P (inr wanted) = subst (λ (s : Status). WritesServed s disks stories budget disk folder input []) (sym wanted) (inl refl)
-
-pub not_lent_begun : {D : Type 0} (disks : DiskWords D) (journal : Told D) (status : Status) (P : Type 0) → (status ≡ DiskFault) × P ⊎ (status ≡ NoMemory) → WritesBegun status disks journal []
-not_lent_begun disks journal status P (inl failed) = subst (λ (s : Status). WritesBegun s disks journal []) (sym failed.0) refl
-not_lent_begun disks journal status P (inr wanted) = subst (λ (s : Status). WritesBegun s disks journal []) (sym wanted) (inl (ready, refl))
-
--- no file was loaded
-pub not_loaded_served : {D : Type 0} (disks : DiskWords D) (stories : List Story) (budget : ℕ) (disk : List ℕ → Told D) (folder : List ℕ) (input : List ℕ) (status : Status) (P : Type 0)
-    → (status ≡ ReadFault) × P ⊎ (status ≡ NoMemory) → WritesServed status disks stories budget disk folder input []
-not_loaded_served disks stories budget disk folder input status P (inl failed) = subst (λ (s : Status). WritesServed s disks stories budget disk folder input []) (sym failed.0) (inl refl)
-not_loaded_served disks stories budget disk folder input status P (inr wanted) = subst (λ (s : Status). WritesServed s disks stories budget disk folder input []) (sym wanted) (inl refl)
-
-pub not_loaded_begun : {D : Type 0} (disks : DiskWords D) (journal : Told D) (status : Status) (P : Type 0) → (status ≡ ReadFault) × P ⊎ (status ≡ NoMemory) → WritesBegun status disks journal []
-not_loaded_begun disks journal status P (inl failed) = subst (λ (s : Status). WritesBegun s disks journal []) (sym failed.0) refl
-not_loaded_begun disks journal status P (inr wanted) = subst (λ (s : Status). WritesBegun s disks journal []) (sym wanted) (inl (ready, refl))
-
-cut_begun : {D : Type 0} (disks : DiskWords D) (journal : Told D) (part : List ℕ) (cause : Stop) → IsPartOf part ready ⊎ IsPartOf part not_empty → WritesBegun (status_of_stop cause) disks journal part
-cut_begun disks journal part stop.Output begins = begins
-cut_begun disks journal part stop.Memory begins = begins
-
-line_begun : {D : Type 0} (disks : DiskWords D) (journal : Told D) (line : List ℕ) (output new : SinkState) (good status : Status) → WritesBegun good disks journal line
-    → ((part : List ℕ) → IsPartOf part line → IsPartOf part ready ⊎ IsPartOf part not_empty)
-    → SaysLine good line output new status → WroteSome output new (WritesBegun status disks journal)
-line_begun disks journal line output new good status writes begins (inl said) = (line, said.1, subst (λ (s : Status). WritesBegun s disks journal line) (sym said.0) writes)
-line_begun disks journal line output new good status writes begins (inr (cause, is, stopped)) = (
-  stopped.wrote.part,
-  stopped.wrote.wrote,
-  subst (λ (s : Status). WritesBegun s disks journal stopped.wrote.part) (sym is)
-      (cut_begun disks journal stopped.wrote.part cause (begins stopped.wrote.part (stopped.rest, stopped.wrote.split))),
-)
-
-refused_begun : {D : Type 0} (disks : DiskWords D) (journal : Told D) (given : D) (before now : ℕ) (output new : SinkState) (status : Status) (why : InitFault)
-    → (IsTrue (disks.tells given) → IsLentFrom disks.seen disks.may_leave journal given)
-    → HasInitCause (disks.tells given) (disks.seen given) before now why
-    → SaysRefusal why output new status → WroteSome output new (WritesBegun status disks journal)
-refused_begun disks journal given before now output new status begin.NotEmpty lent cause says =
-    line_begun disks journal not_empty output new BadFolder status (refl, where_told disks journal given _ lent cause.0) (λ part begins. inr begins) says
-refused_begun disks journal given before now output new status (begin.DiskFault counts) lent cause says =
-    ([], says.1, subst (λ (s : Status). WritesBegun s disks journal []) (sym says.0) refl)
-
-pub init_told : {D : Type 0} (disks : DiskWords D) (folder : List ℕ) (outside beyond : OutsideState D) (input now : SourceState) (output new : SinkState) (status : Status)
-    → InitsOn disks folder outside beyond input now output new status → WroteSome output new (WritesBegun status disks (outside.disk (journal_in folder)))
-init_told disks folder outside beyond input now output new status (inl none) = ([], none.wrote, not_lent_begun disks (outside.disk (journal_in folder)) status _ none.cause)
-init_told disks folder outside beyond input now output new status (inr i) =
-    let lent = i.inits.borrowed.each.0.lent in
-    elim i.inits.does [
-      | inl done ↦ elim done.1 [
-        | inl b ↦ line_begun disks (outside.disk (journal_in folder)) ready output new Done status (refl, where_told disks (outside.disk (journal_in folder)) i.given _ lent b.0.empty) (λ part begins. inl begins) b.0.says
-        | inr n ↦ refused_begun disks (outside.disk (journal_in folder)) i.given (disks.faults i.given) (disks.faults i.back) output new status n.0.fault lent n.0.cause n.0.says
-      ]
-      | inr u ↦ ([], u.wrote, not_lent_begun disks (outside.disk (journal_in folder)) status _ u.cause)
-    ]
+pipe_told disks stories budget disk folder bytes given givens (back.Journal journal) input now
+    output new status lent left n =
+    fault_told disks stories budget disk folder bytes given output new status n.fault lent.0
+    n.explains n.says
+pipe_told disks stories budget disk folder bytes given givens (back.Snap session snap) input now
+    output new status lent left f = (
+      [],
+      f.wrote,
+      subst (λ (s : Status). WritesServed s disks stories budget disk folder bytes [])
+          (sym f.failed) refl,
+    )
+pipe_told disks stories budget disk folder bytes given givens back.Nothing input now output new
+    status lent left l = (
+      [],
+      l.wrote,
+      subst (λ (s : Status). WritesServed s disks stories budget disk folder bytes [])
+          (sym l.wanted) (inl refl),
+    )

@@ -1,5 +1,6 @@
 -- How the parts of what a command says make the whole.
-use Rattle.std.proofs.Common.{◌≡◌, ℕ, inr, List, [], ◌++◌, refl, sym, ap, ◌∙◌, subst, arith, append_assoc, Option, None, Some, Result, Ok, Err, true}
+use Rattle.std.proofs.Common.{◌≡◌, ℕ, inr, List, [], ◌++◌, refl, sym, ap, ◌∙◌, subst, arith}
+use Rattle.std.proofs.Common.{append_assoc, Option, None, Some, Result, Ok, Err, true}
 use Rattle.std.proofs.lemmas.List.{append-nil}
 use Rattle.story_run.specs.Solo.{is_over}
 use Rattle.story_run.specs.World.{WorldState}
@@ -7,7 +8,8 @@ use Rattle.story_run.specs.declared.story.Story.{Story}
 use Rattle.line_talk.specs.declared.sink.Stop.{Stop}
 use Rattle.line_talk.specs.declared.sink.Stop.TheVariants as stop
 use Rattle.host_top.specs.declared.status.Status.TheVariants.{Done, Refused, NoMemory}
-use Rattle.host_top.specs.Plain.{Answering, replies, after, PlainLeaves, TalkedPlain, held_by, is_over_held}
+use Rattle.host_top.specs.Plain.{Answering, replies, after, PlainLeaves, TalkedPlain, held_by}
+use Rattle.host_top.specs.Plain.{is_over_held}
 use Rattle.line_talk.specs.declared.ended.Ended.{Ended}
 use Rattle.line_talk.specs.declared.ended.Ended.TheVariants as ended
 use Rattle.host_top.specs.Headline.{Speech, whole_text}
@@ -28,22 +30,33 @@ use Rattle.line_talk.proofs.WritingLemmas.{stopped_more}
 -- an opening, and then the replies to lines
 abbrev pub speech_by : {A : Type 0} → Answering A → A → List ℕ → Speech
 speech_by by start opening =
-    record { text = λ lines. opening ++ replies by start lines; is_over = λ lines. by.is_over (after by start lines) }
+    record {
+      text = λ lines. opening
+          ++ replies by start lines;
+      is_over = λ lines. by.is_over (after by start lines);
+    }
 
-begun_part : (first part text : List ℕ) → IsPartOf part text → IsPartOf (first ++ part) (first ++ text)
+begun_part : (first part text : List ℕ) → IsPartOf part text
+    → IsPartOf (first ++ part) (first ++ text)
 begun_part first part text p = (p.0, ap (λ t. first ++ t) p.1 ∙ sym (append_assoc first part p.0))
 
-talk_leaves : {A : Type 0} (by : Answering A) (start : A) (opening : List ℕ) (e : Ended) (read : List ℕ) (now : SourceState) (written : List ℕ)
-    → PlainLeaves e by start read now written → Leaves (status_of_end e) (Ok (speech_by by start opening)) read now (opening ++ written)
+talk_leaves : {A : Type 0} (by : Answering A) (start : A) (opening : List ℕ) (e : Ended)
+    (read : List ℕ) (now : SourceState) (written : List ℕ)
+    → PlainLeaves e by start read now written
+    → Leaves (status_of_end e) (Ok (speech_by by start opening)) read now (opening ++ written)
 talk_leaves by start opening ended.Done read now written t = (ap (λ w. opening ++ w) t.0, t.1)
 talk_leaves by start opening ended.ReadFault read now written t = ap (λ w. opening ++ w) t
-talk_leaves by start opening ended.WriteFault read now written t = begun_part opening written (replies by start (talk read)) t
-talk_leaves by start opening ended.NoMemory read now written t = begun_part opening written (replies by start (talk read)) t
+talk_leaves by start opening ended.WriteFault read now written t =
+    begun_part opening written (replies by start (talk read)) t
+talk_leaves by start opening ended.NoMemory read now written t =
+    begun_part opening written (replies by start (talk read)) t
 talk_leaves by start opening ended.LineLimit read now written t = (ap (λ w. opening ++ w) t.0, t.1)
 
 -- the opening was written, and then lines were answered
-pub spoken_by : {A : Type 0} (by : Answering A) (start : A) (opening : List ℕ) {input now : SourceState} {output mid new : SinkState} (e : Ended)
-    → Wrote output mid opening → TalkedPlain by start input now mid new e → Spoken (Ok (speech_by by start opening)) input now output new (status_of_end e)
+pub spoken_by : {A : Type 0} (by : Answering A) (start : A) (opening : List ℕ)
+    {input now : SourceState} {output mid new : SinkState} (e : Ended)
+    → Wrote output mid opening → TalkedPlain by start input now mid new e
+    → Spoken (Ok (speech_by by start opening)) input now output new (status_of_end e)
 spoken_by by start opening {input} {now} {output} {mid} {new} e wrote t = record {
   read = t.read;
   written = opening ++ t.written;
@@ -54,8 +67,10 @@ spoken_by by start opening {input} {now} {output} {mid} {new} e wrote t = record
 }
 
 -- no line is answered after the opening
-pub spoken_over : {A : Type 0} (by : Answering A) (start : A) (opening : List ℕ) (input : SourceState) {output new : SinkState}
-    → Wrote output new opening → by.is_over start ≡ true → Spoken (Ok (speech_by by start opening)) input input output new Done
+pub spoken_over : {A : Type 0} (by : Answering A) (start : A) (opening : List ℕ)
+    (input : SourceState) {output new : SinkState}
+    → Wrote output new opening → by.is_over start ≡ true
+    → Spoken (Ok (speech_by by start opening)) input input output new Done
 spoken_over by start opening input wrote over = record {
   read = [];
   written = opening;
@@ -65,14 +80,18 @@ spoken_over by start opening input wrote over = record {
   leaves = (sym (append-nil opening), inr over);
 }
 
-stop_leaves : (cause : Stop) (said : Result Speech (List ℕ)) (read : List ℕ) (now : SourceState) (written : List ℕ)
-    → IsPartOf written (whole_text said (talk read)) → Leaves (status_of_stop cause) said read now written
+stop_leaves : (cause : Stop) (said : Result Speech (List ℕ)) (read : List ℕ) (now : SourceState)
+    (written : List ℕ)
+    → IsPartOf written (whole_text said (talk read))
+    → Leaves (status_of_stop cause) said read now written
 stop_leaves stop.Output said read now written p = p
 stop_leaves stop.Memory said read now written p = p
 
 -- a text that begins what is to be written was not written whole
-pub spoken_stopped : (said : Result Speech (List ℕ)) (input : SourceState) {output new : SinkState} {text : List ℕ} {cause : Stop} (rest : List ℕ)
-    → whole_text said [] ≡ text ++ rest → Stopped output new text cause → Spoken said input input output new (status_of_stop cause)
+pub spoken_stopped : (said : Result Speech (List ℕ)) (input : SourceState) {output new : SinkState}
+    {text : List ℕ} {cause : Stop} (rest : List ℕ)
+    → whole_text said [] ≡ text ++ rest → Stopped output new text cause
+    → Spoken said input input output new (status_of_stop cause)
 spoken_stopped said input {output} {new} {text} {cause} rest is s =
     let all : Stopped output new (text ++ rest) cause = stopped_more rest s in
     record {
@@ -85,7 +104,8 @@ spoken_stopped said input {output} {new} {text} {cause} rest is s =
     }
 
 -- memory was wanted before anything was written
-pub spoken_nothing : (said : Result Speech (List ℕ)) (input : SourceState) (output : SinkState) → Spoken said input input output output NoMemory
+pub spoken_nothing : (said : Result Speech (List ℕ)) (input : SourceState) (output : SinkState)
+    → Spoken said input input output output NoMemory
 spoken_nothing said input output = record {
   read = [];
   written = [];
@@ -96,7 +116,8 @@ spoken_nothing said input output = record {
 }
 
 -- a story is refused
-pub spoken_refused : (line : List ℕ) (input : SourceState) {output new : SinkState} → Wrote output new line → Spoken (Err line) input input output new Refused
+pub spoken_refused : (line : List ℕ) (input : SourceState) {output new : SinkState}
+    → Wrote output new line → Spoken (Err line) input input output new Refused
 spoken_refused line input wrote = record {
   read = [];
   written = line;
@@ -106,7 +127,8 @@ spoken_refused line input wrote = record {
   leaves = refl;
 }
 
-pub spoken_silent : (input : SourceState) (output : SinkState) → Spoken (Ok (said_once [])) input input output output Done
+pub spoken_silent : (input : SourceState) (output : SinkState)
+    → Spoken (Ok (said_once [])) input input output output Done
 spoken_silent input output = record {
   read = [];
   written = [];
@@ -117,7 +139,8 @@ spoken_silent input output = record {
 }
 
 -- one text was written, or not whole
-pub once_written : (text : List ℕ) (input : SourceState) {output new : SinkState} → Wrote output new text
+pub once_written : (text : List ℕ) (input : SourceState) {output new : SinkState}
+    → Wrote output new text
     → Spoken (Ok (said_once text)) input input output new Done
 once_written text input wrote = record {
   read = [];
@@ -128,39 +151,56 @@ once_written text input wrote = record {
   leaves = (refl, inr refl);
 }
 
-pub once_stopped : (text : List ℕ) (input : SourceState) {output new : SinkState} {cause : Stop} → Stopped output new text cause
+pub once_stopped : (text : List ℕ) (input : SourceState) {output new : SinkState} {cause : Stop}
+    → Stopped output new text cause
     → Spoken (Ok (said_once text)) input input output new (status_of_stop cause)
 once_stopped text input s = spoken_stopped (Ok (said_once text)) input [] (sym (append-nil text)) s
 
--- the story that is played alone: its opening show wasn't written whole, it is over at once, or lines were answered
-pub run_stopped : (story : Story) (budget : ℕ) (input : SourceState) {output new : SinkState} {cause : Stop} (start : WorldState) → start ≡ opened story budget
-    → Stopped output new (show_text start) cause → Spoken (Ok (run_speech (Some story) budget)) input input output new (status_of_stop cause)
+-- the story that is played alone: its opening show wasn't written whole, it is over at once, or
+-- lines were answered
+pub run_stopped : (story : Story) (budget : ℕ) (input : SourceState) {output new : SinkState}
+    {cause : Stop} (start : WorldState) → start ≡ opened story budget
+    → Stopped output new (show_text start) cause
+    → Spoken (Ok (run_speech (Some story) budget)) input input output new (status_of_stop cause)
 run_stopped story budget input {output} {new} {cause} start is s =
-    spoken_stopped (Ok (run_speech (Some story) budget)) input [] refl (subst (λ (w : WorldState). Stopped output new (show_text w) cause) is s)
+    spoken_stopped (Ok (run_speech (Some story) budget)) input [] refl
+    (subst (λ (w : WorldState). Stopped output new (show_text w) cause) is s)
 
-pub run_over : (story : Story) (budget : ℕ) (input : SourceState) {output new : SinkState} (start : WorldState) → start ≡ opened story budget
-    → is_over start ≡ true → Wrote output new (show_text start) → Spoken (Ok (run_speech (Some story) budget)) input input output new Done
+pub run_over : (story : Story) (budget : ℕ) (input : SourceState) {output new : SinkState}
+    (start : WorldState) → start ≡ opened story budget
+    → is_over start ≡ true → Wrote output new (show_text start)
+    → Spoken (Ok (run_speech (Some story) budget)) input input output new Done
 run_over story budget input {output} {new} start is over wrote =
     spoken_over solo (opened story budget) (show_text (opened story budget)) input
-    (subst (λ (w : WorldState). Wrote output new (show_text w)) is wrote) (ap is_over (sym is) ∙ over)
+    (subst (λ (w : WorldState). Wrote output new (show_text w)) is wrote)
+    (ap is_over (sym is) ∙ over)
 
-pub run_talked : (story : Story) (budget : ℕ) {input now : SourceState} {output mid new : SinkState} (e : Ended) (start : WorldState) → start ≡ opened story budget
-    → Wrote output mid (show_text start) → {new_player : Option WorldState} → Talked (Plain (held_by solo)) (PlainReply (held_by solo)) (is_over_held solo) (Some start) new_player input now mid new e
+pub run_talked : (story : Story) (budget : ℕ) {input now : SourceState} {output mid new : SinkState}
+    (e : Ended) (start : WorldState) → start ≡ opened story budget
+    → Wrote output mid (show_text start) → {new_player : Option WorldState}
+    → Talked (Plain (held_by solo)) (PlainReply (held_by solo)) (is_over_held solo) (Some start)
+    new_player input now mid new e
     → Spoken (Ok (run_speech (Some story) budget)) input now output new (status_of_end e)
 run_talked story budget {input} {now} {output} {mid} {new} e start is wrote talked =
     spoken_by solo (opened story budget) (show_text (opened story budget)) e
     (subst (λ (w : WorldState). Wrote output mid (show_text w)) is wrote)
-    (subst (λ (w : WorldState). TalkedPlain solo w input now mid new e) is (talked_held solo e talked))
+    (subst (λ (w : WorldState). TalkedPlain solo w input now mid new e) is
+    (talked_held solo e talked))
 
 -- a text goes on as its input does
 pub record IsSteady (speech : Speech) : Type 0 where
   pub more : (some more : List (List ℕ)) → IsPartOf (speech.text some) (speech.text (some ++ more))
-  pub settled : (read rest : List ℕ) → speech.is_over (lines read) ≡ true → speech.text (lines (read ++ rest)) ≡ speech.text (lines read)
-  pub still_over : (read rest : List ℕ) → speech.is_over (lines read) ≡ true → speech.is_over (lines (read ++ rest)) ≡ true
+  pub settled : (read rest : List ℕ) → speech.is_over (lines read) ≡ true
+      → speech.text (lines (read ++ rest)) ≡ speech.text (lines read)
+  pub still_over : (read rest : List ℕ) → speech.is_over (lines read) ≡ true
+      → speech.is_over (lines (read ++ rest)) ≡ true
 
-steady_by : {A : Type 0} (by : Answering A) (start : A) (opening : List ℕ) → IsSteady (speech_by by start opening)
+steady_by : {A : Type 0} (by : Answering A) (start : A) (opening : List ℕ)
+    → IsSteady (speech_by by start opening)
 steady_by by start opening = record {
-  more = λ some more. begun_part opening (replies by start some) (replies by start (some ++ more)) (replies_more by start some more);
+  more =
+      λ some more. begun_part opening (replies by start some) (replies by start (some ++ more))
+      (replies_more by start some more);
   settled = λ read rest over. ap (λ l. opening ++ l) (replies_settled by start read rest over);
   still_over = λ read rest over. ap by.is_over (after_settled by start read rest over) ∙ over;
 }
@@ -174,7 +214,8 @@ steady_once text = record {
 
 pub steady_run : (story : Option Story) (budget : ℕ) → IsSteady (run_speech story budget)
 steady_run None budget = steady_once []
-steady_run (Some story) budget = steady_by solo (opened story budget) (show_text (opened story budget))
+steady_run (Some story) budget =
+    steady_by solo (opened story budget) (show_text (opened story budget))
 
 pub steady_check : (story : Option Story) → IsSteady (check_speech story)
 steady_check None = steady_once []

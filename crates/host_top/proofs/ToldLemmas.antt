@@ -1,14 +1,19 @@
 -- A command for a caller who is told the files, the input and what the output holds.
-use Rattle.std.proofs.Common.{◌≡◌, ℕ, ◌^◌, ◌≤◌, ◌⊎◌, inl, inr, List, [], ◌∷◌, ◌++◌, map, take, length, refl, sym, ap, ◌∙◌, subst, append_assoc, slice_get, Option, None, Some, IfSome, IsSomeAnd, Result, Ok, Err, IfOk, true}
+use Rattle.std.proofs.Common.{◌≡◌, ℕ, ◌^◌, ◌≤◌, ◌⊎◌, inl, inr, List, [], ◌∷◌, ◌++◌, map, take}
+use Rattle.std.proofs.Common.{length, refl, sym, ap, ◌∙◌, subst, append_assoc, slice_get, Option}
+use Rattle.std.proofs.Common.{None, Some, IfSome, IsSomeAnd, Result, Ok, Err, IfOk, true}
 use Rattle.std.proofs.lemmas.List.{append-nil}
 use Rattle.std.specs.Io.KnownBytes.{Appends}
 use Rattle.story_run.specs.declared.story.Story.{Story}
 use Rattle.host_top.specs.declared.status.Status.{Status}
-use Rattle.host_top.specs.declared.status.Status.TheVariants.{Done, BadWords, Refused, ReadFault, WriteFault, DiskFault, NoMemory, BadFolder, DoorFault, LineLimit}
+use Rattle.host_top.specs.declared.status.Status.TheVariants.{Done, BadWords, Refused, ReadFault}
+use Rattle.host_top.specs.declared.status.Status.TheVariants.{WriteFault, DiskFault, NoMemory}
+use Rattle.host_top.specs.declared.status.Status.TheVariants.{BadFolder, DoorFault, LineLimit}
 use Rattle.host_top.specs.declared.stories.Refusal.{Refusal}
 use Rattle.host_drill.specs.Drill.{drill_text}
 use Rattle.command_words.specs.declared.words.Action.{Action}
-use Rattle.command_words.specs.declared.words.Action.TheVariants.{Run, Check, Pipe, Serve, Drill, Init, Help, Version}
+use Rattle.command_words.specs.declared.words.Action.TheVariants.{Run, Check, Pipe, Serve, Drill}
+use Rattle.command_words.specs.declared.words.Action.TheVariants.{Init, Help, Version}
 use Rattle.host_top.specs.Borrowed.{journal_in, snaps_below}
 use Rattle.host_top.specs.Files.{OutsideState, Told}
 use Rattle.host_top.specs.Follows.{Does, Follows, Tells, WritesFor}
@@ -26,13 +31,18 @@ use Rattle.line_talk.specs.Talked.{IsReadToEnd}
 use Rattle.command_words.specs.Words.{Asked}
 use Rattle.line_talk.specs.Writing.{IsPartOf}
 use Rattle.line_talk.proofs.LinesLemmas.{still_reached, talk_settled, talk_first}
-use Rattle.host_top.proofs.ServedLemmas.{WroteSome, consumed, nothing_left, pipe_told, init_told, links_told, not_lent_served, not_lent_links, not_loaded_served, not_loaded_links, not_loaded_begun}
-use Rattle.host_top.proofs.BorrowLemmas.{keeps_none}
-use Rattle.host_top.proofs.FolderLemmas.{not_lent, takes_lent}
-use Rattle.host_top.proofs.SpeechLemmas.{spoken_nothing, IsSteady, steady_once, steady_run, steady_check}
+use Rattle.host_top.proofs.ServedLemmas.{WroteSome, consumed, nothing_left, pipe_told}
+use Rattle.host_top.proofs.WrittenLemmas.{init_told}
+use Rattle.host_top.proofs.WrittenLemmas.{links_told, not_lent_served, not_lent_links}
+use Rattle.host_top.proofs.WrittenLemmas.{not_loaded_served, not_loaded_links, not_loaded_begun}
+use Rattle.host_top.proofs.LoansLemmas.{keeps_none}
+use Rattle.host_top.proofs.UsedLemmas.{not_lent, takes_lent}
+use Rattle.host_top.proofs.SpeechLemmas.{spoken_nothing, IsSteady, steady_once, steady_run}
+use Rattle.host_top.proofs.SpeechLemmas.{steady_check}
 use Rattle.host_top.proofs.StoriesLemmas.{settled_told}
 
-held_then : (old new : Option (List ℕ)) (held written : List ℕ) → Appends old new written → old ≡ Some held → new ≡ Some (held ++ written)
+held_then : (old new : Option (List ℕ)) (held written : List ℕ) → Appends old new written
+    → old ≡ Some held → new ≡ Some (held ++ written)
 held_then None new held written p e = cc
 held_then (Some xs) None held written p e = absurd p
 held_then (Some xs) (Some ys) held written p e = cc
@@ -45,41 +55,63 @@ abbrev IsSteadySaid : Result Speech (List ℕ) → Type 0
 IsSteadySaid said = IfOk said IsSteady
 
 -- the text over a part of the input begins that over the whole
-part_of_whole : (said : Result Speech (List ℕ)) → IsSteadySaid said → (read rest : List ℕ) → length read ≤ 2 ^ 31 → IsPartOf (whole_text said (talk read)) (whole_text said (talk (read ++ rest)))
+part_of_whole : (said : Result Speech (List ℕ)) → IsSteadySaid said → (read rest : List ℕ)
+    → length read ≤ 2 ^ 31 → IsPartOf (whole_text said (talk read))
+    (whole_text said (talk (read ++ rest)))
 part_of_whole (Ok speech) s read rest within =
     let first = talk_first read rest within in
     let more = s.more (talk read) first.0 in
     (more.0, ap speech.text first.1 ∙ more.1)
 part_of_whole (Err line) s read rest within = ([], sym (append-nil line))
 
-done_writes : (speech : Speech) → IsSteady speech → (read rest : List ℕ) (now : SourceState) (written : List ℕ) → now.left ≡ Some rest
-    → written ≡ speech.text (lines read) → IsReadToEnd read now ⊎ (speech.is_over (lines read) ≡ true)
-    → (written ≡ speech.text (lines (read ++ rest))) × (IsWithinLimits (read ++ rest) ⊎ (speech.is_over (lines (read ++ rest)) ≡ true))
+done_writes : (speech : Speech) → IsSteady speech
+    → (read rest : List ℕ) (now : SourceState) (written : List ℕ) → now.left ≡ Some rest
+    → written ≡ speech.text (lines read)
+    → IsReadToEnd read now ⊎ (speech.is_over (lines read) ≡ true)
+    → (written ≡ speech.text (lines (read ++ rest)))
+    × (IsWithinLimits (read ++ rest) ⊎ (speech.is_over (lines (read ++ rest)) ≡ true))
 done_writes speech s read rest now written left text (inl end) =
-    let all : read ++ rest ≡ read = ap (λ l. read ++ l) (nothing_left now.left rest end.at_end left) ∙ append-nil read in
-    (text ∙ ap (λ b. speech.text (lines b)) (sym all), inl (subst (λ (b : List ℕ). IsWithinLimits b) (sym all) end.within))
-done_writes speech s read rest now written left text (inr over) = (text ∙ sym (s.settled read rest over), inr (s.still_over read rest over))
+    let all : read ++ rest ≡ read =
+    ap (λ l. read ++ l) (nothing_left now.left rest end.at_end left) ∙ append-nil read in (
+      text ∙ ap (λ b. speech.text (lines b)) (sym all),
+      inl
+          (subst (λ (b : List ℕ). IsWithinLimits b) (sym all) end.within),
+    )
+done_writes speech s read rest now written left text (inr over) =
+    (text ∙ sym (s.settled read rest over), inr (s.still_over read rest over))
 
-writes : (status : Status) (said : Result Speech (List ℕ)) → IsSteadySaid said → (read rest : List ℕ) (now : SourceState) (written : List ℕ)
-    → length read ≤ 2 ^ 31 → now.left ≡ Some rest → Leaves status said read now written → Writes status said (read ++ rest) written
-writes Done (Ok speech) s read rest now written within left leaves = done_writes speech s read rest now written left leaves.0 leaves.1
+writes : (status : Status) (said : Result Speech (List ℕ)) → IsSteadySaid said
+    → (read rest : List ℕ) (now : SourceState) (written : List ℕ)
+    → length read ≤ 2 ^ 31 → now.left ≡ Some rest → Leaves status said read now written
+    → Writes status said (read ++ rest) written
+writes Done (Ok speech) s read rest now written within left leaves =
+    done_writes speech s read rest now written left leaves.0 leaves.1
 writes Done (Err line) s read rest now written within left leaves = absurd leaves
 writes BadWords said s read rest now written within left leaves = absurd leaves
 writes DiskFault said s read rest now written within left leaves = absurd leaves
 writes BadFolder said s read rest now written within left leaves = absurd leaves
 writes DoorFault said s read rest now written within left leaves = absurd leaves
 writes Refused said s read rest now written within left leaves = leaves
-writes ReadFault (Ok speech) s read rest now written within left leaves = inr (read, (rest, refl), leaves)
+writes ReadFault (Ok speech) s read rest now written within left leaves =
+    inr (read, (rest, refl), leaves)
 writes ReadFault (Err line) s read rest now written within left leaves = absurd leaves
-writes WriteFault said s read rest now written within left leaves = part_of_part written _ _ leaves (part_of_whole said s read rest within)
-writes NoMemory said s read rest now written within left leaves = part_of_part written _ _ leaves (part_of_whole said s read rest within)
-writes LineLimit (Ok speech) s read rest now written within left leaves =
-    (leaves.0 ∙ ap speech.text (sym (talk_settled read rest within leaves.1)), still_reached read rest leaves.1)
+writes WriteFault said s read rest now written within left leaves =
+    part_of_part written _ _ leaves (part_of_whole said s read rest within)
+writes NoMemory said s read rest now written within left leaves =
+    part_of_part written _ _ leaves (part_of_whole said s read rest within)
+writes LineLimit (Ok speech) s read rest now written within left leaves = (
+  leaves.0 ∙ ap speech.text (sym (talk_settled read rest within leaves.1)),
+  still_reached read
+      rest leaves.1,
+)
 writes LineLimit (Err line) s read rest now written within left leaves = absurd leaves
 
-nothing_writes : (status : Status) (P : Type 0) (said : Result Speech (List ℕ)) (input : List ℕ) → (status ≡ ReadFault) × P ⊎ (status ≡ NoMemory) → Writes status said input []
-nothing_writes status P said input (inl failed) = subst (λ (s : Status). Writes s said input []) (sym failed.0) (inl refl)
-nothing_writes status P said input (inr wanted) = subst (λ (s : Status). Writes s said input []) (sym wanted) (whole_text said (talk input), refl)
+nothing_writes : (status : Status) (P : Type 0) (said : Result Speech (List ℕ)) (input : List ℕ)
+    → (status ≡ ReadFault) × P ⊎ (status ≡ NoMemory) → Writes status said input []
+nothing_writes status P said input (inl failed) =
+    subst (λ (s : Status). Writes s said input []) (sym failed.0) (inl refl)
+nothing_writes status P said input (inr wanted) =
+    subst (λ (s : Status). Writes s said input []) (sym wanted) (whole_text said (talk input), refl)
 
 abbrev IsSteadyTask : Result Task (List ℕ) → Type 0
 IsSteadyTask (Ok (Says speech)) = IsSteady speech
@@ -88,7 +120,8 @@ IsSteadyTask (Ok (ServesLinks stories folder)) = Unit {0}
 IsSteadyTask (Ok (Begins folder)) = Unit {0}
 IsSteadyTask (Err line) = Unit {0}
 
-steady : (action : Action) (found : Result (List Story) Refusal) (budget : ℕ) (folder : List ℕ) → IsSteadyTask (tasked action found budget folder)
+steady : (action : Action) (found : Result (List Story) Refusal) (budget : ℕ) (folder : List ℕ)
+    → IsSteadyTask (tasked action found budget folder)
 steady Run (Ok stories) budget folder = steady_run (slice_get stories 0) budget
 steady Check (Ok stories) budget folder = steady_check (slice_get stories 0)
 steady Pipe (Ok stories) budget folder = tt
@@ -100,96 +133,172 @@ steady Version (Ok stories) budget folder = steady_once version_text
 steady action (Err refusal) budget folder = tt
 
 -- what a task leaves of an output that is told
-said_held : (said : Result Speech (List ℕ)) → IsSteadySaid said → (bytes held : List ℕ) {input now : SourceState} {output new : SinkState} (status : Status)
+said_held : (said : Result Speech (List ℕ)) → IsSteadySaid said
+    → (bytes held : List ℕ) {input now : SourceState} {output new : SinkState} (status : Status)
     → Spoken said input now output new status → input.left ≡ Some bytes → output.held ≡ Some held
     → (written : List ℕ) × (new.held ≡ Some (held ++ written)) × Writes status said bytes written
 said_held said s bytes held {input} {now} {output} {new} status spoken left_is held_is =
     let c = consumed input.left now.left bytes spoken.read spoken.gave.told left_is in
-    let w : Writes status said (spoken.read ++ c.0) spoken.written = writes status said s spoken.read c.0 now spoken.written spoken.within c.2 spoken.leaves in (
+    let w : Writes status said (spoken.read ++ c.0) spoken.written =
+    writes status said s spoken.read c.0 now spoken.written spoken.within c.2 spoken.leaves in (
       spoken.written,
       held_then output.held new.held held spoken.written spoken.wrote.told held_is,
       subst (λ (b : List ℕ). Writes status said b spoken.written) (sym c.1) w,
     )
 
 -- what was written is held behind what was held
-held_so : {output new : SinkState} (held : List ℕ) (P : List ℕ → Type 0) → output.held ≡ Some held → WroteSome output new P → (written : List ℕ) × (new.held ≡ Some (held ++ written)) × P written
-held_so {output} {new} held P held_is w = (w.0, held_then output.held new.held held w.0 w.1.told held_is, w.2)
+held_so : {output new : SinkState} (held : List ℕ) (P : List ℕ → Type 0) → output.held ≡ Some held
+    → WroteSome output new P → (written : List ℕ) × (new.held ≡ Some (held ++ written)) × P written
+held_so {output} {new} held P held_is w =
+    (w.0, held_then output.held new.held held w.0 w.1.told held_is, w.2)
 
-held_on : {D : Type 0} (disks : DiskWords D) (task : Result Task (List ℕ)) → IsSteadyTask task → (bytes held : List ℕ) (outside beyond : OutsideState D) (input now : SourceState) (output new : SinkState) (status : Status)
-    → Does disks task outside beyond input now output new status → input.left ≡ Some bytes → output.held ≡ Some held
-    → (written : List ℕ) × (new.held ≡ Some (held ++ written)) × WritesFor disks outside.disk status task bytes written
-held_on disks (Err line) s bytes held outside beyond input now output new status does left_is held_is = said_held (Err line) tt bytes held status does.0 left_is held_is
-held_on disks (Ok (Says speech)) s bytes held outside beyond input now output new status does left_is held_is = said_held (Ok speech) s bytes held status does.0 left_is held_is
-held_on disks (Ok (Serves stories budget folder)) s bytes held outside beyond input now output new status (inl none) left_is held_is =
-    held_so held _ held_is ([], none.wrote, not_lent_served disks stories budget outside.disk folder bytes status _ none.cause)
-held_on disks (Ok (Serves stories budget folder)) s bytes held outside beyond input now output new status (inr t) left_is held_is =
-    held_so held _ held_is (pipe_told disks stories budget outside.disk folder bytes t.given t.givens t.back input now output new status
-    (takes_lent disks folder t.given t.givens t.back outside beyond t.many t.borrowed) left_is t.done)
-held_on disks (Ok (ServesLinks stories folder)) s bytes held outside beyond input now output new status (inl none, doors) left_is held_is =
-    held_so held _ held_is ([], none.wrote, not_lent_links disks (outside.disk (journal_in folder)) status _ none.cause)
-held_on disks (Ok (ServesLinks stories folder)) s bytes held outside beyond input now output new status (inr t, doors) left_is held_is =
-    held_so held _ held_is (links_told disks stories (outside.disk (journal_in folder)) t.given t.givens t.back input now output new status t.borrowed.each.0.lent t.done)
-held_on disks (Ok (Begins folder)) s bytes held outside beyond input now output new status does left_is held_is =
+held_on : {D : Type 0} (disks : DiskWords D) (task : Result Task (List ℕ)) → IsSteadyTask task
+    → (bytes held : List ℕ) (outside beyond : OutsideState D) (input now : SourceState)
+    (output new : SinkState) (status : Status)
+    → Does disks task outside beyond input now output new status → input.left ≡ Some bytes
+    → output.held ≡ Some held
+    → (written : List ℕ) × (new.held ≡ Some (held ++ written))
+    × WritesFor disks outside.disk status task bytes written
+held_on disks (Err line) s bytes held outside beyond input now output new status does left_is
+    held_is = said_held (Err line) tt bytes held status does.0 left_is held_is
+held_on disks (Ok (Says speech)) s bytes held outside beyond input now output new status does
+    left_is held_is = said_held (Ok speech) s bytes held status does.0 left_is held_is
+held_on disks (Ok (Serves stories budget folder)) s bytes held outside beyond input now output new
+    status (inl none) left_is held_is =
+    held_so held _ held_is (
+      [],
+      none.wrote,
+      not_lent_served disks stories budget outside.disk folder
+          bytes status _ none.cause,
+    )
+held_on disks (Ok (Serves stories budget folder)) s bytes held outside beyond input now output new
+    status (inr t) left_is held_is =
+    held_so held _ held_is (pipe_told disks stories budget outside.disk folder bytes t.given
+    t.givens t.back input now output new status
+    (takes_lent disks folder t.given t.givens t.back outside beyond t.many t.borrowed) left_is
+    t.done)
+held_on disks (Ok (ServesLinks stories folder)) s bytes held outside beyond input now output new
+    status (inl none, doors) left_is held_is =
+    held_so held _ held_is (
+      [],
+      none.wrote,
+      not_lent_links disks (outside.disk (journal_in folder))
+          status _ none.cause,
+    )
+held_on disks (Ok (ServesLinks stories folder)) s bytes held outside beyond input now output new
+    status (inr t, doors) left_is held_is =
+    held_so held _ held_is (links_told disks stories (outside.disk (journal_in folder)) t.given
+    t.givens t.back input now output new status t.borrowed.each.0.lent t.done)
+held_on disks (Ok (Begins folder)) s bytes held outside beyond input now output new status does
+    left_is held_is =
     held_so held _ held_is (init_told disks folder outside beyond input now output new status does)
 
-nothing_tells : {D : Type 0} (disks : DiskWords D) (disk : List ℕ → Told D) (status : Status) (P : Type 0) (task : Result Task (List ℕ)) (input : List ℕ)
+nothing_tells : {D : Type 0} (disks : DiskWords D) (disk : List ℕ → Told D) (status : Status)
+    (P : Type 0) (task : Result Task (List ℕ)) (input : List ℕ)
     → (status ≡ ReadFault) × P ⊎ (status ≡ NoMemory) → WritesFor disks disk status task input []
 nothing_tells disks disk status P (Err line) input c = nothing_writes status P (Err line) input c
-nothing_tells disks disk status P (Ok (Says speech)) input c = nothing_writes status P (Ok speech) input c
-nothing_tells disks disk status P (Ok (Serves stories budget folder)) input c = not_loaded_served disks stories budget disk folder input status P c
-nothing_tells disks disk status P (Ok (ServesLinks stories folder)) input c = not_loaded_links disks (disk (journal_in folder)) status P c
-nothing_tells disks disk status P (Ok (Begins folder)) input c = not_loaded_begun disks (disk (journal_in folder)) status P c
+nothing_tells disks disk status P (Ok (Says speech)) input c =
+    nothing_writes status P (Ok speech) input c
+nothing_tells disks disk status P (Ok (Serves stories budget folder)) input c =
+    not_loaded_served disks stories budget disk folder input status P c
+nothing_tells disks disk status P (Ok (ServesLinks stories folder)) input c =
+    not_loaded_links disks (disk (journal_in folder)) status P c
+nothing_tells disks disk status P (Ok (Begins folder)) input c =
+    not_loaded_begun disks (disk (journal_in folder)) status P c
 
 -- the disks that are told are those from before the loads
-same_told : {D : Type 0} (disks : DiskWords D) (old new : List ℕ → Told D) (status : Status) (task : Result Task (List ℕ)) (input written : List ℕ)
-    → ((name : List ℕ) → new name ≡ old name) → WritesFor disks new status task input written → WritesFor disks old status task input written
-same_told {D} disks old new status task input written same w = subst (λ (f : List ℕ → Told D). WritesFor disks f status task input written) (λ i name. same name i) w
+same_told : {D : Type 0} (disks : DiskWords D) (old new : List ℕ → Told D) (status : Status)
+    (task : Result Task (List ℕ)) (input written : List ℕ)
+    → ((name : List ℕ) → new name ≡ old name) → WritesFor disks new status task input written
+    → WritesFor disks old status task input written
+same_told {D} disks old new status task input written same w =
+    subst (λ (f : List ℕ → Told D). WritesFor disks f status task input written)
+    (λ i name. same name i) w
 
-pub tells : {D : Type 0} (disks : DiskWords D) (asked : Asked) (status : Status) (outside beyond : OutsideState D) (input now : SourceState) (output new : SinkState)
-    → Follows disks asked status outside beyond input now output new → Tells disks asked status outside input output new
-tells disks asked status outside beyond input now output new (inl none) files bytes held files_are left_is held_is =
-    ([], held_then output.held new.held held [] none.wrote.told held_is, nothing_tells disks outside.disk status _ _ bytes none.cause)
-tells disks asked status outside beyond input now output new (inr some) files bytes held files_are left_is held_is =
+pub tells : {D : Type 0} (disks : DiskWords D) (asked : Asked) (status : Status)
+    (outside beyond : OutsideState D) (input now : SourceState) (output new : SinkState)
+    → Follows disks asked status outside beyond input now output new
+    → Tells disks asked status outside input output new
+tells disks asked status outside beyond input now output new (inl none) files bytes held files_are
+    left_is held_is = (
+      [],
+      held_then output.held new.held held [] none.wrote.told held_is,
+      nothing_tells disks
+          outside.disk status _ _ bytes none.cause,
+    )
+tells disks asked status outside beyond input now output new (inr some) files bytes held files_are
+    left_is held_is =
     let task = tasked asked.action (stories_of some.files) asked.budget asked.folder in
-    let t = held_on disks task (steady asked.action (stories_of some.files) asked.budget asked.folder) bytes held some.between beyond input now output new status some.does left_is held_is in
-    let same : stories_of some.files ≡ stories_of (map (take 67108865) files) = sym (settled_told outside.file asked.names some.files files some.are_files some.settled files_are) in (
+    let t =
+    held_on disks task (steady asked.action (stories_of some.files) asked.budget asked.folder)
+    bytes held some.between beyond input now output new status some.does left_is held_is in
+    let same : stories_of some.files ≡ stories_of (map (take 67108865) files) =
+    sym (settled_told outside.file asked.names some.files files some.are_files some.settled
+    files_are) in (
       t.0,
       t.1,
-      subst (λ (f : Result (List Story) Refusal). WritesFor disks outside.disk status (tasked asked.action f asked.budget asked.folder) bytes t.0) same
-          (same_told disks outside.disk some.between.disk status task bytes t.0 some.loaded.disk t.2),
+      subst (λ (f : Result (List Story) Refusal). WritesFor disks outside.disk status
+          (tasked asked.action f asked.budget asked.folder) bytes t.0) same
+          (same_told disks outside.disk some.between.disk status task bytes t.0 some.loaded.disk
+          t.2),
     )
 
 -- memory was wanted before a task was begun
-pub does_nothing : {D : Type 0} (disks : DiskWords D) (task : Result Task (List ℕ)) (outside : OutsideState D) (input : SourceState) (output : SinkState)
+pub does_nothing : {D : Type 0} (disks : DiskWords D) (task : Result Task (List ℕ))
+    (outside : OutsideState D) (input : SourceState) (output : SinkState)
     → Does disks task outside outside input input output output NoMemory
-does_nothing disks (Err line) outside input output = (spoken_nothing (Err line) input output, keeps_none outside)
-does_nothing disks (Ok (Says speech)) outside input output = (spoken_nothing (Ok speech) input output, keeps_none outside)
-does_nothing disks (Ok (Serves stories budget folder)) outside input output = inl (not_lent disks (journal_in folder ∷ snaps_below folder 64) outside input output)
-does_nothing disks (Ok (ServesLinks stories folder)) outside input output =
-    (inl (not_lent disks (journal_in folder ∷ snaps_below folder 64) outside input output), record { done = λ e. cc; not_done = λ e. refl; fault = λ e. cc })
-does_nothing disks (Ok (Begins folder)) outside input output = inl (not_lent disks (journal_in folder ∷ []) outside input output)
+does_nothing disks (Err line) outside input output =
+    (spoken_nothing (Err line) input output, keeps_none outside)
+does_nothing disks (Ok (Says speech)) outside input output =
+    (spoken_nothing (Ok speech) input output, keeps_none outside)
+does_nothing disks (Ok (Serves stories budget folder)) outside input output =
+    inl (not_lent disks (journal_in folder ∷ snaps_below folder 64) outside input output)
+does_nothing disks (Ok (ServesLinks stories folder)) outside input output = (
+  inl (not_lent disks (journal_in folder ∷ snaps_below folder 64) outside input output),
+  record { done = λ e. cc; not_done = λ e. refl; fault = λ e. cc },
+)
+does_nothing disks (Ok (Begins folder)) outside input output =
+    inl (not_lent disks (journal_in folder ∷ []) outside input output)
 
 -- where memory was wanted before a file was loaded, each caller is told so
-tells_nothing : {D : Type 0} (disks : DiskWords D) (asked : Asked) (outside : OutsideState D) (input : SourceState) (output : SinkState) → Tells disks asked NoMemory outside input output output
-tells_nothing disks asked outside input output files bytes held files_are left_is held_is =
-    ([], held_then output.held output.held held [] (wrote_none output).told held_is, nothing_tells disks outside.disk NoMemory (Unit {0}) _ bytes (inr refl))
+tells_nothing : {D : Type 0} (disks : DiskWords D) (asked : Asked) (outside : OutsideState D)
+    (input : SourceState) (output : SinkState)
+    → Tells disks asked NoMemory outside input output output
+tells_nothing disks asked outside input output files bytes held files_are left_is held_is = (
+  [],
+  held_then output.held output.held held [] (wrote_none output).told held_is,
+  nothing_tells
+      disks outside.disk NoMemory (Unit {0}) _ bytes (inr refl),
+)
 
-pub whatever_is_asked : (asked : Option Asked) (P : Asked → Type 0) → ((one : Asked) → P one) → IfSome asked P
+pub whatever_is_asked : (asked : Option Asked) (P : Asked → Type 0) → ((one : Asked) → P one)
+    → IfSome asked P
 whatever_is_asked None P p = tt
 whatever_is_asked (Some one) P p = p one
 
-pub told_no_memory : {D : Type 0} (disks : DiskWords D) (asked : Option Asked) (code : ℕ) (outside : OutsideState D) (input : SourceState) (output : SinkState) → status_of code ≡ Some NoMemory
-    → IfSome asked (λ one. IsSomeAnd (status_of code) (λ status. Tells disks one status outside input output output))
+pub told_no_memory : {D : Type 0} (disks : DiskWords D) (asked : Option Asked) (code : ℕ)
+    (outside : OutsideState D) (input : SourceState) (output : SinkState)
+    → status_of code ≡ Some NoMemory
+    → IfSome asked (λ one. IsSomeAnd (status_of code)
+    (λ status. Tells disks one status outside input output output))
 told_no_memory disks asked code outside input output is =
-    whatever_is_asked asked (λ (one : Asked). IsSomeAnd (status_of code) (λ status. Tells disks one status outside input output output))
-    (λ one. subst (λ (s : Option Status). IsSomeAnd s (λ status. Tells disks one status outside input output output)) (sym is) (tells_nothing disks one outside input output))
+    whatever_is_asked asked (λ (one : Asked). IsSomeAnd (status_of code)
+    (λ status. Tells disks one status outside input output output))
+    (λ one. subst (λ (s : Option Status). IsSomeAnd s
+    (λ status. Tells disks one status outside input output output)) (sym is)
+    (tells_nothing disks one outside input output))
 
 -- and so it is with what is done
-pub done_no_memory : {D : Type 0} (disks : DiskWords D) (asked : Option Asked) (code : ℕ) (outside : OutsideState D) (input : SourceState) (output : SinkState) → status_of code ≡ Some NoMemory
-    → IfSome asked (λ one. IsSomeAnd (status_of code) (λ status. Follows disks one status outside outside input input output output))
+pub done_no_memory : {D : Type 0} (disks : DiskWords D) (asked : Option Asked) (code : ℕ)
+    (outside : OutsideState D) (input : SourceState) (output : SinkState)
+    → status_of code ≡ Some NoMemory
+    → IfSome asked (λ one. IsSomeAnd (status_of code)
+    (λ status. Follows disks one status outside outside input input output output))
 done_no_memory disks asked code outside input output is =
-    whatever_is_asked asked (λ (one : Asked). IsSomeAnd (status_of code) (λ status. Follows disks one status outside outside input input output output))
-    (λ one. subst (λ (s : Option Status). IsSomeAnd s (λ status. Follows disks one status outside outside input input output output)) (sym is)
+    whatever_is_asked asked (λ (one : Asked). IsSomeAnd (status_of code)
+    (λ status. Follows disks one status outside outside input input output output))
+    (λ one. subst (λ (s : Option Status). IsSomeAnd s
+    (λ status. Follows disks one status outside outside input input output output)) (sym is)
     (inl (record {
       behind = record { front = []; are_files = tt; are_stories = refl; next = λ e. cc };
       cause = inr refl;

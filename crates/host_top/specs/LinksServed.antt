@@ -65,8 +65,8 @@ pub record DoorsBy {D : Type 0} (outside beyond : OutsideState D) (status : Stat
   pub not_done : (status ≡ ends.Done → ⊥) → beyond.shut ≡ outside.shut
   pub fault : status ≡ ends.DoorFault → Rose outside.door_faults beyond.door_faults
 
--- what `serve` writes on the program's output, by its exit status, and what is told of its journal's
--- disk: the line by which a journal is refused, and else nothing
+-- what `serve` writes on the program's output, by its exit status, and what is told of its
+-- journal's disk: the line by which a journal is refused, and else nothing
 abbrev pub WritesLinks : {D : Type 0} → Status → DiskWords D → Told D → List ℕ → Type 0
 WritesLinks ends.Done disks journal written = written ≡ []
 WritesLinks ends.BadWords disks journal written = ⊥

@@ -4,8 +4,7 @@ use Rattle.gate_journal.specs.Rows.{SpellsRows, HasNoHeader, IsCorrupt, commands
 use Rattle.gate_journal.specs.declared.row.Row.{Row}
 use Rattle.session_core.specs.History.{game_of}
 use Rattle.session_core.specs.declared.entry.Entry.{Entry}
-use Rattle.session_desk.specs.Opens.{opens_of}
-use Rattle.session_saves.specs.Agreement.{IsAgreedFile}
+use Rattle.session_saves.specs.Agreement.{IsAgreedFile, opens_of}
 use Rattle.story_run.specs.declared.story.Story.{Story}
 use Rattle.host_top.specs.Borrowed.{journal_in, snap_in}
 use Rattle.host_top.specs.DiskWords.{DiskWords, WhereTold}

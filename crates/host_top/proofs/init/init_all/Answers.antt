@@ -1,4 +1,4 @@
-use Rattle.host_top.proofs.InitLemmas.{inits_failed, inits_in_use, inits_over, inits_unmade}
+use Rattle.host_top.proofs.BegunLemmas.{inits_over, inits_failed, inits_in_use, inits_unmade}
 use Rattle.host_top.proofs.init.init_all.Goals as goal
 
 pub returns-in-Err-make_stores-clause-value : goal.returns-in-Err-make_stores-clause-value
@@ -12,9 +12,13 @@ returns-in-Err-make_stores-clause-value g c = inits_unmade (record {
   reach = g.O.Disk.Disk.reach;
   room = g.O.Disk.Disk.room;
   label = g.O.Disk.Disk.label;
-}) c.args.disk.now c.is_empty.new.disk c.is_empty.ensures.looks c.is_empty.ensures.kept c.args.folder.now
-    (g.O.Outside.outside c.args.outside.now) (g.O.Outside.outside c.make_stores.new.outside) (g.K.Sink.sink c.args.output.now) c.in-Err-make_stores.why _ (λ told. (c.in-Ok-true.ensures.ok told).0 c.in-Ok-true.field-0-test)
-    c.in-Err-make_stores.ensures.err c.of_fetch.ensures c.in-Err-make_stores.ensures.cause c.make_stores.ensures.later
+}) c.args.disk.now c.is_empty.new.disk c.is_empty.ensures.looks c.is_empty.ensures.kept
+    c.args.folder.now
+    (g.O.Outside.outside c.args.outside.now) (g.O.Outside.outside c.make_stores.new.outside)
+    (g.K.Sink.sink c.args.output.now) c.in-Err-make_stores.why _
+    (λ told. (c.in-Ok-true.ensures.ok told).0 c.in-Ok-true.field-0-test)
+    c.in-Err-make_stores.ensures.err c.of_fetch.ensures c.in-Err-make_stores.ensures.cause
+    c.make_stores.ensures.later
 
 pub returns-in-Ok-clause-value : goal.returns-in-Ok-clause-value
 returns-in-Ok-clause-value g c = inits_over (record {
@@ -27,8 +31,11 @@ returns-in-Ok-clause-value g c = inits_over (record {
   reach = g.O.Disk.Disk.reach;
   room = g.O.Disk.Disk.room;
   label = g.O.Disk.Disk.label;
-}) c.args.disk.now c.is_empty.new.disk c.is_empty.ensures.looks c.is_empty.ensures.kept (λ told. (c.in-Ok-true.ensures.ok told).0 c.in-Ok-true.field-0-test) c.in-Ok-true.ensures.seen c.in-Ok-true.ensures.cause
-    c.init_over.new.disk _ _ _ c.args.folder.now (g.O.Outside.outside c.args.outside.now) (g.O.Outside.outside c.make_stores.new.outside) c.in-Ok.ensures.ok c.init_over.ensures.value
+}) c.args.disk.now c.is_empty.new.disk c.is_empty.ensures.looks c.is_empty.ensures.kept
+    (λ told. (c.in-Ok-true.ensures.ok told).0 c.in-Ok-true.field-0-test) c.in-Ok-true.ensures.seen
+    c.in-Ok-true.ensures.cause
+    c.init_over.new.disk _ _ _ c.args.folder.now (g.O.Outside.outside c.args.outside.now)
+    (g.O.Outside.outside c.make_stores.new.outside) c.in-Ok.ensures.ok c.init_over.ensures.value
 
 pub returns-in-Ok-false-clause-value : goal.returns-in-Ok-false-clause-value
 returns-in-Ok-false-clause-value g c = inits_in_use (record {
@@ -41,8 +48,11 @@ returns-in-Ok-false-clause-value g c = inits_in_use (record {
   reach = g.O.Disk.Disk.reach;
   room = g.O.Disk.Disk.room;
   label = g.O.Disk.Disk.label;
-}) c.args.disk.now c.is_empty.new.disk c.is_empty.ensures.looks c.is_empty.ensures.kept c.args.folder.now
-    (g.O.Outside.outside c.args.outside.now) _ _ _ (λ told. (c.in-Ok-false.ensures.ok told).1 c.in-Ok-false.field-0-test) c.in-Ok-false.ensures.cause c.say_line.ensures.value
+}) c.args.disk.now c.is_empty.new.disk c.is_empty.ensures.looks c.is_empty.ensures.kept
+    c.args.folder.now
+    (g.O.Outside.outside c.args.outside.now) _ _ _
+    (λ told. (c.in-Ok-false.ensures.ok told).1 c.in-Ok-false.field-0-test)
+    c.in-Ok-false.ensures.cause c.say_line.ensures.value
 
 pub returns-in-Err-clause-value : goal.returns-in-Err-clause-value
 returns-in-Err-clause-value g c = inits_failed (record {
@@ -55,5 +65,6 @@ returns-in-Err-clause-value g c = inits_failed (record {
   reach = g.O.Disk.Disk.reach;
   room = g.O.Disk.Disk.room;
   label = g.O.Disk.Disk.label;
-}) c.args.disk.now c.is_empty.new.disk c.is_empty.ensures.looks c.is_empty.ensures.kept c.args.folder.now
+}) c.args.disk.now c.is_empty.new.disk c.is_empty.ensures.looks c.is_empty.ensures.kept
+    c.args.folder.now
     (g.O.Outside.outside c.args.outside.now) _ c.in-Err.ensures.cause.0 c.in-Err.ensures.cause.1

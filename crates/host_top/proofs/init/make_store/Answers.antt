@@ -28,7 +28,8 @@ returns-in_err-disk-clause-err g c = on_err c.from_residual.result _ (no_stores 
   reach = g.O.Disk.Disk.reach;
   room = g.O.Disk.Disk.room;
   label = g.O.Disk.Disk.label;
-}) (snap_in c.args.folder.now c.args.session ∷ []) (g.O.Outside.outside c.args.outside.now) (g.O.Outside.outside c.disk.new.self) c.in_err-disk.ensures.err)
+}) (snap_in c.args.folder.now c.args.session ∷ []) (g.O.Outside.outside c.args.outside.now)
+    (g.O.Outside.outside c.disk.new.self) c.in_err-disk.ensures.err)
 
 pub returns-clause-err : goal.returns-clause-err
 returns-clause-err g c = store_tried (record {
@@ -41,9 +42,17 @@ returns-clause-err g c = store_tried (record {
   reach = g.O.Disk.Disk.reach;
   room = g.O.Disk.Disk.room;
   label = g.O.Disk.Disk.label;
-}) (snap_in c.args.folder.now c.args.session) c.deref.result.now c.deref-2.result.now c.in_ok-disk.disk c.make-made.new.disk
-    (g.O.Outside.outside c.args.outside.now) (g.O.Outside.outside c.disk.new.self) (g.O.Outside.outside c.put_back.new.self) (c.deref.ensures ∙ c.in-Ok.ensures) (c.deref-2.ensures ∙ c.in-Ok.ensures)
-    c.in_ok-disk.ensures.ok c.in_ok-disk.ensures.given c.make-made.ensures.kept c.put_back.ensures.back (record { meanwhile = c.make-made.ensures.crash; reaches = c.make-made.ensures.reach })
+}) (snap_in c.args.folder.now c.args.session) c.deref.result.now c.deref-2.result.now
+    c.in_ok-disk.disk c.make-made.new.disk
+    (g.O.Outside.outside c.args.outside.now) (g.O.Outside.outside c.disk.new.self)
+    (g.O.Outside.outside c.put_back.new.self) (c.deref.ensures ∙ c.in-Ok.ensures)
+    (c.deref-2.ensures ∙ c.in-Ok.ensures)
+    c.in_ok-disk.ensures.ok c.in_ok-disk.ensures.given c.make-made.ensures.kept
+    c.put_back.ensures.back (record {
+      meanwhile = c.make-made.ensures.crash;
+      reaches =
+          c.make-made.ensures.reach;
+    })
 
 pub returns-in-Ok-made-clause-ok : goal.returns-in-Ok-made-clause-ok
 returns-in-Ok-made-clause-ok g c = store_made (record {
@@ -56,7 +65,20 @@ returns-in-Ok-made-clause-ok g c = store_made (record {
   reach = g.O.Disk.Disk.reach;
   room = g.O.Disk.Disk.room;
   label = g.O.Disk.Disk.label;
-}) (snap_in c.args.folder.now c.args.session) c.deref.result.now c.deref-2.result.now c.in_ok-disk.disk c.make-made.new.disk
-    (g.O.Outside.outside c.args.outside.now) (g.O.Outside.outside c.disk.new.self) (g.O.Outside.outside c.put_back.new.self) (c.deref.ensures ∙ c.in-Ok.ensures) (c.deref-2.ensures ∙ c.in-Ok.ensures)
-    c.in_ok-disk.ensures.ok c.in_ok-disk.ensures.given c.make-made.ensures.kept c.put_back.ensures.back (record { meanwhile = c.make-made.ensures.crash; reaches = c.make-made.ensures.reach })
-    (record { over = c.in-Ok-made.ensures.ok; alone = c.in-Ok-made.ensures.value; count = c.in-Ok-made.ensures.faults })
+}) (snap_in c.args.folder.now c.args.session) c.deref.result.now c.deref-2.result.now
+    c.in_ok-disk.disk c.make-made.new.disk
+    (g.O.Outside.outside c.args.outside.now) (g.O.Outside.outside c.disk.new.self)
+    (g.O.Outside.outside c.put_back.new.self) (c.deref.ensures ∙ c.in-Ok.ensures)
+    (c.deref-2.ensures ∙ c.in-Ok.ensures)
+    c.in_ok-disk.ensures.ok c.in_ok-disk.ensures.given c.make-made.ensures.kept
+    c.put_back.ensures.back (record {
+      meanwhile = c.make-made.ensures.crash;
+      reaches =
+          c.make-made.ensures.reach;
+    })
+    (record {
+      over = c.in-Ok-made.ensures.ok;
+      alone = c.in-Ok-made.ensures.value;
+      count =
+          c.in-Ok-made.ensures.faults;
+    })

@@ -1,5 +1,5 @@
 use Rattle.std.proofs.Common.{arith, refl}
-use Rattle.host_top.proofs.BorrowLemmas.{doors_then, files_then}
+use Rattle.host_top.proofs.LoansLemmas.{doors_then, files_then}
 use Rattle.host_top.proofs.InitLemmas.{stores_more, stores_none, stores_tried}
 use Rattle.host_top.proofs.LendingLemmas.{on_err}
 use Rattle.host_top.proofs.init.make_stores.Goals as goal
@@ -34,8 +34,10 @@ loop-session-preserved g c = record {
     reach = g.O.Disk.Disk.reach;
     room = g.O.Disk.Disk.room;
     label = g.O.Disk.Disk.label;
-  }) c.args.folder.now c.loop-session.session (g.O.Outside.outside c.args.outside.now) (g.O.Outside.outside c.loop-session.outside) (g.O.Outside.outside c.make_store.new.outside)
-      (omega (arith, c.loop-session-test.true)) c.loop-session.invariant.made c.in_ok-make_store.ensures.ok;
+  }) c.args.folder.now c.loop-session.session (g.O.Outside.outside c.args.outside.now)
+      (g.O.Outside.outside c.loop-session.outside) (g.O.Outside.outside c.make_store.new.outside)
+      (omega (arith, c.loop-session-test.true)) c.loop-session.invariant.made
+      c.in_ok-make_store.ensures.ok;
   later = omega (arith, c.loop-session.invariant.later, c.make_store.ensures.later);
   files = files_then c.loop-session.invariant.files c.make_store.ensures.files;
   doors = doors_then c.loop-session.invariant.doors c.make_store.ensures.doors;
@@ -53,5 +55,7 @@ returns-in_err-make_store-clause-err g c = on_err c.from_residual.result _
       reach = g.O.Disk.Disk.reach;
       room = g.O.Disk.Disk.room;
       label = g.O.Disk.Disk.label;
-    }) c.args.folder.now c.loop-session.session (g.O.Outside.outside c.args.outside.now) (g.O.Outside.outside c.loop-session.outside) (g.O.Outside.outside c.make_store.new.outside)
-    (omega (arith, c.loop-session-test.true)) c.loop-session.invariant.made c.in_err-make_store.ensures.err)
+    }) c.args.folder.now c.loop-session.session (g.O.Outside.outside c.args.outside.now)
+    (g.O.Outside.outside c.loop-session.outside) (g.O.Outside.outside c.make_store.new.outside)
+    (omega (arith, c.loop-session-test.true)) c.loop-session.invariant.made
+    c.in_err-make_store.ensures.err)

@@ -16,8 +16,10 @@ invariant-loop-session g l = record {
     reach = g.O.Disk.Disk.reach;
     room = g.O.Disk.Disk.room;
     label = g.O.Disk.Disk.label;
-  }) (snaps_below l.folder l.session) (g.O.Outside.outside l.initial.outside) (g.O.Outside.outside l.outside);
-  later : (g.O.Outside.outside l.initial.outside).disk_faults ≤ (g.O.Outside.outside l.outside).disk_faults;
+  }) (snaps_below l.folder l.session) (g.O.Outside.outside l.initial.outside)
+      (g.O.Outside.outside l.outside);
+  later : (g.O.Outside.outside l.initial.outside).disk_faults
+      ≤ (g.O.Outside.outside l.outside).disk_faults;
   files : KeepsFiles (g.O.Outside.outside l.initial.outside) (g.O.Outside.outside l.outside);
   doors : KeepsDoors (g.O.Outside.outside l.initial.outside) (g.O.Outside.outside l.outside);
 }

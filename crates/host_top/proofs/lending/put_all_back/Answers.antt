@@ -1,15 +1,22 @@
-use Rattle.std.proofs.Common.{arith, refl, sym, subst, ap, ◌∙◌, ◌≡◌, ◌-◌, ◌+◌, ◌∷◌, [], ◌++◌, suc, ℕ, List, Option, Some, map, string_bytes, length, take, slice_get, ◌<◌}
+use Rattle.std.proofs.Common.{arith, refl, sym, subst, ap, ◌∙◌, ◌≡◌, ◌-◌, ◌+◌, ◌∷◌, [], ◌++◌, suc}
+use Rattle.std.proofs.Common.{ℕ, List, Option, Some, map, string_bytes, length, take, slice_get}
+use Rattle.std.proofs.Common.{◌<◌}
 use Rattle.std.proofs.lemmas.List.{length-take-le}
 use Rattle.std.proofs.Math.Seq.{take-length}
 use Rattle.std.specs.Option.{option_to_list}
-use Rattle.host_top.proofs.BorrowLemmas.{doors_then, files_then}
+use Rattle.host_top.proofs.LoansLemmas.{doors_then, files_then}
 use Rattle.host_top.proofs.LendingLemmas.{lent_beside, named_at, pop_last, puts_more, puts_none}
 use Rattle.host_top.proofs.lending.put_all_back.Goals as goal
 
 pub loop-init : goal.loop-init
 loop-init g c = record {
-  left = sym (ap (λ (n : ℕ). take n c.args.disks.items) (omega (arith, c.len-many.ensures, c.args.disks.ok)) ∙ take-length c.args.disks.items);
-  back = puts_none g.O.Disk.Disk.faults (map string_bytes c.args.names.now) c.args.disks.items (g.O.Outside.outside c.args.outside.now) _ (omega (arith, c.len-many.ensures, c.args.disks.ok));
+  left =
+      sym (ap (λ (n : ℕ). take n c.args.disks.items)
+      (omega (arith, c.len-many.ensures, c.args.disks.ok)) ∙ take-length c.args.disks.items);
+  back =
+      puts_none g.O.Disk.Disk.faults (map string_bytes c.args.names.now) c.args.disks.items
+      (g.O.Outside.outside c.args.outside.now) _
+      (omega (arith, c.len-many.ensures, c.args.disks.ok));
   lent = λ i name disk low. c.requires.lent i name disk;
   files = record { file = refl; faults = refl };
   doors = record { door_faults = refl; shut = refl };
@@ -21,13 +28,26 @@ put_back-requires g c =
     let all : List g.row.O-Disk.Denot = c.args.disks.items in
     let next : c.len-many.result - c.loop.counter ≡ suc k = omega (arith, c.loop-test.true) in
     let popped : c.pop.new.self.items ++ c.in-Some.disk ∷ [] ≡ take (suc k) all =
-    sym (c.pop.ensures.items ∙ ap (λ (o : Option g.row.O-Disk.Denot). c.pop.new.self.items ++ option_to_list o) c.in-Some.is) ∙ c.loop.invariant.left ∙ ap (λ (n : ℕ). take n all) next in
-    let within : k < length all = omega (arith, c.loop-test.true, c.len-many.ensures, c.args.disks.ok) in
+    sym (c.pop.ensures.items ∙ ap (λ (o : Option g.row.O-Disk.Denot). c.pop.new.self.items
+    ++ option_to_list o) c.in-Some.is) ∙ c.loop.invariant.left
+    ∙ ap (λ (n : ℕ). take n all) next in
+    let within : k < length all =
+    omega (arith, c.loop-test.true, c.len-many.ensures, c.args.disks.ok) in
     let last = pop_last all k c.pop.new.self.items c.in-Some.disk popped within in
-    let long : c.len.result ≡ k = omega (arith, c.len.ensures, c.pop.new.self.ok, ap length last.0, length-take-le k all (omega (arith, within))) in
+    let long : c.len.result ≡ k =
+    omega (
+      arith,
+      c.len.ensures,
+      c.pop.new.self.ok,
+      ap length last.0,
+      length-take-le k all
+          (omega (arith, within)),
+    ) in
     let named : slice_get (map string_bytes c.args.names.now) k ≡ Some c.deref.result.now =
-    subst (λ (n : ℕ). slice_get (map string_bytes c.args.names.now) n ≡ Some (string_bytes c.index-names-len.result)) long
-    (named_at c.args.names.now c.len.result c.index-names-len.result (omega (arith, long, within, c.requires.many)) c.index-names-len.is)
+    subst (λ (n : ℕ). slice_get (map string_bytes c.args.names.now) n ≡ Some
+    (string_bytes c.index-names-len.result)) long
+    (named_at c.args.names.now c.len.result c.index-names-len.result
+    (omega (arith, long, within, c.requires.many)) c.index-names-len.is)
     ∙ ap (λ (l : List ℕ). Some l) (sym c.deref.ensures) in
     c.loop.invariant.lent k c.deref.result.now c.in-Some.disk (omega (arith, next)) named last.1
 
@@ -37,20 +57,40 @@ loop-preserved g c =
     let all : List g.row.O-Disk.Denot = c.args.disks.items in
     let next : c.len-many.result - c.loop.counter ≡ suc k = omega (arith, c.loop-test.true) in
     let popped : c.pop.new.self.items ++ c.in-Some.disk ∷ [] ≡ take (suc k) all =
-    sym (c.pop.ensures.items ∙ ap (λ (o : Option g.row.O-Disk.Denot). c.pop.new.self.items ++ option_to_list o) c.in-Some.is) ∙ c.loop.invariant.left ∙ ap (λ (n : ℕ). take n all) next in
-    let within : k < length all = omega (arith, c.loop-test.true, c.len-many.ensures, c.args.disks.ok) in
+    sym (c.pop.ensures.items ∙ ap (λ (o : Option g.row.O-Disk.Denot). c.pop.new.self.items
+    ++ option_to_list o) c.in-Some.is) ∙ c.loop.invariant.left
+    ∙ ap (λ (n : ℕ). take n all) next in
+    let within : k < length all =
+    omega (arith, c.loop-test.true, c.len-many.ensures, c.args.disks.ok) in
     let last = pop_last all k c.pop.new.self.items c.in-Some.disk popped within in
-    let long : c.len.result ≡ k = omega (arith, c.len.ensures, c.pop.new.self.ok, ap length last.0, length-take-le k all (omega (arith, within))) in
+    let long : c.len.result ≡ k =
+    omega (
+      arith,
+      c.len.ensures,
+      c.pop.new.self.ok,
+      ap length last.0,
+      length-take-le k all
+          (omega (arith, within)),
+    ) in
     let named : slice_get (map string_bytes c.args.names.now) k ≡ Some c.deref.result.now =
-    subst (λ (n : ℕ). slice_get (map string_bytes c.args.names.now) n ≡ Some (string_bytes c.index-names-len.result)) long
-    (named_at c.args.names.now c.len.result c.index-names-len.result (omega (arith, long, within, c.requires.many)) c.index-names-len.is)
+    subst (λ (n : ℕ). slice_get (map string_bytes c.args.names.now) n ≡ Some
+    (string_bytes c.index-names-len.result)) long
+    (named_at c.args.names.now c.len.result c.index-names-len.result
+    (omega (arith, long, within, c.requires.many)) c.index-names-len.is)
     ∙ ap (λ (l : List ℕ). Some l) (sym c.deref.ensures) in
     record {
       left = last.0;
-      back = puts_more g.O.Disk.Disk.faults (map string_bytes c.args.names.now) all k c.deref.result.now c.in-Some.disk _ (g.O.Outside.outside c.loop.outside) (g.O.Outside.outside c.put_back.new.self)
+      back =
+          puts_more g.O.Disk.Disk.faults (map string_bytes c.args.names.now) all k
+          c.deref.result.now c.in-Some.disk _ (g.O.Outside.outside c.loop.outside)
+          (g.O.Outside.outside c.put_back.new.self)
           (rw next at c.loop.invariant.back) named last.1 c.put_back.ensures.back;
-      lent = λ i name disk low there is. lent_beside g.O.Disk.Disk.faults (map string_bytes c.args.names.now) i k c.deref.result.now name c.in-Some.disk (g.O.Outside.outside c.loop.outside) (g.O.Outside.outside c.put_back.new.self)
-          (g.O.Disk.Disk.label disk) c.requires.names named there low c.put_back.ensures.back (c.loop.invariant.lent i name disk (omega (arith, low, next)) there is);
+      lent =
+          λ i name disk low there is. lent_beside g.O.Disk.Disk.faults
+          (map string_bytes c.args.names.now) i k c.deref.result.now name c.in-Some.disk
+          (g.O.Outside.outside c.loop.outside) (g.O.Outside.outside c.put_back.new.self)
+          (g.O.Disk.Disk.label disk) c.requires.names named there low c.put_back.ensures.back
+          (c.loop.invariant.lent i name disk (omega (arith, low, next)) there is);
       files = files_then c.loop.invariant.files c.put_back.ensures.files;
       doors = doors_then c.loop.invariant.doors c.put_back.ensures.doors;
     }

@@ -16,8 +16,10 @@ invariant-loop-name g l = record {
     reach = g.O.Disk.Disk.reach;
     room = g.O.Disk.Disk.room;
     label = g.O.Disk.Disk.label;
-  }) (g.O.Outside.outside l.initial.outside) (g.O.Outside.outside l.outside) (lent_as (map string_bytes l.names) l.disks.items);
-  count : (g.O.Outside.outside l.outside).disk_faults ≡ (g.O.Outside.outside l.initial.outside).disk_faults;
+  }) (g.O.Outside.outside l.initial.outside) (g.O.Outside.outside l.outside)
+      (lent_as (map string_bytes l.names) l.disks.items);
+  count : (g.O.Outside.outside l.outside).disk_faults
+      ≡ (g.O.Outside.outside l.initial.outside).disk_faults;
   files : KeepsFiles (g.O.Outside.outside l.initial.outside) (g.O.Outside.outside l.outside);
   doors : KeepsDoors (g.O.Outside.outside l.initial.outside) (g.O.Outside.outside l.outside);
 }

@@ -1,5 +1,5 @@
 use Rattle.std.proofs.Common.{[], map, string_bytes}
-use Rattle.host_top.proofs.BorrowLemmas.{lent_nothing}
+use Rattle.host_top.proofs.LoansLemmas.{lent_nothing}
 use Rattle.host_top.proofs.FolderLemmas.{folder_taken, journal_alone, journal_lent}
 use Rattle.host_top.proofs.LendingLemmas.{on_err}
 use Rattle.host_top.proofs.lending.take_folder.Goals as goal
@@ -38,8 +38,10 @@ returns-in-Ok-clause-ok g c =
         reach = g.O.Disk.Disk.reach;
         room = g.O.Disk.Disk.room;
         label = g.O.Disk.Disk.label;
-      }) (string_bytes c.args.names.now.journal) (map string_bytes c.args.names.now.snaps.items) c.in_ok-journal.journal c.in-Ok.snaps.items
-          (g.O.Outside.outside c.args.outside.now) (g.O.Outside.outside c.disk.new.self) (g.O.Outside.outside c.take_all.new.outside) c.requires.journal lends given taken.1,
+      }) (string_bytes c.args.names.now.journal) (map string_bytes c.args.names.now.snaps.items)
+          c.in_ok-journal.journal c.in-Ok.snaps.items
+          (g.O.Outside.outside c.args.outside.now) (g.O.Outside.outside c.disk.new.self)
+          (g.O.Outside.outside c.take_all.new.outside) c.requires.journal lends given taken.1,
     )
 
 pub put_back-requires : goal.put_back-requires
@@ -56,8 +58,11 @@ put_back-requires g c =
       reach = g.O.Disk.Disk.reach;
       room = g.O.Disk.Disk.room;
       label = g.O.Disk.Disk.label;
-    }) (string_bytes c.args.names.now.journal) c.deref-in-Err.result.now (map string_bytes c.args.names.now.snaps.items) c.in_ok-journal.journal
-    (g.O.Outside.outside c.args.outside.now) (g.O.Outside.outside c.disk.new.self) (g.O.Outside.outside c.take_all.new.outside) refused.0 c.deref-in-Err.ensures c.requires.journal
+    }) (string_bytes c.args.names.now.journal) c.deref-in-Err.result.now
+    (map string_bytes c.args.names.now.snaps.items) c.in_ok-journal.journal
+    (g.O.Outside.outside c.args.outside.now) (g.O.Outside.outside c.disk.new.self)
+    (g.O.Outside.outside c.take_all.new.outside) refused.0 c.deref-in-Err.ensures
+    c.requires.journal
     lends refused.2 refused.3
 
 pub returns-in-Err-clause-err : goal.returns-in-Err-clause-err
@@ -75,6 +80,9 @@ returns-in-Err-clause-err g c =
       reach = g.O.Disk.Disk.reach;
       room = g.O.Disk.Disk.room;
       label = g.O.Disk.Disk.label;
-    }) (string_bytes c.args.names.now.journal) c.deref-in-Err.result.now (map string_bytes c.args.names.now.snaps.items) c.in_ok-journal.journal
-    (g.O.Outside.outside c.args.outside.now) (g.O.Outside.outside c.disk.new.self) (g.O.Outside.outside c.take_all.new.outside) (g.O.Outside.outside c.put_back.new.self) refused.0 c.deref-in-Err.ensures c.requires.journal
+    }) (string_bytes c.args.names.now.journal) c.deref-in-Err.result.now
+    (map string_bytes c.args.names.now.snaps.items) c.in_ok-journal.journal
+    (g.O.Outside.outside c.args.outside.now) (g.O.Outside.outside c.disk.new.self)
+    (g.O.Outside.outside c.take_all.new.outside) (g.O.Outside.outside c.put_back.new.self)
+    refused.0 c.deref-in-Err.ensures c.requires.journal
     lends given refused.1 refused.2 refused.3 c.put_back.ensures.back

@@ -1,28 +1,35 @@
 use Rattle.std.proofs.Common.{[], ◌∷◌, refl, Some}
-use Rattle.host_top.proofs.BorrowLemmas.{lent_nothing, lent_one}
+use Rattle.host_top.proofs.BorrowLemmas.{lent_one}
+use Rattle.host_top.proofs.LoansLemmas.{lent_nothing}
 use Rattle.host_top.proofs.LendingLemmas.{on_err, returned_one}
 use Rattle.host_top.proofs.lending.take_one.Goals as goal
 
 pub returns-in_err-disk-clause-err : goal.returns-in_err-disk-clause-err
 returns-in_err-disk-clause-err g c =
-    on_err c.from_residual.result _ (refl, ([], tt, (λ other apart. tt), lent_nothing _ _ _ c.in_err-disk.ensures.err))
+    on_err c.from_residual.result _
+    (refl, ([], tt, (λ other apart. tt), lent_nothing _ _ _ c.in_err-disk.ensures.err))
 
 pub returns-in-Ok-clause-ok : goal.returns-in-Ok-clause-ok
 returns-in-Ok-clause-ok g c = (
   c.in_ok-disk.disk,
   c.in-Ok.ensures.items,
-  lent_one _ c.args.name.now c.in_ok-disk.disk (g.O.Outside.outside c.args.outside.now) (g.O.Outside.outside c.disk.new.self) c.in_ok-disk.ensures.ok c.in_ok-disk.ensures.given,
+  lent_one _ c.args.name.now c.in_ok-disk.disk (g.O.Outside.outside c.args.outside.now)
+      (g.O.Outside.outside c.disk.new.self) c.in_ok-disk.ensures.ok c.in_ok-disk.ensures.given,
 )
 
 pub returns-in-Err-clause-err : goal.returns-in-Err-clause-err
 returns-in-Err-clause-err g c = (
   c.in-Err.ensures.items,
   (
-    (record { name = c.args.name.now; given = c.in_ok-disk.disk; back = Some c.in_ok-disk.disk }) ∷ [],
+    (record { name = c.args.name.now; given = c.in_ok-disk.disk; back = Some c.in_ok-disk.disk })
+        ∷ [],
     (refl, tt),
     (λ other apart. apart),
-    returned_one _ c.args.name.now c.in_ok-disk.disk c.in_ok-disk.disk (g.O.Outside.outside c.args.outside.now) (g.O.Outside.outside c.disk.new.self) (g.O.Outside.outside c.put_back.new.self)
-        c.in_ok-disk.ensures.ok c.in_ok-disk.ensures.given (record { telling = refl; size = refl; name = refl })
+    returned_one _ c.args.name.now c.in_ok-disk.disk c.in_ok-disk.disk
+        (g.O.Outside.outside c.args.outside.now) (g.O.Outside.outside c.disk.new.self)
+        (g.O.Outside.outside c.put_back.new.self)
+        c.in_ok-disk.ensures.ok c.in_ok-disk.ensures.given
+        (record { telling = refl; size = refl; name = refl })
         (rw c.in-Err.ensures.value_returned at c.put_back.ensures.back),
   ),
 )

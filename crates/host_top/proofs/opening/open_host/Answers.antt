@@ -17,14 +17,17 @@ returns-in-Err-Journal-clause-refused g c =
       cause = rw c.in-Err-Journal.field-0-is at c.in-Err-Journal.ensures.cause;
       gave = gave_none input;
       says = c.say_fault.ensures.value;
-      images = may_open_again g.D.Disk.tells g.D.Disk.may_leave g.D.Disk.moment g.D.Disk.left_since c.args.disks.journal c.in-Err-Journal.disk
+      images =
+          may_open_again g.D.Disk.tells g.D.Disk.may_leave g.D.Disk.moment g.D.Disk.left_since
+          c.args.disks.journal c.in-Err-Journal.disk
           same.telling crash (g.met.D.Disk.counts_now c.in-Err-Journal.disk);
       meanwhile = crash;
       reaches = rw c.in-Err-Journal.field-0-is at c.in-Err-Journal.ensures.writes;
     }
 
 pub returns-in-Err-Journal-clause-kept : goal.returns-in-Err-Journal-clause-kept
-returns-in-Err-Journal-clause-kept g c = rw c.in-Err-Journal.field-0-is at c.in-Err-Journal.ensures.kept
+returns-in-Err-Journal-clause-kept g c =
+    rw c.in-Err-Journal.field-0-is at c.in-Err-Journal.ensures.kept
 
 pub returns-in-Err-Journal-clause-status : goal.returns-in-Err-Journal-clause-status
 returns-in-Err-Journal-clause-status g c = (

@@ -1,6 +1,7 @@
 use Rattle.std.proofs.Common.{arith}
-use Rattle.host_top.proofs.ConversedLemmas.{conversed, same_back, same_stores, same_long, stores_back}
-use Rattle.host_top.proofs.FolderLemmas.{hosted_so}
+use Rattle.host_top.proofs.ConversedLemmas.{conversed, same_back, same_stores, same_long}
+use Rattle.host_top.proofs.ConversedLemmas.{stores_back}
+use Rattle.host_top.proofs.UsedLemmas.{hosted_so}
 use Rattle.host_top.proofs.pipe.pipe_over.Goals as goal
 
 pub returns-in-Err-clause-value : goal.returns-in-Err-clause-value
@@ -15,7 +16,9 @@ returns-in-Err-clause-value g c =
       reach = g.D.Disk.reach;
       room = g.D.Disk.room;
       label = g.D.Disk.label;
-    }) _ _ c.args.disks.journal c.args.disks.snaps.items c.in-Err.refusal.1 _ _ _ _ _ (λ journal snaps none. absurd none) (c.in-Err.ensures.refused (g.S.Source.source c.args.input.now))
+    }) _ _ c.args.disks.journal c.args.disks.snaps.items c.in-Err.refusal.1 _ _ _ _ _
+    (λ journal snaps none. absurd none)
+    (c.in-Err.ensures.refused (g.S.Source.source c.args.input.now))
 
 pub returns-clause-value : goal.returns-clause-value
 returns-clause-value g c = (
@@ -31,8 +34,11 @@ returns-clause-value g c = (
     reach = g.D.Disk.reach;
     room = g.D.Disk.room;
     label = g.D.Disk.label;
-  }) c.args.disks.journal c.end-journal.result.0 c.args.disks.snaps.items c.end-journal.result.1.items c.args.stories.now c.args.budget c.in-Ok.ensures.ok.0 _ _ _ c.in-Ok.ensures.ok.2
-      c.end-journal.ensures.value c.answer_lines-served.ensures.holders c.answer_lines-served.result c.answer_lines-served.ensures.value c.in-Ok.ensures.ok.1 c.in-Ok.ensures.sound
+  }) c.args.disks.journal c.end-journal.result.0 c.args.disks.snaps.items
+      c.end-journal.result.1.items c.args.stories.now c.args.budget c.in-Ok.ensures.ok.0 _ _ _
+      c.in-Ok.ensures.ok.2
+      c.end-journal.ensures.value c.answer_lines-served.ensures.holders c.answer_lines-served.result
+      c.answer_lines-served.ensures.value c.in-Ok.ensures.ok.1 c.in-Ok.ensures.sound
       (stores_back (record {
         tells = g.D.Disk.tells;
         seen = g.D.Disk.seen;
@@ -43,8 +49,11 @@ returns-clause-value g c = (
         reach = g.D.Disk.reach;
         room = g.D.Disk.room;
         label = g.D.Disk.label;
-      }) c.args.disks.journal c.end-journal.result.0 c.args.disks.snaps.items c.end-journal.result.1.items c.args.stories.now c.args.budget c.in-Ok.ensures.ok.0 _ _ _ c.in-Ok.ensures.ok.2
-      c.end-journal.ensures.value c.in-Ok.ensures.stores c.end-journal.ensures.stores c.in-Ok.ensures.sound)),
+      }) c.args.disks.journal c.end-journal.result.0 c.args.disks.snaps.items
+      c.end-journal.result.1.items c.args.stories.now c.args.budget c.in-Ok.ensures.ok.0 _ _ _
+      c.in-Ok.ensures.ok.2
+      c.end-journal.ensures.value c.in-Ok.ensures.stores c.end-journal.ensures.stores
+      c.in-Ok.ensures.sound)),
 )
 
 pub returns-clause-kept : goal.returns-clause-kept
@@ -59,7 +68,9 @@ returns-clause-kept g c = (
     reach = g.D.Disk.reach;
     room = g.D.Disk.room;
     label = g.D.Disk.label;
-  }) c.args.disks.journal c.end-journal.result.0 c.args.disks.snaps.items c.end-journal.result.1.items c.args.stories.now c.args.budget c.in-Ok.ensures.ok.0 _ _ _ c.in-Ok.ensures.ok.2 c.end-journal.ensures.value,
+  }) c.args.disks.journal c.end-journal.result.0 c.args.disks.snaps.items
+      c.end-journal.result.1.items c.args.stories.now c.args.budget c.in-Ok.ensures.ok.0 _ _ _
+      c.in-Ok.ensures.ok.2 c.end-journal.ensures.value,
   same_stores (record {
     tells = g.D.Disk.tells;
     seen = g.D.Disk.seen;
@@ -70,7 +81,9 @@ returns-clause-kept g c = (
     reach = g.D.Disk.reach;
     room = g.D.Disk.room;
     label = g.D.Disk.label;
-  }) c.args.disks.journal c.end-journal.result.0 c.args.disks.snaps.items c.end-journal.result.1.items c.args.stories.now c.args.budget c.in-Ok.ensures.ok.0 _ _ _ c.in-Ok.ensures.ok.2 c.end-journal.ensures.value
+  }) c.args.disks.journal c.end-journal.result.0 c.args.disks.snaps.items
+      c.end-journal.result.1.items c.args.stories.now c.args.budget c.in-Ok.ensures.ok.0 _ _ _
+      c.in-Ok.ensures.ok.2 c.end-journal.ensures.value
       c.in-Ok.ensures.stores c.end-journal.ensures.stores,
 )
 
@@ -98,7 +111,9 @@ returns-clause-fits g c = omega (
         reach = g.D.Disk.reach;
         room = g.D.Disk.room;
         label = g.D.Disk.label;
-      }) c.args.disks.journal c.end-journal.result.0 c.args.disks.snaps.items c.end-journal.result.1.items c.args.stories.now c.args.budget c.in-Ok.ensures.ok.0 _ _ _ c.in-Ok.ensures.ok.2 c.end-journal.ensures.value
+      }) c.args.disks.journal c.end-journal.result.0 c.args.disks.snaps.items
+      c.end-journal.result.1.items c.args.stories.now c.args.budget c.in-Ok.ensures.ok.0 _ _ _
+      c.in-Ok.ensures.ok.2 c.end-journal.ensures.value
       c.in-Ok.ensures.stores c.end-journal.ensures.stores),
   c.requires.many,
 )

@@ -8,4 +8,7 @@ returns-in_err-write_all-clause-err g c =
     rw (p.1, p.2, ← c.last.ensures.value) (stopped_more _ c.in_err-write_all.ensures.err)
 
 pub returns-clause-err : goal.returns-clause-err
-returns-clause-err g c = IfErr-weaker c.write_all-2.result _ _ (λ cause s. rw (← c.last.ensures.value) (stopped_then c.in_ok-write_all.ensures.ok s)) c.write_all-2.ensures.err
+returns-clause-err g c =
+    IfErr-weaker c.write_all-2.result _ _
+    (λ cause s. rw (← c.last.ensures.value) (stopped_then c.in_ok-write_all.ensures.ok s))
+    c.write_all-2.ensures.err

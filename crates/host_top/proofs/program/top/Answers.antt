@@ -7,12 +7,16 @@ use Rattle.host_top.proofs.program.top.Goals as goal
 
 pub returns-in-Err-clause-told : goal.returns-in-Err-clause-told
 returns-in-Err-clause-told g c =
-    told_no_memory _ (asked_by (map string_bytes c.args.words.now)) c.code-in-Err.result (g.O.Outside.outside c.args.outside.now) (g.S.Source.source c.args.input.now) (g.K.Sink.sink c.args.output.now)
+    told_no_memory _ (asked_by (map string_bytes c.args.words.now)) c.code-in-Err.result
+    (g.O.Outside.outside c.args.outside.now) (g.S.Source.source c.args.input.now)
+    (g.K.Sink.sink c.args.output.now)
     c.code-in-Err.ensures
 
 pub returns-in-Err-clause-done : goal.returns-in-Err-clause-done
 returns-in-Err-clause-done g c =
-    done_no_memory _ (asked_by (map string_bytes c.args.words.now)) c.code-in-Err.result (g.O.Outside.outside c.args.outside.now) (g.S.Source.source c.args.input.now) (g.K.Sink.sink c.args.output.now)
+    done_no_memory _ (asked_by (map string_bytes c.args.words.now)) c.code-in-Err.result
+    (g.O.Outside.outside c.args.outside.now) (g.S.Source.source c.args.input.now)
+    (g.K.Sink.sink c.args.output.now)
     c.code-in-Err.ensures
 
 pub returns-clause-done : goal.returns-clause-done
@@ -26,19 +30,24 @@ returns-clause-told g c =
     rw (is, c.code-2.ensures) (tells _ _ _ _ _ _ _ _ _ c.follow-status.ensures.done)
 
 pub returns-clause-bad_words : goal.returns-clause-bad_words
-returns-clause-bad_words g c = λ e. absurd (c.follow-status.ensures.bad_words (coded_two _ _ c.code-2.ensures e))
+returns-clause-bad_words g c =
+    λ e. absurd (c.follow-status.ensures.bad_words (coded_two _ _ c.code-2.ensures e))
 
 pub returns-clause-read_fault : goal.returns-clause-read_fault
-returns-clause-read_fault g c = λ e. c.follow-status.ensures.read_fault (coded_four _ _ c.code-2.ensures e)
+returns-clause-read_fault g c =
+    λ e. c.follow-status.ensures.read_fault (coded_four _ _ c.code-2.ensures e)
 
 pub returns-clause-write_fault : goal.returns-clause-write_fault
-returns-clause-write_fault g c = λ e. c.follow-status.ensures.write_fault (coded_five _ _ c.code-2.ensures e)
+returns-clause-write_fault g c =
+    λ e. c.follow-status.ensures.write_fault (coded_five _ _ c.code-2.ensures e)
 
 pub returns-clause-disk_fault : goal.returns-clause-disk_fault
-returns-clause-disk_fault g c = failed_six _ _ _ _ _ _ _ _ _ _ c.follow-status.ensures.done c.code-2.ensures
+returns-clause-disk_fault g c =
+    failed_six _ _ _ _ _ _ _ _ _ _ c.follow-status.ensures.done c.code-2.ensures
 
 pub returns-clause-door_fault : goal.returns-clause-door_fault
-returns-clause-door_fault g c = failed_nine _ _ _ _ _ _ _ _ _ _ c.follow-status.ensures.done c.code-2.ensures
+returns-clause-door_fault g c =
+    failed_nine _ _ _ _ _ _ _ _ _ _ c.follow-status.ensures.done c.code-2.ensures
 
 pub returns-clause-kept : goal.returns-clause-kept
 returns-clause-kept g c = c.follow-status.ensures.kept

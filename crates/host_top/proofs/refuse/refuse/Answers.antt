@@ -7,4 +7,6 @@ pub returns-in-Ok-clause-value : goal.returns-in-Ok-clause-value
 returns-in-Ok-clause-value g c = λ input. spoken_refused _ input c.in-Ok.ensures.ok
 
 pub returns-in-Err-clause-value : goal.returns-in-Err-clause-value
-returns-in-Err-clause-value g c = λ input. rw c.of_stop.ensures (spoken_stopped (Err _) input _ (sym (append-nil _)) c.in-Err.ensures.err)
+returns-in-Err-clause-value g c =
+    λ input. rw c.of_stop.ensures (spoken_stopped (Err _) input _ (sym (append-nil _))
+    c.in-Err.ensures.err)

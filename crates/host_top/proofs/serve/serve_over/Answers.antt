@@ -1,6 +1,6 @@
 use Rattle.std.proofs.Common.{arith, refl, rules}
 use Rattle.host_top.proofs.ConversedLemmas.{same_back, same_stores, same_long, stores_back}
-use Rattle.host_top.proofs.FolderLemmas.{hosted_so}
+use Rattle.host_top.proofs.UsedLemmas.{hosted_so}
 use Rattle.host_top.proofs.LinksLemmas.{are_roots, links_served, no_doors}
 use Rattle.host_top.proofs.serve.serve_over.Goals as goal
 
@@ -16,10 +16,12 @@ returns-in-Err-clause-value g c = λ input.
       reach = g.D.Disk.reach;
       room = g.D.Disk.room;
       label = g.D.Disk.label;
-    }) _ _ c.args.disks.journal c.args.disks.snaps.items c.in-Err.refusal.1 _ _ _ _ _ (λ journal snaps none. absurd none) (c.in-Err.ensures.refused input)
+    }) _ _ c.args.disks.journal c.args.disks.snaps.items c.in-Err.refusal.1 _ _ _ _ _
+    (λ journal snaps none. absurd none) (c.in-Err.ensures.refused input)
 
 pub returns-in-Err-clause-doors : goal.returns-in-Err-clause-doors
-returns-in-Err-clause-doors g c = no_doors _ _ c.in-Err.refusal.0 c.in-Err.ensures.status.0 c.in-Err.ensures.status.1 refl
+returns-in-Err-clause-doors g c =
+    no_doors _ _ c.in-Err.refusal.0 c.in-Err.ensures.status.0 c.in-Err.ensures.status.1 refl
 
 pub serve_links-status-requires-clause-roots : goal.serve_links-status-requires-clause-roots
 serve_links-status-requires-clause-roots g c = search (rules, are_roots)
@@ -35,8 +37,10 @@ returns-clause-value g c = λ input. rw c.in-Ok.ensures.silent (links_served (re
   reach = g.D.Disk.reach;
   room = g.D.Disk.room;
   label = g.D.Disk.label;
-}) c.args.disks.journal c.end-journal.result.0 c.args.disks.snaps.items c.end-journal.result.1.items c.args.stories.now c.args.budget c.in-Ok.ensures.ok.0 _ _ _
-    c.in-Ok.ensures.ok.2 c.end-journal.ensures.value input _ c.serve_links-status.result c.serve_links-status.ensures.value c.in-Ok.ensures.ok.1
+}) c.args.disks.journal c.end-journal.result.0 c.args.disks.snaps.items c.end-journal.result.1.items
+    c.args.stories.now c.args.budget c.in-Ok.ensures.ok.0 _ _ _
+    c.in-Ok.ensures.ok.2 c.end-journal.ensures.value input _ c.serve_links-status.result
+    c.serve_links-status.ensures.value c.in-Ok.ensures.ok.1
     (stores_back (record {
       tells = g.D.Disk.tells;
       seen = g.D.Disk.seen;
@@ -47,8 +51,11 @@ returns-clause-value g c = λ input. rw c.in-Ok.ensures.silent (links_served (re
       reach = g.D.Disk.reach;
       room = g.D.Disk.room;
       label = g.D.Disk.label;
-    }) c.args.disks.journal c.end-journal.result.0 c.args.disks.snaps.items c.end-journal.result.1.items c.args.stories.now c.args.budget c.in-Ok.ensures.ok.0 _ _ _ c.in-Ok.ensures.ok.2
-    c.end-journal.ensures.value c.in-Ok.ensures.stores c.end-journal.ensures.stores c.in-Ok.ensures.sound))
+    }) c.args.disks.journal c.end-journal.result.0 c.args.disks.snaps.items
+    c.end-journal.result.1.items c.args.stories.now c.args.budget c.in-Ok.ensures.ok.0 _ _ _
+    c.in-Ok.ensures.ok.2
+    c.end-journal.ensures.value c.in-Ok.ensures.stores c.end-journal.ensures.stores
+    c.in-Ok.ensures.sound))
 
 pub returns-clause-kept : goal.returns-clause-kept
 returns-clause-kept g c = (
@@ -62,7 +69,9 @@ returns-clause-kept g c = (
     reach = g.D.Disk.reach;
     room = g.D.Disk.room;
     label = g.D.Disk.label;
-  }) c.args.disks.journal c.end-journal.result.0 c.args.disks.snaps.items c.end-journal.result.1.items c.args.stories.now c.args.budget c.in-Ok.ensures.ok.0 _ _ _ c.in-Ok.ensures.ok.2 c.end-journal.ensures.value,
+  }) c.args.disks.journal c.end-journal.result.0 c.args.disks.snaps.items
+      c.end-journal.result.1.items c.args.stories.now c.args.budget c.in-Ok.ensures.ok.0 _ _ _
+      c.in-Ok.ensures.ok.2 c.end-journal.ensures.value,
   same_stores (record {
     tells = g.D.Disk.tells;
     seen = g.D.Disk.seen;
@@ -73,7 +82,9 @@ returns-clause-kept g c = (
     reach = g.D.Disk.reach;
     room = g.D.Disk.room;
     label = g.D.Disk.label;
-  }) c.args.disks.journal c.end-journal.result.0 c.args.disks.snaps.items c.end-journal.result.1.items c.args.stories.now c.args.budget c.in-Ok.ensures.ok.0 _ _ _ c.in-Ok.ensures.ok.2 c.end-journal.ensures.value
+  }) c.args.disks.journal c.end-journal.result.0 c.args.disks.snaps.items
+      c.end-journal.result.1.items c.args.stories.now c.args.budget c.in-Ok.ensures.ok.0 _ _ _
+      c.in-Ok.ensures.ok.2 c.end-journal.ensures.value
       c.in-Ok.ensures.stores c.end-journal.ensures.stores,
 )
 
@@ -101,7 +112,9 @@ returns-clause-fits g c = omega (
         reach = g.D.Disk.reach;
         room = g.D.Disk.room;
         label = g.D.Disk.label;
-      }) c.args.disks.journal c.end-journal.result.0 c.args.disks.snaps.items c.end-journal.result.1.items c.args.stories.now c.args.budget c.in-Ok.ensures.ok.0 _ _ _ c.in-Ok.ensures.ok.2 c.end-journal.ensures.value
+      }) c.args.disks.journal c.end-journal.result.0 c.args.disks.snaps.items
+      c.end-journal.result.1.items c.args.stories.now c.args.budget c.in-Ok.ensures.ok.0 _ _ _
+      c.in-Ok.ensures.ok.2 c.end-journal.ensures.value
       c.in-Ok.ensures.stores c.end-journal.ensures.stores),
   c.requires.many,
 )

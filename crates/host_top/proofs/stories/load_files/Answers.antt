@@ -1,21 +1,32 @@
 use Rattle.std.proofs.Common.{◌∙◌, ap, sym, arith, inr, is_ok, map, List, ℕ}
 use Rattle.std.proofs.lemmas.List.{length-map}
 use Rattle.host_top.specs.StoryFile.{story_of}
-use Rattle.host_top.proofs.BorrowLemmas.{doors_then, keeps_then}
+use Rattle.host_top.proofs.LoansLemmas.{doors_then, keeps_then}
 use Rattle.host_top.proofs.StoriesLemmas.{any_error, loaded_more, loaded_last, loaded_story}
 use Rattle.host_top.proofs.stories.load_files.Goals as goal
 
 pub returns-then-not-is_story-clause-value : goal.returns-then-not-is_story-clause-value
-returns-then-not-is_story-clause-value g c = loaded_more _ _ _ _ _ _ _ _ _ c.loop-name.name-index c.loop-name.invariant.are c.loop-name.invariant.count c.loop-name-test.true c.in-Ok.ensures.items c.loop-name.invariant.kept c.in_ok-bytes.ensures.value
+returns-then-not-is_story-clause-value g c =
+    loaded_more _ _ _ _ _ _ _ _ _ c.loop-name.name-index c.loop-name.invariant.are
+    c.loop-name.invariant.count c.loop-name-test.true c.in-Ok.ensures.items
+    c.loop-name.invariant.kept c.in_ok-bytes.ensures.value
 
 pub returns-then-not-is_story-clause-settled : goal.returns-then-not-is_story-clause-settled
 returns-then-not-is_story-clause-settled g c =
-    inr (loaded_last _ _ _ _ c.in-Ok.ensures.items (sym (sym c.if-not-is_story.true ∙ c.is_story-is_story.ensures ∙ ap (λ (b : List ℕ). is_ok (story_of b)) c.deref.ensures.value)))
+    inr (loaded_last _ _ _ _ c.in-Ok.ensures.items
+    (sym (sym c.if-not-is_story.true ∙ c.is_story-is_story.ensures
+    ∙ ap (λ (b : List ℕ). is_ok (story_of b)) c.deref.ensures.value)))
 
 pub loop-name-preserved : goal.loop-name-preserved
 loop-name-preserved g c = record {
-  are = loaded_more _ _ _ _ _ _ _ _ _ c.loop-name.name-index c.loop-name.invariant.are c.loop-name.invariant.count c.loop-name-test.true c.in-Ok.ensures.items c.loop-name.invariant.kept c.in_ok-bytes.ensures.value;
-  stories = loaded_story _ _ _ _ c.in-Ok.ensures.items c.loop-name.invariant.stories (sym (sym c.if-not-is_story.false ∙ c.is_story-is_story.ensures ∙ ap (λ (b : List ℕ). is_ok (story_of b)) c.deref.ensures.value));
+  are =
+      loaded_more _ _ _ _ _ _ _ _ _ c.loop-name.name-index c.loop-name.invariant.are
+      c.loop-name.invariant.count c.loop-name-test.true c.in-Ok.ensures.items
+      c.loop-name.invariant.kept c.in_ok-bytes.ensures.value;
+  stories =
+      loaded_story _ _ _ _ c.in-Ok.ensures.items c.loop-name.invariant.stories
+      (sym (sym c.if-not-is_story.false ∙ c.is_story-is_story.ensures
+      ∙ ap (λ (b : List ℕ). is_ok (story_of b)) c.deref.ensures.value));
   count = omega (arith, c.in-Ok.ensures.len);
   kept = c.in_ok-bytes.ensures.kept ∙ c.loop-name.invariant.kept;
   later = omega (arith, c.in_ok-bytes.ensures.later);
@@ -28,5 +39,13 @@ returns-in_err-bytes-clause-behind g c = any_error c.from_residual.result _ (λ 
   front = map (λ f. f.items) c.loop-name.files.items;
   are_files = c.loop-name.invariant.are;
   are_stories = c.loop-name.invariant.stories;
-  next = λ failed. omega (arith, c.loop-name.invariant.count, c.loop-name-test.true, length-map c.loop-name.files.items (λ f. f.items), length-map c.args.names.now (λ n. n.now));
+  next =
+      λ failed. omega (
+        arith,
+        c.loop-name.invariant.count,
+        c.loop-name-test.true,
+        length-map
+            c.loop-name.files.items (λ f. f.items),
+        length-map c.args.names.now (λ n. n.now),
+      );
 })

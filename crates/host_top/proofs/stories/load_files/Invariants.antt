@@ -5,7 +5,8 @@ use Rattle.host_top.proofs.stories.load_files.Given as goal
 
 abbrev pub invariant-loop-name : goal.invariant-loop-name
 invariant-loop-name g l = record {
-  are : AreFiles (g.O.Outside.outside l.initial.outside).file (map (λ n. n.now) l.names) (map (λ f. f.items) l.files.items);
+  are : AreFiles (g.O.Outside.outside l.initial.outside).file (map (λ n. n.now) l.names)
+      (map (λ f. f.items) l.files.items);
   stories : IsOk (stories_of (map (λ f. f.items) l.files.items));
   count : length l.files.items ≡ l.name-index;
   kept : (g.O.Outside.outside l.outside).file ≡ (g.O.Outside.outside l.initial.outside).file;

@@ -6,5 +6,6 @@ use Rattle.host_top.proofs.stories.stories_of.Given as goal
 abbrev pub invariant-loop-file : goal.invariant-loop-file
 invariant-loop-file l = record {
   count : length l.stories.items ≡ l.file-index;
-  found : stories_of (map (λ f. f.items) l.files) ≡ behind l.stories.items (stories_from l.file-index (map (λ f. f.items) (drop l.file-index l.files)));
+  found : stories_of (map (λ f. f.items) l.files) ≡ behind l.stories.items
+      (stories_from l.file-index (map (λ f. f.items) (drop l.file-index l.files)));
 }

@@ -15,12 +15,18 @@ invariant_of-self-in-Some c =
     let old : List ℕ → Option Shelf = get_by_text c.make_shelf.new.shelves in
     let now : Shelf = record { disk = Some c.args.disk; loan = c.in-Some.shelf.now.loan } in
     let new : List ℕ → Option Shelf = get_by_text (c.get_mut.follows.lender now) in
-    let at = btree_map_updates_text name c.make_shelf.new.shelves (c.get_mut.follows.lender now) (Some now) ((c.get_mut.follows.holds now).3 (search (rules))) in
+    let at =
+    btree_map_updates_text name c.make_shelf.new.shelves (c.get_mut.follows.lender now)
+    (Some now) ((c.get_mut.follows.holds now).3 (search (rules))) in
     let before : AreBelow (loan_in c.make_shelf.new.shelves) calls =
-    below_same (loan_in c.args.self.now.shelves) (loan_in c.make_shelf.new.shelves) calls calls (λ other. (c.make_shelf.ensures.kept other).1) (omega arith) c.args.self.now.below in
-    let here : loan_in c.make_shelf.new.shelves name ≡ c.in-Some.shelf.now.loan = ap (option_and_then (λ s. s.loan)) (sym c.in-Some.ensures.value) in
+    below_same (loan_in c.args.self.now.shelves) (loan_in c.make_shelf.new.shelves) calls calls
+    (λ other. (c.make_shelf.ensures.kept other).1) (omega arith) c.args.self.now.below in
+    let here : loan_in c.make_shelf.new.shelves name ≡ c.in-Some.shelf.now.loan =
+    ap (option_and_then (λ s. s.loan)) (sym c.in-Some.ensures.value) in
     record {
-      below = below_at (loan_in c.make_shelf.new.shelves) (loan_in (c.get_mut.follows.lender now)) name c.in-Some.shelf.now.loan calls calls
+      below =
+          below_at (loan_in c.make_shelf.new.shelves) (loan_in (c.get_mut.follows.lender now)) name
+          c.in-Some.shelf.now.loan calls calls
           (part_at (λ s. s.loan) old new name now at) (omega arith)
           (λ l e. before name l (here ∙ e)) before;
     }

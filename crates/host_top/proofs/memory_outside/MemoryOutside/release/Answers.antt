@@ -14,10 +14,15 @@ invariant_of-self c =
     let old : List ℕ → Option Shelf = get_by_text c.args.self.now.shelves in
     let now : Shelf = record { disk = c.take.new.self; loan = c.in-Some.shelf.now.loan } in
     let new : List ℕ → Option Shelf = get_by_text (c.get_mut.follows.lender now) in
-    let at = btree_map_updates_text name c.args.self.now.shelves (c.get_mut.follows.lender now) (Some now) ((c.get_mut.follows.holds now).3 (search (rules))) in
-    let here : loan_in c.args.self.now.shelves name ≡ c.in-Some.shelf.now.loan = ap (option_and_then (λ s. s.loan)) (sym c.in-Some.ensures.value) in
+    let at =
+    btree_map_updates_text name c.args.self.now.shelves (c.get_mut.follows.lender now)
+    (Some now) ((c.get_mut.follows.holds now).3 (search (rules))) in
+    let here : loan_in c.args.self.now.shelves name ≡ c.in-Some.shelf.now.loan =
+    ap (option_and_then (λ s. s.loan)) (sym c.in-Some.ensures.value) in
     record {
-      below = below_at (loan_in c.args.self.now.shelves) (loan_in (c.get_mut.follows.lender now)) name c.in-Some.shelf.now.loan calls calls
+      below =
+          below_at (loan_in c.args.self.now.shelves) (loan_in (c.get_mut.follows.lender now)) name
+          c.in-Some.shelf.now.loan calls calls
           (part_at (λ s. s.loan) old new name now at) (omega arith)
           (λ l e. c.args.self.now.below name l (here ∙ e)) c.args.self.now.below;
     }
