@@ -7,5 +7,7 @@ use Rattle.storyhost.proofs.edge.files.note.Goals as goal
 
 pub returns-clause-ok : goal.returns-clause-ok
 returns-clause-ok c = λ other.
-    btree_map_updates_text (string_bytes c.in_ok-name.name) c.args.loans.now c.insert.new.self (Some c.args.loan) c.in_ok-insert.ensures.updates other
-    ∙ ap (λ (n : List ℕ). update bytes_eq (get_by_text c.args.loans.now) n (Some c.args.loan) other) c.in_ok-name.ensures.ok
+    btree_map_updates_text (string_bytes c.in_ok-name.name) c.args.loans.now c.insert.new.self
+    (Some c.args.loan) c.in_ok-insert.ensures.updates other
+    ∙ ap (λ (n : List ℕ). update bytes_eq (get_by_text c.args.loans.now) n (Some c.args.loan) other)
+    c.in_ok-name.ensures.ok

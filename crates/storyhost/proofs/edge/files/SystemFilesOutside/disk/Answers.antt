@@ -14,8 +14,12 @@ returns-in-Ok-note-clause-ok g c =
     record {
       disks = untold_at Missing name;
       loans = λ other. c.in-Ok-note.ensures.ok other
-          ∙ ap (λ (n : ℕ). update bytes_eq (get_by_text c.args.self.now.loans) name (Some (loan c.args.self.now.calls n)) other) c.faults.ensures.value
-          ∙ ap (λ (n : ℕ). update bytes_eq (get_by_text c.args.self.now.loans) name (Some (loan n c.set_label.new.self.faults)) other) (sym c.set_label.ensures.value);
+          ∙ ap (λ (n : ℕ). update bytes_eq (get_by_text c.args.self.now.loans) name
+          (Some (loan c.args.self.now.calls n)) other) c.faults.ensures.value
+          ∙ ap (λ (n : ℕ). update bytes_eq (get_by_text c.args.self.now.loans) name
+          (Some (loan n c.set_label.new.self.faults)) other) (sym c.set_label.ensures.value);
       count = refl;
-      own = λ other one apart is. own_label (get_by_text c.args.self.now.loans) c.args.self.now.calls c.set_label.new.self.label c.args.self.now.below c.set_label.ensures.value other one is;
+      own =
+          λ other one apart is. own_label (get_by_text c.args.self.now.loans) c.args.self.now.calls
+          c.set_label.new.self.label c.args.self.now.below c.set_label.ensures.value other one is;
     }
