@@ -1,16 +1,13 @@
 //! Hosts whose journal's disk fails at one of its calls, stops, and is opened again.
 
-use crate::runs::{ECHO, GO, PROMPT, bytes_of, new_journal};
+use crate::runs::{ECHO, Ended, GO, PROMPT, new_journal, outside_of, run_over};
 use disk_model::MemDisk;
-use host_top::{MemoryOutside, top};
-use line_talk::{MemorySink, MemorySource};
 use std::alloc::Global;
-use std::collections::BTreeMap;
 use std::sync::Wait;
 use std::test::Fail;
 use std::thread::Threads;
 
-/// What a host over a disk wrote, and the disk that it put back.
+/// How a host over a disk ended, what it wrote, and the disk that it put back.
 #[derive(Drop)]
 struct Ran {
     status: u8,
@@ -25,31 +22,13 @@ fn pipe_over<R: Threads + Wait + Sync>(
     disk: MemDisk,
     input: &[u8],
 ) -> Result<Ran, Fail> {
-    let mut files = BTreeMap::new(alloc);
-    files.insert(String::from_str(alloc, "a.ulx")?, bytes_of(alloc, &ECHO)?)?;
-    let mut words = Vec::new(alloc);
-    for word in ["pipe", "d", "a.ulx"] {
-        words.push(String::from_str(alloc, word)?)?;
-    }
-    let mut outside = MemoryOutside::new(
-        alloc,
-        files,
-        Vec::new(alloc),
-        Vec::new(alloc),
-        Vec::new(alloc),
-    );
+    let mut outside = outside_of(alloc, &ECHO)?;
     outside.hold(alloc, "d/journal", disk)?;
-    let mut input = MemorySource::new(input.to_vec(alloc)?, 4096, Vec::new(alloc));
-    let mut output = MemorySink::new(alloc, 4096, Vec::new(alloc));
-    let status = top(rt, alloc, &words, &mut outside, &mut input, &mut output);
+    let Ended { status, text } = run_over(rt, alloc, &mut outside, &["pipe", "d", "a.ulx"], input)?;
     let Some(disk) = outside.release("d/journal") else {
         return Err("a disk that isn't put back".into());
     };
-    Ok(Ran {
-        status,
-        text: output.bytes().to_vec(alloc)?,
-        disk,
-    })
+    Ok(Ran { status, text, disk })
 }
 
 /// A text is written at the end of another.

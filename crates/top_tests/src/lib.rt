@@ -9,3 +9,7 @@ mod journal;
 mod runs;
 #[cfg(test)]
 mod serving;
+#[cfg(test)]
+mod session;
+#[cfg(test)]
+mod stores;

@@ -9,15 +9,13 @@ use std::collections::BTreeMap;
 use std::sync::Wait;
 use std::thread::Threads;
 
-/// A story file: the nine words of the header, and what stands behind them; the rest is zeros.
+/// A story file: the nine words of the header, and what stands behind them; the rest is zeros. The
+/// fourth word is its size in bytes.
 #[derive(Clone, Copy)]
 pub struct File {
     pub header: [u32; 9],
     pub code: &'static [u8],
 }
-
-/// The size of each story file, in bytes.
-const SIZE: usize = 256;
 
 /// Prints `Hi` and quits.
 const HI: File = File {
@@ -32,8 +30,8 @@ const HI: File = File {
         0,
         0x957C_E43E,
     ],
-    code: b"\xC1\x00\x00\x40\x80\x40\x81\x03\x40\x80\x40\x80\x40\x80\x81\x30\x11\x08\x23\x05\x81\x30\
-        \x11\x00\x2F\x01\x81\x49\x01\x02\x70\x01\x48\x70\x01\x69\x81\x20",
+    code: b"\xC1\x00\x00\x40\x80\x40\x81\x03\x40\x80\x40\x80\x40\x80\x81\x30\x11\x08\x23\x05\x81\
+        \x30\x11\x00\x2F\x01\x81\x49\x01\x02\x70\x01\x48\x70\x01\x69\x81\x20",
 };
 
 /// Prints `>`, asks for a line, prints it and begins again.
@@ -49,10 +47,10 @@ pub const ECHO: File = File {
         0,
         0x166C_941C,
     ],
-    code: b"\xC1\x00\x00\x40\x80\x40\x81\x03\x40\x80\x40\x80\x40\x80\x81\x30\x11\x08\x23\x05\x81\x30\
-        \x11\x00\x2F\x01\x81\x49\x01\x02\x70\x01\x3E\x40\x80\x40\x81\x14\x40\x82\x01\x00\x40\x81\
-        \x01\x81\x30\x12\x00\x00\xD0\x04\x40\x82\x01\x20\x81\x30\x12\x00\x00\xC0\x01\x40\x86\x01\
-        \x28\x40\x82\x01\x00\x81\x30\x12\x00\x00\x84\x02\x70\x01\x0A\x20\x01\xCC",
+    code: b"\xC1\x00\x00\x40\x80\x40\x81\x03\x40\x80\x40\x80\x40\x80\x81\x30\x11\x08\x23\x05\x81\
+        \x30\x11\x00\x2F\x01\x81\x49\x01\x02\x70\x01\x3E\x40\x80\x40\x81\x14\x40\x82\x01\x00\x40\
+        \x81\x01\x81\x30\x12\x00\x00\xD0\x04\x40\x82\x01\x20\x81\x30\x12\x00\x00\xC0\x01\x40\x86\
+        \x01\x28\x40\x82\x01\x00\x81\x30\x12\x00\x00\x84\x02\x70\x01\x0A\x20\x01\xCC",
 };
 
 const HI_SHOW: &[u8] = b"W 1 3 0 0 80 24\nT 1 0 =Hi\nE quit\n.\n";
@@ -92,14 +90,65 @@ pub const PLAIN: Run = Run {
     text: &[HI_SHOW],
 };
 
-pub fn bytes_of(alloc: Global, file: &File) -> Result<Vec<u8>, AllocError> {
+fn bytes_of(alloc: Global, file: &File) -> Result<Vec<u8>, AllocError> {
     let mut bytes = Vec::new(alloc);
     for word in &file.header {
         bytes.extend_from_slice(&word.to_be_bytes())?;
     }
     bytes.extend_from_slice(file.code)?;
-    bytes.resize(SIZE, 0)?;
+    bytes.resize(file.header[3] as usize, 0)?;
     Ok(bytes)
+}
+
+/// A story file under the name `a.ulx`.
+fn files_of(alloc: Global, file: &File) -> Result<BTreeMap<String, Vec<u8>>, AllocError> {
+    let mut files = BTreeMap::new(alloc);
+    files.insert(String::from_str(alloc, "a.ulx")?, bytes_of(alloc, file)?)?;
+    Ok(files)
+}
+
+/// An outside with a story file under that name and no disk, of which no call is to fail.
+pub fn outside_of(alloc: Global, file: &File) -> Result<MemoryOutside, AllocError> {
+    Ok(MemoryOutside::new(
+        alloc,
+        files_of(alloc, file)?,
+        Vec::new(alloc),
+        Vec::new(alloc),
+        Vec::new(alloc),
+    ))
+}
+
+/// How a run ended, and what it wrote.
+#[derive(Drop)]
+pub struct Ended {
+    pub status: u8,
+    pub text: Vec<u8>,
+}
+
+/// Runs the program with these words over an outside, until the input is at its end.
+pub fn run_over<R: Threads + Wait + Sync>(
+    rt: &R,
+    alloc: Global,
+    outside: &mut MemoryOutside,
+    words: &[&str],
+    input: &[u8],
+) -> Result<Ended, AllocError> {
+    let words = words_of(alloc, words)?;
+    let mut input = MemorySource::new(input.to_vec(alloc)?, 4096, Vec::new(alloc));
+    let mut output = MemorySink::new(alloc, 4096, Vec::new(alloc));
+    let status = top(rt, alloc, &words, outside, &mut input, &mut output);
+    Ok(Ended {
+        status,
+        text: output.bytes().to_vec(alloc)?,
+    })
+}
+
+fn words_of(alloc: Global, words: &[&str]) -> Result<Vec<String>, AllocError> {
+    let mut given = Vec::new(alloc);
+    for word in words {
+        given.push(String::from_str(alloc, word)?)?;
+    }
+    Ok(given)
 }
 
 /// A disk on which a journal was begun.
@@ -120,19 +169,11 @@ fn ends_as_wanted<R: Threads + Wait + Sync>(
     for part in run.text {
         text.extend_from_slice(part)?;
     }
-    let mut files = BTreeMap::new(alloc);
-    files.insert(
-        String::from_str(alloc, "a.ulx")?,
-        bytes_of(alloc, &run.file)?,
-    )?;
-    let mut words = Vec::new(alloc);
-    for word in run.command {
-        words.push(String::from_str(alloc, word)?)?;
-    }
+    let mut words = words_of(alloc, run.command)?;
     words.push(String::from_str(alloc, "a.ulx")?)?;
     let mut outside = MemoryOutside::new(
         alloc,
-        files,
+        files_of(alloc, &run.file)?,
         run.loads.to_vec(alloc)?,
         run.loans.to_vec(alloc)?,
         run.doors.to_vec(alloc)?,
