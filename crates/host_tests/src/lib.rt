@@ -7,3 +7,5 @@ mod alike;
 mod hosts;
 #[cfg(test)]
 mod snapshots;
+#[cfg(test)]
+mod stores;
