@@ -26,7 +26,7 @@ use std::alloc::Global;
 use vm_flow::call;
 use vm_heap::Heap;
 use vm_memory::{Memory, Trap};
-use vm_operand::{Dest, Op, decode, decode_brief, opcode_at};
+use vm_operand::{Dest, Op, decode, decode_brief};
 use vm_stack::Stack;
 use vm_string::Cursor;
 use vm_undo::Undo;
@@ -175,9 +175,9 @@ impl<'i> Machine<'i> {
         ensures fit { IsFit self.old → IfOk result (λ step. GoesOnFit self.new step) }
         ensures cost { IfOk result (λ step. IsPriced left step) }
     {
-        match opcode_at(&self.memory, self.pc) {
+        match self.opcode_below() {
             Some((op, place)) => self.opcode(alloc, op, place, left),
-            None => self.plain(alloc, left),
+            None => self.in_brief(alloc, left),
         }
     }
 

@@ -5,10 +5,12 @@ ghost use Rattle.std.specs.Prelude.{◌≡◌, ◌≤◌, ◌<◌, ◌+◌, [], 
 ghost use Rattle.std.specs.Prelude.{IfSome, Ok, Some};
 ghost use Rattle.vm_exec.specs.Answer.{Does};
 ghost use Rattle.vm_exec.specs.Machine.{GoesOnFit, IsFit};
-ghost use Rattle.vm_exec.specs.Quick.{IsFetched};
+ghost use Rattle.vm_exec.specs.Quick.{IsFetched, IsNear};
 ghost use Rattle.vm_exec.specs.Row as row;
 ghost use Rattle.vm_exec.specs.Row.{IsPriced, charged, fetched, told};
 ghost use Rattle.vm_exec.specs.Rules.{loaded};
+ghost use Rattle.vm_memory.specs.Access.{read};
+ghost use Rattle.vm_memory.specs.Code.{IsCode};
 ghost use Rattle.vm_operand.specs.Brief as brief;
 ghost use Rattle.vm_operand.specs.Brief.{OpcodeAt};
 ghost use Rattle.vm_operand.specs.Opcode.{kinds_of};
@@ -19,9 +21,7 @@ use crate::Machine;
 use crate::step::Step;
 use std::alloc::Global;
 use vm_memory::{MAX_SIZE, Trap};
-use vm_operand::{
-    Array, Branch, Dest, Load, Math, Move, Op, byte_constant, byte_local, dest_by, load_by,
-};
+use vm_operand::{Array, Branch, Dest, Load, Math, Move, Op, dest_in, load_in, opcode_in};
 
 /// The values of an instruction's loads, where it stores, and the next address.
 #[derive(Clone, Copy, Debug, PartialEq, Eq)]
@@ -53,7 +53,7 @@ impl<'i> Machine<'i> {
     ) -> Result<Step, Trap>
         requires left { 0 < left }
         requires here { OpcodeAt self.old.memory self.old.pc op place }
-        requires within { place ≤ MAX_SIZE }
+        requires near { IsNear self.old.pc place }
         ensures does { Does (told left (charged (fetched self.old))) self.new result }
         ensures fit { IsFit self.old → IfOk result (λ step. GoesOnFit self.new step) }
         ensures cost { IfOk result (λ step. IsPriced left step) }
@@ -107,7 +107,7 @@ impl<'i> Machine<'i> {
     #[inline(always)]
     fn quick_math(&self, math: Math, place: u32) -> Option<Quick>
         requires here { OpcodeAt self.now.memory self.now.pc (op.Math math) place }
-        requires within { place ≤ MAX_SIZE }
+        requires near { IsNear self.now.pc place }
         ensures { IfSome result (λ quick. IsFetched self.now (op.Math math) quick) }
     {
         if math.is_binary() {
@@ -120,7 +120,7 @@ impl<'i> Machine<'i> {
     #[inline(always)]
     fn quick_branch(&self, branch: Branch, place: u32) -> Option<Quick>
         requires here { OpcodeAt self.now.memory self.now.pc (op.Branch branch) place }
-        requires within { place ≤ MAX_SIZE }
+        requires near { IsNear self.now.pc place }
         ensures { IfSome result (λ quick. IsFetched self.now (op.Branch branch) quick) }
     {
         match branch.loads() {
@@ -134,7 +134,7 @@ impl<'i> Machine<'i> {
     #[inline(always)]
     fn quick_array(&self, array: Array, place: u32) -> Option<Quick>
         requires here { OpcodeAt self.now.memory self.now.pc (op.Array array) place }
-        requires within { place ≤ MAX_SIZE }
+        requires near { IsNear self.now.pc place }
         ensures { IfSome result (λ quick. IsFetched self.now (op.Array array) quick) }
     {
         if array.reads() {
@@ -146,55 +146,18 @@ impl<'i> Machine<'i> {
 
     // A load by the number of its mode, with its value where it isn't from the stack.
     #[inline(always)]
-    fn taken(&self, number: u32, at: u32) -> Option<Taken>
+    fn taken(&self, code: &[u8], number: u32, at: u32) -> Option<Taken>
+        requires here { IsCode self.now.memory self.now.pc code.now }
+        requires limit { self.now.pc + 16 ≤ MAX_SIZE }
+        requires low { self.now.pc ≤ at }
+        requires high { at + 4 ≤ self.now.pc + 16 }
         ensures load { IfSome result (λ x.
             brief.load_by self.now.memory number at ≡ Ok (x.load, x.next)) }
         ensures value { IfSome result (λ x. loaded 4 self.now x.load ≡ Ok (self.now, x.value)) }
+        ensures above { IfSome result (λ x. at ≤ x.next) }
+        ensures below { IfSome result (λ x. x.next ≤ at + 4) }
     {
-        match number {
-            1 => self.taken_constant(at),
-            9 => self.taken_local(at),
-            _ => self.taken_by(number, at),
-        }
-    }
-
-    #[inline(always)]
-    fn taken_constant(&self, at: u32) -> Option<Taken>
-        ensures load { IfSome result (λ x.
-            brief.load_by self.now.memory 1 at ≡ Ok (x.load, x.next)) }
-        ensures value { IfSome result (λ x. loaded 4 self.now x.load ≡ Ok (self.now, x.value)) }
-    {
-        let value = byte_constant(&self.memory, at).ok()?;
-        Some(Taken {
-            load: Load::Value(value),
-            value,
-            next: at + 1,
-        })
-    }
-
-    #[inline(always)]
-    fn taken_local(&self, at: u32) -> Option<Taken>
-        ensures load { IfSome result (λ x.
-            brief.load_by self.now.memory 9 at ≡ Ok (x.load, x.next)) }
-        ensures value { IfSome result (λ x. loaded 4 self.now x.load ≡ Ok (self.now, x.value)) }
-    {
-        let offset = byte_local(&self.memory, at).ok()?;
-        let value = self.stack.local(offset, 4).ok()?;
-        Some(Taken {
-            load: Load::Local(offset),
-            value,
-            next: at + 1,
-        })
-    }
-
-    // A load of any mode.
-    #[inline(never)]
-    fn taken_by(&self, number: u32, at: u32) -> Option<Taken>
-        ensures load { IfSome result (λ x.
-            brief.load_by self.now.memory number at ≡ Ok (x.load, x.next)) }
-        ensures value { IfSome result (λ x. loaded 4 self.now x.load ≡ Ok (self.now, x.value)) }
-    {
-        let (load, next) = load_by(&self.memory, number, at).ok()?;
+        let (load, next) = load_in(&self.memory, code, self.pc, number, at)?;
         let value = self.value(load)?;
         Some(Taken { load, value, next })
     }
@@ -206,10 +169,29 @@ impl<'i> Machine<'i> {
     {
         match from {
             Load::Value(value) => Some(value),
-            Load::At(at) => self.memory.read4(at).ok(),
+            Load::At(at) => self.word(at),
             Load::Local(offset) => self.stack.local(offset, 4).ok(),
             Load::Pop => None,
         }
+    }
+
+    // The word at an address.
+    #[inline(never)]
+    fn word(&self, at: u32) -> Option<u32>
+        ensures { IfSome result (λ x. read 4 self.now.memory at ≡ Ok x) }
+    {
+        self.memory.read4(at).ok()
+    }
+
+    // The opcode at the PC and the place of its operands' modes, where the instruction is below
+    // RAMSTART.
+    #[inline(always)]
+    pub(crate) fn opcode_below(&self) -> Option<(Op, u32)>
+        ensures here { IfSome result (λ x. OpcodeAt self.now.memory self.now.pc x.0 x.1) }
+        ensures near { IfSome result (λ x. IsNear self.now.pc x.1) }
+    {
+        let code = self.memory.code_at(self.pc)?;
+        opcode_in(&self.memory, code, self.pc)
     }
 
     // Two loads and a store.
@@ -217,15 +199,16 @@ impl<'i> Machine<'i> {
     fn two_and_store(&self, op: Op, place: u32) -> Option<Quick>
         requires here { OpcodeAt self.now.memory self.now.pc op place }
         requires kinds { kinds_of op ≡ kind.Load ∷ kind.Load ∷ kind.Store ∷ [] }
-        requires within { place ≤ MAX_SIZE }
+        requires near { IsNear self.now.pc place }
         requires words { row.width_of (Some op) ≡ 4 }
         ensures { IfSome result (λ quick. IsFetched self.now op quick) }
     {
-        let modes = self.memory.read1(place).ok()?;
-        let more = self.memory.read1(place + 1).ok()?;
-        let first = self.taken(modes % 16, place + 2)?;
-        let second = self.taken(modes / 16, first.next)?;
-        let (to, next) = dest_by(&self.memory, more % 16, second.next).ok()?;
+        let code = self.memory.code_at(self.pc)?;
+        let modes = self.memory.code1(code, self.pc, place);
+        let more = self.memory.code1(code, self.pc, place + 1);
+        let first = self.taken(code, modes % 16, place + 2)?;
+        let second = self.taken(code, modes / 16, first.next)?;
+        let (to, next) = dest_in(&self.memory, code, self.pc, more % 16, second.next)?;
         Some(Quick {
             first: first.value,
             second: second.value,
@@ -240,13 +223,14 @@ impl<'i> Machine<'i> {
     fn two(&self, op: Op, place: u32) -> Option<Quick>
         requires here { OpcodeAt self.now.memory self.now.pc op place }
         requires kinds { kinds_of op ≡ kind.Load ∷ kind.Load ∷ [] }
-        requires within { place ≤ MAX_SIZE }
+        requires near { IsNear self.now.pc place }
         requires words { row.width_of (Some op) ≡ 4 }
         ensures { IfSome result (λ quick. IsFetched self.now op quick) }
     {
-        let modes = self.memory.read1(place).ok()?;
-        let first = self.taken(modes % 16, place + 1)?;
-        let second = self.taken(modes / 16, first.next)?;
+        let code = self.memory.code_at(self.pc)?;
+        let modes = self.memory.code1(code, self.pc, place);
+        let first = self.taken(code, modes % 16, place + 1)?;
+        let second = self.taken(code, modes / 16, first.next)?;
         Some(Quick {
             first: first.value,
             second: second.value,
@@ -261,15 +245,16 @@ impl<'i> Machine<'i> {
     fn three(&self, op: Op, place: u32) -> Option<Quick>
         requires here { OpcodeAt self.now.memory self.now.pc op place }
         requires kinds { kinds_of op ≡ kind.Load ∷ kind.Load ∷ kind.Load ∷ [] }
-        requires within { place ≤ MAX_SIZE }
+        requires near { IsNear self.now.pc place }
         requires words { row.width_of (Some op) ≡ 4 }
         ensures { IfSome result (λ quick. IsFetched self.now op quick) }
     {
-        let modes = self.memory.read1(place).ok()?;
-        let more = self.memory.read1(place + 1).ok()?;
-        let first = self.taken(modes % 16, place + 2)?;
-        let second = self.taken(modes / 16, first.next)?;
-        let third = self.taken(more % 16, second.next)?;
+        let code = self.memory.code_at(self.pc)?;
+        let modes = self.memory.code1(code, self.pc, place);
+        let more = self.memory.code1(code, self.pc, place + 1);
+        let first = self.taken(code, modes % 16, place + 2)?;
+        let second = self.taken(code, modes / 16, first.next)?;
+        let third = self.taken(code, more % 16, second.next)?;
         Some(Quick {
             first: first.value,
             second: second.value,
@@ -284,13 +269,14 @@ impl<'i> Machine<'i> {
     fn one_and_store(&self, op: Op, place: u32) -> Option<Quick>
         requires here { OpcodeAt self.now.memory self.now.pc op place }
         requires kinds { kinds_of op ≡ kind.Load ∷ kind.Store ∷ [] }
-        requires within { place ≤ MAX_SIZE }
+        requires near { IsNear self.now.pc place }
         requires words { row.width_of (Some op) ≡ 4 }
         ensures { IfSome result (λ quick. IsFetched self.now op quick) }
     {
-        let modes = self.memory.read1(place).ok()?;
-        let first = self.taken(modes % 16, place + 1)?;
-        let (to, next) = dest_by(&self.memory, modes / 16, first.next).ok()?;
+        let code = self.memory.code_at(self.pc)?;
+        let modes = self.memory.code1(code, self.pc, place);
+        let first = self.taken(code, modes % 16, place + 1)?;
+        let (to, next) = dest_in(&self.memory, code, self.pc, modes / 16, first.next)?;
         Some(Quick {
             first: first.value,
             second: 0,
@@ -305,12 +291,13 @@ impl<'i> Machine<'i> {
     fn one(&self, op: Op, place: u32) -> Option<Quick>
         requires here { OpcodeAt self.now.memory self.now.pc op place }
         requires kinds { kinds_of op ≡ kind.Load ∷ [] }
-        requires within { place ≤ MAX_SIZE }
+        requires near { IsNear self.now.pc place }
         requires words { row.width_of (Some op) ≡ 4 }
         ensures { IfSome result (λ quick. IsFetched self.now op quick) }
     {
-        let modes = self.memory.read1(place).ok()?;
-        let first = self.taken(modes % 16, place + 1)?;
+        let code = self.memory.code_at(self.pc)?;
+        let modes = self.memory.code1(code, self.pc, place);
+        let first = self.taken(code, modes % 16, place + 1)?;
         Some(Quick {
             first: first.value,
             second: 0,

@@ -12,6 +12,7 @@ use Rattle.std.proofs.lemmas.Bool.{cases_lt, lt-ltb, le-ltb}
 use Rattle.std.specs.Prelude.{slice_index_or}
 use Rattle.byteorder.specs.Endian.{big_number, big_from}
 use Rattle.vm_memory.specs.MemoryMap.{replaced, original, number_at, KeepsRom}
+use Rattle.vm_memory.specs.Code.{IsCode}
 use Rattle.vm_memory.specs.Pages.{Rows, page_in, shown, byte_of, laid, Puts, Shows, Cuts}
 use Rattle.vm_memory.proofs.RowLemmas.{shows_alike}
 use Rattle.vm_memory.proofs.PutLemmas.{length_replaced, byte_before, byte_within, byte_after}
@@ -185,6 +186,15 @@ slice_rom rom ramstart rows size at n fits low within =
     (arith, length-take n (drop at rom), length-drop at rom))
     (λ i l. get_or-take n (drop at rom) i 0 l ∙ get_or-drop at rom i 0
     ∙ sym (byte_below rom ramstart rows (at + i) (omega arith)))
+
+-- the 16 bytes of the image below RAMSTART are memory's
+pub code_below : (rom : List ℕ) (ramstart : ℕ) (rows : Rows) (size endmem at : ℕ) (bytes : List ℕ)
+    → at + 16 ≤ ramstart → ramstart ≤ length rom → ramstart ≤ size → bytes ≡ take 16 (drop at rom)
+    → IsCode (record { bytes = laid rom ramstart rows size; ramstart = ramstart; rom = rom; endmem = endmem }) at bytes
+code_below rom ramstart rows size endmem at bytes low within high e = record {
+  bytes = e ∙ slice_rom rom ramstart rows size at 16 (omega arith) low within;
+  inside = rw (length_laid rom ramstart rows size) (omega arith);
+}
 
 pub slice_page : (rom : List ℕ) (ramstart : ℕ) (rows : Rows) (size at n : ℕ) → at + n ≤ size
     → ramstart ≤ at → at % 256 + n ≤ 256 → at % 256 + n ≤ length (page_in rows (at / 256))

@@ -1,5 +1,6 @@
 pub mod MemoryMap
 pub mod Access
+pub mod Code
 pub mod Fault
 pub mod Pages
 pub mod OwnPages

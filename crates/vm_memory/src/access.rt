@@ -63,7 +63,7 @@ impl<'i> Memory<'i> {
 
     // Whether so many bytes at the address lie below RAMSTART, where the file's stand.
     #[inline(always)]
-    fn is_front(&self, at: u32, width: u32) -> bool
+    pub(crate) fn is_front(&self, at: u32, width: u32) -> bool
         ensures { result ≡ nat_le (at + width) self.now.ramstart }
     {
         u64::from(at) + u64::from(width) <= u64::from(self.ramstart)

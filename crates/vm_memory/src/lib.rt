@@ -2,6 +2,7 @@
 #![tactic(auto)]
 
 mod access;
+mod code;
 mod fault;
 pub mod faults;
 mod laid;

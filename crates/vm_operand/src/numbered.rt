@@ -25,10 +25,10 @@ pub fn load_by(memory: &Memory<'_>, number: u32, at: u32) -> Result<(Load, u32),
     }
 }
 
-/// The constant of one byte at the address, as a load of mode 1 has it.
+// The constant of one byte at the address, as a load of mode 1 has it.
 #[inline(always)]
 #[tactic(auto, unfolding(crate::specs::Mode::mode_of, crate::specs::Mode::modes, crate::specs::Instruction::load_at))]
-pub fn byte_constant(memory: &Memory<'_>, at: u32) -> Result<u32, OpFault>
+fn byte_constant(memory: &Memory<'_>, at: u32) -> Result<u32, OpFault>
     ensures value { IfOk result (λ x. spec.load_by memory.now 1 at ≡ Ok (load.Value x, at + 1)) }
     ensures exact { IfErr result (λ fault. reads (read 1 memory.now at) ≡ Err fault) }
     ensures within { OnOk result (at + 1 ≤ MAX_SIZE) }
@@ -36,10 +36,10 @@ pub fn byte_constant(memory: &Memory<'_>, at: u32) -> Result<u32, OpFault>
     Ok(Width::One.extend(memory.read1(at)?))
 }
 
-/// The offset of one byte at the address, as a load of mode 9 has it.
+// The offset of one byte at the address, as a load of mode 9 has it.
 #[inline(always)]
 #[tactic(auto, unfolding(crate::specs::Mode::mode_of, crate::specs::Mode::modes, crate::specs::Instruction::load_at))]
-pub fn byte_local(memory: &Memory<'_>, at: u32) -> Result<u32, OpFault>
+fn byte_local(memory: &Memory<'_>, at: u32) -> Result<u32, OpFault>
     ensures value { IfOk result (λ x. spec.load_by memory.now 9 at ≡ Ok (load.Local x, at + 1)) }
     ensures exact { IfErr result (λ fault. reads (read 1 memory.now at) ≡ Err fault) }
     ensures within { OnOk result (at + 1 ≤ MAX_SIZE) }
@@ -107,7 +107,7 @@ fn longer_dest(memory: &Memory<'_>, number: u32, at: u32) -> Result<(Dest, u32),
 
 // The address of an offset from RAMSTART.
 #[inline(always)]
-fn in_ram(memory: &Memory<'_>, offset: u32) -> u32
+pub(crate) fn in_ram(memory: &Memory<'_>, offset: u32) -> u32
     ensures { result ≡ (memory.now.ramstart + offset) % 2 ^ 32 }
 {
     memory.ramstart().wrapping_add(offset)

@@ -3,6 +3,7 @@ pub mod FormatLemmas
 pub mod FrameLemmas
 pub mod ChainLemmas
 pub mod TokenLemmas
+pub mod HeadLemmas
 pub mod SavedLemmas
 pub mod StandardFacts
 pub mod SavedTests

@@ -1,4 +1,5 @@
 pub mod StackState
+pub mod Head
 pub mod Answer
 pub mod Values
 pub mod Locals

@@ -115,6 +115,10 @@ pub(crate) fn aligned(size: u64, at: u64) -> u64
     ensures value { result ≡ frames.aligned size at }
     ensures within { result < at + size }
 {
+    // locals have four bytes nearly always: a division by a number that is known is a shift
+    if size == 4 {
+        return (at + 3) / 4 * 4;
+    }
     (at + (size - 1)) / size * size
 }
 

@@ -4,6 +4,7 @@
 mod bytes;
 mod fault;
 mod frame;
+mod head;
 mod locals;
 mod saved;
 mod stack;

@@ -1,12 +1,14 @@
 // The locals of the current frame.
-ghost use Rattle.std.specs.Prelude.{◌≡◌, ◌<◌, ◌+◌, ◌-◌, length, OnErr, OnOk};
+ghost use Rattle.std.specs.Prelude.{◌≡◌, ◌≤◌, ◌<◌, ◌+◌, ◌-◌, ◌^◌, length, IfErr, IfOk, OnErr};
+ghost use Rattle.std.specs.Prelude.{OnOk};
 ghost use Rattle.byteorder.specs.Endian.{big_bytes};
 ghost use Rattle.vm_stack.specs.Answer.{Leaves};
 ghost use Rattle.vm_stack.specs.StackState as state;
 ghost use Rattle.vm_stack.specs.Locals as locals;
 ghost use Rattle.vm_stack.specs.Chain.{Chain};
+ghost use Rattle.vm_stack.specs.declared.fault.StackFault.TheVariants.{BadLocal};
 
-use crate::bytes::{number, word};
+use crate::bytes::number;
 use crate::fault::StackFault;
 use crate::stack::Stack;
 
@@ -18,11 +20,8 @@ impl Stack {
         requires { locals.IsWidth width }
         ensures { result ≡ locals.local self.now offset width }
     {
-        let (length, begin) = self.locals_span();
-        if length < offset as usize + width as usize {
-            return Err(StackFault::BadLocal);
-        }
-        Ok(number(self.live(), begin + offset as usize, width))
+        let at = self.local_place(offset, width)?;
+        Ok(number(self.live(), at, width))
     }
 
     /// Sets the local of 1, 2 or 4 bytes at an offset from LocalsPos to the low bytes of a value.
@@ -36,27 +35,62 @@ impl Stack {
         ensures kept { Chain self.old → OnOk result (Chain self.new) }
         ensures size { OnOk result (length self.new.bytes ≡ length self.old.bytes) }
     {
-        let (length, begin) = self.locals_span();
-        if length < offset as usize + width as usize {
-            return Err(StackFault::BadLocal);
-        }
-        let at = begin + offset as usize;
+        let at = self.local_place(offset, width)?;
         self.put_number(at, width, value);
         Ok(())
     }
 
-    // How many bytes the locals have, with the padding at their end, and where they begin.
+    // Where the local at an offset stands. BadLocal where it passes the locals' end.
     #[inline(always)]
+    fn local_place(&self, offset: u32, width: u32) -> Result<usize, StackFault>
+        requires { locals.IsWidth width }
+        ensures place { IfOk result (λ at. at ≡ locals.local_at self.now offset) }
+        ensures inside { OnOk result
+            (offset + width ≤ state.frame_len self.now - state.locals_pos self.now) }
+        ensures limit { IfOk result (λ at. at < 2 ^ 48) }
+        ensures exact { IfErr result (λ fault. fault ≡ BadLocal) }
+        ensures outside { OnErr result
+            (state.frame_len self.now - state.locals_pos self.now < offset + width) }
+    {
+        if offset as usize + width as usize <= self.head.span {
+            return Ok(self.head.locals + offset as usize);
+        }
+        self.local_place_by_numbers(offset, width)
+    }
+
+    // The same by FrameLen and LocalsPos, where nothing is kept of the frame.
+    #[cold]
+    #[inline(never)]
+    fn local_place_by_numbers(&self, offset: u32, width: u32) -> Result<usize, StackFault>
+        requires { locals.IsWidth width }
+        ensures place { IfOk result (λ at. at ≡ locals.local_at self.now offset) }
+        ensures inside { OnOk result
+            (offset + width ≤ state.frame_len self.now - state.locals_pos self.now) }
+        ensures limit { IfOk result (λ at. at < 2 ^ 48) }
+        ensures exact { IfErr result (λ fault. fault ≡ BadLocal) }
+        ensures outside { OnErr result
+            (state.frame_len self.now - state.locals_pos self.now < offset + width) }
+    {
+        let (length, begin) = self.locals_span();
+        if length < offset as usize + width as usize {
+            return Err(StackFault::BadLocal);
+        }
+        Ok(begin + offset as usize)
+    }
+
+    // How many bytes the locals have, with the padding at their end, and where they begin.
     fn locals_span(&self) -> (usize, usize)
         ensures length { result.0 ≡ state.frame_len self.now - state.locals_pos self.now }
         ensures short { result.0 < 4294967296 }
         ensures begin { result.1 ≡ self.now.frame + state.locals_pos self.now }
         ensures limit { result.1 < 8589934592 }
     {
-        let (length, begin) = frame_head(self.live(), self.frame() as usize);
+        let frame = self.frame() as usize;
+        let length = number(self.live(), frame, 4);
+        let begin = number(self.live(), frame + 4, 4);
         (
             length.saturating_sub(begin) as usize,
-            self.frame() as usize + begin as usize,
+            frame + begin as usize,
         )
     }
 
@@ -73,19 +107,5 @@ impl Stack {
             2 => self.replace(at, &((value & 0xffff) as u16).to_be_bytes()),
             _ => self.replace(at, &value.to_be_bytes()),
         }
-    }
-}
-
-// FrameLen and LocalsPos of the frame at a place.
-#[inline(always)]
-fn frame_head(bytes: &[u8], frame: usize) -> (u32, u32)
-    requires { frame < 4294967296 }
-    ensures length { result.0 ≡ state.number 4 bytes.now frame }
-    ensures begin { result.1 ≡ state.number 4 bytes.now (frame + 4) }
-{
-    if 8 <= bytes.len() && frame <= bytes.len() - 8 {
-        (word(bytes, frame), word(bytes, frame + 4))
-    } else {
-        (number(bytes, frame, 4), number(bytes, frame + 4, 4))
     }
 }

@@ -6,6 +6,7 @@ ghost use Rattle.vm_stack.specs.StackState as state;
 ghost use Rattle.vm_stack.specs.Values as values;
 
 use crate::bytes::{append, append_zeros, number, put, rotate};
+use crate::head::{Head, head_of, no_head};
 use std::alloc::{AllocError, Global};
 use std::marker::Model;
 
@@ -18,11 +19,13 @@ pub struct Stack {
     buf: Vec<u8>,
     len: usize,
     frame: u32,
+    pub(crate) head: Head,
 }
 
 impl Model for Stack {
     ghost use Rattle.std.specs.Prelude.{◌≤◌, length, take};
     ghost use Rattle.vm_stack.specs.StackState.{StackState};
+    ghost use Rattle.vm_stack.specs.Head.{IsHead};
 
     ghost Value = { StackState };
 
@@ -32,7 +35,8 @@ impl Model for Stack {
       limit = length s.buf.items;
     } };
 
-    ghost invariant = { λ s. (s.len ≤ length s.buf.items) × (length s.buf.items ≤ 1048576) };
+    ghost invariant = { λ s. (s.len ≤ length s.buf.items) × ((length s.buf.items ≤ 1048576)
+        × IsHead (take s.len s.buf.items) s.frame s.head) };
 }
 
 impl Stack {
@@ -47,6 +51,7 @@ impl Stack {
             buf,
             len: 0,
             frame: 0,
+            head: no_head(),
         })
     }
 
@@ -101,6 +106,20 @@ impl Stack {
         ensures within { result ≤ length self.now.bytes }
         ensures limit { result ≤ MAX_STACK }
     {
+        if self.head.values <= self.len {
+            return self.len - self.head.values;
+        }
+        self.value_bytes_by_number()
+    }
+
+    // The same by FrameLen, where nothing is kept of the frame.
+    #[cold]
+    #[inline(never)]
+    fn value_bytes_by_number(&self) -> usize
+        ensures value { result ≡ state.value_bytes self.now }
+        ensures within { result ≤ length self.now.bytes }
+        ensures limit { result ≤ MAX_STACK }
+    {
         let bytes = self.live();
         let start = self.frame as usize + number(bytes, self.frame as usize, 4) as usize;
         bytes.len().saturating_sub(start)
@@ -132,6 +151,10 @@ impl Stack {
         ensures { self.new ≡ values.without self.old count }
     {
         self.len -= count;
+        if self.head.values <= self.len {
+            return;
+        }
+        self.head = no_head();
     }
 
     // Keeps so many bytes, or all where there are no more.
@@ -140,6 +163,7 @@ impl Stack {
     {
         if to < self.len {
             self.len = to;
+            self.head = no_head();
         }
     }
 
@@ -153,6 +177,7 @@ impl Stack {
         } }
     {
         rotate(&mut self.buf, self.len, count, by);
+        self.head = head_of(&self.buf[..self.len], self.frame);
     }
 
     // Puts the bytes in place of those at a place.
@@ -163,6 +188,10 @@ impl Stack {
         } }
     {
         put(&mut self.buf, self.len, at, new);
+        if self.frame as usize + 8 <= at {
+            return;
+        }
+        self.head = head_of(&self.buf[..self.len], self.frame);
     }
 
     // Makes the frame that begins here the current one.
@@ -170,5 +199,6 @@ impl Stack {
         ensures { self.new ≡ record self.old { frame = frame } }
     {
         self.frame = frame;
+        self.head = head_of(&self.buf[..self.len], frame);
     }
 }

@@ -1,10 +1,9 @@
-use Rattle.vm_operand.proofs.BriefLemmas.{was_kept}
 use Rattle.vm_exec.proofs.QuickLemmas.{fetched_one_and_store}
 use Rattle.vm_exec.proofs.machine.Machine.one_and_store.Goals as goal
 
 pub returns : goal.returns
 returns c =
-    fetched_one_and_store c.args.self.now c.args.op c.args.place c.in_ok-modes.modes
+    fetched_one_and_store c.args.self.now c.args.op c.args.place c.code1-modes.result
     (c.in_ok-first.first.load, c.in_ok-first.first.next) (c.in_ok-to.to, c.in_ok-to.next) c.in_ok-first.first.value
-    c.requires.here c.requires.kinds c.requires.words (was_kept c.read1.ensures.value c.in_ok-modes.ensures.value)
-    c.in_ok-first.ensures.load (was_kept c.dest_by.ensures c.in_ok-to.ensures.value) c.in_ok-first.ensures.value
+    c.requires.here c.requires.kinds c.requires.words c.code1-modes.ensures.value
+    c.in_ok-first.ensures.load c.in_ok-to.ensures.found c.in_ok-first.ensures.value

@@ -1,10 +1,9 @@
-use Rattle.vm_operand.proofs.BriefLemmas.{was_kept}
 use Rattle.vm_exec.proofs.QuickLemmas.{fetched_three}
 use Rattle.vm_exec.proofs.machine.Machine.three.Goals as goal
 
 pub returns : goal.returns
 returns c =
-    fetched_three c.args.self.now c.args.op c.args.place c.in_ok-modes.modes c.in_ok-more.more
+    fetched_three c.args.self.now c.args.op c.args.place c.code1-modes.result c.code1-more.result
     (c.in_ok-first.first.load, c.in_ok-first.first.next) (c.in_ok-second.second.load, c.in_ok-second.second.next) (c.in_ok-third.third.load, c.in_ok-third.third.next) c.in_ok-first.first.value c.in_ok-second.second.value c.in_ok-third.third.value
-    c.requires.here c.requires.kinds c.requires.words (was_kept c.read1.ensures.value c.in_ok-modes.ensures.value) (was_kept c.read1-2.ensures.value c.in_ok-more.ensures.value)
+    c.requires.here c.requires.kinds c.requires.words c.code1-modes.ensures.value c.code1-more.ensures.value
     c.in_ok-first.ensures.load c.in_ok-second.ensures.load c.in_ok-third.ensures.load c.in_ok-first.ensures.value c.in_ok-second.ensures.value c.in_ok-third.ensures.value

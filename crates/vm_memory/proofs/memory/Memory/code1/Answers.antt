@@ -1,0 +1,8 @@
+use Rattle.std.proofs.Common.{Ok, ap, sym, ◌∙◌}
+use Rattle.vm_memory.proofs.CodeLemmas.{code_one}
+use Rattle.vm_memory.proofs.memory.Memory.code1.Goals as goal
+
+pub returns-clause-value : goal.returns-clause-value
+returns-clause-value c =
+    code_one c.args.self.now c.args.start c.args.code.now c.args.at c.requires.here c.requires.low c.requires.high
+    ∙ ap Ok (sym c.from.ensures)

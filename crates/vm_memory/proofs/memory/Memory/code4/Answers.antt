@@ -1,0 +1,8 @@
+use Rattle.std.proofs.Common.{Ok, ap, sym, ◌∙◌}
+use Rattle.vm_memory.proofs.CodeLemmas.{code_number}
+use Rattle.vm_memory.proofs.memory.Memory.code4.Goals as goal
+
+pub returns : goal.returns
+returns c =
+    record { value = code_number c.args.self.now c.args.start c.args.code.now c.args.at 4 c.requires.here c.requires.low c.requires.high
+    ∙ ap Ok (sym c.four_of.ensures) }

@@ -1,0 +1,120 @@
+-- What a stack keeps of its frame, as its bytes change.
+use Rattle.std.proofs.Common.{◌≡◌, ℕ, ◌+◌, ◌-◌, ◌≤◌, ◌<◌, ◌∙◌, List, ◌++◌, length, take, drop, refl}
+use Rattle.std.proofs.Common.{arith, sym, ap, length-append, nat_le, inl, inr, subst}
+use Rattle.std.proofs.Math.Seq.{take-length, drop-length}
+use Rattle.std.proofs.lemmas.Bool.{cases_Bool, leb-true}
+use Rattle.std.proofs.lemmas.List.{take-append-drop, length-take-le, append-nil, take-take}
+use Rattle.vm_stack.specs.StackState.{number, replaced}
+use Rattle.vm_stack.specs.Head.{StandsWhole, IsHead}
+use Rattle.vm_stack.specs.declared.head.Head.{Head}
+use Rattle.vm_stack.proofs.NumberLemmas.{number_within}
+use Rattle.vm_stack.proofs.ChainLemmas.{length_replaced}
+
+-- a frame that stands whole does so with more bytes on top
+pub stands_below : (xs ys : List ℕ) (frame : ℕ) (head : Head)
+    → StandsWhole xs frame head → StandsWhole (xs ++ ys) frame head
+stands_below xs ys frame head s =
+    let above = s.above in
+    let span = s.span in
+    let below = s.below in
+    let size = length-append xs ys in
+    record {
+      above = above;
+      span = span;
+      below = omega (arith, below, size);
+      locals = ap (λ (n : ℕ). frame + n)
+          (sym (number_within xs ys (frame + 4) (omega (arith, above, span, below)))) ∙ s.locals;
+      values = ap (λ (n : ℕ). frame + n)
+          (sym (number_within xs ys frame (omega (arith, above, span, below)))) ∙ s.values;
+    }
+
+-- and in bytes that begin with those below its values
+pub stands_in : (xs : List ℕ) (n frame : ℕ) (head : Head) → n ≤ length xs → head.values ≤ n
+    → StandsWhole xs frame head → StandsWhole (take n xs) frame head
+stands_in xs n frame head le within s =
+    let above = s.above in
+    let span = s.span in
+    let size = length-take-le n xs le in
+    let whole = take-append-drop n xs in
+    record {
+      above = above;
+      span = span;
+      below = omega (arith, within, le, size);
+      locals = ap (λ (n : ℕ). frame + n)
+          (number_within (take n xs) (drop n xs) (frame + 4) (omega (arith, above, span, within, le, size))
+          ∙ ap (λ (zs : List ℕ). number 4 zs (frame + 4)) whole) ∙ s.locals;
+      values = ap (λ (n : ℕ). frame + n)
+          (number_within (take n xs) (drop n xs) frame (omega (arith, above, span, within, le, size))
+          ∙ ap (λ (zs : List ℕ). number 4 zs frame) whole) ∙ s.values;
+    }
+
+-- a number before what is put at a place
+number_before : (xs new : List ℕ) (at place : ℕ) → place + 4 ≤ at
+    → number 4 (replaced xs at new) place ≡ number 4 xs place
+number_before xs new at place le =
+    elim (cases_Bool (nat_le (at + length new) (length xs))) [
+      | inl e ↦ (
+        let inside = leb-true _ _ e in
+        let size = length-take-le at xs (omega (arith, inside)) in
+        let more = length-append (take at xs) new in
+        rw e (sym (number_within (take at xs ++ new) (drop (at + length new) xs) place (omega (arith, le, size, more)))
+        ∙ (sym (number_within (take at xs) new place (omega (arith, le, size)))
+        ∙ (number_within (take at xs) (drop at xs) place (omega (arith, le, size))
+        ∙ ap (λ (zs : List ℕ). number 4 zs place) (take-append-drop at xs))))
+      )
+      | inr e ↦ rw e refl
+    ]
+
+-- and with bytes put above its two numbers
+pub stands_around : (xs new : List ℕ) (at frame : ℕ) (head : Head) → frame + 8 ≤ at
+    → StandsWhole xs frame head → StandsWhole (replaced xs at new) frame head
+stands_around xs new at frame head le s =
+    record {
+      above = s.above;
+      span = s.span;
+      below = rw (length_replaced xs at new) s.below;
+      locals = ap (λ (n : ℕ). frame + n) (number_before xs new at (frame + 4) (omega (arith, le))) ∙ s.locals;
+      values = ap (λ (n : ℕ). frame + n) (number_before xs new at frame (omega (arith, le))) ∙ s.values;
+    }
+
+pub head_below : (xs ys : List ℕ) (frame : ℕ) (head : Head) → IsHead xs frame head → IsHead (xs ++ ys) frame head
+head_below xs ys frame head h = record {
+  whole = λ within. stands_below xs ys frame head (h.whole within);
+  spans = h.spans;
+}
+
+pub head_in : (xs : List ℕ) (m n frame : ℕ) (head : Head) → m ≤ length xs → n ≤ m → head.values ≤ n
+    → IsHead (take m xs) frame head → IsHead (take n xs) frame head
+head_in xs m n frame head room le within h =
+    let size = length-take-le m xs room in
+    record {
+      whole = λ small. subst (λ (ys : List ℕ). StandsWhole ys frame head) (take-take n m xs le)
+          (stands_in (take m xs) n frame head (omega (arith, size, le)) within (h.whole small));
+      spans = h.spans;
+    }
+
+pub head_around : (xs new : List ℕ) (at frame : ℕ) (head : Head) → frame + 8 ≤ at
+    → IsHead xs frame head → IsHead (replaced xs at new) frame head
+head_around xs new at frame head le h = record {
+  whole = λ small. stands_around xs new at frame head le (h.whole small);
+  spans = h.spans;
+}
+
+-- a buffer that was lent as a slice is what stands in the slice then
+restored : (items buf : List ℕ) (n : ℕ) → length items ≡ n → length buf ≡ length items
+    → take n (buf ++ drop (length buf) items) ≡ buf
+restored items buf n room size =
+    rw (size, drop-length items, append-nil buf, sym room, sym size) (take-length buf)
+
+-- what is true of a stack's fields once its buffer, of which these first bytes stand, was lent
+pub closed : (items old buf now : List ℕ) (n m frame : ℕ) (head : Head) → old ≡ items → length old ≡ n
+    → length buf ≡ length old → m ≤ length items → length items ≤ 1048576 → take m buf ≡ now
+    → IsHead now frame head
+    → (m ≤ length (take n (buf ++ drop (length buf) items)))
+    × ((length (take n (buf ++ drop (length buf) items)) ≤ 1048576)
+    × IsHead (take m (take n (buf ++ drop (length buf) items))) frame head)
+closed items old buf now n m frame head same room size within small e h =
+    let len = ap length same in
+    rw (restored items buf n (sym len ∙ room) (size ∙ len))
+    (omega (arith, len, size, within), (omega (arith, len, size, small),
+    subst (λ (xs : List ℕ). IsHead xs frame head) (sym e) h))
