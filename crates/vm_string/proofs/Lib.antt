@@ -1,4 +1,5 @@
 pub mod WalkLemmas
+pub mod FrontLemmas
 pub mod BitLemmas
 pub mod MeaningLemmas
 pub mod StandardFacts

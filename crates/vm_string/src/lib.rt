@@ -1,6 +1,7 @@
 //! Strings: what an object in memory prints, piece by piece.
 #![tactic(auto)]
 
+mod descent;
 mod next;
 mod node;
 mod piece;

@@ -4,9 +4,10 @@ ghost use Rattle.std.specs.Prelude.{◌≡◌};
 ghost use Rattle.vm_string.specs.Meaning.{Spells};
 ghost use Rattle.vm_string.specs.Next as spec;
 
+use crate::descent::piece_from;
 use crate::piece::{Cursor, Piece};
 use crate::stop::StringStop;
-use crate::walk::{Way, walk};
+use crate::walk::Way;
 use vm_memory::Memory;
 
 /// How many branches may lead to a piece.
@@ -32,7 +33,7 @@ fn coded_piece(
         here: place,
         taken: cursor.bit / 8,
     };
-    walk(memory, root, way, MAX_BRANCHES)
+    piece_from(memory, root, way, MAX_BRANCHES)
 }
 
 // The piece of a string of bytes at a cursor.

@@ -44,8 +44,8 @@ fn read_bit(memory: &Memory<'_>, place: u64) -> Result<u32, StringStop>
     Ok((byte >> (place % 8) as u32) & 1)
 }
 
-// The cursor at a bit.
-fn cursor_at(place: u64, taken: u32) -> Cursor
+/// The cursor at a bit.
+pub(crate) fn cursor_at(place: u64, taken: u32) -> Cursor
     requires place { place < 2 ^ 35 }
     requires taken { taken < 2 ^ 29 }
     ensures { result ≡ spec.cursor_at place taken }
@@ -116,7 +116,10 @@ fn follow(memory: &Memory<'_>, root: u32, way: Way, branch: Branch) -> Result<Wa
     }
 }
 
-/// The piece that at most so many branches lead to.
+/// The piece that at most so many branches lead to, wherever in memory they stand. It is a call, so
+/// that `piece_from` stays short.
+#[cold]
+#[inline(never)]
 pub(crate) fn walk(
     memory: &Memory<'_>,
     root: u32,
