@@ -11,6 +11,7 @@ use crate::stop::FlowStop;
 use vm_stack::{MAX_STACK, Stack};
 
 // Gives arguments to the new frame of a function of this type.
+#[inline]
 pub(crate) fn give(
     stack: &mut Stack,
     kind: u32,
@@ -60,6 +61,9 @@ fn set_locals(stack: &mut Stack, format: &[u8], args: &[u32]) -> Result<(), Flow
     let mut at = 0;
     let mut read = 0;
     while format.len() - read >= 2 {
+        if args.is_empty() {
+            return Ok(());
+        }
         let size = format[read];
         if size == 0 {
             return Ok(());
@@ -97,17 +101,22 @@ fn set_pair(stack: &mut Stack, begin: u32, size: u8, values: &[u32]) -> Result<(
     Ok(())
 }
 
-// The next multiple.
+// The next multiple of a local's size.
+#[inline(always)]
 fn aligned(size: u8, at: u32) -> u32
-    requires low { 1 ≤ size }
+    requires width { IsWidth size }
     requires limit { at ≤ MAX_STACK }
     ensures { result ≡ frames.aligned size at }
 {
-    let size = u32::from(size);
-    (at + (size - 1)) / size * size
+    match size {
+        1 => at,
+        2 => (at + 1) / 2 * 2,
+        _ => (at + 3) / 4 * 4,
+    }
 }
 
 // Where the locals of a pair end.
+#[inline(always)]
 fn pair_end(begin: u32, size: u8, count: u8) -> u32
     requires { begin ≤ MAX_STACK }
     ensures { result ≡ begin + size * count }
@@ -116,6 +125,7 @@ fn pair_end(begin: u32, size: u8, count: u8) -> u32
 }
 
 // The first values, at most so many.
+#[inline(always)]
 fn first(values: &[u32], count: u8) -> &[u32]
     ensures value { result.now ≡ take count values.now }
     ensures within { length result.now ≤ count }
@@ -128,6 +138,7 @@ fn first(values: &[u32], count: u8) -> &[u32]
 }
 
 // What follows so many values.
+#[inline(always)]
 fn after(values: &[u32], count: u8) -> &[u32]
     ensures { result.now ≡ drop count values.now }
 {
