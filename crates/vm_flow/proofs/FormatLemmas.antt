@@ -1,11 +1,13 @@
 -- The pairs of a function, read step by step.
-use Rattle.std.proofs.Common.{◌≡◌, inl, inr, ℕ, ◌+◌, ◌<◌, ◌≤◌, Bool, true, false, ◌==◌, ◌&&◌, ◌||◌}
-use Rattle.std.proofs.Common.{cond, List, [], ◌∷◌, ◌++◌, length, take, drop, slice_index, refl}
-use Rattle.std.proofs.Common.{arith, Result, Ok, Err, ap, sym, ◌∙◌, append_assoc, subst}
+use Rattle.std.proofs.Common.{◌≡◌, inl, inr, ℕ, ◌+◌, ◌<◌, ◌≤◌, ◌-◌, Bool, true, false, ◌==◌, ◌&&◌}
+use Rattle.std.proofs.Common.{◌||◌, cond, List, [], ◌∷◌, ◌++◌, length, take, drop, slice_index}
+use Rattle.std.proofs.Common.{refl, length-drop, arith, Result, Ok, Err, IsOk, ap, sym, ◌∙◌}
+use Rattle.std.proofs.Common.{append_assoc, subst}
 use Rattle.std.proofs.lemmas.Bool.{and_parts, or_cases, eqb-true}
 use Rattle.std.proofs.lemmas.List.{take_more, take-append-drop, drop-append-le}
 use Rattle.std.proofs.lemmas.List.{length-take-le}
 use Rattle.vm_stack.proofs.FormatLemmas.{two}
+use Rattle.vm_memory.specs.declared.fault.MemFault.TheVariants.{BadRead}
 use Rattle.vm_stack.specs.Locals.{IsWidth}
 use Rattle.vm_stack.specs.Chain.{IsFormat}
 use Rattle.vm_flow.specs.Function.{format_in, prepended, is_type}
@@ -146,6 +148,47 @@ pairs_end_format bytes read x y pairs h ex ey e =
     let none : y ≡ 0 = eqb-true y 0 ((and_parts (x == 0) (y == 0) e).1) in
     rw (take_two bytes read 0 0 h (sym zero ∙ ex) (sym none ∙ ey))
     (pairs.format (0 ∷ 0 ∷ []) (inl (refl, refl, refl)))
+
+-- what has no pair 0,0 behind such pairs is no list of locals
+
+not_ok : (items : List ℕ) (r : Result (List ℕ) FlowStop) → (IsOk r → ⊥)
+    → IsOk (prepended items r) → ⊥
+not_ok items (Ok ys) none h = none refl
+not_ok items (Err e) none h = none h
+
+err_not_ok : (e : FlowStop) → IsOk {T = List ℕ} {E = FlowStop} (Err e) → ⊥
+err_not_ok e h = cc
+
+paired_stop : (f at x y : ℕ) (rest : Result (List ℕ) FlowStop) → (x == 0 && y == 0) ≡ false
+    → is_type x ≡ false
+    → paired f at x y rest ≡ Err (stop.BadFunction f)
+unfolding paired
+paired_stop f at x y rest e w = rw (e, w) refl
+
+pub pairs_stop : (bytes : List ℕ) (read x y : ℕ) → Pairs bytes read → read + 1 < length bytes
+    → x ≡ slice_index bytes read → y ≡ slice_index bytes (read + 1)
+    → (x == 0 && y == 0) ≡ false → is_type x ≡ false
+    → (f at : ℕ) → IsOk (format_in f at bytes) → ⊥
+pairs_stop bytes read x y pairs h ex ey e w f at good =
+    let rest = format_in f (at + read + 2) (drop (read + 2) bytes) in
+    let stops : format_in f (at + read) (drop read bytes) ≡ Err (stop.BadFunction f) =
+    format_two f (at + read) read bytes h
+    ∙ (rw (← ex, ← ey) refl ∙ paired_stop f (at + read) x y rest e w) in
+    not_ok (take read bytes) (format_in f (at + read) (drop read bytes))
+    (λ ok. err_not_ok (stop.BadFunction f) (subst IsOk stops ok))
+    (subst IsOk (pairs.same f at) good)
+
+short_not_ok : (f at : ℕ) (xs : List ℕ) → length xs < 2 → IsOk (format_in f at xs) → ⊥
+short_not_ok f at [] h good = err_not_ok (stop.Memory (BadRead at)) good
+short_not_ok f at (x ∷ []) h good = err_not_ok (stop.Memory (BadRead (at + 1))) good
+short_not_ok f at (x ∷ y ∷ rest) h good = omega (arith, h)
+
+pub pairs_short : (bytes : List ℕ) (read : ℕ) → Pairs bytes read → length bytes - read < 2
+    → (f at : ℕ) → IsOk (format_in f at bytes) → ⊥
+pairs_short bytes read pairs h f at good =
+    not_ok (take read bytes) (format_in f (at + read) (drop read bytes))
+    (short_not_ok f (at + read) (drop read bytes) (omega (arith, h, length-drop read bytes)))
+    (subst IsOk (pairs.same f at) good)
 
 -- bytes that follow the pair 0,0 change nothing
 

@@ -1,8 +1,9 @@
 // Arguments, in the locals of a C1 and on the stack of a C0.
-ghost use Rattle.std.specs.Prelude.{◌≡◌, ◌≤◌, ◌<◌, ◌+◌, ◌*◌, length, take};
-ghost use Rattle.std.specs.Prelude.{drop, OnOk};
+ghost use Rattle.std.specs.Prelude.{◌≡◌, ◌≢◌, ◌≤◌, ◌<◌, ◌+◌, ◌*◌, length, take};
+ghost use Rattle.std.specs.Prelude.{drop, Err, OnOk};
 ghost use Rattle.vm_flow.specs.Answer.{Leaves};
 ghost use Rattle.vm_flow.specs.Call as calls;
+ghost use Rattle.vm_flow.specs.declared.stop.FlowStop.TheVariants as stop;
 ghost use Rattle.vm_stack.specs.Frame as frames;
 ghost use Rattle.vm_stack.specs.Locals.{IsWidth};
 ghost use Rattle.vm_stack.specs.Chain.{Chain, HasFrame, IsFormat};
@@ -23,6 +24,7 @@ pub(crate) fn give(
     ensures ok { Leaves (calls.given kind stack.old format.now args.now) stack.new result }
     ensures kept { Chain stack.old → HasFrame stack.old → OnOk result (Chain stack.new) }
     ensures there { HasFrame stack.old → OnOk result (HasFrame stack.new) }
+    ensures room { result ≢ Err stop.NoMemory }
 {
     if kind == 0xC1 {
         return set_locals(stack, format, args);
@@ -37,6 +39,7 @@ fn push_all(stack: &mut Stack, values: &[u32]) -> Result<(), FlowStop>
     ensures kept { Chain stack.old → HasFrame stack.old → OnOk result (Chain stack.new) }
     ensures there { HasFrame stack.old → OnOk result (HasFrame stack.new) }
     ensures few { OnOk result (4 * length values.now ≤ MAX_STACK) }
+    ensures room { result ≢ Err stop.NoMemory }
 {
     let mut left = values.len();
     while left > 0 {
@@ -56,6 +59,7 @@ fn set_locals(stack: &mut Stack, format: &[u8], args: &[u32]) -> Result<(), Flow
     ensures ok { Leaves (calls.locals_set stack.old 0 format.now args.now) stack.new result }
     ensures kept { Chain stack.old → OnOk result (Chain stack.new) }
     ensures there { HasFrame stack.old → OnOk result (HasFrame stack.new) }
+    ensures room { result ≢ Err stop.NoMemory }
 {
     let mut args = args;
     let mut at = 0;
@@ -89,6 +93,7 @@ fn set_pair(stack: &mut Stack, begin: u32, size: u8, values: &[u32]) -> Result<(
     ensures ok { Leaves (calls.pair_set stack.old begin size values.now) stack.new result }
     ensures kept { Chain stack.old → OnOk result (Chain stack.new) }
     ensures there { HasFrame stack.old → OnOk result (HasFrame stack.new) }
+    ensures room { result ≢ Err stop.NoMemory }
 {
     let mut at = begin;
     for value in values {

@@ -1,9 +1,11 @@
 // Calls of functions.
-ghost use Rattle.std.specs.Prelude.{◌≡◌, ◌⊎◌, ◌<◌, ◌+◌, Ok, OnOk};
+ghost use Rattle.std.specs.Prelude.{◌≡◌, ◌≢◌, ◌⊎◌, ◌<◌, ◌+◌, Ok, Err, OnOk};
 ghost use Rattle.std.specs.Prelude.{[], ◌∷◌, ◌++◌, length, reverse};
 ghost use Rattle.vm_memory.specs.Access.{read};
 ghost use Rattle.vm_flow.specs.Answer.{Gives, GivesWithRoom, and_then, from_stack};
 ghost use Rattle.vm_flow.specs.Call as calls;
+ghost use Rattle.vm_flow.specs.Function.{IsInFront};
+ghost use Rattle.vm_flow.specs.declared.stop.FlowStop.TheVariants as stop;
 ghost use Rattle.vm_stack.specs.Frame.{entered, fresh_frame, left};
 ghost use Rattle.vm_stack.specs.Chain.{Chain, HasFrame, IsFormat, IsReady};
 
@@ -29,6 +31,8 @@ pub fn call(
         (calls.GetsLocals memory.now stack.old at args.now stack.new) }
     ensures values { OnOk result
         (calls.GetsValues memory.now stack.old at args.now stack.new) }
+    // no memory of the host is wanted where the list of locals stands below RAMSTART
+    ensures front { IsInFront memory.now at → result ≢ Err stop.NoMemory }
 
     ensures kept { Chain stack.old → IsReady stack.old → OnOk result (Chain stack.new) }
     ensures there { OnOk result (HasFrame stack.new) }
@@ -94,6 +98,7 @@ fn begin(
 
     ensures kept { Chain stack.old → IsReady stack.old → OnOk result (Chain stack.new) }
     ensures there { OnOk result (HasFrame stack.new) }
+    ensures room { result ≢ Err stop.NoMemory }
 {
     stack.enter(format)?;
     give(stack, kind, format, args)?;
@@ -115,6 +120,8 @@ pub fn tail_call(
         (calls.GetsLocals memory.now (left stack.old) at args.now stack.new) }
     ensures values { OnOk result
         (calls.GetsValues memory.now (left stack.old) at args.now stack.new) }
+    // no memory of the host is wanted where the list of locals stands below RAMSTART
+    ensures front { IsInFront memory.now at → result ≢ Err stop.NoMemory }
 
     ensures kept { Chain stack.old → OnOk result (Chain stack.new) }
     ensures there { OnOk result (HasFrame stack.new) }

@@ -1,7 +1,7 @@
 // The list of locals of a function: a part of the file, or a copy of memory's bytes.
 ghost use Rattle.std.specs.Prelude.{◌≡◌, ◌≤◌, ◌<◌, ◌+◌, ◌==◌, ◌&&◌, ℕ, Ok};
 ghost use Rattle.std.specs.Prelude.{slice_index, length, drop, take};
-ghost use Rattle.std.specs.Prelude.{IfErr, IfOk, IfSome, OnErr, OnOk};
+ghost use Rattle.std.specs.Prelude.{IfErr, IfNone, IfOk, IfSome, IsOk, OnErr, OnOk};
 ghost use Rattle.vm_memory.specs.declared.fault.MemFault.TheVariants.{BadRead};
 ghost use Rattle.vm_flow.specs.declared.stop.FlowStop.TheVariants as stop;
 ghost use Rattle.vm_flow.specs.Answer.{GivesBytes};
@@ -20,6 +20,7 @@ pub(crate) fn front_format<'i>(memory: &Memory<'i>, function: u32) -> Option<&'i
         (drop (function + 1) memory.now.bytes) ≡ Ok format.now) }
     ensures format { IfSome result (λ format. IsFormat format.now) }
     ensures within { IfSome result (λ format. function + 1 + length format.now < 4294967296) }
+    ensures none { IfNone result (functions.IsInFront memory.now function → ⊥) }
 {
     let front = &memory.rom()[..memory.ramstart() as usize];
     let begin = function as usize + 1;
@@ -39,6 +40,8 @@ fn format_len(bytes: &[u8]) -> Option<usize>
         → functions.format_in function at bytes.now ≡ Ok (take count bytes.now)) }
     ensures format { IfSome result (λ count. IsFormat (take count bytes.now)) }
     ensures within { IfSome result (λ count. count ≤ length bytes.now) }
+    ensures none { IfNone result
+        ((function at : ℕ) → IsOk (functions.format_in function at bytes.now) → ⊥) }
 {
     let mut read = 0;
     while bytes.len() - read >= 2 {
