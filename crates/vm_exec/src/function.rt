@@ -14,6 +14,7 @@ use crate::arguments::take_arguments;
 use crate::fields::store_fields;
 use crate::step::{Done, Out};
 use crate::trap::{BAD_STUB, of_flow, of_stack};
+use smallvec::SmallVec;
 use std::alloc::Global;
 use vm_flow::{call, give_back, tail_call, throw};
 use vm_memory::Trap;
@@ -75,8 +76,9 @@ impl<'i> Machine<'i> {
             self.new result }
         ensures fit { IsFit self.old → IfOk result (λ done. StaysFit self.new done.out) }
     {
-        let args = take_arguments(alloc, &mut self.stack, count)?;
-        self.call(alloc, at, &args, to)
+        let mut args = SmallVec::new(alloc);
+        take_arguments(&mut self.stack, count, &mut args)?;
+        self.call(alloc, at, args.as_slice(), to)
     }
 
     /// The function begins in place of the current one.
@@ -94,8 +96,9 @@ impl<'i> Machine<'i> {
             self.new result }
         ensures fit { IsFit self.old → IfOk result (λ done. StaysFit self.new done.out) }
     {
-        let args = take_arguments(alloc, &mut self.stack, count)?;
-        self.enter_over(alloc, at, &args)
+        let mut args = SmallVec::new(alloc);
+        take_arguments(&mut self.stack, count, &mut args)?;
+        self.enter_over(alloc, at, args.as_slice())
     }
 
     /// The story goes on at a stub, whose result is the value; a text drops it. Fault 13 for a stub

@@ -1,10 +1,10 @@
 -- Arguments, given step by step.
 use Rattle.std.proofs.Common.{◌≡◌, ◌≢◌, inl, inr, ℕ, zero, suc, ◌+◌, ◌-◌, ◌*◌, ◌<◌, ◌≤◌, List, []}
 use Rattle.std.proofs.Common.{◌∷◌, length, take, drop, slice_index, refl, arith, Ok, Err, ap, ◌∙◌}
-use Rattle.std.proofs.Common.{subst}
+use Rattle.std.proofs.Common.{Bool, true, false, cond, ◌==◌, Result, subst}
 use Rattle.std.proofs.lemmas.Bool.{ne_eqb}
 use Rattle.vm_stack.proofs.FormatLemmas.{two}
-use Rattle.std.proofs.Math.Seq.{drop-cons}
+use Rattle.std.proofs.Math.Seq.{drop-cons, drop-nil, take-nil}
 use Rattle.vm_stack.specs.declared.fault.StackFault.{StackFault}
 use Rattle.vm_flow.specs.declared.stop.FlowStop.TheVariants as stop
 use Rattle.vm_stack.specs.StackState.{StackState}
@@ -80,6 +80,19 @@ pub locals_none : (s : StackState) (at : ℕ) (xs args : List ℕ) → length xs
 locals_none s at [] args h = refl
 locals_none s at (x ∷ []) args h = refl
 locals_none s at (x ∷ y ∷ rest) args h = absurd (omega (arith, h))
+
+either : (b : Bool) (s : StackState) (r : Result StackState FlowStop) → r ≡ Ok s
+    → cond b (Ok s) r ≡ Ok s
+either true s r h = refl
+either false s r h = h
+
+-- where no argument is left the locals stay
+pub locals_left : (s : StackState) (at : ℕ) (xs : List ℕ) → locals_set s at xs [] ≡ Ok s
+locals_left s at [] = refl
+locals_left s at (x ∷ []) = refl
+locals_left s at (x ∷ y ∷ rest) =
+    either (x == 0) s _ (rw (take-nil {A = ℕ} y, drop-nil {A = ℕ} y)
+    (locals_left s (aligned x at + x * y) rest))
 
 -- the next pair has a type, and its locals end within those of all
 pub record NextPair (at x y : ℕ) (rest : List ℕ) : Type 0 where

@@ -17,10 +17,6 @@ use Rattle.vm_stack.specs.Frame.{frame_len_of, locals_pos_of, locals_len, paddin
 use Rattle.vm_stack.specs.declared.fault.StackFault.TheVariants.{Overflow}
 use Rattle.vm_stack.proofs.FrameLemmas.{first_word, second_word, aligned_up as align_up}
 use Rattle.vm_stack.proofs.SavedLemmas.{length_head, head_then_padding}
-use Rattle.vm_memory.specs.MemoryMap.{MemoryMap}
-use Rattle.vm_memory.specs.Access.{read}
-use Rattle.vm_memory.specs.declared.fault.MemFault.{MemFault}
-use Rattle.vm_flow.specs.Function.{format_in, IsFunction}
 use Rattle.vm_stack.specs.Chain.{IsFormat}
 use Rattle.vm_stack.specs.declared.fault.StackFault.{StackFault}
 use Rattle.vm_stack.proofs.NumberLemmas.{le_true, number_within}
@@ -361,34 +357,15 @@ locals_are s t u format args is small enters sets =
     (append_assoc s.bytes (frame_head format ++ replicate (padding_len format) 0)
     (x ++ replicate (total - length x) 0))
 
--- a C1 is called
-
-abbrev number_or : Result ℕ MemFault → ℕ
-number_or (Ok n) = n
-number_or (Err e) = 0
-
-abbrev list_or : Result (List ℕ) FlowStop → List ℕ
-list_or (Ok xs) = xs
-list_or (Err e) = []
-
-pub same_number : (a b : ℕ) → ◌≡◌ {A = Result ℕ MemFault} (Ok a) (Ok b) → a ≡ b
-same_number a b h = ap (λ (r : Result ℕ MemFault). number_or r) h
-
-pub same_list : (a b : List ℕ) → ◌≡◌ {A = Result (List ℕ) FlowStop} (Ok a) (Ok b) → a ≡ b
-same_list a b h = ap (λ (r : Result (List ℕ) FlowStop). list_or r) h
+-- a C1 gets its arguments
 
 given_locals : (kind : ℕ) (s : StackState) (format args : List ℕ) → kind ≡ 193
     → given kind s format args ≡ locals_set s 0 format args
 given_locals kind s format args e = rw e refl
 
-pub c1_called : (m : MemoryMap) (s t u : StackState) (at kind : ℕ) (items format args : List ℕ)
-    → Ok kind ≡ read 1 m at
-    → format_in at (at + 1) (drop (at + 1) m.bytes) ≡ Ok items → IsFormat items
-    → frame_len_of items ≤ 1048576 → entered s items ≡ Ok t
-    → given kind t items args ≡ Ok u → IsFunction 193 m at format
+pub c1_begun : (s t u : StackState) (kind : ℕ) (format args : List ℕ) → IsFormat format
+    → frame_len_of format ≤ 1048576 → entered s format ≡ Ok t
+    → given kind t format args ≡ Ok u → kind ≡ 193
     → u ≡ with_frame s (frame_with format (locals_of 0 format args))
-c1_called m s t u at kind items format args reads lists is small enters gives c1 =
-    let k : kind ≡ 193 = same_number kind 193 (reads ∙ c1.type) in
-    let e : items ≡ format = same_list items format (sym lists ∙ c1.list) in
-    subst (λ (g : List ℕ). u ≡ with_frame s (frame_with g (locals_of 0 g args))) e
-    (locals_are s t u items args is small enters (sym (given_locals kind t items args k) ∙ gives))
+c1_begun s t u kind format args is small enters gives c1 =
+    locals_are s t u format args is small enters (sym (given_locals kind t format args c1) ∙ gives)

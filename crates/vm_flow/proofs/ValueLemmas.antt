@@ -1,20 +1,17 @@
 -- The values of a C0's new frame, as one list.
-use Rattle.std.proofs.Common.{◌≡◌, ℕ, ◌+◌, nat_le, List, [], ◌∷◌, ◌++◌, length, drop, reverse, refl}
+use Rattle.std.proofs.Common.{◌≡◌, ℕ, ◌+◌, nat_le, List, [], ◌∷◌, ◌++◌, length, reverse, refl}
 use Rattle.std.proofs.Common.{Result, Ok, Err, ap, sym, ◌∙◌, subst, append_assoc}
 use Rattle.std.proofs.lemmas.List.{append-nil, reverse-append}
 use Rattle.std.proofs.lemmas.Grind.{flat_map-append}
 use Rattle.byteorder.specs.Endian.{big_bytes}
-use Rattle.vm_memory.specs.MemoryMap.{MemoryMap}
-use Rattle.vm_memory.specs.Access.{read}
 use Rattle.vm_stack.specs.StackState.{StackState, words}
 use Rattle.vm_stack.specs.Values.{pushed}
 use Rattle.vm_stack.specs.Frame.{entered, fresh_frame}
 use Rattle.vm_stack.specs.declared.fault.StackFault.{StackFault}
 use Rattle.vm_flow.specs.Answer.{from_stack, and_then}
-use Rattle.vm_flow.specs.Function.{format_in, IsFunction}
 use Rattle.vm_flow.specs.Call.{all_pushed, given, with_frame, with_values}
 use Rattle.vm_flow.specs.declared.stop.FlowStop.{FlowStop}
-use Rattle.vm_flow.proofs.LocalLemmas.{entered_in, entered_is, same_number, same_list}
+use Rattle.vm_flow.proofs.LocalLemmas.{entered_in, entered_is}
 
 -- what a push leaves
 pushed_is : (s t : StackState) (x : ℕ) → pushed s x ≡ Ok t → t ≡ with_values s (x ∷ [])
@@ -78,17 +75,10 @@ values_are s t args h =
     ∙ (ap (λ (u : StackState). with_values u (length args ∷ [])) (all_is s one.under args one.gave)
     ∙ two_lists s (reverse args) (length args ∷ []))
 
-pub c0_called : (m : MemoryMap) (s t u : StackState) (at kind : ℕ) (items format args : List ℕ)
-    → Ok kind ≡ read 1 m at
-    → format_in at (at + 1) (drop (at + 1) m.bytes) ≡ Ok items → entered s items ≡ Ok t
-    → given kind t items args ≡ Ok u
-    → IsFunction 192 m at format
+pub c0_begun : (s t u : StackState) (kind : ℕ) (format args : List ℕ) → entered s format ≡ Ok t
+    → given kind t format args ≡ Ok u → kind ≡ 192
     → u ≡ with_values (with_frame s (fresh_frame format)) (reverse args ++ length args ∷ [])
-c0_called m s t u at kind items format args reads lists enters gives c0 =
-    let k : kind ≡ 192 = same_number kind 192 (reads ∙ c0.type) in
-    let e : items ≡ format = same_list items format (sym lists ∙ c0.list) in
-    values_are t u args (sym (given_values kind t items args k) ∙ gives)
-    ∙ (ap (λ (v : StackState). with_values v (reverse args ++ length args ∷ []))
-    (entered_is s t items enters)
-    ∙ ap (λ (g : List ℕ). with_values (with_frame s (fresh_frame g))
-    (reverse args ++ length args ∷ [])) e)
+c0_begun s t u kind format args enters gives c0 =
+    values_are t u args (sym (given_values kind t format args c0) ∙ gives)
+    ∙ ap (λ (v : StackState). with_values v (reverse args ++ length args ∷ []))
+    (entered_is s t format enters)

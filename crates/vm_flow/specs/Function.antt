@@ -1,7 +1,7 @@
 -- Functions and their lists of locals (Glulx 3.1.3, "Functions").
 use Rattle.std.specs.Prelude.{ℕ, ◌≡◌, ◌+◌, ◌==◌, ◌&&◌, ◌||◌}
 use Rattle.std.specs.Prelude.{if◌then◌else◌, Bool}
-use Rattle.std.specs.Prelude.{List, [], ◌∷◌, ◌++◌, drop, Result, Ok, Err}
+use Rattle.std.specs.Prelude.{List, [], ◌∷◌, ◌++◌, drop, take, Result, Ok, Err, IsOk}
 use Rattle.vm_memory.specs.MemoryMap.{MemoryMap}
 use Rattle.vm_memory.specs.Access.{read}
 use Rattle.vm_memory.specs.declared.fault.MemFault.TheVariants.{BadRead}
@@ -32,3 +32,7 @@ format_in function at (size ∷ count ∷ rest) =
 pub record IsFunction (kind : ℕ) (m : MemoryMap) (at : ℕ) (format : List ℕ) : Type 0 where
   pub type : read 1 m at ≡ Ok kind
   pub list : format_in at (at + 1) (drop (at + 1) m.bytes) ≡ Ok format
+
+-- the list of locals of a function, the pair 0,0 too, stands below RAMSTART and is well formed
+abbrev pub IsInFront : MemoryMap → ℕ → Type 0
+IsInFront m at = IsOk (format_in at (at + 1) (drop (at + 1) (take m.ramstart m.bytes)))

@@ -1,8 +1,9 @@
 // Arguments, in the locals of a C1 and on the stack of a C0.
-ghost use Rattle.std.specs.Prelude.{◌≡◌, ◌≤◌, ◌<◌, ◌+◌, ◌*◌, length, take};
-ghost use Rattle.std.specs.Prelude.{drop, OnOk};
+ghost use Rattle.std.specs.Prelude.{◌≡◌, ◌≢◌, ◌≤◌, ◌<◌, ◌+◌, ◌*◌, length, take};
+ghost use Rattle.std.specs.Prelude.{drop, Err, OnOk};
 ghost use Rattle.vm_flow.specs.Answer.{Leaves};
 ghost use Rattle.vm_flow.specs.Call as calls;
+ghost use Rattle.vm_flow.specs.declared.stop.FlowStop.TheVariants as stop;
 ghost use Rattle.vm_stack.specs.Frame as frames;
 ghost use Rattle.vm_stack.specs.Locals.{IsWidth};
 ghost use Rattle.vm_stack.specs.Chain.{Chain, HasFrame, IsFormat};
@@ -11,6 +12,7 @@ use crate::stop::FlowStop;
 use vm_stack::{MAX_STACK, Stack};
 
 // Gives arguments to the new frame of a function of this type.
+#[inline]
 pub(crate) fn give(
     stack: &mut Stack,
     kind: u32,
@@ -22,6 +24,7 @@ pub(crate) fn give(
     ensures ok { Leaves (calls.given kind stack.old format.now args.now) stack.new result }
     ensures kept { Chain stack.old → HasFrame stack.old → OnOk result (Chain stack.new) }
     ensures there { HasFrame stack.old → OnOk result (HasFrame stack.new) }
+    ensures room { result ≢ Err stop.NoMemory }
 {
     if kind == 0xC1 {
         return set_locals(stack, format, args);
@@ -36,6 +39,7 @@ fn push_all(stack: &mut Stack, values: &[u32]) -> Result<(), FlowStop>
     ensures kept { Chain stack.old → HasFrame stack.old → OnOk result (Chain stack.new) }
     ensures there { HasFrame stack.old → OnOk result (HasFrame stack.new) }
     ensures few { OnOk result (4 * length values.now ≤ MAX_STACK) }
+    ensures room { result ≢ Err stop.NoMemory }
 {
     let mut left = values.len();
     while left > 0 {
@@ -55,11 +59,15 @@ fn set_locals(stack: &mut Stack, format: &[u8], args: &[u32]) -> Result<(), Flow
     ensures ok { Leaves (calls.locals_set stack.old 0 format.now args.now) stack.new result }
     ensures kept { Chain stack.old → OnOk result (Chain stack.new) }
     ensures there { HasFrame stack.old → OnOk result (HasFrame stack.new) }
+    ensures room { result ≢ Err stop.NoMemory }
 {
     let mut args = args;
     let mut at = 0;
     let mut read = 0;
     while format.len() - read >= 2 {
+        if args.is_empty() {
+            return Ok(());
+        }
         let size = format[read];
         if size == 0 {
             return Ok(());
@@ -85,6 +93,7 @@ fn set_pair(stack: &mut Stack, begin: u32, size: u8, values: &[u32]) -> Result<(
     ensures ok { Leaves (calls.pair_set stack.old begin size values.now) stack.new result }
     ensures kept { Chain stack.old → OnOk result (Chain stack.new) }
     ensures there { HasFrame stack.old → OnOk result (HasFrame stack.new) }
+    ensures room { result ≢ Err stop.NoMemory }
 {
     let mut at = begin;
     for value in values {
@@ -97,17 +106,22 @@ fn set_pair(stack: &mut Stack, begin: u32, size: u8, values: &[u32]) -> Result<(
     Ok(())
 }
 
-// The next multiple.
+// The next multiple of a local's size.
+#[inline(always)]
 fn aligned(size: u8, at: u32) -> u32
-    requires low { 1 ≤ size }
+    requires width { IsWidth size }
     requires limit { at ≤ MAX_STACK }
     ensures { result ≡ frames.aligned size at }
 {
-    let size = u32::from(size);
-    (at + (size - 1)) / size * size
+    match size {
+        1 => at,
+        2 => (at + 1) / 2 * 2,
+        _ => (at + 3) / 4 * 4,
+    }
 }
 
 // Where the locals of a pair end.
+#[inline(always)]
 fn pair_end(begin: u32, size: u8, count: u8) -> u32
     requires { begin ≤ MAX_STACK }
     ensures { result ≡ begin + size * count }
@@ -116,6 +130,7 @@ fn pair_end(begin: u32, size: u8, count: u8) -> u32
 }
 
 // The first values, at most so many.
+#[inline(always)]
 fn first(values: &[u32], count: u8) -> &[u32]
     ensures value { result.now ≡ take count values.now }
     ensures within { length result.now ≤ count }
@@ -128,6 +143,7 @@ fn first(values: &[u32], count: u8) -> &[u32]
 }
 
 // What follows so many values.
+#[inline(always)]
 fn after(values: &[u32], count: u8) -> &[u32]
     ensures { result.now ≡ drop count values.now }
 {

@@ -5,7 +5,7 @@ use Rattle.vm_exec.proofs.arguments.take_arguments.Goals as goal
 
 pub loop-init : goal.loop-init
 loop-init c = record {
-  same = rw c.new-args.ensures.items (arguments-begin c.args.stack.now c.args.count);
+  same = rw c.requires (arguments-begin c.args.stack.now c.args.count);
   kept = λ chain there. (chain, there);
 }
 
@@ -22,7 +22,7 @@ loop-preserved c = record {
       c.loop.invariant.same
       ∙ arguments-more c.loop.stack c.pop.new.self c.in-Ok.value (c.args.count - c.loop.counter) (c.args.count - (c.loop.counter + 1)) c.loop.args.items
       (one_less c.args.count c.loop.counter c.loop-test.true) c.in-Ok.ensures.ok
-      ∙ ap (λ (ys : List ℕ). with_front ys (table.arguments c.pop.new.self (c.args.count - (c.loop.counter + 1)))) (sym c.in_ok-keep.ensures.items);
+      ∙ ap (λ (ys : List ℕ). with_front ys (table.arguments c.pop.new.self (c.args.count - (c.loop.counter + 1)))) (sym c.in-Ok-push.ensures.ok);
   kept = λ chain there.
       let old = c.loop.invariant.kept chain there in
       (c.in-Ok.ensures.kept old.0, c.in-Ok.ensures.there old.0);

@@ -1,10 +1,12 @@
 use Rattle.std.proofs.Common.{◌≡◌, ◌+◌, ◌-◌, ◌≤◌, ◌≢◌, ℕ, List, length, length-drop, drop, take}
-use Rattle.std.proofs.Common.{slice_index, Ok, refl, arith, ◌∙◌}
+use Rattle.std.proofs.Common.{slice_index, Ok, refl, arith, ap, sym, ◌∙◌}
+use Rattle.std.proofs.lemmas.Bool.{eqb-true}
+use Rattle.std.proofs.lemmas.List.{nil_from_length}
 use Rattle.vm_stack.specs.Frame.{aligned, locals_end}
 use Rattle.vm_stack.specs.Chain.{IsFormat}
-use Rattle.vm_flow.specs.Call.{pair_set}
+use Rattle.vm_flow.specs.Call.{pair_set, locals_set}
 use Rattle.vm_flow.proofs.ArgumentLemmas.{NextPair, next_pair, grows, locals_more, locals_end_here}
-use Rattle.vm_flow.proofs.ArgumentLemmas.{locals_none}
+use Rattle.vm_flow.proofs.ArgumentLemmas.{locals_left, locals_none}
 use Rattle.vm_flow.proofs.arguments.set_locals.Goals as goal
 
 -- the pair at the place that is read
@@ -15,6 +17,15 @@ pair_here : (at read : ℕ) (format : List ℕ) → 2 ≤ length format - read �
 pair_here at read format h some is top =
     next_pair at read (slice_index format read) (slice_index format (read + 1)) format
     (omega (arith, h)) refl refl some is top
+
+pub returns-then-is_empty-clause-ok : goal.returns-then-is_empty-clause-ok
+returns-then-is_empty-clause-ok c =
+    let none = nil_from_length c.loop-read.args.now
+    (eqb-true (length c.loop-read.args.now) 0 (sym c.is_empty.ensures ∙ c.if-is_empty.true)) in
+    c.loop-read.invariant.same
+    ∙ (ap (λ (args : List ℕ). locals_set c.loop-read.stack c.loop-read.at
+    (drop c.loop-read.read c.args.format.now) args) none
+    ∙ locals_left c.loop-read.stack c.loop-read.at (drop c.loop-read.read c.args.format.now))
 
 pub returns-then-size-eq0-clause-ok : goal.returns-then-size-eq0-clause-ok
 returns-then-size-eq0-clause-ok c =

@@ -17,8 +17,8 @@ loop-format-preserved c =
     record {
       same =
           c.loop-format.invariant.same
-          ∙ (format_more c.args.function c.loop-format.at x y c.args.memory.now.bytes
-          c.loop-format.format.items inside
+          ∙ (format_more c.args.function c.loop-format.at c.loop-format.at x y
+          c.args.memory.now.bytes c.loop-format.format.items inside
           c.in_ok-size.ensures.value c.in_ok-count.ensures.value
           (sym c.is_end.ensures ∙ c.if-is_end.false)
           (sym c.is_local_type.ensures ∙ c.if-not-is_local_type.false)
