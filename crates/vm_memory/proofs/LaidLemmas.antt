@@ -193,6 +193,7 @@ pub code_below : (rom : List ℕ) (ramstart : ℕ) (rows : Rows) (size endmem at
     → IsCode (record { bytes = laid rom ramstart rows size; ramstart = ramstart; rom = rom; endmem = endmem }) at bytes
 code_below rom ramstart rows size endmem at bytes low within high e = record {
   bytes = e ∙ slice_rom rom ramstart rows size at 16 (omega arith) low within;
+  below = low;
   inside = rw (length_laid rom ramstart rows size) (omega arith);
 }
 
