@@ -1,8 +1,8 @@
 -- The first entry of a story, entry by entry.
 use Rattle.std.proofs.Common.{◌≡◌, ◌∙◌, ◌<◌, ◌+◌, ◌*◌, ◌-◌, ℕ, zero, suc, Bool, true, false, cond, List, Option, Some, None, refl, sym, ap, subst, arith}
 use Rattle.std.specs.Prelude.{MatchOption}
-use Rattle.blorb_read.specs.Container.{word, is_executable, start_from}
-use Rattle.blorb_read.specs.Laws.{IsFirst, HasNone, FindsFirst, entry_at}
+use Rattle.blorb_read.specs.Container.{word, is_executable, story_start}
+use Rattle.blorb_read.specs.Laws.{IsFirstStory, HasNone, FindsFirst, entry_at}
 
 -- the entries behind the first are the entries from 12 bytes on
 behind : (from j : ℕ) → entry_at (from + 12) j ≡ entry_at from (j + 1)
@@ -22,7 +22,7 @@ each from bytes n (suc j) e f l =
     ap (is_executable bytes) (sym same) ∙ f j h
 
 Finds : ℕ → ℕ → List ℕ → Option ℕ → Type 0
-Finds count from bytes o = MatchOption o (HasNone count from bytes) (λ start. (i : ℕ) × IsFirst count from bytes start i)
+Finds count from bytes o = MatchOption o (HasNone count from bytes) (λ start. (i : ℕ) × IsFirstStory count from bytes start i)
 
 later : (n from : ℕ) (bytes : List ℕ) (o : Option ℕ) → is_executable bytes from ≡ false → Finds n (from + 12) bytes o
     → Finds (suc n) from bytes o
@@ -30,7 +30,7 @@ unfolding Finds
 later n from bytes None e f = λ j l. each from bytes n j e f (omega (arith, l))
 later n from bytes (Some start) e f =
     let i : ℕ = f.0 in
-    let k : IsFirst n (from + 12) bytes start i = f.1 in
+    let k : IsFirstStory n (from + 12) bytes start i = f.1 in
     let at : entry_at (from + 12) i ≡ entry_at from (i + 1) = behind from i in (
       i + 1,
       record {
@@ -42,8 +42,8 @@ later n from bytes (Some start) e f =
     )
 
 step : (b : Bool) (n from : ℕ) (bytes : List ℕ) → is_executable bytes from ≡ b
-    → Finds n (from + 12) bytes (start_from n (from + 12) bytes)
-    → Finds (suc n) from bytes (cond b (Some (word bytes (from + 8))) (start_from n (from + 12) bytes))
+    → Finds n (from + 12) bytes (story_start n (from + 12) bytes)
+    → Finds (suc n) from bytes (cond b (Some (word bytes (from + 8))) (story_start n (from + 12) bytes))
 unfolding Finds
 step true n from bytes e f = (
   0,
@@ -54,9 +54,9 @@ step true n from bytes e f = (
     gives = ap (λ (p : ℕ). word bytes (p + 8)) (sym (at_first from));
   },
 )
-step false n from bytes e f = later n from bytes (start_from n (from + 12) bytes) e f
+step false n from bytes e f = later n from bytes (story_start n (from + 12) bytes) e f
 
-all : (count from : ℕ) (bytes : List ℕ) → Finds count from bytes (start_from count from bytes)
+all : (count from : ℕ) (bytes : List ℕ) → Finds count from bytes (story_start count from bytes)
 unfolding Finds
 all zero from bytes = λ j l. absurd (omega (arith, l))
 all (suc n) from bytes = step (is_executable bytes from) n from bytes refl (all n (from + 12) bytes)

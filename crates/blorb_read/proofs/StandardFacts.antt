@@ -1,6 +1,6 @@
 -- Values that the standard gives, so that a wrong rule in the specs doesn't check.
 use Rattle.std.specs.Prelude.{◌≡◌, ◌++◌, ℕ, refl, List, [], ◌∷◌, codes, replicate, Ok, Err}
-use Rattle.blorb_read.specs.Container.{name, story_of}
+use Rattle.blorb_read.specs.Container.{name, story_span}
 use Rattle.blorb_read.specs.declared.fault.BlorbFault.TheVariants.{Cut, NoExec, NotBlorb, NotGlulx}
 
 pub letters : name (codes "FORM") ≡ 0x464F524D
@@ -9,7 +9,7 @@ letters = refl
 pub index_name : name (codes "RIdx") ≡ 0x52496478
 index_name = refl
 
-pub form_alone_is_no_container : story_of (codes "FORM") ≡ Err NotBlorb
+pub form_alone_is_no_container : story_span (codes "FORM") ≡ Err NotBlorb
 form_alone_is_no_container = refl
 
 -- the head of a container of 300 bytes, with the number of its entry and the name of its chunk
@@ -20,18 +20,18 @@ container number chunk =
     ∷ 0x45 ∷ 0x78 ∷ 0x65 ∷ 0x63 ∷ 0x00 ∷ 0x00 ∷ 0x00 ∷ number ∷ 0x00 ∷ 0x00 ∷ 0x00 ∷ 0x24 ∷ [])
     ++ chunk ++ 0x00 ∷ 0x00 ∷ 0x01 ∷ 0x00 ∷ []
 
-pub story_is_found : story_of (container 0 (codes "GLUL") ++ replicate 256 0) ≡ Ok (record { start = 44; length = 256 })
+pub story_is_found : story_span (container 0 (codes "GLUL") ++ replicate 256 0) ≡ Ok (record { start = 44; length = 256 })
 unfolding container
 story_is_found = refl
 
-pub a_byte_is_missing : story_of (container 0 (codes "GLUL") ++ replicate 255 0) ≡ Err (Cut 36)
+pub a_byte_is_missing : story_span (container 0 (codes "GLUL") ++ replicate 255 0) ≡ Err (Cut 36)
 unfolding container
 a_byte_is_missing = refl
 
-pub another_story : story_of (container 0 (codes "ZCOD") ++ replicate 256 0) ≡ Err NotGlulx
+pub another_story : story_span (container 0 (codes "ZCOD") ++ replicate 256 0) ≡ Err NotGlulx
 unfolding container
 another_story = refl
 
-pub another_number : story_of (container 1 (codes "GLUL") ++ replicate 256 0) ≡ Err NoExec
+pub another_number : story_span (container 1 (codes "GLUL") ++ replicate 256 0) ≡ Err NoExec
 unfolding container
 another_number = refl

@@ -31,28 +31,29 @@ abbrev pub is_executable : List ℕ → ℕ → Bool
 is_executable bytes at = word bytes at == name (codes "Exec") && word bytes (at + 4) == 0
 
 -- the start that the first such entry gives, of so many entries from a place on
-abbrev pub start_from : ℕ → ℕ → List ℕ → Option ℕ
-start_from zero at bytes = None
-start_from (suc n) at bytes =
-    if is_executable bytes at then Some (word bytes (at + 8)) else start_from n (at + 12) bytes
+abbrev pub story_start : ℕ → ℕ → List ℕ → Option ℕ
+story_start zero at bytes = None
+story_start (suc n) at bytes =
+    if is_executable bytes at then Some (word bytes (at + 8)) else story_start n (at + 12) bytes
 
 -- the contents of the Glulx chunk at a place
-abbrev pub chunk_at : List ℕ → ℕ → Result Span BlorbFault
-chunk_at bytes start =
+abbrev pub story_chunk_at : List ℕ → ℕ → Result Span BlorbFault
+story_chunk_at bytes start =
     if nat_lt (size bytes) (start + 8) then Err (Cut start)
     else (if word bytes start == name (codes "GLUL") then
     (if nat_lt (size bytes) (start + 8 + word bytes (start + 4)) then Err (Cut start)
     else Ok (record { start = start + 8; length = word bytes (start + 4) }))
     else Err NotGlulx)
 
-abbrev pub named : List ℕ → Option ℕ → Result Span BlorbFault
-named bytes (Some start) = chunk_at bytes start
-named bytes None = Err NoExec
+abbrev pub chunk_named : List ℕ → Option ℕ → Result Span BlorbFault
+chunk_named bytes (Some start) = story_chunk_at bytes start
+chunk_named bytes None = Err NoExec
 
 -- where the story's bytes are, or the first cause against the container
-abbrev pub story_of : List ℕ → Result Span BlorbFault
-story_of bytes =
+abbrev pub story_span : List ℕ → Result Span BlorbFault
+story_span bytes =
     if nat_lt (size bytes) 16 then Err NotBlorb
     else (if begins_at bytes then
-    (if is_indexed bytes then named bytes (start_from (word bytes 20) 24 bytes) else Err (Cut 12))
+    (if is_indexed bytes then chunk_named bytes (story_start (word bytes 20) 24 bytes)
+    else Err (Cut 12))
     else Err NotBlorb)

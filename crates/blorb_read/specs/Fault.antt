@@ -3,8 +3,8 @@ use Rattle.std.specs.Prelude.{ℕ}
 use Rattle.blorb_read.specs.declared.fault.BlorbFault.{BlorbFault}
 use Rattle.blorb_read.specs.declared.fault.BlorbFault.TheVariants.{NotBlorb, Cut, NoExec, NotGlulx}
 
-abbrev pub number_of : BlorbFault → ℕ
-number_of NotBlorb = 1
-number_of (Cut place) = 2
-number_of NoExec = 3
-number_of NotGlulx = 4
+abbrev pub container_fault_number : BlorbFault → ℕ
+container_fault_number NotBlorb = 1
+container_fault_number (Cut place) = 2
+container_fault_number NoExec = 3
+container_fault_number NotGlulx = 4

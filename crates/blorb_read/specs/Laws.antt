@@ -2,14 +2,14 @@
 -- Chunk").
 use Rattle.std.specs.Prelude.{◌≡◌, ℕ, ◌+◌, ◌*◌, ◌<◌, true, false, List, Option, Some, None}
 use Rattle.std.specs.Prelude.{MatchOption}
-use Rattle.blorb_read.specs.Container.{word, is_executable, start_from}
+use Rattle.blorb_read.specs.Container.{word, is_executable, story_start}
 
 -- where the i-th of the entries stands that begin at a place
 abbrev pub entry_at : ℕ → ℕ → ℕ
 entry_at from i = from + 12 * i
 
 -- of so many entries, the i-th is that of the story, none before it is, and it gives this start
-pub record IsFirst (count from : ℕ) (bytes : List ℕ) (start i : ℕ) : Type 0 where
+pub record IsFirstStory (count from : ℕ) (bytes : List ℕ) (start i : ℕ) : Type 0 where
   pub inside : i < count
   pub found : is_executable bytes (entry_at from i) ≡ true
   pub first : (j : ℕ) → j < i → is_executable bytes (entry_at from j) ≡ false
@@ -24,5 +24,5 @@ HasNone count from bytes =
 abbrev pub FindsFirst : Type 0
 FindsFirst =
     (count from : ℕ) (bytes : List ℕ)
-    → MatchOption (start_from count from bytes) (HasNone count from bytes)
-    (λ start. (i : ℕ) × IsFirst count from bytes start i)
+    → MatchOption (story_start count from bytes) (HasNone count from bytes)
+    (λ start. (i : ℕ) × IsFirstStory count from bytes start i)

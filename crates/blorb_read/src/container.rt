@@ -2,8 +2,8 @@
 
 ghost use Rattle.std.specs.Prelude.{◌≡◌, ◌+◌, ◌*◌, ◌≤◌, length, IfOk, IfSome};
 ghost use Rattle.blorb_read.specs.Container as container;
-ghost use Rattle.blorb_read.specs.Container.{begins_at, is_executable, is_indexed, start_from};
-ghost use Rattle.blorb_read.specs.Container.{story_of};
+ghost use Rattle.blorb_read.specs.Container.{begins_at, is_executable, is_indexed, story_start};
+ghost use Rattle.blorb_read.specs.Container.{story_span};
 
 use crate::fault::BlorbFault;
 use byteorder::{BigEndian, ByteOrder};
@@ -36,7 +36,7 @@ const ENTRY: usize = 12;
 
 /// The place and length of the story in the container's bytes. Refusals by their first cause.
 pub fn find_story(bytes: &[u8]) -> Result<Span, BlorbFault>
-    ensures exact { result ≡ story_of bytes.now }
+    ensures exact { result ≡ story_span bytes.now }
     ensures within { IfOk result (λ span. span.start + span.length ≤ length bytes.now) }
 {
     if bytes.len() < 16 || !begins_well(bytes) {
@@ -80,7 +80,7 @@ fn has_index(bytes: &[u8]) -> bool
 // Where the chunk begins that the first entry of usage `Exec` and number 0 names.
 fn exec_of(bytes: &[u8], count: usize) -> Option<usize>
     requires { 24 + 12 * count ≤ length bytes.now }
-    ensures value { result ≡ start_from count 24 bytes.now }
+    ensures value { result ≡ story_start count 24 bytes.now }
     ensures within { IfSome result (λ start. start ≤ 4294967295) }
 {
     for index in 0..count {
@@ -102,7 +102,7 @@ fn names_story(bytes: &[u8], at: usize) -> bool
 // The contents of the Glulx chunk at a place.
 fn chunk_at(bytes: &[u8], start: usize) -> Result<Span, BlorbFault>
     requires { start ≤ 4294967295 }
-    ensures { result ≡ container.chunk_at bytes.now start }
+    ensures { result ≡ container.story_chunk_at bytes.now start }
 {
     if bytes.len() < start + 8 {
         return Err(BlorbFault::Cut(start));

@@ -1,7 +1,7 @@
 //! Why no story is found in a file.
 
 ghost use Rattle.std.specs.Prelude.{◌≡◌};
-ghost use Rattle.blorb_read.specs.Fault.{number_of};
+ghost use Rattle.blorb_read.specs.Fault.{container_fault_number};
 
 /// The first cause against a container.
 #[derive(Clone, Copy, Debug, PartialEq, Eq, thiserror::Error)]
@@ -23,7 +23,7 @@ pub enum BlorbFault {
 impl BlorbFault {
     /// The cause's number, 1 to 4.
     pub fn number(self) -> u8
-        ensures value { result ≡ number_of self }
+        ensures value { result ≡ container_fault_number self }
     {
         match self {
             BlorbFault::NotBlorb => 1,

@@ -19,8 +19,8 @@ abbrev pub workers_rule : Rule
 workers_rule = record (new_rule (codes "WORKERS")) { required = true }
 
 -- N
-abbrev pub number_rule : Rule
-number_rule = record (new_rule (codes "N")) { required = true }
+abbrev pub number_argument : Rule
+number_argument = record (new_rule (codes "N")) { required = true }
 
 -- STORY.., one or more
 abbrev pub stories_rule : Rule
@@ -62,7 +62,7 @@ serve_app = with_rule (with_rule (with_rule served_app stories_rule) budget_rule
 
 -- `drill N`
 abbrev pub drill_app : App
-drill_app = with_rule (new_app (codes "drill")) number_rule
+drill_app = with_rule (new_app (codes "drill")) number_argument
 
 -- the program, with a version, which does nothing but by one of its commands
 abbrev pub bare_app : App

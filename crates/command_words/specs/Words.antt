@@ -28,8 +28,8 @@ pub record Asked : Type 0 where
   pub budget : ℕ
 
 -- what a command asks for
-abbrev pub asked : Command → Asked
-asked command = record {
+abbrev pub command_asked : Command → Asked
+command_asked command = record {
   action = command.action;
   folder = command.folder.now;
   names = map (λ name. name.now) command.names.items;

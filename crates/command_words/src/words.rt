@@ -8,7 +8,8 @@ ghost use Rattle.clap.specs.Walk.{first_of, rows_of};
 ghost use Rattle.command_words.specs.Help.{topic_named, topic_of};
 ghost use Rattle.command_words.specs.Numbers.{IsWorkerCount};
 ghost use Rattle.command_words.specs.Serving.{HasWorkers, port_in, serving_in, workers_in};
-ghost use Rattle.command_words.specs.Words.{asked, asked_alone, asked_by, asked_in, asked_on};
+ghost use Rattle.command_words.specs.Words.{command_asked, asked_alone, asked_by, asked_in};
+ghost use Rattle.command_words.specs.Words.{asked_on};
 ghost use Rattle.command_words.specs.Words.{asked_serving, asked_with, drill_in, folder_in};
 ghost use Rattle.command_words.specs.Words.{shown_by};
 
@@ -129,7 +130,7 @@ fn drill_in(matches: &ArgMatches<'_>) -> Option<Action>
 /// What an action is given that needs neither a folder nor files.
 fn command_alone<'w>(alloc: Global, action: Option<Action>) -> Option<Command<'w>>
     requires workers { IfSome action HasWorkers }
-    ensures { option_map asked result ≡ asked_alone action }
+    ensures { option_map command_asked result ≡ asked_alone action }
 {
     match action {
         Some(action) => Some(Command {
@@ -145,7 +146,8 @@ fn command_alone<'w>(alloc: Global, action: Option<Action>) -> Option<Command<'w
 /// What an action is given: a folder alone.
 fn command_on<'w>(alloc: Global, action: Action, folder: Option<&'w str>) -> Option<Command<'w>>
     requires workers { HasWorkers action }
-    ensures { option_map asked result ≡ asked_on action (option_map (λ f. f.now) folder.entry) }
+    ensures { option_map command_asked result
+        ≡ asked_on action (option_map (λ f. f.now) folder.entry) }
 {
     match folder {
         Some(folder) => Some(Command {
@@ -167,7 +169,7 @@ fn command_with<'w>(
     matches: &ArgMatches<'w>,
 ) -> Result<Option<Command<'w>>, AllocError>
     requires workers { HasWorkers action }
-    ensures { IfOk result (λ command. option_map asked command
+    ensures { IfOk result (λ command. option_map command_asked command
         ≡ asked_with action (Some folder.now) files.now
         (rows_of (found_of matches.now))) }
 {
@@ -196,7 +198,7 @@ fn command_over<'w>(
     matches: &ArgMatches<'w>,
 ) -> Result<Option<Command<'w>>, AllocError>
     requires workers { HasWorkers action }
-    ensures { IfOk result (λ command. option_map asked command
+    ensures { IfOk result (λ command. option_map command_asked command
         ≡ asked_with action (folder_in (rows_of (found_of matches.now))) (codes "STORY")
         (rows_of (found_of matches.now))) }
 {
@@ -211,7 +213,7 @@ fn command_serving<'w>(
     alloc: Global,
     matches: &ArgMatches<'w>,
 ) -> Result<Option<Command<'w>>, AllocError>
-    ensures { IfOk result (λ command. option_map asked command
+    ensures { IfOk result (λ command. option_map command_asked command
         ≡ asked_serving (serving_in (rows_of (found_of matches.now)))
         (rows_of (found_of matches.now))) }
 {
@@ -226,7 +228,7 @@ fn command_in<'w>(
     alloc: Global,
     matches: &ArgMatches<'w>,
 ) -> Result<Option<Command<'w>>, AllocError>
-    ensures { IfOk result (λ command. option_map asked command
+    ensures { IfOk result (λ command. option_map command_asked command
         ≡ option_and_then asked_in (subcommand_rows_of matches.now)) }
 {
     match matches.subcommand() {
@@ -283,7 +285,7 @@ fn shown_by(topic: Topic, kind: ErrorKind) -> Option<Action>
 /// What the words after the program's name ask for, or nothing where they aren't taken.
 pub fn command_of<'w>(alloc: Global, words: &'w [String]) -> Result<Option<Command<'w>>, AllocError>
     ensures { IfOk result (λ command.
-        option_map asked command ≡ asked_by (map string_bytes words.entry.now)) }
+        option_map command_asked command ≡ asked_by (map string_bytes words.entry.now)) }
 {
     let app = storyhost(alloc)?;
     match app.try_get_matches_from(words) {

@@ -3,7 +3,7 @@ use Rattle.std.proofs.Common.{List, ap, arith, inl, inr, drop, length, length-ap
 use Rattle.std.proofs.Common.{take, ℕ, ◌++◌, ◌+◌, ◌-◌, ◌<◌, ◌∙◌, ◌≡◌, ◌≤◌}
 use Rattle.std.proofs.lemmas.List.{append-nil, drop_all, take_all, length-replicate}
 use Rattle.std.proofs.lemmas.Bool.{cases_lt}
-use Rattle.disk_model.specs.Disk.{written}
+use Rattle.disk_model.specs.Disk.{file_written}
 
 none_more : (old : List ℕ) (at : ℕ) → at ≤ length old → old ++ replicate (at - length old) 0 ≡ old
 none_more old at le =
@@ -12,7 +12,7 @@ none_more old at le =
 
 -- inside the bytes
 pub written_inside : (old piece : List ℕ) (at : ℕ) → at + length piece ≤ length old
-    → take at old ++ piece ++ drop (at + length piece) old ≡ written old at piece
+    → take at old ++ piece ++ drop (at + length piece) old ≡ file_written old at piece
 written_inside old piece at le =
     ap (λ (l : List ℕ). take at l ++ piece ++ drop (at + length piece) old)
     (sym (none_more old at (omega (arith, le))))
@@ -24,7 +24,7 @@ take_more_than old more at is =
 
 -- past their end
 pub written_behind : (old piece : List ℕ) (at : ℕ) → length old < at + length piece
-    → take at old ++ replicate (at - length old) 0 ++ piece ≡ written old at piece
+    → take at old ++ replicate (at - length old) 0 ++ piece ≡ file_written old at piece
 written_behind old piece at past = elim (cases_lt (length old) at) [
   | inl gap ↦
       ap (λ (l : List ℕ). l ++ replicate (at - length old) 0 ++ piece)
@@ -42,7 +42,7 @@ written_behind old piece at past = elim (cases_lt (length old) at) [
 ]
   where
     end :
-        take at (old ++ replicate (at - length old) 0) ++ piece ≡ written old at piece
+        take at (old ++ replicate (at - length old) 0) ++ piece ≡ file_written old at piece
     end =
         sym (append-nil (take at (old ++ replicate (at - length old) 0) ++ piece))
         ∙ ap (λ (l : List ℕ). take at (old ++ replicate (at - length old) 0) ++ piece ++ l)

@@ -6,8 +6,8 @@ use Rattle.std.proofs.lemmas.Bool.{and_from, and_parts, cases_eq, cases_lt}
 use Rattle.std.proofs.lemmas.Bool.Decides.{nat_tests}
 use Rattle.std.proofs.lemmas.List.{append-nil, drop_all}
 use Rattle.std.specs.Prelude.{if◌then◌else◌, nat_eq, nat_le, nat_lt, slice_index, ◌&&◌, ◌||◌}
-use Rattle.disk_model.specs.Disk.{written}
-use Rattle.disk_model.specs.DiskState.{DiskState, IsImage, Ranges, Untouched, after_write}
+use Rattle.disk_model.specs.Disk.{file_written}
+use Rattle.disk_model.specs.DiskState.{DiskState, IsDiskImage, Ranges, Untouched, after_write}
 use Rattle.disk_model.specs.DiskState.{greatest_end, with_range}
 use Rattle.disk_model.specs.Plain.{agree, is_image, is_touched}
 use Rattle.disk_model.proofs.StateLaws.{if_fits}
@@ -47,7 +47,7 @@ agree_at (suc n) i p c is lt untouched =
         subst (λ (k : ℕ). slice_index c k ≡ slice_index p.synced k) (sym same) there
 
 -- what the test of an image says, it is
-pub image_is : (p : DiskState) (c : List ℕ) → is_image p c ≡ true → IsImage p c
+pub image_is : (p : DiskState) (c : List ℕ) → is_image p c ≡ true → IsDiskImage p c
 image_is p c is =
     let outer =
     and_parts (nat_le (length p.synced) (length c) && nat_le (length c)
@@ -97,7 +97,7 @@ agree_all (suc n) p c each =
     (agree_all n p c (λ i lt untouched. each i (omega (arith, lt)) untouched))
 
 -- and takes every image
-pub image_told : (p : DiskState) (c : List ℕ) → IsImage p c → is_image p c ≡ true
+pub image_told : (p : DiskState) (c : List ℕ) → IsDiskImage p c → is_image p c ≡ true
 image_told p c image =
     let low = image.no_shorter in
     let high = image.no_longer in
@@ -136,7 +136,7 @@ agree_off (suc n) m synced ranges c lt off = elim (cases_eq m n) [
 pub write_fits : (good : Bool) (at : ℕ) (piece : List ℕ) (p : DiskState)
     → at + length piece ≤ 2 ^ 40
     → after_write good at piece p
-    ≡ with_range p (if good then written p.seen at piece else p.seen) (at, at + length piece)
+    ≡ with_range p (if good then file_written p.seen at piece else p.seen) (at, at + length piece)
 write_fits good at piece p fits = ap (λ (b : Bool). if_fits b good at piece p) yes
   where
     yes : nat_le (at + length piece) (2 ^ 40) ≡ true

@@ -1,13 +1,13 @@
 -- Rows of the rules of a disk, said of the definitions.
 use Rattle.std.proofs.Common.{◌≡◌, refl, ◌^◌, [], ◌∷◌, true, false}
-use Rattle.disk_model.specs.Disk.{written}
+use Rattle.disk_model.specs.Disk.{file_written}
 use Rattle.disk_model.specs.DiskState.{settled, after_write, after_sync}
 
 -- a write inside, and one past the end, whose gap is filled with zeros
-pub inside : written (1 ∷ 2 ∷ 3 ∷ []) 1 (9 ∷ []) ≡ 1 ∷ 9 ∷ 3 ∷ []
+pub inside : file_written (1 ∷ 2 ∷ 3 ∷ []) 1 (9 ∷ []) ≡ 1 ∷ 9 ∷ 3 ∷ []
 inside = refl
 
-pub gap : written (1 ∷ 2 ∷ []) 4 (9 ∷ []) ≡ 1 ∷ 2 ∷ 0 ∷ 0 ∷ 9 ∷ []
+pub gap : file_written (1 ∷ 2 ∷ []) 4 (9 ∷ []) ≡ 1 ∷ 2 ∷ 0 ∷ 0 ∷ 9 ∷ []
 gap = refl
 
 -- a failed write has a range, and isn't read

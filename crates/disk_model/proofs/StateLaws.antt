@@ -10,8 +10,8 @@ use Rattle.std.proofs.lemmas.List.{ext_get_or}
 use Rattle.std.proofs.lemmas.List.FromFn.{length-map-range_with_len, get_or-map-range_with_len}
 use Rattle.std.proofs.lemmas.Bool.{cases_lt, cases_Bool}
 use Rattle.std.proofs.lemmas.Bool.Decides.{nat_tests}
-use Rattle.disk_model.specs.Disk.{written, AfterWrite}
-use Rattle.disk_model.specs.DiskState.{DiskState, IsImage, greatest_end, Untouched, settled}
+use Rattle.disk_model.specs.Disk.{file_written, AfterWrite}
+use Rattle.disk_model.specs.DiskState.{DiskState, IsDiskImage, greatest_end, Untouched, settled}
 use Rattle.disk_model.specs.DiskState.{with_range, after_write, after_sync, IsWell}
 use Rattle.disk_model.proofs.RangeLaws.{greatest_end-push, greatest_end_least}
 use Rattle.disk_model.proofs.RangeLaws.{untouched-push, untouched-front, untouched-last}
@@ -50,7 +50,7 @@ module _ (p : DiskState) (at n : ℕ) (c : List ℕ) where
 -- each image after a write is one from before, with any bytes in the range
 pub image_torn :
     (p : DiskState) (seen : List ℕ) (at n : ℕ) (c : List ℕ)
-    → IsImage (with_range p seen (at, at + n)) c → AfterWrite at n (IsImage p) c
+    → IsDiskImage (with_range p seen (at, at + n)) c → AfterWrite at n (IsDiskImage p) c
 image_torn p seen at n c image = (
   old_image p at n c,
   record {
@@ -99,13 +99,13 @@ image_torn p seen at n c image = (
     ]
 
 -- all of it synced: this image alone
-pub only_settled : (s c : List ℕ) → IsImage (settled s) c → c ≡ s
+pub only_settled : (s c : List ℕ) → IsDiskImage (settled s) c → c ≡ s
 only_settled s c image =
     ext_get_or 0 c s (omega (arith, image.no_shorter, image.no_longer))
     (λ i lt. image.same i (omega (arith, image.no_longer)) tt)
 
 -- and this one it is
-pub settled_image : (s : List ℕ) → IsImage (settled s) s
+pub settled_image : (s : List ℕ) → IsDiskImage (settled s) s
 settled_image s = record {
   no_shorter = omega arith;
   no_longer = omega arith;
@@ -115,7 +115,7 @@ settled_image s = record {
 -- a range more takes no image away
 widened :
     (p : DiskState) (seen : List ℕ) (r : ℕ × ℕ) (c : List ℕ)
-    → IsImage p c → IsImage (with_range p seen r) c
+    → IsDiskImage p c → IsDiskImage (with_range p seen r) c
 widened p seen r c image = record {
   no_shorter = image.no_shorter;
   no_longer = omega (arith, image.no_longer, greatest_end-push p.ranges r (length p.synced));
@@ -125,9 +125,9 @@ widened p seen r c image = record {
 -- the piece in its place
 pub wrote :
     (p : DiskState) (at : ℕ) (piece : List ℕ)
-    → IsImage p p.seen
-    → IsImage (with_range p (written p.seen at piece) (at, at + length piece))
-    (written p.seen at piece)
+    → IsDiskImage p p.seen
+    → IsDiskImage (with_range p (file_written p.seen at piece) (at, at + length piece))
+    (file_written p.seen at piece)
 wrote p at piece image = record {
   no_shorter = omega (arith, image.no_shorter, length-written p.seen at piece);
   no_longer = omega (arith, image.no_longer, length-written p.seen at piece, pushed);
@@ -150,7 +150,7 @@ well_settled s le = record { stays = settled_image s; within = le; ends = le }
 abbrev pub if_fits : Bool → Bool → ℕ → List ℕ → DiskState → DiskState
 if_fits fits good at piece p =
     if fits
-    then with_range p (if good then written p.seen at piece else p.seen) (at, at + length piece)
+    then with_range p (if good then file_written p.seen at piece else p.seen) (at, at + length piece)
     else p
 
 pub well_write :
@@ -190,11 +190,11 @@ well_write good at piece p well = elim (cases_Bool (nat_le (at + length piece) (
 -- each image after a write within the room is one from before, torn
 pub crash_write :
     (good : Bool) (at : ℕ) (piece : List ℕ) (p : DiskState) → at + length piece ≤ 2 ^ 40
-    → (c : List ℕ) → IsImage (after_write good at piece p) c
-    → AfterWrite at (length piece) (IsImage p) c
+    → (c : List ℕ) → IsDiskImage (after_write good at piece p) c
+    → AfterWrite at (length piece) (IsDiskImage p) c
 crash_write good at piece p fits c image =
-    image_torn p (if good then written p.seen at piece else p.seen) at (length piece) c
-    (subst (λ (b : Bool). IsImage (if_fits b good at piece p) c) yes image)
+    image_torn p (if good then file_written p.seen at piece else p.seen) at (length piece) c
+    (subst (λ (b : Bool). IsDiskImage (if_fits b good at piece p) c) yes image)
   where
     yes : nat_le (at + length piece) (2 ^ 40) ≡ true
     yes = grind (arith, nat_tests)
@@ -202,7 +202,7 @@ crash_write good at piece p fits c image =
 -- and what it reads as
 pub seen_write :
     (at : ℕ) (piece : List ℕ) (p : DiskState) → at + length piece ≤ 2 ^ 40
-    → (after_write true at piece p).seen ≡ written p.seen at piece
+    → (after_write true at piece p).seen ≡ file_written p.seen at piece
 seen_write at piece p fits = ap (λ (b : Bool). (if_fits b true at piece p).seen) yes
   where
     yes : nat_le (at + length piece) (2 ^ 40) ≡ true
@@ -210,8 +210,8 @@ seen_write at piece p fits = ap (λ (b : Bool). (if_fits b true at piece p).seen
 
 -- a sync makes no image
 pub crash_sync :
-    (good : Bool) (p : DiskState) → IsWell p → (c : List ℕ) → IsImage (after_sync good p) c
-    → IsImage p c
+    (good : Bool) (p : DiskState) → IsWell p → (c : List ℕ) → IsDiskImage (after_sync good p) c
+    → IsDiskImage p c
 crash_sync true p well c image =
-    subst (λ (l : List ℕ). IsImage p l) (sym (only_settled p.seen c image)) well.stays
+    subst (λ (l : List ℕ). IsDiskImage p l) (sym (only_settled p.seen c image)) well.stays
 crash_sync false p well c image = image

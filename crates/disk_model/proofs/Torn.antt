@@ -7,7 +7,7 @@ use Rattle.std.proofs.lemmas.List.{length-take, length-drop, length-replicate, g
 use Rattle.std.proofs.lemmas.List.{get_or-drop, get_or_append_left, get_or-append_right}
 use Rattle.std.proofs.lemmas.List.{get_or_past, get_or-replicate}
 use Rattle.std.proofs.lemmas.Bool.{cases_lt}
-use Rattle.disk_model.specs.Disk.{Holds, Torn, written}
+use Rattle.disk_model.specs.Disk.{Holds, Torn, file_written}
 
 -- bytes outside the range stay
 pub holds_kept :
@@ -97,7 +97,7 @@ length-start old at bytes = omega (arith, length-append (front old at) bytes, le
 
 pub length-written :
     (old : List ℕ) (at : ℕ) (bytes : List ℕ)
-    → length (written old at bytes) ≡ max (length old) (at + length bytes)
+    → length (file_written old at bytes) ≡ max (length old) (at + length bytes)
 length-written old at bytes =
     omega (
       arith,
@@ -109,7 +109,7 @@ length-written old at bytes =
 -- below the place stands what stood there
 pub written_below :
     (old : List ℕ) (at : ℕ) (bytes : List ℕ) (i : ℕ)
-    → i < at → get_or (written old at bytes) i 0 ≡ get_or old i 0
+    → i < at → get_or (file_written old at bytes) i 0 ≡ get_or old i 0
 written_below old at bytes i lt =
     get_or_append_left (front old at ++ bytes) (drop (at + length bytes) old) 0 i
     (omega (arith, length-start old at bytes))
@@ -120,7 +120,7 @@ written_below old at bytes i lt =
 -- at the place stands the piece
 pub written_within :
     (old : List ℕ) (at : ℕ) (bytes : List ℕ) (i : ℕ)
-    → i < length bytes → get_or (written old at bytes) (at + i) 0 ≡ get_or bytes i 0
+    → i < length bytes → get_or (file_written old at bytes) (at + i) 0 ≡ get_or bytes i 0
 written_within old at bytes i lt =
     get_or_append_left (front old at ++ bytes) (drop (at + length bytes) old) 0 (at + i)
     (omega (arith, length-start old at bytes))
@@ -130,7 +130,7 @@ written_within old at bytes i lt =
 -- above the piece stands what stood there
 pub written_above :
     (old : List ℕ) (at : ℕ) (bytes : List ℕ) (i : ℕ)
-    → at + length bytes ≤ i → get_or (written old at bytes) i 0 ≡ get_or old i 0
+    → at + length bytes ≤ i → get_or (file_written old at bytes) i 0 ≡ get_or old i 0
 written_above old at bytes i le =
     get_or-append_right (front old at ++ bytes) (drop (at + length bytes) old)
     (at + length bytes) i 0 (length-start old at bytes) le
@@ -140,7 +140,7 @@ written_above old at bytes i le =
 -- a write that succeeds is one of the torn ones
 pub torn_written :
     (old : List ℕ) (at : ℕ) (bytes : List ℕ)
-    → Torn at (length bytes) old (written old at bytes)
+    → Torn at (length bytes) old (file_written old at bytes)
 torn_written old at bytes = record {
   no_shorter = omega (arith, length-written old at bytes);
   no_longer = omega (arith, length-written old at bytes);
@@ -150,7 +150,7 @@ torn_written old at bytes = record {
 
 -- and the piece stands there
 pub holds_written :
-    (old : List ℕ) (at : ℕ) (bytes : List ℕ) → Holds (written old at bytes) at bytes
+    (old : List ℕ) (at : ℕ) (bytes : List ℕ) → Holds (file_written old at bytes) at bytes
 holds_written old at bytes = record {
   within = omega (arith, length-written old at bytes);
   each = written_within old at bytes;

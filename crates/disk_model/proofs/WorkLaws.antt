@@ -1,7 +1,7 @@
 -- Laws of triples: a write that is durable has one, and two make one.
 use Rattle.std.proofs.Common.{◌≡◌, ℕ, Bool, List, length, sym, subst}
 use Rattle.std.specs.Prelude.{IsTrue, Result, Ok, Err, OnOk}
-use Rattle.disk_model.specs.Disk.{Torn, AfterWrite, LeavesOnly, Only, written}
+use Rattle.disk_model.specs.Disk.{Torn, AfterWrite, LeavesOnly, Only, file_written}
 use Rattle.disk_model.specs.Work.{Triple}
 use Rattle.disk_model.proofs.Moments.{started, weaker, and_then}
 
@@ -17,11 +17,11 @@ module _
   pub through :
       {T E : Type 0} {result : Result T E} {old new : D} {before during after : List ℕ → Type 0}
       (at : ℕ) (piece seen : List ℕ) → may_leave old seen
-      → OnOk result (IsTrue (tells old) → Only (written seen at piece) (may_leave new))
+      → OnOk result (IsTrue (tells old) → Only (file_written seen at piece) (may_leave new))
       → (IsTrue (tells old)
       → LeavesOnly moment left_since old new (AfterWrite at (length piece) (may_leave old)))
       → ((c d : List ℕ) → before d → Torn at (length piece) d c → during c)
-      → ((d : List ℕ) → before d → after (written d at piece))
+      → ((d : List ℕ) → before d → after (file_written d at piece))
       → Triple tells may_leave moment left_since result old new before during after
   through {result = result} {old = old} {new = new} {during = during} {after = after} at piece seen reads ok crash torn wrote = record {
     meanwhile = λ told each.

@@ -10,13 +10,13 @@ pub record Holds (file : List ℕ) (at : ℕ) (bytes : List ℕ) : Type 0 where
   pub each : (i : ℕ) → i < length bytes → slice_index file (at + i) ≡ slice_index bytes i
 
 -- the bytes of the file from this place on, and zeros past its end
-abbrev pub Reads : List ℕ → ℕ → List ℕ → Type 0
-Reads file at bytes = (i : ℕ) → i < length bytes
+abbrev pub ReadsFile : List ℕ → ℕ → List ℕ → Type 0
+ReadsFile file at bytes = (i : ℕ) → i < length bytes
     → slice_index bytes i ≡ slice_index file (at + i)
 
 -- the file after a write: zeros fill a gap past the old end
-abbrev pub written : List ℕ → ℕ → List ℕ → List ℕ
-written old at bytes =
+abbrev pub file_written : List ℕ → ℕ → List ℕ → List ℕ
+file_written old at bytes =
     take at (old ++ replicate (at - length old) 0) ++ bytes ++ drop (at + length bytes) old
 
 -- after a write of n bytes that a stop cuts short: anything in that range and past the old end, the
@@ -84,8 +84,8 @@ abbrev pub Rose : ℕ → ℕ → Type 0
 Rose before now = min (before + 1) (2 ^ 64 - 1) ≤ now
 
 -- the count stays at Ok and rises at Err
-abbrev pub Counts : {T E : Type 0} → Result T E → ℕ → ℕ → Type 0
-Counts result before now =
+abbrev pub CountsErrors : {T E : Type 0} → Result T E → ℕ → ℕ → Type 0
+CountsErrors result before now =
     MatchResult result (λ _. now ≡ before) (λ _. (before ≤ now) × Rose before now)
 
 -- a call that found no memory: it isn't counted among the calls, and leaves what the disk reads as

@@ -3,7 +3,7 @@ use Rattle.std.specs.Prelude.{◌≡◌, ◌⊎◌, ℕ, ◌+◌, ◌^◌, ◌<�
 use Rattle.std.specs.Prelude.{List, [], ◌∷◌, ◌++◌, length}
 use Rattle.std.specs.Prelude.{Bool, nat_le, if◌then◌else◌}
 use Rattle.std.specs.Prelude.{slice_index}
-use Rattle.disk_model.specs.Disk.{written}
+use Rattle.disk_model.specs.Disk.{file_written}
 
 -- a range is its place and its end
 abbrev pub Ranges : Type 0
@@ -27,7 +27,7 @@ Untouched i (r ∷ ranges) = ((i < r.0) ⊎ (r.1 ≤ i)) × Untouched i ranges
 
 -- An image that a stop may leave: the synced bytes outside the ranges, and anything in them. Its
 -- size is from the synced one to the greatest end written.
-pub record IsImage (p : DiskState) (c : List ℕ) : Type 0 where
+pub record IsDiskImage (p : DiskState) (c : List ℕ) : Type 0 where
   pub no_shorter : length p.synced ≤ length c
   pub no_longer : length c ≤ greatest_end p.ranges (length p.synced)
   pub same :
@@ -47,7 +47,8 @@ with_range p seen r = record { synced = p.synced; seen = seen; ranges = p.ranges
 abbrev pub after_write : Bool → ℕ → List ℕ → DiskState → DiskState
 after_write good at piece p =
     if nat_le (at + length piece) (2 ^ 40)
-    then with_range p (if good then written p.seen at piece else p.seen) (at, at + length piece)
+    then with_range p (if good then file_written p.seen at piece else p.seen)
+    (at, at + length piece)
     else p
 
 -- after a sync: one that fails changes nothing
@@ -56,6 +57,6 @@ after_sync good p = if good then settled p.seen else p
 
 -- a state as calls make it: as it reads it is one of its images, and it is within 2^40 bytes
 pub record IsWell (p : DiskState) : Type 0 where
-  pub stays : IsImage p p.seen
+  pub stays : IsDiskImage p p.seen
   pub within : length p.seen ≤ 2 ^ 40
   pub ends : greatest_end p.ranges (length p.synced) ≤ 2 ^ 40

@@ -6,8 +6,8 @@ use Rattle.disk_model.specs.DiskState.{DiskState}
 use Rattle.disk_model.specs.Calls.{state_after}
 
 -- what it holds, by the bytes that it began with and its calls
-abbrev pub state_in : MemDisk → DiskState
-state_in m = state_after m.start.items m.calls.items
+abbrev pub disk_state_in : MemDisk → DiskState
+disk_state_in m = state_after m.start.items m.calls.items
 
 -- the calls that were made of it
 abbrev pub calls_in : MemDisk → List Call

@@ -1,6 +1,6 @@
 -- What a piece of work leaves of its disk: how it ran, and a triple of its images (own).
 use Rattle.std.specs.Prelude.{ℕ, ◌≤◌, max, Bool, IsTrue, List, Result, IsOk, OnOk}
-use Rattle.disk_model.specs.Disk.{SameDisk, Counts, LeavesOnly}
+use Rattle.disk_model.specs.Disk.{SameDisk, CountsErrors, LeavesOnly}
 
 -- The disk is the same, its count of faults says whether the work failed, no write was asked for
 -- behind this end, and over a steady disk with so much room it doesn't fail.
@@ -12,7 +12,7 @@ pub record Ran
     (result : Result T E)
     (old new : D) : Type 0 where
   pub same : SameDisk tells room label old new
-  pub counts : Counts result (faults old) (faults new)
+  pub counts : CountsErrors result (faults old) (faults new)
   pub asked : reach new ≤ max (reach old) end
   pub steadies : IsTrue (steady old) → IsTrue (steady new)
   pub works : IsTrue (steady old) → end ≤ room old → IsOk result

@@ -3,8 +3,9 @@
 ghost use Rattle.std.specs.Prelude.{◌≡◌, ◌⊎◌, ◌+◌, ◌<◌, ◌≤◌, ◌^◌};
 ghost use Rattle.std.specs.Prelude.{ℕ, Bool, List, length, max};
 ghost use Rattle.std.specs.Prelude.{IsTrue, IsOk, IsErr, IfOk, OnOk, OnErr};
-ghost use Rattle.disk_model.specs.Disk.{Reads, written, Torn, Follows, NoneNew, Only, Elapses};
-ghost use Rattle.disk_model.specs.Disk.{Counts, SameDisk, FindsNoMemory};
+ghost use Rattle.disk_model.specs.Disk.{ReadsFile, file_written, Torn, Follows, NoneNew, Only};
+ghost use Rattle.disk_model.specs.Disk.{Elapses};
+ghost use Rattle.disk_model.specs.Disk.{CountsErrors, SameDisk, FindsNoMemory};
 
 /// The call failed, and was counted.
 #[derive(Clone, Copy, Debug, PartialEq, Eq)]
@@ -58,7 +59,7 @@ pub trait Disk {
             → FindsNoMemory seen may_leave moment self.old self.new
             ⊎ IsTrue (fails_at self.old (moment self.old))) }
         ensures listed { fails_at self.new ≡ fails_at self.old }
-        ensures cause { Counts result (faults self.old) (faults self.new) }
+        ensures cause { CountsErrors result (faults self.old) (faults self.new) }
         ensures seen { OnOk result (IsTrue (tells self.old) → seen self.new ≡ seen self.old) }
         ensures crash { IsTrue (tells self.old)
             → NoneNew (may_leave self.old) (may_leave self.new) }
@@ -72,7 +73,7 @@ pub trait Disk {
     /// Fills `into` with the bytes from this place on, and with zeros past the end.
     fn read_at(&mut self, place: u64, into: &mut [u8]) -> Result<(), Failed>
         ensures ok { OnOk result (IsTrue (tells self.old)
-            → Reads (seen self.old) place into.new) }
+            → ReadsFile (seen self.old) place into.new) }
         ensures works { IsTrue (steady self.old) → IsOk result × IsTrue (steady self.new) }
         ensures err { IsTrue (fails_at self.old (moment self.old)) → IsErr result }
         // One that tells fails where it was to fail, or for want of memory alone.
@@ -80,7 +81,7 @@ pub trait Disk {
             → FindsNoMemory seen may_leave moment self.old self.new
             ⊎ IsTrue (fails_at self.old (moment self.old))) }
         ensures listed { fails_at self.new ≡ fails_at self.old }
-        ensures cause { Counts result (faults self.old) (faults self.new) }
+        ensures cause { CountsErrors result (faults self.old) (faults self.new) }
         ensures seen { OnOk result (IsTrue (tells self.old) → seen self.new ≡ seen self.old) }
         ensures crash { IsTrue (tells self.old)
             → NoneNew (may_leave self.old) (may_leave self.new) }
@@ -95,7 +96,7 @@ pub trait Disk {
     /// A write that fails may have put any bytes in its range, but none past the room.
     fn write_at(&mut self, place: u64, piece: &[u8]) -> Result<(), Failed>
         ensures ok { OnOk result (IsTrue (tells self.old)
-            → seen self.new ≡ written (seen self.old) place piece.now) }
+            → seen self.new ≡ file_written (seen self.old) place piece.now) }
         ensures works { IsTrue (steady self.old)
             → (place + length piece.now ≤ room self.old → IsOk result)
             × IsTrue (steady self.new) }
@@ -109,7 +110,7 @@ pub trait Disk {
             ⊎ IsTrue (fails_at self.old (moment self.old))
             ⊎ (room self.old < place + length piece.now)) }
         ensures listed { fails_at self.new ≡ fails_at self.old }
-        ensures cause { Counts result (faults self.old) (faults self.new) }
+        ensures cause { CountsErrors result (faults self.old) (faults self.new) }
         ensures crash { IsTrue (tells self.old)
             → Follows (Torn place (length piece.now)) (may_leave self.old) (may_leave self.new) }
         ensures time { Elapses (moment self.old) (moment self.new)
@@ -131,7 +132,7 @@ pub trait Disk {
             → FindsNoMemory seen may_leave moment self.old self.new
             ⊎ IsTrue (fails_at self.old (moment self.old))) }
         ensures listed { fails_at self.new ≡ fails_at self.old }
-        ensures cause { Counts result (faults self.old) (faults self.new) }
+        ensures cause { CountsErrors result (faults self.old) (faults self.new) }
         ensures seen { OnOk result (IsTrue (tells self.old) → seen self.new ≡ seen self.old) }
         ensures crash { IsTrue (tells self.old)
             → NoneNew (may_leave self.old) (may_leave self.new) }

@@ -1,7 +1,7 @@
 //! A file of the operating system as a disk. No clause says what it holds.
 
 ghost use Rattle.std.specs.Prelude.{◌≡◌, ◌≤◌, ◌^◌, false, IfOk};
-ghost use Rattle.disk_model.specs.Disk.{Counts};
+ghost use Rattle.disk_model.specs.Disk.{CountsErrors};
 
 use crate::{Disk, Failed};
 use std::fs::File;
@@ -86,7 +86,7 @@ fn put(file: &File, place: u64, piece: &[u8]) -> Result<(), Failed> {
 // Counts the failure, where it is one.
 fn count<T>(faults: &mut u64, answer: Result<T, Failed>) -> Result<T, Failed>
     ensures kept { result ≡ answer }
-    ensures cause { Counts result faults.old faults.new }
+    ensures cause { CountsErrors result faults.old faults.new }
 {
     match answer {
         Ok(value) => Ok(value),

@@ -4,7 +4,7 @@ ghost use Rattle.std.specs.Prelude.{◌≡◌, ◌+◌, ◌≤◌, ◌<◌, ◌^
 ghost use Rattle.std.specs.Prelude.{◌∷◌, length, Bool};
 ghost use Rattle.std.specs.Prelude.{◌==◌, if◌then◌else◌, is_ok, IfOk};
 ghost use Rattle.std.specs.List.{list_any};
-ghost use Rattle.disk_model.specs.DiskState.{IsImage, IsWell, settled};
+ghost use Rattle.disk_model.specs.DiskState.{IsDiskImage, IsWell, settled};
 ghost use Rattle.disk_model.specs.Calls.{state_after, LeftSince};
 
 use crate::call::Call;
@@ -36,12 +36,13 @@ pub struct MemDisk {
 }
 
 impl MemDisk {
-    ghost use Rattle.disk_model.specs.Memory.{state_in, calls_in, failing_in, faults_in, reach_in};
+    ghost use Rattle.disk_model.specs.Memory.{disk_state_in, calls_in, failing_in, faults_in};
+    ghost use Rattle.disk_model.specs.Memory.{reach_in};
     ghost use Rattle.disk_model.specs.Memory.{label_in};
 
     /// An empty disk of which no call is to fail.
     pub fn new(alloc: Global) -> MemDisk
-        ensures value { (state_in result ≡ settled []) × (calls_in result ≡ [])
+        ensures value { (disk_state_in result ≡ settled []) × (calls_in result ≡ [])
             × (failing_in result ≡ [])
             × (faults_in result ≡ 0) × (reach_in result ≡ 0) }
         ensures label { label_in result ≡ 0 }
@@ -66,7 +67,7 @@ impl MemDisk {
         ensures value { failing_in self.new
             ≡ (if is_ok result then failing_in self.old ++ call ∷ [] else failing_in self.old) }
         ensures kept { (calls_in self.new ≡ calls_in self.old)
-            × (state_in self.new ≡ state_in self.old)
+            × (disk_state_in self.new ≡ disk_state_in self.old)
             × (faults_in self.new ≡ faults_in self.old)
             × (reach_in self.new ≡ reach_in self.old) }
         ensures label { label_in self.new ≡ label_in self.old }
@@ -80,7 +81,7 @@ impl MemDisk {
         ensures value { label_in self.new ≡ label }
         ensures kept { (calls_in self.new ≡ calls_in self.old)
             × (failing_in self.new ≡ failing_in self.old)
-            × (state_in self.new ≡ state_in self.old)
+            × (disk_state_in self.new ≡ disk_state_in self.old)
             × (faults_in self.new ≡ faults_in self.old)
             × (reach_in self.new ≡ reach_in self.old) }
     {
@@ -89,7 +90,8 @@ impl MemDisk {
 }
 
 impl MemDisk {
-    ghost use Rattle.disk_model.specs.Memory.{state_in, calls_in, failing_in, faults_in, reach_in};
+    ghost use Rattle.disk_model.specs.Memory.{disk_state_in, calls_in, failing_in, faults_in};
+    ghost use Rattle.disk_model.specs.Memory.{reach_in};
     ghost use Rattle.disk_model.specs.Memory.{label_in};
     ghost use Rattle.disk_model.specs.Drawn.{IsDrawn};
 
@@ -99,13 +101,14 @@ impl MemDisk {
     /// An odd choice has the greatest size. Its next four bits keep, at the places that are 0, 1, 2
     /// and 3 modulo 4, what was written.
     pub fn after_stop(&self, alloc: Global, choice: u64) -> Result<MemDisk, AllocError>
-        ensures ok { IfOk result (λ d. IsImage (state_in self.now) (state_in d).seen) }
-        ensures durable { IfOk result (λ d. state_in d ≡ settled (state_in d).seen) }
+        ensures ok { IfOk result
+            (λ d. IsDiskImage (disk_state_in self.now) (disk_state_in d).seen) }
+        ensures durable { IfOk result (λ d. disk_state_in d ≡ settled (disk_state_in d).seen) }
         ensures fresh { IfOk result (λ d.
             (calls_in d ≡ []) × (failing_in d ≡ []) × (faults_in d ≡ 0)) }
         ensures anew { IfOk result (λ d. (reach_in d ≡ 0) × (label_in d ≡ label_in self.now)) }
         ensures drawn { IfOk result (λ d.
-            IsDrawn (state_in self.now) choice (state_in d).seen) }
+            IsDrawn (disk_state_in self.now) choice (disk_state_in d).seen) }
     {
         let start = draw_image(alloc, &self.synced, &self.bytes, &self.ranges, choice)?;
         let bytes = start.as_slice().to_vec(alloc)?;
@@ -148,7 +151,7 @@ impl Disk for MemDisk {
 
     ghost seen = { λ m. (state_after m.start.items m.calls.items).seen };
 
-    ghost may_leave = { λ m. IsImage (state_after m.start.items m.calls.items) };
+    ghost may_leave = { λ m. IsDiskImage (state_after m.start.items m.calls.items) };
 
     ghost moment = { λ m. length m.calls.items };
 
@@ -240,12 +243,12 @@ impl Disk for MemDisk {
       length m.calls.items,
       le,
       Prim.omega arith,
-      subst (λ (l : List Call). IsImage (state_after m.start.items l) c)
+      subst (λ (l : List Call). IsDiskImage (state_after m.start.items l) c)
           (sym (take_all (length m.calls.items) m.calls.items (Prim.omega arith))) image,
     ) };
 
     ghost only_now = { λ m c since.
-        subst (λ (l : List Call). IsImage (state_after m.start.items l) c)
+        subst (λ (l : List Call). IsDiskImage (state_after m.start.items l) c)
         (take_all since.0 m.calls.items since.1) since.3 };
 
     ghost size_within = { λ m told. m.well.within };

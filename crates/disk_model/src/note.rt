@@ -3,8 +3,8 @@
 ghost use Rattle.std.specs.Prelude.{◌≡◌, ℕ, List, ◌+◌, ◌≤◌, ◌<◌, ◌^◌};
 ghost use Rattle.std.specs.Prelude.{◌++◌, [], ◌∷◌, length, take, drop};
 ghost use Rattle.std.specs.Prelude.{if◌then◌else◌, OnOk, OnErr};
-ghost use Rattle.disk_model.specs.Disk.{written, Reads, Elapses};
-ghost use Rattle.disk_model.specs.DiskState.{IsImage, IsWell, after_write, after_sync};
+ghost use Rattle.disk_model.specs.Disk.{file_written, ReadsFile, Elapses};
+ghost use Rattle.disk_model.specs.DiskState.{IsDiskImage, IsWell, after_write, after_sync};
 ghost use Rattle.disk_model.specs.Calls.{state_after, LeftSince};
 
 use crate::call::Call;
@@ -23,7 +23,7 @@ fn overwrite(bytes: &mut [u8], place: usize, piece: &[u8])
 #[tactic(auto, using(crate::proofs::PieceLaws::written_inside, crate::proofs::PieceLaws::written_behind))]
 pub fn put_piece(bytes: &mut Vec<u8>, place: usize, piece: &[u8]) -> Result<(), AllocError>
     requires { place + length piece.now < 2 ^ 63 }
-    ensures ok { OnOk result (bytes.new.items ≡ written bytes.old.items place piece.now) }
+    ensures ok { OnOk result (bytes.new.items ≡ file_written bytes.old.items place piece.now) }
     ensures err { OnErr result (bytes.new.items ≡ bytes.old.items) }
 {
     let end = place + piece.len();
@@ -45,7 +45,7 @@ pub fn note_look(calls: &mut Vec<Call>) -> Result<(), AllocError>
     ensures time { (start : List ℕ)
         → Elapses (length calls.old.items) (length calls.new.items)
         (LeftSince start calls.old.items) (LeftSince start calls.new.items)
-        (IsImage (state_after start calls.new.items)) }
+        (IsDiskImage (state_after start calls.new.items)) }
     ensures well { (start : List ℕ)
         → IsWell (state_after start calls.old.items)
         → IsWell (state_after start calls.new.items) }
@@ -64,7 +64,7 @@ pub fn note_sync(calls: &mut Vec<Call>, good: bool) -> Result<(), AllocError>
     ensures time { (start : List ℕ)
         → Elapses (length calls.old.items) (length calls.new.items)
         (LeftSince start calls.old.items) (LeftSince start calls.new.items)
-        (IsImage (state_after start calls.new.items)) }
+        (IsDiskImage (state_after start calls.new.items)) }
     ensures well { (start : List ℕ)
         → IsWell (state_after start calls.old.items)
         → IsWell (state_after start calls.new.items) }
@@ -87,7 +87,7 @@ pub fn put(
     requires { place + length piece.now ≤ 2 ^ 40 }
     ensures clock { OnOk result (length calls.new.items ≡ length calls.old.items + 1) }
     ensures bytes { OnOk result (bytes.new.items
-        ≡ (if good then written bytes.old.items place piece.now else bytes.old.items)) }
+        ≡ (if good then file_written bytes.old.items place piece.now else bytes.old.items)) }
     ensures ranges { OnOk result (ranges.new.items
         ≡ ranges.old.items ++ (place, place + length piece.now) ∷ []) }
     ensures state { OnOk result ((start : List ℕ)
@@ -96,7 +96,7 @@ pub fn put(
     ensures time { (start : List ℕ)
         → Elapses (length calls.old.items) (length calls.new.items)
         (LeftSince start calls.old.items) (LeftSince start calls.new.items)
-        (IsImage (state_after start calls.new.items)) }
+        (IsDiskImage (state_after start calls.new.items)) }
     ensures well { (start : List ℕ)
         → IsWell (state_after start calls.old.items)
         → IsWell (state_after start calls.new.items) }
@@ -121,7 +121,7 @@ pub fn put(
 
 /// What stands there, and zeros past the end.
 pub fn read_into(bytes: &[u8], place: u64, into: &mut [u8])
-    ensures { Reads bytes.now place into.new }
+    ensures { ReadsFile bytes.now place into.new }
 {
     for (k, byte) in into.iter_mut().enumerate() {
         let at = place as u128 + k as u128;

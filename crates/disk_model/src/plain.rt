@@ -2,7 +2,7 @@
 
 ghost use Rattle.std.specs.Prelude.{◌≡◌, ◌≤◌, ◌<◌, ◌+◌, ◌^◌, true, false, length};
 ghost use Rattle.std.specs.Prelude.{if◌then◌else◌, IfOk, OnOk, OnErr};
-ghost use Rattle.disk_model.specs.Disk.{written};
+ghost use Rattle.disk_model.specs.Disk.{file_written};
 ghost use Rattle.disk_model.specs.DiskState.{settled, after_write, after_sync};
 ghost use Rattle.disk_model.specs.Plain.{is_touched, agree, is_image, reading};
 

@@ -2,7 +2,7 @@
 
 ghost use Rattle.std.specs.Prelude.{◌≡◌, ◌≤◌, ◌<◌, ◌%◌, true, false, IfOk, length};
 ghost use Rattle.std.specs.Prelude.{slice_index};
-ghost use Rattle.disk_model.specs.DiskState.{DiskState, greatest_end, IsImage};
+ghost use Rattle.disk_model.specs.DiskState.{DiskState, greatest_end, IsDiskImage};
 ghost use Rattle.disk_model.specs.Drawn.{keeps, IsDrawn};
 
 use std::alloc::{AllocError, Global};
@@ -61,9 +61,9 @@ pub fn draw_image(
     ranges: &[(u64, u64)],
     choice: u64,
 ) -> Result<Vec<u8>, AllocError>
-    requires { IsImage
+    requires { IsDiskImage
         (record { synced = synced.now; seen = seen.now; ranges = ranges.now }) seen.now }
-    ensures image { IfOk result (λ image. IsImage
+    ensures image { IfOk result (λ image. IsDiskImage
         (record { synced = synced.now; seen = seen.now; ranges = ranges.now }) image.items) }
     ensures drawn { IfOk result (λ image. IsDrawn
         (record { synced = synced.now; seen = seen.now; ranges = ranges.now })

@@ -1,7 +1,8 @@
 //! A write that is durable before it answers.
 
 ghost use Rattle.std.specs.Prelude.{◌≡◌, ◌+◌, ◌≤◌, IsTrue, IsOk, OnOk, length, max};
-ghost use Rattle.disk_model.specs.Disk.{written, Only, LeavesOnly, Counts, SameDisk, AfterWrite};
+ghost use Rattle.disk_model.specs.Disk.{file_written, Only, LeavesOnly, CountsErrors, SameDisk};
+ghost use Rattle.disk_model.specs.Disk.{AfterWrite};
 
 use crate::{Disk, Failed};
 
@@ -9,12 +10,12 @@ use crate::{Disk, Failed};
 /// bytes in the range; after Ok there is one image, which has the piece.
 pub fn write_through<D: Disk>(disk: &mut D, place: u64, piece: &[u8]) -> Result<(), Failed>
     ensures ok { OnOk result (IsTrue (D.tells disk.old)
-        → Only (written (D.seen disk.old) place piece.now) (D.may_leave disk.new)) }
+        → Only (file_written (D.seen disk.old) place piece.now) (D.may_leave disk.new)) }
     ensures fits { OnOk result (place + length piece.now ≤ D.room disk.old) }
     ensures works { IsTrue (D.steady disk.old)
         → place + length piece.now ≤ D.room disk.old → IsOk result }
     ensures steady { IsTrue (D.steady disk.old) → IsTrue (D.steady disk.new) }
-    ensures cause { Counts result (D.faults disk.old) (D.faults disk.new) }
+    ensures cause { CountsErrors result (D.faults disk.old) (D.faults disk.new) }
     ensures crash { IsTrue (D.tells disk.old)
         → LeavesOnly D.moment D.left_since disk.old disk.new
         (AfterWrite place (length piece.now) (D.may_leave disk.old)) }

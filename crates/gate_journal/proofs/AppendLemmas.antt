@@ -10,8 +10,8 @@ use Rattle.gate_journal.specs.declared.row.Row.{Row}
 use Rattle.gate_journal.specs.declared.entry.Entry.{Entry}
 use Rattle.gate_journal.specs.declared.entry.Entry.TheVariants.{Kept, Faulted}
 use Rattle.gate_journal.specs.Gate.{IsShut, IsUnsure}
-use Rattle.gate_journal.specs.Rows.{body, spelled, IsNext, MayStand}
-use Rattle.gate_journal.specs.Log.{Log, IsSound, rows_of, next_row, StandsAt, Meanwhile, MaySpell, MayOpen}
+use Rattle.gate_journal.specs.Rows.{row_body, journal_bytes, IsNext, MayStand}
+use Rattle.gate_journal.specs.Log.{Log, IsSoundJournal, rows_of, next_row, StandsInImage, Meanwhile, MaySpell, MayOpen}
 use Rattle.gate_journal.proofs.LogLemmas.{rows_of-kept, rows_of-faulted, stands_well, stands_closed}
 use Rattle.gate_journal.proofs.Sound.{sound_faulted, sound_kept, settled, appended, opened_shut}
 
@@ -26,7 +26,7 @@ faulted_rows {D = D} {log = log} by from to is pushed =
 module _
     {D : Type 0} {tells : D → Bool} {may_leave : D → List ℕ → Type 0} {room faults : D → ℕ}
     {log old : Log D} {end : ℕ} (is : log ≡ old)
-    (sound : IsSound tells may_leave room faults log end) where
+    (sound : IsSoundJournal tells may_leave room faults log end) where
   -- what the images of each journal spell, and that they may be opened
   pub images_spell : (disk : D) → log.disk ≡ disk → EachImage tells may_leave disk (MaySpell (rows_of old.entries) old.uncertain)
   images_spell disk same =
@@ -48,7 +48,7 @@ row_at end session command =
 module _
     {D : Type 0} {tells : D → Bool} {may_leave : D → List ℕ → Type 0} {room faults : D → ℕ}
     {log old : Log D} {end session : ℕ} {command : Command} (is : log ≡ old)
-    (sound : IsSound tells may_leave room faults log end)
+    (sound : IsSoundJournal tells may_leave room faults log end)
     (stands : MayStand (rows_of old.entries) session command) where
   abbrev rows : List Row
   rows = rows_of log.entries
@@ -69,8 +69,8 @@ module _
   -- what the repair says, and the writing of the row
   abbrev Repairs : {T E : Type 0} → (D → ℕ) → (D → ℕ → List ℕ → Type 0) → Result T E → D → Type 0
   Repairs moment left_since result mid =
-      (l : List Row) → end ≡ length (spelled l)
-      → Triple tells may_leave moment left_since result log.disk mid (StandsAt l log.uncertain) (StandsAt l log.uncertain) (StandsAt l None)
+      (l : List Row) → end ≡ length (journal_bytes l)
+      → Triple tells may_leave moment left_since result log.disk mid (StandsInImage l log.uncertain) (StandsInImage l log.uncertain) (StandsInImage l None)
 
   abbrev Writes :
       {T E : Type 0} → (D → ℕ) → (D → ℕ → List ℕ → Type 0) → List ℕ → Result T E → D → D → Type 0
@@ -100,7 +100,7 @@ module _
   shut :
       {T E : Type 0} {value : T} {moment : D → ℕ} {left_since : D → ℕ → List ℕ → Type 0} {mid : D}
       → Repairs {E = E} moment left_since (Ok value) mid → tells mid ≡ tells log.disk
-      → EachImage tells may_leave mid (IsShut (spelled rows))
+      → EachImage tells may_leave mid (IsShut (journal_bytes rows))
   shut repairs same told =
       let told_then = subst (λ (b : Bool). IsTrue b) same told in
       (repairs rows sound.ends).ended told_then (sound.images told_then)
@@ -109,7 +109,7 @@ module _
   pub crash_row :
       {T E S F : Type 0} {value : T} {result : Result S F} {moment : D → ℕ}
       {left_since : D → ℕ → List ℕ → Type 0} {mid new : D} {q : Row} {past : List ℕ}
-      → q ≡ row_at end session command → past ≡ body q ++ 0 ∷ []
+      → q ≡ row_at end session command → past ≡ row_body q ++ 0 ∷ []
       → Repairs {E = E} moment left_since (Ok value) mid → tells mid ≡ tells log.disk
       → Writes moment left_since past result mid new → IsTrue (tells old.disk)
       → LeavesOnly moment left_since old.disk new
@@ -119,9 +119,9 @@ module _
       (Meanwhile (rows_of l.entries) l.uncertain (next_row (rows_of l.entries) session command))) is
       (λ told. let told_then = subst (λ (b : Bool). IsTrue b) (sym same) told in
       appended moment left_since rows log.uncertain r sound.journal next sound.next log.disk mid new past
-      (bytes ∙ ap (λ (x : Row). body x ++ 0 ∷ []) (row_is made))
+      (bytes ∙ ap (λ (x : Row). row_body x ++ 0 ∷ []) (row_is made))
       ((repairs rows sound.ends).meanwhile told (sound.images told))
-      ((writes (spelled rows) (sym sound.ends)).meanwhile told_then (shut repairs same told_then)))
+      ((writes (journal_bytes rows) (sym sound.ends)).meanwhile told_then (shut repairs same told_then)))
 
   -- the rows with one more
   pub kept_rows :
@@ -138,24 +138,24 @@ module _
       entries ≡ log.entries ++ Faulted by from to ∷ [] → room new ≡ room log.disk
       → from ≡ faults log.disk → to ≡ faults new → faults mid ≡ faults log.disk
       → (faults mid ≤ faults new) × Rose (faults mid) (faults new)
-      → IsSound tells may_leave room faults
+      → IsSoundJournal tells may_leave room faults
       (record { disk = new; entries = entries; uncertain = uncertain; opening = log.opening; ready = ready }) end
 
   -- a fault, after which the gate is known so
   faulted :
       {mid new : D} {entries : List Entry} {uncertain : Option Row} {from to : ℕ} {ready : Bool} (by : ℕ) (known : Option Row)
-      → uncertain ≡ known → IfSome known (IsNext rows) → EachImage tells may_leave new (StandsAt rows known)
+      → uncertain ≡ known → IfSome known (IsNext rows) → EachImage tells may_leave new (StandsInImage rows known)
       → Faults mid new entries uncertain by from to ready
   faulted {mid = mid} {new = new} {entries = entries} {uncertain = uncertain} {from = from} {to = to} {ready = ready} by known so next_one images pushed size is_from is_to none_yet counts =
       sound_faulted tells may_leave room faults log end new entries uncertain by from to ready sound pushed size is_from is_to
       (omega (arith, is_from, is_to, none_yet, counts.0)) (omega (arith, is_from, is_to, none_yet, counts.1))
       (subst (λ (u : Option Row). IfSome u (IsNext rows)) (sym so) next_one)
-      (subst (λ (u : Option Row). EachImage tells may_leave new (StandsAt rows u)) (sym so) images)
+      (subst (λ (u : Option Row). EachImage tells may_leave new (StandsInImage rows u)) (sym so) images)
 
   -- of the repair: the gate stays as it was
   pub sound_unrepaired :
       {new : D} {entries : List Entry} {uncertain : Option Row} {from to : ℕ} {ready : Bool} (by : ℕ)
-      → uncertain ≡ log.uncertain → EachImage tells may_leave new (StandsAt rows log.uncertain)
+      → uncertain ≡ log.uncertain → EachImage tells may_leave new (StandsInImage rows log.uncertain)
       → Faults log.disk new entries uncertain by from to ready
   sound_unrepaired by so images = faulted {mid = log.disk} by log.uncertain so sound.next images
 
@@ -167,38 +167,38 @@ module _
       → After mid new IsShut
       → Faults mid new entries uncertain by from to ready
   sound_before {mid = mid} by none repairs same after =
-      faulted {mid = mid} by None none tt (after (spelled rows) (sym sound.ends) (shut repairs same))
+      faulted {mid = mid} by None none tt (after (journal_bytes rows) (sym sound.ends) (shut repairs same))
 
   -- in the gate's write: it is uncertain, before the row
   pub sound_at_gate :
       {T E : Type 0} {value : T} {moment : D → ℕ} {left_since : D → ℕ → List ℕ → Type 0}
       {mid new : D} {entries : List Entry} {uncertain : Option Row} {from to : ℕ} {ready : Bool} {q : Row} {past : List ℕ} (by : ℕ)
-      → q ≡ row_at end session command → past ≡ body q ++ 0 ∷ [] → uncertain ≡ Some q
+      → q ≡ row_at end session command → past ≡ row_body q ++ 0 ∷ [] → uncertain ≡ Some q
       → Repairs {E = E} moment left_since (Ok value) mid → tells mid ≡ tells log.disk
       → After mid new (λ front. IsUnsure front past)
       → Faults mid new entries uncertain by from to ready
   sound_at_gate {mid = mid} {new = new} {q = q} by made bytes so repairs same after =
       faulted {mid = mid} by (Some q) so (subst (λ (x : Row). IsNext rows x) (sym (row_is made)) next)
-      (subst (λ (l : List ℕ). EachImage tells may_leave new (IsUnsure (spelled rows) l)) bytes
-      (after (spelled rows) (sym sound.ends) (shut repairs same)))
+      (subst (λ (l : List ℕ). EachImage tells may_leave new (IsUnsure (journal_bytes rows) l)) bytes
+      (after (journal_bytes rows) (sym sound.ends) (shut repairs same)))
 
   -- the row is there
   pub sound_row :
       {T E S F : Type 0} {value : T} {wrote : S} {moment : D → ℕ} {left_since : D → ℕ → List ℕ → Type 0}
       {mid new : D} {entries : List Entry} {uncertain : Option Row} {ready : Bool} {q : Row} {past : List ℕ} {later : ℕ}
-      → q ≡ row_at end session command → past ≡ body q ++ 0 ∷ []
+      → q ≡ row_at end session command → past ≡ row_body q ++ 0 ∷ []
       → uncertain ≡ None → Repairs {E = E} moment left_since (Ok value) mid → tells mid ≡ tells log.disk
       → Writes {E = F} moment left_since past (Ok wrote) mid new → tells new ≡ tells mid
       → entries ≡ log.entries ++ Kept q ∷ [] → room new ≡ room log.disk
       → faults log.disk ≤ faults new → later ≡ end + length past → later < room new
-      → IsSound tells may_leave room faults
+      → IsSoundJournal tells may_leave room faults
       (record { disk = new; entries = entries; uncertain = uncertain; opening = log.opening; ready = ready }) later
   sound_row {new = new} {entries = entries} {ready = ready} {q = q} {past = past} {later = later} made bytes none repairs same writes same_then pushed size le is_later within =
-      subst (λ (u : Option Row). IsSound tells may_leave room faults
+      subst (λ (u : Option Row). IsSoundJournal tells may_leave room faults
       (record { disk = new; entries = entries; uncertain = u; opening = log.opening; ready = ready }) later) (sym none)
       (sound_kept tells may_leave room faults log end later new entries q ready sound pushed size le
       (is_later ∙ ap (λ (l : List ℕ). end + length l) bytes) within
       (subst (λ (x : Row). IsNext rows x) (sym (row_is made)) next)
       (λ told c now. let told_then = subst (λ (b : Bool). IsTrue b) same_then told in
       opened_shut rows q past c bytes
-      ((writes (spelled rows) (sym sound.ends)).ended told_then (shut repairs same told_then) c now)))
+      ((writes (journal_bytes rows) (sym sound.ends)).ended told_then (shut repairs same told_then) c now)))

@@ -9,8 +9,8 @@ use Rattle.gate_journal.specs.declared.row.Row.{Row}
 use Rattle.gate_journal.specs.declared.entry.Entry.{Entry}
 use Rattle.gate_journal.specs.declared.entry.Entry.TheVariants.{Kept, Faulted}
 use Rattle.gate_journal.specs.Gate.{IsShut, IsUnsure}
-use Rattle.gate_journal.specs.Rows.{body, spelled, IsJournal, IsNext}
-use Rattle.gate_journal.specs.Log.{rows_of, kept, Rises, StandsAt, IsClosedWell, MaySpell, MayOpen}
+use Rattle.gate_journal.specs.Rows.{row_body, journal_bytes, IsJournal, IsNext}
+use Rattle.gate_journal.specs.Log.{rows_of, rows_kept, Rises, StandsInImage, IsClosedWell, MaySpell, MayOpen}
 use Rattle.gate_journal.proofs.RowLemmas.{spells_shut, spells_not_open, opens, journal_push, spelled-push}
 
 pub rows_of-kept : (entries : List Entry) (r : Row) → rows_of (entries ++ Kept r ∷ []) ≡ rows_of entries ++ r ∷ []
@@ -33,38 +33,38 @@ rises-faulted [] by from to low rises le rose = (rises, le, rose, omega arith)
 rises-faulted (Kept x ∷ entries) by from to low rises le rose = rises-faulted entries by from to low rises le rose
 rises-faulted (Faulted b f t ∷ entries) by from to low rises le rose = (rises.0, rises.1, rises.2, rises-faulted entries by from to t rises.3 le rose)
 
-pub closed_shut : (rows : List Row) (c : List ℕ) → IsJournal rows → IsShut (spelled rows) c → IsClosedWell rows c
+pub closed_shut : (rows : List Row) (c : List ℕ) → IsJournal rows → IsShut (journal_bytes rows) c → IsClosedWell rows c
 closed_shut rows c all shut =
-    let gate : Holds c (length (spelled rows)) (0 ∷ []) = holds_rest {p = 0} (spelled rows) (0 ∷ []) (omega arith) shut in
+    let gate : Holds c (length (journal_bytes rows)) (0 ∷ []) = holds_rest {p = 0} (journal_bytes rows) (0 ∷ []) (omega arith) shut in
     record { spells = spells_shut rows c all shut; gate = inl (ap (λ (k : ℕ). get_or c k 0) (omega arith) ∙ gate.each 0 (omega arith)) }
 
 -- both, exactly where the gate is open
-pub closed_unsure : (rows : List Row) (r : Row) (c : List ℕ) → IsJournal rows → IsNext rows r → IsUnsure (spelled rows) (body r ++ 0 ∷ []) c → IsClosedWell rows c ⊎ IsClosedWell (rows ++ r ∷ []) c
-closed_unsure rows r c all next unsure = elim (cases_eq (get_or c (length (spelled rows)) 0) 1) [
+pub closed_unsure : (rows : List Row) (r : Row) (c : List ℕ) → IsJournal rows → IsNext rows r → IsUnsure (journal_bytes rows) (row_body r ++ 0 ∷ []) c → IsClosedWell rows c ⊎ IsClosedWell (rows ++ r ∷ []) c
+closed_unsure rows r c all next unsure = elim (cases_eq (get_or c (length (journal_bytes rows)) 0) 1) [
   | inl is_open ↦ inr (closed_shut (rows ++ r ∷ []) c (journal_push rows r all next) (opens rows r c unsure is_open))
   | inr shut ↦ inl (record {
-    spells = spells_not_open rows (body r ++ 0 ∷ []) c all unsure shut (omega (arith, unsure.behind.within, length-append (body r) (0 ∷ [])));
+    spells = spells_not_open rows (row_body r ++ 0 ∷ []) c all unsure shut (omega (arith, unsure.behind.within, length-append (row_body r) (0 ∷ [])));
     gate = inr (r, next, unsure.behind);
   })
 ]
 
-pub stands_well : (rows : List Row) (uncertain : Option Row) (c : List ℕ) → IsJournal rows → IfSome uncertain (IsNext rows) → StandsAt rows uncertain c → MaySpell rows uncertain c
+pub stands_well : (rows : List Row) (uncertain : Option Row) (c : List ℕ) → IsJournal rows → IfSome uncertain (IsNext rows) → StandsInImage rows uncertain c → MaySpell rows uncertain c
 stands_well rows None c all next stands = closed_shut rows c all stands
 stands_well rows (Some r) c all next stands = closed_unsure rows r c all next stands
 
 -- the end behind one row more
-pub end_push : (rows : List Row) (r : Row) (end : ℕ) → end ≡ length (spelled rows) → end + length (body r ++ 0 ∷ []) ≡ length (spelled (rows ++ r ∷ []))
-end_push rows r end is = omega (arith, is, ap length (spelled-push rows r), length-append (spelled rows) (1 ∷ body r), length-append (body r) (0 ∷ []))
+pub end_push : (rows : List Row) (r : Row) (end : ℕ) → end ≡ length (journal_bytes rows) → end + length (row_body r ++ 0 ∷ []) ≡ length (journal_bytes (rows ++ r ∷ []))
+end_push rows r end is = omega (arith, is, ap length (spelled-push rows r), length-append (journal_bytes rows) (1 ∷ row_body r), length-append (row_body r) (0 ∷ []))
 
-pub rows_of-all : (rows : List Row) → rows_of (kept rows) ≡ rows
+pub rows_of-all : (rows : List Row) → rows_of (rows_kept rows) ≡ rows
 rows_of-all [] = refl
 rows_of-all (r ∷ rows) = ap (λ (l : List Row). r ∷ l) (rows_of-all rows)
 
-pub rises-all : (rows : List Row) (low high : ℕ) → low ≤ high → Rises low (kept rows) high
+pub rises-all : (rows : List Row) (low high : ℕ) → low ≤ high → Rises low (rows_kept rows) high
 rises-all [] low high le = le
 rises-all (r ∷ rows) low high le = rises-all rows low high le
 
-pub stands_closed : (rows : List Row) (uncertain : Option Row) (c : List ℕ) → IfSome uncertain (IsNext rows) → StandsAt rows uncertain c → MayOpen rows c
+pub stands_closed : (rows : List Row) (uncertain : Option Row) (c : List ℕ) → IfSome uncertain (IsNext rows) → StandsInImage rows uncertain c → MayOpen rows c
 stands_closed rows None c next stands = inl stands
 stands_closed rows (Some r) c next stands = inr (r, next, stands)
 
@@ -72,9 +72,9 @@ stands_closed rows (Some r) c next stands = inr (r, next, stands)
 pub repaired :
     {D T E : Type 0} {tells : D → Bool} {may_leave : D → List ℕ → Type 0} {moment : D → ℕ}
     {left_since : D → ℕ → List ℕ → Type 0} {result : Result T E} {old new : D} (end : ℕ)
-    (uncertain : Option Row) (rows : List Row) → is_none uncertain ≡ false → end ≡ length (spelled rows)
+    (uncertain : Option Row) (rows : List Row) → is_none uncertain ≡ false → end ≡ length (journal_bytes rows)
     → ((front past : List ℕ) → length front ≡ end
     → Triple tells may_leave moment left_since result old new (IsUnsure front past) (IsUnsure front past) (IsShut front))
-    → Triple tells may_leave moment left_since result old new (StandsAt rows uncertain) (StandsAt rows uncertain) (StandsAt rows None)
+    → Triple tells may_leave moment left_since result old new (StandsInImage rows uncertain) (StandsInImage rows uncertain) (StandsInImage rows None)
 repaired end None rows some ends triple = absurd (cc)
-repaired end (Some r) rows some ends triple = triple (spelled rows) (body r ++ 0 ∷ []) (sym ends)
+repaired end (Some r) rows some ends triple = triple (journal_bytes rows) (row_body r ++ 0 ∷ []) (sym ends)

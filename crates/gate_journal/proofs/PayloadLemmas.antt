@@ -17,7 +17,7 @@ use Rattle.story_text.specs.Reading.{text_of_bytes}
 use Rattle.gate_journal.specs.declared.command.Command.{Command}
 use Rattle.gate_journal.specs.declared.command.Command.TheVariants.{Open, Line, Char, File, Close}
 use Rattle.gate_journal.specs.Command.{IsCommand}
-use Rattle.gate_journal.specs.Rows.{kind_of, payload_of}
+use Rattle.gate_journal.specs.Rows.{command_kind, payload_of}
 use Rattle.gate_journal.specs.Payload.{IsPayload, IsNoPayload, open_in, line_in, char_in, file_in}
 
 -- a number that was written is read again
@@ -256,7 +256,7 @@ pub spells_open :
 spells_open key after are is = ap (λ (l : List ℕ). length key ∷ key ++ l) (spells_behind after are is)
 
 -- commands of one kind with one payload are one
-pub same_command : (c d : Command) → IsCommand c → IsCommand d → kind_of c ≡ kind_of d → payload_of c ≡ payload_of d → c ≡ d
+pub same_command : (c d : Command) → IsCommand c → IsCommand d → command_kind c ≡ command_kind d → payload_of c ≡ payload_of d → c ≡ d
 same_command (Open key story digest seed cols rows budget) d first second kinds bytes =
     (only_open (payload_of d) (Open key story digest seed cols rows budget) (record { ranges = first; number = refl; bytes = bytes })).1
     ∙ sym (only_open (payload_of d) d (record { ranges = second; number = sym kinds; bytes = refl })).1
@@ -333,14 +333,14 @@ file_text p (File name) is = (name, is.ranges, is.bytes)
 
 -- a reader that checks the one candidate
 pub checked_is :
-    (kind : ℕ) (p : List ℕ) (x : Command) (r : Option Command) → kind_of x ≡ kind → payload_of x ≡ p
+    (kind : ℕ) (p : List ℕ) (x : Command) (r : Option Command) → command_kind x ≡ kind → payload_of x ≡ p
     → ((c : Command) → IsPayload kind p c → c ≡ x)
     → MatchOption r (IsCommand x → ⊥) (λ c. (c ≡ x) × IsCommand c)
     → MatchOption r (IsNoPayload kind p) (IsPayload kind p)
 checked_is kind p x None number bytes only said = λ c is. said (subst (λ (k : Command). IsCommand k) (only c is) is.ranges)
 checked_is kind p x (Some c) number bytes only said = record {
   ranges = said.1;
-  number = ap kind_of said.0 ∙ number;
+  number = ap command_kind said.0 ∙ number;
   bytes = ap payload_of said.0 ∙ bytes;
 }
 

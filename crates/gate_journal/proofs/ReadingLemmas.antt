@@ -19,9 +19,9 @@ use Rattle.gate_journal.specs.declared.command.Command.{Command}
 use Rattle.gate_journal.specs.declared.command.Command.TheVariants.{Open, Line, Char, File, Close}
 use Rattle.gate_journal.specs.declared.row.Row.{Row}
 use Rattle.gate_journal.specs.Command.{IsCommand}
-use Rattle.gate_journal.specs.Rows.{header, kind_of, payload_of, body, opened, spelled, may_follow, commands_of, MayStand, IsJournal}
+use Rattle.gate_journal.specs.Rows.{journal_header, command_kind, payload_of, row_body, rows_behind_open_gates, journal_bytes, may_follow, commands_of, MayStand, IsJournal}
 use Rattle.gate_journal.specs.Payload.{IsPayload, IsNoPayload, open_in, line_in, char_in, file_in}
-use Rattle.gate_journal.specs.Parsing.{IsFirst, IsNoNext}
+use Rattle.gate_journal.specs.Parsing.{BeginsWithRow, IsNoNext}
 use Rattle.gate_journal.specs.Laws.{Reading, Rows, CorruptAt, NoHeader, IsReading, HasOneReading}
 use Rattle.gate_journal.proofs.PayloadLemmas.{AreBytes, key_in, after_in, only_open, only_line, only_char, only_file, only_close, spells_whole, spells_line, spells_char, spells_file}
 use Rattle.gate_journal.proofs.PayloadLemmas.{text_found, text_missing, line_text, file_text, same_command}
@@ -60,7 +60,7 @@ HasCommand kind p = ((c : Command) × IsPayload kind p c) ⊎ IsNoPayload kind p
 
 -- where it has one candidate
 checked :
-    (kind : ℕ) (p : List ℕ) (x : Command) → kind_of x ≡ kind → payload_of x ≡ p
+    (kind : ℕ) (p : List ℕ) (x : Command) → command_kind x ≡ kind → payload_of x ≡ p
     → ((c : Command) → IsPayload kind p c → c ≡ x) → Decided (IsCommand x) → HasCommand kind p
 checked kind p x number bytes only (inl is) = inl (x, record { ranges = is; number = number; bytes = bytes })
 checked kind p x number bytes only (inr out) = inr (λ c is. out (subst (λ (k : Command). IsCommand k) (only c is) is.ranges))
@@ -119,7 +119,7 @@ a_close (x ∷ p) = inr (λ c is. not_empty (only_close (x ∷ p) c is).0)
 -- no other kind has one
 no_kind :
     (kind : ℕ) → kind ≢ 1 → kind ≢ 2 → kind ≢ 3 → kind ≢ 4 → kind ≢ 5
-    → (c : Command) → kind_of c ≡ kind → ⊥
+    → (c : Command) → command_kind c ≡ kind → ⊥
 no_kind kind a b c d e (Open key story digest seed cols rows budget) is = a (sym is)
 no_kind kind a b c d e (Line win term text) is = b (sym is)
 no_kind kind a b c d e (Char win code) is = c (sym is)
@@ -163,13 +163,13 @@ payload_in past = take (size_in past) (drop 4 past)
 -- the four bytes before a payload, and it
 whole_row :
     (past : List ℕ) (c : Command) → AreBytes past → 4 + size_in past ≤ length past
-    → kind_of c ≡ get_or past 1 0 → payload_of c ≡ payload_in past
-    → past ≡ (get_or past 0 0 ∷ kind_of c ∷ to_be_bytes w16 (length (payload_of c)) ++ payload_of c) ++ drop (4 + size_in past) past
+    → command_kind c ≡ get_or past 1 0 → payload_of c ≡ payload_in past
+    → past ≡ (get_or past 0 0 ∷ command_kind c ∷ to_be_bytes w16 (length (payload_of c)) ++ payload_of c) ++ drop (4 + size_in past) past
 whole_row past c are long kind payload =
     drop_more past 0 0 (omega (arith, long))
     ∙ ap (λ (l : List ℕ). get_or past 0 0 ∷ l) (drop_more past 1 0 (omega (arith, long)))
     ∙ ap (λ (k : ℕ). get_or past 0 0 ∷ k ∷ drop 2 past) (sym kind)
-    ∙ ap (λ (l : List ℕ). get_or past 0 0 ∷ kind_of c ∷ l) rest
+    ∙ ap (λ (l : List ℕ). get_or past 0 0 ∷ command_kind c ∷ l) rest
   where
     size : length (payload_of c) ≡ size_in past
     size = ap length payload ∙ (omega (arith, long, length-take (size_in past) (drop 4 past), length-drop 4 past))
@@ -191,7 +191,7 @@ whole_row past c are long kind payload =
 
 -- the row past an open gate
 abbrev HasRow : List Row → List ℕ → Type 0
-HasRow rows past = ((r : Row) × IsFirst rows past r) ⊎ IsNoNext rows past
+HasRow rows past = ((r : Row) × BeginsWithRow rows past r) ⊎ IsNoNext rows past
 
 stands : (rows : List Row) (session : ℕ) (c : Command) → IsCommand c → Decided (MayStand rows session c)
 stands rows session c ranges =
@@ -203,7 +203,7 @@ has_row : (rows : List Row) (past : List ℕ) → AreBytes past → HasRow rows 
 has_row rows past are = elim (cases_lt (length past) (4 + size_in past)) [
   | inl short ↦ inr (λ r rest next is.
       let parts = body_parts r rest past next.stands.ranges is in
-      absurd (omega (arith, short, parts.1, ap length is, length-append (body r) rest, length-body r)))
+      absurd (omega (arith, short, parts.1, ap length is, length-append (row_body r) rest, length-body r)))
   | inr long ↦ with_command long (has_command (get_or past 1 0) (payload_in past) (bytes_front (size_in past) (drop 4 past) (bytes_past 4 past are)))
 ]
   where
@@ -213,11 +213,11 @@ has_row rows past are = elim (cases_lt (length past) (4 + size_in past)) [
         none r.command (record { ranges = next.stands.ranges; number = sym parts.0; bytes = sym parts.2 }))
     with_command long (inl (c, is)) = elim (stands rows (get_or past 0 0) c is.ranges) [
       | inl may ↦
-          let r : Row = record { place = length (spelled rows); session = get_or past 0 0; by = get_or past 0 0 + 1; command = c } in
+          let r : Row = record { place = length (journal_bytes rows); session = get_or past 0 0; by = get_or past 0 0 + 1; command = c } in
           let whole = whole_row past c are long is.number is.bytes in
-          let size : 4 + size_in past ≡ length (body r) =
+          let size : 4 + size_in past ≡ length (row_body r) =
           omega (arith, long, length-body r, ap length is.bytes, length-take (size_in past) (drop 4 past), length-drop 4 past) in
-          inl (r, record { next = record { place = refl; by = refl; stands = may }; bytes = whole ∙ ap (λ (k : ℕ). body r ++ drop k past) size })
+          inl (r, record { next = record { place = refl; by = refl; stands = may }; bytes = whole ∙ ap (λ (k : ℕ). row_body r ++ drop k past) size })
       | inr out ↦ inr (λ r rest next bytes.
           let parts = body_parts r rest past next.stands.ranges bytes in
           let same_one : r.command ≡ c =
@@ -228,9 +228,9 @@ has_row rows past are = elim (cases_lt (length past) (4 + size_in past)) [
 
 -- of bytes that begin with these rows
 read_from :
-    (fuel : ℕ) (rows : List Row) (bytes rest : List ℕ) → AreBytes bytes → bytes ≡ spelled rows ++ rest → IsJournal rows
+    (fuel : ℕ) (rows : List Row) (bytes rest : List ℕ) → AreBytes bytes → bytes ≡ journal_bytes rows ++ rest → IsJournal rows
     → length rest ≤ fuel → (reading : Reading) × IsReading bytes reading
-read_from fuel rows bytes [] are split all le = (CorruptAt (length (spelled rows)), corrupt_end rows bytes (length (spelled rows)) all split refl)
+read_from fuel rows bytes [] are split all le = (CorruptAt (length (journal_bytes rows)), corrupt_end rows bytes (length (journal_bytes rows)) all split refl)
 read_from zero rows bytes (gate ∷ past) are split all le = absurd (omega (arith, le))
 read_from (suc fuel) rows bytes (gate ∷ past) are split all le = elim (cases_eq gate 1) [
   | inr shut ↦ (Rows rows, spells_split rows bytes (gate ∷ past) all split (omega arith) shut)
@@ -241,46 +241,46 @@ read_from (suc fuel) rows bytes (gate ∷ past) are split all le = elim (cases_e
     past_are i =
         omega (
           arith,
-          are (length (spelled rows) + (1 + i)),
-          ap (λ (l : List ℕ). get_or l (length (spelled rows) + (1 + i)) 0) split,
-          get_or-append_right (spelled rows) (gate ∷ past) (length (spelled rows)) (length (spelled rows) + (1 + i)) 0 refl (omega arith),
+          are (length (journal_bytes rows) + (1 + i)),
+          ap (λ (l : List ℕ). get_or l (length (journal_bytes rows) + (1 + i)) 0) split,
+          get_or-append_right (journal_bytes rows) (gate ∷ past) (length (journal_bytes rows)) (length (journal_bytes rows) + (1 + i)) 0 refl (omega arith),
           behind i,
         )
       where
-        behind : (i : ℕ) → get_or (gate ∷ past) (length (spelled rows) + (1 + i) - length (spelled rows)) 0 ≡ get_or past i 0
+        behind : (i : ℕ) → get_or (gate ∷ past) (length (journal_bytes rows) + (1 + i) - length (journal_bytes rows)) 0 ≡ get_or past i 0
         behind i =
-            let at : length (spelled rows) + (1 + i) - length (spelled rows) ≡ suc i = omega arith in
+            let at : length (journal_bytes rows) + (1 + i) - length (journal_bytes rows) ≡ suc i = omega arith in
             ap (λ (k : ℕ). get_or (gate ∷ past) k 0) at
 
     after_gate :
-        ((later : List Row) (after : List ℕ) → bytes ≡ spelled later ++ after → IsJournal later → length after ≤ fuel
+        ((later : List Row) (after : List ℕ) → bytes ≡ journal_bytes later ++ after → IsJournal later → length after ≤ fuel
         → (reading : Reading) × IsReading bytes reading)
         → gate ≡ 1 → HasRow rows past → (reading : Reading) × IsReading bytes reading
-    after_gate go is_open (inr none) = (CorruptAt (length (spelled rows)), corrupt_row rows bytes (gate ∷ past) (length (spelled rows)) all split refl is_open none)
+    after_gate go is_open (inr none) = (CorruptAt (length (journal_bytes rows)), corrupt_row rows bytes (gate ∷ past) (length (journal_bytes rows)) all split refl is_open none)
     after_gate go is_open (inl (r, first)) =
         let n = length (payload_of r.command) in
         let after = drop (5 + n) (gate ∷ past) in
-        let step = parse_step bytes (gate ∷ past) after rows (rows ++ r ∷ []) r (length (spelled rows)) (length (spelled rows) + (5 + n))
+        let step = parse_step bytes (gate ∷ past) after rows (rows ++ r ∷ []) r (length (journal_bytes rows)) (length (journal_bytes rows) + (5 + n))
         split all refl is_open (omega arith) first refl refl refl in
         go (rows ++ r ∷ []) after step.0 step.1 (omega (arith, le, length-drop (5 + n) (gate ∷ past)))
 
 -- any bytes
 reading_of : (bytes : List ℕ) → AreBytes bytes → (reading : Reading) × IsReading bytes reading
-reading_of bytes are = elim (cases_Bool (starts_with nat_eq bytes header)) [
+reading_of bytes are = elim (cases_Bool (starts_with nat_eq bytes journal_header)) [
   | inr other ↦ (NoHeader, no_header bytes other)
-  | inl begins ↦ read_from (length bytes) [] bytes (drop 16 bytes) are ((starts_is Decides-eqb bytes header true (sym begins)).0 refl) tt (omega (arith, length-drop 16 bytes))
+  | inl begins ↦ read_from (length bytes) [] bytes (drop 16 bytes) are ((starts_is Decides-eqb bytes journal_header true (sym begins)).0 refl) tt (omega (arith, length-drop 16 bytes))
 ]
 
 -- no bytes have two
 only_reading : (bytes : List ℕ) (a b : Reading) → IsReading bytes a → IsReading bytes b → b ≡ a
 only_reading bytes (Rows rows) (Rows others) first second = ap (λ (l : List Row). Rows l) (one_list bytes others rows second first)
 only_reading bytes (Rows rows) (CorruptAt place) first second = absurd (never_both bytes rows place first second)
-only_reading bytes (Rows rows) NoHeader first second = absurd (second (holds_front header (opened rows) first.front))
+only_reading bytes (Rows rows) NoHeader first second = absurd (second (holds_front journal_header (rows_behind_open_gates rows) first.front))
 only_reading bytes (CorruptAt place) (Rows rows) first second = absurd (never_both bytes rows place second first)
 only_reading bytes (CorruptAt place) (CorruptAt other) first second = ap (λ (k : ℕ). CorruptAt k) (one_place bytes other place second first)
-only_reading bytes (CorruptAt place) NoHeader first second = absurd (second (holds_front header (opened first.rows) first.front))
-only_reading bytes NoHeader (Rows rows) first second = absurd (first (holds_front header (opened rows) second.front))
-only_reading bytes NoHeader (CorruptAt place) first second = absurd (first (holds_front header (opened second.rows) second.front))
+only_reading bytes (CorruptAt place) NoHeader first second = absurd (second (holds_front journal_header (rows_behind_open_gates first.rows) first.front))
+only_reading bytes NoHeader (Rows rows) first second = absurd (first (holds_front journal_header (rows_behind_open_gates rows) second.front))
+only_reading bytes NoHeader (CorruptAt place) first second = absurd (first (holds_front journal_header (rows_behind_open_gates second.rows) second.front))
 only_reading bytes NoHeader NoHeader first second = refl
 
 pub one_reading : HasOneReading

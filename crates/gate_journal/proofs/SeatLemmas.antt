@@ -8,7 +8,7 @@ use Rattle.std.proofs.lemmas.Bool.Decides.{nat_tests}
 use Rattle.gate_journal.specs.declared.command.Command.{Command}
 use Rattle.gate_journal.specs.declared.row.Row.{Row}
 use Rattle.gate_journal.specs.Rows.{commands_of, is_free, is_close}
-use Rattle.gate_journal.specs.Seats.{Counts, use_of}
+use Rattle.gate_journal.specs.Seats.{CountsRows, use_of}
 
 if_append : (b : Bool) (x : Command) (l m : List Command) → (if b then x ∷ (l ++ m) else l ++ m) ≡ (if b then x ∷ l else l) ++ m
 if_append true x l m = refl
@@ -70,8 +70,8 @@ used rows r uses at n were is size one s lt = elim (cases_eq s at) [
 
 -- a row of another session is counted nowhere
 pub counted_other :
-    (rows : List Row) (r : Row) (counts uses : List ℕ) → 64 ≤ r.session → Counts rows counts uses
-    → Counts (rows ++ r ∷ []) counts uses
+    (rows : List Row) (r : Row) (counts uses : List ℕ) → 64 ≤ r.session → CountsRows rows counts uses
+    → CountsRows (rows ++ r ∷ []) counts uses
 counted_other rows r counts uses past were = record {
   count = λ s lt.
       were.count s lt ∙ ap (λ (l : List Command). min (length l) 8192) (sym (commands_of-other rows r s (λ meets. absurd (omega (arith, past, lt, meets)))));

@@ -12,8 +12,8 @@ use Rattle.gate_journal.specs.declared.command.Command.{Command}
 use Rattle.gate_journal.specs.declared.row.Row.{Row}
 use Rattle.gate_journal.specs.declared.entry.Entry.{Entry}
 use Rattle.gate_journal.specs.declared.entry.Entry.TheVariants.{Kept, Faulted}
-use Rattle.gate_journal.specs.Rows.{body, header, opened, spelled, EachNext, IsJournal, MayStand}
-use Rattle.gate_journal.specs.Log.{Log, IsBetween, IsOfSession, IsSinceOpened, IsSound, kept}
+use Rattle.gate_journal.specs.Rows.{row_body, journal_header, rows_behind_open_gates, journal_bytes, EachNext, IsJournal, MayStand}
+use Rattle.gate_journal.specs.Log.{Log, IsBetween, IsOfSession, IsSinceOpened, IsSoundJournal, rows_kept}
 use Rattle.gate_journal.specs.Log.{MayOpen, MaySpell, Meanwhile, next_row, rows_found, rows_of}
 use Rattle.gate_journal.specs.Command.{IsCommand}
 use Rattle.gate_journal.proofs.LimitLemmas.{payload_most}
@@ -24,28 +24,28 @@ rows_of-append [] ys = refl
 rows_of-append (Kept r ∷ xs) ys = ap (λ (x : List Row). r ∷ x) (rows_of-append xs ys)
 rows_of-append (Faulted by from to ∷ xs) ys = rows_of-append xs ys
 
-opened_grows : (rows more : List Row) → length (opened rows) ≤ length (opened (rows ++ more))
+opened_grows : (rows more : List Row) → length (rows_behind_open_gates rows) ≤ length (rows_behind_open_gates (rows ++ more))
 opened_grows [] more = omega arith
 opened_grows (r ∷ rows) more =
-    let rest : length (opened rows) ≤ length (opened (rows ++ more)) = opened_grows rows more in
+    let rest : length (rows_behind_open_gates rows) ≤ length (rows_behind_open_gates (rows ++ more)) = opened_grows rows more in
     omega (
       arith,
       rest,
-      length-append (body r) (opened rows),
-      length-append (body r) (opened (rows ++ more)),
+      length-append (row_body r) (rows_behind_open_gates rows),
+      length-append (row_body r) (rows_behind_open_gates (rows ++ more)),
     )
 
 -- more rows are no shorter
 pub spelled_grows :
     (first last more : List Row) → last ≡ first ++ more
-    → length (spelled first) ≤ length (spelled last)
+    → length (journal_bytes first) ≤ length (journal_bytes last)
 spelled_grows first last more grows =
-    subst (λ (rows : List Row). length (spelled first) ≤ length (spelled rows)) (sym grows)
+    subst (λ (rows : List Row). length (journal_bytes first) ≤ length (journal_bytes rows)) (sym grows)
     (omega (
       arith,
       opened_grows first more,
-      length-append header (opened first),
-      length-append header (opened (first ++ more)),
+      length-append journal_header (rows_behind_open_gates first),
+      length-append journal_header (rows_behind_open_gates (first ++ more)),
     ))
 
 -- an image of the time up to a row is one of the time up to a later one
@@ -95,7 +95,7 @@ rows_after found entries =
 -- the longest row
 row_most :
     (rows : List Row) (session : ℕ) (command : Command) → IsCommand command
-    → length (body (next_row rows session command)) ≤ 4108
+    → length (row_body (next_row rows session command)) ≤ 4108
 row_most rows session command is = omega (arith, payload_most command is)
 
 -- one piece of work on a disk after another
@@ -128,7 +128,7 @@ module _
       → (IsTrue (tells old.disk) → LeavesOnly moment left_since old.disk disk
       (Meanwhile (rows_of old.entries) old.uncertain
       (next_row (rows_of old.entries) session command)))
-      → reach disk ≤ max (reach log.disk) (length (spelled (rows_of log.entries)) + 4110)
+      → reach disk ≤ max (reach log.disk) (length (journal_bytes (rows_of log.entries)) + 4110)
       → IsSinceOpened tells may_leave room label reach moment left_since (record {
         disk = disk;
         entries = entries;
@@ -149,7 +149,7 @@ module _
       grows : rows_of entries ≡ rows ++ rows_of (e ∷ [])
       grows = ap rows_of pushed ∙ rows_of-append log.entries (e ∷ [])
 
-      longer : length (spelled rows) ≤ length (spelled (rows_of entries))
+      longer : length (journal_bytes rows) ≤ length (journal_bytes (rows_of entries))
       longer = spelled_grows rows (rows_of entries) (rows_of (e ∷ [])) grows
 
       same_found : found_in log.entries ≡ found_in entries
@@ -189,21 +189,21 @@ module _
 
   -- how far a repair writes, and then a row
   pub asked_gate :
-      (before now end : ℕ) → end ≡ length (spelled (rows_of log.entries))
+      (before now end : ℕ) → end ≡ length (journal_bytes (rows_of log.entries))
       → now ≤ max before (end + 1)
-      → now ≤ max before (length (spelled (rows_of log.entries)) + 4110)
+      → now ≤ max before (length (journal_bytes (rows_of log.entries)) + 4110)
   asked_gate before now end ends asked = omega (arith, ends, asked)
 
   pub asked_row :
       (before mid now end : ℕ) {q : Row} {past : List ℕ}
-      → end ≡ length (spelled (rows_of log.entries))
+      → end ≡ length (journal_bytes (rows_of log.entries))
       → q ≡ record { place = end; session = session; by = session + 1; command = command }
-      → past ≡ body q ++ 0 ∷ [] → mid ≤ max before (end + 1)
+      → past ≡ row_body q ++ 0 ∷ [] → mid ≤ max before (end + 1)
       → now ≤ max mid (end + 1 + length past)
-      → now ≤ max before (length (spelled (rows_of log.entries)) + 4110)
+      → now ≤ max before (length (journal_bytes (rows_of log.entries)) + 4110)
   asked_row before mid now end {q} {past} ends made bytes first second =
-      let same : length (body q) ≡ length (body (next_row (rows_of log.entries) session command))
-      = ap (λ (r : Row). length (body r)) made
+      let same : length (row_body q) ≡ length (row_body (next_row (rows_of log.entries) session command))
+      = ap (λ (r : Row). length (row_body r)) made
       in
       omega (
         arith,
@@ -212,7 +212,7 @@ module _
         second,
         same,
         ap length bytes,
-        length-append (body q) (0 ∷ []),
+        length-append (row_body q) (0 ∷ []),
         row_most (rows_of log.entries) session command stands.ranges,
       )
 
@@ -225,11 +225,11 @@ pub since_begun :
     {D : Type 0} {tells : D → Bool} {may_leave : D → List ℕ → Type 0}
     {room label reach moment : D → ℕ} {left_since : D → ℕ → List ℕ → Type 0} {given now : D}
     {entries : List Entry} {ready : Bool} (found : ℕ)
-    → found ≡ length entries → entries ≡ kept (rows_of entries) → IsJournal (rows_of entries)
+    → found ≡ length entries → entries ≡ rows_kept (rows_of entries) → IsJournal (rows_of entries)
     → SameDisk tells room label given now
     → ((start : List Row) → IsJournal start → EachImage tells may_leave given (MayOpen start)
     → IsTrue (tells given) → LeavesOnly moment left_since given now (MayOpen start))
-    → reach now ≤ max (reach given) (length (spelled (rows_of entries)) + 1)
+    → reach now ≤ max (reach given) (length (journal_bytes (rows_of entries)) + 1)
     → IsSinceOpened tells may_leave room label reach moment left_since (record {
       disk = now;
       entries = entries;
@@ -251,7 +251,7 @@ since_begun {D} {tells} {may_leave} {room} {label} {reach} {moment} {left_since}
     }
   where
     numbers_of :
-        (before rows : List Row) → EachNext before rows → Each IsOfSession (kept rows)
+        (before rows : List Row) → EachNext before rows → Each IsOfSession (rows_kept rows)
     numbers_of before [] all = tt
     numbers_of before (r ∷ rows) all = (
       (omega (arith, all.0.by), omega (arith, all.0.by, all.0.stands.below)),
@@ -264,15 +264,15 @@ pub reserved :
     {room faults label reach moment : D → ℕ} {left_since : D → ℕ → List ℕ → Type 0} {log : Log D}
     {entries : List Entry} {end : ℕ} {ready : Bool}
     → entries ≡ log.entries
-    → IsSound tells may_leave room faults log end
+    → IsSoundJournal tells may_leave room faults log end
     × IsSinceOpened tells may_leave room label reach moment left_since log
-    → IsSound tells may_leave room faults (record log { entries = entries; ready = ready }) end
+    → IsSoundJournal tells may_leave room faults (record log { entries = entries; ready = ready }) end
     × IsSinceOpened tells may_leave room label reach moment left_since
     (record log { entries = entries; ready = ready })
 reserved {D} {tells} {may_leave} {room} {faults} {label} {reach} {moment} {left_since} {log}
     {end = end} {ready = ready} same (sound, since) =
     subst (λ (es : List Entry).
-    IsSound tells may_leave room faults (record log { entries = es; ready = ready }) end
+    IsSoundJournal tells may_leave room faults (record log { entries = es; ready = ready }) end
     × IsSinceOpened tells may_leave room label reach moment left_since
     (record log { entries = es; ready = ready })) (sym same) (
       record {

@@ -8,7 +8,7 @@ use Rattle.gate_journal.specs.declared.fault.JournalFault.{JournalFault}
 use Rattle.gate_journal.specs.declared.fault.JournalFault.TheVariants.{NotJournal, Corrupt, NoMemory}
 use Rattle.gate_journal.specs.declared.fault.JournalFault.TheVariants.{DiskFault as on_disk}
 use Rattle.gate_journal.specs.Faults.{Explains, IsOfDisk}
-use Rattle.gate_journal.specs.Rows.{header, body, opened, spelled, SpellsRows, IsJournal}
+use Rattle.gate_journal.specs.Rows.{journal_header, row_body, rows_behind_open_gates, journal_bytes, SpellsRows, IsJournal}
 use Rattle.gate_journal.specs.Log.{MaySpell, MayFind, MayOpen}
 use Rattle.gate_journal.specs.Laws.{FindsRows, FindsThese}
 use Rattle.gate_journal.proofs.RowLemmas.{one_list, never_both, spells_shut, spells_not_open, opens, journal_push}
@@ -27,7 +27,7 @@ spells_some rows (Some r) c (inr well) = (rows ++ r ∷ [], well.spells)
 
 -- bytes that spell rows are refused for nothing that they hold
 refused_of_rows : (rows : List Row) (c : List ℕ) (e : JournalFault) → SpellsRows c rows → Explains c e → IsOfDisk e
-refused_of_rows rows c NotJournal spells no_header = absurd (no_header (holds_front header (opened rows) spells.front))
+refused_of_rows rows c NotJournal spells no_header = absurd (no_header (holds_front journal_header (rows_behind_open_gates rows) spells.front))
 refused_of_rows rows c (Corrupt place) spells corrupt = absurd (never_both c rows place spells corrupt)
 refused_of_rows rows c (on_disk fault) spells said = tt
 refused_of_rows rows c NoMemory spells said = tt
@@ -39,9 +39,9 @@ refused_of_disk rows u c e spells said = let some = spells_some rows u c spells 
 -- what an opening may meet spells the rows, or these and one more
 finds_these : (rows : List Row) (c : List ℕ) → IsJournal rows → MayOpen rows c → FindsThese rows c
 finds_these rows c all (inl shut) = inl (spells_shut rows c all shut)
-finds_these rows c all (inr (r, next, unsure)) = elim (cases_eq (get_or c (length (spelled rows)) 0) 1) [
+finds_these rows c all (inr (r, next, unsure)) = elim (cases_eq (get_or c (length (journal_bytes rows)) 0) 1) [
   | inl is_open ↦ inr (r, next, spells_shut (rows ++ r ∷ []) c (journal_push rows r all next) (opens rows r c unsure is_open))
-  | inr shut ↦ inl (spells_not_open rows (body r ++ 0 ∷ []) c all unsure shut (omega (arith, unsure.behind.within, length-append (body r) (0 ∷ []))))
+  | inr shut ↦ inl (spells_not_open rows (row_body r ++ 0 ∷ []) c all unsure shut (omega (arith, unsure.behind.within, length-append (row_body r) (0 ∷ []))))
 ]
 
 pub finds_rows : FindsRows

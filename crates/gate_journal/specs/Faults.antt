@@ -27,11 +27,11 @@ Explains bytes (on_disk fault) = Unit {0}
 Explains bytes NoMemory = Unit {0}
 
 -- bytes alone are refused for no fault of a disk
-abbrev pub Refuses : List ℕ → JournalFault → Type 0
-Refuses bytes NotJournal = HasNoHeader bytes
-Refuses bytes (Corrupt place) = IsCorrupt bytes place
-Refuses bytes (on_disk fault) = ⊥
-Refuses bytes NoMemory = Unit {0}
+abbrev pub RefusesBytes : List ℕ → JournalFault → Type 0
+RefusesBytes bytes NotJournal = HasNoHeader bytes
+RefusesBytes bytes (Corrupt place) = IsCorrupt bytes place
+RefusesBytes bytes (on_disk fault) = ⊥
+RefusesBytes bytes NoMemory = Unit {0}
 
 -- a disk alone is refused for a fault of its own or for want of memory
 abbrev pub IsOfDisk : JournalFault → Type 0

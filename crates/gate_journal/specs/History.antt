@@ -18,8 +18,8 @@ count_rows (marks.Row ∷ more) = suc (count_rows more)
 count_rows (marks.Fault by from to ∷ more) = count_rows more
 
 -- the entries: each mark of a row takes the next row
-abbrev pub woven : List Mark → List Row → List Entry
-woven [] rows = []
-woven (marks.Row ∷ more) [] = []
-woven (marks.Row ∷ more) (r ∷ rows) = Kept r ∷ woven more rows
-woven (marks.Fault by from to ∷ more) rows = Faulted by from to ∷ woven more rows
+abbrev pub rows_woven : List Mark → List Row → List Entry
+rows_woven [] rows = []
+rows_woven (marks.Row ∷ more) [] = []
+rows_woven (marks.Row ∷ more) (r ∷ rows) = Kept r ∷ rows_woven more rows
+rows_woven (marks.Fault by from to ∷ more) rows = Faulted by from to ∷ rows_woven more rows

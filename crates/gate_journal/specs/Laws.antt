@@ -5,9 +5,9 @@ use Rattle.gate_journal.specs.declared.command.Command.{Command}
 use Rattle.gate_journal.specs.declared.row.Row.{Row}
 use Rattle.gate_journal.specs.Command.{IsCommand}
 use Rattle.gate_journal.specs.declared.fault.JournalFault.{JournalFault}
-use Rattle.gate_journal.specs.Rows.{spelled, SpellsRows, IsCorrupt, HasNoHeader}
+use Rattle.gate_journal.specs.Rows.{journal_bytes, SpellsRows, IsCorrupt, HasNoHeader}
 use Rattle.gate_journal.specs.Rows.{IsJournal, IsNext}
-use Rattle.gate_journal.specs.Log.{next_row, end_of, MayOpen}
+use Rattle.gate_journal.specs.Log.{next_row, row_end, MayOpen}
 use Rattle.gate_journal.specs.Faults.{Explains, IsOfDisk}
 
 -- bytes spell one list of rows
@@ -28,7 +28,7 @@ HasOnePlace = (bytes : List ℕ) (place other : ℕ) → IsCorrupt bytes place
 -- an append ends at most 4,110 bytes behind the closing gate
 abbrev pub EndsWithin : Type 0
 EndsWithin = (rows : List Row) (session : ℕ) (command : Command) → IsCommand command
-    → end_of (next_row rows session command) ≤ length (spelled rows) + 4110
+    → row_end (next_row rows session command) ≤ length (journal_bytes rows) + 4110
 
 -- what an opening may meet spells these rows, or these and one more that may stand next
 abbrev pub FindsThese : List Row → List ℕ → Type 0

@@ -5,7 +5,7 @@ use Rattle.std.specs.Prelude.{IfSome, List, [], ◌∷◌, ◌++◌, length, map
 use Rattle.turn_cell.specs.History.{Each}
 use Rattle.disk_model.specs.Disk.{Holds, Rose, EachImage, LeavesOnly, SameDisk}
 use Rattle.gate_journal.specs.Gate.{IsShut, IsUnsure}
-use Rattle.gate_journal.specs.Rows.{SpellsRows, body, spelled, IsJournal, IsNext}
+use Rattle.gate_journal.specs.Rows.{SpellsRows, row_body, journal_bytes, IsJournal, IsNext}
 use Rattle.gate_journal.specs.declared.command.Command.{Command}
 use Rattle.gate_journal.specs.declared.row.Row.{Row}
 use Rattle.gate_journal.specs.declared.entry.Entry.{Entry}
@@ -18,13 +18,13 @@ rows_of (Kept r ∷ entries) = r ∷ rows_of entries
 rows_of (Faulted by from to ∷ entries) = rows_of entries
 
 -- each row as an entry
-abbrev pub kept : List Row → List Entry
-kept rows = map Kept rows
+abbrev pub rows_kept : List Row → List Entry
+rows_kept rows = map Kept rows
 
 -- the number of an entry
-abbrev pub number_of : Entry → ℕ
-number_of (Kept r) = r.by
-number_of (Faulted by from to) = by
+abbrev pub entry_number : Entry → ℕ
+entry_number (Kept r) = r.by
+entry_number (Faulted by from to) = by
 
 -- the counts of the fault entries rise, from the low number to the high one
 abbrev pub Rises : ℕ → List Entry → ℕ → Type 0
@@ -57,15 +57,15 @@ rows_found log = rows_of (take log.opening.found log.entries)
 abbrev pub next_row : List Row → ℕ → Command → Row
 next_row rows session command =
     record {
-      place = length (spelled rows);
+      place = length (journal_bytes rows);
       session = session;
       by = session + 1;
       command = command;
     }
 
 -- the end of what an append of this row writes: the row, and a zero byte for the next gate
-abbrev pub end_of : Row → ℕ
-end_of r = r.place + length (body r) + 2
+abbrev pub row_end : Row → ℕ
+row_end r = r.place + length (row_body r) + 2
 
 -- nothing but the room changes
 pub record SameLog {D : Type 0} (old new : Log D) : Type 0 where
@@ -76,17 +76,18 @@ pub record SameLog {D : Type 0} (old new : Log D) : Type 0 where
 
 -- what stands in an image: the rows and a closed gate, or a gate of which nothing is known before
 -- this row and a zero byte
-abbrev pub StandsAt : List Row → Option Row → List ℕ → Type 0
-StandsAt rows None c = IsShut (spelled rows) c
-StandsAt rows (Some r) c = IsUnsure (spelled rows) (body r ++ 0 ∷ []) c
+abbrev pub StandsInImage : List Row → Option Row → List ℕ → Type 0
+StandsInImage rows None c = IsShut (journal_bytes rows) c
+StandsInImage rows (Some r) c = IsUnsure (journal_bytes rows) (row_body r ++ 0 ∷ []) c
 
 -- the image spells the rows; its closing gate is 0, or a row that may stand there and a zero byte
 -- stand behind it
 pub record IsClosedWell (rows : List Row) (c : List ℕ) : Type 0 where
   pub spells : SpellsRows c rows
   pub gate :
-      (slice_index c (length (spelled rows)) ≡ 0)
-      ⊎ ((r : Row) × IsNext rows r × Holds c (length (spelled rows) + 1) (body r ++ 0 ∷ []))
+      (slice_index c (length (journal_bytes rows)) ≡ 0)
+      ⊎ ((r : Row) × IsNext rows r
+      × Holds c (length (journal_bytes rows) + 1) (row_body r ++ 0 ∷ []))
 
 -- the image spells the rows, or these and the one behind an uncertain gate
 abbrev pub MaySpell : List Row → Option Row → List ℕ → Type 0
@@ -102,8 +103,8 @@ MayFind rows (Some r) found = (found ≡ rows) ⊎ (found ≡ rows ++ r ∷ [])
 -- a row that may stand there and a zero byte
 abbrev pub MayOpen : List Row → List ℕ → Type 0
 MayOpen rows c =
-    IsShut (spelled rows) c
-    ⊎ ((r : Row) × IsNext rows r × IsUnsure (spelled rows) (body r ++ 0 ∷ []) c)
+    IsShut (journal_bytes rows) c
+    ⊎ ((r : Row) × IsNext rows r × IsUnsure (journal_bytes rows) (row_body r ++ 0 ∷ []) c)
 
 -- while a row is written an image spells the rows, or these and the uncertain one, or these and the
 -- new one, and never both; and an opening may meet it
@@ -112,7 +113,7 @@ Meanwhile rows uncertain r c =
     (MaySpell rows uncertain c ⊎ MaySpell rows (Some r) c) × MayOpen rows c
 
 -- what holds of each journal, whose closing gate is at this end
-pub record IsSound
+pub record IsSoundJournal
     {D : Type 0}
     (tells : D → Bool)
     (may_leave : D → List ℕ → Type 0)
@@ -120,10 +121,11 @@ pub record IsSound
     (log : Log D)
     (end : ℕ) : Type 0 where
   pub journal : IsJournal (rows_of log.entries)
-  pub ends : end ≡ length (spelled (rows_of log.entries))
+  pub ends : end ≡ length (journal_bytes (rows_of log.entries))
   pub within : end < room log.disk
   pub next : IfSome log.uncertain (IsNext (rows_of log.entries))
-  pub images : EachImage tells may_leave log.disk (StandsAt (rows_of log.entries) log.uncertain)
+  pub images : EachImage tells may_leave log.disk
+      (StandsInImage (rows_of log.entries) log.uncertain)
   pub counts : Rises (faults log.opening.disk) log.entries (faults log.disk)
 
 -- the reach after an opening of these bytes: as it was, or the end of the closing gate, where that
@@ -132,7 +134,7 @@ abbrev pub ReachesGate : List ℕ → ℕ → ℕ → Type 0
 ReachesGate bytes before now =
     (now ≡ before)
     ⊎ ((rows : List Row) × SpellsRows bytes rows
-    × (now ≡ max before (length (spelled rows) + 1)))
+    × (now ≡ max before (length (journal_bytes rows) + 1)))
 
 -- An image from the time in which a journal's rows grew from the first list to the last: it spells
 -- the first rows and those of the later ones that stood then, or these and one row more; and an
@@ -147,7 +149,7 @@ pub record IsBetween (first last : List Row) (c : List ℕ) : Type 0 where
 
 -- the entry is of a session below 64
 abbrev pub IsOfSession : Entry → Type 0
-IsOfSession e = (0 < number_of e) × (number_of e ≤ 64)
+IsOfSession e = (0 < entry_number e) × (entry_number e ≤ 64)
 
 -- What holds of each journal since it was opened: it is on the same disk, which wasn't written
 -- farther behind the closing gate than the longest row reaches; its entries are those found and
@@ -171,4 +173,4 @@ pub record IsSinceOpened
       (λ c. MayOpen start c ⊎ IsBetween (rows_found log) (rows_of log.entries) c)
   pub reaches :
       reach log.disk
-      ≤ max (reach log.opening.disk) (length (spelled (rows_of log.entries)) + 4110)
+      ≤ max (reach log.opening.disk) (length (journal_bytes (rows_of log.entries)) + 4110)

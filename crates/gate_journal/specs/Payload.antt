@@ -6,12 +6,12 @@ use Rattle.byteorder.specs.Endian.{big_number}
 use Rattle.gate_journal.specs.declared.command.Command.{Command}
 use Rattle.gate_journal.specs.declared.command.Command.TheVariants.{Open, Line, Char, File}
 use Rattle.gate_journal.specs.Command.{IsCommand}
-use Rattle.gate_journal.specs.Rows.{kind_of, payload_of}
+use Rattle.gate_journal.specs.Rows.{command_kind, payload_of}
 
 -- a row of this kind with this payload is one of this command
 pub record IsPayload (kind : ℕ) (payload : List ℕ) (command : Command) : Type 0 where
   pub ranges : IsCommand command
-  pub number : kind_of command ≡ kind
+  pub number : command_kind command ≡ kind
   pub bytes : payload_of command ≡ payload
 
 -- no command has such a row

@@ -13,18 +13,18 @@ use Rattle.gate_journal.specs.declared.row.Row.{Row}
 use Rattle.gate_journal.specs.Command.{IsCommand}
 
 -- what a journal begins with: STHJ, version 1, and eight zeros
-abbrev pub header : List ℕ
-header =
+abbrev pub journal_header : List ℕ
+journal_header =
     83 ∷ 84 ∷ 72 ∷ 74 ∷ 0 ∷ 0 ∷ 0 ∷ 1
     ∷ 0 ∷ 0 ∷ 0 ∷ 0 ∷ 0 ∷ 0 ∷ 0 ∷ 0 ∷ []
 
 -- the number of a command's kind
-abbrev pub kind_of : Command → ℕ
-kind_of (Open key story digest seed cols rows budget) = 1
-kind_of (Line win term text) = 2
-kind_of (Char win code) = 3
-kind_of (File name) = 4
-kind_of Close = 5
+abbrev pub command_kind : Command → ℕ
+command_kind (Open key story digest seed cols rows budget) = 1
+command_kind (Line win term text) = 2
+command_kind (Char win code) = 3
+command_kind (File name) = 4
+command_kind Close = 5
 
 -- what a row carries of its command, numbers big-endian and texts in UTF-8
 abbrev pub payload_of : Command → List ℕ
@@ -38,19 +38,19 @@ payload_of (File name) = encode_utf8_all name
 payload_of Close = []
 
 -- a row past its gate: the session, the kind, the payload's length, the payload
-abbrev pub body : Row → List ℕ
-body r =
-    r.session ∷ kind_of r.command
+abbrev pub row_body : Row → List ℕ
+row_body r =
+    r.session ∷ command_kind r.command
     ∷ to_be_bytes w16 (length (payload_of r.command)) ++ payload_of r.command
 
 -- rows, each behind an open gate
-abbrev pub opened : List Row → List ℕ
-opened [] = []
-opened (r ∷ rows) = 1 ∷ body r ++ opened rows
+abbrev pub rows_behind_open_gates : List Row → List ℕ
+rows_behind_open_gates [] = []
+rows_behind_open_gates (r ∷ rows) = 1 ∷ row_body r ++ rows_behind_open_gates rows
 
 -- a journal of these rows, up to its closing gate
-abbrev pub spelled : List Row → List ℕ
-spelled rows = header ++ opened rows
+abbrev pub journal_bytes : List Row → List ℕ
+journal_bytes rows = journal_header ++ rows_behind_open_gates rows
 
 -- the commands of one session, in their order
 abbrev pub commands_of : List Row → ℕ → List Command
@@ -89,7 +89,7 @@ pub record MayStand (rows : List Row) (session : ℕ) (command : Command) : Type
 
 -- the row may stand next behind these; its number is that of its session and 1
 pub record IsNext (rows : List Row) (r : Row) : Type 0 where
-  pub place : r.place ≡ length (spelled rows)
+  pub place : r.place ≡ length (journal_bytes rows)
   pub by : r.by ≡ r.session + 1
   pub stands : MayStand rows r.session r.command
 
@@ -106,25 +106,25 @@ IsJournal rows = EachNext [] rows
 -- follows it doesn't matter
 pub record SpellsRows (bytes : List ℕ) (rows : List Row) : Type 0 where
   pub journal : IsJournal rows
-  pub front : Holds bytes 0 (spelled rows)
-  pub within : length (spelled rows) < length bytes
-  pub closed : slice_index bytes (length (spelled rows)) ≢ 1
+  pub front : Holds bytes 0 (journal_bytes rows)
+  pub within : length (journal_bytes rows) < length bytes
+  pub closed : slice_index bytes (length (journal_bytes rows)) ≢ 1
 
 -- no row that may stand behind these stands past the gate at this place
 abbrev pub NoRowBehind : List ℕ → ℕ → List Row → Type 0
 NoRowBehind bytes place rows =
-    (r : Row) → IsNext rows r → Holds bytes (place + 1) (body r) → ⊥
+    (r : Row) → IsNext rows r → Holds bytes (place + 1) (row_body r) → ⊥
 
 -- The bytes have the header and these rows. At the place behind them a gate is missing, or it is
 -- open and no row that may stand there follows.
 pub record IsCorrupt (bytes : List ℕ) (place : ℕ) : Type 0 where
   pub rows : List Row
   pub journal : IsJournal rows
-  pub front : Holds bytes 0 (spelled rows)
-  pub behind : place ≡ length (spelled rows)
+  pub front : Holds bytes 0 (journal_bytes rows)
+  pub behind : place ≡ length (journal_bytes rows)
   pub gate :
       (length bytes ≤ place) ⊎ ((slice_index bytes place ≡ 1) × NoRowBehind bytes place rows)
 
 -- the first 16 bytes aren't the header
 abbrev pub HasNoHeader : List ℕ → Type 0
-HasNoHeader bytes = Holds bytes 0 header → ⊥
+HasNoHeader bytes = Holds bytes 0 journal_header → ⊥

@@ -10,7 +10,7 @@ abbrev pub use_of : List Command → ℕ
 use_of commands = if is_free commands then 0 else 1
 
 -- of each session the number of its rows, up to 8,192, and 1 where it is in use
-pub record Counts (rows : List Row) (counts uses : List ℕ) : Type 0 where
+pub record CountsRows (rows : List Row) (counts uses : List ℕ) : Type 0 where
   pub count :
       (s : ℕ) → s < 64 → slice_index counts s ≡ min (length (commands_of rows s)) 8192
   pub used : (s : ℕ) → s < 64 → slice_index uses s ≡ use_of (commands_of rows s)

@@ -3,7 +3,7 @@
 ghost use Rattle.std.specs.Prelude.{◌≡◌, ◌≤◌, ◌<◌, ◌⊎◌, ◌++◌, [], ◌∷◌};
 ghost use Rattle.std.specs.Prelude.{IsTrue, OnOk, IfErr, MatchResult, length, max};
 ghost use Rattle.disk_model.specs.Disk.{Only, SameDisk, LeavesOnly, AfterWrite, OnlyLooks};
-ghost use Rattle.gate_journal.specs.Rows.{header};
+ghost use Rattle.gate_journal.specs.Rows.{journal_header};
 ghost use Rattle.gate_journal.specs.Faults.{HasInitCause};
 ghost use Rattle.gate_journal.specs.declared.fault.InitFault.TheVariants as InitFault;
 
@@ -17,7 +17,7 @@ const EMPTY: [u8; 17] = [83, 84, 72, 74, 0, 0, 0, 1, 0, 0, 0, 0, 0, 0, 0, 0, 0];
 pub fn init<D: Disk>(disk: &mut D) -> Result<(), InitFault>
     // From then on a stop leaves the 17 bytes and nothing else.
     ensures ok { OnOk result (IsTrue (D.tells disk.old)
-        → (D.seen disk.old ≡ []) × Only (header ++ 0 ∷ []) (D.may_leave disk.new)) }
+        → (D.seen disk.old ≡ []) × Only (journal_header ++ 0 ∷ []) (D.may_leave disk.new)) }
     ensures exact { MatchResult result (λ _. D.faults disk.new ≡ D.faults disk.old)
         (λ e. HasInitCause (D.tells disk.old) (D.seen disk.old)
         (D.faults disk.old) (D.faults disk.new) e) }

@@ -4,7 +4,7 @@ ghost use Rattle.std.specs.Prelude.{◌≡◌, ◌↔◌, ◌+◌, ◌≤◌, If
 ghost use Rattle.story_text.specs.Text.{IsText};
 ghost use Rattle.gate_journal.specs.Command.{IsCommand, HasDigest};
 ghost use Rattle.gate_journal.specs.declared.command.Command.TheVariants as Command;
-ghost use Rattle.gate_journal.specs.Rows.{is_open, is_close, kind_of, payload_of};
+ghost use Rattle.gate_journal.specs.Rows.{is_open, is_close, command_kind, payload_of};
 
 use line_words::{Key, is_code, is_key, is_terminator};
 use std::alloc::{AllocError, Global};
@@ -132,7 +132,7 @@ impl Command {
 
     /// The number of its kind.
     pub(crate) fn kind(&self) -> u8
-        ensures { result ≡ kind_of self.now }
+        ensures { result ≡ command_kind self.now }
     {
         match self {
             Command::Open { .. } => 1,

@@ -4,7 +4,7 @@ ghost use Rattle.std.specs.Prelude.{◌≡◌, ◌++◌, ◌<◌, ◌≤◌, [],
 ghost use Rattle.std.specs.Prelude.{OnOk, MatchOption, length};
 ghost use Rattle.std.specs.Prelude.{slice_get, None, Some};
 ghost use Rattle.std.specs.Prelude.{IsTrue, ◌↔◌};
-ghost use Rattle.gate_journal.specs.Log.{rows_of, kept};
+ghost use Rattle.gate_journal.specs.Log.{rows_of, rows_kept};
 ghost use Rattle.gate_journal.specs.Rows.{MayStand};
 ghost use Rattle.gate_journal.specs.declared.entry.Entry.TheVariants.{Kept, Faulted};
 
@@ -25,12 +25,12 @@ pub struct History {
 
 impl Model for History {
     ghost use Rattle.std.specs.Prelude.{◌≡◌, length, vec_len, vec_capacity, nat_lt, ◌&&◌};
-    ghost use Rattle.gate_journal.specs.History.{Entries, woven, count_rows};
+    ghost use Rattle.gate_journal.specs.History.{Entries, rows_woven, count_rows};
 
     ghost Value = { Entries };
 
     ghost view = { λ h. record {
-      list = woven h.marks.items h.rows.items;
+      list = rows_woven h.marks.items h.rows.items;
       room = nat_lt (vec_len h.rows) (vec_capacity h.rows)
           && nat_lt (vec_len h.marks) (vec_capacity h.marks);
     } };
@@ -50,7 +50,7 @@ impl History {
 
     /// These rows, and no faults; an error where memory runs out.
     pub fn of(alloc: Global, rows: Vec<Row>) -> Result<History, AllocError>
-        ensures { IfOk result (λ h. h.list ≡ kept rows.items) }
+        ensures { IfOk result (λ h. h.list ≡ rows_kept rows.items) }
     {
         let marks = vec![in alloc; Mark::Row; rows.len()]?;
         Ok(History { rows, marks })

@@ -5,7 +5,7 @@ ghost use Rattle.std.specs.Prelude.{◌↔◌, List, true};
 ghost use Rattle.std.specs.Prelude.{IsTrue, IsOk, IfOk, IfErr, OnOk, MatchOption, MatchResult};
 ghost use Rattle.std.specs.Prelude.{Some, None, length, max, slice_get, slice_index};
 ghost use Rattle.disk_model.specs.Disk.{EachImage, LeavesOnly, SameDisk, OnlyLooks};
-ghost use Rattle.gate_journal.specs.Rows.{spelled, IsJournal, MayStand, SpellsRows};
+ghost use Rattle.gate_journal.specs.Rows.{journal_bytes, IsJournal, MayStand, SpellsRows};
 ghost use Rattle.gate_journal.specs.Faults.{Explains, IsFault, IsNoFault, HasCause};
 ghost use Rattle.gate_journal.specs.declared.row.Row.{Row};
 ghost use Rattle.gate_journal.specs.declared.entry.Entry.TheVariants.{Kept, Faulted};
@@ -41,7 +41,7 @@ pub struct Journal<D: Disk> {
 
 impl<D: Disk> Model for Journal<D> {
     ghost use Rattle.std.specs.Prelude.{is_some, ◌&&◌};
-    ghost use Rattle.gate_journal.specs.Log.{Log, IsSound, IsSinceOpened};
+    ghost use Rattle.gate_journal.specs.Log.{Log, IsSoundJournal, IsSinceOpened};
 
     ghost Value = { Log D };
 
@@ -53,7 +53,7 @@ impl<D: Disk> Model for Journal<D> {
       ready = is_some j.room && j.history.room;
     } };
 
-    ghost invariant = { λ j. IsSound D.tells D.may_leave D.room D.faults
+    ghost invariant = { λ j. IsSoundJournal D.tells D.may_leave D.room D.faults
         (record {
           disk = j.disk;
           entries = j.history.list;
@@ -73,7 +73,7 @@ impl<D: Disk> Model for Journal<D> {
 }
 
 impl<D: Disk> Told for Journal<D> {
-    ghost use Rattle.gate_journal.specs.Log.{Opening, number_of};
+    ghost use Rattle.gate_journal.specs.Log.{Opening, entry_number};
 
     type Entry = Entry;
 
@@ -81,7 +81,7 @@ impl<D: Disk> Told for Journal<D> {
 
     ghost entries = { λ j. j.entries };
 
-    ghost by = { number_of };
+    ghost by = { entry_number };
 
     ghost tag = { λ j. j.opening };
 
@@ -91,7 +91,7 @@ impl<D: Disk> Told for Journal<D> {
 }
 
 impl<D: Disk> Journal<D> {
-    ghost use Rattle.gate_journal.specs.Log.{rows_of, kept, Rises, SameLog, next_row, end_of};
+    ghost use Rattle.gate_journal.specs.Log.{rows_of, rows_kept, Rises, SameLog, next_row, row_end};
     ghost use Rattle.gate_journal.specs.Log.{MaySpell, MayOpen, Meanwhile, ReachesGate};
     ghost use Rattle.gate_journal.specs.Log.{IsSinceOpened};
 
@@ -100,7 +100,7 @@ impl<D: Disk> Journal<D> {
     pub fn open(alloc: Global, disk: D) -> Result<Journal<D>, (JournalFault, D)>
         ensures ok { IfOk result (λ j. IsTrue (D.tells disk)
             → SpellsRows (D.seen disk) (rows_of j.entries)) }
-        ensures fresh { IfOk result (λ j. (j.entries ≡ kept (rows_of j.entries))
+        ensures fresh { IfOk result (λ j. (j.entries ≡ rows_kept (rows_of j.entries))
             × (j.uncertain ≡ None)
             × (j.opening ≡ record { disk = disk; found = length j.entries })) }
         ensures exact { IfErr result (λ e. IsTrue (D.tells disk)
@@ -134,13 +134,13 @@ impl<D: Disk> Journal<D> {
             (λ e. D.reach e.1 ≤ max (D.reach disk) (length (D.seen disk))) }
         // Nothing is written behind the closing gate, and nothing where it isn't known.
         ensures ends { IfOk result (λ j. D.reach j.disk
-            ≤ max (D.reach disk) (length (spelled (rows_of j.entries)) + 1)) }
+            ≤ max (D.reach disk) (length (journal_bytes (rows_of j.entries)) + 1)) }
         ensures writes { IsTrue (D.tells disk) → MatchResult result
             (λ j. ReachesGate (D.seen disk) (D.reach disk) (D.reach j.disk))
             (λ e. ReachesGate (D.seen disk) (D.reach disk) (D.reach e.1)) }
         // A closing gate that is 0 is left alone.
         ensures untouched { IfOk result (λ j. IsTrue (D.tells disk)
-            → slice_index (D.seen disk) (length (spelled (rows_of j.entries))) ≡ 0
+            → slice_index (D.seen disk) (length (journal_bytes (rows_of j.entries))) ≡ 0
             → D.reach j.disk ≡ D.reach disk) }
     {
         let opened = Snapshot::of(&disk);
@@ -190,12 +190,12 @@ impl<D: Disk> Journal<D> {
 
         // From then on each image spells the row: it is an entry, and no gate is uncertain.
         ensures ok { IfOk result (λ place.
-            (place ≡ length (spelled (rows_of self.old.entries)))
+            (place ≡ length (journal_bytes (rows_of self.old.entries)))
             × (self.new.entries ≡ self.old.entries
             ++ Kept (next_row (rows_of self.old.entries) session command.now) ∷ [])
             × (self.new.uncertain ≡ None)) }
         ensures works { IsTrue (D.steady self.old.disk)
-            → (end_of (next_row (rows_of self.old.entries) session command.now)
+            → (row_end (next_row (rows_of self.old.entries) session command.now)
             ≤ D.room self.old.disk → IsOk result)
             × IsTrue (D.steady self.new.disk) }
 
@@ -225,7 +225,7 @@ impl<D: Disk> Journal<D> {
             (Meanwhile (rows_of self.old.entries) self.old.uncertain
             (next_row (rows_of self.old.entries) session command.now)) }
         ensures reach { D.reach self.new.disk ≤ max (D.reach self.old.disk)
-            (end_of (next_row (rows_of self.old.entries) session command.now)) }
+            (row_end (next_row (rows_of self.old.entries) session command.now)) }
     {
         let from = self.disk.faults();
         let by = u64::from(session) + 1;

@@ -6,8 +6,8 @@ ghost use Rattle.disk_model.specs.Disk.{EachImage, LeavesOnly, SameDisk, OnlyLoo
 ghost use Rattle.gate_journal.specs.Faults.{Explains, IsOfDisk, IsNoFault, UnlessFault};
 ghost use Rattle.gate_journal.specs.Faults.{IsFault, CountsOpening};
 ghost use Rattle.gate_journal.specs.Gate.{IsShut};
-ghost use Rattle.gate_journal.specs.Rows.{spelled, SpellsRows, IsJournal};
-ghost use Rattle.gate_journal.specs.Log.{MayOpen, ReachesGate, rows_of, kept};
+ghost use Rattle.gate_journal.specs.Rows.{journal_bytes, SpellsRows, IsJournal};
+ghost use Rattle.gate_journal.specs.Log.{MayOpen, ReachesGate, rows_of, rows_kept};
 ghost use Rattle.gate_journal.specs.declared.row.Row.{Row};
 ghost use Rattle.gate_journal.specs.declared.fault.JournalFault.TheVariants.{DiskFault as on_disk};
 
@@ -54,12 +54,12 @@ fn read_all<D: Disk>(alloc: Global, disk: &mut D) -> Result<Vec<u8>, JournalFaul
 pub fn load<D: Disk>(alloc: Global, disk: &mut D) -> Result<Parsed, JournalFault>
     ensures ok { IfOk result (λ p. IsTrue (D.tells disk.old)
         → SpellsRows (D.seen disk.old) (rows_of p.history.list)) }
-    ensures fresh { IfOk result (λ p. p.history.list ≡ kept (rows_of p.history.list)) }
+    ensures fresh { IfOk result (λ p. p.history.list ≡ rows_kept (rows_of p.history.list)) }
     ensures journal { IfOk result (λ p. IsJournal (rows_of p.history.list)
-        × (p.end ≡ length (spelled (rows_of p.history.list)))
+        × (p.end ≡ length (journal_bytes (rows_of p.history.list)))
         × (p.end < D.room disk.old)) }
     ensures shut { IfOk result (λ p. EachImage D.tells D.may_leave disk.new
-        (IsShut (spelled (rows_of p.history.list)))) }
+        (IsShut (journal_bytes (rows_of p.history.list)))) }
     ensures exact { IfErr result (λ e. IsTrue (D.tells disk.old)
         → Explains (D.seen disk.old) e) }
     // Unless the disk failed a refusal leaves it as it was.

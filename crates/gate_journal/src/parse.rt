@@ -3,11 +3,11 @@
 ghost use Rattle.std.specs.Prelude.{◌≡◌, ◌+◌, ◌≤◌, ◌++◌, [], List, ℕ};
 ghost use Rattle.std.specs.Prelude.{IfOk, IfErr, MatchOption};
 ghost use Rattle.std.specs.Prelude.{length, drop};
-ghost use Rattle.gate_journal.specs.Rows.{spelled, IsJournal, SpellsRows};
-ghost use Rattle.gate_journal.specs.Parsing.{IsFirst, IsNoNext};
-ghost use Rattle.gate_journal.specs.Seats.{Counts};
-ghost use Rattle.gate_journal.specs.Faults.{Refuses};
-ghost use Rattle.gate_journal.specs.Log.{rows_of, kept};
+ghost use Rattle.gate_journal.specs.Rows.{journal_bytes, IsJournal, SpellsRows};
+ghost use Rattle.gate_journal.specs.Parsing.{BeginsWithRow, IsNoNext};
+ghost use Rattle.gate_journal.specs.Seats.{CountsRows};
+ghost use Rattle.gate_journal.specs.Faults.{RefusesBytes};
+ghost use Rattle.gate_journal.specs.Log.{rows_of, rows_kept};
 ghost use Rattle.gate_journal.specs.declared.row.Row.{Row};
 
 use crate::fault::JournalFault;
@@ -29,14 +29,15 @@ pub struct Rows {
 
 impl Model for Rows {
     ghost use Rattle.std.specs.Prelude.{◌≡◌, List, length};
-    ghost use Rattle.gate_journal.specs.Rows.{spelled, IsJournal};
+    ghost use Rattle.gate_journal.specs.Rows.{journal_bytes, IsJournal};
     ghost use Rattle.gate_journal.specs.declared.row.Row.{Row};
 
     ghost Value = { List Row };
 
     ghost view = { λ r. r.list.items };
 
-    ghost invariant = { λ r. IsJournal r.list.items × (r.end ≡ length (spelled r.list.items)) };
+    ghost invariant = { λ r. IsJournal r.list.items
+        × (r.end ≡ length (journal_bytes r.list.items)) };
 }
 
 impl Rows {
@@ -60,7 +61,7 @@ impl Rows {
 
     /// The place of the closing gate.
     pub fn end(&self) -> u64
-        ensures { result ≡ length (spelled self.now) }
+        ensures { result ≡ length (journal_bytes self.now) }
     {
         self.end
     }
@@ -81,9 +82,9 @@ fn next_row(
     past: &[u8],
 ) -> Result<Option<Row>, AllocError>
     ensures { IfOk result (λ o. (rows : List Row)
-        → Counts rows seats.now.counts seats.now.uses
-        → place ≡ length (spelled rows)
-        → MatchOption o (IsNoNext rows past.now) (IsFirst rows past.now)) }
+        → CountsRows rows seats.now.counts seats.now.uses
+        → place ≡ length (journal_bytes rows)
+        → MatchOption o (IsNoNext rows past.now) (BeginsWithRow rows past.now)) }
 {
     let [session, kind, high, low, rest @ ..] = past else {
         return Ok(None);
@@ -109,7 +110,7 @@ fn next_row(
 /// The row that may stand next behind these rows, where the bytes past a gate begin with one.
 pub fn row_behind(alloc: Global, rows: &Rows, past: &[u8]) -> Result<Option<Row>, AllocError>
     ensures { IfOk result (λ o.
-        MatchOption o (IsNoNext rows.now past.now) (IsFirst rows.now past.now)) }
+        MatchOption o (IsNoNext rows.now past.now) (BeginsWithRow rows.now past.now)) }
 {
     let seats = Seats::of(rows.as_slice());
     next_row(alloc, &seats, rows.end, past)
@@ -118,7 +119,7 @@ pub fn row_behind(alloc: Global, rows: &Rows, past: &[u8]) -> Result<Option<Row>
 /// The rows that the bytes spell.
 pub fn read_rows(alloc: Global, bytes: &[u8]) -> Result<Rows, JournalFault>
     ensures ok { IfOk result (λ rows. SpellsRows bytes.now rows) }
-    ensures exact { IfErr result (Refuses bytes.now) }
+    ensures exact { IfErr result (RefusesBytes bytes.now) }
 {
     if !bytes.starts_with(&HEADER) {
         return Err(JournalFault::NotJournal);
@@ -149,9 +150,9 @@ pub fn read_rows(alloc: Global, bytes: &[u8]) -> Result<Rows, JournalFault>
 /// The rows that the bytes spell, as entries, and the place of the closing gate.
 pub fn parse(alloc: Global, bytes: &[u8]) -> Result<Parsed, JournalFault>
     ensures ok { IfOk result (λ p. SpellsRows bytes.now (rows_of p.history.list)
-        × (p.end ≡ length (spelled (rows_of p.history.list)))) }
-    ensures fresh { IfOk result (λ p. p.history.list ≡ kept (rows_of p.history.list)) }
-    ensures exact { IfErr result (Refuses bytes.now) }
+        × (p.end ≡ length (journal_bytes (rows_of p.history.list)))) }
+    ensures fresh { IfOk result (λ p. p.history.list ≡ rows_kept (rows_of p.history.list)) }
+    ensures exact { IfErr result (RefusesBytes bytes.now) }
 {
     let Rows { list, end } = read_rows(alloc, bytes)?;
     let history = History::of(alloc, list)?;

@@ -7,7 +7,7 @@ ghost use Rattle.std.specs.Prelude.{true, IfOk};
 ghost use Rattle.story_text.specs.Text.{IsText};
 ghost use Rattle.line_words.specs.Field.{is_key};
 ghost use Rattle.gate_journal.specs.Command.{IsCommand};
-ghost use Rattle.gate_journal.specs.Rows.{payload_of, body};
+ghost use Rattle.gate_journal.specs.Rows.{payload_of, row_body};
 ghost use Rattle.gate_journal.specs.declared.row.Row.{Row};
 
 use crate::command::Command;
@@ -93,7 +93,7 @@ fn put_row(out: &mut Vec<u8>, session: u8, command: &Command)
     requires fits { 4109 ≤ vec_capacity out.old }
     requires ranges { IsCommand command.now }
     ensures { (r : Row) → r.session ≡ session → r.command ≡ command.now
-        → out.new.items ≡ body r ++ 0 ∷ [] }
+        → out.new.items ≡ row_body r ++ 0 ∷ [] }
 {
     let size = command.payload_len() as u16;
     put(out, &[session, command.kind()]);
@@ -107,7 +107,7 @@ fn put_row(out: &mut Vec<u8>, session: u8, command: &Command)
 pub fn row_bytes(alloc: Global, session: u8, command: &Command) -> Result<Vec<u8>, AllocError>
     requires { IsCommand command.now }
     ensures { IfOk result (λ bytes. (r : Row) → r.session ≡ session → r.command ≡ command.now
-        → bytes.items ≡ body r ++ 0 ∷ []) }
+        → bytes.items ≡ row_body r ++ 0 ∷ []) }
 {
     let mut bytes = Vec::with_capacity(alloc, MAX_ROW)?;
     put_row(&mut bytes, session, command);
@@ -199,7 +199,7 @@ impl Room {
           by = session + 1;
           command = command.now;
         } }
-        ensures bytes { result.1.items ≡ body result.0 ++ 0 ∷ [] }
+        ensures bytes { result.1.items ≡ row_body result.0 ++ 0 ∷ [] }
     {
         let Room {
             key,

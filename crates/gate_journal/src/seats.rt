@@ -3,7 +3,7 @@
 ghost use Rattle.std.specs.Prelude.{◌≡◌, ◌++◌, ◌∷◌, ◌↔◌, [], ◌<◌};
 ghost use Rattle.std.specs.Prelude.{IsTrue, List};
 ghost use Rattle.gate_journal.specs.Rows.{MayStand};
-ghost use Rattle.gate_journal.specs.Seats.{Counts};
+ghost use Rattle.gate_journal.specs.Seats.{CountsRows};
 ghost use Rattle.gate_journal.specs.declared.row.Row.{Row};
 
 use crate::command::Command;
@@ -23,7 +23,7 @@ pub struct Seats {
 impl Seats {
     /// Those of no rows.
     pub fn new() -> Seats
-        ensures { Counts [] result.counts result.uses }
+        ensures { CountsRows [] result.counts result.uses }
     {
         Seats {
             counts: [0; 64],
@@ -33,7 +33,7 @@ impl Seats {
 
     /// Those of these rows.
     pub fn of(rows: &[Row]) -> Seats
-        ensures { Counts rows.now result.counts result.uses }
+        ensures { CountsRows rows.now result.counts result.uses }
     {
         let mut seats = Seats::new();
         for row in rows {
@@ -46,7 +46,7 @@ impl Seats {
 
     /// Whether a row of this session with this command may stand behind the rows that were counted.
     pub fn may_stand(&self, session: u8, command: &Command) -> bool
-        ensures { (rows : List Row) → Counts rows self.now.counts self.now.uses
+        ensures { (rows : List Row) → CountsRows rows self.now.counts self.now.uses
             → (IsTrue result ↔ MayStand rows session command.now) }
     {
         if session >= 64 || !command.is_in_range() {
@@ -63,8 +63,8 @@ impl Seats {
         requires { session < 64 }
         ensures { (rows : List Row) (r : Row)
             → r.session ≡ session → r.command ≡ command.now
-            → Counts rows self.old.counts self.old.uses
-            → Counts (rows ++ r ∷ []) self.new.counts self.new.uses }
+            → CountsRows rows self.old.counts self.old.uses
+            → CountsRows (rows ++ r ∷ []) self.new.counts self.new.uses }
     {
         let at = usize::from(session);
         self.counts[at] = self.counts[at].saturating_add(1).min(MAX_ROWS);

@@ -2,8 +2,8 @@
 
 ghost use Rattle.std.specs.Prelude.{◌≡◌, ◌+◌, List, MatchResult, length, None, Some};
 ghost use Rattle.disk_model.specs.Work.{Ran, Triple};
-ghost use Rattle.gate_journal.specs.Rows.{spelled};
-ghost use Rattle.gate_journal.specs.Log.{StandsAt};
+ghost use Rattle.gate_journal.specs.Rows.{journal_bytes};
+ghost use Rattle.gate_journal.specs.Log.{StandsInImage};
 ghost use Rattle.gate_journal.specs.declared.row.Row.{Row};
 
 use crate::gate::repair;
@@ -12,9 +12,10 @@ use disk_model::{Disk, Failed};
 
 /// Closes the gate at this end, where it is uncertain; else it leaves it alone.
 pub fn settle<D: Disk>(disk: &mut D, uncertain: &mut Option<Row>, end: u64) -> Result<(), Failed>
-    ensures triple { (rows : List Row) → end ≡ length (spelled rows)
+    ensures triple { (rows : List Row) → end ≡ length (journal_bytes rows)
         → Triple D.tells D.may_leave D.moment D.left_since result disk.old disk.new
-        (StandsAt rows uncertain.old) (StandsAt rows uncertain.old) (StandsAt rows None) }
+        (StandsInImage rows uncertain.old) (StandsInImage rows uncertain.old)
+        (StandsInImage rows None) }
     ensures gate { MatchResult result (λ _. uncertain.new ≡ None)
         (λ _. uncertain.new ≡ uncertain.old) }
     ensures untouched { uncertain.old ≡ None → disk.new ≡ disk.old }

@@ -6,8 +6,8 @@ use Rattle.std.proofs.lemmas.Grind.{common_steps}
 use Rattle.std.proofs.lemmas.Bool.{cases_Bool}
 use Rattle.glk_numbers.specs.Numbered.{ascends, found, without}
 use Rattle.glk_windows.specs.Tree as tree
-use Rattle.glk_windows.specs.Closing.{close, ended, removed}
-use Rattle.glk_windows.specs.OneTree.{IsTree, Shape, size, top}
+use Rattle.glk_windows.specs.Closing.{close, sibling_lifted, removed}
+use Rattle.glk_windows.specs.OneTree.{IsTree, Shape, tree_size, top}
 use Rattle.glk_windows.specs.Valid.{Ascends, IsOrdered}
 use Rattle.glk_windows.specs.declared.window.Window.{Window}
 use Rattle.glk_windows.proofs.CutLemmas.{size_length}
@@ -18,9 +18,9 @@ use Rattle.glk_streams.proofs.ValidLemmas.{ascends-without}
 use Rattle.glk_streams.specs.Opening as sopen
 use Rattle.glk_streams.specs.Streams as streams
 use Rattle.glk_streams.specs.declared.stream.Stream.{Stream}
-use Rattle.glk_dispatch.specs.Glk.{is_window}
-use Rattle.glk_dispatch.specs.Links.{Link, end_of, link_of, owner, stream_in}
-use Rattle.glk_dispatch.specs.Valid.{AreValid, IsReady}
+use Rattle.glk_dispatch.specs.Glk.{has_window}
+use Rattle.glk_dispatch.specs.Links.{Link, stream_end, window_link, owner, live_stream}
+use Rattle.glk_dispatch.specs.Valid.{AreValid, IsReadyGlk}
 use Rattle.glk_dispatch.specs.Windows as rows
 use Rattle.glk_dispatch.specs.declared.glk.Glk.{Glk}
 use Rattle.glk_dispatch.proofs.AskLemmas.{asked-by, asked-less}
@@ -35,8 +35,8 @@ use Rattle.glk_dispatch.proofs.EchoLemmas.{no-window, streams-ascend}
 
 -- ---- no stream is of a number that no window has
 
-none-owned : (ss : List Stream) (low high n : ℕ) → ascends streams.number_of low high ss ≡ true
-    → ((k : ℕ) → owner (option_map end_of (found streams.number_of ss k)) ≡ Some n → ⊥)
+none-owned : (ss : List Stream) (low high n : ℕ) → ascends streams.stream_number low high ss ≡ true
+    → ((k : ℕ) → owner (option_map stream_end (found streams.stream_number ss k)) ≡ Some n → ⊥)
     → streams.stream_of_window ss n ≡ 0
 unfolding found ascends streams.stream_of_window
 none-owned [] low high n a h = refl
@@ -44,36 +44,36 @@ none-owned (s ∷ ss) low high n a h = elim (cases_Bool (streams.is_of_window n 
   | inl e ↦
       let here : (s.number == s.number) ≡ true = grind (arith, common_steps) in
       absurd (h s.number
-      (ap (λ b. owner (option_map end_of (cond b (Some s) (found streams.number_of ss s.number))))
+      (ap (λ b. owner (option_map stream_end (cond b (Some s) (found streams.stream_number ss s.number))))
       here ∙ is-of s.target n e))
   | inr e ↦
-      let order : ascends streams.number_of s.number high ss ≡ true =
+      let order : ascends streams.stream_number s.number high ss ≡ true =
       grind (arith, common_steps, a) in
       ap (λ b. cond b s.number (streams.stream_of_window ss n)) e
       ∙ none-owned ss s.number high n order (λ k own. h k (behind k order own))
 ]
   where
-    behind : (k : ℕ) → ascends streams.number_of s.number high ss ≡ true
-        → owner (option_map end_of (found streams.number_of ss k)) ≡ Some n
-        → owner (option_map end_of (cond (s.number == k) (Some s) (found streams.number_of ss k)))
+    behind : (k : ℕ) → ascends streams.stream_number s.number high ss ≡ true
+        → owner (option_map stream_end (found streams.stream_number ss k)) ≡ Some n
+        → owner (option_map stream_end (cond (s.number == k) (Some s) (found streams.stream_number ss k)))
         ≡ Some n
     behind k order own = elim (cases_Bool (s.number == k)) [
       | inl x ↦
           let le : k ≤ s.number = grind (arith, common_steps, x) in
           let c : None ≡ Some n =
-          sym (ap (λ o. owner (option_map end_of o))
-          (found-low streams.number_of ss s.number high k order le)) ∙ own in
+          sym (ap (λ o. owner (option_map stream_end o))
+          (found-low streams.stream_number ss s.number high k order le)) ∙ own in
           absurd cc
       | inr x ↦
-          ap (λ b. owner (option_map end_of (cond b (Some s) (found streams.number_of ss k)))) x
+          ap (λ b. owner (option_map stream_end (cond b (Some s) (found streams.stream_number ss k)))) x
           ∙ own
     ]
 
 -- dropping such a number drops nothing
 none-left : (us : List Window) (g : Glk) (z : ℕ) → Ascends 1 us z → AreLeft us g
-    → AreLeft us (rows.dropped g 0)
+    → AreLeft us (rows.window_dropped g 0)
 none-left us g z o v = record {
-  order = ascends-without streams.number_of g.streams.streams 0 g.streams.next
+  order = ascends-without streams.stream_number g.streams.streams 0 g.streams.next
       (streams.stream_of_window g.streams.streams 0) v.order;
   linked = linked-same (links_in us) (ends_in g.streams) (links_in us)
       (ends_in (sopen.closed_window g.streams 0).0)
@@ -83,27 +83,27 @@ none-left us g z o v = record {
 }
   where
     none : links_in us 0 ≡ None
-    none = ap (option_map link_of) (no-window us 1 z 0 o (omega arith))
+    none = ap (option_map window_link) (no-window us 1 z 0 o (omega arith))
 
     no_stream : streams.stream_of_window g.streams.streams 0 ≡ 0
     no_stream = none-owned g.streams.streams 0 g.streams.next 0 v.order (λ k own.
-        (let c : None ≡ Some k = sym (ap stream_in none) ∙ v.linked.windows k 0 own in absurd cc))
+        (let c : None ≡ Some k = sym (ap live_stream none) ∙ v.linked.windows k 0 own in absurd cc))
 
     same-ends : (m : ℕ) → ends_in (sopen.closed_window g.streams 0).0 m ≡ ends_in g.streams m
     same-ends m =
-        ap (λ j. option_map end_of
-        (found streams.number_of (without streams.number_of g.streams.streams j) m)) no_stream
-        ∙ ap (option_map end_of)
-        (found-without streams.number_of g.streams.streams 0 g.streams.next 0 m v.order)
+        ap (λ j. option_map stream_end
+        (found streams.stream_number (without streams.stream_number g.streams.streams j) m)) no_stream
+        ∙ ap (option_map stream_end)
+        (found-without streams.stream_number g.streams.streams 0 g.streams.next 0 m v.order)
         ∙ at-zero (m == 0) refl
       where
         at-zero : (b : Bool) → (m == 0) ≡ b
-            → option_map end_of (cond b None (found streams.number_of g.streams.streams m))
-            ≡ option_map end_of (found streams.number_of g.streams.streams m)
+            → option_map stream_end (cond b None (found streams.stream_number g.streams.streams m))
+            ≡ option_map stream_end (found streams.stream_number g.streams.streams m)
         at-zero true e =
             let m_is : m ≤ 0 = grind (arith, common_steps, e) in
-            sym (ap (option_map end_of)
-            (found-low streams.number_of g.streams.streams 0 g.streams.next m v.order m_is))
+            sym (ap (option_map stream_end)
+            (found-low streams.stream_number g.streams.streams 0 g.streams.next m v.order m_is))
         at-zero false e = refl
 
     same-link : (m : ℕ) (o : Option Link) → ((m == 0) ≡ true) ⊎ ((m == 0) ≡ false)
@@ -129,7 +129,7 @@ unfolding IsOrdered
 root-left g s n o h e v =
     let ws : List Window = g.windows.slots in
     let d : ℕ = length ws in
-    let few : size s ≤ d =
+    let few : tree_size s ≤ d =
     omega (arith, size_length 1 ws g.windows.next 0 s o h.1 h.2) in
     let all : AreLeft (removed d ws (top s)) (rows.all_dropped d g (top s)) =
     removed-left d s ws g 0 g.windows.next few o h.1 (λ m. once_le _ _ (h.2 m)) (λ m l. refl) v in
@@ -139,17 +139,17 @@ root-left g s n o h e v =
     ap (tree.parent_of ws) (sym e) ∙ sym (node_parent ws (top s) _ (spells_top ws s 0 h.1)) in
     let order : Ascends 1 (removed d ws n) g.windows.next =
     ascends-removed d 1 ws g.windows.next n o in
-    let last : AreLeft (removed d ws n) (rows.dropped (rows.all_dropped d g n) 0) =
+    let last : AreLeft (removed d ws n) (rows.window_dropped (rows.all_dropped d g n) 0) =
     none-left (removed d ws n) (rows.all_dropped d g n) g.windows.next order all_n in
     left-true (tree.parent_of ws n == 0) (record g.windows { slots = removed d ws n; root = 0 })
-    (ended (record g.windows { slots = removed d ws n }) (tree.parent_of ws n)
+    (sibling_lifted (record g.windows { slots = removed d ws n }) (tree.parent_of ws n)
     (tree.pair_of (removed d ws n) (tree.parent_of ws n)) n)
     (rows.closed_dropped g n) (ap (λ j. j == 0) above)
-    (subst (λ j. AreLeft (removed d ws n) (rows.dropped (rows.all_dropped d g n) j)) (sym above)
+    (subst (λ j. AreLeft (removed d ws n) (rows.window_dropped (rows.all_dropped d g n) j)) (sym above)
     last)
 
 close-left : (g : Glk) (n : ℕ) → IsOrdered g.windows → SomeTree g.windows
-    → is_window g n ≡ true → AreLeft g.windows.slots g
+    → has_window g n ≡ true → AreLeft g.windows.slots g
     → AreLeft (close g.windows n).slots (rows.closed_dropped g n)
 close-left g n o (None, h, k) live v =
     let x = node_live g.windows.slots n live in absurd (node_nil g.windows.slots n x.0 h.1 x.1)
@@ -161,8 +161,8 @@ close-left g n o (Some s, h, k) live v =
     ]
 
 -- the closed windows, beside what was dropped with them, get their rectangles
-pub closed-ready : (g : Glk) (win : ℕ) → IsReady g → is_window g win ≡ true
-    → AreValid (rows.ended g win) → AreValid (rows.closed g win) → IsReady (rows.closed g win)
+pub closed-ready : (g : Glk) (win : ℕ) → IsReadyGlk g → has_window g win ≡ true
+    → AreValid (rows.window_ended g win) → AreValid (rows.glk_without_window g win) → IsReadyGlk (rows.glk_without_window g win)
 closed-ready g win v live ended parts =
     let d = length g.windows.slots in
     let c = rows.closed_dropped g win in
@@ -177,7 +177,7 @@ closed-ready g win v live ended parts =
     let there : AreLeft (close c.windows win).slots c =
     subst (λ t. AreLeft (close t win).slots c) (sym same) left in
     record {
-      valid = placed-valid (rows.ended g win) parts ended.windows
+      valid = placed-valid (rows.window_ended g win) parts ended.windows
           (record { linked = there.linked; asked = there.asked });
       rests = record {
         event = all_dropped-same (λ h. h.event) (λ h n. refl) d g win ∙ v.rests.event;

@@ -12,7 +12,7 @@ use Rattle.glk_windows.specs.Valid as wvalid
 use Rattle.glk_input.specs.Request as request
 use Rattle.glk_input.specs.Valid as ivalid
 use Rattle.glk_dispatch.specs.Fields.{EntriesFollowWindows, StreamsFollowWindows}
-use Rattle.glk_dispatch.specs.Links.{end_of, ends, link_of, links, owner, owner_in, stream_in}
+use Rattle.glk_dispatch.specs.Links.{stream_end, stream_ends, window_link, links, owner, owner_in, live_stream}
 use Rattle.glk_dispatch.proofs.CloseLemmas.{to-ascends}
 use Rattle.glk_dispatch.proofs.FoundLemmas.{found-low, has-found}
 
@@ -95,9 +95,9 @@ module _ {X Y : Type 0} (one : X → ℕ) (two : Y → ℕ) (high end : ℕ) whe
 pub entries_follow : EntriesFollowWindows
 unfolding wvalid.IsOrdered
 entries_follow g v =
-    let entries = and_parts (ascends request.number_of 0 4294967295 g.requests)
+    let entries = and_parts (ascends request.input_window_number 0 4294967295 g.requests)
     (ivalid.are_windows g.requests) v.parts.requests in
-    same-numbers request.number_of tree.number_of 4294967295 g.windows.next g.requests
+    same-numbers request.input_window_number tree.window_number 4294967295 g.windows.next g.requests
     g.windows.slots 0 entries.0
     (to-ascends g.windows.slots 0 g.windows.next v.parts.windows.ordered) v.asked.listed
 
@@ -107,21 +107,21 @@ pub streams_follow : StreamsFollowWindows
 streams_follow g s n w v h t k = both_ways (w.stream == s.number) (w.number == n)
     (λ e.
     let at : w.stream ≡ s.number = grind (arith, nat_tests, e) in
-    let one : owner (ends g w.stream) ≡ Some w.number =
-    v.linked.streams w.number (link_of w) (ap (option_map link_of) k) in
-    let two : owner (ends g w.stream) ≡ Some n = ap (λ m. owner (ends g m)) at ∙ owned in
+    let one : owner (stream_ends g w.stream) ≡ Some w.number =
+    v.linked.streams w.number (window_link w) (ap (option_map window_link) k) in
+    let two : owner (stream_ends g w.stream) ≡ Some n = ap (λ m. owner (stream_ends g m)) at ∙ owned in
     let same : Some w.number ≡ Some n = sym one ∙ two in
     let is : w.number ≡ n = cc in
     grind (arith, nat_tests, is))
     (λ e.
     let at : w.number ≡ n = grind (arith, nat_tests, e) in
-    let one : stream_in (links g w.number) ≡ Some s.number =
-    ap (λ m. stream_in (links g m)) at ∙ v.linked.windows s.number n owned in
-    let two : stream_in (links g w.number) ≡ Some w.stream =
-    ap (λ o. stream_in (option_map link_of o)) k in
+    let one : live_stream (links g w.number) ≡ Some s.number =
+    ap (λ m. live_stream (links g m)) at ∙ v.linked.windows s.number n owned in
+    let two : live_stream (links g w.number) ≡ Some w.stream =
+    ap (λ o. live_stream (option_map window_link o)) k in
     let same : Some w.stream ≡ Some s.number = sym two ∙ one in
     let is : w.stream ≡ s.number = cc in
     grind (arith, nat_tests, is))
   where
-    owned : owner (ends g s.number) ≡ Some n
-    owned = ap (λ o. owner (option_map end_of o)) h ∙ ap owner_in t
+    owned : owner (stream_ends g s.number) ≡ Some n
+    owned = ap (λ o. owner (option_map stream_end o)) h ∙ ap owner_in t

@@ -18,12 +18,12 @@ use Rattle.glk_dispatch.specs.Events.{may_ask}
 use Rattle.glk_dispatch.specs.Fields.{comes_to_an_end, entries_fit, entry_fits, is_named_by}
 use Rattle.glk_dispatch.specs.Fields.{is_owned, parts_fit, stream_fits, streams_fit, window_fits}
 use Rattle.glk_dispatch.specs.Fields.{windows_fit}
-use Rattle.glk_dispatch.specs.Glk.{is_stream, is_window}
+use Rattle.glk_dispatch.specs.Glk.{is_stream, has_window}
 use Rattle.glk_dispatch.specs.Links.{AreLinked, ComesToAnEnd, End, HasNoLoop, Link}
-use Rattle.glk_dispatch.specs.Links.{end_of, ends, is_plain, link_of, links, next, owner}
-use Rattle.glk_dispatch.specs.Links.{stream_in}
+use Rattle.glk_dispatch.specs.Links.{stream_end, stream_ends, is_plain_stream, window_link, links, next_echo, owner}
+use Rattle.glk_dispatch.specs.Links.{live_stream}
 use Rattle.glk_dispatch.specs.Output.{echo_from}
-use Rattle.glk_dispatch.specs.Valid.{AreAsked, AreValid, IsValid}
+use Rattle.glk_dispatch.specs.Valid.{AreAsked, AreValid, IsValidGlk}
 use Rattle.glk_dispatch.specs.declared.glk.Glk.{Glk}
 use Rattle.glk_dispatch.proofs.AskLemmas.{request_in, request-found}
 use Rattle.glk_dispatch.proofs.CloseLemmas.{to-ascends}
@@ -41,73 +41,73 @@ use Rattle.glk_dispatch.proofs.NamedLemmas.{stream-of-owner, target-named, windo
 module _ (g : Glk) (v : AreValid g) where
   window-fit : windows_fit g ≡ true → (n : ℕ) (w : Window)
       → tree.window_at g.windows.slots n ≡ Some w → window_fits g w ≡ true
-  window-fit e n w h = all-found tree.number_of (window_fits g) g.windows.slots n w e h
+  window-fit e n w h = all-found tree.window_number (window_fits g) g.windows.slots n w e h
 
   stream-fit : streams_fit g ≡ true → (n : ℕ) (s : Stream) → streams.stream_at g.streams n ≡ Some s
       → stream_fits g s ≡ true
-  stream-fit e n s h = all-found streams.number_of (stream_fits g) g.streams.streams n s e h
+  stream-fit e n s h = all-found streams.stream_number (stream_fits g) g.streams.streams n s e h
 
   owned-by : windows_fit g ≡ true → (win : ℕ) (l : Link) → links g win ≡ Some l
-      → owner (ends g l.stream) ≡ Some win
+      → owner (stream_ends g l.stream) ≡ Some win
   owned-by e win l h =
       let w = window-of-link (tree.window_at g.windows.slots win) l h in
       let t = and_parts (is_owned g w.0.number w.0.stream)
       ((w.0.echo == 0 || is_stream g w.0.echo)
-      && has request.number_of g.requests w.0.number) (window-fit e win w.0 w.1) in
-      let is = number-found tree.number_of g.windows.slots win w.0 w.1 in
-      ap (λ (m : Link). owner (ends g m.stream)) w.2
+      && has request.input_window_number g.requests w.0.number) (window-fit e win w.0 w.1) in
+      let is = number-found tree.window_number g.windows.slots win w.0 w.1 in
+      ap (λ (m : Link). owner (stream_ends g m.stream)) w.2
       ∙ owned-owner (streams.stream_at g.streams w.0.stream) w.0.number t.0 ∙ ap Some is
 
   echo-live : windows_fit g ≡ true → (win : ℕ) (l : Link) → links g win ≡ Some l → l.echo ≢ 0
-      → is_some (ends g l.echo) ≡ true
+      → is_some (stream_ends g l.echo) ≡ true
   echo-live e win l h z =
       let w = window-of-link (tree.window_at g.windows.slots win) l h in
       let t = and_parts (is_owned g w.0.number w.0.stream)
       ((w.0.echo == 0 || is_stream g w.0.echo)
-      && has request.number_of g.requests w.0.number) (window-fit e win w.0 w.1) in
+      && has request.input_window_number g.requests w.0.number) (window-fit e win w.0 w.1) in
       let u = and_parts (w.0.echo == 0 || is_stream g w.0.echo)
-      (has request.number_of g.requests w.0.number) t.1 in
+      (has request.input_window_number g.requests w.0.number) t.1 in
       let same : l.echo ≡ w.0.echo = ap (λ (m : Link). m.echo) w.2 in
       let other : (w.0.echo == 0) ≡ false = grind (arith, common_steps, same, z) in
       some-stream g l.echo ∙ ap (is_stream g) same
       ∙ sym (ap (λ b. b || is_stream g w.0.echo) other) ∙ u.0
 
-  named-by : streams_fit g ≡ true → (n win : ℕ) → owner (ends g n) ≡ Some win
-      → stream_in (links g win) ≡ Some n
+  named-by : streams_fit g ≡ true → (n win : ℕ) → owner (stream_ends g n) ≡ Some win
+      → live_stream (links g win) ≡ Some n
   named-by e n win h =
       let s = stream-of-owner (streams.stream_at g.streams n) win h in
       let t = and_parts (is_named_by g s.0.number s.0.target)
-      (is_plain s.0 && comes_to_an_end g s.0.number) (stream-fit e n s.0 s.1) in
-      let is = number-found streams.number_of g.streams.streams n s.0 s.1 in
+      (is_plain_stream s.0 && comes_to_an_end g s.0.number) (stream-fit e n s.0 s.1) in
+      let is = number-found streams.stream_number g.streams.streams n s.0 s.1 in
       named-stream g win s.0.number (named-target g s.0.number win s.0.target s.2 t.0) ∙ ap Some is
 
-  plain-by : streams_fit g ≡ true → (n : ℕ) (e : End) → ends g n ≡ Some e → e.is_plain ≡ true
+  plain-by : streams_fit g ≡ true → (n : ℕ) (e : End) → stream_ends g n ≡ Some e → e.is_plain ≡ true
   plain-by e n x h =
       let s = stream-of-end (streams.stream_at g.streams n) x h in
       let t = and_parts (is_named_by g s.0.number s.0.target)
-      (is_plain s.0 && comes_to_an_end g s.0.number) (stream-fit e n s.0 s.1) in
+      (is_plain_stream s.0 && comes_to_an_end g s.0.number) (stream-fit e n s.0 s.1) in
       ap (λ (y : End). y.is_plain) s.2
-      ∙ (and_parts (is_plain s.0) (comes_to_an_end g s.0.number) t.1).0
+      ∙ (and_parts (is_plain_stream s.0) (comes_to_an_end g s.0.number) t.1).0
 
-  ends-by : streams_fit g ≡ true → HasNoLoop (next (links g) (ends g))
+  ends-by : streams_fit g ≡ true → HasNoLoop (next_echo (links g) (stream_ends g))
   ends-by e n = by-stream (streams.stream_at g.streams n) refl
     where
       by-stream : (o : Option Stream) → streams.stream_at g.streams n ≡ o
-          → ComesToAnEnd (next (links g) (ends g)) n
+          → ComesToAnEnd (next_echo (links g) (stream_ends g)) n
       by-stream None h = no-stream g n h
       by-stream (Some s) h =
           let t = and_parts (is_named_by g s.number s.target)
-          (is_plain s && comes_to_an_end g s.number) (stream-fit e n s h) in
-          let is = number-found streams.number_of g.streams.streams n s h in
+          (is_plain_stream s && comes_to_an_end g s.number) (stream-fit e n s h) in
+          let is = number-found streams.stream_number g.streams.streams n s h in
           record {
             steps = length g.windows.slots + 1;
-            over = sym (over-same (echo_from g) (next (links g) (ends g)) (echo-next g v)
+            over = sym (over-same (echo_from g) (next_echo (links g) (stream_ends g)) (echo-next g v)
                 (length g.windows.slots + 1) n)
                 ∙ sym (ap (comes_to_an_end g) is)
-                ∙ (and_parts (is_plain s) (comes_to_an_end g s.number) t.1).1;
+                ∙ (and_parts (is_plain_stream s) (comes_to_an_end g s.number) t.1).1;
           }
 
-  fit-linked : windows_fit g ≡ true → streams_fit g ≡ true → AreLinked (links g) (ends g)
+  fit-linked : windows_fit g ≡ true → streams_fit g ≡ true → AreLinked (links g) (stream_ends g)
   fit-linked e f = record {
     streams = owned-by e;
     windows = named-by f;
@@ -120,65 +120,65 @@ module _ (g : Glk) (v : AreValid g) where
 
 module _ (g : Glk) (v : AreValid g) where
   entry-fit : entries_fit g ≡ true → (n : ℕ) (w : WindowInput)
-      → found request.number_of g.requests n ≡ Some w → entry_fits g w ≡ true
-  entry-fit e n w h = all-found request.number_of (entry_fits g) g.requests n w e h
+      → found request.input_window_number g.requests n ≡ Some w → entry_fits g w ≡ true
+  entry-fit e n w h = all-found request.input_window_number (entry_fits g) g.requests n w e h
 
   has-window : windows_fit g ≡ true → (n : ℕ) (w : Window)
-      → tree.window_at g.windows.slots n ≡ Some w → has request.number_of g.requests n ≡ true
+      → tree.window_at g.windows.slots n ≡ Some w → has request.input_window_number g.requests n ≡ true
   has-window e n w h =
       let t = and_parts (is_owned g w.number w.stream)
-      ((w.echo == 0 || is_stream g w.echo) && has request.number_of g.requests w.number)
+      ((w.echo == 0 || is_stream g w.echo) && has request.input_window_number g.requests w.number)
       (window-fit g v e n w h) in
       let u = and_parts (w.echo == 0 || is_stream g w.echo)
-      (has request.number_of g.requests w.number) t.1 in
-      let is = number-found tree.number_of g.windows.slots n w h in
-      sym (ap (has request.number_of g.requests) is) ∙ u.1
+      (has request.input_window_number g.requests w.number) t.1 in
+      let is = number-found tree.window_number g.windows.slots n w h in
+      sym (ap (has request.input_window_number g.requests) is) ∙ u.1
 
   has-entry : entries_fit g ≡ true → (n : ℕ) (w : WindowInput)
-      → found request.number_of g.requests n ≡ Some w → is_window g n ≡ true
+      → found request.input_window_number g.requests n ≡ Some w → has_window g n ≡ true
   has-entry e n w h =
-      let t = and_parts (is_window g w.win) (not (is_some w.request) || may_ask g w.win)
+      let t = and_parts (has_window g w.win) (not (is_some w.request) || may_ask g w.win)
       (entry-fit e n w h) in
-      let is = number-found request.number_of g.requests n w h in
-      sym (ap (is_window g) is) ∙ t.0
+      let is = number-found request.input_window_number g.requests n w h in
+      sym (ap (has_window g) is) ∙ t.0
 
   listed-by : windows_fit g ≡ true → entries_fit g ≡ true → (n : ℕ)
-      → has request.number_of g.requests n ≡ is_window g n
-  listed-by e f n = by-both (found request.number_of g.requests n)
+      → has request.input_window_number g.requests n ≡ has_window g n
+  listed-by e f n = by-both (found request.input_window_number g.requests n)
       (tree.window_at g.windows.slots n) refl refl
     where
-      entry : (o : Option WindowInput) → found request.number_of g.requests n ≡ o
-          → has request.number_of g.requests n ≡ is_some o
-      entry o h = has-found request.number_of g.requests n ∙ ap is_some h
+      entry : (o : Option WindowInput) → found request.input_window_number g.requests n ≡ o
+          → has request.input_window_number g.requests n ≡ is_some o
+      entry o h = has-found request.input_window_number g.requests n ∙ ap is_some h
 
       live : (o : Option Window) → tree.window_at g.windows.slots n ≡ o
-          → is_window g n ≡ is_some o
-      live o h = has-found tree.number_of g.windows.slots n ∙ ap is_some h
+          → has_window g n ≡ is_some o
+      live o h = has-found tree.window_number g.windows.slots n ∙ ap is_some h
 
       by-both : (o : Option WindowInput) (w : Option Window)
-          → found request.number_of g.requests n ≡ o → tree.window_at g.windows.slots n ≡ w
-          → has request.number_of g.requests n ≡ is_window g n
+          → found request.input_window_number g.requests n ≡ o → tree.window_at g.windows.slots n ≡ w
+          → has request.input_window_number g.requests n ≡ has_window g n
       by-both None None h k = entry None h ∙ sym (live None k)
       by-both (Some x) w h k = entry (Some x) h ∙ sym (has-entry f n x h)
       by-both None (Some w) h k = has-window e n w k ∙ sym (live (Some w) k)
 
   asked-by : entries_fit g ≡ true → (n : ℕ)
-      → is_some (request.request_of g.requests n) ≡ true → may_ask g n ≡ true
-  asked-by e n i = by-entry (found request.number_of g.requests n) refl
+      → is_some (request.window_request g.requests n) ≡ true → may_ask g n ≡ true
+  asked-by e n i = by-entry (found request.input_window_number g.requests n) refl
     where
       by-request : (b c : Bool) → (not b || c) ≡ true → b ≡ true → c ≡ true
       by-request true c h k = h
       by-request false c h k = absurd cc
 
-      by-entry : (o : Option WindowInput) → found request.number_of g.requests n ≡ o
+      by-entry : (o : Option WindowInput) → found request.input_window_number g.requests n ≡ o
           → may_ask g n ≡ true
       by-entry None h =
           let c : true ≡ false = sym i ∙ ap is_some (request-found g.requests n
           ∙ ap request_in h) in absurd cc
       by-entry (Some w) h =
-          let t = and_parts (is_window g w.win) (not (is_some w.request) || may_ask g w.win)
+          let t = and_parts (has_window g w.win) (not (is_some w.request) || may_ask g w.win)
           (entry-fit e n w h) in
-          let is = number-found request.number_of g.requests n w h in
+          let is = number-found request.input_window_number g.requests n w h in
           let asks : is_some w.request ≡ true = sym (ap is_some (request-found g.requests n
           ∙ ap request_in h)) ∙ i in
           sym (ap (may_ask g) is) ∙ by-request (is_some w.request) (may_ask g w.win) t.1 asks
@@ -188,10 +188,10 @@ module _ (g : Glk) (v : AreValid g) where
 
 -- ---- parts that are linked, and have their entries, fit
 
-module _ (g : Glk) (v : AreValid g) (k : AreLinked (links g) (ends g)) (a : AreAsked g) where
+module _ (g : Glk) (v : AreValid g) (k : AreLinked (links g) (stream_ends g)) (a : AreAsked g) where
   link-of : (w : Window) → tree.window_at g.windows.slots w.number ≡ Some w
-      → links g w.number ≡ Some (link_of w)
-  link-of w h = ap (option_map link_of) h
+      → links g w.number ≡ Some (window_link w)
+  link-of w h = ap (option_map window_link) h
 
   echo-fits : (w : Window) → tree.window_at g.windows.slots w.number ≡ Some w
       → (w.echo == 0 || is_stream g w.echo) ≡ true
@@ -200,55 +200,55 @@ module _ (g : Glk) (v : AreValid g) (k : AreLinked (links g) (ends g)) (a : AreA
     | inr e ↦
         let other : w.echo ≢ 0 = grind (arith, common_steps, e) in
         ap (λ b. b || is_stream g w.echo) e ∙ sym (some-stream g w.echo)
-        ∙ k.echoes w.number (link_of w) (link-of w h) other
+        ∙ k.echoes w.number (window_link w) (link-of w h) other
   ]
 
   window-fits : (w : Window) → tree.window_at g.windows.slots w.number ≡ Some w
       → window_fits g w ≡ true
   window-fits w h =
-      let live : is_window g w.number ≡ true =
-      has-found tree.number_of g.windows.slots w.number ∙ ap is_some h in
+      let live : has_window g w.number ≡ true =
+      has-found tree.window_number g.windows.slots w.number ∙ ap is_some h in
       both (is_owned g w.number w.stream)
-      ((w.echo == 0 || is_stream g w.echo) && has request.number_of g.requests w.number)
+      ((w.echo == 0 || is_stream g w.echo) && has request.input_window_number g.requests w.number)
       (owner-owned (streams.stream_at g.streams w.stream) w.number
-      (k.streams w.number (link_of w) (link-of w h)))
-      (both (w.echo == 0 || is_stream g w.echo) (has request.number_of g.requests w.number)
+      (k.streams w.number (window_link w) (link-of w h)))
+      (both (w.echo == 0 || is_stream g w.echo) (has request.input_window_number g.requests w.number)
       (echo-fits w h) (a.listed w.number ∙ live))
 
   -- where an echo goes on, a window has it
-  goes-on : (n : ℕ) → next (links g) (ends g) n ≢ 0
-      → is_in (λ (w : Window). w.echo == next (links g) (ends g) n) g.windows.slots ≡ true
+  goes-on : (n : ℕ) → next_echo (links g) (stream_ends g) n ≢ 0
+      → is_in (λ (w : Window). w.echo == next_echo (links g) (stream_ends g) n) g.windows.slots ≡ true
   unfolding follows comes
   goes-on n h =
       let all = all-listed g v k 0 in
-      elim (cases_Bool (is_some (owner (ends g n)))) [
+      elim (cases_Bool (is_some (owner (stream_ends g n)))) [
         | inl e ↦ all.listed n e
         | inr e ↦ absurd (h (all.others n e).0)
       ]
 
   ends-fit : (n : ℕ) → comes_to_an_end g n ≡ true
   ends-fit n =
-      over-same (echo_from g) (next (links g) (ends g)) (echo-next g v)
+      over-same (echo_from g) (next_echo (links g) (stream_ends g)) (echo-next g v)
       (length g.windows.slots + 1) n
-      ∙ rw add-one (over-within (next (links g) (ends g)) (λ (w : Window). w.echo) g.windows.slots
+      ∙ rw add-one (over-within (next_echo (links g) (stream_ends g)) (λ (w : Window). w.echo) g.windows.slots
       goes-on (k.no_loop n).steps n (k.no_loop n).over)
 
   stream-fits : (s : Stream) → streams.stream_at g.streams s.number ≡ Some s
       → stream_fits g s ≡ true
   stream-fits s h =
-      let here : ends g s.number ≡ Some (end_of s) = ap (option_map end_of) h in
-      both (is_named_by g s.number s.target) (is_plain s && comes_to_an_end g s.number)
+      let here : stream_ends g s.number ≡ Some (stream_end s) = ap (option_map stream_end) h in
+      both (is_named_by g s.number s.target) (is_plain_stream s && comes_to_an_end g s.number)
       (target-named g s.number s.target (λ win e. stream-named g win s.number
       (k.windows s.number win (ap owner here ∙ e))))
-      (both (is_plain s) (comes_to_an_end g s.number) (k.plain s.number (end_of s) here)
+      (both (is_plain_stream s) (comes_to_an_end g s.number) (k.plain s.number (stream_end s) here)
       (ends-fit s.number))
 
-  entry-fits : (w : WindowInput) → found request.number_of g.requests w.win ≡ Some w
+  entry-fits : (w : WindowInput) → found request.input_window_number g.requests w.win ≡ Some w
       → entry_fits g w ≡ true
   entry-fits w h =
-      let there : has request.number_of g.requests w.win ≡ true =
-      has-found request.number_of g.requests w.win ∙ ap is_some h in
-      both (is_window g w.win) (not (is_some w.request) || may_ask g w.win)
+      let there : has request.input_window_number g.requests w.win ≡ true =
+      has-found request.input_window_number g.requests w.win ∙ ap is_some h in
+      both (has_window g w.win) (not (is_some w.request) || may_ask g w.win)
       (sym (a.listed w.win) ∙ there) (by-request (is_some w.request) refl)
     where
       by-request : (b : Bool) → is_some w.request ≡ b
@@ -261,20 +261,20 @@ module _ (g : Glk) (v : AreValid g) (k : AreLinked (links g) (ends g)) (a : AreA
   parts-fit : parts_fit g ≡ true
   unfolding wvalid.IsOrdered
   parts-fit =
-      let entries = and_parts (ascends request.number_of 0 4294967295 g.requests)
+      let entries = and_parts (ascends request.input_window_number 0 4294967295 g.requests)
       (ivalid.are_windows g.requests) v.requests in
       both (windows_fit g) (streams_fit g && entries_fit g)
-      (found-all tree.number_of (window_fits g) g.windows.slots 0 g.windows.next
+      (found-all tree.window_number (window_fits g) g.windows.slots 0 g.windows.next
       (to-ascends g.windows.slots 0 g.windows.next v.windows.ordered) window-fits)
       (both (streams_fit g) (entries_fit g)
-      (found-all streams.number_of (stream_fits g) g.streams.streams 0 g.streams.next
+      (found-all streams.stream_number (stream_fits g) g.streams.streams 0 g.streams.next
       (streams-ascend g v) stream-fits)
-      (found-all request.number_of (entry_fits g) g.requests 0 4294967295 entries.0 entry-fits))
+      (found-all request.input_window_number (entry_fits g) g.requests 0 4294967295 entries.0 entry-fits))
 
 -- ---- a state whose parts are valid, fit and have their rectangles is valid
 
 pub valid-of-fit : (g : Glk) → AreValid g → parts_fit g ≡ true
-    → HaveAreas g.windows g.cols g.rows → IsValid g
+    → HaveAreas g.windows g.cols g.rows → IsValidGlk g
 valid-of-fit g v e h =
     let a = and_parts (windows_fit g) (streams_fit g && entries_fit g) e in
     let b = and_parts (streams_fit g) (entries_fit g) a.1 in
@@ -285,5 +285,5 @@ valid-of-fit g v e h =
       areas = h;
     }
 
-pub fit-of-valid : (g : Glk) → IsValid g → parts_fit g ≡ true
+pub fit-of-valid : (g : Glk) → IsValidGlk g → parts_fit g ≡ true
 fit-of-valid g k = parts-fit g k.parts k.linked k.asked

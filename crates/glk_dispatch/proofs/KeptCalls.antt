@@ -3,6 +3,7 @@ use Rattle.std.proofs.Common.{◌≡◌, ◌∙◌, subst, ℕ, zero, suc, ◌+�
 use Rattle.std.proofs.Common.{not, min, arith, Option, Some, None, Result, Ok, Err, List, cond}
 use Rattle.std.proofs.Common.{[], ap, refl, slice_index}
 use Rattle.std.specs.Prelude.{IfOk, OnOk}
+use Rattle.vm_memory.specs.Chaining.{◌>>=◌}
 use Rattle.vm_memory.specs.Access.{read, written}
 use Rattle.vm_memory.specs.Fault.{coded}
 use Rattle.vm_memory.specs.MemoryMap.{MemoryMap, KeepsMap}
@@ -20,24 +21,24 @@ use Rattle.glk_windows.specs.declared.window.Content.TheVariants as wc
 use Rattle.glk_streams.specs.FileRefs as refs
 use Rattle.glk_input.specs.declared.input.Input.{Input}
 use Rattle.glk_input.specs.declared.request.WindowInput.{WindowInput}
-use Rattle.glk_dispatch.specs.Answer.{Answers, GlkCall, Does, Puts as LeavesPut, Reached, Rule}
-use Rattle.glk_dispatch.specs.Answer.{UnlessNoMemory, ◌>>=◌, glk_call, within}
-use Rattle.glk_dispatch.specs.Arguments.{arguments}
-use Rattle.glk_dispatch.specs.Call.{called, called_with, work}
+use Rattle.glk_dispatch.specs.Answer.{AnswersOverGlk, GlkCall, DoesCall, LeavesGlkAndMemory as LeavesPut, Reached, CallRule}
+use Rattle.glk_dispatch.specs.Answer.{UnlessNoMemory, glk_call, within}
+use Rattle.glk_dispatch.specs.Arguments.{call_arguments}
+use Rattle.glk_dispatch.specs.Call.{selector_called, called_with, call_work}
 use Rattle.glk_dispatch.specs.Case as cases
 use Rattle.glk_dispatch.specs.Events as events
 use Rattle.glk_dispatch.specs.FileRefs.{prompted}
 use Rattle.glk_dispatch.specs.Gestalt as base
-use Rattle.glk_dispatch.specs.Glk.{charged, fresh, is_stream, is_window, turn_begun}
+use Rattle.glk_dispatch.specs.Glk.{character_charged, empty_screen, is_stream, has_window, turn_begun}
 use Rattle.glk_dispatch.specs.Keeping.{KeepsFrames, KeepsStory}
 use Rattle.glk_dispatch.specs.Laws as law
 use Rattle.glk_dispatch.specs.Laws.{Reaches}
-use Rattle.glk_dispatch.specs.Links.{ends, link_of, links, next}
+use Rattle.glk_dispatch.specs.Links.{stream_ends, window_link, links, next_echo}
 use Rattle.glk_dispatch.specs.Output as out
 use Rattle.glk_dispatch.specs.Selector.{call_of}
 use Rattle.glk_dispatch.specs.Streams as rows
 use Rattle.glk_dispatch.specs.Style as styles
-use Rattle.glk_dispatch.specs.Valid.{IsReady, IsValid, LeavesValid, Stands}
+use Rattle.glk_dispatch.specs.Valid.{IsReadyGlk, IsValidGlk, LeavesValid, IsValidWaiting}
 use Rattle.glk_dispatch.specs.declared.base.BaseCall.{BaseCall}
 use Rattle.glk_dispatch.specs.declared.base.BaseCall.TheVariants as b
 use Rattle.glk_dispatch.specs.declared.called.Called.{Called}
@@ -70,7 +71,7 @@ use Rattle.glk_dispatch.proofs.KeptWindows.{kept-window_work}
 
 kept-sets : (s : GlkCall) (n style : ℕ) → Kept s (row s) (styles.sets s n style)
 kept-sets s n style =
-    kept-leaves s (styles.styled s.glk n style)
+    kept-leaves s (styles.glk_styled s.glk n style)
     (kept-if s (Valid s) (n == 0) _ _ (λ e. λ v. v)
     (λ e. kept-left s s.glk (refs.styled s.glk.streams n style) (λ v. v)
     (λ v. (laws.streams s.glk.streams v.streams).style n style)
@@ -84,9 +85,9 @@ kept-style_work sty.SetStream s l = row-needs s (row s) (is_stream s.glk (l 0)) 
     (λ e. kept-sets s (l 0) (l 1))
 kept-style_work sty.HintSet s l = answers s s 0 (self s)
 kept-style_work sty.HintClear s l = answers s s 0 (self s)
-kept-style_work sty.Distinguish s l = row-needs s (row s) (is_window s.glk (l 0)) 21 _
+kept-style_work sty.Distinguish s l = row-needs s (row s) (has_window s.glk (l 0)) 21 _
     (λ e. answers s s 0 (self s))
-kept-style_work sty.Measure s l = row-needs s (row s) (is_window s.glk (l 0)) 21 _
+kept-style_work sty.Measure s l = row-needs s (row s) (has_window s.glk (l 0)) 21 _
     (λ e. answers s s 0 (self s))
 
 -- a word in another case
@@ -99,13 +100,13 @@ kept-last s rs g (Err e) h v k = v
 kept-word : (s : GlkCall) (rs : List WindowInput) (k : Case) (g : Glk) (m : MemoryMap) (at : ℕ)
     → Puts s rs g m → Kept s (puts s rs) (cases.word_cased k g m at)
 kept-word s rs k g m at h =
-    let v : Valid s (charged g) = λ w. charged-valid g (h.keeps.parts w) in
-    kept-bind s (λ n. Puts s rs (charged g) n) (puts s rs)
+    let v : Valid s (character_charged g) = λ w. charged-valid g (h.keeps.parts w) in
+    kept-bind s (λ n. Puts s rs (character_charged g) n) (puts s rs)
     (within g (coded (read 4 m at)) >>=
-    (λ x. within (charged g) (coded (written 4 m at (cases.in_case k x))))) (λ n. Ok (charged g, n))
-    (kept-read s (λ n. Puts s rs (charged g) n) g (coded (read 4 m at))
-    (λ x. within (charged g) (coded (written 4 m at (cases.in_case k x)))) h.keeps.parts
-    (λ x. kept-last s rs (charged g) (coded (written 4 m at (cases.in_case k x)))
+    (λ x. within (character_charged g) (coded (written 4 m at (cases.in_case k x))))) (λ n. Ok (character_charged g, n))
+    (kept-read s (λ n. Puts s rs (character_charged g) n) g (coded (read 4 m at))
+    (λ x. within (character_charged g) (coded (written 4 m at (cases.in_case k x)))) h.keeps.parts
+    (λ x. kept-last s rs (character_charged g) (coded (written 4 m at (cases.in_case k x)))
     (λ n w. record {
       keeps = record { parts = v; map = w; stack = h.keeps.stack };
       asked = h.asked;
@@ -127,8 +128,8 @@ kept-cases : (s : GlkCall) (len n : ℕ) (done : Reached (Glk × MemoryMap))
     → (Puts s s.glk.requests s.glk s.memory → Kept s (puts s s.glk.requests) done)
     → Kept s (row s) (cases.cases s len n done)
 kept-cases s len n done h =
-    kept-puts s s.glk.requests (within s.glk (cases.checked len n) >>= (λ x. done)) n
-    (kept-read s (puts s s.glk.requests) s.glk (cases.checked len n) (λ x. done) (λ v. v)
+    kept-puts s s.glk.requests (within s.glk (cases.within_array len n) >>= (λ x. done)) n
+    (kept-read s (puts s s.glk.requests) s.glk (cases.within_array len n) (λ x. done) (λ v. v)
     (λ x. h (begins-puts s s.glk (λ v. v))))
 
 kept-case_work : (k : CaseCall) (s : GlkCall) (l : ℕ → ℕ) → Kept s (row s) (cases.case_work k s l)
@@ -160,11 +161,11 @@ kept-base_work b.Tick s l = answers s s 0 (self s)
 kept-base_work b.Gestalt s l = answers s s _ (self s)
 kept-base_work b.GestaltExt s l =
     kept-told s (cond (l 0 == 3 && not (l 3 == 0)) (base.array_begun s (l 2) 1) (Ok s))
-    (base.gestalt (l 0) (l 1))
+    (base.glk_gestalt (l 0) (l 1))
     (kept-if s (Keeps s) (l 0 == 3 && not (l 3 == 0)) (base.array_begun s (l 2) 1) (Ok s)
     (λ e. kept-array_begun s (l 2) 1) (λ e. self s))
 
-kept-work : (k : call.Call) (s : GlkCall) (l : ℕ → ℕ) → Kept s (row s) (work k s l)
+kept-work : (k : call.Call) (s : GlkCall) (l : ℕ → ℕ) → Kept s (row s) (call_work k s l)
 kept-work (Base k) s l = kept-base_work k s l
 kept-work (Window k) s l = kept-window_work k s l
 kept-work (Stream k) s l = kept-stream_work k s l
@@ -176,7 +177,7 @@ kept-work (Event k) s l = kept-event_work k s l
 kept-work Nothing s l = answers s s 0 (self s)
 
 -- the arguments are taken from the stack first
-kept-since : (s : GlkCall) (t : StackState) (r : Rule Called) → KeepsFrames s.stack t
+kept-since : (s : GlkCall) (t : StackState) (r : CallRule Called) → KeepsFrames s.stack t
     → Kept (record s { stack = t }) (row (record s { stack = t })) r → Kept s (row s) r
 kept-since s t (Ok p) k h = record {
   parts = h.parts;
@@ -189,27 +190,27 @@ kept-since s t (Ok p) k h = record {
 kept-since s t (Err e) k h = h
 
 kept-taken : (s : GlkCall) (k : call.Call) (t : StackState) (l : ℕ → ℕ) → KeepsFrames s.stack t
-    → Kept s (row s) (work k (record s { stack = t }) l)
-kept-taken s k t l h = kept-since s t (work k (record s { stack = t }) l) h
+    → Kept s (row s) (call_work k (record s { stack = t }) l)
+kept-taken s k t l h = kept-since s t (call_work k (record s { stack = t }) l) h
     (kept-work k (record s { stack = t }) l)
 
 kept-called_with : (o : Option (call.Call × Option ℕ)) (s : GlkCall) (given : ℕ)
     → Kept s (row s) (called_with o s given)
 kept-called_with None s given = λ v. v
 kept-called_with (Some p) s given =
-    kept-step s (at-first s.stack) (row s) s.glk (arguments s.stack p.1 given)
-    (λ t. work p.0 (record s { stack = t.0 }) (slice_index t.1)) (λ v. v)
+    kept-step s (at-first s.stack) (row s) s.glk (call_arguments s.stack p.1 given)
+    (λ t. call_work p.0 (record s { stack = t.0 }) (slice_index t.1)) (λ v. v)
     (ok-arguments s.stack p.1 given) (λ t h. kept-taken s p.0 t.0 (slice_index t.1) h)
 
 -- ---- Glk states stay valid
 
 reaches : {A : Type 0} (s : GlkCall) (Is : A → Type 0) (Then : A → Type 0) (r : Reached A)
-    → IsReady s.glk → ((x : A) → Is x → Then x) → Kept s Is r → Reaches Then r
+    → IsReadyGlk s.glk → ((x : A) → Is x → Then x) → Kept s Is r → Reaches Then r
 reaches s Is Then (Ok x) v f k = f x k
 reaches s Is Then (Err e) v f k = k v
 
 -- an empty screen
-new-ready : (cols rows : ℕ) → IsReady (fresh cols rows)
+new-ready : (cols rows : ℕ) → IsReadyGlk (empty_screen cols rows)
 unfolding found has
 new-ready cols rows = record {
   valid = record {
@@ -224,8 +225,8 @@ new-ready cols rows = record {
       windows = λ n win e. absurd cc;
       plain = λ n e f. absurd cc;
       echoes = λ win l e z. absurd cc;
-      no_loop = λ n. end-go (next (links (fresh cols rows)) (ends (fresh cols rows))) n 0 refl
-          (end-stop (next (links (fresh cols rows)) (ends (fresh cols rows))) 0 refl);
+      no_loop = λ n. end-go (next_echo (links (empty_screen cols rows)) (stream_ends (empty_screen cols rows))) n 0 refl
+          (end-stop (next_echo (links (empty_screen cols rows)) (stream_ends (empty_screen cols rows))) 0 refl);
     };
     asked = record { listed = λ win. refl; askers = λ win e. absurd cc };
     areas = record {
@@ -237,7 +238,7 @@ new-ready cols rows = record {
   rests = record { event = refl; prompt = refl };
 }
 
-pub fresh-ready : (g : Glk) (cols rows : ℕ) → g ≡ fresh cols rows → IsReady g
+pub fresh-ready : (g : Glk) (cols rows : ℕ) → g ≡ empty_screen cols rows → IsReadyGlk g
 fresh-ready g cols rows e = rw e (new-ready cols rows)
 
 kind-kept : (c : Content) → reading.kind_in (output.content_kept c) ≡ reading.kind_in c
@@ -253,11 +254,11 @@ kept-placement wc.Blank = (refl, refl)
 kept-placement (wc.Buffer x) = (refl, refl)
 kept-placement (wc.Grid g) = (refl, refl)
 
-begun-valid : (g : Glk) → IsValid g → IsValid (turn_begun g)
+begun-valid : (g : Glk) → IsValidGlk g → IsValidGlk (turn_begun g)
 begun-valid g v =
     valid-alike g (turn_begun g)
     (record {
-      windows = λ m. part-map tree.number_of link_of
+      windows = λ m. part-map tree.window_number window_link
           (λ w. record w { content = output.content_kept w.content }) (λ w. refl)
           (λ w. ap (λ k. record { stream = w.stream; echo = w.echo; kind = k })
           (kind-kept w.content)) g.windows.slots m;
@@ -278,47 +279,47 @@ calls_keep_valid = record {
   new = new-ready;
   begun = begun-valid;
   called = λ s selector given v.
-      reaches s (row s) (λ p. Stands p.1 p.0.glk) (called s selector given) v (λ p k. k.parts v)
+      reaches s (row s) (λ p. IsValidWaiting p.1 p.0.glk) (selector_called s selector given) v (λ p k. k.parts v)
       (kept-called_with (call_of selector) s given);
   answered = λ s i v. let w = rested-valid s.glk v in
-      reaches (at_rest s) (on (at_rest s)) (λ p. IsReady p.0.glk) (events.answered s i) w
+      reaches (at_rest s) (on (at_rest s)) (λ p. IsReadyGlk p.0.glk) (events.input_answered s i) w
       (λ p k. k.parts w) (kept-answered i s);
   put = λ s n code v.
-      reaches s (puts s s.glk.requests) (λ p. IsReady p.0) (out.put_code s.glk s.memory n code) v
+      reaches s (puts s s.glk.requests) (λ p. IsReadyGlk p.0) (out.put_code s.glk s.memory n code) v
       (λ p k. k.keeps.parts v)
       (kept-put_code s s.glk.requests s.glk s.memory n code (begins-puts s s.glk (λ w. w)));
   got = λ s n v.
-      reaches s (beside s) (λ p. IsReady p.0) (rows.got_code s.glk s.memory n) v (λ p k. k v)
+      reaches s (beside s) (λ p. IsReadyGlk p.0) (rows.got_code s.glk s.memory n) v (λ p k. k v)
       (kept-got_code s s.glk s.memory n (λ w. w));
 }
 
 -- ---- what calls answered and left
 
 -- by the row's value: memory and stack, and the Glk state
-does-row : (s : GlkCall) (should : Rule Called) (g : Glk) (m : MemoryMap) (t : StackState)
+does-row : (s : GlkCall) (should : CallRule Called) (g : Glk) (m : MemoryMap) (t : StackState)
     (r : Result Called Trap)
-    → Kept s (row s) should → Does should g m t r → OnOk r (KeepsStory s.memory s.stack m t)
+    → Kept s (row s) should → DoesCall should g m t r → OnOk r (KeepsStory s.memory s.stack m t)
 does-row s should g m t (Ok x) k e =
     let h : Leaves s (glk_call g m t) x =
-    subst (λ (y : Rule Called). Kept s (row s) y) e k in
+    subst (λ (y : CallRule Called). Kept s (row s) y) e k in
     record { map = h.map; stack = h.stack }
 does-row s should g m t (Err f) k e = tt
 
-does-stand : (s : GlkCall) (should : Rule Called) (g : Glk) (m : MemoryMap) (t : StackState)
+does-stand : (s : GlkCall) (should : CallRule Called) (g : Glk) (m : MemoryMap) (t : StackState)
     (r : Result Called Trap)
-    → Kept s (row s) should → Does should g m t r → LeavesValid s.glk g r
+    → Kept s (row s) should → DoesCall should g m t r → LeavesValid s.glk g r
 does-stand s should g m t (Ok x) k e =
     let h : Leaves s (glk_call g m t) x =
-    subst (λ (y : Rule Called). Kept s (row s) y) e k in
+    subst (λ (y : CallRule Called). Kept s (row s) y) e k in
     h.parts
 does-stand s should g m t (Err (Fault n)) k e =
-    subst (λ (y : Rule Called). Kept s (row s) y) e k
+    subst (λ (y : CallRule Called). Kept s (row s) y) e k
 does-stand s should g m t (Err NoMemory) k e = tt
 
 -- the arguments of a call were taken, and then its work was done
 taken-kept : (s : GlkCall) (k : call.Call) (count : Option ℕ) (given : ℕ) (t : StackState)
-    (args : List ℕ) → arguments s.stack count given ≡ Ok (t, args)
-    → Kept s (row s) (work k (record s { stack = t }) (slice_index args))
+    (args : List ℕ) → call_arguments s.stack count given ≡ Ok (t, args)
+    → Kept s (row s) (call_work k (record s { stack = t }) (slice_index args))
 taken-kept s k count given t args taken =
     let frames : KeepsFrames s.stack t =
     subst (λ (y : Result (StackState × List ℕ) ℕ). IfOk y (at-first s.stack)) taken
@@ -327,16 +328,16 @@ taken-kept s k count given t args taken =
 
 pub call_keeps : (s : GlkCall) (k : call.Call) (count : Option ℕ) (given : ℕ) (t : StackState)
     (args : List ℕ) (g : Glk) (m : MemoryMap) (u : StackState) (r : Result Called Trap)
-    → arguments s.stack count given ≡ Ok (t, args)
-    → Does (work k (record s { stack = t }) (slice_index args)) g m u r
+    → call_arguments s.stack count given ≡ Ok (t, args)
+    → DoesCall (call_work k (record s { stack = t }) (slice_index args)) g m u r
     → OnOk r (KeepsStory s.memory s.stack m u)
 call_keeps s k count given t args g m u r taken does =
     does-row s _ g m u r (taken-kept s k count given t args taken) does
 
 pub call_stands : (s : GlkCall) (k : call.Call) (count : Option ℕ) (given : ℕ) (t : StackState)
     (args : List ℕ) (g : Glk) (m : MemoryMap) (u : StackState) (r : Result Called Trap)
-    → arguments s.stack count given ≡ Ok (t, args)
-    → Does (work k (record s { stack = t }) (slice_index args)) g m u r
+    → call_arguments s.stack count given ≡ Ok (t, args)
+    → DoesCall (call_work k (record s { stack = t }) (slice_index args)) g m u r
     → LeavesValid s.glk g r
 call_stands s k count given t args g m u r taken does =
     does-stand s _ g m u r (taken-kept s k count given t args taken) does
@@ -355,15 +356,15 @@ under Is Then (Err NoMemory) h = tt
 
 does-keeps : {A : Type 0} (s : GlkCall) (should : Reached (GlkCall × A)) (g : Glk) (m : MemoryMap)
     (t : StackState) (r : Result A Trap)
-    → Kept s (on s) should → Does should g m t r → OnOk r (KeepsStory s.memory s.stack m t)
+    → Kept s (on s) should → DoesCall should g m t r → OnOk r (KeepsStory s.memory s.stack m t)
 does-keeps {A} s should g m t (Ok x) k e =
     let h : Keeps s (glk_call g m t) = subst (λ (y : Reached (GlkCall × A)). Kept s (on s) y) e k in
     record { map = h.map; stack = h.stack }
 does-keeps s should g m t (Err f) k e = tt
 
 does-ready : {A : Type 0} (s : GlkCall) (should : Reached (GlkCall × A)) (g : Glk) (m : MemoryMap)
-    (t : StackState) (r : Result A Trap) → IsReady s.glk
-    → Kept s (on s) should → Does should g m t r → UnlessNoMemory r (IsReady g)
+    (t : StackState) (r : Result A Trap) → IsReadyGlk s.glk
+    → Kept s (on s) should → DoesCall should g m t r → UnlessNoMemory r (IsReadyGlk g)
 does-ready {A} s should g m t (Ok x) v k e =
     let h : Keeps s (glk_call g m t) = subst (λ (y : Reached (GlkCall × A)). Kept s (on s) y) e k in
     h.parts v
@@ -373,21 +374,21 @@ does-ready s should g m t (Err NoMemory) v k e = tt
 
 pub event_keeps : (s : GlkCall) (i : Input) (g : Glk) (m : MemoryMap) (t : StackState)
     (r : Result ℕ Trap)
-    → Does (events.event_answered s i) g m t r → OnOk r (KeepsStory s.memory s.stack m t)
+    → DoesCall (events.event_answered s i) g m t r → OnOk r (KeepsStory s.memory s.stack m t)
 event_keeps s i g m t r does = does-keeps (at_rest s) (events.event_answered s i) g m t r
     (kept-event_answered s i) does
 
 pub event_readies : (s : GlkCall) (i : Input) (g : Glk) (m : MemoryMap) (t : StackState)
     (r : Result ℕ Trap)
-    → Does (events.event_answered s i) g m t r → UnlessNoMemory r (IsValid s.glk → IsReady g)
-event_readies s i g m t r does = under (IsValid s.glk) (IsReady g) r (λ v.
+    → DoesCall (events.event_answered s i) g m t r → UnlessNoMemory r (IsValidGlk s.glk → IsReadyGlk g)
+event_readies s i g m t r does = under (IsValidGlk s.glk) (IsReadyGlk g) r (λ v.
     does-ready (at_rest s) (events.event_answered s i) g m t r (rested-valid s.glk v)
     (kept-event_answered s i) does)
 
 pub prompt_readies : (g h : Glk) (name : List ℕ) (n : ℕ)
-    → ◌≡◌ {A = Reached (Glk × ℕ)} (Ok (prompted g name)) (Ok (h, n)) → IsValid g → IsReady h
+    → ◌≡◌ {A = Reached (Glk × ℕ)} (Ok (prompted g name)) (Ok (h, n)) → IsValidGlk g → IsReadyGlk h
 prompt_readies g h name n e v =
-    subst (λ (y : Reached (Glk × ℕ)). IfOk y (λ p. IsReady p.0)) e
+    subst (λ (y : Reached (Glk × ℕ)). IfOk y (λ p. IsReadyGlk p.0)) e
     (prompted-valid g name (rested-valid g v))
 
 puts-left : (s : GlkCall) (should : Reached (Glk × MemoryMap)) (g : Glk) (m : MemoryMap)
@@ -408,31 +409,31 @@ put_keeps s g m stream code (Err t) does = tt
 pub put_readies : (s : GlkCall) (g : Glk) (m : MemoryMap) (stream code : ℕ)
     (r : Result (Unit {0}) Trap)
     → LeavesPut (out.put_code s.glk s.memory stream code) g m r
-    → UnlessNoMemory r (IsReady s.glk → IsReady g)
-put_readies s g m stream code r does = under (IsReady s.glk) (IsReady g) r (λ v.
+    → UnlessNoMemory r (IsReadyGlk s.glk → IsReadyGlk g)
+put_readies s g m stream code r does = under (IsReadyGlk s.glk) (IsReadyGlk g) r (λ v.
     by-result v r does (kept-put_code s s.glk.requests s.glk s.memory stream code
     (begins-puts s s.glk (λ w. w))))
   where
-    by-result : IsReady s.glk → (r : Result (Unit {0}) Trap)
+    by-result : IsReadyGlk s.glk → (r : Result (Unit {0}) Trap)
         → LeavesPut (out.put_code s.glk s.memory stream code) g m r
         → Kept s (puts s s.glk.requests) (out.put_code s.glk s.memory stream code)
-        → UnlessNoMemory r (IsReady g)
+        → UnlessNoMemory r (IsReadyGlk g)
     by-result v (Ok x) e k = (puts-left s _ g m k e).keeps.parts v
     by-result v (Err (Fault n)) e k =
         subst (λ (y : Reached (Glk × MemoryMap)). Kept s (puts s s.glk.requests) y) e k v
     by-result v (Err NoMemory) e k = tt
 
 pub got_readies : (g h : Glk) (m : MemoryMap) (stream : ℕ) (r : Result (Option ℕ) Trap)
-    → Answers (rows.got_code g m stream) h r → UnlessNoMemory r (IsReady g → IsReady h)
-got_readies g h m stream r does = under (IsReady g) (IsReady h) r (λ v.
+    → AnswersOverGlk (rows.got_code g m stream) h r → UnlessNoMemory r (IsReadyGlk g → IsReadyGlk h)
+got_readies g h m stream r does = under (IsReadyGlk g) (IsReadyGlk h) r (λ v.
     by-result v r does (kept-got_code call_on g m stream (λ w. w)))
   where
     -- no stack is at hand, and none is reached
     call_on : GlkCall
     call_on = glk_call g m (record { bytes = []; frame = 0; limit = 0 })
 
-    by-result : IsReady g → (r : Result (Option ℕ) Trap) → Answers (rows.got_code g m stream) h r
-        → Kept call_on (beside call_on) (rows.got_code g m stream) → UnlessNoMemory r (IsReady h)
+    by-result : IsReadyGlk g → (r : Result (Option ℕ) Trap) → AnswersOverGlk (rows.got_code g m stream) h r
+        → Kept call_on (beside call_on) (rows.got_code g m stream) → UnlessNoMemory r (IsReadyGlk h)
     by-result v (Ok x) e k =
         subst (λ (y : Reached (Glk × Option ℕ)). Kept call_on (beside call_on) y) e k v
     by-result v (Err (Fault n)) e k =

@@ -8,6 +8,7 @@ use Rattle.std.proofs.Common.{subst}
 use Rattle.std.specs.Prelude.{IfOk}
 use Rattle.std.proofs.lemmas.List.{length-take-le}
 use Rattle.std.proofs.lemmas.Bool.{cases_Bool, leb-true}
+use Rattle.vm_memory.specs.Chaining.{◌>>=◌}
 use Rattle.vm_memory.specs.Access.{written}
 use Rattle.vm_memory.specs.Fault.{coded}
 use Rattle.vm_memory.specs.MemoryMap.{MemoryMap, KeepsMap, replaced}
@@ -32,15 +33,15 @@ use Rattle.glk_input.specs.Laws as of_requests
 use Rattle.glk_input.specs.Valid as requests
 use Rattle.glk_input.specs.declared.request.WindowInput.{WindowInput}
 use Rattle.glk_input.proofs.ValidLemmas.{stays_valid}
-use Rattle.glk_dispatch.specs.Answer.{GlkCall, Reached, ◌>>=◌, alone, glk_call, needs, within}
-use Rattle.glk_dispatch.specs.Arguments.{arguments, popped, taken, takes}
-use Rattle.glk_dispatch.specs.Fault.{numbered, stacked}
+use Rattle.glk_dispatch.specs.Answer.{GlkCall, Reached, over_glk_alone, glk_call, needs, within}
+use Rattle.glk_dispatch.specs.Arguments.{call_arguments, argument_popped, arguments_taken, takes_count}
+use Rattle.glk_dispatch.specs.Fault.{streams_coded, stacked}
 use Rattle.glk_dispatch.specs.Gestalt.{array_begun}
-use Rattle.glk_dispatch.specs.Glk.{charged, rested}
+use Rattle.glk_dispatch.specs.Glk.{character_charged, wait_set_back}
 use Rattle.glk_dispatch.specs.Keeping.{KeepsFrames, KeepsStory}
 use Rattle.glk_dispatch.specs.Links.{links}
-use Rattle.glk_dispatch.specs.Valid.{AreAsked, AreValid, IsReady, IsValid, Stands}
-use Rattle.glk_dispatch.specs.Reference.{gives, next_field, referred, referred_all, refers}
+use Rattle.glk_dispatch.specs.Valid.{AreAsked, AreValid, IsReadyGlk, IsValidGlk, IsValidWaiting}
+use Rattle.glk_dispatch.specs.Reference.{gives, next_field, word_referred, referred_all, refers}
 use Rattle.glk_dispatch.specs.Reference.{refers_all}
 use Rattle.glk_dispatch.specs.declared.called.Called.{Called}
 use Rattle.glk_dispatch.specs.declared.called.Called.TheVariants.{Value}
@@ -51,11 +52,11 @@ use Rattle.glk_dispatch.proofs.PartLemmas.{Alike, valid-alike}
 
 -- what the crates of windows, streams and requests promise
 pub record Parts : Type 0 where
-  pub windows : of_windows.KeepsValid
+  pub windows : of_windows.KeepsWindowsValid
   pub may_key : of_windows.MayKeyHolds
-  pub streams : of_streams.StaysValid
+  pub streams : of_streams.StreamsStayValid
   pub begins : of_streams.BeginsValid
-  pub requests : of_requests.StaysValid
+  pub requests : of_requests.InputsStayValid
 
 pub laws : Parts
 laws = record {
@@ -70,7 +71,7 @@ laws = record {
 
 -- a Glk state is valid, with nothing to wait with, where that of the call was
 abbrev pub Valid : GlkCall → Glk → Type 0
-Valid b g = IsReady b.glk → IsReady g
+Valid b g = IsReadyGlk b.glk → IsReadyGlk g
 
 -- what a call keeps of what it works on
 pub record Keeps (b d : GlkCall) : Type 0 where
@@ -80,7 +81,7 @@ pub record Keeps (b d : GlkCall) : Type 0 where
 
 -- what a row leaves, with its answer
 pub record Leaves (b d : GlkCall) (answer : Called) : Type 0 where
-  pub parts : IsReady b.glk → Stands answer d.glk
+  pub parts : IsReadyGlk b.glk → IsValidWaiting answer d.glk
   pub map : KeepsMap b.memory d.memory
   pub stack : KeepsFrames b.stack d.stack
 
@@ -102,7 +103,7 @@ abbrev pub row : GlkCall → GlkCall × Called → Type 0
 row b p = Leaves b p.0 p.1
 
 abbrev pub told : GlkCall → Glk × Called → Type 0
-told b p = IsReady b.glk → Stands p.1 p.0
+told b p = IsReadyGlk b.glk → IsValidWaiting p.1 p.0
 
 abbrev pub between : {A : Type 0} → GlkCall → Glk × MemoryMap × A → Type 0
 between b p = Keeps b (glk_call p.0 p.1 b.stack)
@@ -169,29 +170,29 @@ ok-coded P (Err e) h = tt
 
 -- what changes neither how windows and streams name each other nor the requests
 pub ready-alike : (g h : Glk) → Alike g h → h.requests ≡ g.requests → h.event ≡ g.event
-    → h.prompt ≡ g.prompt → AreValid h → HaveAreas h.windows h.cols h.rows → IsReady g
-    → IsReady h
+    → h.prompt ≡ g.prompt → AreValid h → HaveAreas h.windows h.cols h.rows → IsReadyGlk g
+    → IsReadyGlk h
 ready-alike g h same asked event prompt parts areas v = record {
   valid = valid-alike g h same asked parts areas v.valid;
   rests = record { event = event ∙ v.rests.event; prompt = prompt ∙ v.rests.prompt };
 }
 
-pub parts-windows : (g : Glk) (t : WindowTree) → AreValid g → windows.IsValid t
+pub parts-windows : (g : Glk) (t : WindowTree) → AreValid g → windows.IsValidTree t
     → t.next ≤ 4294967295 → AreValid (record g { windows = t })
 parts-windows g t v h
     n = record { windows = h; streams = v.streams; requests = v.requests; next = n }
 
 -- other windows that name their streams as before, and have their rectangles
-pub with-windows : (g : Glk) (t : WindowTree) → IsReady g → windows.IsValid t
+pub with-windows : (g : Glk) (t : WindowTree) → IsReadyGlk g → windows.IsValidTree t
     → t.next ≤ 4294967295 → ((m : ℕ) → links (record g { windows = t }) m ≡ links g m)
-    → HaveAreas t g.cols g.rows → IsReady (record g { windows = t })
+    → HaveAreas t g.cols g.rows → IsReadyGlk (record g { windows = t })
 with-windows g t v h n same areas =
     ready-alike g (record g { windows = t }) (record { windows = same; streams = λ m. refl })
     refl refl refl (parts-windows g t v.valid.parts h n) areas v
 
 -- other streams: each window's stream is as it was, and no other is one
-pub with-streams : (g : Glk) (t : StreamTable) → IsReady g → of_streams.IsValid t
-    → More g.streams t → IsReady (record g { streams = t })
+pub with-streams : (g : Glk) (t : StreamTable) → IsReadyGlk g → of_streams.AreValidStreams t
+    → More g.streams t → IsReadyGlk (record g { streams = t })
 with-streams g t v h more = record {
   valid = record {
     parts = record {
@@ -207,8 +208,8 @@ with-streams g t v h more = record {
   rests = record { event = v.rests.event; prompt = v.rests.prompt };
 }
 
-pub with-requests : (g : Glk) (r : List WindowInput) → IsReady g → requests.is_valid r ≡ true
-    → AreAsked (record g { requests = r }) → IsReady (record g { requests = r })
+pub with-requests : (g : Glk) (r : List WindowInput) → IsReadyGlk g → requests.are_valid_inputs r ≡ true
+    → AreAsked (record g { requests = r }) → IsReadyGlk (record g { requests = r })
 with-requests g r v h asked = record {
   valid = record {
     parts = record {
@@ -226,7 +227,7 @@ with-requests g r v h asked = record {
 
 -- other counts, and other words to wait with
 pub same-parts : (g h : Glk) → h.windows ≡ g.windows → h.streams ≡ g.streams
-    → h.requests ≡ g.requests → h.cols ≡ g.cols → h.rows ≡ g.rows → IsValid g → IsValid h
+    → h.requests ≡ g.requests → h.cols ≡ g.cols → h.rows ≡ g.rows → IsValidGlk g → IsValidGlk h
 same-parts g h a b c cols rows v =
     valid-alike g h
     (record {
@@ -234,41 +235,41 @@ same-parts g h a b c cols rows v =
       streams = λ m. ap (λ t. ends_in t m) b;
     }) c
     (record {
-      windows = subst windows.IsValid (sym a) v.parts.windows;
-      streams = subst of_streams.IsValid (sym b) v.parts.streams;
-      requests = ap requests.is_valid c ∙ v.parts.requests;
+      windows = subst windows.IsValidTree (sym a) v.parts.windows;
+      streams = subst of_streams.AreValidStreams (sym b) v.parts.streams;
+      requests = ap requests.are_valid_inputs c ∙ v.parts.requests;
       next = subst (λ t. t.next ≤ 4294967295) (sym a) v.parts.next;
     })
     (subst (λ t. HaveAreas t h.cols h.rows) (sym a)
     (subst (λ n. HaveAreas g.windows n h.rows) (sym cols)
     (subst (λ n. HaveAreas g.windows g.cols n) (sym rows) v.areas))) v
 
-pub charged-valid : (g : Glk) → IsReady g → IsReady (charged g)
+pub charged-valid : (g : Glk) → IsReadyGlk g → IsReadyGlk (character_charged g)
 charged-valid g v = record {
-  valid = same-parts g (charged g) refl refl refl refl refl v.valid;
+  valid = same-parts g (character_charged g) refl refl refl refl refl v.valid;
   rests = record { event = v.rests.event; prompt = v.rests.prompt };
 }
 
-pub rested-valid : (g : Glk) → IsValid g → IsReady (rested g)
+pub rested-valid : (g : Glk) → IsValidGlk g → IsReadyGlk (wait_set_back g)
 rested-valid g v = record {
-  valid = same-parts g (rested g) refl refl refl refl refl v;
+  valid = same-parts g (wait_set_back g) refl refl refl refl refl v;
   rests = record { event = refl; prompt = refl };
 }
 
 -- a call that answers a value waits with nothing
-pub stands : (g : Glk) (x : ℕ) → IsReady g → Stands (Value x) g
+pub stands : (g : Glk) (x : ℕ) → IsReadyGlk g → IsValidWaiting (Value x) g
 stands g x v = record { valid = v.valid; waits = v.rests }
 
 pub kept-made : {A : Type 0} (b : GlkCall) (g : Glk) (r : Result (StreamTable × A) StreamStop)
     → Valid b g → (AreValid g → of_streams.LeavesBeside r) → (AreValid g → LeavesMore g.streams r)
-    → Kept b (beside b) (within g (numbered r) >>= (λ p. Ok (record g { streams = p.0 }, p.1)))
+    → Kept b (beside b) (within g (streams_coded r) >>= (λ p. Ok (record g { streams = p.0 }, p.1)))
 kept-made b g (Ok p) k h more =
     λ v. let w = k v in with-streams g p.0 w (h w.valid.parts) (more w.valid.parts)
 kept-made b g (Err e) k h more = k
 
 pub kept-left : (b : GlkCall) (g : Glk) (r : Result StreamTable StreamStop) → Valid b g
-    → (AreValid g → of_streams.Leaves r) → (AreValid g → LeavesAlone g.streams r)
-    → Kept b (Valid b) (within g (numbered r) >>= (λ t. Ok (record g { streams = t })))
+    → (AreValid g → of_streams.LeavesValidStreams r) → (AreValid g → LeavesAlone g.streams r)
+    → Kept b (Valid b) (within g (streams_coded r) >>= (λ t. Ok (record g { streams = t })))
 kept-left b g (Ok t) k h more =
     λ v. let w = k v in with-streams g t w (h w.valid.parts) (more w.valid.parts)
 kept-left b g (Err e) k h more = k
@@ -285,13 +286,13 @@ pub self : (s : GlkCall) → Keeps s s
 self s = placed-on s s.glk (λ v. v)
 
 pub kept-alone : {A : Type 0} (s : GlkCall) (r : Reached (Glk × A)) → Kept s (beside s) r
-    → Kept s (on s) (alone s r)
+    → Kept s (on s) (over_glk_alone s r)
 kept-alone s r h = kept-bind s (beside s) (on s) r (λ p. Ok (record s { glk = p.0 }, p.1)) h
     (λ p v. placed-on s p.0 v)
 
 -- the same of a row
 pub kept-row : (s : GlkCall) (r : Reached (Glk × Called)) → Kept s (told s) r
-    → Kept s (row s) (alone s r)
+    → Kept s (row s) (over_glk_alone s r)
 kept-row s r h = kept-bind s (told s) (row s) r (λ p. Ok (record s { glk = p.0 }, p.1)) h
     (λ p v. record { parts = v; map = (self s).map; stack = (self s).stack })
 
@@ -382,7 +383,7 @@ pushed-if b s new false e k = tt
 abbrev first : {A : Type 0} → (StackState → Type 0) → StackState × A → Type 0
 first P p = P p.0
 
-ok-popped : (b s : StackState) → KeepsFrames b s → IfOk (popped s) (first (KeepsFrames b))
+ok-popped : (b s : StackState) → KeepsFrames b s → IfOk (argument_popped s) (first (KeepsFrames b))
 ok-popped b s k =
     elim (cases_Bool (nat_le 4 (value_bytes s))) [
       | inl e ↦
@@ -396,22 +397,22 @@ ok-popped b s k =
     ]
 
 ok-taken : (b : StackState) (n : ℕ) (s : StackState) (i : ℕ) (args : List ℕ) → KeepsFrames b s
-    → IfOk (taken n s i args) (first (KeepsFrames b))
-unfolding taken
+    → IfOk (arguments_taken n s i args) (first (KeepsFrames b))
+unfolding arguments_taken
 ok-taken b zero s i args k = k
 ok-taken b (suc n) s i args k =
-    ok-bind (first (KeepsFrames b)) (first (KeepsFrames b)) (popped s)
-    (λ p. taken n p.0 (i + 1) (slice_set args i p.1))
+    ok-bind (first (KeepsFrames b)) (first (KeepsFrames b)) (argument_popped s)
+    (λ p. arguments_taken n p.0 (i + 1) (slice_set args i p.1))
     (ok-popped b s k) (λ p h. ok-taken b n p.0 (i + 1) (slice_set args i p.1) h)
 
 abbrev pub at-first : {A : Type 0} → StackState → StackState × A → Type 0
 at-first s p = KeepsFrames s p.0
 
 pub ok-arguments : (s : StackState) (count : Option ℕ) (given : ℕ)
-    → IfOk (arguments s count given) (at-first s)
+    → IfOk (call_arguments s count given) (at-first s)
 ok-arguments s count given =
-    ok-if (first (KeepsFrames s)) (nat_lt (stack.count s) given) _ _ tt
-    (ok-if (first (KeepsFrames s)) (takes count given) _ _
+    ok-if (first (KeepsFrames s)) (nat_lt (stack.value_count s) given) _ _ tt
+    (ok-if (first (KeepsFrames s)) (takes_count count given) _ _
     (ok-taken s given s 0 (replicate 5 0) (record { limit = refl; frames = λ c h. (c, h) })) tt)
 
 -- ---- references
@@ -420,7 +421,7 @@ abbrev both : GlkCall → MemoryMap × StackState → Type 0
 both b p = KeepsStory b.memory b.stack p.0 p.1
 
 ok-referred : (b : GlkCall) (m : MemoryMap) (s : StackState) (at x : ℕ)
-    → KeepsStory b.memory b.stack m s → IfOk (referred m s at x) (both b)
+    → KeepsStory b.memory b.stack m s → IfOk (word_referred m s at x) (both b)
 ok-referred b m s at x k =
     ok-if (both b) (at == 0) _ _ k
     (ok-if (both b) (at == 4294967295) _ _
@@ -436,7 +437,7 @@ ok-referred_all : (b : GlkCall) (xs : List ℕ) (m : MemoryMap) (s : StackState)
     → IfOk (referred_all m s at xs) (both b)
 ok-referred_all b [] m s at k = k
 ok-referred_all b (x ∷ xs) m s at k =
-    ok-bind (both b) (both b) (referred m s at x) (λ p. referred_all p.0 p.1 (next_field at) xs)
+    ok-bind (both b) (both b) (word_referred m s at x) (λ p. referred_all p.0 p.1 (next_field at) xs)
     (ok-referred b m s at x k) (λ p h. ok-referred_all b xs p.0 p.1 (next_field at) h)
 
 story : (b d : GlkCall) → Keeps b d → KeepsStory b.memory b.stack d.memory d.stack
@@ -444,7 +445,7 @@ story b d k = record { map = k.map; stack = k.stack }
 
 pub kept-refers : (b d : GlkCall) (at x : ℕ) → Keeps b d → Kept b (Keeps b) (refers d at x)
 kept-refers b d at x k =
-    kept-step b (both b) (Keeps b) d.glk (referred d.memory d.stack at x)
+    kept-step b (both b) (Keeps b) d.glk (word_referred d.memory d.stack at x)
     (λ p. Ok (record d { memory = p.0; stack = p.1 })) k.parts
     (ok-referred b d.memory d.stack at x (story b d k))
     (λ p h. record { parts = k.parts; map = h.map; stack = h.stack })

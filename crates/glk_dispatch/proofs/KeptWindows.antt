@@ -3,7 +3,8 @@ use Rattle.std.proofs.Common.{◌≡◌, ℕ, zero, suc, ◌+◌, ◌==◌, ◌|
 use Rattle.std.proofs.Common.{true, false, [], ◌∷◌, length, refl, Result, Ok, Err, cond, sym, subst}
 use Rattle.std.proofs.Common.{inl, inr, Option, Some, None, arith, ◌<◌, ◌≤◌, ◌≢◌, List, ap}
 use Rattle.std.proofs.lemmas.Bool.Decides.{nat_tests}
-use Rattle.glk_numbers.specs.Numbered.{after, has}
+use Rattle.vm_memory.specs.Chaining.{◌>>=◌}
+use Rattle.glk_numbers.specs.Numbered.{number_above, has}
 use Rattle.glk_numbers.specs.declared.numbered.TheConstants.{MAX_NUMBER}
 use Rattle.glk_windows.proofs.AreaLemmas.{SamePlacement, areas-alike, content-placed}
 use Rattle.glk_windows.proofs.AreaLemmas.{placement-changed}
@@ -24,11 +25,11 @@ use Rattle.glk_streams.specs.Laws as slaw
 use Rattle.glk_streams.specs.Opening as sopen
 use Rattle.glk_streams.specs.Streams.{StreamTable}
 use Rattle.glk_streams.specs.declared.fault.StreamStop.{StreamStop}
-use Rattle.glk_dispatch.specs.Answer.{GlkCall, ◌>>=◌, alone, within}
-use Rattle.glk_dispatch.specs.Fault.{numbered}
-use Rattle.glk_dispatch.specs.Glk.{is_stream, is_window, placed, written_to}
-use Rattle.glk_dispatch.specs.Links.{ends, link_of, links}
-use Rattle.glk_dispatch.specs.Valid.{AreValid, IsReady}
+use Rattle.glk_dispatch.specs.Answer.{GlkCall, over_glk_alone, within}
+use Rattle.glk_dispatch.specs.Fault.{streams_coded}
+use Rattle.glk_dispatch.specs.Glk.{is_stream, has_window, with_rectangles, written_to}
+use Rattle.glk_dispatch.specs.Links.{stream_ends, window_link, links}
+use Rattle.glk_dispatch.specs.Valid.{AreValid, IsReadyGlk}
 use Rattle.glk_dispatch.specs.Reference.{gives, refers, refers_all}
 use Rattle.glk_dispatch.specs.Windows as rows
 use Rattle.glk_dispatch.specs.declared.glk.Glk.{Glk}
@@ -66,7 +67,7 @@ first-if : (b : Bool) (x y : Glk × ℕ) → AreValid x.0 → AreValid y.0 → A
 first-if true x y v w = v
 first-if false x y v w = w
 
-placed-parts : (g : Glk) → AreValid g → AreValid (placed g)
+placed-parts : (g : Glk) → AreValid g → AreValid (with_rectangles g)
 placed-parts g v = record {
   windows = laws.windows.place g.windows g.cols g.rows v.windows;
   streams = v.streams;
@@ -75,7 +76,7 @@ placed-parts g v = record {
 }
 
 begun-valid : (g : Glk) (win : ℕ) → 0 < win → win < 4294967295 → AreValid g
-    → AreValid (rows.begun g win)
+    → AreValid (rows.window_begun g win)
 begun-valid g win lo hi v = record {
   windows = laws.windows.set_stream g.windows win (sopen.opened_window g.streams win).1 v.windows;
   streams = (laws.streams g.streams v.streams).window win;
@@ -91,7 +92,7 @@ first-case : (b : Bool) (x y : Glk × ℕ) → AreValid x.0 → (b ≡ false →
 first-case true x y v w = v
 first-case false x y v w = w refl
 
-first_made-valid : (g : Glk) (made : tree.WindowTree × ℕ) → AreValid g → wvalid.IsValid made.0
+first_made-valid : (g : Glk) (made : tree.WindowTree × ℕ) → AreValid g → wvalid.IsValidTree made.0
     → made.0.next ≤ 4294967295 → made.1 < 4294967295 → AreValid (rows.first_made g made).0
 first_made-valid g made v w nx hi =
     let h : AreValid (record g { windows = made.0 }) = record {
@@ -101,11 +102,11 @@ first_made-valid g made v w nx hi =
       next = nx;
     } in
     first-case (made.1 == 0) (record g { windows = made.0 }, 0)
-    (placed (rows.begun (record g { windows = made.0 }) made.1), made.1) h
-    (λ e. placed-parts (rows.begun (record g { windows = made.0 }) made.1)
+    (with_rectangles (rows.window_begun (record g { windows = made.0 }) made.1), made.1) h
+    (λ e. placed-parts (rows.window_begun (record g { windows = made.0 }) made.1)
     (begun-valid (record g { windows = made.0 }) made.1 (not-none made.1 e) hi h))
 
-beside_made-valid : (g : Glk) (made : tree.WindowTree × ℕ) → AreValid g → wvalid.IsValid made.0
+beside_made-valid : (g : Glk) (made : tree.WindowTree × ℕ) → AreValid g → wvalid.IsValidTree made.0
     → made.0.next ≤ 4294967295 → made.1 + 1 < 4294967295 → AreValid (rows.beside_made g made).0
 beside_made-valid g made v w nx hi =
     let h : AreValid (record g { windows = made.0 }) = record {
@@ -115,9 +116,9 @@ beside_made-valid g made v w nx hi =
       next = nx;
     } in
     first-case (made.1 == 0) (record g { windows = made.0 }, 0)
-    (placed (rows.begun (rows.begun (record g { windows = made.0 }) made.1) (made.1 + 1)), made.1) h
-    (λ e. placed-parts (rows.begun (rows.begun (record g { windows = made.0 }) made.1) (made.1 + 1))
-    (begun-valid (rows.begun (record g { windows = made.0 }) made.1) (made.1 + 1) (omega arith) hi
+    (with_rectangles (rows.window_begun (rows.window_begun (record g { windows = made.0 }) made.1) (made.1 + 1)), made.1) h
+    (λ e. placed-parts (rows.window_begun (rows.window_begun (record g { windows = made.0 }) made.1) (made.1 + 1))
+    (begun-valid (rows.window_begun (record g { windows = made.0 }) made.1) (made.1 + 1) (omega arith) hi
     (begun-valid (record g { windows = made.0 }) made.1 (not-none made.1 e) (omega arith) h)))
 
 neither-first : (a b : Bool) → (a || b) ≡ false → a ≡ false
@@ -180,7 +181,7 @@ split-fine t split method size kind rock h e =
 number_of-fine : (p : tree.WindowTree × ℕ) → IsFine 0 p → p.1 < 4294967295
 number_of-fine p h = let k : p.1 + 0 < 4294967295 = h.number in omega arith
 
-opened-first : (g : Glk) (kind rock : ℕ) → AreValid g → AreValid (rows.first_opened g kind rock).0
+opened-first : (g : Glk) (kind rock : ℕ) → AreValid g → AreValid (rows.first_window_opened g kind rock).0
 opened-first g kind rock v =
     let made = opening.split g.windows 0 0 0 kind rock in
     let fine = first-fine g.windows kind rock v.next in
@@ -189,9 +190,9 @@ opened-first g kind rock v =
     (laws.windows.split g.windows 0 0 0 kind rock v.windows (inl refl)) fine.next
     (number_of-fine made fine))
 
-opened-beside : (g : Glk) (split method size kind rock : ℕ) → is_window g split ≡ true
+opened-beside : (g : Glk) (split method size kind rock : ℕ) → has_window g split ≡ true
     → arranging.is_method method ≡ true → (split == 0) ≡ false
-    → AreValid g → AreValid (rows.beside_opened g split method size kind rock).0
+    → AreValid g → AreValid (rows.window_beside g split method size kind rock).0
 opened-beside g split method size kind rock live m e v =
     let made = opening.split g.windows split method size kind rock in
     let fine = split-fine g.windows split method size kind rock v.next e in
@@ -201,10 +202,10 @@ opened-beside g split method size kind rock live m e v =
     fine.number)
 
 kept-opened : (s : GlkCall) (split method size kind rock : ℕ)
-    → Kept s (beside s) (rows.opened s.glk split method size kind rock)
+    → Kept s (beside s) (rows.window_opened s.glk split method size kind rock)
 kept-opened s split method size kind rock =
     let g = s.glk in
-    row-needs s (beside s) (split == 0 || is_window g split) 21 _
+    row-needs s (beside s) (split == 0 || has_window g split) 21 _
     (λ live. kept-if s (beside s) (split == 0) _ _
     (λ e. λ v. first-ready g kind rock v
     (laws.windows.split g.windows 0 0 0 kind rock v.valid.parts.windows (inl refl))
@@ -212,11 +213,11 @@ kept-opened s split method size kind rock =
     (λ e. row-needs s (beside s) (arranging.is_method method) 22 _
     (λ m. λ v. beside-ready g split method size kind rock e v
     (laws.windows.split g.windows split method size kind rock v.valid.parts.windows
-    (inr (or-second (split == 0) (is_window g split) live e, m)))
+    (inr (or-second (split == 0) (has_window g split) live e, m)))
     (opened-beside g split method size kind rock
-    (or-second (split == 0) (is_window g split) live e) m e v.valid.parts))))
+    (or-second (split == 0) (has_window g split) live e) m e v.valid.parts))))
 
-dropped-valid : (g : Glk) (win : ℕ) → AreValid g → AreValid (rows.dropped g win)
+dropped-valid : (g : Glk) (win : ℕ) → AreValid g → AreValid (rows.window_dropped g win)
 dropped-valid g win v = record {
   windows = v.windows;
   streams = (laws.streams g.streams v.streams).close_window win;
@@ -229,7 +230,7 @@ all_dropped-valid : (depth : ℕ) (g : Glk) (win : ℕ) → AreValid g
 unfolding rows.all_dropped
 all_dropped-valid zero g win v = v
 all_dropped-valid (suc depth) g win v =
-    let h = rows.dropped g win in
+    let h = rows.window_dropped g win in
     let p = reading.children_of g.windows.slots win in
     valid-if (p.0 == 0) h (rows.all_dropped depth (rows.all_dropped depth h p.0) p.1)
     (dropped-valid g win v)
@@ -242,15 +243,15 @@ next-if true x y n e f = e
 next-if false x y n e f = f
 
 next-ended : (t : tree.WindowTree) (pair : ℕ) (o : Option pairs.Pair) (n : ℕ)
-    → (closing.ended t pair o n).next ≡ t.next
+    → (closing.sibling_lifted t pair o n).next ≡ t.next
 next-ended t pair None n = refl
 next-ended t pair (Some p) n = refl
 
 next-close : (t : tree.WindowTree) (n : ℕ) → (closing.close t n).next ≡ t.next
 next-close t n = next-if (tree.parent_of t.slots n == 0) _ _ t.next refl (next-ended _ _ _ _)
 
-ended-valid : (g : Glk) (win : ℕ) → AreValid g → is_window g win ≡ true
-    → AreValid (rows.ended g win)
+ended-valid : (g : Glk) (win : ℕ) → AreValid g → has_window g win ≡ true
+    → AreValid (rows.window_ended g win)
 ended-valid g win v live =
     let d = rows.all_dropped (length g.windows.slots) g win in
     let dv = all_dropped-valid (length g.windows.slots) g win v in
@@ -259,39 +260,39 @@ ended-valid g win v live =
     let same : c.windows ≡ g.windows = all_dropped-windows (length g.windows.slots) g win in
     record {
       windows = laws.windows.close c.windows win cv.windows
-          (subst (λ t. has tree.number_of t.slots win ≡ true) (sym same) live);
+          (subst (λ t. has tree.window_number t.slots win ≡ true) (sym same) live);
       streams = cv.streams;
       requests = cv.requests;
       next = subst (λ n. n ≤ 4294967295) (sym (next-close c.windows win)) cv.next;
     }
 
 -- other windows that name their streams as before get their rectangles
-placed-ready : (g : Glk) (t : tree.WindowTree) → IsReady g → wvalid.IsValid t
+placed-ready : (g : Glk) (t : tree.WindowTree) → IsReadyGlk g → wvalid.IsValidTree t
     → t.next ≤ 4294967295 → ((m : ℕ) → links (record g { windows = t }) m ≡ links g m)
-    → IsReady (placed (record g { windows = t }))
+    → IsReadyGlk (with_rectangles (record g { windows = t }))
 placed-ready g t v windows next same =
     let h = record g { windows = t } in record {
       valid = placed-valid h
           (placed-parts h (parts-windows g t v.valid.parts windows next)) windows
-          (beside-same (links g) (links h) (ends g) (ends h) g.requests same (λ m. refl)
+          (beside-same (links g) (links h) (stream_ends g) (stream_ends h) g.requests same (λ m. refl)
           (beside-of g v.valid));
       rests = record { event = v.rests.event; prompt = v.rests.prompt };
     }
 
-closed-there : (g : Glk) (win : ℕ) → IsReady g → is_window g win ≡ true
-    → IsReady (rows.closed g win)
+closed-there : (g : Glk) (win : ℕ) → IsReadyGlk g → has_window g win ≡ true
+    → IsReadyGlk (rows.glk_without_window g win)
 closed-there g win v live =
     let ended = ended-valid g win v.valid.parts live in
-    closed-ready g win v live ended (placed-parts (rows.ended g win) ended)
+    closed-ready g win v live ended (placed-parts (rows.window_ended g win) ended)
 
 kind-arranged : (c : Content) (method size key : ℕ)
-    → reading.kind_in (tree.arranged c method size key) ≡ reading.kind_in c
+    → reading.kind_in (tree.content_arranged c method size key) ≡ reading.kind_in c
 kind-arranged (Pair p) method size key = refl
 kind-arranged Blank method size key = refl
 kind-arranged (Buffer b) method size key = refl
 kind-arranged (Grid g) method size key = refl
 
-kind-moved : (c : Content) (x y : ℕ) → reading.kind_in (tree.moved c x y) ≡ reading.kind_in c
+kind-moved : (c : Content) (x y : ℕ) → reading.kind_in (tree.grid_cursor_moved c x y) ≡ reading.kind_in c
 kind-moved (Pair p) x y = refl
 kind-moved Blank x y = refl
 kind-moved (Buffer b) x y = refl
@@ -303,7 +304,7 @@ cleared-placement Blank = (refl, refl)
 cleared-placement (Buffer b) = (refl, refl)
 cleared-placement (Grid g) = (refl, refl)
 
-moved-placement : (x y : ℕ) → SamePlacement (λ c. tree.moved c x y)
+moved-placement : (x y : ℕ) → SamePlacement (λ c. tree.grid_cursor_moved c x y)
 moved-placement x y (Pair p) = (refl, refl)
 moved-placement x y Blank = (refl, refl)
 moved-placement x y (Buffer b) = (refl, refl)
@@ -326,25 +327,25 @@ content-links : (f : Content → Content)
     → ((c : Content) → reading.kind_in (f c) ≡ reading.kind_in c) → (ws : List Win) (n m : ℕ)
     → links_in (tree.set_at (λ w. record w { content = f w.content }) ws n) m ≡ links_in ws m
 content-links f same ws n m =
-    part-changed tree.number_of link_of (λ w. record w { content = f w.content }) (λ w. refl)
+    part-changed tree.window_number window_link (λ w. record w { content = f w.content }) (λ w. refl)
     (λ w. ap (λ k. record { stream = w.stream; echo = w.echo; kind = k }) (same w.content)) ws n m
 
 kept-arranged : (s : GlkCall) (win method size key : ℕ)
-    → Kept s (told s) (rows.arranged s.glk win method size key)
+    → Kept s (told s) (rows.window_arranged s.glk win method size key)
 kept-arranged s win method size key =
     let g = s.glk in
     let t = arranging.arrange g.windows win method size key in
-    row-needs s (told s) (is_window g win) 21 _ (λ live.
+    row-needs s (told s) (has_window g win) 21 _ (λ live.
     row-needs s (told s) (rows.is_pair g win) 22 _ (λ p.
     row-needs s (told s)
     (arranging.is_method method && reading.is_same_axis g.windows.slots win method) 22 _ (λ m.
-    row-needs s (told s) (key == 0 || is_window g key) 21 _ (λ k.
+    row-needs s (told s) (key == 0 || has_window g key) 21 _ (λ k.
     row-needs s (told s) (reading.may_key g.windows.slots win key) 22 _ (λ may. λ v.
-    stands (placed (record g { windows = t })) 0 (placed-ready g t v
+    stands (with_rectangles (record g { windows = t })) 0 (placed-ready g t v
     (laws.windows.arrange g.windows win method size key v.valid.parts.windows
     (and-first (arranging.is_method method) (reading.is_same_axis g.windows.slots win method) m)
     (laws.may_key.only g.windows win key v.valid.parts.windows live may)) v.valid.parts.next
-    (content-links (λ c. tree.arranged c method size key)
+    (content-links (λ c. tree.content_arranged c method size key)
     (λ c. kind-arranged c method size key) g.windows.slots win)))))))
 
 -- glk_window_set_echo_stream
@@ -357,7 +358,7 @@ no-zero n h = grind (arith, nat_tests, h)
 
 echo_set-ready : (g : Glk) (win n : ℕ) → (n == 0 || is_stream g n) ≡ true
     → not (rows.is_loop g win n) ≡ true
-    → IsReady g → IsReady (record g { windows = arranging.echo_set g.windows win n })
+    → IsReadyGlk g → IsReadyGlk (record g { windows = arranging.echo_set g.windows win n })
 echo_set-ready g win n live loop v = record {
   valid = record {
     parts = parts-windows g (arranging.echo_set g.windows win n) v.valid.parts
@@ -374,14 +375,14 @@ echo_set-ready g win n live loop v = record {
   rests = record { event = v.rests.event; prompt = v.rests.prompt };
 }
 
-kept-tells : (s : GlkCall) (win value : ℕ) → Kept s (row s) (rows.tells s win value)
-kept-tells s win value = kept-read s (row s) s.glk (rows.told s.glk win value) (λ x. gives x s)
+kept-tells : (s : GlkCall) (win value : ℕ) → Kept s (row s) (rows.tells_of_window s win value)
+kept-tells s win value = kept-read s (row s) s.glk (rows.told_of_window s.glk win value) (λ x. gives x s)
     (λ v. v) (λ x. answers s s x (self s))
 
 kept-current : (s : GlkCall) (r : Result StreamTable StreamStop)
-    → (AreValid s.glk → slaw.Leaves r) → (AreValid s.glk → LeavesAlone s.glk.streams r)
+    → (AreValid s.glk → slaw.LeavesValidStreams r) → (AreValid s.glk → LeavesAlone s.glk.streams r)
     → Kept s (told s)
-    (within s.glk (numbered r) >>= (λ t. rows.leaves (record s.glk { streams = t })))
+    (within s.glk (streams_coded r) >>= (λ t. rows.leaves_windows (record s.glk { streams = t })))
 kept-current s (Ok t) h more = λ v.
     stands (record s.glk { streams = t }) 0
     (with-streams s.glk t v (h v.valid.parts) (more v.valid.parts))
@@ -391,47 +392,47 @@ pub kept-window_work : (c : WindowCall) (s : GlkCall) (l : ℕ → ℕ)
     → Kept s (row s) (rows.window_work c s l)
 unfolding rows.window_work
 kept-window_work to.Iterate s l =
-    row-needs s (row s) (l 0 == 0 || is_window s.glk (l 0)) 21 _
+    row-needs s (row s) (l 0 == 0 || has_window s.glk (l 0)) 21 _
     (λ e. kept-one s (l 1)
-    (reading.rock_of (rows.slots s) (after tree.number_of (rows.slots s) (l 0)))
-    (after tree.number_of (rows.slots s) (l 0)))
+    (reading.rock_of (rows.slots s) (number_above tree.window_number (rows.slots s) (l 0)))
+    (number_above tree.window_number (rows.slots s) (l 0)))
 kept-window_work to.GetRock s l = kept-tells s (l 0) (reading.rock_of (rows.slots s) (l 0))
 kept-window_work to.GetRoot s l = answers s s _ (self s)
 kept-window_work to.Open s l =
-    kept-bind s (on s) (row s) (alone s (rows.opened s.glk (l 0) (l 1) (l 2) (l 3) (l 4)))
+    kept-bind s (on s) (row s) (over_glk_alone s (rows.window_opened s.glk (l 0) (l 1) (l 2) (l 3) (l 4)))
     (λ p. gives p.1 p.0)
-    (kept-alone s (rows.opened s.glk (l 0) (l 1) (l 2) (l 3) (l 4))
+    (kept-alone s (rows.window_opened s.glk (l 0) (l 1) (l 2) (l 3) (l 4))
     (kept-opened s (l 0) (l 1) (l 2) (l 3) (l 4))) (λ p k. answers s p.0 p.1 k)
 kept-window_work to.Close s l =
     let written = written_to s.glk (tree.stream_of (rows.slots s) (l 0)) in
-    let t = record s { glk = rows.closed s.glk (l 0) } in
-    row-needs s (row s) (is_window s.glk (l 0)) 21 _
+    let t = record s { glk = rows.glk_without_window s.glk (l 0) } in
+    row-needs s (row s) (has_window s.glk (l 0)) 21 _
     (λ live. kept-told s (refers_all t (l 1) (0 ∷ written ∷ [])) 0
     (kept-refers_all s t (l 1) (0 ∷ written ∷ [])
-    (placed-on s (rows.closed s.glk (l 0)) (λ v. closed-there s.glk (l 0) v live))))
+    (placed-on s (rows.glk_without_window s.glk (l 0)) (λ v. closed-there s.glk (l 0) v live))))
 kept-window_work to.GetSize s l =
     let x = reading.size_of (rows.slots s) (l 0) in
-    row-needs s (row s) (is_window s.glk (l 0)) 21 _
+    row-needs s (row s) (has_window s.glk (l 0)) 21 _
     (λ e. kept-told s (refers s (l 1) x.0 >>= (λ t. refers t (l 2) x.1)) 0
     (kept-then s (refers s (l 1) x.0) (l 2) x.1 (kept-refers s s (l 1) x.0 (self s))))
 kept-window_work to.SetArrangement s l =
-    kept-row s (rows.arranged s.glk (l 0) (l 1) (l 2) (l 3))
+    kept-row s (rows.window_arranged s.glk (l 0) (l 1) (l 2) (l 3))
     (kept-arranged s (l 0) (l 1) (l 2) (l 3))
 kept-window_work to.GetArrangement s l =
     let x = reading.arrangement_of (rows.slots s) (l 0) in
-    row-needs s (row s) (is_window s.glk (l 0)) 21 _
+    row-needs s (row s) (has_window s.glk (l 0)) 21 _
     (λ e. row-needs s (row s) (rows.is_pair s.glk (l 0)) 22 _
     (λ f. kept-told s (refers s (l 1) x.0 >>= (λ t. refers t (l 2) x.1) >>=
     (λ t. refers t (l 3) x.2)) 0
     (kept-then s (refers s (l 1) x.0 >>= (λ t. refers t (l 2) x.1)) (l 3) x.2
     (kept-then s (refers s (l 1) x.0) (l 2) x.1 (kept-refers s s (l 1) x.0 (self s))))))
-kept-window_work to.GetType s l = kept-tells s (l 0) (reading.kind_of (rows.slots s) (l 0))
+kept-window_work to.GetType s l = kept-tells s (l 0) (reading.window_kind (rows.slots s) (l 0))
 kept-window_work to.GetParent s l = kept-tells s (l 0) (tree.parent_of (rows.slots s) (l 0))
 kept-window_work to.GetSibling s l = kept-tells s (l 0) (reading.sibling_of (rows.slots s) (l 0))
 kept-window_work to.Clear s l =
     let t = output.clear s.glk.windows (l 0) in
     kept-row s (rows.cleared s.glk (l 0))
-    (row-needs s (told s) (is_window s.glk (l 0)) 21 _
+    (row-needs s (told s) (has_window s.glk (l 0)) 21 _
     (λ e v. stands (record s.glk { windows = t }) 0 (with-windows s.glk t v
     (laws.windows.clear s.glk.windows (l 0) v.valid.parts.windows) v.valid.parts.next
     (content-links output.content_cleared kind-cleared s.glk.windows.slots (l 0))
@@ -439,20 +440,20 @@ kept-window_work to.Clear s l =
     s.glk.rows v.valid.areas))))
 kept-window_work to.MoveCursor s l =
     let t = arranging.move_to s.glk.windows (l 0) (l 1) (l 2) in
-    kept-row s (rows.moved s.glk (l 0) (l 1) (l 2))
-    (row-needs s (told s) (is_window s.glk (l 0)) 21 _
+    kept-row s (rows.cursor_moved s.glk (l 0) (l 1) (l 2))
+    (row-needs s (told s) (has_window s.glk (l 0)) 21 _
     (λ e. row-needs s (told s) (rows.is_grid s.glk (l 0)) 22 _
     (λ f v. stands (record s.glk { windows = t }) 0 (with-windows s.glk t v
     (laws.windows.move_to s.glk.windows (l 0) (l 1) (l 2) v.valid.parts.windows)
     v.valid.parts.next
-    (content-links (λ c. tree.moved c (l 1) (l 2)) (λ c. kind-moved c (l 1) (l 2))
+    (content-links (λ c. tree.grid_cursor_moved c (l 1) (l 2)) (λ c. kind-moved c (l 1) (l 2))
     s.glk.windows.slots (l 0))
-    (content-areas (λ c. tree.moved c (l 1) (l 2)) (moved-placement (l 1) (l 2)) s.glk.windows
+    (content-areas (λ c. tree.grid_cursor_moved c (l 1) (l 2)) (moved-placement (l 1) (l 2)) s.glk.windows
     (l 0) s.glk.cols s.glk.rows v.valid.areas)))))
 kept-window_work to.GetStream s l = kept-tells s (l 0) (tree.stream_of (rows.slots s) (l 0))
 kept-window_work to.SetEchoStream s l =
-    kept-row s (rows.echo_set s.glk (l 0) (l 1))
-    (row-needs s (told s) (is_window s.glk (l 0)) 21 _
+    kept-row s (rows.echo_stream_set s.glk (l 0) (l 1))
+    (row-needs s (told s) (has_window s.glk (l 0)) 21 _
     (λ e. row-needs s (told s) (l 1 == 0 || is_stream s.glk (l 1)) 21 _
     (λ f. row-needs s (told s) (not (rows.is_loop s.glk (l 0) (l 1))) 22 _
     (λ k v. stands (record s.glk { windows = arranging.echo_set s.glk.windows (l 0) (l 1) }) 0
@@ -460,7 +461,7 @@ kept-window_work to.SetEchoStream s l =
 kept-window_work to.GetEchoStream s l = kept-tells s (l 0) (reading.echo_of (rows.slots s) (l 0))
 kept-window_work to.SetWindow s l =
     kept-row s (rows.window_set s.glk (l 0))
-    (row-needs s (told s) (l 0 == 0 || is_window s.glk (l 0)) 21 _
+    (row-needs s (told s) (l 0 == 0 || has_window s.glk (l 0)) 21 _
     (λ e. kept-current s
     (refs.with_current s.glk.streams (tree.stream_of s.glk.windows.slots (l 0)))
     (λ v. (laws.streams s.glk.streams v.streams).current (tree.stream_of s.glk.windows.slots (l 0)))

@@ -3,8 +3,8 @@ use Rattle.std.proofs.Common.{◌≡◌, ◌≢◌, ◌⊎◌, inl, inr, ℕ, �
 use Rattle.std.proofs.Common.{◌∙◌, arith, Option, Some, None, option_map, is_some, if◌then◌else◌}
 use Rattle.std.proofs.lemmas.Grind.{common_steps}
 use Rattle.std.proofs.lemmas.Bool.{cases_Bool}
-use Rattle.glk_dispatch.specs.Links.{Link, End, Links, Ends, AreLinked, next, echo_by, echo_in}
-use Rattle.glk_dispatch.specs.Links.{stream_in, owner}
+use Rattle.glk_dispatch.specs.Links.{Link, End, Links, Ends, AreLinked, next_echo, echo_by, echo_in}
+use Rattle.glk_dispatch.specs.Links.{live_stream, owner}
 use Rattle.glk_dispatch.proofs.LoopLemmas.{no_loop-fewer, no_loop-turned, walk}
 
 -- the same windows and streams
@@ -20,11 +20,11 @@ pub linked-same : (w : Links) (s : Ends) (v : Links) (t : Ends) → Same w s v t
     → AreLinked v t
 linked-same w s v t h k = record {
   streams = λ win l e. ap owner (h.streams l.stream) ∙ k.streams win l (sym (h.windows win) ∙ e);
-  windows = λ n win e. ap stream_in (h.windows win)
+  windows = λ n win e. ap live_stream (h.windows win)
       ∙ k.windows n win (sym (ap owner (h.streams n)) ∙ e);
   plain = λ n e f. k.plain n e (sym (h.streams n) ∙ f);
   echoes = λ win l e z. ap is_some (h.streams l.echo) ∙ k.echoes win l (sym (h.windows win) ∙ e) z;
-  no_loop = no_loop-fewer (next w s) (next v t)
+  no_loop = no_loop-fewer (next_echo w s) (next_echo v t)
       (λ n. inl (ap (echo_by v) (ap owner (h.streams n))
       ∙ echo-same w v h.windows (owner (s n)))) k.no_loop;
 }
@@ -64,11 +64,11 @@ linked-opened w s v t a b kind h k = record {
     | inl x ↦
         let own : Some a ≡ Some win = sym (ap owner (ap t x ∙ h.stream)) ∙ e in
         let win_is : a ≡ win = cc in
-        ap (λ m. stream_in (v m)) (sym win_is) ∙ ap stream_in h.window ∙ ap Some (sym x)
+        ap (λ m. live_stream (v m)) (sym win_is) ∙ ap live_stream h.window ∙ ap Some (sym x)
     | inr x ↦
         let old = k.windows n win (sym (ap owner (h.streams n x)) ∙ e) in
-        ap stream_in (h.windows win (λ y. let c : None
-        ≡ Some n = sym (ap stream_in (ap w y ∙ h.new_window)) ∙ old in cc)) ∙ old
+        ap live_stream (h.windows win (λ y. let c : None
+        ≡ Some n = sym (ap live_stream (ap w y ∙ h.new_window)) ∙ old in cc)) ∙ old
   ];
   plain = λ n e f. elim (eq-cases n b) [
     | inl x ↦
@@ -86,7 +86,7 @@ linked-opened w s v t a b kind h k = record {
         ap is_some (h.streams l.echo (λ y. let c : false
         ≡ true = sym (ap is_some (ap s y ∙ h.new_stream)) ∙ old in absurd cc)) ∙ old
   ];
-  no_loop = no_loop-fewer (next w s) (next v t) (λ n. elim (eq-cases n b) [
+  no_loop = no_loop-fewer (next_echo w s) (next_echo v t) (λ n. elim (eq-cases n b) [
     | inl x ↦ inr (ap (λ m. echo_by v (owner (t m))) x ∙ ap (λ o. echo_by v (owner o)) h.stream
         ∙ ap echo_in h.window)
     | inr x ↦ inl (ap (λ o. echo_by v (owner o)) (h.streams n x)
@@ -103,7 +103,7 @@ linked-opened w s v t a b kind h k = record {
         → (n : ℕ) (o : Option ℕ) → owner (s n) ≡ o → echo_by v o ≡ echo_by w o
     old-echo w s v k a none same n None e = refl
     old-echo w s v k a none same n (Some win) e =
-        ap echo_in (same win (λ y. let c : None ≡ Some n = sym (ap stream_in (ap w y ∙ none))
+        ap echo_in (same win (λ y. let c : None ≡ Some n = sym (ap live_stream (ap w y ∙ none))
         ∙ k.windows n win e in cc))
 
 -- a link without an echo to a stream that is lost
@@ -147,8 +147,8 @@ unlinked-window lost (Some m) false l e =
     let same : unechoed lost m ≡ l = cc in
     (refl, record { link = m; there = refl; same = sym same })
 
-stream-unechoed : (lost : ℕ → Bool) (o : Option Link) → stream_in (option_map (unechoed lost) o)
-    ≡ stream_in o
+stream-unechoed : (lost : ℕ → Bool) (o : Option Link) → live_stream (option_map (unechoed lost) o)
+    ≡ live_stream o
 stream-unechoed lost None = refl
 stream-unechoed lost (Some l) = refl
 
@@ -178,7 +178,7 @@ linked-closed w s v t gone lost h k = record {
       (h.together l.stream win old ∙ x.0) ∙ old;
   windows = λ n win e.
       let x = owner-lost (lost n) (s n) win (sym (ap owner (h.streams n)) ∙ e) in
-      ap stream_in (h.windows win) ∙ ap (λ b. stream_in
+      ap live_stream (h.windows win) ∙ ap (λ b. live_stream
       (if b then None else option_map (unechoed lost) (w win))) (sym (h.together n win x.1)
       ∙ x.0)
       ∙ stream-unechoed lost (w win) ∙ k.windows n win x.1;
@@ -193,7 +193,7 @@ linked-closed w s v t gone lost h k = record {
       ap (λ n. is_some (t n)) echo_was ∙ ap is_some (h.streams x.1.link.echo)
       ∙ ap (λ b. is_some (if b then None else s x.1.link.echo)) y.0
       ∙ k.echoes win x.1.link x.1.there y.1;
-  no_loop = no_loop-fewer (next w s) (next v t) (λ n. echo-fewer n (lost n) (owner (s n)) refl refl)
+  no_loop = no_loop-fewer (next_echo w s) (next_echo v t) (λ n. echo-fewer n (lost n) (owner (s n)) refl refl)
       k.no_loop;
 }
   where
@@ -215,11 +215,11 @@ linked-closed w s v t gone lost h k = record {
     ]
 
     echo-fewer : (n : ℕ) (b : Bool) (o : Option ℕ) → lost n ≡ b → owner (s n) ≡ o
-        → (next v t n ≡ next w s n) ⊎ (next v t n ≡ 0)
+        → (next_echo v t n ≡ next_echo w s n) ⊎ (next_echo v t n ≡ 0)
     echo-fewer n true o e f = inr (ap (λ x. echo_by v (owner x)) (h.streams n)
         ∙ ap (λ b. echo_by v (owner (if b then None else s n))) e)
     echo-fewer n false o e f =
-        let same : next v t n ≡ echo_by v (owner (s n)) = ap (λ x. echo_by v (owner x))
+        let same : next_echo v t n ≡ echo_by v (owner (s n)) = ap (λ x. echo_by v (owner x))
         (h.streams n) ∙ ap (λ b. echo_by v (owner (if b then None else s n))) e in
         elim (echo-owned (owner (s n))) [
           | inl x ↦ inl (same ∙ x)
@@ -231,7 +231,7 @@ pub record Echoes (w : Links) (s : Ends) (v : Links) (a b : ℕ) : Type 0 where
   pub windows : (n : ℕ) → n ≢ a → v n ≡ w n
   pub window : v a ≡ option_map (echoing b) (w a)
   pub live : b ≢ 0 → is_some (s b) ≡ true
-  pub away : (j : ℕ) → owns a (owner (s (walk j (next w s) b))) ≡ false
+  pub away : (j : ℕ) → owns a (owner (s (walk j (next_echo w s) b))) ≡ false
 
 was-echoing : (b : ℕ) (o : Option Link) (l : Link) → option_map (echoing b) o ≡ Some l
     → WasEchoing b o l
@@ -243,7 +243,7 @@ was-echoing b (Some m) l e = record {
       ≡ l = cc in sym x);
 }
 
-stream-echoing : (b : ℕ) (o : Option Link) → stream_in (option_map (echoing b) o) ≡ stream_in o
+stream-echoing : (b : ℕ) (o : Option Link) → live_stream (option_map (echoing b) o) ≡ live_stream o
 stream-echoing b None = refl
 stream-echoing b (Some l) = refl
 
@@ -261,9 +261,9 @@ linked-echoed w s v a b h k = record {
     | inr x ↦ k.streams win l (sym (h.windows win x) ∙ e)
   ];
   windows = λ n win e. elim (eq-cases win a) [
-    | inl x ↦ ap (λ i. stream_in (v i)) x ∙ ap stream_in h.window ∙ stream-echoing b (w a)
-        ∙ ap (λ i. stream_in (w i)) (sym x) ∙ k.windows n win e
-    | inr x ↦ ap stream_in (h.windows win x) ∙ k.windows n win e
+    | inl x ↦ ap (λ i. live_stream (v i)) x ∙ ap live_stream h.window ∙ stream-echoing b (w a)
+        ∙ ap (λ i. live_stream (w i)) (sym x) ∙ k.windows n win e
+    | inr x ↦ ap live_stream (h.windows win x) ∙ k.windows n win e
   ];
   plain = k.plain;
   echoes = λ win l e z. elim (eq-cases win a) [
@@ -273,7 +273,7 @@ linked-echoed w s v a b h k = record {
         ap (λ i. is_some (s i)) echo_is ∙ h.live (λ c. z (echo_is ∙ c))
     | inr x ↦ k.echoes win l (sym (h.windows win x) ∙ e) z
   ];
-  no_loop = no_loop-turned (next w s) (next v s) (λ n. owns a (owner (s n))) b
+  no_loop = no_loop-turned (next_echo w s) (next_echo v s) (λ n. owns a (owner (s n))) b
       (λ n e. other (owner (s n)) e)
       (λ n e. turned n (owns-is a (owner (s n)) e)) h.away k.no_loop;
 }
@@ -282,10 +282,10 @@ linked-echoed w s v a b h k = record {
     other None e = refl
     other (Some n) e = ap echo_in (h.windows n (grind (arith, common_steps, e)))
 
-    live-echo : (o : Option Link) (n : ℕ) → stream_in o ≡ Some n
+    live-echo : (o : Option Link) (n : ℕ) → live_stream o ≡ Some n
         → echo_in (option_map (echoing b) o) ≡ b
     live-echo None n e = absurd cc
     live-echo (Some l) n e = refl
 
-    turned : (n : ℕ) → owner (s n) ≡ Some a → next v s n ≡ b
+    turned : (n : ℕ) → owner (s n) ≡ Some a → next_echo v s n ≡ b
     turned n e = ap (echo_by v) e ∙ ap echo_in h.window ∙ live-echo (w a) n (k.windows n a e)

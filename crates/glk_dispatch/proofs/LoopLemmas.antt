@@ -7,16 +7,16 @@ use Rattle.std.proofs.Common.{◌∙◌}
 use Rattle.std.proofs.Common.{arith}
 use Rattle.std.proofs.lemmas.Grind.{common_steps}
 use Rattle.std.proofs.lemmas.Bool.{cases_Bool}
-use Rattle.glk_dispatch.specs.Links.{is_over, ComesToAnEnd, HasNoLoop}
+use Rattle.glk_dispatch.specs.Links.{echoes_end, ComesToAnEnd, HasNoLoop}
 
 -- a stream from which nothing goes on
-pub over-stop : (k : ℕ) (f : ℕ → ℕ) (n : ℕ) → n ≡ 0 → is_over k f n ≡ true
-unfolding is_over
+pub over-stop : (k : ℕ) (f : ℕ → ℕ) (n : ℕ) → n ≡ 0 → echoes_end k f n ≡ true
+unfolding echoes_end
 over-stop zero f n e = rw e refl
 over-stop (suc k) f n e = rw e refl
 
-pub over-go : (k : ℕ) (f : ℕ → ℕ) (n : ℕ) → is_over k f (f n) ≡ true → is_over (suc k) f n ≡ true
-unfolding is_over
+pub over-go : (k : ℕ) (f : ℕ → ℕ) (n : ℕ) → echoes_end k f (f n) ≡ true → echoes_end (suc k) f n ≡ true
+unfolding echoes_end
 over-go k f n e = elim (cases_Bool (n == 0)) [
   | inl h ↦ rw h refl
   | inr h ↦ rw h e
@@ -26,12 +26,12 @@ or-second : (a b : Bool) → a ≡ false → (a || b) ≡ true → b ≡ true
 or-second true b e h = absurd cc
 or-second false b e h = h
 
-pub over-cases : (k : ℕ) (f : ℕ → ℕ) (n : ℕ) → is_over (suc k) f n ≡ true
-    → (n ≡ 0) ⊎ (is_over k f (f n) ≡ true)
-unfolding is_over
+pub over-cases : (k : ℕ) (f : ℕ → ℕ) (n : ℕ) → echoes_end (suc k) f n ≡ true
+    → (n ≡ 0) ⊎ (echoes_end k f (f n) ≡ true)
+unfolding echoes_end
 over-cases k f n e = elim (cases_Bool (n == 0)) [
   | inl h ↦ inl (grind (arith, common_steps, h))
-  | inr h ↦ inr (or-second (n == 0) (is_over k f (f n)) h e)
+  | inr h ↦ inr (or-second (n == 0) (echoes_end k f (f n)) h e)
 ]
 
 pub end-stop : (f : ℕ → ℕ) (n : ℕ) → n ≡ 0 → ComesToAnEnd f n
@@ -41,13 +41,13 @@ pub end-go : (f : ℕ → ℕ) (n m : ℕ) → f n ≡ m → ComesToAnEnd f m �
 end-go f n m e h = record {
   steps = suc h.steps;
   over = over-go h.steps f n
-      (ap (is_over h.steps f) e ∙ h.over);
+      (ap (echoes_end h.steps f) e ∙ h.over);
 }
 
 -- where each echo is as it was, or is none, no loop begins
-end-fewer : (f g : ℕ → ℕ) → ((n : ℕ) → (g n ≡ f n) ⊎ (g n ≡ 0)) → (k n : ℕ) → is_over k f n ≡ true
+end-fewer : (f g : ℕ → ℕ) → ((n : ℕ) → (g n ≡ f n) ⊎ (g n ≡ 0)) → (k n : ℕ) → echoes_end k f n ≡ true
     → ComesToAnEnd g n
-unfolding is_over
+unfolding echoes_end
 end-fewer f g h zero n e = end-stop g n (grind (arith, common_steps, e))
 end-fewer f g h (suc k) n e = elim (over-cases k f n e) [
   | inl z ↦ end-stop g n z
@@ -66,8 +66,8 @@ walk zero f n = n
 walk (suc k) f n = walk k f (f n)
 
 end-away : (f g : ℕ → ℕ) (hit : ℕ → Bool) → ((n : ℕ) → hit n ≡ false → g n ≡ f n)
-    → (k n : ℕ) → is_over k f n ≡ true → ((j : ℕ) → hit (walk j f n) ≡ false) → ComesToAnEnd g n
-unfolding is_over walk
+    → (k n : ℕ) → echoes_end k f n ≡ true → ((j : ℕ) → hit (walk j f n) ≡ false) → ComesToAnEnd g n
+unfolding echoes_end walk
 end-away f g hit same zero n e away = end-stop g n (grind (arith, common_steps, e))
 end-away f g hit same (suc k) n e away = elim (over-cases k f n e) [
   | inl z ↦ end-stop g n z
@@ -75,9 +75,9 @@ end-away f g hit same (suc k) n e away = elim (over-cases k f n e) [
 ]
 
 end-turned : (f g : ℕ → ℕ) (hit : ℕ → Bool) (b : ℕ) → ((n : ℕ) → hit n ≡ false → g n ≡ f n)
-    → ((n : ℕ) → hit n ≡ true → g n ≡ b) → ComesToAnEnd g b → (k n : ℕ) → is_over k f n ≡ true
+    → ((n : ℕ) → hit n ≡ true → g n ≡ b) → ComesToAnEnd g b → (k n : ℕ) → echoes_end k f n ≡ true
     → ComesToAnEnd g n
-unfolding is_over
+unfolding echoes_end
 end-turned f g hit b same turned ends zero n e = end-stop g n (grind (arith, common_steps, e))
 end-turned f g hit b same turned ends (suc k) n e = elim (over-cases k f n e) [
   | inl z ↦ end-stop g n z
@@ -144,12 +144,12 @@ unfolding passes
 passes-none f hit h z zero = refl
 passes-none f hit h z (suc k) = rw (h, z) (passes-none f hit h z k)
 
-over-more : (f : ℕ → ℕ) → (k n : ℕ) → is_over k f n ≡ true → is_over (suc k) f n ≡ true
-unfolding is_over
-over-more f zero n e = or-left (n == 0) (is_over 0 f (f n)) e
-over-more f (suc k) n e = elim (or-either (n == 0) (is_over k f (f n)) e) [
-  | inl h ↦ or-left (n == 0) (is_over (suc k) f (f n)) h
-  | inr h ↦ or-right (n == 0) (is_over (suc k) f (f n)) (over-more f k (f n) h)
+over-more : (f : ℕ → ℕ) → (k n : ℕ) → echoes_end k f n ≡ true → echoes_end (suc k) f n ≡ true
+unfolding echoes_end
+over-more f zero n e = or-left (n == 0) (echoes_end 0 f (f n)) e
+over-more f (suc k) n e = elim (or-either (n == 0) (echoes_end k f (f n)) e) [
+  | inl h ↦ or-left (n == 0) (echoes_end (suc k) f (f n)) h
+  | inr h ↦ or-right (n == 0) (echoes_end (suc k) f (f n)) (over-more f k (f n) h)
 ]
 
 -- how many of these are so
@@ -189,7 +189,7 @@ pub record AreListed {X : Type 0} (f : ℕ → ℕ) (hit own : ℕ → Bool) (ec
   pub others : (n : ℕ) → own n ≡ false → (f n ≡ 0) × (hit n ≡ false)
   pub none : own 0 ≡ false
 
-over-not : (f : ℕ → ℕ) (k n : ℕ) → is_over k f n ≡ false → n ≢ 0
+over-not : (f : ℕ → ℕ) (k n : ℕ) → echoes_end k f n ≡ false → n ≢ 0
 over-not f k n e z = let c : true ≡ false = sym (over-stop k f n z) ∙ e in absurd cc
 
 same-number : (m n : ℕ) → (m == n) ≡ true → m ≡ n
@@ -198,27 +198,27 @@ same-number m n e = grind (arith, common_steps, e)
 -- a window is counted
 count-one : {X : Type 0} (f : ℕ → ℕ) (echo : X → ℕ) (ws : List X) (k m : ℕ)
     → is_in (λ x. echo x == m) ws ≡ true
-    → is_over k f m ≡ true → 1 ≤ count (λ x. is_over k f (echo x)) ws
+    → echoes_end k f m ≡ true → 1 ≤ count (λ x. echoes_end k f (echo x)) ws
 count-one f echo ws k m i e =
-    let l = count-some (λ x. false) (λ x. is_over k f (echo x)) (λ x. echo x == m)
+    let l = count-some (λ x. false) (λ x. echoes_end k f (echo x)) (λ x. echo x == m)
     (λ x h. absurd cc)
-    (λ x h. (refl, ap (is_over k f) (same-number (echo x) m h) ∙ e)) ws i in
+    (λ x h. (refl, ap (echoes_end k f) (same-number (echo x) m h) ∙ e)) ws i in
     omega (arith, l)
 
-over-zero : (f : ℕ → ℕ) (n : ℕ) → is_over 0 f n ≡ true → n ≡ 0
-unfolding is_over
+over-zero : (f : ℕ → ℕ) (n : ℕ) → echoes_end 0 f n ≡ true → n ≡ 0
+unfolding echoes_end
 over-zero f n e = same-number n 0 e
 
-over-on : (k : ℕ) (f : ℕ → ℕ) (n : ℕ) → is_over (suc k) f n ≡ true → is_over k f n ≡ false
-    → is_over k f (f n) ≡ true
+over-on : (k : ℕ) (f : ℕ → ℕ) (n : ℕ) → echoes_end (suc k) f n ≡ true → echoes_end k f n ≡ false
+    → echoes_end k f (f n) ≡ true
 over-on k f n e not = elim (over-cases k f n e) [
   | inl z ↦ absurd (over-not f k n not z)
   | inr r ↦ r
 ]
 
-over-before : (k : ℕ) (f : ℕ → ℕ) (n : ℕ) → is_over (suc k) f n ≡ false → is_over k f (f n) ≡ false
-unfolding is_over
-over-before k f n e = or-rest (n == 0) (is_over k f (f n)) e
+over-before : (k : ℕ) (f : ℕ → ℕ) (n : ℕ) → echoes_end (suc k) f n ≡ false → echoes_end k f (f n) ≡ false
+unfolding echoes_end
+over-before k f n e = or-rest (n == 0) (echoes_end k f (f n)) e
 
 passes-nil : (f : ℕ → ℕ) (hit : ℕ → Bool) (n : ℕ) → passes 0 f hit n ≡ true → ⊥
 unfolding passes
@@ -254,11 +254,11 @@ module _ {X : Type 0} (f : ℕ → ℕ) (hit own : ℕ → Bool) (echo : X
     | inr e ↦ absurd (h e)
   ]
 
-  pub few-step : (k n j : ℕ) → is_over (suc k) f n ≡ true → is_over k f n ≡ false → passes j f hit n
+  pub few-step : (k n j : ℕ) → echoes_end (suc k) f n ≡ true → echoes_end k f n ≡ false → passes j f hit n
       ≡ true
-      → ((i : ℕ) → passes i f hit (f n) ≡ true → is_over k f (f n) ≡ true
-      → passes (count (λ x. is_over k f (echo x)) ws) f hit n ≡ true)
-      → passes (count (λ x. is_over k f (echo x)) ws) f hit n ≡ true
+      → ((i : ℕ) → passes i f hit (f n) ≡ true → echoes_end k f (f n) ≡ true
+      → passes (count (λ x. echoes_end k f (echo x)) ws) f hit n ≡ true)
+      → passes (count (λ x. echoes_end k f (echo x)) ws) f hit n ≡ true
   few-step k n zero o not e rest = absurd (passes-nil f hit n e)
   few-step k n (suc i) o not e rest =
       let on = over-on k f n o not in
@@ -266,39 +266,39 @@ module _ {X : Type 0} (f : ℕ → ℕ) (hit own : ℕ → Bool) (echo : X
         | inl h ↦
             let own_n = is-own n (λ c. let d : true ≡ false = sym h
             ∙ (all.others n c).1 in absurd cc) in
-            passes-hit (count (λ x. is_over k f (echo x)) ws) f hit n
+            passes-hit (count (λ x. echoes_end k f (echo x)) ws) f hit n
             (count-one f echo ws k (f n) (all.listed n own_n) on) h
         | inr p ↦ rest i p on
       ]
 
-  pub few : (k n j : ℕ) → is_over (suc k) f n ≡ true → is_over k f n ≡ false → passes j f hit n
+  pub few : (k n j : ℕ) → echoes_end (suc k) f n ≡ true → echoes_end k f n ≡ false → passes j f hit n
       ≡ true
-      → passes (count (λ x. is_over k f (echo x)) ws) f hit n ≡ true
+      → passes (count (λ x. echoes_end k f (echo x)) ws) f hit n ≡ true
   few zero n j o not e = few-step 0 n j o not e (λ i p on. absurd
       (none-passed i (f n) (over-zero f (f n) on) p))
   few (suc k) n j o not e = few-step (suc k) n j o not e (λ i p on.
       let own_n = is-own n (λ c. none-passed i (f n) (all.others n c).0 p) in
       let before = over-before k f n not in
-      let some = count-some (λ x. is_over k f (echo x)) (λ x. is_over (suc k) f (echo x))
+      let some = count-some (λ x. echoes_end k f (echo x)) (λ x. echoes_end (suc k) f (echo x))
       (λ x. echo x == f n)
       (λ x h. over-more f k (echo x) h)
       (λ x h. (
-        ap (is_over k f) (same-number (echo x) (f n) h)
+        ap (echoes_end k f) (same-number (echo x) (f n) h)
             ∙ before,
-        ap (is_over (suc k) f) (same-number (echo x) (f n) h) ∙ on,
+        ap (echoes_end (suc k) f) (same-number (echo x) (f n) h) ∙ on,
       ))
       ws (all.listed n own_n) in
-      passes-more f hit (suc (count (λ x. is_over k f (echo x)) ws))
-      (count (λ x. is_over (suc k) f (echo x)) ws) n (omega (arith, some))
-      (passes-go (count (λ x. is_over k f (echo x)) ws) f hit n (few k (f n) i on before p)))
+      passes-more f hit (suc (count (λ x. echoes_end k f (echo x)) ws))
+      (count (λ x. echoes_end (suc k) f (echo x)) ws) n (omega (arith, some))
+      (passes-go (count (λ x. echoes_end k f (echo x)) ws) f hit n (few k (f n) i on before p)))
 
-  first-over : (k n j : ℕ) → is_over k f n ≡ true → passes j f hit n ≡ true
+  first-over : (k n j : ℕ) → echoes_end k f n ≡ true → passes j f hit n ≡ true
       → passes (length ws) f hit n ≡ true
   first-over zero n j o e = absurd (none-passed j n (over-zero f n o) e)
-  first-over (suc k) n j o e = elim (cases_Bool (is_over k f n)) [
+  first-over (suc k) n j o e = elim (cases_Bool (echoes_end k f n)) [
     | inl before ↦ first-over k n j before e
-    | inr before ↦ passes-more f hit (count (λ x. is_over k f (echo x)) ws) (length ws) n
-        (count-length (λ x. is_over k f (echo x)) ws)
+    | inr before ↦ passes-more f hit (count (λ x. echoes_end k f (echo x)) ws) (length ws) n
+        (count-length (λ x. echoes_end k f (echo x)) ws)
         (few k n j o before e)
   ]
 
@@ -313,20 +313,20 @@ module _ {X : Type 0} (f : ℕ → ℕ) (hit own : ℕ → Bool) (echo : X
 -- ---- echoes that end do so within as many steps as there are windows, and one
 
 pub over-step : (k : ℕ) (f : ℕ → ℕ) (n : ℕ) → 0 < k → n ≢ 0
-    → is_over k f n ≡ is_over (k - 1) f (f n)
-unfolding is_over
+    → echoes_end k f n ≡ echoes_end (k - 1) f (f n)
+unfolding echoes_end
 over-step zero f n l h = absurd (omega arith)
 over-step (suc k) f n l h =
     let other : (n == 0) ≡ false = grind (arith, common_steps, h) in
-    simp unary_clauses (ap (λ b. b || is_over k f (f n)) other)
+    simp unary_clauses (ap (λ b. b || echoes_end k f (f n)) other)
 
-pub over-same : (f g : ℕ → ℕ) → ((n : ℕ) → f n ≡ g n) → (k n : ℕ) → is_over k f n ≡ is_over k g n
-unfolding is_over
+pub over-same : (f g : ℕ → ℕ) → ((n : ℕ) → f n ≡ g n) → (k n : ℕ) → echoes_end k f n ≡ echoes_end k g n
+unfolding echoes_end
 over-same f g e zero n = refl
 over-same f g e (suc k) n =
-    ap (λ m. n == 0 || is_over k f m) (e n) ∙ ap (λ b. n == 0 || b) (over-same f g e k (g n))
+    ap (λ m. n == 0 || echoes_end k f m) (e n) ∙ ap (λ b. n == 0 || b) (over-same f g e k (g n))
 
-over-most : (f : ℕ → ℕ) (j k n : ℕ) → j ≤ k → is_over j f n ≡ true → is_over k f n ≡ true
+over-most : (f : ℕ → ℕ) (j k n : ℕ) → j ≤ k → echoes_end j f n ≡ true → echoes_end k f n ≡ true
 over-most f zero k n l e = over-stop k f n (over-zero f n e)
 over-most f (suc j) zero n l e = absurd (omega (arith, l))
 over-most f (suc j) (suc k) n l e = elim (over-cases j f n e) [
@@ -336,30 +336,30 @@ over-most f (suc j) (suc k) n l e = elim (over-cases j f n e) [
 
 module _ {X : Type 0} (f : ℕ → ℕ) (echo : X → ℕ) (ws : List X)
     (listed : (n : ℕ) → f n ≢ 0 → is_in (λ x. echo x == f n) ws ≡ true) where
-  steps-counted : (k n : ℕ) → is_over (suc k) f n ≡ true → is_over k f n ≡ false
-      → k ≤ count (λ x. is_over k f (echo x)) ws
+  steps-counted : (k n : ℕ) → echoes_end (suc k) f n ≡ true → echoes_end k f n ≡ false
+      → k ≤ count (λ x. echoes_end k f (echo x)) ws
   steps-counted zero n o not = omega arith
   steps-counted (suc k) n o not =
       let before = over-before k f n not in
       let on = over-on (suc k) f n o not in
       let less = steps-counted k (f n) on before in
-      let some = count-some (λ x. is_over k f (echo x)) (λ x. is_over (suc k) f (echo x))
+      let some = count-some (λ x. echoes_end k f (echo x)) (λ x. echoes_end (suc k) f (echo x))
       (λ x. echo x == f n)
       (λ x h. over-more f k (echo x) h)
       (λ x h. (
-        ap (is_over k f) (same-number (echo x) (f n) h)
+        ap (echoes_end k f) (same-number (echo x) (f n) h)
             ∙ before,
-        ap (is_over (suc k) f) (same-number (echo x) (f n) h) ∙ on,
+        ap (echoes_end (suc k) f) (same-number (echo x) (f n) h) ∙ on,
       ))
       ws (listed n (over-not f k (f n) before)) in
       omega (arith, less, some)
 
-  pub over-within : (k n : ℕ) → is_over k f n ≡ true → is_over (suc (length ws)) f n ≡ true
+  pub over-within : (k n : ℕ) → echoes_end k f n ≡ true → echoes_end (suc (length ws)) f n ≡ true
   over-within zero n o = over-stop (suc (length ws)) f n (over-zero f n o)
-  over-within (suc k) n o = elim (cases_Bool (is_over k f n)) [
+  over-within (suc k) n o = elim (cases_Bool (echoes_end k f n)) [
     | inl before ↦ over-within k n before
     | inr before ↦
         let some = steps-counted k n o before in
-        let all = count-length (λ x. is_over k f (echo x)) ws in
+        let all = count-length (λ x. echoes_end k f (echo x)) ws in
         over-most f (suc k) (suc (length ws)) n (omega (arith, some, all)) o
   ]

@@ -25,9 +25,9 @@ use Rattle.glk_streams.specs.Streams as streams
 use Rattle.glk_streams.specs.Opening as sopen
 use Rattle.glk_streams.specs.declared.stream.Stream.{Stream}
 use Rattle.glk_streams.specs.declared.stream.Target.TheVariants as to
-use Rattle.glk_dispatch.specs.Glk.{placed}
-use Rattle.glk_dispatch.specs.Links.{AreLinked, Ends, Link, Links, end_of, ends, link_of, links}
-use Rattle.glk_dispatch.specs.Valid.{AreValid, IsReady, IsValid}
+use Rattle.glk_dispatch.specs.Glk.{with_rectangles}
+use Rattle.glk_dispatch.specs.Links.{AreLinked, Ends, Link, Links, stream_end, stream_ends, window_link, links}
+use Rattle.glk_dispatch.specs.Valid.{AreValid, IsReadyGlk, IsValidGlk}
 use Rattle.glk_dispatch.specs.Windows as rows
 use Rattle.glk_dispatch.specs.declared.glk.Glk.{Glk}
 use Rattle.glk_dispatch.proofs.AskLemmas.{AskedBy, asked-by, asked-more, asked-of, asked-same}
@@ -49,15 +49,15 @@ kind-sized (Buffer b) a = refl
 kind-sized (Grid g) a = refl
 
 read-link : (o : Option Window)
-    → option_map link_of o ≡ tree.read None (λ w. Some (link_of w)) o
+    → option_map window_link o ≡ tree.read_window None (λ w. Some (window_link w)) o
 read-link None = refl
 read-link (Some w) = refl
 
 -- windows that get their rectangles name each other as before
-pub placed-alike : (g : Glk) → Alike g (placed g)
+pub placed-alike : (g : Glk) → Alike g (with_rectangles g)
 placed-alike g = record {
-  windows = λ m. read-link (tree.window_at (placed g).windows.slots m)
-      ∙ read_placed None (λ w. Some (link_of w))
+  windows = λ m. read-link (tree.window_at (with_rectangles g).windows.slots m)
+      ∙ read_placed None (λ w. Some (window_link w))
       (λ a w. ap (λ k. Some (record { stream = w.stream; echo = w.echo; kind = k }))
       (kind-sized w.content a))
       (length g.windows.slots) g.windows.slots g.windows.root
@@ -79,30 +79,30 @@ beside-same w v s t rs windows ends b = record {
   asked = asked-same w v rs windows b.asked;
 }
 
-pub beside-of : (g : Glk) → IsValid g → Beside (links g) (ends g) g.requests
+pub beside-of : (g : Glk) → IsValidGlk g → Beside (links g) (stream_ends g) g.requests
 beside-of g v = record { linked = v.linked; asked = asked-by g v.asked }
 
-pub placed-valid : (g : Glk) → AreValid (placed g) → wvalid.IsValid g.windows
-    → Beside (links g) (ends g) g.requests → IsValid (placed g)
+pub placed-valid : (g : Glk) → AreValid (with_rectangles g) → wvalid.IsValidTree g.windows
+    → Beside (links g) (stream_ends g) g.requests → IsValidGlk (with_rectangles g)
 placed-valid g parts windows b =
     let same = placed-alike g in
-    let c = beside-same (links g) (links (placed g)) (ends g) (ends (placed g)) g.requests
+    let c = beside-same (links g) (links (with_rectangles g)) (stream_ends g) (stream_ends (with_rectangles g)) g.requests
     same.windows same.streams b in
     record {
       parts = parts;
       linked = c.linked;
-      asked = asked-of (placed g) c.asked;
+      asked = asked-of (with_rectangles g) c.asked;
       areas = places_windows.gives g.windows g.cols g.rows windows;
     }
 
 no-later : (ws : List Window) (a z m : ℕ) → wvalid.Ascends a ws z → z ≤ m
-    → found tree.number_of ws m ≡ None
+    → found tree.window_number ws m ≡ None
 unfolding found
 no-later [] a z m o l = refl
 no-later (w ∷ ws) a z m o l =
     let high : w.number < z = o.1 in
     let not : (w.number == m) ≡ false = grind (arith, common_steps, high, l) in
-    ap (λ b. cond b (Some w) (found tree.number_of ws m)) not
+    ap (λ b. cond b (Some w) (found tree.window_number ws m)) not
     ∙ no-later ws (w.number + 1) z m o.2 l
 
 is-same : (n : ℕ) → (n == n) ≡ true
@@ -136,19 +136,19 @@ more-linked w s a b kind e f v =
 
 -- the streams with one more
 abbrev pub window_stream : ℕ → ℕ → Stream
-window_stream b a = sopen.fresh b 0 1 false (to.Window a) 0
+window_stream b a = sopen.fresh_stream b 0 1 false (to.Window a) 0
 
 ends-more : (t : streams.StreamTable) (a m : ℕ)
-    → found streams.number_of t.streams t.next ≡ None
-    → ends_in (sopen.added t (window_stream t.next a)) m ≡ with_end (ends_in t) t.next a m
+    → found streams.stream_number t.streams t.next ≡ None
+    → ends_in (sopen.stream_added t (window_stream t.next a)) m ≡ with_end (ends_in t) t.next a m
 ends-more t a m e =
-    ap (option_map end_of)
-    (found-added streams.number_of t.streams (window_stream t.next a) m e)
-    ∙ of-end (m == t.next) (found streams.number_of t.streams m)
+    ap (option_map stream_end)
+    (found-added streams.stream_number t.streams (window_stream t.next a) m e)
+    ∙ of-end (m == t.next) (found streams.stream_number t.streams m)
   where
     of-end : (b : Bool) (o : Option Stream)
-        → option_map end_of (cond b (Some (window_stream t.next a)) o)
-        ≡ cond b (Some (record { owner = Some a; is_plain = true })) (option_map end_of o)
+        → option_map stream_end (cond b (Some (window_stream t.next a)) o)
+        ≡ cond b (Some (record { owner = Some a; is_plain = true })) (option_map stream_end o)
     of-end true o = refl
     of-end false o = refl
 
@@ -157,23 +157,23 @@ abbrev pub streaming : ℕ → Window → Window
 streaming n w = record w { stream = n }
 
 links-more : (ws : List Window) (w : Window) (b m : ℕ) → w.echo ≡ 0
-    → found tree.number_of ws w.number ≡ None
+    → found tree.window_number ws w.number ≡ None
     → links_in (tree.set_at (streaming b) (ws ++ w ∷ []) w.number) m
     ≡ with_link (links_in ws) w.number (new_link b (reading.kind_in w.content)) m
 links-more ws w b m echo e =
-    ap (option_map link_of)
-    (found-changed tree.number_of (streaming b) (λ x. refl) (ws ++ w ∷ []) w.number m
+    ap (option_map window_link)
+    (found-changed tree.window_number (streaming b) (λ x. refl) (ws ++ w ∷ []) w.number m
     ∙ ap (λ o. cond (m == w.number) (option_map (streaming b) o) o)
-    (found-added tree.number_of ws w m e))
-    ∙ if-both (m == w.number) (found tree.number_of ws m)
+    (found-added tree.window_number ws w m e))
+    ∙ if-both (m == w.number) (found tree.window_number ws m)
     ∙ ap (λ x. cond (m == w.number)
     (Some (record { stream = b; echo = x; kind = reading.kind_in w.content })) (links_in ws m)) echo
   where
     if-both : (t : Bool) (o : Option Window)
-        → option_map link_of
+        → option_map window_link
         (cond t (option_map (streaming b) (cond t (Some w) o)) (cond t (Some w) o))
         ≡ cond t (Some (record { stream = b; echo = w.echo; kind = reading.kind_in w.content }))
-        (option_map link_of o)
+        (option_map window_link o)
     if-both true o = refl
     if-both false o = refl
 
@@ -190,33 +190,33 @@ more-beside w s rs a b kind e f v = record {
 -- a window begins where a number for its stream is there
 abbrev pub begun_as : Glk → ℕ → Glk
 begun_as g win = record g {
-  streams = sopen.added g.streams (window_stream g.streams.next win);
+  streams = sopen.stream_added g.streams (window_stream g.streams.next win);
   windows = arranging.stream_set g.windows win g.streams.next;
   requests = with_window g.requests win;
 }
 
 begun-is : (g : Glk) (win : ℕ) → nat_lt MAX_NUMBER g.streams.next ≡ false
-    → rows.begun g win ≡ begun_as g win
+    → rows.window_begun g win ≡ begun_as g win
 begun-is g win e = rw e refl
 
 no-window-yet : (g : Glk) (n : ℕ) → AreValid g → g.windows.next ≤ n
-    → found tree.number_of g.windows.slots n ≡ None
+    → found tree.window_number g.windows.slots n ≡ None
 unfolding wvalid.IsOrdered
 no-window-yet g n v h = no-later g.windows.slots 1 g.windows.next n v.windows.ordered h
 
 no-stream-yet : (g : Glk) (n : ℕ) → AreValid g → g.streams.next ≤ n
-    → found streams.number_of g.streams.streams n ≡ None
+    → found streams.stream_number g.streams.streams n ≡ None
 no-stream-yet g n v h =
-    found-high streams.number_of g.streams.streams 0 g.streams.next n (streams-ascend g v) h
+    found-high streams.stream_number g.streams.streams 0 g.streams.next n (streams-ascend g v) h
 
 -- the windows with these at the end
 abbrev pub windows_with : Glk → List Window → ℕ → ℕ → Glk
 windows_with g ws next root = record g { windows = record { slots = ws; next = next; root = root } }
 
-first-beside : (g : Glk) (w : Window) (next root : ℕ) → IsValid g → w.number ≡ g.windows.next
+first-beside : (g : Glk) (w : Window) (next root : ℕ) → IsValidGlk g → w.number ≡ g.windows.next
     → w.echo ≡ 0
     → Beside (links (begun_as (windows_with g (g.windows.slots ++ w ∷ []) next root) w.number))
-    (ends (begun_as (windows_with g (g.windows.slots ++ w ∷ []) next root) w.number))
+    (stream_ends (begun_as (windows_with g (g.windows.slots ++ w ∷ []) next root) w.number))
     (with_window g.requests w.number)
 first-beside g w next root v n echo =
     let b = g.streams.next in
@@ -224,11 +224,11 @@ first-beside g w next root v n echo =
     let new = no-window-yet g w.number v.parts (omega (arith, n)) in
     let free = no-stream-yet g b v.parts (omega arith) in
     beside-same (with_link (links g) w.number (new_link b (reading.kind_in w.content))) (links h)
-    (with_end (ends g) b w.number) (ends h) (with_window g.requests w.number)
+    (with_end (stream_ends g) b w.number) (stream_ends h) (with_window g.requests w.number)
     (λ m. links-more g.windows.slots w b m echo new)
     (λ m. ends-more g.streams w.number m free)
-    (more-beside (links g) (ends g) g.requests w.number b (reading.kind_in w.content)
-    (ap (option_map link_of) new) (ap (option_map end_of) free) (beside-of g v))
+    (more-beside (links g) (stream_ends g) g.requests w.number b (reading.kind_in w.content)
+    (ap (option_map window_link) new) (ap (option_map stream_end) free) (beside-of g v))
 
 ascends-le : (ws : List Window) (a z : ℕ) → wvalid.Ascends a ws z → a ≤ z
 ascends-le [] a z o = o
@@ -245,13 +245,13 @@ next-there g v =
 
 -- a state with its number, where that isn't 0
 made-if : (b : Bool) (x y : Glk × ℕ) → b ≡ false → AreValid (cond b x y).0
-    → (AreValid y.0 → IsReady y.0) → IsReady (cond b x y).0
+    → (AreValid y.0 → IsReadyGlk y.0) → IsReadyGlk (cond b x y).0
 made-if true x y e p k = absurd cc
 made-if false x y e p k = k p
 
-pub first-ready : (g : Glk) (kind rock : ℕ) → IsReady g
-    → wvalid.IsValid (opening.split g.windows 0 0 0 kind rock).0
-    → AreValid (rows.first_opened g kind rock).0 → IsReady (rows.first_opened g kind rock).0
+pub first-ready : (g : Glk) (kind rock : ℕ) → IsReadyGlk g
+    → wvalid.IsValidTree (opening.split g.windows 0 0 0 kind rock).0
+    → AreValid (rows.first_window_opened g kind rock).0 → IsReadyGlk (rows.first_window_opened g kind rock).0
 first-ready g kind rock v windows parts =
     by-number (nat_lt MAX_NUMBER g.streams.next) refl parts
   where
@@ -259,34 +259,34 @@ first-ready g kind rock v windows parts =
     t = g.windows
 
     w : Window
-    w = opening.made t.next rock 0 (opening.fresh kind)
+    w = opening.unplaced_window t.next rock 0 (opening.new_content kind)
 
     h : Glk
     h = windows_with g (t.slots ++ w ∷ []) (t.next + 1) t.next
 
-    begun-ready : nat_lt MAX_NUMBER g.streams.next ≡ false → wvalid.IsValid h.windows
-        → AreValid (placed (rows.begun h t.next)) → IsReady (placed (rows.begun h t.next))
+    begun-ready : nat_lt MAX_NUMBER g.streams.next ≡ false → wvalid.IsValidTree h.windows
+        → AreValid (with_rectangles (rows.window_begun h t.next)) → IsReadyGlk (with_rectangles (rows.window_begun h t.next))
     begun-ready e w_valid p =
-        let is : rows.begun h t.next ≡ begun_as h t.next = begun-is h t.next e in
-        subst (λ x. IsReady (placed x)) (sym is) (record {
-          valid = placed-valid (begun_as h t.next) (subst (λ x. AreValid (placed x)) is p)
+        let is : rows.window_begun h t.next ≡ begun_as h t.next = begun-is h t.next e in
+        subst (λ x. IsReadyGlk (with_rectangles x)) (sym is) (record {
+          valid = placed-valid (begun_as h t.next) (subst (λ x. AreValid (with_rectangles x)) is p)
               (keeps_valid.set_stream h.windows t.next g.streams.next w_valid)
               (first-beside g w (t.next + 1) t.next v.valid refl refl);
           rests = record { event = v.rests.event; prompt = v.rests.prompt };
         })
 
     by-room : (r : Bool) → nat_lt MAX_NUMBER g.streams.next ≡ false
-        → wvalid.IsValid (cond {A = tree.WindowTree × ℕ} r (t, 0) (h.windows, t.next)).0
+        → wvalid.IsValidTree (cond {A = tree.WindowTree × ℕ} r (t, 0) (h.windows, t.next)).0
         → AreValid (rows.first_made g (cond r (t, 0) (h.windows, t.next))).0
-        → IsReady (rows.first_made g (cond r (t, 0) (h.windows, t.next))).0
+        → IsReadyGlk (rows.first_made g (cond r (t, 0) (h.windows, t.next))).0
     by-room true e w_valid p = v
     by-room false e w_valid p =
-        made-if (t.next == 0) (h, 0) (placed (rows.begun h t.next), t.next)
+        made-if (t.next == 0) (h, 0) (with_rectangles (rows.window_begun h t.next), t.next)
         (next-there g v.valid.parts) p (begun-ready e w_valid)
 
     by-number : (b : Bool) → nat_lt MAX_NUMBER g.streams.next ≡ b
         → AreValid (cond b (g, 0) (rows.first_made g (opening.split t 0 0 0 kind rock))).0
-        → IsReady (cond b (g, 0) (rows.first_made g (opening.split t 0 0 0 kind rock))).0
+        → IsReadyGlk (cond b (g, 0) (rows.first_made g (opening.split t 0 0 0 kind rock))).0
     by-number true e p = v
     by-number false e p =
         by-room
@@ -304,35 +304,35 @@ changed-front number f (y ∷ ys) x n e =
     grind (arith, common_steps, e, changed-front number f ys x n e)
 
 joined-links : (ws : List Window) (from pair m : ℕ)
-    → links_in (opening.joined ws from pair) m ≡ links_in ws m
+    → links_in (opening.pair_joined ws from pair) m ≡ links_in ws m
 joined-links ws from pair m =
-    part-changed tree.number_of link_of (λ w. record w { parent = pair }) (λ w. refl) (λ w. refl)
+    part-changed tree.window_number window_link (λ w. record w { parent = pair }) (λ w. refl) (λ w. refl)
     (tree.set_at (λ w. record w { content = tree.swapped w.content from pair }) ws
     (tree.parent_of ws from)) from m
-    ∙ part-changed tree.number_of link_of
+    ∙ part-changed tree.window_number window_link
     (λ w. record w { content = tree.swapped w.content from pair }) (λ w. refl)
     (λ w. ap (λ k. record { stream = w.stream; echo = w.echo; kind = k })
     (kind-swapped w.content from pair)) ws (tree.parent_of ws from) m
 
-unfound : (o : Option Window) → option_map link_of o ≡ None → o ≡ None
+unfound : (o : Option Window) → option_map window_link o ≡ None → o ≡ None
 unfound None e = refl
 unfound (Some w) e = cc
 
-pub beside-beside : (g : Glk) (js : List Window) (w x : Window) (next root : ℕ) → IsValid g
+pub beside-beside : (g : Glk) (js : List Window) (w x : Window) (next root : ℕ) → IsValidGlk g
     → ((m : ℕ) → links_in js m ≡ links g m)
     → w.number ≡ g.windows.next → x.number ≡ g.windows.next + 1 → w.echo ≡ 0 → x.echo ≡ 0
     → Beside
     (links (begun_as (begun_as (windows_with g (js ++ w ∷ x ∷ []) next root) w.number) x.number))
-    (ends (begun_as (begun_as (windows_with g (js ++ w ∷ x ∷ []) next root) w.number) x.number))
+    (stream_ends (begun_as (begun_as (windows_with g (js ++ w ∷ x ∷ []) next root) w.number) x.number))
     (with_window (with_window g.requests w.number) x.number)
 beside-beside g js w x next root v same wn xn we xe =
-    beside-same second (links h) second_ends (ends h) second_asked second-links second-ends
+    beside-same second (links h) second_ends (stream_ends h) second_asked second-links second-ends
     (more-beside first first_ends (with_window g.requests a) x.number (b + 1)
     (reading.kind_in x.content) first-none first_ends-none
-    (more-beside (links_in js) (ends g) g.requests a b (reading.kind_in w.content)
-    (same a ∙ ap (option_map link_of) (no-window-yet g a v.parts (omega (arith, wn))))
-    (ap (option_map end_of) free)
-    (beside-same (links g) (links_in js) (ends g) (ends g) g.requests same (λ m. refl)
+    (more-beside (links_in js) (stream_ends g) g.requests a b (reading.kind_in w.content)
+    (same a ∙ ap (option_map window_link) (no-window-yet g a v.parts (omega (arith, wn))))
+    (ap (option_map stream_end) free)
+    (beside-same (links g) (links_in js) (stream_ends g) (stream_ends g) g.requests same (λ m. refl)
     (beside-of g v))))
   where
     a : ℕ
@@ -354,7 +354,7 @@ beside-beside g js w x next root v same wn xn we xe =
     second = with_link first x.number (new_link (b + 1) (reading.kind_in x.content))
 
     first_ends : Ends
-    first_ends = with_end (ends g) b a
+    first_ends = with_end (stream_ends g) b a
 
     second_ends : Ends
     second_ends = with_end first_ends (b + 1) x.number
@@ -362,7 +362,7 @@ beside-beside g js w x next root v same wn xn we xe =
     second_asked : List WindowInput
     second_asked = with_window (with_window g.requests a) x.number
 
-    free : found streams.number_of g.streams.streams b ≡ None
+    free : found streams.stream_number g.streams.streams b ≡ None
     free = no-stream-yet g b v.parts (omega arith)
 
     apart : (x.number == a) ≡ false
@@ -373,21 +373,21 @@ beside-beside g js w x next root v same wn xn we xe =
 
     first-links : (m : ℕ) → links_in ws m ≡ first m
     first-links m = links-more js w b m we
-        (unfound (found tree.number_of js a)
-        (same a ∙ ap (option_map link_of) (no-window-yet g a v.parts (omega (arith, wn)))))
+        (unfound (found tree.window_number js a)
+        (same a ∙ ap (option_map window_link) (no-window-yet g a v.parts (omega (arith, wn)))))
 
     first-none : first x.number ≡ None
     first-none =
         ap (λ t. cond t (Some (new_link b (reading.kind_in w.content))) (links_in js x.number))
         apart
         ∙ same x.number
-        ∙ ap (option_map link_of) (no-window-yet g x.number v.parts (omega (arith, xn)))
+        ∙ ap (option_map window_link) (no-window-yet g x.number v.parts (omega (arith, xn)))
 
     first_ends-none : first_ends (b + 1) ≡ None
     first_ends-none =
-        ap (λ t. cond t (Some (record { owner = Some a; is_plain = true })) (ends g (b + 1)))
+        ap (λ t. cond t (Some (record { owner = Some a; is_plain = true })) (stream_ends g (b + 1)))
         after-apart
-        ∙ ap (option_map end_of) (no-stream-yet g (b + 1) v.parts (omega arith))
+        ∙ ap (option_map stream_end) (no-stream-yet g (b + 1) v.parts (omega arith))
 
     regrouped : (js ++ w ∷ []) ++ x ∷ [] ≡ js ++ w ∷ x ∷ []
     regrouped = simp append_assoc
@@ -395,22 +395,22 @@ beside-beside g js w x next root v same wn xn we xe =
     slots-are : tree.set_at (streaming b) (js ++ w ∷ x ∷ []) a ≡ ws ++ x ∷ []
     slots-are =
         ap (λ us. tree.set_at (streaming b) us a) (sym regrouped)
-        ∙ changed-front tree.number_of (streaming b) (js ++ w ∷ []) x a apart
+        ∙ changed-front tree.window_number (streaming b) (js ++ w ∷ []) x a apart
 
     second-links : (m : ℕ) → links h m ≡ second m
     second-links m =
         ap (λ us. links_in (tree.set_at (streaming (b + 1)) us x.number) m) slots-are
         ∙ links-more ws x (b + 1) m xe
-        (unfound (found tree.number_of ws x.number) (first-links x.number ∙ first-none))
+        (unfound (found tree.window_number ws x.number) (first-links x.number ∙ first-none))
         ∙ ap (λ o. cond (m == x.number)
         (Some (new_link (b + 1) (reading.kind_in x.content))) o) (first-links m)
 
-    second-ends : (m : ℕ) → ends h m ≡ second_ends m
+    second-ends : (m : ℕ) → stream_ends h m ≡ second_ends m
     second-ends m =
-        ends-more (sopen.added g.streams (window_stream b a)) x.number m
-        (found-added streams.number_of g.streams.streams (window_stream b a) (b + 1) free
+        ends-more (sopen.stream_added g.streams (window_stream b a)) x.number m
+        (found-added streams.stream_number g.streams.streams (window_stream b a) (b + 1) free
         ∙ ap (λ t. cond t (Some (window_stream b a))
-        (found streams.number_of g.streams.streams (b + 1))) after-apart
+        (found streams.stream_number g.streams.streams (b + 1))) after-apart
         ∙ no-stream-yet g (b + 1) v.parts (omega arith))
         ∙ ap (λ o. cond (m == b + 1) (Some (record { owner = Some x.number; is_plain = true })) o)
         (ends-more g.streams a m free)
@@ -419,10 +419,10 @@ below-max : (n : ℕ) → nat_le MAX_NUMBER n ≡ false
     → (nat_lt MAX_NUMBER n ≡ false) × (nat_lt MAX_NUMBER (n + 1) ≡ false)
 below-max n e = (grind (arith, common_steps, e), grind (arith, common_steps, e))
 
-pub beside-ready : (g : Glk) (split method size kind rock : ℕ) → (split == 0) ≡ false → IsReady g
-    → wvalid.IsValid (opening.split g.windows split method size kind rock).0
-    → AreValid (rows.beside_opened g split method size kind rock).0
-    → IsReady (rows.beside_opened g split method size kind rock).0
+pub beside-ready : (g : Glk) (split method size kind rock : ℕ) → (split == 0) ≡ false → IsReadyGlk g
+    → wvalid.IsValidTree (opening.split g.windows split method size kind rock).0
+    → AreValid (rows.window_beside g split method size kind rock).0
+    → IsReadyGlk (rows.window_beside g split method size kind rock).0
 beside-ready g split method size kind rock some v windows parts =
     by-number (nat_le MAX_NUMBER g.streams.next) refl parts
   where
@@ -430,13 +430,13 @@ beside-ready g split method size kind rock some v windows parts =
     t = g.windows
 
     js : List Window
-    js = opening.joined t.slots split (t.next + 1)
+    js = opening.pair_joined t.slots split (t.next + 1)
 
     w : Window
-    w = opening.made t.next rock (t.next + 1) (opening.fresh kind)
+    w = opening.unplaced_window t.next rock (t.next + 1) (opening.new_content kind)
 
     x : Window
-    x = opening.made (t.next + 1) 0 (tree.parent_of t.slots split)
+    x = opening.unplaced_window (t.next + 1) 0 (tree.parent_of t.slots split)
         (Pair (record {
           method = method;
           size = size;
@@ -452,20 +452,20 @@ beside-ready g split method size kind rock some v windows parts =
     h = windows_with g (js ++ w ∷ x ∷ []) (t.next + 2) root
 
     both-are : nat_le MAX_NUMBER g.streams.next ≡ false
-        → rows.begun (rows.begun h t.next) (t.next + 1)
+        → rows.window_begun (rows.window_begun h t.next) (t.next + 1)
         ≡ begun_as (begun_as h t.next) (t.next + 1)
     both-are e =
         let few = below-max g.streams.next e in
-        ap (λ y. rows.begun y (t.next + 1)) (begun-is h t.next few.0)
+        ap (λ y. rows.window_begun y (t.next + 1)) (begun-is h t.next few.0)
         ∙ begun-is (begun_as h t.next) (t.next + 1) few.1
 
-    begun-ready : nat_le MAX_NUMBER g.streams.next ≡ false → wvalid.IsValid h.windows
-        → AreValid (placed (rows.begun (rows.begun h t.next) (t.next + 1)))
-        → IsReady (placed (rows.begun (rows.begun h t.next) (t.next + 1)))
+    begun-ready : nat_le MAX_NUMBER g.streams.next ≡ false → wvalid.IsValidTree h.windows
+        → AreValid (with_rectangles (rows.window_begun (rows.window_begun h t.next) (t.next + 1)))
+        → IsReadyGlk (with_rectangles (rows.window_begun (rows.window_begun h t.next) (t.next + 1)))
     begun-ready e w_valid p =
-        subst (λ y. IsReady (placed y)) (sym (both-are e)) (record {
+        subst (λ y. IsReadyGlk (with_rectangles y)) (sym (both-are e)) (record {
           valid = placed-valid (begun_as (begun_as h t.next) (t.next + 1))
-              (subst (λ y. AreValid (placed y)) (both-are e) p)
+              (subst (λ y. AreValid (with_rectangles y)) (both-are e) p)
               (keeps_valid.set_stream
               (arranging.stream_set h.windows t.next g.streams.next) (t.next + 1)
               (g.streams.next + 1)
@@ -476,21 +476,21 @@ beside-ready g split method size kind rock some v windows parts =
         })
 
     by-room : (r : Bool) → nat_le MAX_NUMBER g.streams.next ≡ false
-        → wvalid.IsValid (cond {A = tree.WindowTree × ℕ} r (t, 0) (h.windows, t.next)).0
+        → wvalid.IsValidTree (cond {A = tree.WindowTree × ℕ} r (t, 0) (h.windows, t.next)).0
         → AreValid (rows.beside_made g (cond r (t, 0) (h.windows, t.next))).0
-        → IsReady (rows.beside_made g (cond r (t, 0) (h.windows, t.next))).0
+        → IsReadyGlk (rows.beside_made g (cond r (t, 0) (h.windows, t.next))).0
     by-room true e w_valid p = v
     by-room false e w_valid p =
         made-if (t.next == 0) (h, 0)
-        (placed (rows.begun (rows.begun h t.next) (t.next + 1)), t.next)
+        (with_rectangles (rows.window_begun (rows.window_begun h t.next) (t.next + 1)), t.next)
         (next-there g v.valid.parts) p (begun-ready e w_valid)
 
     by-split : (b : Bool) → b ≡ false → nat_le MAX_NUMBER g.streams.next ≡ false
-        → wvalid.IsValid (cond b (opening.first_opened t kind rock)
+        → wvalid.IsValidTree (cond b (opening.first_opened t kind rock)
         (opening.beside_opened t split method size kind rock)).0
         → AreValid (rows.beside_made g (cond b (opening.first_opened t kind rock)
         (opening.beside_opened t split method size kind rock))).0
-        → IsReady (rows.beside_made g (cond b (opening.first_opened t kind rock)
+        → IsReadyGlk (rows.beside_made g (cond b (opening.first_opened t kind rock)
         (opening.beside_opened t split method size kind rock))).0
     by-split true f e w_valid p = absurd cc
     by-split false f e w_valid p =
@@ -501,7 +501,7 @@ beside-ready g split method size kind rock some v windows parts =
     by-number : (b : Bool) → nat_le MAX_NUMBER g.streams.next ≡ b
         → AreValid (cond b (g, 0)
         (rows.beside_made g (opening.split t split method size kind rock))).0
-        → IsReady (cond b (g, 0)
+        → IsReadyGlk (cond b (g, 0)
         (rows.beside_made g (opening.split t split method size kind rock))).0
     by-number true e p = v
     by-number false e p = by-split (split == 0) some e windows p

@@ -5,6 +5,7 @@ use Rattle.std.proofs.Common.{is_some, if◌then◌else◌, cond}
 use Rattle.std.specs.Prelude.{IfOk}
 use Rattle.std.proofs.lemmas.Grind.{common_steps}
 use Rattle.std.proofs.lemmas.Bool.{cases_Bool}
+use Rattle.vm_memory.specs.Chaining.{◌>>=◌}
 use Rattle.vm_memory.specs.MemoryMap.{MemoryMap}
 use Rattle.glk_numbers.specs.Numbered.{has}
 use Rattle.glk_windows.specs.Areas.{HaveAreas}
@@ -27,11 +28,11 @@ use Rattle.glk_streams.specs.declared.stream.Target as target
 use Rattle.glk_streams.specs.declared.stream.Target.TheVariants as to
 use Rattle.glk_input.specs.Request as request
 use Rattle.glk_dispatch.specs.Events.{may_ask}
-use Rattle.glk_dispatch.specs.Glk.{is_window}
+use Rattle.glk_dispatch.specs.Glk.{has_window}
 use Rattle.glk_dispatch.specs.Valid.{AreValid}
 use Rattle.glk_dispatch.specs.declared.glk.Glk.{Glk}
-use Rattle.glk_dispatch.specs.Links.{Link, AreLinked, link_of, end_of, links, ends, owner}
-use Rattle.glk_dispatch.specs.Valid.{IsValid, AreAsked}
+use Rattle.glk_dispatch.specs.Links.{Link, AreLinked, window_link, stream_end, links, stream_ends, owner}
+use Rattle.glk_dispatch.specs.Valid.{IsValidGlk, AreAsked}
 use Rattle.glk_dispatch.proofs.FoundLemmas.{found-map, found-without, has-found, part-changed}
 use Rattle.glk_dispatch.proofs.FoundLemmas.{part-replaced}
 use Rattle.glk_dispatch.proofs.LinkLemmas.{Same, linked-same, linked-closed, unechoed}
@@ -39,14 +40,14 @@ use Rattle.glk_dispatch.proofs.EchoLemmas.{streams-ascend}
 
 -- two states in which windows and streams name each other alike
 abbrev pub Alike : Glk → Glk → Type 0
-Alike g h = Same (links g) (ends g) (links h) (ends h)
+Alike g h = Same (links g) (stream_ends g) (links h) (stream_ends h)
 
 -- which windows are live and may be asked, by their links
-pub is_window-link : (g : Glk) (win : ℕ) → is_window g win ≡ is_some (links g win)
-is_window-link g win = has-found tree.number_of g.windows.slots win
+pub is_window-link : (g : Glk) (win : ℕ) → has_window g win ≡ is_some (links g win)
+is_window-link g win = has-found tree.window_number g.windows.slots win
     ∙ some-of (tree.window_at g.windows.slots win)
   where
-    some-of : (o : Option Window) → is_some o ≡ is_some (option_map link_of o)
+    some-of : (o : Option Window) → is_some o ≡ is_some (option_map window_link o)
     some-of None = refl
     some-of (Some w) = refl
 
@@ -54,11 +55,11 @@ abbrev pub kind_at : Option Link → ℕ
 kind_at None = 0
 kind_at (Some l) = l.kind
 
-pub kind-link : (g : Glk) (win : ℕ) → reading.kind_of g.windows.slots win ≡ kind_at (links g win)
+pub kind-link : (g : Glk) (win : ℕ) → reading.window_kind g.windows.slots win ≡ kind_at (links g win)
 kind-link g win = kind-in (tree.window_at g.windows.slots win)
   where
-    kind-in : (o : Option Window) → tree.read 0 (λ w. reading.kind_in w.content) o
-        ≡ kind_at (option_map link_of o)
+    kind-in : (o : Option Window) → tree.read_window 0 (λ w. reading.kind_in w.content) o
+        ≡ kind_at (option_map window_link o)
     kind-in None = refl
     kind-in (Some w) = refl
 
@@ -78,7 +79,7 @@ at-kind : (o : Option Link) → kind_at o ≡ kind_or (option_map (λ (l : Link)
 at-kind None = refl
 at-kind (Some l) = refl
 
-pub live-kinds : (g : Glk) (win : ℕ) → is_window g win ≡ is_some (kinds g win)
+pub live-kinds : (g : Glk) (win : ℕ) → has_window g win ≡ is_some (kinds g win)
 live-kinds g win = is_window-link g win ∙ some-kind (links g win)
 
 pub may_ask-kinds : (g : Glk) (win : ℕ) → may_ask g win
@@ -88,12 +89,12 @@ may_ask-kinds g win = ap (λ k. k == 3 || k == 4) (kind-link g win ∙ at-kind (
 pub asked-kinds : (g h : Glk) → ((win : ℕ) → kinds h win ≡ kinds g win) → h.requests ≡ g.requests
     → AreAsked g → AreAsked h
 asked-kinds g h same e v = record {
-  listed = λ win. ap (λ r. has request.number_of r win) e ∙ v.listed win ∙ live-kinds g win
+  listed = λ win. ap (λ r. has request.input_window_number r win) e ∙ v.listed win ∙ live-kinds g win
       ∙ ap is_some (sym (same win)) ∙ sym (live-kinds h win);
   askers = λ win i.
       may_ask-kinds h win ∙ ap (λ k. kind_or k == 3 || kind_or k == 4) (same win)
       ∙ sym (may_ask-kinds g win)
-      ∙ v.askers win (ap (λ r. is_some (request.request_of r win)) (sym e) ∙ i);
+      ∙ v.askers win (ap (λ r. is_some (request.window_request r win)) (sym e) ∙ i);
 }
 
 pub asked-alike : (g h : Glk) → Alike g h → h.requests ≡ g.requests → AreAsked g → AreAsked h
@@ -102,10 +103,10 @@ asked-alike g h same e v = asked-kinds g h (λ win. ap (option_map (λ l. l.kind
 
 -- what changes neither is valid where its parts are
 pub valid-alike : (g h : Glk) → Alike g h → h.requests ≡ g.requests → AreValid h
-    → HaveAreas h.windows h.cols h.rows → IsValid g → IsValid h
+    → HaveAreas h.windows h.cols h.rows → IsValidGlk g → IsValidGlk h
 valid-alike g h same e parts areas v = record {
   parts = parts;
-  linked = linked-same (links g) (ends g) (links h) (ends h) same v.linked;
+  linked = linked-same (links g) (stream_ends g) (links h) (stream_ends h) same v.linked;
   asked = asked-alike g h same e v.asked;
   areas = areas;
 }
@@ -132,23 +133,23 @@ kind-kept (Buffer b) = refl
 kind-kept (Grid g) = refl
 
 link-kind : (w v : Window) → v.stream ≡ w.stream → v.echo ≡ w.echo → reading.kind_in v.content
-    ≡ reading.kind_in w.content → link_of v ≡ link_of w
+    ≡ reading.kind_in w.content → window_link v ≡ window_link w
 link-kind w v a b c = grind (arith, common_steps, a, b, c)
 
 pub put-links : (t : tree.WindowTree) (win code style m : ℕ)
-    → option_map link_of (tree.window_at (output.put t win code style).slots m)
-    ≡ option_map link_of (tree.window_at t.slots m)
+    → option_map window_link (tree.window_at (output.put_on_window t win code style).slots m)
+    ≡ option_map window_link (tree.window_at t.slots m)
 put-links t win code style m =
-    part-changed tree.number_of link_of (λ w. output.window_put w code style) (λ w. refl)
+    part-changed tree.window_number window_link (λ w. output.window_put w code style) (λ w. refl)
     (λ w. link-kind w (output.window_put w code style) refl refl (kind-put w.content code style))
     t.slots win m
 
 -- ---- streams
 
-end-place : (s : Stream) (p : ℕ) → (streams.is_window s.target ≡ true → p ≡ s.place)
-    → end_of (sout.counted (sout.placed p s)) ≡ end_of s
-end-place s p h = elim (cases_Bool (streams.is_window s.target)) [
-  | inl e ↦ ap (λ q. end_of (sout.counted (sout.placed q s))) (h e)
+end-place : (s : Stream) (p : ℕ) → (streams.is_window_target s.target ≡ true → p ≡ s.place)
+    → stream_end (sout.write_counted (sout.at_position p s)) ≡ stream_end s
+end-place s p h = elim (cases_Bool (streams.is_window_target s.target)) [
+  | inl e ↦ ap (λ q. stream_end (sout.write_counted (sout.at_position q s))) (h e)
   | inr e ↦ grind (arith, common_steps, e)
 ]
 
@@ -157,16 +158,16 @@ abbrev pub SamePlace : Bool → ℕ → List File × MemoryMap × ℕ → Type 0
 SamePlace w place p = w ≡ true → p.2 ≡ place
 
 put_in-place : (t : target.Target) (u : Bool) (fs : List File) (m : MemoryMap) (place code : ℕ)
-    → IfOk (sout.put_in t u fs m place code) (SamePlace (streams.is_window t) place)
+    → IfOk (sout.put_in_target t u fs m place code) (SamePlace (streams.is_window_target t) place)
 put_in-place (to.Window win) u fs m place code = λ e. refl
 put_in-place (to.Memory buf len) u fs m place code = if-any
-    (sout.put_in (to.Memory buf len) u fs m place code)
+    (sout.put_in_target (to.Memory buf len) u fs m place code)
   where
     if-any : (r : sout.Put) → IfOk r (SamePlace false place)
     if-any (Ok p) = λ e. absurd cc
     if-any (Err e) = tt
 put_in-place (to.File usage name) u fs m place code = if-any
-    (sout.put_in (to.File usage name) u fs m place code)
+    (sout.put_in_target (to.File usage name) u fs m place code)
   where
     if-any : (r : sout.Put) → IfOk r (SamePlace false place)
     if-any (Ok p) = λ e. absurd cc
@@ -174,8 +175,8 @@ put_in-place (to.File usage name) u fs m place code = if-any
 
 -- the streams that a call leaves are, as windows' streams, those that were there
 abbrev pub SameEnds : streams.StreamTable → streams.StreamTable → Type 0
-SameEnds t u = (m : ℕ) → option_map end_of (streams.stream_at u m)
-    ≡ option_map end_of (streams.stream_at t m)
+SameEnds t u = (m : ℕ) → option_map stream_end (streams.stream_at u m)
+    ≡ option_map stream_end (streams.stream_at t m)
 
 abbrev pub LeavesEnds : {A : Type 0} → streams.StreamTable
     → Result (streams.StreamTable × A) StreamStop → Type 0
@@ -183,31 +184,31 @@ LeavesEnds t (Ok p) = SameEnds t p.0
 LeavesEnds t (Err e) = Unit {0}
 
 pub put-ends : (t : streams.StreamTable) (m : MemoryMap) (n code : ℕ)
-    → LeavesEnds t (sout.put t m n code)
+    → LeavesEnds t (sout.put_on_stream t m n code)
 put-ends t m n code = put-live (streams.stream_at t n) refl
   where
     put-on : (s : Stream) → streams.stream_at t n ≡ Some s → (r : sout.Put)
-        → IfOk r (SamePlace (streams.is_window s.target) s.place)
-        → LeavesEnds t (answer.◌>>=◌ r (λ done. Ok (
+        → IfOk r (SamePlace (streams.is_window_target s.target) s.place)
+        → LeavesEnds t (◌>>=◌ r (λ done. Ok (
           streams.with_stream
-              (record t { files = done.0 }) n (sout.counted (sout.placed done.2 s)),
+              (record t { files = done.0 }) n (sout.write_counted (sout.at_position done.2 s)),
           done.1,
         )))
-    put-on s e (Ok p) h = λ k. part-replaced streams.number_of end_of t.streams n k s
-        (sout.counted (sout.placed p.2 s)) e refl (end-place s p.2 h)
+    put-on s e (Ok p) h = λ k. part-replaced streams.stream_number stream_end t.streams n k s
+        (sout.write_counted (sout.at_position p.2 s)) e refl (end-place s p.2 h)
     put-on s e (Err f) h = tt
 
     put-mode : (s : Stream) (b : Bool) → IfOk (cond b
-        (sout.put_in s.target s.unicode t.files m s.place code) (Err BadArgument))
-        (SamePlace (streams.is_window s.target) s.place)
+        (sout.put_in_target s.target s.unicode t.files m s.place code) (Err BadArgument))
+        (SamePlace (streams.is_window_target s.target) s.place)
     put-mode s true = put_in-place s.target s.unicode t.files m s.place code
     put-mode s false = tt
 
     put-live : (o : Option Stream) → streams.stream_at t n ≡ o
-        → LeavesEnds t (answer.live o (λ s. answer.◌>>=◌ (sout.put_by t.files m s code)
+        → LeavesEnds t (answer.live o (λ s. ◌>>=◌ (sout.put_by t.files m s code)
         (λ done. Ok (
           streams.with_stream (record t { files = done.0 }) n
-              (sout.counted (sout.placed done.2 s)),
+              (sout.write_counted (sout.at_position done.2 s)),
           done.1,
         ))))
     put-live None e = tt
@@ -218,49 +219,49 @@ put-ends t m n code = put-live (streams.stream_at t n) refl
 
 abbrev pub stream_closed : Glk → ℕ → Glk
 stream_closed g n = record g {
-  streams = sopen.dropped g.streams n;
+  streams = sopen.stream_dropped g.streams n;
   windows = closing.echo_ended
       g.windows n;
 }
 
-pub closed-linked : (g : Glk) (n : ℕ) → AreValid g → AreLinked (links g) (ends g) → owner (ends g n)
+pub closed-linked : (g : Glk) (n : ℕ) → AreValid g → AreLinked (links g) (stream_ends g) → owner (stream_ends g n)
     ≡ None
-    → AreLinked (links (stream_closed g n)) (ends (stream_closed g n))
+    → AreLinked (links (stream_closed g n)) (stream_ends (stream_closed g n))
 closed-linked g n valid v alone =
-    linked-closed (links g) (ends g) (links (stream_closed g n)) (ends (stream_closed g n))
+    linked-closed (links g) (stream_ends g) (links (stream_closed g n)) (stream_ends (stream_closed g n))
     (λ m. false) (λ m. m == n) (record {
-      windows = λ m. ap (option_map link_of) (found-map tree.number_of (closing.unechoed n)
+      windows = λ m. ap (option_map window_link) (found-map tree.window_number (closing.unechoed n)
           (λ w. refl) g.windows.slots m)
           ∙ of-link (tree.window_at g.windows.slots m);
-      streams = λ m. ap (option_map end_of) (found-without streams.number_of g.streams.streams 0
+      streams = λ m. ap (option_map stream_end) (found-without streams.stream_number g.streams.streams 0
           g.streams.next n m (streams-ascend g valid))
           ∙ of-end (m == n) (streams.stream_at g.streams m);
       together = λ m win e. other m win e (cases_Bool (m == n));
     }) v
   where
-    of-link : (o : Option Window) → option_map link_of (option_map (closing.unechoed n) o)
-        ≡ option_map (unechoed (λ m. m == n)) (option_map link_of o)
+    of-link : (o : Option Window) → option_map window_link (option_map (closing.unechoed n) o)
+        ≡ option_map (unechoed (λ m. m == n)) (option_map window_link o)
     of-link None = refl
     of-link (Some w) = refl
 
-    of-end : (b : Bool) (o : Option Stream) → option_map end_of (if b then None else o)
-        ≡ (if b then None else option_map end_of o)
+    of-end : (b : Bool) (o : Option Stream) → option_map stream_end (if b then None else o)
+        ≡ (if b then None else option_map stream_end o)
     of-end true o = refl
     of-end false o = refl
 
-    other : (m win : ℕ) → owner (ends g m) ≡ Some win → ((m == n) ≡ true) ⊎ ((m == n) ≡ false)
+    other : (m win : ℕ) → owner (stream_ends g m) ≡ Some win → ((m == n) ≡ true) ⊎ ((m == n) ≡ false)
         → (m == n) ≡ false
     other m win e (inl h) = (let i : m ≡ n = grind (arith, common_steps, h) in
-        let c : None ≡ Some win = sym (ap (λ k. owner (ends g k)) i ∙ alone) ∙ e in absurd cc)
+        let c : None ≡ Some win = sym (ap (λ k. owner (stream_ends g k)) i ∙ alone) ∙ e in absurd cc)
     other m win e (inr h) = h
 
 pub closed-kinds : (g : Glk) (n m : ℕ) → kinds (stream_closed g n) m ≡ kinds g m
-closed-kinds g n m = ap (λ o. option_map (λ (l : Link). l.kind) (option_map link_of o))
-    (found-map tree.number_of (closing.unechoed n) (λ w. refl) g.windows.slots m)
+closed-kinds g n m = ap (λ o. option_map (λ (l : Link). l.kind) (option_map window_link o))
+    (found-map tree.window_number (closing.unechoed n) (λ w. refl) g.windows.slots m)
     ∙ of-kind (tree.window_at g.windows.slots m)
   where
     of-kind : (o : Option Window) → option_map (λ (l : Link). l.kind)
-        (option_map link_of (option_map (closing.unechoed n) o))
-        ≡ option_map (λ (l : Link). l.kind) (option_map link_of o)
+        (option_map window_link (option_map (closing.unechoed n) o))
+        ≡ option_map (λ (l : Link). l.kind) (option_map window_link o)
     of-kind None = refl
     of-kind (Some w) = refl

@@ -2,8 +2,8 @@
 use Rattle.std.specs.Prelude.{◌≡◌, [], ◌∷◌, map, Some, None, true}
 use Rattle.std.proofs.Common.{refl}
 use Rattle.glk_dispatch.specs.Case.{lower, upper}
-use Rattle.glk_dispatch.specs.Events.{words_of}
-use Rattle.glk_dispatch.specs.Gestalt.{gestalt}
+use Rattle.glk_dispatch.specs.Events.{event_words}
+use Rattle.glk_dispatch.specs.Gestalt.{glk_gestalt}
 use Rattle.glk_dispatch.specs.Reference.{next_field}
 use Rattle.glk_dispatch.specs.Selector.{base_calls, call_of, case_calls, event_calls, fileref_calls}
 use Rattle.glk_dispatch.specs.Selector.{output_calls, stream_calls, style_calls, window_calls}
@@ -20,21 +20,21 @@ pub numbers : INPUT ∷ NEWLINE ∷ MAX_INITIAL ∷ MAX_PRINTED ∷ [] ≡ 8 ∷
 numbers = refl
 
 -- the version; Unicode and line echo are there, sounds aren't
-pub version : gestalt 0 0 ≡ 0x705
+pub version : glk_gestalt 0 0 ≡ 0x705
 version = refl
 
-pub capabilities : map (λ sel. gestalt sel 0) (8 ∷ 15 ∷ 17 ∷ 18 ∷ 22 ∷ []) ≡ 0 ∷ 1 ∷ 1 ∷ 1 ∷ 0 ∷ []
+pub capabilities : map (λ sel. glk_gestalt sel 0) (8 ∷ 15 ∷ 17 ∷ 18 ∷ 22 ∷ []) ≡ 0 ∷ 1 ∷ 1 ∷ 1 ∷ 0 ∷ []
 capabilities = refl
 
 -- a character is printed as one; so is the newline; a control character and half a pair aren't
-pub printed : map (gestalt 3) (65 ∷ 10 ∷ 127 ∷ 0xD800 ∷ []) ≡ 2 ∷ 2 ∷ 0 ∷ 0 ∷ []
+pub printed : map (glk_gestalt 3) (65 ∷ 10 ∷ 127 ∷ 0xD800 ∷ []) ≡ 2 ∷ 2 ∷ 0 ∷ 0 ∷ []
 printed = refl
 
 -- Return may be asked for as a character, and ends no line as a terminator; Escape does
-pub keys : map (gestalt 1) (0xFFFFFFFA ∷ 10 ∷ []) ≡ 1 ∷ 0 ∷ []
+pub keys : map (glk_gestalt 1) (0xFFFFFFFA ∷ 10 ∷ []) ≡ 1 ∷ 0 ∷ []
 keys = refl
 
-pub terminators : map (gestalt 19) (0xFFFFFFFA ∷ 0xFFFFFFF8 ∷ []) ≡ 0 ∷ 1 ∷ []
+pub terminators : map (glk_gestalt 19) (0xFFFFFFFA ∷ 0xFFFFFFF8 ∷ []) ≡ 0 ∷ 1 ∷ []
 terminators = refl
 
 -- A and À have lower letters, the multiplication sign has none
@@ -50,7 +50,7 @@ pub fields : map next_field (0 ∷ 0xFFFFFFFF ∷ 0x120 ∷ []) ≡ 0 ∷ 0xFFFF
 fields = refl
 
 -- an event has four words
-pub event : words_of (record { kind = 3; win = 1; val1 = 2; val2 = 0 }) ≡ 3 ∷ 1 ∷ 2 ∷ 0 ∷ []
+pub event : event_words (record { kind = 3; win = 1; val1 = 2; val2 = 0 }) ≡ 3 ∷ 1 ∷ 2 ∷ 0 ∷ []
 event = refl
 
 -- some selectors with their counts; sounds take any; no call has 0x99

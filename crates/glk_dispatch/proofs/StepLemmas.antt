@@ -2,36 +2,37 @@
 use native.Mathlib.Numerals.{unary_clauses}
 use Rattle.std.proofs.Common.{◌≡◌, ℕ, zero, suc, ◌+◌, ◌-◌, ◌%◌, ◌^◌, ◌<◌, ◌==◌, refl, arith, Ok}
 use Rattle.std.proofs.Common.{Err, Bool, List, ◌∷◌, [], ◌++◌, cond, slice_set, length, ◌≤◌, ap}
+use Rattle.vm_memory.specs.Chaining.{◌>>=◌}
 use Rattle.vm_memory.specs.MemoryMap.{MemoryMap}
 use Rattle.vm_memory.specs.Access.{read}
 use Rattle.vm_memory.specs.Fault.{coded}
 use Rattle.vm_stack.specs.StackState.{StackState}
 use Rattle.glk_input.specs.Delivery.{width}
-use Rattle.glk_dispatch.specs.Answer.{◌>>=◌, within}
-use Rattle.glk_dispatch.specs.Arguments.{popped, taken}
+use Rattle.glk_dispatch.specs.Answer.{within}
+use Rattle.glk_dispatch.specs.Arguments.{argument_popped, arguments_taken}
 use Rattle.glk_dispatch.specs.Case.{word_cased, words_cased}
-use Rattle.glk_dispatch.specs.Events.{echo_array, echo_item, words_at}
+use Rattle.glk_dispatch.specs.Events.{echo_array, echo_item, array_words}
 use Rattle.glk_dispatch.specs.FileRefs.{name_read}
-use Rattle.glk_dispatch.specs.Glk.{charged, style_of}
-use Rattle.glk_dispatch.specs.Output.{code_at, echo_from, put_array, put_code, put_item, put_once}
+use Rattle.glk_dispatch.specs.Glk.{character_charged, style_of_stream}
+use Rattle.glk_dispatch.specs.Output.{array_code_at, echo_from, put_array, put_code, put_item, put_once}
 use Rattle.glk_dispatch.specs.Output.{put_text, spread}
 use Rattle.glk_dispatch.specs.Streams.{got_array, got_item, got_on}
 use Rattle.glk_dispatch.specs.declared.case.Case.{Case}
 use Rattle.glk_dispatch.specs.declared.glk.Glk.{Glk}
 
 pub taken-more : (n : ℕ) (s : StackState) (i : ℕ) (args : List ℕ) → 0 < n
-    → taken n s i args ≡ popped s >>= (λ p. taken (n - 1) p.0 (i + 1) (slice_set args i p.1))
-unfolding taken
+    → arguments_taken n s i args ≡ argument_popped s >>= (λ p. arguments_taken (n - 1) p.0 (i + 1) (slice_set args i p.1))
+unfolding arguments_taken
 taken-more zero s i args h = absurd (omega arith)
 taken-more (suc n) s i args h = simp unary_clauses
 
-pub taken-none : (s : StackState) (i : ℕ) (args : List ℕ) → taken 0 s i args ≡ Ok (s, args)
-unfolding taken
+pub taken-none : (s : StackState) (i : ℕ) (args : List ℕ) → arguments_taken 0 s i args ≡ Ok (s, args)
+unfolding arguments_taken
 taken-none s i args = refl
 
 pub spread-more : (n : ℕ) (g : Glk) (m : MemoryMap) (s code : ℕ) → 0 < n
     → spread n g m s code ≡ cond (s == 0) (Ok (g, m))
-    (put_once g m s (style_of g s) code >>= (λ p. spread (n - 1) p.0 p.1 (echo_from p.0 s) code))
+    (put_once g m s (style_of_stream g s) code >>= (λ p. spread (n - 1) p.0 p.1 (echo_from p.0 s) code))
 unfolding spread
 spread-more zero g m s code h = absurd (omega arith)
 spread-more (suc n) g m s code h = simp unary_clauses
@@ -58,7 +59,7 @@ unfolding put_array
 put_array-none u g m s at = refl
 
 pub put_text-more : (n : ℕ) (u : Bool) (g : Glk) (m : MemoryMap) (s at : ℕ) → 0 < n
-    → put_text n u g m s at ≡ within g (code_at u m at) >>= (λ code.
+    → put_text n u g m s at ≡ within g (array_code_at u m at) >>= (λ code.
     cond (code == 0) (Ok (g, m))
     (put_code g m s code >>= (λ p. put_text (n - 1) u p.0 p.1 s ((at + width u) % 2 ^ 32))))
 unfolding put_text
@@ -97,7 +98,7 @@ words_cased-none c g m at = refl
 pub name_read-more : (n : ℕ) (g : Glk) (m : MemoryMap) (at : ℕ) (name : List ℕ) → 0 < n
     → name_read n g m at name ≡ within g (coded (read 1 m at)) >>= (λ code.
     cond (code == 0) (Ok (g, name))
-    (name_read (n - 1) (charged g) m ((at + 1) % 2 ^ 32) (name ++ code ∷ [])))
+    (name_read (n - 1) (character_charged g) m ((at + 1) % 2 ^ 32) (name ++ code ∷ [])))
 unfolding name_read
 name_read-more zero g m at name h = absurd (omega arith)
 name_read-more (suc n) g m at name h = simp unary_clauses
@@ -108,14 +109,14 @@ unfolding name_read
 name_read-none g m at name = refl
 
 pub words_at-more : (n : ℕ) (m : MemoryMap) (at : ℕ) (words : List ℕ) → 0 < n
-    → words_at n m at words ≡ coded (read 4 m at) >>=
-    (λ x. words_at (n - 1) m ((at + 4) % 2 ^ 32) (words ++ x ∷ []))
-unfolding words_at
+    → array_words n m at words ≡ coded (read 4 m at) >>=
+    (λ x. array_words (n - 1) m ((at + 4) % 2 ^ 32) (words ++ x ∷ []))
+unfolding array_words
 words_at-more zero m at words h = absurd (omega arith)
 words_at-more (suc n) m at words h = simp unary_clauses
 
-pub words_at-none : (m : MemoryMap) (at : ℕ) (words : List ℕ) → words_at 0 m at words ≡ Ok words
-unfolding words_at
+pub words_at-none : (m : MemoryMap) (at : ℕ) (words : List ℕ) → array_words 0 m at words ≡ Ok words
+unfolding array_words
 words_at-none m at words = refl
 
 pub got_array-more : (n : ℕ) (line u : Bool) (g : Glk) (m : MemoryMap) (s at count : ℕ) → 0 < n

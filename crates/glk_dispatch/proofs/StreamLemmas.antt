@@ -4,6 +4,7 @@ use Rattle.std.proofs.Common.{true, false, List, [], ◌∷◌, ◌++◌, length
 use Rattle.std.proofs.Common.{Option}
 use Rattle.std.proofs.Common.{Some, None, Result, Ok, Err, option_map, is_some, cond}
 use Rattle.std.proofs.lemmas.Grind.{common_steps}
+use Rattle.vm_memory.specs.Chaining.{◌>>=◌}
 use Rattle.vm_memory.specs.MemoryMap.{MemoryMap}
 use Rattle.glk_numbers.specs.Numbered.{ascends, found, has}
 use Rattle.glk_numbers.specs.declared.numbered.TheConstants.{MAX_NUMBER}
@@ -22,8 +23,8 @@ use Rattle.glk_streams.specs.declared.fileref.TheConstants.{MAX_REFS}
 use Rattle.glk_streams.specs.declared.stream.Stream.{Stream}
 use Rattle.glk_streams.specs.declared.stream.Target as target
 use Rattle.glk_streams.specs.declared.stream.Target.TheVariants as to
-use Rattle.glk_dispatch.specs.Links.{AreLinked, End, Ends, Links, echo_by, end_of, ends, links}
-use Rattle.glk_dispatch.specs.Links.{next, owner}
+use Rattle.glk_dispatch.specs.Links.{AreLinked, End, Ends, Links, echo_by, stream_end, stream_ends, links}
+use Rattle.glk_dispatch.specs.Links.{next_echo, owner}
 use Rattle.glk_dispatch.specs.declared.glk.Glk.{Glk}
 use Rattle.glk_dispatch.proofs.CloseLemmas.{ends_in}
 use Rattle.glk_dispatch.proofs.FoundLemmas.{found-added, found-high, part-replaced}
@@ -74,13 +75,13 @@ linked-more w s t h k = record {
   windows = λ n win e. k.windows n win (sym (owner-more (s n) (t n) (h n)) ∙ e);
   plain = λ n e f. plain-more (s n) (t n) (h n) (λ x y. k.plain n x y) e f;
   echoes = λ win l e z. some-more (s l.echo) (t l.echo) (h l.echo) (k.echoes win l e z);
-  no_loop = no_loop-fewer (next w s) (next w t)
+  no_loop = no_loop-fewer (next_echo w s) (next_echo w t)
       (λ n. inl (ap (echo_by w) (owner-more (s n) (t n) (h n)))) k.no_loop;
 }
 
-pub added-linked : (g : Glk) (t : StreamTable) → More g.streams t → AreLinked (links g) (ends g)
+pub added-linked : (g : Glk) (t : StreamTable) → More g.streams t → AreLinked (links g) (stream_ends g)
     → AreLinked (links g) (ends_in t)
-added-linked g t more v = linked-more (links g) (ends g) (ends_in t) more v
+added-linked g t more v = linked-more (links g) (stream_ends g) (ends_in t) more v
 
 -- ---- what each call does
 
@@ -91,55 +92,55 @@ same-more t (Err e) h = tt
 
 -- one stream more, with the next number
 joined-more : (t u : StreamTable) (s : Stream) → u.streams ≡ t.streams → s.number ≡ t.next
-    → streams.is_window s.target ≡ false
-    → ascends streams.number_of 0 t.next t.streams ≡ true → More t (opening.added u s)
+    → streams.is_window_target s.target ≡ false
+    → ascends streams.stream_number 0 t.next t.streams ≡ true → More t (opening.stream_added u s)
 joined-more t u s same number other order m =
-    let free : found streams.number_of t.streams s.number ≡ None =
-    found-high streams.number_of t.streams 0 t.next s.number order (sym-le number) in
+    let free : found streams.stream_number t.streams s.number ≡ None =
+    found-high streams.stream_number t.streams 0 t.next s.number order (sym-le number) in
     at-number (m == s.number) refl
-    (ap (λ ss. option_map end_of (found streams.number_of (ss ++ s ∷ []) m)) same
-    ∙ ap (option_map end_of) (found-added streams.number_of t.streams s m free)) free
+    (ap (λ ss. option_map stream_end (found streams.stream_number (ss ++ s ∷ []) m)) same
+    ∙ ap (option_map stream_end) (found-added streams.stream_number t.streams s m free)) free
   where
     sym-le : {a b : ℕ} → a ≡ b → b ≤ a
     sym-le e = omega (arith, e)
 
-    new-end : (s : Stream) → streams.is_window s.target ≡ false → end_of s ≡ no_window
+    new-end : (s : Stream) → streams.is_window_target s.target ≡ false → stream_end s ≡ no_window
     new-end s e = ends-as s.target refl e
       where
-        ends-as : (x : target.Target) → s.target ≡ x → streams.is_window x ≡ false
-            → end_of s ≡ no_window
+        ends-as : (x : target.Target) → s.target ≡ x → streams.is_window_target x ≡ false
+            → stream_end s ≡ no_window
         ends-as (to.Window w) f e = absurd cc
         ends-as (to.Memory b l) f e = rw f refl
         ends-as (to.File a n) f e = rw f refl
 
     at-number : (b : Bool) → (m == s.number) ≡ b
-        → option_map end_of (found streams.number_of (u.streams ++ s ∷ []) m)
-        ≡ option_map end_of (cond (m == s.number) (Some s) (found streams.number_of t.streams m))
-        → found streams.number_of t.streams s.number ≡ None
-        → IsMore (ends_in t m) (ends_in (opening.added u s) m)
+        → option_map stream_end (found streams.stream_number (u.streams ++ s ∷ []) m)
+        ≡ option_map stream_end (cond (m == s.number) (Some s) (found streams.stream_number t.streams m))
+        → found streams.stream_number t.streams s.number ≡ None
+        → IsMore (ends_in t m) (ends_in (opening.stream_added u s) m)
     at-number true e f free =
         let m_is : m ≡ s.number = grind (arith, common_steps, e) in
         inr (
-          ap (λ k. option_map end_of (found streams.number_of t.streams k)) m_is
-              ∙ ap (option_map end_of) free,
-          f ∙ ap (λ b. option_map end_of (cond b (Some s) (found streams.number_of t.streams m))) e
+          ap (λ k. option_map stream_end (found streams.stream_number t.streams k)) m_is
+              ∙ ap (option_map stream_end) free,
+          f ∙ ap (λ b. option_map stream_end (cond b (Some s) (found streams.stream_number t.streams m))) e
               ∙ ap Some (new-end s other),
         )
     at-number false e f free =
-        inl (f ∙ ap (λ b. option_map end_of (cond b (Some s) (found streams.number_of t.streams m)))
+        inl (f ∙ ap (λ b. option_map stream_end (cond b (Some s) (found streams.stream_number t.streams m)))
         e)
 
 same-table : (t u : StreamTable) → u.streams ≡ t.streams → More t u
-same-table t u e m = inl (ap (λ ss. option_map end_of (found streams.number_of ss m)) e)
+same-table t u e m = inl (ap (λ ss. option_map stream_end (found streams.stream_number ss m)) e)
 
 -- one stream in the place of another, as windows see it
 changed-more : (t : StreamTable) (n : ℕ) (s v : Stream) → streams.stream_at t n ≡ Some s
-    → v.number ≡ s.number → end_of v ≡ end_of s → More t (streams.with_stream t n v)
+    → v.number ≡ s.number → stream_end v ≡ stream_end s → More t (streams.with_stream t n v)
 changed-more t n s v e number same m =
-    inl (part-replaced streams.number_of end_of t.streams n m s v e number same)
+    inl (part-replaced streams.stream_number stream_end t.streams n m s v e number same)
 
 pub file-more : (t : StreamTable) (fref mode rock : ℕ) (u : Bool)
-    → ascends streams.number_of 0 t.next t.streams ≡ true
+    → ascends streams.stream_number 0 t.next t.streams ≡ true
     → LeavesMore t (opening.opened_file t fref mode rock u)
 file-more t fref mode rock u order = of-ref (streams.ref_at t fref)
   where
@@ -158,11 +159,11 @@ file-more t fref mode rock u order = of-ref (streams.ref_at t fref)
 
     by-mode : (r : FileRef) (b : Bool)
         → LeavesMore t (cond b (Err BadArgument)
-        (cond (opening.is_full t || not (opening.can_open t.files r.usage r.name mode)) (Ok (t, 0))
+        (cond (opening.are_streams_full t || not (opening.can_open t.files r.usage r.name mode)) (Ok (t, 0))
         (Ok (opening.opened_name t r.usage r.name mode rock u))))
     by-mode r true = tt
     by-mode r false =
-        opened r (opening.is_full t || not (opening.can_open t.files r.usage r.name mode))
+        opened r (opening.are_streams_full t || not (opening.can_open t.files r.usage r.name mode))
 
     of-ref : (o : Option FileRef)
         → LeavesMore t (answer.live o (λ r. opening.opened_ref t r mode rock u))
@@ -170,24 +171,24 @@ file-more t fref mode rock u order = of-ref (streams.ref_at t fref)
     of-ref (Some r) = by-mode r (not (opening.is_file_mode mode))
 
 pub memory-more : (t : StreamTable) (buf len mode rock : ℕ) (u : Bool)
-    → ascends streams.number_of 0 t.next t.streams ≡ true
+    → ascends streams.stream_number 0 t.next t.streams ≡ true
     → LeavesMore t (opening.opened_memory t buf len mode rock u)
 memory-more t buf len mode rock u order =
-    by-mode (not (opening.is_memory_mode mode)) (opening.is_full t)
+    by-mode (not (opening.is_memory_mode mode)) (opening.are_streams_full t)
   where
     by-mode : (b full : Bool)
         → LeavesMore t (cond b (Err BadArgument) (cond full (Ok (t, 0))
-        (Ok (opening.joined t
-        (opening.fresh t.next rock mode u (to.Memory buf len) 0)))))
+        (Ok (opening.added_with_number t
+        (opening.fresh_stream t.next rock mode u (to.Memory buf len) 0)))))
     by-mode true full = tt
     by-mode false true = same-table t t refl
     by-mode false false = joined-more t t _ refl refl refl order
 
-pub sought-more : (t : StreamTable) (n by from : ℕ) → LeavesAlone t (place.sought t n by from)
+pub sought-more : (t : StreamTable) (n by from : ℕ) → LeavesAlone t (place.position_sought t n by from)
 sought-more t n by from = of-stream (streams.stream_at t n) refl
   where
     sought-end : (s : Stream) (x : target.Target) → s.target ≡ x
-        → end_of (place.sought_in x t.files s by from) ≡ end_of s
+        → stream_end (place.sought_in x t.files s by from) ≡ stream_end s
     sought-end s (to.Window w) e = refl
     sought-end s (to.Memory b l) e = rw e refl
     sought-end s (to.File a m) e = rw e refl
@@ -225,24 +226,24 @@ styled-more t n style = of-stream (streams.stream_at t n) refl
 pub got-more : (t : StreamTable) (m : MemoryMap) (n : ℕ) → LeavesMore t (input.got t m n)
 got-more t m n = of-stream (streams.stream_at t n) refl
   where
-    passed-end : (s : Stream) (r : Reading) → streams.is_window s.target ≡ false
-        → end_of (input.passed r s) ≡ end_of s
+    passed-end : (s : Stream) (r : Reading) → streams.is_window_target s.target ≡ false
+        → stream_end (input.passed r s) ≡ stream_end s
     passed-end s r e = grind (arith, common_steps, e)
 
     behind-more : (s : Stream) (o : Option Reading) → streams.stream_at t n ≡ Some s
-        → streams.is_window s.target ≡ false → More t (input.behind t n s o).0
+        → streams.is_window_target s.target ≡ false → More t (input.stream_behind t n s o).0
     behind-more s None e f = same-table t t refl
     behind-more s (Some r) e f = changed-more t n s (input.passed r s) e refl (passed-end s r f)
 
     got-on : (s : Stream) (r : Result (Option Reading) StreamStop)
-        → streams.stream_at t n ≡ Some s → streams.is_window s.target ≡ false
-        → LeavesMore t (answer.◌>>=◌ r (λ x. Ok (input.behind t n s x)))
+        → streams.stream_at t n ≡ Some s → streams.is_window_target s.target ≡ false
+        → LeavesMore t (◌>>=◌ r (λ x. Ok (input.stream_behind t n s x)))
     got-on s (Ok x) e f = behind-more s x e f
     got-on s (Err x) e f = tt
 
     by-target : (s : Stream) (x : target.Target) → s.target ≡ x → streams.stream_at t n ≡ Some s
-        → LeavesMore t (answer.◌>>=◌ (input.got_from x s.unicode t.files m s.place)
-        (λ r. Ok (input.behind t n s r)))
+        → LeavesMore t (◌>>=◌ (input.got_from x s.unicode t.files m s.place)
+        (λ r. Ok (input.stream_behind t n s r)))
     by-target s (to.Window w) h e = tt
     by-target s (to.Memory b l) h e =
         got-on s (input.got_from (to.Memory b l) s.unicode t.files m s.place) e (rw h refl)
@@ -250,20 +251,20 @@ got-more t m n = of-stream (streams.stream_at t n) refl
         got-on s (input.got_from (to.File a c) s.unicode t.files m s.place) e (rw h refl)
 
     by-mode : (s : Stream) (b : Bool) → streams.stream_at t n ≡ Some s
-        → LeavesMore t (answer.◌>>=◌
+        → LeavesMore t (◌>>=◌
         (cond b (input.got_from s.target s.unicode t.files m s.place) (Err BadArgument))
-        (λ r. Ok (input.behind t n s r)))
+        (λ r. Ok (input.stream_behind t n s r)))
     by-mode s true e = by-target s s.target refl e
     by-mode s false e = tt
 
     of-stream : (o : Option Stream) → streams.stream_at t n ≡ o
-        → LeavesMore t (answer.live o (λ s. answer.◌>>=◌ (input.got_by t.files m s)
-        (λ r. Ok (input.behind t n s r))))
+        → LeavesMore t (answer.live o (λ s. ◌>>=◌ (input.got_by t.files m s)
+        (λ r. Ok (input.stream_behind t n s r))))
     of-stream None e = tt
     of-stream (Some s) e = by-mode s (streams.is_read_mode s.mode) e
 
 pub current-more : (t : StreamTable) (n : ℕ) → LeavesAlone t (refs.with_current t n)
-current-more t n = by-live (n == 0 || has streams.number_of t.streams n)
+current-more t n = by-live (n == 0 || has streams.stream_number t.streams n)
   where
     by-live : (b : Bool)
         → LeavesAlone t (cond b (Ok (record t { current = n })) (Err BadObject))

@@ -2,29 +2,30 @@
 use Rattle.std.specs.Prelude.{ℕ, zero, suc, ◌+◌, ◌==◌, nat_lt, Bool, true}
 use Rattle.std.specs.Prelude.{if◌then◌else◌, List}
 use Rattle.std.specs.Prelude.{replicate, slice_set, Option, Some, None, Result, Ok, Err}
+use Rattle.vm_memory.specs.Chaining.{◌>>=◌}
 use Rattle.vm_stack.specs.StackState.{StackState}
 use Rattle.vm_stack.specs.Values as stack
-use Rattle.glk_dispatch.specs.Answer.{◌>>=◌}
 use Rattle.glk_dispatch.specs.Fault.{stacked}
 
 -- the stack without its top value, and that value, or fault 4
-abbrev pub popped : StackState → Result (StackState × ℕ) ℕ
-popped s = stacked (stack.popped s)
+abbrev pub argument_popped : StackState → Result (StackState × ℕ) ℕ
+argument_popped s = stacked (stack.popped s)
 
 -- so many values are taken into the places from i on, the top first; there are five places, and
 -- no call uses more
-unfoldable pub taken : ℕ → StackState → ℕ → List ℕ
+unfoldable pub arguments_taken : ℕ → StackState → ℕ → List ℕ
     → Result (StackState × List ℕ) ℕ
-taken zero s i args = Ok (s, args)
-taken (suc n) s i args = popped s >>= (λ p. taken n p.0 (i + 1) (slice_set args i p.1))
+arguments_taken zero s i args = Ok (s, args)
+arguments_taken (suc n) s i args =
+    argument_popped s >>= (λ p. arguments_taken n p.0 (i + 1) (slice_set args i p.1))
 
 -- the call takes that many; one without a count takes any
-abbrev pub takes : Option ℕ → ℕ → Bool
-takes None given = true
-takes (Some count) given = given == count
+abbrev pub takes_count : Option ℕ → ℕ → Bool
+takes_count None given = true
+takes_count (Some count) given = given == count
 
 -- the arguments of a call: too few values come first, and then a wrong count
-abbrev pub arguments : StackState → Option ℕ → ℕ → Result (StackState × List ℕ) ℕ
-arguments s count given =
-    if nat_lt (stack.count s) given then Err 4
-    else (if takes count given then taken given s 0 (replicate 5 0) else Err 22)
+abbrev pub call_arguments : StackState → Option ℕ → ℕ → Result (StackState × List ℕ) ℕ
+call_arguments s count given =
+    if nat_lt (stack.value_count s) given then Err 4
+    else (if takes_count count given then arguments_taken given s 0 (replicate 5 0) else Err 22)

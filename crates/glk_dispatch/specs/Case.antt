@@ -2,11 +2,12 @@
 use Rattle.std.specs.Prelude.{ℕ, zero, suc, ◌+◌, ◌-◌, ◌%◌, ◌^◌, ◌==◌}
 use Rattle.std.specs.Prelude.{◌&&◌, ◌||◌, not, nat_le, min}
 use Rattle.std.specs.Prelude.{Bool, if◌then◌else◌, Result, Ok, Err}
+use Rattle.vm_memory.specs.Chaining.{◌>>=◌}
 use Rattle.vm_memory.specs.MemoryMap.{MemoryMap}
 use Rattle.vm_memory.specs.Access.{read, written}
 use Rattle.vm_memory.specs.Fault.{coded}
-use Rattle.glk_dispatch.specs.Answer.{GlkCall, Reached, Rule, ◌>>=◌, within}
-use Rattle.glk_dispatch.specs.Glk.{charged}
+use Rattle.glk_dispatch.specs.Answer.{GlkCall, Reached, CallRule, within}
+use Rattle.glk_dispatch.specs.Glk.{character_charged}
 use Rattle.glk_dispatch.specs.Reference.{gives}
 use Rattle.glk_dispatch.specs.declared.called.Called.{Called}
 use Rattle.glk_dispatch.specs.declared.glk.Glk.{Glk}
@@ -39,8 +40,8 @@ in_case Upper c = upper c
 abbrev pub word_cased : Case → Glk → MemoryMap → ℕ → Reached (Glk × MemoryMap)
 word_cased case g m at =
     within g (coded (read 4 m at))
-    >>= (λ c. within (charged g) (coded (written 4 m at (in_case case c))))
-    >>= (λ n. Ok (charged g, n))
+    >>= (λ c. within (character_charged g) (coded (written 4 m at (in_case case c))))
+    >>= (λ n. Ok (character_charged g, n))
 
 -- so many words from an address on
 unfoldable pub words_cased : ℕ → Case → Glk → MemoryMap → ℕ
@@ -56,18 +57,18 @@ title_cased count others g m at =
     >>= (λ p. words_cased (if others then count - 1 else 0) Lower p.0 p.1 ((at + 4) % 2 ^ 32))
 
 -- no more characters than the array has
-abbrev pub checked : ℕ → ℕ → Result (Unit {0}) ℕ
-checked len n = if nat_le n len then Ok tt else Err 22
+abbrev pub within_array : ℕ → ℕ → Result (Unit {0}) ℕ
+within_array len n = if nat_le n len then Ok tt else Err 22
 
 -- the call answers n
-abbrev pub cases : GlkCall → ℕ → ℕ → Reached (Glk × MemoryMap) → Rule Called
+abbrev pub cases : GlkCall → ℕ → ℕ → Reached (Glk × MemoryMap) → CallRule Called
 cases s len n done =
-    within s.glk (checked len n)
+    within s.glk (within_array len n)
     >>= (λ _. done) >>= (λ p. gives n (record s { glk = p.0; memory = p.1 }))
 
 -- glk_char_to_lower ch · glk_buffer_to_lower_case_uni buf, len, n · .._title_case_uni buf, len,
 -- n, lowerrest
-unfoldable pub case_work : CaseCall → GlkCall → (ℕ → ℕ) → Rule Called
+unfoldable pub case_work : CaseCall → GlkCall → (ℕ → ℕ) → CallRule Called
 case_work CharToLower s l = gives (lower (l 0)) s
 case_work CharToUpper s l = gives (upper (l 0)) s
 case_work BufferToLower s l = cases s (l 1) (l 2) (words_cased (l 2) Lower s.glk s.memory (l 0))

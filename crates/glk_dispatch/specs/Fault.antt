@@ -31,6 +31,6 @@ stream_code stop.BadArgument = 22
 stream_code stop.NoMemory = 0
 
 -- what a call of streams gives, with its fault as a number
-abbrev pub numbered : {A : Type 0} → Result A StreamStop → Result A ℕ
-numbered (Ok x) = Ok x
-numbered (Err f) = Err (stream_code f)
+abbrev pub streams_coded : {A : Type 0} → Result A StreamStop → Result A ℕ
+streams_coded (Ok x) = Ok x
+streams_coded (Err f) = Err (stream_code f)

@@ -12,10 +12,10 @@ use Rattle.glk_streams.specs.declared.stream.Target.TheVariants.{Window, Memory,
 use Rattle.glk_input.specs.Request as request
 use Rattle.glk_input.specs.declared.request.WindowInput.{WindowInput}
 use Rattle.glk_dispatch.specs.Events.{may_ask}
-use Rattle.glk_dispatch.specs.Glk.{is_stream, is_window}
-use Rattle.glk_dispatch.specs.Links.{is_over, is_plain}
+use Rattle.glk_dispatch.specs.Glk.{is_stream, has_window}
+use Rattle.glk_dispatch.specs.Links.{echoes_end, is_plain_stream}
 use Rattle.glk_dispatch.specs.Output.{echo_from}
-use Rattle.glk_dispatch.specs.Valid.{IsValid}
+use Rattle.glk_dispatch.specs.Valid.{IsValidGlk}
 use Rattle.glk_dispatch.specs.declared.glk.Glk.{Glk}
 use Rattle.glk_dispatch.specs.declared.glk.Prompt.{Prompt}
 
@@ -44,29 +44,30 @@ is_owned g win n = streams.of_stream (streams.stream_at g.streams n) false
 abbrev pub window_fits : Glk → win.Window → Bool
 window_fits g w =
     is_owned g w.number w.stream
-    && ((w.echo == 0 || is_stream g w.echo) && has request.number_of g.requests w.number)
+    && ((w.echo == 0 || is_stream g w.echo) && has request.input_window_number g.requests w.number)
 
 -- a live window has this stream
-abbrev pub is_named : Glk → ℕ → ℕ → Bool
-is_named g win n = is_window g win && tree.stream_of g.windows.slots win == n
+abbrev pub has_stream : Glk → ℕ → ℕ → Bool
+has_stream g win n = has_window g win && tree.stream_of g.windows.slots win == n
 
 abbrev pub is_named_by : Glk → ℕ → to.Target → Bool
-is_named_by g n (Window win) = is_named g win n
+is_named_by g n (Window win) = has_stream g win n
 is_named_by g n (Memory buf len) = true
 is_named_by g n (File usage name) = true
 
 -- from a stream on the echoes come to an end
 abbrev pub comes_to_an_end : Glk → ℕ → Bool
-comes_to_an_end g n = is_over (length g.windows.slots + 1) (echo_from g) n
+comes_to_an_end g n = echoes_end (length g.windows.slots + 1) (echo_from g) n
 
 -- a stream that is a window's is that window's own and stands as such a stream does, and its echoes
 -- come to an end
 abbrev pub stream_fits : Glk → Stream → Bool
-stream_fits g s = is_named_by g s.number s.target && (is_plain s && comes_to_an_end g s.number)
+stream_fits g s =
+    is_named_by g s.number s.target && (is_plain_stream s && comes_to_an_end g s.number)
 
 -- an entry for input is that of a live window, and of a buffer or a grid where it asks
 abbrev pub entry_fits : Glk → WindowInput → Bool
-entry_fits g w = is_window g w.win && (not (is_some w.request) || may_ask g w.win)
+entry_fits g w = has_window g w.win && (not (is_some w.request) || may_ask g w.win)
 
 -- so are all of them
 abbrev pub windows_fit : Glk → Bool
@@ -84,13 +85,13 @@ parts_fit g = windows_fit g && (streams_fit g && entries_fit g)
 -- the entries for input are those of the windows, in their order
 abbrev pub EntriesFollowWindows : Type 0
 EntriesFollowWindows =
-    (g : Glk) → IsValid g
-    → map request.number_of g.requests ≡ map tree.number_of g.windows.slots
+    (g : Glk) → IsValidGlk g
+    → map request.input_window_number g.requests ≡ map tree.window_number g.windows.slots
 
 -- a stream that is a window's is that of the one window that has it
 abbrev pub StreamsFollowWindows : Type 0
 StreamsFollowWindows =
-    (g : Glk) (s : Stream) (n : ℕ) (w : win.Window) → IsValid g
+    (g : Glk) (s : Stream) (n : ℕ) (w : win.Window) → IsValidGlk g
     → streams.stream_at g.streams s.number ≡ Some s → s.target ≡ Window n
     → tree.window_at g.windows.slots w.number ≡ Some w
     → (w.stream == s.number) ≡ (w.number == n)

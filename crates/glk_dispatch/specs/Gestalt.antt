@@ -2,9 +2,10 @@
 use Rattle.std.specs.Prelude.{ℕ, ◌==◌, ◌&&◌, ◌||◌, not, nat_le, nat_lt, Bool}
 use Rattle.std.specs.Prelude.{if◌then◌else◌, Ok}
 use Rattle.glk_input.specs.Keycode.{is_keycode, is_terminator}
+use Rattle.vm_memory.specs.Chaining.{◌>>=◌}
 use Rattle.vm_memory.specs.Access.{written}
 use Rattle.vm_memory.specs.Fault.{coded}
-use Rattle.glk_dispatch.specs.Answer.{GlkCall, Reached, Rule, ◌>>=◌, within}
+use Rattle.glk_dispatch.specs.Answer.{GlkCall, Reached, CallRule, within}
 use Rattle.glk_dispatch.specs.Reference.{gives}
 use Rattle.glk_dispatch.specs.declared.called.Called.{Called}
 use Rattle.glk_dispatch.specs.declared.called.Called.TheVariants as called
@@ -23,8 +24,8 @@ one_if holds = if holds then 1 else 0
 
 -- version; character input; line input; character output; Unicode; line echo; terminators, and
 -- which keys may end a line; resource streams aren't there
-abbrev pub gestalt : ℕ → ℕ → ℕ
-gestalt selector value =
+abbrev pub glk_gestalt : ℕ → ℕ → ℕ
+glk_gestalt selector value =
     if selector == 0 then 0x00000705
     else (if selector == 1 then one_if (is_printable value || is_keycode value)
     else (if selector == 2 then one_if (is_printable value)
@@ -39,14 +40,14 @@ array_begun s array x =
     else within s.glk (coded (written 4 s.memory array x)) >>= (λ m. Ok (record s { memory = m }))
 
 -- glk_gestalt_ext sel, val, array, len: a character is printed as one
-abbrev pub gestalt_told : GlkCall → ℕ → ℕ → ℕ → ℕ → Rule Called
+abbrev pub gestalt_told : GlkCall → ℕ → ℕ → ℕ → ℕ → CallRule Called
 gestalt_told s selector value array len =
     (if selector == 3 && not (len == 0) then array_begun s array 1 else Ok s)
-    >>= gives (gestalt selector value)
+    >>= gives (glk_gestalt selector value)
 
-unfoldable pub base_work : BaseCall → GlkCall → (ℕ → ℕ) → Rule Called
+unfoldable pub base_work : BaseCall → GlkCall → (ℕ → ℕ) → CallRule Called
 base_work Exit s l = Ok (s, called.Exit)
 base_work SetInterruptHandler s l = gives 0 s
 base_work Tick s l = gives 0 s
-base_work base.Gestalt s l = gives (gestalt (l 0) (l 1)) s
+base_work base.Gestalt s l = gives (glk_gestalt (l 0) (l 1)) s
 base_work base.GestaltExt s l = gestalt_told s (l 0) (l 1) (l 2) (l 3)

@@ -15,8 +15,8 @@ abbrev pub no_prompt : Prompt
 no_prompt = record { usage = 0; mode = 0; rock = 0 }
 
 -- a screen without windows, streams and requests
-abbrev pub fresh : ℕ → ℕ → Glk
-fresh cols rows = record {
+abbrev pub empty_screen : ℕ → ℕ → Glk
+empty_screen cols rows = record {
   windows = record { slots = []; next = 1; root = 0 };
   streams = streams.no_streams;
   requests = [];
@@ -33,29 +33,29 @@ abbrev pub turn_begun : Glk → Glk
 turn_begun g = record g { windows = output.begin_turn g.windows; chars = 0; printed = 0 }
 
 -- what a select or a prompt waited with is set back
-abbrev pub rested : Glk → Glk
-rested g = record g { event = 0; prompt = no_prompt }
+abbrev pub wait_set_back : Glk → Glk
+wait_set_back g = record g { event = 0; prompt = no_prompt }
 
 -- one more character was read or written in this turn; the greatest count stays
-abbrev pub charged : Glk → Glk
-charged g = record g { chars = min (g.chars + 1) (2 ^ 64 - 1) }
+abbrev pub character_charged : Glk → Glk
+character_charged g = record g { chars = min (g.chars + 1) (2 ^ 64 - 1) }
 
 -- the windows have their rectangles
-abbrev pub placed : Glk → Glk
-placed g = record g { windows = placing.place g.windows g.cols g.rows }
+abbrev pub with_rectangles : Glk → Glk
+with_rectangles g = record g { windows = placing.place g.windows g.cols g.rows }
 
-abbrev pub is_window : Glk → ℕ → Bool
-is_window g n = has tree.number_of g.windows.slots n
+abbrev pub has_window : Glk → ℕ → Bool
+has_window g n = has tree.window_number g.windows.slots n
 
 abbrev pub is_stream : Glk → ℕ → Bool
-is_stream g n = has streams.number_of g.streams.streams n
+is_stream g n = has streams.stream_number g.streams.streams n
 
 abbrev pub is_ref : Glk → ℕ → Bool
 is_ref g n = has streams.ref_number_of g.streams.refs n
 
 -- the number is that of a live object, else fault 21
 abbrev pub window : {A : Type 0} → Glk → ℕ → Reached A → Reached A
-window g n rest = needs g (is_window g n) 21 rest
+window g n rest = needs g (has_window g n) 21 rest
 
 abbrev pub stream : {A : Type 0} → Glk → ℕ → Reached A → Reached A
 stream g n rest = needs g (is_stream g n) 21 rest
@@ -65,7 +65,7 @@ fref g n rest = needs g (is_ref g n) 21 rest
 
 -- the same where 0 is allowed
 abbrev pub window_or_none : {A : Type 0} → Glk → ℕ → Reached A → Reached A
-window_or_none g n rest = needs g (n == 0 || is_window g n) 21 rest
+window_or_none g n rest = needs g (n == 0 || has_window g n) 21 rest
 
 abbrev pub stream_or_none : {A : Type 0} → Glk → ℕ → Reached A → Reached A
 stream_or_none g n rest = needs g (n == 0 || is_stream g n) 21 rest
@@ -78,12 +78,12 @@ abbrev pub takes : {A : Type 0} → Glk → Bool → Reached A → Reached A
 takes g holds rest = needs g holds 22 rest
 
 -- the window of a stream, or 0; and a stream's style
-abbrev pub window_of : Glk → ℕ → ℕ
-window_of g n = streams.of_stream (streams.stream_at g.streams n) 0
+abbrev pub window_of_stream : Glk → ℕ → ℕ
+window_of_stream g n = streams.of_stream (streams.stream_at g.streams n) 0
     (λ s. streams.window_in s.target)
 
-abbrev pub style_of : Glk → ℕ → ℕ
-style_of g n = streams.of_stream (streams.stream_at g.streams n) 0 (λ s. s.style)
+abbrev pub style_of_stream : Glk → ℕ → ℕ
+style_of_stream g n = streams.of_stream (streams.stream_at g.streams n) 0 (λ s. s.style)
 
 -- the rock of a stream, and of a file reference; 0 where there is none
 abbrev pub stream_rock : Glk → ℕ → ℕ

@@ -3,20 +3,21 @@
 use Rattle.std.specs.Prelude.{ℕ, ◌+◌, ◌%◌, ◌^◌, ◌==◌, ◌||◌}
 use Rattle.std.specs.Prelude.{if◌then◌else◌, List, [], ◌∷◌}
 use Rattle.std.specs.Prelude.{Result, Ok}
+use Rattle.vm_memory.specs.Chaining.{◌>>=◌}
 use Rattle.vm_memory.specs.MemoryMap.{MemoryMap}
 use Rattle.vm_memory.specs.Access.{written}
 use Rattle.vm_memory.specs.Fault.{coded}
 use Rattle.vm_stack.specs.StackState.{StackState}
 use Rattle.vm_stack.specs.Values.{pushed}
-use Rattle.glk_dispatch.specs.Answer.{GlkCall, Reached, Rule, ◌>>=◌, within}
+use Rattle.glk_dispatch.specs.Answer.{GlkCall, Reached, CallRule, within}
 use Rattle.glk_dispatch.specs.Fault.{stacked}
 use Rattle.glk_dispatch.specs.declared.called.Called.{Called}
 use Rattle.glk_dispatch.specs.declared.called.Called.TheVariants.{Value}
 
 -- a word at a reference: nowhere for 0, on the stack for 0xFFFFFFFF, else at the address
-abbrev pub referred : MemoryMap → StackState → ℕ → ℕ
+abbrev pub word_referred : MemoryMap → StackState → ℕ → ℕ
     → Result (MemoryMap × StackState) ℕ
-referred m s at x =
+word_referred m s at x =
     if at == 0 then Ok (m, s)
     else (if at == 4294967295
     then stacked (pushed s x) >>= (λ t. Ok (m, t))
@@ -31,12 +32,12 @@ abbrev pub referred_all : MemoryMap → StackState → ℕ → List ℕ
     → Result (MemoryMap × StackState) ℕ
 referred_all m s at [] = Ok (m, s)
 referred_all m s at (x ∷ xs) =
-    referred m s at x >>= (λ p. referred_all p.0 p.1 (next_field at) xs)
+    word_referred m s at x >>= (λ p. referred_all p.0 p.1 (next_field at) xs)
 
 -- the same in a call
 abbrev pub refers : GlkCall → ℕ → ℕ → Reached GlkCall
 refers s at x =
-    within s.glk (referred s.memory s.stack at x)
+    within s.glk (word_referred s.memory s.stack at x)
     >>= (λ p. Ok (record s { memory = p.0; stack = p.1 }))
 
 abbrev pub refers_all : GlkCall → ℕ → List ℕ → Reached GlkCall
@@ -45,5 +46,5 @@ refers_all s at xs =
     >>= (λ p. Ok (record s { memory = p.0; stack = p.1 }))
 
 -- the call answers this number
-abbrev pub gives : ℕ → GlkCall → Rule Called
+abbrev pub gives : ℕ → GlkCall → CallRule Called
 gives x s = Ok (s, Value x)

@@ -22,10 +22,10 @@ use Rattle.glk_dispatch.specs.declared.events.EventCall.{EventCall}
 use Rattle.glk_dispatch.specs.declared.events.EventCall.TheVariants as ev
 
 -- a call's selector, how many arguments it takes, and which it is
-abbrev pub Row : Type 0 → Type 0
-Row C = ℕ × ℕ × C
+abbrev pub SelectorRow : Type 0 → Type 0
+SelectorRow C = ℕ × ℕ × C
 
-unfoldable pub base_calls : List (Row BaseCall)
+unfoldable pub base_calls : List (SelectorRow BaseCall)
 base_calls =
     (0x01, 0, base.Exit)
     ∷ (0x02, 1, base.SetInterruptHandler)
@@ -34,7 +34,7 @@ base_calls =
     ∷ (0x05, 4, base.GestaltExt)
     ∷ []
 
-unfoldable pub window_calls : List (Row WindowCall)
+unfoldable pub window_calls : List (SelectorRow WindowCall)
 window_calls =
     (0x20, 2, win.Iterate)
     ∷ (0x21, 1, win.GetRock)
@@ -55,7 +55,7 @@ window_calls =
     ∷ (0x30, 1, win.GetSibling)
     ∷ []
 
-unfoldable pub stream_calls : List (Row StreamCall)
+unfoldable pub stream_calls : List (SelectorRow StreamCall)
 stream_calls =
     (0x40, 2, str.Iterate)
     ∷ (0x41, 1, str.GetRock)
@@ -78,7 +78,7 @@ stream_calls =
     ∷ (0x131, 3, str.GetBuffer true)
     ∷ []
 
-unfoldable pub fileref_calls : List (Row FileRefCall)
+unfoldable pub fileref_calls : List (SelectorRow FileRefCall)
 fileref_calls =
     (0x60, 2, ref.CreateTemp)
     ∷ (0x61, 3, ref.CreateByName)
@@ -91,7 +91,7 @@ fileref_calls =
     ∷ (0x67, 1, ref.DoesFileExist)
     ∷ []
 
-unfoldable pub output_calls : List (Row OutputCall)
+unfoldable pub output_calls : List (SelectorRow OutputCall)
 output_calls =
     (0x80, 1, out.PutChar false)
     ∷ (0x128, 1, out.PutChar true)
@@ -107,7 +107,7 @@ output_calls =
     ∷ (0x12D, 3, out.PutBufferStream true)
     ∷ []
 
-unfoldable pub style_calls : List (Row StyleCall)
+unfoldable pub style_calls : List (SelectorRow StyleCall)
 style_calls =
     (0x86, 1, sty.Set)
     ∷ (0x87, 2, sty.SetStream)
@@ -117,7 +117,7 @@ style_calls =
     ∷ (0xB3, 4, sty.Measure)
     ∷ []
 
-unfoldable pub case_calls : List (Row CaseCall)
+unfoldable pub case_calls : List (SelectorRow CaseCall)
 case_calls =
     (0xA0, 1, case.CharToLower)
     ∷ (0xA1, 1, case.CharToUpper)
@@ -126,7 +126,7 @@ case_calls =
     ∷ (0x122, 4, case.BufferToTitle)
     ∷ []
 
-unfoldable pub event_calls : List (Row EventCall)
+unfoldable pub event_calls : List (SelectorRow EventCall)
 event_calls =
     (0xC0, 1, ev.Select)
     ∷ (0xC1, 1, ev.SelectPoll)
@@ -147,7 +147,7 @@ is_nothing n =
     || (nat_le 0xF0 n && nat_le n 0xFF) || (nat_le 0x100 n && nat_le n 0x103)
 
 -- the call with this selector, and its count
-abbrev pub at_number : {C : Type 0} → List (Row C) → ℕ → Option (C × ℕ)
+abbrev pub at_number : {C : Type 0} → List (SelectorRow C) → ℕ → Option (C × ℕ)
 at_number [] n = None
 at_number (row ∷ rows) n = if n == row.0 then Some (row.2, row.1) else at_number rows n
 

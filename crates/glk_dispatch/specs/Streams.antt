@@ -2,8 +2,9 @@
 use Rattle.std.specs.Prelude.{ℕ, zero, suc, ◌+◌, ◌-◌, ◌*◌, ◌%◌, ◌^◌, ◌==◌}
 use Rattle.std.specs.Prelude.{◌&&◌, Bool, if◌then◌else◌}
 use Rattle.std.specs.Prelude.{true, false, [], ◌∷◌, Option, Some, None, Ok}
+use Rattle.vm_memory.specs.Chaining.{◌>>=◌}
 use Rattle.vm_memory.specs.MemoryMap.{MemoryMap}
-use Rattle.glk_numbers.specs.Numbered.{after}
+use Rattle.glk_numbers.specs.Numbered.{number_above}
 use Rattle.glk_windows.specs.Closing as windows
 use Rattle.glk_streams.specs.Streams as table
 use Rattle.glk_streams.specs.Opening as opening
@@ -13,10 +14,10 @@ use Rattle.glk_streams.specs.FileRefs as refs
 use Rattle.glk_streams.specs.declared.opening.Counts.{Counts}
 use Rattle.glk_streams.specs.declared.fault.StreamStop.{StreamStop}
 use Rattle.std.specs.Prelude.{Result}
-use Rattle.glk_input.specs.Delivery.{taken, width}
-use Rattle.glk_dispatch.specs.Answer.{GlkCall, Reached, Rule, ◌>>=◌, within}
-use Rattle.glk_dispatch.specs.Fault.{numbered}
-use Rattle.glk_dispatch.specs.Glk.{charged, stream, stream_or_none, stream_rock}
+use Rattle.glk_input.specs.Delivery.{code_taken, width}
+use Rattle.glk_dispatch.specs.Answer.{GlkCall, Reached, CallRule, within}
+use Rattle.glk_dispatch.specs.Fault.{streams_coded}
+use Rattle.glk_dispatch.specs.Glk.{character_charged, stream, stream_or_none, stream_rock}
 use Rattle.glk_dispatch.specs.Output.{code_written}
 use Rattle.glk_dispatch.specs.Reference.{gives, refers, refers_all}
 use Rattle.glk_dispatch.specs.declared.called.Called.{Called}
@@ -30,72 +31,72 @@ use Rattle.glk_dispatch.specs.declared.streams.StreamCall.TheVariants.{OpenResou
 use Rattle.glk_dispatch.specs.declared.streams.StreamCall.TheVariants.{GetLine, GetBuffer}
 
 -- a call changes the streams, and gives a value
-abbrev pub made : {A : Type 0} → Glk → Result (table.StreamTable × A) StreamStop
+abbrev pub streams_changed : {A : Type 0} → Glk → Result (table.StreamTable × A) StreamStop
     → Reached (Glk × A)
-made g new = within g (numbered new) >>= (λ p. Ok (record g { streams = p.0 }, p.1))
+streams_changed g new = within g (streams_coded new) >>= (λ p. Ok (record g { streams = p.0 }, p.1))
 
 -- the same of one that gives none
-abbrev pub left : Glk → Result table.StreamTable StreamStop → Reached Glk
-left g new = within g (numbered new) >>= (λ t. Ok (record g { streams = t }))
+abbrev pub streams_left : Glk → Result table.StreamTable StreamStop → Reached Glk
+streams_left g new = within g (streams_coded new) >>= (λ t. Ok (record g { streams = t }))
 
 -- the call answers the value, or 0
-abbrev pub makes : GlkCall → Reached (Glk × ℕ) → Rule Called
+abbrev pub makes : GlkCall → Reached (Glk × ℕ) → CallRule Called
 makes s new = new >>= (λ p. gives p.1 (record s { glk = p.0 }))
 
-abbrev pub leaves : GlkCall → Reached Glk → Rule Called
-leaves s new = new >>= (λ g. gives 0 (record s { glk = g }))
+abbrev pub leaves_streams : GlkCall → Reached Glk → CallRule Called
+leaves_streams s new = new >>= (λ g. gives 0 (record s { glk = g }))
 
 -- glk_stream_iterate str or 0, &rock
-abbrev pub iterates : GlkCall → ℕ → ℕ → Rule Called
-iterates s n rock =
-    let next = after table.number_of s.glk.streams.streams n in
+abbrev pub iterates_streams : GlkCall → ℕ → ℕ → CallRule Called
+iterates_streams s n rock =
+    let next = number_above table.stream_number s.glk.streams.streams n in
     stream_or_none s.glk n (refers s rock (stream_rock s.glk next) >>= gives next)
 
 -- a stream that is no window's closed, with its counts; no window echoes to it any more
-abbrev pub closed : Glk → ℕ → Reached (Glk × Counts)
-closed g n =
-    made g (opening.closed g.streams n)
+abbrev pub glk_without_stream : Glk → ℕ → Reached (Glk × Counts)
+glk_without_stream g n =
+    streams_changed g (opening.closed_stream g.streams n)
     >>= (λ p. Ok (record p.0 { windows = windows.echo_ended g.windows n }, p.1))
 
 -- glk_stream_close str, &result: read count and write count, written after the closing
-abbrev pub closes : GlkCall → ℕ → ℕ → Rule Called
-closes s n result =
-    closed s.glk n
+abbrev pub closes_stream : GlkCall → ℕ → ℕ → CallRule Called
+closes_stream s n result =
+    glk_without_stream s.glk n
     >>= (λ p. refers_all (record s { glk = p.0 }) result (p.1.read ∷ p.1.written ∷ []))
     >>= gives 0
 
 abbrev pub file_opened : Glk → ℕ → ℕ → ℕ → Bool → Reached (Glk × ℕ)
 file_opened g fref mode rock unicode =
-    made g (opening.opened_file g.streams fref mode rock unicode)
+    streams_changed g (opening.opened_file g.streams fref mode rock unicode)
 
 abbrev pub memory_opened : Glk → ℕ → ℕ → ℕ → ℕ → Bool → Reached (Glk × ℕ)
 memory_opened g buf len mode rock unicode =
-    made g (opening.opened_memory g.streams buf len mode rock unicode)
+    streams_changed g (opening.opened_memory g.streams buf len mode rock unicode)
 
-abbrev pub moved : Glk → ℕ → ℕ → ℕ → Reached Glk
-moved g n by from = left g (place.sought g.streams n by from)
+abbrev pub position_moved : Glk → ℕ → ℕ → ℕ → Reached Glk
+position_moved g n by from = streams_left g (place.position_sought g.streams n by from)
 
 abbrev pub current_set : Glk → ℕ → Reached Glk
-current_set g n = left g (refs.with_current g.streams n)
+current_set g n = streams_left g (refs.with_current g.streams n)
 
-abbrev pub place_of : Glk → ℕ → Result ℕ ℕ
-place_of g n = numbered (place.position g.streams n)
+abbrev pub stream_position : Glk → ℕ → Result ℕ ℕ
+stream_position g n = streams_coded (place.position g.streams n)
 
-abbrev pub got : Glk → MemoryMap → ℕ → Reached (Glk × Option ℕ)
-got g m n = made g (input.got g.streams m n)
+abbrev pub char_got : Glk → MemoryMap → ℕ → Reached (Glk × Option ℕ)
+char_got g m n = streams_changed g (input.got g.streams m n)
 
 -- a character of a stream, which is then counted as read; None at the end
-abbrev pub counted : Option ℕ → Glk → Glk
-counted None g = g
-counted (Some code) g = charged g
+abbrev pub read_counted : Option ℕ → Glk → Glk
+read_counted None g = g
+read_counted (Some code) g = character_charged g
 
 abbrev pub got_code : Glk → MemoryMap → ℕ → Reached (Glk × Option ℕ)
-got_code g m n = got g m n >>= (λ p. Ok (counted p.1 p.0, p.1))
+got_code g m n = char_got g m n >>= (λ p. Ok (read_counted p.1 p.0, p.1))
 
 -- a plain read of a code above 255 gives `?`; the end is -1
 abbrev pub code_or_end : Bool → Option ℕ → ℕ
 code_or_end unicode None = 4294967295
-code_or_end unicode (Some code) = taken unicode code
+code_or_end unicode (Some code) = code_taken unicode code
 
 -- glk_get_char_stream str
 abbrev pub char_read : Bool → Glk → MemoryMap → ℕ → Reached (Glk × ℕ)
@@ -107,7 +108,7 @@ abbrev pub item_kept : Bool → Glk → MemoryMap → ℕ → Option ℕ
     → Reached (Glk × MemoryMap × Option ℕ)
 item_kept unicode g m at None = Ok (g, m, None)
 item_kept unicode g m at (Some code) =
-    within g (code_written unicode m at (taken unicode code))
+    within g (code_written unicode m at (code_taken unicode code))
     >>= (λ n. Ok (g, n, Some code))
 
 abbrev pub got_item : Bool → Glk → MemoryMap → ℕ → ℕ
@@ -137,15 +138,15 @@ abbrev pub buffer_read : Bool → Glk → MemoryMap → ℕ → ℕ → ℕ
 buffer_read unicode g m n buf len = stream g n (got_array len false unicode g m n buf 0)
 
 -- the place behind so many characters of an array
-abbrev pub behind : Bool → ℕ → ℕ → ℕ
-behind unicode buf count = (buf + width unicode * count % 2 ^ 32) % 2 ^ 32
+abbrev pub address_behind : Bool → ℕ → ℕ → ℕ
+address_behind unicode buf count = (buf + width unicode * count % 2 ^ 32) % 2 ^ 32
 
 -- a line, and a zero behind it
 abbrev pub got_line : Bool → Glk → MemoryMap → ℕ → ℕ → ℕ
     → Reached (Glk × MemoryMap × ℕ)
 got_line unicode g m n buf len =
     got_array (len - 1) true unicode g m n buf 0
-    >>= (λ p. within p.0 (code_written unicode p.1 (behind unicode buf p.2) 0)
+    >>= (λ p. within p.0 (code_written unicode p.1 (address_behind unicode buf p.2) 0)
     >>= (λ k. Ok (p.0, k, p.2)))
 
 -- glk_get_line_stream str, buf, len: at most len - 1 characters, to a newline with it, then a zero;
@@ -156,19 +157,19 @@ line_read unicode g m n buf len =
     stream g n (if len == 0 then Ok (g, m, 0) else got_line unicode g m n buf len)
 
 -- the call answers the count
-abbrev pub gets : GlkCall → Reached (Glk × MemoryMap × ℕ) → Rule Called
+abbrev pub gets : GlkCall → Reached (Glk × MemoryMap × ℕ) → CallRule Called
 gets s new = new >>= (λ p. gives p.2 (record s { glk = p.0; memory = p.1 }))
 
-unfoldable pub stream_work : StreamCall → GlkCall → (ℕ → ℕ) → Rule Called
-stream_work Iterate s l = iterates s (l 0) (l 1)
+unfoldable pub stream_work : StreamCall → GlkCall → (ℕ → ℕ) → CallRule Called
+stream_work Iterate s l = iterates_streams s (l 0) (l 1)
 stream_work GetRock s l = stream s.glk (l 0) (gives (stream_rock s.glk (l 0)) s)
 stream_work (OpenFile unicode) s l = makes s (file_opened s.glk (l 0) (l 1) (l 2) unicode)
 stream_work (OpenMemory unicode) s l =
     makes s (memory_opened s.glk (l 0) (l 1) (l 2) (l 3) unicode)
-stream_work Close s l = closes s (l 0) (l 1)
-stream_work SetPosition s l = leaves s (moved s.glk (l 0) (l 1) (l 2))
-stream_work GetPosition s l = within s.glk (place_of s.glk (l 0)) >>= (λ x. gives x s)
-stream_work SetCurrent s l = leaves s (current_set s.glk (l 0))
+stream_work Close s l = closes_stream s (l 0) (l 1)
+stream_work SetPosition s l = leaves_streams s (position_moved s.glk (l 0) (l 1) (l 2))
+stream_work GetPosition s l = within s.glk (stream_position s.glk (l 0)) >>= (λ x. gives x s)
+stream_work SetCurrent s l = leaves_streams s (current_set s.glk (l 0))
 stream_work GetCurrent s l = gives s.glk.streams.current s
 stream_work OpenResource s l = gives 0 s
 stream_work (GetChar unicode) s l = makes s (char_read unicode s.glk s.memory (l 0))

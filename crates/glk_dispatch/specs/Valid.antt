@@ -9,8 +9,8 @@ use Rattle.glk_streams.specs.Laws as streams
 use Rattle.glk_input.specs.Request as request
 use Rattle.glk_input.specs.Valid as requests
 use Rattle.glk_dispatch.specs.Events.{may_ask}
-use Rattle.glk_dispatch.specs.Glk.{is_window, no_prompt}
-use Rattle.glk_dispatch.specs.Links.{AreLinked, links, ends}
+use Rattle.glk_dispatch.specs.Glk.{has_window, no_prompt}
+use Rattle.glk_dispatch.specs.Links.{AreLinked, links, stream_ends}
 use Rattle.glk_dispatch.specs.declared.called.Called.{Called}
 use Rattle.glk_dispatch.specs.declared.called.Called.TheVariants.{Value, Exit, Wait, Prompt}
 use Rattle.glk_dispatch.specs.declared.glk.Glk.{Glk}
@@ -18,24 +18,24 @@ use Rattle.glk_dispatch.specs.declared.glk.Glk.{Glk}
 -- the windows are one tree with sound grids, their next number is one or none is left; streams,
 -- file references, files and requests are valid
 pub record AreValid (g : Glk) : Type 0 where
-  pub windows : windows.IsValid g.windows
-  pub streams : streams.IsValid g.streams
-  pub requests : requests.is_valid g.requests ≡ true
+  pub windows : windows.IsValidTree g.windows
+  pub streams : streams.AreValidStreams g.streams
+  pub requests : requests.are_valid_inputs g.requests ≡ true
   pub next : g.windows.next ≤ 4294967295
 
 -- each live window has its entry for input, and no other number has one; buffers and grids alone
 -- have requests
 pub record AreAsked (g : Glk) : Type 0 where
-  pub listed : (win : ℕ) → has request.number_of g.requests win ≡ is_window g win
-  pub askers : (win : ℕ) → is_some (request.request_of g.requests win) ≡ true
+  pub listed : (win : ℕ) → has request.input_window_number g.requests win ≡ has_window g win
+  pub askers : (win : ℕ) → is_some (request.window_request g.requests win) ≡ true
       → may_ask g win ≡ true
 
 -- a Glk state as calls and inputs keep it
-pub record IsValid (g : Glk) : Type 0 where
+pub record IsValidGlk (g : Glk) : Type 0 where
   -- windows, streams, file references, files and requests, each by itself
   pub parts : AreValid g
   -- and what they say of each other
-  pub linked : AreLinked (links g) (ends g)
+  pub linked : AreLinked (links g) (stream_ends g)
   pub asked : AreAsked g
   -- windows have their rectangles of the screen
   pub areas : HaveAreas g.windows g.cols g.rows
@@ -46,8 +46,8 @@ pub record IsAtRest (g : Glk) : Type 0 where
   pub prompt : g.prompt ≡ no_prompt
 
 -- a valid state in which calls may be made
-pub record IsReady (g : Glk) : Type 0 where
-  pub valid : IsValid g
+pub record IsReadyGlk (g : Glk) : Type 0 where
+  pub valid : IsValidGlk g
   pub rests : IsAtRest g
 
 -- the state waits with what the call's answer says, and with nothing else
@@ -58,13 +58,13 @@ WaitsFor Wait g = g.prompt ≡ no_prompt
 WaitsFor Prompt g = g.event ≡ 0
 
 -- a valid state that waits so
-pub record Stands (answer : Called) (g : Glk) : Type 0 where
-  pub valid : IsValid g
+pub record IsValidWaiting (answer : Called) (g : Glk) : Type 0 where
+  pub valid : IsValidGlk g
   pub waits : WaitsFor answer g
 
 -- What a call leaves of a state in which calls may be made, unless memory ran out: a valid one that
 -- waits with what it answered, and after a fault one in which calls may be made.
 abbrev pub LeavesValid : Glk → Glk → Result Called Trap → Type 0
-LeavesValid old new (Ok answer) = IsReady old → Stands answer new
-LeavesValid old new (Err (Fault n)) = IsReady old → IsReady new
+LeavesValid old new (Ok answer) = IsReadyGlk old → IsValidWaiting answer new
+LeavesValid old new (Err (Fault n)) = IsReadyGlk old → IsReadyGlk new
 LeavesValid old new (Err NoMemory) = Unit {0}

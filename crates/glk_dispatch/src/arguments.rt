@@ -1,7 +1,7 @@
 //! The arguments of a call, which stand on the stack (Glulx 3.1.3, "Miscellaneous").
 
 ghost use Rattle.std.specs.Prelude.{◌≡◌, replicate, slice_set};
-ghost use Rattle.glk_dispatch.specs.Answer.{Takes};
+ghost use Rattle.glk_dispatch.specs.Answer.{AnswersAndLeaves};
 ghost use Rattle.glk_dispatch.specs.Arguments as arguments;
 
 use crate::fault::{BAD_ARGUMENT, UNDERFLOW, of_stack};
@@ -12,13 +12,13 @@ use vm_stack::Stack;
 pub(crate) const MAX_ARGUMENTS: usize = 5;
 
 fn pop(stack: &mut Stack) -> Result<u32, Trap>
-    ensures { Takes (arguments.popped stack.old) stack.new result }
+    ensures { AnswersAndLeaves (arguments.argument_popped stack.old) stack.new result }
 {
     stack.pop().map_err(of_stack)
 }
 
 fn takes(count: Option<u32>, given: u32) -> bool
-    ensures { result ≡ arguments.takes count given }
+    ensures { result ≡ arguments.takes_count count given }
 {
     match count {
         Some(count) => given == count,
@@ -32,7 +32,7 @@ pub(crate) fn take_arguments(
     count: Option<u32>,
     given: u32,
 ) -> Result<[u32; MAX_ARGUMENTS], Trap>
-    ensures { Takes (arguments.arguments stack.old count given) stack.new result }
+    ensures { AnswersAndLeaves (arguments.call_arguments stack.old count given) stack.new result }
 {
     if stack.count() < given {
         return Err(UNDERFLOW);
@@ -54,7 +54,8 @@ fn keep(args: &mut [u32; MAX_ARGUMENTS], index: u32, value: u32)
 }
 
 fn take(stack: &mut Stack, given: u32) -> Result<[u32; MAX_ARGUMENTS], Trap>
-    ensures { Takes (arguments.taken given stack.old 0 (replicate 5 0)) stack.new result }
+    ensures { AnswersAndLeaves (arguments.arguments_taken given stack.old 0 (replicate 5 0))
+        stack.new result }
 {
     let mut args = [0; MAX_ARGUMENTS];
     let mut index: u32 = 0;

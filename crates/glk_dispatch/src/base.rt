@@ -1,7 +1,7 @@
 //! Exit, ticks, and what the library can do (Glk 0.7.5, "Testing for Capabilities").
 
 ghost use Rattle.std.specs.Prelude.{◌≡◌, ◌==◌, if◌then◌else◌, slice_index, Ok};
-ghost use Rattle.glk_dispatch.specs.Answer.{Does, Writes, glk_call};
+ghost use Rattle.glk_dispatch.specs.Answer.{DoesCall, WritesMemory, glk_call};
 ghost use Rattle.glk_dispatch.specs.Gestalt as rows;
 ghost use Rattle.glk_dispatch.specs.Selector as selector;
 ghost use Rattle.vm_memory.specs.Access.{written};
@@ -50,7 +50,7 @@ fn is_printable(code: u32) -> bool
 }
 
 fn gestalt(selector: u32, value: u32) -> u32
-    ensures { result ≡ rows.gestalt selector value }
+    ensures { result ≡ rows.glk_gestalt selector value }
 {
     match selector {
         0 => VERSION,
@@ -73,7 +73,7 @@ fn gestalt_ext(
     array: u32,
     len: u32,
 ) -> Result<Called, Trap>
-    ensures { Does
+    ensures { DoesCall
         (rows.gestalt_told (glk_call glk.old memory.old stack.old) selector value array len)
         glk.new memory.new stack.new result }
 {
@@ -85,7 +85,8 @@ fn gestalt_ext(
 
 // Writes a word at the start of an array, which is a plain address; nowhere for 0.
 fn begin_array(memory: &mut Memory, array: u32, word: u32) -> Result<(), Trap>
-    ensures { Writes (if array == 0 then Ok memory.old else coded (written 4 memory.old array word))
+    ensures { WritesMemory (if array == 0 then Ok memory.old
+        else coded (written 4 memory.old array word))
         memory.new result }
 {
     if array == 0 {
@@ -102,7 +103,7 @@ pub(crate) fn do_base(
     call: BaseCall,
     args: &[u32; MAX_ARGUMENTS],
 ) -> Result<Called, Trap>
-    ensures { Does (rows.base_work call (glk_call glk.old memory.old stack.old)
+    ensures { DoesCall (rows.base_work call (glk_call glk.old memory.old stack.old)
         (slice_index args.now)) glk.new memory.new stack.new result }
 {
     match call {

@@ -1,7 +1,7 @@
 //! Case (Glk 0.7.5, "Upper and Lower Case").
 
 ghost use Rattle.std.specs.Prelude.{◌≡◌, slice_index};
-ghost use Rattle.glk_dispatch.specs.Answer.{Does, Makes, Puts, glk_call};
+ghost use Rattle.glk_dispatch.specs.Answer.{DoesCall, MakesAnswer, LeavesGlkAndMemory, glk_call};
 ghost use Rattle.glk_dispatch.specs.Case as rows;
 ghost use Rattle.glk_dispatch.specs.Selector as selector;
 
@@ -72,7 +72,8 @@ fn in_case(case: Case, code: u32) -> u32
 
 // A word of an array goes to another case.
 fn change_word(glk: &mut Glk, memory: &mut Memory, case: Case, at: u32) -> Result<(), Trap>
-    ensures { Puts (rows.word_cased case glk.old memory.old at) glk.new memory.new result }
+    ensures { LeavesGlkAndMemory (rows.word_cased case glk.old memory.old at)
+        glk.new memory.new result }
 {
     let code = memory.read4(at)?;
     glk.charge();
@@ -87,7 +88,8 @@ fn change_words(
     from: u32,
     count: u32,
 ) -> Result<(), Trap>
-    ensures { Puts (rows.words_cased count case glk.old memory.old from) glk.new memory.new result }
+    ensures { LeavesGlkAndMemory (rows.words_cased count case glk.old memory.old from)
+        glk.new memory.new result }
 {
     let mut at = from;
     let mut left = count;
@@ -107,7 +109,7 @@ fn change_title(
     count: u32,
     others: bool,
 ) -> Result<(), Trap>
-    ensures { Puts (rows.title_cased count others glk.old memory.old buf)
+    ensures { LeavesGlkAndMemory (rows.title_cased count others glk.old memory.old buf)
         glk.new memory.new result }
 {
     change_words(glk, memory, Case::Upper, buf, count.min(1))?;
@@ -117,7 +119,7 @@ fn change_title(
 
 // No more characters than the array has.
 fn check_count(len: u32, count: u32) -> Result<(), Trap>
-    ensures { Makes (rows.checked len count) result }
+    ensures { MakesAnswer (rows.within_array len count) result }
 {
     if count <= len {
         Ok(())
@@ -134,7 +136,7 @@ pub(crate) fn do_case(
     call: CaseCall,
     args: &[u32; MAX_ARGUMENTS],
 ) -> Result<Called, Trap>
-    ensures { Does (rows.case_work call (glk_call glk.old memory.old stack.old)
+    ensures { DoesCall (rows.case_work call (glk_call glk.old memory.old stack.old)
         (slice_index args.now)) glk.new memory.new stack.new result }
 {
     match call {

@@ -1,7 +1,7 @@
 //! A call: its selector, its arguments, its work (Glk 0.7.5, "The Dispatch Layer").
 
 ghost use Rattle.std.specs.Prelude.{◌≡◌, slice_index, OnOk};
-ghost use Rattle.glk_dispatch.specs.Answer.{Does, glk_call};
+ghost use Rattle.glk_dispatch.specs.Answer.{DoesCall, glk_call};
 ghost use Rattle.glk_dispatch.specs.Call as table;
 ghost use Rattle.glk_dispatch.specs.Keeping.{KeepsStory};
 ghost use Rattle.glk_dispatch.specs.Valid.{LeavesValid};
@@ -35,7 +35,8 @@ pub fn call(
     selector: u32,
     args: u32,
 ) -> Result<Called, Trap>
-    ensures does { Does (table.called (glk_call glk.old memory.old stack.old) selector args)
+    ensures does { DoesCall
+        (table.selector_called (glk_call glk.old memory.old stack.old) selector args)
         glk.new memory.new stack.new result }
     ensures kept { OnOk result (KeepsStory memory.old stack.old memory.new stack.new) }
     ensures valid { LeavesValid glk.old glk.new result }
@@ -57,7 +58,7 @@ fn work(
     call: Call,
     args: &[u32; MAX_ARGUMENTS],
 ) -> Result<Called, Trap>
-    ensures { Does (table.work call (glk_call glk.old memory.old stack.old)
+    ensures { DoesCall (table.call_work call (glk_call glk.old memory.old stack.old)
         (slice_index args.now)) glk.new memory.new stack.new result }
 {
     match call {

@@ -3,7 +3,8 @@
 ghost use Rattle.std.specs.Prelude.{◌≡◌, ◌≤◌, [], length, slice_index, not, ◌==◌};
 ghost use Rattle.std.specs.Prelude.{◌<◌, ◌+◌, IfOk};
 ghost use Rattle.glk_input.specs.Request as request;
-ghost use Rattle.glk_dispatch.specs.Answer.{Answers, Does, Gets, Leaves, Lists, Puts, glk_call};
+ghost use Rattle.glk_dispatch.specs.Answer.{AnswersOverGlk, DoesCall, Gets, LeavesMemoryAndStack};
+ghost use Rattle.glk_dispatch.specs.Answer.{Lists, LeavesGlkAndMemory, glk_call};
 ghost use Rattle.glk_dispatch.specs.Events as rows;
 ghost use Rattle.glk_dispatch.specs.Reference.{referred_all};
 ghost use Rattle.glk_dispatch.specs.Selector as selector;
@@ -83,7 +84,7 @@ fn request_line(
     init: u32,
     unicode: bool,
 ) -> Result<Called, Trap>
-    ensures { Answers (rows.line_asked unicode glk.old win buf max init) glk.new result }
+    ensures { AnswersOverGlk (rows.line_requested unicode glk.old win buf max init) glk.new result }
 {
     if !glk.is_window(win) {
         return Err(BAD_OBJECT);
@@ -98,7 +99,7 @@ fn request_line(
 }
 
 fn request_char(alloc: Global, glk: &mut Glk, win: u32, unicode: bool) -> Result<Called, Trap>
-    ensures { Answers (rows.char_asked unicode glk.old win) glk.new result }
+    ensures { AnswersOverGlk (rows.char_requested unicode glk.old win) glk.new result }
 {
     if !glk.is_window(win) {
         return Err(BAD_OBJECT);
@@ -113,7 +114,7 @@ fn request_char(alloc: Global, glk: &mut Glk, win: u32, unicode: bool) -> Result
 }
 
 fn cancel_char(glk: &mut Glk, win: u32) -> Result<Called, Trap>
-    ensures { Answers (rows.char_cancelled glk.old win) glk.new result }
+    ensures { AnswersOverGlk (rows.char_cancelled glk.old win) glk.new result }
 {
     if !glk.is_window(win) {
         return Err(BAD_OBJECT);
@@ -123,7 +124,7 @@ fn cancel_char(glk: &mut Glk, win: u32) -> Result<Called, Trap>
 }
 
 fn set_line_echo(glk: &mut Glk, win: u32, val: u32) -> Result<Called, Trap>
-    ensures { Answers (rows.line_echo_set glk.old win val) glk.new result }
+    ensures { AnswersOverGlk (rows.line_echo_set glk.old win val) glk.new result }
 {
     if !glk.is_window(win) {
         return Err(BAD_OBJECT);
@@ -134,7 +135,7 @@ fn set_line_echo(glk: &mut Glk, win: u32, val: u32) -> Result<Called, Trap>
 
 // So many words of an array.
 fn words_at(alloc: Global, memory: &Memory, from: u32, count: u32) -> Result<Vec<u32>, Trap>
-    ensures value { Lists (rows.words_at count memory.now from []) result }
+    ensures value { Lists (rows.array_words count memory.now from []) result }
     ensures within { IfOk result (λ words. length words.items ≡ count) }
 {
     let mut words = Vec::new(alloc);
@@ -159,7 +160,8 @@ fn set_terminators(
     keys: u32,
     count: u32,
 ) -> Result<Called, Trap>
-    ensures { Answers (rows.terminators_set glk.old memory.now win keys count) glk.new result }
+    ensures { AnswersOverGlk (rows.terminators_set glk.old memory.now win keys count)
+        glk.new result }
 {
     if !glk.is_window(win) {
         return Err(BAD_OBJECT);
@@ -182,7 +184,8 @@ fn echo_item(
     unicode: bool,
     at: u32,
 ) -> Result<(), Trap>
-    ensures { Puts (rows.echo_item unicode glk.old memory.old stream at) glk.new memory.new result }
+    ensures { LeavesGlkAndMemory (rows.echo_item unicode glk.old memory.old stream at)
+        glk.new memory.new result }
 {
     let code = read_code(memory, unicode, at)?;
     echo_put(alloc, glk, memory, stream, INPUT, code)
@@ -198,7 +201,7 @@ fn echo_array(
     from: u32,
     count: u32,
 ) -> Result<(), Trap>
-    ensures { Puts (rows.echo_array count unicode glk.old memory.old stream from)
+    ensures { LeavesGlkAndMemory (rows.echo_array count unicode glk.old memory.old stream from)
         glk.new memory.new result }
 {
     let mut at = from;
@@ -220,7 +223,8 @@ fn echo_begun(
     win: u32,
     line: &LineRequest,
 ) -> Result<(), Trap>
-    ensures { Puts (rows.line_begun line.now glk.old memory.old win) glk.new memory.new result }
+    ensures { LeavesGlkAndMemory (rows.line_begun line.now glk.old memory.old win)
+        glk.new memory.new result }
 {
     if line.echo {
         let stream = glk.windows.stream(win);
@@ -246,7 +250,7 @@ fn echo_initial(
     win: u32,
     asked: &Option<Request>,
 ) -> Result<(), Trap>
-    ensures { Puts (rows.initial_echoed asked.now glk.old memory.old win)
+    ensures { LeavesGlkAndMemory (rows.initial_echoed asked.now glk.old memory.old win)
         glk.new memory.new result }
 {
     match asked {
@@ -262,7 +266,7 @@ pub(crate) fn tell_event(
     at: u32,
     event: Event,
 ) -> Result<(), Trap>
-    ensures { Leaves (referred_all memory.old stack.old at (rows.words_of event))
+    ensures { LeavesMemoryAndStack (referred_all memory.old stack.old at (rows.event_words event))
         memory.new stack.new result }
 {
     refer_all(
@@ -281,7 +285,7 @@ fn cancel_line(
     win: u32,
     event_at: u32,
 ) -> Result<Called, Trap>
-    ensures { Does (rows.cancels_line (glk_call glk.old memory.old stack.old) win event_at)
+    ensures { DoesCall (rows.cancels_line (glk_call glk.old memory.old stack.old) win event_at)
         glk.new memory.new stack.new result }
 {
     if !glk.is_window(win) {
@@ -303,7 +307,7 @@ pub(crate) fn do_event(
     call: EventCall,
     args: &[u32; MAX_ARGUMENTS],
 ) -> Result<Called, Trap>
-    ensures { Does (rows.event_work call (glk_call glk.old memory.old stack.old)
+    ensures { DoesCall (rows.event_work call (glk_call glk.old memory.old stack.old)
         (slice_index args.now)) glk.new memory.new stack.new result }
 {
     let win = args[0];

@@ -5,8 +5,8 @@ ghost use Rattle.glk_windows.specs.Areas.{HaveAreas};
 ghost use Rattle.glk_windows.specs.Valid as windows;
 ghost use Rattle.glk_dispatch.specs.Fields as fields;
 ghost use Rattle.glk_dispatch.specs.Fields.{glk_with};
-ghost use Rattle.glk_dispatch.specs.Links.{is_plain};
-ghost use Rattle.glk_dispatch.specs.Valid.{AreValid, IsValid, WaitsFor};
+ghost use Rattle.glk_dispatch.specs.Links.{is_plain_stream};
+ghost use Rattle.glk_dispatch.specs.Valid.{AreValid, IsValidGlk, WaitsFor};
 
 use crate::called::Called;
 use crate::events::may_ask;
@@ -19,14 +19,14 @@ use glk_windows::{Window, Windows};
 
 /// Whether a window's stream stands as such a stream does: written, at place 0, not in Unicode.
 fn is_plain(stream: &Stream) -> bool
-    ensures { result ≡ is_plain stream.now }
+    ensures { result ≡ is_plain_stream stream.now }
 {
     !stream.target.is_window() || stream.mode == 1 && stream.place == 0 && !stream.unicode
 }
 
 /// Whether from a stream on the echoes come to an end: none is longer than the windows and a last
 /// stream.
-#[tactic(auto, unfolding(crate::specs::Links::is_over))]
+#[tactic(auto, unfolding(crate::specs::Links::echoes_end))]
 fn comes_to_an_end(glk: &Glk, stream: u32) -> bool
     ensures { result ≡ fields.comes_to_an_end glk.now stream }
 {
@@ -51,7 +51,7 @@ fn is_owned(glk: &Glk, win: u32, stream: u32) -> bool
 
 /// Whether a live window has this stream.
 fn is_named(glk: &Glk, win: u32, stream: u32) -> bool
-    ensures { result ≡ fields.is_named glk.now win stream }
+    ensures { result ≡ fields.has_stream glk.now win stream }
 {
     glk.windows.is_live(win) && glk.windows.stream(win) == stream
 }
@@ -138,7 +138,7 @@ impl Glk {
 
     /// Whether its valid windows have their rectangles of the screen.
     fn have_areas(&self) -> bool
-        requires { windows.IsValid self.now.windows }
+        requires { windows.IsValidTree self.now.windows }
         ensures { IsTrue result ↔ HaveAreas self.now.windows self.now.cols self.now.rows }
     {
         self.windows
@@ -147,7 +147,7 @@ impl Glk {
 
     /// Whether a session may have it.
     pub fn is_valid(&self) -> bool
-        ensures { IsTrue result ↔ IsValid self.now }
+        ensures { IsTrue result ↔ IsValidGlk self.now }
     {
         self.are_valid() && self.parts_fit() && self.have_areas()
     }
@@ -163,9 +163,9 @@ impl Glk {
         prompt: Prompt,
     ) -> Option<Glk>
         ensures found { IfSome result (λ g.
-            (g ≡ glk_with cols rows windows streams requests event prompt) × IsValid g) }
+            (g ≡ glk_with cols rows windows streams requests event prompt) × IsValidGlk g) }
         ensures only { IfNone result
-            (¬ IsValid (glk_with cols rows windows streams requests event prompt)) }
+            (¬ IsValidGlk (glk_with cols rows windows streams requests event prompt)) }
     {
         let glk = Glk {
             windows,

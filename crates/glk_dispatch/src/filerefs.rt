@@ -3,7 +3,8 @@
 ghost use Rattle.std.specs.Prelude.{◌≡◌, ◌≤◌, ◌+◌, [], length, slice_index, IfOk};
 ghost use Rattle.std.specs.Str.{chars, encode_utf8_all};
 ghost use Rattle.std.specs.String.{string_bytes};
-ghost use Rattle.glk_dispatch.specs.Answer.{Answers, Changes, Does, Done, Makes, Reads, glk_call};
+ghost use Rattle.glk_dispatch.specs.Answer.{AnswersOverGlk, ChangesGlk, DoesCall, Done};
+ghost use Rattle.glk_dispatch.specs.Answer.{MakesAnswer, AnswersItems, glk_call};
 ghost use Rattle.glk_dispatch.specs.FileRefs as rows;
 ghost use Rattle.glk_dispatch.specs.Selector as selector;
 
@@ -55,7 +56,7 @@ pub(crate) fn fileref_call(number: u32) -> Option<(FileRefCall, u32)>
 }
 
 fn create_temp(alloc: Global, glk: &mut Glk, usage: u32, rock: u32) -> Result<u32, Trap>
-    ensures { Answers (Done (rows.temp_made glk.old usage rock)) glk.new result }
+    ensures { AnswersOverGlk (Done (rows.temp_made glk.old usage rock)) glk.new result }
 {
     let Ok(name) = temporary_name(alloc, glk.streams.next_ref()) else {
         return Err(Trap::NoMemory);
@@ -74,7 +75,7 @@ fn read_name(
     from: u32,
     most: u32,
 ) -> Result<Vec<u8>, Trap>
-    ensures { Reads (rows.name_read most glk.old memory.now from []) glk.new result }
+    ensures { AnswersItems (rows.name_read most glk.old memory.now from []) glk.new result }
 {
     let mut name = Vec::new(alloc);
     let mut at = from;
@@ -110,7 +111,8 @@ fn utf8_of(alloc: Global, bytes: &[u8]) -> Result<String, AllocError>
 
 // A reference to the file with this name, as it is cleaned.
 fn make_named(alloc: Global, glk: &mut Glk, usage: u32, name: &Text, rock: u32) -> Result<u32, Trap>
-    ensures { Answers (Done (rows.named glk.old usage name.now rock)) glk.new result }
+    ensures { AnswersOverGlk (Done (rows.reference_named glk.old usage name.now rock))
+        glk.new result }
 {
     let Ok(clean) = clean_name(alloc, name) else {
         return Err(Trap::NoMemory);
@@ -123,7 +125,7 @@ fn make_named(alloc: Global, glk: &mut Glk, usage: u32, name: &Text, rock: u32) 
 
 // The name of a string argument.
 fn name_at(alloc: Global, glk: &mut Glk, memory: &Memory, at: u32) -> Result<Vec<u8>, Trap>
-    ensures { Reads (rows.name_at glk.old memory.now at) glk.new result }
+    ensures { AnswersItems (rows.name_at glk.old memory.now at) glk.new result }
 {
     let from = text_start(memory, false, at)?;
     read_name(alloc, glk, memory, from, memory.size() + 1)
@@ -137,7 +139,7 @@ fn create_by_name(
     name_at_address: u32,
     rock: u32,
 ) -> Result<u32, Trap>
-    ensures { Answers (rows.named_made glk.old memory.now usage name_at_address rock)
+    ensures { AnswersOverGlk (rows.named_made glk.old memory.now usage name_at_address rock)
         glk.new result }
 {
     let bytes = name_at(alloc, glk, memory, name_at_address)?;
@@ -156,7 +158,7 @@ fn count_chars(text: &str) -> usize
 // The reference to the file with the name that this prompt asked for; 0 where it is empty, and
 // where the file is to be read and isn't there.
 fn answer_prompt_for(alloc: Global, glk: &mut Glk, asked: Prompt, name: &Text) -> Result<u32, Trap>
-    ensures { Answers (Done (rows.prompted_for glk.old asked name.now)) glk.new result }
+    ensures { AnswersOverGlk (Done (rows.prompted_for glk.old asked name.now)) glk.new result }
 {
     if count_chars(name.as_str()) == 0 {
         return Ok(0);
@@ -176,7 +178,7 @@ fn answer_prompt_for(alloc: Global, glk: &mut Glk, asked: Prompt, name: &Text) -
 
 /// Gives a file's name to the prompt that waits for it, which is set back.
 pub(crate) fn answer_prompt(alloc: Global, glk: &mut Glk, name: &Text) -> Result<u32, Trap>
-    ensures { Answers (Done (rows.prompted glk.old name.now)) glk.new result }
+    ensures { AnswersOverGlk (Done (rows.prompted glk.old name.now)) glk.new result }
 {
     let asked = glk.prompt;
     glk.rest();
@@ -184,7 +186,7 @@ pub(crate) fn answer_prompt(alloc: Global, glk: &mut Glk, name: &Text) -> Result
 }
 
 fn copy(alloc: Global, glk: &mut Glk, usage: u32, fref: u32, rock: u32) -> Result<u32, Trap>
-    ensures { Answers (rows.copied glk.old usage fref rock) glk.new result }
+    ensures { AnswersOverGlk (rows.reference_copied glk.old usage fref rock) glk.new result }
 {
     match glk.streams.copy_ref(alloc, usage, fref, rock) {
         Ok(fref) => Ok(fref),
@@ -193,7 +195,7 @@ fn copy(alloc: Global, glk: &mut Glk, usage: u32, fref: u32, rock: u32) -> Resul
 }
 
 fn destroy(glk: &mut Glk, fref: u32) -> Result<(), Trap>
-    ensures { Changes (rows.dropped glk.old fref) glk.new result }
+    ensures { ChangesGlk (rows.reference_dropped glk.old fref) glk.new result }
 {
     match glk.streams.drop_ref(fref) {
         Ok(()) => Ok(()),
@@ -202,7 +204,7 @@ fn destroy(glk: &mut Glk, fref: u32) -> Result<(), Trap>
 }
 
 fn delete_file(glk: &mut Glk, fref: u32) -> Result<(), Trap>
-    ensures { Changes (rows.deleted glk.old fref) glk.new result }
+    ensures { ChangesGlk (rows.file_deleted glk.old fref) glk.new result }
 {
     match glk.streams.delete_file(fref) {
         Ok(()) => Ok(()),
@@ -211,7 +213,7 @@ fn delete_file(glk: &mut Glk, fref: u32) -> Result<(), Trap>
 }
 
 fn tell_file(glk: &Glk, fref: u32) -> Result<u32, Trap>
-    ensures { Makes (rows.file_told glk.now fref) result }
+    ensures { MakesAnswer (rows.told_of_file glk.now fref) result }
 {
     match glk.streams.has_file(fref) {
         Ok(there) => Ok(u32::from(there)),
@@ -226,7 +228,7 @@ fn iterate(
     fref: u32,
     rock: u32,
 ) -> Result<Called, Trap>
-    ensures { Does (rows.iterates (glk_call glk.old memory.old stack.old) fref rock)
+    ensures { DoesCall (rows.iterates_filerefs (glk_call glk.old memory.old stack.old) fref rock)
         glk.new memory.new stack.new result }
 {
     if !glk.is_ref_or_none(fref) {
@@ -246,7 +248,7 @@ pub(crate) fn do_fileref(
     call: FileRefCall,
     args: &[u32; MAX_ARGUMENTS],
 ) -> Result<Called, Trap>
-    ensures { Does (rows.fileref_work call (glk_call glk.old memory.old stack.old)
+    ensures { DoesCall (rows.fileref_work call (glk_call glk.old memory.old stack.old)
         (slice_index args.now)) glk.new memory.new stack.new result }
 {
     match call {

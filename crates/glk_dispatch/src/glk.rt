@@ -2,7 +2,7 @@
 
 ghost use Rattle.std.specs.Prelude.{◌≡◌, ◌||◌, ◌==◌, IfOk};
 ghost use Rattle.glk_dispatch.specs.Glk as state;
-ghost use Rattle.glk_dispatch.specs.Valid.{IsReady};
+ghost use Rattle.glk_dispatch.specs.Valid.{IsReadyGlk};
 
 use glk_input::Requests;
 use glk_streams::Streams;
@@ -44,8 +44,8 @@ pub(crate) const NO_PROMPT: Prompt = Prompt {
 impl Glk {
     /// A screen of so many columns and rows without a window. The error is want of memory.
     pub fn new(alloc: Global, cols: u8, rows: u8) -> Result<Glk, AllocError>
-        ensures value { IfOk result (λ glk. glk ≡ state.fresh cols rows) }
-        ensures valid { IfOk result (λ glk. IsReady glk) }
+        ensures value { IfOk result (λ glk. glk ≡ state.empty_screen cols rows) }
+        ensures valid { IfOk result (λ glk. IsReadyGlk glk) }
     {
         Ok(Glk {
             windows: Windows::new(alloc),
@@ -106,7 +106,7 @@ impl Glk {
 
     /// Sets back what a select or a prompt waited with.
     pub fn rest(&mut self)
-        ensures { self.new ≡ state.rested self.old }
+        ensures { self.new ≡ state.wait_set_back self.old }
     {
         self.event = 0;
         self.prompt = NO_PROMPT;
@@ -114,20 +114,20 @@ impl Glk {
 
     /// Counts a character that a call reads or writes.
     pub(crate) fn charge(&mut self)
-        ensures { self.new ≡ state.charged self.old }
+        ensures { self.new ≡ state.character_charged self.old }
     {
         self.chars = self.chars.saturating_add(1);
     }
 
     /// Whether a window has this number.
     pub(crate) fn is_window(&self, win: u32) -> bool
-        ensures { result ≡ state.is_window self.now win }
+        ensures { result ≡ state.has_window self.now win }
     {
         self.windows.is_live(win)
     }
 
     pub(crate) fn is_window_or_none(&self, win: u32) -> bool
-        ensures { result ≡ (win == 0 || state.is_window self.now win) }
+        ensures { result ≡ (win == 0 || state.has_window self.now win) }
     {
         win == 0 || self.windows.is_live(win)
     }

@@ -2,7 +2,7 @@
 //! Opening, Closing, and Constraints").
 
 ghost use Rattle.std.specs.Prelude.{◌≡◌, true};
-ghost use Rattle.glk_dispatch.specs.Answer.{Answers, Changes, Done};
+ghost use Rattle.glk_dispatch.specs.Answer.{AnswersOverGlk, ChangesGlk, Done};
 ghost use Rattle.glk_dispatch.specs.Glk as state;
 ghost use Rattle.glk_dispatch.specs.Windows as rows;
 ghost use Rattle.glk_windows.specs.Arranging.{is_method};
@@ -18,7 +18,7 @@ use vm_memory::Trap;
 impl Glk {
     /// Gives all windows their rectangles.
     pub(crate) fn place(&mut self, alloc: Global) -> Result<(), Trap>
-        ensures { Changes (Done (state.placed self.old)) self.new result }
+        ensures { ChangesGlk (Done (state.with_rectangles self.old)) self.new result }
     {
         match self
             .windows
@@ -31,7 +31,7 @@ impl Glk {
 
     /// A new window takes the next stream number, and has no request.
     fn begin_window(&mut self, alloc: Global, win: u32) -> Result<(), Trap>
-        ensures { Changes (Done (rows.begun self.old win)) self.new result }
+        ensures { ChangesGlk (Done (rows.window_begun self.old win)) self.new result }
     {
         let Ok(stream) = self.streams.open_window(alloc, win) else {
             return Err(Trap::NoMemory);
@@ -44,7 +44,8 @@ impl Glk {
     }
 
     fn open_first(&mut self, alloc: Global, kind: u32, rock: u32) -> Result<u32, Trap>
-        ensures { Answers (Done (rows.first_opened self.old kind rock)) self.new result }
+        ensures { AnswersOverGlk (Done (rows.first_window_opened self.old kind rock))
+            self.new result }
     {
         if self.streams.next() > MAX_NUMBER {
             return Ok(0);
@@ -71,7 +72,7 @@ impl Glk {
     ) -> Result<u32, Trap>
         requires live { IsLive self.old.windows split }
         requires method { is_method method ≡ true }
-        ensures { Answers (Done (rows.beside_opened self.old split method size kind rock))
+        ensures { AnswersOverGlk (Done (rows.window_beside self.old split method size kind rock))
             self.new result }
     {
         if self.streams.next() >= MAX_NUMBER {
@@ -91,7 +92,7 @@ impl Glk {
 
     /// Ends what is kept for a window beside the tree.
     fn drop_window(&mut self, win: u32)
-        ensures { self.new ≡ rows.dropped self.old win }
+        ensures { self.new ≡ rows.window_dropped self.old win }
     {
         self.streams.close_window(win);
         self.requests.drop_window(win);
@@ -129,7 +130,7 @@ fn drop_closed(glk: &mut Glk, win: u32)
 // Closes a window, all below it and the pair above it.
 fn end(glk: &mut Glk, win: u32)
     requires { IsLive glk.old.windows win }
-    ensures { glk.new ≡ rows.ended glk.old win }
+    ensures { glk.new ≡ rows.window_ended glk.old win }
 {
     drop_closed(glk, win);
     glk.windows.close(win)
@@ -138,7 +139,7 @@ fn end(glk: &mut Glk, win: u32)
 /// Closes a window and what stands and falls with it; those that stay get their rectangles.
 pub(crate) fn close_all(alloc: Global, glk: &mut Glk, win: u32) -> Result<(), Trap>
     requires { IsLive glk.old.windows win }
-    ensures { Changes (Done (rows.closed glk.old win)) glk.new result }
+    ensures { ChangesGlk (Done (rows.glk_without_window glk.old win)) glk.new result }
 {
     end(glk, win);
     glk.place(alloc)?;
@@ -155,7 +156,8 @@ pub(crate) fn open(
     kind: u32,
     rock: u32,
 ) -> Result<u32, Trap>
-    ensures { Answers (rows.opened glk.old split method size kind rock) glk.new result }
+    ensures { AnswersOverGlk (rows.window_opened glk.old split method size kind rock)
+        glk.new result }
 {
     if !glk.is_window_or_none(split) {
         return Err(BAD_OBJECT);

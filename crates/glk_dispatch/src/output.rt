@@ -2,10 +2,11 @@
 
 ghost use Rattle.std.specs.Prelude.{◌≡◌, ◌≤◌, ◌+◌, length, slice_index, OnOk};
 ghost use Rattle.glk_input.specs.Delivery.{width};
-ghost use Rattle.glk_dispatch.specs.Answer.{Does, Makes, Puts, UnlessNoMemory, Writes, glk_call};
+ghost use Rattle.glk_dispatch.specs.Answer.{DoesCall, MakesAnswer, LeavesGlkAndMemory};
+ghost use Rattle.glk_dispatch.specs.Answer.{UnlessNoMemory, WritesMemory, glk_call};
 ghost use Rattle.glk_dispatch.specs.Output as rows;
 ghost use Rattle.glk_dispatch.specs.Selector as selector;
-ghost use Rattle.glk_dispatch.specs.Valid.{IsReady};
+ghost use Rattle.glk_dispatch.specs.Valid.{IsReadyGlk};
 ghost use Rattle.vm_memory.specs.MemoryMap.{KeepsMap};
 
 use crate::arguments::MAX_ARGUMENTS;
@@ -59,7 +60,8 @@ fn put_to_stream(
     stream: u32,
     code: u32,
 ) -> Result<(), Trap>
-    ensures { Puts (rows.streamed glk.old memory.old stream code) glk.new memory.new result }
+    ensures { LeavesGlkAndMemory (rows.streamed glk.old memory.old stream code)
+        glk.new memory.new result }
 {
     match glk.streams.put(alloc, memory, stream, code) {
         Ok(()) => Ok(()),
@@ -76,7 +78,8 @@ pub(crate) fn put_once(
     style: u32,
     code: u32,
 ) -> Result<(), Trap>
-    ensures { Puts (rows.put_once glk.old memory.old stream style code) glk.new memory.new result }
+    ensures { LeavesGlkAndMemory (rows.put_once glk.old memory.old stream style code)
+        glk.new memory.new result }
 {
     let win = glk.streams.window_of(stream);
     if win == 0 {
@@ -108,7 +111,8 @@ fn spread(
     code: u32,
     steps: usize,
 ) -> Result<(), Trap>
-    ensures { Puts (rows.spread steps glk.old memory.old from code) glk.new memory.new result }
+    ensures { LeavesGlkAndMemory (rows.spread steps glk.old memory.old from code)
+        glk.new memory.new result }
 {
     let mut stream = from;
     let mut left = steps;
@@ -129,7 +133,8 @@ pub(crate) fn spread_all(
     stream: u32,
     code: u32,
 ) -> Result<(), Trap>
-    ensures { Puts (rows.spread_all glk.old memory.old stream code) glk.new memory.new result }
+    ensures { LeavesGlkAndMemory (rows.spread_all glk.old memory.old stream code)
+        glk.new memory.new result }
 {
     let steps = glk.windows.slots().len() + 1;
     spread(alloc, glk, memory, stream, code, steps)
@@ -143,9 +148,10 @@ pub fn put_code(
     stream: u32,
     code: u32,
 ) -> Result<(), Trap>
-    ensures does { Puts (rows.put_code glk.old memory.old stream code) glk.new memory.new result }
+    ensures does { LeavesGlkAndMemory (rows.put_code glk.old memory.old stream code)
+        glk.new memory.new result }
     ensures kept { OnOk result (KeepsMap memory.old memory.new) }
-    ensures valid { UnlessNoMemory result (IsReady glk.old → IsReady glk.new) }
+    ensures valid { UnlessNoMemory result (IsReadyGlk glk.old → IsReadyGlk glk.new) }
 {
     glk.charge();
     spread_all(alloc, glk, memory, stream, code)
@@ -160,7 +166,7 @@ pub(crate) fn width(unicode: bool) -> u32
 
 /// The character at an address of an array.
 pub(crate) fn read_code(memory: &Memory, unicode: bool, at: u32) -> Result<u32, Trap>
-    ensures { Makes (rows.code_at unicode memory.now at) result }
+    ensures { MakesAnswer (rows.array_code_at unicode memory.now at) result }
 {
     if unicode {
         Ok(memory.read4(at)?)
@@ -171,7 +177,7 @@ pub(crate) fn read_code(memory: &Memory, unicode: bool, at: u32) -> Result<u32, 
 
 /// Writes a character of an array to an address.
 pub(crate) fn write_code(memory: &mut Memory, unicode: bool, at: u32, code: u32) -> Result<(), Trap>
-    ensures { Writes (rows.code_written unicode memory.old at code) memory.new result }
+    ensures { WritesMemory (rows.code_written unicode memory.old at code) memory.new result }
 {
     if unicode {
         Ok(memory.write4(at, code)?)
@@ -188,7 +194,8 @@ fn put_item(
     unicode: bool,
     at: u32,
 ) -> Result<(), Trap>
-    ensures { Puts (rows.put_item unicode glk.old memory.old stream at) glk.new memory.new result }
+    ensures { LeavesGlkAndMemory (rows.put_item unicode glk.old memory.old stream at)
+        glk.new memory.new result }
 {
     let code = read_code(memory, unicode, at)?;
     put_code(alloc, glk, memory, stream, code)
@@ -204,7 +211,7 @@ fn put_array(
     from: u32,
     count: u32,
 ) -> Result<(), Trap>
-    ensures { Puts (rows.put_array count unicode glk.old memory.old stream from)
+    ensures { LeavesGlkAndMemory (rows.put_array count unicode glk.old memory.old stream from)
         glk.new memory.new result }
 {
     let mut at = from;
@@ -219,7 +226,7 @@ fn put_array(
 
 /// Where the characters of a string argument begin.
 pub(crate) fn text_start(memory: &Memory, unicode: bool, at: u32) -> Result<u32, Trap>
-    ensures { Makes (rows.text_start unicode memory.now at) result }
+    ensures { MakesAnswer (rows.text_start unicode memory.now at) result }
 {
     let kind = memory.read1(at)?;
     if kind != if unicode { 0xE2 } else { 0xE0 } {
@@ -238,7 +245,7 @@ fn put_text(
     from: u32,
     most: u32,
 ) -> Result<(), Trap>
-    ensures { Puts (rows.put_text most unicode glk.old memory.old stream from)
+    ensures { LeavesGlkAndMemory (rows.put_text most unicode glk.old memory.old stream from)
         glk.new memory.new result }
 {
     let mut at = from;
@@ -263,7 +270,7 @@ fn put_string(
     unicode: bool,
     at: u32,
 ) -> Result<(), Trap>
-    ensures { Puts (rows.put_string unicode glk.old memory.old stream at)
+    ensures { LeavesGlkAndMemory (rows.put_string unicode glk.old memory.old stream at)
         glk.new memory.new result }
 {
     let from = text_start(memory, unicode, at)?;
@@ -273,7 +280,7 @@ fn put_string(
 
 // A plain character is the low byte.
 fn char_of(unicode: bool, code: u32) -> u32
-    ensures { result ≡ rows.char_of unicode code }
+    ensures { result ≡ rows.plain_or_unicode unicode code }
 {
     if unicode { code } else { code & 0xFF }
 }
@@ -288,7 +295,8 @@ pub(crate) fn echo_put(
     style: u32,
     code: u32,
 ) -> Result<(), Trap>
-    ensures { Puts (rows.echo_put glk.old memory.old stream style code) glk.new memory.new result }
+    ensures { LeavesGlkAndMemory (rows.echo_put glk.old memory.old stream style code)
+        glk.new memory.new result }
 {
     put_once(alloc, glk, memory, stream, style, code)?;
     let next = echo_from(glk, stream);
@@ -304,7 +312,7 @@ pub(crate) fn do_output(
     call: OutputCall,
     args: &[u32; MAX_ARGUMENTS],
 ) -> Result<Called, Trap>
-    ensures { Does (rows.output_work call (glk_call glk.old memory.old stack.old)
+    ensures { DoesCall (rows.output_work call (glk_call glk.old memory.old stack.old)
         (slice_index args.now)) glk.new memory.new stack.new result }
 {
     let current = glk.streams.current();

@@ -1,7 +1,7 @@
 //! What a call leaves at its references (Glk 0.7.5, "The Dispatch Layer").
 
 ghost use Rattle.std.specs.Prelude.{◌≡◌};
-ghost use Rattle.glk_dispatch.specs.Answer.{Leaves};
+ghost use Rattle.glk_dispatch.specs.Answer.{LeavesMemoryAndStack};
 ghost use Rattle.glk_dispatch.specs.Reference as reference;
 
 use crate::fault::of_stack;
@@ -13,7 +13,7 @@ const STACK: u32 = 0xFFFF_FFFF;
 
 /// Leaves a word at a reference: nowhere for 0, on the stack for 0xFFFFFFFF, else at the address.
 pub(crate) fn refer(memory: &mut Memory, stack: &mut Stack, at: u32, value: u32) -> Result<(), Trap>
-    ensures { Leaves (reference.referred memory.old stack.old at value)
+    ensures { LeavesMemoryAndStack (reference.word_referred memory.old stack.old at value)
         memory.new stack.new result }
 {
     match at {
@@ -41,7 +41,7 @@ pub(crate) fn refer_all(
     at: u32,
     values: &[u32],
 ) -> Result<(), Trap>
-    ensures { Leaves (reference.referred_all memory.old stack.old at values.now)
+    ensures { LeavesMemoryAndStack (reference.referred_all memory.old stack.old at values.now)
         memory.new stack.new result }
 {
     match values {

@@ -3,11 +3,12 @@
 ghost use Rattle.std.specs.Prelude.{◌≡◌, ◌≤◌, ◌<◌, ◌+◌, ◌-◌, ◌==◌};
 ghost use Rattle.std.specs.Prelude.{◌&&◌, slice_index};
 ghost use Rattle.glk_input.specs.Delivery as delivery;
-ghost use Rattle.glk_dispatch.specs.Answer.{Answers, Changes, Does, Gets, Makes, UnlessNoMemory};
-ghost use Rattle.glk_dispatch.specs.Answer.{TakesNoMemory, glk_call};
+ghost use Rattle.glk_dispatch.specs.Answer.{AnswersOverGlk, ChangesGlk, DoesCall, Gets};
+ghost use Rattle.glk_dispatch.specs.Answer.{MakesAnswer, UnlessNoMemory};
+ghost use Rattle.glk_dispatch.specs.Answer.{CallTakesNoMemory, glk_call};
 ghost use Rattle.glk_dispatch.specs.Selector as selector;
 ghost use Rattle.glk_dispatch.specs.Streams as rows;
-ghost use Rattle.glk_dispatch.specs.Valid.{IsReady};
+ghost use Rattle.glk_dispatch.specs.Valid.{IsReadyGlk};
 
 use crate::arguments::MAX_ARGUMENTS;
 use crate::called::Called;
@@ -77,7 +78,7 @@ fn iterate(
     stream: u32,
     rock: u32,
 ) -> Result<Called, Trap>
-    ensures { Does (rows.iterates (glk_call glk.old memory.old stack.old) stream rock)
+    ensures { DoesCall (rows.iterates_streams (glk_call glk.old memory.old stack.old) stream rock)
         glk.new memory.new stack.new result }
 {
     if !glk.is_stream_or_none(stream) {
@@ -96,7 +97,7 @@ fn open_file(
     rock: u32,
     unicode: bool,
 ) -> Result<u32, Trap>
-    ensures { Answers (rows.file_opened glk.old fref mode rock unicode) glk.new result }
+    ensures { AnswersOverGlk (rows.file_opened glk.old fref mode rock unicode) glk.new result }
 {
     match glk.streams.open_file(alloc, fref, mode, rock, unicode) {
         Ok(stream) => Ok(stream),
@@ -113,7 +114,7 @@ fn open_memory(
     rock: u32,
     unicode: bool,
 ) -> Result<u32, Trap>
-    ensures { Answers (rows.memory_opened glk.old buf len mode rock unicode) glk.new result }
+    ensures { AnswersOverGlk (rows.memory_opened glk.old buf len mode rock unicode) glk.new result }
 {
     match glk
         .streams
@@ -126,7 +127,7 @@ fn open_memory(
 
 // Closes a stream that is no window's. No window echoes to it any more.
 fn end(glk: &mut Glk, stream: u32) -> Result<Counts, Trap>
-    ensures { Answers (rows.closed glk.old stream) glk.new result }
+    ensures { AnswersOverGlk (rows.glk_without_stream glk.old stream) glk.new result }
 {
     match glk.streams.close(stream) {
         Ok(counts) => {
@@ -144,7 +145,7 @@ fn close(
     stream: u32,
     result_at: u32,
 ) -> Result<Called, Trap>
-    ensures { Does (rows.closes (glk_call glk.old memory.old stack.old) stream result_at)
+    ensures { DoesCall (rows.closes_stream (glk_call glk.old memory.old stack.old) stream result_at)
         glk.new memory.new stack.new result }
 {
     let counts = end(glk, stream)?;
@@ -153,7 +154,7 @@ fn close(
 }
 
 fn seek(glk: &mut Glk, stream: u32, place: u32, from: u32) -> Result<(), Trap>
-    ensures { Changes (rows.moved glk.old stream place from) glk.new result }
+    ensures { ChangesGlk (rows.position_moved glk.old stream place from) glk.new result }
 {
     match glk.streams.seek(stream, place, from) {
         Ok(()) => Ok(()),
@@ -163,8 +164,8 @@ fn seek(glk: &mut Glk, stream: u32, place: u32, from: u32) -> Result<(), Trap>
 
 /// A stream's position; fault 21 where it isn't live.
 pub fn position(glk: &Glk, stream: u32) -> Result<u32, Trap>
-    ensures value { Makes (rows.place_of glk.now stream) result }
-    ensures refusal { TakesNoMemory result }
+    ensures value { MakesAnswer (rows.stream_position glk.now stream) result }
+    ensures refusal { CallTakesNoMemory result }
 {
     match glk.streams.position(stream) {
         Ok(place) => Ok(place),
@@ -173,7 +174,7 @@ pub fn position(glk: &Glk, stream: u32) -> Result<u32, Trap>
 }
 
 fn set_current(glk: &mut Glk, stream: u32) -> Result<(), Trap>
-    ensures { Changes (rows.current_set glk.old stream) glk.new result }
+    ensures { ChangesGlk (rows.current_set glk.old stream) glk.new result }
 {
     match glk.streams.set_current(stream) {
         Ok(()) => Ok(()),
@@ -183,8 +184,8 @@ fn set_current(glk: &mut Glk, stream: u32) -> Result<(), Trap>
 
 // A character of a stream, without a count.
 fn get_of_stream(glk: &mut Glk, memory: &Memory, stream: u32) -> Result<Option<u32>, Trap>
-    ensures value { Answers (rows.got glk.old memory.now stream) glk.new result }
-    ensures refusal { TakesNoMemory result }
+    ensures value { AnswersOverGlk (rows.char_got glk.old memory.now stream) glk.new result }
+    ensures refusal { CallTakesNoMemory result }
 {
     match glk.streams.get(memory, stream) {
         Ok(code) => Ok(code),
@@ -194,9 +195,9 @@ fn get_of_stream(glk: &mut Glk, memory: &Memory, stream: u32) -> Result<Option<u
 
 /// A character of a stream, which is counted as read; None at the end.
 pub fn get_code(glk: &mut Glk, memory: &Memory, stream: u32) -> Result<Option<u32>, Trap>
-    ensures does { Answers (rows.got_code glk.old memory.now stream) glk.new result }
-    ensures valid { UnlessNoMemory result (IsReady glk.old → IsReady glk.new) }
-    ensures refusal { TakesNoMemory result }
+    ensures does { AnswersOverGlk (rows.got_code glk.old memory.now stream) glk.new result }
+    ensures valid { UnlessNoMemory result (IsReadyGlk glk.old → IsReadyGlk glk.new) }
+    ensures refusal { CallTakesNoMemory result }
 {
     let code = get_of_stream(glk, memory, stream)?;
     if code.is_some() {
@@ -216,7 +217,7 @@ fn code_or_end(unicode: bool, code: Option<u32>) -> u32
 
 // A plain read of a code above 255 gives `?`.
 fn taken(unicode: bool, code: u32) -> u32
-    ensures { result ≡ delivery.taken unicode code }
+    ensures { result ≡ delivery.code_taken unicode code }
 {
     if !unicode && code > 255 {
         u32::from('?')
@@ -336,7 +337,7 @@ fn read_buffer(
 }
 
 fn read_char(glk: &mut Glk, memory: &Memory, stream: u32, unicode: bool) -> Result<u32, Trap>
-    ensures { Answers (rows.char_read unicode glk.old memory.now stream) glk.new result }
+    ensures { AnswersOverGlk (rows.char_read unicode glk.old memory.now stream) glk.new result }
 {
     if !glk.is_stream(stream) {
         return Err(BAD_OBJECT);
@@ -354,7 +355,7 @@ pub(crate) fn do_stream(
     call: StreamCall,
     args: &[u32; MAX_ARGUMENTS],
 ) -> Result<Called, Trap>
-    ensures { Does (rows.stream_work call (glk_call glk.old memory.old stack.old)
+    ensures { DoesCall (rows.stream_work call (glk_call glk.old memory.old stack.old)
         (slice_index args.now)) glk.new memory.new stack.new result }
 {
     let stream = args[0];

@@ -1,7 +1,7 @@
 //! Styles (Glk 0.7.5, "Styles").
 
 ghost use Rattle.std.specs.Prelude.{◌≡◌, slice_index};
-ghost use Rattle.glk_dispatch.specs.Answer.{Changes, Does, glk_call};
+ghost use Rattle.glk_dispatch.specs.Answer.{ChangesGlk, DoesCall, glk_call};
 ghost use Rattle.glk_dispatch.specs.Selector as selector;
 ghost use Rattle.glk_dispatch.specs.Style as rows;
 
@@ -40,7 +40,7 @@ pub(crate) fn style_call(number: u32) -> Option<(StyleCall, u32)>
 
 // The style of a stream; nothing for 0.
 fn set_style(glk: &mut Glk, stream: u32, style: u32) -> Result<(), Trap>
-    ensures { Changes (rows.styled glk.old stream style) glk.new result }
+    ensures { ChangesGlk (rows.glk_styled glk.old stream style) glk.new result }
 {
     if stream == 0 {
         return Ok(());
@@ -59,7 +59,7 @@ pub(crate) fn do_style(
     call: StyleCall,
     args: &[u32; MAX_ARGUMENTS],
 ) -> Result<Called, Trap>
-    ensures { Does (rows.style_work call (glk_call glk.old memory.old stack.old)
+    ensures { DoesCall (rows.style_work call (glk_call glk.old memory.old stack.old)
         (slice_index args.now)) glk.new memory.new stack.new result }
 {
     match call {

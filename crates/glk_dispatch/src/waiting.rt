@@ -3,10 +3,11 @@
 ghost use Rattle.std.specs.Prelude.{◌≡◌, OnOk, true};
 ghost use Rattle.glk_input.specs.Delivery as delivery;
 ghost use Rattle.glk_input.specs.Request as request;
-ghost use Rattle.glk_dispatch.specs.Answer.{Does, Gets, Puts, UnlessNoMemory, glk_call};
+ghost use Rattle.glk_dispatch.specs.Answer.{DoesCall, Gets, LeavesGlkAndMemory, UnlessNoMemory};
+ghost use Rattle.glk_dispatch.specs.Answer.{glk_call};
 ghost use Rattle.glk_dispatch.specs.Events as rows;
 ghost use Rattle.glk_dispatch.specs.Keeping.{KeepsStory};
-ghost use Rattle.glk_dispatch.specs.Valid.{IsReady, IsValid};
+ghost use Rattle.glk_dispatch.specs.Valid.{IsReadyGlk, IsValidGlk};
 
 use crate::events::{INPUT, NEWLINE, tell_event};
 use crate::filerefs::answer_prompt;
@@ -26,7 +27,8 @@ fn echo_codes(
     stream: u32,
     codes: &[u32],
 ) -> Result<(), Trap>
-    ensures { Puts (rows.echoed glk.old memory.old stream codes.now) glk.new memory.new result }
+    ensures { LeavesGlkAndMemory (rows.echoed glk.old memory.old stream codes.now)
+        glk.new memory.new result }
 {
     for code in codes {
         echo_put(alloc, glk, memory, stream, INPUT, *code)?;
@@ -43,7 +45,7 @@ fn echo_line(
     line: &LineRequest,
     text: &Text,
 ) -> Result<(), Trap>
-    ensures { Puts (rows.line_shown line.now glk.old memory.old win text.now)
+    ensures { LeavesGlkAndMemory (rows.line_shown line.now glk.old memory.old win text.now)
         glk.new memory.new result }
 {
     if line.echo {
@@ -64,7 +66,8 @@ fn echo_text(
     win: u32,
     text: &Text,
 ) -> Result<(), Trap>
-    ensures { Puts (rows.line_echoed (request.request_of glk.old.requests win) glk.old memory.old
+    ensures { LeavesGlkAndMemory (rows.line_echoed (request.window_request glk.old.requests win)
+        glk.old memory.old
         win text.now) glk.new memory.new result }
 {
     match glk.requests.request(win) {
@@ -74,7 +77,8 @@ fn echo_text(
 }
 
 fn echo_input(alloc: Global, glk: &mut Glk, memory: &mut Memory, input: &Input) -> Result<(), Trap>
-    ensures { Puts (rows.input_echoed glk.old memory.old input.now) glk.new memory.new result }
+    ensures { LeavesGlkAndMemory (rows.input_echoed glk.old memory.old input.now)
+        glk.new memory.new result }
 {
     match input {
         Input::Line { win, text, .. } => echo_text(alloc, glk, memory, *win, text),
@@ -84,7 +88,7 @@ fn echo_input(alloc: Global, glk: &mut Glk, memory: &mut Memory, input: &Input) 
 
 fn deliver(glk: &mut Glk, memory: &mut Memory, input: &Input) -> Result<Event, Trap>
     requires { delivery.wants glk.old.requests input.now ≡ true }
-    ensures { Gets (rows.delivered glk.old memory.old input.now) glk.new memory.new result }
+    ensures { Gets (rows.input_delivered glk.old memory.old input.now) glk.new memory.new result }
 {
     Ok(glk.requests.deliver(memory, input)?)
 }
@@ -97,7 +101,7 @@ fn answer_event(
     input: &Input,
 ) -> Result<u32, Trap>
     requires { delivery.wants glk.old.requests input.now ≡ true }
-    ensures { Does (rows.event_answered (glk_call glk.old memory.old stack.old) input.now)
+    ensures { DoesCall (rows.event_answered (glk_call glk.old memory.old stack.old) input.now)
         glk.new memory.new stack.new result }
 {
     let told_at = glk.event;
@@ -120,10 +124,10 @@ pub fn answer(
     input: &Input,
 ) -> Result<u32, Trap>
     requires { rows.is_awaited glk.old.requests input.now ≡ true }
-    ensures does { Does (rows.answered (glk_call glk.old memory.old stack.old) input.now)
+    ensures does { DoesCall (rows.input_answered (glk_call glk.old memory.old stack.old) input.now)
         glk.new memory.new stack.new result }
     ensures kept { OnOk result (KeepsStory memory.old stack.old memory.new stack.new) }
-    ensures valid { UnlessNoMemory result (IsValid glk.old → IsReady glk.new) }
+    ensures valid { UnlessNoMemory result (IsValidGlk glk.old → IsReadyGlk glk.new) }
 {
     match input {
         Input::Line { .. } | Input::Char { .. } => answer_event(alloc, glk, memory, stack, input),

@@ -1,7 +1,7 @@
 //! The calls of windows (Glk 0.7.5, "Windows").
 
 ghost use Rattle.std.specs.Prelude.{◌≡◌, ◌≤◌, ◌<◌, length, slice_index, not};
-ghost use Rattle.glk_dispatch.specs.Answer.{Answers, Does, Makes, glk_call};
+ghost use Rattle.glk_dispatch.specs.Answer.{AnswersOverGlk, DoesCall, MakesAnswer, glk_call};
 ghost use Rattle.glk_dispatch.specs.Selector as selector;
 ghost use Rattle.glk_dispatch.specs.Windows as rows;
 
@@ -92,7 +92,7 @@ fn iterate(
     win: u32,
     rock: u32,
 ) -> Result<Called, Trap>
-    ensures { Does (rows.iterates (glk_call glk.old memory.old stack.old) win rock)
+    ensures { DoesCall (rows.iterates_windows (glk_call glk.old memory.old stack.old) win rock)
         glk.new memory.new stack.new result }
 {
     if !glk.is_window_or_none(win) {
@@ -111,7 +111,7 @@ fn close(
     win: u32,
     result_at: u32,
 ) -> Result<Called, Trap>
-    ensures { Does (rows.closes (glk_call glk.old memory.old stack.old) win result_at)
+    ensures { DoesCall (rows.closes_window (glk_call glk.old memory.old stack.old) win result_at)
         glk.new memory.new stack.new result }
 {
     if !glk.is_window(win) {
@@ -131,7 +131,7 @@ fn tell_size(
     width: u32,
     height: u32,
 ) -> Result<Called, Trap>
-    ensures { Does (rows.sizes (glk_call glk.old memory.old stack.old) win width height)
+    ensures { DoesCall (rows.sizes (glk_call glk.old memory.old stack.old) win width height)
         glk.new memory.new stack.new result }
 {
     if !glk.is_window(win) {
@@ -151,7 +151,7 @@ fn arrange(
     size: u32,
     key: u32,
 ) -> Result<Called, Trap>
-    ensures { Answers (rows.arranged glk.old win method size key) glk.new result }
+    ensures { AnswersOverGlk (rows.window_arranged glk.old win method size key) glk.new result }
 {
     if !glk.is_window(win) {
         return Err(BAD_OBJECT);
@@ -182,7 +182,7 @@ fn tell_arrangement(
     size: u32,
     key: u32,
 ) -> Result<Called, Trap>
-    ensures { Does
+    ensures { DoesCall
         (rows.tells_arrangement (glk_call glk.old memory.old stack.old) win method size key)
         glk.new memory.new stack.new result }
 {
@@ -200,7 +200,7 @@ fn tell_arrangement(
 }
 
 fn move_cursor(glk: &mut Glk, win: u32, x: u32, y: u32) -> Result<Called, Trap>
-    ensures { Answers (rows.moved glk.old win x y) glk.new result }
+    ensures { AnswersOverGlk (rows.cursor_moved glk.old win x y) glk.new result }
 {
     if !glk.is_window(win) {
         return Err(BAD_OBJECT);
@@ -213,7 +213,7 @@ fn move_cursor(glk: &mut Glk, win: u32, x: u32, y: u32) -> Result<Called, Trap>
 }
 
 fn set_echo(glk: &mut Glk, win: u32, stream: u32) -> Result<Called, Trap>
-    ensures { Answers (rows.echo_set glk.old win stream) glk.new result }
+    ensures { AnswersOverGlk (rows.echo_stream_set glk.old win stream) glk.new result }
 {
     if !glk.is_window(win) || !glk.is_stream_or_none(stream) {
         return Err(BAD_OBJECT);
@@ -226,7 +226,7 @@ fn set_echo(glk: &mut Glk, win: u32, stream: u32) -> Result<Called, Trap>
 }
 
 fn set_window(glk: &mut Glk, win: u32) -> Result<Called, Trap>
-    ensures { Answers (rows.window_set glk.old win) glk.new result }
+    ensures { AnswersOverGlk (rows.window_set glk.old win) glk.new result }
 {
     if !glk.is_window_or_none(win) {
         return Err(BAD_OBJECT);
@@ -238,7 +238,7 @@ fn set_window(glk: &mut Glk, win: u32) -> Result<Called, Trap>
 }
 
 fn clear(glk: &mut Glk, win: u32) -> Result<Called, Trap>
-    ensures { Answers (rows.cleared glk.old win) glk.new result }
+    ensures { AnswersOverGlk (rows.cleared glk.old win) glk.new result }
 {
     if !glk.is_window(win) {
         return Err(BAD_OBJECT);
@@ -256,7 +256,7 @@ pub(crate) fn do_window(
     call: WindowCall,
     args: &[u32; MAX_ARGUMENTS],
 ) -> Result<Called, Trap>
-    ensures { Does (rows.window_work call (glk_call glk.old memory.old stack.old)
+    ensures { DoesCall (rows.window_work call (glk_call glk.old memory.old stack.old)
         (slice_index args.now)) glk.new memory.new stack.new result }
 {
     let win = args[0];
@@ -287,7 +287,7 @@ pub(crate) fn do_window(
 
 // What is told of a window that is live.
 fn live(glk: &Glk, win: u32, told: u32) -> Result<u32, Trap>
-    ensures { Makes (rows.told glk.now win told) result }
+    ensures { MakesAnswer (rows.told_of_window glk.now win told) result }
 {
     if glk.is_window(win) {
         Ok(told)

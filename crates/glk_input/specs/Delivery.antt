@@ -3,13 +3,15 @@ use Rattle.std.specs.Prelude.{◌≡◌, ℕ, ◌+◌, ◌%◌, ◌^◌, ◌==�
 use Rattle.std.specs.Prelude.{◌||◌, nat_lt, not, Bool, true}
 use Rattle.std.specs.Prelude.{false, if◌then◌else◌, List, [], ◌∷◌, ◌++◌, length, map, take}
 use Rattle.std.specs.Prelude.{Option, Some, None, Result, Ok, Err}
+use Rattle.vm_memory.specs.Chaining.{◌>>=◌}
 use Rattle.vm_memory.specs.Access.{written}
 use Rattle.vm_memory.specs.MemoryMap.{MemoryMap}
 use Rattle.vm_memory.specs.declared.fault.MemFault.{MemFault}
 use Rattle.vm_memory.specs.declared.fault.MemStop.{MemStop}
 use Rattle.vm_memory.specs.declared.fault.MemStop.TheVariants as stop
 use Rattle.glk_input.specs.Keycode.{is_keycode}
-use Rattle.glk_input.specs.Request.{changed, ended, request_of, no_event, line_event, char_event}
+use Rattle.glk_input.specs.Request.{window_input_changed, request_ended, window_request, no_event}
+use Rattle.glk_input.specs.Request.{line_event, char_event}
 use Rattle.glk_input.specs.declared.event.Event.{Event}
 use Rattle.glk_input.specs.declared.input.Input.{Input}
 use Rattle.glk_input.specs.declared.input.Input.TheVariants as input
@@ -36,27 +38,21 @@ wants_char None = false
 
 -- the input is what its window asks for
 abbrev pub wants : List WindowInput → Input → Bool
-wants ws (input.Line win text key) = wants_line (request_of ws win) key
-wants ws (input.Char win code) = wants_char (request_of ws win)
+wants ws (input.Line win text key) = wants_line (window_request ws win) key
+wants ws (input.Char win code) = wants_char (window_request ws win)
 wants ws (input.File name) = false
 
 -- a character as a request takes it: where it isn't for Unicode, `?` for one above 255
-abbrev pub taken : Bool → ℕ → ℕ
-taken unicode c = if not unicode && nat_lt 255 c then 63 else c
+abbrev pub code_taken : Bool → ℕ → ℕ
+code_taken unicode c = if not unicode && nat_lt 255 c then 63 else c
 
 -- a line as its request takes it: cut to the maximum
 abbrev pub taken_line : LineRequest → List ℕ → List ℕ
-taken_line r text = map (taken r.unicode) (take r.max text)
+taken_line r text = map (code_taken r.unicode) (take r.max text)
 
 -- how many bytes a character of an array has
 abbrev pub width : Bool → ℕ
 width unicode = if unicode then 4 else 1
-
--- what is done with a value, unless there is none
-infixl 10 ◌>>=◌
-abbrev pub ◌>>=◌ : {A B E : Type 0} → Result A E → (A → Result B E) → Result B E
-(Ok x) >>= f = f x
-(Err e) >>= f = Err e
 
 -- characters written as an array from an address on
 abbrev pub line_written : Bool → MemoryMap → ℕ → List ℕ → Result MemoryMap MemFault
@@ -68,7 +64,7 @@ line_written unicode m at (c ∷ cs) =
 -- a character or keycode as a request takes it: the newline is the return key
 abbrev pub taken_key : Bool → ℕ → ℕ
 taken_key unicode c =
-    if c == 10 then 0xFFFFFFFA else (if is_keycode c then c else taken unicode c)
+    if c == 10 then 0xFFFFFFFA else (if is_keycode c then c else code_taken unicode c)
 
 -- a line comes: its characters go to the request's array
 abbrev pub line_taken : LineRequest → MemoryMap → ℕ → List ℕ → ℕ
@@ -92,15 +88,15 @@ char_delivered None win code = no_event
 -- what an input that is wanted does to memory, and its event
 abbrev pub delivered : List WindowInput → MemoryMap → Input
     → Result (MemoryMap × Event) MemFault
-delivered ws m (input.Line win text key) = line_delivered (request_of ws win) m win text key
-delivered ws m (input.Char win code) = Ok (m, char_delivered (request_of ws win) win code)
+delivered ws m (input.Line win text key) = line_delivered (window_request ws win) m win text key
+delivered ws m (input.Char win code) = Ok (m, char_delivered (window_request ws win) win code)
 delivered ws m (input.File name) = Ok (m, no_event)
 
 -- the window's request is over
-abbrev pub answered : List WindowInput → Input → List WindowInput
-answered ws (input.Line win text key) = changed ended ws win
-answered ws (input.Char win code) = changed ended ws win
-answered ws (input.File name) = ws
+abbrev pub requests_after_input : List WindowInput → Input → List WindowInput
+requests_after_input ws (input.Line win text key) = window_input_changed request_ended ws win
+requests_after_input ws (input.Char win code) = window_input_changed request_ended ws win
+requests_after_input ws (input.File name) = ws
 
 -- the characters that a line writes: none where no line is asked for
 abbrev pub line_front : Option Request → List ℕ → List ℕ
@@ -110,7 +106,7 @@ line_front None text = []
 
 -- the characters that an input writes to the story's memory
 abbrev pub to_write : List WindowInput → Input → List ℕ
-to_write ws (input.Line win text key) = line_front (request_of ws win) text
+to_write ws (input.Line win text key) = line_front (window_request ws win) text
 to_write ws (input.Char win code) = []
 to_write ws (input.File name) = []
 
@@ -122,19 +118,19 @@ Delivers should m (Err (stop.Fault f)) = should ≡ Err f
 Delivers should m (Err stop.NoMemory) = Unit {0}
 
 -- The call wrote these characters as an array from an address on, and answered how many they are.
-abbrev pub Writes : Bool → MemoryMap → ℕ → List ℕ → MemoryMap → Result ℕ MemStop
+abbrev pub WritesCharacters : Bool → MemoryMap → ℕ → List ℕ → MemoryMap → Result ℕ MemStop
     → Type 0
-Writes unicode old at codes new (Ok n) =
-    (line_written unicode old at (map (taken unicode) codes) ≡ Ok new) × (n ≡ length codes)
-Writes unicode old at codes new (Err (stop.Fault f)) =
-    line_written unicode old at (map (taken unicode) codes) ≡ Err f
-Writes unicode old at codes new (Err stop.NoMemory) = Unit {0}
+WritesCharacters unicode old at codes new (Ok n) =
+    (line_written unicode old at (map (code_taken unicode) codes) ≡ Ok new) × (n ≡ length codes)
+WritesCharacters unicode old at codes new (Err (stop.Fault f)) =
+    line_written unicode old at (map (code_taken unicode) codes) ≡ Err f
+WritesCharacters unicode old at codes new (Err stop.NoMemory) = Unit {0}
 
 -- A first part of the characters was written as an array from an address on, and no more.
 abbrev pub WritesPart : Bool → MemoryMap → ℕ → List ℕ → MemoryMap → Type 0
 WritesPart unicode old at codes new =
     (front : List ℕ) × (rest : List ℕ) × (codes ≡ front ++ rest)
-    × (line_written unicode old at (map (taken unicode) front) ≡ Ok new)
+    × (line_written unicode old at (map (code_taken unicode) front) ≡ Ok new)
 
 -- A first part of the line stands in the request's array, and no more.
 abbrev pub LeavesLinePart : Option Request → MemoryMap → List ℕ → MemoryMap → Type 0
@@ -146,6 +142,6 @@ LeavesLinePart None old text new = new ≡ old
 -- What a delivery that fails leaves in memory: a first part of the line.
 abbrev pub LeavesPart : List WindowInput → MemoryMap → Input → MemoryMap → Type 0
 LeavesPart ws old (input.Line win text key) new =
-    LeavesLinePart (request_of ws win) old text new
+    LeavesLinePart (window_request ws win) old text new
 LeavesPart ws old (input.Char win code) new = new ≡ old
 LeavesPart ws old (input.File name) new = new ≡ old

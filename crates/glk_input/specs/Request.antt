@@ -13,11 +13,11 @@ use Rattle.glk_input.specs.declared.request.Request.TheVariants.{Line, Char}
 use Rattle.glk_input.specs.declared.request.WindowInput.{WindowInput}
 
 -- a window without a request: lines will echo, and end by the return key alone
-abbrev pub fresh : ℕ → WindowInput
-fresh win = record { win = win; echo = true; keys = []; request = None }
+abbrev pub window_without_request : ℕ → WindowInput
+window_without_request win = record { win = win; echo = true; keys = []; request = None }
 
-abbrev pub number_of : WindowInput → ℕ
-number_of w = w.win
+abbrev pub input_window_number : WindowInput → ℕ
+input_window_number w = w.win
 
 -- how many windows at the front have lower numbers
 unfoldable pub count_below : List WindowInput → ℕ → ℕ
@@ -27,19 +27,21 @@ count_below (w ∷ ws) win = if nat_lt w.win win then count_below ws win + 1 els
 -- with this window, which has its place behind those of lower numbers
 abbrev pub with_window : List WindowInput → ℕ → List WindowInput
 with_window ws win =
-    if has number_of ws win then ws else insert ws (count_below ws win) (fresh win)
+    if has input_window_number ws win then ws
+    else insert ws (count_below ws win) (window_without_request win)
 
 abbrev pub without_window : List WindowInput → ℕ → List WindowInput
 without_window ws win = filter (λ w. not (w.win == win)) ws
 
 -- this window changed, where it is there
-abbrev pub changed : (WindowInput → WindowInput) → List WindowInput → ℕ → List WindowInput
-changed f ws win = changed_at number_of f ws win
+abbrev pub window_input_changed : (WindowInput → WindowInput) → List WindowInput → ℕ
+    → List WindowInput
+window_input_changed f ws win = changed_at input_window_number f ws win
 
 -- what the window asks for
-abbrev pub request_of : List WindowInput → ℕ → Option Request
-request_of [] win = None
-request_of (w ∷ ws) win = if w.win == win then w.request else request_of ws win
+abbrev pub window_request : List WindowInput → ℕ → Option Request
+window_request [] win = None
+window_request (w ∷ ws) win = if w.win == win then w.request else window_request ws win
 
 -- a request beside one that is there is ignored
 abbrev pub asked : Option Request → Request → Option Request
@@ -69,8 +71,8 @@ with_echo on w = record w { echo = on }
 abbrev pub with_keys : List ℕ → WindowInput → WindowInput
 with_keys keys w = record w { keys = keys }
 
-abbrev pub ended : WindowInput → WindowInput
-ended w = record w { request = None }
+abbrev pub request_ended : WindowInput → WindowInput
+request_ended w = record w { request = None }
 
 -- without a request for a line, or for a character
 abbrev pub line_ended : Option Request → Option Request
@@ -95,7 +97,7 @@ changed_by (AskLine buf max init unicode) w = line_asked buf max init unicode w
 changed_by (AskChar unicode) w = char_asked unicode w
 changed_by EndLine w = without_line w
 changed_by EndChar w = without_char w
-changed_by End w = ended w
+changed_by End w = request_ended w
 changed_by (Echo on) w = with_echo on w
 changed_by (Terminators keys) w = with_keys keys w
 

@@ -2,7 +2,7 @@
 use Rattle.std.specs.Prelude.{ℕ, ◌&&◌, nat_le, Bool, true, List, [], ◌∷◌, length}
 use Rattle.std.specs.Prelude.{Option, Some, None}
 use Rattle.glk_numbers.specs.Numbered.{ascends}
-use Rattle.glk_input.specs.Request.{number_of}
+use Rattle.glk_input.specs.Request.{input_window_number}
 use Rattle.glk_input.specs.declared.request.LineRequest.{LineRequest}
 use Rattle.glk_input.specs.declared.request.Request.{Request}
 use Rattle.glk_input.specs.declared.request.Request.TheVariants.{Line, Char}
@@ -23,13 +23,13 @@ is_request (Some (Char unicode)) = true
 is_request None = true
 
 -- a window's request is one, and it has at most 13 terminators for later lines
-abbrev pub is_window : WindowInput → Bool
-is_window w = are_few w.keys && is_request w.request
+abbrev pub is_window_input : WindowInput → Bool
+is_window_input w = are_few w.keys && is_request w.request
 
 abbrev pub are_windows : List WindowInput → Bool
 are_windows [] = true
-are_windows (w ∷ ws) = is_window w && are_windows ws
+are_windows (w ∷ ws) = is_window_input w && are_windows ws
 
 -- the windows' numbers ascend, from 1 to 4,294,967,294, and their requests are valid
-abbrev pub is_valid : List WindowInput → Bool
-is_valid ws = ascends number_of 0 4294967295 ws && are_windows ws
+abbrev pub are_valid_inputs : List WindowInput → Bool
+are_valid_inputs ws = ascends input_window_number 0 4294967295 ws && are_windows ws

@@ -2,7 +2,7 @@
 
 ghost use Rattle.std.specs.Prelude.{◌≡◌, [], IsOk, OnErr, take, true};
 ghost use Rattle.std.specs.Str.{chars};
-ghost use Rattle.vm_memory.specs.Access.{Leaves, written};
+ghost use Rattle.vm_memory.specs.Access.{LeavesMemory, written};
 ghost use Rattle.glk_input.specs.Delivery as delivery;
 ghost use Rattle.glk_input.specs.Request as request;
 
@@ -27,7 +27,7 @@ impl Requests {
     }
 
     fn wants_line(&self, win: u32, key: u32) -> bool
-        ensures { result ≡ delivery.wants_line (request.request_of self.now win) key }
+        ensures { result ≡ delivery.wants_line (request.window_request self.now win) key }
     {
         match self.request(win) {
             Some(Request::Line(line)) => key == 0 || line.keys.has(key),
@@ -36,7 +36,7 @@ impl Requests {
     }
 
     fn wants_char(&self, win: u32) -> bool
-        ensures { result ≡ delivery.wants_char (request.request_of self.now win) }
+        ensures { result ≡ delivery.wants_char (request.window_request self.now win) }
     {
         match self.request(win) {
             Some(Request::Char { .. }) => true,
@@ -52,7 +52,7 @@ impl Requests {
         requires { delivery.wants self.old input.now ≡ true }
         ensures value { delivery.Delivers (delivery.delivered self.old memory.old input.now)
             memory.new result }
-        ensures over { self.new ≡ delivery.answered self.old input.now }
+        ensures over { self.new ≡ delivery.requests_after_input self.old input.now }
         ensures part { OnErr result
             (delivery.LeavesPart self.old memory.old input.now memory.new) }
         ensures always { delivery.to_write self.old input.now ≡ [] → IsOk result }
@@ -72,11 +72,11 @@ impl Requests {
         key: u32,
     ) -> Result<Event, MemStop>
         ensures value { delivery.Delivers (delivery.line_delivered
-            (request.request_of self.old win) memory.old win text.now key) memory.new result }
-        ensures over { self.new ≡ request.changed request.ended self.old win }
+            (request.window_request self.old win) memory.old win text.now key) memory.new result }
+        ensures over { self.new ≡ request.window_input_changed request.request_ended self.old win }
         ensures part { OnErr result (delivery.LeavesLinePart
-            (request.request_of self.old win) memory.old text.now memory.new) }
-        ensures always { delivery.line_front (request.request_of self.old win) text.now ≡ []
+            (request.window_request self.old win) memory.old text.now memory.new) }
+        ensures always { delivery.line_front (request.window_request self.old win) text.now ≡ []
             → IsOk result }
     {
         let asked = self.request(win);
@@ -89,8 +89,8 @@ impl Requests {
 
     fn deliver_char(&mut self, win: u32, code: u32) -> Event
         ensures value { result ≡ delivery.char_delivered
-            (request.request_of self.old win) win code }
-        ensures over { self.new ≡ request.changed request.ended self.old win }
+            (request.window_request self.old win) win code }
+        ensures over { self.new ≡ request.window_input_changed request.request_ended self.old win }
     {
         let asked = self.request(win);
         self.change(win, Change::End);
@@ -126,8 +126,8 @@ fn width(unicode: bool) -> u32
 }
 
 fn write_char(memory: &mut Memory, at: u32, unicode: bool, c: char) -> Result<(), MemStop>
-    ensures value { Leaves
-        (written (delivery.width unicode) memory.old at (delivery.taken unicode c))
+    ensures value { LeavesMemory
+        (written (delivery.width unicode) memory.old at (delivery.code_taken unicode c))
         memory.new result }
     ensures err { OnErr result (memory.new ≡ memory.old) }
 {
@@ -147,7 +147,7 @@ fn write_front(
     text: &str,
     max: u32,
 ) -> Result<u32, MemStop>
-    ensures value { delivery.Writes unicode memory.old from
+    ensures value { delivery.WritesCharacters unicode memory.old from
         (take max (chars text.now)) memory.new result }
     ensures part { OnErr result (delivery.WritesPart unicode memory.old from
         (take max (chars text.now)) memory.new) }

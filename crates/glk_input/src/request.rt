@@ -53,7 +53,7 @@ impl Numbered for WindowInput {
 impl WindowInput {
     /// A window without a request.
     pub(crate) fn fresh(win: u32) -> WindowInput
-        ensures { result ≡ request.fresh win }
+        ensures { result ≡ request.window_without_request win }
     {
         WindowInput {
             win,
@@ -111,7 +111,7 @@ impl LineRequest {
 
 fn front(alloc: Global, text: &str, unicode: bool, count: usize) -> Result<Vec<u32>, AllocError>
     ensures { IfOk result (λ line. line.items
-        ≡ map (delivery.taken unicode) (take count (chars text.now))) }
+        ≡ map (delivery.code_taken unicode) (take count (chars text.now))) }
 {
     text.chars()
         .take(count)
@@ -121,7 +121,7 @@ fn front(alloc: Global, text: &str, unicode: bool, count: usize) -> Result<Vec<u
 
 /// A character as a request takes it.
 pub(crate) fn take_code(unicode: bool, code: u32) -> u32
-    ensures { result ≡ delivery.taken unicode code }
+    ensures { result ≡ delivery.code_taken unicode code }
 {
     if !unicode && code > 255 {
         u32::from('?')

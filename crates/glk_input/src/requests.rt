@@ -46,7 +46,7 @@ impl Requests {
 
     /// What the window asks for.
     pub fn request(&self, win: u32) -> Option<Request>
-        ensures { result ≡ request.request_of self.now win }
+        ensures { result ≡ request.window_request self.now win }
     {
         request_at(&self.windows, win)
     }
@@ -87,7 +87,7 @@ impl Requests {
         requires within { init ≤ max }
         requires few { init ≤ 1024 }
         ensures ok { IfOk result (λ _. self.new
-            ≡ request.changed (request.line_asked buf max init unicode)
+            ≡ request.window_input_changed (request.line_asked buf max init unicode)
             (request.with_window self.old win) win) }
         ensures err { OnErr result (self.new ≡ self.old) }
     {
@@ -108,7 +108,7 @@ impl Requests {
     /// then nothing changed.
     pub fn ask_char(&mut self, alloc: Global, win: u32, unicode: bool) -> Result<(), AllocError>
         ensures ok { IfOk result (λ _. self.new
-            ≡ request.changed (request.char_asked unicode)
+            ≡ request.window_input_changed (request.char_asked unicode)
             (request.with_window self.old win) win) }
         ensures err { OnErr result (self.new ≡ self.old) }
     {
@@ -120,8 +120,8 @@ impl Requests {
     /// Ends a request for a line: the event tells the line with which it began. An event of zeros
     /// where there is none.
     pub fn cancel_line(&mut self, win: u32) -> Event
-        ensures value { result ≡ request.cancelled (request.request_of self.old win) win }
-        ensures over { self.new ≡ request.changed request.without_line self.old win }
+        ensures value { result ≡ request.cancelled (request.window_request self.old win) win }
+        ensures over { self.new ≡ request.window_input_changed request.without_line self.old win }
     {
         let event = match self.request(win) {
             Some(Request::Line(line)) => Event::line(win, line.init, 0),
@@ -133,7 +133,7 @@ impl Requests {
 
     /// Ends a request for a character.
     pub fn cancel_char(&mut self, win: u32)
-        ensures { self.new ≡ request.changed request.without_char self.old win }
+        ensures { self.new ≡ request.window_input_changed request.without_char self.old win }
     {
         self.change(win, Change::EndChar)
     }
@@ -141,7 +141,8 @@ impl Requests {
     /// Whether the window's later lines echo: not where the value is 0. Nothing for a window that
     /// hasn't begun.
     pub fn set_echo(&mut self, win: u32, val: u32)
-        ensures { self.new ≡ request.changed (request.with_echo (not (val == 0))) self.old win }
+        ensures { self.new
+            ≡ request.window_input_changed (request.with_echo (not (val == 0))) self.old win }
     {
         self.change(win, Change::Echo(val != 0))
     }
@@ -156,7 +157,7 @@ impl Requests {
     ) -> Result<(), AllocError>
         requires { length keys.now ≤ 13 }
         ensures ok { IfOk result (λ _. self.new
-            ≡ request.changed (request.with_keys keys.now)
+            ≡ request.window_input_changed (request.with_keys keys.now)
             (request.with_window self.old win) win) }
         ensures err { OnErr result (self.new ≡ self.old) }
     {
@@ -174,7 +175,7 @@ impl Requests {
 
     // Changes a window.
     pub(crate) fn change(&mut self, win: u32, change: Change)
-        ensures { self.new ≡ request.changed (request.changed_by change) self.old win }
+        ensures { self.new ≡ request.window_input_changed (request.changed_by change) self.old win }
     {
         change_at(&mut self.windows, win, change)
     }
@@ -200,7 +201,8 @@ pub(crate) enum Change {
 }
 
 fn change_at(windows: &mut [WindowInput], win: u32, change: Change)
-    ensures { windows.new ≡ request.changed (request.changed_by change) windows.old win }
+    ensures { windows.new
+        ≡ request.window_input_changed (request.changed_by change) windows.old win }
 {
     match place_of(windows, win) {
         None => {}
@@ -263,7 +265,7 @@ fn end_char(window: &mut WindowInput)
 
 // What the window asks for.
 fn request_at(windows: &[WindowInput], win: u32) -> Option<Request>
-    ensures { result ≡ request.request_of windows.now win }
+    ensures { result ≡ request.window_request windows.now win }
 {
     for window in windows {
         if window.win == win {

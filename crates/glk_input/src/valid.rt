@@ -29,7 +29,7 @@ impl LineRequest {
 
 impl WindowInput {
     fn is_valid(&self) -> bool
-        ensures { result ≡ valid.is_window self.now }
+        ensures { result ≡ valid.is_window_input self.now }
     {
         are_few(&self.keys) && has_valid(&self.request)
     }
@@ -60,15 +60,15 @@ impl Requests {
     /// Whether they are such as a session may have: the windows' numbers ascend, from 1 to
     /// 4,294,967,294, and their requests are within the limits.
     pub fn is_valid(&self) -> bool
-        ensures { result ≡ valid.is_valid self.now }
+        ensures { result ≡ valid.are_valid_inputs self.now }
     {
         ascend(&self.windows, 0, MAX_NUMBER + 1) && are_valid(&self.windows)
     }
 
     /// The requests of these windows; None where no session may have them.
     pub fn of_fields(windows: Vec<WindowInput>) -> Option<Requests>
-        ensures { MatchOption result (valid.is_valid windows.items ≢ true)
-            (λ r. (r ≡ windows.items) × (valid.is_valid r ≡ true)) }
+        ensures { MatchOption result (valid.are_valid_inputs windows.items ≢ true)
+            (λ r. (r ≡ windows.items) × (valid.are_valid_inputs r ≡ true)) }
     {
         let requests = Requests { windows };
         if requests.is_valid() {

@@ -2,7 +2,7 @@
 use Rattle.std.proofs.Common.{◌≡◌, ℕ, ◌<◌, ◌≤◌, List, [], ◌∷◌, refl, Some, None, arith, slice_set}
 use Rattle.std.proofs.Common.{slice_index_or, true, false}
 use Rattle.std.proofs.lemmas.Grind.{common_steps}
-use Rattle.glk_numbers.specs.Numbered.{place_of, changed_at, after, ascends, has, IsLeastAbove}
+use Rattle.glk_numbers.specs.Numbered.{place_of, changed_at, number_above, ascends, has, IsLeastAbove}
 
 pub changed_at-none : {X : Type 0} (number : X → ℕ) (f : X → X) (xs : List X) (n : ℕ)
     → None ≡ place_of number xs n → xs ≡ changed_at number f xs n
@@ -27,27 +27,27 @@ ascends-above number low high (x ∷ xs) m a h =
     grind (arith, common_steps, ascends-above number (number x) high xs m)
 
 after-none : {X : Type 0} (number : X → ℕ) (low high : ℕ) (xs : List X) (n m : ℕ)
-    → ascends number low high xs ≡ true → after number xs n ≡ 0 → n < m → has number xs m ≡ false
-unfolding ascends has after
+    → ascends number low high xs ≡ true → number_above number xs n ≡ 0 → n < m → has number xs m ≡ false
+unfolding ascends has number_above
 after-none number low high [] n m a e l = refl
 after-none number low high (x ∷ xs) n m a e l =
     grind (arith, common_steps, after-none number (number x) high xs n m)
 
 after-above : {X : Type 0} (number : X → ℕ) (xs : List X) (n : ℕ)
-    → 0 < after number xs n → n < after number xs n
-unfolding after
+    → 0 < number_above number xs n → n < number_above number xs n
+unfolding number_above
 after-above number [] n l = absurd (grind (arith, l))
 after-above number (x ∷ xs) n l = grind (arith, common_steps, after-above number xs n)
 
 after-there : {X : Type 0} (number : X → ℕ) (xs : List X) (n : ℕ)
-    → 0 < after number xs n → has number xs (after number xs n) ≡ true
-unfolding after has
+    → 0 < number_above number xs n → has number xs (number_above number xs n) ≡ true
+unfolding number_above has
 after-there number [] n l = absurd (grind (arith, l))
 after-there number (x ∷ xs) n l = grind (arith, common_steps, after-there number xs n)
 
 after-first : {X : Type 0} (number : X → ℕ) (low high : ℕ) (xs : List X) (n m : ℕ)
-    → ascends number low high xs ≡ true → n < m → has number xs m ≡ true → after number xs n ≤ m
-unfolding after has ascends
+    → ascends number low high xs ≡ true → n < m → has number xs m ≡ true → number_above number xs n ≤ m
+unfolding number_above has ascends
 after-first number low high [] n m a l h = absurd cc
 after-first number low high (x ∷ xs) n m a l h =
     grind (
@@ -59,7 +59,7 @@ after-first number low high (x ∷ xs) n m a l h =
     )
 
 pub after_is_least : {X : Type 0} (number : X → ℕ) (high : ℕ) (xs : List X) (n : ℕ)
-    → ascends number 0 high xs ≡ true → IsLeastAbove number xs n (after number xs n)
+    → ascends number 0 high xs ≡ true → IsLeastAbove number xs n (number_above number xs n)
 after_is_least number high xs n a = record {
   none = λ e m l. after-none number 0 high xs n m a e l;
   above = λ l. after-above number xs n l;

@@ -9,9 +9,9 @@ has number [] n = false
 has number (x ∷ xs) n = number x == n || has number xs n
 
 -- the first number above this one, or 0
-unfoldable pub after : {X : Type 0} → (X → ℕ) → List X → ℕ → ℕ
-after number [] n = 0
-after number (x ∷ xs) n = if nat_lt n (number x) then number x else after number xs n
+unfoldable pub number_above : {X : Type 0} → (X → ℕ) → List X → ℕ → ℕ
+number_above number [] n = 0
+number_above number (x ∷ xs) n = if nat_lt n (number x) then number x else number_above number xs n
 
 -- the first value with this number
 unfoldable pub found : {X : Type 0} → (X → ℕ) → List X → ℕ → Option X

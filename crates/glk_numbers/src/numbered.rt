@@ -2,7 +2,7 @@
 
 ghost use Rattle.std.specs.Prelude.{ℕ, ◌≡◌, ◌<◌, length, IfSome};
 ghost use Rattle.glk_numbers.specs.Numbered as numbered;
-ghost use Rattle.glk_numbers.specs.Numbered.{after, ascends, has};
+ghost use Rattle.glk_numbers.specs.Numbered.{number_above, ascends, has};
 
 /// The greatest number that an object is given.
 pub const MAX_NUMBER: u32 = 4_294_967_294;
@@ -30,9 +30,9 @@ pub fn is_live<T: Numbered>(items: &[T], number: u32) -> bool
 }
 
 /// The first number of the values that is above this one, or 0.
-#[tactic(auto, unfolding(crate::specs::Numbered::after))]
+#[tactic(auto, unfolding(crate::specs::Numbered::number_above))]
 pub fn next_above<T: Numbered>(items: &[T], number: u32) -> u32
-    ensures { result ≡ after T.number_of items.now number }
+    ensures { result ≡ number_above T.number_of items.now number }
 {
     for item in items {
         if item.number() > number {

@@ -4,7 +4,7 @@ use Rattle.std.proofs.Common.{slice_set, slice_index_or, true, false, length}
 use Rattle.std.specs.Prelude.{remove, insert, is_some, IfNone, IfSome}
 use Rattle.std.proofs.lemmas.Grind.{common_steps}
 use Rattle.glk_streams.specs.declared.file.File.{File}
-use Rattle.glk_streams.specs.Files.{seat_of, spot_of, has_file, bytes_of, content_of, with_bytes}
+use Rattle.glk_streams.specs.Files.{seat_of, spot_of, has_file, sum_of_bytes, content_of, file_with_bytes}
 use Rattle.glk_streams.specs.Files.{with_file, without_file, file_of}
 use Rattle.glk_streams.proofs.PlaceLemmas.{remove-cons}
 
@@ -33,8 +33,8 @@ content-some (f ∷ fs) u n i d e = grind (arith, common_steps, content-some fs 
 
 with_bytes-some : (fs : List File) (u : ℕ) (n : List ℕ) (i : ℕ) (d : File) (b : List ℕ)
     → Some i ≡ seat_of fs u n
-    → with_bytes fs u n b ≡ slice_set fs i (record (slice_index_or fs i d) { bytes = b })
-unfolding with_bytes seat_of
+    → file_with_bytes fs u n b ≡ slice_set fs i (record (slice_index_or fs i d) { bytes = b })
+unfolding file_with_bytes seat_of
 with_bytes-some [] u n i d b e = absurd (grind (arith, e))
 with_bytes-some (f ∷ fs) u n i d b e = grind (arith, common_steps, with_bytes-some fs u n)
 
@@ -69,8 +69,8 @@ with_file_at_spot (f ∷ fs) u n b =
 
 -- no file has more bytes than all
 pub content_within : (fs : List File) (u : ℕ) (n : List ℕ)
-    → length (content_of fs u n) ≤ bytes_of fs
-unfolding content_of bytes_of
+    → length (content_of fs u n) ≤ sum_of_bytes fs
+unfolding content_of sum_of_bytes
 content_within [] u n = omega arith
 content_within (f ∷ fs) u n = grind (arith, common_steps, content_within fs u n)
 
@@ -91,7 +91,7 @@ module _ (fs : List File) (u : ℕ) (n : List ℕ) where
 
   pub is_changed : (r : Option ℕ) → r ≡ seat_of fs u n
       → IfSome r (λ i. (d : File) (b : List ℕ)
-      → with_bytes fs u n b ≡ slice_set fs i (record (slice_index_or fs i d) { bytes = b }))
+      → file_with_bytes fs u n b ≡ slice_set fs i (record (slice_index_or fs i d) { bytes = b }))
   is_changed None e = tt
   is_changed (Some i) e = λ d b. with_bytes-some fs u n i d b e
 

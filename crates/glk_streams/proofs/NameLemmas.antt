@@ -8,18 +8,18 @@ use Rattle.std.specs.Char.{encode_utf8, IsScalar}
 use Rattle.std.specs.Str.{chars, encode_utf8_all, IsUtf8, IsAscii}
 use Rattle.std.specs.Prelude.{codes}
 use mathlib.Core.List.{append-nil, append_assoc}
-use Rattle.glk_streams.specs.Names.{is_taken_out, before_period, cut, cleaned, or_null}
+use Rattle.glk_streams.specs.Names.{is_taken_out, before_period, name_cut, cleaned, or_null}
 
-pub cut-nil : (n : ℕ) → cut n [] ≡ []
+pub cut-nil : (n : ℕ) → name_cut n [] ≡ []
 unfolding before_period
 cut-nil n = grind (arith, common_steps)
 
-pub cut-period : (n : ℕ) (cs : List ℕ) → cut n (0x2E ∷ cs) ≡ []
+pub cut-period : (n : ℕ) (cs : List ℕ) → name_cut n (0x2E ∷ cs) ≡ []
 unfolding before_period
 cut-period n cs = grind (arith, common_steps)
 
 pub cut-in : (n m c : ℕ) (cs : List ℕ) → is_taken_out c ≡ false → c ≢ 0x2E → n ≡ m + 1
-    → cut n (c ∷ cs) ≡ c ∷ cut m cs
+    → name_cut n (c ∷ cs) ≡ c ∷ name_cut m cs
 unfolding before_period
 cut-in n m c cs e h s = let t : n ≡ suc m =
     omega (arith, s) in rw (t, e) (grind (arith, common_steps, h))
@@ -36,21 +36,21 @@ chars-encode c h =
 pub pushed : (old new : List ℕ) (c n : ℕ) (rest : List ℕ) → IsUtf8 old → IsScalar c
     → new ≡ old ++ encode_utf8 c
     → is_taken_out c ≡ false → c ≢ 0x2E → n < 64
-    → chars new ++ cut (64 - (n + 1)) rest ≡ chars old ++ cut (64 - n) (c ∷ rest)
+    → chars new ++ name_cut (64 - (n + 1)) rest ≡ chars old ++ name_cut (64 - n) (c ∷ rest)
 pushed old new c n rest u h e out period room =
     let split : chars new ≡ chars old ++ c ∷ [] =
     ap chars e ∙ chars-append old (encode_utf8 c) u
     ∙ ap (λ cs. chars old ++ cs) (chars-encode c h) in
-    let first : cut (64 - n) (c ∷ rest) ≡ c ∷ cut (64 - (n + 1)) rest =
+    let first : name_cut (64 - n) (c ∷ rest) ≡ c ∷ name_cut (64 - (n + 1)) rest =
     cut-in (64 - n) (64 - (n + 1)) c rest out period (omega (arith, room)) in
-    rw (split, first) (append_assoc (chars old) (c ∷ []) (cut (64 - (n + 1)) rest))
+    rw (split, first) (append_assoc (chars old) (c ∷ []) (name_cut (64 - (n + 1)) rest))
 
-pub period_ends : (xs rest all : List ℕ) (n c : ℕ) → c ≡ 0x2E → xs ++ cut n (c ∷ rest) ≡ all
+pub period_ends : (xs rest all : List ℕ) (n c : ℕ) → c ≡ 0x2E → xs ++ name_cut n (c ∷ rest) ≡ all
     → xs ≡ all
 period_ends xs rest all n c e h =
     sym (append-nil xs) ∙ ap (λ ys. xs ++ ys) (sym (rw e (cut-period n rest))) ∙ h
 
-pub end_ends : (xs all : List ℕ) (n : ℕ) → xs ++ cut n [] ≡ all → xs ≡ all
+pub end_ends : (xs all : List ℕ) (n : ℕ) → xs ++ name_cut n [] ≡ all → xs ≡ all
 end_ends xs all n h = sym (append-nil xs) ∙ ap (λ ys. xs ++ ys) (sym (cut-nil n)) ∙ h
 
 temp : chars (codes ".temp") ≡ codes ".temp"
@@ -70,6 +70,6 @@ null_bytes : chars (codes "null") ≡ codes "null"
 unfolding chars
 null_bytes = refl
 
-pub null_of : (name clean : List ℕ) → clean ≡ cut 64 name → length (encode_utf8_all clean) ≡ 0
+pub null_of : (name clean : List ℕ) → clean ≡ name_cut 64 name → length (encode_utf8_all clean) ≡ 0
     → chars (codes "null") ≡ cleaned name
 null_of name clean e h = null_bytes ∙ or_null-empty clean h ∙ ap or_null e

@@ -15,15 +15,15 @@ use Rattle.glk_streams.specs.declared.coding.Coding.{Coding}
 use Rattle.glk_streams.specs.declared.file.File as file
 use Rattle.glk_streams.specs.declared.stream.Stream.{Stream}
 use Rattle.glk_streams.specs.declared.stream.Target.TheVariants.{File}
-use Rattle.glk_streams.specs.Coding.{coding_of, kept, bytes_in, units_of, steps_of}
-use Rattle.glk_streams.specs.Files.{key_of, is_named, has_file, content_of, with_bytes, with_file}
-use Rattle.glk_streams.specs.Files.{holding, bytes_of, may_stand, room_of, file_of}
+use Rattle.glk_streams.specs.Coding.{coding_of, bytes_kept, bytes_in, units_of, steps_of}
+use Rattle.glk_streams.specs.Files.{key_of_file, is_named, has_file, content_of, file_with_bytes, with_file}
+use Rattle.glk_streams.specs.Files.{files_holding, sum_of_bytes, file_may_stand, room_of, file_of}
 use Rattle.glk_streams.specs.Input.{passed}
-use Rattle.glk_streams.specs.Output.{put, put_by, put_bytes, start_of, held, counted}
-use Rattle.glk_streams.specs.Output.{placed}
-use Rattle.glk_streams.specs.RoundTrip.{has_code, AreHeld, spelled, Reads, IsOpen, put_all, Gives}
+use Rattle.glk_streams.specs.Output.{put_on_stream, put_by, put_bytes, byte_start, position_held, write_counted}
+use Rattle.glk_streams.specs.Output.{at_position}
+use Rattle.glk_streams.specs.RoundTrip.{has_code, AreHeld, bytes_of_characters, ReadsCharacters, IsOpen, put_all, GivesCharacters}
 use Rattle.glk_streams.specs.RoundTrip.{ReadsBack}
-use Rattle.glk_streams.specs.Streams.{StreamTable, number_of, with_stream, is_read_mode}
+use Rattle.glk_streams.specs.Streams.{StreamTable, stream_number, with_stream, is_read_mode}
 use Rattle.glk_streams.specs.Streams.{is_write_mode}
 use Rattle.glk_streams.proofs.ValidLemmas.{bytes-bytes, bytes-file, number-found}
 use Rattle.glk_streams.proofs.ValidLaws.{both, no-content}
@@ -33,15 +33,15 @@ use Rattle.glk_streams.proofs.RoundTripLemmas.{empty-units}
 
 -- streams that are changed
 
-found-same : (ss : List Stream) (n : ℕ) (s v : Stream) → found number_of ss n ≡ Some s
+found-same : (ss : List Stream) (n : ℕ) (s v : Stream) → found stream_number ss n ≡ Some s
     → v.number ≡ n
-    → found number_of (changed_at number_of (λ _. v) ss n) n ≡ Some v
+    → found stream_number (changed_at stream_number (λ _. v) ss n) n ≡ Some v
 unfolding found changed_at
 found-same [] n s v e k = absurd (grind (arith, e))
 found-same (x ∷ ss) n s v e k = grind (arith, common_steps, e, k, found-same ss n s v)
 
 found-other : (ss : List Stream) (n m : ℕ) (v : Stream) → v.number ≡ n → m ≢ n
-    → found number_of (changed_at number_of (λ _. v) ss n) m ≡ found number_of ss m
+    → found stream_number (changed_at stream_number (λ _. v) ss n) m ≡ found stream_number ss m
 unfolding found changed_at
 found-other [] n m v k a = refl
 found-other (x ∷ ss) n m v k a = grind (arith, common_steps, k, a, found-other ss n m v k a)
@@ -54,18 +54,18 @@ self Equal e = refl
 self Greater e = absurd (grind (arith, e))
 
 own-name : (u : ℕ) (n b : List ℕ) → is_named u n (file_of u n b) ≡ true
-own-name u n b = self (slice_cmp nat_cmp (key_of u n) (key_of u n))
-    (nat_list_cmp_total.antisymm (key_of u n) (key_of u n))
+own-name u n b = self (slice_cmp nat_cmp (key_of_file u n) (key_of_file u n))
+    (nat_list_cmp_total.antisymm (key_of_file u n) (key_of_file u n))
 
 content-bytes : (fs : List file.File) (u : ℕ) (n b : List ℕ) → has_file fs u n ≡ true
-    → content_of (with_bytes fs u n b) u n ≡ b
-unfolding content_of with_bytes has_file
+    → content_of (file_with_bytes fs u n b) u n ≡ b
+unfolding content_of file_with_bytes has_file
 content-bytes [] u n b h = absurd (grind (arith, h))
 content-bytes (f ∷ fs) u n b h = grind (arith, common_steps, h, content-bytes fs u n b)
 
 has-bytes : (fs : List file.File) (u : ℕ) (n b : List ℕ)
-    → has_file (with_bytes fs u n b) u n ≡ has_file fs u n
-unfolding with_bytes has_file
+    → has_file (file_with_bytes fs u n b) u n ≡ has_file fs u n
+unfolding file_with_bytes has_file
 has-bytes [] u n b = refl
 has-bytes (f ∷ fs) u n b = grind (arith, common_steps, has-bytes fs u n b)
 
@@ -83,11 +83,11 @@ has-new (f ∷ fs) u n b = grind (arith, common_steps, own-name u n b, has-new f
 
 pub record IsHeld (fs after : List file.File) (u : ℕ) (n b : List ℕ) : Type 0 where
   pub content : content_of after u n ≡ b
-  pub may : may_stand after u n ≡ true
-  pub bytes : bytes_of after + length (content_of fs u n) ≡ bytes_of fs + length b
+  pub may : file_may_stand after u n ≡ true
+  pub bytes : sum_of_bytes after + length (content_of fs u n) ≡ sum_of_bytes fs + length b
 
 pub held-by : (fs : List file.File) (u : ℕ) (n b : List ℕ) (s : Bool) → has_file fs u n ≡ s
-    → IsHeld fs (holding fs u n b) u n b
+    → IsHeld fs (files_holding fs u n b) u n b
 held-by fs u n b true e = rw e (record {
   content = content-bytes fs u n b e;
   may = grind (arith, common_steps, has-bytes fs u n b, e);
@@ -107,28 +107,28 @@ record On (t : StreamTable) (a b u : ℕ) (n : List ℕ) (unicode : Bool)
       (units_of (coding_of unicode (File u n)) bytes)
   reader : IsOpen is_read_mode t b (File u n) unicode 0
   content : content_of t.files u n ≡ bytes
-  may : may_stand t.files u n ≡ true
+  may : file_may_stand t.files u n ≡ true
 
 put-bytes-kept : (fs : List file.File) (place u : ℕ) (n : List ℕ) (c : Coding)
     (new bytes all : List ℕ)
     → content_of fs u n ≡ bytes
-    → (may_stand fs u n && nat_le (start_of c bytes place + length new - length bytes) (room_of fs))
+    → (file_may_stand fs u n && nat_le (byte_start c bytes place + length new - length bytes) (room_of fs))
     ≡ true
-    → replaced bytes (start_of c bytes place) new ≡ all → held c bytes place ≡ place
-    → put_bytes fs place u n c new ≡ (holding fs u n all, place + steps_of c (length new))
+    → replaced bytes (byte_start c bytes place) new ≡ all → position_held c bytes place ≡ place
+    → put_bytes fs place u n c new ≡ (files_holding fs u n all, place + steps_of c (length new))
 put-bytes-kept fs place u n c new bytes all e k r h = rw (e, k, r, h) refl
 
 put-by-kept : (fs : List file.File) (m : MemoryMap) (s : Stream) (x u : ℕ) (n : List ℕ)
     (unicode : Bool) (place : ℕ)
     (after : List file.File) (next : ℕ) → is_write_mode s.mode ≡ true → s.target ≡ File u n
     → s.unicode ≡ unicode → s.place ≡ place
-    → put_bytes fs place u n (coding_of unicode (File u n)) (kept (coding_of unicode (File u n)) x)
+    → put_bytes fs place u n (coding_of unicode (File u n)) (bytes_kept (coding_of unicode (File u n)) x)
     ≡ (after, next)
     → put_by fs m s x ≡ Ok (after, m, next)
 put-by-kept fs m s x u n unicode place after next w t v p e =
     rw (w, t, v, p) (ap (λ done. Ok (done.0, m, done.1)) e)
 
-stays : (c : Coding) (bytes : List ℕ) → held c bytes (units_of c bytes) ≡ units_of c bytes
+stays : (c : Coding) (bytes : List ℕ) → position_held c bytes (units_of c bytes) ≡ units_of c bytes
 stays c bytes = grind (arith, common_steps)
 
 fits : (sum now at count : ℕ) → at ≡ now → sum + count ≤ 1048576
@@ -138,9 +138,9 @@ fits sum now at count e l = grind (arith, common_steps, e, l)
 record Step (t : StreamTable) (m : MemoryMap) (a b u : ℕ) (n : List ℕ) (unicode : Bool)
     (bytes : List ℕ) (x : ℕ) : Type 0 where
   after : StreamTable
-  put_is : put t m a x ≡ Ok (after, m)
+  put_is : put_on_stream t m a x ≡ Ok (after, m)
   on : On after a b u n unicode (bytes ++ bytes_in (coding_of unicode (File u n)) x)
-  sum : bytes_of after.files ≡ bytes_of t.files + length (bytes_in (coding_of unicode (File u n)) x)
+  sum : sum_of_bytes after.files ≡ sum_of_bytes t.files + length (bytes_in (coding_of unicode (File u n)) x)
 
 module _ (m : MemoryMap) (a b u : ℕ) (n : List ℕ) (unicode : Bool) (apart : a ≢ b) where
   abbrev c : Coding
@@ -148,28 +148,28 @@ module _ (m : MemoryMap) (a b u : ℕ) (n : List ℕ) (unicode : Bool) (apart : 
 
   one : (t : StreamTable) (bytes : List ℕ) (x : ℕ) → On t a b u n unicode bytes → IsWhole c bytes
       → has_code c x ≡ true
-      → bytes_of t.files + length (bytes_in c x) ≤ 1048576 → Step t m a b u n unicode bytes x
+      → sum_of_bytes t.files + length (bytes_in c x) ≤ 1048576 → Step t m a b u n unicode bytes x
   one t bytes x o w h room =
       let s = o.writer.stream in
       let r = o.reader.stream in
       let new = bytes_in c x in
       let all = bytes ++ new in
       let place = units_of c bytes in
-      let start : start_of c bytes place ≡ length bytes = start-end c bytes w in
-      let kept_new : kept c x ≡ new = kept-held c x h in
-      let files = holding t.files u n all in
+      let start : byte_start c bytes place ≡ length bytes = start-end c bytes w in
+      let kept_new : bytes_kept c x ≡ new = kept-held c x h in
+      let files = files_holding t.files u n all in
       let next = place + steps_of c (length new) in
-      let v = counted (placed next s) in
+      let v = write_counted (at_position next s) in
       let after = with_stream (record t { files = files }) a v in
-      let put_files : put_bytes t.files place u n c (kept c x) ≡ (files, next) =
+      let put_files : put_bytes t.files place u n c (bytes_kept c x) ≡ (files, next) =
       rw kept_new (put-bytes-kept t.files place u n c new bytes all o.content
-      (both _ _ o.may (fits (bytes_of t.files) (length bytes) (start_of c bytes place)
+      (both _ _ o.may (fits (sum_of_bytes t.files) (length bytes) (byte_start c bytes place)
       (length new) start room))
-      (replaced-end bytes new (start_of c bytes place) start) (stays c bytes)) in
+      (replaced-end bytes new (byte_start c bytes place) start) (stays c bytes)) in
       let kept_by : put_by t.files m s x ≡ Ok (files, m, next) =
       put-by-kept t.files m s x u n unicode place files next o.writer.mode o.writer.target_is
       o.writer.unicode_is o.writer.place_is put_files in
-      let number : v.number ≡ a = number-found number_of t.streams a s o.writer.is in
+      let number : v.number ≡ a = number-found stream_number t.streams a s o.writer.is in
       let now = held-by t.files u n all (has_file t.files u n) refl in
       record {
         after = after;
@@ -194,9 +194,9 @@ module _ (m : MemoryMap) (a b u : ℕ) (n : List ℕ) (unicode : Bool) (apart : 
           content = now.content;
           may = now.may;
         };
-        sum = summed (bytes_of t.files) (bytes_of files) (length bytes) (length new) (length all)
+        sum = summed (sum_of_bytes t.files) (sum_of_bytes files) (length bytes) (length new) (length all)
             (length-append bytes new)
-            (subst (λ (z : List ℕ). bytes_of files + length z ≡ bytes_of t.files + length all)
+            (subst (λ (z : List ℕ). sum_of_bytes files + length z ≡ sum_of_bytes t.files + length all)
             o.content now.bytes);
       }
     where
@@ -207,12 +207,12 @@ module _ (m : MemoryMap) (a b u : ℕ) (n : List ℕ) (unicode : Bool) (apart : 
   record Puts (t : StreamTable) (bytes codes : List ℕ) : Type 0 where
     after : StreamTable
     put_is : put_all t m a codes ≡ Ok (after, m)
-    on : On after a b u n unicode (bytes ++ spelled c codes)
+    on : On after a b u n unicode (bytes ++ bytes_of_characters c codes)
 
   puts : (codes : List ℕ) (t : StreamTable) (bytes : List ℕ) → On t a b u n unicode bytes
       → IsWhole c bytes → AreHeld c codes
-      → bytes_of t.files + length (spelled c codes) ≤ 1048576 → Puts t bytes codes
-  unfolding put_all spelled
+      → sum_of_bytes t.files + length (bytes_of_characters c codes) ≤ 1048576 → Puts t bytes codes
+  unfolding put_all bytes_of_characters
   puts [] t bytes o w h room =
       record {
         after = t;
@@ -221,9 +221,9 @@ module _ (m : MemoryMap) (a b u : ℕ) (n : List ℕ) (unicode : Bool) (apart : 
             (sym (append-nil bytes)) o;
       }
   puts (x ∷ xs) t bytes o w h room =
-      let long : length (bytes_in c x ++ spelled c xs) ≡ length (bytes_in c x) + length
-      (spelled c xs) =
-      length-append (bytes_in c x) (spelled c xs) in
+      let long : length (bytes_in c x ++ bytes_of_characters c xs) ≡ length (bytes_in c x) + length
+      (bytes_of_characters c xs) =
+      length-append (bytes_in c x) (bytes_of_characters c xs) in
       let first = one t bytes x o w h.0 (omega (arith, room, long)) in
       let rest = puts xs first.after (bytes ++ bytes_in c x) first.on (whole-append c bytes x w) h.1
       (omega (arith, room, long, first.sum)) in
@@ -231,17 +231,17 @@ module _ (m : MemoryMap) (a b u : ℕ) (n : List ℕ) (unicode : Bool) (apart : 
         after = rest.after;
         put_is = rw first.put_is rest.put_is;
         on = subst (On rest.after a b u n unicode)
-            (append_assoc bytes (bytes_in c x) (spelled c xs)) rest.on;
+            (append_assoc bytes (bytes_in c x) (bytes_of_characters c xs)) rest.on;
       }
 
   gets : (codes : List ℕ) (t : StreamTable) (bytes : List ℕ) (place : ℕ)
       → IsOpen is_read_mode t b (File u n) unicode place
-      → content_of t.files u n ≡ bytes → Reads c bytes place codes → Gives t m b codes
+      → content_of t.files u n ≡ bytes → ReadsCharacters c bytes place codes → GivesCharacters t m b codes
   gets [] t bytes place o e r = rw (o.is, o.mode, o.target_is, o.unicode_is, o.place_is, e, r) refl
   gets (x ∷ xs) t bytes place o e r =
       let s = o.stream in
       let v = passed (record { code = x; steps = r.0 }) s in
-      let number : v.number ≡ b = number-found number_of t.streams b s o.is in
+      let number : v.number ≡ b = number-found stream_number t.streams b s o.is in
       let rest = gets xs (with_stream t b v) bytes (place + r.0) (record {
         stream = v;
         is = found-same t.streams b s v o.is number;
@@ -271,6 +271,6 @@ reads_back t m a b u n unicode codes apart writer reader empty may h room =
       done.after,
       done.put_is,
       gets m a b u n unicode apart codes done.after
-          (spelled c codes) 0 done.on.reader done.on.content
-          (subst (λ p. Reads c (spelled c codes) p codes) (empty-units c) all),
+          (bytes_of_characters c codes) 0 done.on.reader done.on.content
+          (subst (λ p. ReadsCharacters c (bytes_of_characters c codes) p codes) (empty-units c) all),
     )

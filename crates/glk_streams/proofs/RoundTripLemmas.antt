@@ -12,9 +12,9 @@ use Rattle.byteorder.specs.Endian.{big_bytes}
 use Rattle.byteorder.specs.Numbers.{big_number-reads_back, length-bytes_high_first}
 use Rattle.bstr.proofs.lemmas.EncodeLemmas.{decoded-encode}
 use Rattle.vm_memory.specs.MemoryMap.{replaced, number_at}
-use Rattle.glk_streams.specs.Coding.{kept, bytes_in, units_of, unit_of, steps_of, char_at}
-use Rattle.glk_streams.specs.Output.{start_of}
-use Rattle.glk_streams.specs.RoundTrip.{has_code, AreHeld, after_puts, spelled, Reads, RoundTrip}
+use Rattle.glk_streams.specs.Coding.{bytes_kept, bytes_in, units_of, unit_of, steps_of, character_at}
+use Rattle.glk_streams.specs.Output.{byte_start}
+use Rattle.glk_streams.specs.RoundTrip.{has_code, AreHeld, after_puts, bytes_of_characters, ReadsCharacters, StreamRoundTrip}
 use Rattle.glk_streams.specs.declared.coding.Coding.{Coding}
 use Rattle.glk_streams.specs.declared.coding.Coding.TheVariants.{Latin1, Utf8, Utf32}
 
@@ -22,7 +22,7 @@ use Rattle.glk_streams.specs.declared.coding.Coding.TheVariants.{Latin1, Utf8, U
 abbrev pub IsWhole : Coding → List ℕ → Type 0
 IsWhole c bytes = unit_of c * units_of c bytes ≡ length bytes
 
-pub kept-held : (c : Coding) (x : ℕ) → has_code c x ≡ true → kept c x ≡ bytes_in c x
+pub kept-held : (c : Coding) (x : ℕ) → has_code c x ≡ true → bytes_kept c x ≡ bytes_in c x
 kept-held Latin1 x h = rw h refl
 kept-held Utf8 x h = rw h refl
 kept-held Utf32 x h = refl
@@ -67,7 +67,7 @@ whole-append c bytes x w =
     by Utf32 u s n whole one two f a b d = omega arith
 
 pub start-end : (c : Coding) (bytes : List ℕ) → IsWhole c bytes
-    → start_of c bytes (units_of c bytes) ≡ length bytes
+    → byte_start c bytes (units_of c bytes) ≡ length bytes
 start-end Latin1 bytes w = omega arith
 start-end Utf8 bytes w = omega arith
 start-end Utf32 bytes w = omega (arith, w)
@@ -82,19 +82,19 @@ replaced-end bytes new at e =
     rw (cut, past) (append-nil (bytes ++ new))
 
 pub put-end : (c : Coding) (bytes : List ℕ) (x : ℕ) → IsWhole c bytes → has_code c x ≡ true
-    → replaced bytes (start_of c bytes (units_of c bytes)) (kept c x) ≡ bytes ++ bytes_in c x
+    → replaced bytes (byte_start c bytes (units_of c bytes)) (bytes_kept c x) ≡ bytes ++ bytes_in c x
 put-end c bytes x w h =
-    replaced-end bytes (kept c x) (start_of c bytes (units_of c bytes)) (start-end c bytes w)
+    replaced-end bytes (bytes_kept c x) (byte_start c bytes (units_of c bytes)) (start-end c bytes w)
     ∙ ap (λ new. bytes ++ new) (kept-held c x h)
 
 puts-spell : (c : Coding) (bytes codes : List ℕ) → IsWhole c bytes → AreHeld c codes
-    → after_puts c bytes codes ≡ bytes ++ spelled c codes
-unfolding after_puts spelled
+    → after_puts c bytes codes ≡ bytes ++ bytes_of_characters c codes
+unfolding after_puts bytes_of_characters
 puts-spell c bytes [] w h = sym (append-nil bytes)
 puts-spell c bytes (x ∷ xs) w h =
     ap (λ b. after_puts c b xs) (put-end c bytes x w h.0)
     ∙ puts-spell c (bytes ++ bytes_in c x) xs (whole-append c bytes x w) h.1
-    ∙ append_assoc bytes (bytes_in c x) (spelled c xs)
+    ∙ append_assoc bytes (bytes_in c x) (bytes_of_characters c xs)
 
 below : (n m : ℕ) → n < m → nat_lt n m ≡ true
 below n m h = grind (arith, common_steps)
@@ -104,7 +104,7 @@ unfolding encode_utf8
 some-encode x = grind (arith, nat_tests)
 
 first-char : (c : Coding) (bytes rest : List ℕ) (x : ℕ) → IsWhole c bytes → has_code c x ≡ true
-    → char_at c (bytes ++ bytes_in c x ++ rest) (units_of c bytes)
+    → character_at c (bytes ++ bytes_in c x ++ rest) (units_of c bytes)
     ≡ Some (record { code = x; steps = steps_of c (length (bytes_in c x)) })
 first-char Latin1 bytes rest x w h =
     let long : length (bytes ++ x ∷ rest) ≡ length bytes + length (x ∷ rest) =
@@ -143,23 +143,23 @@ first-char Utf32 bytes rest x w h =
     rw (append_assoc bytes new rest, inside)
     (ap (λ (code : ℕ). Some (record { code = code; steps = 1 })) value)
 
-none-left : (c : Coding) (bytes : List ℕ) → char_at c bytes (units_of c bytes) ≡ None
+none-left : (c : Coding) (bytes : List ℕ) → character_at c bytes (units_of c bytes) ≡ None
 none-left Latin1 bytes = grind (arith, common_steps)
 none-left Utf8 bytes = grind (arith, common_steps)
 none-left Utf32 bytes = grind (arith, common_steps)
 
 pub reads : (c : Coding) (bytes codes : List ℕ) → IsWhole c bytes → AreHeld c codes
-    → Reads c (bytes ++ spelled c codes) (units_of c bytes) codes
-unfolding spelled
+    → ReadsCharacters c (bytes ++ bytes_of_characters c codes) (units_of c bytes) codes
+unfolding bytes_of_characters
 reads c bytes [] w h = rw (append-nil bytes) (none-left c bytes)
 reads c bytes (x ∷ xs) w h =
     let rest = reads c (bytes ++ bytes_in c x) xs (whole-append c bytes x w) h.1 in (
       steps_of c (length (bytes_in c x)),
-      rw (sym (append_assoc bytes (bytes_in c x) (spelled c xs)))
-          (first-char c bytes (spelled c xs) x w h.0),
-      subst (λ b. Reads c b (units_of c bytes + steps_of c (length (bytes_in c x))) xs)
-          (append_assoc bytes (bytes_in c x) (spelled c xs))
-          (subst (λ p. Reads c ((bytes ++ bytes_in c x) ++ spelled c xs) p xs)
+      rw (sym (append_assoc bytes (bytes_in c x) (bytes_of_characters c xs)))
+          (first-char c bytes (bytes_of_characters c xs) x w h.0),
+      subst (λ b. ReadsCharacters c b (units_of c bytes + steps_of c (length (bytes_in c x))) xs)
+          (append_assoc bytes (bytes_in c x) (bytes_of_characters c xs))
+          (subst (λ p. ReadsCharacters c ((bytes ++ bytes_in c x) ++ bytes_of_characters c xs) p xs)
           (units-append c bytes x w) rest),
     )
 
@@ -173,8 +173,8 @@ empty-units Latin1 = refl
 empty-units Utf8 = refl
 empty-units Utf32 = refl
 
-pub round_trip : RoundTrip
+pub round_trip : StreamRoundTrip
 round_trip c codes h =
     rw (puts-spell c [] codes (empty-whole c) h)
-    (subst (λ p. Reads c (spelled c codes) p codes) (empty-units c)
+    (subst (λ p. ReadsCharacters c (bytes_of_characters c codes) p codes) (empty-units c)
     (reads c [] codes (empty-whole c) h))

@@ -2,9 +2,9 @@
 use Rattle.std.proofs.Common.{◌≡◌, [], ◌∷◌, refl}
 use Rattle.std.specs.Char.{encode_utf8}
 use Rattle.std.specs.Prelude.{codes}
-use Rattle.glk_streams.specs.Coding.{kept, units_of}
+use Rattle.glk_streams.specs.Coding.{bytes_kept, units_of}
 use Rattle.glk_streams.specs.FileRefs.{style_of}
-use Rattle.glk_streams.specs.Files.{kind_of}
+use Rattle.glk_streams.specs.Files.{file_kind}
 use Rattle.glk_streams.specs.Names.{cleaned, before_period}
 use Rattle.glk_streams.specs.Output.{address_of}
 use Rattle.glk_streams.specs.Position.{away}
@@ -33,27 +33,27 @@ pub a_question_mark_goes : cleaned (codes "x?y") ≡ codes "xy"
 unfolding before_period
 a_question_mark_goes = refl
 
-pub utf8_of_e_acute : kept Utf8 0xE9 ≡ 0xC3 ∷ 0xA9 ∷ []
+pub utf8_of_e_acute : bytes_kept Utf8 0xE9 ≡ 0xC3 ∷ 0xA9 ∷ []
 unfolding encode_utf8
 utf8_of_e_acute = refl
 
-pub byte_of_e_acute : kept Latin1 0xE9 ≡ 0xE9 ∷ []
+pub byte_of_e_acute : bytes_kept Latin1 0xE9 ≡ 0xE9 ∷ []
 byte_of_e_acute = refl
 
-pub byte_of_a_wide_code : kept Latin1 0x100 ≡ 0x3F ∷ []
+pub byte_of_a_wide_code : bytes_kept Latin1 0x100 ≡ 0x3F ∷ []
 byte_of_a_wide_code = refl
 
-pub utf8_of_a_surrogate : kept Utf8 0xD800 ≡ 0x3F ∷ []
+pub utf8_of_a_surrogate : bytes_kept Utf8 0xD800 ≡ 0x3F ∷ []
 unfolding encode_utf8
 utf8_of_a_surrogate = refl
 
-pub words_have_four_bytes : kept Utf32 0xE9 ≡ 0 ∷ 0 ∷ 0 ∷ 0xE9 ∷ []
+pub words_have_four_bytes : bytes_kept Utf32 0xE9 ≡ 0 ∷ 0 ∷ 0 ∷ 0xE9 ∷ []
 words_have_four_bytes = refl
 
 pub three_bytes_are_no_word : units_of Utf32 (1 ∷ 2 ∷ 3 ∷ []) ≡ 0
 three_bytes_are_no_word = refl
 
-pub a_saved_game_in_text_mode : kind_of 0x101 ≡ 1
+pub a_saved_game_in_text_mode : file_kind 0x101 ≡ 1
 a_saved_game_in_text_mode = refl
 
 pub style_eleven_is_normal : style_of 11 ≡ 0

@@ -8,12 +8,12 @@ use Rattle.glk_numbers.specs.Numbered.{found, changed_at, without, ascends}
 use Rattle.glk_streams.specs.declared.file.File.{File}
 use Rattle.glk_streams.specs.declared.stream.Stream.{Stream}
 use Rattle.glk_streams.specs.declared.fileref.FileRef.{FileRef}
-use Rattle.glk_streams.specs.Files.{has_file, content_of, with_bytes, with_file, without_file}
-use Rattle.glk_streams.specs.Files.{holding, bytes_of, may_stand}
-use Rattle.glk_streams.specs.Streams.{StreamTable, no_streams, number_of, ref_number_of, is_window}
+use Rattle.glk_streams.specs.Files.{has_file, content_of, file_with_bytes, with_file, without_file}
+use Rattle.glk_streams.specs.Files.{files_holding, sum_of_bytes, file_may_stand}
+use Rattle.glk_streams.specs.Streams.{StreamTable, no_streams, stream_number, ref_number_of, is_window_target}
 use Rattle.glk_streams.specs.Opening.{count_of}
-use Rattle.glk_streams.specs.Valid.{is_mode, is_sound, are_sound, is_current, is_next, in_order, are_kinds}
-use Rattle.glk_streams.specs.Valid.{are_files, are_streams, are_refs, is_valid}
+use Rattle.glk_streams.specs.Valid.{is_mode, is_sound_stream, are_sound_streams, is_current, is_next, files_in_order, are_kinds}
+use Rattle.glk_streams.specs.Valid.{are_files, are_streams, are_refs, are_valid_streams}
 use Rattle.glk_streams.proofs.ValidLemmas.{in_order-bytes, in_order-file, in_order-without}
 use Rattle.glk_streams.proofs.ValidLemmas.{kinds-bytes, kinds-file, kinds-without, length-bytes}
 use Rattle.glk_streams.proofs.ValidLemmas.{length-file, length-without, bytes-bytes, bytes-file}
@@ -27,10 +27,10 @@ pub both : (x y : Bool) → x ≡ true → y ≡ true → (x && y) ≡ true
 both x y a b = λ i. a i && b i
 
 pub record Files (fs : List File) : Type 0 where
-  pub order : in_order fs ≡ true
+  pub order : files_in_order fs ≡ true
   pub kinds : are_kinds fs ≡ true
   pub count : nat_le (length fs) 64 ≡ true
-  pub bytes : nat_le (bytes_of fs) 1048576 ≡ true
+  pub bytes : nat_le (sum_of_bytes fs) 1048576 ≡ true
 
 pub files_of : (fs : List File) → are_files fs ≡ true → Files fs
 files_of fs h =
@@ -44,12 +44,12 @@ of_files fs f = both _ _ (both _ _ (both _ _ f.order f.kinds) f.count) f.bytes
 
 held-as : (fs : List File) (u : ℕ) (n b : List ℕ) (s : Bool) → has_file fs u n ≡ s
     → are_files fs ≡ true
-    → may_stand fs u n ≡ true → (s ≡ false → content_of fs u n ≡ [])
-    → bytes_of fs + length b ≤ 1048576 + length (content_of fs u n)
-    → are_files (holding fs u n b) ≡ true
+    → file_may_stand fs u n ≡ true → (s ≡ false → content_of fs u n ≡ [])
+    → sum_of_bytes fs + length b ≤ 1048576 + length (content_of fs u n)
+    → are_files (files_holding fs u n b) ≡ true
 held-as fs u n b true e h m z l =
     let f = files_of fs h in
-    rw e (of_files (with_bytes fs u n b) (record {
+    rw e (of_files (file_with_bytes fs u n b) (record {
       order = in_order-bytes fs u n b ∙ f.order;
       kinds = kinds-bytes fs u n b ∙ f.kinds;
       count = rw (length-bytes fs u n b) f.count;
@@ -72,9 +72,9 @@ no-content [] u n h = refl
 no-content (f ∷ fs) u n h = grind (arith, common_steps, h, no-content fs u n)
 
 pub files-held : (fs : List File) (u : ℕ) (n b : List ℕ) → are_files fs ≡ true
-    → may_stand fs u n ≡ true
-    → bytes_of fs + length b ≤ 1048576 + length (content_of fs u n)
-    → are_files (holding fs u n b) ≡ true
+    → file_may_stand fs u n ≡ true
+    → sum_of_bytes fs + length b ≤ 1048576 + length (content_of fs u n)
+    → are_files (files_holding fs u n b) ≡ true
 files-held fs u n b h m l = held-as fs u n b (has_file fs u n) refl h m (no-content fs u n) l
 
 pub files-without : (fs : List File) (u : ℕ) (n : List ℕ) → are_files fs ≡ true
@@ -92,8 +92,8 @@ files-without fs u n h =
 
 pub record Held (next current : ℕ) (ss : List Stream) : Type 0 where
   pub next_is : is_next next ≡ true
-  pub order : ascends number_of 0 next ss ≡ true
-  pub modes : are_sound ss ≡ true
+  pub order : ascends stream_number 0 next ss ≡ true
+  pub modes : are_sound_streams ss ≡ true
   pub count : nat_le (count_of ss) 64 ≡ true
   pub live : is_current ss current ≡ true
 
@@ -123,56 +123,56 @@ next-some next h = grind (arith, common_steps, h)
 
 pub streams-more : (next current : ℕ) (ss : List Stream) (v : Stream)
     → are_streams next current ss ≡ true
-    → next ≤ 4294967294 → v.number ≡ next → is_sound v ≡ true
+    → next ≤ 4294967294 → v.number ≡ next → is_sound_stream v ≡ true
     → count_of (ss ++ v ∷ []) ≤ 64
     → are_streams (next + 1) current (ss ++ v ∷ []) ≡ true
 streams-more next current ss v h l e m k =
     let s = held_of next current ss h in
     of_held (next + 1) current (ss ++ v ∷ []) (record {
       next_is = next-more next s.next_is l;
-      order = ascends-more number_of ss 0 next v (next-some next s.next_is) e s.order;
+      order = ascends-more stream_number ss 0 next v (next-some next s.next_is) e s.order;
       modes = modes-more ss v s.modes m;
       count = grind (arith, common_steps, k);
-      live = or-then _ _ _ s.live (has-more number_of ss v current);
+      live = or-then _ _ _ s.live (has-more stream_number ss v current);
     })
 
 pub streams-changed : (next current : ℕ) (ss : List Stream) (n : ℕ) (s v : Stream)
-    → found number_of ss n ≡ Some s
+    → found stream_number ss n ≡ Some s
     → v.number ≡ s.number → v.target ≡ s.target → v.mode ≡ s.mode
     → (nat_le s.style 10 ≡ true → nat_le v.style 10 ≡ true)
     → are_streams next current ss ≡ true
-    → are_streams next current (changed_at number_of (λ _. v) ss n) ≡ true
+    → are_streams next current (changed_at stream_number (λ _. v) ss n) ≡ true
 streams-changed next current ss n s v f e t m y h =
     let r = held_of next current ss h in
-    let num : v.number ≡ n = e ∙ number-found number_of ss n s f in
+    let num : v.number ≡ n = e ∙ number-found stream_number ss n s f in
     let was = and_parts (is_mode s.target s.mode) (nat_le s.style 10)
     (mode-found ss n s f r.modes) in
     let kind : is_mode v.target v.mode ≡ true = rw (t, m) was.0 in
-    let mode : is_sound v ≡ true =
+    let mode : is_sound_stream v ≡ true =
     both (is_mode v.target v.mode) (nat_le v.style 10) kind (y was.1) in
-    of_held next current (changed_at number_of (λ _. v) ss n) (record {
+    of_held next current (changed_at stream_number (λ _. v) ss n) (record {
       next_is = r.next_is;
-      order = ascends-changed number_of ss 0 next n v num ∙ r.order;
+      order = ascends-changed stream_number ss 0 next n v num ∙ r.order;
       modes = modes-changed ss n v mode r.modes;
-      count = rw (count-changed ss n s v f (ap is_window t)) r.count;
-      live = or-then _ _ _ r.live (λ live. has-changed number_of ss n current v num ∙ live);
+      count = rw (count-changed ss n s v f (ap is_window_target t)) r.count;
+      live = or-then _ _ _ r.live (λ live. has-changed stream_number ss n current v num ∙ live);
     })
 
 without-current : (ss : List Stream) (n current : ℕ) (s : Bool) → (current == n) ≡ s
     → is_current ss current ≡ true
-    → is_current (without number_of ss n) (cond s 0 current) ≡ true
+    → is_current (without stream_number ss n) (cond s 0 current) ≡ true
 without-current ss n current true e h = refl
 without-current ss n current false e h =
-    or-then _ _ _ h (λ live. has-without number_of ss n current (grind (arith, e)) ∙ live)
+    or-then _ _ _ h (λ live. has-without stream_number ss n current (grind (arith, e)) ∙ live)
 
 pub streams-without : (next current : ℕ) (ss : List Stream) (n : ℕ)
     → are_streams next current ss ≡ true
-    → are_streams next (cond (current == n) 0 current) (without number_of ss n) ≡ true
+    → are_streams next (cond (current == n) 0 current) (without stream_number ss n) ≡ true
 streams-without next current ss n h =
     let r = held_of next current ss h in
-    of_held next (cond (current == n) 0 current) (without number_of ss n) (record {
+    of_held next (cond (current == n) 0 current) (without stream_number ss n) (record {
       next_is = r.next_is;
-      order = ascends-without number_of ss 0 next n r.order;
+      order = ascends-without stream_number ss 0 next n r.order;
       modes = modes-without ss n r.modes;
       count = grind (arith, common_steps, count-without ss n, r.count);
       live = without-current ss n current (current == n) refl r.live;
@@ -216,15 +216,15 @@ pub record Parts (t : StreamTable) : Type 0 where
   pub refs : are_refs t.next_ref t.refs ≡ true
   pub files : are_files t.files ≡ true
 
-pub parts_of : (t : StreamTable) → is_valid t ≡ true → Parts t
+pub parts_of : (t : StreamTable) → are_valid_streams t ≡ true → Parts t
 parts_of t h =
     let a = and_parts _ _ h in
     let b = and_parts _ _ a.0 in
     record { streams = b.0; refs = b.1; files = a.1 }
 
-pub of_parts : (t : StreamTable) → Parts t → is_valid t ≡ true
+pub of_parts : (t : StreamTable) → Parts t → are_valid_streams t ≡ true
 of_parts t p = both _ _ (both _ _ p.streams p.refs) p.files
 
-pub begins : is_valid no_streams ≡ true
-unfolding are_sound ascends in_order are_kinds count_of bytes_of
+pub begins : are_valid_streams no_streams ≡ true
+unfolding are_sound_streams ascends files_in_order are_kinds count_of sum_of_bytes
 begins = refl

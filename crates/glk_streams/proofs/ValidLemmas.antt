@@ -10,11 +10,11 @@ use Rattle.std.specs.Cmp.Lexicographic.{slice_cmp, nat_list_cmp_total}
 use Rattle.glk_numbers.specs.Numbered.{has, found, changed_at, without, ascends}
 use Rattle.glk_streams.specs.declared.file.File.{File}
 use Rattle.glk_streams.specs.declared.stream.Stream.{Stream}
-use Rattle.glk_streams.specs.Files.{key_of, file_key, is_named, stands_before, has_file, content_of}
-use Rattle.glk_streams.specs.Files.{with_bytes, with_file, without_file, bytes_of}
-use Rattle.glk_streams.specs.Streams.{number_of, is_window}
+use Rattle.glk_streams.specs.Files.{key_of_file, file_key, is_named, stands_before, has_file, content_of}
+use Rattle.glk_streams.specs.Files.{file_with_bytes, with_file, without_file, sum_of_bytes}
+use Rattle.glk_streams.specs.Streams.{stream_number, is_window_target}
 use Rattle.glk_streams.specs.Opening.{count_of}
-use Rattle.glk_streams.specs.Valid.{is_sound, are_sound, is_first, in_order, are_kinds}
+use Rattle.glk_streams.specs.Valid.{is_sound_stream, are_sound_streams, is_first, files_in_order, are_kinds}
 
 pub or_parts : (x y : Bool) → (x || y) ≡ false → (x ≡ false) × (y ≡ false)
 or_parts true y e = absurd (grind (arith, e))
@@ -33,10 +33,10 @@ turned Equal a b = absurd (grind (arith, a))
 turned Greater a b = refl
 
 is_above : (u : ℕ) (n : List ℕ) (f : File) → is_named u n f ≡ false → stands_before u n f ≡ false
-    → is_lt (slice_cmp nat_cmp (file_key f) (key_of u n)) ≡ true
+    → is_lt (slice_cmp nat_cmp (file_key f) (key_of_file u n)) ≡ true
 is_above u n f a b =
-    ap is_lt (nat_list_cmp_total.antisymm (file_key f) (key_of u n))
-    ∙ turned (slice_cmp nat_cmp (key_of u n) (file_key f)) a b
+    ap is_lt (nat_list_cmp_total.antisymm (file_key f) (key_of_file u n))
+    ∙ turned (slice_cmp nat_cmp (key_of_file u n) (file_key f)) a b
 
 less-trans : (x y z : List ℕ) → is_lt (slice_cmp nat_cmp x y) ≡ true
     → is_lt (slice_cmp nat_cmp y z) ≡ true
@@ -48,8 +48,8 @@ less-trans x y z a b =
 -- files
 
 first-bytes : (f : File) (fs : List File) (u : ℕ) (n b : List ℕ)
-    → is_first f (with_bytes fs u n b) ≡ is_first f fs
-unfolding with_bytes
+    → is_first f (file_with_bytes fs u n b) ≡ is_first f fs
+unfolding file_with_bytes
 first-bytes f [] u n b = refl
 first-bytes f (g ∷ gs) u n b = grind (arith, common_steps)
 
@@ -59,15 +59,15 @@ first-same f [] b = refl
 first-same f (g ∷ gs) b = refl
 
 bytes-step : (f : File) (fs : List File) (u : ℕ) (n b : List ℕ) (s : Bool) → is_named u n f ≡ s
-    → in_order (with_bytes fs u n b) ≡ in_order fs
-    → in_order (with_bytes (f ∷ fs) u n b) ≡ in_order (f ∷ fs)
-unfolding in_order with_bytes
-bytes-step f fs u n b true e h = rw e (ap (λ x. x && in_order fs) (first-same f fs b))
+    → files_in_order (file_with_bytes fs u n b) ≡ files_in_order fs
+    → files_in_order (file_with_bytes (f ∷ fs) u n b) ≡ files_in_order (f ∷ fs)
+unfolding files_in_order file_with_bytes
+bytes-step f fs u n b true e h = rw e (ap (λ x. x && files_in_order fs) (first-same f fs b))
 bytes-step f fs u n b false e h = rw e (λ i. first-bytes f fs u n b i && h i)
 
 pub in_order-bytes : (fs : List File) (u : ℕ) (n b : List ℕ)
-    → in_order (with_bytes fs u n b) ≡ in_order fs
-unfolding in_order with_bytes
+    → files_in_order (file_with_bytes fs u n b) ≡ files_in_order fs
+unfolding files_in_order file_with_bytes
 in_order-bytes [] u n b = refl
 in_order-bytes (f ∷ fs) u n b =
     bytes-step f fs u n b (is_named u n f) refl (in_order-bytes fs u n b)
@@ -78,20 +78,20 @@ first-second f g [] a b = refl
 first-second f g (h ∷ hs) a b = less-trans (file_key f) (file_key g) (file_key h) a b
 
 first-without : (f : File) (fs : List File) (u : ℕ) (n : List ℕ) → is_first f fs ≡ true
-    → in_order fs ≡ true
+    → files_in_order fs ≡ true
     → is_first f (without_file fs u n) ≡ true
-unfolding in_order without_file
+unfolding files_in_order without_file
 first-without f [] u n a b = refl
 first-without f (g ∷ gs) u n a b =
-    let parts = and_parts (is_first g gs) (in_order gs) b in
+    let parts = and_parts (is_first g gs) (files_in_order gs) b in
     grind (arith, common_steps, a, first-second f g gs a parts.0)
 
-pub in_order-without : (fs : List File) (u : ℕ) (n : List ℕ) → in_order fs ≡ true
-    → in_order (without_file fs u n) ≡ true
-unfolding in_order without_file
+pub in_order-without : (fs : List File) (u : ℕ) (n : List ℕ) → files_in_order fs ≡ true
+    → files_in_order (without_file fs u n) ≡ true
+unfolding files_in_order without_file
 in_order-without [] u n a = refl
 in_order-without (f ∷ fs) u n a =
-    let parts = and_parts (is_first f fs) (in_order fs) a in
+    let parts = and_parts (is_first f fs) (files_in_order fs) a in
     grind (
       arith,
       common_steps,
@@ -102,27 +102,27 @@ in_order-without (f ∷ fs) u n a =
     )
 
 first-file : (f : File) (fs : List File) (u : ℕ) (n b : List ℕ) → is_first f fs ≡ true
-    → is_lt (slice_cmp nat_cmp (file_key f) (key_of u n)) ≡ true
+    → is_lt (slice_cmp nat_cmp (file_key f) (key_of_file u n)) ≡ true
     → is_first f (with_file fs u n b) ≡ true
 unfolding with_file
 first-file f [] u n b a h = h
 first-file f (g ∷ gs) u n b a h = grind (arith, common_steps, a, h)
 
 file-step : (f : File) (fs : List File) (u : ℕ) (n b : List ℕ) (s : Bool) → stands_before u n f ≡ s
-    → is_first f fs ≡ true → in_order fs ≡ true → is_named u n f ≡ false
-    → in_order (with_file fs u n b) ≡ true → in_order (with_file (f ∷ fs) u n b) ≡ true
-unfolding in_order with_file
+    → is_first f fs ≡ true → files_in_order fs ≡ true → is_named u n f ≡ false
+    → files_in_order (with_file fs u n b) ≡ true → files_in_order (with_file (f ∷ fs) u n b) ≡ true
+unfolding files_in_order with_file
 file-step f fs u n b true e a o other h = rw e (grind (arith, common_steps, a, o, e))
 file-step f fs u n b false e a o other h =
     rw e (grind (arith, common_steps, h, first-file f fs u n b a (is_above u n f other e)))
 
-pub in_order-file : (fs : List File) (u : ℕ) (n b : List ℕ) → in_order fs ≡ true
+pub in_order-file : (fs : List File) (u : ℕ) (n b : List ℕ) → files_in_order fs ≡ true
     → has_file fs u n ≡ false
-    → in_order (with_file fs u n b) ≡ true
-unfolding in_order with_file has_file
+    → files_in_order (with_file fs u n b) ≡ true
+unfolding files_in_order with_file has_file
 in_order-file [] u n b a h = refl
 in_order-file (f ∷ fs) u n b a h =
-    let parts = and_parts (is_first f fs) (in_order fs) a in
+    let parts = and_parts (is_first f fs) (files_in_order fs) a in
     let apart = or_parts (is_named u n f) (has_file fs u n) h in
     file-step f fs u n b (stands_before u n f) refl parts.0 parts.1 apart.0
     (in_order-file fs u n b parts.1 apart.1)
@@ -130,8 +130,8 @@ in_order-file (f ∷ fs) u n b a h =
 -- kinds and sums
 
 pub kinds-bytes : (fs : List File) (u : ℕ) (n b : List ℕ)
-    → are_kinds (with_bytes fs u n b) ≡ are_kinds fs
-unfolding are_kinds with_bytes
+    → are_kinds (file_with_bytes fs u n b) ≡ are_kinds fs
+unfolding are_kinds file_with_bytes
 kinds-bytes [] u n b = refl
 kinds-bytes (f ∷ fs) u n b = grind (arith, common_steps, kinds-bytes fs u n b)
 
@@ -148,8 +148,8 @@ kinds-file [] u n b a = grind (arith, common_steps)
 kinds-file (f ∷ fs) u n b a = grind (arith, common_steps, a, kinds-file fs u n b)
 
 pub length-bytes : (fs : List File) (u : ℕ) (n b : List ℕ)
-    → length (with_bytes fs u n b) ≡ length fs
-unfolding with_bytes
+    → length (file_with_bytes fs u n b) ≡ length fs
+unfolding file_with_bytes
 length-bytes [] u n b = refl
 length-bytes (f ∷ fs) u n b = grind (arith, common_steps, length-bytes fs u n b)
 
@@ -166,20 +166,20 @@ length-without [] u n = omega arith
 length-without (f ∷ fs) u n = grind (arith, common_steps, length-without fs u n)
 
 pub bytes-bytes : (fs : List File) (u : ℕ) (n b : List ℕ) → has_file fs u n ≡ true
-    → bytes_of (with_bytes fs u n b) + length (content_of fs u n) ≡ bytes_of fs + length b
-unfolding with_bytes has_file content_of bytes_of
+    → sum_of_bytes (file_with_bytes fs u n b) + length (content_of fs u n) ≡ sum_of_bytes fs + length b
+unfolding file_with_bytes has_file content_of sum_of_bytes
 bytes-bytes [] u n b h = absurd (grind (arith, h))
 bytes-bytes (f ∷ fs) u n b h = grind (arith, common_steps, h, bytes-bytes fs u n b)
 
 pub bytes-file : (fs : List File) (u : ℕ) (n b : List ℕ)
-    → bytes_of (with_file fs u n b) ≡ bytes_of fs + length b
-unfolding with_file bytes_of
+    → sum_of_bytes (with_file fs u n b) ≡ sum_of_bytes fs + length b
+unfolding with_file sum_of_bytes
 bytes-file [] u n b = grind (arith, common_steps)
 bytes-file (f ∷ fs) u n b = grind (arith, common_steps, bytes-file fs u n b)
 
 pub bytes-without : (fs : List File) (u : ℕ) (n : List ℕ)
-    → bytes_of (without_file fs u n) ≤ bytes_of fs
-unfolding without_file bytes_of
+    → sum_of_bytes (without_file fs u n) ≤ sum_of_bytes fs
+unfolding without_file sum_of_bytes
 bytes-without [] u n = omega arith
 bytes-without (f ∷ fs) u n = grind (arith, common_steps, bytes-without fs u n)
 
@@ -251,41 +251,41 @@ module _ {X : Type 0} (number : X → ℕ) where
 
 -- modes and the count
 
-pub modes-changed : (ss : List Stream) (n : ℕ) (v : Stream) → is_sound v ≡ true
-    → are_sound ss ≡ true
-    → are_sound (changed_at number_of (λ _. v) ss n) ≡ true
-unfolding are_sound changed_at
+pub modes-changed : (ss : List Stream) (n : ℕ) (v : Stream) → is_sound_stream v ≡ true
+    → are_sound_streams ss ≡ true
+    → are_sound_streams (changed_at stream_number (λ _. v) ss n) ≡ true
+unfolding are_sound_streams changed_at
 modes-changed [] n v m a = refl
 modes-changed (s ∷ ss) n v m a = grind (arith, common_steps, m, a, modes-changed ss n v m)
 
-pub mode-found : (ss : List Stream) (n : ℕ) (s : Stream) → found number_of ss n ≡ Some s
-    → are_sound ss ≡ true
-    → is_sound s ≡ true
-unfolding are_sound found
+pub mode-found : (ss : List Stream) (n : ℕ) (s : Stream) → found stream_number ss n ≡ Some s
+    → are_sound_streams ss ≡ true
+    → is_sound_stream s ≡ true
+unfolding are_sound_streams found
 mode-found [] n s e a = absurd (grind (arith, e))
 mode-found (x ∷ ss) n s e a = grind (arith, common_steps, e, a, mode-found ss n s)
 
-pub modes-without : (ss : List Stream) (n : ℕ) → are_sound ss ≡ true
-    → are_sound (without number_of ss n) ≡ true
-unfolding are_sound without
+pub modes-without : (ss : List Stream) (n : ℕ) → are_sound_streams ss ≡ true
+    → are_sound_streams (without stream_number ss n) ≡ true
+unfolding are_sound_streams without
 modes-without [] n a = refl
 modes-without (s ∷ ss) n a = grind (arith, common_steps, a, modes-without ss n)
 
-pub modes-more : (ss : List Stream) (v : Stream) → are_sound ss ≡ true
-    → is_sound v ≡ true
-    → are_sound (ss ++ v ∷ []) ≡ true
-unfolding are_sound
+pub modes-more : (ss : List Stream) (v : Stream) → are_sound_streams ss ≡ true
+    → is_sound_stream v ≡ true
+    → are_sound_streams (ss ++ v ∷ []) ≡ true
+unfolding are_sound_streams
 modes-more [] v a m = grind (arith, common_steps, m)
 modes-more (s ∷ ss) v a m = grind (arith, common_steps, a, m, modes-more ss v)
 
-pub count-changed : (ss : List Stream) (n : ℕ) (s v : Stream) → found number_of ss n ≡ Some s
-    → is_window v.target ≡ is_window s.target
-    → count_of (changed_at number_of (λ _. v) ss n) ≡ count_of ss
+pub count-changed : (ss : List Stream) (n : ℕ) (s v : Stream) → found stream_number ss n ≡ Some s
+    → is_window_target v.target ≡ is_window_target s.target
+    → count_of (changed_at stream_number (λ _. v) ss n) ≡ count_of ss
 unfolding count_of changed_at found
 count-changed [] n s v e w = refl
 count-changed (x ∷ ss) n s v e w = grind (arith, common_steps, e, w, count-changed ss n s v)
 
-pub count-without : (ss : List Stream) (n : ℕ) → count_of (without number_of ss n) ≤ count_of ss
+pub count-without : (ss : List Stream) (n : ℕ) → count_of (without stream_number ss n) ≤ count_of ss
 unfolding count_of without
 count-without [] n = omega arith
 count-without (s ∷ ss) n = grind (arith, common_steps, count-without ss n)
@@ -295,7 +295,7 @@ unfolding count_of
 count-more [] v = grind (arith, common_steps)
 count-more (s ∷ ss) v = grind (arith, common_steps, count-more ss v)
 
-pub count-window : (ss : List Stream) (v : Stream) → is_window v.target ≡ true
+pub count-window : (ss : List Stream) (v : Stream) → is_window_target v.target ≡ true
     → count_of (ss ++ v ∷ []) ≡ count_of ss
 unfolding count_of
 count-window [] v w = grind (arith, common_steps, w)

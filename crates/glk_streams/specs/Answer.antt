@@ -5,12 +5,6 @@ use Rattle.glk_streams.specs.declared.fault.StreamStop.{StreamStop}
 use Rattle.glk_streams.specs.declared.fault.StreamStop.TheVariants.{Memory, BadObject, BadArgument}
 use Rattle.glk_streams.specs.declared.fault.StreamStop.TheVariants.{NoMemory}
 
-infixl 10 ◌>>=◌
--- one step and then the next, up to the first that is refused
-abbrev pub ◌>>=◌ : {A B E : Type 0} → Result A E → (A → Result B E) → Result B E
-(Ok x) >>= f = f x
-(Err e) >>= f = Err e
-
 -- a step of memory among those of streams
 abbrev pub of_memory : {A : Type 0} → Result A MemFault → Result A StreamStop
 of_memory (Ok x) = Ok x
@@ -23,43 +17,43 @@ live None f = Err BadObject
 live (Some x) f = f x
 
 -- want of the host's memory is answered at any place
-abbrev pub Refuses : {A : Type 0} → Result A StreamStop → StreamStop → Type 0
-Refuses should (Memory f) = should ≡ Err (Memory f)
-Refuses should BadObject = should ≡ Err BadObject
-Refuses should BadArgument = should ≡ Err BadArgument
-Refuses should NoMemory = Unit {0}
+abbrev pub RefusesStreamCall : {A : Type 0} → Result A StreamStop → StreamStop → Type 0
+RefusesStreamCall should (Memory f) = should ≡ Err (Memory f)
+RefusesStreamCall should BadObject = should ≡ Err BadObject
+RefusesStreamCall should BadArgument = should ≡ Err BadArgument
+RefusesStreamCall should NoMemory = Unit {0}
 
 -- The call left new and answered this, as it should.
 abbrev pub Yields : {S A : Type 0} → S × A → S → A → Type 0
 Yields should new x = should ≡ (new, x)
 
 -- The call answered as it should.
-abbrev pub Answers : {A : Type 0} → Result A StreamStop → Result A StreamStop → Type 0
-Answers should (Ok x) = should ≡ Ok x
-Answers should (Err e) = Refuses should e
+abbrev pub AnswersOfStreams : {A : Type 0} → Result A StreamStop → Result A StreamStop → Type 0
+AnswersOfStreams should (Ok x) = should ≡ Ok x
+AnswersOfStreams should (Err e) = RefusesStreamCall should e
 
 -- The call answered and left new, as it should.
-abbrev pub Gives : {S A : Type 0} → Result (S × A) StreamStop → S → Result A StreamStop
+abbrev pub GivesWithStreams : {S A : Type 0} → Result (S × A) StreamStop → S → Result A StreamStop
     → Type 0
-Gives should new (Ok x) = should ≡ Ok (new, x)
-Gives should new (Err e) = Refuses should e
+GivesWithStreams should new (Ok x) = should ≡ Ok (new, x)
+GivesWithStreams should new (Err e) = RefusesStreamCall should e
 
 -- The same of a call that answers nothing.
-abbrev pub Leaves : {S A : Type 0} → Result S StreamStop → S → Result A StreamStop → Type 0
-Leaves should new (Ok x) = should ≡ Ok new
-Leaves should new (Err e) = Refuses should e
+abbrev pub LeavesStreams : {S A : Type 0} → Result S StreamStop → S → Result A StreamStop → Type 0
+LeavesStreams should new (Ok x) = should ≡ Ok new
+LeavesStreams should new (Err e) = RefusesStreamCall should e
 
 -- The same of a call that changes two values and answers a third.
-abbrev pub Puts : {S T A : Type 0}
+abbrev pub GivesWithStreamsAndMemory : {S T A : Type 0}
     → Result (S × T × A) StreamStop → S → T → Result A StreamStop → Type 0
-Puts should new also (Ok x) = should ≡ Ok (new, also, x)
-Puts should new also (Err e) = Refuses should e
+GivesWithStreamsAndMemory should new also (Ok x) = should ≡ Ok (new, also, x)
+GivesWithStreamsAndMemory should new also (Err e) = RefusesStreamCall should e
 
 -- The same of a call that changes two values.
 abbrev pub LeavesBoth : {S T A : Type 0}
     → Result (S × T) StreamStop → S → T → Result A StreamStop → Type 0
 LeavesBoth should new also (Ok x) = should ≡ Ok (new, also)
-LeavesBoth should new also (Err e) = Refuses should e
+LeavesBoth should new also (Err e) = RefusesStreamCall should e
 
 -- The call takes no memory, so it isn't refused for want of it.
 abbrev pub TakesNoMemory : {A : Type 0} → Result A StreamStop → Type 0

@@ -6,7 +6,7 @@ use Rattle.std.specs.Char.{encode_utf8}
 use Rattle.byteorder.specs.Endian.{big_bytes}
 use Rattle.bstr.specs.Utf8.{decoded}
 use Rattle.vm_memory.specs.MemoryMap.{number_at}
-use Rattle.glk_streams.specs.Files.{is_text}
+use Rattle.glk_streams.specs.Files.{has_text_mode}
 use Rattle.glk_streams.specs.declared.stream.Target.{Target}
 use Rattle.glk_streams.specs.declared.stream.Target.TheVariants.{Window, Memory, File}
 use Rattle.glk_streams.specs.declared.coding.Coding.{Coding}
@@ -18,7 +18,7 @@ use Rattle.glk_streams.specs.declared.coding.Coding.TheVariants.{Latin1, Utf8, U
 abbrev pub wide_coding : Target → Coding
 wide_coding (Window win) = Utf32
 wide_coding (Memory buf len) = Utf32
-wide_coding (File usage name) = if is_text usage then Utf8 else Utf32
+wide_coding (File usage name) = if has_text_mode usage then Utf8 else Utf32
 
 abbrev pub coding_of : Bool → Target → Coding
 coding_of unicode target = if unicode then wide_coding target else Latin1
@@ -36,8 +36,8 @@ bytes_in Utf8 code = encode_utf8 code
 bytes_in Utf32 code = big_bytes 4 code
 
 -- the bytes that are kept for a code
-abbrev pub kept : Coding → ℕ → List ℕ
-kept c code = bytes_in c (kept_code c code)
+abbrev pub bytes_kept : Coding → ℕ → List ℕ
+bytes_kept c code = bytes_in c (kept_code c code)
 
 -- how many bytes a position counts: a character's, but one in UTF-8
 abbrev pub unit_of : Coding → ℕ
@@ -62,16 +62,16 @@ abbrev pub reading_of : Option ℕ → ℕ → Reading
 reading_of None size = record { code = 0x3F; steps = 1 }
 reading_of (Some c) size = record { code = c; steps = size }
 
-abbrev pub first_of : List ℕ → Reading
-first_of bytes = reading_of (decoded bytes).char (decoded bytes).size
+abbrev pub first_reading : List ℕ → Reading
+first_reading bytes = reading_of (decoded bytes).char (decoded bytes).size
 
 -- the character at a position of a file's bytes; none at their end
-abbrev pub char_at : Coding → List ℕ → ℕ → Option Reading
-char_at Latin1 bytes place =
+abbrev pub character_at : Coding → List ℕ → ℕ → Option Reading
+character_at Latin1 bytes place =
     if nat_lt place (length bytes)
     then Some (record { code = slice_index bytes place; steps = 1 }) else None
-char_at Utf8 bytes place =
-    if nat_lt place (length bytes) then Some (first_of (drop place bytes)) else None
-char_at Utf32 bytes place =
+character_at Utf8 bytes place =
+    if nat_lt place (length bytes) then Some (first_reading (drop place bytes)) else None
+character_at Utf32 bytes place =
     if nat_lt place (length bytes / 4)
     then Some (record { code = number_at 4 bytes (4 * place); steps = 1 }) else None

@@ -6,7 +6,7 @@ use Rattle.glk_numbers.specs.Numbered.{has, without}
 use Rattle.glk_numbers.specs.declared.numbered.TheConstants.{MAX_NUMBER}
 use Rattle.glk_streams.specs.Answer.{live}
 use Rattle.glk_streams.specs.Files.{has_file, without_file}
-use Rattle.glk_streams.specs.Streams.{StreamTable, number_of, ref_number_of, stream_at, ref_at}
+use Rattle.glk_streams.specs.Streams.{StreamTable, stream_number, ref_number_of, stream_at, ref_at}
 use Rattle.glk_streams.specs.Streams.{with_stream}
 use Rattle.glk_streams.specs.declared.fileref.FileRef.{FileRef}
 use Rattle.glk_streams.specs.declared.fileref.TheConstants.{MAX_REFS}
@@ -51,7 +51,7 @@ of_ref (Some r) none have = have r
 -- the current stream is this, or none
 abbrev pub with_current : StreamTable → ℕ → Result StreamTable StreamStop
 with_current t n =
-    if n == 0 || has number_of t.streams n then Ok (record t { current = n }) else Err BadObject
+    if n == 0 || has stream_number t.streams n then Ok (record t { current = n }) else Err BadObject
 
 -- a style above 10 is taken as 0
 abbrev pub style_of : ℕ → ℕ

@@ -11,31 +11,31 @@ use Rattle.glk_streams.specs.declared.file.File.{File}
 use Rattle.glk_streams.specs.declared.file.TheConstants.{MAX_FILES, MAX_FILE_BYTES}
 
 -- a file's kind: data, a saved game, a transcript or input; the bits above don't name it
-abbrev pub kind_of : ℕ → ℕ
-kind_of usage = usage % 16
+abbrev pub file_kind : ℕ → ℕ
+file_kind usage = usage % 16
 
 -- the usage has text mode, 0x100
-abbrev pub is_text : ℕ → Bool
-is_text usage = usage / 256 % 2 == 1
+abbrev pub has_text_mode : ℕ → Bool
+has_text_mode usage = usage / 256 % 2 == 1
 
 -- what names a file: its kind, and then its name's bytes in UTF-8
-abbrev pub key_of : ℕ → List ℕ → List ℕ
-key_of usage name = kind_of usage ∷ encode_utf8_all name
+abbrev pub key_of_file : ℕ → List ℕ → List ℕ
+key_of_file usage name = file_kind usage ∷ encode_utf8_all name
 
 abbrev pub file_key : File → List ℕ
 file_key f = f.usage ∷ encode_utf8_all f.name
 
 -- keys are in order by their first difference
-abbrev pub compared : ℕ → List ℕ → File → Ordering
-compared usage name f = slice_cmp nat_cmp (key_of usage name) (file_key f)
+abbrev pub file_compared : ℕ → List ℕ → File → Ordering
+file_compared usage name f = slice_cmp nat_cmp (key_of_file usage name) (file_key f)
 
 -- this usage and this name are the file's
 abbrev pub is_named : ℕ → List ℕ → File → Bool
-is_named usage name f = is_eq (compared usage name f)
+is_named usage name f = is_eq (file_compared usage name f)
 
 -- a file with this usage and name stands before that file
 abbrev pub stands_before : ℕ → List ℕ → File → Bool
-stands_before usage name f = is_lt (compared usage name f)
+stands_before usage name f = is_lt (file_compared usage name f)
 
 -- where the file with this usage and name stands
 unfoldable pub seat_of : List File → ℕ → List ℕ → Option ℕ
@@ -60,14 +60,14 @@ content_of (f ∷ fs) usage name =
     if is_named usage name f then f.bytes else content_of fs usage name
 
 -- other bytes in the file with this usage and name
-unfoldable pub with_bytes : List File → ℕ → List ℕ → List ℕ → List File
-with_bytes [] usage name bytes = []
-with_bytes (f ∷ fs) usage name bytes =
+unfoldable pub file_with_bytes : List File → ℕ → List ℕ → List ℕ → List File
+file_with_bytes [] usage name bytes = []
+file_with_bytes (f ∷ fs) usage name bytes =
     if is_named usage name f then record f { bytes = bytes } ∷ fs
-    else f ∷ with_bytes fs usage name bytes
+    else f ∷ file_with_bytes fs usage name bytes
 
 abbrev pub file_of : ℕ → List ℕ → List ℕ → File
-file_of usage name bytes = record { usage = kind_of usage; name = name; bytes = bytes }
+file_of usage name bytes = record { usage = file_kind usage; name = name; bytes = bytes }
 
 -- one file more, in its place
 unfoldable pub with_file : List File → ℕ → List ℕ → List ℕ → List File
@@ -77,9 +77,10 @@ with_file (f ∷ fs) usage name bytes =
     else f ∷ with_file fs usage name bytes
 
 -- the files, that with this usage and name holding these bytes; it is made where it isn't there
-abbrev pub holding : List File → ℕ → List ℕ → List ℕ → List File
-holding fs usage name bytes =
-    if has_file fs usage name then with_bytes fs usage name bytes else with_file fs usage name bytes
+abbrev pub files_holding : List File → ℕ → List ℕ → List ℕ → List File
+files_holding fs usage name bytes =
+    if has_file fs usage name then file_with_bytes fs usage name bytes
+    else with_file fs usage name bytes
 
 -- the files without that with this usage and name
 unfoldable pub without_file : List File → ℕ → List ℕ → List File
@@ -88,14 +89,14 @@ without_file (f ∷ fs) usage name =
     if is_named usage name f then fs else f ∷ without_file fs usage name
 
 -- how many bytes the files have in sum
-unfoldable pub bytes_of : List File → ℕ
-bytes_of [] = 0
-bytes_of (f ∷ fs) = length f.bytes + bytes_of fs
+unfoldable pub sum_of_bytes : List File → ℕ
+sum_of_bytes [] = 0
+sum_of_bytes (f ∷ fs) = length f.bytes + sum_of_bytes fs
 
 -- how many bytes the files may still have
 abbrev pub room_of : List File → ℕ
-room_of fs = MAX_FILE_BYTES - bytes_of fs
+room_of fs = MAX_FILE_BYTES - sum_of_bytes fs
 
 -- the file is there, or may be made
-abbrev pub may_stand : List File → ℕ → List ℕ → Bool
-may_stand fs usage name = has_file fs usage name || nat_lt (length fs) MAX_FILES
+abbrev pub file_may_stand : List File → ℕ → List ℕ → Bool
+file_may_stand fs usage name = has_file fs usage name || nat_lt (length fs) MAX_FILES

@@ -1,10 +1,11 @@
 -- What a character that is read does (Glk 0.7.5, "Streams").
 use Rattle.std.specs.Prelude.{ℕ, ◌+◌, ◌%◌, ◌^◌, nat_lt, if◌then◌else◌, Bool}
 use Rattle.std.specs.Prelude.{List, Option, Some, None, Result, Ok, Err}
+use Rattle.vm_memory.specs.Chaining.{◌>>=◌}
 use Rattle.vm_memory.specs.MemoryMap.{MemoryMap}
 use Rattle.vm_memory.specs.Access.{read}
-use Rattle.glk_streams.specs.Answer.{◌>>=◌, live, of_memory}
-use Rattle.glk_streams.specs.Coding.{coding_of, unit_of, char_at}
+use Rattle.glk_streams.specs.Answer.{live, of_memory}
+use Rattle.glk_streams.specs.Coding.{coding_of, unit_of, character_at}
 use Rattle.glk_streams.specs.Files.{content_of}
 use Rattle.glk_streams.specs.Output.{length_of, address_of}
 use Rattle.glk_streams.specs.Streams.{StreamTable, stream_at, with_stream, is_read_mode}
@@ -33,7 +34,7 @@ got_from (from.Window win) unicode fs m place = Err BadArgument
 got_from (from.Memory buf len) unicode fs m place =
     got_from_memory m place buf len (coding_of unicode (from.Memory buf len))
 got_from (from.File usage name) unicode fs m place =
-    Ok (char_at (coding_of unicode (from.File usage name)) (content_of fs usage name) place)
+    Ok (character_at (coding_of unicode (from.File usage name)) (content_of fs usage name) place)
 
 -- a character of a stream that is open for reading
 abbrev pub got_by : List File → MemoryMap → Stream → Result (Option Reading) StreamStop
@@ -45,10 +46,10 @@ abbrev pub passed : Reading → Stream → Stream
 passed r s = record s { read = (s.read + 1) % 2 ^ 32; place = s.place + r.steps }
 
 -- the stream behind the character that was read
-abbrev pub behind : StreamTable → ℕ → Stream → Option Reading → StreamTable × Option ℕ
-behind t n s None = (t, None)
-behind t n s (Some r) = (with_stream t n (passed r s), Some r.code)
+abbrev pub stream_behind : StreamTable → ℕ → Stream → Option Reading → StreamTable × Option ℕ
+stream_behind t n s None = (t, None)
+stream_behind t n s (Some r) = (with_stream t n (passed r s), Some r.code)
 
 -- a character of the stream with this number, which counts it; None at its end
 abbrev pub got : StreamTable → MemoryMap → ℕ → Result (StreamTable × Option ℕ) StreamStop
-got t m n = live (stream_at t n) (λ s. got_by t.files m s >>= (λ r. Ok (behind t n s r)))
+got t m n = live (stream_at t n) (λ s. got_by t.files m s >>= (λ r. Ok (stream_behind t n s r)))

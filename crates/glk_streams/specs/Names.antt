@@ -18,12 +18,12 @@ or_null [] = codes "null"
 or_null (c ∷ cs) = c ∷ cs
 
 -- a name without these characters, cut at the first period and to n characters
-abbrev pub cut : ℕ → List ℕ → List ℕ
-cut n name = take n (before_period (filter (λ c. not (is_taken_out c)) name))
+abbrev pub name_cut : ℕ → List ℕ → List ℕ
+name_cut n name = take n (before_period (filter (λ c. not (is_taken_out c)) name))
 
 -- cut to 64 characters; an empty one is null
 abbrev pub cleaned : List ℕ → List ℕ
-cleaned name = or_null (cut 64 name)
+cleaned name = or_null (name_cut 64 name)
 
 -- the name of a temporary file, by its reference's number
 abbrev pub temporary : ℕ → List ℕ

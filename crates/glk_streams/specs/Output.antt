@@ -2,11 +2,12 @@
 use Rattle.std.specs.Prelude.{ℕ, ◌+◌, ◌-◌, ◌*◌, ◌%◌, ◌^◌, ◌==◌, ◌&&◌}
 use Rattle.std.specs.Prelude.{nat_le, nat_lt, min, if◌then◌else◌, Bool, List, length, Result}
 use Rattle.std.specs.Prelude.{Ok, Err}
+use Rattle.vm_memory.specs.Chaining.{◌>>=◌}
 use Rattle.vm_memory.specs.MemoryMap.{MemoryMap, replaced}
 use Rattle.vm_memory.specs.Access.{written}
-use Rattle.glk_streams.specs.Answer.{◌>>=◌, live, of_memory}
-use Rattle.glk_streams.specs.Coding.{coding_of, kept, kept_code, unit_of, units_of, steps_of}
-use Rattle.glk_streams.specs.Files.{content_of, holding, may_stand, room_of}
+use Rattle.glk_streams.specs.Answer.{live, of_memory}
+use Rattle.glk_streams.specs.Coding.{coding_of, bytes_kept, kept_code, unit_of, units_of, steps_of}
+use Rattle.glk_streams.specs.Files.{content_of, files_holding, file_may_stand, room_of}
 use Rattle.glk_streams.specs.Streams.{StreamTable, stream_at, with_stream, is_write_mode}
 use Rattle.glk_streams.specs.declared.coding.Coding.{Coding}
 use Rattle.glk_streams.specs.declared.file.File.{File}
@@ -17,12 +18,12 @@ use Rattle.glk_streams.specs.declared.fault.StreamStop.{StreamStop}
 use Rattle.glk_streams.specs.declared.fault.StreamStop.TheVariants.{BadArgument}
 
 -- one character more was written
-abbrev pub counted : Stream → Stream
-counted s = record s { written = (s.written + 1) % 2 ^ 32 }
+abbrev pub write_counted : Stream → Stream
+write_counted s = record s { written = (s.written + 1) % 2 ^ 32 }
 
 -- at this position
-abbrev pub placed : ℕ → Stream → Stream
-placed place s = record s { place = place }
+abbrev pub at_position : ℕ → Stream → Stream
+at_position place s = record s { place = place }
 
 -- how many positions a memory stream has: none without a buffer
 abbrev pub length_of : ℕ → ℕ → ℕ
@@ -42,31 +43,33 @@ put_in_memory m place buf len c code =
     else Ok (m, place)
 
 -- a position in a file; one past the end is taken as the end
-abbrev pub held : Coding → List ℕ → ℕ → ℕ
-held c bytes place = min place (units_of c bytes)
+abbrev pub position_held : Coding → List ℕ → ℕ → ℕ
+position_held c bytes place = min place (units_of c bytes)
 
 -- the first of the bytes that stand at a position
-abbrev pub start_of : Coding → List ℕ → ℕ → ℕ
-start_of c bytes place = unit_of c * held c bytes place
+abbrev pub byte_start : Coding → List ℕ → ℕ → ℕ
+byte_start c bytes place = unit_of c * position_held c bytes place
 
 -- the file is there or may be made, and the files have room for what is added
 abbrev pub is_kept : List File → ℕ → List ℕ → ℕ → ℕ → Bool
 is_kept fs usage name at count =
-    may_stand fs usage name && nat_le (at + count - length (content_of fs usage name)) (room_of fs)
+    file_may_stand fs usage name
+    && nat_le (at + count - length (content_of fs usage name)) (room_of fs)
 
 -- bytes put at a place of a file, which is made where it isn't there
-abbrev pub put_at : List File → ℕ → List ℕ → ℕ → List ℕ → List File
-put_at fs usage name at new = holding fs usage name (replaced (content_of fs usage name) at new)
+abbrev pub put_at_place : List File → ℕ → List ℕ → ℕ → List ℕ → List File
+put_at_place fs usage name at new =
+    files_holding fs usage name (replaced (content_of fs usage name) at new)
 
 -- bytes put at a position of a file, and where their stream then stands; they are dropped at the
 -- limits
 abbrev pub put_bytes : List File → ℕ → ℕ → List ℕ → Coding → List ℕ
     → List File × ℕ
 put_bytes fs place usage name c new =
-    if is_kept fs usage name (start_of c (content_of fs usage name) place) (length new)
+    if is_kept fs usage name (byte_start c (content_of fs usage name) place) (length new)
     then (
-      put_at fs usage name (start_of c (content_of fs usage name) place) new,
-      held c (content_of fs usage name) place + steps_of c (length new),
+      put_at_place fs usage name (byte_start c (content_of fs usage name) place) new,
+      position_held c (content_of fs usage name) place + steps_of c (length new),
     )
     else (fs, place)
 
@@ -81,22 +84,27 @@ abbrev pub in_files : MemoryMap → List File × ℕ → Put
 in_files m done = Ok (done.0, m, done.1)
 
 -- a character put where a stream's characters go; one put to a window leaves both as they are
-abbrev pub put_in : Target → Bool → List File → MemoryMap → ℕ → ℕ → Put
-put_in (to.Window win) unicode fs m place code = Ok (fs, m, place)
-put_in (to.Memory buf len) unicode fs m place code =
+abbrev pub put_in_target : Target → Bool → List File → MemoryMap → ℕ → ℕ → Put
+put_in_target (to.Window win) unicode fs m place code = Ok (fs, m, place)
+put_in_target (to.Memory buf len) unicode fs m place code =
     in_memory fs (put_in_memory m place buf len (coding_of unicode (to.Memory buf len)) code)
-put_in (to.File usage name) unicode fs m place code =
+put_in_target (to.File usage name) unicode fs m place code =
     in_files m (put_bytes fs place usage name (coding_of unicode (to.File usage name))
-    (kept (coding_of unicode (to.File usage name)) code))
+    (bytes_kept (coding_of unicode (to.File usage name)) code))
 
 -- a character put to a stream that is open for writing
 abbrev pub put_by : List File → MemoryMap → Stream → ℕ → Put
 put_by fs m s code =
-    if is_write_mode s.mode then put_in s.target s.unicode fs m s.place code else Err BadArgument
+    if is_write_mode s.mode then put_in_target s.target s.unicode fs m s.place code
+    else Err BadArgument
 
 -- a character put to the stream with this number, which counts it
-abbrev pub put : StreamTable → MemoryMap → ℕ → ℕ
+abbrev pub put_on_stream : StreamTable → MemoryMap → ℕ → ℕ
     → Result (StreamTable × MemoryMap) StreamStop
-put t m n code = live (stream_at t n) (λ s. put_by t.files m s code
+put_on_stream t m n code = live (stream_at t n) (λ s. put_by t.files m s code
     >>= (λ done.
-    Ok (with_stream (record t { files = done.0 }) n (counted (placed done.2 s)), done.1)))
+    Ok (
+      with_stream (record t { files = done.0 }) n
+          (write_counted (at_position done.2 s)),
+      done.1,
+    )))

@@ -2,12 +2,12 @@
 use Rattle.std.specs.Prelude.{◌≡◌, ℕ, ◌+◌, nat_lt, Bool, true, ◌≢◌, ◌≤◌}
 use Rattle.std.specs.Prelude.{List, [], ◌∷◌, ◌++◌, length, Some, None, Result, Ok}
 use lib.Utf8.{scalar}
+use Rattle.vm_memory.specs.Chaining.{◌>>=◌}
 use Rattle.vm_memory.specs.MemoryMap.{MemoryMap, replaced}
-use Rattle.glk_streams.specs.Answer.{◌>>=◌}
-use Rattle.glk_streams.specs.Coding.{bytes_in, coding_of, kept, units_of, char_at}
-use Rattle.glk_streams.specs.Files.{bytes_of, content_of, may_stand}
+use Rattle.glk_streams.specs.Coding.{bytes_in, coding_of, bytes_kept, units_of, character_at}
+use Rattle.glk_streams.specs.Files.{sum_of_bytes, content_of, file_may_stand}
 use Rattle.glk_streams.specs.Input.{got}
-use Rattle.glk_streams.specs.Output.{put, start_of}
+use Rattle.glk_streams.specs.Output.{put_on_stream, byte_start}
 use Rattle.glk_streams.specs.Streams.{StreamTable, stream_at, is_read_mode, is_write_mode}
 use Rattle.glk_streams.specs.declared.fault.StreamStop.{StreamStop}
 use Rattle.glk_streams.specs.declared.stream.Stream.{Stream}
@@ -30,24 +30,25 @@ AreHeld c (x ∷ xs) = (has_code c x ≡ true) × AreHeld c xs
 unfoldable pub after_puts : Coding → List ℕ → List ℕ → List ℕ
 after_puts c bytes [] = bytes
 after_puts c bytes (x ∷ xs) =
-    after_puts c (replaced bytes (start_of c bytes (units_of c bytes)) (kept c x)) xs
+    after_puts c (replaced bytes (byte_start c bytes (units_of c bytes)) (bytes_kept c x)) xs
 
 -- these are the characters that are read from a position on, one after the other, to the end
-abbrev pub Reads : Coding → List ℕ → ℕ → List ℕ → Type 0
-Reads c bytes place [] = char_at c bytes place ≡ None
-Reads c bytes place (x ∷ xs) =
-    (steps : ℕ) × (char_at c bytes place ≡ Some (record { code = x; steps = steps }))
-    × Reads c bytes (place + steps) xs
+abbrev pub ReadsCharacters : Coding → List ℕ → ℕ → List ℕ → Type 0
+ReadsCharacters c bytes place [] = character_at c bytes place ≡ None
+ReadsCharacters c bytes place (x ∷ xs) =
+    (steps : ℕ) × (character_at c bytes place ≡ Some (record { code = x; steps = steps }))
+    × ReadsCharacters c bytes (place + steps) xs
 
 -- what is put into an empty file is read from its start, in each coding
-abbrev pub RoundTrip : Type 0
-RoundTrip =
-    (c : Coding) (codes : List ℕ) → AreHeld c codes → Reads c (after_puts c [] codes) 0 codes
+abbrev pub StreamRoundTrip : Type 0
+StreamRoundTrip =
+    (c : Coding) (codes : List ℕ) → AreHeld c codes
+    → ReadsCharacters c (after_puts c [] codes) 0 codes
 
 -- the bytes of the characters, one after the other
-unfoldable pub spelled : Coding → List ℕ → List ℕ
-spelled c [] = []
-spelled c (x ∷ xs) = bytes_in c x ++ spelled c xs
+unfoldable pub bytes_of_characters : Coding → List ℕ → List ℕ
+bytes_of_characters c [] = []
+bytes_of_characters c (x ∷ xs) = bytes_in c x ++ bytes_of_characters c xs
 
 -- a stream in one of these modes, at this position
 pub record IsOpen (allows : ℕ → Bool) (t : StreamTable) (n : ℕ) (target : Target)
@@ -63,13 +64,13 @@ pub record IsOpen (allows : ℕ → Bool) (t : StreamTable) (n : ℕ) (target : 
 unfoldable pub put_all : StreamTable → MemoryMap → ℕ → List ℕ
     → Result (StreamTable × MemoryMap) StreamStop
 put_all t m n [] = Ok (t, m)
-put_all t m n (x ∷ xs) = put t m n x >>= (λ done. put_all done.0 done.1 n xs)
+put_all t m n (x ∷ xs) = put_on_stream t m n x >>= (λ done. put_all done.0 done.1 n xs)
 
 -- a stream gives these characters in turn, and then its end
-abbrev pub Gives : StreamTable → MemoryMap → ℕ → List ℕ → Type 0
-Gives t m n [] = got t m n ≡ Ok (t, None)
-Gives t m n (x ∷ xs) = (after : StreamTable) × (got t m n ≡ Ok (after, Some x))
-    × Gives after m n xs
+abbrev pub GivesCharacters : StreamTable → MemoryMap → ℕ → List ℕ → Type 0
+GivesCharacters t m n [] = got t m n ≡ Ok (t, None)
+GivesCharacters t m n (x ∷ xs) = (after : StreamTable) × (got t m n ≡ Ok (after, Some x))
+    × GivesCharacters after m n xs
 
 -- what is put to one stream on an empty file is what another stream on it then gives, where the
 -- files have room
@@ -79,7 +80,9 @@ ReadsBack =
     (codes : List ℕ)
     → a ≢ b → IsOpen is_write_mode t a (File usage name) unicode 0
     → IsOpen is_read_mode t b (File usage name) unicode 0
-    → content_of t.files usage name ≡ [] → may_stand t.files usage name ≡ true
+    → content_of t.files usage name ≡ [] → file_may_stand t.files usage name ≡ true
     → AreHeld (coding_of unicode (File usage name)) codes
-    → bytes_of t.files + length (spelled (coding_of unicode (File usage name)) codes) ≤ 1048576
-    → (after : StreamTable) × (put_all t m a codes ≡ Ok (after, m)) × Gives after m b codes
+    → sum_of_bytes t.files
+    + length (bytes_of_characters (coding_of unicode (File usage name)) codes) ≤ 1048576
+    → (after : StreamTable) × (put_all t m a codes ≡ Ok (after, m))
+    × GivesCharacters after m b codes

@@ -30,8 +30,8 @@ table_of next current streams next_ref refs files = record {
   files = files;
 }
 
-abbrev pub number_of : Stream → ℕ
-number_of s = s.number
+abbrev pub stream_number : Stream → ℕ
+stream_number s = s.number
 
 abbrev pub ref_number_of : FileRef → ℕ
 ref_number_of r = r.number
@@ -42,7 +42,7 @@ no_streams = record { streams = []; next = 1; current = 0; refs = []; next_ref =
 
 -- the stream with this number
 abbrev pub stream_at : StreamTable → ℕ → Option Stream
-stream_at t n = found number_of t.streams n
+stream_at t n = found stream_number t.streams n
 
 -- the file reference with this number
 abbrev pub ref_at : StreamTable → ℕ → Option FileRef
@@ -50,22 +50,22 @@ ref_at t n = found ref_number_of t.refs n
 
 -- another stream in the place of that with this number
 abbrev pub with_stream : StreamTable → ℕ → Stream → StreamTable
-with_stream t n s = record t { streams = changed_at number_of (λ _. s) t.streams n }
+with_stream t n s = record t { streams = changed_at stream_number (λ _. s) t.streams n }
 
-abbrev pub is_window : Target → Bool
-is_window (Window win) = true
-is_window (Memory buf len) = false
-is_window (File usage name) = false
+abbrev pub is_window_target : Target → Bool
+is_window_target (Window win) = true
+is_window_target (Memory buf len) = false
+is_window_target (File usage name) = false
 
 abbrev pub is_memory : Target → Bool
 is_memory (Window win) = false
 is_memory (Memory buf len) = true
 is_memory (File usage name) = false
 
-abbrev pub is_file : Target → Bool
-is_file (Window win) = false
-is_file (Memory buf len) = false
-is_file (File usage name) = true
+abbrev pub is_file_target : Target → Bool
+is_file_target (Window win) = false
+is_file_target (Memory buf len) = false
+is_file_target (File usage name) = true
 
 -- it is this window's
 abbrev pub is_of_window : ℕ → Target → Bool

@@ -5,9 +5,9 @@ use Rattle.std.specs.Prelude.{[], ◌∷◌, length}
 use Rattle.std.specs.Ordering.{is_lt, nat_cmp}
 use Rattle.std.specs.Cmp.Lexicographic.{slice_cmp}
 use Rattle.glk_numbers.specs.Numbered.{has, ascends}
-use Rattle.glk_streams.specs.Files.{file_key, bytes_of}
+use Rattle.glk_streams.specs.Files.{file_key, sum_of_bytes}
 use Rattle.glk_streams.specs.Opening.{count_of, is_memory_mode, is_file_mode}
-use Rattle.glk_streams.specs.Streams.{StreamTable, number_of, ref_number_of}
+use Rattle.glk_streams.specs.Streams.{StreamTable, stream_number, ref_number_of}
 use Rattle.glk_streams.specs.declared.file.TheConstants.{MAX_FILES, MAX_FILE_BYTES}
 use Rattle.glk_streams.specs.declared.fileref.TheConstants.{MAX_REFS}
 use Rattle.glk_streams.specs.declared.stream.TheConstants.{MAX_STREAMS}
@@ -24,12 +24,12 @@ is_mode (Memory buf len) mode = is_memory_mode mode
 is_mode (File usage name) mode = is_file_mode mode
 
 -- a stream with a mode of its kind, and with one of the eleven styles
-abbrev pub is_sound : Stream → Bool
-is_sound s = is_mode s.target s.mode && nat_le s.style 10
+abbrev pub is_sound_stream : Stream → Bool
+is_sound_stream s = is_mode s.target s.mode && nat_le s.style 10
 
-unfoldable pub are_sound : List Stream → Bool
-are_sound [] = true
-are_sound (s ∷ ss) = is_sound s && are_sound ss
+unfoldable pub are_sound_streams : List Stream → Bool
+are_sound_streams [] = true
+are_sound_streams (s ∷ ss) = is_sound_stream s && are_sound_streams ss
 
 -- the next number is from 1 on, and is one that may be given or the first that may not
 abbrev pub is_next : ℕ → Bool
@@ -37,12 +37,13 @@ is_next n = nat_lt 0 n && nat_le n 4294967295
 
 -- this stream is current: a live one, or none
 abbrev pub is_current : List Stream → ℕ → Bool
-is_current ss current = current == 0 || has number_of ss current
+is_current ss current = current == 0 || has stream_number ss current
 
 -- sound streams by number, at most 64 besides those of windows
 abbrev pub are_streams : ℕ → ℕ → List Stream → Bool
 are_streams next current ss =
-    is_next next && ascends number_of 0 next ss && are_sound ss && nat_le (count_of ss) MAX_STREAMS
+    is_next next && ascends stream_number 0 next ss && are_sound_streams ss
+    && nat_le (count_of ss) MAX_STREAMS
     && is_current ss current
 
 -- at most 64 file references by number
@@ -55,9 +56,9 @@ is_first f [] = true
 is_first f (g ∷ gs) = is_lt (slice_cmp nat_cmp (file_key f) (file_key g))
 
 -- the files' keys ascend, so that they differ by usage or name
-unfoldable pub in_order : List file.File → Bool
-in_order [] = true
-in_order (f ∷ fs) = is_first f fs && in_order fs
+unfoldable pub files_in_order : List file.File → Bool
+files_in_order [] = true
+files_in_order (f ∷ fs) = is_first f fs && files_in_order fs
 
 unfoldable pub are_kinds : List file.File → Bool
 are_kinds [] = true
@@ -66,9 +67,9 @@ are_kinds (f ∷ fs) = nat_lt f.usage 16 && are_kinds fs
 -- at most 64 files in order, of at most 1,048,576 bytes in sum
 abbrev pub are_files : List file.File → Bool
 are_files fs =
-    in_order fs && are_kinds fs && nat_le (length fs) MAX_FILES
-    && nat_le (bytes_of fs) MAX_FILE_BYTES
+    files_in_order fs && are_kinds fs && nat_le (length fs) MAX_FILES
+    && nat_le (sum_of_bytes fs) MAX_FILE_BYTES
 
-abbrev pub is_valid : StreamTable → Bool
-is_valid t =
+abbrev pub are_valid_streams : StreamTable → Bool
+are_valid_streams t =
     are_streams t.next t.current t.streams && are_refs t.next_ref t.refs && are_files t.files

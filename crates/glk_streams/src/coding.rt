@@ -96,7 +96,7 @@ impl Coding {
     #[tactic(auto, using(crate::proofs::CodingLemmas::take_one_set))]
     pub(crate) fn write(self, code: u32, buffer: &mut [u8]) -> &[u8]
         requires { length buffer.old ≡ 4 }
-        ensures value { result.now ≡ coding.kept self code }
+        ensures value { result.now ≡ coding.bytes_kept self code }
         ensures some { 1 ≤ length result.now }
         ensures few { length result.now ≤ 4 }
     {
@@ -119,7 +119,7 @@ impl Coding {
     /// The character at a position of a file's bytes; None at their end.
     pub(crate) fn read(self, bytes: &[u8], place: u32) -> Option<Reading>
         requires { length bytes.now ≤ 1048576 }
-        ensures value { result ≡ coding.char_at self bytes.now place }
+        ensures value { result ≡ coding.character_at self bytes.now place }
         ensures within { IfSome result (λ r. place + r.steps ≤ length bytes.now) }
     {
         let at = place as usize;
@@ -150,7 +150,7 @@ fn latin1(code: u32) -> u8
 /// The first character in UTF-8, or `?` for one byte where the bytes begin with none.
 fn read_utf8(bytes: &[u8]) -> Reading
     requires { 1 ≤ length bytes.now }
-    ensures value { result ≡ coding.first_of bytes.now }
+    ensures value { result ≡ coding.first_reading bytes.now }
     ensures within { result.steps ≤ length bytes.now }
 {
     match first_char(bytes) {

@@ -105,7 +105,7 @@ fn put(bytes: &mut [u8], at: usize, new: &[u8])
 
 /// Whether the usage has text mode, 0x100.
 pub(crate) fn is_text(usage: u32) -> bool
-    ensures { result ≡ files.is_text usage }
+    ensures { result ≡ files.has_text_mode usage }
 {
     usage / 256 % 2 == 1
 }
@@ -113,7 +113,7 @@ pub(crate) fn is_text(usage: u32) -> bool
 impl File {
     /// Whether a file with this usage and name is before this one, is it, or is behind it.
     fn compare(&self, usage: u32, name: &Text) -> Ordering
-        ensures { result ≡ files.compared usage name.now self.now }
+        ensures { result ≡ files.file_compared usage name.now self.now }
     {
         (usage % 16)
             .cmp(&self.usage)
@@ -154,7 +154,7 @@ fn find_file(list: &[File], usage: u32, name: &Text) -> Option<usize>
         (d : File) → files.content_of list.now usage name.now
         ≡ (slice_index_or list.now i d).bytes) }
     ensures changed { IfSome result (λ i. (d : File) (bytes : List ℕ)
-        → files.with_bytes list.now usage name.now bytes
+        → files.file_with_bytes list.now usage name.now bytes
         ≡ slice_set list.now i (record (slice_index_or list.now i d) { bytes = bytes })) }
     ensures left { IfSome result (λ i.
         files.without_file list.now usage name.now ≡ remove list.now i) }
@@ -208,7 +208,7 @@ pub(crate) fn remove_file(list: &mut Vec<File>, usage: u32, name: &Text)
 }
 
 /// How many bytes the files may still have.
-#[tactic(auto, unfolding(crate::specs::Files::bytes_of))]
+#[tactic(auto, unfolding(crate::specs::Files::sum_of_bytes))]
 fn room_of(list: &[File]) -> usize
     ensures value { result ≡ files.room_of list.now }
     ensures within { result ≤ 1048576 }
@@ -222,7 +222,7 @@ fn room_of(list: &[File]) -> usize
 
 /// Whether the file with this usage and name is there or may be made.
 pub(crate) fn may_stand(list: &[File], usage: u32, name: &Text) -> bool
-    ensures { result ≡ files.may_stand list.now usage name.now }
+    ensures { result ≡ files.file_may_stand list.now usage name.now }
 {
     has_file(list, usage, name) || list.len() < MAX_FILES
 }
@@ -272,7 +272,8 @@ pub(crate) fn empty_file(
     usage: u32,
     name: &Text,
 ) -> Result<(), AllocError>
-    ensures ok { OnOk result (list.new.items ≡ files.holding list.old.items usage name.now []) }
+    ensures ok { OnOk result
+        (list.new.items ≡ files.files_holding list.old.items usage name.now []) }
     ensures err { OnErr result (list.new.items ≡ list.old.items) }
 {
     match find_file(list, usage, name) {
@@ -297,7 +298,7 @@ pub(crate) fn write_file(
     requires inside { at ≤ length (files.content_of list.old.items usage name.now) }
     requires limit { at + length new.now ≤ 1048576 }
     ensures ok { OnOk result (
-        list.new.items ≡ output.put_at list.old.items usage name.now at new.now) }
+        list.new.items ≡ output.put_at_place list.old.items usage name.now at new.now) }
     ensures err { OnErr result (list.new.items ≡ list.old.items) }
 {
     match find_file(list, usage, name) {

@@ -1,7 +1,8 @@
 //! File references (Glk 0.7.5, "File References").
 
 ghost use Rattle.std.specs.Prelude.{◌≡◌, IfOk, OnErr};
-ghost use Rattle.glk_streams.specs.Answer.{Answers, Gives, Leaves, TakesNoMemory, Yields};
+ghost use Rattle.glk_streams.specs.Answer.{AnswersOfStreams, GivesWithStreams, LeavesStreams};
+ghost use Rattle.glk_streams.specs.Answer.{TakesNoMemory, Yields};
 ghost use Rattle.glk_streams.specs.FileRefs as refs;
 
 use crate::fault::StreamStop;
@@ -68,7 +69,8 @@ impl Streams {
         fref: u32,
         rock: u32,
     ) -> Result<u32, StreamStop>
-        ensures value { Gives (refs.copied_ref self.old usage fref rock) self.new result }
+        ensures value { GivesWithStreams (refs.copied_ref self.old usage fref rock)
+            self.new result }
         ensures err { OnErr result (self.new ≡ self.old) }
     {
         match find(&self.refs, fref) {
@@ -82,7 +84,7 @@ impl Streams {
 
     /// Drops a file reference; its file stays. BadObject where it isn't live.
     pub fn drop_ref(&mut self, fref: u32) -> Result<(), StreamStop>
-        ensures value { Leaves (refs.dropped_ref self.old fref) self.new result }
+        ensures value { LeavesStreams (refs.dropped_ref self.old fref) self.new result }
         ensures err { OnErr result (self.new ≡ self.old) }
         ensures refusal { TakesNoMemory result }
     {
@@ -97,7 +99,7 @@ impl Streams {
 
     /// Deletes the reference's file, where it is there. BadObject where the reference isn't live.
     pub fn delete_file(&mut self, fref: u32) -> Result<(), StreamStop>
-        ensures value { Leaves (refs.deleted self.old fref) self.new result }
+        ensures value { LeavesStreams (refs.deleted self.old fref) self.new result }
         ensures err { OnErr result (self.new ≡ self.old) }
         ensures refusal { TakesNoMemory result }
     {
@@ -113,7 +115,7 @@ impl Streams {
 
     /// Whether the reference's file is there. BadObject where the reference isn't live.
     pub fn has_file(&self, fref: u32) -> Result<bool, StreamStop>
-        ensures value { Answers (refs.is_there self.now fref) result }
+        ensures value { AnswersOfStreams (refs.is_there self.now fref) result }
         ensures refusal { TakesNoMemory result }
     {
         match find(&self.refs, fref) {
@@ -127,7 +129,7 @@ impl Streams {
 
     /// Makes a stream the current one, or none by 0. BadObject where another isn't live.
     pub fn set_current(&mut self, stream: u32) -> Result<(), StreamStop>
-        ensures value { Leaves (refs.with_current self.old stream) self.new result }
+        ensures value { LeavesStreams (refs.with_current self.old stream) self.new result }
         ensures err { OnErr result (self.new ≡ self.old) }
         ensures refusal { TakesNoMemory result }
     {
@@ -140,7 +142,7 @@ impl Streams {
 
     /// Sets a stream's style; one above 10 is taken as 0. BadObject where it isn't live.
     pub fn set_style(&mut self, stream: u32, style: u32) -> Result<(), StreamStop>
-        ensures value { Leaves (refs.styled self.old stream style) self.new result }
+        ensures value { LeavesStreams (refs.styled self.old stream style) self.new result }
         ensures err { OnErr result (self.new ≡ self.old) }
         ensures refusal { TakesNoMemory result }
     {

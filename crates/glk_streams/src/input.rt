@@ -2,7 +2,7 @@
 
 ghost use Rattle.std.specs.Prelude.{◌≡◌, ◌≤◌, ◌<◌, ◌+◌, ◌^◌, IfOk, IfSome};
 ghost use Rattle.std.specs.Prelude.{OnErr};
-ghost use Rattle.glk_streams.specs.Answer.{Answers, Gives, TakesNoMemory};
+ghost use Rattle.glk_streams.specs.Answer.{AnswersOfStreams, GivesWithStreams, TakesNoMemory};
 ghost use Rattle.glk_streams.specs.Coding.{unit_of};
 ghost use Rattle.glk_streams.specs.Input as input;
 ghost use Rattle.vm_memory.specs.Access as access;
@@ -34,7 +34,8 @@ fn get_from_memory(
     len: u32,
     coding: Coding,
 ) -> Result<Option<Reading>, StreamStop>
-    ensures value { Answers (input.got_from_memory memory.now place buf len coding) result }
+    ensures value { AnswersOfStreams (input.got_from_memory memory.now place buf len coding)
+        result }
     ensures refusal { TakesNoMemory result }
     ensures fits { IfOk result (λ r. IfSome r (λ r. place + r.steps < 2 ^ 32)) }
 {
@@ -47,7 +48,7 @@ fn get_from_memory(
 
 /// A character of a stream that is open for reading; None at its end.
 fn get_by(files: &[File], memory: &Memory, stream: &Stream) -> Result<Option<Reading>, StreamStop>
-    ensures value { Answers (input.got_by files.now memory.now stream.now) result }
+    ensures value { AnswersOfStreams (input.got_by files.now memory.now stream.now) result }
     ensures refusal { TakesNoMemory result }
     ensures fits { IfOk result (λ r. IfSome r (λ r. stream.now.place + r.steps < 2 ^ 32)) }
 {
@@ -82,7 +83,7 @@ impl Streams {
     /// call takes a code above 255 for `?`. BadObject where the stream isn't live; BadArgument
     /// where it isn't open for reading, as no window's is; BadRead where its buffer can't be read.
     pub fn get(&mut self, memory: &Memory, stream: u32) -> Result<Option<u32>, StreamStop>
-        ensures value { Gives (input.got self.old memory.now stream) self.new result }
+        ensures value { GivesWithStreams (input.got self.old memory.now stream) self.new result }
         ensures err { OnErr result (self.new ≡ self.old) }
         ensures refusal { TakesNoMemory result }
     {

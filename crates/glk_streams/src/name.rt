@@ -4,7 +4,7 @@ ghost use Rattle.std.specs.Prelude.{◌≡◌, ◌≢◌, ◌<◌, ◌≤◌, �
 ghost use Rattle.std.specs.Prelude.{◌∷◌, List, ℕ, IfOk};
 ghost use Rattle.std.specs.Str.{chars};
 ghost use Rattle.std.specs.String.{string_bytes};
-ghost use Rattle.glk_streams.specs.Names.{cleaned, cut, is_taken_out, temporary};
+ghost use Rattle.glk_streams.specs.Names.{cleaned, name_cut, is_taken_out, temporary};
 
 use itoa::Buffer;
 use std::alloc::{AllocError, Global};
@@ -34,8 +34,8 @@ fn append(clean: &mut String, count: usize, c: char) -> Result<usize, AllocError
     requires no_period { c ≢ 0x2E }
     ensures within { IfOk result (λ n. n ≤ 64) }
     ensures rest { IfOk result (λ n. (rest : List ℕ) →
-        chars (string_bytes clean.new) ++ cut (64 - n) rest
-        ≡ chars (string_bytes clean.old) ++ cut (64 - count) (c ∷ rest)) }
+        chars (string_bytes clean.new) ++ name_cut (64 - n) rest
+        ≡ chars (string_bytes clean.old) ++ name_cut (64 - count) (c ∷ rest)) }
 {
     if is_taken_out(c) {
         return Ok(count);
@@ -46,7 +46,7 @@ fn append(clean: &mut String, count: usize, c: char) -> Result<usize, AllocError
 
 /// What is left of a name, cut to 64 characters.
 fn cut(alloc: Global, name: &str) -> Result<String, AllocError>
-    ensures { IfOk result (λ clean. chars (string_bytes clean) ≡ cut 64 (chars name.now)) }
+    ensures { IfOk result (λ clean. chars (string_bytes clean) ≡ name_cut 64 (chars name.now)) }
 {
     let mut clean = String::new(alloc);
     let mut count = 0;

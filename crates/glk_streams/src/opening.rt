@@ -1,7 +1,7 @@
 //! Opening and closing of streams (Glk 0.7.5, "Streams").
 
 ghost use Rattle.std.specs.Prelude.{◌≡◌, ◌≤◌, IfOk, OnErr};
-ghost use Rattle.glk_streams.specs.Answer.{Gives, TakesNoMemory, Yields};
+ghost use Rattle.glk_streams.specs.Answer.{GivesWithStreams, TakesNoMemory, Yields};
 ghost use Rattle.glk_streams.specs.Opening as opening;
 
 use crate::fault::StreamStop;
@@ -37,7 +37,7 @@ pub(crate) fn count_of(streams: &[Stream]) -> usize
 impl Streams {
     /// Whether no stream more may be opened besides those of windows.
     fn is_full(&self) -> bool
-        ensures { result ≡ opening.is_full self.now }
+        ensures { result ≡ opening.are_streams_full self.now }
     {
         self.next > MAX_NUMBER || count_of(&self.streams) >= MAX_STREAMS
     }
@@ -45,7 +45,8 @@ impl Streams {
     /// A stream more, with the next number.
     fn add(&mut self, stream: Stream) -> Result<u32, AllocError>
         requires { self.old.next ≤ 4294967294 }
-        ensures ok { IfOk result (λ n. Yields (opening.joined self.old stream) self.new n) }
+        ensures ok { IfOk result
+            (λ n. Yields (opening.added_with_number self.old stream) self.new n) }
         ensures err { OnErr result (self.new ≡ self.old) }
     {
         self.streams.push(stream)?;
@@ -77,7 +78,7 @@ impl Streams {
         rock: u32,
         unicode: bool,
     ) -> Result<u32, StreamStop>
-        ensures value { Gives
+        ensures value { GivesWithStreams
             (opening.opened_file self.old fref mode rock unicode) self.new result }
         ensures err { OnErr result (self.new ≡ self.old) }
     {
@@ -141,7 +142,7 @@ impl Streams {
         rock: u32,
         unicode: bool,
     ) -> Result<u32, StreamStop>
-        ensures value { Gives
+        ensures value { GivesWithStreams
             (opening.opened_memory self.old buf len mode rock unicode) self.new result }
         ensures err { OnErr result (self.new ≡ self.old) }
     {
@@ -158,7 +159,7 @@ impl Streams {
     /// Closes a stream and gives its counts. BadObject where the number isn't live; BadArgument
     /// where the stream is a window's.
     pub fn close(&mut self, stream: u32) -> Result<Counts, StreamStop>
-        ensures value { Gives (opening.closed self.old stream) self.new result }
+        ensures value { GivesWithStreams (opening.closed_stream self.old stream) self.new result }
         ensures err { OnErr result (self.new ≡ self.old) }
         ensures refusal { TakesNoMemory result }
     {
@@ -183,7 +184,7 @@ impl Streams {
 
     /// Drops a stream, which is no longer the current one, and gives its counts.
     fn take(&mut self, stream: u32) -> Counts
-        ensures { Yields (opening.taken self.old stream) self.new result }
+        ensures { Yields (opening.stream_taken self.old stream) self.new result }
     {
         if self.current == stream {
             self.current = 0;
@@ -217,7 +218,7 @@ fn can_open(files: &[File], usage: u32, name: &Text, mode: u32) -> bool
 
 /// A stream as it is opened.
 fn fresh(number: u32, rock: u32, mode: u32, unicode: bool, target: Target) -> Stream
-    ensures { result ≡ opening.fresh number rock mode unicode target 0 }
+    ensures { result ≡ opening.fresh_stream number rock mode unicode target 0 }
 {
     Stream {
         number,

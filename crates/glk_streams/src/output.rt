@@ -1,9 +1,10 @@
 //! What a character that is put does (Glk 0.7.5, "Output").
 
 ghost use Rattle.std.specs.Prelude.{◌≡◌, ◌≤◌, length, IfOk, OnErr};
-ghost use Rattle.glk_streams.specs.Answer.{Gives, LeavesBoth, Puts, Yields};
+ghost use Rattle.glk_streams.specs.Answer.{GivesWithStreams, LeavesBoth, GivesWithStreamsAndMemory};
+ghost use Rattle.glk_streams.specs.Answer.{Yields};
 ghost use Rattle.glk_streams.specs.Coding.{kept_code, unit_of};
-ghost use Rattle.vm_memory.specs.Access.{Leaves, written};
+ghost use Rattle.vm_memory.specs.Access.{LeavesMemory, written};
 ghost use Rattle.glk_streams.specs.Output as output;
 
 use crate::coding::Coding;
@@ -33,7 +34,7 @@ pub(crate) fn address_of(coding: Coding, buf: u32, place: u32) -> u32
 
 /// Writes a character's number in as many bytes as a position has.
 fn write(memory: &mut Memory, coding: Coding, at: u32, code: u32) -> Result<(), MemStop>
-    ensures value { Leaves
+    ensures value { LeavesMemory
         (written (unit_of coding) memory.old at (kept_code coding code)) memory.new result }
     ensures err { OnErr result (memory.new ≡ memory.old) }
 {
@@ -53,7 +54,7 @@ fn put_in_memory(
     coding: Coding,
     code: u32,
 ) -> Result<u32, StreamStop>
-    ensures value { Gives
+    ensures value { GivesWithStreams
         (output.put_in_memory memory.old place buf len coding code) memory.new result }
     ensures err { OnErr result (memory.new ≡ memory.old) }
 {
@@ -98,7 +99,8 @@ fn put_by(
     stream: &Stream,
     code: u32,
 ) -> Result<u32, StreamStop>
-    ensures value { Puts (output.put_by files.old.items memory.old stream.now code)
+    ensures value { GivesWithStreamsAndMemory
+        (output.put_by files.old.items memory.old stream.now code)
         files.new.items memory.new result }
     ensures files { OnErr result (files.new.items ≡ files.old.items) }
     ensures memory { OnErr result (memory.new ≡ memory.old) }
@@ -124,7 +126,7 @@ fn put_by(
 impl Stream {
     /// One character more was written, and the stream stands here.
     fn count_written(&mut self, place: u32)
-        ensures { self.new ≡ output.counted (output.placed place self.old) }
+        ensures { self.new ≡ output.write_counted (output.at_position place self.old) }
     {
         self.place = place;
         self.written = self.written.wrapping_add(1);
@@ -144,7 +146,7 @@ impl Streams {
         code: u32,
     ) -> Result<(), StreamStop>
         ensures value { LeavesBoth
-            (output.put self.old memory.old stream code) self.new memory.new result }
+            (output.put_on_stream self.old memory.old stream code) self.new memory.new result }
         ensures err { OnErr result (self.new ≡ self.old) }
         ensures memory { OnErr result (memory.new ≡ memory.old) }
     {

@@ -1,7 +1,7 @@
 //! Positions in streams (Glk 0.7.5, "Streams").
 
 ghost use Rattle.std.specs.Prelude.{◌≡◌, ◌≤◌, OnErr};
-ghost use Rattle.glk_streams.specs.Answer.{Answers, Leaves, TakesNoMemory};
+ghost use Rattle.glk_streams.specs.Answer.{AnswersOfStreams, LeavesStreams, TakesNoMemory};
 ghost use Rattle.glk_streams.specs.Position as position;
 
 use crate::fault::StreamStop;
@@ -14,7 +14,7 @@ use crate::streams::Streams;
 impl Stream {
     /// How many positions there are; none in a window's stream.
     pub(crate) fn end(&self, files: &[File]) -> u32
-        ensures { result ≡ position.end_of files.now self.now }
+        ensures { result ≡ position.end_position files.now self.now }
     {
         match &self.target {
             Target::Window(_) => 0,
@@ -65,7 +65,7 @@ impl Streams {
     /// A stream's position, in characters or, in UTF-8, in bytes; a window's is its write count.
     /// BadObject where the stream isn't live.
     pub fn position(&self, stream: u32) -> Result<u32, StreamStop>
-        ensures value { Answers (position.position self.now stream) result }
+        ensures value { AnswersOfStreams (position.position self.now stream) result }
         ensures refusal { TakesNoMemory result }
     {
         match find(&self.streams, stream) {
@@ -78,7 +78,8 @@ impl Streams {
     /// held between the start and the end. BadObject where the stream isn't live; BadArgument
     /// where `from` is another number. A window's stream stays as it is.
     pub fn seek(&mut self, stream: u32, place: u32, from: u32) -> Result<(), StreamStop>
-        ensures value { Leaves (position.sought self.old stream place from) self.new result }
+        ensures value { LeavesStreams (position.position_sought self.old stream place from)
+            self.new result }
         ensures err { OnErr result (self.new ≡ self.old) }
         ensures refusal { TakesNoMemory result }
     {

@@ -2,8 +2,8 @@
 
 ghost use Rattle.std.specs.Prelude.{◌≡◌};
 ghost use Rattle.glk_streams.specs.Coding.{coding_of};
-ghost use Rattle.glk_streams.specs.Streams.{is_file, is_memory, is_of_window, is_read_mode};
-ghost use Rattle.glk_streams.specs.Streams.{is_window, is_write_mode, window_in};
+ghost use Rattle.glk_streams.specs.Streams.{is_file_target, is_memory, is_of_window, is_read_mode};
+ghost use Rattle.glk_streams.specs.Streams.{is_window_target, is_write_mode, window_in};
 
 use crate::coding::Coding;
 use glk_numbers::Numbered;
@@ -47,7 +47,7 @@ impl Numbered for Stream {
 
 impl Target {
     pub fn is_window(&self) -> bool
-        ensures { result ≡ is_window self.now }
+        ensures { result ≡ is_window_target self.now }
     {
         match self {
             Target::Window(_) => true,
@@ -67,7 +67,7 @@ impl Target {
     }
 
     pub fn is_file(&self) -> bool
-        ensures { result ≡ is_file self.now }
+        ensures { result ≡ is_file_target self.now }
     {
         match self {
             Target::Window(_) => false,

@@ -1,8 +1,8 @@
 //! The streams, file references and files of a session: what they are, and what they tell.
 
 ghost use Rattle.std.specs.Prelude.{◌≡◌};
-ghost use Rattle.glk_numbers.specs.Numbered.{after, has};
-ghost use Rattle.glk_streams.specs.Streams.{no_streams, number_of, ref_number_of};
+ghost use Rattle.glk_numbers.specs.Numbered.{number_above, has};
+ghost use Rattle.glk_streams.specs.Streams.{no_streams, stream_number, ref_number_of};
 
 use crate::file::File;
 use crate::fileref::FileRef;
@@ -54,7 +54,7 @@ impl Streams {
 
     /// Whether a stream with this number is open.
     pub fn is_live(&self, stream: u32) -> bool
-        ensures { result ≡ has number_of self.now.streams stream }
+        ensures { result ≡ has stream_number self.now.streams stream }
     {
         is_live(&self.streams, stream)
     }
@@ -68,14 +68,14 @@ impl Streams {
 
     /// The next open stream above this number, or 0.
     pub fn stream_after(&self, number: u32) -> u32
-        ensures { result ≡ after number_of self.now.streams number }
+        ensures { result ≡ number_above stream_number self.now.streams number }
     {
         next_above(&self.streams, number)
     }
 
     /// The next live file reference above this number, or 0.
     pub fn ref_after(&self, number: u32) -> u32
-        ensures { result ≡ after ref_number_of self.now.refs number }
+        ensures { result ≡ number_above ref_number_of self.now.refs number }
     {
         next_above(&self.refs, number)
     }

@@ -1,7 +1,7 @@
 //! Streams, file references and files that a session may have (Glk 0.7.5, "Opaque Objects").
 
 ghost use Rattle.std.specs.Prelude.{◌≡◌, ◌≢◌, nat_le, true, IfNone, IfSome};
-ghost use Rattle.glk_streams.specs.Files.{bytes_of};
+ghost use Rattle.glk_streams.specs.Files.{sum_of_bytes};
 ghost use Rattle.glk_streams.specs.Streams.{table_of};
 ghost use Rattle.glk_streams.specs.Valid as valid;
 
@@ -26,16 +26,16 @@ impl Stream {
 
     /// Whether it has a mode of its kind, and one of the eleven styles.
     fn is_sound(&self) -> bool
-        ensures { result ≡ valid.is_sound self.now }
+        ensures { result ≡ valid.is_sound_stream self.now }
     {
         self.has_mode() && self.style <= 10
     }
 }
 
 /// Whether each stream is sound.
-#[tactic(auto, unfolding(crate::specs::Valid::are_sound))]
+#[tactic(auto, unfolding(crate::specs::Valid::are_sound_streams))]
 fn are_sound(streams: &[Stream]) -> bool
-    ensures { result ≡ valid.are_sound streams.now }
+    ensures { result ≡ valid.are_sound_streams streams.now }
 {
     for stream in streams {
         if !stream.is_sound() {
@@ -63,9 +63,9 @@ fn is_first(file: &File, rest: &[File]) -> bool
 }
 
 /// Whether the files' keys ascend.
-#[tactic(auto, unfolding(crate::specs::Valid::in_order))]
+#[tactic(auto, unfolding(crate::specs::Valid::files_in_order))]
 fn in_order(list: &[File]) -> bool
-    ensures { result ≡ valid.in_order list.now }
+    ensures { result ≡ valid.files_in_order list.now }
 {
     for index in 0..list.len() {
         if !is_first(&list[index], &list[index + 1..]) {
@@ -89,9 +89,9 @@ fn are_kinds(list: &[File]) -> bool
 }
 
 /// Whether the files have at most 1,048,576 bytes in sum.
-#[tactic(auto, unfolding(crate::specs::Files::bytes_of))]
+#[tactic(auto, unfolding(crate::specs::Files::sum_of_bytes))]
 fn is_within(list: &[File]) -> bool
-    ensures { result ≡ nat_le (bytes_of list.now) MAX_FILE_BYTES }
+    ensures { result ≡ nat_le (sum_of_bytes list.now) MAX_FILE_BYTES }
 {
     let mut left = MAX_FILE_BYTES;
     for file in list {
@@ -108,7 +108,7 @@ impl Streams {
     /// Whether they are such as a session may have: objects by number, modes of their kinds, files
     /// in order, and the limits kept.
     pub fn is_valid(&self) -> bool
-        ensures { result ≡ valid.is_valid self.now }
+        ensures { result ≡ valid.are_valid_streams self.now }
     {
         self.has_valid_streams() && self.has_valid_refs() && are_files(&self.files)
     }
@@ -125,9 +125,10 @@ impl Streams {
     ) -> Option<Streams>
         ensures found { IfSome result (λ s.
             (s ≡ table_of next current streams.items next_ref refs.items files.items)
-            × (valid.is_valid s ≡ true)) }
+            × (valid.are_valid_streams s ≡ true)) }
         ensures only { IfNone result
-            (valid.is_valid (table_of next current streams.items next_ref refs.items files.items)
+            (valid.are_valid_streams
+            (table_of next current streams.items next_ref refs.items files.items)
             ≢ true) }
     {
         let table = Streams {

@@ -6,11 +6,11 @@ use Rattle.std.proofs.lemmas.Grind.{common_steps}
 use Rattle.glk_windows.specs.declared.window.Window.{Window}
 use Rattle.glk_windows.specs.declared.window.Pair as p
 use Rattle.glk_windows.specs.Tree.{WindowTree, set_at, pair_of, pair_swapped, swapped, parent_of}
-use Rattle.glk_windows.specs.Closing.{closed, removed, raised, lifted, close, ended}
-use Rattle.glk_windows.specs.Reading.{other as sibling}
+use Rattle.glk_windows.specs.Closing.{windows_without, removed, raised, lifted, close, sibling_lifted}
+use Rattle.glk_windows.specs.Reading.{other_window as sibling}
 use Rattle.glk_windows.specs.Valid.{Ascends, IsOrdered}
-use Rattle.glk_windows.specs.OneTree.{Shape, Leaf, Fork, top, count, bare, node_of, Spells, IsTree}
-use Rattle.glk_windows.specs.OneTree.{size, below, cut, held}
+use Rattle.glk_windows.specs.OneTree.{Shape, Leaf, Fork, top, times_reached, pair_without_key, node_of, SpellsTree, IsTree}
+use Rattle.glk_windows.specs.OneTree.{tree_size, below, tree_without, pair_above}
 use Rattle.glk_windows.proofs.OneTreeLemmas.{node_set_at, content-swapped, once_at, once_le}
 use Rattle.glk_windows.proofs.OneTreeLemmas.{node_parent, is_eq}
 use Rattle.glk_windows.proofs.CutLemmas.{node_lower, node_removed, node_closed, node_pair, size_length}
@@ -19,24 +19,24 @@ use Rattle.glk_windows.proofs.LiftLemmas.{top_cut}
 use Rattle.glk_windows.proofs.OrderLemmas.{ascends-removed}
 
 below-if : (b : Bool) (ws : List Window) (n : ℕ) (x y : Shape)
-    → (b ≡ true → (top x ≡ n) × Spells ws (parent_of ws n) x) → (b ≡ false → (top y ≡ n) × Spells ws (parent_of ws n) y)
-    → (top (cond b x y) ≡ n) × Spells ws (parent_of ws n) (cond b x y)
+    → (b ≡ true → (top x ≡ n) × SpellsTree ws (parent_of ws n) x) → (b ≡ false → (top y ≡ n) × SpellsTree ws (parent_of ws n) y)
+    → (top (cond b x y) ≡ n) × SpellsTree ws (parent_of ws n) (cond b x y)
 below-if true ws n x y h k = h refl
 below-if false ws n x y h k = k refl
 
-pub spells_below : (ws : List Window) (n : ℕ) (s : Shape) (up : ℕ) → Spells ws up s → 0 < count s n
-    → (top (below n s) ≡ n) × Spells ws (parent_of ws n) (below n s)
+pub spells_below : (ws : List Window) (n : ℕ) (s : Shape) (up : ℕ) → SpellsTree ws up s → 0 < times_reached s n
+    → (top (below n s) ≡ n) × SpellsTree ws (parent_of ws n) (below n s)
 spells_below ws n (Leaf m) up t c =
     let i : m ≡ n = grind (arith, common_steps) in
     (i, t ∙ ap (λ u. Some (u, None)) (node_parent ws m _ t ∙ ap (parent_of ws) i))
 spells_below ws n (Fork m p a b) up t c =
     below-if (m == n) ws n _ _
     (λ e. (is_eq m n e, (t.0 ∙ ap (λ u. Some (u, Some p)) (node_parent ws m _ t.0 ∙ ap (parent_of ws) (is_eq m n e)), t.1, t.2, t.3, t.4)))
-    (λ e. below-if (nat_lt 0 (count a n)) ws n _ _
+    (λ e. below-if (nat_lt 0 (times_reached a n)) ws n _ _
     (λ f. spells_below ws n a m t.3 (grind (arith, common_steps)))
     (λ f. spells_below ws n b m t.4 (grind (arith, common_steps))))
 
-pub size_below : (n : ℕ) (s : Shape) → size (below n s) ≤ size s
+pub size_below : (n : ℕ) (s : Shape) → tree_size (below n s) ≤ tree_size s
 size_below n (Leaf m) = omega arith
 size_below n (Fork m p a b) =
     let i : _ = size_below n a in
@@ -47,14 +47,14 @@ size_below n (Fork m p a b) =
 pub node_rest : (t : WindowTree) (s : Shape) (n : ℕ) (x : ℕ × Option p.Pair) → IsOrdered t
     → IsTree t (Some s) → node_of t.slots n ≡ Some x → (m : ℕ)
     → node_of (removed (length t.slots) t.slots n) m
-    ≡ (if nat_lt 0 (count (below n s) m) then None else node_of t.slots m)
+    ≡ (if nat_lt 0 (times_reached (below n s) m) then None else node_of t.slots m)
 unfolding IsOrdered
 node_rest t s n x o h live m =
     let ws : List Window = t.slots in
-    let c0 : 0 < count s n = omega (arith, once_at _ _ x live (h.2 n)) in
-    let sb : (top (below n s) ≡ n) × Spells ws (parent_of ws n) (below n s) =
+    let c0 : 0 < times_reached s n = omega (arith, once_at _ _ x live (h.2 n)) in
+    let sb : (top (below n s) ≡ n) × SpellsTree ws (parent_of ws n) (below n s) =
     spells_below ws n s 0 h.1 c0 in
-    let sz : size s ≡ length ws = size_length 1 ws t.next 0 s o h.1 h.2 in
+    let sz : tree_size s ≡ length ws = size_length 1 ws t.next 0 s o h.1 h.2 in
     ap (λ j. node_of (removed (length ws) ws j) m) (sym sb.0)
     ∙ node_removed (length ws) (below n s) ws (parent_of ws n) 1 t.next
     (omega (arith, size_below n s, sz)) o sb.1
@@ -64,11 +64,11 @@ node_rest t s n x o h live m =
 pub pair_rest : (t : WindowTree) (s : Shape) (n : ℕ) (x : ℕ × Option p.Pair) → IsOrdered t
     → IsTree t (Some s) → node_of t.slots n ≡ Some x → top s ≢ n
     → node_of (removed (length t.slots) t.slots n) (parent_of t.slots n)
-    ≡ Some (parent_of t.slots (parent_of t.slots n), Some (held n s))
+    ≡ Some (parent_of t.slots (parent_of t.slots n), Some (pair_above n s))
 pair_rest t s n x o h live hn =
     let out : _ = outside t.slots n s 0 h.1 (λ m. once_le _ _ (h.2 m)) hn
     (omega (arith, once_at _ _ x live (h.2 n))) in
-    let o0 : count (below n s) (parent_of t.slots n) ≡ 0 = out.0 in
+    let o0 : times_reached (below n s) (parent_of t.slots n) ≡ 0 = out.0 in
     let o1 : _ = out.1 in
     let nq : _ = node_rest t s n x o h live (parent_of t.slots n) in
     grind (arith, common_steps)
@@ -86,22 +86,22 @@ pub node_raised : (ws : List Window) (z pair other above m : ℕ) → Ascends 1 
     → node_of (raised ws pair other above) m ≡ option_map (relift pair other above m) (if m == pair then None else node_of ws m)
 node_raised ws z pair other above m o =
     let i : _ = node_set_at (λ w. record w { parent = above }) (λ x. (above, x.1)) (λ w. refl) (λ w. refl)
-    (set_at (λ w. record w { content = swapped w.content pair other }) (closed ws pair) above) other m in
+    (set_at (λ w. record w { content = swapped w.content pair other }) (windows_without ws pair) above) other m in
     let j : _ = node_set_at (λ w. record w { content = swapped w.content pair other })
     (λ x. (x.0, option_map (λ p. pair_swapped p pair other) x.1)) (λ w. refl)
-    (λ w. ap (λ o. (w.parent, o)) (content-swapped w.content pair other)) (closed ws pair) above m in
+    (λ w. ap (λ o. (w.parent, o)) (content-swapped w.content pair other)) (windows_without ws pair) above m in
     i ∙ ap (option_map (λ x. if m == other then (above, x.1) else x)) j
-    ∙ relifts (node_of (closed ws pair) m) pair other above m
+    ∙ relifts (node_of (windows_without ws pair) m) pair other above m
     ∙ ap (option_map (relift pair other above m)) (node_closed 1 ws z pair m o)
 
 tree-false : (b : Bool) (x y : WindowTree) (s : Option Shape) → b ≡ false → IsTree y s → IsTree (cond b x y) s
 tree-false true x y s e h = cc
 tree-false false x y s e h = h
 
-lift-of : (o : Option p.Pair) (r : p.Pair) → option_map bare o ≡ Some r → (t : WindowTree) (pair n : ℕ)
-    → ended t pair o n ≡ lifted t pair (sibling r n)
+lift-of : (o : Option p.Pair) (r : p.Pair) → option_map pair_without_key o ≡ Some r → (t : WindowTree) (pair n : ℕ)
+    → sibling_lifted t pair o n ≡ lifted t pair (sibling r n)
 lift-of None r e t pair n = cc
-lift-of (Some q) r e t pair n = (let i : bare q ≡ r = cc in ap (λ y. lifted t pair (sibling y n)) i)
+lift-of (Some q) r e t pair n = (let i : pair_without_key q ≡ r = cc in ap (λ y. lifted t pair (sibling y n)) i)
 
 pair-is : (x y : ℕ × Option p.Pair) (q r : p.Pair) → Some x ≡ Some y → x.1 ≡ Some q → y.1 ≡ Some r → q ≡ r
 pair-is x y q r e f g = cc
@@ -114,7 +114,7 @@ once-lift (Some y) v f m pair c b h e = grind (arith, common_steps)
 
 -- closing a window below the root keeps the windows one tree
 pub tree_close : (t : WindowTree) (s : Shape) (n : ℕ) (x : ℕ × Option p.Pair) → IsOrdered t → IsTree t (Some s)
-    → node_of t.slots n ≡ Some x → top s ≢ n → IsTree (close t n) (Some (cut n s))
+    → node_of t.slots n ≡ Some x → top s ≢ n → IsTree (close t n) (Some (tree_without n s))
 unfolding IsOrdered
 tree_close t s n x o h live hn =
     let ws : List Window = t.slots in
@@ -123,17 +123,17 @@ tree_close t s n x o h live hn =
     let pair : ℕ = parent_of ws n in
     let above : ℕ = parent_of w2 pair in
     let sub : Shape = below n s in
-    let other : ℕ = sibling (held n s) n in
+    let other : ℕ = sibling (pair_above n s) n in
     let vs : List Window = raised w2 pair other above in
-    let c1 : count s n ≡ 1 = once_at _ _ x live (h.2 n) in
-    let c0 : 0 < count s n = omega (arith, c1) in
-    let dd : (m : ℕ) → count s m ≤ 1 = λ m. once_le _ _ (h.2 m) in
-    let n2 : (m : ℕ) → node_of w2 m ≡ (if nat_lt 0 (count sub m) then None else node_of ws m) =
+    let c1 : times_reached s n ≡ 1 = once_at _ _ x live (h.2 n) in
+    let c0 : 0 < times_reached s n = omega (arith, c1) in
+    let dd : (m : ℕ) → times_reached s m ≤ 1 = λ m. once_le _ _ (h.2 m) in
+    let n2 : (m : ℕ) → node_of w2 m ≡ (if nat_lt 0 (times_reached sub m) then None else node_of ws m) =
     node_rest t s n x o h live in
-    let out : (count sub pair ≡ 0) × (node_of ws pair ≡ Some (parent_of ws pair, Some (held n s))) × (0 < count s pair) =
+    let out : (times_reached sub pair ≡ 0) × (node_of ws pair ≡ Some (parent_of ws pair, Some (pair_above n s))) × (0 < times_reached s pair) =
     outside ws n s 0 h.1 dd hn c0 in
-    let o1 : node_of ws pair ≡ Some (parent_of ws pair, Some (held n s)) = out.1 in
-    let np2 : node_of w2 pair ≡ Some (parent_of ws pair, Some (held n s)) =
+    let o1 : node_of ws pair ≡ Some (parent_of ws pair, Some (pair_above n s)) = out.1 in
+    let np2 : node_of w2 pair ≡ Some (parent_of ws pair, Some (pair_above n s)) =
     pair_rest t s n x o h live hn in
     let ab : parent_of ws pair ≡ above = node_parent w2 pair _ np2 in
     let o2 : Ascends 1 w2 t.next = ascends-removed d 1 ws t.next n o in
@@ -145,19 +145,19 @@ tree_close t s n x o h live hn =
           nv m ∙ ap (option_map (relift pair other above m)) v);
       under = λ m y e l. node_parent ws m y l ∙ ap (parent_of ws) e;
       over = λ m y e l. node_parent ws m y l ∙ ap (parent_of ws) e ∙ ab;
-      beside = λ m u q e l. ap (λ y. sibling y n) (sym (pair-is (u, Some q) (parent_of ws pair, Some (held n s)) q (held n s) (sym l ∙ ap (node_of ws) e ∙ o1) refl refl));
+      beside = λ m u q e l. ap (λ y. sibling y n) (sym (pair-is (u, Some q) (parent_of ws pair, Some (pair_above n s)) q (pair_above n s) (sym l ∙ ap (node_of ws) e ∙ o1) refl refl));
     } in
     let lo : pair < 1 → node_of ws pair ≡ None = node_lower 1 ws t.next pair o in
     let pz : (pair == 0) ≡ false = grind (arith, common_steps) in
     let e0 : t.root ≡ top s = h.0 in
-    let tc : top (cut n s) ≡ (if top s == pair then other else top s) =
+    let tc : top (tree_without n s) ≡ (if top s == pair then other else top s) =
     top_cut ws vs n sub pair other above k s 0 h.1 dd hn c0 in
     tree-false (pair == 0) (record t { slots = w2; root = 0 })
-    (ended (record t { slots = w2 }) pair (pair_of w2 pair) n) (Some (cut n s)) pz
-    (rw (lift-of (pair_of w2 pair) (held n s) (node_pair w2 pair _ np2) (record t { slots = w2 }) pair n) (
+    (sibling_lifted (record t { slots = w2 }) pair (pair_of w2 pair) n) (Some (tree_without n s)) pz
+    (rw (lift-of (pair_of w2 pair) (pair_above n s) (node_pair w2 pair _ np2) (record t { slots = w2 }) pair n) (
       grind (arith, common_steps),
       spells_cut ws vs n sub pair other above k s 0 h.1 dd hn c0 (λ j. refl),
-      λ m. once-lift (node_of ws m) (node_of vs m) (relift pair other above m) m pair _ (count sub m)
+      λ m. once-lift (node_of ws m) (node_of vs m) (relift pair other above m) m pair _ (times_reached sub m)
           (count_cut ws vs n sub pair other above k s 0 h.1 dd hn c0 m ∙ h.2 m)
           (nv m ∙ ap (λ y. option_map (relift pair other above m) (if m == pair then None else y)) (n2 m)),
     ))

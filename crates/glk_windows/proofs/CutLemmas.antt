@@ -5,15 +5,15 @@ use Rattle.glk_windows.specs.declared.window.Window.{Window}
 use Rattle.glk_windows.specs.declared.window.Pair as p
 use Rattle.glk_windows.specs.declared.window.Content.{Content}
 use Rattle.glk_windows.specs.declared.window.Content.TheVariants.{Pair, Blank, Buffer, Grid}
-use Rattle.glk_windows.specs.Tree.{WindowTree, number_of, stream_of, pair_of, pair_content, parent_of}
-use Rattle.glk_windows.specs.Closing.{closed, forgotten, content_unkeyed, removed, both, close}
+use Rattle.glk_windows.specs.Tree.{WindowTree, window_number, stream_of, pair_of, pair_content, parent_of}
+use Rattle.glk_windows.specs.Closing.{windows_without, forgotten, content_unkeyed, removed, both, close}
 use Rattle.glk_numbers.specs.Numbered.{found, without}
 use Rattle.glk_windows.specs.Valid.{Ascends, IsOrdered}
-use Rattle.glk_windows.specs.OneTree.{Shape, Leaf, Fork, top, count, bare, node_of, Spells, Once, IsTree, size}
+use Rattle.glk_windows.specs.OneTree.{Shape, Leaf, Fork, top, times_reached, pair_without_key, node_of, SpellsTree, Once, IsTree, tree_size}
 use Rattle.glk_windows.proofs.OneTreeLemmas.{count_top, once_le, spells_top, node_parent}
 use Rattle.glk_windows.proofs.OrderLemmas.{ascends-closed, ascends-removed}
 
-content-unkeyed : (c : Content) (n : ℕ) → option_map bare (pair_content (content_unkeyed n c)) ≡ option_map bare (pair_content c)
+content-unkeyed : (c : Content) (n : ℕ) → option_map pair_without_key (pair_content (content_unkeyed n c)) ≡ option_map pair_without_key (pair_content c)
 content-unkeyed (Pair p) n = grind (arith, common_steps)
 content-unkeyed Blank n = refl
 content-unkeyed (Buffer x) n = refl
@@ -34,7 +34,7 @@ node_lower a (w ∷ ws) z m o h =
     grind (arith, common_steps)
 
 pub node_without : (a : ℕ) (ws : List Window) (z n m : ℕ) → Ascends a ws z
-    → node_of (without number_of ws n) m ≡ (if m == n then None else node_of ws m)
+    → node_of (without window_number ws n) m ≡ (if m == n then None else node_of ws m)
 unfolding without
 node_without a [] z n m o = grind (arith, common_steps)
 node_without a (w ∷ ws) z n m o =
@@ -43,21 +43,21 @@ node_without a (w ∷ ws) z n m o =
     grind (arith, common_steps)
 
 pub node_closed : (a : ℕ) (ws : List Window) (z n m : ℕ) → Ascends a ws z
-    → node_of (closed ws n) m ≡ (if m == n then None else node_of ws m)
-node_closed a ws z n m o = node_forgotten (without number_of ws n) n (stream_of ws n) m ∙ node_without a ws z n m o
+    → node_of (windows_without ws n) m ≡ (if m == n then None else node_of ws m)
+node_closed a ws z n m o = node_forgotten (without window_number ws n) n (stream_of ws n) m ∙ node_without a ws z n m o
 
-pub node_pair : (ws : List Window) (n : ℕ) (x : ℕ × Option p.Pair) → node_of ws n ≡ Some x → option_map bare (pair_of ws n) ≡ x.1
+pub node_pair : (ws : List Window) (n : ℕ) (x : ℕ × Option p.Pair) → node_of ws n ≡ Some x → option_map pair_without_key (pair_of ws n) ≡ x.1
 unfolding found
 node_pair [] n x e = cc
 node_pair (w ∷ ws) n x e = grind (arith, common_steps, node_pair ws n x)
 
-none_of : (o : Option p.Pair) → option_map bare o ≡ None → o ≡ None
+none_of : (o : Option p.Pair) → option_map pair_without_key o ≡ None → o ≡ None
 none_of None e = refl
 none_of (Some p) e = cc
 
 -- what is said of a tree's own windows is all that spells it
-pub spells_on : (ws vs : List Window) (s : Shape) (up : ℕ) → ((m : ℕ) → 0 < count s m → node_of vs m ≡ node_of ws m)
-    → Spells ws up s → Spells vs up s
+pub spells_on : (ws vs : List Window) (s : Shape) (up : ℕ) → ((m : ℕ) → 0 < times_reached s m → node_of vs m ≡ node_of ws m)
+    → SpellsTree ws up s → SpellsTree vs up s
 spells_on ws vs (Leaf n) up h t = h n (count_top (Leaf n)) ∙ t
 spells_on ws vs (Fork n p a b) up h t = (
   h n (count_top (Fork n p a b)) ∙ t.0,
@@ -67,35 +67,35 @@ spells_on ws vs (Fork n p a b) up h t = (
   spells_on ws vs b n (λ m k. h m (omega (arith, k))) t.4,
 )
 
-pub both_nodes : (o : Option p.Pair) (d : ℕ) (vs : List Window) (p : p.Pair) → option_map bare o ≡ Some p
+pub both_nodes : (o : Option p.Pair) (d : ℕ) (vs : List Window) (p : p.Pair) → option_map pair_without_key o ≡ Some p
     → both (removed d) vs o ≡ removed d (removed d vs p.first) p.second
 both_nodes None d vs p e = cc
 both_nodes (Some r) d vs p e =
-    let i : bare r ≡ p = cc in
+    let i : pair_without_key r ≡ p = cc in
     ap (λ x. removed d (removed d vs x) r.second) (ap (λ y. y.first) i) ∙ ap (λ x. removed d (removed d vs p.first) x) (ap (λ y. y.second) i)
 
 -- a window and all below it are gone, and nothing else
-pub node_removed : (d : ℕ) (s : Shape) (ws : List Window) (up a z : ℕ) → size s ≤ d → Ascends a ws z → Spells ws up s
-    → ((m : ℕ) → count s m ≤ 1) → (m : ℕ)
-    → node_of (removed d ws (top s)) m ≡ (if nat_lt 0 (count s m) then None else node_of ws m)
+pub node_removed : (d : ℕ) (s : Shape) (ws : List Window) (up a z : ℕ) → tree_size s ≤ d → Ascends a ws z → SpellsTree ws up s
+    → ((m : ℕ) → times_reached s m ≤ 1) → (m : ℕ)
+    → node_of (removed d ws (top s)) m ≡ (if nat_lt 0 (times_reached s m) then None else node_of ws m)
 unfolding removed
 node_removed zero (Leaf n) ws up a z h o t c m = absurd (omega (arith, h))
 node_removed zero (Fork n p x y) ws up a z h o t c m = absurd (omega (arith, h))
 node_removed (suc d) (Leaf n) ws up a z h o t c m =
-    ap (λ o. node_of (both (removed d) (closed ws n) o) m) (none_of _ (node_pair ws n _ t))
+    ap (λ o. node_of (both (removed d) (windows_without ws n) o) m) (none_of _ (node_pair ws n _ t))
     ∙ node_closed a ws z n m o ∙ grind (arith, common_steps)
 node_removed (suc d) (Fork n p x y) ws up a z h o t c m =
-    let w1 : List Window = closed ws n in
+    let w1 : List Window = windows_without ws n in
     let w2 : List Window = removed d w1 (top x) in
     let o1 : Ascends a w1 z = ascends-closed a ws z n o in
     let o2 : Ascends a w2 z = ascends-removed d a w1 z (top x) o1 in
-    let cn : count (Fork n p x y) n ≤ 1 = c n in
+    let cn : times_reached (Fork n p x y) n ≤ 1 = c n in
     let n1 : (k : ℕ) → node_of w1 k ≡ (if k == n then None else node_of ws k) = λ k. node_closed a ws z n k o in
-    let t1 : Spells w1 n x = spells_on ws w1 x n
+    let t1 : SpellsTree w1 n x = spells_on ws w1 x n
     (λ k l. n1 k ∙ (let ck : _ = c k in grind (arith, common_steps))) t.3 in
-    let n2 : (k : ℕ) → node_of w2 k ≡ (if nat_lt 0 (count x k) then None else node_of w1 k) =
+    let n2 : (k : ℕ) → node_of w2 k ≡ (if nat_lt 0 (times_reached x k) then None else node_of w1 k) =
     λ k. node_removed d x w1 n a z (omega (arith, h)) o1 t1 (λ j. omega (arith, c j)) k in
-    let t2 : Spells w2 n y = spells_on ws w2 y n
+    let t2 : SpellsTree w2 n y = spells_on ws w2 y n
     (λ k l. n2 k ∙ (let ck : _ = c k in let nk : _ = n1 k in grind (arith, common_steps))) t.4 in
     let n3 : _ = node_removed d y w2 n a z (omega (arith, h)) o2 t2 (λ j. omega (arith, c j)) m in
     let i2 : _ = n2 m in
@@ -106,7 +106,7 @@ node_removed (suc d) (Fork n p x y) ws up a z h o t c m =
 
 abbrev pub tally : List Window → Shape → ℕ
 tally [] s = 0
-tally (w ∷ ws) s = count s w.number + tally ws s
+tally (w ∷ ws) s = times_reached s w.number + tally ws s
 
 pub tally_leaf : (a : ℕ) (ws : List Window) (z n : ℕ) → Ascends a ws z
     → tally ws (Leaf n) ≡ (if is_some (node_of ws n) then 1 else 0)
@@ -121,18 +121,18 @@ pub tally_fork : (ws : List Window) (n : ℕ) (p : p.Pair) (a b : Shape)
 tally_fork [] n p a b = refl
 tally_fork (w ∷ ws) n p a b = omega (arith, tally_fork ws n p a b)
 
-pub tally_size : (a : ℕ) (ws : List Window) (z up : ℕ) (s : Shape) → Ascends a ws z → Spells ws up s → tally ws s ≡ size s
+pub tally_size : (a : ℕ) (ws : List Window) (z up : ℕ) (s : Shape) → Ascends a ws z → SpellsTree ws up s → tally ws s ≡ tree_size s
 tally_size a ws z up (Leaf n) o t = tally_leaf a ws z n o ∙ ap (λ x. if is_some x then 1 else 0) t
 tally_size a ws z up (Fork n p x y) o t =
     let l : tally ws (Leaf n) ≡ 1 = tally_leaf a ws z n o ∙ ap (λ x. if is_some x then 1 else 0) t.0 in
     let f : _ = tally_fork ws n p x y in
     omega (arith, l, f, tally_size a ws z n x o t.3, tally_size a ws z n y o t.4)
 
-pub tally_each : (vs : List Window) (s : Shape) → ((m : ℕ) → is_some (node_of vs m) ≡ true → count s m ≡ 1)
+pub tally_each : (vs : List Window) (s : Shape) → ((m : ℕ) → is_some (node_of vs m) ≡ true → times_reached s m ≡ 1)
     → tally vs s ≡ length vs
 tally_each [] s h = refl
 tally_each (w ∷ vs) s h =
-    let i : count s w.number ≡ 1 = h w.number (grind (arith, common_steps)) in
+    let i : times_reached s w.number ≡ 1 = h w.number (grind (arith, common_steps)) in
     let k : tally vs s ≡ length vs = tally_each vs s (λ m e. h m (grind (arith, common_steps))) in
     omega (arith, i, k)
 
@@ -141,7 +141,7 @@ once_of None n h e = cc
 once_of (Some x) n h e = h
 
 -- the tree is as large as the list, so the depth of a recursion by its length is enough
-pub size_length : (a : ℕ) (ws : List Window) (z up : ℕ) (s : Shape) → Ascends a ws z → Spells ws up s → Once ws s → size s ≡ length ws
+pub size_length : (a : ℕ) (ws : List Window) (z up : ℕ) (s : Shape) → Ascends a ws z → SpellsTree ws up s → Once ws s → tree_size s ≡ length ws
 size_length a ws z up s o t w =
     sym (tally_size a ws z up s o t) ∙ tally_each ws s (λ m e. once_of _ _ (w m) e)
 

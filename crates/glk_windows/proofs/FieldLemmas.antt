@@ -8,13 +8,13 @@ use Rattle.std.proofs.lemmas.Bool.{and_parts, cases_Bool}
 use Rattle.std.proofs.lemmas.Bool.Decides.{nat_tests}
 use Rattle.std.proofs.lemmas.Grind.{common_steps}
 use Rattle.glk_numbers.specs.Numbered.{ascends, found}
-use Rattle.glk_windows.specs.Fields.{IsRest, is_ordered, is_valid}
-use Rattle.glk_windows.specs.OneTree.{Shape, Leaf, Fork, are_keyed, bare, bare_in, count}
-use Rattle.glk_windows.specs.OneTree.{is_spelled, is_under, key_of, no_pair, node_of, once}
-use Rattle.glk_windows.specs.OneTree.{shape_of, size}
+use Rattle.glk_windows.specs.Fields.{IsRest, is_ordered, is_valid_tree}
+use Rattle.glk_windows.specs.OneTree.{Shape, Leaf, Fork, are_keyed, pair_without_key, bare_in, times_reached}
+use Rattle.glk_windows.specs.OneTree.{is_tree_spelled, is_under, pair_key, no_pair, node_of, once}
+use Rattle.glk_windows.specs.OneTree.{shape_of, tree_size}
 use Rattle.glk_windows.specs.OneTree.{shape_with, tested, top, tree_of, key_in}
-use Rattle.glk_windows.specs.Tree.{WindowTree, number_of, pair_in, pair_of, read, window_at}
-use Rattle.glk_windows.specs.Valid.{Ascends, IsOrdered, IsValid, are_sound, is_one_tree}
+use Rattle.glk_windows.specs.Tree.{WindowTree, window_number, pair_in, pair_of, read_window, window_at}
+use Rattle.glk_windows.specs.Valid.{Ascends, IsOrdered, IsValidTree, are_sound_windows, is_one_tree}
 use Rattle.glk_windows.specs.declared.window.Pair as p
 use Rattle.glk_windows.specs.declared.window.Window.{Window}
 
@@ -34,7 +34,7 @@ pub shape_leaf : (d : ℕ) (ws : List Window) (n : ℕ) → pair_of ws n ≡ Non
     → shape_of d ws n ≡ Leaf n
 unfolding shape_of
 shape_leaf zero ws n e = refl
-shape_leaf (suc d) ws n e = ap (λ o. shape_with (shape_of d ws) n (option_map bare o)) e
+shape_leaf (suc d) ws n e = ap (λ o. shape_with (shape_of d ws) n (option_map pair_without_key o)) e
 
 pub shape_end : (d : ℕ) (ws : List Window) (n : ℕ) → d ≡ 0 → shape_of d ws n ≡ Leaf n
 unfolding shape_of
@@ -43,15 +43,15 @@ shape_end (suc d) ws n e = absurd (omega (arith, e))
 
 pub shape_fork : (d : ℕ) (ws : List Window) (n : ℕ) (q : p.Pair) → 0 < d → pair_of ws n ≡ Some q
     → shape_of d ws n
-    ≡ Fork n (bare q) (shape_of (d - 1) ws q.first) (shape_of (d - 1) ws q.second)
+    ≡ Fork n (pair_without_key q) (shape_of (d - 1) ws q.first) (shape_of (d - 1) ws q.second)
 unfolding shape_of
 shape_fork zero ws n q h e = absurd (omega arith)
 shape_fork (suc d) ws n q h e =
-    simp unary_clauses (ap (λ o. shape_with (shape_of d ws) n (option_map bare o)) e)
+    simp unary_clauses (ap (λ o. shape_with (shape_of d ws) n (option_map pair_without_key o)) e)
 
 -- ---- counting down
 
-size_some : (s : Shape) → 0 < size s
+size_some : (s : Shape) → 0 < tree_size s
 size_some (Leaf n) = omega arith
 size_some (Fork n q a b) = omega arith
 
@@ -65,7 +65,7 @@ tested_top ws up (Fork n q a b) e =
 top_of : (d : ℕ) (ws : List Window) (n : ℕ) → top (shape_of d ws n) ≡ n
 unfolding shape_of
 top_of zero ws n = refl
-top_of (suc d) ws n = top_with (shape_of d ws) n (option_map bare (pair_of ws n))
+top_of (suc d) ws n = top_with (shape_of d ws) n (option_map pair_without_key (pair_of ws n))
   where
     top_with : (f : ℕ → Shape) (n : ℕ) (o : Option p.Pair) → top (shape_with f n o) ≡ n
     top_with f n None = refl
@@ -86,18 +86,18 @@ rest-away ws up d n most e t =
 -- what a window is there as, by what it holds
 leaf-there : (o : Option Window) (x : Option (ℕ × Option p.Pair)) (up : ℕ)
     → x ≡ option_map (λ w. (w.parent, bare_in w)) o → is_under up x ≡ true
-    → read None pair_in o ≡ None → (is_under up x && no_pair x) ≡ true
+    → read_window None pair_in o ≡ None → (is_under up x && no_pair x) ≡ true
 leaf-there None x up e u h =
     let c : is_under up None ≡ true = ap (is_under up) (sym e) ∙ u in absurd cc
 leaf-there (Some w) x up e u h =
-    let none : x ≡ Some (w.parent, None) = e ∙ ap (λ q. Some (w.parent, option_map bare q)) h in
+    let none : x ≡ Some (w.parent, None) = e ∙ ap (λ q. Some (w.parent, option_map pair_without_key q)) h in
     both (is_under up x) (no_pair x) u (ap no_pair none)
 
 pair-there : (o : Option Window) (x : Option (ℕ × Option p.Pair)) (q : p.Pair)
-    → x ≡ option_map (λ w. (w.parent, bare_in w)) o → read None pair_in o ≡ Some q
+    → x ≡ option_map (λ w. (w.parent, bare_in w)) o → read_window None pair_in o ≡ Some q
     → no_pair x ≡ false
 pair-there None x q e h = absurd cc
-pair-there (Some w) x q e h = ap no_pair (e ∙ ap (λ r. Some (w.parent, option_map bare r)) h)
+pair-there (Some w) x q e h = ap no_pair (e ∙ ap (λ r. Some (w.parent, option_map pair_without_key r)) h)
 
 pub rest-leaf : (ws : List Window) (up d n most : ℕ) → 0 < most
     → is_under up (node_of ws n) ≡ true → pair_of ws n ≡ None
@@ -141,7 +141,7 @@ pub rest-none : (ws : List Window) (up d n most : ℕ) (q : p.Pair) → 0 < d �
     → IsRest ws up (shape_of d ws n) most None
 rest-none ws up d n most q l m h r =
     rw (shape_fork d ws n q l h)
-    (rest-first ws up n most (bare q) (shape_of (d - 1) ws q.first) (shape_of (d - 1) ws q.second)
+    (rest-first ws up n most (pair_without_key q) (shape_of (d - 1) ws q.first) (shape_of (d - 1) ws q.second)
     m r)
 
 pub rest-fork : (ws : List Window) (up d n most left : ℕ) (q : p.Pair) (o : Option ℕ) → 0 < d
@@ -150,14 +150,14 @@ pub rest-fork : (ws : List Window) (up d n most left : ℕ) (q : p.Pair) (o : Op
     → IsRest ws n (shape_of (d - 1) ws q.second) left o → IsRest ws up (shape_of d ws n) most o
 rest-fork ws up d n most left q o l m u h f r =
     rw (shape_fork d ws n q l h)
-    (rest-both ws up n most left (bare q) (shape_of (d - 1) ws q.first)
+    (rest-both ws up n most left (pair_without_key q) (shape_of (d - 1) ws q.first)
     (shape_of (d - 1) ws q.second) o m u f r)
 
 -- ---- a tree whose windows are each met once has no more of them than there are
 
 met : List Window → Shape → ℕ
 met [] s = 0
-met (w ∷ ws) s = count s w.number + met ws s
+met (w ∷ ws) s = times_reached s w.number + met ws s
 
 met-leaf : (ws : List Window) (n up : ℕ) → is_under up (node_of ws n) ≡ true → 1 ≤ met ws (Leaf n)
 unfolding met
@@ -170,7 +170,7 @@ unfolding met
 met-fork [] n q a b = refl
 met-fork (w ∷ ws) n q a b = let i = met-fork ws n q a b in omega (arith, i)
 
-met-size : (ws : List Window) (up : ℕ) (s : Shape) → tested ws up s ≡ true → size s ≤ met ws s
+met-size : (ws : List Window) (up : ℕ) (s : Shape) → tested ws up s ≡ true → tree_size s ≤ met ws s
 met-size ws up (Leaf n) e = met-leaf ws n up (tested_top ws up (Leaf n) e)
 met-size ws up (Fork n q a b) e =
     let t = and_parts (tested ws n a) (tested ws n b)
@@ -185,13 +185,13 @@ met-once : (ws : List Window) (s : Shape) → once ws s ≡ true → met ws s �
 unfolding met
 met-once [] s e = refl
 met-once (w ∷ ws) s e =
-    let t = and_parts (count s w.number == 1) (once ws s) e in
+    let t = and_parts (times_reached s w.number == 1) (once ws s) e in
     let i = met-once ws s t.1 in
-    let one : count s w.number ≡ 1 = grind (arith, nat_tests, t.0) in
+    let one : times_reached s w.number ≡ 1 = grind (arith, nat_tests, t.0) in
     omega (arith, i, one)
 
 pub once_size : (ws : List Window) (up : ℕ) (s : Shape) → tested ws up s ≡ true → once ws s ≡ true
-    → size s ≤ length ws
+    → tree_size s ≤ length ws
 once_size ws up s t e =
     let a = met-size ws up s t in
     let b = met-once ws s e in
@@ -199,8 +199,8 @@ once_size ws up s t e =
 
 -- where the list doesn't have the tree, or less of it, it doesn't spell it
 pub spelled-none : (ws : List Window) (s : Shape) (o : Option ℕ) → IsRest ws 0 s (length ws) o
-    → is_some o ≡ false → is_spelled ws s ≡ false
-spelled-none ws s None r e = elim (cases_Bool (is_spelled ws s)) [
+    → is_some o ≡ false → is_tree_spelled ws s ≡ false
+spelled-none ws s None r e = elim (cases_Bool (is_tree_spelled ws s)) [
   | inl h ↦
       let t = and_parts (tested ws 0 s) (once ws s) h in
       let few = once_size ws 0 s t.0 t.1 in
@@ -211,7 +211,7 @@ spelled-none ws s None r e = elim (cases_Bool (is_spelled ws s)) [
 spelled-none ws s (Some x) r e = absurd cc
 
 -- how often a window is met is no more than there are
-pub count_size : (s : Shape) (m : ℕ) → count s m ≤ size s
+pub count_size : (s : Shape) (m : ℕ) → times_reached s m ≤ tree_size s
 count_size (Leaf n) m = grind (arith, common_steps)
 count_size (Fork n q a b) m =
     let i = count_size a m in
@@ -221,29 +221,29 @@ count_size (Fork n q a b) m =
 -- ---- the key of a pair
 
 pub key_found : (ws : List Window) (n : ℕ) (q : p.Pair) → pair_of ws n ≡ Some q
-    → key_of ws n ≡ q.key
+    → pair_key ws n ≡ q.key
 key_found ws n q e = key-in (window_at ws n) e
   where
-    key-in : (o : Option Window) → read None pair_in o ≡ Some q
-        → read 0 (λ w. key_in (pair_in w)) o ≡ q.key
+    key-in : (o : Option Window) → read_window None pair_in o ≡ Some q
+        → read_window 0 (λ w. key_in (pair_in w)) o ≡ q.key
     key-in None h = absurd cc
     key-in (Some w) h = ap key_in h
 
 -- ---- the numbers ascend
 
-ascends-of : (ws : List Window) (a z : ℕ) → a < z → ascends number_of a z ws ≡ true
+ascends-of : (ws : List Window) (a z : ℕ) → a < z → ascends window_number a z ws ≡ true
     → Ascends (a + 1) ws z
 unfolding ascends
 ascends-of [] a z l e = omega arith
 ascends-of (w ∷ ws) a z l e =
-    let t = and_parts (nat_lt a w.number && nat_lt w.number z) (ascends number_of w.number z ws)
+    let t = and_parts (nat_lt a w.number && nat_lt w.number z) (ascends window_number w.number z ws)
     e in
     let u = and_parts (nat_lt a w.number) (nat_lt w.number z) t.0 in
     let low : a < w.number = grind (arith, nat_tests, u.0) in
     let high : w.number < z = grind (arith, nat_tests, u.1) in
     (omega (arith, low), high, ascends-of ws w.number z high t.1)
 
-to-ascends : (ws : List Window) (a z : ℕ) → Ascends (a + 1) ws z → ascends number_of a z ws ≡ true
+to-ascends : (ws : List Window) (a z : ℕ) → Ascends (a + 1) ws z → ascends window_number a z ws ≡ true
 unfolding ascends
 to-ascends [] a z o = refl
 to-ascends (w ∷ ws) a z o =
@@ -251,7 +251,7 @@ to-ascends (w ∷ ws) a z o =
     let h = o.1 in
     let low : nat_lt a w.number ≡ true = grind (arith, nat_tests, l) in
     let high : nat_lt w.number z ≡ true = grind (arith, nat_tests, h) in
-    both (nat_lt a w.number && nat_lt w.number z) (ascends number_of w.number z ws)
+    both (nat_lt a w.number && nat_lt w.number z) (ascends window_number w.number z ws)
     (both (nat_lt a w.number) (nat_lt w.number z) low high) (to-ascends ws w.number z o.2)
 
 -- the last bound is above the first
@@ -265,7 +265,7 @@ ascends-bounds a (w ∷ ws) z o =
 ordered-of : (t : WindowTree) → is_ordered t ≡ true → IsOrdered t
 unfolding IsOrdered
 ordered-of t e =
-    let k = and_parts (not (t.next == 0)) (ascends number_of 0 t.next t.slots) e in
+    let k = and_parts (not (t.next == 0)) (ascends window_number 0 t.next t.slots) e in
     let l : 0 < t.next = grind (arith, nat_tests, k.0) in
     ascends-of t.slots 0 t.next l k.1
 
@@ -274,17 +274,17 @@ unfolding IsOrdered
 to-ordered t o =
     let l = ascends-bounds 1 t.slots t.next o in
     let k : not (t.next == 0) ≡ true = grind (arith, nat_tests, l) in
-    both (not (t.next == 0)) (ascends number_of 0 t.next t.slots) k (to-ascends t.slots 0 t.next o)
+    both (not (t.next == 0)) (ascends window_number 0 t.next t.slots) k (to-ascends t.slots 0 t.next o)
 
 -- ---- the test tells what is valid
 
-pub valid-of : (t : WindowTree) → is_valid t ≡ true → IsValid t
+pub valid-of : (t : WindowTree) → is_valid_tree t ≡ true → IsValidTree t
 valid-of t e =
     let f : Bool = nat_le (length t.slots) 64 in
     let k : Bool = are_keyed t.slots (tree_of t) in
-    let a = and_parts (is_ordered t) (f && (are_sound t.slots && (is_one_tree t && k))) e in
-    let b = and_parts f (are_sound t.slots && (is_one_tree t && k)) a.1 in
-    let d = and_parts (are_sound t.slots) (is_one_tree t && k) b.1 in
+    let a = and_parts (is_ordered t) (f && (are_sound_windows t.slots && (is_one_tree t && k))) e in
+    let b = and_parts f (are_sound_windows t.slots && (is_one_tree t && k)) a.1 in
+    let d = and_parts (are_sound_windows t.slots) (is_one_tree t && k) b.1 in
     let g = and_parts (is_one_tree t) k d.1 in
     record {
       ordered = ordered-of t a.0;
@@ -294,12 +294,12 @@ valid-of t e =
       sound = d.0;
     }
 
-pub of-valid : (t : WindowTree) → IsValid t → is_valid t ≡ true
+pub of-valid : (t : WindowTree) → IsValidTree t → is_valid_tree t ≡ true
 of-valid t v =
     let f : Bool = nat_le (length t.slots) 64 in
     let k : Bool = are_keyed t.slots (tree_of t) in
     let few = v.few in
-    both (is_ordered t) (f && (are_sound t.slots && (is_one_tree t && k))) (to-ordered t v.ordered)
-    (both f (are_sound t.slots && (is_one_tree t && k)) (grind (arith, nat_tests, few))
-    (both (are_sound t.slots) (is_one_tree t && k) v.sound
+    both (is_ordered t) (f && (are_sound_windows t.slots && (is_one_tree t && k))) (to-ordered t v.ordered)
+    (both f (are_sound_windows t.slots && (is_one_tree t && k)) (grind (arith, nat_tests, few))
+    (both (are_sound_windows t.slots) (is_one_tree t && k) v.sound
     (both (is_one_tree t) k v.one_tree v.keyed)))

@@ -5,30 +5,30 @@ use Rattle.glk_windows.specs.declared.window.Window.{Window}
 use Rattle.glk_windows.specs.declared.window.Pair as p
 use Rattle.glk_numbers.specs.Numbered.{changed_at, found}
 use Rattle.glk_windows.specs.Tree.{WindowTree, set_at, pair_swapped, swapped, parent_of, pair_content}
-use Rattle.glk_windows.specs.Opening.{joined, first_opened, beside_opened, is_kind, made, fresh}
-use Rattle.glk_windows.specs.OneTree.{Shape, Leaf, Fork, top, kids, count, bare, bare_in, node_of, Spells, forked, Once, IsTree}
+use Rattle.glk_windows.specs.Opening.{pair_joined, first_opened, beside_opened, is_kind, unplaced_window, new_content}
+use Rattle.glk_windows.specs.OneTree.{Shape, Leaf, Fork, top, kids, times_reached, pair_without_key, bare_in, node_of, SpellsTree, tree_forked, Once, IsTree}
 use Rattle.glk_windows.specs.declared.window.Content.{Content}
 use Rattle.glk_windows.specs.declared.window.Content.TheVariants.{Pair, Blank, Buffer, Grid}
 use Rattle.glk_windows.specs.Valid.{Ascends, IsOrdered}
 
 pub top_forked : (from pair new : ℕ) (p : p.Pair) (s : Shape)
-    → top (forked from pair p new s) ≡ (if top s == from then pair else top s)
+    → top (tree_forked from pair p new s) ≡ (if top s == from then pair else top s)
 top_forked from pair new p (Leaf n) = grind (arith, common_steps)
 top_forked from pair new p (Fork n q a b) = grind (arith, common_steps)
 
-pub count_top : (s : Shape) → 0 < count s (top s)
+pub count_top : (s : Shape) → 0 < times_reached s (top s)
 count_top (Leaf n) = grind (arith, common_steps)
 count_top (Fork n q a b) = grind (arith, common_steps)
 
-pub count_forked-none : (from pair new : ℕ) (p : p.Pair) (s : Shape) (m : ℕ) → count s from ≡ 0
-    → count (forked from pair p new s) m ≡ count s m
+pub count_forked-none : (from pair new : ℕ) (p : p.Pair) (s : Shape) (m : ℕ) → times_reached s from ≡ 0
+    → times_reached (tree_forked from pair p new s) m ≡ times_reached s m
 count_forked-none from pair new p (Leaf n) m h = grind (arith, common_steps)
 count_forked-none from pair new p (Fork n q a b) m h =
     grind (arith, common_steps, count_forked-none from pair new p a m, count_forked-none from pair new p b m)
 
 -- one pair and one window more
-pub count_forked : (from pair new : ℕ) (p : p.Pair) (s : Shape) (m : ℕ) → count s from ≡ 1
-    → count (forked from pair p new s) m ≡ count s m + (if pair == m then 1 else 0) + (if new == m then 1 else 0)
+pub count_forked : (from pair new : ℕ) (p : p.Pair) (s : Shape) (m : ℕ) → times_reached s from ≡ 1
+    → times_reached (tree_forked from pair p new s) m ≡ times_reached s m + (if pair == m then 1 else 0) + (if new == m then 1 else 0)
 count_forked from pair new p (Leaf n) m h = grind (arith, common_steps)
 count_forked from pair new p (Fork n q a b) m h =
     grind (arith, common_steps, count_forked from pair new p a m, count_forked from pair new p b m, count_forked-none from pair new p a m, count_forked-none from pair new p b m)
@@ -45,14 +45,14 @@ renode-same from pair q m u p h f g = grind (arith, common_steps)
 -- a part of the tree without the window is spelled as before
 pub spells_apart : (ws vs : List Window) (from pair q : ℕ)
     (h : (m : ℕ) (x : ℕ × Option p.Pair) → node_of ws m ≡ Some x → node_of vs m ≡ Some (renode from pair q m x))
-    → (s : Shape) (up : ℕ) → count s from ≡ 0 → Spells ws up s → Spells vs up s
+    → (s : Shape) (up : ℕ) → times_reached s from ≡ 0 → SpellsTree ws up s → SpellsTree vs up s
 spells_apart ws vs from pair q h (Leaf n) up c t =
     h n _ t ∙ ap Some (grind (arith, common_steps))
 spells_apart ws vs from pair q h (Fork n p a b) up c t =
-    let ca : count a from ≡ 0 = omega arith in
-    let cb : count b from ≡ 0 = omega arith in
-    let ta : 0 < count a (top a) = count_top a in
-    let tb : 0 < count b (top b) = count_top b in (
+    let ca : times_reached a from ≡ 0 = omega arith in
+    let cb : times_reached b from ≡ 0 = omega arith in
+    let ta : 0 < times_reached a (top a) = count_top a in
+    let tb : 0 < times_reached b (top b) = count_top b in (
       h n _ t.0 ∙ ap Some (renode-same from pair q n up p (grind (arith, common_steps))
           (λ e. grind (arith, common_steps)) (λ e. grind (arith, common_steps))),
       t.1,
@@ -62,7 +62,7 @@ spells_apart ws vs from pair q h (Fork n p a b) up c t =
     )
 
 pub spells-if : (b : Bool) (vs : List Window) (up : ℕ) (x y : Shape)
-    → (b ≡ true → Spells vs up x) → (b ≡ false → Spells vs up y) → Spells vs up (cond b x y)
+    → (b ≡ true → SpellsTree vs up x) → (b ≡ false → SpellsTree vs up y) → SpellsTree vs up (cond b x y)
 spells-if true vs up x y h k = h refl
 spells-if false vs up x y h k = k refl
 
@@ -72,7 +72,7 @@ is_eq a b e = grind (arith, common_steps)
 pub isnt_eq : (a b : ℕ) → (a == b) ≡ false → a ≢ b
 isnt_eq a b e = λ k. grind (arith, common_steps)
 
-pub spells_top : (ws : List Window) (s : Shape) (up : ℕ) → Spells ws up s → node_of ws (top s) ≡ Some (up, kids s)
+pub spells_top : (ws : List Window) (s : Shape) (up : ℕ) → SpellsTree ws up s → node_of ws (top s) ≡ Some (up, kids s)
 spells_top ws (Leaf n) up t = t
 spells_top ws (Fork n p a b) up t = t.0
 
@@ -84,19 +84,19 @@ pub renode-swap : (from pair q m u : ℕ) (p : p.Pair) → m ≢ from → (p.fir
     → renode from pair q m (u, Some p) ≡ (u, Some (pair_swapped p from pair))
 renode-swap from pair q m u p h f g = grind (arith, common_steps)
 
-pub not_top : (s : Shape) (m : ℕ) → count s m ≡ 0 → top s ≢ m
-not_top s m c = λ e. (let t : 0 < count s (top s) = count_top s in grind (arith, common_steps))
+pub not_top : (s : Shape) (m : ℕ) → times_reached s m ≡ 0 → top s ≢ m
+not_top s m c = λ e. (let t : 0 < times_reached s (top s) = count_top s in grind (arith, common_steps))
 
 pub swap-first : (from pair new : ℕ) (q p : p.Pair) (a : Shape) → p.first ≡ top a
-    → (pair_swapped p from pair).first ≡ top (forked from pair q new a)
+    → (pair_swapped p from pair).first ≡ top (tree_forked from pair q new a)
 swap-first from pair new q p a e = let t : _ = top_forked from pair new q a in grind (arith, common_steps)
 
 pub swap-second : (from pair new : ℕ) (q p : p.Pair) (a b : Shape) → p.first ≡ top a → p.second ≡ top b
-    → count a from + count b from ≤ 1 → (pair_swapped p from pair).second ≡ top (forked from pair q new b)
+    → times_reached a from + times_reached b from ≤ 1 → (pair_swapped p from pair).second ≡ top (tree_forked from pair q new b)
 swap-second from pair new q p a b e k c =
     let t : _ = top_forked from pair new q b in
-    let ta : 0 < count a (top a) = count_top a in
-    let tb : 0 < count b (top b) = count_top b in
+    let ta : 0 < times_reached a (top a) = count_top a in
+    let tb : 0 < times_reached b (top b) = count_top b in
     grind (arith, common_steps)
 
 -- the tree with the pair is spelled
@@ -105,7 +105,7 @@ pub spells_forked : (ws vs : List Window) (from pair new q : ℕ) (r : p.Pair)
     (hq : (m : ℕ) (x : ℕ × Option p.Pair) → m ≡ from → node_of ws m ≡ Some x → x.0 ≡ q)
     (hp : node_of vs pair ≡ Some (q, Some r)) (hn : node_of vs new ≡ Some (pair, None))
     (rf : r.first ≡ from) (rn : r.second ≡ new)
-    → (s : Shape) (up : ℕ) → ((m : ℕ) → count s m ≤ 1) → Spells ws up s → Spells vs up (forked from pair r new s)
+    → (s : Shape) (up : ℕ) → ((m : ℕ) → times_reached s m ≤ 1) → SpellsTree ws up s → SpellsTree vs up (tree_forked from pair r new s)
 spells_forked ws vs from pair new q r h hq hp hn rf rn (Leaf n) up c t =
     spells-if (n == from) vs up (Fork pair r (Leaf n) (Leaf new)) (Leaf n)
     (λ e. (
@@ -117,12 +117,12 @@ spells_forked ws vs from pair new q r h hq hp hn rf rn (Leaf n) up c t =
     ))
     (λ e. h n _ t ∙ ap Some (grind (arith, common_steps)))
 spells_forked ws vs from pair new q r h hq hp hn rf rn (Fork n p a b) up c t =
-    let ch : count (Fork n p a b) from ≤ 1 = c from in
+    let ch : times_reached (Fork n p a b) from ≤ 1 = c from in
     spells-if (n == from) vs up (Fork pair r (Fork n p a b) (Leaf new))
-    (Fork n (pair_swapped p from pair) (forked from pair r new a) (forked from pair r new b))
+    (Fork n (pair_swapped p from pair) (tree_forked from pair r new a) (tree_forked from pair r new b))
     (λ e. (let i : n ≡ from = is_eq n from e in
-    let ca : count a from ≡ 0 = grind (arith, common_steps) in
-    let cb : count b from ≡ 0 = grind (arith, common_steps) in (
+    let ca : times_reached a from ≡ 0 = grind (arith, common_steps) in
+    let cb : times_reached b from ≡ 0 = grind (arith, common_steps) in (
       hp ∙ ap (λ u. Some (u, Some r)) (sym (hq n _ i t.0)),
       rf ∙ sym i,
       rn,
@@ -161,7 +161,7 @@ node_set_at f g num nd (w ∷ ws) n m =
     grind (arith, common_steps)
 
 pub content-swapped : (c : Content) (a b : ℕ)
-    → option_map bare (pair_content (swapped c a b)) ≡ option_map (λ p. pair_swapped p a b) (option_map bare (pair_content c))
+    → option_map pair_without_key (pair_content (swapped c a b)) ≡ option_map (λ p. pair_swapped p a b) (option_map pair_without_key (pair_content c))
 content-swapped (Pair p) a b = grind (arith, common_steps)
 content-swapped Blank a b = refl
 content-swapped (Buffer x) a b = refl
@@ -197,7 +197,7 @@ renodes (Some (u, None)) from pair q m = grind (arith, common_steps)
 renodes (Some (u, Some p)) from pair q m = grind (arith, common_steps)
 
 pub node_joined : (ws : List Window) (from pair m : ℕ)
-    → node_of (joined ws from pair) m ≡ option_map (renode from pair (parent_of ws from) m) (node_of ws m)
+    → node_of (pair_joined ws from pair) m ≡ option_map (renode from pair (parent_of ws from) m) (node_of ws m)
 node_joined ws from pair m =
     let i : _ = node_set_at (λ w. record w { parent = pair }) (λ x. (pair, x.1)) (λ w. refl) (λ w. refl)
     (set_at (λ w. record w { content = swapped w.content from pair }) ws (parent_of ws from)) from m in
@@ -216,7 +216,7 @@ fresh-if : (b : Bool) (x y : Content) → pair_content x ≡ None → pair_conte
 fresh-if true x y e k = e
 fresh-if false x y e k = k
 
-pub pair_fresh : (kind : ℕ) → pair_content (fresh kind) ≡ None
+pub pair_fresh : (kind : ℕ) → pair_content (new_content kind) ≡ None
 pair_fresh kind = fresh-if (kind == 3) _ _ refl (fresh-if (kind == 4) _ _ refl refl)
 
 pub once_le : (b : Bool) (n : ℕ) → n ≡ (if b then 1 else 0) → n ≤ 1
@@ -254,15 +254,15 @@ beside-node js ws z m v u q r f o a b c d e g h =
 -- the list that `split` leaves, as the lemmas on shapes want it
 pub beside_nodes : (t : WindowTree) (from method size kind rock : ℕ) → IsOrdered t
     → Beside t.slots t.next from
-    (joined t.slots from (t.next + 1)
-    ++ made t.next rock (t.next + 1) (fresh kind)
-    ∷ made (t.next + 1) 0 (parent_of t.slots from)
+    (pair_joined t.slots from (t.next + 1)
+    ++ unplaced_window t.next rock (t.next + 1) (new_content kind)
+    ∷ unplaced_window (t.next + 1) 0 (parent_of t.slots from)
     (Pair (record { method = method; size = size; key = t.next; first = from; second = t.next })) ∷ [])
     (parent_of t.slots from) (record { method = method; size = size; key = 0; first = from; second = t.next })
 unfolding IsOrdered
 beside_nodes t from method size kind rock o m =
-    beside-node (joined t.slots from (t.next + 1)) t.slots t.next m _ _ (parent_of t.slots from) _
-    (renode from (t.next + 1) (parent_of t.slots from) m) o refl refl refl refl (ap (option_map bare) (pair_fresh kind)) refl
+    beside-node (pair_joined t.slots from (t.next + 1)) t.slots t.next m _ _ (parent_of t.slots from) _
+    (renode from (t.next + 1) (parent_of t.slots from) m) o refl refl refl refl (ap (option_map pair_without_key) (pair_fresh kind)) refl
     (node_joined t.slots from (t.next + 1) m)
 
 once-cases : (b c : Bool) (z m : ℕ) (o v : Option (ℕ × Option p.Pair)) (n : ℕ) (x : ℕ × Option p.Pair)
@@ -276,14 +276,14 @@ once-cases b c z m (Some s) v n x w y e f k l j h = grind (arith, common_steps)
 
 -- one more pair and window are in the tree once
 pub once_forked : (ws vs : List Window) (z from q : ℕ) (r : p.Pair) (s : Shape) → Ascends 1 ws z
-    → Beside ws z from vs q r → count s from ≡ 1 → Once ws s → Once vs (forked from (z + 1) r z s)
+    → Beside ws z from vs q r → times_reached s from ≡ 1 → Once ws s → Once vs (tree_forked from (z + 1) r z s)
 once_forked ws vs z from q r s o h c w m =
     let i : _ = count_forked from (z + 1) z r s m c in
-    let j : count s m ≡ (if is_some (node_of ws m) then 1 else 0) = w m in
+    let j : times_reached s m ≡ (if is_some (node_of ws m) then 1 else 0) = w m in
     let k : is_some (option_map (renode from (z + 1) q m) (node_of ws m)) ≡ is_some (node_of ws m) = once-mapped _ _ in
     let lz : z ≤ m → node_of ws m ≡ None = node_later 1 ws z m o in
     let hm : _ = h m in
-    i ∙ once-cases (m == z) (m == z + 1) z m (node_of ws m) (node_of vs m) (count s m) _ _ _ refl refl k lz j hm
+    i ∙ once-cases (m == z) (m == z + 1) z m (node_of ws m) (node_of vs m) (times_reached s m) _ _ _ refl refl k lz j hm
 
 tree-if : (b : Bool) (x y : WindowTree × ℕ) (s u : Shape) → IsTree x.0 (Some s) → IsTree y.0 (Some u)
     → IsTree (cond b x y).0 (Some (cond b s u))
@@ -311,17 +311,17 @@ pub tree_beside : (t : WindowTree) (from method size kind rock : ℕ) (s : Shape
     → IsOrdered t → node_of t.slots from ≡ Some x → IsTree t (Some s)
     → IsTree (beside_opened t from method size kind rock).0
     (Some (if not (is_kind kind) || nat_le 4294967294 t.next || nat_lt 64 (length t.slots + 2) then s
-    else forked from (t.next + 1)
+    else tree_forked from (t.next + 1)
     (record { method = method; size = size; key = 0; first = from; second = t.next }) t.next s))
 unfolding IsOrdered
 tree_beside t from method size kind rock s x o live h =
     let r : p.Pair = record { method = method; size = size; key = 0; first = from; second = t.next } in
-    let vs : List Window = joined t.slots from (t.next + 1)
-    ++ made t.next rock (t.next + 1) (fresh kind)
-    ∷ made (t.next + 1) 0 (parent_of t.slots from) (Pair (record r { key = t.next })) ∷ [] in
+    let vs : List Window = pair_joined t.slots from (t.next + 1)
+    ++ unplaced_window t.next rock (t.next + 1) (new_content kind)
+    ∷ unplaced_window (t.next + 1) 0 (parent_of t.slots from) (Pair (record r { key = t.next })) ∷ [] in
     let q : ℕ = parent_of t.slots from in
     let b : Beside t.slots t.next from vs q r = beside_nodes t from method size kind rock o in
-    let c1 : count s from ≡ 1 = once_at _ _ x live (h.2 from) in
+    let c1 : times_reached s from ≡ 1 = once_at _ _ x live (h.2 from) in
     let bn : _ = b t.next in
     let bp : _ = b (t.next + 1) in
     tree-if (not (is_kind kind) || nat_le 4294967294 t.next || nat_lt 64 (length t.slots + 2)) _ _ _ _ h (

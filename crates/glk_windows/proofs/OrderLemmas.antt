@@ -4,11 +4,11 @@ use Rattle.glk_windows.specs.declared.window.Window.{Window}
 use Rattle.glk_windows.specs.declared.window.Area.{Area}
 use Rattle.glk_windows.specs.declared.window.Pair as p
 use Rattle.glk_numbers.specs.Numbered.{changed_at, without}
-use Rattle.glk_windows.specs.Tree.{WindowTree, number_of, set_at, pair_of, swapped, parent_of, stream_of}
-use Rattle.glk_windows.specs.Opening.{joined, first_opened, beside_opened, is_kind}
-use Rattle.glk_windows.specs.Reading.{other as sibling}
-use Rattle.glk_windows.specs.Placing.{placed, divided, with_area, place}
-use Rattle.glk_windows.specs.Closing.{closed, unlinked, removed, both, close, ended}
+use Rattle.glk_windows.specs.Tree.{WindowTree, window_number, set_at, pair_of, swapped, parent_of, stream_of}
+use Rattle.glk_windows.specs.Opening.{pair_joined, first_opened, beside_opened, is_kind}
+use Rattle.glk_windows.specs.Reading.{other_window as sibling}
+use Rattle.glk_windows.specs.Placing.{windows_placed, pair_divided, with_area, place}
+use Rattle.glk_windows.specs.Closing.{windows_without, unlinked, removed, both, close, sibling_lifted}
 use Rattle.glk_windows.specs.Resizing.{sized}
 use Rattle.glk_windows.specs.Valid.{Ascends, IsOrdered}
 
@@ -30,11 +30,11 @@ pub ascends-from : (a b : ℕ) (ws : List Window) (z : ℕ) → a ≤ b → Asce
 ascends-from a b [] z h o = omega arith
 ascends-from a b (w ∷ ws) z h o = (omega arith, o.1, o.2)
 
-pub ascends-without : (a : ℕ) (ws : List Window) (z n : ℕ) → Ascends a ws z → Ascends a (without number_of ws n) z
+pub ascends-without : (a : ℕ) (ws : List Window) (z n : ℕ) → Ascends a ws z → Ascends a (without window_number ws n) z
 unfolding without
 ascends-without a [] z n o = o
 ascends-without a (w ∷ ws) z n o =
-    elim (nat_eq w.number n) as (λ b. Ascends a (cond b ws (w ∷ without number_of ws n)) z) [
+    elim (nat_eq w.number n) as (λ b. Ascends a (cond b ws (w ∷ without window_number ws n)) z) [
       | true ↦ (ascends-from a (w.number + 1) ws z (omega arith) o.2)
       | false ↦ (o.0, o.1, ascends-without (w.number + 1) ws z n o.2)
     ]
@@ -45,22 +45,22 @@ pub ascends-more : (a : ℕ) (ws : List Window) (z : ℕ) (v : Window) → v.num
 ascends-more a [] z v e o = (omega arith, omega arith, omega arith)
 ascends-more a (w ∷ ws) z v e o = (o.0, omega arith, ascends-more (w.number + 1) ws z v e o.2)
 
-pub ascends-closed : (a : ℕ) (ws : List Window) (z n : ℕ) → Ascends a ws z → Ascends a (closed ws n) z
+pub ascends-closed : (a : ℕ) (ws : List Window) (z n : ℕ) → Ascends a ws z → Ascends a (windows_without ws n) z
 ascends-closed a ws z n o =
-    ascends-map (unlinked n (stream_of ws n)) (λ w. refl) a (without number_of ws n) z (ascends-without a ws z n o)
+    ascends-map (unlinked n (stream_of ws n)) (λ w. refl) a (without window_number ws n) z (ascends-without a ws z n o)
 
 -- a step that keeps the order keeps it in both parts
 pub ascends-divided : (f : List Window → ℕ → Area → List Window)
     (h : (a : ℕ) (ws : List Window) (z n : ℕ) (r : Area) → Ascends a ws z → Ascends a (f ws n r) z)
-    → (a : ℕ) (ws : List Window) (z : ℕ) (o : Option p.Pair) (r : Area) → Ascends a ws z → Ascends a (divided f ws o r) z
+    → (a : ℕ) (ws : List Window) (z : ℕ) (o : Option p.Pair) (r : Area) → Ascends a ws z → Ascends a (pair_divided f ws o r) z
 ascends-divided f h a ws z None r o = o
 ascends-divided f h a ws z (Some p) r o = h _ _ _ _ _ (h _ _ _ _ _ o)
 
-pub ascends-placed : (d a : ℕ) (ws : List Window) (z n : ℕ) (r : Area) → Ascends a ws z → Ascends a (placed d ws n r) z
-unfolding placed
+pub ascends-placed : (d a : ℕ) (ws : List Window) (z n : ℕ) (r : Area) → Ascends a ws z → Ascends a (windows_placed d ws n r) z
+unfolding windows_placed
 ascends-placed zero a ws z n r o = o
 ascends-placed (suc d) a ws z n r o =
-    ascends-divided (placed d) (ascends-placed d) a (with_area ws n r) z (pair_of ws n) r
+    ascends-divided (windows_placed d) (ascends-placed d) a (with_area ws n r) z (pair_of ws n) r
     (ascends-set_at (sized r) (λ w. refl) a ws z n o)
 
 pub ascends-both : (f : List Window → ℕ → List Window)
@@ -73,9 +73,9 @@ pub ascends-removed : (d a : ℕ) (ws : List Window) (z n : ℕ) → Ascends a w
 unfolding removed
 ascends-removed zero a ws z n o = o
 ascends-removed (suc d) a ws z n o =
-    ascends-both (removed d) (ascends-removed d) a (closed ws n) z (pair_of ws n) (ascends-closed a ws z n o)
+    ascends-both (removed d) (ascends-removed d) a (windows_without ws n) z (pair_of ws n) (ascends-closed a ws z n o)
 
-pub ascends-joined : (a : ℕ) (ws : List Window) (z from pair : ℕ) → Ascends a ws z → Ascends a (joined ws from pair) z
+pub ascends-joined : (a : ℕ) (ws : List Window) (z from pair : ℕ) → Ascends a ws z → Ascends a (pair_joined ws from pair) z
 ascends-joined a ws z from pair o =
     ascends-set_at (λ w. record w { parent = pair }) (λ w. refl) a _ z from
     (ascends-set_at (λ w. record w { content = swapped w.content from pair }) (λ w. refl) a ws z (parent_of ws from) o)
@@ -103,7 +103,7 @@ pub ordered_beside : (t : WindowTree) (from method size kind rock : ℕ) → IsO
 unfolding IsOrdered
 ordered_beside t from method size kind rock o =
     ordered-cond (not (is_kind kind) || nat_le 4294967294 t.next || nat_lt 64 (length t.slots + 2))
-    _ _ o (ascends-two 1 (joined t.slots from (t.next + 1)) t.next _ _ refl refl
+    _ _ o (ascends-two 1 (pair_joined t.slots from (t.next + 1)) t.next _ _ refl refl
     (ascends-joined 1 t.slots t.next from (t.next + 1) o))
 
 pub ordered_place : (t : WindowTree) (cols rows : ℕ) → IsOrdered t → IsOrdered (place t cols rows)
@@ -115,7 +115,7 @@ unfolding IsOrdered
 ordered-if true x y o k = o
 ordered-if false x y o k = k
 
-ordered-ended : (t : WindowTree) (pair : ℕ) (o : Option p.Pair) (n : ℕ) → IsOrdered t → IsOrdered (ended t pair o n)
+ordered-ended : (t : WindowTree) (pair : ℕ) (o : Option p.Pair) (n : ℕ) → IsOrdered t → IsOrdered (sibling_lifted t pair o n)
 unfolding IsOrdered
 ordered-ended t pair None n h = h
 ordered-ended t pair (Some p) n h =

@@ -7,12 +7,12 @@ use Rattle.glk_windows.specs.declared.window.Window.{Window}
 use Rattle.glk_windows.specs.declared.window.Pair as pairs
 use Rattle.glk_windows.specs.declared.window.Content.{Content}
 use Rattle.glk_windows.specs.declared.window.Content.TheVariants.{Pair, Blank, Buffer, Grid}
-use Rattle.glk_windows.specs.Tree.{WindowTree, number_of, pair_of, parent_of, stream_of, swapped}
-use Rattle.glk_windows.specs.Closing.{both, close, closed, content_unkeyed, ended, forgotten, removed}
-use Rattle.glk_windows.specs.Reading.{other as sibling}
-use Rattle.glk_windows.specs.OneTree.{Shape, bare, below, count, held, node_of, IsTree, top}
+use Rattle.glk_windows.specs.Tree.{WindowTree, window_number, pair_of, parent_of, stream_of, swapped}
+use Rattle.glk_windows.specs.Closing.{both, close, windows_without, content_unkeyed, sibling_lifted, forgotten, removed}
+use Rattle.glk_windows.specs.Reading.{other_window as sibling}
+use Rattle.glk_windows.specs.OneTree.{Shape, pair_without_key, below, times_reached, pair_above, node_of, IsTree, top}
 use Rattle.glk_windows.specs.Valid.{Ascends, IsOrdered}
-use Rattle.glk_windows.specs.Laws.{ClosesBelow, goes_with, own, own_content, own_of}
+use Rattle.glk_windows.specs.Laws.{ClosesBelow, goes_with, own_fields, own_content, own_of}
 use Rattle.glk_windows.proofs.CutLemmas.{node_lower, node_pair}
 use Rattle.glk_windows.proofs.CloseLemmas.{node_rest, pair_rest}
 use Rattle.glk_windows.proofs.OneTreeLemmas.{is_eq, isnt_eq, node_parent, spells_top}
@@ -55,7 +55,7 @@ own-forgotten (w ∷ ws) n s m =
     grind (arith, common_steps)
 
 own-without : (a : ℕ) (ws : List Window) (z n m : ℕ) → Ascends a ws z
-    → own_of (without number_of ws n) m ≡ (if m == n then None else own_of ws m)
+    → own_of (without window_number ws n) m ≡ (if m == n then None else own_of ws m)
 unfolding found without
 own-without a [] z n m o = grind (arith, common_steps)
 own-without a (w ∷ ws) z n m o =
@@ -65,9 +65,9 @@ own-without a (w ∷ ws) z n m o =
     grind (arith, common_steps)
 
 own-closed : (a : ℕ) (ws : List Window) (z n m : ℕ) → Ascends a ws z
-    → own_of (closed ws n) m ≡ (if m == n then None else own_of ws m)
+    → own_of (windows_without ws n) m ≡ (if m == n then None else own_of ws m)
 own-closed a ws z n m o =
-    own-forgotten (without number_of ws n) n (stream_of ws n) m ∙ own-without a ws z n m o
+    own-forgotten (without window_number ws n) n (stream_of ws n) m ∙ own-without a ws z n m o
 
 -- a window keeps what is its own, or is gone
 abbrev Rests : List Window → List Window → ℕ → Type 0
@@ -82,7 +82,7 @@ rests-if : (b : Bool) (o v : Option Window) → v ≡ (if b then None else o) �
 rests-if true o v e = inr e
 rests-if false o v e = inl e
 
-rests-closed : (a : ℕ) (ws : List Window) (z n m : ℕ) → Ascends a ws z → Rests ws (closed ws n) m
+rests-closed : (a : ℕ) (ws : List Window) (z n m : ℕ) → Ascends a ws z → Rests ws (windows_without ws n) m
 rests-closed a ws z n m o = rests-if (m == n) (own_of ws m) _ (own-closed a ws z n m o)
 
 rests-both : (f : List Window → ℕ → List Window) (a z m : ℕ)
@@ -98,10 +98,10 @@ rests-removed : (d a : ℕ) (ws : List Window) (z n m : ℕ) → Ascends a ws z
 unfolding removed
 rests-removed zero a ws z n m o = inl refl
 rests-removed (suc d) a ws z n m o =
-    rests-on ws (closed ws n) _ m (rests-closed a ws z n m o)
+    rests-on ws (windows_without ws n) _ m (rests-closed a ws z n m o)
     (rests-both (removed d) a z m
     (λ vs k l. (ascends-removed d a vs z k l, rests-removed d a vs z k m l))
-    (closed ws n) (pair_of ws n) (ascends-closed a ws z n o))
+    (windows_without ws n) (pair_of ws n) (ascends-closed a ws z n o))
 
 -- the windows that are gone have nothing, and the others what they had
 own-rest : (ws vs : List Window) (m : ℕ) (b : Bool)
@@ -115,16 +115,16 @@ own-rest ws vs m false e (inr f) =
 
 -- the pair ends, and its other window takes its place
 own-ended : (u : WindowTree) (pair : ℕ) (o : Option pairs.Pair) (r : pairs.Pair) (n m : ℕ)
-    → option_map bare o ≡ Some r → Ascends 1 u.slots u.next
-    → own_of (ended u pair o n).slots m ≡ (if m == pair then None else own_of u.slots m)
+    → option_map pair_without_key o ≡ Some r → Ascends 1 u.slots u.next
+    → own_of (sibling_lifted u pair o n).slots m ≡ (if m == pair then None else own_of u.slots m)
 own-ended u pair None r n m e a = cc
 own-ended u pair (Some q) r n m e a =
-    read_set_at None (λ w. Some (own w)) (λ w. record w { parent = parent_of u.slots pair })
+    read_set_at None (λ w. Some (own_fields w)) (λ w. record w { parent = parent_of u.slots pair })
     (λ w. refl) (λ w. refl) _ (sibling q n) m
-    ∙ read_set_at None (λ w. Some (own w))
+    ∙ read_set_at None (λ w. Some (own_fields w))
     (λ w. record w { content = swapped w.content pair (sibling q n) }) (λ w. refl)
     (λ w. ap (λ c. Some (record w { echo = 0; parent = 0; content = c }))
-    (content-swapped w.content pair (sibling q n))) (closed u.slots pair)
+    (content-swapped w.content pair (sibling q n))) (windows_without u.slots pair)
     (parent_of u.slots pair) m
     ∙ own-closed 1 u.slots u.next pair m a
 
@@ -156,7 +156,7 @@ not-root t s n h e = λ i.
 own-close : (t : WindowTree) (s : Shape) (n : ℕ) (x : ℕ × Option pairs.Pair) (m : ℕ)
     → IsOrdered t → IsTree t (Some s) → node_of t.slots n ≡ Some x
     → own_of (close t n).slots m
-    ≡ (if m == parent_of t.slots n || nat_lt 0 (count (below n s) m) then None
+    ≡ (if m == parent_of t.slots n || nat_lt 0 (times_reached (below n s) m) then None
     else own_of t.slots m)
 unfolding IsOrdered
 own-close t s n x m o h live =
@@ -164,16 +164,16 @@ own-close t s n x m o h live =
     let pair : ℕ = parent_of ws n in
     let w2 : List Window = removed (length ws) ws n in
     let u : WindowTree = record t { slots = w2 } in
-    let gone : Bool = nat_lt 0 (count (below n s) m) in
+    let gone : Bool = nat_lt 0 (times_reached (below n s) m) in
     let r : own_of w2 m ≡ (if gone then None else own_of ws m) =
     own-rest ws w2 m gone (node_rest t s n x o h live m)
     (rests-removed (length ws) 1 ws t.next n m o) in
-    own-if (pair == 0) (record u { root = 0 }) (ended u pair (pair_of w2 pair) n) m
+    own-if (pair == 0) (record u { root = 0 }) (sibling_lifted u pair (pair_of w2 pair) n) m
     (if m == pair || gone then None else own_of ws m)
     (λ e. r ∙ or-none (m == pair) gone (own_of ws m)
     (λ i. own-none ws m (node_lower 1 ws t.next m o
     (omega (arith, is_eq m pair i, is_eq pair 0 e)))))
-    (λ e. own-ended u pair (pair_of w2 pair) (held n s) n m
+    (λ e. own-ended u pair (pair_of w2 pair) (pair_above n s) n m
     (node_pair w2 pair _ (pair_rest t s n x o h live (not-root t s n h e)))
     (ascends-removed (length ws) 1 ws t.next n o)
     ∙ ap (λ v. if m == pair then None else v) r ∙ or-twice (m == pair) gone (own_of ws m))
@@ -184,7 +184,7 @@ closes-tree : (t : WindowTree) (n m : ℕ) (x : ℕ × Option pairs.Pair) → Is
 closes-tree t n m x o l (None, h, k) = absurd (node_nil t.slots n x h.1 l)
 closes-tree t n m x o l (Some s, h, k) =
     own-close t s n x m o h l
-    ∙ ap (λ y. if m == parent_of t.slots n || nat_lt 0 (count (below n y) m) then None
+    ∙ ap (λ y. if m == parent_of t.slots n || nat_lt 0 (times_reached (below n y) m) then None
     else own_of t.slots m) (sym (tree_found t s o h))
 
 pub closes_below : ClosesBelow

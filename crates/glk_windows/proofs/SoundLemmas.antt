@@ -9,17 +9,17 @@ use Rattle.glk_windows.specs.declared.window.Pair as pairs
 use Rattle.glk_windows.specs.declared.window.Grid as g
 use Rattle.glk_windows.specs.declared.window.Content.{Content}
 use Rattle.glk_windows.specs.declared.window.Content.TheVariants.{Pair, Blank, Buffer, Grid}
-use Rattle.glk_windows.specs.Tree.{number_of, set_at, pair_of, swapped, arranged, moved, stream_of}
-use Rattle.glk_windows.specs.Output.{content_put, content_cleared, content_kept, grid_put, cell_put, next_row}
+use Rattle.glk_windows.specs.Tree.{window_number, set_at, pair_of, swapped, content_arranged, grid_cursor_moved, stream_of}
+use Rattle.glk_windows.specs.Output.{content_put, content_cleared, content_kept, grid_put, cell_put, next_grid_row}
 use Rattle.glk_windows.specs.Resizing.{sized, content_sized, row_sized, rows_sized}
-use Rattle.glk_windows.specs.Closing.{closed, unlinked, content_unkeyed, removed, both}
-use Rattle.glk_windows.specs.Placing.{placed, divided, with_area}
+use Rattle.glk_windows.specs.Closing.{windows_without, unlinked, content_unkeyed, removed, both}
+use Rattle.glk_windows.specs.Placing.{windows_placed, pair_divided, with_area}
 use Rattle.glk_windows.specs.Arranging.{is_method}
-use Rattle.glk_windows.specs.Valid.{is_sound, is_sound_content, are_sound}
+use Rattle.glk_windows.specs.Valid.{is_sound_window, is_sound_content, are_sound_windows}
 
 -- a change that keeps a window sound
 abbrev pub KeepsSound : (Window → Window) → Type 0
-KeepsSound f = (w : Window) → is_sound w ≡ true → is_sound (f w) ≡ true
+KeepsSound f = (w : Window) → is_sound_window w ≡ true → is_sound_window (f w) ≡ true
 
 sound-cons : (a b : Bool) → a ≡ true → b ≡ true → (a && b) ≡ true
 sound-cons true b e f = f
@@ -33,36 +33,36 @@ sound-rest : (a b : Bool) → (a && b) ≡ true → b ≡ true
 sound-rest true b e = e
 sound-rest false b e = cc
 
-sound-if : (b : Bool) (x y : List Window) → are_sound x ≡ true → are_sound y ≡ true → are_sound (cond b x y) ≡ true
+sound-if : (b : Bool) (x y : List Window) → are_sound_windows x ≡ true → are_sound_windows y ≡ true → are_sound_windows (cond b x y) ≡ true
 sound-if true x y e f = e
 sound-if false x y e f = f
 
 pub sound_set_at : (f : Window → Window) → KeepsSound f → (ws : List Window) (n : ℕ)
-    → are_sound ws ≡ true → are_sound (set_at f ws n) ≡ true
+    → are_sound_windows ws ≡ true → are_sound_windows (set_at f ws n) ≡ true
 unfolding changed_at
 sound_set_at f k [] n e = refl
 sound_set_at f k (w ∷ ws) n e =
-    let h : is_sound w ≡ true = sound-head _ _ e in
-    let r : are_sound ws ≡ true = sound-rest (is_sound w) _ e in
+    let h : is_sound_window w ≡ true = sound-head _ _ e in
+    let r : are_sound_windows ws ≡ true = sound-rest (is_sound_window w) _ e in
     sound-if (nat_eq w.number n) _ _ (sound-cons _ _ (k w h) r) (sound-cons _ _ h (sound_set_at f k ws n r))
 
 pub sound_map : (f : Window → Window) → KeepsSound f → (ws : List Window)
-    → are_sound ws ≡ true → are_sound (map f ws) ≡ true
+    → are_sound_windows ws ≡ true → are_sound_windows (map f ws) ≡ true
 sound_map f k [] e = refl
 sound_map f k (w ∷ ws) e =
-    sound-cons _ _ (k w (sound-head _ _ e)) (sound_map f k ws (sound-rest (is_sound w) _ e))
+    sound-cons _ _ (k w (sound-head _ _ e)) (sound_map f k ws (sound-rest (is_sound_window w) _ e))
 
-sound-without : (ws : List Window) (n : ℕ) → are_sound ws ≡ true → are_sound (without number_of ws n) ≡ true
+sound-without : (ws : List Window) (n : ℕ) → are_sound_windows ws ≡ true → are_sound_windows (without window_number ws n) ≡ true
 unfolding without
 sound-without [] n e = refl
 sound-without (w ∷ ws) n e =
-    let r : are_sound ws ≡ true = sound-rest (is_sound w) _ e in
+    let r : are_sound_windows ws ≡ true = sound-rest (is_sound_window w) _ e in
     sound-if (nat_eq w.number n) _ _ r (sound-cons _ _ (sound-head _ _ e) (sound-without ws n r))
 
-pub sound_append : (ws vs : List Window) → are_sound ws ≡ true → are_sound vs ≡ true → are_sound (ws ++ vs) ≡ true
+pub sound_append : (ws vs : List Window) → are_sound_windows ws ≡ true → are_sound_windows vs ≡ true → are_sound_windows (ws ++ vs) ≡ true
 sound_append [] vs e f = f
 sound_append (w ∷ ws) vs e f =
-    sound-cons _ _ (sound-head _ _ e) (sound_append ws vs (sound-rest (is_sound w) _ e) f)
+    sound-cons _ _ (sound-head _ _ e) (sound_append ws vs (sound-rest (is_sound_window w) _ e) f)
 
 -- a pair with another child
 pub sound_swapped : (c : Content) (a : Area) (old new : ℕ) → is_sound_content c a ≡ true
@@ -73,14 +73,14 @@ sound_swapped (Buffer b) a old new e = e
 sound_swapped (Grid g) a old new e = e
 
 pub sound_arranged : (c : Content) (a : Area) (method size key : ℕ) → is_method method ≡ true
-    → is_sound_content c a ≡ true → is_sound_content (arranged c method size key) a ≡ true
+    → is_sound_content c a ≡ true → is_sound_content (content_arranged c method size key) a ≡ true
 sound_arranged (Pair q) a method size key m e = m
 sound_arranged Blank a method size key m e = e
 sound_arranged (Buffer b) a method size key m e = e
 sound_arranged (Grid g) a method size key m e = e
 
 pub sound_moved : (c : Content) (a : Area) (x y : ℕ) → is_sound_content c a ≡ true
-    → is_sound_content (moved c x y) a ≡ true
+    → is_sound_content (grid_cursor_moved c x y) a ≡ true
 sound_moved (Pair q) a x y e = e
 sound_moved Blank a x y e = e
 sound_moved (Buffer b) a x y e = e
@@ -113,9 +113,9 @@ whole-cell x a code e =
 
 whole-put : (x : g.Grid) (a : Area) (code : ℕ) → is_whole x a ≡ true → is_whole (grid_put x code) a ≡ true
 whole-put x a code e =
-    whole-if (code == 10) (next_row x) (cell_put (if nat_le x.w x.x then next_row x else x) code) a e
-    (whole-cell (if nat_le x.w x.x then next_row x else x) a code
-    (whole-if (nat_le x.w x.x) (next_row x) x a e e))
+    whole-if (code == 10) (next_grid_row x) (cell_put (if nat_le x.w x.x then next_grid_row x else x) code) a e
+    (whole-cell (if nat_le x.w x.x then next_grid_row x else x) a code
+    (whole-if (nat_le x.w x.x) (next_grid_row x) x a e e))
 
 pub sound_put : (c : Content) (a : Area) (code style : ℕ) → is_sound_content c a ≡ true
     → is_sound_content (content_put c code style) a ≡ true
@@ -173,33 +173,33 @@ pub sound_sized : (a : Area) → KeepsSound (sized a)
 sound_sized a w e = sized-content w.content w.area a e
 
 sound-divided : (f : List Window → ℕ → Area → List Window)
-    (h : (ws : List Window) (n : ℕ) (r : Area) → are_sound ws ≡ true → are_sound (f ws n r) ≡ true)
-    → (ws : List Window) (o : Option pairs.Pair) (r : Area) → are_sound ws ≡ true → are_sound (divided f ws o r) ≡ true
+    (h : (ws : List Window) (n : ℕ) (r : Area) → are_sound_windows ws ≡ true → are_sound_windows (f ws n r) ≡ true)
+    → (ws : List Window) (o : Option pairs.Pair) (r : Area) → are_sound_windows ws ≡ true → are_sound_windows (pair_divided f ws o r) ≡ true
 sound-divided f h ws None r e = e
 sound-divided f h ws (Some q) r e = h _ _ _ (h _ _ _ e)
 
-pub sound_placed : (d : ℕ) (ws : List Window) (n : ℕ) (r : Area) → are_sound ws ≡ true → are_sound (placed d ws n r) ≡ true
-unfolding placed
+pub sound_placed : (d : ℕ) (ws : List Window) (n : ℕ) (r : Area) → are_sound_windows ws ≡ true → are_sound_windows (windows_placed d ws n r) ≡ true
+unfolding windows_placed
 sound_placed zero ws n r e = e
 sound_placed (suc d) ws n r e =
-    sound-divided (placed d) (sound_placed d) (with_area ws n r) (pair_of ws n) r
+    sound-divided (windows_placed d) (sound_placed d) (with_area ws n r) (pair_of ws n) r
     (sound_set_at (sized r) (sound_sized r) ws n e)
 
-pub sound_closed : (ws : List Window) (n : ℕ) → are_sound ws ≡ true → are_sound (closed ws n) ≡ true
+pub sound_closed : (ws : List Window) (n : ℕ) → are_sound_windows ws ≡ true → are_sound_windows (windows_without ws n) ≡ true
 sound_closed ws n e =
     sound_map (unlinked n (stream_of ws n)) (λ w f. sound-unkeyed w.content w.area n f)
-    (without number_of ws n) (sound-without ws n e)
+    (without window_number ws n) (sound-without ws n e)
 
 sound-both : (f : List Window → ℕ → List Window)
-    (h : (ws : List Window) (n : ℕ) → are_sound ws ≡ true → are_sound (f ws n) ≡ true)
-    → (ws : List Window) (o : Option pairs.Pair) → are_sound ws ≡ true → are_sound (both f ws o) ≡ true
+    (h : (ws : List Window) (n : ℕ) → are_sound_windows ws ≡ true → are_sound_windows (f ws n) ≡ true)
+    → (ws : List Window) (o : Option pairs.Pair) → are_sound_windows ws ≡ true → are_sound_windows (both f ws o) ≡ true
 sound-both f h ws None e = e
 sound-both f h ws (Some q) e = h _ _ (h _ _ e)
 
-pub sound_removed : (d : ℕ) (ws : List Window) (n : ℕ) → are_sound ws ≡ true → are_sound (removed d ws n) ≡ true
+pub sound_removed : (d : ℕ) (ws : List Window) (n : ℕ) → are_sound_windows ws ≡ true → are_sound_windows (removed d ws n) ≡ true
 unfolding removed
 sound_removed zero ws n e = e
-sound_removed (suc d) ws n e = sound-both (removed d) (sound_removed d) (closed ws n) (pair_of ws n) (sound_closed ws n e)
+sound_removed (suc d) ws n e = sound-both (removed d) (sound_removed d) (windows_without ws n) (pair_of ws n) (sound_closed ws n e)
 
 -- how many windows there are
 length-if : (b : Bool) (x y : List Window) (k : ℕ) → length x ≤ k → length y ≤ k → length (cond b x y) ≤ k
@@ -211,16 +211,16 @@ unfolding changed_at
 length_set_at f [] n = refl
 length_set_at f (w ∷ ws) n = let k : _ = length_set_at f ws n in grind (arith, common_steps)
 
-length-without : (ws : List Window) (n : ℕ) → length (without number_of ws n) ≤ length ws
+length-without : (ws : List Window) (n : ℕ) → length (without window_number ws n) ≤ length ws
 unfolding without
 length-without [] n = omega arith
 length-without (w ∷ ws) n =
     let k : _ = length-without ws n in
-    length-if (nat_eq w.number n) ws (w ∷ without number_of ws n) (length (w ∷ ws)) (omega arith) (omega (arith, k))
+    length-if (nat_eq w.number n) ws (w ∷ without window_number ws n) (length (w ∷ ws)) (omega arith) (omega (arith, k))
 
-pub length_closed : (ws : List Window) (n : ℕ) → length (closed ws n) ≤ length ws
+pub length_closed : (ws : List Window) (n : ℕ) → length (windows_without ws n) ≤ length ws
 length_closed ws n =
-    let i : length (closed ws n) ≡ length (without number_of ws n) = length-map (without number_of ws n) (unlinked n (stream_of ws n)) in
+    let i : length (windows_without ws n) ≡ length (without window_number ws n) = length-map (without window_number ws n) (unlinked n (stream_of ws n)) in
     omega (arith, i, length-without ws n)
 
 length-both : (f : List Window → ℕ → List Window) (h : (ws : List Window) (n : ℕ) → length (f ws n) ≤ length ws)
@@ -232,15 +232,15 @@ pub length_removed : (d : ℕ) (ws : List Window) (n : ℕ) → length (removed 
 unfolding removed
 length_removed zero ws n = omega arith
 length_removed (suc d) ws n =
-    omega (arith, length-both (removed d) (length_removed d) (closed ws n) (pair_of ws n), length_closed ws n)
+    omega (arith, length-both (removed d) (length_removed d) (windows_without ws n) (pair_of ws n), length_closed ws n)
 
 length-divided : (f : List Window → ℕ → Area → List Window) (h : (ws : List Window) (n : ℕ) (r : Area) → length (f ws n r) ≡ length ws)
-    → (ws : List Window) (o : Option pairs.Pair) (r : Area) → length (divided f ws o r) ≡ length ws
+    → (ws : List Window) (o : Option pairs.Pair) (r : Area) → length (pair_divided f ws o r) ≡ length ws
 length-divided f h ws None r = refl
 length-divided f h ws (Some q) r = h _ _ _ ∙ h _ _ _
 
-pub length_placed : (d : ℕ) (ws : List Window) (n : ℕ) (r : Area) → length (placed d ws n r) ≡ length ws
-unfolding placed
+pub length_placed : (d : ℕ) (ws : List Window) (n : ℕ) (r : Area) → length (windows_placed d ws n r) ≡ length ws
+unfolding windows_placed
 length_placed zero ws n r = refl
 length_placed (suc d) ws n r =
-    length-divided (placed d) (length_placed d) (with_area ws n r) (pair_of ws n) r ∙ length_set_at (sized r) ws n
+    length-divided (windows_placed d) (length_placed d) (with_area ws n r) (pair_of ws n) r ∙ length_set_at (sized r) ws n

@@ -6,9 +6,9 @@ use Rattle.glk_windows.specs.Tree.{WindowTree}
 use Rattle.glk_windows.specs.Arranging.{is_method}
 use Rattle.glk_windows.specs.Opening.{split}
 use Rattle.glk_windows.specs.Closing.{close, removed}
-use Rattle.glk_windows.specs.Placing.{place, placed}
+use Rattle.glk_windows.specs.Placing.{place, windows_placed}
 use Rattle.glk_windows.specs.Output.{grid_put}
-use Rattle.glk_windows.specs.Laws.{area_of}
+use Rattle.glk_windows.specs.Laws.{window_area}
 use Rattle.glk_windows.specs.declared.window.Area.{Area}
 
 pub methods : map is_method (0x12 ∷ 0x20 ∷ 0x113 ∷ 0x02 ∷ 0x32 ∷ 0x14 ∷ [])
@@ -23,13 +23,13 @@ three =
 abbrev pub area : ℕ → ℕ → ℕ → ℕ → Area
 area x y w h = record { x = x; y = y; w = w; h = h }
 
-pub three_places : map (area_of (place three 80 24).slots) (1 ∷ 2 ∷ 4 ∷ [])
+pub three_places : map (window_area (place three 80 24).slots) (1 ∷ 2 ∷ 4 ∷ [])
     ≡ area 0 1 54 23 ∷ area 0 0 80 1 ∷ area 54 1 26 23 ∷ []
-unfolding found changed_at placed
+unfolding found changed_at windows_placed
 three_places = refl
 
-pub place_after_closing : area_of (place (close three 4) 80 24).slots 1 ≡ area 0 1 80 23
-unfolding found changed_at without placed removed
+pub place_after_closing : window_area (place (close three 4) 80 24).slots 1 ≡ area 0 1 80 23
+unfolding found changed_at without windows_placed removed
 place_after_closing = refl
 
 -- a full row goes on in the next

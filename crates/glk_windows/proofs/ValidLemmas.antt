@@ -7,16 +7,16 @@ use Rattle.glk_windows.specs.declared.window.Window.{Window}
 use Rattle.glk_windows.specs.declared.window.Pair as pairs
 use Rattle.glk_windows.specs.declared.window.Content.{Content}
 use Rattle.glk_windows.specs.declared.window.Content.TheVariants.{Pair, Blank, Buffer, Grid}
-use Rattle.glk_windows.specs.Tree.{WindowTree, IsLive, number_of, set_at, pair_of, pair_in, parent_of, pair_content, swapped, arranged, moved}
-use Rattle.glk_windows.specs.Opening.{split, joined, first_opened, beside_opened, is_kind, made, fresh}
-use Rattle.glk_windows.specs.Closing.{close, ended, removed, echo_ended, unechoed, closed}
-use Rattle.glk_windows.specs.Reading.{other as sibling}
+use Rattle.glk_windows.specs.Tree.{WindowTree, IsLive, window_number, set_at, pair_of, pair_in, parent_of, pair_content, swapped, content_arranged, grid_cursor_moved}
+use Rattle.glk_windows.specs.Opening.{split, pair_joined, first_opened, beside_opened, is_kind, unplaced_window, new_content}
+use Rattle.glk_windows.specs.Closing.{close, sibling_lifted, removed, echo_ended, unechoed, windows_without}
+use Rattle.glk_windows.specs.Reading.{other_window as sibling}
 use Rattle.glk_windows.specs.Arranging.{is_method, arrange, move_to, stream_set, echo_set}
-use Rattle.glk_windows.specs.Output.{put, clear, begin_turn, window_put, window_cleared, window_kept, content_cleared, content_kept, content_put}
+use Rattle.glk_windows.specs.Output.{put_on_window, clear, begin_turn, window_put, window_cleared, window_kept, content_cleared, content_kept, content_put}
 use Rattle.glk_windows.specs.Placing.{place}
-use Rattle.glk_windows.specs.OneTree.{Shape, Leaf, Fork, top, count, bare, bare_in, node_of, Spells, IsTree, shape_of, is_tree, cut, forked, below, tree_of, key_in, key_of, has_leaf, are_keyed}
-use Rattle.glk_windows.specs.Valid.{Ascends, IsOrdered, IsValid, is_one_tree, is_sound_content, are_sound}
-use Rattle.glk_windows.specs.Laws.{IsKeyOf, KeepsValid}
+use Rattle.glk_windows.specs.OneTree.{Shape, Leaf, Fork, top, times_reached, pair_without_key, bare_in, node_of, SpellsTree, IsTree, shape_of, is_tree, tree_without, tree_forked, below, tree_of, key_in, pair_key, has_leaf, are_keyed}
+use Rattle.glk_windows.specs.Valid.{Ascends, IsOrdered, IsValidTree, is_one_tree, is_sound_content, are_sound_windows}
+use Rattle.glk_windows.specs.Laws.{IsKeyOf, KeepsWindowsValid}
 use Rattle.glk_windows.proofs.OrderLemmas.{ascends-set_at, ascends-map, ordered_first, ordered_beside, ordered_close, ordered_place}
 use Rattle.glk_windows.proofs.OneTreeLemmas.{node_set_at, node_later, node_joined, renode, tree_first, tree_beside, spells_top, once_le, once_at, is_eq, isnt_eq}
 use Rattle.glk_windows.proofs.KeyLemmas.{Keyed, keyed_of, are_keyed_of, keyed_on, keyed_forked, keyed_cut, left_close, key_append, key_after, key_joined}
@@ -34,11 +34,11 @@ node-step true x h o e k = (x, refl)
 node-step false x h o e k = k e
 
 -- a live window has a place in the tree
-pub node_live : (ws : List Window) (n : ℕ) → has number_of ws n ≡ true
+pub node_live : (ws : List Window) (n : ℕ) → has window_number ws n ≡ true
     → (x : ℕ × Option pairs.Pair) × (node_of ws n ≡ Some x)
 unfolding has
 node_live [] n e = cc
-node_live (w ∷ ws) n e = node-step (w.number == n) (w.parent, bare_in w) (has number_of ws n) (node_of ws n) e (node_live ws n)
+node_live (w ∷ ws) n e = node-step (w.number == n) (w.parent, bare_in w) (has window_number ws n) (node_of ws n) e (node_live ws n)
 
 -- one tree, by the test and by its shape
 abbrev pub KeyedBy : List Window → Option Shape → Type 0
@@ -57,7 +57,7 @@ by-root : (t : WindowTree) (b : Bool) → (t.root == 0) ≡ b
 by-root t true e h k = (None, (grind (arith, common_steps), none-of t.slots h), tt)
 by-root t false e h k = (Some (tree_of t), tree_of_test t h, keyed_of t.slots (tree_of t) k)
 
-pub some_tree : (t : WindowTree) → IsValid t → SomeTree t
+pub some_tree : (t : WindowTree) → IsValidTree t → SomeTree t
 some_tree t v = by-root t (t.root == 0) refl v.one_tree v.keyed
 
 pub keyed_test : (t : WindowTree) (o : Option Shape) → IsOrdered t → IsTree t o → KeyedBy t.slots o
@@ -82,14 +82,14 @@ one_tree_of t (Some s) o h =
 
 -- windows that say the same of their tree
 same-some : (t u : WindowTree) → SomeTree t → ((m : ℕ) → node_of u.slots m ≡ node_of t.slots m)
-    → ((m : ℕ) → key_of u.slots m ≡ key_of t.slots m) → u.root ≡ t.root → SomeTree u
+    → ((m : ℕ) → pair_key u.slots m ≡ pair_key t.slots m) → u.root ≡ t.root → SomeTree u
 same-some t u (None, h, k) f g e =
     (None, (e ∙ h.0, nil_of u.slots (λ m. f m ∙ ap (λ ws. node_of ws m) h.1)), tt)
 same-some t u (Some s, h, k) f g e = (Some s, same_tree t u s f e h, keyed_on t.slots u.slots s (λ m l. g m) k)
 
-pub valid_same : (t u : WindowTree) → IsValid t → ((m : ℕ) → node_of u.slots m ≡ node_of t.slots m)
-    → ((m : ℕ) → key_of u.slots m ≡ key_of t.slots m) → u.root ≡ t.root
-    → IsOrdered u → length u.slots ≡ length t.slots → are_sound u.slots ≡ true → IsValid u
+pub valid_same : (t u : WindowTree) → IsValidTree t → ((m : ℕ) → node_of u.slots m ≡ node_of t.slots m)
+    → ((m : ℕ) → pair_key u.slots m ≡ pair_key t.slots m) → u.root ≡ t.root
+    → IsOrdered u → length u.slots ≡ length t.slots → are_sound_windows u.slots ≡ true → IsValidTree u
 valid_same t u v f h e o l k =
     let g : SomeTree u = same-some t u (some_tree t v) f h e in
     record {
@@ -115,7 +115,7 @@ pub valid_set_at : (t : WindowTree) (f : Window → Window) (n : ℕ)
     → ((w : Window) → (f w).number ≡ w.number)
     → ((w : Window) → ◌≡◌ {A = ℕ × Option pairs.Pair} ((f w).parent, bare_in (f w)) (w.parent, bare_in w))
     → ((w : Window) → pair_in (f w) ≡ pair_in w)
-    → KeepsSound f → IsValid t → IsValid (record t { slots = set_at f t.slots n })
+    → KeepsSound f → IsValidTree t → IsValidTree (record t { slots = set_at f t.slots n })
 valid_set_at t f n num nd pr k v =
     valid_same t _ v (node_same f num nd t.slots n)
     (read_set_at 0 (λ w. key_in (pair_in w)) f num (λ w. ap key_in (pr w)) t.slots n) refl (ordered-set_at t f num n v.ordered)
@@ -132,7 +132,7 @@ node-map f num nd (w ∷ ws) m =
     grind (arith, common_steps)
 
 key-map : (f : Window → Window) → ((w : Window) → (f w).number ≡ w.number) → ((w : Window) → pair_in (f w) ≡ pair_in w)
-    → (ws : List Window) (m : ℕ) → key_of (map f ws) m ≡ key_of ws m
+    → (ws : List Window) (m : ℕ) → pair_key (map f ws) m ≡ pair_key ws m
 unfolding found
 key-map f num pr [] m = refl
 key-map f num pr (w ∷ ws) m =
@@ -146,7 +146,7 @@ pub valid_map : (t : WindowTree) (f : Window → Window)
     → ((w : Window) → (f w).number ≡ w.number)
     → ((w : Window) → ◌≡◌ {A = ℕ × Option pairs.Pair} ((f w).parent, bare_in (f w)) (w.parent, bare_in w))
     → ((w : Window) → pair_in (f w) ≡ pair_in w)
-    → KeepsSound f → IsValid t → IsValid (record t { slots = map f t.slots })
+    → KeepsSound f → IsValidTree t → IsValidTree (record t { slots = map f t.slots })
 valid_map t f num nd pr k v =
     valid_same t _ v (node-map f num nd t.slots) (key-map f num pr t.slots) refl (ordered-map t f num v.ordered)
     (length-map t.slots f) (sound_map f k t.slots v.sound)
@@ -169,52 +169,52 @@ pair-kept Blank = refl
 pair-kept (Buffer b) = refl
 pair-kept (Grid x) = refl
 
-pair-moved : (c : Content) (x y : ℕ) → pair_content (moved c x y) ≡ pair_content c
+pair-moved : (c : Content) (x y : ℕ) → pair_content (grid_cursor_moved c x y) ≡ pair_content c
 pair-moved (Pair q) x y = refl
 pair-moved Blank x y = refl
 pair-moved (Buffer b) x y = refl
 pair-moved (Grid g) x y = refl
 
-pub valid_put : (t : WindowTree) (n code style : ℕ) → IsValid t → IsValid (put t n code style)
+pub valid_put : (t : WindowTree) (n code style : ℕ) → IsValidTree t → IsValidTree (put_on_window t n code style)
 valid_put t n code style v =
     valid_set_at t (λ w. window_put w code style) n (λ w. refl)
-    (λ w. ap (λ o. (w.parent, option_map bare o)) (pair-put w.content code style)) (λ w. pair-put w.content code style)
+    (λ w. ap (λ o. (w.parent, option_map pair_without_key o)) (pair-put w.content code style)) (λ w. pair-put w.content code style)
     (λ w e. sound_put w.content w.area code style e) v
 
-pub valid_clear : (t : WindowTree) (n : ℕ) → IsValid t → IsValid (clear t n)
+pub valid_clear : (t : WindowTree) (n : ℕ) → IsValidTree t → IsValidTree (clear t n)
 valid_clear t n v =
-    valid_set_at t window_cleared n (λ w. refl) (λ w. ap (λ o. (w.parent, option_map bare o)) (pair-cleared w.content)) (λ w. pair-cleared w.content)
+    valid_set_at t window_cleared n (λ w. refl) (λ w. ap (λ o. (w.parent, option_map pair_without_key o)) (pair-cleared w.content)) (λ w. pair-cleared w.content)
     (λ w e. sound_cleared w.content w.area e) v
 
-pub valid_move_to : (t : WindowTree) (n x y : ℕ) → IsValid t → IsValid (move_to t n x y)
+pub valid_move_to : (t : WindowTree) (n x y : ℕ) → IsValidTree t → IsValidTree (move_to t n x y)
 valid_move_to t n x y v =
-    valid_set_at t (λ w. record w { content = moved w.content x y }) n (λ w. refl)
-    (λ w. ap (λ o. (w.parent, option_map bare o)) (pair-moved w.content x y)) (λ w. pair-moved w.content x y)
+    valid_set_at t (λ w. record w { content = grid_cursor_moved w.content x y }) n (λ w. refl)
+    (λ w. ap (λ o. (w.parent, option_map pair_without_key o)) (pair-moved w.content x y)) (λ w. pair-moved w.content x y)
     (λ w e. sound_moved w.content w.area x y e) v
 
-pub valid_stream : (t : WindowTree) (n stream : ℕ) → IsValid t → IsValid (stream_set t n stream)
+pub valid_stream : (t : WindowTree) (n stream : ℕ) → IsValidTree t → IsValidTree (stream_set t n stream)
 valid_stream t n stream v =
     valid_set_at t (λ w. record w { stream = stream }) n (λ w. refl) (λ w. refl) (λ w. refl) (λ w e. e) v
 
-pub valid_echo : (t : WindowTree) (n stream : ℕ) → IsValid t → IsValid (echo_set t n stream)
+pub valid_echo : (t : WindowTree) (n stream : ℕ) → IsValidTree t → IsValidTree (echo_set t n stream)
 valid_echo t n stream v =
     valid_set_at t (λ w. record w { echo = stream }) n (λ w. refl) (λ w. refl) (λ w. refl) (λ w e. e) v
 
-pub valid_end_echo : (t : WindowTree) (stream : ℕ) → IsValid t → IsValid (echo_ended t stream)
+pub valid_end_echo : (t : WindowTree) (stream : ℕ) → IsValidTree t → IsValidTree (echo_ended t stream)
 valid_end_echo t stream v = valid_map t (unechoed stream) (λ w. refl) (λ w. refl) (λ w. refl) (λ w e. e) v
 
-pub valid_begin_turn : (t : WindowTree) → IsValid t → IsValid (begin_turn t)
+pub valid_begin_turn : (t : WindowTree) → IsValidTree t → IsValidTree (begin_turn t)
 valid_begin_turn t v =
-    valid_map t window_kept (λ w. refl) (λ w. ap (λ o. (w.parent, option_map bare o)) (pair-kept w.content)) (λ w. pair-kept w.content)
+    valid_map t window_kept (λ w. refl) (λ w. ap (λ o. (w.parent, option_map pair_without_key o)) (pair-kept w.content)) (λ w. pair-kept w.content)
     (λ w e. sound_kept w.content w.area e) v
 
-pub valid_place : (t : WindowTree) (cols rows : ℕ) → IsValid t → IsValid (place t cols rows)
+pub valid_place : (t : WindowTree) (cols rows : ℕ) → IsValidTree t → IsValidTree (place t cols rows)
 valid_place t cols rows v =
     valid_same t _ v (node_placed (length t.slots) t.slots t.root _)
     (read_placed 0 (λ w. key_in (pair_in w)) (λ a w. ap key_in (pair_sized a w.content)) (length t.slots) t.slots t.root _) refl (ordered_place t cols rows v.ordered)
     (length_placed (length t.slots) t.slots t.root _) (sound_placed (length t.slots) t.slots t.root _ v.sound)
 
-pub valid_new : IsValid (record { slots = []; next = 1; root = 0 })
+pub valid_new : IsValidTree (record { slots = []; next = 1; root = 0 })
 unfolding IsOrdered shape_of
 valid_new = record { ordered = omega arith; one_tree = refl; keyed = refl; few = omega arith; sound = refl }
 
@@ -232,7 +232,7 @@ top-reshaped : (n method size : ℕ) (s : Shape) → top (reshaped n method size
 top-reshaped n method size (Leaf m) = refl
 top-reshaped n method size (Fork m q a b) = refl
 
-count-reshaped : (n method size : ℕ) (s : Shape) (j : ℕ) → count (reshaped n method size s) j ≡ count s j
+count-reshaped : (n method size : ℕ) (s : Shape) (j : ℕ) → times_reached (reshaped n method size s) j ≡ times_reached s j
 count-reshaped n method size (Leaf m) j = refl
 count-reshaped n method size (Fork m q a b) j =
     let k : _ = count-reshaped n method size a j in
@@ -261,7 +261,7 @@ second-re false method size q = refl
 
 spells-re : (ws vs : List Window) (n method size : ℕ)
     (h : (m : ℕ) → node_of vs m ≡ option_map (λ x. if m == n then renoded method size x else x) (node_of ws m))
-    → (s : Shape) (up : ℕ) → Spells ws up s → Spells vs up (reshaped n method size s)
+    → (s : Shape) (up : ℕ) → SpellsTree ws up s → SpellsTree vs up (reshaped n method size s)
 spells-re ws vs n method size h (Leaf m) up t =
     h m ∙ ap (option_map (λ x. if m == n then renoded method size x else x)) t ∙ ap Some (leaf-re (m == n) up method size)
 spells-re ws vs n method size h (Fork m q a b) up t = (
@@ -277,17 +277,17 @@ once-re None v f e = ap is_some e
 once-re (Some x) v f e = ap is_some e
 
 pair-re : (c : Content) (method size key : ℕ)
-    → option_map bare (pair_content (arranged c method size key)) ≡ option_map (redivided method size) (option_map bare (pair_content c))
+    → option_map pair_without_key (pair_content (content_arranged c method size key)) ≡ option_map (redivided method size) (option_map pair_without_key (pair_content c))
 pair-re (Pair q) method size key = refl
 pair-re Blank method size key = refl
 pair-re (Buffer b) method size key = refl
 pair-re (Grid g) method size key = refl
 
 node-arranged : (ws : List Window) (n method size key m : ℕ)
-    → node_of (set_at (λ w. record w { content = arranged w.content method size key }) ws n) m
+    → node_of (set_at (λ w. record w { content = content_arranged w.content method size key }) ws n) m
     ≡ option_map (λ x. if m == n then renoded method size x else x) (node_of ws m)
 node-arranged ws n method size key m =
-    node_set_at (λ w. record w { content = arranged w.content method size key }) (renoded method size) (λ w. refl)
+    node_set_at (λ w. record w { content = content_arranged w.content method size key }) (renoded method size) (λ w. refl)
     (λ w. ap (λ o. (w.parent, o)) (pair-re w.content method size key)) ws n m
 
 leaf-reshaped : (n method size : ℕ) (s : Shape) (k : ℕ) → has_leaf (reshaped n method size s) k ≡ has_leaf s k
@@ -300,28 +300,28 @@ leaf-reshaped n method size (Fork m q a b) k =
 keyed-reshaped : (vs : List Window) (n method size : ℕ) (s : Shape) → Keyed vs s → Keyed vs (reshaped n method size s)
 keyed-reshaped vs n method size (Leaf m) k = tt
 keyed-reshaped vs n method size (Fork m q a b) k = (
-  λ i. ap (λ x. x || has_leaf (reshaped n method size b) (key_of vs m)) (leaf-reshaped n method size a (key_of vs m))
-      ∙ ap (λ x. has_leaf a (key_of vs m) || x) (leaf-reshaped n method size b (key_of vs m)) ∙ k.0 i,
+  λ i. ap (λ x. x || has_leaf (reshaped n method size b) (pair_key vs m)) (leaf-reshaped n method size a (pair_key vs m))
+      ∙ ap (λ x. has_leaf a (pair_key vs m) || x) (leaf-reshaped n method size b (pair_key vs m)) ∙ k.0 i,
   keyed-reshaped vs n method size a k.1,
   keyed-reshaped vs n method size b k.2,
 )
 
 key-content-same : (c : Content) (method size key : ℕ) → key ≡ 0
-    → key_in (pair_content (arranged c method size key)) ≡ key_in (pair_content c)
+    → key_in (pair_content (content_arranged c method size key)) ≡ key_in (pair_content c)
 key-content-same (Pair q) method size key e = grind (arith, common_steps)
 key-content-same Blank method size key e = refl
 key-content-same (Buffer b) method size key e = refl
 key-content-same (Grid g) method size key e = refl
 
-key-content-new : (c : Content) (method size key : ℕ) (q : pairs.Pair) → key ≢ 0 → option_map bare (pair_content c) ≡ Some q
-    → key_in (pair_content (arranged c method size key)) ≡ key
+key-content-new : (c : Content) (method size key : ℕ) (q : pairs.Pair) → key ≢ 0 → option_map pair_without_key (pair_content c) ≡ Some q
+    → key_in (pair_content (content_arranged c method size key)) ≡ key
 key-content-new (Pair r) method size key q e h = grind (arith, common_steps)
 key-content-new Blank method size key q e h = cc
 key-content-new (Buffer b) method size key q e h = cc
 key-content-new (Grid g) method size key q e h = cc
 
 key-other : (ws : List Window) (n method size key m : ℕ) → m ≢ n
-    → key_of (set_at (λ w. record w { content = arranged w.content method size key }) ws n) m ≡ key_of ws m
+    → pair_key (set_at (λ w. record w { content = content_arranged w.content method size key }) ws n) m ≡ pair_key ws m
 unfolding changed_at found
 key-other [] n method size key m h = refl
 key-other (w ∷ ws) n method size key m h = let k : _ = key-other ws n method size key m h in grind (arith, common_steps)
@@ -333,46 +333,46 @@ second-of (Some x) = x.1
 own-step : (b : Bool) (ws : List Window) (w : Window) (n method size key u : ℕ) (q : pairs.Pair) → key ≢ 0
     → (w.number == n) ≡ b → (if b then Some (w.parent, bare_in w) else node_of ws n) ≡ Some (u, Some q)
     → (node_of ws n ≡ Some (u, Some q)
-    → key_of (set_at (λ v. record v { content = arranged v.content method size key }) ws n) n ≡ key)
-    → key_of (if b then record w { content = arranged w.content method size key } ∷ ws
-    else w ∷ set_at (λ v. record v { content = arranged v.content method size key }) ws n) n ≡ key
+    → pair_key (set_at (λ v. record v { content = content_arranged v.content method size key }) ws n) n ≡ key)
+    → pair_key (if b then record w { content = content_arranged w.content method size key } ∷ ws
+    else w ∷ set_at (λ v. record v { content = content_arranged v.content method size key }) ws n) n ≡ key
 unfolding found
 own-step true ws w n method size key u q hk e h f =
     rw e (key-content-new w.content method size key q hk (ap second-of h))
 own-step false ws w n method size key u q hk e h f = rw e (f h)
 
 key-own : (ws : List Window) (n method size key u : ℕ) (q : pairs.Pair) → key ≢ 0 → node_of ws n ≡ Some (u, Some q)
-    → key_of (set_at (λ w. record w { content = arranged w.content method size key }) ws n) n ≡ key
+    → pair_key (set_at (λ w. record w { content = content_arranged w.content method size key }) ws n) n ≡ key
 unfolding changed_at
 key-own [] n method size key u q e h = cc
 key-own (w ∷ ws) n method size key u q e h =
     own-step (w.number == n) ws w n method size key u q e refl h (key-own ws n method size key u q e)
 
-head-given : (z : Bool) (ws vs : List Window) (n key : ℕ) → ((m : ℕ) → m ≢ n → key_of vs m ≡ key_of ws m)
+head-given : (z : Bool) (ws vs : List Window) (n key : ℕ) → ((m : ℕ) → m ≢ n → pair_key vs m ≡ pair_key ws m)
     → (m : ℕ) (q : pairs.Pair) (a b : Shape) (up : ℕ)
-    → ((u : ℕ) (r : pairs.Pair) → node_of ws n ≡ Some (u, Some r) → key_of vs n ≡ key)
+    → ((u : ℕ) (r : pairs.Pair) → node_of ws n ≡ Some (u, Some r) → pair_key vs n ≡ key)
     → node_of ws m ≡ Some (up, Some q)
-    → (0 < count (Fork m q a b) n → has_leaf (below n (Fork m q a b)) key ≡ true) → (m == n) ≡ z
-    → (key_of ws m ≢ 0 → (has_leaf a (key_of ws m) || has_leaf b (key_of ws m)) ≡ true)
-    → key_of vs m ≢ 0 → (has_leaf a (key_of vs m) || has_leaf b (key_of vs m)) ≡ true
+    → (0 < times_reached (Fork m q a b) n → has_leaf (below n (Fork m q a b)) key ≡ true) → (m == n) ≡ z
+    → (pair_key ws m ≢ 0 → (has_leaf a (pair_key ws m) || has_leaf b (pair_key ws m)) ≡ true)
+    → pair_key vs m ≢ 0 → (has_leaf a (pair_key vs m) || has_leaf b (pair_key vs m)) ≡ true
 head-given true ws vs n key ho m q a b up hn t f e k i =
     let mn : m ≡ n = is_eq m n e in
-    let v : key_of vs m ≡ key = ap (key_of vs) mn ∙ hn up q (ap (node_of ws) (sym mn) ∙ t) in
+    let v : pair_key vs m ≡ key = ap (pair_key vs) mn ∙ hn up q (ap (node_of ws) (sym mn) ∙ t) in
     let g : has_leaf (below n (Fork m q a b)) key ≡ true = f (grind (arith, common_steps)) in
     let h : (has_leaf a key || has_leaf b key) ≡ true = grind (arith, common_steps) in
     ap (λ x. has_leaf a x || has_leaf b x) v ∙ h
 head-given false ws vs n key ho m q a b up hn t f e k i =
-    let v : key_of vs m ≡ key_of ws m = ho m (isnt_eq m n e) in
+    let v : pair_key vs m ≡ pair_key ws m = ho m (isnt_eq m n e) in
     ap (λ x. has_leaf a x || has_leaf b x) v ∙ k (λ j. i (v ∙ j))
 
 -- the pair with its new key, and the others with theirs
-keyed-given : (ws vs : List Window) (n key : ℕ) → ((m : ℕ) → m ≢ n → key_of vs m ≡ key_of ws m)
-    → ((u : ℕ) (q : pairs.Pair) → node_of ws n ≡ Some (u, Some q) → key_of vs n ≡ key)
-    → (s : Shape) (up : ℕ) → Spells ws up s → ((m : ℕ) → count s m ≤ 1)
-    → (0 < count s n → has_leaf (below n s) key ≡ true) → Keyed ws s → Keyed vs s
+keyed-given : (ws vs : List Window) (n key : ℕ) → ((m : ℕ) → m ≢ n → pair_key vs m ≡ pair_key ws m)
+    → ((u : ℕ) (q : pairs.Pair) → node_of ws n ≡ Some (u, Some q) → pair_key vs n ≡ key)
+    → (s : Shape) (up : ℕ) → SpellsTree ws up s → ((m : ℕ) → times_reached s m ≤ 1)
+    → (0 < times_reached s n → has_leaf (below n s) key ≡ true) → Keyed ws s → Keyed vs s
 keyed-given ws vs n key ho hn (Leaf m) up t d f k = tt
 keyed-given ws vs n key ho hn (Fork m q a b) up t d f k =
-    let dn : count (Fork m q a b) n ≤ 1 = d n in (
+    let dn : times_reached (Fork m q a b) n ≤ 1 = d n in (
       λ i. head-given (m == n) ws vs n key ho m q a b up hn t.0 f refl k.0 i,
       keyed-given ws vs n key ho hn a m t.3 (λ x. omega (arith, d x))
           (λ c. (let g : has_leaf (below n (Fork m q a b)) key ≡ true = f (omega (arith, c)) in
@@ -386,7 +386,7 @@ keyed-arranged : (z : Bool) (t : WindowTree) (n method size key : ℕ) (s : Shap
     → IsKeyOf t n key → Keyed t.slots s → Keyed (arrange t n method size key).slots s
 keyed-arranged true t n method size key s e o h y k =
     keyed_on t.slots _ s (λ m l. read_set_at 0 (λ w. key_in (pair_in w))
-    (λ w. record w { content = arranged w.content method size key }) (λ w. refl)
+    (λ w. record w { content = content_arranged w.content method size key }) (λ w. refl)
     (λ w. key-content-same w.content method size key (is_eq key 0 e)) t.slots n m) k
 keyed-arranged false t n method size key s e o h (inl y) k = absurd (isnt_eq key 0 e y)
 keyed-arranged false t n method size key s e o h (inr y) k =
@@ -416,10 +416,10 @@ tree-arranged t n method size key o y (Some s, h, k) = (
   keyed-reshaped _ n method size s (keyed-arranged (key == 0) t n method size key s refl o h y k),
 )
 
-pub valid_arrange : (t : WindowTree) (n method size key : ℕ) → IsValid t → is_method method ≡ true → IsKeyOf t n key
-    → IsValid (arrange t n method size key)
+pub valid_arrange : (t : WindowTree) (n method size key : ℕ) → IsValidTree t → is_method method ≡ true → IsKeyOf t n key
+    → IsValidTree (arrange t n method size key)
 valid_arrange t n method size key v m y =
-    let f : Window → Window = λ w. record w { content = arranged w.content method size key } in
+    let f : Window → Window = λ w. record w { content = content_arranged w.content method size key } in
     let o : IsOrdered (arrange t n method size key) = ordered-set_at t f (λ w. refl) n v.ordered in
     let g : SomeTree (arrange t n method size key) = tree-arranged t n method size key v.ordered y (some_tree t v) in
     record {
@@ -476,7 +476,7 @@ keyed-beside-if : (b : Bool) (x y : WindowTree × ℕ) (s u : Shape) → Keyed x
 keyed-beside-if true x y s u h k = h
 keyed-beside-if false x y s u h k = k
 
-key-of-new : (z : ℕ) (v w : Window) → v.number ≡ z → w.number ≡ z + 1 → key_of (v ∷ w ∷ []) (z + 1) ≡ key_in (pair_in w)
+key-of-new : (z : ℕ) (v w : Window) → v.number ≡ z → w.number ≡ z + 1 → pair_key (v ∷ w ∷ []) (z + 1) ≡ key_in (pair_in w)
 unfolding found
 key-of-new z v w e f =
     let a : (v.number == z + 1) ≡ false = grind (arith, common_steps) in
@@ -489,18 +489,18 @@ some-of None n e h = absurd (omega (arith, e, h))
 some-of (Some x) n e h = (x, refl)
 
 keyed-beside : (t : WindowTree) (from method size kind rock : ℕ) (s : Shape) → IsOrdered t → IsTree t (Some s) → Keyed t.slots s
-    → Keyed (joined t.slots from (t.next + 1)
-    ++ made t.next rock (t.next + 1) (fresh kind)
-    ∷ made (t.next + 1) 0 (parent_of t.slots from)
+    → Keyed (pair_joined t.slots from (t.next + 1)
+    ++ unplaced_window t.next rock (t.next + 1) (new_content kind)
+    ∷ unplaced_window (t.next + 1) 0 (parent_of t.slots from)
     (Pair (record { method = method; size = size; key = t.next; first = from; second = t.next })) ∷ [])
-    (forked from (t.next + 1)
+    (tree_forked from (t.next + 1)
     (record { method = method; size = size; key = 0; first = from; second = t.next }) t.next s)
 unfolding IsOrdered
 keyed-beside t from method size kind rock s o h k =
     let z : ℕ = t.next in
-    let js : List Window = joined t.slots from (z + 1) in
-    let v : Window = made z rock (z + 1) (fresh kind) in
-    let w : Window = made (z + 1) 0 (parent_of t.slots from)
+    let js : List Window = pair_joined t.slots from (z + 1) in
+    let v : Window = unplaced_window z rock (z + 1) (new_content kind) in
+    let w : Window = unplaced_window (z + 1) 0 (parent_of t.slots from)
     (Pair (record { method = method; size = size; key = z; first = from; second = z })) in
     let later : node_of t.slots (z + 1) ≡ None = node_later 1 t.slots z (z + 1) o (omega arith) in
     let none : node_of js (z + 1) ≡ None =
@@ -508,7 +508,7 @@ keyed-beside t from method size kind rock s o h k =
     keyed_forked t.slots (js ++ v ∷ w ∷ []) from (z + 1) z _
     (key_after js (v ∷ w ∷ []) (z + 1) none ∙ key-of-new z v w refl refl)
     s
-    (λ m c. (let x : _ = some-of (node_of t.slots m) (count s m) (h.2 m) c in
+    (λ m c. (let x : _ = some-of (node_of t.slots m) (times_reached s m) (h.2 m) c in
     let y : node_of js m ≡ Some (renode from (z + 1) (parent_of t.slots from) m x.0) =
     node_joined t.slots from (z + 1) m ∙ ap (option_map (renode from (z + 1) (parent_of t.slots from) m)) x.1 in
     key_append js (v ∷ w ∷ []) m _ y ∙ key_joined t.slots from (z + 1) m)) k
@@ -518,7 +518,7 @@ tree-beside : (t : WindowTree) (from method size kind rock : ℕ) (x : ℕ × Op
 tree-beside t from method size kind rock x o l (None, h, k) = absurd (node_nil t.slots from x h.1 l)
 tree-beside t from method size kind rock x o l (Some s, h, k) = (
   Some (if not (is_kind kind) || nat_le 4294967294 t.next || nat_lt 64 (length t.slots + 2) then s
-      else forked from (t.next + 1)
+      else tree_forked from (t.next + 1)
       (record { method = method; size = size; key = 0; first = from; second = t.next }) t.next s),
   tree_beside t from method size kind rock s x o l h,
   keyed-beside-if (not (is_kind kind) || nat_le 4294967294 t.next || nat_lt 64 (length t.slots + 2)) _ _ _ _ k
@@ -529,7 +529,7 @@ few-if : (b : Bool) (x y : WindowTree × ℕ) → length x.0.slots ≤ 64 → (b
 few-if true x y f g = f
 few-if false x y f g = g refl
 
-sound-if : (b : Bool) (x y : WindowTree × ℕ) → are_sound x.0.slots ≡ true → are_sound y.0.slots ≡ true → are_sound (cond b x y).0.slots ≡ true
+sound-if : (b : Bool) (x y : WindowTree × ℕ) → are_sound_windows x.0.slots ≡ true → are_sound_windows y.0.slots ≡ true → are_sound_windows (cond b x y).0.slots ≡ true
 sound-if true x y f g = f
 sound-if false x y f g = g
 
@@ -550,7 +550,7 @@ few-first : (t : WindowTree) (kind rock : ℕ) → length t.slots ≤ 64 → len
 few-first t kind rock l =
     few-if (not (t.root == 0) || not (is_kind kind) || nat_lt 4294967294 t.next || nat_lt 64 (length t.slots + 1)) _ _ l
     (λ e. (let k : length t.slots + 1 ≤ 64 = few-of (length t.slots) 1 (or-right (not (t.root == 0) || not (is_kind kind) || nat_lt 4294967294 t.next) (nat_lt 64 (length t.slots + 1)) e) in
-    omega (arith, k, length-append t.slots (made t.next rock 0 (fresh kind) ∷ []))))
+    omega (arith, k, length-append t.slots (unplaced_window t.next rock 0 (new_content kind) ∷ []))))
 
 few-beside : (t : WindowTree) (from method size kind rock : ℕ) → length t.slots ≤ 64
     → length (beside_opened t from method size kind rock).0.slots ≤ 64
@@ -560,29 +560,29 @@ few-beside t from method size kind rock l =
     omega (
       arith,
       k,
-      length-append (joined t.slots from (t.next + 1)) (made t.next rock (t.next + 1) (fresh kind)
-          ∷ made (t.next + 1) 0 (parent_of t.slots from) (Pair (record { method = method; size = size; key = t.next; first = from; second = t.next })) ∷ []),
+      length-append (pair_joined t.slots from (t.next + 1)) (unplaced_window t.next rock (t.next + 1) (new_content kind)
+          ∷ unplaced_window (t.next + 1) 0 (parent_of t.slots from) (Pair (record { method = method; size = size; key = t.next; first = from; second = t.next })) ∷ []),
       length_set_at (λ w. record w { parent = t.next + 1 }) (set_at (λ w. record w { content = swapped w.content from (t.next + 1) }) t.slots (parent_of t.slots from)) from,
       length_set_at (λ w. record w { content = swapped w.content from (t.next + 1) }) t.slots (parent_of t.slots from),
     )))
 
-sound-first : (t : WindowTree) (kind rock : ℕ) → are_sound t.slots ≡ true → are_sound (first_opened t kind rock).0.slots ≡ true
+sound-first : (t : WindowTree) (kind rock : ℕ) → are_sound_windows t.slots ≡ true → are_sound_windows (first_opened t kind rock).0.slots ≡ true
 sound-first t kind rock e =
     sound-if (not (t.root == 0) || not (is_kind kind) || nat_lt 4294967294 t.next || nat_lt 64 (length t.slots + 1)) _ _ e
     (sound_append t.slots _ e (both-sound _ true (sound-fresh (kind == 3) (kind == 4)) refl))
 
-sound-beside : (t : WindowTree) (from method size kind rock : ℕ) → is_method method ≡ true → are_sound t.slots ≡ true
-    → are_sound (beside_opened t from method size kind rock).0.slots ≡ true
+sound-beside : (t : WindowTree) (from method size kind rock : ℕ) → is_method method ≡ true → are_sound_windows t.slots ≡ true
+    → are_sound_windows (beside_opened t from method size kind rock).0.slots ≡ true
 sound-beside t from method size kind rock m e =
     sound-if (not (is_kind kind) || nat_le 4294967294 t.next || nat_lt 64 (length t.slots + 2)) _ _ e
-    (sound_append (joined t.slots from (t.next + 1)) _
+    (sound_append (pair_joined t.slots from (t.next + 1)) _
     (sound_set_at (λ w. record w { parent = t.next + 1 }) (λ w f. f) _ from
     (sound_set_at (λ w. record w { content = swapped w.content from (t.next + 1) })
     (λ w f. sound_swapped w.content w.area from (t.next + 1) f) t.slots (parent_of t.slots from) e))
     (both-sound _ _ (sound-fresh (kind == 3) (kind == 4)) (both-sound _ true m refl)))
 
-pub valid_split : (t : WindowTree) (from method size kind rock : ℕ) → IsValid t
-    → (from ≡ 0) ⊎ (IsLive t from × (is_method method ≡ true)) → IsValid (split t from method size kind rock).0
+pub valid_split : (t : WindowTree) (from method size kind rock : ℕ) → IsValidTree t
+    → (from ≡ 0) ⊎ (IsLive t from × (is_method method ≡ true)) → IsValidTree (split t from method size kind rock).0
 valid_split t from method size kind rock v (inl z) =
     let g : SomeTree (first_opened t kind rock).0 = tree-first t kind rock v.ordered (some_tree t v) in
     let e : split t from method size kind rock ≡ first_opened t kind rock =
@@ -622,7 +622,7 @@ tree-close-if t s n x true e o h k l =
     (None, close-at-root t n i (tree_close-root t s o h), tt)
 tree-close-if t s n x false e o h k l =
     let i : top s ≢ n = isnt_eq (top s) n e in (
-      Some (cut n s),
+      Some (tree_without n s),
       tree_close t s n x o h l i,
       keyed_cut t.slots _ n s (λ m. once_le _ _ (h.2 m)) i (omega (arith, once_at _ _ x l (h.2 n)))
           (left_close t s n x o h l) k,
@@ -637,28 +637,28 @@ few-close-if : (b : Bool) (x y : WindowTree) → length x.slots ≤ 64 → lengt
 few-close-if true x y f g = f
 few-close-if false x y f g = g
 
-sound-close-if : (b : Bool) (x y : WindowTree) → are_sound x.slots ≡ true → are_sound y.slots ≡ true → are_sound (cond b x y).slots ≡ true
+sound-close-if : (b : Bool) (x y : WindowTree) → are_sound_windows x.slots ≡ true → are_sound_windows y.slots ≡ true → are_sound_windows (cond b x y).slots ≡ true
 sound-close-if true x y f g = f
 sound-close-if false x y f g = g
 
-few-ended : (t : WindowTree) (pair : ℕ) (o : Option pairs.Pair) (n : ℕ) → length t.slots ≤ 64 → length (ended t pair o n).slots ≤ 64
+few-ended : (t : WindowTree) (pair : ℕ) (o : Option pairs.Pair) (n : ℕ) → length t.slots ≤ 64 → length (sibling_lifted t pair o n).slots ≤ 64
 few-ended t pair None n l = l
 few-ended t pair (Some q) n l =
     omega (
       arith,
       l,
       length_closed t.slots pair,
-      length_set_at (λ w. record w { content = swapped w.content pair (sibling q n) }) (closed t.slots pair) (parent_of t.slots pair),
+      length_set_at (λ w. record w { content = swapped w.content pair (sibling q n) }) (windows_without t.slots pair) (parent_of t.slots pair),
       length_set_at (λ w. record w { parent = parent_of t.slots pair })
-          (set_at (λ w. record w { content = swapped w.content pair (sibling q n) }) (closed t.slots pair) (parent_of t.slots pair)) (sibling q n),
+          (set_at (λ w. record w { content = swapped w.content pair (sibling q n) }) (windows_without t.slots pair) (parent_of t.slots pair)) (sibling q n),
     )
 
-sound-ended : (t : WindowTree) (pair : ℕ) (o : Option pairs.Pair) (n : ℕ) → are_sound t.slots ≡ true → are_sound (ended t pair o n).slots ≡ true
+sound-ended : (t : WindowTree) (pair : ℕ) (o : Option pairs.Pair) (n : ℕ) → are_sound_windows t.slots ≡ true → are_sound_windows (sibling_lifted t pair o n).slots ≡ true
 sound-ended t pair None n e = e
 sound-ended t pair (Some q) n e =
     sound_set_at (λ w. record w { parent = parent_of t.slots pair }) (λ w f. f) _ (sibling q n)
     (sound_set_at (λ w. record w { content = swapped w.content pair (sibling q n) })
-    (λ w f. sound_swapped w.content w.area pair (sibling q n) f) (closed t.slots pair) (parent_of t.slots pair)
+    (λ w f. sound_swapped w.content w.area pair (sibling q n) f) (windows_without t.slots pair) (parent_of t.slots pair)
     (sound_closed t.slots pair e))
 
 few-close : (t : WindowTree) (n : ℕ) → length t.slots ≤ 64 → length (close t n).slots ≤ 64
@@ -666,15 +666,15 @@ few-close t n l =
     let k : length (removed (length t.slots) t.slots n) ≤ 64 = omega (arith, l, length_removed (length t.slots) t.slots n) in
     few-close-if (parent_of t.slots n == 0) _ _ k (few-ended _ (parent_of t.slots n) _ n k)
 
-sound-close : (t : WindowTree) (n : ℕ) → are_sound t.slots ≡ true → are_sound (close t n).slots ≡ true
+sound-close : (t : WindowTree) (n : ℕ) → are_sound_windows t.slots ≡ true → are_sound_windows (close t n).slots ≡ true
 sound-close t n e =
-    let k : are_sound (removed (length t.slots) t.slots n) ≡ true = sound_removed (length t.slots) t.slots n e in
+    let k : are_sound_windows (removed (length t.slots) t.slots n) ≡ true = sound_removed (length t.slots) t.slots n e in
     let u : WindowTree = record t { slots = removed (length t.slots) t.slots n } in
     let pair : ℕ = parent_of t.slots n in
-    sound-close-if (pair == 0) (record u { root = 0 }) (ended u pair (pair_of u.slots pair) n) k
+    sound-close-if (pair == 0) (record u { root = 0 }) (sibling_lifted u pair (pair_of u.slots pair) n) k
     (sound-ended u pair (pair_of u.slots pair) n k)
 
-pub valid_close : (t : WindowTree) (n : ℕ) → IsValid t → IsLive t n → IsValid (close t n)
+pub valid_close : (t : WindowTree) (n : ℕ) → IsValidTree t → IsLive t n → IsValidTree (close t n)
 valid_close t n v l =
     let x : _ = node_live t.slots n l in
     let g : SomeTree (close t n) = tree-close t n x.0 v.ordered x.1 (some_tree t v) in
@@ -687,7 +687,7 @@ valid_close t n v l =
       sound = sound-close t n v.sound;
     }
 
-pub keeps_valid : KeepsValid
+pub keeps_valid : KeepsWindowsValid
 keeps_valid = record {
   new = valid_new;
   split = valid_split;

@@ -1,6 +1,6 @@
 -- What a story sets of a window (Glk 0.7.5, "Changing Window Constraints").
 use Rattle.std.specs.Prelude.{ℕ, ◌==◌, nat_le, ◌||◌, ◌&&◌, Bool, bit_and}
-use Rattle.glk_windows.specs.Tree.{WindowTree, set_at, arranged, moved}
+use Rattle.glk_windows.specs.Tree.{WindowTree, set_at, content_arranged, grid_cursor_moved}
 
 -- a side from 0 to 3, and either fixed or proportional
 abbrev pub is_method : ℕ → Bool
@@ -17,9 +17,13 @@ echo_set t n stream = record t { slots = set_at (λ w. record w { echo = stream 
 abbrev pub arrange : WindowTree → ℕ → ℕ → ℕ → ℕ → WindowTree
 arrange t n method size key =
     record t {
-      slots = set_at (λ w. record w { content = arranged w.content method size key }) t.slots n;
+      slots =
+          set_at (λ w. record w { content = content_arranged w.content method size key }) t.slots n;
     }
 
 abbrev pub move_to : WindowTree → ℕ → ℕ → ℕ → WindowTree
 move_to t n x y =
-    record t { slots = set_at (λ w. record w { content = moved w.content x y }) t.slots n }
+    record t {
+      slots = set_at (λ w. record w { content = grid_cursor_moved w.content x y })
+          t.slots n;
+    }

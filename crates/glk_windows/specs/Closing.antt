@@ -5,9 +5,9 @@ use Rattle.glk_windows.specs.declared.window.Window.{Window}
 use Rattle.glk_windows.specs.declared.window.Pair as p
 use Rattle.glk_windows.specs.declared.window.Content.{Content}
 use Rattle.glk_windows.specs.declared.window.Content.TheVariants.{Pair, Blank, Buffer, Grid}
-use Rattle.glk_windows.specs.Tree.{WindowTree, number_of, set_at, pair_of, parent_of, stream_of}
+use Rattle.glk_windows.specs.Tree.{WindowTree, window_number, set_at, pair_of, parent_of, stream_of}
 use Rattle.glk_windows.specs.Tree.{swapped}
-use Rattle.glk_windows.specs.Reading.{other}
+use Rattle.glk_windows.specs.Reading.{other_window}
 use Rattle.glk_numbers.specs.Numbered.{without}
 
 -- a pair with this key has none
@@ -32,8 +32,8 @@ abbrev pub forgotten : List Window → ℕ → ℕ → List Window
 forgotten ws n stream = map (unlinked n stream) ws
 
 -- without the window, which is no pair's key, and whose stream is no window's echo
-abbrev pub closed : List Window → ℕ → List Window
-closed ws n = forgotten (without number_of ws n) n (stream_of ws n)
+abbrev pub windows_without : List Window → ℕ → List Window
+windows_without ws n = forgotten (without window_number ws n) n (stream_of ws n)
 
 -- a pair's two windows are taken away too
 abbrev pub both : (List Window → ℕ → List Window) → List Window → Option p.Pair
@@ -44,13 +44,14 @@ both takes ws (Some p) = takes (takes ws p.first) p.second
 -- without the window of this number and all below it
 unfoldable pub removed : ℕ → List Window → ℕ → List Window
 removed zero ws n = ws
-removed (suc depth) ws n = both (removed depth) (closed ws n) (pair_of ws n)
+removed (suc depth) ws n = both (removed depth) (windows_without ws n) (pair_of ws n)
 
 -- a window in the place of the pair above it, which ends
 abbrev pub raised : List Window → ℕ → ℕ → ℕ → List Window
 raised ws pair sibling above =
     set_at (λ w. record w { parent = above })
-    (set_at (λ w. record w { content = swapped w.content pair sibling }) (closed ws pair) above)
+    (set_at (λ w. record w { content = swapped w.content pair sibling }) (windows_without ws pair)
+    above)
     sibling
 
 abbrev pub lifted : WindowTree → ℕ → ℕ → WindowTree
@@ -59,16 +60,17 @@ lifted t pair sibling = record t {
   root = if t.root == pair then sibling else t.root;
 }
 
-abbrev pub ended : WindowTree → ℕ → Option p.Pair → ℕ → WindowTree
-ended t pair None n = t
-ended t pair (Some p) n = lifted t pair (other p n)
+abbrev pub sibling_lifted : WindowTree → ℕ → Option p.Pair → ℕ → WindowTree
+sibling_lifted t pair None n = t
+sibling_lifted t pair (Some p) n = lifted t pair (other_window p n)
 
 -- the window and all below it closed, its sibling in the place of their pair
 abbrev pub close : WindowTree → ℕ → WindowTree
 close t n =
     if parent_of t.slots n == 0
     then record t { slots = removed (length t.slots) t.slots n; root = 0 }
-    else ended (record t { slots = removed (length t.slots) t.slots n }) (parent_of t.slots n)
+    else sibling_lifted (record t { slots = removed (length t.slots) t.slots n })
+    (parent_of t.slots n)
     (pair_of (removed (length t.slots) t.slots n) (parent_of t.slots n)) n
 
 -- no window echoes to this stream

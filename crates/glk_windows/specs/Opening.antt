@@ -13,14 +13,14 @@ abbrev pub is_kind : ℕ → Bool
 is_kind kind = nat_le 2 kind && nat_le kind 4
 
 -- a new window's content: a buffer without text, a grid without cells
-abbrev pub fresh : ℕ → Content
-fresh kind =
+abbrev pub new_content : ℕ → Content
+new_content kind =
     if kind == 3 then Buffer (record { cleared = false; runs = [] })
     else (if kind == 4 then Grid (record { w = 0; h = 0; x = 0; y = 0; cells = [] }) else Blank)
 
 -- a new window, with no rectangle yet
-abbrev pub made : ℕ → ℕ → ℕ → Content → Window
-made number rock parent content = record {
+abbrev pub unplaced_window : ℕ → ℕ → ℕ → Content → Window
+unplaced_window number rock parent content = record {
   number = number;
   rock = rock;
   stream = 0;
@@ -38,7 +38,7 @@ first_opened t kind rock =
     then (t, 0)
     else (
       record {
-        slots = t.slots ++ made t.next rock 0 (fresh kind) ∷ [];
+        slots = t.slots ++ unplaced_window t.next rock 0 (new_content kind) ∷ [];
         next = t.next + 1;
         root = t.next;
       },
@@ -46,8 +46,8 @@ first_opened t kind rock =
     )
 
 -- the windows with a pair in the place of one of them
-abbrev pub joined : List Window → ℕ → ℕ → List Window
-joined ws from pair =
+abbrev pub pair_joined : List Window → ℕ → ℕ → List Window
+pair_joined ws from pair =
     set_at (λ w. record w { parent = pair })
     (set_at (λ w. record w { content = swapped w.content from pair }) ws (parent_of ws from)) from
 
@@ -58,9 +58,9 @@ beside_opened t from method size kind rock =
     then (t, 0)
     else (
       record {
-        slots = joined t.slots from (t.next + 1)
-            ++ made t.next rock (t.next + 1) (fresh kind)
-            ∷ made (t.next + 1) 0 (parent_of t.slots from)
+        slots = pair_joined t.slots from (t.next + 1)
+            ++ unplaced_window t.next rock (t.next + 1) (new_content kind)
+            ∷ unplaced_window (t.next + 1) 0 (parent_of t.slots from)
             (Pair (record {
               method = method;
               size = size;

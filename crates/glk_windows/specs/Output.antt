@@ -11,24 +11,24 @@ use Rattle.glk_windows.specs.declared.window.Buffer as b
 use Rattle.glk_windows.specs.declared.window.Grid as g
 
 -- whether the last run has this style
-unfoldable pub ends_in : List Run → ℕ → Bool
-ends_in [] style = false
-ends_in (r ∷ []) style = r.style == style
-ends_in (r ∷ s ∷ rs) style = ends_in (s ∷ rs) style
+unfoldable pub ends_in_style : List Run → ℕ → Bool
+ends_in_style [] style = false
+ends_in_style (r ∷ []) style = r.style == style
+ends_in_style (r ∷ s ∷ rs) style = ends_in_style (s ∷ rs) style
 
 -- a run with one more code at its end
-abbrev pub longer : Run → ℕ → Run
-longer r code = record r { codes = r.codes ++ code ∷ [] }
+abbrev pub longer_run : Run → ℕ → Run
+longer_run r code = record r { codes = r.codes ++ code ∷ [] }
 
 unfoldable pub last_longer : List Run → ℕ → List Run
 last_longer [] code = []
-last_longer (r ∷ []) code = longer r code ∷ []
+last_longer (r ∷ []) code = longer_run r code ∷ []
 last_longer (r ∷ s ∷ rs) code = r ∷ last_longer (s ∷ rs) code
 
 -- a code put at the end of runs: into the last where its style is this one, else as a new run
 abbrev pub run_on : List Run → ℕ → ℕ → List Run
 run_on rs code style =
-    if ends_in rs style then last_longer rs code
+    if ends_in_style rs style then last_longer rs code
     else rs ++ (record { style = style; codes = code ∷ [] }) ∷ []
 
 -- a code in a buffer
@@ -36,8 +36,8 @@ abbrev pub buffer_put : b.Buffer → ℕ → ℕ → b.Buffer
 buffer_put b code style = record b { runs = run_on b.runs code style }
 
 -- a grid with its cursor at the start of the next row, the last number staying
-abbrev pub next_row : g.Grid → g.Grid
-next_row g = record g { x = 0; y = if g.y == 4294967295 then g.y else g.y + 1 }
+abbrev pub next_grid_row : g.Grid → g.Grid
+next_grid_row g = record g { x = 0; y = if g.y == 4294967295 then g.y else g.y + 1 }
 
 -- a code in the cell of the cursor, dropped outside
 abbrev pub cell_put : g.Grid → ℕ → g.Grid
@@ -49,8 +49,8 @@ cell_put g code =
 -- a code in a grid
 abbrev pub grid_put : g.Grid → ℕ → g.Grid
 grid_put g code =
-    if code == 10 then next_row g
-    else cell_put (if nat_le g.w g.x then next_row g else g) code
+    if code == 10 then next_grid_row g
+    else cell_put (if nat_le g.w g.x then next_grid_row g else g) code
 
 -- a code in what a window shows
 abbrev pub content_put : Content → ℕ → ℕ → Content
@@ -63,11 +63,11 @@ content_put (Grid g) code style = Grid (grid_put g code)
 abbrev pub window_put : Window → ℕ → ℕ → Window
 window_put w code style = record w { content = content_put w.content code style }
 
-abbrev pub put_at : List Window → ℕ → ℕ → ℕ → List Window
-put_at ws n code style = set_at (λ w. window_put w code style) ws n
+abbrev pub put_at_window : List Window → ℕ → ℕ → ℕ → List Window
+put_at_window ws n code style = set_at (λ w. window_put w code style) ws n
 
-abbrev pub put : WindowTree → ℕ → ℕ → ℕ → WindowTree
-put t n code style = record t { slots = put_at t.slots n code style }
+abbrev pub put_on_window : WindowTree → ℕ → ℕ → ℕ → WindowTree
+put_on_window t n code style = record t { slots = put_at_window t.slots n code style }
 
 -- a buffer without text, and cleared; a grid of spaces
 abbrev pub content_cleared : Content → Content

@@ -8,7 +8,7 @@ use Rattle.glk_windows.specs.declared.window.Area.{Area}
 use Rattle.glk_windows.specs.declared.window.Content.{Content}
 use Rattle.glk_windows.specs.declared.window.Content.TheVariants.{Pair, Blank, Buffer, Grid}
 use Rattle.glk_windows.specs.Resizing.{sized}
-use Rattle.glk_windows.specs.Tree.{WindowTree, read, window_at, set_at, pair_of}
+use Rattle.glk_windows.specs.Tree.{WindowTree, read_window, window_at, set_at, pair_of}
 
 -- a pair divides its height, else its width
 abbrev pub is_stacked : p.Pair → Bool
@@ -19,14 +19,14 @@ abbrev pub is_after : p.Pair → Bool
 is_after p = not (bit_and p.method 1 == 0)
 
 -- a window that is no blank one is there
-abbrev pub shows : Content → Bool
-shows Blank = false
-shows (Pair p) = true
-shows (Buffer b) = true
-shows (Grid g) = true
+abbrev pub is_shown_content : Content → Bool
+is_shown_content Blank = false
+is_shown_content (Pair p) = true
+is_shown_content (Buffer b) = true
+is_shown_content (Grid g) = true
 
 abbrev pub has_size : List Window → ℕ → Bool
-has_size ws n = read false (λ w. shows w.content) (window_at ws n)
+has_size ws n = read_window false (λ w. is_shown_content w.content) (window_at ws n)
 
 -- how much of the extent the second window gets
 abbrev pub share : p.Pair → Bool → ℕ → ℕ
@@ -81,23 +81,24 @@ IsTreePartPlaced old new =
     IsPartPlaced old.slots new.slots × (new.next ≡ old.next) × (new.root ≡ old.root)
 
 -- a pair's two windows get their parts
-abbrev pub divided : (List Window → ℕ → Area → List Window) → List Window
+abbrev pub pair_divided : (List Window → ℕ → Area → List Window) → List Window
     → Option p.Pair → Area
     → List Window
-divided gives ws None area = ws
-divided gives ws (Some p) area =
+pair_divided gives ws None area = ws
+pair_divided gives ws (Some p) area =
     gives (gives ws p.first (first_part p (has_size ws p.key) area))
     p.second (second_part p (has_size ws p.key) area)
 
 -- the window has this rectangle, and a pair's two windows their parts of it
-unfoldable pub placed : ℕ → List Window → ℕ → Area → List Window
-placed zero ws n area = ws
-placed (suc depth) ws n area = divided (placed depth) (with_area ws n area) (pair_of ws n) area
+unfoldable pub windows_placed : ℕ → List Window → ℕ → Area → List Window
+windows_placed zero ws n area = ws
+windows_placed (suc depth) ws n area =
+    pair_divided (windows_placed depth) (with_area ws n area) (pair_of ws n) area
 
 -- the root has the whole screen; no path is longer than the list
 abbrev pub place : WindowTree → ℕ → ℕ → WindowTree
 place t cols rows =
     record t {
-      slots = placed (length t.slots) t.slots t.root
+      slots = windows_placed (length t.slots) t.slots t.root
           (record { x = 0; y = 0; w = cols; h = rows });
     }

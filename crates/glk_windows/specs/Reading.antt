@@ -7,7 +7,7 @@ use Rattle.glk_windows.specs.declared.window.Area.{Area}
 use Rattle.glk_windows.specs.declared.window.Content.{Content}
 use Rattle.glk_windows.specs.declared.window.Content.TheVariants.{Pair, Blank, Buffer, Grid}
 use Rattle.glk_windows.specs.declared.text.Run.{Run}
-use Rattle.glk_windows.specs.Tree.{read, window_at, pair_of, parent_of}
+use Rattle.glk_windows.specs.Tree.{read_window, window_at, pair_of, parent_of}
 
 -- the type: 1 pair, 2 blank, 3 buffer, 4 grid; 0 where there is no window
 abbrev pub kind_in : Content → ℕ
@@ -16,14 +16,14 @@ kind_in Blank = 2
 kind_in (Buffer b) = 3
 kind_in (Grid g) = 4
 
-abbrev pub kind_of : List Window → ℕ → ℕ
-kind_of ws n = read 0 (λ w. kind_in w.content) (window_at ws n)
+abbrev pub window_kind : List Window → ℕ → ℕ
+window_kind ws n = read_window 0 (λ w. kind_in w.content) (window_at ws n)
 
 abbrev pub rock_of : List Window → ℕ → ℕ
-rock_of ws n = read 0 (λ w. w.rock) (window_at ws n)
+rock_of ws n = read_window 0 (λ w. w.rock) (window_at ws n)
 
 abbrev pub echo_of : List Window → ℕ → ℕ
-echo_of ws n = read 0 (λ w. w.echo) (window_at ws n)
+echo_of ws n = read_window 0 (λ w. w.echo) (window_at ws n)
 
 -- the width and height of a buffer or grid, else 0 and 0
 abbrev pub size_in : Content → Area → ℕ × ℕ
@@ -33,7 +33,7 @@ size_in (Buffer b) a = (a.w, a.h)
 size_in (Grid g) a = (a.w, a.h)
 
 abbrev pub size_of : List Window → ℕ → ℕ × ℕ
-size_of ws n = read (0, 0) (λ w. size_in w.content w.area) (window_at ws n)
+size_of ws n = read_window (0, 0) (λ w. size_in w.content w.area) (window_at ws n)
 
 -- method, size and key of a pair
 abbrev pub arrangement_in : Option p.Pair → ℕ × ℕ × ℕ
@@ -52,13 +52,13 @@ abbrev pub children_of : List Window → ℕ → ℕ × ℕ
 children_of ws n = children_in (pair_of ws n)
 
 -- the other window of a pair
-abbrev pub other : p.Pair → ℕ → ℕ
-other p n = if p.first == n then p.second else p.first
+abbrev pub other_window : p.Pair → ℕ → ℕ
+other_window p n = if p.first == n then p.second else p.first
 
 -- the other window of the pair above, or 0
 abbrev pub other_in : Option p.Pair → ℕ → ℕ
 other_in None n = 0
-other_in (Some p) n = other p n
+other_in (Some p) n = other_window p n
 
 abbrev pub sibling_of : List Window → ℕ → ℕ
 sibling_of ws n = other_in (pair_of ws (parent_of ws n)) n
@@ -71,7 +71,7 @@ runs_in (Buffer b) = b.runs
 runs_in (Grid g) = []
 
 abbrev pub runs_of : List Window → ℕ → List Run
-runs_of ws n = read [] (λ w. runs_in w.content) (window_at ws n)
+runs_of ws n = read_window [] (λ w. runs_in w.content) (window_at ws n)
 
 -- whether a buffer was cleared in this turn
 abbrev pub cleared_in : Content → Bool
@@ -81,7 +81,7 @@ cleared_in (Buffer b) = b.cleared
 cleared_in (Grid g) = false
 
 abbrev pub cleared_of : List Window → ℕ → Bool
-cleared_of ws n = read false (λ w. cleared_in w.content) (window_at ws n)
+cleared_of ws n = read_window false (λ w. cleared_in w.content) (window_at ws n)
 
 -- the cells of a grid, row by row
 abbrev pub cells_in : Content → List ℕ
@@ -91,7 +91,7 @@ cells_in (Buffer b) = []
 cells_in (Grid g) = g.cells
 
 abbrev pub cells_of : List Window → ℕ → List ℕ
-cells_of ws n = read [] (λ w. cells_in w.content) (window_at ws n)
+cells_of ws n = read_window [] (λ w. cells_in w.content) (window_at ws n)
 
 -- the cursor of a grid
 abbrev pub cursor_in : Content → ℕ × ℕ
@@ -101,7 +101,7 @@ cursor_in (Buffer b) = (0, 0)
 cursor_in (Grid g) = (g.x, g.y)
 
 abbrev pub cursor_of : List Window → ℕ → ℕ × ℕ
-cursor_of ws n = read (0, 0) (λ w. cursor_in w.content) (window_at ws n)
+cursor_of ws n = read_window (0, 0) (λ w. cursor_in w.content) (window_at ws n)
 
 -- the pair stands above the window, at most so many steps up
 unfoldable pub is_below : ℕ → List Window → ℕ → ℕ → Bool
@@ -111,7 +111,7 @@ is_below (suc steps) ws n pair = parent_of ws n == pair || is_below steps ws (pa
 -- no key, or a window below the pair that is no pair
 abbrev pub may_key : List Window → ℕ → ℕ → Bool
 may_key ws pair key =
-    key == 0 || is_below (length ws) ws key pair && not (kind_of ws key == 1)
+    key == 0 || is_below (length ws) ws key pair && not (window_kind ws key == 1)
 
 -- a method divides as the pair does, either its width or its height
 abbrev pub is_same_axis : List Window → ℕ → ℕ → Bool

@@ -15,25 +15,25 @@ pub record WindowTree : Type 0 where
   pub root : ℕ
 
 -- a window's number
-abbrev pub number_of : Window → ℕ
-number_of w = w.number
+abbrev pub window_number : Window → ℕ
+window_number w = w.number
 
 -- a live window
 abbrev pub IsLive : WindowTree → ℕ → Type 0
-IsLive t n = has number_of t.slots n ≡ true
+IsLive t n = has window_number t.slots n ≡ true
 
 -- the window with this number
 abbrev pub window_at : List Window → ℕ → Option Window
-window_at ws n = found number_of ws n
+window_at ws n = found window_number ws n
 
 -- the window with this number changed
 abbrev pub set_at : (Window → Window) → List Window → ℕ → List Window
-set_at f ws n = changed_at number_of f ws n
+set_at f ws n = changed_at window_number f ws n
 
 -- of the window, if there is one, or else this
-abbrev pub read : {A : Type 0} → A → (Window → A) → Option Window → A
-read none of None = none
-read none of (Some w) = of w
+abbrev pub read_window : {A : Type 0} → A → (Window → A) → Option Window → A
+read_window none of None = none
+read_window none of (Some w) = of w
 
 -- what a pair holds
 abbrev pub pair_content : Content → Option p.Pair
@@ -46,15 +46,15 @@ abbrev pub pair_in : Window → Option p.Pair
 pair_in w = pair_content w.content
 
 abbrev pub pair_of : List Window → ℕ → Option p.Pair
-pair_of ws n = read None pair_in (window_at ws n)
+pair_of ws n = read_window None pair_in (window_at ws n)
 
 -- the pair above a window, or 0
 abbrev pub parent_of : List Window → ℕ → ℕ
-parent_of ws n = read 0 (λ w. w.parent) (window_at ws n)
+parent_of ws n = read_window 0 (λ w. w.parent) (window_at ws n)
 
 -- the stream of a window, or 0
 abbrev pub stream_of : List Window → ℕ → ℕ
-stream_of ws n = read 0 (λ w. w.stream) (window_at ws n)
+stream_of ws n = read_window 0 (λ w. w.stream) (window_at ws n)
 
 -- in a pair, another window in the place of the old one
 abbrev pub pair_swapped : p.Pair → ℕ → ℕ → p.Pair
@@ -73,18 +73,18 @@ abbrev pub pair_arranged : p.Pair → ℕ → ℕ → ℕ → p.Pair
 pair_arranged p method size key =
     record p { method = method; size = size; key = if key == 0 then p.key else key }
 
-abbrev pub arranged : Content → ℕ → ℕ → ℕ → Content
-arranged (Pair p) method size key = Pair (pair_arranged p method size key)
-arranged Blank method size key = Blank
-arranged (Buffer b) method size key = Buffer b
-arranged (Grid g) method size key = Grid g
+abbrev pub content_arranged : Content → ℕ → ℕ → ℕ → Content
+content_arranged (Pair p) method size key = Pair (pair_arranged p method size key)
+content_arranged Blank method size key = Blank
+content_arranged (Buffer b) method size key = Buffer b
+content_arranged (Grid g) method size key = Grid g
 
 -- the cursor of a grid moved
-abbrev pub moved : Content → ℕ → ℕ → Content
-moved (Pair p) x y = Pair p
-moved Blank x y = Blank
-moved (Buffer b) x y = Buffer b
-moved (Grid g) x y = Grid (record g { x = x; y = y })
+abbrev pub grid_cursor_moved : Content → ℕ → ℕ → Content
+grid_cursor_moved (Pair p) x y = Pair p
+grid_cursor_moved Blank x y = Blank
+grid_cursor_moved (Buffer b) x y = Buffer b
+grid_cursor_moved (Grid g) x y = Grid (record g { x = x; y = y })
 
 -- a window changed in one of its fields
 abbrev pub changed : Change → Window → Window
@@ -92,5 +92,6 @@ changed (to.Parent n) w = record w { parent = n }
 changed (to.Stream n) w = record w { stream = n }
 changed (to.Echo n) w = record w { echo = n }
 changed (to.Child old new) w = record w { content = swapped w.content old new }
-changed (to.Division method size key) w = record w { content = arranged w.content method size key }
-changed (to.Cursor x y) w = record w { content = moved w.content x y }
+changed (to.Division method size key) w =
+    record w { content = content_arranged w.content method size key }
+changed (to.Cursor x y) w = record w { content = grid_cursor_moved w.content x y }

@@ -27,21 +27,21 @@ is_sound_content Blank a = true
 is_sound_content (Buffer b) a = true
 is_sound_content (Grid g) a = g.w == a.w && (g.h == a.h && length g.cells == g.h * g.w)
 
-abbrev pub is_sound : Window → Bool
-is_sound w = is_sound_content w.content w.area
+abbrev pub is_sound_window : Window → Bool
+is_sound_window w = is_sound_content w.content w.area
 
-abbrev pub are_sound : List Window → Bool
-are_sound [] = true
-are_sound (w ∷ ws) = is_sound w && are_sound ws
+abbrev pub are_sound_windows : List Window → Bool
+are_sound_windows [] = true
+are_sound_windows (w ∷ ws) = is_sound_window w && are_sound_windows ws
 
 -- no window, or all of them one tree below the root
 abbrev pub is_one_tree : WindowTree → Bool
 is_one_tree t = if t.root == 0 then length t.slots == 0 else is_tree t
 
 -- the windows of a story, as its calls make and keep them
-pub record IsValid (t : WindowTree) : Type 0 where
+pub record IsValidTree (t : WindowTree) : Type 0 where
   pub ordered : IsOrdered t
   pub one_tree : is_one_tree t ≡ true
   pub keyed : are_keyed t.slots (tree_of t) ≡ true
   pub few : length t.slots ≤ 64
-  pub sound : are_sound t.slots ≡ true
+  pub sound : are_sound_windows t.slots ≡ true

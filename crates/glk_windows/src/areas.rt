@@ -7,7 +7,7 @@ ghost use Rattle.glk_windows.specs.Fields.{is_same};
 ghost use Rattle.glk_windows.specs.Laws as laws;
 ghost use Rattle.glk_windows.specs.Placing.{first_part, second_part};
 ghost use Rattle.glk_windows.specs.Tree as tree;
-ghost use Rattle.glk_windows.specs.Valid.{IsValid};
+ghost use Rattle.glk_windows.specs.Valid.{IsValidTree};
 
 use crate::changing::window_at;
 use crate::placing::{has_size, share};
@@ -17,7 +17,7 @@ use crate::windows::Windows;
 
 /// The rectangle of the window with this number, that of no cell where it isn't there.
 fn area_at(slots: &[Window], win: u32) -> Area
-    ensures { result ≡ laws.area_of slots.now win }
+    ensures { result ≡ laws.window_area slots.now win }
 {
     match window_at(slots, win) {
         None => Area {
@@ -107,7 +107,7 @@ impl Windows {
     /// Whether each window has its rectangle of a screen of so many characters, as `place` gives
     /// it.
     pub fn have_areas(&self, cols: u32, rows: u32) -> bool
-        requires { IsValid self.now }
+        requires { IsValidTree self.now }
         ensures { IsTrue result ↔ HaveAreas self.now cols rows }
     {
         self.fill(cols, rows)

@@ -20,7 +20,7 @@ impl Windows {
     /// Sets how a pair divides its rectangle; key 0 keeps the key. The rectangles are made anew by
     /// `place`.
     pub fn arrange(&mut self, pair: u32, method: u32, size: u32, key: u32)
-        requires pair { reading.kind_of self.old.slots pair ≡ 1 }
+        requires pair { reading.window_kind self.old.slots pair ≡ 1 }
         requires method { arranging.is_method method ≡ true }
         requires key { reading.may_key self.old.slots pair key ≡ true }
         ensures { self.new ≡ arranging.arrange self.old pair method size key }
@@ -49,7 +49,7 @@ impl Windows {
 
     /// Moves the cursor of a grid to column `x` of row `y`, outside it too.
     pub fn move_to(&mut self, win: u32, x: u32, y: u32)
-        requires { reading.kind_of self.old.slots win ≡ 4 }
+        requires { reading.window_kind self.old.slots win ≡ 4 }
         ensures { self.new ≡ arranging.move_to self.old win x y }
     {
         change_at(&mut self.slots, win, Change::Cursor { x, y })

@@ -1,7 +1,8 @@
 //! One window changed, by its number.
 
 ghost use Rattle.std.specs.Prelude.{◌≡◌, option_map};
-ghost use Rattle.glk_windows.specs.Tree.{arranged, changed, moved, set_at, swapped};
+ghost use Rattle.glk_windows.specs.Tree.{content_arranged, changed, grid_cursor_moved, set_at};
+ghost use Rattle.glk_windows.specs.Tree.{swapped};
 ghost use Rattle.glk_windows.specs.Tree as tree;
 
 use crate::window::{Content, Window};
@@ -50,7 +51,7 @@ fn swap(content: &mut Content, old: u32, new: u32)
 }
 
 fn divide(content: &mut Content, method: u32, size: u32, key: u32)
-    ensures { content.new ≡ arranged content.old method size key }
+    ensures { content.new ≡ content_arranged content.old method size key }
 {
     match content {
         Content::Pair(pair) => {
@@ -65,7 +66,7 @@ fn divide(content: &mut Content, method: u32, size: u32, key: u32)
 }
 
 fn move_cursor(content: &mut Content, x: u32, y: u32)
-    ensures { content.new ≡ moved content.old x y }
+    ensures { content.new ≡ grid_cursor_moved content.old x y }
 {
     match content {
         Content::Grid(grid) => {

@@ -2,9 +2,10 @@
 
 ghost use Rattle.std.specs.Prelude.{◌≡◌, ◌≤◌, ◌<◌, length, map};
 ghost use Rattle.glk_windows.specs.Tree as tree;
-ghost use Rattle.glk_windows.specs.Tree.{IsLive, number_of};
+ghost use Rattle.glk_windows.specs.Tree.{IsLive, window_number};
 ghost use Rattle.glk_windows.specs.Closing as closing;
-ghost use Rattle.glk_windows.specs.Closing.{closed, forgotten, removed, unechoed, unlinked};
+ghost use Rattle.glk_windows.specs.Closing.{windows_without, forgotten, removed, unechoed};
+ghost use Rattle.glk_windows.specs.Closing.{unlinked};
 ghost use Rattle.glk_numbers.specs.Numbered.{without};
 
 use crate::changing::{Change, change_at};
@@ -32,7 +33,8 @@ impl Windows {
 
     // Ends a pair of which this window was one.
     fn end(&mut self, pair: u32, win: u32)
-        ensures { self.new ≡ closing.ended self.old pair (tree.pair_of self.old.slots pair) win }
+        ensures { self.new
+            ≡ closing.sibling_lifted self.old pair (tree.pair_of self.old.slots pair) win }
     {
         match pair_at(&self.slots, pair) {
             None => {}
@@ -81,7 +83,7 @@ fn remove_all(slots: &mut Vec<Window>, depth: usize, win: u32)
 
 // Takes the window with this number away. No other names it, or its stream, any more.
 fn remove_one(slots: &mut Vec<Window>, win: u32)
-    ensures { slots.new.items ≡ closed slots.old.items win }
+    ensures { slots.new.items ≡ windows_without slots.old.items win }
 {
     let stream = stream_at(slots, win);
     take_out(slots, win);
@@ -89,7 +91,7 @@ fn remove_one(slots: &mut Vec<Window>, win: u32)
 }
 
 fn take_out(slots: &mut Vec<Window>, win: u32)
-    ensures { slots.new.items ≡ without number_of slots.old.items win }
+    ensures { slots.new.items ≡ without window_number slots.old.items win }
 {
     match place_of(slots, win) {
         None => {}

@@ -1,7 +1,7 @@
 //! Laws of the windows and their rectangles (Glk 0.7.5, "The Window Tree").
 
 ghost use Rattle.glk_windows.specs.Areas.{PlacesWindows};
-ghost use Rattle.glk_windows.specs.Laws.{ClosesBelow, FillsScreen, KeepsValid, MayKeyHolds};
+ghost use Rattle.glk_windows.specs.Laws.{ClosesBelow, FillsScreen, KeepsWindowsValid, MayKeyHolds};
 ghost use Rattle.glk_windows.specs.Laws.{NeverOverlaps, SpellsOutput, StaysOnScreen};
 
 /// Where the windows are one tree, each that is no pair has its rectangle on the screen.
@@ -21,7 +21,7 @@ pub fn fills_screen()
 
 /// Each call keeps the windows valid: one tree, few enough, methods and grids sound.
 pub fn keeps_valid()
-    ensures { KeepsValid }
+    ensures { KeepsWindowsValid }
 {}
 
 /// Where the windows are valid, `Windows::may_key` lets through no key but those that keep them so,

@@ -117,7 +117,7 @@ fn is_kind(kind: u32) -> bool
 
 // A window with no rectangle yet.
 fn made(number: u32, rock: u32, parent: u32, content: Content) -> Window
-    ensures { result ≡ opening.made number rock parent content }
+    ensures { result ≡ opening.unplaced_window number rock parent content }
 {
     let area = Area {
         x: 0,
@@ -137,7 +137,7 @@ fn made(number: u32, rock: u32, parent: u32, content: Content) -> Window
 }
 
 fn fresh(alloc: Global, kind: u32) -> Content
-    ensures { result ≡ opening.fresh kind }
+    ensures { result ≡ opening.new_content kind }
 {
     match kind {
         3 => Content::Buffer(Buffer {

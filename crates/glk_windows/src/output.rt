@@ -2,8 +2,9 @@
 
 ghost use Rattle.std.specs.Prelude.{◌≡◌, ◌≤◌, ◌<◌, ◌*◌, length, IfOk, OnErr, map};
 ghost use Rattle.glk_windows.specs.Output as output;
-ghost use Rattle.glk_windows.specs.Output.{buffer_put, cell_put, grid_put, next_row};
-ghost use Rattle.glk_windows.specs.Output.{content_cleared, content_kept, put_at, window_put};
+ghost use Rattle.glk_windows.specs.Output.{buffer_put, cell_put, grid_put, next_grid_row};
+ghost use Rattle.glk_windows.specs.Output.{content_cleared, content_kept, put_at_window};
+ghost use Rattle.glk_windows.specs.Output.{window_put};
 ghost use Rattle.glk_windows.specs.Output.{window_cleared, window_kept};
 ghost use Rattle.glk_windows.specs.Tree.{IsLive, set_at};
 
@@ -17,7 +18,7 @@ impl Windows {
     /// of its cursor, and drops a code outside. Pairs and blank windows show nothing. An error is
     /// want of memory, and changes nothing.
     pub fn put(&mut self, alloc: Global, win: u32, code: u32, style: u32) -> Result<(), AllocError>
-        ensures ok { IfOk result (λ _. self.new ≡ output.put self.old win code style) }
+        ensures ok { IfOk result (λ _. self.new ≡ output.put_on_window self.old win code style) }
         ensures err { OnErr result (self.new ≡ self.old) }
     {
         put_in(alloc, &mut self.slots, win, code, style)
@@ -46,7 +47,7 @@ fn put_in(
     code: u32,
     style: u32,
 ) -> Result<(), AllocError>
-    ensures ok { IfOk result (λ _. slots.new ≡ put_at slots.old win code style) }
+    ensures ok { IfOk result (λ _. slots.new ≡ put_at_window slots.old win code style) }
     ensures err { OnErr result (slots.new ≡ slots.old) }
 {
     match place_of(slots, win) {
@@ -89,7 +90,7 @@ fn put_grid(grid: &mut Grid, code: u32)
 }
 
 fn down(grid: &mut Grid)
-    ensures { grid.new ≡ next_row grid.old }
+    ensures { grid.new ≡ next_grid_row grid.old }
 {
     grid.x = 0;
     if grid.y != u32::MAX {

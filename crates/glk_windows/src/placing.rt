@@ -2,7 +2,7 @@
 
 ghost use Rattle.std.specs.Prelude.{◌≡◌, ◌≤◌, ◌<◌, ◌^◌, ◌*◌, IfOk, OnErr};
 ghost use Rattle.glk_windows.specs.Placing as placing;
-ghost use Rattle.glk_windows.specs.Placing.{IsOnScreen, IsPartPlaced, first_part, placed};
+ghost use Rattle.glk_windows.specs.Placing.{IsOnScreen, IsPartPlaced, first_part, windows_placed};
 ghost use Rattle.glk_windows.specs.Placing.{second_part, with_area};
 
 use crate::changing::window_at;
@@ -34,7 +34,7 @@ impl Windows {
 }
 
 // Gives the window and those below it their rectangles, to this depth.
-#[tactic(auto, unfolding(crate::specs::Placing::placed))]
+#[tactic(auto, unfolding(crate::specs::Placing::windows_placed))]
 fn place_at(
     alloc: Global,
     slots: &mut [Window],
@@ -43,7 +43,7 @@ fn place_at(
     area: Area,
 ) -> Result<(), AllocError>
     requires { IsOnScreen area }
-    ensures ok { IfOk result (λ _. slots.new ≡ placed depth slots.old win area) }
+    ensures ok { IfOk result (λ _. slots.new ≡ windows_placed depth slots.old win area) }
     ensures err { OnErr result (IsPartPlaced slots.old slots.new) }
 {
     if depth == 0 {
@@ -72,7 +72,7 @@ pub(crate) fn has_size(slots: &[Window], win: u32) -> bool
 }
 
 fn shows(content: &Content) -> bool
-    ensures { result ≡ placing.shows content.now }
+    ensures { result ≡ placing.is_shown_content content.now }
 {
     !matches!(content, Content::Blank)
 }

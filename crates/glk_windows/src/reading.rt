@@ -12,7 +12,7 @@ use crate::windows::Windows;
 impl Windows {
     /// The window's type: 1 pair, 2 blank, 3 buffer, 4 grid; 0 where it isn't live.
     pub fn kind(&self, win: u32) -> u32
-        ensures { result ≡ reading.kind_of self.now.slots win }
+        ensures { result ≡ reading.window_kind self.now.slots win }
     {
         match window_at(&self.slots, win) {
             None => 0,
@@ -232,7 +232,7 @@ pub(crate) fn pair_in(content: &Content) -> Option<Pair>
 
 /// The other window of a pair.
 pub(crate) fn other(pair: Pair, win: u32) -> u32
-    ensures { result ≡ reading.other pair win }
+    ensures { result ≡ reading.other_window pair win }
 {
     if pair.first == win {
         pair.second

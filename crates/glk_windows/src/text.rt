@@ -146,7 +146,7 @@ impl Runs {
 
 // Whether the last run has this style.
 fn ends_in(runs: &[Run], style: u32) -> bool
-    ensures value { result ≡ output.ends_in runs.now style }
+    ensures value { result ≡ output.ends_in_style runs.now style }
     ensures within { IsTrue result → 0 < length runs.now }
 {
     let count = runs.len();

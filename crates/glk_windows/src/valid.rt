@@ -4,9 +4,9 @@ ghost use Rattle.std.specs.Prelude.{◌≡◌, ◌<◌, ◌≤◌, ◌↔◌, le
 ghost use Rattle.glk_windows.specs.Fields as fields;
 ghost use Rattle.glk_windows.specs.Fields.{IsRest, tree_with};
 ghost use Rattle.glk_windows.specs.OneTree as one_tree;
-ghost use Rattle.glk_windows.specs.OneTree.{is_spelled, node_of, shape_of, size};
+ghost use Rattle.glk_windows.specs.OneTree.{is_tree_spelled, node_of, shape_of, tree_size};
 ghost use Rattle.glk_windows.specs.Valid as valid;
-ghost use Rattle.glk_windows.specs.Valid.{IsValid};
+ghost use Rattle.glk_windows.specs.Valid.{IsValidTree};
 
 use crate::arranging::is_method;
 use crate::changing::window_at;
@@ -26,7 +26,7 @@ fn is_whole(grid: &Grid, area: Area) -> bool
 
 /// Whether the method of a pair is one, and a grid as large as its rectangle.
 fn is_sound(window: &Window) -> bool
-    ensures { result ≡ valid.is_sound window.now }
+    ensures { result ≡ valid.is_sound_window window.now }
 {
     match &window.content {
         Content::Pair(pair) => is_method(pair.method),
@@ -36,7 +36,7 @@ fn is_sound(window: &Window) -> bool
 }
 
 fn are_sound(slots: &[Window]) -> bool
-    ensures { result ≡ valid.are_sound slots.now }
+    ensures { result ≡ valid.are_sound_windows slots.now }
 {
     for window in slots {
         if !is_sound(window) {
@@ -79,9 +79,9 @@ fn rest_of(slots: &[Window], depth: usize, up: u32, win: u32, most: usize) -> Op
 
 /// How often a window is reached from this one on, to a depth.
 fn count_at(slots: &[Window], depth: usize, win: u32, sought: u32) -> usize
-    requires { size (shape_of depth slots.now win) ≤ 64 }
-    ensures value { result ≡ one_tree.count (shape_of depth slots.now win) sought }
-    ensures within { result ≤ size (shape_of depth slots.now win) }
+    requires { tree_size (shape_of depth slots.now win) ≤ 64 }
+    ensures value { result ≡ one_tree.times_reached (shape_of depth slots.now win) sought }
+    ensures within { result ≤ tree_size (shape_of depth slots.now win) }
 {
     let here = usize::from(win == sought);
     if depth == 0 {
@@ -98,7 +98,7 @@ fn count_at(slots: &[Window], depth: usize, win: u32, sought: u32) -> usize
 
 /// Whether each of these windows is reached once from this one on.
 fn are_met(slots: &[Window], depth: usize, win: u32, met: &[Window]) -> bool
-    requires { size (shape_of depth slots.now win) ≤ 64 }
+    requires { tree_size (shape_of depth slots.now win) ≤ 64 }
     ensures { result ≡ one_tree.once met.now (shape_of depth slots.now win) }
 {
     for window in met {
@@ -112,7 +112,7 @@ fn are_met(slots: &[Window], depth: usize, win: u32, met: &[Window]) -> bool
 /// Whether the windows are one tree from this root on.
 fn is_tree(slots: &[Window], root: u32) -> bool
     requires { length slots.now ≤ 64 }
-    ensures { result ≡ is_spelled slots.now (shape_of (length slots.now) slots.now root) }
+    ensures { result ≡ is_tree_spelled slots.now (shape_of (length slots.now) slots.now root) }
 {
     let depth = slots.len();
     rest_of(slots, depth, 0, root, depth).is_some() && are_met(slots, depth, root, slots)
@@ -156,7 +156,7 @@ fn are_keyed(slots: &[Window], depth: usize, win: u32) -> bool
 impl Windows {
     /// Whether they are such as a story may have: in order, one tree, at most 64, and each sound.
     pub fn is_valid(&self) -> bool
-        ensures holds { IsTrue result ↔ IsValid self.now }
+        ensures holds { IsTrue result ↔ IsValidTree self.now }
         ensures within { self.now.next < 4294967296 }
     {
         self.passes()
@@ -166,8 +166,8 @@ impl Windows {
     /// number. None where no story may have them.
     pub fn of_fields(next: u32, root: u32, slots: Vec<Window>) -> Option<Windows>
         ensures found { IfSome result (λ w.
-            (w ≡ tree_with next root slots.items) × IsValid w) }
-        ensures only { IfNone result (¬ IsValid (tree_with next root slots.items)) }
+            (w ≡ tree_with next root slots.items) × IsValidTree w) }
+        ensures only { IfNone result (¬ IsValidTree (tree_with next root slots.items)) }
     {
         let windows = Windows { slots, next, root };
         if windows.is_valid() {
@@ -178,7 +178,7 @@ impl Windows {
     }
 
     fn passes(&self) -> bool
-        ensures value { result ≡ fields.is_valid self.now }
+        ensures value { result ≡ fields.is_valid_tree self.now }
         ensures within { self.now.next < 4294967296 }
     {
         self.is_ordered()

@@ -2,8 +2,8 @@
 
 ghost use Rattle.std.specs.Prelude.{◌≡◌, [], IfOk};
 ghost use Rattle.glk_windows.specs.Arranging as arranging;
-ghost use Rattle.glk_windows.specs.Tree.{IsLive, number_of};
-ghost use Rattle.glk_numbers.specs.Numbered.{after, has};
+ghost use Rattle.glk_windows.specs.Tree.{IsLive, window_number};
+ghost use Rattle.glk_numbers.specs.Numbered.{number_above, has};
 
 use crate::changing::{Change, change_at};
 use crate::window::Window;
@@ -49,14 +49,14 @@ impl Windows {
 
     /// Whether a window has this number.
     pub fn is_live(&self, win: u32) -> bool
-        ensures { result ≡ has number_of self.now.slots win }
+        ensures { result ≡ has window_number self.now.slots win }
     {
         is_live(&self.slots, win)
     }
 
     /// The next live window above the number, or 0.
     pub fn window_after(&self, number: u32) -> u32
-        ensures { result ≡ after number_of self.now.slots number }
+        ensures { result ≡ number_above window_number self.now.slots number }
     {
         next_above(&self.slots, number)
     }

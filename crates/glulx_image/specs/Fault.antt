@@ -4,9 +4,9 @@ use Rattle.glulx_image.specs.declared.fault.ImageFault.{ImageFault}
 use Rattle.glulx_image.specs.declared.fault.ImageFault.TheVariants.{Short, Magic, Version, Layout}
 use Rattle.glulx_image.specs.declared.fault.ImageFault.TheVariants.{TooLarge}
 
-abbrev pub number_of : ImageFault → ℕ
-number_of Short = 1
-number_of Magic = 2
-number_of Version = 3
-number_of Layout = 4
-number_of TooLarge = 5
+abbrev pub image_fault_number : ImageFault → ℕ
+image_fault_number Short = 1
+image_fault_number Magic = 2
+image_fault_number Version = 3
+image_fault_number Layout = 4
+image_fault_number TooLarge = 5

@@ -1,7 +1,7 @@
 //! Why a file is no image.
 
 ghost use Rattle.std.specs.Prelude.{◌≡◌};
-ghost use Rattle.glulx_image.specs.Fault.{number_of};
+ghost use Rattle.glulx_image.specs.Fault.{image_fault_number};
 
 /// The first check that a file failed.
 #[derive(Clone, Copy, Debug, PartialEq, Eq, thiserror::Error)]
@@ -26,7 +26,7 @@ pub enum ImageFault {
 impl ImageFault {
     /// The check's number, 1 to 5.
     pub fn number(self) -> u8
-        ensures value { result ≡ number_of self }
+        ensures value { result ≡ image_fault_number self }
     {
         match self {
             ImageFault::Short => 1,

@@ -5,17 +5,17 @@ use Rattle.std.specs.List.{All, AllByRecursion, flat_map, list_any, range_with_l
 use Rattle.std.proofs.lemmas.List.Elements.{All-from_recursion}
 use Rattle.hex.specs.Hex.{encode_lower}
 use Rattle.turn_cell.specs.History.{Each}
-use Rattle.host_serve.specs.Chain.{Answers, Chain}
+use Rattle.host_serve.specs.Chain.{Answers, AnswersInOrder}
 use Rattle.host_serve.specs.Holders.{Holder, holders, seen_at, seens}
 use Rattle.host_serve.specs.Hosts.{AreOf, IsSound}
 use Rattle.host_serve.specs.Opening.{roots}
-use Rattle.host_serve.specs.Serves.{Turn}
+use Rattle.host_serve.specs.Serves.{AnsweredLine}
 use Rattle.host_serve.specs.declared.host.Host.{Host}
 use Rattle.host_serve.specs.declared.host.Passes.{Passes}
 use Rattle.host_serve.specs.declared.mark.Mark.{Mark}
 use Rattle.host_serve.proofs.AloneLemmas.{alone_there, met_one}
 use Rattle.host_serve.proofs.ChainLemmas.{answer_wide, chain_wide}
-use Rattle.line_talk.specs.Conversation.{joined}
+use Rattle.line_talk.specs.Conversation.{texts_joined}
 use Rattle.line_talk.specs.Lines.{lines}
 use Rattle.line_words.specs.Reply.{print_reply}
 use Rattle.line_words.specs.declared.reply.Reply.{Reply}
@@ -32,8 +32,8 @@ use Rattle.session_core.specs.Turning.{commands_in}
 use Rattle.story_make.specs.Script.{script_bytes}
 use Rattle.story_run.specs.declared.story.Story.{Story}
 use Rattle.host_drill.specs.Alone.{history_alone, replies_alone}
-use Rattle.host_drill.specs.Drill.{counts_line, echo, history_of, lines_of, replies_of, session_line}
-use Rattle.host_drill.specs.Drilled.{AnswersAll, IsDrilled, IsPlayed, history_in}
+use Rattle.host_drill.specs.Drill.{counts_line, echo, drilled_history, lines_of, drilled_replies, session_line}
+use Rattle.host_drill.specs.Drilled.{AnswersAll, IsDrilled, IsPlayed, history_seen}
 use Rattle.host_drill.proofs.ScriptLemmas.{script_names}
 use Rattle.host_drill.proofs.SessionLemmas.{IsAlone, IsOn, alone_all, are_commands, is_failing, others_all}
 
@@ -59,8 +59,8 @@ fine_replies (replies.No why ∷ rs) e = let p = neither (is_failure why) (list_
 
 module _ (stories : List Story) (budget : ℕ) (sound : Type 0) where
   -- the shows of replies are lines of shows
-  show_lines : (sure : sound) (old : List (List Entry)) (turns : List Turn) (new : List (List Entry)) → length old ≡ 64
-      → Chain stories budget sound roots old turns new → Each HasShowLines (map (λ (t : Turn). t.reply) turns)
+  show_lines : (sure : sound) (old : List (List Entry)) (turns : List AnsweredLine) (new : List (List Entry)) → length old ≡ 64
+      → AnswersInOrder stories budget sound roots old turns new → Each HasShowLines (map (λ (t : AnsweredLine). t.reply) turns)
   show_lines sure old [] new wide c = tt
   show_lines sure old (t ∷ turns) new wide c = (
     subst HasShowLines (sym (met_one stories budget sound sure old t c.0 wide c.1).said)
@@ -69,14 +69,14 @@ module _ (stories : List Story) (budget : ℕ) (sound : Type 0) where
   )
 
   -- the mark of the first line has the length of its session's history
-  one_mark : (old : List (List Entry)) (t : Turn) (mid : List (List Entry)) (s : ℕ) → s < 64 → t.mark.session ≡ s
+  one_mark : (old : List (List Entry)) (t : AnsweredLine) (mid : List (List Entry)) (s : ℕ) → s < 64 → t.mark.session ≡ s
       → Answers stories budget sound roots old t mid → t.mark.length ≡ length (seen_at old s)
   one_mark old t mid s below is (inl o) =
       o.turn.length ∙ ap (λ (h : List Entry). length h) (o.turn.alone (alone_there t.mark.session o.session.0)) ∙ ap (λ (k : ℕ). length (seen_at old k)) is
   one_mark old t mid s below is (inr n) = absurd (omega (arith, below, is, n.none.0))
 
-  pub first_mark : (old : List (List Entry)) (turns : List Turn) (new : List (List Entry)) (s : ℕ) (mark : Mark) → s < 64
-      → Chain stories budget sound roots old turns new → slice_get (map (λ (t : Turn). t.mark) turns) 0 ≡ Some mark → mark.session ≡ s
+  pub first_mark : (old : List (List Entry)) (turns : List AnsweredLine) (new : List (List Entry)) (s : ℕ) (mark : Mark) → s < 64
+      → AnswersInOrder stories budget sound roots old turns new → slice_get (map (λ (t : AnsweredLine). t.mark) turns) 0 ≡ Some mark → mark.session ≡ s
       → mark.length ≡ length (seen_at old s)
   first_mark old [] new s mark below c e is = cc
   first_mark old (t ∷ turns) new s mark below c e is =
@@ -90,7 +90,7 @@ module _ {D : Type 0} (tells : D → Bool) (reads : D → List ℕ) (host : Host
 
   -- the turns of the Echo story by passes that were never split
   abbrev IsChain : List Story → ℕ → List Holder → Type 0
-  IsChain stories budget held = Chain stories budget Sound held (seens old.desks.items) a.turns (seens new.desks.items)
+  IsChain stories budget held = AnswersInOrder stories budget Sound held (seens old.desks.items) a.turns (seens new.desks.items)
 
   chain : IsChain (echo ∷ []) 50000000 roots
   chain = subst (λ (h : List Holder). IsChain (echo ∷ []) 50000000 h) drilled.alone
@@ -110,64 +110,64 @@ module _ {D : Type 0} (tells : D → Bool) (reads : D → List ℕ) (host : Host
 
   module _ (number s turns : ℕ) (below : s < 64) (fits : number < 2 ^ 64) (few : turns < 2 ^ 32 - 1) (is : bytes ≡ script_bytes number s turns) where
     on : Each (IsOn s) a.turns
-    on = each_map (λ (l : List ℕ). session_on l ≡ s) (λ (t : Turn). t.line) a.turns
+    on = each_map (λ (l : List ℕ). session_on l ≡ s) (λ (t : AnsweredLine). t.line) a.turns
         (subst (λ (ls : List (List ℕ)). Each (λ (l : List ℕ). session_on l ≡ s) ls) (sym (a.answered ∙ ap lines is)) (script_names s below number turns fits few))
 
     -- other sessions have what they had
-    pub others : (k : ℕ) → k ≢ s → history_in new k ≡ history_in old k
+    pub others : (k : ℕ) → k ≢ s → history_seen new k ≡ history_seen old k
     others = others_all (echo ∷ []) 50000000 Sound drilled.sound s below (seens old.desks.items) a.turns (seens new.desks.items) drilled.many chain on
 
     -- the length of what was seen of the session
-    pub length_told : (mark : Mark) → slice_get marks 0 ≡ Some mark → mark.session ≡ s → mark.length ≡ length (history_in old s)
+    pub length_told : (mark : Mark) → slice_get marks 0 ≡ Some mark → mark.session ≡ s → mark.length ≡ length (history_seen old s)
     length_told mark e there =
         first_mark (echo ∷ []) 50000000 Sound (seens old.desks.items) a.turns (seens new.desks.items) s mark below chain
         (subst (λ (ms : List Mark). slice_get ms 0 ≡ Some mark) a.marked e) there
 
     module _ (tally : Tally)
-        (counts : (rs : List Reply) → All HasShowLines rs → written ≡ joined (map print_reply rs) → IsTallyOf rs tally)
+        (counts : (rs : List Reply) → All HasShowLines rs → written ≡ texts_joined (map print_reply rs) → IsTallyOf rs tally)
         (fine : tally.failed ≡ false) where
       abbrev said : List Reply
-      said = map (λ (t : Turn). t.reply) a.turns
+      said = map (λ (t : AnsweredLine). t.reply) a.turns
 
       tallied : IsTallyOf said tally
       tallied = counts said (All-from_recursion HasShowLines said (by_recursion HasShowLines said
           (show_lines (echo ∷ []) 50000000 Sound drilled.sound (seens old.desks.items) a.turns (seens new.desks.items) drilled.many chain))) a.replies
 
-      alone : IsAlone (echo ∷ []) 50000000 (history_in old s) a.turns (history_in new s)
+      alone : IsAlone (echo ∷ []) 50000000 (history_seen old s) a.turns (history_seen new s)
       alone = alone_all (echo ∷ []) 50000000 Sound drilled.sound s below (seens old.desks.items) a.turns (seens new.desks.items) drilled.many chain on
-          (each_map (λ (r : Reply). is_failing r ≡ false) (λ (t : Turn). t.reply) a.turns (fine_replies said (sym tallied.failed ∙ fine)))
+          (each_map (λ (r : Reply). is_failing r ≡ false) (λ (t : AnsweredLine). t.reply) a.turns (fine_replies said (sym tallied.failed ∙ fine)))
 
       -- a session of which nothing was seen has the replies and the history of its script alone
-      pub played : (sum : List ℕ) → turns ≡ 1000 → history_in old s ≡ [] → sum ≡ sha256 written → IsPlayed old new number s tally.refusals sum
-      unfolding lines_of replies_of history_of
+      pub played : (sum : List ℕ) → turns ≡ 1000 → history_seen old s ≡ [] → sum ≡ sha256 written → IsPlayed old new number s tally.refusals sum
+      unfolding lines_of drilled_replies drilled_history
       played sum all fresh digest =
-          let read : map (λ (t : Turn). t.line) a.turns ≡ lines_of number s
+          let read : map (λ (t : AnsweredLine). t.line) a.turns ≡ lines_of number s
           = a.answered ∙ ap lines (is ∙ ap (λ (n : ℕ). script_bytes number s n) all) in
-          let told : said ≡ replies_of number s = alone.replies
-          ∙ ap (λ (h : List Entry). replies_alone (echo ∷ []) 50000000 h (map (λ (t : Turn). t.line) a.turns)) fresh
+          let told : said ≡ drilled_replies number s = alone.replies
+          ∙ ap (λ (h : List Entry). replies_alone (echo ∷ []) 50000000 h (map (λ (t : AnsweredLine). t.line) a.turns)) fresh
           ∙ ap (λ (ls : List (List ℕ)). replies_alone (echo ∷ []) 50000000 [] ls) read in
           record {
             refused = tallied.refusals ∙ ap (λ (rs : List Reply). length (refusals_in rs)) told;
-            digest = digest ∙ ap (λ (bs : List ℕ). sha256 bs) (a.replies ∙ ap (λ (rs : List Reply). joined (map print_reply rs)) told);
+            digest = digest ∙ ap (λ (bs : List ℕ). sha256 bs) (a.replies ∙ ap (λ (rs : List Reply). texts_joined (map print_reply rs)) told);
             history = alone.history
-                ∙ ap (λ (h : List Entry). history_alone (echo ∷ []) 50000000 h (map (λ (t : Turn). t.line) a.turns)) fresh
+                ∙ ap (λ (h : List Entry). history_alone (echo ∷ []) 50000000 h (map (λ (t : AnsweredLine). t.line) a.turns)) fresh
                 ∙ ap (λ (ls : List (List ℕ)). history_alone (echo ∷ []) 50000000 [] ls) read;
             others = others;
           }
 
 -- the history of a session has commands alone
-pub accepted_all : (number s : ℕ) → length (commands_in (history_of number s)) ≡ length (history_of number s)
-unfolding history_of
+pub accepted_all : (number s : ℕ) → length (commands_in (drilled_history number s)) ≡ length (drilled_history number s)
+unfolding drilled_history
 accepted_all number s = are_commands (echo ∷ []) 50000000 [] (lines_of number s) refl
 
 -- the line of a session that was played
-pub line_told : (number s accepted refused : ℕ) (digest text line : List ℕ) → line ≡ counts_line s accepted refused text → accepted ≡ length (history_of number s)
-    → refused ≡ length (refusals_in (replies_of number s)) → text ≡ encode_lower digest → digest ≡ sha256 (joined (map print_reply (replies_of number s)))
+pub line_told : (number s accepted refused : ℕ) (digest text line : List ℕ) → line ≡ counts_line s accepted refused text → accepted ≡ length (drilled_history number s)
+    → refused ≡ length (refusals_in (drilled_replies number s)) → text ≡ encode_lower digest → digest ≡ sha256 (texts_joined (map print_reply (drilled_replies number s)))
     → line ≡ session_line number s
 line_told number s accepted refused digest text line is count refusals spelled sum =
     is ∙ ap (λ (n : ℕ). counts_line s n refused text) (count ∙ sym (accepted_all number s))
-    ∙ ap (λ (n : ℕ). counts_line s (length (commands_in (history_of number s))) n text) refusals
-    ∙ ap (λ (bs : List ℕ). counts_line s (length (commands_in (history_of number s))) (length (refusals_in (replies_of number s))) bs)
+    ∙ ap (λ (n : ℕ). counts_line s (length (commands_in (drilled_history number s))) n text) refusals
+    ∙ ap (λ (bs : List ℕ). counts_line s (length (commands_in (drilled_history number s))) (length (refusals_in (drilled_replies number s))) bs)
     (spelled ∙ ap (λ (bs : List ℕ). encode_lower bs) sum)
 
 -- one more of a row of texts

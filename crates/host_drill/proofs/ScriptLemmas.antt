@@ -6,7 +6,7 @@ use Rattle.line_words.specs.Request.{request_of}
 use Rattle.line_words.specs.declared.request.Request.{Request}
 use Rattle.session_core.specs.Checks.{session_of}
 use Rattle.session_core.specs.Hosts.{session_in, session_on}
-use Rattle.story_make.specs.Script.{Place, begun, letters, requests, script_bytes, turned, turns_from, typed, words_of}
+use Rattle.story_make.specs.Script.{Place, script_start, letters, requests, script_bytes, place_after_turn, requests_from, typed_line, script_words}
 use Rattle.story_make.proofs.ScriptLaws.{reads}
 
 module _ (s : ℕ) where
@@ -15,21 +15,21 @@ module _ (s : ℕ) where
 
   -- the three ways of a turn
   one_turn : (word : ℕ) (place : Place) → Names place.last → (again skips : Bool)
-      → Names (cond again place (cond skips (record place { last = typed s (place.sent + 2) (codes "x") })
-      (record { sent = place.sent + 1; last = typed s (place.sent + 1) (letters word) }))).last
+      → Names (cond again place (cond skips (record place { last = typed_line s (place.sent + 2) (codes "x") })
+      (record { sent = place.sent + 1; last = typed_line s (place.sent + 1) (letters word) }))).last
   one_turn word place names true skips = names
   one_turn word place names false true = refl
   one_turn word place names false false = refl
 
-  all_turns : (words : List ℕ) (place : Place) → Names place.last → Each Names (turns_from s place words)
+  all_turns : (words : List ℕ) (place : Place) → Names place.last → Each Names (requests_from s place words)
   all_turns [] place names = tt
   all_turns (word ∷ words) place names =
       let after = one_turn word place names (word % 10 == 0) (word % 10 == 1) in
-      (after, all_turns words (turned s word place) after)
+      (after, all_turns words (place_after_turn s word place) after)
 
   all_requests : (number turns : ℕ) → Each Names (requests number s turns)
   unfolding requests
-  all_requests number turns = (refl, all_turns (words_of number s turns) (begun number s) refl)
+  all_requests number turns = (refl, all_turns (script_words number s turns) (script_start number s) refl)
 
   module _ (below : s < 64) where
     abbrev IsOnLine : List ℕ → Type 0

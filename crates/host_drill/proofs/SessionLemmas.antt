@@ -3,10 +3,10 @@ use Rattle.std.proofs.Common.{◌≡◌, ◌≢◌, ℕ, suc, ◌+◌, ◌<◌, 
 use Rattle.std.proofs.lemmas.List.{get_or-set_same, get_or-set_other}
 use Rattle.turn_cell.specs.History.{Each}
 use Rattle.gate_journal.specs.declared.command.Command.{Command}
-use Rattle.host_serve.specs.Chain.{Chain}
+use Rattle.host_serve.specs.Chain.{AnswersInOrder}
 use Rattle.host_serve.specs.Holders.{seen_at}
 use Rattle.host_serve.specs.Opening.{roots}
-use Rattle.host_serve.specs.Serves.{Turn}
+use Rattle.host_serve.specs.Serves.{AnsweredLine}
 use Rattle.host_serve.proofs.AloneLemmas.{IsMet, met_one}
 use Rattle.host_serve.proofs.ChainLemmas.{answer_wide}
 use Rattle.line_words.specs.declared.reply.Reply.{Reply}
@@ -30,7 +30,7 @@ is_failing (replies.Show s n body) = false
 is_failing (replies.No why) = is_failure why
 
 -- the turn is one of this session
-abbrev pub IsOn : ℕ → Turn → Type 0
+abbrev pub IsOn : ℕ → AnsweredLine → Type 0
 IsOn s t = session_on t.line ≡ s
 
 module _ (stories : List Story) (budget : ℕ) where
@@ -85,20 +85,20 @@ module _ (stories : List Story) (budget : ℕ) where
   -- ---- in one session
 
   -- the session's replies and its history are those of the session alone
-  pub record IsAlone (h : List Entry) (turns : List Turn) (after : List Entry) : Type 0 where
-    pub replies : map (λ (t : Turn). t.reply) turns ≡ replies_alone stories budget h (map (λ (t : Turn). t.line) turns)
-    pub history : after ≡ history_alone stories budget h (map (λ (t : Turn). t.line) turns)
+  pub record IsAlone (h : List Entry) (turns : List AnsweredLine) (after : List Entry) : Type 0 where
+    pub replies : map (λ (t : AnsweredLine). t.reply) turns ≡ replies_alone stories budget h (map (λ (t : AnsweredLine). t.line) turns)
+    pub history : after ≡ history_alone stories budget h (map (λ (t : AnsweredLine). t.line) turns)
 
-  record IsAloneOnce (h : List Entry) (t : Turn) (after : List Entry) : Type 0 where
+  record IsAloneOnce (h : List Entry) (t : AnsweredLine) (after : List Entry) : Type 0 where
     reply : t.reply ≡ (turn_alone stories budget h t.line).reply
     history : after ≡ (turn_alone stories budget h t.line).history
 
-  alone_more : (h : List Entry) (t : Turn) (mid : List Entry) (turns : List Turn) (after : List Entry) → IsAloneOnce h t mid → IsAlone mid turns after
+  alone_more : (h : List Entry) (t : AnsweredLine) (mid : List Entry) (turns : List AnsweredLine) (after : List Entry) → IsAloneOnce h t mid → IsAlone mid turns after
       → IsAlone h (t ∷ turns) after
   alone_more h t mid turns after one more =
-      let lines : List (List ℕ) = map (λ (u : Turn). u.line) turns in
+      let lines : List (List ℕ) = map (λ (u : AnsweredLine). u.line) turns in
       record {
-        replies = ap (λ (r : Reply). r ∷ map (λ (u : Turn). u.reply) turns) one.reply
+        replies = ap (λ (r : Reply). r ∷ map (λ (u : AnsweredLine). u.reply) turns) one.reply
             ∙ ap (λ (rs : List Reply). (turn_alone stories budget h t.line).reply ∷ rs)
             (more.replies ∙ ap (λ (g : List Entry). replies_alone stories budget g lines) one.history);
         history = more.history ∙ ap (λ (g : List Entry). history_alone stories budget g lines) one.history;
@@ -106,19 +106,19 @@ module _ (stories : List Story) (budget : ℕ) where
 
   -- where the host is sound
   module _ (sound : Type 0) (sure : sound) (s : ℕ) (below : s < 64) where
-    others_one : (old : Histories) (t : Turn) (new : Histories) → IsMet stories budget old t new → IsOn s t → (k : ℕ) → k ≢ s → seen_at new k ≡ seen_at old k
+    others_one : (old : Histories) (t : AnsweredLine) (new : Histories) → IsMet stories budget old t new → IsOn s t → (k : ℕ) → k ≢ s → seen_at new k ≡ seen_at old k
     others_one old t new m on k other =
         ap (λ (h : Histories). seen_at h k) m.after ∙ get_or-set_other old (session_on t.line) k _ [] (λ (e : k ≡ session_on t.line). other (e ∙ on))
 
     -- other sessions have what they had
-    pub others_all : (old : Histories) (turns : List Turn) (new : Histories) → length old ≡ 64 → Chain stories budget sound roots old turns new
+    pub others_all : (old : Histories) (turns : List AnsweredLine) (new : Histories) → length old ≡ 64 → AnswersInOrder stories budget sound roots old turns new
         → Each (IsOn s) turns → (k : ℕ) → k ≢ s → seen_at new k ≡ seen_at old k
     others_all old [] new wide c on k other = ap (λ (h : Histories). seen_at h k) c
     others_all old (t ∷ turns) new wide c on k other =
         others_all c.0 turns new (answer_wide stories budget sound roots old t c.0 wide c.1) c.2 on.1 k other
         ∙ others_one old t c.0 (met_one stories budget sound sure old t c.0 wide c.1) on.0 k other
 
-    alone_one : (old : Histories) (t : Turn) (new : Histories) → length old ≡ 64 → IsMet stories budget old t new → IsOn s t → is_failing t.reply ≡ false
+    alone_one : (old : Histories) (t : AnsweredLine) (new : Histories) → length old ≡ 64 → IsMet stories budget old t new → IsOn s t → is_failing t.reply ≡ false
         → IsAloneOnce (seen_at old s) t (seen_at new s)
     alone_one old t new wide m on fine =
         let there : seen_at old (session_on t.line) ≡ seen_at old s = ap (λ (k : ℕ). seen_at old k) on in
@@ -137,8 +137,8 @@ module _ (stories : List Story) (budget : ℕ) where
               ∙ ap (λ u. u.history) turned;
         }
 
-    pub alone_all : (old : Histories) (turns : List Turn) (new : Histories) → length old ≡ 64 → Chain stories budget sound roots old turns new
-        → Each (IsOn s) turns → Each (λ (t : Turn). is_failing t.reply ≡ false) turns → IsAlone (seen_at old s) turns (seen_at new s)
+    pub alone_all : (old : Histories) (turns : List AnsweredLine) (new : Histories) → length old ≡ 64 → AnswersInOrder stories budget sound roots old turns new
+        → Each (IsOn s) turns → Each (λ (t : AnsweredLine). is_failing t.reply ≡ false) turns → IsAlone (seen_at old s) turns (seen_at new s)
     alone_all old [] new wide c on fine = record { replies = refl; history = ap (λ (h : Histories). seen_at h s) c }
     alone_all old (t ∷ turns) new wide c on fine =
         alone_more (seen_at old s) t (seen_at c.0 s) turns (seen_at new s)

@@ -3,7 +3,7 @@ use Rattle.std.specs.Prelude.{ℕ, List, [], ◌∷◌, ◌++◌, codes, decimal
 use Rattle.std.specs.List.{flat_map, range_with_len}
 use Rattle.hex.specs.Hex.{encode_lower}
 use Rattle.sha2.specs.Sha256.{sha256}
-use Rattle.line_talk.specs.Conversation.{joined}
+use Rattle.line_talk.specs.Conversation.{texts_joined}
 use Rattle.line_talk.specs.Lines.{lines}
 use Rattle.line_words.specs.Reply.{print_reply}
 use Rattle.line_words.specs.declared.reply.Reply.{Reply}
@@ -24,12 +24,12 @@ unfoldable pub lines_of : ℕ → ℕ → List (List ℕ)
 lines_of number s = lines (script_bytes number s 1000)
 
 -- the replies to them, from an empty history on, with 50,000,000 ticks a turn
-unfoldable pub replies_of : ℕ → ℕ → List Reply
-replies_of number s = replies_alone (echo ∷ []) 50000000 [] (lines_of number s)
+unfoldable pub drilled_replies : ℕ → ℕ → List Reply
+drilled_replies number s = replies_alone (echo ∷ []) 50000000 [] (lines_of number s)
 
 -- the history behind them
-unfoldable pub history_of : ℕ → ℕ → List Entry
-history_of number s = history_alone (echo ∷ []) 50000000 [] (lines_of number s)
+unfoldable pub drilled_history : ℕ → ℕ → List Entry
+drilled_history number s = history_alone (echo ∷ []) 50000000 [] (lines_of number s)
 
 -- so many commands were accepted, so many replies are refusals, and the digest of the replies
 abbrev pub counts_line : ℕ → ℕ → ℕ → List ℕ → List ℕ
@@ -40,9 +40,9 @@ counts_line s accepted refused digest =
 -- what is told of a session; the digest is of the replies as they are written
 abbrev pub session_line : ℕ → ℕ → List ℕ
 session_line number s =
-    counts_line s (length (commands_in (history_of number s)))
-    (length (refusals_in (replies_of number s)))
-    (encode_lower (sha256 (joined (map print_reply (replies_of number s)))))
+    counts_line s (length (commands_in (drilled_history number s)))
+    (length (refusals_in (drilled_replies number s)))
+    (encode_lower (sha256 (texts_joined (map print_reply (drilled_replies number s)))))
 
 -- what a drill tells: its sessions from 0 to 7, and that it is done
 unfoldable pub drill_text : ℕ → List ℕ

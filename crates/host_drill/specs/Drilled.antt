@@ -1,21 +1,21 @@
 -- The host of a drill, and what the lines of its links were answered (own).
 use Rattle.std.specs.Prelude.{◌≡◌, ◌≢◌, ℕ, ◌≤◌, List, [], ◌∷◌, length, map, Bool, IsTrue}
 use Rattle.turn_cell.specs.History.{Each}
-use Rattle.host_serve.specs.Chain.{Chain}
+use Rattle.host_serve.specs.Chain.{AnswersInOrder}
 use Rattle.host_serve.specs.Holders.{holders, seen_at, seens}
 use Rattle.host_serve.specs.Hosts.{AreOf, IsSound}
 use Rattle.host_serve.specs.Opening.{roots}
-use Rattle.host_serve.specs.Serves.{Turn}
+use Rattle.host_serve.specs.Serves.{AnsweredLine}
 use Rattle.host_serve.specs.declared.host.Host.{Host}
 use Rattle.host_serve.specs.declared.host.Passes.{Passes}
 use Rattle.host_serve.specs.declared.mark.Mark.{Mark}
-use Rattle.line_talk.specs.Conversation.{joined}
+use Rattle.line_talk.specs.Conversation.{texts_joined}
 use Rattle.line_talk.specs.Lines.{lines}
 use Rattle.line_words.specs.Reply.{print_reply}
 use Rattle.session_core.specs.declared.entry.Entry.{Entry}
 use Rattle.reply_tally.specs.Refusals.{refusals_in}
 use Rattle.sha2.specs.Sha256.{sha256}
-use Rattle.host_drill.specs.Drill.{echo, history_of, replies_of}
+use Rattle.host_drill.specs.Drill.{echo, drilled_history, drilled_replies}
 
 module _ {D : Type 0} (tells : D → Bool) (reads : D → List ℕ) where
   -- there is a disk for each session, and all of them are empty
@@ -36,27 +36,28 @@ module _ {D : Type 0} (tells : D → Bool) (reads : D → List ℕ) where
   -- written, and the marks
   pub record AnswersAll (host : Host D) (old new : Passes D) (bytes written : List ℕ)
       (marks : List Mark) : Type 0 where
-    pub turns : List Turn
-    pub answered : map (λ (t : Turn). t.line) turns ≡ lines bytes
-    pub replies : written ≡ joined (map print_reply (map (λ (t : Turn). t.reply) turns))
-    pub marked : marks ≡ map (λ (t : Turn). t.mark) turns
+    pub turns : List AnsweredLine
+    pub answered : map (λ (t : AnsweredLine). t.line) turns ≡ lines bytes
+    pub replies : written
+        ≡ texts_joined (map print_reply (map (λ (t : AnsweredLine). t.reply) turns))
+    pub marked : marks ≡ map (λ (t : AnsweredLine). t.mark) turns
     pub chain :
-        Chain host.stories.now host.budget (IsSound tells reads host)
+        AnswersInOrder host.stories.now host.budget (IsSound tells reads host)
         (holders old.desks.items) (seens old.desks.items) turns (seens new.desks.items)
 
 module _ {D : Type 0} where
   -- what the pass of a session has seen
-  abbrev pub history_in : Passes D → ℕ → List Entry
-  history_in passes s = seen_at (seens passes.desks.items) s
+  abbrev pub history_seen : Passes D → ℕ → List Entry
+  history_seen passes s = seen_at (seens passes.desks.items) s
 
   -- nothing was seen yet of the sessions from this number on
   abbrev pub AreFreshFrom : ℕ → Passes D → Type 0
-  AreFreshFrom s passes = (k : ℕ) → s ≤ k → history_in passes k ≡ []
+  AreFreshFrom s passes = (k : ℕ) → s ≤ k → history_seen passes k ≡ []
 
   -- a session was played by its script: how many of the replies are refusals, the digest of all,
   -- and what was seen
   pub record IsPlayed (old new : Passes D) (number s count : ℕ) (sum : List ℕ) : Type 0 where
-    pub refused : count ≡ length (refusals_in (replies_of number s))
-    pub digest : sum ≡ sha256 (joined (map print_reply (replies_of number s)))
-    pub history : history_in new s ≡ history_of number s
-    pub others : (k : ℕ) → k ≢ s → history_in new k ≡ history_in old k
+    pub refused : count ≡ length (refusals_in (drilled_replies number s))
+    pub digest : sum ≡ sha256 (texts_joined (map print_reply (drilled_replies number s)))
+    pub history : history_seen new s ≡ drilled_history number s
+    pub others : (k : ℕ) → k ≢ s → history_seen new k ≡ history_seen old k

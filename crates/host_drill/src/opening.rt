@@ -1,7 +1,7 @@
 //! The host of a drill.
 ghost use Rattle.std.specs.Prelude.{◌≡◌, [], ◌∷◌, IfOk, IsTrue, length};
 ghost use Rattle.turn_cell.specs.History.{Each};
-ghost use Rattle.disk_model.specs.Memory.{state_in};
+ghost use Rattle.disk_model.specs.Memory.{disk_state_in};
 ghost use Rattle.host_drill.specs.Drill.{echo};
 ghost use Rattle.host_drill.specs.Drilled.{AreEmpty, AreFreshFrom, IsDrilled};
 
@@ -21,7 +21,7 @@ const SESSIONS: u8 = 64;
 /// is put into them.
 pub fn empty_disks(alloc: Global) -> Result<Vec<MemDisk>, AllocError>
     ensures many { IfOk result (λ disks. length disks.items ≡ 64) }
-    ensures empty { IfOk result (λ disks. Each (λ d. (state_in d).seen ≡ []) disks.items) }
+    ensures empty { IfOk result (λ disks. Each (λ d. (disk_state_in d).seen ≡ []) disks.items) }
 {
     let mut disks = Vec::new(alloc);
     for _ in 0..SESSIONS {

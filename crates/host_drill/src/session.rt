@@ -2,7 +2,7 @@
 ghost use Rattle.std.specs.Prelude.{◌≡◌, ◌≢◌, ◌<◌, ◌+◌, ◌++◌, ℕ, IfOk, OnOk, length};
 ghost use Rattle.std.specs.Prelude.{[], string_bytes};
 ghost use Rattle.host_drill.specs.Drill.{counts_line, session_line};
-ghost use Rattle.host_drill.specs.Drilled.{AreFreshFrom, IsDrilled, IsPlayed, history_in};
+ghost use Rattle.host_drill.specs.Drilled.{AreFreshFrom, IsDrilled, IsPlayed, history_seen};
 
 use crate::link::answer_all;
 use disk_model::Disk;
@@ -34,7 +34,7 @@ fn play<'i, R: Wait, D: Disk + Drop>(
 ) -> Result<Played, AllocError>
     requires drilled { IsDrilled D.tells D.seen host.now passes.old }
     requires below { session < 64 }
-    requires fresh { history_in passes.old session ≡ [] }
+    requires fresh { history_seen passes.old session ≡ [] }
     ensures value { IfOk result (λ played. IsPlayed passes.old passes.new number session
         played.refused played.digest) }
     ensures kept { IfOk result (λ _. IsDrilled D.tells D.seen host.now passes.new) }
@@ -63,9 +63,9 @@ fn length_of<'i, R: Wait, D: Disk + Drop>(
 ) -> Result<u64, AllocError>
     requires drilled { IsDrilled D.tells D.seen host.now passes.old }
     requires below { session < 64 }
-    ensures value { IfOk result (λ n. n ≡ length (history_in passes.old session)) }
+    ensures value { IfOk result (λ n. n ≡ length (history_seen passes.old session)) }
     ensures others { IfOk result (λ _. (k : ℕ) → k ≢ session
-        → history_in passes.new k ≡ history_in passes.old k) }
+        → history_seen passes.new k ≡ history_seen passes.old k) }
     ensures kept { IfOk result (λ _. IsDrilled D.tells D.seen host.now passes.new) }
 {
     let lines = script(alloc, number, session, 0)?;

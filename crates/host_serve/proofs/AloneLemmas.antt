@@ -5,15 +5,15 @@ use Rattle.std.proofs.lemmas.Bool.{cases_lt}
 use Rattle.std.proofs.lemmas.List.{map-append, get_or_past, get_or-set_same, get_or-set_other}
 use Rattle.std.proofs.lemmas.List.{set-get_or, set_past}
 use Rattle.std.proofs.lemmas.List.FromFn.{get_or-map-range_with_len, length-map-range_with_len}
-use Rattle.gate_journal.specs.Log.{kept}
+use Rattle.gate_journal.specs.Log.{rows_kept}
 use Rattle.gate_journal.specs.Rows.{commands_of}
 use Rattle.gate_journal.specs.declared.command.Command.{Command}
 use Rattle.gate_journal.specs.declared.row.Row.{Row}
-use Rattle.host_serve.specs.Chain.{Answers, Chain, TurnsIn, TurnsOnNone}
+use Rattle.host_serve.specs.Chain.{Answers, AnswersInOrder, TurnsIn, TurnsOnNone}
 use Rattle.host_serve.specs.Holders.{Holder, IsAloneHolder, holder_at, seen_at}
 use Rattle.host_serve.specs.Hosts.{sessions_below}
-use Rattle.host_serve.specs.Opening.{histories_of, lone, roots}
-use Rattle.host_serve.specs.Serves.{Turn, MayMeetIn, decided, own_world, turned_on}
+use Rattle.host_serve.specs.Opening.{histories_in_rows, lone, roots}
+use Rattle.host_serve.specs.Serves.{AnsweredLine, MayMeetIn, decided_on_line, own_world, turned_again}
 use Rattle.host_serve.proofs.ChainLemmas.{answer_wide}
 use Rattle.host_serve.proofs.ListLemmas.{eq_or_ne}
 use Rattle.line_words.specs.declared.reply.Reply.{Reply}
@@ -22,7 +22,7 @@ use Rattle.session_core.specs.declared.entry.Entry.TheVariants as entries
 use Rattle.session_core.specs.declared.entry.Outcome.{Outcome}
 use Rattle.session_core.specs.declared.entry.Outcome.TheVariants.{OutOfMemory}
 use Rattle.session_core.specs.Hosts.{AreMet, decision_at, entries_of, histories_after}
-use Rattle.session_core.specs.Hosts.{histories_met, replies_met, session_on, turn_on}
+use Rattle.session_core.specs.Hosts.{histories_met, replies_met, session_on, turn_on_line}
 use Rattle.session_core.specs.declared.decision.Decision.{Decision}
 use Rattle.session_core.specs.Turning.{AddsTo, MayMeet, Turned, commands_in, decision_in}
 use Rattle.session_core.specs.Turning.{decision_on, entry_by, turn_in, turn_of}
@@ -46,32 +46,32 @@ lone_there s below = get_or-map-range_with_len (λ (t : ℕ). lone) 0 64 s s _ b
 pub alone_there : (s : ℕ) → s < 64 → IsAloneHolder (holder_at roots s)
 alone_there s below = subst IsAloneHolder (sym (lone_there s below)) (refl, refl)
 
-pub many_histories : (rows : List Row) → length (histories_of rows) ≡ 64
+pub many_histories : (rows : List Row) → length (histories_in_rows rows) ≡ 64
 unfolding sessions_below
-many_histories rows = length-map-range_with_len (history_in (kept rows)) 0 64
+many_histories rows = length-map-range_with_len (history_in (rows_kept rows)) 0 64
 
 pub history_there : (rows : List Row) (s : ℕ) → s < 64
-    → seen_at (histories_of rows) s ≡ history_in (kept rows) s
+    → seen_at (histories_in_rows rows) s ≡ history_in (rows_kept rows) s
 unfolding sessions_below
 history_there rows s below =
-    get_or-map-range_with_len (history_in (kept rows)) 0 64 s s [] below (omega arith)
+    get_or-map-range_with_len (history_in (rows_kept rows)) 0 64 s s [] below (omega arith)
 
 module _ (stories : List Story) (budget : ℕ) where
   -- ---- a turn in the session's own world
 
-  own_decides : (history : List Entry) (t : Turn) → t.world ≡ own_world stories history
-      → decided stories budget history t ≡ decision_on stories budget (commands_in history) t.line
+  own_decides : (history : List Entry) (t : AnsweredLine) → t.world ≡ own_world stories history
+      → decided_on_line stories budget history t ≡ decision_on stories budget (commands_in history) t.line
   own_decides history t own =
       ap (λ (w : Option WorldState). decision_in stories budget (commands_in history) w t.line) own
       ∙ decides_alike stories budget (commands_in history) t.line
 
-  own_turns : (history : List Entry) (by : ℕ) (t : Turn) → t.world ≡ own_world stories history
-      → turned_on stories budget history by t ≡ turn_of stories budget history by t.line t.outcome
+  own_turns : (history : List Entry) (by : ℕ) (t : AnsweredLine) → t.world ≡ own_world stories history
+      → turned_again stories budget history by t ≡ turn_of stories budget history by t.line t.outcome
   own_turns history by t own =
       ap (λ (w : Option WorldState). turn_in stories budget history w by t.line t.outcome) own
       ∙ turns_alike stories budget history by t.line t.outcome
 
-  own_may : (history : List Entry) (t : Turn) → t.world ≡ own_world stories history
+  own_may : (history : List Entry) (t : AnsweredLine) → t.world ≡ own_world stories history
       → MayMeetIn stories budget history t
       → MayMeet (decision_on stories budget (commands_in history) t.line).accepted t.outcome
   own_may history t own met =
@@ -80,13 +80,13 @@ module _ (stories : List Story) (budget : ℕ) where
   -- ---- one line
 
   -- its turn is that of the session that it names, on that session's history
-  pub record IsMet (old : Histories) (t : Turn) (new : Histories) : Type 0 where
+  pub record IsMet (old : Histories) (t : AnsweredLine) (new : Histories) : Type 0 where
     pub may : MayMeet (decision_at stories budget old t.line).accepted t.outcome
-    pub said : t.reply ≡ (turn_on stories budget old 0 t.line t.outcome).reply
+    pub said : t.reply ≡ (turn_on_line stories budget old 0 t.line t.outcome).reply
     pub after : new ≡ histories_after stories budget old 0 t.line t.outcome
 
   -- a line that names no session is answered on an empty history
-  met_nowhere : (old : Histories) (t : Turn) (new : Histories) → length old ≡ 64
+  met_nowhere : (old : Histories) (t : AnsweredLine) (new : Histories) → length old ≡ 64
       → session_on t.line ≡ 64
       → TurnsOnNone stories budget old t new → IsMet old t new
   met_nowhere old t new wide none n =
@@ -103,7 +103,7 @@ module _ (stories : List Story) (budget : ℕ) where
             (sym empty));
         after =
             n.seen ∙ sym (set_past old (session_on t.line)
-            (turn_on stories budget old 0 t.line t.outcome).history far);
+            (turn_on_line stories budget old 0 t.line t.outcome).history far);
       }
 
   -- and so is one whose reading found no memory
@@ -122,7 +122,7 @@ module _ (stories : List Story) (budget : ℕ) where
   may_want None = tt
   may_want (Some command) = tt
 
-  met_wanting : (old : Histories) (t : Turn) (new : Histories) → t.outcome ≡ OutOfMemory
+  met_wanting : (old : Histories) (t : AnsweredLine) (new : Histories) → t.outcome ≡ OutOfMemory
       → TurnsOnNone stories budget old t new → IsMet old t new
   met_wanting old t new wanted n =
       let h : List Entry = entries_of old (session_on t.line) in
@@ -141,27 +141,27 @@ module _ (stories : List Story) (budget : ℕ) where
 
   -- ---- lines one after the other
 
-  pub record AreMetBy (old : Histories) (turns : List Turn) (new : Histories) : Type 0 where
-    pub met : AreMet stories budget old 0 (map (λ (t : Turn). t.line) turns)
-        (map (λ (t : Turn). t.outcome) turns)
-    pub said : map (λ (t : Turn). t.reply) turns ≡ replies_met stories budget old 0
-        (map (λ (t : Turn). t.line) turns) (map (λ (t : Turn). t.outcome) turns)
-    pub after : new ≡ histories_met stories budget old 0 (map (λ (t : Turn). t.line) turns)
-        (map (λ (t : Turn). t.outcome) turns)
+  pub record AreMetBy (old : Histories) (turns : List AnsweredLine) (new : Histories) : Type 0 where
+    pub met : AreMet stories budget old 0 (map (λ (t : AnsweredLine). t.line) turns)
+        (map (λ (t : AnsweredLine). t.outcome) turns)
+    pub said : map (λ (t : AnsweredLine). t.reply) turns ≡ replies_met stories budget old 0
+        (map (λ (t : AnsweredLine). t.line) turns) (map (λ (t : AnsweredLine). t.outcome) turns)
+    pub after : new ≡ histories_met stories budget old 0 (map (λ (t : AnsweredLine). t.line) turns)
+        (map (λ (t : AnsweredLine). t.outcome) turns)
 
-  met_more : (old : Histories) (t : Turn) (mid : Histories) (turns : List Turn) (new : Histories)
+  met_more : (old : Histories) (t : AnsweredLine) (mid : Histories) (turns : List AnsweredLine) (new : Histories)
       → IsMet old t mid → AreMetBy mid turns new → AreMetBy old (t ∷ turns) new
   met_more old t mid turns new one more =
-      let lines : List (List ℕ) = map (λ (u : Turn). u.line) turns in
-      let outcomes : List Outcome = map (λ (u : Turn). u.outcome) turns in
+      let lines : List (List ℕ) = map (λ (u : AnsweredLine). u.line) turns in
+      let outcomes : List Outcome = map (λ (u : AnsweredLine). u.outcome) turns in
       record {
         met = (
           one.may,
           subst (λ (h : Histories). AreMet stories budget h 0 lines outcomes) one.after
               more.met,
         );
-        said = ap (λ (r : Reply). r ∷ map (λ (u : Turn). u.reply) turns) one.said
-            ∙ ap (λ (rs : List Reply). (turn_on stories budget old 0 t.line t.outcome).reply ∷ rs)
+        said = ap (λ (r : Reply). r ∷ map (λ (u : AnsweredLine). u.reply) turns) one.said
+            ∙ ap (λ (rs : List Reply). (turn_on_line stories budget old 0 t.line t.outcome).reply ∷ rs)
             (more.said ∙ ap (λ (h : Histories). replies_met stories budget h 0 lines outcomes)
             one.after);
         after =
@@ -201,19 +201,19 @@ module _ (stories : List Story) (budget : ℕ) where
         (sym (set_past old k after past)) (own s)
   ]
 
-  pub own_rows : (rows : List Row) → AreOwn (histories_of rows)
+  pub own_rows : (rows : List Row) → AreOwn (histories_in_rows rows)
   own_rows rows s = elim (cases_lt s 64) [
     | inl below ↦ subst (λ (l : List Entry). map unnumbered l ≡ l)
         (sym (history_there rows s below ∙ history_in-kept rows s))
         (unnumbered-all (commands_of rows s))
     | inr past ↦ subst (λ (l : List Entry). map unnumbered l ≡ l)
-        (sym (get_or_past (histories_of rows) s [] (omega (arith, past, many_histories rows)))) refl
+        (sym (get_or_past (histories_in_rows rows) s [] (omega (arith, past, many_histories rows)))) refl
   ]
 
   -- on a sound host, as `sound` says
   module _ (sound : Type 0) where
     -- in its session, where its pass is alone
-    met_in : sound → (old : Histories) (t : Turn) (new : Histories) (h : Holder)
+    met_in : sound → (old : Histories) (t : AnsweredLine) (new : Histories) (h : Holder)
         (after : List Entry) → h ≡ lone → t.mark.session ≡ session_on t.line
         → TurnsIn stories budget sound h (seen_at old t.mark.session) t after
         → new ≡ set old t.mark.session after → IsMet old t new
@@ -221,7 +221,7 @@ module _ (stories : List Story) (budget : ℕ) where
         let before : i.before ≡ entries_of old (session_on t.line) =
         i.alone (subst IsAloneHolder (sym is) (refl, refl))
         ∙ ap (λ (k : ℕ). seen_at old k) there in
-        let turned : turned_on stories budget i.before h.number t ≡ turn_on stories budget old 0
+        let turned : turned_again stories budget i.before h.number t ≡ turn_on_line stories budget old 0
         t.line t.outcome
         = own_turns i.before h.number t (i.own holds)
         ∙ (ap (λ (b : List Entry). turn_of stories budget b h.number t.line t.outcome) before
@@ -239,7 +239,7 @@ module _ (stories : List Story) (budget : ℕ) where
               (i.history ∙ ap (λ (u : Turned). u.history) turned);
         }
 
-    pub met_one : sound → (old : Histories) (t : Turn) (new : Histories) → length old ≡ 64
+    pub met_one : sound → (old : Histories) (t : AnsweredLine) (new : Histories) → length old ≡ 64
         → Answers stories budget sound roots old t new → IsMet old t new
     met_one holds old t new wide (inl o) =
         met_in holds old t new (holder_at roots t.mark.session) o.after
@@ -249,15 +249,15 @@ module _ (stories : List Story) (budget : ℕ) where
       | inr wanted ↦ met_wanting old t new wanted n
     ]
 
-    pub met_all : sound → (old : Histories) (turns : List Turn) (new : Histories) → length old ≡ 64
-        → Chain stories budget sound roots old turns new → AreMetBy old turns new
+    pub met_all : sound → (old : Histories) (turns : List AnsweredLine) (new : Histories) → length old ≡ 64
+        → AnswersInOrder stories budget sound roots old turns new → AreMetBy old turns new
     met_all holds old [] new wide c = record { met = tt; said = refl; after = c }
     met_all holds old (t ∷ turns) new wide c =
         met_more old t c.0 turns new (met_one holds old t c.0 wide c.1)
         (met_all holds c.0 turns new (answer_wide stories budget sound roots old t c.0 wide c.1)
         c.2)
 
-    own_in : (old : Histories) (t : Turn) (h : Holder) (after : List Entry) → h ≡ lone → AreOwn old
+    own_in : (old : Histories) (t : AnsweredLine) (h : Holder) (after : List Entry) → h ≡ lone → AreOwn old
         → TurnsIn stories budget sound h (seen_at old t.mark.session) t after
         → map unnumbered after ≡ after
     own_in old t h after is own i =
@@ -267,10 +267,10 @@ module _ (stories : List Story) (budget : ℕ) where
         (own t.mark.session))
         (subst (λ (l : List Entry). AddsTo i.before 0 l) (sym i.history)
         (subst (λ (g : Holder). AddsTo i.before g.number
-        (turned_on stories budget i.before h.number t).history) is
+        (turned_again stories budget i.before h.number t).history) is
         (turn_in_adds stories budget i.before t.world h.number t.line t.outcome)))
 
-    own_one : (old : Histories) (t : Turn) (new : Histories) → AreOwn old
+    own_one : (old : Histories) (t : AnsweredLine) (new : Histories) → AreOwn old
         → Answers stories budget sound roots old t new → AreOwn new
     own_one old t new own (inl o) =
         λ s. subst (λ (hs : Histories). map unnumbered (seen_at hs s) ≡ seen_at hs s) (sym o.seen)
@@ -279,8 +279,8 @@ module _ (stories : List Story) (budget : ℕ) where
         (lone_there t.mark.session o.session.0) own o.turn))
     own_one old t new own (inr n) = subst AreOwn (sym n.seen) own
 
-    pub own_all : (old : Histories) (turns : List Turn) (new : Histories) → length old ≡ 64
-        → AreOwn old → Chain stories budget sound roots old turns new → AreOwn new
+    pub own_all : (old : Histories) (turns : List AnsweredLine) (new : Histories) → length old ≡ 64
+        → AreOwn old → AnswersInOrder stories budget sound roots old turns new → AreOwn new
     own_all old [] new wide own c = subst AreOwn (sym c) own
     own_all old (t ∷ turns) new wide own c =
         own_all c.0 turns new (answer_wide stories budget sound roots old t c.0 wide c.1)

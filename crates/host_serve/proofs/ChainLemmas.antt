@@ -8,8 +8,8 @@ use Rattle.session_core.specs.declared.entry.Entry.{Entry}
 use Rattle.session_core.specs.Turning.{AddsTo}
 use Rattle.session_core.proofs.TurningLemmas.{turn_in_adds}
 use Rattle.host_serve.specs.Holders.{Holder, holder_at, seen_at}
-use Rattle.host_serve.specs.Serves.{Turn, turned_on}
-use Rattle.host_serve.specs.Chain.{TurnsIn, TurnsOn, Answers, Chain}
+use Rattle.host_serve.specs.Serves.{AnsweredLine, turned_again}
+use Rattle.host_serve.specs.Chain.{TurnsIn, TurnsOn, Answers, AnswersInOrder}
 use Rattle.host_serve.proofs.ListLemmas.{eq_or_ne}
 
 -- what was seen of each session goes on
@@ -29,10 +29,10 @@ grows_trans a b c f g s = let p = f s in let q = g s in (
 
 module _ (stories : List Story) (budget : ℕ) (sound : Type 0) where
   -- one more answered line at the end
-  pub chain_more : (holders : List Holder) (old mid new : List (List Entry)) (ts : List Turn)
-      (t : Turn) → Chain stories budget sound holders old ts mid
+  pub chain_more : (holders : List Holder) (old mid new : List (List Entry)) (ts : List AnsweredLine)
+      (t : AnsweredLine) → AnswersInOrder stories budget sound holders old ts mid
       → Answers stories budget sound holders mid t new
-      → Chain stories budget sound holders old (ts ++ t ∷ []) new
+      → AnswersInOrder stories budget sound holders old (ts ++ t ∷ []) new
   chain_more holders old mid new [] t c a = (
     new,
     subst (λ (x : List (List Entry)). Answers stories budget sound holders x t new) c a,
@@ -43,20 +43,20 @@ module _ (stories : List Story) (budget : ℕ) (sound : Type 0) where
 
   -- lists of lines add up
   pub chain_append : (holders : List Holder) (old mid new : List (List Entry))
-      (ts us : List Turn) → Chain stories budget sound holders old ts mid
-      → Chain stories budget sound holders mid us new
-      → Chain stories budget sound holders old (ts ++ us) new
+      (ts us : List AnsweredLine) → AnswersInOrder stories budget sound holders old ts mid
+      → AnswersInOrder stories budget sound holders mid us new
+      → AnswersInOrder stories budget sound holders old (ts ++ us) new
   chain_append holders old mid new [] us c d =
-      subst (λ (x : List (List Entry)). Chain stories budget sound holders x us new) c d
+      subst (λ (x : List (List Entry)). AnswersInOrder stories budget sound holders x us new) c d
   chain_append holders old mid new (x ∷ xs) us c d =
       (c.0, c.1, chain_append holders c.0 mid new xs us c.2 d)
 
-  turn_grows : (h : Holder) (old : List Entry) (t : Turn) (new : List Entry)
+  turn_grows : (h : Holder) (old : List Entry) (t : AnsweredLine) (new : List Entry)
       → TurnsIn stories budget sound h old t new → (rest : List Entry) × (new ≡ old ++ rest)
   turn_grows h old t new i =
       of (turn_in_adds stories budget i.before t.world h.number t.line t.outcome)
     where
-      of : AddsTo i.before h.number (turned_on stories budget i.before h.number t).history
+      of : AddsTo i.before h.number (turned_again stories budget i.before h.number t).history
           → (rest : List Entry) × (new ≡ old ++ rest)
       of (inl same) = (i.since.0, i.history ∙ (same ∙ i.since.1))
       of (inr more) = (
@@ -67,7 +67,7 @@ module _ (stories : List Story) (budget : ℕ) (sound : Type 0) where
       )
 
   -- what is seen of the turn's session, and of others
-  pub seen_there : (holders : List Holder) (old : List (List Entry)) (t : Turn)
+  pub seen_there : (holders : List Holder) (old : List (List Entry)) (t : AnsweredLine)
       (new : List (List Entry)) → length old ≡ 64
       → (o : TurnsOn stories budget sound holders old t new)
       → seen_at new t.mark.session ≡ o.after
@@ -75,7 +75,7 @@ module _ (stories : List Story) (budget : ℕ) (sound : Type 0) where
       ap (λ (x : List (List Entry)). seen_at x t.mark.session) o.seen
       ∙ get_or-set_same old t.mark.session o.after [] (let low = o.session.0 in omega arith)
 
-  pub seen_elsewhere : (holders : List Holder) (old : List (List Entry)) (t : Turn)
+  pub seen_elsewhere : (holders : List Holder) (old : List (List Entry)) (t : AnsweredLine)
       (new : List (List Entry)) (s : ℕ) → s ≢ t.mark.session
       → Answers stories budget sound holders old t new → seen_at new s ≡ seen_at old s
   seen_elsewhere holders old t new s other (inl o) =
@@ -84,7 +84,7 @@ module _ (stories : List Story) (budget : ℕ) (sound : Type 0) where
   seen_elsewhere holders old t new s other (inr n) =
       ap (λ (x : List (List Entry)). seen_at x s) n.seen
 
-  pub answer_wide : (holders : List Holder) (old : List (List Entry)) (t : Turn)
+  pub answer_wide : (holders : List Holder) (old : List (List Entry)) (t : AnsweredLine)
       (new : List (List Entry)) → length old ≡ 64 → Answers stories budget sound holders old t new
       → length new ≡ 64
   answer_wide holders old t new wide (inl o) = ap (λ (x : List (List Entry)). length x) o.seen
@@ -92,7 +92,7 @@ module _ (stories : List Story) (budget : ℕ) (sound : Type 0) where
   answer_wide holders old t new wide (inr n) =
       ap (λ (x : List (List Entry)). length x) n.seen ∙ wide
 
-  pub answer_grows : (holders : List Holder) (old : List (List Entry)) (t : Turn)
+  pub answer_grows : (holders : List Holder) (old : List (List Entry)) (t : AnsweredLine)
       (new : List (List Entry)) → length old ≡ 64 → Answers stories budget sound holders old t new
       → Grows old new
   answer_grows holders old t new wide a = of_answer a
@@ -118,15 +118,15 @@ module _ (stories : List Story) (budget : ℕ) (sound : Type 0) where
       of_answer (inr n) = grows_same old new n.seen
       of_answer (inl o) = λ s. of o s (eq_or_ne s t.mark.session)
 
-  pub chain_wide : (holders : List Holder) (old : List (List Entry)) (ts : List Turn)
-      (new : List (List Entry)) → length old ≡ 64 → Chain stories budget sound holders old ts new
+  pub chain_wide : (holders : List Holder) (old : List (List Entry)) (ts : List AnsweredLine)
+      (new : List (List Entry)) → length old ≡ 64 → AnswersInOrder stories budget sound holders old ts new
       → length new ≡ 64
   chain_wide holders old [] new wide c = ap (λ (x : List (List Entry)). length x) c ∙ wide
   chain_wide holders old (t ∷ ts) new wide c =
       chain_wide holders c.0 ts new (answer_wide holders old t c.0 wide c.1) c.2
 
-  pub chain_grows : (holders : List Holder) (old : List (List Entry)) (ts : List Turn)
-      (new : List (List Entry)) → length old ≡ 64 → Chain stories budget sound holders old ts new
+  pub chain_grows : (holders : List Holder) (old : List (List Entry)) (ts : List AnsweredLine)
+      (new : List (List Entry)) → length old ≡ 64 → AnswersInOrder stories budget sound holders old ts new
       → Grows old new
   chain_grows holders old [] new wide c = grows_same old new c
   chain_grows holders old (t ∷ ts) new wide c =

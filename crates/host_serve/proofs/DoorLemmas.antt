@@ -13,13 +13,13 @@ use Rattle.host_serve.specs.declared.served.Served.{Served}
 use Rattle.host_serve.specs.declared.served.Served.TheVariants.{End, ReadFault, WriteFault}
 use Rattle.host_serve.specs.declared.served.Served.TheVariants.{LineLimit, NoMemory}
 use Rattle.host_serve.specs.declared.worked.Worked.{Worked}
-use Rattle.host_serve.specs.Chain.{Chain}
+use Rattle.host_serve.specs.Chain.{AnswersInOrder}
 use Rattle.host_serve.specs.Doors.{IsEndOf, IsFresh, IsVisit, MayHangUp, Visit, Visits, Works}
-use Rattle.host_serve.specs.Doors.{turns_of}
+use Rattle.host_serve.specs.Doors.{turns_of_visits}
 use Rattle.host_serve.specs.Holders.{Holder, holders, seens}
 use Rattle.host_serve.specs.Hosts.{AreOf}
-use Rattle.host_serve.specs.Serves.{Turn}
-use Rattle.host_serve.specs.Told.{Tells}
+use Rattle.host_serve.specs.Serves.{AnsweredLine}
+use Rattle.host_serve.specs.Told.{TellsLink}
 use Rattle.host_serve.proofs.ChainLemmas.{chain_append}
 use Rattle.host_serve.proofs.PassLemmas.{holders_many, seens_many}
 use Rattle.host_serve.proofs.ServesLemmas.{serves_of}
@@ -37,8 +37,8 @@ few_lines begun (x ∷ xs) = of (x == 10) (few_lines [] xs) (few_lines (begun ++
     of false m n = omega (arith, n)
 
 -- what `serve` answers, a link may be hung up for
-pub hung_up : (why : Served) (turns : List Turn) (input now : SourceState) (output new : SinkState)
-    (old_marks marks : List Mark) → Tells turns input now output new old_marks marks why
+pub hung_up : (why : Served) (turns : List AnsweredLine) (input now : SourceState) (output new : SinkState)
+    (old_marks marks : List Mark) → TellsLink turns input now output new old_marks marks why
     → IsFresh input output → (why ≡ ReadFault → Rose input.faults now.faults)
     → (why ≡ WriteFault → Rose output.faults new.faults) → MayHangUp why now new
 hung_up End turns input now output new old_marks marks t fresh reads writes = t.lines.1.ended
@@ -55,17 +55,17 @@ hung_up LineLimit turns input now output new old_marks marks t fresh reads write
 hung_up NoMemory turns input now output new old_marks marks t fresh reads writes = tt
 
 turns_more : {Conn : Type 0} (visits : List (Visit Conn)) (v : Visit Conn)
-    → turns_of (visits ++ v ∷ []) ≡ turns_of visits ++ v.turns
+    → turns_of_visits (visits ++ v ∷ []) ≡ turns_of_visits visits ++ v.turns
 turns_more [] v = nil_right v.turns
-turns_more (x ∷ xs) v = ap (λ (l : List Turn). x.turns ++ l) (turns_more xs v)
-    ∙ sym (append_assoc x.turns (turns_of xs) v.turns)
+turns_more (x ∷ xs) v = ap (λ (l : List AnsweredLine). x.turns ++ l) (turns_more xs v)
+    ∙ sym (append_assoc x.turns (turns_of_visits xs) v.turns)
 
 -- a link of the door that was served
 pub visit_of : {Conn Lent : Type 0} (source : Conn → SourceState) (sink : Conn → SinkState)
     (lent : Conn → Lent) (Gives : Conn → Type 0) (taken left : Conn) (why : Served)
-    (turns : List Turn) (none marks : List Mark) → none ≡ []
+    (turns : List AnsweredLine) (none marks : List Mark) → none ≡ []
     → Gives taken × IsFresh (source taken) (sink taken)
-    → Tells turns (source taken) (source left) (sink taken) (sink left) none marks why
+    → TellsLink turns (source taken) (source left) (sink taken) (sink left) none marks why
     → lent left ≡ lent taken
     → (why ≡ ReadFault → Rose (source taken).faults (source left).faults)
     → (why ≡ WriteFault → Rose (sink taken).faults (sink left).faults)
@@ -76,7 +76,7 @@ visit_of source sink lent Gives taken left why turns none marks is given tells s
       given = given.0;
       fresh = given.1;
       marks = marks;
-      tells = subst (λ (l : List Mark). Tells turns (source taken) (source left) (sink taken)
+      tells = subst (λ (l : List Mark). TellsLink turns (source taken) (source left) (sink taken)
           (sink left) l marks why) is tells;
       same = same;
       ends = hung_up why turns _ _ _ _ none marks tells given.1 reads writes;
@@ -97,7 +97,7 @@ module _ {Conn Lent D : Type 0} (source : Conn → SourceState) (sink : Conn →
   -- one more link
   pub visits_more : (old mid new : Passes D) → Visits source sink lent Gives sound host old mid
       → (visit : Visit Conn) × IsVisit source sink lent Gives visit
-      × Chain host.stories.now host.budget (sound host) (holders mid.desks.items)
+      × AnswersInOrder host.stories.now host.budget (sound host) (holders mid.desks.items)
       (seens mid.desks.items)
       visit.turns (seens new.desks.items)
       → AreOf host new → holders new.desks.items ≡ holders mid.desks.items
@@ -105,11 +105,11 @@ module _ {Conn Lent D : Type 0} (source : Conn → SourceState) (sink : Conn →
   visits_more old mid new v more kept held = let hs = holders old.desks.items in record {
     visits = v.visits ++ more.0 ∷ [];
     each = each_append (IsVisit source sink lent Gives) v.visits (more.0 ∷ []) v.each (more.1, tt);
-    chain = subst (λ (ts : List Turn). Chain host.stories.now host.budget (sound host) hs
+    chain = subst (λ (ts : List AnsweredLine). AnswersInOrder host.stories.now host.budget (sound host) hs
         (seens old.desks.items) ts (seens new.desks.items)) (sym (turns_more v.visits more.0))
         (chain_append host.stories.now host.budget (sound host) hs (seens old.desks.items)
-        (seens mid.desks.items) (seens new.desks.items) (turns_of v.visits) more.0.turns v.chain
-        (subst (λ (x : List Holder). Chain host.stories.now host.budget (sound host) x
+        (seens mid.desks.items) (seens new.desks.items) (turns_of_visits v.visits) more.0.turns v.chain
+        (subst (λ (x : List Holder). AnswersInOrder host.stories.now host.budget (sound host) x
         (seens mid.desks.items) more.0.turns (seens new.desks.items)) v.held more.2));
     kept = kept;
     held = held ∙ v.held;
@@ -123,7 +123,7 @@ module _ {Conn Lent D : Type 0} (source : Conn → SourceState) (sink : Conn →
   works_of Shuts Fails old new answer of v ends = record {
     served = v;
     serves = serves_of host.stories.now host.budget (sound host) (holders old.desks.items)
-        (holders_many _ _ _ _ of.each of.whole.many) (seens old.desks.items) (turns_of v.visits)
+        (holders_many _ _ _ _ of.each of.whole.many) (seens old.desks.items) (turns_of_visits v.visits)
         (seens new.desks.items) (seens_many _ _ _ _ of.each of.whole.many) v.chain;
     ends = ends;
   }

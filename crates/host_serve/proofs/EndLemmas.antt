@@ -7,11 +7,11 @@ use Rattle.std.specs.List.{AllZip}
 use Rattle.std.proofs.lemmas.List.{get_or-map, get_or-set_other}
 use Rattle.turn_cell.specs.History.{Continues, IsAmong, IsForeign}
 use Rattle.turn_cell.specs.declared.pass.Pass.{Pass}
-use Rattle.turn_cell.specs.Passes.{holds, seen, tag_of}
+use Rattle.turn_cell.specs.Passes.{pass_numbers, seen, tag_of}
 use Rattle.turn_cell.specs.Views.{tag_in}
 use Rattle.turn_cell.proofs.HistoryLemmas.{among_first, among_second, continues_all, each_append}
 use Rattle.turn_cell.proofs.HistoryLemmas.{each_map, nil_right}
-use Rattle.gate_journal.specs.Log.{Log, number_of, rows_of}
+use Rattle.gate_journal.specs.Log.{Log, entry_number, rows_of}
 use Rattle.disk_model.specs.Disk.{EachImage}
 use Rattle.gate_journal.specs.Rows.{IsJournal, commands_of}
 use Rattle.gate_journal.specs.declared.command.Command.{Command}
@@ -34,7 +34,7 @@ use Rattle.host_serve.specs.Ending.{AreAgreedDisks, EndsAt, EndsWith, GivesBack,
 use Rattle.host_serve.specs.Gathering.{BringsIn, Gathers, Heard, KeepsRoot, Returns}
 use Rattle.host_serve.specs.Holders.{Holder, IsAloneHolder, holder_at, holder_of, holders, seen_at}
 use Rattle.host_serve.specs.Holders.{seens}
-use Rattle.host_serve.specs.Hosts.{AreOf, IsHost, IsSound, cell_id, rows_at_opening, stores_of}
+use Rattle.host_serve.specs.Hosts.{AreOf, IsHost, IsSound, cell_id, rows_at_opening, opened_stores}
 use Rattle.host_serve.specs.Hosts.{tag_at}
 use Rattle.host_serve.proofs.ListLemmas.{goes_by, goes_on, length_more, same_some}
 use Rattle.host_serve.proofs.PassLemmas.{holder_there, seen_of_pass, tag_of_store}
@@ -42,23 +42,23 @@ use Rattle.host_serve.proofs.StoreLemmas.{get_first, get_last, get_within, get_b
 
 -- an entry of none of these numbers is of none of some of them
 fewer : (e : JournalEntry) (n : ℕ) (numbers : List ℕ) → IsAmong n numbers
-    → IsForeign number_of numbers e → IsForeign number_of (n ∷ []) e
+    → IsForeign entry_number numbers e → IsForeign entry_number (n ∷ []) e
 fewer e n numbers there foreign (inl is) = foreign (subst (λ (k : ℕ). IsAmong k numbers) is there)
 fewer e n numbers there foreign (inr none) = none
 
 -- what a desk's pass had seen goes on by others' entries, where its number is among these
 since_to : (s : ℕ) (numbers : List ℕ) (seen mid new : List JournalEntry)
-    → Continues (IsForeign number_of ((s + 1) ∷ [])) mid seen → IsAmong (s + 1) numbers
-    → Continues (IsForeign number_of numbers) new mid
-    → Continues (IsForeign number_of ((s + 1) ∷ [])) new seen
+    → Continues (IsForeign entry_number ((s + 1) ∷ [])) mid seen → IsAmong (s + 1) numbers
+    → Continues (IsForeign entry_number numbers) new mid
+    → Continues (IsForeign entry_number ((s + 1) ∷ [])) new seen
 since_to s numbers seen mid new first held since =
-    goes_on (IsForeign number_of ((s + 1) ∷ [])) seen mid new first
-    (goes_by (IsForeign number_of numbers) (IsForeign number_of ((s + 1) ∷ [])) mid new
+    goes_on (IsForeign entry_number ((s + 1) ∷ [])) seen mid new first
+    (goes_by (IsForeign entry_number numbers) (IsForeign entry_number ((s + 1) ∷ [])) mid new
     (λ e foreign. fewer e (s + 1) numbers held foreign) since)
 
 heard_to : (s : ℕ) (final : List Entry) (numbers : List ℕ) (mid new : List JournalEntry)
     → Heard s mid final → IsAmong (s + 1) numbers
-    → Continues (IsForeign number_of numbers) new mid → Heard s new final
+    → Continues (IsForeign entry_number numbers) new mid → Heard s new final
 heard_to s final numbers mid new h held since = record {
   seen = h.seen;
   since = since_to s numbers h.seen mid new h.since held since;
@@ -69,16 +69,16 @@ module _ {D : Type 0} where
   -- the number that the root holds then
   pub own_number : (s : ℕ) (desk : SharedState D) (other root : Pass (Log D) JournalEntry)
       → desk.desk.session ≡ s → IsShared desk → other ≡ desk.pass
-      → holds root ++ holds other ≡ holds root ++ (s + 1) ∷ []
-  own_number s desk other root same shared is = ap (λ (l : List ℕ). holds root ++ l)
-      (ap (λ (p : Pass (Log D) JournalEntry). holds p) is ∙ (shared.pass.only
+      → pass_numbers root ++ pass_numbers other ≡ pass_numbers root ++ (s + 1) ∷ []
+  own_number s desk other root same shared is = ap (λ (l : List ℕ). pass_numbers root ++ l)
+      (ap (λ (p : Pass (Log D) JournalEntry). pass_numbers p) is ∙ (shared.pass.only
       ∙ ap (λ (k : ℕ). (k + 1) ∷ []) same))
 
   -- the root joins no pass
   pub keeps_none : (root : Pass (Log D) JournalEntry) → KeepsRoot [] root root
   keeps_none root = record {
-    holds_both = sym (nil_right (holds root));
-    since = continues_all (IsForeign number_of (holds root)) (seen root);
+    holds_both = sym (nil_right (pass_numbers root));
+    since = continues_all (IsForeign entry_number (pass_numbers root)) (seen root);
     kept = (refl, refl);
   }
 
@@ -87,20 +87,20 @@ module _ {D : Type 0} where
       → KeepsRoot a first mid → KeepsRoot b mid new → KeepsRoot (a ++ b) first new
   keeps_more a b first mid new k l = record {
     holds_both = l.holds_both ∙ (ap (λ (n : List ℕ). n ++ b) k.holds_both
-        ∙ append_assoc (holds first) a b);
-    since = goes_on (IsForeign number_of (holds first)) (seen first) (seen mid) (seen new) k.since
-        (goes_by (IsForeign number_of (holds mid)) (IsForeign number_of (holds first)) (seen mid)
-        (seen new) (λ e foreign there. foreign (subst (λ (n : List ℕ). IsAmong (number_of e) n)
-        (sym k.holds_both) (among_first (number_of e) (holds first) a there))) l.since);
+        ∙ append_assoc (pass_numbers first) a b);
+    since = goes_on (IsForeign entry_number (pass_numbers first)) (seen first) (seen mid) (seen new) k.since
+        (goes_by (IsForeign entry_number (pass_numbers mid)) (IsForeign entry_number (pass_numbers first)) (seen mid)
+        (seen new) (λ e foreign there. foreign (subst (λ (n : List ℕ). IsAmong (entry_number e) n)
+        (sym k.holds_both) (among_first (entry_number e) (pass_numbers first) a there))) l.since);
     kept = (l.kept.0 ∙ k.kept.0, l.kept.1 ∙ k.kept.1);
   }
 
   -- so it does as the root joins more
   heard_on : (s : ℕ) (final : List Entry) (more : List ℕ) (mid new : Pass (Log D) JournalEntry)
-      → Heard s (seen mid) final → IsAmong (s + 1) (holds mid) → KeepsRoot more mid new
+      → Heard s (seen mid) final → IsAmong (s + 1) (pass_numbers mid) → KeepsRoot more mid new
       → Heard s (seen new) final
   heard_on s final more mid new h held k =
-      heard_to s final (holds mid) (seen mid) (seen new) h held k.since
+      heard_to s final (pass_numbers mid) (seen mid) (seen new) h held k.since
 
   -- the commands of a desk are those of its session in what its pass has seen
   own_commands : (desk : SharedState D) → IsShared desk
@@ -117,7 +117,7 @@ module _ {D : Type 0} (tells : D → Bool) (may_leave : D → List ℕ → Type 
       → desk.desk.session ≡ s → IsShared desk
       → EndsStore tells may_leave reads room label faults reach desk
       → back ≡ desk.saves.store.disk → other ≡ desk.pass
-      → Continues (IsForeign number_of ((s + 1) ∷ [])) journal (seen other)
+      → Continues (IsForeign entry_number ((s + 1) ∷ [])) journal (seen other)
       → Returns tells may_leave reads faults reach room label s its back journal
   desk_returns s desk its back other journal tag same shared e is_back is since = record {
     gives = subst (λ (x : DeskTag D × D). GivesBack tells faults reach room label x.0.store x.1)
@@ -151,11 +151,11 @@ module _ {D : Type 0} (tells : D → Bool) (may_leave : D → List ℕ → Type 
       → desk.desk.session ≡ s → IsShared desk
       → EndsStore tells may_leave reads room label faults reach desk
       → back ≡ desk.saves.store.disk → other ≡ desk.pass
-      → Continues (IsForeign number_of (holds other)) (seen root) (seen other)
+      → Continues (IsForeign entry_number (pass_numbers other)) (seen root) (seen other)
       → BringsIn tells may_leave reads faults reach room label s h old tag root back
   brings_in s h old tag desk other root back since alone tagged same shared e is_back is joined =
-      let after = subst (λ (l : List ℕ). Continues (IsForeign number_of l) (seen root)
-      (seen other)) (ap (λ (p : Pass (Log D) JournalEntry). holds p) is ∙ (shared.pass.only
+      let after = subst (λ (l : List ℕ). Continues (IsForeign entry_number l) (seen root)
+      (seen other)) (ap (λ (p : Pass (Log D) JournalEntry). pass_numbers p) is ∙ (shared.pass.only
       ∙ ap (λ (k : ℕ). (k + 1) ∷ []) same)) joined in
       record {
         final = desk.history;
@@ -175,7 +175,7 @@ module _ {D : Type 0} (tells : D → Bool) (may_leave : D → List ℕ → Type 
   returns_on : (s : ℕ) (tag : DeskTag D) (back : D) (numbers : List ℕ)
       (mid new : List JournalEntry)
       → Returns tells may_leave reads faults reach room label s tag back mid
-      → IsAmong (s + 1) numbers → Continues (IsForeign number_of numbers) new mid
+      → IsAmong (s + 1) numbers → Continues (IsForeign entry_number numbers) new mid
       → Returns tells may_leave reads faults reach room label s tag back new
   returns_on s tag back numbers mid new r held since = record {
     gives = r.gives;
@@ -256,8 +256,8 @@ module _ {D : Type 0} (tells : D → Bool) (may_leave : D → List ℕ → Type 
             (λ i. (sym last i, sym (there_last g.finals b.final s (last ∙ sym g.many)) i)) b.heard)
             (below_or_last s n low);
         held = λ s low. subst (λ (l : List ℕ). IsAmong (s + 1) l) (sym k.holds_both) (⊎_elim
-            (λ (below : s < n). among_first (s + 1) (holds mid) ((n + 1) ∷ []) (g.held s below))
-            (λ (last : s ≡ n). among_second (s + 1) (holds mid) ((n + 1) ∷ [])
+            (λ (below : s < n). among_first (s + 1) (pass_numbers mid) ((n + 1) ∷ []) (g.held s below))
+            (λ (last : s ≡ n). among_second (s + 1) (pass_numbers mid) ((n + 1) ∷ [])
             (inl (ap (λ (m : ℕ). m + 1) (sym last))))
             (below_or_last s n low));
         grows = (
@@ -269,7 +269,7 @@ module _ {D : Type 0} (tells : D → Bool) (may_leave : D → List ℕ → Type 
         returns = λ s tag there low tagged at. let at' = ap (λ (l : List D). slice_get l s)
             (sym pushed) ∙ at in ⊎_elim
             (λ (below : s < n). returns_on tells may_leave reads faults reach room label s tag
-            there (holds mid) (seen mid) (seen new) (g.returns s tag there below tagged
+            there (pass_numbers mid) (seen mid) (seen new) (g.returns s tag there below tagged
             (sym (get_first backs back s (let many = g.disks in omega arith)) ∙ at'))
             (g.held s below) k.since)
             (λ (last : s ≡ n). let place = last ∙ sym g.disks in
@@ -327,7 +327,7 @@ module _ {D : Type 0} (tells : D → Bool) (may_leave : D → List ℕ → Type 
       (seens passes.desks.items) (map (tag_of desk_tag) passes.desks.items) host.root root backs
 
   pub ends_with : (log : Log D) → IsHost host → AllIn
-      → Continues (IsForeign number_of (holds root)) log.entries (seen root)
+      → Continues (IsForeign entry_number (pass_numbers root)) log.entries (seen root)
       → tag_of (λ (j : Log D). j.opening) root ≡ Some log.opening → IsJournal (rows_of log.entries)
       → EndsWith host passes log
   ends_with log whole g since tagged rows =
@@ -337,23 +337,23 @@ module _ {D : Type 0} (tells : D → Bool) (may_leave : D → List ℕ → Type 
         many = g.many;
         each = g.ends;
         kept = λ s low. heard_kept s log.entries (seen_at g.finals s) rows
-            (heard_to s (seen_at g.finals s) (holds root) (seen root) log.entries (g.heard s low)
+            (heard_to s (seen_at g.finals s) (pass_numbers root) (seen root) log.entries (g.heard s low)
             (g.held s low) since);
         opening = ap (λ (x : Option (Log D)). tag_in (λ (j : Log D). j.opening) x) (sym k.kept.1)
             ∙ tagged;
-        grows = subst (λ (l : List ℕ). Continues (IsForeign number_of l) log.entries
+        grows = subst (λ (l : List ℕ). Continues (IsForeign entry_number l) log.entries
             (seen host.root)) whole.numbered.1
-            (goes_on (IsForeign number_of (holds host.root)) (seen host.root) (seen root)
+            (goes_on (IsForeign entry_number (pass_numbers host.root)) (seen host.root) (seen root)
             log.entries k.since
-            (goes_by (IsForeign number_of (holds root)) (IsForeign number_of (holds host.root))
+            (goes_by (IsForeign entry_number (pass_numbers root)) (IsForeign entry_number (pass_numbers host.root))
             (seen root) log.entries (λ e foreign there. foreign
-            (subst (λ (l : List ℕ). IsAmong (number_of e) l) (sym k.holds_both)
-            (among_first (number_of e) (holds host.root) g.grows.0 there))) since));
+            (subst (λ (l : List ℕ). IsAmong (entry_number e) l) (sym k.holds_both)
+            (among_first (entry_number e) (pass_numbers host.root) g.grows.0 there))) since));
       }
 
   -- the store of a session, and its disk
   store_returns : AreOf host passes → AllIn → (s : ℕ) (store : Snapshots D) (back : D)
-      → slice_get (stores_of host) s ≡ Some store → slice_get backs s ≡ Some back
+      → slice_get (opened_stores host) s ≡ Some store → slice_get backs s ≡ Some back
       → Returns tells may_leave reads faults reach room label s
       (tag_at host.stories.now host.budget (cell_id host.journal) (rows_at_opening host) s store)
       back (seen root)
@@ -363,18 +363,18 @@ module _ {D : Type 0} (tells : D → Bool) (may_leave : D → List ℕ → Type 
       g.returns s _ back (omega arith)
       (ap (λ (l : List (Option (DeskTag D))). get_or l s None) of.each.tagged
       ∙ tag_of_store host.stories.now host.budget (cell_id host.journal) (rows_at_opening host)
-      (stores_of host) s store there) there'
+      (opened_stores host) s store there) there'
 
   -- the stores' disks
   pub gives_back : AreOf host passes → AllIn
-      → AllZip (GivesBack tells faults reach room label) (stores_of host) backs
-  gives_back of g = zip_of (GivesBack tells faults reach room label) (stores_of host) backs
+      → AllZip (GivesBack tells faults reach room label) (opened_stores host) backs
+  gives_back of g = zip_of (GivesBack tells faults reach room label) (opened_stores host) backs
       (g.disks ∙ sym of.whole.stores)
       (λ s store back there there'. (store_returns of g s store back there there').gives)
 
   -- which agree with the rows, where the host is sound
   pub agrees_back : (log : Log D) → AreOf host passes → AllIn
-      → Continues (IsForeign number_of (holds root)) log.entries (seen root)
+      → Continues (IsForeign entry_number (pass_numbers root)) log.entries (seen root)
       → IsJournal (rows_of log.entries) → IsSound tells reads host
       → AreAgreedDisks tells may_leave host.stories.now (rows_of log.entries) backs
   agrees_back log of g since rows sound = λ s back there.
@@ -382,9 +382,9 @@ module _ {D : Type 0} (tells : D → Bool) (may_leave : D → List ℕ → Type 
       let many = g.disks in
       let whole = of.whole.stores in
       let low' : s < 64 = omega arith in
-      let store = get_below (stores_of host) s (omega arith) in
+      let store = get_below (opened_stores host) s (omega arith) in
       let r = store_returns of g s store.0 back store.1 there in
-      let since' = since_to s (holds root) r.seen (seen root) log.entries r.since (g.held s low')
+      let since' = since_to s (pass_numbers root) r.seen (seen root) log.entries r.since (g.held s low')
       since in
       subst (λ (x : List ℕ × List Command). EachImage tells may_leave back
       (IsAgreedFile host.stories.now x.0 (game_of x.1)))

@@ -14,7 +14,7 @@ use Rattle.session_core.specs.declared.entry.Outcome.TheVariants.{Answered, Disk
 use Rattle.session_core.specs.declared.entry.Outcome.TheVariants.{Forgotten}
 use Rattle.session_core.specs.Turning.{MayMeet, turn_in, turn_met}
 use Rattle.host_serve.specs.Holders.{Holder, holder_at, seen_at}
-use Rattle.host_serve.specs.Serves.{Turn, Adds, AddsNothing, IsExact, MayMeetIn, decided, marked}
+use Rattle.host_serve.specs.Serves.{AnsweredLine, AddsItsEntry, AddsNothing, IsExact, MayMeetIn, decided_on_line, marked}
 use Rattle.host_serve.specs.Serves.{turned}
 use Rattle.host_serve.proofs.ListLemmas.{length_more, same_last}
 
@@ -40,19 +40,19 @@ met_replies h by reply (Some command) OutOfMemory met = inr (inl refl)
 met_replies h by reply (Some command) Forgotten met = inr (inl refl)
 
 module _ (stories : List Story) (budget : ℕ) (holders : List Holder) (new : List (List Entry))
-    (t : Turn) where
+    (t : AnsweredLine) where
   turned_replies : MayMeetIn stories budget (marked new t) t
-      → Replies (decided stories budget (marked new t) t).reply (marked new t)
+      → Replies (decided_on_line stories budget (marked new t) t).reply (marked new t)
       (holder_at holders t.mark.session).number (turned stories budget holders new t).reply
       (turned stories budget holders new t).history
   unfolding turn_in
   turned_replies met = met_replies (marked new t) (holder_at holders t.mark.session).number
-      (decided stories budget (marked new t) t).reply
-      (decided stories budget (marked new t) t).accepted t.outcome met
+      (decided_on_line stories budget (marked new t) t).reply
+      (decided_on_line stories budget (marked new t) t).accepted t.outcome met
 
   -- an entry that is added stands there
   stands_there : (e : Entry)
-      → AddsNothing stories budget holders new t ⊎ Adds stories budget holders new t
+      → AddsNothing stories budget holders new t ⊎ AddsItsEntry stories budget holders new t
       → (turned stories budget holders new t).history ≡ marked new t ++ e ∷ []
       → slice_get (seen_at new t.mark.session) t.mark.length ≡ Some e
   stands_there e (inl nothing) is =
@@ -62,11 +62,11 @@ module _ (stories : List Story) (budget : ℕ) (holders : List Holder) (new : Li
       adds.2 ∙ ap Some (same_last (marked new t) adds.0 e (sym adds.1 ∙ is))
 
   pub exact : t.reply ≡ (turned stories budget holders new t).reply
-      → AddsNothing stories budget holders new t ⊎ Adds stories budget holders new t
+      → AddsNothing stories budget holders new t ⊎ AddsItsEntry stories budget holders new t
       → MayMeetIn stories budget (marked new t) t → IsExact stories budget holders new t
   exact reply adds met = of (turned_replies met)
     where
-      of : Replies (decided stories budget (marked new t) t).reply (marked new t)
+      of : Replies (decided_on_line stories budget (marked new t) t).reply (marked new t)
           (holder_at holders t.mark.session).number (turned stories budget holders new t).reply
           (turned stories budget holders new t).history → IsExact stories budget holders new t
       of (inl as_decided) = inl (reply ∙ as_decided)

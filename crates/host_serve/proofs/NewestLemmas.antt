@@ -4,7 +4,7 @@ use Rattle.std.proofs.Common.{set, ap, sym, ◌∙◌, refl, subst, arith, Optio
 use Rattle.std.proofs.lemmas.List.{length-map, map-set, get_or-map, take_all}
 use Rattle.turn_cell.specs.declared.cell.Cell.{Cell}
 use Rattle.turn_cell.specs.declared.pass.Pass.{Pass}
-use Rattle.turn_cell.specs.Passes.{IsOf, IsOutside, IsSplitFrom, number, sample, seen, tag_of}
+use Rattle.turn_cell.specs.Passes.{IsOf, IsOutside, IsSplitFrom, pass_number, sample, seen, tag_of}
 use Rattle.turn_cell.specs.Views.{tag_in}
 use Rattle.turn_cell.proofs.HistoryLemmas.{each_append}
 use Rattle.host_serve.specs.Holders.{holder_of, holders, nobody, seens}
@@ -91,8 +91,8 @@ module _ {T E : Type 0} (cells : List (Cell T E)) where
         outside = each_append IsOutside new (q ∷ []) a.outside (split.1, tt);
         sampled = grown sample new q (map sample now') n None still.sampled (omega arith)
             (split.6 ∙ (sym like ∙ there''));
-        numbered = each_append (λ (r : Pass T E). number r ≢ 0) new (q ∷ []) a.numbered
-            (λ (none : number q ≡ 0). let e = split.2 in omega arith, tt);
+        numbered = each_append (λ (r : Pass T E). pass_number r ≢ 0) new (q ∷ []) a.numbered
+            (λ (none : pass_number q ≡ 0). let e = split.2 in omega arith, tt);
         who = grown holder_of new q (map newest_of (holders now')) n (newest_of nobody) still.who
             (omega arith)
             (own ∙ (ap newest_of there
@@ -105,7 +105,7 @@ module _ {T E : Type 0} (cells : List (Cell T E)) where
   pub newest_less : (n : ℕ) (now new : List (Pass T E)) (c : Cell T E) (p q : Pass T E)
       → AreNewest (n + 1) cells now (new ++ q ∷ []) → length now ≡ length cells
       → c ≡ get_or cells n c → p ≡ get_or now n p
-      → AreNewest n cells now new × IsOf c q × IsOutside q × (number q ≢ 0)
+      → AreNewest n cells now new × IsOf c q × IsOutside q × (pass_number q ≢ 0)
       × (holder_of q ≡ newest_of (holder_of p)) × (seen q ≡ seen p)
   newest_less n now new c p q a long at_c at_p =
       let low : n < length cells = let w = a.within in omega arith in
@@ -120,7 +120,7 @@ module _ {T E : Type 0} (cells : List (Cell T E)) where
       let heard = shrunk seen new q (seens now) n [] a.heard (omega arith) in
       let sampled = shrunk sample new q (map sample now) n None a.sampled (omega arith) in
       let outside = each_parts IsOutside new q a.outside in
-      let numbered = each_parts (λ (r : Pass T E). number r ≢ 0) new q a.numbered in
+      let numbered = each_parts (λ (r : Pass T E). pass_number r ≢ 0) new q a.numbered in
       let more = length_more new q in
       let many = a.many in (
         record {

@@ -5,10 +5,10 @@ use Rattle.std.proofs.lemmas.List.{length-map, map-append}
 use Rattle.atomic_table.specs.Seated.{TableId}
 use Rattle.turn_cell.specs.declared.cell.Cell.{Cell}
 use Rattle.turn_cell.specs.declared.pass.Pass.{Pass}
-use Rattle.turn_cell.specs.Passes.{IsOf, IsOutside, holds, made, number, seen, tag_of}
+use Rattle.turn_cell.specs.Passes.{IsOf, IsOutside, pass_numbers, made, pass_number, seen, tag_of}
 use Rattle.turn_cell.proofs.HistoryLemmas.{each_append}
 use Rattle.gate_journal.specs.Command.{IsBudget}
-use Rattle.gate_journal.specs.Log.{Log, Opening, kept, rows_of}
+use Rattle.gate_journal.specs.Log.{Log, Opening, rows_kept, rows_of}
 use Rattle.gate_journal.proofs.LogLemmas.{rows_of-all}
 use Rattle.gate_journal.specs.declared.entry.Entry.{Entry as JournalEntry}
 use Rattle.gate_journal.specs.declared.entry.Entry.TheVariants.{Kept}
@@ -22,8 +22,8 @@ use Rattle.host_serve.specs.declared.host.Host.{Host}
 use Rattle.host_serve.specs.declared.host.Passes.{Passes}
 use Rattle.host_serve.specs.Holders.{holder_of, holders, seens}
 use Rattle.host_serve.specs.Hosts.{ArePasses, cell_id, pass_id, rows_at_opening, sessions_below}
-use Rattle.host_serve.specs.Hosts.{stores_of, tag_at, tags_from}
-use Rattle.host_serve.specs.Opening.{AreOpenedDesks, IsOpened, IsOpenedDesk, lone}
+use Rattle.host_serve.specs.Hosts.{opened_stores, tag_at, tags_from}
+use Rattle.host_serve.specs.Opening.{AreOpenedDesks, IsOpenedHost, IsOpenedDesk, lone}
 use Rattle.host_serve.proofs.ListLemmas.{length_more}
 use Rattle.host_serve.proofs.PassLemmas.{sessions_more, tags_more}
 
@@ -67,9 +67,9 @@ module _ {D : Type 0} (stories : List Story) (budget : ℕ) (journal : TableId) 
               ∙ (map_more (λ (s : ℕ). lone) (length stores) (holders passes) (holder_of p) are.roots
               is.root ∙ ap (λ (k : ℕ). map (λ (s : ℕ). lone) (sessions_below k)) (sym long));
           histories = map-append seen passes (p ∷ [])
-              ∙ (map_more (history_in (kept rows)) (length stores) (seens passes) (seen p)
+              ∙ (map_more (history_in (rows_kept rows)) (length stores) (seens passes) (seen p)
               are.histories is.history
-              ∙ ap (λ (k : ℕ). map (history_in (kept rows)) (sessions_below k)) (sym long));
+              ∙ ap (λ (k : ℕ). map (history_in (rows_kept rows)) (sessions_below k)) (sym long));
         }
 
     pub desks_none : (cells : List (Cell (SharedState D) Entry))
@@ -125,14 +125,14 @@ module _ {D : Type 0} where
       (stores : List (Snapshots D)) (opening : Opening D) (host : Host D) (passes : Passes D)
       → IsBudget budget
       → host.stories.now ≡ stories → host.budget ≡ budget → copies ≡ rows
-      → stores_of host ≡ stores → length stores ≡ 64
+      → opened_stores host ≡ stores → length stores ≡ 64
       → (host.room.items ≡ []) × (64 ≤ vec_capacity host.room)
       → AreOpenedDesks stories budget (cell_id host.journal) copies stores host.desks.items
       passes.desks.items
       → IsOf host.journal host.root × IsOutside host.root
-      → (number host.root ≡ 0) × (holds host.root ≡ 0 ∷ [])
-      → tag_of (λ (j : Log D). j.opening) host.root ≡ Some opening → seen host.root ≡ kept rows
-      → IsOpened stories budget rows opening host passes
+      → (pass_number host.root ≡ 0) × (pass_numbers host.root ≡ 0 ∷ [])
+      → tag_of (λ (j : Log D). j.opening) host.root ≡ Some opening → seen host.root ≡ rows_kept rows
+      → IsOpenedHost stories budget rows opening host passes
   opened_host stories budget copies rows stores opening host passes within is_stories is_budget same
       is_stores many room had root own tagged begins =
       let are = subst (λ (l : List Row). AreOpenedDesks stories budget (cell_id host.journal) l
@@ -160,11 +160,11 @@ module _ {D : Type 0} where
         begins = begins;
         alone = are.roots ∙ ap (λ (k : ℕ). map (λ (s : ℕ). lone) (sessions_below k)) many;
         histories = are.histories
-            ∙ ap (λ (k : ℕ). map (history_in (kept rows)) (sessions_below k)) many;
+            ∙ ap (λ (k : ℕ). map (history_in (rows_kept rows)) (sessions_below k)) many;
       }
 
   -- the opening of a journal, by its rows
-  pub opening_on : (disk : D) (log : Log D) → log.entries ≡ kept (rows_of log.entries)
+  pub opening_on : (disk : D) (log : Log D) → log.entries ≡ rows_kept (rows_of log.entries)
       → log.opening ≡ record { disk = disk; found = length log.entries }
       → log.opening ≡ record { disk = disk; found = length (rows_of log.entries) }
   opening_on disk log fresh is = is

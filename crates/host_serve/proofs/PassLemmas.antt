@@ -19,8 +19,8 @@ use Rattle.session_desk.specs.Shared.{DeskTag}
 use Rattle.host_serve.specs.Holders.{Holder, nobody, holder_of, holder_at, seen_at, holders, seens}
 use Rattle.host_serve.specs.declared.host.Host.{Host}
 use Rattle.host_serve.specs.Hosts.{ArePasses, IsTagOf, cell_id, pass_id, rows_at_opening}
-use Rattle.host_serve.specs.Hosts.{sessions_below, stores_of, tag_at, tags_from, tags_in}
-use Rattle.host_serve.specs.Serves.{Turn}
+use Rattle.host_serve.specs.Hosts.{sessions_below, opened_stores, tag_at, tags_from, tags_in}
+use Rattle.host_serve.specs.Serves.{AnsweredLine}
 use Rattle.host_serve.specs.Chain.{TurnsIn, Answers}
 use Rattle.host_serve.proofs.ListLemmas.{each_at, each_set, same_some}
 use Rattle.host_serve.proofs.StoreLemmas.{get_within}
@@ -112,14 +112,14 @@ module _ {D : Type 0} (stories : List Story) (budget : ℕ) (journal : TableId) 
 
 -- the tag of a host's desk
 pub tag_in_host : {D : Type 0} (host : Host D) (s n : ℕ) (tag : Option (DeskTag D))
-    → length (stores_of host) ≡ 64 → s < 64 → s ≡ n → tag ≡ get_or (tags_in host) s None
+    → length (opened_stores host) ≡ 64 → s < 64 → s ≡ n → tag ≡ get_or (tags_in host) s None
     → IsTagOf host n tag
 tag_in_host host s n tag many low named is =
     let there = tag_there host.stories.now host.budget (cell_id host.journal)
-    (rows_at_opening host) 0 (stores_of host) s None (omega arith) in
+    (rows_at_opening host) 0 (opened_stores host) s None (omega arith) in
     let same : 0 + s ≡ n = omega arith in (
       there.0,
-      ap (λ (k : ℕ). slice_get (stores_of host) k) (sym named) ∙ there.1,
+      ap (λ (k : ℕ). slice_get (opened_stores host) k) (sym named) ∙ there.1,
       is ∙ (there.2 ∙ ap (λ (k : ℕ). Some (tag_at host.stories.now host.budget
           (cell_id host.journal) (rows_at_opening host) k there.0)) same),
     )
@@ -211,7 +211,7 @@ pass_at now old s p is later =
 -- a turn by one of the passes
 pub answers_in : {T : Type 0} (stories : List Story) (budget : ℕ) (sound : Type 0)
     (passes : List (Pass T Entry))
-    (s : ℕ) (p q : Pass T Entry) (t : Turn) → length passes ≡ 64 → p ≡ get_or passes s p
+    (s : ℕ) (p q : Pass T Entry) (t : AnsweredLine) → length passes ≡ 64 → p ≡ get_or passes s p
     → s < 64 → t.mark.session ≡ s → session_on t.line ≡ s
     → TurnsIn stories budget sound (holder_of p) (seen p) t (seen q)
     → Answers stories budget sound (holders passes) (seens passes) t (seens (set passes s q))

@@ -11,10 +11,10 @@ use Rattle.session_core.specs.declared.entry.Entry.{Entry}
 use Rattle.session_core.specs.Turning.{entry_by, AddsTo, Turned}
 use Rattle.session_core.proofs.TurningLemmas.{turn_in_adds}
 use Rattle.host_serve.specs.Holders.{Holder, nobody, IsAloneHolder, holder_at, seen_at}
-use Rattle.host_serve.specs.Serves.{Turn, IsTurn, IsOfItsSession, IsOfNoSession, MayMeetIn, marked}
-use Rattle.host_serve.specs.Serves.{own_world, turned_on, turned, Adds, AddsNothing, AddedOnce}
-use Rattle.host_serve.specs.Serves.{Folds, IsExact, Serves}
-use Rattle.host_serve.specs.Chain.{TurnsIn, Answers, Chain}
+use Rattle.host_serve.specs.Serves.{AnsweredLine, IsTurn, IsOfItsSession, IsOfNoSession, MayMeetIn, marked}
+use Rattle.host_serve.specs.Serves.{own_world, turned_again, turned, AddsItsEntry, AddsNothing, AddedOnce}
+use Rattle.host_serve.specs.Serves.{Folds, IsExact, ServesLines}
+use Rattle.host_serve.specs.Chain.{TurnsIn, Answers, AnswersInOrder}
 use Rattle.host_serve.proofs.TurnLemmas.{none_adds}
 use Rattle.host_serve.proofs.ExactLemmas.{exact}
 use Rattle.host_serve.proofs.ListLemmas.{eq_or_ne, same_some, none_some, each_there, there_after}
@@ -29,17 +29,17 @@ empty_there seens s wide e = get_or-eq_default seens [] (omega arith)
 
 module _ (stories : List Story) (budget : ℕ) (sound : Type 0) where
   -- in one session: the turn on the prefix of the final history that its mark names
-  abbrev MarkedTurn : Holder → List Entry → Turn → Turned
-  MarkedTurn h final t = turned_on stories budget (take t.mark.length final) h.number t
+  abbrev MarkedTurn : Holder → List Entry → AnsweredLine → Turned
+  MarkedTurn h final t = turned_again stories budget (take t.mark.length final) h.number t
 
   -- in one session: the turn adds the entry that stands there in the end
-  abbrev AddsIn : Holder → List Entry → Turn → Type 0
+  abbrev AddsIn : Holder → List Entry → AnsweredLine → Type 0
   AddsIn h final t = (e : Entry)
       × ((MarkedTurn h final t).history ≡ take t.mark.length final ++ e ∷ [])
       × (slice_get final t.mark.length ≡ Some e) × (entry_by e ≡ h.number)
 
   -- in one session: what a turn is, with what was seen before it, after it and in the end
-  record Stands (h : Holder) (old : List Entry) (t : Turn) (mid final : List Entry) : Type 0 where
+  record Stands (h : Holder) (old : List Entry) (t : AnsweredLine) (mid final : List Entry) : Type 0 where
     pub prefix : t.mark.length ≤ length final
     pub begins : length old ≤ t.mark.length
     pub least : t.mark.length ≤ length mid
@@ -52,7 +52,7 @@ module _ (stories : List Story) (budget : ℕ) (sound : Type 0) where
         → slice_get final place ≡ Some e → IsAmong (entry_by e) h.holds
         → (t.mark.length ≡ place) × AddsIn h final t
 
-  stands_in : (h : Holder) (old : List Entry) (t : Turn) (mid final rest : List Entry)
+  stands_in : (h : Holder) (old : List Entry) (t : AnsweredLine) (mid final rest : List Entry)
       → TurnsIn stories budget sound h old t mid → final ≡ mid ++ rest → Stands h old t mid final
   stands_in h old t mid final rest i goes =
       of (turn_in_adds stories budget i.before t.world h.number t.line t.outcome)
@@ -67,9 +67,9 @@ module _ (stories : List Story) (budget : ℕ) (sound : Type 0) where
           let b = length_both old i.since.0 in let c = i.length in omega arith
 
       same_turn : (tail : List Entry) → final ≡ i.before ++ tail
-          → MarkedTurn h final t ≡ turned_on stories budget i.before h.number t
+          → MarkedTurn h final t ≡ turned_again stories budget i.before h.number t
       same_turn tail e =
-          ap (λ (l : List Entry). turned_on stories budget l h.number t) (marked_is tail e)
+          ap (λ (l : List Entry). turned_again stories budget l h.number t) (marked_is tail e)
 
       own_in : (tail : List Entry) → final ≡ i.before ++ tail → sound
           → t.world ≡ own_world stories (take t.mark.length final)
@@ -90,7 +90,7 @@ module _ (stories : List Story) (budget : ℕ) (sound : Type 0) where
           (subst (λ (l : List Entry). slice_get l place ≡ Some e)
           (is ∙ ap (λ (l : List Entry). l ++ tail) i.since.1) there) held
 
-      of : AddsTo i.before h.number (turned_on stories budget i.before h.number t).history
+      of : AddsTo i.before h.number (turned_again stories budget i.before h.number t).history
           → Stands h old t mid final
       of (inl same) = let ended : mid ≡ i.before = i.history ∙ same in
           let is : final ≡ i.before ++ rest = goes ∙ ap (λ (l : List Entry). l ++ rest) ended in
@@ -146,10 +146,10 @@ module _ (stories : List Story) (budget : ℕ) (sound : Type 0) where
                 (cases_lt place (length i.before));
           }
 
-  stands_none : (t : Turn) → IsOfNoSession t → t.world ≡ None → MayMeetIn stories budget [] t
-      → t.reply ≡ (turned_on stories budget [] 0 t).reply → Stands nobody [] t [] []
+  stands_none : (t : AnsweredLine) → IsOfNoSession t → t.world ≡ None → MayMeetIn stories budget [] t
+      → t.reply ≡ (turned_again stories budget [] 0 t).reply → Stands nobody [] t [] []
   stands_none t none world met reply = let e = none.1 in let nil = take_none t.mark.length none.1 in
-      let same = ap (λ (l : List Entry). turned_on stories budget l 0 t) nil in
+      let same = ap (λ (l : List Entry). turned_again stories budget l 0 t) nil in
       record {
         prefix = omega arith;
         begins = omega arith;
@@ -165,11 +165,11 @@ module _ (stories : List Story) (budget : ℕ) (sound : Type 0) where
 
   module _ (holders : List Holder) (many : length holders ≡ 64) where
     -- an answered line, against what is seen in the end
-    abbrev StandsAt : List (List Entry) → Turn → List (List Entry) → List (List Entry) → Type 0
+    abbrev StandsAt : List (List Entry) → AnsweredLine → List (List Entry) → List (List Entry) → Type 0
     StandsAt old t mid new = Stands (holder_at holders t.mark.session)
         (seen_at old t.mark.session) t (seen_at mid t.mark.session) (seen_at new t.mark.session)
 
-    head_stands : (old : List (List Entry)) (t : Turn) (mid new : List (List Entry))
+    head_stands : (old : List (List Entry)) (t : AnsweredLine) (mid new : List (List Entry))
         → length old ≡ 64 → length new ≡ 64 → Answers stories budget sound holders old t mid
         → Grows mid new → StandsAt old t mid new
     head_stands old t mid new wide wide' (inl o) grows = let g = grows t.mark.session in
@@ -189,31 +189,31 @@ module _ (stories : List Story) (budget : ℕ) (sound : Type 0) where
         (λ j. (sym h j, sym a j, sym b j, sym c j)) (stands_none t n.none n.world n.met n.reply)
 
     -- the first turn of a chain
-    first_stands : (old : List (List Entry)) (t : Turn) (ts : List Turn)
+    first_stands : (old : List (List Entry)) (t : AnsweredLine) (ts : List AnsweredLine)
         (new : List (List Entry)) → length old ≡ 64
-        → (c : Chain stories budget sound holders old (t ∷ ts) new) → StandsAt old t c.0 new
+        → (c : AnswersInOrder stories budget sound holders old (t ∷ ts) new) → StandsAt old t c.0 new
     first_stands old t ts new wide c =
         let wide' = answer_wide stories budget sound holders old t c.0 wide c.1 in
         head_stands old t c.0 new wide
         (chain_wide stories budget sound holders c.0 ts new wide' c.2) c.1
         (chain_grows stories budget sound holders c.0 ts new wide' c.2)
 
-    session_of_turn : (old : List (List Entry)) (t : Turn) (mid : List (List Entry))
+    session_of_turn : (old : List (List Entry)) (t : AnsweredLine) (mid : List (List Entry))
         → Answers stories budget sound holders old t mid → IsOfItsSession t ⊎ IsOfNoSession t
     session_of_turn old t mid (inl o) = inl o.session
     session_of_turn old t mid (inr n) = inr n.none
 
     -- what holds of each turn by itself
-    abbrev Settled : List (List Entry) → Turn → Type 0
+    abbrev Settled : List (List Entry) → AnsweredLine → Type 0
     Settled new t = (IsOfItsSession t ⊎ IsOfNoSession t)
         × (t.mark.length ≤ length (seen_at new t.mark.session))
         × (t.reply ≡ (turned stories budget holders new t).reply)
-        × (AddsNothing stories budget holders new t ⊎ Adds stories budget holders new t)
+        × (AddsNothing stories budget holders new t ⊎ AddsItsEntry stories budget holders new t)
         × MayMeetIn stories budget (marked new t) t
         × (sound → t.world ≡ own_world stories (marked new t))
 
-    settled : (old : List (List Entry)) (ts : List Turn) (new : List (List Entry))
-        → length old ≡ 64 → Chain stories budget sound holders old ts new → (i : ℕ) (t : Turn)
+    settled : (old : List (List Entry)) (ts : List AnsweredLine) (new : List (List Entry))
+        → length old ≡ 64 → AnswersInOrder stories budget sound holders old ts new → (i : ℕ) (t : AnsweredLine)
         → IsTurn ts i t → Settled new t
     settled old [] new wide c i t is = absurd (none_some t is)
     settled old (x ∷ xs) new wide c zero t is =
@@ -223,13 +223,13 @@ module _ (stories : List Story) (budget : ℕ) (sound : Type 0) where
     settled old (x ∷ xs) new wide c (suc i) t is =
         settled c.0 xs new (answer_wide stories budget sound holders old x c.0 wide c.1) c.2 i t is
 
-    begins_all : (old : List (List Entry)) (ts : List Turn) (new : List (List Entry))
-        → length old ≡ 64 → Chain stories budget sound holders old ts new → (i : ℕ) (t : Turn)
+    begins_all : (old : List (List Entry)) (ts : List AnsweredLine) (new : List (List Entry))
+        → length old ≡ 64 → AnswersInOrder stories budget sound holders old ts new → (i : ℕ) (t : AnsweredLine)
         → IsTurn ts i t → length (seen_at old t.mark.session) ≤ t.mark.length
     begins_all old [] new wide c i t is = absurd (none_some t is)
     begins_all old (x ∷ xs) new wide c zero t is =
         let s = first_stands old x xs new wide c in
-        subst (λ (u : Turn). length (seen_at old u.mark.session) ≤ u.mark.length)
+        subst (λ (u : AnsweredLine). length (seen_at old u.mark.session) ≤ u.mark.length)
         (same_some x t is) s.begins
     begins_all old (x ∷ xs) new wide c (suc i) t is =
         let more = begins_all c.0 xs new
@@ -238,12 +238,12 @@ module _ (stories : List Story) (budget : ℕ) (sound : Type 0) where
         let a = ap (λ (l : List Entry). length l) g.1 in
         let b = length_both (seen_at old t.mark.session) g.0 in omega arith
 
-    abbrev Rises : List (List Entry) → Turn → Turn → Type 0
+    abbrev Rises : List (List Entry) → AnsweredLine → AnsweredLine → Type 0
     Rises new t u = (t.mark.length ≤ u.mark.length)
-        × (Adds stories budget holders new t → t.mark.length < u.mark.length)
+        × (AddsItsEntry stories budget holders new t → t.mark.length < u.mark.length)
 
-    rises_all : (old : List (List Entry)) (ts : List Turn) (new : List (List Entry))
-        → length old ≡ 64 → Chain stories budget sound holders old ts new → (i j : ℕ) (t u : Turn)
+    rises_all : (old : List (List Entry)) (ts : List AnsweredLine) (new : List (List Entry))
+        → length old ≡ 64 → AnswersInOrder stories budget sound holders old ts new → (i j : ℕ) (t u : AnsweredLine)
         → IsTurn ts i t → IsTurn ts j u → i < j → t.mark.session ≡ u.mark.session
         → Rises new t u
     rises_all old [] new wide c i j t u is at low same = absurd (none_some t is)
@@ -255,15 +255,15 @@ module _ (stories : List Story) (budget : ℕ) (sound : Type 0) where
         let e = same_some x t is in
         let there : length (seen_at c.0 x.mark.session) ≤ u.mark.length =
         subst (λ (k : ℕ). length (seen_at c.0 k) ≤ u.mark.length)
-        (sym (ap (λ (y : Turn). y.mark.session) e ∙ same)) after in
-        subst (λ (y : Turn). Rises new y u) e
+        (sym (ap (λ (y : AnsweredLine). y.mark.session) e ∙ same)) after in
+        subst (λ (y : AnsweredLine). Rises new y u) e
         (let a = s.least in omega arith, λ p. let b = s.more p in omega arith)
     rises_all old (x ∷ xs) new wide c (suc i) (suc j) t u is at low same =
         rises_all c.0 xs new (answer_wide stories budget sound holders old x c.0 wide c.1) c.2
         i j t u is at (omega arith) same
 
-    once_all : (old : List (List Entry)) (ts : List Turn) (new : List (List Entry))
-        → length old ≡ 64 → Chain stories budget sound holders old ts new
+    once_all : (old : List (List Entry)) (ts : List AnsweredLine) (new : List (List Entry))
+        → length old ≡ 64 → AnswersInOrder stories budget sound holders old ts new
         → (s place : ℕ) (e : Entry)
         → length (seen_at old s) ≤ place → slice_get (seen_at new s) place ≡ Some e
         → IsAmong (entry_by e) (holder_at holders s).holds
@@ -294,15 +294,15 @@ module _ (stories : List Story) (budget : ℕ) (sound : Type 0) where
           only = only_later;
         }
           where
-            only_later : (j : ℕ) (u : Turn) → IsTurn (x ∷ xs) j u → u.mark.session ≡ s
-                → u.mark.length ≡ place → Adds stories budget holders new u → j ≡ suc r.which
+            only_later : (j : ℕ) (u : AnsweredLine) → IsTurn (x ∷ xs) j u → u.mark.session ≡ s
+                → u.mark.length ≡ place → AddsItsEntry stories budget holders new u → j ≡ suc r.which
             only_later (suc j) u at session long adds = ap suc (r.only j u at session long adds)
             only_later zero u at session long adds = let same = same_some x u at in
                 let more = stands.more
-                (subst (Adds stories budget holders new) (sym same) adds) in
-                let a = ap (λ (y : Turn). y.mark.length) same in
+                (subst (AddsItsEntry stories budget holders new) (sym same) adds) in
+                let a = ap (λ (y : AnsweredLine). y.mark.length) same in
                 let b = ap (λ (k : ℕ). length (seen_at c.0 k))
-                (ap (λ (y : Turn). y.mark.session) same ∙ session) in
+                (ap (λ (y : AnsweredLine). y.mark.session) same ∙ session) in
                 absurd (omega arith)
 
         here : place < length (seen_at c.0 s) → s ≡ x.mark.session
@@ -322,8 +322,8 @@ module _ (stories : List Story) (budget : ℕ) (sound : Type 0) where
               only = only_here;
             }
           where
-            only_here : (j : ℕ) (u : Turn) → IsTurn (x ∷ xs) j u → u.mark.session ≡ s
-                → u.mark.length ≡ place → Adds stories budget holders new u → j ≡ 0
+            only_here : (j : ℕ) (u : AnsweredLine) → IsTurn (x ∷ xs) j u → u.mark.session ≡ s
+                → u.mark.length ≡ place → AddsItsEntry stories budget holders new u → j ≡ 0
             only_here zero u at session long adds = refl
             only_here (suc j) u at session long adds =
                 let a = begins_all c.0 xs new wide' c.2 j u at in
@@ -342,8 +342,8 @@ module _ (stories : List Story) (budget : ℕ) (sound : Type 0) where
     abbrev AllAlone : Type 0
     AllAlone = (s : ℕ) → IsAloneHolder (holder_at holders s)
 
-    folds_all : (old : List (List Entry)) (ts : List Turn) (new : List (List Entry))
-        → length old ≡ 64 → Chain stories budget sound holders old ts new → AllAlone
+    folds_all : (old : List (List Entry)) (ts : List AnsweredLine) (new : List (List Entry))
+        → length old ≡ 64 → AnswersInOrder stories budget sound holders old ts new → AllAlone
         → Folds stories budget holders old ts new
     folds_all old [] new wide c alone = c
     folds_all old (x ∷ xs) new wide c alone = of (folds_all c.0 xs new
@@ -356,19 +356,19 @@ module _ (stories : List Story) (budget : ℕ) (sound : Type 0) where
             let same = o.turn.alone (alone x.mark.session) in (
               o.turn.length ∙ ap (λ (l : List Entry). length l) same,
               o.turn.reply
-                  ∙ ap (λ (l : List Entry). (turned_on stories budget l h.number x).reply) same,
+                  ∙ ap (λ (l : List Entry). (turned_again stories budget l h.number x).reply) same,
               subst (λ (l : List (List Entry)). Folds stories budget holders l xs new)
                   (o.seen ∙ ap (λ (l : List Entry). set old x.mark.session l) (o.turn.history
-                  ∙ ap (λ (l : List Entry). (turned_on stories budget l h.number x).history) same))
+                  ∙ ap (λ (l : List Entry). (turned_again stories budget l h.number x).history) same))
                   rest,
             )
         of rest (inr n) = let s = n.none.0 in let nil = empty_there old x.mark.session wide s in
             let h : holder_at holders x.mark.session ≡ nobody =
             get_or-eq_default holders nobody (omega arith) in
-            let turn = turned_on stories budget (seen_at old x.mark.session)
+            let turn = turned_again stories budget (seen_at old x.mark.session)
             (holder_at holders x.mark.session).number x in
-            let same : turn ≡ turned_on stories budget [] 0 x =
-            ap (λ (y : List Entry × Holder). turned_on stories budget y.0 y.1.number x)
+            let same : turn ≡ turned_again stories budget [] 0 x =
+            ap (λ (y : List Entry × Holder). turned_again stories budget y.0 y.1.number x)
             (λ i. (nil i, h i)) in (
               n.none.1 ∙ ap (λ (l : List Entry). length l) (sym nil),
               n.reply ∙ ap (λ (y : Turned). y.reply) (sym same),
@@ -376,9 +376,9 @@ module _ (stories : List Story) (budget : ℕ) (sound : Type 0) where
                   (n.seen ∙ sym (set_past old x.mark.session turn.history (omega arith))) rest,
             )
 
-    pub serves_of : (old : List (List Entry)) (ts : List Turn) (new : List (List Entry))
-        → length old ≡ 64 → Chain stories budget sound holders old ts new
-        → Serves stories budget sound holders old ts new
+    pub serves_of : (old : List (List Entry)) (ts : List AnsweredLine) (new : List (List Entry))
+        → length old ≡ 64 → AnswersInOrder stories budget sound holders old ts new
+        → ServesLines stories budget sound holders old ts new
     serves_of old ts new wide c = record {
       marks = λ i t is. (settled old ts new wide c i t is).0;
       prefix = λ i t is. (settled old ts new wide c i t is).1;
@@ -394,7 +394,7 @@ module _ (stories : List Story) (budget : ℕ) (sound : Type 0) where
     }
 
     -- the turn of one line
-    pub exact_of : (old : List (List Entry)) (t : Turn) (new : List (List Entry))
+    pub exact_of : (old : List (List Entry)) (t : AnsweredLine) (new : List (List Entry))
         → length old ≡ 64 → Answers stories budget sound holders old t new
         → IsExact stories budget holders new t
     exact_of old t new wide a = (serves_of old (t ∷ []) new wide (new, a, refl)).exact 0 t refl

@@ -5,12 +5,12 @@ use Rattle.std.proofs.lemmas.List.{length-map, get_or-map}
 use Rattle.std.proofs.Math.Seq.{map-set_same}
 use Rattle.turn_cell.specs.declared.cell.Cell.{Cell}
 use Rattle.turn_cell.specs.declared.pass.Pass.{Pass}
-use Rattle.turn_cell.specs.Passes.{IsOf, IsOutside, IsSplitFrom, KeepsNumbers, holds, made, number}
+use Rattle.turn_cell.specs.Passes.{IsOf, IsOutside, IsSplitFrom, KeepsNumbers, pass_numbers, made, pass_number}
 use Rattle.turn_cell.specs.Passes.{sample, seen, tag_of}
 use Rattle.host_serve.specs.Holders.{Holder, holder_of, holders, nobody, seens}
 use Rattle.host_serve.specs.Hosts.{ArePasses}
 use Rattle.host_serve.specs.Splitting.{AreNewest, AreRoots, after_split, first_by, newest_of}
-use Rattle.host_serve.specs.Splitting.{with_newest}
+use Rattle.host_serve.specs.Splitting.{with_newest_pass}
 use Rattle.host_serve.proofs.ListLemmas.{length_more}
 use Rattle.host_serve.proofs.MixLemmas.{mix_rest}
 use Rattle.host_serve.proofs.NewestLemmas.{newest_all, newest_less, newest_more, newest_none}
@@ -25,7 +25,7 @@ module _ {T E G : Type 0} (tag : T → G) (cells : List (Cell T E)) where
     pub within : length newest ≤ n
     pub long : n ≤ length cells
     pub are : ArePasses tag (map (tag_of tag) first) cells now
-    pub who : AreDown with_newest n (length newest) (holders first) now
+    pub who : AreDown with_newest_pass n (length newest) (holders first) now
     pub heard : seens now ≡ seens first
 
   pub joins_first : (first newest : List (Pass T E)) → AreNewest (length newest) cells first newest
@@ -36,7 +36,7 @@ module _ {T E G : Type 0} (tag : T → G) (cells : List (Cell T E)) where
     within = omega arith;
     long = a.within;
     are = are;
-    who = down_from with_newest (length newest) (holders first);
+    who = down_from with_newest_pass (length newest) (holders first);
     heard = refl;
   }
 
@@ -44,7 +44,7 @@ module _ {T E G : Type 0} (tag : T → G) (cells : List (Cell T E)) where
   pub joined_last : (n s : ℕ) (first now newest rest : List (Pass T E)) (c : Cell T E)
       (p q : Pass T E) → JoinsBack n first now newest → newest ≡ rest ++ q ∷ []
       → s ≡ length rest → c ≡ get_or cells s c → p ≡ get_or now s p
-      → AreNewest s cells now rest × IsOf c q × IsOutside q × (number q ≢ 0)
+      → AreNewest s cells now rest × IsOf c q × IsOutside q × (pass_number q ≢ 0)
       × (holder_of q ≡ newest_of (holder_of p)) × (seen q ≡ seen p) × IsOf c p × IsOutside p
       × (s < length cells)
   joined_last n s first now newest rest c p q j is place at_c at_p =
@@ -61,8 +61,8 @@ module _ {T E G : Type 0} (tag : T → G) (cells : List (Cell T E)) where
   pub joins_on : (n s : ℕ) (first now newest rest : List (Pass T E)) (c : Cell T E)
       (p p' q : Pass T E) → JoinsBack n first now newest → newest ≡ rest ++ q ∷ []
       → s ≡ length rest → c ≡ get_or cells s c → p ≡ get_or now s p
-      → holds p' ≡ holds p ++ holds q
-      → IsOf c p' × (number p' ≡ number p) × (made p' ≡ made p) × (sample p' ≡ sample p)
+      → pass_numbers p' ≡ pass_numbers p ++ pass_numbers q
+      → IsOf c p' × (pass_number p' ≡ pass_number p) × (made p' ≡ made p) × (sample p' ≡ sample p)
       → IsOutside p' → (seen p' ≡ seen p) ⊎ (seen p' ≡ seen q)
       → JoinsBack n first (set now s p') rest
   joins_on n s first now newest rest c p p' q j is place at_c at_p held kept outside heard =
@@ -74,9 +74,9 @@ module _ {T E G : Type 0} (tag : T → G) (cells : List (Cell T E)) where
       let now_long = length-map now seen in
       let first_long = length-map first seen in
       let holders_long = length-map first holder_of in
-      let becomes : holder_of p' ≡ with_newest (holder_of p) =
+      let becomes : holder_of p' ≡ with_newest_pass (holder_of p) =
       (λ i. record { number = kept.1 i; made = kept.2 i; holds = held i })
-      ∙ ap (λ (h : Holder). record { number = number p; made = made p; holds = holds p ++ h.holds })
+      ∙ ap (λ (h : Holder). record { number = pass_number p; made = made p; holds = pass_numbers p ++ h.holds })
       l.4 in
       let same : seen p' ≡ seen p = ⊎_elim (λ (e : seen p' ≡ seen p). e)
       (λ (e : seen p' ≡ seen q). e ∙ l.5) heard in
@@ -87,18 +87,18 @@ module _ {T E G : Type 0} (tag : T → G) (cells : List (Cell T E)) where
         long = j.long;
         are = are_put tag (map (tag_of tag) first) cells now s c p p' j.are l.8 at_c at_p kept.0
             outside kept.3;
-        who = subst (λ (k : ℕ). AreDown with_newest n k (holders first) (set now s p')) place
-            (holders_down with_newest n s (holders first) now p p'
-            (subst (λ (m : ℕ). AreDown with_newest n m (holders first) now) more' j.who)
+        who = subst (λ (k : ℕ). AreDown with_newest_pass n k (holders first) (set now s p')) place
+            (holders_down with_newest_pass n s (holders first) now p p'
+            (subst (λ (m : ℕ). AreDown with_newest_pass n m (holders first) now) more' j.who)
             (omega arith) (let w = j.within in omega arith) (let w = j.long in omega arith) at_p
             becomes);
         heard = map-set_same seen now s p' p (same ∙ ap seen at_p) ∙ j.heard;
       }
 
   pub joins_all : (n : ℕ) (first now newest : List (Pass T E)) → JoinsBack n first now newest
-      → length newest ≡ 0 → holders now ≡ first_by with_newest n (holders first)
+      → length newest ≡ 0 → holders now ≡ first_by with_newest_pass n (holders first)
   joins_all n first now newest j none =
-      subst (λ (m : ℕ). AreDown with_newest n m (holders first) now) none j.who
+      subst (λ (m : ℕ). AreDown with_newest_pass n m (holders first) now) none j.who
 
   -- the passes that were split off the first roots, one after the other
   pub record SplitsOff (n : ℕ) (first now newest : List (Pass T E)) : Type 0 where
@@ -119,7 +119,7 @@ module _ {T E G : Type 0} (tag : T → G) (cells : List (Cell T E)) where
   -- the root that is split next
   pub root_here : (n most : ℕ) (first now newest : List (Pass T E)) (p : Pass T E)
       → SplitsOff n first now newest → AreRoots most (holders first) → n < length cells
-      → p ≡ get_or now n p → (number p ≡ 0) × (made p ≤ most)
+      → p ≡ get_or now n p → (pass_number p ≡ 0) × (made p ≤ most)
   root_here n most first now newest p s roots low at_p =
       let long = as_many tag (map (tag_of tag) first) cells now s.are in
       let even =
@@ -188,18 +188,18 @@ module _ {T E G : Type 0} (tag : T → G) (cells : List (Cell T E)) where
   pub splits_back : (tags : List (Option G)) (n : ℕ) (cells' : List (Cell T E))
       (first now now' newest final : List (Pass T E)) → SplitsOff n first now newest
       → ArePasses tag tags cells first → cells' ≡ cells → now' ≡ now
-      → holders final ≡ first_by with_newest (length newest) (holders now')
+      → holders final ≡ first_by with_newest_pass (length newest) (holders now')
       → seens final ≡ seens now' → ArePasses tag (map (tag_of tag) now') cells' final
-      → (holders final ≡ first_by (λ (h : Holder). with_newest (after_split h)) n (holders first))
+      → (holders final ≡ first_by (λ (h : Holder). with_newest_pass (after_split h)) n (holders first))
       × (seens final ≡ seens first) × ArePasses tag tags cells final
   splits_back tags n cells' first now now' newest final s a is is' who heard are =
       let whole : ArePasses tag (map (tag_of tag) now) cells final =
       subst (λ (x : List (Cell T E) × List (Pass T E)). ArePasses tag (map (tag_of tag) x.1) x.0
       final)
       (λ i. (is i, is' i)) are in (
-        who ∙ ((λ i. first_by with_newest (s.left.many i) (holders (is' i)))
-            ∙ (ap (first_by with_newest n) s.who
-            ∙ both_first after_split with_newest n (holders first))),
+        who ∙ ((λ i. first_by with_newest_pass (s.left.many i) (holders (is' i)))
+            ∙ (ap (first_by with_newest_pass n) s.who
+            ∙ both_first after_split with_newest_pass n (holders first))),
         heard ∙ (ap seens is' ∙ s.heard),
         record {
           same = whole.same;

@@ -11,7 +11,7 @@ use Rattle.session_core.specs.History.{game_of}
 use Rattle.gate_journal.specs.Rows.{commands_of}
 use Rattle.session_saves.specs.Agreement.{Agrees, opens_of}
 use Rattle.host_serve.specs.declared.host.Host.{Host}
-use Rattle.host_serve.specs.Hosts.{IsSound, rows_at_opening, stores_of}
+use Rattle.host_serve.specs.Hosts.{IsSound, rows_at_opening, opened_stores}
 use Rattle.host_serve.specs.declared.fault.OpenFault.{OpenFault}
 use Rattle.host_serve.specs.declared.fault.OpenFault.TheVariants as faults
 use Rattle.host_serve.specs.Opening.{AreAgreed, IsOfStores, IsStoreOf, OnJournal, OnStore}
@@ -125,11 +125,11 @@ module _ {D : Type 0} (tells : D → Bool) (may_leave : D → List ℕ → Type 
 
   -- a host whose disks told their bytes, and agreed with the rows, is sound
   pub sound_of : (host : Host D) (stories : List Story) (disks : List D)
-      → AreStoresOf disks (stores_of host) → host.stories.now ≡ stories
+      → AreStoresOf disks (opened_stores host) → host.stories.now ≡ stories
       → AreAgreed tells reads stories (rows_at_opening host) disks → IsSound tells reads host
   sound_of host stories disks stores is agreed = λ s store there.
       let of = zip_at (IsStoreOf tells may_leave reads moment left_since faults reach room label)
-      disks (stores_of host) s store stores there in
+      disks (opened_stores host) s store stores there in
       let its = agreed s of.0 of.1 in (
         subst IsTrue (sym of.2.kept.same.telling) its.0,
         λ side area stands. subst (λ (l : List Story). Agrees l

@@ -6,7 +6,7 @@ use Rattle.std.proofs.lemmas.List.{map-append}
 use Rattle.turn_cell.proofs.HistoryLemmas.{nil_right}
 use Rattle.line_words.specs.Reply.{print_reply}
 use Rattle.line_words.specs.declared.reply.Reply.{Reply}
-use Rattle.line_talk.specs.Conversation.{Answered, BreaksLast, Line, StopsBehind, Turns, joined}
+use Rattle.line_talk.specs.Conversation.{Answered, BreaksLast, Line, StopsBehind, Turns, texts_joined}
 use Rattle.line_talk.specs.Lines.{heard, talk}
 use Rattle.line_talk.specs.Streams.{SinkState, SourceState, Gave, Wrote}
 use Rattle.line_talk.specs.Talked.{AnswersOf, Talked}
@@ -23,21 +23,21 @@ use Rattle.host_serve.specs.declared.mark.Mark.{Mark}
 use Rattle.host_serve.specs.declared.served.Served.{Served}
 use Rattle.host_serve.specs.declared.served.Served.TheVariants.{End, ReadFault, WriteFault}
 use Rattle.host_serve.specs.declared.served.Served.TheVariants.{NoMemory}
-use Rattle.host_serve.specs.Chain.{Answers, Chain}
+use Rattle.host_serve.specs.Chain.{Answers, AnswersInOrder}
 use Rattle.host_serve.specs.Holders.{Holder}
-use Rattle.host_serve.specs.Serves.{Serves, Turn}
+use Rattle.host_serve.specs.Serves.{ServesLines, AnsweredLine}
 use Rattle.host_serve.specs.Speaking.{Speaking, Speaks, seen_and_marked, turn_with}
-use Rattle.host_serve.specs.Told.{AnsweredOf, IsCutText, Tells, WritesReplies, served_of, turn_from}
+use Rattle.host_serve.specs.Told.{AnsweredOf, IsCutText, TellsLink, WritesReplies, served_of, turn_from}
 use Rattle.host_serve.proofs.ChainLemmas.{chain_more}
 use Rattle.host_serve.proofs.ServesLemmas.{serves_of}
 
-abbrev pub line_of : Turn → List ℕ
+abbrev pub line_of : AnsweredLine → List ℕ
 line_of t = t.line
 
-abbrev pub mark_of : Turn → Mark
+abbrev pub mark_of : AnsweredLine → Mark
 mark_of t = t.mark
 
-abbrev pub reply_of : Turn → Reply
+abbrev pub reply_of : AnsweredLine → Reply
 reply_of t = t.reply
 
 -- the last of some lines
@@ -138,10 +138,10 @@ module _ {D : Type 0} (sound : Host D → Type 0) where
   -- the turns of lines that were answered
   record SpokenTurns (old : Speaking D) (answered : List (List ℕ)) (texts : List (List ℕ))
       (new : Speaking D) : Type 0 where
-    pub turns : List Turn
+    pub turns : List AnsweredLine
     pub lines : map line_of turns ≡ answered
     pub replies : texts ≡ map print_reply (map reply_of turns)
-    pub chain : Chain old.host.stories.now old.host.budget (sound old.host) old.holders old.seen
+    pub chain : AnswersInOrder old.host.stories.now old.host.budget (sound old.host) old.holders old.seen
         turns new.seen
     pub after : new ≡ seen_and_marked old new.seen (old.marks ++ map mark_of turns)
 
@@ -172,7 +172,7 @@ module _ {D : Type 0} (sound : Host D → Type 0) where
         chain = (
           mid.seen,
           speaks.answers line refl,
-          subst (λ (s : Speaking D). Chain s.host.stories.now s.host.budget (sound s.host) s.holders
+          subst (λ (s : Speaking D). AnswersInOrder s.host.stories.now s.host.budget (sound s.host) s.holders
               mid.seen rest.turns new.seen)
               speaks.after rest.chain,
         );
@@ -186,29 +186,29 @@ module _ {D : Type 0} (sound : Host D → Type 0) where
 
   -- what was said of some lines that were answered
   record SaidAll (old : Speaking D) (answered : List (List ℕ)) (new : Speaking D)
-      (turns : List Turn)
+      (turns : List AnsweredLine)
       : Type 0 where
     pub lines : map line_of turns ≡ answered
-    pub chain : Chain old.host.stories.now old.host.budget (sound old.host) old.holders old.seen
+    pub chain : AnswersInOrder old.host.stories.now old.host.budget (sound old.host) old.holders old.seen
         turns new.seen
     pub after : new ≡ seen_and_marked old new.seen (old.marks ++ map mark_of turns)
 
   -- all replies were written whole
   said_whole : (old new : Speaking D) (answered : List (List ℕ)) (output now : SinkState)
       → Answered (Speaks sound) never old (map heard answered) new output now
-      → (turns : List Turn) × SaidAll old answered new turns
-      × Wrote output now (joined (map print_reply (map reply_of turns)))
+      → (turns : List AnsweredLine) × SaidAll old answered new turns
+      × Wrote output now (texts_joined (map print_reply (map reply_of turns)))
   said_whole old new answered output now a = let s = spoken old answered a.replies new a.turns in (
     s.turns,
     record { lines = s.lines; chain = s.chain; after = s.after },
-    subst (λ (texts : List (List ℕ)). Wrote output now (joined texts)) s.replies a.wrote,
+    subst (λ (texts : List (List ℕ)). Wrote output now (texts_joined texts)) s.replies a.wrote,
   )
 
   -- all but an end of the last one
   said_cut : (old new : Speaking D) (answered : List (List ℕ)) (output now : SinkState)
       (cause : Stop) → BreaksLast (Speaks sound) (Speaks sound) never old (map heard answered) new
       output now cause
-      → (turns : List Turn) × SaidAll old answered new turns
+      → (turns : List AnsweredLine) × SaidAll old answered new turns
       × ((written : List ℕ) × Wrote output now written × IsCutText written (map reply_of turns))
   said_cut old new answered output now cause b =
       let at = split_lines answered b.before b.last b.all in
@@ -240,7 +240,7 @@ module _ {D : Type 0} (sound : Host D → Type 0) where
               (sym (map-append mark_of first.0 (t ∷ [])))));
         },
         (
-          joined (map print_reply before) ++ part,
+          texts_joined (map print_reply before) ++ part,
           wrote_then first.2 b.breaks.stopped.wrote.wrote,
           record {
             before = before;
@@ -260,15 +260,15 @@ module _ {D : Type 0} (sound : Host D → Type 0) where
       (many : length old.holders ≡ 64) (wide : length old.seen ≡ 64) where
     -- what a call tells of its turns
     abbrev pub Told : Served → Type 0
-    Told served = (turns : List Turn)
-        × Tells turns input now output written old.marks new.marks served
-        × Chain old.host.stories.now old.host.budget (sound old.host) old.holders old.seen turns
+    Told served = (turns : List AnsweredLine)
+        × TellsLink turns input now output written old.marks new.marks served
+        × AnswersInOrder old.host.stories.now old.host.budget (sound old.host) old.holders old.seen turns
         new.seen
-        × Serves old.host.stories.now old.host.budget (sound old.host) old.holders old.seen turns
+        × ServesLines old.host.stories.now old.host.budget (sound old.host) old.holders old.seen turns
         new.seen
         × (new ≡ seen_and_marked old new.seen new.marks)
 
-    tell : (served : Served) (read : List ℕ) (answered : List (List ℕ)) (turns : List Turn)
+    tell : (served : Served) (read : List ℕ) (answered : List (List ℕ)) (turns : List AnsweredLine)
         (text : List ℕ) → Gave input now read → length read ≤ 2 ^ 31
         → AnsweredOf served read now answered → SaidAll old answered new turns
         → Wrote output written text → WritesReplies served text (map reply_of turns) → Told served
@@ -298,11 +298,11 @@ module _ {D : Type 0} (sound : Host D → Type 0) where
     tell_whole : (served : Served) (read : List ℕ) (answered : List (List ℕ)) → Gave input now read
         → length read ≤ 2 ^ 31 → AnsweredOf served read now answered
         → Answered (Speaks sound) never old (map heard answered) new output written
-        → ((replies : List Reply) → WritesReplies served (joined (map print_reply replies)) replies)
+        → ((replies : List Reply) → WritesReplies served (texts_joined (map print_reply replies)) replies)
         → Told served
     tell_whole served read answered gave within which how writes =
         let s = said_whole old new answered output written how in
-        tell served read answered s.0 (joined (map print_reply (map reply_of s.0)))
+        tell served read answered s.0 (texts_joined (map print_reply (map reply_of s.0)))
         gave within which s.1 s.2 (writes (map reply_of s.0))
 
     -- the last reply wasn't written whole
@@ -359,20 +359,20 @@ module _ {D : Type 0} (sound : Host D → Type 0) where
     -- what the caller's passes and marks then are
     pub told_at : (ended : Ended) → Talks ended → (served : Served) (seen : List (List Entry))
         (marks : List Mark) → served ≡ served_of ended → seen ≡ new.seen → marks ≡ new.marks
-        → (turns : List Turn) × Tells turns input now output written old.marks marks served
-        × Chain old.host.stories.now old.host.budget (sound old.host) old.holders old.seen turns
+        → (turns : List AnsweredLine) × TellsLink turns input now output written old.marks marks served
+        × AnswersInOrder old.host.stories.now old.host.budget (sound old.host) old.holders old.seen turns
         seen
-        × Serves old.host.stories.now old.host.budget (sound old.host) old.holders old.seen turns
+        × ServesLines old.host.stories.now old.host.budget (sound old.host) old.holders old.seen turns
         seen
     told_at ended talks served seen marks is_served is_seen is_marks =
         let t = told_of ended talks in (
           t.0,
-          subst (λ (x : Served × List Mark). Tells t.0 input now output written old.marks x.1 x.0)
+          subst (λ (x : Served × List Mark). TellsLink t.0 input now output written old.marks x.1 x.0)
               (λ i. (sym is_served i, sym is_marks i)) t.1,
-          subst (λ (x : List (List Entry)). Chain old.host.stories.now old.host.budget
+          subst (λ (x : List (List Entry)). AnswersInOrder old.host.stories.now old.host.budget
               (sound old.host) old.holders old.seen t.0 x)
               (sym is_seen) t.2,
-          subst (λ (x : List (List Entry)). Serves old.host.stories.now old.host.budget
+          subst (λ (x : List (List Entry)). ServesLines old.host.stories.now old.host.budget
               (sound old.host) old.holders old.seen t.0 x)
               (sym is_seen) t.3,
         )
@@ -383,10 +383,10 @@ module _ {D : Type 0} (sound : Host D → Type 0) where
   -- no room was found before the first read
   pub told_nothing : (old : Speaking D) (input : SourceState) (output : SinkState)
       → length old.holders ≡ 64 → length old.seen ≡ 64
-      → (turns : List Turn) × Tells turns input input output output old.marks old.marks NoMemory
-      × Chain old.host.stories.now old.host.budget (sound old.host) old.holders old.seen turns
+      → (turns : List AnsweredLine) × TellsLink turns input input output output old.marks old.marks NoMemory
+      × AnswersInOrder old.host.stories.now old.host.budget (sound old.host) old.holders old.seen turns
       old.seen
-      × Serves old.host.stories.now old.host.budget (sound old.host) old.holders old.seen turns
+      × ServesLines old.host.stories.now old.host.budget (sound old.host) old.holders old.seen turns
       old.seen
   told_nothing old input output many wide =
       let t =

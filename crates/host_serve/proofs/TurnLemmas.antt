@@ -31,8 +31,8 @@ use Rattle.session_core.specs.Turning.{turn_in, turn_met}
 use Rattle.turn_cell.specs.History.{Continues, IsForeign}
 use Rattle.session_desk.specs.Desk.{DeskState}
 use Rattle.host_serve.specs.Holders.{Holder, IsAloneHolder}
-use Rattle.host_serve.specs.Reading.{IsReadAs, IsUnread}
-use Rattle.host_serve.specs.Serves.{Turn, IsOfNoSession}
+use Rattle.host_serve.specs.Reading.{LineIsReadAs, IsUnread}
+use Rattle.host_serve.specs.Serves.{AnsweredLine, IsOfNoSession}
 use Rattle.host_serve.specs.Chain.{TurnsIn, TurnsOnNone}
 use Rattle.host_serve.proofs.ListLemmas.{none_some}
 
@@ -93,7 +93,7 @@ module _ (stories : List Story) (budget : ℕ) (now : Option WorldState) where
 -- what a desk answers to a request is what its session decides on the line that was read so
 pub answered_on : (stories : List Story) (budget : ℕ) (desk : DeskState)
     (now : Option WorldState) (history : List Entry) (line : List ℕ) (request : Request)
-    → IsReadAs budget line request → desk.stories ≡ stories → commands_in history ≡ desk.commands
+    → LineIsReadAs budget line request → desk.stories ≡ stories → commands_in history ≡ desk.commands
     → answer_in desk.stories desk.commands now request
     ≡ decision_in stories budget (commands_in history) now line
 unfolding decision_in
@@ -106,10 +106,10 @@ answered_on stories budget desk now history line request read same commands =
 
 -- a turn of a desk is one of `turn_in`
 pub turns_in : (stories : List Story) (budget : ℕ) (sound : Type 0) (h : Holder)
-    (old new : List Entry) (t : Turn) (desk : DeskState) (before : List Entry) (by : ℕ)
+    (old new : List Entry) (t : AnsweredLine) (desk : DeskState) (before : List Entry) (by : ℕ)
     (request : Request) → by ≡ h.number
     → Continues (IsForeign entry_by h.holds) before old → (IsAloneHolder h → before ≡ old)
-    → IsReadAs budget t.line request → desk.stories ≡ stories
+    → LineIsReadAs budget t.line request → desk.stories ≡ stories
     → commands_in before ≡ desk.commands → t.mark.length ≡ length before
     → (sound → t.world ≡ world_of desk.stories (game_of desk.commands))
     → MayMeet (answer_in desk.stories desk.commands t.world request).accepted t.outcome
@@ -137,7 +137,7 @@ turns_in stories budget sound h old new t desk before by request own since alone
     }
 
 -- the turn of a line without a session
-abbrev pub nowhere : List ℕ → Reply → Outcome → Turn
+abbrev pub nowhere : List ℕ → Reply → Outcome → AnsweredLine
 nowhere line reply outcome = record {
   line = line;
   world = None;
@@ -156,7 +156,7 @@ module _ (stories : List Story) (budget : ℕ) where
       (λ r. answer_in stories [] None (with_budget budget r)) line o) none
 
   -- a turn without a session
-  none_turned : (t : Turn) (seen : List (List Entry)) (reply : Reply) (accepted : Option Command)
+  none_turned : (t : AnsweredLine) (seen : List (List Entry)) (reply : Reply) (accepted : Option Command)
       → decision_in stories budget [] t.world t.line ≡ record { reply = reply; accepted = accepted }
       → t.world ≡ None → IsOfNoSession t → MayMeet accepted t.outcome
       → t.reply ≡ (turn_met [] 0 reply accepted t.outcome).reply
@@ -195,7 +195,7 @@ module _ (stories : List Story) (budget : ℕ) where
       refl (refl, refl, inr refl) (may_want d.accepted) refl
 
   -- what is decided on a line whose session no host has
-  absent_decision : (line : List ℕ) (request : Request) → IsReadAs budget line request
+  absent_decision : (line : List ℕ) (request : Request) → LineIsReadAs budget line request
       → 64 ≤ session_of request
       → decision_in stories budget [] None line
       ≡ record { reply = replies.No no.NoSession; accepted = None }
@@ -207,7 +207,7 @@ module _ (stories : List Story) (budget : ℕ) where
       (subst (λ (r : Request). 64 ≤ session_of r) read.budgeted far)
 
   pub absent_turned : (line : List ℕ) (request : Request) (seen : List (List Entry))
-      → IsReadAs budget line request → 64 ≤ session_of request
+      → LineIsReadAs budget line request → 64 ≤ session_of request
       → TurnsOnNone stories budget seen (nowhere line (replies.No no.NoSession) Answered) seen
   absent_turned line request seen read far =
       none_turned (nowhere line (replies.No no.NoSession) Answered) seen (replies.No no.NoSession)
@@ -219,7 +219,7 @@ module _ (stories : List Story) (budget : ℕ) where
           omega arith
 
 -- the session of a line is that of the request that it is read as
-pub session_read : (budget : ℕ) (line : List ℕ) (request : Request) → IsReadAs budget line request
+pub session_read : (budget : ℕ) (line : List ℕ) (request : Request) → LineIsReadAs budget line request
     → session_of request < 64 → session_on line ≡ session_of request
 session_read budget line request read low =
     let same = ap session_of read.budgeted ∙ budgeted_session budget read.given in

@@ -5,23 +5,24 @@ use Rattle.story_run.specs.declared.story.Story.{Story}
 use Rattle.session_core.specs.declared.entry.Entry.{Entry}
 use Rattle.session_core.specs.Turning.{entry_by}
 use Rattle.host_serve.specs.Holders.{Holder, IsAloneHolder, holder_at, seen_at}
-use Rattle.host_serve.specs.Serves.{Turn, IsOfItsSession, IsOfNoSession, MayMeetIn, own_world}
-use Rattle.host_serve.specs.Serves.{turned_on}
+use Rattle.host_serve.specs.Serves.{AnsweredLine, IsOfItsSession, IsOfNoSession, MayMeetIn}
+use Rattle.host_serve.specs.Serves.{own_world}
+use Rattle.host_serve.specs.Serves.{turned_again}
 
 module _ (stories : List Story) (budget : ℕ) where
   -- an answer without a session, on a history that is empty
-  pub record TurnsOnNone (old : List (List Entry)) (t : Turn) (new : List (List Entry))
+  pub record TurnsOnNone (old : List (List Entry)) (t : AnsweredLine) (new : List (List Entry))
       : Type 0 where
     pub none : IsOfNoSession t
     pub world : t.world ≡ None
     pub met : MayMeetIn stories budget [] t
-    pub reply : t.reply ≡ (turned_on stories budget [] 0 t).reply
+    pub reply : t.reply ≡ (turned_again stories budget [] 0 t).reply
     pub seen : new ≡ old
 
   -- `sound` says that the host is sound
   module _ (sound : Type 0) where
     -- a turn in one session: `old` is what the holder's pass had seen, `new` what it has seen then
-    pub record TurnsIn (h : Holder) (old : List Entry) (t : Turn) (new : List Entry)
+    pub record TurnsIn (h : Holder) (old : List Entry) (t : AnsweredLine) (new : List Entry)
         : Type 0 where
       -- the history as the turn began: only others' entries came since
       pub before : List Entry
@@ -31,11 +32,11 @@ module _ (stories : List Story) (budget : ℕ) where
       -- on a sound host the session's world is its own
       pub own : sound → t.world ≡ own_world stories before
       pub met : MayMeetIn stories budget before t
-      pub reply : t.reply ≡ (turned_on stories budget before h.number t).reply
-      pub history : new ≡ (turned_on stories budget before h.number t).history
+      pub reply : t.reply ≡ (turned_again stories budget before h.number t).reply
+      pub history : new ≡ (turned_again stories budget before h.number t).history
 
     -- a turn in the session that the line names; all other sessions stay
-    pub record TurnsOn (holders : List Holder) (old : List (List Entry)) (t : Turn)
+    pub record TurnsOn (holders : List Holder) (old : List (List Entry)) (t : AnsweredLine)
         (new : List (List Entry)) : Type 0 where
       pub session : IsOfItsSession t
       pub after : List Entry
@@ -43,13 +44,13 @@ module _ (stories : List Story) (budget : ℕ) where
       pub seen : new ≡ set old t.mark.session after
 
     -- one answered line
-    abbrev pub Answers : List Holder → List (List Entry) → Turn → List (List Entry) → Type 0
+    abbrev pub Answers : List Holder → List (List Entry) → AnsweredLine → List (List Entry) → Type 0
     Answers holders old t new = TurnsOn holders old t new ⊎ TurnsOnNone old t new
 
     -- answered lines, in order
-    abbrev pub Chain :
-        List Holder → List (List Entry) → List Turn → List (List Entry)
+    abbrev pub AnswersInOrder :
+        List Holder → List (List Entry) → List AnsweredLine → List (List Entry)
         → Type 0
-    Chain holders old [] new = new ≡ old
-    Chain holders old (t ∷ ts) new =
-        (mid : List (List Entry)) × Answers holders old t mid × Chain holders mid ts new
+    AnswersInOrder holders old [] new = new ≡ old
+    AnswersInOrder holders old (t ∷ ts) new =
+        (mid : List (List Entry)) × Answers holders old t mid × AnswersInOrder holders mid ts new

@@ -11,11 +11,11 @@ use Rattle.host_serve.specs.declared.served.Served.TheVariants.{End, ReadFault, 
 use Rattle.host_serve.specs.declared.served.Served.TheVariants.{LineLimit, NoMemory}
 use Rattle.host_serve.specs.declared.worked.Worked.{Worked}
 use Rattle.host_serve.specs.declared.worked.Worked.TheVariants as worked
-use Rattle.host_serve.specs.Chain.{Chain}
+use Rattle.host_serve.specs.Chain.{AnswersInOrder}
 use Rattle.host_serve.specs.Holders.{holders, seens}
 use Rattle.host_serve.specs.Hosts.{AreOf}
-use Rattle.host_serve.specs.Serves.{Serves, Turn}
-use Rattle.host_serve.specs.Told.{Tells}
+use Rattle.host_serve.specs.Serves.{ServesLines, AnsweredLine}
+use Rattle.host_serve.specs.Told.{TellsLink}
 use Rattle.turn_cell.specs.History.{Each}
 
 -- nothing was read from the link yet, and neither side has failed
@@ -47,21 +47,21 @@ module _ {O Conn Done Fault : Type 0} where
   IsEndOf Shuts Fails (worked.DoorFault fault) = Fails fault
 
   -- the door was shut
-  abbrev pub IsShut : Worked O Conn Done Fault → Type 0
-  IsShut (worked.Shut end) = Unit {0}
-  IsShut (worked.DoorFault fault) = ⊥
+  abbrev pub IsDoorShut : Worked O Conn Done Fault → Type 0
+  IsDoorShut (worked.Shut end) = Unit {0}
+  IsDoorShut (worked.DoorFault fault) = ⊥
 
 -- one link: as it was taken, as it was hung up, why, and the turns of its lines
 pub record Visit (Conn : Type 0) : Type 0 where
   pub taken : Conn
   pub left : Conn
   pub why : Served
-  pub turns : List Turn
+  pub turns : List AnsweredLine
 
 -- the turns of all lines, link after link
-abbrev pub turns_of : {Conn : Type 0} → List (Visit Conn) → List Turn
-turns_of [] = []
-turns_of (v ∷ visits) = v.turns ++ turns_of visits
+abbrev pub turns_of_visits : {Conn : Type 0} → List (Visit Conn) → List AnsweredLine
+turns_of_visits [] = []
+turns_of_visits (v ∷ visits) = v.turns ++ turns_of_visits visits
 
 module _ {Conn Lent : Type 0} (source : Conn → SourceState) (sink : Conn → SinkState)
     (lent : Conn → Lent) (Gives : Conn → Type 0) where
@@ -70,7 +70,7 @@ module _ {Conn Lent : Type 0} (source : Conn → SourceState) (sink : Conn → S
     pub given : Gives v.taken
     pub fresh : IsFresh (source v.taken) (sink v.taken)
     pub marks : List Mark
-    pub tells : Tells v.turns (source v.taken) (source v.left) (sink v.taken) (sink v.left) []
+    pub tells : TellsLink v.turns (source v.taken) (source v.left) (sink v.taken) (sink v.left) []
         marks v.why
     pub same : lent v.left ≡ lent v.taken
     pub ends : MayHangUp v.why (source v.left) (sink v.left)
@@ -81,8 +81,8 @@ module _ {Conn Lent : Type 0} (source : Conn → SourceState) (sink : Conn → S
       : Type 0 where
     pub visits : List (Visit Conn)
     pub each : Each IsVisit visits
-    pub chain : Chain host.stories.now host.budget (sound host) (holders old.desks.items)
-        (seens old.desks.items) (turns_of visits) (seens new.desks.items)
+    pub chain : AnswersInOrder host.stories.now host.budget (sound host) (holders old.desks.items)
+        (seens old.desks.items) (turns_of_visits visits) (seens new.desks.items)
     pub kept : AreOf host new
     pub held : holders new.desks.items ≡ holders old.desks.items
 
@@ -91,6 +91,6 @@ module _ {Conn Lent : Type 0} (source : Conn → SourceState) (sink : Conn → S
       (sound : Host D → Type 0) (host : Host D) (old new : Passes D)
       (answer : Worked O Conn Done Fault) : Type 0 where
     pub served : Visits sound host old new
-    pub serves : Serves host.stories.now host.budget (sound host) (holders old.desks.items)
-        (seens old.desks.items) (turns_of served.visits) (seens new.desks.items)
+    pub serves : ServesLines host.stories.now host.budget (sound host) (holders old.desks.items)
+        (seens old.desks.items) (turns_of_visits served.visits) (seens new.desks.items)
     pub ends : IsEndOf Shuts Fails answer

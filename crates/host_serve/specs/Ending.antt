@@ -4,7 +4,7 @@ use Rattle.std.specs.Prelude.{slice_get}
 use Rattle.turn_cell.specs.History.{Continues, IsForeign}
 use Rattle.turn_cell.specs.Passes.{seen, tag_of}
 use Rattle.disk_model.specs.Disk.{EachImage, SameDisk}
-use Rattle.gate_journal.specs.Log.{Log, number_of}
+use Rattle.gate_journal.specs.Log.{Log, entry_number}
 use Rattle.gate_journal.specs.Rows.{commands_of}
 use Rattle.gate_journal.specs.declared.row.Row.{Row}
 use Rattle.snap_store.specs.Store.{Snapshots}
@@ -37,7 +37,7 @@ pub record EndsWith {D : Type 0} (host : Host D) (passes : Passes D) (log : Log 
   pub kept : (s : ℕ) → s < 64 → history_in log.entries s ≡ map unnumbered (seen_at finals s)
   -- it is the journal that the host was opened over, with more entries
   pub opening : tag_of (λ (j : Log D). j.opening) host.root ≡ Some log.opening
-  pub grows : Continues (IsForeign number_of (0 ∷ [])) log.entries (seen host.root)
+  pub grows : Continues (IsForeign entry_number (0 ∷ [])) log.entries (seen host.root)
 
 module _ {D : Type 0} where
   -- a store's disk comes back: it is the one that the store was opened on, and wasn't written past

@@ -4,8 +4,8 @@ use Rattle.std.specs.Prelude.{◌≡◌, ℕ, ◌+◌, ◌<◌, List, [], ◌∷
 use Rattle.std.specs.Prelude.{None, Bool, get_or, slice_get}
 use Rattle.turn_cell.specs.History.{Continues, IsAmong, IsForeign}
 use Rattle.turn_cell.specs.declared.pass.Pass.{Pass}
-use Rattle.turn_cell.specs.Passes.{holds, number, sample, seen}
-use Rattle.gate_journal.specs.Log.{Log, number_of, rows_of}
+use Rattle.turn_cell.specs.Passes.{pass_numbers, pass_number, sample, seen}
+use Rattle.gate_journal.specs.Log.{Log, entry_number, rows_of}
 use Rattle.gate_journal.specs.declared.entry.Entry.{Entry as JournalEntry}
 use Rattle.session_core.specs.declared.entry.Entry.{Entry}
 use Rattle.session_desk.specs.Shared.{DeskTag, unnumbered}
@@ -18,15 +18,15 @@ use Rattle.host_serve.specs.Holders.{Holder, holder_at, seen_at}
 -- has come since
 pub record Heard (s : ℕ) (journal : List JournalEntry) (final : List Entry) : Type 0 where
   pub seen : List JournalEntry
-  pub since : Continues (IsForeign number_of ((s + 1) ∷ [])) journal seen
+  pub since : Continues (IsForeign entry_number ((s + 1) ∷ [])) journal seen
   pub entries : map unnumbered final ≡ history_in seen s
 
 module _ {D : Type 0} where
   -- the root holds these numbers more; what it has seen goes on by entries of others
   pub record KeepsRoot (more : List ℕ) (old new : Pass (Log D) JournalEntry) : Type 0 where
-    pub holds_both : holds new ≡ holds old ++ more
-    pub since : Continues (IsForeign number_of (holds old)) (seen new) (seen old)
-    pub kept : (number new ≡ number old) × (sample new ≡ sample old)
+    pub holds_both : pass_numbers new ≡ pass_numbers old ++ more
+    pub since : Continues (IsForeign entry_number (pass_numbers old)) (seen new) (seen old)
+    pub kept : (pass_number new ≡ pass_number old) × (sample new ≡ sample old)
 
   module _ (tells : D → Bool) (may_leave : D → List ℕ → Type 0) (reads : D → List ℕ)
       (faults reach room label : D → ℕ) where
@@ -36,7 +36,7 @@ module _ {D : Type 0} where
         : Type 0 where
       pub gives : GivesBack tells faults reach room label tag.store back
       pub seen : List JournalEntry
-      pub since : Continues (IsForeign number_of ((s + 1) ∷ [])) journal seen
+      pub since : Continues (IsForeign entry_number ((s + 1) ∷ [])) journal seen
       pub agreed : IsSoundDesk tells reads tag
           → IsAgreedDisk tells may_leave tag.stories (rows_of seen) s back
 
@@ -57,7 +57,7 @@ module _ {D : Type 0} where
       pub ends :
           (s : ℕ) → s < n → EndsAt (holder_at holders s) (seen_at old s) (seen_at finals s)
       pub heard : (s : ℕ) → s < n → Heard s (seen root) (seen_at finals s)
-      pub held : (s : ℕ) → s < n → IsAmong (s + 1) (holds root)
+      pub held : (s : ℕ) → s < n → IsAmong (s + 1) (pass_numbers root)
       pub grows : (rest : List ℕ) × KeepsRoot rest first root
       pub disks : length backs ≡ n
       pub returns :

@@ -1,7 +1,7 @@
 -- What the passes of all sessions know, session by session (own).
 use Rattle.std.specs.Prelude.{◌≡◌, ℕ, List, [], map, get_or}
 use Rattle.turn_cell.specs.declared.pass.Pass.{Pass}
-use Rattle.turn_cell.specs.Passes.{number, made, holds, seen}
+use Rattle.turn_cell.specs.Passes.{pass_number, made, pass_numbers, seen}
 use Rattle.session_core.specs.declared.entry.Entry.{Entry}
 
 -- who holds a session's pass: its number, how many were split from it, the numbers that it holds
@@ -28,7 +28,7 @@ seen_at seens s = get_or seens s []
 
 module _ {T E : Type 0} where
   abbrev pub holder_of : Pass T E → Holder
-  holder_of p = record { number = number p; made = made p; holds = holds p }
+  holder_of p = record { number = pass_number p; made = made p; holds = pass_numbers p }
 
   -- the holders of all sessions' passes
   abbrev pub holders : List (Pass T E) → List Holder

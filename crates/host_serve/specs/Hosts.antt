@@ -6,7 +6,7 @@ use Rattle.atomic_table.specs.Seated.{TableId}
 use Rattle.turn_cell.specs.History.{Each}
 use Rattle.turn_cell.specs.declared.cell.Cell.{Cell}
 use Rattle.turn_cell.specs.declared.pass.Pass.{Pass}
-use Rattle.turn_cell.specs.Passes.{IsOf, IsOutside, number, holds, seen, tag_of}
+use Rattle.turn_cell.specs.Passes.{IsOf, IsOutside, pass_number, pass_numbers, seen, tag_of}
 use Rattle.gate_journal.specs.Command.{IsBudget}
 use Rattle.gate_journal.specs.Log.{rows_of}
 use Rattle.gate_journal.specs.declared.row.Row.{Row}
@@ -58,8 +58,8 @@ module _ {D : Type 0} (stories : List Story) (budget : ℕ) (journal : TableId) 
 
 module _ {D : Type 0} where
   -- the stores of the sessions, as they were opened
-  abbrev pub stores_of : Host D → List (Snapshots D)
-  stores_of host = host.opened.value.items
+  abbrev pub opened_stores : Host D → List (Snapshots D)
+  opened_stores host = host.opened.value.items
 
   -- the journal's rows as the host was opened
   abbrev pub rows_at_opening : Host D → List Row
@@ -68,23 +68,23 @@ module _ {D : Type 0} where
   -- the tags of its desks
   abbrev pub tags_in : Host D → List (Option (DeskTag D))
   tags_in host = tags_from host.stories.now host.budget (cell_id host.journal)
-      (rows_at_opening host) 0 (stores_of host)
+      (rows_at_opening host) 0 (opened_stores host)
 
   -- the tag is that of the desk of this session
   abbrev pub IsTagOf : Host D → ℕ → Option (DeskTag D) → Type 0
   IsTagOf host s tag = (store : Snapshots D)
-      × (slice_get (stores_of host) s ≡ Some store)
+      × (slice_get (opened_stores host) s ≡ Some store)
       × (tag ≡ Some (tag_at host.stories.now host.budget (cell_id host.journal)
       (rows_at_opening host) s store))
 
   -- what holds of each host
   pub record IsHost (host : Host D) : Type 0 where
     pub many : length host.desks.items ≡ 64
-    pub stores : length (stores_of host) ≡ 64
+    pub stores : length (opened_stores host) ≡ 64
     pub budget : IsBudget host.budget
     -- the root of the journal's cell, from which the desks' passes were split
     pub root : IsOf host.journal host.root × IsOutside host.root
-    pub numbered : (number host.root ≡ 0) × (holds host.root ≡ 0 ∷ [])
+    pub numbered : (pass_number host.root ≡ 0) × (pass_numbers host.root ≡ 0 ∷ [])
     -- room for the stores' disks
     pub room : (host.room.items ≡ []) × (64 ≤ vec_capacity host.room)
 
@@ -97,6 +97,6 @@ module _ {D : Type 0} where
   -- agreed with the journal's rows.
   abbrev pub IsSound : (D → Bool) → (D → List ℕ) → Host D → Type 0
   IsSound tells reads host =
-      (s : ℕ) (store : Snapshots D) → slice_get (stores_of host) s ≡ Some store
+      (s : ℕ) (store : Snapshots D) → slice_get (opened_stores host) s ≡ Some store
       → IsSoundDesk tells reads (tag_at host.stories.now host.budget (cell_id host.journal)
       (rows_at_opening host) s store)

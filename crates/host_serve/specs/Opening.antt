@@ -5,13 +5,13 @@ use Rattle.turn_cell.specs.declared.cell.Cell.{Cell}
 use Rattle.turn_cell.specs.declared.pass.Pass.{Pass}
 use Rattle.turn_cell.specs.Passes.{IsOf, IsOutside, seen, tag_of}
 use Rattle.disk_model.specs.Disk.{OnlyLooks}
-use Rattle.gate_journal.specs.Log.{Log, Opening, kept}
+use Rattle.gate_journal.specs.Log.{Log, Opening, rows_kept}
 use Rattle.gate_journal.specs.Rows.{commands_of}
 use Rattle.gate_journal.specs.declared.fault.JournalFault.{JournalFault}
 use Rattle.gate_journal.specs.declared.row.Row.{Row}
 use Rattle.snap_store.specs.File.{openable_area}
-use Rattle.snap_store.specs.Frames.{IsFault}
-use Rattle.snap_store.specs.Store.{Snapshots, area_of}
+use Rattle.snap_store.specs.Frames.{IsFaultOfDisk}
+use Rattle.snap_store.specs.Store.{Snapshots, store_area}
 use Rattle.snap_store.specs.declared.fault.DiskFault.{DiskFault as StoreFault}
 use Rattle.snap_store.specs.declared.side.Side.{Side}
 use Rattle.story_run.specs.declared.story.Story.{Story}
@@ -36,8 +36,8 @@ abbrev pub roots : List Holder
 roots = map (λ (s : ℕ). lone) (sessions_below 64)
 
 -- the histories of the 64 sessions that these rows give
-abbrev pub histories_of : List Row → List (List Entry)
-histories_of rows = map (history_in (kept rows)) (sessions_below 64)
+abbrev pub histories_in_rows : List Row → List (List Entry)
+histories_in_rows rows = map (history_in (rows_kept rows)) (sessions_below 64)
 
 module _ {D : Type 0} (stories : List Story) (budget : ℕ) (journal : TableId) (rows : List Row)
   where
@@ -48,7 +48,7 @@ module _ {D : Type 0} (stories : List Story) (budget : ℕ) (journal : TableId) 
       pub outside : IsOutside p
       pub tagged : tag_of desk_tag p ≡ Some (tag_at stories budget journal rows s store)
       pub root : holder_of p ≡ lone
-      pub history : seen p ≡ history_in (kept rows) s
+      pub history : seen p ≡ history_in (rows_kept rows) s
 
     -- the same of the first sessions, whose stores are these
     pub record AreOpenedDesks (stores : List (Snapshots D))
@@ -58,18 +58,18 @@ module _ {D : Type 0} (stories : List Story) (budget : ℕ) (journal : TableId) 
       pub each : ArePasses desk_tag (tags_from stories budget journal rows 0 stores) cells passes
       pub roots : holders passes ≡ map (λ (s : ℕ). lone) (sessions_below (length stores))
       pub histories :
-          seens passes ≡ map (history_in (kept rows)) (sessions_below (length stores))
+          seens passes ≡ map (history_in (rows_kept rows)) (sessions_below (length stores))
 
 -- the host over these stories, of a journal with these rows that was opened so
-pub record IsOpened {D : Type 0} (given : List Story) (ticks : ℕ) (rows : List Row)
+pub record IsOpenedHost {D : Type 0} (given : List Story) (ticks : ℕ) (rows : List Row)
     (opening : Opening D) (host : Host D) (passes : Passes D) : Type 0 where
   pub of : AreOf host passes
   pub stories : host.stories.now ≡ given
   pub budget : host.budget ≡ ticks
   pub root : tag_of (λ (j : Log D). j.opening) host.root ≡ Some opening
-  pub begins : seen host.root ≡ kept rows
+  pub begins : seen host.root ≡ rows_kept rows
   pub alone : holders passes.desks.items ≡ roots
-  pub histories : seens passes.desks.items ≡ histories_of rows
+  pub histories : seens passes.desks.items ≡ histories_in_rows rows
 
 module _ {D : Type 0} where
   -- what holds of a journal's disk that comes back
@@ -105,7 +105,7 @@ module _ {D : Type 0} where
       pub record IsStoreOf (disk : D) (store : Snapshots D) : Type 0 where
         pub areas :
             IsTrue (tells disk) → (side : Side)
-            → area_of reads store side ≡ openable_area side (reads disk)
+            → store_area reads store side ≡ openable_area side (reads disk)
         pub counts : faults store.disk ≡ faults disk
         pub kept :
             OnlyLooks tells may_leave moment left_since reach room label disk store.disk
@@ -115,5 +115,5 @@ module _ {D : Type 0} where
           : Type 0 where
         pub disk : D
         pub given : slice_get disks session ≡ Some disk
-        pub cause : IsFault (faults disk) (faults back) fault
+        pub cause : IsFaultOfDisk (faults disk) (faults back) fault
         pub kept : OnlyLooks tells may_leave moment left_since reach room label disk back

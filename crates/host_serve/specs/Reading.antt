@@ -9,7 +9,7 @@ use Rattle.session_core.specs.Sessions.{with_budget}
 use Rattle.session_desk.specs.Commit.{IsInRange}
 
 -- the request of a line, with the host's budget, whose command a journal may keep
-pub record IsReadAs (budget : ℕ) (line : List ℕ) (request : Request) : Type 0 where
+pub record LineIsReadAs (budget : ℕ) (line : List ℕ) (request : Request) : Type 0 where
   pub given : Request
   pub spelled : request_of line ≡ Some given
   pub budgeted : request ≡ with_budget budget given

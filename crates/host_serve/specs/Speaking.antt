@@ -11,7 +11,7 @@ use Rattle.host_serve.specs.declared.host.Host.{Host}
 use Rattle.host_serve.specs.declared.mark.Mark.{Mark}
 use Rattle.host_serve.specs.Chain.{Answers}
 use Rattle.host_serve.specs.Holders.{Holder}
-use Rattle.host_serve.specs.Serves.{Turn}
+use Rattle.host_serve.specs.Serves.{AnsweredLine}
 
 -- the host, who holds its passes, what these have seen, and the marks so far
 pub record Speaking (D : Type 0) : Type 0 where
@@ -21,7 +21,7 @@ pub record Speaking (D : Type 0) : Type 0 where
   pub marks : List Mark
 
 -- a turn of this line
-abbrev pub turn_with : List ℕ → Option WorldState → Outcome → Mark → Reply → Turn
+abbrev pub turn_with : List ℕ → Option WorldState → Outcome → Mark → Reply → AnsweredLine
 turn_with line world outcome mark reply =
     record { line = line; world = world; outcome = outcome; mark = mark; reply = reply }
 

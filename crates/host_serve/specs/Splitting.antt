@@ -3,7 +3,7 @@ use Rattle.std.specs.Prelude.{◌≡◌, ◌≢◌, ℕ, ◌+◌, ◌≤◌, Lis
 use Rattle.turn_cell.specs.History.{Each}
 use Rattle.turn_cell.specs.declared.cell.Cell.{Cell}
 use Rattle.turn_cell.specs.declared.pass.Pass.{Pass}
-use Rattle.turn_cell.specs.Passes.{IsOutside, number, sample}
+use Rattle.turn_cell.specs.Passes.{IsOutside, pass_number, sample}
 use Rattle.host_serve.specs.Holders.{Holder, holders, seens}
 use Rattle.host_serve.specs.Hosts.{cell_id, pass_id}
 
@@ -20,8 +20,8 @@ abbrev pub newest_of : Holder → Holder
 newest_of h = record { number = h.made; made = 0; holds = h.made ∷ [] }
 
 -- who holds a root once the pass that was split off last was joined into it
-abbrev pub with_newest : Holder → Holder
-with_newest h = record { number = h.number; made = h.made; holds = h.holds ++ h.made ∷ [] }
+abbrev pub with_newest_pass : Holder → Holder
+with_newest_pass h = record { number = h.number; made = h.made; holds = h.holds ++ h.made ∷ [] }
 
 -- holders of whom the first so many have become others
 abbrev pub first_by : (Holder → Holder) → ℕ → List Holder → List Holder
@@ -36,6 +36,6 @@ module _ {T E : Type 0} where
     pub same : map pass_id newest ≡ take n (map cell_id cells)
     pub outside : Each IsOutside newest
     pub sampled : map sample newest ≡ take n (map sample roots)
-    pub numbered : Each (λ (p : Pass T E). number p ≢ 0) newest
+    pub numbered : Each (λ (p : Pass T E). pass_number p ≢ 0) newest
     pub who : holders newest ≡ take n (map newest_of (holders roots))
     pub heard : seens newest ≡ take n (seens roots)

@@ -1,6 +1,6 @@
 -- What a call tells of the lines that it answered (own).
 use Rattle.std.specs.Prelude.{◌≡◌, ◌⊎◌, ℕ, ◌^◌, ◌≤◌, List, ◌∷◌, [], ◌++◌, length, map, Option}
-use Rattle.line_talk.specs.Conversation.{joined}
+use Rattle.line_talk.specs.Conversation.{texts_joined}
 use Rattle.line_talk.specs.Lines.{lines, talk, IsWithinLimits, ReachesLimit}
 use Rattle.line_talk.specs.Streams.{SourceState, SinkState, Gave, Wrote}
 use Rattle.line_talk.specs.Talked.{AreFirst, IsReadToEnd}
@@ -15,11 +15,11 @@ use Rattle.host_serve.specs.declared.mark.Mark.{Mark}
 use Rattle.host_serve.specs.declared.served.Served.{Served}
 use Rattle.host_serve.specs.declared.served.Served.TheVariants.{End, ReadFault, WriteFault}
 use Rattle.host_serve.specs.declared.served.Served.TheVariants.{LineLimit, NoMemory}
-use Rattle.host_serve.specs.Serves.{Turn}
+use Rattle.host_serve.specs.Serves.{AnsweredLine}
 use Rattle.host_serve.specs.Speaking.{turn_with}
 
 -- the turn of a line with this answer, in this world
-abbrev pub turn_from : List ℕ → Option WorldState → Answer → Turn
+abbrev pub turn_from : List ℕ → Option WorldState → Answer → AnsweredLine
 turn_from line world answer = turn_with line world answer.outcome answer.mark answer.reply
 
 -- how a call ends, by how its conversation ended
@@ -45,25 +45,25 @@ pub record IsCutText (written : List ℕ) (replies : List Reply) : Type 0 where
   pub part : List ℕ
   pub all : replies ≡ before ++ last ∷ []
   pub begins : IsPartOf part (print_reply last)
-  pub text : written ≡ joined (map print_reply before) ++ part
+  pub text : written ≡ texts_joined (map print_reply before) ++ part
 
 -- what is written of the replies to the answered lines, by how the call ended
 abbrev pub WritesReplies : Served → List ℕ → List Reply → Type 0
-WritesReplies End written replies = written ≡ joined (map print_reply replies)
-WritesReplies ReadFault written replies = written ≡ joined (map print_reply replies)
+WritesReplies End written replies = written ≡ texts_joined (map print_reply replies)
+WritesReplies ReadFault written replies = written ≡ texts_joined (map print_reply replies)
 WritesReplies WriteFault written replies = IsCutText written replies
-WritesReplies LineLimit written replies = written ≡ joined (map print_reply replies)
+WritesReplies LineLimit written replies = written ≡ texts_joined (map print_reply replies)
 WritesReplies NoMemory written replies =
-    IsCutText written replies ⊎ (written ≡ joined (map print_reply replies))
+    IsCutText written replies ⊎ (written ≡ texts_joined (map print_reply replies))
 
 -- what was read, which lines of it had these turns, what was written, and the marks
-pub record Tells (turns : List Turn) (input now : SourceState) (output new : SinkState)
+pub record TellsLink (turns : List AnsweredLine) (input now : SourceState) (output new : SinkState)
     (old_marks new_marks : List Mark) (served : Served) : Type 0 where
   pub read : List ℕ
   pub written : List ℕ
   pub gave : Gave input now read
   pub within : length read ≤ 2 ^ 31
-  pub lines : AnsweredOf served read now (map (λ (t : Turn). t.line) turns)
+  pub lines : AnsweredOf served read now (map (λ (t : AnsweredLine). t.line) turns)
   pub wrote : Wrote output new written
-  pub replies : WritesReplies served written (map (λ (t : Turn). t.reply) turns)
-  pub marks : new_marks ≡ old_marks ++ map (λ (t : Turn). t.mark) turns
+  pub replies : WritesReplies served written (map (λ (t : AnsweredLine). t.reply) turns)
+  pub marks : new_marks ≡ old_marks ++ map (λ (t : AnsweredLine). t.mark) turns

@@ -5,7 +5,7 @@ ghost use Rattle.session_core.specs.Checks.{session_of};
 ghost use Rattle.session_core.specs.declared.entry.Entry.{Entry};
 ghost use Rattle.story_run.specs.declared.story.Story.{Story};
 ghost use Rattle.host_serve.specs.Chain.{TurnsOnNone};
-ghost use Rattle.host_serve.specs.Reading.{IsReadAs, IsUnread};
+ghost use Rattle.host_serve.specs.Reading.{LineIsReadAs, IsUnread};
 ghost use Rattle.host_serve.specs.Told.{turn_from};
 
 use crate::mark::Mark;
@@ -47,7 +47,7 @@ pub fn to_unread(_line: &[u8], why: No) -> Answer
 pub fn to_absent(_line: &[u8], _request: &Request) -> Answer
     requires { 64 ≤ session_of _request.now }
     ensures { (stories : List Story) (budget : ℕ) (seen : List (List Entry))
-        → IsReadAs budget _line.now _request.now
+        → LineIsReadAs budget _line.now _request.now
         → TurnsOnNone stories budget seen (turn_from _line.now None result) seen }
 {
     Answer {

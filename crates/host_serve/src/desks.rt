@@ -2,8 +2,8 @@
 ghost use Rattle.std.specs.Prelude.{◌≡◌, ◌+◌, ◌<◌, ◌≤◌, [], IfOk, IfErr, OnOk, length};
 ghost use Rattle.std.specs.Prelude.{vec_capacity};
 ghost use Rattle.std.specs.List.{AllZip};
-ghost use Rattle.turn_cell.specs.Passes.{IsOf, IsOutside, KeepsNumbers, made, number, seen};
-ghost use Rattle.gate_journal.specs.Log.{kept, rows_of};
+ghost use Rattle.turn_cell.specs.Passes.{IsOf, IsOutside, KeepsNumbers, made, pass_number, seen};
+ghost use Rattle.gate_journal.specs.Log.{rows_kept, rows_of};
 ghost use Rattle.gate_journal.specs.Rows.{IsJournal};
 ghost use Rattle.host_serve.specs.Hosts.{cell_id};
 ghost use Rattle.host_serve.specs.Opening.{AreOpenedDesks, IsOfStores, IsOpenedDesk, IsRefused};
@@ -83,8 +83,8 @@ fn open_desk<'i, D: Disk + Drop>(
 ) -> Result<(Cell<SharedDesk<'i, D>>, Pass<SharedDesk<'i, D>>), AllocError>
     requires session { session < 64 }
     requires cell { IsOf journal.now root.old × IsOutside root.old }
-    requires root { (number root.old ≡ 0) × (made root.old ≡ session) }
-    requires rows { (seen root.old ≡ kept rows.now) × IsJournal rows.now }
+    requires root { (pass_number root.old ≡ 0) × (made root.old ≡ session) }
+    requires rows { (seen root.old ≡ rows_kept rows.now) × IsJournal rows.now }
     ensures ok { IfOk result (λ pair. IsOpenedDesk stories.now budget (cell_id journal.now)
         rows.now session store pair.0 pair.1 × (made root.new ≡ session + 1)) }
     ensures kept { IsOf journal.now root.new × IsOutside root.new
@@ -108,8 +108,8 @@ pub fn open_desks<'i, D: Disk + Drop>(
 ) -> Result<(Vec<Cell<SharedDesk<'i, D>>>, Vec<Pass<SharedDesk<'i, D>>>), AllocError>
     requires many { length stores.items ≡ 64 }
     requires cell { IsOf journal.now root.old × IsOutside root.old }
-    requires root { (number root.old ≡ 0) × (made root.old ≡ 0) }
-    requires rows { (seen root.old ≡ kept rows.now) × IsJournal rows.now }
+    requires root { (pass_number root.old ≡ 0) × (made root.old ≡ 0) }
+    requires rows { (seen root.old ≡ rows_kept rows.now) × IsJournal rows.now }
     ensures ok { IfOk result (λ pair. AreOpenedDesks stories.now budget (cell_id journal.now)
         rows.now stores.items pair.0.items pair.1.items) }
     ensures kept { IsOf journal.now root.new × IsOutside root.new

@@ -13,7 +13,7 @@ ghost use Rattle.turn_cell.specs.Passes.{IsOf, IsOutside, seen, tag_of};
 ghost use Rattle.host_serve.specs.Ending.{AreAgreedDisks, EndsWith, GivesBack};
 ghost use Rattle.host_serve.specs.Gathering.{BringsIn, Gathers, KeepsRoot};
 ghost use Rattle.host_serve.specs.Holders.{holder_of, holders, seens};
-ghost use Rattle.host_serve.specs.Hosts.{AreOf, ArePasses, IsSound, cell_id, stores_of, tag_at};
+ghost use Rattle.host_serve.specs.Hosts.{AreOf, ArePasses, IsSound, cell_id, opened_stores, tag_at};
 ghost use Rattle.host_serve.specs.Hosts.{tags_from};
 
 use crate::desks::SESSIONS;
@@ -93,7 +93,7 @@ impl<'i, D: Disk + Drop> Host<'i, D> {
             × (IsSound D.tells D.seen self.entry → AreAgreedDisks D.tells D.may_leave
             self.entry.stories.now (rows_of log.entries) result.1.items) }
         ensures stores { AllZip (GivesBack D.tells D.faults D.reach D.room D.label)
-            (stores_of self.entry) result.1.items }
+            (opened_stores self.entry) result.1.items }
     {
         let Host {
             journal,

@@ -5,11 +5,12 @@ ghost use Rattle.std.specs.List.{AllZip};
 ghost use Rattle.disk_model.specs.Disk.{EachImage, LeavesOnly, OnlyLooks, SameDisk};
 ghost use Rattle.gate_journal.specs.Command.{IsBudget};
 ghost use Rattle.gate_journal.specs.Faults.{Explains, HasCause, IsNoFault};
-ghost use Rattle.gate_journal.specs.Log.{MayOpen, ReachesGate, kept, rows_of};
+ghost use Rattle.gate_journal.specs.Log.{MayOpen, ReachesGate, rows_kept, rows_of};
 ghost use Rattle.gate_journal.specs.Rows.{IsJournal, SpellsRows};
 ghost use Rattle.gate_journal.specs.declared.row.Row.{Row};
-ghost use Rattle.host_serve.specs.Hosts.{IsSound, rows_at_opening, stores_of};
-ghost use Rattle.host_serve.specs.Opening.{AreAgreed, IsOpened, IsRefused, IsStoreOf, OnJournal};
+ghost use Rattle.host_serve.specs.Hosts.{IsSound, rows_at_opening, opened_stores};
+ghost use Rattle.host_serve.specs.Opening.{AreAgreed, IsOpenedHost, IsRefused, IsStoreOf};
+ghost use Rattle.host_serve.specs.Opening.{OnJournal};
 ghost use Rattle.host_serve.specs.Opening.{OnStore};
 
 use crate::desks::{open_desks, open_stores, rows_copied};
@@ -35,11 +36,11 @@ fn open_over<'i, D: Disk + Drop>(
     requires budget { IsBudget budget }
     requires many { length stores.items ≡ 64 }
     requires room { (room.items ≡ []) × (64 ≤ vec_capacity room) }
-    requires fresh { journal.entries ≡ kept (rows_of journal.entries) }
-    ensures ok { IfOk result (λ pair. IsOpened stories.now budget (rows_of journal.entries)
+    requires fresh { journal.entries ≡ rows_kept (rows_of journal.entries) }
+    ensures ok { IfOk result (λ pair. IsOpenedHost stories.now budget (rows_of journal.entries)
         journal.opening pair.0 pair.1) }
     ensures journal { IfOk result (λ _. IsJournal (rows_of journal.entries)) }
-    ensures stores { IfOk result (λ pair. stores_of pair.0 ≡ stores.items) }
+    ensures stores { IfOk result (λ pair. opened_stores pair.0 ≡ stores.items) }
 {
     let rows = rows_copied(alloc, &journal)?;
     let (cell, mut root) = Cell::new(alloc, journal)?;
@@ -78,11 +79,11 @@ impl<'i, D: Disk + Drop> Host<'i, D> {
 
         ensures ok { IfOk result (λ pair. (rows : List Row) × IsJournal rows
             × (IsTrue (D.tells journal) → SpellsRows (D.seen journal) rows)
-            × IsOpened stories.now budget rows (record { disk = journal; found = length rows })
+            × IsOpenedHost stories.now budget rows (record { disk = journal; found = length rows })
             pair.0 pair.1) }
         ensures stores { IfOk result (λ pair. AllZip (IsStoreOf D.tells D.may_leave D.seen
             D.moment D.left_since D.faults D.reach D.room D.label) snaps.items
-            (stores_of pair.0)) }
+            (opened_stores pair.0)) }
         ensures sound { IfOk result (λ pair.
             AreAgreed D.tells D.seen stories.now (rows_at_opening pair.0) snaps.items
             → IsSound D.tells D.seen pair.0) }

@@ -1,5 +1,5 @@
 //! Moments of a host at which a test may hold a thread (own).
-ghost use Rattle.turn_cell.specs.Passes.{IsInside};
+ghost use Rattle.turn_cell.specs.Passes.{IsInTurn};
 
 use turn_cell::{Pass, Told};
 
@@ -7,7 +7,7 @@ use turn_cell::{Pass, Told};
 pub trait Pause: Sync {
     /// The session's turn is this pass's, and the reply is known.
     fn in_turn<T: Told>(&self, session: u8, pass: &Pass<T>)
-        requires inside { IsInside pass.now };
+        requires inside { IsInTurn pass.now };
 
     /// The reply is about to be written on the link of this number.
     fn before_reply(&self, link: u32);
@@ -26,7 +26,7 @@ impl Pause for NoPause {
 /// The same, as the one thread sees it that it holds.
 pub(crate) trait Moments {
     fn in_turn<T: Told>(&self, session: u8, pass: &Pass<T>)
-        requires inside { IsInside pass.now };
+        requires inside { IsInTurn pass.now };
 
     fn before_reply(&self, link: u32);
 }

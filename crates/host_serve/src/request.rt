@@ -4,7 +4,7 @@ ghost use Rattle.story_run.specs.World.{WorldState};
 ghost use Rattle.host_serve.specs.Chain.{Answers};
 ghost use Rattle.host_serve.specs.Holders.{holders, seens};
 ghost use Rattle.host_serve.specs.Hosts.{AreOf, IsSound};
-ghost use Rattle.host_serve.specs.Serves.{IsExact, Turn};
+ghost use Rattle.host_serve.specs.Serves.{IsExact, AnsweredLine};
 ghost use Rattle.host_serve.specs.Told.{turn_from};
 
 use crate::answer::{Answer, to_absent, to_unread};
@@ -66,7 +66,7 @@ impl<'i, D: Disk + Drop> Host<'i, D> {
         line: &[u8],
     ) -> Reply
         requires passes { AreOf self.now passes.old }
-        ensures value { (turn : Turn) × (turn.line ≡ line.now) × (turn.reply ≡ result)
+        ensures value { (turn : AnsweredLine) × (turn.line ≡ line.now) × (turn.reply ≡ result)
             × Answers self.now.stories.now self.now.budget (IsSound D.tells D.seen self.now)
             (holders passes.old.desks.items) (seens passes.old.desks.items) turn
             (seens passes.new.desks.items)

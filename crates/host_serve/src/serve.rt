@@ -1,11 +1,11 @@
 //! The lines of one link (own).
 ghost use Rattle.std.specs.Prelude.{◌≡◌, List};
 ghost use Rattle.line_talk.specs.Causes.{Rose};
-ghost use Rattle.host_serve.specs.Chain.{Chain};
+ghost use Rattle.host_serve.specs.Chain.{AnswersInOrder};
 ghost use Rattle.host_serve.specs.Holders.{holders, seens};
 ghost use Rattle.host_serve.specs.Hosts.{AreOf, IsSound};
-ghost use Rattle.host_serve.specs.Serves.{Serves, Turn};
-ghost use Rattle.host_serve.specs.Told.{Tells};
+ghost use Rattle.host_serve.specs.Serves.{ServesLines, AnsweredLine};
+ghost use Rattle.host_serve.specs.Told.{TellsLink};
 
 use crate::host::{Host, Passes};
 use crate::mark::Mark;
@@ -34,13 +34,13 @@ impl<'i, D: Disk + Drop> Host<'i, D> {
         marks: &mut Vec<Mark>,
     ) -> Served
         requires passes { AreOf self.now passes.old }
-        ensures value { (turns : List Turn)
-            × Tells turns (L.source link.old) (L.source link.new) (L.sink link.old)
+        ensures value { (turns : List AnsweredLine)
+            × TellsLink turns (L.source link.old) (L.source link.new) (L.sink link.old)
             (L.sink link.new) marks.old.items marks.new.items result
-            × Chain self.now.stories.now self.now.budget (IsSound D.tells D.seen self.now)
+            × AnswersInOrder self.now.stories.now self.now.budget (IsSound D.tells D.seen self.now)
             (holders passes.old.desks.items) (seens passes.old.desks.items) turns
             (seens passes.new.desks.items)
-            × Serves self.now.stories.now self.now.budget (IsSound D.tells D.seen self.now)
+            × ServesLines self.now.stories.now self.now.budget (IsSound D.tells D.seen self.now)
             (holders passes.old.desks.items) (seens passes.old.desks.items) turns
             (seens passes.new.desks.items) }
         ensures end { ¬ (result ≡ Served.End)
@@ -68,13 +68,13 @@ impl<'i, D: Disk + Drop> Host<'i, D> {
         marks: &mut Vec<Mark>,
     ) -> Served
         requires passes { AreOf self.now passes.old }
-        ensures value { (turns : List Turn)
-            × Tells turns (L.source link.old) (L.source link.new) (L.sink link.old)
+        ensures value { (turns : List AnsweredLine)
+            × TellsLink turns (L.source link.old) (L.source link.new) (L.sink link.old)
             (L.sink link.new) marks.old.items marks.new.items result
-            × Chain self.now.stories.now self.now.budget (IsSound D.tells D.seen self.now)
+            × AnswersInOrder self.now.stories.now self.now.budget (IsSound D.tells D.seen self.now)
             (holders passes.old.desks.items) (seens passes.old.desks.items) turns
             (seens passes.new.desks.items)
-            × Serves self.now.stories.now self.now.budget (IsSound D.tells D.seen self.now)
+            × ServesLines self.now.stories.now self.now.budget (IsSound D.tells D.seen self.now)
             (holders passes.old.desks.items) (seens passes.old.desks.items) turns
             (seens passes.new.desks.items) }
         ensures end { ¬ (result ≡ Served.End)

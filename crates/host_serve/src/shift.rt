@@ -23,7 +23,7 @@ pub struct Shift<'a, 'i, D: Disk, R, O, P> {
 // A method of a trait can't call a function that asks for `Sync`, so a worker is one function.
 impl<'a, 'i, D: Disk + Drop, R: Wait, O: Door, P: Moments> Crew<Passes<'i, D>, Worked<O>>
     for Shift<'a, 'i, D, R, O, P> {
-    ghost use Rattle.host_serve.specs.Doors.{IsShut, Works};
+    ghost use Rattle.host_serve.specs.Doors.{IsDoorShut, Works};
     ghost use Rattle.host_serve.specs.Hosts.{AreOf, IsSound};
 
     ghost ready = { λ s passes. AreOf s.host.now passes };
@@ -32,7 +32,7 @@ impl<'a, 'i, D: Disk + Drop, R: Wait, O: Door, P: Moments> Crew<Passes<'i, D>, W
         (O.gives s.door.now) (O.shuts s.door.now) (O.fails s.door.now) (IsSound D.tells D.seen)
         s.host.now old new answer };
 
-    ghost is_end = { IsShut };
+    ghost is_end = { IsDoorShut };
 
     /// Serves links of the door, one after the other, until it is shut or fails.
     fn run(&self, passes: &mut Passes<'i, D>) -> Worked<O> {

@@ -5,7 +5,7 @@ ghost use Rattle.session_desk.specs.Shared.{desk_tag};
 ghost use Rattle.host_serve.specs.Holders.{Holder, holders, seens};
 ghost use Rattle.host_serve.specs.Hosts.{AreOf, ArePasses};
 ghost use Rattle.host_serve.specs.Splitting.{AreNewest, AreRoots, after_split, first_by};
-ghost use Rattle.host_serve.specs.Splitting.{newest_of, with_newest};
+ghost use Rattle.host_serve.specs.Splitting.{newest_of, with_newest_pass};
 
 use crate::desks::SESSIONS;
 use crate::host::{Host, Passes};
@@ -23,7 +23,7 @@ fn join_again<'i, D: Disk + Drop>(
     requires roots { ArePasses desk_tag (map (tag_of desk_tag) roots.old) cells.now roots.old }
     requires newest { AreNewest (length newest.items) cells.now roots.old newest.items }
     ensures holders { holders roots.new
-        ≡ first_by with_newest (length newest.entry.items) (holders roots.old) }
+        ≡ first_by with_newest_pass (length newest.entry.items) (holders roots.old) }
     ensures seen { seens roots.new ≡ seens roots.old }
     ensures kept { ArePasses desk_tag (map (tag_of desk_tag) roots.old) cells.now roots.new }
 {
@@ -47,7 +47,7 @@ impl<'i, D: Disk + Drop> Passes<'i, D> {
             × (holders self.new.desks.items ≡ map after_split (holders self.old.desks.items))) }
         ensures err { IfErr result (λ _. (many : ℕ) × (many ≤ 64)
             × (holders self.new.desks.items
-            ≡ first_by (λ (h : Holder). with_newest (after_split h)) many
+            ≡ first_by (λ (h : Holder). with_newest_pass (after_split h)) many
             (holders self.old.desks.items))) }
         ensures kept { AreOf host.now self.new }
         ensures seen { seens self.new.desks.items ≡ seens self.old.desks.items }

@@ -4,7 +4,7 @@ ghost use Rattle.turn_cell.specs.Passes.{IsOf, IsOutside, KeepsNumbers, made, se
 ghost use Rattle.story_run.specs.World.{WorldState};
 ghost use Rattle.session_core.specs.Checks.{session_of};
 ghost use Rattle.session_desk.specs.Shared.{desk_tag};
-ghost use Rattle.host_serve.specs.Reading.{IsReadAs};
+ghost use Rattle.host_serve.specs.Reading.{LineIsReadAs};
 ghost use Rattle.host_serve.specs.Holders.{holder_of};
 ghost use Rattle.host_serve.specs.Hosts.{IsSound, IsTagOf};
 ghost use Rattle.host_serve.specs.Told.{turn_from};
@@ -36,7 +36,7 @@ pub fn turn_in<'i, D: Disk + Drop, R: Wait, P: Moments>(
     requires cell { IsOf cell.now pass.old × IsOutside pass.old }
     requires session { session_of request.now < 64 }
     requires tag { IsTagOf host.now (session_of request.now) (tag_of desk_tag pass.old) }
-    requires read { IsReadAs host.now.budget _line.now request.now }
+    requires read { LineIsReadAs host.now.budget _line.now request.now }
     ensures value { (world : Option WorldState)
         × TurnsIn host.now.stories.now host.now.budget (IsSound D.tells D.seen host.now)
         (holder_of pass.old) (seen pass.old) (turn_from _line.now world result) (seen pass.new) }

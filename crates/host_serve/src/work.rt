@@ -2,7 +2,7 @@
 ghost use Rattle.std.specs.Prelude.{◌<◌, ◌≤◌, length};
 ghost use Rattle.turn_cell.specs.History.{Each};
 ghost use Rattle.host_serve.specs.Crews.{AllDid};
-ghost use Rattle.host_serve.specs.Doors.{IsShut, Works};
+ghost use Rattle.host_serve.specs.Doors.{IsDoorShut, Works};
 ghost use Rattle.host_serve.specs.Hosts.{AreOf, IsSound};
 
 use crate::crew::all_run;
@@ -31,7 +31,7 @@ impl<'i, D: Disk + Drop + Send + Sync> Host<'i, D> {
         requires workers { (0 < length workers.old) × (length workers.old ≤ 16) }
         requires passes { Each (AreOf self.now) workers.old }
         ensures { AllDid (Works O.Conn.source O.Conn.sink O.Conn.lent (O.gives door.now)
-            (O.shuts door.now) (O.fails door.now) (IsSound D.tells D.seen) self.now) IsShut
+            (O.shuts door.now) (O.fails door.now) (IsSound D.tells D.seen) self.now) IsDoorShut
             workers.old workers.new result }
     {
         let shift = Shift {

@@ -17,7 +17,7 @@ use Rattle.host_top.specs.Begun.{TriesStores, Unmade}
 use Rattle.host_top.specs.Borrowed.{AreNamed, Borrowed, CountsFaults, IsOther, Lending}
 use Rattle.host_top.specs.Borrowed.{NotLent, journal_in, loan_by, snap_in, snaps_below}
 use Rattle.host_top.specs.DiskWords.{DiskWords}
-use Rattle.host_top.specs.Files.{IsLent, IsLentFrom, Lends, OutsideState, TakesBack}
+use Rattle.host_top.specs.Files.{IsLent, IsLentFrom, Lends, OutsideState, TakesDiskBack}
 use Rattle.host_top.specs.declared.loan.Loan.{Loan}
 use Rattle.host_top.specs.Status.{status_of_fetch}
 use Rattle.host_top.specs.declared.outside.Fetch.{Fetch}
@@ -185,7 +185,7 @@ module _ {D : Type 0} (disks : DiskWords D) where
       → (IsTrue (disks.tells given) → IsLentFrom disks.seen disks.may_leave (o.disk first) given)
       → SameDisk disks.tells disks.room disks.label given back
       → (stores : List (Lending D)) × Inits disks folder given back stores stores a b output new
-      status → TakesBack disks.faults second back b beyond
+      status → TakesDiskBack disks.faults second back b beyond
       → InitsFolder disks folder o beyond input input output new status
   folder_inits folder first second given back o a b beyond input output new status is again lends
       lent same init takes =
@@ -194,7 +194,7 @@ module _ {D : Type 0} (disks : DiskWords D) where
       let lent' =
       subst (λ (n : List ℕ). IsTrue (disks.tells given)
       → IsLentFrom disks.seen disks.may_leave (o.disk n) given) is lent in
-      let takes' = subst (λ (n : List ℕ). TakesBack disks.faults n back b beyond) again takes in
+      let takes' = subst (λ (n : List ℕ). TakesDiskBack disks.faults n back b beyond) again takes in
       let stores : List (Lending D) = init.0 in
       let i : Inits disks folder given back stores stores a b output new status = init.1 in
       let l : Lending D = record { name = name; given = given; back = None } in
@@ -222,7 +222,7 @@ module _ {D : Type 0} (disks : DiskWords D) where
     where
       counted : (stores : List (Lending D))
           → Lends disks.label disks.faults (journal_in folder) given o a
-          → CountsFaults disks a b stores → TakesBack disks.faults (journal_in folder) back b beyond
+          → CountsFaults disks a b stores → TakesDiskBack disks.faults (journal_in folder) back b beyond
           → b.loan (journal_in folder) ≡ Some
           (loan_by disks (record { name = journal_in folder; given = given; back = None }))
           → CountsFaults disks o beyond (record {
@@ -237,7 +237,7 @@ module _ {D : Type 0} (disks : DiskWords D) where
           (counts_out disks o a (l ∷ []) (refl, tt) lends.count) counts) refl loan takes
 
       rises : Lends disks.label disks.faults (journal_in folder) given o a
-          → TakesBack disks.faults (journal_in folder) back b beyond
+          → TakesDiskBack disks.faults (journal_in folder) back b beyond
           → b.loan (journal_in folder) ≡ Some
           (loan_by disks (record { name = journal_in folder; given = given; back = None }))
           → b.disk_faults ≤ beyond.disk_faults
@@ -250,7 +250,7 @@ module _ {D : Type 0} (disks : DiskWords D) where
       later_so : {stores : List (Lending D)}
           → Lends disks.label disks.faults (journal_in folder) given o a
           → Inits disks folder given back stores stores a b output new status
-          → TakesBack disks.faults (journal_in folder) back b beyond
+          → TakesDiskBack disks.faults (journal_in folder) back b beyond
           → b.loan (journal_in folder) ≡ Some
           (loan_by disks (record { name = journal_in folder; given = given; back = None }))
           → o.disk_faults ≤ beyond.disk_faults
@@ -258,7 +258,7 @@ module _ {D : Type 0} (disks : DiskWords D) where
           rises lends takes loan in omega (arith, lends.count, i.later, up)
 
       cause_so : Lends disks.label disks.faults (journal_in folder) given o a
-          → TakesBack disks.faults (journal_in folder) back b beyond
+          → TakesDiskBack disks.faults (journal_in folder) back b beyond
           → b.loan (journal_in folder) ≡ Some
           (loan_by disks (record { name = journal_in folder; given = given; back = None }))
           → (status ≡ ends.DiskFault) × Rose a.disk_faults b.disk_faults ⊎ (status ≡ ends.NoMemory)
@@ -271,7 +271,7 @@ module _ {D : Type 0} (disks : DiskWords D) where
       does_so : {stores : List (Lending D)}
           → Lends disks.label disks.faults (journal_in folder) given o a
           → Inits disks folder given back stores stores a b output new status
-          → TakesBack disks.faults (journal_in folder) back b beyond
+          → TakesDiskBack disks.faults (journal_in folder) back b beyond
           → b.loan (journal_in folder) ≡ Some
           (loan_by disks (record { name = journal_in folder; given = given; back = None }))
           → CountsFaults disks o beyond (record {

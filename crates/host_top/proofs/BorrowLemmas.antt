@@ -11,7 +11,7 @@ use Rattle.host_top.specs.Borrowed.{Borrowed, IsLending, IsOther}
 use Rattle.host_top.specs.Borrowed.{Lending, left_by, loan_by}
 use Rattle.host_top.specs.DiskWords.{DiskWords}
 use Rattle.host_top.specs.Files.{HasOwnLabel, IsLent, IsLentFrom}
-use Rattle.host_top.specs.Files.{Lends, OutsideState, TakesBack, Told}
+use Rattle.host_top.specs.Files.{Lends, OutsideState, TakesDiskBack, Told}
 use Rattle.host_top.specs.Files.{Untold, Missing, There, told_now, returned}
 use Rattle.host_top.specs.declared.loan.Loan.{Loan}
 
@@ -207,7 +207,7 @@ module _ {D : Type 0} (disks : DiskWords D) where
   -- ---- one of them is put back
 
   labels_still : (name : List ℕ) (back : D) (b c : OutsideState D)
-      → TakesBack disks.faults name back b c
+      → TakesDiskBack disks.faults name back b c
       → (n : List ℕ) (label : ℕ) → HasOwnLabel b n label → HasOwnLabel c n label
   labels_still name back b c takes n label own other loan away at =
       of (bytes_eq name other) refl (b.loan name) refl
@@ -231,7 +231,7 @@ module _ {D : Type 0} (disks : DiskWords D) where
           ∙ ap (returned (disks.faults back)) some) ∙ at)) ∙ same)
 
   lending_beside : (name : List ℕ) (back : D) (a b c : OutsideState D)
-      → TakesBack disks.faults name back b c
+      → TakesDiskBack disks.faults name back b c
       → (l : Lending D) → IsOther name l → IsLending disks a b l → IsLending disks a c l
   lending_beside name back a b c takes l other is = record {
     lent = is.lent;
@@ -246,7 +246,7 @@ module _ {D : Type 0} (disks : DiskWords D) where
   }
 
   beside_all : (name : List ℕ) (back : D) (a b c : OutsideState D)
-      → TakesBack disks.faults name back b c
+      → TakesDiskBack disks.faults name back b c
       → (ls : List (Lending D)) → Each (IsOther name) ls → Each (IsLending disks a b) ls
       → Each (IsLending disks a c) ls
   beside_all name back a b c takes [] other each = tt
@@ -257,7 +257,7 @@ module _ {D : Type 0} (disks : DiskWords D) where
   )
 
   lending_back : (a b c : OutsideState D) (l : Lending D) (back : D)
-      → TakesBack disks.faults l.name back b c
+      → TakesDiskBack disks.faults l.name back b c
       → SameDisk disks.tells disks.room disks.label l.given back
       → IsLending disks a b l → IsLending disks a c (record l { back = Some back })
   lending_back a b c l back takes same is = record {
@@ -276,7 +276,7 @@ module _ {D : Type 0} (disks : DiskWords D) where
       (rest : List (Lending D)) (back : D)
       → Borrowed disks a b (front ++ l ∷ rest) → Each (IsOther l.name) front
       → Each (IsOther l.name) rest
-      → TakesBack disks.faults l.name back b c
+      → TakesDiskBack disks.faults l.name back b c
       → SameDisk disks.tells disks.room disks.label l.given back
       → Borrowed disks a c (front ++ record l { back = Some back } ∷ rest)
   one_back a b c front l rest back is before behind takes same =

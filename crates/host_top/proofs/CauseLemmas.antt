@@ -10,13 +10,13 @@ use Rattle.story_run.specs.declared.story.Story.{Story}
 use Rattle.host_top.specs.Begun.{InitsOn, SaysRefusal}
 use Rattle.host_top.specs.Borrowed.{CountsFaults, HasFailed, NotLent, journal_in, lent_as}
 use Rattle.host_top.specs.Borrowed.{snaps_below}
-use Rattle.host_top.specs.Folder.{Takes, back_at, folder_back}
+use Rattle.host_top.specs.Folder.{TakesDisks, back_at, folder_back}
 use Rattle.host_top.specs.declared.folder.Back.{Back}
 use Rattle.host_top.specs.declared.folder.Back.TheVariants as back
 use Rattle.line_talk.specs.Causes.{Rose}
 use Rattle.host_top.specs.DiskWords.{DiskWords}
 use Rattle.host_top.specs.Files.{OutsideState}
-use Rattle.host_top.specs.Follows.{Does, Follows}
+use Rattle.host_top.specs.Follows.{DoesTask, FollowsCommand}
 use Rattle.host_top.specs.LinksServed.{LinksServed, ServesOver}
 use Rattle.host_top.specs.Piped.{HostedOver, PipesOver}
 use Rattle.host_top.specs.Said.{SaysFault, SaysLine}
@@ -108,7 +108,7 @@ hosted_failed disks Hosts folder given givens back.Nothing outside beyond input 
 pipe_failed : {D : Type 0} (disks : DiskWords D) {stories : List Story} {budget : ℕ}
     (folder : List ℕ) (outside beyond : OutsideState D) {input now : SourceState}
     (output new : SinkState)
-    → Takes disks folder (λ given givens b. PipesOver disks stories budget given givens b input now
+    → TakesDisks disks folder (λ given givens b. PipesOver disks stories budget given givens b input now
     output new DiskFault) outside beyond → Failed outside.disk_faults beyond.disk_faults output new
 pipe_failed disks {stories} {budget} folder outside beyond {input} {now} output new t =
     hosted_failed disks _ folder t.given t.givens t.back outside beyond input now output new t.many
@@ -125,7 +125,7 @@ no_links disks A served = elim served.how [
 
 links_failed : {D : Type 0} (disks : DiskWords D) {stories : List Story} (folder : List ℕ)
     (outside beyond : OutsideState D) {input now : SourceState} (output new : SinkState)
-    → Takes disks folder (λ given givens b. ServesOver disks stories given givens b input now output
+    → TakesDisks disks folder (λ given givens b. ServesOver disks stories given givens b input now output
     new DiskFault) outside beyond → Failed outside.disk_faults beyond.disk_faults output new
 links_failed disks {stories} folder outside beyond {input} {now} output new t =
     hosted_failed disks _ folder t.given t.givens t.back outside beyond input now output new t.many
@@ -171,7 +171,7 @@ init_failed disks folder outside beyond output new (inr i) = elim i.inits.does [
 
 does_failed : {D : Type 0} (disks : DiskWords D) (task : Result Task (List ℕ))
     (outside beyond : OutsideState D) (input now : SourceState) (output new : SinkState)
-    → Does disks task outside beyond input now output new DiskFault
+    → DoesTask disks task outside beyond input now output new DiskFault
     → Failed outside.disk_faults beyond.disk_faults output new
 does_failed disks (Err line) outside beyond input now output new does = absurd does.0.leaves
 does_failed disks (Ok (Says speech)) outside beyond input now output new does = absurd does.0.leaves
@@ -188,7 +188,7 @@ does_failed disks (Ok (Begins folder)) outside beyond input now output new does 
 
 disk_failed : {D : Type 0} (disks : DiskWords D) (asked : Asked) (outside beyond : OutsideState D)
     (input now : SourceState) (output new : SinkState)
-    → Follows disks asked DiskFault outside beyond input now output new
+    → FollowsCommand disks asked DiskFault outside beyond input now output new
     → Failed outside.disk_faults beyond.disk_faults output new
 disk_failed disks asked outside beyond input now output new (inl none) = elim none.cause [
   | inl failed ↦ absurd (grind (arith, failed.0))
@@ -204,11 +204,11 @@ six status code is e = cc
 -- exit code 6 is a disk's
 pub failed_six : {D : Type 0} (disks : DiskWords D) (asked : Asked) (status : Status) (code : ℕ)
     (outside beyond : OutsideState D) (input now : SourceState) (output new : SinkState)
-    → Follows disks asked status outside beyond input now output new → status_of code ≡ Some status
+    → FollowsCommand disks asked status outside beyond input now output new → status_of code ≡ Some status
     → code ≡ 6 → Failed outside.disk_faults beyond.disk_faults output new
 failed_six disks asked status code outside beyond input now output new follows is e =
     disk_failed disks asked outside beyond input now output new
-    (subst (λ (s : Status). Follows disks asked s outside beyond input now output new)
+    (subst (λ (s : Status). FollowsCommand disks asked s outside beyond input now output new)
     (sym (six status code is e)) follows)
 
 -- ---- the status of a door that failed
@@ -259,7 +259,7 @@ hosted_door disks Hosts given givens back.Nothing input now output new A f l =
 
 door_in : {D : Type 0} (disks : DiskWords D) (task : Result Task (List ℕ))
     (outside beyond : OutsideState D) (input now : SourceState) (output new : SinkState)
-    → Does disks task outside beyond input now output new DoorFault
+    → DoesTask disks task outside beyond input now output new DoorFault
     → Rose outside.door_faults beyond.door_faults
 door_in disks (Err line) outside beyond input now output new does = absurd does.0.leaves
 door_in disks (Ok (Says speech)) outside beyond input now output new does = absurd does.0.leaves
@@ -285,7 +285,7 @@ door_in disks (Ok (Begins folder)) outside beyond input now output new (inr i) =
 
 door_failed : {D : Type 0} (disks : DiskWords D) (asked : Asked) (outside beyond : OutsideState D)
     (input now : SourceState) (output new : SinkState)
-    → Follows disks asked DoorFault outside beyond input now output new
+    → FollowsCommand disks asked DoorFault outside beyond input now output new
     → Rose outside.door_faults beyond.door_faults
 door_failed disks asked outside beyond input now output new (inl none) = elim none.cause [
   | inl failed ↦ absurd (grind (arith, failed.0))
@@ -301,11 +301,11 @@ nine status code is e = cc
 -- exit code 9 is a door's
 pub failed_nine : {D : Type 0} (disks : DiskWords D) (asked : Asked) (status : Status) (code : ℕ)
     (outside beyond : OutsideState D) (input now : SourceState) (output new : SinkState)
-    → Follows disks asked status outside beyond input now output new → status_of code ≡ Some status
+    → FollowsCommand disks asked status outside beyond input now output new → status_of code ≡ Some status
     → code ≡ 9 → Rose outside.door_faults beyond.door_faults
 failed_nine disks asked status code outside beyond input now output new follows is e =
     door_failed disks asked outside beyond input now output new
-    (subst (λ (s : Status). Follows disks asked s outside beyond input now output new)
+    (subst (λ (s : Status). FollowsCommand disks asked s outside beyond input now output new)
     (sym (nine status code is e)) follows)
 
 pub coded_two : (status : Status) (code : ℕ) → status_of code ≡ Some status → code ≡ 2

@@ -6,17 +6,17 @@ use Rattle.std.proofs.lemmas.List.{length-map}
 use Rattle.std.proofs.Math.Seq.{take-append_seam}
 use Rattle.disk_model.specs.Disk.{EachImage, LeavesOnly, SameDisk}
 use Rattle.gate_journal.specs.Log.{IsBetween, IsSinceOpened, Log, MayOpen, MaySpell, Opening, Rises}
-use Rattle.gate_journal.specs.Log.{kept, rows_found, rows_of}
+use Rattle.gate_journal.specs.Log.{rows_kept, rows_found, rows_of}
 use Rattle.gate_journal.proofs.LogLemmas.{rows_of-all}
 use Rattle.gate_journal.proofs.SinceLemmas.{rows_of-append}
-use Rattle.gate_journal.specs.Rows.{SpellsRows, IsJournal, spelled}
+use Rattle.gate_journal.specs.Rows.{SpellsRows, IsJournal, journal_bytes}
 use Rattle.gate_journal.specs.declared.entry.Entry.{Entry as JournalEntry}
 use Rattle.gate_journal.specs.declared.row.Row.{Row}
-use Rattle.host_serve.specs.Chain.{Chain}
+use Rattle.host_serve.specs.Chain.{AnswersInOrder}
 use Rattle.host_serve.specs.Ending.{AreAgreedDisks, EndsWith, GivesBack}
-use Rattle.host_serve.specs.Hosts.{IsSound, rows_at_opening, stores_of}
+use Rattle.host_serve.specs.Hosts.{IsSound, rows_at_opening, opened_stores}
 use Rattle.host_serve.specs.Holders.{Holder, holder_at, holders, seen_at, seens}
-use Rattle.host_serve.specs.Opening.{AreAgreed, IsOpened, IsStoreOf, histories_of, roots}
+use Rattle.host_serve.specs.Opening.{AreAgreed, IsOpenedHost, IsStoreOf, histories_in_rows, roots}
 use Rattle.snap_store.specs.Store.{Snapshots}
 use Rattle.std.specs.List.{AllZip}
 use Rattle.host_serve.specs.declared.host.Host.{Host}
@@ -98,7 +98,7 @@ same_some a b e = cc
 
 module _ {D : Type 0} (disks : DiskWords D) (given back : D) (givens backs : List D)
     (stories : List Story) (budget : ℕ) (rows : List Row) (host : Host D) (first last : Passes D)
-    (opened : IsOpened stories budget rows (record { disk = given; found = length rows }) host
+    (opened : IsOpenedHost stories budget rows (record { disk = given; found = length rows }) host
     first)
     (end : EndsOn disks host last back backs) where
   abbrev since : IsSinceOpened disks.tells disks.may_leave disks.room disks.label disks.reach
@@ -114,21 +114,21 @@ module _ {D : Type 0} (disks : DiskWords D) (given back : D) (givens backs : Lis
   opened_on : end.0.opening.disk ≡ given
   opened_on = ap (λ (o : Opening D). o.disk) opening
 
-  all_rows : end.0.entries ≡ kept rows ++ end.2.grows.0
+  all_rows : end.0.entries ≡ rows_kept rows ++ end.2.grows.0
   all_rows = end.2.grows.1 ∙ ap (λ (es : List JournalEntry). es ++ end.2.grows.0) opened.begins
 
   pub grows : rows_of end.0.entries ≡ rows ++ rows_of end.2.grows.0
   grows =
-      ap rows_of all_rows ∙ rows_of-append (kept rows) end.2.grows.0
+      ap rows_of all_rows ∙ rows_of-append (rows_kept rows) end.2.grows.0
       ∙ ap (λ (rs : List Row). rs ++ rows_of end.2.grows.0) (rows_of-all rows)
 
   found : rows_found end.0 ≡ rows
   found =
-      let many : end.0.opening.found ≡ length (kept rows) =
+      let many : end.0.opening.found ≡ length (rows_kept rows) =
       ap (λ (o : Opening D). o.found) opening ∙ sym (length-map rows _) in
       ap (λ (n : ℕ). rows_of (take n end.0.entries)) many
-      ∙ ap (λ (es : List JournalEntry). rows_of (take (length (kept rows)) es)) all_rows
-      ∙ ap rows_of (take-append_seam (kept rows) end.2.grows.0) ∙ rows_of-all rows
+      ∙ ap (λ (es : List JournalEntry). rows_of (take (length (rows_kept rows)) es)) all_rows
+      ∙ ap rows_of (take-append_seam (rows_kept rows) end.2.grows.0) ∙ rows_of-all rows
 
   pub same_back : SameDisk disks.tells disks.room disks.label given back
   same_back =
@@ -157,12 +157,12 @@ module _ {D : Type 0} (disks : DiskWords D) (given back : D) (givens backs : Lis
       end.0.disk (λ c. MayOpen start c ⊎ IsBetween rs (rows_of end.0.entries) c)) found leaves))
 
   pub reaches : disks.reach back ≤ max (disks.reach given)
-      (length (spelled (rows_of end.0.entries)) + 4110)
+      (length (journal_bytes (rows_of end.0.entries)) + 4110)
   reaches =
       subst (λ (d : D). disks.reach d ≤ max (disks.reach given)
-      (length (spelled (rows_of end.0.entries)) + 4110)) (sym end.1)
+      (length (journal_bytes (rows_of end.0.entries)) + 4110)) (sym end.1)
       (subst (λ (d : D). disks.reach end.0.disk ≤ max (disks.reach d)
-      (length (spelled (rows_of end.0.entries)) + 4110)) opened_on since.reaches)
+      (length (journal_bytes (rows_of end.0.entries)) + 4110)) opened_on since.reaches)
 
   at_opening : rows_at_opening host ≡ rows
   at_opening = ap rows_of opened.begins ∙ rows_of-all rows
@@ -170,17 +170,17 @@ module _ {D : Type 0} (disks : DiskWords D) (given back : D) (givens backs : Lis
   -- ---- the stores
 
   module _ (stores : AllZip (IsStoreOf disks.tells disks.may_leave disks.seen disks.moment
-      disks.left_since disks.faults disks.reach disks.room disks.label) givens (stores_of host))
+      disks.left_since disks.faults disks.reach disks.room disks.label) givens (opened_stores host))
       (returned : AllZip (GivesBack disks.tells disks.faults disks.reach disks.room disks.label)
-      (stores_of host) backs) where
+      (opened_stores host) backs) where
     pub same_stores : AreSame disks givens backs
-    same_stores = same_zip disks givens (stores_of host) backs stores returned
+    same_stores = same_zip disks givens (opened_stores host) backs stores returned
 
     pub stores_back : (AreAgreed disks.tells disks.seen stories (rows_at_opening host) givens
         → IsSound disks.tells disks.seen host)
         → StoresBack disks stories rows (rows_of end.0.entries) givens backs
     stores_back sound = record {
-      each = back_zip disks givens (stores_of host) backs stores returned;
+      each = back_zip disks givens (opened_stores host) backs stores returned;
       agreed =
           λ agreed. subst (λ (s : List Story). AreAgreedDisks disks.tells disks.may_leave s
           (rows_of end.0.entries) backs) opened.stories
@@ -197,22 +197,22 @@ module _ {D : Type 0} (disks : DiskWords D) (given back : D) (givens backs : Lis
     abbrev Sound : Type 0
     Sound = IsSound disks.tells disks.seen host
 
-    chain : Chain stories budget Sound roots (histories_of rows) lines.turns
+    chain : AnswersInOrder stories budget Sound roots (histories_in_rows rows) lines.turns
         (seens last.desks.items)
     chain =
-        subst (λ (h : List (List Entry)). Chain stories budget Sound roots h lines.turns
+        subst (λ (h : List (List Entry)). AnswersInOrder stories budget Sound roots h lines.turns
         (seens last.desks.items)) opened.histories
-        (subst (λ (h : List Holder). Chain stories budget Sound h (seens first.desks.items)
+        (subst (λ (h : List Holder). AnswersInOrder stories budget Sound h (seens first.desks.items)
         lines.turns (seens last.desks.items)) opened.alone
-        (subst (λ (b : ℕ). Chain stories b Sound (holders first.desks.items)
+        (subst (λ (b : ℕ). AnswersInOrder stories b Sound (holders first.desks.items)
         (seens first.desks.items) lines.turns (seens last.desks.items)) opened.budget
-        (subst (λ (s : List Story). Chain s host.budget Sound (holders first.desks.items)
+        (subst (λ (s : List Story). AnswersInOrder s host.budget Sound (holders first.desks.items)
         (seens first.desks.items) lines.turns (seens last.desks.items)) opened.stories
         lines.chain)))
 
     own : AreOwn stories budget (seens last.desks.items)
     own =
-        own_all stories budget Sound (histories_of rows) lines.turns (seens last.desks.items)
+        own_all stories budget Sound (histories_in_rows rows) lines.turns (seens last.desks.items)
         (many_histories rows) (own_rows stories budget rows) chain
 
     entries : (s : ℕ) → s < 64 → history_in end.0.entries s ≡ seen_at (seens last.desks.items) s
@@ -242,13 +242,13 @@ module _ {D : Type 0} (disks : DiskWords D) (given back : D) (givens backs : Lis
       writes = lines.tells.replies;
       histories = seens last.desks.items;
       led =
-          led_all stories budget Sound (histories_of rows) lines.turns (seens last.desks.items)
+          led_all stories budget Sound (histories_in_rows rows) lines.turns (seens last.desks.items)
           (many_histories rows) chain;
       sound =
           λ agreed. led_alone stories budget Sound
           (sound (subst (λ (rs : List Row). AreAgreed disks.tells disks.seen stories rs givens)
           (sym at_opening) agreed))
-          (histories_of rows) lines.turns (seens last.desks.items) (many_histories rows) chain;
+          (histories_in_rows rows) lines.turns (seens last.desks.items) (many_histories rows) chain;
       journal = end.0.entries;
       entries = entries;
       faults = counts;

@@ -6,11 +6,11 @@ use Rattle.std.specs.Str.{bytes_eq}
 use Rattle.disk_model.specs.Disk.{SameDisk}
 use Rattle.turn_cell.specs.History.{Each}
 use Rattle.turn_cell.proofs.HistoryLemmas.{each_map, nil_right}
-use Rattle.host_top.specs.Borrowed.{AreApart, AreAsGiven, AreNamed, Borrowed, CountsFaults}
+use Rattle.host_top.specs.Borrowed.{AreDifferentNames, AreAsGiven, AreNamed, Borrowed, CountsFaults}
 use Rattle.host_top.specs.Borrowed.{IsLending, IsOther, Lending, back_as}
 use Rattle.host_top.specs.Borrowed.{lent_as, loan_by}
 use Rattle.host_top.specs.DiskWords.{DiskWords}
-use Rattle.host_top.specs.Files.{IsLent, IsLentFrom, Lends, OutsideState, TakesBack}
+use Rattle.host_top.specs.Files.{IsLent, IsLentFrom, Lends, OutsideState, TakesDiskBack}
 use Rattle.host_top.specs.Folder.{AreSame, IsSameBack, MayPutBack, PutsFolderBack}
 use Rattle.host_top.specs.Folder.{back_at, folder_back}
 use Rattle.host_top.specs.declared.folder.Back.{Back}
@@ -50,7 +50,7 @@ module _ {D : Type 0} (disks : DiskWords D) where
       → Lends disks.label disks.faults name given a b
       → (IsTrue (disks.tells given) → IsLentFrom disks.seen disks.may_leave (a.disk name) given)
       → AreAsGiven ls → AreNamed ns ls → Borrowed disks b c ls
-      → TakesBack disks.faults first given c e
+      → TakesDiskBack disks.faults first given c e
       → (ks : List (Lending D)) × AreAsGiven ks × AreNamed (name ∷ ns) ks × Borrowed disks a e ks
   journal_alone name first ns given a b c e ls again apart lends lent as_given named more takes =
       let l : Lending D = record { name = name; given = given; back = None } in
@@ -61,7 +61,7 @@ module _ {D : Type 0} (disks : DiskWords D) where
         one_back disks a c e [] l ls given
             (together disks a b c (l ∷ []) ls (lent_one disks name given a b lends lent) more
             (far, tt)) tt far
-            (subst (λ (n : List ℕ). TakesBack disks.faults n given c e) again takes)
+            (subst (λ (n : List ℕ). TakesDiskBack disks.faults n given c e) again takes)
             (record { telling = refl; size = refl; name = refl }),
       )
 
@@ -122,7 +122,7 @@ module _ {D : Type 0} (disks : DiskWords D) where
     pub before : Each (IsOther l.name) front
     pub behind : Each (IsOther l.name) rest
 
-  stands_at : (ns : List (List ℕ)) (gs : List D) (s : ℕ) (n : List ℕ) (g d : D) → AreApart ns
+  stands_at : (ns : List (List ℕ)) (gs : List D) (s : ℕ) (n : List ℕ) (g d : D) → AreDifferentNames ns
       → slice_get ns s ≡ Some n → slice_get gs s ≡ Some g
       → Stands (lent_as ns gs) (back_at s d (lent_as ns gs))
       (record { name = n; given = g; back = None }) d
@@ -166,7 +166,7 @@ module _ {D : Type 0} (disks : DiskWords D) where
   handled_one : (a b c : OutsideState D) (front : List (Lending D)) (l : Lending D)
       (rest : List (Lending D)) (d : D) → Handled a b (front ++ l ∷ rest) → l.back ≡ None
       → Each (IsOther l.name) front → Each (IsOther l.name) rest
-      → TakesBack disks.faults l.name d b c → SameDisk disks.tells disks.room disks.label l.given d
+      → TakesDiskBack disks.faults l.name d b c → SameDisk disks.tells disks.room disks.label l.given d
       → Handled a c (front ++ record l { back = Some d } ∷ rest)
   handled_one a b c front l rest d is out before behind takes same =
       let here = each_last (IsLending disks a b) front (l ∷ rest) is.0.each in (
@@ -193,7 +193,7 @@ module _ {D : Type 0} (disks : DiskWords D) where
   nothing_behind (n ∷ ns) = (tt, nothing_behind ns)
 
   pub folder_done : (name : List ℕ) (ns : List (List ℕ)) (given : D) (givens : List D) (b : Back D)
-      (a c e : OutsideState D) → AreApart ns → Each (λ n. bytes_eq name n ≡ false) ns
+      (a c e : OutsideState D) → AreDifferentNames ns → Each (λ n. bytes_eq name n ≡ false) ns
       → Handled a c (folder_back name ns given givens back.Nothing)
       → IsSameBack disks given givens b → PutsFolderBack disks.faults name ns b c e
       → Handled a e (folder_back name ns given givens b)

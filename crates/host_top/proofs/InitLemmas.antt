@@ -15,7 +15,7 @@ use Rattle.host_top.specs.Begun.{TriesStores}
 use Rattle.host_top.specs.Borrowed.{AreNamed, CountsFaults, HasFailed, IsOther, Lending}
 use Rattle.host_top.specs.Borrowed.{snap_in, snaps_below}
 use Rattle.host_top.specs.DiskWords.{DiskWords}
-use Rattle.host_top.specs.Files.{IsLentFrom, Lends, OutsideState, TakesBack}
+use Rattle.host_top.specs.Files.{IsLentFrom, Lends, OutsideState, TakesDiskBack}
 use Rattle.host_top.proofs.BorrowLemmas.{each_last, lent_loan}
 use Rattle.host_top.proofs.LoansLemmas.{counts_one, counts_out, lent_nothing}
 use Rattle.host_top.proofs.BorrowLemmas.{together, turned_about}
@@ -55,7 +55,7 @@ module _ {D : Type 0} (disks : DiskWords D) where
   one name given back = record { name = name; given = given; back = Some back }
 
   counts_at : (name : List ℕ) (given back : D) (a b c : OutsideState D)
-      → Lends disks.label disks.faults name given a b → TakesBack disks.faults name back b c
+      → Lends disks.label disks.faults name given a b → TakesDiskBack disks.faults name back b c
       → CountsFaults disks a c (one name given back ∷ [])
   counts_at name given back a b c lends takes =
       let l : Lending D = record { name = name; given = given; back = None } in
@@ -66,14 +66,14 @@ module _ {D : Type 0} (disks : DiskWords D) where
       → first ≡ name → second ≡ name → Lends disks.label disks.faults first given a b
       → (IsTrue (disks.tells given) → IsLentFrom disks.seen disks.may_leave (a.disk first) given)
       → SameDisk disks.tells disks.room disks.label given back
-      → TakesBack disks.faults second back b c → IsTried disks given back → IsMade disks given back
+      → TakesDiskBack disks.faults second back b c → IsTried disks given back → IsMade disks given back
       → MakesStores disks (name ∷ []) a c
   store_made name first second given back a b c is again lends lent same takes tried made =
       let lends' = subst (λ (n : List ℕ). Lends disks.label disks.faults n given a b) is lends in
       let lent' =
       subst (λ (n : List ℕ). IsTrue (disks.tells given)
       → IsLentFrom disks.seen disks.may_leave (a.disk n) given) is lent in
-      let takes' = subst (λ (n : List ℕ). TakesBack disks.faults n back b c) again takes in
+      let takes' = subst (λ (n : List ℕ). TakesDiskBack disks.faults n back b c) again takes in
       record {
         stores = one name given back ∷ [];
         names_are = refl;
@@ -87,7 +87,7 @@ module _ {D : Type 0} (disks : DiskWords D) where
       → first ≡ name → second ≡ name → Lends disks.label disks.faults first given a b
       → (IsTrue (disks.tells given) → IsLentFrom disks.seen disks.may_leave (a.disk first) given)
       → SameDisk disks.tells disks.room disks.label given back
-      → TakesBack disks.faults second back b c → IsTried disks given back
+      → TakesDiskBack disks.faults second back b c → IsTried disks given back
       → TriesStores disks (name ∷ []) a c
   store_tried name first second given back a b c is again lends lent same takes tried = record {
     stores = one name given back ∷ [];
@@ -97,27 +97,27 @@ module _ {D : Type 0} (disks : DiskWords D) where
         (subst (λ (n : List ℕ). Lends disks.label disks.faults n given a b) is lends)
         (subst (λ (n : List ℕ). IsTrue (disks.tells given)
         → IsLentFrom disks.seen disks.may_leave (a.disk n) given) is lent)
-        same (subst (λ (n : List ℕ). TakesBack disks.faults n back b c) again takes);
+        same (subst (λ (n : List ℕ). TakesDiskBack disks.faults n back b c) again takes);
   }
 
   -- it failed, and so did its disk
   pub store_failed : (name second : List ℕ) (given back : D) (a b c : OutsideState D)
       → second ≡ name → Lends disks.label disks.faults name given a b
-      → TakesBack disks.faults second back b c → Rose (disks.faults given) (disks.faults back)
+      → TakesDiskBack disks.faults second back b c → Rose (disks.faults given) (disks.faults back)
       → Rose a.disk_faults c.disk_faults
   store_failed name second given back a b c again lends takes rose =
       let counts =
       counts_at name given back a b c lends
-      (subst (λ (n : List ℕ). TakesBack disks.faults n back b c) again takes) in
+      (subst (λ (n : List ℕ). TakesDiskBack disks.faults n back b c) again takes) in
       counts.rose.0 rose
 
   pub store_later : (name second : List ℕ) (given back : D) (a b c : OutsideState D) → second ≡ name
       → Lends disks.label disks.faults name given a b
-      → TakesBack disks.faults second back b c → a.disk_faults ≤ c.disk_faults
+      → TakesDiskBack disks.faults second back b c → a.disk_faults ≤ c.disk_faults
   store_later name second given back a b c again lends takes =
       let counts =
       counts_at name given back a b c lends
-      (subst (λ (n : List ℕ). TakesBack disks.faults n back b c) again takes) in
+      (subst (λ (n : List ℕ). TakesDiskBack disks.faults n back b c) again takes) in
       counts.later
 
   pub no_stores : (names : List (List ℕ)) (a c : OutsideState D)

@@ -10,10 +10,10 @@ use Rattle.std.specs.Str.{bytes_eq}
 use Rattle.disk_model.specs.Disk.{SameDisk}
 use Rattle.turn_cell.specs.History.{Each}
 use Rattle.turn_cell.proofs.HistoryLemmas.{each_append, each_first, each_map}
-use Rattle.host_top.specs.Borrowed.{AreApart, AreAsGiven, AreNamed, Borrowed, IsLending, IsOther}
+use Rattle.host_top.specs.Borrowed.{AreDifferentNames, AreAsGiven, AreNamed, Borrowed, IsLending, IsOther}
 use Rattle.host_top.specs.Borrowed.{Lending, PutsBack, back_as, lent_as}
 use Rattle.host_top.specs.DiskWords.{DiskWords}
-use Rattle.host_top.specs.Files.{IsLent, IsLentFrom, Lends, OutsideState, RisesWith, TakesBack}
+use Rattle.host_top.specs.Files.{IsLent, IsLentFrom, Lends, OutsideState, RisesWith, TakesDiskBack}
 use Rattle.line_talk.specs.Causes.{Rose}
 use Rattle.host_top.specs.declared.loan.Loan.{Loan}
 use Rattle.host_top.specs.declared.outside.Fetch.{Fetch}
@@ -33,7 +33,7 @@ module _ {D : Type 0} (disks : DiskWords D) where
       → Lends disks.label disks.faults name given a b
       → (IsTrue (disks.tells given) → IsLentFrom disks.seen disks.may_leave (a.disk name) given)
       → SameDisk disks.tells disks.room disks.label given back
-      → TakesBack disks.faults name back b c
+      → TakesDiskBack disks.faults name back b c
       → Borrowed disks a c (record { name = name; given = given; back = Some back } ∷ [])
   returned_one name given back a b c lends lent same takes =
       one_back disks a b c [] (record { name = name; given = given; back = None }) [] back
@@ -98,7 +98,7 @@ each_take P zero ns each = tt
 each_take P (suc n) [] each = tt
 each_take P (suc n) (m ∷ ns) each = (each.0, each_take P n ns each.1)
 
-pub apart_at : (ns : List (List ℕ)) (i k : ℕ) (a b : List ℕ) → AreApart ns → slice_get ns i ≡ Some a
+pub apart_at : (ns : List (List ℕ)) (i k : ℕ) (a b : List ℕ) → AreDifferentNames ns → slice_get ns i ≡ Some a
     → slice_get ns k ≡ Some b → i < k → bytes_eq a b ≡ false
 apart_at [] i k a b apart here there low = cc
 apart_at (n ∷ ns) zero zero a b apart here there low = absurd (omega arith)
@@ -124,7 +124,7 @@ module _ {D : Type 0} (faults : D → ℕ) where
 
   pub puts_more : (ns : List (List ℕ)) (ds : List D) (k : ℕ) (name : List ℕ) (d : D)
       (a b c : OutsideState D) → PutsBack faults (drop (suc k) ns) (drop (suc k) ds) a b
-      → slice_get ns k ≡ Some name → slice_get ds k ≡ Some d → TakesBack faults name d b c
+      → slice_get ns k ≡ Some name → slice_get ds k ≡ Some d → TakesDiskBack faults name d b c
       → PutsBack faults (drop k ns) (drop k ds) a c
   puts_more ns ds k name d a b c puts named is takes =
       subst (λ (l : List (List ℕ)). PutsBack faults l (drop k ds) a c)
@@ -134,16 +134,16 @@ module _ {D : Type 0} (faults : D → ℕ) where
 
   -- the others are lent still
   pub lent_beside : (ns : List (List ℕ)) (i k : ℕ) (name other : List ℕ) (d : D)
-      (b c : OutsideState D) (label : ℕ) → AreApart ns → slice_get ns k ≡ Some name
+      (b c : OutsideState D) (label : ℕ) → AreDifferentNames ns → slice_get ns k ≡ Some name
       → slice_get ns i ≡ Some other
-      → i < k → TakesBack faults name d b c → IsLent (b.loan other) label
+      → i < k → TakesDiskBack faults name d b c → IsLent (b.loan other) label
       → IsLent (c.loan other) label
   lent_beside ns i k name other d b c label apart named there low takes lent =
       subst (λ (l : Option Loan). IsLent l label)
       (sym (takes.loans other ∙ elsewhere (bytes_eq name other) _ (b.loan other)
       (turned_about other name (apart_at ns i k other name apart there named low)))) lent
 
-  takes_later : (name : List ℕ) (d : D) (b c : OutsideState D) → TakesBack faults name d b c
+  takes_later : (name : List ℕ) (d : D) (b c : OutsideState D) → TakesDiskBack faults name d b c
       → b.disk_faults ≤ c.disk_faults
   takes_later name d b c takes = of (b.loan name) takes.count
     where
@@ -197,7 +197,7 @@ module _ {D : Type 0} (disks : DiskWords D) where
       (lent_more ns gs name d e)
 
   -- the next name is another
-  next_apart : (ns : List (List ℕ)) (ds : List D) (name : List ℕ) → AreApart ns
+  next_apart : (ns : List (List ℕ)) (ds : List D) (name : List ℕ) → AreDifferentNames ns
       → slice_get ns (length ds) ≡ Some name
       → Each (λ n. bytes_eq n name ≡ false) (take (length ds) ns)
   next_apart [] ds name apart e = cc
@@ -208,7 +208,7 @@ module _ {D : Type 0} (disks : DiskWords D) where
         name apart.1 e,
   )
 
-  apart_first : (ns : List (List ℕ)) (ds : List D) → AreApart ns → AreApart (take (length ds) ns)
+  apart_first : (ns : List (List ℕ)) (ds : List D) → AreDifferentNames ns → AreDifferentNames (take (length ds) ns)
   apart_first [] [] apart = tt
   apart_first [] (d ∷ ds) apart = tt
   apart_first (n ∷ ns) [] apart = tt
@@ -220,14 +220,14 @@ module _ {D : Type 0} (disks : DiskWords D) where
 
   -- disks that are lent then, of this name alone, are others
   others_named : (ns : List (List ℕ)) (ds : List D) (name : List ℕ) (ls : List (Lending D))
-      → AreApart ns → slice_get ns (length ds) ≡ Some name → AreNamed (name ∷ []) ls
+      → AreDifferentNames ns → slice_get ns (length ds) ≡ Some name → AreNamed (name ∷ []) ls
       → Each (λ n. Each (IsOther n) ls) (take (length ds) ns)
   others_named ns ds name ls apart e named =
       each_map (λ n. bytes_eq n name ≡ false) (λ n. Each (IsOther n) ls) (take (length ds) ns)
       (λ n other. named n (turned_about n name other, tt)) (next_apart ns ds name apart e)
 
   pub take_on : (a b c : OutsideState D) (ns : List (List ℕ)) (ds : List D) (name : List ℕ)
-      (ls : List (Lending D)) → AreApart ns → slice_get ns (length ds) ≡ Some name
+      (ls : List (Lending D)) → AreDifferentNames ns → slice_get ns (length ds) ≡ Some name
       → AreNamed (name ∷ []) ls → Borrowed disks a b (lent_as ns ds) → Borrowed disks b c ls
       → Borrowed disks a c (lent_as ns ds ++ ls)
   take_on a b c ns ds name ls apart e named first more =
@@ -238,7 +238,7 @@ module _ {D : Type 0} (disks : DiskWords D) where
       (others_named ns ds name ls apart e named)))
 
   pub take_more : (a b c : OutsideState D) (ns : List (List ℕ)) (ds : List D) (name : List ℕ)
-      (d : D) → AreApart ns → slice_get ns (length ds) ≡ Some name
+      (d : D) → AreDifferentNames ns → slice_get ns (length ds) ≡ Some name
       → Borrowed disks a b (lent_as ns ds) → Borrowed disks b c (lent_as (name ∷ []) (d ∷ []))
       → Borrowed disks a c (lent_as ns (ds ++ d ∷ []))
   take_more a b c ns ds name d apart e first more =
@@ -259,7 +259,7 @@ module _ {D : Type 0} (disks : DiskWords D) where
 
   -- where one isn't lent, the others are put back as they were given
   pub refused_back : (a b c : OutsideState D) (ns : List (List ℕ)) (ds : List D) (name : List ℕ)
-      (ls : List (Lending D)) → AreApart ns → slice_get ns (length ds) ≡ Some name
+      (ls : List (Lending D)) → AreDifferentNames ns → slice_get ns (length ds) ≡ Some name
       → AreNamed (name ∷ []) ls → AreAsGiven ls → Borrowed disks a b (lent_as ns ds ++ ls)
       → PutsBack disks.faults ns ds b c
       → (ks : List (Lending D)) × AreAsGiven ks × AreNamed ns ks × Borrowed disks a c ks

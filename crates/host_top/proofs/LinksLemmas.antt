@@ -7,7 +7,7 @@ use Rattle.gate_journal.specs.Rows.{SpellsRows}
 use Rattle.gate_journal.specs.declared.fault.JournalFault.{JournalFault}
 use Rattle.gate_journal.specs.declared.fault.JournalFault.TheVariants as fault
 use Rattle.gate_journal.specs.declared.row.Row.{Row}
-use Rattle.host_serve.specs.Opening.{IsOpened, lone, roots}
+use Rattle.host_serve.specs.Opening.{IsOpenedHost, lone, roots}
 use Rattle.host_serve.specs.declared.host.Host.{Host}
 use Rattle.host_serve.specs.declared.host.Passes.{Passes}
 use Rattle.host_serve.specs.Holders.{Holder}
@@ -36,7 +36,7 @@ use Rattle.host_top.proofs.ConversedLemmas.{EndsOn, counts, grows, meanwhile, re
 
 pub links_served : {D : Type 0} (disks : DiskWords D) (given back : D) (givens backs : List D)
     (stories : List Story) (budget : ℕ) (rows : List Row) (host : Host D) (first last : Passes D)
-    → IsOpened stories budget rows (record { disk = given; found = length rows }) host first
+    → IsOpenedHost stories budget rows (record { disk = given; found = length rows }) host first
     → (end : EndsOn disks host last back backs)
     → (input : SourceState) (output : SinkState) (status : Status)
     → (status ≡ ends.Done) ⊎ (status ≡ ends.DoorFault) ⊎ (status ≡ ends.NoMemory)

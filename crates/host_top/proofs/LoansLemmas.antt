@@ -6,11 +6,11 @@ use Rattle.std.specs.Str.{bytes_eq}
 use Rattle.line_talk.specs.Causes.{Rose}
 use Rattle.turn_cell.specs.History.{Each}
 use Rattle.turn_cell.proofs.HistoryLemmas.{each_append, each_first, each_map}
-use Rattle.host_top.specs.Borrowed.{AreApart, Borrowed, CountsFaults, HasFailed, IsLending, IsOther}
+use Rattle.host_top.specs.Borrowed.{AreDifferentNames, Borrowed, CountsFaults, HasFailed, IsLending, IsOther}
 use Rattle.host_top.specs.Borrowed.{Lending, PutsBack, back_as, lent_as, loan_by}
 use Rattle.host_top.specs.DiskWords.{DiskWords}
 use Rattle.host_top.specs.Files.{KeepsDisks, KeepsDoors}
-use Rattle.host_top.specs.Files.{KeepsFiles, OutsideState, RisesWith, TakesBack}
+use Rattle.host_top.specs.Files.{KeepsFiles, OutsideState, RisesWith, TakesDiskBack}
 use Rattle.host_top.specs.Folder.{AreSame}
 use Rattle.host_top.specs.declared.loan.Loan.{Loan}
 use Rattle.host_top.proofs.BorrowLemmas.{turned_about, each_last, lending_still, one_back}
@@ -85,7 +85,7 @@ module _ {D : Type 0} (disks : DiskWords D) where
       (λ l f failed. let rose = f failed in omega (arith, rose, le)) each
 
   rises_at : (b c : OutsideState D) (l : Lending D) (back : D)
-      → TakesBack disks.faults l.name back b c → b.loan l.name ≡ Some (loan_by disks l)
+      → TakesDiskBack disks.faults l.name back b c → b.loan l.name ≡ Some (loan_by disks l)
       → RisesWith (disks.faults l.given) (disks.faults back) b.disk_faults c.disk_faults
   rises_at b c l back takes loan =
       subst (λ (o : Option Loan). IsSomeAnd o
@@ -95,7 +95,7 @@ module _ {D : Type 0} (disks : DiskWords D) where
       (rest : List (Lending D)) (back : D)
       → CountsFaults disks a b (front ++ l ∷ rest) → l.back ≡ None
       → b.loan l.name ≡ Some (loan_by disks l)
-      → TakesBack disks.faults l.name back b c
+      → TakesDiskBack disks.faults l.name back b c
       → CountsFaults disks a c (front ++ record l { back = Some back } ∷ rest)
   counts_one a b c front l rest back counts out loan takes =
       let rises = rises_at b c l back takes loan in
@@ -177,7 +177,7 @@ module _ {D : Type 0} (disks : DiskWords D) where
   -- they are put back, between others
   pub all_back : (s a b c : OutsideState D) (front rest : List (Lending D)) (ns : List (List ℕ))
       (gs bs : List D) → Borrowed disks a b (front ++ (lent_as ns gs ++ rest))
-      → AreApart ns → Each (λ n. Each (IsOther n) front) ns → Each (λ n. Each (IsOther n) rest) ns
+      → AreDifferentNames ns → Each (λ n. Each (IsOther n) front) ns → Each (λ n. Each (IsOther n) rest) ns
       → AreSame disks gs bs → PutsBack disks.faults ns bs b c
       → Goes s a b c (front ++ (lent_as ns gs ++ rest))
       (front ++ (back_as (lent_as ns gs) bs ++ rest))

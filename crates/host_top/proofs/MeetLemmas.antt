@@ -4,11 +4,11 @@ use Rattle.std.proofs.Common.{◌∙◌, subst, arith, Option, Some, None}
 use Rattle.std.proofs.lemmas.List.{get_or_past, set-get_or, set_past}
 use Rattle.std.proofs.lemmas.List.FromFn.{get_or-map-range_with_len}
 use Rattle.gate_journal.specs.declared.command.Command.{Command}
-use Rattle.host_serve.specs.Chain.{Answers, Chain, TurnsIn, TurnsOnNone}
+use Rattle.host_serve.specs.Chain.{Answers, AnswersInOrder, TurnsIn, TurnsOnNone}
 use Rattle.host_serve.specs.Holders.{Holder, IsAloneHolder, holder_at, seen_at}
 use Rattle.host_serve.specs.Hosts.{sessions_below}
 use Rattle.host_serve.specs.Opening.{lone, roots}
-use Rattle.host_serve.specs.Serves.{MayMeetIn, Turn, turned_on}
+use Rattle.host_serve.specs.Serves.{MayMeetIn, AnsweredLine, turned_again}
 use Rattle.host_serve.proofs.AloneLemmas.{AreMetBy, met_all}
 use Rattle.host_serve.proofs.ChainLemmas.{answer_wide}
 use Rattle.session_core.specs.Hosts.{entries_of, session_on}
@@ -28,13 +28,13 @@ unfolding sessions_below
 lone_there s below = get_or-map-range_with_len (λ (t : ℕ). lone) 0 64 s s _ below (omega arith)
 
 module _ (stories : List Story) (budget : ℕ) where
-  record IsLed (old : Histories) (t : Turn) (new : Histories) : Type 0 where
+  record IsLed (old : Histories) (t : AnsweredLine) (new : Histories) : Type 0 where
     pub may : MayMeet (decision_held stories budget old t).accepted t.outcome
     pub said : t.reply ≡ (turn_held stories budget old t).reply
     pub after : new ≡ set old (session_on t.line) (turn_held stories budget old t).history
 
   -- a line that names no session is answered on an empty history
-  led_nowhere : (old : Histories) (t : Turn) (new : Histories) → length old ≡ 64
+  led_nowhere : (old : Histories) (t : AnsweredLine) (new : Histories) → length old ≡ 64
       → session_on t.line ≡ 64 → TurnsOnNone stories budget old t new → IsLed old t new
   led_nowhere old t new wide none n =
       let far : length old ≤ session_on t.line = omega (arith, wide, none) in
@@ -43,7 +43,7 @@ module _ (stories : List Story) (budget : ℕ) where
       record {
         may = subst (λ (b : List Entry). MayMeetIn stories budget b t) (sym empty) n.met;
         said =
-            n.reply ∙ ap (λ (b : List Entry). (turned_on stories budget b 0 t).reply) (sym empty);
+            n.reply ∙ ap (λ (b : List Entry). (turned_again stories budget b 0 t).reply) (sym empty);
         after =
             n.seen ∙ sym (set_past old (session_on t.line) (turn_held stories budget old t).history
             far);
@@ -65,7 +65,7 @@ module _ (stories : List Story) (budget : ℕ) where
   may_want None = tt
   may_want (Some command) = tt
 
-  led_wanting : (old : Histories) (t : Turn) (new : Histories) → t.outcome ≡ OutOfMemory
+  led_wanting : (old : Histories) (t : AnsweredLine) (new : Histories) → t.outcome ≡ OutOfMemory
       → TurnsOnNone stories budget old t new → IsLed old t new
   led_wanting old t new wanted n =
       let h : List Entry = entries_of old (session_on t.line) in
@@ -84,7 +84,7 @@ module _ (stories : List Story) (budget : ℕ) where
             ∙ set-get_or old (session_on t.line) []);
       }
 
-  led_then : (old : Histories) (t : Turn) (mid : Histories) (turns : List Turn) (new : Histories)
+  led_then : (old : Histories) (t : AnsweredLine) (mid : Histories) (turns : List AnsweredLine) (new : Histories)
       → IsLed old t mid → Lead stories budget mid turns new
       → Lead stories budget old (t ∷ turns) new
   led_then old t mid turns new one more =
@@ -92,7 +92,7 @@ module _ (stories : List Story) (budget : ℕ) where
 
   module _ (sound : Type 0) where
     -- in its session, where its pass is alone
-    led_in : (old : Histories) (t : Turn) (new : Histories) (h : Holder) (after : List Entry)
+    led_in : (old : Histories) (t : AnsweredLine) (new : Histories) (h : Holder) (after : List Entry)
         → h ≡ lone → t.mark.session ≡ session_on t.line
         → TurnsIn stories budget sound h (seen_at old t.mark.session) t after
         → new ≡ set old t.mark.session after → IsLed old t new
@@ -100,10 +100,10 @@ module _ (stories : List Story) (budget : ℕ) where
         let before : i.before ≡ entries_of old (session_on t.line) =
         i.alone (subst IsAloneHolder (sym is) (refl, refl))
         ∙ ap (λ (k : ℕ). seen_at old k) there in
-        let turned : turned_on stories budget i.before h.number t ≡ turn_held stories budget old t
+        let turned : turned_again stories budget i.before h.number t ≡ turn_held stories budget old t
         =
-        ap (λ (b : List Entry). turned_on stories budget b h.number t) before
-        ∙ ap (λ (g : Holder). turned_on stories budget (entries_of old (session_on t.line))
+        ap (λ (b : List Entry). turned_again stories budget b h.number t) before
+        ∙ ap (λ (g : Holder). turned_again stories budget (entries_of old (session_on t.line))
         g.number t) is in
         record {
           may = subst (λ (b : List Entry). MayMeetIn stories budget b t) before i.met;
@@ -114,7 +114,7 @@ module _ (stories : List Story) (budget : ℕ) where
               (i.history ∙ ap (λ (u : Turned). u.history) turned);
         }
 
-    led_one : (old : Histories) (t : Turn) (new : Histories) → length old ≡ 64
+    led_one : (old : Histories) (t : AnsweredLine) (new : Histories) → length old ≡ 64
         → Answers stories budget sound roots old t new → IsLed old t new
     led_one old t new wide (inl o) =
         led_in old t new (holder_at roots t.mark.session) o.after
@@ -124,15 +124,15 @@ module _ (stories : List Story) (budget : ℕ) where
       | inr wanted ↦ led_wanting old t new wanted n
     ]
 
-    pub led_all : (old : Histories) (turns : List Turn) (new : Histories) → length old ≡ 64
-        → Chain stories budget sound roots old turns new → Lead stories budget old turns new
+    pub led_all : (old : Histories) (turns : List AnsweredLine) (new : Histories) → length old ≡ 64
+        → AnswersInOrder stories budget sound roots old turns new → Lead stories budget old turns new
     led_all old [] new wide c = c
     led_all old (t ∷ turns) new wide c =
         led_then old t c.0 turns new (led_one old t c.0 wide c.1)
         (led_all c.0 turns new (answer_wide stories budget sound roots old t c.0 wide c.1) c.2)
 
-    pub led_alone : sound → (old : Histories) (turns : List Turn) (new : Histories)
-        → length old ≡ 64 → Chain stories budget sound roots old turns new
+    pub led_alone : sound → (old : Histories) (turns : List AnsweredLine) (new : Histories)
+        → length old ≡ 64 → AnswersInOrder stories budget sound roots old turns new
         → LeadAlone stories budget old turns new
     led_alone holds old turns new wide c =
         let m : AreMetBy stories budget old turns new =

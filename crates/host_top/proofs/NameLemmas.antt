@@ -14,7 +14,7 @@ use Rattle.std.specs.List.{range_with_len}
 use Rattle.std.specs.Prelude.{slice_index}
 use Rattle.std.specs.Str.{bytes_eq}
 use Rattle.turn_cell.specs.History.{Each}
-use Rattle.host_top.specs.Borrowed.{AreApart, journal_in, snap_in, snaps_below}
+use Rattle.host_top.specs.Borrowed.{AreDifferentNames, journal_in, snap_in, snaps_below}
 
 -- names that aren't equal are told apart
 pub told_apart : (a b : List ℕ) → (a ≡ b → ⊥) → bytes_eq a b ≡ false
@@ -77,7 +77,7 @@ from_on folder s a (suc n) below within = (
 )
 
 apart_from : (folder : List ℕ) (a n : ℕ) → a + n ≤ 64
-    → AreApart (map (snap_in folder) (range_with_len a n))
+    → AreDifferentNames (map (snap_in folder) (range_with_len a n))
 apart_from folder a zero within = tt
 apart_from folder a (suc n) within = (
   from_on folder a (a + 1) n (omega arith) (omega arith),
@@ -86,7 +86,7 @@ apart_from folder a (suc n) within = (
 )
 
 -- the names of the stores are apart
-pub snaps_apart : (folder : List ℕ) (n : ℕ) → n ≤ 64 → AreApart (snaps_below folder n)
+pub snaps_apart : (folder : List ℕ) (n : ℕ) → n ≤ 64 → AreDifferentNames (snaps_below folder n)
 unfolding snaps_below
 snaps_apart folder n within = apart_from folder 0 n (omega arith)
 

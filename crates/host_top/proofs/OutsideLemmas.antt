@@ -6,7 +6,7 @@ use Rattle.std.specs.Borrow.{Bor}
 use Rattle.std.specs.Option.{option_and_then, option_copied}
 use Rattle.std.specs.Str.{bytes_eq}
 use Rattle.std.proofs.lemmas.Slice.Eq.{bytes_eq-Decides}
-use Rattle.host_top.specs.Files.{Told, Untold, told_by, told_now, told_at, returned, AreBelow}
+use Rattle.host_top.specs.Files.{Told, Untold, told_of_all, told_now, told_at, returned, AreBelow}
 use Rattle.host_top.specs.declared.loan.Loan.{Loan}
 
 -- where one thing stands at a name, so do its parts
@@ -23,23 +23,23 @@ pub part_at : {S X : Type 0} (f : S → Option X) (old new : List ℕ → Option
 part_at f old new name now is other =
     ap (option_and_then f) (is other) ∙ parted f (bytes_eq name other) now (old other)
 
-told_known : {X : Type 0} (x : Option X) (now : Told X) → told_now (told_by x) now ≡ now
+told_known : {X : Type 0} (x : Option X) (now : Told X) → told_now (told_of_all x) now ≡ now
 told_known None now = refl
 told_known (Some a) now = refl
 
 tells_by : {X : Type 0} (b : Bool) (now old : Option X)
-    → told_by (cond b now old) ≡ cond b (told_now (told_by old) (told_by now)) (told_by old)
-tells_by true now old = sym (told_known old (told_by now))
+    → told_of_all (cond b now old) ≡ cond b (told_now (told_of_all old) (told_of_all now)) (told_of_all old)
+tells_by true now old = sym (told_known old (told_of_all now))
 tells_by false now old = refl
 
 -- and what is told of them
 pub told_part_at : {S X : Type 0} (f : S → Option X) (old new : List ℕ → Option S) (name : List ℕ)
     (now : S)
     → ((other : List ℕ) → new other ≡ update bytes_eq old name (Some now) other)
-    → (other : List ℕ) → told_by (option_and_then f (new other)) ≡ told_at
-    (λ n. told_by (option_and_then f (old n))) name (told_by (f now)) other
+    → (other : List ℕ) → told_of_all (option_and_then f (new other)) ≡ told_at
+    (λ n. told_of_all (option_and_then f (old n))) name (told_of_all (f now)) other
 told_part_at f old new name now is other =
-    ap told_by (part_at f old new name now is other)
+    ap told_of_all (part_at f old new name now is other)
     ∙ tells_by (bytes_eq name other) (f now) (option_and_then f (old other))
 
 empty_at : {S X : Type 0} (f : S → Option X) (b : Bool) (now : S) (old : Option S) → f now ≡ None

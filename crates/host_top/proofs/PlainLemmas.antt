@@ -10,10 +10,10 @@ use Rattle.line_talk.specs.Streams.{SourceState, SinkState, Wrote}
 use Rattle.line_talk.specs.Hearing.{heard_from, begun_after}
 use Rattle.line_talk.specs.Lines.{heard, lines, talk}
 use Rattle.line_talk.specs.Writing.{IsPartOf}
-use Rattle.line_talk.specs.Conversation.{Line, Turns, Answered, BreaksLast, joined}
+use Rattle.line_talk.specs.Conversation.{Line, Turns, Answered, BreaksLast, texts_joined}
 use Rattle.line_talk.specs.Talked.{Talked}
-use Rattle.host_top.specs.Plain.{Answering, Plain, PlainReply, held_by, is_over_held, replies_heard}
-use Rattle.host_top.specs.Plain.{after_heard, replies, after, PlainLeaves, TalkedPlain}
+use Rattle.host_top.specs.Plain.{Answering, Plain, PlainReply, answering_held, is_over_held, replies_heard}
+use Rattle.host_top.specs.Plain.{after_heard, replies, state_after_lines, PlainLeaves, TalkedPlain}
 use Rattle.line_talk.proofs.HearingLemmas.{heard_append}
 use Rattle.line_talk.proofs.StreamsLemmas.{wrote_then}
 use Rattle.line_talk.proofs.TalkLemmas.{kept_lines}
@@ -81,14 +81,14 @@ after_append by state (x ∷ xs) ys = elim (is_over_or_going (by.is_over state))
 plain : {A : Type 0} (by : Answering A) (old : A) (lines : List Line) (replies : List (List ℕ))
     (new : A)
     → Turns (Plain by) by.is_over old lines replies new
-    → (joined replies ≡ replies_heard by old lines) × (new ≡ after_heard by old lines)
+    → (texts_joined replies ≡ replies_heard by old lines) × (new ≡ after_heard by old lines)
 plain by old [] [] new p = (refl, p)
 plain by old [] (r ∷ rs) new p = absurd p
 plain by old (x ∷ xs) [] new p = absurd p
 plain {A} by old (x ∷ xs) (r ∷ rs) new p =
     let rest = plain by p.1.0 xs rs new p.1.2 in
     let turned = p.1.1 in (
-      ap (λ t. t ++ joined rs) turned.0
+      ap (λ t. t ++ texts_joined rs) turned.0
           ∙ ap (λ t. by.reply old x ++ t) (rest.0 ∙ ap (λ s. replies_heard by s xs) turned.1)
           ∙ sym (replies_going by old x xs p.0),
       rest.1 ∙ ap (λ s. after_heard by s xs) turned.1 ∙ sym (after_going by old x xs p.0),
@@ -112,7 +112,7 @@ said_all : {A : Type 0} (by : Answering A) {old new : A} {lines : List Line}
 said_all by {old} {new} {lines} a =
     let p = plain by old lines a.replies new a.turns in
     record {
-      written = joined a.replies;
+      written = texts_joined a.replies;
       told = a.wrote;
       says = p.0
           ∙ ap (replies_heard by old) (sym (append-nil lines));
@@ -128,7 +128,7 @@ said_over by {old} {new} {lines} more a over =
     let done : replies_heard by (after_heard by old lines) more ≡ [] =
     ap (λ s. replies_heard by s more) (sym p.1) ∙ replies_over by new more over in
     record {
-      written = joined a.replies;
+      written = texts_joined a.replies;
       told = a.wrote;
       says =
           p.0 ∙ sym (replies_append by old lines more
@@ -144,7 +144,7 @@ said_part : {A : Type 0} (by : Answering A) {old new : A} {lines : List Line} (m
 said_part by {old} {new} {lines} more a =
     let p = plain by old lines a.replies new a.turns in
     record {
-      written = joined a.replies;
+      written = texts_joined a.replies;
       told = a.wrote;
       says = (
         replies_heard by (after_heard by old lines) more,
@@ -167,20 +167,20 @@ said_broken {A} by {old} {new} {lines} more k =
     let behind : List ℕ = replies_heard by (by.next k.mid k.last) more in
     let all : lines ++ more ≡ k.before ++ k.last ∷ more =
     ap (λ l. l ++ more) k.all ∙ append_assoc k.before (k.last ∷ []) more in
-    let text : replies_heard by old (lines ++ more) ≡ joined k.answered.replies
+    let text : replies_heard by old (lines ++ more) ≡ texts_joined k.answered.replies
     ++ ((part ++ rest) ++ behind)
     = ap (replies_heard by old) all ∙ replies_append by old k.before (k.last ∷ more)
     ∙ ap (λ t. t ++ replies_heard by (after_heard by old k.before) (k.last ∷ more)) (sym p.0)
-    ∙ ap (λ s. joined k.answered.replies ++ replies_heard by s (k.last ∷ more)) (sym p.1)
-    ∙ ap (λ t. joined k.answered.replies ++ t)
+    ∙ ap (λ s. texts_joined k.answered.replies ++ replies_heard by s (k.last ∷ more)) (sym p.1)
+    ∙ ap (λ t. texts_joined k.answered.replies ++ t)
     (replies_going by k.mid k.last more k.going ∙ ap (λ t. t ++ behind) last) in
     record {
-      written = joined k.answered.replies ++ part;
+      written = texts_joined k.answered.replies ++ part;
       told = wrote_then k.answered.wrote k.breaks.stopped.wrote.wrote;
       says = (
         rest ++ behind,
-        text ∙ ap (λ t. joined k.answered.replies ++ t) (append_assoc part rest behind)
-            ∙ sym (append_assoc (joined k.answered.replies) part (rest ++ behind)),
+        text ∙ ap (λ t. texts_joined k.answered.replies ++ t) (append_assoc part rest behind)
+            ∙ sym (append_assoc (texts_joined k.answered.replies) part (rest ++ behind)),
       );
     }
 
@@ -202,29 +202,29 @@ heard_more read rest = (
 pub replies_more : {A : Type 0} (by : Answering A) (start : A) (some more : List (List ℕ))
     → IsPartOf (replies by start some) (replies by start (some ++ more))
 replies_more by start some more = (
-  replies_heard by (after by start some) (map heard more),
+  replies_heard by (state_after_lines by start some) (map heard more),
   ap (replies_heard by start) (map-append heard some more)
       ∙ replies_append by start (map heard some) (map heard more),
 )
 
 -- once no more lines are answered, more bytes change nothing
 pub replies_settled : {A : Type 0} (by : Answering A) (start : A) (read rest : List ℕ)
-    → by.is_over (after by start (lines read)) ≡ true
+    → by.is_over (state_after_lines by start (lines read)) ≡ true
     → replies by start (lines (read ++ rest)) ≡ replies by start (lines read)
 replies_settled by start read rest over =
     let h = heard_more read rest in
     ap (replies_heard by start) h.1 ∙ replies_append by start (map heard (lines read)) h.0
     ∙ ap (λ l. replies by start (lines read) ++ l)
-    (replies_over by (after by start (lines read)) h.0 over)
+    (replies_over by (state_after_lines by start (lines read)) h.0 over)
     ∙ append-nil (replies by start (lines read))
 
 pub after_settled : {A : Type 0} (by : Answering A) (start : A) (read rest : List ℕ)
-    → by.is_over (after by start (lines read)) ≡ true
-    → after by start (lines (read ++ rest)) ≡ after by start (lines read)
+    → by.is_over (state_after_lines by start (lines read)) ≡ true
+    → state_after_lines by start (lines (read ++ rest)) ≡ state_after_lines by start (lines read)
 after_settled by start read rest over =
     let h = heard_more read rest in
     ap (after_heard by start) h.1 ∙ after_append by start (map heard (lines read)) h.0
-    ∙ after_over by (after by start (lines read)) h.0 over
+    ∙ after_over by (state_after_lines by start (lines read)) h.0 over
 
 talked_all : {A : Type 0} (by : Answering A) {old new : A} {input now : SourceState}
     {output wrote : SinkState} {ended : Ended}
@@ -309,22 +309,22 @@ talked_plain by {old} LineLimit t =
 
 -- a state that is held answers as it does alone
 held_replies : {A : Type 0} (by : Answering A) (state : A) (lines : List Line)
-    → replies_heard (held_by by) (Some state) lines ≡ replies_heard by state lines
+    → replies_heard (answering_held by) (Some state) lines ≡ replies_heard by state lines
 held_replies by state [] = refl
 held_replies by state (line ∷ lines) =
     elim (by.is_over state) as (λ b. cond b []
-    (by.reply state line ++ replies_heard (held_by by) (Some (by.next state line)) lines) ≡ cond b
+    (by.reply state line ++ replies_heard (answering_held by) (Some (by.next state line)) lines) ≡ cond b
     [] (by.reply state line ++ replies_heard by (by.next state line) lines)) [
       | true ↦ refl
       | false ↦ ap (λ t. by.reply state line ++ t) (held_replies by (by.next state line) lines)
     ]
 
 held_after : {A : Type 0} (by : Answering A) (state : A) (lines : List Line)
-    → after_heard (held_by by) (Some state) lines ≡ Some (after_heard by state lines)
+    → after_heard (answering_held by) (Some state) lines ≡ Some (after_heard by state lines)
 held_after by state [] = refl
 held_after by state (line ∷ lines) =
     elim (by.is_over state) as (λ b. cond b (Some state)
-    (after_heard (held_by by) (Some (by.next state line)) lines) ≡ Some
+    (after_heard (answering_held by) (Some (by.next state line)) lines) ≡ Some
     (cond b state (after_heard by (by.next state line) lines))) [
       | true ↦ refl
       | false ↦ held_after by (by.next state line) lines
@@ -332,7 +332,7 @@ held_after by state (line ∷ lines) =
 
 leaves_held : {A : Type 0} (by : Answering A) (start : A) (ended : Ended) (read : List ℕ)
     (now : SourceState) (written : List ℕ)
-    → PlainLeaves ended (held_by by) (Some start) read now written
+    → PlainLeaves ended (answering_held by) (Some start) read now written
     → PlainLeaves ended by start read now written
 leaves_held by start Done read now written p = elim p.1 [
   | inl end ↦ (p.0 ∙ held_replies by start (map heard (lines read)), inl end)
@@ -353,10 +353,10 @@ leaves_held by start LineLimit read now written p =
 
 pub talked_held : {A : Type 0} (by : Answering A) {start : A} {new : Option A}
     {input now : SourceState} {output wrote : SinkState} (ended : Ended)
-    → Talked (Plain (held_by by)) (PlainReply (held_by by)) (is_over_held by) (Some start) new input
+    → Talked (Plain (answering_held by)) (PlainReply (answering_held by)) (is_over_held by) (Some start) new input
     now output wrote ended → TalkedPlain by start input now output wrote ended
 talked_held by {start} {now = now} ended talked =
-    let t = talked_plain (held_by by) ended talked in
+    let t = talked_plain (answering_held by) ended talked in
     record {
       read = t.read;
       written = t.written;

@@ -23,7 +23,7 @@ use Rattle.line_talk.specs.Writing.{IsPartOf}
 use Rattle.gate_journal.specs.Rows.{commands_of}
 use Rattle.gate_journal.specs.declared.row.Row.{Row}
 use Rattle.host_serve.specs.Opening.{AreAgreed}
-use Rattle.host_serve.specs.Serves.{Turn}
+use Rattle.host_serve.specs.Serves.{AnsweredLine}
 use Rattle.host_serve.specs.Told.{AnsweredOf}
 use Rattle.session_core.specs.History.{game_of}
 use Rattle.session_saves.specs.Agreement.{IsAgreedFile, opens_of}
@@ -193,7 +193,7 @@ pipe_told disks stories budget disk folder bytes given givens (back.All journal 
       handed_in = where_told disks (disk (journal_in folder)) given _ lent.0 c.handed_in;
       turns = c.turns;
       which =
-          answers_in how c.read read.0 now (map (λ (t : Turn). t.line) c.turns) c.within read.2
+          answers_in how c.read read.0 now (map (λ (t : AnsweredLine). t.line) c.turns) c.within read.2
           c.which;
       writes = c.writes;
       histories = c.histories;

@@ -8,16 +8,16 @@ use Rattle.story_run.specs.declared.story.Story.{Story}
 use Rattle.line_talk.specs.declared.sink.Stop.{Stop}
 use Rattle.line_talk.specs.declared.sink.Stop.TheVariants as stop
 use Rattle.host_top.specs.declared.status.Status.TheVariants.{Done, Refused, NoMemory}
-use Rattle.host_top.specs.Plain.{Answering, replies, after, PlainLeaves, TalkedPlain, held_by}
+use Rattle.host_top.specs.Plain.{Answering, replies, state_after_lines, PlainLeaves, TalkedPlain, answering_held}
 use Rattle.host_top.specs.Plain.{is_over_held}
 use Rattle.line_talk.specs.declared.ended.Ended.{Ended}
 use Rattle.line_talk.specs.declared.ended.Ended.TheVariants as ended
 use Rattle.host_top.specs.Headline.{Speech, whole_text}
 use Rattle.line_talk.specs.Lines.{lines, talk}
-use Rattle.host_top.specs.RunText.{opened, solo, show_text}
+use Rattle.host_top.specs.RunText.{world_after_opening, solo, show_text}
 use Rattle.host_top.specs.CheckText.{good_line}
 use Rattle.host_top.specs.Speech.{said_once, run_speech, check_speech}
-use Rattle.host_top.specs.Spoken.{Spoken, Leaves}
+use Rattle.host_top.specs.Spoken.{Spoken, SpeechLeaves}
 use Rattle.host_top.specs.Status.{status_of_end, status_of_stop}
 use Rattle.line_talk.specs.Streams.{SourceState, SinkState, Wrote}
 use Rattle.line_talk.specs.Writing.{IsPartOf, Stopped}
@@ -33,7 +33,7 @@ speech_by by start opening =
     record {
       text = λ lines. opening
           ++ replies by start lines;
-      is_over = λ lines. by.is_over (after by start lines);
+      is_over = λ lines. by.is_over (state_after_lines by start lines);
     }
 
 begun_part : (first part text : List ℕ) → IsPartOf part text
@@ -43,7 +43,7 @@ begun_part first part text p = (p.0, ap (λ t. first ++ t) p.1 ∙ sym (append_a
 talk_leaves : {A : Type 0} (by : Answering A) (start : A) (opening : List ℕ) (e : Ended)
     (read : List ℕ) (now : SourceState) (written : List ℕ)
     → PlainLeaves e by start read now written
-    → Leaves (status_of_end e) (Ok (speech_by by start opening)) read now (opening ++ written)
+    → SpeechLeaves (status_of_end e) (Ok (speech_by by start opening)) read now (opening ++ written)
 talk_leaves by start opening ended.Done read now written t = (ap (λ w. opening ++ w) t.0, t.1)
 talk_leaves by start opening ended.ReadFault read now written t = ap (λ w. opening ++ w) t
 talk_leaves by start opening ended.WriteFault read now written t =
@@ -83,7 +83,7 @@ spoken_over by start opening input wrote over = record {
 stop_leaves : (cause : Stop) (said : Result Speech (List ℕ)) (read : List ℕ) (now : SourceState)
     (written : List ℕ)
     → IsPartOf written (whole_text said (talk read))
-    → Leaves (status_of_stop cause) said read now written
+    → SpeechLeaves (status_of_stop cause) said read now written
 stop_leaves stop.Output said read now written p = p
 stop_leaves stop.Memory said read now written p = p
 
@@ -159,7 +159,7 @@ once_stopped text input s = spoken_stopped (Ok (said_once text)) input [] (sym (
 -- the story that is played alone: its opening show wasn't written whole, it is over at once, or
 -- lines were answered
 pub run_stopped : (story : Story) (budget : ℕ) (input : SourceState) {output new : SinkState}
-    {cause : Stop} (start : WorldState) → start ≡ opened story budget
+    {cause : Stop} (start : WorldState) → start ≡ world_after_opening story budget
     → Stopped output new (show_text start) cause
     → Spoken (Ok (run_speech (Some story) budget)) input input output new (status_of_stop cause)
 run_stopped story budget input {output} {new} {cause} start is s =
@@ -167,22 +167,22 @@ run_stopped story budget input {output} {new} {cause} start is s =
     (subst (λ (w : WorldState). Stopped output new (show_text w) cause) is s)
 
 pub run_over : (story : Story) (budget : ℕ) (input : SourceState) {output new : SinkState}
-    (start : WorldState) → start ≡ opened story budget
+    (start : WorldState) → start ≡ world_after_opening story budget
     → is_over start ≡ true → Wrote output new (show_text start)
     → Spoken (Ok (run_speech (Some story) budget)) input input output new Done
 run_over story budget input {output} {new} start is over wrote =
-    spoken_over solo (opened story budget) (show_text (opened story budget)) input
+    spoken_over solo (world_after_opening story budget) (show_text (world_after_opening story budget)) input
     (subst (λ (w : WorldState). Wrote output new (show_text w)) is wrote)
     (ap is_over (sym is) ∙ over)
 
 pub run_talked : (story : Story) (budget : ℕ) {input now : SourceState} {output mid new : SinkState}
-    (e : Ended) (start : WorldState) → start ≡ opened story budget
+    (e : Ended) (start : WorldState) → start ≡ world_after_opening story budget
     → Wrote output mid (show_text start) → {new_player : Option WorldState}
-    → Talked (Plain (held_by solo)) (PlainReply (held_by solo)) (is_over_held solo) (Some start)
+    → Talked (Plain (answering_held solo)) (PlainReply (answering_held solo)) (is_over_held solo) (Some start)
     new_player input now mid new e
     → Spoken (Ok (run_speech (Some story) budget)) input now output new (status_of_end e)
 run_talked story budget {input} {now} {output} {mid} {new} e start is wrote talked =
-    spoken_by solo (opened story budget) (show_text (opened story budget)) e
+    spoken_by solo (world_after_opening story budget) (show_text (world_after_opening story budget)) e
     (subst (λ (w : WorldState). Wrote output mid (show_text w)) is wrote)
     (subst (λ (w : WorldState). TalkedPlain solo w input now mid new e) is
     (talked_held solo e talked))
@@ -215,7 +215,7 @@ steady_once text = record {
 pub steady_run : (story : Option Story) (budget : ℕ) → IsSteady (run_speech story budget)
 steady_run None budget = steady_once []
 steady_run (Some story) budget =
-    steady_by solo (opened story budget) (show_text (opened story budget))
+    steady_by solo (world_after_opening story budget) (show_text (world_after_opening story budget))
 
 pub steady_check : (story : Option Story) → IsSteady (check_speech story)
 steady_check None = steady_once []

@@ -5,10 +5,10 @@ use Rattle.std.proofs.Common.{append_assoc, length-append, Result, Ok, Err, IsEr
 use Rattle.std.proofs.Common.{is_err, is_ok, subst, true, false}
 use Rattle.std.proofs.lemmas.List.{append-nil, length-map, map-append, get_or-map}
 use Rattle.story_run.specs.declared.story.Story.{Story}
-use Rattle.host_top.specs.Files.{IsFile, Told, Untold, Missing, There}
-use Rattle.host_top.specs.StoryFile.{story_of}
+use Rattle.host_top.specs.Files.{IsLoadOf, Told, Untold, Missing, There}
+use Rattle.host_top.specs.StoryFile.{story_in_file}
 use Rattle.host_top.specs.declared.story_file.StoryFault.{StoryFault}
-use Rattle.host_top.specs.Stories.{followed_by, stories_from, stories_of, AreFiles, IsSettled}
+use Rattle.host_top.specs.Stories.{followed_by, stories_from, stories_of, AreFiles, IsLoadSettled}
 use Rattle.host_top.specs.declared.stories.Refusal.{Refusal}
 
 abbrev Found : Type 0
@@ -17,7 +17,7 @@ Found = Result (List Story) Refusal
 -- one more file is loaded
 pub are_more : (file : List ℕ → Told (List ℕ)) (names loaded : List (List ℕ)) (bytes : List ℕ)
     → AreFiles file names loaded
-    → length loaded < length names → IsFile (file (get_or names (length loaded) [])) bytes
+    → length loaded < length names → IsLoadOf (file (get_or names (length loaded) [])) bytes
     → AreFiles file names (loaded ++ bytes ∷ [])
 are_more file [] loaded bytes are room is = absurd (omega arith)
 are_more file (name ∷ names) [] bytes are room is = (is, tt)
@@ -37,10 +37,10 @@ err_behind position (Ok story) (Err refusal) e = refl
 err_behind position (Err fault) more e = refl
 
 pub err_last : (position : ℕ) (loaded : List (List ℕ)) (bytes : List ℕ)
-    → is_err (story_of bytes) ≡ true → IsErr (stories_from position (loaded ++ bytes ∷ []))
-err_last position [] bytes e = err_first position (story_of bytes) (Ok []) e
+    → is_err (story_in_file bytes) ≡ true → IsErr (stories_from position (loaded ++ bytes ∷ []))
+err_last position [] bytes e = err_first position (story_in_file bytes) (Ok []) e
 err_last position (file ∷ loaded) bytes e =
-    err_behind position (story_of file) (stories_from (suc position) (loaded ++ bytes ∷ []))
+    err_behind position (story_in_file file) (stories_from (suc position) (loaded ++ bytes ∷ []))
     (err_last (suc position) loaded bytes e)
 
 -- what is refused stays refused where more is loaded
@@ -55,10 +55,10 @@ pub err_stays : (position : ℕ) (loaded rest : List (List ℕ)) → IsErr (stor
     → stories_from position (loaded ++ rest) ≡ stories_from position loaded
 err_stays position [] rest e = cc
 err_stays position (file ∷ loaded) rest e =
-    stays position (story_of file) (stories_from (suc position) loaded)
+    stays position (story_in_file file) (stories_from (suc position) loaded)
     (stories_from (suc position) (loaded ++ rest)) (err_stays (suc position) loaded rest) e
 
-first_told : (told : Told (List ℕ)) (file bytes : List ℕ) → IsFile told bytes → told ≡ There file
+first_told : (told : Told (List ℕ)) (file bytes : List ℕ) → IsLoadOf told bytes → told ≡ There file
     → bytes ≡ take 67108865 file
 first_told Untold file bytes is e = cc
 first_told Missing file bytes is e = absurd is
@@ -95,7 +95,7 @@ no_more names loaded (r ∷ rest) files file told split same =
 
 -- so what was loaded tells the stories of all
 pub settled_told : (file : List ℕ → Told (List ℕ)) (names loaded files : List (List ℕ))
-    → AreFiles file names loaded → IsSettled names loaded → map file names ≡ map There files
+    → AreFiles file names loaded → IsLoadSettled names loaded → map file names ≡ map There files
     → stories_of (map (take 67108865) files) ≡ stories_of loaded
 settled_told file names loaded files are (inl same) told =
     let f = files_told file names loaded files are told in
@@ -126,7 +126,7 @@ pub loaded_more : {A N : Type 0} (contents : A → List ℕ) (text : N → List 
     (i : ℕ)
     → AreFiles file (map text names) (map contents loaded) → length loaded ≡ i → i < length names
     → new ≡ loaded ++ one ∷ [] → now ≡ file
-    → IsFile (now (text (get_or names i none))) (contents one)
+    → IsLoadOf (now (text (get_or names i none))) (contents one)
     → AreFiles file (map text names) (map contents new)
 loaded_more {A} {N} contents text file now names loaded new one none i are count room pushed same
     given =
@@ -135,10 +135,10 @@ loaded_more {A} {N} contents text file now names loaded new one none i are count
     let at : length (map contents loaded) ≡ i = length-map loaded contents ∙ count in
     let word : List ℕ = text (get_or names i none) in
     let here : get_or (map text names) i [] ≡ word = get_or-map text names i none [] room in
-    let file_here : IsFile (file (get_or (map text names) (length (map contents loaded)) []))
+    let file_here : IsLoadOf (file (get_or (map text names) (length (map contents loaded)) []))
     (contents one)
     =
-    subst (λ (o : Told (List ℕ)). IsFile o (contents one))
+    subst (λ (o : Told (List ℕ)). IsLoadOf o (contents one))
     (ap (λ f. f word) same ∙ ap file
     (sym here ∙ ap (λ k. get_or (map text names) k []) (sym at))) given in
     subst (λ (l : List (List ℕ)). AreFiles file (map text names) l) (sym longer)
@@ -150,13 +150,13 @@ no_story (Ok story) e = cc
 no_story (Err fault) e = refl
 
 pub loaded_last : {A : Type 0} (contents : A → List ℕ) (loaded new : List A) (one : A)
-    → new ≡ loaded ++ one ∷ [] → is_ok (story_of (contents one)) ≡ false
+    → new ≡ loaded ++ one ∷ [] → is_ok (story_in_file (contents one)) ≡ false
     → IsErr (stories_of (map contents new))
 loaded_last contents loaded new one pushed refused =
     let longer : map contents new ≡ map contents loaded ++ contents one ∷ [] =
     ap (map contents) pushed ∙ map-append contents loaded (one ∷ []) in
     subst (λ (l : List (List ℕ)). IsErr (stories_of l)) (sym longer)
-    (err_last 0 (map contents loaded) (contents one) (no_story (story_of (contents one)) refused))
+    (err_last 0 (map contents loaded) (contents one) (no_story (story_in_file (contents one)) refused))
 
 ok_more : (position : ℕ) (story : Result Story StoryFault) (x y : Found) → (IsOk x → IsOk y)
     → IsOk (followed_by position story x) → IsOk (followed_by position story y)
@@ -171,11 +171,11 @@ ok_one position (Ok story) e = refl
 ok_one position (Err fault) e = cc
 
 ok_last : (position : ℕ) (loaded : List (List ℕ)) (bytes : List ℕ)
-    → IsOk (stories_from position loaded) → is_ok (story_of bytes) ≡ true
+    → IsOk (stories_from position loaded) → is_ok (story_in_file bytes) ≡ true
     → IsOk (stories_from position (loaded ++ bytes ∷ []))
-ok_last position [] bytes e good = ok_one position (story_of bytes) good
+ok_last position [] bytes e good = ok_one position (story_in_file bytes) good
 ok_last position (file ∷ loaded) bytes e good =
-    ok_more position (story_of file) (stories_from (suc position) loaded)
+    ok_more position (story_in_file file) (stories_from (suc position) loaded)
     (stories_from (suc position) (loaded ++ bytes ∷ []))
     (λ ok. ok_last (suc position) loaded bytes ok good) e
 
@@ -187,7 +187,7 @@ any_error (Err e) P all = all e
 -- each file that was loaded is a story, with one more
 pub loaded_story : {A : Type 0} (contents : A → List ℕ) (loaded new : List A) (one : A)
     → new ≡ loaded ++ one ∷ [] → IsOk (stories_of (map contents loaded))
-    → is_ok (story_of (contents one)) ≡ true → IsOk (stories_of (map contents new))
+    → is_ok (story_in_file (contents one)) ≡ true → IsOk (stories_of (map contents new))
 loaded_story contents loaded new one pushed all good =
     let longer : map contents new ≡ map contents loaded ++ contents one ∷ [] =
     ap (map contents) pushed ∙ map-append contents loaded (one ∷ []) in
@@ -201,7 +201,7 @@ next_of xs i x lt is = rw (add-one, drop-cons xs i x) (ap (λ y. y ∷ drop (suc
 -- one more story is read
 pub read_more : {A : Type 0} (contents : A → List ℕ) (files : List A) (all : Found)
     (stories new : List Story) (one : A) (story : Story) (i : ℕ)
-    → i < length files → one ≡ get_or files i one → story_of (contents one) ≡ Ok story
+    → i < length files → one ≡ get_or files i one → story_in_file (contents one) ≡ Ok story
     → new ≡ stories ++ story ∷ []
     → all ≡ behind stories (stories_from i (map contents (drop i files)))
     → all ≡ behind new (stories_from (i + 1) (map contents (drop (i + 1) files)))
@@ -217,7 +217,7 @@ read_more {A} contents files all stories new one story i room item good pushed b
 -- a file is refused
 pub read_refused : {A : Type 0} (contents : A → List ℕ) (files : List A) (all : Found)
     (stories : List Story) (one : A) (fault : StoryFault) (i : ℕ)
-    → i < length files → one ≡ get_or files i one → story_of (contents one) ≡ Err fault
+    → i < length files → one ≡ get_or files i one → story_in_file (contents one) ≡ Err fault
     → all ≡ behind stories (stories_from i (map contents (drop i files)))
     → all ≡ Err (record { story = i; fault = fault })
 read_refused {A} contents files all stories one fault i room item bad before =

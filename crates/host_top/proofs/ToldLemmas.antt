@@ -16,14 +16,14 @@ use Rattle.command_words.specs.declared.words.Action.TheVariants.{Run, Check, Pi
 use Rattle.command_words.specs.declared.words.Action.TheVariants.{Init, Help, Version}
 use Rattle.host_top.specs.Borrowed.{journal_in, snaps_below}
 use Rattle.host_top.specs.Files.{OutsideState, Told}
-use Rattle.host_top.specs.Follows.{Does, Follows, Tells, WritesFor}
-use Rattle.host_top.specs.Headline.{Speech, Writes, whole_text}
+use Rattle.host_top.specs.Follows.{DoesTask, FollowsCommand, TellsCaller, WritesFor}
+use Rattle.host_top.specs.Headline.{Speech, WritesOf, whole_text}
 use Rattle.command_words.specs.Help.{help_text, version_text}
 use Rattle.line_talk.specs.Lines.{lines, talk, IsWithinLimits}
 use Rattle.host_top.specs.DiskWords.{DiskWords}
 use Rattle.host_top.specs.Speech.{Task, Says, Serves, ServesLinks, Begins, tasked}
 use Rattle.host_top.specs.Status.{status_of}
-use Rattle.host_top.specs.Spoken.{Spoken, Leaves}
+use Rattle.host_top.specs.Spoken.{Spoken, SpeechLeaves}
 use Rattle.host_top.specs.Stories.{stories_of}
 use Rattle.line_talk.specs.Streams.{SourceState, SinkState}
 use Rattle.line_talk.proofs.StreamsLemmas.{gave_none, wrote_none}
@@ -82,8 +82,8 @@ done_writes speech s read rest now written left text (inr over) =
 
 writes : (status : Status) (said : Result Speech (List ℕ)) → IsSteadySaid said
     → (read rest : List ℕ) (now : SourceState) (written : List ℕ)
-    → length read ≤ 2 ^ 31 → now.left ≡ Some rest → Leaves status said read now written
-    → Writes status said (read ++ rest) written
+    → length read ≤ 2 ^ 31 → now.left ≡ Some rest → SpeechLeaves status said read now written
+    → WritesOf status said (read ++ rest) written
 writes Done (Ok speech) s read rest now written within left leaves =
     done_writes speech s read rest now written left leaves.0 leaves.1
 writes Done (Err line) s read rest now written within left leaves = absurd leaves
@@ -107,11 +107,11 @@ writes LineLimit (Ok speech) s read rest now written within left leaves = (
 writes LineLimit (Err line) s read rest now written within left leaves = absurd leaves
 
 nothing_writes : (status : Status) (P : Type 0) (said : Result Speech (List ℕ)) (input : List ℕ)
-    → (status ≡ ReadFault) × P ⊎ (status ≡ NoMemory) → Writes status said input []
+    → (status ≡ ReadFault) × P ⊎ (status ≡ NoMemory) → WritesOf status said input []
 nothing_writes status P said input (inl failed) =
-    subst (λ (s : Status). Writes s said input []) (sym failed.0) (inl refl)
+    subst (λ (s : Status). WritesOf s said input []) (sym failed.0) (inl refl)
 nothing_writes status P said input (inr wanted) =
-    subst (λ (s : Status). Writes s said input []) (sym wanted) (whole_text said (talk input), refl)
+    subst (λ (s : Status). WritesOf s said input []) (sym wanted) (whole_text said (talk input), refl)
 
 abbrev IsSteadyTask : Result Task (List ℕ) → Type 0
 IsSteadyTask (Ok (Says speech)) = IsSteady speech
@@ -136,14 +136,14 @@ steady action (Err refusal) budget folder = tt
 said_held : (said : Result Speech (List ℕ)) → IsSteadySaid said
     → (bytes held : List ℕ) {input now : SourceState} {output new : SinkState} (status : Status)
     → Spoken said input now output new status → input.left ≡ Some bytes → output.held ≡ Some held
-    → (written : List ℕ) × (new.held ≡ Some (held ++ written)) × Writes status said bytes written
+    → (written : List ℕ) × (new.held ≡ Some (held ++ written)) × WritesOf status said bytes written
 said_held said s bytes held {input} {now} {output} {new} status spoken left_is held_is =
     let c = consumed input.left now.left bytes spoken.read spoken.gave.told left_is in
-    let w : Writes status said (spoken.read ++ c.0) spoken.written =
+    let w : WritesOf status said (spoken.read ++ c.0) spoken.written =
     writes status said s spoken.read c.0 now spoken.written spoken.within c.2 spoken.leaves in (
       spoken.written,
       held_then output.held new.held held spoken.written spoken.wrote.told held_is,
-      subst (λ (b : List ℕ). Writes status said b spoken.written) (sym c.1) w,
+      subst (λ (b : List ℕ). WritesOf status said b spoken.written) (sym c.1) w,
     )
 
 -- what was written is held behind what was held
@@ -155,7 +155,7 @@ held_so {output} {new} held P held_is w =
 held_on : {D : Type 0} (disks : DiskWords D) (task : Result Task (List ℕ)) → IsSteadyTask task
     → (bytes held : List ℕ) (outside beyond : OutsideState D) (input now : SourceState)
     (output new : SinkState) (status : Status)
-    → Does disks task outside beyond input now output new status → input.left ≡ Some bytes
+    → DoesTask disks task outside beyond input now output new status → input.left ≡ Some bytes
     → output.held ≡ Some held
     → (written : List ℕ) × (new.held ≡ Some (held ++ written))
     × WritesFor disks outside.disk status task bytes written
@@ -217,8 +217,8 @@ same_told {D} disks old new status task input written same w =
 
 pub tells : {D : Type 0} (disks : DiskWords D) (asked : Asked) (status : Status)
     (outside beyond : OutsideState D) (input now : SourceState) (output new : SinkState)
-    → Follows disks asked status outside beyond input now output new
-    → Tells disks asked status outside input output new
+    → FollowsCommand disks asked status outside beyond input now output new
+    → TellsCaller disks asked status outside input output new
 tells disks asked status outside beyond input now output new (inl none) files bytes held files_are
     left_is held_is = (
       [],
@@ -246,7 +246,7 @@ tells disks asked status outside beyond input now output new (inr some) files by
 -- memory was wanted before a task was begun
 pub does_nothing : {D : Type 0} (disks : DiskWords D) (task : Result Task (List ℕ))
     (outside : OutsideState D) (input : SourceState) (output : SinkState)
-    → Does disks task outside outside input input output output NoMemory
+    → DoesTask disks task outside outside input input output output NoMemory
 does_nothing disks (Err line) outside input output =
     (spoken_nothing (Err line) input output, keeps_none outside)
 does_nothing disks (Ok (Says speech)) outside input output =
@@ -263,7 +263,7 @@ does_nothing disks (Ok (Begins folder)) outside input output =
 -- where memory was wanted before a file was loaded, each caller is told so
 tells_nothing : {D : Type 0} (disks : DiskWords D) (asked : Asked) (outside : OutsideState D)
     (input : SourceState) (output : SinkState)
-    → Tells disks asked NoMemory outside input output output
+    → TellsCaller disks asked NoMemory outside input output output
 tells_nothing disks asked outside input output files bytes held files_are left_is held_is = (
   [],
   held_then output.held output.held held [] (wrote_none output).told held_is,
@@ -280,12 +280,12 @@ pub told_no_memory : {D : Type 0} (disks : DiskWords D) (asked : Option Asked) (
     (outside : OutsideState D) (input : SourceState) (output : SinkState)
     → status_of code ≡ Some NoMemory
     → IfSome asked (λ one. IsSomeAnd (status_of code)
-    (λ status. Tells disks one status outside input output output))
+    (λ status. TellsCaller disks one status outside input output output))
 told_no_memory disks asked code outside input output is =
     whatever_is_asked asked (λ (one : Asked). IsSomeAnd (status_of code)
-    (λ status. Tells disks one status outside input output output))
+    (λ status. TellsCaller disks one status outside input output output))
     (λ one. subst (λ (s : Option Status). IsSomeAnd s
-    (λ status. Tells disks one status outside input output output)) (sym is)
+    (λ status. TellsCaller disks one status outside input output output)) (sym is)
     (tells_nothing disks one outside input output))
 
 -- and so it is with what is done
@@ -293,12 +293,12 @@ pub done_no_memory : {D : Type 0} (disks : DiskWords D) (asked : Option Asked) (
     (outside : OutsideState D) (input : SourceState) (output : SinkState)
     → status_of code ≡ Some NoMemory
     → IfSome asked (λ one. IsSomeAnd (status_of code)
-    (λ status. Follows disks one status outside outside input input output output))
+    (λ status. FollowsCommand disks one status outside outside input input output output))
 done_no_memory disks asked code outside input output is =
     whatever_is_asked asked (λ (one : Asked). IsSomeAnd (status_of code)
-    (λ status. Follows disks one status outside outside input input output output))
+    (λ status. FollowsCommand disks one status outside outside input input output output))
     (λ one. subst (λ (s : Option Status). IsSomeAnd s
-    (λ status. Follows disks one status outside outside input input output output)) (sym is)
+    (λ status. FollowsCommand disks one status outside outside input input output output)) (sym is)
     (inl (record {
       behind = record { front = []; are_files = tt; are_stories = refl; next = λ e. cc };
       cause = inr refl;

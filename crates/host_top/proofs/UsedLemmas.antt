@@ -5,12 +5,12 @@ use Rattle.std.proofs.Common.{slice_get, false, String, string_bytes}
 use Rattle.std.proofs.lemmas.Option.{slice_get_within}
 use Rattle.std.specs.Str.{bytes_eq}
 use Rattle.turn_cell.specs.History.{Each}
-use Rattle.host_top.specs.Borrowed.{AreApart, AreAsGiven, AreNamed, Borrowed}
+use Rattle.host_top.specs.Borrowed.{AreDifferentNames, AreAsGiven, AreNamed, Borrowed}
 use Rattle.host_top.specs.Borrowed.{IsLending, Lending, NotLent, PutsBack, back_as}
 use Rattle.host_top.specs.Borrowed.{journal_in, lent_as, snap_in, snaps_below}
 use Rattle.host_top.specs.DiskWords.{DiskWords}
 use Rattle.host_top.specs.Files.{IsLent, IsLentFrom, KeepsDisks, OutsideState}
-use Rattle.host_top.specs.Folder.{FitsNames, IsSameBack, MayPutBack, PutsFolderBack, Takes}
+use Rattle.host_top.specs.Folder.{FitsNames, IsSameBack, MayPutBack, PutsFolderBack, TakesDisks}
 use Rattle.host_top.specs.Folder.{back_at, folder_back, stores_back}
 use Rattle.host_top.specs.declared.folder.Back.{Back}
 use Rattle.host_top.specs.declared.folder.Back.TheVariants as back
@@ -189,9 +189,9 @@ hosted_so disks P Q given givens back.Nothing input now output new status f h = 
 
 module _ (folder journal : List ℕ) (snaps : List (List ℕ)) (named : journal ≡ journal_in folder)
     (names : snaps ≡ snaps_below folder 64) where
-  pub folder_names : AreApart snaps × Each (λ n. bytes_eq journal n ≡ false) snaps
+  pub folder_names : AreDifferentNames snaps × Each (λ n. bytes_eq journal n ≡ false) snaps
   folder_names = (
-    subst AreApart (sym names) (snaps_apart folder 64 (omega arith)),
+    subst AreDifferentNames (sym names) (snaps_apart folder 64 (omega arith)),
     subst (λ (j : List ℕ). Each (λ n. bytes_eq j n ≡ false) snaps) (sym named)
         (subst (λ (l : List (List ℕ)). Each (λ n. bytes_eq (journal_in folder) n ≡ false) l)
         (sym names) (journal_apart folder 64)),
@@ -218,7 +218,7 @@ module _ (folder journal : List ℕ) (snaps : List (List ℕ)) (named : journal 
       × Borrowed disks o m (folder_back journal snaps given givens back.Nothing)
       → m.disk_faults ≡ o.disk_faults → KeepsDisks m e → IsSameBack disks given givens b
       → PutsFolderBack disks.faults journal snaps b e beyond → P given givens b
-      → Takes disks folder P o beyond
+      → TakesDisks disks folder P o beyond
   folder_used {D} disks P given givens b o m e beyond taken same_count keeps same puts done =
       let still =
       none_back disks journal snaps given givens o e

@@ -1,9 +1,9 @@
 -- What `init` leaves of the disks of a folder and of its output (own).
 use Rattle.std.specs.Prelude.{◌≡◌, ◌⊎◌, ℕ, ◌<◌, ◌≤◌, max, IsTrue, IsSomeAnd, List, [], ◌∷◌, ◌++◌}
 use Rattle.std.specs.Prelude.{codes, length, map, Some}
-use Rattle.disk_model.specs.Disk.{AfterWrite, LeavesOnly, Only, written}
+use Rattle.disk_model.specs.Disk.{AfterWrite, LeavesOnly, Only, file_written}
 use Rattle.gate_journal.specs.Faults.{HasInitCause}
-use Rattle.gate_journal.specs.Rows.{header}
+use Rattle.gate_journal.specs.Rows.{journal_header}
 use Rattle.gate_journal.specs.declared.fault.InitFault.{InitFault}
 use Rattle.gate_journal.specs.declared.fault.InitFault.TheVariants as fault
 use Rattle.host_top.specs.Borrowed.{AreNamed, Borrowed, CountsFaults, Lending, NotLent}
@@ -14,7 +14,7 @@ use Rattle.host_top.specs.Said.{SaysLine}
 use Rattle.line_talk.specs.Causes.{Rose}
 use Rattle.line_talk.specs.Streams.{SourceState, SinkState, Gave, Wrote}
 use Rattle.line_talk.specs.Writing.{IsPartOf}
-use Rattle.snap_store.specs.File.{made_file}
+use Rattle.snap_store.specs.File.{empty_snapshot_file}
 use Rattle.turn_cell.specs.History.{Each}
 use Rattle.host_top.specs.declared.status.Status.{Status}
 use Rattle.host_top.specs.declared.status.Status.TheVariants as ends
@@ -30,7 +30,7 @@ not_empty = codes "not empty\n"
 pub record Begun {D : Type 0} (disks : DiskWords D) (given back : D) (output new : SinkState)
     (status : Status) : Type 0 where
   pub empty : IsTrue (disks.tells given) → disks.seen given ≡ []
-  pub holds : IsTrue (disks.tells given) → Only (header ++ 0 ∷ []) (disks.may_leave back)
+  pub holds : IsTrue (disks.tells given) → Only (journal_header ++ 0 ∷ []) (disks.may_leave back)
   pub count : disks.faults back ≡ disks.faults given
   pub says : SaysLine ends.Done ready output new status
 
@@ -82,10 +82,10 @@ pub record IsTried {D : Type 0} (disks : DiskWords D) (given back : D) : Type 0 
 pub record IsMade {D : Type 0} (disks : DiskWords D) (given back : D) : Type 0 where
   pub over :
       IsTrue (disks.tells given)
-      → Only (written (disks.seen given) 0 made_file) (disks.may_leave back)
+      → Only (file_written (disks.seen given) 0 empty_snapshot_file) (disks.may_leave back)
   pub alone :
       IsTrue (disks.tells given) → length (disks.seen given) ≤ 4096
-      → Only made_file (disks.may_leave back)
+      → Only empty_snapshot_file (disks.may_leave back)
   pub count : disks.faults back ≡ disks.faults given
 
 -- P holds of the disk of each store as it was given and as it was put back

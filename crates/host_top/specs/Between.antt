@@ -1,9 +1,9 @@
 -- The lines that a host answers between a source and a sink (own).
 use Rattle.std.specs.Prelude.{List, []}
-use Rattle.host_serve.specs.Chain.{Chain}
+use Rattle.host_serve.specs.Chain.{AnswersInOrder}
 use Rattle.host_serve.specs.Holders.{holders, seens}
-use Rattle.host_serve.specs.Serves.{Turn}
-use Rattle.host_serve.specs.Told.{Tells}
+use Rattle.host_serve.specs.Serves.{AnsweredLine}
+use Rattle.host_serve.specs.Told.{TellsLink}
 use Rattle.host_serve.specs.declared.host.Host.{Host}
 use Rattle.host_serve.specs.declared.host.Passes.{Passes}
 use Rattle.host_serve.specs.declared.mark.Mark.{Mark}
@@ -14,8 +14,8 @@ use Rattle.line_talk.specs.Streams.{SourceState, SinkState}
 -- one another on what the passes had seen; `sound` says that the host is sound
 pub record ServesBetween {D : Type 0} (sound : Type 0) (host : Host D) (old new : Passes D)
     (input now : SourceState) (output after : SinkState) (served : Served) : Type 0 where
-  pub turns : List Turn
+  pub turns : List AnsweredLine
   pub marks : List Mark
-  pub tells : Tells turns input now output after [] marks served
-  pub chain : Chain host.stories.now host.budget sound (holders old.desks.items)
+  pub tells : TellsLink turns input now output after [] marks served
+  pub chain : AnswersInOrder host.stories.now host.budget sound (holders old.desks.items)
       (seens old.desks.items) turns (seens new.desks.items)

@@ -9,7 +9,7 @@ use Rattle.line_talk.specs.Causes.{Rose}
 use Rattle.turn_cell.specs.History.{Each}
 use Rattle.host_top.specs.DiskWords.{DiskWords}
 use Rattle.host_top.specs.Files.{OutsideState, HasOwnLabel, IsLentFrom, Told, Missing, There}
-use Rattle.host_top.specs.Files.{KeepsDisks, TakesBack, told_now}
+use Rattle.host_top.specs.Files.{KeepsDisks, TakesDiskBack, told_now}
 use Rattle.line_talk.specs.Streams.{SourceState, SinkState, Gave, Wrote}
 use Rattle.host_top.specs.declared.loan.Loan.{Loan}
 use Rattle.host_top.specs.declared.status.Status.{Status}
@@ -28,9 +28,10 @@ unfoldable pub snaps_below : List ℕ → ℕ → List (List ℕ)
 snaps_below folder n = map (snap_in folder) (range_with_len 0 n)
 
 -- no two of these names are the same
-abbrev pub AreApart : List (List ℕ) → Type 0
-AreApart [] = Unit {0}
-AreApart (name ∷ names) = Each (λ other. bytes_eq name other ≡ false) names × AreApart names
+abbrev pub AreDifferentNames : List (List ℕ) → Type 0
+AreDifferentNames [] = Unit {0}
+AreDifferentNames (name ∷ names) =
+    Each (λ other. bytes_eq name other ≡ false) names × AreDifferentNames names
 
 -- a disk that was lent under a name: as it was given, and as it was put back, if it was
 pub record Lending (D : Type 0) : Type 0 where
@@ -114,7 +115,7 @@ abbrev pub PutsBack : {D : Type 0} → (D → ℕ) → List (List ℕ) → List 
 PutsBack faults [] ds old new = KeepsDisks old new
 PutsBack faults (name ∷ names) [] old new = KeepsDisks old new
 PutsBack {D} faults (name ∷ names) (d ∷ ds) old new =
-    (mid : OutsideState D) × PutsBack faults names ds old mid × TakesBack faults name d mid new
+    (mid : OutsideState D) × PutsBack faults names ds old mid × TakesDiskBack faults name d mid new
 
 -- not all disks of these names were lent; those that were are back as they were given, and nothing
 -- was read or written

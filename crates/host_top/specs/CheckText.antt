@@ -15,14 +15,14 @@ memory_text ram ext end =
 
 -- the line of a good story, by its version, the boundaries of its memory, its stack and whether its
 -- checksum is wrong
-abbrev pub line_of : List ℕ → List ℕ → ℕ → ℕ → List ℕ
-line_of version memory stack sum =
+abbrev pub good_story_line : List ℕ → List ℕ → ℕ → ℕ → List ℕ
+good_story_line version memory stack sum =
     codes "good version=" ++ version ++ memory ++ codes " stack=" ++ decimal stack
     ++ codes " sum=" ++ decimal sum ++ codes "\n"
 
 -- the line of the story with this image
 abbrev pub good_line : List ℕ → List ℕ
 good_line image =
-    line_of (hexadecimal (version image))
+    good_story_line (hexadecimal (version image))
     (memory_text (ramstart image) (extstart image) (endmem image))
     (stack_size image) (verified image)

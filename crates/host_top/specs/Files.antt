@@ -20,10 +20,10 @@ pub data Told (A : Type 0) : Type 0 where
   There : A → Told A
 
 -- there is told to be nothing
-abbrev pub is_missing : {A : Type 0} → Told A → Bool
-is_missing Untold = false
-is_missing Missing = true
-is_missing (There a) = false
+abbrev pub is_told_missing : {A : Type 0} → Told A → Bool
+is_told_missing Untold = false
+is_told_missing Missing = true
+is_told_missing (There a) = false
 
 -- a call of the outside failed
 abbrev pub has_failed : {T : Type 0} → Result T Fetch → Bool
@@ -44,15 +44,15 @@ pub record OutsideState (D : Type 0) : Type 0 where
   pub shut : ℕ
 
 -- what is told by one who knows all names
-abbrev pub told_by : {A : Type 0} → Option A → Told A
-told_by None = Missing
-told_by (Some a) = There a
+abbrev pub told_of_all : {A : Type 0} → Option A → Told A
+told_of_all None = Missing
+told_of_all (Some a) = There a
 
 -- what a load gives of a file that is told: at most its first 67,108,865 bytes
-abbrev pub IsFile : Told (List ℕ) → List ℕ → Type 0
-IsFile Untold bytes = Unit {0}
-IsFile Missing bytes = ⊥
-IsFile (There told) bytes = bytes ≡ take 67108865 told
+abbrev pub IsLoadOf : Told (List ℕ) → List ℕ → Type 0
+IsLoadOf Untold bytes = Unit {0}
+IsLoadOf Missing bytes = ⊥
+IsLoadOf (There told) bytes = bytes ≡ take 67108865 told
 
 -- the files, and the faults of loads, stay
 pub record KeepsFiles {D : Type 0} (old new : OutsideState D) : Type 0 where
@@ -144,7 +144,7 @@ pub record RisesWith (from to before now : ℕ) : Type 0 where
   pub later : before ≤ now
 
 -- the disk of this name was put back; the faults of disks rise where its own did
-pub record TakesBack {D : Type 0} (faults : D → ℕ) (name : List ℕ) (disk : D)
+pub record TakesDiskBack {D : Type 0} (faults : D → ℕ) (name : List ℕ) (disk : D)
     (old new : OutsideState D) : Type 0 where
   pub disks : (other : List ℕ) → new.disk other ≡ told_at old.disk name (There disk) other
   pub loans : (other : List ℕ) → new.loan other

@@ -8,7 +8,7 @@ use Rattle.line_talk.specs.Streams.{SourceState, SinkState, Gave, Wrote}
 use Rattle.host_top.specs.Borrowed.{Borrowed, CountsFaults, Lending, NotLent, PutsBack, back_as}
 use Rattle.host_top.specs.Borrowed.{journal_in, lent_as, snaps_below}
 use Rattle.host_top.specs.DiskWords.{DiskWords}
-use Rattle.host_top.specs.Files.{IsLent, KeepsDisks, OutsideState, TakesBack}
+use Rattle.host_top.specs.Files.{IsLent, KeepsDisks, OutsideState, TakesDiskBack}
 use Rattle.host_top.specs.declared.folder.Back.{Back}
 use Rattle.host_top.specs.declared.folder.Back.TheVariants.{All, Journal, Snap, Nothing}
 use Rattle.host_top.specs.declared.status.Status.{Status}
@@ -85,15 +85,15 @@ abbrev pub PutsFolderBack : {D : Type 0} → (D → ℕ) → List ℕ → List (
     → OutsideState D → OutsideState D → Type 0
 PutsFolderBack {D} faults name names (All journal snaps) old new =
     (mid : OutsideState D) × PutsBack faults names snaps.items old mid
-    × TakesBack faults name journal mid new
+    × TakesDiskBack faults name journal mid new
 PutsFolderBack faults name names (Journal journal) old new =
-    TakesBack faults name journal old new
+    TakesDiskBack faults name journal old new
 PutsFolderBack faults name names (Snap session snap) old new =
-    (n : List ℕ) × (slice_get names session ≡ Some n) × TakesBack faults n snap old new
+    (n : List ℕ) × (slice_get names session ≡ Some n) × TakesDiskBack faults n snap old new
 PutsFolderBack faults name names Nothing old new = KeepsDisks old new
 
 -- all disks of a folder were lent, P is done with them, and those that come back were put back
-pub record Takes {D : Type 0} (disks : DiskWords D) (folder : List ℕ)
+pub record TakesDisks {D : Type 0} (disks : DiskWords D) (folder : List ℕ)
     (P : D → List D → Back D → Type 0) (outside beyond : OutsideState D) : Type 0 where
   pub given : D
   pub givens : List D
@@ -114,7 +114,7 @@ abbrev pub UsesFolder : {D : Type 0} → DiskWords D → List ℕ → (D → Lis
 UsesFolder disks folder P outside beyond input now output new status =
     NotLent disks (journal_in folder ∷ snaps_below folder 64) outside beyond input now output new
     status
-    ⊎ Takes disks folder P outside beyond
+    ⊎ TakesDisks disks folder P outside beyond
 
 -- the disk of a session's store failed as it was opened: nothing is read or written
 pub record StoreFails {D : Type 0} (disks : DiskWords D) (givens : List D) (session : ℕ) (back : D)

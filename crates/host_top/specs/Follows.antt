@@ -5,44 +5,44 @@ use Rattle.host_top.specs.Borrowed.{journal_in}
 use Rattle.host_top.specs.Folder.{UsesFolder}
 use Rattle.line_talk.specs.Causes.{Rose}
 use Rattle.host_top.specs.Files.{OutsideState, KeepsDisks, KeepsDoors, Told, There}
-use Rattle.host_top.specs.Headline.{Writes}
+use Rattle.host_top.specs.Headline.{WritesOf}
 use Rattle.host_top.specs.DiskWords.{DiskWords}
 use Rattle.host_top.specs.LinksServed.{DoorsBy, ServesOver, WritesLinks}
 use Rattle.host_top.specs.Piped.{PipesOver}
 use Rattle.host_top.specs.Served.{WritesServed}
 use Rattle.host_top.specs.Speech.{Task, Says, Serves, ServesLinks, Begins, tasked}
 use Rattle.host_top.specs.Spoken.{Spoken}
-use Rattle.host_top.specs.Stories.{stories_of, AreFiles, IsSettled, StopsBehind}
+use Rattle.host_top.specs.Stories.{stories_of, AreFiles, IsLoadSettled, LoadStopsBehind}
 use Rattle.line_talk.specs.Streams.{SourceState, SinkState, Gave, Wrote}
 use Rattle.command_words.specs.Words.{Asked}
 use Rattle.host_top.specs.declared.status.Status.{Status}
 use Rattle.host_top.specs.declared.status.Status.TheVariants.{ReadFault, NoMemory}
 
 -- what a task leaves, or the line by which a story is refused
-abbrev pub Does : {D : Type 0} → DiskWords D → Result Task (List ℕ)
+abbrev pub DoesTask : {D : Type 0} → DiskWords D → Result Task (List ℕ)
     → OutsideState D → OutsideState D → SourceState → SourceState → SinkState → SinkState
     → Status → Type 0
-Does disks (Err line) outside beyond input now output new status =
+DoesTask disks (Err line) outside beyond input now output new status =
     Spoken (Err line) input now output new status × KeepsDisks outside beyond
-Does disks (Ok (Says speech)) outside beyond input now output new status =
+DoesTask disks (Ok (Says speech)) outside beyond input now output new status =
     Spoken (Ok speech) input now output new status × KeepsDisks outside beyond
-Does disks (Ok (Serves stories budget folder)) outside beyond input now output new status =
+DoesTask disks (Ok (Serves stories budget folder)) outside beyond input now output new status =
     UsesFolder disks folder
     (λ given givens back. PipesOver disks stories budget given givens back input now output new
     status)
     outside beyond input now output new status
-Does disks (Ok (ServesLinks stories folder)) outside beyond input now output new status =
+DoesTask disks (Ok (ServesLinks stories folder)) outside beyond input now output new status =
     UsesFolder disks folder
     (λ given givens back. ServesOver disks stories given givens back input now output new status)
     outside beyond input now output new status
     × DoorsBy outside beyond status
-Does disks (Ok (Begins folder)) outside beyond input now output new status =
+DoesTask disks (Ok (Begins folder)) outside beyond input now output new status =
     InitsOn disks folder outside beyond input now output new status
 
 -- a load failed behind stories alone, or memory was wanted; and nothing was read or written
 pub record NotLoaded {D : Type 0} (names : List (List ℕ)) (outside beyond : OutsideState D)
     (input now : SourceState) (output new : SinkState) (status : Status) : Type 0 where
-  pub behind : StopsBehind outside.file names (status ≡ ReadFault)
+  pub behind : LoadStopsBehind outside.file names (status ≡ ReadFault)
   pub cause : (status ≡ ReadFault) × Rose outside.faults beyond.faults ⊎ (status ≡ NoMemory)
   pub gave : Gave input now []
   pub wrote : Wrote output new []
@@ -54,27 +54,27 @@ pub record Loaded {D : Type 0} (disks : DiskWords D) (asked : Asked)
     (status : Status) : Type 0 where
   pub files : List (List ℕ)
   pub are_files : AreFiles outside.file asked.names files
-  pub settled : IsSettled asked.names files
+  pub settled : IsLoadSettled asked.names files
   pub between : OutsideState D
   pub loaded : KeepsDisks outside between
   pub doors : KeepsDoors outside between
-  pub does : Does disks (tasked asked.action (stories_of files) asked.budget asked.folder)
+  pub does : DoesTask disks (tasked asked.action (stories_of files) asked.budget asked.folder)
       between beyond input now output new status
   pub cause : status ≡ ReadFault → Rose input.faults now.faults
 
 -- one of the two
-abbrev pub Follows : {D : Type 0} → DiskWords D → Asked → Status → OutsideState D
+abbrev pub FollowsCommand : {D : Type 0} → DiskWords D → Asked → Status → OutsideState D
     → OutsideState D → SourceState → SourceState → SinkState → SinkState → Type 0
-Follows disks asked status outside beyond input now output new =
+FollowsCommand disks asked status outside beyond input now output new =
     NotLoaded asked.names outside beyond input now output new status
     ⊎ Loaded disks asked outside beyond input now output new status
 
 -- what is written for these bytes of an input, by the task and what is told of the disks
 abbrev pub WritesFor : {D : Type 0} → DiskWords D → (List ℕ → Told D) → Status
     → Result Task (List ℕ) → List ℕ → List ℕ → Type 0
-WritesFor disks disk status (Err line) bytes written = Writes status (Err line) bytes written
+WritesFor disks disk status (Err line) bytes written = WritesOf status (Err line) bytes written
 WritesFor disks disk status (Ok (Says speech)) bytes written =
-    Writes status (Ok speech) bytes written
+    WritesOf status (Ok speech) bytes written
 WritesFor disks disk status (Ok (Serves stories budget folder)) bytes written =
     WritesServed status disks stories budget disk folder bytes written
 WritesFor disks disk status (Ok (ServesLinks stories folder)) bytes written =
@@ -83,9 +83,9 @@ WritesFor disks disk status (Ok (Begins folder)) bytes written =
     WritesBegun status disks (disk (journal_in folder)) written
 
 -- what an output holds then, for a caller who is told its bytes, the files and the input
-abbrev pub Tells : {D : Type 0} → DiskWords D → Asked → Status → OutsideState D → SourceState
+abbrev pub TellsCaller : {D : Type 0} → DiskWords D → Asked → Status → OutsideState D → SourceState
     → SinkState → SinkState → Type 0
-Tells disks asked status outside input output new =
+TellsCaller disks asked status outside input output new =
     (files : List (List ℕ)) (bytes held : List ℕ)
     → map outside.file asked.names ≡ map There files → input.left ≡ Some bytes
     → output.held ≡ Some held

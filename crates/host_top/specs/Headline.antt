@@ -19,18 +19,18 @@ whole_text (Ok speech) lines = speech.text lines
 whole_text (Err line) lines = line
 
 -- what is written over the bytes of an input
-abbrev pub Writes : Status → Result Speech (List ℕ) → List ℕ → List ℕ → Type 0
-Writes Done said input written = IsOkAnd said (λ speech.
+abbrev pub WritesOf : Status → Result Speech (List ℕ) → List ℕ → List ℕ → Type 0
+WritesOf Done said input written = IsOkAnd said (λ speech.
     (written ≡ speech.text (lines input))
     × (IsWithinLimits input ⊎ (speech.is_over (lines input) ≡ true)))
-Writes Refused said input written = said ≡ Err written
-Writes ReadFault said input written = (written ≡ []) ⊎ IsOkAnd said (λ speech.
+WritesOf Refused said input written = said ≡ Err written
+WritesOf ReadFault said input written = (written ≡ []) ⊎ IsOkAnd said (λ speech.
     (read : List ℕ) × IsPartOf read input × (written ≡ speech.text (talk read)))
-Writes WriteFault said input written = IsPartOf written (whole_text said (talk input))
-Writes NoMemory said input written = IsPartOf written (whole_text said (talk input))
-Writes LineLimit said input written = IsOkAnd said (λ speech.
+WritesOf WriteFault said input written = IsPartOf written (whole_text said (talk input))
+WritesOf NoMemory said input written = IsPartOf written (whole_text said (talk input))
+WritesOf LineLimit said input written = IsOkAnd said (λ speech.
     (written ≡ speech.text (talk input)) × ReachesLimit input)
-Writes BadWords said input written = ⊥
-Writes DiskFault said input written = ⊥
-Writes BadFolder said input written = ⊥
-Writes DoorFault said input written = ⊥
+WritesOf BadWords said input written = ⊥
+WritesOf DiskFault said input written = ⊥
+WritesOf BadFolder said input written = ⊥
+WritesOf DoorFault said input written = ⊥

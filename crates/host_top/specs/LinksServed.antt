@@ -4,7 +4,7 @@ use Rattle.disk_model.specs.Disk.{EachImage, LeavesOnly}
 use Rattle.gate_journal.specs.declared.entry.Entry.{Entry as JournalEntry}
 use Rattle.gate_journal.specs.declared.row.Row.{Row}
 use Rattle.gate_journal.specs.Log.{IsBetween, MayOpen, MaySpell, Rises, rows_of}
-use Rattle.gate_journal.specs.Rows.{SpellsRows, IsJournal, spelled}
+use Rattle.gate_journal.specs.Rows.{SpellsRows, IsJournal, journal_bytes}
 use Rattle.line_talk.specs.Causes.{Rose}
 use Rattle.story_run.specs.declared.story.Story.{Story}
 use Rattle.line_talk.specs.Streams.{SourceState, SinkState, Gave, Wrote}
@@ -47,7 +47,7 @@ pub record LinksServed {D : Type 0} (disks : DiskWords D) (stories : List Story)
       (λ c. MayOpen start c ⊎ IsBetween rows (rows_of journal) c)
   -- nothing is written farther behind the closing gate than the longest row reaches
   pub reaches :
-      disks.reach back ≤ max (disks.reach given) (length (spelled (rows_of journal)) + 4110)
+      disks.reach back ≤ max (disks.reach given) (length (journal_bytes (rows_of journal)) + 4110)
   pub stores : StoresBack disks stories rows (rows_of journal) givens backs
 
 -- the links were served, or a disk of the folder is refused, or all are let go

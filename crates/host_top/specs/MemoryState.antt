@@ -3,14 +3,14 @@ use Rattle.std.specs.Prelude.{Option, Some, option_map}
 use Rattle.std.specs.BTreeMap.{get_by_text}
 use Rattle.disk_model.specs.declared.memory.MemDisk.{MemDisk}
 use Rattle.line_talk.specs.Failing.{Failing}
-use Rattle.host_top.specs.Files.{OutsideState, told_by}
+use Rattle.host_top.specs.Files.{OutsideState, told_of_all}
 use Rattle.host_top.specs.MemoryOutside.{disk_in, loan_in}
 use Rattle.host_top.specs.declared.memory_outside.MemoryOutside.{MemoryOutside}
 
 -- of the files, the disks and the doors
 abbrev pub memory_state : MemoryOutside → OutsideState MemDisk
 memory_state o = record {
-  file = λ name. told_by (option_map (λ bytes. bytes.items) (get_by_text o.files name));
+  file = λ name. told_of_all (option_map (λ bytes. bytes.items) (get_by_text o.files name));
   disk = disk_in o.shelves;
   loan = loan_in o.shelves;
   faults = o.faults;

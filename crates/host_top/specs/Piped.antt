@@ -8,10 +8,10 @@ use Rattle.gate_journal.specs.declared.row.Row.{Row}
 use Rattle.gate_journal.specs.declared.fault.JournalFault.{JournalFault}
 use Rattle.gate_journal.specs.Faults.{HasCause, Explains}
 use Rattle.gate_journal.specs.Log.{IsBetween, MayOpen, MaySpell, ReachesGate, Rises, rows_of}
-use Rattle.gate_journal.specs.Rows.{SpellsRows, IsJournal, commands_of, spelled}
+use Rattle.gate_journal.specs.Rows.{SpellsRows, IsJournal, commands_of, journal_bytes}
 use Rattle.host_serve.specs.Ending.{AreAgreedDisks}
-use Rattle.host_serve.specs.Opening.{AreAgreed, histories_of}
-use Rattle.host_serve.specs.Serves.{Turn}
+use Rattle.host_serve.specs.Opening.{AreAgreed, histories_in_rows}
+use Rattle.host_serve.specs.Serves.{AnsweredLine}
 use Rattle.host_serve.specs.Told.{AnsweredOf, WritesReplies}
 use Rattle.host_serve.specs.declared.served.Served.{Served}
 use Rattle.session_core.specs.Hosts.{AreMet, entries_of, histories_met, replies_met, session_on}
@@ -41,18 +41,19 @@ HasEntries journal histories =
 
 -- the turn of an answered line on the history of the session that it names, in the world that the
 -- host held of that session
-abbrev pub turn_held : List Story → ℕ → List (List Entry) → Turn → Turned
+abbrev pub turn_held : List Story → ℕ → List (List Entry) → AnsweredLine → Turned
 turn_held stories budget histories t =
     turn_in stories budget (entries_of histories (session_on t.line)) t.world 0 t.line t.outcome
 
 -- and what the session decides on it
-abbrev pub decision_held : List Story → ℕ → List (List Entry) → Turn → Decision
+abbrev pub decision_held : List Story → ℕ → List (List Entry) → AnsweredLine → Decision
 decision_held stories budget histories t =
     decision_in stories budget (commands_in (entries_of histories (session_on t.line))) t.world
     t.line
 
 -- the turns of lines, one after the other, lead from these histories to those
-abbrev pub Lead : List Story → ℕ → List (List Entry) → List Turn → List (List Entry) → Type 0
+abbrev pub Lead : List Story → ℕ → List (List Entry) → List AnsweredLine → List (List Entry)
+    → Type 0
 Lead stories budget histories [] after = after ≡ histories
 Lead stories budget histories (t ∷ turns) after =
     MayMeet (decision_held stories budget histories t).accepted t.outcome
@@ -63,17 +64,17 @@ Lead stories budget histories (t ∷ turns) after =
 
 -- the same turns by each session's own world
 pub record LeadAlone (stories : List Story) (budget : ℕ) (histories : List (List Entry))
-    (turns : List Turn) (after : List (List Entry)) : Type 0 where
+    (turns : List AnsweredLine) (after : List (List Entry)) : Type 0 where
   pub met :
-      AreMet stories budget histories 0 (map (λ (t : Turn). t.line) turns)
-      (map (λ (t : Turn). t.outcome) turns)
+      AreMet stories budget histories 0 (map (λ (t : AnsweredLine). t.line) turns)
+      (map (λ (t : AnsweredLine). t.outcome) turns)
   pub replies :
-      map (λ (t : Turn). t.reply) turns
-      ≡ replies_met stories budget histories 0 (map (λ (t : Turn). t.line) turns)
-      (map (λ (t : Turn). t.outcome) turns)
+      map (λ (t : AnsweredLine). t.reply) turns
+      ≡ replies_met stories budget histories 0 (map (λ (t : AnsweredLine). t.line) turns)
+      (map (λ (t : AnsweredLine). t.outcome) turns)
   pub accepted :
-      after ≡ histories_met stories budget histories 0 (map (λ (t : Turn). t.line) turns)
-      (map (λ (t : Turn). t.outcome) turns)
+      after ≡ histories_met stories budget histories 0 (map (λ (t : AnsweredLine). t.line) turns)
+      (map (λ (t : AnsweredLine). t.outcome) turns)
 
 -- the disk of a store comes back: it isn't written past the end of area B
 pub record IsStoreBack {D : Type 0} (disks : DiskWords D) (given back : D) : Type 0 where
@@ -96,20 +97,20 @@ pub record Conversed {D : Type 0} (disks : DiskWords D) (stories : List Story) (
   pub rows : List Row
   pub handed_in : IsTrue (disks.tells given) → SpellsRows (disks.seen given) rows
   pub read : List ℕ
-  pub turns : List Turn
+  pub turns : List AnsweredLine
   pub written : List ℕ
   pub gave : Gave input now read
   pub within : length read ≤ 2 ^ 31
-  pub which : AnsweredOf served read now (map (λ (t : Turn). t.line) turns)
+  pub which : AnsweredOf served read now (map (λ (t : AnsweredLine). t.line) turns)
   pub wrote : Wrote output new written
-  pub writes : WritesReplies served written (map (λ (t : Turn). t.reply) turns)
+  pub writes : WritesReplies served written (map (λ (t : AnsweredLine). t.reply) turns)
   -- each line's turn is made in the world that the host held of its session; where the stores
   -- handed in are sound, this is the session's own
   pub histories : List (List Entry)
-  pub led : Lead stories budget (histories_of rows) turns histories
+  pub led : Lead stories budget (histories_in_rows rows) turns histories
   pub sound :
       AreAgreed disks.tells disks.seen stories rows givens
-      → LeadAlone stories budget (histories_of rows) turns histories
+      → LeadAlone stories budget (histories_in_rows rows) turns histories
   -- the journal afterwards has the commands that the sessions accepted, and the faults that replies
   -- told, each session's in their order; the counts of the faults rise, from the disk's as it was
   -- handed in to the disk's as it was handed back
@@ -131,7 +132,7 @@ pub record Conversed {D : Type 0} (disks : DiskWords D) (stories : List Story) (
       (λ c. MayOpen start c ⊎ IsBetween rows (rows_of journal) c)
   -- nothing is written farther behind the closing gate than the longest row reaches
   pub reaches :
-      disks.reach back ≤ max (disks.reach given) (length (spelled (rows_of journal)) + 4110)
+      disks.reach back ≤ max (disks.reach given) (length (journal_bytes (rows_of journal)) + 4110)
   pub stores : StoresBack disks stories rows (rows_of journal) givens backs
 
 -- The journal isn't opened: no line is read, and what an opening may meet it may meet again.

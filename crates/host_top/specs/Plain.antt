@@ -37,8 +37,8 @@ abbrev pub next_held : {A : Type 0} → Answering A → Option A → Line → Op
 next_held by None line = None
 next_held by (Some state) line = Some (by.next state line)
 
-abbrev pub held_by : {A : Type 0} → Answering A → Answering (Option A)
-held_by by =
+abbrev pub answering_held : {A : Type 0} → Answering A → Answering (Option A)
+answering_held by =
     record { is_over = is_over_held by; reply = reply_held by; next = next_held by }
 
 -- the replies to lines as they are heard, none after the end
@@ -59,15 +59,15 @@ abbrev pub replies : {S : Type 0} → Answering S → S → List (List ℕ) → 
 replies by state lines = replies_heard by state (map heard lines)
 
 -- the state after lines
-abbrev pub after : {S : Type 0} → Answering S → S → List (List ℕ) → S
-after by state lines = after_heard by state (map heard lines)
+abbrev pub state_after_lines : {S : Type 0} → Answering S → S → List (List ℕ) → S
+state_after_lines by state lines = after_heard by state (map heard lines)
 
 -- what such a conversation leaves, by the bytes read and the bytes written
 abbrev pub PlainLeaves : {S : Type 0} → Ended → Answering S → S → List ℕ → SourceState
     → List ℕ → Type 0
 PlainLeaves Done by start read now written =
     (written ≡ replies by start (lines read))
-    × (IsReadToEnd read now ⊎ (by.is_over (after by start (lines read)) ≡ true))
+    × (IsReadToEnd read now ⊎ (by.is_over (state_after_lines by start (lines read)) ≡ true))
 PlainLeaves ReadFault by start read now written = written ≡ replies by start (talk read)
 PlainLeaves WriteFault by start read now written = IsPartOf written (replies by start (talk read))
 PlainLeaves NoMemory by start read now written = IsPartOf written (replies by start (talk read))

@@ -5,35 +5,35 @@ use Rattle.glk_input.specs.declared.input.Input.TheVariants as input
 use Rattle.line_words.specs.Play.{play_of}
 use Rattle.line_words.specs.declared.play.Play.{Play}
 use Rattle.line_words.specs.declared.play.Play.TheVariants as play
-use Rattle.story_run.specs.Solo.{opening, is_wanted, turned, is_over, shown}
+use Rattle.story_run.specs.Solo.{opening, is_wanted, world_after_input, is_over, last_lines}
 use Rattle.story_run.specs.World.{WorldState}
 use Rattle.story_run.specs.declared.setup.Setup.{Setup}
 use Rattle.story_run.specs.declared.story.Story.{Story}
-use Rattle.host_top.specs.Plain.{Answering, replies, after}
+use Rattle.host_top.specs.Plain.{Answering, replies, state_after_lines}
 
 -- a story that is played alone: seed 1, a screen of 80 by 24
-abbrev pub alone : ℕ → Setup
-alone budget = record { seed = 1; cols = 80; rows = 24; budget = budget }
+abbrev pub setup_alone : ℕ → Setup
+setup_alone budget = record { seed = 1; cols = 80; rows = 24; budget = budget }
 
 -- a show, and the line that ends it
 abbrev pub show_text : WorldState → List ℕ
-show_text world = shown world ++ codes ".\n"
+show_text world = last_lines world ++ codes ".\n"
 
 -- what a line of the player gives to the story
-abbrev pub input_of : Play → Input
-input_of (play.Line win text key) = input.Line win text key
-input_of (play.Char win code) = input.Char win code
-input_of (play.File name) = input.File name
+abbrev pub input_of_play : Play → Input
+input_of_play (play.Line win text key) = input.Line win text key
+input_of_play (play.Char win code) = input.Char win code
+input_of_play (play.File name) = input.File name
 
 -- the reply to an input: the show of its turn where the story waits for it
 abbrev pub input_reply : WorldState → Input → List ℕ
-input_reply world input = if is_wanted world input then show_text (turned world input)
+input_reply world input = if is_wanted world input then show_text (world_after_input world input)
     else codes "NO 8\n"
 
 -- the reply to what a line spells; one that spells nothing gets NO 1
 abbrev pub play_reply : WorldState → Option Play → List ℕ
 play_reply world None = codes "NO 1\n"
-play_reply world (Some play) = input_reply world (input_of play)
+play_reply world (Some play) = input_reply world (input_of_play play)
 
 -- the reply to a line; one that was dropped gets NO 14
 abbrev pub line_reply : WorldState → Option (List ℕ) → List ℕ
@@ -42,12 +42,12 @@ line_reply world (Some line) = play_reply world (play_of line)
 
 -- the world after an input; one that isn't wanted leaves it
 abbrev pub input_next : WorldState → Input → WorldState
-input_next world input = if is_wanted world input then turned world input else world
+input_next world input = if is_wanted world input then world_after_input world input else world
 
 -- the world after what a line spells
 abbrev pub play_next : WorldState → Option Play → WorldState
 play_next world None = world
-play_next world (Some play) = input_next world (input_of play)
+play_next world (Some play) = input_next world (input_of_play play)
 
 -- the world after a line
 abbrev pub line_next : WorldState → Option (List ℕ) → WorldState
@@ -59,14 +59,15 @@ abbrev pub solo : Answering WorldState
 solo = record { is_over = is_over; reply = line_reply; next = line_next }
 
 -- the world of a story after its opening turn, where it is played alone
-abbrev pub opened : Story → ℕ → WorldState
-opened story budget = opening story.image (alone budget)
+abbrev pub world_after_opening : Story → ℕ → WorldState
+world_after_opening story budget = opening story.image (setup_alone budget)
 
 -- the output of `run` for the lines of its player: the opening show, and then the replies
 abbrev pub run_text : Story → ℕ → List (List ℕ) → List ℕ
 run_text story budget lines =
-    show_text (opened story budget) ++ replies solo (opened story budget) lines
+    show_text (world_after_opening story budget)
+    ++ replies solo (world_after_opening story budget) lines
 
 -- the world after the lines of its player
 abbrev pub run_world : Story → ℕ → List (List ℕ) → WorldState
-run_world story budget lines = after solo (opened story budget) lines
+run_world story budget lines = state_after_lines solo (world_after_opening story budget) lines

@@ -10,8 +10,8 @@ use Rattle.host_top.specs.Borrowed.{journal_in, snap_in}
 use Rattle.host_top.specs.DiskWords.{DiskWords, WhereTold}
 use Rattle.host_top.specs.Files.{Told, Untold, Missing, There}
 use Rattle.line_talk.specs.Lines.{lines, talk, IsWithinLimits, ReachesLimit}
-use Rattle.host_serve.specs.Opening.{histories_of}
-use Rattle.host_serve.specs.Serves.{Turn}
+use Rattle.host_serve.specs.Opening.{histories_in_rows}
+use Rattle.host_serve.specs.Serves.{AnsweredLine}
 use Rattle.host_serve.specs.Told.{WritesReplies}
 use Rattle.host_serve.specs.declared.served.Served.{Served}
 use Rattle.host_serve.specs.declared.served.Served.TheVariants as served
@@ -54,14 +54,14 @@ pub record WritesTurns {D : Type 0} (disks : DiskWords D) (stories : List Story)
     (disk : List ℕ → Told D) (folder input written : List ℕ) (how : Served) : Type 0 where
   pub rows : List Row
   pub handed_in : WhereTold disks (disk (journal_in folder)) (λ bytes. SpellsRows bytes rows)
-  pub turns : List Turn
-  pub which : AnswersIn how input (map (λ (t : Turn). t.line) turns)
-  pub writes : WritesReplies how written (map (λ (t : Turn). t.reply) turns)
+  pub turns : List AnsweredLine
+  pub which : AnswersIn how input (map (λ (t : AnsweredLine). t.line) turns)
+  pub writes : WritesReplies how written (map (λ (t : AnsweredLine). t.reply) turns)
   pub histories : List (List Entry)
-  pub led : Lead stories budget (histories_of rows) turns histories
+  pub led : Lead stories budget (histories_in_rows rows) turns histories
   pub sound :
       AreSound disks stories disk folder rows
-      → LeadAlone stories budget (histories_of rows) turns histories
+      → LeadAlone stories budget (histories_in_rows rows) turns histories
 
 -- the line by which a journal is refused
 abbrev pub RefusesJournal : {D : Type 0} → DiskWords D → Told D → List ℕ → Type 0

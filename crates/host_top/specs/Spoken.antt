@@ -12,22 +12,22 @@ use Rattle.host_top.specs.declared.status.Status.TheVariants.{WriteFault, NoMemo
 use Rattle.host_top.specs.declared.status.Status.TheVariants.{DiskFault, BadFolder, DoorFault}
 
 -- what is left, by the bytes read, the source after them and the bytes written
-abbrev pub Leaves : Status → Result Speech (List ℕ) → List ℕ → SourceState → List ℕ
+abbrev pub SpeechLeaves : Status → Result Speech (List ℕ) → List ℕ → SourceState → List ℕ
     → Type 0
-Leaves Done said read now written = IsOkAnd said (λ speech.
+SpeechLeaves Done said read now written = IsOkAnd said (λ speech.
     (written ≡ speech.text (lines read))
     × (IsReadToEnd read now ⊎ (speech.is_over (lines read) ≡ true)))
-Leaves Refused said read now written = said ≡ Err written
-Leaves ReadFault said read now written =
+SpeechLeaves Refused said read now written = said ≡ Err written
+SpeechLeaves ReadFault said read now written =
     IsOkAnd said (λ speech. written ≡ speech.text (talk read))
-Leaves WriteFault said read now written = IsPartOf written (whole_text said (talk read))
-Leaves NoMemory said read now written = IsPartOf written (whole_text said (talk read))
-Leaves LineLimit said read now written = IsOkAnd said (λ speech.
+SpeechLeaves WriteFault said read now written = IsPartOf written (whole_text said (talk read))
+SpeechLeaves NoMemory said read now written = IsPartOf written (whole_text said (talk read))
+SpeechLeaves LineLimit said read now written = IsOkAnd said (λ speech.
     (written ≡ speech.text (talk read)) × ReachesLimit read)
-Leaves BadWords said read now written = ⊥
-Leaves DiskFault said read now written = ⊥
-Leaves BadFolder said read now written = ⊥
-Leaves DoorFault said read now written = ⊥
+SpeechLeaves BadWords said read now written = ⊥
+SpeechLeaves DiskFault said read now written = ⊥
+SpeechLeaves BadFolder said read now written = ⊥
+SpeechLeaves DoorFault said read now written = ⊥
 
 -- what was read and what was written
 pub record Spoken (said : Result Speech (List ℕ)) (input now : SourceState)
@@ -38,4 +38,4 @@ pub record Spoken (said : Result Speech (List ℕ)) (input now : SourceState)
   pub gave : Gave input now read
   pub within : length read ≤ 2 ^ 31
   pub wrote : Wrote output new written
-  pub leaves : Leaves status said read now written
+  pub leaves : SpeechLeaves status said read now written

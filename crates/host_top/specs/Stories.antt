@@ -2,8 +2,8 @@
 use Rattle.std.specs.Prelude.{◌≡◌, ℕ, ◌<◌, suc, List, [], ◌∷◌, length, ◌⊎◌}
 use Rattle.std.specs.Prelude.{Result, Ok, Err, IsErr, IsOk}
 use Rattle.story_run.specs.declared.story.Story.{Story}
-use Rattle.host_top.specs.Files.{IsFile, Told}
-use Rattle.host_top.specs.StoryFile.{story_of}
+use Rattle.host_top.specs.Files.{IsLoadOf, Told}
+use Rattle.host_top.specs.StoryFile.{story_in_file}
 use Rattle.host_top.specs.declared.stories.Refusal.{Refusal}
 use Rattle.host_top.specs.declared.stories.Unplayed.{Unplayed}
 use Rattle.host_top.specs.declared.stories.Unplayed.TheVariants.{Refused, NoMemory}
@@ -20,16 +20,16 @@ followed_by position (Err fault) more = Err (record { story = position; fault = 
 abbrev pub stories_from : ℕ → List (List ℕ) → Result (List Story) Refusal
 stories_from position [] = Ok []
 stories_from position (file ∷ files) =
-    followed_by position (story_of file) (stories_from (suc position) files)
+    followed_by position (story_in_file file) (stories_from (suc position) files)
 
 -- the stories of files, or the first that is refused
 abbrev pub stories_of : List (List ℕ) → Result (List Story) Refusal
 stories_of files = stories_from 0 files
 
 -- why stories aren't played: one is refused, or memory was wanted
-abbrev pub Refuses : Result (List Story) Refusal → Unplayed → Type 0
-Refuses found (Refused refusal) = found ≡ Err refusal
-Refuses found NoMemory = Unit {0}
+abbrev pub RefusesStories : Result (List Story) Refusal → Unplayed → Type 0
+RefusesStories found (Refused refusal) = found ≡ Err refusal
+RefusesStories found NoMemory = Unit {0}
 
 -- what loads of the files of names gave, of the first names at least
 abbrev pub AreFiles : (List ℕ → Told (List ℕ)) → List (List ℕ) → List (List ℕ)
@@ -37,14 +37,14 @@ abbrev pub AreFiles : (List ℕ → Told (List ℕ)) → List (List ℕ) → Lis
 AreFiles file names [] = Unit {0}
 AreFiles file [] (bytes ∷ loaded) = ⊥
 AreFiles file (name ∷ names) (bytes ∷ loaded) =
-    IsFile (file name) bytes × AreFiles file names loaded
+    IsLoadOf (file name) bytes × AreFiles file names loaded
 
 -- no more is loaded: each name was, or a story is refused
-abbrev pub IsSettled : List (List ℕ) → List (List ℕ) → Type 0
-IsSettled names loaded = (length loaded ≡ length names) ⊎ IsErr (stories_of loaded)
+abbrev pub IsLoadSettled : List (List ℕ) → List (List ℕ) → Type 0
+IsLoadSettled names loaded = (length loaded ≡ length names) ⊎ IsErr (stories_of loaded)
 
 -- no more is loaded: files of the first names were, and each is a story
-pub record StopsBehind (file : List ℕ → Told (List ℕ)) (names : List (List ℕ)) (P : Type 0)
+pub record LoadStopsBehind (file : List ℕ → Told (List ℕ)) (names : List (List ℕ)) (P : Type 0)
     : Type 0 where
   pub front : List (List ℕ)
   pub are_files : AreFiles file names front

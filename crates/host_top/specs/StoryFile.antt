@@ -19,17 +19,17 @@ abbrev pub is_container : List ℕ → Bool
 is_container file = bytes_eq (codes "FORM") (take 4 file)
 
 -- the bytes of a file that a span tells
-abbrev pub bytes_at : List ℕ → Span → List ℕ
-bytes_at file span = take span.length (drop span.start file)
+abbrev pub span_bytes : List ℕ → Span → List ℕ
+span_bytes file span = take span.length (drop span.start file)
 
 -- the contents of the story's chunk
 abbrev pub chunk_of : List ℕ → Result Span BlorbFault → Result (List ℕ) StoryFault
-chunk_of file (Ok span) = Ok (bytes_at file span)
+chunk_of file (Ok span) = Ok (span_bytes file span)
 chunk_of file (Err fault) = Err (Blorb fault)
 
 -- the bytes of the image: those of the container's story, or the whole file
 abbrev pub image_bytes : List ℕ → Result (List ℕ) StoryFault
-image_bytes file = if is_container file then chunk_of file (container.story_of file) else Ok file
+image_bytes file = if is_container file then chunk_of file (container.story_span file) else Ok file
 
 -- a story, or the check that its image fails
 abbrev pub or_image_fault : Result Story ImageFault → Result Story StoryFault
@@ -42,8 +42,8 @@ story_in (Ok bytes) = or_image_fault (image_story.story_of bytes)
 story_in (Err fault) = Err fault
 
 -- the story of a file, or the first fault of its container or its image
-abbrev pub story_of : List ℕ → Result Story StoryFault
-story_of file = story_in (image_bytes file)
+abbrev pub story_in_file : List ℕ → Result Story StoryFault
+story_in_file file = story_in (image_bytes file)
 
 -- the line for an image that is refused, by the story's position and the fault's number
 abbrev pub bad_image : ℕ → ℕ → List ℕ
@@ -57,5 +57,5 @@ bad_container position number =
 
 -- the line for a story that is refused, by its position
 abbrev pub bad_line : ℕ → StoryFault → List ℕ
-bad_line position (Image fault) = bad_image position (image.number_of fault)
-bad_line position (Blorb fault) = bad_container position (blorb.number_of fault)
+bad_line position (Image fault) = bad_image position (image.image_fault_number fault)
+bad_line position (Blorb fault) = bad_container position (blorb.container_fault_number fault)

@@ -1,7 +1,7 @@
 //! The command `check`, which tells what a story's header says.
 ghost use Rattle.std.specs.Prelude.{◌≡◌, slice_get, Ok, IfOk, string_bytes};
 ghost use Rattle.line_talk.specs.Causes.{Rose};
-ghost use Rattle.host_top.specs.CheckText.{good_line, hexadecimal, line_of, memory_text};
+ghost use Rattle.host_top.specs.CheckText.{good_line, hexadecimal, good_story_line, memory_text};
 ghost use Rattle.host_top.specs.Speech.{check_speech};
 ghost use Rattle.host_top.specs.Spoken.{Spoken};
 ghost use Rattle.line_talk.specs.Streams.{SourceState};
@@ -36,7 +36,7 @@ fn line_of(
     sum: u32,
 ) -> Result<String, AllocError>
     ensures { IfOk result (λ line. string_bytes line
-        ≡ line_of version.now memory.now stack sum) }
+        ≡ good_story_line version.now memory.now stack sum) }
 {
     format!(in alloc; "good version={version}{memory} stack={stack} sum={sum}\n")
 }

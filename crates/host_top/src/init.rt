@@ -1,7 +1,7 @@
 //! The command `init`, which makes the stores of a folder and begins its journal.
 ghost use Rattle.std.specs.Prelude.{◌≡◌, ◌≤◌, ◌<◌, ◌∷◌, [], List, true, false, length, IsTrue};
 ghost use Rattle.std.specs.Prelude.{IfOk, OnOk, OnErr, IsErrOf};
-ghost use Rattle.disk_model.specs.Disk.{Counts, SameDisk};
+ghost use Rattle.disk_model.specs.Disk.{CountsErrors, SameDisk};
 ghost use Rattle.host_top.specs.Begun.{Inits, InitsOn, InitsOver, IsLookedAt, MakesStores};
 ghost use Rattle.host_top.specs.Begun.{TriesStores};
 ghost use Rattle.host_top.specs.Borrowed.{Lending, snap_in, snaps_below};
@@ -35,7 +35,7 @@ fn is_empty<D: Disk>(disk: &mut D) -> Result<bool, Failed>
       label = D.label;
     }) disk.old disk.new }
     ensures seen { OnOk result (IsTrue (D.tells disk.old) → D.seen disk.new ≡ D.seen disk.old) }
-    ensures cause { Counts result (D.faults disk.old) (D.faults disk.new) }
+    ensures cause { CountsErrors result (D.faults disk.old) (D.faults disk.new) }
     ensures kept { SameDisk D.tells D.room D.label disk.old disk.new }
 {
     let size = disk.size()?;

@@ -4,7 +4,7 @@ ghost use Rattle.std.specs.Prelude.{false};
 ghost use Rattle.std.specs.Prelude.{IsErrOf, length, map, string_bytes, slice_get};
 ghost use Rattle.std.specs.Str.{bytes_eq};
 ghost use Rattle.line_talk.specs.Causes.{Rose};
-ghost use Rattle.host_top.specs.Borrowed.{AreApart, AreAsGiven, AreNamed, Borrowed};
+ghost use Rattle.host_top.specs.Borrowed.{AreDifferentNames, AreAsGiven, AreNamed, Borrowed};
 ghost use Rattle.host_top.specs.Borrowed.{Lending, PutsBack, lent_as};
 ghost use Rattle.host_top.specs.Files.{IsLent, KeepsDoors, KeepsFiles};
 ghost use Rattle.host_top.specs.Folder.{FitsNames, MayPutBack, PutsFolderBack, folder_back};
@@ -68,7 +68,7 @@ fn take_one<O: Outside>(
 /// Puts disks back under these names.
 pub fn put_all_back<O: Outside>(names: &[String], disks: Vec<O::Disk>, outside: &mut O)
     requires many { length disks.items ≤ length names.now }
-    requires names { AreApart (map string_bytes names.now) }
+    requires names { AreDifferentNames (map string_bytes names.now) }
     requires lent { (i : ℕ) (name : List ℕ) (disk : O.Disk)
         → slice_get (map string_bytes names.now) i ≡ Some name
         → slice_get disks.items i ≡ Some disk
@@ -94,7 +94,7 @@ pub fn take_all<O: Outside>(
     names: &[String],
     outside: &mut O,
 ) -> Result<Vec<O::Disk>, Fetch>
-    requires names { AreApart (map string_bytes names.now) }
+    requires names { AreDifferentNames (map string_bytes names.now) }
     ensures ok { IfOk result (λ disks. (length disks.items ≡ length names.now)
         × Borrowed (record {
           tells = O.Disk.tells;
@@ -148,7 +148,7 @@ pub fn take_folder<O: Outside>(
     names: &Names,
     outside: &mut O,
 ) -> Result<Disks<O::Disk>, Fetch>
-    requires names { AreApart (map string_bytes names.now.snaps.items) }
+    requires names { AreDifferentNames (map string_bytes names.now.snaps.items) }
     requires journal { Each (λ n. bytes_eq (string_bytes names.now.journal) n ≡ false)
         (map string_bytes names.now.snaps.items) }
     ensures ok { IfOk result (λ disks.
@@ -198,7 +198,7 @@ pub fn take_folder<O: Outside>(
 
 /// Puts back what comes back of the disks of a folder.
 pub fn put_folder_back<O: Outside>(names: &Names, back: Back<O::Disk>, outside: &mut O)
-    requires names { AreApart (map string_bytes names.now.snaps.items) }
+    requires names { AreDifferentNames (map string_bytes names.now.snaps.items) }
     requires journal { Each (λ n. bytes_eq (string_bytes names.now.journal) n ≡ false)
         (map string_bytes names.now.snaps.items) }
     requires back { FitsNames (length names.now.snaps.items) back }

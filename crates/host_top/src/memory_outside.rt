@@ -3,7 +3,7 @@ ghost use Rattle.std.specs.Prelude.{◌≡◌, Some, None, IfSome, IfNone, IsSom
 ghost use Rattle.std.specs.Prelude.{is_some, true, false};
 ghost use Rattle.std.specs.Prelude.{ℕ, List, option_map};
 ghost use Rattle.std.specs.BTreeMap.{get_by_text};
-ghost use Rattle.host_top.specs.Files.{Told, told_by, IsLentFrom, IsLent, returned, RisesWith};
+ghost use Rattle.host_top.specs.Files.{Told, told_of_all, IsLentFrom, IsLent, returned, RisesWith};
 ghost use Rattle.host_top.specs.Files.{told_at, is_out, AreBelow};
 ghost use Rattle.host_top.specs.MemoryOutside.{disk_in, loan_in};
 ghost use Rattle.std.specs.Map.{update};
@@ -39,7 +39,7 @@ impl Shelf {
           });
         } }
         ensures given { IsLentFrom ⟦<MemDisk as Disk>⟧.seen
-            ⟦<MemDisk as Disk>⟧.may_leave (told_by self.old.disk) result }
+            ⟦<MemDisk as Disk>⟧.may_leave (told_of_all self.old.disk) result }
         ensures label { ⟦<MemDisk as Disk>⟧.label result ≡ label }
     {
         let mut disk = match self.disk.take() {
@@ -167,7 +167,7 @@ impl MemoryOutside {
         failing_doors: Vec<u64>,
     ) -> MemoryOutside
         ensures value { ⟦<MemoryOutside as Outside>⟧.outside result ≡ record {
-          file = λ name. told_by (option_map (λ bytes. bytes.items) (get_by_text files name));
+          file = λ name. told_of_all (option_map (λ bytes. bytes.items) (get_by_text files name));
           disk = λ name. Told.Missing;
           loan = λ name. None;
           faults = 0;

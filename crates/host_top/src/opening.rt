@@ -4,8 +4,8 @@ ghost use Rattle.std.specs.List.{AllZip};
 ghost use Rattle.gate_journal.specs.Command.{IsBudget};
 ghost use Rattle.gate_journal.specs.Rows.{SpellsRows};
 ghost use Rattle.gate_journal.specs.declared.row.Row.{Row};
-ghost use Rattle.host_serve.specs.Hosts.{IsSound, rows_at_opening, stores_of};
-ghost use Rattle.host_serve.specs.Opening.{AreAgreed, IsOpened, IsStoreOf};
+ghost use Rattle.host_serve.specs.Hosts.{IsSound, rows_at_opening, opened_stores};
+ghost use Rattle.host_serve.specs.Opening.{AreAgreed, IsOpenedHost, IsStoreOf};
 ghost use Rattle.line_talk.specs.Causes.{Rose};
 ghost use Rattle.line_talk.specs.Streams.{SourceState};
 ghost use Rattle.host_top.specs.Folder.{FitsNames, IsSameBack};
@@ -34,10 +34,10 @@ pub fn open_host<'i, D: Disk + Drop, K: Sink>(
     requires many { length disks.snaps.items ≡ 64 }
     ensures ok { IfOk result (λ pair. (rows : List Row)
         × (IsTrue (D.tells disks.journal) → SpellsRows (D.seen disks.journal) rows)
-        × IsOpened stories.now budget rows
+        × IsOpenedHost stories.now budget rows
         (record { disk = disks.journal; found = length rows }) pair.0 pair.1) }
     ensures stores { IfOk result (λ pair. AllZip (IsStoreOf D.tells D.may_leave D.seen D.moment
-        D.left_since D.faults D.reach D.room D.label) disks.snaps.items (stores_of pair.0)) }
+        D.left_since D.faults D.reach D.room D.label) disks.snaps.items (opened_stores pair.0)) }
     ensures sound { IfOk result (λ pair. AreAgreed D.tells D.seen stories.now
         (rows_at_opening pair.0) disks.snaps.items → IsSound D.tells D.seen pair.0) }
     ensures silent { IfOk result (λ _. K.sink output.new ≡ K.sink output.old) }

@@ -16,11 +16,11 @@ pub enum Fetch {
 /// The files and the disks outside, by their names, and its doors.
 pub trait Outside {
     ghost use Rattle.line_talk.specs.Causes.{Rose};
-    ghost use Rattle.host_top.specs.Files.{OutsideState, IsFile, KeepsFiles, KeepsDisks};
+    ghost use Rattle.host_top.specs.Files.{OutsideState, IsLoadOf, KeepsFiles, KeepsDisks};
     ghost use Rattle.host_top.specs.Files.{KeepsDoors, Closes};
     ghost use Rattle.line_talk.specs.Failing.{Failing, FailsAsListed};
-    ghost use Rattle.host_top.specs.Files.{IsLentFrom, IsLent, Lends, TakesBack};
-    ghost use Rattle.host_top.specs.Files.{is_missing, is_out, has_failed};
+    ghost use Rattle.host_top.specs.Files.{IsLentFrom, IsLent, Lends, TakesDiskBack};
+    ghost use Rattle.host_top.specs.Files.{is_told_missing, is_out, has_failed};
 
     /// A disk that it lends.
     type Disk: Disk + Drop + Send + Sync;
@@ -43,14 +43,14 @@ pub trait Outside {
     /// The bytes of the file of that name, at most the first 67,108,865.
     fn load(&mut self, alloc: Global, name: &str) -> Result<Vec<u8>, Fetch>
         ensures value { IfOk result
-            (λ bytes. IsFile ((outside self.old).file name.now) bytes.items) }
+            (λ bytes. IsLoadOf ((outside self.old).file name.now) bytes.items) }
         ensures kept { (outside self.new).file ≡ (outside self.old).file }
         ensures later { (outside self.old).faults ≤ (outside self.new).faults }
         ensures cause { IsErrOf result Fetch.Failed
             → Rose (outside self.old).faults (outside self.new).faults }
         // A load whose file is told to be missing fails, too.
         ensures listed { FailsAsListed (failing_loads self.old) (failing_loads self.new)
-            (is_missing ((outside self.old).file name.now)) (has_failed result) }
+            (is_told_missing ((outside self.old).file name.now)) (has_failed result) }
         ensures others { (failing_loans self.new ≡ failing_loans self.old)
             × (failing_doors self.new ≡ failing_doors self.old) }
         ensures disks { KeepsDisks (outside self.old) (outside self.new) }
@@ -81,7 +81,7 @@ pub trait Outside {
     /// Takes a disk back that it lent under that name.
     fn put_back(&mut self, name: &str, disk: Self::Disk)
         requires { IsLent ((outside self.old).loan name.now) (Self.Disk.label disk) }
-        ensures back { TakesBack Self.Disk.faults name.now disk
+        ensures back { TakesDiskBack Self.Disk.faults name.now disk
             (outside self.old) (outside self.new) }
         ensures others { (failing_loads self.new ≡ failing_loads self.old)
             × (failing_loans self.new ≡ failing_loans self.old)

@@ -1,11 +1,11 @@
 //! How `run` answers the lines of its player.
 ghost use Rattle.std.specs.Prelude.{◌≡◌, ◌<◌, OnOk, IfOk, IfErr, true, Some};
 ghost use Rattle.std.specs.Option.{option_map};
-ghost use Rattle.story_run.specs.Solo.{is_wanted, turned};
+ghost use Rattle.story_run.specs.Solo.{is_wanted, world_after_input};
 ghost use Rattle.line_talk.specs.Streams.{Wrote};
 ghost use Rattle.line_talk.specs.Writing.{Stopped};
 ghost use Rattle.line_talk.specs.Lines.{IsHeard};
-ghost use Rattle.host_top.specs.RunText.{show_text, input_of, input_next, input_reply};
+ghost use Rattle.host_top.specs.RunText.{show_text, input_of_play, input_next, input_reply};
 ghost use Rattle.host_top.specs.RunText.{line_next, line_reply};
 
 use glk_input::Input;
@@ -29,7 +29,7 @@ pub fn say<K: Sink>(output: &mut K, world: &World<'_>) -> Result<(), Stop>
 
 /// What a line of the player gives to the story.
 fn input_of(play: Play) -> Input
-    ensures { result ≡ input_of play }
+    ensures { result ≡ input_of_play play }
 {
     match play {
         Play::Line { win, text, key } => Input::Line { win, text, key },
@@ -49,7 +49,7 @@ fn turn_counted<'i, L: Ledger>(
     requires parts { blank.parts ≡ L.parts }
     requires some { 0 < blank.parts }
     requires wanted { is_wanted world input.now ≡ true }
-    ensures { IfOk result (λ now. now ≡ turned world.entry input.now) }
+    ensures { IfOk result (λ now. now ≡ world_after_input world.entry input.now) }
 {
     let mut steps = Steps::<L>::new(blank);
     world.turn(alloc, input, &mut steps)
@@ -58,7 +58,7 @@ fn turn_counted<'i, L: Ledger>(
 /// Plays a turn whose steps nobody counts.
 fn turn<'i>(alloc: Global, world: World<'i>, input: &Input) -> Result<World<'i>, AllocError>
     requires { is_wanted world input.now ≡ true }
-    ensures { IfOk result (λ now. now ≡ turned world.entry input.now) }
+    ensures { IfOk result (λ now. now ≡ world_after_input world.entry input.now) }
 {
     turn_counted::<Brand>(alloc, world, input, Blank::new(1))
 }
@@ -141,7 +141,7 @@ impl<'i> Player<'i> {
 }
 
 impl<'i> Answers for Player<'i> {
-    ghost use Rattle.host_top.specs.Plain.{Plain, PlainReply, held_by, is_over_held};
+    ghost use Rattle.host_top.specs.Plain.{Plain, PlainReply, answering_held, is_over_held};
     ghost use Rattle.host_top.specs.RunText.{solo};
     ghost use Rattle.std.specs.Prelude.{Option};
     ghost use Rattle.story_run.specs.World.{WorldState};
@@ -150,9 +150,9 @@ impl<'i> Answers for Player<'i> {
 
     ghost state = { λ player. player };
 
-    ghost turn = { Plain (held_by solo) };
+    ghost turn = { Plain (answering_held solo) };
 
-    ghost cut = { PlainReply (held_by solo) };
+    ghost cut = { PlainReply (answering_held solo) };
 
     ghost over = { is_over_held solo };
 

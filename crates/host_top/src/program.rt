@@ -4,10 +4,10 @@ ghost use Rattle.std.specs.Prelude.{IsSomeAnd};
 ghost use Rattle.line_talk.specs.Causes.{Rose};
 ghost use Rattle.line_talk.specs.Streams.{Gave, Wrote};
 ghost use Rattle.host_top.specs.Status.{status_of};
-ghost use Rattle.command_words.specs.Words.{asked, asked_by};
+ghost use Rattle.command_words.specs.Words.{command_asked, asked_by};
 ghost use Rattle.host_top.specs.Speech.{tasked};
 ghost use Rattle.host_top.specs.Stories.{stories_of};
-ghost use Rattle.host_top.specs.Follows.{Does, Follows, Tells};
+ghost use Rattle.host_top.specs.Follows.{DoesTask, FollowsCommand, TellsCaller};
 
 use crate::check::check;
 use crate::drill::drill;
@@ -39,7 +39,7 @@ fn act<R: Threads + Wait + Sync, O: Outside, S: Source, K: Sink>(
     input: &mut S,
     output: &mut K,
 ) -> Status
-    ensures value { Does (record {
+    ensures value { DoesTask (record {
       tells = O.Disk.tells;
       seen = O.Disk.seen;
       may_leave = O.Disk.may_leave;
@@ -98,7 +98,7 @@ fn follow<R: Threads + Wait + Sync, O: Outside, S: Source, K: Sink>(
     input: &mut S,
     output: &mut K,
 ) -> Status
-    ensures done { Follows (record {
+    ensures done { FollowsCommand (record {
       tells = O.Disk.tells;
       seen = O.Disk.seen;
       may_leave = O.Disk.may_leave;
@@ -108,7 +108,7 @@ fn follow<R: Threads + Wait + Sync, O: Outside, S: Source, K: Sink>(
       reach = O.Disk.reach;
       room = O.Disk.room;
       label = O.Disk.label;
-    }) (asked command.entry) result
+    }) (command_asked command.entry) result
         (O.outside outside.old) (O.outside outside.new) (S.source input.old) (S.source input.new)
         (K.sink output.old) (K.sink output.new) }
     ensures bad_words { ¬ (result ≡ Status.BadWords) }
@@ -147,7 +147,7 @@ pub fn top<R: Threads + Wait + Sync, O: Outside, S: Source, K: Sink>(
 
     // what was asked is done as far as the status says
     ensures done { IfSome (asked_by (map string_bytes words.now)) (λ asked.
-        IsSomeAnd (status_of result) (λ status. Follows (record {
+        IsSomeAnd (status_of result) (λ status. FollowsCommand (record {
           tells = O.Disk.tells;
           seen = O.Disk.seen;
           may_leave = O.Disk.may_leave;
@@ -163,7 +163,7 @@ pub fn top<R: Threads + Wait + Sync, O: Outside, S: Source, K: Sink>(
 
     // and in plain words, for a caller who is told the files, the input and what the output holds
     ensures told { IfSome (asked_by (map string_bytes words.now)) (λ asked.
-        IsSomeAnd (status_of result) (λ status. Tells (record {
+        IsSomeAnd (status_of result) (λ status. TellsCaller (record {
           tells = O.Disk.tells;
           seen = O.Disk.seen;
           may_leave = O.Disk.may_leave;

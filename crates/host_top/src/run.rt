@@ -1,7 +1,7 @@
 //! The command `run`, which plays one story alone.
 ghost use Rattle.std.specs.Prelude.{◌≡◌, ◌<◌, length, slice_get, Ok};
 ghost use Rattle.line_talk.specs.Causes.{Rose};
-ghost use Rattle.host_top.specs.RunText.{alone};
+ghost use Rattle.host_top.specs.RunText.{setup_alone};
 ghost use Rattle.host_top.specs.Speech.{run_speech};
 ghost use Rattle.host_top.specs.Spoken.{Spoken};
 
@@ -13,7 +13,7 @@ use story_run::{Setup, Story, World};
 
 /// A story that is played alone.
 fn alone(budget: u64) -> Setup
-    ensures { result ≡ alone budget }
+    ensures { result ≡ setup_alone budget }
 {
     Setup {
         seed: 1,

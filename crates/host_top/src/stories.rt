@@ -2,7 +2,8 @@
 ghost use Rattle.std.specs.Prelude.{◌≡◌, ◌≤◌, map, Ok, IfOk, IfErr, IsErrOf};
 ghost use Rattle.line_talk.specs.Causes.{Rose};
 ghost use Rattle.host_top.specs.Files.{KeepsDisks, KeepsDoors};
-ghost use Rattle.host_top.specs.Stories.{AreFiles, IsSettled, Refuses, StopsBehind, stories_of};
+ghost use Rattle.host_top.specs.Stories.{AreFiles, IsLoadSettled, RefusesStories, LoadStopsBehind};
+ghost use Rattle.host_top.specs.Stories.{stories_of};
 
 use crate::outside::{Fetch, Outside};
 use crate::story_file::{StoryFault, is_story, story_of};
@@ -31,9 +32,9 @@ pub fn load_files<O: Outside>(
 ) -> Result<Vec<Vec<u8>>, Fetch>
     ensures value { IfOk result (λ files. AreFiles (O.outside outside.old).file
         (map (λ n. n.now) names.now) (map (λ f. f.items) files.items)) }
-    ensures settled { IfOk result (λ files. IsSettled
+    ensures settled { IfOk result (λ files. IsLoadSettled
         (map (λ n. n.now) names.now) (map (λ f. f.items) files.items)) }
-    ensures behind { IfErr result (λ why. StopsBehind (O.outside outside.old).file
+    ensures behind { IfErr result (λ why. LoadStopsBehind (O.outside outside.old).file
         (map (λ n. n.now) names.now) (why ≡ Fetch.Failed)) }
     ensures cause { IsErrOf result Fetch.Failed
         → Rose (O.outside outside.old).faults (O.outside outside.new).faults }
@@ -61,7 +62,7 @@ pub fn load_files<O: Outside>(
 pub fn stories_of<'i>(alloc: Global, files: &'i [Vec<u8>]) -> Result<Vec<Story<'i>>, Unplayed>
     ensures ok { IfOk result (λ stories.
         stories_of (map (λ f. f.items) files.now) ≡ Ok stories.items) }
-    ensures err { IfErr result (Refuses (stories_of (map (λ f. f.items) files.now))) }
+    ensures err { IfErr result (RefusesStories (stories_of (map (λ f. f.items) files.now))) }
 {
     let mut stories = Vec::new(alloc);
     for file in files {

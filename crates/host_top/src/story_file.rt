@@ -29,7 +29,7 @@ fn image_bytes(bytes: &[u8]) -> Result<&[u8], StoryFault>
 
 /// Whether a file is a story.
 pub fn is_story(bytes: &[u8]) -> bool
-    ensures { result ≡ is_ok (file.story_of bytes.now) }
+    ensures { result ≡ is_ok (file.story_in_file bytes.now) }
 {
     match image_bytes(bytes) {
         Ok(image) => Image::parse(image).is_ok(),
@@ -39,7 +39,7 @@ pub fn is_story(bytes: &[u8]) -> bool
 
 /// The story of a file, or the first fault of its container or its image.
 pub fn story_of<'i>(bytes: &'i [u8]) -> Result<Story<'i>, StoryFault>
-    ensures { result ≡ file.story_of bytes.now }
+    ensures { result ≡ file.story_in_file bytes.now }
 {
     match image_bytes(bytes) {
         Ok(image) => match Story::of(image) {

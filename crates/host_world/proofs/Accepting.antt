@@ -6,11 +6,12 @@ use Rattle.std.proofs.lemmas.Bool.Decides.{nat_tests}
 use Rattle.std.proofs.lemmas.List.{append-nil}
 use Rattle.std.specs.List.{slice_get}
 use Rattle.std.specs.Prelude.{nat_le, nat_lt, not, ◌&&◌, ◌||◌}
+use Rattle.gate_journal.specs.Rows.{is_open}
 use Rattle.gate_journal.specs.Command.{HasDigest, IsBudget, IsCommand}
 use Rattle.gate_journal.specs.Log.{next_row}
 use Rattle.gate_journal.specs.declared.command.Command.{Command}
 use Rattle.gate_journal.specs.declared.row.Row.{Row}
-use Rattle.line_words.specs.Spelling.{number}
+use Rattle.line_words.specs.Spelling.{number_field}
 use Rattle.story_run.specs.declared.story.Story.{Story}
 use Rattle.host_world.specs.Headline.{AreGiven}
 use Rattle.gate_journal.specs.Rows.{commands_of, is_free, is_close, may_follow, EachNext, IsJournal}
@@ -24,11 +25,11 @@ use Rattle.line_words.specs.declared.reply.No.TheVariants as no
 use Rattle.line_words.specs.Request.{request_of}
 use Rattle.line_words.specs.Spelling.{IsRequest}
 use Rattle.line_words.proofs.RequestLaws.{request_only}
-use Rattle.session_core.specs.History.{game_of, count, goes_on, has_key, is_in_use, is_open}
+use Rattle.session_core.specs.History.{game_of, command_count, game_goes_on, has_key, is_in_use}
 use Rattle.session_core.specs.History.{story_at, world_of}
-use Rattle.session_core.specs.Checks.{command_of, is_fresh, is_full, opened}
-use Rattle.session_core.specs.Answer.{answer, decided, accepted_by, first_of, plain_checks}
-use Rattle.session_core.specs.Answer.{extended, story_checks, refusal_in, refusal_of, show_of}
+use Rattle.session_core.specs.Checks.{command_of, is_fresh, is_full, opening_command}
+use Rattle.session_core.specs.Answer.{answer, decided, accepted_by, first_refusal, plain_checks}
+use Rattle.session_core.specs.Answer.{history_extended, story_checks, refusal_in, refusal_of, game_show}
 use Rattle.session_core.specs.Sessions.{with_budget}
 use Rattle.session_core.specs.Turning.{decided_by, decision_on}
 use Rattle.session_core.proofs.AnswerLemmas.{accepted_has_room}
@@ -61,7 +62,7 @@ is_free-append (x ∷ y ∷ ys) c = is_free-append (y ∷ ys) c
 abbrev Agree : List Command → Type 0
 Agree commands = is_free commands ≡ not (is_in_use (game_of commands))
 
-close_ends : (c : Command) → is_close c ≡ not (goes_on (Some c))
+close_ends : (c : Command) → is_close c ≡ not (game_goes_on (Some c))
 close_ends (commands.Open key story digest seed cols rows budget) = refl
 close_ends (commands.Line win term text) = refl
 close_ends (commands.Char win code) = refl
@@ -150,14 +151,14 @@ one_follows xs a used = rw (a, used) refl
 
 -- what OPEN asks for, where its story is there
 opens : (found : Option Story) (key : List ℕ) (story seed cols rows budget : ℕ) (c : Command)
-    → opened found (λ digest. commands.Open key story digest seed cols rows budget) ≡ Some c
+    → opening_command found (λ digest. commands.Open key story digest seed cols rows budget) ≡ Some c
     → (there : Story) × (found ≡ Some there)
     × (c ≡ commands.Open key story there.digest seed cols rows budget)
 opens None key story seed cols rows budget c e = absurd cc
 opens (Some there) key story seed cols rows budget c e = (there, refl, sym (some_is _ c e))
 
 follows : (stories : List Story) (xs : List Command) (request : Request) (c : Command) → Agree xs
-    → first_of (plain_checks stories (game_of xs) request) ≡ None
+    → first_refusal (plain_checks stories (game_of xs) request) ≡ None
     → is_fresh (game_of xs) request ≡ true → command_of stories request ≡ Some c
     → may_follow xs c ≡ true
 follows stories xs (Open s key story seed cols rows budget) c a none fresh e =
@@ -185,13 +186,13 @@ follows stories xs (Last s key) c a none fresh e = absurd cc
 follows stories xs (Close s key n) c a none fresh e =
     let g = game_of xs in
     let used =
-    closes (nat_le 64 s) (has_key g key) (is_in_use g) (n == count g)
-    (all_fail (plain_checks stories g (Close s key n)) none).0 (not_last n (count g) fresh) in
+    closes (nat_le 64 s) (has_key g key) (is_in_use g) (n == command_count g)
+    (all_fail (plain_checks stories g (Close s key n)) none).0 (not_last n (command_count g) fresh) in
     rw (sym (some_is _ c e)) (one_follows xs a used)
 
 -- ---- what an accepted command is
 
-first_of-front : (xs ys : List (Bool × Refusal)) → first_of (xs ++ ys) ≡ None → first_of xs ≡ None
+first_of-front : (xs ys : List (Bool × Refusal)) → first_refusal (xs ++ ys) ≡ None → first_refusal xs ≡ None
 first_of-front [] ys e = refl
 first_of-front ((true, why) ∷ xs) ys e = e
 first_of-front ((false, why) ∷ xs) ys e = first_of-front xs ys e
@@ -206,7 +207,7 @@ accepted_none stories game show request None command e = (refl, e)
 -- a request was accepted: no check held of it, it was fresh, and it asked for the command
 record Asks (stories : List Story) (history : List Command) (request : Request)
     (command : Command) : Type 0 where
-  none : first_of (plain_checks stories (game_of history) request) ≡ None
+  none : first_refusal (plain_checks stories (game_of history) request) ≡ None
   fresh : is_fresh (game_of history) request ≡ true
   asked : command_of stories request ≡ Some command
   room : length history < 8192
@@ -218,7 +219,7 @@ unfolding answer refusal_of refusal_in accepted_by
 asks stories history request command e =
     let parts =
     accepted_none stories (game_of history)
-    (λ accepted. show_of stories (game_of (extended history accepted))) request
+    (λ accepted. game_show stories (game_of (history_extended history accepted))) request
     (refusal_of stories history (game_of history) request) command e in
     let taken =
     chosen (is_fresh (game_of history) request) (command_of stories request) command parts.1 in

@@ -13,10 +13,10 @@ use Rattle.session_core.specs.declared.entry.Outcome.TheVariants.{Answered, Disk
 use Rattle.session_core.specs.declared.entry.Outcome.TheVariants.{OutOfMemory}
 use Rattle.disk_model.specs.Plain.{agree}
 use Rattle.host_world.specs.Events.{run}
-use Rattle.host_world.specs.Happenings.{Cut, Ended, Happening, Opened, all_told, cut_at, history_of}
-use Rattle.host_world.specs.Happenings.{replies_of, replies_to}
+use Rattle.host_world.specs.Happenings.{Cut, Ended, Happening, Opened, all_told, cut_at, history_left}
+use Rattle.host_world.specs.Happenings.{replies_of, given_replies}
 use Rattle.host_world.specs.Headline.{AreGiven, uncounted, uncounted_outcome, uncounted_reply}
-use Rattle.host_world.specs.Sessions.{found}
+use Rattle.host_world.specs.Sessions.{history_found}
 use Rattle.host_world.specs.Starts.{IsStart}
 use Rattle.host_world.specs.declared.event.Event.{Event}
 use Rattle.host_world.specs.declared.state.HostState.{HostState}
@@ -111,8 +111,8 @@ module _ (stories : List Story) (budget : ℕ) (premise : AreGiven stories budge
       (turn_of stories budget g 0 line (uncounted_outcome outcome)).history
       (same_turn h g pass 0 line outcome is).after_
   uncounted_replies (Opened cs ∷ past) h g is =
-      uncounted_replies past (found (commands_in h ++ cs)) (found (commands_in g ++ cs))
-      (ap (λ (l : List Command). commands_in (found (l ++ cs))) is)
+      uncounted_replies past (history_found (commands_in h ++ cs)) (history_found (commands_in g ++ cs))
+      (ap (λ (l : List Command). commands_in (history_found (l ++ cs))) is)
 
   pub isolated_holds :
       (w v : HostState) (es fs : List Event) → IsStart w → IsStart v → (s : ℕ) (x y : Session)
@@ -120,13 +120,13 @@ module _ (stories : List Story) (budget : ℕ) (premise : AreGiven stories budge
       → commands_in x.history ≡ commands_in y.history
       → map uncounted (all_told stories budget s w es)
       ≡ map uncounted (all_told stories budget s v fs)
-      → map uncounted_reply (replies_to s (run stories budget w es).given)
-      ≡ map uncounted_reply (replies_to s (run stories budget v fs).given)
+      → map uncounted_reply (given_replies s (run stories budget w es).given)
+      ≡ map uncounted_reply (given_replies s (run stories budget v fs).given)
   isolated_holds w v es fs ow ov s x y at_x at_y is agree =
-      let one : replies_to s (run stories budget w es).given
+      let one : given_replies s (run stories budget w es).given
       ≡ replies_of stories budget x.history (all_told stories budget s w es) =
       lives_on stories budget premise w es ow s x at_x in
-      let two : replies_to s (run stories budget v fs).given
+      let two : given_replies s (run stories budget v fs).given
       ≡ replies_of stories budget y.history (all_told stories budget s v fs) =
       lives_on stories budget premise v fs ov s y at_y in
       ap (λ (l : List Reply). map uncounted_reply l) one
@@ -171,22 +171,22 @@ module _ (stories : List Story) (budget : ℕ) (premise : AreGiven stories budge
       (decision_on stories budget (commands_in h) line).accepted)
 
   history_grows : (past : List Happening) (h : List Entry)
-      → Grows (commands_in h) (commands_in (history_of stories budget h past))
+      → Grows (commands_in h) (commands_in (history_left stories budget h past))
   history_grows [] h = same_grows (commands_in h) (commands_in h) refl
   history_grows (Ended pass line outcome ∷ past) h =
       grows_on (commands_in h) (commands_in (turn_of stories budget h pass line outcome).history)
-      (commands_in (history_of stories budget
+      (commands_in (history_left stories budget
       (turn_of stories budget h pass line outcome).history past)) (turn_grows h pass line outcome)
       (history_grows past (turn_of stories budget h pass line outcome).history)
   history_grows (Cut pass line outcome ∷ past) h =
       grows_on (commands_in h) (commands_in (turn_of stories budget h pass line outcome).history)
-      (commands_in (history_of stories budget
+      (commands_in (history_left stories budget
       (turn_of stories budget h pass line outcome).history past)) (turn_grows h pass line outcome)
       (history_grows past (turn_of stories budget h pass line outcome).history)
   history_grows (Opened cs ∷ past) h =
-      grows_on (commands_in h) (commands_in (found (commands_in h ++ cs)))
-      (commands_in (history_of stories budget (found (commands_in h ++ cs)) past))
-      (cs, commands-found (commands_in h ++ cs)) (history_grows past (found (commands_in h ++ cs)))
+      grows_on (commands_in h) (commands_in (history_found (commands_in h ++ cs)))
+      (commands_in (history_left stories budget (history_found (commands_in h ++ cs)) past))
+      (cs, commands-found (commands_in h ++ cs)) (history_grows past (history_found (commands_in h ++ cs)))
 
   pub nothing_lost :
       (w : HostState) (events later : List Event) → IsStart w → (s : ℕ) (x y : Session)
@@ -203,19 +203,19 @@ module _ (stories : List Story) (budget : ℕ) (premise : AreGiven stories budge
       let h = first_of stories budget premise w s in
       let past = all_told stories budget s w events in
       let more = all_told stories budget s (run stories budget w events) later in
-      let was : x.history ≡ history_of stories budget (first_of stories budget premise w s)
+      let was : x.history ≡ history_left stories budget (first_of stories budget premise w s)
       (all_told stories budget s w events) =
       subst (λ (t : Option Turn). TurnFact stories budget
-      (history_of stories budget (first_of stories budget premise w s)
+      (history_left stories budget (first_of stories budget premise w s)
       (all_told stories budget s w events)) x.history t) free_ (one.each s x at).turn in
-      let now : y.history ≡ history_of stories budget x.history
+      let now : y.history ≡ history_left stories budget x.history
       (all_told stories budget s (run stories budget w events) later ++ cut_at y.turn) =
       cut_fact stories budget h (past ++ more) y.history y.turn (two.each s y at_later).turn
-      ∙ ap (λ (l : List Happening). history_of stories budget
+      ∙ ap (λ (l : List Happening). history_left stories budget
       (first_of stories budget premise w s) l) (append_assoc past more (cut_at y.turn))
       ∙ history-push stories budget (first_of stories budget premise w s) past
       (more ++ cut_at y.turn)
-      ∙ ap (λ (k : List Entry). history_of stories budget k
+      ∙ ap (λ (k : List Entry). history_left stories budget k
       (all_told stories budget s (run stories budget w events) later ++ cut_at y.turn))
       (sym was) in
       let grown =

@@ -5,25 +5,25 @@ use Rattle.std.proofs.lemmas.Bool.Decides.{nat_tests}
 use Rattle.std.proofs.lemmas.List.{append-nil}
 use Rattle.std.specs.List.{slice_get}
 use Rattle.disk_model.proofs.StateLaws.{only_settled, seen_write}
-use Rattle.disk_model.specs.Disk.{Holds, written}
-use Rattle.disk_model.specs.DiskState.{DiskState, IsImage, settled}
+use Rattle.disk_model.specs.Disk.{Holds, file_written}
+use Rattle.disk_model.specs.DiskState.{DiskState, IsDiskImage, settled}
 use Rattle.gate_journal.proofs.RowLemmas.{journal_push}
 use Rattle.gate_journal.proofs.Sound.{opened_shut}
 use Rattle.gate_journal.proofs.Steps.{shut_written, unsure_opened, unsure_written}
 use Rattle.gate_journal.specs.Gate.{IsShut, IsUnsure}
-use Rattle.gate_journal.specs.Log.{StandsAt}
-use Rattle.gate_journal.specs.Rows.{commands_of, spelled}
+use Rattle.gate_journal.specs.Log.{StandsInImage}
+use Rattle.gate_journal.specs.Rows.{commands_of, journal_bytes}
 use Rattle.gate_journal.specs.declared.command.Command.{Command}
 use Rattle.gate_journal.specs.declared.row.Row.{Row}
 use Rattle.story_run.specs.declared.story.Story.{Story}
 use Rattle.session_core.specs.Turning.{commands_in, decision_on}
 use Rattle.session_core.specs.declared.entry.Entry.{Entry}
 use Rattle.disk_model.specs.Plain.{is_image}
-use Rattle.store_events.specs.Disk.{counted, disk_after, may_work}
-use Rattle.host_world.specs.Happenings.{Happening, history_of}
+use Rattle.store_events.specs.Disk.{fault_counted, disk_after, may_work}
+use Rattle.host_world.specs.Happenings.{Happening, history_left}
 use Rattle.host_world.specs.Headline.{AreGiven}
 use Rattle.host_world.specs.Journal.{broken, next_call, onward, past_gate}
-use Rattle.host_world.specs.Pending.{listed, pending, pending_at, pending_of}
+use Rattle.host_world.specs.Pending.{command_listed, pending, pending_at, pending_of}
 use Rattle.host_world.specs.Sessions.{in_phase, phase_set, turn_set}
 use Rattle.store_events.specs.declared.disk.DiskCall.{DiskCall}
 use Rattle.store_events.specs.declared.disk.DiskCall.TheVariants.{Sync, Write}
@@ -50,7 +50,7 @@ module _ (stories : List Story) (budget : ℕ) (premise : AreGiven stories budge
     reading_after call = disk_after call true reads v.disk
 
     pub seen_is : (at : ℕ) (piece : List ℕ) → may_work (Write at piece) ≡ true
-        → (disk_after (Write at piece) true reads v.disk).seen ≡ written v.disk.seen at piece
+        → (disk_after (Write at piece) true reads v.disk).seen ≡ file_written v.disk.seen at piece
     seen_is at piece fits = seen_write at piece v.disk (grind (arith, nat_tests))
 
     set_phase_is : (r : Row) (b : Busy stories budget v r) (phase : Phase)
@@ -75,14 +75,14 @@ module _ (stories : List Story) (budget : ℕ) (premise : AreGiven stories budge
         ∙ append-nil (commands_in b.asker.history)
 
     busy_fact : (r : Row) (b : Busy stories budget v r)
-        → PhaseFact stories budget (history_of stories budget (first r.session)
+        → PhaseFact stories budget (history_left stories budget (first r.session)
         (past r.session)) b.asker.history b.turn Begun
     busy_fact r b =
         subst (λ (p : Phase). PhaseFact stories budget
-        (history_of stories budget (first r.session)
+        (history_left stories budget (first r.session)
         (past r.session)) b.asker.history b.turn p) b.started
         (subst (λ (o : Option Turn). TurnFact stories budget
-        (history_of stories budget (first r.session)
+        (history_left stories budget (first r.session)
         (past r.session)) b.asker.history o) b.stands (sound.each r.session b.asker b.at).turn)
 
     busy_on : (r : Row) (p : DiskState) (n : ℕ) (u : Option Row) (step : Step)
@@ -121,25 +121,25 @@ module _ (stories : List Story) (budget : ℕ) (premise : AreGiven stories budge
         (sym (some_same b.asker z (sym b.at ∙ ap (λ (i : ℕ). slice_get v.sessions i) is ∙ at)))
         ∙ busy_pending r b)
 
-    only : (P : List ℕ → Type 0) → P v.disk.seen → (c : List ℕ) → IsImage (settled v.disk.seen) c
+    only : (P : List ℕ → Type 0) → P v.disk.seen → (c : List ℕ) → IsDiskImage (settled v.disk.seen) c
         → P c
     only P here c image = subst P (sym (only_settled v.disk.seen c image)) here
 
     abbrev after_call : DiskCall → HostState
     after_call call = record v { disk = disk_after call true reads v.disk }
 
-    pub shuts_good : (r : Row) (n : ℕ) → may_work (Write (length (spelled v.rows)) (0 ∷ [])) ≡ true
+    pub shuts_good : (r : Row) (n : ℕ) → may_work (Write (length (journal_bytes v.rows)) (0 ∷ [])) ≡ true
         → StepFact stories budget v (RepairWrite r n)
         → Sound stories budget first past
         (onward (record v {
           disk =
-              disk_after (Write (length (spelled v.rows)) (0 ∷ [])) true reads v.disk;
+              disk_after (Write (length (journal_bytes v.rows)) (0 ∷ [])) true reads v.disk;
         })
         (RepairWrite r n))
     shuts_good r n fits fact =
-        let call = Write (length (spelled v.rows)) (0 ∷ []) in
-        let old : IsUnsure (spelled v.rows) (past_gate fact.1.0) v.disk.seen =
-        subst (λ (o : Option Row). StandsAt v.rows o v.disk.seen) fact.1.1
+        let call = Write (length (journal_bytes v.rows)) (0 ∷ []) in
+        let old : IsUnsure (journal_bytes v.rows) (past_gate fact.1.0) v.disk.seen =
+        subst (λ (o : Option Row). StandsInImage v.rows o v.disk.seen) fact.1.1
         (sound.images v.disk.seen sound.stays) in
         stepped stories budget first past v (reading_after call) v.faults v.uncertain
         (RepairSync r n) sound (stays_after call reads v.disk sound.stays)
@@ -147,10 +147,10 @@ module _ (stories : List Story) (budget : ℕ) (premise : AreGiven stories budge
         (RepairWrite r n) fact sound.stays sound.images true reads call refl) sound.next (
           busy_on r (reading_after call) v.faults v.uncertain (RepairSync r n) fact.0,
           subst
-              (λ (l : List ℕ). IsShut (spelled v.rows) l)
-              (sym (seen_is (length (spelled v.rows)) (0 ∷ []) fits))
-              (unsure_written (spelled v.rows) (past_gate fact.1.0)
-              (length (spelled v.rows)) refl v.disk.seen old),
+              (λ (l : List ℕ). IsShut (journal_bytes v.rows) l)
+              (sym (seen_is (length (journal_bytes v.rows)) (0 ∷ []) fits))
+              (unsure_written (journal_bytes v.rows) (past_gate fact.1.0)
+              (length (journal_bytes v.rows)) refl v.disk.seen old),
         )
         (λ k z at f. f)
 
@@ -160,23 +160,23 @@ module _ (stories : List Story) (budget : ℕ) (premise : AreGiven stories budge
     shut_syncs_good r n fact =
         stepped stories budget first past v (reading_after Sync) v.faults None (RowWrite r n) sound
         (stays_after Sync reads v.disk sound.stays)
-        (only (λ (c : List ℕ). IsShut (spelled v.rows) c) fact.1) tt
+        (only (λ (c : List ℕ). IsShut (journal_bytes v.rows) c) fact.1) tt
         (busy_on r (reading_after Sync) v.faults None (RowWrite r n) fact.0, refl)
         (λ k z at f. no_gate k z r fact.0 f)
 
     pub writes_good : (r : Row) (n : ℕ) → may_work
-        (Write (length (spelled v.rows) + 1) (past_gate r)) ≡ true
+        (Write (length (journal_bytes v.rows) + 1) (past_gate r)) ≡ true
         → StepFact stories budget v (RowWrite r n)
         → Sound stories budget first past
         (onward (record v {
           disk =
-              disk_after (Write (length (spelled v.rows) + 1) (past_gate r)) true reads v.disk;
+              disk_after (Write (length (journal_bytes v.rows) + 1) (past_gate r)) true reads v.disk;
         })
         (RowWrite r n))
     writes_good r n fits fact =
-        let call = Write (length (spelled v.rows) + 1) (past_gate r) in
-        let old : IsShut (spelled v.rows) v.disk.seen =
-        subst (λ (o : Option Row). StandsAt v.rows o v.disk.seen) fact.1
+        let call = Write (length (journal_bytes v.rows) + 1) (past_gate r) in
+        let old : IsShut (journal_bytes v.rows) v.disk.seen =
+        subst (λ (o : Option Row). StandsInImage v.rows o v.disk.seen) fact.1
         (sound.images v.disk.seen sound.stays) in
         stepped stories budget first past v (reading_after call) v.faults v.uncertain
         (RowSync r n) sound (stays_after call reads v.disk sound.stays)
@@ -185,10 +185,10 @@ module _ (stories : List Story) (budget : ℕ) (premise : AreGiven stories budge
           busy_on r (reading_after call) v.faults v.uncertain (RowSync r n) fact.0,
           fact.1,
           subst
-              (λ (l : List ℕ). IsUnsure (spelled v.rows) (past_gate r) l)
-              (sym (seen_is (length (spelled v.rows) + 1) (past_gate r) fits))
-              (shut_written (spelled v.rows) (past_gate r)
-              (length (spelled v.rows) + 1) refl v.disk.seen old),
+              (λ (l : List ℕ). IsUnsure (journal_bytes v.rows) (past_gate r) l)
+              (sym (seen_is (length (journal_bytes v.rows) + 1) (past_gate r) fits))
+              (shut_written (journal_bytes v.rows) (past_gate r)
+              (length (journal_bytes v.rows) + 1) refl v.disk.seen old),
         )
         (λ k z at f. f)
 
@@ -198,21 +198,21 @@ module _ (stories : List Story) (budget : ℕ) (premise : AreGiven stories budge
     write_syncs_good r n fact =
         stepped stories budget first past v (reading_after Sync) v.faults (Some r)
         (GateWrite r n) sound (stays_after Sync reads v.disk sound.stays)
-        (only (λ (c : List ℕ). IsUnsure (spelled v.rows) (past_gate r) c) fact.2) fact.0.next
+        (only (λ (c : List ℕ). IsUnsure (journal_bytes v.rows) (past_gate r) c) fact.2) fact.0.next
         (busy_on r (reading_after Sync) v.faults (Some r) (GateWrite r n) fact.0, refl)
         (λ k z at f. its_gate k z r fact.0 at f)
 
-    pub opens_good : (r : Row) (n : ℕ) → may_work (Write (length (spelled v.rows)) (1 ∷ [])) ≡ true
+    pub opens_good : (r : Row) (n : ℕ) → may_work (Write (length (journal_bytes v.rows)) (1 ∷ [])) ≡ true
         → StepFact stories budget v (GateWrite r n)
         → Sound stories budget first past
         (onward (record v {
           disk =
-              disk_after (Write (length (spelled v.rows)) (1 ∷ [])) true reads v.disk;
+              disk_after (Write (length (journal_bytes v.rows)) (1 ∷ [])) true reads v.disk;
         }) (GateWrite r n))
     opens_good r n fits fact =
-        let call = Write (length (spelled v.rows)) (1 ∷ []) in
-        let old : IsUnsure (spelled v.rows) (past_gate r) v.disk.seen =
-        subst (λ (o : Option Row). StandsAt v.rows o v.disk.seen) fact.1
+        let call = Write (length (journal_bytes v.rows)) (1 ∷ []) in
+        let old : IsUnsure (journal_bytes v.rows) (past_gate r) v.disk.seen =
+        subst (λ (o : Option Row). StandsInImage v.rows o v.disk.seen) fact.1
         (sound.images v.disk.seen sound.stays) in
         stepped stories budget first past v (reading_after call) v.faults v.uncertain
         (GateSync r n) sound (stays_after call reads v.disk sound.stays)
@@ -221,10 +221,10 @@ module _ (stories : List Story) (budget : ℕ) (premise : AreGiven stories budge
           busy_on r (reading_after call) v.faults v.uncertain (GateSync r n) fact.0,
           fact.1,
           opened_shut v.rows r (past_gate r) (disk_after call true reads v.disk).seen refl
-              (subst (λ (l : List ℕ). Holds l 0 (spelled v.rows ++ 1 ∷ past_gate r))
-              (sym (seen_is (length (spelled v.rows)) (1 ∷ []) fits))
-              (unsure_opened (spelled v.rows) (past_gate r)
-              (length (spelled v.rows)) refl v.disk.seen old)),
+              (subst (λ (l : List ℕ). Holds l 0 (journal_bytes v.rows ++ 1 ∷ past_gate r))
+              (sym (seen_is (length (journal_bytes v.rows)) (1 ∷ []) fits))
+              (unsure_opened (journal_bytes v.rows) (past_gate r)
+              (length (journal_bytes v.rows)) refl v.disk.seen old)),
         )
         (λ k z at f. f)
 
@@ -236,11 +236,11 @@ module _ (stories : List Story) (budget : ℕ) (premise : AreGiven stories budge
         let x = b.asker in
         let t = b.turn in
         let here : commands_of (v.rows ++ r ∷ []) r.session
-        ≡ commands_in x.history ++ listed
+        ≡ commands_in x.history ++ command_listed
         (decision_on stories budget (commands_in x.history) t.line).accepted =
         rows-here r.session v.rows r refl
         ∙ ap (λ (l : List Command). l ++ r.command ∷ []) (busy_rows r b)
-        ∙ ap (λ (o : Option Command). commands_in x.history ++ listed o) (sym b.accepted) in
+        ∙ ap (λ (o : Option Command). commands_in x.history ++ command_listed o) (sym b.accepted) in
         subst (λ (l : List Session). Sound stories budget first past
         (record v {
           sessions = l;
@@ -254,7 +254,7 @@ module _ (stories : List Story) (budget : ℕ) (premise : AreGiven stories budge
         (v.rows ++ r ∷ []) None Idle sound record {
           at = b.at;
           stays = stays_after Sync reads v.disk sound.stays;
-          images = only (λ (c : List ℕ). IsShut (spelled (v.rows ++ r ∷ [])) c) fact.2;
+          images = only (λ (c : List ℕ). IsShut (journal_bytes (v.rows ++ r ∷ [])) c) fact.2;
           journal = journal_push v.rows r sound.journal b.next;
           follows = tt;
           now = tt;
@@ -276,23 +276,23 @@ module _ (stories : List Story) (budget : ℕ) (premise : AreGiven stories budge
         (broken (record v {
           disk = disk_after call false reads v.disk;
           faults =
-              counted v.faults;
+              fault_counted v.faults;
         }) r n)
     broken_well call step fact is allowed r n b =
         let x = b.asker in
         let t = b.turn in
-        let phase = Broken n (counted v.faults) in
+        let phase = Broken n (fault_counted v.faults) in
         subst (λ (l : List Session). Sound stories budget first past
         (record v {
           sessions = l;
           disk = disk_after call false reads v.disk;
           faults =
-              counted v.faults;
+              fault_counted v.faults;
           step = Idle;
-        })) (sym (set_phase_is r b (Broken n (counted v.faults))))
-        (rephased stories budget first past v r.session x t (Broken n (counted v.faults))
+        })) (sym (set_phase_is r b (Broken n (fault_counted v.faults))))
+        (rephased stories budget first past v r.session x t (Broken n (fault_counted v.faults))
         (disk_after call false reads v.disk)
-        (counted v.faults) v.rows v.uncertain Idle sound record {
+        (fault_counted v.faults) v.rows v.uncertain Idle sound record {
           at = b.at;
           stays = stays_bad call reads v.disk allowed;
           images = images_after stories budget v step fact sound.stays sound.images false reads call
@@ -302,9 +302,9 @@ module _ (stories : List Story) (budget : ℕ) (premise : AreGiven stories budge
           now = tt;
           fact = busy_fact r b;
           here = rows_with stories budget premise r.session v.rows v.uncertain
-              (in_phase x t (Broken n (counted v.faults))) v.up b.up
+              (in_phase x t (Broken n (fault_counted v.faults))) v.up b.up
               (busy_rows r b ∙ sym (append-nil (commands_in x.history)))
               (nothing_pending stories budget premise v.uncertain r.session
-              (in_phase x t (Broken n (counted v.faults))) refl);
+              (in_phase x t (Broken n (fault_counted v.faults))) refl);
           elsewhere = λ m z other f. f;
         })

@@ -12,9 +12,9 @@ use Rattle.gate_journal.specs.declared.row.Row.{Row}
 use Rattle.story_run.specs.declared.story.Story.{Story}
 use Rattle.session_core.specs.Turning.{commands_in, decision_on}
 use Rattle.session_core.specs.declared.entry.Entry.{Entry}
-use Rattle.host_world.specs.Events.{begin_append, begin_held, begin_session, begin_turn, begun}
+use Rattle.host_world.specs.Events.{begin_append, begin_held, begin_session, begin_session_turn, begun}
 use Rattle.host_world.specs.Events.{first_step}
-use Rattle.host_world.specs.Happenings.{Happening, history_of}
+use Rattle.host_world.specs.Happenings.{Happening, history_left}
 use Rattle.host_world.specs.Headline.{AreGiven}
 use Rattle.host_world.specs.Pending.{pending, pending_at, pending_of}
 use Rattle.host_world.specs.Sessions.{in_phase}
@@ -92,11 +92,11 @@ module _ (stories : List Story) (budget : ℕ) (premise : AreGiven stories budge
         (omega (arith, slice_get_within w.sessions s x at, sound.sessions)) sound.journal same
         accepted in
         let fact : PhaseFact stories budget
-        (history_of stories budget (first s) (past s)) x.history t Asked =
+        (history_left stories budget (first s) (past s)) x.history t Asked =
         subst (λ (p : Phase). PhaseFact stories budget
-        (history_of stories budget (first s) (past s)) x.history t p) phase
+        (history_left stories budget (first s) (past s)) x.history t p) phase
         (subst (λ (o : Option Turn). TurnFact stories budget
-        (history_of stories budget (first s) (past s)) x.history o) turn known.turn) in
+        (history_left stories budget (first s) (past s)) x.history o) turn known.turn) in
         rephased stories budget first past w s x t Begun w.disk w.faults w.rows w.uncertain
         (first_step w.uncertain (next_row w.rows s c) w.faults) sound record {
           at = at;
@@ -162,7 +162,7 @@ module _ (stories : List Story) (budget : ℕ) (premise : AreGiven stories budge
 
     at_turn : (s : ℕ) (x : Session) → slice_get w.sessions s ≡ Some x → w.holder ≡ Some s
         → (o : Option Turn) → x.turn ≡ o → Sound stories budget first past
-        (begin_turn stories budget w s x o) × SameHost w (begin_turn stories budget w s x o)
+        (begin_session_turn stories budget w s x o) × SameHost w (begin_session_turn stories budget w s x o)
     at_turn s x at held None turn = as_it_is
     at_turn s x at held (Some t) turn =
         at_phase s x t at turn held t.phase refl

@@ -1,12 +1,12 @@
 -- A device call, as it is made.
 use Rattle.std.proofs.Common.{Bool, List, None, Option, Some, ap, false, refl, sym, true, ℕ, ◌==◌, ◌∙◌, ◌≡◌}
 use Rattle.std.specs.Prelude.{if◌then◌else◌, slice_index, length}
-use Rattle.gate_journal.specs.Rows.{spelled}
+use Rattle.gate_journal.specs.Rows.{journal_bytes}
 use Rattle.gate_journal.specs.declared.row.Row.{Row}
 use Rattle.story_run.specs.declared.story.Story.{Story}
 use Rattle.store_events.specs.Disk.{may_happen}
 use Rattle.host_world.specs.Events.{begin_held}
-use Rattle.host_world.specs.Journal.{call_ended, called, comes_up, is_idle, looked, next_call, onward}
+use Rattle.host_world.specs.Journal.{call_ended, host_called, comes_up, is_idle, looked, next_call, onward}
 use Rattle.host_world.specs.Journal.{with_disk}
 use Rattle.host_world.specs.Reading.{rows_in}
 use Rattle.store_events.specs.declared.disk.DiskCall.{DiskCall}
@@ -53,7 +53,7 @@ without_step w = record w { step = Idle }
 
 looks_on : (w : HostState) (read : Option (List Row)) → looked (without_step w) read ≡ looked w read
 looks_on w None = refl
-looks_on w (Some rows) = of (slice_index w.disk.seen (length (spelled rows)) == 0)
+looks_on w (Some rows) = of (slice_index w.disk.seen (length (journal_bytes rows)) == 0)
   where
     of : (b : Bool)
         → (if b then comes_up (without_step w) rows
@@ -107,7 +107,7 @@ if_false true x y is = absurd cc
 
 may_happens : (w v : HostState) (good : Bool) (reads : List ℕ) (step : Step) (call : DiskCall)
     → may_happen call good reads v.disk ≡ true
-    → called w v good reads step (Some call) ≡ call_ended (with_disk v call good reads) good step
+    → host_called w v good reads step (Some call) ≡ call_ended (with_disk v call good reads) good step
 may_happens w v true reads step call is = if_true _ _ _ is
 may_happens w v false reads step call is = if_true _ _ _ is
 
@@ -116,24 +116,24 @@ pub call_made : (w v u : HostState) (good : Bool) (reads : List ℕ) (call : Dis
     → next_call v.rows v.step ≡ Some call → may_happen call good reads v.disk ≡ true
     → u ≡ without_step (with_disk v call good reads)
     → call_ended u good v.step
-    ≡ called w v good reads v.step (next_call v.rows v.step)
+    ≡ host_called w v good reads v.step (next_call v.rows v.step)
 call_made w v u good reads call next is alike =
     ap (λ (z : HostState). call_ended z good v.step) alike
     ∙ ended_alike (with_disk v call good reads) good v.step call next
     ∙ sym (may_happens w v good reads v.step call is)
-    ∙ ap (λ (o : Option DiskCall). called w v good reads v.step o) (sym next)
+    ∙ ap (λ (o : Option DiskCall). host_called w v good reads v.step o) (sym next)
 
 -- one that isn't made
 pub call_not_made : (w v : HostState) (good : Bool) (reads : List ℕ) (call : DiskCall)
     → next_call v.rows v.step ≡ Some call → may_happen call good reads v.disk ≡ false
-    → w ≡ called w v good reads v.step (next_call v.rows v.step)
+    → w ≡ host_called w v good reads v.step (next_call v.rows v.step)
 call_not_made w v true reads call next is =
-    sym (ap (λ (o : Option DiskCall). called w v true reads v.step o) next ∙ if_false _ _ _ is)
+    sym (ap (λ (o : Option DiskCall). host_called w v true reads v.step o) next ∙ if_false _ _ _ is)
 call_not_made w v false reads call next is =
-    sym (ap (λ (o : Option DiskCall). called w v false reads v.step o) next ∙ if_false _ _ _ is)
+    sym (ap (λ (o : Option DiskCall). host_called w v false reads v.step o) next ∙ if_false _ _ _ is)
 
 -- where there is no next call
 pub call_none : (w v : HostState) (good : Bool) (reads : List ℕ)
-    → next_call v.rows v.step ≡ None → w ≡ called w v good reads v.step (next_call v.rows v.step)
+    → next_call v.rows v.step ≡ None → w ≡ host_called w v good reads v.step (next_call v.rows v.step)
 call_none w v good reads next =
-    sym (ap (λ (o : Option DiskCall). called w v good reads v.step o) next)
+    sym (ap (λ (o : Option DiskCall). host_called w v good reads v.step o) next)

@@ -14,9 +14,9 @@ use Rattle.session_core.specs.declared.entry.Entry.TheVariants.{Accepted, Faulte
 use Rattle.session_core.specs.declared.entry.Outcome.{Outcome}
 use Rattle.session_core.specs.declared.entry.Outcome.TheVariants.{Answered, DiskFailed, Forgotten}
 use Rattle.session_core.specs.declared.entry.Outcome.TheVariants.{OutOfMemory}
-use Rattle.host_world.specs.Happenings.{Cut, Ended, Happening, Opened, history_of, replies_of}
-use Rattle.host_world.specs.Happenings.{replies_to}
-use Rattle.host_world.specs.Pending.{listed, pending_at}
+use Rattle.host_world.specs.Happenings.{Cut, Ended, Happening, Opened, history_left, replies_of}
+use Rattle.host_world.specs.Happenings.{given_replies}
+use Rattle.host_world.specs.Pending.{command_listed, pending_at}
 use Rattle.host_world.specs.declared.state.Given.{Given}
 use Rattle.host_world.specs.declared.turn.Phase.TheVariants.{Ready}
 use Rattle.host_world.proofs.Sound.{IsAppendOutcome}
@@ -42,35 +42,35 @@ pub eq_other : (s n : ℕ) → n ≢ s → (s == n) ≡ false
 eq_other s n other = grind (arith, nat_tests)
 
 pub replies_to-one : (s : ℕ) (given : List Given) (reply : Reply)
-    → replies_to s (given ++ record { session = s; reply = reply } ∷ [])
-    ≡ replies_to s given ++ reply ∷ []
+    → given_replies s (given ++ record { session = s; reply = reply } ∷ [])
+    ≡ given_replies s given ++ reply ∷ []
 replies_to-one s [] reply = ap (λ (b : Bool). if b then reply ∷ [] else []) (eq_self s)
 replies_to-one s (g ∷ given) reply = elim (cases_Bool (g.session == s)) [
-  | inl it_is ↦ ap (λ (b : Bool). if b then g.reply ∷ replies_to s
-      (given ++ record { session = s; reply = reply } ∷ []) else replies_to s
+  | inl it_is ↦ ap (λ (b : Bool). if b then g.reply ∷ given_replies s
+      (given ++ record { session = s; reply = reply } ∷ []) else given_replies s
       (given ++ record { session = s; reply = reply } ∷ [])) it_is
       ∙ ap (λ (l : List Reply). g.reply ∷ l) (replies_to-one s given reply)
       ∙ ap (λ (b : Bool).
-      (if b then g.reply ∷ replies_to s given else replies_to s given) ++ reply ∷ [])
+      (if b then g.reply ∷ given_replies s given else given_replies s given) ++ reply ∷ [])
       (sym it_is)
-  | inr not_so ↦ ap (λ (b : Bool). if b then g.reply ∷ replies_to s
-      (given ++ record { session = s; reply = reply } ∷ []) else replies_to s
+  | inr not_so ↦ ap (λ (b : Bool). if b then g.reply ∷ given_replies s
+      (given ++ record { session = s; reply = reply } ∷ []) else given_replies s
       (given ++ record { session = s; reply = reply } ∷ [])) not_so
       ∙ replies_to-one s given reply
       ∙ ap (λ (b : Bool).
-      (if b then g.reply ∷ replies_to s given else replies_to s given) ++ reply ∷ [])
+      (if b then g.reply ∷ given_replies s given else given_replies s given) ++ reply ∷ [])
       (sym not_so)
 ]
 
 pub replies_to-other : (s n : ℕ) (reply : Reply) → n ≢ s
-    → replies_to n (record { session = s; reply = reply } ∷ []) ≡ []
+    → given_replies n (record { session = s; reply = reply } ∷ []) ≡ []
 replies_to-other s n reply other =
     ap (λ (b : Bool). if b then reply ∷ [] else []) (eq_other s n other)
 
 module _ (stories : List Story) (budget : ℕ) where
   pub history-push : (h : List Entry) (past : List Happening) (more : List Happening)
-      → history_of stories budget h (past ++ more)
-      ≡ history_of stories budget (history_of stories budget h past) more
+      → history_left stories budget h (past ++ more)
+      ≡ history_left stories budget (history_left stories budget h past) more
   history-push h [] more = refl
   history-push h (Ended pass line outcome ∷ past) more =
       history-push (turn_of stories budget h pass line outcome).history past more
@@ -81,7 +81,7 @@ module _ (stories : List Story) (budget : ℕ) where
   pub replies-push : (h : List Entry) (past more : List Happening)
       → replies_of stories budget h (past ++ more)
       ≡ replies_of stories budget h past ++ replies_of stories budget
-      (history_of stories budget h past) more
+      (history_left stories budget h past) more
   replies-push h [] more = refl
   replies-push h (Ended pass line outcome ∷ past) more =
       ap (λ (l : List Reply). (turn_of stories budget h pass line outcome).reply ∷ l)
@@ -122,12 +122,12 @@ module _ (stories : List Story) (budget : ℕ) where
       append-nil _
       ∙ ap (λ (l : List Entry). commands_in l) (history_with h by line Answered c is)
       ∙ commands-accepted h by c
-      ∙ ap (λ (o : Option Command). commands_in h ++ listed o) (sym is)
+      ∙ ap (λ (o : Option Command). commands_in h ++ command_listed o) (sym is)
   entry_rows h by line Forgotten c is outcome =
       append-nil _
       ∙ ap (λ (l : List Entry). commands_in l) (history_with h by line Forgotten c is)
       ∙ commands-accepted h by c
-      ∙ ap (λ (o : Option Command). commands_in h ++ listed o) (sym is)
+      ∙ ap (λ (o : Option Command). commands_in h ++ command_listed o) (sym is)
   entry_rows h by line (DiskFailed from to) c is outcome =
       append-nil _
       ∙ ap (λ (l : List Entry). commands_in l) (history_with h by line (DiskFailed from to) c is)

@@ -5,7 +5,7 @@ use Rattle.std.proofs.lemmas.List.{drop_more}
 use Rattle.std.specs.List.{slice_get}
 use Rattle.story_run.specs.declared.story.Story.{Story}
 use Rattle.host_world.specs.Events.{after, run}
-use Rattle.host_world.specs.Headline.{EachLives, IsIsolated, NothingIsLost}
+use Rattle.host_world.specs.Headline.{EachLives, EventsAreIsolated, NothingIsLost}
 use Rattle.host_world.specs.declared.event.Event.{Event}
 use Rattle.host_world.specs.declared.state.HostState.{HostState}
 use Rattle.host_world.proofs.Apart.{isolated_holds, nothing_lost}
@@ -46,8 +46,8 @@ module _ (stories : List Story) (budget : ℕ) where
         ∙ ap (λ (l : List Event). run stories budget w l) split
         ∙ run-append earlier later w)) ∙ at_later)
 
-    pub isolated : IsIsolated stories budget w events v
-    isolated = subst (λ (u : HostState). IsIsolated stories budget w events u) (sym is)
+    pub isolated : EventsAreIsolated stories budget w events v
+    isolated = subst (λ (u : HostState). EventsAreIsolated stories budget w events u) (sym is)
         (λ premise start other others. λ second s x y at_x at_y same agree.
         isolated_holds stories budget premise w other events others start second s x y at_x at_y
         same agree)

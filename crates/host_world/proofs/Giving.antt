@@ -10,12 +10,12 @@ use Rattle.story_run.specs.declared.story.Story.{Story}
 use Rattle.session_core.specs.Turning.{Turned, commands_in, turn_of}
 use Rattle.session_core.specs.declared.entry.Entry.{Entry}
 use Rattle.session_core.specs.declared.entry.Outcome.{Outcome}
-use Rattle.host_world.specs.Events.{accept_at, accept_turn, after, free, gives, hold, holds}
+use Rattle.host_world.specs.Events.{accept_at, accept_turn, after, free, gives_reply, hold, holds_journal}
 use Rattle.host_world.specs.Events.{run_turn, takes_at, want}
-use Rattle.host_world.specs.Happenings.{Ended, Happening, ended, ended_at, ended_in, history_of}
+use Rattle.host_world.specs.Happenings.{Ended, Happening, turn_over, ended_at, ended_in, history_left}
 use Rattle.host_world.specs.Happenings.{replies_of}
 use Rattle.host_world.specs.Pending.{pending, pending_at}
-use Rattle.host_world.specs.Sessions.{answer_in, phase_in, phase_of, turn_ended}
+use Rattle.host_world.specs.Sessions.{ready_reply, phase_in, phase_of, turn_ended}
 use Rattle.host_world.specs.declared.event.Event.TheVariants.{Accept, Free, Hold, Run, Take, Want}
 use Rattle.host_world.specs.declared.state.HostState.{HostState}
 use Rattle.host_world.specs.declared.turn.Phase.{Phase}
@@ -66,10 +66,10 @@ module _ (stories : List Story) (budget : ℕ) where
       given_kept : (phase : Phase) (outcome : Outcome) (reply : Reply) → t.phase ≡ phase
           → Quiet stories budget phase → pending_at stories budget
           (commands_in x.history) t.line phase ≡ []
-          → turn_of stories budget (history_of stories budget (first s)
+          → turn_of stories budget (history_left stories budget (first s)
           (past s)) t.pass t.line outcome ≡ record { reply = reply; history = x.history }
           → Sound stories budget first (past_with (Ended t.pass t.line outcome ∷ []))
-          (gives w s (Some reply))
+          (gives_reply w s (Some reply))
       given_kept phase outcome reply is quiet none did =
           let more = Ended t.pass t.line outcome ∷ [] in
           let nothing : pending stories budget x ≡ [] =
@@ -91,7 +91,7 @@ module _ (stories : List Story) (budget : ℕ) where
             keeps = λ n other held. held;
             others = λ n other. (past_with_other more n other, replies_to-other s n reply other);
             turn = ap (λ (p : Turned). p.history) (sym did)
-                ∙ sym (ap (λ (l : List Happening). history_of stories budget (first s) l)
+                ∙ sym (ap (λ (l : List Happening). history_left stories budget (first s) l)
                 (past_with_here more) ∙ history-push stories budget (first s) (past s) more);
             replies = replies_to-one s w.given reply
                 ∙ ap (λ (l : List Reply). l ++ reply ∷ [])
@@ -105,8 +105,8 @@ module _ (stories : List Story) (budget : ℕ) where
           }) sound)
 
       give_phase : (phase : Phase) → t.phase ≡ phase
-          → Sound stories budget first (past_with (ended t phase))
-          (gives w s (answer_in (Some phase)))
+          → Sound stories budget first (past_with (turn_over t phase))
+          (gives_reply w s (ready_reply (Some phase)))
       give_phase (Taken outcome reply) is =
           given_kept (Taken outcome reply) outcome reply is tt refl
           (fact_at stories budget first past w sound s x at t turn (Taken outcome reply) is)
@@ -121,12 +121,12 @@ module _ (stories : List Story) (budget : ℕ) where
       give_phase (Ready outcome) is = nothing_told
 
     give_turn : (x : Session) → slice_get w.sessions s ≡ Some x → (o : Option Turn) → x.turn ≡ o
-        → Sound stories budget first (past_with (ended_at o)) (gives w s (answer_in (phase_in o)))
+        → Sound stories budget first (past_with (ended_at o)) (gives_reply w s (ready_reply (phase_in o)))
     give_turn x at None is = nothing_told
     give_turn x at (Some t) is = give_phase x at t is t.phase refl
 
     pub give_kept : (o : Option Session) → slice_get w.sessions s ≡ o
-        → Sound stories budget first (past_with (ended_in o)) (gives w s (answer_in (phase_of o)))
+        → Sound stories budget first (past_with (ended_in o)) (gives_reply w s (ready_reply (phase_of o)))
     give_kept None is = nothing_told
     give_kept (Some x) is = give_turn x is x.turn refl
 
@@ -164,7 +164,7 @@ module _ (stories : List Story) (budget : ℕ) where
     pub free_after : (s : ℕ) → Sound stories budget first past (after stories budget w (Free s))
     free_after s =
         if_kept stories budget Good (free w s (phase_of (slice_get w.sessions s))) w
-        (holds w s) sound (λ mine.
+        (holds_journal w s) sound (λ mine.
         phase_kept stories budget Good w s (λ o. free w s o) sound
         (λ x at t turn. free_kept stories budget first past w sound s x at t turn mine t.phase
         refl))

@@ -6,18 +6,18 @@ use Rattle.std.specs.Prelude.{if◌then◌else◌, nat_le}
 use Rattle.disk_model.proofs.PlainLaws.{image_is}
 use Rattle.disk_model.proofs.StateLaws.{if_fits, image_torn, only_settled, settled_image, wrote}
 use Rattle.disk_model.proofs.Torn.{torn_same}
-use Rattle.disk_model.specs.Disk.{AfterWrite, written}
-use Rattle.disk_model.specs.DiskState.{DiskState, IsImage, after_write}
+use Rattle.disk_model.specs.Disk.{AfterWrite, file_written}
+use Rattle.disk_model.specs.DiskState.{DiskState, IsDiskImage, after_write}
 use Rattle.gate_journal.proofs.Steps.{shut_torn, unsure_torn}
 use Rattle.gate_journal.specs.Gate.{IsShut, IsUnsure}
-use Rattle.gate_journal.specs.Log.{StandsAt}
-use Rattle.gate_journal.specs.Rows.{spelled}
+use Rattle.gate_journal.specs.Log.{StandsInImage}
+use Rattle.gate_journal.specs.Rows.{journal_bytes}
 use Rattle.gate_journal.specs.declared.row.Row.{Row}
 use Rattle.story_run.specs.declared.story.Story.{Story}
 use Rattle.disk_model.specs.Plain.{is_image, reading}
 use Rattle.store_events.specs.Disk.{disk_after}
 use Rattle.host_world.specs.Journal.{next_call, past_gate}
-use Rattle.host_world.specs.Sessions.{found}
+use Rattle.host_world.specs.Sessions.{history_found}
 use Rattle.store_events.specs.declared.disk.DiskCall.{DiskCall}
 use Rattle.store_events.specs.declared.disk.DiskCall.TheVariants.{Look, Sync, Write}
 use Rattle.host_world.specs.declared.state.HostState.{HostState}
@@ -30,50 +30,50 @@ use Rattle.host_world.proofs.Lists.{some_none, some_same}
 use Rattle.host_world.proofs.Sound.{StepFact}
 
 -- a disk that reads otherwise has the same images
-pub read_otherwise : (p : DiskState) (seen c : List ℕ) → IsImage (reading seen p) c → IsImage p c
+pub read_otherwise : (p : DiskState) (seen c : List ℕ) → IsDiskImage (reading seen p) c → IsDiskImage p c
 read_otherwise p seen c image =
     record { no_shorter = image.no_shorter; no_longer = image.no_longer; same = image.same }
 
 -- nothing written is a write too
-not_torn : (at n : ℕ) (p : DiskState) (c : List ℕ) → IsImage p c → AfterWrite at n (IsImage p) c
+not_torn : (at n : ℕ) (p : DiskState) (c : List ℕ) → IsDiskImage p c → AfterWrite at n (IsDiskImage p) c
 not_torn at n p c image = (c, image, torn_same at n c)
 
 write_torn : (fits good : Bool) (at : ℕ) (piece : List ℕ) (p : DiskState) (c : List ℕ)
-    → IsImage (if_fits fits good at piece p) c → AfterWrite at (length piece) (IsImage p) c
+    → IsDiskImage (if_fits fits good at piece p) c → AfterWrite at (length piece) (IsDiskImage p) c
 write_torn true good at piece p c image =
-    image_torn p (if good then written p.seen at piece else p.seen) at (length piece) c image
+    image_torn p (if good then file_written p.seen at piece else p.seen) at (length piece) c image
 write_torn false good at piece p c image = not_torn at (length piece) p c image
 
 -- the images after a call
 pub write_leaves : (good : Bool) (at : ℕ) (piece reads : List ℕ) (p : DiskState) (c : List ℕ)
-    → IsImage (disk_after (Write at piece) good reads p) c
-    → AfterWrite at (length piece) (IsImage p) c
+    → IsDiskImage (disk_after (Write at piece) good reads p) c
+    → AfterWrite at (length piece) (IsDiskImage p) c
 write_leaves true at piece reads p c image =
     write_torn (nat_le (at + length piece) (2 ^ 40)) true at piece p c image
 write_leaves false at piece reads p c image =
     write_torn (nat_le (at + length piece) (2 ^ 40)) false at piece p c
     (read_otherwise (after_write false at piece p) reads c image)
 
-pub sync_leaves : (good : Bool) (reads : List ℕ) (p : DiskState) (c : List ℕ) → IsImage p p.seen
-    → IsImage (disk_after Sync good reads p) c → IsImage p c
+pub sync_leaves : (good : Bool) (reads : List ℕ) (p : DiskState) (c : List ℕ) → IsDiskImage p p.seen
+    → IsDiskImage (disk_after Sync good reads p) c → IsDiskImage p c
 sync_leaves true reads p c stays image =
-    subst (λ (l : List ℕ). IsImage p l) (sym (only_settled p.seen c image)) stays
+    subst (λ (l : List ℕ). IsDiskImage p l) (sym (only_settled p.seen c image)) stays
 sync_leaves false reads p c stays image = read_otherwise p reads c image
 
 pub look_leaves : (good : Bool) (reads : List ℕ) (p : DiskState) (c : List ℕ)
-    → IsImage (disk_after Look good reads p) c → IsImage p c
+    → IsDiskImage (disk_after Look good reads p) c → IsDiskImage p c
 look_leaves true reads p c image = image
 look_leaves false reads p c image = read_otherwise p reads c image
 
 -- a good write within the room
-wrote_there : (at : ℕ) (piece : List ℕ) (p : DiskState) (fits : Bool) → IsImage p p.seen
-    → IsImage (if_fits fits true at piece p) (if_fits fits true at piece p).seen
+wrote_there : (at : ℕ) (piece : List ℕ) (p : DiskState) (fits : Bool) → IsDiskImage p p.seen
+    → IsDiskImage (if_fits fits true at piece p) (if_fits fits true at piece p).seen
 wrote_there at piece p true stays = wrote p at piece stays
 wrote_there at piece p false stays = stays
 
 -- after a good call the disk reads as one of its images
-pub stays_after : (call : DiskCall) (reads : List ℕ) (p : DiskState) → IsImage p p.seen
-    → IsImage (disk_after call true reads p) (disk_after call true reads p).seen
+pub stays_after : (call : DiskCall) (reads : List ℕ) (p : DiskState) → IsDiskImage p p.seen
+    → IsDiskImage (disk_after call true reads p) (disk_after call true reads p).seen
 stays_after (Write at piece) reads p stays =
     wrote_there at piece p (nat_le (at + length piece) (2 ^ 40)) stays
 stays_after Sync reads p stays = settled_image p.seen
@@ -88,9 +88,9 @@ reads_are Look reads p = refl
 
 pub stays_bad : (call : DiskCall) (reads : List ℕ) (p : DiskState)
     → is_image (disk_after call false reads p) reads ≡ true
-    → IsImage (disk_after call false reads p) (disk_after call false reads p).seen
+    → IsDiskImage (disk_after call false reads p) (disk_after call false reads p).seen
 stays_bad call reads p is =
-    subst (λ (l : List ℕ). IsImage (disk_after call false reads p) l) (sym (reads_are call reads p))
+    subst (λ (l : List ℕ). IsDiskImage (disk_after call false reads p) l) (sym (reads_are call reads p))
     (image_is (disk_after call false reads p) reads is)
 
 module _ (stories : List Story) (budget : ℕ) where
@@ -99,30 +99,30 @@ module _ (stories : List Story) (budget : ℕ) where
     w = first_images
 
     abbrev All : DiskState → Type 0
-    All p = (c : List ℕ) → IsImage p c → StandsAt w.rows w.uncertain c
+    All p = (c : List ℕ) → IsDiskImage p c → StandsInImage w.rows w.uncertain c
 
     gate_write : (u : Row) → w.uncertain ≡ Some u → All w.disk
         → (byte : ℕ) (good : Bool) (reads : List ℕ)
-        → All (disk_after (Write (length (spelled w.rows)) (byte ∷ [])) good reads w.disk)
+        → All (disk_after (Write (length (journal_bytes w.rows)) (byte ∷ [])) good reads w.disk)
     gate_write u is all byte good reads c image =
-        let from = write_leaves good (length (spelled w.rows)) (byte ∷ []) reads w.disk c image in
-        let old : IsUnsure (spelled w.rows) (past_gate u) from.0 =
-        subst (λ (o : Option Row). StandsAt w.rows o from.0) is (all from.0 from.1) in
-        subst (λ (o : Option Row). StandsAt w.rows o c) (sym is)
-        (unsure_torn (spelled w.rows) (past_gate u) (length (spelled w.rows)) refl c from.0 old
+        let from = write_leaves good (length (journal_bytes w.rows)) (byte ∷ []) reads w.disk c image in
+        let old : IsUnsure (journal_bytes w.rows) (past_gate u) from.0 =
+        subst (λ (o : Option Row). StandsInImage w.rows o from.0) is (all from.0 from.1) in
+        subst (λ (o : Option Row). StandsInImage w.rows o c) (sym is)
+        (unsure_torn (journal_bytes w.rows) (past_gate u) (length (journal_bytes w.rows)) refl c from.0 old
         from.2)
 
     past_write : w.uncertain ≡ None → All w.disk → (piece : List ℕ) (good : Bool) (reads : List ℕ)
-        → All (disk_after (Write (length (spelled w.rows) + 1) piece) good reads w.disk)
+        → All (disk_after (Write (length (journal_bytes w.rows) + 1) piece) good reads w.disk)
     past_write is all piece good reads c image =
-        let from = write_leaves good (length (spelled w.rows) + 1) piece reads w.disk c image in
-        let old : IsShut (spelled w.rows) from.0 =
-        subst (λ (o : Option Row). StandsAt w.rows o from.0) is (all from.0 from.1) in
-        subst (λ (o : Option Row). StandsAt w.rows o c) (sym is)
-        (shut_torn (spelled w.rows) (length (spelled w.rows) + 1) (length piece) refl c from.0 old
+        let from = write_leaves good (length (journal_bytes w.rows) + 1) piece reads w.disk c image in
+        let old : IsShut (journal_bytes w.rows) from.0 =
+        subst (λ (o : Option Row). StandsInImage w.rows o from.0) is (all from.0 from.1) in
+        subst (λ (o : Option Row). StandsInImage w.rows o c) (sym is)
+        (shut_torn (journal_bytes w.rows) (length (journal_bytes w.rows) + 1) (length piece) refl c from.0 old
         from.2)
 
-    quiet_sync : IsImage w.disk w.disk.seen → All w.disk → (good : Bool) (reads : List ℕ)
+    quiet_sync : IsDiskImage w.disk w.disk.seen → All w.disk → (good : Bool) (reads : List ℕ)
         → All (disk_after Sync good reads w.disk)
     quiet_sync stays all good reads c image = all c (sync_leaves good reads w.disk c stays image)
 
@@ -130,23 +130,23 @@ module _ (stories : List Story) (budget : ℕ) where
     Leaves good reads d = All (disk_after d good reads w.disk)
 
     -- no call takes the images from where they stand
-    pub images_after : (step : Step) → StepFact stories budget w step → IsImage w.disk w.disk.seen
+    pub images_after : (step : Step) → StepFact stories budget w step → IsDiskImage w.disk w.disk.seen
         → All w.disk → (good : Bool) (reads : List ℕ) (call : DiskCall)
         → next_call w.rows step ≡ Some call → All (disk_after call good reads w.disk)
     images_after Idle fact stays all good reads call is = absurd (some_none call (sym is))
     images_after (RepairWrite r n) fact stays all good reads call is =
-        subst (Leaves good reads) (some_same (Write (length (spelled w.rows)) (0 ∷ [])) call is)
+        subst (Leaves good reads) (some_same (Write (length (journal_bytes w.rows)) (0 ∷ [])) call is)
         (gate_write fact.1.0 fact.1.1 all 0 good reads)
     images_after (RepairSync r n) fact stays all good reads call is =
         subst (Leaves good reads) (some_same Sync call is) (quiet_sync stays all good reads)
     images_after (RowWrite r n) fact stays all good reads call is =
         subst (Leaves good reads) (some_same
-        (Write (length (spelled w.rows) + 1) (past_gate r)) call is)
+        (Write (length (journal_bytes w.rows) + 1) (past_gate r)) call is)
         (past_write fact.1 all (past_gate r) good reads)
     images_after (RowSync r n) fact stays all good reads call is =
         subst (Leaves good reads) (some_same Sync call is) (quiet_sync stays all good reads)
     images_after (GateWrite r n) fact stays all good reads call is =
-        subst (Leaves good reads) (some_same (Write (length (spelled w.rows)) (1 ∷ [])) call is)
+        subst (Leaves good reads) (some_same (Write (length (journal_bytes w.rows)) (1 ∷ [])) call is)
         (gate_write r fact.1 all 1 good reads)
     images_after (GateSync r n) fact stays all good reads call is =
         subst (Leaves good reads) (some_same Sync call is) (quiet_sync stays all good reads)
@@ -159,8 +159,8 @@ module _ (stories : List Story) (budget : ℕ) where
         subst (Leaves good reads) (some_same Look call is)
         (λ c image. all c (look_leaves good reads w.disk c image))
     images_after (CloseWrite those) fact stays all good reads call is =
-        subst (Leaves good reads) (ap (λ (l : List Row). Write (length (spelled l)) (0 ∷ []))
-        (sym fact.1) ∙ some_same (Write (length (spelled those)) (0 ∷ [])) call is)
+        subst (Leaves good reads) (ap (λ (l : List Row). Write (length (journal_bytes l)) (0 ∷ []))
+        (sym fact.1) ∙ some_same (Write (length (journal_bytes those)) (0 ∷ [])) call is)
         (gate_write fact.2.0 fact.2.1 all 0 good reads)
     images_after (CloseSync found) fact stays all good reads call is =
         subst (Leaves good reads) (some_same Sync call is) (quiet_sync stays all good reads)

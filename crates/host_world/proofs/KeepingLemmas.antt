@@ -4,6 +4,7 @@ use Rattle.std.proofs.Common.{Some, None, Result, Ok, Err, refl, sym, ap, subst,
 use Rattle.std.proofs.lemmas.List.{append-nil, drop_all}
 use Rattle.std.specs.Prelude.{◌&&◌, ◌==◌, IfOk, IfSome, if◌then◌else◌, option_map}
 use Rattle.std.specs.List.{last_or}
+use Rattle.gate_journal.specs.Rows.{is_open}
 use Rattle.gate_journal.specs.Rows.{commands_of}
 use Rattle.gate_journal.specs.declared.command.Command.{Command}
 use Rattle.gate_journal.specs.declared.row.Row.{Row}
@@ -11,7 +12,7 @@ use Rattle.story_run.specs.declared.story.Story.{Story}
 use Rattle.story_run.specs.World.{WorldState}
 use Rattle.story_snap.specs.Fields.{fields_of}
 use Rattle.snap_fields.specs.Printing.{print_fields}
-use Rattle.session_core.specs.History.{game_of, is_open, world_of}
+use Rattle.session_core.specs.History.{game_of, world_of}
 use Rattle.session_saves.specs.Agreement.{last_row, opens_of}
 use Rattle.session_saves.specs.Game.{inputs_of, world_at}
 use Rattle.session_saves.proofs.GameLemmas.{world_at-all}

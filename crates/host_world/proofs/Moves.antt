@@ -8,7 +8,7 @@ use Rattle.gate_journal.specs.declared.row.Row.{Row}
 use Rattle.story_run.specs.declared.story.Story.{Story}
 use Rattle.session_core.specs.Turning.{commands_in}
 use Rattle.session_core.specs.declared.entry.Entry.{Entry}
-use Rattle.host_world.specs.Happenings.{Happening, history_of, replies_of, replies_to}
+use Rattle.host_world.specs.Happenings.{Happening, history_left, replies_of, given_replies}
 use Rattle.host_world.specs.Pending.{pending}
 use Rattle.host_world.specs.declared.state.Given.{Given}
 use Rattle.host_world.specs.declared.state.HostState.{HostState}
@@ -23,8 +23,8 @@ use Rattle.host_world.specs.declared.turn.Turn.{Turn}
 use Rattle.host_world.proofs.Lists.{false_true, get_else, get_here, some_same}
 use Rattle.host_world.proofs.Sound.{Busy, Knows, RowsFact, Sound, StepFact, TurnFact}
 
-pub replies-append : (s : ℕ) (l m : List Given) → replies_to s m ≡ []
-    → replies_to s (l ++ m) ≡ replies_to s l
+pub replies-append : (s : ℕ) (l m : List Given) → given_replies s m ≡ []
+    → given_replies s (l ++ m) ≡ given_replies s l
 replies-append s [] m none = none
 replies-append s (g ∷ l) m none = rw (replies-append s l m none) refl
 
@@ -41,10 +41,10 @@ module _ (stories : List Story) (budget : ℕ) where
     pub up : w.up ≡ true
     pub quiet : (t : Turn) → x.turn ≡ Some t → t.phase ≡ Begun → ⊥
     pub keeps : (n : ℕ) → n ≢ s → w.holder ≡ Some n → holder ≡ Some n
-    pub others : (n : ℕ) → n ≢ s → (later n ≡ past n) × (replies_to n given ≡ [])
-    pub turn : TurnFact stories budget (history_of stories budget (first s)
+    pub others : (n : ℕ) → n ≢ s → (later n ≡ past n) × (given_replies n given ≡ [])
+    pub turn : TurnFact stories budget (history_left stories budget (first s)
         (later s)) y.history y.turn
-    pub replies : replies_to s (w.given ++ given) ≡ replies_of stories budget (first s) (later s)
+    pub replies : given_replies s (w.given ++ given) ≡ replies_of stories budget (first s) (later s)
     pub rows : commands_in y.history ++ pending stories budget y
         ≡ commands_in x.history ++ pending stories budget x
     pub none : pending stories budget x ≡ [] → pending stories budget y ≡ []

@@ -11,25 +11,25 @@ use Rattle.std.specs.List.{slice_get}
 use Rattle.std.specs.Prelude.{IfSome, if◌then◌else◌, not, slice_index, ◌&&◌}
 use Rattle.disk_model.proofs.StateLaws.{only_settled}
 use Rattle.disk_model.proofs.Torn.{holds_both}
-use Rattle.disk_model.specs.DiskState.{DiskState, IsImage}
+use Rattle.disk_model.specs.DiskState.{DiskState, IsDiskImage}
 use Rattle.gate_journal.proofs.RowLemmas.{journal_push, opens, spells_not_open, spells_shut}
 use Rattle.gate_journal.proofs.Steps.{unsure_written}
 use Rattle.gate_journal.specs.Gate.{IsShut, IsUnsure}
-use Rattle.gate_journal.specs.Log.{StandsAt}
-use Rattle.gate_journal.specs.Rows.{IsJournal, IsNext, body, commands_of, is_open, spelled}
+use Rattle.gate_journal.specs.Log.{StandsInImage}
+use Rattle.gate_journal.specs.Rows.{IsJournal, IsNext, row_body, commands_of, is_open, journal_bytes}
 use Rattle.gate_journal.specs.declared.command.Command.{Command}
 use Rattle.gate_journal.specs.declared.row.Row.{Row}
 use Rattle.story_run.specs.declared.story.Story.{Story}
 use Rattle.session_core.specs.Turning.{commands_in}
 use Rattle.session_core.specs.declared.entry.Entry.{Entry}
 use Rattle.disk_model.specs.Plain.{is_image}
-use Rattle.store_events.specs.Disk.{counted, disk_after, may_work}
+use Rattle.store_events.specs.Disk.{fault_counted, disk_after, may_work}
 use Rattle.host_world.specs.Events.{after, begun, call_next}
-use Rattle.host_world.specs.Happenings.{Happening, Opened, further, history_of, news, replies_of}
+use Rattle.host_world.specs.Happenings.{Happening, Opened, further, history_left, news, replies_of}
 use Rattle.host_world.specs.Headline.{AreGiven}
-use Rattle.host_world.specs.Journal.{broken, called, comes_up, looked, next_call, onward, past_gate}
+use Rattle.host_world.specs.Journal.{broken, host_called, comes_up, looked, next_call, onward, past_gate}
 use Rattle.host_world.specs.Reading.{rows_in}
-use Rattle.host_world.specs.Sessions.{found, found_session, found_sessions}
+use Rattle.host_world.specs.Sessions.{history_found, found_session, found_sessions}
 use Rattle.store_events.specs.declared.disk.DiskCall.{DiskCall}
 use Rattle.store_events.specs.declared.disk.DiskCall.TheVariants.{Look, Sync, Write}
 use Rattle.host_world.specs.declared.event.Event.TheVariants.{Call}
@@ -59,8 +59,8 @@ module _ (stories : List Story) (budget : ℕ) (premise : AreGiven stories budge
   module _ (first : ℕ → List Entry) (past : ℕ → List Happening) (w v : HostState)
       (was : Sound stories budget first past w) (same : SameHost stories budget premise w v)
       (sound : Sound stories budget first past v) where
-    opens_well : (p : DiskState) (rows : List Row) → v.up ≡ false → IsImage p p.seen
-        → ((c : List ℕ) → IsImage p c → IsShut (spelled rows) c) → IsJournal rows
+    opens_well : (p : DiskState) (rows : List Row) → v.up ≡ false → IsDiskImage p p.seen
+        → ((c : List ℕ) → IsDiskImage p c → IsShut (journal_bytes rows) c) → IsJournal rows
         → (rows ≡ w.rows) ⊎ ((u : Row) × (w.uncertain ≡ Some u) × (rows ≡ w.rows ++ u ∷ []))
         → CallsWell stories budget first past w (comes_up (record v { disk = p }) rows)
     opens_well p rows down stays images journal which = record {
@@ -96,9 +96,9 @@ module _ (stories : List Story) (budget : ℕ) (premise : AreGiven stories budge
             let at = slice_get-get_or w.sessions s nobody (omega (arith, lt, was.sessions)) in
             let before = was.each s x at in
             let fact = of_down stories budget s w.rows w.uncertain x w.up down_w before.rows in
-            let history : x.history ≡ history_of stories budget (first s) (past s) =
+            let history : x.history ≡ history_left stories budget (first s) (past s) =
             subst (λ (o : Option Turn). TurnFact stories budget
-            (history_of stories budget (first s) (past s)) x.history o) fact.0 before.turn in
+            (history_left stories budget (first s) (past s)) x.history o) fact.0 before.turn in
             let one = one_more_of stories budget w rows s x fact which in
             let more = further (slice_get w.sessions s) (commands_of rows s) in
             let is_more : further (slice_get w.sessions s) (commands_of rows s) ≡ one.0 =
@@ -106,20 +106,20 @@ module _ (stories : List Story) (budget : ℕ) (premise : AreGiven stories budge
             ∙ ap (λ (l : List Command). drop (length (commands_in x.history)) l) one.2
             ∙ drop_at (commands_in x.history) one.0 (length (commands_in x.history)) refl in
             let all : commands_of rows s ≡ commands_in
-            (history_of stories budget (first s) (past s)) ++ further (slice_get w.sessions s)
+            (history_left stories budget (first s) (past s)) ++ further (slice_get w.sessions s)
             (commands_of rows s) =
             one.2 ∙ ap (λ (l : List Command). commands_in x.history ++ l) (sym is_more)
             ∙ ap (λ (h : List Entry). commands_in h ++ further (slice_get w.sessions s)
             (commands_of rows s)) history in
             record {
-              turn = ap (λ (l : List Command). found l) all
+              turn = ap (λ (l : List Command). history_found l) all
                   ∙ sym (history-push stories budget (first s) (past s) (Opened more ∷ []));
               replies = old.replies
                   ∙ sym (append-nil (replies_of stories budget (first s) (past s)))
                   ∙ sym (replies-push stories budget (first s) (past s) (Opened more ∷ []));
               rows = (
                 sym (commands-found (commands_of rows s))
-                    ∙ sym (append-nil (commands_in (found (commands_of rows s)))),
+                    ∙ sym (append-nil (commands_in (history_found (commands_of rows s)))),
                 tt,
               );
             }
@@ -158,8 +158,8 @@ module _ (stories : List Story) (budget : ℕ) (premise : AreGiven stories budge
             subst (λ (k : ℕ). get_or c (length front + k) 0 ≡ get_or (0 ∷ []) k 0) (sym zero_)
             (ap (λ (k : ℕ). get_or c k 0) (omega arith) ∙ is)
 
-    looks_shut : (rows : List Row) → IsJournal rows → IsShut (spelled rows) v.disk.seen
-        → v.up ≡ false → ((c : List ℕ) → IsImage v.disk c → c ≡ v.disk.seen)
+    looks_shut : (rows : List Row) → IsJournal rows → IsShut (journal_bytes rows) v.disk.seen
+        → v.up ≡ false → ((c : List ℕ) → IsDiskImage v.disk c → c ≡ v.disk.seen)
         → (rows ≡ w.rows) ⊎ ((u : Row) × (w.uncertain ≡ Some u) × (rows ≡ w.rows ++ u ∷ []))
         → CallsWell stories budget first past w (looked v (rows_in v.disk.seen))
     looks_shut rows all shut down only which =
@@ -168,13 +168,13 @@ module _ (stories : List Story) (budget : ℕ) (premise : AreGiven stories budge
         (subst (λ (b : Bool). CallsWell stories budget first past w
         (if b then comes_up v rows else record v { step = CloseWrite rows })) (sym is_zero)
         (opens_well v.disk rows down sound.stays
-        (λ c image. subst (λ (l : List ℕ). IsShut (spelled rows) l)
+        (λ c image. subst (λ (l : List ℕ). IsShut (journal_bytes rows) l)
         (sym (only c image)) shut) all which))
       where
-        is_zero : (slice_index v.disk.seen (length (spelled rows)) == 0) ≡ true
+        is_zero : (slice_index v.disk.seen (length (journal_bytes rows)) == 0) ≡ true
         is_zero = ap (λ (n : ℕ). n == 0) (gate_zero rows v.disk.seen shut)
 
-    looks_well : v.up ≡ false → ((c : List ℕ) → IsImage v.disk c → c ≡ v.disk.seen)
+    looks_well : v.up ≡ false → ((c : List ℕ) → IsDiskImage v.disk c → c ≡ v.disk.seen)
         → CallsWell stories budget first past w (looked v (rows_in v.disk.seen))
     looks_well down only = of v.uncertain refl
       where
@@ -182,30 +182,30 @@ module _ (stories : List Story) (budget : ℕ) (premise : AreGiven stories budge
             → CallsWell stories budget first past w (looked v (rows_in v.disk.seen))
         of None is =
             looks_shut v.rows sound.journal
-            (subst (λ (o : Option Row). StandsAt v.rows o v.disk.seen) is
+            (subst (λ (o : Option Row). StandsInImage v.rows o v.disk.seen) is
             (sound.images v.disk.seen sound.stays)) down only (inl same.rows)
         of (Some u) is =
-            let stands : IsUnsure (spelled v.rows) (past_gate u) v.disk.seen =
-            subst (λ (o : Option Row). StandsAt v.rows o v.disk.seen) is
+            let stands : IsUnsure (journal_bytes v.rows) (past_gate u) v.disk.seen =
+            subst (λ (o : Option Row). StandsInImage v.rows o v.disk.seen) is
             (sound.images v.disk.seen sound.stays) in
             let next : IsNext v.rows u =
             subst (λ (o : Option Row). IfSome o (IsNext v.rows)) is sound.next in
-            elim (cases_eq (get_or v.disk.seen (length (spelled v.rows)) 0) 1) [
+            elim (cases_eq (get_or v.disk.seen (length (journal_bytes v.rows)) 0) 1) [
               | inl is_open ↦ looks_shut (v.rows ++ u ∷ [])
                   (journal_push v.rows u sound.journal next)
                   (opens v.rows u v.disk.seen stands is_open) down only
                   (inr (u, sym same.uncertain ∙ is, ap (λ (l : List Row). l ++ u ∷ []) same.rows))
-              | inr not_open ↦ elim (cases_eq (get_or v.disk.seen (length (spelled v.rows)) 0) 0) [
+              | inr not_open ↦ elim (cases_eq (get_or v.disk.seen (length (journal_bytes v.rows)) 0) 0) [
                 | inl is_shut ↦ looks_shut v.rows sound.journal
-                    (unsure_zero (spelled v.rows)
+                    (unsure_zero (journal_bytes v.rows)
                     (past_gate u) v.disk.seen stands is_shut) down only (inl same.rows)
                 | inr other ↦
                     let spells : rows_in v.disk.seen ≡ Some v.rows =
                     reads_rows v.disk.seen v.rows
                     (spells_not_open v.rows
                     (past_gate u) v.disk.seen sound.journal stands not_open
-                    (omega (arith, stands.behind.within, length-append (body u) (0 ∷ [])))) in
-                    let test : (slice_index v.disk.seen (length (spelled v.rows)) == 0) ≡ false =
+                    (omega (arith, stands.behind.within, length-append (row_body u) (0 ∷ [])))) in
+                    let test : (slice_index v.disk.seen (length (journal_bytes v.rows)) == 0) ≡ false =
                     grind (arith, nat_tests) in
                     subst (λ (o : Option (List Row)). CallsWell stories budget first past w
                     (looked v o)) (sym spells)
@@ -229,18 +229,18 @@ module _ (stories : List Story) (budget : ℕ) (premise : AreGiven stories budge
     module _ (reads : List ℕ) where
       good_well : (step : Step) → StepFact stories budget v step
           → CallsWell stories budget first past w
-          (called w v true reads step (next_call v.rows step))
+          (host_called w v true reads step (next_call v.rows step))
       good_well Idle fact = same_up stories budget first past w w refl was
       good_well (RepairWrite r n) fact =
-          when_fits (Write (length (spelled v.rows)) (0 ∷ []))
+          when_fits (Write (length (journal_bytes v.rows)) (0 ∷ []))
           (onward (record v {
             disk =
-                disk_after (Write (length (spelled v.rows)) (0 ∷ [])) true reads v.disk;
+                disk_after (Write (length (journal_bytes v.rows)) (0 ∷ [])) true reads v.disk;
           })
           (RepairWrite r n)) (λ fits. well
           (onward (record v {
             disk =
-                disk_after (Write (length (spelled v.rows)) (0 ∷ [])) true reads v.disk;
+                disk_after (Write (length (journal_bytes v.rows)) (0 ∷ [])) true reads v.disk;
           })
           (RepairWrite r n)) refl
           (shuts_good stories budget premise first past v sound reads r n fits fact))
@@ -249,15 +249,15 @@ module _ (stories : List Story) (budget : ℕ) (premise : AreGiven stories budge
           (RepairSync r n)) refl
           (shut_syncs_good stories budget premise first past v sound reads r n fact)
       good_well (RowWrite r n) fact =
-          when_fits (Write (length (spelled v.rows) + 1) (past_gate r))
+          when_fits (Write (length (journal_bytes v.rows) + 1) (past_gate r))
           (onward (record v {
             disk =
-                disk_after (Write (length (spelled v.rows) + 1) (past_gate r)) true reads v.disk;
+                disk_after (Write (length (journal_bytes v.rows) + 1) (past_gate r)) true reads v.disk;
           })
           (RowWrite r n)) (λ fits. well (onward
           (record v {
             disk =
-                disk_after (Write (length (spelled v.rows) + 1) (past_gate r)) true reads v.disk;
+                disk_after (Write (length (journal_bytes v.rows) + 1) (past_gate r)) true reads v.disk;
           })
           (RowWrite r n)) refl
           (writes_good stories budget premise first past v sound reads r n fits fact))
@@ -265,15 +265,15 @@ module _ (stories : List Story) (budget : ℕ) (premise : AreGiven stories budge
           well (onward (record v { disk = disk_after Sync true reads v.disk }) (RowSync r n)) refl
           (write_syncs_good stories budget premise first past v sound reads r n fact)
       good_well (GateWrite r n) fact =
-          when_fits (Write (length (spelled v.rows)) (1 ∷ []))
+          when_fits (Write (length (journal_bytes v.rows)) (1 ∷ []))
           (onward (record v {
             disk =
-                disk_after (Write (length (spelled v.rows)) (1 ∷ [])) true reads v.disk;
+                disk_after (Write (length (journal_bytes v.rows)) (1 ∷ [])) true reads v.disk;
           })
           (GateWrite r n)) (λ fits. well (onward
           (record v {
             disk =
-                disk_after (Write (length (spelled v.rows)) (1 ∷ [])) true reads v.disk;
+                disk_after (Write (length (journal_bytes v.rows)) (1 ∷ [])) true reads v.disk;
           })
           (GateWrite r n)) refl
           (opens_good stories budget premise first past v sound reads r n fits fact))
@@ -293,16 +293,16 @@ module _ (stories : List Story) (budget : ℕ) (premise : AreGiven stories budge
           sound.images sound.next fact (λ k z at f. f))
       good_well ReadAll fact = looks_well fact.0 fact.1
       good_well (CloseWrite those) fact =
-          let made = Write (length (spelled those)) (0 ∷ []) in
-          let old : IsUnsure (spelled v.rows) (past_gate fact.2.0) v.disk.seen =
-          subst (λ (o : Option Row). StandsAt v.rows o v.disk.seen) fact.2.1
+          let made = Write (length (journal_bytes those)) (0 ∷ []) in
+          let old : IsUnsure (journal_bytes v.rows) (past_gate fact.2.0) v.disk.seen =
+          subst (λ (o : Option Row). StandsInImage v.rows o v.disk.seen) fact.2.1
           (sound.images v.disk.seen sound.stays) in
           when_fits made (onward (record v
-          { disk = disk_after (Write (length (spelled those)) (0 ∷ [])) true reads v.disk })
+          { disk = disk_after (Write (length (journal_bytes those)) (0 ∷ [])) true reads v.disk })
           (CloseWrite those)) (λ fits.
           well (onward (record v {
             disk =
-                disk_after (Write (length (spelled those)) (0 ∷ [])) true reads v.disk;
+                disk_after (Write (length (journal_bytes those)) (0 ∷ [])) true reads v.disk;
           })
           (CloseWrite those)) refl
           (stepped stories budget first past v
@@ -312,20 +312,20 @@ module _ (stories : List Story) (budget : ℕ) (premise : AreGiven stories budge
           (CloseWrite those) fact sound.stays sound.images true reads made refl) sound.next (
             fact.0,
             fact.1,
-            subst (λ (l : List ℕ). IsShut (spelled v.rows) l)
+            subst (λ (l : List ℕ). IsShut (journal_bytes v.rows) l)
                 (sym (seen_is stories budget premise first past v sound reads
-                (length (spelled those)) (0 ∷ []) fits))
-                (unsure_written (spelled v.rows) (past_gate fact.2.0)
-                (length (spelled those))
-                (ap (λ (l : List Row). length (spelled l)) (sym fact.1)) v.disk.seen old),
+                (length (journal_bytes those)) (0 ∷ []) fits))
+                (unsure_written (journal_bytes v.rows) (past_gate fact.2.0)
+                (length (journal_bytes those))
+                (ap (λ (l : List Row). length (journal_bytes l)) (sym fact.1)) v.disk.seen old),
           )
           (λ k z at f. f)))
       good_well (CloseSync those) fact =
           opens_well (disk_after Sync true reads v.disk) those fact.0
           (stays_after Sync reads v.disk sound.stays)
-          (λ c image. subst (λ (l : List ℕ). IsShut (spelled those) l)
+          (λ c image. subst (λ (l : List ℕ). IsShut (journal_bytes those) l)
           (sym (only_settled v.disk.seen c image))
-          (subst (λ (l : List Row). IsShut (spelled l) v.disk.seen) (sym fact.1) fact.2))
+          (subst (λ (l : List Row). IsShut (journal_bytes l) v.disk.seen) (sym fact.1) fact.2))
           (subst (λ (l : List Row). IsJournal l) (sym fact.1) sound.journal)
           (inl (fact.1 ∙ same.rows))
 
@@ -348,18 +348,18 @@ module _ (stories : List Story) (budget : ℕ) (premise : AreGiven stories budge
           (record v {
             disk = disk_after made false reads v.disk;
             faults =
-                counted v.faults;
+                fault_counted v.faults;
           }) r n else w)
       append_fails made step fact is r n busy =
           refused made (broken (record v {
             disk = disk_after made false reads v.disk;
             faults =
-                counted v.faults;
+                fault_counted v.faults;
           }) r n) (λ allowed.
           well (broken (record v {
             disk = disk_after made false reads v.disk;
             faults =
-                counted v.faults;
+                fault_counted v.faults;
           }) r n) refl
           (broken_well stories budget premise first past v sound reads made step fact is allowed r n
           busy))
@@ -369,7 +369,7 @@ module _ (stories : List Story) (budget : ℕ) (premise : AreGiven stories budge
           → CallsWell stories budget first past w
           (if is_image (disk_after made false reads v.disk) reads then record v {
             disk = disk_after made false reads v.disk;
-            faults = counted v.faults;
+            faults = fault_counted v.faults;
             step =
                 Idle;
           } else w)
@@ -377,41 +377,41 @@ module _ (stories : List Story) (budget : ℕ) (premise : AreGiven stories budge
           refused made (record v {
             disk = disk_after made false reads v.disk;
             faults =
-                counted v.faults;
+                fault_counted v.faults;
             step = Idle;
           }) (λ allowed.
           well (record v {
             disk = disk_after made false reads v.disk;
             faults =
-                counted v.faults;
+                fault_counted v.faults;
             step = Idle;
           }) refl
           (stepped stories budget first past v (disk_after made false reads v.disk)
-          (counted v.faults) v.uncertain Idle sound (stays_bad made reads v.disk allowed)
+          (fault_counted v.faults) v.uncertain Idle sound (stays_bad made reads v.disk allowed)
           (images_after stories budget v step fact sound.stays sound.images false reads made is)
           sound.next tt (λ k z at f. f)))
 
       bad_well : (step : Step) → StepFact stories budget v step
           → CallsWell stories budget first past w
-          (called w v false reads step (next_call v.rows step))
+          (host_called w v false reads step (next_call v.rows step))
       bad_well Idle fact = same_up stories budget first past w w refl was
       bad_well (RepairWrite r n) fact =
-          append_fails (Write (length (spelled v.rows)) (0 ∷ []))
+          append_fails (Write (length (journal_bytes v.rows)) (0 ∷ []))
           (RepairWrite r n) fact refl r n fact.0
       bad_well (RepairSync r n) fact = append_fails Sync (RepairSync r n) fact refl r n fact.0
       bad_well (RowWrite r n) fact =
-          append_fails (Write (length (spelled v.rows) + 1) (past_gate r))
+          append_fails (Write (length (journal_bytes v.rows) + 1) (past_gate r))
           (RowWrite r n) fact refl r n fact.0
       bad_well (RowSync r n) fact = append_fails Sync (RowSync r n) fact refl r n fact.0
       bad_well (GateWrite r n) fact =
-          append_fails (Write (length (spelled v.rows)) (1 ∷ []))
+          append_fails (Write (length (journal_bytes v.rows)) (1 ∷ []))
           (GateWrite r n) fact refl r n fact.0
       bad_well (GateSync r n) fact = append_fails Sync (GateSync r n) fact refl r n fact.0
       bad_well FirstSync fact = opening_fails Sync FirstSync fact refl
       bad_well AskSize fact = opening_fails Look AskSize fact refl
       bad_well ReadAll fact = opening_fails Look ReadAll fact refl
       bad_well (CloseWrite those) fact =
-          opening_fails (Write (length (spelled those)) (0 ∷ [])) (CloseWrite those) fact refl
+          opening_fails (Write (length (journal_bytes those)) (0 ∷ [])) (CloseWrite those) fact refl
       bad_well (CloseSync those) fact = opening_fails Sync (CloseSync those) fact refl
 
   made_well : (first : ℕ → List Entry) (past : ℕ → List Happening) (w : HostState) (good : Bool)

@@ -10,15 +10,15 @@ use Rattle.std.specs.Prelude.{if◌then◌else◌, slice_index}
 use Rattle.disk_model.proofs.Torn.{holds_front}
 use Rattle.gate_journal.proofs.RowLemmas.{length-body, never_both, spelled-push, spells_shut}
 use Rattle.gate_journal.specs.Gate.{IsShut}
-use Rattle.gate_journal.specs.Rows.{EachNext, HasNoHeader, IsCorrupt, IsJournal, SpellsRows, body}
-use Rattle.gate_journal.specs.Rows.{commands_of, header, opened, payload_of, spelled}
+use Rattle.gate_journal.specs.Rows.{EachNext, HasNoHeader, IsCorrupt, IsJournal, SpellsRows, row_body}
+use Rattle.gate_journal.specs.Rows.{commands_of, journal_header, rows_behind_open_gates, payload_of, journal_bytes}
 use Rattle.gate_journal.specs.declared.command.Command.{Command}
 use Rattle.gate_journal.specs.declared.row.Row.{Row}
 use Rattle.session_core.specs.Turning.{commands_in}
 use Rattle.session_core.specs.declared.entry.Entry.{Entry}
 use Rattle.host_world.specs.Journal.{comes_up, looked}
 use Rattle.host_world.specs.Reading.{rows_in}
-use Rattle.host_world.specs.Sessions.{found}
+use Rattle.host_world.specs.Sessions.{history_found}
 use Rattle.host_world.specs.declared.state.HostState.{HostState}
 use Rattle.host_world.specs.declared.state.Step.TheVariants.{CloseWrite, Idle}
 use Rattle.host_world.specs.Starts.{IsStart, down_over, rows_or_none}
@@ -35,7 +35,7 @@ none_of bytes (Some rows) is none = absurd (none rows (found_rows bytes rows is)
 pub headless_none : (bytes : List ℕ) → HasNoHeader bytes → None ≡ rows_in bytes
 headless_none bytes refuses =
     sym (none_of bytes (rows_in bytes) refl
-    (λ rows spells. refuses (holds_front header (opened rows) spells.front)))
+    (λ rows spells. refuses (holds_front journal_header (rows_behind_open_gates rows) spells.front)))
 
 pub corrupt_none : (bytes : List ℕ) (place : ℕ) → IsCorrupt bytes place → None ≡ rows_in bytes
 corrupt_none bytes place refuses =
@@ -48,7 +48,7 @@ pub looks_none : (w : HostState) → rows_in w.disk.seen ≡ None
 looks_none w is = sym (ap (λ (o : Option (List Row)). looked w o) is)
 
 looks : (w : HostState) (rows : List Row) → rows_in w.disk.seen ≡ Some rows → (b : Bool)
-    → (slice_index w.disk.seen (length (spelled rows)) == 0) ≡ b
+    → (slice_index w.disk.seen (length (journal_bytes rows)) == 0) ≡ b
     → (if b then comes_up w rows else record w { step = CloseWrite rows })
     ≡ looked w (rows_in w.disk.seen)
 looks w rows is b gate =
@@ -56,12 +56,12 @@ looks w rows is b gate =
     ∙ ap (λ (c : Bool). if c then comes_up w rows else record w { step = CloseWrite rows }) gate)
 
 pub looks_shut : (w : HostState) (rows : List Row) → rows_in w.disk.seen ≡ Some rows
-    → slice_index w.disk.seen (length (spelled rows)) ≡ 0
+    → slice_index w.disk.seen (length (journal_bytes rows)) ≡ 0
     → comes_up w rows ≡ looked w (rows_in w.disk.seen)
 looks_shut w rows is gate = looks w rows is true (grind (arith, nat_tests, gate))
 
 pub looks_open : (w : HostState) (rows : List Row) → rows_in w.disk.seen ≡ Some rows
-    → slice_index w.disk.seen (length (spelled rows)) ≢ 0
+    → slice_index w.disk.seen (length (journal_bytes rows)) ≢ 0
     → record w { step = CloseWrite rows } ≡ looked w (rows_in w.disk.seen)
 looks_open w rows is gate = looks w rows is false (grind (arith, nat_tests, gate))
 
@@ -95,12 +95,12 @@ journal_few s rows all = few_on s [] rows all (omega arith)
 -- so has the history that an opening makes of its rows
 pub found_few : (rows : List Row) (s i : ℕ) (entries : List Entry) → IsJournal rows
     → length rows ≤ i
-    → entries ++ found (commands_of (drop i rows) s) ≡ found (commands_of rows s)
+    → entries ++ history_found (commands_of (drop i rows) s) ≡ history_found (commands_of rows s)
     → length (commands_in entries) ≤ 8192
 found_few rows s i entries all past is =
-    let done : entries ≡ found (commands_of rows s) =
+    let done : entries ≡ history_found (commands_of rows s) =
     sym (append-nil entries)
-    ∙ ap (λ (l : List Row). entries ++ found (commands_of l s)) (sym (drop_all i rows past))
+    ∙ ap (λ (l : List Row). entries ++ history_found (commands_of l s)) (sym (drop_all i rows past))
     ∙ is in
     subst (λ (l : List Command). length l ≤ 8192)
     (sym (ap (λ (l : List Entry). commands_in l) done ∙ commands-found (commands_of rows s)))
@@ -108,21 +108,21 @@ found_few rows s i entries all past is =
 
 -- one row more, behind those that were found
 pub spelled_more : (found_rows added now : List Row) (r : Row) → now ≡ added ++ r ∷ []
-    → length (spelled (found_rows ++ now))
-    ≡ length (spelled (found_rows ++ added)) + (5 + length (payload_of r.command))
+    → length (journal_bytes (found_rows ++ now))
+    ≡ length (journal_bytes (found_rows ++ added)) + (5 + length (payload_of r.command))
 spelled_more found_rows added now r is =
     omega (
       arith,
-      ap (λ (l : List Row). length (spelled (found_rows ++ l))) is,
-      ap (λ (l : List Row). length (spelled l)) (append_assoc found_rows added (r ∷ [])),
+      ap (λ (l : List Row). length (journal_bytes (found_rows ++ l))) is,
+      ap (λ (l : List Row). length (journal_bytes l)) (append_assoc found_rows added (r ∷ [])),
       ap (λ (l : List ℕ). length l) (spelled-push (found_rows ++ added) r),
-      length-append (spelled (found_rows ++ added)) (1 ∷ body r),
+      length-append (journal_bytes (found_rows ++ added)) (1 ∷ row_body r),
       length-body r,
     )
 
 -- over a journal whose closing gate is closed a list of events may begin
 pub down_starts : (bytes : List ℕ) (rows : List Row) → IsJournal rows
-    → IsShut (spelled rows) bytes → IsStart (down_over bytes (rows_or_none (rows_in bytes)) None)
+    → IsShut (journal_bytes rows) bytes → IsStart (down_over bytes (rows_or_none (rows_in bytes)) None)
 down_starts bytes rows all shut =
     subst (λ (l : List Row). IsStart (down_over bytes l None))
     (sym (ap rows_or_none (reads_rows bytes rows (spells_shut rows bytes all shut))))

@@ -13,10 +13,10 @@ use Rattle.gate_journal.proofs.RowLemmas.{body_parts, holds_split, length-body, 
 use Rattle.gate_journal.proofs.RowLemmas.{spells_split}
 use Rattle.gate_journal.specs.Command.{IsCommand}
 use Rattle.gate_journal.specs.Log.{next_row}
-use Rattle.gate_journal.specs.Parsing.{IsFirst}
-use Rattle.gate_journal.specs.Rows.{EachNext, IsJournal, IsNext, MayStand, SpellsRows, body}
-use Rattle.gate_journal.specs.Rows.{commands_of, header, is_open, kind_of, may_follow, opened}
-use Rattle.gate_journal.specs.Rows.{payload_of, spelled}
+use Rattle.gate_journal.specs.Parsing.{BeginsWithRow}
+use Rattle.gate_journal.specs.Rows.{EachNext, IsJournal, IsNext, MayStand, SpellsRows, row_body}
+use Rattle.gate_journal.specs.Rows.{commands_of, journal_header, is_open, command_kind, may_follow, rows_behind_open_gates}
+use Rattle.gate_journal.specs.Rows.{payload_of, journal_bytes}
 use Rattle.gate_journal.specs.declared.command.Command.{Command}
 use Rattle.gate_journal.specs.declared.command.Command.TheVariants.{Char, Close, File, Line, Open}
 use Rattle.gate_journal.specs.declared.row.Row.{Row}
@@ -29,7 +29,7 @@ use Rattle.host_world.proofs.Lists.{some_same}
 use Rattle.std.proofs.lemmas.Slice.Eq.{bytes_eq-Decides}
 
 -- a command is read from its payload
-command_is : (c : Command) → IsCommand c → command_in (kind_of c) (payload_of c) ≡ c
+command_is : (c : Command) → IsCommand c → command_in (command_kind c) (payload_of c) ≡ c
 command_is (Open key story digest seed cols rows budget) ranges =
     sym (only_open (payload_of (Open key story digest seed cols rows budget))
     (Open key story digest seed cols rows budget)
@@ -179,7 +179,7 @@ stand_told rows s c is =
     lt_of m n test = grind (arith, nat_tests)
 
 -- the row that stands behind a gate is found
-row_is : (rows : List Row) (r : Row) (rest past : List ℕ) → IsNext rows r → past ≡ body r ++ rest
+row_is : (rows : List Row) (r : Row) (rest past : List ℕ) → IsNext rows r → past ≡ row_body r ++ rest
     → row_at rows past ≡ r
 row_is rows r rest past next is =
     let parts = body_parts r rest past next.stands.ranges is in
@@ -188,7 +188,7 @@ row_is rows r rest past next is =
     (ap (λ (l : List ℕ). get_or l 0 0) is)
     ∙ ap (λ (k : ℕ). next_row rows r.session
     (command_in k (take (256 * get_or past 2 0 + get_or past 3 0) (drop 4 past)))) parts.0
-    ∙ ap (λ (l : List ℕ). next_row rows r.session (command_in (kind_of r.command) l)) parts.2
+    ∙ ap (λ (l : List ℕ). next_row rows r.session (command_in (command_kind r.command) l)) parts.2
     ∙ ap (λ (c : Command). next_row rows r.session c) (command_is r.command next.stands.ranges)
     ∙ ap (λ (k : ℕ). record {
       place = k;
@@ -214,18 +214,18 @@ front_told front past is =
 
 -- what an opened row leaves to be read
 pub rows_on : (n : ℕ) (rows : List Row) (r : Row) (rest : List ℕ) → IsNext rows r
-    → rows_from (suc n) rows (1 ∷ (body r ++ rest)) ≡ rows_from n (rows ++ r ∷ []) rest
+    → rows_from (suc n) rows (1 ∷ (row_body r ++ rest)) ≡ rows_from n (rows ++ r ∷ []) rest
 rows_on n rows r rest next =
-    ap (λ (q : Row). if has_row rows (body r ++ rest) q then rows_from n (rows ++ q ∷ [])
-    (drop (length (body q)) (body r ++ rest)) else None)
-    (row_is rows r rest (body r ++ rest) next refl)
+    ap (λ (q : Row). if has_row rows (row_body r ++ rest) q then rows_from n (rows ++ q ∷ [])
+    (drop (length (row_body q)) (row_body r ++ rest)) else None)
+    (row_is rows r rest (row_body r ++ rest) next refl)
     ∙ ap (λ (b : Bool). if b then rows_from n (rows ++ r ∷ [])
-    (drop (length (body r)) (body r ++ rest)) else None)
-    (and_from (may_stand rows r.session r.command) (begins_with (body r ++ rest) (body r))
+    (drop (length (row_body r)) (row_body r ++ rest)) else None)
+    (and_from (may_stand rows r.session r.command) (begins_with (row_body r ++ rest) (row_body r))
     (stand_test rows r.session r.command next.stands)
-    (front_test (body r) rest (body r ++ rest) refl))
+    (front_test (row_body r) rest (row_body r ++ rest) refl))
     ∙ ap (λ (l : List ℕ). rows_from n (rows ++ r ∷ []) l)
-    (drop_at (body r) rest (length (body r)) refl)
+    (drop_at (row_body r) rest (length (row_body r)) refl)
 
 ends_here : (n : ℕ) (rows : List Row) (gate : ℕ) (past : List ℕ) → gate ≢ 1
     → rows_from n rows (gate ∷ past) ≡ Some rows
@@ -239,7 +239,7 @@ ends_here n rows gate past shut = of n
     of (suc k) =
         ap (λ (b : Bool). if b then (if has_row rows past (row_at rows past) then rows_from k
         (rows ++ row_at rows past ∷ []) (drop
-        (length (body (row_at rows past))) past) else None) else Some rows) test
+        (length (row_body (row_at rows past))) past) else None) else Some rows) test
 
 end_found : (n : ℕ) (rows : List Row) (x : List ℕ) → 1 ≤ length x → get_or x 0 0 ≢ 1
     → rows_from n rows x ≡ Some rows
@@ -248,19 +248,19 @@ end_found n rows (gate ∷ past) some shut = ends_here n rows gate past shut
 
 rows_found : (more : List Row) (n : ℕ) (rows : List Row) (x : List ℕ) → length more ≤ n
     → EachNext rows more → 1 ≤ length x → get_or x 0 0 ≢ 1
-    → rows_from n rows (opened more ++ x) ≡ Some (rows ++ more)
+    → rows_from n rows (rows_behind_open_gates more ++ x) ≡ Some (rows ++ more)
 rows_found [] n rows x le each some shut = end_found n rows x some shut
     ∙ ap (λ (l : List Row). Some l) (sym (append-nil rows))
 rows_found (r ∷ more) zero rows x le each some shut = absurd (omega (arith, le))
 rows_found (r ∷ more) (suc n) rows x le each some shut =
-    ap (λ (l : List ℕ). rows_from (suc n) rows (1 ∷ l)) (append_assoc (body r) (opened more) x)
-    ∙ rows_on n rows r (opened more ++ x) each.0
+    ap (λ (l : List ℕ). rows_from (suc n) rows (1 ∷ l)) (append_assoc (row_body r) (rows_behind_open_gates more) x)
+    ∙ rows_on n rows r (rows_behind_open_gates more ++ x) each.0
     ∙ rows_found more n (rows ++ r ∷ []) x (omega (arith, le)) each.1 some shut
     ∙ ap (λ (l : List Row). Some l) (append_assoc rows (r ∷ []) more)
 
-opened_size : (rows : List Row) → length rows ≤ length (opened rows)
+opened_size : (rows : List Row) → length rows ≤ length (rows_behind_open_gates rows)
 opened_size [] = omega arith
-opened_size (r ∷ rows) = omega (arith, opened_size rows, length-append (body r) (opened rows))
+opened_size (r ∷ rows) = omega (arith, opened_size rows, length-append (row_body r) (rows_behind_open_gates rows))
 
 first_behind : (c : List ℕ) (n : ℕ) → get_or (drop n c) 0 0 ≡ get_or c n 0
 first_behind c n = get_or-drop n c 0 0 ∙ ap (λ (k : ℕ). get_or c k 0) (omega arith)
@@ -269,16 +269,16 @@ first_behind c n = get_or-drop n c 0 0 ∙ ap (λ (k : ℕ). get_or c k 0) (omeg
 pub reads_rows : (c : List ℕ) (rows : List Row) → SpellsRows c rows → rows_in c ≡ Some rows
 unfolding rows_in
 reads_rows c rows spells =
-    let n = length (spelled rows) in
-    let x = drop (length (spelled rows)) c in
-    let whole : c ≡ spelled rows ++ drop (length (spelled rows)) c =
-    holds_split c (spelled rows) spells.front in
-    let split : c ≡ header ++ (opened rows ++ drop (length (spelled rows)) c) = whole
-    ∙ append_assoc header (opened rows) (drop (length (spelled rows)) c) in
+    let n = length (journal_bytes rows) in
+    let x = drop (length (journal_bytes rows)) c in
+    let whole : c ≡ journal_bytes rows ++ drop (length (journal_bytes rows)) c =
+    holds_split c (journal_bytes rows) spells.front in
+    let split : c ≡ journal_header ++ (rows_behind_open_gates rows ++ drop (length (journal_bytes rows)) c) = whole
+    ∙ append_assoc journal_header (rows_behind_open_gates rows) (drop (length (journal_bytes rows)) c) in
     let size : length rows ≤ length c =
-    omega (arith, opened_size rows, spells.within, length-append header (opened rows)) in
+    omega (arith, opened_size rows, spells.within, length-append journal_header (rows_behind_open_gates rows)) in
     ap (λ (b : Bool). if b then rows_from (length c) [] (drop 16 c) else None)
-    (front_test header (opened rows ++ drop (length (spelled rows)) c) c split)
+    (front_test journal_header (rows_behind_open_gates rows ++ drop (length (journal_bytes rows)) c) c split)
     ∙ ap (λ (l : List ℕ). rows_from (length c) [] (drop 16 l)) split
     ∙ rows_found rows (length c) [] x size spells.journal
     (omega (arith, length-drop n c, spells.within))
@@ -289,7 +289,7 @@ none_some x is = cc
 
 -- and nothing else
 not_open : (c : List ℕ) (rows those : List Row) (gate : ℕ) (past : List ℕ) → IsJournal rows
-    → c ≡ spelled rows ++ gate ∷ past → (gate == 1) ≡ false → Some rows ≡ Some those
+    → c ≡ journal_bytes rows ++ gate ∷ past → (gate == 1) ≡ false → Some rows ≡ Some those
     → SpellsRows c those
 not_open c rows those gate past journal split shut said =
     subst (λ (l : List Row). SpellsRows c l) (some_same rows those said)
@@ -300,19 +300,19 @@ not_open c rows those gate past journal split shut said =
 abbrev Spelt : List ℕ → List Row → ℕ → Type 0
 Spelt c those n =
     (rows : List Row) (rest : List ℕ) → rows_from n rows rest ≡ Some those → IsJournal rows
-    → c ≡ spelled rows ++ rest → SpellsRows c those
+    → c ≡ journal_bytes rows ++ rest → SpellsRows c those
 
 one_more :
     (c : List ℕ) (those : List Row) (n : ℕ) (rows : List Row) (gate : ℕ) (past : List ℕ) (r : Row)
-    → r ≡ row_at rows past → Spelt c those n → IsJournal rows → c ≡ spelled rows ++ gate ∷ past
+    → r ≡ row_at rows past → Spelt c those n → IsJournal rows → c ≡ journal_bytes rows ++ gate ∷ past
     → (gate == 1) ≡ true
     → (b : Bool) → has_row rows past r ≡ b
-    → (if b then rows_from n (rows ++ r ∷ []) (drop (length (body r)) past) else None)
+    → (if b then rows_from n (rows ++ r ∷ []) (drop (length (row_body r)) past) else None)
     ≡ Some those → SpellsRows c those
 one_more c those n rows gate past r is later journal split is_open false test said =
     absurd (none_some those said)
 one_more c those n rows gate past r is later journal split is_open true test said =
-    let both = and_parts (may_stand rows r.session r.command) (begins_with past (body r)) test in
+    let both = and_parts (may_stand rows r.session r.command) (begins_with past (row_body r)) test in
     let next : IsNext rows r =
     record {
       place = ap (λ (q : Row). q.place) is;
@@ -321,24 +321,24 @@ one_more c those n rows gate past r is later journal split is_open true test sai
       stands =
           stand_told rows r.session r.command both.0;
     } in
-    let size : suc (length (body r)) ≡ 5 + length (payload_of r.command) =
+    let size : suc (length (row_body r)) ≡ 5 + length (payload_of r.command) =
     omega (arith, length-body r) in
-    let first : IsFirst rows past r =
-    record { next = next; bytes = front_told (body r) past both.1 } in
-    let step = parse_step c (gate ∷ past) (drop (length (body r)) past) rows (rows ++ r ∷ []) r
-    (length (spelled rows)) (length (spelled rows) +
+    let first : BeginsWithRow rows past r =
+    record { next = next; bytes = front_told (row_body r) past both.1 } in
+    let step = parse_step c (gate ∷ past) (drop (length (row_body r)) past) rows (rows ++ r ∷ []) r
+    (length (journal_bytes rows)) (length (journal_bytes rows) +
     (5 + length (payload_of r.command))) split journal refl (grind (arith, nat_tests))
     (omega arith) first refl refl
     (ap (λ (k : ℕ). drop k (gate ∷ past)) size) in
-    later (rows ++ r ∷ []) (drop (length (body r)) past) said step.1 step.0
+    later (rows ++ r ∷ []) (drop (length (row_body r)) past) said step.1 step.0
 
 at_gate :
     (c : List ℕ) (those : List Row) (n : ℕ) (rows : List Row) (gate : ℕ) (past : List ℕ)
-    → Spelt c those n → IsJournal rows → c ≡ spelled rows ++ gate ∷ past → (b : Bool)
+    → Spelt c those n → IsJournal rows → c ≡ journal_bytes rows ++ gate ∷ past → (b : Bool)
     → (gate == 1) ≡ b
     → (if b then (if has_row rows past (row_at rows past) then rows_from n
     (rows ++ row_at rows past ∷ []) (drop
-    (length (body (row_at rows past))) past) else None) else Some rows) ≡ Some those
+    (length (row_body (row_at rows past))) past) else None) else Some rows) ≡ Some those
     → SpellsRows c those
 at_gate c those n rows gate past later journal split true test said =
     one_more c those n rows gate past (row_at rows past) refl later journal split test
@@ -347,7 +347,7 @@ at_gate c those n rows gate past later journal split false test said =
     not_open c rows those gate past journal split test said
 
 at_last : (c : List ℕ) (those rows : List Row) (gate : ℕ) (past : List ℕ) → IsJournal rows
-    → c ≡ spelled rows ++ gate ∷ past → (b : Bool) → (gate == 1) ≡ b
+    → c ≡ journal_bytes rows ++ gate ∷ past → (b : Bool) → (gate == 1) ≡ b
     → (if b then None else Some rows) ≡ Some those → SpellsRows c those
 at_last c those rows gate past journal split true test said = absurd (none_some those said)
 at_last c those rows gate past journal split false test said =
@@ -360,12 +360,12 @@ found_spell c those zero rows (gate ∷ past) is journal split =
 found_spell c those (suc n) rows (gate ∷ past) is journal split =
     at_gate c those n rows gate past (found_spell c those n) journal split (gate == 1) refl is
 
-with_header : (c : List ℕ) (rows : List Row) (b : Bool) → begins_with c header ≡ b
+with_header : (c : List ℕ) (rows : List Row) (b : Bool) → begins_with c journal_header ≡ b
     → (if b then rows_from (length c) [] (drop 16 c) else None) ≡ Some rows → SpellsRows c rows
 with_header c rows true test said =
-    found_spell c rows (length c) [] (drop 16 c) said tt (front_told header c test)
+    found_spell c rows (length c) [] (drop 16 c) said tt (front_told journal_header c test)
 with_header c rows false test said = absurd (none_some rows said)
 
 pub found_rows : (c : List ℕ) (rows : List Row) → rows_in c ≡ Some rows → SpellsRows c rows
 unfolding rows_in
-found_rows c rows is = with_header c rows (begins_with c header) refl is
+found_rows c rows is = with_header c rows (begins_with c journal_header) refl is

@@ -9,7 +9,7 @@ use Rattle.std.specs.Prelude.{IfSome, if◌then◌else◌, not, ◌&&◌}
 use Rattle.disk_model.proofs.Torn.{holds_rest}
 use Rattle.disk_model.specs.Disk.{Holds}
 use Rattle.gate_journal.specs.Gate.{IsShut}
-use Rattle.gate_journal.specs.Rows.{commands_of, spelled}
+use Rattle.gate_journal.specs.Rows.{commands_of, journal_bytes}
 use Rattle.gate_journal.specs.declared.row.Row.{Row}
 use Rattle.story_run.specs.declared.story.Story.{Story}
 use Rattle.session_core.specs.Turning.{commands_in}
@@ -24,11 +24,11 @@ use Rattle.host_world.proofs.Phases.{same_past}
 use Rattle.host_world.proofs.Sound.{RowsFact, Sound}
 
 -- a closed gate is 0
-pub gate_zero : (rows : List Row) (c : List ℕ) → IsShut (spelled rows) c
-    → get_or c (length (spelled rows)) 0 ≡ 0
+pub gate_zero : (rows : List Row) (c : List ℕ) → IsShut (journal_bytes rows) c
+    → get_or c (length (journal_bytes rows)) 0 ≡ 0
 gate_zero rows c shut =
-    let gate : Holds c (length (spelled rows)) (0 ∷ []) =
-    holds_rest {p = 0} (spelled rows) (0 ∷ []) (omega arith) shut in
+    let gate : Holds c (length (journal_bytes rows)) (0 ∷ []) =
+    holds_rest {p = 0} (journal_bytes rows) (0 ∷ []) (omega arith) shut in
     ap (λ (k : ℕ). get_or c k 0) (omega arith) ∙ gate.each 0 (omega arith)
 
 abbrev pub nobody : Session

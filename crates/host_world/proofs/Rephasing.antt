@@ -4,13 +4,13 @@ use Rattle.std.proofs.Common.{subst, sym, true, ℕ, ◌∙◌, ◌≡◌, ◌�
 use Rattle.std.proofs.lemmas.Bool.{cases_eq}
 use Rattle.std.specs.List.{slice_get}
 use Rattle.std.specs.Prelude.{IfSome}
-use Rattle.disk_model.specs.DiskState.{DiskState, IsImage}
-use Rattle.gate_journal.specs.Log.{StandsAt}
+use Rattle.disk_model.specs.DiskState.{DiskState, IsDiskImage}
+use Rattle.gate_journal.specs.Log.{StandsInImage}
 use Rattle.gate_journal.specs.Rows.{IsJournal, IsNext}
 use Rattle.gate_journal.specs.declared.row.Row.{Row}
 use Rattle.story_run.specs.declared.story.Story.{Story}
 use Rattle.session_core.specs.declared.entry.Entry.{Entry}
-use Rattle.host_world.specs.Happenings.{Happening, history_of}
+use Rattle.host_world.specs.Happenings.{Happening, history_left}
 use Rattle.host_world.specs.Sessions.{in_phase}
 use Rattle.host_world.specs.declared.state.HostState.{HostState}
 use Rattle.host_world.specs.declared.state.Step.{Step}
@@ -45,8 +45,8 @@ module _ (stories : List Story) (budget : ℕ) where
       (x : Session) (t : Turn) (next : Phase) (p : DiskState) (n : ℕ) (rows : List Row)
       (u : Option Row) (step : Step) : Type 0 where
     pub at : slice_get v.sessions s ≡ Some x
-    pub stays : IsImage p p.seen
-    pub images : (c : List ℕ) → IsImage p c → StandsAt rows u c
+    pub stays : IsDiskImage p p.seen
+    pub images : (c : List ℕ) → IsDiskImage p c → StandsInImage rows u c
     pub journal : IsJournal rows
     pub follows : IfSome u (IsNext rows)
     pub now : StepFact stories budget (record v {
@@ -58,7 +58,7 @@ module _ (stories : List Story) (budget : ℕ) where
       uncertain = u;
       step = step;
     }) step
-    pub fact : PhaseFact stories budget (history_of stories budget (first s)
+    pub fact : PhaseFact stories budget (history_left stories budget (first s)
         (past s)) x.history t next
     pub here : RowsFact stories budget s rows u (in_phase x t next) v.up
     pub elsewhere : (m : ℕ) (z : Session) → m ≢ s
@@ -130,7 +130,7 @@ module _ (stories : List Story) (budget : ℕ) where
             }) s (in_phase x t next) =
             record {
               turn =
-                  reached (history_of stories budget (first s)
+                  reached (history_left stories budget (first s)
                   (past s)) x.history t next next m.fact;
               replies =
                   (sound.each s x m.at).replies;
@@ -169,8 +169,8 @@ module _ (stories : List Story) (budget : ℕ) where
 
   -- no turn changes, but the journal
   pub stepped : (first : ℕ → List Entry) (past : ℕ → List Happening) (v : HostState) (p : DiskState)
-      (n : ℕ) (u : Option Row) (step : Step) → Sound stories budget first past v → IsImage p p.seen
-      → ((c : List ℕ) → IsImage p c → StandsAt v.rows u c) → IfSome u (IsNext v.rows)
+      (n : ℕ) (u : Option Row) (step : Step) → Sound stories budget first past v → IsDiskImage p p.seen
+      → ((c : List ℕ) → IsDiskImage p c → StandsInImage v.rows u c) → IfSome u (IsNext v.rows)
       → StepFact stories budget (record v { disk = p; faults = n; uncertain = u; step = step }) step
       → ((k : ℕ) (z : Session) → slice_get v.sessions k ≡ Some z
       → RowsFact stories budget k v.rows v.uncertain z v.up

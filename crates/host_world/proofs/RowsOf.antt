@@ -6,7 +6,7 @@ use Rattle.gate_journal.specs.Rows.{commands_of}
 use Rattle.gate_journal.specs.declared.command.Command.{Command}
 use Rattle.gate_journal.specs.declared.row.Row.{Row}
 use Rattle.session_core.specs.Turning.{commands_in}
-use Rattle.host_world.specs.Sessions.{found}
+use Rattle.host_world.specs.Sessions.{history_found}
 use Rattle.host_world.proofs.Folds.{eq_other, eq_self}
 
 cons_if : (b : Bool) (c d : Command) (l m : List Command) → m ≡ l ++ d ∷ []
@@ -35,6 +35,6 @@ rows-other s (x ∷ rows) r apart =
     same_if (x.session == s) (x.command) (commands_of rows s) (commands_of (rows ++ r ∷ []) s)
     (rows-other s rows r apart)
 
-pub commands-found : (cs : List Command) → commands_in (found cs) ≡ cs
+pub commands-found : (cs : List Command) → commands_in (history_found cs) ≡ cs
 commands-found [] = refl
 commands-found (c ∷ cs) = ap (λ (l : List Command). c ∷ l) (commands-found cs)

@@ -9,7 +9,7 @@ use Rattle.std.proofs.lemmas.Option.{slice_get-get_or, slice_get_within}
 use Rattle.std.specs.List.{slice_get}
 use Rattle.std.specs.Prelude.{IfSome, if◌then◌else◌, not, ◌&&◌}
 use Rattle.disk_model.proofs.StateLaws.{only_settled, settled_image}
-use Rattle.gate_journal.specs.Log.{StandsAt}
+use Rattle.gate_journal.specs.Log.{StandsInImage}
 use Rattle.gate_journal.specs.Rows.{IsJournal, IsNext, commands_of}
 use Rattle.gate_journal.specs.declared.command.Command.{Command}
 use Rattle.gate_journal.specs.declared.row.Row.{Row}
@@ -18,14 +18,14 @@ use Rattle.session_core.specs.Turning.{commands_in}
 use Rattle.session_core.specs.declared.entry.Entry.{Entry}
 use Rattle.disk_model.specs.Plain.{is_image}
 use Rattle.host_world.specs.Events.{after, run}
-use Rattle.host_world.specs.Happenings.{Happening, Opened, all_told, cut, cut_at, cut_in, ended}
-use Rattle.host_world.specs.Happenings.{ended_at, ended_in, further, history_of, replies_of}
-use Rattle.host_world.specs.Happenings.{replies_to, told}
+use Rattle.host_world.specs.Happenings.{Happening, Opened, all_told, turn_cut, cut_at, cut_in, turn_over}
+use Rattle.host_world.specs.Happenings.{ended_at, ended_in, further, history_left, replies_of}
+use Rattle.host_world.specs.Happenings.{given_replies, told}
 use Rattle.host_world.specs.Headline.{AreGiven, EachFindsOneMore, Lives}
 use Rattle.host_world.specs.Laws.{StartsOver}
 use Rattle.host_world.specs.Pending.{OneMore, pending, pending_of}
 use Rattle.host_world.specs.Sessions.{found_session}
-use Rattle.host_world.specs.Starts.{IsDown, IsOpened, IsStart, down_over}
+use Rattle.host_world.specs.Starts.{IsDown, IsOpenedState, IsStart, down_over}
 use Rattle.host_world.specs.declared.event.Event.{Event}
 use Rattle.host_world.specs.declared.event.Event.TheVariants.{Accept, Call, Free, Give, Hold}
 use Rattle.host_world.specs.declared.event.Event.TheVariants.{Recover, Run, Stop, Take, Want}
@@ -49,7 +49,7 @@ use Rattle.host_world.proofs.Sound.{RowsFact, Sound, StepFact, TurnFact}
 use Rattle.host_world.proofs.Stops.{cut_fact, image_spells, stop_well}
 
 pub down_well : (bytes : List ℕ) (rows : List Row) (u : Option Row) → IsJournal rows
-    → IfSome u (IsNext rows) → StandsAt rows u bytes → IsDown (down_over bytes rows u)
+    → IfSome u (IsNext rows) → StandsInImage rows u bytes → IsDown (down_over bytes rows u)
 down_well bytes rows u all next stands = record {
   down = refl;
   quiet = record {
@@ -66,7 +66,7 @@ down_well bytes rows u all next stands = record {
         );
   };
   next = next;
-  stands = λ c image. subst (λ (l : List ℕ). StandsAt rows u l)
+  stands = λ c image. subst (λ (l : List ℕ). StandsInImage rows u l)
       (sym (only_settled bytes c image)) stands;
 }
 
@@ -155,10 +155,10 @@ module _ (stories : List Story) (budget : ℕ) (premise : AreGiven stories budge
   abbrev pub first_of : HostState → ℕ → List Entry
   first_of w s = history_at (slice_get w.sessions s)
 
-  opened_well : (w : HostState) → IsOpened w → Sound stories budget (first_of w) (λ s. []) w
+  opened_well : (w : HostState) → IsOpenedState w → Sound stories budget (first_of w) (λ s. []) w
   opened_well w o = record {
     stays = o.quiet.reads;
-    images = λ c is. subst (λ (u : Option Row). StandsAt w.rows u c) (sym o.certain) (o.shut c is);
+    images = λ c is. subst (λ (u : Option Row). StandsInImage w.rows u c) (sym o.certain) (o.shut c is);
     journal = o.quiet.journal;
     next = subst (λ (u : Option Row). IfSome u (IsNext w.rows)) (sym o.certain) tt;
     sessions = o.quiet.sessions;
@@ -173,7 +173,7 @@ module _ (stories : List Story) (budget : ℕ) (premise : AreGiven stories budge
         record {
           turn = subst (λ (t : Option Turn). TurnFact stories budget (first_of w s) x.history t)
               (sym e.0) (sym (ap history_at at));
-          replies = ap (λ (l : List Given). replies_to s l) o.quiet.silent;
+          replies = ap (λ (l : List Given). given_replies s l) o.quiet.silent;
           rows = subst (λ (up : Bool). RowsFact stories budget s w.rows w.uncertain x up) (sym o.up) (
             same,
             subst (λ (u : Option Row). IfSome u
@@ -214,7 +214,7 @@ module _ (stories : List Story) (budget : ℕ) (premise : AreGiven stories budge
         record {
           turn = subst (λ (t : Option Turn). TurnFact stories budget (first_of w s) x.history t)
               (sym e.0) (sym (ap history_at at));
-          replies = ap (λ (l : List Given). replies_to s l) o.quiet.silent;
+          replies = ap (λ (l : List Given). given_replies s l) o.quiet.silent;
           rows = subst (λ (up : Bool). RowsFact stories budget s w.rows w.uncertain x up)
               (sym o.down) (
                 e.0,
@@ -239,7 +239,7 @@ module _ (stories : List Story) (budget : ℕ) (premise : AreGiven stories budge
   few-append [] m first second = second
   few-append (one ∷ l) m first second = (first.0, few-append l m first.1 second)
 
-  few_ended : (t : Turn) (phase : Phase) → EachFindsOneMore (ended t phase)
+  few_ended : (t : Turn) (phase : Phase) → EachFindsOneMore (turn_over t phase)
   few_ended t (Taken outcome reply) = (tt, tt)
   few_ended t (Plain outcome reply) = (tt, tt)
   few_ended t Asked = tt
@@ -249,7 +249,7 @@ module _ (stories : List Story) (budget : ℕ) (premise : AreGiven stories budge
   few_ended t Freed = tt
   few_ended t (Ready outcome) = tt
 
-  few_cut : (t : Turn) (phase : Phase) → EachFindsOneMore (cut t phase)
+  few_cut : (t : Turn) (phase : Phase) → EachFindsOneMore (turn_cut t phase)
   few_cut t (Taken outcome reply) = (tt, tt)
   few_cut t (Plain outcome reply) = tt
   few_cut t Asked = tt
@@ -350,12 +350,12 @@ module _ (stories : List Story) (budget : ℕ) (premise : AreGiven stories budge
       record {
         history =
             subst (λ (h : List Entry). y.history
-            ≡ history_of stories budget h
+            ≡ history_left stories budget h
             (all_told stories budget s w events ++ cut_at y.turn)) same
             (cut_fact stories budget (first_of w s)
             (all_told stories budget s w events) y.history y.turn known.turn);
         replies =
-            subst (λ (h : List Entry). replies_to s (run stories budget w events).given
+            subst (λ (h : List Entry). given_replies s (run stories budget w events).given
             ≡ replies_of stories budget h (all_told stories budget s w events)) same known.replies;
         recovers =
             few_all events (first_of w) (λ k. []) w start s
@@ -367,7 +367,7 @@ module _ (stories : List Story) (budget : ℕ) (premise : AreGiven stories budge
 
   -- the replies to a session of a host that has run
   pub lives_on : (w : HostState) (events : List Event) → IsStart w → (s : ℕ) (x : Session)
-      → slice_get w.sessions s ≡ Some x → replies_to s (run stories budget w events).given
+      → slice_get w.sessions s ≡ Some x → given_replies s (run stories budget w events).given
       ≡ replies_of stories budget x.history (all_told stories budget s w events)
   lives_on w events o s x at =
       let sound = run_well events (first_of w) (λ k. []) w (start_well w o) in

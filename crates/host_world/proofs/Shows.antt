@@ -14,7 +14,7 @@ use Rattle.line_words.specs.declared.request.Request.{Request}
 use Rattle.line_words.specs.declared.reply.No.{No as Refusal}
 use Rattle.line_words.specs.Request.{request_of}
 use Rattle.session_core.specs.History.{game_of}
-use Rattle.session_core.specs.Answer.{answer, decided, extended, refusal_of, show_of}
+use Rattle.session_core.specs.Answer.{answer, decided, history_extended, refusal_of, game_show}
 use Rattle.session_core.specs.Sessions.{with_budget}
 use Rattle.session_core.specs.Turning.{Turned, commands_in, decided_by, decision_on, turn_met}
 use Rattle.session_core.specs.Turning.{turn_of}
@@ -23,12 +23,12 @@ use Rattle.session_core.specs.Turning.{turn_of}
 abbrev IsSolo : List Story → List Command → Decision → Type 0
 IsSolo stories cs d =
     (s n : ℕ) (show : List ℕ) → d.reply ≡ Show s n show
-    → show ≡ show_of stories (game_of (extended cs d.accepted))
+    → show ≡ game_show stories (game_of (history_extended cs d.accepted))
 
 decided_solo : (stories : List Story) (cs : List Command) (request : Request)
     (refusal : Option Refusal)
     → IsSolo stories cs (decided stories (game_of cs)
-    (λ accepted. show_of stories (game_of (extended cs accepted))) request refusal)
+    (λ accepted. game_show stories (game_of (history_extended cs accepted))) request refusal)
 decided_solo stories cs request (Some why) s n show is = absurd cc
 decided_solo stories cs request None s n show is = sym cc
 
@@ -54,7 +54,7 @@ decision_solo stories budget cs line = read_solo stories budget cs line (request
 abbrev Alone : List Story → Turned → Type 0
 Alone stories t =
     (s n : ℕ) (show : List ℕ) → t.reply ≡ Show s n show
-    → show ≡ show_of stories (game_of (commands_in t.history))
+    → show ≡ game_show stories (game_of (commands_in t.history))
 
 -- an accepted command is the history's last one
 met_alone :
@@ -68,7 +68,7 @@ met_alone stories h by reply None (DiskFailed from to) solo s n show is = solo s
 met_alone stories h by reply None Forgotten solo s n show is = solo s n show is
 met_alone stories h by reply (Some command) Answered solo s n show is =
     solo s n show is
-    ∙ ap (λ (cs : List Command). show_of stories (game_of cs))
+    ∙ ap (λ (cs : List Command). game_show stories (game_of cs))
     (sym (commands-accepted h by command))
 met_alone stories h by reply (Some command) (DiskFailed from to) solo s n show is = absurd cc
 met_alone stories h by reply (Some command) Forgotten solo s n show is = absurd cc

@@ -3,10 +3,10 @@ use Rattle.std.proofs.Common.{Bool, List, None, Option, Some, [], false, length,
 use Rattle.std.proofs.Common.{◌≡◌}
 use Rattle.std.specs.List.{slice_get}
 use Rattle.std.specs.Prelude.{IfSome}
-use Rattle.disk_model.specs.DiskState.{IsImage}
+use Rattle.disk_model.specs.DiskState.{IsDiskImage}
 use Rattle.gate_journal.specs.Gate.{IsShut, IsUnsure}
-use Rattle.gate_journal.specs.Log.{StandsAt}
-use Rattle.gate_journal.specs.Rows.{IsJournal, IsNext, commands_of, spelled}
+use Rattle.gate_journal.specs.Log.{StandsInImage}
+use Rattle.gate_journal.specs.Rows.{IsJournal, IsNext, commands_of, journal_bytes}
 use Rattle.gate_journal.specs.declared.command.Command.{Command}
 use Rattle.gate_journal.specs.declared.row.Row.{Row}
 use Rattle.story_run.specs.declared.story.Story.{Story}
@@ -14,7 +14,7 @@ use Rattle.session_core.specs.Turning.{commands_in, decision_on, turn_of}
 use Rattle.session_core.specs.declared.entry.Entry.{Entry}
 use Rattle.session_core.specs.declared.entry.Outcome.{Outcome}
 use Rattle.session_core.specs.declared.entry.Outcome.TheVariants.{OutOfMemory}
-use Rattle.host_world.specs.Happenings.{Happening, history_of, replies_of, replies_to}
+use Rattle.host_world.specs.Happenings.{Happening, history_left, replies_of, given_replies}
 use Rattle.host_world.specs.Journal.{past_gate}
 use Rattle.host_world.specs.Pending.{OneMore, pending}
 use Rattle.host_world.specs.declared.state.HostState.{HostState}
@@ -51,20 +51,20 @@ module _ (stories : List Story) (budget : ℕ) where
   abbrev pub StepFact : HostState → Step → Type 0
   StepFact w Idle = Unit {0}
   StepFact w (RepairWrite r n) = Busy w r × ((u : Row) × (w.uncertain ≡ Some u))
-  StepFact w (RepairSync r n) = Busy w r × IsShut (spelled w.rows) w.disk.seen
+  StepFact w (RepairSync r n) = Busy w r × IsShut (journal_bytes w.rows) w.disk.seen
   StepFact w (RowWrite r n) = Busy w r × (w.uncertain ≡ None)
   StepFact w (RowSync r n) =
-      Busy w r × (w.uncertain ≡ None) × IsUnsure (spelled w.rows) (past_gate r) w.disk.seen
+      Busy w r × (w.uncertain ≡ None) × IsUnsure (journal_bytes w.rows) (past_gate r) w.disk.seen
   StepFact w (GateWrite r n) = Busy w r × (w.uncertain ≡ Some r)
   StepFact w (GateSync r n) =
-      Busy w r × (w.uncertain ≡ Some r) × IsShut (spelled (w.rows ++ r ∷ [])) w.disk.seen
+      Busy w r × (w.uncertain ≡ Some r) × IsShut (journal_bytes (w.rows ++ r ∷ [])) w.disk.seen
   StepFact w FirstSync = w.up ≡ false
-  StepFact w AskSize = (w.up ≡ false) × ((c : List ℕ) → IsImage w.disk c → c ≡ w.disk.seen)
-  StepFact w ReadAll = (w.up ≡ false) × ((c : List ℕ) → IsImage w.disk c → c ≡ w.disk.seen)
+  StepFact w AskSize = (w.up ≡ false) × ((c : List ℕ) → IsDiskImage w.disk c → c ≡ w.disk.seen)
+  StepFact w ReadAll = (w.up ≡ false) × ((c : List ℕ) → IsDiskImage w.disk c → c ≡ w.disk.seen)
   StepFact w (CloseWrite rows) =
       (w.up ≡ false) × (rows ≡ w.rows) × ((u : Row) × (w.uncertain ≡ Some u))
   StepFact w (CloseSync rows) =
-      (w.up ≡ false) × (rows ≡ w.rows) × IsShut (spelled w.rows) w.disk.seen
+      (w.up ≡ false) × (rows ≡ w.rows) × IsShut (journal_bytes w.rows) w.disk.seen
 
   abbrev pub Accepts : List Entry → Turn → Type 0
   Accepts h t =
@@ -96,14 +96,14 @@ module _ (stories : List Story) (budget : ℕ) where
 
   pub record Knows (h : List Entry) (past : List Happening) (w : HostState) (s : ℕ)
       (x : Session) : Type 0 where
-    pub turn : TurnFact (history_of stories budget h past) x.history x.turn
-    pub replies : replies_to s w.given ≡ replies_of stories budget h past
+    pub turn : TurnFact (history_left stories budget h past) x.history x.turn
+    pub replies : given_replies s w.given ≡ replies_of stories budget h past
     pub rows : RowsFact s w.rows w.uncertain x w.up
 
   pub record Sound (first : ℕ → List Entry) (past : ℕ → List Happening)
       (w : HostState) : Type 0 where
-    pub stays : IsImage w.disk w.disk.seen
-    pub images : (c : List ℕ) → IsImage w.disk c → StandsAt w.rows w.uncertain c
+    pub stays : IsDiskImage w.disk w.disk.seen
+    pub images : (c : List ℕ) → IsDiskImage w.disk c → StandsInImage w.rows w.uncertain c
     pub journal : IsJournal w.rows
     pub next : IfSome w.uncertain (IsNext w.rows)
     pub sessions : length w.sessions ≡ 64

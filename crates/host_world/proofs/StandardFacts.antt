@@ -3,19 +3,19 @@ use Rattle.std.proofs.Common.{List, None, Some, [], ap, arith, get_or, refl, sub
 use Rattle.std.proofs.Common.{◌++◌, ◌∷◌, ◌≡◌}
 use Rattle.disk_model.proofs.StateLaws.{only_settled, settled_image}
 use Rattle.disk_model.specs.Disk.{Holds}
-use Rattle.disk_model.specs.DiskState.{IsImage, settled}
+use Rattle.disk_model.specs.DiskState.{IsDiskImage, settled}
 use Rattle.gate_journal.specs.Gate.{IsShut}
-use Rattle.gate_journal.specs.Rows.{header, spelled}
+use Rattle.gate_journal.specs.Rows.{journal_header, journal_bytes}
 use Rattle.session_core.specs.Turning.{commands_in}
 use Rattle.host_world.specs.Reading.{rows_in}
-use Rattle.host_world.specs.Starts.{IsOpened, down_over}
+use Rattle.host_world.specs.Starts.{IsOpenedState, down_over}
 use Rattle.host_world.specs.declared.state.HostState.{HostState}
 use Rattle.host_world.specs.declared.turn.Session.{Session}
 use Rattle.host_world.proofs.Reopening.{found_at}
 
 -- the bytes of a journal without rows
 abbrev empty : List ℕ
-empty = header ++ 0 ∷ []
+empty = journal_header ++ 0 ∷ []
 
 -- an opened host over it
 abbrev new_host : HostState
@@ -25,13 +25,13 @@ holds_itself : (l : List ℕ) → Holds l 0 l
 holds_itself l =
     record { within = omega arith; each = λ i lt. ap (λ (k : ℕ). get_or l k 0) (omega arith) }
 
-empty_shut : (c : List ℕ) → IsImage (settled empty) c → IsShut (spelled []) c
+empty_shut : (c : List ℕ) → IsDiskImage (settled empty) c → IsShut (journal_bytes []) c
 empty_shut c image =
-    subst (λ (l : List ℕ). IsShut (spelled []) l) (sym (only_settled empty c image))
+    subst (λ (l : List ℕ). IsShut (journal_bytes []) l) (sym (only_settled empty c image))
     (holds_itself empty)
 
 -- so the headline is of hosts that there are
-new_host_is_opened : IsOpened new_host
+new_host_is_opened : IsOpenedState new_host
 new_host_is_opened = record {
   up = refl;
   quiet = record {
@@ -59,6 +59,6 @@ unfolding rows_in
 no_rows = refl
 
 -- a row of CLOSE behind an open gate can't come first: the session isn't open
-no_close : rows_in (header ++ 1 ∷ 0 ∷ 5 ∷ 0 ∷ 0 ∷ 0 ∷ []) ≡ None
+no_close : rows_in (journal_header ++ 1 ∷ 0 ∷ 5 ∷ 0 ∷ 0 ∷ 0 ∷ []) ≡ None
 unfolding rows_in
 no_close = refl

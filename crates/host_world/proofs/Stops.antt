@@ -8,10 +8,10 @@ use Rattle.std.specs.List.{slice_get}
 use Rattle.std.specs.Option.{option_map}
 use Rattle.std.specs.Prelude.{IfSome, if◌then◌else◌}
 use Rattle.disk_model.proofs.StateLaws.{only_settled, settled_image}
-use Rattle.disk_model.specs.DiskState.{IsImage}
+use Rattle.disk_model.specs.DiskState.{IsDiskImage}
 use Rattle.gate_journal.proofs.LogLemmas.{closed_unsure}
 use Rattle.gate_journal.proofs.RowLemmas.{spells_shut}
-use Rattle.gate_journal.specs.Log.{StandsAt}
+use Rattle.gate_journal.specs.Log.{StandsInImage}
 use Rattle.gate_journal.specs.Rows.{IsNext, SpellsRows, commands_of}
 use Rattle.gate_journal.specs.declared.command.Command.{Command}
 use Rattle.gate_journal.specs.declared.row.Row.{Row}
@@ -23,9 +23,9 @@ use Rattle.session_core.specs.declared.entry.Outcome.TheVariants.{Answered, Disk
 use Rattle.session_core.specs.declared.entry.Outcome.TheVariants.{OutOfMemory}
 use Rattle.disk_model.specs.Plain.{is_image}
 use Rattle.host_world.specs.Events.{stop, stopped}
-use Rattle.host_world.specs.Happenings.{Cut, Happening, cut, cut_at, cut_in, history_of, lost}
+use Rattle.host_world.specs.Happenings.{Cut, Happening, turn_cut, cut_at, cut_in, history_left, lost}
 use Rattle.host_world.specs.Happenings.{replies_of}
-use Rattle.host_world.specs.Pending.{Keeps, OneMore, listed, pending, pending_at, pending_of}
+use Rattle.host_world.specs.Pending.{KeepsCommands, OneMore, command_listed, pending, pending_at, pending_of}
 use Rattle.host_world.specs.Sessions.{without_turn}
 use Rattle.host_world.specs.declared.state.HostState.{HostState}
 use Rattle.host_world.specs.declared.turn.Phase.{Phase}
@@ -43,35 +43,35 @@ use Rattle.host_world.proofs.Sound.{Knows, PhaseFact, RowsFact, Sound, TurnFact}
 module _ (stories : List Story) (budget : ℕ) where
   -- the history is the fold of the turns given and the one whose entry is taken
   cut_phase : (h : List Entry) (past : List Happening) (x : List Entry) (t : Turn) (phase : Phase)
-      → PhaseFact stories budget (history_of stories budget h past) x t phase
-      → x ≡ history_of stories budget h (past ++ cut t phase)
+      → PhaseFact stories budget (history_left stories budget h past) x t phase
+      → x ≡ history_left stories budget h (past ++ turn_cut t phase)
   cut_phase h past x t (Taken outcome reply) fact =
       sym (history-push stories budget h past (Cut t.pass t.line outcome ∷ [])
       ∙ ap (λ (p : Turned). p.history) fact)
   cut_phase h past x t Asked fact = fact.0
-      ∙ ap (λ (l : List Happening). history_of stories budget h l) (sym (append-nil past))
+      ∙ ap (λ (l : List Happening). history_left stories budget h l) (sym (append-nil past))
   cut_phase h past x t Begun fact = fact.0
-      ∙ ap (λ (l : List Happening). history_of stories budget h l) (sym (append-nil past))
+      ∙ ap (λ (l : List Happening). history_left stories budget h l) (sym (append-nil past))
   cut_phase h past x t Kept fact = fact.0
-      ∙ ap (λ (l : List Happening). history_of stories budget h l) (sym (append-nil past))
+      ∙ ap (λ (l : List Happening). history_left stories budget h l) (sym (append-nil past))
   cut_phase h past x t (Broken from to) fact = fact.0
-      ∙ ap (λ (l : List Happening). history_of stories budget h l) (sym (append-nil past))
+      ∙ ap (λ (l : List Happening). history_left stories budget h l) (sym (append-nil past))
   cut_phase h past x t Freed fact = fact.0
-      ∙ ap (λ (l : List Happening). history_of stories budget h l) (sym (append-nil past))
+      ∙ ap (λ (l : List Happening). history_left stories budget h l) (sym (append-nil past))
   cut_phase h past x t (Ready outcome) fact = fact.0
-      ∙ ap (λ (l : List Happening). history_of stories budget h l) (sym (append-nil past))
+      ∙ ap (λ (l : List Happening). history_left stories budget h l) (sym (append-nil past))
   cut_phase h past x t (Plain outcome reply) fact = fact.0
-      ∙ ap (λ (l : List Happening). history_of stories budget h l) (sym (append-nil past))
+      ∙ ap (λ (l : List Happening). history_left stories budget h l) (sym (append-nil past))
 
   pub cut_fact : (h : List Entry) (past : List Happening) (x : List Entry) (o : Option Turn)
-      → TurnFact stories budget (history_of stories budget h past) x o
-      → x ≡ history_of stories budget h (past ++ cut_at o)
+      → TurnFact stories budget (history_left stories budget h past) x o
+      → x ≡ history_left stories budget h (past ++ cut_at o)
   cut_fact h past x None fact = fact
-      ∙ ap (λ (l : List Happening). history_of stories budget h l) (sym (append-nil past))
+      ∙ ap (λ (l : List Happening). history_left stories budget h l) (sym (append-nil past))
   cut_fact h past x (Some t) fact = cut_phase h past x t t.phase fact
 
   silent_phase : (h : List Entry) (t : Turn) (phase : Phase)
-      → replies_of stories budget h (cut t phase) ≡ []
+      → replies_of stories budget h (turn_cut t phase) ≡ []
   silent_phase h t (Taken outcome reply) = refl
   silent_phase h t Asked = refl
   silent_phase h t Begun = refl
@@ -85,7 +85,7 @@ module _ (stories : List Story) (budget : ℕ) where
   silent h None = refl
   silent h (Some t) = silent_phase h t t.phase
 
-  listed_small : (o : Option Command) → length (listed o) ≤ 1
+  listed_small : (o : Option Command) → length (command_listed o) ≤ 1
   listed_small None = omega arith
   listed_small (Some c) = omega arith
 
@@ -161,11 +161,11 @@ module _ (stories : List Story) (budget : ℕ) where
         of None is mapped = absurd (some_none y (sym mapped))
         of (Some x) is mapped = (x, is, some_same (without_turn x) y mapped)
 
-    stops : IsImage w.disk image → Sound stories budget first
+    stops : IsDiskImage w.disk image → Sound stories budget first
         (λ s. past s ++ cut_in (slice_get w.sessions s)) down_now
     stops is = record {
       stays = settled_image image;
-      images = λ c of. subst (λ (l : List ℕ). StandsAt w.rows w.uncertain l)
+      images = λ c of. subst (λ (l : List ℕ). StandsInImage w.rows w.uncertain l)
           (sym (only_settled image c of)) (sound.images image is);
       journal = sound.journal;
       next = sound.next;
@@ -182,7 +182,7 @@ module _ (stories : List Story) (budget : ℕ) where
             replies = known.replies
                 ∙ sym (replies-push stories budget (first s) (past s) (cut_at x.0.turn)
                 ∙ ap (λ (l : List Reply). replies_of stories budget (first s) (past s) ++ l)
-                (silent (history_of stories budget (first s) (past s)) x.0.turn)
+                (silent (history_left stories budget (first s) (past s)) x.0.turn)
                 ∙ append-nil (replies_of stories budget (first s) (past s)));
             rows = down_rows s w.rows w.uncertain x.0 w.up known.rows;
           });
@@ -208,16 +208,16 @@ module _ (stories : List Story) (budget : ℕ) where
       abbrev Found : List Row → Type 0
       Found rows =
           OneMore (commands_in x.history) (commands_of rows s)
-          × (w.up ≡ true → Keeps stories budget s w x rows)
+          × (w.up ≡ true → KeepsCommands stories budget s w x rows)
 
       plain : (up : Bool) → RowsFact stories budget s w.rows w.uncertain x up → up ≡ true
-          → Keeps stories budget s w x w.rows
+          → KeepsCommands stories budget s w x w.rows
       plain true fact is = inr (inl fact.0)
       plain false fact is = absurd (false_true is)
 
       with_gate : (u : Row) → w.uncertain ≡ Some u → (up : Bool)
           → RowsFact stories budget s w.rows (Some u) x up → up ≡ true
-          → Keeps stories budget s w x (w.rows ++ u ∷ [])
+          → KeepsCommands stories budget s w x (w.rows ++ u ∷ [])
       with_gate u is true fact up = elim (more_or_other s w.rows u x fact.0 fact.1) [
         | inl same ↦ inr (inl same)
         | inr one ↦ inr (inr (u.command, (u, is, one.0, refl), one.1))
@@ -227,21 +227,21 @@ module _ (stories : List Story) (budget : ℕ) where
       first_found : Found w.rows
       first_found = ((down_rows s w.rows w.uncertain x w.up rows_now).1, plain w.up rows_now)
 
-      spelled_by : (u : Option Row) → w.uncertain ≡ u → IsImage w.disk image
+      spelled_by : (u : Option Row) → w.uncertain ≡ u → IsDiskImage w.disk image
           → (rows : List Row) × SpellsRows image rows
           × OneMore (commands_in x.history) (commands_of rows s)
-          × (w.up ≡ true → Keeps stories budget s w x rows)
+          × (w.up ≡ true → KeepsCommands stories budget s w x rows)
       spelled_by None is of = (
         w.rows,
         spells_shut w.rows image sound.journal
-            (subst (λ (o : Option Row). StandsAt w.rows o image) is
+            (subst (λ (o : Option Row). StandsInImage w.rows o image) is
             (sound.images image of)),
         first_found.0,
         first_found.1,
       )
       spelled_by (Some u) is of =
           let stands =
-          subst (λ (o : Option Row). StandsAt w.rows o image) is (sound.images image of) in
+          subst (λ (o : Option Row). StandsInImage w.rows o image) is (sound.images image of) in
           let next : IsNext w.rows u =
           subst (λ (o : Option Row). IfSome o (IsNext w.rows)) is sound.next in
           let now : RowsFact stories budget s w.rows (Some u) x w.up =
@@ -256,10 +256,10 @@ module _ (stories : List Story) (budget : ℕ) where
             )
           ]
 
-      pub image_spells : IsImage w.disk image
+      pub image_spells : IsDiskImage w.disk image
           → (rows : List Row) × SpellsRows image rows
           × OneMore (commands_in x.history) (commands_of rows s)
-          × (w.up ≡ true → Keeps stories budget s w x rows)
+          × (w.up ≡ true → KeepsCommands stories budget s w x rows)
       image_spells of = spelled_by w.uncertain refl of
 
   pub stop_well : (first : ℕ → List Entry) (past : ℕ → List Happening) (w : HostState)

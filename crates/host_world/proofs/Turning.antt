@@ -13,9 +13,9 @@ use Rattle.session_core.specs.Turning.{commands_in, decision_on, turn_met, turn_
 use Rattle.session_core.specs.declared.entry.Entry.{Entry}
 use Rattle.session_core.specs.declared.entry.Outcome.TheVariants.{Answered, DiskFailed, Forgotten}
 use Rattle.session_core.specs.declared.entry.Outcome.TheVariants.{OutOfMemory}
-use Rattle.host_world.specs.Events.{accept, free, freed_by, goes_to, hold, holds, run_turn}
+use Rattle.host_world.specs.Events.{accept, free, freed_by, goes_to, hold, holds_journal, run_turn}
 use Rattle.host_world.specs.Events.{take_turn, want}
-use Rattle.host_world.specs.Happenings.{Happening, history_of, replies_to}
+use Rattle.host_world.specs.Happenings.{Happening, history_left, given_replies}
 use Rattle.host_world.specs.Pending.{pending, pending_at, pending_of}
 use Rattle.host_world.specs.Sessions.{asking, first_phase, in_phase, taking}
 use Rattle.host_world.specs.declared.state.Given.{Given}
@@ -39,20 +39,20 @@ module _ (stories : List Story) (budget : ℕ) where
     knows_of = sound.each s x at
 
     abbrev before : List Entry
-    before = history_of stories budget (first s) (past s)
+    before = history_left stories budget (first s) (past s)
 
     module _ (t : Turn) (turn : x.turn ≡ Some t) where
       pub turn_is_up : w.up ≡ true
       turn_is_up = turn_up stories budget s w.rows w.uncertain x t w.up knows_of.rows turn
 
       pub fact_at : (phase : Phase) → t.phase ≡ phase
-          → PhaseFact stories budget (history_of stories budget (first s)
+          → PhaseFact stories budget (history_left stories budget (first s)
           (past s)) x.history t phase
       fact_at phase is =
           subst (λ (p : Phase). PhaseFact stories budget
-          (history_of stories budget (first s) (past s)) x.history t p) is
+          (history_left stories budget (first s) (past s)) x.history t p) is
           (subst (λ (o : Option Turn). TurnFact stories budget
-          (history_of stories budget (first s) (past s)) x.history o) turn knows_of.turn)
+          (history_left stories budget (first s) (past s)) x.history o) turn knows_of.turn)
 
       pub pending_is : (phase : Phase) → t.phase ≡ phase
           → pending stories budget x ≡ pending_at stories budget
@@ -69,7 +69,7 @@ module _ (stories : List Story) (budget : ℕ) where
       -- from one phase to the next
       advance : (phase next : Phase) (holder : Option ℕ) → t.phase ≡ phase
           → Quiet stories budget phase → ((n : ℕ) → n ≢ s → w.holder ≡ Some n → holder ≡ Some n)
-          → PhaseFact stories budget (history_of stories budget (first s) (past s)) x.history t next
+          → PhaseFact stories budget (history_left stories budget (first s) (past s)) x.history t next
           → pending_at stories budget (commands_in x.history) t.line next
           ≡ pending_at stories budget (commands_in x.history) t.line phase
           → Sound stories budget first past (goes_to w s next holder)
@@ -83,7 +83,7 @@ module _ (stories : List Story) (budget : ℕ) where
             keeps = keeps;
             others = λ n other. (refl, refl);
             turn = reached_as next reached;
-            replies = ap (λ (l : List Given). replies_to s l) (append-nil w.given)
+            replies = ap (λ (l : List Given). given_replies s l) (append-nil w.given)
                 ∙ knows_of.replies;
             rows = ap (λ (l : List Command). commands_in x.history ++ l)
                 (same ∙ sym (pending_is phase is));
@@ -91,8 +91,8 @@ module _ (stories : List Story) (budget : ℕ) where
           }) sound)
         where
           reached_as : (p : Phase) → PhaseFact stories budget
-              (history_of stories budget (first s) (past s)) x.history t p
-              → PhaseFact stories budget (history_of stories budget (first s) (past s)) x.history
+              (history_left stories budget (first s) (past s)) x.history t p
+              → PhaseFact stories budget (history_left stories budget (first s) (past s)) x.history
               (record t { phase = next }) p
           reached_as Asked f = f
           reached_as Begun f = f
@@ -104,10 +104,10 @@ module _ (stories : List Story) (budget : ℕ) where
           reached_as (Plain outcome reply) f = f
 
       no_room : (h : List Entry) → h ≡ before
-          → turn_of stories budget (history_of stories budget (first s)
+          → turn_of stories budget (history_left stories budget (first s)
           (past s)) t.pass t.line OutOfMemory ≡ record { reply = No NoMemory; history = h }
       no_room h is =
-          turn_is stories budget (history_of stories budget (first s)
+          turn_is stories budget (history_left stories budget (first s)
           (past s)) t.pass t.line OutOfMemory
           ∙ ap (λ (l : List Entry). record { reply = No NoMemory; history = l }) (sym is)
 
@@ -151,11 +151,11 @@ module _ (stories : List Story) (budget : ℕ) where
       run_kept good (Ready outcome) is = sound
       run_kept good (Taken outcome reply) is = sound
 
-      free_keeps : holds w s ≡ true → (n : ℕ) → n ≢ s → w.holder ≡ Some n → None ≡ Some n
+      free_keeps : holds_journal w s ≡ true → (n : ℕ) → n ≢ s → w.holder ≡ Some n → None ≡ Some n
       free_keeps mine n other held =
           absurd (false_true (sym (held_is stories budget w.holder s n other held) ∙ mine))
 
-      pub free_kept : holds w s ≡ true → (phase : Phase) → t.phase ≡ phase
+      pub free_kept : holds_journal w s ≡ true → (phase : Phase) → t.phase ≡ phase
           → Sound stories budget first past (free w s (Some phase))
       free_kept mine Kept is =
           advance Kept Freed None is tt (free_keeps mine) (fact_at Kept is) refl
@@ -181,7 +181,7 @@ module _ (stories : List Story) (budget : ℕ) where
             keeps = λ n other held. absurd (some_none n (sym held ∙ nobody));
             others = λ n other. (refl, refl);
             turn = knows_of.turn;
-            replies = ap (λ (l : List Given). replies_to s l) (append-nil w.given)
+            replies = ap (λ (l : List Given). given_replies s l) (append-nil w.given)
                 ∙ knows_of.replies;
             rows = refl;
             none = λ none. none;
@@ -218,7 +218,7 @@ module _ (stories : List Story) (budget : ℕ) where
             others = λ n other. (refl, refl);
             turn = ap (λ (l : List Entry). turn_of stories budget l t.pass t.line outcome)
                 (sym f.0);
-            replies = ap (λ (l : List Given). replies_to s l) (append-nil w.given)
+            replies = ap (λ (l : List Given). given_replies s l) (append-nil w.given)
                 ∙ knows_of.replies;
             rows = rows;
             none = λ none. refl;
@@ -276,11 +276,11 @@ module _ (stories : List Story) (budget : ℕ) where
           quiet = λ t stands starts. some_none t (sym stands ∙ is);
           keeps = λ n other held. held;
           others = λ n other. (refl, refl);
-          turn = first_fact pass line (history_of stories budget (first s) (past s)) x.history
+          turn = first_fact pass line (history_left stories budget (first s) (past s)) x.history
               (decision_on stories budget (commands_in x.history) line).accepted
               (subst (λ (o : Option Turn). TurnFact stories budget
-              (history_of stories budget (first s) (past s)) x.history o) is knows_of.turn) refl;
-          replies = ap (λ (l : List Given). replies_to s l) (append-nil w.given) ∙ knows_of.replies;
+              (history_left stories budget (first s) (past s)) x.history o) is knows_of.turn) refl;
+          replies = ap (λ (l : List Given). given_replies s l) (append-nil w.given) ∙ knows_of.replies;
           rows = ap (λ (l : List Command). commands_in x.history ++ l) (p ∙ sym nothing);
           none = λ none. p;
         }) sound)

@@ -10,10 +10,10 @@ use Rattle.disk_model.specs.Plain.{is_image}
 use Rattle.story_run.specs.declared.story.Story.{Story}
 use Rattle.store_events.specs.declared.event.Event.TheVariants as files
 use Rattle.store_events.specs.declared.state.StoreState.{StoreState}
-use Rattle.store_events.specs.Events.{opens}
-use Rattle.store_events.specs.Events.{after as file_after}
+use Rattle.store_events.specs.Events.{begins_opening}
+use Rattle.store_events.specs.Events.{file_after}
 use Rattle.host_world.specs.Events.{after, run}
-use Rattle.host_world.specs.Whole.{are_images, closes, fails_at, is_up, no_put, stopped_files}
+use Rattle.host_world.specs.Whole.{are_images, closes_host, fails_at, is_up, no_put, stopped_files}
 use Rattle.host_world.specs.Keeping.{with_event}
 use Rattle.host_world.specs.Whole.{whole_after, with_files, with_host}
 use Rattle.host_world.specs.declared.event.Event.{Event}
@@ -143,11 +143,11 @@ module _ (stories : List Story) (budget : ℕ) (w : WholeState) where
       → (disk == 0) ≡ false → w.host.up ≡ true
       → fails_at (slice_get w.stores (disk - 1)) good reads ≡ true
       → mid ≡ with_files w (with_event w.stores (disk - 1) (files.Call good reads))
-      → new ≡ with_host mid (run stories budget mid.host (closes mid.host))
+      → new ≡ with_host mid (run stories budget mid.host (closes_host mid.host))
       → new ≡ whole_after stories budget w (Call disk good reads)
   called_is disk good reads mid new other up fails mid_is is =
       is
-      ∙ ap (λ (m : WholeState). with_host m (run stories budget m.host (closes m.host))) mid_is
+      ∙ ap (λ (m : WholeState). with_host m (run stories budget m.host (closes_host m.host))) mid_is
       ∙ rw (other, up, fails) refl
 
   pub stops_is : (image : List ℕ) (images : List (List ℕ)) (mid new : WholeState)
@@ -167,23 +167,23 @@ module _ (stories : List Story) (budget : ℕ) (w : WholeState) where
       both = ap (λ (b : Bool). b && are_images w.stores images) first ∙ others
 
   abbrev closed_up : List Event
-  closed_up = if w.host.up then closes w.host else []
+  closed_up = if w.host.up then closes_host w.host else []
 
   pub recovers_is : (closed begun new : WholeState) → is_up w ≡ false
       → closed ≡ with_host w (run stories budget w.host closed_up)
       → begun ≡ with_host closed (after stories budget closed.host journal.Recover)
-      → new ≡ with_files begun (map opens begun.stores)
+      → new ≡ with_files begun (map begins_opening begun.stores)
       → new ≡ whole_after stories budget w Recover
   recovers_is closed begun new down closed_is begun_is is =
       is
-      ∙ ap (λ (m : WholeState). with_files m (map opens m.stores)) begun_is
+      ∙ ap (λ (m : WholeState). with_files m (map begins_opening m.stores)) begun_is
       ∙ ap (λ (m : WholeState). record {
         host = after stories budget m.host journal.Recover;
-        stores = map opens m.stores;
+        stores = map begins_opening m.stores;
       }) closed_is
-      ∙ ap (λ (h : HostState). record { host = h; stores = map opens w.stores })
+      ∙ ap (λ (h : HostState). record { host = h; stores = map begins_opening w.stores })
       (sym (run-append stories budget closed_up (journal.Recover ∷ []) w.host))
       ∙ ap (λ (b : Bool). record {
         host = run stories budget w.host (if b then [] else closed_up ++ journal.Recover ∷ []);
-        stores = if b then w.stores else map opens w.stores;
+        stores = if b then w.stores else map begins_opening w.stores;
       }) (sym down)

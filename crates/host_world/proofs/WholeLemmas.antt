@@ -14,21 +14,21 @@ use Rattle.session_saves.specs.Agreement.{Agrees}
 use Rattle.store_events.specs.declared.event.Event.{Event as FileEvent}
 use Rattle.store_events.specs.declared.event.Event.TheVariants as files
 use Rattle.store_events.specs.declared.state.StoreState.{StoreState}
-use Rattle.store_events.specs.Events.{opens}
-use Rattle.store_events.specs.Events.{after as file_after}
-use Rattle.store_events.specs.Rows.{session_of, told_of}
+use Rattle.store_events.specs.Events.{begins_opening}
+use Rattle.store_events.specs.Events.{file_after}
+use Rattle.store_events.specs.Rows.{session_in_rows, told_of}
 use Rattle.store_events.specs.Session.{Does, EachMissesNone, IsInAgreement, IsUpToDate}
 use Rattle.store_events.specs.Session.{MayCome, SessionState}
 use Rattle.store_events.proofs.AreaLemmas.{opens_areas}
 use Rattle.store_events.proofs.RowLemmas.{begins_by_rows, rows_are_told}
 use Rattle.store_events.proofs.SessionLemmas.{stays_in_agreement, warms_in_sixteen}
 use Rattle.store_events.proofs.SteadyLemmas.{opens_steady}
-use Rattle.host_world.specs.Events.{after, holds, run}
+use Rattle.host_world.specs.Events.{after, holds_journal, run}
 use Rattle.host_world.specs.Happenings.{Happening, all_told}
 use Rattle.host_world.specs.Headline.{AreGiven}
 use Rattle.host_world.specs.Keeping.{IsOwnSnapshot, file_set, put_begun, with_event}
 use Rattle.host_world.specs.Puts.{AreOwnPuts, IsOwnPut}
-use Rattle.host_world.specs.Whole.{all_to_host, are_images, closes, fails_at, is_up, no_put, put_of}
+use Rattle.host_world.specs.Whole.{all_to_host, are_images, closes_host, fails_at, is_up, no_put, put_of}
 use Rattle.host_world.specs.Whole.{stopped_files, to_files, to_host, whole_after, whole_run}
 use Rattle.host_world.specs.WholeHeadline.{EachInAgreement, FilesAgree, LivesAsHost}
 use Rattle.host_world.specs.WholeHeadline.{NoneAreMissed, NoneIsMissed}
@@ -98,7 +98,7 @@ stopped_at (u ∷ stores) (image ∷ images) (suc s) y is = stopped_at stores im
 -- ---- an opening begins again
 
 opens_agrees : (stories : List Story) (x : SessionState) → IsInAgreement stories x
-    → IsInAgreement stories (record x { store = opens x.store })
+    → IsInAgreement stories (record x { store = begins_opening x.store })
 opens_agrees stories x kept = record {
   steady = opens_steady x.store kept.steady;
   areas = opens_areas (Agrees stories x.rows x.game) x.store kept.areas;
@@ -109,24 +109,24 @@ module _ (stories : List Story) where
   -- ---- a row more
 
   grown : (s : ℕ) (store : StoreState) (rows new : List Row) → IsJournal rows → Grows rows new
-      → IsInAgreement stories (session_of rows s store)
-      → IsInAgreement stories (session_of new s store)
+      → IsInAgreement stories (session_in_rows rows s store)
+      → IsInAgreement stories (session_in_rows new s store)
   grown s store rows new all (inl same) agrees =
-      subst (λ (l : List Row). IsInAgreement stories (session_of l s store)) (sym same) agrees
+      subst (λ (l : List Row). IsInAgreement stories (session_in_rows l s store)) (sym same) agrees
   grown s store rows new all (inr (r, next, is)) agrees =
       let told = rows_are_told stories rows r s store all next in
-      subst (λ (l : List Row). IsInAgreement stories (session_of l s store)) (sym is)
+      subst (λ (l : List Row). IsInAgreement stories (session_in_rows l s store)) (sym is)
       (subst (λ (y : SessionState). IsInAgreement stories y) (sym told.0)
-      ((stays_in_agreement stories).goes_on (session_of rows s store) (told_of r s) agrees told.1))
+      ((stays_in_agreement stories).goes_on (session_in_rows rows s store) (told_of r s) agrees told.1))
 
   dated : (s : ℕ) (store : StoreState) (rows : List Row) (r : Row) → IsJournal rows → IsNext rows r
-      → IsInAgreement stories (session_of rows s store)
-      → EachMissesNone (session_of rows s store) (told_of r s)
-      → IsUpToDate (session_of rows s store) → IsUpToDate (session_of (rows ++ r ∷ []) s store)
+      → IsInAgreement stories (session_in_rows rows s store)
+      → EachMissesNone (session_in_rows rows s store) (told_of r s)
+      → IsUpToDate (session_in_rows rows s store) → IsUpToDate (session_in_rows (rows ++ r ∷ []) s store)
   dated s store rows r all next agrees misses date =
       let told = rows_are_told stories rows r s store all next in
       subst (λ (y : SessionState). IsUpToDate y) (sym told.0)
-      ((warms_in_sixteen stories).goes_on (session_of rows s store) (told_of r s) agrees told.1
+      ((warms_in_sixteen stories).goes_on (session_in_rows rows s store) (told_of r s) agrees told.1
       date misses)
 
   -- ---- an event, to a file
@@ -136,7 +136,7 @@ module _ (stories : List Story) where
   FileStep x y =
       (y ≡ x.store)
       ⊎ ((event : FileEvent) × MayCome stories x (Does event) × (y ≡ file_after x.store event))
-      ⊎ (y ≡ opens x.store)
+      ⊎ (y ≡ begins_opening x.store)
 
   step_agrees : (x : SessionState) (y : StoreState) → FileStep x y → IsInAgreement stories x
       → IsInAgreement stories (record x { store = y })
@@ -161,7 +161,7 @@ module _ (stories : List Story) where
 
   module _ (budget : ℕ) (w : WholeState) where
     abbrev x_of : ℕ → StoreState → SessionState
-    x_of s x = session_of w.host.rows s x
+    x_of s x = session_in_rows w.host.rows s x
 
     -- it is what became of the session's file
     abbrev FileOf : ℕ → StoreState → Type 0
@@ -237,11 +237,11 @@ module _ (stories : List Story) where
         )) at
     files_of Recover own s y at = of (is_up w) at
       where
-        of : (b : Bool) → slice_get (if b then w.stores else map opens w.stores) s ≡ Some y
+        of : (b : Bool) → slice_get (if b then w.stores else map begins_opening w.stores) s ≡ Some y
             → FileOf s y
         of true at = as_it_is s y at
         of false at =
-            let found = map_at opens w.stores s y at in
+            let found = map_at begins_opening w.stores s y at in
             (found.0, found.1, inr (inr found.2))
 
   -- ---- an event, to the rows
@@ -273,7 +273,7 @@ module _ (stories : List Story) where
     if_one event one true same = by_one event one same
     if_one event one false same = inl refl
 
-    closed_rows : (b : Bool) → (run stories budget w.host (if b then closes w.host else [])).rows
+    closed_rows : (b : Bool) → (run stories budget w.host (if b then closes_host w.host else [])).rows
         ≡ w.host.rows
     closed_rows true = stop_rows w.host (w.host.disk.seen ∷ [])
     closed_rows false = refl
@@ -285,7 +285,7 @@ module _ (stories : List Story) where
     stopped_rows false image = refl
 
     reopened_rows : (b up : Bool) → (run stories budget w.host (if up then []
-        else (if b then closes w.host else []) ++ journal.Recover ∷ [])).rows ≡ w.host.rows
+        else (if b then closes_host w.host else []) ++ journal.Recover ∷ [])).rows ≡ w.host.rows
     reopened_rows b true = refl
     reopened_rows true false =
         let v = after stories budget w.host (journal.Stop (w.host.disk.seen ∷ [])) in
@@ -302,7 +302,7 @@ module _ (stories : List Story) where
         of : (b : Bool) → (disk == 0) ≡ b → WholeStep (Call disk good reads)
             (if b then journal.Call 0 good reads ∷ []
             else if w.host.up && fails_at (slice_get w.stores (disk - 1)) good reads
-            then closes w.host else [])
+            then closes_host w.host else [])
         of true is =
             by_one (Call disk good reads) (journal.Call 0 good reads)
             (ap (λ (b : Bool). if b then w.stores
@@ -339,27 +339,27 @@ module _ (stories : List Story) where
         let found = files_of budget w event own s y at in
         grown s y w.host.rows (run stories budget w.host (to_host w event)).rows sound.journal
         (rows_grow event)
-        (step_agrees (session_of w.host.rows s found.0) y found.2 (all s found.0 found.1))
+        (step_agrees (session_in_rows w.host.rows s found.0) y found.2 (all s found.0 found.1))
 
     session_dates : (event : WholeEvent) → IsOwnPut stories w event → (s : ℕ)
         → EachInAgreement stories budget w
         → NoneIsMissed stories budget s w event
         → ((x : StoreState) → slice_get w.stores s ≡ Some x
-        → IsUpToDate (session_of w.host.rows s x))
+        → IsUpToDate (session_in_rows w.host.rows s x))
         → (y : StoreState) → slice_get (to_files stories w event) s ≡ Some y
-        → IsUpToDate (session_of (run stories budget w.host (to_host w event)).rows s y)
+        → IsUpToDate (session_in_rows (run stories budget w.host (to_host w event)).rows s y)
     session_dates event own s all none date y at = of (whole_step event)
       where
-        of : WholeStep event (to_host w event) → IsUpToDate (session_of
+        of : WholeStep event (to_host w event) → IsUpToDate (session_in_rows
             (run stories budget w.host (to_host w event)).rows s y)
         of (inl same) =
             let found = files_of budget w event own s y at in
-            subst (λ (l : List Row). IsUpToDate (session_of l s y)) (sym same)
-            (step_dates (session_of w.host.rows s found.0) y found.2 (all s found.0 found.1)
+            subst (λ (l : List Row). IsUpToDate (session_in_rows l s y)) (sym same)
+            (step_dates (session_in_rows w.host.rows s found.0) y found.2 (all s found.0 found.1)
             (date found.0 found.1))
         of (inr (r, next, is, files_same)) =
             let there = subst (λ (l : List StoreState). slice_get l s ≡ Some y) files_same at in
-            subst (λ (l : List Row). IsUpToDate (session_of l s y)) (sym is)
+            subst (λ (l : List Row). IsUpToDate (session_in_rows l s y)) (sym is)
             (dated s y w.host.rows r sound.journal next (all s y there) (none y r there is)
             (date y there))
 
@@ -382,10 +382,10 @@ module _ (stories : List Story) where
         (past : ℕ → List Happening) → Sound stories budget first past w.host
         → EachInAgreement stories budget w → AreOwnPuts stories budget w events
         → (s : ℕ) → ((x : StoreState) → slice_get w.stores s ≡ Some x
-        → IsUpToDate (session_of w.host.rows s x))
+        → IsUpToDate (session_in_rows w.host.rows s x))
         → NoneAreMissed stories budget s w events
         → (y : StoreState) → slice_get (whole_run stories budget w events).stores s ≡ Some y
-        → IsUpToDate (session_of (whole_run stories budget w events).host.rows s y)
+        → IsUpToDate (session_in_rows (whole_run stories budget w events).host.rows s y)
     all_date [] w first past sound all own s date none y at = date y at
     all_date (event ∷ events) w first past sound all own s date none y at =
         all_date events (whole_after stories budget w event) first
@@ -412,7 +412,7 @@ module _ (stories : List Story) where
         agree,
         (λ s x image at is.
             (stays_in_agreement stories).shows
-            (session_of (whole_run stories budget w events).host.rows s x) image (agree s x at) is),
+            (session_in_rows (whole_run stories budget w events).host.rows s x) image (agree s x at) is),
       )
 
   pub session_warms : (budget : ℕ) (w : WholeState) (events : List WholeEvent)
@@ -424,9 +424,9 @@ module _ (stories : List Story) where
       let agree = (files_agree budget w events own premise start all).0 in
       let up = all_date budget premise events w (first_of stories budget premise w.host) (λ t. [])
       (start_well stories budget premise w.host start) all own s
-      (λ x here. subst (λ (z : StoreState). IsUpToDate (session_of w.host.rows s z))
+      (λ x here. subst (λ (z : StoreState). IsUpToDate (session_in_rows w.host.rows s z))
       (one_file first x (sym at ∙ here)) date) none last there in
-      (warms_in_sixteen stories).warms (session_of v.host.rows s last) place image
+      (warms_in_sixteen stories).warms (session_in_rows v.host.rows s last) place image
       (agree s last there) up row is
     where
       one_file : (x y : StoreState) → Some x ≡ Some y → x ≡ y
@@ -493,7 +493,7 @@ may_begin journal files rows all shut =
       down_starts journal rows all shut,
       (λ stories budget agreed s x at.
           let found = file_of files s x at in
-          subst (λ (l : List Row). IsInAgreement stories (session_of l s x)) (sym same)
-          (subst (λ (z : StoreState). IsInAgreement stories (session_of rows s z)) (sym found.2)
+          subst (λ (l : List Row). IsInAgreement stories (session_in_rows l s x)) (sym same)
+          (subst (λ (z : StoreState). IsInAgreement stories (session_in_rows rows s z)) (sym found.2)
           (begins_by_rows stories rows s found.0 all (agreed s found.0 found.1)))),
     )

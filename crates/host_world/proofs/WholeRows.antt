@@ -4,21 +4,21 @@ use Rattle.std.proofs.Common.{length, Option, Some, None, refl, sym, ap, subst}
 use Rattle.std.specs.Prelude.{IfSome, if◌then◌else◌, slice_index}
 use Rattle.std.specs.List.{slice_get}
 use Rattle.disk_model.specs.Plain.{is_image}
-use Rattle.gate_journal.specs.Rows.{IsNext, spelled}
+use Rattle.gate_journal.specs.Rows.{IsNext, journal_bytes}
 use Rattle.gate_journal.specs.declared.row.Row.{Row}
 use Rattle.line_words.specs.declared.reply.Reply.{Reply}
 use Rattle.story_run.specs.declared.story.Story.{Story}
 use Rattle.session_core.specs.declared.entry.Entry.{Entry}
 use Rattle.store_events.specs.Disk.{disk_after, may_work}
 use Rattle.host_world.specs.Events.{accept, accept_at, accept_turn, after, begun, call_next, free}
-use Rattle.host_world.specs.Events.{gives, hold, holds, run_turn, stop, stopped, take_turn, takes_at}
+use Rattle.host_world.specs.Events.{gives_reply, hold, holds_journal, run_turn, stop, stopped, take_turn, takes_at}
 use Rattle.host_world.specs.Events.{want}
 use Rattle.host_world.specs.Happenings.{Happening}
 use Rattle.host_world.specs.Headline.{AreGiven}
-use Rattle.host_world.specs.Journal.{called, comes_up, failed, looked, next_call, onward, with_disk}
+use Rattle.host_world.specs.Journal.{host_called, comes_up, failed, looked, next_call, onward, with_disk}
 use Rattle.host_world.specs.Journal.{with_fault}
 use Rattle.host_world.specs.Reading.{rows_in}
-use Rattle.host_world.specs.Sessions.{answer_in, phase_of}
+use Rattle.host_world.specs.Sessions.{ready_reply, phase_of}
 use Rattle.store_events.specs.declared.disk.DiskCall.{DiskCall}
 use Rattle.host_world.specs.declared.event.Event.{Event}
 use Rattle.host_world.specs.declared.event.Event.TheVariants.{Accept, Call, Free, Give, Hold}
@@ -91,7 +91,7 @@ run_rows w s found (Some (Ready outcome)) = refl
 run_rows w s found (Some (Taken outcome reply)) = refl
 run_rows w s found (Some (Plain outcome reply)) = refl
 
-give_rows : (w : HostState) (s : ℕ) (o : Option Reply) → (gives w s o).rows ≡ w.rows
+give_rows : (w : HostState) (s : ℕ) (o : Option Reply) → (gives_reply w s o).rows ≡ w.rows
 give_rows w s None = refl
 give_rows w s (Some reply) = refl
 
@@ -150,7 +150,7 @@ module _ (stories : List Story) (budget : ℕ) where
   looked_rows : (v : HostState) (o : Option (List Row)) → v.up ≡ false → GrowsOrRises v (looked v o)
   looked_rows v None down = inl (inl refl)
   looked_rows v (Some rows) down =
-      of (slice_index v.disk.seen (length (spelled rows)) == 0)
+      of (slice_index v.disk.seen (length (journal_bytes rows)) == 0)
     where
       of : (b : Bool) → GrowsOrRises v
           (if b then comes_up v rows else record v { step = CloseWrite rows })
@@ -190,7 +190,7 @@ module _ (stories : List Story) (budget : ℕ) where
 
   called_rows : (w v : HostState) → w.rows ≡ v.rows → (good : Bool) (reads : List ℕ) (step : Step)
       → StepFact stories budget v step → (call : Option DiskCall)
-      → GrowsOrRises v (called w v good reads step call)
+      → GrowsOrRises v (host_called w v good reads step call)
   called_rows w v same good reads step fact None = inl (inl same)
   called_rows w v same true reads step fact (Some call) = of (may_work call)
     where
@@ -257,11 +257,11 @@ module _ (stories : List Story) (budget : ℕ) where
     after_rows (Hold s) = inl (hold_rows w s (phase_of (slice_get w.sessions s)) w.holder)
     after_rows (Call disk good reads) = call_rows disk good reads
     after_rows (Free s) =
-        inl (if_rows w (free w s (phase_of (slice_get w.sessions s))) (holds w s)
+        inl (if_rows w (free w s (phase_of (slice_get w.sessions s))) (holds_journal w s)
         (free_rows w s (phase_of (slice_get w.sessions s))))
     after_rows (Run s found) = inl (run_rows w s found (phase_of (slice_get w.sessions s)))
     after_rows (Accept s) = inl (accepts_rows w s (slice_get w.sessions s))
     after_rows (Give s) =
-        inl (give_rows w s (answer_in (phase_of (slice_get w.sessions s))))
+        inl (give_rows w s (ready_reply (phase_of (slice_get w.sessions s))))
     after_rows (Stop images) = inl (stop_rows w images)
     after_rows Recover = inl (recover_rows w w.up)

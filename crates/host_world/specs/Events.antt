@@ -26,21 +26,21 @@ use Rattle.host_world.specs.declared.event.Event.{Event}
 use Rattle.host_world.specs.declared.event.Event.TheVariants.{Take, Want, Hold, Call, Free, Run}
 use Rattle.host_world.specs.declared.event.Event.TheVariants.{Accept, Give, Stop, Recover}
 use Rattle.disk_model.specs.Plain.{is_image}
-use Rattle.host_world.specs.Journal.{next_call, sessions_with, called}
+use Rattle.host_world.specs.Journal.{next_call, sessions_with, host_called}
 use Rattle.host_world.specs.Sessions.{phase_of, asking, taking, without_turn, in_phase}
-use Rattle.host_world.specs.Sessions.{answer_in, turn_ended}
+use Rattle.host_world.specs.Sessions.{ready_reply, turn_ended}
 
 -- this session holds the journal
 abbrev pub held_by : Option ℕ → ℕ → Bool
 held_by None s = false
 held_by (Some t) s = t == s
 
-abbrev pub holds : HostState → ℕ → Bool
-holds w s = held_by w.holder s
+abbrev pub holds_journal : HostState → ℕ → Bool
+holds_journal w s = held_by w.holder s
 
 -- who holds the journal where this session gives it back
 abbrev pub freed_by : HostState → ℕ → Option ℕ
-freed_by w s = if holds w s then None else w.holder
+freed_by w s = if holds_journal w s then None else w.holder
 
 -- the turn of a session goes on to this phase
 abbrev pub goes_to : HostState → ℕ → Phase → Option ℕ → HostState
@@ -75,9 +75,9 @@ abbrev pub with_session : HostState → ℕ → Session → HostState
 with_session w s x = record w { sessions = set w.sessions s x }
 
 -- Give: the reply that is ready is given, and the turn is over
-abbrev pub gives : HostState → ℕ → Option Reply → HostState
-gives w s None = w
-gives w s (Some reply) =
+abbrev pub gives_reply : HostState → ℕ → Option Reply → HostState
+gives_reply w s None = w
+gives_reply w s (Some reply) =
     record w {
       sessions = turn_ended w.sessions s (slice_get w.sessions s);
       given = w.given ++ record { session = s; reply = reply } ∷ [];
@@ -113,7 +113,7 @@ stop w images = w
 
 -- Call: the next call of the journal's disk
 abbrev pub call_next : HostState → HostState → Bool → List ℕ → HostState
-call_next w new good reads = called w new good reads new.step (next_call new.rows new.step)
+call_next w new good reads = host_called w new good reads new.step (next_call new.rows new.step)
 
 -- by the stories that the host was handed and the budget of its turns
 module _ (stories : List Story) (budget : ℕ) where
@@ -152,15 +152,15 @@ module _ (stories : List Story) (budget : ℕ) where
       }
   begin_append w s x t phase accepted = w
 
-  abbrev pub begin_turn : HostState → ℕ → Session → Option Turn → HostState
-  begin_turn w s x None = w
-  begin_turn w s x (Some t) =
+  abbrev pub begin_session_turn : HostState → ℕ → Session → Option Turn → HostState
+  begin_session_turn w s x None = w
+  begin_session_turn w s x (Some t) =
       begin_append w s x t t.phase
       (decision_on stories budget (commands_in x.history) t.line).accepted
 
   abbrev pub begin_session : HostState → ℕ → Option Session → HostState
   begin_session w s None = w
-  begin_session w s (Some x) = begin_turn w s x x.turn
+  begin_session w s (Some x) = begin_session_turn w s x x.turn
 
   abbrev pub begin_held : HostState → Step → Option ℕ → HostState
   begin_held w Idle (Some s) = begin_session w s (slice_get w.sessions s)
@@ -176,10 +176,10 @@ module _ (stories : List Story) (budget : ℕ) where
   after w (Want s) = want w s (phase_of (slice_get w.sessions s))
   after w (Hold s) = hold w s (phase_of (slice_get w.sessions s)) w.holder
   after w (Call disk good reads) = if disk == 0 then call_next w (begun w) good reads else w
-  after w (Free s) = if holds w s then free w s (phase_of (slice_get w.sessions s)) else w
+  after w (Free s) = if holds_journal w s then free w s (phase_of (slice_get w.sessions s)) else w
   after w (Run s found) = run_turn w s found (phase_of (slice_get w.sessions s))
   after w (Accept s) = accept_at w s (slice_get w.sessions s)
-  after w (Give s) = gives w s (answer_in (phase_of (slice_get w.sessions s)))
+  after w (Give s) = gives_reply w s (ready_reply (phase_of (slice_get w.sessions s)))
   after w (Stop images) = stop w images
   after w Recover = if w.up then w else record w { step = FirstSync }
 

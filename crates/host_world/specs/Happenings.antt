@@ -18,7 +18,7 @@ use Rattle.host_world.specs.declared.state.HostState.{HostState}
 use Rattle.host_world.specs.declared.event.Event.{Event}
 use Rattle.host_world.specs.declared.event.Event.TheVariants.{Call, Give, Stop}
 use Rattle.disk_model.specs.Plain.{is_image}
-use Rattle.host_world.specs.Sessions.{found}
+use Rattle.host_world.specs.Sessions.{history_found}
 use Rattle.host_world.specs.Events.{after}
 
 -- What a session lived through: a turn, with its pass, its line and what it met; one whose entry
@@ -30,27 +30,27 @@ pub data Happening : Type 0 where
   Opened : List Command → Happening
 
 -- a turn ends when its reply is given
-abbrev pub ended : Turn → Phase → List Happening
-ended t (Taken outcome reply) = Ended t.pass t.line outcome ∷ []
-ended t (Plain outcome reply) = Ended t.pass t.line outcome ∷ []
-ended t phase = []
+abbrev pub turn_over : Turn → Phase → List Happening
+turn_over t (Taken outcome reply) = Ended t.pass t.line outcome ∷ []
+turn_over t (Plain outcome reply) = Ended t.pass t.line outcome ∷ []
+turn_over t phase = []
 
 abbrev pub ended_at : Option Turn → List Happening
 ended_at None = []
-ended_at (Some t) = ended t t.phase
+ended_at (Some t) = turn_over t t.phase
 
 abbrev pub ended_in : Option Session → List Happening
 ended_in None = []
 ended_in (Some x) = ended_at x.turn
 
 -- the turn under way, once its entry is taken
-abbrev pub cut : Turn → Phase → List Happening
-cut t (Taken outcome reply) = Cut t.pass t.line outcome ∷ []
-cut t phase = []
+abbrev pub turn_cut : Turn → Phase → List Happening
+turn_cut t (Taken outcome reply) = Cut t.pass t.line outcome ∷ []
+turn_cut t phase = []
 
 abbrev pub cut_at : Option Turn → List Happening
 cut_at None = []
-cut_at (Some t) = cut t t.phase
+cut_at (Some t) = turn_cut t t.phase
 
 abbrev pub cut_in : Option Session → List Happening
 cut_in None = []
@@ -75,10 +75,10 @@ lost s w (image ∷ []) =
 lost s w images = []
 
 -- the replies given to a session
-abbrev pub replies_to : ℕ → List Given → List Reply
-replies_to s [] = []
-replies_to s (given ∷ more) =
-    if given.session == s then given.reply ∷ replies_to s more else replies_to s more
+abbrev pub given_replies : ℕ → List Given → List Reply
+given_replies s [] = []
+given_replies s (given ∷ more) =
+    if given.session == s then given.reply ∷ given_replies s more else given_replies s more
 
 module _ (stories : List Story) (budget : ℕ) where
   -- what an event tells of a session
@@ -95,14 +95,14 @@ module _ (stories : List Story) (budget : ℕ) where
       told s w event ++ all_told s (after stories budget w event) events
 
   -- the history that these leave
-  abbrev pub history_of : List Entry → List Happening → List Entry
-  history_of history [] = history
-  history_of history (Ended pass line outcome ∷ more) =
-      history_of (turn_of stories budget history pass line outcome).history more
-  history_of history (Cut pass line outcome ∷ more) =
-      history_of (turn_of stories budget history pass line outcome).history more
-  history_of history (Opened commands ∷ more) =
-      history_of (found (commands_in history ++ commands)) more
+  abbrev pub history_left : List Entry → List Happening → List Entry
+  history_left history [] = history
+  history_left history (Ended pass line outcome ∷ more) =
+      history_left (turn_of stories budget history pass line outcome).history more
+  history_left history (Cut pass line outcome ∷ more) =
+      history_left (turn_of stories budget history pass line outcome).history more
+  history_left history (Opened commands ∷ more) =
+      history_left (history_found (commands_in history ++ commands)) more
 
   -- the replies of the turns among them
   abbrev pub replies_of : List Entry → List Happening → List Reply
@@ -113,4 +113,4 @@ module _ (stories : List Story) (budget : ℕ) where
   replies_of history (Cut pass line outcome ∷ more) =
       replies_of (turn_of stories budget history pass line outcome).history more
   replies_of history (Opened commands ∷ more) =
-      replies_of (found (commands_in history ++ commands)) more
+      replies_of (history_found (commands_in history ++ commands)) more

@@ -1,7 +1,7 @@
 -- The headline: what holds of each session, whatever happens in whatever order (own).
 use Rattle.std.specs.Prelude.{◌≡◌, ℕ, ◌≤◌, true, List, [], ◌∷◌, ◌++◌, length, map, Some, None}
 use Rattle.std.specs.List.{slice_get}
-use Rattle.disk_model.specs.DiskState.{IsImage}
+use Rattle.disk_model.specs.DiskState.{IsDiskImage}
 use Rattle.gate_journal.specs.declared.command.Command.{Command}
 use Rattle.gate_journal.specs.declared.row.Row.{Row}
 use Rattle.gate_journal.specs.Command.{IsBudget}
@@ -18,8 +18,8 @@ use Rattle.host_world.specs.declared.state.HostState.{HostState}
 use Rattle.host_world.specs.declared.event.Event.{Event}
 use Rattle.host_world.specs.Events.{run}
 use Rattle.host_world.specs.Happenings.{Happening, Ended, Cut, Opened, cut_at, all_told}
-use Rattle.host_world.specs.Happenings.{history_of, replies_of, replies_to}
-use Rattle.host_world.specs.Pending.{OneMore, Keeps}
+use Rattle.host_world.specs.Happenings.{history_left, replies_of, given_replies}
+use Rattle.host_world.specs.Pending.{OneMore, KeepsCommands}
 use Rattle.host_world.specs.Starts.{IsStart}
 
 -- stories and a budget that a host is given: each digest has 32 bytes
@@ -60,17 +60,17 @@ pub record Lives
     (w : HostState)
     (y : Session) : Type 0 where
   -- its history is the fold of its turns
-  pub history : y.history ≡ history_of stories budget x.history (past ++ cut_at y.turn)
+  pub history : y.history ≡ history_left stories budget x.history (past ++ cut_at y.turn)
   -- the replies given to it are those of its turns
-  pub replies : replies_to s w.given ≡ replies_of stories budget x.history past
+  pub replies : given_replies s w.given ≡ replies_of stories budget x.history past
   -- each opening gave the commands of before, or these and one more
   pub recovers : EachFindsOneMore past
   -- a stop now leaves rows with its commands, or with these and one more
   pub stop :
-      (image : List ℕ) → IsImage w.disk image
+      (image : List ℕ) → IsDiskImage w.disk image
       → (rows : List Row) × SpellsRows image rows
       × OneMore (commands_in y.history) (commands_of rows s)
-      × (w.up ≡ true → Keeps stories budget s w y rows)
+      × (w.up ≡ true → KeepsCommands stories budget s w y rows)
 
 -- From a host w that is opened or down these events lead to the host v.
 module _ (stories : List Story) (budget : ℕ) (w : HostState) (events : List Event)
@@ -92,12 +92,13 @@ module _ (stories : List Story) (budget : ℕ) (w : HostState) (events : List Ev
 
   -- Another list of events that tells the same of a session gives it the same replies, but for the
   -- counts of faults, whatever else it holds.
-  abbrev pub IsIsolated : Type 0
-  IsIsolated = AreGiven stories budget → IsStart w → (other : HostState) (others : List Event)
+  abbrev pub EventsAreIsolated : Type 0
+  EventsAreIsolated =
+      AreGiven stories budget → IsStart w → (other : HostState) (others : List Event)
       → IsStart other → (s : ℕ) (x y : Session)
       → slice_get w.sessions s ≡ Some x → slice_get other.sessions s ≡ Some y
       → commands_in x.history ≡ commands_in y.history
       → map uncounted (all_told stories budget s w events)
       ≡ map uncounted (all_told stories budget s other others)
-      → map uncounted_reply (replies_to s v.given)
-      ≡ map uncounted_reply (replies_to s (run stories budget other others).given)
+      → map uncounted_reply (given_replies s v.given)
+      ≡ map uncounted_reply (given_replies s (run stories budget other others).given)

@@ -3,7 +3,7 @@ use Rattle.std.specs.Prelude.{ℕ, ◌+◌, ◌==◌, if◌then◌else◌, Bool,
 use Rattle.std.specs.Prelude.{◌++◌, length, slice_index, Option, Some, None}
 use Rattle.std.specs.List.{slice_get}
 use Rattle.gate_journal.specs.declared.row.Row.{Row}
-use Rattle.gate_journal.specs.Rows.{body, spelled}
+use Rattle.gate_journal.specs.Rows.{row_body, journal_bytes}
 use Rattle.store_events.specs.declared.disk.DiskCall.{DiskCall}
 use Rattle.store_events.specs.declared.disk.DiskCall.TheVariants.{Write, Sync, Look}
 use Rattle.host_world.specs.declared.turn.Phase.{Phase}
@@ -16,27 +16,27 @@ use Rattle.host_world.specs.declared.state.Step.TheVariants.{FirstSync, AskSize,
 use Rattle.host_world.specs.declared.state.Step.TheVariants.{CloseWrite, CloseSync}
 use Rattle.host_world.specs.declared.state.HostState.{HostState}
 use Rattle.disk_model.specs.Plain.{is_image}
-use Rattle.store_events.specs.Disk.{disk_after, may_work, counted}
+use Rattle.store_events.specs.Disk.{disk_after, may_work, fault_counted}
 use Rattle.host_world.specs.Reading.{rows_in}
 use Rattle.host_world.specs.Sessions.{phase_set, found_sessions}
 
 -- what an append writes past its gate: the row, and the next gate closed
 abbrev pub past_gate : Row → List ℕ
-past_gate r = body r ++ 0 ∷ []
+past_gate r = row_body r ++ 0 ∷ []
 
 -- the device call that a step makes
 abbrev pub next_call : List Row → Step → Option DiskCall
 next_call rows Idle = None
-next_call rows (RepairWrite r from) = Some (Write (length (spelled rows)) (0 ∷ []))
+next_call rows (RepairWrite r from) = Some (Write (length (journal_bytes rows)) (0 ∷ []))
 next_call rows (RepairSync r from) = Some Sync
-next_call rows (RowWrite r from) = Some (Write (length (spelled rows) + 1) (past_gate r))
+next_call rows (RowWrite r from) = Some (Write (length (journal_bytes rows) + 1) (past_gate r))
 next_call rows (RowSync r from) = Some Sync
-next_call rows (GateWrite r from) = Some (Write (length (spelled rows)) (1 ∷ []))
+next_call rows (GateWrite r from) = Some (Write (length (journal_bytes rows)) (1 ∷ []))
 next_call rows (GateSync r from) = Some Sync
 next_call rows FirstSync = Some Sync
 next_call rows AskSize = Some Look
 next_call rows ReadAll = Some Look
-next_call rows (CloseWrite found) = Some (Write (length (spelled found)) (0 ∷ []))
+next_call rows (CloseWrite found) = Some (Write (length (journal_bytes found)) (0 ∷ []))
 next_call rows (CloseSync found) = Some Sync
 
 -- the sessions, where the turn of one goes on to this phase
@@ -58,7 +58,7 @@ comes_up w rows =
 -- an opening has read all bytes: they spell these rows, if they spell some
 abbrev pub looked : HostState → Option (List Row) → HostState
 looked w (Some rows) =
-    if slice_index w.disk.seen (length (spelled rows)) == 0 then comes_up w rows
+    if slice_index w.disk.seen (length (journal_bytes rows)) == 0 then comes_up w rows
     else record w { step = CloseWrite rows }
 looked w None = record w { step = Idle }
 
@@ -116,7 +116,7 @@ failed w step = record w { step = Idle }
 -- after a call of this step
 abbrev pub call_ended : HostState → Bool → Step → HostState
 call_ended w true step = onward w step
-call_ended w false step = failed (record w { faults = counted w.faults }) step
+call_ended w false step = failed (record w { faults = fault_counted w.faults }) step
 
 -- the host, where its disk was called
 abbrev pub with_disk : HostState → DiskCall → Bool → List ℕ → HostState
@@ -124,15 +124,15 @@ with_disk w call good reads = record w { disk = disk_after call good reads w.dis
 
 abbrev pub with_fault : HostState → DiskCall → List ℕ → HostState
 with_fault w call reads =
-    record w { disk = disk_after call false reads w.disk; faults = counted w.faults }
+    record w { disk = disk_after call false reads w.disk; faults = fault_counted w.faults }
 
 -- The call that a step makes, by whether it is good and by what the disk then reads as. A write
 -- past the room isn't good, and a disk reads as one of its images.
-abbrev pub called : HostState → HostState → Bool → List ℕ → Step → Option DiskCall → HostState
-called old w good reads step None = old
-called old w true reads step (Some call) =
+abbrev pub host_called : HostState → HostState → Bool → List ℕ → Step → Option DiskCall → HostState
+host_called old w good reads step None = old
+host_called old w true reads step (Some call) =
     if may_work call then onward (with_disk w call true reads) step else old
-called old w false reads step (Some call) =
+host_called old w false reads step (Some call) =
     if is_image (disk_after call false reads w.disk) reads
     then failed (with_fault w call reads) step
     else old

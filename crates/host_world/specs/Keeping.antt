@@ -19,9 +19,9 @@ use Rattle.session_saves.specs.Saves.{due_in}
 use Rattle.store_events.specs.declared.event.Event.{Event as FileEvent}
 use Rattle.store_events.specs.declared.event.Event.TheVariants.{Keep}
 use Rattle.store_events.specs.declared.state.StoreState.{StoreState}
-use Rattle.store_events.specs.Events.{after as file_after}
-use Rattle.store_events.specs.Rows.{session_of}
-use Rattle.store_events.specs.Session.{IsOwn}
+use Rattle.store_events.specs.Events.{file_after}
+use Rattle.store_events.specs.Rows.{session_in_rows}
+use Rattle.store_events.specs.Session.{IsSnapshotOfGame}
 use Rattle.host_world.specs.declared.keeping.Snapshot.{Snapshot}
 
 -- an area's head has room for these numbers
@@ -65,7 +65,8 @@ module _ (stories : List Story) where
   -- it is the session's own
   abbrev pub IsOwnSnapshot : List Row → ℕ → StoreState → Snapshot → Type 0
   IsOwnSnapshot rows s x snapshot =
-      IsOwn stories (session_of rows s x) snapshot.place snapshot.count snapshot.bytes
+      IsSnapshotOfGame stories (session_in_rows rows s x)
+      snapshot.place snapshot.count snapshot.bytes
 
 -- the files, where one of them has lived through an event of its own
 abbrev pub file_set : List StoreState → ℕ → FileEvent → Option StoreState → List StoreState

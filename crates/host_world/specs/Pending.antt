@@ -23,19 +23,20 @@ abbrev pub IsUncertain : ℕ → HostState → Command → Type 0
 IsUncertain s w command =
     (r : Row) × (w.uncertain ≡ Some r) × (r.session ≡ s) × (command ≡ r.command)
 
-abbrev pub listed : Option Command → List Command
-listed None = []
-listed (Some command) = command ∷ []
+abbrev pub command_listed : Option Command → List Command
+command_listed None = []
+command_listed (Some command) = command ∷ []
 
 module _ (stories : List Story) (budget : ℕ) where
   -- the command of a turn under way whose row is synced and whose entry isn't taken yet
   abbrev pub pending_at : List Command → List ℕ → Phase → List Command
-  pending_at commands line Kept = listed (decision_on stories budget commands line).accepted
-  pending_at commands line Freed = listed (decision_on stories budget commands line).accepted
+  pending_at commands line Kept = command_listed (decision_on stories budget commands line).accepted
+  pending_at commands line Freed =
+      command_listed (decision_on stories budget commands line).accepted
   pending_at commands line (Ready Answered) =
-      listed (decision_on stories budget commands line).accepted
+      command_listed (decision_on stories budget commands line).accepted
   pending_at commands line (Ready Forgotten) =
-      listed (decision_on stories budget commands line).accepted
+      command_listed (decision_on stories budget commands line).accepted
   pending_at commands line phase = []
 
   abbrev pub pending_of : List Entry → Option Turn → List Command
@@ -47,8 +48,8 @@ module _ (stories : List Story) (budget : ℕ) where
 
   -- these rows have a session's commands, or these and the pending one, or these and the one behind
   -- the gate
-  abbrev pub Keeps : ℕ → HostState → Session → List Row → Type 0
-  Keeps s w x rows =
+  abbrev pub KeepsCommands : ℕ → HostState → Session → List Row → Type 0
+  KeepsCommands s w x rows =
       (commands_of rows s ≡ commands_in x.history)
       ⊎ (commands_of rows s ≡ commands_in x.history ++ pending x)
       ⊎ ((command : Command) × IsUncertain s w command

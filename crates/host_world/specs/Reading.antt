@@ -9,7 +9,7 @@ use Rattle.line_words.specs.Keycode.{is_code, is_terminator}
 use Rattle.gate_journal.specs.declared.command.Command.{Command}
 use Rattle.gate_journal.specs.declared.command.Command.TheVariants.{Open, Line, Char, File, Close}
 use Rattle.gate_journal.specs.declared.row.Row.{Row}
-use Rattle.gate_journal.specs.Rows.{header, body, commands_of, may_follow}
+use Rattle.gate_journal.specs.Rows.{journal_header, row_body, commands_of, may_follow}
 use Rattle.gate_journal.specs.Log.{next_row}
 use Rattle.gate_journal.specs.Payload.{open_in, line_in, char_in, file_in}
 
@@ -60,7 +60,7 @@ begins_with bytes front = bytes_eq (take (length front) bytes) front
 
 -- the test whether bytes behind a gate begin with a row that may stand there
 abbrev pub has_row : List Row → List ℕ → Row → Bool
-has_row rows past r = may_stand rows r.session r.command && begins_with past (body r)
+has_row rows past r = may_stand rows r.session r.command && begins_with past (row_body r)
 
 -- the rows of bytes that go on so behind these rows, at most so many more; none where a gate is
 -- missing or open before no row
@@ -71,11 +71,11 @@ rows_from (suc more) rows (gate ∷ past) =
     if gate == 1 then
     (if has_row rows past (row_at rows past)
     then rows_from more (rows ++ row_at rows past ∷ [])
-    (drop (length (body (row_at rows past))) past)
+    (drop (length (row_body (row_at rows past))) past)
     else None)
     else Some rows
 
 -- the rows that bytes spell, if they spell some
 unfoldable pub rows_in : List ℕ → Option (List Row)
 rows_in bytes =
-    if begins_with bytes header then rows_from (length bytes) [] (drop 16 bytes) else None
+    if begins_with bytes journal_header then rows_from (length bytes) [] (drop 16 bytes) else None

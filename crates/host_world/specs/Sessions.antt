@@ -56,9 +56,9 @@ asking x pass line decision =
     }
 
 -- the sessions, where one has this turn
-abbrev pub turn_begun : List Session → ℕ → Turn → Option Session → List Session
-turn_begun sessions s turn None = sessions
-turn_begun sessions s turn (Some x) =
+abbrev pub session_turn_begun : List Session → ℕ → Turn → Option Session → List Session
+session_turn_begun sessions s turn None = sessions
+session_turn_begun sessions s turn (Some x) =
     set sessions s (record { history = x.history; turn = Some turn })
 
 -- a history with this entry, if there is one
@@ -93,10 +93,10 @@ abbrev pub without_turn : Session → Session
 without_turn x = record { history = x.history; turn = None }
 
 -- the reply that is ready, with its entry taken where it has one
-abbrev pub answer_in : Option Phase → Option Reply
-answer_in (Some (Taken outcome reply)) = Some reply
-answer_in (Some (Plain outcome reply)) = Some reply
-answer_in other = None
+abbrev pub ready_reply : Option Phase → Option Reply
+ready_reply (Some (Taken outcome reply)) = Some reply
+ready_reply (Some (Plain outcome reply)) = Some reply
+ready_reply other = None
 
 -- the sessions, where the turn of one is over
 abbrev pub turn_ended : List Session → ℕ → Option Session → List Session
@@ -104,13 +104,13 @@ turn_ended sessions s None = sessions
 turn_ended sessions s (Some x) = set sessions s (without_turn x)
 
 -- the history that an opening makes of the commands in the rows
-abbrev pub found : List Command → List Entry
-found [] = []
-found (command ∷ commands) = Accepted 0 command ∷ found commands
+abbrev pub history_found : List Command → List Entry
+history_found [] = []
+history_found (command ∷ commands) = Accepted 0 command ∷ history_found commands
 
 -- the 64 sessions that an opening makes of the rows
 abbrev pub found_session : List Row → ℕ → Session
-found_session rows s = record { history = found (commands_of rows s); turn = None }
+found_session rows s = record { history = history_found (commands_of rows s); turn = None }
 
 abbrev pub found_sessions : List Row → List Session
 found_sessions rows = map (found_session rows) (range_with_len 0 64)

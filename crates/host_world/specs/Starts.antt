@@ -2,11 +2,11 @@
 use Rattle.std.specs.Prelude.{◌≡◌, ◌⊎◌, ℕ, true, false, List, [], length, Option, Some, None}
 use Rattle.std.specs.Prelude.{IfSome}
 use Rattle.std.specs.List.{slice_get}
-use Rattle.disk_model.specs.DiskState.{IsImage, settled}
+use Rattle.disk_model.specs.DiskState.{IsDiskImage, settled}
 use Rattle.gate_journal.specs.declared.row.Row.{Row}
 use Rattle.gate_journal.specs.Gate.{IsShut}
-use Rattle.gate_journal.specs.Rows.{spelled, commands_of, IsJournal, IsNext}
-use Rattle.gate_journal.specs.Log.{StandsAt}
+use Rattle.gate_journal.specs.Rows.{journal_bytes, commands_of, IsJournal, IsNext}
+use Rattle.gate_journal.specs.Log.{StandsInImage}
 use Rattle.session_core.specs.Turning.{commands_in}
 use Rattle.host_world.specs.declared.turn.Session.{Session}
 use Rattle.host_world.specs.declared.state.Step.TheVariants.{Idle}
@@ -15,9 +15,9 @@ use Rattle.host_world.specs.Sessions.{found_sessions}
 
 -- nothing is under way, no reply was given, and the commands of each of 64 sessions are its rows,
 -- which a journal may have
-pub record IsQuiet (w : HostState) : Type 0 where
+pub record IsQuietHost (w : HostState) : Type 0 where
   pub journal : IsJournal w.rows
-  pub reads : IsImage w.disk w.disk.seen
+  pub reads : IsDiskImage w.disk w.disk.seen
   pub idle : w.step ≡ Idle
   pub silent : w.given ≡ []
   pub sessions : length w.sessions ≡ 64
@@ -26,23 +26,23 @@ pub record IsQuiet (w : HostState) : Type 0 where
       → (x.turn ≡ None) × (commands_of w.rows s ≡ commands_in x.history)
 
 -- an opened host: each image of its disk has its rows and a closed gate
-pub record IsOpened (w : HostState) : Type 0 where
+pub record IsOpenedState (w : HostState) : Type 0 where
   pub up : w.up ≡ true
-  pub quiet : IsQuiet w
+  pub quiet : IsQuietHost w
   pub certain : w.uncertain ≡ None
   pub nobody : w.holder ≡ None
-  pub shut : (c : List ℕ) → IsImage w.disk c → IsShut (spelled w.rows) c
+  pub shut : (c : List ℕ) → IsDiskImage w.disk c → IsShut (journal_bytes w.rows) c
 
 -- a host that is down: each image has its rows, and a closed gate or one of which nothing is known
 -- before a row that may stand there
 pub record IsDown (w : HostState) : Type 0 where
   pub down : w.up ≡ false
-  pub quiet : IsQuiet w
+  pub quiet : IsQuietHost w
   pub next : IfSome w.uncertain (IsNext w.rows)
-  pub stands : (c : List ℕ) → IsImage w.disk c → StandsAt w.rows w.uncertain c
+  pub stands : (c : List ℕ) → IsDiskImage w.disk c → StandsInImage w.rows w.uncertain c
 
 abbrev pub IsStart : HostState → Type 0
-IsStart w = IsOpened w ⊎ IsDown w
+IsStart w = IsOpenedState w ⊎ IsDown w
 
 -- the rows that bytes spell, or none where they spell none
 abbrev pub rows_or_none : Option (List Row) → List Row

@@ -6,9 +6,9 @@ use Rattle.disk_model.specs.Plain.{is_image}
 use Rattle.story_run.specs.declared.story.Story.{Story}
 use Rattle.store_events.specs.declared.event.Event.TheVariants as files
 use Rattle.store_events.specs.declared.state.StoreState.{StoreState}
-use Rattle.store_events.specs.Events.{is_opening, is_putting, opens}
-use Rattle.store_events.specs.Events.{after as file_after}
-use Rattle.store_events.specs.Events.{down_over as file_down}
+use Rattle.store_events.specs.Events.{is_opening, is_putting, begins_opening}
+use Rattle.store_events.specs.Events.{file_after}
+use Rattle.store_events.specs.Events.{store_down_over as file_down}
 use Rattle.host_world.specs.declared.event.Event.{Event}
 use Rattle.host_world.specs.declared.event.Event.TheVariants as journal
 use Rattle.host_world.specs.declared.keeping.Snapshot.{Snapshot}
@@ -17,7 +17,7 @@ use Rattle.host_world.specs.declared.whole.WholeEvent.{WholeEvent}
 use Rattle.host_world.specs.declared.whole.WholeEvent.TheVariants.{Take, Want, Hold, Call, Free, Run}
 use Rattle.host_world.specs.declared.whole.WholeEvent.TheVariants.{Keep, Accept, Give, Stop, Recover}
 use Rattle.host_world.specs.declared.whole.WholeState.{WholeState}
-use Rattle.host_world.specs.Events.{holds, run}
+use Rattle.host_world.specs.Events.{holds_journal, run}
 use Rattle.host_world.specs.Keeping.{due_snapshot, put_begun, with_event}
 use Rattle.host_world.specs.Reading.{rows_in}
 use Rattle.host_world.specs.Starts.{down_over, rows_or_none}
@@ -52,8 +52,8 @@ fails_at (Some x) good reads = fails x (file_after x (files.Call good reads))
 
 -- The host, of which a file can't be opened, is down again: nothing is pending in its journal, so it
 -- stays as it reads.
-abbrev pub closes : HostState → List Event
-closes w = journal.Stop (w.disk.seen ∷ []) ∷ []
+abbrev pub closes_host : HostState → List Event
+closes_host w = journal.Stop (w.disk.seen ∷ []) ∷ []
 
 -- What an event is to the host with its journal alone: nothing where it isn't enabled.
 abbrev pub to_host : WholeState → WholeEvent → List Event
@@ -62,7 +62,7 @@ to_host w (Want s) = journal.Want s ∷ []
 to_host w (Hold s) = journal.Hold s ∷ []
 to_host w (Call disk good reads) =
     if disk == 0 then journal.Call 0 good reads ∷ []
-    else if w.host.up && fails_at (slice_get w.stores (disk - 1)) good reads then closes w.host
+    else if w.host.up && fails_at (slice_get w.stores (disk - 1)) good reads then closes_host w.host
     else []
 to_host w (Free s) = journal.Free s ∷ []
 to_host w (Run s found) = journal.Run s found ∷ []
@@ -76,7 +76,7 @@ to_host w (Stop (image ∷ images)) =
     else []
 to_host w Recover =
     if is_up w then []
-    else (if w.host.up then closes w.host else []) ++ journal.Recover ∷ []
+    else (if w.host.up then closes_host w.host else []) ++ journal.Recover ∷ []
 
 -- each file holds its image
 abbrev pub stopped_files : List StoreState → List (List ℕ) → List StoreState
@@ -98,7 +98,7 @@ module _ (stories : List Story) where
   abbrev pub put_in : WholeState → ℕ → Option StoreState → Option Snapshot
   put_in w s None = None
   put_in w s (Some x) =
-      if is_up w && not (holds w.host s) then due_snapshot stories w.host.rows s x else None
+      if is_up w && not (holds_journal w.host s) then due_snapshot stories w.host.rows s x else None
 
   abbrev pub put_of : WholeState → ℕ → Option Snapshot
   put_of w s = put_in w s (slice_get w.stores s)
@@ -122,7 +122,7 @@ module _ (stories : List Story) where
       if is_image w.host.disk image && are_images w.stores images
       then stopped_files w.stores images
       else w.stores
-  to_files w Recover = if is_up w then w.stores else map opens w.stores
+  to_files w Recover = if is_up w then w.stores else map begins_opening w.stores
 
 module _ (stories : List Story) (budget : ℕ) where
   -- the host and its files after an event, and after these, one after the other

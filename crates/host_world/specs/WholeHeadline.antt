@@ -1,18 +1,18 @@
 -- What holds of a host with the snapshot files of its sessions, whatever happens (own).
 use Rattle.std.specs.Prelude.{◌≡◌, ℕ, ◌≤◌, List, [], ◌∷◌, ◌++◌, length, Some}
 use Rattle.std.specs.List.{slice_get}
-use Rattle.disk_model.specs.DiskState.{IsImage}
+use Rattle.disk_model.specs.DiskState.{IsDiskImage}
 use Rattle.gate_journal.specs.declared.row.Row.{Row}
 use Rattle.gate_journal.specs.Gate.{IsShut}
-use Rattle.gate_journal.specs.Rows.{IsJournal, commands_of, spelled}
+use Rattle.gate_journal.specs.Rows.{IsJournal, commands_of, journal_bytes}
 use Rattle.story_run.specs.declared.story.Story.{Story}
 use Rattle.session_core.specs.History.{game_of}
-use Rattle.snap_store.specs.File.{given, newest_area}
+use Rattle.snap_store.specs.File.{area_given, newest_area}
 use Rattle.session_saves.specs.Agreement.{IsAgreedFile, last_row, opens_of}
 use Rattle.session_saves.specs.Game.{inputs_of, turns_after}
 use Rattle.session_saves.specs.Warming.{count_in}
 use Rattle.store_events.specs.declared.state.StoreState.{StoreState}
-use Rattle.store_events.specs.Rows.{session_of, told_of}
+use Rattle.store_events.specs.Rows.{session_in_rows, told_of}
 use Rattle.store_events.specs.Session.{EachMissesNone, IsInAgreement, IsUpToDate}
 use Rattle.host_world.specs.Events.{run}
 use Rattle.host_world.specs.Headline.{AreGiven}
@@ -26,7 +26,7 @@ module _ (stories : List Story) (budget : ℕ) where
   abbrev pub EachInAgreement : WholeState → Type 0
   EachInAgreement w =
       (s : ℕ) (x : StoreState) → slice_get w.stores s ≡ Some x
-      → IsInAgreement stories (session_of w.host.rows s x)
+      → IsInAgreement stories (session_in_rows w.host.rows s x)
 
   -- From a host that is opened or down these events lead to the host v.
   module _ (w : WholeState) (events : List WholeEvent) (v : WholeState) where
@@ -40,7 +40,7 @@ module _ (stories : List Story) (budget : ℕ) where
         AreGiven stories budget → IsStart w.host → EachInAgreement w
         → EachInAgreement v
         × ((s : ℕ) (x : StoreState) (image : List ℕ) → slice_get v.stores s ≡ Some x
-        → IsImage x.disk image
+        → IsDiskImage x.disk image
         → IsAgreedFile stories (opens_of v.host.rows s) (game_of (commands_of v.host.rows s)) image)
 
   -- Where this event adds a row of the session with an input, no snapshot of it is due.
@@ -48,7 +48,7 @@ module _ (stories : List Story) (budget : ℕ) where
   NoneIsMissed s w event =
       (x : StoreState) (r : Row) → slice_get w.stores s ≡ Some x
       → (whole_after stories budget w event).host.rows ≡ w.host.rows ++ r ∷ []
-      → EachMissesNone (session_of w.host.rows s x) (told_of r s)
+      → EachMissesNone (session_in_rows w.host.rows s x) (told_of r s)
 
   abbrev pub NoneAreMissed : ℕ → WholeState → List WholeEvent → Type 0
   NoneAreMissed s w [] = Unit {0}
@@ -60,20 +60,20 @@ module _ (stories : List Story) (budget : ℕ) where
   SessionWarmsInSixteen w events v =
       AreGiven stories budget → IsStart w.host → EachInAgreement w
       → (s : ℕ) (first last : StoreState)
-      → slice_get w.stores s ≡ Some first → IsUpToDate (session_of w.host.rows s first)
+      → slice_get w.stores s ≡ Some first → IsUpToDate (session_in_rows w.host.rows s first)
       → NoneAreMissed s w events
       → slice_get v.stores s ≡ Some last
       → (place : ℕ) (image : List ℕ)
-      → last_row (opens_of v.host.rows s) ≡ Some place → IsImage last.disk image
+      → last_row (opens_of v.host.rows s) ≡ Some place → IsDiskImage last.disk image
       → turns_after stories (game_of (commands_of v.host.rows s))
-      (count_in (given (newest_area place
+      (count_in (area_given (newest_area place
       (length (inputs_of (game_of (commands_of v.host.rows s)))) image))) ≤ 16
 
 -- Over a journal whose closing gate is closed, and files that agree with its rows, a list of events
 -- may begin at this host.
 abbrev pub MayBegin : List ℕ → List (List ℕ) → WholeState → Type 0
 MayBegin journal files w =
-    (rows : List Row) → IsJournal rows → IsShut (spelled rows) journal
+    (rows : List Row) → IsJournal rows → IsShut (journal_bytes rows) journal
     → IsStart w.host
     × ((stories : List Story) (budget : ℕ)
     → ((s : ℕ) (bytes : List ℕ) → slice_get files s ≡ Some bytes

@@ -5,7 +5,7 @@ ghost use Rattle.std.specs.Prelude.{length};
 ghost use Rattle.std.specs.List.{slice_get};
 ghost use Rattle.session_core.specs.Turning.{commands_in, decision_on, turn_met};
 ghost use Rattle.session_core.specs.declared.entry.Entry.{Entry};
-ghost use Rattle.host_world.specs.Sessions.{first_phase, turn_begun, with_entry, taken_in};
+ghost use Rattle.host_world.specs.Sessions.{first_phase, session_turn_begun, with_entry, taken_in};
 ghost use Rattle.host_world.specs.Events.{after};
 ghost use Rattle.host_world.specs.declared.event.Event.TheVariants as Event;
 ghost use Rattle.host_world.specs.declared.turn.Session.{Session};
@@ -110,7 +110,7 @@ fn first_phase(decision: Decision) -> Phase
 
 fn begin_turn(sessions: &mut Vec<Session>, s: u8, turn: Turn)
     ensures { sessions.new.items
-        ≡ turn_begun sessions.old.items s turn (slice_get sessions.old.items s) }
+        ≡ session_turn_begun sessions.old.items s turn (slice_get sessions.old.items s) }
 {
     if let Some(session) = sessions.get_mut(s as usize) {
         session.turn = Some(turn);

@@ -2,7 +2,7 @@
 
 ghost use Rattle.std.specs.Prelude.{◌≡◌, IfOk, OnOk, Some, map};
 ghost use Rattle.std.specs.List.{slice_get};
-ghost use Rattle.store_events.specs.Events.{opens};
+ghost use Rattle.store_events.specs.Events.{begins_opening};
 ghost use Rattle.store_events.specs.declared.event.Event.TheVariants as FileEvent;
 ghost use Rattle.host_world.specs.Keeping.{put_begun, with_event};
 ghost use Rattle.host_world.specs.Whole.{all_up, are_images, fails_at, file_over, no_put};
@@ -122,7 +122,7 @@ pub fn stop_files(
 
 /// The openings of all files begin.
 pub fn open_files(stores: &mut Vec<StoreState>)
-    ensures { stores.new.items ≡ map opens stores.old.items }
+    ensures { stores.new.items ≡ map begins_opening stores.old.items }
 {
     for at in 0..stores.len() {
         stores[at].open_anew();

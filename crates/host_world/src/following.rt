@@ -3,7 +3,7 @@
 ghost use Rattle.std.specs.Prelude.{◌≡◌, IfOk, OnOk};
 ghost use Rattle.gate_journal.specs.Command.{IsBudget};
 ghost use Rattle.host_world.specs.Events.{after, run};
-ghost use Rattle.host_world.specs.Headline.{EachLives, NothingIsLost, IsIsolated};
+ghost use Rattle.host_world.specs.Headline.{EachLives, NothingIsLost, EventsAreIsolated};
 ghost use Rattle.host_world.specs.Laws.{ShowsRunAlone};
 ghost use Rattle.host_world.specs.Puts.{AreOwnPuts};
 ghost use Rattle.host_world.specs.Whole.{whole_run};
@@ -67,7 +67,7 @@ pub fn follow(
     ensures lives { IfOk result (EachLives stories.now budget state events.now) }
     ensures shows { ShowsRunAlone }
     ensures kept { IfOk result (NothingIsLost stories.now budget state events.now) }
-    ensures isolated { IfOk result (IsIsolated stories.now budget state events.now) }
+    ensures isolated { IfOk result (EventsAreIsolated stories.now budget state events.now) }
 {
     for event in events {
         state.happen(alloc, stories, budget, event)?;

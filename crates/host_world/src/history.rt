@@ -3,7 +3,7 @@
 ghost use Rattle.std.specs.Prelude.{◌≡◌, ◌≤◌, length, IfOk, OnOk};
 ghost use Rattle.gate_journal.specs.Rows.{commands_of};
 ghost use Rattle.session_core.specs.Turning.{commands_in};
-ghost use Rattle.host_world.specs.Sessions.{found, with_entry};
+ghost use Rattle.host_world.specs.Sessions.{history_found, with_entry};
 
 use gate_journal::{Command, Rows};
 use session_core::Entry;
@@ -44,7 +44,7 @@ fn commands_in(alloc: Global, entries: &[Entry]) -> Result<Vec<Command>, AllocEr
 impl History {
     /// The history that an opening makes of a session's rows.
     pub fn found(alloc: Global, rows: &Rows, s: u8) -> Result<History, AllocError>
-        ensures { IfOk result (λ history. history ≡ found (commands_of rows.now s)) }
+        ensures { IfOk result (λ history. history ≡ history_found (commands_of rows.now s)) }
     {
         let mut entries = Vec::new(alloc);
         for row in rows.as_slice() {

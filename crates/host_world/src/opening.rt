@@ -2,7 +2,7 @@
 
 ghost use Rattle.std.specs.Prelude.{◌≡◌, ◌<◌, List, length, None, IfOk, IfSome, OnOk};
 ghost use Rattle.gate_journal.specs.Gate.{IsShut};
-ghost use Rattle.gate_journal.specs.Rows.{spelled, IsJournal};
+ghost use Rattle.gate_journal.specs.Rows.{journal_bytes, IsJournal};
 ghost use Rattle.gate_journal.specs.declared.row.Row.{Row};
 ghost use Rattle.host_world.specs.Journal.{comes_up, looked};
 ghost use Rattle.host_world.specs.Reading.{rows_in};
@@ -42,7 +42,7 @@ fn found_sessions(alloc: Global, rows: &Rows) -> Result<Vec<Session>, AllocError
 fn rows_in(alloc: Global, bytes: &[u8]) -> Result<Option<Rows>, AllocError>
     ensures value { IfOk result (λ rows. rows ≡ rows_in bytes.now) }
     ensures within { IfOk result (λ rows.
-        IfSome rows (λ r. length (spelled r) < length bytes.now)) }
+        IfSome rows (λ r. length (journal_bytes r) < length bytes.now)) }
 {
     match read_rows(alloc, bytes) {
         Ok(rows) => Ok(Some(rows)),
@@ -71,7 +71,7 @@ impl HostState {
             (λ w. w ≡ down_over journal.now (rows_or_none (rows_in journal.now)) None) }
         // Over a journal whose closing gate is closed a list of events may begin at it.
         ensures start { IfOk result (λ w. (rows : List Row) → IsJournal rows
-            → IsShut (spelled rows) journal.now → IsStart w) }
+            → IsShut (journal_bytes rows) journal.now → IsStart w) }
     {
         let rows = rows_or_none(alloc, rows_in(alloc, journal.as_slice())?);
         Ok(HostState {

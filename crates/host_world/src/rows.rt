@@ -3,7 +3,7 @@
 ghost use Rattle.std.specs.Prelude.{◌≡◌, ◌<◌, ◌^◌, ◌++◌, ◌∷◌, [], length, IfOk, OnOk};
 ghost use Rattle.gate_journal.specs.Command.{IsCommand};
 ghost use Rattle.gate_journal.specs.Log.{next_row};
-ghost use Rattle.gate_journal.specs.Rows.{commands_of, spelled};
+ghost use Rattle.gate_journal.specs.Rows.{commands_of, journal_bytes};
 ghost use Rattle.session_saves.specs.Agreement.{last_row, opens_of};
 ghost use Rattle.host_world.specs.Journal.{past_gate};
 
@@ -76,14 +76,14 @@ pub struct JournalRows {
 
 impl Model for JournalRows {
     ghost use Rattle.std.specs.Prelude.{◌≡◌, ◌≤◌, ◌+◌, ◌*◌, ◌^◌, ◌++◌, List, length};
-    ghost use Rattle.gate_journal.specs.Rows.{spelled};
+    ghost use Rattle.gate_journal.specs.Rows.{journal_bytes};
     ghost use Rattle.gate_journal.specs.declared.row.Row.{Row};
 
     ghost Value = { List Row };
 
     ghost view = { λ j. j.found ++ j.added.items };
 
-    ghost invariant = { λ j. (j.end ≡ length (spelled (j.found ++ j.added.items)))
+    ghost invariant = { λ j. (j.end ≡ length (journal_bytes (j.found ++ j.added.items)))
         × (j.end ≤ 2 ^ 64 + 4109 * length j.added.items) };
 }
 
@@ -102,7 +102,7 @@ impl JournalRows {
 
     /// The place of the closing gate.
     pub fn end(&self) -> u128
-        ensures value { result ≡ length (spelled self.now) }
+        ensures value { result ≡ length (journal_bytes self.now) }
         ensures within { result < 2 ^ 100 }
     {
         self.end

@@ -2,7 +2,7 @@
 
 ghost use Rattle.std.specs.Prelude.{◌≡◌, Some, None, MatchOption, is_some, map};
 ghost use Rattle.std.specs.List.{slice_get};
-ghost use Rattle.host_world.specs.Sessions.{phase_in, phase_of, phase_set, answer_in};
+ghost use Rattle.host_world.specs.Sessions.{phase_in, phase_of, phase_set, ready_reply};
 ghost use Rattle.host_world.specs.Sessions.{turn_ended, without_turn};
 
 use crate::turn::{Phase, Session, Turn};
@@ -37,7 +37,7 @@ pub fn set_phase(sessions: &mut Vec<Session>, s: u8, phase: Phase)
 
 /// Whether the reply of a session's turn is ready, with its entry taken where it has one.
 pub fn has_answer(sessions: &[Session], s: u8) -> bool
-    ensures { result ≡ is_some (answer_in (phase_of (slice_get sessions.now s))) }
+    ensures { result ≡ is_some (ready_reply (phase_of (slice_get sessions.now s))) }
 {
     matches!(
         phase_of(sessions, s),
@@ -47,7 +47,7 @@ pub fn has_answer(sessions: &[Session], s: u8) -> bool
 
 // That reply.
 fn answer_in(turn: Option<Turn>) -> Option<Reply>
-    ensures { result ≡ answer_in (phase_in turn) }
+    ensures { result ≡ ready_reply (phase_in turn) }
 {
     match turn {
         None => None,
@@ -64,7 +64,7 @@ fn answer_in(turn: Option<Turn>) -> Option<Reply>
 
 /// Ends the turn of a session, with the reply that was ready.
 pub fn end_turn(sessions: &mut Vec<Session>, s: u8) -> Option<Reply>
-    ensures value { result ≡ answer_in (phase_of (slice_get sessions.old.items s)) }
+    ensures value { result ≡ ready_reply (phase_of (slice_get sessions.old.items s)) }
     ensures kept { sessions.new.items
         ≡ turn_ended sessions.old.items s (slice_get sessions.old.items s) }
 {

@@ -6,14 +6,14 @@ ghost use Rattle.std.specs.Prelude.{if◌then◌else◌};
 ghost use Rattle.std.specs.List.{slice_get};
 ghost use Rattle.story_run.specs.declared.story.Story.{Story};
 ghost use Rattle.gate_journal.specs.Command.{IsBudget};
-ghost use Rattle.store_events.specs.Events.{opens};
+ghost use Rattle.store_events.specs.Events.{begins_opening};
 ghost use Rattle.store_events.specs.declared.state.StoreState.{StoreState};
 ghost use Rattle.store_events.specs.declared.event.Event.TheVariants as FileEvent;
 ghost use Rattle.disk_model.specs.Plain.{is_image};
 ghost use Rattle.host_world.specs.Events.{after, run};
 ghost use Rattle.host_world.specs.Keeping.{IsOwnSnapshot, with_event};
 ghost use Rattle.host_world.specs.Puts.{IsOwnPut};
-ghost use Rattle.host_world.specs.Whole.{are_images, closes, fails_at, is_up, put_of};
+ghost use Rattle.host_world.specs.Whole.{are_images, closes_host, fails_at, is_up, put_of};
 ghost use Rattle.host_world.specs.Whole.{stopped_files, whole_after, whole_down};
 ghost use Rattle.host_world.specs.Whole.{with_files, with_host};
 ghost use Rattle.host_world.specs.WholeHeadline.{MayBegin};
@@ -118,7 +118,10 @@ impl WholeState {
     // The host is down again, over its journal as it reads.
     fn close(&mut self, alloc: Global) -> Result<(), AllocError>
         ensures { (stories : List Story) (budget : ℕ) → OnOk result (self.new
-            ≡ record self.old { host = run stories budget self.old.host (closes self.old.host) }) }
+            ≡ record self.old {
+              host = run stories budget self.old.host
+                  (closes_host self.old.host);
+            }) }
     {
         let images = one_image(alloc, self.host.disk.seen())?;
         self.host.stop(alloc, &images)
@@ -293,7 +296,7 @@ impl WholeState {
         ensures { (stories : List Story) (budget : ℕ) → OnOk result (self.new
             ≡ record self.old {
               host = run stories budget self.old.host
-                  (if self.old.host.up then closes self.old.host else []);
+                  (if self.old.host.up then closes_host self.old.host else []);
             }) }
     {
         if !self.host.up {
@@ -312,7 +315,7 @@ impl WholeState {
 
     // And those of the files.
     fn open_files(&mut self)
-        ensures { self.new ≡ with_files self.old (map opens self.old.stores) }
+        ensures { self.new ≡ with_files self.old (map begins_opening self.old.stores) }
     {
         open_files(&mut self.stores.list);
     }

@@ -5,23 +5,23 @@ use Rattle.std.proofs.lemmas.Grind.{common_steps}
 use Rattle.line_talk.specs.declared.sink.Stop.{Stop}
 use Rattle.line_talk.specs.declared.sink.Stop.TheVariants.{Memory}
 use Rattle.line_talk.specs.Streams.{SinkState}
-use Rattle.line_talk.specs.Conversation.{Line, Turn, Answered, Tells, Breaks, StopsBehind}
-use Rattle.line_talk.specs.Hearing.{heard_from, begun_after, longer}
+use Rattle.line_talk.specs.Conversation.{Line, Turn, Answered, TellsTurn, Breaks, StopsBehind}
+use Rattle.line_talk.specs.Hearing.{heard_from, begun_after, longer_line}
 use Rattle.line_talk.specs.Hears.{HearsAll, HearsPart}
 use Rattle.line_talk.proofs.TurnLemmas.{answered_none, answered_one, answered_then, stops_one, stops_then}
 
 pub heard_append : (begun : Line) (xs ys : List ℕ) → heard_from begun (xs ++ ys) ≡ heard_from begun xs ++ heard_from (begun_after begun xs) ys
 heard_append begun [] ys = refl
-heard_append begun (x ∷ xs) ys = elim (nat_eq x 10) as (λ b. cond b (begun ∷ heard_from (Some []) (xs ++ ys)) (heard_from (longer begun x) (xs ++ ys)) ≡ cond b (begun ∷ heard_from (Some []) xs) (heard_from (longer begun x) xs) ++ heard_from (cond b (begun_after (Some []) xs) (begun_after (longer begun x) xs)) ys) [
+heard_append begun (x ∷ xs) ys = elim (nat_eq x 10) as (λ b. cond b (begun ∷ heard_from (Some []) (xs ++ ys)) (heard_from (longer_line begun x) (xs ++ ys)) ≡ cond b (begun ∷ heard_from (Some []) xs) (heard_from (longer_line begun x) xs) ++ heard_from (cond b (begun_after (Some []) xs) (begun_after (longer_line begun x) xs)) ys) [
   | true ↦ ap (λ ls. begun ∷ ls) (heard_append (Some []) xs ys)
-  | false ↦ heard_append (longer begun x) xs ys
+  | false ↦ heard_append (longer_line begun x) xs ys
 ]
 
 pub begun_append : (begun : Line) (xs ys : List ℕ) → begun_after begun (xs ++ ys) ≡ begun_after (begun_after begun xs) ys
 begun_append begun [] ys = refl
-begun_append begun (x ∷ xs) ys = elim (nat_eq x 10) as (λ b. cond b (begun_after (Some []) (xs ++ ys)) (begun_after (longer begun x) (xs ++ ys)) ≡ begun_after (cond b (begun_after (Some []) xs) (begun_after (longer begun x) xs)) ys) [
+begun_append begun (x ∷ xs) ys = elim (nat_eq x 10) as (λ b. cond b (begun_after (Some []) (xs ++ ys)) (begun_after (longer_line begun x) (xs ++ ys)) ≡ begun_after (cond b (begun_after (Some []) xs) (begun_after (longer_line begun x) xs)) ys) [
   | true ↦ begun_append (Some []) xs ys
-  | false ↦ begun_append (longer begun x) xs ys
+  | false ↦ begun_append (longer_line begun x) xs ys
 ]
 
 -- lines behind those that were heard
@@ -47,10 +47,10 @@ hears_then {A} {turn} {over} {a} {b} {c} {begun} {line} {more} {count} {n} {m} {
 
 -- one byte that is no LF
 hears_byte : {A : Type 0} (turn : Turn A) (over : A → Bool) (a : A) (line : Line) (n b : ℕ) (k : SinkState) → b ≢ 10
-    → HearsAll turn over a line n (b ∷ []) a (longer line b) n k k
+    → HearsAll turn over a line n (b ∷ []) a (longer_line line b) n k k
 hears_byte {A} turn over a line n b k ne =
     let none : heard_from line (b ∷ []) ≡ [] = grind (arith, common_steps) in
-    let begun : begun_after line (b ∷ []) ≡ longer line b = grind (arith, common_steps) in
+    let begun : begun_after line (b ∷ []) ≡ longer_line line b = grind (arith, common_steps) in
     record {
       answered = subst (λ (ls : List Line). Answered turn over a ls a k k) (sym none) (answered_none turn over a k);
       same_line = sym begun;
@@ -62,7 +62,7 @@ heard_lf line b lf = grind (arith, common_steps)
 
 -- an LF, at which a line is answered
 hears_lf : {A : Type 0} (turn : Turn A) (over : A → Bool) (a c : A) (line : Line) (n b : ℕ) (old new : SinkState) → b ≡ 10 → over a ≡ false
-    → Tells turn a line c old new → HearsAll turn over a line n (b ∷ []) c (Some []) (n + 1) old new
+    → TellsTurn turn a line c old new → HearsAll turn over a line n (b ∷ []) c (Some []) (n + 1) old new
 hears_lf {A} turn over a c line n b old new lf going t =
     let one : heard_from line (b ∷ []) ≡ line ∷ [] = heard_lf line b lf in
     let begun : begun_after line (b ∷ []) ≡ Some [] = grind (arith, common_steps) in
@@ -96,7 +96,7 @@ split_on piece front all rest b split e = split ∙ ap (λ l. front ++ l) e ∙ 
 
 pub hearing_byte : {A : Type 0} {turn : Turn A} {over : A → Bool} {old : A} {begun : Line} {count : ℕ} {piece : List ℕ} {output : SinkState}
     {new : A} {line : Line} {number : ℕ} {all : List ℕ} {now : SinkState} → Hearing turn over old begun count piece output new line number all now
-    → (b : ℕ) (rest : List ℕ) → all ≡ b ∷ rest → b ≢ 10 → Hearing turn over old begun count piece output new (longer line b) number rest now
+    → (b : ℕ) (rest : List ℕ) → all ≡ b ∷ rest → b ≢ 10 → Hearing turn over old begun count piece output new (longer_line line b) number rest now
 hearing_byte {A} {turn} {over} {old} {begun} {count} {piece} {output} {new} {line} {number} {all} {now} h b rest e ne = record {
   front = h.front ++ b ∷ [];
   split = split_on piece h.front all rest b h.split e;
@@ -114,12 +114,12 @@ pub record Replied {A : Type 0} (turn : Turn A) (over : A → Bool) (old : A) (b
 
 pub hearing_line : {A : Type 0} {turn : Turn A} {over : A → Bool} {old : A} {begun : Line} {count : ℕ} {piece : List ℕ} {output : SinkState}
     {mid : A} {line : Line} {number : ℕ} {all : List ℕ} {between : SinkState} → Hearing turn over old begun count piece output mid line number all between
-    → (b : ℕ) (rest : List ℕ) → all ≡ b ∷ rest → b ≡ 10 → (asked : Line) → asked ≡ line → {new : A} {now : SinkState} → Tells turn mid asked new between now
+    → (b : ℕ) (rest : List ℕ) → all ≡ b ∷ rest → b ≡ 10 → (asked : Line) → asked ≡ line → {new : A} {now : SinkState} → TellsTurn turn mid asked new between now
     → Replied turn over old begun count piece output new (number + 1) rest now
 hearing_line {A} {turn} {over} {old} {begun} {count} {piece} {output} {mid} {line} {number} {all} {between} h b rest e lf asked same {new} {now} t = record {
   front = h.front ++ b ∷ [];
   split = split_on piece h.front all rest b h.split e;
-  all = hears_then h.all (hears_lf turn over mid new line number b between now lf h.going (subst (λ (l : Line). Tells turn mid l new between now) same t));
+  all = hears_then h.all (hears_lf turn over mid new line number b between now lf h.going (subst (λ (l : Line). TellsTurn turn mid l new between now) same t));
 }
 
 pub hearing_on : {A : Type 0} {turn : Turn A} {over : A → Bool} {old : A} {begun : Line} {count : ℕ} {piece : List ℕ} {output : SinkState}

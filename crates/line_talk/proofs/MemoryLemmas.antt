@@ -3,7 +3,7 @@ use Rattle.std.proofs.Common.{◌≡◌, ℕ, ◌+◌, ◌-◌, ◌^◌, ◌<◌
 use Rattle.std.proofs.lemmas.Grind.{common_steps}
 use Rattle.std.proofs.lemmas.List.{take-append-drop}
 use Rattle.std.specs.List.{list_any}
-use Rattle.line_talk.specs.Causes.{Counts}
+use Rattle.line_talk.specs.Causes.{CountsMore}
 use Rattle.line_talk.specs.Failing.{Failing, FailsOrWants}
 
 length_part : (bytes : List ℕ) (at n : ℕ) → at + n ≤ length bytes → length (take n (drop at bytes)) ≡ n
@@ -22,7 +22,7 @@ read_told bytes into copy at n fits is =
     sym (ap (λ l. l ++ drop (at + n) bytes) (front_part copy into n long ∙ part) ∙ ap (λ l. take n (drop at bytes) ++ l) rest ∙ take-append-drop n (drop at bytes))
 
 pub read_count : (bytes into copy : List ℕ) (at n : ℕ) → at + n ≤ length bytes → length bytes < 2 ^ 64 → copy ≡ take (at + n - at) (drop at bytes)
-    → Counts at (length (take n (copy ++ drop n into))) (at + n)
+    → CountsMore at (length (take n (copy ++ drop n into))) (at + n)
 read_count bytes into copy at n fits small is =
     let number : at + n - at ≡ n = omega arith in
     let part : copy ≡ take n (drop at bytes) = is ∙ ap (λ k. take k (drop at bytes)) number in

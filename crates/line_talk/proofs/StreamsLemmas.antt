@@ -1,7 +1,7 @@
 -- How reads and writes go on from one another.
 use Rattle.std.proofs.Common.{◌≡◌, ℕ, ◌+◌, List, [], ◌++◌, arith, length-append}
 use Rattle.std.proofs.KnownBytes.{Consumes-nil, Consumes-trans, Appends-nil, Appends-trans}
-use Rattle.line_talk.specs.Causes.{Counts}
+use Rattle.line_talk.specs.Causes.{CountsMore}
 use Rattle.line_talk.specs.Streams.{SourceState, SinkState, Gave, Wrote}
 
 pub wrote_none : (k : SinkState) → Wrote k k []
@@ -16,7 +16,7 @@ wrote_then {old} {mid} {new} {x} {y} p q = record {
 pub gave_none : (s : SourceState) → Gave s s []
 gave_none s = record { told = Consumes-nil s.left; count = record { most = omega arith; least = omega arith }; later = omega arith }
 
-counts_then : (before mid now n m both : ℕ) → both ≡ n + m → Counts before n mid → Counts mid m now → Counts before both now
+counts_then : (before mid now n m both : ℕ) → both ≡ n + m → CountsMore before n mid → CountsMore mid m now → CountsMore before both now
 counts_then before mid now n m both is p q = record { most = omega arith; least = omega arith }
 
 pub gave_then : {old mid new : SourceState} {x y : List ℕ} → Gave old mid x → Gave mid new y → Gave old new (x ++ y)

@@ -11,7 +11,7 @@ use Rattle.line_talk.specs.Streams.{SourceState, SinkState, Gave}
 use Rattle.line_talk.specs.Ends.{ended_by}
 use Rattle.line_talk.specs.Lines.{heard, lines_from, lines, talk, IsWithinLimits}
 use Rattle.line_talk.specs.Conversation.{Line, Turn, Answered, StopsBehind}
-use Rattle.line_talk.specs.Hearing.{heard_from, longer}
+use Rattle.line_talk.specs.Hearing.{heard_from, longer_line}
 use Rattle.line_talk.specs.Hears.{HearsAll, HearsPart, StopsWithin}
 use Rattle.line_talk.specs.Talked.{Talked, AreFirst, AnswersOf, Converses}
 use Rattle.line_talk.proofs.StreamsLemmas.{gave_none, gave_then}
@@ -20,13 +20,13 @@ use Rattle.line_talk.proofs.TurnLemmas.{answered_none, answered_then, stops_then
 use Rattle.line_talk.proofs.HearingLemmas.{hears_none, hears_then, heard_behind}
 
 -- a line that is kept grows as it is heard
-heard_longer : (begun : List ℕ) (byte : ℕ) → longer (heard begun) byte ≡ heard (begun ++ byte ∷ [])
+heard_longer : (begun : List ℕ) (byte : ℕ) → longer_line (heard begun) byte ≡ heard (begun ++ byte ∷ [])
 heard_longer begun byte = grind (arith, nat_tests, length-append {A = ℕ})
 
 -- the lines that are kept are those of the bytes
 heard_lines : (begun bytes : List ℕ) → heard_from (heard begun) bytes ≡ map heard (lines_from begun bytes)
 heard_lines begun [] = refl
-heard_lines begun (byte ∷ bytes) = elim (nat_eq byte 10) as (λ b. cond b (heard begun ∷ heard_from (Some []) bytes) (heard_from (longer (heard begun) byte) bytes) ≡ map heard (cond b (begun ∷ lines_from [] bytes) (lines_from (begun ++ byte ∷ []) bytes))) [
+heard_lines begun (byte ∷ bytes) = elim (nat_eq byte 10) as (λ b. cond b (heard begun ∷ heard_from (Some []) bytes) (heard_from (longer_line (heard begun) byte) bytes) ≡ map heard (cond b (begun ∷ lines_from [] bytes) (lines_from (begun ++ byte ∷ []) bytes))) [
   | true ↦ ap (λ ls. heard begun ∷ ls) (heard_lines [] bytes)
   | false ↦ ap (λ l. heard_from l bytes) (heard_longer begun byte) ∙ heard_lines (begun ++ byte ∷ []) bytes
 ]

@@ -6,7 +6,7 @@ use Rattle.line_talk.specs.declared.sink.Stop.{Stop}
 use Rattle.line_talk.specs.declared.sink.Stop.TheVariants.{Output}
 use Rattle.line_talk.specs.Causes.{Rose}
 use Rattle.line_talk.specs.Streams.{SinkState, Wrote}
-use Rattle.line_talk.specs.Conversation.{Line, Turn, Turns, Answered, Tells, Breaks, StopsBehind}
+use Rattle.line_talk.specs.Conversation.{Line, Turn, Turns, Answered, TellsTurn, Breaks, StopsBehind}
 use Rattle.line_talk.proofs.StreamsLemmas.{wrote_none, wrote_then}
 
 pub turns_then : {A : Type 0} (turn : Turn A) (over : A → Bool) (a : A) (xs : List Line) (rs : List (List ℕ)) (b : A) (ys : List Line) (ss : List (List ℕ)) (c : A)
@@ -28,7 +28,7 @@ answered_then {A} {turn} {over} {a} {b} {c} {xs} {ys} {old} {mid} {new} p q = re
 }
 
 pub answered_one : {A : Type 0} {turn : Turn A} {over : A → Bool} {a b : A} {line : Line} {old new : SinkState}
-    → over a ≡ false → Tells turn a line b old new → Answered turn over a (line ∷ []) b old new
+    → over a ≡ false → TellsTurn turn a line b old new → Answered turn over a (line ∷ []) b old new
 answered_one {A} {turn} {over} {a} {b} {line} {old} {new} going t = record {
   replies = t.reply ∷ [];
   turns = (going, (b, t.turned, refl));

@@ -16,8 +16,8 @@ abbrev pub Turn : Type 0 → Type 1
 Turn A = A → Line → List ℕ → A → Type 0
 
 -- several texts, one behind the other
-abbrev pub joined : List (List ℕ) → List ℕ
-joined texts = flat_map (λ text. text) texts
+abbrev pub texts_joined : List (List ℕ) → List ℕ
+texts_joined texts = flat_map (λ text. text) texts
 
 -- from old to new these lines were answered by these replies, each before the end
 abbrev pub Turns : {A : Type 0} → Turn A → (A → Bool) → A → List Line → List (List ℕ) → A
@@ -34,10 +34,10 @@ pub record Answered {A : Type 0} (turn : Turn A) (over : A → Bool) (old : A) (
     (new : A) (output now : SinkState) : Type 0 where
   pub replies : List (List ℕ)
   pub turns : Turns turn over old lines replies new
-  pub wrote : Wrote output now (joined replies)
+  pub wrote : Wrote output now (texts_joined replies)
 
 -- a line was answered, and its reply was written whole
-pub record Tells {A : Type 0} (turn : Turn A) (old : A) (line : Line) (new : A)
+pub record TellsTurn {A : Type 0} (turn : Turn A) (old : A) (line : Line) (new : A)
     (output now : SinkState) : Type 0 where
   pub reply : List ℕ
   pub turned : turn old line reply new

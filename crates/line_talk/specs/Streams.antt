@@ -2,7 +2,7 @@
 use Rattle.std.specs.Prelude.{ℕ, ◌<◌, ◌≤◌, List, [], length, take, Bool, true, false}
 use Rattle.std.specs.Prelude.{Option}
 use Rattle.std.specs.Io.KnownBytes.{Consumes, Appends}
-use Rattle.line_talk.specs.Causes.{Counts}
+use Rattle.line_talk.specs.Causes.{CountsMore}
 use Rattle.line_talk.specs.declared.source.Got.{Got}
 use Rattle.line_talk.specs.declared.source.Got.TheVariants as got
 use Rattle.line_talk.specs.declared.sink.Put.{Put}
@@ -23,7 +23,7 @@ pub record SinkState : Type 0 where
 -- from old to new a source gave these bytes, those that it told next where it tells them
 pub record Gave (old new : SourceState) (bytes : List ℕ) : Type 0 where
   pub told : Consumes old.left new.left bytes
-  pub count : Counts old.taken (length bytes) new.taken
+  pub count : CountsMore old.taken (length bytes) new.taken
   pub later : old.faults ≤ new.faults
 
 -- from old to new a sink took these bytes, and holds them behind the others where it tells them
@@ -32,10 +32,10 @@ pub record Wrote (old new : SinkState) (bytes : List ℕ) : Type 0 where
   pub later : old.faults ≤ new.faults
 
 -- the bytes that an answer to a read gave
-abbrev pub given : Got → List ℕ → List ℕ
-given (got.Bytes n) into = take n into
-given got.End into = []
-given got.Failed into = []
+abbrev pub bytes_got : Got → List ℕ → List ℕ
+bytes_got (got.Bytes n) into = take n into
+bytes_got got.End into = []
+bytes_got got.Failed into = []
 
 -- whether an answer to a read is the end
 abbrev pub is_end : Got → Bool
@@ -56,9 +56,9 @@ IsCountWithin got.End room = Unit {0}
 IsCountWithin got.Failed room = Unit {0}
 
 -- the part of a piece that a write took
-abbrev pub kept : Put → List ℕ → List ℕ
-kept (put.Took n) piece = take n piece
-kept put.Failed piece = []
+abbrev pub part_taken : Put → List ℕ → List ℕ
+part_taken (put.Took n) piece = take n piece
+part_taken put.Failed piece = []
 
 -- whether a write failed
 abbrev pub is_refused : Put → Bool

@@ -8,7 +8,7 @@ use std::alloc::{AllocError, Global};
 /// One side of a conversation, which answers lines. It is lent, and told of whatever ends a call.
 pub trait Answers {
     ghost use Rattle.std.specs.Prelude.{Bool};
-    ghost use Rattle.line_talk.specs.Conversation.{Turn, Tells, Breaks};
+    ghost use Rattle.line_talk.specs.Conversation.{Turn, TellsTurn, Breaks};
     ghost use Rattle.line_talk.specs.Lines.{IsHeard};
 
     /// What is known of it.
@@ -58,7 +58,7 @@ pub trait Answers {
         requires invariant { invariant self.old }
         requires ready { ready self.old }
         requires heard { IsHeard (option_map (λ l. l.now) line) }
-        ensures ok { OnOk result (Tells turn (state self.old)
+        ensures ok { OnOk result (TellsTurn turn (state self.old)
             (option_map (λ l. l.now) line.entry) (state self.new)
             (K.sink output.old) (K.sink output.new)) }
         ensures err { IfErr result (λ cause. Breaks cut (state self.old)

@@ -1,7 +1,7 @@
 //! The line that has begun.
 ghost use Rattle.std.specs.Prelude.{◌≡◌, [], Some, OnOk};
 ghost use Rattle.std.specs.Option.{option_map};
-ghost use Rattle.line_talk.specs.Hearing.{longer};
+ghost use Rattle.line_talk.specs.Hearing.{longer_line};
 ghost use Rattle.line_talk.specs.Lines.{IsHeard};
 
 use std::alloc::{AllocError, Global};
@@ -41,7 +41,7 @@ impl LineBuffer {
 
     /// One byte more. Of a line that is too long no byte is kept.
     pub fn push(&mut self, byte: u8) -> Result<(), AllocError>
-        ensures { OnOk result (self.new ≡ longer self.old byte) }
+        ensures { OnOk result (self.new ≡ longer_line self.old byte) }
     {
         if self.long {
             return Ok(());

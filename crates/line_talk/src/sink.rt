@@ -18,7 +18,8 @@ pub enum Put {
 pub trait Sink {
     ghost use Rattle.line_talk.specs.Causes.{Rose};
     ghost use Rattle.line_talk.specs.Failing.{Failing, FailsOrWants};
-    ghost use Rattle.line_talk.specs.Streams.{SinkState, kept, is_refused, IsTakenWithin, Wrote};
+    ghost use Rattle.line_talk.specs.Streams.{SinkState, part_taken, is_refused, IsTakenWithin};
+    ghost use Rattle.line_talk.specs.Streams.{Wrote};
 
     /// What is known of it. The fault count never falls.
     ghost sink: { Self → SinkState };
@@ -34,7 +35,7 @@ pub trait Sink {
     /// Takes bytes from the front of the piece.
     fn write(&mut self, piece: &[u8]) -> Put
         ensures within { IsTakenWithin result (length piece.now) }
-        ensures value { Wrote (sink self.old) (sink self.new) (kept result piece.now) }
+        ensures value { Wrote (sink self.old) (sink self.new) (part_taken result piece.now) }
         ensures listed { FailsOrWants (failing_writes self.old) (failing_writes self.new)
             (is_refused result) }
         ensures beside { beside self.new ≡ beside self.old }

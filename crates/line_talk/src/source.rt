@@ -17,7 +17,7 @@ pub trait Source {
     ghost use Rattle.std.specs.Io.KnownBytes.{IsAtEnd};
     ghost use Rattle.line_talk.specs.Causes.{Rose};
     ghost use Rattle.line_talk.specs.Failing.{Failing, FailsAsListed};
-    ghost use Rattle.line_talk.specs.Streams.{SourceState, given, is_end, is_failed};
+    ghost use Rattle.line_talk.specs.Streams.{SourceState, bytes_got, is_end, is_failed};
     ghost use Rattle.line_talk.specs.Streams.{IsCountWithin, Gave};
 
     /// What is known of it. The fault count never falls.
@@ -35,7 +35,7 @@ pub trait Source {
     fn read(&mut self, into: &mut [u8]) -> Got
         requires { 0 < length into.old }
         ensures within { IsCountWithin result (length into.new) }
-        ensures value { Gave (source self.old) (source self.new) (given result into.new) }
+        ensures value { Gave (source self.old) (source self.new) (bytes_got result into.new) }
         ensures at_end { result ≡ Got.End → IsAtEnd (source self.new).left }
         ensures ended { (source self.new).ended ≡ ((source self.old).ended || is_end result) }
         ensures listed { FailsAsListed (failing_reads self.old) (failing_reads self.new) false

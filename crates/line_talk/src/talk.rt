@@ -2,7 +2,7 @@
 ghost use Rattle.std.specs.Prelude.{◌≡◌, ◌<◌, ◌||◌, length, min, false};
 ghost use Rattle.std.specs.Io.KnownBytes.{IsAtEnd};
 ghost use Rattle.line_talk.specs.Causes.{Rose};
-ghost use Rattle.line_talk.specs.Streams.{Gave, given, is_end, IsCountWithin};
+ghost use Rattle.line_talk.specs.Streams.{Gave, bytes_got, is_end, IsCountWithin};
 ghost use Rattle.line_talk.specs.Talked.{Talked};
 
 use crate::answers::Answers;
@@ -22,7 +22,7 @@ fn read_at_most<S: Source>(input: &mut S, buffer: &mut [u8], most: usize) -> Got
     requires buffer { 0 < length buffer.old }
     requires most { 0 < most }
     ensures within { IsCountWithin result (min most (length buffer.new)) }
-    ensures value { Gave (S.source input.old) (S.source input.new) (given result buffer.new) }
+    ensures value { Gave (S.source input.old) (S.source input.new) (bytes_got result buffer.new) }
     ensures at_end { result ≡ Got.End → IsAtEnd (S.source input.new).left }
     ensures ended { (S.source input.new).ended ≡ ((S.source input.old).ended || is_end result) }
     ensures beside { S.beside input.new ≡ S.beside input.old }

@@ -8,9 +8,9 @@ use Rattle.story_text.specs.Escape as texts
 use Rattle.story_text.specs.Laws.{AreVisible}
 use Rattle.story_text.proofs.TextLaws.{each_spelling, spells_only, visible_only}
 use Rattle.line_words.specs.Keycode.{is_code, is_terminator}
-use Rattle.line_words.specs.Reading.{Reader, ◌>>=◌, ◌then◌, at_end, whole, made}
-use Rattle.line_words.specs.Field.{word_at, is_letter, are_letters, is_key, checked, number_at, key_at, text_at, code_at, terminator_at}
-use Rattle.line_words.specs.Spelling.{field, number, terminator, IsTerminator}
+use Rattle.line_words.specs.Reading.{Reader, ◌>>=◌, ◌then◌, at_end, whole, made_if_read}
+use Rattle.line_words.specs.Field.{word_at, is_letter, are_letters, is_key, checked, number_between, key_at, text_at, code_at, terminator_at}
+use Rattle.line_words.specs.Spelling.{field, number_field, terminator, IsTerminator}
 use Rattle.line_words.proofs.WordLaws.{bind_some, both, some_is, if_some, all_digits, NoSpace, IsEnd, word_at_again, word_at_only, number_again, number_only, digits-decimal}
 
 -- ---- no field has a CR
@@ -94,34 +94,34 @@ whole-only {A} Rests S read bytes x r e =
     let same : bytes ≡ taken.0 = taken.1 ∙ ap (λ (t : List ℕ). taken.0 ++ t) nil ∙ append-nil taken.0 in
     subst (λ (y : A). S bytes y) (some_is a.0.0 x b.2) (subst (λ (t : List ℕ). S t a.0.0) (sym same) taken.2)
 
-pub made-only : {A B : Type 0} (f : A → B) (read : Option A) (y : B) → made f read ≡ Some y → (x : A) × (read ≡ Some x) × (f x ≡ y)
+pub made-only : {A B : Type 0} (f : A → B) (read : Option A) (y : B) → made_if_read f read ≡ Some y → (x : A) × (read ≡ Some x) × (f x ≡ y)
 made-only f (Some x) y e = (x, refl, some_is (f x) y e)
 made-only f None y e = absurd cc
 
 -- ---- the fields
 
 abbrev pub NumberIs : ℕ → ℕ → List ℕ → ℕ → Type 0
-NumberIs low high front n = (front ≡ number n) × (low ≤ n) × (n ≤ high)
+NumberIs low high front n = (front ≡ number_field n) × (low ≤ n) × (n ≤ high)
 
 abbrev pub KeyIs : List ℕ → List ℕ → Type 0
 KeyIs front key = (front ≡ field key) × (is_key key ≡ true)
 
 abbrev pub TextIs : List ℕ → List ℕ → Type 0
-TextIs front text = (word : List ℕ) × (front ≡ field word) × texts.Spells word text
+TextIs front text = (word : List ℕ) × (front ≡ field word) × texts.WordSpells word text
 
 abbrev pub CodeIs : List ℕ → ℕ → Type 0
-CodeIs front code = (front ≡ number code) × (is_code code ≡ true)
+CodeIs front code = (front ≡ number_field code) × (is_code code ≡ true)
 
 abbrev pub TerminatorIs : List ℕ → ℕ → Type 0
 TerminatorIs front term = (front ≡ terminator term) × IsTerminator term
 
-number_clean : (n : ℕ) → n < 2 ^ 64 → NoCr (number n)
+number_clean : (n : ℕ) → n < 2 ^ 64 → NoCr (number_field n)
 number_clean n lt = (refl, digits_no_cr (decimal n) (digits-decimal n lt))
 
-pub number_reads : (low high : ℕ) → high < 2 ^ 64 → IsReader ℕ IsEnd (NumberIs low high) (number_at low high)
+pub number_reads : (low high : ℕ) → high < 2 ^ 64 → IsReader ℕ IsEnd (NumberIs low high) (number_between low high)
 number_reads low high small = record {
   again = λ front rest n h r. rw h.0 (number_again low high n rest h.1 h.2 small r);
-  only = λ bytes rest n e. let t = number_only low high n bytes rest small e in (number n, t.0.parts, (refl, t.1, t.2));
+  only = λ bytes rest n e. let t = number_only low high n bytes rest small e in (number_field n, t.0.parts, (refl, t.1, t.2));
   ends = λ front rest n h r. rw h.0 refl;
   clean = λ front n h. rw h.0 (number_clean n (omega (arith, h.2, small)));
 }
@@ -177,11 +177,11 @@ unfolding code_at
 code_reads = record {
   again = λ front rest code h r. rw (h.0, number_again 0 4294967295 code rest (omega arith) (code_small code h.1) (omega arith) r, h.1) refl;
   only = λ bytes rest code e.
-      let a = bind_some (number_at 0 4294967295 bytes) (λ code. checked (is_code code.0) code) (code, rest) e in
+      let a = bind_some (number_between 0 4294967295 bytes) (λ code. checked (is_code code.0) code) (code, rest) e in
       let h = if_some (is_code a.0.0) (Some a.0) (code, rest) a.2 in
       let t = number_only 0 4294967295 a.0.0 bytes a.0.1 (omega arith) a.1 in
       subst (λ (p : ℕ × List ℕ). (front : List ℕ) × (bytes ≡ front ++ p.1) × CodeIs front p.0) (some_is a.0 (code, rest) h.1)
-      (number a.0.0, t.0.parts, (refl, h.0));
+      (number_field a.0.0, t.0.parts, (refl, h.0));
   ends = λ front rest code h r. rw h.0 refl;
   clean = λ front code h. rw h.0 (number_clean code (omega (arith, code_small code h.1)));
 }
@@ -210,11 +210,11 @@ terminator_only [] rest term e =
     subst (λ (p : ℕ × List ℕ). (front : List ℕ) × ([] ≡ front ++ p.1) × TerminatorIs front p.0) (some_is (0, []) (term, rest) e)
     ([], refl, (refl, refl))
 terminator_only (b ∷ bs) rest term e =
-    let a = bind_some (number_at 0 4294967295 (b ∷ bs)) (λ key. checked (is_terminator key.0) key) (term, rest) e in
+    let a = bind_some (number_between 0 4294967295 (b ∷ bs)) (λ key. checked (is_terminator key.0) key) (term, rest) e in
     let h = if_some (is_terminator a.0.0) (Some a.0) (term, rest) a.2 in
     let t = number_only 0 4294967295 a.0.0 (b ∷ bs) a.0.1 (omega arith) a.1 in
     subst (λ (p : ℕ × List ℕ). (front : List ℕ) × (b ∷ bs ≡ front ++ p.1) × TerminatorIs front p.0) (some_is a.0 (term, rest) h.1)
-    (number a.0.0, t.0.parts, (rw (key_is_not_zero a.0.0 h.0) refl, rw (key_is_not_zero a.0.0 h.0) h.0))
+    (number_field a.0.0, t.0.parts, (rw (key_is_not_zero a.0.0 h.0) refl, rw (key_is_not_zero a.0.0 h.0) h.0))
 
 terminator_ends : (front rest : List ℕ) (term : ℕ) → TerminatorIs front term → IsNil rest → IsEnd (front ++ rest)
 terminator_ends front rest term h r =

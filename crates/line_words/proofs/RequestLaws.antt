@@ -11,12 +11,12 @@ use Rattle.line_words.specs.declared.request.Request.TheVariants.{Open, Line, Ch
 use Rattle.line_words.specs.declared.play.Play.{Play}
 use Rattle.line_words.specs.declared.play.Play.TheVariants as plays
 use Rattle.line_words.specs.Keycode.{is_code}
-use Rattle.line_words.specs.Reading.{Reader, ◌then◌, whole, made}
-use Rattle.line_words.specs.Field.{number_at, key_at, text_at, code_at, terminator_at, after, fields_or, named}
-use Rattle.line_words.specs.Play.{line_at, char_at, line_play, char_play, file_play, spelled_play, play_of, ends_in_cr, without_cr, is_long, unless_long}
+use Rattle.line_words.specs.Reading.{Reader, ◌then◌, whole, made_if_read}
+use Rattle.line_words.specs.Field.{number_between, key_at, text_at, code_at, terminator_at, behind_name, fields_or, fields_named}
+use Rattle.line_words.specs.Play.{line_at, window_and_code_at, line_play, char_play, file_play, spelled_play, play_of, ends_in_cr, without_cr, is_long, unless_long}
 use Rattle.line_words.specs.Play as play
-use Rattle.line_words.specs.Request.{session_at, numbered_at, setup_at, open_of, line_of, char_of, file_of, last_of, close_of, made_open, made_line, made_char, made_file, made_last, made_close, spelled_request, request_of}
-use Rattle.line_words.specs.Spelling.{field, number, terminator, session, numbered, typed, IsSession, IsNumbered, IsTerminator, IsRequest, SpellsRequest, print_request, SpellsPlay, IsLineOf}
+use Rattle.line_words.specs.Request.{session_at, numbered_at, setup_fields_at, open_of, line_request, char_request, file_request, last_request, close_of, made_open, made_line, made_char, made_file, made_last, made_close, spelled_request, request_of}
+use Rattle.line_words.specs.Spelling.{field, number_field, terminator, session, numbered_fields, typed_fields, IsSession, IsNumbered, IsTerminator, IsRequest, SpellsRequest, print_request, SpellsPlay, IsLineOf}
 use Rattle.line_words.proofs.WordLaws.{both, some_is, if_some, else_some, IsEnd}
 use Rattle.line_words.proofs.ReaderLaws.{NoCr, NoCr-append, IsNil, IsReader, Both, then_reads, whole-again, whole-only, made-only, NumberIs, KeyIs, TextIs, CodeIs, TerminatorIs, number_reads, key_reads, text_reads, code_reads, terminator_reads}
 
@@ -37,47 +37,47 @@ Typed = Both (NumberIs 0 4294967295) (Both TextIs TerminatorIs)
 abbrev Pressed : List ℕ → ℕ × ℕ → Type 0
 Pressed = Both (NumberIs 0 4294967295) CodeIs
 
-u32_reads : IsReader ℕ IsEnd (NumberIs 0 4294967295) (number_at 0 4294967295)
+u32_reads : IsReader ℕ IsEnd (NumberIs 0 4294967295) (number_between 0 4294967295)
 u32_reads = number_reads 0 4294967295 (omega arith)
 
 session_reads : IsReader (ℕ × List ℕ) IsEnd Session session_at
 unfolding session_at
-session_reads = then_reads IsEnd (NumberIs 0 4294967295) KeyIs (number_at 0 4294967295) key_at u32_reads key_reads
+session_reads = then_reads IsEnd (NumberIs 0 4294967295) KeyIs (number_between 0 4294967295) key_at u32_reads key_reads
 
 numbered_reads : IsReader (ℕ × (List ℕ × ℕ)) IsEnd Numbered numbered_at
 unfolding numbered_at
 numbered_reads =
-    then_reads IsEnd (NumberIs 0 4294967295) (Both KeyIs (NumberIs 1 4294967295)) (number_at 0 4294967295) (key_at then number_at 1 4294967295) u32_reads
-    (then_reads IsEnd KeyIs (NumberIs 1 4294967295) key_at (number_at 1 4294967295) key_reads (number_reads 1 4294967295 (omega arith)))
+    then_reads IsEnd (NumberIs 0 4294967295) (Both KeyIs (NumberIs 1 4294967295)) (number_between 0 4294967295) (key_at then number_between 1 4294967295) u32_reads
+    (then_reads IsEnd KeyIs (NumberIs 1 4294967295) key_at (number_between 1 4294967295) key_reads (number_reads 1 4294967295 (omega arith)))
 
-setup_reads : IsReader (ℕ × (ℕ × (ℕ × ℕ))) IsEnd Setup setup_at
-unfolding setup_at
+setup_reads : IsReader (ℕ × (ℕ × (ℕ × ℕ))) IsEnd Setup setup_fields_at
+unfolding setup_fields_at
 setup_reads =
     let byte = number_reads 1 255 (omega arith) in
-    let screen = then_reads IsEnd (NumberIs 1 255) (NumberIs 1 255) (number_at 1 255) (number_at 1 255) byte byte in
+    let screen = then_reads IsEnd (NumberIs 1 255) (NumberIs 1 255) (number_between 1 255) (number_between 1 255) byte byte in
     let seed = number_reads 0 18446744073709551615 (omega arith) in
-    then_reads IsEnd (NumberIs 0 65535) (Both (NumberIs 0 18446744073709551615) (Both (NumberIs 1 255) (NumberIs 1 255))) (number_at 0 65535)
-    (number_at 0 18446744073709551615 then (number_at 1 255 then number_at 1 255)) (number_reads 0 65535 (omega arith))
-    (then_reads IsEnd (NumberIs 0 18446744073709551615) (Both (NumberIs 1 255) (NumberIs 1 255)) (number_at 0 18446744073709551615) (number_at 1 255 then number_at 1 255) seed screen)
+    then_reads IsEnd (NumberIs 0 65535) (Both (NumberIs 0 18446744073709551615) (Both (NumberIs 1 255) (NumberIs 1 255))) (number_between 0 65535)
+    (number_between 0 18446744073709551615 then (number_between 1 255 then number_between 1 255)) (number_reads 0 65535 (omega arith))
+    (then_reads IsEnd (NumberIs 0 18446744073709551615) (Both (NumberIs 1 255) (NumberIs 1 255)) (number_between 0 18446744073709551615) (number_between 1 255 then number_between 1 255) seed screen)
 
 typed_reads : IsReader (ℕ × (List ℕ × ℕ)) IsNil Typed line_at
 unfolding line_at
 typed_reads =
-    then_reads IsNil (NumberIs 0 4294967295) (Both TextIs TerminatorIs) (number_at 0 4294967295) (text_at then terminator_at) u32_reads
+    then_reads IsNil (NumberIs 0 4294967295) (Both TextIs TerminatorIs) (number_between 0 4294967295) (text_at then terminator_at) u32_reads
     (then_reads IsNil TextIs TerminatorIs text_at terminator_at text_reads terminator_reads)
 
-pressed_reads : IsReader (ℕ × ℕ) IsEnd Pressed char_at
-unfolding char_at
-pressed_reads = then_reads IsEnd (NumberIs 0 4294967295) CodeIs (number_at 0 4294967295) code_at u32_reads code_reads
+pressed_reads : IsReader (ℕ × ℕ) IsEnd Pressed window_and_code_at
+unfolding window_and_code_at
+pressed_reads = then_reads IsEnd (NumberIs 0 4294967295) CodeIs (number_between 0 4294967295) code_at u32_reads code_reads
 
-open_reads : IsReader ((ℕ × List ℕ) × (ℕ × (ℕ × (ℕ × ℕ)))) IsEnd (Both Session Setup) (session_at then setup_at)
-open_reads = then_reads IsEnd Session Setup session_at setup_at session_reads setup_reads
+open_reads : IsReader ((ℕ × List ℕ) × (ℕ × (ℕ × (ℕ × ℕ)))) IsEnd (Both Session Setup) (session_at then setup_fields_at)
+open_reads = then_reads IsEnd Session Setup session_at setup_fields_at session_reads setup_reads
 
 line_reads : IsReader ((ℕ × (List ℕ × ℕ)) × (ℕ × (List ℕ × ℕ))) IsNil (Both Numbered Typed) (numbered_at then line_at)
 line_reads = then_reads IsNil Numbered Typed numbered_at line_at numbered_reads typed_reads
 
-char_reads : IsReader ((ℕ × (List ℕ × ℕ)) × (ℕ × ℕ)) IsEnd (Both Numbered Pressed) (numbered_at then char_at)
-char_reads = then_reads IsEnd Numbered Pressed numbered_at char_at numbered_reads pressed_reads
+char_reads : IsReader ((ℕ × (List ℕ × ℕ)) × (ℕ × ℕ)) IsEnd (Both Numbered Pressed) (numbered_at then window_and_code_at)
+char_reads = then_reads IsEnd Numbered Pressed numbered_at window_and_code_at numbered_reads pressed_reads
 
 file_reads : IsReader ((ℕ × (List ℕ × ℕ)) × List ℕ) IsEnd (Both Numbered TextIs) (numbered_at then text_at)
 file_reads = then_reads IsEnd Numbered TextIs numbered_at text_at numbered_reads text_reads
@@ -88,7 +88,7 @@ file_reads = then_reads IsEnd Numbered TextIs numbered_at text_at numbered_reads
 abbrev Behind : List ℕ → List ℕ → Request → Type 0
 Behind name rest request = SpellsRequest (name ++ rest) request
 
-is_text : (word text : List ℕ) → texts.Spells word text → IsText text
+is_text : (word text : List ℕ) → texts.WordSpells word text → IsText text
 is_text word text h = h.2
 
 open_behind : (rest : List ℕ) (x : (ℕ × List ℕ) × (ℕ × (ℕ × (ℕ × ℕ)))) → Both Session Setup rest x → Behind (codes "OPEN") rest (made_open x)
@@ -116,68 +116,68 @@ close_behind rest (s, (key, n)) (a, b, e, hs, (c, d, e2, hk, hn)) =
 
 -- a kind of line that was read, from its reader and what its fields spell
 kind_only : {A B : Type 0} (Rests : List ℕ → Type 0) (S : List ℕ → A → Type 0) (read : Reader A) (f : A → B) (P : B → Type 0) (rest : List ℕ) (y : B)
-    → IsReader A Rests S read → ((x : A) → S rest x → P (f x)) → made f (whole read rest) ≡ Some y → P y
+    → IsReader A Rests S read → ((x : A) → S rest x → P (f x)) → made_if_read f (whole read rest) ≡ Some y → P y
 kind_only Rests S read f P rest y r spells e =
     let m = made-only f (whole read rest) y e in
     subst P m.2 (spells m.0 (whole-only Rests S read rest m.0 r m.1))
 
 open_only : (rest : List ℕ) (request : Request) → open_of rest ≡ Some request → Behind (codes "OPEN") rest request
 unfolding open_of
-open_only rest request e = kind_only IsEnd (Both Session Setup) (session_at then setup_at) made_open (Behind (codes "OPEN") rest) rest request open_reads (open_behind rest) e
+open_only rest request e = kind_only IsEnd (Both Session Setup) (session_at then setup_fields_at) made_open (Behind (codes "OPEN") rest) rest request open_reads (open_behind rest) e
 
-line_only : (rest : List ℕ) (request : Request) → line_of rest ≡ Some request → Behind (codes "LINE") rest request
-unfolding line_of
+line_only : (rest : List ℕ) (request : Request) → line_request rest ≡ Some request → Behind (codes "LINE") rest request
+unfolding line_request
 line_only rest request e = kind_only IsNil (Both Numbered Typed) (numbered_at then line_at) made_line (Behind (codes "LINE") rest) rest request line_reads (line_behind rest) e
 
-char_only : (rest : List ℕ) (request : Request) → char_of rest ≡ Some request → Behind (codes "CHAR") rest request
-unfolding char_of
-char_only rest request e = kind_only IsEnd (Both Numbered Pressed) (numbered_at then char_at) made_char (Behind (codes "CHAR") rest) rest request char_reads (char_behind rest) e
+char_only : (rest : List ℕ) (request : Request) → char_request rest ≡ Some request → Behind (codes "CHAR") rest request
+unfolding char_request
+char_only rest request e = kind_only IsEnd (Both Numbered Pressed) (numbered_at then window_and_code_at) made_char (Behind (codes "CHAR") rest) rest request char_reads (char_behind rest) e
 
-file_only : (rest : List ℕ) (request : Request) → file_of rest ≡ Some request → Behind (codes "FILE") rest request
-unfolding file_of
+file_only : (rest : List ℕ) (request : Request) → file_request rest ≡ Some request → Behind (codes "FILE") rest request
+unfolding file_request
 file_only rest request e = kind_only IsEnd (Both Numbered TextIs) (numbered_at then text_at) made_file (Behind (codes "FILE") rest) rest request file_reads (file_behind rest) e
 
-last_only : (rest : List ℕ) (request : Request) → last_of rest ≡ Some request → Behind (codes "LAST") rest request
-unfolding last_of
+last_only : (rest : List ℕ) (request : Request) → last_request rest ≡ Some request → Behind (codes "LAST") rest request
+unfolding last_request
 last_only rest request e = kind_only IsEnd Session session_at made_last (Behind (codes "LAST") rest) rest request session_reads (last_behind rest) e
 
 close_only : (rest : List ℕ) (request : Request) → close_of rest ≡ Some request → Behind (codes "CLOSE") rest request
 unfolding close_of
 close_only rest request e = kind_only IsEnd Numbered numbered_at made_close (Behind (codes "CLOSE") rest) rest request numbered_reads (close_behind rest) e
 
-after_only : (name line rest : List ℕ) → after name line ≡ Some rest → line ≡ name ++ rest
+after_only : (name line rest : List ℕ) → behind_name name line ≡ Some rest → line ≡ name ++ rest
 after_only [] line rest e = some_is line rest e
 after_only (n ∷ ns) [] rest e = absurd cc
 after_only (n ∷ ns) (b ∷ bs) rest e =
-    let h = if_some (n == b) (after ns bs) rest e in
+    let h = if_some (n == b) (behind_name ns bs) rest e in
     let same : n ≡ b = grind (arith, nat_tests, h.0) in
     rw (← same) (ap (λ (t : List ℕ). n ∷ t) (after_only ns bs rest h.1))
 
 -- the line begins with the name and its fields are read, or the next reader has it
-fields_only : {A : Type 0} (Spells : List ℕ → A → Type 0) (name line : List ℕ) (fields : List ℕ → Option A) (other : Option A) (x : A) (found : Option (List ℕ)) → after name line ≡ found
+fields_only : {A : Type 0} (Spells : List ℕ → A → Type 0) (name line : List ℕ) (fields : List ℕ → Option A) (other : Option A) (x : A) (found : Option (List ℕ)) → behind_name name line ≡ found
     → ((rest : List ℕ) → fields rest ≡ Some x → Spells (name ++ rest) x) → (other ≡ Some x → Spells line x) → fields_or fields other found ≡ Some x → Spells line x
 fields_only Spells name line fields other x (Some rest) is mine next e = rw (after_only name line rest is) (mine rest e)
 fields_only Spells name line fields other x None is mine next e = next e
 
 named_only : {A : Type 0} (Spells : List ℕ → A → Type 0) (name line : List ℕ) (fields : List ℕ → Option A) (other : Option A) (x : A)
-    → ((rest : List ℕ) → fields rest ≡ Some x → Spells (name ++ rest) x) → (other ≡ Some x → Spells line x) → named name line fields other ≡ Some x → Spells line x
-named_only Spells name line fields other x mine next e = fields_only Spells name line fields other x (after name line) refl mine next e
+    → ((rest : List ℕ) → fields rest ≡ Some x → Spells (name ++ rest) x) → (other ≡ Some x → Spells line x) → fields_named name line fields other ≡ Some x → Spells line x
+named_only Spells name line fields other x mine next e = fields_only Spells name line fields other x (behind_name name line) refl mine next e
 
 -- the names of requests, from the last on
 abbrev close_named : List ℕ → Option Request
-close_named line = named (codes "CLOSE") line close_of None
+close_named line = fields_named (codes "CLOSE") line close_of None
 
 abbrev last_named : List ℕ → Option Request
-last_named line = named (codes "LAST") line last_of (close_named line)
+last_named line = fields_named (codes "LAST") line last_request (close_named line)
 
 abbrev file_named : List ℕ → Option Request
-file_named line = named (codes "FILE") line file_of (last_named line)
+file_named line = fields_named (codes "FILE") line file_request (last_named line)
 
 abbrev char_named : List ℕ → Option Request
-char_named line = named (codes "CHAR") line char_of (file_named line)
+char_named line = fields_named (codes "CHAR") line char_request (file_named line)
 
 abbrev line_named : List ℕ → Option Request
-line_named line = named (codes "LINE") line line_of (char_named line)
+line_named line = fields_named (codes "LINE") line line_request (char_named line)
 
 nothing : (line : List ℕ) (request : Request) → None ≡ Some request → SpellsRequest line request
 nothing line request e = absurd cc
@@ -186,53 +186,53 @@ spelled_only : (line : List ℕ) (request : Request) → spelled_request line �
 unfolding spelled_request
 spelled_only line request =
     named_only SpellsRequest (codes "OPEN") line open_of (line_named line) request (λ rest. open_only rest request)
-    (named_only SpellsRequest (codes "LINE") line line_of (char_named line) request (λ rest. line_only rest request)
-    (named_only SpellsRequest (codes "CHAR") line char_of (file_named line) request (λ rest. char_only rest request)
-    (named_only SpellsRequest (codes "FILE") line file_of (last_named line) request (λ rest. file_only rest request)
-    (named_only SpellsRequest (codes "LAST") line last_of (close_named line) request (λ rest. last_only rest request)
+    (named_only SpellsRequest (codes "LINE") line line_request (char_named line) request (λ rest. line_only rest request)
+    (named_only SpellsRequest (codes "CHAR") line char_request (file_named line) request (λ rest. char_only rest request)
+    (named_only SpellsRequest (codes "FILE") line file_request (last_named line) request (λ rest. file_only rest request)
+    (named_only SpellsRequest (codes "LAST") line last_request (close_named line) request (λ rest. last_only rest request)
     (named_only SpellsRequest (codes "CLOSE") line close_of None request (λ rest. close_only rest request)
     (nothing line request))))))
 
 -- ---- from the spelling to what is read
 
 kind_again : {A B : Type 0} (Rests : List ℕ → Type 0) (S : List ℕ → A → Type 0) (read : Reader A) (f : A → B) (rest : List ℕ) (x : A)
-    → IsReader A Rests S read → Rests [] → S rest x → made f (whole read rest) ≡ Some (f x)
+    → IsReader A Rests S read → Rests [] → S rest x → made_if_read f (whole read rest) ≡ Some (f x)
 kind_again Rests S read f rest x r nil h = rw (whole-again Rests S read rest x r nil h) refl
 
 session_spelling : (s : ℕ) (key : List ℕ) → IsSession s key → Session (session s key) (s, key)
-session_spelling s key h = (number s, field key, refl, (refl, omega arith, h.0), (refl, h.1))
+session_spelling s key h = (number_field s, field key, refl, (refl, omega arith, h.0), (refl, h.1))
 
-numbered_spelling : (s : ℕ) (key : List ℕ) (n : ℕ) → IsNumbered s key n → Numbered (numbered s key n) (s, (key, n))
+numbered_spelling : (s : ℕ) (key : List ℕ) (n : ℕ) → IsNumbered s key n → Numbered (numbered_fields s key n) (s, (key, n))
 numbered_spelling s key n h =
-    (number s, field key ++ number n, refl, (refl, omega arith, h.0), (field key, number n, refl, (refl, h.1), (refl, h.2, h.3)))
+    (number_field s, field key ++ number_field n, refl, (refl, omega arith, h.0), (field key, number_field n, refl, (refl, h.1), (refl, h.2, h.3)))
 
-typed_spelling : (win : ℕ) (word text : List ℕ) (term : ℕ) → win ≤ 4294967295 → texts.Spells word text → IsTerminator term → Typed (typed win word term) (win, (text, term))
+typed_spelling : (win : ℕ) (word text : List ℕ) (term : ℕ) → win ≤ 4294967295 → texts.WordSpells word text → IsTerminator term → Typed (typed_fields win word term) (win, (text, term))
 typed_spelling win word text term w h t =
-    (number win, field word ++ terminator term, refl, (refl, omega arith, w), (field word, terminator term, refl, (word, refl, h), (refl, t)))
+    (number_field win, field word ++ terminator term, refl, (refl, omega arith, w), (field word, terminator term, refl, (word, refl, h), (refl, t)))
 
-pressed_spelling : (win code : ℕ) → win ≤ 4294967295 → is_code code ≡ true → Pressed (number win ++ number code) (win, code)
-pressed_spelling win code w h = (number win, number code, refl, (refl, omega arith, w), (refl, h))
+pressed_spelling : (win code : ℕ) → win ≤ 4294967295 → is_code code ≡ true → Pressed (number_field win ++ number_field code) (win, code)
+pressed_spelling win code w h = (number_field win, number_field code, refl, (refl, omega arith, w), (refl, h))
 
 setup_spelling : (story seed cols rows : ℕ) → story ≤ 65535 → seed ≤ 18446744073709551615 → 1 ≤ cols → cols ≤ 255 → 1 ≤ rows → rows ≤ 255
-    → Setup (number story ++ (number seed ++ (number cols ++ number rows))) (story, (seed, (cols, rows)))
+    → Setup (number_field story ++ (number_field seed ++ (number_field cols ++ number_field rows))) (story, (seed, (cols, rows)))
 setup_spelling story seed cols rows st se c0 c1 r0 r1 =
-    (number story, number seed ++ (number cols ++ number rows), refl, (refl, omega arith, st), (number seed, number cols ++ number rows, refl, (refl, omega arith, se), (number cols, number rows, refl, (refl, c0, c1), (refl, r0, r1))))
+    (number_field story, number_field seed ++ (number_field cols ++ number_field rows), refl, (refl, omega arith, st), (number_field seed, number_field cols ++ number_field rows, refl, (refl, omega arith, se), (number_field cols, number_field rows, refl, (refl, c0, c1), (refl, r0, r1))))
 
 spelled_again : (bytes : List ℕ) (request : Request) → SpellsRequest bytes request → spelled_request bytes ≡ Some request
-unfolding spelled_request open_of line_of char_of file_of last_of close_of
+unfolding spelled_request open_of line_request char_request file_request last_request close_of
 spelled_again bytes (Open s key story seed cols rows budget) (h, word, text, e) =
     let setup = setup_spelling story seed cols rows h.1 h.2 h.3 h.4 h.5 h.6 in
-    rw (e, h.7) (kind_again IsEnd (Both Session Setup) (session_at then setup_at) made_open _ ((s, key), (story, (seed, (cols, rows)))) open_reads tt
-    (session s key, number story ++ (number seed ++ (number cols ++ number rows)), refl, session_spelling s key h.0, setup))
+    rw (e, h.7) (kind_again IsEnd (Both Session Setup) (session_at then setup_fields_at) made_open _ ((s, key), (story, (seed, (cols, rows)))) open_reads tt
+    (session s key, number_field story ++ (number_field seed ++ (number_field cols ++ number_field rows)), refl, session_spelling s key h.0, setup))
 spelled_again bytes (Line s key n win text term) (h, word, t, e) =
     rw e (kind_again IsNil (Both Numbered Typed) (numbered_at then line_at) made_line _ ((s, (key, n)), (win, (text, term))) line_reads refl
-    (numbered s key n, typed win word term, refl, numbered_spelling s key n h.0, typed_spelling win word text term h.1 t h.3))
+    (numbered_fields s key n, typed_fields win word term, refl, numbered_spelling s key n h.0, typed_spelling win word text term h.1 t h.3))
 spelled_again bytes (Char s key n win code) (h, word, t, e) =
-    rw e (kind_again IsEnd (Both Numbered Pressed) (numbered_at then char_at) made_char _ ((s, (key, n)), (win, code)) char_reads tt
-    (numbered s key n, number win ++ number code, refl, numbered_spelling s key n h.0, pressed_spelling win code h.1 h.2))
+    rw e (kind_again IsEnd (Both Numbered Pressed) (numbered_at then window_and_code_at) made_char _ ((s, (key, n)), (win, code)) char_reads tt
+    (numbered_fields s key n, number_field win ++ number_field code, refl, numbered_spelling s key n h.0, pressed_spelling win code h.1 h.2))
 spelled_again bytes (File s key n name) (h, word, t, e) =
     rw e (kind_again IsEnd (Both Numbered TextIs) (numbered_at then text_at) made_file _ ((s, (key, n)), name) file_reads tt
-    (numbered s key n, field word, refl, numbered_spelling s key n h.0, (word, refl, t)))
+    (numbered_fields s key n, field word, refl, numbered_spelling s key n h.0, (word, refl, t)))
 spelled_again bytes (Last s key) (h, word, t, e) =
     rw e (kind_again IsEnd Session session_at made_last _ (s, key) session_reads tt (session_spelling s key h))
 spelled_again bytes (Close s key n) (h, word, t, e) =
@@ -243,16 +243,16 @@ spelled_again bytes (Close s key n) (h, word, t, e) =
 session_clean : (s : ℕ) (key : List ℕ) → IsSession s key → NoCr (session s key)
 session_clean s key h = session_reads.clean (session s key) (s, key) (session_spelling s key h)
 
-numbered_clean : (s : ℕ) (key : List ℕ) (n : ℕ) → IsNumbered s key n → NoCr (numbered s key n)
-numbered_clean s key n h = numbered_reads.clean (numbered s key n) (s, (key, n)) (numbered_spelling s key n h)
+numbered_clean : (s : ℕ) (key : List ℕ) (n : ℕ) → IsNumbered s key n → NoCr (numbered_fields s key n)
+numbered_clean s key n h = numbered_reads.clean (numbered_fields s key n) (s, (key, n)) (numbered_spelling s key n h)
 
-typed_clean : (win : ℕ) (word text : List ℕ) (term : ℕ) → win ≤ 4294967295 → texts.Spells word text → IsTerminator term → NoCr (typed win word term)
-typed_clean win word text term w h t = typed_reads.clean (typed win word term) (win, (text, term)) (typed_spelling win word text term w h t)
+typed_clean : (win : ℕ) (word text : List ℕ) (term : ℕ) → win ≤ 4294967295 → texts.WordSpells word text → IsTerminator term → NoCr (typed_fields win word term)
+typed_clean win word text term w h t = typed_reads.clean (typed_fields win word term) (win, (text, term)) (typed_spelling win word text term w h t)
 
-pressed_clean : (win code : ℕ) → win ≤ 4294967295 → is_code code ≡ true → NoCr (number win ++ number code)
-pressed_clean win code w h = pressed_reads.clean (number win ++ number code) (win, code) (pressed_spelling win code w h)
+pressed_clean : (win code : ℕ) → win ≤ 4294967295 → is_code code ≡ true → NoCr (number_field win ++ number_field code)
+pressed_clean win code w h = pressed_reads.clean (number_field win ++ number_field code) (win, code) (pressed_spelling win code w h)
 
-text_clean : (word text : List ℕ) → texts.Spells word text → NoCr (field word)
+text_clean : (word text : List ℕ) → texts.WordSpells word text → NoCr (field word)
 text_clean word text h = text_reads.clean (field word) text (word, refl, h)
 
 spelling_clean : (bytes : List ℕ) (request : Request) → SpellsRequest bytes request → NoCr bytes
@@ -260,11 +260,11 @@ spelling_clean bytes (Open s key story seed cols rows budget) (h, word, t, e) =
     let setup = setup_reads.clean _ (story, (seed, (cols, rows))) (setup_spelling story seed cols rows h.1 h.2 h.3 h.4 h.5 h.6) in
     rw e (refl, (refl, (refl, (refl, NoCr-append (session s key) _ (session_clean s key h.0) setup))))
 spelling_clean bytes (Line s key n win text term) (h, word, t, e) =
-    rw e (refl, (refl, (refl, (refl, NoCr-append (numbered s key n) _ (numbered_clean s key n h.0) (typed_clean win word text term h.1 t h.3)))))
+    rw e (refl, (refl, (refl, (refl, NoCr-append (numbered_fields s key n) _ (numbered_clean s key n h.0) (typed_clean win word text term h.1 t h.3)))))
 spelling_clean bytes (Char s key n win code) (h, word, t, e) =
-    rw e (refl, (refl, (refl, (refl, NoCr-append (numbered s key n) _ (numbered_clean s key n h.0) (pressed_clean win code h.1 h.2)))))
+    rw e (refl, (refl, (refl, (refl, NoCr-append (numbered_fields s key n) _ (numbered_clean s key n h.0) (pressed_clean win code h.1 h.2)))))
 spelling_clean bytes (File s key n name) (h, word, t, e) =
-    rw e (refl, (refl, (refl, (refl, NoCr-append (numbered s key n) _ (numbered_clean s key n h.0) (text_clean word name t)))))
+    rw e (refl, (refl, (refl, (refl, NoCr-append (numbered_fields s key n) _ (numbered_clean s key n h.0) (text_clean word name t)))))
 spelling_clean bytes (Last s key) (h, word, t, e) = rw e (refl, (refl, (refl, (refl, session_clean s key h))))
 spelling_clean bytes (Close s key n) (h, word, t, e) = rw e (refl, (refl, (refl, (refl, (refl, numbered_clean s key n h)))))
 
@@ -280,15 +280,15 @@ prints (Close s key n) h = (h, [], refl, refl)
 
 play_line_only : (rest : List ℕ) (x : Play) → line_play rest ≡ Some x → SpellsPlay (codes "LINE" ++ rest) x
 play_line_only rest x e =
-    kind_only IsNil Typed line_at play.made_line (SpellsPlay (codes "LINE" ++ rest)) rest x typed_reads (typed_behind rest) e where
-      typed_behind : (rest : List ℕ) (x : ℕ × (List ℕ × ℕ)) → Typed rest x → SpellsPlay (codes "LINE" ++ rest) (play.made_line x)
+    kind_only IsNil Typed line_at play.made_line_play (SpellsPlay (codes "LINE" ++ rest)) rest x typed_reads (typed_behind rest) e where
+      typed_behind : (rest : List ℕ) (x : ℕ × (List ℕ × ℕ)) → Typed rest x → SpellsPlay (codes "LINE" ++ rest) (play.made_line_play x)
       typed_behind rest (win, (text, term)) (f, g, e3, hw, (i, j, e4, ht, hm)) =
           (ht.0, hw.2, ht.2, hm.1, rw (e3, hw.0, e4, ht.1, hm.0) refl)
 
 play_char_only : (rest : List ℕ) (x : Play) → char_play rest ≡ Some x → SpellsPlay (codes "CHAR" ++ rest) x
 play_char_only rest x e =
-    kind_only IsEnd Pressed char_at play.made_char (SpellsPlay (codes "CHAR" ++ rest)) rest x pressed_reads (pressed_behind rest) e where
-      pressed_behind : (rest : List ℕ) (x : ℕ × ℕ) → Pressed rest x → SpellsPlay (codes "CHAR" ++ rest) (play.made_char x)
+    kind_only IsEnd Pressed window_and_code_at play.made_char_play (SpellsPlay (codes "CHAR" ++ rest)) rest x pressed_reads (pressed_behind rest) e where
+      pressed_behind : (rest : List ℕ) (x : ℕ × ℕ) → Pressed rest x → SpellsPlay (codes "CHAR" ++ rest) (play.made_char_play x)
       pressed_behind rest (win, code) (f, g, e3, hw, hc) = (hw.2, hc.1, rw (e3, hw.0, hc.0) refl)
 
 play_file_only : (rest : List ℕ) (x : Play) → file_play rest ≡ Some x → SpellsPlay (codes "FILE" ++ rest) x
@@ -301,16 +301,16 @@ play_nothing line x e = absurd cc
 play_only : (line : List ℕ) (x : Play) → spelled_play line ≡ Some x → SpellsPlay line x
 unfolding spelled_play
 play_only line x =
-    named_only SpellsPlay (codes "LINE") line line_play (named (codes "CHAR") line char_play (named (codes "FILE") line file_play None)) x (λ rest. play_line_only rest x)
-    (named_only SpellsPlay (codes "CHAR") line char_play (named (codes "FILE") line file_play None) x (λ rest. play_char_only rest x)
+    named_only SpellsPlay (codes "LINE") line line_play (fields_named (codes "CHAR") line char_play (fields_named (codes "FILE") line file_play None)) x (λ rest. play_line_only rest x)
+    (named_only SpellsPlay (codes "CHAR") line char_play (fields_named (codes "FILE") line file_play None) x (λ rest. play_char_only rest x)
     (named_only SpellsPlay (codes "FILE") line file_play None x (λ rest. play_file_only rest x) (play_nothing line x)))
 
 play_again : (bytes : List ℕ) (x : Play) → SpellsPlay bytes x → spelled_play bytes ≡ Some x
 unfolding spelled_play
 play_again bytes (plays.Line win text key) (word, w, t, h, e) =
-    rw e (kind_again IsNil Typed line_at play.made_line _ (win, (text, key)) typed_reads refl (typed_spelling win word text key w t h))
+    rw e (kind_again IsNil Typed line_at play.made_line_play _ (win, (text, key)) typed_reads refl (typed_spelling win word text key w t h))
 play_again bytes (plays.Char win code) (w, h, e) =
-    rw e (kind_again IsEnd Pressed char_at play.made_char _ (win, code) pressed_reads tt (pressed_spelling win code w h))
+    rw e (kind_again IsEnd Pressed window_and_code_at play.made_char_play _ (win, code) pressed_reads tt (pressed_spelling win code w h))
 play_again bytes (plays.File name) (word, t, e) =
     rw e (kind_again IsEnd TextIs text_at (λ name. plays.File name) _ name text_reads tt (word, refl, t))
 

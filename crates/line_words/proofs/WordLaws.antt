@@ -5,7 +5,7 @@ use Rattle.std.specs.Int.{IsInRange}
 use Rattle.std.proofs.lemmas.Bool.Decides.{nat_tests}
 use Rattle.std.proofs.lemmas.Fmt.{decimal_digit, decimal_nonempty, first_decimal, digits_decimal, digits_value-decimal, decimal-digits_value}
 use Rattle.std.proofs.lemmas.Str.Parse.{IsDigitsTest, FoldsDigits, IsNumeralModel, numerals_by_fold}
-use Rattle.line_words.specs.Field.{word_of, rest_of, word_at, is_digit, number_from, number_of, checked, number_at}
+use Rattle.line_words.specs.Field.{word_of, rest_from_space, word_at, is_digit, number_from, number_spelled, checked, number_between}
 use Rattle.line_words.specs.Reading.{◌>>=◌}
 
 pub bind_some : {A B : Type 0} (r : Option A) (f : A → Option B) (y : B) → (r >>= f) ≡ Some y → (x : A) × (r ≡ Some x) × (f x ≡ Some y)
@@ -46,24 +46,24 @@ word_again [] [] n e = refl
 word_again [] (b ∷ bs) n e = rw e refl
 word_again (x ∷ xs) rest n e = rw n.0 (ap (λ (t : List ℕ). x ∷ t) (word_again xs rest n.1 e))
 
-rest_again : (w rest : List ℕ) → NoSpace w → IsEnd rest → rest_of (w ++ rest) ≡ rest
+rest_again : (w rest : List ℕ) → NoSpace w → IsEnd rest → rest_from_space (w ++ rest) ≡ rest
 rest_again [] [] n e = refl
 rest_again [] (b ∷ bs) n e = rw e refl
 rest_again (x ∷ xs) rest n e = rw n.0 (rest_again xs rest n.1 e)
 
-word_part : (b : ℕ) (bs : List ℕ) (c : Bool) → word_of bs ++ rest_of bs ≡ bs → cond c [] (b ∷ word_of bs) ++ cond c (b ∷ bs) (rest_of bs) ≡ b ∷ bs
+word_part : (b : ℕ) (bs : List ℕ) (c : Bool) → word_of bs ++ rest_from_space bs ≡ bs → cond c [] (b ∷ word_of bs) ++ cond c (b ∷ bs) (rest_from_space bs) ≡ b ∷ bs
 word_part b bs true more = refl
 word_part b bs false more = ap (λ (t : List ℕ). b ∷ t) more
 
-word_parts : (bs : List ℕ) → word_of bs ++ rest_of bs ≡ bs
+word_parts : (bs : List ℕ) → word_of bs ++ rest_from_space bs ≡ bs
 word_parts [] = refl
 word_parts (b ∷ bs) = word_part b bs (b == 32) (word_parts bs)
 
-rest_end : (b : ℕ) (bs : List ℕ) (c : Bool) → (b == 32) ≡ c → IsEnd (rest_of bs) → IsEnd (cond c (b ∷ bs) (rest_of bs))
+rest_end : (b : ℕ) (bs : List ℕ) (c : Bool) → (b == 32) ≡ c → IsEnd (rest_from_space bs) → IsEnd (cond c (b ∷ bs) (rest_from_space bs))
 rest_end b bs true e more = e
 rest_end b bs false e more = more
 
-rest_ends : (bs : List ℕ) → IsEnd (rest_of bs)
+rest_ends : (bs : List ℕ) → IsEnd (rest_from_space bs)
 rest_ends [] = tt
 rest_ends (b ∷ bs) = rest_end b bs (b == 32) refl (rest_ends bs)
 
@@ -80,9 +80,9 @@ pub word_at_only : (bytes w rest : List ℕ) → word_at bytes ≡ Some (w, rest
 unfolding word_at
 word_at_only [] w rest e = absurd cc
 word_at_only (b ∷ bs) w rest e =
-    let h = if_some (b == 32) (Some (word_of bs, rest_of bs)) (w, rest) e in
+    let h = if_some (b == 32) (Some (word_of bs, rest_from_space bs)) (w, rest) e in
     let is-space : b ≡ 32 = grind (arith, nat_tests, h.0) in
-    let same = some_is (word_of bs, rest_of bs) (w, rest) h.1 in
+    let same = some_is (word_of bs, rest_from_space bs) (w, rest) h.1 in
     subst (λ (p : List ℕ × List ℕ). Takes (b ∷ bs) p.0 p.1) same
     (record { parts = rw is-space (ap (λ (t : List ℕ). 32 ∷ t) (sym (word_parts bs))); ends = rest_ends bs })
 
@@ -134,8 +134,8 @@ number_from_only high n m (b ∷ bs) le e =
     let t = number_from_only high (n * 10 + (b - 48)) m bs (grind (arith, nat_tests, p.1)) h.1 in
     (rw (p.0, t.0) refl, t.1, t.2)
 
-number_of_again : (high : ℕ) (ds : List ℕ) → all_digits ds ≡ true → 0 < length ds → (get_or ds 0 0 ≡ 48 → length ds ≡ 1) → value 0 ds ≤ high → number_of high ds ≡ Some (value 0 ds)
-unfolding number_of
+number_of_again : (high : ℕ) (ds : List ℕ) → all_digits ds ≡ true → 0 < length ds → (get_or ds 0 0 ≡ 48 → length ds ≡ 1) → value 0 ds ≤ high → number_spelled high ds ≡ Some (value 0 ds)
+unfolding number_spelled
 number_of_again high [] h l z le = absurd (omega (arith, l))
 number_of_again high (b ∷ []) h l z le = number_from_again high 0 (b ∷ []) h le
 number_of_again high (b ∷ c ∷ bs) h l z le =
@@ -149,14 +149,14 @@ decimal_leads : (n : ℕ) → n < 2 ^ 64 → get_or (decimal n) 0 0 ≡ 48 → l
 decimal_leads zero lt e = ap length (decimal_digit 0 (omega arith))
 decimal_leads (suc n) lt e = absurd (omega (arith, first_decimal (suc n) (omega arith) lt, e))
 
-pub decimal_again : (high n : ℕ) → n ≤ high → high < 2 ^ 64 → number_of high (decimal n) ≡ Some n
+pub decimal_again : (high n : ℕ) → n ≤ high → high < 2 ^ 64 → number_spelled high (decimal n) ≡ Some n
 decimal_again high n le small =
     let lt : n < 2 ^ 64 = omega (arith, le, small) in
     let is : value 0 (decimal n) ≡ n = digits_value-decimal own n lt in
     number_of_again high (decimal n) (digits_decimal own n lt) (decimal_nonempty n lt) (decimal_leads n lt) (omega (arith, is, le)) ∙ ap (λ (m : ℕ). some m) is
 
-pub decimal_only : (high n : ℕ) (w : List ℕ) → high < 2 ^ 64 → number_of high w ≡ Some n → (w ≡ decimal n) × (n ≤ high)
-unfolding number_of
+pub decimal_only : (high n : ℕ) (w : List ℕ) → high < 2 ^ 64 → number_spelled high w ≡ Some n → (w ≡ decimal n) × (n ≤ high)
+unfolding number_spelled
 decimal_only high n [] small e = absurd cc
 decimal_only high n (b ∷ []) small e =
     let t = number_from_only high 0 n (b ∷ []) (omega arith) e in
@@ -170,18 +170,18 @@ pub digits_no_space : (ds : List ℕ) → all_digits ds ≡ true → NoSpace ds
 digits_no_space [] h = tt
 digits_no_space (b ∷ bs) h = let p = both (is_digit b) (all_digits bs) h in (grind (arith, nat_tests, p.0), digits_no_space bs p.1)
 
-pub number_again : (low high n : ℕ) (rest : List ℕ) → low ≤ n → n ≤ high → high < 2 ^ 64 → IsEnd rest → number_at low high (32 ∷ (decimal n ++ rest)) ≡ Some (n, rest)
-unfolding number_at
+pub number_again : (low high n : ℕ) (rest : List ℕ) → low ≤ n → n ≤ high → high < 2 ^ 64 → IsEnd rest → number_between low high (32 ∷ (decimal n ++ rest)) ≡ Some (n, rest)
+unfolding number_between
 number_again low high n rest lo hi small e =
     let lt : n < 2 ^ 64 = omega (arith, hi, small) in
     let above : nat_le low n ≡ true = grind (arith, nat_tests, lo) in
     rw (word_at_again (decimal n) rest (digits_no_space (decimal n) (digits_decimal own n lt)) e, decimal_again high n hi small, above) refl
 
-pub number_only : (low high n : ℕ) (bytes rest : List ℕ) → high < 2 ^ 64 → number_at low high bytes ≡ Some (n, rest) → Takes bytes (decimal n) rest × (low ≤ n) × (n ≤ high)
-unfolding number_at
+pub number_only : (low high n : ℕ) (bytes rest : List ℕ) → high < 2 ^ 64 → number_between low high bytes ≡ Some (n, rest) → Takes bytes (decimal n) rest × (low ≤ n) × (n ≤ high)
+unfolding number_between
 number_only low high n bytes rest small e =
-    let a = bind_some (word_at bytes) (λ word. number_of high word.0 >>= λ k. checked (nat_le low k) (k, word.1)) (n, rest) e in
-    let b = bind_some (number_of high a.0.0) (λ k. checked (nat_le low k) (k, a.0.1)) (n, rest) a.2 in
+    let a = bind_some (word_at bytes) (λ word. number_spelled high word.0 >>= λ k. checked (nat_le low k) (k, word.1)) (n, rest) e in
+    let b = bind_some (number_spelled high a.0.0) (λ k. checked (nat_le low k) (k, a.0.1)) (n, rest) a.2 in
     let d = if_some (nat_le low b.0) (Some (b.0, a.0.1)) (n, rest) b.2 in
     let w = word_at_only bytes a.0.0 a.0.1 a.1 in
     let is = decimal_only high b.0 a.0.0 small b.1 in

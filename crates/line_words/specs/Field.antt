@@ -12,14 +12,14 @@ word_of [] = []
 word_of (b ∷ bs) = if b == 32 then [] else b ∷ word_of bs
 
 -- the bytes from the first space on
-abbrev pub rest_of : List ℕ → List ℕ
-rest_of [] = []
-rest_of (b ∷ bs) = if b == 32 then b ∷ bs else rest_of bs
+abbrev pub rest_from_space : List ℕ → List ℕ
+rest_from_space [] = []
+rest_from_space (b ∷ bs) = if b == 32 then b ∷ bs else rest_from_space bs
 
 -- the word after one space, and what follows it
 unfoldable pub word_at : Reader (List ℕ)
 word_at [] = None
-word_at (b ∷ bs) = if b == 32 then Some (word_of bs, rest_of bs) else None
+word_at (b ∷ bs) = if b == 32 then Some (word_of bs, rest_from_space bs) else None
 
 -- a decimal digit
 abbrev pub is_digit : ℕ → Bool
@@ -34,20 +34,20 @@ number_from high n (b ∷ bs) =
     else None
 
 -- the number that a word spells without leading zeros, if it is at most high
-unfoldable pub number_of : ℕ → List ℕ → Option ℕ
-number_of high [] = None
-number_of high (b ∷ []) = number_from high 0 (b ∷ [])
-number_of high (b ∷ c ∷ bs) = if b == 48 then None else number_from high 0 (b ∷ c ∷ bs)
+unfoldable pub number_spelled : ℕ → List ℕ → Option ℕ
+number_spelled high [] = None
+number_spelled high (b ∷ []) = number_from high 0 (b ∷ [])
+number_spelled high (b ∷ c ∷ bs) = if b == 48 then None else number_from high 0 (b ∷ c ∷ bs)
 
 -- what passes a test
 abbrev pub checked : {A : Type 0} → Bool → A → Option A
 checked holds x = if holds then Some x else None
 
 -- a number from low to high
-unfoldable pub number_at : ℕ → ℕ → Reader ℕ
-number_at low high bytes = do
+unfoldable pub number_between : ℕ → ℕ → Reader ℕ
+number_between low high bytes = do
   word ← word_at bytes
-  n ← number_of high word.0
+  n ← number_spelled high word.0
   checked (nat_le low n) (n, word.1)
 
 -- a letter from A to Z or a to z, or a digit
@@ -79,21 +79,21 @@ text_at bytes = do
 -- a Unicode scalar value or a keycode
 unfoldable pub code_at : Reader ℕ
 code_at bytes = do
-  code ← number_at 0 4294967295 bytes
+  code ← number_between 0 4294967295 bytes
   checked (is_code code.0) code
 
 -- the terminator key that ends the line, or 0 where none is named
 unfoldable pub terminator_at : Reader ℕ
 terminator_at [] = Some (0, [])
 terminator_at (b ∷ bs) = do
-  key ← number_at 0 4294967295 (b ∷ bs)
+  key ← number_between 0 4294967295 (b ∷ bs)
   checked (is_terminator key.0) key
 
 -- what follows a name at the front
-abbrev pub after : List ℕ → List ℕ → Option (List ℕ)
-after [] line = Some line
-after (n ∷ ns) [] = None
-after (n ∷ ns) (b ∷ bs) = if n == b then after ns bs else None
+abbrev pub behind_name : List ℕ → List ℕ → Option (List ℕ)
+behind_name [] line = Some line
+behind_name (n ∷ ns) [] = None
+behind_name (n ∷ ns) (b ∷ bs) = if n == b then behind_name ns bs else None
 
 -- the fields behind a name where the line begins with it, else the next
 abbrev pub fields_or : {A : Type 0} → (List ℕ → Option A) → Option A → Option (List ℕ)
@@ -101,6 +101,6 @@ abbrev pub fields_or : {A : Type 0} → (List ℕ → Option A) → Option A →
 fields_or fields other (Some rest) = fields rest
 fields_or fields other None = other
 
-abbrev pub named : {A : Type 0} → List ℕ → List ℕ → (List ℕ → Option A) → Option A
+abbrev pub fields_named : {A : Type 0} → List ℕ → List ℕ → (List ℕ → Option A) → Option A
     → Option A
-named name line fields other = fields_or fields other (after name line)
+fields_named name line fields other = fields_or fields other (behind_name name line)

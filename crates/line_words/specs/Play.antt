@@ -6,38 +6,38 @@ use Rattle.line_words.specs.declared.fault.LineFault.{LineFault}
 use Rattle.line_words.specs.declared.fault.LineFault.TheVariants.{BadLine, LongLine, NoMemory}
 use Rattle.line_words.specs.declared.play.Play.{Play}
 use Rattle.line_words.specs.declared.play.Play.TheVariants.{Line, Char, File}
-use Rattle.line_words.specs.Reading.{Reader, ◌then◌, whole, made}
-use Rattle.line_words.specs.Field.{number_at, text_at, code_at, terminator_at, named}
+use Rattle.line_words.specs.Reading.{Reader, ◌then◌, whole, made_if_read}
+use Rattle.line_words.specs.Field.{number_between, text_at, code_at, terminator_at, fields_named}
 
 -- the fields of LINE: a window, a text and a terminator key
 unfoldable pub line_at : Reader (ℕ × (List ℕ × ℕ))
-line_at = number_at 0 4294967295 then (text_at then terminator_at)
+line_at = number_between 0 4294967295 then (text_at then terminator_at)
 
 -- the fields of CHAR: a window and a code
-unfoldable pub char_at : Reader (ℕ × ℕ)
-char_at = number_at 0 4294967295 then code_at
+unfoldable pub window_and_code_at : Reader (ℕ × ℕ)
+window_and_code_at = number_between 0 4294967295 then code_at
 
-abbrev pub made_line : ℕ × (List ℕ × ℕ) → Play
-made_line (win, (text, key)) = Line win text key
+abbrev pub made_line_play : ℕ × (List ℕ × ℕ) → Play
+made_line_play (win, (text, key)) = Line win text key
 
-abbrev pub made_char : ℕ × ℕ → Play
-made_char (win, code) = Char win code
+abbrev pub made_char_play : ℕ × ℕ → Play
+made_char_play (win, code) = Char win code
 
 abbrev pub line_play : List ℕ → Option Play
-line_play bytes = made made_line (whole line_at bytes)
+line_play bytes = made_if_read made_line_play (whole line_at bytes)
 
 abbrev pub char_play : List ℕ → Option Play
-char_play bytes = made made_char (whole char_at bytes)
+char_play bytes = made_if_read made_char_play (whole window_and_code_at bytes)
 
 abbrev pub file_play : List ℕ → Option Play
-file_play bytes = made (λ name. File name) (whole text_at bytes)
+file_play bytes = made_if_read (λ name. File name) (whole text_at bytes)
 
 -- the input that a line without its CR spells
 unfoldable pub spelled_play : List ℕ → Option Play
 spelled_play line =
-    named (codes "LINE") line line_play
-    (named (codes "CHAR") line char_play
-    (named (codes "FILE") line file_play None))
+    fields_named (codes "LINE") line line_play
+    (fields_named (codes "CHAR") line char_play
+    (fields_named (codes "FILE") line file_play None))
 
 -- the line ends in a CR
 abbrev pub ends_in_cr : List ℕ → Bool
@@ -60,7 +60,7 @@ abbrev pub play_of : List ℕ → Option Play
 play_of line = unless_long line (spelled_play (without_cr line))
 
 -- the refusal of a line: it is too long, or else it spells nothing
-abbrev pub Refuses : {A : Type 0} → List ℕ → Option A → LineFault → Type 0
-Refuses line spelled LongLine = is_long line ≡ true
-Refuses line spelled BadLine = (is_long line ≡ false) × (spelled ≡ None)
-Refuses line spelled NoMemory = Unit {0}
+abbrev pub RefusesLine : {A : Type 0} → List ℕ → Option A → LineFault → Type 0
+RefusesLine line spelled LongLine = is_long line ≡ true
+RefusesLine line spelled BadLine = (is_long line ≡ false) × (spelled ≡ None)
+RefusesLine line spelled NoMemory = Unit {0}

@@ -29,9 +29,9 @@ abbrev pub whole : {A : Type 0} → Reader A → List ℕ → Option A
 whole read bytes = read bytes >>= λ x. at_end x.1 >>= λ _. Some x.0
 
 -- what is made of a value that was read
-abbrev pub made : {A B : Type 0} → (A → B) → Option A → Option B
-made f (Some x) = Some (f x)
-made f None = None
+abbrev pub made_if_read : {A B : Type 0} → (A → B) → Option A → Option B
+made_if_read f (Some x) = Some (f x)
+made_if_read f None = None
 
 -- a text that isn't spelled makes the line one that isn't spelled
 abbrev pub fault_of : TextFault → LineFault
@@ -39,11 +39,11 @@ fault_of text.BadText = BadLine
 fault_of text.NoMemory = NoMemory
 
 -- what a function returned, seen by view, is what is read, unless memory ran out
-abbrev pub Fails : {Y : Type 0} → LineFault → Option Y → Type 0
-Fails BadLine read = read ≡ None
-Fails LongLine read = ⊥
-Fails NoMemory read = Unit {0}
+abbrev pub FailsOnLine : {Y : Type 0} → LineFault → Option Y → Type 0
+FailsOnLine BadLine read = read ≡ None
+FailsOnLine LongLine read = ⊥
+FailsOnLine NoMemory read = Unit {0}
 
-abbrev pub Gives : {X Y : Type 0} → (X → Y) → Result X LineFault → Option Y → Type 0
-Gives view (Ok x) read = read ≡ Some (view x)
-Gives view (Err e) read = Fails e read
+abbrev pub GivesLineReading : {X Y : Type 0} → (X → Y) → Result X LineFault → Option Y → Type 0
+GivesLineReading view (Ok x) read = read ≡ Some (view x)
+GivesLineReading view (Err e) read = FailsOnLine e read

@@ -3,23 +3,24 @@ use Rattle.std.specs.Prelude.{ℕ, List, Option, None, codes}
 use Rattle.line_words.specs.declared.request.Request.{Request}
 use Rattle.line_words.specs.declared.request.Request.TheVariants.{Open, Line, Char, File, Last}
 use Rattle.line_words.specs.declared.request.Request.TheVariants.{Close}
-use Rattle.line_words.specs.Reading.{Reader, ◌then◌, whole, made}
-use Rattle.line_words.specs.Field.{number_at, key_at, text_at, named}
-use Rattle.line_words.specs.Play.{line_at, char_at, without_cr, unless_long}
+use Rattle.line_words.specs.Reading.{Reader, ◌then◌, whole, made_if_read}
+use Rattle.line_words.specs.Field.{number_between, key_at, text_at, fields_named}
+use Rattle.line_words.specs.Play.{line_at, window_and_code_at, without_cr, unless_long}
 
 -- a session and its key
 unfoldable pub session_at : Reader (ℕ × List ℕ)
-session_at = number_at 0 4294967295 then key_at
+session_at = number_between 0 4294967295 then key_at
 
 -- a session, its key and the number of a command
 unfoldable pub numbered_at : Reader (ℕ × (List ℕ × ℕ))
-numbered_at = number_at 0 4294967295 then (key_at then number_at 1 4294967295)
+numbered_at = number_between 0 4294967295 then (key_at then number_between 1 4294967295)
 
 -- the fields of OPEN behind the key: the story's number, the seed, the columns and the rows
-unfoldable pub setup_at : Reader (ℕ × (ℕ × (ℕ × ℕ)))
-setup_at =
-    number_at 0 65535
-    then (number_at 0 18446744073709551615 then (number_at 1 255 then number_at 1 255))
+unfoldable pub setup_fields_at : Reader (ℕ × (ℕ × (ℕ × ℕ)))
+setup_fields_at =
+    number_between 0 65535
+    then (number_between 0 18446744073709551615
+    then (number_between 1 255 then number_between 1 255))
 
 -- a request to open a session has the budget of 50,000,000 ticks until the host sets its own
 abbrev pub made_open : (ℕ × List ℕ) × (ℕ × (ℕ × (ℕ × ℕ))) → Request
@@ -41,32 +42,32 @@ abbrev pub made_close : ℕ × (List ℕ × ℕ) → Request
 made_close (s, (key, n)) = Close s key n
 
 unfoldable pub open_of : List ℕ → Option Request
-open_of bytes = made made_open (whole (session_at then setup_at) bytes)
+open_of bytes = made_if_read made_open (whole (session_at then setup_fields_at) bytes)
 
-unfoldable pub line_of : List ℕ → Option Request
-line_of bytes = made made_line (whole (numbered_at then line_at) bytes)
+unfoldable pub line_request : List ℕ → Option Request
+line_request bytes = made_if_read made_line (whole (numbered_at then line_at) bytes)
 
-unfoldable pub char_of : List ℕ → Option Request
-char_of bytes = made made_char (whole (numbered_at then char_at) bytes)
+unfoldable pub char_request : List ℕ → Option Request
+char_request bytes = made_if_read made_char (whole (numbered_at then window_and_code_at) bytes)
 
-unfoldable pub file_of : List ℕ → Option Request
-file_of bytes = made made_file (whole (numbered_at then text_at) bytes)
+unfoldable pub file_request : List ℕ → Option Request
+file_request bytes = made_if_read made_file (whole (numbered_at then text_at) bytes)
 
-unfoldable pub last_of : List ℕ → Option Request
-last_of bytes = made made_last (whole session_at bytes)
+unfoldable pub last_request : List ℕ → Option Request
+last_request bytes = made_if_read made_last (whole session_at bytes)
 
 unfoldable pub close_of : List ℕ → Option Request
-close_of bytes = made made_close (whole numbered_at bytes)
+close_of bytes = made_if_read made_close (whole numbered_at bytes)
 
 -- the request that a line without its CR spells
 unfoldable pub spelled_request : List ℕ → Option Request
 spelled_request line =
-    named (codes "OPEN") line open_of
-    (named (codes "LINE") line line_of
-    (named (codes "CHAR") line char_of
-    (named (codes "FILE") line file_of
-    (named (codes "LAST") line last_of
-    (named (codes "CLOSE") line close_of None)))))
+    fields_named (codes "OPEN") line open_of
+    (fields_named (codes "LINE") line line_request
+    (fields_named (codes "CHAR") line char_request
+    (fields_named (codes "FILE") line file_request
+    (fields_named (codes "LAST") line last_request
+    (fields_named (codes "CLOSE") line close_of None)))))
 
 -- the request that a line spells, if it spells one
 abbrev pub request_of : List ℕ → Option Request

@@ -18,42 +18,42 @@ abbrev pub field : List ℕ → List ℕ
 field word = 32 ∷ word
 
 -- one space and the number, decimal and without leading zeros
-abbrev pub number : ℕ → List ℕ
-number n = field (decimal n)
+abbrev pub number_field : ℕ → List ℕ
+number_field n = field (decimal n)
 
 -- a terminator key, or nothing for terminator 0
 abbrev pub terminator : ℕ → List ℕ
-terminator term = if term == 0 then [] else number term
+terminator term = if term == 0 then [] else number_field term
 
 -- a session's number and its key
 abbrev pub session : ℕ → List ℕ → List ℕ
-session s key = number s ++ field key
+session s key = number_field s ++ field key
 
 -- a session's number, its key and the number of a command
-abbrev pub numbered : ℕ → List ℕ → ℕ → List ℕ
-numbered s key n = number s ++ (field key ++ number n)
+abbrev pub numbered_fields : ℕ → List ℕ → ℕ → List ℕ
+numbered_fields s key n = number_field s ++ (field key ++ number_field n)
 
 -- a window, a text's word and a terminator
-abbrev pub typed : ℕ → List ℕ → ℕ → List ℕ
-typed win word term = number win ++ (field word ++ terminator term)
+abbrev pub typed_fields : ℕ → List ℕ → ℕ → List ℕ
+typed_fields win word term = number_field win ++ (field word ++ terminator term)
 
 -- a request as it stands in a line, with this word for its text
 abbrev pub line_with : Request → List ℕ → List ℕ
 line_with (Open s key story seed cols rows budget) word =
     codes "OPEN" ++ (session s key
-    ++ (number story ++ (number seed ++ (number cols ++ number rows))))
+    ++ (number_field story ++ (number_field seed ++ (number_field cols ++ number_field rows))))
 line_with (Line s key n win text term) word =
-    codes "LINE" ++ (numbered s key n ++ typed win word term)
+    codes "LINE" ++ (numbered_fields s key n ++ typed_fields win word term)
 line_with (Char s key n win code) word =
-    codes "CHAR" ++ (numbered s key n ++ (number win ++ number code))
-line_with (File s key n name) word = codes "FILE" ++ (numbered s key n ++ field word)
+    codes "CHAR" ++ (numbered_fields s key n ++ (number_field win ++ number_field code))
+line_with (File s key n name) word = codes "FILE" ++ (numbered_fields s key n ++ field word)
 line_with (Last s key) word = codes "LAST" ++ session s key
-line_with (Close s key n) word = codes "CLOSE" ++ numbered s key n
+line_with (Close s key n) word = codes "CLOSE" ++ numbered_fields s key n
 
 -- the word spells the request's text, or is empty where it has none
 abbrev pub SpellsText : Request → List ℕ → Type 0
-SpellsText (Line s key n win text term) word = texts.Spells word text
-SpellsText (File s key n name) word = texts.Spells word name
+SpellsText (Line s key n win text term) word = texts.WordSpells word text
+SpellsText (File s key n name) word = texts.WordSpells word name
 SpellsText _ word = word ≡ []
 
 -- the range of a session's number, and its key
@@ -100,13 +100,13 @@ print_request request = line_with request (written_text request)
 -- bytes spell an input of `run`: as the request, without session, key and number
 abbrev pub SpellsPlay : List ℕ → Play → Type 0
 SpellsPlay bytes (plays.Line win text key) =
-    (word : List ℕ) × (win ≤ 4294967295) × texts.Spells word text × IsTerminator key
-    × (bytes ≡ codes "LINE" ++ typed win word key)
+    (word : List ℕ) × (win ≤ 4294967295) × texts.WordSpells word text × IsTerminator key
+    × (bytes ≡ codes "LINE" ++ typed_fields win word key)
 SpellsPlay bytes (plays.Char win code) =
     (win ≤ 4294967295) × (is_code code ≡ true)
-    × (bytes ≡ codes "CHAR" ++ (number win ++ number code))
+    × (bytes ≡ codes "CHAR" ++ (number_field win ++ number_field code))
 SpellsPlay bytes (plays.File name) =
-    (word : List ℕ) × texts.Spells word name × (bytes ≡ codes "FILE" ++ field word)
+    (word : List ℕ) × texts.WordSpells word name × (bytes ≡ codes "FILE" ++ field word)
 
 -- a line is a spelling, with a CR behind it or without, of at most 2,047 bytes in all
 abbrev pub IsLineOf : {A : Type 0} → (List ℕ → A → Type 0) → List ℕ → A → Type 0

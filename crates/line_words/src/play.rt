@@ -1,9 +1,10 @@
 //! The lines that `run` reads (own).
 
 ghost use Rattle.std.specs.Prelude.{◌≡◌, IfOk, IfErr, Some};
-ghost use Rattle.line_words.specs.Reading.{Gives, whole, at_end};
-ghost use Rattle.line_words.specs.Play.{line_at, char_at, line_play, char_play, file_play};
-ghost use Rattle.line_words.specs.Play.{spelled_play, without_cr, play_of, Refuses};
+ghost use Rattle.line_words.specs.Reading.{GivesLineReading, whole, at_end};
+ghost use Rattle.line_words.specs.Play.{line_at, window_and_code_at, line_play, char_play};
+ghost use Rattle.line_words.specs.Play.{file_play};
+ghost use Rattle.line_words.specs.Play.{spelled_play, without_cr, play_of, RefusesLine};
 
 use crate::fault::LineFault;
 use crate::field::{after, at_end, code_at, terminator_at, text_at, u32_at};
@@ -27,7 +28,7 @@ pub enum Play {
 /// The fields of LINE: a window, a text and a terminator key.
 #[tactic(auto, unfolding(crate::specs::Play::line_at))]
 pub fn line_at(alloc: Global, rest: &[u8]) -> Result<((u32, Text, u32), &[u8]), LineFault>
-    ensures { Gives (λ x. ((x.0.0, (x.0.1, x.0.2)), x.1.now)) result (line_at rest.now) }
+    ensures { GivesLineReading (λ x. ((x.0.0, (x.0.1, x.0.2)), x.1.now)) result (line_at rest.now) }
 {
     let (win, rest) = u32_at(0, rest)?;
     let (text, rest) = text_at(alloc, rest)?;
@@ -36,9 +37,10 @@ pub fn line_at(alloc: Global, rest: &[u8]) -> Result<((u32, Text, u32), &[u8]), 
 }
 
 /// The fields of CHAR: a window and a code.
-#[tactic(auto, unfolding(crate::specs::Play::char_at))]
+#[tactic(auto, unfolding(crate::specs::Play::window_and_code_at))]
 pub fn char_at(rest: &[u8]) -> Result<((u32, u32), &[u8]), LineFault>
-    ensures { Gives (λ x. ((x.0.0, x.0.1), x.1.now)) result (char_at rest.now) }
+    ensures { GivesLineReading (λ x. ((x.0.0, x.0.1), x.1.now)) result
+        (window_and_code_at rest.now) }
 {
     let (win, rest) = u32_at(0, rest)?;
     let (code, rest) = code_at(rest)?;
@@ -46,7 +48,7 @@ pub fn char_at(rest: &[u8]) -> Result<((u32, u32), &[u8]), LineFault>
 }
 
 fn line_play(alloc: Global, rest: &[u8]) -> Result<Play, LineFault>
-    ensures { Gives (λ x. x) result (line_play rest.now) }
+    ensures { GivesLineReading (λ x. x) result (line_play rest.now) }
 {
     let ((win, text, key), rest) = line_at(alloc, rest)?;
     at_end(rest)?;
@@ -54,7 +56,7 @@ fn line_play(alloc: Global, rest: &[u8]) -> Result<Play, LineFault>
 }
 
 fn char_play(rest: &[u8]) -> Result<Play, LineFault>
-    ensures { Gives (λ x. x) result (char_play rest.now) }
+    ensures { GivesLineReading (λ x. x) result (char_play rest.now) }
 {
     let ((win, code), rest) = char_at(rest)?;
     at_end(rest)?;
@@ -62,7 +64,7 @@ fn char_play(rest: &[u8]) -> Result<Play, LineFault>
 }
 
 fn file_play(alloc: Global, rest: &[u8]) -> Result<Play, LineFault>
-    ensures { Gives (λ x. x) result (file_play rest.now) }
+    ensures { GivesLineReading (λ x. x) result (file_play rest.now) }
 {
     let (name, rest) = text_at(alloc, rest)?;
     at_end(rest)?;
@@ -71,7 +73,7 @@ fn file_play(alloc: Global, rest: &[u8]) -> Result<Play, LineFault>
 
 #[tactic(auto, unfolding(crate::specs::Play::spelled_play))]
 fn spelled_play(alloc: Global, line: &[u8]) -> Result<Play, LineFault>
-    ensures { Gives (λ x. x) result (spelled_play line.now) }
+    ensures { GivesLineReading (λ x. x) result (spelled_play line.now) }
 {
     if let Some(rest) = after(b"LINE", line) {
         return line_play(alloc, rest);
@@ -102,7 +104,7 @@ pub fn without_cr(line: &[u8]) -> &[u8]
 /// exactly where it spells no input; `NoMemory` where memory runs out.
 pub fn read_play(alloc: Global, line: &[u8]) -> Result<Play, LineFault>
     ensures only { IfOk result (λ play. play_of line.now ≡ Some play) }
-    ensures exact { IfErr result (Refuses line.now (play_of line.now)) }
+    ensures exact { IfErr result (RefusesLine line.now (play_of line.now)) }
 {
     if line.len() > MAX_LINE {
         return Err(LineFault::LongLine);

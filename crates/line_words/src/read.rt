@@ -1,10 +1,12 @@
 //! Reading request lines (own).
 
 ghost use Rattle.std.specs.Prelude.{◌≡◌, IfOk, IfErr, Some};
-ghost use Rattle.line_words.specs.Reading.{Gives};
-ghost use Rattle.line_words.specs.Play.{Refuses};
-ghost use Rattle.line_words.specs.Request.{session_at, numbered_at, setup_at, open_of, line_of};
-ghost use Rattle.line_words.specs.Request.{char_of, file_of, last_of, close_of, spelled_request};
+ghost use Rattle.line_words.specs.Reading.{GivesLineReading};
+ghost use Rattle.line_words.specs.Play.{RefusesLine};
+ghost use Rattle.line_words.specs.Request.{session_at, numbered_at, setup_fields_at, open_of};
+ghost use Rattle.line_words.specs.Request.{line_request};
+ghost use Rattle.line_words.specs.Request.{char_request, file_request, last_request, close_of};
+ghost use Rattle.line_words.specs.Request.{spelled_request};
 ghost use Rattle.line_words.specs.Request.{request_of};
 
 use crate::fault::LineFault;
@@ -19,7 +21,7 @@ const BUDGET: u64 = 50_000_000;
 
 #[tactic(auto, unfolding(crate::specs::Request::session_at))]
 fn session_at(alloc: Global, rest: &[u8]) -> Result<((u32, Key), &[u8]), LineFault>
-    ensures { Gives (λ x. ((x.0.0, x.0.1), x.1.now)) result (session_at rest.now) }
+    ensures { GivesLineReading (λ x. ((x.0.0, x.0.1), x.1.now)) result (session_at rest.now) }
 {
     let (s, rest) = u32_at(0, rest)?;
     let (key, rest) = key_at(alloc, rest)?;
@@ -28,7 +30,8 @@ fn session_at(alloc: Global, rest: &[u8]) -> Result<((u32, Key), &[u8]), LineFau
 
 #[tactic(auto, unfolding(crate::specs::Request::numbered_at))]
 fn numbered_at(alloc: Global, rest: &[u8]) -> Result<((u32, Key, u32), &[u8]), LineFault>
-    ensures { Gives (λ x. ((x.0.0, (x.0.1, x.0.2)), x.1.now)) result (numbered_at rest.now) }
+    ensures { GivesLineReading (λ x. ((x.0.0, (x.0.1, x.0.2)), x.1.now)) result
+        (numbered_at rest.now) }
 {
     let (s, rest) = u32_at(0, rest)?;
     let (key, rest) = key_at(alloc, rest)?;
@@ -45,10 +48,11 @@ struct Setup {
     rows: u8,
 }
 
-#[tactic(auto, unfolding(crate::specs::Request::setup_at))]
+#[tactic(auto, unfolding(crate::specs::Request::setup_fields_at))]
 fn setup_at(rest: &[u8]) -> Result<(Setup, &[u8]), LineFault>
-    ensures { Gives (λ x. ((x.0.story, (x.0.seed, (x.0.cols, x.0.rows))), x.1.now)) result
-        (setup_at rest.now) }
+    ensures { GivesLineReading (λ x. ((x.0.story, (x.0.seed, (x.0.cols, x.0.rows))), x.1.now))
+        result
+        (setup_fields_at rest.now) }
 {
     let (story, rest) = number_at(0, 65535, rest)?;
     let (seed, rest) = number_at(0, u64::MAX, rest)?;
@@ -67,7 +71,7 @@ fn setup_at(rest: &[u8]) -> Result<(Setup, &[u8]), LineFault>
 
 #[tactic(auto, unfolding(crate::specs::Request::open_of))]
 fn open_of(alloc: Global, rest: &[u8]) -> Result<Request, LineFault>
-    ensures { Gives (λ x. x) result (open_of rest.now) }
+    ensures { GivesLineReading (λ x. x) result (open_of rest.now) }
 {
     let ((s, key), rest) = session_at(alloc, rest)?;
     let (setup, rest) = setup_at(rest)?;
@@ -83,9 +87,9 @@ fn open_of(alloc: Global, rest: &[u8]) -> Result<Request, LineFault>
     })
 }
 
-#[tactic(auto, unfolding(crate::specs::Request::line_of))]
+#[tactic(auto, unfolding(crate::specs::Request::line_request))]
 fn line_of(alloc: Global, rest: &[u8]) -> Result<Request, LineFault>
-    ensures { Gives (λ x. x) result (line_of rest.now) }
+    ensures { GivesLineReading (λ x. x) result (line_request rest.now) }
 {
     let ((s, key, n), rest) = numbered_at(alloc, rest)?;
     let ((win, text, term), rest) = line_at(alloc, rest)?;
@@ -100,9 +104,9 @@ fn line_of(alloc: Global, rest: &[u8]) -> Result<Request, LineFault>
     })
 }
 
-#[tactic(auto, unfolding(crate::specs::Request::char_of))]
+#[tactic(auto, unfolding(crate::specs::Request::char_request))]
 fn char_of(alloc: Global, rest: &[u8]) -> Result<Request, LineFault>
-    ensures { Gives (λ x. x) result (char_of rest.now) }
+    ensures { GivesLineReading (λ x. x) result (char_request rest.now) }
 {
     let ((s, key, n), rest) = numbered_at(alloc, rest)?;
     let ((win, code), rest) = char_at(rest)?;
@@ -116,9 +120,9 @@ fn char_of(alloc: Global, rest: &[u8]) -> Result<Request, LineFault>
     })
 }
 
-#[tactic(auto, unfolding(crate::specs::Request::file_of))]
+#[tactic(auto, unfolding(crate::specs::Request::file_request))]
 fn file_of(alloc: Global, rest: &[u8]) -> Result<Request, LineFault>
-    ensures { Gives (λ x. x) result (file_of rest.now) }
+    ensures { GivesLineReading (λ x. x) result (file_request rest.now) }
 {
     let ((s, key, n), rest) = numbered_at(alloc, rest)?;
     let (name, rest) = text_at(alloc, rest)?;
@@ -126,9 +130,9 @@ fn file_of(alloc: Global, rest: &[u8]) -> Result<Request, LineFault>
     Ok(Request::File { s, key, n, name })
 }
 
-#[tactic(auto, unfolding(crate::specs::Request::last_of))]
+#[tactic(auto, unfolding(crate::specs::Request::last_request))]
 fn last_of(alloc: Global, rest: &[u8]) -> Result<Request, LineFault>
-    ensures { Gives (λ x. x) result (last_of rest.now) }
+    ensures { GivesLineReading (λ x. x) result (last_request rest.now) }
 {
     let ((s, key), rest) = session_at(alloc, rest)?;
     at_end(rest)?;
@@ -137,7 +141,7 @@ fn last_of(alloc: Global, rest: &[u8]) -> Result<Request, LineFault>
 
 #[tactic(auto, unfolding(crate::specs::Request::close_of))]
 fn close_of(alloc: Global, rest: &[u8]) -> Result<Request, LineFault>
-    ensures { Gives (λ x. x) result (close_of rest.now) }
+    ensures { GivesLineReading (λ x. x) result (close_of rest.now) }
 {
     let ((s, key, n), rest) = numbered_at(alloc, rest)?;
     at_end(rest)?;
@@ -146,7 +150,7 @@ fn close_of(alloc: Global, rest: &[u8]) -> Result<Request, LineFault>
 
 #[tactic(auto, unfolding(crate::specs::Request::spelled_request))]
 fn spelled_request(alloc: Global, line: &[u8]) -> Result<Request, LineFault>
-    ensures { Gives (λ x. x) result (spelled_request line.now) }
+    ensures { GivesLineReading (λ x. x) result (spelled_request line.now) }
 {
     if let Some(rest) = after(b"OPEN", line) {
         return open_of(alloc, rest);
@@ -175,7 +179,7 @@ fn spelled_request(alloc: Global, line: &[u8]) -> Result<Request, LineFault>
 /// OPEN is 50,000,000 ticks.
 pub fn read_request(alloc: Global, line: &[u8]) -> Result<Request, LineFault>
     ensures only { IfOk result (λ request. request_of line.now ≡ Some request) }
-    ensures exact { IfErr result (Refuses line.now (request_of line.now)) }
+    ensures exact { IfErr result (RefusesLine line.now (request_of line.now)) }
 {
     if line.len() > MAX_LINE {
         return Err(LineFault::LongLine);

@@ -1,9 +1,9 @@
 -- Blocks in a save: read pair by pair, and in one order alone.
 use Rattle.std.proofs.Common.{◌≡◌, ℕ, zero, suc, ◌+◌, ◌-◌, ◌*◌, ◌<◌, ◌≤◌, List, [], ◌∷◌, ◌++◌, length, drop, refl, ap, sym, ◌∙◌, append_assoc, arith}
 use Rattle.std.proofs.lemmas.List.{append-nil, drop-drop}
+use Rattle.glulx_image.specs.Header.{word}
 use Rattle.byteorder.specs.Endian.{big_number}
 use Rattle.vm_heap.specs.declared.block.Block.{Block}
-use Rattle.quetzal.specs.Chunks.{word}
 use Rattle.quetzal.specs.Heap.{blocks_in}
 
 abbrev pub pair_at : List ℕ → ℕ → Block

@@ -6,9 +6,9 @@ use Rattle.std.proofs.lemmas.List.Sorted.{IsNonDecreasingBy-drop, sum_by-IsPermu
 use Rattle.std.proofs.lemmas.List.Sums.{sum_by-cons}
 use Rattle.std.specs.List.{sum_by}
 use Rattle.std.specs.List.Sorted.{IsNonDecreasingBy, IsPermutation}
-use Rattle.vm_heap.specs.HeapMap.{in_order, is_heap, end_of, heap_end}
+use Rattle.vm_heap.specs.HeapMap.{in_order, is_heap, block_end, heap_end}
 use Rattle.std.proofs.lemmas.Grind.{common_steps}
-use Rattle.quetzal.specs.Heap.{HaveOrder, fits, is_placed}
+use Rattle.quetzal.specs.Heap.{HaveOrder, heap_fits, is_placed}
 use Rattle.vm_heap.specs.declared.block.Block.{Block}
 use Rattle.vm_heap.proofs.HeapLemmas.{none, Next, next_of, in_order-lower, is_heap-order}
 
@@ -36,21 +36,21 @@ none_counted n from [] lt h = refl
 none_counted n from (b ∷ bs) lt h =
     let x : Next from b bs = next_of from b bs h in
     let above : nat_le b.at n ≡ false = grind (arith, nat_tests, x.above) in
-    let rest = none_counted n (end_of b) bs (omega (arith, x.above, lt)) x.rest in rw above (omega (arith, rest))
+    let rest = none_counted n (block_end b) bs (omega (arith, x.above, lt)) x.rest in rw above (omega (arith, rest))
 
 none_measured : (n from : ℕ) (bs : List Block) → n < from → IsTrue (in_order from bs) → total (measured n) bs ≡ 0
 none_measured n from [] lt h = refl
 none_measured n from (b ∷ bs) lt h =
     let x : Next from b bs = next_of from b bs h in
     let above : nat_le b.at n ≡ false = grind (arith, nat_tests, x.above) in
-    let rest = none_measured n (end_of b) bs (omega (arith, x.above, lt)) x.rest in rw above (omega (arith, rest))
+    let rest = none_measured n (block_end b) bs (omega (arith, x.above, lt)) x.rest in rw above (omega (arith, rest))
 
 none_earlier : (n from : ℕ) (bs : List Block) → n ≤ from → IsTrue (in_order from bs) → total (earlier n) bs ≡ 0
 none_earlier n from [] le h = refl
 none_earlier n from (b ∷ bs) le h =
     let x : Next from b bs = next_of from b bs h in
     let above : nat_lt b.at n ≡ false = grind (arith, nat_tests, x.above) in
-    let rest = none_earlier n (end_of b) bs (omega (arith, x.above, le)) x.rest in rw above (omega (arith, rest))
+    let rest = none_earlier n (block_end b) bs (omega (arith, x.above, le)) x.rest in rw above (omega (arith, rest))
 
 -- blocks whose addresses don't fall, the first of them behind n
 none_before : (n : ℕ) (bs : List Block) → IsNonDecreasingBy (λ b. b.at) bs → (0 < length bs → n < (get_or bs 0 none).at)
@@ -83,15 +83,15 @@ same_head : (from : ℕ) (c b : Block) (cs bs : List Block) → IsNonDecreasingB
     → Alike (c ∷ cs) (b ∷ bs) → IsTrue (in_order from (b ∷ bs)) → c ≡ b
 same_head from c b cs bs up alike h =
     let x : Next from b bs = next_of from b bs h in
-    let behind : b.at < end_of b = omega (arith, x.filled) in
+    let behind : b.at < block_end b = omega (arith, x.filled) in
     let self : nat_le b.at b.at ≡ true = grind (arith, nat_tests) in
     let not-before : nat_lt b.at b.at ≡ false = grind (arith, nat_tests) in
     let one : total (counted b.at) (c ∷ cs) ≡ 1 =
-    alike (counted b.at) ∙ rw (self, none_counted b.at (end_of b) bs behind x.rest) refl in
+    alike (counted b.at) ∙ rw (self, none_counted b.at (block_end b) bs behind x.rest) refl in
     let none-less : total (earlier b.at) (c ∷ cs) ≡ 0 =
-    alike (earlier b.at) ∙ rw (not-before, none_earlier b.at (end_of b) bs (omega arith) x.rest) refl in
+    alike (earlier b.at) ∙ rw (not-before, none_earlier b.at (block_end b) bs (omega arith) x.rest) refl in
     let long : total (measured b.at) (c ∷ cs) ≡ b.length =
-    alike (measured b.at) ∙ rw (self, none_measured b.at (end_of b) bs behind x.rest) (omega arith) in
+    alike (measured b.at) ∙ rw (self, none_measured b.at (block_end b) bs behind x.rest) (omega arith) in
     let least : b.at ≤ c.at = low (nat_lt c.at b.at) refl none-less in
     let most : c.at ≤ b.at = high (nat_le c.at b.at) refl one in
     let at-is : c.at ≡ b.at = omega arith in
@@ -122,7 +122,7 @@ same_alike from (c ∷ cs) (b ∷ bs) len up alike h =
     let x : Next from b bs = next_of from b bs h in
     let rest : Alike cs bs = λ f. (let whole : f c + total f cs ≡ f b + total f bs = alike f in
     let same : f c ≡ f b = ap f head in omega arith) in
-    let tail : cs ≡ bs = same_alike (end_of b) cs bs (omega (arith, len)) (IsNonDecreasingBy-drop (λ b. b.at) 1 (c ∷ cs) up) rest x.rest in
+    let tail : cs ≡ bs = same_alike (block_end b) cs bs (omega (arith, len)) (IsNonDecreasingBy-drop (λ b. b.at) 1 (c ∷ cs) up) rest x.rest in
     rw (head, tail) refl
 
 pub same_order : (from : ℕ) (s t : List Block) → IsNonDecreasingBy (λ b. b.at) s → IsPermutation t s
@@ -139,12 +139,12 @@ and_right true b h = h
 and_right false b h = absurd (grind (arith, h))
 
 pub fits-filled : (endmem size start : ℕ) (bs : List Block) → 0 < length bs → is_heap start bs ≡ true
-    → fits endmem size start bs ≡ is_placed endmem size start (heap_end bs)
+    → heap_fits endmem size start bs ≡ is_placed endmem size start (heap_end bs)
 fits-filled endmem size start [] some h = absurd (omega arith)
 fits-filled endmem size start (b ∷ bs) some h =
     ap (λ t. t && is_placed endmem size start (heap_end (b ∷ bs))) h
 
-pub fits-order : (endmem size start : ℕ) (bs : List Block) → fits endmem size start bs ≡ true
+pub fits-order : (endmem size start : ℕ) (bs : List Block) → heap_fits endmem size start bs ≡ true
     → IsTrue (in_order 0 bs)
 fits-order endmem size start [] h = refl
 fits-order endmem size start (b ∷ bs) h =
@@ -153,10 +153,10 @@ fits-order endmem size start (b ∷ bs) h =
 
 -- blocks by their addresses that don't fit have no order that does
 pub one_order : (endmem size start : ℕ) (pairs blocks s : List Block) → IsNonDecreasingBy (λ b. b.at) s
-    → HaveOrder endmem size start pairs blocks → IsPermutation pairs s → fits endmem size start s ≡ false → ⊥
+    → HaveOrder endmem size start pairs blocks → IsPermutation pairs s → heap_fits endmem size start s ≡ false → ⊥
 one_order endmem size start pairs blocks s up have order bad =
     let between : IsPermutation blocks s =
     IsPermutation-trans blocks pairs s (IsPermutation-sym pairs blocks have.order) order in
     let same : s ≡ blocks = same_order 0 s blocks up between (fits-order endmem size start blocks have.fits) in
-    let both : true ≡ false = sym have.fits ∙ ap (fits endmem size start) (sym same) ∙ bad in
+    let both : true ≡ false = sym have.fits ∙ ap (heap_fits endmem size start) (sym same) ∙ bad in
     grind (arith, both)

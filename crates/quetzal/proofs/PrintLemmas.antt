@@ -3,7 +3,8 @@ use Rattle.std.proofs.Common.{◌≡◌, ℕ, zero, suc, ◌+◌, ◌-◌, ◌%�
 use Rattle.std.specs.Int.{w32, to_be_bytes}
 use Rattle.std.proofs.lemmas.Bool.Decides.{nat_tests}
 use Rattle.std.proofs.lemmas.List.{append-nil, take_at, drop_at, take_all, length-append}
-use Rattle.quetzal.specs.Chunks.{word, chunk_at, are_chunks, first_named, body, parts_of}
+use Rattle.glulx_image.specs.Header.{word}
+use Rattle.quetzal.specs.Chunks.{chunk_at, are_chunks, first_named, form_body, parts_of}
 use Rattle.quetzal.specs.Printing.{padding, chunk, heap_chunk, chunks_of, ReadsWhatIsPrinted}
 use Rattle.quetzal.proofs.MemoryLemmas.{word_again}
 
@@ -54,8 +55,8 @@ heap_named n None fits = refl
 heap_named n (Some blocks) fits =
     ap (first_named 0x4D416C6C (suc n)) (sym (append-nil (chunk 0x4D416C6C blocks))) ∙ named_further 0x4D416C6C n 0x4D416C6C blocks [] (omega arith) (omega (arith, fits, length-chunk 0x4D416C6C blocks))
 
-body_again : (chunks : List ℕ) → 4 + length chunks < 2 ^ 32 → body (to_be_bytes w32 0x464F524D ++ (to_be_bytes w32 (4 + length chunks) ++ (to_be_bytes w32 0x49465A53 ++ chunks))) ≡ Ok chunks
-unfolding body
+body_again : (chunks : List ℕ) → 4 + length chunks < 2 ^ 32 → form_body (to_be_bytes w32 0x464F524D ++ (to_be_bytes w32 (4 + length chunks) ++ (to_be_bytes w32 0x49465A53 ++ chunks))) ≡ Ok chunks
+unfolding form_body
 body_again chunks fits =
     let p = to_be_bytes w32 0x464F524D ++ (to_be_bytes w32 (4 + length chunks) ++ (to_be_bytes w32 0x49465A53 ++ chunks)) in
     let size : word p 4 ≡ 4 + length chunks = word_again (4 + length chunks) (to_be_bytes w32 0x49465A53 ++ chunks) fits in

@@ -11,10 +11,10 @@ use Rattle.vm_memory.specs.MemoryMap.{original}
 use Rattle.vm_undo.specs.SavedState.{IsHeapOver}
 use Rattle.vm_undo.specs.declared.saved.Saved.{Saved}
 use Rattle.quetzal.specs.Chunks.{Pieces}
-use Rattle.quetzal.specs.Fault.{Fails}
-use Rattle.quetzal.specs.Heap.{IsHeapIn, ReadsHeap, fits, is_placed}
+use Rattle.quetzal.specs.Fault.{FailsOnSave}
+use Rattle.quetzal.specs.Heap.{IsHeapIn, ReadsHeap, heap_fits, is_placed}
 use Rattle.quetzal.specs.Memory.{is_size}
-use Rattle.quetzal.specs.Save.{rom, image_memory, loaded, identity, ram_in, origin, IsStackOf, Refuses, IsStateIn, IsStateOf, HasNoHeap, ReadsHeapOf, ReadsStack, ReadsMemory, ReadsStory}
+use Rattle.quetzal.specs.Save.{rom, image_memory, memory_loaded, identity, ram_in, origin, IsStackOf, RefusesSave, IsStateIn, IsStateOf, HasNoHeap, ReadsHeapOf, ReadsStack, ReadsMemory, ReadsStory}
 use Rattle.quetzal.specs.declared.fault.SaveFault.{SaveFault}
 use Rattle.quetzal.specs.declared.fault.SaveFault.TheVariants.{NotSave, Cut, OtherStory, BadRuns, BadStack, BadHeap, NoMemory}
 
@@ -25,11 +25,11 @@ no_memory image p (Ok ram) = record { good = λ s. (tt, λ e. absurd (grind (ari
 no_memory image p (Err e) = tt
 
 refused_same : (image : List ℕ) (p : Pieces) (r : Result (List ℕ) SaveFault) (e : SaveFault)
-    → r ≡ Err e → Refuses e (Err e) → ReadsMemory image p r (Err e)
+    → r ≡ Err e → RefusesSave e (Err e) → ReadsMemory image p r (Err e)
 refused_same image p r e is same = rw is same
 
 refused_by : (image : List ℕ) (p : Pieces) (r : Result (List ℕ) SaveFault) (e : SaveFault)
-    → Fails e r → ReadsMemory image p r (Err e)
+    → FailsOnSave e r → ReadsMemory image p r (Err e)
 refused_by image p r NoMemory h = no_memory image p r
 refused_by image p r NotSave h = refused_same image p r NotSave h refl
 refused_by image p r Cut h = refused_same image p r Cut h refl
@@ -56,7 +56,7 @@ heap_refused image p ram e end size end-is size-is h =
     (subst (λ n. ReadsHeap end n p.heap (Err e)) size-is h))
 
 pub memory_refused : (image : List ℕ) (p : Pieces) (r : Result (List ℕ) SaveFault) (e : SaveFault)
-    → p.header ≡ identity image → r ≡ ram_in image p → Fails e r → ReadsStory image p (Err e)
+    → p.header ≡ identity image → r ≡ ram_in image p → FailsOnSave e r → ReadsStory image p (Err e)
 memory_refused image p r e own is h =
     record { own = λ o. subst (λ x. ReadsMemory image p x (Err e)) is (refused_by image p r e h); other = λ ne. absurd (ne own) }
 
@@ -69,7 +69,7 @@ story_read image p ram r result own ok is h =
 
 pub length-loaded : (image ram : List ℕ) → ramstart image ≤ length (rom image)
     → length (rom image) ≤ endmem image → endmem image ≤ ramstart image + length ram
-    → length (loaded image ram).bytes ≡ ramstart image + length ram
+    → length (memory_loaded image ram).bytes ≡ ramstart image + length ram
 length-loaded image ram lo hi end =
     let size = ramstart image + length ram in
     let all = original (rom image) (endmem image) in
@@ -79,7 +79,7 @@ length-loaded image ram lo hi end =
     omega (arith, length-append (take size all) (replicate (size - length all) 0), length-take size all, length-replicate {A = ℕ} (size - length all) 0, one, end) in
     omega (arith, length-append (take (ramstart image) (take size all ++ replicate (size - length all) 0)) ram, length-take (ramstart image) (take size all ++ replicate (size - length all) 0), two)
 
-over_of : (end size start : ℕ) (bs : List Block) → end % 256 ≡ 0 → fits end size start bs ≡ true → IsHeapOver end size start bs
+over_of : (end size start : ℕ) (bs : List Block) → end % 256 ≡ 0 → heap_fits end size start bs ≡ true → IsHeapOver end size start bs
 over_of end size start [] page h =
     let none : start ≡ 0 = grind (arith, nat_tests, h) in
     rw none (record { heap = refl; page = refl; least = λ l. absurd (omega arith); ends = λ l. absurd (omega arith) })
@@ -102,7 +102,7 @@ state_of image p ram s laid sized frames is =
     let limits : (endmem image ≤ ramstart image + length ram) × (ramstart image + length ram ≤ 16777216) =
     (grind (arith, nat_tests, sized), grind (arith, nat_tests, sized)) in
     let pages : (ramstart image + length ram) % 256 ≡ 0 = grind (arith, nat_tests, sized) in
-    let len : length (loaded image ram).bytes ≡ ramstart image + length ram =
+    let len : length (memory_loaded image ram).bytes ≡ ramstart image + length ram =
     length-loaded image ram (omega (arith, rom-length, laid.ram_below)) (omega (arith, rom-length, laid.ext_below)) limits.0 in
     record {
       saved = rw is.memory (record {

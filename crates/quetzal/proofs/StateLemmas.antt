@@ -14,9 +14,9 @@ use Rattle.vm_stack.specs.SavedTest.{is_saved_stack}
 use Rattle.vm_stack.proofs.SavedTests.{saved_decided}
 use Rattle.vm_undo.specs.declared.saved.Saved.{Saved}
 use Rattle.quetzal.specs.Chunks.{Pieces, parts_of}
-use Rattle.quetzal.specs.Heap.{HaveOrder, IsHeapIn, fits, listed}
-use Rattle.quetzal.specs.Save.{identity, loaded, ram_in, IsStackOf, Refuses, IsStateIn, HasNoHeap, Reads, ReadsHeapOf, ReadsStack, ReadsMemory, ReadsStory, ReadsParts, canon}
-use Rattle.quetzal.specs.State.{Finds, by_address, heap_of, is_stack_of, state_in, state_of, state_over, state_with}
+use Rattle.quetzal.specs.Heap.{HaveOrder, IsHeapIn, heap_fits, heap_listed}
+use Rattle.quetzal.specs.Save.{identity, memory_loaded, ram_in, IsStackOf, RefusesSave, IsStateIn, HasNoHeap, ReadsSave, ReadsHeapOf, ReadsStack, ReadsMemory, ReadsStory, ReadsParts, canon}
+use Rattle.quetzal.specs.State.{FindsState, by_address, heap_in_chunk, is_stack_of, state_in, state_of, state_over, state_with}
 use Rattle.quetzal.specs.declared.fault.SaveFault.{SaveFault}
 use Rattle.quetzal.specs.declared.fault.SaveFault.TheVariants.{NotSave, Cut, OtherStory, BadRuns, BadStack, BadHeap, NoMemory}
 use Rattle.quetzal.specs.Returns.{GivesStateBack}
@@ -90,23 +90,23 @@ one_order endmem size start pairs blocks have =
 -- ---- the heap
 
 heap_found : (end size : ℕ) (chunk : Option (List ℕ)) (start : ℕ) (blocks : List Block) → IsHeapIn end size chunk start blocks
-    → heap_of end size (listed chunk) ≡ Some (start, blocks)
+    → heap_in_chunk end size (heap_listed chunk) ≡ Some (start, blocks)
 heap_found end size chunk start blocks h =
     let same : by_address h.pairs ≡ blocks = one_order end size start h.pairs blocks h.order in
-    ap (heap_of end size) h.listed
-    ∙ (ap (λ (bs : List Block). cond {A = Option (ℕ × List Block)} (fits end size start bs) (Some (start, bs)) None) same
+    ap (heap_in_chunk end size) h.listed
+    ∙ (ap (λ (bs : List Block). cond {A = Option (ℕ × List Block)} (heap_fits end size start bs) (Some (start, bs)) None) same
     ∙ ap (λ (t : Bool). cond {A = Option (ℕ × List Block)} t (Some (start, blocks)) None) h.order.fits)
 
-heap_missing_by : (end size start : ℕ) (bs : List Block) (t : Bool) → fits end size start bs ≡ t
-    → (fits end size start bs ≡ true → ⊥) → cond {A = Option (ℕ × List Block)} t (Some (start, bs)) None ≡ None
+heap_missing_by : (end size start : ℕ) (bs : List Block) (t : Bool) → heap_fits end size start bs ≡ t
+    → (heap_fits end size start bs ≡ true → ⊥) → cond {A = Option (ℕ × List Block)} t (Some (start, bs)) None ≡ None
 heap_missing_by end size start bs true is unfit = absurd (unfit is)
 heap_missing_by end size start bs false is unfit = refl
 
-heap_missing : (end size : ℕ) (chunk : Option (List ℕ)) (l : Option (ℕ × List Block)) → listed chunk ≡ l → HasNoHeap end size chunk
-    → heap_of end size l ≡ None
+heap_missing : (end size : ℕ) (chunk : Option (List ℕ)) (l : Option (ℕ × List Block)) → heap_listed chunk ≡ l → HasNoHeap end size chunk
+    → heap_in_chunk end size l ≡ None
 heap_missing end size chunk None is none = refl
 heap_missing end size chunk (Some l) is none =
-    heap_missing_by end size l.0 (by_address l.1) (fits end size l.0 (by_address l.1)) refl
+    heap_missing_by end size l.0 (by_address l.1) (heap_fits end size l.0 (by_address l.1)) refl
     (λ fit. none l.0 (by_address l.1) (record {
       pairs = l.1;
       listed = is;
@@ -115,7 +115,7 @@ heap_missing end size chunk (Some l) is none =
 
 -- ---- a refusal finds nothing
 
-refused : (cause : SaveFault) (result : Result Saved SaveFault) → Refuses cause result → Finds None result
+refused : (cause : SaveFault) (result : Result Saved SaveFault) → RefusesSave cause result → FindsState None result
 refused cause (Ok s) h = absurd h
 refused cause (Err NoMemory) h = tt
 refused cause (Err NotSave) h = refl
@@ -132,13 +132,13 @@ same_state : (s : Saved) (image : List ℕ) (p : Pieces) (ram : List ℕ) → Is
 same_state s image p ram h = rw (sym h.memory, sym h.stack) refl
 
 heap_finds : (image : List ℕ) (p : Pieces) (ram : List ℕ) (result : Result Saved SaveFault) → ReadsHeapOf image p ram result
-    → Finds (state_with image p ram (heap_of (endmem image) (ramstart image + length ram) (listed p.heap))) result
+    → FindsState (state_with image p ram (heap_in_chunk (endmem image) (ramstart image + length ram) (heap_listed p.heap))) result
 heap_finds image p ram (Ok s) h =
     ap (state_with image p ram) (heap_found (endmem image) (ramstart image + length ram) p.heap s.heap_start s.heap h.heap)
     ∙ same_state s image p ram h
 heap_finds image p ram (Err NoMemory) h = tt
 heap_finds image p ram (Err BadHeap) h =
-    ap (state_with image p ram) (heap_missing (endmem image) (ramstart image + length ram) p.heap (listed p.heap) refl (h.1 refl))
+    ap (state_with image p ram) (heap_missing (endmem image) (ramstart image + length ram) p.heap (heap_listed p.heap) refl (h.1 refl))
 heap_finds image p ram (Err NotSave) h = absurd (let e = h.0 in cc)
 heap_finds image p ram (Err Cut) h = absurd (let e = h.0 in cc)
 heap_finds image p ram (Err OtherStory) h = absurd (let e = h.0 in cc)
@@ -166,22 +166,22 @@ stack_no image bytes laid e s =
     grind (arith, wrong)
 
 stack_finds : (image : List ℕ) (p : Pieces) (ram : List ℕ) (result : Result Saved SaveFault) → IsLaidOut image → ReadsStack image p ram result
-    → Finds (state_over image p (Ok ram)) result
+    → FindsState (state_over image p (Ok ram)) result
 stack_finds image p ram result laid h = by (is_stack_of image p.stack) refl where
   by : (t : Bool) → is_stack_of image p.stack ≡ t
-      → Finds (cond t (state_with image p ram (heap_of (endmem image) (ramstart image + length ram) (listed p.heap))) None) result
+      → FindsState (cond t (state_with image p ram (heap_in_chunk (endmem image) (ramstart image + length ram) (heap_listed p.heap))) None) result
   by true e = heap_finds image p ram result (h.good (stack_yes image p.stack laid e))
   by false e = refused BadStack result (h.bad (stack_no image p.stack laid e))
 
 memory_finds : (image : List ℕ) (p : Pieces) (r : Result (List ℕ) SaveFault) (result : Result Saved SaveFault) → IsLaidOut image
-    → ReadsMemory image p r result → Finds (state_over image p r) result
+    → ReadsMemory image p r result → FindsState (state_over image p r) result
 memory_finds image p (Ok ram) result laid h = stack_finds image p ram result laid h
 memory_finds image p (Err e) result laid h = refused e result h
 
 story_finds : (image : List ℕ) (p : Pieces) (result : Result Saved SaveFault) → IsLaidOut image → ReadsStory image p result
-    → Finds (state_of image (Ok p)) result
+    → FindsState (state_of image (Ok p)) result
 story_finds image p result laid h = by (bytes_eq p.header (identity image)) refl where
-  by : (t : Bool) → bytes_eq p.header (identity image) ≡ t → Finds (cond t (state_over image p (ram_in image p)) None) result
+  by : (t : Bool) → bytes_eq p.header (identity image) ≡ t → FindsState (cond t (state_over image p (ram_in image p)) None) result
   by true e = memory_finds image p (ram_in image p) result laid (h.own ((bytes_eq-Decides p.header (identity image)).0 e))
   by false e =
       refused OtherStory result (h.other (λ same.
@@ -190,12 +190,12 @@ story_finds image p result laid h = by (bytes_eq p.header (identity image)) refl
       grind (arith, wrong))))
 
 parts_finds : (image : List ℕ) (parts : Result Pieces SaveFault) (result : Result Saved SaveFault) → IsLaidOut image → ReadsParts image parts result
-    → Finds (state_of image parts) result
+    → FindsState (state_of image parts) result
 parts_finds image (Ok p) result laid h = story_finds image p result laid h
 parts_finds image (Err e) result laid h = refused e result h
 
-pub reader_finds : (image bytes : List ℕ) (result : Result Saved SaveFault) → IsLaidOut image → Reads image bytes result
-    → Finds (state_in image bytes) result
+pub reader_finds : (image bytes : List ℕ) (result : Result Saved SaveFault) → IsLaidOut image → ReadsSave image bytes result
+    → FindsState (state_in image bytes) result
 unfolding state_in
 reader_finds image bytes result laid h = parts_finds image (parts_of bytes) result laid h
 

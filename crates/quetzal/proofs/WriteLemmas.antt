@@ -8,20 +8,21 @@ use Rattle.std.proofs.lemmas.List.Sorted.{IsNonDecreasingBy-from_all_adjacent, I
 use Rattle.std.specs.Int.{w32, to_be_bytes}
 use Rattle.std.specs.Int.RustNames.{bit_xor}
 use Rattle.std.specs.List.Sorted.{IsNonDecreasingBy, IsPermutation}
-use Rattle.vm_heap.specs.HeapMap.{in_order, is_heap, heap_end, end_of}
+use Rattle.vm_heap.specs.HeapMap.{in_order, is_heap, heap_end, block_end}
 use Rattle.vm_heap.specs.declared.block.Block.{Block}
 use Rattle.vm_heap.proofs.HeapLemmas.{none, Next, next_of, in_order-limit, is_heap-order, in_order-lower, positive}
-use Rattle.quetzal.specs.Runs.{differences, pairs, last_run, zeros, coded}
+use Rattle.quetzal.specs.Runs.{differences, pairs, last_run, zeros, runs_coded}
+use Rattle.glulx_image.specs.Header.{word}
 use Rattle.glulx_image.specs.Header.{IsLaidOut, ramstart, extstart, endmem, stack_size}
+use Rattle.vm_memory.specs.Chaining.{◌>>=◌}
 use Rattle.vm_memory.specs.MemoryMap.{MemoryMap, KeepsRom, origin_of, original, ram_of, resized, with_ram}
 use Rattle.vm_undo.specs.SavedState.{IsHeapOver, IsSize}
 use Rattle.vm_undo.specs.declared.saved.Saved.{Saved}
-use Rattle.quetzal.specs.Chunks.{Pieces, word, parts_of}
-use Rattle.quetzal.specs.Fault.{◌>>=◌}
-use Rattle.quetzal.specs.Heap.{HaveOrder, IsHeapIn, block_bytes, blocks_in, fits, is_without, listed, print_heap}
-use Rattle.quetzal.specs.Memory.{is_size, original as original_ram, print_memory}
+use Rattle.quetzal.specs.Chunks.{Pieces, parts_of}
+use Rattle.quetzal.specs.Heap.{HaveOrder, IsHeapIn, block_bytes, blocks_in, heap_fits, is_without, heap_listed, print_heap}
+use Rattle.quetzal.specs.Memory.{is_size, first_ram as original_ram, print_memory}
 use Rattle.quetzal.specs.Printing.{padding, chunk, heap_chunk, chunks_of, print_save}
-use Rattle.quetzal.specs.Save.{rom, image_memory, loaded, identity, ram_in, origin, canon, IsStackOf, Refuses, IsStateIn, IsStateOf, HasNoHeap, Reads, ReadsHeapOf, ReadsStack, ReadsMemory, ReadsStory, ReadsParts, Gives, IsReadAs}
+use Rattle.quetzal.specs.Save.{rom, image_memory, memory_loaded, identity, ram_in, origin, canon, IsStackOf, RefusesSave, IsStateIn, IsStateOf, HasNoHeap, ReadsSave, ReadsHeapOf, ReadsStack, ReadsMemory, ReadsStory, ReadsParts, GivesState, SaveIsReadAs}
 use Rattle.quetzal.specs.Returns.{HasRom, GivesMemoryBack, GivesStateBack}
 use Rattle.quetzal.specs.declared.fault.SaveFault.{SaveFault}
 use Rattle.quetzal.specs.declared.fault.SaveFault.TheVariants.{NotSave, Cut, OtherStory, BadRuns, BadStack, BadHeap, NoMemory}
@@ -43,13 +44,13 @@ length-zeros : (n : ℕ) → length (zeros n) ≤ 2 * n
 unfolding zeros
 length-zeros n = omega (arith, length-append (pairs (n / 256)) (last_run (n % 256)), length-pairs (n / 256), length-last_run (n % 256))
 
-pub length-coded : (n : ℕ) (ds : List ℕ) → length (coded n ds) ≤ 2 * n + 2 * length ds
+pub length-coded : (n : ℕ) (ds : List ℕ) → length (runs_coded n ds) ≤ 2 * n + 2 * length ds
 length-coded n [] = omega arith
 length-coded n (d ∷ ds) = by (d == 0) (length-coded (n + 1) ds) (length-coded 0 ds) where
-  by : (t : Bool) → length (coded (n + 1) ds) ≤ 2 * (n + 1) + 2 * length ds → length (coded 0 ds) ≤ 2 * 0 + 2 * length ds
-      → length (cond t (coded (n + 1) ds) (zeros n ++ (d ∷ coded 0 ds))) ≤ 2 * n + 2 * length (d ∷ ds)
+  by : (t : Bool) → length (runs_coded (n + 1) ds) ≤ 2 * (n + 1) + 2 * length ds → length (runs_coded 0 ds) ≤ 2 * 0 + 2 * length ds
+      → length (cond t (runs_coded (n + 1) ds) (zeros n ++ (d ∷ runs_coded 0 ds))) ≤ 2 * n + 2 * length (d ∷ ds)
   by true skips goes = omega (arith, skips)
-  by false skips goes = omega (arith, goes, length-append (zeros n) (d ∷ coded 0 ds), length-zeros n)
+  by false skips goes = omega (arith, goes, length-append (zeros n) (d ∷ runs_coded 0 ds), length-zeros n)
 
 pub length-differences : (os rs : List ℕ) → length (differences os rs) ≤ length rs
 length-differences [] rs = omega arith
@@ -61,7 +62,7 @@ pub in_order-count : (from : ℕ) (bs : List Block) → IsTrue (in_order from bs
 in_order-count from [] h = omega (arith, in_order-limit from [] h)
 in_order-count from (b ∷ bs) h =
     let x : Next from b bs = next_of from b bs h in
-    let rest = in_order-count (end_of b) bs x.rest in omega (arith, x.above, x.filled, rest)
+    let rest = in_order-count (block_end b) bs x.rest in omega (arith, x.above, x.filled, rest)
 
 -- ---- blocks in order
 
@@ -71,12 +72,12 @@ rises from [] h k d lt = absurd (omega arith)
 rises from (b ∷ []) h k d lt = absurd (omega arith)
 rises from (b ∷ c ∷ bs) h zero d lt =
     let x : Next from b (c ∷ bs) = next_of from b (c ∷ bs) h in
-    let y : Next (end_of b) c bs = next_of (end_of b) c bs x.rest in omega (arith, x.filled, y.above)
+    let y : Next (block_end b) c bs = next_of (block_end b) c bs x.rest in omega (arith, x.filled, y.above)
 rises from (b ∷ c ∷ bs) h (suc k) d lt =
     let x : Next from b (c ∷ bs) = next_of from b (c ∷ bs) h in
     let moved : suc k + 1 ≡ suc (k + 1) = omega arith in
     subst (λ i. (get_or (c ∷ bs) k d).at ≤ (get_or (b ∷ c ∷ bs) i d).at) (sym moved)
-    (rises (end_of b) (c ∷ bs) x.rest k d (omega (arith, lt)))
+    (rises (block_end b) (c ∷ bs) x.rest k d (omega (arith, lt)))
 
 pub in_order-rises : (from : ℕ) (bs : List Block) → IsTrue (in_order from bs) → IsNonDecreasingBy (λ b. b.at) bs
 in_order-rises from bs h = IsNonDecreasingBy-from_all_adjacent (λ b. b.at) bs (rises from bs h)
@@ -97,18 +98,18 @@ unfolding blocks_in
 blocks_again from [] h = refl
 blocks_again from (b ∷ bs) h =
     let x : Next from b bs = next_of from b bs h in
-    let limit : end_of b ≤ 16777216 = in_order-limit (end_of b) bs x.rest in
+    let limit : block_end b ≤ 16777216 = in_order-limit (block_end b) bs x.rest in
     let one : length (b ∷ bs) ≡ suc (length bs) = omega arith in
     let first : word (block_bytes (b ∷ bs)) 0 ≡ b.at =
     word_again b.at (to_be_bytes w32 b.length ++ block_bytes bs) (omega (arith, limit)) in
     let second : word (block_bytes (b ∷ bs)) 4 ≡ b.length =
     word_again b.length (block_bytes bs) (omega (arith, limit)) in
-    let rest : blocks_in (length bs) (block_bytes bs) ≡ bs = blocks_again (end_of b) bs x.rest in
+    let rest : blocks_in (length bs) (block_bytes bs) ≡ bs = blocks_again (block_end b) bs x.rest in
     ap (λ (k : ℕ). blocks_in k (block_bytes (b ∷ bs))) one
     ∙ same_block (word (block_bytes (b ∷ bs)) 0) (word (block_bytes (b ∷ bs)) 4) b _ bs first second rest
 
 pub listed_again : (start : ℕ) (bs : List Block) → start < 2 ^ 32 → IsTrue (is_heap start bs)
-    → listed (print_heap start bs) ≡ Some (start, bs)
+    → heap_listed (print_heap start bs) ≡ Some (start, bs)
 listed_again start [] fits h =
     let zero-start : start ≡ 0 = grind (arith, nat_tests, h) in rw zero-start refl
 listed_again start (b ∷ bs) fits h =
@@ -260,7 +261,7 @@ same_map : (m : MemoryMap) (bytes rom : List ℕ) (ramstart endmem : ℕ) → by
 same_map m bytes rom ramstart endmem a b c d = rw (a, b, c, d) refl
 
 -- memory of the story is the story's with what RAM holds
-same_memory : (image : List ℕ) (m : MemoryMap) → Sizes image m → HasRom m → loaded image (ram_of m) ≡ m
+same_memory : (image : List ℕ) (m : MemoryMap) → Sizes image m → HasRom m → memory_loaded image (ram_of m) ≡ m
 same_memory image m z kept =
     let whole : m.bytes ≡ take m.ramstart m.bytes ++ ram_of m = sym (take-append-drop m.ramstart m.bytes) in
     let zeros = replicate (endmem image - length (rom image)) 0 in
@@ -274,7 +275,7 @@ same_memory image m z kept =
 pub memory_given_back : GivesMemoryBack
 memory_given_back image m laid is size kept =
     let z = sizes_of image m laid is size in
-    ap (λ r. r >>= (λ ram. Ok (loaded image ram))) (memory_again (rom image) (ram_of m) (ramstart image) (endmem image) z.low z.high z.size)
+    ap (λ r. r >>= (λ ram. Ok (memory_loaded image ram))) (memory_again (rom image) (ram_of m) (ramstart image) (endmem image) z.low z.high z.size)
     ∙ ap Ok (same_memory image m z kept)
 
 memory_back : (image : List ℕ) (s : Saved) → Sizes image s.memory → ram_in image (written_parts image s) ≡ Ok (ram_of s.memory)
@@ -289,7 +290,7 @@ state_back image s t laid is small kept in-parts =
     let heap = heap_back image (ramstart image + length (ram_of s.memory)) s t.heap_start t.heap small is.saved.saved.heap.heap in-parts.heap in
     rw (memory, in-parts.stack, heap.0, heap.1) refl
 
-fits_from : (end size start : ℕ) (bs : List Block) → IsHeapOver end size start bs → fits end size start bs ≡ true
+fits_from : (end size start : ℕ) (bs : List Block) → IsHeapOver end size start bs → heap_fits end size start bs ≡ true
 fits_from end size start [] h = h.heap
 fits_from end size start (b ∷ bs) h =
     let some : 0 < start = positive start b bs h.heap in
@@ -314,7 +315,7 @@ heap_stands image s z is small = record {
 
 answered_back : (image : List ℕ) (s : Saved) (r : Result Saved SaveFault) → IsLaidOut image → IsStateOf image s
     → s.heap_start < 2 ^ 32 → KeepsRom s.memory.ramstart s.memory.rom s.memory.bytes
-    → ReadsHeapOf image (written_parts image s) (ram_of s.memory) r → Gives s r
+    → ReadsHeapOf image (written_parts image s) (ram_of s.memory) r → GivesState s r
 answered_back image s (Ok t) laid is small kept h = state_back image s t laid is small kept h
 answered_back image s (Err NoMemory) laid is small kept h = refl
 answered_back image s (Err BadHeap) laid is small kept h =
@@ -326,7 +327,7 @@ answered_back image s (Err BadRuns) laid is small kept h = absurd (grind (arith,
 answered_back image s (Err BadStack) laid is small kept h = absurd (grind (arith, h.0))
 
 pub read_back : (image : List ℕ) (s : Saved) → IsLaidOut image → IsStateOf image s → s.heap_start < 2 ^ 32
-    → KeepsRom s.memory.ramstart s.memory.rom s.memory.bytes → IsReadAs image (canon image s) s
+    → KeepsRom s.memory.ramstart s.memory.rom s.memory.bytes → SaveIsReadAs image (canon image s) s
 read_back image s laid is small kept result h =
     let z = state_sizes image s laid is in
     let parts : parts_of (canon image s) ≡ Ok (written_parts image s) =
@@ -354,7 +355,7 @@ written_state image s z is kept = record {
 }
 
 pub written_reads : (image : List ℕ) (s : Saved) → IsLaidOut image → IsStateOf image s → HasRom s.memory
-    → Reads image (canon image s) (Ok s)
+    → ReadsSave image (canon image s) (Ok s)
 written_reads image s laid is kept =
     let z = state_sizes image s laid is in
     let parts : parts_of (canon image s) ≡ Ok (written_parts image s) =

@@ -3,15 +3,13 @@ use Rattle.std.specs.Prelude.{◌≡◌, ℕ, zero, suc, ◌+◌, ◌-◌, ◌%�
 use Rattle.std.specs.Prelude.{false, ◌&&◌, ◌||◌, ◌==◌, nat_lt, if◌then◌else◌}
 use Rattle.std.specs.Prelude.{List, length, codes, take, drop, Option, Some, None, Result, Ok, Err}
 use Rattle.std.specs.Borrow.{Bor}
+use Rattle.glulx_image.specs.Header.{word}
+use Rattle.vm_memory.specs.Chaining.{◌>>=◌}
 use Rattle.byteorder.specs.Endian.{big_number}
-use Rattle.quetzal.specs.Fault.{◌>>=◌, or_else}
+use Rattle.quetzal.specs.Fault.{or_else}
 use Rattle.quetzal.specs.declared.fault.SaveFault.{SaveFault}
 use Rattle.quetzal.specs.declared.fault.SaveFault.TheVariants.{NotSave, Cut}
 use Rattle.quetzal.specs.declared.form.Parts.{Parts}
-
--- the word at a place
-abbrev pub word : List ℕ → ℕ → ℕ
-word bytes at = big_number 4 (drop at bytes)
 
 -- the word that four letters are
 abbrev pub name : List ℕ → ℕ
@@ -51,8 +49,8 @@ first_named name (suc n) rest =
     if length rest == 0 then None else first_after name (first_named name n) (chunk_at rest)
 
 -- what stands in the form
-unfoldable pub body : List ℕ → Result (List ℕ) SaveFault
-body bytes =
+unfoldable pub form_body : List ℕ → Result (List ℕ) SaveFault
+form_body bytes =
     if nat_lt (length bytes) 12 then Err NotSave
     else (if word bytes 0 == (name (codes "FORM")) && word bytes 8 == (name (codes "IFZS")) then
     (if nat_lt (word bytes 4) 4 || nat_lt (length bytes) (8 + word bytes 4) then Err Cut
@@ -71,8 +69,8 @@ abbrev pub now_of : Option (Bor (List ℕ)) → Option (List ℕ)
 now_of None = None
 now_of (Some b) = Some b.now
 
-abbrev pub view : Parts → Pieces
-view p = record {
+abbrev pub pieces_seen : Parts → Pieces
+pieces_seen p = record {
   header = p.header.now;
   memory = p.memory.now;
   compressed = p.compressed;
@@ -90,17 +88,17 @@ either_of (Some c) u = Ok (c, true)
 either_of None (Some u) = Ok (u, false)
 either_of None None = Err Cut
 
-abbrev pub memory_of : List ℕ → Result (List ℕ × Bool) SaveFault
-memory_of bytes = either_of (first_named (name (codes "CMem")) (length bytes) bytes)
+abbrev pub memory_chunk : List ℕ → Result (List ℕ × Bool) SaveFault
+memory_chunk bytes = either_of (first_named (name (codes "CMem")) (length bytes) bytes)
     (first_named (name (codes "UMem")) (length bytes) bytes)
 
 unfoldable pub parts_of : List ℕ → Result Pieces SaveFault
 parts_of bytes = do
-  chunks ← body bytes
+  chunks ← form_body bytes
   whole ← (if are_chunks (length chunks) chunks then Ok chunks else Err Cut)
   header ← needed (name (codes "IFhd")) chunks
   stack ← needed (name (codes "Stks")) chunks
-  memory ← memory_of chunks
+  memory ← memory_chunk chunks
   Ok (record {
     header = header;
     memory = memory.0;

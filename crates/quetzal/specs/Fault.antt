@@ -5,20 +5,14 @@ use Rattle.quetzal.specs.declared.fault.SaveFault.TheVariants.{NotSave, Cut, Oth
 use Rattle.quetzal.specs.declared.fault.SaveFault.TheVariants.{BadStack, BadHeap, NoMemory}
 
 -- the causes by their numbers, in the order in which they are looked for
-abbrev pub number_of : SaveFault → ℕ
-number_of NotSave = 1
-number_of Cut = 2
-number_of OtherStory = 3
-number_of BadRuns = 4
-number_of BadStack = 5
-number_of BadHeap = 6
-number_of NoMemory = 0
-
-infixl 10 ◌>>=◌
-abbrev pub ◌>>=◌ : {A B : Type 0} → Result A SaveFault → (A → Result B SaveFault)
-    → Result B SaveFault
-(Ok x) >>= f = f x
-(Err e) >>= f = Err e
+abbrev pub save_fault_number : SaveFault → ℕ
+save_fault_number NotSave = 1
+save_fault_number Cut = 2
+save_fault_number OtherStory = 3
+save_fault_number BadRuns = 4
+save_fault_number BadStack = 5
+save_fault_number BadHeap = 6
+save_fault_number NoMemory = 0
 
 -- what isn't there has this cause
 abbrev pub or_else : {A : Type 0} → SaveFault → Option A → Result A SaveFault
@@ -26,22 +20,22 @@ or_else e None = Err e
 or_else e (Some x) = Ok x
 
 -- what a function returned, seen by view, is what reading gives
-abbrev pub Tells : {X Y : Type 0} → (X → Y) → Result X SaveFault → Result Y SaveFault
+abbrev pub GivesExactly : {X Y : Type 0} → (X → Y) → Result X SaveFault → Result Y SaveFault
     → Type 0
-Tells view (Ok x) read = read ≡ Ok (view x)
-Tells view (Err e) read = read ≡ Err e
+GivesExactly view (Ok x) read = read ≡ Ok (view x)
+GivesExactly view (Err e) read = read ≡ Err e
 
-abbrev pub Fails : {Y : Type 0} → SaveFault → Result Y SaveFault → Type 0
-Fails NoMemory read = Unit {0}
-Fails NotSave read = read ≡ Err NotSave
-Fails Cut read = read ≡ Err Cut
-Fails OtherStory read = read ≡ Err OtherStory
-Fails BadRuns read = read ≡ Err BadRuns
-Fails BadStack read = read ≡ Err BadStack
-Fails BadHeap read = read ≡ Err BadHeap
+abbrev pub FailsOnSave : {Y : Type 0} → SaveFault → Result Y SaveFault → Type 0
+FailsOnSave NoMemory read = Unit {0}
+FailsOnSave NotSave read = read ≡ Err NotSave
+FailsOnSave Cut read = read ≡ Err Cut
+FailsOnSave OtherStory read = read ≡ Err OtherStory
+FailsOnSave BadRuns read = read ≡ Err BadRuns
+FailsOnSave BadStack read = read ≡ Err BadStack
+FailsOnSave BadHeap read = read ≡ Err BadHeap
 
 -- the same unless memory ran out
-abbrev pub Gives : {X Y : Type 0} → (X → Y) → Result X SaveFault → Result Y SaveFault
+abbrev pub GivesUnlessNoMemory : {X Y : Type 0} → (X → Y) → Result X SaveFault → Result Y SaveFault
     → Type 0
-Gives view (Ok x) read = read ≡ Ok (view x)
-Gives view (Err e) read = Fails e read
+GivesUnlessNoMemory view (Ok x) read = read ≡ Ok (view x)
+GivesUnlessNoMemory view (Err e) read = FailsOnSave e read

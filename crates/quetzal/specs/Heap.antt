@@ -5,9 +5,9 @@ use Rattle.std.specs.Prelude.{List, [], ◌∷◌, ◌++◌, length as size, dro
 use Rattle.std.specs.Prelude.{Some, None, Result, Ok, Err}
 use Rattle.std.specs.Int.{w32, to_be_bytes}
 use Rattle.std.specs.List.Sorted.{IsPermutation}
+use Rattle.glulx_image.specs.Header.{word}
 use Rattle.vm_heap.specs.HeapMap.{is_heap, heap_end}
 use Rattle.vm_heap.specs.declared.block.Block.{Block}
-use Rattle.quetzal.specs.Chunks.{word}
 use Rattle.quetzal.specs.declared.fault.SaveFault.{SaveFault}
 use Rattle.quetzal.specs.declared.fault.SaveFault.TheVariants.{NotSave, Cut, OtherStory, BadRuns}
 use Rattle.quetzal.specs.declared.fault.SaveFault.TheVariants.{BadStack, BadHeap, NoMemory}
@@ -32,30 +32,30 @@ listed_in bytes =
     then Some (word bytes 0, blocks_in (word bytes 4) (drop 8 bytes)) else None)
 
 -- a save without the chunk has no heap
-abbrev pub listed : Option (List ℕ) → Option (ℕ × List Block)
-listed None = Some (0, [])
-listed (Some bytes) = listed_in bytes
+abbrev pub heap_listed : Option (List ℕ) → Option (ℕ × List Block)
+heap_listed None = Some (0, [])
+heap_listed (Some bytes) = listed_in bytes
 
 -- a heap starts at a page from ENDMEM on, and memory ends where the heap does
 abbrev pub is_placed : ℕ → ℕ → ℕ → ℕ → Bool
 is_placed endmem length start end = start % 256 == 0 && (nat_le endmem start && length == end)
 
 -- a heap that a memory of this size may have
-abbrev pub fits : ℕ → ℕ → ℕ → List Block → Bool
-fits endmem length start [] = start == 0
-fits endmem length start (b ∷ bs) =
+abbrev pub heap_fits : ℕ → ℕ → ℕ → List Block → Bool
+heap_fits endmem length start [] = start == 0
+heap_fits endmem length start (b ∷ bs) =
     is_heap start (b ∷ bs) && is_placed endmem length start (heap_end (b ∷ bs))
 
 -- these blocks in some order fit
 pub record HaveOrder (endmem length start : ℕ) (pairs blocks : List Block) : Type 0 where
   pub order : IsPermutation pairs blocks
-  pub fits : fits endmem length start blocks ≡ true
+  pub fits : heap_fits endmem length start blocks ≡ true
 
 -- the heap that a chunk spells: its blocks in some order, which fit
 pub record IsHeapIn (endmem length : ℕ) (chunk : Option (List ℕ)) (start : ℕ)
     (blocks : List Block) : Type 0 where
   pub pairs : List Block
-  pub listed : listed chunk ≡ Some (start, pairs)
+  pub listed : heap_listed chunk ≡ Some (start, pairs)
   pub order : HaveOrder endmem length start pairs blocks
 
 -- what putting blocks in order answers
@@ -96,6 +96,6 @@ print_heap start (b ∷ bs) = Some
     (to_be_bytes w32 start ++ (to_be_bytes w32 (size (b ∷ bs)) ++ block_bytes (b ∷ bs)))
 
 -- the bytes that were written, where some were
-abbrev pub bytes_of : {Z : Type 0} → Option (Vec ℕ Z) → Option (List ℕ)
-bytes_of None = None
-bytes_of (Some v) = Some v.items
+abbrev pub written_bytes : {Z : Type 0} → Option (Vec ℕ Z) → Option (List ℕ)
+written_bytes None = None
+written_bytes (Some v) = Some v.items

@@ -9,8 +9,8 @@ use Rattle.vm_heap.specs.declared.block.Block.{Block}
 use Rattle.vm_stack.specs.SavedTest.{is_saved_stack}
 use Rattle.vm_undo.specs.declared.saved.Saved.{Saved}
 use Rattle.quetzal.specs.Chunks.{Pieces, parts_of}
-use Rattle.quetzal.specs.Heap.{fits, listed}
-use Rattle.quetzal.specs.Save.{identity, loaded, ram_in}
+use Rattle.quetzal.specs.Heap.{heap_fits, heap_listed}
+use Rattle.quetzal.specs.Save.{identity, memory_loaded, ram_in}
 use Rattle.quetzal.specs.declared.fault.SaveFault.{SaveFault}
 use Rattle.quetzal.specs.declared.fault.SaveFault.TheVariants as fault
 
@@ -20,10 +20,10 @@ by_address [] = []
 by_address (b ∷ bs) = with_block b (by_address bs)
 
 -- the heap that a chunk lists, where memory of this size may have it
-abbrev pub heap_of : ℕ → ℕ → Option (ℕ × List Block) → Option (ℕ × List Block)
-heap_of endmem size None = None
-heap_of endmem size (Some l) =
-    if fits endmem size l.0 (by_address l.1) then Some (l.0, by_address l.1) else None
+abbrev pub heap_in_chunk : ℕ → ℕ → Option (ℕ × List Block) → Option (ℕ × List Block)
+heap_in_chunk endmem size None = None
+heap_in_chunk endmem size (Some l) =
+    if heap_fits endmem size l.0 (by_address l.1) then Some (l.0, by_address l.1) else None
 
 -- frames with a stub on top, which the story's stack holds
 abbrev pub is_stack_of : List ℕ → List ℕ → Bool
@@ -34,7 +34,7 @@ abbrev pub state_with : List ℕ → Pieces → List ℕ → Option (ℕ × List
     → Option Saved
 state_with image p ram None = None
 state_with image p ram (Some h) = Some (record {
-  memory = loaded image ram;
+  memory = memory_loaded image ram;
   stack = p.stack;
   heap = h.1;
   heap_start = h.0;
@@ -45,7 +45,7 @@ state_over image p (Err e) = None
 state_over image p (Ok ram) =
     if is_stack_of image p.stack
     then state_with image p ram
-    (heap_of (endmem image) (ramstart image + length ram) (listed p.heap))
+    (heap_in_chunk (endmem image) (ramstart image + length ram) (heap_listed p.heap))
     else None
 
 abbrev pub state_of : List ℕ → Result Pieces SaveFault → Option Saved
@@ -59,12 +59,12 @@ state_in image bytes = state_of image (parts_of bytes)
 
 -- the reader gave this state, or refused the bytes where there is none; nothing is said of want of
 -- memory
-abbrev pub Finds : Option Saved → Result Saved SaveFault → Type 0
-Finds should (Ok s) = should ≡ Some s
-Finds should (Err fault.NoMemory) = Unit {0}
-Finds should (Err fault.NotSave) = should ≡ None
-Finds should (Err fault.Cut) = should ≡ None
-Finds should (Err fault.OtherStory) = should ≡ None
-Finds should (Err fault.BadRuns) = should ≡ None
-Finds should (Err fault.BadStack) = should ≡ None
-Finds should (Err fault.BadHeap) = should ≡ None
+abbrev pub FindsState : Option Saved → Result Saved SaveFault → Type 0
+FindsState should (Ok s) = should ≡ Some s
+FindsState should (Err fault.NoMemory) = Unit {0}
+FindsState should (Err fault.NotSave) = should ≡ None
+FindsState should (Err fault.Cut) = should ≡ None
+FindsState should (Err fault.OtherStory) = should ≡ None
+FindsState should (Err fault.BadRuns) = should ≡ None
+FindsState should (Err fault.BadStack) = should ≡ None
+FindsState should (Err fault.BadHeap) = should ≡ None

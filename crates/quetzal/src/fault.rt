@@ -1,7 +1,7 @@
 //! Why bytes are no save of a story.
 
 ghost use Rattle.std.specs.Prelude.{◌≡◌};
-ghost use Rattle.quetzal.specs.Fault.{number_of};
+ghost use Rattle.quetzal.specs.Fault.{save_fault_number};
 ghost use Rattle.quetzal.specs.declared.fault.SaveFault.TheVariants.{NoMemory};
 
 use std::alloc::AllocError;
@@ -34,7 +34,7 @@ pub enum SaveFault {
 impl SaveFault {
     /// The cause's number, 1 to 6; 0 for want of memory.
     pub fn number(self) -> u8
-        ensures value { result ≡ number_of self }
+        ensures value { result ≡ save_fault_number self }
     {
         match self {
             SaveFault::NotSave => 1,

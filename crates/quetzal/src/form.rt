@@ -2,9 +2,10 @@
 
 ghost use Rattle.std.specs.Prelude.{◌≡◌, ◌+◌, ◌%◌, ◌≤◌, None, Some, Ok, Err};
 ghost use Rattle.std.specs.Prelude.{length, drop, IfSome, IfNone, MatchOption};
-ghost use Rattle.quetzal.specs.Chunks.{word, chunk_at, are_chunks, first_named, body, memory_of};
-ghost use Rattle.quetzal.specs.Chunks.{needed, parts_of, view};
-ghost use Rattle.quetzal.specs.Fault.{Tells};
+ghost use Rattle.quetzal.specs.Chunks.{chunk_at, are_chunks, first_named, form_body, memory_chunk};
+ghost use Rattle.glulx_image.specs.Header.{word};
+ghost use Rattle.quetzal.specs.Chunks.{needed, parts_of, pieces_seen};
+ghost use Rattle.quetzal.specs.Fault.{GivesExactly};
 
 use crate::fault::SaveFault;
 use byteorder::{BigEndian, ByteOrder};
@@ -114,9 +115,9 @@ fn first_named(name: u32, bytes: &[u8]) -> Option<&[u8]>
 }
 
 /// The chunks of the form.
-#[tactic(auto, unfolding(crate::specs::Chunks::body))]
+#[tactic(auto, unfolding(crate::specs::Chunks::form_body))]
 fn body(bytes: &[u8]) -> Result<&[u8], SaveFault>
-    ensures { Tells (λ b. b.now) result (body bytes.now) }
+    ensures { GivesExactly (λ b. b.now) result (form_body bytes.now) }
 {
     if bytes.len() < 12 {
         return Err(SaveFault::NotSave);
@@ -134,7 +135,7 @@ fn body(bytes: &[u8]) -> Result<&[u8], SaveFault>
 }
 
 fn memory_of(body: &[u8]) -> Result<(&[u8], bool), SaveFault>
-    ensures { Tells (λ m. (m.0.now, m.1)) result (memory_of body.now) }
+    ensures { GivesExactly (λ m. (m.0.now, m.1)) result (memory_chunk body.now) }
 {
     match first_named(CMEM, body) {
         Some(memory) => Ok((memory, true)),
@@ -146,7 +147,7 @@ fn memory_of(body: &[u8]) -> Result<(&[u8], bool), SaveFault>
 }
 
 fn needed(name: u32, body: &[u8]) -> Result<&[u8], SaveFault>
-    ensures { Tells (λ c. c.now) result (needed name body.now) }
+    ensures { GivesExactly (λ c. c.now) result (needed name body.now) }
 {
     match first_named(name, body) {
         Some(contents) => Ok(contents),
@@ -157,7 +158,7 @@ fn needed(name: u32, body: &[u8]) -> Result<&[u8], SaveFault>
 /// The parts of a save, or the first of the causes 1 and 2.
 #[tactic(auto, unfolding(crate::specs::Chunks::parts_of))]
 pub fn read_parts(bytes: &[u8]) -> Result<Parts<'_>, SaveFault>
-    ensures exact { Tells view result (parts_of bytes.now) }
+    ensures exact { GivesExactly pieces_seen result (parts_of bytes.now) }
 {
     let body = body(bytes)?;
     if !are_chunks(body) {

@@ -3,7 +3,7 @@
 ghost use Rattle.std.specs.Prelude.{◌≡◌, ◌++◌, ◌+◌, ◌*◌, ◌/◌, ◌%◌};
 ghost use Rattle.std.specs.Prelude.{◌≤◌, ◌<◌, ◌^◌, length, drop, Some, None, OnOk};
 ghost use Rattle.std.specs.Prelude.{IfOk, MatchOption};
-ghost use Rattle.vm_heap.specs.HeapMap.{end_of, rounded_up};
+ghost use Rattle.vm_heap.specs.HeapMap.{block_end, rounded_up};
 ghost use Rattle.quetzal.specs.Chunks.{now_of};
 ghost use Rattle.quetzal.specs.Heap as chunk;
 ghost use Rattle.quetzal.specs.Heap.{HasOrder, ReadsHeap, block_bytes, blocks_in, is_without};
@@ -48,9 +48,9 @@ struct Pairs<'a> {
 #[tactic(auto, unfolding(crate::specs::Heap::blocks_in))]
 fn listed(contents: Option<&[u8]>) -> Option<Pairs<'_>>
     ensures { MatchOption result
-        (chunk.listed (now_of contents.entry) ≡ None)
+        (chunk.heap_listed (now_of contents.entry) ≡ None)
         (λ l. (length l.pairs.now % 8 ≡ 0)
-        × (chunk.listed (now_of contents.entry)
+        × (chunk.heap_listed (now_of contents.entry)
         ≡ Some (l.start, blocks_in (length l.pairs.now / 8) l.pairs.now))) }
 {
     match contents {
@@ -137,7 +137,7 @@ fn blocks_of(alloc: Global, pairs: &[u8]) -> Result<Vec<Block>, AllocError>
 
 // Whether a memory of this size may have this heap.
 fn fits(endmem: u32, size: u32, start: u32, blocks: &[Block]) -> bool
-    ensures { result ≡ chunk.fits endmem size start blocks.now }
+    ensures { result ≡ chunk.heap_fits endmem size start blocks.now }
 {
     match blocks {
         [] => start == 0,
@@ -147,7 +147,7 @@ fn fits(endmem: u32, size: u32, start: u32, blocks: &[Block]) -> bool
 
 // A heap starts at a page from ENDMEM on, and memory ends behind its last block.
 fn is_placed(endmem: u32, size: u32, start: u32, last: &Block) -> bool
-    ensures { result ≡ chunk.is_placed endmem size start (rounded_up (end_of last.now)) }
+    ensures { result ≡ chunk.is_placed endmem size start (rounded_up (block_end last.now)) }
 {
     let end = u64::from(last.at) + u64::from(last.length);
     start % 256 == 0 && endmem <= start && u64::from(size) == (end + 255) / 256 * 256
@@ -160,7 +160,7 @@ pub fn write_heap(
     blocks: &[Block],
 ) -> Result<Option<Vec<u8>>, AllocError>
     requires { length blocks.now < 2 ^ 32 }
-    ensures { IfOk result (λ contents. chunk.bytes_of contents ≡ print_heap start blocks.now) }
+    ensures { IfOk result (λ contents. chunk.written_bytes contents ≡ print_heap start blocks.now) }
 {
     if blocks.is_empty() {
         return Ok(None);

@@ -3,12 +3,14 @@
 ghost use Rattle.std.specs.Prelude.{◌≡◌, ◌++◌, ◌+◌, ◌-◌, ◌≤◌, ◌<◌};
 ghost use Rattle.std.specs.Prelude.{◌%◌, length, drop, false, true, IfOk};
 ghost use Rattle.byteorder.specs.Endian.{big_bytes};
-ghost use Rattle.quetzal.specs.Chunks.{word};
-ghost use Rattle.quetzal.specs.Memory.{is_size, original, coded_memory, plain_memory, memory_of};
+ghost use Rattle.glulx_image.specs.Header.{word};
+ghost use Rattle.quetzal.specs.Memory.{is_size, first_ram, coded_memory, plain_memory};
+ghost use Rattle.quetzal.specs.Memory.{ram_in_chunk};
 ghost use Rattle.quetzal.specs.Memory.{print_memory};
 ghost use Rattle.glulx_image.specs.Header as header;
-ghost use Rattle.quetzal.specs.Fault.{Gives};
-ghost use Rattle.quetzal.specs.Save.{image_memory, loaded, memory_contents, memory_in, origin};
+ghost use Rattle.quetzal.specs.Fault.{GivesUnlessNoMemory};
+ghost use Rattle.quetzal.specs.Save.{image_memory, memory_loaded, memory_contents, memory_in};
+ghost use Rattle.quetzal.specs.Save.{origin};
 ghost use Rattle.vm_memory.specs.MemoryMap.{origin_of};
 
 use crate::fault::SaveFault;
@@ -34,7 +36,7 @@ fn original(
     size: usize,
 ) -> Result<Vec<u8>, AllocError>
     requires { (ramstart ≤ length image.now) × (length image.now ≤ size) }
-    ensures { IfOk result (λ v. v.items ≡ original image.now ramstart size) }
+    ensures { IfOk result (λ v. v.items ≡ first_ram image.now ramstart size) }
 {
     let mut ram = Vec::from_slice(alloc, &image[ramstart..])?;
     ram.resize(size - ramstart, 0)?;
@@ -49,7 +51,8 @@ fn coded_memory(
     coded: &[u8],
 ) -> Result<Vec<u8>, SaveFault>
     requires { (ramstart ≤ length image.now) × (length image.now ≤ size) }
-    ensures exact { Gives (λ v. v.items) result (coded_memory image.now ramstart size coded.now) }
+    ensures exact { GivesUnlessNoMemory (λ v. v.items) result
+        (coded_memory image.now ramstart size coded.now) }
     ensures size { IfOk result (λ v. length v.items ≡ size - ramstart) }
 {
     let mut ram = original(alloc, image, ramstart, size)?;
@@ -66,7 +69,8 @@ fn plain_memory(
     plain: &[u8],
 ) -> Result<Vec<u8>, SaveFault>
     requires { ramstart ≤ size }
-    ensures exact { Gives (λ v. v.items) result (plain_memory ramstart size plain.now) }
+    ensures exact { GivesUnlessNoMemory (λ v. v.items) result
+        (plain_memory ramstart size plain.now) }
     ensures size { IfOk result (λ v. length v.items ≡ size - ramstart) }
 {
     if plain.len() != size - ramstart {
@@ -76,7 +80,7 @@ fn plain_memory(
 }
 
 /// RAM from RAMSTART on, of a chunk's contents.
-#[tactic(auto, unfolding(crate::specs::Memory::memory_of))]
+#[tactic(auto, unfolding(crate::specs::Memory::ram_in_chunk))]
 pub fn read_memory(
     alloc: Global,
     image: &[u8],
@@ -86,8 +90,8 @@ pub fn read_memory(
     compressed: bool,
 ) -> Result<Vec<u8>, SaveFault>
     requires { (ramstart ≤ length image.now) × (length image.now ≤ endmem) }
-    ensures exact { Gives (λ v. v.items) result
-        (memory_of image.now ramstart endmem contents.now compressed) }
+    ensures exact { GivesUnlessNoMemory (λ v. v.items) result
+        (ram_in_chunk image.now ramstart endmem contents.now compressed) }
     ensures size { IfOk result (λ v. is_size endmem (ramstart + length v.items) ≡ true) }
 {
     if contents.len() < 4 {
@@ -133,7 +137,7 @@ pub fn memory_with<'i>(
 ) -> Result<Memory<'i>, AllocError>
     requires size { is_size (header.endmem image.now) (header.ramstart image.now + length ram.now)
         ≡ true }
-    ensures { IfOk result (λ m. m ≡ loaded image.now ram.now) }
+    ensures { IfOk result (λ m. m ≡ memory_loaded image.now ram.now) }
 {
     let mut memory = first_memory(alloc, image)?;
     memory.resize(image.ramstart() + ram.len() as u32)?;
@@ -170,7 +174,8 @@ pub fn memory_in<'i>(
     contents: &[u8],
     image: &Image<'i>,
 ) -> Result<Memory<'i>, SaveFault>
-    ensures exact { Gives (λ memory. memory) result (memory_in image.now contents.now) }
+    ensures exact { GivesUnlessNoMemory (λ memory. memory) result
+        (memory_in image.now contents.now) }
 {
     let (ramstart, endmem) = (image.ramstart(), image.endmem());
     let ram = read_memory(alloc, story_rom(image), ramstart, endmem, contents, true)?;

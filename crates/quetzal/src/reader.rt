@@ -4,11 +4,11 @@ ghost use Rattle.std.specs.Prelude.{◌≡◌, ◌+◌, ◌≤◌, ◌%◌, ◌�
 ghost use Rattle.std.specs.Prelude.{IfOk, Ok, true, false};
 ghost use Rattle.quetzal.specs.Memory.{is_size};
 ghost use Rattle.glulx_image.specs.Header.{endmem, ramstart};
-ghost use Rattle.quetzal.specs.Chunks.{view};
+ghost use Rattle.quetzal.specs.Chunks.{pieces_seen};
 ghost use Rattle.quetzal.specs.Save as save;
-ghost use Rattle.quetzal.specs.Save.{IsStackOf, IsStateOf, Reads, ReadsHeapOf, ReadsMemory};
+ghost use Rattle.quetzal.specs.Save.{IsStackOf, IsStateOf, ReadsSave, ReadsHeapOf, ReadsMemory};
 ghost use Rattle.quetzal.specs.Save.{ReadsStory, identity, ram_in};
-ghost use Rattle.quetzal.specs.State.{Finds, state_in};
+ghost use Rattle.quetzal.specs.State.{FindsState, state_in};
 
 use crate::fault::SaveFault;
 use crate::form::{Parts, read_parts};
@@ -22,9 +22,9 @@ use vm_undo::{Saved, StackBytes};
 /// The state of the story that the bytes spell, or the first cause against them. No clause
 /// says how much memory it takes.
 pub fn read<'i>(alloc: Global, bytes: &[u8], image: &Image<'i>) -> Result<Saved<'i>, SaveFault>
-    ensures exact { Reads image.now bytes.now result }
+    ensures exact { ReadsSave image.now bytes.now result }
     ensures kept { IfOk result (λ s. IsStateOf image.now s) }
-    ensures state { Finds (state_in image.now bytes.now) result }
+    ensures state { FindsState (state_in image.now bytes.now) result }
 {
     let _checked = image.extstart();
     read_form(alloc, bytes, image)
@@ -32,7 +32,7 @@ pub fn read<'i>(alloc: Global, bytes: &[u8], image: &Image<'i>) -> Result<Saved<
 
 // The same, by the parts of the form.
 fn read_form<'i>(alloc: Global, bytes: &[u8], image: &Image<'i>) -> Result<Saved<'i>, SaveFault>
-    ensures exact { Reads image.now bytes.now result }
+    ensures exact { ReadsSave image.now bytes.now result }
     ensures kept { IfOk result (λ s. IsStateOf image.now s) }
 {
     match read_parts(bytes) {
@@ -47,7 +47,7 @@ fn read_story<'i>(
     parts: &Parts<'_>,
     image: &Image<'i>,
 ) -> Result<Saved<'i>, SaveFault>
-    ensures exact { ReadsStory image.now (view parts.now) result }
+    ensures exact { ReadsStory image.now (pieces_seen parts.now) result }
     ensures kept { IfOk result (λ s. IsStateOf image.now s) }
 {
     if !is_same(parts.header, story_identity(image)) {
@@ -69,7 +69,7 @@ fn read_stack<'i>(
     ram: &[u8],
 ) -> Result<Saved<'i>, SaveFault>
     requires size { is_size (endmem image.now) (ramstart image.now + length ram.now) ≡ true }
-    ensures exact { save.ReadsStack image.now (view parts.now) ram.now result }
+    ensures exact { save.ReadsStack image.now (pieces_seen parts.now) ram.now result }
     ensures kept { IfOk result (λ s. IsStateOf image.now s) }
 {
     if parts.stack.len() > image.stack_size() as usize || !is_chain(parts.stack) {
@@ -85,8 +85,8 @@ fn read_state<'i>(
     ram: &[u8],
 ) -> Result<Saved<'i>, SaveFault>
     requires size { is_size (endmem image.now) (ramstart image.now + length ram.now) ≡ true }
-    requires stack { IsStackOf image.now (view parts.now).stack }
-    ensures exact { ReadsHeapOf image.now (view parts.now) ram.now result }
+    requires stack { IsStackOf image.now (pieces_seen parts.now).stack }
+    ensures exact { ReadsHeapOf image.now (pieces_seen parts.now) ram.now result }
     ensures kept { IfOk result (λ s. IsStateOf image.now s) }
 {
     let size = image.ramstart() + ram.len() as u32;

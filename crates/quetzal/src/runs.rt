@@ -2,7 +2,7 @@
 
 ghost use Rattle.std.specs.Prelude.{◌≡◌, ◌++◌, ◌≤◌, ◌<◌, None, Some, false};
 ghost use Rattle.std.specs.Prelude.{true, length, replicate, OnOk, OnErr, IfOk};
-ghost use Rattle.quetzal.specs.Runs.{restored, coded, pairs, zeros, differences};
+ghost use Rattle.quetzal.specs.Runs.{runs_decoded, runs_coded, pairs, zeros, differences};
 
 use std::alloc::{AllocError, Global};
 
@@ -13,8 +13,8 @@ pub struct BadRuns {}
 /// Puts the coded differences over memory that is as it was at first. After a refusal its bytes
 /// are not told.
 pub fn restore(ram: &mut [u8], coded: &[u8]) -> Result<(), BadRuns>
-    ensures ok { OnOk result (restored false ram.old coded.now ≡ Some ram.new) }
-    ensures exact { OnErr result (restored false ram.old coded.now ≡ None) }
+    ensures ok { OnOk result (runs_decoded false ram.old coded.now ≡ Some ram.new) }
+    ensures exact { OnErr result (runs_decoded false ram.old coded.now ≡ None) }
 {
     let mut at = 0;
     let mut due = false;
@@ -61,7 +61,7 @@ fn push_zeros(out: &mut Vec<u8>, count: usize) -> Result<(), AllocError>
 /// The one coding of what memory is against what it was.
 pub fn compressed_memory(alloc: Global, original: &[u8], ram: &[u8]) -> Result<Vec<u8>, AllocError>
     requires { length original.now ≡ length ram.now }
-    ensures { IfOk result (λ v. v.items ≡ coded 0 (differences original.now ram.now)) }
+    ensures { IfOk result (λ v. v.items ≡ runs_coded 0 (differences original.now ram.now)) }
 {
     let mut out = Vec::new(alloc);
     let mut pending = 0;

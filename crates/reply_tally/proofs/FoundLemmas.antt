@@ -12,12 +12,12 @@ use Rattle.std.proofs.lemmas.List.{take-append-drop}
 use Rattle.std.proofs.lemmas.Slice.Eq.{bytes_eq-Decides}
 use Rattle.std.proofs.lemmas.List.Elements.{recursion_from_All, filter-append}
 use Rattle.line_words.specs.Reply.{number_of_no, numbers_of_no, print_no, print_show, print_reply}
-use Rattle.line_words.specs.Spelling.{number}
+use Rattle.line_words.specs.Spelling.{number_field}
 use Rattle.line_words.specs.declared.reply.No.{No}
 use Rattle.line_words.specs.declared.reply.No.TheVariants as no
 use Rattle.line_words.specs.declared.reply.Reply.{Reply}
 use Rattle.line_words.specs.declared.reply.Reply.TheVariants as replies
-use Rattle.line_talk.specs.Conversation.{joined}
+use Rattle.line_talk.specs.Conversation.{texts_joined}
 use Rattle.line_talk.specs.Lines.{lines}
 use Rattle.reply_tally.specs.ShowLines.{IsShowLine, AreShowLines, HasShowLines}
 use Rattle.reply_tally.specs.Refusals.{refusals_in, is_failure, line_of_no, begins_refusal}
@@ -55,7 +55,7 @@ shows_whole (l ∷ ls) h = (show_line_whole l h.0, shows_whole ls h.1)
 -- ---- the lines of a reply
 
 head : ℕ → ℕ → List ℕ
-head s n = codes "SHOW" ++ (number s ++ number n)
+head s n = codes "SHOW" ++ (number_field s ++ number_field n)
 
 parts_of_show : (a b c body dot rest : List ℕ)
     → (a ++ (b ++ (c ++ ((10 ∷ []) ++ (body ++ dot))))) ++ rest
@@ -65,8 +65,8 @@ parts_of_show a b c body dot rest = simp append_assoc
 head_whole : (s n : ℕ) → NoLf (head s n)
 unfolding head
 head_whole s n =
-    NoLf-append (codes "SHOW") (number s ++ number n) (checked_no_lf (codes "SHOW") refl)
-    (NoLf-append (number s) (number n) (number_no_lf s) (number_no_lf n))
+    NoLf-append (codes "SHOW") (number_field s ++ number_field n) (checked_no_lf (codes "SHOW") refl)
+    (NoLf-append (number_field s) (number_field n) (number_no_lf s) (number_no_lf n))
 
 lines_of_show : (s n : ℕ) (body rest : List ℕ) (h : AreShowLines body)
     → lines (print_show s n body ++ rest) ≡ head s n ∷ (h.lines ++ (46 ∷ []) ∷ lines rest)
@@ -75,7 +75,7 @@ lines_of_show s n body rest h =
     let each = recursion_from_All IsShowLine h.lines h.each in
     let behind = codes ".\n" ++ rest in
     let dot = first_line (46 ∷ []) rest (letter_no_lf 46 refl) in
-    ap lines (parts_of_show (codes "SHOW") (number s) (number n) body (codes ".\n") rest)
+    ap lines (parts_of_show (codes "SHOW") (number_field s) (number_field n) body (codes ".\n") rest)
     ∙ first_line (head s n) (body ++ behind) (head_whole s n)
     ∙ ap (λ (b : List ℕ). head s n ∷ lines (b ++ behind)) h.spelled
     ∙ ap (λ (more : List (List ℕ)). head s n ∷ more) (
@@ -99,7 +99,7 @@ numbers_whole : (why : No) → NoLf (numbers_of_no why)
 numbers_whole (no.Early c) = number_no_lf c
 numbers_whole (no.Stale c) = number_no_lf c
 numbers_whole (no.DiskFault from to) =
-    NoLf-append (number from) (number to) (number_no_lf from) (number_no_lf to)
+    NoLf-append (number_field from) (number_field to) (number_no_lf from) (number_no_lf to)
 numbers_whole no.BadLine = tt
 numbers_whole no.NoSession = tt
 numbers_whole no.InUse = tt
@@ -114,7 +114,7 @@ numbers_whole no.LongLine = tt
 
 no_whole : (why : No) → NoLf (line_of_no why)
 no_whole why =
-    let first = number (number_of_no why) in
+    let first = number_field (number_of_no why) in
     let more = numbers_of_no why in
     NoLf-append (codes "NO") (first ++ more) (checked_no_lf (codes "NO") refl)
     (NoLf-append first more (number_no_lf (number_of_no why)) (numbers_whole why))
@@ -122,25 +122,25 @@ no_whole why =
 lines_of_no : (why : No) (rest : List ℕ)
     → lines (print_no why ++ rest) ≡ line_of_no why ∷ lines rest
 lines_of_no why rest =
-    ap lines (parts_of_no (codes "NO") (number (number_of_no why)) (numbers_of_no why) rest)
+    ap lines (parts_of_no (codes "NO") (number_field (number_of_no why)) (numbers_of_no why) rest)
     ∙ first_line (line_of_no why) rest (no_whole why)
 
 -- ---- the lines of many replies
 
 -- the lines of written replies
 abbrev written : List Reply → List (List ℕ)
-written rs = lines (joined (map print_reply rs))
+written rs = lines (texts_joined (map print_reply rs))
 
 found_each : (rs : List Reply) → Each HasShowLines rs
     → filter begins_refusal (written rs) ≡ map line_of_no (refusals_in rs)
 found_each [] h = refl
 found_each (replies.Show s n body ∷ rs) h =
-    let more = joined (map print_reply rs) in
+    let more = texts_joined (map print_reply rs) in
     ap (filter begins_refusal) (lines_of_show s n body more h.0)
     ∙ none_in_show s n h.0.lines (lines more) (recursion_from_All IsShowLine h.0.lines h.0.each)
     ∙ found_each rs h.1
 found_each (replies.No why ∷ rs) h =
-    ap (filter begins_refusal) (lines_of_no why (joined (map print_reply rs)))
+    ap (filter begins_refusal) (lines_of_no why (texts_joined (map print_reply rs)))
     ∙ ap (λ (more : List (List ℕ)). line_of_no why ∷ more) (found_each rs h.1)
 
 pub found : (rs : List Reply) → All HasShowLines rs

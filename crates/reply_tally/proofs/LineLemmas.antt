@@ -6,7 +6,7 @@ use Rattle.std.specs.Fmt.{digit_glyph, digits_onto, digits, decimal}
 use Rattle.std.specs.List.{AllByRecursion as Each, flat_map, list_any}
 use Rattle.std.proofs.lemmas.Bool.Decides.{nat_tests}
 use Rattle.std.proofs.lemmas.List.{append-nil}
-use Rattle.line_words.specs.Spelling.{number}
+use Rattle.line_words.specs.Spelling.{number_field}
 use Rattle.line_talk.specs.Lines.{lines_from, lines}
 use Rattle.reply_tally.specs.ShowLines.{with_lf}
 
@@ -67,7 +67,7 @@ pub decimal_no_lf : (n : ℕ) → NoLf (decimal n)
 unfolding digits
 decimal_no_lf n = digits_no_lf 64 10 false n [] tt
 
-pub number_no_lf : (n : ℕ) → NoLf (number n)
+pub number_no_lf : (n : ℕ) → NoLf (number_field n)
 number_no_lf n = (λ e. omega arith, decimal_no_lf n)
 
 -- ---- lines

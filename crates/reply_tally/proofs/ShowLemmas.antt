@@ -11,8 +11,8 @@ use Rattle.std.proofs.lemmas.List.Concat.{flat_map-append}
 use Rattle.std.proofs.lemmas.List.Elements.{All-from_recursion, All-append}
 use Rattle.percent_encoding.specs.Percent.{percent_encode_byte}
 use Rattle.story_text.specs.Escape.{is_plain, escaped_byte, escaped}
-use Rattle.story_show.specs.Words.{field, shown_code, text}
-use Rattle.story_show.specs.Lines.{place_line, part_line, end_line, text_of}
+use Rattle.story_show.specs.Words.{number_after_space, shown_code, text}
+use Rattle.story_show.specs.Lines.{place_line, part_line, end_line, text_of_show}
 use Rattle.story_show.specs.declared.show.Place.{Place}
 use Rattle.story_show.specs.declared.show.Part.{Part}
 use Rattle.story_show.specs.declared.show.Part.TheVariants.{Clear, Run, GridRow}
@@ -54,7 +54,7 @@ are_flat_map f (x ∷ xs) h = are_append (f x) (flat_map f xs) (h x) (are_flat_m
 
 -- ---- words
 
-field_no_lf : (n : ℕ) → NoLf (field n)
+field_no_lf : (n : ℕ) → NoLf (number_after_space n)
 field_no_lf n = (λ e. omega arith, decimal_no_lf n)
 
 plain_no_lf : (byte : ℕ) → is_plain byte ≡ true → byte ≢ 10
@@ -88,36 +88,36 @@ ends_in_text front cs begins h =
 
 -- ---- each kind of line
 
-with_field : (front : List ℕ) (n : ℕ) → NoLf front → NoLf (front ++ field n)
-with_field front n h = NoLf-append front (field n) h (field_no_lf n)
+with_field : (front : List ℕ) (n : ℕ) → NoLf front → NoLf (front ++ number_after_space n)
+with_field front n h = NoLf-append front (number_after_space n) h (field_no_lf n)
 
-with_field_2 : (front : List ℕ) (m n : ℕ) → NoLf front → NoLf (front ++ field m ++ field n)
-with_field_2 front m n h = with_field (front ++ field m) n (with_field front m h)
+with_field_2 : (front : List ℕ) (m n : ℕ) → NoLf front → NoLf (front ++ number_after_space m ++ number_after_space n)
+with_field_2 front m n h = with_field (front ++ number_after_space m) n (with_field front m h)
 
 place_lines : (p : Place) → AreShowLines (place_line p)
 unfolding place_line
 place_lines p =
-    let two = codes "W" ++ field p.id ++ field p.kind in
-    let four = two ++ field p.x ++ field p.y in
-    are_one (four ++ field p.w ++ field p.h) refl
+    let two = codes "W" ++ number_after_space p.id ++ number_after_space p.kind in
+    let four = two ++ number_after_space p.x ++ number_after_space p.y in
+    are_one (four ++ number_after_space p.w ++ number_after_space p.h) refl
     (with_field_2 four p.w p.h (with_field_2 two p.x p.y
     (with_field_2 (codes "W") p.id p.kind (letter_no_lf 87 refl))))
 
 part_lines : (p : Part) → AreShowLines (part_line p)
 unfolding part_line
 part_lines (Clear id) =
-    are_one (codes "C" ++ field id) refl (with_field (codes "C") id (letter_no_lf 67 refl))
+    are_one (codes "C" ++ number_after_space id) refl (with_field (codes "C") id (letter_no_lf 67 refl))
 part_lines (Run id style cs) =
-    ends_in_text (codes "T" ++ field id ++ field style) cs refl
+    ends_in_text (codes "T" ++ number_after_space id ++ number_after_space style) cs refl
     (with_field_2 (codes "T") id style (letter_no_lf 84 refl))
 part_lines (GridRow id y cs) =
-    ends_in_text (codes "G" ++ field id ++ field y) cs refl
+    ends_in_text (codes "G" ++ number_after_space id ++ number_after_space y) cs refl
     (with_field_2 (codes "G") id y (letter_no_lf 71 refl))
 
 input_word : (id : ℕ) (word : List ℕ) → list_any (λ byte. byte == 10) word ≡ false
-    → NoLf (codes "I" ++ field id ++ word)
+    → NoLf (codes "I" ++ number_after_space id ++ word)
 input_word id word h =
-    let front = codes "I" ++ field id in
+    let front = codes "I" ++ number_after_space id in
     let begun = with_field (codes "I") id (letter_no_lf 73 refl) in
     NoLf-append front word begun (checked_no_lf word h)
 
@@ -125,17 +125,17 @@ end_lines : (e : End) → AreShowLines (end_line e)
 unfolding end_line
 end_lines Quit = are_one (codes "E quit") refl (checked_no_lf (codes "E quit") refl)
 end_lines (Fault code) =
-    are_one (codes "E fault" ++ field code) refl
+    are_one (codes "E fault" ++ number_after_space code) refl
     (with_field (codes "E fault") code (checked_no_lf (codes "E fault") refl))
 end_lines (Prompt usage mode) =
-    are_one (codes "P" ++ field usage ++ field mode) refl
+    are_one (codes "P" ++ number_after_space usage ++ number_after_space mode) refl
     (with_field_2 (codes "P") usage mode (letter_no_lf 80 refl))
 end_lines (WantLine id max cs) =
-    let front = codes "I" ++ field id ++ codes " line" in
-    ends_in_text (front ++ field max) cs refl
+    let front = codes "I" ++ number_after_space id ++ codes " line" in
+    ends_in_text (front ++ number_after_space max) cs refl
     (with_field front max (input_word id (codes " line") refl))
 end_lines (WantChar id) =
-    let front = codes "I" ++ field id in
+    let front = codes "I" ++ number_after_space id in
     subst AreShowLines (append_assoc front (codes " char") (10 ∷ []))
     (are_one (front ++ codes " char") refl (input_word id (codes " char") refl))
 
@@ -143,7 +143,7 @@ end_lines (WantChar id) =
 pub closed_lines : AreShowLines (codes "E closed" ++ 10 ∷ [])
 closed_lines = are_one (codes "E closed") refl (checked_no_lf (codes "E closed") refl)
 
-pub text_lines : (s : Show) → AreShowLines (text_of s)
+pub text_lines : (s : Show) → AreShowLines (text_of_show s)
 text_lines s =
     let places = flat_map place_line s.places in
     let parts = flat_map part_line s.parts in

@@ -4,12 +4,12 @@ use Rattle.std.proofs.Common.{append_assoc}
 use Rattle.std.specs.Prelude.{codes}
 use Rattle.std.specs.Fmt.{digits}
 use Rattle.line_words.specs.Reply.{number_of_no, numbers_of_no, print_no, print_reply}
-use Rattle.line_words.specs.Spelling.{number}
+use Rattle.line_words.specs.Spelling.{number_field}
 use Rattle.line_words.specs.declared.reply.No.{No}
 use Rattle.line_words.specs.declared.reply.No.TheVariants.{Other, DiskFault}
 use Rattle.line_words.specs.declared.reply.Reply.{Reply}
 use Rattle.line_words.specs.declared.reply.Reply.TheVariants as replies
-use Rattle.line_talk.specs.Conversation.{joined}
+use Rattle.line_talk.specs.Conversation.{texts_joined}
 use Rattle.line_talk.specs.Lines.{lines}
 use Rattle.reply_tally.specs.ShowLines.{begins_show}
 use Rattle.reply_tally.specs.Refusals.{refusals_in, is_failure, line_of_no, begins_refusal}
@@ -24,7 +24,7 @@ three =
     ∷ []
 
 pub as_they_are_written :
-    joined (map print_reply three)
+    texts_joined (map print_reply three)
     ≡ codes "NO 7\nSHOW 0 1\nW 1 3 0 0 80 24\n.\nNO 11 0 1\n"
 unfolding digits
 as_they_are_written = refl
@@ -40,7 +40,7 @@ failures_of_three = refl
 pub a_line_and_its_lf : (why : No) → print_no why ≡ line_of_no why ++ 10 ∷ []
 a_line_and_its_lf why =
     ap (λ (more : List ℕ). codes "NO" ++ more)
-    (sym (append_assoc (number (number_of_no why)) (numbers_of_no why) (10 ∷ [])))
+    (sym (append_assoc (number_field (number_of_no why)) (numbers_of_no why) (10 ∷ [])))
 
 pub failures_only :
     map says_failure

@@ -10,7 +10,7 @@ use Rattle.std.proofs.lemmas.List.{length-map}
 use Rattle.std.proofs.Math.Bool.{or_assoc, or-false}
 use Rattle.line_words.specs.Reply.{print_reply}
 use Rattle.line_words.specs.declared.reply.Reply.{Reply}
-use Rattle.line_talk.specs.Conversation.{joined}
+use Rattle.line_talk.specs.Conversation.{texts_joined}
 use Rattle.line_talk.specs.Lines.{lines_from, lines}
 use Rattle.reply_tally.specs.Refusals.{refusals_in, line_of_no, begins_refusal, says_failure}
 use Rattle.reply_tally.specs.ShowLines.{HasShowLines}
@@ -121,7 +121,7 @@ tallied_all {bytes} {tally} {start} {i} t all =
 -- ---- what the tally says of written replies
 
 pub is_tally : (replies : List Reply) (bytes : List ℕ) (tally : Tally) → All HasShowLines replies
-    → bytes ≡ joined (map print_reply replies)
+    → bytes ≡ texts_joined (map print_reply replies)
     → (tally.refusals ≡ count (lines bytes)) × (tally.failed ≡ fails (lines bytes))
     → IsTallyOf replies tally
 is_tally replies bytes tally shows same counts = record {

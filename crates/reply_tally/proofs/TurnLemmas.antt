@@ -2,7 +2,7 @@
 use Rattle.std.proofs.Common.{ℕ, Bool, true, false, cond, List, [], ◌∷◌, Option, Some, None}
 use Rattle.std.specs.List.{filter_map}
 use Rattle.glk_input.specs.declared.input.Input.{Input}
-use Rattle.glk_dispatch.specs.Glk.{fresh}
+use Rattle.glk_dispatch.specs.Glk.{empty_screen}
 use Rattle.glk_dispatch.specs.declared.glk.Glk.{Glk}
 use Rattle.vm_exec.specs.Start.{started}
 use Rattle.story_show.specs.Making as making
@@ -13,14 +13,14 @@ use Rattle.line_words.specs.declared.reply.No.{No}
 use Rattle.line_words.specs.declared.reply.Reply.{Reply}
 use Rattle.line_words.specs.declared.request.Request.{Request}
 use Rattle.story_run.specs.Show.{ends_of}
-use Rattle.story_run.specs.Solo.{rested, opening, is_wanted, answered, turned, turned_by, shown}
-use Rattle.story_run.specs.Turn.{begun, turn_on}
+use Rattle.story_run.specs.Solo.{rested, opening, is_wanted, world_after_turn, world_after_input, turned_by, last_lines}
+use Rattle.story_run.specs.Turn.{story_begun, turn_on}
 use Rattle.story_run.specs.World.{WorldState}
 use Rattle.story_run.specs.declared.setup.Setup.{Setup}
 use Rattle.story_run.specs.declared.stage.Stage.{Stage}
 use Rattle.story_run.specs.declared.stage.Stage.TheVariants.{AtSelect, AtPrompt, Quit, Fault}
 use Rattle.story_run.specs.declared.story.Story.{Story}
-use Rattle.session_core.specs.Answer.{show_in, show_of, show_while, refusal_of, decided, extended}
+use Rattle.session_core.specs.Answer.{show_in, game_show, show_while, refusal_of, decided, history_extended}
 use Rattle.session_core.specs.Answer.{answer}
 use Rattle.session_core.specs.History.{story_at, game_of, is_in_use, input_of, world_in, world_of}
 use Rattle.session_core.specs.Sessions.{with_budget}
@@ -46,10 +46,10 @@ opening_lines : (image : List ℕ) (setup : Setup) → HasLines (opening image s
 unfolding opening
 opening_lines image setup =
     rested_lines image setup.seed setup.budget
-    (begun image setup.budget (fresh setup.cols setup.rows) (started image setup.seed))
+    (story_begun image setup.budget (empty_screen setup.cols setup.rows) (started image setup.seed))
 
 answered_lines : (w : WorldState) (stage : Stage) (input : Input) → HasLines w
-    → HasLines (answered w stage input)
+    → HasLines (world_after_turn w stage input)
 answered_lines w (AtSelect m) input h =
     rested_lines w.image w.seed w.budget (turn_on w.image w.budget w.glk m input)
 answered_lines w (AtPrompt m) input h =
@@ -57,10 +57,10 @@ answered_lines w (AtPrompt m) input h =
 answered_lines w Quit input h = h
 answered_lines w (Fault n) input h = h
 
-turned_lines : (w : WorldState) (input : Input) → HasLines w → HasLines (turned w input)
-unfolding turned
+turned_lines : (w : WorldState) (input : Input) → HasLines w → HasLines (world_after_input w input)
+unfolding world_after_input
 turned_lines w input h = either (is_wanted w input) where
-  either : (wanted : Bool) → HasLines (cond wanted (answered w w.stage input) w)
+  either : (wanted : Bool) → HasLines (cond wanted (world_after_turn w w.stage input) w)
   either true = answered_lines w w.stage input h
   either false = h
 
@@ -68,13 +68,13 @@ turned_by_lines : (w : WorldState) (inputs : List Input) → HasLines w
     → HasLines (turned_by w inputs)
 turned_by_lines w [] h = h
 turned_by_lines w (input ∷ inputs) h =
-    turned_by_lines (turned w input) inputs (turned_lines w input h)
+    turned_by_lines (world_after_input w input) inputs (turned_lines w input h)
 
 -- ---- games
 
 world_in_lines : (story : Option Story) (setup : Setup) (after : List Command)
     → AreShowLines (show_in (world_in story setup after))
-unfolding shown
+unfolding last_lines
 world_in_lines (Some story) setup after =
     turned_by_lines (opening story.image setup) (filter_map input_of after)
     (opening_lines story.image setup)
@@ -91,8 +91,8 @@ world_of_lines stories (commands.Char win code ∷ after) = are_none
 world_of_lines stories (commands.File name ∷ after) = are_none
 world_of_lines stories (commands.Close ∷ after) = are_none
 
-show_lines : (stories : List Story) (game : List Command) → AreShowLines (show_of stories game)
-unfolding show_of
+show_lines : (stories : List Story) (game : List Command) → AreShowLines (game_show stories game)
+unfolding game_show
 show_lines stories game = either (is_in_use game) where
   either : (used : Bool) → AreShowLines (show_while used (world_of stories game))
   either true = world_of_lines stories game
@@ -103,7 +103,7 @@ show_lines stories game = either (is_in_use game) where
 decided_lines : (stories : List Story) (history : List Command) (request : Request)
     (refusal : Option No)
     → HasShowLines (decided stories (game_of history)
-    (λ accepted. show_of stories (game_of (extended history accepted))) request refusal).reply
+    (λ accepted. game_show stories (game_of (history_extended history accepted))) request refusal).reply
 decided_lines stories history request (Some why) = tt
 decided_lines stories history request None = show_lines stories _
 

@@ -3,7 +3,7 @@ use Rattle.std.specs.Prelude.{◌≡◌, ℕ, List, filter, map}
 use Rattle.std.specs.List.{All}
 use Rattle.line_words.specs.Reply.{print_reply}
 use Rattle.line_words.specs.declared.reply.Reply.{Reply}
-use Rattle.line_talk.specs.Conversation.{joined}
+use Rattle.line_talk.specs.Conversation.{texts_joined}
 use Rattle.line_talk.specs.Lines.{lines}
 use Rattle.story_run.specs.declared.story.Story.{Story}
 use Rattle.session_core.specs.Turning.{turn_of}
@@ -23,5 +23,5 @@ ShowsHaveShowLines =
 abbrev pub RefusalsAreFound : Type 0
 RefusalsAreFound =
     (replies : List Reply) → All HasShowLines replies
-    → filter begins_refusal (lines (joined (map print_reply replies)))
+    → filter begins_refusal (lines (texts_joined (map print_reply replies)))
     ≡ map line_of_no (refusals_in replies)

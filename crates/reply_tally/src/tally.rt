@@ -5,7 +5,7 @@ ghost use Rattle.std.specs.Prelude.{length, filter, map};
 ghost use Rattle.std.specs.List.{All, list_any};
 ghost use Rattle.line_words.specs.declared.reply.Reply.{Reply};
 ghost use Rattle.line_words.specs.Reply.{print_reply};
-ghost use Rattle.line_talk.specs.Conversation.{joined};
+ghost use Rattle.line_talk.specs.Conversation.{texts_joined};
 ghost use Rattle.line_talk.specs.Lines.{lines};
 ghost use Rattle.reply_tally.specs.ShowLines.{HasShowLines};
 ghost use Rattle.reply_tally.specs.Refusals.{begins_refusal, says_failure};
@@ -49,7 +49,7 @@ pub fn tally_of(bytes: &[u8]) -> Tally
     ensures refusals { result.refusals ≡ length (filter begins_refusal (lines bytes.now)) }
     ensures failed { result.failed ≡ list_any says_failure (lines bytes.now) }
     ensures written { (replies : List Reply) → All HasShowLines replies
-        → bytes.now ≡ joined (map print_reply replies) → IsTallyOf replies result }
+        → bytes.now ≡ texts_joined (map print_reply replies) → IsTallyOf replies result }
 {
     let mut tally = Tally {
         refusals: 0,

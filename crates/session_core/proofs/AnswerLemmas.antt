@@ -9,17 +9,17 @@ use Rattle.story_run.specs.World.{WorldState}
 use Rattle.line_words.specs.declared.reply.No.TheVariants.{Full}
 use Rattle.line_words.specs.declared.request.Request.{Request}
 use Rattle.story_run.specs.declared.story.Story.{Story}
-use Rattle.story_run.specs.Solo.{is_wanted, turned, turned_by}
+use Rattle.story_run.specs.Solo.{is_wanted, world_after_input, turned_by}
 use Rattle.session_core.specs.History.{input_of, turned_on, world_of}
 use Rattle.session_core.specs.Checks.{command_of, is_fresh, is_full}
-use Rattle.session_core.specs.Answer.{first_of, plain_checks, story_checks, refusal_in, refusal_of, accepted_by}
+use Rattle.session_core.specs.Answer.{first_refusal, plain_checks, story_checks, refusal_in, refusal_of, accepted_by}
 
-pub first_of-append-some : (xs ys : List (Bool × No)) (why : No) → first_of xs ≡ Some why → first_of (xs ++ ys) ≡ Some why
+pub first_of-append-some : (xs ys : List (Bool × No)) (why : No) → first_refusal xs ≡ Some why → first_refusal (xs ++ ys) ≡ Some why
 first_of-append-some [] ys why e = absurd cc
 first_of-append-some ((true, why_not) ∷ xs) ys why e = e
 first_of-append-some ((false, why_not) ∷ xs) ys why e = first_of-append-some xs ys why e
 
-pub first_of-append-none : (xs ys : List (Bool × No)) → first_of xs ≡ None → first_of (xs ++ ys) ≡ first_of ys
+pub first_of-append-none : (xs ys : List (Bool × No)) → first_refusal xs ≡ None → first_refusal (xs ++ ys) ≡ first_refusal ys
 first_of-append-none [] ys e = refl
 first_of-append-none ((true, why_not) ∷ xs) ys e = absurd cc
 first_of-append-none ((false, why_not) ∷ xs) ys e = first_of-append-none xs ys e
@@ -35,7 +35,7 @@ turned_by-command world command after = turned_by-option world (input_of command
 
 -- an input that isn't wanted leaves the world
 pub turned_on-unwanted : (world : WorldState) (input : Input) (given : Option Input) → given ≡ Some input → is_wanted world input ≡ false → world ≡ turned_on world given
-unfolding turned
+unfolding world_after_input
 turned_on-unwanted world input given e unwanted = rw (e, unwanted) refl
 
 pub turned_by-more : (w : WorldState) (cs : List Command) (c : Command)
@@ -48,36 +48,36 @@ turned_by-more w (d ∷ ds) c =
 
 -- a check without the world refuses whatever the world is
 pub refusal_in-plain : (now : Option WorldState) (stories : List Story) (history game : List Command) (request : Request) (why : No)
-    → first_of (plain_checks stories game request) ≡ Some why → Some why ≡ refusal_in now stories history game request
+    → first_refusal (plain_checks stories game request) ≡ Some why → Some why ≡ refusal_in now stories history game request
 unfolding refusal_in
 refusal_in-plain now stories history game request why e =
     sym (first_of-append-some (plain_checks stories game request) (story_checks now stories game request ++ (is_full history game request, Full) ∷ []) why e)
 
 pub refusal_in-story : (now : Option WorldState) (stories : List Story) (history game : List Command) (request : Request) (why : No)
-    → first_of (plain_checks stories game request) ≡ None → first_of (story_checks now stories game request) ≡ Some why → Some why ≡ refusal_in now stories history game request
+    → first_refusal (plain_checks stories game request) ≡ None → first_refusal (story_checks now stories game request) ≡ Some why → Some why ≡ refusal_in now stories history game request
 unfolding refusal_in
 refusal_in-story now stories history game request why none e =
     sym (first_of-append-none (plain_checks stories game request) (story_checks now stories game request ++ (is_full history game request, Full) ∷ []) none
     ∙ first_of-append-some (story_checks now stories game request) ((is_full history game request, Full) ∷ []) why e)
 
 pub refusal_of-plain : (stories : List Story) (history game : List Command) (request : Request) (why : No)
-    → first_of (plain_checks stories game request) ≡ Some why → Some why ≡ refusal_of stories history game request
+    → first_refusal (plain_checks stories game request) ≡ Some why → Some why ≡ refusal_of stories history game request
 unfolding refusal_of
 refusal_of-plain stories history game request why e = refusal_in-plain (world_of stories game) stories history game request why e
 
 pub refusal_of-story : (stories : List Story) (history game : List Command) (request : Request) (why : No)
-    → first_of (plain_checks stories game request) ≡ None → first_of (story_checks (world_of stories game) stories game request) ≡ Some why
+    → first_refusal (plain_checks stories game request) ≡ None → first_refusal (story_checks (world_of stories game) stories game request) ≡ Some why
     → Some why ≡ refusal_of stories history game request
 unfolding refusal_of
 refusal_of-story stories history game request why none e = refusal_in-story (world_of stories game) stories history game request why none e
 
 -- no check of a list holds, so none of its end does
-first_of-end : (xs ys : List (Bool × No)) → first_of (xs ++ ys) ≡ None → first_of ys ≡ None
+first_of-end : (xs ys : List (Bool × No)) → first_refusal (xs ++ ys) ≡ None → first_refusal ys ≡ None
 first_of-end [] ys e = e
 first_of-end ((true, why) ∷ xs) ys e = absurd cc
 first_of-end ((false, why) ∷ xs) ys e = first_of-end xs ys e
 
-last_fails : (holds : Bool) (why : No) → first_of ((holds, why) ∷ []) ≡ None → holds ≡ false
+last_fails : (holds : Bool) (why : No) → first_refusal ((holds, why) ∷ []) ≡ None → holds ≡ false
 last_fails true why e = absurd cc
 last_fails false why e = refl
 

@@ -12,7 +12,7 @@ use Rattle.session_core.specs.declared.decision.Decision.{Decision}
 use Rattle.session_core.specs.Checks.{session_of}
 use Rattle.session_core.specs.Answer.{answer}
 use Rattle.session_core.specs.Sessions.{history_of, with_budget, answer_of, accepting, reply_of, histories_of, after_line, replies_to}
-use Rattle.session_core.specs.Isolation.{names, is_on, replies_on, Agrees}
+use Rattle.session_core.specs.Isolation.{names, is_on, replies_on, AgreesOnSession}
 
 abbrev grown : ℕ → List (List Command) → Command → List Command
 grown s histories command = history_of histories s ++ command ∷ []
@@ -28,8 +28,8 @@ history_of-past s histories history past =
     get_or-eq_default (slice_set histories s history) [] (omega (arith, past, length-set histories s history))
 
 -- the same command joins two histories of one session
-agrees_accepting : (s : ℕ) (histories others : List (List Command)) (accepted : Option Command) → Agrees s histories others
-    → Agrees s (accepting histories s accepted) (accepting others s accepted)
+agrees_accepting : (s : ℕ) (histories others : List (List Command)) (accepted : Option Command) → AgreesOnSession s histories others
+    → AgreesOnSession s (accepting histories s accepted) (accepting others s accepted)
 agrees_accepting s histories others None a = a
 agrees_accepting s histories others (Some command) a = record {
   many = length-set histories s (grown s histories command) ∙ a.many ∙ sym (length-set others s (grown s others command));
@@ -44,11 +44,11 @@ agrees_accepting s histories others (Some command) a = record {
   ];
 }
 
-agrees_at : (s t : ℕ) (histories others : List (List Command)) (one two : Option Command) → t ≡ s → one ≡ two → Agrees s histories others
-    → Agrees s (accepting histories t one) (accepting others t two)
+agrees_at : (s t : ℕ) (histories others : List (List Command)) (one two : Option Command) → t ≡ s → one ≡ two → AgreesOnSession s histories others
+    → AgreesOnSession s (accepting histories t one) (accepting others t two)
 agrees_at s t histories others one two same equal a =
-    let joined = subst (λ (c : Option Command). Agrees s (accepting histories s one) (accepting others s c)) equal (agrees_accepting s histories others one a) in
-    subst (λ (u : ℕ). Agrees s (accepting histories u one) (accepting others u two)) (sym same) joined
+    let joined = subst (λ (c : Option Command). AgreesOnSession s (accepting histories s one) (accepting others s c)) equal (agrees_accepting s histories others one a) in
+    subst (λ (u : ℕ). AgreesOnSession s (accepting histories u one) (accepting others u two)) (sym same) joined
 
 is_same : (s t : ℕ) → (t == s) ≡ true → t ≡ s
 is_same s t e = grind (arith, nat_tests)
@@ -56,8 +56,8 @@ is_same s t e = grind (arith, nat_tests)
 is_apart : (s t : ℕ) → (t == s) ≡ false → s ≢ t
 is_apart s t e same = grind (arith, nat_tests)
 
-agree_on : (s : ℕ) (stories : List Story) (budget : ℕ) (histories others : List (List Command)) (line : List ℕ) (read : Option Request) → names s read ≡ true → Agrees s histories others
-    → (reply_of stories budget histories line read ≡ reply_of stories budget others line read) × Agrees s (histories_of stories budget histories read) (histories_of stories budget others read)
+agree_on : (s : ℕ) (stories : List Story) (budget : ℕ) (histories others : List (List Command)) (line : List ℕ) (read : Option Request) → names s read ≡ true → AgreesOnSession s histories others
+    → (reply_of stories budget histories line read ≡ reply_of stories budget others line read) × AgreesOnSession s (histories_of stories budget histories read) (histories_of stories budget others read)
 agree_on s stories budget histories others line None e a = absurd cc
 agree_on s stories budget histories others line (Some request) e a =
     let same : session_of request ≡ s = is_same s (session_of request) e in
@@ -67,21 +67,21 @@ agree_on s stories budget histories others line (Some request) e a =
     ap (λ (h : List Command). answer stories h (with_budget budget request)) history in
     (ap (λ (d : Decision). d.reply) answers, agrees_at s (session_of request) histories others _ _ same (ap (λ (d : Decision). d.accepted) answers) a)
 
-agrees_apart : (s t : ℕ) (histories others : List (List Command)) (accepted : Option Command) → s ≢ t → Agrees s histories others
-    → Agrees s (accepting histories t accepted) others
+agrees_apart : (s t : ℕ) (histories others : List (List Command)) (accepted : Option Command) → s ≢ t → AgreesOnSession s histories others
+    → AgreesOnSession s (accepting histories t accepted) others
 agrees_apart s t histories others None apart a = a
 agrees_apart s t histories others (Some command) apart a = record {
   many = length-set histories t (grown t histories command) ∙ a.many;
   history = history_of-set_other s t histories (grown t histories command) apart ∙ a.history;
 }
 
-agree_off : (s : ℕ) (stories : List Story) (budget : ℕ) (histories others : List (List Command)) (read : Option Request) → names s read ≡ false → Agrees s histories others
-    → Agrees s (histories_of stories budget histories read) others
+agree_off : (s : ℕ) (stories : List Story) (budget : ℕ) (histories others : List (List Command)) (read : Option Request) → names s read ≡ false → AgreesOnSession s histories others
+    → AgreesOnSession s (histories_of stories budget histories read) others
 agree_off s stories budget histories others None e a = a
 agree_off s stories budget histories others (Some request) e a =
     agrees_apart s (session_of request) histories others (answer_of stories budget histories request).accepted (is_apart s (session_of request) e) a
 
-pub isolated : (s : ℕ) (stories : List Story) (budget : ℕ) (histories others : List (List Command)) (lines : List (List ℕ)) → Agrees s histories others
+pub isolated : (s : ℕ) (stories : List Story) (budget : ℕ) (histories others : List (List Command)) (lines : List (List ℕ)) → AgreesOnSession s histories others
     → replies_on s stories budget histories lines ≡ replies_to stories budget others (filter (is_on s) lines)
 isolated s stories budget histories others [] a = refl
 isolated s stories budget histories others (line ∷ lines) a =

@@ -4,6 +4,7 @@ use Rattle.std.proofs.lemmas.Bool.Decides.{nat_tests}
 use Rattle.std.proofs.lemmas.List.{length-append}
 use Rattle.std.specs.Str.{bytes_eq}
 use Rattle.std.proofs.lemmas.Slice.Eq.{bytes_eq-Decides}
+use Rattle.gate_journal.specs.Rows.{is_open}
 use Rattle.gate_journal.specs.declared.command.Command.{Command}
 use Rattle.gate_journal.specs.declared.command.Command.TheVariants as commands
 use Rattle.line_words.specs.declared.request.Request.{Request}
@@ -13,9 +14,9 @@ use Rattle.line_words.specs.declared.reply.Reply.TheVariants as replies
 use Rattle.story_run.specs.declared.story.Story.{Story}
 use Rattle.session_core.specs.declared.decision.Decision.{Decision}
 use Rattle.story_run.specs.World.{WorldState}
-use Rattle.session_core.specs.History.{is_open, later, game_of, count, last_of, is_in_use, story_at, world_of}
-use Rattle.session_core.specs.Checks.{session_of, command_of, opened, is_fresh, is_absent, is_taken, is_missing, is_changed, is_early, is_different, is_ahead}
-use Rattle.session_core.specs.Answer.{first_of, checks, refusal_in, refusal_of, accepted_by, extended, show_of, show_with, shown_number, show_reply, decided, answer, answer_in}
+use Rattle.session_core.specs.History.{later, game_of, command_count, last_of, is_in_use, story_at, world_of}
+use Rattle.session_core.specs.Checks.{session_of, command_of, opening_command, is_fresh, is_absent, is_taken, is_story_missing, is_changed, is_early, is_different, is_ahead}
+use Rattle.session_core.specs.Answer.{first_refusal, checks, refusal_in, refusal_of, accepted_by, history_extended, game_show, show_with, shown_number, show_reply, decided, answer, answer_in}
 use Rattle.session_core.specs.Repeats.{again}
 
 -- ---- the game after a command
@@ -49,7 +50,7 @@ last_of-joined c cs x =
     let index : suc (length (cs ++ x ∷ [])) - 1 ≡ suc (length cs) = omega (arith, len) in
     ap (λ (i : ℕ). slice_get (c ∷ (cs ++ x ∷ [])) i) index ∙ at_end cs x
 
-count-joined : (c : Command) (cs : List Command) (x : Command) → count (c ∷ (cs ++ x ∷ [])) ≡ count (c ∷ cs) + 1
+count-joined : (c : Command) (cs : List Command) (x : Command) → command_count (c ∷ (cs ++ x ∷ [])) ≡ command_count (c ∷ cs) + 1
 count-joined c cs x = omega (arith, length-append cs (x ∷ []))
 
 -- ---- what an accepted request passed
@@ -66,7 +67,7 @@ abbrev pub AllFail : List (Bool × No) → Type 0
 AllFail [] = Unit {0}
 AllFail ((holds, why) ∷ more) = (holds ≡ false) × AllFail more
 
-pub all_fail : (xs : List (Bool × No)) → first_of xs ≡ None → AllFail xs
+pub all_fail : (xs : List (Bool × No)) → first_refusal xs ≡ None → AllFail xs
 all_fail [] e = tt
 all_fail ((true, why) ∷ more) e = absurd cc
 all_fail ((false, why) ∷ more) e = (refl, all_fail more e)
@@ -85,7 +86,7 @@ passed : (stories : List Story) (history : List Command) (request : Request) (co
 unfolding answer refusal_of refusal_in accepted_by
 passed stories history request command e =
     let game = game_of history in
-    let show : Option Command → List ℕ = λ accepted. show_of stories (game_of (extended history accepted)) in
+    let show : Option Command → List ℕ = λ accepted. game_show stories (game_of (history_extended history accepted)) in
     let parts = accepted_none stories game show request (refusal_of stories history game request) command e in
     let taken = chosen (is_fresh game request) (command_of stories request) command parts.1 in
     let fails = all_fail (checks (world_of stories game) stories history game request) parts.0 in
@@ -96,7 +97,7 @@ passed stories history request command e =
 record Passes (stories : List Story) (game : List Command) (request : Request) : Type 0 where
   pub present : is_absent game request ≡ false
   pub taken : is_taken game request ≡ false
-  pub missing : is_missing stories game request ≡ false
+  pub missing : is_story_missing stories game request ≡ false
   pub changed : is_changed stories game request ≡ false
   pub early : is_early game request ≡ false
   pub different : is_different game request ≡ false
@@ -125,10 +126,10 @@ decided-none stories game show request refusal accepted e a = rw (e, a) refl
 pub answer-none : (stories : List Story) (history : List Command) (request : Request) (accepted : Option Command)
     → refusal_of stories history (game_of history) request ≡ None → accepted_by stories (game_of history) request ≡ accepted
     → answer stories history request
-    ≡ record { reply = show_reply (game_of history) (show_of stories (game_of (extended history accepted))) request; accepted = accepted }
+    ≡ record { reply = show_reply (game_of history) (game_show stories (game_of (history_extended history accepted))) request; accepted = accepted }
 unfolding answer
 answer-none stories history request accepted e a =
-    decided-none stories (game_of history) (λ taken. show_of stories (game_of (extended history taken))) request
+    decided-none stories (game_of history) (λ taken. game_show stories (game_of (history_extended history taken))) request
     (refusal_of stories history (game_of history) request) accepted e a
 
 pub answer_in-none : (stories : List Story) (history : List Command) (now : Option WorldState) (request : Request) (accepted : Option Command)
@@ -178,7 +179,7 @@ line_passes stories (commands.Open k t d sd cl ro b ∷ cs) s key n win text ter
     let x = commands.Line win term text in
     let is = known (nat_le 64 s) (bytes_eq k key && (is_in_use (head ∷ cs) || false)) a in
     let keys = both (bytes_eq k key) (is_in_use (head ∷ cs) || false) is.1 in
-    let ns = numbers n (count (head ∷ cs)) (count (head ∷ (cs ++ x ∷ []))) f (count-joined head cs x) in
+    let ns = numbers n (command_count (head ∷ cs)) (command_count (head ∷ (cs ++ x ∷ []))) f (count-joined head cs x) in
     record {
       present = rw (is.0, keys.0, last_of-joined head cs x) refl;
       taken = refl;
@@ -203,7 +204,7 @@ char_passes stories (commands.Open k t d sd cl ro b ∷ cs) s key n win code a u
     let x = commands.Char win code in
     let is = known (nat_le 64 s) (bytes_eq k key && (is_in_use (head ∷ cs) || false)) a in
     let keys = both (bytes_eq k key) (is_in_use (head ∷ cs) || false) is.1 in
-    let ns = numbers n (count (head ∷ cs)) (count (head ∷ (cs ++ x ∷ []))) f (count-joined head cs x) in
+    let ns = numbers n (command_count (head ∷ cs)) (command_count (head ∷ (cs ++ x ∷ []))) f (count-joined head cs x) in
     record {
       present = rw (is.0, keys.0, last_of-joined head cs x) refl;
       taken = refl;
@@ -228,7 +229,7 @@ file_passes stories (commands.Open k t d sd cl ro b ∷ cs) s key n name a u f =
     let x = commands.File name in
     let is = known (nat_le 64 s) (bytes_eq k key && (is_in_use (head ∷ cs) || false)) a in
     let keys = both (bytes_eq k key) (is_in_use (head ∷ cs) || false) is.1 in
-    let ns = numbers n (count (head ∷ cs)) (count (head ∷ (cs ++ x ∷ []))) f (count-joined head cs x) in
+    let ns = numbers n (command_count (head ∷ cs)) (command_count (head ∷ (cs ++ x ∷ []))) f (count-joined head cs x) in
     record {
       present = rw (is.0, keys.0, last_of-joined head cs x) refl;
       taken = refl;
@@ -251,9 +252,9 @@ close_passes stories [] s key n a f = absurd (let k = known (nat_le 64 s) false 
 close_passes stories (commands.Open k t d sd cl ro b ∷ cs) s key n a f =
     let head = commands.Open k t d sd cl ro b in
     let x = commands.Close in
-    let is = known (nat_le 64 s) (bytes_eq k key && (is_in_use (head ∷ cs) || (n == count (head ∷ cs)))) a in
-    let keys = both (bytes_eq k key) (is_in_use (head ∷ cs) || (n == count (head ∷ cs))) is.1 in
-    let ns = numbers n (count (head ∷ cs)) (count (head ∷ (cs ++ x ∷ []))) f (count-joined head cs x) in
+    let is = known (nat_le 64 s) (bytes_eq k key && (is_in_use (head ∷ cs) || (n == command_count (head ∷ cs)))) a in
+    let keys = both (bytes_eq k key) (is_in_use (head ∷ cs) || (n == command_count (head ∷ cs))) is.1 in
+    let ns = numbers n (command_count (head ∷ cs)) (command_count (head ∷ (cs ++ x ∷ []))) f (count-joined head cs x) in
     record {
       present = rw (is.0, keys.0, last_of-joined head cs x, ns.1) refl;
       taken = refl;
@@ -271,7 +272,7 @@ close_passes stories (commands.Close ∷ cs) s key n a f = absurd (let k = known
 
 open_passes : (stories : List Story) (g : List Command) (s : ℕ) (key : List ℕ) (story seed cols rows budget : ℕ) (there : Option Story) (x : Command)
     → is_absent g (Open s key story seed cols rows budget) ≡ false → story_at stories story ≡ there
-    → opened there (λ digest. commands.Open key story digest seed cols rows budget) ≡ Some x
+    → opening_command there (λ digest. commands.Open key story digest seed cols rows budget) ≡ Some x
     → (is_open x ≡ true) × Passes stories (x ∷ []) (Open s key story seed cols rows budget)
 open_passes stories g s key story seed cols rows budget None x a t e = absurd cc
 open_passes stories g s key story seed cols rows budget (Some file) x a t e =
@@ -341,4 +342,4 @@ repeats stories history request command e =
     let second = answer-none stories (history ++ command ∷ []) request None (none_holds stories (history ++ command ∷ []) grown request a.passes) (nothing_accepted stories grown request a.passes.stale) in
     second ∙ ap (λ (n : ℕ). shows stories (history ++ command ∷ []) n request) a.number ∙ sym (ap again first) where
       shows : List Story → List Command → ℕ → Request → Decision
-      shows stories commands n request = record { reply = replies.Show (session_of request) n (show_of stories (game_of commands)); accepted = None }
+      shows stories commands n request = record { reply = replies.Show (session_of request) n (game_show stories (game_of commands)); accepted = None }

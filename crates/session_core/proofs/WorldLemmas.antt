@@ -1,5 +1,6 @@
 -- A session whose world is the one of its game.
 use Rattle.std.proofs.Common.{◌≡◌, ℕ, Bool, true, false, List, [], ◌∷◌, ◌++◌, Option, Some, None, refl, sym, ap, ◌∙◌}
+use Rattle.gate_journal.specs.Rows.{is_open}
 use Rattle.gate_journal.specs.declared.command.Command.{Command}
 use Rattle.gate_journal.specs.declared.command.Command.TheVariants as commands
 use Rattle.line_words.specs.declared.request.Request.{Request}
@@ -10,8 +11,8 @@ use Rattle.story_run.specs.declared.story.Story.{Story}
 use Rattle.story_run.specs.World.{WorldState}
 use Rattle.story_run.specs.Solo.{opening}
 use Rattle.session_core.specs.declared.decision.Decision.{Decision}
-use Rattle.session_core.specs.History.{game_of, input_of, is_in_use, is_open, story_at, world_in, world_of}
-use Rattle.session_core.specs.Answer.{accepted_by, answer, answer_in, decided, extended, refusal_in, refusal_of, show_of, show_reply, show_while, show_with, turned_in, world_then}
+use Rattle.session_core.specs.History.{game_of, input_of, is_in_use, story_at, world_in, world_of}
+use Rattle.session_core.specs.Answer.{accepted_by, answer, answer_in, decided, history_extended, refusal_in, refusal_of, game_show, show_reply, show_while, show_with, turned_in, world_then}
 use Rattle.session_core.specs.Sessions.{with_budget}
 use Rattle.session_core.specs.Turning.{commands_in, decided_by, decision_in, decision_on, turn_in, turn_met, turn_of}
 use Rattle.session_core.specs.Worlds.{AnswersAlike, DecidesAlike, TurnsAlike}
@@ -44,8 +45,8 @@ closed_ends [] = refl
 closed_ends (c ∷ cs) = rw (last_of-joined c cs commands.Close) refl
 
 -- a session in use comes to the world of its game
-pub world_then-game : (stories : List Story) (history : List Command) (accepted : Option Command) → is_in_use (game_of (extended history accepted)) ≡ true
-    → world_then stories (world_of stories (game_of history)) accepted ≡ world_of stories (game_of (extended history accepted))
+pub world_then-game : (stories : List Story) (history : List Command) (accepted : Option Command) → is_in_use (game_of (history_extended history accepted)) ≡ true
+    → world_then stories (world_of stories (game_of history)) accepted ≡ world_of stories (game_of (history_extended history accepted))
 world_then-game stories history None used = refl
 world_then-game stories history (Some (commands.Open key story digest seed cols rows budget)) used =
     ap (world_of stories) (sym (game_of-append-open history (commands.Open key story digest seed cols rows budget) refl))
@@ -62,9 +63,9 @@ same_while true x y e = ap (show_while true) (e refl)
 same_while false x y e = refl
 
 pub shows_alike : (stories : List Story) (history : List Command) (accepted : Option Command)
-    → show_with stories history (world_of stories (game_of history)) accepted ≡ show_of stories (game_of (extended history accepted))
-unfolding show_of
-shows_alike stories history accepted = same_while (is_in_use (game_of (extended history accepted))) _ _ (world_then-game stories history accepted)
+    → show_with stories history (world_of stories (game_of history)) accepted ≡ game_show stories (game_of (history_extended history accepted))
+unfolding game_show
+shows_alike stories history accepted = same_while (is_in_use (game_of (history_extended history accepted))) _ _ (world_then-game stories history accepted)
 
 pub decided-alike : (stories : List Story) (game : List Command) (f g : Option Command → List ℕ) (request : Request) (refusal : Option No)
     → ((accepted : Option Command) → f accepted ≡ g accepted) → decided stories game f request refusal ≡ decided stories game g request refusal
@@ -79,7 +80,7 @@ pub answers_alike : AnswersAlike
 unfolding answer answer_in refusal_of
 answers_alike stories history request =
     decided-alike stories (game_of history) (show_with stories history (world_of stories (game_of history)))
-    (λ accepted. show_of stories (game_of (extended history accepted))) request
+    (λ accepted. game_show stories (game_of (history_extended history accepted))) request
     (refusal_in (world_of stories (game_of history)) stories history (game_of history) request) (shows_alike stories history)
 
 decided_by-alike : (f g : Request → Decision) (line : List ℕ) (read : Option Request) → ((request : Request) → f request ≡ g request)

@@ -13,28 +13,30 @@ use Rattle.line_words.specs.declared.reply.Reply.{Reply}
 use Rattle.line_words.specs.declared.reply.Reply.TheVariants as replies
 use Rattle.story_run.specs.declared.story.Story.{Story}
 use Rattle.story_run.specs.World.{WorldState}
-use Rattle.story_run.specs.Solo.{shown}
+use Rattle.story_run.specs.Solo.{last_lines}
 use Rattle.session_core.specs.declared.decision.Decision.{Decision}
-use Rattle.session_core.specs.History.{game_of, count, input_of, is_in_use, turned_on, world_of}
+use Rattle.session_core.specs.History.{game_of, command_count, input_of, is_in_use, turned_on}
+use Rattle.session_core.specs.History.{world_of}
 use Rattle.session_core.specs.Checks.{session_of, command_of, is_fresh, is_absent, is_taken}
-use Rattle.session_core.specs.Checks.{is_missing, is_changed, is_early, is_different, is_ahead}
+use Rattle.session_core.specs.Checks.{is_story_missing, is_changed, is_early, is_different}
+use Rattle.session_core.specs.Checks.{is_ahead}
 use Rattle.session_core.specs.Checks.{comes_late, is_unwanted, is_full}
 
 -- the first refusal whose check holds
-abbrev pub first_of : List (Bool × No) → Option No
-first_of [] = None
-first_of ((holds, why) ∷ more) = if holds then Some why else first_of more
+abbrev pub first_refusal : List (Bool × No) → Option No
+first_refusal [] = None
+first_refusal ((holds, why) ∷ more) = if holds then Some why else first_refusal more
 
 -- the checks that need no world, in their order
 abbrev pub plain_checks : List Story → List Command → Request → List (Bool × No)
 plain_checks stories game request =
     (is_absent game request, no.NoSession)
     ∷ (is_taken game request, no.InUse)
-    ∷ (is_missing stories game request, no.NoStory)
+    ∷ (is_story_missing stories game request, no.NoStory)
     ∷ (is_changed stories game request, no.Changed)
-    ∷ (is_early game request, no.Stale (count game))
+    ∷ (is_early game request, no.Stale (command_count game))
     ∷ (is_different game request, no.Other)
-    ∷ (is_ahead game request, no.Early (count game))
+    ∷ (is_ahead game request, no.Early (command_count game))
     ∷ []
 
 -- those by the session's world, behind them
@@ -57,7 +59,7 @@ checks now stories history game request =
 unfoldable pub refusal_in :
     Option WorldState → List Story → List Command → List Command → Request → Option No
 refusal_in now stories history game request =
-    first_of (checks now stories history game request)
+    first_refusal (checks now stories history game request)
 
 -- the same, by the world that the game has come to
 unfoldable pub refusal_of : List Story → List Command → List Command → Request → Option No
@@ -70,13 +72,13 @@ accepted_by stories game request =
     if is_fresh game request then command_of stories request else None
 
 -- a history with the accepted command at its end
-abbrev pub extended : List Command → Option Command → List Command
-extended history (Some command) = history ++ command ∷ []
-extended history None = history
+abbrev pub history_extended : List Command → Option Command → List Command
+history_extended history (Some command) = history ++ command ∷ []
+history_extended history None = history
 
 -- what a world shows
 abbrev pub show_in : Option WorldState → List ℕ
-show_in (Some world) = shown world
+show_in (Some world) = last_lines world
 show_in None = []
 
 -- the show of a session: what its world shows while it is in use, then the line of a session that
@@ -86,8 +88,8 @@ show_while true now = show_in now
 show_while false now = codes "E closed" ++ 10 ∷ []
 
 -- the show of a game, by the world that it has come to
-unfoldable pub show_of : List Story → List Command → List ℕ
-show_of stories game = show_while (is_in_use game) (world_of stories game)
+unfoldable pub game_show : List Story → List Command → List ℕ
+game_show stories game = show_while (is_in_use game) (world_of stories game)
 
 -- a session's world, if there is one, after what a command gives its story
 abbrev pub turned_in : Option WorldState → Option Input → Option WorldState
@@ -111,7 +113,7 @@ world_then stories now (Some command) = world_with stories now command
 abbrev pub show_with :
     List Story → List Command → Option WorldState → Option Command → List ℕ
 show_with stories history now accepted =
-    show_while (is_in_use (game_of (extended history accepted)))
+    show_while (is_in_use (game_of (history_extended history accepted)))
     (world_then stories now accepted)
 
 -- the number in a show: 0 for OPEN, that of the last command for LAST, else the request's own
@@ -120,7 +122,7 @@ shown_number game (Open s key story seed cols rows budget) = 0
 shown_number game (Line s key n win text term) = n
 shown_number game (Char s key n win code) = n
 shown_number game (File s key n name) = n
-shown_number game (Last s key) = count game
+shown_number game (Last s key) = command_count game
 shown_number game (Close s key n) = n
 
 -- the reply to a request that isn't refused
@@ -145,7 +147,7 @@ decided stories game show request None =
 unfoldable pub answer : List Story → List Command → Request → Decision
 answer stories history request =
     decided stories (game_of history)
-    (λ accepted. show_of stories (game_of (extended history accepted))) request
+    (λ accepted. game_show stories (game_of (history_extended history accepted))) request
     (refusal_of stories history (game_of history) request)
 
 -- the same of a session whose world is `now`, whatever its history is

@@ -12,7 +12,8 @@ use Rattle.line_words.specs.declared.request.Request.TheVariants.{Close}
 use Rattle.story_run.specs.declared.story.Story.{Story}
 use Rattle.story_run.specs.World.{WorldState}
 use Rattle.story_run.specs.Solo.{is_over, is_wanted}
-use Rattle.session_core.specs.History.{story_at, count, last_of, is_in_use, has_key, input_of}
+use Rattle.session_core.specs.History.{story_at, command_count, last_of, is_in_use, has_key}
+use Rattle.session_core.specs.History.{input_of}
 
 -- a request's session
 abbrev pub session_of : Request → ℕ
@@ -24,22 +25,22 @@ session_of (Last s key) = s
 session_of (Close s key n) = s
 
 -- a request's key
-abbrev pub key_of : Request → List ℕ
-key_of (Open s key story seed cols rows budget) = key
-key_of (Line s key n win text term) = key
-key_of (Char s key n win code) = key
-key_of (File s key n name) = key
-key_of (Last s key) = key
-key_of (Close s key n) = key
+abbrev pub request_key : Request → List ℕ
+request_key (Open s key story seed cols rows budget) = key
+request_key (Line s key n win text term) = key
+request_key (Char s key n win code) = key
+request_key (File s key n name) = key
+request_key (Last s key) = key
+request_key (Close s key n) = key
 
 -- the number of a request's command; OPEN and LAST have none
-abbrev pub number_of : Request → Option ℕ
-number_of (Open s key story seed cols rows budget) = None
-number_of (Line s key n win text term) = Some n
-number_of (Char s key n win code) = Some n
-number_of (File s key n name) = Some n
-number_of (Last s key) = None
-number_of (Close s key n) = Some n
+abbrev pub command_number : Request → Option ℕ
+command_number (Open s key story seed cols rows budget) = None
+command_number (Line s key n win text term) = Some n
+command_number (Char s key n win code) = Some n
+command_number (File s key n name) = Some n
+command_number (Last s key) = None
+command_number (Close s key n) = Some n
 
 -- there is a number, and it passes the test
 abbrev pub passes : (ℕ → Bool) → Option ℕ → Bool
@@ -47,14 +48,14 @@ passes test None = false
 passes test (Some n) = test n
 
 -- a command that opens a story with this digest, if the story is there
-abbrev pub opened : Option Story → (List ℕ → Command) → Option Command
-opened (Some story) command = Some (command story.digest)
-opened None command = None
+abbrev pub opening_command : Option Story → (List ℕ → Command) → Option Command
+opening_command (Some story) command = Some (command story.digest)
+opening_command None command = None
 
 -- the command that a request asks to be accepted; LAST asks for none
 abbrev pub command_of : List Story → Request → Option Command
 command_of stories (Open s key story seed cols rows budget) =
-    opened (story_at stories story)
+    opening_command (story_at stories story)
     (λ digest. commands.Open key story digest seed cols rows budget)
 command_of stories (Line s key n win text term) = Some (commands.Line win term text)
 command_of stories (Char s key n win code) = Some (commands.Char win code)
@@ -79,18 +80,18 @@ is_last None request = false
 -- a new command: OPEN where the session is free, or the number after the last one
 abbrev pub is_fresh : List Command → Request → Bool
 is_fresh game (Open s key story seed cols rows budget) = not (is_in_use game)
-is_fresh game request = passes (λ n. n == count game + 1) (number_of request)
+is_fresh game request = passes (λ n. n == command_count game + 1) (command_number request)
 
 -- NO 2: no such session number; or, but for OPEN, the session is free or has another key. The CLOSE
 -- that freed it, given again, passes.
 abbrev pub is_same_close : List Command → Request → Bool
-is_same_close game (Close s key n) = n == count game
+is_same_close game (Close s key n) = n == command_count game
 is_same_close game request = false
 
 abbrev pub is_known : List Command → Request → Bool
 is_known game (Open s key story seed cols rows budget) = true
 is_known game request =
-    has_key game (key_of request) && (is_in_use game || is_same_close game request)
+    has_key game (request_key request) && (is_in_use game || is_same_close game request)
 
 abbrev pub is_absent : List Command → Request → Bool
 is_absent game request = nat_le 64 (session_of request) || not (is_known game request)
@@ -107,19 +108,19 @@ is_taken game (Open s key story seed cols rows budget) =
 is_taken game request = false
 
 -- NO 4: OPEN of a free session with a story that isn't there
-abbrev pub is_missing : List Story → List Command → Request → Bool
-is_missing stories game (Open s key story seed cols rows budget) =
+abbrev pub is_story_missing : List Story → List Command → Request → Bool
+is_story_missing stories game (Open s key story seed cols rows budget) =
     not (is_in_use game) && is_none (story_at stories story)
-is_missing stories game request = false
+is_story_missing stories game request = false
 
 -- the game's story isn't there, or its file has another digest than at the OPEN
-abbrev pub differs : Option Story → List ℕ → Bool
-differs None digest = true
-differs (Some story) digest = not (bytes_eq story.digest digest)
+abbrev pub digest_differs : Option Story → List ℕ → Bool
+digest_differs None digest = true
+digest_differs (Some story) digest = not (bytes_eq story.digest digest)
 
 abbrev pub is_other_story : List Story → List Command → Bool
 is_other_story stories (commands.Open key story digest seed cols rows budget ∷ after) =
-    differs (story_at stories story) digest
+    digest_differs (story_at stories story) digest
 is_other_story stories _ = false
 
 -- NO 13: that is so; not for CLOSE or a new OPEN
@@ -131,21 +132,22 @@ is_changed stories game request = is_other_story stories game
 
 -- NO 6: the number of an earlier command
 abbrev pub is_early : List Command → Request → Bool
-is_early game request = passes (λ n. nat_lt n (count game)) (number_of request)
+is_early game request = passes (λ n. nat_lt n (command_count game)) (command_number request)
 
 -- NO 7: the number of the last command, for another command
 abbrev pub is_different : List Command → Request → Bool
 is_different game request =
-    passes (λ n. n == count game) (number_of request) && not (is_last (last_of game) request)
+    passes (λ n. n == command_count game) (command_number request)
+    && not (is_last (last_of game) request)
 
 -- NO 5: a number past the next one
 abbrev pub is_ahead : List Command → Request → Bool
-is_ahead game request = passes (λ n. nat_lt (count game + 1) n) (number_of request)
+is_ahead game request = passes (λ n. nat_lt (command_count game + 1) n) (command_number request)
 
 -- what a request gives the story
-abbrev pub given : Option Command → Option Input
-given (Some command) = input_of command
-given None = None
+abbrev pub input_given : Option Command → Option Input
+input_given (Some command) = input_of command
+input_given None = None
 
 -- NO 9: a new input, and the story is over. The session's world is `now`.
 abbrev pub over_in : Option WorldState → Option Input → Bool
@@ -154,7 +156,7 @@ over_in _ _ = false
 
 abbrev pub comes_late : Option WorldState → List Story → List Command → Request → Bool
 comes_late now stories game request =
-    is_fresh game request && over_in now (given (command_of stories request))
+    is_fresh game request && over_in now (input_given (command_of stories request))
 
 -- NO 8: a new input that the story doesn't wait for
 abbrev pub unwanted_in : Option WorldState → Option Input → Bool
@@ -163,7 +165,7 @@ unwanted_in _ _ = false
 
 abbrev pub is_unwanted : Option WorldState → List Story → List Command → Request → Bool
 is_unwanted now stories game request =
-    is_fresh game request && unwanted_in now (given (command_of stories request))
+    is_fresh game request && unwanted_in now (input_given (command_of stories request))
 
 -- NO 10: a new command, and the session number has accepted 8,192
 abbrev pub is_full : List Command → List Command → Request → Bool

@@ -5,21 +5,17 @@ use Rattle.std.specs.List.{filter_map}
 use Rattle.std.specs.Str.{bytes_eq}
 use Rattle.glk_input.specs.declared.input.Input.{Input}
 use Rattle.glk_input.specs.declared.input.Input.TheVariants as inputs
+use Rattle.gate_journal.specs.Rows.{is_open}
 use Rattle.gate_journal.specs.declared.command.Command.{Command}
 use Rattle.gate_journal.specs.declared.command.Command.TheVariants.{Open, Line, Char, File, Close}
 use Rattle.story_run.specs.declared.setup.Setup.{Setup}
 use Rattle.story_run.specs.declared.story.Story.{Story}
 use Rattle.story_run.specs.World.{WorldState}
-use Rattle.story_run.specs.Solo.{turned, world_after}
+use Rattle.story_run.specs.Solo.{world_after_input, world_after}
 
 -- the story of a number; numbers are below 65,536
 abbrev pub story_at : List Story → ℕ → Option Story
 story_at stories number = if nat_lt number 65536 then slice_get stories number else None
-
--- the command opens the session
-abbrev pub is_open : Command → Bool
-is_open (Open key story digest seed cols rows budget) = true
-is_open _ = false
 
 -- the later part, or the earlier one where that is empty
 abbrev pub later : List Command → List Command → List Command
@@ -33,22 +29,22 @@ game_of (command ∷ commands) =
     later (if is_open command then command ∷ commands else []) (game_of commands)
 
 -- how many commands were accepted since the OPEN, not counting it
-abbrev pub count : List Command → ℕ
-count game = length game - 1
+abbrev pub command_count : List Command → ℕ
+command_count game = length game - 1
 
 -- the last command of a game
 abbrev pub last_of : List Command → Option Command
 last_of game = slice_get game (length game - 1)
 
 -- a game goes on until its last command is CLOSE
-abbrev pub goes_on : Option Command → Bool
-goes_on None = false
-goes_on (Some Close) = false
-goes_on (Some command) = true
+abbrev pub game_goes_on : Option Command → Bool
+game_goes_on None = false
+game_goes_on (Some Close) = false
+game_goes_on (Some command) = true
 
 -- the session is in use; else it is free
 abbrev pub is_in_use : List Command → Bool
-is_in_use game = goes_on (last_of game)
+is_in_use game = game_goes_on (last_of game)
 
 -- the game was opened with this key
 abbrev pub has_key : List Command → List ℕ → Bool
@@ -64,7 +60,7 @@ input_of _ = None
 
 -- the world after what a command gives the story, if it gives anything
 abbrev pub turned_on : WorldState → Option Input → WorldState
-turned_on world (Some input) = turned world input
+turned_on world (Some input) = world_after_input world input
 turned_on world None = world
 
 -- the world of a story after the inputs of these commands

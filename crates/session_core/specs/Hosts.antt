@@ -29,8 +29,8 @@ decision_at stories budget histories line =
     decision_on stories budget (commands_in (entries_of histories (session_on line))) line
 
 -- the turn of a line on the history of the session that it names
-abbrev pub turn_on : List Story → ℕ → List (List Entry) → ℕ → List ℕ → Outcome → Turned
-turn_on stories budget histories by line outcome =
+abbrev pub turn_on_line : List Story → ℕ → List (List Entry) → ℕ → List ℕ → Outcome → Turned
+turn_on_line stories budget histories by line outcome =
     turn_of stories budget (entries_of histories (session_on line)) by line outcome
 
 -- the histories behind that turn
@@ -38,7 +38,7 @@ abbrev pub histories_after : List Story → ℕ → List (List Entry) → ℕ �
     → List (List Entry)
 histories_after stories budget histories by line outcome =
     slice_set histories (session_on line)
-    (turn_on stories budget histories by line outcome).history
+    (turn_on_line stories budget histories by line outcome).history
 
 -- one outcome for each line, each such that the line's turn may meet it
 abbrev pub AreMet : List Story → ℕ → List (List Entry) → ℕ → List (List ℕ) → List Outcome
@@ -57,7 +57,7 @@ abbrev pub replies_met : List Story → ℕ → List (List Entry) → ℕ → Li
 replies_met stories budget histories by [] outcomes = []
 replies_met stories budget histories by (line ∷ lines) [] = []
 replies_met stories budget histories by (line ∷ lines) (outcome ∷ outcomes) =
-    (turn_on stories budget histories by line outcome).reply
+    (turn_on_line stories budget histories by line outcome).reply
     ∷ replies_met stories budget (histories_after stories budget histories by line outcome) by
     lines outcomes
 

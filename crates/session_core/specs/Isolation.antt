@@ -29,7 +29,7 @@ replies_on s stories budget histories (line ∷ lines) =
     else replies_on s stories budget (after_line stories budget histories line) lines
 
 -- two hosts have as many sessions, and the same history of this one
-pub record Agrees (s : ℕ) (histories others : List (List Command)) : Type 0 where
+pub record AgreesOnSession (s : ℕ) (histories others : List (List Command)) : Type 0 where
   pub many : length histories ≡ length others
   pub history : history_of histories s ≡ history_of others s
 
@@ -39,6 +39,6 @@ abbrev pub IsIsolated : Type 0
 IsIsolated =
     (s : ℕ) (stories : List Story) (budget : ℕ) (histories others : List (List Command))
     (lines : List (List ℕ))
-    → Agrees s histories others
+    → AgreesOnSession s histories others
     → replies_on s stories budget histories lines
     ≡ replies_to stories budget others (filter (is_on s) lines)

@@ -8,7 +8,7 @@ use Rattle.gate_journal.specs.declared.command.Command.TheVariants.{Open}
 use Rattle.story_run.specs.declared.setup.Setup.{Setup}
 use Rattle.story_run.specs.declared.story.Story.{Story}
 use Rattle.story_run.specs.World.{WorldState}
-use Rattle.story_run.specs.Solo.{is_wanted, opening, turned}
+use Rattle.story_run.specs.Solo.{is_wanted, opening, world_after_input}
 use Rattle.session_core.specs.History.{story_at, input_of}
 
 -- the turns of what a command gives the story
@@ -20,7 +20,7 @@ turns_on world None = 0
 abbrev pub turns_by : WorldState → List Input → ℕ
 turns_by world [] = 0
 turns_by world (input ∷ inputs) =
-    turns_on world (Some input) + turns_by (turned world input) inputs
+    turns_on world (Some input) + turns_by (world_after_input world input) inputs
 
 -- the turns of a story on the inputs of these commands
 abbrev pub turns_in : Option Story → Setup → List Command → ℕ

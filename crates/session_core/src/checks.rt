@@ -1,9 +1,10 @@
 //! The checks of a request, each by its reply (own).
 
 ghost use Rattle.std.specs.Prelude.{◌≡◌, ◌≤◌, length, IfOk, Some, None, MatchOption};
-ghost use Rattle.session_core.specs.History.{game_of, count, is_in_use, has_key, last_of};
-ghost use Rattle.session_core.specs.Checks.{session_of, key_of, number_of, is_fresh, is_known};
-ghost use Rattle.session_core.specs.Checks.{is_absent, is_own_open, is_taken, is_missing};
+ghost use Rattle.session_core.specs.History.{game_of, command_count, is_in_use, has_key, last_of};
+ghost use Rattle.session_core.specs.Checks.{session_of, request_key, command_number, is_fresh};
+ghost use Rattle.session_core.specs.Checks.{is_known};
+ghost use Rattle.session_core.specs.Checks.{is_absent, is_own_open, is_taken, is_story_missing};
 ghost use Rattle.session_core.specs.Checks.{is_other_story, is_changed, is_early, is_different};
 ghost use Rattle.session_core.specs.Checks.{is_ahead};
 
@@ -31,7 +32,7 @@ pub fn session_of(request: &Request) -> u32
 }
 
 fn key_of(request: &Request) -> &Key
-    ensures { result.now ≡ key_of request.now }
+    ensures { result.now ≡ request_key request.now }
 {
     match request {
         Request::Open { key, .. }
@@ -45,7 +46,7 @@ fn key_of(request: &Request) -> &Key
 
 /// The number of the request's command; OPEN and LAST have none.
 pub fn number_of(request: &Request) -> Option<u32>
-    ensures { result ≡ number_of request.now }
+    ensures { result ≡ command_number request.now }
 {
     match request {
         Request::Open { .. } | Request::Last { .. } => None,
@@ -146,7 +147,7 @@ pub fn is_taken(game: &[Command], request: &Request) -> bool
 
 /// OPEN of a free session with a story that isn't there.
 pub fn is_missing(stories: &[Story], game: &[Command], request: &Request) -> bool
-    ensures { result ≡ is_missing stories.now game.now request.now }
+    ensures { result ≡ is_story_missing stories.now game.now request.now }
 {
     match request {
         Request::Open { story, .. } => !is_in_use(game) && story_at(stories, *story).is_none(),

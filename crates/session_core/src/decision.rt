@@ -3,8 +3,8 @@
 ghost use Rattle.std.specs.Prelude.{◌≡◌, ◌≤◌, ◌<◌, length, IfOk, IfSome};
 ghost use Rattle.session_core.specs.History.{game_of, world_of};
 ghost use Rattle.session_core.specs.Checks.{command_of, session_of};
-ghost use Rattle.session_core.specs.Answer.{answer, first_of, plain_checks, story_checks};
-ghost use Rattle.session_core.specs.Answer.{refusal_of, accepted_by, extended, show_of};
+ghost use Rattle.session_core.specs.Answer.{answer, first_refusal, plain_checks, story_checks};
+ghost use Rattle.session_core.specs.Answer.{refusal_of, accepted_by, history_extended, game_show};
 ghost use Rattle.session_core.specs.Answer.{shown_number};
 
 use crate::checks::{
@@ -90,7 +90,7 @@ fn story_refusal(
 ) -> Result<Option<No>, AllocError>
     requires { length game.now ≤ 8192 }
     ensures { IfOk result (λ why. why
-        ≡ first_of (story_checks (world_of stories.now game.now) stories.now game.now
+        ≡ first_refusal (story_checks (world_of stories.now game.now) stories.now game.now
         request.now)) }
 {
     if !is_fresh(game, request) {
@@ -117,7 +117,7 @@ fn story_refusal(
 /// The refusals that need no world, in their order.
 pub fn plain_refusal(stories: &[Story], game: &[Command], request: &Request) -> Option<No>
     requires { length game.now ≤ 8192 }
-    ensures { result ≡ first_of (plain_checks stories.now game.now request.now) }
+    ensures { result ≡ first_refusal (plain_checks stories.now game.now request.now) }
 {
     if is_absent(game, request) {
         return Some(No::NoSession);
@@ -202,9 +202,9 @@ pub fn shown_number(game: &[Command], request: &Request) -> u32
 }
 
 /// The show of a game: what its world shows, or the line of a session that was closed.
-#[tactic(auto, unfolding(crate::specs::Answer::show_of))]
+#[tactic(auto, unfolding(crate::specs::Answer::game_show))]
 fn show_of(alloc: Global, stories: &[Story], game: &[Command]) -> Result<Bytes, AllocError>
-    ensures { IfOk result (λ show. show ≡ show_of stories.now game.now) }
+    ensures { IfOk result (λ show. show ≡ game_show stories.now game.now) }
 {
     if !is_in_use(game) {
         return Ok(Bytes::of(Vec::from_slice(alloc, b"E closed\n")?));
@@ -221,7 +221,7 @@ fn extended(
     history: &[Command],
     accepted: &Option<Command>,
 ) -> Result<Vec<Command>, AllocError>
-    ensures { IfOk result (λ commands. commands.items ≡ extended history.now accepted.now) }
+    ensures { IfOk result (λ commands. commands.items ≡ history_extended history.now accepted.now) }
 {
     let mut commands = Vec::new(alloc);
     for at in 0..history.len() {

@@ -1,7 +1,8 @@
 //! A session's history (own).
 
 ghost use Rattle.std.specs.Prelude.{◌≡◌, ◌≤◌, length, None, Some, MatchOption};
-ghost use Rattle.session_core.specs.History.{story_at, is_open, game_of, count, is_in_use};
+ghost use Rattle.session_core.specs.History.{story_at, game_of, command_count, is_in_use};
+ghost use Rattle.gate_journal.specs.Rows.{is_open};
 
 use gate_journal::Command;
 use story_run::Story;
@@ -42,7 +43,7 @@ pub fn game_of(history: &[Command]) -> &[Command]
 /// How many commands were accepted since the OPEN.
 pub fn count(game: &[Command]) -> u32
     requires { length game.now ≤ 8192 }
-    ensures { result ≡ count game.now }
+    ensures { result ≡ command_count game.now }
 {
     if game.is_empty() {
         0

@@ -11,8 +11,8 @@ use Rattle.story_run.specs.World.{WorldState}
 use Rattle.session_core.specs.declared.entry.Entry.{Entry}
 use Rattle.session_core.specs.Checks.{is_other_story}
 use Rattle.session_core.specs.History.{is_in_use, world_of}
-use Rattle.snap_store.specs.File.{given, newest_area}
-use Rattle.snap_store.specs.Store.{area_of}
+use Rattle.snap_store.specs.File.{area_given, newest_area}
+use Rattle.snap_store.specs.Store.{store_area}
 use Rattle.snap_store.specs.declared.side.Side.{Side}
 use Rattle.session_saves.specs.Agreement.{IsAgreed, last_row}
 use Rattle.session_saves.specs.Game.{inputs_of, turns_after}
@@ -21,9 +21,9 @@ use Rattle.session_saves.specs.Warming.{WarmsFrom, count_in}
 use Rattle.session_desk.specs.declared.held.Held.TheVariants.{Current}
 use Rattle.session_desk.specs.declared.shared.mark.Mark.{Mark}
 use Rattle.session_desk.specs.declared.verdict.Verdict.TheVariants.{Cold}
-use Rattle.session_desk.specs.Desk.{DeskState, game, Holds, is_cold, warmed}
+use Rattle.session_desk.specs.Desk.{DeskState, game, HoldsOwnWorld, is_cold, warmed}
 use Rattle.session_desk.specs.Keeping.{IsWarmed}
-use Rattle.session_desk.specs.Marks.{woven}
+use Rattle.session_desk.specs.Marks.{commands_woven}
 use Rattle.session_desk.specs.Shared.{desk_tag, SharedState}
 use Rattle.session_desk.specs.Sound.{IsSoundDesk, IsWhole, open_rows}
 use Rattle.session_desk.specs.Verdict.{verdict}
@@ -83,7 +83,7 @@ module _ {D : Type 0} (tells : D → Bool) (seen_of : D → List ℕ) (room labe
       → is_other_story old.desk.stories (game old.desk) ≡ false
       → ((rows : List ℕ) → IsTrue (tells old.saves.store.disk) → last_row rows ≡ Some row → is_other_story stories g ≡ false
       → IsAgreed seen_of stories rows g old.saves.store → o ≡ world_of stories g)
-      → IsSoundDesk tells seen_of (desk_tag old) → Holds old.desk.stories (game old.desk) (Current world)
+      → IsSoundDesk tells seen_of (desk_tag old) → HoldsOwnWorld old.desk.stories (game old.desk) (Current world)
   warm_own l place old stories g row o world w at same game_is is other value sound =
       let told = still_tells tells room label faults reach old.store old.saves.store w.store sound.0 in
       let v : (rows : List ℕ) → IsTrue (tells old.saves.store.disk) → last_row rows ≡ Some row → is_other_story old.desk.stories (game old.desk) ≡ false
@@ -100,14 +100,14 @@ module _ {D : Type 0} (tells : D → Bool) (seen_of : D → List ℕ) (room labe
       → is_other_story old.desk.stories (game old.desk) ≡ false
       → ((rows : List ℕ) → IsTrue (tells old.saves.store.disk) → (Rose (faults old.saves.store.disk) (faults saves.store.disk) → ⊥) → last_row rows ≡ Some row
       → is_other_story stories g ≡ false → IsAgreed seen_of stories rows g old.saves.store
-      → after ≡ before + turns_after stories g (count_in (given (newest_area row (length (inputs_of g)) (seen_of old.saves.store.disk)))))
+      → after ≡ before + turns_after stories g (count_in (area_given (newest_area row (length (inputs_of g)) (seen_of old.saves.store.disk)))))
       → (p : ℕ) → IsSoundDesk tells seen_of (desk_tag old) → (Rose (faults old.saves.store.disk) (faults saves.store.disk) → ⊥) → last_row (open_rows old) ≡ Some p
-      → after ≡ before + turns_after old.desk.stories (game old.desk) (count_in (given (newest_area p (length (inputs_of (game old.desk))) (seen_of old.saves.store.disk))))
+      → after ≡ before + turns_after old.desk.stories (game old.desk) (count_in (area_given (newest_area p (length (inputs_of (game old.desk))) (seen_of old.saves.store.disk))))
   warm_cost l place old saves stories g row before after w at same game_is other cost p sound steady last =
       let told = still_tells tells room label faults reach old.store old.saves.store w.store sound.0 in
       let is : row ≡ p = some_is (sym at ∙ w.row ∙ last) in
       let taken = cost (open_rows old) told steady (sym w.row ∙ at) (rw (same, game_is) other) (rw (same, game_is) (w.own sound).agreed) in
-      subst (λ (q : ℕ). after ≡ before + turns_after old.desk.stories (game old.desk) (count_in (given (newest_area q (length (inputs_of (game old.desk))) (seen_of old.saves.store.disk))))) is
+      subst (λ (q : ℕ). after ≡ before + turns_after old.desk.stories (game old.desk) (count_in (area_given (newest_area q (length (inputs_of (game old.desk))) (seen_of old.saves.store.disk))))) is
       (rw (same, game_is) at taken)
     where
       some_is : {q r : ℕ} → Some q ≡ Some r → q ≡ r
@@ -115,13 +115,13 @@ module _ {D : Type 0} (tells : D → Bool) (seen_of : D → List ℕ) (room labe
 
   pub whole_warmed : (may_leave : D → List ℕ → Type 0) (moment : D → ℕ) (left_since : D → ℕ → List ℕ → Type 0)
       (l : List Mark) (place : Option ℕ) (old : SharedState D) (desk : DeskState) (saves : SavesState D) (world : WorldState) → Whole l place old
-      → old.history ≡ woven l old.desk.commands → desk ≡ warmed old.desk world
+      → old.history ≡ commands_woven l old.desk.commands → desk ≡ warmed old.desk world
       → OnlyLooks tells may_leave moment left_since reach room label old.saves.store.disk saves.store.disk
       → faults old.saves.store.disk ≤ faults saves.store.disk
-      → ((side : Side) → IsTrue (tells old.saves.store.disk) → area_of seen_of saves.store side ≡ area_of seen_of old.saves.store side)
+      → ((side : Side) → IsTrue (tells old.saves.store.disk) → store_area seen_of saves.store side ≡ store_area seen_of old.saves.store side)
       → (saves.store.made ≡ old.saves.store.made) × (saves.store.slots ≡ old.saves.store.slots) × (saves.missed ≡ old.saves.missed) × (saves.last ≡ old.saves.last)
-      → (IsSoundDesk tells seen_of (desk_tag old) → Holds old.desk.stories (game old.desk) (Current world))
-      → Whole l place (record old { desk = desk; history = woven l desk.commands; saves = saves })
+      → (IsSoundDesk tells seen_of (desk_tag old) → HoldsOwnWorld old.desk.stories (game old.desk) (Current world))
+      → Whole l place (record old { desk = desk; history = commands_woven l desk.commands; saves = saves })
   whole_warmed may_leave moment left_since l place old desk saves world w weaves is looks counts areas slots holds =
       rw is (subst (λ (h : List Entry). Whole l place (record old { desk = warmed old.desk world; history = h; saves = saves })) weaves
       (whole-looked tells seen_of room label faults reach may_leave moment left_since l place old (Current world) saves w looks counts areas slots.0 slots.1 slots.2 holds))
@@ -131,7 +131,7 @@ module _ {D : Type 0} (tells : D → Bool) (seen_of : D → List ℕ) (room labe
       (l : List Mark) (place : Option ℕ) (old : SharedState D) (saves : SavesState D) → Whole l place old
       → OnlyLooks tells may_leave moment left_since reach room label old.saves.store.disk saves.store.disk
       → faults old.saves.store.disk ≤ faults saves.store.disk
-      → ((side : Side) → IsTrue (tells old.saves.store.disk) → area_of seen_of saves.store side ≡ area_of seen_of old.saves.store side)
+      → ((side : Side) → IsTrue (tells old.saves.store.disk) → store_area seen_of saves.store side ≡ store_area seen_of old.saves.store side)
       → (saves.store.made ≡ old.saves.store.made) × (saves.store.slots ≡ old.saves.store.slots) × (saves.missed ≡ old.saves.missed) × (saves.last ≡ old.saves.last)
       → Whole l place (record old { saves = saves })
   whole_cold may_leave moment left_since l place old saves w looks counts areas slots =

@@ -2,10 +2,11 @@
 use Rattle.std.proofs.Common.{◌≡◌, ◌∙◌, ℕ, suc, ◌+◌, ◌-◌, ◌≤◌, ◌<◌, Bool, true, false, cond, List, [], ◌∷◌, ◌++◌, length, drop, refl, sym, ap, subst, arith, length-append}
 use Rattle.std.proofs.Math.Seq.{drop-append_seam, drop-length}
 use Rattle.std.proofs.lemmas.List.{drop-append-le, length-drop}
+use Rattle.gate_journal.specs.Rows.{is_open}
 use Rattle.gate_journal.specs.declared.command.Command.{Command}
 use Rattle.gate_journal.specs.declared.command.Command.TheVariants.{Open, Line, Char, File, Close}
 use Rattle.gate_journal.specs.Rows as journals
-use Rattle.session_core.specs.History.{game_of, is_open, later}
+use Rattle.session_core.specs.History.{game_of, later}
 use Rattle.session_core.proofs.RepeatLemmas.{game_of-append, game_of-append-open, joined}
 use Rattle.session_desk.specs.Desk.{BeginsAt}
 

@@ -1,27 +1,28 @@
 -- What is held of a game with one command more.
 use Rattle.std.proofs.Common.{◌≡◌, ◌==◌, ◌<◌, ◌≤◌, arith, Bool, true, false, cond, List, [], ◌∷◌, ◌++◌, length, Option, Some, None, refl, sym, ap, ◌∙◌}
 use Rattle.std.proofs.lemmas.List.{length-append}
+use Rattle.gate_journal.specs.Rows.{is_open}
 use Rattle.gate_journal.specs.declared.command.Command.{Command}
 use Rattle.gate_journal.specs.declared.command.Command.TheVariants as commands
 use Rattle.story_run.specs.declared.story.Story.{Story}
 use Rattle.story_run.specs.World.{WorldState}
-use Rattle.story_run.specs.Solo.{shown}
-use Rattle.session_core.specs.History.{game_of, input_of, is_in_use, is_open, goes_on, last_of, turned_on, world_of}
-use Rattle.session_core.specs.Checks.{given}
+use Rattle.story_run.specs.Solo.{last_lines}
+use Rattle.session_core.specs.History.{game_of, input_of, is_in_use, game_goes_on, last_of, turned_on, world_of}
+use Rattle.session_core.specs.Checks.{input_given}
 use Rattle.session_core.specs.Answer.{turned_in}
 use Rattle.session_core.proofs.RepeatLemmas.{joined, game_of-append, last_of-joined}
 use Rattle.session_core.proofs.WorldLemmas.{world_of-joined}
 use Rattle.session_desk.specs.declared.held.Held.{Held}
 use Rattle.session_desk.specs.declared.held.Held.TheVariants.{Nothing, Current, Previous}
-use Rattle.session_desk.specs.Desk.{aside, held_then, holding, show_at, DeskState, Holds, IsDesk, IsHeldInUse}
+use Rattle.session_desk.specs.Desk.{aside, held_then, world_held, show_at, DeskState, HoldsOwnWorld, IsDesk, IsHeldInUse}
 
 -- ---- a world is held while the session is in use
 
-joined_used : (g : List Command) (c : Command) → goes_on (Some c) ≡ true → is_in_use g ≡ true → is_in_use (joined g c) ≡ true
+joined_used : (g : List Command) (c : Command) → game_goes_on (Some c) ≡ true → is_in_use g ≡ true → is_in_use (joined g c) ≡ true
 joined_used [] c goes used = absurd cc
 joined_used (d ∷ ds) c goes used = rw (last_of-joined d ds c) goes
 
-used_on : (history : List Command) (c : Command) → is_open c ≡ false → goes_on (Some c) ≡ true → is_in_use (game_of history) ≡ true
+used_on : (history : List Command) (c : Command) → is_open c ≡ false → game_goes_on (Some c) ≡ true → is_in_use (game_of history) ≡ true
     → is_in_use (game_of (history ++ c ∷ [])) ≡ true
 used_on history c shut goes used = rw (game_of-append history c shut) (joined_used (game_of history) c goes used)
 
@@ -38,7 +39,7 @@ aside-used history (commands.File name) Nothing h = tt
 aside-used history (commands.File name) (Previous w) h = tt
 aside-used history (commands.File name) (Current w) h = used_on history (commands.File name) refl refl h
 
-begun-used : (used : Bool) (now : Option WorldState) (game : List Command) → is_in_use game ≡ used → IsHeldInUse game (cond used (holding now) Nothing)
+begun-used : (used : Bool) (now : Option WorldState) (game : List Command) → is_in_use game ≡ used → IsHeldInUse game (cond used (world_held now) Nothing)
 begun-used true None game e = tt
 begun-used true (Some w) game e = e
 begun-used false now game e = tt
@@ -50,27 +51,27 @@ then-used stories game (Previous w) h = h
 
 -- ---- the session's own world
 
-more : (stories : List Story) (history : List Command) (c : Command) (w : WorldState) → is_open c ≡ false → given (Some c) ≡ input_of c
+more : (stories : List Story) (history : List Command) (c : Command) (w : WorldState) → is_open c ≡ false → input_given (Some c) ≡ input_of c
     → last_of (game_of (history ++ c ∷ [])) ≡ Some c → world_of stories (game_of history) ≡ Some w
-    → world_of stories (game_of (history ++ c ∷ [])) ≡ Some (turned_on w (given (last_of (game_of (history ++ c ∷ [])))))
+    → world_of stories (game_of (history ++ c ∷ [])) ≡ Some (turned_on w (input_given (last_of (game_of (history ++ c ∷ [])))))
 more stories history c w shut same last e =
     ap (world_of stories) (game_of-append history c shut)
     ∙ sym (world_of-joined stories (game_of history) c)
     ∙ ap (λ (now : Option WorldState). turned_in now (input_of c)) e
-    ∙ sym (ap (λ (o : Option Command). Some (turned_on w (given o))) last)
+    ∙ sym (ap (λ (o : Option Command). Some (turned_on w (input_given o))) last)
 
 has_last : (stories : List Story) (g : List Command) (c : Command) (w : WorldState) → world_of stories g ≡ Some w → last_of (joined g c) ≡ Some c
 has_last stories [] c w e = absurd cc
 has_last stories (d ∷ ds) c w e = last_of-joined d ds c
 
 joins : (stories : List Story) (history : List Command) (c : Command) (w : WorldState) → is_open c ≡ false
-    → world_of stories (game_of history) ≡ Some w → Holds stories (game_of (history ++ c ∷ [])) (Previous w)
+    → world_of stories (game_of history) ≡ Some w → HoldsOwnWorld stories (game_of (history ++ c ∷ [])) (Previous w)
 joins stories history c w shut e =
     more stories history c w shut refl (ap last_of (game_of-append history c shut) ∙ has_last stories (game_of history) c w e) e
 
 -- what is set aside as a command comes is held of the game with that command
 pub holds-aside : (stories : List Story) (history : List Command) (c : Command) (held : Held)
-    → Holds stories (game_of history) held → Holds stories (game_of (history ++ c ∷ [])) (aside c held)
+    → HoldsOwnWorld stories (game_of history) held → HoldsOwnWorld stories (game_of (history ++ c ∷ [])) (aside c held)
 holds-aside stories history (commands.Open key story digest seed cols rows budget) held h = tt
 holds-aside stories history commands.Close held h = tt
 holds-aside stories history (commands.Line win term text) Nothing h = tt
@@ -84,13 +85,13 @@ holds-aside stories history (commands.File name) (Previous w) h = tt
 holds-aside stories history (commands.File name) (Current w) h = joins stories history (commands.File name) w refl h
 
 begun-holds : (stories : List Story) (game : List Command) (used : Bool) (now : Option WorldState) → world_of stories game ≡ now
-    → Holds stories game (cond used (holding now) Nothing)
+    → HoldsOwnWorld stories game (cond used (world_held now) Nothing)
 begun-holds stories game true None e = tt
 begun-holds stories game true (Some w) e = e
 begun-holds stories game false now e = tt
 
 -- and so is what a run makes of that
-pub holds-then : (stories : List Story) (game : List Command) (held : Held) → Holds stories game held → Holds stories game (held_then stories game held)
+pub holds-then : (stories : List Story) (game : List Command) (held : Held) → HoldsOwnWorld stories game held → HoldsOwnWorld stories game (held_then stories game held)
 holds-then stories game Nothing h = begun-holds stories game (is_in_use game) (world_of stories game) refl
 holds-then stories game (Current w) h = h
 holds-then stories game (Previous w) h = h
@@ -111,7 +112,7 @@ is_desk-committed desk c commands held is room e h =
 
 -- ---- what is shown
 
-pub shown-held : (g : List Command) (w : WorldState) → is_in_use g ≡ true → shown w ≡ show_at g (Some w)
+pub shown-held : (g : List Command) (w : WorldState) → is_in_use g ≡ true → last_lines w ≡ show_at g (Some w)
 shown-held [] w used = absurd cc
 shown-held (c ∷ cs) w used = rw used refl
 

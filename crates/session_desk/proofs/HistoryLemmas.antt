@@ -14,7 +14,7 @@ use Rattle.session_core.specs.declared.entry.Entry.TheVariants as entries
 use Rattle.session_core.specs.declared.entry.Outcome.{Outcome}
 use Rattle.session_core.specs.declared.entry.Outcome.TheVariants.{Answered, DiskFailed, OutOfMemory, Forgotten}
 use Rattle.session_core.specs.Turning.{commands_in, MayMeet, turn_met}
-use Rattle.session_desk.specs.Turn.{added, history_in}
+use Rattle.session_desk.specs.Turn.{entries_added, history_in}
 
 -- ---- entries behind entries
 
@@ -47,7 +47,7 @@ one_fault es s from to = history_in-append es (Faulted (s + 1) from to ∷ []) s
 
 -- the session's history takes what its turn adds
 pub history_in-added : (es : List JournalEntry) (rows : List Row) (s : ℕ) (reply : Reply) (accepted : Option Command) (outcome : Outcome) → MayMeet accepted outcome
-    → history_in (es ++ added rows s accepted outcome) s ≡ (turn_met (history_in es s) 0 reply accepted outcome).history
+    → history_in (es ++ entries_added rows s accepted outcome) s ≡ (turn_met (history_in es s) 0 reply accepted outcome).history
 history_in-added es rows s reply None Answered may = no_more es s
 history_in-added es rows s reply None (DiskFailed from to) may = absurd may
 history_in-added es rows s reply None OutOfMemory may = no_more es s

@@ -2,6 +2,8 @@
 use Rattle.std.proofs.Common.{◌≡◌, ℕ, ◌<◌, ◌≤◌, Bool, true, false, ◌==◌, not, nat_le, cond, List, [], ◌∷◌, ◌++◌, length, Some, None, refl, sym, ap, subst, ◌∙◌, append_assoc, arith}
 use Rattle.std.proofs.lemmas.Bool.Decides.{nat_tests}
 use Rattle.std.proofs.lemmas.List.{length-append}
+use Rattle.gate_journal.specs.Command.{HasDigest}
+use Rattle.gate_journal.specs.Rows.{is_open}
 use Rattle.gate_journal.specs.Command.{IsBudget, IsCommand}
 use Rattle.gate_journal.specs.Log.{next_row}
 use Rattle.gate_journal.specs.Rows.{commands_of, is_free, is_close, may_follow, EachNext, IsJournal, IsNext, MayStand}
@@ -13,13 +15,13 @@ use Rattle.line_words.specs.declared.request.Request.TheVariants.{Open, Line, Ch
 use Rattle.line_words.specs.Spelling.{IsRequest}
 use Rattle.line_words.proofs.RequestLaws.{request_only}
 use Rattle.story_run.specs.declared.story.Story.{Story}
-use Rattle.session_core.specs.History.{game_of, count, goes_on, has_key, is_in_use, is_open, story_at}
+use Rattle.session_core.specs.History.{game_of, command_count, game_goes_on, has_key, is_in_use, story_at}
 use Rattle.session_core.specs.Checks.{command_of, is_fresh}
-use Rattle.session_core.specs.Answer.{first_of, plain_checks}
+use Rattle.session_core.specs.Answer.{first_refusal, plain_checks}
 use Rattle.session_core.proofs.RepeatLemmas.{all_fail, joined, game_of-append, game_of-append-open, last_of-joined, some_is}
 use Rattle.session_desk.specs.Desk.{DeskState}
 use Rattle.session_core.specs.Sessions.{with_budget}
-use Rattle.session_desk.specs.Commit.{HasDigest, IsInRange}
+use Rattle.session_desk.specs.Commit.{IsInRange}
 use Rattle.session_desk.specs.Laws.{JournalsFit, ReadsInRange}
 use Rattle.session_desk.proofs.LawLemmas.{Accepts, closes, knows, not_last, opens}
 
@@ -55,7 +57,7 @@ kept-more rows s c xs e = rw (commands_of-append rows (next_row rows s c) s, sam
 abbrev Agree : List Command → Type 0
 Agree commands = is_free commands ≡ not (is_in_use (game_of commands))
 
-close_ends : (c : Command) → is_close c ≡ not (goes_on (Some c))
+close_ends : (c : Command) → is_close c ≡ not (game_goes_on (Some c))
 close_ends (commands.Open key story digest seed cols rows budget) = refl
 close_ends (commands.Line win term text) = refl
 close_ends (commands.Char win code) = refl
@@ -117,7 +119,7 @@ one_follows : (xs : List Command) → Agree xs → is_in_use (game_of xs) ≡ tr
 one_follows xs a used = rw (a, used) refl
 
 follows : (stories : List Story) (xs : List Command) (request : Request) (c : Command) → Agree xs
-    → first_of (plain_checks stories (game_of xs) request) ≡ None → is_fresh (game_of xs) request ≡ true → command_of stories request ≡ Some c
+    → first_refusal (plain_checks stories (game_of xs) request) ≡ None → is_fresh (game_of xs) request ≡ true → command_of stories request ≡ Some c
     → may_follow xs c ≡ true
 follows stories xs (Open s key story seed cols rows budget) c a none fresh e =
     let opens_it = opens (story_at stories story) key story seed cols rows budget c e in
@@ -137,7 +139,7 @@ follows stories xs (File s key n name) c a none fresh e =
 follows stories xs (Last s key) c a none fresh e = absurd cc
 follows stories xs (Close s key n) c a none fresh e =
     let g = game_of xs in
-    let used = closes (nat_le 64 s) (has_key g key) (is_in_use g) (n == count g) (all_fail (plain_checks stories g (Close s key n)) none).0 (not_last n (count g) fresh) in
+    let used = closes (nat_le 64 s) (has_key g key) (is_in_use g) (n == command_count g) (all_fail (plain_checks stories g (Close s key n)) none).0 (not_last n (command_count g) fresh) in
     rw (sym (some_is _ c e)) (one_follows xs a used.1)
 
 -- the journal may keep what a desk accepts

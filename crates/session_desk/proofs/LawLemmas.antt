@@ -1,6 +1,7 @@
 -- What a session answers, by what the desk says of the request.
 use Rattle.std.proofs.Common.{◌≡◌, ℕ, ◌<◌, length, IfSome, Bool, true, false, ◌&&◌, ◌||◌, ◌==◌, ◌+◌, not, cond, nat_le, List, [], ◌∷◌, ◌++◌, Option, Some, None, is_none, refl, sym, ap, ◌∙◌, arith}
 use Rattle.std.proofs.lemmas.Bool.Decides.{nat_tests}
+use Rattle.gate_journal.specs.Rows.{is_open}
 use Rattle.gate_journal.specs.declared.command.Command.{Command}
 use Rattle.gate_journal.specs.declared.command.Command.TheVariants as commands
 use Rattle.line_words.specs.declared.request.Request.{Request}
@@ -12,9 +13,9 @@ use Rattle.line_words.specs.declared.reply.Reply.TheVariants as replies
 use Rattle.story_run.specs.declared.story.Story.{Story}
 use Rattle.session_core.specs.declared.decision.Decision.{Decision}
 use Rattle.story_run.specs.World.{WorldState}
-use Rattle.session_core.specs.History.{count, game_of, has_key, input_of, is_in_use, is_open, last_of, story_at, turned_on, world_of}
-use Rattle.session_core.specs.Checks.{command_of, given, is_fresh, is_full, opened, session_of}
-use Rattle.session_core.specs.Answer.{accepted_by, answer_in, decided, first_of, plain_checks, refusal_in, story_checks, shown_number, show_in, show_reply, show_while, show_with, world_with}
+use Rattle.session_core.specs.History.{command_count, game_of, has_key, input_of, is_in_use, last_of, story_at, turned_on, world_of}
+use Rattle.session_core.specs.Checks.{command_of, input_given, is_fresh, is_full, opening_command, session_of}
+use Rattle.session_core.specs.Answer.{accepted_by, answer_in, decided, first_refusal, plain_checks, refusal_in, story_checks, shown_number, show_in, show_reply, show_while, show_with, world_with}
 use Rattle.session_core.proofs.AnswerLemmas.{accepted_has_room_in}
 use Rattle.session_core.proofs.RepeatLemmas.{all_fail, answer_in-none, chosen, known, joined, game_of-append, game_of-append-open, last_of-joined, some_is}
 use Rattle.session_desk.proofs.VerdictLemmas.{asks}
@@ -22,28 +23,28 @@ use Rattle.session_desk.specs.declared.verdict.Verdict.{Verdict}
 use Rattle.session_desk.specs.declared.verdict.Verdict.TheVariants.{Refuse, Again, Fresh, Cold}
 use Rattle.session_desk.specs.declared.held.Held.{Held}
 use Rattle.session_desk.specs.declared.held.Held.TheVariants.{Nothing, Current, Previous}
-use Rattle.session_desk.specs.Desk.{DeskState, aside, game, held_then, holding, show_at, world_now}
-use Rattle.session_desk.specs.Verdict.{foretold, is_to_story, lacks_world, needs_world, told, told_by, verdict}
-use Rattle.session_desk.specs.Laws.{answered, RefusesAlike, ShowsAgain, ShowsFresh, IsColdAlone}
+use Rattle.session_desk.specs.Desk.{DeskState, aside, game, held_then, world_held, show_at, world_now}
+use Rattle.session_desk.specs.Verdict.{foretold, is_to_story, lacks_world, needs_world, verdict_told, verdict_by, verdict}
+use Rattle.session_desk.specs.Laws.{decision_by_desk, RefusesAlike, ShowsAgain, ShowsFresh, IsColdAlone}
 
 -- ---- what was told
 
-told-refuse : (reply : Reply) (accepted : Option Command) (why : No) → told_by reply accepted ≡ Refuse why → reply ≡ replies.No why
+told-refuse : (reply : Reply) (accepted : Option Command) (why : No) → verdict_by reply accepted ≡ Refuse why → reply ≡ replies.No why
 told-refuse (replies.No x) accepted why e = cc
 told-refuse (replies.Show s n body) (Some command) why e = absurd cc
 told-refuse (replies.Show s n body) None why e = absurd cc
 
-told-again : (reply : Reply) (accepted : Option Command) → told_by reply accepted ≡ Again → accepted ≡ None
+told-again : (reply : Reply) (accepted : Option Command) → verdict_by reply accepted ≡ Again → accepted ≡ None
 told-again (replies.No x) accepted e = absurd cc
 told-again (replies.Show s n body) (Some command) e = absurd cc
 told-again (replies.Show s n body) None e = refl
 
-told-fresh : (reply : Reply) (accepted : Option Command) → told_by reply accepted ≡ Fresh → (c : Command) × (accepted ≡ Some c)
+told-fresh : (reply : Reply) (accepted : Option Command) → verdict_by reply accepted ≡ Fresh → (c : Command) × (accepted ≡ Some c)
 told-fresh (replies.No x) accepted e = absurd cc
 told-fresh (replies.Show s n body) (Some command) e = (command, refl)
 told-fresh (replies.Show s n body) None e = absurd cc
 
-told-cold : (reply : Reply) (accepted : Option Command) → told_by reply accepted ≡ Cold → true ≡ false
+told-cold : (reply : Reply) (accepted : Option Command) → verdict_by reply accepted ≡ Cold → true ≡ false
 told-cold (replies.No x) accepted e = absurd cc
 told-cold (replies.Show s n body) (Some command) e = absurd cc
 told-cold (replies.Show s n body) None e = absurd cc
@@ -75,7 +76,7 @@ holds_one true false e n = refl
 holds_one false lacks e n = absurd cc
 
 -- a fresh request to the story of a session in use finds its world held
-pub held_now : (desk : DeskState) (request : Request) → verdict desk request ≡ Fresh → first_of (plain_checks desk.stories (game desk) request) ≡ None
+pub held_now : (desk : DeskState) (request : Request) → verdict desk request ≡ Fresh → first_refusal (plain_checks desk.stories (game desk) request) ≡ None
     → is_to_story (game desk) request ≡ true → is_none (world_now desk.held) ≡ false
 held_now desk request e none asks =
     holds_one (needs_world desk.stories (game desk) request) (is_none (world_now desk.held))
@@ -85,7 +86,7 @@ held_now desk request e none asks =
 -- ---- a refusal
 
 refused : (stories : List Story) (game : List Command) (show : Option Command → List ℕ) (request : Request) (refusal : Option No) (why : No)
-    → told (decided stories game show request refusal) ≡ Refuse why
+    → verdict_told (decided stories game show request refusal) ≡ Refuse why
     → decided stories game show request refusal ≡ record { reply = replies.No why; accepted = None }
 refused stories game show request (Some x) why e = rw (told-refuse (replies.No x) None why e) refl
 refused stories game show request None why e =
@@ -107,30 +108,30 @@ abbrev as_fresh : ℕ → ℕ → List ℕ → Command → Decision
 as_fresh s n show c = record { reply = replies.Show s n show; accepted = Some c }
 
 again_by : (stories : List Story) (game : List Command) (show : Option Command → List ℕ) (request : Request) (refusal : Option No)
-    → told (decided stories game show request refusal) ≡ Again → (refusal ≡ None) × (accepted_by stories game request ≡ None)
+    → verdict_told (decided stories game show request refusal) ≡ Again → (refusal ≡ None) × (accepted_by stories game request ≡ None)
 again_by stories game show request (Some why) e = absurd cc
 again_by stories game show request None e =
     (refl, told-again (show_reply game (show (accepted_by stories game request)) request) (accepted_by stories game request) e)
 
 fresh_by : (stories : List Story) (game : List Command) (show : Option Command → List ℕ) (request : Request) (refusal : Option No)
-    → told (decided stories game show request refusal) ≡ Fresh → (refusal ≡ None) × ((c : Command) × (accepted_by stories game request ≡ Some c))
+    → verdict_told (decided stories game show request refusal) ≡ Fresh → (refusal ≡ None) × ((c : Command) × (accepted_by stories game request ≡ Some c))
 fresh_by stories game show request (Some why) e = absurd cc
 fresh_by stories game show request None e =
     (refl, told-fresh (show_reply game (show (accepted_by stories game request)) request) (accepted_by stories game request) e)
 
-first_of-front : (xs ys : List (Bool × No)) → first_of (xs ++ ys) ≡ None → first_of xs ≡ None
+first_of-front : (xs ys : List (Bool × No)) → first_refusal (xs ++ ys) ≡ None → first_refusal xs ≡ None
 first_of-front [] ys e = refl
 first_of-front ((true, why) ∷ more) ys e = e
 first_of-front ((false, why) ∷ more) ys e = first_of-front more ys e
 
 plain : (now : Option WorldState) (stories : List Story) (history game : List Command) (request : Request)
-    → refusal_in now stories history game request ≡ None → first_of (plain_checks stories game request) ≡ None
+    → refusal_in now stories history game request ≡ None → first_refusal (plain_checks stories game request) ≡ None
 unfolding refusal_in
 plain now stories history game request e =
     first_of-front (plain_checks stories game request) (story_checks now stories game request ++ (is_full history game request, no.Full) ∷ []) e
 
 -- before the first OPEN only an OPEN is known, which is new then
-first_is_fresh : (stories : List Story) (request : Request) → first_of (plain_checks stories [] request) ≡ None → is_fresh [] request ≡ true
+first_is_fresh : (stories : List Story) (request : Request) → first_refusal (plain_checks stories [] request) ≡ None → is_fresh [] request ≡ true
 first_is_fresh stories (Open s key story seed cols rows budget) none = refl
 first_is_fresh stories (Line s key n win text term) none = absurd (let k = known (nat_le 64 s) false (all_fail (plain_checks stories [] (Line s key n win text term)) none).0 in cc)
 first_is_fresh stories (Char s key n win code) none = absurd (let k = known (nat_le 64 s) false (all_fail (plain_checks stories [] (Char s key n win code)) none).0 in cc)
@@ -143,7 +144,7 @@ taken true asked c e f a = absurd cc
 taken false asked c e f a = absurd cc
 
 -- what is shown again was shown of a game
-shown : (stories : List Story) (g : List Command) (now : Option WorldState) (request : Request) → first_of (plain_checks stories g request) ≡ None
+shown : (stories : List Story) (g : List Command) (now : Option WorldState) (request : Request) → first_refusal (plain_checks stories g request) ≡ None
     → accepted_by stories g request ≡ None → show_while (is_in_use g) now ≡ show_at g now
 unfolding accepted_by
 shown stories (c ∷ cs) now request none a = refl
@@ -189,7 +190,7 @@ pub not_last : (n c : ℕ) → (n == c + 1) ≡ true → (n == c) ≡ false
 not_last n c e = grind (arith, nat_tests, e)
 
 pub opens : (found : Option Story) (key : List ℕ) (story seed cols rows budget : ℕ) (c : Command)
-    → opened found (λ digest. commands.Open key story digest seed cols rows budget) ≡ Some c → (digest : List ℕ) × (c ≡ commands.Open key story digest seed cols rows budget)
+    → opening_command found (λ digest. commands.Open key story digest seed cols rows budget) ≡ Some c → (digest : List ℕ) × (c ≡ commands.Open key story digest seed cols rows budget)
 opens None key story seed cols rows budget c e = absurd cc
 opens (Some there) key story seed cols rows budget c e = (there.digest, sym (some_is _ c e))
 
@@ -202,7 +203,7 @@ abbrev ShowsIt : List Story → List Command → Held → Command → Type 0
 ShowsIt stories history held c =
     show_with stories history (world_now held) (Some c) ≡ show_at (behind history c) (world_now (held_then stories (behind history c) (aside c held)))
 
-holding_it : (now : Option WorldState) → world_now (holding now) ≡ now
+holding_it : (now : Option WorldState) → world_now (world_held now) ≡ now
 holding_it None = refl
 holding_it (Some w) = refl
 
@@ -221,7 +222,7 @@ close_shown : (stories : List Story) (history : List Command) (held : Held) (key
 close_shown stories history held key k = rw (game_of-append history commands.Close refl) (joined_closed (game_of history) _ key k)
 
 joined_turned : (g : List Command) (c : Command) (w : WorldState) (key : List ℕ) → has_key g key ≡ true
-    → show_while (is_in_use (joined g c)) (Some (turned_on w (input_of c))) ≡ show_at (joined g c) (Some (turned_on w (given (last_of (joined g c)))))
+    → show_while (is_in_use (joined g c)) (Some (turned_on w (input_of c))) ≡ show_at (joined g c) (Some (turned_on w (input_given (last_of (joined g c)))))
 joined_turned [] c w key k = absurd cc
 joined_turned (d ∷ ds) c w key k = rw (last_of-joined d ds c) refl
 
@@ -233,7 +234,7 @@ input_shown stories history (Previous w) c key shut sets turns held k = absurd c
 input_shown stories history (Current w) c key shut sets turns held k =
     rw (sets w, turns w, game_of-append history c shut) (joined_turned (game_of history) c w key k)
 
-shown_fresh : (desk : DeskState) (request : Request) (c : Command) → verdict desk request ≡ Fresh → first_of (plain_checks desk.stories (game desk) request) ≡ None
+shown_fresh : (desk : DeskState) (request : Request) (c : Command) → verdict desk request ≡ Fresh → first_refusal (plain_checks desk.stories (game desk) request) ≡ None
     → is_fresh (game desk) request ≡ true → command_of desk.stories request ≡ Some c → ShowsIt desk.stories desk.commands desk.held c
 shown_fresh desk (Open s key story seed cols rows budget) c v none fresh e =
     let it = opens (story_at desk.stories story) key story seed cols rows budget c e in
@@ -256,7 +257,7 @@ shown_fresh desk (File s key n name) c v none fresh e =
 shown_fresh desk (Last s key) c v none fresh e = absurd cc
 shown_fresh desk (Close s key n) c v none fresh e =
     let g = game desk in
-    let k = closes (nat_le 64 s) (has_key g key) (is_in_use g) (n == count g) (all_fail (plain_checks desk.stories g (Close s key n)) none).0 (not_last n (count g) fresh) in
+    let k = closes (nat_le 64 s) (has_key g key) (is_in_use g) (n == command_count g) (all_fail (plain_checks desk.stories g (Close s key n)) none).0 (not_last n (command_count g) fresh) in
     rw (sym (some_is _ c e)) (close_shown desk.stories desk.commands desk.held key k.0)
 
 same_show : (s n m : ℕ) (xs ys : List ℕ) (c : Command) → n ≡ m → xs ≡ ys → as_fresh s n xs c ≡ as_fresh s m ys c
@@ -282,7 +283,7 @@ shows_fresh desk request e =
 pub record Accepts (desk : DeskState) (request : Request) : Type 0 where
   pub command : Command
   pub asked : command_of desk.stories request ≡ Some command
-  pub none : first_of (plain_checks desk.stories (game desk) request) ≡ None
+  pub none : first_refusal (plain_checks desk.stories (game desk) request) ≡ None
   pub fresh : is_fresh (game desk) request ≡ true
   pub room : length desk.commands < 8192
 
@@ -311,7 +312,7 @@ accepts desk request e =
 -- ---- what a request passed that is shown again
 
 pub record Repeats (desk : DeskState) (request : Request) : Type 0 where
-  pub none : first_of (plain_checks desk.stories (game desk) request) ≡ None
+  pub none : first_refusal (plain_checks desk.stories (game desk) request) ≡ None
   pub accepted : accepted_by desk.stories (game desk) request ≡ None
   pub held : lacks_world desk request ≡ false
 
@@ -331,13 +332,13 @@ repeats desk request e =
 
 -- ---- cold
 
-cold_lacks : (lacks : Bool) (reply : Reply) (accepted : Option Command) → cond lacks Cold (told_by reply accepted) ≡ Cold → lacks ≡ true
+cold_lacks : (lacks : Bool) (reply : Reply) (accepted : Option Command) → cond lacks Cold (verdict_by reply accepted) ≡ Cold → lacks ≡ true
 cold_lacks true reply accepted e = refl
 cold_lacks false reply accepted e = absurd (let x = told-cold reply accepted e in cc)
 
 pub cold_alone : IsColdAlone
 cold_alone desk request = (
-  λ e. cold_lacks (lacks_world desk request) (answered desk request).reply (answered desk request).accepted e,
+  λ e. cold_lacks (lacks_world desk request) (decision_by_desk desk request).reply (decision_by_desk desk request).accepted e,
   λ lacks. rw lacks refl,
 )
 

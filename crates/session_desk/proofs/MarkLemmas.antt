@@ -11,7 +11,7 @@ use Rattle.session_desk.specs.declared.refused.Refused.TheVariants.{DiskFault, N
 use Rattle.session_desk.specs.declared.shared.mark.Mark.{Mark}
 use Rattle.session_desk.specs.declared.shared.mark.Mark.TheVariants.{Accepted, Faulted}
 use Rattle.session_desk.specs.Desk.{committed, DeskState}
-use Rattle.session_desk.specs.Marks.{count_commands, marks_by, woven}
+use Rattle.session_desk.specs.Marks.{count_commands, marks_by, commands_woven}
 use Rattle.session_desk.specs.Shared.{history_met, met_by}
 
 count-command : (l : List Mark) (by : ℕ) → count_commands (l ++ Accepted by ∷ []) ≡ suc (count_commands l)
@@ -25,7 +25,7 @@ count-fault (Accepted b ∷ l) by from to = ap suc (count-fault l by from to)
 count-fault (Faulted b f t ∷ l) by from to = count-fault l by from to
 
 woven-command : (l : List Mark) (commands : List Command) (by : ℕ) (c : Command) → count_commands l ≡ length commands
-    → woven (l ++ Accepted by ∷ []) (commands ++ c ∷ []) ≡ woven l commands ++ entries.Accepted by c ∷ []
+    → commands_woven (l ++ Accepted by ∷ []) (commands ++ c ∷ []) ≡ commands_woven l commands ++ entries.Accepted by c ∷ []
 woven-command [] [] by c is = refl
 woven-command [] (d ∷ commands) by c is = absurd (omega (arith, is))
 woven-command (Accepted b ∷ l) [] by c is = absurd (omega (arith, is))
@@ -33,20 +33,20 @@ woven-command (Accepted b ∷ l) (d ∷ commands) by c is = ap (λ (m : List Ent
 woven-command (Faulted b f t ∷ l) commands by c is = ap (λ (m : List Entry). entries.Faulted b f t ∷ m) (woven-command l commands by c is)
 
 woven-fault : (l : List Mark) (commands : List Command) (by from to : ℕ) → count_commands l ≡ length commands
-    → woven (l ++ Faulted by from to ∷ []) commands ≡ woven l commands ++ entries.Faulted by from to ∷ []
+    → commands_woven (l ++ Faulted by from to ∷ []) commands ≡ commands_woven l commands ++ entries.Faulted by from to ∷ []
 woven-fault [] commands by from to is = refl
 woven-fault (Accepted b ∷ l) [] by from to is = absurd (omega (arith, is))
 woven-fault (Accepted b ∷ l) (d ∷ commands) by from to is = ap (λ (m : List Entry). entries.Accepted b d ∷ m) (woven-fault l commands by from to (omega (arith, is)))
 woven-fault (Faulted b f t ∷ l) commands by from to is = ap (λ (m : List Entry). entries.Faulted b f t ∷ m) (woven-fault l commands by from to is)
 
-pub commands_in-woven : (l : List Mark) (commands : List Command) → count_commands l ≡ length commands → commands_in (woven l commands) ≡ commands
+pub commands_in-woven : (l : List Mark) (commands : List Command) → count_commands l ≡ length commands → commands_in (commands_woven l commands) ≡ commands
 commands_in-woven [] [] is = refl
 commands_in-woven [] (d ∷ commands) is = absurd (omega (arith, is))
 commands_in-woven (Accepted b ∷ l) [] is = absurd (omega (arith, is))
 commands_in-woven (Accepted b ∷ l) (d ∷ commands) is = ap (λ (m : List Command). d ∷ m) (commands_in-woven l commands (omega (arith, is)))
 commands_in-woven (Faulted b f t ∷ l) commands is = commands_in-woven l commands is
 
-pub length-woven : (l : List Mark) (commands : List Command) → count_commands l ≡ length commands → length (woven l commands) ≡ length l
+pub length-woven : (l : List Mark) (commands : List Command) → count_commands l ≡ length commands → length (commands_woven l commands) ≡ length l
 length-woven [] commands is = refl
 length-woven (Accepted b ∷ l) [] is = absurd (omega (arith, is))
 length-woven (Accepted b ∷ l) (d ∷ commands) is = ap suc (length-woven l commands (omega (arith, is)))
@@ -56,7 +56,7 @@ pub count-all : (n by : ℕ) → count_commands (replicate n (Accepted by)) ≡ 
 count-all zero by = refl
 count-all (suc n) by = ap suc (count-all n by)
 
-pub woven-all : (commands : List Command) (by : ℕ) → woven (replicate (length commands) (Accepted by)) commands ≡ map (entries.Accepted by) commands
+pub woven-all : (commands : List Command) (by : ℕ) → commands_woven (replicate (length commands) (Accepted by)) commands ≡ map (entries.Accepted by) commands
 woven-all [] by = refl
 woven-all (c ∷ commands) by = ap (λ (m : List Entry). entries.Accepted by c ∷ m) (woven-all commands by)
 
@@ -73,10 +73,10 @@ count-by l (Err NoMemory) by old new c is ok err =
 
 pub woven-by : {T : Type 0} (l : List Mark) (done : Result T Refused) (by : ℕ) (old new : DeskState) (c : Command)
     → count_commands l ≡ length old.commands → OnOk done (new ≡ committed old c) → OnErr done (new ≡ old)
-    → woven (l ++ marks_by by done) new.commands ≡ history_met (woven l old.commands) by (Some c) (met_by done)
+    → commands_woven (l ++ marks_by by done) new.commands ≡ history_met (commands_woven l old.commands) by (Some c) (met_by done)
 woven-by l (Ok x) by old new c is ok err =
-    ap (λ (d : DeskState). woven (l ++ Accepted by ∷ []) d.commands) ok ∙ woven-command l old.commands by c is
+    ap (λ (d : DeskState). commands_woven (l ++ Accepted by ∷ []) d.commands) ok ∙ woven-command l old.commands by c is
 woven-by l (Err (DiskFault f)) by old new c is ok err =
-    ap (λ (d : DeskState). woven (l ++ Faulted by f.from f.to ∷ []) d.commands) err ∙ woven-fault l old.commands by f.from f.to is
+    ap (λ (d : DeskState). commands_woven (l ++ Faulted by f.from f.to ∷ []) d.commands) err ∙ woven-fault l old.commands by f.from f.to is
 woven-by l (Err NoMemory) by old new c is ok err =
-    ap (λ (d : DeskState). woven (l ++ []) d.commands) err ∙ ap (λ (m : List Mark). woven m old.commands) (append-nil l)
+    ap (λ (d : DeskState). commands_woven (l ++ []) d.commands) err ∙ ap (λ (m : List Mark). commands_woven m old.commands) (append-nil l)

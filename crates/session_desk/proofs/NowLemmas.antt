@@ -9,14 +9,14 @@ use Rattle.line_words.specs.declared.reply.Reply.TheVariants as replies
 use Rattle.story_run.specs.declared.story.Story.{Story}
 use Rattle.story_run.specs.World.{WorldState}
 use Rattle.session_core.specs.declared.decision.Decision.{Decision}
-use Rattle.session_core.specs.History.{count, game_of, has_key, is_in_use, story_at, world_of}
-use Rattle.session_core.specs.Checks.{is_fresh, opened}
-use Rattle.session_core.specs.Answer.{accepted_by, answer_in, decided, first_of, plain_checks, refusal_in, show_reply, show_with}
+use Rattle.session_core.specs.History.{command_count, game_of, has_key, is_in_use, story_at, world_of}
+use Rattle.session_core.specs.Checks.{is_fresh, opening_command}
+use Rattle.session_core.specs.Answer.{accepted_by, answer_in, decided, first_refusal, plain_checks, refusal_in, show_reply, show_with}
 use Rattle.session_core.proofs.AnswerLemmas.{refusal_in-plain}
 use Rattle.session_core.proofs.RepeatLemmas.{all_fail}
 use Rattle.session_desk.specs.declared.held.Held.{Held}
 use Rattle.session_desk.specs.declared.held.Held.TheVariants.{Nothing, Current, Previous}
-use Rattle.session_desk.specs.Desk.{game, Holds, world_now}
+use Rattle.session_desk.specs.Desk.{game, HoldsOwnWorld, world_now}
 use Rattle.session_desk.specs.Verdict.{is_to_story, needs_world}
 use Rattle.session_desk.proofs.LawLemmas.{knows}
 use Rattle.session_desk.proofs.VerdictLemmas.{checks_free, past_story, stale-passes}
@@ -25,7 +25,7 @@ use Rattle.session_desk.proofs.WarmLemmas.{closed_again}
 -- ---- the same refusal
 
 refusal_free : (stories : List Story) (history : List Command) (now other : Option WorldState) (request : Request) (fresh : Bool)
-    → first_of (plain_checks stories (game_of history) request) ≡ None → is_to_story (game_of history) request ≡ false → is_fresh (game_of history) request ≡ fresh
+    → first_refusal (plain_checks stories (game_of history) request) ≡ None → is_to_story (game_of history) request ≡ false → is_fresh (game_of history) request ≡ fresh
     → refusal_in now stories history (game_of history) request ≡ refusal_in other stories history (game_of history) request
 refusal_free stories history now other request false none free stale =
     stale-passes stories history (game_of history) now request none stale ∙ sym (stale-passes stories history (game_of history) other request none stale)
@@ -41,8 +41,8 @@ not_used false e = refl
 
 open_free : (stories : List Story) (history : List Command) (now other : Option WorldState) (found : Option Story) (key : List ℕ) (story seed cols rows budget : ℕ)
     → is_in_use (game_of history) ≡ false
-    → show_with stories history now (opened found (λ digest. commands.Open key story digest seed cols rows budget))
-    ≡ show_with stories history other (opened found (λ digest. commands.Open key story digest seed cols rows budget))
+    → show_with stories history now (opening_command found (λ digest. commands.Open key story digest seed cols rows budget))
+    ≡ show_with stories history other (opening_command found (λ digest. commands.Open key story digest seed cols rows budget))
 open_free stories history now other None key story seed cols rows budget free = rw free refl
 open_free stories history now other (Some there) key story seed cols rows budget free = refl
 
@@ -60,7 +60,7 @@ used_asks true u e = e
 used_asks false u e = sym u
 
 show_free : (stories : List Story) (history : List Command) (now other : Option WorldState) (request : Request)
-    → first_of (plain_checks stories (game_of history) request) ≡ None → is_to_story (game_of history) request ≡ false
+    → first_refusal (plain_checks stories (game_of history) request) ≡ None → is_to_story (game_of history) request ≡ false
     → show_with stories history now (accepted_by stories (game_of history) request) ≡ show_with stories history other (accepted_by stories (game_of history) request)
 unfolding accepted_by
 show_free stories history now other (Open s key story seed cols rows budget) none free =
@@ -84,8 +84,8 @@ show_free stories history now other (Last s key) none free =
     absurd (let e = used_asks (is_in_use g) used.1 free in cc)
 show_free stories history now other (Close s key n) none free =
     let g = game_of history in
-    close_free stories history now other (n == count g + 1)
-    (λ stale. closed_again stories g s key n none (none_taken (n == count g + 1) commands.Close stale))
+    close_free stories history now other (n == command_count g + 1)
+    (λ stale. closed_again stories g s key n none (none_taken (n == command_count g + 1) commands.Close stale))
 
 -- ---- the same answer
 
@@ -103,7 +103,7 @@ unfolding answer_in
 refused_alike stories history now request why e = rw e refl
 
 answered_free : (stories : List Story) (history : List Command) (now other : Option WorldState) (request : Request)
-    → first_of (plain_checks stories (game_of history) request) ≡ None → is_to_story (game_of history) request ≡ false
+    → first_refusal (plain_checks stories (game_of history) request) ≡ None → is_to_story (game_of history) request ≡ false
     → answer_in stories history now request ≡ answer_in stories history other request
 unfolding answer_in
 answered_free stories history now other request none free =
@@ -113,7 +113,7 @@ answered_free stories history now other request none free =
     (refusal_in other stories history (game_of history) request) (show_free stories history now other request none free)
 
 by_plain : (stories : List Story) (history : List Command) (now other : Option WorldState) (request : Request) (plain : Option No)
-    → first_of (plain_checks stories (game_of history) request) ≡ plain → (is_none plain && is_to_story (game_of history) request) ≡ false
+    → first_refusal (plain_checks stories (game_of history) request) ≡ plain → (is_none plain && is_to_story (game_of history) request) ≡ false
     → answer_in stories history now request ≡ answer_in stories history other request
 by_plain stories history now other request None e free = answered_free stories history now other request e free
 by_plain stories history now other request (Some why) e free =
@@ -123,14 +123,14 @@ by_plain stories history now other request (Some why) e free =
 pub asks_no_world : (stories : List Story) (history : List Command) (now other : Option WorldState) (request : Request) → needs_world stories (game_of history) request ≡ false
     → answer_in stories history now request ≡ answer_in stories history other request
 asks_no_world stories history now other request e =
-    by_plain stories history now other request (first_of (plain_checks stories (game_of history) request)) refl e
+    by_plain stories history now other request (first_refusal (plain_checks stories (game_of history) request)) refl e
 
 -- ---- the world by which a desk answers
 
 -- it is the session's own where what is held is
 pub record IsBy (stories : List Story) (history : List Command) (held : Held) (request : Request) : Type 0 where
   pub now : Option WorldState
-  pub own : Holds stories (game_of history) held → now ≡ world_of stories (game_of history)
+  pub own : HoldsOwnWorld stories (game_of history) held → now ≡ world_of stories (game_of history)
   pub same : answer_in stories history (world_now held) request ≡ answer_in stories history now request
 
 needs_not : (needs : Bool) → (needs && true) ≡ false → needs ≡ false

@@ -6,8 +6,9 @@ use Rattle.std.proofs.lemmas.Bool.Decides.{nat_tests}
 use Rattle.std.proofs.lemmas.List.{append-nil, length-append}
 use Rattle.std.proofs.lemmas.List.Elements.{Contains-append_cases}
 use Rattle.turn_cell.specs.History.{Continues, Each, IsForeign}
-use Rattle.gate_journal.specs.Log.{next_row, number_of, rows_of}
-use Rattle.gate_journal.specs.Rows.{body, commands_of, EachNext, IsJournal, IsNext, spelled}
+use Rattle.gate_journal.specs.Rows.{is_open}
+use Rattle.gate_journal.specs.Log.{next_row, entry_number, rows_of}
+use Rattle.gate_journal.specs.Rows.{row_body, commands_of, EachNext, IsJournal, IsNext, journal_bytes}
 use Rattle.gate_journal.specs.declared.command.Command.{Command}
 use Rattle.gate_journal.specs.declared.command.Command.TheVariants as commands
 use Rattle.gate_journal.specs.declared.row.Row.{Row}
@@ -17,8 +18,8 @@ use Rattle.gate_journal.proofs.RowLemmas.{spelled-push}
 use Rattle.line_words.specs.declared.request.Request.{Request}
 use Rattle.line_words.specs.declared.request.Request.TheVariants.{Open, Line, Char, File, Last, Close}
 use Rattle.story_run.specs.declared.story.Story.{Story}
-use Rattle.session_core.specs.Checks.{command_of, opened}
-use Rattle.session_core.specs.History.{game_of, is_in_use, is_open, later, story_at}
+use Rattle.session_core.specs.Checks.{command_of, opening_command}
+use Rattle.session_core.specs.History.{game_of, is_in_use, later, story_at}
 use Rattle.session_core.proofs.RepeatLemmas.{some_is}
 use Rattle.session_saves.specs.Agreement.{last_row, opens_of}
 use Rattle.session_saves.proofs.AgreementLemmas.{last-append}
@@ -26,7 +27,7 @@ use Rattle.session_desk.specs.declared.refused.Refused.{Refused}
 use Rattle.session_desk.specs.declared.refused.Refused.TheVariants.{DiskFault, NoMemory}
 use Rattle.session_desk.specs.Opens.{AreBefore, is_to_open, opens_behind, OpensBy, row_behind}
 use Rattle.session_desk.specs.Shared.{met_by}
-use Rattle.session_desk.specs.Turn.{added}
+use Rattle.session_desk.specs.Turn.{entries_added}
 
 -- ---- rows behind rows
 
@@ -60,7 +61,7 @@ later_numbered (Kept r ∷ seen) rest each = later_numbered seen rest each.1
 later_numbered (Faulted by from to ∷ seen) rest each = later_numbered seen rest each
 
 abbrev pub Others : ℕ → List JournalEntry → Type 0
-Others s rest = Each (IsForeign number_of ((s + 1) ∷ [])) rest
+Others s rest = Each (IsForeign entry_number ((s + 1) ∷ [])) rest
 
 opens_none : (s : ℕ) (rest : List JournalEntry) → Each IsNumbered (rows_of rest) → Others s rest → opens_of (rows_of rest) s ≡ []
 opens_none s [] n f = refl
@@ -70,7 +71,7 @@ opens_none s (Kept r ∷ rest) n f =
 opens_none s (Faulted by from to ∷ rest) n f = opens_none s rest n f.1
 
 -- they add no OPEN row of this one
-pub opens_of-since : (s : ℕ) (log seen : List JournalEntry) → IsJournal (rows_of log) → Continues (IsForeign number_of ((s + 1) ∷ [])) log seen
+pub opens_of-since : (s : ℕ) (log seen : List JournalEntry) → IsJournal (rows_of log) → Continues (IsForeign entry_number ((s + 1) ∷ [])) log seen
     → opens_of (rows_of log) s ≡ opens_of (rows_of seen) s
 opens_of-since s log seen journal on =
     let rows : IsJournal (rows_of (seen ++ on.0)) = subst (λ (es : List JournalEntry). IsJournal (rows_of es)) on.1 journal in
@@ -98,11 +99,11 @@ if_one false p x c = absurd (contains_none x c)
 abbrev AreBelow : List ℕ → ℕ → Type 0
 AreBelow places end = (x : ℕ) → Contains places x → x < end
 
-below_next : (s : ℕ) (rows : List Row) (r : Row) → IsNext rows r → AreBelow (opens_of rows s) (length (spelled rows))
-    → AreBelow (opens_of (rows ++ r ∷ []) s) (length (spelled (rows ++ r ∷ [])))
+below_next : (s : ℕ) (rows : List Row) (r : Row) → IsNext rows r → AreBelow (opens_of rows s) (length (journal_bytes rows))
+    → AreBelow (opens_of (rows ++ r ∷ []) s) (length (journal_bytes (rows ++ r ∷ [])))
 below_next s rows r next below x has =
-    let longer : length (spelled (rows ++ r ∷ [])) ≡ length (spelled rows) + suc (length (body r)) =
-    ap (λ (l : List ℕ). length l) (spelled-push rows r) ∙ length-append (spelled rows) (1 ∷ body r) in
+    let longer : length (journal_bytes (rows ++ r ∷ [])) ≡ length (journal_bytes rows) + suc (length (row_body r)) =
+    ap (λ (l : List ℕ). length l) (spelled-push rows r) ∙ length-append (journal_bytes rows) (1 ∷ row_body r) in
     let split = Contains-append_cases (opens_of rows s) (opens_of (r ∷ []) s) x
     (subst (λ (places : List ℕ). Contains places x) (opens_of-append rows (r ∷ []) s) has) in
     ⊎_elim (λ old. let lt = below x old in omega (arith, lt, longer))
@@ -112,15 +113,15 @@ below_next s rows r next below x has =
 append_none : (rows : List Row) → rows ++ [] ≡ rows
 append_none rows = append-nil rows
 
-below_all : (s : ℕ) (rows more : List Row) → EachNext rows more → AreBelow (opens_of rows s) (length (spelled rows))
-    → AreBelow (opens_of (rows ++ more) s) (length (spelled (rows ++ more)))
+below_all : (s : ℕ) (rows more : List Row) → EachNext rows more → AreBelow (opens_of rows s) (length (journal_bytes rows))
+    → AreBelow (opens_of (rows ++ more) s) (length (journal_bytes (rows ++ more)))
 below_all s rows [] each below = rw (append_none rows) below
 below_all s rows (r ∷ more) each below =
-    subst (λ (x : List Row). AreBelow (opens_of x s) (length (spelled x))) (append_assoc rows (r ∷ []) more)
+    subst (λ (x : List Row). AreBelow (opens_of x s) (length (journal_bytes x))) (append_assoc rows (r ∷ []) more)
     (below_all s (rows ++ r ∷ []) more each.1 (below_next s rows r each.0 below))
 
 -- a journal's places are before its end
-pub opens_below : (s : ℕ) (rows : List Row) → IsJournal rows → (x : ℕ) → Contains (opens_of rows s) x → x < length (spelled rows)
+pub opens_below : (s : ℕ) (rows : List Row) → IsJournal rows → (x : ℕ) → Contains (opens_of rows s) x → x < length (journal_bytes rows)
 opens_below s rows journal = below_all s [] rows journal (λ x has. absurd (contains_none x has))
 
 -- ---- behind a commit
@@ -132,17 +133,17 @@ one_open : (opens : Bool) (places : List ℕ) (p q : ℕ) → p ≡ q → places
 one_open true places p q e = ap (λ (x : ℕ). places ++ x ∷ []) e
 one_open false places p q e = append-nil places
 
-row_added : (s : ℕ) (rows : List Row) (c : Command) → opens_of (next_row rows s c ∷ []) s ≡ cond (is_open c) (length (spelled rows) ∷ []) []
+row_added : (s : ℕ) (rows : List Row) (c : Command) → opens_of (next_row rows s c ∷ []) s ≡ cond (is_open c) (length (journal_bytes rows) ∷ []) []
 row_added s rows c = rw (same_session s) refl
 
 -- what the entries of a turn add to the places
-opens_added : (s : ℕ) (log : List JournalEntry) (c : Command) (done : Result ℕ Refused) → IfOk done (λ place. place ≡ length (spelled (rows_of log)))
-    → opens_of (rows_of (log ++ added (rows_of log) s (Some c) (met_by done))) s ≡ opens_behind (opens_of (rows_of log) s) c done
+opens_added : (s : ℕ) (log : List JournalEntry) (c : Command) (done : Result ℕ Refused) → IfOk done (λ place. place ≡ length (journal_bytes (rows_of log)))
+    → opens_of (rows_of (log ++ entries_added (rows_of log) s (Some c) (met_by done))) s ≡ opens_behind (opens_of (rows_of log) s) c done
 opens_added s log c (Ok place) at =
     ap (λ (rows : List Row). opens_of rows s) (rows_of-append log (Kept (next_row (rows_of log) s c) ∷ []))
     ∙ opens_of-append (rows_of log) (next_row (rows_of log) s c ∷ []) s
     ∙ ap (λ (places : List ℕ). opens_of (rows_of log) s ++ places) (row_added s (rows_of log) c)
-    ∙ one_open (is_open c) (opens_of (rows_of log) s) (length (spelled (rows_of log))) place (sym at)
+    ∙ one_open (is_open c) (opens_of (rows_of log) s) (length (journal_bytes (rows_of log))) place (sym at)
 opens_added s log c (Err (DiskFault fault)) at =
     ap (λ (rows : List Row). opens_of rows s) (rows_of-append log (Faulted (s + 1) fault.from fault.to ∷ []) ∙ append-nil (rows_of log))
 opens_added s log c (Err NoMemory) at = ap (λ (es : List JournalEntry). opens_of (rows_of es) s) (append-nil log)
@@ -152,15 +153,15 @@ are_before places end (Ok place) below at = λ row has. let lt = below row has i
 are_before places end (Err why) below at = tt
 
 pub opens_by : (s : ℕ) (log seen new : List JournalEntry) (c : Command) (done : Result ℕ Refused) → IsJournal (rows_of log)
-    → Continues (IsForeign number_of ((s + 1) ∷ [])) log seen → new ≡ log ++ added (rows_of log) s (Some c) (met_by done)
-    → IfOk done (λ place. place ≡ length (spelled (rows_of log))) → OpensBy s c done seen new
+    → Continues (IsForeign entry_number ((s + 1) ∷ [])) log seen → new ≡ log ++ entries_added (rows_of log) s (Some c) (met_by done)
+    → IfOk done (λ place. place ≡ length (journal_bytes (rows_of log))) → OpensBy s c done seen new
 opens_by s log seen new c done journal on is at =
     let same = opens_of-since s log seen journal on in
     record {
       opens = ap (λ (es : List JournalEntry). opens_of (rows_of es) s) is ∙ opens_added s log c done at
           ∙ ap (λ (places : List ℕ). opens_behind places c done) same;
       before = subst (λ (places : List ℕ). AreBefore places done) same
-          (are_before (opens_of (rows_of log) s) (length (spelled (rows_of log))) done (opens_below s (rows_of log) journal) at);
+          (are_before (opens_of (rows_of log) s) (length (journal_bytes (rows_of log))) done (opens_below s (rows_of log) journal) at);
     }
 
 -- ---- the last one
@@ -177,7 +178,7 @@ last_behind places place request c (Ok row) same e =
 last_behind places place request c (Err why) same e = e
 
 opens_asked : (found : Option Story) (key : List ℕ) (story seed cols rows budget : ℕ) (c : Command)
-    → opened found (λ digest. commands.Open key story digest seed cols rows budget) ≡ Some c → true ≡ is_open c
+    → opening_command found (λ digest. commands.Open key story digest seed cols rows budget) ≡ Some c → true ≡ is_open c
 opens_asked None key story seed cols rows budget c e = absurd cc
 opens_asked (Some there) key story seed cols rows budget c e = rw (sym (some_is _ c e)) refl
 

@@ -4,9 +4,9 @@ use Rattle.gate_journal.specs.declared.command.Command.{Command}
 use Rattle.gate_journal.specs.declared.command.Command.TheVariants as commands
 use Rattle.line_words.specs.declared.request.Request.{Request}
 use Rattle.line_words.specs.declared.request.Request.TheVariants.{Open, Line, Char, File, Last, Close}
-use Rattle.session_core.specs.History.{game_of, count, has_key, is_in_use, last_of, story_at}
+use Rattle.session_core.specs.History.{game_of, command_count, has_key, is_in_use, last_of, story_at}
 use Rattle.session_core.specs.Checks.{command_of}
-use Rattle.session_core.specs.Answer.{first_of, plain_checks}
+use Rattle.session_core.specs.Answer.{first_refusal, plain_checks}
 use Rattle.session_core.proofs.RepeatLemmas.{all_fail, joined, game_of-append, game_of-append-open, last_of-joined, some_is}
 use Rattle.session_desk.specs.declared.held.Held.{Held}
 use Rattle.session_desk.specs.declared.held.Held.TheVariants.{Nothing, Current, Previous}
@@ -26,7 +26,7 @@ both_hold false y e = absurd cc
 pub cold_is_cold : (desk : DeskState) (request : Request) → verdict desk request ≡ Cold → is_cold desk ≡ true
 cold_is_cold desk request e =
     let lacks = both_hold (needs_world desk.stories (game desk) request) (is_none (world_now desk.held)) ((cold_alone desk request).0 e) in
-    let needs = both_hold (is_none (first_of (plain_checks desk.stories (game desk) request))) (is_to_story (game desk) request) lacks.0 in
+    let needs = both_hold (is_none (first_refusal (plain_checks desk.stories (game desk) request))) (is_to_story (game desk) request) lacks.0 in
     let used = both_hold (is_in_use (game desk)) _ needs.1 in
     rw (used.0, lacks.1) refl
 
@@ -79,5 +79,5 @@ to_run desk (File s key n name) c v a e =
 to_run desk (Last s key) c v a e = absurd cc
 to_run desk (Close s key n) c v a e =
     let g = game_of desk.commands in
-    let used = closes (nat_le 64 s) (has_key g key) (is_in_use g) (n == count g) (all_fail (plain_checks desk.stories g (Close s key n)) a.none).0 (not_last n (count g) a.fresh) in
+    let used = closes (nat_le 64 s) (has_key g key) (is_in_use g) (n == command_count g) (all_fail (plain_checks desk.stories g (Close s key n)) a.none).0 (not_last n (command_count g) a.fresh) in
     rw (sym (some_is _ c e)) (close_runs desk.commands desk.held used.1)

@@ -5,10 +5,10 @@ use Rattle.std.proofs.lemmas.List.{append-nil, map-append}
 use Rattle.atomic_table.specs.Seated.{TableId}
 use Rattle.turn_cell.specs.declared.pass.Pass.{Pass}
 use Rattle.turn_cell.specs.History.{Continues, Each, IsForeign}
-use Rattle.turn_cell.specs.Passes.{holds, seen}
+use Rattle.turn_cell.specs.Passes.{pass_numbers, seen}
 use Rattle.turn_cell.specs.Views.{MayLeave, tag_in}
 use Rattle.turn_cell.specs.declared.view.View.{View}
-use Rattle.gate_journal.specs.Log.{kept, Log, next_row, number_of, rows_of}
+use Rattle.gate_journal.specs.Log.{rows_kept, Log, next_row, entry_number, rows_of}
 use Rattle.gate_journal.specs.Rows.{commands_of, IsJournal}
 use Rattle.gate_journal.specs.declared.command.Command.{Command}
 use Rattle.gate_journal.specs.declared.row.Row.{Row}
@@ -27,13 +27,13 @@ use Rattle.session_core.specs.Turning.{commands_in}
 use Rattle.session_core.proofs.RepeatLemmas.{some_is}
 use Rattle.session_desk.specs.declared.refused.Refused.{Refused}
 use Rattle.session_desk.specs.declared.refused.Refused.TheVariants.{DiskFault, NoMemory}
-use Rattle.session_desk.specs.Commit.{Commits, Leaves}
+use Rattle.session_desk.specs.Commit.{Commits, RefusalLeaves}
 use Rattle.session_desk.specs.declared.shared.mark.Mark.{Mark}
 use Rattle.session_desk.specs.declared.shared.mark.Mark.TheVariants as marks
-use Rattle.session_desk.specs.Desk.{committed, DeskState, opened}
-use Rattle.session_desk.specs.Marks.{count_commands, marks_by, woven}
+use Rattle.session_desk.specs.Desk.{committed, DeskState, cold_desk}
+use Rattle.session_desk.specs.Marks.{count_commands, marks_by, commands_woven}
 use Rattle.session_desk.specs.Shared.{desk_tag, DeskTag, history_met, IsMarked, IsPassOf, LeavesHistory, met_by, SharedState, TakesEntry, unnumbered, unplaced}
-use Rattle.session_desk.specs.Turn.{added, history_in}
+use Rattle.session_desk.specs.Turn.{entries_added, history_in}
 use Rattle.session_desk.proofs.OpensLemmas.{IsNumbered, later_numbered, next_numbered, Others}
 use Rattle.snap_store.specs.Store.{Snapshots}
 use Rattle.session_desk.proofs.MarkLemmas.{commands_in-woven, count-all, count-by, woven-all, woven-by}
@@ -69,7 +69,7 @@ foreign_none s (Faulted by from to ∷ rest) n f =
     rw differ (foreign_none s rest n f.1)
 
 -- the history of a session in a journal is the one in what its pass had seen of it
-pub history_in-since : (s : ℕ) (log seen : List JournalEntry) → IsJournal (rows_of log) → Continues (IsForeign number_of ((s + 1) ∷ [])) log seen
+pub history_in-since : (s : ℕ) (log seen : List JournalEntry) → IsJournal (rows_of log) → Continues (IsForeign entry_number ((s + 1) ∷ [])) log seen
     → history_in log s ≡ history_in seen s
 history_in-since s log seen journal on =
     let rows : IsJournal (rows_of (seen ++ on.0)) = subst (λ (es : List JournalEntry). IsJournal (rows_of es)) on.1 journal in
@@ -81,23 +81,23 @@ history_in-since s log seen journal on =
 
 -- so are its commands
 pub kept-since : (s : ℕ) (log seen : List JournalEntry) (commands : List Command) → IsJournal (rows_of log)
-    → Continues (IsForeign number_of ((s + 1) ∷ [])) log seen → commands_of (rows_of seen) s ≡ commands → commands_of (rows_of log) s ≡ commands
+    → Continues (IsForeign entry_number ((s + 1) ∷ [])) log seen → commands_of (rows_of seen) s ≡ commands → commands_of (rows_of log) s ≡ commands
 kept-since s log seen commands journal on is =
     sym (commands_in-history log s) ∙ ap commands_in (history_in-since s log seen journal on) ∙ commands_in-history seen s ∙ is
 
 -- ---- what a commit adds
 
 pub appended : {D T : Type 0} (faults : D → ℕ) (request : Request) (desk new_desk : DeskState) (old new : Log D) (c : Command) (done : Result T Refused)
-    → command_of desk.stories request ≡ Some c → OnOk done (Commits request desk old new_desk new) → IfErr done (λ why. Leaves faults desk.session old new why)
-    → new.entries ≡ old.entries ++ added (rows_of old.entries) desk.session (Some c) (met_by done)
+    → command_of desk.stories request ≡ Some c → OnOk done (Commits request desk old new_desk new) → IfErr done (λ why. RefusalLeaves faults desk.session old new why)
+    → new.entries ≡ old.entries ++ entries_added (rows_of old.entries) desk.session (Some c) (met_by done)
 appended faults request desk new_desk old new c (Ok x) asked ok err =
     ok.row ∙ ap (λ (d : Command). old.entries ++ Kept (next_row (rows_of old.entries) desk.session d) ∷ []) (some_is ok.command c (sym ok.asked ∙ asked))
 appended faults request desk new_desk old new c (Err (DiskFault fault)) asked ok err = err.1
 appended faults request desk new_desk old new c (Err NoMemory) asked ok err = err.entries ∙ sym (append-nil old.entries)
 
 -- at most one entry, of the number of the session and 1
-pub at_most_one : (s : ℕ) (rows : List Row) (accepted : Option Command) (outcome : Outcome) (old new : List JournalEntry) → new ≡ old ++ added rows s accepted outcome
-    → (new ≡ old) ⊎ ((e : JournalEntry) × (new ≡ old ++ e ∷ []) × (number_of e ≡ s + 1))
+pub at_most_one : (s : ℕ) (rows : List Row) (accepted : Option Command) (outcome : Outcome) (old new : List JournalEntry) → new ≡ old ++ entries_added rows s accepted outcome
+    → (new ≡ old) ⊎ ((e : JournalEntry) × (new ≡ old ++ e ∷ []) × (entry_number e ≡ s + 1))
 at_most_one s rows None Answered old new is = inl (is ∙ append-nil old)
 at_most_one s rows None (DiskFailed from to) old new is = inl (is ∙ append-nil old)
 at_most_one s rows None OutOfMemory old new is = inl (is ∙ append-nil old)
@@ -109,7 +109,7 @@ at_most_one s rows (Some c) Forgotten old new is = inr (Kept (next_row rows s c)
 
 -- the session's history behind it
 pub history_in-behind : (s : ℕ) (log seen new : List JournalEntry) (c : Command) (outcome : Outcome) → IsJournal (rows_of log)
-    → Continues (IsForeign number_of ((s + 1) ∷ [])) log seen → new ≡ log ++ added (rows_of log) s (Some c) outcome
+    → Continues (IsForeign entry_number ((s + 1) ∷ [])) log seen → new ≡ log ++ entries_added (rows_of log) s (Some c) outcome
     → history_in new s ≡ history_met (history_in seen s) 0 (Some c) outcome
 history_in-behind s log seen new c outcome journal on is =
     ap (λ (es : List JournalEntry). history_in es s) is
@@ -118,8 +118,8 @@ history_in-behind s log seen new c outcome journal on is =
 
 -- it may be put back
 pub leaves : {D : Type 0} (v : View JournalEntry (Log D)) (s : ℕ) (old new : Log D) (accepted : Option Command) (outcome : Outcome) → v.seen ≡ old.entries → v.number ≡ s + 1
-    → tag_in (λ (log : Log D). log.opening) v.sample ≡ Some old.opening → new.opening ≡ old.opening → new.entries ≡ old.entries ++ added (rows_of old.entries) s accepted outcome
-    → MayLeave (λ (log : Log D). log.entries) number_of (λ (log : Log D). log.opening) v new
+    → tag_in (λ (log : Log D). log.opening) v.sample ≡ Some old.opening → new.opening ≡ old.opening → new.entries ≡ old.entries ++ entries_added (rows_of old.entries) s accepted outcome
+    → MayLeave (λ (log : Log D). log.entries) entry_number (λ (log : Log D). log.opening) v new
 leaves {D} v s old new accepted outcome saw number tagged opening is = (
   tagged ∙ ap Some (sym opening),
   ⊎_elim (λ e. inl (e ∙ sym saw))
@@ -129,12 +129,12 @@ leaves {D} v s old new accepted outcome saw number tagged opening is = (
 
 -- what a pass of the session finds is other sessions' alone
 pub others : {D : Type 0} (pass : Pass (Log D) JournalEntry) (s : ℕ) (log : List JournalEntry) → IsPassOf s pass
-    → Continues (IsForeign number_of (holds pass)) log (seen pass) → Continues (IsForeign number_of ((s + 1) ∷ [])) log (seen pass)
-others pass s log of on = subst (λ (numbers : List ℕ). Continues (IsForeign number_of numbers) log (seen pass)) of.only on
+    → Continues (IsForeign entry_number (pass_numbers pass)) log (seen pass) → Continues (IsForeign entry_number ((s + 1) ∷ [])) log (seen pass)
+others pass s log of on = subst (λ (numbers : List ℕ). Continues (IsForeign entry_number numbers) log (seen pass)) of.only on
 
 -- ---- a desk as it is opened
 
-pub history_in-kept : (rows : List Row) (s : ℕ) → history_in (kept rows) s ≡ map (entries.Accepted 0) (commands_of rows s)
+pub history_in-kept : (rows : List Row) (s : ℕ) → history_in (rows_kept rows) s ≡ map (entries.Accepted 0) (commands_of rows s)
 history_in-kept [] s = refl
 history_in-kept (r ∷ rows) s = rw (history_in-kept rows s) (front (r.session == s) r.command (commands_of rows s))
   where
@@ -155,13 +155,13 @@ pub rows-seen : {D : Type 0} (l : List Mark) (desk : DeskState) (pass : Pass (Lo
 rows-seen l desk pass w =
     sym (commands_in-history (seen pass) desk.session)
     ∙ ap commands_in (sym w.entries)
-    ∙ commands_in-unnumbered (woven l desk.commands)
+    ∙ commands_in-unnumbered (commands_woven l desk.commands)
     ∙ w.commands
 
 -- behind a commit
 marked_behind : {D : Type 0} (l m : List Mark) (by : ℕ) (old new : DeskState) (pass next : Pass (Log D) JournalEntry) (c : Command) (outcome : Outcome)
     → IsMarked l old pass → new.session ≡ old.session → count_commands m ≡ length new.commands
-    → woven m new.commands ≡ history_met (woven l old.commands) by (Some c) outcome → IsPassOf old.session next
+    → commands_woven m new.commands ≡ history_met (commands_woven l old.commands) by (Some c) outcome → IsPassOf old.session next
     → history_in (seen next) old.session ≡ history_met (history_in (seen pass) old.session) 0 (Some c) outcome
     → IsMarked m new next
 marked_behind l m by old new pass next c outcome w same many weaves of adds = record {
@@ -169,7 +169,7 @@ marked_behind l m by old new pass next c outcome w same many weaves of adds = re
   of_session = rw same of;
   commands = commands_in-woven m new.commands many;
   entries = ap (map unnumbered) weaves
-      ∙ unnumbered-met (woven l old.commands) by (Some c) outcome
+      ∙ unnumbered-met (commands_woven l old.commands) by (Some c) outcome
       ∙ ap (λ (h : List Entry). history_met h 0 (Some c) outcome) w.entries
       ∙ sym adds
       ∙ sym (ap (history_in (seen next)) same);
@@ -186,12 +186,12 @@ pub marked-by : {D T : Type 0} (l m : List Mark) (by : ℕ) (old new : DeskState
 marked-by l m by old new pass next c done is w ok err of adds =
     marked_behind l m by old new pass next c (met_by done) w (session_by done old new c ok err)
     (ap count_commands is ∙ count-by l done by old new c w.counted ok err)
-    (ap (λ (x : List Mark). woven x new.commands) is ∙ woven-by l done by old new c w.counted ok err) of adds
+    (ap (λ (x : List Mark). commands_woven x new.commands) is ∙ woven-by l done by old new c w.counted ok err) of adds
 
 -- as it is opened
 opened_marked : {D : Type 0} (l : List Mark) (s : ℕ) (stories : List Story) (budget : ℕ) (rows : List Row) (pass : Pass (Log D) JournalEntry)
-    → woven l (commands_of rows s) ≡ history_in (kept rows) s → count_commands l ≡ length (commands_of rows s) → IsPassOf s pass → seen pass ≡ kept rows
-    → IsMarked l (opened s stories budget (commands_of rows s)) pass
+    → commands_woven l (commands_of rows s) ≡ history_in (rows_kept rows) s → count_commands l ≡ length (commands_of rows s) → IsPassOf s pass → seen pass ≡ rows_kept rows
+    → IsMarked l (cold_desk s stories budget (commands_of rows s)) pass
 opened_marked l s stories budget rows pass weaves many of saw = record {
   counted = many;
   of_session = of;
@@ -202,17 +202,17 @@ opened_marked l s stories budget rows pass weaves many of saw = record {
 
 -- the history of a desk as it is opened
 pub marked-opened : {D : Type 0} (l : List Mark) (desk : DeskState) (s : ℕ) (stories : List Story) (budget : ℕ) (rows : List Row) (pass : Pass (Log D) JournalEntry)
-    → l ≡ replicate (length desk.commands) (marks.Accepted 0) → desk ≡ opened s stories budget (commands_of rows s) → IsPassOf s pass → seen pass ≡ kept rows
-    → IsMarked l desk pass × (woven l desk.commands ≡ history_in (kept rows) s)
+    → l ≡ replicate (length desk.commands) (marks.Accepted 0) → desk ≡ cold_desk s stories budget (commands_of rows s) → IsPassOf s pass → seen pass ≡ rows_kept rows
+    → IsMarked l desk pass × (commands_woven l desk.commands ≡ history_in (rows_kept rows) s)
 marked-opened l desk s stories budget rows pass is has of saw =
     let commands : desk.commands ≡ commands_of rows s = ap (λ (d : DeskState). d.commands) has in
     let many : count_commands l ≡ length (commands_of rows s) =
     ap count_commands is ∙ count-all (length desk.commands) 0 ∙ ap (λ (x : List Command). length x) commands in
-    let weaves : woven l (commands_of rows s) ≡ history_in (kept rows) s =
-    ap (λ (m : List Mark). woven m (commands_of rows s)) (is ∙ ap (λ (x : List Command). replicate (length x) (marks.Accepted 0)) commands)
+    let weaves : commands_woven l (commands_of rows s) ≡ history_in (rows_kept rows) s =
+    ap (λ (m : List Mark). commands_woven m (commands_of rows s)) (is ∙ ap (λ (x : List Command). replicate (length x) (marks.Accepted 0)) commands)
     ∙ woven-all (commands_of rows s) 0 ∙ sym (history_in-kept rows s) in (
       rw has (opened_marked l s stories budget rows pass weaves many of saw),
-      ap (λ (x : List Command). woven l x) commands ∙ weaves,
+      ap (λ (x : List Command). commands_woven l x) commands ∙ weaves,
     )
 
 -- ---- what a commit gives

@@ -2,7 +2,7 @@
 use Rattle.std.proofs.Common.{◌≡◌, ◌≢◌, inl, inr, ℕ, ◌+◌, Bool, true, false, List, [], ◌∷◌, ◌++◌, Option, Some, refl, sym, ap, subst, ◌∙◌}
 use Rattle.std.proofs.lemmas.List.{append-nil}
 use Rattle.turn_cell.specs.History.{Continues, IsForeign}
-use Rattle.gate_journal.specs.Log.{number_of}
+use Rattle.gate_journal.specs.Log.{entry_number}
 use Rattle.gate_journal.specs.declared.command.Command.{Command}
 use Rattle.gate_journal.specs.declared.entry.Entry.{Entry as JournalEntry}
 use Rattle.line_words.specs.declared.reply.No.TheVariants as no
@@ -24,19 +24,19 @@ use Rattle.session_core.proofs.TurningLemmas.{met_adds}
 use Rattle.session_desk.specs.declared.held.Held.{Held}
 use Rattle.session_desk.specs.declared.turned.Turned.{Turned}
 use Rattle.session_desk.specs.declared.verdict.Verdict.TheVariants.{Cold}
-use Rattle.session_desk.specs.Desk.{committed, DeskState, game, Holds, ran, shown_to}
-use Rattle.session_desk.specs.Laws.{answered}
+use Rattle.session_desk.specs.Desk.{committed, DeskState, game, HoldsOwnWorld, ran, shown_to}
+use Rattle.session_desk.specs.Laws.{decision_by_desk}
 use Rattle.session_desk.specs.Shared.{desk_tag, DeskTag, GoesOn, Rests, SharedState, TakesEntry, TurnsTo}
 use Rattle.session_desk.specs.Sound.{Decides, IsSoundDesk, TurnsBy}
 use Rattle.session_desk.specs.Verdict.{lacks_world, verdict}
 use Rattle.session_desk.proofs.LawLemmas.{cold_alone}
 use Rattle.session_desk.proofs.NowLemmas.{is_by}
-use Rattle.session_desk.specs.Turn.{IsQuiet, IsShown}
+use Rattle.session_desk.specs.Turn.{AcceptsNothing, IsShown}
 use Rattle.session_desk.proofs.TurnLemmas.{may_forget}
 
 -- ---- the reply and the history
 
-pub turns-quiet : (d : Decision) (by : ℕ) (h : List Entry) (t : Turned) → IsQuiet d t → TurnsTo d by h t h
+pub turns-quiet : (d : Decision) (by : ℕ) (h : List Entry) (t : Turned) → AcceptsNothing d t → TurnsTo d by h t h
 turns-quiet d by h t (inl e) = rw e (record { met = may_forget d.accepted; reply = refl; history = refl })
 turns-quiet d by h t (inr e) = rw (e.0, e.1) (record { met = tt; reply = refl; history = refl })
 
@@ -51,10 +51,10 @@ turns-failed d by from to h show c e = rw e (record { met = tt; reply = refl; hi
 
 -- ---- the journal
 
-rests : (s : ℕ) (old : List JournalEntry) → Continues (IsForeign number_of ((s + 1) ∷ [])) old old
+rests : (s : ℕ) (old : List JournalEntry) → Continues (IsForeign entry_number ((s + 1) ∷ [])) old old
 rests s old = ([], sym (append-nil old), tt)
 
-pub goes-quiet : (d : Decision) (s : ℕ) (old : List JournalEntry) (t : Turned) → IsQuiet d t → GoesOn s d.accepted t.outcome old old
+pub goes-quiet : (d : Decision) (s : ℕ) (old : List JournalEntry) (t : Turned) → AcceptsNothing d t → GoesOn s d.accepted t.outcome old old
 goes-quiet d s old t (inl e) = rw e (record { before = old; since = rests s old; adds = sym (append-nil old) })
 goes-quiet d s old t (inr e) = rw (e.0, e.1) (record { before = old; since = rests s old; adds = sym (append-nil old) })
 
@@ -78,22 +78,22 @@ lacks-not desk request warm = either (lacks_world desk request) refl
 
 pub decides-held : {D : Type 0} (tells : D → Bool) (seen_of : D → List ℕ) (request : Request) (old : SharedState D) (held : Held)
     → lacks_world (record old.desk { held = held }) request ≡ false
-    → (IsSoundDesk tells seen_of (desk_tag old) → Holds old.desk.stories (game old.desk) held)
-    → Decides tells seen_of request old (answered (record old.desk { held = held }) request)
+    → (IsSoundDesk tells seen_of (desk_tag old) → HoldsOwnWorld old.desk.stories (game old.desk) held)
+    → Decides tells seen_of request old (decision_by_desk (record old.desk { held = held }) request)
 decides-held tells seen_of request old held lacks holds =
     let b = is_by old.desk.stories old.desk.commands held request lacks in
     record { now = b.now; own = λ sound. b.own (holds sound); decides = b.same }
 
 pub decides-rested : {D : Type 0} (tells : D → Bool) (seen_of : D → List ℕ) (request : Request) (old new : SharedState D) → Rests old new
     → verdict new.desk request ≢ Cold
-    → (IsSoundDesk tells seen_of (desk_tag new) → Holds new.desk.stories (game new.desk) new.desk.held)
-    → Decides tells seen_of request old (answered new.desk request)
+    → (IsSoundDesk tells seen_of (desk_tag new) → HoldsOwnWorld new.desk.stories (game new.desk) new.desk.held)
+    → Decides tells seen_of request old (decision_by_desk new.desk request)
 decides-rested {D = D} tells seen_of request old new rests warm holds =
     let same = rests.desk in
-    subst (λ (d : DeskState). Decides tells seen_of request old (answered d request)) (sym same)
+    subst (λ (d : DeskState). Decides tells seen_of request old (decision_by_desk d request)) (sym same)
     (decides-held tells seen_of request old new.desk.held
     (subst (λ (d : DeskState). lacks_world d request ≡ false) same (lacks-not new.desk request warm))
-    (λ sound. subst (λ (d : DeskState). Holds d.stories (game d) d.held) same
+    (λ sound. subst (λ (d : DeskState). HoldsOwnWorld d.stories (game d) d.held) same
     (holds (subst (λ (t : DeskTag D). IsSoundDesk tells seen_of t) (sym rests.tag) sound))))
 
 -- memory may run out, whatever is decided
@@ -115,7 +115,7 @@ turns-by tells seen_of request by old new t d decides turns goes = record {
 
 -- a turn that makes the session accept nothing
 pub turns-by-quiet : {D : Type 0} (tells : D → Bool) (seen_of : D → List ℕ) (request : Request) (by : ℕ) (old new : SharedState D) (t : Turned)
-    → Rests old new → ((d : Decision) × Decides tells seen_of request old d × IsQuiet d t) → TurnsBy tells seen_of request by old t new
+    → Rests old new → ((d : Decision) × Decides tells seen_of request old d × AcceptsNothing d t) → TurnsBy tells seen_of request by old t new
 turns-by-quiet tells seen_of request by old new t rests (d, decides, quiet) =
     turns-by tells seen_of request by old new t d decides
     (subst (λ (h : List Entry). TurnsTo d by old.history t h) (sym rests.history) (turns-quiet d by old.history t quiet))
@@ -124,15 +124,15 @@ turns-by-quiet tells seen_of request by old new t rests (d, decides, quiet) =
 
 -- a turn of a command, behind the steps that leave the session
 pub turns-by-fresh : {D : Type 0} (tells : D → Bool) (seen_of : D → List ℕ) (request : Request) (by : ℕ) (old mid new : SharedState D) (t : Turned)
-    → Rests old mid → Decides tells seen_of request old (answered mid.desk request)
-    → TurnsTo (answered mid.desk request) by mid.history t new.history
-    → GoesOn mid.desk.session (answered mid.desk request).accepted t.outcome (seen mid.pass) (seen new.pass)
+    → Rests old mid → Decides tells seen_of request old (decision_by_desk mid.desk request)
+    → TurnsTo (decision_by_desk mid.desk request) by mid.history t new.history
+    → GoesOn mid.desk.session (decision_by_desk mid.desk request).accepted t.outcome (seen mid.pass) (seen new.pass)
     → TurnsBy tells seen_of request by old t new
 turns-by-fresh tells seen_of request by old mid new t rests decides turns goes =
-    turns-by tells seen_of request by old new t (answered mid.desk request) decides
-    (subst (λ (h : List Entry). TurnsTo (answered mid.desk request) by h t new.history) rests.history turns)
-    (subst (λ (es : List JournalEntry). GoesOn old.desk.session (answered mid.desk request).accepted t.outcome es (seen new.pass)) (ap seen rests.pass)
-    (subst (λ (s : ℕ). GoesOn s (answered mid.desk request).accepted t.outcome (seen mid.pass) (seen new.pass)) (ap (λ (d : DeskState). d.session) rests.desk) goes))
+    turns-by tells seen_of request by old new t (decision_by_desk mid.desk request) decides
+    (subst (λ (h : List Entry). TurnsTo (decision_by_desk mid.desk request) by h t new.history) rests.history turns)
+    (subst (λ (es : List JournalEntry). GoesOn old.desk.session (decision_by_desk mid.desk request).accepted t.outcome es (seen new.pass)) (ap seen rests.pass)
+    (subst (λ (s : ℕ). GoesOn s (decision_by_desk mid.desk request).accepted t.outcome (seen mid.pass) (seen new.pass)) (ap (λ (d : DeskState). d.session) rests.desk) goes))
 
 pub turns-by-add : {D : Type 0} (tells : D → Bool) (seen_of : D → List ℕ) (request : Request) (by : ℕ) (old new : SharedState D) (t : Turned)
     → TurnsBy tells seen_of request by old t new → AddsTo old.history by new.history
@@ -145,13 +145,13 @@ turns-by-add tells seen_of request by old new t turns =
 -- what a fresh request is answered, by the desk that has run its command
 abbrev pub AnswersFresh : DeskState → Request → Type 0
 AnswersFresh desk request =
-    (c : Command) × (command_of desk.stories request ≡ Some c) × (answered desk request ≡ record { reply = shown_to (ran (committed desk c)) request; accepted = Some c })
+    (c : Command) × (command_of desk.stories request ≡ Some c) × (decision_by_desk desk request ≡ record { reply = shown_to (ran (committed desk c)) request; accepted = Some c })
 
 same_command : (stories : List Story) (request : Request) (c d : Command) → command_of stories request ≡ Some c → command_of stories request ≡ Some d → c ≡ d
 same_command stories request c d e f = some_is c d (sym e ∙ f)
 
 pub fresh-shown : {D : Type 0} (request : Request) (by : ℕ) (old mid new : SharedState D) (t : Turned) → AnswersFresh old.desk request → TakesEntry request by old mid
-    → IsShown (shown_to (ran mid.desk) request) t → Rests mid new → TurnsTo (answered old.desk request) by old.history t new.history
+    → IsShown (shown_to (ran mid.desk) request) t → Rests mid new → TurnsTo (decision_by_desk old.desk request) by old.history t new.history
 fresh-shown request by old mid new t f takes shown rests =
     let same : f.0 ≡ takes.command = same_command old.desk.stories request f.0 takes.command f.1 takes.asked in
     let is : IsShown (shown_to (ran (committed old.desk f.0)) request) t =
@@ -159,14 +159,14 @@ fresh-shown request by old mid new t f takes shown rests =
     (subst (λ (d : DeskState). IsShown (shown_to (ran d) request) t) takes.taken shown) in
     let history : new.history ≡ old.history ++ entries.Accepted by f.0 ∷ [] =
     rests.history ∙ takes.entry ∙ ap (λ (c : Command). old.history ++ entries.Accepted by c ∷ []) (sym same) in
-    subst (λ (h : List Entry). TurnsTo (answered old.desk request) by old.history t h) (sym history)
-    (turns-shown (answered old.desk request) by old.history t (shown_to (ran (committed old.desk f.0)) request) f.0 f.2 is)
+    subst (λ (h : List Entry). TurnsTo (decision_by_desk old.desk request) by old.history t h) (sym history)
+    (turns-shown (decision_by_desk old.desk request) by old.history t (shown_to (ran (committed old.desk f.0)) request) f.0 f.2 is)
 
 pub fresh-goes : {D : Type 0} (request : Request) (by : ℕ) (old mid new : SharedState D) (t : Turned) → AnswersFresh old.desk request
     → ((c : Command) → command_of old.desk.stories request ≡ Some c → GoesOn old.desk.session (Some c) Answered (seen old.pass) (seen mid.pass))
     → IsShown (shown_to (ran mid.desk) request) t → Rests mid new
-    → GoesOn old.desk.session (answered old.desk request).accepted t.outcome (seen old.pass) (seen new.pass)
+    → GoesOn old.desk.session (decision_by_desk old.desk request).accepted t.outcome (seen old.pass) (seen new.pass)
 fresh-goes request by old mid new t f goes shown rests =
-    subst (λ (es : List JournalEntry). GoesOn old.desk.session (answered old.desk request).accepted t.outcome (seen old.pass) es) (sym (ap seen rests.pass))
-    (goes-shown old.desk.session (answered old.desk request).accepted (seen old.pass) (seen mid.pass) t (shown_to (ran mid.desk) request) f.0
+    subst (λ (es : List JournalEntry). GoesOn old.desk.session (decision_by_desk old.desk request).accepted t.outcome (seen old.pass) es) (sym (ap seen rests.pass))
+    (goes-shown old.desk.session (decision_by_desk old.desk request).accepted (seen old.pass) (seen mid.pass) t (shown_to (ran mid.desk) request) f.0
     (ap (λ (d : Decision). d.accepted) f.2) shown (goes f.0 f.1))

@@ -8,7 +8,8 @@ use Rattle.disk_model.specs.Disk.{EachImage, OnlyLooks, SameDisk}
 use Rattle.turn_cell.specs.declared.pass.Pass.{Pass}
 use Rattle.turn_cell.specs.Passes.{seen}
 use Rattle.glk_input.specs.declared.input.Input.{Input}
-use Rattle.gate_journal.specs.Log.{kept, Log, rows_of}
+use Rattle.gate_journal.specs.Rows.{is_open}
+use Rattle.gate_journal.specs.Log.{rows_kept, Log, rows_of}
 use Rattle.gate_journal.specs.Rows.{commands_of}
 use Rattle.gate_journal.specs.declared.command.Command.{Command}
 use Rattle.gate_journal.specs.declared.command.Command.TheVariants as commands
@@ -20,15 +21,15 @@ use Rattle.story_run.specs.declared.story.Story.{Story}
 use Rattle.story_run.specs.World.{WorldState}
 use Rattle.session_core.specs.declared.entry.Entry.{Entry}
 use Rattle.session_core.specs.Checks.{command_of}
-use Rattle.session_core.specs.History.{game_of, input_of, is_in_use, is_open, has_key, world_of, story_at}
+use Rattle.session_core.specs.History.{game_of, input_of, is_in_use, has_key, world_of, story_at}
 use Rattle.session_core.specs.Answer.{plain_checks}
 use Rattle.session_core.proofs.RepeatLemmas.{all_fail, joined, game_of-append, game_of-append-open, some_is}
-use Rattle.snap_store.specs.Store.{IsImageOf, Snapshots, area_of}
+use Rattle.snap_store.specs.Store.{IsImageOf, Snapshots, store_area}
 use Rattle.snap_store.specs.declared.side.Side.{Side}
 use Rattle.session_saves.specs.Agreement.{IsAgreed, last_row, opens_of}
 use Rattle.session_saves.specs.Game.{inputs_of}
 use Rattle.session_saves.specs.Saves as own
-use Rattle.session_saves.specs.Saves.{IsCounted, IsKeptUp, SavesState, is_due}
+use Rattle.session_saves.specs.Saves.{IsMissCounted, IsKeptUp, SavesState, is_due}
 use Rattle.session_saves.proofs.AgreementLemmas.{more_commands, new_opens}
 use Rattle.session_saves.proofs.KeptUpLemmas.{stays_kept_up}
 use Rattle.session_desk.specs.declared.held.Held.{Held}
@@ -37,9 +38,9 @@ use Rattle.session_desk.specs.declared.refused.Refused.{Refused}
 use Rattle.session_desk.specs.declared.shared.mark.Mark.{Mark}
 use Rattle.session_desk.specs.declared.shared.mark.Mark.TheVariants as marks
 use Rattle.session_desk.specs.declared.verdict.Verdict.TheVariants.{Fresh}
-use Rattle.session_desk.specs.Desk.{committed, DeskState, emptied, game, Holds, opened, ran, world_now}
+use Rattle.session_desk.specs.Desk.{committed, DeskState, desk_emptied, game, HoldsOwnWorld, cold_desk, ran, world_now}
 use Rattle.session_desk.specs.Keeping as keeping
-use Rattle.session_desk.specs.Marks.{woven}
+use Rattle.session_desk.specs.Marks.{commands_woven}
 use Rattle.session_desk.specs.Opens.{opens_behind, OpensBy, row_behind}
 use Rattle.session_desk.specs.Shared.{as_opened, desk_tag, IsMarked, IsPassOf, SharedState}
 use Rattle.session_desk.specs.Turn.{history_in}
@@ -95,7 +96,7 @@ abbrev IsDone : {D : Type 0} → SavesState D → List ℕ → List Command → 
 IsDone saves places g c =
     (input_of c ≡ None) ⊎ ((place : ℕ) → last_row places ≡ Some place → is_due saves place (length (inputs_of g)) ≡ false)
 
-kept-more : {D : Type 0} (saves : SavesState D) (places : List ℕ) (g : List Command) (c : Command) (given : Option Input) → IsCounted saves.missed saves.last
+kept-more : {D : Type 0} (saves : SavesState D) (places : List ℕ) (g : List Command) (c : Command) (given : Option Input) → IsMissCounted saves.missed saves.last
     → input_of c ≡ given → IsDone saves places g c → IsKeptAt saves places g → IsKeptAt saves places (g ++ c ∷ [])
 kept-more saves places g c None counted e done kept place last =
     let same : length (inputs_of (g ++ c ∷ [])) ≡ length (inputs_of g) =
@@ -110,7 +111,7 @@ kept-more saves places g c (Some x) counted e done kept place last =
     subst (λ (n : ℕ). IsKeptUp place n saves.store.slots saves.missed) (sym more)
     (stays_kept_up.goes_on saves.store.slots saves.missed saves.last place (length (inputs_of g)) counted due (kept place last))
 
-kept-joined : {D : Type 0} (saves : SavesState D) (places : List ℕ) (g : List Command) (c : Command) → IsCounted saves.missed saves.last
+kept-joined : {D : Type 0} (saves : SavesState D) (places : List ℕ) (g : List Command) (c : Command) → IsMissCounted saves.missed saves.last
     → IsDone saves places g c → IsKeptAt saves places g → IsKeptAt saves places (joined g c)
 kept-joined saves places [] c counted done kept = kept
 kept-joined saves places (d ∷ ds) c counted done kept = kept-more saves places (d ∷ ds) c (input_of c) counted refl done kept
@@ -118,7 +119,7 @@ kept-joined saves places (d ∷ ds) c counted done kept = kept-more saves places
 none_since : (c : Command) → is_open c ≡ true → length (inputs_of (c ∷ [])) ≤ 16
 none_since c opens = let none = ap (λ (l : List Input). length l) (open_input c opens) in omega (arith, none)
 
-kept-behind : {D : Type 0} (saves : SavesState D) (places : List ℕ) (history : List Command) (c : Command) (row : ℕ) (opens : Bool) → IsCounted saves.missed saves.last
+kept-behind : {D : Type 0} (saves : SavesState D) (places : List ℕ) (history : List Command) (c : Command) (row : ℕ) (opens : Bool) → IsMissCounted saves.missed saves.last
     → is_open c ≡ opens → IsDone saves places (game_of history) c → IsKeptAt saves places (game_of history)
     → IsKeptAt saves (cond opens (places ++ row ∷ []) places) (game_of (history ++ c ∷ []))
 kept-behind saves places history c row true counted e done before = λ place last.
@@ -184,7 +185,7 @@ not_past old new e = omega (arith, e)
 some_row : (p row : ℕ) → Some p ≡ Some row → p ≡ row
 some_row p row e = cc
 
-rows_of-kept : (rows : List Row) → rows_of (kept rows) ≡ rows
+rows_of-kept : (rows : List Row) → rows_of (rows_kept rows) ≡ rows
 rows_of-kept [] = refl
 rows_of-kept (r ∷ rows) = ap (λ (x : List Row). r ∷ x) (rows_of-kept rows)
 
@@ -226,7 +227,7 @@ module _ {D : Type 0} (tells : D → Bool) (seen_of : D → List ℕ) (room labe
 
   pub whole-rested : (l : List Mark) (place : Option ℕ) (old : SharedState D) (held : Held) (saves : SavesState D) → Whole l place old
       → IsSameStore tells room label faults reach old.store saves.store
-      → (IsSoundDesk tells seen_of (desk_tag old) → Holds old.desk.stories (game old.desk) held)
+      → (IsSoundDesk tells seen_of (desk_tag old) → HoldsOwnWorld old.desk.stories (game old.desk) held)
       → (IsSoundDesk tells seen_of (desk_tag old) → IsAgreed seen_of old.desk.stories (open_rows old) (game old.desk) saves.store)
       → AreKeptUp (rested old held saves)
       → Whole l place (rested old held saves)
@@ -239,16 +240,16 @@ module _ {D : Type 0} (tells : D → Bool) (seen_of : D → List ℕ) (room labe
   }
 
   -- as the last command is run
-  whole-held : (l : List Mark) (place : Option ℕ) (old : SharedState D) (desk : DeskState) (held : Held) → Whole l place old → old.history ≡ woven l old.desk.commands
-      → desk ≡ record old.desk { held = held } → (IsSoundDesk tells seen_of (desk_tag old) → Holds old.desk.stories (game old.desk) held)
-      → Whole l place (record old { desk = desk; history = woven l desk.commands })
+  whole-held : (l : List Mark) (place : Option ℕ) (old : SharedState D) (desk : DeskState) (held : Held) → Whole l place old → old.history ≡ commands_woven l old.desk.commands
+      → desk ≡ record old.desk { held = held } → (IsSoundDesk tells seen_of (desk_tag old) → HoldsOwnWorld old.desk.stories (game old.desk) held)
+      → Whole l place (record old { desk = desk; history = commands_woven l desk.commands })
   whole-held l place old desk held w weaves is holds =
       rw is (subst (λ (h : List Entry). Whole l place (record old { desk = record old.desk { held = held }; history = h })) weaves
       (whole-rested l place old held old.saves w w.store holds (λ sound. (w.own sound).agreed) w.kept_up))
 
   pub whole-run : {T E : Type 0} (l : List Mark) (place : Option ℕ) (old : SharedState D) (desk : DeskState) (done : Result T E) → Whole l place old
-      → old.history ≡ woven l old.desk.commands
-      → OnOk done (desk ≡ ran old.desk) → OnErr done (desk ≡ emptied old.desk) → Whole l place (record old { desk = desk; history = woven l desk.commands })
+      → old.history ≡ commands_woven l old.desk.commands
+      → OnOk done (desk ≡ ran old.desk) → OnErr done (desk ≡ desk_emptied old.desk) → Whole l place (record old { desk = desk; history = commands_woven l desk.commands })
   whole-run l place old desk (Ok x) w weaves ok err =
       whole-held l place old desk (ran old.desk).held w weaves ok (λ sound. holds-then old.desk.stories (game old.desk) old.desk.held (w.own sound).holds)
   whole-run l place old desk (Err e) w weaves ok err = whole-held l place old desk Nothing w weaves err (λ sound. tt)
@@ -258,8 +259,8 @@ module _ {D : Type 0} (tells : D → Bool) (seen_of : D → List ℕ) (room labe
       (done : Result ℕ Refused) → Whole l place old → IsMarked m desk pass
       → OnOk done (desk ≡ committed old.desk c) → OnErr done (desk ≡ old.desk)
       → OpensBy old.desk.session c done (seen old.pass) (seen pass) → command_of old.desk.stories request ≡ Some c
-      → verdict old.desk request ≡ Fresh → keeping.due old ≡ false → IsCounted old.saves.missed old.saves.last
-      → Whole m (row_behind place request done) (record old { desk = desk; history = woven m desk.commands; pass = pass })
+      → verdict old.desk request ≡ Fresh → keeping.snapshot_due old ≡ false → IsMissCounted old.saves.missed old.saves.last
+      → Whole m (row_behind place request done) (record old { desk = desk; history = commands_woven m desk.commands; pass = pass })
   whole-committed l m place old desk pass request c (Ok row) w marked ok err opens asked fresh due counted =
       let places = open_rows old in
       let session : desk.session ≡ old.desk.session = ap (λ (d : DeskState). d.session) ok in
@@ -294,9 +295,9 @@ module _ {D : Type 0} (tells : D → Bool) (seen_of : D → List ℕ) (room labe
       (l : List Mark) (place : Option ℕ) (old : SharedState D) (held : Held) (saves : SavesState D) → Whole l place old
       → OnlyLooks tells may_leave moment left_since reach room label old.saves.store.disk saves.store.disk
       → faults old.saves.store.disk ≤ faults saves.store.disk
-      → ((side : Side) → IsTrue (tells old.saves.store.disk) → area_of seen_of saves.store side ≡ area_of seen_of old.saves.store side)
+      → ((side : Side) → IsTrue (tells old.saves.store.disk) → store_area seen_of saves.store side ≡ store_area seen_of old.saves.store side)
       → saves.store.made ≡ old.saves.store.made → saves.store.slots ≡ old.saves.store.slots → saves.missed ≡ old.saves.missed
-      → (IsSoundDesk tells seen_of (desk_tag old) → Holds old.desk.stories (game old.desk) held)
+      → (IsSoundDesk tells seen_of (desk_tag old) → HoldsOwnWorld old.desk.stories (game old.desk) held)
       → Whole l place (rested old held saves)
   whole-looked may_leave moment left_since l place old held saves w looks counts areas made slots missed holds =
       whole-rested l place old held saves w
@@ -330,7 +331,7 @@ module _ {D : Type 0} (tells : D → Bool) (seen_of : D → List ℕ) (room labe
 
   -- as a desk was opened
   pub whole-opened : (l : List Mark) (s : ℕ) (stories : List Story) (budget : ℕ) (rows : List Row) (pass : Pass (Log D) JournalEntry) (store : Snapshots D)
-      → IsMarked l (opened s stories budget (commands_of rows s)) pass → seen pass ≡ kept rows
+      → IsMarked l (cold_desk s stories budget (commands_of rows s)) pass → seen pass ≡ rows_kept rows
       → Whole l (last_row (opens_of rows s)) (as_opened s stories budget rows pass store)
   whole-opened l s stories budget rows pass store marked saw =
       let same : rows_of (seen pass) ≡ rows = ap rows_of saw ∙ rows_of-kept rows in
@@ -352,14 +353,14 @@ module _ {D : Type 0} (tells : D → Bool) (seen_of : D → List ℕ) (room labe
 
   pub whole-open : (l : List Mark) (place : Option ℕ) (desk : DeskState) (s : ℕ) (stories : List Story) (budget : ℕ) (rows : List Row) (pass : Pass (Log D) JournalEntry)
       (saves : SavesState D) (given : Snapshots D) (first : Pass (Log D) JournalEntry) (store : Snapshots D)
-      → l ≡ replicate (length desk.commands) (marks.Accepted 0) → desk ≡ opened s stories budget (commands_of rows s) → IsPassOf s pass → seen pass ≡ kept rows
-      → place ≡ last_row (opens_of rows s) → saves ≡ own.opened store → given ≡ store → first ≡ pass
-      → Whole l place (state desk (woven l desk.commands) pass saves given (rows_of (seen first)))
-      × (state desk (woven l desk.commands) pass saves given (rows_of (seen first)) ≡ as_opened s stories budget rows pass store)
+      → l ≡ replicate (length desk.commands) (marks.Accepted 0) → desk ≡ cold_desk s stories budget (commands_of rows s) → IsPassOf s pass → seen pass ≡ rows_kept rows
+      → place ≡ last_row (opens_of rows s) → saves ≡ own.saves_of_opened_store store → given ≡ store → first ≡ pass
+      → Whole l place (state desk (commands_woven l desk.commands) pass saves given (rows_of (seen first)))
+      × (state desk (commands_woven l desk.commands) pass saves given (rows_of (seen first)) ≡ as_opened s stories budget rows pass store)
   whole-open l place desk s stories budget rows pass saves given first store all has of saw at clear is was =
       let m = marked-opened l desk s stories budget rows pass all has of saw in
-      let same : state desk (woven l desk.commands) pass saves given (rows_of (seen first)) ≡ as_opened s stories budget rows pass store =
-      same_state desk (opened s stories budget (commands_of rows s)) (woven l desk.commands) (history_in (kept rows) s) pass saves (own.opened store) given store (rows_of (seen first)) rows
+      let same : state desk (commands_woven l desk.commands) pass saves given (rows_of (seen first)) ≡ as_opened s stories budget rows pass store =
+      same_state desk (cold_desk s stories budget (commands_of rows s)) (commands_woven l desk.commands) (history_in (rows_kept rows) s) pass saves (own.saves_of_opened_store store) given store (rows_of (seen first)) rows
       has m.1 clear is (ap (λ (p : Pass (Log D) JournalEntry). rows_of (seen p)) was ∙ ap rows_of saw ∙ rows_of-kept rows) in (
         subst (λ (x : SharedState D). Whole l place x) (sym same)
             (subst (λ (o : Option ℕ). Whole l o (as_opened s stories budget rows pass store)) (sym at)

@@ -9,14 +9,14 @@ use Rattle.line_words.specs.declared.request.Request.TheVariants.{Open, Line, Ch
 use Rattle.story_run.specs.declared.setup.Setup.{Setup}
 use Rattle.story_run.specs.declared.story.Story.{Story}
 use Rattle.story_run.specs.World.{WorldState}
-use Rattle.session_core.specs.History.{count, game_of, goes_on, has_key, is_in_use, last_of, story_at, world_in, world_of}
-use Rattle.session_core.specs.Checks.{command_of, is_last, is_other_story, opened}
-use Rattle.session_core.specs.Answer.{accepted_by, first_of, plain_checks}
+use Rattle.session_core.specs.History.{command_count, game_of, game_goes_on, has_key, is_in_use, last_of, story_at, world_in, world_of}
+use Rattle.session_core.specs.Checks.{command_of, is_last, is_other_story, opening_command}
+use Rattle.session_core.specs.Answer.{accepted_by, first_refusal, plain_checks}
 use Rattle.session_core.proofs.RepeatLemmas.{all_fail, joined, game_of-append, game_of-append-open, last_of-joined, some_is}
 use Rattle.session_desk.specs.declared.held.Held.{Held}
 use Rattle.session_desk.specs.declared.held.Held.TheVariants.{Nothing, Current, Previous}
 use Rattle.session_desk.specs.declared.verdict.Verdict.TheVariants.{Again, Fresh, Cold}
-use Rattle.session_desk.specs.Desk.{DeskState, aside, game, held_then, holding, world_now}
+use Rattle.session_desk.specs.Desk.{DeskState, aside, game, held_then, world_held, world_now}
 use Rattle.session_desk.specs.Verdict.{is_to_story, needs_world, verdict}
 use Rattle.session_desk.specs.Laws.{StaysWarm}
 use Rattle.session_desk.proofs.LawLemmas.{accepts, cold_alone, held_now, knows, opens, repeats}
@@ -28,7 +28,7 @@ left_false : (x y : Bool) → (x && y) ≡ false → x ≡ true → y ≡ false
 left_false true y e x = e
 left_false false y e x = absurd cc
 
-unchanged : (stories : List Story) (g : List Command) (request : Request) → first_of (plain_checks stories g request) ≡ None → is_to_story g request ≡ true
+unchanged : (stories : List Story) (g : List Command) (request : Request) → first_refusal (plain_checks stories g request) ≡ None → is_to_story g request ≡ true
     → is_other_story stories g ≡ false
 unchanged stories g (Open s key story seed cols rows budget) none asks =
     let fails = all_fail (plain_checks stories g (Open s key story seed cols rows budget)) none in
@@ -46,8 +46,8 @@ none_is (Some x) e = absurd cc
 may_warm : (desk : DeskState) (request : Request) → verdict desk request ≡ Cold → is_other_story desk.stories (game desk) ≡ false
 may_warm desk request e =
     let lacks = both_hold (needs_world desk.stories (game desk) request) (is_none (world_now desk.held)) ((cold_alone desk request).0 e) in
-    let needs = both_hold (is_none (first_of (plain_checks desk.stories (game desk) request))) (is_to_story (game desk) request) lacks.0 in
-    unchanged desk.stories (game desk) request (none_is (first_of (plain_checks desk.stories (game desk) request)) needs.0) needs.1
+    let needs = both_hold (is_none (first_refusal (plain_checks desk.stories (game desk) request))) (is_to_story (game desk) request) lacks.0 in
+    unchanged desk.stories (game desk) request (none_is (first_refusal (plain_checks desk.stories (game desk) request)) needs.0) needs.1
 
 -- ---- once a command was run
 
@@ -65,18 +65,18 @@ input_run stories g c Nothing sets held = absurd cc
 input_run stories g c (Previous w) sets held = absurd cc
 input_run stories g c (Current w) sets held = rw (sets w) (holds_world (is_in_use g))
 
-begun_run : (used : Bool) (now : Option WorldState) → is_none now ≡ false → (used && is_none (world_now (cond used (holding now) Nothing))) ≡ false
+begun_run : (used : Bool) (now : Option WorldState) → is_none now ≡ false → (used && is_none (world_now (cond used (world_held now) Nothing))) ≡ false
 begun_run true None some = absurd cc
 begun_run true (Some w) some = refl
 begun_run false now some = refl
 
 found_world : (found : Option Story) (setup : Setup) (after : List Command) (key : List ℕ) (story seed cols rows budget : ℕ) (c : Command)
-    → opened found (λ digest. commands.Open key story digest seed cols rows budget) ≡ Some c → is_none (world_in found setup after) ≡ false
+    → opening_command found (λ digest. commands.Open key story digest seed cols rows budget) ≡ Some c → is_none (world_in found setup after) ≡ false
 found_world None setup after key story seed cols rows budget c e = absurd cc
 found_world (Some there) setup after key story seed cols rows budget c e = refl
 
 open_run : (stories : List Story) (history : List Command) (held : Held) (key : List ℕ) (story seed cols rows budget : ℕ) (c : Command)
-    → opened (story_at stories story) (λ digest. commands.Open key story digest seed cols rows budget) ≡ Some c
+    → opening_command (story_at stories story) (λ digest. commands.Open key story digest seed cols rows budget) ≡ Some c
     → IsWarmWith (game_of (history ++ c ∷ [])) (held_then stories (game_of (history ++ c ∷ [])) (aside c held))
 open_run stories history held key story seed cols rows budget c e =
     let it = opens (story_at stories story) key story seed cols rows budget c e in
@@ -89,7 +89,7 @@ closed_free : (g : List Command) → is_in_use (joined g commands.Close) ≡ fal
 closed_free [] = refl
 closed_free (d ∷ ds) = rw (last_of-joined d ds commands.Close) refl
 
-after_run : (desk : DeskState) (request : Request) (c : Command) → verdict desk request ≡ Fresh → first_of (plain_checks desk.stories (game desk) request) ≡ None
+after_run : (desk : DeskState) (request : Request) (c : Command) → verdict desk request ≡ Fresh → first_refusal (plain_checks desk.stories (game desk) request) ≡ None
     → command_of desk.stories request ≡ Some c
     → IsWarmWith (game_of (desk.commands ++ c ∷ [])) (held_then desk.stories (game_of (desk.commands ++ c ∷ [])) (aside c desk.held))
 after_run desk (Open s key story seed cols rows budget) c v none e = open_run desk.stories desk.commands desk.held key story seed cols rows budget c e
@@ -111,7 +111,7 @@ after_run desk (Close s key n) c v none e =
 
 -- ---- where the last show is given again
 
-last_closes : (o : Option Command) (s : ℕ) (key : List ℕ) (n : ℕ) → is_last o (Close s key n) ≡ true → goes_on o ≡ false
+last_closes : (o : Option Command) (s : ℕ) (key : List ℕ) (n : ℕ) → is_last o (Close s key n) ≡ true → game_goes_on o ≡ false
 last_closes None s key n e = refl
 last_closes (Some (commands.Open k story digest seed cols rows budget)) s key n e = absurd cc
 last_closes (Some (commands.Line win term text)) s key n e = absurd cc
@@ -132,14 +132,14 @@ the_last : (n c : ℕ) → nat_lt n c ≡ false → nat_lt (c + 1) n ≡ false �
 the_last n c early ahead fresh = grind (arith, nat_tests, early, ahead, fresh)
 
 -- a CLOSE that is given again has closed the session
-pub closed_again : (stories : List Story) (g : List Command) (s : ℕ) (key : List ℕ) (n : ℕ) → first_of (plain_checks stories g (Close s key n)) ≡ None
+pub closed_again : (stories : List Story) (g : List Command) (s : ℕ) (key : List ℕ) (n : ℕ) → first_refusal (plain_checks stories g (Close s key n)) ≡ None
     → accepted_by stories g (Close s key n) ≡ None → is_in_use g ≡ false
 unfolding accepted_by
 closed_again stories g s key n none accepted =
     let fails = all_fail (plain_checks stories g (Close s key n)) none in
-    let fresh = not_taken (n == count g + 1) commands.Close accepted in
-    let last = the_last n (count g) fails.1.1.1.1.0 fails.1.1.1.1.1.1.0 fresh in
-    last_closes (last_of g) s key n (left_true (n == count g) (is_last (last_of g) (Close s key n)) fails.1.1.1.1.1.0 last)
+    let fresh = not_taken (n == command_count g + 1) commands.Close accepted in
+    let last = the_last n (command_count g) fails.1.1.1.1.0 fails.1.1.1.1.1.1.0 fresh in
+    last_closes (last_of g) s key n (left_true (n == command_count g) (is_last (last_of g) (Close s key n)) fails.1.1.1.1.1.0 last)
 
 held_by : (checks : Option No) (used none : Bool) → checks ≡ None → ((is_none checks && (used && true)) && none) ≡ false → (used && none) ≡ false
 held_by None true none e held = held

@@ -29,11 +29,6 @@ IsInRange (File s key n name) = IsCommand (commands.File name)
 IsInRange (Last s key) = Unit {0}
 IsInRange (Close s key n) = Unit {0}
 
--- an OPEN has a digest of 32 bytes
-abbrev pub HasDigest : Command → Type 0
-HasDigest (commands.Open key story digest seed cols rows budget) = length digest ≡ 32
-HasDigest command = Unit {0}
-
 -- the desk's commands are the journal's rows of its session
 abbrev pub IsKept : {D : Type 0} → DeskState → Log D → Type 0
 IsKept desk log = commands_of (rows_of log.entries) desk.session ≡ desk.commands
@@ -59,11 +54,11 @@ pub record Commits
   pub certain : new_log.uncertain ≡ None
 
 -- what a refusal leaves of the journal: its disk's fault as an entry, or all as before
-abbrev pub Leaves : {D : Type 0} → (D → ℕ) → ℕ → Log D → Log D → Refused → Type 0
-Leaves faults session old new (DiskFault fault) =
+abbrev pub RefusalLeaves : {D : Type 0} → (D → ℕ) → ℕ → Log D → Log D → Refused → Type 0
+RefusalLeaves faults session old new (DiskFault fault) =
     IsFault fault (faults old.disk) (faults new.disk)
     × (new.entries ≡ old.entries ++ Faulted (session + 1) fault.from fault.to ∷ [])
-Leaves faults session old new NoMemory = SameLog old new
+RefusalLeaves faults session old new NoMemory = SameLog old new
 
 -- where the disk failed the closing gate was left as it was, or closed, or had its write begun, and
 -- then the new row stands behind an uncertain gate
@@ -82,11 +77,11 @@ WhereBegun (Err NoMemory) P = Unit {0}
 
 -- Meanwhile a stop leaves the rows from before alone, or these and the uncertain one, or these and
 -- the new one.
-abbrev pub Stops :
+abbrev pub StopLeaves :
     {D : Type 0}
     → (D → Bool) → (D → ℕ) → (D → ℕ → List ℕ → Type 0)
     → ℕ → Command → Log D → Log D → Type 0
-Stops tells moment left_since session command old new =
+StopLeaves tells moment left_since session command old new =
     IsTrue (tells old.disk)
     → LeavesOnly moment left_since old.disk new.disk
     (Meanwhile (rows_of old.entries) old.uncertain

@@ -10,7 +10,7 @@ use Rattle.line_words.specs.declared.reply.Reply.TheVariants as replies
 use Rattle.story_run.specs.declared.story.Story.{Story}
 use Rattle.story_run.specs.World.{WorldState}
 use Rattle.session_core.specs.History.{game_of, is_in_use, last_of, turned_on, world_of}
-use Rattle.session_core.specs.Checks.{given, session_of}
+use Rattle.session_core.specs.Checks.{input_given, session_of}
 use Rattle.session_core.specs.Answer.{show_while, shown_number}
 use Rattle.session_desk.specs.declared.held.Held.{Held}
 use Rattle.session_desk.specs.declared.held.Held.TheVariants.{Nothing, Current, Previous}
@@ -25,8 +25,8 @@ pub record DeskState : Type 0 where
   pub held : Held
 
 -- a desk with these commands that holds no world
-abbrev pub opened : ℕ → List Story → ℕ → List Command → DeskState
-opened session stories budget commands = record {
+abbrev pub cold_desk : ℕ → List Story → ℕ → List Command → DeskState
+cold_desk session stories budget commands = record {
   session = session;
   stories = stories;
   budget = budget;
@@ -62,30 +62,30 @@ pub record IsDesk (desk : DeskState) : Type 0 where
 
 -- The world that is held is the session's own: the one that the game has come to, or the one that
 -- its last command turns into that.
-abbrev pub Holds : List Story → List Command → Held → Type 0
-Holds stories game Nothing = Unit {0}
-Holds stories game (Current world) = world_of stories game ≡ Some world
-Holds stories game (Previous world) =
-    world_of stories game ≡ Some (turned_on world (given (last_of game)))
+abbrev pub HoldsOwnWorld : List Story → List Command → Held → Type 0
+HoldsOwnWorld stories game Nothing = Unit {0}
+HoldsOwnWorld stories game (Current world) = world_of stories game ≡ Some world
+HoldsOwnWorld stories game (Previous world) =
+    world_of stories game ≡ Some (turned_on world (input_given (last_of game)))
 
 -- the last game begins at this place, or at the end where there is none
 abbrev pub BeginsAt : ℕ → List Command → Type 0
 BeginsAt place commands = (place ≤ length commands) × (drop place commands ≡ game_of commands)
 
 -- this world is held, if there is one
-abbrev pub holding : Option WorldState → Held
-holding (Some world) = Current world
-holding None = Nothing
+abbrev pub world_held : Option WorldState → Held
+world_held (Some world) = Current world
+world_held None = Nothing
 
 -- what is held of a session that was just opened: the world with which its story begins
 abbrev pub held_of : List Story → List Command → Held
-held_of stories game = if is_in_use game then holding (world_of stories game) else Nothing
+held_of stories game = if is_in_use game then world_held (world_of stories game) else Nothing
 
 -- what is held once the last command was run
 abbrev pub held_then : List Story → List Command → Held → Held
 held_then stories game Nothing = held_of stories game
 held_then stories game (Current world) = Current world
-held_then stories game (Previous world) = Current (turned_on world (given (last_of game)))
+held_then stories game (Previous world) = Current (turned_on world (input_given (last_of game)))
 
 -- the desk once its last command was run
 abbrev pub ran : DeskState → DeskState
@@ -96,8 +96,8 @@ abbrev pub warmed : DeskState → WorldState → DeskState
 warmed desk world = record desk { held = Current world }
 
 -- the desk without a world
-abbrev pub emptied : DeskState → DeskState
-emptied desk = record desk { held = Nothing }
+abbrev pub desk_emptied : DeskState → DeskState
+desk_emptied desk = record desk { held = Nothing }
 
 -- what is set aside of a world as a command comes: the world that it turns, unless the command
 -- opens or closes the session

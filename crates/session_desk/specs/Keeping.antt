@@ -17,13 +17,13 @@ due_with saves (Some world) (Some place) count = is_due saves place count
 due_with saves _ _ count = false
 
 -- a snapshot of the desk's session is due
-abbrev pub due : {D : Type 0} → SharedState D → Bool
-due state =
+abbrev pub snapshot_due : {D : Type 0} → SharedState D → Bool
+snapshot_due state =
     due_with state.saves (world_now state.desk.held) (last_row (open_rows state))
     (length (inputs_of (game state.desk)))
 
 -- the snapshot of the world that is held was put into the store, or was missed and counted exactly
-pub record Keeps
+pub record KeepsSnapshot
     {D : Type 0}
     (tells : D → Bool)
     (may_leave : D → List ℕ → Type 0)

@@ -20,8 +20,8 @@ use Rattle.session_desk.specs.Desk.{world_now}
 use Rattle.session_desk.specs.Verdict.{lacks_world, verdict}
 
 -- what the session answers to a request, by the world that the desk holds
-abbrev pub answered : DeskState → Request → Decision
-answered desk request =
+abbrev pub decision_by_desk : DeskState → Request → Decision
+decision_by_desk desk request =
     answer_in desk.stories desk.commands (world_now desk.held) request
 
 -- The desk refuses what the session refuses, for the same cause.
@@ -29,7 +29,7 @@ abbrev pub RefusesAlike : Type 0
 RefusesAlike =
     (desk : DeskState) (request : Request) (why : No)
     → verdict desk request ≡ Refuse why
-    → answered desk request ≡ record { reply = replies.No why; accepted = None }
+    → decision_by_desk desk request ≡ record { reply = replies.No why; accepted = None }
 
 -- Where a request comes again, the desk's last show is the session's reply, and the session accepts
 -- nothing.
@@ -37,7 +37,7 @@ abbrev pub ShowsAgain : Type 0
 ShowsAgain =
     (desk : DeskState) (request : Request)
     → verdict desk request ≡ Again
-    → answered desk request ≡ record { reply = shown_to desk request; accepted = None }
+    → decision_by_desk desk request ≡ record { reply = shown_to desk request; accepted = None }
 
 -- Where a request is fresh, the session accepts the command that it asks for, and the last show of
 -- the desk that has run that command is its reply.
@@ -46,7 +46,7 @@ ShowsFresh =
     (desk : DeskState) (request : Request)
     → verdict desk request ≡ Fresh
     → (command : Command) × (command_of desk.stories request ≡ Some command)
-    × (answered desk request
+    × (decision_by_desk desk request
     ≡ record {
       reply = shown_to (ran (committed desk command)) request;
       accepted = Some command;

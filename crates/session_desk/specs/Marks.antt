@@ -15,11 +15,13 @@ count_commands (Accepted by ∷ more) = suc (count_commands more)
 count_commands (Faulted by from to ∷ more) = count_commands more
 
 -- the entries: each mark of a command takes the next command
-abbrev pub woven : List Mark → List Command → List Entry
-woven [] commands = []
-woven (Accepted by ∷ more) [] = []
-woven (Accepted by ∷ more) (c ∷ commands) = entries.Accepted by c ∷ woven more commands
-woven (Faulted by from to ∷ more) commands = entries.Faulted by from to ∷ woven more commands
+abbrev pub commands_woven : List Mark → List Command → List Entry
+commands_woven [] commands = []
+commands_woven (Accepted by ∷ more) [] = []
+commands_woven (Accepted by ∷ more) (c ∷ commands) =
+    entries.Accepted by c ∷ commands_woven more commands
+commands_woven (Faulted by from to ∷ more) commands =
+    entries.Faulted by from to ∷ commands_woven more commands
 
 -- the marks of what a commit by the pass of this number gave
 abbrev pub marks_by : {T : Type 0} → ℕ → Result T Refused → List Mark

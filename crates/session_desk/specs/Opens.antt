@@ -2,12 +2,12 @@
 use Rattle.std.specs.Prelude.{◌≡◌, ℕ, ◌<◌, Bool, true, false, if◌then◌else◌}
 use Rattle.std.specs.Prelude.{List, [], ◌∷◌, ◌++◌, Option, Some, Result, Ok, Err}
 use Rattle.std.specs.List.{Contains}
+use Rattle.gate_journal.specs.Rows.{is_open}
 use Rattle.gate_journal.specs.Log.{rows_of}
 use Rattle.gate_journal.specs.declared.command.Command.{Command}
 use Rattle.gate_journal.specs.declared.entry.Entry.{Entry as JournalEntry}
 use Rattle.line_words.specs.declared.request.Request.{Request}
 use Rattle.line_words.specs.declared.request.Request.TheVariants.{Open}
-use Rattle.session_core.specs.History.{is_open}
 use Rattle.session_saves.specs.Agreement.{opens_of}
 use Rattle.session_desk.specs.declared.refused.Refused.{Refused}
 

@@ -4,8 +4,8 @@ use Rattle.std.specs.Prelude.{Result, Ok, Err}
 use Rattle.atomic_table.specs.Seated.{TableId}
 use Rattle.turn_cell.specs.declared.pass.Pass.{Pass}
 use Rattle.turn_cell.specs.History.{Continues, IsForeign}
-use Rattle.turn_cell.specs.Passes.{holds, IsOutside, number, seen}
-use Rattle.gate_journal.specs.Log.{Log, kept, number_of, rows_of}
+use Rattle.turn_cell.specs.Passes.{pass_numbers, IsOutside, pass_number, seen}
+use Rattle.gate_journal.specs.Log.{Log, rows_kept, entry_number, rows_of}
 use Rattle.gate_journal.specs.Rows.{commands_of}
 use Rattle.gate_journal.specs.declared.command.Command.{Command}
 use Rattle.gate_journal.specs.declared.row.Row.{Row}
@@ -29,9 +29,9 @@ use Rattle.session_desk.specs.declared.refused.Refused.{Refused}
 use Rattle.session_desk.specs.declared.refused.Refused.TheVariants.{DiskFault, NoMemory}
 use Rattle.session_desk.specs.declared.turned.Turned.{Turned}
 use Rattle.session_desk.specs.declared.shared.mark.Mark.{Mark}
-use Rattle.session_desk.specs.Desk.{DeskState, committed, opened}
-use Rattle.session_desk.specs.Marks.{count_commands, woven}
-use Rattle.session_desk.specs.Turn.{added, history_in, IsSameDesk}
+use Rattle.session_desk.specs.Desk.{DeskState, committed, cold_desk}
+use Rattle.session_desk.specs.Marks.{count_commands, commands_woven}
+use Rattle.session_desk.specs.Turn.{entries_added, history_in, IsSameDesk}
 
 -- the entry with 0 in the place of its pass's number, as `history_in` gives it
 abbrev pub unnumbered : Entry → Entry
@@ -54,10 +54,10 @@ abbrev pub as_opened :
     → ℕ → List Story → ℕ → List Row → Pass (Log D) JournalEntry → Snapshots D
     → SharedState D
 as_opened session stories budget rows pass store = record {
-  desk = opened session stories budget (commands_of rows session);
-  history = history_in (kept rows) session;
+  desk = cold_desk session stories budget (commands_of rows session);
+  history = history_in (rows_kept rows) session;
   pass = pass;
-  saves = saves.opened store;
+  saves = saves.saves_of_opened_store store;
   store = store;
   rows = rows;
 }
@@ -66,8 +66,8 @@ as_opened session stories budget rows pass store = record {
 -- other
 pub record IsPassOf {D : Type 0} (s : ℕ) (pass : Pass (Log D) JournalEntry) : Type 0 where
   pub outside : IsOutside pass
-  pub numbered : number pass ≡ s + 1
-  pub only : holds pass ≡ (s + 1) ∷ []
+  pub numbered : pass_number pass ≡ s + 1
+  pub only : pass_numbers pass ≡ (s + 1) ∷ []
 
 -- What holds of each such desk: its commands are those of its history, and its history is the one
 -- of its session in what its pass has seen of the journal, entry for entry, but for who made them.
@@ -84,9 +84,9 @@ pub record IsMarked
     (pass : Pass (Log D) JournalEntry) : Type 0 where
   pub counted : count_commands marks ≡ length desk.commands
   pub of_session : IsPassOf desk.session pass
-  pub commands : commands_in (woven marks desk.commands) ≡ desk.commands
+  pub commands : commands_in (commands_woven marks desk.commands) ≡ desk.commands
   pub entries :
-      map unnumbered (woven marks desk.commands) ≡ history_in (seen pass) desk.session
+      map unnumbered (commands_woven marks desk.commands) ≡ history_in (seen pass) desk.session
 
 -- what never changes of such a desk: its session, stories and budget, the journal's cell, and the
 -- store and the journal's rows as it was opened
@@ -123,8 +123,8 @@ pub record GoesOn
     (outcome : Outcome)
     (old new : List JournalEntry) : Type 0 where
   pub before : List JournalEntry
-  pub since : Continues (IsForeign number_of ((s + 1) ∷ [])) before old
-  pub adds : new ≡ before ++ added (rows_of before) s accepted outcome
+  pub since : Continues (IsForeign entry_number ((s + 1) ∷ [])) before old
+  pub adds : new ≡ before ++ entries_added (rows_of before) s accepted outcome
 
 -- the history behind a turn that accepts this command, if any, by what it met, whatever its reply
 abbrev pub history_met : List Entry → ℕ → Option Command → Outcome → List Entry

@@ -16,7 +16,7 @@ use Rattle.session_saves.specs.Game.{inputs_of}
 use Rattle.session_saves.specs.Saves.{IsKeptUp}
 use Rattle.session_desk.specs.declared.shared.mark.Mark.{Mark}
 use Rattle.session_desk.specs.declared.turned.Turned.{Turned}
-use Rattle.session_desk.specs.Desk.{game, Holds}
+use Rattle.session_desk.specs.Desk.{game, HoldsOwnWorld}
 use Rattle.session_desk.specs.Shared.{DeskTag, desk_tag, GoesOn, IsMarked, SharedState}
 
 -- a desk is sound where its store's disk tells its bytes, and as the desk was opened the store's
@@ -32,8 +32,8 @@ abbrev pub open_rows : {D : Type 0} → SharedState D → List ℕ
 open_rows state = opens_of (rows_of (seen state.pass)) state.desk.session
 
 -- the world that a desk holds is its session's own, and its store's areas agree with the commands
-pub record IsOwn {D : Type 0} (seen_of : D → List ℕ) (state : SharedState D) : Type 0 where
-  pub holds : Holds state.desk.stories (game state.desk) state.desk.held
+pub record IsOwnState {D : Type 0} (seen_of : D → List ℕ) (state : SharedState D) : Type 0 where
+  pub holds : HoldsOwnWorld state.desk.stories (game state.desk) state.desk.held
   pub agreed :
       IsAgreed seen_of state.desk.stories (open_rows state) (game state.desk)
       state.saves.store
@@ -71,7 +71,7 @@ pub record IsWhole
   pub marked : IsMarked marks state.desk state.pass
   pub row : place ≡ last_row (open_rows state)
   pub store : IsSameStore tells room label faults reach state.store state.saves.store
-  pub own : IsSoundDesk tells seen_of (desk_tag state) → IsOwn seen_of state
+  pub own : IsSoundDesk tells seen_of (desk_tag state) → IsOwnState seen_of state
   pub kept_up : AreKeptUp state
 
 -- The session decides so on a request by a world `now`, which is its own where the desk is sound.

@@ -30,12 +30,12 @@ history_in (Faulted by from to ∷ more) s =
 
 -- what a turn adds to the entries of a journal with these rows: the row of the command that the
 -- session accepts, or the disk's fault
-abbrev pub added : List Row → ℕ → Option Command → Outcome → List JournalEntry
-added rows s accepted OutOfMemory = []
-added rows s None outcome = []
-added rows s (Some command) Answered = Kept (next_row rows s command) ∷ []
-added rows s (Some command) (DiskFailed from to) = Faulted (s + 1) from to ∷ []
-added rows s (Some command) Forgotten = Kept (next_row rows s command) ∷ []
+abbrev pub entries_added : List Row → ℕ → Option Command → Outcome → List JournalEntry
+entries_added rows s accepted OutOfMemory = []
+entries_added rows s None outcome = []
+entries_added rows s (Some command) Answered = Kept (next_row rows s command) ∷ []
+entries_added rows s (Some command) (DiskFailed from to) = Faulted (s + 1) from to ∷ []
+entries_added rows s (Some command) Forgotten = Kept (next_row rows s command) ∷ []
 
 -- the same desk, but for the world that it holds
 abbrev pub IsSameDesk : DeskState → DeskState → Type 0
@@ -46,8 +46,8 @@ abbrev pub out_of_memory : Turned
 out_of_memory = record { reply = No NoMemory; outcome = OutOfMemory }
 
 -- a turn that makes the session accept nothing: the session decides so, or memory ran out
-abbrev pub IsQuiet : Decision → Turned → Type 0
-IsQuiet decision turned =
+abbrev pub AcceptsNothing : Decision → Turned → Type 0
+AcceptsNothing decision turned =
     (turned ≡ out_of_memory)
     ⊎ ((decision ≡ record { reply = turned.reply; accepted = None })
     × (turned.outcome ≡ Answered))

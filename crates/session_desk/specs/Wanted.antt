@@ -9,7 +9,7 @@ use Rattle.line_words.specs.declared.reply.No.{No}
 use Rattle.line_words.specs.declared.reply.No.TheVariants.{Over, Unwanted}
 use Rattle.story_run.specs.World.{WorldState}
 use Rattle.session_core.specs.Checks.{over_in, unwanted_in}
-use Rattle.session_core.specs.Answer.{first_of}
+use Rattle.session_core.specs.Answer.{first_refusal}
 
 -- what a request gives the story
 abbrev pub request_input : Request → Option Input
@@ -32,5 +32,5 @@ outline (Close s key n) = None
 -- why the story doesn't take a new input: it is over, or doesn't wait for that one
 abbrev pub declines : WorldState → Option Input → Option No
 declines world input =
-    first_of
+    first_refusal
     ((over_in (Some world) input, Over) ∷ (unwanted_in (Some world) input, Unwanted) ∷ [])

@@ -2,7 +2,7 @@
 
 ghost use Rattle.std.specs.Prelude.{◌≡◌, ◌≤◌, if◌then◌else◌, length, None, Some};
 ghost use Rattle.session_core.specs.History.{game_of};
-ghost use Rattle.session_core.specs.Answer.{first_of, plain_checks};
+ghost use Rattle.session_core.specs.Answer.{first_refusal, plain_checks};
 ghost use Rattle.session_desk.specs.declared.verdict.Verdict.TheVariants.{Cold};
 ghost use Rattle.session_desk.specs.Verdict.{foretold, is_to_story};
 
@@ -34,7 +34,7 @@ pub fn in_world(
     requires within { length commands.now ≤ 8192 }
     requires played { played.now ≡ game_of commands.now }
     requires short { length played.now ≤ 8192 }
-    requires plain { first_of (plain_checks stories.now (game_of commands.now) request.now)
+    requires plain { first_refusal (plain_checks stories.now (game_of commands.now) request.now)
         ≡ None }
     ensures { result ≡ foretold stories.now commands.now (Some world.now) request.now }
 {
@@ -60,7 +60,7 @@ pub fn in_no_world(
     requires within { length commands.now ≤ 8192 }
     requires game { game.now ≡ game_of commands.now }
     requires short { length game.now ≤ 8192 }
-    requires plain { first_of (plain_checks stories.now (game_of commands.now) request.now)
+    requires plain { first_refusal (plain_checks stories.now (game_of commands.now) request.now)
         ≡ None }
     ensures { result ≡ (if is_to_story (game_of commands.now) request.now then Cold
         else foretold stories.now commands.now None request.now) }

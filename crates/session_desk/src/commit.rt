@@ -6,11 +6,12 @@ ghost use Rattle.std.specs.Prelude.{MatchResult, length, vec_len, vec_capacity};
 ghost use Rattle.disk_model.specs.Disk.{SameDisk};
 ghost use Rattle.gate_journal.specs.Command.{IsCommand};
 ghost use Rattle.gate_journal.specs.Log.{rows_of, next_row};
-ghost use Rattle.gate_journal.specs.Rows.{MayStand, spelled};
+ghost use Rattle.gate_journal.specs.Rows.{MayStand, journal_bytes};
 ghost use Rattle.session_core.specs.Checks.{command_of};
 ghost use Rattle.session_desk.specs.Desk.{aside, BeginsAt};
-ghost use Rattle.session_desk.specs.Commit.{Extends, HasDigest, IsInRange, Leaves};
-ghost use Rattle.session_desk.specs.Commit.{LeavesGate, Stops, WhereBegun};
+ghost use Rattle.session_desk.specs.Commit.{Extends, IsInRange, RefusalLeaves};
+ghost use Rattle.gate_journal.specs.Command.{HasDigest};
+ghost use Rattle.session_desk.specs.Commit.{LeavesGate, StopLeaves, WhereBegun};
 
 use crate::game::begins_with;
 use crate::held::{Held, aside};
@@ -59,8 +60,8 @@ pub fn write_down<D: Disk>(
     requires { MayStand (rows_of journal.old.entries) session command.now }
     ensures ok { OnOk result (Extends session command.now journal.old journal.new) }
     ensures place { IfOk result (λ place.
-        place ≡ length (spelled (rows_of journal.old.entries))) }
-    ensures err { IfErr result (λ why. Leaves D.faults session journal.old journal.new why) }
+        place ≡ length (journal_bytes (rows_of journal.old.entries))) }
+    ensures err { IfErr result (λ why. RefusalLeaves D.faults session journal.old journal.new why) }
     ensures rows { MatchResult result
         (λ _. rows_of journal.new.entries ≡ rows_of journal.old.entries
         ++ next_row (rows_of journal.old.entries) session command.now ∷ [])
@@ -68,14 +69,14 @@ pub fn write_down<D: Disk>(
     ensures kept { SameDisk D.tells D.room D.label journal.old.disk journal.new.disk
         × (journal.new.opening ≡ journal.old.opening) }
     ensures crash { WhereBegun result
-        (Stops D.tells D.moment D.left_since session command.now journal.old journal.new) }
+        (StopLeaves D.tells D.moment D.left_since session command.now journal.old journal.new) }
     ensures certain { OnOk result (journal.new.uncertain ≡ None) }
     ensures gate { IfErr result (λ why.
         LeavesGate session command.now journal.old journal.new why) }
     ensures counts { OnOk result (D.faults journal.new.disk ≡ D.faults journal.old.disk) }
     ensures reach { D.reach journal.new.disk
         ≤ max (D.reach journal.old.disk)
-        (length (spelled (rows_of journal.old.entries)) + 4110) }
+        (length (journal_bytes (rows_of journal.old.entries)) + 4110) }
 {
     ends_within();
     let Ok(()) = journal.reserve(alloc) else {

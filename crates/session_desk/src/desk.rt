@@ -5,19 +5,20 @@ ghost use Rattle.std.specs.Prelude.{length, max, None, Some};
 ghost use Rattle.std.specs.Prelude.{IfOk, IfErr, OnOk, OnErr, MatchOption, MatchResult, ⊤};
 ghost use Rattle.disk_model.specs.Disk.{SameDisk};
 ghost use Rattle.gate_journal.specs.Log.{rows_of};
-ghost use Rattle.gate_journal.specs.Rows.{commands_of, spelled};
+ghost use Rattle.gate_journal.specs.Rows.{commands_of, journal_bytes};
 ghost use Rattle.gate_journal.specs.declared.command.Command.{Command};
 ghost use Rattle.session_core.specs.History.{is_in_use, last_of};
 ghost use Rattle.session_core.specs.Checks.{command_of};
 ghost use Rattle.session_core.specs.Answer.{shown_number};
 ghost use Rattle.session_saves.specs.Game.{inputs_of};
-ghost use Rattle.session_desk.specs.Desk.{emptied, game, is_cold, is_to_run, last_show, opened};
+ghost use Rattle.session_desk.specs.Desk.{desk_emptied, game, is_cold, is_to_run, last_show};
+ghost use Rattle.session_desk.specs.Desk.{cold_desk};
 ghost use Rattle.session_desk.specs.Desk.{ran, warmed, world_now};
 ghost use Rattle.session_desk.specs.Verdict.{verdict};
 ghost use Rattle.session_desk.specs.declared.held.Held.TheVariants.{Current};
 ghost use Rattle.session_desk.specs.declared.verdict.Verdict.TheVariants.{Fresh, Cold};
-ghost use Rattle.session_desk.specs.Commit.{Commits, IsInRange, IsKept, Leaves, LeavesGate};
-ghost use Rattle.session_desk.specs.Commit.{Stops, WhereBegun};
+ghost use Rattle.session_desk.specs.Commit.{Commits, IsInRange, IsKept, RefusalLeaves, LeavesGate};
+ghost use Rattle.session_desk.specs.Commit.{StopLeaves, WhereBegun};
 
 use crate::check::{in_no_world, in_world};
 use crate::commit::{asked, take_down, write_down};
@@ -86,7 +87,7 @@ impl<'i> Desk<'i> {
         requires session { session < 64 }
         requires within { length (commands_of rows.now session) ≤ 8192 }
         ensures value { IfOk result (λ desk. desk
-            ≡ opened session stories.now budget (commands_of rows.now session)) }
+            ≡ cold_desk session stories.now budget (commands_of rows.now session)) }
     {
         let commands = commands_of(alloc, rows, session)?;
         let begins = begins_of(&commands);
@@ -192,18 +193,18 @@ impl<'i> Desk<'i> {
         ensures ok { OnOk result
             (Commits request.now self.old journal.old self.new journal.new) }
         ensures place { IfOk result (λ place.
-            place ≡ length (spelled (rows_of journal.old.entries))) }
+            place ≡ length (journal_bytes (rows_of journal.old.entries))) }
         ensures runs { OnOk result
             (IsTrue (is_to_run self.new.held (last_of (game self.new)))) }
         ensures err { OnErr result (self.new ≡ self.old) }
         ensures cause { IfErr result (λ why.
-            Leaves D.faults self.old.session journal.old journal.new why) }
+            RefusalLeaves D.faults self.old.session journal.old journal.new why) }
         ensures rows { IsKept self.new journal.new }
         ensures kept { SameDisk D.tells D.room D.label journal.old.disk journal.new.disk
             × (journal.new.opening ≡ journal.old.opening) }
         ensures crash { (command : Command)
             → command_of self.old.stories request.now ≡ Some command
-            → WhereBegun result (Stops D.tells D.moment D.left_since self.old.session command
+            → WhereBegun result (StopLeaves D.tells D.moment D.left_since self.old.session command
             journal.old journal.new) }
         ensures gate { (command : Command)
             → command_of self.old.stories request.now ≡ Some command
@@ -213,7 +214,7 @@ impl<'i> Desk<'i> {
             (D.faults journal.new.disk ≡ D.faults journal.old.disk) }
         ensures reach { D.reach journal.new.disk
             ≤ max (D.reach journal.old.disk)
-            (length (spelled (rows_of journal.old.entries)) + 4110) }
+            (length (journal_bytes (rows_of journal.old.entries)) + 4110) }
     {
         let Ok(command) = asked(alloc, self.stories, request) else {
             return Err(Refused::NoMemory);
@@ -243,7 +244,7 @@ impl<'i> Desk<'i> {
     pub fn run(&mut self, alloc: Global) -> Result<(), AllocError>
         requires { IsTrue (is_to_run self.old.held (last_of (game self.old))) }
         ensures ok { OnOk result (self.new ≡ ran self.old) }
-        ensures err { OnErr result (self.new ≡ emptied self.old) }
+        ensures err { OnErr result (self.new ≡ desk_emptied self.old) }
     {
         let held = mem::replace(&mut self.held, Held::Nothing);
         self.held = ran(

@@ -4,21 +4,22 @@ ghost use Rattle.std.specs.Prelude.{◌≡◌, ◌≤◌, ◌<◌, length, IsTru
 ghost use Rattle.std.specs.Prelude.{MatchOption, ⊤, ◌+◌, true, false, max, ℕ, [], Some};
 ghost use Rattle.disk_model.specs.Disk.{LeavesOnly, OnlyLooks, Rose};
 ghost use Rattle.turn_cell.specs.Passes.{seen};
-ghost use Rattle.gate_journal.specs.Log.{kept};
+ghost use Rattle.gate_journal.specs.Log.{rows_kept};
 ghost use Rattle.gate_journal.specs.Rows.{commands_of};
 ghost use Rattle.story_run.specs.World.{WorldState};
 ghost use Rattle.session_core.specs.Answer.{shown_number};
 ghost use Rattle.session_core.specs.Checks.{is_other_story};
 ghost use Rattle.session_core.specs.History.{last_of, world_of};
-ghost use Rattle.snap_store.specs.File.{given, newest_area};
+ghost use Rattle.snap_store.specs.File.{area_given, newest_area};
 ghost use Rattle.session_saves.specs.Agreement.{last_row};
 ghost use Rattle.session_saves.specs.Game.{inputs_of, turns_after};
-ghost use Rattle.session_saves.specs.Keeping.{MayStand};
+ghost use Rattle.session_saves.specs.Keeping.{MayStandMeanwhile};
 ghost use Rattle.session_saves.specs.Saves.{IsKeptUp};
 ghost use Rattle.session_saves.specs.Warming.{count_in};
-ghost use Rattle.session_desk.specs.Desk.{emptied, game, Holds, is_cold, is_to_run, last_show};
+ghost use Rattle.session_desk.specs.Desk.{desk_emptied, game, HoldsOwnWorld, is_cold, is_to_run};
+ghost use Rattle.session_desk.specs.Desk.{last_show};
 ghost use Rattle.session_desk.specs.Desk.{ran};
-ghost use Rattle.session_desk.specs.Keeping.{due, Keeps, IsWarmed};
+ghost use Rattle.session_desk.specs.Keeping.{snapshot_due, KeepsSnapshot, IsWarmed};
 ghost use Rattle.session_desk.specs.Shared.{as_opened, desk_tag, IsPassOf, IsShared, Rests};
 ghost use Rattle.session_desk.specs.Sound.{AreKeptUp, EndsStore, IsSoundDesk, open_rows};
 ghost use Rattle.session_desk.specs.Verdict.{verdict};
@@ -65,7 +66,7 @@ pub struct SharedDesk<'i, D: Disk> {
 impl<'i, D: Disk> Model for SharedDesk<'i, D> {
     ghost use Rattle.gate_journal.specs.Log.{rows_of};
     ghost use Rattle.turn_cell.specs.Passes.{seen};
-    ghost use Rattle.session_desk.specs.Marks.{woven};
+    ghost use Rattle.session_desk.specs.Marks.{commands_woven};
     ghost use Rattle.session_desk.specs.Shared.{SharedState};
     ghost use Rattle.session_desk.specs.Sound.{IsWhole};
 
@@ -73,7 +74,7 @@ impl<'i, D: Disk> Model for SharedDesk<'i, D> {
 
     ghost view = { λ d. record {
       desk = d.desk;
-      history = woven d.marks.items d.desk.commands;
+      history = commands_woven d.marks.items d.desk.commands;
       pass = d.pass;
       saves = d.saves;
       store = d.store.value;
@@ -84,7 +85,7 @@ impl<'i, D: Disk> Model for SharedDesk<'i, D> {
         d.marks.items d.place
         (record {
           desk = d.desk;
-          history = woven d.marks.items d.desk.commands;
+          history = commands_woven d.marks.items d.desk.commands;
           pass = d.pass;
           saves = d.saves;
           store = d.store.value;
@@ -128,7 +129,7 @@ impl<'i, D: Disk + Drop> SharedDesk<'i, D> {
         requires session { session < 64 }
         requires within { length (commands_of rows.now session) ≤ 8192 }
         requires pass { IsPassOf session pass }
-        requires rows { seen pass ≡ kept rows.now }
+        requires rows { seen pass ≡ rows_kept rows.now }
         ensures value { IfOk result (λ desk. desk
             ≡ as_opened session stories.now budget rows.now pass store) }
     {
@@ -163,7 +164,7 @@ impl<'i, D: Disk + Drop> SharedDesk<'i, D> {
 
         // a sound desk holds the session's own world
         ensures own { IsSoundDesk D.tells D.seen (desk_tag self.now)
-            → Holds self.now.desk.stories (game self.now.desk) self.now.desk.held }
+            → HoldsOwnWorld self.now.desk.stories (game self.now.desk) self.now.desk.held }
     {
         self.desk.check(request)
     }
@@ -179,7 +180,7 @@ impl<'i, D: Disk + Drop> SharedDesk<'i, D> {
         // on a sound desk it is the session's own world, and the inputs behind the newest area are
         // all that is played
         ensures own { IsSoundDesk D.tells D.seen (desk_tag self.old)
-            → Holds self.new.desk.stories (game self.new.desk) self.new.desk.held }
+            → HoldsOwnWorld self.new.desk.stories (game self.new.desk) self.new.desk.held }
         ensures cost { (place : ℕ)
             → IsSoundDesk D.tells D.seen (desk_tag self.old)
             → (Rose (D.faults self.old.saves.store.disk) (D.faults self.new.saves.store.disk)
@@ -187,7 +188,7 @@ impl<'i, D: Disk + Drop> SharedDesk<'i, D> {
             → last_row (open_rows self.old) ≡ Some place
             → OnOk result (steps.new ≡ steps.old
             + turns_after self.old.desk.stories (game self.old.desk)
-            (count_in (given (newest_area place (length (inputs_of (game self.old.desk)))
+            (count_in (area_given (newest_area place (length (inputs_of (game self.old.desk)))
             (D.seen self.old.saves.store.disk))))) }
 
         ensures err { OnErr result (self.new.desk ≡ self.old.desk) }
@@ -213,7 +214,8 @@ impl<'i, D: Disk + Drop> SharedDesk<'i, D> {
     pub fn run(&mut self, alloc: Global) -> Result<(), AllocError>
         requires { IsTrue (is_to_run self.old.desk.held (last_of (game self.old.desk))) }
         ensures ok { OnOk result (self.new ≡ record self.old { desk = ran self.old.desk }) }
-        ensures err { OnErr result (self.new ≡ record self.old { desk = emptied self.old.desk }) }
+        ensures err { OnErr result
+            (self.new ≡ record self.old { desk = desk_emptied self.old.desk }) }
     {
         self.desk.run(alloc)
     }
@@ -221,7 +223,7 @@ impl<'i, D: Disk + Drop> SharedDesk<'i, D> {
     /// The desk is warm, its session is in use, and the inputs since the last OPEN are a positive
     /// multiple of 16, whose snapshot is neither stored nor counted among those that were missed.
     pub fn due(&self) -> bool
-        ensures value { result ≡ due self.now }
+        ensures value { result ≡ snapshot_due self.now }
     {
         match self.place {
             Some(place) => match self.desk.world() {
@@ -234,10 +236,10 @@ impl<'i, D: Disk + Drop> SharedDesk<'i, D> {
 
     /// Puts the snapshot into the store where it is due. What prevents it is counted.
     pub fn keep(&mut self, alloc: Global)
-        ensures idle { due self.old ≡ false → self.new ≡ self.old }
-        ensures ok { due self.old ≡ true
-            → Keeps D.tells D.may_leave D.faults self.old self.new }
-        ensures due { due self.new ≡ false }
+        ensures idle { snapshot_due self.old ≡ false → self.new ≡ self.old }
+        ensures ok { snapshot_due self.old ≡ true
+            → KeepsSnapshot D.tells D.may_leave D.faults self.old self.new }
+        ensures due { snapshot_due self.new ≡ false }
         ensures kept { self.new ≡ record self.old { saves = self.new.saves } }
 
         // what a stop may leave meanwhile, and after it
@@ -246,7 +248,7 @@ impl<'i, D: Disk + Drop> SharedDesk<'i, D> {
             → last_row (open_rows self.old) ≡ Some place
             → IsTrue (D.tells self.old.saves.store.disk)
             → LeavesOnly D.moment D.left_since self.old.saves.store.disk self.new.saves.store.disk
-            (MayStand D.seen world place (length (inputs_of (game self.old.desk)))
+            (MayStandMeanwhile D.seen world place (length (inputs_of (game self.old.desk)))
             self.old.saves.store) }
 
         ensures counts { D.faults self.old.saves.store.disk ≤ D.faults self.new.saves.store.disk }

@@ -9,13 +9,13 @@ use Rattle.story_run.specs.World.{WorldState}
 use Rattle.story_snap.specs.Bytes.{HasBytes}
 use Rattle.session_core.specs.History.{world_of}
 use Rattle.snap_store.specs.File.{Stored, openable_area}
-use Rattle.snap_store.specs.Slots.{other, taken_side}
-use Rattle.snap_store.specs.Store.{Snapshots, area_of}
+use Rattle.snap_store.specs.Slots.{opposite_side, taken_side}
+use Rattle.snap_store.specs.Store.{Snapshots, store_area}
 use Rattle.snap_store.specs.declared.side.Side.{Side}
 use Rattle.snap_store.specs.declared.side.Side.TheVariants.{A, B}
 use Rattle.session_saves.specs.Agreement.{Agrees, IsAgreed, last_row}
 use Rattle.session_saves.specs.Game.{inputs_of}
-use Rattle.session_saves.specs.Keeping.{AddsOnly, IsOldOrNew, MayStand, area_with}
+use Rattle.session_saves.specs.Keeping.{AddsOnly, IsOldOrNew, MayStandMeanwhile, area_with}
 use Rattle.session_saves.specs.Laws.{ImagesStayAgreed, MoreCommandsStayAgreed, NewOpensStayAgreed}
 use Rattle.session_saves.proofs.GameLemmas.{inputs_of-more, is_other_story-more, world_at-all}
 use Rattle.session_saves.proofs.GameLemmas.{world_at-more}
@@ -112,12 +112,12 @@ pub after_keep : {D : Type 0} (seen : D
     → AddsOnly seen world place (length (inputs_of game)) old new
     → IsAgreed seen stories rows game old → IsAgreed seen stories rows game new
 after_keep seen stories rows game world place old new last is adds agreed side area e =
-    old_or_new stories rows game world place (area_of seen old side) area last is (agreed side)
+    old_or_new stories rows game world place (store_area seen old side) area last is (agreed side)
     (adds side area e)
 
 -- ---- what a stop may leave
 
-pub side_cases : (taken side : Side) → (side ≡ taken) ⊎ (side ≡ other taken)
+pub side_cases : (taken side : Side) → (side ≡ taken) ⊎ (side ≡ opposite_side taken)
 side_cases A A = inl refl
 side_cases A B = inr refl
 side_cases B A = inr refl
@@ -132,23 +132,23 @@ put_or_kept world place count bytes old area has (inr put) = inr (bytes, has, pu
 
 pub in_image : {D : Type 0} (seen : D
     → List ℕ) (world : WorldState) (place count : ℕ) (store : Snapshots D) (image : List ℕ)
-    → MayStand seen world place count store image → (side : Side) (area : Stored)
+    → MayStandMeanwhile seen world place count store image → (side : Side) (area : Stored)
     → openable_area side image ≡ Some area
-    → IsOldOrNew world place count (area_of seen store side) area
+    → IsOldOrNew world place count (store_area seen store side) area
 in_image seen world place count store image (inl is) side area e = inl (is.openable side area e)
 in_image seen world place count store image (inr (bytes, has, put)) side area e =
     elim (side_cases (taken_side store.slots) side) [
-      | inl taken ↦ subst (λ (s : Side). IsOldOrNew world place count (area_of seen store s) area)
+      | inl taken ↦ subst (λ (s : Side). IsOldOrNew world place count (store_area seen store s) area)
           (sym taken)
-          (put_or_kept world place count bytes (area_of seen store (taken_side store.slots)) area
+          (put_or_kept world place count bytes (store_area seen store (taken_side store.slots)) area
           has
           (put.taken area (subst (λ (s : Side). openable_area s image ≡ Some area) taken e)))
-      | inr beside ↦ subst (λ (s : Side). IsOldOrNew world place count (area_of seen store s) area)
+      | inr beside ↦ subst (λ (s : Side). IsOldOrNew world place count (store_area seen store s) area)
           (sym beside)
           (inl (put.beside area (subst (λ (s : Side). openable_area s image ≡ Some area) beside e)))
     ]
 
 pub images : {D : Type 0} (seen : D → List ℕ) → ImagesStayAgreed seen
 images seen stories rows game world place store image last is agreed stands side area e =
-    old_or_new stories rows game world place (area_of seen store side) area last is (agreed side)
+    old_or_new stories rows game world place (store_area seen store side) area last is (agreed side)
     (in_image seen world place (length (inputs_of game)) store image stands side area e)

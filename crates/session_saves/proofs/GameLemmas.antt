@@ -9,6 +9,7 @@ use Rattle.std.proofs.Math.Seq.{drop-cons, take-length}
 use Rattle.std.proofs.lemmas.List.Elements.{filter_map-append}
 use Rattle.std.specs.List.{filter_map}
 use Rattle.glk_input.specs.declared.input.Input.{Input}
+use Rattle.gate_journal.specs.Rows.{is_open}
 use Rattle.gate_journal.specs.declared.command.Command.{Command}
 use Rattle.gate_journal.specs.declared.command.Command.TheVariants.{Open, Line, Char, File, Close}
 use Rattle.story_run.specs.declared.setup.Setup.{Setup}
@@ -16,11 +17,11 @@ use Rattle.story_run.specs.declared.stage.Stage.{Stage}
 use Rattle.story_run.specs.declared.stage.Stage.TheVariants.{AtSelect, AtPrompt, Quit, Fault}
 use Rattle.story_run.specs.declared.story.Story.{Story}
 use Rattle.story_run.specs.World.{WorldState}
-use Rattle.story_run.specs.Solo.{answered, is_wanted, opening, turned, turned_by, world_after}
-use Rattle.session_core.specs.History.{input_of, is_open, story_at, world_in, world_of}
+use Rattle.story_run.specs.Solo.{world_after_turn, is_wanted, opening, world_after_input, turned_by, world_after}
+use Rattle.session_core.specs.History.{input_of, story_at, world_in, world_of}
 use Rattle.session_core.specs.Checks.{is_other_story}
 use Rattle.session_core.specs.Turns.{turns_by}
-use Rattle.session_saves.specs.Game.{inputs_of, played, setup_of, story_of, world_at}
+use Rattle.session_saves.specs.Game.{inputs_of, played, opening_setup, opened_story, world_at}
 use Rattle.session_saves.specs.Laws.{WantedInputsAreTurns}
 
 -- ---- after all its inputs
@@ -51,7 +52,7 @@ world_at-all stories (Close ∷ after) = refl
 -- ---- with a command more
 
 story_of-more : (stories : List Story) (game : List Command) (c : Command) → is_open c ≡ false
-    → story_of stories (game ++ c ∷ []) ≡ story_of stories game
+    → opened_story stories (game ++ c ∷ []) ≡ opened_story stories game
 story_of-more stories [] (Open key story digest seed cols rows budget) shut = absurd cc
 story_of-more stories [] (Line win term text) shut = refl
 story_of-more stories [] (Char win code) shut = refl
@@ -64,7 +65,7 @@ story_of-more stories (File name ∷ after) c shut = refl
 story_of-more stories (Close ∷ after) c shut = refl
 
 setup_of-more : (game : List Command) (c : Command) → is_open c ≡ false
-    → setup_of (game ++ c ∷ []) ≡ setup_of game
+    → opening_setup (game ++ c ∷ []) ≡ opening_setup game
 setup_of-more [] (Open key story digest seed cols rows budget) shut = absurd cc
 setup_of-more [] (Line win term text) shut = refl
 setup_of-more [] (Char win code) shut = refl
@@ -109,11 +110,11 @@ pub world_at-more : (stories : List Story) (game : List Command) (c : Command) (
     → is_open c ≡ false → n ≤ length (inputs_of game)
     → world_at stories (game ++ c ∷ []) n ≡ world_at stories game n
 world_at-more stories game c n shut le =
-    ap (λ (o : Option Story). played o (setup_of (game ++ c ∷ []))
+    ap (λ (o : Option Story). played o (opening_setup (game ++ c ∷ []))
     (take n (inputs_of (game ++ c ∷ [])))) (story_of-more stories game c shut)
-    ∙ ap (λ (s : Setup). played (story_of stories game) s (take n (inputs_of (game ++ c ∷ []))))
+    ∙ ap (λ (s : Setup). played (opened_story stories game) s (take n (inputs_of (game ++ c ∷ []))))
     (setup_of-more game c shut)
-    ∙ ap (λ (l : List Input). played (story_of stories game) (setup_of game) l)
+    ∙ ap (λ (l : List Input). played (opened_story stories game) (opening_setup game) l)
     (take-more game c n le)
 
 -- ---- no more inputs than commands
@@ -132,7 +133,7 @@ inputs_within (c ∷ cs) = one_within (input_of c) c cs refl (inputs_within cs)
 turned_by-append : (w : WorldState) (xs ys : List Input)
     → turned_by (turned_by w xs) ys ≡ turned_by w (xs ++ ys)
 turned_by-append w [] ys = refl
-turned_by-append w (x ∷ xs) ys = turned_by-append (turned w x) xs ys
+turned_by-append w (x ∷ xs) ys = turned_by-append (world_after_input w x) xs ys
 
 pub turned_by-rest : (w : WorldState) (n : ℕ) (xs : List Input)
     → turned_by (turned_by w (take n xs)) (drop n xs) ≡ turned_by w xs
@@ -194,7 +195,7 @@ behind_all game at left e =
 -- ---- its image
 
 image-answered : (w : WorldState) (stage : Stage) (input : Input)
-    → (answered w stage input).image ≡ w.image
+    → (world_after_turn w stage input).image ≡ w.image
 image-answered w (AtSelect m) input = refl
 image-answered w (AtPrompt m) input = refl
 image-answered w Quit input = refl
@@ -205,14 +206,14 @@ image-if : (wanted : Bool) (w after : WorldState) → after.image ≡ w.image
 image-if true w after e = e
 image-if false w after e = refl
 
-image-turned : (w : WorldState) (input : Input) → (turned w input).image ≡ w.image
-unfolding turned
-image-turned w input = image-if (is_wanted w input) w (answered w w.stage input)
+image-turned : (w : WorldState) (input : Input) → (world_after_input w input).image ≡ w.image
+unfolding world_after_input
+image-turned w input = image-if (is_wanted w input) w (world_after_turn w w.stage input)
     (image-answered w w.stage input)
 
 image-turned_by : (w : WorldState) (xs : List Input) → (turned_by w xs).image ≡ w.image
 image-turned_by w [] = refl
-image-turned_by w (x ∷ xs) = image-turned_by (turned w x) xs ∙ image-turned w x
+image-turned_by w (x ∷ xs) = image-turned_by (world_after_input w x) xs ∙ image-turned w x
 
 image-opening : (image : List ℕ) (setup : Setup) → (opening image setup).image ≡ image
 unfolding opening
@@ -232,6 +233,6 @@ one_turn false n e = absurd cc
 pub wanted_inputs_are_turns : WantedInputsAreTurns
 wanted_inputs_are_turns world [] wanted = refl
 wanted_inputs_are_turns world (x ∷ xs) wanted =
-    let rest = wanted_inputs_are_turns (turned world x) xs wanted.1 in
-    let one = one_turn (is_wanted world x) (turns_by (turned world x) xs) wanted.0 in
+    let rest = wanted_inputs_are_turns (world_after_input world x) xs wanted.1 in
+    let one = one_turn (is_wanted world x) (turns_by (world_after_input world x) xs) wanted.0 in
     omega (arith, rest, one)

@@ -6,10 +6,10 @@ use Rattle.disk_model.specs.Disk.{EachImage, LeavesOnly}
 use Rattle.disk_model.proofs.Moments.{started, weaker}
 use Rattle.story_run.specs.World.{WorldState}
 use Rattle.story_snap.specs.Bytes.{HasBytes}
-use Rattle.story_snap.specs.Laws.{HasOneSpelling}
-use Rattle.snap_store.specs.File.{Stored, start_of}
-use Rattle.snap_store.specs.Slots.{is_stored, other, taken_side}
-use Rattle.snap_store.specs.Store.{Snapshots, IsImageOf, IsPutImage, area_of}
+use Rattle.story_snap.specs.Laws.{WorldsHaveOneSpelling}
+use Rattle.snap_store.specs.File.{Stored, side_start}
+use Rattle.snap_store.specs.Slots.{is_stored, opposite_side, taken_side}
+use Rattle.snap_store.specs.Store.{Snapshots, IsImageOf, IsPutImage, store_area}
 use Rattle.snap_store.specs.declared.outline.TheConstants.{MAX_SNAPSHOT}
 use Rattle.snap_store.specs.declared.side.Side.{Side}
 use Rattle.snap_store.specs.declared.side.Side.TheVariants.{A, B}
@@ -20,7 +20,7 @@ use Rattle.session_saves.specs.declared.missed.Cause.TheVariants.{NotMade}
 use Rattle.session_saves.specs.declared.missed.Missed.{Missed}
 use Rattle.session_saves.specs.declared.saves.Point.{Point}
 use Rattle.session_saves.specs.Keeping.{AddsOnly, CountsExactly, Fits, IsMissed, IsOldOrNew, IsPut}
-use Rattle.session_saves.specs.Keeping.{IsTooLong, Leaves, MayStand, Prevents, Puts, area_with}
+use Rattle.session_saves.specs.Keeping.{IsTooLong, FailedPutLeaves, MayStandMeanwhile, Prevents, PutsWorld, area_with}
 use Rattle.session_saves.specs.Keeping.{with_missed}
 use Rattle.session_saves.specs.Saves.{SavesState, with_cause}
 use Rattle.session_saves.proofs.AgreementLemmas.{side_cases}
@@ -51,21 +51,21 @@ left_old_or_new world place count bytes old new area has (inr (inr put)) e =
 pub adds_only : {D : Type 0} (seen : D
     → List ℕ) (world : WorldState) (place count : ℕ) (bytes : List ℕ) (old new : Snapshots D)
     → HasBytes world.image bytes world
-    → IsLeftOf (area_of seen old (taken_side old.slots)) (area_with place count bytes)
-    (area_of seen new (taken_side old.slots))
-    → area_of seen new (other (taken_side old.slots)) ≡ area_of seen old
-    (other (taken_side old.slots))
+    → IsLeftOf (store_area seen old (taken_side old.slots)) (area_with place count bytes)
+    (store_area seen new (taken_side old.slots))
+    → store_area seen new (opposite_side (taken_side old.slots)) ≡ store_area seen old
+    (opposite_side (taken_side old.slots))
     → AddsOnly seen world place count old new
 adds_only seen world place count bytes old new has left beside side area e =
     elim (side_cases (taken_side old.slots) side) [
-      | inl taken ↦ subst (λ (s : Side). IsOldOrNew world place count (area_of seen old s) area)
+      | inl taken ↦ subst (λ (s : Side). IsOldOrNew world place count (store_area seen old s) area)
           (sym taken)
-          (left_old_or_new world place count bytes (area_of seen old (taken_side old.slots))
-          (area_of seen new (taken_side old.slots)) area has left
-          (subst (λ (s : Side). area_of seen new s ≡ Some area) taken e))
-      | inr is_other ↦ subst (λ (s : Side). IsOldOrNew world place count (area_of seen old s) area)
+          (left_old_or_new world place count bytes (store_area seen old (taken_side old.slots))
+          (store_area seen new (taken_side old.slots)) area has left
+          (subst (λ (s : Side). store_area seen new s ≡ Some area) taken e))
+      | inr is_other ↦ subst (λ (s : Side). IsOldOrNew world place count (store_area seen old s) area)
           (sym is_other)
-          (inl (sym beside ∙ subst (λ (s : Side). area_of seen new s ≡ Some area) is_other e))
+          (inl (sym beside ∙ subst (λ (s : Side). store_area seen new s ≡ Some area) is_other e))
     ]
 
 pub adds_nothing : {D : Type 0} (seen : D
@@ -80,26 +80,26 @@ module _ {D : Type 0} (tells : D → Bool) (may_leave : D → List ℕ → Type 
   pub untouched : ((d : D) (c : List ℕ) → left_since d (moment d) c → may_leave d c)
       → (world : WorldState) (place count : ℕ) (store : Snapshots D)
       → EachImage tells may_leave store.disk (IsImageOf seen store) → IsTrue (tells store.disk)
-      → LeavesOnly moment left_since store.disk store.disk (MayStand seen world place count store)
+      → LeavesOnly moment left_since store.disk store.disk (MayStandMeanwhile seen world place count store)
   untouched only_now world place count store images told =
-      started moment left_since store.disk (MayStand seen world place count store)
+      started moment left_since store.disk (MayStandMeanwhile seen world place count store)
       (λ c left. inl (images told c (only_now store.disk c left)))
 
   pub put_crash : (world : WorldState) (place count : ℕ) (bytes : List ℕ) (old : Snapshots D)
       (new : D) → HasBytes world.image bytes world
       → LeavesOnly moment left_since old.disk new
       (IsPutImage seen old (area_with place count bytes))
-      → LeavesOnly moment left_since old.disk new (MayStand seen world place count old)
+      → LeavesOnly moment left_since old.disk new (MayStandMeanwhile seen world place count old)
   put_crash world place count bytes old new has leaves =
       weaker moment left_since old.disk new (IsPutImage seen old (area_with place count bytes))
-      (MayStand seen world place count old) leaves
+      (MayStandMeanwhile seen world place count old) leaves
       (λ c put. inr (bytes, has, put))
 
 -- ---- what is stored
 
 pub put_stored : {D : Type 0} (tells : D → Bool) (may_leave : D → List ℕ → Type 0) (faults : D
     → ℕ) (world : WorldState) (place count : ℕ) (old new : Snapshots D)
-    → Puts tells may_leave faults world place count old new → is_stored place count new.slots ≡ true
+    → PutsWorld tells may_leave faults world place count old new → is_stored place count new.slots ≡ true
 put_stored tells may_leave faults world place count old new puts =
     ap (λ (s : Slots). is_stored place count s) puts.slots
     ∙ stored_with old.slots (taken_side old.slots) place count
@@ -110,14 +110,14 @@ true_false : true ≡ false → ⊥
 true_false e = cc
 
 -- bytes that fit leave no longer ones
-not_long : (world : WorldState) (bytes long : List ℕ) → HasOneSpelling → Fits world bytes
+not_long : (world : WorldState) (bytes long : List ℕ) → WorldsHaveOneSpelling → Fits world bytes
     → IsTooLong world long → ⊥
 not_long world bytes long one fits is =
     let same : length bytes ≡ length long =
     ap (λ (l : List ℕ). length l) (one world.image bytes long world fits.of_world is.of_world) in
     omega (arith, fits.short, is.long, same)
 
-module _ {D : Type 0} (faults : D → ℕ) (one : HasOneSpelling) (world : WorldState)
+module _ {D : Type 0} (faults : D → ℕ) (one : WorldsHaveOneSpelling) (world : WorldState)
     (place count : ℕ) (old new : SavesState D) where
   abbrev point : Option Point
   point = Some (record { place = place; count = count })
@@ -145,7 +145,7 @@ module _ {D : Type 0} (faults : D → ℕ) (one : HasOneSpelling) (world : World
 
   by_cause : (cause : Cause)
       → Prevents cause old.store.made world (faults old.store.disk) (faults new.store.disk)
-      → Leaves cause old.store new.store → new.missed ≡ with_cause cause old.missed
+      → FailedPutLeaves cause old.store new.store → new.missed ≡ with_cause cause old.missed
       → new.last ≡ point → CountsExactly world place count old new
   by_cause NotMade prevents leaves missed last = record {
     unmade = λ _. left_with NotMade leaves missed last;
@@ -179,10 +179,10 @@ module _ {D : Type 0} (faults : D → ℕ) (one : HasOneSpelling) (world : World
 
 -- ---- how far it writes
 
-start_within : (side : Side) → start_of side ≤ 8392720
+start_within : (side : Side) → side_start side ≤ 8392720
 start_within A = omega arith
 start_within B = omega arith
 
 pub reach_within : (old new n : ℕ) (side : Side) → n ≤ MAX_SNAPSHOT
-    → new ≤ max old (start_of side + 16 + n) → new ≤ max old 16781344
+    → new ≤ max old (side_start side + 16 + n) → new ≤ max old 16781344
 reach_within old new n side short reach = omega (arith, short, reach, start_within side)

@@ -16,7 +16,7 @@ use Rattle.session_saves.specs.declared.missed.Cause.TheVariants.{NoMemory, TooL
 use Rattle.session_saves.specs.declared.missed.Cause.TheVariants.{NotMade}
 use Rattle.session_saves.specs.declared.missed.Missed.{Missed}
 use Rattle.session_saves.specs.declared.saves.Point.{Point}
-use Rattle.session_saves.specs.Saves.{HasSince, IsCounted, IsKeptUp, due_in, falls_due, is_at}
+use Rattle.session_saves.specs.Saves.{HasSince, IsMissCounted, IsKeptUp, due_in, falls_due, is_at}
 use Rattle.session_saves.specs.Saves.{none_missed, one_more, with_cause}
 use Rattle.session_saves.specs.Laws.{IsWithinSixteen, StaysKeptUp}
 
@@ -105,7 +105,7 @@ not_due_stored slots last place count shut falls none =
     (not_missed place count last none)
 
 goes_on : (slots : Slots) (missed : Missed) (last : Option Point) (place count : ℕ)
-    → IsCounted missed last
+    → IsMissCounted missed last
     → due_in slots last place count ≡ false → IsKeptUp place count slots missed
     → IsKeptUp place (count + 1) slots missed
 goes_on slots missed last place count counted shut kept clear due some before =

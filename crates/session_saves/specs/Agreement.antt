@@ -2,15 +2,15 @@
 use Rattle.std.specs.Prelude.{◌≡◌, ◌≤◌, ℕ, false, ◌==◌, ◌&&◌, if◌then◌else◌}
 use Rattle.std.specs.Prelude.{List, [], ◌∷◌, length, Option, Some, None}
 use Rattle.std.specs.List.{Contains, last_or}
+use Rattle.gate_journal.specs.Rows.{is_open}
 use Rattle.gate_journal.specs.declared.command.Command.{Command}
 use Rattle.gate_journal.specs.declared.row.Row.{Row}
 use Rattle.story_run.specs.declared.story.Story.{Story}
 use Rattle.story_run.specs.World.{WorldState}
 use Rattle.story_snap.specs.Bytes.{HasBytes}
 use Rattle.session_core.specs.Checks.{is_other_story}
-use Rattle.session_core.specs.History.{is_open}
 use Rattle.snap_store.specs.File.{Stored, openable_area}
-use Rattle.snap_store.specs.Store.{Snapshots, area_of}
+use Rattle.snap_store.specs.Store.{Snapshots, store_area}
 use Rattle.snap_store.specs.declared.side.Side.{Side}
 use Rattle.session_saves.specs.Game.{inputs_of, world_at}
 
@@ -43,7 +43,7 @@ pub record Agrees
 abbrev pub IsAgreed :
     {D : Type 0} → (D → List ℕ) → List Story → List ℕ → List Command → Snapshots D → Type 0
 IsAgreed seen stories rows game store =
-    (side : Side) (area : Stored) → area_of seen store side ≡ Some area
+    (side : Side) (area : Stored) → store_area seen store side ≡ Some area
     → Agrees stories rows game area
 
 -- each area of a file that may open does

@@ -16,15 +16,15 @@ abbrev pub inputs_of : List Command → List Input
 inputs_of game = filter_map input_of game
 
 -- the story that the OPEN names, where it is there
-abbrev pub story_of : List Story → List Command → Option Story
-story_of stories (Open key story digest seed cols rows budget ∷ after) = story_at stories story
-story_of stories _ = None
+abbrev pub opened_story : List Story → List Command → Option Story
+opened_story stories (Open key story digest seed cols rows budget ∷ after) = story_at stories story
+opened_story stories _ = None
 
 -- what the OPEN begins it with; zeros where there is no OPEN
-abbrev pub setup_of : List Command → Setup
-setup_of (Open key story digest seed cols rows budget ∷ after) =
+abbrev pub opening_setup : List Command → Setup
+opening_setup (Open key story digest seed cols rows budget ∷ after) =
     record { seed = seed; cols = cols; rows = rows; budget = budget }
-setup_of _ = record { seed = 0; cols = 0; rows = 0; budget = 0 }
+opening_setup _ = record { seed = 0; cols = 0; rows = 0; budget = 0 }
 
 -- the world of a story, if there is one, run alone on these inputs
 abbrev pub played : Option Story → Setup → List Input → Option WorldState
@@ -34,13 +34,13 @@ played (Some story) setup inputs = Some (world_after story.image setup inputs)
 -- the world that a game had come to after its first n inputs
 abbrev pub world_at : List Story → List Command → ℕ → Option WorldState
 world_at stories game n =
-    played (story_of stories game) (setup_of game) (take n (inputs_of game))
+    played (opened_story stories game) (opening_setup game) (take n (inputs_of game))
 
 -- the turns of a world, if there is one, on these inputs
-abbrev pub turns_from : Option WorldState → List Input → ℕ
-turns_from None inputs = 0
-turns_from (Some world) inputs = turns_by world inputs
+abbrev pub turns_of_inputs : Option WorldState → List Input → ℕ
+turns_of_inputs None inputs = 0
+turns_of_inputs (Some world) inputs = turns_by world inputs
 
 -- the turns of a game behind its first n inputs: one for each input that the world before it wants
 abbrev pub turns_after : List Story → List Command → ℕ → ℕ
-turns_after stories game n = turns_from (world_at stories game n) (drop n (inputs_of game))
+turns_after stories game n = turns_of_inputs (world_at stories game n) (drop n (inputs_of game))

@@ -5,7 +5,7 @@ use Rattle.story_run.specs.World.{WorldState}
 use Rattle.story_snap.specs.Bytes.{HasBytes}
 use Rattle.snap_store.specs.File.{Stored, open_area}
 use Rattle.snap_store.specs.Slots.{taken_side, with_slot}
-use Rattle.snap_store.specs.Store.{Snapshots, IsImageOf, IsPutImage, area_of}
+use Rattle.snap_store.specs.Store.{Snapshots, IsImageOf, IsPutImage, store_area}
 use Rattle.snap_store.specs.declared.outline.TheConstants.{MAX_SNAPSHOT}
 use Rattle.snap_store.specs.declared.side.Side.{Side}
 use Rattle.snap_store.specs.declared.slot.Slot.TheVariants.{Closed, Open, Unsure}
@@ -40,13 +40,13 @@ Prevents DiskFailed made world before now =
 
 -- a put that didn't begin leaves the store; one that failed has taken the area that isn't the
 -- newest, whose gate isn't known to be open then
-abbrev pub Leaves : {D : Type 0} → Cause → Snapshots D → Snapshots D → Type 0
-Leaves DiskFailed old new =
+abbrev pub FailedPutLeaves : {D : Type 0} → Cause → Snapshots D → Snapshots D → Type 0
+FailedPutLeaves DiskFailed old new =
     (new.slots ≡ with_slot old.slots (taken_side old.slots) Closed)
     ⊎ (new.slots ≡ with_slot old.slots (taken_side old.slots) Unsure)
-Leaves NotMade old new = new ≡ old
-Leaves NoMemory old new = new ≡ old
-Leaves TooLong old new = new ≡ old
+FailedPutLeaves NotMade old new = new ≡ old
+FailedPutLeaves NoMemory old new = new ≡ old
+FailedPutLeaves TooLong old new = new ≡ old
 
 -- the snapshot of a world was missed
 pub record IsMissed
@@ -58,7 +58,7 @@ pub record IsMissed
   pub cause : Cause
   pub prevents :
       Prevents cause old.store.made world (faults old.store.disk) (faults new.store.disk)
-  pub leaves : Leaves cause old.store new.store
+  pub leaves : FailedPutLeaves cause old.store new.store
   pub counted : new.missed ≡ with_cause cause old.missed
   pub last : new.last ≡ Some (record { place = place; count = count })
 
@@ -89,7 +89,7 @@ pub record CountsExactly
       ((bytes : List ℕ) → IsTooLong world bytes → ⊥) → new.missed.size ≡ old.missed.size
 
 -- it was put into a store: its area is known to be open, and is in each image
-pub record Puts
+pub record PutsWorld
     {D : Type 0}
     (tells : D → Bool)
     (may_leave : D → List ℕ → Type 0)
@@ -115,7 +115,7 @@ pub record IsPut
     (world : WorldState)
     (place count : ℕ)
     (old new : SavesState D) : Type 0 where
-  pub store : Puts tells may_leave faults world place count old.store new.store
+  pub store : PutsWorld tells may_leave faults world place count old.store new.store
   pub missed : new.missed ≡ old.missed
   pub last : new.last ≡ old.last
 
@@ -130,14 +130,14 @@ IsOldOrNew world place count old area =
 abbrev pub AddsOnly :
     {D : Type 0} → (D → List ℕ) → WorldState → ℕ → ℕ → Snapshots D → Snapshots D → Type 0
 AddsOnly seen world place count old new =
-    (side : Side) (area : Stored) → area_of seen new side ≡ Some area
-    → IsOldOrNew world place count (area_of seen old side) area
+    (side : Side) (area : Stored) → store_area seen new side ≡ Some area
+    → IsOldOrNew world place count (store_area seen old side) area
 
 -- an image that a stop may leave meanwhile: one of the store, or one during a put of the snapshot,
 -- in which the newest area of beforehand stands
-abbrev pub MayStand :
+abbrev pub MayStandMeanwhile :
     {D : Type 0} → (D → List ℕ) → WorldState → ℕ → ℕ → Snapshots D → List ℕ → Type 0
-MayStand seen world place count store image =
+MayStandMeanwhile seen world place count store image =
     IsImageOf seen store image
     ⊎ ((bytes : List ℕ) × HasBytes world.image bytes world
     × IsPutImage seen store (area_with place count bytes) image)

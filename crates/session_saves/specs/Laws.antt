@@ -3,19 +3,20 @@ use Rattle.std.specs.Prelude.{◌≡◌, ◌≤◌, ◌<◌, ℕ, ◌+◌, ◌*�
 use Rattle.std.specs.Prelude.{Option, Some}
 use Rattle.std.specs.List.{Contains}
 use Rattle.glk_input.specs.declared.input.Input.{Input}
+use Rattle.gate_journal.specs.Rows.{is_open}
 use Rattle.gate_journal.specs.declared.command.Command.{Command}
 use Rattle.story_run.specs.declared.story.Story.{Story}
 use Rattle.story_run.specs.World.{WorldState}
-use Rattle.story_run.specs.Solo.{is_wanted, turned}
-use Rattle.session_core.specs.History.{is_open, world_of}
+use Rattle.story_run.specs.Solo.{is_wanted, world_after_input}
+use Rattle.session_core.specs.History.{world_of}
 use Rattle.session_core.specs.Turns.{turns_by}
 use Rattle.snap_store.specs.File.{Stored}
 use Rattle.snap_store.specs.Store.{Snapshots}
 use Rattle.snap_store.specs.declared.slot.Slots.{Slots}
 use Rattle.session_saves.specs.Agreement.{Agrees, IsAgreed, IsAgreedFile, last_row}
 use Rattle.session_saves.specs.Game.{inputs_of}
-use Rattle.session_saves.specs.Keeping.{MayStand}
-use Rattle.session_saves.specs.Saves.{HasSince, IsCounted, IsKeptUp, due_in, none_missed}
+use Rattle.session_saves.specs.Keeping.{MayStandMeanwhile}
+use Rattle.session_saves.specs.Saves.{HasSince, IsMissCounted, IsKeptUp, due_in, none_missed}
 use Rattle.session_saves.specs.declared.missed.Missed.{Missed}
 use Rattle.session_saves.specs.declared.saves.Point.{Point}
 
@@ -46,7 +47,7 @@ ImagesStayAgreed {D} seen =
     → last_row rows ≡ Some place
     → world_of stories game ≡ Some world
     → IsAgreed seen stories rows game store
-    → MayStand seen world place (length (inputs_of game)) store image
+    → MayStandMeanwhile seen world place (length (inputs_of game)) store image
     → IsAgreedFile stories rows game image
 
 -- Snapshots are kept up at most 16 inputs after an OPEN, or behind an open area of that OPEN row;
@@ -61,7 +62,7 @@ pub record StaysKeptUp : Type 0 where
       → IsKeptUp place count slots missed
   pub goes_on :
       (slots : Slots) (missed : Missed) (last : Option Point) (place count : ℕ)
-      → IsCounted missed last
+      → IsMissCounted missed last
       → due_in slots last place count ≡ false
       → IsKeptUp place count slots missed
       → IsKeptUp place (count + 1) slots missed
@@ -79,7 +80,7 @@ IsWithinSixteen =
 abbrev pub AreWanted : WorldState → List Input → Type 0
 AreWanted world [] = Unit {0}
 AreWanted world (input ∷ inputs) =
-    (is_wanted world input ≡ true) × AreWanted (turned world input) inputs
+    (is_wanted world input ≡ true) × AreWanted (world_after_input world input) inputs
 
 -- As many turns as inputs are taken where all of them are wanted.
 abbrev pub WantedInputsAreTurns : Type 0

@@ -23,12 +23,12 @@ abbrev pub none_missed : Missed
 none_missed = record { memory = 0; size = 0; fault = 0; none = 0 }
 
 -- those of a store that was just opened
-abbrev pub opened : {D : Type 0} → Snapshots D → SavesState D
-opened store = record { store = store; missed = none_missed; last = None }
+abbrev pub saves_of_opened_store : {D : Type 0} → Snapshots D → SavesState D
+saves_of_opened_store store = record { store = store; missed = none_missed; last = None }
 
 -- what is true of each: what was missed last is counted
-abbrev pub IsCounted : Missed → Option Point → Type 0
-IsCounted missed last = missed ≡ none_missed → last ≡ None
+abbrev pub IsMissCounted : Missed → Option Point → Type 0
+IsMissCounted missed last = missed ≡ none_missed → last ≡ None
 
 -- one more; at the end of a u64 a count stands still
 abbrev pub one_more : ℕ → ℕ

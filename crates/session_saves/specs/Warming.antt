@@ -10,9 +10,9 @@ use Rattle.story_run.specs.Solo.{opening, turned_by}
 use Rattle.story_snap.specs.Bytes.{HasBytes, HasNoWorld}
 use Rattle.disk_model.specs.Disk.{Rose}
 use Rattle.session_core.specs.Turns.{turns_by}
-use Rattle.snap_store.specs.File.{given, newest_area}
+use Rattle.snap_store.specs.File.{area_given, newest_area}
 use Rattle.snap_store.specs.declared.area.Area.{Area}
-use Rattle.session_saves.specs.Game.{inputs_of, setup_of, story_of}
+use Rattle.session_saves.specs.Game.{inputs_of, opening_setup, opened_story}
 
 -- with what a warming begins: a world, and how many of the game's inputs are behind it
 pub record Beginning : Type 0 where
@@ -55,13 +55,13 @@ WarmsIn (Some story) setup inputs area (Some world) before after =
 
 -- What was found in a file: the newest open area of this OPEN row with a count of at most `most`,
 -- where the disk didn't fail; none where it did. The counts are those of the disk's faults.
-pub record Finds
+pub record FindsArea
     (told : Bool)
     (file : List ℕ)
     (place most before now : ℕ)
     (area : Option Area) : Type 0 where
   pub newest :
-      IsTrue told → (Rose before now → ⊥) → area ≡ given (newest_area place most file)
+      IsTrue told → (Rose before now → ⊥) → area ≡ area_given (newest_area place most file)
   pub failed : before < now → area ≡ None
 
 -- a game was warmed from what was found
@@ -74,9 +74,9 @@ pub record WarmsFrom
     (world : Option WorldState)
     (steps_before steps_now : ℕ) : Type 0 where
   pub area : Option Area
-  pub finds : Finds told file place (length (inputs_of game)) faults_before faults_now area
+  pub finds : FindsArea told file place (length (inputs_of game)) faults_before faults_now area
   pub warms :
-      WarmsIn (story_of stories game) (setup_of game) (inputs_of game) area world
+      WarmsIn (opened_story stories game) (opening_setup game) (inputs_of game) area world
       steps_before steps_now
 
 -- the inputs behind an area, or none

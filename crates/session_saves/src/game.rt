@@ -3,7 +3,7 @@
 ghost use Rattle.std.specs.Prelude.{◌≡◌, length, drop, is_some, None, Some, MatchOption};
 ghost use Rattle.std.specs.List.{filter_map};
 ghost use Rattle.session_core.specs.History.{input_of};
-ghost use Rattle.session_saves.specs.Game.{inputs_of, setup_of, story_of};
+ghost use Rattle.session_saves.specs.Game.{inputs_of, opening_setup, opened_story};
 
 use gate_journal::Command;
 use session_core::story_at;
@@ -11,8 +11,8 @@ use story_run::{Setup, Story};
 
 /// The story of a game, where it is there, and what its OPEN begins it with.
 pub fn opened<'a, 'i>(stories: &'a [Story<'i>], game: &[Command]) -> Option<(&'a Story<'i>, Setup)>
-    ensures { MatchOption result (story_of stories.now game.now ≡ None)
-        (λ x. (story_of stories.now game.now ≡ Some x.0.now) × (x.1 ≡ setup_of game.now)) }
+    ensures { MatchOption result (opened_story stories.now game.now ≡ None)
+        (λ x. (opened_story stories.now game.now ≡ Some x.0.now) × (x.1 ≡ opening_setup game.now)) }
 {
     match game {
         [

@@ -38,28 +38,30 @@ pub struct Saves<D: Disk> {
 }
 
 impl<D: Disk> Model for Saves<D> {
-    ghost use Rattle.session_saves.specs.Saves.{IsCounted, SavesState};
+    ghost use Rattle.session_saves.specs.Saves.{IsMissCounted, SavesState};
 
     ghost Value = { SavesState D };
 
     ghost view = { λ s. record { store = s.store; missed = s.missed; last = s.last } };
 
-    ghost invariant = { λ s. IsCounted s.missed s.last };
+    ghost invariant = { λ s. IsMissCounted s.missed s.last };
 }
 
 impl<D: Disk> Saves<D> {
-    ghost use Rattle.snap_store.specs.File.{newest_area, given};
-    ghost use Rattle.snap_store.specs.Store.{IsImageOf, area_of};
+    ghost use Rattle.snap_store.specs.File.{newest_area, area_given};
+    ghost use Rattle.snap_store.specs.Store.{IsImageOf, store_area};
     ghost use Rattle.snap_store.specs.declared.side.Side.{Side};
     ghost use Rattle.session_saves.specs.Agreement.{IsAgreed, last_row};
     ghost use Rattle.session_saves.specs.Game.{inputs_of, turns_after};
-    ghost use Rattle.session_saves.specs.Keeping.{AddsOnly, CountsExactly, IsMissed, IsPut, MayStand};
-    ghost use Rattle.session_saves.specs.Saves.{IsCounted, IsKeptUp, is_due, opened};
+    ghost use Rattle.session_saves.specs.Keeping.{AddsOnly, CountsExactly, IsMissed, IsPut};
+    ghost use Rattle.session_saves.specs.Keeping.{MayStandMeanwhile};
+    ghost use Rattle.session_saves.specs.Saves.{IsMissCounted, IsKeptUp, is_due};
+    ghost use Rattle.session_saves.specs.Saves.{saves_of_opened_store};
     ghost use Rattle.session_saves.specs.Warming.{WarmsFrom, count_in};
 
     /// The snapshots of a store, of which none was missed.
     pub fn open(store: Store<D>) -> Saves<D>
-        ensures value { result ≡ opened store }
+        ensures value { result ≡ saves_of_opened_store store }
     {
         Saves {
             store,
@@ -71,7 +73,7 @@ impl<D: Disk> Saves<D> {
     /// How many puts were prevented, by cause.
     pub fn missed(&self) -> Missed
         ensures value { result ≡ self.now.missed }
-        ensures counted { IsCounted self.now.missed self.now.last }
+        ensures counted { IsMissCounted self.now.missed self.now.last }
     {
         self.missed
     }
@@ -115,7 +117,7 @@ impl<D: Disk> Saves<D> {
         // what a stop may leave meanwhile, and after it
         ensures crash { IsTrue (D.tells self.old.store.disk)
             → LeavesOnly D.moment D.left_since self.old.store.disk self.new.store.disk
-            (MayStand D.seen world.now place count self.old.store) }
+            (MayStandMeanwhile D.seen world.now place count self.old.store) }
         ensures images { EachImage D.tells D.may_leave self.new.store.disk
             (IsImageOf D.seen self.new.store) }
 
@@ -164,7 +166,7 @@ impl<D: Disk> Saves<D> {
             → is_other_story stories.now game.now ≡ false
             → IsAgreed D.seen stories.now rows game.now self.old.store
             → OnOk result (steps.new ≡ steps.old + turns_after stories.now game.now
-            (count_in (given (newest_area place (length (inputs_of game.now))
+            (count_in (area_given (newest_area place (length (inputs_of game.now))
             (D.seen self.old.store.disk))))) }
 
         // whatever the areas are
@@ -175,7 +177,7 @@ impl<D: Disk> Saves<D> {
 
         ensures counts { D.faults self.old.store.disk ≤ D.faults self.new.store.disk }
         ensures areas { (side : Side) → IsTrue (D.tells self.old.store.disk)
-            → area_of D.seen self.new.store side ≡ area_of D.seen self.old.store side }
+            → store_area D.seen self.new.store side ≡ store_area D.seen self.old.store side }
         ensures images { EachImage D.tells D.may_leave self.new.store.disk
             (IsImageOf D.seen self.new.store) }
         ensures kept { OnlyLooks D.tells D.may_leave D.moment D.left_since D.reach D.room D.label

@@ -3,7 +3,8 @@
 ghost use Rattle.std.specs.Prelude.{◌≡◌, ◌≤◌, ◌+◌, IsTrue, max, IfErr, OnOk, true};
 ghost use Rattle.disk_model.specs.Disk.{EachImage, LeavesOnly, SameDisk};
 ghost use Rattle.snap_store.specs.Store.{IsImageOf};
-ghost use Rattle.session_saves.specs.Keeping.{AddsOnly, Leaves, MayStand, Prevents, Puts};
+ghost use Rattle.session_saves.specs.Keeping.{AddsOnly, FailedPutLeaves, MayStandMeanwhile};
+ghost use Rattle.session_saves.specs.Keeping.{Prevents, PutsWorld};
 
 use crate::missed::Cause;
 use disk_model::Disk;
@@ -20,17 +21,17 @@ pub fn put<D: Disk>(
     place: u64,
     count: u32,
 ) -> Result<(), Cause>
-    ensures ok { OnOk result (Puts D.tells D.may_leave D.faults world.now place count
+    ensures ok { OnOk result (PutsWorld D.tells D.may_leave D.faults world.now place count
         store.old store.new) }
     ensures cause { IfErr result (λ cause. Prevents cause store.old.made world.now
         (D.faults store.old.disk) (D.faults store.new.disk)) }
-    ensures err { IfErr result (λ cause. Leaves cause store.old store.new) }
+    ensures err { IfErr result (λ cause. FailedPutLeaves cause store.old store.new) }
     ensures counts { D.faults store.old.disk ≤ D.faults store.new.disk }
     ensures areas { IsTrue (D.tells store.old.disk)
         → AddsOnly D.seen world.now place count store.old store.new }
     ensures crash { IsTrue (D.tells store.old.disk)
         → LeavesOnly D.moment D.left_since store.old.disk store.new.disk
-        (MayStand D.seen world.now place count store.old) }
+        (MayStandMeanwhile D.seen world.now place count store.old) }
     ensures images { EachImage D.tells D.may_leave store.new.disk (IsImageOf D.seen store.new) }
     ensures reach { D.reach store.new.disk ≤ max (D.reach store.old.disk) 16781344 }
     ensures kept { SameDisk D.tells D.room D.label store.old.disk store.new.disk

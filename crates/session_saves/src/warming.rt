@@ -4,10 +4,10 @@ ghost use Rattle.std.specs.Prelude.{◌≡◌, ◌≤◌, IsTrue};
 ghost use Rattle.std.specs.Prelude.{IfOk, IfSome, MatchOption};
 ghost use Rattle.disk_model.specs.Disk.{EachImage, OnlyLooks};
 ghost use Rattle.story_snap.specs.Bytes.{HasBytes, HasNoWorld};
-ghost use Rattle.snap_store.specs.Store.{IsGiven, IsImageOf, area_of};
+ghost use Rattle.snap_store.specs.Store.{IsGiven, IsImageOf, store_area};
 ghost use Rattle.snap_store.specs.declared.side.Side.{Side};
 ghost use Rattle.session_saves.specs.Game.{inputs_of};
-ghost use Rattle.session_saves.specs.Warming.{BeginsWith, Finds, Warms};
+ghost use Rattle.session_saves.specs.Warming.{BeginsWith, FindsArea, Warms};
 
 use crate::game::behind;
 use disk_model::Disk;
@@ -27,13 +27,13 @@ pub fn found<D: Disk>(
     place: u64,
     most: u32,
 ) -> Result<Option<Area>, AllocError>
-    ensures value { IfOk result (λ area. Finds (D.tells store.old.disk) (D.seen store.old.disk)
+    ensures value { IfOk result (λ area. FindsArea (D.tells store.old.disk) (D.seen store.old.disk)
         place most (D.faults store.old.disk) (D.faults store.new.disk) area) }
     ensures given { IfOk result (λ area. IsTrue (D.tells store.old.disk)
         → IfSome area (IsGiven D.seen store.old place most)) }
     ensures counts { D.faults store.old.disk ≤ D.faults store.new.disk }
     ensures areas { (side : Side) → IsTrue (D.tells store.old.disk)
-        → area_of D.seen store.new side ≡ area_of D.seen store.old side }
+        → store_area D.seen store.new side ≡ store_area D.seen store.old side }
     ensures images { EachImage D.tells D.may_leave store.new.disk (IsImageOf D.seen store.new) }
     ensures kept { OnlyLooks D.tells D.may_leave D.moment D.left_since D.reach D.room D.label
         store.old.disk store.new.disk }

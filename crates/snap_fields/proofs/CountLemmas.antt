@@ -4,7 +4,7 @@ use Rattle.std.specs.List.{AllByRecursion}
 use Rattle.snap_fields.specs.Counts.{CountsList, CountsWindow, HasCells, CountsRequest, CountsTarget}
 use Rattle.snap_fields.specs.Counts.{HasCounts}
 use Rattle.snap_fields.specs.Numbers.{IsListOf}
-use Rattle.snap_fields.specs.Printable.{IsContent, IsRequest, IsWindow, IsTarget, IsPrintable}
+use Rattle.snap_fields.specs.Printable.{IsContent, IsGlkRequest, IsWindow, IsTarget, IsPrintable}
 use Rattle.snap_fields.specs.declared.fields.Fields.{Fields}
 use Rattle.snap_fields.specs.declared.glk.Area.{Area}
 use Rattle.snap_fields.specs.declared.glk.Content.{Content}
@@ -30,7 +30,7 @@ cells area Blank h = tt
 cells area Buffer h = tt
 cells area (Grid x y codes) h = h.2
 
-request : (r : Request) → IsRequest r → CountsRequest r
+request : (r : Request) → IsGlkRequest r → CountsRequest r
 request Nothing h = tt
 request (Line unicode buffer maximum initial echo terminators) h = h.3.0
 request (Char unicode) h = tt

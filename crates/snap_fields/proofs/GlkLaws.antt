@@ -12,12 +12,12 @@ use Rattle.snap_fields.specs.declared.glk.Content.TheVariants.{Pair, Blank, Buff
 use Rattle.snap_fields.specs.declared.glk.Request.{Request}
 use Rattle.snap_fields.specs.declared.glk.Request.TheVariants.{Nothing, Line, Char}
 use Rattle.snap_fields.specs.declared.glk.Window.{Window}
-use Rattle.snap_fields.specs.Printing.{type_of, print_area, print_content, print_request}
+use Rattle.snap_fields.specs.Printing.{type_of, print_area, print_content, print_glk_request}
 use Rattle.snap_fields.specs.Printing.{print_window}
-use Rattle.snap_fields.specs.Printable.{IsArea, IsContent, IsRequest, IsWindow}
-use Rattle.snap_fields.specs.GlkItems.{area_of, area_at, pair_of, grid_of, content_at, line_of}
+use Rattle.snap_fields.specs.Printable.{IsArea, IsContent, IsGlkRequest, IsWindow}
+use Rattle.snap_fields.specs.GlkItems.{area_item, area_at, pair_item, grid_of, content_at, line_item}
 use Rattle.snap_fields.specs.GlkItems.{request_with, request_at, Head, head_at, behind_head}
-use Rattle.snap_fields.specs.GlkItems.{window_of, window_at}
+use Rattle.snap_fields.specs.GlkItems.{window_item, window_item_at}
 use Rattle.snap_fields.proofs.Readers.{IsReader, ◌before◌, made_reads, led_reads, joined_reads}
 use Rattle.snap_fields.proofs.Readers.{none_reads, pure_reads, if_reads, n1_reads, n4_reads}
 use Rattle.snap_fields.proofs.Lists.{list_reads, many_reads, flag1_reads, flag4_reads}
@@ -31,7 +31,7 @@ codes_reads = list_reads n4 IsWord n4_at n4_reads
 pub area_reads : IsReader Area print_area IsArea area_at
 unfolding area_at
 area_reads =
-    made_reads print_area IsArea area_of (n4_reads before n4_reads before n4_reads before n4_reads)
+    made_reads print_area IsArea area_item (n4_reads before n4_reads before n4_reads before n4_reads)
     (λ a h. ((a.x, (a.y, (a.w, a.h))), refl, (h.x, (h.y, (h.w, h.h)))))
     (λ x h. record { x = h.0; y = h.1.0; w = h.1.1.0; h = h.1.1.1 })
     (λ x h. refl)
@@ -40,7 +40,7 @@ abbrev Holds : Area → ℕ → Content → Type 0
 Holds area type content = (type_of content ≡ type) × IsContent area content
 
 pair_only : (area : Area) (n : ℕ) → n ≡ 1 → (c : Content) → Holds area n c
-    → (x : ℕ × (ℕ × (ℕ × (ℕ × ℕ)))) × (pair_of x ≡ c)
+    → (x : ℕ × (ℕ × (ℕ × (ℕ × ℕ)))) × (pair_item x ≡ c)
     × (IsWord x.0 × (IsWord x.1.0 × (IsWord x.1.1.0 × (IsWord x.1.1.1.0 × IsWord x.1.1.1.1))))
 pair_only area n e (Pair method size key first second) h =
     ((method, (size, (key, (first, second)))), refl, (h.1.0, (h.1.1, (h.1.2, (h.1.3, h.1.4)))))
@@ -77,7 +77,7 @@ unfolding content_at
 content_reads n area =
     if_reads print_content (Holds area n) (n == 1) _ _
     (λ e. let is = equal n 1 e in
-    made_reads print_content (Holds area n) pair_of
+    made_reads print_content (Holds area n) pair_item
     (n4_reads before n4_reads before n4_reads before n4_reads before n4_reads)
     (pair_only area n is)
     (λ x h. (sym is, (h.0, h.1.0, h.1.1.0, h.1.1.1.0, h.1.1.1.1))) (λ x h. refl))
@@ -108,14 +108,14 @@ behind_kind (Line unicode buffer maximum initial echo terminators) =
 behind_kind (Char unicode) = n1 (flag unicode)
 
 abbrev Asks : ℕ → Request → Type 0
-Asks kind r = (kind_in r ≡ kind) × IsRequest r
+Asks kind r = (kind_in r ≡ kind) × IsGlkRequest r
 
-kind_small : (r : Request) → IsRequest r → IsByte (kind_in r)
+kind_small : (r : Request) → IsGlkRequest r → IsByte (kind_in r)
 kind_small Nothing h = omega arith
 kind_small (Line unicode buffer maximum initial echo terminators) h = omega arith
 kind_small (Char unicode) h = omega arith
 
-led : (r : Request) → print_request r ≡ n1 (kind_in r) ++ behind_kind r
+led : (r : Request) → print_glk_request r ≡ n1 (kind_in r) ++ behind_kind r
 led Nothing = refl
 led (Line unicode buffer maximum initial echo terminators) = refl
 led (Char unicode) = refl
@@ -125,7 +125,7 @@ nothing_only n e Nothing h = refl
 nothing_only n e r h = absurd (omega (arith, e, h.0))
 
 line_only : (n : ℕ) → n ≡ 1 → (r : Request) → Asks n r
-    → (x : Bool × (ℕ × (ℕ × (ℕ × (Bool × List ℕ))))) × (line_of x ≡ r)
+    → (x : Bool × (ℕ × (ℕ × (ℕ × (Bool × List ℕ))))) × (line_item x ≡ r)
     × (Unit {0} × (IsWord x.1.0 × (IsWord x.1.1.0 × (IsWord x.1.1.1.0
     × (Unit {0} × IsListOf IsWord x.1.1.1.1.1)))))
 line_only n e (Line unicode buffer maximum initial echo terminators) h = (
@@ -154,7 +154,7 @@ request_with_reads n =
     pure_reads behind_kind (Asks n) Nothing refl (sym is, tt) (nothing_only n is))
     (λ a. if_reads behind_kind (Asks n) (n == 1) _ _
     (λ e. let is = equal n 1 e in
-    made_reads behind_kind (Asks n) line_of
+    made_reads behind_kind (Asks n) line_item
     (flag1_reads before n4_reads before n4_reads before n4_reads before flag1_reads
     before codes_reads)
     (line_only n is)
@@ -165,10 +165,10 @@ request_with_reads n =
     (λ x h. (sym is, tt)) (λ x h. refl))
     (λ c. none_reads behind_kind (Asks n) (no_request n a b c))))
 
-pub request_reads : IsReader Request print_request IsRequest request_at
+pub request_reads : IsReader Request print_glk_request IsGlkRequest request_at
 unfolding request_at
 request_reads =
-    led_reads n1 IsByte print_request behind_kind IsRequest kind_in n1_at request_with
+    led_reads n1 IsByte print_glk_request behind_kind IsGlkRequest kind_in n1_at request_with
     kind_small led n1_reads (λ n h. request_with_reads n)
 
 -- a window up to its rectangle, and what stands behind it
@@ -189,11 +189,11 @@ head_reads =
     before flag4_reads before codes_reads before area_reads
 
 abbrev print_behind : Content × Request → List ℕ
-print_behind p = print_content p.0 ++ print_request p.1
+print_behind p = print_content p.0 ++ print_glk_request p.1
 
 abbrev IsBehind : Head → Content × Request → Type 0
 IsBehind (number, (type, (rock, (stream, (echo_stream, (parent, (echo, (terminators, area))))))))
-    p = Holds area type p.0 × IsRequest p.1
+    p = Holds area type p.0 × IsGlkRequest p.1
 
 behind_reads : (head : Head) → IsReader (Content × Request) print_behind (IsBehind head)
     (behind_head head)
@@ -207,10 +207,10 @@ type_small Blank = omega arith
 type_small Buffer = omega arith
 type_small (Grid x y cells) = omega arith
 
-pub window_reads : IsReader Window print_window IsWindow window_at
-unfolding window_at
+pub window_reads : IsReader Window print_window IsWindow window_item_at
+unfolding window_item_at
 window_reads =
-    made_reads print_window IsWindow window_of
+    made_reads print_window IsWindow window_item
     (joined_reads print_head IsHead print_behind IsBehind head_at behind_head head_reads
     (λ head h. behind_reads head))
     (λ w h. (

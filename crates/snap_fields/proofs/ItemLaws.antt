@@ -15,11 +15,11 @@ use Rattle.snap_fields.specs.declared.fields.Waiting.{Waiting}
 use Rattle.snap_fields.specs.declared.fields.Waiting.TheVariants.{Quit, Fault, Select, Prompt}
 use Rattle.snap_fields.specs.Printing.{print_setup, print_block, print_machine, print_settings}
 use Rattle.snap_fields.specs.Printing.{print_random, print_store, print_waiting, print_numbers}
-use Rattle.snap_fields.specs.Printable.{IsSetup, IsBlock, IsMachine, IsSettings, IsRandom, IsStore}
-use Rattle.snap_fields.specs.Printable.{IsWaiting, IsNumbers}
-use Rattle.snap_fields.specs.Items.{setup_of, setup_at, block_of, block_at, machine_of, machine_at}
-use Rattle.snap_fields.specs.Items.{settings_of, settings_at, random_of, random_at}
-use Rattle.snap_fields.specs.Items.{store_of, store_at}
+use Rattle.snap_fields.specs.Printable.{IsSetup, IsBlock, IsMachine, IsSettings, IsRandom, IsStoreFields}
+use Rattle.snap_fields.specs.Printable.{IsWaitingFields, IsNumbers}
+use Rattle.snap_fields.specs.Items.{setup_item, setup_at, block_of, block_at, machine_item, machine_at}
+use Rattle.snap_fields.specs.Items.{settings_item, settings_at, random_of, random_at}
+use Rattle.snap_fields.specs.Items.{store_item, store_at}
 use Rattle.snap_fields.specs.Items.{select_of, prompt_of, waiting_with, waiting_at, numbers_of}
 use Rattle.snap_fields.specs.Items.{numbers_at}
 use Rattle.snap_fields.proofs.Readers.{IsReader, ◌before◌, made_reads, led_reads}
@@ -32,7 +32,7 @@ use Rattle.snap_fields.proofs.Lists.{list_reads, bytes_reads}
 pub setup_reads : IsReader Setup print_setup IsSetup setup_at
 unfolding setup_at
 setup_reads =
-    made_reads print_setup IsSetup setup_of
+    made_reads print_setup IsSetup setup_item
     (n8_reads before n1_reads before n1_reads before n8_reads)
     (λ s h. ((s.seed, (s.cols, (s.rows, s.budget))), refl, (h.seed, (h.cols, (h.rows, h.budget)))))
     (λ x h. record { seed = h.0; cols = h.1.0; rows = h.1.1.0; budget = h.1.1.1 })
@@ -49,7 +49,7 @@ block_reads =
 pub machine_reads : IsReader Machine print_machine IsMachine machine_at
 unfolding machine_at
 machine_reads =
-    made_reads print_machine IsMachine machine_of
+    made_reads print_machine IsMachine machine_item
     (n4_reads before n4_reads before bytes_reads before bytes_reads before n4_reads
     before list_reads print_block IsBlock block_at block_reads)
     (λ m h. (
@@ -72,7 +72,7 @@ machine_reads =
 pub settings_reads : IsReader Settings print_settings IsSettings settings_at
 unfolding settings_at
 settings_reads =
-    made_reads print_settings IsSettings settings_of
+    made_reads print_settings IsSettings settings_item
     (n4_reads before n4_reads before n4_reads before n4_reads before n4_reads)
     (λ s h. (
       (s.mode, (s.rock, (s.string_table, (s.protect_start, s.protect_length)))),
@@ -103,10 +103,10 @@ random_reads =
 
 -- ---- 5. what the story waits for, or how it ended
 
-pub store_reads : IsReader Store print_store IsStore store_at
+pub store_reads : IsReader Store print_store IsStoreFields store_at
 unfolding store_at
 store_reads =
-    made_reads print_store IsStore store_of (n4_reads before n4_reads)
+    made_reads print_store IsStoreFields store_item (n4_reads before n4_reads)
     (λ s h. ((s.kind, s.address), refl, h)) (λ x h. h) (λ x h. refl)
 
 abbrev kind_in : Waiting → ℕ
@@ -123,9 +123,9 @@ behind_kind (Prompt usage mode rock store) =
     n4 usage ++ (n4 mode ++ (n4 rock ++ print_store store))
 
 abbrev Waits : ℕ → Waiting → Type 0
-Waits kind w = (kind_in w ≡ kind) × IsWaiting w
+Waits kind w = (kind_in w ≡ kind) × IsWaitingFields w
 
-kind_small : (w : Waiting) → IsWaiting w → IsByte (kind_in w)
+kind_small : (w : Waiting) → IsWaitingFields w → IsByte (kind_in w)
 kind_small Quit h = omega arith
 kind_small (Fault code) h = omega arith
 kind_small (Select reference store) h = omega arith
@@ -147,13 +147,13 @@ fault_only n e (Fault code) h = (code, refl, h.1)
 fault_only n e w h = absurd (omega (arith, e, h.0))
 
 select_only : (n : ℕ) → n ≡ 2 → (w : Waiting) → Waits n w
-    → (x : ℕ × Store) × (select_of x ≡ w) × (IsWord x.0 × IsStore x.1)
+    → (x : ℕ × Store) × (select_of x ≡ w) × (IsWord x.0 × IsStoreFields x.1)
 select_only n e (Select reference store) h = ((reference, store), refl, h.1)
 select_only n e w h = absurd (omega (arith, e, h.0))
 
 prompt_only : (n : ℕ) → n ≡ 3 → (w : Waiting) → Waits n w
     → (x : ℕ × (ℕ × (ℕ × Store))) × (prompt_of x ≡ w)
-    × (IsWord x.0 × (IsWord x.1.0 × (IsWord x.1.1.0 × IsStore x.1.1.1)))
+    × (IsWord x.0 × (IsWord x.1.0 × (IsWord x.1.1.0 × IsStoreFields x.1.1.1)))
 prompt_only n e (Prompt usage mode rock store) h =
     ((usage, (mode, (rock, store))), refl, (h.1.0, (h.1.1, (h.1.2, h.1.3))))
 prompt_only n e w h = absurd (omega (arith, e, h.0))
@@ -188,10 +188,10 @@ waiting_with_reads n =
     (λ x h. (sym is, (h.0, h.1.0, h.1.1.0, h.1.1.1))) (λ x h. refl))
     (λ d. none_reads behind_kind (Waits n) (no_kind n a b c d)))))
 
-pub waiting_reads : IsReader Waiting print_waiting IsWaiting waiting_at
+pub waiting_reads : IsReader Waiting print_waiting IsWaitingFields waiting_at
 unfolding waiting_at
 waiting_reads =
-    led_reads n1 IsByte print_waiting behind_kind IsWaiting kind_in n1_at waiting_with
+    led_reads n1 IsByte print_waiting behind_kind IsWaitingFields kind_in n1_at waiting_with
     kind_small led n1_reads (λ n h. waiting_with_reads n)
 
 -- ---- 6. numbers of objects

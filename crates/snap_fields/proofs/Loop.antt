@@ -4,7 +4,7 @@ use Rattle.std.proofs.Common.{Some, None, refl, sym, ap, ◌∙◌, append_assoc
 use Rattle.std.proofs.lemmas.List.{append-nil}
 use Rattle.snap_fields.specs.declared.fault.SnapFault.{SnapFault}
 use Rattle.snap_fields.specs.declared.fault.SnapFault.TheVariants.{BadSnap, NoMemory}
-use Rattle.snap_fields.specs.Reading.{Reader, ◌>>=◌, Fails, many_at}
+use Rattle.snap_fields.specs.Reading.{Reader, ◌>>=◌, FailsOnFields, many_at}
 
 -- what was read before, and what is still read
 abbrev pub with_front : {A : Type 0} → List A → Option (List A × List ℕ)
@@ -31,8 +31,8 @@ goes_on read front count i bytes n after total lt h so_far =
 
 pub ends : {A : Type 0} (read : Reader A) (e : SnapFault) (front : List A) (count i : ℕ)
     (bytes : List ℕ) (total : Option (List A × List ℕ))
-    → i < count → Fails e (read bytes)
-    → with_front front (many_at read (count - i) bytes) ≡ total → Fails e total
+    → i < count → FailsOnFields e (read bytes)
+    → with_front front (many_at read (count - i) bytes) ≡ total → FailsOnFields e total
 unfolding many_at
 ends read NoMemory front count i bytes total lt h so_far = tt
 ends read BadSnap front count i bytes total lt h so_far =

@@ -11,8 +11,8 @@ use Rattle.std.proofs.lemmas.Bool.{cases_lt, ltb-false, le-ltb}
 use Rattle.std.proofs.lemmas.Nat.{be_bytes_4, be_bytes_8, from_be_bytes-to_be_bytes_4}
 use Rattle.std.proofs.lemmas.Nat.{from_be_bytes-to_be_bytes_8}
 use Rattle.snap_fields.specs.Numbers.{n1, n4, n8, IsByte, IsWord, IsLong}
-use Rattle.snap_fields.specs.Reading.{Reader, ◌>>=◌, joined, ◌then◌, led_by, made, none_at, pure_at}
-use Rattle.snap_fields.specs.Reading.{number_at, n1_at, n4_at, n8_at}
+use Rattle.snap_fields.specs.Reading.{Reader, ◌>>=◌, readers_joined, ◌then◌, led_by, reader_made, none_at, pure_at}
+use Rattle.snap_fields.specs.Reading.{number_of_width, n1_at, n4_at, n8_at}
 
 -- ---- tools
 
@@ -61,7 +61,7 @@ pub joined_reads : {A B : Type 0} (print : A → List ℕ) (Is : A → Type 0) (
     → IsReader A print Is first
     → ((x : A) → Is x → IsReader B behind (Fits x) (second x))
     → IsReader (A × B) (λ p. print p.0 ++ behind p.1) (λ p. Is p.0 × Fits p.0 p.1)
-    (joined first second)
+    (readers_joined first second)
 joined_reads {A} {B} print Is behind Fits first second f s = record {
   again = λ p rest h.
       let split : (print p.0 ++ behind p.1) ++ rest ≡ print p.0 ++ (behind p.1 ++ rest) =
@@ -98,13 +98,13 @@ pub made_reads : {A B : Type 0} {print : A → List ℕ} {Is : A → Type 0} {re
     → ((y : B) → Fits y → (x : A) × (f x ≡ y) × Is x)
     → ((x : A) → Is x → Fits (f x))
     → ((x : A) → Is x → whole (f x) ≡ print x)
-    → IsReader B whole Fits (made f read)
+    → IsReader B whole Fits (reader_made f read)
 made_reads {A} {B} {print = print} {Is = Is} {read = read} whole Fits f r view good same = record {
   again = λ y rest h.
       let v = view y h in
       let one : read (whole (f v.0) ++ rest) ≡ Some (v.0, rest) =
       ap (λ t. read (t ++ rest)) (same v.0 v.2) ∙ r.again v.0 rest v.2 in
-      subst (λ z. made f read (whole z ++ rest) ≡ Some (z, rest)) v.1 (rw one refl);
+      subst (λ z. reader_made f read (whole z ++ rest) ≡ Some (z, rest)) v.1 (rw one refl);
   only = λ bytes rest y fits e.
       let a = bind_some (read bytes) (λ x. Some (f x.0, x.1)) (y, rest) e in
       let one = r.only bytes a.0.1 a.0.0 fits a.1 in
@@ -206,7 +206,7 @@ wide64 = record {
 }
 
 number_reads : (w : Width) (limit : ℕ) → IsWide w limit
-    → IsReader ℕ (to_be_bytes w) (λ n. n < limit) (number_at w)
+    → IsReader ℕ (to_be_bytes w) (λ n. n < limit) (number_of_width w)
 number_reads w limit wide = record {
   again = λ n rest lt.
       let len = wide.len n in

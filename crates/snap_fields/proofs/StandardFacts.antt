@@ -1,6 +1,6 @@
 -- Values that the format gives, so that a wrong rule in the specs doesn't check.
 use Rattle.std.specs.Prelude.{◌≡◌, ◌++◌, refl, [], ◌∷◌, true, false, replicate}
-use Rattle.snap_fields.specs.Numbers.{n1, n4, n8, list_of, bytes_of, text_of}
+use Rattle.snap_fields.specs.Numbers.{n1, n4, n8, list_of, bytes_with_count, text_codes}
 use Rattle.snap_fields.specs.Printing.{print_waiting, print_window, print_stream}
 use Rattle.snap_fields.specs.Printing.{print_fields}
 use Rattle.snap_fields.specs.declared.fields.Waiting.TheVariants.{Quit, Fault, Prompt}
@@ -11,14 +11,14 @@ use Rattle.snap_fields.specs.declared.glk.Target.TheVariants as target
 pub numbers : n1 7 ++ (n4 258 ++ n8 1) ≡ 7 ∷ 0 ∷ 0 ∷ 1 ∷ 2 ∷ 0 ∷ 0 ∷ 0 ∷ 0 ∷ 0 ∷ 0 ∷ 0 ∷ 1 ∷ []
 numbers = refl
 
-pub no_bytes : bytes_of [] ≡ 0 ∷ 0 ∷ 0 ∷ 0 ∷ []
+pub no_bytes : bytes_with_count [] ≡ 0 ∷ 0 ∷ 0 ∷ 0 ∷ []
 no_bytes = refl
 
-pub one_undo_state : list_of bytes_of ((70 ∷ []) ∷ [])
+pub one_undo_state : list_of bytes_with_count ((70 ∷ []) ∷ [])
     ≡ 0 ∷ 0 ∷ 0 ∷ 1 ∷ 0 ∷ 0 ∷ 0 ∷ 1 ∷ 70 ∷ []
 one_undo_state = refl
 
-pub a_text : text_of (0xE9 ∷ []) ≡ 0 ∷ 0 ∷ 0 ∷ 1 ∷ 0 ∷ 0 ∷ 0 ∷ 0xE9 ∷ []
+pub a_text : text_codes (0xE9 ∷ []) ≡ 0 ∷ 0 ∷ 0 ∷ 1 ∷ 0 ∷ 0 ∷ 0 ∷ 0xE9 ∷ []
 a_text = refl
 
 pub a_fault : print_waiting (Fault 24) ≡ 1 ∷ 24 ∷ []

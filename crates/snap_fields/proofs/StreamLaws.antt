@@ -7,12 +7,12 @@ use Rattle.snap_fields.specs.declared.glk.FileRef.{FileRef}
 use Rattle.snap_fields.specs.declared.glk.Stream.{Stream}
 use Rattle.snap_fields.specs.declared.glk.Target.{Target}
 use Rattle.snap_fields.specs.declared.glk.Target.TheVariants as target
-use Rattle.snap_fields.specs.Printing.{kind_of, print_target, print_stream}
+use Rattle.snap_fields.specs.Printing.{target_kind, print_target, print_stream}
 use Rattle.snap_fields.specs.Printing.{print_fileref, print_file}
 use Rattle.snap_fields.specs.Printable.{IsTarget, IsStream, IsFileRef, IsFile}
-use Rattle.snap_fields.specs.GlkItems.{memory_of, file_target_of, target_at, StreamHead}
-use Rattle.snap_fields.specs.GlkItems.{stream_head_at, behind_stream, stream_of, stream_at}
-use Rattle.snap_fields.specs.GlkItems.{fileref_of, fileref_at, file_of, file_at}
+use Rattle.snap_fields.specs.GlkItems.{memory_item, file_target_of, target_at, StreamHead}
+use Rattle.snap_fields.specs.GlkItems.{stream_head_at, behind_stream, stream_item, stream_item_at}
+use Rattle.snap_fields.specs.GlkItems.{fileref_of, fileref_at, file_item, file_at}
 use Rattle.snap_fields.proofs.Readers.{IsReader, ◌before◌, made_reads, joined_reads}
 use Rattle.snap_fields.proofs.Readers.{none_reads, pure_reads, if_reads, n1_reads, n4_reads}
 use Rattle.snap_fields.proofs.Lists.{bytes_reads, flag1_reads}
@@ -22,14 +22,14 @@ use Rattle.snap_fields.proofs.GlkLaws.{codes_reads}
 -- ---- 8. streams
 
 abbrev GoesTo : ℕ → Target → Type 0
-GoesTo kind t = (kind_of t ≡ kind) × IsTarget t
+GoesTo kind t = (target_kind t ≡ kind) × IsTarget t
 
 window_only : (n : ℕ) → n ≡ 0 → (t : Target) → GoesTo n t → target.Window ≡ t
 window_only n e target.Window h = refl
 window_only n e t h = absurd (omega (arith, e, h.0))
 
 memory_only : (n : ℕ) → n ≡ 1 → (t : Target) → GoesTo n t
-    → (x : ℕ × ℕ) × (memory_of x ≡ t) × (IsWord x.0 × IsWord x.1)
+    → (x : ℕ × ℕ) × (memory_item x ≡ t) × (IsWord x.0 × IsWord x.1)
 memory_only n e (target.Memory buffer size) h = ((buffer, size), refl, h.1)
 memory_only n e t h = absurd (omega (arith, e, h.0))
 
@@ -52,7 +52,7 @@ target_reads n =
     pure_reads print_target (GoesTo n) target.Window refl (sym is, tt) (window_only n is))
     (λ a. if_reads print_target (GoesTo n) (n == 1) _ _
     (λ e. let is = equal n 1 e in
-    made_reads print_target (GoesTo n) memory_of (n4_reads before n4_reads) (memory_only n is)
+    made_reads print_target (GoesTo n) memory_item (n4_reads before n4_reads) (memory_only n is)
     (λ x h. (sym is, h)) (λ x h. refl))
     (λ b. if_reads print_target (GoesTo n) (n == 2) _ _
     (λ e. let is = equal n 2 e in
@@ -84,15 +84,15 @@ behind_stream_reads : (head : StreamHead)
     → IsReader Target print_target (IsBehindStream head) (behind_stream head)
 behind_stream_reads head = target_reads head.1.0
 
-target_small : (t : Target) → IsByte (kind_of t)
+target_small : (t : Target) → IsByte (target_kind t)
 target_small target.Window = omega arith
 target_small (target.Memory buffer size) = omega arith
 target_small (target.File usage name) = omega arith
 
-pub stream_reads : IsReader Stream print_stream IsStream stream_at
-unfolding stream_at
+pub stream_reads : IsReader Stream print_stream IsStream stream_item_at
+unfolding stream_item_at
 stream_reads =
-    made_reads print_stream IsStream stream_of
+    made_reads print_stream IsStream stream_item
     (joined_reads print_stream_head IsStreamHead print_target IsBehindStream stream_head_at
     behind_stream stream_head_reads (λ head h. behind_stream_reads head))
     (λ s h. (
@@ -100,7 +100,7 @@ stream_reads =
         (
           s.number,
           (
-            kind_of s.target,
+            target_kind s.target,
             (
               s.rock,
               (
@@ -178,7 +178,7 @@ fileref_reads =
 pub file_reads : IsReader File print_file IsFile file_at
 unfolding file_at
 file_reads =
-    made_reads print_file IsFile file_of (n4_reads before codes_reads before bytes_reads)
+    made_reads print_file IsFile file_item (n4_reads before codes_reads before bytes_reads)
     (λ f h. ((f.usage, (f.name, f.bytes)), refl, (h.usage, (h.name, h.bytes))))
     (λ x h. record { usage = h.0; name = h.1.0; bytes = h.1.1 })
     (λ x h. refl)

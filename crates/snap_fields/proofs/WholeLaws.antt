@@ -4,8 +4,8 @@ use Rattle.std.proofs.Common.{Option, Some, None, Result, Ok, Err, refl, sym, ap
 use Rattle.std.specs.Prelude.{IfOk, IfErr}
 use Rattle.std.proofs.lemmas.Bool.Decides.{nat_tests}
 use Rattle.std.proofs.lemmas.List.{append-nil, nil_from_length}
-use Rattle.snap_fields.specs.Numbers.{n4, IsWord, list_of, bytes_of, IsListOf, IsByte}
-use Rattle.snap_fields.specs.Reading.{made, n4_at, bytes_at}
+use Rattle.snap_fields.specs.Numbers.{n4, IsWord, list_of, bytes_with_count, IsListOf, IsByte}
+use Rattle.snap_fields.specs.Reading.{reader_made, n4_at, bytes_at}
 use Rattle.snap_fields.specs.declared.fault.SnapFault.{SnapFault}
 use Rattle.snap_fields.specs.declared.fault.SnapFault.TheVariants.{BadSnap, NoMemory}
 use Rattle.snap_fields.specs.declared.fields.Fields.{Fields}
@@ -13,10 +13,10 @@ use Rattle.snap_fields.specs.Printing.{print_setup, print_machine, print_setting
 use Rattle.snap_fields.specs.Printing.{print_random, print_waiting, print_numbers, print_window}
 use Rattle.snap_fields.specs.Printing.{print_stream, print_fileref, print_file, print_fields}
 use Rattle.snap_fields.specs.Printable.{IsWindow, IsStream, IsFileRef, IsFile, IsPrintable}
-use Rattle.snap_fields.specs.GlkItems.{window_at, stream_at, fileref_at, file_at}
-use Rattle.snap_fields.specs.Whole.{parts_at, fields_of, signed, fields_at, whole, Finds}
-use Rattle.snap_fields.specs.Laws.{Spells, Refuses, ReadsFields}
-use Rattle.snap_fields.specs.Laws.{ReadsEachSpelling, HasOneSpelling, BeginsNoOther}
+use Rattle.snap_fields.specs.GlkItems.{window_item_at, stream_item_at, fileref_at, file_at}
+use Rattle.snap_fields.specs.Whole.{parts_at, fields_of_parts, signed_fields, fields_at, if_all_read, FindsWhole}
+use Rattle.snap_fields.specs.Laws.{SpellsFields, RefusesFields, ReadsFields}
+use Rattle.snap_fields.specs.Laws.{ReadsEachSpellingOfFields, FieldsHaveOneSpelling, BeginsNoOther}
 use Rattle.snap_fields.proofs.Readers.{IsBytes, IsReader, ◌before◌, made_reads, led_reads}
 use Rattle.snap_fields.proofs.Readers.{none_reads, if_reads, n4_reads, some_is}
 use Rattle.snap_fields.proofs.Lists.{list_reads, bytes_reads}
@@ -29,23 +29,23 @@ use Rattle.snap_fields.proofs.StreamLaws.{stream_reads, fileref_reads, file_read
 abbrev behind : Fields → List ℕ
 behind f =
     print_setup f.setup ++ (print_machine f.machine
-    ++ (print_settings f.settings ++ (print_random f.random ++ (list_of bytes_of f.undo
+    ++ (print_settings f.settings ++ (print_random f.random ++ (list_of bytes_with_count f.undo
     ++ (print_waiting f.waiting ++ (print_numbers f.numbers
     ++ (list_of print_window f.windows ++ (list_of print_stream f.streams
     ++ (list_of print_fileref f.filerefs ++ (list_of print_file f.files
-    ++ bytes_of f.show))))))))))
+    ++ bytes_with_count f.show))))))))))
 
 abbrev Signed : ℕ → Fields → Type 0
 Signed n f = (0x53545731 ≡ n) × IsPrintable f
 
-made_of : (n : ℕ) → 0x53545731 ≡ n → IsReader Fields behind (Signed n) (made fields_of parts_at)
+made_of : (n : ℕ) → 0x53545731 ≡ n → IsReader Fields behind (Signed n) (reader_made fields_of_parts parts_at)
 made_of n is =
-    made_reads behind (Signed n) fields_of
+    made_reads behind (Signed n) fields_of_parts
     (setup_reads before machine_reads before settings_reads before random_reads
-    before list_reads bytes_of (IsListOf IsByte) bytes_at bytes_reads
+    before list_reads bytes_with_count (IsListOf IsByte) bytes_at bytes_reads
     before waiting_reads before numbers_reads
-    before list_reads print_window IsWindow window_at window_reads
-    before list_reads print_stream IsStream stream_at stream_reads
+    before list_reads print_window IsWindow window_item_at window_reads
+    before list_reads print_stream IsStream stream_item_at stream_reads
     before list_reads print_fileref IsFileRef fileref_at fileref_reads
     before list_reads print_file IsFile file_at file_reads before bytes_reads)
     (λ f h. let g = h.1 in (
@@ -114,7 +114,7 @@ made_of n is =
     ))
     (λ x h. refl)
 
-signed_reads : (n : ℕ) → IsReader Fields behind (Signed n) (signed n)
+signed_reads : (n : ℕ) → IsReader Fields behind (Signed n) (signed_fields n)
 signed_reads n =
     if_reads behind (Signed n) (n == 0x53545731) _ _
     (λ e. made_of n (sym (equal n 0x53545731 e)))
@@ -123,7 +123,7 @@ signed_reads n =
 fields_reads : IsReader Fields print_fields IsPrintable fields_at
 unfolding fields_at print_fields
 fields_reads =
-    led_reads n4 IsWord print_fields behind IsPrintable (λ f. 0x53545731) n4_at signed
+    led_reads n4 IsWord print_fields behind IsPrintable (λ f. 0x53545731) n4_at signed_fields
     (λ f h. omega arith) (λ f. refl) n4_reads (λ n h. signed_reads n)
 
 -- ---- all of the bytes
@@ -139,7 +139,7 @@ same : (y : Fields) (rest : List ℕ) (f : Fields) → y ≡ f → rest ≡ [] �
 same y rest f a b = rw (a, b) refl
 
 -- what was read, with its rest
-with_rest : (read : Option (Fields × List ℕ)) (f : Fields) → whole read ≡ Some f
+with_rest : (read : Option (Fields × List ℕ)) (f : Fields) → if_all_read read ≡ Some f
     → read ≡ Some (f, [])
 with_rest None f e = absurd cc
 with_rest (Some x) f e =
@@ -147,13 +147,13 @@ with_rest (Some x) f e =
     let nil : x.1 ≡ [] = nil_from_length x.1 (equal (length x.1) 0 g.0) in
     same x.0 x.1 f g.1 nil
 
-spelled : (bytes : List ℕ) (f : Fields) → IsBytes bytes → whole (fields_at bytes) ≡ Some f
-    → Spells bytes f
+spelled : (bytes : List ℕ) (f : Fields) → IsBytes bytes → if_all_read (fields_at bytes) ≡ Some f
+    → SpellsFields bytes f
 spelled bytes f fits e =
     let t = fields_reads.only bytes [] f fits (with_rest (fields_at bytes) f e) in
     record { ranges = t.good; printed = t.parts ∙ append-nil (print_fields f) }
 
-again : (f : Fields) → IsPrintable f → whole (fields_at (print_fields f)) ≡ Some f
+again : (f : Fields) → IsPrintable f → if_all_read (fields_at (print_fields f)) ≡ Some f
 again f h =
     let one : fields_at (print_fields f) ≡ Some (f, []) =
     subst (λ t. fields_at t ≡ Some (f, [])) (append-nil (print_fields f))
@@ -161,34 +161,34 @@ again f h =
     rw one refl
 
 pub reads_fields : (bytes : List ℕ) (result : Result Fields SnapFault) → IsBytes bytes
-    → Finds (whole (fields_at bytes)) result → ReadsFields bytes result
+    → FindsWhole (if_all_read (fields_at bytes)) result → ReadsFields bytes result
 reads_fields bytes (Ok f) fits h = spelled bytes f fits h
 reads_fields bytes (Err NoMemory) fits h = tt
 reads_fields bytes (Err BadSnap) fits h = λ f s.
-    let one : whole (fields_at bytes) ≡ Some f =
-    ap (λ t. whole (fields_at t)) s.printed ∙ again f s.ranges in
-    absurd (not_both (whole (fields_at bytes)) f h one)
+    let one : if_all_read (fields_at bytes) ≡ Some f =
+    ap (λ t. if_all_read (fields_at t)) s.printed ∙ again f s.ranges in
+    absurd (not_both (if_all_read (fields_at bytes)) f h one)
   where
     not_both : (o : Option Fields) (f : Fields) → o ≡ None → o ≡ Some f → ⊥
     not_both None f a b = absurd cc
     not_both (Some x) f a b = absurd cc
 
-pub one_spelling : HasOneSpelling
+pub one_spelling : FieldsHaveOneSpelling
 one_spelling f g a b e =
-    some_is f g (sym (again f a) ∙ ap (λ t. whole (fields_at t)) e ∙ again g b)
+    some_is f g (sym (again f a) ∙ ap (λ t. if_all_read (fields_at t)) e ∙ again g b)
 
-pub each_spelling : ReadsEachSpelling
+pub each_spelling : ReadsEachSpellingOfFields
 each_spelling f (Ok g) h r = sym (one_spelling f g h r.ranges r.printed)
 each_spelling f (Err NoMemory) h r = refl
 each_spelling f (Err BadSnap) h r = absurd (r f (record { ranges = h; printed = refl }))
 
 pub found : (bytes : List ℕ) (result : Result Fields SnapFault) → ReadsFields bytes result
-    → IfOk result (Spells bytes)
+    → IfOk result (SpellsFields bytes)
 found bytes (Ok f) h = h
 found bytes (Err e) h = tt
 
 pub exact : (bytes : List ℕ) (result : Result Fields SnapFault) → ReadsFields bytes result
-    → IfErr result (Refuses bytes)
+    → IfErr result (RefusesFields bytes)
 exact bytes (Ok f) h = tt
 exact bytes (Err e) h = h
 

@@ -1,6 +1,7 @@
 -- Windows, streams and files, read from the left (own: docs/FORMATS.md, "Snapshot bytes").
 use Rattle.std.specs.Prelude.{ℕ, ◌*◌, ◌==◌, if◌then◌else◌, Bool, List}
-use Rattle.snap_fields.specs.Reading.{Reader, ◌then◌, joined, led_by, made, none_at, pure_at}
+use Rattle.snap_fields.specs.Reading.{Reader, ◌then◌, readers_joined, led_by, reader_made, none_at}
+use Rattle.snap_fields.specs.Reading.{pure_at}
 use Rattle.snap_fields.specs.Reading.{n1_at, n4_at, flag1_at, flag4_at, many_at, list_at}
 use Rattle.snap_fields.specs.Reading.{bytes_at}
 use Rattle.snap_fields.specs.declared.glk.Area.{Area}
@@ -17,37 +18,38 @@ use Rattle.snap_fields.specs.declared.glk.Window.{Window}
 
 -- ---- 7. windows
 
-abbrev pub area_of : ℕ × (ℕ × (ℕ × ℕ)) → Area
-area_of (x, (y, (w, h))) = record { x = x; y = y; w = w; h = h }
+abbrev pub area_item : ℕ × (ℕ × (ℕ × ℕ)) → Area
+area_item (x, (y, (w, h))) = record { x = x; y = y; w = w; h = h }
 
 unfoldable pub area_at : Reader Area
-area_at = made area_of (n4_at then n4_at then n4_at then n4_at)
+area_at = reader_made area_item (n4_at then n4_at then n4_at then n4_at)
 
-abbrev pub pair_of : ℕ × (ℕ × (ℕ × (ℕ × ℕ))) → Content
-pair_of (method, (size, (key, (first, second)))) = Pair method size key first second
+abbrev pub pair_item : ℕ × (ℕ × (ℕ × (ℕ × ℕ))) → Content
+pair_item (method, (size, (key, (first, second)))) = Pair method size key first second
 
 abbrev pub grid_of : ℕ × (ℕ × List ℕ) → Content
 grid_of (x, (y, cells)) = Grid x y cells
 
 unfoldable pub content_at : ℕ → Area → Reader Content
 content_at type area =
-    if type == 1 then made pair_of (n4_at then n4_at then n4_at then n4_at then n4_at)
+    if type == 1 then reader_made pair_item (n4_at then n4_at then n4_at then n4_at then n4_at)
     else (if type == 2 then pure_at Blank
     else (if type == 3 then pure_at Buffer
-    else (if type == 4 then made grid_of (n4_at then n4_at then many_at n4_at (area.w * area.h))
+    else (if type == 4
+    then reader_made grid_of (n4_at then n4_at then many_at n4_at (area.w * area.h))
     else none_at)))
 
-abbrev pub line_of : Bool × (ℕ × (ℕ × (ℕ × (Bool × List ℕ)))) → Request
-line_of (unicode, (buffer, (maximum, (initial, (echo, terminators))))) =
+abbrev pub line_item : Bool × (ℕ × (ℕ × (ℕ × (Bool × List ℕ)))) → Request
+line_item (unicode, (buffer, (maximum, (initial, (echo, terminators))))) =
     Line unicode buffer maximum initial echo terminators
 
 abbrev pub request_with : ℕ → Reader Request
 request_with kind =
     if kind == 0 then pure_at Nothing
     else (if kind == 1
-    then made line_of
+    then reader_made line_item
     (flag1_at then n4_at then n4_at then n4_at then flag1_at then list_at n4_at)
-    else (if kind == 2 then made Char flag1_at
+    else (if kind == 2 then reader_made Char flag1_at
     else none_at))
 
 unfoldable pub request_at : Reader Request
@@ -68,8 +70,8 @@ behind_head
     (number, (type, (rock, (stream, (echo_stream, (parent, (echo, (terminators, area)))))))) =
     content_at type area then request_at
 
-abbrev pub window_of : Head × (Content × Request) → Window
-window_of (
+abbrev pub window_item : Head × (Content × Request) → Window
+window_item (
   (number, (type, (rock, (stream, (echo_stream, (parent, (echo, (terminators, area)))))))),
   (content, request),
 ) = record {
@@ -85,13 +87,13 @@ window_of (
   request = request;
 }
 
-unfoldable pub window_at : Reader Window
-window_at = made window_of (joined head_at behind_head)
+unfoldable pub window_item_at : Reader Window
+window_item_at = reader_made window_item (readers_joined head_at behind_head)
 
 -- ---- 8. streams
 
-abbrev pub memory_of : ℕ × ℕ → Target
-memory_of (buffer, length) = target.Memory buffer length
+abbrev pub memory_item : ℕ × ℕ → Target
+memory_item (buffer, length) = target.Memory buffer length
 
 abbrev pub file_target_of : ℕ × List ℕ → Target
 file_target_of (usage, name) = target.File usage name
@@ -99,8 +101,8 @@ file_target_of (usage, name) = target.File usage name
 unfoldable pub target_at : ℕ → Reader Target
 target_at kind =
     if kind == 0 then pure_at target.Window
-    else (if kind == 1 then made memory_of (n4_at then n4_at)
-    else (if kind == 2 then made file_target_of (n4_at then list_at n4_at)
+    else (if kind == 1 then reader_made memory_item (n4_at then n4_at)
+    else (if kind == 2 then reader_made file_target_of (n4_at then list_at n4_at)
     else none_at))
 
 -- a stream up to its target: number, kind, rock, mode, style, counts, position, Unicode
@@ -115,8 +117,8 @@ stream_head_at =
 abbrev pub behind_stream : StreamHead → Reader Target
 behind_stream (number, (kind, rest)) = target_at kind
 
-abbrev pub stream_of : StreamHead × Target → Stream
-stream_of (
+abbrev pub stream_item : StreamHead × Target → Stream
+stream_item (
   (number, (kind, (rock, (mode, (style, (read, (written, (position, unicode)))))))),
   target,
 ) = record {
@@ -131,8 +133,8 @@ stream_of (
   target = target;
 }
 
-unfoldable pub stream_at : Reader Stream
-stream_at = made stream_of (joined stream_head_at behind_stream)
+unfoldable pub stream_item_at : Reader Stream
+stream_item_at = reader_made stream_item (readers_joined stream_head_at behind_stream)
 
 -- ---- 9. file references and files
 
@@ -141,10 +143,10 @@ fileref_of (number, (usage, (rock, name))) =
     record { number = number; usage = usage; rock = rock; name = name }
 
 unfoldable pub fileref_at : Reader FileRef
-fileref_at = made fileref_of (n4_at then n4_at then n4_at then list_at n4_at)
+fileref_at = reader_made fileref_of (n4_at then n4_at then n4_at then list_at n4_at)
 
-abbrev pub file_of : ℕ × (List ℕ × List ℕ) → File
-file_of (usage, (name, bytes)) = record { usage = usage; name = name; bytes = bytes }
+abbrev pub file_item : ℕ × (List ℕ × List ℕ) → File
+file_item (usage, (name, bytes)) = record { usage = usage; name = name; bytes = bytes }
 
 unfoldable pub file_at : Reader File
-file_at = made file_of (n4_at then list_at n4_at then bytes_at)
+file_at = reader_made file_item (n4_at then list_at n4_at then bytes_at)

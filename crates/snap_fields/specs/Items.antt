@@ -1,7 +1,7 @@
 -- The items, read from the left (own: docs/FORMATS.md, "Snapshot bytes").
 use Rattle.std.specs.Prelude.{ℕ, ◌==◌, if◌then◌else◌, List}
 use Rattle.vm_heap.specs.declared.block.Block.{Block}
-use Rattle.snap_fields.specs.Reading.{Reader, ◌then◌, led_by, made, none_at, pure_at}
+use Rattle.snap_fields.specs.Reading.{Reader, ◌then◌, led_by, reader_made, none_at, pure_at}
 use Rattle.snap_fields.specs.Reading.{n1_at, n4_at, n8_at, list_at}
 use Rattle.snap_fields.specs.Reading.{bytes_at}
 use Rattle.snap_fields.specs.declared.fields.Machine.{Machine}
@@ -15,12 +15,12 @@ use Rattle.snap_fields.specs.declared.fields.Waiting.TheVariants.{Quit, Fault, S
 
 -- ---- 1. the beginning
 
-abbrev pub setup_of : ℕ × (ℕ × (ℕ × ℕ)) → Setup
-setup_of (seed, (cols, (rows, budget))) =
+abbrev pub setup_item : ℕ × (ℕ × (ℕ × ℕ)) → Setup
+setup_item (seed, (cols, (rows, budget))) =
     record { seed = seed; cols = cols; rows = rows; budget = budget }
 
 unfoldable pub setup_at : Reader Setup
-setup_at = made setup_of (n8_at then n1_at then n1_at then n8_at)
+setup_at = reader_made setup_item (n8_at then n1_at then n1_at then n8_at)
 
 -- ---- 2. the machine
 
@@ -28,11 +28,11 @@ abbrev pub block_of : ℕ × ℕ → Block
 block_of (at, length) = record { at = at; length = length }
 
 unfoldable pub block_at : Reader Block
-block_at = made block_of (n4_at then n4_at)
+block_at = reader_made block_of (n4_at then n4_at)
 
-abbrev pub machine_of
+abbrev pub machine_item
     : ℕ × (ℕ × (List ℕ × (List ℕ × (ℕ × List Block)))) → Machine
-machine_of (pc, (frame, (memory, (stack, (heap_start, heap))))) = record {
+machine_item (pc, (frame, (memory, (stack, (heap_start, heap))))) = record {
   pc = pc;
   frame = frame;
   memory = memory;
@@ -43,12 +43,13 @@ machine_of (pc, (frame, (memory, (stack, (heap_start, heap))))) = record {
 
 unfoldable pub machine_at : Reader Machine
 machine_at =
-    made machine_of (n4_at then n4_at then bytes_at then bytes_at then n4_at then list_at block_at)
+    reader_made machine_item
+    (n4_at then n4_at then bytes_at then bytes_at then n4_at then list_at block_at)
 
 -- ---- 3. its settings, and its random words
 
-abbrev pub settings_of : ℕ × (ℕ × (ℕ × (ℕ × ℕ))) → Settings
-settings_of (mode, (rock, (string_table, (start, length)))) = record {
+abbrev pub settings_item : ℕ × (ℕ × (ℕ × (ℕ × ℕ))) → Settings
+settings_item (mode, (rock, (string_table, (start, length)))) = record {
   mode = mode;
   rock = rock;
   string_table = string_table;
@@ -57,22 +58,22 @@ settings_of (mode, (rock, (string_table, (start, length)))) = record {
 }
 
 unfoldable pub settings_at : Reader Settings
-settings_at = made settings_of (n4_at then n4_at then n4_at then n4_at then n4_at)
+settings_at = reader_made settings_item (n4_at then n4_at then n4_at then n4_at then n4_at)
 
 abbrev pub random_of : ℕ × (ℕ × (ℕ × ℕ)) → Random
 random_of (start, (stream, (taken, fresh))) =
     record { start = start; stream = stream; taken = taken; fresh = fresh }
 
 unfoldable pub random_at : Reader Random
-random_at = made random_of (n8_at then n8_at then n8_at then n8_at)
+random_at = reader_made random_of (n8_at then n8_at then n8_at then n8_at)
 
 -- ---- 5. what the story waits for, or how it ended
 
-abbrev pub store_of : ℕ × ℕ → Store
-store_of (kind, address) = record { kind = kind; address = address }
+abbrev pub store_item : ℕ × ℕ → Store
+store_item (kind, address) = record { kind = kind; address = address }
 
 unfoldable pub store_at : Reader Store
-store_at = made store_of (n4_at then n4_at)
+store_at = reader_made store_item (n4_at then n4_at)
 
 abbrev pub select_of : ℕ × Store → Waiting
 select_of (reference, store) = Select reference store
@@ -83,9 +84,9 @@ prompt_of (usage, (mode, (rock, store))) = Prompt usage mode rock store
 abbrev pub waiting_with : ℕ → Reader Waiting
 waiting_with kind =
     if kind == 0 then pure_at Quit
-    else (if kind == 1 then made Fault n1_at
-    else (if kind == 2 then made select_of (n4_at then store_at)
-    else (if kind == 3 then made prompt_of (n4_at then n4_at then n4_at then store_at)
+    else (if kind == 1 then reader_made Fault n1_at
+    else (if kind == 2 then reader_made select_of (n4_at then store_at)
+    else (if kind == 3 then reader_made prompt_of (n4_at then n4_at then n4_at then store_at)
     else none_at)))
 
 unfoldable pub waiting_at : Reader Waiting
@@ -103,4 +104,4 @@ numbers_of (window, (stream, (fileref, (root, current)))) = record {
 }
 
 unfoldable pub numbers_at : Reader Numbers
-numbers_at = made numbers_of (n4_at then n4_at then n4_at then n4_at then n4_at)
+numbers_at = reader_made numbers_of (n4_at then n4_at then n4_at then n4_at then n4_at)

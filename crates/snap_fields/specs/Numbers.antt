@@ -43,12 +43,12 @@ abbrev pub list_of : {A : Type 0} → (A → List ℕ) → List A → List ℕ
 list_of print xs = n4 (length xs) ++ flat_map print xs
 
 -- a list of bytes is its count and its bytes
-abbrev pub bytes_of : List ℕ → List ℕ
-bytes_of bytes = n4 (length bytes) ++ bytes
+abbrev pub bytes_with_count : List ℕ → List ℕ
+bytes_with_count bytes = n4 (length bytes) ++ bytes
 
 -- a text is a list of codes
-abbrev pub text_of : List ℕ → List ℕ
-text_of codes = list_of n4 codes
+abbrev pub text_codes : List ℕ → List ℕ
+text_codes codes = list_of n4 codes
 
 -- a list whose count has four bytes
 abbrev pub IsCounted : {A : Type 0} → List A → Type 0

@@ -55,15 +55,15 @@ pub record IsRandom (r : Random) : Type 0 where
   pub taken : IsLong r.taken
   pub fresh : IsLong r.fresh
 
-abbrev pub IsStore : Store → Type 0
-IsStore s = IsWord s.kind × IsWord s.address
+abbrev pub IsStoreFields : Store → Type 0
+IsStoreFields s = IsWord s.kind × IsWord s.address
 
-abbrev pub IsWaiting : Waiting → Type 0
-IsWaiting Quit = Unit {0}
-IsWaiting (Fault code) = IsByte code
-IsWaiting (Select reference store) = IsWord reference × IsStore store
-IsWaiting (Prompt usage mode rock store) =
-    IsWord usage × IsWord mode × IsWord rock × IsStore store
+abbrev pub IsWaitingFields : Waiting → Type 0
+IsWaitingFields Quit = Unit {0}
+IsWaitingFields (Fault code) = IsByte code
+IsWaitingFields (Select reference store) = IsWord reference × IsStoreFields store
+IsWaitingFields (Prompt usage mode rock store) =
+    IsWord usage × IsWord mode × IsWord rock × IsStoreFields store
 
 pub record IsNumbers (n : Numbers) : Type 0 where
   pub window : IsWord n.window
@@ -87,11 +87,11 @@ IsContent area Buffer = Unit {0}
 IsContent area (Grid x y cells) =
     IsWord x × IsWord y × (length cells ≡ area.w * area.h) × AllByRecursion IsWord cells
 
-abbrev pub IsRequest : Request → Type 0
-IsRequest Nothing = Unit {0}
-IsRequest (Line unicode buffer maximum initial echo terminators) =
+abbrev pub IsGlkRequest : Request → Type 0
+IsGlkRequest Nothing = Unit {0}
+IsGlkRequest (Line unicode buffer maximum initial echo terminators) =
     IsWord buffer × IsWord maximum × IsWord initial × IsListOf IsWord terminators
-IsRequest (Char unicode) = Unit {0}
+IsGlkRequest (Char unicode) = Unit {0}
 
 pub record IsWindow (w : Window) : Type 0 where
   pub number : IsWord w.number
@@ -102,7 +102,7 @@ pub record IsWindow (w : Window) : Type 0 where
   pub terminators : IsListOf IsWord w.terminators
   pub area : IsArea w.area
   pub content : IsContent w.area w.content
-  pub request : IsRequest w.request
+  pub request : IsGlkRequest w.request
 
 abbrev pub IsTarget : Target → Type 0
 IsTarget target.Window = Unit {0}
@@ -137,7 +137,7 @@ pub record IsPrintable (f : Fields) : Type 0 where
   pub settings : IsSettings f.settings
   pub random : IsRandom f.random
   pub undo : IsListOf (IsListOf IsByte) f.undo
-  pub waiting : IsWaiting f.waiting
+  pub waiting : IsWaitingFields f.waiting
   pub numbers : IsNumbers f.numbers
   pub windows : IsListOf IsWindow f.windows
   pub streams : IsListOf IsStream f.streams

@@ -2,7 +2,7 @@
 use Rattle.std.specs.Prelude.{ℕ, List, [], ◌∷◌, ◌++◌}
 use Rattle.std.specs.List.{flat_map}
 use Rattle.vm_heap.specs.declared.block.Block.{Block}
-use Rattle.snap_fields.specs.Numbers.{n1, n4, n8, flag, list_of, bytes_of, text_of}
+use Rattle.snap_fields.specs.Numbers.{n1, n4, n8, flag, list_of, bytes_with_count, text_codes}
 use Rattle.snap_fields.specs.declared.fields.Fields.{Fields}
 use Rattle.snap_fields.specs.declared.fields.Machine.{Machine}
 use Rattle.snap_fields.specs.declared.fields.Numbers.{Numbers}
@@ -39,7 +39,7 @@ print_block b = n4 b.at ++ n4 b.length
 
 abbrev pub print_machine : Machine → List ℕ
 print_machine m =
-    n4 m.pc ++ (n4 m.frame ++ (bytes_of m.memory ++ (bytes_of m.stack
+    n4 m.pc ++ (n4 m.frame ++ (bytes_with_count m.memory ++ (bytes_with_count m.stack
     ++ (n4 m.heap_start ++ list_of print_block m.heap))))
 
 -- ---- 3. its settings, and its random words
@@ -88,52 +88,52 @@ print_content Blank = []
 print_content Buffer = []
 print_content (Grid x y cells) = n4 x ++ (n4 y ++ flat_map n4 cells)
 
-abbrev pub print_request : Request → List ℕ
-print_request Nothing = n1 0
-print_request (Line unicode buffer maximum initial echo terminators) =
+abbrev pub print_glk_request : Request → List ℕ
+print_glk_request Nothing = n1 0
+print_glk_request (Line unicode buffer maximum initial echo terminators) =
     n1 1 ++ (n1 (flag unicode) ++ (n4 buffer ++ (n4 maximum ++ (n4 initial
     ++ (n1 (flag echo) ++ list_of n4 terminators)))))
-print_request (Char unicode) = n1 2 ++ n1 (flag unicode)
+print_glk_request (Char unicode) = n1 2 ++ n1 (flag unicode)
 
 abbrev pub print_window : Window → List ℕ
 print_window w =
     n4 w.number ++ (n4 (type_of w.content) ++ (n4 w.rock ++ (n4 w.stream
     ++ (n4 w.echo_stream ++ (n4 w.parent ++ (n4 (flag w.echo) ++ (list_of n4 w.terminators
-    ++ (print_area w.area ++ (print_content w.content ++ print_request w.request)))))))))
+    ++ (print_area w.area ++ (print_content w.content ++ print_glk_request w.request)))))))))
 
 -- ---- 8. streams
 
-abbrev pub kind_of : Target → ℕ
-kind_of target.Window = 0
-kind_of (target.Memory buffer length) = 1
-kind_of (target.File usage name) = 2
+abbrev pub target_kind : Target → ℕ
+target_kind target.Window = 0
+target_kind (target.Memory buffer length) = 1
+target_kind (target.File usage name) = 2
 
 abbrev pub print_target : Target → List ℕ
 print_target target.Window = []
 print_target (target.Memory buffer length) = n4 buffer ++ n4 length
-print_target (target.File usage name) = n4 usage ++ text_of name
+print_target (target.File usage name) = n4 usage ++ text_codes name
 
 abbrev pub print_stream : Stream → List ℕ
 print_stream s =
-    n4 s.number ++ (n1 (kind_of s.target) ++ (n4 s.rock ++ (n4 s.mode
+    n4 s.number ++ (n1 (target_kind s.target) ++ (n4 s.rock ++ (n4 s.mode
     ++ (n4 s.style ++ (n4 s.read ++ (n4 s.written ++ (n4 s.position
     ++ (n1 (flag s.unicode) ++ print_target s.target))))))))
 
 -- ---- 9. file references and files
 
 abbrev pub print_fileref : FileRef → List ℕ
-print_fileref r = n4 r.number ++ (n4 r.usage ++ (n4 r.rock ++ text_of r.name))
+print_fileref r = n4 r.number ++ (n4 r.usage ++ (n4 r.rock ++ text_codes r.name))
 
 abbrev pub print_file : File → List ℕ
-print_file f = n4 f.usage ++ (text_of f.name ++ bytes_of f.bytes)
+print_file f = n4 f.usage ++ (text_codes f.name ++ bytes_with_count f.bytes)
 
 -- ---- the whole
 
 unfoldable pub print_fields : Fields → List ℕ
 print_fields f =
     signature ++ (print_setup f.setup ++ (print_machine f.machine
-    ++ (print_settings f.settings ++ (print_random f.random ++ (list_of bytes_of f.undo
+    ++ (print_settings f.settings ++ (print_random f.random ++ (list_of bytes_with_count f.undo
     ++ (print_waiting f.waiting ++ (print_numbers f.numbers
     ++ (list_of print_window f.windows ++ (list_of print_stream f.streams
     ++ (list_of print_fileref f.filerefs ++ (list_of print_file f.files
-    ++ bytes_of f.show)))))))))))
+    ++ bytes_with_count f.show)))))))))))

@@ -16,22 +16,22 @@ abbrev pub ◌>>=◌ : {A B : Type 0} → Option A → (A → Option B) → Opti
 None >>= f = None
 
 -- one reader, and then one that depends on what was read
-abbrev pub joined : {A B : Type 0} → Reader A → (A → Reader B) → Reader (A × B)
-joined first second bytes =
+abbrev pub readers_joined : {A B : Type 0} → Reader A → (A → Reader B) → Reader (A × B)
+readers_joined first second bytes =
     first bytes >>= λ x. second x.0 x.1 >>= λ y. Some ((x.0, y.0), y.1)
 
 -- one reader, and then the other on the rest
 infixr 20 ◌then◌
 abbrev pub ◌then◌ : {A B : Type 0} → Reader A → Reader B → Reader (A × B)
-first then second = joined first (λ _. second)
+first then second = readers_joined first (λ _. second)
 
 -- a number, and then what it tells to read
 abbrev pub led_by : {A : Type 0} → Reader ℕ → (ℕ → Reader A) → Reader A
 led_by first second bytes = first bytes >>= λ n. second n.0 n.1
 
 -- a value made of what was read
-abbrev pub made : {A B : Type 0} → (A → B) → Reader A → Reader B
-made f read bytes = read bytes >>= λ x. Some (f x.0, x.1)
+abbrev pub reader_made : {A B : Type 0} → (A → B) → Reader A → Reader B
+reader_made f read bytes = read bytes >>= λ x. Some (f x.0, x.1)
 
 -- nothing can be read
 abbrev pub none_at : {A : Type 0} → Reader A
@@ -43,8 +43,8 @@ pure_at x bytes = Some (x, bytes)
 
 -- ---- numbers
 
-abbrev pub number_at : Width → Reader ℕ
-number_at w bytes =
+abbrev pub number_of_width : Width → Reader ℕ
+number_of_width w bytes =
     if nat_lt (length bytes) (byte_len w) then None
     else Some (from_be_bytes w (take (byte_len w) bytes), drop (byte_len w) bytes)
 
@@ -53,10 +53,10 @@ n1_at [] = None
 n1_at (b ∷ bs) = Some (b, bs)
 
 unfoldable pub n4_at : Reader ℕ
-n4_at bytes = number_at w32 bytes
+n4_at bytes = number_of_width w32 bytes
 
 unfoldable pub n8_at : Reader ℕ
-n8_at bytes = number_at w64 bytes
+n8_at bytes = number_of_width w64 bytes
 
 -- 0 for no, 1 for yes
 abbrev pub bool_at : ℕ → Reader Bool
@@ -89,10 +89,10 @@ bytes_at = led_by n4_at taken_at
 -- ---- what a function returned
 
 -- what a function that takes a value from the front of the bytes returned, and what it left
-abbrev pub Fails : {A : Type 0} → SnapFault → Option A → Type 0
-Fails BadSnap read = read ≡ None
-Fails NoMemory read = Unit {0}
+abbrev pub FailsOnFields : {A : Type 0} → SnapFault → Option A → Type 0
+FailsOnFields BadSnap read = read ≡ None
+FailsOnFields NoMemory read = Unit {0}
 
-abbrev pub Reads : {A : Type 0} → Reader A → List ℕ → List ℕ → Result A SnapFault → Type 0
-Reads read old new (Ok x) = read old ≡ Some (x, new)
-Reads read old new (Err e) = Fails e (read old)
+abbrev pub ReadsFront : {A : Type 0} → Reader A → List ℕ → List ℕ → Result A SnapFault → Type 0
+ReadsFront read old new (Ok x) = read old ≡ Some (x, new)
+ReadsFront read old new (Err e) = FailsOnFields e (read old)

@@ -1,11 +1,11 @@
 -- All of a world's bytes, read from the left (own: docs/FORMATS.md, "Snapshot bytes").
 use Rattle.std.specs.Prelude.{ℕ, ◌≡◌, ◌==◌, if◌then◌else◌, List, length}
 use Rattle.std.specs.Prelude.{Option, Some, None, Result, Ok, Err}
-use Rattle.snap_fields.specs.Reading.{Reader, ◌then◌, led_by, made, none_at}
-use Rattle.snap_fields.specs.Reading.{n4_at, bytes_at, list_at, Fails}
+use Rattle.snap_fields.specs.Reading.{Reader, ◌then◌, led_by, reader_made, none_at}
+use Rattle.snap_fields.specs.Reading.{n4_at, bytes_at, list_at, FailsOnFields}
 use Rattle.snap_fields.specs.Items.{setup_at, machine_at, settings_at, random_at, waiting_at}
 use Rattle.snap_fields.specs.Items.{numbers_at}
-use Rattle.snap_fields.specs.GlkItems.{window_at, stream_at, fileref_at, file_at}
+use Rattle.snap_fields.specs.GlkItems.{window_item_at, stream_item_at, fileref_at, file_at}
 use Rattle.snap_fields.specs.declared.fault.SnapFault.{SnapFault}
 use Rattle.snap_fields.specs.declared.fields.Fields.{Fields}
 use Rattle.snap_fields.specs.declared.fields.Machine.{Machine}
@@ -27,11 +27,11 @@ Parts = Setup × (Machine × (Settings × (Random × (List (List ℕ) × (Waitin
 abbrev pub parts_at : Reader Parts
 parts_at =
     setup_at then machine_at then settings_at then random_at then list_at bytes_at
-    then waiting_at then numbers_at then list_at window_at then list_at stream_at
+    then waiting_at then numbers_at then list_at window_item_at then list_at stream_item_at
     then list_at fileref_at then list_at file_at then bytes_at
 
-abbrev pub fields_of : Parts → Fields
-fields_of (
+abbrev pub fields_of_parts : Parts → Fields
+fields_of_parts (
   setup,
   (
     machine,
@@ -74,18 +74,18 @@ fields_of (
 }
 
 -- `STW1`
-abbrev pub signed : ℕ → Reader Fields
-signed n = if n == 0x53545731 then made fields_of parts_at else none_at
+abbrev pub signed_fields : ℕ → Reader Fields
+signed_fields n = if n == 0x53545731 then reader_made fields_of_parts parts_at else none_at
 
 unfoldable pub fields_at : Reader Fields
-fields_at = led_by n4_at signed
+fields_at = led_by n4_at signed_fields
 
 -- nothing may follow
-abbrev pub whole : {A : Type 0} → Option (A × List ℕ) → Option A
-whole None = None
-whole (Some x) = if length x.1 == 0 then Some x.0 else None
+abbrev pub if_all_read : {A : Type 0} → Option (A × List ℕ) → Option A
+if_all_read None = None
+if_all_read (Some x) = if length x.1 == 0 then Some x.0 else None
 
 -- what a function that reads all of the bytes returned
-abbrev pub Finds : {A : Type 0} → Option A → Result A SnapFault → Type 0
-Finds read (Ok x) = read ≡ Some x
-Finds read (Err e) = Fails e read
+abbrev pub FindsWhole : {A : Type 0} → Option A → Result A SnapFault → Type 0
+FindsWhole read (Ok x) = read ≡ Some x
+FindsWhole read (Err e) = FailsOnFields e read

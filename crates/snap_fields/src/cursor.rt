@@ -1,7 +1,7 @@
 //! A place in bytes, from which values are taken (own).
 
 ghost use Rattle.std.specs.Prelude.{◌≡◌};
-ghost use Rattle.snap_fields.specs.Reading.{Reads, bytes_at, flag1_at, flag4_at, n1_at, n4_at};
+ghost use Rattle.snap_fields.specs.Reading.{ReadsFront, bytes_at, flag1_at, flag4_at, n1_at, n4_at};
 ghost use Rattle.snap_fields.specs.Reading.{n8_at};
 
 use crate::fault::SnapFault;
@@ -39,7 +39,7 @@ impl<'a> Cursor<'a> {
 
     #[tactic(auto, unfolding(crate::specs::Reading::n1_at))]
     pub fn n1(&mut self) -> Result<u8, SnapFault>
-        ensures { Reads n1_at self.old self.new result }
+        ensures { ReadsFront n1_at self.old self.new result }
     {
         match self.rest {
             [] => Err(SnapFault::BadSnap),
@@ -52,7 +52,7 @@ impl<'a> Cursor<'a> {
 
     #[tactic(auto, unfolding(crate::specs::Reading::n4_at))]
     pub fn n4(&mut self) -> Result<u32, SnapFault>
-        ensures { Reads n4_at self.old self.new result }
+        ensures { ReadsFront n4_at self.old self.new result }
     {
         if self.rest.len() < 4 {
             return Err(SnapFault::BadSnap);
@@ -64,7 +64,7 @@ impl<'a> Cursor<'a> {
 
     #[tactic(auto, unfolding(crate::specs::Reading::n8_at))]
     pub fn n8(&mut self) -> Result<u64, SnapFault>
-        ensures { Reads n8_at self.old self.new result }
+        ensures { ReadsFront n8_at self.old self.new result }
     {
         if self.rest.len() < 8 {
             return Err(SnapFault::BadSnap);
@@ -79,7 +79,7 @@ impl<'a> Cursor<'a> {
     /// 0 or 1 in one byte.
     #[tactic(auto, unfolding(crate::specs::Reading::flag1_at))]
     pub fn flag1(&mut self) -> Result<bool, SnapFault>
-        ensures { Reads flag1_at self.old self.new result }
+        ensures { ReadsFront flag1_at self.old self.new result }
     {
         match self.n1()? {
             0 => Ok(false),
@@ -91,7 +91,7 @@ impl<'a> Cursor<'a> {
     /// 0 or 1 in four bytes.
     #[tactic(auto, unfolding(crate::specs::Reading::flag4_at))]
     pub fn flag4(&mut self) -> Result<bool, SnapFault>
-        ensures { Reads flag4_at self.old self.new result }
+        ensures { ReadsFront flag4_at self.old self.new result }
     {
         match self.n4()? {
             0 => Ok(false),
@@ -103,7 +103,7 @@ impl<'a> Cursor<'a> {
     /// A list of bytes. Its count is compared with the bytes that are left before memory is taken.
     #[tactic(auto, unfolding(crate::specs::Reading::bytes_at))]
     pub fn bytes(&mut self, alloc: Global) -> Result<Items<u8>, SnapFault>
-        ensures { Reads bytes_at self.old self.new result }
+        ensures { ReadsFront bytes_at self.old self.new result }
     {
         let count = self.n4()? as usize;
         if self.rest.len() < count {

@@ -3,12 +3,13 @@
 ghost use Rattle.snap_fields.specs.Counts.{CountsFile, CountsFileRef, CountsStream, CountsWindow};
 ghost use Rattle.snap_fields.specs.Counts.{HasNoList};
 ghost use Rattle.snap_fields.specs.Items.{block_at};
-ghost use Rattle.snap_fields.specs.Numbers.{IsByte, IsCounted, IsListOf, IsWord, bytes_of, n4};
+ghost use Rattle.snap_fields.specs.Numbers.{IsByte, IsCounted, IsListOf, IsWord, bytes_with_count};
+ghost use Rattle.snap_fields.specs.Numbers.{n4};
 ghost use Rattle.snap_fields.specs.Printable.{IsBlock, IsFile, IsFileRef, IsStream, IsWindow};
 ghost use Rattle.snap_fields.specs.Printing.{print_block, print_file, print_fileref, print_stream};
 ghost use Rattle.snap_fields.specs.Printing.{print_window};
 ghost use Rattle.snap_fields.specs.Reading.{bytes_at, n4_at};
-ghost use Rattle.snap_fields.specs.GlkItems.{file_at, fileref_at, stream_at, window_at};
+ghost use Rattle.snap_fields.specs.GlkItems.{file_at, fileref_at, stream_item_at, window_item_at};
 
 use crate::counts::{has_cells, is_counted, request_has_counts, target_has_counts};
 use crate::cursor::Cursor;
@@ -47,7 +48,7 @@ impl Item for u32 {
 impl Item for Items<u8> {
     ghost read_as = { bytes_at };
 
-    ghost print = { bytes_of };
+    ghost print = { bytes_with_count };
 
     ghost is_printable = { IsListOf IsByte };
 
@@ -94,7 +95,7 @@ impl Item for Block {
 }
 
 impl Item for Window {
-    ghost read_as = { window_at };
+    ghost read_as = { window_item_at };
 
     ghost print = { print_window };
 
@@ -108,7 +109,7 @@ impl Item for Window {
             && request_has_counts(&self.request)
     }
 
-    #[tactic(auto, unfolding(crate::specs::GlkItems::window_at))]
+    #[tactic(auto, unfolding(crate::specs::GlkItems::window_item_at))]
     fn read(alloc: Global, from: &mut Cursor<'_>) -> Result<Window, SnapFault> {
         let number = from.n4()?;
         let kind = from.n4()?;
@@ -150,7 +151,7 @@ impl Item for Window {
 }
 
 impl Item for Stream {
-    ghost read_as = { stream_at };
+    ghost read_as = { stream_item_at };
 
     ghost print = { print_stream };
 
@@ -162,7 +163,7 @@ impl Item for Stream {
         target_has_counts(&self.target)
     }
 
-    #[tactic(auto, unfolding(crate::specs::GlkItems::stream_at))]
+    #[tactic(auto, unfolding(crate::specs::GlkItems::stream_item_at))]
     fn read(alloc: Global, from: &mut Cursor<'_>) -> Result<Stream, SnapFault> {
         let number = from.n4()?;
         let kind = from.n1()?;

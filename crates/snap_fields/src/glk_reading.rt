@@ -1,6 +1,6 @@
 //! Reading windows, streams, file references and files (own).
 
-ghost use Rattle.snap_fields.specs.Reading.{Reads};
+ghost use Rattle.snap_fields.specs.Reading.{ReadsFront};
 ghost use Rattle.snap_fields.specs.GlkItems.{area_at, content_at, request_at, target_at};
 
 use crate::cursor::Cursor;
@@ -11,7 +11,7 @@ use std::alloc::Global;
 
 #[tactic(auto, unfolding(crate::specs::GlkItems::area_at))]
 pub fn area(from: &mut Cursor<'_>) -> Result<Area, SnapFault>
-    ensures { Reads area_at from.old from.new result }
+    ensures { ReadsFront area_at from.old from.new result }
 {
     Ok(Area {
         x: from.n4()?,
@@ -29,7 +29,7 @@ pub fn content(
     kind: u32,
     area: Area,
 ) -> Result<Content, SnapFault>
-    ensures { Reads (content_at kind area) from.old from.new result }
+    ensures { ReadsFront (content_at kind area) from.old from.new result }
 {
     match kind {
         1 => Ok(Content::Pair {
@@ -52,7 +52,7 @@ pub fn content(
 
 #[tactic(auto, unfolding(crate::specs::GlkItems::request_at))]
 pub fn request(alloc: Global, from: &mut Cursor<'_>) -> Result<Request, SnapFault>
-    ensures { Reads request_at from.old from.new result }
+    ensures { ReadsFront request_at from.old from.new result }
 {
     match from.n1()? {
         0 => Ok(Request::Nothing),
@@ -74,7 +74,7 @@ pub fn request(alloc: Global, from: &mut Cursor<'_>) -> Result<Request, SnapFaul
 /// Where the characters of a stream of this kind go.
 #[tactic(auto, unfolding(crate::specs::GlkItems::target_at))]
 pub fn target(alloc: Global, from: &mut Cursor<'_>, kind: u8) -> Result<Target, SnapFault>
-    ensures { Reads (target_at kind) from.old from.new result }
+    ensures { ReadsFront (target_at kind) from.old from.new result }
 {
     match kind {
         0 => Ok(Target::Window),

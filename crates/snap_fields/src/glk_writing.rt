@@ -2,10 +2,11 @@
 
 ghost use Rattle.std.specs.Prelude.{◌≡◌, OnOk};
 ghost use Rattle.snap_fields.specs.Counts.{CountsRequest, CountsTarget, HasCells};
-ghost use Rattle.snap_fields.specs.Printable.{IsArea, IsContent, IsRequest, IsTarget};
-ghost use Rattle.snap_fields.specs.Printing.{kind_of, print_area, print_content, print_request};
+ghost use Rattle.snap_fields.specs.Printable.{IsArea, IsContent, IsGlkRequest, IsTarget};
+ghost use Rattle.snap_fields.specs.Printing.{target_kind, print_area, print_content};
+ghost use Rattle.snap_fields.specs.Printing.{print_glk_request};
 ghost use Rattle.snap_fields.specs.Printing.{print_target, type_of};
-ghost use Rattle.snap_fields.specs.Writing.{Puts};
+ghost use Rattle.snap_fields.specs.Writing.{PutsBehind};
 
 use crate::glk::{Area, Content, Request, Target};
 use crate::item::{put_list, put_many};
@@ -29,7 +30,7 @@ impl Content {
 impl Target {
     /// The stream's kind: 0 of a window, 1 of memory, 2 of a file.
     pub fn kind(&self) -> u8
-        ensures { result ≡ kind_of self.now }
+        ensures { result ≡ target_kind self.now }
     {
         match self {
             Target::Window => 0,
@@ -40,7 +41,7 @@ impl Target {
 }
 
 pub fn put_area(out: &mut Vec<u8>, area: Area) -> Result<(), AllocError>
-    ensures { OnOk result (Puts print_area IsArea area out.old.items out.new.items) }
+    ensures { OnOk result (PutsBehind print_area IsArea area out.old.items out.new.items) }
 {
     put4(out, area.x)?;
     put4(out, area.y)?;
@@ -50,7 +51,7 @@ pub fn put_area(out: &mut Vec<u8>, area: Area) -> Result<(), AllocError>
 
 pub fn put_content(out: &mut Vec<u8>, area: Area, content: &Content) -> Result<(), AllocError>
     requires { HasCells area content.now }
-    ensures { OnOk result (Puts print_content (IsContent area) content.now
+    ensures { OnOk result (PutsBehind print_content (IsContent area) content.now
         out.old.items out.new.items) }
 {
     match content {
@@ -80,7 +81,8 @@ pub fn put_content(out: &mut Vec<u8>, area: Area, content: &Content) -> Result<(
 
 pub fn put_request(out: &mut Vec<u8>, request: &Request) -> Result<(), AllocError>
     requires { CountsRequest request.now }
-    ensures { OnOk result (Puts print_request IsRequest request.now out.old.items out.new.items) }
+    ensures { OnOk result
+        (PutsBehind print_glk_request IsGlkRequest request.now out.old.items out.new.items) }
 {
     match request {
         Request::Nothing => put1(out, 0),
@@ -110,7 +112,8 @@ pub fn put_request(out: &mut Vec<u8>, request: &Request) -> Result<(), AllocErro
 
 pub fn put_target(out: &mut Vec<u8>, target: &Target) -> Result<(), AllocError>
     requires { CountsTarget target.now }
-    ensures { OnOk result (Puts print_target IsTarget target.now out.old.items out.new.items) }
+    ensures { OnOk result
+        (PutsBehind print_target IsTarget target.now out.old.items out.new.items) }
 {
     match target {
         Target::Window => Ok(()),

@@ -4,8 +4,8 @@ ghost use Rattle.std.specs.Prelude.{◌↔◌, ℕ, List, IsTrue, OnOk, Option};
 ghost use Rattle.std.specs.List.{AllByRecursion, flat_map};
 ghost use Rattle.snap_fields.specs.Counts.{CountsList};
 ghost use Rattle.snap_fields.specs.Numbers.{IsListOf, list_of};
-ghost use Rattle.snap_fields.specs.Reading.{Reads, list_at, many_at};
-ghost use Rattle.snap_fields.specs.Writing.{Puts};
+ghost use Rattle.snap_fields.specs.Reading.{ReadsFront, list_at, many_at};
+ghost use Rattle.snap_fields.specs.Writing.{PutsBehind};
 
 use crate::cursor::Cursor;
 use crate::fault::SnapFault;
@@ -32,11 +32,12 @@ pub trait Item {
         ensures { IsTrue result ↔ has_counts self.now };
 
     fn read(alloc: Global, from: &mut Cursor<'_>) -> Result<Self, SnapFault>
-        ensures { Reads read_as from.old from.new result };
+        ensures { ReadsFront read_as from.old from.new result };
 
     fn write(&self, out: &mut Vec<u8>) -> Result<(), AllocError>
         requires { has_counts self.now }
-        ensures { OnOk result (Puts print is_printable self.now out.old.items out.new.items) };
+        ensures { OnOk result
+            (PutsBehind print is_printable self.now out.old.items out.new.items) };
 }
 
 /// So many values. Memory is taken for those that are there.
@@ -45,7 +46,7 @@ pub fn many<T: Item + Drop>(
     from: &mut Cursor<'_>,
     count: u64,
 ) -> Result<Items<T>, SnapFault>
-    ensures { Reads (many_at T.read_as count) from.old from.new result }
+    ensures { ReadsFront (many_at T.read_as count) from.old from.new result }
 {
     let mut items = Vec::new(alloc);
     for _ in 0..count {
@@ -57,7 +58,7 @@ pub fn many<T: Item + Drop>(
 /// A count, and that many values.
 #[tactic(auto, unfolding(crate::specs::Reading::list_at))]
 pub fn list<T: Item + Drop>(alloc: Global, from: &mut Cursor<'_>) -> Result<Items<T>, SnapFault>
-    ensures { Reads (list_at T.read_as) from.old from.new result }
+    ensures { ReadsFront (list_at T.read_as) from.old from.new result }
 {
     let count = from.n4()?;
     many(alloc, from, u64::from(count))
@@ -66,7 +67,7 @@ pub fn list<T: Item + Drop>(alloc: Global, from: &mut Cursor<'_>) -> Result<Item
 /// The values one after the other.
 pub fn put_many<T: Item>(out: &mut Vec<u8>, items: &[T]) -> Result<(), AllocError>
     requires { AllByRecursion T.has_counts items.now }
-    ensures { OnOk result (Puts (flat_map T.print) (AllByRecursion T.is_printable)
+    ensures { OnOk result (PutsBehind (flat_map T.print) (AllByRecursion T.is_printable)
         items.now out.old.items out.new.items) }
 {
     for item in items {
@@ -78,7 +79,7 @@ pub fn put_many<T: Item>(out: &mut Vec<u8>, items: &[T]) -> Result<(), AllocErro
 /// Their count, and the values.
 pub fn put_list<T: Item>(out: &mut Vec<u8>, items: &[T]) -> Result<(), AllocError>
     requires { CountsList T.has_counts items.now }
-    ensures { OnOk result (Puts (list_of T.print) (IsListOf T.is_printable)
+    ensures { OnOk result (PutsBehind (list_of T.print) (IsListOf T.is_printable)
         items.now out.old.items out.new.items) }
 {
     put4(out, items.len() as u32)?;

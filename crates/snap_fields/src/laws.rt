@@ -1,15 +1,16 @@
 //! Laws of the format.
 
-ghost use Rattle.snap_fields.specs.Laws.{BeginsNoOther, HasOneSpelling, ReadsEachSpelling};
+ghost use Rattle.snap_fields.specs.Laws.{BeginsNoOther, FieldsHaveOneSpelling};
+ghost use Rattle.snap_fields.specs.Laws.{ReadsEachSpellingOfFields};
 
 /// What is printed of fields is read as these fields, unless memory runs out.
 pub fn reads_each_spelling()
-    ensures { ReadsEachSpelling }
+    ensures { ReadsEachSpellingOfFields }
 {}
 
 /// No two fields have the same bytes.
 pub fn has_one_spelling()
-    ensures { HasOneSpelling }
+    ensures { FieldsHaveOneSpelling }
 {}
 
 /// No front of a world's bytes is a world's bytes.

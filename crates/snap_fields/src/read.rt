@@ -1,9 +1,9 @@
 //! Reading all of a world's bytes (own).
 
 ghost use Rattle.std.specs.Prelude.{IfErr, IfOk};
-ghost use Rattle.snap_fields.specs.Laws.{Refuses, Spells};
-ghost use Rattle.snap_fields.specs.Reading.{Reads};
-ghost use Rattle.snap_fields.specs.Whole.{Finds, fields_at, whole};
+ghost use Rattle.snap_fields.specs.Laws.{RefusesFields, SpellsFields};
+ghost use Rattle.snap_fields.specs.Reading.{ReadsFront};
+ghost use Rattle.snap_fields.specs.Whole.{FindsWhole, fields_at, if_all_read};
 
 use crate::cursor::Cursor;
 use crate::fault::SnapFault;
@@ -17,7 +17,7 @@ pub(crate) const SIGNATURE: u32 = 0x5354_5731;
 
 #[tactic(auto, unfolding(crate::specs::Whole::fields_at))]
 fn fields(alloc: Global, from: &mut Cursor<'_>) -> Result<Fields, SnapFault>
-    ensures { Reads fields_at from.old from.new result }
+    ensures { ReadsFront fields_at from.old from.new result }
 {
     if from.n4()? != SIGNATURE {
         return Err(SnapFault::BadSnap);
@@ -39,7 +39,7 @@ fn fields(alloc: Global, from: &mut Cursor<'_>) -> Result<Fields, SnapFault>
 }
 
 fn all(alloc: Global, bytes: &[u8]) -> Result<Fields, SnapFault>
-    ensures { Finds (whole (fields_at bytes.now)) result }
+    ensures { FindsWhole (if_all_read (fields_at bytes.now)) result }
 {
     let mut from = Cursor::of(bytes);
     let fields = fields(alloc, &mut from)?;
@@ -53,9 +53,9 @@ fn all(alloc: Global, bytes: &[u8]) -> Result<Fields, SnapFault>
 /// never by a count alone.
 pub fn read_fields(alloc: Global, bytes: &[u8]) -> Result<Fields, SnapFault>
     // What is read is spelled so, each byte of it.
-    ensures found { IfOk result (Spells bytes.now) }
+    ensures found { IfOk result (SpellsFields bytes.now) }
     // `BadSnap` exactly where no fields have these bytes.
-    ensures exact { IfErr result (Refuses bytes.now) }
+    ensures exact { IfErr result (RefusesFields bytes.now) }
 {
     all(alloc, bytes)
 }

@@ -1,6 +1,6 @@
 //! Reading the items in their order (own).
 
-ghost use Rattle.snap_fields.specs.Reading.{Reads};
+ghost use Rattle.snap_fields.specs.Reading.{ReadsFront};
 ghost use Rattle.snap_fields.specs.Items.{block_at, machine_at, numbers_at, random_at, settings_at};
 ghost use Rattle.snap_fields.specs.Items.{setup_at, store_at, waiting_at};
 
@@ -12,7 +12,7 @@ use std::alloc::Global;
 
 #[tactic(auto, unfolding(crate::specs::Items::setup_at))]
 pub fn setup(from: &mut Cursor<'_>) -> Result<Setup, SnapFault>
-    ensures { Reads setup_at from.old from.new result }
+    ensures { ReadsFront setup_at from.old from.new result }
 {
     Ok(Setup {
         seed: from.n8()?,
@@ -24,7 +24,7 @@ pub fn setup(from: &mut Cursor<'_>) -> Result<Setup, SnapFault>
 
 #[tactic(auto, unfolding(crate::specs::Items::machine_at))]
 pub fn machine(alloc: Global, from: &mut Cursor<'_>) -> Result<Machine, SnapFault>
-    ensures { Reads machine_at from.old from.new result }
+    ensures { ReadsFront machine_at from.old from.new result }
 {
     Ok(Machine {
         pc: from.n4()?,
@@ -38,7 +38,7 @@ pub fn machine(alloc: Global, from: &mut Cursor<'_>) -> Result<Machine, SnapFaul
 
 #[tactic(auto, unfolding(crate::specs::Items::settings_at))]
 pub fn settings(from: &mut Cursor<'_>) -> Result<Settings, SnapFault>
-    ensures { Reads settings_at from.old from.new result }
+    ensures { ReadsFront settings_at from.old from.new result }
 {
     Ok(Settings {
         mode: from.n4()?,
@@ -51,7 +51,7 @@ pub fn settings(from: &mut Cursor<'_>) -> Result<Settings, SnapFault>
 
 #[tactic(auto, unfolding(crate::specs::Items::random_at))]
 pub fn random(from: &mut Cursor<'_>) -> Result<Random, SnapFault>
-    ensures { Reads random_at from.old from.new result }
+    ensures { ReadsFront random_at from.old from.new result }
 {
     Ok(Random {
         start: from.n8()?,
@@ -63,7 +63,7 @@ pub fn random(from: &mut Cursor<'_>) -> Result<Random, SnapFault>
 
 #[tactic(auto, unfolding(crate::specs::Items::store_at))]
 fn store(from: &mut Cursor<'_>) -> Result<Store, SnapFault>
-    ensures { Reads store_at from.old from.new result }
+    ensures { ReadsFront store_at from.old from.new result }
 {
     Ok(Store {
         kind: from.n4()?,
@@ -73,7 +73,7 @@ fn store(from: &mut Cursor<'_>) -> Result<Store, SnapFault>
 
 #[tactic(auto, unfolding(crate::specs::Items::waiting_at))]
 pub fn waiting(from: &mut Cursor<'_>) -> Result<Waiting, SnapFault>
-    ensures { Reads waiting_at from.old from.new result }
+    ensures { ReadsFront waiting_at from.old from.new result }
 {
     match from.n1()? {
         0 => Ok(Waiting::Quit),
@@ -94,7 +94,7 @@ pub fn waiting(from: &mut Cursor<'_>) -> Result<Waiting, SnapFault>
 
 #[tactic(auto, unfolding(crate::specs::Items::numbers_at))]
 pub fn numbers(from: &mut Cursor<'_>) -> Result<Numbers, SnapFault>
-    ensures { Reads numbers_at from.old from.new result }
+    ensures { ReadsFront numbers_at from.old from.new result }
 {
     Ok(Numbers {
         window: from.n4()?,

@@ -2,10 +2,10 @@
 
 ghost use Rattle.std.specs.Prelude.{IfNone, IfOk, IfSome, OnOk};
 ghost use Rattle.snap_fields.specs.Counts.{HasCounts};
-ghost use Rattle.snap_fields.specs.Laws.{Spells};
+ghost use Rattle.snap_fields.specs.Laws.{SpellsFields};
 ghost use Rattle.snap_fields.specs.Printable.{IsPrintable};
 ghost use Rattle.snap_fields.specs.Printing.{print_fields};
-ghost use Rattle.snap_fields.specs.Writing.{Puts};
+ghost use Rattle.snap_fields.specs.Writing.{PutsBehind};
 
 use crate::counts::has_counts;
 use crate::fields::Fields;
@@ -17,7 +17,8 @@ use std::alloc::{AllocError, Global};
 
 fn put_fields(out: &mut Vec<u8>, fields: &Fields) -> Result<(), AllocError>
     requires { HasCounts fields.now }
-    ensures { OnOk result (Puts print_fields IsPrintable fields.now out.old.items out.new.items) }
+    ensures { OnOk result
+        (PutsBehind print_fields IsPrintable fields.now out.old.items out.new.items) }
 {
     put4(out, SIGNATURE)?;
     put_setup(out, fields.setup)?;
@@ -38,7 +39,7 @@ fn put_fields(out: &mut Vec<u8>, fields: &Fields) -> Result<(), AllocError>
 /// The bytes of the fields. None exactly where they have none, since a list is too long for its
 /// count or a grid hasn't its cells. An error is want of memory.
 pub fn write_fields(alloc: Global, fields: &Fields) -> Result<Option<Vec<u8>>, AllocError>
-    ensures value { IfOk result (λ bytes. IfSome bytes (λ v. Spells v.items fields.now)) }
+    ensures value { IfOk result (λ bytes. IfSome bytes (λ v. SpellsFields v.items fields.now)) }
     ensures none { IfOk result (λ bytes. IfNone bytes (¬ IsPrintable fields.now)) }
 {
     if !has_counts(fields) {

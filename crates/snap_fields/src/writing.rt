@@ -3,11 +3,11 @@
 ghost use Rattle.std.specs.Prelude.{OnOk};
 ghost use Rattle.snap_fields.specs.Counts.{CountsMachine};
 ghost use Rattle.snap_fields.specs.Printable.{IsMachine, IsNumbers, IsRandom, IsSettings, IsSetup};
-ghost use Rattle.snap_fields.specs.Printable.{IsStore, IsWaiting};
+ghost use Rattle.snap_fields.specs.Printable.{IsStoreFields, IsWaitingFields};
 ghost use Rattle.snap_fields.specs.Printing.{print_machine, print_numbers, print_random};
 ghost use Rattle.snap_fields.specs.Printing.{print_settings, print_setup, print_store};
 ghost use Rattle.snap_fields.specs.Printing.{print_waiting};
-ghost use Rattle.snap_fields.specs.Writing.{Puts};
+ghost use Rattle.snap_fields.specs.Writing.{PutsBehind};
 
 use crate::fields::{Machine, Numbers, Random, Settings, Setup, Store, Waiting};
 use crate::item::put_list;
@@ -15,7 +15,7 @@ use crate::put::{put_bytes, put1, put4, put8};
 use std::alloc::AllocError;
 
 pub fn put_setup(out: &mut Vec<u8>, setup: Setup) -> Result<(), AllocError>
-    ensures { OnOk result (Puts print_setup IsSetup setup out.old.items out.new.items) }
+    ensures { OnOk result (PutsBehind print_setup IsSetup setup out.old.items out.new.items) }
 {
     put8(out, setup.seed)?;
     put1(out, setup.cols)?;
@@ -26,7 +26,8 @@ pub fn put_setup(out: &mut Vec<u8>, setup: Setup) -> Result<(), AllocError>
 
 pub fn put_machine(out: &mut Vec<u8>, machine: &Machine) -> Result<(), AllocError>
     requires { CountsMachine machine.now }
-    ensures { OnOk result (Puts print_machine IsMachine machine.now out.old.items out.new.items) }
+    ensures { OnOk result
+        (PutsBehind print_machine IsMachine machine.now out.old.items out.new.items) }
 {
     put4(out, machine.pc)?;
     put4(out, machine.frame)?;
@@ -38,7 +39,8 @@ pub fn put_machine(out: &mut Vec<u8>, machine: &Machine) -> Result<(), AllocErro
 }
 
 pub fn put_settings(out: &mut Vec<u8>, settings: Settings) -> Result<(), AllocError>
-    ensures { OnOk result (Puts print_settings IsSettings settings out.old.items out.new.items) }
+    ensures { OnOk result
+        (PutsBehind print_settings IsSettings settings out.old.items out.new.items) }
 {
     put4(out, settings.mode)?;
     put4(out, settings.rock)?;
@@ -49,7 +51,7 @@ pub fn put_settings(out: &mut Vec<u8>, settings: Settings) -> Result<(), AllocEr
 }
 
 pub fn put_random(out: &mut Vec<u8>, random: Random) -> Result<(), AllocError>
-    ensures { OnOk result (Puts print_random IsRandom random out.old.items out.new.items) }
+    ensures { OnOk result (PutsBehind print_random IsRandom random out.old.items out.new.items) }
 {
     put8(out, random.start)?;
     put8(out, random.stream)?;
@@ -58,14 +60,15 @@ pub fn put_random(out: &mut Vec<u8>, random: Random) -> Result<(), AllocError>
 }
 
 fn put_store(out: &mut Vec<u8>, store: Store) -> Result<(), AllocError>
-    ensures { OnOk result (Puts print_store IsStore store out.old.items out.new.items) }
+    ensures { OnOk result (PutsBehind print_store IsStoreFields store out.old.items out.new.items) }
 {
     put4(out, store.kind)?;
     put4(out, store.address)
 }
 
 pub fn put_waiting(out: &mut Vec<u8>, waiting: Waiting) -> Result<(), AllocError>
-    ensures { OnOk result (Puts print_waiting IsWaiting waiting out.old.items out.new.items) }
+    ensures { OnOk result
+        (PutsBehind print_waiting IsWaitingFields waiting out.old.items out.new.items) }
 {
     match waiting {
         Waiting::Quit => put1(out, 0),
@@ -95,7 +98,7 @@ pub fn put_waiting(out: &mut Vec<u8>, waiting: Waiting) -> Result<(), AllocError
 }
 
 pub fn put_numbers(out: &mut Vec<u8>, numbers: Numbers) -> Result<(), AllocError>
-    ensures { OnOk result (Puts print_numbers IsNumbers numbers out.old.items out.new.items) }
+    ensures { OnOk result (PutsBehind print_numbers IsNumbers numbers out.old.items out.new.items) }
 {
     put4(out, numbers.window)?;
     put4(out, numbers.stream)?;

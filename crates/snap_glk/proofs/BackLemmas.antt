@@ -8,13 +8,13 @@ use Rattle.glk_windows.specs.Valid as windows
 use Rattle.glk_windows.specs.declared.window.Window as window
 use Rattle.glk_streams.specs.Streams as streams
 use Rattle.glk_streams.specs.declared.stream.Stream as stream
-use Rattle.glk_dispatch.specs.Links.{end_of, ends, link_of, owner, owner_in, stream_in}
-use Rattle.glk_dispatch.specs.Valid.{IsValid}
+use Rattle.glk_dispatch.specs.Links.{stream_end, stream_ends, window_link, owner, owner_in, live_stream}
+use Rattle.glk_dispatch.specs.Valid.{IsValidGlk}
 use Rattle.glk_dispatch.specs.declared.glk.Glk.{Glk}
 use Rattle.glk_dispatch.proofs.CloseLemmas.{to-ascends}
 use Rattle.glk_dispatch.proofs.EchoLemmas.{streams-ascend}
 use Rattle.glk_dispatch.proofs.EntryLemmas.{entries_follow, streams_follow}
-use Rattle.snap_glk.specs.Laws.{GivesBack, StandsBetweenTurns, TakesBack}
+use Rattle.snap_glk.specs.Laws.{GivesBackGlk, StandsBetweenTurns, TakesFieldsBack}
 use Rattle.snap_glk.specs.Made.{file_made, fileref_made, stream_made}
 use Rattle.snap_glk.specs.Told.{file_told, fileref_told, glk_fields, stream_told}
 use Rattle.snap_glk.proofs.ListLemmas.{IsFound, all-found, all-weaker, map-back}
@@ -24,37 +24,37 @@ use Rattle.snap_glk.proofs.WindowLemmas.{windows-begun}
 
 -- ---- which window a stream is told to have
 
-is-found : (o : Option window.Window) (n k : ℕ) → stream_in (option_map link_of o) ≡ Some k
+is-found : (o : Option window.Window) (n k : ℕ) → live_stream (option_map window_link o) ≡ Some k
     → (v : window.Window) × (o ≡ Some v)
 is-found None n k e = absurd cc
 is-found (Some v) n k e = (v, refl)
 
-module _ (g : Glk) (v : IsValid g) where
-  window-order : ascends tree.number_of 0 g.windows.next g.windows.slots ≡ true
+module _ (g : Glk) (v : IsValidGlk g) where
+  window-order : ascends tree.window_number 0 g.windows.next g.windows.slots ≡ true
   unfolding windows.IsOrdered
   window-order = to-ascends g.windows.slots 0 g.windows.next v.parts.windows.ordered
 
-  stream-order : ascends streams.number_of 0 g.streams.next g.streams.streams ≡ true
+  stream-order : ascends streams.stream_number 0 g.streams.next g.streams.streams ≡ true
   stream-order = streams-ascend g v.parts
 
   is-told : (s : stream.Stream) → streams.stream_at g.streams s.number ≡ Some s
       → IsTold (glk_fields g).windows s
   is-told s f n t =
-      let owned : owner (ends g s.number) ≡ Some n =
-      ap (λ o. owner (option_map end_of o)) f ∙ ap owner_in t in
+      let owned : owner (stream_ends g s.number) ≡ Some n =
+      ap (λ o. owner (option_map stream_end o)) f ∙ ap owner_in t in
       let there = is-found (tree.window_at g.windows.slots n) n s.number
       (v.linked.windows s.number n owned) in
-      let own = all-weaker (IsFound tree.number_of 0 g.windows.slots) (Owns s.number n)
+      let own = all-weaker (IsFound tree.window_number 0 g.windows.slots) (Owns s.number n)
       (λ w h. streams_follow g s n w v f t h.1) g.windows.slots
-      (all-found tree.number_of g.windows.slots 0 g.windows.next window-order) in
+      (all-found tree.window_number g.windows.slots 0 g.windows.next window-order) in
       window-found g.windows.slots g.requests s.number n there.0 (entries_follow g v) own there.1
 
   are-told : AllByRecursion (IsTold (glk_fields g).windows) g.streams.streams
-  are-told = all-weaker (IsFound streams.number_of 0 g.streams.streams)
+  are-told = all-weaker (IsFound streams.stream_number 0 g.streams.streams)
       (IsTold (glk_fields g).windows) (λ s h. is-told s h.1) g.streams.streams
-      (all-found streams.number_of g.streams.streams 0 g.streams.next stream-order)
+      (all-found streams.stream_number g.streams.streams 0 g.streams.next stream-order)
 
-pub gives-back : GivesBack
+pub gives-back : GivesBackGlk
 gives-back g v e =
     let n = entries_follow g v in
     let ws = windows-back g.windows.slots g.requests n
@@ -68,7 +68,7 @@ gives-back g v e =
     rw (ws, is, ss, rs, fs) (ap (λ n. record g { chars = n; printed = 0 }) chars
     ∙ ap (λ n. record g { printed = n }) printed)
 
-pub takes-back : TakesBack
+pub takes-back : TakesFieldsBack
 takes-back cols rows event prompt f =
     let ws = windows-again f.windows in
     let ss = map-back (stream_made f.windows) stream_told (stream-again f.windows) f.streams in

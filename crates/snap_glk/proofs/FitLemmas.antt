@@ -5,9 +5,9 @@ use Rattle.std.specs.List.{list_all}
 use Rattle.std.proofs.lemmas.Bool.{and_parts}
 use Rattle.std.proofs.lemmas.Bool.Decides.{nat_tests}
 use Rattle.glk_numbers.specs.Numbered.{ascends}
-use Rattle.glk_input.specs.Request.{number_of}
+use Rattle.glk_input.specs.Request.{input_window_number}
 use Rattle.glk_input.specs.Valid as inputs
-use Rattle.glk_streams.specs.Files.{bytes_of}
+use Rattle.glk_streams.specs.Files.{sum_of_bytes}
 use Rattle.glk_streams.specs.Streams.{StreamTable}
 use Rattle.glk_streams.specs.Valid as streams
 use Rattle.glk_streams.specs.declared.file.TheConstants.{MAX_FILES, MAX_FILE_BYTES}
@@ -16,7 +16,7 @@ use Rattle.snap_fields.specs.declared.glk.Request.{Request}
 use Rattle.snap_fields.specs.declared.glk.Request.TheVariants.{Nothing, Line, Char}
 use Rattle.snap_fields.specs.declared.glk.Window.{Window}
 use Rattle.snap_glk.specs.Made.{file_made, input_made, request_made}
-use Rattle.snap_glk.specs.Making.{Makes, MakesSound, has_few, has_few_keys, is_file}
+use Rattle.snap_glk.specs.Making.{MakesIfFit, MakesSound, has_few, has_few_keys, is_valid_file}
 use Rattle.snap_glk.specs.Texts.{is_text_of_file}
 use Rattle.snap_glk.specs.declared.unfit.Unfit.{Unfit}
 use Rattle.snap_glk.specs.declared.unfit.Unfit.TheVariants.{Invalid, NoMemory}
@@ -36,7 +36,7 @@ windows-few : (ws : List Window) → inputs.are_windows (map input_made ws) ≡ 
     → list_all has_few_keys ws ≡ true
 windows-few [] e = refl
 windows-few (w ∷ ws) e =
-    let p = and_parts (inputs.is_window (input_made w))
+    let p = and_parts (inputs.is_window_input (input_made w))
     (inputs.are_windows (map input_made ws)) e in
     let q = and_parts (inputs.are_few w.terminators)
     (inputs.is_request (request_made w.request)) p.0 in
@@ -44,34 +44,34 @@ windows-few (w ∷ ws) e =
     (both (inputs.are_few w.terminators) (has_few w.request) q.0 (request-few w.request q.1))
     (windows-few ws p.1)
 
-pub are-few : (ws : List Window) → inputs.is_valid (map input_made ws) ≡ true
+pub are-few : (ws : List Window) → inputs.are_valid_inputs (map input_made ws) ≡ true
     → list_all has_few_keys ws ≡ true
-are-few ws e = windows-few ws (and_parts (ascends number_of 0 4294967295 (map input_made ws))
+are-few ws e = windows-few ws (and_parts (ascends input_window_number 0 4294967295 (map input_made ws))
     (inputs.are_windows (map input_made ws)) e).1
 
 -- ---- files
 
-file-bytes : (fs : List File) → bytes_of (map file_made fs) ≤ MAX_FILE_BYTES
-    → list_all is_text_of_file fs ≡ true → list_all is_file fs ≡ true
-unfolding bytes_of
+file-bytes : (fs : List File) → sum_of_bytes (map file_made fs) ≤ MAX_FILE_BYTES
+    → list_all is_text_of_file fs ≡ true → list_all is_valid_file fs ≡ true
+unfolding sum_of_bytes
 file-bytes [] l t = refl
 file-bytes (f ∷ fs) l t =
     let p = and_parts (is_text_of_file f) (list_all is_text_of_file fs) t in
     let here : length f.bytes ≤ MAX_FILE_BYTES = omega (arith, l) in
-    let rest : bytes_of (map file_made fs) ≤ MAX_FILE_BYTES = omega (arith, l) in
+    let rest : sum_of_bytes (map file_made fs) ≤ MAX_FILE_BYTES = omega (arith, l) in
     let few : nat_le (length f.bytes) MAX_FILE_BYTES ≡ true = grind (arith, nat_tests, here) in
-    both (is_file f) (list_all is_file fs)
+    both (is_valid_file f) (list_all is_valid_file fs)
     (both (is_text_of_file f) (nat_le (length f.bytes) MAX_FILE_BYTES) p.0 few)
     (file-bytes fs rest p.1)
 
 pub are-files : (t : StreamTable) (fs : List File) → t.files ≡ map file_made fs
-    → streams.is_valid t ≡ true → list_all is_text_of_file fs ≡ true → list_all is_file fs ≡ true
+    → streams.are_valid_streams t ≡ true → list_all is_text_of_file fs ≡ true → list_all is_valid_file fs ≡ true
 are-files t fs e v x =
     let files = (and_parts (streams.are_streams t.next t.current t.streams
     && streams.are_refs t.next_ref t.refs) (streams.are_files t.files) v).1 in
-    let bytes = (and_parts (streams.in_order t.files && streams.are_kinds t.files
-    && nat_le (length t.files) MAX_FILES) (nat_le (bytes_of t.files) MAX_FILE_BYTES) files).1 in
-    let few : bytes_of (map file_made fs) ≤ MAX_FILE_BYTES =
+    let bytes = (and_parts (streams.files_in_order t.files && streams.are_kinds t.files
+    && nat_le (length t.files) MAX_FILES) (nat_le (sum_of_bytes t.files) MAX_FILE_BYTES) files).1 in
+    let few : sum_of_bytes (map file_made fs) ≤ MAX_FILE_BYTES =
     grind (arith, nat_tests, bytes, e) in
     file-bytes fs few x
 
@@ -79,7 +79,7 @@ are-files t fs e v x =
 
 -- fields that don't fit are no sound value's
 pub unsound : {A B C : Type 0} (make : A → B) (fits : A → Bool) (x : A) (Given : Type 0)
-    (Is : C → Type 0) (it : C) (e : Unfit) → Makes make fits x (Err e)
+    (Is : C → Type 0) (it : C) (e : Unfit) → MakesIfFit make fits x (Err e)
     → (Given → Is it → fits x ≡ true) → MakesSound Given Is it (Err e)
 unsound make fits x Given Is it NoMemory m h = tt
 unsound make fits x Given Is it Invalid m h =

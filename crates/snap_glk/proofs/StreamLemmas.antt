@@ -28,8 +28,8 @@ Owns stream n w = (w.stream == stream) ≡ (w.number == n)
 -- the window of a stream is found among the fields of windows
 pub window-found : (ws : List window.Window) (is : List WindowInput) (stream n : ℕ)
     (v : window.Window)
-    → map requests.number_of is ≡ map tree.number_of ws
-    → AllByRecursion (Owns stream n) ws → found tree.number_of ws n ≡ Some v
+    → map requests.input_window_number is ≡ map tree.window_number ws
+    → AllByRecursion (Owns stream n) ws → found tree.window_number ws n ≡ Some v
     → window_with (map window_told (zip ws is)) stream ≡ n
 unfolding window_with found
 window-found [] [] stream n v e a f = absurd cc
@@ -40,8 +40,8 @@ window-found (w ∷ ws) (i ∷ is) stream n v e a f = elim (cases_Bool (w.number
       let same : w.number ≡ n = grind (arith, nat_tests, k) in
       rw (a.0, k) same
   | inr k ↦
-      let rest : found tree.number_of ws n ≡ Some v = rw k at f in
-      let m = numbers i.win w.number (map requests.number_of is) (map tree.number_of ws) e in
+      let rest : found tree.window_number ws n ≡ Some v = rw k at f in
+      let m = numbers i.win w.number (map requests.input_window_number is) (map tree.window_number ws) e in
       rw (a.0, k) (window-found ws is stream n v m.1 a.1 rest)
 ]
 

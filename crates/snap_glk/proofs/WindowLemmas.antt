@@ -39,7 +39,7 @@ content-back a (holds.Grid g) k s =
     rw (← w, ← h) refl
 
 window-back : (w : window.Window) (i : WindowInput) → window_kept w ≡ w
-    → windows.is_sound w ≡ true → window_made (window_told (w, i)) ≡ w
+    → windows.is_sound_window w ≡ true → window_made (window_told (w, i)) ≡ w
 window-back w i k s =
     ap (λ (c : content.Content). record w { content = c })
     (content-back w.area w.content (ap (λ (v : window.Window). v.content) k) s)
@@ -55,15 +55,15 @@ numbers m n ms ns e = (cc, cc)
 -- windows whose text of the last turn is set back, and whose grids have the sizes of their
 -- rectangles, are made again
 pub windows-back : (ws : List window.Window) (is : List WindowInput)
-    → map requests.number_of is ≡ map tree.number_of ws → map window_kept ws ≡ ws
-    → windows.are_sound ws ≡ true → map window_made (map window_told (zip ws is)) ≡ ws
+    → map requests.input_window_number is ≡ map tree.window_number ws → map window_kept ws ≡ ws
+    → windows.are_sound_windows ws ≡ true → map window_made (map window_told (zip ws is)) ≡ ws
 windows-back [] [] n k s = refl
 windows-back [] (i ∷ is) n k s = absurd cc
 windows-back (w ∷ ws) [] n k s = absurd cc
 windows-back (w ∷ ws) (i ∷ is) n k s =
-    let p = and_parts (windows.is_sound w) (windows.are_sound ws) s in
+    let p = and_parts (windows.is_sound_window w) (windows.are_sound_windows ws) s in
     let q = firsts (window_kept w) w (map window_kept ws) ws k in
-    let m = numbers i.win w.number (map requests.number_of is) (map tree.number_of ws) n in
+    let m = numbers i.win w.number (map requests.input_window_number is) (map tree.window_number ws) n in
     ap (λ (v : window.Window). v ∷ map window_made (map window_told (zip ws is)))
     (window-back w i q.0 p.0)
     ∙ ap (λ (vs : List window.Window). w ∷ vs) (windows-back ws is m.1 q.1 p.1)
@@ -79,13 +79,13 @@ input-back w i e = rw (← e, request-back i.request) refl
 
 -- entries for input that are those of the windows, in their order, are made again
 pub inputs-back : (ws : List window.Window) (is : List WindowInput)
-    → map requests.number_of is ≡ map tree.number_of ws
+    → map requests.input_window_number is ≡ map tree.window_number ws
     → map input_made (map window_told (zip ws is)) ≡ is
 inputs-back [] [] n = refl
 inputs-back [] (i ∷ is) n = absurd cc
 inputs-back (w ∷ ws) [] n = absurd cc
 inputs-back (w ∷ ws) (i ∷ is) n =
-    let m = numbers i.win w.number (map requests.number_of is) (map tree.number_of ws) n in
+    let m = numbers i.win w.number (map requests.input_window_number is) (map tree.window_number ws) n in
     ap (λ (j : WindowInput). j ∷ map input_made (map window_told (zip ws is)))
     (input-back w i m.0)
     ∙ ap (λ (js : List WindowInput). i ∷ js) (inputs-back ws is m.1)

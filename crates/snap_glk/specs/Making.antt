@@ -1,7 +1,7 @@
 -- Which fields the types of a Glk state take, and what making a part of it returns (own).
 use Rattle.std.specs.Prelude.{◌≡◌, ◌&&◌, nat_le, Bool, true, false, List, length}
 use Rattle.std.specs.Prelude.{Result, Ok, Err}
-use Rattle.glk_input.specs.Valid.{are_few, is_valid}
+use Rattle.glk_input.specs.Valid.{are_few, are_valid_inputs}
 use Rattle.glk_input.specs.declared.request.WindowInput.{WindowInput}
 use Rattle.glk_streams.specs.declared.file.TheConstants.{MAX_FILE_BYTES}
 use Rattle.snap_fields.specs.declared.glk.File.{File}
@@ -22,19 +22,19 @@ abbrev pub has_few_keys : Window → Bool
 has_few_keys w = are_few w.terminators && has_few w.request
 
 -- a file with a text for its name, and no more bytes than all files may have
-abbrev pub is_file : File → Bool
-is_file f = is_text_of_file f && nat_le (length f.bytes) MAX_FILE_BYTES
+abbrev pub is_valid_file : File → Bool
+is_valid_file f = is_text_of_file f && nat_le (length f.bytes) MAX_FILE_BYTES
 
 -- What a function returned that makes a value of fields: this one, or, where memory didn't run
 -- out, none for fields that don't fit.
-abbrev pub Makes : {A B : Type 0} → (A → B) → (A → Bool) → A → Result B Unfit → Type 0
-Makes make fits x (Ok y) = y ≡ make x
-Makes make fits x (Err Invalid) = fits x ≡ false
-Makes make fits x (Err NoMemory) = Unit {0}
+abbrev pub MakesIfFit : {A B : Type 0} → (A → B) → (A → Bool) → A → Result B Unfit → Type 0
+MakesIfFit make fits x (Ok y) = y ≡ make x
+MakesIfFit make fits x (Err Invalid) = fits x ≡ false
+MakesIfFit make fits x (Err NoMemory) = Unit {0}
 
 -- the requests of a session
 abbrev pub AreRequests : List WindowInput → Type 0
-AreRequests ws = is_valid ws ≡ true
+AreRequests ws = are_valid_inputs ws ≡ true
 
 -- What a function returned that makes a value which is to be sound: this one, or, where memory
 -- didn't run out and this was given, none for one that isn't.

@@ -3,7 +3,7 @@
 ghost use Rattle.std.specs.Prelude.{◌≡◌, IfOk, IfSome, IsSome};
 ghost use Rattle.glk_windows.specs.Valid as windows;
 ghost use Rattle.glk_streams.specs.Laws as streams;
-ghost use Rattle.glk_dispatch.specs.Valid.{IsValid};
+ghost use Rattle.glk_dispatch.specs.Valid.{IsValidGlk};
 ghost use Rattle.snap_glk.specs.Made as made;
 ghost use Rattle.snap_glk.specs.Made.{glk_with_fields};
 ghost use Rattle.snap_glk.specs.Making.{AreRequests, MakesSound};
@@ -59,7 +59,7 @@ pub fn fields_of(alloc: Global, glk: &Glk) -> Result<GlkFields, AllocError>
 }
 
 fn make_tree(alloc: Global, fields: &GlkFields) -> Result<Windows, Unfit>
-    ensures { MakesSound (AreTexts fields.now) windows.IsValid (made.windows_made fields.now)
+    ensures { MakesSound (AreTexts fields.now) windows.IsValidTree (made.windows_made fields.now)
         result }
 {
     let list = fields.windows.as_slice();
@@ -79,7 +79,8 @@ fn make_requests(alloc: Global, fields: &GlkFields) -> Result<Requests, Unfit>
 }
 
 fn make_streams(alloc: Global, fields: &GlkFields) -> Result<Streams, Unfit>
-    ensures { MakesSound (AreTexts fields.now) streams.IsValid (made.streams_made fields.now)
+    ensures { MakesSound (AreTexts fields.now) streams.AreValidStreams
+        (made.streams_made fields.now)
         result }
 {
     let list = fields.windows.as_slice();
@@ -105,7 +106,7 @@ fn make_glk(
     prompt: Prompt,
     fields: &GlkFields,
 ) -> Result<Glk, Unfit>
-    ensures { MakesSound (AreTexts fields.now) IsValid
+    ensures { MakesSound (AreTexts fields.now) IsValidGlk
         (glk_with_fields cols rows event prompt fields.now) result }
 {
     let windows = make_tree(alloc, fields)?;
@@ -126,10 +127,10 @@ pub fn glk_of(
 ) -> Result<Option<Glk>, AllocError>
     ensures value { IfOk result (λ made. IfSome made (λ g.
         g ≡ glk_with_fields cols rows event prompt fields.now)) }
-    ensures valid { IfOk result (λ made. IfSome made IsValid) }
+    ensures valid { IfOk result (λ made. IfSome made IsValidGlk) }
     // What a session may have is made.
     ensures found { AreTexts fields.now
-        → IsValid (glk_with_fields cols rows event prompt fields.now)
+        → IsValidGlk (glk_with_fields cols rows event prompt fields.now)
         → IfOk result (λ made. IsSome made) }
 {
     match make_glk(alloc, cols, rows, event, prompt, fields) {

@@ -2,7 +2,7 @@
 
 ghost use Rattle.std.specs.Prelude.{IfOk};
 ghost use Rattle.snap_glk.specs.Made as made;
-ghost use Rattle.snap_glk.specs.Making.{is_file};
+ghost use Rattle.snap_glk.specs.Making.{is_valid_file};
 ghost use Rattle.snap_glk.specs.Texts.{is_text_of_file, is_text_of_ref};
 ghost use Rattle.snap_glk.specs.Told as told;
 
@@ -61,7 +61,7 @@ impl Tell<File> for glk_streams::File {
 impl Make<glk_streams::File> for File {
     ghost made = { λ _ f. made.file_made f };
 
-    ghost fits = { is_file };
+    ghost fits = { is_valid_file };
 
     fn make(&self, alloc: Global, _windows: &[Window]) -> Result<glk_streams::File, Unfit> {
         let bytes = self.bytes.as_slice();

@@ -3,7 +3,7 @@
 ghost use Rattle.std.specs.Prelude.{◌≡◌, IfOk};
 ghost use Rattle.glk_input.specs.Valid.{are_few};
 ghost use Rattle.snap_glk.specs.Made as made;
-ghost use Rattle.snap_glk.specs.Making.{Makes, has_few, has_few_keys};
+ghost use Rattle.snap_glk.specs.Making.{MakesIfFit, has_few, has_few_keys};
 ghost use Rattle.snap_glk.specs.Told as told;
 
 use crate::make::Make;
@@ -41,7 +41,7 @@ pub(crate) fn tell_request(
 
 /// The keys, where they are few enough.
 fn make_keys(keys: &[u32]) -> Result<Keys, Unfit>
-    ensures { Makes (λ ks. ks) are_few keys.now result }
+    ensures { MakesIfFit (λ ks. ks) are_few keys.now result }
 {
     if keys.len() > MAX_KEYS {
         return Err(Unfit::Invalid);
@@ -50,7 +50,7 @@ fn make_keys(keys: &[u32]) -> Result<Keys, Unfit>
 }
 
 fn make_request(request: &Request) -> Result<Option<glk_input::Request>, Unfit>
-    ensures { Makes made.request_made has_few request.now result }
+    ensures { MakesIfFit made.request_made has_few request.now result }
 {
     match request {
         Request::Nothing => Ok(None),

@@ -1,15 +1,15 @@
 //! Laws of a Glk state and its fields.
 
-ghost use Rattle.snap_glk.specs.Laws.{GivesBack, StandsBetweenTurns, TakesBack};
+ghost use Rattle.snap_glk.specs.Laws.{GivesBackGlk, StandsBetweenTurns, TakesFieldsBack};
 
 /// A law: a valid Glk state between two turns is the one that is made of its fields.
 pub fn gives_back()
-    ensures { GivesBack }
+    ensures { GivesBackGlk }
 {}
 
 /// A law: the fields of the Glk state that is made of fields are these.
 pub fn takes_back()
-    ensures { TakesBack }
+    ensures { TakesFieldsBack }
 {}
 
 /// A law: to begin a turn changes nothing of the Glk state that is made of fields.

@@ -3,7 +3,7 @@
 ghost use Rattle.std.specs.Prelude.{Bool, List, map};
 ghost use Rattle.std.specs.List.{list_all};
 ghost use Rattle.snap_fields.specs.declared.glk.Window.{Window};
-ghost use Rattle.snap_glk.specs.Making.{Makes};
+ghost use Rattle.snap_glk.specs.Making.{MakesIfFit};
 
 use crate::unfit::Unfit;
 use snap_fields::{Items, Window};
@@ -18,7 +18,7 @@ pub(crate) trait Make<Part> {
     ghost fits: { Self → Bool };
 
     fn make(&self, alloc: Global, windows: &[Window]) -> Result<Part, Unfit>
-        ensures { Makes (made windows.now) fits self.now result };
+        ensures { MakesIfFit (made windows.now) fits self.now result };
 }
 
 /// The part of each, in order.
@@ -27,7 +27,7 @@ pub(crate) fn make_all<Part: Drop, T: Make<Part>>(
     windows: &[Window],
     fields: &[T],
 ) -> Result<Items<Part>, Unfit>
-    ensures { Makes (map (T.made windows.now)) (list_all T.fits) fields.now result }
+    ensures { MakesIfFit (map (T.made windows.now)) (list_all T.fits) fields.now result }
 {
     let mut parts = Vec::new(alloc);
     for field in fields {

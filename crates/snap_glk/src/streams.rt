@@ -2,7 +2,7 @@
 
 ghost use Rattle.std.specs.Prelude.{◌≡◌, IfOk, true};
 ghost use Rattle.snap_glk.specs.Made as made;
-ghost use Rattle.snap_glk.specs.Making.{Makes};
+ghost use Rattle.snap_glk.specs.Making.{MakesIfFit};
 ghost use Rattle.snap_glk.specs.Texts.{is_text_in, is_text_of_stream};
 ghost use Rattle.snap_glk.specs.Told as told;
 
@@ -69,7 +69,7 @@ fn make_target(
     stream: u32,
     target: &Target,
 ) -> Result<glk_streams::Target, Unfit>
-    ensures { Makes (made.target_made windows.now stream) is_text_in target.now result }
+    ensures { MakesIfFit (made.target_made windows.now stream) is_text_in target.now result }
 {
     match target {
         Target::Window => Ok(glk_streams::Target::Window(window_with(windows, stream))),

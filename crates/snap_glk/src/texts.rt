@@ -3,7 +3,7 @@
 ghost use Rattle.std.specs.Prelude.{◌≡◌, IfOk, OnOk, true};
 ghost use Rattle.std.specs.Str.{all_scalars, chars, encode_utf8_all};
 ghost use Rattle.std.specs.String.{string_bytes};
-ghost use Rattle.snap_glk.specs.Making.{Makes};
+ghost use Rattle.snap_glk.specs.Making.{MakesIfFit};
 
 use crate::unfit::Unfit;
 use snap_fields::Items;
@@ -26,7 +26,7 @@ fn codes_in(alloc: Global, text: &str) -> Result<Vec<u32>, AllocError>
 
 /// The text with these codes, where each is that of a character.
 pub(crate) fn text_of(alloc: Global, codes: &[u32]) -> Result<Text, Unfit>
-    ensures { Makes (λ cs. cs) all_scalars codes.now result }
+    ensures { MakesIfFit (λ cs. cs) all_scalars codes.now result }
 {
     let mut utf8 = String::new(alloc);
     for code in codes {

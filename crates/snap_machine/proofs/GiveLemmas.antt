@@ -3,12 +3,13 @@ use Rattle.std.proofs.Common.{◌≡◌, ℕ, ◌≤◌, Bool, true, cond, nat_l
 use Rattle.std.proofs.lemmas.Bool.Decides.{nat_tests}
 use Rattle.std.proofs.lemmas.List.Elements.{All-cons, All-head, All-nil, All-tail}
 use Rattle.std.specs.Prelude.{All, IsTrue}
+use Rattle.snap_fields.specs.Reading.{◌>>=◌}
 use Rattle.glulx_image.specs.Header.{IsLaidOut, stack_size, start_function, string_table}
 use Rattle.glulx_image.specs.Checksum.{verified}
 use Rattle.quetzal.specs.Save.{IsStateOf, memory_contents, origin}
 use Rattle.quetzal.proofs.WriteLemmas.{memory_given_back}
 use Rattle.vm_exec.specs.Fields.{machine_of}
-use Rattle.vm_exec.specs.Machine.{IsFit, IsHeldBy, IsStore}
+use Rattle.vm_exec.specs.Machine.{IsFit, IsHeldBy, WaitsForNoSave}
 use Rattle.vm_exec.specs.Start.{IsOver}
 use Rattle.vm_exec.specs.declared.fields.MachineFields.{MachineFields}
 use Rattle.vm_exec.specs.declared.machine.Machine.{Machine}
@@ -22,16 +23,16 @@ use Rattle.vm_operand.specs.declared.operand.Dest.{Dest}
 use Rattle.vm_stack.specs.StackState.{StackState}
 use Rattle.vm_undo.specs.SavedState.{IsSavedOf}
 use Rattle.vm_undo.specs.declared.saved.Saved.{Saved}
-use Rattle.snap_machine.specs.Fields.{◌>>=◌, memory_given, memory_of, stack_of, heap_of, undo_of, dest_of, fields_with}
-use Rattle.snap_machine.specs.Laws.{GivesBack, HasRoms}
-use Rattle.snap_machine.specs.Parts.{machine_parts, store, store_at}
+use Rattle.snap_machine.specs.Fields.{memory_given, memory_from_chunk, stack_of, heap_from_fields, undo_of, dest_of_store, fields_with}
+use Rattle.snap_machine.specs.Laws.{GivesBackMachine, HasRoms}
+use Rattle.snap_machine.specs.Parts.{machine_parts, store, waiting_store}
 use Rattle.snap_machine.proofs.SaveLemmas.{same_some, undo_back}
 use Rattle.snap_machine.proofs.StoreLemmas.{dest_back}
 
 -- ---- each part gives back what it was made of
 
 memory_back : (image : List ℕ) (m : Machine) → IsLaidOut image → IsFit m → IsOver image m → HasRoms m
-    → memory_of image (memory_contents image m.memory) ≡ Some m.memory
+    → memory_from_chunk image (memory_contents image m.memory) ≡ Some m.memory
 memory_back image m laid fit over kept =
     ap memory_given (memory_given_back image m.memory laid over.origin fit.map.size kept.memory)
 
@@ -44,7 +45,7 @@ stack_back image s limit room =
           → ◌≡◌ {A = Option StackState} (Some (record { bytes = bytes; frame = frame; limit = limit })) (Some s)
       same bytes frame limit s a b c = rw (a, b, c) refl
 
-heap_back : (h : HeapMap) → IsTrue (is_heap h.start h.blocks) → heap_of h.start h.blocks ≡ Some h
+heap_back : (h : HeapMap) → IsTrue (is_heap h.start h.blocks) → heap_from_fields h.start h.blocks ≡ Some h
 heap_back h is = ap (λ (t : Bool). cond {A = Option HeapMap} t (Some h) None) is
 
 -- the states that undo keeps are of the story
@@ -70,9 +71,9 @@ undo_given image m laid fit over kept =
 
 -- the store that a machine waits with
 abbrev StoreOf : Waiting → Type 0
-StoreOf w = (to : Dest) × (Store to ≡ w) × (dest_of (store_at w) ≡ Some to)
+StoreOf w = (to : Dest) × (Store to ≡ w) × (dest_of_store (waiting_store w) ≡ Some to)
 
-store_back : (w : Waiting) → IsStore w → StoreOf w
+store_back : (w : Waiting) → WaitsForNoSave w → StoreOf w
 store_back (Store to) is = (to, refl, dest_back to)
 store_back Stub is = absurd is
 
@@ -109,7 +110,7 @@ bind_is : {A B : Type 0} {o : Option A} {x : A} {y : Option B} (f : A → Option
 bind_is f e g = ap (λ p. p >>= f) e ∙ g
 
 fields_back : (image : List ℕ) (m : Machine) (to : Dest) → IsLaidOut image → IsFit m → IsOver image m
-    → length m.stack.bytes ≤ m.stack.limit → HasRoms m → dest_of (store m) ≡ Some to
+    → length m.stack.bytes ≤ m.stack.limit → HasRoms m → dest_of_store (store m) ≡ Some to
     → fields_with image m.random.seed (machine_parts image m) (store m) ≡ Some (fields_of m to)
 fields_back image m to laid fit over room kept at =
     bind_is _ (memory_back image m laid fit over kept)
@@ -118,7 +119,7 @@ fields_back image m to laid fit over room kept at =
     (bind_is _ (undo_given image m laid fit over kept)
     (bind_is _ at refl))))
 
-pub given_back : GivesBack
+pub given_back : GivesBackMachine
 given_back image m laid fit over room kept =
     let to = store_back m.waiting fit.waits in
     let there = fields_back image m to.0 laid fit over room kept to.2 in

@@ -6,13 +6,14 @@ use Rattle.std.proofs.lemmas.Bool.Decides.{nat_tests}
 use Rattle.std.proofs.lemmas.List.{drop_all, length-map, length-reverse, map-append, reverse-append, reverse-reverse, take_all}
 use Rattle.std.proofs.lemmas.List.Elements.{All-cons, All-head, All-push, All-tail}
 use Rattle.std.specs.Prelude.{All, option_map, slice_get}
+use Rattle.snap_fields.specs.Reading.{◌>>=◌}
 use Rattle.glulx_image.specs.Header.{IsLaidOut}
 use Rattle.quetzal.specs.Save.{IsStateOf, canon}
 use Rattle.quetzal.specs.State.{state_in}
 use Rattle.quetzal.proofs.StateLemmas.{state_given_back}
 use Rattle.vm_undo.specs.UndoList.{with_newest}
 use Rattle.vm_undo.specs.declared.saved.Saved.{Saved}
-use Rattle.snap_machine.specs.Fields.{◌>>=◌, each_of, undo_of}
+use Rattle.snap_machine.specs.Fields.{each_of, undo_of}
 use Rattle.snap_machine.specs.Laws.{StateHasRom}
 
 pub same_some : {A : Type 0} {x y : A} → Some x ≡ Some y → x ≡ y

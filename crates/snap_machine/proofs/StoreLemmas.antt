@@ -7,10 +7,10 @@ use Rattle.vm_operand.specs.declared.operand.Dest.{Dest}
 use Rattle.vm_operand.specs.declared.operand.Dest.TheVariants.{Discard, At, Local, Push}
 use Rattle.vm_exec.specs.declared.step.Waiting.TheVariants as waits
 use Rattle.snap_fields.specs.declared.fields.Store.{Store}
-use Rattle.snap_machine.specs.Fields.{dest_of}
-use Rattle.snap_machine.specs.Parts.{store_at}
+use Rattle.snap_machine.specs.Fields.{dest_of_store}
+use Rattle.snap_machine.specs.Parts.{waiting_store}
 
-pub dest_back : (to : Dest) → dest_of (store_at (waits.Store to)) ≡ Some to
+pub dest_back : (to : Dest) → dest_of_store (waiting_store (waits.Store to)) ≡ Some to
 dest_back Discard = refl
 dest_back (At a) = refl
 dest_back (Local o) = refl
@@ -24,7 +24,7 @@ unless_true : (t : Bool) → (t ≡ true → ⊥) → t ≡ false
 unless_true true never = absurd (never refl)
 unless_true false never = refl
 
-no_dest : (s : Store) → IsNoStore s.kind s.address → dest_of s ≡ None
+no_dest : (s : Store) → IsNoStore s.kind s.address → dest_of_store s ≡ None
 no_dest s none =
     let discard : (s.kind == 0 && s.address == 0) ≡ false =
     unless_true _ (λ e.
@@ -44,8 +44,8 @@ no_dest s none =
 
 -- what the fields of a store tell of it
 pub dest_told : (s : Store) (r : Option Dest) → IfSome r (λ to. store_fields to ≡ (s.kind, s.address))
-    → IfNone r (IsNoStore s.kind s.address) → r ≡ dest_of s
+    → IfNone r (IsNoStore s.kind s.address) → r ≡ dest_of_store s
 dest_told s None found only = sym (no_dest s only)
 dest_told s (Some to) found only =
     sym (dest_back to)
-    ∙ ap dest_of (same_store (store_fields to).0 (store_fields to).1 s (ap (λ p. p.0) found) (ap (λ p. p.1) found))
+    ∙ ap dest_of_store (same_store (store_fields to).0 (store_fields to).1 s (ap (λ p. p.0) found) (ap (λ p. p.1) found))

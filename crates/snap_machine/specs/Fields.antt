@@ -13,13 +13,9 @@ use Rattle.vm_operand.specs.declared.operand.Dest.{Dest}
 use Rattle.vm_operand.specs.declared.operand.Dest.TheVariants.{Discard, At, Local, Push}
 use Rattle.vm_stack.specs.StackState.{StackState}
 use Rattle.vm_undo.specs.declared.saved.Saved.{Saved}
+use Rattle.snap_fields.specs.Reading.{◌>>=◌}
 use Rattle.snap_fields.specs.declared.fields.Store.{Store}
 use Rattle.snap_machine.specs.declared.parts.MachineParts.{MachineParts}
-
-infixl 10 ◌>>=◌
-abbrev pub ◌>>=◌ : {A B : Type 0} → Option A → (A → Option B) → Option B
-(Some x) >>= f = f x
-None >>= f = None
 
 -- what each of a list gives; none where one gives nothing
 abbrev pub each_of : {A B : Type 0} → (A → Option B) → List A → Option (List B)
@@ -34,8 +30,8 @@ memory_given (Ok m) = Some m
 memory_given (Err e) = None
 
 -- the memory whose CMem chunk has these contents
-abbrev pub memory_of : List ℕ → List ℕ → Option MemoryMap
-memory_of image contents = memory_given (memory_in image contents)
+abbrev pub memory_from_chunk : List ℕ → List ℕ → Option MemoryMap
+memory_from_chunk image contents = memory_given (memory_in image contents)
 
 -- the stack with these bytes and this frame; none where it is larger than the story's
 abbrev pub stack_of : List ℕ → List ℕ → ℕ → Option StackState
@@ -45,8 +41,8 @@ stack_of image bytes frame =
     else None
 
 -- the heap with this start and these blocks, where there may be one
-abbrev pub heap_of : ℕ → List Block → Option HeapMap
-heap_of start blocks =
+abbrev pub heap_from_fields : ℕ → List Block → Option HeapMap
+heap_from_fields start blocks =
     if is_heap start blocks then Some (record { start = start; blocks = blocks }) else None
 
 -- the states that these saves spell, the oldest first in the saves and last in the list; four at
@@ -56,8 +52,8 @@ undo_of image saves =
     if nat_le (length saves) 4 then option_map reverse (each_of (state_in image) saves) else None
 
 -- the store of a DestType and a DestAddr (Glulx 3.1.3, "Call Stubs")
-abbrev pub dest_of : Store → Option Dest
-dest_of s =
+abbrev pub dest_of_store : Store → Option Dest
+dest_of_store s =
     if s.kind == 0 && s.address == 0 then Some Discard
     else (if s.kind == 1 then Some (At s.address)
     else (if s.kind == 2 then Some (Local s.address)
@@ -68,11 +64,11 @@ dest_of s =
 -- and waits with this store
 abbrev pub fields_with : List ℕ → ℕ → MachineParts → Store → Option MachineFields
 fields_with image seed p store = do
-  memory ← memory_of image p.machine.memory
+  memory ← memory_from_chunk image p.machine.memory
   stack ← stack_of image p.machine.stack p.machine.frame
-  heap ← heap_of p.machine.heap_start p.machine.heap
+  heap ← heap_from_fields p.machine.heap_start p.machine.heap
   undo ← undo_of image p.undo
-  to ← dest_of store
+  to ← dest_of_store store
   Some (record {
     memory = memory;
     stack = stack;

@@ -29,7 +29,7 @@ pub record IsGivenBack (image : List ℕ) (m : Machine) : Type 0 where
       → machine_of image f ≡ m
 
 -- what is made of the parts of a machine that waits is the machine
-abbrev pub GivesBack : Type 0
-GivesBack =
+abbrev pub GivesBackMachine : Type 0
+GivesBackMachine =
     (image : List ℕ) (m : Machine) → IsLaidOut image → IsFit m → IsOver image m
     → length m.stack.bytes ≤ m.stack.limit → HasRoms m → IsGivenBack image m

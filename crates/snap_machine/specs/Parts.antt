@@ -15,8 +15,8 @@ use Rattle.snap_machine.specs.declared.parts.MachineParts.{MachineParts}
 -- ---- a machine that waits for a result
 
 -- where it stands: its memory is told by the contents of its CMem chunk
-abbrev pub place_of : List ℕ → Machine → Place
-place_of image m = record {
+abbrev pub machine_place : List ℕ → Machine → Place
+machine_place image m = record {
   pc = m.pc;
   frame = m.stack.frame;
   memory = memory_contents image m.memory;
@@ -35,26 +35,27 @@ settings_of m = record {
 }
 
 -- its random words; their seed is the session's, and told elsewhere
-abbrev pub words_of : Random → Words
-words_of r = record { start = r.start; stream = r.stream; taken = r.taken; fresh = r.fresh }
+abbrev pub random_words : Random → Words
+random_words r = record { start = r.start; stream = r.stream; taken = r.taken; fresh = r.fresh }
 
 -- the parts of a machine of the story with this image; of the undo states their saves, the oldest
 -- first
 abbrev pub machine_parts : List ℕ → Machine → MachineParts
 machine_parts image m = record {
-  machine = place_of image m;
+  machine = machine_place image m;
   settings = settings_of m;
-  random = words_of m.random;
+  random = random_words m.random;
   undo = reverse (map (canon image) m.undo);
 }
 
 -- the store that a machine waits with; zeros where a save is waited for
-abbrev pub store_at : Waiting → Store
-store_at (waits.Store to) = record { kind = (store_fields to).0; address = (store_fields to).1 }
-store_at waits.Stub = record { kind = 0; address = 0 }
+abbrev pub waiting_store : Waiting → Store
+waiting_store (waits.Store to) =
+    record { kind = (store_fields to).0; address = (store_fields to).1 }
+waiting_store waits.Stub = record { kind = 0; address = 0 }
 
 abbrev pub store : Machine → Store
-store m = store_at m.waiting
+store m = waiting_store m.waiting
 
 -- ---- a machine that is put back
 

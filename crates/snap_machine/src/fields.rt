@@ -74,7 +74,7 @@ fn memory_of<'i>(
     contents: &[u8],
     image: &Image<'i>,
 ) -> Result<Option<Memory<'i>>, AllocError>
-    ensures { IfOk result (λ memory. memory ≡ spec.memory_of image.now contents.now) }
+    ensures { IfOk result (λ memory. memory ≡ spec.memory_from_chunk image.now contents.now) }
 {
     match memory_in(alloc, contents, image) {
         Ok(memory) => Ok(Some(memory)),
@@ -97,7 +97,7 @@ fn stack_of(
 
 // The heap with this start and these blocks.
 fn heap_of(alloc: Global, start: u32, blocks: &[Block]) -> Result<Option<Heap>, AllocError>
-    ensures { IfOk result (λ heap. heap ≡ spec.heap_of start blocks.now) }
+    ensures { IfOk result (λ heap. heap ≡ spec.heap_from_fields start blocks.now) }
 {
     if !is_heap(start, blocks) {
         return Ok(None);
@@ -109,7 +109,7 @@ fn heap_of(alloc: Global, start: u32, blocks: &[Block]) -> Result<Option<Heap>, 
 
 // The store of a DestType and a DestAddr.
 fn dest_of(store: Store) -> Option<Dest>
-    ensures { result ≡ spec.dest_of store }
+    ensures { result ≡ spec.dest_of_store store }
 {
     store_of_fields(store.kind, store.address)
 }

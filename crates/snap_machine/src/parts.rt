@@ -52,7 +52,7 @@ fn place_of(
     image: &Image<'_>,
 ) -> Result<snap_fields::Machine, AllocError>
     requires { IsOver image.now machine.now }
-    ensures { IfOk result (λ place. place ≡ spec.place_of image.now machine.now) }
+    ensures { IfOk result (λ place. place ≡ spec.machine_place image.now machine.now) }
 {
     let heap = machine.heap();
     Ok(snap_fields::Machine {
@@ -79,7 +79,7 @@ fn settings_of(machine: &Machine<'_>) -> Settings
 }
 
 fn words_of(random: vm_exec::Random) -> Random
-    ensures { result ≡ spec.words_of random }
+    ensures { result ≡ spec.random_words random }
 {
     Random {
         start: random.start,

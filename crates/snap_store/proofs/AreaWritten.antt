@@ -9,11 +9,11 @@ use Rattle.std.proofs.lemmas.Bool.Decides.{nat_tests}
 use Rattle.std.proofs.Math.Nat.{mod-eq_of_lt}
 use Rattle.byteorder.specs.Endian.{big_from, big_bytes}
 use Rattle.byteorder.specs.Numbers.{big_from-bytes, length-bytes_high_first}
-use Rattle.disk_model.specs.Disk.{written}
+use Rattle.disk_model.specs.Disk.{file_written}
 use Rattle.disk_model.proofs.Torn.{written_below, written_within, length-written}
 use Rattle.snap_store.specs.declared.side.Side.{Side}
-use Rattle.snap_store.specs.File.{start_of, head_bytes, place_at, count_at, length_at}
-use Rattle.snap_store.specs.File.{is_whole, area_at, whole_area}
+use Rattle.snap_store.specs.File.{side_start, head_bytes, area_place, count_at, length_at}
+use Rattle.snap_store.specs.File.{is_whole, area_on_side, whole_area}
 use Rattle.snap_store.proofs.FileLemmas.{big_from_same}
 
 pub length-head : (place count many : ℕ) → length (head_bytes place count many) ≡ 16
@@ -61,24 +61,24 @@ module _ (side : Side) (d : List ℕ) (place count : ℕ) (bytes : List ℕ)
   head = head_bytes place count (length bytes)
 
   abbrev begun : List ℕ
-  begun = written d (start_of side) head
+  begun = file_written d (side_start side) head
 
   abbrev done : List ℕ
-  done = written begun (start_of side + 16) bytes
+  done = file_written begun (side_start side + 16) bytes
 
-  head_there : (i : ℕ) → i < 16 → get_or done (start_of side + i) 0 ≡ get_or head i 0
+  head_there : (i : ℕ) → i < 16 → get_or done (side_start side + i) 0 ≡ get_or head i 0
   head_there i lt =
-      written_below begun (start_of side + 16) bytes (start_of side + i) (omega arith)
-      ∙ written_within d (start_of side) head i
+      written_below begun (side_start side + 16) bytes (side_start side + i) (omega arith)
+      ∙ written_within d (side_start side) head i
       (omega (arith, length-head place count (length bytes)))
 
   number_there :
-      (n i : ℕ) → i + n ≤ 16 → big_from (start_of side + i) n done ≡ big_from i n head
-  number_there n i le = big_from_same n (start_of side + i) i done head (λ k lt.
+      (n i : ℕ) → i + n ≤ 16 → big_from (side_start side + i) n done ≡ big_from i n head
+  number_there n i le = big_from_same n (side_start side + i) i done head (λ k lt.
       ap (λ (j : ℕ). get_or done j 0) (omega arith) ∙ head_there (i + k) (omega arith))
 
-  place_there : place_at side done ≡ place
-  unfolding place_at
+  place_there : area_place side done ≡ place
+  unfolding area_place
   place_there =
       ap (λ (at : ℕ). big_from at 8 done) (omega arith) ∙ number_there 8 0 (omega arith)
       ∙ head_place place count (length bytes) place_fits
@@ -92,22 +92,22 @@ module _ (side : Side) (d : List ℕ) (place count : ℕ) (bytes : List ℕ)
   length_there =
       number_there 4 12 (omega arith) ∙ head_length place count (length bytes) (omega arith)
 
-  long : start_of side + 16 + length bytes ≤ length done
-  long = omega (arith, length-written begun (start_of side + 16) bytes)
+  long : side_start side + 16 + length bytes ≤ length done
+  long = omega (arith, length-written begun (side_start side + 16) bytes)
 
-  bytes_there : take (length bytes) (drop (start_of side + 16) done) ≡ bytes
+  bytes_there : take (length bytes) (drop (side_start side + 16) done) ≡ bytes
   bytes_there =
-      let size : length (take (length bytes) (drop (start_of side + 16) done)) ≡ length bytes =
+      let size : length (take (length bytes) (drop (side_start side + 16) done)) ≡ length bytes =
       omega (
         arith,
         long,
-        length-take (length bytes) (drop (start_of side + 16) done),
-        length-drop (start_of side + 16) done,
+        length-take (length bytes) (drop (side_start side + 16) done),
+        length-drop (side_start side + 16) done,
       ) in
-      ext_get_or 0 (take (length bytes) (drop (start_of side + 16) done)) bytes size (λ i lt.
-      get_or-take (length bytes) (drop (start_of side + 16) done) i 0 (omega (arith, size))
-      ∙ get_or-drop (start_of side + 16) done i 0
-      ∙ written_within begun (start_of side + 16) bytes i (omega (arith, size)))
+      ext_get_or 0 (take (length bytes) (drop (side_start side + 16) done)) bytes size (λ i lt.
+      get_or-take (length bytes) (drop (side_start side + 16) done) i 0 (omega (arith, size))
+      ∙ get_or-drop (side_start side + 16) done i 0
+      ∙ written_within begun (side_start side + 16) bytes i (omega (arith, size)))
 
   is_whole_there : is_whole side done ≡ true
   unfolding is_whole
@@ -117,8 +117,8 @@ module _ (side : Side) (d : List ℕ) (place count : ℕ) (bytes : List ℕ)
       grind (arith, nat_tests)
 
   area_there :
-      area_at side done ≡ record { place = place; count = count; bytes = bytes }
-  unfolding area_at
+      area_on_side side done ≡ record { place = place; count = count; bytes = bytes }
+  unfolding area_on_side
   area_there =
       let p = place_there in
       let n = count_there in

@@ -13,10 +13,10 @@ use Rattle.std.proofs.lemmas.List.{get_or_past}
 use Rattle.std.proofs.lemmas.Bool.{cases_lt, cases_Bool}
 use Rattle.std.proofs.lemmas.Bool.Decides.{nat_tests}
 use Rattle.byteorder.specs.Endian.{big_from}
-use Rattle.disk_model.specs.Disk.{Torn, Reads}
+use Rattle.disk_model.specs.Disk.{Torn, ReadsFile}
 use Rattle.snap_store.specs.declared.side.Side.{Side}
-use Rattle.snap_store.specs.File.{Stored, header, gate_of, start_of, has_header, gate_byte}
-use Rattle.snap_store.specs.File.{place_at, count_at, length_at, is_whole, area_at, whole_area}
+use Rattle.snap_store.specs.File.{Stored, snapshot_header, gate_of, side_start, has_header, gate_byte}
+use Rattle.snap_store.specs.File.{area_place, count_at, length_at, is_whole, area_on_side, whole_area}
 
 -- the same elements at the front
 pub take_same :
@@ -59,7 +59,7 @@ big_from_same (suc n) i j xs ys same =
 
 -- a number in bytes that were read from a place on
 pub number_read :
-    (n i m at : ℕ) (file bytes : List ℕ) → Reads file at bytes → i + n ≤ length bytes → n ≤ m
+    (n i m at : ℕ) (file bytes : List ℕ) → ReadsFile file at bytes → i + n ≤ length bytes → n ≤ m
     → big_from 0 n (take m (drop i bytes)) ≡ big_from (at + i) n file
 number_read n i m at file bytes reads within le =
     big_from_same n 0 (at + i) (take m (drop i bytes)) file (λ k lt.
@@ -69,7 +69,7 @@ number_read n i m at file bytes reads within le =
     ∙ ap (λ (j : ℕ). get_or file j 0) (omega arith))
 
 pub first_number_read :
-    (n at : ℕ) (file bytes : List ℕ) → Reads file at bytes → n ≤ length bytes
+    (n at : ℕ) (file bytes : List ℕ) → ReadsFile file at bytes → n ≤ length bytes
     → big_from 0 n bytes ≡ big_from at n file
 first_number_read n at file bytes reads within =
     big_from_same n 0 at bytes file (λ k lt.
@@ -87,9 +87,9 @@ and-false false = refl
 pub starts_same :
     (xs ys : List ℕ) → 8 ≤ length xs → 8 ≤ length ys
     → ((i : ℕ) → i < 8 → get_or xs i 0 ≡ get_or ys i 0)
-    → starts_with nat_eq xs header ≡ starts_with nat_eq ys header
+    → starts_with nat_eq xs snapshot_header ≡ starts_with nat_eq ys snapshot_header
 starts_same xs ys long_x long_y same =
-    ap (λ (l : List ℕ). pointwise nat_eq header l) (take_same 8 xs ys long_x long_y same)
+    ap (λ (l : List ℕ). pointwise nat_eq snapshot_header l) (take_same 8 xs ys long_x long_y same)
 
 -- a file with the first bytes of one that isn't too short
 pub header_same :
@@ -129,44 +129,44 @@ gate_torn side c d at n (inr above) torn long = torn.above (gate_of side) long a
 -- the numbers and the test of an area in two files with the same bytes from its start on
 module _ (side : Side) (c d : List ℕ)
     (long : length c ≡ length d)
-    (same : (i : ℕ) → start_of side ≤ i → get_or c i 0 ≡ get_or d i 0) where
-  numbers_same : (i n : ℕ) → start_of side ≤ i → big_from i n c ≡ big_from i n d
+    (same : (i : ℕ) → side_start side ≤ i → get_or c i 0 ≡ get_or d i 0) where
+  numbers_same : (i n : ℕ) → side_start side ≤ i → big_from i n c ≡ big_from i n d
   numbers_same i n le = big_from_same n i i c d (λ k lt. same (i + k) (omega arith))
 
   length_same : length_at side c ≡ length_at side d
   unfolding length_at
-  length_same = numbers_same (start_of side + 12) 4 (omega arith)
+  length_same = numbers_same (side_start side + 12) 4 (omega arith)
 
   is_whole_same : is_whole side c ≡ is_whole side d
   unfolding is_whole
   is_whole_same = rw (length_same, long) refl
 
-  area_same : area_at side c ≡ area_at side d
-  unfolding area_at place_at count_at
+  area_same : area_on_side side c ≡ area_on_side side d
+  unfolding area_on_side area_place count_at
   area_same =
-      let place = numbers_same (start_of side) 8 (omega arith) in
-      let count = numbers_same (start_of side + 8) 4 (omega arith) in
-      let bytes = drop_same (start_of side + 16) c d long (λ i le. same i (omega arith)) in
+      let place = numbers_same (side_start side) 8 (omega arith) in
+      let count = numbers_same (side_start side + 8) 4 (omega arith) in
+      let bytes = drop_same (side_start side + 16) c d long (λ i le. same i (omega arith)) in
       rw (place, count, length_same, bytes) refl
 
   pub whole_same : whole_area side c ≡ whole_area side d
   whole_same = rw (is_whole_same, area_same) refl
 
 -- an area whose numbers pass the file's end isn't whole
-is_whole_short : (side : Side) (c : List ℕ) → length c < start_of side + 16 → is_whole side c ≡ false
+is_whole_short : (side : Side) (c : List ℕ) → length c < side_start side + 16 → is_whole side c ≡ false
 unfolding is_whole
 is_whole_short side c short = grind (arith, nat_tests)
 
 pub whole_short :
-    (side : Side) (c : List ℕ) → length c < start_of side + 16 → whole_area side c ≡ None
+    (side : Side) (c : List ℕ) → length c < side_start side + 16 → whole_area side c ≡ None
 whole_short side c short =
-    ap (λ (b : Bool). if b then Some (area_at side c) else None) (is_whole_short side c short)
+    ap (λ (b : Bool). if b then Some (area_on_side side c) else None) (is_whole_short side c short)
 
 -- a write before the area
 pub whole_before :
-    (side : Side) (c d : List ℕ) (at n : ℕ) → at + n ≤ start_of side → Torn at n d c
+    (side : Side) (c d : List ℕ) (at n : ℕ) → at + n ≤ side_start side → Torn at n d c
     → whole_area side c ≡ whole_area side d
-whole_before side c d at n before torn = elim (cases_lt (length d) (start_of side + 16)) [
+whole_before side c d at n before torn = elim (cases_lt (length d) (side_start side + 16)) [
   | inl short ↦
       whole_short side c (omega (arith, torn.no_longer)) ∙ sym (whole_short side d short)
   | inr long ↦
@@ -180,7 +180,7 @@ whole_before side c d at n before torn = elim (cases_lt (length d) (start_of sid
 -- an area that is whole ends inside the file, and isn't too long
 pub whole_ends :
     (side : Side) (d : List ℕ) → is_whole side d ≡ true
-    → start_of side + 16 + length_at side d ≤ length d
+    → side_start side + 16 + length_at side d ≤ length d
 unfolding is_whole
 whole_ends side d is = grind (arith, nat_tests)
 
@@ -199,24 +199,24 @@ pub whole_is :
 whole_is side d area is = elim (cases_Bool (is_whole side d)) [
   | inl there ↦ there
   | inr past ↦ absurd (none_some area
-      (sym (ap (λ (b : Bool). if b then Some (area_at side d) else None) past) ∙ is))
+      (sym (ap (λ (b : Bool). if b then Some (area_on_side side d) else None) past) ∙ is))
 ]
 
 -- a write behind an area that is whole
 module _ (side : Side) (c d : List ℕ) (at n : ℕ)
     (whole : is_whole side d ≡ true)
-    (behind : start_of side + 16 + length_at side d ≤ at)
+    (behind : side_start side + 16 + length_at side d ≤ at)
     (torn : Torn at n d c) where
   below_same :
-      (i : ℕ) → i < start_of side + 16 + length_at side d → get_or c i 0 ≡ get_or d i 0
+      (i : ℕ) → i < side_start side + 16 + length_at side d → get_or c i 0 ≡ get_or d i 0
   below_same i lt = torn.below i (omega (arith, whole_ends side d whole)) (omega arith)
 
-  numbers_below : (i n : ℕ) → i + n ≤ start_of side + 16 → big_from i n c ≡ big_from i n d
+  numbers_below : (i n : ℕ) → i + n ≤ side_start side + 16 → big_from i n c ≡ big_from i n d
   numbers_below i n le = big_from_same n i i c d (λ k lt. below_same (i + k) (omega arith))
 
   length_below : length_at side c ≡ length_at side d
   unfolding length_at
-  length_below = numbers_below (start_of side + 12) 4 (omega arith)
+  length_below = numbers_below (side_start side + 12) 4 (omega arith)
 
   is_whole_below : is_whole side c ≡ true
   unfolding is_whole
@@ -228,23 +228,23 @@ module _ (side : Side) (c d : List ℕ) (at n : ℕ)
       grind (arith, nat_tests)
 
   bytes_below :
-      take (length_at side d) (drop (start_of side + 16) c)
-      ≡ take (length_at side d) (drop (start_of side + 16) d)
+      take (length_at side d) (drop (side_start side + 16) c)
+      ≡ take (length_at side d) (drop (side_start side + 16) d)
   bytes_below =
       let ends = whole_ends side d whole in
-      take_same (length_at side d) (drop (start_of side + 16) c) (drop (start_of side + 16) d)
-      (omega (arith, length-drop (start_of side + 16) c, torn.no_shorter, ends))
-      (omega (arith, length-drop (start_of side + 16) d, ends))
+      take_same (length_at side d) (drop (side_start side + 16) c) (drop (side_start side + 16) d)
+      (omega (arith, length-drop (side_start side + 16) c, torn.no_shorter, ends))
+      (omega (arith, length-drop (side_start side + 16) d, ends))
       (λ i lt.
-      get_or-drop (start_of side + 16) c i 0
-      ∙ below_same (start_of side + 16 + i) (omega arith)
-      ∙ sym (get_or-drop (start_of side + 16) d i 0))
+      get_or-drop (side_start side + 16) c i 0
+      ∙ below_same (side_start side + 16 + i) (omega arith)
+      ∙ sym (get_or-drop (side_start side + 16) d i 0))
 
-  area_below : area_at side c ≡ area_at side d
-  unfolding area_at place_at count_at
+  area_below : area_on_side side c ≡ area_on_side side d
+  unfolding area_on_side area_place count_at
   area_below =
-      let place = numbers_below (start_of side) 8 (omega arith) in
-      let count = numbers_below (start_of side + 8) 4 (omega arith) in
+      let place = numbers_below (side_start side) 8 (omega arith) in
+      let count = numbers_below (side_start side + 8) 4 (omega arith) in
       rw (place, count, length_below, bytes_below) refl
 
   pub whole_behind : whole_area side c ≡ whole_area side d

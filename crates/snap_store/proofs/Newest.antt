@@ -6,7 +6,7 @@ use Rattle.std.specs.Prelude.{nat_le, ◌==◌}
 use Rattle.std.proofs.lemmas.Bool.Decides.{nat_tests}
 use Rattle.snap_store.specs.declared.side.Side.{Side}
 use Rattle.snap_store.specs.declared.side.Side.TheVariants.{A, B}
-use Rattle.snap_store.specs.File.{Stored, listed, greatest, is_open, is_wanted, area_at, open_area}
+use Rattle.snap_store.specs.File.{Stored, area_listed, greatest, is_open_area, is_wanted_area, area_on_side, open_area}
 use Rattle.snap_store.specs.File.{newest_area}
 use Rattle.snap_store.proofs.FileLemmas.{none_some}
 
@@ -20,8 +20,8 @@ choice true true a b = Some (if nat_lt a.count b.count then b else a)
 pub choice_is :
     (open_a wanted_a open_b wanted_b : Bool) (a b : Stored) (test : Stored → Bool)
     → test a ≡ wanted_a → test b ≡ wanted_b
-    → greatest (filter test (listed (if open_a then Some a else None)
-    ++ listed (if open_b then Some b else None)))
+    → greatest (filter test (area_listed (if open_a then Some a else None)
+    ++ area_listed (if open_b then Some b else None)))
     ≡ choice (open_a && wanted_a) (open_b && wanted_b) a b
 choice_is false wanted_a false wanted_b a b test is_a is_b = refl
 choice_is false wanted_a true true a b test is_a is_b = rw is_b refl
@@ -71,7 +71,7 @@ both_parts false true is = absurd (cc)
 both_parts false false is = absurd (cc)
 
 wanted_is :
-    (place most : ℕ) (x : Stored) → is_wanted place most x ≡ true
+    (place most : ℕ) (x : Stored) → is_wanted_area place most x ≡ true
     → (x.place ≡ place) × (x.count ≤ most)
 wanted_is place most x is =
     let parts = both_parts (x.place == place) (nat_le x.count most) is in
@@ -84,34 +84,34 @@ wanted_is place most x is =
     no_more m n is = grind (arith, nat_tests)
 
 open_is :
-    (side : Side) (file : List ℕ) (x : Stored) → is_open side file ≡ true → area_at side file ≡ x
+    (side : Side) (file : List ℕ) (x : Stored) → is_open_area side file ≡ true → area_on_side side file ≡ x
     → open_area side file ≡ Some x
 open_is side file x is same =
-    ap (λ (b : Bool). if b then Some (area_at side file) else None) is
+    ap (λ (b : Bool). if b then Some (area_on_side side file) else None) is
     ∙ ap (λ (y : Stored). Some y) same
 
 pub newest_found :
     (place most : ℕ) (file : List ℕ) (x : Stored) → newest_area place most file ≡ Some x
     → (side : Side) × (open_area side file ≡ Some x) × (x.place ≡ place) × (x.count ≤ most)
 newest_found place most file x is = from_side
-    (found_among (is_open A file) (is_wanted place most (area_at A file)) (is_open B file)
-    (is_wanted place most (area_at B file)) (area_at A file) (area_at B file) x
-    (sym (choice_is (is_open A file) (is_wanted place most (area_at A file)) (is_open B file)
-    (is_wanted place most (area_at B file)) (area_at A file) (area_at B file)
-    (is_wanted place most) refl refl) ∙ is))
+    (found_among (is_open_area A file) (is_wanted_area place most (area_on_side A file)) (is_open_area B file)
+    (is_wanted_area place most (area_on_side B file)) (area_on_side A file) (area_on_side B file) x
+    (sym (choice_is (is_open_area A file) (is_wanted_area place most (area_on_side A file)) (is_open_area B file)
+    (is_wanted_area place most (area_on_side B file)) (area_on_side A file) (area_on_side B file)
+    (is_wanted_area place most) refl refl) ∙ is))
   where
     at_side :
-        (side : Side) → is_open side file ≡ true
-        → is_wanted place most (area_at side file) ≡ true → area_at side file ≡ x
+        (side : Side) → is_open_area side file ≡ true
+        → is_wanted_area place most (area_on_side side file) ≡ true → area_on_side side file ≡ x
         → (side : Side) × (open_area side file ≡ Some x) × (x.place ≡ place) × (x.count ≤ most)
     at_side side is_opened is_wanted_there same =
         let parts = wanted_is place most x
-        (sym (ap (λ (y : Stored). is_wanted place most y) same) ∙ is_wanted_there) in
+        (sym (ap (λ (y : Stored). is_wanted_area place most y) same) ∙ is_wanted_there) in
         (side, open_is side file x is_opened same, parts.0, parts.1)
 
     from_side :
-        Among (is_open A file) (is_wanted place most (area_at A file)) (is_open B file)
-        (is_wanted place most (area_at B file)) (area_at A file) (area_at B file) x
+        Among (is_open_area A file) (is_wanted_area place most (area_on_side A file)) (is_open_area B file)
+        (is_wanted_area place most (area_on_side B file)) (area_on_side A file) (area_on_side B file) x
         → (side : Side) × (open_area side file ≡ Some x) × (x.place ≡ place) × (x.count ≤ most)
     from_side (inl at) = at_side A at.0 at.1 at.2
     from_side (inr at) = at_side B at.0 at.1 at.2

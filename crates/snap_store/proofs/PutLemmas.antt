@@ -9,9 +9,9 @@ use Rattle.snap_store.specs.declared.slot.Slot.{Slot}
 use Rattle.snap_store.specs.declared.slot.Slot.TheVariants.{Closed, Open, Unsure}
 use Rattle.snap_store.specs.declared.slot.Slots.{Slots}
 use Rattle.snap_store.specs.File.{Stored, has_header, whole_area, openable_area}
-use Rattle.snap_store.specs.Slots.{other, slot_of, with_slot, taken_side}
-use Rattle.snap_store.specs.Images.{Stands, IsLaid, loosened, DuringPut, IsLeft}
-use Rattle.snap_store.specs.Store.{Snapshots, held, area_of, IsPutImage, IsSound}
+use Rattle.snap_store.specs.Slots.{opposite_side, slot_of, with_slot, taken_side}
+use Rattle.snap_store.specs.Images.{StandsOnSide, IsLaid, loosened, DuringPut, IsLeft}
+use Rattle.snap_store.specs.Store.{Snapshots, area_held, store_area, IsPutImage, IsSoundStore}
 use Rattle.snap_store.proofs.StoreLemmas.{openable_is, shut_closed, stands_openable}
 use Rattle.snap_store.proofs.StoreLemmas.{newest_is_beside, open_at, laid_turned, laid_seen}
 use Rattle.snap_store.proofs.StoreLemmas.{held_is}
@@ -24,14 +24,14 @@ slot_set B slots slot = refl
 
 pub slot_kept :
     (side : Side) (slots : Slots) (slot : Slot)
-    → slot_of (with_slot slots side slot) (other side) ≡ slot_of slots (other side)
+    → slot_of (with_slot slots side slot) (opposite_side side) ≡ slot_of slots (opposite_side side)
 slot_kept A slots slot = refl
 slot_kept B slots slot = refl
 
 laid_back :
     (side : Side) (slots : Slots) (slot : Slot) (file c : List ℕ)
     → IsLaid side slot (whole_area side file)
-    (slot_of slots (other side)) (whole_area (other side) file) c
+    (slot_of slots (opposite_side side)) (whole_area (opposite_side side) file) c
     → IsLaid A (with_slot slots side slot).a (whole_area A file)
     (with_slot slots side slot).b (whole_area B file) c
 laid_back A slots slot file c laid = laid
@@ -47,8 +47,8 @@ same_area x y is = cc
 -- behind a gate that is being closed stands the old area
 closing_openable :
     (side : Side) (slot : Slot) (file c : List ℕ) (area : Stored)
-    → Stands side (loosened slot) (whole_area side file) c → openable_area side c ≡ Some area
-    → held side slot file ≡ Some area
+    → StandsOnSide side (loosened slot) (whole_area side file) c → openable_area side c ≡ Some area
+    → area_held side slot file ≡ Some area
 closing_openable side Closed file c area stands is = absurd (shut_closed side c area stands is)
 closing_openable side Unsure file c area stands is = sym stands ∙ (openable_is side c area is).2
 closing_openable side (Open place count) file c area stands is =
@@ -57,7 +57,7 @@ closing_openable side (Open place count) file c area stands is =
 -- what is held after a step
 held_stands :
     (side : Side) (slot : Slot) (area : Option Stored) (file : List ℕ)
-    → slot ≡ Unsure → Stands side slot area file → held side slot file ≡ area
+    → slot ≡ Unsure → StandsOnSide side slot area file → area_held side slot file ≡ area
 held_stands side Closed area file is stands = absurd (closed_unsure is)
   where
     closed_unsure : Closed ≡ Unsure → ⊥
@@ -67,8 +67,8 @@ held_stands side (Open place count) area file is stands = stands.1
 
 held_loosened :
     (side : Side) (slot : Slot) (file file' : List ℕ)
-    → Stands side (loosened slot) (whole_area side file) file'
-    → held side (loosened slot) file' ≡ held side slot file
+    → StandsOnSide side (loosened slot) (whole_area side file) file'
+    → area_held side (loosened slot) file' ≡ area_held side slot file
 held_loosened side Closed file file' stands = refl
 held_loosened side Unsure file file' stands = stands
 held_loosened side (Open place count) file file' stands = stands
@@ -80,7 +80,7 @@ module _
     (seen : D → List ℕ)
     (stays : (d : D) → may_leave d (seen d))
     (store : Snapshots D)
-    (sound : IsSound tells may_leave seen store)
+    (sound : IsSoundStore tells may_leave seen store)
     (made : store.made ≡ true)
     (put : Stored) where
   abbrev side : Side
@@ -93,10 +93,10 @@ module _
   area = whole_area side (seen store.disk)
 
   abbrev beside : Slot
-  beside = slot_of store.slots (other side)
+  beside = slot_of store.slots (opposite_side side)
 
   abbrev beside_area : Option Stored
-  beside_area = whole_area (other side) (seen store.disk)
+  beside_area = whole_area (opposite_side side) (seen store.disk)
 
   -- before a put
   pub laid_before : EachImage tells may_leave store.disk (IsLaid side slot area beside beside_area)
@@ -106,17 +106,17 @@ module _
   -- while it goes on
   put_image_of :
       (c : List ℕ) → has_header c ≡ true
-      → Stands (other side) beside beside_area c
+      → StandsOnSide (opposite_side side) beside beside_area c
       → ((x : Stored) → openable_area side c ≡ Some x
-      → (area_of seen store side ≡ Some x) ⊎ (x ≡ put))
+      → (store_area seen store side ≡ Some x) ⊎ (x ≡ put))
       → IsPutImage seen store put c
   put_image_of c header stands own = record {
     header = header;
     newest = λ side' is. open_at seen store c side' header is
-        (subst (λ (s : Side). Stands s (slot_of store.slots s)
+        (subst (λ (s : Side). StandsOnSide s (slot_of store.slots s)
         (whole_area s (seen store.disk)) c) (newest_is_beside store.slots side' is) stands);
     taken = own;
-    beside = λ x is. stands_openable (other side) beside (seen store.disk) c x stands is;
+    beside = λ x is. stands_openable (opposite_side side) beside (seen store.disk) c x stands is;
   }
 
   pub put_image :
@@ -137,7 +137,7 @@ module _
     after = record { disk = new; made = store.made; slots = slots }
 
     -- after it
-    pub sound_after : IsSound tells may_leave seen after
+    pub sound_after : IsSoundStore tells may_leave seen after
     sound_after = record {
       header = λ told c at. (laid told c at).header ∙ sym made;
       laid = λ is_made told c at.
@@ -157,40 +157,40 @@ module _
 
     pub beside_after :
         IsTrue (tells store.disk)
-        → area_of seen after (other side) ≡ area_of seen store (other side)
+        → store_area seen after (opposite_side side) ≡ store_area seen store (opposite_side side)
     beside_after told =
-        ap (λ (s : Slots). held (other side) (slot_of s (other side)) (seen new)) set
-        ∙ ap (λ (s : Slot). held (other side) s (seen new)) (slot_kept side store.slots now)
-        ∙ held_is (other side) beside beside_area (seen new) (seen store.disk)
+        ap (λ (s : Slots). area_held (opposite_side side) (slot_of s (opposite_side side)) (seen new)) set
+        ∙ ap (λ (s : Slot). area_held (opposite_side side) s (seen new)) (slot_kept side store.slots now)
+        ∙ held_is (opposite_side side) beside beside_area (seen new) (seen store.disk)
         (shows told).there
         (laid_before told (seen store.disk) (stays store.disk)).there
 
-    here_after : area_of seen after side ≡ held side now (seen new)
+    here_after : store_area seen after side ≡ area_held side now (seen new)
     here_after =
-        ap (λ (s : Slots). held side (slot_of s side) (seen new)) set
-        ∙ ap (λ (s : Slot). held side s (seen new)) (slot_set side store.slots now)
+        ap (λ (s : Slots). area_held side (slot_of s side) (seen new)) set
+        ∙ ap (λ (s : Slot). area_held side s (seen new)) (slot_set side store.slots now)
 
     pub put_after :
         (place count : ℕ) → now ≡ Open place count → left ≡ Some put → IsTrue (tells store.disk)
-        → area_of seen after side ≡ Some put
+        → store_area seen after side ≡ Some put
     put_after place count is is_left told =
         here_after
-        ∙ ap (λ (s : Slot). held side s (seen new)) is
-        ∙ (subst (λ (s : Slot). Stands side s left (seen new)) is (shows told).here).1
+        ∙ ap (λ (s : Slot). area_held side s (seen new)) is
+        ∙ (subst (λ (s : Slot). StandsOnSide side s left (seen new)) is (shows told).here).1
         ∙ is_left
 
     pub left_after :
         IsLeft slot area put now left → IsTrue (tells store.disk)
-        → (area_of seen after side ≡ area_of seen store side)
-        ⊎ (area_of seen after side ≡ None)
-        ⊎ (area_of seen after side ≡ Some put)
+        → (store_area seen after side ≡ store_area seen store side)
+        ⊎ (store_area seen after side ≡ None)
+        ⊎ (store_area seen after side ≡ Some put)
     left_after (inl is) told =
-        let stands : Stands side (loosened slot) area (seen new) =
-        subst (λ (o : Option Stored). Stands side (loosened slot) o (seen new)) is.1
-        (subst (λ (s : Slot). Stands side s left (seen new)) is.0 (shows told).here) in
-        inl (here_after ∙ ap (λ (s : Slot). held side s (seen new)) is.0
+        let stands : StandsOnSide side (loosened slot) area (seen new) =
+        subst (λ (o : Option Stored). StandsOnSide side (loosened slot) o (seen new)) is.1
+        (subst (λ (s : Slot). StandsOnSide side s left (seen new)) is.0 (shows told).here) in
+        inl (here_after ∙ ap (λ (s : Slot). area_held side s (seen new)) is.0
         ∙ held_loosened side slot (seen store.disk) (seen new) stands)
     left_after (inr (inl is)) told =
-        inr (inl (here_after ∙ ap (λ (s : Slot). held side s (seen new)) is.0))
+        inr (inl (here_after ∙ ap (λ (s : Slot). area_held side s (seen new)) is.0))
     left_after (inr (inr is)) told =
         inr (inr (here_after ∙ held_stands side now left (seen new) is.0 (shows told).here ∙ is.1))

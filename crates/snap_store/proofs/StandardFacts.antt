@@ -4,7 +4,7 @@ use Rattle.std.specs.Prelude.{Some}
 use Rattle.snap_store.specs.declared.side.Side.TheVariants.{A, B}
 use Rattle.snap_store.specs.declared.slot.Slot.TheVariants.{Closed, Open, Unsure}
 use Rattle.snap_store.specs.declared.outline.TheConstants.{MAX_SNAPSHOT, PAGE}
-use Rattle.snap_store.specs.File.{head_bytes, gate_of, start_of, has_header, header, greatest}
+use Rattle.snap_store.specs.File.{head_bytes, gate_of, side_start, has_header, snapshot_header, greatest}
 use Rattle.snap_store.specs.Slots.{taken_side}
 
 -- the first area of an OPEN row at place 16, after 16 inputs, with three bytes
@@ -19,15 +19,15 @@ limits = refl
 
 -- area B starts where the longest area A ends, and the longest area B ends here
 pub ends_of_areas :
-    (start_of A + 16 + MAX_SNAPSHOT) ∷ (start_of B + 16 + MAX_SNAPSHOT) ∷ []
-    ≡ start_of B ∷ 16781344 ∷ []
+    (side_start A + 16 + MAX_SNAPSHOT) ∷ (side_start B + 16 + MAX_SNAPSHOT) ∷ []
+    ≡ side_start B ∷ 16781344 ∷ []
 ends_of_areas = refl
 
 pub gates : gate_of A ∷ gate_of B ∷ [] ≡ 8 ∷ 9 ∷ []
 gates = refl
 
 -- the header's bytes alone are no header
-pub too_short : has_header header ≡ false
+pub too_short : has_header snapshot_header ≡ false
 unfolding has_header
 too_short = refl
 

@@ -11,14 +11,14 @@ use Rattle.snap_store.specs.declared.side.Side.TheVariants.{A, B}
 use Rattle.snap_store.specs.declared.slot.Slot.{Slot}
 use Rattle.snap_store.specs.declared.slot.Slot.TheVariants.{Closed, Open, Unsure}
 use Rattle.snap_store.specs.declared.slot.Slots.{Slots}
-use Rattle.snap_store.specs.File.{Stored, has_header, gate_byte, is_whole, area_at, whole_area}
-use Rattle.snap_store.specs.File.{is_open, open_area, openable_area, place_at, count_at}
-use Rattle.snap_store.specs.Slots.{other, slot_of, slot_in, is_before, newest_side}
+use Rattle.snap_store.specs.File.{Stored, has_header, gate_byte, is_whole, area_on_side, whole_area}
+use Rattle.snap_store.specs.File.{is_open_area, open_area, openable_area, area_place, count_at}
+use Rattle.snap_store.specs.Slots.{opposite_side, slot_of, slot_in, is_before, newest_side}
 use Rattle.snap_store.specs.Slots.{beside, taken_side}
-use Rattle.snap_store.specs.Images.{IsOf, Stands, IsLaid}
-use Rattle.snap_store.specs.Store.{Snapshots, area_of, held, IsOpenIn, IsImageOf}
-use Rattle.snap_store.specs.Store.{IsSound}
-use Rattle.snap_store.specs.File.{newest_area, given}
+use Rattle.snap_store.specs.Images.{IsAreaOf, StandsOnSide, IsLaid}
+use Rattle.snap_store.specs.Store.{Snapshots, store_area, area_held, IsOpenIn, IsImageOf}
+use Rattle.snap_store.specs.Store.{IsSoundStore}
+use Rattle.snap_store.specs.File.{newest_area, area_given}
 use Rattle.snap_store.specs.Store.{IsGiven}
 use Rattle.std.specs.Prelude.{IfSome}
 use Rattle.snap_store.proofs.Newest.{newest_found}
@@ -63,7 +63,7 @@ pub openable_is :
     → (has_header c ≡ true) × ((gate_byte side c == 0) ≡ false)
     × (whole_area side c ≡ Some area)
 openable_is side c area is =
-    openable_parts (has_header c) (gate_byte side c == 0) (is_whole side c) (area_at side c) area is
+    openable_parts (has_header c) (gate_byte side c == 0) (is_whole side c) (area_on_side side c) area is
 
 -- an open one may open
 pub open_openable :
@@ -71,8 +71,8 @@ pub open_openable :
     → openable_area side c ≡ Some area
 open_openable side c area is =
     let parts =
-    open_parts (has_header c) (gate_byte side c == 1) (is_whole side c) (area_at side c) area is in
-    both_true (has_header c) (not (gate_byte side c == 0)) (is_whole side c) (area_at side c) area
+    open_parts (has_header c) (gate_byte side c == 1) (is_whole side c) (area_on_side side c) area is in
+    both_true (has_header c) (not (gate_byte side c == 0)) (is_whole side c) (area_on_side side c) area
     parts.0 (ap not (not_zero (gate_byte side c) parts.1)) parts.2
   where
     not_zero : (gate : ℕ) → (gate == 1) ≡ true → (gate == 0) ≡ false
@@ -84,7 +84,7 @@ pub is_opened :
     → has_header c ≡ true → gate_byte side c ≡ 1 → whole_area side c ≡ Some area
     → open_area side c ≡ Some area
 is_opened side c area header gate whole =
-    both_true (has_header c) (gate_byte side c == 1) (is_whole side c) (area_at side c) area
+    both_true (has_header c) (gate_byte side c == 1) (is_whole side c) (area_on_side side c) area
     header (ap (λ (g : ℕ). g == 1) gate) whole
 
 -- nothing may open behind a gate that is 0
@@ -101,8 +101,8 @@ shut_closed side c area gate is =
 -- what may open is the area that stands there
 pub stands_openable :
     (side : Side) (slot : Slot) (file c : List ℕ) (area : Stored)
-    → Stands side slot (whole_area side file) c → openable_area side c ≡ Some area
-    → held side slot file ≡ Some area
+    → StandsOnSide side slot (whole_area side file) c → openable_area side c ≡ Some area
+    → area_held side slot file ≡ Some area
 stands_openable side Closed file c area stands is = absurd (shut_closed side c area stands is)
 stands_openable side Unsure file c area stands is =
     sym stands ∙ (openable_is side c area is).2
@@ -112,13 +112,13 @@ stands_openable side (Open place count) file c area stands is =
 -- behind a gate that is open stands an open area
 pub stands_open :
     (side : Side) (place count : ℕ) (file c : List ℕ)
-    → has_header c ≡ true → Stands side (Open place count) (whole_area side file) c
+    → has_header c ≡ true → StandsOnSide side (Open place count) (whole_area side file) c
     → (area : Stored) × (whole_area side file ≡ Some area) × (open_area side c ≡ Some area)
 stands_open side place count file c header stands =
     there (whole_area side file) refl stands.2
   where
     there :
-        (found : Option Stored) → whole_area side file ≡ found → IsOf place count found
+        (found : Option Stored) → whole_area side file ≡ found → IsAreaOf place count found
         → (area : Stored) × (whole_area side file ≡ Some area) × (open_area side c ≡ Some area)
     there None is of = absurd of
     there (Some area) is of =
@@ -178,15 +178,15 @@ newest_open slots side is = newest_open_of slots.a slots.b side is
 -- the newest side isn't the one that is taken
 pub newest_is_beside :
     (slots : Slots) (side : Side) → newest_side slots ≡ Some side
-    → other (taken_side slots) ≡ side
+    → opposite_side (taken_side slots) ≡ side
 newest_is_beside slots side is = beside_is (newest_side slots) side is
   where
-    twice : (side : Side) → other (other side) ≡ side
+    twice : (side : Side) → opposite_side (opposite_side side) ≡ side
     twice A = refl
     twice B = refl
 
     beside_is :
-        (found : Option Side) (side : Side) → found ≡ Some side → other (beside found) ≡ side
+        (found : Option Side) (side : Side) → found ≡ Some side → opposite_side (beside found) ≡ side
     beside_is None side is = absurd (no_side side is)
     beside_is (Some x) side is = twice x ∙ same_side x side is
 
@@ -194,7 +194,7 @@ newest_is_beside slots side is = beside_is (newest_side slots) side is
 pub laid_side :
     (side : Side) (slots : Slots) (file c : List ℕ)
     → IsLaid A slots.a (whole_area A file) slots.b (whole_area B file) c
-    → Stands side (slot_of slots side) (whole_area side file) c
+    → StandsOnSide side (slot_of slots side) (whole_area side file) c
 laid_side A slots file c laid = laid.here
 laid_side B slots file c laid = laid.there
 
@@ -203,7 +203,7 @@ pub laid_turned :
     (side : Side) (slots : Slots) (file c : List ℕ)
     → IsLaid A slots.a (whole_area A file) slots.b (whole_area B file) c
     → IsLaid side (slot_of slots side) (whole_area side file)
-    (slot_of slots (other side)) (whole_area (other side) file) c
+    (slot_of slots (opposite_side side)) (whole_area (opposite_side side) file) c
 laid_turned A slots file c laid = laid
 laid_turned B slots file c laid =
     record { header = laid.header; here = laid.there; there = laid.here }
@@ -212,16 +212,16 @@ module _ {D : Type 0} (seen : D → List ℕ) (store : Snapshots D) (c : List �
   -- the newest, where it stands as it is seen
   pub open_at :
       (side : Side) → has_header c ≡ true → newest_side store.slots ≡ Some side
-      → Stands side (slot_of store.slots side) (whole_area side (seen store.disk)) c
+      → StandsOnSide side (slot_of store.slots side) (whole_area side (seen store.disk)) c
       → IsOpenIn seen store side c
   open_at side header is stands =
       let slot = newest_open store.slots side is in
       let file = seen store.disk in
       let found = stands_open side slot.0 slot.1 file c header
-      (subst (λ (s : Slot). Stands side s (whole_area side file) c) slot.2 stands) in
+      (subst (λ (s : Slot). StandsOnSide side s (whole_area side file) c) slot.2 stands) in
       record {
         area = found.0;
-        kept = ap (λ (s : Slot). held side s file) slot.2 ∙ found.1;
+        kept = ap (λ (s : Slot). area_held side s file) slot.2 ∙ found.1;
         there = found.2;
       }
 
@@ -229,20 +229,20 @@ module _ {D : Type 0} (seen : D → List ℕ) (store : Snapshots D) (c : List �
   synced_at :
       (side : Side) (place count : ℕ) → has_header c ≡ true
       → slot_of store.slots side ≡ Open place count
-      → Stands side (slot_of store.slots side) (whole_area side (seen store.disk)) c
-      → (area : Stored) × (area_of seen store side ≡ Some area)
+      → StandsOnSide side (slot_of store.slots side) (whole_area side (seen store.disk)) c
+      → (area : Stored) × (store_area seen store side ≡ Some area)
       × (open_area side c ≡ Some area) × (area.place ≡ place) × (area.count ≡ count)
   synced_at side place count header is stands =
       let file = seen store.disk in
-      let there = subst (λ (s : Slot). Stands side s (whole_area side file) c) is stands in
+      let there = subst (λ (s : Slot). StandsOnSide side s (whole_area side file) c) is stands in
       let found = stands_open side place count file c header there in
-      let head = subst (λ (o : Option Stored). IsOf place count o) found.1 there.2 in
-      (found.0, ap (λ (s : Slot). held side s file) is ∙ found.1, found.2, head.0, head.1)
+      let head = subst (λ (o : Option Stored). IsAreaOf place count o) found.1 there.2 in
+      (found.0, ap (λ (s : Slot). area_held side s file) is ∙ found.1, found.2, head.0, head.1)
 
   -- where both sides stand as they are seen
   module _ (made : store.made ≡ true) (header : has_header c ≡ true)
       (stands : (side : Side)
-      → Stands side (slot_of store.slots side) (whole_area side (seen store.disk)) c) where
+      → StandsOnSide side (slot_of store.slots side) (whole_area side (seen store.disk)) c) where
     pub image_of : IsImageOf seen store c
     image_of = record {
       header = header ∙ sym made;
@@ -297,7 +297,7 @@ module _
     (seen : D → List ℕ) where
   -- each image shows the store
   pub sound_images :
-      (store : Snapshots D) → IsSound tells may_leave seen store
+      (store : Snapshots D) → IsSoundStore tells may_leave seen store
       → EachImage tells may_leave store.disk (IsImageOf seen store)
   sound_images store sound told c now = elim (cases_Bool store.made) [
     | inl made ↦ image_of seen store c made (sound.header told c now ∙ made)
@@ -311,42 +311,42 @@ module _ (side : Side) (file : List ℕ) (header : has_header file ≡ true) whe
   abbrev by_tests : Bool → Bool → Bool → Slot
   by_tests is_header zero one =
       if is_header && not zero
-      then (if one then Open (place_at side file) (count_at side file) else Unsure)
+      then (if one then Open (area_place side file) (count_at side file) else Unsure)
       else Closed
 
   opened_head :
-      (whole : Bool) → is_whole side file ≡ whole → is_open side file ≡ true
-      → IsOf (place_at side file) (count_at side file) (whole_area side file)
-  unfolding area_at
+      (whole : Bool) → is_whole side file ≡ whole → is_open_area side file ≡ true
+      → IsAreaOf (area_place side file) (count_at side file) (whole_area side file)
+  unfolding area_on_side
   opened_head true is one =
-      subst (λ (b : Bool). IsOf (place_at side file) (count_at side file)
-      (if b then Some (area_at side file) else None)) (sym is) (refl, refl)
+      subst (λ (b : Bool). IsAreaOf (area_place side file) (count_at side file)
+      (if b then Some (area_on_side side file) else None)) (sym is) (refl, refl)
   opened_head false is one = absurd (false_true (sym (and_false is) ∙ one))
     where
       false_true : false ≡ true → ⊥
       false_true is = cc
 
-      and_false : is_whole side file ≡ false → is_open side file ≡ false
+      and_false : is_whole side file ≡ false → is_open_area side file ≡ false
       and_false no_area = rw no_area (and-false (has_header file && (gate_byte side file == 1)))
 
-  pub stands_in : Stands side (slot_in side file) (whole_area side file) file
+  pub stands_in : StandsOnSide side (slot_in side file) (whole_area side file) file
   stands_in = elim (cases_Bool (gate_byte side file == 0)) [
     | inl zero_gate ↦
-        subst (λ (s : Slot). Stands side s (whole_area side file) file)
-        (sym (ap (λ (h : Bool). by_tests h (gate_byte side file == 0) (is_open side file)) header
-        ∙ ap (λ (z : Bool). by_tests true z (is_open side file)) zero_gate))
+        subst (λ (s : Slot). StandsOnSide side s (whole_area side file) file)
+        (sym (ap (λ (h : Bool). by_tests h (gate_byte side file == 0) (is_open_area side file)) header
+        ∙ ap (λ (z : Bool). by_tests true z (is_open_area side file)) zero_gate))
         (is_zero (gate_byte side file) zero_gate)
-    | inr set_gate ↦ elim (cases_Bool (is_open side file)) [
+    | inr set_gate ↦ elim (cases_Bool (is_open_area side file)) [
       | inl one ↦
-          subst (λ (s : Slot). Stands side s (whole_area side file) file)
-          (sym (ap (λ (h : Bool). by_tests h (gate_byte side file == 0) (is_open side file)) header
-          ∙ ap (λ (z : Bool). by_tests true z (is_open side file)) set_gate
+          subst (λ (s : Slot). StandsOnSide side s (whole_area side file) file)
+          (sym (ap (λ (h : Bool). by_tests h (gate_byte side file == 0) (is_open_area side file)) header
+          ∙ ap (λ (z : Bool). by_tests true z (is_open_area side file)) set_gate
           ∙ ap (λ (o : Bool). by_tests true false o) one))
           (is_one one, refl, opened_head (is_whole side file) refl one)
       | inr not_one ↦
-          subst (λ (s : Slot). Stands side s (whole_area side file) file)
-          (sym (ap (λ (h : Bool). by_tests h (gate_byte side file == 0) (is_open side file)) header
-          ∙ ap (λ (z : Bool). by_tests true z (is_open side file)) set_gate
+          subst (λ (s : Slot). StandsOnSide side s (whole_area side file) file)
+          (sym (ap (λ (h : Bool). by_tests h (gate_byte side file == 0) (is_open_area side file)) header
+          ∙ ap (λ (z : Bool). by_tests true z (is_open_area side file)) set_gate
           ∙ ap (λ (o : Bool). by_tests true false o) not_one))
           refl
     ]
@@ -368,7 +368,7 @@ module _ (side : Side) (file : List ℕ) (header : has_header file ≡ true) whe
       test_of false false true is = cc
       test_of false false false is = cc
 
-      is_one : is_open side file ≡ true → gate_byte side file ≡ 1
+      is_one : is_open_area side file ≡ true → gate_byte side file ≡ 1
       is_one is =
           one_of (gate_byte side file)
           (test_of (has_header file) (gate_byte side file == 1) (is_whole side file) is)
@@ -377,16 +377,16 @@ module _ (side : Side) (file : List ℕ) (header : has_header file ≡ true) whe
 module _ (side : Side) (file : List ℕ) where
   whole_by :
       {whole : Bool} → is_whole side file ≡ whole
-      → whole_area side file ≡ (if whole then Some (area_at side file) else None)
-  whole_by is = ap (λ (b : Bool). if b then Some (area_at side file) else None) is
+      → whole_area side file ≡ (if whole then Some (area_on_side side file) else None)
+  whole_by is = ap (λ (b : Bool). if b then Some (area_on_side side file) else None) is
 
   held_by :
       (is_header zero one whole : Bool) → is_whole side file ≡ whole
-      → held side (if is_header && not zero
+      → area_held side (if is_header && not zero
       then (if is_header && one && whole
-      then Open (place_at side file) (count_at side file) else Unsure)
+      then Open (area_place side file) (count_at side file) else Unsure)
       else Closed) file
-      ≡ (if is_header && not zero && whole then Some (area_at side file) else None)
+      ≡ (if is_header && not zero && whole then Some (area_on_side side file) else None)
   held_by false true one whole is = refl
   held_by false false one whole is = refl
   held_by true true one whole is = refl
@@ -395,7 +395,7 @@ module _ (side : Side) (file : List ℕ) where
   held_by true false false true is = whole_by is
   held_by true false false false is = whole_by is
 
-  pub held_in : held side (slot_in side file) file ≡ openable_area side file
+  pub held_in : area_held side (slot_in side file) file ≡ openable_area side file
   held_in =
       held_by (has_header file) (gate_byte side file == 0) (gate_byte side file == 1)
       (is_whole side file) refl
@@ -422,7 +422,7 @@ module _
       (store : Snapshots D) (file : List ℕ)
       → (IsTrue (tells store.disk) → IsRead may_leave seen store file)
       → (store.made ≡ false → (store.slots.a ≡ Closed) × (store.slots.b ≡ Closed))
-      → IsSound tells may_leave seen store
+      → IsSoundStore tells may_leave seen store
   sound_read store file read unmade = record {
     header = λ told c now.
         let is = read told in ap has_header (is.only c now) ∙ sym is.made;
@@ -449,14 +449,14 @@ module _
 -- the same area, named by what another file shows
 pub stands_seen :
     (side : Side) (slot : Slot) (area : Option Stored) (file c : List ℕ)
-    → Stands side slot area file → Stands side slot area c
-    → Stands side slot (whole_area side file) c
+    → StandsOnSide side slot area file → StandsOnSide side slot area c
+    → StandsOnSide side slot (whole_area side file) c
 stands_seen side Closed area file c shows stands = stands
 stands_seen side Unsure area file c shows stands = stands ∙ sym shows
 stands_seen side (Open place count) area file c shows stands = (
   stands.0,
   stands.1 ∙ sym shows.1,
-  subst (λ (o : Option Stored). IsOf place count o) (sym shows.1) stands.2,
+  subst (λ (o : Option Stored). IsAreaOf place count o) (sym shows.1) stands.2,
 )
 
 pub laid_seen :
@@ -464,18 +464,18 @@ pub laid_seen :
     (beside_area : Option Stored) (file c : List ℕ)
     → IsLaid side own area beside beside_area file
     → IsLaid side own area beside beside_area c
-    → IsLaid side own (whole_area side file) beside (whole_area (other side) file) c
+    → IsLaid side own (whole_area side file) beside (whole_area (opposite_side side) file) c
 laid_seen side own area beside beside_area file c shows laid = record {
   header = laid.header;
   here = stands_seen side own area file c shows.here laid.here;
-  there = stands_seen (other side) beside beside_area file c shows.there laid.there;
+  there = stands_seen (opposite_side side) beside beside_area file c shows.there laid.there;
 }
 
 -- what is held is what stands in each image
 pub held_is :
     (side : Side) (slot : Slot) (area : Option Stored) (file file' : List ℕ)
-    → Stands side slot area file → Stands side slot area file'
-    → held side slot file ≡ held side slot file'
+    → StandsOnSide side slot area file → StandsOnSide side slot area file'
+    → area_held side slot file ≡ area_held side slot file'
 held_is side Closed area file file' stands stands' = refl
 held_is side Unsure area file file' stands stands' = stands ∙ sym stands'
 held_is side (Open place count) area file file' stands stands' = stands.1 ∙ sym stands'.1
@@ -487,7 +487,7 @@ module _
     (seen : D → List ℕ)
     (stays : (d : D) → may_leave d (seen d))
     (store : Snapshots D)
-    (sound : IsSound tells may_leave seen store)
+    (sound : IsSoundStore tells may_leave seen store)
     (new : D)
     (telling : tells new ≡ tells store.disk)
     (none_new : IsTrue (tells store.disk) → NoneNew (may_leave store.disk) (may_leave new)) where
@@ -495,7 +495,7 @@ module _
   looked = record { disk = new; made = store.made; slots = store.slots }
 
   -- nothing was written
-  pub sound_looked : IsSound tells may_leave seen looked
+  pub sound_looked : IsSoundStore tells may_leave seen looked
   sound_looked = record {
     header = λ told_new c now.
         let told = subst (λ (b : Bool). IsTrue b) telling told_new in
@@ -521,7 +521,7 @@ module _ {D : Type 0} (seen : D → List ℕ) (store : Snapshots D)
     (shows : IsImageOf seen store (seen store.disk)) (place most : ℕ) where
   pub given_is :
       (found : Option Stored) → newest_area place most (seen store.disk) ≡ found
-      → IfSome (given found) (IsGiven seen store place most)
+      → IfSome (area_given found) (IsGiven seen store place most)
   given_is None is = tt
   given_is (Some x) is =
       let at = newest_found place most (seen store.disk) x is in

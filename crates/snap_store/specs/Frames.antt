@@ -7,13 +7,13 @@ use Rattle.snap_store.specs.declared.fault.NewestFault.TheVariants.{DiskFault as
 use Rattle.snap_store.specs.declared.fault.NewestFault.TheVariants.{NoMemory}
 
 -- the count of faults at entry and at the end; it rose between them
-pub record IsFault (before now : ℕ) (fault : DiskFault) : Type 0 where
+pub record IsFaultOfDisk (before now : ℕ) (fault : DiskFault) : Type 0 where
   pub from : fault.from ≡ before
   pub to : fault.to ≡ now
   pub later : before ≤ now
   pub rose : Rose before now
 
 -- the disk failed in this call, or memory ran out and it didn't
-abbrev pub HasCause : ℕ → ℕ → NewestFault → Type 0
-HasCause before now (disk_fault fault) = IsFault before now fault
-HasCause before now NoMemory = now ≡ before
+abbrev pub HasNewestCause : ℕ → ℕ → NewestFault → Type 0
+HasNewestCause before now (disk_fault fault) = IsFaultOfDisk before now fault
+HasNewestCause before now NoMemory = now ≡ before

@@ -5,20 +5,20 @@ use Rattle.snap_store.specs.declared.side.Side.TheVariants.{A, B}
 use Rattle.snap_store.specs.declared.slot.Slot.{Slot}
 use Rattle.snap_store.specs.declared.slot.Slot.TheVariants.{Closed, Open, Unsure}
 use Rattle.snap_store.specs.File.{Stored, has_header, gate_byte, whole_area}
-use Rattle.snap_store.specs.Slots.{other}
+use Rattle.snap_store.specs.Slots.{opposite_side}
 
 -- there is an area, of this OPEN row and after so many inputs
-abbrev pub IsOf : ℕ → ℕ → Option Stored → Type 0
-IsOf place count None = ⊥
-IsOf place count (Some area) = (area.place ≡ place) × (area.count ≡ count)
+abbrev pub IsAreaOf : ℕ → ℕ → Option Stored → Type 0
+IsAreaOf place count None = ⊥
+IsAreaOf place count (Some area) = (area.place ≡ place) × (area.count ≡ count)
 
 -- The gate and the area of one side. Behind a gate of which nothing is known stands this area, or
 -- none that is whole.
-abbrev pub Stands : Side → Slot → Option Stored → List ℕ → Type 0
-Stands side Closed area image = gate_byte side image ≡ 0
-Stands side Unsure area image = whole_area side image ≡ area
-Stands side (Open place count) area image =
-    (gate_byte side image ≡ 1) × (whole_area side image ≡ area) × IsOf place count area
+abbrev pub StandsOnSide : Side → Slot → Option Stored → List ℕ → Type 0
+StandsOnSide side Closed area image = gate_byte side image ≡ 0
+StandsOnSide side Unsure area image = whole_area side image ≡ area
+StandsOnSide side (Open place count) area image =
+    (gate_byte side image ≡ 1) × (whole_area side image ≡ area) × IsAreaOf place count area
 
 -- both sides, seen from one of them
 pub record IsLaid
@@ -29,8 +29,8 @@ pub record IsLaid
     (beside_area : Option Stored)
     (image : List ℕ) : Type 0 where
   pub header : has_header image ≡ true
-  pub here : Stands side own area image
-  pub there : Stands (other side) beside beside_area image
+  pub here : StandsOnSide side own area image
+  pub there : StandsOnSide (opposite_side side) beside beside_area image
 
 -- the gate, once its closing has begun
 abbrev pub loosened : Slot → Slot

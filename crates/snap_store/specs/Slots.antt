@@ -7,12 +7,12 @@ use Rattle.snap_store.specs.declared.side.Side.TheVariants.{A, B}
 use Rattle.snap_store.specs.declared.slot.Slot.{Slot}
 use Rattle.snap_store.specs.declared.slot.Slot.TheVariants.{Closed, Open, Unsure}
 use Rattle.snap_store.specs.declared.slot.Slots.{Slots}
-use Rattle.snap_store.specs.File.{has_header, gate_byte, place_at, count_at, is_open}
+use Rattle.snap_store.specs.File.{has_header, gate_byte, area_place, count_at, is_open_area}
 
 -- the other area
-abbrev pub other : Side → Side
-other A = B
-other B = A
+abbrev pub opposite_side : Side → Side
+opposite_side A = B
+opposite_side B = A
 
 -- what is known of one gate
 abbrev pub slot_of : Slots → Side → Slot
@@ -34,7 +34,8 @@ is_closed (Open place count) = false
 abbrev pub slot_in : Side → List ℕ → Slot
 slot_in side file =
     if has_header file && not (gate_byte side file == 0)
-    then (if is_open side file then Open (place_at side file) (count_at side file) else Unsure)
+    then (if is_open_area side file then Open (area_place side file) (count_at side file)
+    else Unsure)
     else Closed
 
 -- an OPEN row and a count of inputs are before others
@@ -66,7 +67,7 @@ newest_side slots = newest_of slots.a slots.b
 -- the area that a put takes: the one that isn't the newest; area A where none is open
 abbrev pub beside : Option Side → Side
 beside None = A
-beside (Some side) = other side
+beside (Some side) = opposite_side side
 
 abbrev pub taken_side : Slots → Side
 taken_side slots = beside (newest_side slots)

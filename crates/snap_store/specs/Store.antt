@@ -9,7 +9,7 @@ use Rattle.snap_store.specs.declared.slot.Slot.TheVariants.{Closed, Open, Unsure
 use Rattle.snap_store.specs.declared.slot.Slots.{Slots}
 use Rattle.snap_store.specs.declared.area.Area.{Area}
 use Rattle.snap_store.specs.File.{Stored, has_header, whole_area, open_area, openable_area}
-use Rattle.snap_store.specs.Slots.{other, slot_of, newest_side, taken_side}
+use Rattle.snap_store.specs.Slots.{opposite_side, slot_of, newest_side, taken_side}
 use Rattle.snap_store.specs.Images.{IsLaid}
 
 pub record Snapshots (D : Type 0) : Type 0 where
@@ -20,14 +20,14 @@ pub record Snapshots (D : Type 0) : Type 0 where
 
 -- The area behind a gate, of the file as it reads: none behind a closed one, nor where none is
 -- whole.
-abbrev pub held : Side → Slot → List ℕ → Option Stored
-held side Closed file = None
-held side Unsure file = whole_area side file
-held side (Open place count) file = whole_area side file
+abbrev pub area_held : Side → Slot → List ℕ → Option Stored
+area_held side Closed file = None
+area_held side Unsure file = whole_area side file
+area_held side (Open place count) file = whole_area side file
 
 -- the store's area of one side
-abbrev pub area_of : {D : Type 0} → (D → List ℕ) → Snapshots D → Side → Option Stored
-area_of seen store side = held side (slot_of store.slots side) (seen store.disk)
+abbrev pub store_area : {D : Type 0} → (D → List ℕ) → Snapshots D → Side → Option Stored
+store_area seen store side = area_held side (slot_of store.slots side) (seen store.disk)
 
 -- it is open in the image, and the store has it
 pub record IsOpenIn
@@ -37,7 +37,7 @@ pub record IsOpenIn
     (side : Side)
     (image : List ℕ) : Type 0 where
   pub area : Stored
-  pub kept : area_of seen store side ≡ Some area
+  pub kept : store_area seen store side ≡ Some area
   pub there : open_area side image ≡ Some area
 
 -- an image that a stop may leave of a store
@@ -50,10 +50,10 @@ pub record IsImageOf
   -- each area that may open is in the list, and so is each open one
   pub openable :
       (side : Side) (area : Stored) → openable_area side image ≡ Some area
-      → area_of seen store side ≡ Some area
+      → store_area seen store side ≡ Some area
   pub opened :
       (side : Side) (area : Stored) → open_area side image ≡ Some area
-      → area_of seen store side ≡ Some area
+      → store_area seen store side ≡ Some area
   -- the newest is open
   pub newest :
       (side : Side) → newest_side store.slots ≡ Some side
@@ -61,7 +61,7 @@ pub record IsImageOf
   -- and so is each whose gate is known to be; what is known of its row and count is the area's
   pub synced :
       (side : Side) (place count : ℕ) → slot_of store.slots side ≡ Open place count
-      → (area : Stored) × (area_of seen store side ≡ Some area)
+      → (area : Stored) × (store_area seen store side ≡ Some area)
       × (open_area side image ≡ Some area) × (area.place ≡ place) × (area.count ≡ count)
 
 -- an image that a stop may leave while a put of an area goes on, or after it
@@ -79,11 +79,11 @@ pub record IsPutImage
   -- the area that is taken, where it may open, is unchanged or the new one whole
   pub taken :
       (area : Stored) → openable_area (taken_side store.slots) image ≡ Some area
-      → (area_of seen store (taken_side store.slots) ≡ Some area) ⊎ (area ≡ put)
+      → (store_area seen store (taken_side store.slots) ≡ Some area) ⊎ (area ≡ put)
   -- the other one, where it may open, is unchanged
   pub beside :
-      (area : Stored) → openable_area (other (taken_side store.slots)) image ≡ Some area
-      → area_of seen store (other (taken_side store.slots)) ≡ Some area
+      (area : Stored) → openable_area (opposite_side (taken_side store.slots)) image ≡ Some area
+      → store_area seen store (opposite_side (taken_side store.slots)) ≡ Some area
 
 -- what is given of an area: one of the store's, open as the file reads, of this OPEN row, and after
 -- no more inputs than `most`
@@ -95,7 +95,7 @@ pub record IsGiven
     (given : Area) : Type 0 where
   pub side : Side
   pub area : Stored
-  pub kept : area_of seen store side ≡ Some area
+  pub kept : store_area seen store side ≡ Some area
   pub there : open_area side (seen store.disk) ≡ Some area
   pub row : area.place ≡ place
   pub fits : area.count ≤ most
@@ -103,7 +103,7 @@ pub record IsGiven
   pub bytes : given.bytes ≡ area.bytes
 
 -- what is true of each store
-pub record IsSound
+pub record IsSoundStore
     {D : Type 0}
     (tells : D → Bool)
     (may_leave : D → List ℕ → Type 0)

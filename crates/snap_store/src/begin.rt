@@ -2,9 +2,9 @@
 
 ghost use Rattle.std.specs.Prelude.{◌≡◌, ◌≤◌, ◌++◌, IsTrue, IsOk, OnOk, IfErr};
 ghost use Rattle.std.specs.Prelude.{length, max, drop};
-ghost use Rattle.disk_model.specs.Disk.{Only, written, LeavesOnly, AfterWrite, SameDisk};
-ghost use Rattle.snap_store.specs.File.{header, made_file};
-ghost use Rattle.snap_store.specs.Frames.{IsFault};
+ghost use Rattle.disk_model.specs.Disk.{Only, file_written, LeavesOnly, AfterWrite, SameDisk};
+ghost use Rattle.snap_store.specs.File.{snapshot_header, empty_snapshot_file};
+ghost use Rattle.snap_store.specs.Frames.{IsFaultOfDisk};
 
 use crate::fault::DiskFault;
 use crate::find::fault_since;
@@ -14,14 +14,14 @@ use disk_model::{Disk, write_through};
 // The header, at the front.
 fn put_header(page: &mut [u8])
     requires { 8 ≤ length page.old }
-    ensures { page.new ≡ header ++ drop 8 page.old }
+    ensures { page.new ≡ snapshot_header ++ drop 8 page.old }
 {
     page[..8].copy_from_slice(&HEADER);
 }
 
 // The header, and zeros.
 fn first_page() -> [u8; PAGE]
-    ensures { result ≡ made_file }
+    ensures { result ≡ empty_snapshot_file }
 {
     let mut page = [0; PAGE];
     put_header(&mut page);
@@ -32,13 +32,13 @@ fn first_page() -> [u8; PAGE]
 /// disk. Whatever stands behind these bytes stays.
 pub fn make<D: Disk>(disk: &mut D) -> Result<(), DiskFault>
     ensures ok { OnOk result (IsTrue (D.tells disk.old)
-        → Only (written (D.seen disk.old) 0 made_file) (D.may_leave disk.new)) }
+        → Only (file_written (D.seen disk.old) 0 empty_snapshot_file) (D.may_leave disk.new)) }
     ensures value { OnOk result (IsTrue (D.tells disk.old) → length (D.seen disk.old) ≤ 4096
-        → Only made_file (D.may_leave disk.new)) }
+        → Only empty_snapshot_file (D.may_leave disk.new)) }
     ensures works { IsTrue (D.steady disk.old) → 4096 ≤ D.room disk.old → IsOk result }
 
     // only where the disk failed in this call
-    ensures cause { IfErr result (IsFault (D.faults disk.old) (D.faults disk.new)) }
+    ensures cause { IfErr result (IsFaultOfDisk (D.faults disk.old) (D.faults disk.new)) }
     ensures faults { OnOk result (D.faults disk.new ≡ D.faults disk.old) }
 
     // meanwhile each image is one from before, with any bytes in the first 4,096

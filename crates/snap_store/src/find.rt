@@ -2,9 +2,9 @@
 
 ghost use Rattle.std.specs.Prelude.{◌≡◌, ◌+◌, ◌≤◌, ℕ, IsTrue, IfOk, IfErr, OnOk};
 ghost use Rattle.std.specs.Prelude.{length, take, drop};
-ghost use Rattle.snap_store.specs.File.{newest_area, given};
+ghost use Rattle.snap_store.specs.File.{newest_area, area_given};
 ghost use Rattle.disk_model.specs.Disk.{OnlyLooks};
-ghost use Rattle.snap_store.specs.Frames.{HasCause};
+ghost use Rattle.snap_store.specs.Frames.{HasNewestCause};
 
 use crate::area::Area;
 use crate::fault::{DiskFault, NewestFault};
@@ -35,7 +35,7 @@ fn read_bytes<D: Disk>(
         → bytes ≡ take count (drop start (D.seen disk.old))) }
     ensures works { IsTrue (D.steady disk.old)
         → IfErr result (λ e. e ≡ NewestFault.NoMemory) }
-    ensures cause { IfErr result (HasCause (D.faults disk.old) (D.faults disk.new)) }
+    ensures cause { IfErr result (HasNewestCause (D.faults disk.old) (D.faults disk.new)) }
     ensures faults { IfOk result (λ _. D.faults disk.new ≡ D.faults disk.old) }
     ensures kept { OnlyLooks D.tells D.may_leave D.moment D.left_since D.reach D.room D.label
         disk.old disk.new }
@@ -59,10 +59,10 @@ pub fn find<D: Disk>(
     most: u32,
 ) -> Result<Option<Area>, NewestFault>
     ensures ok { IfOk result (λ area. IsTrue (D.tells disk.old)
-        → area ≡ given (newest_area place most (D.seen disk.old))) }
+        → area ≡ area_given (newest_area place most (D.seen disk.old))) }
     ensures works { IsTrue (D.steady disk.old)
         → IfErr result (λ e. e ≡ NewestFault.NoMemory) }
-    ensures cause { IfErr result (HasCause (D.faults disk.old) (D.faults disk.new)) }
+    ensures cause { IfErr result (HasNewestCause (D.faults disk.old) (D.faults disk.new)) }
     ensures faults { IfOk result (λ _. D.faults disk.new ≡ D.faults disk.old) }
     ensures kept { OnlyLooks D.tells D.may_leave D.moment D.left_since D.reach D.room D.label
         disk.old disk.new }

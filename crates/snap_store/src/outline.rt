@@ -3,9 +3,9 @@
 ghost use Rattle.std.specs.Prelude.{◌≡◌, ◌<◌, ◌≤◌, ◌^◌, ◌&&◌, IsTrue};
 ghost use Rattle.std.specs.Prelude.{IsOk, IfOk, OnOk, List, ℕ};
 ghost use Rattle.std.specs.Prelude.{length, false, option_map, IfSome};
-ghost use Rattle.disk_model.specs.Disk.{Counts, Reads, Only, OnlyLooks};
-ghost use Rattle.snap_store.specs.File.{has_header, gate_byte, head_at, is_whole, is_open};
-ghost use Rattle.snap_store.specs.File.{newest_area, area_at, is_wanted};
+ghost use Rattle.disk_model.specs.Disk.{CountsErrors, ReadsFile, Only, OnlyLooks};
+ghost use Rattle.snap_store.specs.File.{has_header, gate_byte, area_head, is_whole, is_open_area};
+ghost use Rattle.snap_store.specs.File.{newest_area, area_on_side, is_wanted_area};
 ghost use Rattle.snap_store.specs.Outline.{outline_of};
 ghost use Rattle.snap_store.specs.Slots.{slot_in};
 ghost use Rattle.snap_store.specs.declared.side.Side.TheVariants.{A, B};
@@ -47,9 +47,9 @@ pub struct Outline {
 // How an area begins.
 fn read_head<D: Disk>(disk: &mut D, side: Side) -> Result<Head, Failed>
     ensures ok { IfOk result (λ head. IsTrue (D.tells disk.old)
-        → head ≡ head_at side (D.seen disk.old)) }
+        → head ≡ area_head side (D.seen disk.old)) }
     ensures works { IsTrue (D.steady disk.old) → IsOk result × IsTrue (D.steady disk.new) }
-    ensures cause { Counts result (D.faults disk.old) (D.faults disk.new) }
+    ensures cause { CountsErrors result (D.faults disk.old) (D.faults disk.new) }
     ensures seen { OnOk result (IsTrue (D.tells disk.old) → D.seen disk.new ≡ D.seen disk.old) }
     ensures kept { OnlyLooks D.tells D.may_leave D.moment D.left_since D.reach D.room D.label
         disk.old disk.new }
@@ -66,7 +66,7 @@ fn read_head<D: Disk>(disk: &mut D, side: Side) -> Result<Head, Failed>
 // The file begins with the header's bytes; these are its first ones.
 fn is_header(size: u64, bytes: &[u8]) -> bool
     requires { length bytes.now ≡ 10 }
-    ensures { (file : List ℕ) → length file ≡ size → Reads file 0 bytes.now
+    ensures { (file : List ℕ) → length file ≡ size → ReadsFile file 0 bytes.now
         → result ≡ has_header file }
 {
     size >= PAGE as u64 && bytes.starts_with(&HEADER)
@@ -77,7 +77,7 @@ pub fn outline_in<D: Disk>(disk: &mut D) -> Result<Outline, Failed>
     ensures ok { IfOk result (λ l. IsTrue (D.tells disk.old)
         → l ≡ outline_of (D.seen disk.old)) }
     ensures works { IsTrue (D.steady disk.old) → IsOk result × IsTrue (D.steady disk.new) }
-    ensures cause { Counts result (D.faults disk.old) (D.faults disk.new) }
+    ensures cause { CountsErrors result (D.faults disk.old) (D.faults disk.new) }
     ensures seen { OnOk result (IsTrue (D.tells disk.old) → D.seen disk.new ≡ D.seen disk.old) }
     ensures kept { OnlyLooks D.tells D.may_leave D.moment D.left_since D.reach D.room D.label
         disk.old disk.new }
@@ -102,7 +102,7 @@ pub fn synced_outline<D: Disk>(disk: &mut D) -> Result<Outline, Failed>
     ensures ok { IfOk result (λ l. IsTrue (D.tells disk.old)
         → (l ≡ outline_of (D.seen disk.old)) × Only (D.seen disk.old) (D.may_leave disk.new)) }
     ensures works { IsTrue (D.steady disk.old) → IsOk result }
-    ensures cause { Counts result (D.faults disk.old) (D.faults disk.new) }
+    ensures cause { CountsErrors result (D.faults disk.old) (D.faults disk.new) }
     ensures seen { OnOk result (IsTrue (D.tells disk.old) → D.seen disk.new ≡ D.seen disk.old) }
     ensures kept { OnlyLooks D.tells D.may_leave D.moment D.left_since D.reach D.room D.label
         disk.old disk.new }
@@ -127,7 +127,7 @@ impl Outline {
     /// How an area begins.
     pub fn head(&self, side: Side) -> Head
         ensures { (file : List ℕ) → self.now ≡ outline_of file
-            → result ≡ head_at side file }
+            → result ≡ area_head side file }
     {
         match side {
             Side::A => self.a,
@@ -148,7 +148,7 @@ impl Outline {
     // It is open.
     fn is_open(&self, side: Side) -> bool
         ensures { (file : List ℕ) → self.now ≡ outline_of file
-            → result ≡ is_open side file }
+            → result ≡ is_open_area side file }
     {
         self.made && self.gate(side) == 1 && self.is_whole(side)
     }
@@ -175,7 +175,8 @@ impl Outline {
     // It is open, of this OPEN row, and its count isn't above `most`.
     fn is_wanted(&self, side: Side, place: u64, most: u32) -> bool
         ensures { (file : List ℕ) → self.now ≡ outline_of file
-            → result ≡ (is_open side file && is_wanted place most (area_at side file)) }
+            → result
+            ≡ (is_open_area side file && is_wanted_area place most (area_on_side side file)) }
     {
         if !self.is_open(side) {
             return false;
@@ -187,7 +188,7 @@ impl Outline {
     /// The newest open area of this OPEN row with a count of at most `most`.
     pub fn newest(&self, place: u64, most: u32) -> Option<Side>
         ensures value { (file : List ℕ) → self.now ≡ outline_of file
-            → option_map (λ side. area_at side file) result ≡ newest_area place most file }
+            → option_map (λ side. area_on_side side file) result ≡ newest_area place most file }
         ensures whole { (file : List ℕ) → self.now ≡ outline_of file
             → IfSome result (λ side. IsTrue (is_whole side file)) }
     {

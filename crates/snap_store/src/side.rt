@@ -1,8 +1,8 @@
 //! The two areas of a file, and where they stand (own).
 
 ghost use Rattle.std.specs.Prelude.{◌≡◌};
-ghost use Rattle.snap_store.specs.File.{gate_of, start_of};
-ghost use Rattle.snap_store.specs.Slots.{other};
+ghost use Rattle.snap_store.specs.File.{gate_of, side_start};
+ghost use Rattle.snap_store.specs.Slots.{opposite_side};
 
 /// One of the two areas.
 #[derive(Clone, Copy)]
@@ -24,7 +24,7 @@ impl Side {
 
     /// The place where it starts.
     pub fn start(self) -> u64
-        ensures { result ≡ start_of self }
+        ensures { result ≡ side_start self }
     {
         match self {
             Side::A => 4096,
@@ -34,7 +34,7 @@ impl Side {
 
     /// The other one.
     pub fn other(self) -> Side
-        ensures { result ≡ other self }
+        ensures { result ≡ opposite_side self }
     {
         match self {
             Side::A => Side::B,

@@ -4,8 +4,8 @@ ghost use Rattle.std.specs.Prelude.{◌≡◌, ◌⊎◌, ◌+◌, ◌≤◌, �
 ghost use Rattle.std.specs.Prelude.{Option, Some, None, length};
 ghost use Rattle.disk_model.specs.Disk.{LeavesOnly, EachImage};
 ghost use Rattle.disk_model.specs.Work.{Ran};
-ghost use Rattle.snap_store.specs.File.{Stored, gate_of, start_of, head_bytes};
-ghost use Rattle.snap_store.specs.Slots.{slot_of, with_slot, taken_side, other};
+ghost use Rattle.snap_store.specs.File.{Stored, gate_of, side_start, head_bytes};
+ghost use Rattle.snap_store.specs.Slots.{slot_of, with_slot, taken_side, opposite_side};
 ghost use Rattle.snap_store.specs.Images.{IsLaid, Spares, loosened, DuringPut, IsLeft};
 ghost use Rattle.snap_store.specs.declared.slot.Slot.{Slot};
 ghost use Rattle.snap_store.specs.declared.slot.Slot.TheVariants.{Closed, Open, Unsure};
@@ -55,7 +55,7 @@ fn fill<D: Disk>(
         → IsTrue (D.tells disk.old) → LeavesOnly D.moment D.left_since disk.old disk.new
         (IsLaid side Closed area beside beside_area) }
     ensures ran { Ran D.tells D.steady D.room D.label D.faults D.reach
-        (start_of side + 16 + length bytes.now) result disk.old disk.new }
+        (side_start side + 16 + length bytes.now) result disk.old disk.new }
 {
     disk.write_at(side.start(), &head_bytes(place, count, bytes.len() as u32))?;
     write_through(disk, side.start() + 16, bytes)
@@ -120,7 +120,7 @@ fn write_area<D: Disk>(
         (DuringPut side slot area (record { place = place; count = count; bytes = bytes.now })
         beside beside_area) }
     ensures ran { Ran D.tells D.steady D.room D.label D.faults D.reach
-        (start_of side + 16 + length bytes.now) result disk.old disk.new }
+        (side_start side + 16 + length bytes.now) result disk.old disk.new }
 {
     let Ok(()) = close_gate(disk, side, slot) else {
         return Err(slot.loosened());
@@ -148,36 +148,36 @@ pub fn replace<D: Disk>(
     ensures images { OnOk result ((area beside_area : Option Stored)
         → EachImage D.tells D.may_leave disk.old
         (IsLaid (taken_side slots.old) (slot_of slots.old (taken_side slots.old)) area
-        (slot_of slots.old (other (taken_side slots.old))) beside_area)
+        (slot_of slots.old (opposite_side (taken_side slots.old))) beside_area)
         → EachImage D.tells D.may_leave disk.new
         (IsLaid (taken_side slots.old) (Open place count)
         (Some (record { place = place; count = count; bytes = bytes.now }))
-        (slot_of slots.old (other (taken_side slots.old))) beside_area)) }
+        (slot_of slots.old (opposite_side (taken_side slots.old))) beside_area)) }
     ensures err { OnErr result ((now : Slot)
         × (slots.new ≡ with_slot slots.old (taken_side slots.old) now)
         × ((area beside_area : Option Stored)
         → EachImage D.tells D.may_leave disk.old
         (IsLaid (taken_side slots.old) (slot_of slots.old (taken_side slots.old)) area
-        (slot_of slots.old (other (taken_side slots.old))) beside_area)
+        (slot_of slots.old (opposite_side (taken_side slots.old))) beside_area)
         → (left : Option Stored)
         × IsLeft (slot_of slots.old (taken_side slots.old)) area
         (record { place = place; count = count; bytes = bytes.now }) now left
         × EachImage D.tells D.may_leave disk.new
         (IsLaid (taken_side slots.old) now left
-        (slot_of slots.old (other (taken_side slots.old))) beside_area))) }
+        (slot_of slots.old (opposite_side (taken_side slots.old))) beside_area))) }
     ensures gate { OnErr result
         ((slots.new ≡ with_slot slots.old (taken_side slots.old) Closed)
         ⊎ (slots.new ≡ with_slot slots.old (taken_side slots.old) Unsure)) }
     ensures crash { (area beside_area : Option Stored)
         → EachImage D.tells D.may_leave disk.old
         (IsLaid (taken_side slots.old) (slot_of slots.old (taken_side slots.old)) area
-        (slot_of slots.old (other (taken_side slots.old))) beside_area)
+        (slot_of slots.old (opposite_side (taken_side slots.old))) beside_area)
         → IsTrue (D.tells disk.old) → LeavesOnly D.moment D.left_since disk.old disk.new
         (DuringPut (taken_side slots.old) (slot_of slots.old (taken_side slots.old)) area
         (record { place = place; count = count; bytes = bytes.now })
-        (slot_of slots.old (other (taken_side slots.old))) beside_area) }
+        (slot_of slots.old (opposite_side (taken_side slots.old))) beside_area) }
     ensures ran { Ran D.tells D.steady D.room D.label D.faults D.reach
-        (start_of (taken_side slots.old) + 16 + length bytes.now) result disk.old disk.new }
+        (side_start (taken_side slots.old) + 16 + length bytes.now) result disk.old disk.new }
 {
     let side = slots.taken();
     let slot = slots.of(side);

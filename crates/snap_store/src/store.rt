@@ -5,7 +5,7 @@ ghost use Rattle.std.specs.Prelude.{IsOk, IfOk, IfErr, OnOk};
 ghost use Rattle.std.specs.Prelude.{OnErr, MatchResult, Ok, Some, None, IfSome, length, max, true};
 ghost use Rattle.std.specs.Prelude.{false};
 ghost use Rattle.disk_model.specs.Disk.{Only, LeavesOnly, EachImage, SameDisk, OnlyLooks};
-ghost use Rattle.snap_store.specs.Frames.{IsFault, HasCause};
+ghost use Rattle.snap_store.specs.Frames.{IsFaultOfDisk, HasNewestCause};
 ghost use Rattle.snap_store.specs.declared.outline.TheConstants.{MAX_SNAPSHOT};
 
 use crate::area::Area;
@@ -30,22 +30,24 @@ pub struct Store<D: Disk> {
 }
 
 impl<D: Disk> Model for Store<D> {
-    ghost use Rattle.snap_store.specs.Store.{Snapshots, IsSound};
+    ghost use Rattle.snap_store.specs.Store.{Snapshots, IsSoundStore};
 
     ghost Value = { Snapshots D };
 
     ghost view = { λ s. record { disk = s.disk; made = s.made; slots = s.slots } };
 
-    ghost invariant = { λ s. IsSound D.tells D.may_leave D.seen
+    ghost invariant = { λ s. IsSoundStore D.tells D.may_leave D.seen
         (record { disk = s.disk; made = s.made; slots = s.slots }) };
 }
 
 impl<D: Disk> Store<D> {
-    ghost use Rattle.snap_store.specs.File.{Stored, has_header, start_of, open_area, openable_area};
-    ghost use Rattle.snap_store.specs.File.{newest_area, given};
-    ghost use Rattle.snap_store.specs.Slots.{other, slot_of, slot_in, with_slot, taken_side};
+    ghost use Rattle.snap_store.specs.File.{Stored, has_header, side_start, open_area};
+    ghost use Rattle.snap_store.specs.File.{openable_area};
+    ghost use Rattle.snap_store.specs.File.{newest_area, area_given};
+    ghost use Rattle.snap_store.specs.Slots.{opposite_side, slot_of, slot_in, with_slot};
+    ghost use Rattle.snap_store.specs.Slots.{taken_side};
     ghost use Rattle.snap_store.specs.Slots.{is_stored};
-    ghost use Rattle.snap_store.specs.Store.{area_of, IsImageOf, IsPutImage, IsGiven};
+    ghost use Rattle.snap_store.specs.Store.{store_area, IsImageOf, IsPutImage, IsGiven};
     ghost use Rattle.snap_store.specs.declared.side.Side.{Side};
     ghost use Rattle.snap_store.specs.declared.slot.Slot.TheVariants.{Closed, Open, Unsure};
 
@@ -56,7 +58,7 @@ impl<D: Disk> Store<D> {
             → (s.made ≡ has_header (D.seen disk))
             × ((side : Side) → slot_of s.slots side ≡ slot_in side (D.seen disk))) }
         ensures areas { IfOk result (λ s. IsTrue (D.tells disk)
-            → (side : Side) → area_of D.seen s side ≡ openable_area side (D.seen disk)) }
+            → (side : Side) → store_area D.seen s side ≡ openable_area side (D.seen disk)) }
         ensures seen { IfOk result (λ s. IsTrue (D.tells disk)
             → (D.seen s.disk ≡ D.seen disk) × Only (D.seen disk) (D.may_leave s.disk)) }
         ensures images { IfOk result (λ s.
@@ -64,7 +66,7 @@ impl<D: Disk> Store<D> {
         ensures works { IsTrue (D.steady disk) → IsOk result }
 
         // only where the disk failed in this call
-        ensures cause { IfErr result (λ e. IsFault (D.faults disk) (D.faults e.1) e.0) }
+        ensures cause { IfErr result (λ e. IsFaultOfDisk (D.faults disk) (D.faults e.1) e.0) }
         ensures faults { IfOk result (λ s. D.faults s.disk ≡ D.faults disk) }
 
         ensures kept { MatchResult result
@@ -118,12 +120,13 @@ impl<D: Disk> Store<D> {
             ≡ Some (record { place = place; count = count; bytes = bytes.now }))) }
         ensures unmade { self.old.made ≡ false → IsOk result × (self.new ≡ self.old) }
         ensures works { IsTrue (D.steady self.old.disk)
-            → start_of (taken_side self.old.slots) + 16 + length bytes.now
+            → side_start (taken_side self.old.slots) + 16 + length bytes.now
             ≤ D.room self.old.disk
             → IsOk result }
 
         // only where the disk failed in this call; then the gate isn't open
-        ensures cause { IfErr result (IsFault (D.faults self.old.disk) (D.faults self.new.disk)) }
+        ensures cause { IfErr result
+            (IsFaultOfDisk (D.faults self.old.disk) (D.faults self.new.disk)) }
         ensures faults { OnOk result (D.faults self.new.disk ≡ D.faults self.old.disk) }
         ensures err { OnErr result
             ((self.new.slots ≡ with_slot self.old.slots (taken_side self.old.slots) Closed)
@@ -132,16 +135,16 @@ impl<D: Disk> Store<D> {
         // the list of areas: the new one, the old one or none in the place of the one taken
         ensures taken { self.old.made ≡ true → IsTrue (D.tells self.old.disk)
             → MatchResult result
-            (λ _. area_of D.seen self.new (taken_side self.old.slots)
+            (λ _. store_area D.seen self.new (taken_side self.old.slots)
             ≡ Some (record { place = place; count = count; bytes = bytes.now }))
-            (λ _. (area_of D.seen self.new (taken_side self.old.slots)
-            ≡ area_of D.seen self.old (taken_side self.old.slots))
-            ⊎ (area_of D.seen self.new (taken_side self.old.slots) ≡ None)
-            ⊎ (area_of D.seen self.new (taken_side self.old.slots)
+            (λ _. (store_area D.seen self.new (taken_side self.old.slots)
+            ≡ store_area D.seen self.old (taken_side self.old.slots))
+            ⊎ (store_area D.seen self.new (taken_side self.old.slots) ≡ None)
+            ⊎ (store_area D.seen self.new (taken_side self.old.slots)
             ≡ Some (record { place = place; count = count; bytes = bytes.now }))) }
         ensures beside { IsTrue (D.tells self.old.disk)
-            → area_of D.seen self.new (other (taken_side self.old.slots))
-            ≡ area_of D.seen self.old (other (taken_side self.old.slots)) }
+            → store_area D.seen self.new (opposite_side (taken_side self.old.slots))
+            ≡ store_area D.seen self.old (opposite_side (taken_side self.old.slots)) }
 
         // what a stop may leave meanwhile, and after it
         ensures crash { self.old.made ≡ true → IsTrue (D.tells self.old.disk)
@@ -151,7 +154,7 @@ impl<D: Disk> Store<D> {
         ensures images { EachImage D.tells D.may_leave self.new.disk (IsImageOf D.seen self.new) }
 
         ensures reach { D.reach self.new.disk ≤ max (D.reach self.old.disk)
-            (start_of (taken_side self.old.slots) + 16 + length bytes.now) }
+            (side_start (taken_side self.old.slots) + 16 + length bytes.now) }
         ensures kept { SameDisk D.tells D.room D.label self.old.disk self.new.disk
             × (self.new.made ≡ self.old.made) }
     {
@@ -174,7 +177,7 @@ impl<D: Disk> Store<D> {
         most: u32,
     ) -> Result<Option<Area>, NewestFault>
         ensures ok { IfOk result (λ area. IsTrue (D.tells self.old.disk)
-            → area ≡ given (newest_area place most (D.seen self.old.disk))) }
+            → area ≡ area_given (newest_area place most (D.seen self.old.disk))) }
         ensures found { IfOk result (λ area. IsTrue (D.tells self.old.disk)
             → IfSome area (IsGiven D.seen self.old place most)) }
         ensures unmade { self.old.made ≡ false → result ≡ Ok None }
@@ -182,11 +185,12 @@ impl<D: Disk> Store<D> {
             → IfErr result (λ e. e ≡ NewestFault.NoMemory) }
 
         // a disk fault only where the disk failed in this call; want of memory at any place
-        ensures cause { IfErr result (HasCause (D.faults self.old.disk) (D.faults self.new.disk)) }
+        ensures cause { IfErr result
+            (HasNewestCause (D.faults self.old.disk) (D.faults self.new.disk)) }
         ensures faults { IfOk result (λ _. D.faults self.new.disk ≡ D.faults self.old.disk) }
 
         ensures areas { (side : Side) → IsTrue (D.tells self.old.disk)
-            → area_of D.seen self.new side ≡ area_of D.seen self.old side }
+            → store_area D.seen self.new side ≡ store_area D.seen self.old side }
         ensures images { EachImage D.tells D.may_leave self.new.disk (IsImageOf D.seen self.new) }
         ensures kept { OnlyLooks D.tells D.may_leave D.moment D.left_since D.reach D.room D.label
             self.old.disk self.new.disk }

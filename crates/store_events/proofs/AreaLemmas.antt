@@ -2,7 +2,7 @@
 use Rattle.std.proofs.Common.{◌≡◌, ◌⊎◌, inl, inr, ◌∙◌, ℕ, Bool, true, false, List, refl, sym, ap, subst}
 use Rattle.std.specs.Prelude.{◌&&◌, if◌then◌else◌, Option, Some, None, IfSome}
 use Rattle.std.proofs.lemmas.Bool.{cases_Bool}
-use Rattle.disk_model.specs.DiskState.{IsImage}
+use Rattle.disk_model.specs.DiskState.{IsDiskImage}
 use Rattle.disk_model.specs.Plain.{is_image}
 use Rattle.disk_model.proofs.PlainLaws.{image_is}
 use Rattle.snap_store.specs.declared.side.Side.{Side}
@@ -11,9 +11,9 @@ use Rattle.snap_store.specs.declared.slot.Slot.{Slot}
 use Rattle.snap_store.specs.declared.slot.Slot.TheVariants.{Closed, Open, Unsure}
 use Rattle.snap_store.specs.declared.slot.Slots.{Slots}
 use Rattle.snap_store.specs.File.{Stored, whole_area}
-use Rattle.snap_store.specs.Images.{Stands, loosened}
-use Rattle.snap_store.specs.Slots.{other, slot_in, slot_of, taken_side, with_slot}
-use Rattle.snap_store.specs.Store.{held}
+use Rattle.snap_store.specs.Images.{StandsOnSide, loosened}
+use Rattle.snap_store.specs.Slots.{opposite_side, slot_in, slot_of, taken_side, with_slot}
+use Rattle.snap_store.specs.Store.{area_held}
 use Rattle.snap_store.proofs.PutLemmas.{slot_kept, slot_set}
 use Rattle.snap_store.proofs.StoreLemmas.{held_in, held_is, laid_side, sound_images}
 use Rattle.store_events.specs.declared.disk.DiskCall.{DiskCall}
@@ -30,12 +30,12 @@ use Rattle.store_events.specs.declared.state.Stage.TheVariants.{OpenSync}
 use Rattle.store_events.specs.declared.state.Step.{Step}
 use Rattle.store_events.specs.declared.state.Step.TheVariants.{Idle, Put, Opening}
 use Rattle.store_events.specs.declared.state.StoreState.{StoreState}
-use Rattle.store_events.specs.Disk.{counted, disk_after, may_work}
-use Rattle.store_events.specs.Events.{after, called, comes_up, has_room, keep_at, next_call}
-use Rattle.store_events.specs.Events.{onward, opens, put_begins, put_call, put_onward, slots_in, stopped}
+use Rattle.store_events.specs.Disk.{fault_counted, disk_after, may_work}
+use Rattle.store_events.specs.Events.{file_after, store_called, store_comes_up, has_room, keep_at, next_store_call}
+use Rattle.store_events.specs.Events.{store_onward, begins_opening, put_begins, put_call, put_onward, slots_in, store_stopped}
 use Rattle.store_events.specs.Steady.{HasStage, HasStep, IsPutting, IsSteady}
-use Rattle.store_events.specs.Steady.{seen_of, store_of, tells}
-use Rattle.store_events.specs.Areas.{Brings, EachArea, EachOpenable, put_in}
+use Rattle.store_events.specs.Steady.{seen_of, store_of, always_tells}
+use Rattle.store_events.specs.Areas.{Brings, EachArea, EachOpenable, area_being_put}
 use Rattle.store_events.proofs.ImageLemmas.{look_leaves, stays_after, stays_bad, sync_leaves}
 use Rattle.store_events.proofs.SteadyLemmas.{put_leaves, side_of_both}
 
@@ -46,12 +46,12 @@ some_same is = cc
 
 abbrev HeldBy : (Stored → Type 0) → Slots → List ℕ → Type 0
 HeldBy P slots file =
-    (side : Side) (area : Stored) → held side (slot_of slots side) file ≡ Some area → P area
+    (side : Side) (area : Stored) → area_held side (slot_of slots side) file ≡ Some area → P area
 
 -- each side stands there as it stood
 abbrev pub StandsBy : Slots → List ℕ → List ℕ → Type 0
 StandsBy slots file image =
-    (side : Side) → Stands side (slot_of slots side) (whole_area side file) image
+    (side : Side) → StandsOnSide side (slot_of slots side) (whole_area side file) image
 
 held_same : (P : Stored → Type 0) (slots : Slots) (file image : List ℕ) → StandsBy slots file file
     → StandsBy slots file image → HeldBy P slots file → HeldBy P slots image
@@ -66,7 +66,7 @@ closed_side slots a b A = a
 closed_side slots a b B = b
 
 -- in each image, of a file with its header or without
-pub stands_by : (w : StoreState) → IsSteady w → (c : List ℕ) → IsImage w.disk c
+pub stands_by : (w : StoreState) → IsSteady w → (c : List ℕ) → IsDiskImage w.disk c
     → StandsBy w.slots w.disk.seen c ⊎ ((side : Side) → slot_of w.slots side ≡ Closed)
 stands_by w steady c image = elim (cases_Bool w.made) [
   | inl made ↦ inl (λ side. laid_side side w.slots w.disk.seen c
@@ -81,11 +81,11 @@ no_area area is = cc
 held_closed : (P : Stored → Type 0) (slots : Slots) (file : List ℕ)
     → ((side : Side) → slot_of slots side ≡ Closed) → HeldBy P slots file
 held_closed P slots file closed side area is =
-    absurd (no_area area (sym (ap (λ (s : Slot). held side s file) (closed side)) ∙ is))
+    absurd (no_area area (sym (ap (λ (s : Slot). area_held side s file) (closed side)) ∙ is))
 
 -- where it reads as one of its images
 pub held_at : (P : Stored → Type 0) (w : StoreState) → IsSteady w → HeldBy P w.slots w.disk.seen
-    → (c : List ℕ) → IsImage w.disk c → HeldBy P w.slots c
+    → (c : List ℕ) → IsDiskImage w.disk c → HeldBy P w.slots c
 held_at P w steady all c image = elim (stands_by w steady c image) [
   | inr closed ↦ held_closed P w.slots c closed
   | inl there ↦ elim (stands_by w steady w.disk.seen steady.reads) [
@@ -100,7 +100,7 @@ module _ (P : Stored → Type 0) (w : StoreState) (steady : IsSteady w) (all : E
     (area : Stored) (putting : IsPutting w side area) (new : P area) where
   put_stands : (stage : Stage) → HasStage w stage side area → (good : Bool) (reads : List ℕ)
       → (let q = disk_after (put_call stage side area) good reads w.disk in
-      IsImage q q.seen → StandsBy w.slots w.disk.seen q.seen)
+      IsDiskImage q q.seen → StandsBy w.slots w.disk.seen q.seen)
   put_stands stage has good reads read =
       let q = disk_after (put_call stage side area) good reads w.disk in
       side_of_both side w.slots w.disk.seen q.seen
@@ -108,7 +108,7 @@ module _ (P : Stored → Type 0) (w : StoreState) (steady : IsSteady w) (all : E
 
   put_held : (stage : Stage) → HasStage w stage side area → (good : Bool) (reads : List ℕ)
       → (let q = disk_after (put_call stage side area) good reads w.disk in
-      IsImage q q.seen → HeldBy P w.slots q.seen)
+      IsDiskImage q q.seen → HeldBy P w.slots q.seen)
   put_held stage has good reads read =
       let q = disk_after (put_call stage side area) good reads w.disk in
       held_same P w.slots w.disk.seen q.seen
@@ -117,29 +117,29 @@ module _ (P : Stored → Type 0) (w : StoreState) (steady : IsSteady w) (all : E
       (put_stands stage has good reads read) all.held
 
   -- once more is known of the gate
-  known_held : (slot : Slot) → ((x : Stored) → held side slot w.disk.seen ≡ Some x → P x)
+  known_held : (slot : Slot) → ((x : Stored) → area_held side slot w.disk.seen ≡ Some x → P x)
       → HeldBy P (with_slot w.slots side slot) w.disk.seen
   known_held slot here s x is = of (same_or_other side s)
     where
-      same_or_other : (side s : Side) → (s ≡ side) ⊎ (s ≡ other side)
+      same_or_other : (side s : Side) → (s ≡ side) ⊎ (s ≡ opposite_side side)
       same_or_other A A = inl refl
       same_or_other A B = inr refl
       same_or_other B A = inr refl
       same_or_other B B = inl refl
 
-      of : (s ≡ side) ⊎ (s ≡ other side) → P x
+      of : (s ≡ side) ⊎ (s ≡ opposite_side side) → P x
       of (inl same) =
           here x
-          (ap (λ (t : Slot). held side t w.disk.seen) (sym (slot_set side w.slots slot))
-          ∙ subst (λ (t : Side). held t (slot_of (with_slot w.slots side slot) t) w.disk.seen ≡ Some x)
+          (ap (λ (t : Slot). area_held side t w.disk.seen) (sym (slot_set side w.slots slot))
+          ∙ subst (λ (t : Side). area_held t (slot_of (with_slot w.slots side slot) t) w.disk.seen ≡ Some x)
           same is)
       of (inr beside) =
-          all.held (other side) x
-          (ap (λ (t : Slot). held (other side) t w.disk.seen) (sym (slot_kept side w.slots slot))
-          ∙ subst (λ (t : Side). held t (slot_of (with_slot w.slots side slot) t) w.disk.seen ≡ Some x)
+          all.held (opposite_side side) x
+          (ap (λ (t : Slot). area_held (opposite_side side) t w.disk.seen) (sym (slot_kept side w.slots slot))
+          ∙ subst (λ (t : Side). area_held t (slot_of (with_slot w.slots side slot) t) w.disk.seen ≡ Some x)
           beside is)
 
-  closed_held : (x : Stored) → held side Closed w.disk.seen ≡ Some x → P x
+  closed_held : (x : Stored) → area_held side Closed w.disk.seen ≡ Some x → P x
   closed_held x is = absurd (no_area x is)
 
   whole_held : whole_area side w.disk.seen ≡ Some area → (x : Stored)
@@ -179,35 +179,35 @@ module _ (P : Stored → Type 0) (w : StoreState) (steady : IsSteady w) (all : E
 
 module _ (P : Stored → Type 0) where
   bad_areas : (w : StoreState) → IsSteady w → EachArea P w → (step : Step) → HasStep w step
-      → IfSome (put_in step) P → (call : DiskCall) → next_call step ≡ Some call → (reads : List ℕ)
-      → (let q = disk_after call false reads w.disk in IsImage q q.seen
+      → IfSome (area_being_put step) P → (call : DiskCall) → next_store_call step ≡ Some call → (reads : List ℕ)
+      → (let q = disk_after call false reads w.disk in IsDiskImage q q.seen
       → HeldBy P w.slots q.seen)
   bad_areas w steady all Idle has put call is reads read = absurd cc
   bad_areas w steady all (Put stage side area) has put call is reads read =
       let same : put_call stage side area ≡ call = some_same is in
       subst (λ (d : DiskCall). HeldBy P w.slots (disk_after d false reads w.disk).seen) same
       (put_held P w steady all side area has.0 put stage has.1 false reads
-      (subst (λ (d : DiskCall). IsImage (disk_after d false reads w.disk)
+      (subst (λ (d : DiskCall). IsDiskImage (disk_after d false reads w.disk)
       (disk_after d false reads w.disk).seen) (sym same) read))
   bad_areas w steady all (Opening reading) has put call is reads read = of reading is
     where
-      by_image : IsImage w.disk (disk_after call false reads w.disk).seen
+      by_image : IsDiskImage w.disk (disk_after call false reads w.disk).seen
           → HeldBy P w.slots (disk_after call false reads w.disk).seen
       by_image image = held_at P w steady all.held (disk_after call false reads w.disk).seen image
 
       of_sync : Sync ≡ call → HeldBy P w.slots (disk_after call false reads w.disk).seen
       of_sync same =
-          by_image (subst (λ (d : DiskCall). IsImage (disk_after d false reads w.disk)
-          (disk_after d false reads w.disk).seen → IsImage w.disk (disk_after d false reads w.disk).seen)
+          by_image (subst (λ (d : DiskCall). IsDiskImage (disk_after d false reads w.disk)
+          (disk_after d false reads w.disk).seen → IsDiskImage w.disk (disk_after d false reads w.disk).seen)
           same (λ image. sync_leaves false reads w.disk reads steady.reads image) read)
 
       of_look : Look ≡ call → HeldBy P w.slots (disk_after call false reads w.disk).seen
       of_look same =
-          by_image (subst (λ (d : DiskCall). IsImage (disk_after d false reads w.disk)
-          (disk_after d false reads w.disk).seen → IsImage w.disk (disk_after d false reads w.disk).seen)
+          by_image (subst (λ (d : DiskCall). IsDiskImage (disk_after d false reads w.disk)
+          (disk_after d false reads w.disk).seen → IsDiskImage w.disk (disk_after d false reads w.disk).seen)
           same (λ image. look_leaves false reads w.disk reads image) read)
 
-      of : (r : Reading) → next_call (Opening r) ≡ Some call
+      of : (r : Reading) → next_store_call (Opening r) ≡ Some call
           → HeldBy P w.slots (disk_after call false reads w.disk).seen
       of FirstSync is = of_sync (some_same is)
       of AskSize is = of_look (some_same is)
@@ -217,31 +217,31 @@ module _ (P : Stored → Type 0) where
 
   -- each area that may open in an image is one that is held
   pub in_image : (w : StoreState) → IsSteady w → EachArea P w → (image : List ℕ)
-      → IsImage w.disk image → EachOpenable P image
+      → IsDiskImage w.disk image → EachOpenable P image
   in_image w steady all image is side area there =
       all.held side area
-      ((sound_images tells IsImage seen_of (store_of w) steady.sound refl image is).openable side area
+      ((sound_images always_tells IsDiskImage seen_of (store_of w) steady.sound refl image is).openable side area
       there)
 
   shown_side : (side : Side) (file : List ℕ) → slot_of (slots_in file) side ≡ slot_in side file
   shown_side A file = refl
   shown_side B file = refl
 
-  up_areas : (w : StoreState) → IsSteady w → EachArea P w → EachArea P (comes_up w)
+  up_areas : (w : StoreState) → IsSteady w → EachArea P w → EachArea P (store_comes_up w)
   up_areas w steady all = record {
     held = λ side area is.
         in_image w steady all w.disk.seen steady.reads side area
         (sym (held_in side w.disk.seen)
-        ∙ ap (λ (s : Slot). held side s w.disk.seen) (sym (shown_side side w.disk.seen)) ∙ is);
+        ∙ ap (λ (s : Slot). area_held side s w.disk.seen) (sym (shown_side side w.disk.seen)) ∙ is);
     put = tt;
   }
 
   abbrev GoodAreas : StoreState → Step → List ℕ → DiskCall → Type 0
   GoodAreas w step reads call =
-      EachArea P (onward (record w { disk = disk_after call true reads w.disk }) step)
+      EachArea P (store_onward (record w { disk = disk_after call true reads w.disk }) step)
 
   good_areas : (w : StoreState) → IsSteady w → EachArea P w → (step : Step) → HasStep w step
-      → IfSome (put_in step) P → (call : DiskCall) → next_call step ≡ Some call → (reads : List ℕ)
+      → IfSome (area_being_put step) P → (call : DiskCall) → next_store_call step ≡ Some call → (reads : List ℕ)
       → GoodAreas w step reads call
   good_areas w steady all Idle has put call is reads = absurd cc
   good_areas w steady all (Put stage side area) has put call is reads =
@@ -249,7 +249,7 @@ module _ (P : Stored → Type 0) where
       (put_areas P w steady all side area has.0 put stage has.1 reads)
   good_areas w steady all (Opening reading) has put call is reads = of reading is
     where
-      of : (r : Reading) → next_call (Opening r) ≡ Some call → GoodAreas w (Opening r) reads call
+      of : (r : Reading) → next_store_call (Opening r) ≡ Some call → GoodAreas w (Opening r) reads call
       of FirstSync is =
           subst (λ (d : DiskCall). GoodAreas w (Opening FirstSync) reads d) (some_same is)
           (record { held = all.held; put = tt })
@@ -267,15 +267,15 @@ module _ (P : Stored → Type 0) where
           (up_areas w steady all)
 
   called_areas : (w : StoreState) → IsSteady w → EachArea P w → (good : Bool) (reads : List ℕ)
-      → (step : Step) → HasStep w step → IfSome (put_in step) P
-      → (call : Option DiskCall) → next_call step ≡ call
-      → EachArea P (called w good reads step call)
+      → (step : Step) → HasStep w step → IfSome (area_being_put step) P
+      → (call : Option DiskCall) → next_store_call step ≡ call
+      → EachArea P (store_called w good reads step call)
   called_areas w steady all good reads step has put None is = all
   called_areas w steady all true reads step has put (Some call) is = of (may_work call)
     where
       of : (b : Bool)
           → EachArea P (if b
-          then onward (record w { disk = disk_after call true reads w.disk }) step else w)
+          then store_onward (record w { disk = disk_after call true reads w.disk }) step else w)
       of true = good_areas w steady all step has put call is reads
       of false = all
   called_areas w steady all false reads step has put (Some call) is =
@@ -284,7 +284,7 @@ module _ (P : Stored → Type 0) where
       of : (b : Bool) → is_image (disk_after call false reads w.disk) reads ≡ b
           → EachArea P (if b then record w {
             disk = disk_after call false reads w.disk;
-            faults = counted w.faults;
+            faults = fault_counted w.faults;
             step = Idle;
           } else w)
       of true told = record {
@@ -296,7 +296,7 @@ module _ (P : Stored → Type 0) where
   -- ---- the other events
 
   loosened_held : (side : Side) (slot : Slot) (file : List ℕ) (x : Stored)
-      → held side (loosened slot) file ≡ Some x → held side slot file ≡ Some x
+      → area_held side (loosened slot) file ≡ Some x → area_held side slot file ≡ Some x
   loosened_held side Closed file x is = is
   loosened_held side Unsure file x is = is
   loosened_held side (Open place count) file x is = is
@@ -309,13 +309,13 @@ module _ (P : Stored → Type 0) where
   }
     where
       of : (side s : Side) (slot : Slot) → slot_of w.slots side ≡ slot → (x : Stored)
-          → held s (slot_of (with_slot w.slots side (loosened slot)) s) w.disk.seen ≡ Some x → P x
+          → area_held s (slot_of (with_slot w.slots side (loosened slot)) s) w.disk.seen ≡ Some x → P x
       of A A slot at x is = all.held A x
-          (ap (λ (t : Slot). held A t w.disk.seen) at ∙ loosened_held A slot w.disk.seen x is)
+          (ap (λ (t : Slot). area_held A t w.disk.seen) at ∙ loosened_held A slot w.disk.seen x is)
       of A B slot at x is = all.held B x is
       of B A slot at x is = all.held A x is
       of B B slot at x is = all.held B x
-          (ap (λ (t : Slot). held B t w.disk.seen) at ∙ loosened_held B slot w.disk.seen x is)
+          (ap (λ (t : Slot). area_held B t w.disk.seen) at ∙ loosened_held B slot w.disk.seen x is)
 
   keep_areas : (w : StoreState) → EachArea P w → (area : Stored) → P area → (step : Step)
       → EachArea P (keep_at w area step)
@@ -329,26 +329,26 @@ module _ (P : Stored → Type 0) where
   keep_areas w all area new (Opening reading) = all
 
   pub stop_areas : (w : StoreState) → IsSteady w → EachArea P w → (image : List ℕ)
-      → IsImage w.disk image → EachArea P (stopped w image)
+      → IsDiskImage w.disk image → EachArea P (store_stopped w image)
   stop_areas w steady all image is =
       record { held = held_at P w steady all.held image is; put = tt }
 
-  pub opens_areas : (w : StoreState) → EachArea P w → EachArea P (opens w)
+  pub opens_areas : (w : StoreState) → EachArea P w → EachArea P (begins_opening w)
   opens_areas w all = record { held = all.held; put = tt }
 
   pub after_areas : (w : StoreState) (event : Event) → IsSteady w → Brings P event → EachArea P w
-      → EachArea P (after w event)
+      → EachArea P (file_after w event)
   after_areas w (Keep place count bytes) steady brings all =
       keep_areas w all (record { place = place; count = count; bytes = bytes }) brings w.step
   after_areas w (Call good reads) steady brings all =
-      called_areas w steady all good reads w.step steady.step all.put (next_call w.step) refl
+      called_areas w steady all good reads w.step steady.step all.put (next_store_call w.step) refl
   after_areas w (Stop image) steady brings all = of (is_image w.disk image) refl
     where
-      of : (b : Bool) → is_image w.disk image ≡ b → EachArea P (if b then stopped w image else w)
+      of : (b : Bool) → is_image w.disk image ≡ b → EachArea P (if b then store_stopped w image else w)
       of true is = stop_areas w steady all image (image_is w.disk image is)
       of false is = all
   after_areas w Recover steady brings all = of w.up
     where
-      of : (b : Bool) → EachArea P (if b then w else opens w)
+      of : (b : Bool) → EachArea P (if b then w else begins_opening w)
       of true = all
       of false = opens_areas w all

@@ -3,17 +3,17 @@ use Rattle.std.proofs.Common.{◌≡◌, ◌⊎◌, inl, inr, ◌∙◌, ℕ, �
 use Rattle.std.proofs.Common.{ap, subst, arith}
 use Rattle.std.specs.Prelude.{◌&&◌, ◌==◌, if◌then◌else◌, Option, Some, None}
 use Rattle.std.proofs.lemmas.Bool.Decides.{nat_tests}
-use Rattle.disk_model.specs.DiskState.{IsImage}
+use Rattle.disk_model.specs.DiskState.{IsDiskImage}
 use Rattle.disk_model.specs.Plain.{is_image}
 use Rattle.snap_store.specs.declared.side.Side.{Side}
 use Rattle.snap_store.specs.declared.side.Side.TheVariants.{A, B}
 use Rattle.snap_store.specs.declared.slot.Slot.{Slot}
 use Rattle.snap_store.specs.declared.slot.Slot.TheVariants.{Closed, Open, Unsure}
 use Rattle.snap_store.specs.declared.slot.Slots.{Slots}
-use Rattle.snap_store.specs.File.{Stored, area_at, count_at, gate_byte, has_header, is_whole}
-use Rattle.snap_store.specs.File.{open_area, place_at}
+use Rattle.snap_store.specs.File.{Stored, area_on_side, count_at, gate_byte, has_header, is_whole}
+use Rattle.snap_store.specs.File.{open_area, area_place}
 use Rattle.snap_store.specs.Images.{loosened}
-use Rattle.snap_store.specs.Slots.{is_before, other, slot_in, slot_of, taken_side, with_slot}
+use Rattle.snap_store.specs.Slots.{is_before, opposite_side, slot_in, slot_of, taken_side, with_slot}
 use Rattle.snap_store.specs.Store.{IsImageOf}
 use Rattle.snap_store.proofs.PutLemmas.{slot_kept}
 use Rattle.snap_store.proofs.StoreLemmas.{sound_images}
@@ -29,10 +29,10 @@ use Rattle.store_events.specs.declared.state.Stage.TheVariants.{OpenSync}
 use Rattle.store_events.specs.declared.state.Step.{Step}
 use Rattle.store_events.specs.declared.state.Step.TheVariants.{Idle, Put, Opening}
 use Rattle.store_events.specs.declared.state.StoreState.{StoreState}
-use Rattle.store_events.specs.Disk.{counted, disk_after, may_work}
-use Rattle.store_events.specs.Events.{after, called, comes_up, has_room, keep_at, next_call}
-use Rattle.store_events.specs.Events.{onward, opens, put_begins, put_onward, slots_in, stopped}
-use Rattle.store_events.specs.Steady.{HasStep, IsPutting, IsSteady, seen_of, store_of, tells}
+use Rattle.store_events.specs.Disk.{fault_counted, disk_after, may_work}
+use Rattle.store_events.specs.Events.{file_after, store_called, store_comes_up, has_room, keep_at, next_store_call}
+use Rattle.store_events.specs.Events.{store_onward, begins_opening, put_begins, put_onward, slots_in, store_stopped}
+use Rattle.store_events.specs.Steady.{HasStep, IsPutting, IsSteady, seen_of, store_of, always_tells}
 use Rattle.store_events.specs.Areas.{EachArea}
 
 -- an area of this OPEN row and of at least so many inputs is known to be open
@@ -73,7 +73,7 @@ turned_before p n p' n' is = grind (arith, nat_tests)
 abbrev TakenOf : Slots → Side → Type 0
 TakenOf slots taken =
     (place count : ℕ) → slot_of slots taken ≡ Open place count
-    → NoOlder slots (other taken) place count
+    → NoOlder slots (opposite_side taken) place count
 
 taken_of : (a b : Slot) →
     let slots : Slots = record { a = a; b = b } in TakenOf slots (taken_side slots)
@@ -81,7 +81,7 @@ taken_of (Open p n) (Open p' n') =
     of (is_before p n p' n') refl
   where
     of : (t : Bool) → is_before p n p' n' ≡ t → TakenOf (record { a = Open p n; b = Open p' n' })
-        (other (if t then B else A))
+        (opposite_side (if t then B else A))
     of true is place count at =
         let same = open_same p n place count at in (
           p',
@@ -136,21 +136,21 @@ not_zero gate is = grind (arith, nat_tests)
 -- an area that is open in a file is known to be, once the file was read
 pub slot_shown : (side : Side) (file : List ℕ) (area : Stored) → open_area side file ≡ Some area
     → slot_in side file ≡ Open area.place area.count
-unfolding area_at
+unfolding area_on_side
 slot_shown side file area is =
     let parts = open_parts (has_header file) (gate_byte side file == 1) (is_whole side file)
-    (area_at side file) area is in
+    (area_on_side side file) area is in
     let header = parts.0 in
     let one = parts.1 in
     let whole = parts.2 in
     let zero = not_zero (gate_byte side file) parts.1 in
-    let at : Open (place_at side file) (count_at side file) ≡ Open area.place area.count =
+    let at : Open (area_place side file) (count_at side file) ≡ Open area.place area.count =
     ap (λ (x : Stored). Open x.place x.count) parts.3 in
     rw (header, zero, one, whole) at
 
 -- ---- what a put does to what is known
 
-same_or_other : (side s : Side) → (s ≡ side) ⊎ (s ≡ other side)
+same_or_other : (side s : Side) → (s ≡ side) ⊎ (s ≡ opposite_side side)
 same_or_other A A = inl refl
 same_or_other A B = inr refl
 same_or_other B A = inr refl
@@ -158,20 +158,20 @@ same_or_other B B = inl refl
 
 -- what is known of one side is known otherwise, but the open one is the other
 beside_has : (place least : ℕ) (slots : Slots) (side : Side) (slot : Slot) (count : ℕ)
-    → slot_of slots (other side) ≡ Open place count → least ≤ count
+    → slot_of slots (opposite_side side) ≡ Open place count → least ≤ count
     → Has place least (with_slot slots side slot)
 beside_has place least slots side slot count at le =
-    (other side, count, slot_kept side slots slot ∙ at, le)
+    (opposite_side side, count, slot_kept side slots slot ∙ at, le)
 
 -- what is known of the gates, in each image
-pub shown : (w : StoreState) → IsSteady w → (image : List ℕ) → IsImage w.disk image
+pub shown : (w : StoreState) → IsSteady w → (image : List ℕ) → IsDiskImage w.disk image
     → IsImageOf seen_of (store_of w) image
 shown w steady image is =
-    sound_images tells IsImage seen_of (store_of w) steady.sound refl image is
+    sound_images always_tells IsDiskImage seen_of (store_of w) steady.sound refl image is
 
 -- what is known to be open is open in each image
 pub has_open : (place least : ℕ) (w : StoreState) → IsSteady w → Has place least w.slots
-    → (image : List ℕ) → IsImage w.disk image
+    → (image : List ℕ) → IsDiskImage w.disk image
     → (side : Side) × (area : Stored) × (open_area side image ≡ Some area)
     × (area.place ≡ place) × (least ≤ area.count)
 has_open place least w steady has image is =
@@ -189,15 +189,15 @@ module _ (place least : ℕ) (w : StoreState) (steady : IsSteady w)
       → Has place least (with_slot w.slots (taken_side w.slots) slot)
   begins_has has slot = of (same_or_other (taken_side w.slots) has.0)
     where
-      of : (has.0 ≡ taken_side w.slots) ⊎ (has.0 ≡ other (taken_side w.slots))
+      of : (has.0 ≡ taken_side w.slots) ⊎ (has.0 ≡ opposite_side (taken_side w.slots))
           → Has place least (with_slot w.slots (taken_side w.slots) slot)
       of (inl taken) =
           let newer = no_older w.slots place has.1
           (subst (λ (s : Side). slot_of w.slots s ≡ Open place has.1) taken has.2) in
           let same = same_row newer.0 newer.1 place has.1 newer.3
-          (no_later (other (taken_side w.slots)) newer.0 newer.1 newer.2) in
+          (no_later (opposite_side (taken_side w.slots)) newer.0 newer.1 newer.2) in
           beside_has place least w.slots (taken_side w.slots) slot newer.1
-          (subst (λ (p : ℕ). slot_of w.slots (other (taken_side w.slots)) ≡ Open p newer.1) same.0
+          (subst (λ (p : ℕ). slot_of w.slots (opposite_side (taken_side w.slots)) ≡ Open p newer.1) same.0
           newer.2)
           (omega (arith, same.1, has.3))
       of (inr beside) =
@@ -212,7 +212,7 @@ module _ (place least : ℕ) (w : StoreState) (steady : IsSteady w)
       → (slot : Slot) → Has place least (with_slot w.slots side slot)
   known_has side area putting has slot = of (same_or_other side has.0)
     where
-      of : (has.0 ≡ side) ⊎ (has.0 ≡ other side) → Has place least (with_slot w.slots side slot)
+      of : (has.0 ≡ side) ⊎ (has.0 ≡ opposite_side side) → Has place least (with_slot w.slots side slot)
       of (inl own) =
           absurd (loose_shut place has.1
           (subst (λ (s : Slot). loosened s ≡ s)
@@ -240,7 +240,7 @@ module _ (place least : ℕ) (w : StoreState) (steady : IsSteady w)
 
   -- ---- what an opening finds
 
-  up_has : Has place least w.slots → Has place least (comes_up w).slots
+  up_has : Has place least w.slots → Has place least (store_comes_up w).slots
   up_has has =
       let there = (shown w steady w.disk.seen steady.reads).synced has.0 place has.1 has.2 in
       let slot = slot_shown has.0 w.disk.seen there.0 there.2 in (
@@ -255,9 +255,9 @@ module _ (place least : ℕ) (w : StoreState) (steady : IsSteady w)
   -- ---- every event
 
   good_has : (step : Step) → HasStep w step → Has place least w.slots → (call : DiskCall)
-      → (reads : List ℕ) → next_call step ≡ Some call
+      → (reads : List ℕ) → next_store_call step ≡ Some call
       → Has place least
-      (onward (record w { disk = disk_after call true reads w.disk }) step).slots
+      (store_onward (record w { disk = disk_after call true reads w.disk }) step).slots
   good_has Idle held has call reads is = has
   good_has (Put stage side area) held has call reads is =
       put_has side area held.0 has stage call reads
@@ -267,20 +267,20 @@ module _ (place least : ℕ) (w : StoreState) (steady : IsSteady w)
   good_has (Opening ReadA) held has call reads is = has
   good_has (Opening ReadB) held has call reads is =
       subst (λ (d : DiskCall). Has place least
-      (onward (record w { disk = disk_after d true reads w.disk }) (Opening ReadB)).slots)
+      (store_onward (record w { disk = disk_after d true reads w.disk }) (Opening ReadB)).slots)
       (some_same is) (up_has has)
     where
       some_same : {A : Type 0} {x y : A} → Some x ≡ Some y → x ≡ y
       some_same is = cc
 
   called_has : Has place least w.slots → (good : Bool) (reads : List ℕ) (step : Step)
-      → HasStep w step → (call : Option DiskCall) → next_call step ≡ call
-      → Has place least (called w good reads step call).slots
+      → HasStep w step → (call : Option DiskCall) → next_store_call step ≡ call
+      → Has place least (store_called w good reads step call).slots
   called_has has good reads step held None is = has
   called_has has true reads step held (Some call) is = of (may_work call)
     where
       of : (b : Bool) → Has place least
-          (if b then onward (record w { disk = disk_after call true reads w.disk }) step else w).slots
+          (if b then store_onward (record w { disk = disk_after call true reads w.disk }) step else w).slots
       of true = good_has step held has call reads is
       of false = has
   called_has has false reads step held (Some call) is =
@@ -288,7 +288,7 @@ module _ (place least : ℕ) (w : StoreState) (steady : IsSteady w)
     where
       of : (b : Bool) → Has place least (if b then record w {
         disk = disk_after call false reads w.disk;
-        faults = counted w.faults;
+        faults = fault_counted w.faults;
         step = Idle;
       } else w).slots
       of true = has
@@ -305,18 +305,18 @@ module _ (place least : ℕ) (w : StoreState) (steady : IsSteady w)
   keep_has has area (Put stage side old) = has
   keep_has has area (Opening reading) = has
 
-  pub after_has : (event : Event) → Has place least w.slots → Has place least (after w event).slots
+  pub after_has : (event : Event) → Has place least w.slots → Has place least (file_after w event).slots
   after_has (Keep place count bytes) has =
       keep_has has (record { place = place; count = count; bytes = bytes }) w.step
   after_has (Call good reads) has =
-      called_has has good reads w.step steady.step (next_call w.step) refl
+      called_has has good reads w.step steady.step (next_store_call w.step) refl
   after_has (Stop image) has = of (is_image w.disk image)
     where
-      of : (b : Bool) → Has place least (if b then stopped w image else w).slots
+      of : (b : Bool) → Has place least (if b then store_stopped w image else w).slots
       of true = has
       of false = has
   after_has Recover has = of w.up
     where
-      of : (b : Bool) → Has place least (if b then w else opens w).slots
+      of : (b : Bool) → Has place least (if b then w else begins_opening w).slots
       of true = has
       of false = has

@@ -4,7 +4,7 @@ use Rattle.std.specs.Prelude.{◌&&◌, nat_lt, if◌then◌else◌, Some, None}
 use Rattle.std.proofs.lemmas.Bool.Decides.{nat_tests}
 use Rattle.snap_store.specs.declared.side.Side.{Side}
 use Rattle.snap_store.specs.declared.side.Side.TheVariants.{A, B}
-use Rattle.snap_store.specs.File.{Stored, area_at, is_open, is_wanted, newest_area, open_area}
+use Rattle.snap_store.specs.File.{Stored, area_on_side, is_open_area, is_wanted_area, newest_area, open_area}
 use Rattle.snap_store.proofs.Newest.{choice, choice_is}
 
 open_is : (is_there : Bool) (x y : Stored) → (if is_there then Some x else None) ≡ Some y
@@ -13,7 +13,7 @@ open_is true x y is = (refl, cc)
 open_is false x y is = absurd cc
 
 wanted : (place most : ℕ) (x : Stored) → x.place ≡ place → x.count ≤ most
-    → is_wanted place most x ≡ true
+    → is_wanted_area place most x ≡ true
 wanted place most x same le = grind (arith, nat_tests)
 
 -- it isn't older than one of the two
@@ -42,22 +42,22 @@ second true a b = of (nat_lt a.count b.count) refl
 
 module _ (place most : ℕ) (file : List ℕ) where
   abbrev of_side : Side → Bool
-  of_side side = is_open side file && is_wanted place most (area_at side file)
+  of_side side = is_open_area side file && is_wanted_area place most (area_on_side side file)
 
   newest_is : newest_area place most file
-      ≡ choice (of_side A) (of_side B) (area_at A file) (area_at B file)
+      ≡ choice (of_side A) (of_side B) (area_on_side A file) (area_on_side B file)
   newest_is =
-      choice_is (is_open A file) (is_wanted place most (area_at A file)) (is_open B file)
-      (is_wanted place most (area_at B file)) (area_at A file) (area_at B file)
-      (is_wanted place most) refl refl
+      choice_is (is_open_area A file) (is_wanted_area place most (area_on_side A file)) (is_open_area B file)
+      (is_wanted_area place most (area_on_side B file)) (area_on_side A file) (area_on_side B file)
+      (is_wanted_area place most) refl refl
 
   side_is : (side : Side) (area : Stored) → open_area side file ≡ Some area → area.place ≡ place
-      → area.count ≤ most → (of_side side ≡ true) × (area_at side file ≡ area)
+      → area.count ≤ most → (of_side side ≡ true) × (area_on_side side file ≡ area)
   side_is side area there same le =
-      let parts = open_is (is_open side file) (area_at side file) area there in
-      let yes : is_wanted place most (area_at side file) ≡ true =
-      ap (λ (x : Stored). is_wanted place most x) parts.1 ∙ wanted place most area same le in (
-        ap (λ (b : Bool). b && is_wanted place most (area_at side file)) parts.0 ∙ yes,
+      let parts = open_is (is_open_area side file) (area_on_side side file) area there in
+      let yes : is_wanted_area place most (area_on_side side file) ≡ true =
+      ap (λ (x : Stored). is_wanted_area place most x) parts.1 ∙ wanted place most area same le in (
+        ap (λ (b : Bool). b && is_wanted_area place most (area_on_side side file)) parts.0 ∙ yes,
         parts.1,
       )
 
@@ -66,19 +66,19 @@ module _ (place most : ℕ) (file : List ℕ) where
       → (x : Stored) × (newest_area place most file ≡ Some x) × (area.count ≤ x.count)
   newest_since A area there same le =
       let is = side_is A area there same le in
-      let found = first (of_side B) (area_at A file) (area_at B file) in (
+      let found = first (of_side B) (area_on_side A file) (area_on_side B file) in (
         found.0,
         newest_is
-            ∙ ap (λ (b : Bool). choice b (of_side B) (area_at A file) (area_at B file)) is.0
+            ∙ ap (λ (b : Bool). choice b (of_side B) (area_on_side A file) (area_on_side B file)) is.0
             ∙ found.1,
         subst (λ (x : Stored). x.count ≤ found.0.count) is.1 found.2,
       )
   newest_since B area there same le =
       let is = side_is B area there same le in
-      let found = second (of_side A) (area_at A file) (area_at B file) in (
+      let found = second (of_side A) (area_on_side A file) (area_on_side B file) in (
         found.0,
         newest_is
-            ∙ ap (λ (b : Bool). choice (of_side A) b (area_at A file) (area_at B file)) is.0
+            ∙ ap (λ (b : Bool). choice (of_side A) b (area_on_side A file) (area_on_side B file)) is.0
             ∙ found.1,
         subst (λ (x : Stored). x.count ≤ found.0.count) is.1 found.2,
       )

@@ -8,20 +8,21 @@ use Rattle.std.proofs.lemmas.Bool.{cases_Bool, cases_eq}
 use Rattle.std.proofs.lemmas.Bool.Decides.{nat_tests}
 use Rattle.std.proofs.lemmas.List.{append-nil, length-append}
 use Rattle.std.proofs.lemmas.List.Elements.{Contains-append_cases}
+use Rattle.gate_journal.specs.Rows.{is_open}
 use Rattle.gate_journal.specs.declared.command.Command.{Command}
 use Rattle.gate_journal.specs.declared.command.Command.TheVariants.{Open, Line, Char, File, Close}
 use Rattle.gate_journal.specs.declared.row.Row.{Row}
-use Rattle.gate_journal.specs.Rows.{EachNext, IsJournal, IsNext, body, commands_of, may_follow, spelled}
+use Rattle.gate_journal.specs.Rows.{EachNext, IsJournal, IsNext, row_body, commands_of, may_follow, journal_bytes}
 use Rattle.gate_journal.specs.Rows.{is_open as opens_there}
 use Rattle.gate_journal.proofs.RowLemmas.{spelled-push}
 use Rattle.gate_journal.proofs.SeatLemmas.{commands_of-other, commands_of-same}
 use Rattle.story_run.specs.declared.story.Story.{Story}
-use Rattle.session_core.specs.History.{game_of, is_open, later}
+use Rattle.session_core.specs.History.{game_of, later}
 use Rattle.session_core.proofs.RepeatLemmas.{game_of-append, game_of-append-open, joined}
 use Rattle.store_events.specs.declared.state.StoreState.{StoreState}
 use Rattle.session_saves.specs.Agreement.{last_row, opens_of}
-use Rattle.store_events.specs.Rows.{BeginsByRows, RowsAreTold, session_of, told_of}
-use Rattle.store_events.specs.Session.{Begins, EachMayCome, Happening, SessionState, Takes, lived}
+use Rattle.store_events.specs.Rows.{BeginsByRows, RowsAreTold, session_in_rows, told_of}
+use Rattle.store_events.specs.Session.{Begins, EachMayCome, FileHappening, SessionState, Takes, lived}
 use Rattle.store_events.proofs.SessionLemmas.{last_behind, stays_in_agreement}
 
 -- ---- a session's commands begin with an OPEN
@@ -106,7 +107,7 @@ opens_of-push (x ∷ rows) r s =
 -- ---- what holds of each front of a journal
 
 abbrev IsBefore : ℕ → List Row → Type 0
-IsBefore s rows = (row : ℕ) → Contains (opens_of rows s) row → row < length (spelled rows)
+IsBefore s rows = (row : ℕ) → Contains (opens_of rows s) row → row < length (journal_bytes rows)
 
 abbrev IsKnown : ℕ → List Row → Type 0
 IsKnown s rows = IsBegun (commands_of rows s) × IsBefore s rows
@@ -119,10 +120,10 @@ one_there true place row at = of at.0 at.1 at.2
     of (suc k) lt is = absurd (omega (arith, lt))
 one_there false place row at = absurd (omega (arith, at.1))
 
-longer : (rows : List Row) (r : Row) → length (spelled rows) < length (spelled (rows ++ r ∷ []))
+longer : (rows : List Row) (r : Row) → length (journal_bytes rows) < length (journal_bytes (rows ++ r ∷ []))
 longer rows r =
     let is = ap (λ (l : List ℕ). length l) (spelled-push rows r)
-    ∙ length-append (spelled rows) (1 ∷ body r) in
+    ∙ length-append (journal_bytes rows) (1 ∷ row_body r) in
     omega (arith, is)
 
 known_more : (s : ℕ) (rows : List Row) (r : Row) → IsNext rows r → IsKnown s rows
@@ -154,7 +155,7 @@ each_known s front (r ∷ more) each known =
     subst (IsKnown s) (append_assoc front (r ∷ []) more)
     (each_known s (front ++ r ∷ []) more each.1 (known_more s front r each.0 known))
 
-none_there : (s row : ℕ) → Contains (opens_of [] s) row → row < length (spelled [])
+none_there : (s row : ℕ) → Contains (opens_of [] s) row → row < length (journal_bytes [])
 none_there s row at = absurd (omega (arith, at.1))
 
 pub journal_known : (s : ℕ) (rows : List Row) → IsJournal rows → IsKnown s rows
@@ -198,18 +199,18 @@ begins_by_rows stories rows s bytes all agreed =
 module _ (stories : List Story) (rows : List Row) (r : Row) (s : ℕ) (store : StoreState)
     (all : IsJournal rows) (next : IsNext rows r) where
   abbrev x : SessionState
-  x = session_of rows s store
+  x = session_in_rows rows s store
 
-  abbrev Told : List Happening → Type 0
+  abbrev Told : List FileHappening → Type 0
   Told past =
-      (session_of (rows ++ r ∷ []) s store ≡ lived x past) × EachMayCome stories x past
+      (session_in_rows (rows ++ r ∷ []) s store ≡ lived x past) × EachMayCome stories x past
 
   known : IsKnown s rows
   known = journal_known s rows all
 
   parts_are : (places : List ℕ) (game : List Command)
       → opens_of (rows ++ r ∷ []) s ≡ places → game_of (commands_of (rows ++ r ∷ []) s) ≡ game
-      → session_of (rows ++ r ∷ []) s store
+      → session_in_rows (rows ++ r ∷ []) s store
       ≡ record { rows = places; game = game; store = store }
   parts_are places game is_places is_game =
       ap (λ (l : List ℕ). record {

@@ -7,11 +7,11 @@ use Rattle.std.proofs.lemmas.Bool.{cases_Bool, cases_lt}
 use Rattle.std.proofs.lemmas.List.{length-append, length-drop}
 use Rattle.std.proofs.lemmas.List.Elements.{Contains-append_cases, filter_map-append}
 use Rattle.glk_input.specs.declared.input.Input.{Input}
-use Rattle.disk_model.specs.DiskState.{IsImage}
+use Rattle.disk_model.specs.DiskState.{IsDiskImage}
 use Rattle.gate_journal.specs.declared.command.Command.{Command}
 use Rattle.story_run.specs.declared.story.Story.{Story}
 use Rattle.story_run.specs.World.{WorldState}
-use Rattle.story_run.specs.Solo.{is_wanted, turned}
+use Rattle.story_run.specs.Solo.{is_wanted, world_after_input}
 use Rattle.story_snap.specs.Bytes.{HasBytes}
 use Rattle.session_core.specs.History.{input_of}
 use Rattle.session_core.specs.Turns.{turns_by}
@@ -20,12 +20,12 @@ use Rattle.snap_store.specs.declared.side.Side.TheVariants.{A, B}
 use Rattle.snap_store.specs.declared.slot.Slot.{Slot}
 use Rattle.snap_store.specs.declared.slot.Slot.TheVariants.{Open}
 use Rattle.snap_store.specs.declared.slot.Slots.{Slots}
-use Rattle.snap_store.specs.File.{Stored, given, newest_area, open_area}
+use Rattle.snap_store.specs.File.{Stored, area_given, newest_area, open_area}
 use Rattle.snap_store.specs.Slots.{slot_in, slot_of}
-use Rattle.snap_store.specs.Store.{held}
+use Rattle.snap_store.specs.Store.{area_held}
 use Rattle.snap_store.proofs.StoreLemmas.{held_in, open_openable}
 use Rattle.session_saves.specs.Agreement.{Agrees, IsAgreedFile, last_row}
-use Rattle.session_saves.specs.Game.{inputs_of, turns_after, turns_from, world_at}
+use Rattle.session_saves.specs.Game.{inputs_of, turns_after, turns_of_inputs, world_at}
 use Rattle.session_saves.specs.Saves.{HasSince, IsKeptUp, due_in, none_missed}
 use Rattle.session_saves.specs.Warming.{count_in}
 use Rattle.session_saves.proofs.AgreementLemmas.{last-append, last_contained, more_commands, new_opens}
@@ -33,13 +33,13 @@ use Rattle.session_saves.proofs.KeptUpLemmas.{is_within_sixteen, stays_kept_up}
 use Rattle.store_events.specs.declared.event.Event.{Event}
 use Rattle.store_events.specs.declared.event.Event.TheVariants.{Keep, Call, Stop, Recover}
 use Rattle.store_events.specs.declared.state.StoreState.{StoreState}
-use Rattle.store_events.specs.Areas.{Brings, EachArea, put_in}
-use Rattle.store_events.specs.Events.{after, down_over, slots_in}
+use Rattle.store_events.specs.Areas.{Brings, EachArea, area_being_put}
+use Rattle.store_events.specs.Events.{file_after, store_down_over, slots_in}
 use Rattle.store_events.specs.Laws.{HasOpen, StaysInAgreement, StaysOpen, StaysSteady}
 use Rattle.store_events.specs.Laws.{WarmsInSixteen}
-use Rattle.store_events.specs.Session.{Begins, Does, EachMayCome, EachMissesNone, Happening, IsDue}
-use Rattle.store_events.specs.Session.{IsInAgreement, IsOwn, IsUpToDate, MayCome, MissesNone}
-use Rattle.store_events.specs.Session.{SessionState, Takes, inputs, lived, next}
+use Rattle.store_events.specs.Session.{Begins, Does, EachMayCome, EachMissesNone, FileHappening, IsDue}
+use Rattle.store_events.specs.Session.{IsInAgreement, IsSnapshotOfGame, IsUpToDate, MayCome, MissesNone}
+use Rattle.store_events.specs.Session.{SessionState, Takes, inputs, lived, session_after}
 use Rattle.store_events.specs.Steady.{IsSteady}
 use Rattle.store_events.proofs.AreaLemmas.{after_areas, in_image}
 use Rattle.store_events.proofs.KnownLemmas.{Has, after_has, has_open, shown, slot_shown}
@@ -66,13 +66,13 @@ since_of place least slots has =
 
 since_after : (w : StoreState) (event : Event) (place least : ℕ) → IsSteady w
     → EachArea (λ area. area.place ≤ place) w → HasSince place least w.slots
-    → HasSince place least (after w event).slots
+    → HasSince place least (file_after w event).slots
 since_after w event place least steady rows has =
-    since_of place least (after w event).slots
+    since_of place least (file_after w event).slots
     (after_has place least w steady rows event (of_since place least w.slots has))
 
 since_open : (w : StoreState) (place least : ℕ) (image : List ℕ) → IsSteady w
-    → HasSince place least w.slots → IsImage w.disk image
+    → HasSince place least w.slots → IsDiskImage w.disk image
     → (side : Side) × (area : Stored) × (open_area side image ≡ Some area)
     × (area.place ≡ place) × (least ≤ area.count)
 since_open w place least image steady has is =
@@ -92,7 +92,7 @@ map_areas : (P Q : Stored → Type 0) (w : StoreState) → ((area : Stored) → 
     → EachArea P w → EachArea Q w
 map_areas P Q w each all = record {
   held = λ side area is. each area (all.held side area is);
-  put = some_map P Q each (put_in w.step) all.put;
+  put = some_map P Q each (area_being_put w.step) all.put;
 }
 
 -- ---- the session's own snapshot
@@ -101,7 +101,7 @@ one_world : (v w : WorldState) → Some v ≡ Some w → v ≡ w
 one_world v w e = cc
 
 own_agrees : (stories : List Story) (x : SessionState) (place count : ℕ) (bytes : List ℕ)
-    → IsOwn stories x place count bytes
+    → IsSnapshotOfGame stories x place count bytes
     → Agrees stories x.rows x.game (record { place = place; count = count; bytes = bytes })
 own_agrees stories x place count bytes own = record {
   row = last_contained x.rows place own.row;
@@ -143,8 +143,8 @@ module _ (stories : List Story) where
       only : Contains (place ∷ []) row → row ≡ place
       only at = single row place at.0 at.1 at.2
 
-  next_agrees : (x : SessionState) (one : Happening) → MayCome stories x one
-      → IsInAgreement stories x → IsInAgreement stories (next x one)
+  next_agrees : (x : SessionState) (one : FileHappening) → MayCome stories x one
+      → IsInAgreement stories x → IsInAgreement stories (session_after x one)
   next_agrees x (Does event) may kept = record {
     steady = after_steady x.store event kept.steady;
     areas =
@@ -170,11 +170,11 @@ module _ (stories : List Story) where
     last = last_behind x.rows place may;
   }
 
-  lived_agrees : (x : SessionState) (past : List Happening) → IsInAgreement stories x
+  lived_agrees : (x : SessionState) (past : List FileHappening) → IsInAgreement stories x
       → EachMayCome stories x past → IsInAgreement stories (lived x past)
   lived_agrees x [] kept may = kept
   lived_agrees x (one ∷ more) kept may =
-      lived_agrees (next x one) more (next_agrees x one may.0 kept) may.1
+      lived_agrees (session_after x one) more (next_agrees x one may.0 kept) may.1
 
   shown_side : (side : Side) (file : List ℕ) → slot_of (slots_in file) side ≡ slot_in side file
   shown_side A file = refl
@@ -183,14 +183,14 @@ module _ (stories : List Story) where
   begins_agreed : (rows : List ℕ) (game : List Command) (bytes : List ℕ)
       → ((place : ℕ) → last_row rows ≡ Some place → (row : ℕ) → Contains rows row → row ≤ place)
       → IsAgreedFile stories rows game bytes
-      → IsInAgreement stories (record { rows = rows; game = game; store = down_over bytes })
+      → IsInAgreement stories (record { rows = rows; game = game; store = store_down_over bytes })
   begins_agreed rows game bytes last agreed = record {
     steady = down_steady bytes;
     areas = record {
       held = λ side area is.
           agreed side area
           (sym (held_in side bytes)
-          ∙ ap (λ (s : Slot). held side s bytes) (sym (shown_side side bytes)) ∙ is);
+          ∙ ap (λ (s : Slot). area_held side s bytes) (sym (shown_side side bytes)) ∙ is);
       put = tt;
     };
     last = last;
@@ -250,8 +250,8 @@ module _ (stories : List Story) where
     | inr not ↦ not
   ]
 
-  next_kept : (x : SessionState) (one : Happening) → IsInAgreement stories x
-      → MissesNone x one → IsUpToDate x → IsUpToDate (next x one)
+  next_kept : (x : SessionState) (one : FileHappening) → IsInAgreement stories x
+      → MissesNone x one → IsUpToDate x → IsUpToDate (session_after x one)
   next_kept x (Does event) kept misses date place is = λ clear due some before.
       since_after x.store event place (due * 16) kept.steady (earlier_rows x kept place is)
       (date place is clear due some before)
@@ -268,16 +268,16 @@ module _ (stories : List Story) where
       stays_kept_up.begins x.store.slots none_missed last (length (inputs_of (command ∷ [])))
       (first_input (input_of command) command refl)
 
-  lived_kept : (x : SessionState) (past : List Happening) → IsInAgreement stories x
+  lived_kept : (x : SessionState) (past : List FileHappening) → IsInAgreement stories x
       → EachMayCome stories x past → IsUpToDate x → EachMissesNone x past
       → IsUpToDate (lived x past)
   lived_kept x [] kept may date misses = date
   lived_kept x (one ∷ more) kept may date misses =
-      lived_kept (next x one) more (next_agrees x one may.0 kept) may.1
+      lived_kept (session_after x one) more (next_agrees x one may.0 kept) may.1
       (next_kept x one kept misses.0 date) misses.1
 
   begins_date : (rows : List ℕ) (game : List Command) (bytes : List ℕ)
-      → (let x : SessionState = record { rows = rows; game = game; store = down_over bytes } in
+      → (let x : SessionState = record { rows = rows; game = game; store = store_down_over bytes } in
       (inputs x ≤ 16) ⊎ HasOpen x bytes → IsUpToDate x)
   begins_date rows game bytes (inl few) place is =
       stays_kept_up.begins (slots_in bytes) none_missed place (length (inputs_of game)) few
@@ -300,9 +300,9 @@ module _ (stories : List Story) where
   turns_most : (world : WorldState) (xs : List Input) → turns_by world xs ≤ length xs
   turns_most world [] = omega arith
   turns_most world (x ∷ xs) =
-      omega (arith, turns_most (turned world x) xs, wanted_turns (is_wanted world x))
+      omega (arith, turns_most (world_after_input world x) xs, wanted_turns (is_wanted world x))
 
-  turns_few : (world : Option WorldState) (xs : List Input) → turns_from world xs ≤ length xs
+  turns_few : (world : Option WorldState) (xs : List Input) → turns_of_inputs world xs ≤ length xs
   turns_few None xs = omega arith
   turns_few (Some world) xs = turns_most world xs
 
@@ -316,17 +316,17 @@ module _ (stories : List Story) where
       )
 
   found_count : (newest : Option Stored) (x : Stored) → newest ≡ Some x
-      → count_in (given newest) ≡ x.count
-  found_count newest x is = ap (λ (o : Option Stored). count_in (given o)) is
+      → count_in (area_given newest) ≡ x.count
+  found_count newest x is = ap (λ (o : Option Stored). count_in (area_given o)) is
 
   warms_at : (x : SessionState) (place : ℕ) (image : List ℕ) → IsInAgreement stories x
-      → IsUpToDate x → last_row x.rows ≡ Some place → IsImage x.store.disk image
-      → turns_after stories x.game (count_in (given (newest_area place (inputs x) image))) ≤ 16
+      → IsUpToDate x → last_row x.rows ≡ Some place → IsDiskImage x.store.disk image
+      → turns_after stories x.game (count_in (area_given (newest_area place (inputs x) image))) ≤ 16
   warms_at x place image kept date is at = elim (cases_lt 16 (inputs x)) [
     | inr few ↦ omega (
       arith,
       few,
-      behind x.game (count_in (given (newest_area place (inputs x) image))),
+      behind x.game (count_in (area_given (newest_area place (inputs x) image))),
     )
     | inl many ↦
         let least = inputs x - 16 in
@@ -346,7 +346,7 @@ module _ (stories : List Story) where
           count,
           newest.2,
           there.4,
-          behind x.game (count_in (given (newest_area place (inputs x) image))),
+          behind x.game (count_in (area_given (newest_area place (inputs x) image))),
         )
   ]
 

@@ -2,7 +2,7 @@
 use Rattle.std.specs.Prelude.{◌≡◌, ℕ, List, Option, Some, None, IfSome}
 use Rattle.snap_store.specs.declared.side.Side.{Side}
 use Rattle.snap_store.specs.File.{Stored, openable_area}
-use Rattle.snap_store.specs.Store.{area_of}
+use Rattle.snap_store.specs.Store.{store_area}
 use Rattle.store_events.specs.declared.event.Event.{Event}
 use Rattle.store_events.specs.declared.event.Event.TheVariants.{Keep, Call, Stop, Recover}
 use Rattle.store_events.specs.declared.state.Step.{Step}
@@ -11,16 +11,16 @@ use Rattle.store_events.specs.declared.state.StoreState.{StoreState}
 use Rattle.store_events.specs.Steady.{seen_of, store_of}
 
 -- the area that a put is writing
-abbrev pub put_in : Step → Option Stored
-put_in Idle = None
-put_in (Put stage side area) = Some area
-put_in (Opening reading) = None
+abbrev pub area_being_put : Step → Option Stored
+area_being_put Idle = None
+area_being_put (Put stage side area) = Some area
+area_being_put (Opening reading) = None
 
 -- Each area that the store holds has this, and the one that a put is writing.
 pub record EachArea (P : Stored → Type 0) (w : StoreState) : Type 0 where
   pub held :
-      (side : Side) (area : Stored) → area_of seen_of (store_of w) side ≡ Some area → P area
-  pub put : IfSome (put_in w.step) P
+      (side : Side) (area : Stored) → store_area seen_of (store_of w) side ≡ Some area → P area
+  pub put : IfSome (area_being_put w.step) P
 
 -- Each area that may open in a file has it.
 abbrev pub EachOpenable : (Stored → Type 0) → List ℕ → Type 0

@@ -21,8 +21,8 @@ may_work Sync = true
 may_work Look = true
 
 -- a count of faults, one higher; it stands still at the end of a u64
-abbrev pub counted : ℕ → ℕ
-counted faults = min (faults + 1) (2 ^ 64 - 1)
+abbrev pub fault_counted : ℕ → ℕ
+fault_counted faults = min (faults + 1) (2 ^ 64 - 1)
 
 -- Whether a call may happen so: a write past the room isn't good, and after a call that isn't good
 -- a disk reads as one of its images.

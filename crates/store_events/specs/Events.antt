@@ -9,7 +9,7 @@ use Rattle.snap_store.specs.declared.side.Side.TheVariants.{A, B}
 use Rattle.snap_store.specs.declared.slot.Slot.{Slot}
 use Rattle.snap_store.specs.declared.slot.Slot.TheVariants.{Closed, Open, Unsure}
 use Rattle.snap_store.specs.declared.slot.Slots.{Slots}
-use Rattle.snap_store.specs.File.{Stored, gate_of, has_header, head_bytes, start_of}
+use Rattle.snap_store.specs.File.{Stored, gate_of, has_header, head_bytes, side_start}
 use Rattle.snap_store.specs.Images.{loosened}
 use Rattle.snap_store.specs.Slots.{is_closed, slot_in, slot_of, taken_side, with_slot}
 use Rattle.store_events.specs.declared.disk.DiskCall.{DiskCall}
@@ -25,25 +25,25 @@ use Rattle.store_events.specs.declared.state.Stage.TheVariants.{OpenSync}
 use Rattle.store_events.specs.declared.state.Step.{Step}
 use Rattle.store_events.specs.declared.state.Step.TheVariants.{Idle, Put, Opening}
 use Rattle.store_events.specs.declared.state.StoreState.{StoreState}
-use Rattle.store_events.specs.Disk.{disk_after, may_work, counted}
+use Rattle.store_events.specs.Disk.{disk_after, may_work, fault_counted}
 
 -- the device call that a stage of a put makes
 abbrev pub put_call : Stage → Side → Stored → DiskCall
 put_call CloseWrite side area = Write (gate_of side) (0 ∷ [])
 put_call CloseSync side area = Sync
 put_call HeadWrite side area =
-    Write (start_of side) (head_bytes area.place area.count (length area.bytes))
-put_call BytesWrite side area = Write (start_of side + 16) area.bytes
+    Write (side_start side) (head_bytes area.place area.count (length area.bytes))
+put_call BytesWrite side area = Write (side_start side + 16) area.bytes
 put_call AreaSync side area = Sync
 put_call OpenWrite side area = Write (gate_of side) (1 ∷ [])
 put_call OpenSync side area = Sync
 
 -- the device call that a step makes
-abbrev pub next_call : Step → Option DiskCall
-next_call Idle = None
-next_call (Put stage side area) = Some (put_call stage side area)
-next_call (Opening FirstSync) = Some Sync
-next_call (Opening reading) = Some Look
+abbrev pub next_store_call : Step → Option DiskCall
+next_store_call Idle = None
+next_store_call (Put stage side area) = Some (put_call stage side area)
+next_store_call (Opening FirstSync) = Some Sync
+next_store_call (Opening reading) = Some Look
 
 -- the put goes on with this stage
 abbrev pub comes_to : StoreState → Stage → Side → Stored → StoreState
@@ -62,8 +62,8 @@ abbrev pub slots_in : List ℕ → Slots
 slots_in file = record { a = slot_in A file; b = slot_in B file }
 
 -- an opening has ended well
-abbrev pub comes_up : StoreState → StoreState
-comes_up w =
+abbrev pub store_comes_up : StoreState → StoreState
+store_comes_up w =
     record w {
       up = true;
       made = has_header w.disk.seen;
@@ -83,29 +83,29 @@ put_onward w OpenWrite side area = comes_to w OpenSync side area
 put_onward w OpenSync side area = idle (knows w side (Open area.place area.count))
 
 -- after a good call of this step
-abbrev pub onward : StoreState → Step → StoreState
-onward w Idle = w
-onward w (Put stage side area) = put_onward w stage side area
-onward w (Opening FirstSync) = record w { step = Opening AskSize }
-onward w (Opening AskSize) = record w { step = Opening ReadFront }
-onward w (Opening ReadFront) = record w { step = Opening ReadA }
-onward w (Opening ReadA) = record w { step = Opening ReadB }
-onward w (Opening ReadB) = comes_up w
+abbrev pub store_onward : StoreState → Step → StoreState
+store_onward w Idle = w
+store_onward w (Put stage side area) = put_onward w stage side area
+store_onward w (Opening FirstSync) = record w { step = Opening AskSize }
+store_onward w (Opening AskSize) = record w { step = Opening ReadFront }
+store_onward w (Opening ReadFront) = record w { step = Opening ReadA }
+store_onward w (Opening ReadA) = record w { step = Opening ReadB }
+store_onward w (Opening ReadB) = store_comes_up w
 
 -- The call that a step makes, by whether it is good and by what the disk then reads as. A write
 -- past the room isn't good, and a disk reads as one of its images. Where it isn't good what was
 -- under way ends.
-abbrev pub called : StoreState → Bool → List ℕ → Step → Option DiskCall → StoreState
-called w good reads step None = w
-called w true reads step (Some call) =
+abbrev pub store_called : StoreState → Bool → List ℕ → Step → Option DiskCall → StoreState
+store_called w good reads step None = w
+store_called w true reads step (Some call) =
     if may_work call
-    then onward (record w { disk = disk_after call true reads w.disk }) step
+    then store_onward (record w { disk = disk_after call true reads w.disk }) step
     else w
-called w false reads step (Some call) =
+store_called w false reads step (Some call) =
     if is_image (disk_after call false reads w.disk) reads
     then record w {
       disk = disk_after call false reads w.disk;
-      faults = counted w.faults;
+      faults = fault_counted w.faults;
       step = Idle;
     }
     else w
@@ -138,12 +138,12 @@ keep_at w area Idle =
 keep_at w area step = w
 
 -- Stop: the disk holds the image
-abbrev pub stopped : StoreState → List ℕ → StoreState
-stopped w image = record w { up = false; disk = settled image; step = Idle }
+abbrev pub store_stopped : StoreState → List ℕ → StoreState
+store_stopped w image = record w { up = false; disk = settled image; step = Idle }
 
 -- an opening begins
-abbrev pub opens : StoreState → StoreState
-opens w = record w { up = false; step = Opening FirstSync }
+abbrev pub begins_opening : StoreState → StoreState
+begins_opening w = record w { up = false; step = Opening FirstSync }
 
 -- an opening is under way, or a put
 abbrev pub is_opening : Step → Bool
@@ -157,21 +157,21 @@ is_putting (Put stage side area) = true
 is_putting (Opening reading) = false
 
 -- the file after an event; one that isn't enabled leaves it
-abbrev pub after : StoreState → Event → StoreState
-after w (Keep place count bytes) =
+abbrev pub file_after : StoreState → Event → StoreState
+file_after w (Keep place count bytes) =
     keep_at w (record { place = place; count = count; bytes = bytes }) w.step
-after w (Call good reads) = called w good reads w.step (next_call w.step)
-after w (Stop image) = if is_image w.disk image then stopped w image else w
-after w Recover = if w.up then w else opens w
+file_after w (Call good reads) = store_called w good reads w.step (next_store_call w.step)
+file_after w (Stop image) = if is_image w.disk image then store_stopped w image else w
+file_after w Recover = if w.up then w else begins_opening w
 
 -- the file after these events, one after the other
-abbrev pub run : StoreState → List Event → StoreState
-run w [] = w
-run w (event ∷ events) = run (after w event) events
+abbrev pub run_store : StoreState → List Event → StoreState
+run_store w [] = w
+run_store w (event ∷ events) = run_store (file_after w event) events
 
 -- a host is down over a file that holds these bytes, with nothing pending
-abbrev pub down_over : List ℕ → StoreState
-down_over bytes =
+abbrev pub store_down_over : List ℕ → StoreState
+store_down_over bytes =
     record {
       up = false;
       disk = settled bytes;

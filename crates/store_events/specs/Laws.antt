@@ -1,11 +1,11 @@
 -- Laws of a session's snapshot file, over every order of events (own).
 use Rattle.std.specs.Prelude.{◌≡◌, ◌⊎◌, ℕ, ◌≤◌, ◌+◌, ◌*◌, List, Some}
 use Rattle.std.specs.List.{Contains}
-use Rattle.disk_model.specs.DiskState.{IsImage}
+use Rattle.disk_model.specs.DiskState.{IsDiskImage}
 use Rattle.gate_journal.specs.declared.command.Command.{Command}
 use Rattle.story_run.specs.declared.story.Story.{Story}
 use Rattle.snap_store.specs.declared.side.Side.{Side}
-use Rattle.snap_store.specs.File.{Stored, given, newest_area, open_area}
+use Rattle.snap_store.specs.File.{Stored, area_given, newest_area, open_area}
 use Rattle.snap_store.specs.Store.{IsImageOf}
 use Rattle.session_saves.specs.Agreement.{IsAgreedFile, last_row}
 use Rattle.session_saves.specs.Game.{turns_after}
@@ -14,19 +14,19 @@ use Rattle.session_saves.specs.Warming.{count_in}
 use Rattle.store_events.specs.declared.event.Event.{Event}
 use Rattle.store_events.specs.declared.state.StoreState.{StoreState}
 use Rattle.store_events.specs.Areas.{EachArea}
-use Rattle.store_events.specs.Events.{after, down_over}
-use Rattle.store_events.specs.Session.{EachMayCome, EachMissesNone, Happening, IsInAgreement}
+use Rattle.store_events.specs.Events.{file_after, store_down_over}
+use Rattle.store_events.specs.Session.{EachMayCome, EachMissesNone, FileHappening, IsInAgreement}
 use Rattle.store_events.specs.Session.{IsUpToDate, SessionState, inputs, lived}
 use Rattle.store_events.specs.Steady.{IsSteady, seen_of, store_of}
 
 -- Whatever happens, what is known of the gates holds in each image that a stop may leave, and each
 -- image shows the store that these tell of.
 pub record StaysSteady : Type 0 where
-  pub begins : (bytes : List ℕ) → IsSteady (down_over bytes)
+  pub begins : (bytes : List ℕ) → IsSteady (store_down_over bytes)
   pub goes_on :
-      (w : StoreState) (event : Event) → IsSteady w → IsSteady (after w event)
+      (w : StoreState) (event : Event) → IsSteady w → IsSteady (file_after w event)
   pub shows :
-      (w : StoreState) (image : List ℕ) → IsSteady w → IsImage w.disk image
+      (w : StoreState) (image : List ℕ) → IsSteady w → IsDiskImage w.disk image
       → IsImageOf seen_of (store_of w) image
 
 -- An area that is known to be open stays so, or a newer one of its OPEN row is, whatever the next
@@ -35,10 +35,10 @@ pub record StaysOpen : Type 0 where
   pub goes_on :
       (w : StoreState) (event : Event) (place least : ℕ) → IsSteady w
       → EachArea (λ area. area.place ≤ place) w → HasSince place least w.slots
-      → HasSince place least (after w event).slots
+      → HasSince place least (file_after w event).slots
   pub shows :
       (w : StoreState) (place least : ℕ) (image : List ℕ) → IsSteady w
-      → HasSince place least w.slots → IsImage w.disk image
+      → HasSince place least w.slots → IsDiskImage w.disk image
       → (side : Side) × (area : Stored) × (open_area side image ≡ Some area)
       × (area.place ≡ place) × (least ≤ area.count)
 
@@ -51,14 +51,14 @@ pub record StaysInAgreement (stories : List Story) : Type 0 where
       → ((place : ℕ) → last_row rows ≡ Some place
       → (row : ℕ) → Contains rows row → row ≤ place)
       → IsAgreedFile stories rows game bytes
-      → IsInAgreement stories (record { rows = rows; game = game; store = down_over bytes })
+      → IsInAgreement stories (record { rows = rows; game = game; store = store_down_over bytes })
   pub goes_on :
-      (x : SessionState) (past : List Happening)
+      (x : SessionState) (past : List FileHappening)
       → IsInAgreement stories x → EachMayCome stories x past
       → IsInAgreement stories (lived x past)
   pub shows :
       (x : SessionState) (image : List ℕ) → IsInAgreement stories x
-      → IsImage x.store.disk image → IsAgreedFile stories x.rows x.game image
+      → IsDiskImage x.store.disk image → IsAgreedFile stories x.rows x.game image
 
 -- an area of the last OPEN row is open in the file that has all inputs behind it but the last 16
 abbrev pub HasOpen : SessionState → List ℕ → Type 0
@@ -74,15 +74,15 @@ pub record WarmsInSixteen (stories : List Story) : Type 0 where
   pub begins :
       (rows : List ℕ) (game : List Command) (bytes : List ℕ)
       → (let x : SessionState =
-      record { rows = rows; game = game; store = down_over bytes } in
+      record { rows = rows; game = game; store = store_down_over bytes } in
       (inputs x ≤ 16) ⊎ HasOpen x bytes → IsUpToDate x)
   pub goes_on :
-      (x : SessionState) (past : List Happening)
+      (x : SessionState) (past : List FileHappening)
       → IsInAgreement stories x → EachMayCome stories x past
       → IsUpToDate x → EachMissesNone x past
       → IsUpToDate (lived x past)
   pub warms :
       (x : SessionState) (place : ℕ) (image : List ℕ)
       → IsInAgreement stories x → IsUpToDate x
-      → last_row x.rows ≡ Some place → IsImage x.store.disk image
-      → turns_after stories x.game (count_in (given (newest_area place (inputs x) image))) ≤ 16
+      → last_row x.rows ≡ Some place → IsDiskImage x.store.disk image
+      → turns_after stories x.game (count_in (area_given (newest_area place (inputs x) image))) ≤ 16

@@ -1,13 +1,13 @@
 -- What holds of a session's snapshot file at any time (own).
 use Rattle.std.specs.Prelude.{◌≡◌, ℕ, Bool, true, List, length, Some}
-use Rattle.disk_model.specs.Disk.{written}
-use Rattle.disk_model.specs.DiskState.{DiskState, IsImage}
+use Rattle.disk_model.specs.Disk.{file_written}
+use Rattle.disk_model.specs.DiskState.{DiskState, IsDiskImage}
 use Rattle.snap_store.specs.declared.side.Side.{Side}
 use Rattle.snap_store.specs.declared.slot.Slot.TheVariants.{Closed, Open, Unsure}
-use Rattle.snap_store.specs.File.{Stored, gate_byte, head_bytes, start_of, whole_area}
-use Rattle.snap_store.specs.Images.{Spares, Stands, loosened}
-use Rattle.snap_store.specs.Slots.{other, slot_of}
-use Rattle.snap_store.specs.Store.{IsSound, Snapshots}
+use Rattle.snap_store.specs.File.{Stored, gate_byte, head_bytes, side_start, whole_area}
+use Rattle.snap_store.specs.Images.{Spares, StandsOnSide, loosened}
+use Rattle.snap_store.specs.Slots.{opposite_side, slot_of}
+use Rattle.snap_store.specs.Store.{IsSoundStore, Snapshots}
 use Rattle.store_events.specs.declared.state.Reading.TheVariants.{FirstSync, AskSize, ReadFront}
 use Rattle.store_events.specs.declared.state.Reading.TheVariants.{ReadA, ReadB}
 use Rattle.store_events.specs.declared.state.Stage.{Stage}
@@ -23,8 +23,8 @@ use Rattle.store_events.specs.Events.{has_room}
 abbrev pub seen_of : DiskState → List ℕ
 seen_of p = p.seen
 
-abbrev pub tells : DiskState → Bool
-tells p = true
+abbrev pub always_tells : DiskState → Bool
+always_tells p = true
 
 -- the store, as snap_store's contracts see one
 abbrev pub store_of : StoreState → Snapshots DiskState
@@ -36,7 +36,7 @@ pub record IsPutting (w : StoreState) (side : Side) (area : Stored) : Type 0 whe
   pub room : has_room area ≡ true
   pub made : w.made ≡ true
   pub loose : loosened (slot_of w.slots side) ≡ slot_of w.slots side
-  pub spares : Spares side (slot_of w.slots (other side))
+  pub spares : Spares side (slot_of w.slots (opposite_side side))
 
 -- what is known of its own gate then, and what the disk reads as
 abbrev pub HasStage : StoreState → Stage → Side → Stored → Type 0
@@ -46,18 +46,18 @@ HasStage w HeadWrite side area = slot_of w.slots side ≡ Closed
 HasStage w BytesWrite side area =
     (slot_of w.slots side ≡ Closed)
     × ((old : List ℕ) × (w.disk.seen
-    ≡ written old (start_of side) (head_bytes area.place area.count (length area.bytes))))
+    ≡ file_written old (side_start side) (head_bytes area.place area.count (length area.bytes))))
 HasStage w AreaSync side area =
     (slot_of w.slots side ≡ Closed) × (whole_area side w.disk.seen ≡ Some area)
 HasStage w OpenWrite side area =
     (slot_of w.slots side ≡ Unsure) × (whole_area side w.disk.seen ≡ Some area)
 HasStage w OpenSync side area =
     (slot_of w.slots side ≡ Unsure)
-    × Stands side (Open area.place area.count) (Some area) w.disk.seen
+    × StandsOnSide side (Open area.place area.count) (Some area) w.disk.seen
 
 -- nothing is pending once an opening's sync was good
 abbrev pub IsSettled : DiskState → Type 0
-IsSettled p = (image : List ℕ) → IsImage p image → image ≡ p.seen
+IsSettled p = (image : List ℕ) → IsDiskImage p image → image ≡ p.seen
 
 abbrev pub HasStep : StoreState → Step → Type 0
 HasStep w Idle = Unit {0}
@@ -71,6 +71,6 @@ HasStep w (Opening ReadB) = IsSettled w.disk
 -- What the slots say holds in each image that a stop may leave, at every moment: a put that is
 -- under way included.
 pub record IsSteady (w : StoreState) : Type 0 where
-  pub reads : IsImage w.disk w.disk.seen
-  pub sound : IsSound tells IsImage seen_of (store_of w)
+  pub reads : IsDiskImage w.disk w.disk.seen
+  pub sound : IsSoundStore always_tells IsDiskImage seen_of (store_of w)
   pub step : HasStep w w.step

@@ -1,7 +1,7 @@
 //! A list of events, one after the other (own).
 
 ghost use Rattle.std.specs.Prelude.{◌≡◌, IfOk, OnOk};
-ghost use Rattle.store_events.specs.Events.{after, run};
+ghost use Rattle.store_events.specs.Events.{file_after, run_store};
 ghost use Rattle.store_events.specs.Steady.{IsSteady};
 
 use crate::event::Event;
@@ -11,7 +11,7 @@ use std::alloc::{AllocError, Global};
 impl StoreState {
     // An event happens; one that isn't enabled changes nothing.
     fn happen(&mut self, alloc: Global, event: &Event) -> Result<(), AllocError>
-        ensures { OnOk result (self.new ≡ after self.old event.now) }
+        ensures { OnOk result (self.new ≡ file_after self.old event.now) }
     {
         match event {
             Event::Keep {
@@ -34,7 +34,7 @@ pub fn follow(
     mut state: StoreState,
     events: &[Event],
 ) -> Result<StoreState, AllocError>
-    ensures value { IfOk result (λ w. w ≡ run state events.now) }
+    ensures value { IfOk result (λ w. w ≡ run_store state events.now) }
     // what is known of the gates holds in each image, wherever the list ends
     ensures steady { IsSteady state → IfOk result IsSteady }
 {

@@ -1,8 +1,8 @@
 //! What stands in a snapshot file, of its bytes (own).
 
 ghost use Rattle.std.specs.Prelude.{◌≡◌, ◌<◌, ◌^◌, slice_index};
-ghost use Rattle.disk_model.specs.Disk.{Reads};
-ghost use Rattle.snap_store.specs.File.{has_header, head_at};
+ghost use Rattle.disk_model.specs.Disk.{ReadsFile};
+ghost use Rattle.snap_store.specs.File.{has_header, area_head};
 ghost use Rattle.snap_store.specs.Outline.{outline_of};
 ghost use Rattle.store_events.specs.Events.{slots_in};
 
@@ -21,7 +21,7 @@ fn byte_at(file: &[u8], place: usize) -> u8
 
 // Sixteen bytes from this place on, and zeros past the end.
 fn bytes_at(file: &[u8], at: u32) -> [u8; 16]
-    ensures { Reads file.now at result }
+    ensures { ReadsFile file.now at result }
 {
     let mut bytes = [0; 16];
     for i in 0..16 {
@@ -32,7 +32,7 @@ fn bytes_at(file: &[u8], at: u32) -> [u8; 16]
 
 // How an area begins.
 fn head_at(file: &[u8], side: Side) -> Head
-    ensures { result ≡ head_at side file.now }
+    ensures { result ≡ area_head side file.now }
 {
     let bytes = bytes_at(file, side.start() as u32);
     Head {

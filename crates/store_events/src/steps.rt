@@ -1,8 +1,10 @@
 //! The events of a session's snapshot file (own).
 
 ghost use Rattle.std.specs.Prelude.{◌≡◌, IfOk, OnOk, OnErr, None, [], ◌∷◌};
-ghost use Rattle.store_events.specs.Events.{after, comes_up, down_over, first_stage, next_call};
-ghost use Rattle.store_events.specs.Events.{is_opening, is_putting, onward, opens, put_call};
+ghost use Rattle.store_events.specs.Events.{file_after, store_comes_up, store_down_over};
+ghost use Rattle.store_events.specs.Events.{first_stage, next_store_call};
+ghost use Rattle.store_events.specs.Events.{is_opening, is_putting, store_onward, begins_opening};
+ghost use Rattle.store_events.specs.Events.{put_call};
 ghost use Rattle.store_events.specs.Events.{put_onward};
 ghost use Rattle.disk_model.specs.Plain.{is_image};
 ghost use Rattle.session_saves.specs.Saves.{due_in};
@@ -55,7 +57,7 @@ fn put_call(alloc: Global, stage: Stage, side: Side, area: &NewArea) -> Result<D
 
 // The device call that a step makes.
 fn next_call(alloc: Global, step: &Step) -> Result<Option<DiskCall>, AllocError>
-    ensures { IfOk result (λ call. call ≡ next_call step.now) }
+    ensures { IfOk result (λ call. call ≡ next_store_call step.now) }
 {
     let call = match step {
         Step::Idle => return Ok(None),
@@ -80,7 +82,7 @@ fn first_stage(slot: Slot) -> Stage
 impl StoreState {
     /// A host that is down over a file with these bytes, with nothing pending.
     pub fn down(alloc: Global, file: &Bytes) -> Result<StoreState, AllocError>
-        ensures value { IfOk result (λ w. w ≡ down_over file.now) }
+        ensures value { IfOk result (λ w. w ≡ store_down_over file.now) }
         ensures steady { IfOk result IsSteady }
     {
         let bytes = file.as_slice();
@@ -103,7 +105,8 @@ impl StoreState {
         count: u32,
         bytes: &Bytes,
     ) -> Result<(), AllocError>
-        ensures ok { OnOk result (self.new ≡ after self.old (Event.Keep place count bytes.now)) }
+        ensures ok { OnOk result
+            (self.new ≡ file_after self.old (Event.Keep place count bytes.now)) }
         ensures err { OnErr result (self.new ≡ self.old) }
     {
         let Step::Idle = self.step else {
@@ -160,7 +163,7 @@ impl StoreState {
 
     // An opening has ended well.
     fn come_up(&mut self)
-        ensures { self.new ≡ comes_up self.old }
+        ensures { self.new ≡ store_comes_up self.old }
     {
         self.made = outline_of(self.disk.seen()).made;
         self.slots = slots_in(self.disk.seen());
@@ -170,7 +173,7 @@ impl StoreState {
 
     // A good call of this step was made.
     fn go_onward(&mut self, step: Step)
-        ensures { self.new ≡ onward self.old step }
+        ensures { self.new ≡ store_onward self.old step }
     {
         let next = match step {
             Step::Idle => return,
@@ -192,7 +195,7 @@ impl StoreState {
 
     /// The disk makes its next call. Where that isn't good the disk reads as `reads` from then on.
     pub fn call(&mut self, alloc: Global, good: bool, reads: &Bytes) -> Result<(), AllocError>
-        ensures { OnOk result (self.new ≡ after self.old (Event.Call good reads.now)) }
+        ensures { OnOk result (self.new ≡ file_after self.old (Event.Call good reads.now)) }
     {
         let Some(call) = next_call(alloc, &self.step)? else {
             return Ok(());
@@ -212,7 +215,7 @@ impl StoreState {
     /// The host stops, and the disk holds the image, where a stop may leave it. Where memory runs
     /// out nothing has changed.
     pub fn stop(&mut self, alloc: Global, image: &Bytes) -> Result<(), AllocError>
-        ensures ok { OnOk result (self.new ≡ after self.old (Event.Stop image.now)) }
+        ensures ok { OnOk result (self.new ≡ file_after self.old (Event.Stop image.now)) }
         ensures err { OnErr result (self.new ≡ self.old) }
     {
         if !self.disk.is_image(image.as_slice()) {
@@ -226,7 +229,7 @@ impl StoreState {
 
     /// An opening begins, where the host is down.
     pub fn recover(&mut self)
-        ensures { self.new ≡ after self.old Event.Recover }
+        ensures { self.new ≡ file_after self.old Event.Recover }
     {
         if !self.up {
             set_step(&mut self.step, Step::Opening(Reading::FirstSync));
@@ -235,7 +238,7 @@ impl StoreState {
 
     /// An opening begins, whatever was under way.
     pub fn open_anew(&mut self)
-        ensures { self.new ≡ opens self.old }
+        ensures { self.new ≡ begins_opening self.old }
     {
         self.up = false;
         set_step(&mut self.step, Step::Opening(Reading::FirstSync));

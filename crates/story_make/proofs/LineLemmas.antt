@@ -7,8 +7,8 @@ use Rattle.std.proofs.lemmas.Bool.Decides.{nat_tests}
 use Rattle.std.proofs.lemmas.Str.{encode_ascii}
 use Rattle.std.proofs.lemmas.List.FromFn.{length-map-range_with_len}
 use Rattle.story_text.specs.Escape.{escaped, escaped_byte, is_plain}
-use Rattle.line_words.specs.Spelling.{print_request, number}
-use Rattle.story_make.specs.Script.{letter, letters, opening, typed, line_of}
+use Rattle.line_words.specs.Spelling.{print_request, number_field}
+use Rattle.story_make.specs.Script.{letter, letters, opening_request, typed_line, line_of_request}
 use Rattle.story_make.specs.Lines.{command_front}
 use Rattle.story_make.specs.Laws.{IsLetter}
 
@@ -70,13 +70,13 @@ opening_parts : (a b end : List ℕ)
 opening_parts a b end = search (rules, append_assoc, append-nil)
 
 -- a command's line without its LF
-pub print_typed : (s n : ℕ) (text : List ℕ) → AreLetters text → print_request (typed s n text) ≡ command_front s n ++ text
+pub print_typed : (s n : ℕ) (text : List ℕ) → AreLetters text → print_request (typed_line s n text) ≡ command_front s n ++ text
 unfolding escaped
 print_typed s n text h = rw (letters_escaped text h, one) (typed_parts (decimal s) (decimal n) text)
 
-pub line_typed : (s n : ℕ) (text : List ℕ) → AreLetters text → line_of (typed s n text) ≡ command_front s n ++ (text ++ 10 ∷ [])
+pub line_typed : (s n : ℕ) (text : List ℕ) → AreLetters text → line_of_request (typed_line s n text) ≡ command_front s n ++ (text ++ 10 ∷ [])
 line_typed s n text h = ap (λ (t : List ℕ). t ++ 10 ∷ []) (print_typed s n text h) ∙ append_assoc (command_front s n) text (10 ∷ [])
 
 -- the line that opens a session, with what follows it
-pub print_opening : (number s : ℕ) (end : List ℕ) → print_request (opening number s) ++ end ≡ codes "OPEN " ++ (decimal s ++ (codes " k 0 " ++ (decimal number ++ (codes " 80 24" ++ end))))
+pub print_opening : (number s : ℕ) (end : List ℕ) → print_request (opening_request number s) ++ end ≡ codes "OPEN " ++ (decimal s ++ (codes " k 0 " ++ (decimal number ++ (codes " 80 24" ++ end))))
 print_opening number s end = rw (none, columns, rows) (opening_parts (decimal s) (decimal number) end)

@@ -15,9 +15,9 @@ use Rattle.line_words.specs.Spelling.{print_request, IsRequest}
 use Rattle.line_words.specs.Request.{request_of}
 use Rattle.line_words.proofs.WordLaws.{all_digits, digits-decimal, both}
 use Rattle.line_words.proofs.RequestLaws.{prints, request_again}
-use Rattle.story_make.specs.Script.{generator, letters, opening, typed, Place, begun, turned, turns_from, requests, line_of, script_bytes}
+use Rattle.story_make.specs.Script.{generator, letters, opening_request, typed_line, Place, script_start, place_after_turn, requests_from, requests, line_of_request, script_bytes}
 use Rattle.line_talk.specs.Lines.{lines_from}
-use Rattle.story_make.specs.Laws.{IsReadAsRequests, HasALineEachTurn, TakesAWordATurn, IsLetter, IsNext, AskInOrder, AsksInOrder}
+use Rattle.story_make.specs.Laws.{IsReadAsRequests, HasALineEachTurn, TakesAWordATurn, IsLetter, IsNextRequest, AskInOrder, AsksInOrder}
 use Rattle.story_make.proofs.LineLemmas.{AreLetters, letters_are, length-letters, print_typed, print_opening}
 
 -- ---- the words
@@ -38,19 +38,19 @@ takes number s turns k h = word_after turns k (generator number s) h
 
 -- ---- one line each turn
 
-length-turns : (s : ℕ) (place : Place) (words : List ℕ) → length (turns_from s place words) ≡ length words
+length-turns : (s : ℕ) (place : Place) (words : List ℕ) → length (requests_from s place words) ≡ length words
 length-turns s place [] = refl
-length-turns s place (word ∷ words) = ap suc (length-turns s (turned s word place) words)
+length-turns s place (word ∷ words) = ap suc (length-turns s (place_after_turn s word place) words)
 
 pub has_lines : HasALineEachTurn
 unfolding requests
 has_lines number s turns =
     let words = first_words pcg32 turns (generator number s) in
-    omega (arith, length-turns s (begun number s) words, length-first_words turns (generator number s))
+    omega (arith, length-turns s (script_start number s) words, length-first_words turns (generator number s))
 
 -- ---- the order of commands
 
-next_is : (s sent word : ℕ) → IsNext s sent (typed s (sent + 1) (letters word))
+next_is : (s sent word : ℕ) → IsNextRequest s sent (typed_line s (sent + 1) (letters word))
 next_is s sent word = record {
   text = letters word;
   letters = All-from_recursion IsLetter (letters word) (letters_are word);
@@ -61,16 +61,16 @@ next_is s sent word = record {
 
 -- the three ways of a turn
 abbrev skipped : ℕ → Place → Place
-skipped s place = record place { last = typed s (place.sent + 2) (codes "x") }
+skipped s place = record place { last = typed_line s (place.sent + 2) (codes "x") }
 
 abbrev stepped : ℕ → ℕ → Place → Place
-stepped s word place = record { sent = place.sent + 1; last = typed s (place.sent + 1) (letters word) }
+stepped s word place = record { sent = place.sent + 1; last = typed_line s (place.sent + 1) (letters word) }
 
 abbrev OrdersAll : ℕ → List ℕ → Type 0
-OrdersAll s words = (place : Place) → AskInOrder s place.sent place.last (turns_from s place words)
+OrdersAll s words = (place : Place) → AskInOrder s place.sent place.last (requests_from s place words)
 
 one_more : (s word : ℕ) (words : List ℕ) (place : Place) → OrdersAll s words → (again skips : Bool)
-    → let after = cond again place (cond skips (skipped s place) (stepped s word place)) in AskInOrder s place.sent place.last (after.last ∷ turns_from s after words)
+    → let after = cond again place (cond skips (skipped s place) (stepped s word place)) in AskInOrder s place.sent place.last (after.last ∷ requests_from s after words)
 one_more s word words place all true skips = inl (refl, all place)
 one_more s word words place all false true = inr (inl (refl, all (skipped s place)))
 one_more s word words place all false false = inr (inr (next_is s place.sent word, all (stepped s word place)))
@@ -83,22 +83,22 @@ pub asks : AsksInOrder
 unfolding requests
 asks number s turns =
     let words = first_words pcg32 turns (generator number s) in
-    (turns_from s (begun number s) words, refl, in_order s words (begun number s))
+    (requests_from s (script_start number s) words, refl, in_order s words (script_start number s))
 
 -- ---- what is written turn by turn
 
 -- before the first turn
 pub at_first : (number s turns n : ℕ) (place : Place) (g : Lcg) (out : List ℕ)
-    → n ≡ turns → place ≡ begun number s → g ≡ generator number s → out ≡ line_of place.last
-    → out ++ flat_map line_of (turns_from s place (first_words pcg32 n g)) ≡ script_bytes number s turns
+    → n ≡ turns → place ≡ script_start number s → g ≡ generator number s → out ≡ line_of_request place.last
+    → out ++ flat_map line_of_request (requests_from s place (first_words pcg32 n g)) ≡ script_bytes number s turns
 unfolding script_bytes requests
 at_first number s turns n place g out all begins starts e = rw (e, begins, starts, all) refl
 
 -- after one more
 pub one_turn : (s word n m : ℕ) (place after : Place) (g h : Lcg) (out written whole : List ℕ)
-    → n ≡ suc m → (word, h) ≡ pcg32 g → after ≡ turned s word place → written ≡ out ++ line_of after.last
-    → out ++ flat_map line_of (turns_from s place (first_words pcg32 n g)) ≡ whole
-    → written ++ flat_map line_of (turns_from s after (first_words pcg32 m h)) ≡ whole
+    → n ≡ suc m → (word, h) ≡ pcg32 g → after ≡ place_after_turn s word place → written ≡ out ++ line_of_request after.last
+    → out ++ flat_map line_of_request (requests_from s place (first_words pcg32 n g)) ≡ whole
+    → written ++ flat_map line_of_request (requests_from s after (first_words pcg32 m h)) ≡ whole
 unfolding first_words
 one_turn s word n m place after g h out written whole more step is wrote sofar =
     let took : word ≡ (pcg32 g).0 = ap (λ (p : ℕ × Lcg). p.0) step in
@@ -107,7 +107,7 @@ one_turn s word n m place after g h out written whole more step is wrote sofar =
 
 -- after the last
 pub at_last : (s n : ℕ) (place : Place) (g : Lcg) (out whole : List ℕ) → n ≡ 0
-    → out ++ flat_map line_of (turns_from s place (first_words pcg32 n g)) ≡ whole → out ≡ whole
+    → out ++ flat_map line_of_request (requests_from s place (first_words pcg32 n g)) ≡ whole → out ≡ whole
 unfolding first_words
 at_last s n place g out whole none sofar = rw (none, append-nil out) at sofar
 
@@ -146,10 +146,10 @@ record IsReadBack (request : Request) : Type 0 where
 abbrev some : Request → Option Request
 some request = Some request
 
-read_all : (rs : List Request) → AllByRecursion IsReadBack rs → map request_of (lines_from [] (flat_map line_of rs)) ≡ map some rs
+read_all : (rs : List Request) → AllByRecursion IsReadBack rs → map request_of (lines_from [] (flat_map line_of_request rs)) ≡ map some rs
 read_all [] h = refl
 read_all (r ∷ rs) h =
-    rw (cut_line [] (print_request r) (flat_map line_of rs) h.0.clean, h.0.again) (ap (λ (t : List (Option Request)). some r ∷ t) (read_all rs h.1))
+    rw (cut_line [] (print_request r) (flat_map line_of_request rs) h.0.clean, h.0.again) (ap (λ (t : List (Option Request)). some r ∷ t) (read_all rs h.1))
 
 short_again : (request : Request) → IsRequest request → length (print_request request) ≤ 2047 → request_of (print_request request) ≡ Some request
 short_again request h short = request_again (print_request request) request (print_request request, prints request h, inl refl, short)
@@ -187,30 +187,30 @@ opening_no_lf a b ha hb =
     let numbers : NoLf (a ++ (codes " k 0 " ++ (b ++ codes " 80 24"))) = NoLf-append a _ ha (refl, (refl, (refl, (refl, (refl, end))))) in
     (refl, (refl, (refl, (refl, (refl, numbers)))))
 
-typed_reads : (s n : ℕ) (text : List ℕ) → s < 2 ^ 8 → 1 ≤ n → n ≤ 4294967295 → AreLetters text → length text ≤ 19 → IsReadBack (typed s n text)
+typed_reads : (s n : ℕ) (text : List ℕ) → s < 2 ^ 8 → 1 ≤ n → n ≤ 4294967295 → AreLetters text → length text ≤ 19 → IsReadBack (typed_line s n text)
 typed_reads s n text small from to h few =
     let is = print_typed s n text h in
     let a = length-decimal-le 3 s (omega arith) (omega arith) (omega arith) in
     let b = length-decimal-le 10 n (omega arith) (omega arith) (omega arith) in
     let long = length-front (decimal s) (decimal n) text in
     let clean = typed_no_lf (decimal s) (decimal n) text (decimal_no_lf s (omega arith)) (decimal_no_lf n (omega arith)) (letters_no_lf text h) in
-    let fits : IsRequest (typed s n text) = ((omega arith, refl, from, to), omega arith, letters_text text h few, refl) in
+    let fits : IsRequest (typed_line s n text) = ((omega arith, refl, from, to), omega arith, letters_text text h few, refl) in
     record {
       clean = subst NoLf (sym is) clean;
-      again = short_again (typed s n text) fits (subst (λ (t : List ℕ). length t ≤ 2047) (sym is) (omega (arith, long, a, b, few)));
+      again = short_again (typed_line s n text) fits (subst (λ (t : List ℕ). length t ≤ 2047) (sym is) (omega (arith, long, a, b, few)));
     }
 
-opening_reads : (number s : ℕ) → number < 2 ^ 64 → s < 2 ^ 8 → IsReadBack (opening number s)
+opening_reads : (number s : ℕ) → number < 2 ^ 64 → s < 2 ^ 8 → IsReadBack (opening_request number s)
 opening_reads number s seed small =
-    let is = sym (append-nil (print_request (opening number s))) ∙ print_opening number s [] in
+    let is = sym (append-nil (print_request (opening_request number s))) ∙ print_opening number s [] in
     let a = length-decimal-le 3 s (omega arith) (omega arith) (omega arith) in
     let b = length-decimal-le 20 number (omega arith) (omega arith) (omega arith) in
     let long = length-opening (decimal s) (decimal number) in
     let clean = opening_no_lf (decimal s) (decimal number) (decimal_no_lf s (omega arith)) (decimal_no_lf number seed) in
-    let fits : IsRequest (opening number s) = ((omega arith, refl), omega arith, omega arith, omega arith, omega arith, omega arith, omega arith, refl) in
+    let fits : IsRequest (opening_request number s) = ((omega arith, refl), omega arith, omega arith, omega arith, omega arith, omega arith, omega arith, refl) in
     record {
       clean = subst NoLf (sym is) clean;
-      again = short_again (opening number s) fits (subst (λ (t : List ℕ). length t ≤ 2047) (sym is) (omega (arith, long, a, b)));
+      again = short_again (opening_request number s) fits (subst (λ (t : List ℕ). length t ≤ 2047) (sym is) (omega (arith, long, a, b)));
     }
 
 -- a place whose request is read back, with room for so many turns more
@@ -230,17 +230,17 @@ turn_roomy s word left place small h false false = record {
   room = omega (arith, h.room);
 }
 
-turns_read : (s : ℕ) (words : List ℕ) (place : Place) → s < 2 ^ 8 → IsRoomy s (length words) place → AllByRecursion IsReadBack (turns_from s place words)
+turns_read : (s : ℕ) (words : List ℕ) (place : Place) → s < 2 ^ 8 → IsRoomy s (length words) place → AllByRecursion IsReadBack (requests_from s place words)
 turns_read s [] place small h = tt
 turns_read s (word ∷ words) place small h =
     let more : IsRoomy s (length words + 1) place = record { back = h.back; room = omega (arith, h.room) } in
     let after = turn_roomy s word (length words) place small more (word % 10 == 0) (word % 10 == 1) in
-    (after.back, turns_read s words (turned s word place) small after)
+    (after.back, turns_read s words (place_after_turn s word place) small after)
 
 pub reads : IsReadAsRequests
 unfolding script_bytes requests
 reads number s turns fits small few =
     let words = first_words pcg32 turns (generator number s) in
     let first = opening_reads number s fits small in
-    let roomy : IsRoomy s (length words) (begun number s) = record { back = first; room = omega (arith, length-first_words turns (generator number s), few) } in
-    read_all (opening number s ∷ turns_from s (begun number s) words) (first, turns_read s words (begun number s) small roomy)
+    let roomy : IsRoomy s (length words) (script_start number s) = record { back = first; room = omega (arith, length-first_words turns (generator number s), few) } in
+    read_all (opening_request number s ∷ requests_from s (script_start number s) words) (first, turns_read s words (script_start number s) small roomy)

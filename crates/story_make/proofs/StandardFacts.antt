@@ -5,7 +5,7 @@ use Rattle.rand_pcg.specs.Pcg.{pcg32}
 use Rattle.glulx_image.specs.Image.{image_of}
 use Rattle.glulx_image.specs.Checksum.{sum_of_words, verified}
 use Rattle.story_make.specs.Echo.{echo_bytes}
-use Rattle.story_make.specs.Script.{generator, letters, opening, typed, requests}
+use Rattle.story_make.specs.Script.{generator, letters, opening_request, typed_line, requests}
 use Rattle.story_make.specs.declared.echo.TheConstants.{HEADER, CODE}
 
 the_header_of_echo : HEADER
@@ -43,6 +43,6 @@ a_text_of_eighteen_letters : letters 0xA15C02B7 ≡ codes "bnjtkehwlsqpkqmlks"
 a_text_of_eighteen_letters = refl
 
 a_script_of_three_turns : requests 42 54 3
-    ≡ opening 42 54 ∷ typed 54 1 (codes "bnjtkehwlsqpkqmlks") ∷ typed 54 2 (codes "twpythrz") ∷ typed 54 3 (codes "aaiaur") ∷ []
+    ≡ opening_request 42 54 ∷ typed_line 54 1 (codes "bnjtkehwlsqpkqmlks") ∷ typed_line 54 2 (codes "twpythrz") ∷ typed_line 54 3 (codes "aaiaur") ∷ []
 unfolding requests first_words
 a_script_of_three_turns = refl

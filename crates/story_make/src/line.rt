@@ -1,7 +1,7 @@
 //! A script's lines (own).
 
 ghost use Rattle.std.specs.Prelude.{◌≡◌, ◌<◌, ◌++◌, OnOk};
-ghost use Rattle.story_make.specs.Script.{letter, letters, line_of, opening};
+ghost use Rattle.story_make.specs.Script.{letter, letters, line_of_request, opening_request};
 ghost use Rattle.story_make.specs.Lines.{request_for, command_front};
 
 use std::alloc::{AllocError, Global};
@@ -44,7 +44,8 @@ fn push_command(out: &mut Vec<u8>, alloc: Global, session: u8, n: u64) -> Result
 }
 
 fn push_open(out: &mut Vec<u8>, alloc: Global, session: u8, number: u64) -> Result<(), AllocError>
-    ensures { OnOk result (out.new.items ≡ out.old.items ++ line_of (opening number session)) }
+    ensures { OnOk result
+        (out.new.items ≡ out.old.items ++ line_of_request (opening_request number session)) }
 {
     let line = format!(in alloc; "OPEN {session} k 0 {number} 80 24\n")?;
     out.extend_from_slice(line.as_bytes())
@@ -57,7 +58,8 @@ pub fn push_line(
     session: u8,
     line: Line,
 ) -> Result<(), AllocError>
-    ensures { OnOk result (out.new.items ≡ out.old.items ++ line_of (request_for session line)) }
+    ensures { OnOk result
+        (out.new.items ≡ out.old.items ++ line_of_request (request_for session line)) }
 {
     match line {
         Line::Open { number } => push_open(out, alloc, session, number)?,

@@ -1,8 +1,8 @@
 //! How far a script has come (own).
 
 ghost use Rattle.std.specs.Prelude.{◌≡◌, ◌+◌, ◌<◌, ◌^◌, ◌≤◌, ℕ};
-ghost use Rattle.story_make.specs.Script.{begun, turned};
-ghost use Rattle.story_make.specs.Lines.{place_of};
+ghost use Rattle.story_make.specs.Script.{script_start, place_after_turn};
+ghost use Rattle.story_make.specs.Lines.{kept_place};
 
 use crate::line::Line;
 
@@ -17,7 +17,7 @@ pub struct Place {
 impl Place {
     /// Where the script of a number begins.
     pub fn begun(number: u64) -> Place
-        ensures { (s : ℕ) → place_of s result ≡ begun number s }
+        ensures { (s : ℕ) → kept_place s result ≡ script_start number s }
     {
         Place {
             sent: 0,
@@ -28,7 +28,8 @@ impl Place {
     /// The place after the turn that takes this word.
     pub fn turned(self, word: u32) -> Place
         requires { self.sent < 2 ^ 32 }
-        ensures value { (s : ℕ) → place_of s result ≡ turned s word (place_of s self) }
+        ensures value { (s : ℕ)
+            → kept_place s result ≡ place_after_turn s word (kept_place s self) }
         ensures within { result.sent ≤ self.sent + 1 }
     {
         match word % 10 {

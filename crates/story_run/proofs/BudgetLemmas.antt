@@ -9,15 +9,16 @@ use Rattle.vm_exec.specs.Rules.{Rule}
 use Rattle.vm_exec.specs.declared.machine.Machine.{Machine}
 use Rattle.vm_exec.specs.declared.step.Out.{Out}
 use Rattle.vm_exec.specs.declared.step.Out.TheVariants as out
+use Rattle.vm_memory.specs.Chaining.{◌>>=◌}
 use Rattle.vm_memory.specs.MemoryMap.{MemoryMap}
-use Rattle.glk_dispatch.specs.Answer.{Reached, ◌>>=◌, glk_call}
+use Rattle.glk_dispatch.specs.Answer.{Reached, glk_call}
 use Rattle.glk_dispatch.specs.Answer as dispatch
-use Rattle.glk_dispatch.specs.Call.{called}
+use Rattle.glk_dispatch.specs.Call.{selector_called}
 use Rattle.glk_dispatch.specs.Output.{put_code}
-use Rattle.story_run.specs.Step.{Next, Runs, Rests, Running, next, running, stepped, followed}
-use Rattle.story_run.specs.Step.{answered, charged, done, machine_of, stored, put, went_on}
+use Rattle.story_run.specs.Step.{Next, Runs, Rests, Running, next_step, running, stepped, step_followed}
+use Rattle.story_run.specs.Step.{after_glk_call, call_charged, done, machine_after_call, call_stored, character_put, went_on}
 use Rattle.story_run.specs.Saves.{restored, saved}
-use Rattle.story_run.specs.Turn.{after, steps, rest}
+use Rattle.story_run.specs.Turn.{after_step, steps, rest}
 use Rattle.glk_dispatch.specs.declared.called.Called.{Called}
 use Rattle.glk_dispatch.specs.declared.called.Called.TheVariants as call
 use Rattle.glk_dispatch.specs.declared.glk.Glk.{Glk}
@@ -31,12 +32,12 @@ Shifts more (Runs left r) y = y ≡ Runs (left + more) r
 Shifts more (Rests g s) y = (s ≡ Fault 24) ⊎ (y ≡ Rests g s)
 
 put-shifts : (left more : ℕ) (m : Machine) (x : Reached (Glk × MemoryMap))
-    → Shifts more (put left m x) (put (left + more) m x)
+    → Shifts more (character_put left m x) (character_put (left + more) m x)
 put-shifts left more m (Ok x) = refl
 put-shifts left more m (Err e) = inr refl
 
 stored-shifts : (left more : ℕ) (g : Glk) (x : Result Machine ℕ)
-    → Shifts more (stored left g x) (stored (left + more) g x)
+    → Shifts more (call_stored left g x) (call_stored (left + more) g x)
 stored-shifts left more g (Ok m) = refl
 stored-shifts left more g (Err n) = inr refl
 
@@ -65,7 +66,7 @@ either-shifts false true more g x y k h = let e : true ≡ false = k refl in abs
 either-shifts false false more g x y k h = h refl
 
 charged-shifts : (left more chars : ℕ) (g : Glk) (m : Machine) (x : Called)
-    → Shifts more (charged left chars g m x) (charged (left + more) chars g m x)
+    → Shifts more (call_charged left chars g m x) (call_charged (left + more) chars g m x)
 charged-shifts left more chars g m x =
     either-shifts (nat_lt left chars) (nat_lt (left + more) chars) more g _ _
     (kept left more chars)
@@ -73,10 +74,10 @@ charged-shifts left more chars g m x =
     (later left more chars (met left chars e))
     (done-shifts (left - chars) more g m x))
 
-answered-shifts : (left more : ℕ) (g : Glk) (m : Machine) (x : dispatch.Rule Called)
-    → Shifts more (answered left g m x) (answered (left + more) g m x)
+answered-shifts : (left more : ℕ) (g : Glk) (m : Machine) (x : dispatch.CallRule Called)
+    → Shifts more (after_glk_call left g m x) (after_glk_call (left + more) g m x)
 answered-shifts left more g m (Ok x) =
-    charged-shifts left more (x.0.glk.chars - g.chars) x.0.glk (machine_of m x.0) x.1
+    charged-shifts left more (x.0.glk.chars - g.chars) x.0.glk (machine_after_call m x.0) x.1
 answered-shifts left more g m (Err e) = inr refl
 
 went_on-shifts : (left more : ℕ) (x : Reached (Glk × Machine))
@@ -86,18 +87,18 @@ went_on-shifts left more (Err e) = inr refl
 
 followed-shifts : (image : List ℕ) (left more cost : ℕ) (g : Glk) (m : Machine) (o : Out)
     → cost ≤ left
-    → Shifts more (followed image left g m (step_of o cost))
-    (followed image (left + more) g m (step_of o cost))
+    → Shifts more (step_followed image left g m (step_of o cost))
+    (step_followed image (left + more) g m (step_of o cost))
 followed-shifts image left more cost g m out.Ran h =
     ap (λ (k : ℕ). Runs k (running g m)) (sym (later left more cost h))
 followed-shifts image left more cost g m (out.Char x) h =
     let p = put_code g m.memory g.streams.current x in
-    subst (λ (k : ℕ). Shifts more (put (left - cost) m p) (put k m p))
+    subst (λ (k : ℕ). Shifts more (character_put (left - cost) m p) (character_put k m p))
     (later left more cost h)
     (put-shifts (left - cost) more m p)
 followed-shifts image left more cost g m (out.Glk selector args) h =
-    let x = called (glk_call g m.memory m.stack) selector args in
-    subst (λ (k : ℕ). Shifts more (answered (left - cost) g m x) (answered k g m x))
+    let x = selector_called (glk_call g m.memory m.stack) selector args in
+    subst (λ (k : ℕ). Shifts more (after_glk_call (left - cost) g m x) (after_glk_call k g m x))
     (later left more cost h)
     (answered-shifts (left - cost) more g m x)
 followed-shifts image left more cost g m (out.Save stream) h =
@@ -128,8 +129,8 @@ told-cases image false false left more cost g gives k h =
     gives-shifts image left more cost g gives (h refl)
 
 next-shifts : (image : List ℕ) (left more : ℕ) (r : Running)
-    → Shifts more (next image left r) (next image (left + more) r)
-unfolding next
+    → Shifts more (next_step image left r) (next_step image (left + more) r)
+unfolding next_step
 next-shifts image left more r =
     let c = row r.machine in
     told-cases image (nat_lt left c.cost)
@@ -139,10 +140,10 @@ next-shifts image left more r =
 -- a turn that doesn't end with the budget's fault ends so with more ticks too
 rests-shift : (image : List ℕ) (k more : ℕ) (g h : Glk) (s t : Stage) (y : Next)
     → (t ≡ Fault 24) ⊎ (y ≡ Rests h t)
-    → ◌≡◌ {A = Glk × Stage} (h, t) (g, s) → s ≢ Fault 24 → after (steps image k) y ≡ (g, s)
+    → ◌≡◌ {A = Glk × Stage} (h, t) (g, s) → s ≢ Fault 24 → after_step (steps image k) y ≡ (g, s)
 rests-shift image k more g h s t y (inl e) p n =
     absurd (n (sym (ap (λ (x : Glk × Stage). x.1) p) ∙ e))
-rests-shift image k more g h s t y (inr e) p n = ap (after (steps image k)) e ∙ p
+rests-shift image k more g h s t y (inr e) p n = ap (after_step (steps image k)) e ∙ p
 
 steps-shift : (image : List ℕ) (n k left more : ℕ) (r : Running) (g : Glk) (s : Stage) → left < n
     → left + more < k
@@ -151,12 +152,12 @@ unfolding steps
 steps-shift image zero k left more r g s h i p f = absurd (omega arith)
 steps-shift image (suc n) zero left more r g s h i p f = absurd (omega arith)
 steps-shift image (suc n) (suc k) left more r g s h i p f =
-    elim (next image left r) as (λ x. IsBelow left x → Shifts more x (next image (left + more) r)
-    → after (steps image n) x ≡ (g, s)
-    → after (steps image k) (next image (left + more) r) ≡ (g, s)) [
-      | Runs l q ↦ λ b e o. ap (after (steps image k)) e
+    elim (next_step image left r) as (λ x. IsBelow left x → Shifts more x (next_step image (left + more) r)
+    → after_step (steps image n) x ≡ (g, s)
+    → after_step (steps image k) (next_step image (left + more) r) ≡ (g, s)) [
+      | Runs l q ↦ λ b e o. ap (after_step (steps image k)) e
           ∙ steps-shift image n k l more q g s (omega arith) (omega arith) o f
-      | Rests x y ↦ λ b e o. rests-shift image k more g x s y (next image (left + more) r) e o f
+      | Rests x y ↦ λ b e o. rests-shift image k more g x s y (next_step image (left + more) r) e o f
     ]
     (next-below image left r) (next-shifts image left more r) p
 

@@ -4,23 +4,24 @@ use Rattle.std.proofs.Common.{refl, ap, sym, ◌∙◌, arith, add-one, Result, 
 use Rattle.std.proofs.Common.{IfOk, List}
 use Rattle.std.specs.declared.alloc.AllocError.{AllocError}
 use Rattle.std.proofs.lemmas.Bool.Decides.{nat_tests}
-use Rattle.vm_exec.specs.Row.{Charged, due, row, told, step_of}
+use Rattle.vm_exec.specs.Row.{Charged, due, row, step_within, step_of}
 use Rattle.vm_exec.specs.Row as exec
 use Rattle.vm_exec.specs.Rows.Work.{Work, Free, Costs}
 use Rattle.vm_exec.specs.declared.machine.Machine.{Machine}
 use Rattle.vm_exec.specs.declared.step.Out.{Out}
 use Rattle.vm_exec.specs.declared.step.Out.TheVariants as out
 use Rattle.vm_exec.specs.Rules.{Rule}
+use Rattle.vm_memory.specs.Chaining.{◌>>=◌}
 use Rattle.vm_memory.specs.MemoryMap.{MemoryMap}
-use Rattle.glk_dispatch.specs.Answer.{Reached, ◌>>=◌, glk_call}
+use Rattle.glk_dispatch.specs.Answer.{Reached, glk_call}
 use Rattle.glk_dispatch.specs.Answer as dispatch
-use Rattle.glk_dispatch.specs.Call.{called}
+use Rattle.glk_dispatch.specs.Call.{selector_called}
 use Rattle.glk_dispatch.specs.Output.{put_code}
-use Rattle.story_run.specs.Step.{Next, Advances, faults, Runs, Rests, Running, next, stepped}
-use Rattle.story_run.specs.Step.{followed, answered, charged, done, machine_of, stored, put}
+use Rattle.story_run.specs.Step.{Next, Advances, faults, Runs, Rests, Running, next_step, stepped}
+use Rattle.story_run.specs.Step.{step_followed, after_glk_call, call_charged, done, machine_after_call, call_stored, character_put}
 use Rattle.story_run.specs.Step.{went_on}
 use Rattle.story_run.specs.Saves.{restored, saved}
-use Rattle.story_run.specs.Turn.{Stops, after, steps, rest}
+use Rattle.story_run.specs.Turn.{Stops, after_step, steps, rest}
 use Rattle.glk_dispatch.specs.declared.called.Called.{Called}
 use Rattle.glk_dispatch.specs.declared.called.Called.TheVariants as call
 use Rattle.glk_dispatch.specs.declared.glk.Glk.{Glk}
@@ -36,12 +37,12 @@ IsBelow ticks (Runs left r) = left < ticks
 IsBelow ticks (Rests g s) = Unit {0}
 
 put-below : (ticks left : ℕ) (m : Machine) (x : Reached (Glk × MemoryMap)) → left < ticks
-    → IsBelow ticks (put left m x)
+    → IsBelow ticks (character_put left m x)
 put-below ticks left m (Ok x) h = h
 put-below ticks left m (Err e) h = tt
 
 stored-below : (ticks left : ℕ) (g : Glk) (x : Result Machine ℕ) → left < ticks
-    → IsBelow ticks (stored left g x)
+    → IsBelow ticks (call_stored left g x)
 stored-below ticks left g (Ok m) h = h
 stored-below ticks left g (Err n) h = tt
 
@@ -58,15 +59,15 @@ either-below ticks true x y h k = h
 either-below ticks false x y h k = k
 
 charged-below : (ticks left chars : ℕ) (g : Glk) (m : Machine) (x : Called) → left < ticks
-    → IsBelow ticks (charged left chars g m x)
+    → IsBelow ticks (call_charged left chars g m x)
 charged-below ticks left chars g m x h =
     either-below ticks (nat_lt left chars) _ _ tt
     (done-below ticks (left - chars) g m x (omega arith))
 
-answered-below : (ticks left : ℕ) (g : Glk) (m : Machine) (x : dispatch.Rule Called) → left < ticks
-    → IsBelow ticks (answered left g m x)
+answered-below : (ticks left : ℕ) (g : Glk) (m : Machine) (x : dispatch.CallRule Called) → left < ticks
+    → IsBelow ticks (after_glk_call left g m x)
 answered-below ticks left g m (Ok x) h =
-    charged-below ticks left (x.0.glk.chars - g.chars) x.0.glk (machine_of m x.0) x.1 h
+    charged-below ticks left (x.0.glk.chars - g.chars) x.0.glk (machine_after_call m x.0) x.1 h
 answered-below ticks left g m (Err e) h = tt
 
 went_on-below : (ticks left : ℕ) (x : Reached (Glk × Machine)) → left < ticks
@@ -75,12 +76,12 @@ went_on-below ticks left (Ok x) h = h
 went_on-below ticks left (Err e) h = tt
 
 followed-below : (image : List ℕ) (left cost : ℕ) (g : Glk) (m : Machine) (o : Out) → 1 ≤ cost
-    → cost ≤ left → IsBelow left (followed image left g m (step_of o cost))
+    → cost ≤ left → IsBelow left (step_followed image left g m (step_of o cost))
 followed-below image left cost g m out.Ran h k = omega arith
 followed-below image left cost g m (out.Char x) h k =
     put-below left (left - cost) m (put_code g m.memory g.streams.current x) (omega arith)
 followed-below image left cost g m (out.Glk selector args) h k =
-    answered-below left (left - cost) g m (called (glk_call g m.memory m.stack) selector args)
+    answered-below left (left - cost) g m (selector_called (glk_call g m.memory m.stack) selector args)
     (omega arith)
 followed-below image left cost g m (out.Save stream) h k =
     went_on-below left (left - cost) (saved image g m stream) (omega arith)
@@ -103,17 +104,17 @@ told-cases image false left cost g (Ok x) w h = followed-below image left cost g
 told-cases image false left cost g (Err n) w h = tt
 
 told-below : (image : List ℕ) (left : ℕ) (g : Glk) (c : Charged) → 1 ≤ c.cost
-    → IsBelow left (stepped image left g (told left c))
+    → IsBelow left (stepped image left g (step_within left c))
 told-below image left g c h =
     told-cases image (nat_lt left c.cost) left c.cost g c.gives (λ e. grind (arith, nat_tests)) h
 
-pub next-below : (image : List ℕ) (left : ℕ) (r : Running) → IsBelow left (next image left r)
-unfolding next
+pub next-below : (image : List ℕ) (left : ℕ) (r : Running) → IsBelow left (next_step image left r)
+unfolding next_step
 next-below image left r =
     told-below image left r.glk (row r.machine) (charged-some (due r.machine r.machine.text))
 
 -- a step leaves fewer ticks
-pub runs-below : (image : List ℕ) (left l : ℕ) (r q : Running) → next image left r ≡ Runs l q
+pub runs-below : (image : List ℕ) (left l : ℕ) (r q : Running) → next_step image left r ≡ Runs l q
     → l < left
 runs-below image left l r q e = subst (IsBelow left) e (next-below image left r)
 
@@ -124,8 +125,8 @@ unfolding steps
 steps-enough image zero k left r h i = absurd (omega arith)
 steps-enough image (suc n) zero left r h i = absurd (omega arith)
 steps-enough image (suc n) (suc k) left r h i =
-    elim (next image left r) as (λ x. IsBelow left x
-    → after (steps image n) x ≡ after (steps image k) x) [
+    elim (next_step image left r) as (λ x. IsBelow left x
+    → after_step (steps image n) x ≡ after_step (steps image k) x) [
       | Runs l q ↦ λ b. steps-enough image n k l q (omega arith) (omega arith)
       | Rests g s ↦ λ b. refl
     ]
@@ -133,27 +134,27 @@ steps-enough image (suc n) (suc k) left r h i =
 
 -- one step of what is left
 rest-step : (image : List ℕ) (left : ℕ) (r : Running)
-    → rest image left r ≡ after (steps image left) (next image left r)
+    → rest image left r ≡ after_step (steps image left) (next_step image left r)
 unfolding rest steps
 rest-step image left r = rw add-one refl
 
 -- after a step the rest of the turn is the turn on what is left
-pub rest-runs : (image : List ℕ) (left l : ℕ) (r q : Running) → next image left r ≡ Runs l q
+pub rest-runs : (image : List ℕ) (left l : ℕ) (r q : Running) → next_step image left r ≡ Runs l q
     → rest image left r ≡ rest image l q
 unfolding rest
 rest-runs image left l r q e =
     let h : l < left = runs-below image left l r q e in
     rest-step image left r
-    ∙ (ap (after (steps image left)) e ∙ steps-enough image left (l + 1) l q h (omega arith))
+    ∙ (ap (after_step (steps image left)) e ∙ steps-enough image left (l + 1) l q h (omega arith))
 
 pub rest-rests : (image : List ℕ) (left : ℕ) (r : Running) (g : Glk) (s : Stage)
-    → next image left r ≡ Rests g s → rest image left r ≡ (g, s)
-rest-rests image left r g s e = rest-step image left r ∙ ap (after (steps image left)) e
+    → next_step image left r ≡ Rests g s → rest image left r ≡ (g, s)
+rest-rests image left r g s e = rest-step image left r ∙ ap (after_step (steps image left)) e
 
 -- a step that fails ends the turn with its fault
 pub rest-stops : (image : List ℕ) (left : ℕ) (r : Running) (g : Glk) (m : Machine) (t : Trap)
     (x : Result Stage AllocError)
-    → Advances (next image left r) g m (Err t) → Stops t x
+    → Advances (next_step image left r) g m (Err t) → Stops t x
     → IfOk x (λ s. (g, s) ≡ rest image left r)
 rest-stops image left r g m (trap.Fault n) (Ok s) a p =
     ap (λ (q : Stage). (g, q)) p ∙ sym (rest-rests image left r g (stage.Fault n) a)
@@ -165,7 +166,7 @@ rest-stops image left r g m trap.NoMemory (Err e) a p = tt
 pub charged_advances : (left chars : ℕ) (g : Glk) (m new : Machine) (answer : Called)
     (r : Result Progress Trap) → chars ≤ left
     → Advances (done (left - chars) g m answer) g new r
-    → Advances (charged left chars g m answer) g new r
+    → Advances (call_charged left chars g m answer) g new r
 charged_advances left chars g m new answer r few done_so =
     let low : nat_lt left chars ≡ false = grind (arith, nat_tests) in
     subst (λ (b : Bool). Advances (cond b (faults g 24) (done (left - chars) g m answer)) g new r)

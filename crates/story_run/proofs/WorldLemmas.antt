@@ -11,16 +11,16 @@ use Rattle.glk_windows.specs.declared.window.Window.{Window}
 use Rattle.glk_dispatch.specs.Events.{is_awaited}
 use Rattle.glk_dispatch.specs.Glk.{turn_begun}
 use Rattle.vm_exec.specs.declared.machine.Machine.{Machine}
-use Rattle.glk_dispatch.specs.Valid.{IsValid, WaitsFor}
+use Rattle.glk_dispatch.specs.Valid.{IsValidGlk, WaitsFor}
 use Rattle.glk_dispatch.specs.declared.glk.Glk.{Glk}
-use Rattle.story_run.specs.World.{IsStageOf, StandsAt, answer_of}
-use Rattle.story_run.specs.Solo.{is_over, is_at_end, is_wanted, turned, wants, answered}
+use Rattle.story_run.specs.World.{IsStageOf, StandsAt, answer_awaited}
+use Rattle.story_run.specs.Solo.{is_over, is_at_end, is_wanted, world_after_input, stage_wants, world_after_turn}
 use Rattle.story_run.specs.World.{WorldState}
 use Rattle.story_run.specs.declared.stage.Stage.{Stage}
 use Rattle.story_run.specs.declared.stage.Stage.TheVariants.{AtSelect, AtPrompt, Quit, Fault}
 
 at_end-wants : (s : Stage) (r : List WindowInput) (input : Input) → is_at_end s ≡ true
-    → wants s r input ≡ false
+    → stage_wants s r input ≡ false
 at_end-wants (AtSelect m) r input e = absurd cc
 at_end-wants (AtPrompt m) r input e = absurd cc
 at_end-wants Quit r input e = refl
@@ -31,13 +31,13 @@ unfolding is_over is_wanted
 over-wants w input e = at_end-wants w.stage w.glk.requests input e
 
 pub unwanted-turned : (w : WorldState) (input : Input) → is_wanted w input ≡ false
-    → turned w input ≡ w
-unfolding turned
+    → world_after_input w input ≡ w
+unfolding world_after_input
 unwanted-turned w input e =
-    ap (λ (b : Bool). cond b (answered w w.stage input) w) e
+    ap (λ (b : Bool). cond b (world_after_turn w w.stage input) w) e
 
 -- what a story that waits wants may be delivered
-awaits : (stage : Stage) (ws : List WindowInput) (input : Input) → wants stage ws input ≡ true → is_awaited ws input ≡ true
+awaits : (stage : Stage) (ws : List WindowInput) (input : Input) → stage_wants stage ws input ≡ true → is_awaited ws input ≡ true
 awaits (AtSelect m) ws (Line win text key) e = e
 awaits (AtSelect m) ws (Char win code) e = e
 awaits (AtSelect m) ws (File name) e = refl
@@ -85,10 +85,10 @@ begun-again g =
 
 -- ---- worlds of their fields
 
-pub stands-of : (s : Stage) (g : Glk) → IsValid g → WaitsFor (answer_of s) g → StandsAt s g
+pub stands-of : (s : Stage) (g : Glk) → IsValidGlk g → WaitsFor (answer_awaited s) g → StandsAt s g
 stands-of s g valid waits = record { valid = valid; waits = waits }
 
-pub waits-of : (s : Stage) (g : Glk) → StandsAt s (turn_begun g) → WaitsFor (answer_of s) g
+pub waits-of : (s : Stage) (g : Glk) → StandsAt s (turn_begun g) → WaitsFor (answer_awaited s) g
 waits-of (AtSelect m) g stands = stands.waits
 waits-of (AtPrompt m) g stands = stands.waits
 waits-of Quit g stands = record { event = stands.waits.event; prompt = stands.waits.prompt }

@@ -17,8 +17,8 @@ stage_of image fields.Quit = Quit
 stage_of image (fields.Fault n) = Fault n
 
 -- the world with this image that has these fields; the counts of its last turn are set back
-abbrev pub world_of : List ℕ → WorldFields → WorldState
-world_of image f = record {
+abbrev pub world_of_fields : List ℕ → WorldFields → WorldState
+world_of_fields image f = record {
   image = image;
   seed = f.seed;
   budget = f.budget;

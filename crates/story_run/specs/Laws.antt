@@ -1,7 +1,7 @@
 -- What turns keep to (own).
 use Rattle.std.specs.Prelude.{◌≡◌, ◌≢◌, ℕ, ◌+◌, ◌<◌, List, true, false}
 use Rattle.glk_input.specs.declared.input.Input.{Input}
-use Rattle.story_run.specs.Solo.{is_over, is_wanted, opening, turned}
+use Rattle.story_run.specs.Solo.{is_over, is_wanted, opening, world_after_input}
 use Rattle.story_run.specs.Step.{Running}
 use Rattle.story_run.specs.Turn.{rest, steps}
 use Rattle.story_run.specs.World.{StandsAt, WorldState}
@@ -31,7 +31,7 @@ OverWantsNothing =
 -- an input that isn't wanted leaves the world as it is
 abbrev pub UnwantedLeaves : Type 0
 UnwantedLeaves =
-    (w : WorldState) (input : Input) → is_wanted w input ≡ false → turned w input ≡ w
+    (w : WorldState) (input : Input) → is_wanted w input ≡ false → world_after_input w input ≡ w
 
 -- Glk states stay valid: the opening makes one that waits with what the story waits for, and each
 -- turn makes such a one of such a one
@@ -39,4 +39,4 @@ pub record GlkStaysValid : Type 0 where
   pub opened : (image : List ℕ) (setup : Setup)
       → StandsAt (opening image setup).stage (opening image setup).glk
   pub turned : (w : WorldState) (input : Input) → StandsAt w.stage w.glk
-      → StandsAt (turned w input).stage (turned w input).glk
+      → StandsAt (world_after_input w input).stage (world_after_input w input).glk

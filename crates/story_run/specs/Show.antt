@@ -11,7 +11,7 @@ use Rattle.glk_input.specs.declared.request.Request.{Request}
 use Rattle.glk_input.specs.declared.request.Request.TheVariants.{Line, Char}
 use Rattle.glk_input.specs.declared.request.WindowInput.{WindowInput}
 use Rattle.glk_dispatch.specs.declared.glk.Glk.{Glk}
-use Rattle.story_show.specs.Lines.{text_of}
+use Rattle.story_show.specs.Lines.{text_of_show}
 use Rattle.story_show.specs.Making as making
 use Rattle.story_show.specs.declared.show.End.{End}
 use Rattle.story_show.specs.declared.show.End.TheVariants as end
@@ -24,14 +24,14 @@ or_zero (Ok code) = code
 or_zero (Err fault) = 0
 
 -- the character at a place, a byte or a word
-abbrev pub char_at : Bool → MemoryMap → ℕ → ℕ
-char_at unicode m at = or_zero (read (width unicode) m at)
+abbrev pub character_in_memory : Bool → MemoryMap → ℕ → ℕ
+character_in_memory unicode m at = or_zero (read (width unicode) m at)
 
 -- so many characters of an array
 unfoldable pub initial : ℕ → Bool → MemoryMap → ℕ → List ℕ
 initial zero unicode m buf = []
 initial (suc n) unicode m buf =
-    initial n unicode m buf ++ char_at unicode m (buf + n * width unicode) ∷ []
+    initial n unicode m buf ++ character_in_memory unicode m (buf + n * width unicode) ∷ []
 
 -- a line that may begin with what its array holds, or a character
 abbrev pub want_of : MemoryMap → ℕ → Request → End
@@ -54,5 +54,5 @@ ends_of g Quit = end.Quit ∷ []
 ends_of g (Fault n) = end.Fault n ∷ []
 
 -- the lines of a turn that has come to rest
-abbrev pub show_of : Glk → Stage → List ℕ
-show_of g s = text_of (making.show_of g.windows (ends_of g s))
+abbrev pub turn_show : Glk → Stage → List ℕ
+turn_show g s = text_of_show (making.show_of g.windows (ends_of g s))

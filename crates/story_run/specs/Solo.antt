@@ -5,11 +5,11 @@ use Rattle.glk_input.specs.declared.input.Input.{Input}
 use Rattle.glk_input.specs.declared.input.Input.TheVariants.{Line, Char, File}
 use Rattle.glk_input.specs.declared.request.WindowInput.{WindowInput}
 use Rattle.glk_dispatch.specs.Glk as state
-use Rattle.glk_dispatch.specs.Glk.{fresh, turn_begun}
+use Rattle.glk_dispatch.specs.Glk.{empty_screen, turn_begun}
 use Rattle.glk_dispatch.specs.declared.glk.Glk.{Glk}
 use Rattle.vm_exec.specs.Start.{started}
-use Rattle.story_run.specs.Show.{show_of}
-use Rattle.story_run.specs.Turn.{begun, turn_on}
+use Rattle.story_run.specs.Show.{turn_show}
+use Rattle.story_run.specs.Turn.{story_begun, turn_on}
 use Rattle.story_run.specs.World.{WorldState}
 use Rattle.story_run.specs.declared.setup.Setup.{Setup}
 use Rattle.story_run.specs.declared.stage.Stage.{Stage}
@@ -23,8 +23,8 @@ is_at_end Quit = true
 is_at_end (Fault n) = true
 
 -- a story that is over waits with nothing
-abbrev pub settled : Stage → Glk → Glk
-settled stage g = if is_at_end stage then state.rested g else g
+abbrev pub glk_settled : Stage → Glk → Glk
+glk_settled stage g = if is_at_end stage then state.wait_set_back g else g
 
 -- a turn has come to rest: its show is made, and then the next may begin
 abbrev pub rested : List ℕ → ℕ → ℕ → Glk × Stage → WorldState
@@ -32,16 +32,16 @@ rested image seed budget x = record {
   image = image;
   seed = seed;
   budget = budget;
-  glk = turn_begun (settled x.1 x.0);
+  glk = turn_begun (glk_settled x.1 x.0);
   stage = x.1;
-  last = show_of x.0 x.1;
+  last = turn_show x.0 x.1;
 }
 
 -- the world after the opening turn of the story with this image
 unfoldable pub opening : List ℕ → Setup → WorldState
 opening image setup =
     rested image setup.seed setup.budget
-    (begun image setup.budget (fresh setup.cols setup.rows) (started image setup.seed))
+    (story_begun image setup.budget (empty_screen setup.cols setup.rows) (started image setup.seed))
 
 -- the name of a file
 abbrev pub is_name : Input → Bool
@@ -50,41 +50,41 @@ is_name (Char win code) = false
 is_name (File name) = true
 
 -- a story wants what its windows ask for, or at a prompt the name of a file; nothing once over
-abbrev pub wants : Stage → List WindowInput → Input → Bool
-wants (AtSelect m) requests input = delivery.wants requests input
-wants (AtPrompt m) requests input = is_name input
-wants Quit requests input = false
-wants (Fault n) requests input = false
+abbrev pub stage_wants : Stage → List WindowInput → Input → Bool
+stage_wants (AtSelect m) requests input = delivery.wants requests input
+stage_wants (AtPrompt m) requests input = is_name input
+stage_wants Quit requests input = false
+stage_wants (Fault n) requests input = false
 
 -- the world waits for this input
 unfoldable pub is_wanted : WorldState → Input → Bool
-is_wanted w input = wants w.stage w.glk.requests input
+is_wanted w input = stage_wants w.stage w.glk.requests input
 
 -- the world after a turn on this input, which the story waits for
-abbrev pub answered : WorldState → Stage → Input → WorldState
-answered w (AtSelect m) input =
+abbrev pub world_after_turn : WorldState → Stage → Input → WorldState
+world_after_turn w (AtSelect m) input =
     rested w.image w.seed w.budget (turn_on w.image w.budget w.glk m input)
-answered w (AtPrompt m) input =
+world_after_turn w (AtPrompt m) input =
     rested w.image w.seed w.budget (turn_on w.image w.budget w.glk m input)
-answered w Quit input = w
-answered w (Fault n) input = w
+world_after_turn w Quit input = w
+world_after_turn w (Fault n) input = w
 
 -- the world after an input; one that isn't wanted leaves it
-unfoldable pub turned : WorldState → Input → WorldState
-turned w input = if is_wanted w input then answered w w.stage input else w
+unfoldable pub world_after_input : WorldState → Input → WorldState
+world_after_input w input = if is_wanted w input then world_after_turn w w.stage input else w
 
 -- the story has quit or met a fault
 unfoldable pub is_over : WorldState → Bool
 is_over w = is_at_end w.stage
 
 -- the lines of the last turn
-unfoldable pub shown : WorldState → List ℕ
-shown w = w.last
+unfoldable pub last_lines : WorldState → List ℕ
+last_lines w = w.last
 
 -- the world after inputs, one turn after the other
 abbrev pub turned_by : WorldState → List Input → WorldState
 turned_by w [] = w
-turned_by w (x ∷ xs) = turned_by (turned w x) xs
+turned_by w (x ∷ xs) = turned_by (world_after_input w x) xs
 
 -- the world of a story after these inputs
 abbrev pub world_after : List ℕ → Setup → List Input → WorldState

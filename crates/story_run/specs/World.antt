@@ -1,10 +1,10 @@
 -- A world: a story between two turns (own).
 use Rattle.std.specs.Prelude.{◌≡◌, ◌≤◌, ℕ, List, length}
-use Rattle.vm_exec.specs.Machine.{IsFit, IsSound}
+use Rattle.vm_exec.specs.Machine.{IsFit, IsSoundMachine}
 use Rattle.vm_exec.specs.Start.{IsOver}
 use Rattle.vm_exec.specs.declared.machine.Machine.{Machine}
 use Rattle.glk_dispatch.specs.Glk.{turn_begun}
-use Rattle.glk_dispatch.specs.Valid.{IsValid, Stands}
+use Rattle.glk_dispatch.specs.Valid.{IsValidGlk, IsValidWaiting}
 use Rattle.glk_dispatch.specs.declared.called.Called.{Called}
 use Rattle.glk_dispatch.specs.declared.called.Called.TheVariants as call
 use Rattle.glk_dispatch.specs.declared.glk.Glk.{Glk}
@@ -25,8 +25,8 @@ pub record WorldState : Type 0 where
   pub last : List ℕ
 
 -- the state of what a world holds
-abbrev pub state_of : Held → WorldState
-state_of h = record {
+abbrev pub world_of_held : Held → WorldState
+world_of_held h = record {
   image = h.image;
   seed = h.seed;
   budget = h.budget;
@@ -37,7 +37,7 @@ state_of h = record {
 
 -- the machine of a story with this image that runs: it is sound
 pub record IsRunning (image : List ℕ) (m : Machine) : Type 0 where
-  pub sound : IsSound m
+  pub sound : IsSoundMachine m
   pub over : IsOver image m
 
 -- the machine of one that waits: it is fit
@@ -67,22 +67,22 @@ StaysOver image m Prompts = IsWaiting image m
 StaysOver image m Quits = Unit {0}
 
 -- the answer of the call with which the Glk state waits; that of an exit once the story is over
-abbrev pub answer_of : Stage → Called
-answer_of (AtSelect m) = call.Wait
-answer_of (AtPrompt m) = call.Prompt
-answer_of Quit = call.Exit
-answer_of (Fault n) = call.Exit
+abbrev pub answer_awaited : Stage → Called
+answer_awaited (AtSelect m) = call.Wait
+answer_awaited (AtPrompt m) = call.Prompt
+answer_awaited Quit = call.Exit
+answer_awaited (Fault n) = call.Exit
 
 -- the Glk state is valid, and waits with what the story waits for, and with nothing else
 abbrev pub StandsAt : Stage → Glk → Type 0
-StandsAt stage g = Stands (answer_of stage) g
+StandsAt stage g = IsValidWaiting (answer_awaited stage) g
 
 -- so it is where a turn came to rest, but that a fault may come while it waits
 abbrev pub ComesTo : Stage → Glk → Type 0
-ComesTo (AtSelect m) g = Stands call.Wait g
-ComesTo (AtPrompt m) g = Stands call.Prompt g
-ComesTo Quit g = Stands call.Exit g
-ComesTo (Fault n) g = IsValid g
+ComesTo (AtSelect m) g = IsValidWaiting call.Wait g
+ComesTo (AtPrompt m) g = IsValidWaiting call.Prompt g
+ComesTo Quit g = IsValidWaiting call.Exit g
+ComesTo (Fault n) g = IsValidGlk g
 
 -- a world as turns make it: the counts of its last turn are set back
 pub record IsValidWorld (w : WorldState) : Type 0 where

@@ -15,7 +15,7 @@ use vm_memory::Memory;
 
 /// The lines of a turn that has come to rest.
 pub(crate) fn lines_of(alloc: Global, glk: &Glk, stage: &Stage<'_>) -> Result<Vec<u8>, AllocError>
-    ensures { IfOk result (λ out. out.items ≡ show.show_of glk.now stage.now) }
+    ensures { IfOk result (λ out. out.items ≡ show.turn_show glk.now stage.now) }
 {
     let ends = Ends::of(ends_of(alloc, glk, stage)?);
     let shown = show_of(alloc, &glk.windows, ends)?;
@@ -133,7 +133,7 @@ fn place(unicode: bool, buf: u32, index: u32) -> u64
 }
 
 fn char_at(memory: &Memory, unicode: bool, at: u64) -> u32
-    ensures { result ≡ show.char_at unicode memory.now at }
+    ensures { result ≡ show.character_in_memory unicode memory.now at }
 {
     if at >= u64::from(memory.size()) {
         return 0;

@@ -1,8 +1,8 @@
 //! What a snapshot keeps of a world, and the world that it makes.
 
 ghost use Rattle.std.specs.Prelude.{◌≡◌, IfOk, IfSome, IsSome};
-ghost use Rattle.glk_dispatch.specs.Valid.{IsValid};
-ghost use Rattle.story_run.specs.Fields.{stage_of, world_of};
+ghost use Rattle.glk_dispatch.specs.Valid.{IsValidGlk};
+ghost use Rattle.story_run.specs.Fields.{stage_of, world_of_fields};
 ghost use Rattle.story_run.specs.World.{IsResting, IsStageOf, IsValidWorld};
 ghost use Rattle.vm_exec.specs.Fields as vm;
 
@@ -42,11 +42,11 @@ impl<'i> World<'i> {
         story: &Story<'i>,
         fields: WorldFields<'i>,
     ) -> Result<Option<World<'i>>, AllocError>
-        requires { IsValid fields.glk }
+        requires { IsValidGlk fields.glk }
         ensures value { IfOk result (λ world. IfSome world (λ w.
-            w ≡ world_of story.now.image fields.entry)) }
+            w ≡ world_of_fields story.now.image fields.entry)) }
         ensures valid { IfOk result (λ world. IfSome world IsValidWorld) }
-        ensures found { IsValidWorld (world_of story.now.image fields.entry)
+        ensures found { IsValidWorld (world_of_fields story.now.image fields.entry)
             → IfOk result (λ world. IsSome world) }
     {
         let WorldFields {

@@ -1,12 +1,12 @@
 //! Saves and restores over the streams of a session.
 
 ghost use Rattle.std.specs.Prelude.{◌≡◌, true, false, [], Ok, OnOk};
-ghost use Rattle.glk_dispatch.specs.Answer.{Gets, Reads};
-ghost use Rattle.glk_input.specs.Delivery.{taken};
+ghost use Rattle.glk_dispatch.specs.Answer.{Gets, AnswersItems};
+ghost use Rattle.glk_input.specs.Delivery.{code_taken};
 ghost use Rattle.quetzal.specs.Save.{canon};
 ghost use Rattle.quetzal.specs.State.{state_in};
 ghost use Rattle.story_run.specs.Saves as saves;
-ghost use Rattle.story_run.specs.Saves.{Leaves};
+ghost use Rattle.story_run.specs.Saves.{LeavesGlkAndMachine};
 ghost use Rattle.story_run.specs.World.{IsWaiting};
 ghost use Rattle.vm_exec.specs.Answer.{Changes, MakesList};
 ghost use Rattle.vm_exec.specs.Machine.{IsSaving};
@@ -32,7 +32,7 @@ pub(crate) fn save<'i>(
 ) -> Result<(), Trap>
     requires saving { IsSaving machine.old }
     requires over { IsOver image.now machine.old }
-    ensures does { Leaves (saves.saved image.now glk.old machine.old stream)
+    ensures does { LeavesGlkAndMachine (saves.saved image.now glk.old machine.old stream)
         glk.new machine.new result }
     ensures kept { OnOk result (IsWaiting image.now machine.new) }
     ensures seed { OnOk result (machine.new.random.seed ≡ machine.old.random.seed) }
@@ -86,7 +86,7 @@ fn put_bytes(
     stream: u32,
     bytes: &[u8],
 ) -> Result<bool, Trap>
-    ensures does { Gets (saves.put_bytes glk.old memory.old stream true bytes.now)
+    ensures does { Gets (saves.put_save_bytes glk.old memory.old stream true bytes.now)
         glk.new memory.new result }
     ensures kept { OnOk result (KeepsMap memory.old memory.new) }
 {
@@ -127,7 +127,7 @@ pub(crate) fn restore<'i>(
     stream: u32,
 ) -> Result<(), Trap>
     requires { IsWaiting image.now machine.old }
-    ensures does { Leaves (saves.restored image.now glk.old machine.old stream)
+    ensures does { LeavesGlkAndMachine (saves.restored image.now glk.old machine.old stream)
         glk.new machine.new result }
     ensures kept { OnOk result (IsWaiting image.now machine.new) }
     ensures seed { OnOk result (machine.new.random.seed ≡ machine.old.random.seed) }
@@ -141,7 +141,8 @@ pub(crate) fn restore<'i>(
 
 // The rest of a stream, a byte for each of its characters.
 fn rest_of(alloc: Global, glk: &mut Glk, memory: &Memory, stream: u32) -> Result<Vec<u8>, Trap>
-    ensures { Reads (saves.rest_of 4294967295 glk.old memory.now stream []) glk.new result }
+    ensures { AnswersItems (saves.rest_of_stream 4294967295 glk.old memory.now stream [])
+        glk.new result }
 {
     let mut bytes = Vec::new(alloc);
     let mut left = u32::MAX;
@@ -159,7 +160,7 @@ fn rest_of(alloc: Global, glk: &mut Glk, memory: &Memory, stream: u32) -> Result
 
 // A character as a byte.
 fn byte_of(code: u32) -> u8
-    ensures { result ≡ taken false code }
+    ensures { result ≡ code_taken false code }
 {
     if code > 255 { b'?' } else { code as u8 }
 }

@@ -2,7 +2,7 @@
 
 ghost use Rattle.std.specs.Prelude.{◌≡◌};
 ghost use Rattle.story_run.specs.Solo.{is_at_end};
-ghost use Rattle.story_run.specs.World.{answer_of};
+ghost use Rattle.story_run.specs.World.{answer_awaited};
 
 use glk_dispatch::Called;
 use vm_exec::Machine;
@@ -28,7 +28,7 @@ impl Stage<'_> {
     /// The answer of the call with which the Glk state waits; that of an exit once the story is
     /// over.
     pub(crate) fn answer(&self) -> Called
-        ensures { result ≡ answer_of self.now }
+        ensures { result ≡ answer_awaited self.now }
     {
         match self {
             Stage::AtSelect(_) => Called::Wait,

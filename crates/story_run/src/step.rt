@@ -2,8 +2,8 @@
 
 ghost use Rattle.std.specs.Prelude.{◌≡◌, IfOk, OnOk};
 ghost use Rattle.glk_dispatch.specs.Answer.{glk_call};
-ghost use Rattle.glk_dispatch.specs.Call.{called};
-ghost use Rattle.story_run.specs.Step.{Advances, answered, done, next, running};
+ghost use Rattle.glk_dispatch.specs.Call.{selector_called};
+ghost use Rattle.story_run.specs.Step.{Advances, after_glk_call, done, next_step, running};
 ghost use Rattle.story_run.specs.World.{IsRunning, IsWaiting, StaysOver};
 
 use crate::save::{restore, save};
@@ -27,7 +27,7 @@ pub(crate) enum Progress {
 }
 
 /// Does one step of the story with this image, with so many ticks left.
-#[tactic(auto, unfolding(crate::specs::Step::next))]
+#[tactic(auto, unfolding(crate::specs::Step::next_step))]
 pub(crate) fn advance<'i>(
     alloc: Global,
     glk: &mut Glk,
@@ -36,7 +36,7 @@ pub(crate) fn advance<'i>(
     left: u64,
 ) -> Result<Progress, Trap>
     requires { IsRunning image.now machine.old }
-    ensures does { Advances (next image.now left (running glk.old machine.old))
+    ensures does { Advances (next_step image.now left (running glk.old machine.old))
         glk.new machine.new result }
     ensures kept { IfOk result (λ progress. StaysOver image.now machine.new progress) }
     ensures seed { OnOk result (machine.new.random.seed ≡ machine.old.random.seed) }
@@ -77,8 +77,8 @@ fn call_glk<'i>(
 ) -> Result<Progress, Trap>
     requires { IsWaiting image.now machine.old }
     ensures does { Advances
-        (answered left glk.old machine.old
-        (called (glk_call glk.old machine.old.memory machine.old.stack) selector args))
+        (after_glk_call left glk.old machine.old
+        (selector_called (glk_call glk.old machine.old.memory machine.old.stack) selector args))
         glk.new machine.new result }
     ensures kept { IfOk result (λ progress. StaysOver image.now machine.new progress) }
     ensures seed { OnOk result (machine.new.random.seed ≡ machine.old.random.seed) }

@@ -2,9 +2,10 @@
 
 ghost use Rattle.std.specs.Prelude.{◌≡◌, ◌≤◌, ℕ, List, length, IfOk, OnOk, true};
 ghost use Rattle.glk_dispatch.specs.Events.{is_awaited};
-ghost use Rattle.glk_dispatch.specs.Valid.{IsReady, IsValid};
+ghost use Rattle.glk_dispatch.specs.Valid.{IsReadyGlk, IsValidGlk};
 ghost use Rattle.story_run.specs.Step.{running};
-ghost use Rattle.story_run.specs.Turn.{Resumes, Stops, begun, delivered, rest, turn_on};
+ghost use Rattle.story_run.specs.Turn.{Resumes, Stops, story_begun, delivered_to_call, rest};
+ghost use Rattle.story_run.specs.Turn.{turn_on};
 ghost use Rattle.story_run.specs.World.{ComesTo, IsRunning, IsStageOf, IsWaiting};
 ghost use Rattle.story_run.specs.declared.stage.Stage.TheVariants.{AtPrompt, AtSelect};
 ghost use Rattle.vm_exec.specs.Start.{started};
@@ -82,9 +83,9 @@ pub(crate) fn begin<'i>(
     seed: u64,
     budget: u64,
 ) -> Result<Stage<'i>, AllocError>
-    requires { IsReady glk.old }
+    requires { IsReadyGlk glk.old }
     ensures value { IfOk result (λ stage. (glk.new, stage)
-        ≡ begun image.now budget glk.old (started image.now seed)) }
+        ≡ story_begun image.now budget glk.old (started image.now seed)) }
     ensures kept { IfOk result (λ stage. IsStageOf image.now seed stage) }
     ensures stands { IfOk result (λ stage. ComesTo stage glk.new) }
 {
@@ -104,7 +105,8 @@ fn deliver<'i>(
 ) -> Result<(), Trap>
     requires waits { IsWaiting image.now machine.old }
     requires awaited { is_awaited glk.old.requests input.now ≡ true }
-    ensures does { Resumes (delivered glk.old machine.old input.now) glk.new machine.new result }
+    ensures does { Resumes (delivered_to_call glk.old machine.old input.now)
+        glk.new machine.new result }
     ensures kept { OnOk result (IsRunning image.now machine.new) }
     ensures seed { OnOk result (machine.new.random.seed ≡ machine.old.random.seed) }
 {
@@ -123,7 +125,7 @@ pub(crate) fn resume<'i>(
 ) -> Result<Stage<'i>, AllocError>
     requires waits { IsWaiting image.now machine }
     requires awaited { is_awaited glk.old.requests input.now ≡ true }
-    requires valid { IsValid glk.old }
+    requires valid { IsValidGlk glk.old }
     ensures value { IfOk result (λ stage. (glk.new, stage)
         ≡ turn_on image.now budget glk.old machine.entry input.now) }
     ensures kept { (seed : ℕ) → machine.entry.random.seed ≡ seed

@@ -1,9 +1,10 @@
 //! A world: a story between two turns.
 
 ghost use Rattle.std.specs.Prelude.{◌≡◌, ◌+◌, true, IfOk};
-ghost use Rattle.story_run.specs.Solo.{is_over, is_wanted, opening, rested, settled, shown};
-ghost use Rattle.story_run.specs.Solo.{turned};
-ghost use Rattle.story_run.specs.World.{ComesTo, IsStageOf, IsValidWorld, state_of};
+ghost use Rattle.story_run.specs.Solo.{is_over, is_wanted, opening, rested, glk_settled};
+ghost use Rattle.story_run.specs.Solo.{last_lines};
+ghost use Rattle.story_run.specs.Solo.{world_after_input};
+ghost use Rattle.story_run.specs.World.{ComesTo, IsStageOf, IsValidWorld, world_of_held};
 
 use crate::ends::lines_of;
 use crate::stage::Stage;
@@ -37,13 +38,13 @@ pub(crate) struct Held<'i> {
 }
 
 impl<'i> Model for World<'i> {
-    ghost use Rattle.story_run.specs.World.{IsValidWorld, WorldState, state_of};
+    ghost use Rattle.story_run.specs.World.{IsValidWorld, WorldState, world_of_held};
 
     ghost Value = { WorldState };
 
-    ghost view = { λ w. state_of w.held.value };
+    ghost view = { λ w. world_of_held w.held.value };
 
-    ghost invariant = { λ w. IsValidWorld (state_of w.held.value) };
+    ghost invariant = { λ w. IsValidWorld (world_of_held w.held.value) };
 }
 
 impl<'i> World<'i> {
@@ -73,7 +74,7 @@ impl<'i> World<'i> {
 
     /// Gives the story an input that it waits for and runs the turn, which is one step. An error is
     /// want of memory; the world is then gone.
-    #[tactic(auto, unfolding(crate::specs::Solo::is_wanted, crate::specs::Solo::turned))]
+    #[tactic(auto, unfolding(crate::specs::Solo::is_wanted, crate::specs::Solo::world_after_input))]
     pub fn turn<L: Ledger>(
         self,
         alloc: Global,
@@ -81,7 +82,7 @@ impl<'i> World<'i> {
         steps: &mut Steps<L>,
     ) -> Result<World<'i>, AllocError>
         requires { is_wanted self input.now ≡ true }
-        ensures value { IfOk result (λ world. world ≡ turned self.entry input.now) }
+        ensures value { IfOk result (λ world. world ≡ world_after_input self.entry input.now) }
         ensures cost { steps.new ≡ steps.old + 1 }
     {
         steps.tick();
@@ -122,9 +123,9 @@ impl<'i> World<'i> {
     }
 
     /// The lines of the last turn's show, each with its newline.
-    #[tactic(auto, unfolding(crate::specs::Solo::shown))]
+    #[tactic(auto, unfolding(crate::specs::Solo::last_lines))]
     pub fn last(&self) -> &[u8]
-        ensures value { result.now ≡ shown self.now }
+        ensures value { result.now ≡ last_lines self.now }
     {
         self.held.last.as_slice()
     }
@@ -168,7 +169,7 @@ impl<'i> World<'i> {
 
 // A story that is over waits with nothing.
 fn settle(glk: &mut Glk, stage: &Stage<'_>)
-    ensures { glk.new ≡ settled stage.now glk.old }
+    ensures { glk.new ≡ glk_settled stage.now glk.old }
 {
     if stage.is_at_end() {
         glk.rest();
@@ -206,8 +207,8 @@ fn rest<'i>(
 
 // The world that holds this.
 pub(crate) fn hold<'i>(alloc: Global, held: Held<'i>) -> Result<World<'i>, AllocError>
-    requires { IsValidWorld (state_of held) }
-    ensures { IfOk result (λ world. world ≡ state_of held.entry) }
+    requires { IsValidWorld (world_of_held held) }
+    ensures { IfOk result (λ world. world ≡ world_of_held held.entry) }
 {
     Ok(World {
         held: Box::new(alloc, held)?,

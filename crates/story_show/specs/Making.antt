@@ -16,15 +16,15 @@ use Rattle.story_show.specs.declared.show.End.{End}
 use Rattle.story_show.specs.declared.show.Show.{Show}
 
 -- a window's type and rectangle
-abbrev pub place_at : ℕ → ℕ → Area → Place
-place_at id kind a = record { id = id; kind = kind; x = a.x; y = a.y; w = a.w; h = a.h }
+abbrev pub window_place : ℕ → ℕ → Area → Place
+window_place id kind a = record { id = id; kind = kind; x = a.x; y = a.y; w = a.w; h = a.h }
 
 -- each window has a place, but pairs have none
 abbrev pub content_places : Content → ℕ → Area → List Place
 content_places (Pair p) id a = []
-content_places Blank id a = place_at id 2 a ∷ []
-content_places (Buffer b) id a = place_at id 3 a ∷ []
-content_places (Grid g) id a = place_at id 4 a ∷ []
+content_places Blank id a = window_place id 2 a ∷ []
+content_places (Buffer b) id a = window_place id 3 a ∷ []
+content_places (Grid g) id a = window_place id 4 a ∷ []
 
 unfoldable pub window_places : Window → List Place
 window_places w = content_places w.content w.number w.area

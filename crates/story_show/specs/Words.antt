@@ -6,12 +6,12 @@ use Rattle.std.specs.declared.alloc.AllocError.{AllocError}
 use Rattle.story_text.specs.Escape.{escaped}
 
 -- The call added this text to a list of bytes, unless memory ran out.
-abbrev pub Adds : List ℕ → List ℕ → List ℕ → Result (Unit {0}) AllocError → Type 0
-Adds text old new result = IfOk result (λ _. new ≡ old ++ text)
+abbrev pub AddsText : List ℕ → List ℕ → List ℕ → Result (Unit {0}) AllocError → Type 0
+AddsText text old new result = IfOk result (λ _. new ≡ old ++ text)
 
 -- a space and a number
-abbrev pub field : ℕ → List ℕ
-field n = 32 ∷ decimal n
+abbrev pub number_after_space : ℕ → List ℕ
+number_after_space n = 32 ∷ decimal n
 
 -- a Unicode scalar value
 abbrev pub is_scalar : ℕ → Bool

@@ -3,7 +3,7 @@
 ghost use Rattle.std.specs.Prelude.{◌≡◌, ◌++◌, IfOk};
 ghost use Rattle.std.specs.List.{flat_map};
 ghost use Rattle.story_show.specs.Lines as lines;
-ghost use Rattle.story_show.specs.Words.{Adds};
+ghost use Rattle.story_show.specs.Words.{AddsText};
 
 use crate::show::{End, Part, Place, Show};
 use crate::words::{write_field, write_text};
@@ -11,7 +11,7 @@ use std::alloc::{AllocError, Global};
 
 /// The show's lines as bytes, each with LF: places, parts and ends. An error is want of memory.
 pub fn write_show(alloc: Global, shown: &Show) -> Result<Vec<u8>, AllocError>
-    ensures { IfOk result (λ out. out.items ≡ lines.text_of shown.now) }
+    ensures { IfOk result (λ out. out.items ≡ lines.text_of_show shown.now) }
 {
     let mut out = Vec::new(alloc);
     write_places(&mut out, shown.places.as_slice())?;
@@ -21,7 +21,7 @@ pub fn write_show(alloc: Global, shown: &Show) -> Result<Vec<u8>, AllocError>
 }
 
 fn write_places(out: &mut Vec<u8>, places: &[Place]) -> Result<(), AllocError>
-    ensures { Adds (flat_map lines.place_line places.now) out.old.items out.new.items result }
+    ensures { AddsText (flat_map lines.place_line places.now) out.old.items out.new.items result }
 {
     for place in places {
         write_place(out, place)?;
@@ -30,7 +30,7 @@ fn write_places(out: &mut Vec<u8>, places: &[Place]) -> Result<(), AllocError>
 }
 
 fn write_parts(alloc: Global, out: &mut Vec<u8>, parts: &[Part]) -> Result<(), AllocError>
-    ensures { Adds (flat_map lines.part_line parts.now) out.old.items out.new.items result }
+    ensures { AddsText (flat_map lines.part_line parts.now) out.old.items out.new.items result }
 {
     for part in parts {
         write_part(alloc, out, part)?;
@@ -39,7 +39,7 @@ fn write_parts(alloc: Global, out: &mut Vec<u8>, parts: &[Part]) -> Result<(), A
 }
 
 fn write_ends(alloc: Global, out: &mut Vec<u8>, ends: &[End]) -> Result<(), AllocError>
-    ensures { Adds (flat_map lines.end_line ends.now) out.old.items out.new.items result }
+    ensures { AddsText (flat_map lines.end_line ends.now) out.old.items out.new.items result }
 {
     for end in ends {
         write_end(alloc, out, end)?;
@@ -49,7 +49,7 @@ fn write_ends(alloc: Global, out: &mut Vec<u8>, ends: &[End]) -> Result<(), Allo
 
 #[tactic(auto, unfolding(crate::specs::Lines::place_line))]
 fn write_place(out: &mut Vec<u8>, place: &Place) -> Result<(), AllocError>
-    ensures { Adds (lines.place_line place.now) out.old.items out.new.items result }
+    ensures { AddsText (lines.place_line place.now) out.old.items out.new.items result }
 {
     out.push(b'W')?;
     write_field(out, place.id)?;
@@ -64,7 +64,7 @@ fn write_place(out: &mut Vec<u8>, place: &Place) -> Result<(), AllocError>
 
 #[tactic(auto, unfolding(crate::specs::Lines::part_line))]
 fn write_part(alloc: Global, out: &mut Vec<u8>, part: &Part) -> Result<(), AllocError>
-    ensures { Adds (lines.part_line part.now) out.old.items out.new.items result }
+    ensures { AddsText (lines.part_line part.now) out.old.items out.new.items result }
 {
     match part {
         Part::Clear { id } => {
@@ -90,7 +90,7 @@ fn write_part(alloc: Global, out: &mut Vec<u8>, part: &Part) -> Result<(), Alloc
 
 #[tactic(auto, unfolding(crate::specs::Lines::end_line))]
 fn write_end(alloc: Global, out: &mut Vec<u8>, end: &End) -> Result<(), AllocError>
-    ensures { Adds (lines.end_line end.now) out.old.items out.new.items result }
+    ensures { AddsText (lines.end_line end.now) out.old.items out.new.items result }
 {
     match end {
         End::Quit => out.extend_from_slice(b"E quit\n"),

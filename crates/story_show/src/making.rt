@@ -59,7 +59,7 @@ fn push_place(out: &mut Vec<Place>, window: &Window) -> Result<(), AllocError>
 }
 
 fn place_at(id: u32, kind: u32, area: Area) -> Place
-    ensures { result ≡ making.place_at id kind area }
+    ensures { result ≡ making.window_place id kind area }
 {
     Place {
         id,

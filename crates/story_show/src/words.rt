@@ -3,7 +3,7 @@
 ghost use Rattle.std.specs.Prelude.{◌≡◌, ◌++◌, ◌∷◌, [], IfOk, decimal, map};
 ghost use Rattle.std.specs.Str.{encode_utf8_all};
 ghost use Rattle.std.specs.String.{string_bytes};
-ghost use Rattle.story_show.specs.Words.{Adds, field, shown_code, text};
+ghost use Rattle.story_show.specs.Words.{AddsText, number_after_space, shown_code, text};
 
 use itoa::Buffer;
 use std::alloc::{AllocError, Global};
@@ -11,7 +11,7 @@ use story_text::{Text, write_escaped};
 
 /// A space and a number.
 pub(crate) fn write_field(out: &mut Vec<u8>, number: u32) -> Result<(), AllocError>
-    ensures { Adds (field number) out.old.items out.new.items result }
+    ensures { AddsText (number_after_space number) out.old.items out.new.items result }
 {
     let mut buffer = Buffer::new();
     out.push(b' ')?;
@@ -20,7 +20,7 @@ pub(crate) fn write_field(out: &mut Vec<u8>, number: u32) -> Result<(), AllocErr
 
 /// A text at the end of a line.
 pub(crate) fn write_text(alloc: Global, out: &mut Vec<u8>, codes: &[u32]) -> Result<(), AllocError>
-    ensures { Adds (text codes.now) out.old.items out.new.items result }
+    ensures { AddsText (text codes.now) out.old.items out.new.items result }
 {
     let shown = text_of(alloc, codes)?;
     out.push(b' ')?;

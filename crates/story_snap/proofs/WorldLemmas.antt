@@ -2,10 +2,10 @@
 use Rattle.std.proofs.Common.{◌≡◌, ◌∙◌, ap, refl, subst, sym, ℕ, List, Option, Some, None, option_map}
 use Rattle.glulx_image.specs.Header.{IsLaidOut}
 use Rattle.glk_dispatch.specs.Glk.{turn_begun}
-use Rattle.glk_dispatch.specs.Valid.{IsValid}
+use Rattle.glk_dispatch.specs.Valid.{IsValidGlk}
 use Rattle.glk_dispatch.specs.declared.glk.Glk.{Glk}
 use Rattle.glk_dispatch.specs.declared.glk.Prompt.{Prompt}
-use Rattle.snap_fields.specs.Laws.{Spells}
+use Rattle.snap_fields.specs.Laws.{SpellsFields}
 use Rattle.snap_fields.specs.Printing.{print_fields}
 use Rattle.snap_fields.specs.declared.fields.Fields.{Fields}
 use Rattle.snap_fields.specs.declared.fields.Setup.{Setup}
@@ -21,22 +21,22 @@ use Rattle.snap_machine.specs.Laws.{IsGivenBack}
 use Rattle.snap_machine.specs.Parts.{machine_parts, store}
 use Rattle.snap_machine.specs.declared.parts.MachineParts.{MachineParts}
 use Rattle.snap_machine.proofs.GiveLemmas as machine
-use Rattle.story_run.specs.Fields.{stage_of, world_of}
-use Rattle.story_run.specs.Solo.{shown}
+use Rattle.story_run.specs.Fields.{stage_of, world_of_fields}
+use Rattle.story_run.specs.Solo.{last_lines}
 use Rattle.story_run.specs.World.{IsStageOf, IsValidWorld, StandsAt, WorldState}
 use Rattle.story_run.specs.declared.fields.StageFields.{StageFields}
 use Rattle.story_run.specs.declared.fields.StageFields.TheVariants as fields
 use Rattle.story_run.specs.declared.stage.Stage.{Stage}
 use Rattle.story_run.specs.declared.stage.Stage.TheVariants.{AtSelect, AtPrompt, Quit, Fault}
 use Rattle.story_snap.specs.Bytes.{HasBytes, HasRomsAt, IsWorldOf}
-use Rattle.story_snap.specs.Fields.{fields_of, all_fields, parts_of, setup_of, waiting_of}
+use Rattle.story_snap.specs.Fields.{fields_of, all_fields, stage_parts, world_setup, waiting_of}
 use Rattle.story_snap.specs.Made.{event_in, glk_in, glk_made, machine_in, prompt_in}
 use Rattle.story_snap.specs.Made.{stage_made, world_made}
 
 -- a stage is made again of its parts
 record IsBack (image : List ℕ) (seed : ℕ) (g : Glk) (s : Stage) : Type 0 where
   fields : StageFields
-  made : stage_made image seed (parts_of image s) (waiting_of g s) ≡ Some fields
+  made : stage_made image seed (stage_parts image s) (waiting_of g s) ≡ Some fields
   same : stage_of image fields ≡ s
 
 stage-back : (image : List ℕ) (seed : ℕ) (g : Glk) (s : Stage) → IsLaidOut image
@@ -122,13 +122,13 @@ one-spelling image a b w x y = x.spelled.printed ∙ sym y.spelled.printed
 -- ---- what the functions make
 
 pub fields-are : (w : WorldState) (setup : Setup) (parts : MachineParts) (waiting : Waiting)
-    (glk : GlkFields) (show : List ℕ) → setup ≡ setup_of w → parts ≡ parts_of w.image w.stage
+    (glk : GlkFields) (show : List ℕ) → setup ≡ world_setup w → parts ≡ stage_parts w.image w.stage
     → waiting ≡ waiting_of w.glk w.stage → glk ≡ glk_fields w.glk → show ≡ w.last
     → all_fields setup parts waiting glk show ≡ fields_of w
 fields-are w setup parts waiting glk show a b c d e = rw (a, b, c, d, e) refl
 
-pub shown-is : (w : WorldState) → shown w ≡ w.last
-unfolding shown
+pub shown-is : (w : WorldState) → last_lines w ≡ w.last
+unfolding last_lines
 shown-is w = refl
 
 -- a stage is made of a world's fields
@@ -138,17 +138,17 @@ pub stage-is-made : (image : List ℕ) (w : WorldState) (f : Fields) (o : Option
 stage-is-made image w f o is same made none =
     let s = stage-back w.image w.seed w.glk w.stage
     (subst IsLaidOut (sym is.over) is.laid) is.valid.machine is.roms in
-    let there = subst (λ (i : List ℕ). stage_made i w.seed (parts_of w.image w.stage)
+    let there = subst (λ (i : List ℕ). stage_made i w.seed (stage_parts w.image w.stage)
     (waiting_of w.glk w.stage) ≡ Some s.fields) is.over s.made in
     let here = ap (λ (g : Fields). stage_made image g.setup.seed (machine_in g) g.waiting) same in
     let both : None ≡ Some s.fields = sym none ∙ made ∙ here ∙ there in
     absurd cc
 
 pub glk-is-valid : (image : List ℕ) (w : WorldState) (f : Fields) → IsWorldOf image w
-    → f ≡ fields_of w → IsValid (glk_made f)
+    → f ≡ fields_of w → IsValidGlk (glk_made f)
 glk-is-valid image w f is same =
     let g = glk-back w.glk w.stage is.valid.glk is.valid.begun in
-    subst IsValid (sym (ap glk_made same ∙ g)) is.valid.glk.valid
+    subst IsValidGlk (sym (ap glk_made same ∙ g)) is.valid.glk.valid
 
 pub texts-are : (image : List ℕ) (w : WorldState) (f : Fields) → IsWorldOf image w
     → f ≡ fields_of w → AreTexts (glk_in f)
@@ -167,7 +167,7 @@ world-is-valid image w v f is same made =
 
 -- fields that the same bytes spell are a world's
 pub fields-of-bytes : (image bytes : List ℕ) (w : WorldState) (f : Fields) → HasBytes image bytes w
-    → Spells bytes f → f ≡ fields_of w
+    → SpellsFields bytes f → f ≡ fields_of w
 fields-of-bytes image bytes w f has read =
     spelled.one_spelling f (fields_of w) read.ranges has.spelled.ranges
     (sym read.printed ∙ has.spelled.printed)
@@ -176,7 +176,7 @@ fields-of-bytes image bytes w f has read =
 pub made-of : (image : List ℕ) (f : Fields) (s : StageFields) (g : Glk) (last : List ℕ)
     → stage_made image f.setup.seed (machine_in f) f.waiting ≡ Some s → g ≡ glk_made f
     → last ≡ f.show
-    → world_made image f ≡ Some (world_of image (record {
+    → world_made image f ≡ Some (world_of_fields image (record {
       seed = f.setup.seed;
       budget = f.setup.budget;
       glk = g;
@@ -197,7 +197,7 @@ over-made : (image : List ℕ) (f : Fields) (v : WorldState) (o : Option StageFi
     → o ≡ stage_made image f.setup.seed (machine_in f) f.waiting → world_made image f ≡ Some v
     → v.image ≡ image
 over-made image f v (Some s) e made =
-    let there : world_made image f ≡ Some (world_of image (record {
+    let there : world_made image f ≡ Some (world_of_fields image (record {
       seed = f.setup.seed;
       budget = f.setup.budget;
       glk = glk_made f;

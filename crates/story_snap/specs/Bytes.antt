@@ -1,7 +1,7 @@
 -- The bytes of a world (own: docs/FORMATS.md, "Snapshot bytes").
 use Rattle.std.specs.Prelude.{◌≡◌, ℕ, List}
 use Rattle.glulx_image.specs.Header.{IsLaidOut}
-use Rattle.snap_fields.specs.Laws.{Spells}
+use Rattle.snap_fields.specs.Laws.{SpellsFields}
 use Rattle.snap_fields.specs.declared.fault.SnapFault.{SnapFault}
 use Rattle.snap_fields.specs.declared.fault.SnapFault.TheVariants.{BadSnap, NoMemory}
 use Rattle.snap_glk.specs.Texts.{AreTexts}
@@ -31,13 +31,13 @@ pub record IsWorldOf (image : List ℕ) (w : WorldState) : Type 0 where
 -- such a world, whose fields these bytes spell
 pub record HasBytes (image bytes : List ℕ) (w : WorldState) : Type 0 where
   pub world : IsWorldOf image w
-  pub spelled : Spells bytes (fields_of w)
+  pub spelled : SpellsFields bytes (fields_of w)
 
 -- no world of the story has these bytes
 abbrev pub HasNoWorld : List ℕ → List ℕ → Type 0
 HasNoWorld image bytes = (w : WorldState) → HasBytes image bytes w → ⊥
 
 -- a refusal says so, unless it is want of memory
-abbrev pub Refuses : List ℕ → List ℕ → SnapFault → Type 0
-Refuses image bytes BadSnap = HasNoWorld image bytes
-Refuses image bytes NoMemory = Unit {0}
+abbrev pub RefusesWorldBytes : List ℕ → List ℕ → SnapFault → Type 0
+RefusesWorldBytes image bytes BadSnap = HasNoWorld image bytes
+RefusesWorldBytes image bytes NoMemory = Unit {0}

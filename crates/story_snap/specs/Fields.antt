@@ -14,15 +14,15 @@ use Rattle.story_run.specs.declared.stage.Stage.{Stage}
 use Rattle.story_run.specs.declared.stage.Stage.TheVariants.{AtSelect, AtPrompt, Quit, Fault}
 
 -- what the session began with
-abbrev pub setup_of : WorldState → Setup
-setup_of w = record { seed = w.seed; cols = w.glk.cols; rows = w.glk.rows; budget = w.budget }
+abbrev pub world_setup : WorldState → Setup
+world_setup w = record { seed = w.seed; cols = w.glk.cols; rows = w.glk.rows; budget = w.budget }
 
 -- the machine where the story waits; that of a story that is over is put back
-abbrev pub parts_of : List ℕ → Stage → MachineParts
-parts_of image (AtSelect m) = machine_parts image m
-parts_of image (AtPrompt m) = machine_parts image m
-parts_of image Quit = put_back image
-parts_of image (Fault n) = put_back image
+abbrev pub stage_parts : List ℕ → Stage → MachineParts
+stage_parts image (AtSelect m) = machine_parts image m
+stage_parts image (AtPrompt m) = machine_parts image m
+stage_parts image Quit = put_back image
+stage_parts image (Fault n) = put_back image
 
 -- what the story waits for and with, or how it ended
 abbrev pub waiting_of : Glk → Stage → Waiting
@@ -51,5 +51,5 @@ all_fields setup parts waiting glk show = record {
 
 abbrev pub fields_of : WorldState → Fields
 fields_of w =
-    all_fields (setup_of w) (parts_of w.image w.stage) (waiting_of w.glk w.stage)
+    all_fields (world_setup w) (stage_parts w.image w.stage) (waiting_of w.glk w.stage)
     (glk_fields w.glk) w.last

@@ -6,8 +6,8 @@ use Rattle.story_snap.specs.Fields.{fields_of}
 use Rattle.story_snap.specs.Made.{world_made}
 
 -- the fields of a world make that world
-abbrev pub GivesBack : Type 0
-GivesBack =
+abbrev pub GivesBackWorld : Type 0
+GivesBackWorld =
     (image : List ℕ) (w : WorldState) → IsWorldOf image w
     → world_made image (fields_of w) ≡ Some w
 
@@ -18,6 +18,6 @@ HasOneWorld =
     → v ≡ w
 
 -- no world of a story has two spellings
-abbrev pub HasOneSpelling : Type 0
-HasOneSpelling =
+abbrev pub WorldsHaveOneSpelling : Type 0
+WorldsHaveOneSpelling =
     (image a b : List ℕ) (w : WorldState) → HasBytes image a w → HasBytes image b w → a ≡ b

@@ -10,7 +10,7 @@ use Rattle.snap_glk.specs.Made.{glk_with_fields}
 use Rattle.snap_glk.specs.declared.fields.GlkFields.{GlkFields}
 use Rattle.snap_machine.specs.Fields.{fields_with}
 use Rattle.snap_machine.specs.declared.parts.MachineParts.{MachineParts}
-use Rattle.story_run.specs.Fields.{world_of}
+use Rattle.story_run.specs.Fields.{world_of_fields}
 use Rattle.story_run.specs.World.{WorldState}
 use Rattle.story_run.specs.declared.fields.StageFields.{StageFields}
 use Rattle.story_run.specs.declared.fields.StageFields.TheVariants as stage
@@ -62,7 +62,7 @@ glk_made f =
 
 -- the world of the story with this image that fields make, if they make one, valid or not
 abbrev pub world_made : List ℕ → Fields → Option WorldState
-world_made image f = option_map (λ (s : StageFields). world_of image (record {
+world_made image f = option_map (λ (s : StageFields). world_of_fields image (record {
   seed = f.setup.seed;
   budget = f.setup.budget;
   glk = glk_made f;

@@ -1,7 +1,7 @@
 //! A world's bytes, and the world of its bytes.
 
 ghost use Rattle.std.specs.Prelude.{◌≡◌, true, IfErr, IfOk};
-ghost use Rattle.story_snap.specs.Bytes.{HasBytes, Refuses};
+ghost use Rattle.story_snap.specs.Bytes.{HasBytes, RefusesWorldBytes};
 
 use crate::fields::fields_of;
 use crate::world::world_made;
@@ -37,7 +37,7 @@ pub fn from_bytes<'i>(
     story: &Story<'i>,
 ) -> Result<World<'i>, SnapFault>
     ensures value { IfOk result (λ world. HasBytes story.now.image bytes.now world) }
-    ensures exact { IfErr result (Refuses story.now.image bytes.now) }
+    ensures exact { IfErr result (RefusesWorldBytes story.now.image bytes.now) }
 {
     let fields = read_fields(alloc, bytes)?;
     let Some(world) = world_made(alloc, fields, story)? else {

@@ -11,7 +11,7 @@ use std::alloc::{AllocError, Global};
 use story_run::{Stage, World};
 
 fn setup_of(world: &World<'_>) -> Setup
-    ensures { result ≡ spec.setup_of world.now }
+    ensures { result ≡ spec.world_setup world.now }
 {
     let glk = world.glk();
     Setup {
@@ -24,7 +24,7 @@ fn setup_of(world: &World<'_>) -> Setup
 
 fn parts_of(alloc: Global, world: &World<'_>) -> Result<MachineParts, AllocError>
     ensures value { IfOk result (λ parts.
-        parts ≡ spec.parts_of world.now.image world.now.stage) }
+        parts ≡ spec.stage_parts world.now.image world.now.stage) }
     ensures kept { IfOk result (λ _. HasRomsAt world.now.stage) }
 {
     match world.stage() {

@@ -1,10 +1,10 @@
 //! Laws of a world's bytes.
 
-ghost use Rattle.story_snap.specs.Laws.{GivesBack, HasOneSpelling, HasOneWorld};
+ghost use Rattle.story_snap.specs.Laws.{GivesBackWorld, WorldsHaveOneSpelling, HasOneWorld};
 
 /// The fields of a valid world make that world again.
 pub fn gives_back()
-    ensures { GivesBack }
+    ensures { GivesBackWorld }
 {}
 
 /// No two worlds of a story have the same bytes.
@@ -14,5 +14,5 @@ pub fn has_one_world()
 
 /// No world of a story has two spellings.
 pub fn has_one_spelling()
-    ensures { HasOneSpelling }
+    ensures { WorldsHaveOneSpelling }
 {}

@@ -10,7 +10,7 @@ use Rattle.percent_encoding.specs.Percent.{percent_encode_byte, percent_decode}
 use Rattle.percent_encoding.proofs.PercentLemmas.{percent_decode-nil, percent_decode_not_percent, percent_decode_escape, percent_decode-percent_encode_byte}
 use Rattle.std.specs.Char.{digit_value, is_digit}
 use Rattle.story_text.specs.Text.{is_short, IsText}
-use Rattle.story_text.specs.Escape.{escaped, escaped_byte, is_plain, is_visible, is_hex, SpellsByte, SpellsBytes, Spells}
+use Rattle.story_text.specs.Escape.{escaped, escaped_byte, is_plain, is_visible, is_hex, SpellsByte, SpellsBytes, WordSpells}
 use Rattle.story_text.specs.Reading.{is_spelled, text_of_bytes, text_of}
 use Rattle.story_text.specs.Laws.{AreVisible}
 
@@ -175,7 +175,7 @@ read_parts (mark ∷ body) text e =
       short = subst (λ cs. is_short cs ≡ true) same tests.1;
     }
 
-pub spells_only : (word text : List ℕ) → text_of word ≡ Some text → Spells word text
+pub spells_only : (word text : List ℕ) → text_of word ≡ Some text → WordSpells word text
 spells_only word text e =
     let read = read_parts word text e in
     let bytes = percent_decode read.body in
@@ -209,7 +209,7 @@ bytes_read word (byte ∷ bytes) (piece, rest, e, s, more) =
     let read = piece_read piece rest byte bytes s rest_read.0 rest_read.1 in
     (rw e read.0, rw e read.1)
 
-pub each_spelling : (word text : List ℕ) → Spells word text → text_of word ≡ Some text
+pub each_spelling : (word text : List ℕ) → WordSpells word text → text_of word ≡ Some text
 unfolding text_of
 each_spelling word text (body, e, is_text, spelled) =
     let read = bytes_read body (encode_utf8_all text) spelled in

@@ -38,8 +38,8 @@ SpellsBytes word (byte ∷ bytes) =
     × (word ≡ piece ++ rest) × SpellsByte piece byte × SpellsBytes rest bytes
 
 -- a word spells a text: `=`, and then the bytes of its UTF-8
-abbrev pub Spells : List ℕ → List ℕ → Type 0
-Spells word text =
+abbrev pub WordSpells : List ℕ → List ℕ → Type 0
+WordSpells word text =
     (body : List ℕ) × (word ≡ 61 ∷ body) × IsText text
     × SpellsBytes body (encode_utf8_all text)
 

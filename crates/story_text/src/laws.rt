@@ -1,7 +1,7 @@
 //! Laws of the escaped spelling (own).
 
 ghost use Rattle.story_text.specs.Laws.{ReadsEachSpelling, ReadsSpellingsOnly, ReadsVisibleOnly};
-ghost use Rattle.story_text.specs.Laws.{RoundTrip};
+ghost use Rattle.story_text.specs.Laws.{TextRoundTrip};
 
 /// Each spelling of a text is read as that text.
 pub fn reads_each_spelling()
@@ -20,5 +20,5 @@ pub fn reads_visible_only()
 
 /// What is written is read again.
 pub fn round_trip()
-    ensures { RoundTrip }
+    ensures { TextRoundTrip }
 {}

@@ -5,7 +5,7 @@ use lib.ListN.{get_elem?}
 use Rattle.turn_cell.specs.declared.view.View.{View}
 use Rattle.turn_cell.specs.declared.view.Stage.{Stage}
 use Rattle.turn_cell.specs.declared.view.Stage.TheVariants.{Idle, Waits, Served, Joined}
-use Rattle.turn_cell.specs.History.{Each, Continues, longer, IsAmong}
+use Rattle.turn_cell.specs.History.{Each, Continues, longer_list, IsAmong}
 use Rattle.turn_cell.specs.Views.{ticket_count, tickets_out}
 
 module _ {A : Type 0} where
@@ -46,19 +46,19 @@ module _ {A : Type 0} where
   cons_same x y xs ys e = (ap (head_or x) e, ap tail_of e)
 
   -- the longer of two beginnings goes on from each
-  pub longer_first : (P : A → Type 0) (a b ra rb : List A) → a ++ ra ≡ b ++ rb → Each P ra → Continues P (longer a b) a
+  pub longer_first : (P : A → Type 0) (a b ra rb : List A) → a ++ ra ≡ b ++ rb → Each P ra → Continues P (longer_list a b) a
   longer_first P [] b ra rb e each = (b, refl, each_first P b rb (subst (Each P) e each))
   longer_first P (x ∷ xs) [] ra rb e each = ([], sym (nil_right (x ∷ xs)), tt)
   longer_first P (x ∷ xs) (y ∷ ys) ra rb e each = let t = longer_first P xs ys ra rb (cons_same x y (xs ++ ra) (ys ++ rb) e).1 each in (t.0, ap (λ (l : List A). x ∷ l) t.1, t.2)
 
-  pub longer_second : (P : A → Type 0) (a b ra rb : List A) → a ++ ra ≡ b ++ rb → Each P rb → Continues P (longer a b) b
+  pub longer_second : (P : A → Type 0) (a b ra rb : List A) → a ++ ra ≡ b ++ rb → Each P rb → Continues P (longer_list a b) b
   longer_second P [] b ra rb e each = ([], sym (nil_right b), tt)
   longer_second P (x ∷ xs) [] ra rb e each = (x ∷ xs, refl, each_first P (x ∷ xs) ra (subst (Each P) (sym e) each))
   longer_second P (x ∷ xs) (y ∷ ys) ra rb e each = let same = cons_same x y (xs ++ ra) (ys ++ rb) e in let t = longer_second P xs ys ra rb same.1 each in
       (t.0, (λ i. same.0 i ∷ t.1 i), t.2)
 
   -- and the whole list goes on from it
-  pub longer_whole : (P Q : A → Type 0) (a b ra rb : List A) → a ++ ra ≡ b ++ rb → Each P ra → Each Q rb → Continues (λ x. P x × Q x) (a ++ ra) (longer a b)
+  pub longer_whole : (P Q : A → Type 0) (a b ra rb : List A) → a ++ ra ≡ b ++ rb → Each P ra → Each Q rb → Continues (λ x. P x × Q x) (a ++ ra) (longer_list a b)
   longer_whole P Q [] b ra rb e p q = (rb, e, each_two rb (each_last b rb (subst (Each P) e p)) q)
     where
       each_last : (xs ys : List A) → Each P (xs ++ ys) → Each P ys
@@ -80,26 +80,26 @@ module _ {A : Type 0} where
   longer_whole P Q (x ∷ xs) (y ∷ ys) ra rb e p q = let t = longer_whole P Q xs ys ra rb (cons_same x y (xs ++ ra) (ys ++ rb) e).1 p q in (t.0, ap (λ (l : List A). x ∷ l) t.1, t.2)
 
 module _ {A : Type 0} where
-  pub longer_right : (a b : List A) → length a < length b → length (longer a b) ≡ length b
+  pub longer_right : (a b : List A) → length a < length b → length (longer_list a b) ≡ length b
   longer_right [] b low = refl
   longer_right (x ∷ xs) [] low = absurd (omega arith)
   longer_right (x ∷ xs) (y ∷ ys) low = let t = longer_right xs ys (omega arith) in omega arith
 
-  pub longer_left : (a b : List A) → length b ≤ length a → length (longer a b) ≡ length a
+  pub longer_left : (a b : List A) → length b ≤ length a → length (longer_list a b) ≡ length a
   longer_left [] [] low = refl
   longer_left [] (y ∷ ys) low = absurd (omega arith)
   longer_left (x ∷ xs) [] low = refl
   longer_left (x ∷ xs) (y ∷ ys) low = let t = longer_left xs ys (omega arith) in omega arith
 
-  pub longer_one : (P Q : A → Type 0) (a b : List A) → Continues P (longer a b) a → Continues Q (longer a b) b → (longer a b ≡ a) ⊎ (longer a b ≡ b)
+  pub longer_one : (P Q : A → Type 0) (a b : List A) → Continues P (longer_list a b) a → Continues Q (longer_list a b) b → (longer_list a b ≡ a) ⊎ (longer_list a b ≡ b)
   longer_one P Q a b s t = of a b s.0 t.0 (sym s.1 ∙ t.1)
     where
-      of : (a b p q : List A) → a ++ p ≡ b ++ q → (longer a b ≡ a) ⊎ (longer a b ≡ b)
+      of : (a b p q : List A) → a ++ p ≡ b ++ q → (longer_list a b ≡ a) ⊎ (longer_list a b ≡ b)
       of [] b p q e = inr refl
       of (x ∷ xs) [] p q e = inl refl
       of (x ∷ xs) (y ∷ ys) p q e = let same = cons_same x y (xs ++ p) (ys ++ q) e in ⊎_elim
-          (λ (t : longer xs ys ≡ xs). inl (ap (λ (l : List A). x ∷ l) t))
-          (λ (t : longer xs ys ≡ ys). inr (λ i. same.0 i ∷ t i))
+          (λ (t : longer_list xs ys ≡ xs). inl (ap (λ (l : List A). x ∷ l) t))
+          (λ (t : longer_list xs ys ≡ ys). inr (λ i. same.0 i ∷ t i))
           (of xs ys p q same.1)
 
 pub among_head : (n : ℕ) (xs : List ℕ) → 0 < length xs → get_or xs 0 0 ≡ n → IsAmong n xs

@@ -9,7 +9,7 @@ use Rattle.atomic_table.proofs.Lists.{at_set, set_here, set_else, at_longer}
 use Rattle.turn_cell.specs.declared.view.View.{View}
 use Rattle.turn_cell.specs.declared.view.Stage.{Stage}
 use Rattle.turn_cell.specs.declared.view.Stage.TheVariants.{Idle}
-use Rattle.turn_cell.specs.History.{Each, Continues, longer, IsAmong, IsForeign}
+use Rattle.turn_cell.specs.History.{Each, Continues, longer_list, IsAmong, IsForeign}
 use Rattle.turn_cell.specs.Views.{HasTicket, ticket_count, with_one_more, split_off, joined, spent, starting}
 use Rattle.turn_cell.specs.Rule.{KnowsStage, Knows, Legal}
 use Rattle.turn_cell.proofs.HistoryLemmas.{continues_all, continues_map, longer_first, longer_second, longer_whole, among_first, among_either, tickets_out_set, tickets_out_append, at_low}
@@ -205,8 +205,8 @@ module _ {T E G : Type 0} (entries : T → List E) (by : E → ℕ) (tag : T →
 
     knows_joined : ViewKnows s.words r.log r.root.made (joined v w)
     knows_joined = record {
-      known = subst (λ (l : List E). Continues (IsForeign by (v.holds ++ w.holds)) l (longer v.seen w.seen)) (sym (r.each id v at).known.1)
-          (continues_map (λ e. IsForeign by v.holds e × IsForeign by w.holds e) (IsForeign by (v.holds ++ w.holds)) (v.seen ++ (r.each id v at).known.0) (longer v.seen w.seen)
+      known = subst (λ (l : List E). Continues (IsForeign by (v.holds ++ w.holds)) l (longer_list v.seen w.seen)) (sym (r.each id v at).known.1)
+          (continues_map (λ e. IsForeign by v.holds e × IsForeign by w.holds e) (IsForeign by (v.holds ++ w.holds)) (v.seen ++ (r.each id v at).known.0) (longer_list v.seen w.seen)
           (λ e f h. ⊎_elim f.0 f.1 (among_either (by e) v.holds w.holds h))
           (longer_whole (IsForeign by v.holds) (IsForeign by w.holds) v.seen w.seen (r.each id v at).known.0 (r.each other w at_other).known.0 one_log (r.each id v at).known.2 (r.each other w at_other).known.2));
       low = (λ n h. ⊎_elim (λ (x : IsAmong n v.holds). (r.each id v at).low n x) (λ (x : IsAmong n w.holds). (r.each other w at_other).low n x) (among_either n v.holds w.holds h));
@@ -289,8 +289,8 @@ module _ {T E G : Type 0} (entries : T → List E) (by : E → ℕ) (tag : T →
         (set_else middle other 0 spent (λ z. not_zero (sym z)) ∙ (ap (λ (k : ℕ). get_elem? middle k) (sym here) ∙ set_here s.views id (joined v w) low_at))
         (among_first 0 v.holds w.holds (subst (λ (u : PassView). IsAmong 0 u.holds) (sym same) r.zero_held))
         (ap (λ (u : PassView). u.made) same)
-        (subst (λ (l : List E). Continues (λ e. by e ≤ r.root.made) l (longer v.seen w.seen)) (sym given.1)
-        (continues_map (λ e. (by e ≤ r.root.made) × Unit {0}) (λ e. by e ≤ r.root.made) (v.seen ++ given.0) (longer v.seen w.seen) (λ e f. f.0)
+        (subst (λ (l : List E). Continues (λ e. by e ≤ r.root.made) l (longer_list v.seen w.seen)) (sym given.1)
+        (continues_map (λ e. (by e ≤ r.root.made) × Unit {0}) (λ e. by e ≤ r.root.made) (v.seen ++ given.0) (longer_list v.seen w.seen) (λ e f. f.0)
         (longer_whole (λ e. by e ≤ r.root.made) (λ _. Unit {0}) v.seen w.seen given.0 (r.each other w at_other).known.0 (sym given.1 ∙ (r.each other w at_other).known.1) given.2 (each_true (r.each other w at_other).known.0))))
         (λ z. absurd (not_zero (omega arith))))
         (λ (not_here : id ≢ 0). joins_with r.root

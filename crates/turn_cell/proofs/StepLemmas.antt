@@ -13,7 +13,7 @@ use Rattle.turn_cell.specs.declared.view.Stage.{Stage}
 use Rattle.turn_cell.specs.declared.view.Stage.TheVariants.{Idle, Waits, Served, Joined}
 use Rattle.turn_cell.specs.History.{Continues, IsAmong, IsForeign}
 use Rattle.turn_cell.specs.Views.{HasTicket, ticket_count, at_stage}
-use Rattle.turn_cell.specs.Steps.{Draws, PassesOn, FindsValue, Looks, Raises, LearnsBoth}
+use Rattle.turn_cell.specs.Steps.{Draws, PassesOn, FindsValue, LooksAtServed, Raises, LearnsBoth}
 use Rattle.turn_cell.specs.Rule.{KnowsStage, Knows, IsHome, IsAway, Legal}
 use Rattle.turn_cell.proofs.MoveLemmas.{moved}
 use Rattle.turn_cell.proofs.HistoryLemmas.{nil_right, tickets_out_le, at_low}
@@ -136,7 +136,7 @@ module _ {T E G : Type 0} (entries : T → List E) (by : E → ℕ) (tag : T →
   is_root s r id v at zero_in = let here : id ≡ 0 = r.apart id 0 v r.root 0 at r.rooted zero_in r.zero_held in
       (here, some-injective v r.root (sym at ∙ (ap (λ (k : ℕ). get_elem? s.views k) here ∙ r.rooted)))
 
-  pub looks : (slots id : ℕ) (st : Step (Option T)) (m : Me (Option T) PassView) (t : ℕ) → m.0.stage ≡ Waits t → Allows Rule slots id m 1 (λ n. n) (Looks entries by tag st m)
+  pub looks : (slots id : ℕ) (st : Step (Option T)) (m : Me (Option T) PassView) (t : ℕ) → m.0.stage ≡ Waits t → Allows Rule slots id m 1 (λ n. n) (LooksAtServed entries by tag st m)
   looks slots id st m t waits s r sized at low =
       let v : PassView = m.0 in let n : ℕ = get_or s.words 1 0 in
       let stay : Rule record { words = set s.words 1 n; homes = s.homes; views = set s.views id v } =

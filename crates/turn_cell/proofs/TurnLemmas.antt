@@ -6,7 +6,7 @@ use Rattle.atomic_table.specs.Table.{Me, State, rest, step, Allows}
 use Rattle.turn_cell.specs.declared.view.View.{View}
 use Rattle.turn_cell.specs.declared.view.Stage.TheVariants.{Idle, Waits}
 use Rattle.turn_cell.specs.History.{IsAmong}
-use Rattle.turn_cell.specs.Views.{at_stage, HasValue, MayLeave, IsNumbered, tag_in}
+use Rattle.turn_cell.specs.Views.{at_stage, HasValue, MayLeave, HasNumberFirst, tag_in}
 use Rattle.turn_cell.specs.Steps.{PassesOn, Raises, FindsValue, TakesValue}
 use Rattle.turn_cell.specs.Rule.{Legal}
 use Rattle.turn_cell.proofs.HistoryLemmas.{among_head}
@@ -81,7 +81,7 @@ module _ {T E G : Type 0} (entries : T → List E) (by : E → ℕ) (tag : T →
     abbrev R : State (Option T) V → Type 0
     R = Legal entries by tag first
 
-    pub raises_at : (slots id : ℕ) (m0 m1 : M) (value : T) → HasValue m0 → IsNumbered m0.0 → MayLeave entries by tag m0.0 value → (length (entries value) ≡ length m0.0.seen → ⊥) → length (entries value) < 2 ^ 64
+    pub raises_at : (slots id : ℕ) (m0 m1 : M) (value : T) → HasValue m0 → HasNumberFirst m0.0 → MayLeave entries by tag m0.0 value → (length (entries value) ≡ length m0.0.seen → ⊥) → length (entries value) < 2 ^ 64
         → m1 ≡ (m0.0, (0, Some value) ∷ []) → Allows R slots id m1 2 (λ n. (n + 1) % 2 ^ 64) (Raises entries (step 0 0 0 0 none) m1)
     raises_at slots id m0 m1 value has numbered may differ room is = let more = one_more m0.0 value may differ in
         subst (λ (z : M). Allows R slots id z 2 (λ n. (n + 1) % 2 ^ 64) (Raises entries (step 0 0 0 0 none) z)) (sym is)

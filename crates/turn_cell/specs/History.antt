@@ -21,7 +21,7 @@ module _ {A : Type 0} where
   Continues P history seen = (rest : List A) × (history ≡ seen ++ rest) × Each P rest
 
   -- of two beginnings of one list the longer one
-  abbrev pub longer : List A → List A → List A
-  longer [] ys = ys
-  longer (x ∷ xs) [] = x ∷ xs
-  longer (x ∷ xs) (y ∷ ys) = x ∷ longer xs ys
+  abbrev pub longer_list : List A → List A → List A
+  longer_list [] ys = ys
+  longer_list (x ∷ xs) [] = x ∷ xs
+  longer_list (x ∷ xs) (y ∷ ys) = x ∷ longer_list xs ys

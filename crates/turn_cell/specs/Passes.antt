@@ -10,16 +10,16 @@ module _ {T E : Type 0} where
   view p = p.known.place.me.0
 
   -- its own number
-  abbrev pub number : Pass T E → ℕ
-  number p = p.known.number
+  abbrev pub pass_number : Pass T E → ℕ
+  pass_number p = p.known.number
 
   -- how many passes were split from it
   abbrev pub made : Pass T E → ℕ
   made p = p.known.made
 
   -- its own number, and those of the passes joined into it
-  abbrev pub holds : Pass T E → List ℕ
-  holds p = p.known.place.me.0.holds
+  abbrev pub pass_numbers : Pass T E → List ℕ
+  pass_numbers p = p.known.place.me.0.holds
 
   -- a list that the cell's history begins with
   abbrev pub seen : Pass T E → List E
@@ -41,26 +41,27 @@ module _ {T E : Type 0} where
   IsOutside p = IsIdle p.known.place.me
 
   -- its turn is on, and its holder has the value
-  abbrev pub IsInside : Pass T E → Type 0
-  IsInside p = HasValue p.known.place.me
+  abbrev pub IsInTurn : Pass T E → Type 0
+  IsInTurn p = HasValue p.known.place.me
 
   -- the pass is the root, and was never split
   abbrev pub IsAlone : Pass T E → Type 0
-  IsAlone p = (number p ≡ 0) × (made p ≡ 0)
+  IsAlone p = (pass_number p ≡ 0) × (made p ≡ 0)
 
   -- its number, the numbers that it holds and its tag stay
   abbrev pub KeepsNumbers : Pass T E → Pass T E → Type 0
   KeepsNumbers old new =
-      (number new ≡ number old) × (holds new ≡ holds old) × (sample new ≡ sample old)
+      (pass_number new ≡ pass_number old) × (pass_numbers new ≡ pass_numbers old)
+      × (sample new ≡ sample old)
 
   -- the root of a new cell: alone and outside; it has seen the list of the cell's value
   abbrev pub IsRoot : {G : Type 0}
       → (T → List E) → (T → G) → T → Cell T E → Pass T E → Type 0
-  IsRoot entries tag value c p = IsOf c p × IsOutside p × IsAlone p × (holds p ≡ 0 ∷ [])
+  IsRoot entries tag value c p = IsOf c p × IsOutside p × IsAlone p × (pass_numbers p ≡ 0 ∷ [])
       × (seen p ≡ entries value) × (tag_of tag p ≡ Some (tag value))
 
   -- a pass split from the root: it has the next number, and has seen as much
   abbrev pub IsSplitFrom : Cell T E → Pass T E → Pass T E → Type 0
-  IsSplitFrom c root p = IsOf c p × IsOutside p × (number p ≡ made root + 1) × (made p ≡ 0)
-      × (holds p ≡ (made root + 1) ∷ []) × (seen p ≡ seen root)
+  IsSplitFrom c root p = IsOf c p × IsOutside p × (pass_number p ≡ made root + 1) × (made p ≡ 0)
+      × (pass_numbers p ≡ (made root + 1) ∷ []) × (seen p ≡ seen root)
       × (sample p ≡ sample root)

@@ -34,9 +34,9 @@ module _ {T E G : Type 0} (entries : T → List E) (by : E → ℕ) (tag : T →
       × Learned m.0 value
 
   -- a look at the served number n: nothing changes unless it is the ticket, below 2 ^ 62
-  abbrev pub Looks : Step (Option T)
+  abbrev pub LooksAtServed : Step (Option T)
       → Me (Option T) (View E T) → ℕ → Me (Option T) (View E T) → Type 0
-  Looks st m n m' = (t : ℕ) → m.0.stage ≡ Waits t
+  LooksAtServed st m n m' = (t : ℕ) → m.0.stage ≡ Waits t
       → (n ≢ t → m' ≡ m) × (n ≡ t → t < 2 ^ 62 → FindsValue m t m')
       × (2 ^ 62 ≤ t → m' ≡ m)
 

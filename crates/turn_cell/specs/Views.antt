@@ -6,7 +6,7 @@ use Rattle.atomic_table.specs.Table.{Me}
 use Rattle.turn_cell.specs.declared.view.View.{View}
 use Rattle.turn_cell.specs.declared.view.Stage.{Stage}
 use Rattle.turn_cell.specs.declared.view.Stage.TheVariants.{Idle, Waits, Served, Joined}
-use Rattle.turn_cell.specs.History.{IsAmong, longer}
+use Rattle.turn_cell.specs.History.{IsAmong, longer_list}
 
 module _ {E : Type 0} where
   -- the stage has the ticket t
@@ -52,7 +52,7 @@ module _ {E T : Type 0} where
   abbrev pub joined : View E T → View E T → View E T
   joined v w = record v {
     stage = Joined v.seen v.holds w.seen w.holds;
-    seen = longer v.seen w.seen;
+    seen = longer_list v.seen w.seen;
     holds = v.holds ++ w.holds;
   }
 
@@ -62,8 +62,8 @@ module _ {E T : Type 0} where
 
   -- the view has its number first, and 0 only if that is its own
   -- (a ghost field has to be a proposition, which `IsAmong` isn't)
-  abbrev pub IsNumbered : View E T → Type 0
-  IsNumbered v = (0 < length v.holds) × (slice_index v.holds 0 ≡ v.number)
+  abbrev pub HasNumberFirst : View E T → Type 0
+  HasNumberFirst v = (0 < length v.holds) × (slice_index v.holds 0 ≡ v.number)
       × (IsAmong 0 v.holds → v.number ≡ 0)
 
 -- the root's view as the cell is made

@@ -1,6 +1,6 @@
 //! What one holder of a pass knows of a cell.
 ghost use Rattle.std.specs.Prelude.{◌≡◌, length, IsSome};
-ghost use Rattle.turn_cell.specs.Views.{IsNumbered};
+ghost use Rattle.turn_cell.specs.Views.{HasNumberFirst};
 
 use crate::told::Told;
 use crate::view::View;
@@ -16,7 +16,7 @@ pub struct Known<T, E> {
     pub(crate) made: u64,
     // The length of what was seen.
     pub(crate) count: u64,
-    pub ghost numbered: { (number ≡ place.me.0.number) × IsNumbered place.me.0 },
+    pub ghost numbered: { (number ≡ place.me.0.number) × HasNumberFirst place.me.0 },
     pub ghost tagged: { IsSome place.me.0.sample },
     pub ghost counted: { (made ≡ place.me.0.made) × (count ≡ length place.me.0.seen) },
 }

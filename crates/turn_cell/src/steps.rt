@@ -1,6 +1,6 @@
 //! The rule of a cell's table, and the kinds of step on it.
 ghost use Rattle.turn_cell.specs.Views.{starting, with_one_more, split_off, joined, spent};
-ghost use Rattle.turn_cell.specs.Steps.{Draws, Looks, Raises, PassesOn, LearnsBoth};
+ghost use Rattle.turn_cell.specs.Steps.{Draws, LooksAtServed, Raises, PassesOn, LearnsBoth};
 ghost use Rattle.turn_cell.specs.Rule.{Legal};
 
 use crate::told::Told;
@@ -42,7 +42,7 @@ pub(crate) struct Look<T> {
 }
 
 impl<T: Told> Play<Option<T>, View<T::Entry, T>> for Look<T> {
-    ghost then = { Looks T.entries T.by T.tag };
+    ghost then = { LooksAtServed T.entries T.by T.tag };
 }
 
 // Tells that the history is one longer: word 2 grows by 1.

@@ -1,6 +1,6 @@
 //! A turn, as steps on the table.
 ghost use Rattle.std.specs.Prelude.{◌≡◌, ◌^◌, ◌<◌, [], length};
-ghost use Rattle.turn_cell.specs.Views.{IsIdle, HasValue, IsNumbered, MayLeave, at_stage};
+ghost use Rattle.turn_cell.specs.Views.{IsIdle, HasValue, HasNumberFirst, MayLeave, at_stage};
 ghost use Rattle.turn_cell.specs.Steps.{TakesValue};
 ghost use Rattle.turn_cell.specs.declared.view.Stage.TheVariants.{Idle};
 
@@ -45,7 +45,7 @@ pub(crate) fn put_back<T: Told + Drop>(
     requires table { (place.old.table_id ≡ table.now.table_id) × (table.now.table_id.words ≡ 3)
         × (table.now.table_id.slots ≡ 1) }
     requires inside { HasValue place.old.me × (count ≡ length place.old.me.0.seen)
-        × IsNumbered place.old.me.0 }
+        × HasNumberFirst place.old.me.0 }
     requires value { MayLeave T.entries T.by T.tag place.old.me.0 value }
     ensures value { (place.new.me ≡ (at_stage place.old.me.0 Idle (T.entries value), []))
         × (result ≡ length (T.entries value)) }

@@ -7,9 +7,9 @@ use Rattle.turn_cell_uses.specs.declared.answer.Answer.{Answer}
 use Rattle.turn_cell_uses.specs.Notes.{note, note_by}
 
 -- the history after a turn of the pass n
-abbrev pub after : Bool → ℕ → ℕ → List Note → List Note
-after true n what before = before ++ note n what ∷ []
-after false n what before = before
+abbrev pub notes_after_turn : Bool → ℕ → ℕ → List Note → List Note
+notes_after_turn true n what before = before ++ note n what ∷ []
+notes_after_turn false n what before = before
 
 -- no entry that came since has a number that the pass holds
 abbrev pub Later : List ℕ → List Note → List Note → Type 0
@@ -17,11 +17,11 @@ Later holds log seen = Continues (IsForeign note_by holds) log seen
 
 -- each answer is that of one turn on the history of its mark, in which others' entries came since;
 -- so each entry of the pass is that of one answer
-abbrev pub Serves : List ℕ → ℕ → List Note → List ℕ → List Answer → List Note
+abbrev pub AnswersEachTurn : List ℕ → ℕ → List Note → List ℕ → List Answer → List Note
     → Type 0
-Serves holds n seen [] [] final = Later holds final seen
-Serves holds n seen [] (a ∷ answers) final = ⊥
-Serves holds n seen (t ∷ texts) [] final = ⊥
-Serves holds n seen (t ∷ texts) (a ∷ answers) final = (before : List Note)
+AnswersEachTurn holds n seen [] [] final = Later holds final seen
+AnswersEachTurn holds n seen [] (a ∷ answers) final = ⊥
+AnswersEachTurn holds n seen (t ∷ texts) [] final = ⊥
+AnswersEachTurn holds n seen (t ∷ texts) (a ∷ answers) final = (before : List Note)
     × Later holds before seen × (a.mark ≡ length before)
-    × Serves holds n (after a.accepted n t before) texts answers final
+    × AnswersEachTurn holds n (notes_after_turn a.accepted n t before) texts answers final

@@ -11,5 +11,5 @@ abbrev pub note_by : Note → ℕ
 note_by e = e.by
 
 -- the note stands at this place of the history
-abbrev pub Stands : List Note → ℕ → ℕ → ℕ → Type 0
-Stands notes place number what = slice_get notes place ≡ Some (note number what)
+abbrev pub NoteStandsAt : List Note → ℕ → ℕ → ℕ → Type 0
+NoteStandsAt notes place number what = slice_get notes place ≡ Some (note number what)

@@ -7,9 +7,9 @@ pick true x xs = x ∷ xs
 pick false x xs = xs
 
 -- the rows with this number
-abbrev pub own : ℕ → List Note → List Note
-own n [] = []
-own n (x ∷ xs) = pick (x.by == n) x (own n xs)
+abbrev pub rows_by : ℕ → List Note → List Note
+rows_by n [] = []
+rows_by n (x ∷ xs) = pick (x.by == n) x (rows_by n xs)
 
 -- what the rows say
 abbrev pub whats : List Note → List ℕ

@@ -2,7 +2,7 @@
 ghost use Rattle.std.specs.Prelude.{◌≡◌, ◌+◌, ◌∷◌, [], ℕ, List};
 ghost use Rattle.turn_cell.specs.declared.view.Stage.TheVariants.{Idle};
 ghost use Rattle.turn_cell_uses.specs.Notes.{note_by};
-ghost use Rattle.turn_cell_uses.specs.Rows.{own, whats};
+ghost use Rattle.turn_cell_uses.specs.Rows.{rows_by, whats};
 
 use crate::book::{Book, Disk};
 use crate::log::Note;
@@ -18,21 +18,21 @@ pub struct Desk<'i, D: Disk> {
     ghost outside: { (pass.known.place.me.0.stage ≡ Idle) × (pass.known.place.me.1 ≡ []) },
     ghost numbered: { (session + 1 ≡ pass.known.number)
         × (pass.known.place.me.0.holds ≡ (session + 1) ∷ []) },
-    ghost owned: { whats entries.items ≡ whats (own (session + 1) pass.known.place.me.0.seen) },
+    ghost owned: { whats entries.items ≡ whats (rows_by (session + 1) pass.known.place.me.0.seen) },
 }
 
 impl<'i, D: Disk> Told for Desk<'i, D> {
-    ghost use Rattle.turn_cell_uses.specs.DeskTag.{DeskTag, desk_tag};
+    ghost use Rattle.turn_cell_uses.specs.DeskTag.{BookDeskTag, book_desk_tag};
 
     type Entry = Note;
 
-    ghost Tag = { DeskTag };
+    ghost Tag = { BookDeskTag };
 
     ghost entries = { λ s. s.entries.items };
 
     ghost by = { note_by };
 
-    ghost tag = { desk_tag };
+    ghost tag = { book_desk_tag };
 
     fn count(&self) -> u64 {
         self.entries.len() as u64

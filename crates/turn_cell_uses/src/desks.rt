@@ -1,11 +1,11 @@
 //! Turns on a desk, each with a turn on the shared book inside it.
 ghost use Rattle.std.specs.Prelude.{◌≡◌, ◌+◌, ◌^◌, ◌<◌, ◌++◌, ◌∷◌, []};
 ghost use Rattle.std.specs.Prelude.{ℕ, List, Some, IfOk, MatchBool};
-ghost use Rattle.turn_cell.specs.Passes.{number, holds, seen, IsOf, IsOutside, IsAlone};
+ghost use Rattle.turn_cell.specs.Passes.{pass_number, pass_numbers, seen, IsOf, IsOutside, IsAlone};
 ghost use Rattle.turn_cell_uses.specs.Notes.{note, note_by};
-ghost use Rattle.turn_cell_uses.specs.Rows.{own};
-ghost use Rattle.turn_cell_uses.specs.Turns.{IsReady, AfterTurn, OneTurn};
-ghost use Rattle.turn_cell_uses.specs.DeskTag.{IsDesk};
+ghost use Rattle.turn_cell_uses.specs.Rows.{rows_by};
+ghost use Rattle.turn_cell_uses.specs.Turns.{IsReadyPass, AfterTurn, OneTurn};
+ghost use Rattle.turn_cell_uses.specs.DeskTag.{IsDeskOfBook};
 
 use crate::book::{Book, Disk};
 use crate::desk::Desk;
@@ -24,9 +24,9 @@ pub fn open_desk<'i, D: Disk + Drop>(
     pass: Pass<Book<D>>,
 ) -> Result<(Cell<Desk<'i, D>>, Pass<Desk<'i, D>>), AllocError>
     requires session { session < 64 }
-    requires pass { IsReady book.now pass × (number pass ≡ session + 1) }
-    requires none { (holds pass ≡ (session + 1) ∷ []) × (seen pass ≡ []) }
-    ensures ok { IfOk result (λ r. IsReady r.0 r.1 × IsDesk book.now r.1 × IsAlone r.1
+    requires pass { IsReadyPass book.now pass × (pass_number pass ≡ session + 1) }
+    requires none { (pass_numbers pass ≡ (session + 1) ∷ []) × (seen pass ≡ []) }
+    ensures ok { IfOk result (λ r. IsReadyPass r.0 r.1 × IsDeskOfBook book.now r.1 × IsAlone r.1
         × (seen r.1 ≡ [])) }
 {
     let desk = Desk {
@@ -77,9 +77,9 @@ pub fn request<'i, D: Disk + Drop, R: Wait>(
     pass: &mut Pass<Desk<'i, D>>,
     what: u64,
 ) -> bool
-    requires cell { IsReady desk_cell.now pass.old }
-    requires desk { IsDesk book.now pass.old }
-    ensures value { OneTurn note_by result (note (number pass.old) what) pass.old pass.new }
+    requires cell { IsReadyPass desk_cell.now pass.old }
+    requires desk { IsDeskOfBook book.now pass.old }
+    ensures value { OneTurn note_by result (note (pass_number pass.old) what) pass.old pass.new }
     ensures kept { AfterTurn desk_cell.now pass.old pass.new }
 {
     let number = pass.number();

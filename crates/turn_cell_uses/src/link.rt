@@ -1,10 +1,10 @@
 //! A link: a turn for each text, and an answer for each turn.
 ghost use Rattle.std.specs.Prelude.{◌≡◌, ◌++◌, ◌∷◌, [], ℕ, List, length, IfOk};
-ghost use Rattle.turn_cell.specs.Passes.{number, seen, holds};
+ghost use Rattle.turn_cell.specs.Passes.{pass_number, seen, pass_numbers};
 ghost use Rattle.turn_cell_uses.specs.declared.log.Note.{Note};
-ghost use Rattle.turn_cell_uses.specs.Turns.{IsReady, AfterTurn};
-ghost use Rattle.turn_cell_uses.specs.Answers.{after, Later, Serves};
-ghost use Rattle.turn_cell_uses.specs.DeskTag.{IsDesk};
+ghost use Rattle.turn_cell_uses.specs.Turns.{IsReadyPass, AfterTurn};
+ghost use Rattle.turn_cell_uses.specs.Answers.{notes_after_turn, Later, AnswersEachTurn};
+ghost use Rattle.turn_cell_uses.specs.DeskTag.{IsDeskOfBook};
 
 use crate::answer::Answer;
 use crate::book::{Book, Disk};
@@ -21,11 +21,11 @@ pub fn turn<'i, D: Disk + Drop, R: Wait>(
     pass: &mut Pass<Desk<'i, D>>,
     what: u64,
 ) -> Answer
-    requires cell { IsReady desk_cell.now pass.old }
-    requires desk { IsDesk book.now pass.old }
-    ensures value { (before : List Note) × Later (holds pass.old) before (seen pass.old)
+    requires cell { IsReadyPass desk_cell.now pass.old }
+    requires desk { IsDeskOfBook book.now pass.old }
+    ensures value { (before : List Note) × Later (pass_numbers pass.old) before (seen pass.old)
         × (result.mark ≡ length before)
-        × (seen pass.new ≡ after result.accepted (number pass.old) what before) }
+        × (seen pass.new ≡ notes_after_turn result.accepted (pass_number pass.old) what before) }
     ensures kept { AfterTurn desk_cell.now pass.old pass.new }
 {
     let number = pass.number();
@@ -45,9 +45,10 @@ pub fn serve<'i, D: Disk + Drop, R: Wait>(
     pass: &mut Pass<Desk<'i, D>>,
     texts: &[u64],
 ) -> Result<Vec<Answer>, AllocError>
-    requires cell { IsReady desk_cell.now pass.old }
-    requires desk { IsDesk book.now pass.old }
-    ensures ok { IfOk result (λ answers. Serves (holds pass.old) (number pass.old)
+    requires cell { IsReadyPass desk_cell.now pass.old }
+    requires desk { IsDeskOfBook book.now pass.old }
+    ensures ok { IfOk result
+        (λ answers. AnswersEachTurn (pass_numbers pass.old) (pass_number pass.old)
         (seen pass.old) texts.now answers.items (seen pass.new)) }
     ensures kept { AfterTurn desk_cell.now pass.old pass.new }
 {

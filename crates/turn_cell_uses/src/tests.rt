@@ -1,6 +1,6 @@
 //! Numbers of passes, and turns on real threads: what no clause says, or only a run shows.
-ghost use Rattle.turn_cell_uses.specs.Turns.{IsReady};
-ghost use Rattle.turn_cell_uses.specs.DeskTag.{IsDesk};
+ghost use Rattle.turn_cell_uses.specs.Turns.{IsReadyPass};
+ghost use Rattle.turn_cell_uses.specs.DeskTag.{IsDeskOfBook};
 
 use crate::{
     Book, Desk, Disk, Event, Log, Tally, accept, add, add_both, add_times, end, open_desk, request,
@@ -52,10 +52,10 @@ fn two_threads_take_10_000_turns_each(rt: HostRuntime) -> Result<(), Fail> {
     join(
         &rt,
         || -> ()
-            requires { IsReady cell one }
+            requires { IsReadyPass cell one }
         { add_times(&rt, &cell, &mut one, 10_000) },
         || -> ()
-            requires { IsReady cell two }
+            requires { IsReadyPass cell two }
         { add_times(&rt, &cell, &mut two, 10_000) },
     );
     let log = end(&rt, cell, root);
@@ -103,16 +103,16 @@ fn two_requests<'i, D: Disk + Drop + Send, R: Threads + Wait + Sync>(
     mut two: Pass<Desk<'i, D>>,
     what: u64,
 ) -> (bool, bool)
-    requires one { IsReady first.now one × IsDesk book.now one }
-    requires two { IsReady second.now two × IsDesk book.now two }
+    requires one { IsReadyPass first.now one × IsDeskOfBook book.now one }
+    requires two { IsReadyPass second.now two × IsDeskOfBook book.now two }
 {
     join(
         rt,
         || -> bool
-            requires { IsReady first.now one × IsDesk book.now one }
+            requires { IsReadyPass first.now one × IsDeskOfBook book.now one }
         { request(rt, book, first, &mut one, what) },
         || -> bool
-            requires { IsReady second.now two × IsDesk book.now two }
+            requires { IsReadyPass second.now two × IsDeskOfBook book.now two }
         { request(rt, book, second, &mut two, what) },
     )
 }

@@ -1,8 +1,8 @@
 //! Two threads on one history.
 ghost use Rattle.std.specs.Prelude.{◌≡◌, IfSome, IfOk};
-ghost use Rattle.turn_cell.specs.Passes.{number, seen};
-ghost use Rattle.turn_cell_uses.specs.Notes.{Stands};
-ghost use Rattle.turn_cell_uses.specs.Turns.{IsReady};
+ghost use Rattle.turn_cell.specs.Passes.{pass_number, seen};
+ghost use Rattle.turn_cell_uses.specs.Notes.{NoteStandsAt};
+ghost use Rattle.turn_cell_uses.specs.Turns.{IsReadyPass};
 
 use crate::log::Log;
 use crate::notes::add;
@@ -15,9 +15,10 @@ use turn_cell::{Cell, Pass};
 type Added = Option<(Pass<Log>, u64)>;
 
 fn add_as<R: Wait>(rt: &R, cell: &Cell<Log>, mut pass: Pass<Log>, what: u64) -> Added
-    requires cell { IsReady cell.now pass }
-    ensures found { IfSome result (λ r. Stands (seen r.0) r.1 (number pass) what) }
-    ensures kept { IfSome result (λ r. IsReady cell.now r.0 × (number r.0 ≡ number pass)) }
+    requires cell { IsReadyPass cell.now pass }
+    ensures found { IfSome result (λ r. NoteStandsAt (seen r.0) r.1 (pass_number pass) what) }
+    ensures kept { IfSome result
+        (λ r. IsReadyPass cell.now r.0 × (pass_number r.0 ≡ pass_number pass)) }
 {
     let place = add(rt, cell, &mut pass, what)?;
     Some((pass, place))
@@ -25,8 +26,8 @@ fn add_as<R: Wait>(rt: &R, cell: &Cell<Log>, mut pass: Pass<Log>, what: u64) -> 
 
 // A cell with an empty log, and its passes 1 and 2.
 fn open_two(alloc: Global) -> Result<(Cell<Log>, Pass<Log>, Pass<Log>), AllocError>
-    ensures first { IfOk result (λ r. IsReady r.0 r.1 × (number r.1 ≡ 1)) }
-    ensures second { IfOk result (λ r. IsReady r.0 r.2 × (number r.2 ≡ 2)) }
+    ensures first { IfOk result (λ r. IsReadyPass r.0 r.1 × (pass_number r.1 ≡ 1)) }
+    ensures second { IfOk result (λ r. IsReadyPass r.0 r.2 × (pass_number r.2 ≡ 2)) }
 {
     let log = Log {
         kind: 7,
@@ -47,20 +48,20 @@ pub fn add_both<R: Threads + Wait + Sync>(
     second: u64,
 ) -> Result<Option<(Pass<Log>, u64, u64)>, AllocError>
     ensures { IfOk result (λ o. IfSome o
-        (λ r. Stands (seen r.0) r.1 1 first × Stands (seen r.0) r.2 2 second)) }
+        (λ r. NoteStandsAt (seen r.0) r.1 1 first × NoteStandsAt (seen r.0) r.2 2 second)) }
 {
     let (cell, one, two) = open_two(alloc)?;
     let (a, b) = join(
         rt,
         || -> Added
-            requires { IsReady cell one × (number one ≡ 1) }
-            ensures { IfSome result (λ r. IsReady cell r.0 × (number r.0 ≡ 1)
-                × Stands (seen r.0) r.1 1 first) }
+            requires { IsReadyPass cell one × (pass_number one ≡ 1) }
+            ensures { IfSome result (λ r. IsReadyPass cell r.0 × (pass_number r.0 ≡ 1)
+                × NoteStandsAt (seen r.0) r.1 1 first) }
         { add_as(rt, &cell, one, first) },
         || -> Added
-            requires { IsReady cell two × (number two ≡ 2) }
-            ensures { IfSome result (λ r. IsReady cell r.0 × (number r.0 ≡ 2)
-                × Stands (seen r.0) r.1 2 second) }
+            requires { IsReadyPass cell two × (pass_number two ≡ 2) }
+            ensures { IfSome result (λ r. IsReadyPass cell r.0 × (pass_number r.0 ≡ 2)
+                × NoteStandsAt (seen r.0) r.1 2 second) }
         { add_as(rt, &cell, two, second) },
     );
     match (a, b) {

@@ -2,7 +2,7 @@
 use Rattle.std.proofs.Common.{◌≡◌, ◌<◌, ℕ, suc, ◌+◌, ◌-◌, List, [], ◌∷◌, ◌++◌, Result, Ok, Err, refl, arith, ap, sym, ◌∙◌}
 use native.Mathlib.Numerals.{unary_clauses}
 use mathlib.Core.List.{append_assoc, append-nil}
-use Rattle.vm_operand.specs.Reading.{◌>>=◌}
+use Rattle.vm_memory.specs.Chaining.{◌>>=◌}
 use Rattle.vm_stack.specs.StackState.{StackState}
 use Rattle.vm_stack.specs.Values.{popped}
 use Rattle.vm_stack.specs.declared.fault.StackFault.{StackFault}

@@ -10,12 +10,12 @@ use Rattle.vm_exec.specs.Answer.{Changes}
 use Rattle.vm_memory.specs.MemoryMap.{MemoryMap, Origin, KeepsMap, origin_of, resized}
 use Rattle.vm_heap.specs.HeapMap.{HeapMap, is_heap, heap_end}
 use Rattle.vm_heap.specs.FirstFit.{first_fit}
-use Rattle.vm_heap.specs.Allocation.{malloced, placed, with_block, start_from, freed, begins, without, heap_of}
+use Rattle.vm_heap.specs.Allocation.{malloced, block_placed, with_block, start_from, freed, begins, blocks_without, heap_of}
 use Rattle.vm_heap.specs.declared.block.Block.{Block}
 use Rattle.vm_heap.specs.declared.fault.HeapFault.TheVariants.{BadBlock}
 use Rattle.vm_heap.proofs.HeapLemmas.{heap_end-page, start-below}
 use Rattle.vm_stack.specs.StackState.{StackState}
-use Rattle.vm_stack.specs.Frame.{loaded, in_named_frame}
+use Rattle.vm_stack.specs.Frame.{stack_loaded, in_named_frame}
 use Rattle.vm_stack.specs.declared.fault.StackFault.TheVariants.{Overflow}
 use Rattle.vm_stack.specs.Chain.{Chain, HasFrame, IsReady, EndsInOwnStub}
 use Rattle.vm_stack.specs.Saved.{LinkedFrames}
@@ -23,7 +23,7 @@ use Rattle.vm_stack.proofs.SavedLemmas.{ready_saved}
 use Rattle.vm_undo.specs.SavedState.{IsSize, IsHeapOver, IsSavedOf}
 use Rattle.vm_undo.specs.UndoList.{newest, without_newest, with_newest}
 use Rattle.vm_undo.specs.declared.saved.Saved.{Saved}
-use Rattle.vm_exec.specs.Machine.{IsMapped, IsFit, IsSaving, IsStore, no_heap}
+use Rattle.vm_exec.specs.Machine.{IsMapped, IsFit, IsSaving, WaitsForNoSave, no_heap}
 use Rattle.vm_exec.specs.declared.machine.Machine.{Machine}
 use Rattle.vm_exec.specs.declared.text.Text.TheVariants.{Off}
 use Rattle.vm_exec.specs.Rows.Undo.{saved_state}
@@ -49,7 +49,7 @@ over o n h new states m heap limit page least =
 some_none : {X : Type 0} (x : ℕ) (a b : X) (nothing : Option ℕ) → nothing ≡ None → nothing ≡ Some x → a ≡ b
 some_none x a b nothing is e = cc
 
-placed-start : (h : HeapMap) (start size at x : ℕ) (new : HeapMap) → placed h start size at ≡ (Some x, new) → new.start ≡ start
+placed-start : (h : HeapMap) (start size at x : ℕ) (new : HeapMap) → block_placed h start size at ≡ (Some x, new) → new.start ≡ start
 placed-start h start size at x new e =
     elim (nat_le (at + size) 16777216) as (λ t. ◌≡◌ {A = Option ℕ × HeapMap} (cond t (Some at, record { start = start; blocks = with_block (record { at = at; length = size }) h.blocks }) (None, h)) (Some x, new) → new.start ≡ start) [
       | true ↦ (λ s. sym (ap (λ (p : Option ℕ × HeapMap). p.1.start) s))
@@ -74,7 +74,7 @@ malloced-mapped o n size x h new states e heap limit m =
     let start : new.start ≡ start_from h n = placed-start h (start_from h n) size (first_fit (start_from h n) h.blocks size) x new e in
     over o n h new states m heap limit (rw start (page_from o n h states m)) (rw start (least_from o n h states m))
 
-placed-none : (h : HeapMap) (start size at : ℕ) (new : HeapMap) → placed h start size at ≡ (None, new) → h ≡ new
+placed-none : (h : HeapMap) (start size at : ℕ) (new : HeapMap) → block_placed h start size at ≡ (None, new) → h ≡ new
 placed-none h start size at new e =
     elim (nat_le (at + size) 16777216) as (λ t. ◌≡◌ {A = Option ℕ × HeapMap} (cond t (Some at, record { start = start; blocks = with_block (record { at = at; length = size }) h.blocks }) (None, h)) (None, new) → h ≡ new) [
       | true ↦ (λ s. some_none at h new None refl (sym (ap (λ (p : Option ℕ × HeapMap). p.0) s)))
@@ -91,10 +91,10 @@ heap_of-start start (b ∷ bs) = inr refl
 
 freed-start : (h new : HeapMap) (at : ℕ) → freed h at ≡ Ok new → (new.start ≡ 0) ⊎ (new.start ≡ h.start)
 freed-start h new at e =
-    elim (begins at h.blocks) as (λ t. cond t (Ok (heap_of h.start (without at h.blocks))) (Err (BadBlock at)) ≡ Ok new → (new.start ≡ 0) ⊎ (new.start ≡ h.start)) [
+    elim (begins at h.blocks) as (λ t. cond t (Ok (heap_of h.start (blocks_without at h.blocks))) (Err (BadBlock at)) ≡ Ok new → (new.start ≡ 0) ⊎ (new.start ≡ h.start)) [
       | true ↦ (λ s.
-          let same : heap_of h.start (without at h.blocks) ≡ new = cc in
-          subst (λ (x : HeapMap). (x.start ≡ 0) ⊎ (x.start ≡ h.start)) same (heap_of-start h.start (without at h.blocks)))
+          let same : heap_of h.start (blocks_without at h.blocks) ≡ new = cc in
+          subst (λ (x : HeapMap). (x.start ≡ 0) ⊎ (x.start ≡ h.start)) same (heap_of-start h.start (blocks_without at h.blocks)))
       | false ↦ (λ s. cc)
     ] e
 
@@ -208,7 +208,7 @@ resized-size m n =
     length-append (take n m.bytes) (replicate (n - length m.bytes) 0) ∙ omega (arith, front, zeros)
 
 -- memory that ends elsewhere
-pub ended-fit : (m : Machine) (end : ℕ) → IsMapped (origin_of m.memory) (max m.memory.endmem end) m.heap m.undo → Chain m.stack → HasFrame m.stack → IsStore m.waiting → m.text ≡ Off
+pub ended-fit : (m : Machine) (end : ℕ) → IsMapped (origin_of m.memory) (max m.memory.endmem end) m.heap m.undo → Chain m.stack → HasFrame m.stack → WaitsForNoSave m.waiting → m.text ≡ Off
     → IsFit (with_heap m m.heap end)
 ended-fit m end map frames frame waits still = record {
   map = subst (λ n. IsMapped (origin_of m.memory) n m.heap m.undo) (sym (resized-size m.memory (max m.memory.endmem end))) map;
@@ -218,7 +218,7 @@ ended-fit m end map frames frame waits still = record {
   still = still;
 }
 
-loaded-there : (s t : StackState) (bytes : List ℕ) → loaded s bytes ≡ Ok t → 0 < length bytes → HasFrame t
+loaded-there : (s t : StackState) (bytes : List ℕ) → stack_loaded s bytes ≡ Ok t → 0 < length bytes → HasFrame t
 loaded-there s t bytes e some =
     elim (nat_le (length bytes) s.limit) as (λ b. cond b (Ok (in_named_frame s bytes)) (Err Overflow) ≡ Ok t → HasFrame t) [
       | true ↦ (λ x. let same : in_named_frame s bytes ≡ t = cc in subst HasFrame same some)
@@ -228,7 +228,7 @@ loaded-there s t bytes e some =
 -- a state of the story in place of memory, stack and heap
 pub state-fit : (m : Machine) (s : Saved) (memory : MemoryMap) (stack : StackState) (heap : HeapMap) (bytes : List ℕ) (blocks : List Block) → bytes ≡ s.stack → blocks ≡ s.heap
     → KeepsMap s.memory memory → heap ≡ record { start = s.heap_start; blocks = blocks }
-    → loaded m.stack bytes ≡ Ok stack → (LinkedFrames bytes → Chain stack) → IsFit m → IsSavedOf (origin_of m.memory) s
+    → stack_loaded m.stack bytes ≡ Ok stack → (LinkedFrames bytes → Chain stack) → IsFit m → IsSavedOf (origin_of m.memory) s
     → IsFit (record m { memory = memory; stack = stack; heap = heap })
 state-fit m s memory stack heap bytes blocks bytes_are blocks_are keeps is load chain fit saved =
     let map : IsMapped (origin_of m.memory) (length s.memory.bytes) (record { start = s.heap_start; blocks = s.heap }) m.undo =
@@ -270,7 +270,7 @@ taken-fit m states is fit = record {
 }
 
 pub ended : (m new : Machine) (end n : ℕ) (r : Result (Unit {0}) Trap) → n ≡ max m.memory.endmem end → Changes (Ok (record m { memory = resized m.memory n })) new r
-    → IsMapped (origin_of m.memory) (max m.memory.endmem end) m.heap m.undo → Chain m.stack → HasFrame m.stack → IsStore m.waiting → m.text ≡ Off → OnOk r (IsFit new)
+    → IsMapped (origin_of m.memory) (max m.memory.endmem end) m.heap m.undo → Chain m.stack → HasFrame m.stack → WaitsForNoSave m.waiting → m.text ≡ Off → OnOk r (IsFit new)
 ended m new end n (Ok x) is e map frames frame waits still =
     let same : record m { memory = resized m.memory n } ≡ new = cc in
     let whole : with_heap m m.heap end ≡ new = ap (λ (k : ℕ). record m { memory = resized m.memory k }) (sym is) ∙ same in

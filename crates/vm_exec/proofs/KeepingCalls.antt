@@ -5,12 +5,12 @@ use Rattle.std.proofs.lemmas.List.Elements.{All-weaker}
 use Rattle.vm_memory.specs.MemoryMap.{MemoryMap, origin_of}
 use Rattle.vm_memory.specs.declared.fault.Trap.{Trap}
 use Rattle.vm_stack.specs.StackState.{StackState}
-use Rattle.vm_flow.specs.Call.{called}
+use Rattle.vm_flow.specs.Call.{function_called}
 use Rattle.vm_undo.specs.SavedState.{IsSavedOf}
 use Rattle.vm_undo.specs.declared.saved.Saved.{Saved}
 use Rattle.vm_exec.specs.Answer.{Changes, Does}
 use Rattle.vm_exec.specs.Fault.{flowed}
-use Rattle.vm_exec.specs.Machine.{IsFit, IsMapped, IsSound, IsWithin, KeepsImage}
+use Rattle.vm_exec.specs.Machine.{IsFit, IsMapped, IsSoundMachine, IsWithin, KeepsImage}
 use Rattle.vm_exec.specs.Row as row
 use Rattle.vm_exec.specs.Rows.Undo as undo
 use Rattle.vm_exec.specs.Start.{IsOver, empty_stack, finished_at, image_memory}
@@ -71,18 +71,18 @@ bound image m map over = record {
 }
 
 stepped : (b : Bool) (left : ℕ) (m new : Machine) (x : t.Text) (r : Result Step Trap)
-    → Does (row.told left (row.charged (row.due m x))) new r → Over (base_of b m) m.stack.limit m → OnOk r (Over (base_of b m) m.stack.limit new)
+    → Does (row.step_within left (row.charged (row.due m x))) new r → Over (base_of b m) m.stack.limit m → OnOk r (Over (base_of b m) m.stack.limit new)
 stepped b left m new x (Ok s) e over =
     subst (λ (y : Result (Machine × Step) ℕ). IfOk y (OverFirst (base_of b m) m.stack.limit)) e (over-told (base_of b m) m.stack.limit left m x over)
 stepped b left m new x (Err t) e over = tt
 
 pub step_keeps : (left : ℕ) (m new : Machine) (x : t.Text) (r : Result Step Trap)
-    → Does (row.told left (row.charged (row.due m x))) new r → IsSound m → OnOk r (KeepsImage m new)
+    → Does (row.step_within left (row.charged (row.due m x))) new r → IsSoundMachine m → OnOk r (KeepsImage m new)
 step_keeps left m new x r e sound =
     ok-on _ _ r (stepped false left m new x r e (free m sound.map)) (keeps false m new)
 
 pub step_over : (image : List ℕ) (left : ℕ) (m new : Machine) (x : t.Text) (r : Result Step Trap)
-    → Does (row.told left (row.charged (row.due m x))) new r → IsSound m → IsOver image m → OnOk r (IsOver image new)
+    → Does (row.step_within left (row.charged (row.due m x))) new r → IsSoundMachine m → IsOver image m → OnOk r (IsOver image new)
 step_over image left m new x r e sound over =
     ok-on _ _ r (stepped true left m new x r e (bound image m sound.map over)) (lies image m new over)
 
@@ -131,7 +131,7 @@ none_within n = record { system = omega arith; few = omega arith; held = λ k d 
 -- the machine with which a story begins lies over its image
 pub started_over : (image : List ℕ) (memory : MemoryMap) (stack new : StackState) (at pc : ℕ)
     → ◌≡◌ {A = Result MemoryMap ℕ} (Ok (image_memory image)) (Ok memory) → ◌≡◌ {A = Result StackState ℕ} (Ok (empty_stack image)) (Ok stack)
-    → flowed (called memory stack at []) ≡ Ok (new, pc) → (origin_of memory ≡ origin_of (image_memory image)) × (new.limit ≡ stack_size image)
+    → flowed (function_called memory stack at []) ≡ Ok (new, pc) → (origin_of memory ≡ origin_of (image_memory image)) × (new.limit ≡ stack_size image)
 started_over image memory stack new at pc m s e =
     let same : image_memory image ≡ memory = cc in
     let empty : empty_stack image ≡ stack = cc in
@@ -139,5 +139,5 @@ started_over image memory stack new at pc m s e =
     let has : Has n stack = ap (λ (t : StackState). t.limit) empty in (
       ap origin_of (sym same),
       sym (subst (λ (y : Result (StackState × ℕ) ℕ). IfOk y (HasFirst n)) e
-          (ok-flowed (HasFirst n) (called memory stack at []) (has-called n memory stack at [] has))),
+          (ok-flowed (HasFirst n) (function_called memory stack at []) (has-called n memory stack at [] has))),
     )

@@ -3,12 +3,13 @@ use Rattle.std.proofs.Common.{◌≡◌, ◌≤◌, refl, arith, length-append, 
 use Rattle.std.specs.Prelude.{All, IfOk, IsTrue}
 use Rattle.std.proofs.lemmas.Bool.Decides.{nat_tests}
 use Rattle.std.specs.Int.{bytes_high_first}
+use Rattle.vm_memory.specs.Chaining.{◌>>=◌}
 use Rattle.vm_memory.specs.Access.{read, written}
 use Rattle.vm_memory.specs.Fault.{coded}
 use Rattle.vm_memory.specs.MemoryMap.{MemoryMap, Origin, origin_of}
 use Rattle.vm_memory.specs.declared.fault.MemFault.{MemFault}
 use Rattle.vm_stack.specs.StackState.{StackState, value_bytes, frame_len, locals_pos}
-use Rattle.vm_stack.specs.Frame.{aligned, cut_to, entered, frame_len_of, left}
+use Rattle.vm_stack.specs.Frame.{aligned, cut_to, entered, frame_len_of, frame_left}
 use Rattle.vm_stack.specs.Locals.{local, local_set}
 use Rattle.vm_stack.specs.Stub.{stub_bytes, stub_pushed, stub_taken}
 use Rattle.vm_stack.specs.Token.{ends_stub}
@@ -16,13 +17,12 @@ use Rattle.vm_stack.specs.Values.{appended, popped, pushed}
 use Rattle.vm_stack.specs.declared.fault.StackFault.{StackFault}
 use Rattle.vm_stack.specs.declared.stub.Stub.{Stub}
 use Rattle.vm_flow.specs.Answer.{and_then, from_memory, from_stack}
-use Rattle.vm_flow.specs.Call.{all_pushed, called, given, locals_set, pair_set}
+use Rattle.vm_flow.specs.Call.{all_pushed, function_called, arguments_given, locals_set, pair_set}
 use Rattle.vm_flow.specs.Function.{format_in}
 use Rattle.vm_flow.specs.Return.{given_back}
 use Rattle.vm_flow.specs.Throw.{thrown, thrown_in}
 use Rattle.vm_flow.specs.declared.stop.FlowStop.{FlowStop}
 use Rattle.vm_undo.specs.declared.saved.Saved.{Saved}
-use Rattle.vm_operand.specs.Reading.{◌>>=◌}
 use Rattle.vm_operand.specs.declared.operand.Load as l
 use Rattle.vm_operand.specs.declared.operand.Load.TheVariants as load
 use Rattle.vm_operand.specs.declared.operand.Dest as d
@@ -186,27 +186,27 @@ has-all_pushed n (x ∷ xs) s h =
     ok-and (Has n) (Has n) (all_pushed s xs) (λ t. from_stack (pushed t x)) (has-all_pushed n xs s h)
     (λ t k. ok-from_stack (Has n) (pushed t x) (has-pushed n t x k))
 
-has-given : (n kind : ℕ) (s : StackState) (format args : List ℕ) → Has n s → IfOk (given kind s format args) (Has n)
+has-given : (n kind : ℕ) (s : StackState) (format args : List ℕ) → Has n s → IfOk (arguments_given kind s format args) (Has n)
 has-given n kind s format args h =
     ok-if (Has n) (kind == 193) _ _ (has-locals_set n format s 0 args h)
     (ok-and (Has n) (Has n) (all_pushed s args) (λ t. from_stack (pushed t (length args))) (has-all_pushed n args s h)
     (λ t k. ok-from_stack (Has n) (pushed t (length args)) (has-pushed n t (length args) k)))
 
-pub has-called : (n : ℕ) (m : MemoryMap) (s : StackState) (at : ℕ) (args : List ℕ) → Has n s → IfOk (called m s at args) (HasFirst n)
+pub has-called : (n : ℕ) (m : MemoryMap) (s : StackState) (at : ℕ) (args : List ℕ) → Has n s → IfOk (function_called m s at args) (HasFirst n)
 has-called n m s at args h =
     ok-after (HasFirst n) (from_memory (read 1 m at)) _
     (λ kind. ok-if (HasFirst n) (kind == 192 || kind == 193) _ _
     (ok-after (HasFirst n) (format_in at (at + 1) (drop (at + 1) m.bytes)) _
-    (λ format. ok-and (Has n) (HasFirst n) (from_stack (entered s format)) (λ t. and_then (given kind t format args) (λ u. Ok (u, at + 1 + length format)))
+    (λ format. ok-and (Has n) (HasFirst n) (from_stack (entered s format)) (λ t. and_then (arguments_given kind t format args) (λ u. Ok (u, at + 1 + length format)))
     (ok-from_stack (Has n) (entered s format) (ok-if (Has n) (nat_le (length s.bytes + frame_len_of format) s.limit) _ _ h tt))
-    (λ t k. ok-and (Has n) (HasFirst n) (given kind t format args) (λ u. Ok (u, at + 1 + length format)) (has-given n kind t format args k) (λ u e. e))))
+    (λ t k. ok-and (Has n) (HasFirst n) (arguments_given kind t format args) (λ u. Ok (u, at + 1 + length format)) (has-given n kind t format args k) (λ u e. e))))
     tt)
 
 pub has-given_back : (n : ℕ) (s : StackState) → Has n s → IfOk (given_back s) (HasFirst n)
 has-given_back n s h =
-    ok-if (HasFirst n) (length (left s).bytes == 0) _ _ h
-    (ok-and (HasFirst n) (HasFirst n) (from_stack (stub_taken (left s))) (λ x. Ok (x.0, Some x.1))
-    (ok-from_stack (HasFirst n) (stub_taken (left s)) (has-stub_taken n (left s) h)) (λ x k. k))
+    ok-if (HasFirst n) (length (frame_left s).bytes == 0) _ _ h
+    (ok-and (HasFirst n) (HasFirst n) (from_stack (stub_taken (frame_left s))) (λ x. Ok (x.0, Some x.1))
+    (ok-from_stack (HasFirst n) (stub_taken (frame_left s)) (has-stub_taken n (frame_left s) h)) (λ x k. k))
 
 has-thrown_in : (n steps : ℕ) (s : StackState) (token : ℕ) → Has n s → IfOk (thrown_in steps s token) (HasFirst n)
 has-thrown_in n zero s token h = tt
@@ -215,7 +215,7 @@ has-thrown_in n (suc steps) s token h =
     (ok-and (Has n) (HasFirst n) (from_stack (cut_to s token)) (λ t. from_stack (stub_taken t))
     (ok-from_stack (Has n) (cut_to s token) (has-cut_to n s token h))
     (λ t k. ok-from_stack (HasFirst n) (stub_taken t) (has-stub_taken n t k)))
-    (has-thrown_in n steps (left s) token h)
+    (has-thrown_in n steps (frame_left s) token h)
 
 pub has-thrown : (n : ℕ) (s : StackState) (token : ℕ) → Has n s → IfOk (thrown s token) (HasFirst n)
 has-thrown n s token h = has-thrown_in n (length s.bytes) s token h
@@ -229,12 +229,12 @@ on_stack o n m s k h = record { memory = k.memory; limit = h; undo = k.undo; fix
 pub in_memory : (o : Base) (n : ℕ) (m : Machine) (r : MemoryMap) → Over o n m → Lies o r → Over o n (record m { memory = r })
 in_memory o n m r k h = record { memory = h; limit = k.limit; undo = k.undo; fixed = k.fixed; within = k.within }
 
-over-loaded : (o : Base) (n w : ℕ) (m : Machine) (x : l.Load) → Over o n m → IfOk (rules.loaded w m x) (OverFirst o n)
+over-loaded : (o : Base) (n w : ℕ) (m : Machine) (x : l.Load) → Over o n m → IfOk (rules.operand_loaded w m x) (OverFirst o n)
 over-loaded o n w m (load.Value x) k = k
 over-loaded o n w m (load.At a) k = ok-then (OverFirst o n) (coded (read w m.memory a)) (λ x. Ok (m, x)) (λ x. k)
 over-loaded o n w m (load.Local a) k = ok-then (OverFirst o n) (stacked (local m.stack a w)) (λ x. Ok (m, x)) (λ x. k)
 over-loaded o n w m load.Pop k =
-    ok-bind (HasFirst n) (OverFirst o n) (stacked (popped m.stack)) (λ p. Ok (record m { stack = p.0 }, rules.cut w p.1))
+    ok-bind (HasFirst n) (OverFirst o n) (stacked (popped m.stack)) (λ p. Ok (record m { stack = p.0 }, rules.low_bytes w p.1))
     (ok-stacked (HasFirst n) (popped m.stack) (has-popped n m.stack k.limit)) (λ p h. on_stack o n m p.0 k h)
 
 pub over-loaded_all : (o : Base) (n w : ℕ) (xs : List l.Load) (m : Machine) (i : ℕ) (args : List ℕ) → Over o n m
@@ -242,7 +242,7 @@ pub over-loaded_all : (o : Base) (n w : ℕ) (xs : List l.Load) (m : Machine) (i
 unfolding rules.loaded_all
 over-loaded_all o n w [] m i args k = k
 over-loaded_all o n w (x ∷ xs) m i args k =
-    ok-bind (OverFirst o n) (OverFirst o n) (rules.loaded w m x) (λ a. rules.loaded_all w a.0 xs (i + 1) (slice_set args i a.1))
+    ok-bind (OverFirst o n) (OverFirst o n) (rules.operand_loaded w m x) (λ a. rules.loaded_all w a.0 xs (i + 1) (slice_set args i a.1))
     (over-loaded o n w m x k) (λ a h. over-loaded_all o n w xs a.0 (i + 1) (slice_set args i a.1) h)
 
 pub over-stored_in : (o : Base) (n w : ℕ) (m : Machine) (to : d.Dest) (x : ℕ) → Over o n m → IfOk (rules.stored_in w m to x) (Over o n)
@@ -277,8 +277,8 @@ over-writes o n m w at x k =
 
 pub over-enters : (o : Base) (n : ℕ) (m : Machine) (at : ℕ) (args : List ℕ) → Over o n m → IfOk (rules.enters m at args) (OverFirst o n)
 over-enters o n m at args k =
-    ok-bind (HasFirst n) (OverFirst o n) (flowed (called m.memory m.stack at args)) (λ x. rules.goes (record m { stack = x.0; pc = x.1 }))
-    (ok-flowed (HasFirst n) (called m.memory m.stack at args) (has-called n m.memory m.stack at args k.limit))
+    ok-bind (HasFirst n) (OverFirst o n) (flowed (function_called m.memory m.stack at args)) (λ x. rules.goes (record m { stack = x.0; pc = x.1 }))
+    (ok-flowed (HasFirst n) (function_called m.memory m.stack at args) (has-called n m.memory m.stack at args k.limit))
     (λ x h. record { memory = k.memory; limit = h; undo = k.undo; fixed = k.fixed; within = k.within })
 
 over-stub : (o : Base) (n : ℕ) (m : Machine) (x : Stub) → Over o n m

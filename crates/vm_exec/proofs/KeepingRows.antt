@@ -4,6 +4,7 @@ use Rattle.std.specs.Prelude.{All, IfOk, IsTrue}
 use Rattle.std.proofs.lemmas.Bool.Decides.{nat_tests}
 use Rattle.std.proofs.lemmas.List.{length-take}
 use Rattle.std.proofs.lemmas.List.Elements.{All-cons, All-drop, All-head, All-tail, All-take}
+use Rattle.vm_memory.specs.Chaining.{◌>>=◌}
 use Rattle.vm_memory.specs.Access.{copied, read, zeroed}
 use Rattle.vm_memory.specs.Fault as memory
 use Rattle.vm_memory.specs.Fault.{coded}
@@ -13,12 +14,12 @@ use Rattle.vm_memory.specs.declared.memory.TheConstants.{MAX_SIZE}
 use Rattle.vm_stack.specs.StackState.{StackState, value_bytes}
 use Rattle.vm_stack.specs.Frame as frame
 use Rattle.vm_stack.specs.Stub.{stub_bytes, stub_pushed, stub_taken}
-use Rattle.vm_stack.specs.Values.{peeked, pushed, rolled, count}
-use Rattle.vm_flow.specs.Call.{called}
+use Rattle.vm_stack.specs.Values.{peeked, pushed, rolled, value_count}
+use Rattle.vm_flow.specs.Call.{function_called}
 use Rattle.vm_flow.specs.Throw.{thrown}
 use Rattle.vm_heap.specs.Allocation.{freed, malloced}
 use Rattle.vm_heap.specs.HeapMap.{HeapMap}
-use Rattle.vm_undo.specs.Protection.{protected, first_of, end_of}
+use Rattle.vm_undo.specs.Protection.{protected, protection_start, protection_end}
 use Rattle.vm_undo.specs.UndoList.{newest, without_newest, has_any}
 use Rattle.vm_undo.specs.declared.saved.Saved.{Saved}
 use Rattle.vm_search.specs.Ending.{Ending, first_ending}
@@ -28,7 +29,7 @@ use Rattle.vm_search.specs.Binary.{binary_ends}
 use Rattle.vm_search.specs.Linked.{linked_ends}
 use Rattle.vm_search.specs.declared.query.Query.{Query}
 use Rattle.vm_string.specs.Fault as string
-use Rattle.vm_string.specs.Next.{next}
+use Rattle.vm_string.specs.Next.{piece_after}
 use Rattle.vm_string.specs.declared.piece.Cursor.{Cursor}
 use Rattle.vm_string.specs.declared.piece.Piece.{Piece}
 use Rattle.vm_string.specs.declared.piece.Piece.TheVariants as piece
@@ -37,7 +38,6 @@ use Rattle.vm_operand.specs.Branch.{holds}
 use Rattle.vm_operand.specs.Fault as operand
 use Rattle.vm_operand.specs.Instruction.{instruction_at}
 use Rattle.vm_operand.specs.Opcode.{op_of}
-use Rattle.vm_operand.specs.Reading.{◌>>=◌}
 use Rattle.vm_operand.specs.declared.opcode.Array.{Array}
 use Rattle.vm_operand.specs.declared.opcode.Array.TheVariants.{Aload, Aloads, Aloadb, Aloadbit, Astore, Astores, Astoreb, Astorebit}
 use Rattle.vm_operand.specs.declared.opcode.Branch.{Branch}
@@ -105,11 +105,11 @@ over-calls_from o n m at args c held k =
     (over-suspended o n m held (stubs.string_stub c.kind) c.bit c.at k) (λ r h. over-enters o n r at args h)
 
 over-refers : (o : Base) (n : ℕ) (m : Machine) (at args_at count : ℕ) (c : Cursor) (held : Bool) → Over o n m
-    → IfOk (texts.refers m at args_at count c held) (OverFirst o n)
+    → IfOk (texts.refers_to_object m at args_at count c held) (OverFirst o n)
 over-refers o n m at args_at count c held k =
     ok-then (OverFirst o n) (memory.coded (read 1 m.memory at)) _
     (λ kind. ok-if (OverFirst o n) (kind == 0xE0 || kind == 0xE1 || kind == 0xE2) _ _
-    (ok-bind (Over o n) (OverFirst o n) (texts.paused m c held) (λ r. texts.begins r at true)
+    (ok-bind (Over o n) (OverFirst o n) (texts.paused m c held) (λ r. texts.begins_string r at true)
     (over-suspended o n m held (stubs.string_stub c.kind) c.bit c.at k)
     (λ r h. record { memory = h.memory; limit = h.limit; undo = h.undo; fixed = h.fixed; within = h.within }))
     (ok-if (OverFirst o n) (kind == 0xC0 || kind == 0xC1) _ _
@@ -117,7 +117,7 @@ over-refers o n m at args_at count c held k =
     (λ args. over-calls_from o n m at args c held k))
     tt))
 
-over-ends : (o : Base) (n : ℕ) (m : Machine) (held : Bool) → Over o n m → IfOk (texts.ends m held) (OverFirst o n)
+over-ends : (o : Base) (n : ℕ) (m : Machine) (held : Bool) → Over o n m → IfOk (texts.ends_string m held) (OverFirst o n)
 over-ends o n m false k = k
 over-ends o n m true k =
     ok-bind (OverFirst o n) (OverFirst o n) (stubs.unstubbed m) (λ x. stubs.text_on x.0 x.1 >>= rules.goes) (over-unstubbed o n m k)
@@ -133,7 +133,7 @@ over-pieced o n m held piece.End c k = over-ends o n m held k
 
 over-string_rule : (o : Base) (n : ℕ) (m : Machine) (c : Cursor) (held : Bool) → Over o n m → IfOk (texts.string_rule m c held) (OverFirst o n)
 over-string_rule o n m c held k =
-    ok-then (OverFirst o n) (string.coded (next m.memory m.string_table c)) (λ x. texts.pieced m held x.0 x.1)
+    ok-then (OverFirst o n) (string.string_coded (piece_after m.memory m.string_table c)) (λ x. texts.pieced m held x.0 x.1)
     (λ x. over-pieced o n m held x.0 x.1 k)
 
 over-number_rule : (o : Base) (n : ℕ) (m : Machine) (value place : ℕ) (held : Bool) → Over o n m
@@ -154,7 +154,7 @@ over-size_set o n m size to k =
     (ok-if (Over o n) (nat_lt MAX_SIZE size) _ _ (over-stored_in o n 4 m to 1 k)
     (over-stored_in o n 4 (record m { memory = resized m.memory size }) to 0 (in_memory o n m (resized m.memory size) k k.memory)))
 
-over-given : (o : Base) (n : ℕ) (m : Machine) (x : Option ℕ × HeapMap) → Over o n m → Over o n (heaps.given m x).0
+over-given : (o : Base) (n : ℕ) (m : Machine) (x : Option ℕ × HeapMap) → Over o n m → Over o n (heaps.block_given m x).0
 over-given o n m (None, h) k = record { memory = k.memory; limit = k.limit; undo = k.undo; fixed = k.fixed; within = k.within }
 over-given o n m (Some at, h) k = record { memory = k.memory; limit = k.limit; undo = k.undo; fixed = k.fixed; within = k.within }
 
@@ -175,12 +175,12 @@ lies-if o true a b h k = h
 lies-if o false a b h k = k
 
 lies-protected : (o : Base) (a b : MemoryMap) (start count : ℕ) → Lies o b → Lies o (protected a b start count)
-lies-protected o a b start count h = lies-if o (nat_lt (first_of a b start) (end_of a b start count)) _ b h h
+lies-protected o a b start count h = lies-if o (nat_lt (protection_start a b start) (protection_end a b start count)) _ b h h
 
 pub over-with_state : (o : Base) (n : ℕ) (m : Machine) (s : Saved) → Over o n m → Lies o s.memory → IfOk (undo.with_state m s) (Over o n)
 over-with_state o n m s k h =
-    ok-bind (Has n) (Over o n) (stacked (frame.loaded m.stack s.stack)) _
-    (ok-stacked (Has n) (frame.loaded m.stack s.stack) (ok-if (Has n) (nat_le (length s.stack) m.stack.limit) _ _ k.limit tt))
+    ok-bind (Has n) (Over o n) (stacked (frame.stack_loaded m.stack s.stack)) _
+    (ok-stacked (Has n) (frame.stack_loaded m.stack s.stack) (ok-if (Has n) (nat_le (length s.stack) m.stack.limit) _ _ k.limit tt))
     (λ stack e. record {
       memory = lies-protected o m.memory s.memory m.protection.start m.protection.length h;
       limit = e;
@@ -249,8 +249,8 @@ over-restored o n m to (s ∷ states) k h w =
 
 over-restarted : (o : Base) (n : ℕ) (m : Machine) → Over o n m → IfOk (undo.restarted m) (Over o n)
 over-restarted o n m k =
-    ok-bind (HasFirst n) (Over o n) (flowed (called (undo.sparing m (reset m.memory)) (undo.emptied m.stack) m.start_function [])) _
-    (ok-flowed (HasFirst n) _ (has-called n (undo.sparing m (reset m.memory)) (undo.emptied m.stack) m.start_function [] k.limit))
+    ok-bind (HasFirst n) (Over o n) (flowed (function_called (undo.sparing m (reset m.memory)) (undo.stack_emptied m.stack) m.start_function [])) _
+    (ok-flowed (HasFirst n) _ (has-called n (undo.sparing m (reset m.memory)) (undo.stack_emptied m.stack) m.start_function [] k.limit))
     (λ x h. record {
       memory = lies-protected o m.memory (reset m.memory) m.protection.start m.protection.length k.memory;
       limit = h;
@@ -272,7 +272,7 @@ same o n m k = k
 
 over-math : (o : Base) (n : ℕ) (x : Math) (m : Machine) (l : ℕ → ℕ) (d : ℕ → d.Dest) → Over o n m → WorkOver o n (math_work x m l d)
 unfolding math_work
-over-math o n x m l d k = over-reads o n m (d 0) (operand.coded (applied x (l 0) (l 1))) k
+over-math o n x m l d k = over-reads o n m (d 0) (operand.operation_coded (applied x (l 0) (l 1))) k
 
 over-branch : (o : Base) (n : ℕ) (x : Branch) (m : Machine) (l : ℕ → ℕ) (d : ℕ → d.Dest) → Over o n m → WorkOver o n (branch_work x m l d)
 unfolding branch_work
@@ -293,7 +293,7 @@ over-branch o n Jleu m l d k = over-when o n m (holds Jleu (l 0) (l 1)) (l 2) k
 
 over-tailcalls : (o : Base) (n at : ℕ) (m : Machine) (args : List ℕ) → Over o n m → IfOk (functions.tailcalls at m args) (OverFirst o n)
 over-tailcalls o n at m args k =
-    over-enters o n (record m { stack = frame.left m.stack }) at args (on_stack o n m (frame.left m.stack) k k.limit)
+    over-enters o n (record m { stack = frame.frame_left m.stack }) at args (on_stack o n m (frame.frame_left m.stack) k k.limit)
 
 over-catches : (o : Base) (n : ℕ) (m : Machine) (to : d.Dest) (offset : ℕ) → Over o n m → IfOk (functions.catches m to offset) (OverFirst o n)
 over-catches o n m to offset k =
@@ -364,7 +364,7 @@ has-copied_up n (suc c) s depth h =
 
 over-values : (o : Base) (n : ℕ) (x : Values) (m : Machine) (l : ℕ → ℕ) (d : ℕ → d.Dest) → Over o n m → WorkOver o n (values.values_work x m l d)
 unfolding values.values_work
-over-values o n Stkcount m l d k = over-puts o n m (d 0) (count m.stack) k
+over-values o n Stkcount m l d k = over-puts o n m (d 0) (value_count m.stack) k
 over-values o n Stkpeek m l d k = over-reads o n m (d 0) (stacked (peeked m.stack (l 0))) k
 over-values o n Stkswap m l d k = over-rolls o n m 2 1 k
 over-values o n Stkroll m l d k = over-rolls o n m (l 0) (l 1) k
@@ -389,8 +389,8 @@ over-io o n m false mode rock e k = record {
   within = λ t. record { system = omega arith; few = (k.within t).few; held = (k.within t).held };
 }
 
-over-stream : (o : Base) (n : ℕ) (x : Stream) (m : Machine) (l : ℕ → ℕ) (d : ℕ → d.Dest) → Over o n m → WorkOver o n (output.stream_work x m l d)
-unfolding output.stream_work
+over-stream : (o : Base) (n : ℕ) (x : Stream) (m : Machine) (l : ℕ → ℕ) (d : ℕ → d.Dest) → Over o n m → WorkOver o n (output.streaming_work x m l d)
+unfolding output.streaming_work
 over-stream o n Streamchar m l d k = over-streams o n m (l 0 % 256) k
 over-stream o n Streamunichar m l d k = over-streams o n m (l 0) k
 over-stream o n Getstringtbl m l d k = over-puts o n m (d 0) m.string_table k
@@ -436,16 +436,16 @@ over-system o n Setrandom m l d k = over-reseeded o n m (l 0 == 0) (refreshed m.
 over-asks_save : (o : Base) (n : ℕ) (m : Machine) (stream : ℕ) (to : d.Dest) → Over o n m → IfOk (undo.asks_save m stream to) (OverFirst o n)
 over-asks_save o n m stream to k =
     ok-if (OverFirst o n) (m.mode == 2)
-    (rules.with_stub m to >>= (λ r. rules.tells (record r { waiting = waiting.Stub }) (out.Save stream)))
+    (rules.with_stub m to >>= (λ r. rules.tells_out (record r { waiting = waiting.Stub }) (out.Save stream)))
     (rules.puts m to 1)
-    (ok-bind (Over o n) (OverFirst o n) (rules.with_stub m to) (λ r. rules.tells (record r { waiting = waiting.Stub }) (out.Save stream))
+    (ok-bind (Over o n) (OverFirst o n) (rules.with_stub m to) (λ r. rules.tells_out (record r { waiting = waiting.Stub }) (out.Save stream))
     (over-with_stub o n m to k) (λ r h. record { memory = h.memory; limit = h.limit; undo = h.undo; fixed = h.fixed; within = h.within }))
     (over-puts o n m to 1 k)
 
 over-asks_restore : (o : Base) (n : ℕ) (m : Machine) (stream : ℕ) (to : d.Dest) → Over o n m
     → IfOk (undo.asks_restore m stream to) (OverFirst o n)
 over-asks_restore o n m stream to k =
-    ok-if (OverFirst o n) (m.mode == 2) (rules.tells (record m { waiting = waiting.Store to }) (out.Restore stream)) (rules.puts m to 1)
+    ok-if (OverFirst o n) (m.mode == 2) (rules.tells_out (record m { waiting = waiting.Store to }) (out.Restore stream)) (rules.puts m to 1)
     (record { memory = k.memory; limit = k.limit; undo = k.undo; fixed = k.fixed; within = k.within })
     (over-puts o n m to 1 k)
 
@@ -473,7 +473,7 @@ over-state o n Discardundo m l d k = record {
 over-state o n Save m l d k = over-asks_save o n m (l 0) (d 0) k
 over-state o n Restore m l d k = over-asks_restore o n m (l 0) (d 0) k
 
-over-answered : (o : Base) (n : ℕ) (m : Machine) (to : d.Dest) (e : Option Ending) → Over o n m → WorkOver o n (searching.answered m to e)
+over-answered : (o : Base) (n : ℕ) (m : Machine) (to : d.Dest) (e : Option Ending) → Over o n m → WorkOver o n (searching.search_answered m to e)
 over-answered o n m to None k = tt
 over-answered o n m to (Some e) k = over-reads o n m to (coded e.answer) k
 
@@ -484,7 +484,7 @@ work-if o n false x y h k = k
 over-searched : (o : Base) (n : ℕ) (m : Machine) (to : d.Dest) (q : Query) (ends : ℕ → Option Ending) → Over o n m
     → WorkOver o n (searching.searched m to q ends)
 over-searched o n m to q ends k =
-    work-if o n (is_search q) (searching.answered m to (first_ending ends 0 (2 ^ 32))) (Free (Err 10))
+    work-if o n (is_search q) (searching.search_answered m to (first_ending ends 0 (2 ^ 32))) (Free (Err 10))
     (over-answered o n m to (first_ending ends 0 (2 ^ 32)) k) tt
 
 over-block : (o : Base) (n : ℕ) (m : Machine) (r : Result MemoryMap MemFault) → Over o n m → IfOk r (Lies o)
@@ -526,13 +526,13 @@ over-work o n (op.Search x) m l d k = over-search o n x m l d k
 
 over-work_of : (o : Base) (n : ℕ) (x : Option Op) (m : Machine) (args : List ℕ) (to : List d.Dest) → Over o n m → WorkOver o n (row.work_of x m args to)
 over-work_of o n None m args to k = tt
-over-work_of o n (Some x) m args to k = over-work o n x m (slice_index args) (row.dest_of to) k
+over-work_of o n (Some x) m args to k = over-work o n x m (slice_index args) (row.dest_by_index to) k
 
 -- ---- a step
 
 over-fetched : (o : Base) (n : ℕ) (m : Machine) → Over o n m → IfOk (row.fetched m) (WorkOver o n)
 over-fetched o n m k =
-    ok-then (WorkOver o n) (operand.coded (instruction_at m.memory m.pc)) _
+    ok-then (WorkOver o n) (operand.operation_coded (instruction_at m.memory m.pc)) _
     (λ i. ok-bind (OverFirst o n) (WorkOver o n)
     (rules.loaded_all (row.width_of (op_of i.op)) m (take i.loads.count i.loads.items) 0 (replicate 8 0)) _
     (over-loaded_all o n (row.width_of (op_of i.op)) (take i.loads.count i.loads.items) m 0 (replicate 8 0) k)
@@ -556,7 +556,7 @@ over-charged o n (Ok (Costs c r)) h = h
 over-charged o n (Err e) h = tt
 
 pub over-told : (o : Base) (n left : ℕ) (m : Machine) (x : t.Text) → Over o n m
-    → IfOk (row.told left (row.charged (row.due m x))) (OverFirst o n)
+    → IfOk (row.step_within left (row.charged (row.due m x))) (OverFirst o n)
 over-told o n left m x k =
     let c = row.charged (row.due m x) in
     ok-if (OverFirst o n) (nat_lt left c.cost) _ _ tt

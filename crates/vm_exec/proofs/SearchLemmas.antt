@@ -1,23 +1,23 @@
 -- A search within the ticks that are left, and as its row has it.
 use Rattle.std.proofs.Common.{◌≡◌, ℕ, zero, suc, ◌^◌, Bool, true, false, cond, nat_lt, Option, Some, None, Result, Ok, Err, refl, ap, sym, ◌∙◌}
+use Rattle.vm_memory.specs.Chaining.{◌>>=◌}
 use Rattle.vm_memory.specs.Fault.{coded}
 use Rattle.vm_memory.specs.MemoryMap.{MemoryMap, number_at}
 use Rattle.vm_memory.specs.declared.fault.MemFault.{MemFault}
 use Rattle.vm_memory.specs.declared.fault.MemFault.TheVariants.{BadRead, BadWrite}
-use Rattle.vm_operand.specs.Reading.{◌>>=◌}
 use Rattle.vm_operand.specs.declared.operand.Dest.{Dest}
-use Rattle.vm_search.specs.Binary.{interval_at, half, middle, binary_ends, ends_in}
-use Rattle.vm_search.specs.Ending.{Ending, first_ending, search_of, told, told_answer}
+use Rattle.vm_search.specs.Binary.{interval_at, half, middle, binary_ends, ends_at_interval}
+use Rattle.vm_search.specs.Ending.{Ending, first_ending, search_of, found_within, told_answer}
 use Rattle.vm_search.specs.Key.{is_search, compared}
 use Rattle.vm_search.specs.Linear.{linear_ends, structure_at}
-use Rattle.vm_search.specs.Linked.{linked_ends, ends_at, place_at, link_of}
+use Rattle.vm_search.specs.Linked.{linked_ends, ends_at, chain_place, next_link}
 use Rattle.vm_search.specs.declared.fault.SearchStop.{SearchStop}
 use Rattle.vm_search.specs.declared.fault.SearchStop.TheVariants.{BadSearch, Spent}
 use Rattle.vm_search.specs.declared.binary_search.Interval.{Interval}
 use Rattle.vm_search.specs.declared.query.Found.{Found}
 use Rattle.vm_search.specs.declared.query.Query.{Query}
 use Rattle.vm_exec.specs.Rules.{puts}
-use Rattle.vm_exec.specs.Rows.Searching.{answered, found_in, query_of, linked_query, linear_work, binary_work, linked_work}
+use Rattle.vm_exec.specs.Rows.Searching.{search_answered, found_in, query_of, linked_query, linear_work, binary_work, linked_work}
 use Rattle.vm_exec.specs.Rows.Work.{Free, Costs, budgeted}
 use Rattle.vm_exec.specs.declared.machine.Machine.{Machine}
 
@@ -30,12 +30,12 @@ answer_is left k m to (Err (BadRead at)) false past = rw past refl
 answer_is left k m to (Err (BadWrite at)) false past = rw past refl
 
 ending_is : (left : ℕ) (m : Machine) (to : Dest) (e : Option Ending)
-    → budgeted left (answered m to e) ≡ found_in left m to (told left e)
+    → budgeted left (search_answered m to e) ≡ found_in left m to (found_within left e)
 ending_is left m to None = refl
 ending_is left m to (Some e) = answer_is left e.looked m to e.answer (nat_lt left e.looked) refl
 
 search_if : (left : ℕ) (m : Machine) (to : Dest) (e : Option Ending) (b : Bool)
-    → budgeted left (cond b (answered m to e) (Free (Err 10))) ≡ found_in left m to (cond b (told left e) (Err BadSearch))
+    → budgeted left (cond b (search_answered m to e) (Free (Err 10))) ≡ found_in left m to (cond b (found_within left e) (Err BadSearch))
 search_if left m to e true = ending_is left m to e
 search_if left m to e false = refl
 
@@ -46,11 +46,11 @@ first_same f g same zero n = refl
 first_same f g same (suc k) n = rw (same n, first_same f g same k (suc n)) refl
 
 same_search : (left : ℕ) (m : Machine) (to : Dest) (f g : ℕ → Option Ending) (b : Bool) → ((k : ℕ) → f k ≡ g k)
-    → budgeted left (cond b (answered m to (first_ending f 0 (2 ^ 32))) (Free (Err 10)))
-    ≡ found_in left m to (cond b (told left (first_ending g 0 (2 ^ 32))) (Err BadSearch))
+    → budgeted left (cond b (search_answered m to (first_ending f 0 (2 ^ 32))) (Free (Err 10)))
+    ≡ found_in left m to (cond b (found_within left (first_ending g 0 (2 ^ 32))) (Err BadSearch))
 same_search left m to f g b same =
     search_if left m to (first_ending f 0 (2 ^ 32)) b
-    ∙ ap (λ (e : Option Ending). found_in left m to (cond b (told left e) (Err BadSearch))) (first_same f g same (2 ^ 32) 0)
+    ∙ ap (λ (e : Option Ending). found_in left m to (cond b (found_within left e) (Err BadSearch))) (first_same f g same (2 ^ 32) 0)
 
 pub linear_is : (left : ℕ) (m : Machine) (l : ℕ → ℕ) (to : Dest)
     → budgeted left (linear_work m l to) ≡ found_in left m to (search_of (query_of l left) (linear_ends m.memory (query_of l left)))
@@ -66,13 +66,13 @@ pub binary_is : (left : ℕ) (m : Machine) (l : ℕ → ℕ) (to : Dest)
     → budgeted left (binary_work m l to) ≡ found_in left m to (search_of (query_of l left) (binary_ends m.memory (query_of l left)))
 binary_is left m l to =
     same_search left m to (binary_ends m.memory (query_of l 0)) (binary_ends m.memory (query_of l left)) (is_search (query_of l 0))
-    (λ k. ap (λ (i : Interval). ends_in m.memory (query_of l left) k i) (interval_is m.memory l left k))
+    (λ k. ap (λ (i : Interval). ends_at_interval m.memory (query_of l left) k i) (interval_is m.memory l left k))
 
-place_is : (m : MemoryMap) (l : ℕ → ℕ) (left k : ℕ) → place_at m (linked_query l 0) k ≡ place_at m (linked_query l left) k
-unfolding place_at
+place_is : (m : MemoryMap) (l : ℕ → ℕ) (left k : ℕ) → chain_place m (linked_query l 0) k ≡ chain_place m (linked_query l left) k
+unfolding chain_place
 place_is m l left zero = refl
 place_is m l left (suc k) =
-    ap (λ (at : ℕ). number_at 4 m.bytes (link_of (linked_query l left) at)) (place_is m l left k)
+    ap (λ (at : ℕ). number_at 4 m.bytes (next_link (linked_query l left) at)) (place_is m l left k)
 
 pub linked_is : (left : ℕ) (m : Machine) (l : ℕ → ℕ) (to : Dest)
     → budgeted left (linked_work m l to) ≡ found_in left m to (search_of (linked_query l left) (linked_ends m.memory (linked_query l left)))

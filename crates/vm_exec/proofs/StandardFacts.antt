@@ -3,7 +3,7 @@ use Rattle.std.proofs.Common.{◌≡◌, ◌%◌, refl}
 use Rattle.vm_exec.specs.Rows.Array.{byte_with_bit, bit, with_bit, element}
 use Rattle.vm_exec.specs.Rows.Moving.{sign_extended}
 use Rattle.rand_pcg.specs.Lcg.{state_after}
-use Rattle.vm_exec.specs.Random.{word_of, bounded}
+use Rattle.vm_exec.specs.Random.{random_word, bounded}
 use Rattle.vm_exec.specs.Rows.System.{gestalt}
 
 the_bit_before_an_array : byte_with_bit 0x110 0xFFFFFFFF ≡ 0x10F
@@ -31,11 +31,11 @@ the_version_of_glulx : gestalt 0 0 ≡ 0x00030103
 the_version_of_glulx = refl
 
 -- the first words that PCG's reference demonstration prints, for the start 42 and the stream 54
-a_reference_word : word_of 42 54 0 ≡ 0xA15C02B7
+a_reference_word : random_word 42 54 0 ≡ 0xA15C02B7
 unfolding state_after
 a_reference_word = refl
 
-the_word_after_it : word_of 42 54 1 ≡ 0x7B47F409
+the_word_after_it : random_word 42 54 1 ≡ 0x7B47F409
 unfolding state_after
 the_word_after_it = refl
 

@@ -1,7 +1,7 @@
 -- One tick before an opcode's work.
 use Rattle.std.proofs.Common.{IsErrAnd, ◌≡◌, ℕ, ◌+◌, ◌-◌, ◌<◌, Bool, true, false, nat_lt, Result, Ok, Err, refl, arith, List, replicate, take, slice_index, Option, Some, ◌∙◌, sym, ap, subst, cond}
 use Rattle.std.proofs.lemmas.Bool.Decides.{nat_tests}
-use Rattle.vm_operand.specs.Reading.{◌>>=◌}
+use Rattle.vm_memory.specs.Chaining.{◌>>=◌}
 use Rattle.vm_memory.specs.declared.fault.Trap.{Trap}
 use Rattle.vm_memory.specs.declared.fault.Trap.TheVariants.{Fault, NoMemory}
 use Rattle.vm_operand.specs.Instruction.{instruction_at}
@@ -12,7 +12,7 @@ use Rattle.vm_operand.specs.declared.operand.Dest.{Dest}
 use Rattle.vm_exec.specs.Answer.{Does}
 use Rattle.vm_exec.specs.Rules.{Rule, loaded_all}
 use Rattle.vm_exec.specs.Rows.Work.{Work, Free, Costs, budgeted, costing}
-use Rattle.vm_exec.specs.Row.{charged, told, step_of, work_of, work, width_of, dest_of, fetched}
+use Rattle.vm_exec.specs.Row.{charged, step_within, step_of, work_of, work, width_of, dest_by_index, fetched}
 use Rattle.vm_exec.specs.declared.machine.Machine.{Machine}
 use Rattle.vm_exec.specs.declared.step.Step.{Step}
 use Rattle.vm_exec.specs.declared.step.Done.{Done}
@@ -34,23 +34,23 @@ over true n r = refl
 over false n (Ok x) = refl
 over false n (Err m) = refl
 
-pub told_work : (left : ℕ) (w : Work) → 0 < left → told left (charged (Ok w)) ≡ stepped (budgeted (left - 1) w)
+pub told_work : (left : ℕ) (w : Work) → 0 < left → step_within left (charged (Ok w)) ≡ stepped (budgeted (left - 1) w)
 told_work left (Free (Ok x)) h = rw (one left h) refl
 told_work left (Free (Err n)) h = rw (one left h) refl
 told_work left (Costs n r) h = rw (later left n h) (over (nat_lt (left - 1) n) n r)
 
 -- an error of the work is one of the step
-pub told_err : (left : ℕ) (w : Work) (new : Machine) (e : Trap) → 0 < left → Does (budgeted (left - 1) w) new (Err e) → Does {A = Step} (told left (charged (Ok w))) new (Err e)
+pub told_err : (left : ℕ) (w : Work) (new : Machine) (e : Trap) → 0 < left → Does (budgeted (left - 1) w) new (Err e) → Does {A = Step} (step_within left (charged (Ok w))) new (Err e)
 told_err left w new (Fault n) h d = told_work left w h ∙ ap stepped d
 told_err left w new NoMemory h d = tt
 
 -- what the work told is what the step tells
 pub told_ok : (left : ℕ) (op : Option Op) (o : Op) (m new : Machine) (args : List ℕ) (to : List Dest) (done : Done) (s : Step)
-    → op ≡ Some o → 0 < left → budgeted (left - 1) (work o m (slice_index args) (dest_of to)) ≡ Ok (new, done) → s ≡ step_of done.out (done.cost + 1)
-    → told left (charged (Ok (work_of op m args to))) ≡ Ok (new, s)
+    → op ≡ Some o → 0 < left → budgeted (left - 1) (work o m (slice_index args) (dest_by_index to)) ≡ Ok (new, done) → s ≡ step_of done.out (done.cost + 1)
+    → step_within left (charged (Ok (work_of op m args to))) ≡ Ok (new, s)
 told_ok left op o m new args to done s is h worked step =
-    ap (λ (p : Option Op). told left (charged (Ok (work_of p m args to)))) is
-    ∙ (told_work left (work o m (slice_index args) (dest_of to)) h ∙ (ap stepped worked ∙ ap (λ (t : Step). Ok (new, t)) (sym step)))
+    ap (λ (p : Option Op). step_within left (charged (Ok (work_of p m args to)))) is
+    ∙ (told_work left (work o m (slice_index args) (dest_by_index to)) h ∙ (ap stepped worked ∙ ap (λ (t : Step). Ok (new, t)) (sym step)))
 
 -- what an instruction does, once it is decoded and its loads are taken
 pub fetched_is : (m : Machine) (i : Instr) (x : Machine × List ℕ) (w : ℕ) → w ≡ width_of (op_of i.op)
@@ -64,7 +64,7 @@ fetched_is m i x w width decoded taken =
 -- an instruction whose loads can't be taken is their fault
 loads_fault : (left : ℕ) (m new : Machine) (i : Instr) (w : ℕ) (e : Trap) → 0 < left → w ≡ width_of (op_of i.op)
     → instruction_at m.memory m.pc ≡ Ok i → Does {A = List ℕ} (loaded_all w m (take i.loads.count i.loads.items) 0 (replicate 8 0)) new (Err e)
-    → Does {A = Step} (told left (charged (fetched m))) new (Err e)
+    → Does {A = Step} (step_within left (charged (fetched m))) new (Err e)
 loads_fault left m new i w (Fault n) h width decoded d =
     let all : loaded_all (width_of (op_of i.op)) m (take i.loads.count i.loads.items) 0 (replicate 8 0) ≡ Err n =
     subst (λ (k : ℕ). loaded_all k m (take i.loads.count i.loads.items) 0 (replicate 8 0) ≡ Err n) width d in
@@ -75,7 +75,7 @@ loads_fault left m new i w NoMemory h width decoded d = tt
 pub not_loaded : (left : ℕ) (m new : Machine) (i : Instr) (w : ℕ) (e : Trap) (r : Result Step Trap) → 0 < left → w ≡ width_of (op_of i.op)
     → instruction_at m.memory m.pc ≡ Ok i → Does {A = List ℕ} (loaded_all w m (take i.loads.count i.loads.items) 0 (replicate 8 0)) new (Err e)
     → IsErrAnd r (λ f. f ≡ e)
-    → Does {A = Step} (told left (charged (fetched m))) new r
+    → Does {A = Step} (step_within left (charged (fetched m))) new r
 not_loaded left m new i w e (Ok s) h width decoded d same = absurd same
 not_loaded left m new i w e (Err f) h width decoded d same =
-    subst (λ (g : Trap). Does {A = Step} (told left (charged (fetched m))) new (Err g)) (sym same) (loads_fault left m new i w e h width decoded d)
+    subst (λ (g : Trap). Does {A = Step} (step_within left (charged (fetched m))) new (Err g)) (sym same) (loads_fault left m new i w e h width decoded d)

@@ -8,7 +8,7 @@ use Rattle.vm_exec.specs.Start.{image_memory}
 use Rattle.vm_exec.proofs.FitLemmas.{none_over}
 use Rattle.vm_memory.specs.declared.fault.Trap.{Trap}
 use Rattle.vm_exec.specs.Rules.{Rule}
-use Rattle.vm_exec.specs.Rows.Work.{costing, Tells}
+use Rattle.vm_exec.specs.Rows.Work.{costing, DoesAtNoCost}
 use Rattle.vm_exec.specs.declared.machine.Machine.{Machine}
 use Rattle.vm_exec.specs.declared.step.Done.{Done}
 
@@ -21,7 +21,7 @@ costing_nothing (Ok x) = refl
 costing_nothing (Err n) = refl
 
 -- what is free costs no more than is left
-pub free_is_within : (r : Rule) (new : Machine) (left : ℕ) (result : Result Done Trap) → Tells r new result
+pub free_is_within : (r : Rule) (new : Machine) (left : ℕ) (result : Result Done Trap) → DoesAtNoCost r new result
     → IfOk result (λ done. done.cost ≤ left)
 free_is_within r new left (Ok done) told =
     let nothing : done.cost ≡ 0 = sym (ap cost_in told) ∙ costing_nothing r in

@@ -1,11 +1,11 @@
 -- Words of memory, read one by one.
 use Rattle.std.proofs.Common.{◌≡◌, ℕ, suc, ◌+◌, ◌-◌, List, [], ◌∷◌, ◌++◌, Result, Ok, Err, refl, arith, ap, sym, ◌∙◌}
 use mathlib.Core.List.{append_assoc, append-nil}
+use Rattle.vm_memory.specs.Chaining.{◌>>=◌}
 use Rattle.vm_memory.specs.Access.{read}
 use Rattle.vm_memory.specs.Fault.{code_of}
 use Rattle.vm_memory.specs.MemoryMap.{MemoryMap}
 use Rattle.vm_memory.specs.declared.fault.MemFault.{MemFault}
-use Rattle.vm_operand.specs.Reading.{◌>>=◌}
 use Rattle.vm_exec.specs.Rows.Text.{words_at}
 
 -- words behind those already read

@@ -17,10 +17,10 @@ Changes should new (Err (Fault n)) = should ≡ Err n
 Changes should new (Err NoMemory) = Unit {0}
 
 -- The same of a call that makes a value.
-abbrev pub Makes : {A : Type 0} → Result A ℕ → Result A Trap → Type 0
-Makes should (Ok x) = should ≡ Ok x
-Makes should (Err (Fault n)) = should ≡ Err n
-Makes should (Err NoMemory) = Unit {0}
+abbrev pub MakesValue : {A : Type 0} → Result A ℕ → Result A Trap → Type 0
+MakesValue should (Ok x) = should ≡ Ok x
+MakesValue should (Err (Fault n)) = should ≡ Err n
+MakesValue should (Err NoMemory) = Unit {0}
 
 -- The same of a call that makes a vector, which is seen as its list of items.
 abbrev pub MakesList : {A Z : Type 0} → Result (List A) ℕ → Result (Vec A Z) Trap → Type 0
@@ -28,16 +28,9 @@ MakesList should (Ok v) = should ≡ Ok v.items
 MakesList should (Err (Fault n)) = should ≡ Err n
 MakesList should (Err NoMemory) = Unit {0}
 
--- The same of a call that changes a value and gives a vector, which is seen as its list of items.
-abbrev pub Takes : {S A Z : Type 0} → Result (S × List A) ℕ → S → Result (Vec A Z) Trap
-    → Type 0
-Takes should new (Ok v) = should ≡ Ok (new, v.items)
-Takes should new (Err (Fault n)) = should ≡ Err n
-Takes should new (Err NoMemory) = Unit {0}
-
 -- The same of a call that changes two values.
-abbrev pub Leaves : {S T A : Type 0} → Result (S × T) ℕ → S → T → Result A Trap
+abbrev pub LeavesTwoValues : {S T A : Type 0} → Result (S × T) ℕ → S → T → Result A Trap
     → Type 0
-Leaves should new also (Ok x) = should ≡ Ok (new, also)
-Leaves should new also (Err (Fault n)) = should ≡ Err n
-Leaves should new also (Err NoMemory) = Unit {0}
+LeavesTwoValues should new also (Ok x) = should ≡ Ok (new, also)
+LeavesTwoValues should new also (Err (Fault n)) = should ≡ Err n
+LeavesTwoValues should new also (Err NoMemory) = Unit {0}

@@ -27,24 +27,24 @@ abbrev pub no_heap : HeapMap
 no_heap = record { start = 0; blocks = [] }
 
 -- no save is waited for
-abbrev pub IsStore : Waiting → Type 0
-IsStore (Store to) = Unit {0}
-IsStore Stub = ⊥
+abbrev pub WaitsForNoSave : Waiting → Type 0
+WaitsForNoSave (Store to) = Unit {0}
+WaitsForNoSave Stub = ⊥
 
 -- memory, heap and undo are by their rules, the stack is frames, one at least, each on a stub for
 -- the one below, and no save is waited for
-pub record IsSound (m : Machine) : Type 0 where
+pub record IsSoundMachine (m : Machine) : Type 0 where
   pub map : IsMapped (origin_of m.memory) (length m.memory.bytes) m.heap m.undo
   pub frames : Chain m.stack
   pub frame : HasFrame m.stack
-  pub waits : IsStore m.waiting
+  pub waits : WaitsForNoSave m.waiting
 
 -- the same between two instructions, while no text is in progress
 pub record IsFit (m : Machine) : Type 0 where
   pub map : IsMapped (origin_of m.memory) (length m.memory.bytes) m.heap m.undo
   pub frames : Chain m.stack
   pub frame : HasFrame m.stack
-  pub waits : IsStore m.waiting
+  pub waits : WaitsForNoSave m.waiting
   pub still : m.text ≡ Off
 
 -- the same while a save is waited for: the stub that takes its result is on top
@@ -80,16 +80,16 @@ pub record IsWithin (size mode : ℕ) (states : List Saved) : Type 0 where
 -- the machine is sound unless its story is over; no text is in progress where it waits for Glk, a
 -- save or a restore, or is over
 abbrev pub StaysFit : Machine → Out → Type 0
-StaysFit m out.Ran = IsSound m
-StaysFit m (out.Char code) = IsSound m
+StaysFit m out.Ran = IsSoundMachine m
+StaysFit m (out.Char code) = IsSoundMachine m
 StaysFit m (out.Glk selector args) = IsFit m
 StaysFit m (out.Save stream) = IsSaving m
 StaysFit m (out.Restore stream) = IsFit m
 StaysFit m out.Quit = m.text ≡ Off
 
 abbrev pub GoesOnFit : Machine → Step → Type 0
-GoesOnFit m (step.Ran cost) = IsSound m
-GoesOnFit m (step.Out code cost) = IsSound m
+GoesOnFit m (step.Ran cost) = IsSoundMachine m
+GoesOnFit m (step.Out code cost) = IsSoundMachine m
 GoesOnFit m (step.Glk selector args cost) = IsFit m
 GoesOnFit m (step.Save stream cost) = IsSaving m
 GoesOnFit m (step.Restore stream cost) = IsFit m

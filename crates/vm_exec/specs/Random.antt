@@ -6,14 +6,14 @@ use Rattle.rand_pcg.specs.Pcg.{multiplier_64, output_xsh_rr}
 use Rattle.vm_exec.specs.declared.random.Random.{Random}
 
 -- word k of the generator that a start and a stream make
-abbrev pub word_of : ℕ → ℕ → ℕ → ℕ
-word_of start stream k =
+abbrev pub random_word : ℕ → ℕ → ℕ → ℕ
+random_word start stream k =
     output_xsh_rr (advance 64 multiplier_64 k
     (started 64 multiplier_64 start (increment_of 64 stream))).state
 
 -- the next random word
 abbrev pub next_word : Random → ℕ
-next_word r = word_of r.start r.stream r.taken
+next_word r = random_word r.start r.stream r.taken
 
 -- a word more is taken
 abbrev pub after_word : Random → Random

@@ -5,7 +5,6 @@ use Rattle.std.specs.Prelude.{Err}
 use Rattle.vm_operand.specs.Fault as operand
 use Rattle.vm_operand.specs.Instruction.{instruction_at}
 use Rattle.vm_operand.specs.Opcode.{op_of}
-use Rattle.vm_operand.specs.Reading.{◌>>=◌}
 use Rattle.vm_operand.specs.declared.opcode.Op.{Op}
 use Rattle.vm_operand.specs.declared.opcode.Op.TheVariants as op
 use Rattle.vm_operand.specs.declared.opcode.Move.{Move}
@@ -21,12 +20,13 @@ use Rattle.vm_exec.specs.Rows.Function.{flow_work}
 use Rattle.vm_exec.specs.Rows.Moving.{move_work}
 use Rattle.vm_exec.specs.Rows.Array.{array_work}
 use Rattle.vm_exec.specs.Rows.Values.{values_work}
-use Rattle.vm_exec.specs.Rows.Output.{stream_work}
+use Rattle.vm_exec.specs.Rows.Output.{streaming_work}
 use Rattle.vm_exec.specs.Rows.System.{system_work}
 use Rattle.vm_exec.specs.Rows.State.{state_work}
 use Rattle.vm_exec.specs.Rows.Search.{search_work}
 use Rattle.vm_exec.specs.Rows.Text.{string_rule, number_rule}
 use Rattle.vm_exec.specs.TextStub.{number_over}
+use Rattle.vm_memory.specs.Chaining.{◌>>=◌}
 use Rattle.vm_memory.specs.declared.faults.TheConstants.{BAD_OPCODE, BUDGET_SPENT}
 use Rattle.vm_exec.specs.declared.machine.Machine.{Machine}
 use Rattle.vm_exec.specs.declared.step.Out.{Out}
@@ -49,7 +49,7 @@ work (op.Flow o) m l d = flow_work o m l d
 work (op.Move o) m l d = move_work o m l d
 work (op.Array o) m l d = array_work o m l d
 work (op.Values o) m l d = values_work o m l d
-work (op.Stream o) m l d = stream_work o m l d
+work (op.Stream o) m l d = streaming_work o m l d
 work (op.System o) m l d = system_work o m l d
 work (op.State o) m l d = state_work o m l d
 work (op.Search o) m l d = search_work o m l d
@@ -65,12 +65,12 @@ width_of (Some (op.Move o)) = move_width o
 width_of _ = 4
 
 -- the i-th store
-abbrev pub dest_of : List d.Dest → ℕ → d.Dest
-dest_of ds i = slice_index_or ds i dest.Discard
+abbrev pub dest_by_index : List d.Dest → ℕ → d.Dest
+dest_by_index ds i = slice_index_or ds i dest.Discard
 
 abbrev pub work_of : Option Op → Machine → List ℕ → List d.Dest → Work
 work_of None m args to = Free (Err BAD_OPCODE)
-work_of (Some op) m args to = work op m (slice_index args) (dest_of to)
+work_of (Some op) m args to = work op m (slice_index args) (dest_by_index to)
 
 -- one tick, and the addition
 abbrev pub charged : Result Work ℕ → Charged
@@ -81,7 +81,7 @@ charged (Ok (Costs n r)) = record { cost = n + 1; gives = r }
 -- the instruction at the PC with its loads taken, from left to right
 abbrev pub fetched : Machine → Result Work ℕ
 fetched m = do
-  i ← operand.coded (instruction_at m.memory m.pc)
+  i ← operand.operation_coded (instruction_at m.memory m.pc)
   x ← loaded_all (width_of (op_of i.op)) m (take i.loads.count i.loads.items) 0 (replicate 8 0)
   Ok (work_of (op_of i.op) (record x.0 { pc = i.next }) x.1 i.stores.items)
 
@@ -117,7 +117,7 @@ IsPriced left (step.Restore stream cost) = (1 ≤ cost) × (cost ≤ left)
 IsPriced left step.Quit = Unit {0}
 
 -- a step when so many ticks are left
-abbrev pub told : ℕ → Charged → Result (Machine × Step) ℕ
-told left c =
+abbrev pub step_within : ℕ → Charged → Result (Machine × Step) ℕ
+step_within left c =
     if nat_lt left c.cost then Err BUDGET_SPENT
     else c.gives >>= (λ x. Ok (x.0, step_of x.1 c.cost))

@@ -2,9 +2,9 @@
 use Rattle.std.specs.Prelude.{ℕ, zero, suc, ◌+◌, ◌-◌, ◌%◌, ◌^◌, ◌==◌}
 use Rattle.std.specs.Prelude.{◌||◌, nat_le, Bool, if◌then◌else◌, List, []}
 use Rattle.std.specs.Prelude.{◌∷◌, slice_set, Option, Some, None, Result, Ok, Err}
+use Rattle.vm_memory.specs.Chaining.{◌>>=◌}
 use Rattle.vm_memory.specs.Access.{read, written}
 use Rattle.vm_memory.specs.Fault.{coded}
-use Rattle.vm_operand.specs.Reading.{◌>>=◌}
 use Rattle.vm_operand.specs.declared.operand.Load as l
 use Rattle.vm_operand.specs.declared.operand.Load.TheVariants as load
 use Rattle.vm_operand.specs.declared.operand.Dest as d
@@ -14,7 +14,7 @@ use Rattle.vm_stack.specs.Values.{pushed, popped}
 use Rattle.vm_stack.specs.Locals.{local, local_set}
 use Rattle.vm_stack.specs.Stub.{stub_pushed}
 use Rattle.vm_stack.specs.declared.stub.Stub.{Stub}
-use Rattle.vm_flow.specs.Call.{called}
+use Rattle.vm_flow.specs.Call.{function_called}
 use Rattle.vm_flow.specs.Return.{given_back}
 use Rattle.vm_exec.specs.Fault.{stacked, flowed}
 use Rattle.vm_exec.specs.TextStub.{text_on}
@@ -32,22 +32,23 @@ abbrev pub wrap : ℕ → ℕ
 wrap n = n % 2 ^ 32
 
 -- a value of n bytes; four keep it whole
-abbrev pub cut : ℕ → ℕ → ℕ
-cut n x = if n == 4 then x else x % 256 ^ n
+abbrev pub low_bytes : ℕ → ℕ → ℕ
+low_bytes n x = if n == 4 then x else x % 256 ^ n
 
 -- a load of n bytes
-abbrev pub loaded : ℕ → Machine → l.Load → Result (Machine × ℕ) ℕ
-loaded n m (load.Value x) = Ok (m, cut n x)
-loaded n m (load.At a) = coded (read n m.memory a) >>= (λ x. Ok (m, x))
-loaded n m (load.Local o) = stacked (local m.stack o n) >>= (λ x. Ok (m, x))
-loaded n m load.Pop = stacked (popped m.stack) >>= (λ p. Ok (record m { stack = p.0 }, cut n p.1))
+abbrev pub operand_loaded : ℕ → Machine → l.Load → Result (Machine × ℕ) ℕ
+operand_loaded n m (load.Value x) = Ok (m, low_bytes n x)
+operand_loaded n m (load.At a) = coded (read n m.memory a) >>= (λ x. Ok (m, x))
+operand_loaded n m (load.Local o) = stacked (local m.stack o n) >>= (λ x. Ok (m, x))
+operand_loaded n m load.Pop =
+    stacked (popped m.stack) >>= (λ p. Ok (record m { stack = p.0 }, low_bytes n p.1))
 
 -- loads from left to right into places from i on
 unfoldable pub loaded_all : ℕ → Machine → List l.Load → ℕ → List ℕ
     → Result (Machine × List ℕ) ℕ
 loaded_all n m [] i args = Ok (m, args)
 loaded_all n m (x ∷ xs) i args =
-    loaded n m x >>= (λ a. loaded_all n a.0 xs (i + 1) (slice_set args i a.1))
+    operand_loaded n m x >>= (λ a. loaded_all n a.0 xs (i + 1) (slice_set args i a.1))
 
 -- a store of n bytes; what is pushed has four
 abbrev pub stored_in : ℕ → Machine → d.Dest → ℕ → Result Machine ℕ
@@ -62,12 +63,12 @@ stored_in n m dest.Push x =
 abbrev pub stored : Machine → d.Dest → ℕ → Result Machine ℕ
 stored m to x = stored_in 4 m to x
 
-abbrev pub tells : Machine → Out → Rule
-tells m out = Ok (m, out)
+abbrev pub tells_out : Machine → Out → Rule
+tells_out m out = Ok (m, out)
 
 -- nothing is told
 abbrev pub goes : Machine → Rule
-goes m = tells m Ran
+goes m = tells_out m Ran
 
 -- the value is stored
 abbrev pub puts : Machine → d.Dest → ℕ → Rule
@@ -100,7 +101,8 @@ stub_dest s =
 -- the function begins, over what is on the stack
 abbrev pub enters : Machine → ℕ → List ℕ → Rule
 enters m at args =
-    flowed (called m.memory m.stack at args) >>= (λ x. goes (record m { stack = x.0; pc = x.1 }))
+    flowed (function_called m.memory m.stack at args)
+    >>= (λ x. goes (record m { stack = x.0; pc = x.1 }))
 
 -- with the stub for a store on the stack
 abbrev pub with_stub : Machine → d.Dest → Result Machine ℕ
@@ -118,7 +120,7 @@ resumes m s x =
     else text_on m s >>= goes
 
 abbrev pub goes_on : Machine → Option Stub → ℕ → Rule
-goes_on m None x = tells m Quit
+goes_on m None x = tells_out m Quit
 goes_on m (Some s) x = resumes m s x
 
 -- a return from the current function; that of the start function ends the story
@@ -147,5 +149,5 @@ with_arguments m n f = arguments m.stack n >>= (λ q. f (record m { stack = q.0 
 -- a character under the I/O system
 abbrev pub streams : Machine → ℕ → Rule
 streams m x =
-    if m.mode == 2 then tells m (Char x)
+    if m.mode == 2 then tells_out m (Char x)
     else (if m.mode == 1 then calls m m.rock (x ∷ []) dest.Discard else goes m)

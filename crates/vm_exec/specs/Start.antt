@@ -3,11 +3,11 @@ use Rattle.std.specs.Prelude.{◌≡◌, ℕ, List, [], take, Result, Ok}
 use Rattle.glulx_image.specs.Header.{ramstart, extstart, endmem, stack_size, start_function}
 use Rattle.glulx_image.specs.Header.{string_table}
 use Rattle.glulx_image.specs.Checksum.{verified}
+use Rattle.vm_memory.specs.Chaining.{◌>>=◌}
 use Rattle.vm_memory.specs.MemoryMap.{MemoryMap, memory_of, origin_of}
-use Rattle.vm_operand.specs.Reading.{◌>>=◌}
 use Rattle.vm_operand.specs.declared.operand.Dest.TheVariants.{Discard}
 use Rattle.vm_stack.specs.StackState.{StackState}
-use Rattle.vm_flow.specs.Call.{called}
+use Rattle.vm_flow.specs.Call.{function_called}
 use Rattle.vm_exec.specs.Fault.{flowed}
 use Rattle.vm_exec.specs.Machine.{IsWithin, no_heap}
 use Rattle.vm_exec.specs.Random.{seeded}
@@ -39,7 +39,7 @@ pub record IsOver (image : List ℕ) (m : Machine) : Type 0 where
 -- the start function is called without arguments, over an empty stack
 abbrev pub started : List ℕ → ℕ → Result Machine ℕ
 started file seed =
-    flowed (called (image_memory file) (empty_stack file) (start_function file) [])
+    flowed (function_called (image_memory file) (empty_stack file) (start_function file) [])
     >>= (λ x. Ok (record {
       memory = image_memory file;
       stack = x.0;

@@ -1,11 +1,11 @@
 -- Texts that go out piece by piece, and their call stubs (Glulx 3.1.3, "Call Stubs", "Output").
 use Rattle.std.specs.Prelude.{ℕ, ◌==◌, ◌||◌, nat_lt, Bool, true, false, if◌then◌else◌, length}
 use Rattle.std.specs.Prelude.{Result, Ok, Err}
-use Rattle.vm_operand.specs.Reading.{◌>>=◌}
 use Rattle.vm_stack.specs.Stub.{stub_pushed, stub_taken}
 use Rattle.vm_stack.specs.declared.stub.Stub.{Stub}
 use Rattle.vm_exec.specs.Fault.{stacked}
 use Rattle.vm_exec.specs.Number.{number_text}
+use Rattle.vm_memory.specs.Chaining.{◌>>=◌}
 use Rattle.vm_memory.specs.declared.faults.TheConstants.{BAD_STUB}
 use Rattle.vm_exec.specs.declared.machine.Machine.{Machine}
 use Rattle.vm_exec.specs.declared.text.Text.TheVariants.{Pieces, Number}

@@ -1,7 +1,7 @@
 //! Arguments from the stack.
 
 ghost use Rattle.std.specs.Prelude.{◌≡◌, [], ◌∷◌, ◌++◌, OnOk, IfErr};
-ghost use Rattle.vm_exec.specs.Answer.{Leaves};
+ghost use Rattle.vm_exec.specs.Answer.{LeavesTwoValues};
 ghost use Rattle.vm_exec.specs.Rules as rules;
 ghost use Rattle.vm_stack.specs.Chain.{Chain, HasFrame};
 ghost use Rattle.vm_memory.specs.declared.fault.Trap.TheVariants.{NoMemory};
@@ -21,7 +21,8 @@ pub(crate) fn take_arguments(
     args: &mut Arguments,
 ) -> Result<(), Trap>
     requires { args.old.items ≡ [] }
-    ensures does { Leaves (rules.arguments stack.old count) stack.new args.new.items result }
+    ensures does { LeavesTwoValues (rules.arguments stack.old count)
+        stack.new args.new.items result }
     ensures kept { Chain stack.old → HasFrame stack.old
         → OnOk result (Chain stack.new × HasFrame stack.new) }
 {

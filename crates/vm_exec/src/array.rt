@@ -4,9 +4,9 @@ ghost use Rattle.std.specs.Prelude.{◌≡◌, ◌≤◌, ◌<◌, ◌+◌, ◌^
 ghost use Rattle.std.specs.Prelude.{slice_index};
 ghost use Rattle.vm_exec.specs.Answer.{Does};
 ghost use Rattle.vm_exec.specs.Machine.{IsFit, StaysFit};
-ghost use Rattle.vm_exec.specs.Row.{dest_of};
+ghost use Rattle.vm_exec.specs.Row.{dest_by_index};
 ghost use Rattle.vm_exec.specs.Rows.Array as rows;
-ghost use Rattle.vm_exec.specs.Rows.Work.{Tells, budgeted};
+ghost use Rattle.vm_exec.specs.Rows.Work.{DoesAtNoCost, budgeted};
 ghost use Rattle.vm_exec.specs.Rules as rules;
 
 use crate::Machine;
@@ -16,7 +16,7 @@ use vm_operand::{Array, Dest};
 
 impl<'i> Machine<'i> {
     fn aload(&mut self, from: u32, index: u32, to: Dest) -> Result<Done, Trap>
-        ensures does { Tells
+        ensures does { DoesAtNoCost
             (rules.reads_to self.old to 4 (rows.element 4 from index))
             self.new result }
         ensures fit { IsFit self.old → IfOk result (λ done. StaysFit self.new done.out) }
@@ -26,7 +26,7 @@ impl<'i> Machine<'i> {
     }
 
     fn aloads(&mut self, from: u32, index: u32, to: Dest) -> Result<Done, Trap>
-        ensures does { Tells
+        ensures does { DoesAtNoCost
             (rules.reads_to self.old to 2 (rows.element 2 from index))
             self.new result }
         ensures fit { IsFit self.old → IfOk result (λ done. StaysFit self.new done.out) }
@@ -36,7 +36,7 @@ impl<'i> Machine<'i> {
     }
 
     fn aloadb(&mut self, from: u32, index: u32, to: Dest) -> Result<Done, Trap>
-        ensures does { Tells
+        ensures does { DoesAtNoCost
             (rules.reads_to self.old to 1 (rules.wrap (from + index)))
             self.new result }
         ensures fit { IsFit self.old → IfOk result (λ done. StaysFit self.new done.out) }
@@ -46,7 +46,7 @@ impl<'i> Machine<'i> {
     }
 
     fn aloadbit(&mut self, from: u32, index: u32, to: Dest) -> Result<Done, Trap>
-        ensures does { Tells (rows.loads_bit self.old from index to) self.new result }
+        ensures does { DoesAtNoCost (rows.loads_bit self.old from index to) self.new result }
         ensures fit { IsFit self.old → IfOk result (λ done. StaysFit self.new done.out) }
     {
         let byte = self.memory.read1(byte_with_bit(from, index))?;
@@ -54,7 +54,7 @@ impl<'i> Machine<'i> {
     }
 
     fn astore(&mut self, from: u32, index: u32, value: u32) -> Result<Done, Trap>
-        ensures does { Tells
+        ensures does { DoesAtNoCost
             (rules.writes self.old 4 (rows.element 4 from index) value)
             self.new result }
         ensures fit { IsFit self.old → IfOk result (λ done. StaysFit self.new done.out) }
@@ -65,7 +65,7 @@ impl<'i> Machine<'i> {
     }
 
     fn astores(&mut self, from: u32, index: u32, value: u32) -> Result<Done, Trap>
-        ensures does { Tells
+        ensures does { DoesAtNoCost
             (rules.writes self.old 2 (rows.element 2 from index) value)
             self.new result }
         ensures fit { IsFit self.old → IfOk result (λ done. StaysFit self.new done.out) }
@@ -76,7 +76,7 @@ impl<'i> Machine<'i> {
     }
 
     fn astoreb(&mut self, from: u32, index: u32, value: u32) -> Result<Done, Trap>
-        ensures does { Tells
+        ensures does { DoesAtNoCost
             (rules.writes self.old 1 (rules.wrap (from + index)) value)
             self.new result }
         ensures fit { IsFit self.old → IfOk result (λ done. StaysFit self.new done.out) }
@@ -86,7 +86,7 @@ impl<'i> Machine<'i> {
     }
 
     fn astorebit(&mut self, from: u32, index: u32, value: u32) -> Result<Done, Trap>
-        ensures does { Tells (rows.stores_bit self.old from index value) self.new result }
+        ensures does { DoesAtNoCost (rows.stores_bit self.old from index value) self.new result }
         ensures fit { IsFit self.old → IfOk result (λ done. StaysFit self.new done.out) }
     {
         let at = byte_with_bit(from, index);
@@ -105,7 +105,8 @@ impl<'i> Machine<'i> {
         left: u64,
     ) -> Result<Done, Trap>
         ensures does { Does
-            (budgeted left (rows.array_work op self.old (slice_index args.now) (dest_of to.now)))
+            (budgeted left
+            (rows.array_work op self.old (slice_index args.now) (dest_by_index to.now)))
             self.new result }
         ensures fit { IsFit self.old → IfOk result (λ done. StaysFit self.new done.out) }
         ensures within { IfOk result (λ done. done.cost ≤ left) }

@@ -3,9 +3,9 @@
 ghost use Rattle.std.specs.Prelude.{◌≡◌, ◌≤◌, IfOk, OnOk, slice_index};
 ghost use Rattle.vm_exec.specs.Answer.{Does};
 ghost use Rattle.vm_exec.specs.Machine.{IsFit, StaysFit};
-ghost use Rattle.vm_exec.specs.Row.{dest_of};
+ghost use Rattle.vm_exec.specs.Row.{dest_by_index};
 ghost use Rattle.vm_exec.specs.Rows.Branch.{branch_work};
-ghost use Rattle.vm_exec.specs.Rows.Work.{Tells, budgeted};
+ghost use Rattle.vm_exec.specs.Rows.Work.{DoesAtNoCost, budgeted};
 ghost use Rattle.vm_exec.specs.Rules as rules;
 
 use crate::Machine;
@@ -17,7 +17,7 @@ impl<'i> Machine<'i> {
     /// A branch by an offset, of which 0 and 1 return that value.
     #[inline(always)]
     pub(crate) fn branch(&mut self, offset: u32) -> Result<Done, Trap>
-        ensures does { Tells (rules.branches self.old offset) self.new result }
+        ensures does { DoesAtNoCost (rules.branches self.old offset) self.new result }
         ensures fit { IsFit self.old → IfOk result (λ done. StaysFit self.new done.out) }
     {
         if offset == 0 || offset == 1 {
@@ -29,7 +29,7 @@ impl<'i> Machine<'i> {
 
     #[inline(always)]
     fn branch_if(&mut self, holds: bool, offset: u32) -> Result<Done, Trap>
-        ensures does { Tells (rules.when self.old holds offset) self.new result }
+        ensures does { DoesAtNoCost (rules.when self.old holds offset) self.new result }
         ensures fit { IsFit self.old → IfOk result (λ done. StaysFit self.new done.out) }
     {
         if holds {
@@ -41,7 +41,7 @@ impl<'i> Machine<'i> {
 
     #[inline(always)]
     fn jump_to(&mut self, at: u32) -> Result<Done, Trap>
-        ensures does { Tells (rules.goes (record self.old { pc = at })) self.new result }
+        ensures does { DoesAtNoCost (rules.goes (record self.old { pc = at })) self.new result }
         ensures fit { IsFit self.old → IfOk result (λ done. StaysFit self.new done.out) }
     {
         self.pc = at;
@@ -58,7 +58,7 @@ impl<'i> Machine<'i> {
         left: u64,
     ) -> Result<Done, Trap>
         ensures does { Does
-            (budgeted left (branch_work op self.old (slice_index args.now) (dest_of to.now)))
+            (budgeted left (branch_work op self.old (slice_index args.now) (dest_by_index to.now)))
             self.new result }
         ensures fit { IsFit self.old → IfOk result (λ done. StaysFit self.new done.out) }
         ensures within { IfOk result (λ done. done.cost ≤ left) }

@@ -5,7 +5,7 @@ ghost use Rattle.std.specs.Prelude.{IfOk, OnOk, Ok, Some};
 ghost use Rattle.vm_exec.specs.Answer.{Does};
 ghost use Rattle.vm_exec.specs.Machine.{GoesOnFit, IsFit};
 ghost use Rattle.vm_exec.specs.Row as row;
-ghost use Rattle.vm_exec.specs.Row.{IsPriced, charged, fetched, told};
+ghost use Rattle.vm_exec.specs.Row.{IsPriced, charged, fetched, step_within};
 ghost use Rattle.vm_exec.specs.Rules.{loaded_all};
 ghost use Rattle.vm_operand.specs.Brief.{instr_of};
 ghost use Rattle.vm_operand.specs.Instruction.{instruction_at};
@@ -25,7 +25,7 @@ impl<'i> Machine<'i> {
         requires some { 1 ≤ brief.loads }
         requires few { brief.loads ≤ 4 }
         requires words { row.width_of (Some brief.op) ≡ 4 }
-        ensures does { Does (told left (charged (fetched self.old))) self.new result }
+        ensures does { Does (step_within left (charged (fetched self.old))) self.new result }
         ensures fit { IsFit self.old → IfOk result (λ step. GoesOnFit self.new step) }
         ensures cost { IfOk result (λ step. IsPriced left step) }
     {

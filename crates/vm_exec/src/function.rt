@@ -1,11 +1,11 @@
 //! Calls, returns, catch and throw.
 
 ghost use Rattle.std.specs.Prelude.{◌≡◌, ◌≤◌, IfOk, OnOk, slice_index, length, Ok, Err};
-ghost use Rattle.vm_exec.specs.Answer.{Changes, Does, Makes};
+ghost use Rattle.vm_exec.specs.Answer.{Changes, Does, MakesValue};
 ghost use Rattle.vm_exec.specs.Machine.{IsFit, StaysFit};
-ghost use Rattle.vm_exec.specs.Row.{dest_of};
+ghost use Rattle.vm_exec.specs.Row.{dest_by_index};
 ghost use Rattle.vm_exec.specs.Rows.Function as rows;
-ghost use Rattle.vm_exec.specs.Rows.Work.{Tells, budgeted};
+ghost use Rattle.vm_exec.specs.Rows.Work.{DoesAtNoCost, budgeted};
 ghost use Rattle.vm_exec.specs.Rules as rules;
 ghost use Rattle.vm_stack.specs.Chain.{IsReady};
 
@@ -47,7 +47,7 @@ impl<'i> Machine<'i> {
 
     /// The function begins, over what is on the stack.
     pub(crate) fn enter(&mut self, alloc: Global, at: u32, args: &[u32]) -> Result<Done, Trap>
-        ensures does { Tells (rules.enters self.old at args.now) self.new result }
+        ensures does { DoesAtNoCost (rules.enters self.old at args.now) self.new result }
         ensures fit { IsFit self.old → IsReady self.old.stack
             → IfOk result (λ done. StaysFit self.new done.out) }
     {
@@ -63,7 +63,7 @@ impl<'i> Machine<'i> {
         args: &[u32],
         to: Dest,
     ) -> Result<Done, Trap>
-        ensures does { Tells (rules.calls self.old at args.now to) self.new result }
+        ensures does { DoesAtNoCost (rules.calls self.old at args.now to) self.new result }
         ensures fit { IsFit self.old → IfOk result (λ done. StaysFit self.new done.out) }
     {
         self.push_stub_for(to)?;
@@ -71,7 +71,7 @@ impl<'i> Machine<'i> {
     }
 
     fn call_with(&mut self, alloc: Global, at: u32, count: u32, to: Dest) -> Result<Done, Trap>
-        ensures does { Tells
+        ensures does { DoesAtNoCost
             (rules.with_arguments self.old count (λ n args. rules.calls n at args to))
             self.new result }
         ensures fit { IsFit self.old → IfOk result (λ done. StaysFit self.new done.out) }
@@ -83,7 +83,7 @@ impl<'i> Machine<'i> {
 
     /// The function begins in place of the current one.
     fn enter_over(&mut self, alloc: Global, at: u32, args: &[u32]) -> Result<Done, Trap>
-        ensures does { Tells (rows.tailcalls at self.old args.now) self.new result }
+        ensures does { DoesAtNoCost (rows.tailcalls at self.old args.now) self.new result }
         ensures fit { IsFit self.old → IfOk result (λ done. StaysFit self.new done.out) }
     {
         self.pc = tail_call(alloc, &self.memory, &mut self.stack, at, args).map_err(of_flow)?;
@@ -91,7 +91,7 @@ impl<'i> Machine<'i> {
     }
 
     fn tailcall(&mut self, alloc: Global, at: u32, count: u32) -> Result<Done, Trap>
-        ensures does { Tells
+        ensures does { DoesAtNoCost
             (rules.with_arguments self.old count (rows.tailcalls at))
             self.new result }
         ensures fit { IsFit self.old → IfOk result (λ done. StaysFit self.new done.out) }
@@ -104,7 +104,7 @@ impl<'i> Machine<'i> {
     /// The story goes on at a stub, whose result is the value; a text drops it. Fault 13 for a stub
     /// of no type.
     fn resume_at(&mut self, stub: Stub, value: u32) -> Result<Done, Trap>
-        ensures does { Tells (rules.resumes self.old stub value) self.new result }
+        ensures does { DoesAtNoCost (rules.resumes self.old stub value) self.new result }
         ensures fit { IsFit self.old → IfOk result (λ done. StaysFit self.new done.out) }
     {
         if stub.kind > 3 {
@@ -118,7 +118,7 @@ impl<'i> Machine<'i> {
 
     /// A return from the current function; that of the start function ends the story.
     pub(crate) fn give_back(&mut self, value: u32) -> Result<Done, Trap>
-        ensures does { Tells (rules.returns self.old value) self.new result }
+        ensures does { DoesAtNoCost (rules.returns self.old value) self.new result }
         ensures fit { IsFit self.old → IfOk result (λ done. StaysFit self.new done.out) }
     {
         match give_back(&mut self.stack).map_err(of_flow)? {
@@ -138,7 +138,7 @@ impl<'i> Machine<'i> {
     }
 
     fn catch(&mut self, to: Dest, offset: u32) -> Result<Done, Trap>
-        ensures does { Tells (rows.catches self.old to offset) self.new result }
+        ensures does { DoesAtNoCost (rows.catches self.old to offset) self.new result }
         ensures fit { IsFit self.old → IfOk result (λ done. StaysFit self.new done.out) }
     {
         self.push_stub_for(to)?;
@@ -147,7 +147,7 @@ impl<'i> Machine<'i> {
     }
 
     fn throw(&mut self, value: u32, token: u32) -> Result<Done, Trap>
-        ensures does { Tells (rows.throws self.old value token) self.new result }
+        ensures does { DoesAtNoCost (rows.throws self.old value token) self.new result }
         ensures fit { IsFit self.old → IfOk result (λ done. StaysFit self.new done.out) }
     {
         let stub = throw(&mut self.stack, token).map_err(of_flow)?;
@@ -164,7 +164,8 @@ impl<'i> Machine<'i> {
         left: u64,
     ) -> Result<Done, Trap>
         ensures does { Does
-            (budgeted left (rows.flow_work op self.old (slice_index args.now) (dest_of to.now)))
+            (budgeted left
+            (rows.flow_work op self.old (slice_index args.now) (dest_by_index to.now)))
             self.new result }
         ensures fit { IsFit self.old → IfOk result (λ done. StaysFit self.new done.out) }
         ensures within { IfOk result (λ done. done.cost ≤ left) }
@@ -185,7 +186,7 @@ impl<'i> Machine<'i> {
 
 // Where the result goes that a stub waits for.
 pub(crate) fn stub_dest(stub: Stub) -> Result<Dest, Trap>
-    ensures { Makes (rules.stub_dest stub) result }
+    ensures { MakesValue (rules.stub_dest stub) result }
 {
     match stub.kind {
         0 => Ok(Dest::Discard),

@@ -3,7 +3,7 @@
 ghost use Rattle.std.specs.Prelude.{◌≡◌, ◌≤◌, ◌<◌, ◌/◌, max, length, IsTrue};
 ghost use Rattle.std.specs.Prelude.{IfOk, OnOk, Ok};
 ghost use Rattle.vm_exec.specs.Answer.{Changes, Does};
-ghost use Rattle.vm_exec.specs.Machine.{IsFit, IsMapped, IsStore, StaysFit};
+ghost use Rattle.vm_exec.specs.Machine.{IsFit, IsMapped, WaitsForNoSave, StaysFit};
 ghost use Rattle.vm_exec.specs.Rows.Heap as rows;
 ghost use Rattle.vm_exec.specs.declared.text.Text.TheVariants.{Off};
 ghost use Rattle.vm_exec.specs.Rows.Work.{Costs, budgeted};
@@ -41,7 +41,7 @@ impl<'i> Machine<'i> {
         ensures fit { IsMapped (origin_of self.old.memory) (max self.old.memory.endmem end)
             self.old.heap self.old.undo
             → Chain self.old.stack → HasFrame self.old.stack
-            → IsStore self.old.waiting → self.old.text ≡ Off
+            → WaitsForNoSave self.old.waiting → self.old.text ≡ Off
             → OnOk result (IsFit self.new) }
     {
         let least = self.memory.endmem();

@@ -2,15 +2,15 @@
 
 ghost use Rattle.std.specs.Prelude.{◌≡◌, ◌≤◌, ◌%◌, ◌<◌, ℕ, List, [], length, IfOk, OnOk};
 ghost use Rattle.std.specs.Prelude.{Ok};
-ghost use Rattle.vm_exec.specs.Answer.{Changes, Does, Makes};
+ghost use Rattle.vm_exec.specs.Answer.{Changes, Does, MakesValue};
 ghost use Rattle.vm_exec.specs.Fault.{flowed};
-ghost use Rattle.vm_exec.specs.Row.{IsPriced, charged, due, fetched, row, told};
-ghost use Rattle.vm_exec.specs.Machine.{GoesOnFit, IsFit, IsMapped, IsSaving, IsSound};
+ghost use Rattle.vm_exec.specs.Row.{IsPriced, charged, due, fetched, row, step_within};
+ghost use Rattle.vm_exec.specs.Machine.{GoesOnFit, IsFit, IsMapped, IsSaving, IsSoundMachine};
 ghost use Rattle.vm_exec.specs.Machine.{KeepsImage, no_heap};
 ghost use Rattle.vm_exec.specs.Start as start;
 ghost use Rattle.vm_exec.specs.Start.{IsOver, finished, started};
 ghost use Rattle.vm_exec.specs.declared.text.Text.TheVariants as text;
-ghost use Rattle.vm_flow.specs.Call.{called};
+ghost use Rattle.vm_flow.specs.Call.{function_called};
 ghost use Rattle.vm_memory.specs.MemoryMap.{origin_of};
 ghost use Rattle.vm_stack.specs.Chain.{Chain, HasFrame};
 
@@ -60,7 +60,7 @@ impl<'i> Machine<'i> {
     /// The machine as an image's story begins: its start function is called without arguments.
     /// Faults 1, 3 and 12 as for a call.
     pub fn start(alloc: Global, image: &Image<'i>, seed: u64) -> Result<Machine<'i>, Trap>
-        ensures value { Makes (started image.now seed) result }
+        ensures value { MakesValue (started image.now seed) result }
         ensures fit { IfOk result (λ machine. IsFit machine) }
         ensures over { IfOk result (λ machine. IsOver image.now machine) }
         ensures seed { IfOk result (λ machine. machine.random.seed ≡ seed) }
@@ -111,10 +111,10 @@ impl<'i> Machine<'i> {
     /// The next piece of the text in progress, or else the instruction at the PC: its row of the
     /// table, within so many ticks. Fault 24 where it costs more; else the row's fault.
     pub fn step(&mut self, alloc: Global, left: u64) -> Result<Step, Trap>
-        ensures does { Does (told left (row self.old)) self.new result }
-        ensures fit { IsSound self.old → IfOk result (λ step. GoesOnFit self.new step) }
-        ensures kept { IsSound self.old → OnOk result (KeepsImage self.old self.new) }
-        ensures over { (image : List ℕ) → IsSound self.old → IsOver image self.old
+        ensures does { Does (step_within left (row self.old)) self.new result }
+        ensures fit { IsSoundMachine self.old → IfOk result (λ step. GoesOnFit self.new step) }
+        ensures kept { IsSoundMachine self.old → OnOk result (KeepsImage self.old self.new) }
+        ensures over { (image : List ℕ) → IsSoundMachine self.old → IsOver image self.old
             → OnOk result (IsOver image self.new) }
         ensures cost { IfOk result (λ step. IsPriced left step) }
     {
@@ -132,9 +132,9 @@ impl<'i> Machine<'i> {
     fn piece(&mut self, alloc: Global, cursor: Cursor, held: bool, left: u64) -> Result<Step, Trap>
         requires { 0 < left }
         ensures does { Does
-            (told left (charged (due self.old (text.Pieces cursor held))))
+            (step_within left (charged (due self.old (text.Pieces cursor held))))
             self.new result }
-        ensures fit { IsSound self.old → IfOk result (λ step. GoesOnFit self.new step) }
+        ensures fit { IsSoundMachine self.old → IfOk result (λ step. GoesOnFit self.new step) }
         ensures cost { IfOk result (λ step. IsPriced left step) }
     {
         self.text = Text::Off;
@@ -153,9 +153,9 @@ impl<'i> Machine<'i> {
     ) -> Result<Step, Trap>
         requires { 0 < left }
         ensures does { Does
-            (told left (charged (due self.old (text.Number value place held))))
+            (step_within left (charged (due self.old (text.Number value place held))))
             self.new result }
-        ensures fit { IsSound self.old → IfOk result (λ step. GoesOnFit self.new step) }
+        ensures fit { IsSoundMachine self.old → IfOk result (λ step. GoesOnFit self.new step) }
         ensures cost { IfOk result (λ step. IsPriced left step) }
     {
         self.text = Text::Off;
@@ -171,7 +171,7 @@ impl<'i> Machine<'i> {
     #[inline(always)]
     fn instruction(&mut self, alloc: Global, left: u64) -> Result<Step, Trap>
         requires { 0 < left }
-        ensures does { Does (told left (charged (fetched self.old))) self.new result }
+        ensures does { Does (step_within left (charged (fetched self.old))) self.new result }
         ensures fit { IsFit self.old → IfOk result (λ step. GoesOnFit self.new step) }
         ensures cost { IfOk result (λ step. IsPriced left step) }
     {
@@ -185,7 +185,7 @@ impl<'i> Machine<'i> {
     #[inline(never)]
     pub(crate) fn in_brief(&mut self, alloc: Global, left: u64) -> Result<Step, Trap>
         requires { 0 < left }
-        ensures does { Does (told left (charged (fetched self.old))) self.new result }
+        ensures does { Does (step_within left (charged (fetched self.old))) self.new result }
         ensures fit { IsFit self.old → IfOk result (λ step. GoesOnFit self.new step) }
         ensures cost { IfOk result (λ step. IsPriced left step) }
     {
@@ -198,7 +198,7 @@ impl<'i> Machine<'i> {
     // The same for every instruction.
     fn plain(&mut self, alloc: Global, left: u64) -> Result<Step, Trap>
         requires { 0 < left }
-        ensures does { Does (told left (charged (fetched self.old))) self.new result }
+        ensures does { Does (step_within left (charged (fetched self.old))) self.new result }
         ensures fit { IsFit self.old → IfOk result (λ step. GoesOnFit self.new step) }
         ensures cost { IfOk result (λ step. IsPriced left step) }
     {
@@ -214,7 +214,7 @@ impl<'i> Machine<'i> {
 
 // The memory of an image.
 fn image_memory<'i>(alloc: Global, image: &Image<'i>) -> Result<Memory<'i>, Trap>
-    ensures value { Makes (Ok (start.image_memory image.now)) result }
+    ensures value { MakesValue (Ok (start.image_memory image.now)) result }
     ensures map { IfOk result (λ memory. IsMapped (origin_of memory)
         (length memory.bytes) no_heap []) }
 {
@@ -227,7 +227,7 @@ fn image_memory<'i>(alloc: Global, image: &Image<'i>) -> Result<Memory<'i>, Trap
 
 // A stack with nothing on it.
 fn empty_stack(alloc: Global, image: &Image<'_>) -> Result<Stack, Trap>
-    ensures { Makes (Ok (start.empty_stack image.now)) result }
+    ensures { MakesValue (Ok (start.empty_stack image.now)) result }
 {
     Stack::with_size(alloc, image.stack_size()).map_err(no_memory)
 }
@@ -239,7 +239,7 @@ pub(crate) fn begin(
     stack: &mut Stack,
     at: u32,
 ) -> Result<u32, Trap>
-    ensures does { Does (flowed (called memory.now stack.old at [])) stack.new result }
+    ensures does { Does (flowed (function_called memory.now stack.old at [])) stack.new result }
     ensures kept { stack.old.bytes ≡ [] → stack.old.frame ≡ 0
         → OnOk result (Chain stack.new × HasFrame stack.new) }
 {

@@ -3,9 +3,9 @@
 ghost use Rattle.std.specs.Prelude.{◌≡◌, ◌≤◌, IfOk, OnOk, slice_index};
 ghost use Rattle.vm_exec.specs.Answer.{Does};
 ghost use Rattle.vm_exec.specs.Machine.{IsFit, StaysFit};
-ghost use Rattle.vm_exec.specs.Row.{dest_of};
+ghost use Rattle.vm_exec.specs.Row.{dest_by_index};
 ghost use Rattle.vm_exec.specs.Rows.Moving as rows;
-ghost use Rattle.vm_exec.specs.Rows.Work.{Tells, budgeted};
+ghost use Rattle.vm_exec.specs.Rows.Work.{DoesAtNoCost, budgeted};
 ghost use Rattle.vm_stack.specs.Locals.{IsWidth};
 
 use crate::Machine;
@@ -16,7 +16,7 @@ use vm_operand::{Dest, Move};
 impl<'i> Machine<'i> {
     fn put_in(&mut self, width: u32, to: Dest, value: u32) -> Result<Done, Trap>
         requires { IsWidth width }
-        ensures does { Tells (rows.puts_in width self.old to value) self.new result }
+        ensures does { DoesAtNoCost (rows.puts_in width self.old to value) self.new result }
         ensures fit { IsFit self.old → IfOk result (λ done. StaysFit self.new done.out) }
     {
         self.store_in(width, to, value)?;
@@ -33,7 +33,8 @@ impl<'i> Machine<'i> {
         left: u64,
     ) -> Result<Done, Trap>
         ensures does { Does
-            (budgeted left (rows.move_work op self.old (slice_index args.now) (dest_of to.now)))
+            (budgeted left
+            (rows.move_work op self.old (slice_index args.now) (dest_by_index to.now)))
             self.new result }
         ensures fit { IsFit self.old → IfOk result (λ done. StaysFit self.new done.out) }
         ensures within { IfOk result (λ done. done.cost ≤ left) }

@@ -3,10 +3,10 @@
 ghost use Rattle.std.specs.Prelude.{◌≡◌, ◌≤◌, ◌<◌, ◌+◌, ◌^◌, length};
 ghost use Rattle.std.specs.Prelude.{slice_index, IfOk};
 ghost use Rattle.std.specs.Fmt.{decimal};
-ghost use Rattle.vm_exec.specs.Machine.{IsFit, IsSound, StaysFit};
+ghost use Rattle.vm_exec.specs.Machine.{IsFit, IsSoundMachine, StaysFit};
 ghost use Rattle.vm_exec.specs.Number.{number_text};
 ghost use Rattle.vm_exec.specs.Rows.Text as rows;
-ghost use Rattle.vm_exec.specs.Rows.Work.{Tells};
+ghost use Rattle.vm_exec.specs.Rows.Work.{DoesAtNoCost};
 ghost use Rattle.vm_exec.specs.TextStub.{number_left};
 
 use crate::Machine;
@@ -18,7 +18,7 @@ use vm_memory::Trap;
 impl<'i> Machine<'i> {
     /// A number begins.
     pub(crate) fn begin_number(&mut self, value: u32) -> Result<Done, Trap>
-        ensures does { Tells (rows.numbers self.old value) self.new result }
+        ensures does { DoesAtNoCost (rows.numbers self.old value) self.new result }
         ensures fit { IsFit self.old → IfOk result (λ done. StaysFit self.new done.out) }
     {
         self.text = Text::Number {
@@ -37,7 +37,7 @@ impl<'i> Machine<'i> {
         place: u32,
         held: bool,
     ) -> Result<Done, Trap>
-        ensures does { Tells (rows.number_calls self.old value place held) self.new result }
+        ensures does { DoesAtNoCost (rows.number_calls self.old value place held) self.new result }
         ensures fit { IsFit self.old → IfOk result (λ done. StaysFit self.new done.out) }
     {
         self.suspend(held, 0x12, place.wrapping_add(1), value)?;
@@ -52,7 +52,7 @@ impl<'i> Machine<'i> {
         place: u32,
         held: bool,
     ) -> Result<Done, Trap>
-        ensures does { Tells (rows.number_rule self.old value place held) self.new result }
+        ensures does { DoesAtNoCost (rows.number_rule self.old value place held) self.new result }
         ensures fit { IsFit self.old → IfOk result (λ done. StaysFit self.new done.out) }
     {
         if self.mode == 1 {
@@ -65,7 +65,7 @@ impl<'i> Machine<'i> {
     // What is left of a number from a place on; its end too, where a stub is on the stack for it.
     fn leave_number(&mut self, value: u32, place: u32, held: bool)
         ensures value { self.new ≡ number_left self.old value place held }
-        ensures fit { IsFit self.old → IsSound self.new }
+        ensures fit { IsFit self.old → IsSoundMachine self.new }
     {
         if held || place < places(value) {
             self.text = Text::Number { value, place, held };

@@ -2,7 +2,7 @@
 
 ghost use Rattle.std.specs.Prelude.{◌≡◌, ◌⊎◌, ◌≤◌, ◌+◌, ◌%◌, ◌^◌};
 ghost use Rattle.std.specs.Prelude.{length, OnOk};
-ghost use Rattle.vm_exec.specs.Answer.{Changes, Does, Leaves};
+ghost use Rattle.vm_exec.specs.Answer.{Changes, Does, LeavesTwoValues};
 ghost use Rattle.vm_exec.specs.Machine.{IsFit};
 ghost use Rattle.vm_exec.specs.Rules as rules;
 ghost use Rattle.vm_stack.specs.Locals.{IsWidth};
@@ -19,7 +19,7 @@ impl<'i> Machine<'i> {
     #[inline(always)]
     pub(crate) fn load(&mut self, width: u32, from: Load) -> Result<u32, Trap>
         requires { IsWidth width }
-        ensures does { Does (rules.loaded width self.old from) self.new result }
+        ensures does { Does (rules.operand_loaded width self.old from) self.new result }
         ensures fit { IsFit self.old → OnOk result (IsFit self.new) }
     {
         match from {
@@ -36,7 +36,7 @@ impl<'i> Machine<'i> {
     #[inline(always)]
     fn load_at(&self, width: u32, at: u32) -> Result<u32, Trap>
         requires { IsWidth width }
-        ensures { Does (rules.loaded width self.now (load.At at)) self.now result }
+        ensures { Does (rules.operand_loaded width self.now (load.At at)) self.now result }
     {
         Ok(match width {
             1 => self.memory.read1(at)?,
@@ -94,7 +94,7 @@ impl<'i> Machine<'i> {
     ) -> Result<(), Trap>
         requires width { IsWidth width }
         requires room { index + length loads.now ≤ 8 }
-        ensures does { Leaves
+        ensures does { LeavesTwoValues
             (rules.loaded_all width self.old loads.now index args.old)
             self.new args.new result }
         ensures fit { IsFit self.old → OnOk result (IsFit self.new) }
@@ -113,7 +113,7 @@ impl<'i> Machine<'i> {
 #[inline(always)]
 fn cut(width: u32, value: u32) -> u32
     requires { IsWidth width }
-    ensures { result ≡ rules.cut width value }
+    ensures { result ≡ rules.low_bytes width value }
 {
     match width {
         1 => value % 256,

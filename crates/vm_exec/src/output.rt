@@ -3,9 +3,9 @@
 ghost use Rattle.std.specs.Prelude.{◌≡◌, ◌≤◌, IfOk, OnOk, slice_index};
 ghost use Rattle.vm_exec.specs.Answer.{Does};
 ghost use Rattle.vm_exec.specs.Machine.{IsFit, StaysFit};
-ghost use Rattle.vm_exec.specs.Row.{dest_of};
+ghost use Rattle.vm_exec.specs.Row.{dest_by_index};
 ghost use Rattle.vm_exec.specs.Rows.Output as rows;
-ghost use Rattle.vm_exec.specs.Rows.Work.{Tells, budgeted};
+ghost use Rattle.vm_exec.specs.Rows.Work.{DoesAtNoCost, budgeted};
 ghost use Rattle.vm_exec.specs.Rules as rules;
 
 use crate::Machine;
@@ -17,7 +17,7 @@ use vm_operand::{Dest, Stream};
 impl<'i> Machine<'i> {
     /// A character under the I/O system.
     fn stream(&mut self, alloc: Global, character: u32) -> Result<Done, Trap>
-        ensures does { Tells (rules.streams self.old character) self.new result }
+        ensures does { DoesAtNoCost (rules.streams self.old character) self.new result }
         ensures fit { IsFit self.old → IfOk result (λ done. StaysFit self.new done.out) }
     {
         match self.mode {
@@ -28,7 +28,7 @@ impl<'i> Machine<'i> {
     }
 
     fn get_io(&mut self, mode: Dest, rock: Dest) -> Result<Done, Trap>
-        ensures does { Tells (rows.gives_io self.old mode rock) self.new result }
+        ensures does { DoesAtNoCost (rows.gives_io self.old mode rock) self.new result }
         ensures fit { IsFit self.old → IfOk result (λ done. StaysFit self.new done.out) }
     {
         self.store(mode, self.mode)?;
@@ -36,7 +36,7 @@ impl<'i> Machine<'i> {
     }
 
     fn set_io(&mut self, mode: u32, rock: u32) -> Result<Done, Trap>
-        ensures does { Tells (rows.takes_io self.old mode rock) self.new result }
+        ensures does { DoesAtNoCost (rows.takes_io self.old mode rock) self.new result }
         ensures fit { IsFit self.old → IfOk result (λ done. StaysFit self.new done.out) }
     {
         (self.mode, self.rock) = if mode <= 2 { (mode, rock) } else { (0, 0) };
@@ -44,14 +44,15 @@ impl<'i> Machine<'i> {
     }
 
     fn set_table(&mut self, at: u32) -> Result<Done, Trap>
-        ensures does { Tells (rules.goes (record self.old { string_table = at })) self.new result }
+        ensures does { DoesAtNoCost (rules.goes (record self.old { string_table = at }))
+            self.new result }
         ensures fit { IsFit self.old → IfOk result (λ done. StaysFit self.new done.out) }
     {
         self.string_table = at;
         self.tell(Out::Ran)
     }
 
-    #[tactic(auto, unfolding(crate::specs::Rows::Output::stream_work))]
+    #[tactic(auto, unfolding(crate::specs::Rows::Output::streaming_work))]
     pub(crate) fn stream_op(
         &mut self,
         alloc: Global,
@@ -61,7 +62,8 @@ impl<'i> Machine<'i> {
         left: u64,
     ) -> Result<Done, Trap>
         ensures does { Does
-            (budgeted left (rows.stream_work op self.old (slice_index args.now) (dest_of to.now)))
+            (budgeted left
+            (rows.streaming_work op self.old (slice_index args.now) (dest_by_index to.now)))
             self.new result }
         ensures fit { IsFit self.old → IfOk result (λ done. StaysFit self.new done.out) }
         ensures within { IfOk result (λ done. done.cost ≤ left) }

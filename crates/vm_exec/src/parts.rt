@@ -1,9 +1,9 @@
 //! What instructions are made of.
 
 ghost use Rattle.std.specs.Prelude.{◌≡◌, ◌+◌, ◌*◌, IfOk, OnOk, Ok, Err};
-ghost use Rattle.vm_exec.specs.Answer.{Does, Makes};
+ghost use Rattle.vm_exec.specs.Answer.{Does, MakesValue};
 ghost use Rattle.vm_exec.specs.Machine.{IsFit, StaysFit};
-ghost use Rattle.vm_exec.specs.Rows.Work.{Tells};
+ghost use Rattle.vm_exec.specs.Rows.Work.{DoesAtNoCost};
 ghost use Rattle.vm_exec.specs.Rules as rules;
 
 use crate::Machine;
@@ -14,7 +14,7 @@ use vm_operand::Dest;
 impl<'i> Machine<'i> {
     #[inline(always)]
     pub(crate) fn tell(&self, out: Out) -> Result<Done, Trap>
-        ensures { Tells (rules.tells self.now out) self.now result }
+        ensures { DoesAtNoCost (rules.tells_out self.now out) self.now result }
     {
         Ok(Done { out, cost: 0 })
     }
@@ -22,7 +22,7 @@ impl<'i> Machine<'i> {
     /// Stores a value.
     #[inline(always)]
     pub(crate) fn put(&mut self, to: Dest, value: u32) -> Result<Done, Trap>
-        ensures does { Tells (rules.puts self.old to value) self.new result }
+        ensures does { DoesAtNoCost (rules.puts self.old to value) self.new result }
         ensures fit { IsFit self.old → IfOk result (λ done. StaysFit self.new done.out) }
     {
         self.store(to, value)?;

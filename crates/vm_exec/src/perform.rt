@@ -4,7 +4,7 @@ ghost use Rattle.std.specs.Prelude.{◌≡◌, ◌≤◌, ◌<◌, IfOk, OnOk, O
 ghost use Rattle.vm_exec.specs.Answer.{Does};
 ghost use Rattle.vm_exec.specs.Machine.{GoesOnFit, IsFit, StaysFit};
 ghost use Rattle.vm_exec.specs.Row as row;
-ghost use Rattle.vm_exec.specs.Row.{IsPriced, charged, dest_of, told, work, work_of};
+ghost use Rattle.vm_exec.specs.Row.{IsPriced, charged, dest_by_index, step_within, work, work_of};
 ghost use Rattle.vm_exec.specs.Rows.Work.{budgeted};
 ghost use Rattle.vm_stack.specs.Locals.{IsWidth};
 
@@ -27,7 +27,7 @@ impl<'i> Machine<'i> {
         left: u64,
     ) -> Result<Done, Trap>
         ensures does { Does
-            (budgeted left (work op self.old (slice_index args.now) (dest_of to.now)))
+            (budgeted left (work op self.old (slice_index args.now) (dest_by_index to.now)))
             self.new result }
         ensures fit { IsFit self.old → IfOk result (λ done. StaysFit self.new done.out) }
         ensures within { IfOk result (λ done. done.cost ≤ left) }
@@ -58,7 +58,7 @@ impl<'i> Machine<'i> {
     ) -> Result<Step, Trap>
         requires { 0 < left }
         ensures does { Does
-            (told left (charged (Ok (work_of op self.old args.now to.now))))
+            (step_within left (charged (Ok (work_of op self.old args.now to.now))))
             self.new result }
         ensures fit { IsFit self.old → IfOk result (λ step. GoesOnFit self.new step) }
         ensures cost { IfOk result (λ step. IsPriced left step) }

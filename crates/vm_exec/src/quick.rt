@@ -7,8 +7,8 @@ ghost use Rattle.vm_exec.specs.Answer.{Does};
 ghost use Rattle.vm_exec.specs.Machine.{GoesOnFit, IsFit};
 ghost use Rattle.vm_exec.specs.Quick.{IsFetched, IsNear};
 ghost use Rattle.vm_exec.specs.Row as row;
-ghost use Rattle.vm_exec.specs.Row.{IsPriced, charged, fetched, told};
-ghost use Rattle.vm_exec.specs.Rules.{loaded};
+ghost use Rattle.vm_exec.specs.Row.{IsPriced, charged, fetched, step_within};
+ghost use Rattle.vm_exec.specs.Rules.{operand_loaded};
 ghost use Rattle.vm_memory.specs.Access.{read};
 ghost use Rattle.vm_memory.specs.Code.{IsCode};
 ghost use Rattle.vm_operand.specs.Brief as brief;
@@ -54,7 +54,7 @@ impl<'i> Machine<'i> {
         requires left { 0 < left }
         requires here { OpcodeAt self.old.memory self.old.pc op place }
         requires near { IsNear self.old.pc place }
-        ensures does { Does (told left (charged (fetched self.old))) self.new result }
+        ensures does { Does (step_within left (charged (fetched self.old))) self.new result }
         ensures fit { IsFit self.old → IfOk result (λ step. GoesOnFit self.new step) }
         ensures cost { IfOk result (λ step. IsPriced left step) }
     {
@@ -90,7 +90,7 @@ impl<'i> Machine<'i> {
     ) -> Result<Step, Trap>
         requires left { 0 < left }
         requires here { IfSome quick (λ q. IsFetched self.old op q) }
-        ensures does { Does (told left (charged (fetched self.old))) self.new result }
+        ensures does { Does (step_within left (charged (fetched self.old))) self.new result }
         ensures fit { IsFit self.old → IfOk result (λ step. GoesOnFit self.new step) }
         ensures cost { IfOk result (λ step. IsPriced left step) }
     {
@@ -153,7 +153,8 @@ impl<'i> Machine<'i> {
         requires high { at + 4 ≤ self.now.pc + 16 }
         ensures load { IfSome result (λ x.
             brief.load_by self.now.memory number at ≡ Ok (x.load, x.next)) }
-        ensures value { IfSome result (λ x. loaded 4 self.now x.load ≡ Ok (self.now, x.value)) }
+        ensures value { IfSome result
+            (λ x. operand_loaded 4 self.now x.load ≡ Ok (self.now, x.value)) }
         ensures above { IfSome result (λ x. at ≤ x.next) }
         ensures below { IfSome result (λ x. x.next ≤ at + 4) }
     {
@@ -165,7 +166,7 @@ impl<'i> Machine<'i> {
     // The value of a load that isn't from the stack.
     #[inline(always)]
     fn value(&self, from: Load) -> Option<u32>
-        ensures { IfSome result (λ x. loaded 4 self.now from ≡ Ok (self.now, x)) }
+        ensures { IfSome result (λ x. operand_loaded 4 self.now from ≡ Ok (self.now, x)) }
     {
         match from {
             Load::Value(value) => Some(value),

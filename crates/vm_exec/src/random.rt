@@ -4,7 +4,7 @@ ghost use Rattle.std.specs.Prelude.{◌≡◌, ◌<◌, ◌^◌, ◌≤◌, IfOk
 ghost use Rattle.vm_exec.specs.Machine.{IsFit, StaysFit};
 ghost use Rattle.vm_exec.specs.Random as words;
 ghost use Rattle.vm_exec.specs.Rows.Random as rows;
-ghost use Rattle.vm_exec.specs.Rows.Work.{Tells};
+ghost use Rattle.vm_exec.specs.Rows.Work.{DoesAtNoCost};
 
 use crate::Machine;
 use crate::step::{Done, Out};
@@ -104,7 +104,7 @@ fn bounded(bound: u32, word: u32) -> u32
 
 impl<'i> Machine<'i> {
     pub(crate) fn draw(&mut self, bound: u32, to: Dest) -> Result<Done, Trap>
-        ensures does { Tells (rows.draws self.old bound to) self.new result }
+        ensures does { DoesAtNoCost (rows.draws self.old bound to) self.new result }
         ensures fit { IsFit self.old → IfOk result (λ done. StaysFit self.new done.out) }
     {
         let word = self.random.word();
@@ -113,7 +113,7 @@ impl<'i> Machine<'i> {
     }
 
     pub(crate) fn set_random(&mut self, value: u32) -> Result<Done, Trap>
-        ensures does { Tells (rows.seeds self.old value) self.new result }
+        ensures does { DoesAtNoCost (rows.seeds self.old value) self.new result }
         ensures fit { IsFit self.old → IfOk result (λ done. StaysFit self.new done.out) }
     {
         self.random = self.random.reseeded(value);

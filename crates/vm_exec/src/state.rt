@@ -4,7 +4,7 @@ ghost use Rattle.std.specs.Prelude.{◌≡◌, ◌≤◌, ◌/◌, IfOk, OnOk, O
 ghost use Rattle.std.specs.Prelude.{if◌then◌else◌, slice_index, length};
 ghost use Rattle.vm_exec.specs.Answer.{Does};
 ghost use Rattle.vm_exec.specs.Machine.{IsFit, StaysFit};
-ghost use Rattle.vm_exec.specs.Row.{dest_of};
+ghost use Rattle.vm_exec.specs.Row.{dest_by_index};
 ghost use Rattle.vm_exec.specs.Rows.State as rows;
 ghost use Rattle.vm_exec.specs.Rows.Work.{Costs, budgeted};
 ghost use Rattle.vm_exec.specs.Rows.Undo as undo;
@@ -123,7 +123,8 @@ impl<'i> Machine<'i> {
         left: u64,
     ) -> Result<Done, Trap>
         ensures does { Does
-            (budgeted left (rows.state_work op self.old (slice_index args.now) (dest_of to.now)))
+            (budgeted left
+            (rows.state_work op self.old (slice_index args.now) (dest_by_index to.now)))
             self.new result }
         ensures fit { IsFit self.old → IfOk result (λ done. StaysFit self.new done.out) }
         ensures within { IfOk result (λ done. done.cost ≤ left) }

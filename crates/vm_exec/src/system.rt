@@ -3,9 +3,9 @@
 ghost use Rattle.std.specs.Prelude.{◌≡◌, ◌≤◌, IfOk, OnOk, slice_index, length};
 ghost use Rattle.vm_exec.specs.Answer.{Does};
 ghost use Rattle.vm_exec.specs.Machine.{IsFit, StaysFit};
-ghost use Rattle.vm_exec.specs.Row.{dest_of};
+ghost use Rattle.vm_exec.specs.Row.{dest_by_index};
 ghost use Rattle.vm_exec.specs.Rows.System as rows;
-ghost use Rattle.vm_exec.specs.Rows.Work.{Tells, budgeted};
+ghost use Rattle.vm_exec.specs.Rows.Work.{DoesAtNoCost, budgeted};
 ghost use Rattle.vm_exec.specs.Rules as rules;
 
 use crate::Machine;
@@ -16,7 +16,7 @@ use vm_operand::{Dest, System};
 
 impl<'i> Machine<'i> {
     fn getmemsize(&mut self, to: Dest) -> Result<Done, Trap>
-        ensures does { Tells
+        ensures does { DoesAtNoCost
             (rules.puts self.old to (length self.old.memory.bytes))
             self.new result }
         ensures fit { IsFit self.old → IfOk result (λ done. StaysFit self.new done.out) }
@@ -26,7 +26,7 @@ impl<'i> Machine<'i> {
     }
 
     fn get_gestalt(&mut self, selector: u32, argument: u32, to: Dest) -> Result<Done, Trap>
-        ensures does { Tells
+        ensures does { DoesAtNoCost
             (rules.puts self.old to (rows.gestalt_of self.old selector argument))
             self.new result }
         ensures fit { IsFit self.old → IfOk result (λ done. StaysFit self.new done.out) }
@@ -40,7 +40,7 @@ impl<'i> Machine<'i> {
     }
 
     fn call_glk(&mut self, selector: u32, args: u32, to: Dest) -> Result<Done, Trap>
-        ensures does { Tells (rows.calls_glk self.old selector args to) self.new result }
+        ensures does { DoesAtNoCost (rows.calls_glk self.old selector args to) self.new result }
         ensures fit { IsFit self.old → IfOk result (λ done. StaysFit self.new done.out) }
     {
         self.waiting = Waiting::Store(to);
@@ -56,7 +56,8 @@ impl<'i> Machine<'i> {
         left: u64,
     ) -> Result<Done, Trap>
         ensures does { Does
-            (budgeted left (rows.system_work op self.old (slice_index args.now) (dest_of to.now)))
+            (budgeted left
+            (rows.system_work op self.old (slice_index args.now) (dest_by_index to.now)))
             self.new result }
         ensures fit { IsFit self.old → IfOk result (λ done. StaysFit self.new done.out) }
         ensures within { IfOk result (λ done. done.cost ≤ left) }

@@ -5,7 +5,7 @@ ghost use Rattle.std.specs.Prelude.{◌∷◌, ◌++◌, IfErr, IfOk, OnOk};
 ghost use Rattle.vm_exec.specs.Answer.{Changes, MakesList};
 ghost use Rattle.vm_exec.specs.Machine.{IsFit, StaysFit};
 ghost use Rattle.vm_exec.specs.Rows.Text as rows;
-ghost use Rattle.vm_exec.specs.Rows.Work.{Tells};
+ghost use Rattle.vm_exec.specs.Rows.Work.{DoesAtNoCost};
 ghost use Rattle.vm_stack.specs.Chain.{IsReady};
 
 use crate::Machine;
@@ -29,7 +29,7 @@ pub enum Text {
 impl<'i> Machine<'i> {
     /// A character of a text goes to Glk, or nowhere.
     pub(crate) fn show(&self, character: u32) -> Result<Done, Trap>
-        ensures { Tells (rows.shows self.now character) self.now result }
+        ensures { DoesAtNoCost (rows.shows self.now character) self.now result }
     {
         if self.mode == 2 {
             self.tell(Out::Char(character))
@@ -40,7 +40,7 @@ impl<'i> Machine<'i> {
 
     /// A string begins, before the first byte of its object.
     pub(crate) fn begin(&mut self, at: u32, held: bool) -> Result<Done, Trap>
-        ensures does { Tells (rows.begins self.old at held) self.new result }
+        ensures does { DoesAtNoCost (rows.begins_string self.old at held) self.new result }
         ensures fit { IsFit self.old → IfOk result (λ done. StaysFit self.new done.out) }
     {
         let cursor = Cursor {
@@ -70,7 +70,8 @@ impl<'i> Machine<'i> {
         cursor: Cursor,
         held: bool,
     ) -> Result<Done, Trap>
-        ensures does { Tells (rows.calls_from self.old at args.now cursor held) self.new result }
+        ensures does { DoesAtNoCost (rows.calls_from self.old at args.now cursor held)
+            self.new result }
         ensures fit { IsFit self.old → IfOk result (λ done. StaysFit self.new done.out) }
     {
         self.pause(cursor, held)?;
@@ -85,7 +86,7 @@ impl<'i> Machine<'i> {
         cursor: Cursor,
         held: bool,
     ) -> Result<Done, Trap>
-        ensures does { Tells (rows.says self.old character cursor held) self.new result }
+        ensures does { DoesAtNoCost (rows.says self.old character cursor held) self.new result }
         ensures fit { IsFit self.old → IfOk result (λ done. StaysFit self.new done.out) }
     {
         if self.mode == 1 {
@@ -97,7 +98,7 @@ impl<'i> Machine<'i> {
 
     // A string in a string begins.
     fn nest(&mut self, at: u32, cursor: Cursor, held: bool) -> Result<Done, Trap>
-        ensures does { Tells (rows.nests self.old at cursor held) self.new result }
+        ensures does { DoesAtNoCost (rows.nests self.old at cursor held) self.new result }
         ensures fit { IsFit self.old → IfOk result (λ done. StaysFit self.new done.out) }
     {
         self.pause(cursor, held)?;
@@ -114,8 +115,8 @@ impl<'i> Machine<'i> {
         cursor: Cursor,
         held: bool,
     ) -> Result<Done, Trap>
-        ensures does { Tells
-            (rows.refers self.old at args_at args cursor held)
+        ensures does { DoesAtNoCost
+            (rows.refers_to_object self.old at args_at args cursor held)
             self.new result }
         ensures fit { IsFit self.old → IfOk result (λ done. StaysFit self.new done.out) }
     {
@@ -131,7 +132,7 @@ impl<'i> Machine<'i> {
 
     // The end of a string.
     fn end(&mut self, held: bool) -> Result<Done, Trap>
-        ensures does { Tells (rows.ends self.old held) self.new result }
+        ensures does { DoesAtNoCost (rows.ends_string self.old held) self.new result }
         ensures fit { IsFit self.old → IfOk result (λ done. StaysFit self.new done.out) }
     {
         if held {
@@ -148,7 +149,7 @@ impl<'i> Machine<'i> {
         cursor: Cursor,
         held: bool,
     ) -> Result<Done, Trap>
-        ensures does { Tells (rows.string_rule self.old cursor held) self.new result }
+        ensures does { DoesAtNoCost (rows.string_rule self.old cursor held) self.new result }
         ensures fit { IsFit self.old → IfOk result (λ done. StaysFit self.new done.out) }
     {
         let (piece, after) = next_piece(&self.memory, self.string_table, cursor)?;

@@ -2,7 +2,7 @@
 
 ghost use Rattle.std.specs.Prelude.{◌≡◌, IfOk, OnOk};
 ghost use Rattle.vm_exec.specs.Answer.{Changes, Does};
-ghost use Rattle.vm_exec.specs.Machine.{IsFit, IsSound};
+ghost use Rattle.vm_exec.specs.Machine.{IsFit, IsSoundMachine};
 ghost use Rattle.vm_exec.specs.TextStub as stubs;
 ghost use Rattle.vm_stack.specs.Chain.{IsReady};
 
@@ -86,7 +86,7 @@ impl<'i> Machine<'i> {
     /// What is left of a number from a place on, or the code behind it.
     pub(crate) fn go_on_number(&mut self, value: u32, place: u32, held: bool) -> Result<(), Trap>
         ensures does { Changes (stubs.number_on self.old value place held) self.new result }
-        ensures fit { IsFit self.old → OnOk result (IsSound self.new) }
+        ensures fit { IsFit self.old → OnOk result (IsSoundMachine self.new) }
     {
         if place < places(value) {
             self.text = Text::Number { value, place, held };
@@ -98,7 +98,7 @@ impl<'i> Machine<'i> {
     // What is left of a string of this kind, at the place that a stub names.
     fn go_on_string(&mut self, kind: u32, stub: Stub) -> Result<(), Trap>
         ensures does { Changes (stubs.string_on self.old kind stub) self.new result }
-        ensures fit { IsFit self.old → OnOk result (IsSound self.new) }
+        ensures fit { IsFit self.old → OnOk result (IsSoundMachine self.new) }
     {
         let cursor = Cursor {
             kind,
@@ -111,7 +111,7 @@ impl<'i> Machine<'i> {
 
     fn go_on_at(&mut self, pc: u32) -> Result<(), Trap>
         ensures does { Changes (Ok (record self.old { pc = pc })) self.new result }
-        ensures fit { IsFit self.old → OnOk result (IsSound self.new) }
+        ensures fit { IsFit self.old → OnOk result (IsSoundMachine self.new) }
     {
         self.pc = pc;
         Ok(())
@@ -121,7 +121,7 @@ impl<'i> Machine<'i> {
     #[tactic(auto, unfolding(crate::specs::TextStub::text_on))]
     pub(crate) fn resume_text(&mut self, stub: Stub) -> Result<(), Trap>
         ensures does { Changes (stubs.text_on self.old stub) self.new result }
-        ensures fit { IsFit self.old → OnOk result (IsSound self.new) }
+        ensures fit { IsFit self.old → OnOk result (IsSoundMachine self.new) }
     {
         match stub.kind {
             0x10 => self.go_on_string(0xE1, stub),

@@ -1,7 +1,7 @@
 //! Faults of the layers below as traps.
 
 ghost use Rattle.std.specs.Prelude.{◌≡◌, Ok, Err, nat_lt, if◌then◌else◌};
-ghost use Rattle.vm_exec.specs.Answer.{Makes};
+ghost use Rattle.vm_exec.specs.Answer.{MakesValue};
 ghost use Rattle.vm_exec.specs.Fault.{flow_trap, stack_code};
 ghost use Rattle.vm_memory.specs.declared.fault.Trap.TheVariants.{Fault, NoMemory};
 ghost use Rattle.vm_memory.specs.declared.faults.TheConstants.{BUDGET_SPENT};

@@ -1,10 +1,10 @@
 //! Saved states, restart and the protected range.
 
 ghost use Rattle.std.specs.Prelude.{◌≡◌, ◌≤◌, ℕ, List, length, IsTrue, IfOk, OnOk, Ok};
-ghost use Rattle.vm_exec.specs.Answer.{Changes, Makes};
+ghost use Rattle.vm_exec.specs.Answer.{Changes, MakesValue};
 ghost use Rattle.vm_exec.specs.Machine.{IsFit, IsSaving, KeepsImage, StaysFit};
 ghost use Rattle.vm_exec.specs.Rows.Undo as rows;
-ghost use Rattle.vm_exec.specs.Rows.Work.{Tells};
+ghost use Rattle.vm_exec.specs.Rows.Work.{DoesAtNoCost};
 ghost use Rattle.vm_exec.specs.Start.{IsOver};
 ghost use Rattle.vm_heap.specs.HeapMap.{is_heap};
 ghost use Rattle.vm_memory.specs.MemoryMap.{KeepsMap, origin_of, reset};
@@ -153,7 +153,7 @@ impl<'i> Machine<'i> {
     }
 
     pub(crate) fn has_undo(&mut self, to: Dest) -> Result<Done, Trap>
-        ensures does { Tells (rows.tells_undo self.old to) self.new result }
+        ensures does { DoesAtNoCost (rows.tells_undo self.old to) self.new result }
         ensures fit { IsFit self.old → IfOk result (λ done. StaysFit self.new done.out) }
     {
         let answer = if self.undo.has() { 0 } else { 1 };
@@ -161,7 +161,7 @@ impl<'i> Machine<'i> {
     }
 
     pub(crate) fn discard_undo(&mut self) -> Result<Done, Trap>
-        ensures does { Tells (rows.discards self.old) self.new result }
+        ensures does { DoesAtNoCost (rows.discards self.old) self.new result }
         ensures fit { IsFit self.old → IfOk result (λ done. StaysFit self.new done.out) }
     {
         self.undo.discard();
@@ -169,7 +169,7 @@ impl<'i> Machine<'i> {
     }
 
     pub(crate) fn protect(&mut self, start: u32, length: u32) -> Result<Done, Trap>
-        ensures does { Tells (rows.protects self.old start length) self.new result }
+        ensures does { DoesAtNoCost (rows.protects self.old start length) self.new result }
         ensures fit { IsFit self.old → IfOk result (λ done. StaysFit self.new done.out) }
     {
         self.protection = Protection { start, length };
@@ -178,7 +178,7 @@ impl<'i> Machine<'i> {
 
     // The original memory, but for the protected bytes.
     fn original(&self, alloc: Global) -> Result<Memory<'i>, Trap>
-        ensures does { Makes (Ok (rows.sparing self.now (reset self.now.memory))) result }
+        ensures does { MakesValue (Ok (rows.sparing self.now (reset self.now.memory))) result }
         ensures origin { IfOk result (λ m. origin_of m ≡ origin_of self.now.memory) }
         ensures size { IfOk result (λ m. length m.bytes ≡ m.endmem) }
     {
@@ -208,7 +208,7 @@ impl<'i> Machine<'i> {
     // A stack with nothing on it.
     fn empty_stack(&mut self) -> Result<(), Trap>
         ensures does { Changes
-            (Ok (record self.old { stack = rows.emptied self.old.stack }))
+            (Ok (record self.old { stack = rows.stack_emptied self.old.stack }))
             self.new result }
     {
         self.stack.cut(0).map_err(of_stack)

@@ -4,13 +4,13 @@ ghost use Rattle.std.specs.Prelude.{◌≡◌, ◌≤◌, ◌/◌, ◌-◌, IfOk
 ghost use Rattle.std.specs.Prelude.{slice_index};
 ghost use Rattle.vm_exec.specs.Answer.{Changes, Does};
 ghost use Rattle.vm_exec.specs.Machine.{IsFit, StaysFit};
-ghost use Rattle.vm_exec.specs.Row.{dest_of};
+ghost use Rattle.vm_exec.specs.Row.{dest_by_index};
 ghost use Rattle.vm_exec.specs.Rows.Values as rows;
-ghost use Rattle.vm_exec.specs.Rows.Work.{Costs, Tells, budgeted};
+ghost use Rattle.vm_exec.specs.Rows.Work.{Costs, DoesAtNoCost, budgeted};
 ghost use Rattle.vm_exec.specs.Rules as rules;
-ghost use Rattle.vm_stack.specs.Answer.{Leaves};
+ghost use Rattle.vm_stack.specs.Answer.{LeavesStack};
 ghost use Rattle.vm_stack.specs.Chain.{Chain, HasFrame};
-ghost use Rattle.vm_stack.specs.Values.{count};
+ghost use Rattle.vm_stack.specs.Values.{value_count};
 
 use crate::Machine;
 use crate::step::{Done, Out};
@@ -21,7 +21,8 @@ use vm_stack::{Stack, StackFault};
 
 impl<'i> Machine<'i> {
     fn stkcount(&mut self, to: Dest) -> Result<Done, Trap>
-        ensures does { Tells (rules.puts self.old to (count self.old.stack)) self.new result }
+        ensures does { DoesAtNoCost (rules.puts self.old to (value_count self.old.stack))
+            self.new result }
         ensures fit { IsFit self.old → IfOk result (λ done. StaysFit self.new done.out) }
     {
         let count = self.stack.count();
@@ -29,7 +30,7 @@ impl<'i> Machine<'i> {
     }
 
     fn stkpeek(&mut self, depth: u32, to: Dest) -> Result<Done, Trap>
-        ensures does { Tells (rows.peeks self.old depth to) self.new result }
+        ensures does { DoesAtNoCost (rows.peeks self.old depth to) self.new result }
         ensures fit { IsFit self.old → IfOk result (λ done. StaysFit self.new done.out) }
     {
         let value = self.stack.peek(depth).map_err(of_stack)?;
@@ -37,7 +38,7 @@ impl<'i> Machine<'i> {
     }
 
     fn roll(&mut self, count: u32, by: u32) -> Result<Done, Trap>
-        ensures does { Tells (rows.rolls self.old count by) self.new result }
+        ensures does { DoesAtNoCost (rows.rolls self.old count by) self.new result }
         ensures fit { IsFit self.old → IfOk result (λ done. StaysFit self.new done.out) }
     {
         self.stack.roll(count, by).map_err(of_stack)?;
@@ -83,7 +84,8 @@ impl<'i> Machine<'i> {
         left: u64,
     ) -> Result<Done, Trap>
         ensures does { Does
-            (budgeted left (rows.values_work op self.old (slice_index args.now) (dest_of to.now)))
+            (budgeted left
+            (rows.values_work op self.old (slice_index args.now) (dest_by_index to.now)))
             self.new result }
         ensures fit { IsFit self.old → IfOk result (λ done. StaysFit self.new done.out) }
         ensures within { IfOk result (λ done. done.cost ≤ left) }
@@ -115,7 +117,7 @@ fn copy_up(stack: &mut Stack, count: u32) -> Result<(), Trap>
 
 // The value at a depth again, on top.
 fn copy_one(stack: &mut Stack, depth: u32) -> Result<(), StackFault>
-    ensures does { Leaves (rows.copied_one stack.old depth) stack.new result }
+    ensures does { LeavesStack (rows.copied_one stack.old depth) stack.new result }
     ensures kept { Chain stack.old → HasFrame stack.old
         → OnOk result (Chain stack.new × HasFrame stack.new) }
 {

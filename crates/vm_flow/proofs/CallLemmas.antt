@@ -6,9 +6,9 @@ use Rattle.vm_memory.specs.Access.{read}
 use Rattle.vm_memory.specs.declared.fault.MemFault.{MemFault}
 use Rattle.vm_stack.specs.StackState.{StackState}
 use Rattle.vm_stack.specs.Frame.{entered}
-use Rattle.vm_flow.specs.Answer.{Gives, GivesWithRoom, from_memory, from_stack, and_then}
+use Rattle.vm_flow.specs.Answer.{GivesOrStops, GivesWithRoom, from_memory, from_stack, and_then}
 use Rattle.vm_flow.specs.Function.{format_in}
-use Rattle.vm_flow.specs.Call.{called, given}
+use Rattle.vm_flow.specs.Call.{function_called, arguments_given}
 use Rattle.vm_flow.specs.declared.stop.FlowStop.{FlowStop}
 use Rattle.vm_flow.specs.declared.stop.FlowStop.TheVariants as stop
 
@@ -19,7 +19,7 @@ Answered = Result (StackState × ℕ) FlowStop
 abbrev begun : StackState → ℕ → List ℕ → ℕ → List ℕ → Answered
 begun s at args kind format =
     and_then (from_stack (entered s format)) (λ t.
-    and_then (given kind t format args) (λ u. Ok (u, at + 1 + length format)))
+    and_then (arguments_given kind t format args) (λ u. Ok (u, at + 1 + length format)))
 
 -- what a function of this type gives
 abbrev typed : MemoryMap → StackState → ℕ → List ℕ → ℕ → Answered
@@ -42,13 +42,13 @@ typed_is m s at args kind (inl e) = rw e refl
 typed_is m s at args kind (inr e) = rw e refl
 
 called_is : (m : MemoryMap) (s : StackState) (at : ℕ) (args : List ℕ) (kind : ℕ) (format : List ℕ)
-    → Stands m at kind format → called m s at args ≡ begun s at args kind format
+    → Stands m at kind format → function_called m s at args ≡ begun s at args kind format
 called_is m s at args kind format stands =
     ap (λ (r : Result ℕ MemFault). and_then (from_memory r) (typed m s at args)) stands.reads
     ∙ (typed_is m s at args kind stands.kinds
     ∙ ap (λ (r : Result (List ℕ) FlowStop). and_then r (begun s at args kind)) stands.list)
 
-gives_room : (should : Answered) (new : StackState) (r : Result ℕ FlowStop) → Gives should new r
+gives_room : (should : Answered) (new : StackState) (r : Result ℕ FlowStop) → GivesOrStops should new r
     → GivesWithRoom should new r
 gives_room should new (Ok x) h = h
 gives_room should new (Err (stop.Memory f)) h = h
@@ -60,7 +60,7 @@ gives_room should new (Err stop.NoMemory) h = tt
 
 pub gives_called : (m : MemoryMap) (s new : StackState) (at : ℕ) (args : List ℕ) (kind : ℕ)
     (format : List ℕ) (r : Result ℕ FlowStop) → Stands m at kind format
-    → Gives (begun s at args kind format) new r → GivesWithRoom (called m s at args) new r
+    → GivesOrStops (begun s at args kind format) new r → GivesWithRoom (function_called m s at args) new r
 gives_called m s new at args kind format r stands h =
     subst (λ (should : Answered). GivesWithRoom should new r)
     (sym (called_is m s at args kind format stands))

@@ -8,9 +8,10 @@ use Rattle.std.proofs.lemmas.List.{take_more, take-append-drop, drop-append-le}
 use Rattle.std.proofs.lemmas.List.{length-take-le}
 use Rattle.vm_stack.proofs.FormatLemmas.{two}
 use Rattle.vm_memory.specs.declared.fault.MemFault.TheVariants.{BadRead}
+use Rattle.vm_stack.specs.Saved.{is_type}
 use Rattle.vm_stack.specs.Locals.{IsWidth}
 use Rattle.vm_stack.specs.Chain.{IsFormat}
-use Rattle.vm_flow.specs.Function.{format_in, prepended, is_type}
+use Rattle.vm_flow.specs.Function.{format_in, prepended}
 use Rattle.vm_flow.specs.declared.stop.FlowStop.{FlowStop}
 use Rattle.vm_flow.specs.declared.stop.FlowStop.TheVariants as stop
 

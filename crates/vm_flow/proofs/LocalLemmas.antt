@@ -10,7 +10,7 @@ use Rattle.std.proofs.lemmas.List.{take-replicate, drop-replicate}
 use Rattle.std.proofs.lemmas.Grind.{flat_map-append}
 use Rattle.std.proofs.Math.Seq.{take-append_seam, drop-append-add}
 use Rattle.byteorder.specs.Endian.{big_bytes}
-use Rattle.vm_stack.specs.StackState.{StackState, number, replaced, frame_len, locals_pos}
+use Rattle.vm_stack.specs.StackState.{StackState, number, replaced_within, frame_len, locals_pos}
 use Rattle.vm_stack.specs.Locals.{IsWidth, local_at, local_set}
 use Rattle.vm_stack.specs.Frame.{aligned, locals_end, entered, fresh_frame, frame_head}
 use Rattle.vm_stack.specs.Frame.{frame_len_of, locals_pos_of, locals_len, padding_len}
@@ -22,7 +22,7 @@ use Rattle.vm_stack.specs.declared.fault.StackFault.{StackFault}
 use Rattle.vm_stack.proofs.NumberLemmas.{le_true, number_within}
 use Rattle.vm_stack.proofs.ChainLemmas.{length_word}
 use Rattle.vm_flow.specs.Answer.{from_stack, and_then}
-use Rattle.vm_flow.specs.Call.{pair_set, locals_set, given, locals_of, frame_with, with_frame}
+use Rattle.vm_flow.specs.Call.{pair_set, locals_set, arguments_given, locals_of, frame_with, with_frame}
 use Rattle.vm_flow.specs.declared.stop.FlowStop.{FlowStop}
 use Rattle.vm_flow.proofs.ArgumentLemmas.{aligned_up, grows, next_end}
 
@@ -43,7 +43,7 @@ partly_is p f limit a b m n e g = rw (e, g) refl
 -- one local
 
 put_at_seam : (q new : List ℕ) (n w : ℕ) → length new ≡ w → w ≤ n
-    → replaced (q ++ replicate n 0) (length q) new ≡ q ++ new ++ replicate (n - w) 0
+    → replaced_within (q ++ replicate n 0) (length q) new ≡ q ++ new ++ replicate (n - w) 0
 put_at_seam q new n w e h =
     let z = length-replicate {A = ℕ} n 0 in
     let a = length-append q (replicate n 0) in
@@ -58,12 +58,12 @@ inner : (p done new z : List ℕ) → (p ++ done) ++ new ++ z ≡ p ++ ((done ++
 inner p done new z = simp append_assoc refl
 
 put_zeros : (p done new : List ℕ) (n w : ℕ) → length new ≡ w → w ≤ n
-    → replaced (p ++ (done ++ replicate n 0)) (length p + length done) new ≡ p ++
+    → replaced_within (p ++ (done ++ replicate n 0)) (length p + length done) new ≡ p ++
     ((done ++ new) ++ replicate (n - w) 0)
 put_zeros p done new n w e h =
-    ap (λ (b : List ℕ). replaced b (length p + length done) new)
+    ap (λ (b : List ℕ). replaced_within b (length p + length done) new)
     (sym (append_assoc p done (replicate n 0)))
-    ∙ (ap (λ (k : ℕ). replaced ((p ++ done) ++ replicate n 0) k new) (sym (length-append p done))
+    ∙ (ap (λ (k : ℕ). replaced_within ((p ++ done) ++ replicate n 0) k new) (sym (length-append p done))
     ∙ (put_at_seam (p ++ done) new n w e h ∙ inner p done new (replicate (n - w) 0)))
 
 number_in : (p rest : List ℕ) (at : ℕ) → at + 4 ≤ length p → number 4 (p ++ rest) at ≡ number 4 p at
@@ -85,9 +85,9 @@ local_is p done f limit n w x total base sum h =
     let fits : nat_le (length done + w) (frame_len s - locals_pos s) ≡ true =
     le_true _ _ (omega (arith, len, pos, b_len, sum, h)) in
     let at : local_at s (length done) ≡ length p + length done = omega (arith, pos, b_pos) in
-    let put : replaced s.bytes (local_at s (length done)) (big_bytes w x) ≡ p ++
+    let put : replaced_within s.bytes (local_at s (length done)) (big_bytes w x) ≡ p ++
     ((done ++ big_bytes w x) ++ replicate (n - w) 0) =
-    ap (λ (k : ℕ). replaced s.bytes k (big_bytes w x)) at
+    ap (λ (k : ℕ). replaced_within s.bytes k (big_bytes w x)) at
     ∙ put_zeros p done (big_bytes w x) n w (length_word w x) h in
     rw (fits, put) refl
 
@@ -360,12 +360,12 @@ locals_are s t u format args is small enters sets =
 -- a C1 gets its arguments
 
 given_locals : (kind : ℕ) (s : StackState) (format args : List ℕ) → kind ≡ 193
-    → given kind s format args ≡ locals_set s 0 format args
+    → arguments_given kind s format args ≡ locals_set s 0 format args
 given_locals kind s format args e = rw e refl
 
 pub c1_begun : (s t u : StackState) (kind : ℕ) (format args : List ℕ) → IsFormat format
     → frame_len_of format ≤ 1048576 → entered s format ≡ Ok t
-    → given kind t format args ≡ Ok u → kind ≡ 193
+    → arguments_given kind t format args ≡ Ok u → kind ≡ 193
     → u ≡ with_frame s (frame_with format (locals_of 0 format args))
 c1_begun s t u kind format args is small enters gives c1 =
     locals_are s t u format args is small enters (sym (given_locals kind t format args c1) ∙ gives)

@@ -4,7 +4,7 @@ use Rattle.vm_memory.specs.MemoryMap.{MemoryMap}
 use Rattle.vm_memory.specs.declared.fault.MemFault.TheVariants.{BadRead}
 use Rattle.vm_stack.specs.StackState.{StackState, words}
 use Rattle.vm_stack.specs.Frame.{fresh_frame}
-use Rattle.vm_flow.specs.Call.{called, locals_of}
+use Rattle.vm_flow.specs.Call.{function_called, locals_of}
 use Rattle.vm_flow.specs.Return.{given_back}
 use Rattle.vm_flow.specs.Throw.{caught, thrown}
 use Rattle.vm_flow.specs.declared.stop.FlowStop.TheVariants as stop
@@ -26,7 +26,7 @@ frame_with values = record {
 }
 
 -- arguments are cut to their locals, and the fifth is dropped
-pub a_c1_gets_locals : called (of_bytes (193 ∷ 1 ∷ 3 ∷ 2 ∷ 1 ∷ 0 ∷ 0 ∷ [])) empty 0
+pub a_c1_gets_locals : function_called (of_bytes (193 ∷ 1 ∷ 3 ∷ 2 ∷ 1 ∷ 0 ∷ 0 ∷ [])) empty 0
     (511 ∷ 2 ∷ 3 ∷ 74565 ∷ 9 ∷ [])
     ≡ Ok (
       record {
@@ -48,15 +48,15 @@ pub missing_arguments : locals_of 0 (4 ∷ 2 ∷ 1 ∷ 2 ∷ 0 ∷ 0 ∷ []) (1 
 missing_arguments = refl
 
 -- arguments are pushed, the last one first, and their count on top
-pub a_c0_gets_values : called (of_bytes (192 ∷ 0 ∷ 0 ∷ [])) empty 0 (7 ∷ 8 ∷ []) ≡ Ok
+pub a_c0_gets_values : function_called (of_bytes (192 ∷ 0 ∷ 0 ∷ [])) empty 0 (7 ∷ 8 ∷ []) ≡ Ok
     (frame_with (8 ∷ 7 ∷ 2 ∷ []), 3)
 a_c0_gets_values = refl
 
-pub a_local_of_3_bytes : called (of_bytes (193 ∷ 3 ∷ 1 ∷ 0 ∷ 0 ∷ [])) empty 0 [] ≡ Err
+pub a_local_of_3_bytes : function_called (of_bytes (193 ∷ 3 ∷ 1 ∷ 0 ∷ 0 ∷ [])) empty 0 [] ≡ Err
     (stop.BadFunction 0)
 a_local_of_3_bytes = refl
 
-pub a_list_that_runs_off : called (of_bytes (193 ∷ 4 ∷ 1 ∷ 0 ∷ [])) empty 0 [] ≡ Err
+pub a_list_that_runs_off : function_called (of_bytes (193 ∷ 4 ∷ 1 ∷ 0 ∷ [])) empty 0 [] ≡ Err
     (stop.Memory (BadRead 4))
 a_list_that_runs_off = refl
 

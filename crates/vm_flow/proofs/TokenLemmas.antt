@@ -6,19 +6,19 @@ use Rattle.std.proofs.lemmas.Bool.{and_parts, and_from, leb-true, le-leb, eqb-tr
 use Rattle.std.proofs.lemmas.Bool.{cases_Bool}
 use Rattle.std.proofs.lemmas.List.{length-take-le, take-append-drop}
 use Rattle.vm_stack.specs.StackState.{StackState, number, frame_len, value_bytes}
-use Rattle.vm_stack.specs.Frame.{left, cut_to, in_named_frame}
-use Rattle.vm_stack.specs.Values.{without}
+use Rattle.vm_stack.specs.Frame.{frame_left, cut_to, in_named_frame}
+use Rattle.vm_stack.specs.Values.{without_top}
 use Rattle.vm_stack.specs.Stub.{stub_at, stub_taken}
 use Rattle.vm_stack.specs.declared.fault.StackFault.{StackFault}
 use Rattle.vm_stack.proofs.NumberLemmas.{number_within}
 use Rattle.vm_stack.proofs.SavedLemmas.{take_within}
 use Rattle.vm_flow.specs.Answer.{from_stack, and_then}
 use Rattle.vm_stack.specs.Token.{ends_stub}
-use Rattle.vm_stack.specs.Chain.{Frame, IsFrame, IsChain, Chain, HasFrame, IsReady, spelled, start}
+use Rattle.vm_stack.specs.Chain.{Frame, IsFrame, IsChain, Chain, HasFrame, IsReady, bytes_of_frames, start}
 use Rattle.vm_stack.specs.declared.stub.Stub.{Stub}
 use Rattle.vm_stack.proofs.FrameLemmas.{before, length_before, frame_len_is, fours_below}
 use Rattle.vm_stack.proofs.ChainLemmas.{left_bytes, left_frame, number_before}
-use Rattle.vm_flow.specs.Throw.{thrown, thrown_in, taken_at}
+use Rattle.vm_flow.specs.Throw.{thrown, thrown_in, stub_taken_at}
 use Rattle.vm_flow.specs.Token.{EndsAmong, IsToken, thrown_to}
 use Rattle.vm_flow.specs.declared.stop.FlowStop.{FlowStop}
 use Rattle.vm_flow.specs.declared.stop.FlowStop.TheVariants as stop
@@ -55,7 +55,7 @@ ends_from s token e =
     (eq-eqb _ _ e.names)
 
 here_is : (s : StackState) (fr : Frame) (below : List Frame) (token : ℕ) → IsFrame fr
-    → s.bytes ≡ spelled (fr ∷ below) → s.frame ≡ start (fr ∷ below)
+    → s.bytes ≡ bytes_of_frames (fr ∷ below) → s.frame ≡ start (fr ∷ below)
     → Ends s token → EndsAmong fr below token
 here_is s fr below token h bytes frame e =
     let len = frame_len_is s fr below h bytes frame in
@@ -71,7 +71,7 @@ here_is s fr below token h bytes frame e =
     }
 
 among_is : (s : StackState) (fr : Frame) (below : List Frame) (token : ℕ) → IsFrame fr
-    → s.bytes ≡ spelled (fr ∷ below) → s.frame ≡ start (fr ∷ below)
+    → s.bytes ≡ bytes_of_frames (fr ∷ below) → s.frame ≡ start (fr ∷ below)
     → EndsAmong fr below token → Ends s token
 among_is s fr below token h bytes frame e =
     let len = frame_len_is s fr below h bytes frame in
@@ -87,18 +87,18 @@ among_is s fr below token h bytes frame e =
     }
 
 below_is : (n : ℕ) (s : StackState) (token : ℕ) → ends_stub s token ≡ false
-    → thrown_in (suc n) s token ≡ thrown_in n (left s) token
+    → thrown_in (suc n) s token ≡ thrown_in n (frame_left s) token
 below_is n s token e = rw e refl
 
 bad_in : (frames : List Frame) (n : ℕ) (s : StackState) (token : ℕ) → IsChain frames
-    → s.bytes ≡ spelled frames → s.frame ≡ start frames
+    → s.bytes ≡ bytes_of_frames frames → s.frame ≡ start frames
     → (IsToken frames token → ⊥) → thrown_in n s token ≡ Err (stop.BadToken token)
 bad_in frames zero s token c bytes frame bad = refl
 bad_in [] (suc n) s token c bytes frame bad =
     elim (cases_Bool (ends_stub s token)) [
       | inl e ↦ absurd (let p = ends_is s token e in let low = p.low in let high = p.high in
           let l = ap length bytes in omega (arith, low, high, l))
-      | inr e ↦ below_is n s token e ∙ bad_in [] n (left s) token tt (rw (bytes, frame) refl)
+      | inr e ↦ below_is n s token e ∙ bad_in [] n (frame_left s) token tt (rw (bytes, frame) refl)
           (rw (bytes, frame) refl) bad
     ]
 bad_in (fr ∷ below) (suc n) s token c bytes frame bad =
@@ -106,7 +106,7 @@ bad_in (fr ∷ below) (suc n) s token c bytes frame bad =
       | inl e ↦ absurd (bad (inl (here_is s fr below token c.0 bytes frame (ends_is s token e))))
       | inr e ↦
           below_is n s token e
-          ∙ bad_in below n (left s) token c.1.1 (left_bytes s fr below bytes frame)
+          ∙ bad_in below n (frame_left s) token c.1.1 (left_bytes s fr below bytes frame)
           (left_frame s fr below c.1.0 c.1.1 bytes frame) (λ g. bad (inr g))
     ]
 
@@ -121,11 +121,11 @@ record Reached (n : ℕ) (s : StackState) (token : ℕ) : Type 0 where
   ends : Ends at token
   limit : at.limit ≡ s.limit
   bytes : take token at.bytes ≡ take token s.bytes
-  is : thrown_in n s token ≡ taken_at at token
+  is : thrown_in n s token ≡ stub_taken_at at token
 
 -- a token is a place of the stack
 token_inside : (frames : List Frame) (token : ℕ) → IsChain frames → IsToken frames token
-    → token ≤ length (spelled frames)
+    → token ≤ length (bytes_of_frames frames)
 token_inside [] token c good = absurd good
 token_inside (fr ∷ below) token c (inl g) = g.high
 token_inside (fr ∷ below) token c (inr g) =
@@ -136,9 +136,9 @@ token_inside (fr ∷ below) token c (inr g) =
 
 -- the frames below stand before the current one
 take_below : (s : StackState) (fr : Frame) (below : List Frame) (token : ℕ) → IsFrame fr
-    → IsChain below → s.bytes ≡ spelled (fr ∷ below)
+    → IsChain below → s.bytes ≡ bytes_of_frames (fr ∷ below)
     → s.frame ≡ start (fr ∷ below) → IsToken below token
-    → take token (left s).bytes ≡ take token s.bytes
+    → take token (frame_left s).bytes ≡ take token s.bytes
 take_below s fr below token h c bytes frame good =
     let r = token_inside below token c good in
     let b = length_before fr below h in
@@ -147,7 +147,7 @@ take_below s fr below token h c bytes frame good =
     take_within s.bytes token s.frame (omega (arith, r, frame)) (omega (arith, frame, l, a, b))
 
 good_in : (frames : List Frame) (n : ℕ) (s : StackState) (token : ℕ) → IsChain frames
-    → s.bytes ≡ spelled frames → s.frame ≡ start frames
+    → s.bytes ≡ bytes_of_frames frames → s.frame ≡ start frames
     → length frames ≤ n → IsToken frames token → Reached n s token
 good_in [] n s token c bytes frame le good = absurd good
 good_in (fr ∷ below) zero s token c bytes frame le good = absurd (omega (arith, le))
@@ -172,7 +172,7 @@ good_in (fr ∷ below) (suc n) s token c bytes frame le good =
                   (suc n) s token (omega arith) (ends_from s token ends);
             }
         | inr g ↦
-            let r = good_in below n (left s) token c.1.1 (left_bytes s fr below bytes frame)
+            let r = good_in below n (frame_left s) token c.1.1 (left_bytes s fr below bytes frame)
             (left_frame s fr below c.1.0 c.1.1 bytes frame) (omega (arith, le)) g in
             record {
               at = r.at;
@@ -184,7 +184,7 @@ good_in (fr ∷ below) (suc n) s token c bytes frame le good =
       ]
     ]
 
-few : (frames : List Frame) → IsChain frames → length frames ≤ length (spelled frames)
+few : (frames : List Frame) → IsChain frames → length frames ≤ length (bytes_of_frames frames)
 few [] c = omega arith
 few (fr ∷ below) c =
     let r = few below c.1.1 in
@@ -201,7 +201,7 @@ cut_is at token ends = rw (le-leb _ _ ends.high, eq-eqb _ _ ends.four) refl
 taken_is : (s : StackState) → 16 ≤ value_bytes s
     → stub_taken s ≡ Ok (
       record
-          (without s 16) { frame = number 4 s.bytes (length s.bytes - 16 + 12) },
+          (without_top s 16) { frame = number 4 s.bytes (length s.bytes - 16 + 12) },
       stub_at s.bytes
           (length s.bytes - 16),
     )
@@ -280,7 +280,7 @@ left_of xs ys token limit m e le inside same =
 
 taken_from : (s at : StackState) (token : ℕ) → Ends at token → at.limit ≡ s.limit
     → take token at.bytes ≡ take token s.bytes
-    → token ≤ length s.bytes → taken_at at token ≡ Ok (thrown_to s token)
+    → token ≤ length s.bytes → stub_taken_at at token ≡ Ok (thrown_to s token)
 taken_from s at token ends limit bytes inside =
     let low = ends.low in
     ap (λ (r : Result StackState StackFault). and_then (from_stack r)
@@ -316,7 +316,7 @@ ready_ends s n fours has (inr ready) =
       names = ready.1;
     }
 
-top_in : (s : StackState) (frames : List Frame) → IsChain frames → s.bytes ≡ spelled frames
+top_in : (s : StackState) (frames : List Frame) → IsChain frames → s.bytes ≡ bytes_of_frames frames
     → s.frame ≡ start frames → HasFrame s
     → IsReady s → IsToken frames (length s.bytes)
 top_in s [] c bytes frame has ready = absurd (let l = ap length bytes in omega (arith, l, has))

@@ -9,7 +9,7 @@ use Rattle.vm_stack.specs.Values.{pushed}
 use Rattle.vm_stack.specs.Frame.{entered, fresh_frame}
 use Rattle.vm_stack.specs.declared.fault.StackFault.{StackFault}
 use Rattle.vm_flow.specs.Answer.{from_stack, and_then}
-use Rattle.vm_flow.specs.Call.{all_pushed, given, with_frame, with_values}
+use Rattle.vm_flow.specs.Call.{all_pushed, arguments_given, with_frame, with_values}
 use Rattle.vm_flow.specs.declared.stop.FlowStop.{FlowStop}
 use Rattle.vm_flow.proofs.LocalLemmas.{entered_in, entered_is}
 
@@ -62,7 +62,7 @@ all_is s t (x ∷ xs) h =
     (sym (reverse-append (x ∷ []) xs))))
 
 given_values : (kind : ℕ) (s : StackState) (format args : List ℕ) → kind ≡ 192
-    → given kind s format args ≡ and_then (all_pushed s args)
+    → arguments_given kind s format args ≡ and_then (all_pushed s args)
     (λ t. from_stack (pushed t (length args)))
 given_values kind s format args e = rw e refl
 
@@ -76,7 +76,7 @@ values_are s t args h =
     ∙ two_lists s (reverse args) (length args ∷ []))
 
 pub c0_begun : (s t u : StackState) (kind : ℕ) (format args : List ℕ) → entered s format ≡ Ok t
-    → given kind t format args ≡ Ok u → kind ≡ 192
+    → arguments_given kind t format args ≡ Ok u → kind ≡ 192
     → u ≡ with_values (with_frame s (fresh_frame format)) (reverse args ++ length args ∷ [])
 c0_begun s t u kind format args enters gives c0 =
     values_are t u args (sym (given_values kind t format args c0) ∙ gives)

@@ -24,16 +24,16 @@ and_then (Err e) f = Err e
 
 -- the call answered the value and left the stack, or answered the stop, that it should; nothing is
 -- said of the stack after a stop
-abbrev pub Gives : {A : Type 0}
+abbrev pub GivesOrStops : {A : Type 0}
     → Result (StackState × A) FlowStop → StackState → Result A FlowStop → Type 0
-Gives should new (Ok x) = should ≡ Ok (new, x)
-Gives should new (Err e) = should ≡ Err e
+GivesOrStops should new (Ok x) = should ≡ Ok (new, x)
+GivesOrStops should new (Err e) = should ≡ Err e
 
 -- the same for a call that answers no value
-abbrev pub Leaves : {A : Type 0}
+abbrev pub LeavesOrStops : {A : Type 0}
     → Result StackState FlowStop → StackState → Result A FlowStop → Type 0
-Leaves should new (Ok x) = should ≡ Ok new
-Leaves should new (Err e) = should ≡ Err e
+LeavesOrStops should new (Ok x) = should ≡ Ok new
+LeavesOrStops should new (Err e) = should ≡ Err e
 
 -- the same as Gives, unless memory was wanting
 abbrev pub GivesWithRoom : {A : Type 0}

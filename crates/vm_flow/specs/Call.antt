@@ -36,21 +36,21 @@ all_pushed s [] = Ok s
 all_pushed s (x ∷ xs) = and_then (all_pushed s xs) (λ t. from_stack (pushed t x))
 
 -- arguments go into the locals of a C1, and on the stack of a C0 with their count on top
-abbrev pub given : ℕ → StackState → List ℕ → List ℕ → Result StackState FlowStop
-given kind s format args =
+abbrev pub arguments_given : ℕ → StackState → List ℕ → List ℕ → Result StackState FlowStop
+arguments_given kind s format args =
     if kind == 193 then locals_set s 0 format args
     else and_then (all_pushed s args) (λ t. from_stack (pushed t (length args)))
 
 -- a function is called: its type is read, then its list of locals; a frame is made for them; and
 -- the arguments are given. Its first instruction stands behind the list
-abbrev pub called : MemoryMap → StackState → ℕ → List ℕ
+abbrev pub function_called : MemoryMap → StackState → ℕ → List ℕ
     → Result (StackState × ℕ) FlowStop
-called m s at args =
+function_called m s at args =
     and_then (from_memory (read 1 m at)) (λ kind.
     if kind == 192 || kind == 193
     then and_then (format_in at (at + 1) (drop (at + 1) m.bytes)) (λ format.
     and_then (from_stack (entered s format)) (λ t.
-    and_then (given kind t format args) (λ u. Ok (u, at + 1 + length format))))
+    and_then (arguments_given kind t format args) (λ u. Ok (u, at + 1 + length format))))
     else Err (stop.BadFunction at))
 
 -- the bytes of the locals of the pairs, from a place on, that get arguments in order: each is

@@ -1,16 +1,13 @@
 -- Functions and their lists of locals (Glulx 3.1.3, "Functions").
-use Rattle.std.specs.Prelude.{ℕ, ◌≡◌, ◌+◌, ◌==◌, ◌&&◌, ◌||◌}
-use Rattle.std.specs.Prelude.{if◌then◌else◌, Bool}
+use Rattle.std.specs.Prelude.{ℕ, ◌≡◌, ◌+◌, ◌==◌, ◌&&◌}
+use Rattle.std.specs.Prelude.{if◌then◌else◌}
 use Rattle.std.specs.Prelude.{List, [], ◌∷◌, ◌++◌, drop, take, Result, Ok, Err, IsOk}
+use Rattle.vm_stack.specs.Saved.{is_type}
 use Rattle.vm_memory.specs.MemoryMap.{MemoryMap}
 use Rattle.vm_memory.specs.Access.{read}
 use Rattle.vm_memory.specs.declared.fault.MemFault.TheVariants.{BadRead}
 use Rattle.vm_flow.specs.declared.stop.FlowStop.{FlowStop}
 use Rattle.vm_flow.specs.declared.stop.FlowStop.TheVariants as stop
-
--- a local's type is its number of bytes
-abbrev pub is_type : ℕ → Bool
-is_type size = size == 1 || size == 2 || size == 4
 
 -- these bytes, and then those that are given
 abbrev pub prepended : List ℕ → Result (List ℕ) FlowStop → Result (List ℕ) FlowStop

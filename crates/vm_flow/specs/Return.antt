@@ -1,7 +1,7 @@
 -- Returns (Glulx 3.1.3, "Calling and Returning Within Glulx").
 use Rattle.std.specs.Prelude.{◌==◌, if◌then◌else◌, length, Result, Ok, Option, Some, None}
 use Rattle.vm_stack.specs.StackState.{StackState}
-use Rattle.vm_stack.specs.Frame.{left}
+use Rattle.vm_stack.specs.Frame.{frame_left}
 use Rattle.vm_stack.specs.Stub.{stub_taken}
 use Rattle.vm_stack.specs.declared.stub.Stub.{Stub}
 use Rattle.vm_flow.specs.Answer.{from_stack, and_then}
@@ -15,4 +15,4 @@ stub_or_end s =
 
 -- without the current frame and the stub below it
 abbrev pub given_back : StackState → Result (StackState × Option Stub) FlowStop
-given_back s = stub_or_end (left s)
+given_back s = stub_or_end (frame_left s)

@@ -1,7 +1,7 @@
 // Arguments, in the locals of a C1 and on the stack of a C0.
 ghost use Rattle.std.specs.Prelude.{◌≡◌, ◌≢◌, ◌≤◌, ◌<◌, ◌+◌, ◌*◌, length, take};
 ghost use Rattle.std.specs.Prelude.{drop, Err, OnOk};
-ghost use Rattle.vm_flow.specs.Answer.{Leaves};
+ghost use Rattle.vm_flow.specs.Answer.{LeavesOrStops};
 ghost use Rattle.vm_flow.specs.Call as calls;
 ghost use Rattle.vm_flow.specs.declared.stop.FlowStop.TheVariants as stop;
 ghost use Rattle.vm_stack.specs.Frame as frames;
@@ -21,7 +21,8 @@ pub(crate) fn give(
 ) -> Result<(), FlowStop>
     requires format { IsFormat format.now }
     requires end { frames.locals_end 0 format.now ≤ MAX_STACK }
-    ensures ok { Leaves (calls.given kind stack.old format.now args.now) stack.new result }
+    ensures ok { LeavesOrStops (calls.arguments_given kind stack.old format.now args.now)
+        stack.new result }
     ensures kept { Chain stack.old → HasFrame stack.old → OnOk result (Chain stack.new) }
     ensures there { HasFrame stack.old → OnOk result (HasFrame stack.new) }
     ensures room { result ≢ Err stop.NoMemory }
@@ -35,7 +36,7 @@ pub(crate) fn give(
 
 // Pushes values, the last one first.
 fn push_all(stack: &mut Stack, values: &[u32]) -> Result<(), FlowStop>
-    ensures ok { Leaves (calls.all_pushed stack.old values.now) stack.new result }
+    ensures ok { LeavesOrStops (calls.all_pushed stack.old values.now) stack.new result }
     ensures kept { Chain stack.old → HasFrame stack.old → OnOk result (Chain stack.new) }
     ensures there { HasFrame stack.old → OnOk result (HasFrame stack.new) }
     ensures few { OnOk result (4 * length values.now ≤ MAX_STACK) }
@@ -56,7 +57,7 @@ fn push_all(stack: &mut Stack, values: &[u32]) -> Result<(), FlowStop>
 fn set_locals(stack: &mut Stack, format: &[u8], args: &[u32]) -> Result<(), FlowStop>
     requires format { IsFormat format.now }
     requires end { frames.locals_end 0 format.now ≤ MAX_STACK }
-    ensures ok { Leaves (calls.locals_set stack.old 0 format.now args.now) stack.new result }
+    ensures ok { LeavesOrStops (calls.locals_set stack.old 0 format.now args.now) stack.new result }
     ensures kept { Chain stack.old → OnOk result (Chain stack.new) }
     ensures there { HasFrame stack.old → OnOk result (HasFrame stack.new) }
     ensures room { result ≢ Err stop.NoMemory }
@@ -90,7 +91,7 @@ fn set_pair(stack: &mut Stack, begin: u32, size: u8, values: &[u32]) -> Result<(
     requires width { IsWidth size }
     requires begin { begin ≤ MAX_STACK }
     requires few { length values.now < 256 }
-    ensures ok { Leaves (calls.pair_set stack.old begin size values.now) stack.new result }
+    ensures ok { LeavesOrStops (calls.pair_set stack.old begin size values.now) stack.new result }
     ensures kept { Chain stack.old → OnOk result (Chain stack.new) }
     ensures there { HasFrame stack.old → OnOk result (HasFrame stack.new) }
     ensures room { result ≢ Err stop.NoMemory }

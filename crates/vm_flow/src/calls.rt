@@ -2,11 +2,11 @@
 ghost use Rattle.std.specs.Prelude.{◌≡◌, ◌≢◌, ◌⊎◌, ◌<◌, ◌+◌, Ok, Err, OnOk};
 ghost use Rattle.std.specs.Prelude.{[], ◌∷◌, ◌++◌, length, reverse};
 ghost use Rattle.vm_memory.specs.Access.{read};
-ghost use Rattle.vm_flow.specs.Answer.{Gives, GivesWithRoom, and_then, from_stack};
+ghost use Rattle.vm_flow.specs.Answer.{GivesOrStops, GivesWithRoom, and_then, from_stack};
 ghost use Rattle.vm_flow.specs.Call as calls;
 ghost use Rattle.vm_flow.specs.Function.{IsInFront};
 ghost use Rattle.vm_flow.specs.declared.stop.FlowStop.TheVariants as stop;
-ghost use Rattle.vm_stack.specs.Frame.{entered, fresh_frame, left};
+ghost use Rattle.vm_stack.specs.Frame.{entered, fresh_frame, frame_left};
 ghost use Rattle.vm_stack.specs.Chain.{Chain, HasFrame, IsFormat, IsReady};
 
 use crate::arguments::give;
@@ -26,7 +26,8 @@ pub fn call(
     at: u32,
     args: &[u32],
 ) -> Result<u32, FlowStop>
-    ensures ok { GivesWithRoom (calls.called memory.now stack.old at args.now) stack.new result }
+    ensures ok { GivesWithRoom (calls.function_called memory.now stack.old at args.now)
+        stack.new result }
     ensures locals { OnOk result
         (calls.GetsLocals memory.now stack.old at args.now stack.new) }
     ensures values { OnOk result
@@ -61,7 +62,8 @@ fn begin_by_copy(
     requires reads { read 1 memory.now at ≡ Ok kind }
     requires kind { (kind ≡ 0xC0) ⊎ (kind ≡ 0xC1) }
     requires place { at < 16777216 }
-    ensures ok { GivesWithRoom (calls.called memory.now stack.old at args.now) stack.new result }
+    ensures ok { GivesWithRoom (calls.function_called memory.now stack.old at args.now)
+        stack.new result }
     ensures locals { OnOk result
         (calls.GetsLocals memory.now stack.old at args.now stack.new) }
     ensures values { OnOk result
@@ -85,9 +87,9 @@ fn begin(
 ) -> Result<u32, FlowStop>
     requires format { IsFormat format.now }
     requires within { at + 1 + length format.now < 4294967296 }
-    ensures ok { Gives
+    ensures ok { GivesOrStops
         (and_then (from_stack (entered stack.old format.now)) (λ t.
-        and_then (calls.given kind t format.now args.now)
+        and_then (calls.arguments_given kind t format.now args.now)
         (λ u. Ok (u, at + 1 + length format.now))))
         stack.new result }
     ensures locals { kind ≡ 0xC1 → OnOk result (stack.new ≡ calls.with_frame stack.old
@@ -114,12 +116,12 @@ pub fn tail_call(
     at: u32,
     args: &[u32],
 ) -> Result<u32, FlowStop>
-    ensures ok { GivesWithRoom (calls.called memory.now (left stack.old) at args.now)
+    ensures ok { GivesWithRoom (calls.function_called memory.now (frame_left stack.old) at args.now)
         stack.new result }
     ensures locals { OnOk result
-        (calls.GetsLocals memory.now (left stack.old) at args.now stack.new) }
+        (calls.GetsLocals memory.now (frame_left stack.old) at args.now stack.new) }
     ensures values { OnOk result
-        (calls.GetsValues memory.now (left stack.old) at args.now stack.new) }
+        (calls.GetsValues memory.now (frame_left stack.old) at args.now stack.new) }
     // no memory of the host is wanted where the list of locals stands below RAMSTART
     ensures front { IsInFront memory.now at → result ≢ Err stop.NoMemory }
 

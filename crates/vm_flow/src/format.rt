@@ -1,4 +1,5 @@
 // The list of locals of a function: a part of the file, or a copy of memory's bytes.
+ghost use Rattle.vm_stack.specs.Saved.{is_type};
 ghost use Rattle.std.specs.Prelude.{◌≡◌, ◌≤◌, ◌<◌, ◌+◌, ◌==◌, ◌&&◌, ℕ, Ok};
 ghost use Rattle.std.specs.Prelude.{slice_index, length, drop, take};
 ghost use Rattle.std.specs.Prelude.{IfErr, IfNone, IfOk, IfSome, IsOk, OnErr, OnOk};
@@ -97,7 +98,7 @@ fn is_end(size: u8, count: u8) -> bool
 // Whether a local may have this type.
 #[inline(always)]
 fn is_local_type(size: u8) -> bool
-    ensures { result ≡ functions.is_type size }
+    ensures { result ≡ is_type size }
 {
     size == 1 || size == 2 || size == 4
 }

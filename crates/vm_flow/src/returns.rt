@@ -1,6 +1,6 @@
 // Returns from a function.
 ghost use Rattle.std.specs.Prelude.{IsOk, OnOk, IfOk, IfSome};
-ghost use Rattle.vm_flow.specs.Answer.{Gives};
+ghost use Rattle.vm_flow.specs.Answer.{GivesOrStops};
 ghost use Rattle.vm_flow.specs.Return as returns;
 ghost use Rattle.vm_stack.specs.Chain.{Chain, HasFrame, EndsInOwnStub, IsReady};
 
@@ -9,7 +9,7 @@ use vm_stack::{Stack, Stub};
 
 /// Drops the current frame and takes the stub below it, or gives None where nothing is left.
 pub fn give_back(stack: &mut Stack) -> Result<Option<Stub>, FlowStop>
-    ensures ok { Gives (returns.given_back stack.old) stack.new result }
+    ensures ok { GivesOrStops (returns.given_back stack.old) stack.new result }
 
     // frames in a chain are never Underflow
     ensures chain { Chain stack.old → IsOk result }
@@ -24,7 +24,7 @@ pub fn give_back(stack: &mut Stack) -> Result<Option<Stub>, FlowStop>
 
 // Takes the stub on top, or gives None where nothing is left.
 fn take_top(stack: &mut Stack) -> Result<Option<Stub>, FlowStop>
-    ensures ok { Gives (returns.stub_or_end stack.old) stack.new result }
+    ensures ok { GivesOrStops (returns.stub_or_end stack.old) stack.new result }
     ensures ready { IsReady stack.old → IsOk result }
     ensures kept { Chain stack.old → EndsInOwnStub stack.old → OnOk result (Chain stack.new) }
     ensures there { Chain stack.old

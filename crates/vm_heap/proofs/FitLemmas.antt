@@ -1,7 +1,7 @@
 -- The walk along the blocks finds the least address.
 use Rattle.std.proofs.Common.{arith, zero, suc, drop, length, ◌≡◌, ◌∙◌, refl, sym, ap, subst, ℕ, ◌+◌, ◌-◌, ◌<◌, ◌≤◌, Bool, true, false, ◌&&◌, ◌||◌, nat_lt, nat_le, cond, List, [], ◌∷◌, IsTrue}
 use Rattle.std.proofs.lemmas.Grind.{common_steps}
-use Rattle.vm_heap.specs.HeapMap.{in_order, end_of, is_heap}
+use Rattle.vm_heap.specs.HeapMap.{in_order, block_end, is_heap}
 use Rattle.vm_heap.specs.FirstFit.{fits, least_from, first_fit}
 use Rattle.vm_heap.specs.declared.block.Block.{Block}
 use Rattle.vm_heap.proofs.HeapLemmas.{none, left_one, Next, next_of, in_order-cons, in_order-limit, filled_heap}
@@ -11,14 +11,14 @@ use Rattle.std.proofs.Math.ListN.{get_or, drop_of_length-le}
 -- the address where the walk stops
 abbrev pub walk : ℕ → ℕ → List Block → ℕ
 walk size from [] = from
-walk size from (b ∷ bs) = cond (nat_le (from + size) b.at) from (walk size (end_of b) bs)
+walk size from (b ∷ bs) = cond (nat_le (from + size) b.at) from (walk size (block_end b) bs)
 
 -- blocks in order from behind a block don't meet it
 pub fits-below : (bs : List Block) (size at from : ℕ) → IsTrue (in_order from bs) → at + size ≤ from → fits bs size at ≡ true
 fits-below [] size at from h l = refl
 fits-below (b ∷ bs) size at from h l =
     let n : Next from b bs = next_of from b bs h in
-    let e : fits bs size at ≡ true = fits-below bs size at (end_of b) n.rest (omega arith) in
+    let e : fits bs size at ≡ true = fits-below bs size at (block_end b) n.rest (omega arith) in
     let f : nat_le (at + size) b.at ≡ true = grind (arith, common_steps) in
     rw f (rw e refl)
 
@@ -34,8 +34,8 @@ at_once bs b size from s n l e = record {
   from_on = omega arith;
   limit = l;
   fitting =
-      let below : from + size ≤ end_of b = grind (arith, common_steps) in
-      let rest : fits bs size from ≡ true = fits-below bs size from (end_of b) n.rest below in
+      let below : from + size ≤ block_end b = grind (arith, common_steps) in
+      let rest : fits bs size from ≡ true = fits-below bs size from (block_end b) n.rest below in
       rw e (rw rest refl);
   least = λ a g u. absurd (omega arith);
 }
@@ -51,22 +51,22 @@ right_true : (x y z : Bool) → y ≡ true → z ≡ true → ((x || y) && z) �
 right_true true y z e f = f
 right_true false y z e f = rw e f
 
-further : (bs : List Block) (b : Block) (size from w : ℕ) → Next from b bs → nat_le (from + size) b.at ≡ false → IsLeast bs size (end_of b) w → IsLeast (b ∷ bs) size from w
+further : (bs : List Block) (b : Block) (size from w : ℕ) → Next from b bs → nat_le (from + size) b.at ≡ false → IsLeast bs size (block_end b) w → IsLeast (b ∷ bs) size from w
 further bs b size from w n e r = record {
   from_on = omega (arith, n.above, r.from_on);
   limit = r.limit;
   fitting =
-      let behind : nat_le (end_of b) w ≡ true = grind (arith, common_steps, r.from_on) in
-      right_true (nat_le (w + size) b.at) (nat_le (end_of b) w) (fits bs size w) behind r.fitting;
+      let behind : nat_le (block_end b) w ≡ true = grind (arith, common_steps, r.from_on) in
+      right_true (nat_le (w + size) b.at) (nat_le (block_end b) w) (fits bs size w) behind r.fitting;
   least = λ a g u.
       let over : b.at < from + size = grind (arith, common_steps) in
-      elim (nat_le (end_of b) a) as (λ t. nat_le (end_of b) a ≡ t → fits (b ∷ bs) size a ≡ false) [
+      elim (nat_le (block_end b) a) as (λ t. nat_le (block_end b) a ≡ t → fits (b ∷ bs) size a ≡ false) [
         | true ↦ (λ f.
-            let up : end_of b ≤ a = grind (arith, common_steps) in
-            last_false (nat_le (a + size) b.at || nat_le (end_of b) a) (fits bs size a) (r.least a up u))
+            let up : block_end b ≤ a = grind (arith, common_steps) in
+            last_false (nat_le (a + size) b.at || nat_le (block_end b) a) (fits bs size a) (r.least a up u))
         | false ↦ (λ f.
             let meets : nat_le (a + size) b.at ≡ false = grind (arith, common_steps) in
-            both_false (nat_le (a + size) b.at) (nat_le (end_of b) a) (fits bs size a) meets f)
+            both_false (nat_le (a + size) b.at) (nat_le (block_end b) a) (fits bs size a) meets f)
       ] refl;
 }
 
@@ -79,9 +79,9 @@ walk-least [] size from s h = record {
 }
 walk-least (b ∷ bs) size from s h =
     let n : Next from b bs = next_of from b bs h in
-    elim (nat_le (from + size) b.at) as (λ t. nat_le (from + size) b.at ≡ t → IsLeast (b ∷ bs) size from (cond t from (walk size (end_of b) bs))) [
+    elim (nat_le (from + size) b.at) as (λ t. nat_le (from + size) b.at ≡ t → IsLeast (b ∷ bs) size from (cond t from (walk size (block_end b) bs))) [
       | true ↦ (λ e. at_once bs b size from s n (in_order-limit from (b ∷ bs) h) e)
-      | false ↦ (λ e. further bs b size from (walk size (end_of b) bs) n e (walk-least bs size (end_of b) s n.rest))
+      | false ↦ (λ e. further bs b size from (walk size (block_end b) bs) n e (walk-least bs size (block_end b) s n.rest))
     ] refl
 
 bool_clash : true ≡ false → ⊥
@@ -122,33 +122,33 @@ nothing_left bs i l = drop_of_length-le bs l
 pub walk-stops : (bs : List Block) (i size from : ℕ) → i < length bs → from + size ≤ (get_or bs i none).at → walk size from (drop i bs) ≡ from
 walk-stops bs i size from l g =
     let e : nat_le (from + size) (get_or bs i none).at ≡ true = grind (arith, common_steps) in
-    ap (walk size from) (left_one bs i l) ∙ ap (λ t. cond t from (walk size (end_of (get_or bs i none)) (drop (i + 1) bs))) e
+    ap (walk size from) (left_one bs i l) ∙ ap (λ t. cond t from (walk size (block_end (get_or bs i none)) (drop (i + 1) bs))) e
 
 pub walk-ends : (bs : List Block) (i size from : ℕ) → length bs ≤ i → walk size from (drop i bs) ≡ from
 walk-ends bs i size from l = ap (walk size from) (nothing_left bs i l)
 
-before : {from : ℕ} (bs : List Block) (b new : Block) → Next from b bs → fits (b ∷ bs) new.length new.at ≡ true → nat_lt new.at b.at ≡ true → end_of new ≤ b.at
+before : {from : ℕ} (bs : List Block) (b new : Block) → Next from b bs → fits (b ∷ bs) new.length new.at ≡ true → nat_lt new.at b.at ≡ true → block_end new ≤ b.at
 before bs b new n f e = grind (arith, common_steps)
 
-after : (bs : List Block) (b new : Block) → 0 < new.length → fits (b ∷ bs) new.length new.at ≡ true → nat_lt new.at b.at ≡ false → end_of b ≤ new.at
+after : (bs : List Block) (b new : Block) → 0 < new.length → fits (b ∷ bs) new.length new.at ≡ true → nat_lt new.at b.at ≡ false → block_end b ≤ new.at
 after bs b new g f e = grind (arith, common_steps)
 
 others : (bs : List Block) (b new : Block) → fits (b ∷ bs) new.length new.at ≡ true → fits bs new.length new.at ≡ true
 others bs b new f = grind (arith, common_steps)
 
 -- a block that fits among some in order keeps them so
-pub in_order-with_block : (bs : List Block) (new : Block) (from : ℕ) → IsTrue (in_order from bs) → from ≤ new.at → 0 < new.length → end_of new ≤ 16777216 → fits bs new.length new.at ≡ true → IsTrue (in_order from (with_block new bs))
-in_order-with_block [] new from h l g u f = in_order-cons new [] from l g (let e : nat_le (end_of new) 16777216 ≡ true = grind (arith, common_steps) in rw e refl)
+pub in_order-with_block : (bs : List Block) (new : Block) (from : ℕ) → IsTrue (in_order from bs) → from ≤ new.at → 0 < new.length → block_end new ≤ 16777216 → fits bs new.length new.at ≡ true → IsTrue (in_order from (with_block new bs))
+in_order-with_block [] new from h l g u f = in_order-cons new [] from l g (let e : nat_le (block_end new) 16777216 ≡ true = grind (arith, common_steps) in rw e refl)
 in_order-with_block (b ∷ bs) new from h l g u f =
     let n : Next from b bs = next_of from b bs h in
     elim (nat_lt new.at b.at) as (λ t. nat_lt new.at b.at ≡ t → IsTrue (in_order from (cond t (new ∷ b ∷ bs) (b ∷ with_block new bs)))) [
       | true ↦ (λ e.
-          let apart : end_of new ≤ b.at = before bs b new n f e in
-          in_order-cons new (b ∷ bs) from l g (in_order-cons b bs (end_of new) apart n.filled n.rest))
+          let apart : block_end new ≤ b.at = before bs b new n f e in
+          in_order-cons new (b ∷ bs) from l g (in_order-cons b bs (block_end new) apart n.filled n.rest))
       | false ↦ (λ e.
-          let behind : end_of b ≤ new.at = after bs b new g f e in
+          let behind : block_end b ≤ new.at = after bs b new g f e in
           in_order-cons b (with_block new bs) from n.above n.filled
-          (in_order-with_block bs new (end_of b) n.rest behind g u (others bs b new f)))
+          (in_order-with_block bs new (block_end b) n.rest behind g u (others bs b new f)))
     ] refl
 
 -- a block at the first fit keeps blocks in order

@@ -5,10 +5,10 @@ use Rattle.std.proofs.Math.ListN.{get_or, drop_of_length-le}
 use Rattle.std.proofs.lemmas.Grind.{common_steps}
 use Rattle.std.proofs.lemmas.List.Kept.{AllPairs-filter}
 use Rattle.std.proofs.lemmas.List.Quantifiers.{all_pairs_push}
-use Rattle.vm_heap.specs.HeapMap.{HeapMap, in_order, is_heap, end_of}
+use Rattle.vm_heap.specs.HeapMap.{HeapMap, in_order, is_heap, block_end}
 use Rattle.vm_heap.specs.FirstFit.{fits, first_fit}
-use Rattle.vm_heap.specs.Allocation.{with_block, without, begins, placed, malloced, freed, heap_of, start_from}
-use Rattle.vm_heap.specs.History.{Holding, handed, given_back, after, after_call, at_first, AreApart}
+use Rattle.vm_heap.specs.Allocation.{with_block, blocks_without, begins, block_placed, malloced, freed, heap_of, start_from}
+use Rattle.vm_heap.specs.History.{Holding, handed, block_given_back, holding_after_calls, holding_after_call, at_first, AreApart}
 use Rattle.vm_heap.specs.declared.block.Block.{Block}
 use Rattle.vm_heap.specs.declared.fault.HeapFault.TheVariants.{BadBlock}
 use Rattle.vm_heap.specs.declared.history.Call.{Call}
@@ -28,7 +28,7 @@ EachIn bs (h ∷ hs) = Has h bs × EachIn bs hs
 
 first_apart : (bs : List Block) (b new : Block) → fits (b ∷ bs) new.length new.at ≡ true → AreApart b new
 first_apart bs b new f =
-    elim (nat_le (end_of b) new.at) as (λ t. nat_le (end_of b) new.at ≡ t → AreApart b new) [
+    elim (nat_le (block_end b) new.at) as (λ t. nat_le (block_end b) new.at ≡ t → AreApart b new) [
       | true ↦ (λ e. inl (grind (arith, common_steps)))
       | false ↦ (λ e. inr (grind (arith, common_steps)))
     ] refl
@@ -53,13 +53,13 @@ Has-new [] new = inl refl
 Has-new (b ∷ bs) new =
     elim (nat_lt new.at b.at) as (λ t. Has new (cond t (new ∷ b ∷ bs) (b ∷ with_block new bs))) [ true ↦ inl refl | false ↦ inr (Has-new bs new) ]
 
-Has-without : (at : ℕ) (bs : List Block) (h : Block) → nat_eq h.at at ≡ false → Has h bs → Has h (without at bs)
+Has-without : (at : ℕ) (bs : List Block) (h : Block) → nat_eq h.at at ≡ false → Has h bs → Has h (blocks_without at bs)
 Has-without at [] h e m = absurd m
 Has-without at (b ∷ bs) h e (inl s) =
     let other : nat_eq b.at at ≡ false = ap (λ x. nat_eq (Block.at x) at) s ∙ e in
-    subst (λ t. Has h (cond t bs (b ∷ without at bs))) (sym other) (inl s)
+    subst (λ t. Has h (cond t bs (b ∷ blocks_without at bs))) (sym other) (inl s)
 Has-without at (b ∷ bs) h e (inr m) =
-    elim (nat_eq b.at at) as (λ t. Has h (cond t bs (b ∷ without at bs))) [ true ↦ m | false ↦ inr (Has-without at bs h e m) ]
+    elim (nat_eq b.at at) as (λ t. Has h (cond t bs (b ∷ blocks_without at bs))) [ true ↦ m | false ↦ inr (Has-without at bs h e m) ]
 
 EachIn-step : (bs cs held : List Block) → ((h : Block) → Has h bs → Has h cs) → EachIn bs held → EachIn cs held
 EachIn-step bs cs [] f e = tt
@@ -69,10 +69,10 @@ EachIn-push : (bs held : List Block) (new : Block) → EachIn bs held → Has ne
 EachIn-push bs [] new e m = (m, tt)
 EachIn-push bs (h ∷ hs) new e m = (e.0, EachIn-push bs hs new e.1 m)
 
-EachIn-freed : (at : ℕ) (bs held : List Block) → EachIn bs held → EachIn (without at bs) (filter (λ b. not (nat_eq b.at at)) held)
+EachIn-freed : (at : ℕ) (bs held : List Block) → EachIn bs held → EachIn (blocks_without at bs) (filter (λ b. not (nat_eq b.at at)) held)
 EachIn-freed at bs [] e = tt
 EachIn-freed at bs (h ∷ hs) e =
-    elim (nat_eq h.at at) as (λ t. nat_eq h.at at ≡ t → EachIn (without at bs) (cond (not t) (h ∷ filter (λ b. not (nat_eq b.at at)) hs) (filter (λ b. not (nat_eq b.at at)) hs))) [
+    elim (nat_eq h.at at) as (λ t. nat_eq h.at at ≡ t → EachIn (blocks_without at bs) (cond (not t) (h ∷ filter (λ b. not (nat_eq b.at at)) hs) (filter (λ b. not (nat_eq b.at at)) hs))) [
       | true ↦ (λ s. EachIn-freed at bs hs e.1)
       | false ↦ (λ s. (Has-without at bs h s e.0, EachIn-freed at bs hs e.1))
     ] refl
@@ -119,7 +119,7 @@ handing h held start size at i s p o e u =
     }
 
 -- a block more is held
-malloc_keeps : (h : HeapMap) (held : List Block) (start size at : ℕ) → IsHolding (record { heap = h; held = held }) → 0 < size → 0 < start → IsTrue (in_order start h.blocks) → at ≡ first_fit start h.blocks size → IsHolding (handed size held (placed h start size at))
+malloc_keeps : (h : HeapMap) (held : List Block) (start size at : ℕ) → IsHolding (record { heap = h; held = held }) → 0 < size → 0 < start → IsTrue (in_order start h.blocks) → at ≡ first_fit start h.blocks size → IsHolding (handed size held (block_placed h start size at))
 malloc_keeps h held start size at i s p o e =
     elim (nat_le (at + size) 16777216) as (λ t. nat_le (at + size) 16777216 ≡ t → IsHolding (handed size held (cond t (Some at, record { start = start; blocks = with_block (record { at = at; length = size }) h.blocks }) (None, h)))) [
       | true ↦ (λ u. handing h held start size at i s p o e (grind (arith, common_steps)))
@@ -143,26 +143,26 @@ blocks_of start [] = refl
 blocks_of start (b ∷ bs) = refl
 
 -- a block less is held
-free_keeps : (s : Holding) (at : ℕ) → IsHolding s → IsHolding (given_back at s (freed s.heap at))
+free_keeps : (s : Holding) (at : ℕ) → IsHolding s → IsHolding (block_given_back at s (freed s.heap at))
 free_keeps s at i =
-    elim (begins at s.heap.blocks) as (λ t. begins at s.heap.blocks ≡ t → IsHolding (given_back at s (cond t (Ok (heap_of s.heap.start (without at s.heap.blocks))) (Err (BadBlock at))))) [
+    elim (begins at s.heap.blocks) as (λ t. begins at s.heap.blocks ≡ t → IsHolding (block_given_back at s (cond t (Ok (heap_of s.heap.start (blocks_without at s.heap.blocks))) (Err (BadBlock at))))) [
       | true ↦ (λ e. record {
-        heap = is_heap-of s.heap.start (without at s.heap.blocks) (begun at s.heap.start s.heap.blocks i.heap e)
+        heap = is_heap-of s.heap.start (blocks_without at s.heap.blocks) (begun at s.heap.start s.heap.blocks i.heap e)
             (in_order-without at s.heap.blocks s.heap.start (is_heap-order s.heap.start s.heap.blocks i.heap));
-        inside = subst (λ bs. EachIn bs (filter (λ b. not (nat_eq b.at at)) s.held)) (blocks_of s.heap.start (without at s.heap.blocks)) (EachIn-freed at s.heap.blocks s.held i.inside);
+        inside = subst (λ bs. EachIn bs (filter (λ b. not (nat_eq b.at at)) s.held)) (blocks_of s.heap.start (blocks_without at s.heap.blocks)) (EachIn-freed at s.heap.blocks s.held i.inside);
         apart = AllPairs-filter AreApart (λ b. not (nat_eq b.at at)) s.held i.apart;
       })
       | false ↦ (λ e. i)
     ] refl
 
-call_keeps : (end : ℕ) (call : Call) (s : Holding) → 0 < end → end ≤ 16777216 → IsHolding s → IsHolding (after_call end call s)
+call_keeps : (end : ℕ) (call : Call) (s : Holding) → 0 < end → end ≤ 16777216 → IsHolding s → IsHolding (holding_after_call end call s)
 call_keeps end (Malloc size) s p l i = malloc_step end size s p l i
 call_keeps end (Free at) s p l i = free_keeps s at i
 
 -- whatever the calls
-pub after-keeps : (end : ℕ) (calls : List Call) (s : Holding) → 0 < end → end ≤ 16777216 → IsHolding s → IsHolding (after end calls s)
+pub after-keeps : (end : ℕ) (calls : List Call) (s : Holding) → 0 < end → end ≤ 16777216 → IsHolding s → IsHolding (holding_after_calls end calls s)
 after-keeps end [] s p l i = i
-after-keeps end (call ∷ calls) s p l i = after-keeps end calls (after_call end call s) p l (call_keeps end call s p l i)
+after-keeps end (call ∷ calls) s p l i = after-keeps end calls (holding_after_call end call s) p l (call_keeps end call s p l i)
 
 pub new-holding : IsHolding at_first
 new-holding = record { heap = refl; inside = tt; apart = λ i j d g l. absurd (omega arith) }
@@ -171,5 +171,5 @@ nothing_left : (calls : List Call) (i : ℕ) → length calls ≤ i → drop i c
 nothing_left calls i l = drop_of_length-le calls l
 
 -- past the last call all were played
-pub played_all : (end : ℕ) (calls : List Call) (i : ℕ) (s t : Holding) → length calls ≤ i → after end calls s ≡ after end (drop i calls) t → (after end calls s).held ≡ t.held
-played_all end calls i s t l e = ap (λ x. Holding.held x) (e ∙ ap (λ xs. after end xs t) (nothing_left calls i l))
+pub played_all : (end : ℕ) (calls : List Call) (i : ℕ) (s t : Holding) → length calls ≤ i → holding_after_calls end calls s ≡ holding_after_calls end (drop i calls) t → (holding_after_calls end calls s).held ≡ t.held
+played_all end calls i s t l e = ap (λ x. Holding.held x) (e ∙ ap (λ xs. holding_after_calls end xs t) (nothing_left calls i l))

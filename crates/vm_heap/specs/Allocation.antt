@@ -20,8 +20,8 @@ with_block new (b ∷ bs) = if nat_lt new.at b.at then new ∷ b ∷ bs else b �
 
 -- the address of a new block and the heap with it; none, and the heap as it was, where the block
 -- would pass 16,777,216
-abbrev pub placed : HeapMap → ℕ → ℕ → ℕ → Option ℕ × HeapMap
-placed h start size at =
+abbrev pub block_placed : HeapMap → ℕ → ℕ → ℕ → Option ℕ × HeapMap
+block_placed h start size at =
     if nat_le (at + size) MAX_SIZE
     then (
       Some at,
@@ -35,7 +35,7 @@ placed h start size at =
 -- a new block of this size where memory ends here: at the least address at which it fits
 abbrev pub malloced : HeapMap → ℕ → ℕ → Option ℕ × HeapMap
 malloced h size end =
-    let start = start_from h end in placed h start size (first_fit start h.blocks size)
+    let start = start_from h end in block_placed h start size (first_fit start h.blocks size)
 
 -- whether a block begins at the address
 abbrev pub begins : ℕ → List Block → Bool
@@ -43,9 +43,9 @@ begins at [] = false
 begins at (b ∷ bs) = b.at == at || begins at bs
 
 -- the blocks without the one that begins at the address
-abbrev pub without : ℕ → List Block → List Block
-without at [] = []
-without at (b ∷ bs) = if b.at == at then bs else b ∷ without at bs
+abbrev pub blocks_without : ℕ → List Block → List Block
+blocks_without at [] = []
+blocks_without at (b ∷ bs) = if b.at == at then bs else b ∷ blocks_without at bs
 
 -- a heap of this start with these blocks, which is none where there is no block
 abbrev pub heap_of : ℕ → List Block → HeapMap
@@ -55,11 +55,12 @@ heap_of start (b ∷ bs) = record { start = start; blocks = b ∷ bs }
 -- the heap without the block that begins at the address
 abbrev pub freed : HeapMap → ℕ → Result HeapMap HeapFault
 freed h at =
-    if begins at h.blocks then Ok (heap_of h.start (without at h.blocks)) else Err (BadBlock at)
+    if begins at h.blocks then Ok (heap_of h.start (blocks_without at h.blocks))
+    else Err (BadBlock at)
 
 -- A call that changes a heap answered this and left new, as it should; after a fault all is as
 -- before.
-abbrev pub Leaves : {A : Type 0} → Result HeapMap HeapFault → HeapMap → HeapMap
+abbrev pub LeavesHeap : {A : Type 0} → Result HeapMap HeapFault → HeapMap → HeapMap
     → Result A HeapFault → Type 0
-Leaves should old new (Ok x) = should ≡ Ok new
-Leaves should old new (Err f) = (should ≡ Err f) × (new ≡ old)
+LeavesHeap should old new (Ok x) = should ≡ Ok new
+LeavesHeap should old new (Err f) = (should ≡ Err f) × (new ≡ old)

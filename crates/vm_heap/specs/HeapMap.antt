@@ -10,14 +10,14 @@ pub record HeapMap : Type 0 where
   pub blocks : List Block
 
 -- where a block ends
-abbrev pub end_of : Block → ℕ
-end_of b = b.at + b.length
+abbrev pub block_end : Block → ℕ
+block_end b = b.at + b.length
 
 -- blocks in order from this address on: none is empty, each begins at the end of the one before
 -- it or behind, and none passes 16,777,216
 abbrev pub in_order : ℕ → List Block → Bool
 in_order from [] = nat_le from MAX_SIZE
-in_order from (b ∷ bs) = nat_le from b.at && nat_lt 0 b.length && in_order (end_of b) bs
+in_order from (b ∷ bs) = nat_le from b.at && nat_lt 0 b.length && in_order (block_end b) bs
 
 -- what a heap may be: it starts at 0 without a block, and elsewhere with blocks in order from there
 abbrev pub is_heap : ℕ → List Block → Bool
@@ -31,5 +31,5 @@ rounded_up n = (n + 255) / 256 * 256
 -- where memory ends while the heap is active: the last block's end rounded up to 256
 abbrev pub heap_end : List Block → ℕ
 heap_end [] = 0
-heap_end (b ∷ []) = rounded_up (end_of b)
+heap_end (b ∷ []) = rounded_up (block_end b)
 heap_end (b ∷ c ∷ bs) = heap_end (c ∷ bs)

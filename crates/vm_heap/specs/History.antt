@@ -1,7 +1,7 @@
 -- What a story holds after calls of malloc and mfree (own).
 use Rattle.std.specs.Prelude.{ℕ, ◌≤◌, ◌⊎◌, not, ◌==◌, if◌then◌else◌, filter}
 use Rattle.std.specs.Prelude.{List, [], ◌∷◌, ◌++◌, Option, Some, None, Result, Ok, Err}
-use Rattle.vm_heap.specs.HeapMap.{HeapMap, end_of}
+use Rattle.vm_heap.specs.HeapMap.{HeapMap, block_end}
 use Rattle.vm_heap.specs.Allocation.{malloced, freed}
 use Rattle.vm_heap.specs.declared.block.Block.{Block}
 use Rattle.vm_heap.specs.declared.fault.HeapFault.{HeapFault}
@@ -22,23 +22,24 @@ handed size held (Some at, heap) = record {
 handed size held (None, heap) = record { heap = heap; held = held }
 
 -- after a call of mfree: what began there is held no longer
-abbrev pub given_back : ℕ → Holding → Result HeapMap HeapFault → Holding
-given_back at s (Ok heap) = record {
+abbrev pub block_given_back : ℕ → Holding → Result HeapMap HeapFault → Holding
+block_given_back at s (Ok heap) = record {
   heap = heap;
   held = filter (λ b. not (b.at == at)) s.held;
 }
-given_back at s (Err fault) = s
+block_given_back at s (Err fault) = s
 
 -- after a call, where memory ends here before the first block; a malloc of 0 hands out nothing
-abbrev pub after_call : ℕ → Call → Holding → Holding
-after_call end (Malloc size) s =
+abbrev pub holding_after_call : ℕ → Call → Holding → Holding
+holding_after_call end (Malloc size) s =
     if size == 0 then s else handed size s.held (malloced s.heap size end)
-after_call end (Free at) s = given_back at s (freed s.heap at)
+holding_after_call end (Free at) s = block_given_back at s (freed s.heap at)
 
 -- after calls in their order
-abbrev pub after : ℕ → List Call → Holding → Holding
-after end [] s = s
-after end (call ∷ calls) s = after end calls (after_call end call s)
+abbrev pub holding_after_calls : ℕ → List Call → Holding → Holding
+holding_after_calls end [] s = s
+holding_after_calls end (call ∷ calls) s =
+    holding_after_calls end calls (holding_after_call end call s)
 
 -- a new heap
 abbrev pub at_first : Holding
@@ -46,4 +47,4 @@ at_first = record { heap = record { start = 0; blocks = [] }; held = [] }
 
 -- two blocks have no address in common
 abbrev pub AreApart : Block → Block → Type 0
-AreApart a b = (end_of a ≤ b.at) ⊎ (end_of b ≤ a.at)
+AreApart a b = (block_end a ≤ b.at) ⊎ (block_end b ≤ a.at)

@@ -2,7 +2,7 @@
 
 ghost use Rattle.std.specs.Prelude.{◌≡◌, ◌<◌, ◌+◌, ◌++◌, true, false, length};
 ghost use Rattle.std.specs.Prelude.{take, drop, IfSome, OnSome, IfNone};
-ghost use Rattle.vm_heap.specs.Allocation.{freed, begins, without, Leaves};
+ghost use Rattle.vm_heap.specs.Allocation.{freed, begins, blocks_without, LeavesHeap};
 
 use crate::block::Block;
 use crate::fault::HeapFault;
@@ -14,7 +14,7 @@ fn place_of(blocks: &[Block], at: u32) -> Option<usize>
     ensures none { IfNone result (begins at blocks.now ≡ false) }
     ensures within { IfSome result (λ i. i < length blocks.now) }
     ensures others { IfSome result (λ i.
-        without at blocks.now ≡ take i blocks.now ++ drop (i + 1) blocks.now) }
+        blocks_without at blocks.now ≡ take i blocks.now ++ drop (i + 1) blocks.now) }
 {
     for index in 0..blocks.len() {
         if blocks[index].at == at {
@@ -28,7 +28,7 @@ impl Heap {
     /// Frees the block that begins at the address; BadBlock exactly where none does. Without a
     /// block the heap isn't active (Glulx 3.1.3, "Memory Allocation Heap").
     pub fn free(&mut self, at: u32) -> Result<(), HeapFault>
-        ensures value { Leaves (freed self.old at) self.old self.new result }
+        ensures value { LeavesHeap (freed self.old at) self.old self.new result }
     {
         match place_of(&self.blocks, at) {
             Some(index) => {

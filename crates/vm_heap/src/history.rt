@@ -1,7 +1,8 @@
 //! Calls of a story on its heap, and what it then holds.
 
 ghost use Rattle.std.specs.Prelude.{◌≡◌, ◌≤◌, ◌<◌, AllPairs, IfOk};
-ghost use Rattle.vm_heap.specs.History.{after, after_call, at_first, AreApart};
+ghost use Rattle.vm_heap.specs.History.{holding_after_calls, holding_after_call, at_first};
+ghost use Rattle.vm_heap.specs.History.{AreApart};
 
 use crate::block::{Block, MAX_SIZE};
 use crate::heap::Heap;
@@ -19,7 +20,7 @@ fn play(heap: &mut Heap, held: &mut Vec<Block>, call: Call, end: u32) -> Result<
     requires start { 0 < end }
     requires limit { end ≤ MAX_SIZE }
     ensures ok { IfOk result (λ done.
-        after_call end call (record { heap = heap.old; held = held.old.items })
+        holding_after_call end call (record { heap = heap.old; held = held.old.items })
         ≡ record { heap = heap.new; held = held.new.items }) }
 {
     match call {
@@ -44,7 +45,8 @@ fn play(heap: &mut Heap, held: &mut Vec<Block>, call: Call, end: u32) -> Result<
 pub fn held_after(alloc: Global, calls: &[Call], end: u32) -> Result<Vec<Block>, AllocError>
     requires start { 0 < end }
     requires limit { end ≤ MAX_SIZE }
-    ensures value { IfOk result (λ held. held.items ≡ (after end calls.now at_first).held) }
+    ensures value { IfOk result
+        (λ held. held.items ≡ (holding_after_calls end calls.now at_first).held) }
     ensures apart { IfOk result (λ held. AllPairs AreApart held.items) }
 {
     let mut heap = Heap::new(alloc);

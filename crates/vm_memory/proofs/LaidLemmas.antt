@@ -13,7 +13,7 @@ use Rattle.std.specs.Prelude.{slice_index_or}
 use Rattle.byteorder.specs.Endian.{big_number, big_from}
 use Rattle.vm_memory.specs.MemoryMap.{replaced, original, number_at, KeepsRom}
 use Rattle.vm_memory.specs.Code.{IsCode}
-use Rattle.vm_memory.specs.Pages.{Rows, page_in, shown, byte_of, laid, Puts, Shows, Cuts}
+use Rattle.vm_memory.specs.Pages.{Rows, page_in, shown, byte_of, laid, PutsBytes, Shows, Cuts}
 use Rattle.vm_memory.proofs.RowLemmas.{shows_alike}
 use Rattle.vm_memory.proofs.PutLemmas.{length_replaced, byte_before, byte_within, byte_after}
 
@@ -60,7 +60,7 @@ laid_shows rom ramstart old new size shows = laid_same rom ramstart old new size
 
 -- bytes that are put into RAM
 pub laid_puts : (rom : List ℕ) (ramstart : ℕ) (old new : Rows) (size at : ℕ) (bytes : List ℕ)
-    → Puts rom old new at bytes → ramstart ≤ at → at + length bytes ≤ size
+    → PutsBytes rom old new at bytes → ramstart ≤ at → at + length bytes ≤ size
     → laid rom ramstart new size ≡ replaced (laid rom ramstart old size) at bytes
 laid_puts rom ramstart old new size at bytes puts ram inside =
     let n = length_laid rom ramstart new size in
@@ -358,7 +358,7 @@ with_no_ram bytes ram n e z = sym (take_all n bytes (omega arith))
     ∙ sym (append-nil (take n bytes)) ∙ ap (λ t. take n bytes ++ t) (sym (nil_from_length ram z))
 
 pub laid_zeros : (rom : List ℕ) (ramstart : ℕ) (old new : Rows) (size at n : ℕ)
-    → Puts rom old new at (replicate n 0) → ramstart ≤ at → at + n ≤ size
+    → PutsBytes rom old new at (replicate n 0) → ramstart ≤ at → at + n ≤ size
     → laid rom ramstart new size ≡ replaced (laid rom ramstart old size) at (replicate n 0)
 laid_zeros rom ramstart old new size at n puts ram inside = laid_puts rom ramstart old new size at
     (replicate n 0) puts ram (omega (arith, length-replicate {A = ℕ} n 0))

@@ -12,7 +12,7 @@ use Rattle.std.specs.List.{range_with_len}
 use Rattle.std.specs.Str.{bytes_eq}
 use Rattle.vm_memory.specs.MemoryMap.{MemoryMap, original, replaced, memory_of}
 use Rattle.vm_memory.specs.Access.{with_bytes}
-use Rattle.vm_memory.specs.OwnPages.{page_of, differs, own_pages}
+use Rattle.vm_memory.specs.OwnPages.{page_of, page_differs, own_pages}
 use Rattle.vm_memory.specs.Pages.{Rows, page_in, shown, byte_of, laid}
 use Rattle.vm_memory.proofs.RowLemmas.{page_in_past}
 use Rattle.vm_memory.proofs.PutLemmas.{length_replaced, byte_before, byte_after}
@@ -20,12 +20,12 @@ use Rattle.vm_memory.proofs.LaidLemmas.{length_laid, byte_laid, laid_original, b
 use Rattle.vm_memory.proofs.LaidLemmas.{byte_above, byte_below}
 
 differs_not : (rom bytes : List ℕ) (n : ℕ)
-    → page_of bytes n ≡ page_of (original rom (length bytes)) n → differs rom bytes n ≡ false
+    → page_of bytes n ≡ page_of (original rom (length bytes)) n → page_differs rom bytes n ≡ false
 differs_not rom bytes n e = ap not ((bytes_eq-Decides (page_of bytes n) (page_of (original rom
     (length bytes)) n)).1 e)
 
 differs_yes : (rom bytes : List ℕ) (n : ℕ)
-    → page_of bytes n ≢ page_of (original rom (length bytes)) n → differs rom bytes n ≡ true
+    → page_of bytes n ≢ page_of (original rom (length bytes)) n → page_differs rom bytes n ≡ true
 differs_yes rom bytes n q = elim (cases_Bool (bytes_eq (page_of bytes n) (page_of (original rom
     (length bytes)) n))) [
       | inl t ↦ absurd (q ((bytes_eq-Decides (page_of bytes n) (page_of (original rom
@@ -76,7 +76,7 @@ original_is rom ramstart rows size l = ap (original rom) (length_laid rom ramsta
 
 pub own_no : (rom : List ℕ) (ramstart : ℕ) (rows : Rows) (size n : ℕ) → length rom ≤ size
     → ((i : ℕ) → i / 256 ≡ n → i < size → byte_of rom ramstart rows i ≡ slice_index rom i)
-    → differs rom (laid rom ramstart rows size) n ≡ false
+    → page_differs rom (laid rom ramstart rows size) n ≡ false
 own_no rom ramstart rows size n within same =
     let m = length_laid rom ramstart rows size in
     let z = length_laid rom ramstart [] size in
@@ -89,7 +89,7 @@ own_no rom ramstart rows size n within same =
 
 pub own_yes : (rom : List ℕ) (ramstart : ℕ) (rows : Rows) (size n i : ℕ) → length rom ≤ size
     → i / 256 ≡ n → i < size → byte_of rom ramstart rows i ≢ slice_index rom i
-    → differs rom (laid rom ramstart rows size) n ≡ true
+    → page_differs rom (laid rom ramstart rows size) n ≡ true
 own_yes rom ramstart rows size n i within e l q =
     let at_i : n * 256 + i % 256 ≡ i = omega arith in
     differs_yes rom (laid rom ramstart rows size) n (λ same.
@@ -104,7 +104,7 @@ own_yes rom ramstart rows size n i within e l q =
 
 -- a page that isn't held
 pub own_unheld : (rom : List ℕ) (ramstart : ℕ) (rows : Rows) (size n : ℕ) → length rom ≤ size
-    → length (page_in rows n) ≡ 0 → differs rom (laid rom ramstart rows size) n ≡ false
+    → length (page_in rows n) ≡ 0 → page_differs rom (laid rom ramstart rows size) n ≡ false
 unfolding shown
 own_unheld rom ramstart rows size n within none =
     own_no rom ramstart rows size n within (λ i e l. elim (cases_lt i ramstart) [
@@ -187,19 +187,19 @@ unfolding own_pages
 own_put m at new some few fits =
     let z = length_replaced m.bytes at new fits in
     let same : (n : ℕ) → n ≢ at / 256 → n ≢ (at + length new - 1) / 256
-    → differs m.rom (replaced m.bytes at new) n ≡ differs m.rom m.bytes n = λ n f g.
+    → page_differs m.rom (replaced m.bytes at new) n ≡ page_differs m.rom m.bytes n = λ n f g.
     ap not (ap (λ page. bytes_eq page (page_of (original m.rom (length
     (replaced m.bytes at new))) n)) (page_same (replaced m.bytes at new) m.bytes n z
     (λ i d e l. elim (cases_lt i at) [
       | inl low ↦ byte_before m.bytes at new i d fits low
       | inr high ↦ byte_after m.bytes at new i d fits (omega (arith, f, g))
     ])) ∙ ap (λ k. bytes_eq (page_of m.bytes n) (page_of (original m.rom k) n)) z) in
-    let count = count_two (differs m.rom (replaced m.bytes at new)) (differs m.rom m.bytes)
+    let count = count_two (page_differs m.rom (replaced m.bytes at new)) (page_differs m.rom m.bytes)
     (at / 256) ((at + length new - 1) / 256) 0 (length m.bytes / 256 + 1) same in
     omega (
       arith,
       count,
-      ap (λ k. count_by (differs m.rom (replaced m.bytes at new))
+      ap (λ k. count_by (page_differs m.rom (replaced m.bytes at new))
           (range_with_len 0 (k / 256 + 1))) z,
     )
 
@@ -218,28 +218,28 @@ own_original rom ramstart endmem within =
     let n = length-append rom (replicate (endmem - length rom) 0) in
     let z = length-replicate {A = ℕ} (endmem - length rom) 0 in
     let whole : length (original rom endmem) ≡ endmem = omega (arith, n, z) in
-    count_none (differs rom (original rom endmem)) 0 (length (original rom endmem) / 256 + 1)
+    count_none (page_differs rom (original rom endmem)) 0 (length (original rom endmem) / 256 + 1)
     (λ k. differs_not rom (original rom endmem) k (ap (λ size. page_of (original rom size) k)
     (sym whole)))
 
 -- the count of one more page, where it is 1 or 0
 pub own_more : (rom bytes : List ℕ) (n count own : ℕ) (b : Bool)
-    → count ≡ count_by (differs rom bytes) (range_with_len 0 n) → b ≡ differs rom bytes n
-    → own ≡ cond b 1 0 → count + own ≡ count_by (differs rom bytes) (range_with_len 0 (n + 1))
+    → count ≡ count_by (page_differs rom bytes) (range_with_len 0 n) → b ≡ page_differs rom bytes n
+    → own ≡ cond b 1 0 → count + own ≡ count_by (page_differs rom bytes) (range_with_len 0 (n + 1))
 own_more rom bytes n count own b was is one =
-    let more = count_more (differs rom bytes) 0 n in
-    let here = counted b (differs rom bytes n) is in
-    let at_n = counted (differs rom bytes n) (differs rom bytes (0 + n)) (ap (differs rom bytes)
+    let more = count_more (page_differs rom bytes) 0 n in
+    let here = counted b (page_differs rom bytes n) is in
+    let at_n = counted (page_differs rom bytes n) (page_differs rom bytes (0 + n)) (ap (page_differs rom bytes)
     (sym (zero-add n))) in
     let next = add-one n in
-    let total : count + own ≡ count_by (differs rom bytes) (range_with_len 0 (suc n)) = omega
+    let total : count + own ≡ count_by (page_differs rom bytes) (range_with_len 0 (suc n)) = omega
     (arith, was, one, more, here, at_n) in
-    total ∙ ap (λ k. count_by (differs rom bytes) (range_with_len 0 k)) (sym next)
+    total ∙ ap (λ k. count_by (page_differs rom bytes) (range_with_len 0 k)) (sym next)
 
 pub own_pages_is : (m : MemoryMap) (size : ℕ) → length m.bytes ≡ size
-    → own_pages m ≡ count_by (differs m.rom m.bytes) (range_with_len 0 (size / 256 + 1))
+    → own_pages m ≡ count_by (page_differs m.rom m.bytes) (range_with_len 0 (size / 256 + 1))
 unfolding own_pages
-own_pages_is m size e = ap (λ k. count_by (differs m.rom m.bytes) (range_with_len 0
+own_pages_is m size e = ap (λ k. count_by (page_differs m.rom m.bytes) (range_with_len 0
     (k / 256 + 1))) e
 
 -- a count past the last number that is counted
@@ -258,15 +258,15 @@ count_stop p k (suc j) none =
 -- the pages past the last row, which aren't held
 pub own_stop : (rom : List ℕ) (ramstart : ℕ) (rows : Rows) (size some all : ℕ)
     → length rom ≤ size → some ≤ all → length rows * 64 ≤ some ⊎ (some ≡ all)
-    → count_by (differs rom (laid rom ramstart rows size)) (range_with_len 0 some) ≡ count_by
-    (differs rom (laid rom ramstart rows size)) (range_with_len 0 all)
+    → count_by (page_differs rom (laid rom ramstart rows size)) (range_with_len 0 some) ≡ count_by
+    (page_differs rom (laid rom ramstart rows size)) (range_with_len 0 all)
 own_stop rom ramstart rows size some all within few past = elim past [
   | inl high ↦
-      let p = differs rom (laid rom ramstart rows size) in
+      let p = page_differs rom (laid rom ramstart rows size) in
       let none : (n : ℕ) → some ≤ n
       → p n ≡ false = λ n l. own_unheld rom ramstart rows size n within (ap length
       (page_in_past rows n (omega arith))) in
       let e : some + (all - some) ≡ all = omega arith in
       sym (count_stop p some (all - some) none) ∙ ap (λ n. count_by p (range_with_len 0 n)) e
-  | inr e ↦ ap (λ n. count_by (differs rom (laid rom ramstart rows size)) (range_with_len 0 n)) e
+  | inr e ↦ ap (λ n. count_by (page_differs rom (laid rom ramstart rows size)) (range_with_len 0 n)) e
 ]

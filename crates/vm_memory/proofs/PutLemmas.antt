@@ -8,7 +8,7 @@ use Rattle.std.proofs.lemmas.List.{replicate-append-replicate}
 use Rattle.std.proofs.lemmas.Bool.{cases_lt, cases_eq, leb-true}
 use Rattle.std.specs.Prelude.{slice_index_or, nat_le, replicate}
 use Rattle.vm_memory.specs.MemoryMap.{replaced}
-use Rattle.vm_memory.specs.Pages.{Rows, page_in, shown, Puts, Shows, put_in}
+use Rattle.vm_memory.specs.Pages.{Rows, page_in, shown, PutsBytes, Shows, page_after_write}
 use Rattle.vm_memory.proofs.RowLemmas.{shows_alike}
 
 pub length_replaced : (bytes : List ℕ) (at : ℕ) (new : List ℕ) → at + length new ≤ length bytes
@@ -39,7 +39,7 @@ byte_after bytes at new k d within high = grind (arith, places)
 pub puts_page : (rom : List ℕ) (old new : Rows) (at : ℕ) (bytes : List ℕ)
     → at % 256 + length bytes ≤ 256 → at % 256 + length bytes ≤ length (page_in old (at / 256))
     → page_in new (at / 256) ≡ replaced (page_in old (at / 256)) (at % 256) bytes → ((k : ℕ)
-    → k ≢ at / 256 → page_in new k ≡ page_in old k) → Puts rom old new at bytes
+    → k ≢ at / 256 → page_in new k ≡ page_in old k) → PutsBytes rom old new at bytes
 unfolding shown
 puts_page rom old new at bytes within fits put kept =
     let page = page_in old (at / 256) in
@@ -85,15 +85,15 @@ puts_page rom old new at bytes within fits put kept =
 pub put_in_puts : (rom : List ℕ) (old new : Rows) (at : ℕ) (bytes : List ℕ) (r : Bool)
     → at % 256 + length bytes ≤ 256
     → r ≡ nat_le (at % 256 + length bytes) (length (page_in old (at / 256)))
-    → page_in new (at / 256) ≡ put_in (at % 256) bytes (page_in old (at / 256)) → ((k : ℕ)
-    → k ≢ at / 256 → page_in new k ≡ page_in old k) → r ≡ true → Puts rom old new at bytes
+    → page_in new (at / 256) ≡ page_after_write (at % 256) bytes (page_in old (at / 256)) → ((k : ℕ)
+    → k ≢ at / 256 → page_in new k ≡ page_in old k) → r ≡ true → PutsBytes rom old new at bytes
 put_in_puts rom old new at bytes r within is put kept t =
     let fits = sym is ∙ t in
     puts_page rom old new at bytes within (leb-true _ _ fits) (rw fits at put) kept
 
 pub put_in_shows : (rom : List ℕ) (old new : Rows) (at : ℕ) (bytes : List ℕ) (r : Bool)
     → r ≡ nat_le (at % 256 + length bytes) (length (page_in old (at / 256)))
-    → page_in new (at / 256) ≡ put_in (at % 256) bytes (page_in old (at / 256)) → ((k : ℕ)
+    → page_in new (at / 256) ≡ page_after_write (at % 256) bytes (page_in old (at / 256)) → ((k : ℕ)
     → k ≢ at / 256 → page_in new k ≡ page_in old k) → r ≡ false → Shows rom old new
 put_in_shows rom old new at bytes r is put kept f =
     let past = sym is ∙ f in
@@ -104,7 +104,7 @@ put_in_shows rom old new at bytes r is put kept f =
     ])
 
 -- no byte, or bytes after bytes
-pub puts_none : (rom : List ℕ) (rows : Rows) (at : ℕ) → Puts rom rows rows at []
+pub puts_none : (rom : List ℕ) (rows : Rows) (at : ℕ) → PutsBytes rom rows rows at []
 puts_none rom rows at = record {
   inside = λ i low high. absurd
       (omega arith);
@@ -114,8 +114,8 @@ puts_none rom rows at = record {
 }
 
 pub puts_more : (rom : List ℕ) (a b d : Rows) (at to : ℕ) (front next : List ℕ)
-    → Puts rom a b at front → to ≡ at + length front → Puts rom b d to next
-    → Puts rom a d at (front ++ next)
+    → PutsBytes rom a b at front → to ≡ at + length front → PutsBytes rom b d to next
+    → PutsBytes rom a d at (front ++ next)
 puts_more rom a b d at to front next f e g =
     let n = length-append front next in
     record {
@@ -135,24 +135,24 @@ pub take_join : {X : Type 0} → (m n : ℕ) (xs : List X) → m ≤ n
 take_join m n xs l = same_lists _ _ (grind (arith, places)) (λ k d h. grind (arith, places))
 
 pub puts_take : (rom : List ℕ) (a b d : Rows) (at to done end : ℕ) (new : List ℕ)
-    → Puts rom a b at (take done new) → done ≤ end → end ≤ length new → to ≡ at + done
-    → Puts rom b d to (take (end - done) (drop done new)) → Puts rom a d at (take end new)
+    → PutsBytes rom a b at (take done new) → done ≤ end → end ≤ length new → to ≡ at + done
+    → PutsBytes rom b d to (take (end - done) (drop done new)) → PutsBytes rom a d at (take end new)
 puts_take rom a b d at to done end new f l m e g =
-    subst (Puts rom a d at) (take_join done end new l) (puts_more rom a b d at to
+    subst (PutsBytes rom a d at) (take_join done end new l) (puts_more rom a b d at to
     (take done new) _ f (omega (arith, length-take-le done new)) g)
 
 pub puts_zeros : (rom : List ℕ) (a b d : Rows) (at to done n : ℕ)
-    → Puts rom a b at (replicate done 0) → to ≡ at + done → n ≤ 256
-    → Puts rom b d to (take n (replicate 256 0)) → Puts rom a d at (replicate (done + n) 0)
+    → PutsBytes rom a b at (replicate done 0) → to ≡ at + done → n ≤ 256
+    → PutsBytes rom b d to (take n (replicate 256 0)) → PutsBytes rom a d at (replicate (done + n) 0)
 puts_zeros rom a b d at to done n f e l g =
-    subst (Puts rom a d at) (replicate-append-replicate done n 0)
+    subst (PutsBytes rom a d at) (replicate-append-replicate done n 0)
     (puts_more rom a b d at to (replicate done 0) (replicate n 0) f (omega
-    (arith, length-replicate {A = ℕ} done 0)) (subst (Puts rom b d to)
+    (arith, length-replicate {A = ℕ} done 0)) (subst (PutsBytes rom b d to)
     (take-replicate n 256 0 l) g))
 
 -- pages that are held, and then bytes
 pub puts_after : (rom : List ℕ) (a b d : Rows) (at : ℕ) (bytes : List ℕ) → Shows rom a b
-    → Puts rom b d at bytes → Puts rom a d at bytes
+    → PutsBytes rom b d at bytes → PutsBytes rom a d at bytes
 puts_after rom a b d at bytes f g = record {
   inside = g.inside;
   below = λ i low. g.below i low ∙ f.same i;

@@ -55,8 +55,8 @@ copied_from m other at n =
     else Err (BadRead at))
 
 -- A call that changes memory answered this and left new, as it should, unless room was wanting.
-abbrev pub Leaves : {A : Type 0} → Result MemoryMap MemFault → MemoryMap → Result A MemStop
+abbrev pub LeavesMemory : {A : Type 0} → Result MemoryMap MemFault → MemoryMap → Result A MemStop
     → Type 0
-Leaves should new (Ok x) = should ≡ Ok new
-Leaves should new (Err (Fault f)) = should ≡ Err f
-Leaves should new (Err NoMemory) = Unit {0}
+LeavesMemory should new (Ok x) = should ≡ Ok new
+LeavesMemory should new (Err (Fault f)) = should ≡ Err f
+LeavesMemory should new (Err NoMemory) = Unit {0}

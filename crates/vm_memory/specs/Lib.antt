@@ -4,3 +4,4 @@ pub mod Code
 pub mod Fault
 pub mod Pages
 pub mod OwnPages
+pub mod Chaining

@@ -44,7 +44,7 @@ pub record Shows (rom : List ℕ) (old new : Rows) : Type 0 where
   pub held : (n : ℕ) → IsHeld old n → IsHeld new n
 
 -- these bytes are shown at an address and every other as before, and the held pages are held
-pub record Puts (rom : List ℕ) (old new : Rows) (at : ℕ) (bytes : List ℕ) : Type 0 where
+pub record PutsBytes (rom : List ℕ) (old new : Rows) (at : ℕ) (bytes : List ℕ) : Type 0 where
   pub inside : (i : ℕ) → at ≤ i → i < at + length bytes
       → shown rom new i ≡ slice_index bytes (i - at)
   pub below : (i : ℕ) → i < at → shown rom new i ≡ shown rom old i
@@ -52,8 +52,9 @@ pub record Puts (rom : List ℕ) (old new : Rows) (at : ℕ) (bytes : List ℕ) 
   pub held : (n : ℕ) → IsHeld old n → IsHeld new n
 
 -- a page after a write, where so much of it is held
-abbrev pub put_in : ℕ → List ℕ → List ℕ → List ℕ
-put_in at new page = if nat_le (at + length new) (length page) then replaced page at new else page
+abbrev pub page_after_write : ℕ → List ℕ → List ℕ → List ℕ
+page_after_write at new page =
+    if nat_le (at + length new) (length page) then replaced page at new else page
 
 -- a page is shown as before, and held if it was
 pub record ShowsPage (rom : List ℕ) (number : ℕ) (old new : List ℕ) : Type 0 where

@@ -4,7 +4,7 @@ ghost use Rattle.std.specs.Prelude.{◌≡◌, ◌≤◌, ◌<◌, ◌+◌, ◌&
 ghost use Rattle.std.specs.Prelude.{nat_le, OnErr, OnOk, IfOk};
 ghost use Rattle.vm_memory.specs.MemoryMap.{KeepsMap, number_at};
 ghost use Rattle.vm_memory.specs.OwnPages.{own_pages};
-ghost use Rattle.vm_memory.specs.Access.{Leaves, copied, copied_from, read, with_bytes};
+ghost use Rattle.vm_memory.specs.Access.{LeavesMemory, copied, copied_from, read, with_bytes};
 ghost use Rattle.vm_memory.specs.Access.{written, zeroed};
 
 use crate::laid::{block_at, byte_at, four_apart, four_near, two_apart, two_near};
@@ -217,7 +217,7 @@ impl<'i> Memory<'i> {
     #[inline(always)]
     #[tactic(auto, using(crate::proofs::OwnLemmas::own_put))]
     pub fn write1(&mut self, at: u32, value: u32) -> Result<(), MemStop>
-        ensures value { Leaves (written 1 self.old at value) self.new result }
+        ensures value { LeavesMemory (written 1 self.old at value) self.new result }
         ensures err { OnErr result (self.new ≡ self.old) }
         ensures kept { KeepsMap self.old self.new }
         ensures own { own_pages self.new ≤ own_pages self.old + 2 }
@@ -233,7 +233,7 @@ impl<'i> Memory<'i> {
     #[inline(always)]
     #[tactic(auto, using(crate::proofs::OwnLemmas::own_put))]
     pub fn write2(&mut self, at: u32, value: u32) -> Result<(), MemStop>
-        ensures value { Leaves (written 2 self.old at value) self.new result }
+        ensures value { LeavesMemory (written 2 self.old at value) self.new result }
         ensures err { OnErr result (self.new ≡ self.old) }
         ensures kept { KeepsMap self.old self.new }
         ensures own { own_pages self.new ≤ own_pages self.old + 2 }
@@ -249,7 +249,7 @@ impl<'i> Memory<'i> {
     #[inline(always)]
     #[tactic(auto, using(crate::proofs::OwnLemmas::own_put))]
     pub fn write4(&mut self, at: u32, value: u32) -> Result<(), MemStop>
-        ensures value { Leaves (written 4 self.old at value) self.new result }
+        ensures value { LeavesMemory (written 4 self.old at value) self.new result }
         ensures err { OnErr result (self.new ≡ self.old) }
         ensures kept { KeepsMap self.old self.new }
         ensures own { own_pages self.new ≤ own_pages self.old + 2 }
@@ -264,7 +264,7 @@ impl<'i> Memory<'i> {
     /// Makes so many bytes zero; BadWrite where the block isn't all in RAM. An empty block is
     /// nowhere and does nothing (Glulx 3.1.3, "Block Copy and Clear").
     pub fn zero(&mut self, at: u32, count: u32) -> Result<(), MemStop>
-        ensures value { Leaves (zeroed self.old at count) self.new result }
+        ensures value { LeavesMemory (zeroed self.old at count) self.new result }
         ensures err { OnErr result (self.new ≡ self.old) }
         ensures kept { KeepsMap self.old self.new }
     {
@@ -282,7 +282,7 @@ impl<'i> Memory<'i> {
     /// first block passes memory's end, then BadWrite where the second isn't all in RAM. An empty
     /// block is nowhere and does nothing (Glulx 3.1.3, "Block Copy and Clear").
     pub fn copy(&mut self, from: u32, to: u32, count: u32) -> Result<(), MemStop>
-        ensures value { Leaves (copied self.old count from to) self.new result }
+        ensures value { LeavesMemory (copied self.old count from to) self.new result }
         ensures err { OnErr result (self.new ≡ self.old) }
         ensures kept { KeepsMap self.old self.new }
     {
@@ -303,7 +303,7 @@ impl<'i> Memory<'i> {
     /// Takes so many bytes at the address from another memory; BadRead where they pass its end,
     /// then BadWrite where they aren't all in RAM here. An empty block is nowhere and does nothing.
     pub fn copy_from(&mut self, other: &Memory<'_>, at: u32, size: u32) -> Result<(), MemStop>
-        ensures value { Leaves (copied_from self.old other.now at size) self.new result }
+        ensures value { LeavesMemory (copied_from self.old other.now at size) self.new result }
         ensures err { OnErr result (self.new ≡ self.old) }
         ensures kept { KeepsMap self.old self.new }
     {

@@ -6,7 +6,7 @@ ghost use Rattle.std.specs.Prelude.{◌/◌, IfOk, IfSome, OnOk, count_by, drop,
 ghost use Rattle.std.specs.Prelude.{slice_index, take};
 ghost use Rattle.byteorder.specs.Endian.{big_number};
 ghost use Rattle.vm_memory.specs.MemoryMap.{number_at};
-ghost use Rattle.vm_memory.specs.OwnPages.{differs};
+ghost use Rattle.vm_memory.specs.OwnPages.{page_differs};
 ghost use Rattle.vm_memory.specs.Pages.{byte_of, laid};
 
 use crate::pages::span;
@@ -205,7 +205,7 @@ fn is_own(rom: &[u8], ramstart: u32, rows: &[Row], size: u32, number: u32) -> bo
     requires ram { ramstart ≤ length rom.now }
     requires within { length rom.now ≤ size }
     requires limit { number ≤ 65536 }
-    ensures { result ≡ differs rom.now (laid rom.now ramstart rows.now size) number }
+    ensures { result ≡ page_differs rom.now (laid rom.now ramstart rows.now size) number }
 {
     if page_of(rows, number).is_empty() {
         return false;
@@ -224,7 +224,7 @@ pub(crate) fn count_own(rom: &[u8], ramstart: u32, rows: &[Row], size: u32) -> u
     requires ram { ramstart ≤ length rom.now }
     requires within { length rom.now ≤ size }
     requires limit { size ≤ 16777216 }
-    ensures { result ≡ count_by (differs rom.now (laid rom.now ramstart rows.now size))
+    ensures { result ≡ count_by (page_differs rom.now (laid rom.now ramstart rows.now size))
         (range_with_len 0 (size / 256 + 1)) }
 {
     let numbers = rows.len().min((size / PAGE / 64 + 1) as usize) as u32 * 64;

@@ -2,7 +2,7 @@
 
 ghost use Rattle.std.specs.Prelude.{◌≡◌, ◌≤◌, ◌<◌, ◌+◌, ◌^◌, ◌/◌, ◌%◌, ℕ, length};
 ghost use Rattle.std.specs.Prelude.{IsFalse, IsTrue, List, OnErr, OnOk, replicate};
-ghost use Rattle.vm_memory.specs.Pages.{HoldsAll, IsHeld, Puts, Shows};
+ghost use Rattle.vm_memory.specs.Pages.{HoldsAll, IsHeld, PutsBytes, Shows};
 
 use crate::table::{PAGE, Row, hold, put_in_page};
 use std::alloc::{AllocError, Global};
@@ -12,7 +12,7 @@ use std::alloc::{AllocError, Global};
 pub(crate) fn put_at(rows: &mut Vec<Row>, at: u32, new: &[u8]) -> bool
     requires { 0 < length new.now }
     ensures puts { IsTrue result
-        → (rom : List ℕ) → Puts rom rows.old.items rows.new.items at new.now }
+        → (rom : List ℕ) → PutsBytes rom rows.old.items rows.new.items at new.now }
     ensures none { IsFalse result
         → (rom : List ℕ) → Shows rom rows.old.items rows.new.items }
     ensures held { at % 256 + length new.now ≤ 256
@@ -59,7 +59,7 @@ pub(crate) fn span(at: u32, left: u32) -> u32
 pub(crate) fn put_all(rows: &mut Vec<Row>, at: u32, new: &[u8])
     requires limit { at + length new.now < 2 ^ 32 }
     requires held { HoldsAll rows.old.items at (length new.now) }
-    ensures { (rom : List ℕ) → Puts rom rows.old.items rows.new.items at new.now }
+    ensures { (rom : List ℕ) → PutsBytes rom rows.old.items rows.new.items at new.now }
 {
     let count = new.len() as u32;
     let mut done = 0;
@@ -74,7 +74,7 @@ pub(crate) fn put_all(rows: &mut Vec<Row>, at: u32, new: &[u8])
 pub(crate) fn clear_all(rows: &mut Vec<Row>, at: u32, count: u32)
     requires limit { at + count < 2 ^ 32 }
     requires held { HoldsAll rows.old.items at count }
-    ensures { (rom : List ℕ) → Puts rom rows.old.items rows.new.items at (replicate count 0) }
+    ensures { (rom : List ℕ) → PutsBytes rom rows.old.items rows.new.items at (replicate count 0) }
 {
     let mut done = 0;
     while done < count {
@@ -95,7 +95,7 @@ pub(crate) fn write(
 ) -> Result<(), AllocError>
     requires some { 0 < length new.now }
     requires limit { at + length new.now < 2 ^ 32 }
-    ensures ok { OnOk result (Puts rom.now rows.old.items rows.new.items at new.now) }
+    ensures ok { OnOk result (PutsBytes rom.now rows.old.items rows.new.items at new.now) }
     ensures err { OnErr result (Shows rom.now rows.old.items rows.new.items) }
 {
     if put_at(rows, at, new) {
@@ -117,7 +117,7 @@ fn write_block(
 ) -> Result<(), AllocError>
     requires some { 0 < length new.now }
     requires limit { at + length new.now < 2 ^ 32 }
-    ensures ok { OnOk result (Puts rom.now rows.old.items rows.new.items at new.now) }
+    ensures ok { OnOk result (PutsBytes rom.now rows.old.items rows.new.items at new.now) }
     ensures err { OnErr result (Shows rom.now rows.old.items rows.new.items) }
 {
     hold_all(alloc, rom, rows, at, new.len() as u32)?;
@@ -137,7 +137,7 @@ pub(crate) fn clear(
     requires some { 0 < count }
     requires limit { at + count < 2 ^ 32 }
     ensures ok { OnOk result
-        (Puts rom.now rows.old.items rows.new.items at (replicate count 0)) }
+        (PutsBytes rom.now rows.old.items rows.new.items at (replicate count 0)) }
     ensures err { OnErr result (Shows rom.now rows.old.items rows.new.items) }
 {
     hold_all(alloc, rom, rows, at, count)?;

@@ -3,7 +3,8 @@
 ghost use Rattle.std.specs.Prelude.{◌≡◌, ◌≢◌, ◌≤◌, ◌<◌, ◌+◌, ◌/◌, ◌%◌, ℕ};
 ghost use Rattle.std.specs.Prelude.{[], IfOk, List, OnOk, length, nat_le, take};
 ghost use Rattle.vm_memory.specs.MemoryMap.{replaced};
-ghost use Rattle.vm_memory.specs.Pages.{Cuts, IsHeld, Shows, ShowsPage, items_at, page_in, put_in};
+ghost use Rattle.vm_memory.specs.Pages.{Cuts, IsHeld, Shows, ShowsPage, items_at, page_in};
+ghost use Rattle.vm_memory.specs.Pages.{page_after_write};
 
 use std::alloc::{AllocError, Global};
 
@@ -53,7 +54,7 @@ fn put(bytes: &mut [u8], at: usize, new: &[u8])
 #[inline(always)]
 fn put_held(page: &mut [u8], at: usize, new: &[u8]) -> bool
     requires { at + length new.now ≤ 256 }
-    ensures puts { page.new ≡ put_in at new.now page.old }
+    ensures puts { page.new ≡ page_after_write at new.now page.old }
     ensures held { result ≡ nat_le (at + length new.now) (length page.old) }
 {
     if at + new.len() <= page.len() {
@@ -69,7 +70,7 @@ fn put_held(page: &mut [u8], at: usize, new: &[u8]) -> bool
 fn put_in_row(pages: &mut [Page], n: usize, at: usize, new: &[u8]) -> bool
     requires some { 0 < length new.now }
     requires within { at + length new.now ≤ 256 }
-    ensures puts { items_at pages.new n ≡ put_in at new.now (items_at pages.old n) }
+    ensures puts { items_at pages.new n ≡ page_after_write at new.now (items_at pages.old n) }
     ensures kept { (k : ℕ) → k ≢ n → items_at pages.new k ≡ items_at pages.old k }
     ensures held { result ≡ nat_le (at + length new.now) (length (items_at pages.old n)) }
 {
@@ -85,7 +86,7 @@ fn put_in_row(pages: &mut [Page], n: usize, at: usize, new: &[u8]) -> bool
 pub(crate) fn put_in_page(rows: &mut [Row], number: u32, at: usize, new: &[u8]) -> bool
     requires some { 0 < length new.now }
     requires within { at + length new.now ≤ 256 }
-    ensures puts { page_in rows.new number ≡ put_in at new.now (page_in rows.old number) }
+    ensures puts { page_in rows.new number ≡ page_after_write at new.now (page_in rows.old number) }
     ensures kept { (k : ℕ) → k ≢ number → page_in rows.new k ≡ page_in rows.old k }
     ensures held { result ≡ nat_le (at + length new.now) (length (page_in rows.old number)) }
 {

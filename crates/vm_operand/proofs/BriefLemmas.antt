@@ -1,15 +1,16 @@
 -- Instructions of few operands, all of which are read.
 use Rattle.std.proofs.Common.{arith, ◌≡◌, refl, sym, ◌∙◌, ap, ℕ, ◌+◌, ◌%◌, ◌/◌, [], ◌∷◌, Result, Ok, Err, Some, length, subst}
+use Rattle.vm_memory.specs.Chaining.{◌>>=◌}
 use Rattle.vm_memory.specs.MemoryMap.{MemoryMap}
 use Rattle.vm_memory.specs.Access.{read}
 use Rattle.vm_operand.specs.Brief.{IsBrief, OpcodeAt, dest_by, instr_of, load_by, operands_from}
-use Rattle.vm_operand.specs.Instruction.{bare, modes_at, number_at, operand, operands, load_at, dest_at, instruction_at}
+use Rattle.vm_operand.specs.Instruction.{bare, modes_at, opcode_number_at, operand, operands, load_at, dest_at, instruction_at}
 use Rattle.vm_operand.specs.Mode.{mode_of}
 use Rattle.vm_operand.proofs.OpcodeLemmas.{op_of-number_of}
-use Rattle.vm_operand.specs.Reading.{◌>>=◌, reads}
+use Rattle.vm_operand.specs.Reading.{instruction_read}
 use Rattle.std.specs.Prelude.{IfSome, IsErr, Option, None}
 use Rattle.std.specs.Result.{result_ok}
-use Rattle.vm_operand.specs.Opcode.{kinds_of, number_of, op_of}
+use Rattle.vm_operand.specs.Opcode.{kinds_of, opcode_number, op_of}
 use Rattle.vm_operand.specs.declared.brief.Brief.{Brief}
 use Rattle.vm_operand.specs.declared.opcode.Op.{Op}
 use Rattle.vm_operand.specs.declared.mode.Mode.{Mode}
@@ -53,7 +54,7 @@ found (Err e) f x h = absurd cc
 
 pub reads_one : (m : MemoryMap) (o : Op) (at b0 : ℕ) (x0 : l.Load × ℕ)
     → read 1 m at ≡ Ok b0 → load_by m (b0 % 16) (at + 1) ≡ Ok x0
-    → operands_from m (number_of o) (L ∷ []) at ≡ Ok (instr_of (record { op = o; loads = 1; first = x0.0; second = load.Value 0; third = load.Value 0; fourth = load.Value 0; stores = 0; to = dest.Discard; next = x0.1 }))
+    → operands_from m (opcode_number o) (L ∷ []) at ≡ Ok (instr_of (record { op = o; loads = 1; first = x0.0; second = load.Value 0; third = load.Value 0; fourth = load.Value 0; stores = 0; to = dest.Discard; next = x0.1 }))
 unfolding modes_at operands operand
 reads_one m o at b0 x0 h0 g0 =
     let p0 = found (mode_of L (b0 % 16)) (λ mode. load_at m mode (at + 1)) x0 g0 in
@@ -61,7 +62,7 @@ reads_one m o at b0 x0 h0 g0 =
 
 pub reads_one_and_store : (m : MemoryMap) (o : Op) (at b0 : ℕ) (x0 : l.Load × ℕ) (x1 : d.Dest × ℕ)
     → read 1 m at ≡ Ok b0 → load_by m (b0 % 16) (at + 1) ≡ Ok x0 → dest_by m (b0 / 16) x0.1 ≡ Ok x1
-    → operands_from m (number_of o) (L ∷ S ∷ []) at ≡ Ok (instr_of (record { op = o; loads = 1; first = x0.0; second = load.Value 0; third = load.Value 0; fourth = load.Value 0; stores = 1; to = x1.0; next = x1.1 }))
+    → operands_from m (opcode_number o) (L ∷ S ∷ []) at ≡ Ok (instr_of (record { op = o; loads = 1; first = x0.0; second = load.Value 0; third = load.Value 0; fourth = load.Value 0; stores = 1; to = x1.0; next = x1.1 }))
 unfolding modes_at operands operand
 reads_one_and_store m o at b0 x0 x1 h0 g0 g1 =
     let p0 = found (mode_of L (b0 % 16)) (λ mode. load_at m mode (at + 1)) x0 g0 in
@@ -70,7 +71,7 @@ reads_one_and_store m o at b0 x0 x1 h0 g0 g1 =
 
 pub reads_two : (m : MemoryMap) (o : Op) (at b0 : ℕ) (x0 : l.Load × ℕ) (x1 : l.Load × ℕ)
     → read 1 m at ≡ Ok b0 → load_by m (b0 % 16) (at + 1) ≡ Ok x0 → load_by m (b0 / 16) x0.1 ≡ Ok x1
-    → operands_from m (number_of o) (L ∷ L ∷ []) at ≡ Ok (instr_of (record { op = o; loads = 2; first = x0.0; second = x1.0; third = load.Value 0; fourth = load.Value 0; stores = 0; to = dest.Discard; next = x1.1 }))
+    → operands_from m (opcode_number o) (L ∷ L ∷ []) at ≡ Ok (instr_of (record { op = o; loads = 2; first = x0.0; second = x1.0; third = load.Value 0; fourth = load.Value 0; stores = 0; to = dest.Discard; next = x1.1 }))
 unfolding modes_at operands operand
 reads_two m o at b0 x0 x1 h0 g0 g1 =
     let p0 = found (mode_of L (b0 % 16)) (λ mode. load_at m mode (at + 1)) x0 g0 in
@@ -79,7 +80,7 @@ reads_two m o at b0 x0 x1 h0 g0 g1 =
 
 pub reads_two_and_store : (m : MemoryMap) (o : Op) (at b0 b1 : ℕ) (x0 : l.Load × ℕ) (x1 : l.Load × ℕ) (x2 : d.Dest × ℕ)
     → read 1 m at ≡ Ok b0 → read 1 m (at + 1) ≡ Ok b1 → load_by m (b0 % 16) (at + 2) ≡ Ok x0 → load_by m (b0 / 16) x0.1 ≡ Ok x1 → dest_by m (b1 % 16) x1.1 ≡ Ok x2
-    → operands_from m (number_of o) (L ∷ L ∷ S ∷ []) at ≡ Ok (instr_of (record { op = o; loads = 2; first = x0.0; second = x1.0; third = load.Value 0; fourth = load.Value 0; stores = 1; to = x2.0; next = x2.1 }))
+    → operands_from m (opcode_number o) (L ∷ L ∷ S ∷ []) at ≡ Ok (instr_of (record { op = o; loads = 2; first = x0.0; second = x1.0; third = load.Value 0; fourth = load.Value 0; stores = 1; to = x2.0; next = x2.1 }))
 unfolding modes_at operands operand
 reads_two_and_store m o at b0 b1 x0 x1 x2 h0 h1 g0 g1 g2 =
     let p0 = found (mode_of L (b0 % 16)) (λ mode. load_at m mode (at + 2)) x0 g0 in
@@ -89,7 +90,7 @@ reads_two_and_store m o at b0 b1 x0 x1 x2 h0 h1 g0 g1 g2 =
 
 pub reads_three : (m : MemoryMap) (o : Op) (at b0 b1 : ℕ) (x0 : l.Load × ℕ) (x1 : l.Load × ℕ) (x2 : l.Load × ℕ)
     → read 1 m at ≡ Ok b0 → read 1 m (at + 1) ≡ Ok b1 → load_by m (b0 % 16) (at + 2) ≡ Ok x0 → load_by m (b0 / 16) x0.1 ≡ Ok x1 → load_by m (b1 % 16) x1.1 ≡ Ok x2
-    → operands_from m (number_of o) (L ∷ L ∷ L ∷ []) at ≡ Ok (instr_of (record { op = o; loads = 3; first = x0.0; second = x1.0; third = x2.0; fourth = load.Value 0; stores = 0; to = dest.Discard; next = x2.1 }))
+    → operands_from m (opcode_number o) (L ∷ L ∷ L ∷ []) at ≡ Ok (instr_of (record { op = o; loads = 3; first = x0.0; second = x1.0; third = x2.0; fourth = load.Value 0; stores = 0; to = dest.Discard; next = x2.1 }))
 unfolding modes_at operands operand
 reads_three m o at b0 b1 x0 x1 x2 h0 h1 g0 g1 g2 =
     let p0 = found (mode_of L (b0 % 16)) (λ mode. load_at m mode (at + 2)) x0 g0 in
@@ -99,7 +100,7 @@ reads_three m o at b0 b1 x0 x1 x2 h0 h1 g0 g1 g2 =
 
 pub reads_three_and_store : (m : MemoryMap) (o : Op) (at b0 b1 : ℕ) (x0 : l.Load × ℕ) (x1 : l.Load × ℕ) (x2 : l.Load × ℕ) (x3 : d.Dest × ℕ)
     → read 1 m at ≡ Ok b0 → read 1 m (at + 1) ≡ Ok b1 → load_by m (b0 % 16) (at + 2) ≡ Ok x0 → load_by m (b0 / 16) x0.1 ≡ Ok x1 → load_by m (b1 % 16) x1.1 ≡ Ok x2 → dest_by m (b1 / 16) x2.1 ≡ Ok x3
-    → operands_from m (number_of o) (L ∷ L ∷ L ∷ S ∷ []) at ≡ Ok (instr_of (record { op = o; loads = 3; first = x0.0; second = x1.0; third = x2.0; fourth = load.Value 0; stores = 1; to = x3.0; next = x3.1 }))
+    → operands_from m (opcode_number o) (L ∷ L ∷ L ∷ S ∷ []) at ≡ Ok (instr_of (record { op = o; loads = 3; first = x0.0; second = x1.0; third = x2.0; fourth = load.Value 0; stores = 1; to = x3.0; next = x3.1 }))
 unfolding modes_at operands operand
 reads_three_and_store m o at b0 b1 x0 x1 x2 x3 h0 h1 g0 g1 g2 g3 =
     let p0 = found (mode_of L (b0 % 16)) (λ mode. load_at m mode (at + 2)) x0 g0 in
@@ -110,7 +111,7 @@ reads_three_and_store m o at b0 b1 x0 x1 x2 x3 h0 h1 g0 g1 g2 g3 =
 
 pub reads_four_and_store : (m : MemoryMap) (o : Op) (at b0 b1 b2 : ℕ) (x0 : l.Load × ℕ) (x1 : l.Load × ℕ) (x2 : l.Load × ℕ) (x3 : l.Load × ℕ) (x4 : d.Dest × ℕ)
     → read 1 m at ≡ Ok b0 → read 1 m (at + 1) ≡ Ok b1 → read 1 m (at + 2) ≡ Ok b2 → load_by m (b0 % 16) (at + 3) ≡ Ok x0 → load_by m (b0 / 16) x0.1 ≡ Ok x1 → load_by m (b1 % 16) x1.1 ≡ Ok x2 → load_by m (b1 / 16) x2.1 ≡ Ok x3 → dest_by m (b2 % 16) x3.1 ≡ Ok x4
-    → operands_from m (number_of o) (L ∷ L ∷ L ∷ L ∷ S ∷ []) at ≡ Ok (instr_of (record { op = o; loads = 4; first = x0.0; second = x1.0; third = x2.0; fourth = x3.0; stores = 1; to = x4.0; next = x4.1 }))
+    → operands_from m (opcode_number o) (L ∷ L ∷ L ∷ L ∷ S ∷ []) at ≡ Ok (instr_of (record { op = o; loads = 4; first = x0.0; second = x1.0; third = x2.0; fourth = x3.0; stores = 1; to = x4.0; next = x4.1 }))
 unfolding modes_at operands operand
 reads_four_and_store m o at b0 b1 b2 x0 x1 x2 x3 x4 h0 h1 h2 g0 g1 g2 g3 g4 =
     let h3 : read 1 m (at + 1 + 1) ≡ Ok b2 = subst (λ n. read 1 m n ≡ Ok b2) (omega arith) h2 in
@@ -133,7 +134,7 @@ contrary (Err e) x is bad = absurd cc
 -- the bytes of its modes, and then its operands
 abbrev pub read_one : MemoryMap → ℕ → Result (l.Load × ℕ) OpFault
 read_one m at =
-    reads (read 1 m at) >>= (λ b0. load_by m (b0 % 16) (at + 1))
+    instruction_read (read 1 m at) >>= (λ b0. load_by m (b0 % 16) (at + 1))
 
 pub no_one : (m : MemoryMap) (n at : ℕ) → IsErr (read_one m at) → IsErr (operands_from m n (L ∷ []) at)
 unfolding modes_at operands operand
@@ -147,7 +148,7 @@ no_one m n at bad =
 -- the bytes of its modes, and then its operands
 abbrev pub read_one_and_store : MemoryMap → ℕ → Result (d.Dest × ℕ) OpFault
 read_one_and_store m at =
-    reads (read 1 m at) >>= (λ b0. load_by m (b0 % 16) (at + 1) >>= (λ x0. dest_by m (b0 / 16) x0.1))
+    instruction_read (read 1 m at) >>= (λ b0. load_by m (b0 % 16) (at + 1) >>= (λ x0. dest_by m (b0 / 16) x0.1))
 
 pub no_one_and_store : (m : MemoryMap) (n at : ℕ) → IsErr (read_one_and_store m at) → IsErr (operands_from m n (L ∷ S ∷ []) at)
 unfolding modes_at operands operand
@@ -163,7 +164,7 @@ no_one_and_store m n at bad =
 -- the bytes of its modes, and then its operands
 abbrev pub read_two : MemoryMap → ℕ → Result (l.Load × ℕ) OpFault
 read_two m at =
-    reads (read 1 m at) >>= (λ b0. load_by m (b0 % 16) (at + 1) >>= (λ x0. load_by m (b0 / 16) x0.1))
+    instruction_read (read 1 m at) >>= (λ b0. load_by m (b0 % 16) (at + 1) >>= (λ x0. load_by m (b0 / 16) x0.1))
 
 pub no_two : (m : MemoryMap) (n at : ℕ) → IsErr (read_two m at) → IsErr (operands_from m n (L ∷ L ∷ []) at)
 unfolding modes_at operands operand
@@ -179,7 +180,7 @@ no_two m n at bad =
 -- the bytes of its modes, and then its operands
 abbrev pub read_two_and_store : MemoryMap → ℕ → Result (d.Dest × ℕ) OpFault
 read_two_and_store m at =
-    reads (read 1 m at) >>= (λ b0. reads (read 1 m (at + 1)) >>= (λ b1. load_by m (b0 % 16) (at + 2) >>= (λ x0. load_by m (b0 / 16) x0.1 >>= (λ x1. dest_by m (b1 % 16) x1.1))))
+    instruction_read (read 1 m at) >>= (λ b0. instruction_read (read 1 m (at + 1)) >>= (λ b1. load_by m (b0 % 16) (at + 2) >>= (λ x0. load_by m (b0 / 16) x0.1 >>= (λ x1. dest_by m (b1 % 16) x1.1))))
 
 pub no_two_and_store : (m : MemoryMap) (n at : ℕ) → IsErr (read_two_and_store m at) → IsErr (operands_from m n (L ∷ L ∷ S ∷ []) at)
 unfolding modes_at operands operand
@@ -198,7 +199,7 @@ no_two_and_store m n at bad =
 -- the bytes of its modes, and then its operands
 abbrev pub read_three : MemoryMap → ℕ → Result (l.Load × ℕ) OpFault
 read_three m at =
-    reads (read 1 m at) >>= (λ b0. reads (read 1 m (at + 1)) >>= (λ b1. load_by m (b0 % 16) (at + 2) >>= (λ x0. load_by m (b0 / 16) x0.1 >>= (λ x1. load_by m (b1 % 16) x1.1))))
+    instruction_read (read 1 m at) >>= (λ b0. instruction_read (read 1 m (at + 1)) >>= (λ b1. load_by m (b0 % 16) (at + 2) >>= (λ x0. load_by m (b0 / 16) x0.1 >>= (λ x1. load_by m (b1 % 16) x1.1))))
 
 pub no_three : (m : MemoryMap) (n at : ℕ) → IsErr (read_three m at) → IsErr (operands_from m n (L ∷ L ∷ L ∷ []) at)
 unfolding modes_at operands operand
@@ -217,7 +218,7 @@ no_three m n at bad =
 -- the bytes of its modes, and then its operands
 abbrev pub read_three_and_store : MemoryMap → ℕ → Result (d.Dest × ℕ) OpFault
 read_three_and_store m at =
-    reads (read 1 m at) >>= (λ b0. reads (read 1 m (at + 1)) >>= (λ b1. load_by m (b0 % 16) (at + 2) >>= (λ x0. load_by m (b0 / 16) x0.1 >>= (λ x1. load_by m (b1 % 16) x1.1 >>= (λ x2. dest_by m (b1 / 16) x2.1)))))
+    instruction_read (read 1 m at) >>= (λ b0. instruction_read (read 1 m (at + 1)) >>= (λ b1. load_by m (b0 % 16) (at + 2) >>= (λ x0. load_by m (b0 / 16) x0.1 >>= (λ x1. load_by m (b1 % 16) x1.1 >>= (λ x2. dest_by m (b1 / 16) x2.1)))))
 
 pub no_three_and_store : (m : MemoryMap) (n at : ℕ) → IsErr (read_three_and_store m at) → IsErr (operands_from m n (L ∷ L ∷ L ∷ S ∷ []) at)
 unfolding modes_at operands operand
@@ -238,7 +239,7 @@ no_three_and_store m n at bad =
 -- the bytes of its modes, and then its operands
 abbrev pub read_four_and_store : MemoryMap → ℕ → Result (d.Dest × ℕ) OpFault
 read_four_and_store m at =
-    reads (read 1 m at) >>= (λ b0. reads (read 1 m (at + 1)) >>= (λ b1. reads (read 1 m (at + 2)) >>= (λ b2. load_by m (b0 % 16) (at + 3) >>= (λ x0. load_by m (b0 / 16) x0.1 >>= (λ x1. load_by m (b1 % 16) x1.1 >>= (λ x2. load_by m (b1 / 16) x2.1 >>= (λ x3. dest_by m (b2 % 16) x3.1)))))))
+    instruction_read (read 1 m at) >>= (λ b0. instruction_read (read 1 m (at + 1)) >>= (λ b1. instruction_read (read 1 m (at + 2)) >>= (λ b2. load_by m (b0 % 16) (at + 3) >>= (λ x0. load_by m (b0 / 16) x0.1 >>= (λ x1. load_by m (b1 % 16) x1.1 >>= (λ x2. load_by m (b1 / 16) x2.1 >>= (λ x3. dest_by m (b2 % 16) x3.1)))))))
 
 pub no_four_and_store : (m : MemoryMap) (n at : ℕ) → IsErr (read_four_and_store m at) → IsErr (operands_from m n (L ∷ L ∷ L ∷ L ∷ S ∷ []) at)
 unfolding modes_at operands operand
@@ -262,8 +263,8 @@ no_four_and_store m n at bad =
 
 -- an opcode that was read, and then its operands
 pub instruction_from : (m : MemoryMap) (at number place : ℕ) (o : Op) (r : Option Brief)
-    → number_at m at ≡ Ok (number, place) → op_of number ≡ Some o → number_of o ≡ number
-    → IfSome r (λ b. operands_from m (number_of o) (kinds_of o) place ≡ Ok (instr_of b))
+    → opcode_number_at m at ≡ Ok (number, place) → op_of number ≡ Some o → opcode_number o ≡ number
+    → IfSome r (λ b. operands_from m (opcode_number o) (kinds_of o) place ≡ Ok (instr_of b))
     → IfSome r (λ b. instruction_at m at ≡ Ok (instr_of b))
 unfolding instruction_at
 instruction_from m at number place o None n k e h = tt
@@ -278,11 +279,11 @@ op_in (Err e) = None
 pub same_brief : (m : MemoryMap) (at : ℕ) (o p : Op) (place next : ℕ) → OpcodeAt m at o place → OpcodeAt m at p next → IsBrief (kinds_of p) → IsBrief (kinds_of o)
 unfolding op_in
 same_brief m at o p place next here there brief =
-    let same_row : op_of (number_of p) ≡ op_of (number_of o) = ap op_in (sym there ∙ here) in
+    let same_row : op_of (opcode_number p) ≡ op_of (opcode_number o) = ap op_in (sym there ∙ here) in
     let same : Some p ≡ Some o = sym (op_of-number_of p) ∙ same_row ∙ op_of-number_of o in
     subst (λ (r : Option Op). IfSome r (λ x. IsBrief (kinds_of x))) same brief
 
 -- its operands can't be read
-pub no_instruction : (m : MemoryMap) (at : ℕ) (o : Op) (place : ℕ) → OpcodeAt m at o place → IsErr (operands_from m (number_of o) (kinds_of o) place) → IsErr (instruction_at m at)
+pub no_instruction : (m : MemoryMap) (at : ℕ) (o : Op) (place : ℕ) → OpcodeAt m at o place → IsErr (operands_from m (opcode_number o) (kinds_of o) place) → IsErr (instruction_at m at)
 unfolding instruction_at
 no_instruction m at o place here bad = rw here (rw (op_of-number_of o) bad)

@@ -5,6 +5,7 @@ use Rattle.std.proofs.Common.{drop-cons, add-one, append_assoc, append-nil}
 use Rattle.std.proofs.Math.ListN.{get_or, set, drop_of_length-le}
 use Rattle.std.proofs.lemmas.Grind.{common_steps, take-set_at}
 use Rattle.std.proofs.Common.{arith}
+use Rattle.vm_memory.specs.Chaining.{◌>>=◌}
 use Rattle.vm_memory.specs.MemoryMap.{MemoryMap}
 use Rattle.vm_memory.specs.Access.{read}
 use Rattle.vm_memory.specs.declared.fault.MemFault.{MemFault}
@@ -13,7 +14,6 @@ use Rattle.vm_operand.specs.Opcode.{loads_in, stores_in}
 use Rattle.vm_operand.specs.declared.instruction.Instr.{Instr}
 use Rattle.vm_operand.specs.declared.mode.Mode.TheVariants.{Zero}
 use Rattle.vm_operand.specs.Mode.{mode_of}
-use Rattle.vm_operand.specs.Reading.{◌>>=◌}
 use Rattle.vm_operand.specs.declared.operand.Kind.{Kind}
 use Rattle.vm_operand.specs.declared.operand.Kind.TheVariants.{Load, Store}
 use Rattle.vm_operand.specs.declared.mode.Mode.{Mode}

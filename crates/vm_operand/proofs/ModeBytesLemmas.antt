@@ -9,9 +9,9 @@ use Rattle.vm_memory.specs.MemoryMap.{MemoryMap}
 use Rattle.vm_memory.specs.Access.{read}
 use Rattle.vm_operand.specs.Opcode.{first_with}
 use Rattle.vm_operand.specs.Mode.{allowed, allows, mode_number, mode_of, modes}
-use Rattle.vm_operand.specs.Reading.{reads}
+use Rattle.vm_operand.specs.Reading.{instruction_read}
 use Rattle.vm_operand.specs.Instruction.{modes_at}
-use Rattle.vm_operand.specs.Spelling.{Operand, kind_of, mode_in, IsOperand}
+use Rattle.vm_operand.specs.Spelling.{Operand, operand_kind, mode_in, IsOperand}
 use Rattle.vm_operand.specs.Spelling.{mode_bytes}
 use Rattle.vm_operand.specs.Spelling.{Stand}
 use Rattle.vm_operand.specs.declared.operand.Kind.{Kind}
@@ -81,14 +81,14 @@ mode_was k n a e = allowed_in k n (first_with mode_number modes n) a
 
 pub modes_read : (m : MemoryMap) (p : ℕ) (os : List Operand) (spare : ℕ) → spare < 16
     → All IsOperand os → Stand m p (mode_bytes (map mode_in os) spare)
-    → modes_at m p (map kind_of os) ≡ Ok (map mode_in os)
+    → modes_at m p (map operand_kind os) ≡ Ok (map mode_in os)
 unfolding modes_at
 modes_read m p [] spare low are s = refl
 modes_read m p (o ∷ []) spare low are s =
     let n = mode_low (mode_in o) in
     let byte : ℕ = mode_number (mode_in o) + 16 * spare in
-    last_mode m p byte (kind_of o) (mode_in o) (byte_read m p byte (omega (arith, n, low)) s)
-    (mode_is (kind_of o) (mode_in o) (byte % 16) (omega (arith, n, low))
+    last_mode m p byte (operand_kind o) (mode_in o) (byte_read m p byte (omega (arith, n, low)) s)
+    (mode_is (operand_kind o) (mode_in o) (byte % 16) (omega (arith, n, low))
     (All-head IsOperand o [] are).allowed)
 modes_read m p (o ∷ q ∷ os) spare low are s =
     let n = mode_low (mode_in o) in
@@ -96,11 +96,11 @@ modes_read m p (o ∷ q ∷ os) spare low are s =
     let byte : ℕ = mode_number (mode_in o) + 16 * mode_number (mode_in q) in
     let rest : List ℕ = mode_bytes (map mode_in os) spare in
     let others : All IsOperand (q ∷ os) = All-tail IsOperand o (q ∷ os) are in
-    two_modes m p byte (kind_of o) (kind_of q) (map kind_of os) (mode_in o) (mode_in q)
+    two_modes m p byte (operand_kind o) (operand_kind q) (map operand_kind os) (mode_in o) (mode_in q)
     (byte_read m p byte (omega (arith, n, k)) (stand_first m p (byte ∷ []) rest s))
-    (mode_is (kind_of o) (mode_in o) (byte % 16) (omega (arith, n, k))
+    (mode_is (operand_kind o) (mode_in o) (byte % 16) (omega (arith, n, k))
     (All-head IsOperand o (q ∷ os) are).allowed)
-    (mode_is (kind_of q) (mode_in q) (byte / 16) (omega (arith, n, k))
+    (mode_is (operand_kind q) (mode_in q) (byte / 16) (omega (arith, n, k))
     (All-head IsOperand q os others).allowed)
     ∙ ap (after (mode_in o ∷ mode_in q ∷ []))
     (modes_read m (p + 1) os spare low (All-tail IsOperand q os others)
@@ -126,7 +126,7 @@ modes_stand m p [] ms z e =
     subst (Modes m p []) (ok_is e)
     (record { spare = 0; low = omega arith; bytes = refl; allowed = tt })
 modes_stand m p (k ∷ []) ms z e =
-    let r = bound (reads (read 1 m p)) _ ms e in
+    let r = bound (instruction_read (read 1 m p)) _ ms e in
     let s = byte_stands m p r.0 z (was_read (read 1 m p) r.0 r.1) in
     let a = bound (mode_of k (r.0 % 16)) _ ms r.2 in
     let w = mode_was k (r.0 % 16) a.0 a.1 in
@@ -138,7 +138,7 @@ modes_stand m p (k ∷ []) ms z e =
       allowed = (w.1, tt);
     })
 modes_stand m p (k ∷ j ∷ ks) ms z e =
-    let r = bound (reads (read 1 m p)) _ ms e in
+    let r = bound (instruction_read (read 1 m p)) _ ms e in
     let s = byte_stands m p r.0 z (was_read (read 1 m p) r.0 r.1) in
     let a = bound (mode_of k (r.0 % 16)) _ ms r.2 in
     let b = bound (mode_of j (r.0 / 16)) _ ms a.2 in

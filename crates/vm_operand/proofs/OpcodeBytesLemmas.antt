@@ -3,12 +3,13 @@ use Rattle.std.proofs.Common.{arith, ◌≡◌, ◌∙◌, refl, sym, ap, subst,
 use Rattle.std.proofs.Common.{◌^◌, ◌<◌, ◌≤◌, Bool, true, false, nat_lt, [], ◌∷◌, Result, Ok, Err}
 use Rattle.std.specs.List.{All}
 use Rattle.byteorder.specs.Endian.{big_bytes}
+use Rattle.vm_memory.specs.Chaining.{◌>>=◌}
 use Rattle.vm_memory.specs.MemoryMap.{MemoryMap}
 use Rattle.vm_memory.specs.Access.{read}
 use Rattle.vm_memory.specs.declared.fault.MemFault.{MemFault}
 use Rattle.vm_operand.specs.Mode.{size}
-use Rattle.vm_operand.specs.Reading.{◌>>=◌, reads}
-use Rattle.vm_operand.specs.Instruction.{number_at}
+use Rattle.vm_operand.specs.Reading.{instruction_read}
+use Rattle.vm_operand.specs.Instruction.{opcode_number_at}
 use Rattle.vm_operand.specs.Spelling.{HasWidth, opcode_bytes, Stand}
 use Rattle.vm_operand.specs.declared.fault.OpFault.{OpFault}
 use Rattle.vm_operand.specs.declared.fault.OpFault.TheVariants.{Read}
@@ -27,7 +28,7 @@ pub bound : {A B E : Type 0} (r : Result A E) (f : A → Result B E) (y : B) →
 bound (Ok x) f y h = (x, refl, h)
 bound (Err e) f y h = absurd cc
 
-pub was_read : {A : Type 0} (r : Result A MemFault) (x : A) → reads r ≡ Ok x → r ≡ Ok x
+pub was_read : {A : Type 0} (r : Result A MemFault) (x : A) → instruction_read r ≡ Ok x → r ≡ Ok x
 was_read (Ok y) x h = cc
 was_read (Err f) x h = absurd cc
 
@@ -59,40 +60,40 @@ less : (a b : ℕ) → a < b → nat_lt a b ≡ true
 less a b h = grind (arith, h)
 
 in_one : (m : MemoryMap) (at a : ℕ) → read 1 m at ≡ Ok a → a < 0x80
-    → number_at m at ≡ Ok (a, at + 1)
-unfolding number_at
+    → opcode_number_at m at ≡ Ok (a, at + 1)
+unfolding opcode_number_at
 in_one m at a e h = rw e (rw (less a 0x80 h) refl)
 
 in_two : (m : MemoryMap) (at a b : ℕ) → read 1 m at ≡ Ok a → read 1 m (at + 1) ≡ Ok b → 0x80 ≤ a
     → a < 0xC0
-    → number_at m at ≡ Ok ((a - 0x80) * 2 ^ 8 + b, at + 2)
-unfolding number_at
+    → opcode_number_at m at ≡ Ok ((a - 0x80) * 2 ^ 8 + b, at + 2)
+unfolding opcode_number_at
 in_two m at a b e f g h = rw e (rw (no_less a 0x80 g) (rw (less a 0xC0 h) (rw f refl)))
 
 in_four : (m : MemoryMap) (at a b c : ℕ) → read 1 m at ≡ Ok a → read 1 m (at + 1) ≡ Ok b
     → read 2 m (at + 2) ≡ Ok c → 0xC0 ≤ a
-    → number_at m at ≡ Ok ((a - 0xC0) * 2 ^ 24 + b * 2 ^ 16 + c, at + 4)
-unfolding number_at
+    → opcode_number_at m at ≡ Ok ((a - 0xC0) * 2 ^ 24 + b * 2 ^ 16 + c, at + 4)
+unfolding opcode_number_at
 in_four m at a b c e f g h =
     let k : 0x80 ≤ a = omega (arith, h) in
     rw e (rw (no_less a 0x80 k) (rw (no_less a 0xC0 h) (rw f (rw g refl))))
 
 no_first : (m : MemoryMap) (at : ℕ) (f : MemFault) → read 1 m at ≡ Err f
-    → number_at m at ≡ Err (Read f)
-unfolding number_at
+    → opcode_number_at m at ≡ Err (Read f)
+unfolding opcode_number_at
 no_first m at f e = rw e refl
 
 no_second : (m : MemoryMap) (at a : ℕ) (f : MemFault) (b : Bool) → read 1 m at ≡ Ok a
     → read 1 m (at + 1) ≡ Err f → 0x80 ≤ a → nat_lt a 0xC0 ≡ b
-    → number_at m at ≡ Err (Read f)
-unfolding number_at
+    → opcode_number_at m at ≡ Err (Read f)
+unfolding opcode_number_at
 no_second m at a f true e g h t = rw e (rw (no_less a 0x80 h) (rw t (rw g refl)))
 no_second m at a f false e g h t = rw e (rw (no_less a 0x80 h) (rw t (rw g refl)))
 
 no_third : (m : MemoryMap) (at a b : ℕ) (f : MemFault) → read 1 m at ≡ Ok a
     → read 1 m (at + 1) ≡ Ok b → read 2 m (at + 2) ≡ Err f → 0xC0 ≤ a
-    → number_at m at ≡ Err (Read f)
-unfolding number_at
+    → opcode_number_at m at ≡ Err (Read f)
+unfolding opcode_number_at
 no_third m at a b f e g k h =
     let l : 0x80 ≤ a = omega (arith, h) in
     rw e (rw (no_less a 0x80 l) (rw (no_less a 0xC0 h) (rw g (rw k refl))))
@@ -101,7 +102,7 @@ numbered : (n k p : ℕ) → n ≡ k → ◌≡◌ {A = Result (ℕ × ℕ) OpFa
 numbered n k p e = rw e refl
 
 pub opcode_read : (m : MemoryMap) (at n : ℕ) (w : Width) → HasWidth w n
-    → Stand m at (opcode_bytes w n) → number_at m at ≡ Ok (n, at + size w)
+    → Stand m at (opcode_bytes w n) → opcode_number_at m at ≡ Ok (n, at + size w)
 opcode_read m at n One h s =
     in_one m at n (stand_read 1 m at n (omega arith) (omega (arith, h)) s) h
 opcode_read m at n Two h s =
@@ -197,15 +198,15 @@ from_four m at a b c z e f g h =
         → a ∷ c ∷ e ∷ g ∷ [] ≡ b ∷ d ∷ f ∷ h ∷ []
     four_are i j k l = rw (i, j, k, l) refl
 
-pub opcode_stands : (m : MemoryMap) (at : ℕ) (x : ℕ × ℕ) → Bytes m → number_at m at ≡ Ok x
+pub opcode_stands : (m : MemoryMap) (at : ℕ) (x : ℕ × ℕ) → Bytes m → opcode_number_at m at ≡ Ok x
     → Opcode m at x
 opcode_stands m at x z h = first (read 1 m at) refl
   where
-    is : {y : ℕ × ℕ} → Opcode m at y → number_at m at ≡ Ok y → Opcode m at x
+    is : {y : ℕ × ℕ} → Opcode m at y → opcode_number_at m at ≡ Ok y → Opcode m at x
     is o e = subst (Opcode m at) (ok_is (sym e ∙ h)) o
 
-    gone : {f : OpFault} → number_at m at ≡ Err f → Opcode m at x
-    gone e = absurd (clash (number_at m at) e h)
+    gone : {f : OpFault} → opcode_number_at m at ≡ Err f → Opcode m at x
+    gone e = absurd (clash (opcode_number_at m at) e h)
       where
         clash : {f : OpFault} (r : Result (ℕ × ℕ) OpFault) → r ≡ Err f → r ≡ Ok x → ⊥
         clash r e f = cc

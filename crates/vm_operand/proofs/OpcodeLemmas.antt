@@ -2,7 +2,7 @@
 use Rattle.std.proofs.Common.{◌≡◌, ◌≢◌, true, false, cond, nat_eq, ℕ, Option, Some, None, refl, sym}
 use Rattle.std.proofs.Common.{List, [], ◌∷◌}
 use Rattle.std.specs.Prelude.{IfSome}
-use Rattle.vm_operand.specs.Opcode.{op_of, opcodes, number_of, first_with}
+use Rattle.vm_operand.specs.Opcode.{op_of, opcodes, opcode_number, first_with}
 use Rattle.vm_operand.specs.declared.opcode.Op.{Op}
 use Rattle.vm_operand.specs.declared.opcode.Op.TheVariants as op
 use Rattle.vm_operand.specs.declared.opcode.Math.TheVariants.{Add}
@@ -26,7 +26,7 @@ passed n k x rest other h =
     (eqb-true n k)
 
 -- the number of a row leads back to it
-pub op_of-number_of : (o : Op) → op_of (number_of o) ≡ Some o
+pub op_of-number_of : (o : Op) → op_of (opcode_number o) ≡ Some o
 unfolding op_of opcodes
 op_of-number_of (op.Math Add) = refl
 op_of-number_of (op.Math o) = refl
@@ -59,6 +59,6 @@ first_with-number number (x ∷ xs) n =
     [ true ↦ (λ e. sym (e refl)) | false ↦ (λ e. first_with-number number xs n) ]
     (eqb-true n (number x))
 
-pub number_of-op_of : (n : ℕ) → IfSome (op_of n) (λ o. number_of o ≡ n)
+pub number_of-op_of : (n : ℕ) → IfSome (op_of n) (λ o. opcode_number o ≡ n)
 unfolding op_of
-number_of-op_of n = first_with-number number_of opcodes n
+number_of-op_of n = first_with-number opcode_number opcodes n

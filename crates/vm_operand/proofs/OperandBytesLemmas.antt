@@ -8,14 +8,15 @@ use Rattle.std.proofs.Math.Seq.{set-append_seam}
 use Rattle.std.specs.List.{All}
 use Rattle.byteorder.specs.Endian.{big_bytes}
 use Rattle.byteorder.specs.Numbers.{length-bytes_high_first}
+use Rattle.vm_memory.specs.Chaining.{◌>>=◌}
 use Rattle.vm_memory.specs.MemoryMap.{MemoryMap}
 use Rattle.vm_memory.specs.Access.{read}
 use Rattle.vm_operand.specs.Opcode.{loads_in, stores_in}
 use Rattle.vm_operand.specs.Mode.{allows, size}
-use Rattle.vm_operand.specs.Reading.{◌>>=◌, reads}
+use Rattle.vm_operand.specs.Reading.{instruction_read}
 use Rattle.vm_operand.specs.Instruction.{dest_at, load_at, operand, operands, with_load}
 use Rattle.vm_operand.specs.Instruction.{with_store}
-use Rattle.vm_operand.specs.Spelling.{Operand, kind_of, mode_in, number_in, bytes_of, IsOperand}
+use Rattle.vm_operand.specs.Spelling.{Operand, operand_kind, mode_in, number_in, mode_size, IsOperand}
 use Rattle.vm_operand.specs.Spelling.{operand_bytes, load_of, dest_of, loads_of}
 use Rattle.vm_operand.specs.Spelling.{stores_of, instr, Stand}
 use Rattle.vm_operand.specs.Spelling.Operand.{Load, Store}
@@ -49,9 +50,9 @@ some_bytes Four = omega arith
 here : {A : Type 0} (x : A) (p : ℕ) → ◌≡◌ {A = Result (A × ℕ) OpFault} (Ok (x, p)) (Ok (x, p + 0))
 here x p = let z : p ≡ p + 0 = omega arith in ap (λ (n : ℕ). Ok (x, n)) z
 
-load_read : (m : MemoryMap) (mode : Mode) (p n : ℕ) → n < 256 ^ bytes_of mode
-    → Stand m p (big_bytes (bytes_of mode) n)
-    → load_at m mode p ≡ Ok (load_of m mode n, p + bytes_of mode)
+load_read : (m : MemoryMap) (mode : Mode) (p n : ℕ) → n < 256 ^ mode_size mode
+    → Stand m p (big_bytes (mode_size mode) n)
+    → load_at m mode p ≡ Ok (load_of m mode n, p + mode_size mode)
 unfolding load_at
 load_read m Zero p n h s = here (load.Value 0) p
 load_read m (Constant w) p n h s = rw (stand_read (size w) m p n (some_bytes w) h s) refl
@@ -61,8 +62,8 @@ load_read m (Local w) p n h s = rw (stand_read (size w) m p n (some_bytes w) h s
 load_read m (Ram w) p n h s = rw (stand_read (size w) m p n (some_bytes w) h s) refl
 
 dest_read : (m : MemoryMap) (mode : Mode) (p n : ℕ) → allows kind.Store mode ≡ true
-    → n < 256 ^ bytes_of mode → Stand m p (big_bytes (bytes_of mode) n)
-    → dest_at m mode p ≡ Ok (dest_of m mode n, p + bytes_of mode)
+    → n < 256 ^ mode_size mode → Stand m p (big_bytes (mode_size mode) n)
+    → dest_at m mode p ≡ Ok (dest_of m mode n, p + mode_size mode)
 unfolding dest_at
 dest_read m Zero p n a h s = here dest.Discard p
 dest_read m (Constant w) p n a h s = absurd cc
@@ -74,14 +75,14 @@ dest_read m (Ram w) p n a h s = rw (stand_read (size w) m p n (some_bytes w) h s
 -- the number in an operand's bytes
 record InBytes (m : MemoryMap) (mode : Mode) (p : ℕ) : Type 0 where
   number : ℕ
-  fits : number < 256 ^ bytes_of mode
-  bytes : Stand m p (big_bytes (bytes_of mode) number)
+  fits : number < 256 ^ mode_size mode
+  bytes : Stand m p (big_bytes (mode_size mode) number)
 
 found : (m : MemoryMap) (w : Width) (p : ℕ) {A : Type 0} (f : ℕ → Result A OpFault) (x : A)
-    → Bytes m → (reads (read (size w) m p) >>= f) ≡ Ok x
+    → Bytes m → (instruction_read (read (size w) m p) >>= f) ≡ Ok x
     → (n : ℕ) × Number w m p n
 found m w p f x z e =
-    let r = bound (reads (read (size w) m p)) f x e in
+    let r = bound (instruction_read (read (size w) m p)) f x e in
     (r.0, read_stands w m p r.0 z (was_read (read (size w) m p) r.0 r.1))
 
 load_stands : (m : MemoryMap) (mode : Mode) (p : ℕ) (x : l.Load × ℕ) → Bytes m
@@ -188,20 +189,20 @@ bytes_then m p k n rest s =
 
 pub operands_read : (m : MemoryMap) (number : ℕ) (os : List Operand) (ls : List l.Load)
     (ss : List d.Dest) (p : ℕ)
-    → length ls + loads_in (map kind_of os) ≤ 8 → length ss + stores_in (map kind_of os) ≤ 2
+    → length ls + loads_in (map operand_kind os) ≤ 8 → length ss + stores_in (map operand_kind os) ≤ 2
     → All IsOperand os → Stand m p (operand_bytes os)
-    → operands m (map kind_of os) (map mode_in os) (instr number ls ss p)
+    → operands m (map operand_kind os) (map mode_in os) (instr number ls ss p)
     ≡ Ok (instr number (ls ++ loads_of m os) (ss ++ stores_of m os) (p + length (operand_bytes os)))
 unfolding operands
 operands_read m number [] ls ss p a b are s =
     let z : p ≡ p + 0 = omega arith in
     ap Ok (same_instr (sym (append-nil ls)) (sym (append-nil ss)) z)
 operands_read m number (Load mode n ∷ os) ls ss p a b are s =
-    let k : ℕ = bytes_of mode in
+    let k : ℕ = mode_size mode in
     let o = All-head IsOperand (Load mode n) os are in
     let x : l.Load = load_of m mode n in
     let c = length-append ls (x ∷ []) in
-    first_operand m kind.Load (map kind_of os) mode (map mode_in os) (instr number ls ss p)
+    first_operand m kind.Load (map operand_kind os) mode (map mode_in os) (instr number ls ss p)
     (instr number (ls ++ x ∷ []) ss (p + k))
     (one_load m mode (instr number ls ss p) (instr number (ls ++ x ∷ []) ss (p + k)) (x, p + k)
     (load_read m mode p n o.fits (stand_first m p (big_bytes k n) (operand_bytes os) s))
@@ -211,11 +212,11 @@ operands_read m number (Load mode n ∷ os) ls ss p a b are s =
     ∙ ap Ok (same_instr (append_assoc ls (x ∷ []) (loads_of m os)) refl
     (further p k n (operand_bytes os))))
 operands_read m number (Store mode n ∷ os) ls ss p a b are s =
-    let k : ℕ = bytes_of mode in
+    let k : ℕ = mode_size mode in
     let o = All-head IsOperand (Store mode n) os are in
     let x : d.Dest = dest_of m mode n in
     let c = length-append ss (x ∷ []) in
-    first_operand m kind.Store (map kind_of os) mode (map mode_in os) (instr number ls ss p)
+    first_operand m kind.Store (map operand_kind os) mode (map mode_in os) (instr number ls ss p)
     (instr number ls (ss ++ x ∷ []) (p + k))
     (one_store m mode (instr number ls ss p) (instr number ls (ss ++ x ∷ []) (p + k)) (x, p + k)
     (dest_read m mode p n o.allowed o.fits (stand_first m p (big_bytes k n) (operand_bytes os) s))
@@ -228,23 +229,23 @@ operands_read m number (Store mode n ∷ os) ls ss p a b are s =
 -- operands that were read, of these kinds and modes
 pub record Operands (m : MemoryMap) (p : ℕ) (ks : List Kind) (ms : List Mode) : Type 0 where
   pub operands : List Operand
-  pub kinds : map kind_of operands ≡ ks
+  pub kinds : map operand_kind operands ≡ ks
   pub modes : map mode_in operands ≡ ms
   pub are : All IsOperand operands
   pub bytes : Stand m p (operand_bytes operands)
 
 with_first : (m : MemoryMap) (p : ℕ) (o : Operand) (ks : List Kind) (ms : List Mode) → IsOperand o
-    → Stand m p (big_bytes (bytes_of (mode_in o)) (number_in o))
-    → Operands m (p + bytes_of (mode_in o)) ks ms → Operands m p (kind_of o ∷ ks) (mode_in o ∷ ms)
+    → Stand m p (big_bytes (mode_size (mode_in o)) (number_in o))
+    → Operands m (p + mode_size (mode_in o)) ks ms → Operands m p (operand_kind o ∷ ks) (mode_in o ∷ ms)
 with_first m p o ks ms is s rest = record {
   operands = o ∷ rest.operands;
-  kinds = ap (λ (js : List Kind). kind_of o ∷ js) rest.kinds;
+  kinds = ap (λ (js : List Kind). operand_kind o ∷ js) rest.kinds;
   modes = ap (λ (js : List Mode). mode_in o ∷ js) rest.modes;
   are = All-cons IsOperand o rest.operands is rest.are;
-  bytes = stand_both m p (big_bytes (bytes_of (mode_in o)) (number_in o))
+  bytes = stand_both m p (big_bytes (mode_size (mode_in o)) (number_in o))
       (operand_bytes rest.operands) s
       (subst (λ (i : ℕ). Stand m (p + i) (operand_bytes rest.operands))
-      (sym (length-bytes_high_first (bytes_of (mode_in o)) (number_in o))) rest.bytes);
+      (sym (length-bytes_high_first (mode_size (mode_in o)) (number_in o))) rest.bytes);
 }
 
 pub operands_stand : (m : MemoryMap) (ks : List Kind) (ms : List Mode) (i j : Instr) → Bytes m
@@ -259,7 +260,7 @@ operands_stand m (kind.Load ∷ ks) (b ∷ ms) i j z a e =
     let x = bound (load_at m b i.next) (λ (y : l.Load × ℕ). Ok (with_load i y)) r.0 r.1 in
     let n : InBytes m b i.next = load_stands m b i.next x.0 z x.1 in
     let there = ok_is (sym x.1 ∙ load_read m b i.next n.number n.fits n.bytes) in
-    let next : r.0.next ≡ i.next + bytes_of b = ap (λ (y : Instr). y.next) (sym (ok_is x.2))
+    let next : r.0.next ≡ i.next + mode_size b = ap (λ (y : Instr). y.next) (sym (ok_is x.2))
     ∙ ap (λ (y : l.Load × ℕ). y.1) there in
     with_first m i.next (Load b n.number) ks ms (record { allowed = a.0; fits = n.fits }) n.bytes
     (subst (λ (q : ℕ). Operands m q ks ms) next (operands_stand m ks ms r.0 j z a.1 r.2))
@@ -268,7 +269,7 @@ operands_stand m (kind.Store ∷ ks) (b ∷ ms) i j z a e =
     let x = bound (dest_at m b i.next) (λ (y : d.Dest × ℕ). Ok (with_store i y)) r.0 r.1 in
     let n : InBytes m b i.next = dest_stands m b i.next x.0 a.0 z x.1 in
     let there = ok_is (sym x.1 ∙ dest_read m b i.next n.number a.0 n.fits n.bytes) in
-    let next : r.0.next ≡ i.next + bytes_of b = ap (λ (y : Instr). y.next) (sym (ok_is x.2))
+    let next : r.0.next ≡ i.next + mode_size b = ap (λ (y : Instr). y.next) (sym (ok_is x.2))
     ∙ ap (λ (y : d.Dest × ℕ). y.1) there in
     with_first m i.next (Store b n.number) ks ms (record { allowed = a.0; fits = n.fits }) n.bytes
     (subst (λ (q : ℕ). Operands m q ks ms) next (operands_stand m ks ms r.0 j z a.1 r.2))

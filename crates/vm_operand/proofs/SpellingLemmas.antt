@@ -7,12 +7,12 @@ use Rattle.std.proofs.lemmas.Bool.{leb-true}
 use Rattle.std.proofs.lemmas.List.{length-map}
 use Rattle.byteorder.specs.Numbers.{length-bytes_high_first}
 use Rattle.vm_memory.specs.MemoryMap.{MemoryMap}
-use Rattle.vm_operand.specs.Opcode.{kinds_of, loads_in, number_of, op_of, stores_in}
+use Rattle.vm_operand.specs.Opcode.{kinds_of, loads_in, opcode_number, op_of, stores_in}
 use Rattle.vm_operand.specs.Mode.{size}
-use Rattle.vm_operand.specs.Instruction.{bare, instruction_at, known, modes_at, number_at, operands}
-use Rattle.vm_operand.specs.Spelling.{kind_of, mode_in, HasWidth, Writing, IsWriting, opcode_bytes}
-use Rattle.vm_operand.specs.Spelling.{mode_bytes, operand_bytes, spelled, loads_of, stores_of}
-use Rattle.vm_operand.specs.Spelling.{instr, Stand, Spells, DecodesWhatIsSpelled}
+use Rattle.vm_operand.specs.Instruction.{bare, instruction_at, known, modes_at, opcode_number_at, operands}
+use Rattle.vm_operand.specs.Spelling.{operand_kind, mode_in, HasWidth, Writing, IsWriting, opcode_bytes}
+use Rattle.vm_operand.specs.Spelling.{mode_bytes, operand_bytes, bytes_of_writing, loads_of, stores_of}
+use Rattle.vm_operand.specs.Spelling.{instr, Stand, SpellsInstruction, DecodesWhatIsSpelled}
 use Rattle.vm_operand.specs.Spelling.{SpellsWhatIsDecoded}
 use Rattle.vm_operand.specs.declared.opcode.Op.{Op}
 use Rattle.vm_operand.specs.declared.opcode.Op.TheVariants as op
@@ -41,7 +41,7 @@ use Rattle.vm_operand.proofs.StandLemmas.{stand_both, stand_first, stand_then}
 -- ---- the table: low numbers, few operands
 
 abbrev Small : Op → Bool
-Small o = nat_lt (number_of o) 0x200 && nat_le (loads_in (kinds_of o)) 8 && nat_le
+Small o = nat_lt (opcode_number o) 0x200 && nat_le (loads_in (kinds_of o)) 8 && nat_le
     (stores_in (kinds_of o)) 2
 
 small : (o : Op) → Small o ≡ true
@@ -67,7 +67,7 @@ small (op.Search Linearsearch) = refl
 small (op.Search o) = refl
 
 record IsSmall (o : Op) : Type 0 where
-  number : number_of o < 0x200
+  number : opcode_number o < 0x200
   loads : loads_in (kinds_of o) ≤ 8
   stores : stores_in (kinds_of o) ≤ 2
 
@@ -79,7 +79,7 @@ three false b c h = cc
 
 is_small : (o : Op) → IsSmall o
 is_small o =
-    let t = three (nat_lt (number_of o) 0x200) (nat_le (loads_in (kinds_of o)) 8)
+    let t = three (nat_lt (opcode_number o) 0x200) (nat_le (loads_in (kinds_of o)) 8)
     (nat_le (stores_in (kinds_of o)) 2) (small o) in
     record {
       number = leb-true _ _ t.0;
@@ -102,7 +102,7 @@ mode_len (a ∷ b ∷ ms) spare = let e = mode_len ms spare in omega (arith, e)
 -- ---- the law
 
 decoded : (m : MemoryMap) (at n p : ℕ) (o : Op) (ms : List Mode) (i : Instr)
-    → number_at m at ≡ Ok (n, p) → known n (op_of n) ≡ Ok o → modes_at m p (kinds_of o) ≡ Ok ms
+    → opcode_number_at m at ≡ Ok (n, p) → known n (op_of n) ≡ Ok o → modes_at m p (kinds_of o) ≡ Ok ms
     → operands m (kinds_of o) ms (bare n (p + (length (kinds_of o) + 1) / 2)) ≡ Ok i
     → instruction_at m at ≡ Ok i
 unfolding instruction_at
@@ -111,7 +111,7 @@ decoded m at n p o ms i e f g h = rw e (rw f (rw g h))
 pub decodes_what_is_spelled : DecodesWhatIsSpelled
 decodes_what_is_spelled m at i s =
     let w : Writing = s.writing in
-    let n : ℕ = number_of w.op in
+    let n : ℕ = opcode_number w.op in
     let p : ℕ = at + size w.width in
     let ms : List Mode = map mode_in w.operands in
     let front : List ℕ = opcode_bytes w.width n in
@@ -123,7 +123,7 @@ decodes_what_is_spelled m at i s =
     let a = opcode_len w.width n in
     let b = mode_len ms w.spare in
     let c = ap length s.is.kinds in
-    let d = length-map w.operands kind_of in
+    let d = length-map w.operands operand_kind in
     let e = length-map w.operands mode_in in
     let whole = length-append front (middle ++ rest) in
     let half = length-append middle rest in
@@ -134,7 +134,7 @@ decodes_what_is_spelled m at i s =
     let place : p + length middle ≡ q = omega (arith, b, c, d, e) in
     let last : Stand m q rest =
     subst (λ (k : ℕ). Stand m k rest) place (stand_then m p middle rest behind) in
-    let next : q + length rest ≡ at + length (spelled w) = omega (arith, place, whole, half, a) in
+    let next : q + length rest ≡ at + length (bytes_of_writing w) = omega (arith, place, whole, half, a) in
     decoded m at n p w.op ms i
     (opcode_read m at n w.width s.is.width (stand_first m at front (middle ++ rest) s.bytes))
     (ap (known n) (op_of-number_of w.op))
@@ -149,10 +149,10 @@ decodes_what_is_spelled m at i s =
     s.is.operands last)
     ∙ ap Ok (ap (instr n (loads_of m w.operands) (stores_of m w.operands)) next ∙ sym s.reads))
 
-was_known : (n : ℕ) (o : Option Op) (x : Op) → IfSome o (λ y. number_of y ≡ n) → known n o ≡ Ok x
-    → (o ≡ Some x) × (number_of x ≡ n)
+was_known : (n : ℕ) (o : Option Op) (x : Op) → IfSome o (λ y. opcode_number y ≡ n) → known n o ≡ Ok x
+    → (o ≡ Some x) × (opcode_number x ≡ n)
 was_known n (Some y) x h e =
-    subst (λ (z : Op). (Some y ≡ Some z) × (number_of z ≡ n)) (ok_is e) (refl, h)
+    subst (λ (z : Op). (Some y ≡ Some z) × (opcode_number z ≡ n)) (ok_is e) (refl, h)
 was_known n None x h e = absurd (unknown _ _ (nat_le 0x190 n && nat_lt n 0x300) e)
   where
     unknown : (f g : OpFault) (b : Bool) → cond b (Err f) (Err g) ≡ Ok x → ⊥
@@ -165,38 +165,38 @@ has_width Two n low h = omega (arith, h)
 has_width Four n low h = omega (arith, h)
 
 spelled_so : (m : MemoryMap) (at n p : ℕ) (o : Op) (ms : List Mode) (i : Instr) → Opcode m at (n, p)
-    → number_of o ≡ n → Modes m p (kinds_of o) ms
+    → opcode_number o ≡ n → Modes m p (kinds_of o) ms
     → Operands m (p + (length (kinds_of o) + 1) / 2) (kinds_of o) ms → instruction_at m at ≡ Ok i
-    → Spells m at i
+    → SpellsInstruction m at i
 spelled_so m at n p o ms i c same f g e =
     let w : Writing = record { op = o; width = c.width; operands = g.operands; spare = f.spare } in
     let is : IsWriting w = record {
-      width = has_width c.width (number_of o)
+      width = has_width c.width (opcode_number o)
           (λ one. subst (λ (k : ℕ). k < 0x80) (sym same) (c.low one)) (is_small o).number;
       kinds = g.kinds;
       operands = g.are;
       spare = f.low;
     } in
-    let front : List ℕ = opcode_bytes c.width (number_of o) in
+    let front : List ℕ = opcode_bytes c.width (opcode_number o) in
     let middle : List ℕ = mode_bytes (map mode_in g.operands) f.spare in
     let rest : List ℕ = operand_bytes g.operands in
-    let a = opcode_len c.width (number_of o) in
+    let a = opcode_len c.width (opcode_number o) in
     let b = mode_len (map mode_in g.operands) f.spare in
     let k = ap length g.kinds in
-    let x = length-map g.operands kind_of in
+    let x = length-map g.operands operand_kind in
     let y = length-map g.operands mode_in in
     let next = c.next in
     let second : p ≡ at + length front = omega (arith, a, next) in
     let third : p + (length (kinds_of o) + 1) / 2 ≡ p + length middle = omega (arith, b, k, x, y) in
-    let bytes : Stand m at (spelled w) =
+    let bytes : Stand m at (bytes_of_writing w) =
     stand_both m at front (middle ++ rest)
     (subst (λ (j : ℕ). Stand m at (opcode_bytes c.width j)) (sym same) c.bytes)
     (subst (λ (j : ℕ). Stand m j (middle ++ rest)) second
     (stand_both m p middle rest
     (subst (λ (js : List Mode). Stand m p (mode_bytes js f.spare)) (sym g.modes) f.bytes)
     (subst (λ (j : ℕ). Stand m j rest) third g.bytes))) in
-    let j : Instr = instr (number_of o) (loads_of m g.operands) (stores_of m g.operands)
-    (at + length (spelled w)) in
+    let j : Instr = instr (opcode_number o) (loads_of m g.operands) (stores_of m g.operands)
+    (at + length (bytes_of_writing w)) in
     record {
       writing = w;
       is = is;
@@ -209,7 +209,7 @@ spelled_so m at n p o ms i c same f g e =
 pub spells_what_is_decoded : SpellsWhatIsDecoded
 unfolding instruction_at
 spells_what_is_decoded m at i z e =
-    let x = bound (number_at m at) _ i e in
+    let x = bound (opcode_number_at m at) _ i e in
     let k = bound (known x.0.0 (op_of x.0.0)) _ i x.2 in
     let v = bound (modes_at m x.0.1 (kinds_of k.0)) _ i k.2 in
     let w = was_known x.0.0 (op_of x.0.0) k.0 (number_of-op_of x.0.0) k.1 in

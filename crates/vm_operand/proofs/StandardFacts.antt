@@ -5,7 +5,7 @@ use Rattle.vm_memory.specs.declared.fault.MemFault.TheVariants.{BadRead}
 use Rattle.vm_operand.specs.Opcode.{op_of, opcodes}
 use Rattle.vm_operand.specs.Mode.{mode_of, modes}
 use Rattle.vm_operand.specs.Brief.{IsBrief}
-use Rattle.vm_operand.specs.Instruction.{number_at, modes_at, load_at, dest_at, operand, operands}
+use Rattle.vm_operand.specs.Instruction.{opcode_number_at, modes_at, load_at, dest_at, operand, operands}
 use Rattle.vm_operand.specs.Instruction.{instruction_at}
 use Rattle.vm_operand.specs.Arithmetic.{applied}
 use Rattle.vm_operand.specs.Branch.{holds}
@@ -21,7 +21,7 @@ use Rattle.vm_operand.specs.declared.fault.OpFault.{OpFault}
 use Rattle.vm_operand.specs.declared.fault.OpFault.TheVariants.{Read, BadOpcode, Unsupported}
 use Rattle.vm_operand.specs.declared.fault.OpFault.TheVariants.{BadMode, DivideByZero}
 use Rattle.vm_operand.specs.declared.fault.OpFault.TheVariants.{DivideOverflow}
-use Rattle.vm_operand.specs.Spelling.{spelled}
+use Rattle.vm_operand.specs.Spelling.{bytes_of_writing}
 use Rattle.vm_operand.specs.Spelling.Operand.{Load as OLoad, Store as OStore}
 use Rattle.vm_operand.specs.declared.opcode.Op.TheVariants as op
 use Rattle.vm_operand.specs.declared.opcode.Flow.TheVariants.{Catch}
@@ -49,27 +49,27 @@ of number loads stores next = Ok (record {
 
 -- `setiosys 2 0`
 pub setiosys : first (0x81 ∷ 0x49 ∷ 0x01 ∷ 0x02 ∷ []) ≡ of 0x149 (Value 2 ∷ Value 0 ∷ []) [] 4
-unfolding op_of opcodes mode_of modes number_at modes_at load_at dest_at operand operands
+unfolding op_of opcodes mode_of modes opcode_number_at modes_at load_at dest_at operand operands
     instruction_at
 setiosys = refl
 
 -- `glk 0x23 5 -> sp`
 pub glk : first (0x81 ∷ 0x30 ∷ 0x11 ∷ 0x08 ∷ 0x23 ∷ 0x05 ∷ []) ≡ of 0x130
     (Value 0x23 ∷ Value 5 ∷ []) (Push ∷ []) 6
-unfolding op_of opcodes mode_of modes number_at modes_at load_at dest_at operand operands
+unfolding op_of opcodes mode_of modes opcode_number_at modes_at load_at dest_at operand operands
     instruction_at
 glk = refl
 
 -- `copyb -1 -> sp`, its opcode in four bytes
 pub four_byte_opcode : first (0xC0 ∷ 0x00 ∷ 0x00 ∷ 0x42 ∷ 0x81 ∷ 0xFF ∷ []) ≡ of 0x42
     (Value 0xFFFFFFFF ∷ []) (Push ∷ []) 6
-unfolding op_of opcodes mode_of modes number_at modes_at load_at dest_at operand operands
+unfolding op_of opcodes mode_of modes opcode_number_at modes_at load_at dest_at operand operands
     instruction_at
 four_byte_opcode = refl
 
 -- a store stands first in `catch`, and offsets of RAM count from RAMSTART
 pub catch_ram : first (0x32 ∷ 0x8D ∷ 0x04 ∷ []) ≡ of 0x32 (Pop ∷ []) (At 0x104 ∷ []) 3
-unfolding op_of opcodes mode_of modes number_at modes_at load_at dest_at operand operands
+unfolding op_of opcodes mode_of modes opcode_number_at modes_at load_at dest_at operand operands
     instruction_at
 catch_ram = refl
 
@@ -79,7 +79,7 @@ pub faults_in_order :
     (0x17 ∷ []) ∷ (0x81 ∷ 0x90 ∷ []) ∷ [])
     ≡ Err (BadMode 4) ∷ Err (Read (BadRead 2)) ∷ Err (Read (BadRead 1)) ∷ Err (BadMode 1) ∷ Err
     (BadOpcode 0x17) ∷ Err (Unsupported 0x190) ∷ []
-unfolding op_of opcodes mode_of modes number_at modes_at load_at dest_at operand operands
+unfolding op_of opcodes mode_of modes opcode_number_at modes_at load_at dest_at operand operands
     instruction_at
 faults_in_order = refl
 
@@ -122,7 +122,7 @@ in_brief = record { some = omega arith; few = omega arith; one = omega arith; or
 
 -- the same three instructions in writing: `glk 0x23 5 -> sp`, `copyb -1 -> sp` and `catch`
 pub glk_spelled :
-    spelled (record {
+    bytes_of_writing (record {
       op = op.System Glk;
       width = width.Two;
       operands =
@@ -134,7 +134,7 @@ pub glk_spelled :
 glk_spelled = refl
 
 pub copyb_spelled :
-    spelled (record {
+    bytes_of_writing (record {
       op = op.Move Copyb;
       width = width.Four;
       operands = OLoad (mode.Constant width.One) 0xFF ∷ OStore mode.Stack 0 ∷ [];
@@ -144,7 +144,7 @@ pub copyb_spelled :
 copyb_spelled = refl
 
 pub catch_spelled :
-    spelled (record {
+    bytes_of_writing (record {
       op = op.Flow Catch;
       width = width.One;
       operands = OStore (mode.Ram width.One) 4 ∷ OLoad mode.Stack 0 ∷ [];

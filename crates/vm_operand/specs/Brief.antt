@@ -1,11 +1,12 @@
 -- Instructions of at most four loads and then at most one store (own).
 use Rattle.std.specs.Prelude.{◌≡◌, ◌≤◌, ℕ, Ok, ◌+◌, ◌/◌, List, [], ◌∷◌}
 use Rattle.std.specs.Prelude.{◌++◌, length, replicate, Result}
+use Rattle.vm_memory.specs.Chaining.{◌>>=◌}
 use Rattle.vm_memory.specs.MemoryMap.{MemoryMap}
-use Rattle.vm_operand.specs.Opcode.{number_of, loads_in, stores_in}
+use Rattle.vm_operand.specs.Opcode.{opcode_number, loads_in, stores_in}
 use Rattle.vm_operand.specs.Mode.{mode_of}
-use Rattle.vm_operand.specs.Instruction.{bare, dest_at, load_at, modes_at, number_at, operands}
-use Rattle.vm_operand.specs.Reading.{◌>>=◌}
+use Rattle.vm_operand.specs.Instruction.{bare, dest_at, load_at, modes_at, opcode_number_at}
+use Rattle.vm_operand.specs.Instruction.{operands}
 use Rattle.vm_operand.specs.declared.brief.Brief.{Brief}
 use Rattle.vm_operand.specs.declared.fault.OpFault.{OpFault}
 use Rattle.vm_operand.specs.declared.opcode.Op.{Op}
@@ -29,7 +30,7 @@ pub record IsBrief (kinds : List Kind) : Type 0 where
 -- the instruction in full
 abbrev pub instr_of : Brief → Instr
 instr_of b = record {
-  op = number_of b.op;
+  op = opcode_number b.op;
   loads = record {
     count = b.loads;
     items = b.first ∷ b.second ∷ b.third ∷ b.fourth ∷ replicate 4 (load.Value 0);
@@ -48,7 +49,7 @@ dest_by m n at = mode_of kind.Store n >>= (λ mode. dest_at m mode at)
 
 -- this opcode stands at a place, and its operands' modes begin at the other
 abbrev pub OpcodeAt : MemoryMap → ℕ → Op → ℕ → Type 0
-OpcodeAt m at op place = number_at m at ≡ Ok (number_of op, place)
+OpcodeAt m at op place = opcode_number_at m at ≡ Ok (opcode_number op, place)
 
 -- the instruction of this number with these operands, whose modes begin at a place
 abbrev pub operands_from : MemoryMap → ℕ → List Kind → ℕ → Result Instr OpFault

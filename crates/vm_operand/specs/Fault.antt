@@ -8,15 +8,15 @@ use Rattle.vm_operand.specs.declared.fault.OpFault.TheVariants.{BadMode, DivideB
 use Rattle.vm_operand.specs.declared.fault.OpFault.TheVariants.{DivideOverflow}
 
 -- a memory's fault keeps its number
-abbrev pub code_of : OpFault → ℕ
-code_of (Read fault) = memory.code_of fault
-code_of (BadOpcode n) = f.BAD_OPCODE
-code_of (Unsupported n) = f.UNSUPPORTED_OPCODE
-code_of (BadMode n) = f.BAD_MODE
-code_of DivideByZero = f.DIVISION_BY_ZERO
-code_of DivideOverflow = f.DIVISION_OVERFLOW
+abbrev pub operation_fault_code : OpFault → ℕ
+operation_fault_code (Read fault) = memory.code_of fault
+operation_fault_code (BadOpcode n) = f.BAD_OPCODE
+operation_fault_code (Unsupported n) = f.UNSUPPORTED_OPCODE
+operation_fault_code (BadMode n) = f.BAD_MODE
+operation_fault_code DivideByZero = f.DIVISION_BY_ZERO
+operation_fault_code DivideOverflow = f.DIVISION_OVERFLOW
 
 -- what a call gives, with its fault as a number
-abbrev pub coded : {A : Type 0} → Result A OpFault → Result A ℕ
-coded (Ok x) = Ok x
-coded (Err f) = Err (code_of f)
+abbrev pub operation_coded : {A : Type 0} → Result A OpFault → Result A ℕ
+operation_coded (Ok x) = Ok x
+operation_coded (Err f) = Err (operation_fault_code f)

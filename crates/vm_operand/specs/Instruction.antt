@@ -2,11 +2,12 @@
 use Rattle.std.specs.Prelude.{ℕ, ◌+◌, ◌-◌, ◌*◌, ◌/◌, ◌%◌, ◌^◌, nat_lt}
 use Rattle.std.specs.Prelude.{nat_le, ◌&&◌, if◌then◌else◌, List, [], ◌∷◌, length}
 use Rattle.std.specs.Prelude.{replicate, slice_set, Option, Some, None, Result, Ok, Err}
+use Rattle.vm_memory.specs.Chaining.{◌>>=◌}
 use Rattle.vm_memory.specs.MemoryMap.{MemoryMap}
 use Rattle.vm_memory.specs.Access.{read}
 use Rattle.vm_operand.specs.Opcode.{op_of, kinds_of}
 use Rattle.vm_operand.specs.Mode.{size, mode_of}
-use Rattle.vm_operand.specs.Reading.{◌>>=◌, reads}
+use Rattle.vm_operand.specs.Reading.{instruction_read}
 use Rattle.vm_operand.specs.declared.opcode.Op.{Op}
 use Rattle.vm_operand.specs.declared.operand.Kind as k
 use Rattle.vm_operand.specs.declared.operand.Kind.TheVariants as kind
@@ -25,16 +26,16 @@ use Rattle.vm_operand.specs.declared.mode.Width.TheVariants.{One, Two, Four}
 
 -- the opcode's number and the place after it: a first byte from 0x80 on has one more byte, from
 -- 0xC0 on three more
-unfoldable pub number_at : MemoryMap → ℕ → Result (ℕ × ℕ) OpFault
-number_at m at = do
-  first ← reads (read 1 m at)
+unfoldable pub opcode_number_at : MemoryMap → ℕ → Result (ℕ × ℕ) OpFault
+opcode_number_at m at = do
+  first ← instruction_read (read 1 m at)
   if nat_lt first 0x80 then Ok (first, at + 1)
       else (if nat_lt first 0xC0 then (do
-        last ← reads (read 1 m (at + 1))
+        last ← instruction_read (read 1 m (at + 1))
         Ok ((first - 0x80) * 2 ^ 8 + last, at + 2))
       else (do
-        second ← reads (read 1 m (at + 1))
-        last ← reads (read 2 m (at + 2))
+        second ← instruction_read (read 1 m (at + 1))
+        last ← instruction_read (read 2 m (at + 2))
         Ok ((first - 0xC0) * 2 ^ 24 + second * 2 ^ 16 + last, at + 4)))
 
 -- the opcode of a number, or what is wrong with it
@@ -47,37 +48,37 @@ known n None = if nat_le 0x190 n && nat_lt n 0x300 then Err (Unsupported n) else
 unfoldable pub modes_at : MemoryMap → ℕ → List k.Kind → Result (List Mode) OpFault
 modes_at m at [] = Ok []
 modes_at m at (kind ∷ []) = do
-  byte ← reads (read 1 m at)
+  byte ← instruction_read (read 1 m at)
   mode ← mode_of kind (byte % 16)
   Ok (mode ∷ [])
 modes_at m at (first ∷ second ∷ kinds) = do
-  byte ← reads (read 1 m at)
+  byte ← instruction_read (read 1 m at)
   low ← mode_of first (byte % 16)
   high ← mode_of second (byte / 16)
   modes ← modes_at m (at + 1) kinds
   Ok (low ∷ high ∷ modes)
 
 -- a number of so many bytes with its sign carried to four
-abbrev pub extended : Width → ℕ → ℕ
-extended One x = if nat_lt x 0x80 then x else x + 0xFFFFFF00
-extended Two x = if nat_lt x 0x8000 then x else x + 0xFFFF0000
-extended Four x = x
+abbrev pub with_sign_carried : Width → ℕ → ℕ
+with_sign_carried One x = if nat_lt x 0x80 then x else x + 0xFFFFFF00
+with_sign_carried Two x = if nat_lt x 0x8000 then x else x + 0xFFFF0000
+with_sign_carried Four x = x
 
 -- a load by its mode, and the place after its bytes
 unfoldable pub load_at : MemoryMap → Mode → ℕ → Result (l.Load × ℕ) OpFault
 load_at m Zero at = Ok (load.Value 0, at)
 load_at m (Constant w) at = do
-  x ← reads (read (size w) m at)
-  Ok (load.Value (extended w x), at + size w)
+  x ← instruction_read (read (size w) m at)
+  Ok (load.Value (with_sign_carried w x), at + size w)
 load_at m (Address w) at = do
-  x ← reads (read (size w) m at)
+  x ← instruction_read (read (size w) m at)
   Ok (load.At x, at + size w)
 load_at m Stack at = Ok (load.Pop, at)
 load_at m (Local w) at = do
-  x ← reads (read (size w) m at)
+  x ← instruction_read (read (size w) m at)
   Ok (load.Local x, at + size w)
 load_at m (Ram w) at = do
-  x ← reads (read (size w) m at)
+  x ← instruction_read (read (size w) m at)
   Ok (load.At ((m.ramstart + x) % 2 ^ 32), at + size w)
 
 -- a store by its mode, which is no constant, and the place after its bytes
@@ -85,14 +86,14 @@ unfoldable pub dest_at : MemoryMap → Mode → ℕ → Result (d.Dest × ℕ) O
 dest_at m Zero at = Ok (dest.Discard, at)
 dest_at m (Constant w) at = Ok (dest.Discard, at)
 dest_at m (Address w) at = do
-  x ← reads (read (size w) m at)
+  x ← instruction_read (read (size w) m at)
   Ok (dest.At x, at + size w)
 dest_at m Stack at = Ok (dest.Push, at)
 dest_at m (Local w) at = do
-  x ← reads (read (size w) m at)
+  x ← instruction_read (read (size w) m at)
   Ok (dest.Local x, at + size w)
 dest_at m (Ram w) at = do
-  x ← reads (read (size w) m at)
+  x ← instruction_read (read (size w) m at)
   Ok (dest.At ((m.ramstart + x) % 2 ^ 32), at + size w)
 
 -- an instruction with one more load, or store
@@ -139,7 +140,7 @@ bare number next = record {
 -- the instruction at a place, or the first fault: the opcode, then all modes, then the operands
 unfoldable pub instruction_at : MemoryMap → ℕ → Result Instr OpFault
 instruction_at m at = do
-  number ← number_at m at
+  number ← opcode_number_at m at
   op ← known number.0 (op_of number.0)
   modes ← modes_at m number.1 (kinds_of op)
   operands m (kinds_of op) modes (bare number.0 (number.1 + (length (kinds_of op) + 1) / 2))

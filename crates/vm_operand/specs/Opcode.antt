@@ -42,16 +42,16 @@ use Rattle.vm_operand.specs.declared.opcode.Search.TheVariants.{Linkedsearch, Mz
 use Rattle.vm_operand.specs.declared.opcode.Search.TheVariants.{Mfree}
 
 -- a row of the table: the number, and the operands in the order of their bytes, L a load, S a store
-pub record Row : Type 0 where
+pub record OpcodeRow : Type 0 where
   pub number : ℕ
   pub kinds : List Kind
 
 -- a row of these
-abbrev row : ℕ → List Kind → Row
+abbrev row : ℕ → List Kind → OpcodeRow
 row n ks = record { number = n; kinds = ks }
 
 -- Integer Math
-abbrev pub math_row : Math → Row
+abbrev pub math_row : Math → OpcodeRow
 math_row Add = row 0x10 (L ∷ L ∷ S ∷ [])
 math_row Sub = row 0x11 (L ∷ L ∷ S ∷ [])
 math_row Mul = row 0x12 (L ∷ L ∷ S ∷ [])
@@ -67,7 +67,7 @@ math_row Sshiftr = row 0x1D (L ∷ L ∷ S ∷ [])
 math_row Ushiftr = row 0x1E (L ∷ L ∷ S ∷ [])
 
 -- Branches
-abbrev pub branch_row : Branch → Row
+abbrev pub branch_row : Branch → OpcodeRow
 branch_row Jump = row 0x20 (L ∷ [])
 branch_row Jz = row 0x22 (L ∷ L ∷ [])
 branch_row Jnz = row 0x23 (L ∷ L ∷ [])
@@ -84,7 +84,7 @@ branch_row Jleu = row 0x2D (L ∷ L ∷ L ∷ [])
 branch_row Jumpabs = row 0x104 (L ∷ [])
 
 -- Functions, and Continuations
-abbrev pub flow_row : Flow → Row
+abbrev pub flow_row : Flow → OpcodeRow
 flow_row Call = row 0x30 (L ∷ L ∷ S ∷ [])
 flow_row Return = row 0x31 (L ∷ [])
 flow_row Catch = row 0x32 (S ∷ L ∷ [])
@@ -96,7 +96,7 @@ flow_row Callfii = row 0x162 (L ∷ L ∷ L ∷ S ∷ [])
 flow_row Callfiii = row 0x163 (L ∷ L ∷ L ∷ L ∷ S ∷ [])
 
 -- Moving Data
-abbrev pub move_row : Move → Row
+abbrev pub move_row : Move → OpcodeRow
 move_row Copy = row 0x40 (L ∷ S ∷ [])
 move_row Copys = row 0x41 (L ∷ S ∷ [])
 move_row Copyb = row 0x42 (L ∷ S ∷ [])
@@ -104,7 +104,7 @@ move_row Sexs = row 0x44 (L ∷ S ∷ [])
 move_row Sexb = row 0x45 (L ∷ S ∷ [])
 
 -- Array Data
-abbrev pub array_row : Array → Row
+abbrev pub array_row : Array → OpcodeRow
 array_row Aload = row 0x48 (L ∷ L ∷ S ∷ [])
 array_row Aloads = row 0x49 (L ∷ L ∷ S ∷ [])
 array_row Aloadb = row 0x4A (L ∷ L ∷ S ∷ [])
@@ -115,7 +115,7 @@ array_row Astoreb = row 0x4E (L ∷ L ∷ L ∷ [])
 array_row Astorebit = row 0x4F (L ∷ L ∷ L ∷ [])
 
 -- The Stack
-abbrev pub values_row : Values → Row
+abbrev pub values_row : Values → OpcodeRow
 values_row Stkcount = row 0x50 (S ∷ [])
 values_row Stkpeek = row 0x51 (L ∷ S ∷ [])
 values_row Stkswap = row 0x52 []
@@ -123,7 +123,7 @@ values_row Stkroll = row 0x53 (L ∷ L ∷ [])
 values_row Stkcopy = row 0x54 (L ∷ [])
 
 -- Output
-abbrev pub stream_row : Stream → Row
+abbrev pub stream_row : Stream → OpcodeRow
 stream_row Streamchar = row 0x70 (L ∷ [])
 stream_row Streamnum = row 0x71 (L ∷ [])
 stream_row Streamstr = row 0x72 (L ∷ [])
@@ -134,7 +134,7 @@ stream_row Getiosys = row 0x148 (S ∷ S ∷ [])
 stream_row Setiosys = row 0x149 (L ∷ L ∷ [])
 
 -- Game State
-abbrev pub state_row : State → Row
+abbrev pub state_row : State → OpcodeRow
 state_row Quit = row 0x120 []
 state_row Verify = row 0x121 (S ∷ [])
 state_row Restart = row 0x122 []
@@ -147,7 +147,7 @@ state_row Hasundo = row 0x128 (S ∷ [])
 state_row Discardundo = row 0x129 []
 
 -- Memory Map, Random Number Generator, Accelerated Functions, and Miscellaneous
-abbrev pub system_row : System → Row
+abbrev pub system_row : System → OpcodeRow
 system_row Nop = row 0x00 []
 system_row Gestalt = row 0x100 (L ∷ L ∷ S ∷ [])
 system_row Debugtrap = row 0x101 (L ∷ [])
@@ -160,7 +160,7 @@ system_row Accelfunc = row 0x180 (L ∷ L ∷ [])
 system_row Accelparam = row 0x181 (L ∷ L ∷ [])
 
 -- Searching, Block Copy and Clear, and Memory Allocation Heap
-abbrev pub search_row : Search → Row
+abbrev pub search_row : Search → OpcodeRow
 search_row Linearsearch = row 0x150 (L ∷ L ∷ L ∷ L ∷ L ∷ L ∷ L ∷ S ∷ [])
 search_row Binarysearch = row 0x151 (L ∷ L ∷ L ∷ L ∷ L ∷ L ∷ L ∷ S ∷ [])
 search_row Linkedsearch = row 0x152 (L ∷ L ∷ L ∷ L ∷ L ∷ L ∷ S ∷ [])
@@ -170,7 +170,7 @@ search_row Malloc = row 0x178 (L ∷ S ∷ [])
 search_row Mfree = row 0x179 (L ∷ [])
 
 -- an opcode's row
-abbrev pub row_of : Op → Row
+abbrev pub row_of : Op → OpcodeRow
 row_of (op.Math o) = math_row o
 row_of (op.Branch o) = branch_row o
 row_of (op.Flow o) = flow_row o
@@ -183,8 +183,8 @@ row_of (op.System o) = system_row o
 row_of (op.Search o) = search_row o
 
 -- an opcode's number
-abbrev pub number_of : Op → ℕ
-number_of o = (row_of o).number
+abbrev pub opcode_number : Op → ℕ
+opcode_number o = (row_of o).number
 
 -- an opcode's operands
 abbrev pub kinds_of : Op → List Kind
@@ -219,7 +219,7 @@ first_with number (x ∷ xs) n = cond (n == number x) (Some x) (first_with numbe
 
 -- the opcode of a number
 unfoldable pub op_of : ℕ → Option Op
-op_of n = first_with number_of opcodes n
+op_of n = first_with opcode_number opcodes n
 
 -- how many are loads
 abbrev pub loads_in : List Kind → ℕ

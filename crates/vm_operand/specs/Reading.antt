@@ -4,13 +4,7 @@ use Rattle.vm_operand.specs.declared.fault.OpFault.{OpFault}
 use Rattle.vm_operand.specs.declared.fault.OpFault.TheVariants.{Read}
 use Rattle.vm_memory.specs.declared.fault.MemFault.{MemFault}
 
--- a step and then the next; the first error ends them
-infixl 10 ◌>>=◌
-abbrev pub ◌>>=◌ : {A B E : Type 0} → Result A E → (A → Result B E) → Result B E
-(Ok x) >>= f = f x
-(Err e) >>= f = Err e
-
 -- a read of memory, with its fault as one of an instruction
-abbrev pub reads : {A : Type 0} → Result A MemFault → Result A OpFault
-reads (Ok x) = Ok x
-reads (Err e) = Err (Read e)
+abbrev pub instruction_read : {A : Type 0} → Result A MemFault → Result A OpFault
+instruction_read (Ok x) = Ok x
+instruction_read (Err e) = Err (Read e)

@@ -5,9 +5,9 @@ use Rattle.std.specs.Prelude.{length, map, take, drop, replicate, Ok}
 use Rattle.std.specs.List.{All}
 use Rattle.byteorder.specs.Endian.{big_bytes}
 use Rattle.vm_memory.specs.MemoryMap.{MemoryMap}
-use Rattle.vm_operand.specs.Opcode.{kinds_of, number_of}
+use Rattle.vm_operand.specs.Opcode.{kinds_of, opcode_number}
 use Rattle.vm_operand.specs.Mode.{allows, mode_number, size}
-use Rattle.vm_operand.specs.Instruction.{extended, instruction_at}
+use Rattle.vm_operand.specs.Instruction.{with_sign_carried, instruction_at}
 use Rattle.vm_operand.specs.declared.opcode.Op.{Op}
 use Rattle.vm_operand.specs.declared.operand.Kind.{Kind}
 use Rattle.vm_operand.specs.declared.operand.Kind.TheVariants as kind
@@ -27,9 +27,9 @@ pub data Operand : Type 0 where
   Load : Mode → ℕ → Operand
   Store : Mode → ℕ → Operand
 
-abbrev pub kind_of : Operand → Kind
-kind_of (Load mode n) = kind.Load
-kind_of (Store mode n) = kind.Store
+abbrev pub operand_kind : Operand → Kind
+operand_kind (Load mode n) = kind.Load
+operand_kind (Store mode n) = kind.Store
 
 abbrev pub mode_in : Operand → Mode
 mode_in (Load mode n) = mode
@@ -40,18 +40,18 @@ number_in (Load mode n) = n
 number_in (Store mode n) = n
 
 -- how many bytes an operand of a mode has
-abbrev pub bytes_of : Mode → ℕ
-bytes_of Zero = 0
-bytes_of (Constant w) = size w
-bytes_of (Address w) = size w
-bytes_of Stack = 0
-bytes_of (Local w) = size w
-bytes_of (Ram w) = size w
+abbrev pub mode_size : Mode → ℕ
+mode_size Zero = 0
+mode_size (Constant w) = size w
+mode_size (Address w) = size w
+mode_size Stack = 0
+mode_size (Local w) = size w
+mode_size (Ram w) = size w
 
 -- the operand may have the mode, and the number fits
 pub record IsOperand (o : Operand) : Type 0 where
-  pub allowed : allows (kind_of o) (mode_in o) ≡ true
-  pub fits : number_in o < 256 ^ bytes_of (mode_in o)
+  pub allowed : allows (operand_kind o) (mode_in o) ≡ true
+  pub fits : number_in o < 256 ^ mode_size (mode_in o)
 
 -- an instruction in writing: how many bytes its opcode has, the operands, and what stands in the
 -- half of a byte of modes that no operand has
@@ -68,8 +68,8 @@ HasWidth Two n = n < 0x4000
 HasWidth Four n = n < 0x10000000
 
 pub record IsWriting (w : Writing) : Type 0 where
-  pub width : HasWidth w.width (number_of w.op)
-  pub kinds : map kind_of w.operands ≡ kinds_of w.op
+  pub width : HasWidth w.width (opcode_number w.op)
+  pub kinds : map operand_kind w.operands ≡ kinds_of w.op
   pub operands : All IsOperand w.operands
   pub spare : w.spare < 16
 
@@ -89,17 +89,17 @@ mode_bytes (first ∷ second ∷ modes) spare =
 -- the operands' bytes
 abbrev pub operand_bytes : List Operand → List ℕ
 operand_bytes [] = []
-operand_bytes (o ∷ os) = big_bytes (bytes_of (mode_in o)) (number_in o) ++ operand_bytes os
+operand_bytes (o ∷ os) = big_bytes (mode_size (mode_in o)) (number_in o) ++ operand_bytes os
 
-abbrev pub spelled : Writing → List ℕ
-spelled w =
-    opcode_bytes w.width (number_of w.op)
+abbrev pub bytes_of_writing : Writing → List ℕ
+bytes_of_writing w =
+    opcode_bytes w.width (opcode_number w.op)
     ++ (mode_bytes (map mode_in w.operands) w.spare ++ operand_bytes w.operands)
 
 -- where a load of this mode and number finds its value, and where a store puts it
 abbrev pub load_of : MemoryMap → Mode → ℕ → l.Load
 load_of m Zero n = load.Value 0
-load_of m (Constant w) n = load.Value (extended w n)
+load_of m (Constant w) n = load.Value (with_sign_carried w n)
 load_of m (Address w) n = load.At n
 load_of m Stack n = load.Pop
 load_of m (Local w) n = load.Local n
@@ -144,22 +144,23 @@ abbrev pub Stand : MemoryMap → ℕ → List ℕ → Type 0
 Stand m at bytes = take (length bytes) (drop at m.bytes) ≡ bytes
 
 -- the bytes at an address spell an instruction
-pub record Spells (m : MemoryMap) (at : ℕ) (i : Instr) : Type 0 where
+pub record SpellsInstruction (m : MemoryMap) (at : ℕ) (i : Instr) : Type 0 where
   pub writing : Writing
   pub is : IsWriting writing
-  pub bytes : Stand m at (spelled writing)
+  pub bytes : Stand m at (bytes_of_writing writing)
   pub reads :
       i
-      ≡ instr (number_of writing.op) (loads_of m writing.operands) (stores_of m writing.operands)
-      (at + length (spelled writing))
+      ≡ instr (opcode_number writing.op) (loads_of m writing.operands)
+      (stores_of m writing.operands)
+      (at + length (bytes_of_writing writing))
 
 -- what is spelled is decoded so
 abbrev pub DecodesWhatIsSpelled : Type 0
 DecodesWhatIsSpelled =
-    (m : MemoryMap) (at : ℕ) (i : Instr) → Spells m at i → instruction_at m at ≡ Ok i
+    (m : MemoryMap) (at : ℕ) (i : Instr) → SpellsInstruction m at i → instruction_at m at ≡ Ok i
 
 -- and what is decoded is spelled so
 abbrev pub SpellsWhatIsDecoded : Type 0
 SpellsWhatIsDecoded =
     (m : MemoryMap) (at : ℕ) (i : Instr) → All (λ byte. byte < 256) m.bytes
-    → instruction_at m at ≡ Ok i → Spells m at i
+    → instruction_at m at ≡ Ok i → SpellsInstruction m at i

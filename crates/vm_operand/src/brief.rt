@@ -5,7 +5,7 @@ ghost use Rattle.std.specs.Prelude.{IsErr, IfSome, MatchOption};
 ghost use Rattle.vm_operand.specs.Brief as spec;
 ghost use Rattle.vm_operand.specs.Brief.{IsBrief, instr_of, operands_from};
 ghost use Rattle.vm_operand.specs.Instruction.{instruction_at};
-ghost use Rattle.vm_operand.specs.Opcode.{kinds_of, number_of};
+ghost use Rattle.vm_operand.specs.Opcode.{kinds_of, opcode_number};
 ghost use Rattle.vm_operand.specs.declared.opcode.Op.{Op};
 ghost use Rattle.vm_operand.specs.declared.operand.Kind.TheVariants as kind;
 
@@ -35,10 +35,10 @@ pub struct Brief {
 fn one(memory: &Memory<'_>, op: Op, place: u32) -> Option<Brief>
     requires { place ≤ MAX_SIZE }
     ensures value { IfSome result (λ b.
-        operands_from memory.now (number_of op)
+        operands_from memory.now (opcode_number op)
         (kind.Load ∷ []) place ≡ Ok (instr_of b)) }
     ensures none { result ≡ None → IsErr (
-        operands_from memory.now (number_of op)
+        operands_from memory.now (opcode_number op)
         (kind.Load ∷ []) place) }
     ensures few { IfSome result (λ b. b.loads ≡ 1) }
 {
@@ -62,10 +62,10 @@ fn one(memory: &Memory<'_>, op: Op, place: u32) -> Option<Brief>
 fn one_and_store(memory: &Memory<'_>, op: Op, place: u32) -> Option<Brief>
     requires { place ≤ MAX_SIZE }
     ensures value { IfSome result (λ b.
-        operands_from memory.now (number_of op)
+        operands_from memory.now (opcode_number op)
         (kind.Load ∷ kind.Store ∷ []) place ≡ Ok (instr_of b)) }
     ensures none { result ≡ None → IsErr (
-        operands_from memory.now (number_of op)
+        operands_from memory.now (opcode_number op)
         (kind.Load ∷ kind.Store ∷ []) place) }
     ensures few { IfSome result (λ b. b.loads ≡ 1) }
 {
@@ -90,10 +90,10 @@ fn one_and_store(memory: &Memory<'_>, op: Op, place: u32) -> Option<Brief>
 fn two(memory: &Memory<'_>, op: Op, place: u32) -> Option<Brief>
     requires { place ≤ MAX_SIZE }
     ensures value { IfSome result (λ b.
-        operands_from memory.now (number_of op)
+        operands_from memory.now (opcode_number op)
         (kind.Load ∷ kind.Load ∷ []) place ≡ Ok (instr_of b)) }
     ensures none { result ≡ None → IsErr (
-        operands_from memory.now (number_of op)
+        operands_from memory.now (opcode_number op)
         (kind.Load ∷ kind.Load ∷ []) place) }
     ensures few { IfSome result (λ b. b.loads ≡ 2) }
 {
@@ -118,10 +118,10 @@ fn two(memory: &Memory<'_>, op: Op, place: u32) -> Option<Brief>
 fn two_and_store(memory: &Memory<'_>, op: Op, place: u32) -> Option<Brief>
     requires { place ≤ MAX_SIZE }
     ensures value { IfSome result (λ b.
-        operands_from memory.now (number_of op)
+        operands_from memory.now (opcode_number op)
         (kind.Load ∷ kind.Load ∷ kind.Store ∷ []) place ≡ Ok (instr_of b)) }
     ensures none { result ≡ None → IsErr (
-        operands_from memory.now (number_of op)
+        operands_from memory.now (opcode_number op)
         (kind.Load ∷ kind.Load ∷ kind.Store ∷ []) place) }
     ensures few { IfSome result (λ b. b.loads ≡ 2) }
 {
@@ -148,10 +148,10 @@ fn two_and_store(memory: &Memory<'_>, op: Op, place: u32) -> Option<Brief>
 fn three(memory: &Memory<'_>, op: Op, place: u32) -> Option<Brief>
     requires { place ≤ MAX_SIZE }
     ensures value { IfSome result (λ b.
-        operands_from memory.now (number_of op)
+        operands_from memory.now (opcode_number op)
         (kind.Load ∷ kind.Load ∷ kind.Load ∷ []) place ≡ Ok (instr_of b)) }
     ensures none { result ≡ None → IsErr (
-        operands_from memory.now (number_of op)
+        operands_from memory.now (opcode_number op)
         (kind.Load ∷ kind.Load ∷ kind.Load ∷ []) place) }
     ensures few { IfSome result (λ b. b.loads ≡ 3) }
 {
@@ -178,10 +178,10 @@ fn three(memory: &Memory<'_>, op: Op, place: u32) -> Option<Brief>
 fn three_and_store(memory: &Memory<'_>, op: Op, place: u32) -> Option<Brief>
     requires { place ≤ MAX_SIZE }
     ensures value { IfSome result (λ b.
-        operands_from memory.now (number_of op)
+        operands_from memory.now (opcode_number op)
         (kind.Load ∷ kind.Load ∷ kind.Load ∷ kind.Store ∷ []) place ≡ Ok (instr_of b)) }
     ensures none { result ≡ None → IsErr (
-        operands_from memory.now (number_of op)
+        operands_from memory.now (opcode_number op)
         (kind.Load ∷ kind.Load ∷ kind.Load ∷ kind.Store ∷ []) place) }
     ensures few { IfSome result (λ b. b.loads ≡ 3) }
 {
@@ -209,11 +209,11 @@ fn three_and_store(memory: &Memory<'_>, op: Op, place: u32) -> Option<Brief>
 fn four_and_store(memory: &Memory<'_>, op: Op, place: u32) -> Option<Brief>
     requires { place ≤ MAX_SIZE }
     ensures value { IfSome result (λ b.
-        operands_from memory.now (number_of op)
+        operands_from memory.now (opcode_number op)
         (kind.Load ∷ kind.Load ∷ kind.Load ∷ kind.Load ∷ kind.Store ∷ []) place
         ≡ Ok (instr_of b)) }
     ensures none { result ≡ None → IsErr (
-        operands_from memory.now (number_of op)
+        operands_from memory.now (opcode_number op)
         (kind.Load ∷ kind.Load ∷ kind.Load ∷ kind.Load ∷ kind.Store ∷ []) place) }
     ensures few { IfSome result (λ b. b.loads ≡ 4) }
 {
@@ -243,9 +243,9 @@ fn four_and_store(memory: &Memory<'_>, op: Op, place: u32) -> Option<Brief>
 fn operands_of(memory: &Memory<'_>, op: Op, place: u32) -> Option<Brief>
     requires { place ≤ MAX_SIZE }
     ensures value { IfSome result (λ b.
-        operands_from memory.now (number_of op) (kinds_of op) place ≡ Ok (instr_of b)) }
+        operands_from memory.now (opcode_number op) (kinds_of op) place ≡ Ok (instr_of b)) }
     ensures none { result ≡ None → IsBrief (kinds_of op)
-        → IsErr (operands_from memory.now (number_of op) (kinds_of op) place) }
+        → IsErr (operands_from memory.now (opcode_number op) (kinds_of op) place) }
     ensures some { IfSome result (λ b. 1 ≤ b.loads) }
     ensures few { IfSome result (λ b. b.loads ≤ 4) }
 {

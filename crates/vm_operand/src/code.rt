@@ -14,7 +14,7 @@ use vm_memory::{MAX_SIZE, Memory};
 /// The opcode of one byte or two that begins this code, and the place after it. None for a longer
 /// number, and for that of no opcode.
 #[inline(always)]
-#[tactic(auto, unfolding(crate::specs::Instruction::number_at))]
+#[tactic(auto, unfolding(crate::specs::Instruction::opcode_number_at))]
 pub fn opcode_in(memory: &Memory<'_>, code: &[u8], start: u32) -> Option<(Op, u32)>
     requires here { IsCode memory.now start code.now }
     requires limit { start + 16 ≤ MAX_SIZE }

@@ -34,9 +34,9 @@ impl From<MemFault> for OpFault {
 impl From<OpFault> for Trap {
     ghost use Rattle.std.specs.Prelude.{◌≡◌};
     ghost use Rattle.vm_memory.specs.declared.fault.Trap.TheVariants.{Fault};
-    ghost use Rattle.vm_operand.specs.Fault.{code_of};
+    ghost use Rattle.vm_operand.specs.Fault.{operation_fault_code};
 
-    ghost from_gives = { λ f trap. trap ≡ Fault (code_of f) };
+    ghost from_gives = { λ f trap. trap ≡ Fault (operation_fault_code f) };
 
     fn from(fault: OpFault) -> Trap {
         match fault {

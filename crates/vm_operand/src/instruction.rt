@@ -22,9 +22,9 @@ pub struct Instr {
 
 /// The opcode's number and the place after it.
 #[inline(always)]
-#[tactic(auto, unfolding(crate::specs::Instruction::number_at))]
+#[tactic(auto, unfolding(crate::specs::Instruction::opcode_number_at))]
 pub(crate) fn number_at(memory: &Memory<'_>, at: u32) -> Result<(u32, u32), OpFault>
-    ensures value { result ≡ spec.number_at memory.now at }
+    ensures value { result ≡ spec.opcode_number_at memory.now at }
     ensures within { IfOk result (λ x. x.1 ≤ MAX_SIZE) }
 {
     let first = memory.read1(at)?;

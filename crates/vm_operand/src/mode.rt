@@ -4,8 +4,8 @@ ghost use Rattle.std.specs.Prelude.{◌≡◌, ◌≤◌, ◌<◌, ◌+◌, ◌^
 ghost use Rattle.vm_operand.specs.Mode as spec;
 ghost use Rattle.vm_operand.specs.Mode.{size, mode_number, modes};
 ghost use Rattle.vm_operand.specs.Opcode.{first_with};
-ghost use Rattle.vm_operand.specs.Instruction.{extended};
-ghost use Rattle.vm_operand.specs.Reading.{reads};
+ghost use Rattle.vm_operand.specs.Instruction.{with_sign_carried};
+ghost use Rattle.vm_operand.specs.Reading.{instruction_read};
 ghost use Rattle.vm_memory.specs.Access.{read};
 
 use crate::OpFault;
@@ -44,7 +44,7 @@ impl Width {
 
     /// The number of so many bytes at the address.
     pub(crate) fn read(self, memory: &Memory<'_>, at: u32) -> Result<u32, OpFault>
-        ensures value { result ≡ reads (read (size self) memory.now at) }
+        ensures value { result ≡ instruction_read (read (size self) memory.now at) }
         ensures within { OnOk result (at + size self ≤ MAX_SIZE) }
         ensures fits { IfOk result (λ x. x < 256 ^ size self) }
     {
@@ -59,7 +59,7 @@ impl Width {
     #[inline(always)]
     pub(crate) fn extend(self, value: u32) -> u32
         requires { value < 256 ^ size self }
-        ensures { result ≡ extended self value }
+        ensures { result ≡ with_sign_carried self value }
     {
         match self {
             Width::One if value >= 0x80 => value + 0xFFFF_FF00,

@@ -3,7 +3,7 @@
 ghost use Rattle.std.specs.Prelude.{◌≡◌, ◌≤◌, ◌+◌, ◌%◌, ◌^◌, Ok, Err, IfOk, IfErr, OnOk};
 ghost use Rattle.vm_memory.specs.Access.{read};
 ghost use Rattle.vm_operand.specs.Brief as spec;
-ghost use Rattle.vm_operand.specs.Reading.{reads};
+ghost use Rattle.vm_operand.specs.Reading.{instruction_read};
 ghost use Rattle.vm_operand.specs.declared.operand.Load.TheVariants as load;
 
 use crate::OpFault;
@@ -30,7 +30,7 @@ pub fn load_by(memory: &Memory<'_>, number: u32, at: u32) -> Result<(Load, u32),
 #[tactic(auto, unfolding(crate::specs::Mode::mode_of, crate::specs::Mode::modes, crate::specs::Instruction::load_at))]
 fn byte_constant(memory: &Memory<'_>, at: u32) -> Result<u32, OpFault>
     ensures value { IfOk result (λ x. spec.load_by memory.now 1 at ≡ Ok (load.Value x, at + 1)) }
-    ensures exact { IfErr result (λ fault. reads (read 1 memory.now at) ≡ Err fault) }
+    ensures exact { IfErr result (λ fault. instruction_read (read 1 memory.now at) ≡ Err fault) }
     ensures within { OnOk result (at + 1 ≤ MAX_SIZE) }
 {
     Ok(Width::One.extend(memory.read1(at)?))
@@ -41,7 +41,7 @@ fn byte_constant(memory: &Memory<'_>, at: u32) -> Result<u32, OpFault>
 #[tactic(auto, unfolding(crate::specs::Mode::mode_of, crate::specs::Mode::modes, crate::specs::Instruction::load_at))]
 fn byte_local(memory: &Memory<'_>, at: u32) -> Result<u32, OpFault>
     ensures value { IfOk result (λ x. spec.load_by memory.now 9 at ≡ Ok (load.Local x, at + 1)) }
-    ensures exact { IfErr result (λ fault. reads (read 1 memory.now at) ≡ Err fault) }
+    ensures exact { IfErr result (λ fault. instruction_read (read 1 memory.now at) ≡ Err fault) }
     ensures within { OnOk result (at + 1 ≤ MAX_SIZE) }
 {
     Ok(memory.read1(at)?)

@@ -1,7 +1,7 @@
 //! Opcodes, by families, each of chapters of the dictionary.
 
 ghost use Rattle.std.specs.Prelude.{◌≡◌, Some, IfSome};
-ghost use Rattle.vm_operand.specs.Opcode.{number_of, op_of};
+ghost use Rattle.vm_operand.specs.Opcode.{opcode_number, op_of};
 ghost use Rattle.vm_operand.specs.declared.opcode.Op.{Op};
 
 /// What an instruction does (Glulx 3.1.3, "Dictionary of Opcodes").
@@ -266,8 +266,8 @@ impl Op {
     #[inline(always)]
     pub fn of(number: u32) -> Option<Op>
         ensures value { result ≡ op_of number }
-        ensures found { (op : Op) → number_of op ≡ number → result ≡ Some op }
-        ensures only { IfSome result (λ op. number_of op ≡ number) }
+        ensures found { (op : Op) → opcode_number op ≡ number → result ≡ Some op }
+        ensures only { IfSome result (λ op. opcode_number op ≡ number) }
     {
         lookup(number)
     }

@@ -11,7 +11,7 @@ use Rattle.vm_memory.specs.declared.fault.MemFault.{MemFault}
 use Rattle.vm_search.specs.Key.{compared}
 use Rattle.vm_search.specs.Ending.{Ending, ending, failure, at_structure}
 use Rattle.vm_search.specs.Linear.{structure_at, found_at}
-use Rattle.vm_search.specs.Binary.{middle, half, interval_at, ends_in, binary_ends}
+use Rattle.vm_search.specs.Binary.{middle, half, interval_at, ends_at_interval, binary_ends}
 use Rattle.vm_search.specs.declared.query.Query.{Query}
 use Rattle.vm_search.specs.declared.binary_search.Interval.{Interval}
 use Rattle.vm_search.proofs.EndingLemmas.{AllLookMore, at_structure-looked}
@@ -19,11 +19,11 @@ use Rattle.vm_search.proofs.EndingLemmas.{AllLookMore, at_structure-looked}
 pub binary_ends-empty : (m : MemoryMap) (q : Query) (n : ℕ) (i : Interval) → interval_at m q n ≡ i
     → i.low ≡ i.high → binary_ends m q n ≡ Some (ending n (Ok (failure q)))
 binary_ends-empty m q n i p e =
-    ap (ends_in m q n) p
+    ap (ends_at_interval m q n) p
     ∙ (let t : nat_eq i.low i.high ≡ true = grind (arith, common_steps) in rw t refl)
 
 in_middle : (m : MemoryMap) (q : Query) (n : ℕ) (i : Interval) → i.low ≢ i.high
-    → ends_in m q n i ≡ at_structure (n + 1) (found_at q (middle i)) (failure q) false
+    → ends_at_interval m q n i ≡ at_structure (n + 1) (found_at q (middle i)) (failure q) false
     (compared m q (structure_at q (middle i)))
 in_middle m q n i d = let t : nat_eq i.low i.high ≡ false = grind (arith, common_steps) in rw t refl
 
@@ -32,7 +32,7 @@ pub binary_ends-structure : (m : MemoryMap) (q : Query) (n : ℕ) (i : Interval)
     → compared m q (structure_at q (middle i)) ≡ r
     → binary_ends m q n ≡ at_structure (n + 1) (found_at q (middle i)) (failure q) false r
 binary_ends-structure m q n i r p d e =
-    ap (ends_in m q n) p ∙ in_middle m q n i d
+    ap (ends_at_interval m q n) p ∙ in_middle m q n i d
     ∙ ap (at_structure (n + 1) (found_at q (middle i)) (failure q) false) e
 
 pub goes_on : (looked found failed : ℕ) (order : Ordering) → order ≢ Equal

@@ -4,7 +4,7 @@ use Rattle.std.proofs.Common.{◌≤◌, Bool, true, false, nat_lt, Option, Some
 use Rattle.std.proofs.Common.{IsErrAnd}
 use Rattle.std.proofs.lemmas.Grind.{common_steps}
 use Rattle.vm_memory.specs.declared.fault.MemFault.{MemFault}
-use Rattle.vm_search.specs.Ending.{Ending, ending, first_ending, or_next, told, told_answer}
+use Rattle.vm_search.specs.Ending.{Ending, ending, first_ending, or_next, found_within, told_answer}
 use Rattle.vm_search.specs.Ending.{search_of, at_structure, Looks}
 use Rattle.std.specs.declared.cmp.Ordering.{Ordering}
 use Rattle.std.specs.declared.cmp.Ordering.TheVariants.{Less, Equal, Greater}
@@ -52,7 +52,7 @@ abbrev pub AllLookMore : (ℕ → Option Ending) → ℕ → ℕ → Type 0
 AllLookMore ends left n = (j : ℕ) → n ≤ j → (x : Ending) → ends j ≡ Some x → left < x.looked
 
 told_spent : (left : ℕ) (o : Option Ending) → ((x : Ending) → o ≡ Some x → left < x.looked)
-    → told left o ≡ Err Spent
+    → found_within left o ≡ Err Spent
 told_spent left None h = refl
 told_spent left (Some x) h = let l : left < x.looked =
     h x refl in let e : nat_lt left x.looked ≡ true = grind (arith, common_steps) in rw e refl
@@ -70,19 +70,19 @@ first_ending-more ends left n (suc k) h x e =
 
 -- such a search is spent
 pub told-spent : (ends : ℕ → Option Ending) (left n k : ℕ) → AllLookMore ends left n
-    → told left (first_ending ends n k) ≡ Err Spent
+    → found_within left (first_ending ends n k) ≡ Err Spent
 told-spent ends left n k h =
     told_spent left (first_ending ends n k) (first_ending-more ends left n k h)
 
 pub told-end : (left looked : ℕ) (answer : Result ℕ MemFault) → looked ≤ left
-    → told left (Some (ending looked answer)) ≡ told_answer looked answer
+    → found_within left (Some (ending looked answer)) ≡ told_answer looked answer
 told-end left looked answer l = let e : nat_lt left looked ≡ false =
     grind (arith, common_steps) in rw e refl
 
 -- what the whole search tells
 pub search_of-told : (q : Query) (ends : ℕ → Option Ending) (r : Option Ending) → is_search q ≡ true
-    → first_ending ends 0 4294967296 ≡ r → search_of q ends ≡ told q.left r
-search_of-told q ends r s e = rw s (ap (told q.left) e)
+    → first_ending ends 0 4294967296 ≡ r → search_of q ends ≡ found_within q.left r
+search_of-told q ends r s e = rw s (ap (found_within q.left) e)
 
 -- a search told by its first end at a step, where so far it went on
 pub search-end : (q : Query) (ends : ℕ → Option Ending) (n looked : ℕ) (answer : Result ℕ MemFault)

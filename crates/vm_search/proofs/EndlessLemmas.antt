@@ -18,7 +18,7 @@ use Rattle.vm_memory.specs.declared.fault.MemFault.TheVariants.{BadRead}
 use Rattle.vm_search.specs.Key.{compared, ends_at_zero, is_zero}
 use Rattle.vm_search.specs.Ending.{Ending, ending, failure, at_structure, first_ending, or_next}
 use Rattle.vm_search.specs.Linear.{found_at, is_past, linear_ends, at_index, structure_at}
-use Rattle.vm_search.specs.Linked.{linked_ends, ends_at, link_of, or_at_link, place_at}
+use Rattle.vm_search.specs.Linked.{linked_ends, ends_at, next_link, or_at_link, chain_place}
 use Rattle.vm_search.specs.Laws.{IsEndless, EndsSoonOrNever}
 use Rattle.vm_search.specs.declared.query.Query.{Query}
 use Rattle.vm_search.proofs.LawLemmas.{First, first, past_ends, linkable}
@@ -112,21 +112,21 @@ same_place m q n k at h =
     let p = past_ends (at == 0) (ending n (Ok 0)) _ h in
     let l = linkable (n + 1)
     (at_structure (n + 1) at 0 (ends_at_zero q && is_zero m q at) (compared m q at))
-    (read 4 m (link_of q at)) p.1 in
+    (read 4 m (next_link q at)) p.1 in
     let s = stays (n + 1) at 0 (k + 1) at 0 (ends_at_zero q && is_zero m q at)
     (compared m q at) l.0 in
     no_end (at == 0) (ending k (Ok 0)) _ p.0
-    (ap (λ (o : Option Ending). or_at_link (k + 1) o (read 4 m (link_of q at))) s
-    ∙ open_link (k + 1) (read 4 m (link_of q at)) l.1)
+    (ap (λ (o : Option Ending). or_at_link (k + 1) o (read 4 m (next_link q at))) s
+    ∙ open_link (k + 1) (read 4 m (next_link q at)) l.1)
 
 after_link : (m : MemoryMap) (q : Query) (i j : ℕ)
-    → link_of q (place_at m q i) ≡ link_of q (place_at m q j)
-    → place_at m q (suc i) ≡ place_at m q (suc j)
-unfolding place_at
+    → next_link q (chain_place m q i) ≡ next_link q (chain_place m q j)
+    → chain_place m q (suc i) ≡ chain_place m q (suc j)
+unfolding chain_place
 after_link m q i j e = ap (λ (a : ℕ). number_at 4 m.bytes a) e
 
-same_later : (m : MemoryMap) (q : Query) (i j t : ℕ) → place_at m q i ≡ place_at m q j
-    → place_at m q (t + i) ≡ place_at m q (t + j)
+same_later : (m : MemoryMap) (q : Query) (i j t : ℕ) → chain_place m q i ≡ chain_place m q j
+    → chain_place m q (t + i) ≡ chain_place m q (t + j)
 same_later m q i j zero e =
     let a : zero + i ≡ i = omega arith in
     let b : zero + j ≡ j = omega arith in
@@ -134,7 +134,7 @@ same_later m q i j zero e =
 same_later m q i j (suc t) e =
     let a : suc t + i ≡ suc (t + i) = omega arith in
     let b : suc t + j ≡ suc (t + j) = omega arith in
-    rw (a, b) (after_link m q (t + i) (t + j) (ap (link_of q) (same_later m q i j t e)))
+    rw (a, b) (after_link m q (t + i) (t + j) (ap (next_link q) (same_later m q i j t e)))
 
 readable : (b : Bool) (x : ℕ) (f : MemFault) → ((g : MemFault) → cond b (Ok x) (Err f) ≡ Err g → ⊥)
     → b ≡ true
@@ -142,16 +142,16 @@ readable true x f h = refl
 readable false x f h = absurd (h f refl)
 
 link_inside : (m : MemoryMap) (q : Query) (i : ℕ) → linked_ends m q i ≡ None
-    → link_of q (place_at m q i) + 4 ≤ length m.bytes
+    → next_link q (chain_place m q i) + 4 ≤ length m.bytes
 link_inside m q i h =
-    let at : ℕ = place_at m q i in
+    let at : ℕ = chain_place m q i in
     let p = past_ends (at == 0) (ending i (Ok 0)) _ h in
     let l = linkable (i + 1)
     (at_structure (i + 1) at 0 (ends_at_zero q && is_zero m q at) (compared m q at))
-    (read 4 m (link_of q at)) p.1 in
-    leb-true (link_of q at + 4) (length m.bytes)
-    (readable (nat_le (link_of q at + 4) (length m.bytes)) (number_at 4 m.bytes (link_of q at))
-    (BadRead (link_of q at)) l.1)
+    (read 4 m (next_link q at)) p.1 in
+    leb-true (next_link q at + 4) (length m.bytes)
+    (readable (nat_le (next_link q at + 4) (length m.bytes)) (number_at 4 m.bytes (next_link q at))
+    (BadRead (next_link q at)) l.1)
 
 -- the values before n, the last one first
 upto : (ℕ → ℕ) → ℕ → List ℕ
@@ -227,20 +227,20 @@ linked_endless m q size h k = pick (linked_ends m q k) refl
 
     -- none before the first end has its link where another has
     never_again : (x : Ending) (f : First (linked_ends m q) 0 x) (i j : ℕ) → i < j → j < f.index
-        → link_of q (place_at m q i) ≡ link_of q (place_at m q j) → ⊥
+        → next_link q (chain_place m q i) ≡ next_link q (chain_place m q j) → ⊥
     never_again x f i j l g e =
         let t : ℕ = f.index - suc j in
         let end : t + suc j ≡ f.index = omega (arith, g) in
         let less : t + suc i < f.index = omega (arith, l, g) in
-        let same : place_at m q (t + suc i) ≡ place_at m q f.index =
-        same_later m q (suc i) (suc j) t (after_link m q i j e) ∙ ap (place_at m q) end in
-        let goes_on = same_place m q (t + suc i) f.index (place_at m q (t + suc i))
+        let same : chain_place m q (t + suc i) ≡ chain_place m q f.index =
+        same_later m q (suc i) (suc j) t (after_link m q i j e) ∙ ap (chain_place m q) end in
+        let goes_on = same_place m q (t + suc i) f.index (chain_place m q (t + suc i))
         (f.before (t + suc i) (omega arith) less) in
         clash (linked_ends m q f.index) x
         (subst (λ (a : ℕ). ends_at m q f.index a ≡ None) same goes_on) f.here
 
     low : (x : Ending) (f : First (linked_ends m q) 0 x) (i : ℕ) → i < f.index
-        → link_of q (place_at m q i) < 4294967295
+        → next_link q (chain_place m q i) < 4294967295
     low x f i l = let r = link_inside m q i (f.before i (omega arith) l) in omega (arith, r, size)
 
     late : (x : Ending) (f : First (linked_ends m q) 0 x) (b : Bool) → nat_lt f.index 4294967296 ≡ b
@@ -251,7 +251,7 @@ linked_endless m q size h k = pick (linked_ends m q k) refl
         f.here
     late x f false t =
         let over : 4294967296 ≤ f.index = grind (arith, t) in
-        let few = few_values (λ i. link_of q (place_at m q i)) f.index 4294967295 (low x f)
+        let few = few_values (λ i. next_link q (chain_place m q i)) f.index 4294967295 (low x f)
         (never_again x f) in
         omega (arith, over, few)
 

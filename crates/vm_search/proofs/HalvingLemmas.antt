@@ -11,10 +11,10 @@ use Rattle.std.specs.declared.cmp.Ordering.{Ordering}
 use Rattle.vm_memory.specs.MemoryMap.{MemoryMap}
 use Rattle.vm_memory.specs.declared.fault.MemFault.{MemFault}
 use Rattle.vm_memory.specs.declared.fault.MemFault.TheVariants.{BadRead}
-use Rattle.vm_search.specs.Key.{compared, key_at, key_place, order_of, sought}
+use Rattle.vm_search.specs.Key.{compared, key_in_memory, key_place, order_of, sought}
 use Rattle.vm_search.specs.Ending.{Ending, ending, failure, at_structure}
 use Rattle.vm_search.specs.Linear.{found_at, structure_at}
-use Rattle.vm_search.specs.Binary.{middle, half, interval_at, ends_in, binary_ends}
+use Rattle.vm_search.specs.Binary.{middle, half, interval_at, ends_at_interval, binary_ends}
 use Rattle.vm_search.specs.Laws.{Equals, IsSorted, LiesAt, Meets, Misses, MeetsOrMisses}
 use Rattle.vm_search.specs.declared.query.Query.{Query}
 use Rattle.vm_search.specs.declared.query.Found.{Found}
@@ -60,7 +60,7 @@ halved m q i r e d (inr greater) b =
       below = b.below;
     })
 
-step : (m : MemoryMap) (q : Query) (k : ℕ) (i : Interval) → ends_in m q k i ≡ None → Between m q i
+step : (m : MemoryMap) (q : Query) (k : ℕ) (i : Interval) → ends_at_interval m q k i ≡ None → Between m q i
     → Between m q (half i (compared m q (structure_at q (middle i))))
 step m q k i h b =
     let p = past_ends (i.low == i.high) (ending k (Ok (failure q))) _ h in
@@ -89,23 +89,23 @@ ordered (Err g) false own f o h = absurd cc
 
 -- what a look says of the key that is sought
 looks : (m : MemoryMap) (q : Query) (at : ℕ) (o : Ordering) → compared m q at ≡ Ok o
-    → (k : ℕ) × (sought m q ≡ Ok k) × MatchOrdering o (k < key_at m q at) (k ≡ key_at m q at)
-    (key_at m q at < k)
+    → (k : ℕ) × (sought m q ≡ Ok k) × MatchOrdering o (k < key_in_memory m q at) (k ≡ key_in_memory m q at)
+    (key_in_memory m q at < k)
 looks m q at o h =
     let r = ordered (sought m q) (nat_le (key_place q at + q.key_size) (length m.bytes))
-    (key_at m q at) (BadRead (key_place q at)) o h in (
+    (key_in_memory m q at) (BadRead (key_place q at)) o h in (
       r.0,
       r.1,
-      subst (λ (x : Ordering). MatchOrdering x (r.0 < key_at m q at) (r.0 ≡ key_at m q at)
-          (key_at m q at < r.0)) r.2 (ranks r.0 (key_at m q at)),
+      subst (λ (x : Ordering). MatchOrdering x (r.0 < key_in_memory m q at) (r.0 ≡ key_in_memory m q at)
+          (key_in_memory m q at < r.0)) r.2 (ranks r.0 (key_in_memory m q at)),
     )
 
 rises : (m : MemoryMap) (q : Query) → IsSorted m q → (i j : ℕ) → i ≤ j → j < q.count
-    → key_at m q (structure_at q i) ≤ key_at m q (structure_at q j)
+    → key_in_memory m q (structure_at q i) ≤ key_in_memory m q (structure_at q j)
 rises m q sorted i j l h =
     elim (eq-or-lt_of_le l) as
-    (λ _. key_at m q (structure_at q i) ≤ key_at m q (structure_at q j)) [
-      | inl e ↦ subst (λ (n : ℕ). key_at m q (structure_at q i) ≤ key_at m q (structure_at q n)) e
+    (λ _. key_in_memory m q (structure_at q i) ≤ key_in_memory m q (structure_at q j)) [
+      | inl e ↦ subst (λ (n : ℕ). key_in_memory m q (structure_at q i) ≤ key_in_memory m q (structure_at q n)) e
           (omega arith)
       | inr s ↦ sorted i j s h
     ]

@@ -9,10 +9,10 @@ use Rattle.vm_memory.specs.Access.{read}
 use Rattle.vm_memory.specs.declared.fault.MemFault.{MemFault}
 use Rattle.vm_search.specs.Key.{compared, ends_at_zero, is_search, is_zero}
 use Rattle.vm_search.specs.Ending.{Ending, ending, failure, at_structure, first_ending, or_next}
-use Rattle.vm_search.specs.Ending.{told, told_answer}
+use Rattle.vm_search.specs.Ending.{found_within, told_answer}
 use Rattle.vm_search.specs.Linear.{is_past, linear_ends, at_index}
-use Rattle.vm_search.specs.Linked.{linked_ends, link_of, or_at_link, place_at}
-use Rattle.vm_search.specs.Laws.{Structures, table, chain, NoneOf, Finds, Fails, Answers}
+use Rattle.vm_search.specs.Linked.{linked_ends, next_link, or_at_link, chain_place}
+use Rattle.vm_search.specs.Laws.{Structures, table, chain, NoneOf, FindsKey, FindsNoKey, AnswersSearch}
 use Rattle.vm_search.specs.Laws.{FindsOrFails}
 use Rattle.vm_search.specs.declared.query.Query.{Query}
 use Rattle.vm_search.specs.declared.query.Found.{Found}
@@ -117,7 +117,7 @@ linear_steps m q i =
     (sym (no_link (i + 1) (at_index m q i)))
 
 linked_steps : (m : MemoryMap) (q : Query)
-    → Steps m q (chain m q) (λ i. read 4 m (link_of q (place_at m q i))) (linked_ends m q)
+    → Steps m q (chain m q) (λ i. read 4 m (next_link q (chain_place m q i))) (linked_ends m q)
 linked_steps m q i = refl
 
 none_before : (m : MemoryMap) (q : Query) (s : Structures) (next : ℕ → Result ℕ MemFault) (ends : ℕ
@@ -165,7 +165,7 @@ record Told (o : Option Ending) (found : Found) : Type 0 where
   answer : e.answer ≡ Ok found.answer
   looked : found.looked ≡ e.looked
 
-tell : (left : ℕ) (o : Option Ending) (found : Found) → told left o ≡ Ok found → Told o found
+tell : (left : ℕ) (o : Option Ending) (found : Found) → found_within left o ≡ Ok found → Told o found
 tell left None found h = absurd cc
 tell left (Some e) found h =
     let t = tells-left (nat_lt left e.looked) e.looked e.answer found h in
@@ -184,11 +184,11 @@ pub record Ended (ends : ℕ → Option Ending) (found : Found) : Type 0 where
   pub looked : found.looked ≡ e.looked
 
 pub ended : (q : Query) (ends : ℕ → Option Ending) (found : Found)
-    → cond (is_search q) (told q.left (first_ending ends 0 (2 ^ 32))) (Err BadSearch) ≡ Ok found
+    → cond (is_search q) (found_within q.left (first_ending ends 0 (2 ^ 32))) (Err BadSearch) ≡ Ok found
     → Ended ends found
 ended q ends found h =
     let o : Option Ending = first_ending ends 0 (2 ^ 32) in
-    let t : Told o found = tell q.left o found (chosen (is_search q) (told q.left o) found h) in
+    let t : Told o found = tell q.left o found (chosen (is_search q) (found_within q.left o) found h) in
     record { e = t.e; first = first ends (2 ^ 32) 0 t.e t.is; answer = t.answer; looked = t.looked }
 
 -- an end at a structure
@@ -231,7 +231,7 @@ at_end : (m : MemoryMap) (q : Query) (s : Structures) (i : ℕ) (e : Ending) (fo
     (or_at_link (i + 1) (at_structure (i + 1) (s.found i) s.failure (last m q (s.place i))
     (compared m q (s.place i))) next) ≡ Some e
     → e.answer ≡ Ok found.answer → found.looked ≡ e.looked → NoneOf m q s i
-    → Finds m q s found ⊎ Fails m q s found
+    → FindsKey m q s found ⊎ FindsNoKey m q s found
 at_end m q s i e found next true p h a l n =
     let is : e ≡ ending i (Ok s.failure) = some_is _ e h in
     inr (record {
@@ -244,7 +244,7 @@ at_end m q s i e found next false p h a l n =
     elim (end_at (i + 1) (s.found i) s.failure (last m q (s.place i)) (compared m q (s.place i)) e
     (unlinked (i + 1) (at_structure (i + 1) (s.found i) s.failure (last m q (s.place i))
     (compared m q (s.place i))) next e found.answer h a))
-    as (λ _. Finds m q s found ⊎ Fails m q s found) [
+    as (λ _. FindsKey m q s found ⊎ FindsNoKey m q s found) [
       | Stops f is ↦ never e.answer found.answer f a (ap (λ (x : Ending). x.answer) is)
       | Hits eq is ↦ inl (record {
         index = i;
@@ -268,7 +268,7 @@ at_end m q s i e found next false p h a l n =
     ]
 
 answers : (m : MemoryMap) (q : Query) (s : Structures) (next : ℕ → Result ℕ MemFault) (ends : ℕ
-    → Option Ending) → Steps m q s next ends → Answers m q s ends
+    → Option Ending) → Steps m q s next ends → AnswersSearch m q s ends
 answers m q s next ends steps found h =
     let t : Ended ends found = ended q ends found h in
     let f : First ends 0 t.e = t.first in
@@ -279,6 +279,6 @@ answers m q s next ends steps found h =
 pub finds_or_fails : FindsOrFails
 finds_or_fails m q = (
   answers m q (table q) (λ i. Ok 0) (linear_ends m q) (linear_steps m q),
-  answers m q (chain m q) (λ i. read 4 m (link_of q (place_at m q i))) (linked_ends m q)
+  answers m q (chain m q) (λ i. read 4 m (next_link q (chain_place m q i))) (linked_ends m q)
       (linked_steps m q),
 )

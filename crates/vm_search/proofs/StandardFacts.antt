@@ -6,7 +6,7 @@ use Rattle.vm_search.specs.Key.{is_search}
 use Rattle.vm_search.specs.Ending.{ending}
 use Rattle.vm_search.specs.Linear.{linear_ends}
 use Rattle.vm_search.specs.Binary.{binary_ends, interval_at}
-use Rattle.vm_search.specs.Linked.{linked_ends, place_at}
+use Rattle.vm_search.specs.Linked.{linked_ends, chain_place}
 use Rattle.vm_search.specs.declared.query.Query.{Query}
 
 abbrev words : MemoryMap
@@ -55,7 +55,7 @@ of_nothing = refl
 
 -- a chain that begins at 0 is at its end
 pub no_chain : linked_ends words (query 5 0 0 0) 0 ≡ Some (ending 0 (Ok 0))
-unfolding place_at
+unfolding chain_place
 no_chain = refl
 
 -- key sizes

@@ -27,12 +27,12 @@ interval_at m q (suc k) =
     half (interval_at m q k) (compared m q (structure_at q (middle (interval_at m q k))))
 
 -- whether the search ends at an interval, with which so many structures were looked at before
-abbrev pub ends_in : MemoryMap → Query → ℕ → Interval → Option Ending
-ends_in m q k i =
+abbrev pub ends_at_interval : MemoryMap → Query → ℕ → Interval → Option Ending
+ends_at_interval m q k i =
     if i.low == i.high then Some (ending k (Ok (failure q)))
     else at_structure (k + 1) (found_at q (middle i)) (failure q) false
     (compared m q (structure_at q (middle i)))
 
 -- whether the search ends after so many halvings
 abbrev pub binary_ends : MemoryMap → Query → ℕ → Option Ending
-binary_ends m q k = ends_in m q k (interval_at m q k)
+binary_ends m q k = ends_at_interval m q k (interval_at m q k)

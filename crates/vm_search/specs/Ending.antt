@@ -56,10 +56,12 @@ told_answer looked (Err fault) = Err (Read fault)
 
 -- what a search that ends so tells, where no more than left structures may be looked at; one
 -- without an end looks at more
-abbrev pub told : ℕ → Option Ending → Result Found SearchStop
-told left None = Err Spent
-told left (Some e) = if nat_lt left e.looked then Err Spent else told_answer e.looked e.answer
+abbrev pub found_within : ℕ → Option Ending → Result Found SearchStop
+found_within left None = Err Spent
+found_within left (Some e) =
+    if nat_lt left e.looked then Err Spent else told_answer e.looked e.answer
 
 -- the search whose steps end so; without an end among 2^32 steps the same structures come for ever
 abbrev pub search_of : Query → (ℕ → Option Ending) → Result Found SearchStop
-search_of q ends = if is_search q then told q.left (first_ending ends 0 (2 ^ 32)) else Err BadSearch
+search_of q ends =
+    if is_search q then found_within q.left (first_ending ends 0 (2 ^ 32)) else Err BadSearch

@@ -6,7 +6,7 @@ use Rattle.vm_search.specs.declared.fault.SearchStop.{SearchStop}
 use Rattle.vm_search.specs.declared.fault.SearchStop.TheVariants.{Read, BadSearch, Spent}
 
 -- a memory's fault keeps its number
-abbrev pub code_of : SearchStop → ℕ
-code_of (Read fault) = memory.code_of fault
-code_of BadSearch = f.BAD_SEARCH
-code_of Spent = f.BUDGET_SPENT
+abbrev pub search_fault_code : SearchStop → ℕ
+search_fault_code (Read fault) = memory.code_of fault
+search_fault_code BadSearch = f.BAD_SEARCH
+search_fault_code Spent = f.BUDGET_SPENT

@@ -50,12 +50,12 @@ abbrev pub compared : MemoryMap → Query → ℕ → Result Ordering MemFault
 compared m q at = order_of (sought m q) (read q.key_size m (key_place q at))
 
 -- the key of the structure at an address
-abbrev pub key_at : MemoryMap → Query → ℕ → ℕ
-key_at m q at = number_at q.key_size m.bytes (key_place q at)
+abbrev pub key_in_memory : MemoryMap → Query → ℕ → ℕ
+key_in_memory m q at = number_at q.key_size m.bytes (key_place q at)
 
 -- whether it is zero
 abbrev pub is_zero : MemoryMap → Query → ℕ → Bool
-is_zero m q at = key_at m q at == 0
+is_zero m q at = key_in_memory m q at == 0
 
 -- so many bytes at an address lie in memory, which has its limit
 pub record LiesIn (m : MemoryMap) (size at : ℕ) : Type 0 where

@@ -3,11 +3,11 @@ use Rattle.std.specs.Prelude.{ℕ, ◌≡◌, ◌<◌, ◌≤◌, ◌+◌, ◌-�
 use Rattle.std.specs.Prelude.{length, Option, None, Ok}
 use Rattle.std.specs.declared.cmp.Ordering.TheVariants.{Less, Equal, Greater}
 use Rattle.vm_memory.specs.MemoryMap.{MemoryMap}
-use Rattle.vm_search.specs.Key.{compared, ends_at_zero, is_zero, key_at}
+use Rattle.vm_search.specs.Key.{compared, ends_at_zero, is_zero, key_in_memory}
 use Rattle.vm_search.specs.Ending.{Ending, failure, first_ending, search_of}
 use Rattle.vm_search.specs.Linear.{found_at, is_past, linear_ends, structure_at}
 use Rattle.vm_search.specs.Binary.{binary_ends}
-use Rattle.vm_search.specs.Linked.{linked_ends, place_at}
+use Rattle.vm_search.specs.Linked.{linked_ends, chain_place}
 use Rattle.vm_search.specs.declared.query.Query.{Query}
 use Rattle.vm_search.specs.declared.query.Found.{Found}
 
@@ -38,9 +38,9 @@ table q = record {
 
 abbrev pub chain : MemoryMap → Query → Structures
 chain m q = record {
-  place = place_at m q;
-  found = place_at m q;
-  none_left = λ i. place_at m q i == 0;
+  place = chain_place m q;
+  found = chain_place m q;
+  none_left = λ i. chain_place m q i == 0;
   failure = 0;
 }
 
@@ -51,7 +51,7 @@ pub record NoneOf (m : MemoryMap) (q : Query) (s : Structures) (n : ℕ) : Type 
   pub goes_on : (i : ℕ) → i < n → Terminates m q (s.place i) → ⊥
 
 -- a structure is found: its key equals, and none before it does or ends the search
-pub record Finds (m : MemoryMap) (q : Query) (s : Structures) (found : Found) : Type 0 where
+pub record FindsKey (m : MemoryMap) (q : Query) (s : Structures) (found : Found) : Type 0 where
   pub index : ℕ
   pub some : s.none_left index ≡ false
   pub equal : Equals m q (s.place index)
@@ -60,7 +60,7 @@ pub record Finds (m : MemoryMap) (q : Query) (s : Structures) (found : Found) : 
   pub looked : found.looked ≡ index + 1
 
 -- none is found: no key equals up to the end of the structures, or to a key that ends the search
-pub record Fails (m : MemoryMap) (q : Query) (s : Structures) (found : Found) : Type 0 where
+pub record FindsNoKey (m : MemoryMap) (q : Query) (s : Structures) (found : Found) : Type 0 where
   pub index : ℕ
   pub before : NoneOf m q s index
   pub answer : found.answer ≡ s.failure
@@ -69,21 +69,22 @@ pub record Fails (m : MemoryMap) (q : Query) (s : Structures) (found : Found) : 
       × (found.looked ≡ index + 1))
 
 -- what a search of the structures answers is the one or the other
-abbrev pub Answers : MemoryMap → Query → Structures → (ℕ → Option Ending) → Type 0
-Answers m q s ends =
-    (found : Found) → search_of q ends ≡ Ok found → Finds m q s found ⊎ Fails m q s found
+abbrev pub AnswersSearch : MemoryMap → Query → Structures → (ℕ → Option Ending) → Type 0
+AnswersSearch m q s ends =
+    (found : Found) → search_of q ends ≡ Ok found → FindsKey m q s found ⊎ FindsNoKey m q s found
 
 -- so it is for a linear and for a linked search
 abbrev pub FindsOrFails : Type 0
 FindsOrFails =
     (m : MemoryMap) (q : Query)
-    → Answers m q (table q) (linear_ends m q) × Answers m q (chain m q) (linked_ends m q)
+    → AnswersSearch m q (table q) (linear_ends m q)
+    × AnswersSearch m q (chain m q) (linked_ends m q)
 
 -- no key is less than one before it
 abbrev pub IsSorted : MemoryMap → Query → Type 0
 IsSorted m q =
     (i j : ℕ) → i < j → j < q.count
-    → key_at m q (structure_at q i) ≤ key_at m q (structure_at q j)
+    → key_in_memory m q (structure_at q i) ≤ key_in_memory m q (structure_at q j)
 
 -- the key that is sought is greater than that of the structure before this index, and less than
 -- that of the one there

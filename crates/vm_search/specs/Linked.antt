@@ -9,13 +9,13 @@ use Rattle.vm_search.specs.Ending.{Ending, ending, at_structure}
 use Rattle.vm_search.specs.declared.query.Query.{Query}
 
 -- where the address of the next place stands
-abbrev pub link_of : Query → ℕ → ℕ
-link_of q at = (at + q.next_offset) % 2 ^ 32
+abbrev pub next_link : Query → ℕ → ℕ
+next_link q at = (at + q.next_offset) % 2 ^ 32
 
 -- the places of the chain, from the start on by the word at the next offset
-unfoldable pub place_at : MemoryMap → Query → ℕ → ℕ
-place_at m q zero = q.start
-place_at m q (suc k) = number_at 4 m.bytes (link_of q (place_at m q k))
+unfoldable pub chain_place : MemoryMap → Query → ℕ → ℕ
+chain_place m q zero = q.start
+chain_place m q (suc k) = number_at 4 m.bytes (next_link q (chain_place m q k))
 
 -- whether the search ends here, or else at the next place, which can't be read
 abbrev pub or_at_link : ℕ → Option Ending → Result ℕ MemFault → Option Ending
@@ -30,8 +30,8 @@ ends_at m q k at =
     if at == 0 then Some (ending k (Ok 0))
     else or_at_link (k + 1)
     (at_structure (k + 1) at 0 (ends_at_zero q && is_zero m q at) (compared m q at))
-    (read 4 m (link_of q at))
+    (read 4 m (next_link q at))
 
 -- whether the search ends at the place with a number
 abbrev pub linked_ends : MemoryMap → Query → ℕ → Option Ending
-linked_ends m q k = ends_at m q k (place_at m q k)
+linked_ends m q k = ends_at m q k (chain_place m q k)

@@ -25,9 +25,9 @@ impl From<MemFault> for SearchStop {
 impl From<SearchStop> for Trap {
     ghost use Rattle.std.specs.Prelude.{◌≡◌};
     ghost use Rattle.vm_memory.specs.declared.fault.Trap.TheVariants.{Fault};
-    ghost use Rattle.vm_search.specs.Fault.{code_of};
+    ghost use Rattle.vm_search.specs.Fault.{search_fault_code};
 
-    ghost from_gives = { λ stop trap. trap ≡ Fault (code_of stop) };
+    ghost from_gives = { λ stop trap. trap ≡ Fault (search_fault_code stop) };
 
     fn from(stop: SearchStop) -> Trap {
         match stop {

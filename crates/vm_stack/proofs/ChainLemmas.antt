@@ -6,11 +6,11 @@ use Rattle.std.proofs.lemmas.Bool.Decides.{nat_tests}
 use Rattle.std.proofs.Math.Seq.{take-append-add, drop-append-add, take-append_seam}
 use Rattle.byteorder.specs.Endian.{big_bytes}
 use Rattle.byteorder.specs.Numbers.{length-bytes_high_first}
-use Rattle.vm_stack.specs.StackState.{StackState, number, replaced, frame_len, locals_pos, value_bytes}
-use Rattle.vm_stack.specs.Values.{without, rotated}
+use Rattle.vm_stack.specs.StackState.{StackState, number, replaced_within, frame_len, locals_pos, value_bytes}
+use Rattle.vm_stack.specs.Values.{without_top, rotated}
 use Rattle.vm_stack.specs.Locals.{local_at, IsWidth}
-use Rattle.vm_stack.specs.Frame.{frame_head, fresh_frame, padding_len, locals_pos_of, locals_len, frame_len_of, left, in_named_frame}
-use Rattle.vm_stack.specs.Chain.{Frame, IsFormat, IsChain, IsBelow, Chain, HasFrame, IsReady, spelled, start}
+use Rattle.vm_stack.specs.Frame.{frame_head, fresh_frame, padding_len, locals_pos_of, locals_len, frame_len_of, frame_left, in_named_frame}
+use Rattle.vm_stack.specs.Chain.{Frame, IsFormat, IsChain, IsBelow, Chain, HasFrame, IsReady, bytes_of_frames, start}
 use Rattle.vm_stack.proofs.NumberLemmas.{number_behind, number_within, number_first, le_true}
 use Rattle.vm_stack.proofs.FrameLemmas.{top, before, length_before, frame_len_is, locals_pos_is, held_in, seam}
 
@@ -36,7 +36,7 @@ above b v n h =
     let l : length (b ++ v) - n ≡ length b + (length v - n) = let a = length-append b v in omega (arith, a, h) in
     rw l (drop-append-add b v (length v - n))
 
-pub without_keeps : (s : StackState) (n : ℕ) → 4 * n ≤ value_bytes s → Chain s → HasFrame s → Chain (without s (4 * n))
+pub without_keeps : (s : StackState) (n : ℕ) → 4 * n ≤ value_bytes s → Chain s → HasFrame s → Chain (without_top s (4 * n))
 without_keeps s n le c has =
     let t = top s c has in
     let v = t.size in
@@ -48,7 +48,7 @@ without_keeps s n le c has =
     (t.again (take (length t.values - 4 * n) t.values) (t.count - n) (omega (arith, short, v, fits)))
 
 -- without values a frame is still there
-pub without_there : (s : StackState) (n : ℕ) → n ≤ value_bytes s → Chain s → HasFrame s → HasFrame (without s n)
+pub without_there : (s : StackState) (n : ℕ) → n ≤ value_bytes s → Chain s → HasFrame s → HasFrame (without_top s n)
 without_there s n le c has =
     let t = top s c has in
     let held = t.held in
@@ -92,28 +92,28 @@ rolled_keeps s n k le c has =
     moved s _ _ e (t.again (low ++ high) t.count (omega (arith, short, turned, d, a, v, fits)))
 
 -- the frames below a chain's end name themselves
-pub named_below : (below : List Frame) → IsBelow below → IsChain below → number 4 (spelled below) (length (spelled below) - 4) ≡ start below
+pub named_below : (below : List Frame) → IsBelow below → IsChain below → number 4 (bytes_of_frames below) (length (bytes_of_frames below) - 4) ≡ start below
 named_below [] is c = refl
 named_below (fr ∷ below) is c =
     let l = length-append (before fr below) fr.values in
     let four = is.four in
-    number_behind (before fr below) fr.values 4 (length (spelled (fr ∷ below)) - 4) (length fr.values - 4) (omega (arith, l, four)) ∙ is.names
+    number_behind (before fr below) fr.values 4 (length (bytes_of_frames (fr ∷ below)) - 4) (length fr.values - 4) (omega (arith, l, four)) ∙ is.names
 
 -- what is left is spelled by the frames below
-pub left_bytes : (s : StackState) (fr : Frame) (below : List Frame) → s.bytes ≡ spelled (fr ∷ below) → s.frame ≡ start (fr ∷ below)
-    → (left s).bytes ≡ spelled below
+pub left_bytes : (s : StackState) (fr : Frame) (below : List Frame) → s.bytes ≡ bytes_of_frames (fr ∷ below) → s.frame ≡ start (fr ∷ below)
+    → (frame_left s).bytes ≡ bytes_of_frames below
 left_bytes s fr below bytes frame =
     ap (λ (n : ℕ). take n s.bytes) frame
-    ∙ (ap (λ (xs : List ℕ). take (length (spelled below)) xs)
-    (bytes ∙ seam (spelled below) (big_bytes 4 (frame_len_of fr.format)) (big_bytes 4 (locals_pos_of fr.format)) fr.format fr.padding fr.locals fr.values)
-    ∙ take-append_seam (spelled below) _)
+    ∙ (ap (λ (xs : List ℕ). take (length (bytes_of_frames below)) xs)
+    (bytes ∙ seam (bytes_of_frames below) (big_bytes 4 (frame_len_of fr.format)) (big_bytes 4 (locals_pos_of fr.format)) fr.format fr.padding fr.locals fr.values)
+    ∙ take-append_seam (bytes_of_frames below) _)
 
-pub left_frame : (s : StackState) (fr : Frame) (below : List Frame) → IsBelow below → IsChain below → s.bytes ≡ spelled (fr ∷ below) → s.frame ≡ start (fr ∷ below)
-    → (left s).frame ≡ start below
+pub left_frame : (s : StackState) (fr : Frame) (below : List Frame) → IsBelow below → IsChain below → s.bytes ≡ bytes_of_frames (fr ∷ below) → s.frame ≡ start (fr ∷ below)
+    → (frame_left s).frame ≡ start below
 left_frame s fr below is c bytes frame =
     ap (λ (xs : List ℕ). number 4 xs (length xs - 4)) (left_bytes s fr below bytes frame) ∙ named_below below is c
 
-left_in : (s : StackState) (frames : List Frame) → IsChain frames → s.bytes ≡ spelled frames → s.frame ≡ start frames → Chain (left s)
+left_in : (s : StackState) (frames : List Frame) → IsChain frames → s.bytes ≡ bytes_of_frames frames → s.frame ≡ start frames → Chain (frame_left s)
 left_in s [] c bytes frame =
     let e : take s.frame s.bytes ≡ [] = rw (bytes, frame) refl in
     record { frames = []; linked = tt; bytes = e; frame = ap (λ (xs : List ℕ). number 4 xs (length xs - 4)) e }
@@ -124,11 +124,11 @@ left_in s (fr ∷ below) c bytes frame = record {
   frame = left_frame s fr below c.1.0 c.1.1 bytes frame;
 }
 
-pub left_keeps : (s : StackState) → Chain s → Chain (left s)
+pub left_keeps : (s : StackState) → Chain s → Chain (frame_left s)
 left_keeps s c = left_in s c.frames c.linked c.bytes c.frame
 
 -- on a stub for the current frame, or on nothing, a new frame may be entered
-ready_from : (s : StackState) (frames : List Frame) → IsChain frames → IsBelow frames → s.bytes ≡ spelled frames → s.frame ≡ start frames → IsReady s
+ready_from : (s : StackState) (frames : List Frame) → IsChain frames → IsBelow frames → s.bytes ≡ bytes_of_frames frames → s.frame ≡ start frames → IsReady s
 ready_from s [] c is bytes frame = inl bytes
 ready_from s (fr ∷ below) c is bytes frame =
     let held = held_in s fr below c.0 bytes frame in
@@ -138,24 +138,24 @@ ready_from s (fr ∷ below) c is bytes frame =
       ap (λ (xs : List ℕ). number 4 xs (length xs - 4)) bytes ∙ (named_below (fr ∷ below) is c ∙ sym frame),
     )
 
-left_ready_in : (s : StackState) (frames : List Frame) → IsChain frames → s.bytes ≡ spelled frames → s.frame ≡ start frames → IsReady (left s)
+left_ready_in : (s : StackState) (frames : List Frame) → IsChain frames → s.bytes ≡ bytes_of_frames frames → s.frame ≡ start frames → IsReady (frame_left s)
 left_ready_in s [] c bytes frame = inl (rw (bytes, frame) refl)
 left_ready_in s (fr ∷ below) c bytes frame =
-    ready_from (left s) below c.1.1 c.1.0 (left_bytes s fr below bytes frame) (left_frame s fr below c.1.0 c.1.1 bytes frame)
+    ready_from (frame_left s) below c.1.1 c.1.0 (left_bytes s fr below bytes frame) (left_frame s fr below c.1.0 c.1.1 bytes frame)
 
-pub left_ready : (s : StackState) → Chain s → IsReady (left s)
+pub left_ready : (s : StackState) → Chain s → IsReady (frame_left s)
 left_ready s c = left_ready_in s c.frames c.linked c.bytes c.frame
 
 -- a stub for the current frame is taken
-pub taken_keeps : (s : StackState) (frame : ℕ) → 16 ≤ value_bytes s → frame ≡ s.frame → Chain s → HasFrame s → Chain (record (without s 16) { frame = frame })
+pub taken_keeps : (s : StackState) (frame : ℕ) → 16 ≤ value_bytes s → frame ≡ s.frame → Chain s → HasFrame s → Chain (record (without_top s 16) { frame = frame })
 taken_keeps s frame le e c has =
-    subst (λ (f : ℕ). Chain (record (without s 16) { frame = f })) (sym e) (without_keeps s 4 le c has)
+    subst (λ (f : ℕ). Chain (record (without_top s 16) { frame = f })) (sym e) (without_keeps s 4 le c has)
 
 add_right : (a b c : ℕ) → a + b + c ≡ a + (b + c)
 add_right a b c = omega arith
 
 put_in : (p l v new : List ℕ) (o : ℕ) → o + length new ≤ length l
-    → replaced (p ++ l ++ v) (length p + o) new ≡ p ++ (take o l ++ new ++ drop (o + length new) l) ++ v
+    → replaced_within (p ++ l ++ v) (length p + o) new ≡ p ++ (take o l ++ new ++ drop (o + length new) l) ++ v
 put_in p l v new o h =
     let a = length-append (p ++ l) v in
     let b = length-append p l in
@@ -176,15 +176,15 @@ length_put l new o h =
     let d = length-drop (o + length new) l in
     omega (arith, a, b, t, d, h)
 
-pub length_replaced : (bytes : List ℕ) (at : ℕ) (new : List ℕ) → length (replaced bytes at new) ≡ length bytes
+pub length_replaced : (bytes : List ℕ) (at : ℕ) (new : List ℕ) → length (replaced_within bytes at new) ≡ length bytes
 length_replaced bytes at new =
     elim (cases_Bool (nat_le (at + length new) (length bytes))) [
       | inl e ↦ rw e (length_put bytes new at (leb-true _ _ e))
       | inr e ↦ rw e refl
     ]
 
-set_in : (s : StackState) (frames : List Frame) (offset : ℕ) (new : List ℕ) → IsChain frames → s.bytes ≡ spelled frames → s.frame ≡ start frames → HasFrame s
-    → offset + length new ≤ frame_len s - locals_pos s → Chain (record s { bytes = replaced s.bytes (local_at s offset) new })
+set_in : (s : StackState) (frames : List Frame) (offset : ℕ) (new : List ℕ) → IsChain frames → s.bytes ≡ bytes_of_frames frames → s.frame ≡ start frames → HasFrame s
+    → offset + length new ≤ frame_len s - locals_pos s → Chain (record s { bytes = replaced_within s.bytes (local_at s offset) new })
 set_in s [] offset new c bytes frame has le = absurd (let l = ap length bytes in omega (arith, l, has))
 set_in s (fr ∷ below) offset new c bytes frame has le =
     let h = c.0 in
@@ -193,12 +193,12 @@ set_in s (fr ∷ below) offset new c bytes frame has le =
     let size = h.locals in
     let fits : offset + length new ≤ length fr.locals = omega (arith, le, len, pos, size) in
     let b = length_before fr below h in
-    let p = length-append (spelled below ++ frame_head fr.format ++ fr.padding) fr.locals in
-    let at : local_at s offset ≡ length (spelled below ++ frame_head fr.format ++ fr.padding) + offset = omega (arith, pos, frame, b, p, size) in
-    let e : replaced s.bytes (local_at s offset) new ≡ spelled (record fr { locals = take offset fr.locals ++ new ++ drop (offset + length new) fr.locals } ∷ below) =
-    ap (λ (xs : List ℕ). replaced xs (local_at s offset) new) bytes
-    ∙ (ap (λ (n : ℕ). replaced (spelled (fr ∷ below)) n new) at
-    ∙ put_in (spelled below ++ frame_head fr.format ++ fr.padding) fr.locals fr.values new offset fits) in
+    let p = length-append (bytes_of_frames below ++ frame_head fr.format ++ fr.padding) fr.locals in
+    let at : local_at s offset ≡ length (bytes_of_frames below ++ frame_head fr.format ++ fr.padding) + offset = omega (arith, pos, frame, b, p, size) in
+    let e : replaced_within s.bytes (local_at s offset) new ≡ bytes_of_frames (record fr { locals = take offset fr.locals ++ new ++ drop (offset + length new) fr.locals } ∷ below) =
+    ap (λ (xs : List ℕ). replaced_within xs (local_at s offset) new) bytes
+    ∙ (ap (λ (n : ℕ). replaced_within (bytes_of_frames (fr ∷ below)) n new) at
+    ∙ put_in (bytes_of_frames below ++ frame_head fr.format ++ fr.padding) fr.locals fr.values new offset fits) in
     record {
       frames = record fr { locals = take offset fr.locals ++ new ++ drop (offset + length new) fr.locals } ∷ below;
       linked = (record { format = h.format; padding = h.padding; locals = length_put fr.locals new offset fits ∙ h.locals; values = h.values; fits = h.fits }, c.1);
@@ -207,11 +207,11 @@ set_in s (fr ∷ below) offset new c bytes frame has le =
     }
 
 pub set_keeps : (s : StackState) (offset : ℕ) (new : List ℕ) → offset + length new ≤ frame_len s - locals_pos s → Chain s → HasFrame s
-    → Chain (record s { bytes = replaced s.bytes (local_at s offset) new })
+    → Chain (record s { bytes = replaced_within s.bytes (local_at s offset) new })
 set_keeps s offset new le c has = set_in s c.frames offset new c.linked c.bytes c.frame has le
 
 -- a new frame
-pub ready_in : (s : StackState) (frames : List Frame) → IsChain frames → s.bytes ≡ spelled frames → s.frame ≡ start frames → IsReady s → IsBelow frames
+pub ready_in : (s : StackState) (frames : List Frame) → IsChain frames → s.bytes ≡ bytes_of_frames frames → s.frame ≡ start frames → IsReady s → IsBelow frames
 ready_in s [] c bytes frame ready = tt
 ready_in s (fr ∷ below) c bytes frame (inl none) =
     absurd (
@@ -245,8 +245,8 @@ entered_keeps s format c ready is fits = record {
   );
   bytes =
       ap (λ (b : List ℕ). b ++ fresh_frame format) c.bytes
-      ∙ (fresh_on (spelled c.frames) (frame_head format) (replicate (padding_len format) 0) (replicate (locals_len format) 0)
-      ∙ sym (append-nil (spelled c.frames ++ frame_head format ++ replicate (padding_len format) 0 ++ replicate (locals_len format) 0)));
+      ∙ (fresh_on (bytes_of_frames c.frames) (frame_head format) (replicate (padding_len format) 0) (replicate (locals_len format) 0)
+      ∙ sym (append-nil (bytes_of_frames c.frames ++ frame_head format ++ replicate (padding_len format) 0 ++ replicate (locals_len format) 0)));
   frame = ap length c.bytes;
 }
 

@@ -4,7 +4,7 @@ use Rattle.std.proofs.Common.{arith, sym, ap, length-append, nat_le, inl, inr, s
 use Rattle.std.proofs.Math.Seq.{take-length, drop-length}
 use Rattle.std.proofs.lemmas.Bool.{cases_Bool, leb-true}
 use Rattle.std.proofs.lemmas.List.{take-append-drop, length-take-le, append-nil, take-take}
-use Rattle.vm_stack.specs.StackState.{number, replaced}
+use Rattle.vm_stack.specs.StackState.{number, replaced_within}
 use Rattle.vm_stack.specs.Head.{StandsWhole, IsHead}
 use Rattle.vm_stack.specs.declared.head.Head.{Head}
 use Rattle.vm_stack.proofs.NumberLemmas.{number_within}
@@ -50,24 +50,24 @@ stands_in xs n frame head le within s =
 
 -- a number before what is put at a place
 number_before : (xs new : List ℕ) (at place : ℕ) → place + 4 ≤ at
-    → number 4 (replaced xs at new) place ≡ number 4 xs place
+    → number 4 (replaced_within xs at new) place ≡ number 4 xs place
 number_before xs new at place le =
     elim (cases_Bool (nat_le (at + length new) (length xs))) [
       | inl e ↦ (
-        let inside = leb-true _ _ e in
-        let size = length-take-le at xs (omega (arith, inside)) in
-        let more = length-append (take at xs) new in
-        rw e (sym (number_within (take at xs ++ new) (drop (at + length new) xs) place (omega (arith, le, size, more)))
-        ∙ (sym (number_within (take at xs) new place (omega (arith, le, size)))
-        ∙ (number_within (take at xs) (drop at xs) place (omega (arith, le, size))
-        ∙ ap (λ (zs : List ℕ). number 4 zs place) (take-append-drop at xs))))
-      )
+          let inside = leb-true _ _ e in
+          let size = length-take-le at xs (omega (arith, inside)) in
+          let more = length-append (take at xs) new in
+          rw e (sym (number_within (take at xs ++ new) (drop (at + length new) xs) place (omega (arith, le, size, more)))
+          ∙ (sym (number_within (take at xs) new place (omega (arith, le, size)))
+          ∙ (number_within (take at xs) (drop at xs) place (omega (arith, le, size))
+          ∙ ap (λ (zs : List ℕ). number 4 zs place) (take-append-drop at xs))))
+          )
       | inr e ↦ rw e refl
     ]
 
 -- and with bytes put above its two numbers
 pub stands_around : (xs new : List ℕ) (at frame : ℕ) (head : Head) → frame + 8 ≤ at
-    → StandsWhole xs frame head → StandsWhole (replaced xs at new) frame head
+    → StandsWhole xs frame head → StandsWhole (replaced_within xs at new) frame head
 stands_around xs new at frame head le s =
     record {
       above = s.above;
@@ -94,7 +94,7 @@ head_in xs m n frame head room le within h =
     }
 
 pub head_around : (xs new : List ℕ) (at frame : ℕ) (head : Head) → frame + 8 ≤ at
-    → IsHead xs frame head → IsHead (replaced xs at new) frame head
+    → IsHead xs frame head → IsHead (replaced_within xs at new) frame head
 head_around xs new at frame head le h = record {
   whole = λ small. stands_around xs new at frame head le (h.whole small);
   spans = h.spans;
@@ -115,6 +115,10 @@ pub closed : (items old buf now : List ℕ) (n m frame : ℕ) (head : Head) → 
     × IsHead (take m (take n (buf ++ drop (length buf) items))) frame head)
 closed items old buf now n m frame head same room size within small e h =
     let len = ap length same in
-    rw (restored items buf n (sym len ∙ room) (size ∙ len))
-    (omega (arith, len, size, within), (omega (arith, len, size, small),
-    subst (λ (xs : List ℕ). IsHead xs frame head) (sym e) h))
+    rw (restored items buf n (sym len ∙ room) (size ∙ len)) (
+      omega (arith, len, size, within),
+      (
+        omega (arith, len, size, small),
+        subst (λ (xs : List ℕ). IsHead xs frame head) (sym e) h,
+      ),
+    )

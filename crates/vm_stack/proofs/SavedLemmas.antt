@@ -9,7 +9,7 @@ use Rattle.byteorder.specs.Numbers.{length-bytes_high_first}
 use Rattle.vm_stack.specs.StackState.{StackState, number}
 use Rattle.vm_stack.specs.Locals.{IsWidth}
 use Rattle.vm_stack.specs.Frame.{frame_head, padding_len, locals_pos_of, locals_len, frame_len_of, in_named_frame}
-use Rattle.vm_stack.specs.Chain.{Frame, IsFormat, IsBelow, IsChain, Chain, HasFrame, IsReady, spelled, start}
+use Rattle.vm_stack.specs.Chain.{Frame, IsFormat, IsBelow, IsChain, Chain, HasFrame, IsReady, bytes_of_frames, start}
 use Rattle.vm_stack.specs.Saved.{LinkedFrames, SavedStack, OneFrame, format_from, is_type}
 use Rattle.vm_stack.proofs.NumberLemmas.{number_behind}
 use Rattle.vm_stack.proofs.FrameLemmas.{aligned_up}
@@ -199,17 +199,17 @@ under : (low h z l v : List ℕ) → low ++ h ++ z ++ l ++ v ≡ low ++ (h ++ z 
 under low h z l v = simp append_assoc refl
 
 link_in : (xs : List ℕ) (at : ℕ) (h : OneFrame 16 (drop at xs)) (below : List Frame) → at < length xs → number 4 xs (length xs - 4) ≡ at
-    → IsBelow below → IsChain below → take at xs ≡ spelled below → LinkedFrames xs
+    → IsBelow below → IsChain below → take at xs ≡ bytes_of_frames below → LinkedFrames xs
 link_in xs at h below inside names ends linked bytes =
     let fr = h.frame in
-    let whole : xs ≡ spelled (fr ∷ below) =
+    let whole : xs ≡ bytes_of_frames (fr ∷ below) =
     sym (take-append-drop at xs)
     ∙ (ap (λ (ys : List ℕ). ys ++ drop at xs) bytes
-    ∙ (ap (λ (ys : List ℕ). spelled below ++ ys) h.bytes ∙ sym (under (spelled below) (frame_head fr.format) fr.padding fr.locals fr.values))) in
-    let base = spelled below ++ frame_head fr.format ++ fr.padding ++ fr.locals in
+    ∙ (ap (λ (ys : List ℕ). bytes_of_frames below ++ ys) h.bytes ∙ sym (under (bytes_of_frames below) (frame_head fr.format) fr.padding fr.locals fr.values))) in
+    let base = bytes_of_frames below ++ frame_head fr.format ++ fr.padding ++ fr.locals in
     let l = length-append base fr.values in
     let four = h.least in
-    let low : length (spelled below) ≡ at = ap length (sym bytes) ∙ length-take-le at xs (omega (arith, inside)) in
+    let low : length (bytes_of_frames below) ≡ at = ap length (sym bytes) ∙ length-take-le at xs (omega (arith, inside)) in
     record {
       frames = fr ∷ below;
       ends = record {
@@ -232,15 +232,15 @@ pub record Below (xs : List ℕ) (at : ℕ) : Type 0 where
   pub low : LinkedFrames (take at xs)
 
 down_in : (xs : List ℕ) (at : ℕ) (frames : List Frame) → 0 < length xs → number 4 xs (length xs - 4) ≡ at → IsBelow frames → IsChain frames
-    → xs ≡ spelled frames → Below xs at
+    → xs ≡ bytes_of_frames frames → Below xs at
 down_in xs at [] some names ends linked bytes = absurd (let l = ap length bytes in omega (arith, l, some))
 down_in xs at (fr ∷ below) some names ends linked bytes =
-    let place : at ≡ length (spelled below) =
+    let place : at ≡ length (bytes_of_frames below) =
     sym names ∙ (ap (λ (ys : List ℕ). number 4 ys (length ys - 4)) bytes ∙ named_below (fr ∷ below) ends linked) in
     let over = frame_head fr.format ++ fr.padding ++ fr.locals ++ fr.values in
-    let split : xs ≡ spelled below ++ over = bytes ∙ under (spelled below) (frame_head fr.format) fr.padding fr.locals fr.values in
+    let split : xs ≡ bytes_of_frames below ++ over = bytes ∙ under (bytes_of_frames below) (frame_head fr.format) fr.padding fr.locals fr.values in
     let l = ap length split in
-    let a = length-append (spelled below) over in
+    let a = length-append (bytes_of_frames below) over in
     let b = length-append (frame_head fr.format ++ fr.padding ++ fr.locals) fr.values in
     let four = ends.four in
     record {
@@ -249,13 +249,13 @@ down_in xs at (fr ∷ below) some names ends linked bytes =
         frame = fr;
         is = linked.0;
         least = four;
-        bytes = rw (place, split) (drop-append_seam (spelled below) over);
+        bytes = rw (place, split) (drop-append_seam (bytes_of_frames below) over);
       };
       low = record {
         frames = below;
         ends = linked.1.0;
         linked = linked.1.1;
-        bytes = rw (place, split) (take-append_seam (spelled below) over);
+        bytes = rw (place, split) (take-append_seam (bytes_of_frames below) over);
       };
     }
 
@@ -364,18 +364,18 @@ chain_up s inside h low =
       bytes =
           sym (take-append-drop s.frame s.bytes)
           ∙ (ap (λ (ys : List ℕ). ys ++ drop s.frame s.bytes) low.bytes
-          ∙ (ap (λ (ys : List ℕ). spelled low.frames ++ ys) h.bytes
-          ∙ sym (under (spelled low.frames) (frame_head fr.format) fr.padding fr.locals fr.values)));
+          ∙ (ap (λ (ys : List ℕ). bytes_of_frames low.frames ++ ys) h.bytes
+          ∙ sym (under (bytes_of_frames low.frames) (frame_head fr.format) fr.padding fr.locals fr.values)));
       frame = sym (ap length (sym low.bytes) ∙ length-take-le s.frame s.bytes (omega (arith, inside)));
     }
 
-top_in : (s : StackState) (frames : List Frame) → HasFrame s → IsChain frames → s.bytes ≡ spelled frames → s.frame ≡ start frames → Top s
+top_in : (s : StackState) (frames : List Frame) → HasFrame s → IsChain frames → s.bytes ≡ bytes_of_frames frames → s.frame ≡ start frames → Top s
 top_in s [] some linked bytes place = absurd (let l = ap length bytes in omega (arith, l, some))
 top_in s (fr ∷ below) some linked bytes place =
     let over = frame_head fr.format ++ fr.padding ++ fr.locals ++ fr.values in
-    let split : s.bytes ≡ spelled below ++ over = bytes ∙ under (spelled below) (frame_head fr.format) fr.padding fr.locals fr.values in
+    let split : s.bytes ≡ bytes_of_frames below ++ over = bytes ∙ under (bytes_of_frames below) (frame_head fr.format) fr.padding fr.locals fr.values in
     let l = ap length split in
-    let a = length-append (spelled below) over in
+    let a = length-append (bytes_of_frames below) over in
     let b = length-append (frame_head fr.format ++ fr.padding ++ fr.locals) fr.values in
     let c = length-append (frame_head fr.format ++ fr.padding) fr.locals in
     let d = length-append (frame_head fr.format) fr.padding in
@@ -386,13 +386,13 @@ top_in s (fr ∷ below) some linked bytes place =
         frame = fr;
         is = linked.0;
         least = omega arith;
-        bytes = rw (place, split) (drop-append_seam (spelled below) over);
+        bytes = rw (place, split) (drop-append_seam (bytes_of_frames below) over);
       };
       low = record {
         frames = below;
         ends = linked.1.0;
         linked = linked.1.1;
-        bytes = rw (place, split) (take-append_seam (spelled below) over);
+        bytes = rw (place, split) (take-append_seam (bytes_of_frames below) over);
       };
     }
 

@@ -30,15 +30,15 @@ pub record IsFrame (fr : Frame) : Type 0 where
   pub fits : frame_len_of fr.format < 4294967296
 
 -- the bytes of frames, the current one first in the list and last in the bytes
-abbrev pub spelled : List Frame → List ℕ
-spelled [] = []
-spelled (fr ∷ below) =
-    spelled below ++ frame_head fr.format ++ fr.padding ++ fr.locals ++ fr.values
+abbrev pub bytes_of_frames : List Frame → List ℕ
+bytes_of_frames [] = []
+bytes_of_frames (fr ∷ below) =
+    bytes_of_frames below ++ frame_head fr.format ++ fr.padding ++ fr.locals ++ fr.values
 
 -- where the current frame begins
 abbrev pub start : List Frame → ℕ
 start [] = 0
-start (fr ∷ below) = length (spelled below)
+start (fr ∷ below) = length (bytes_of_frames below)
 
 -- the last four of these values are a stub whose FramePtr is this place
 pub record EndsInStub (values : List ℕ) (at : ℕ) : Type 0 where
@@ -48,7 +48,7 @@ pub record EndsInStub (values : List ℕ) (at : ℕ) : Type 0 where
 -- nothing is there, or the values of the current frame end in a stub that names that frame
 abbrev pub IsBelow : List Frame → Type 0
 IsBelow [] = Unit {0}
-IsBelow (fr ∷ below) = EndsInStub fr.values (length (spelled below))
+IsBelow (fr ∷ below) = EndsInStub fr.values (length (bytes_of_frames below))
 
 -- each frame is one, and stands on a stub for the frame below it
 abbrev pub IsChain : List Frame → Type 0
@@ -59,7 +59,7 @@ IsChain (fr ∷ below) = IsFrame fr × (IsBelow below × IsChain below)
 pub record Chain (s : StackState) : Type 0 where
   pub frames : List Frame
   pub linked : IsChain frames
-  pub bytes : s.bytes ≡ spelled frames
+  pub bytes : s.bytes ≡ bytes_of_frames frames
   pub frame : s.frame ≡ start frames
 
 -- a frame is there

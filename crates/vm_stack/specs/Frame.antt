@@ -58,8 +58,8 @@ abbrev pub in_named_frame : StackState → List ℕ → StackState
 in_named_frame s bytes = record s { bytes = bytes; frame = number 4 bytes (length bytes - 4) }
 
 -- without the current frame
-abbrev pub left : StackState → StackState
-left s = in_named_frame s (take s.frame s.bytes)
+abbrev pub frame_left : StackState → StackState
+frame_left s = in_named_frame s (take s.frame s.bytes)
 
 -- without all from a place on, where that is a multiple of four and not past the top
 abbrev pub cut_to : StackState → ℕ → Result StackState StackFault
@@ -69,6 +69,6 @@ cut_to s to =
     else Err Underflow
 
 -- with these bytes in place of its own, where they fit
-abbrev pub loaded : StackState → List ℕ → Result StackState StackFault
-loaded s bytes =
+abbrev pub stack_loaded : StackState → List ℕ → Result StackState StackFault
+stack_loaded s bytes =
     if nat_le (length bytes) s.limit then Ok (in_named_frame s bytes) else Err Overflow

@@ -2,7 +2,7 @@
 use Rattle.std.specs.Prelude.{ℕ, ◌≡◌, ◌⊎◌, ◌+◌, ◌-◌, nat_le}
 use Rattle.std.specs.Prelude.{if◌then◌else◌, Result, Ok, Err}
 use Rattle.byteorder.specs.Endian.{big_bytes}
-use Rattle.vm_stack.specs.StackState.{StackState, number, replaced, frame_len, locals_pos}
+use Rattle.vm_stack.specs.StackState.{StackState, number, replaced_within, frame_len, locals_pos}
 use Rattle.vm_stack.specs.declared.fault.StackFault.{StackFault}
 use Rattle.vm_stack.specs.declared.fault.StackFault.TheVariants.{BadLocal}
 
@@ -25,5 +25,5 @@ local s offset n =
 abbrev pub local_set : StackState → ℕ → ℕ → ℕ → Result StackState StackFault
 local_set s offset n x =
     if nat_le (offset + n) (frame_len s - locals_pos s)
-    then Ok (record s { bytes = replaced s.bytes (local_at s offset) (big_bytes n x) })
+    then Ok (record s { bytes = replaced_within s.bytes (local_at s offset) (big_bytes n x) })
     else Err BadLocal

@@ -3,14 +3,14 @@ use Rattle.std.specs.Prelude.{ℕ, ◌≡◌, ◌≤◌, ◌<◌, ◌+◌, ◌==
 use Rattle.std.specs.Prelude.{if◌then◌else◌}
 use Rattle.std.specs.Prelude.{List, [], ◌∷◌, ◌++◌, length}
 use Rattle.vm_stack.specs.Frame.{frame_head}
-use Rattle.vm_stack.specs.Chain.{Frame, IsFrame, IsBelow, IsChain, spelled}
+use Rattle.vm_stack.specs.Chain.{Frame, IsFrame, IsBelow, IsChain, bytes_of_frames}
 
 -- the bytes are frames down to 0, with a stub on top that names the last; or there are none
 pub record LinkedFrames (xs : List ℕ) : Type 0 where
   pub frames : List Frame
   pub ends : IsBelow frames
   pub linked : IsChain frames
-  pub bytes : xs ≡ spelled frames
+  pub bytes : xs ≡ bytes_of_frames frames
 
 -- the same with a frame at least
 pub record SavedStack (xs : List ℕ) : Type 0 where

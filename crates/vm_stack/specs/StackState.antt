@@ -18,8 +18,8 @@ abbrev pub number : ℕ → List ℕ → ℕ → ℕ
 number n bytes at = if nat_le (at + n) (length bytes) then big_number n (drop at bytes) else 0
 
 -- the bytes with these in place of those at a place
-abbrev pub replaced : List ℕ → ℕ → List ℕ → List ℕ
-replaced bytes at new =
+abbrev pub replaced_within : List ℕ → ℕ → List ℕ → List ℕ
+replaced_within bytes at new =
     if nat_le (at + length new) (length bytes)
     then take at bytes ++ new ++ drop (at + length new) bytes
     else bytes

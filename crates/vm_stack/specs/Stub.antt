@@ -2,7 +2,7 @@
 use Rattle.std.specs.Prelude.{ℕ, ◌+◌, ◌-◌, nat_le, if◌then◌else◌}
 use Rattle.std.specs.Prelude.{List, [], ◌∷◌, length, Result, Ok, Err}
 use Rattle.vm_stack.specs.StackState.{StackState, number, words, value_bytes}
-use Rattle.vm_stack.specs.Values.{appended, without}
+use Rattle.vm_stack.specs.Values.{appended, without_top}
 use Rattle.vm_stack.specs.declared.stub.Stub.{Stub}
 use Rattle.vm_stack.specs.declared.fault.StackFault.{StackFault}
 use Rattle.vm_stack.specs.declared.fault.StackFault.TheVariants.{Underflow}
@@ -29,5 +29,5 @@ abbrev pub stub_taken : StackState → Result (StackState × Stub) StackFault
 stub_taken s =
     if nat_le 16 (value_bytes s)
     then (let x = stub_at s.bytes (length s.bytes - 16) in
-    Ok (record (without s 16) { frame = x.frame }, x))
+    Ok (record (without_top s 16) { frame = x.frame }, x))
     else Err Underflow

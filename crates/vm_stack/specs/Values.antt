@@ -19,19 +19,19 @@ abbrev pub pushed : StackState → ℕ → Result StackState StackFault
 pushed s x = appended s (big_bytes 4 x)
 
 -- without the n bytes on top
-abbrev pub without : StackState → ℕ → StackState
-without s n = record s { bytes = take (length s.bytes - n) s.bytes }
+abbrev pub without_top : StackState → ℕ → StackState
+without_top s n = record s { bytes = take (length s.bytes - n) s.bytes }
 
 -- without the value on top, and that value
 abbrev pub popped : StackState → Result (StackState × ℕ) StackFault
 popped s =
     if nat_le 4 (value_bytes s)
-    then Ok (without s 4, number 4 s.bytes (length s.bytes - 4))
+    then Ok (without_top s 4, number 4 s.bytes (length s.bytes - 4))
     else Err Underflow
 
 -- how many values the current frame holds
-abbrev pub count : StackState → ℕ
-count s = value_bytes s / 4
+abbrev pub value_count : StackState → ℕ
+value_count s = value_bytes s / 4
 
 -- the value at a depth, 0 the top
 abbrev pub peeked : StackState → ℕ → Result ℕ StackFault

@@ -79,7 +79,7 @@ fn rotate_last(bytes: &mut [u8], count: usize, by: usize)
 #[inline(always)]
 pub(crate) fn put(buf: &mut [u8], len: usize, at: usize, new: &[u8])
     requires { len ≤ length buf.old }
-    ensures bytes { take len buf.new ≡ state.replaced (take len buf.old) at new.now }
+    ensures bytes { take len buf.new ≡ state.replaced_within (take len buf.old) at new.now }
     ensures size { length buf.new ≡ length buf.old }
 {
     replace(&mut buf[..len], at, new);
@@ -88,7 +88,7 @@ pub(crate) fn put(buf: &mut [u8], len: usize, at: usize, new: &[u8])
 // Puts the bytes in place of those at a place, where they are all inside.
 #[inline(always)]
 fn replace(bytes: &mut [u8], at: usize, new: &[u8])
-    ensures bytes { bytes.new ≡ state.replaced bytes.old at new.now }
+    ensures bytes { bytes.new ≡ state.replaced_within bytes.old at new.now }
     ensures size { length bytes.new ≡ length bytes.old }
 {
     if bytes.len() < new.len() || bytes.len() - new.len() < at {

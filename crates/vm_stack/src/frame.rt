@@ -2,7 +2,7 @@
 ghost use Rattle.std.specs.Prelude.{◌≡◌, ◌≤◌, ◌<◌, ◌+◌, ◌*◌, ◌^◌};
 ghost use Rattle.std.specs.Prelude.{◌++◌, length, take, true};
 ghost use Rattle.std.specs.Prelude.{OnErr, OnOk};
-ghost use Rattle.vm_stack.specs.Answer.{Leaves};
+ghost use Rattle.vm_stack.specs.Answer.{LeavesStack};
 ghost use Rattle.vm_stack.specs.Frame as frames;
 ghost use Rattle.vm_stack.specs.Token as tokens;
 ghost use Rattle.vm_stack.specs.Chain.{Chain, HasFrame, IsReady, IsFormat, EndsInOwnStub};
@@ -16,7 +16,7 @@ impl Stack {
     /// Makes a new frame for the pairs of type and count that `format` holds with the pair 0,0 at
     /// its end. The locals are zero. Overflow where the frame doesn't fit.
     pub fn enter(&mut self, format: &[u8]) -> Result<(), StackFault>
-        ensures ok { Leaves (frames.entered self.old format.now) self.new result }
+        ensures ok { LeavesStack (frames.entered self.old format.now) self.new result }
         ensures err { OnErr result (self.new ≡ self.old) }
 
         ensures kept { Chain self.old → IsReady self.old → IsFormat format.now
@@ -58,7 +58,7 @@ impl Stack {
 
     /// Drops the current frame. The current one is then that which the FramePtr on top names.
     pub fn leave(&mut self)
-        ensures ok { self.new ≡ frames.left self.old }
+        ensures ok { self.new ≡ frames.frame_left self.old }
 
         ensures kept { Chain self.old → Chain self.new }
         // a frame stands on a stub for the one below it, so another may be entered in its place
@@ -71,7 +71,7 @@ impl Stack {
     /// Drops all from a place on. The current frame is then that which the FramePtr on top names.
     /// Underflow where the place is past the top or no multiple of four.
     pub fn cut(&mut self, to: u32) -> Result<(), StackFault>
-        ensures ok { Leaves (frames.cut_to self.old to) self.new result }
+        ensures ok { LeavesStack (frames.cut_to self.old to) self.new result }
         ensures err { OnErr result (self.new ≡ self.old) }
 
         // a chain stays one where a stub ends at the place, and whatever stands is one where the

@@ -2,7 +2,7 @@
 ghost use Rattle.std.specs.Prelude.{◌≡◌, ◌≤◌, ◌<◌, ◌+◌, ◌-◌, ◌^◌, length, IfErr, IfOk, OnErr};
 ghost use Rattle.std.specs.Prelude.{OnOk};
 ghost use Rattle.byteorder.specs.Endian.{big_bytes};
-ghost use Rattle.vm_stack.specs.Answer.{Leaves};
+ghost use Rattle.vm_stack.specs.Answer.{LeavesStack};
 ghost use Rattle.vm_stack.specs.StackState as state;
 ghost use Rattle.vm_stack.specs.Locals as locals;
 ghost use Rattle.vm_stack.specs.Chain.{Chain};
@@ -29,7 +29,7 @@ impl Stack {
     #[inline(always)]
     pub fn set_local(&mut self, offset: u32, width: u32, value: u32) -> Result<(), StackFault>
         requires { locals.IsWidth width }
-        ensures ok { Leaves (locals.local_set self.old offset width value) self.new result }
+        ensures ok { LeavesStack (locals.local_set self.old offset width value) self.new result }
         ensures err { OnErr result (self.new ≡ self.old) }
 
         ensures kept { Chain self.old → OnOk result (Chain self.new) }
@@ -99,7 +99,7 @@ impl Stack {
     fn put_number(&mut self, at: usize, width: u32, value: u32)
         requires { locals.IsWidth width }
         ensures { self.new ≡ record self.old {
-          bytes = state.replaced self.old.bytes at (big_bytes width value);
+          bytes = state.replaced_within self.old.bytes at (big_bytes width value);
         } }
     {
         match width {

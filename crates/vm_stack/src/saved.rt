@@ -3,7 +3,7 @@ ghost use Rattle.std.specs.Prelude.{◌≡◌, ◌≤◌, ◌<◌, ◌+◌, ◌-
 ghost use Rattle.std.specs.Prelude.{◌++◌, length, take, drop, true, Some, None};
 ghost use Rattle.std.specs.Prelude.{IfOk, OnErr, OnOk};
 ghost use Rattle.byteorder.specs.Endian.{big_bytes};
-ghost use Rattle.vm_stack.specs.Answer.{Leaves};
+ghost use Rattle.vm_stack.specs.Answer.{LeavesStack};
 ghost use Rattle.vm_stack.specs.StackState as state;
 ghost use Rattle.vm_stack.specs.Frame as frames;
 ghost use Rattle.vm_stack.specs.Chain.{Chain, EndsInOwnStub, HasFrame};
@@ -73,7 +73,7 @@ impl Stack {
     /// Takes the bytes in place of its own. The current frame is then that which the FramePtr on
     /// top names. Overflow where they are longer than the stack's size.
     pub fn load(&mut self, bytes: &[u8]) -> Result<(), StackFault>
-        ensures ok { Leaves (frames.loaded self.old bytes.now) self.new result }
+        ensures ok { LeavesStack (frames.stack_loaded self.old bytes.now) self.new result }
         ensures err { OnErr result (self.new ≡ self.old) }
 
         ensures kept { LinkedFrames bytes.now → OnOk result (Chain self.new) }

@@ -148,7 +148,7 @@ impl Stack {
     #[inline(always)]
     pub(crate) fn shrink(&mut self, count: usize)
         requires { count ≤ length self.old.bytes }
-        ensures { self.new ≡ values.without self.old count }
+        ensures { self.new ≡ values.without_top self.old count }
     {
         self.len -= count;
         if self.head.values <= self.len {
@@ -184,7 +184,7 @@ impl Stack {
     #[inline(always)]
     pub(crate) fn replace(&mut self, at: usize, new: &[u8])
         ensures { self.new ≡ record self.old {
-          bytes = state.replaced self.old.bytes at new.now;
+          bytes = state.replaced_within self.old.bytes at new.now;
         } }
     {
         put(&mut self.buf, self.len, at, new);

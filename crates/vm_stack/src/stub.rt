@@ -1,9 +1,9 @@
 // Call stubs, and the tokens that name where one ends.
 ghost use Rattle.std.specs.Prelude.{◌≡◌, ◌≤◌, ◌<◌, ◌+◌, ◌++◌, length};
 ghost use Rattle.std.specs.Prelude.{OnErr, OnOk};
-ghost use Rattle.vm_stack.specs.Answer.{Gives, Leaves};
+ghost use Rattle.vm_stack.specs.Answer.{GivesFromStack, LeavesStack};
 ghost use Rattle.vm_stack.specs.Stub as stubs;
-ghost use Rattle.vm_stack.specs.Values.{without};
+ghost use Rattle.vm_stack.specs.Values.{without_top};
 ghost use Rattle.vm_stack.specs.Token as tokens;
 ghost use Rattle.vm_stack.specs.Chain.{Chain, HasFrame, IsReady, EndsInOwnStub};
 
@@ -25,7 +25,7 @@ impl Stack {
     /// Pushes the four words of a stub, FramePtr on top. Overflow where fewer than 16 bytes are
     /// free.
     pub fn push_stub(&mut self, stub: Stub) -> Result<(), StackFault>
-        ensures ok { Leaves (stubs.stub_pushed self.old stub) self.new result }
+        ensures ok { LeavesStack (stubs.stub_pushed self.old stub) self.new result }
         ensures err { OnErr result (self.new ≡ self.old) }
 
         ensures kept { Chain self.old → HasFrame self.old → OnOk result (Chain self.new) }
@@ -54,7 +54,7 @@ impl Stack {
     /// Pops the four words of the stub on top, and makes its frame the current one. Underflow where
     /// the current frame holds fewer than four values.
     pub fn take_stub(&mut self) -> Result<Stub, StackFault>
-        ensures ok { Gives (stubs.stub_taken self.old) self.new result }
+        ensures ok { GivesFromStack (stubs.stub_taken self.old) self.new result }
         ensures err { OnErr result (self.new ≡ self.old) }
 
         ensures kept { Chain self.old → EndsInOwnStub self.old → OnOk result (Chain self.new) }
@@ -73,7 +73,7 @@ impl Stack {
     // Drops the stub on top, for this frame.
     fn drop_stub(&mut self, frame: u32)
         requires { 16 ≤ length self.old.bytes }
-        ensures { self.new ≡ record (without self.old 16) { frame = frame } }
+        ensures { self.new ≡ record (without_top self.old 16) { frame = frame } }
     {
         self.shrink(16);
         self.set_frame(frame);

@@ -1,6 +1,6 @@
 // The values of the current frame: push, pop and the stack opcodes.
 ghost use Rattle.std.specs.Prelude.{◌≡◌, ◌≤◌, ◌+◌, length, OnErr, OnOk};
-ghost use Rattle.vm_stack.specs.Answer.{Gives, Leaves};
+ghost use Rattle.vm_stack.specs.Answer.{GivesFromStack, LeavesStack};
 ghost use Rattle.vm_stack.specs.Values as values;
 ghost use Rattle.vm_stack.specs.Chain.{Chain, HasFrame};
 
@@ -12,7 +12,7 @@ impl Stack {
     /// Pushes a value of four bytes. Overflow where fewer than four bytes are free.
     #[inline(always)]
     pub fn push(&mut self, value: u32) -> Result<(), StackFault>
-        ensures ok { Leaves (values.pushed self.old value) self.new result }
+        ensures ok { LeavesStack (values.pushed self.old value) self.new result }
         ensures err { OnErr result (self.new ≡ self.old) }
 
         ensures kept { Chain self.old → HasFrame self.old → OnOk result (Chain self.new) }
@@ -30,7 +30,7 @@ impl Stack {
     /// Pops the value on top. Underflow where the current frame holds none.
     #[inline(always)]
     pub fn pop(&mut self) -> Result<u32, StackFault>
-        ensures ok { Gives (values.popped self.old) self.new result }
+        ensures ok { GivesFromStack (values.popped self.old) self.new result }
         ensures err { OnErr result (self.new ≡ self.old) }
 
         ensures kept { Chain self.old → OnOk result (Chain self.new) }
@@ -47,7 +47,7 @@ impl Stack {
 
     /// How many values the current frame holds (`stkcount`).
     pub fn count(&self) -> u32
-        ensures { result ≡ values.count self.now }
+        ensures { result ≡ values.value_count self.now }
     {
         (self.value_bytes() / 4) as u32
     }
@@ -68,7 +68,7 @@ impl Stack {
     /// Turns the top `count` values by a signed number of places towards the top (`stkroll`).
     /// Underflow where the frame holds fewer.
     pub fn roll(&mut self, count: u32, by: u32) -> Result<(), StackFault>
-        ensures ok { Leaves (values.rolled self.old count by) self.new result }
+        ensures ok { LeavesStack (values.rolled self.old count by) self.new result }
         ensures err { OnErr result (self.new ≡ self.old) }
 
         ensures kept { Chain self.old → OnOk result (Chain self.new) }

@@ -7,7 +7,7 @@ use Rattle.byteorder.specs.Numbers.{big_from-append}
 use Rattle.vm_memory.specs.Access.{read}
 use Rattle.vm_memory.specs.MemoryMap.{MemoryMap, number_at}
 use Rattle.vm_string.specs.Node.{node_at, contents}
-use Rattle.vm_string.specs.Walk.{met, followed, walk, cursor_at}
+use Rattle.vm_string.specs.Walk.{met, branch_followed, walk, cursor_at}
 use Rattle.vm_string.specs.declared.node.Node.{Node}
 use Rattle.vm_string.specs.declared.node.Node.TheVariants as node
 use Rattle.vm_string.specs.declared.walk.Branch.TheVariants.{Fork}
@@ -59,7 +59,7 @@ fork_front at front m is inside kind =
 -- the way behind a fork below RAMSTART
 pub followed_front : (front : List ℕ) (m : MemoryMap) (root left right bit : ℕ) (w : Way) → front ≡ take (length front) m.bytes
     → w.here / 8 < length front → bit ≡ number_at 1 front (w.here / 8) / 2 ^ (w.here % 8) % 2
-    → ◌≡◌ {A = Result Way StringStop} (Ok (record w { node = cond (nat_eq bit 0) left right; here = w.here + 1 })) (followed m root w (Fork left right))
+    → ◌≡◌ {A = Result Way StringStop} (Ok (record w { node = cond (nat_eq bit 0) left right; here = w.here + 1 })) (branch_followed m root w (Fork left right))
 followed_front front m root left right bit w is inside b =
     let r = read_front 1 (w.here / 8) front m is (omega arith) in
     rw (r, b) refl

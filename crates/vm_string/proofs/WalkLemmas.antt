@@ -1,9 +1,9 @@
 -- One node of a walk.
 use Rattle.std.proofs.Common.{◌≡◌, ℕ, ◌-◌, ◌<◌, zero, suc, Result, Ok, Err, refl, arith, ap}
+use Rattle.vm_memory.specs.Chaining.{◌>>=◌}
 use Rattle.vm_memory.specs.MemoryMap.{MemoryMap}
-use Rattle.vm_string.specs.Fault.{◌>>=◌}
 use Rattle.vm_string.specs.Node.{node_at}
-use Rattle.vm_string.specs.Walk.{met, followed, walk}
+use Rattle.vm_string.specs.Walk.{met, branch_followed, walk}
 use Rattle.vm_string.specs.declared.node.Node.{Node}
 use Rattle.vm_string.specs.declared.walk.Branch.{Branch}
 use Rattle.vm_string.specs.declared.walk.Way.{Way}
@@ -38,13 +38,13 @@ walk_ends zero m root w x b h is seen = rw (← is, ← seen) refl
 walk_ends (suc n) m root w x b h is seen = absurd (omega arith)
 
 pub walk_lost : (n : ℕ) (m : MemoryMap) (root : ℕ) (w : Way) (x : Node) (b : Branch) (e : StringStop) → 0 < n
-    → Ok x ≡ node_at m w.node → Ok (Branches b) ≡ met m w x → Err e ≡ followed m root w b → Err e ≡ walk n m root w
+    → Ok x ≡ node_at m w.node → Ok (Branches b) ≡ met m w x → Err e ≡ branch_followed m root w b → Err e ≡ walk n m root w
 unfolding walk
 walk_lost zero m root w x b e h is seen lost = absurd (omega arith)
 walk_lost (suc n) m root w x b e h is seen lost = rw (← is, ← seen) (ap (λ (r : Result Way StringStop). r >>= (λ v. walk n m root v)) lost)
 
 pub walk_on : (n : ℕ) (m : MemoryMap) (root : ℕ) (w v : Way) (x : Node) (b : Branch) → 0 < n
-    → Ok x ≡ node_at m w.node → Ok (Branches b) ≡ met m w x → Ok v ≡ followed m root w b
+    → Ok x ≡ node_at m w.node → Ok (Branches b) ≡ met m w x → Ok v ≡ branch_followed m root w b
     → walk (n - 1) m root v ≡ walk n m root w
 unfolding walk
 walk_on zero m root w v x b h is seen on = absurd (omega arith)

@@ -3,10 +3,11 @@ use Rattle.std.specs.Prelude.{ℕ, zero, suc, ◌≡◌, ◌+◌, ◌*◌, ◌/�
 use Rattle.std.specs.Prelude.{◌^◌, ◌==◌, nat_le, if◌then◌else◌, List, [], ◌∷◌}
 use Rattle.std.specs.Prelude.{◌++◌, length, drop, Result, Ok, Err}
 use Rattle.byteorder.specs.Endian.{big_number}
+use Rattle.vm_memory.specs.Chaining.{◌>>=◌}
 use Rattle.vm_memory.specs.Access.{read}
 use Rattle.vm_memory.specs.Fault as memory
 use Rattle.vm_memory.specs.MemoryMap.{MemoryMap}
-use Rattle.vm_string.specs.Fault.{◌>>=◌, coded}
+use Rattle.vm_string.specs.Fault.{string_coded}
 use Rattle.vm_string.specs.Node.{node_at}
 use Rattle.vm_string.specs.declared.node.Node.{Node}
 use Rattle.vm_string.specs.declared.node.Node.TheVariants as node
@@ -62,16 +63,16 @@ led m t (node.Words at) = memory.coded (read 4 m (at + 4 * t.taken)) >>= (λ x. 
 led m t (node.Refers at args_at args) = Ok (Leaf (piece.Call at args_at args) (Coded t.here 0))
 
 -- 0 goes left, 1 right; the bits end with memory
-abbrev pub forked : Trail → ℕ → ℕ → List ℕ → Result Trail ℕ
-forked t left right [] = Err 1
-forked t left right (bit ∷ bits) =
+abbrev pub trail_forked : Trail → ℕ → ℕ → List ℕ → Result Trail ℕ
+trail_forked t left right [] = Err 1
+trail_forked t left right (bit ∷ bits) =
     Ok (record t { node = if bit == 0 then left else right; here = bits })
 
 -- a piece, or else the piece of the path that goes on
 abbrev pub gone_on : ℕ → Trail → (Trail → Result (Piece × Rest) ℕ) → Leads
     → Result (Piece × Rest) ℕ
 gone_on root t go (Leaf p r) = Ok (p, r)
-gone_on root t go (Fork left right) = forked t left right t.here >>= go
+gone_on root t go (Fork left right) = trail_forked t left right t.here >>= go
 gone_on root t go Over = go (record { node = root; start = t.here; here = t.here; taken = 0 })
 
 -- a path that is too long
@@ -82,9 +83,9 @@ given_up Over = Err 15
 
 -- the piece to which at most n branches lead
 unfoldable pub descend : ℕ → MemoryMap → ℕ → Trail → Result (Piece × Rest) ℕ
-descend zero m root t = coded (node_at m t.node) >>= (λ x. led m t x >>= given_up)
+descend zero m root t = string_coded (node_at m t.node) >>= (λ x. led m t x >>= given_up)
 descend (suc n) m root t =
-    coded (node_at m t.node) >>= (λ x. led m t x >>= gone_on root t (descend n m root))
+    string_coded (node_at m t.node) >>= (λ x. led m t x >>= gone_on root t (descend n m root))
 
 -- the next character of n bytes
 abbrev pub plain : ℕ → List ℕ → Result (Piece × Rest) ℕ
@@ -111,11 +112,11 @@ string_in m at kind =
     else (if kind == 0xE2 then Ok (Plain 4 (drop (at + 4) m.bytes))
     else Err 15))
 
-abbrev pub begun : MemoryMap → Rest → Result Rest ℕ
-begun m (Object at) = memory.coded (read 1 m at) >>= string_in m at
-begun m (Plain n bytes) = Ok (Plain n bytes)
-begun m (Coded bits taken) = Ok (Coded bits taken)
-begun m Nothing = Ok Nothing
+abbrev pub string_begun : MemoryMap → Rest → Result Rest ℕ
+string_begun m (Object at) = memory.coded (read 1 m at) >>= string_in m at
+string_begun m (Plain n bytes) = Ok (Plain n bytes)
+string_begun m (Coded bits taken) = Ok (Coded bits taken)
+string_begun m Nothing = Ok Nothing
 
 abbrev pub piece_of : MemoryMap → ℕ → Rest → Result (Piece × Rest) ℕ
 piece_of m table (Plain n bytes) = plain n bytes
@@ -125,7 +126,7 @@ piece_of m table Nothing = Err 15
 
 -- the first piece, and what is left
 abbrev pub first : MemoryMap → ℕ → Rest → Result (Piece × Rest) ℕ
-first m table r = begun m r >>= (λ s. piece_of m table s)
+first m table r = string_begun m r >>= (λ s. piece_of m table s)
 
 -- an item of a string's list: a piece, or the fault that ends it
 pub data Item : Type 0 where
@@ -138,22 +139,22 @@ items piece.End more = Is piece.End ∷ []
 items (piece.Char x) more = Is (piece.Char x) ∷ more
 items (piece.Call at args_at args) more = Is (piece.Call at args_at args) ∷ more
 
-abbrev pub listed : {S : Type 0} → Result (Piece × S) ℕ → (S → List Item) → List Item
-listed (Err n) more = Stops n ∷ []
-listed (Ok x) more = items x.0 (more x.1)
+abbrev pub items_listed : {S : Type 0} → Result (Piece × S) ℕ → (S → List Item) → List Item
+items_listed (Err n) more = Stops n ∷ []
+items_listed (Ok x) more = items x.0 (more x.1)
 
 -- the first n pieces of what is left
 unfoldable pub pieces_of : ℕ → MemoryMap → ℕ → Rest → List Item
 pieces_of zero m table r = []
-pieces_of (suc n) m table r = listed (first m table r) (pieces_of n m table)
+pieces_of (suc n) m table r = items_listed (first m table r) (pieces_of n m table)
 
 -- the first n pieces of the string at an address
 abbrev pub pieces : MemoryMap → ℕ → ℕ → ℕ → List Item
 pieces m table at n = pieces_of n m table (Object at)
 
 -- what a cursor stands for
-abbrev pub rest_of : MemoryMap → Cursor → Rest
-rest_of m c =
+abbrev pub rest_of_string : MemoryMap → Cursor → Rest
+rest_of_string m c =
     if c.kind == 0 then Object c.at
     else (if c.kind == 0xE0 then Plain 1 (drop c.at m.bytes)
     else (if c.kind == 0xE1 then Coded (drop (8 * c.at + c.bit % 8) (bits m.bytes)) (c.bit / 8)
@@ -161,8 +162,8 @@ rest_of m c =
     else Nothing)))
 
 -- for every n a cursor stands for what the call gave, and then for what the new cursor stands for
-abbrev pub Spells : MemoryMap → ℕ → Cursor → Result (Piece × Cursor) StringStop → Type 0
-Spells m table c result =
+abbrev pub SpellsPiece : MemoryMap → ℕ → Cursor → Result (Piece × Cursor) StringStop → Type 0
+SpellsPiece m table c result =
     (n : ℕ)
-    → listed (coded result) (λ d. pieces_of n m table (rest_of m d))
-    ≡ pieces_of (suc n) m table (rest_of m c)
+    → items_listed (string_coded result) (λ d. pieces_of n m table (rest_of_string m d))
+    ≡ pieces_of (suc n) m table (rest_of_string m c)

@@ -1,9 +1,10 @@
 -- The next piece of a string at a cursor (Glulx 3.1.3, "Strings").
 use Rattle.std.specs.Prelude.{ℕ, ◌+◌, ◌*◌, ◌/◌, ◌%◌, ◌^◌, ◌==◌}
 use Rattle.std.specs.Prelude.{if◌then◌else◌, Result, Ok, Err}
+use Rattle.vm_memory.specs.Chaining.{◌>>=◌}
 use Rattle.vm_memory.specs.Access.{read}
 use Rattle.vm_memory.specs.MemoryMap.{MemoryMap}
-use Rattle.vm_string.specs.Fault.{◌>>=◌, reads}
+use Rattle.vm_string.specs.Fault.{string_read}
 use Rattle.vm_string.specs.Node.{with_word}
 use Rattle.vm_string.specs.Walk.{walk}
 use Rattle.vm_string.specs.declared.piece.Cursor.{Cursor}
@@ -31,15 +32,15 @@ coded_piece m table c =
 
 -- the piece of a string whose characters have n bytes each, 0 its end
 abbrev pub plain_piece : ℕ → MemoryMap → Cursor → Result (Piece × Cursor) StringStop
-plain_piece n m c = reads (read n m c.at) >>= (λ x.
+plain_piece n m c = string_read (read n m c.at) >>= (λ x.
     Ok (if x == 0 then piece.End else piece.Char x, record c { at = c.at + n }))
 
 -- a cursor before an object's first byte comes to its first piece; three bytes behind an E2 are
 -- passed
-unfoldable pub opened : MemoryMap → Cursor → Result Cursor StringStop
-opened m c =
+unfoldable pub at_first_piece : MemoryMap → Cursor → Result Cursor StringStop
+at_first_piece m c =
     if c.kind == 0 then
-    reads (read 1 m c.at) >>= (λ kind.
+    string_read (read 1 m c.at) >>= (λ kind.
     if kind == 0xE0 then Ok (record { kind = 0xE0; at = c.at + 1; bit = 0 })
     else (if kind == 0xE1 then Ok (record { kind = 0xE1; at = c.at + 1; bit = 0 })
     else (if kind == 0xE2 then Ok (record { kind = 0xE2; at = c.at + 4; bit = 0 })
@@ -53,5 +54,5 @@ piece_in m table c =
     else (if c.kind == 0xE2 then plain_piece 4 m c
     else Err (BadString c.at)))
 
-abbrev pub next : MemoryMap → ℕ → Cursor → Result (Piece × Cursor) StringStop
-next m table c = opened m c >>= (λ d. piece_in m table d)
+abbrev pub piece_after : MemoryMap → ℕ → Cursor → Result (Piece × Cursor) StringStop
+piece_after m table c = at_first_piece m c >>= (λ d. piece_in m table d)

@@ -1,10 +1,11 @@
 -- The nodes of the string-decoding table (Glulx 3.1.3, "The String-Decoding Table").
 use Rattle.std.specs.Prelude.{ℕ, ◌≤◌, ◌+◌, ◌==◌, if◌then◌else◌, Result, Ok}
 use Rattle.std.specs.Prelude.{Err}
+use Rattle.vm_memory.specs.Chaining.{◌>>=◌}
 use Rattle.vm_memory.specs.Access.{read}
 use Rattle.vm_memory.specs.MemoryMap.{MemoryMap}
 use Rattle.vm_memory.specs.declared.memory.TheConstants.{MAX_SIZE}
-use Rattle.vm_string.specs.Fault.{◌>>=◌, reads}
+use Rattle.vm_string.specs.Fault.{string_read}
 use Rattle.vm_string.specs.declared.node.Node.{Node}
 use Rattle.vm_string.specs.declared.node.Node.TheVariants.{Fork, End, One, Bytes, Words, Refers}
 use Rattle.vm_string.specs.declared.stop.StringStop.{StringStop}
@@ -13,7 +14,7 @@ use Rattle.vm_string.specs.declared.stop.StringStop.TheVariants.{BadString}
 -- a word, and what is made of it
 abbrev pub with_word : {A : Type 0} → MemoryMap → ℕ → (ℕ → Result A StringStop)
     → Result A StringStop
-with_word m at f = reads (read 4 m at) >>= f
+with_word m at f = string_read (read 4 m at) >>= f
 
 -- what a node of this type has behind its first byte; 09 and 0B have the address of the address
 unfoldable pub contents : MemoryMap → ℕ → ℕ → Result Node StringStop
@@ -21,7 +22,7 @@ contents m at kind =
     if kind == 0x00 then with_word m (at + 1) (λ left.
     with_word m (at + 5) (λ right. Ok (Fork left right)))
     else (if kind == 0x01 then Ok End
-    else (if kind == 0x02 then reads (read 1 m (at + 1)) >>= (λ x. Ok (One x))
+    else (if kind == 0x02 then string_read (read 1 m (at + 1)) >>= (λ x. Ok (One x))
     else (if kind == 0x03 then Ok (Bytes (at + 1))
     else (if kind == 0x04 then with_word m (at + 1) (λ x. Ok (One x))
     else (if kind == 0x05 then Ok (Words (at + 1))
@@ -35,7 +36,7 @@ contents m at kind =
 
 -- the node at an address
 unfoldable pub node_at : MemoryMap → ℕ → Result Node StringStop
-node_at m at = reads (read 1 m at) >>= contents m at
+node_at m at = string_read (read 1 m at) >>= contents m at
 
 -- a node's characters begin in memory
 abbrev pub BeginsInside : Node → Type 0

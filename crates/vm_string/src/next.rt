@@ -1,7 +1,7 @@
 //! The next piece of a string.
 
 ghost use Rattle.std.specs.Prelude.{◌≡◌};
-ghost use Rattle.vm_string.specs.Meaning.{Spells};
+ghost use Rattle.vm_string.specs.Meaning.{SpellsPiece};
 ghost use Rattle.vm_string.specs.Next as spec;
 
 use crate::descent::piece_from;
@@ -77,9 +77,9 @@ fn word_piece(memory: &Memory<'_>, cursor: Cursor) -> Result<(Piece, Cursor), St
 }
 
 // The cursor of an object's first piece.
-#[tactic(auto, unfolding(crate::specs::Next::opened))]
+#[tactic(auto, unfolding(crate::specs::Next::at_first_piece))]
 fn opened(memory: &Memory<'_>, cursor: Cursor) -> Result<Cursor, StringStop>
-    ensures { result ≡ spec.opened memory.now cursor }
+    ensures { result ≡ spec.at_first_piece memory.now cursor }
 {
     if cursor.kind != 0 {
         return Ok(cursor);
@@ -119,7 +119,7 @@ fn piece_in(memory: &Memory<'_>, table: u32, cursor: Cursor) -> Result<(Piece, C
 
 // The next piece, and the cursor behind it to the bit.
 fn piece_at(memory: &Memory<'_>, table: u32, cursor: Cursor) -> Result<(Piece, Cursor), StringStop>
-    ensures { result ≡ spec.next memory.now table cursor }
+    ensures { result ≡ spec.piece_after memory.now table cursor }
 {
     let cursor = opened(memory, cursor)?;
     piece_in(memory, table, cursor)
@@ -133,8 +133,8 @@ pub fn next_piece(
     table: u32,
     cursor: Cursor,
 ) -> Result<(Piece, Cursor), StringStop>
-    ensures value { Spells memory.now table cursor result }
-    ensures exact { result ≡ spec.next memory.now table cursor }
+    ensures value { SpellsPiece memory.now table cursor result }
+    ensures exact { result ≡ spec.piece_after memory.now table cursor }
 {
     piece_at(memory, table, cursor)
 }

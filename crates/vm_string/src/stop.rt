@@ -28,9 +28,9 @@ impl From<MemFault> for StringStop {
 impl From<StringStop> for Trap {
     ghost use Rattle.std.specs.Prelude.{◌≡◌};
     ghost use Rattle.vm_memory.specs.declared.fault.Trap.TheVariants.{Fault};
-    ghost use Rattle.vm_string.specs.Fault.{code_of};
+    ghost use Rattle.vm_string.specs.Fault.{string_fault_code};
 
-    ghost from_gives = { λ stop trap. trap ≡ Fault (code_of stop) };
+    ghost from_gives = { λ stop trap. trap ≡ Fault (string_fault_code stop) };
 
     fn from(stop: StringStop) -> Trap {
         match stop {

@@ -94,7 +94,7 @@ fn visit(memory: &Memory<'_>, way: Way, node: Node) -> Result<Turn, StringStop>
 // The way behind a branch: 0 goes left and 1 right, and a new path begins at the root.
 fn follow(memory: &Memory<'_>, root: u32, way: Way, branch: Branch) -> Result<Way, StringStop>
     requires { IsFitWay way }
-    ensures value { result ≡ spec.followed memory.now root way branch }
+    ensures value { result ≡ spec.branch_followed memory.now root way branch }
     ensures kept { IfOk result IsFitWay }
 {
     match branch {

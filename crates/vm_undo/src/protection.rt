@@ -1,7 +1,7 @@
 //! The protected range of memory.
 
 ghost use Rattle.std.specs.Prelude.{◌≡◌, Ok, OnErr};
-ghost use Rattle.vm_memory.specs.Access.{Leaves};
+ghost use Rattle.vm_memory.specs.Access.{LeavesMemory};
 ghost use Rattle.vm_memory.specs.MemoryMap.{KeepsMap};
 ghost use Rattle.vm_undo.specs.Protection.{protected};
 
@@ -15,7 +15,7 @@ pub fn protect(
     start: u32,
     length: u32,
 ) -> Result<(), MemStop>
-    ensures value { Leaves (Ok (protected kept.now into.old start length)) into.new result }
+    ensures value { LeavesMemory (Ok (protected kept.now into.old start length)) into.new result }
     ensures err { OnErr result (into.new ≡ into.old) }
     ensures kept { KeepsMap into.old into.new }
 {

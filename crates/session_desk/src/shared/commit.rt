@@ -10,7 +10,7 @@ ghost use Rattle.session_core.specs.Checks.{command_of};
 ghost use Rattle.session_core.specs.History.{last_of};
 ghost use Rattle.session_desk.specs.Commit.{IsInRange};
 ghost use Rattle.session_desk.specs.Desk.{committed, game, is_to_run};
-ghost use Rattle.session_desk.specs.Keeping.{due};
+ghost use Rattle.session_desk.specs.Keeping.{snapshot_due};
 ghost use Rattle.session_desk.specs.Marks.{marks_by};
 ghost use Rattle.session_desk.specs.Opens.{OpensBy, row_behind};
 ghost use Rattle.session_desk.specs.Shared.{desk_tag, GoesOn, IsPassOf, LeavesHistory, met_by};
@@ -127,7 +127,7 @@ impl<'i, D: Disk + Drop> SharedDesk<'i, D> {
     ) -> Result<(), Refused>
         requires cell { IsOf journal.now self.old.pass }
         requires fresh { verdict self.old.desk request.now ≡ Fresh }
-        requires due { due self.old ≡ false }
+        requires due { snapshot_due self.old ≡ false }
         requires ranges { IsInRange request.now }
         ensures ok { OnOk result (TakesEntry request.now by self.old self.new) }
         ensures runs { OnOk result

@@ -2,12 +2,12 @@
 
 ghost use Rattle.std.specs.Prelude.{◌≡◌, ◌≢◌, IfOk, OnOk, MatchOption, ⊤, false};
 ghost use Rattle.session_core.specs.declared.decision.Decision.{Decision};
-ghost use Rattle.session_desk.specs.Desk.{game, Holds, is_cold, shown_to};
-ghost use Rattle.session_desk.specs.Keeping.{due};
-ghost use Rattle.session_desk.specs.Laws.{answered};
+ghost use Rattle.session_desk.specs.Desk.{game, HoldsOwnWorld, is_cold, shown_to};
+ghost use Rattle.session_desk.specs.Keeping.{snapshot_due};
+ghost use Rattle.session_desk.specs.Laws.{decision_by_desk};
 ghost use Rattle.session_desk.specs.Shared.{desk_tag, Rests};
 ghost use Rattle.session_desk.specs.Sound.{Decides, IsSoundDesk};
-ghost use Rattle.session_desk.specs.Turn.{IsQuiet, out_of_memory};
+ghost use Rattle.session_desk.specs.Turn.{AcceptsNothing, out_of_memory};
 ghost use Rattle.session_desk.specs.Verdict.{verdict};
 ghost use Rattle.session_desk.specs.declared.verdict.Verdict.TheVariants.{Cold, Fresh};
 
@@ -72,9 +72,9 @@ impl<'i, D: Disk + Drop> SharedDesk<'i, D> {
         requires one { L.parts ≡ 1 }
         ensures value { IfOk result (λ said. said ≡ verdict self.new.desk request.now) }
         ensures warm { OnOk result (verdict self.new.desk request.now ≢ Cold) }
-        ensures due { OnOk result (due self.new ≡ false) }
+        ensures due { OnOk result (snapshot_due self.new ≡ false) }
         ensures own { OnOk result (IsSoundDesk D.tells D.seen (desk_tag self.new)
-            → Holds self.new.desk.stories (game self.new.desk) self.new.desk.held) }
+            → HoldsOwnWorld self.new.desk.stories (game self.new.desk) self.new.desk.held) }
         ensures rests { Rests self.old self.new }
     {
         self.warm_for::<L>(alloc, request, blank)?;
@@ -102,10 +102,12 @@ impl<'i, D: Disk + Drop> SharedDesk<'i, D> {
     pub(super) fn unless_fresh(&mut self, alloc: Global, request: &Request) -> Option<Turned>
         ensures value { MatchOption result
             ((verdict self.new.desk request.now ≡ Fresh)
-            × Decides D.tells D.seen request.now self.old (answered self.new.desk request.now))
+            × Decides D.tells D.seen request.now self.old
+            (decision_by_desk self.new.desk request.now))
             (λ turned. (decision : Decision)
-            × Decides D.tells D.seen request.now self.old decision × IsQuiet decision turned) }
-        ensures due { MatchOption result (due self.new ≡ false) (λ _. ⊤) }
+            × Decides D.tells D.seen request.now self.old decision
+            × AcceptsNothing decision turned) }
+        ensures due { MatchOption result (snapshot_due self.new ≡ false) (λ _. ⊤) }
         ensures rests { Rests self.old self.new }
     {
         refuses_alike();

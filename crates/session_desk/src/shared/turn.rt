@@ -6,8 +6,8 @@ ghost use Rattle.session_core.specs.History.{last_of};
 ghost use Rattle.session_core.specs.Turning.{AddsTo, commands_in};
 ghost use Rattle.session_desk.specs.Commit.{IsInRange};
 ghost use Rattle.session_desk.specs.Desk.{game, is_cold, is_to_run, ran, shown_to};
-ghost use Rattle.session_desk.specs.Keeping.{due};
-ghost use Rattle.session_desk.specs.Laws.{answered};
+ghost use Rattle.session_desk.specs.Keeping.{snapshot_due};
+ghost use Rattle.session_desk.specs.Laws.{decision_by_desk};
 ghost use Rattle.session_desk.specs.Shared.{desk_tag, GoesOn, Rests, TurnsTo};
 ghost use Rattle.session_desk.specs.Sound.{TurnsBy};
 ghost use Rattle.session_desk.specs.Turn.{IsShown};
@@ -69,12 +69,14 @@ impl<'i, D: Disk + Drop> SharedDesk<'i, D> {
     ) -> Turned
         requires cell { IsOf journal.now self.old.pass }
         requires fresh { verdict self.old.desk request.now ≡ Fresh }
-        requires due { due self.old ≡ false }
+        requires due { snapshot_due self.old ≡ false }
         requires ranges { IsInRange request.now }
-        ensures turn { TurnsTo (answered self.old.desk request.now) by self.old.history result
+        ensures turn { TurnsTo (decision_by_desk self.old.desk request.now)
+            by self.old.history result
             self.new.history }
         ensures journal { GoesOn self.old.desk.session
-            (answered self.old.desk request.now).accepted result.outcome (seen self.old.pass)
+            (decision_by_desk self.old.desk request.now).accepted result.outcome
+            (seen self.old.pass)
             (seen self.new.pass) }
         ensures kept { desk_tag self.new ≡ desk_tag self.old }
     {
@@ -127,7 +129,7 @@ impl<'i, D: Disk + Drop> SharedDesk<'i, D> {
         ensures commands { commands_in self.old.history ≡ self.old.desk.commands }
         ensures turn { TurnsBy D.tells D.seen request.now by self.old result self.new }
         ensures adds { AddsTo self.old.history by self.new.history }
-        ensures due { due self.new ≡ false }
+        ensures due { snapshot_due self.new ≡ false }
         ensures kept { desk_tag self.new ≡ desk_tag self.old }
     {
         // with the marks comes what holds of every history

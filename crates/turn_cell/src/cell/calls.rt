@@ -3,8 +3,9 @@ ghost use Rattle.std.specs.Prelude.{◌≡◌, ◌≢◌, ◌⊎◌, ◌+◌, �
 ghost use Rattle.std.specs.Prelude.{◌++◌, IfOk, IfErr, Some};
 ghost use Rattle.turn_cell.specs.History.{Continues, IsForeign};
 ghost use Rattle.turn_cell.specs.Views.{MayLeave};
-ghost use Rattle.turn_cell.specs.Passes.{view, number, made, seen, holds, sample, tag_of};
-ghost use Rattle.turn_cell.specs.Passes.{IsOf, IsOutside, IsInside, IsAlone};
+ghost use Rattle.turn_cell.specs.Passes.{view, pass_number, made, seen, pass_numbers, sample};
+ghost use Rattle.turn_cell.specs.Passes.{tag_of};
+ghost use Rattle.turn_cell.specs.Passes.{IsOf, IsOutside, IsInTurn, IsAlone};
 ghost use Rattle.turn_cell.specs.Passes.{KeepsNumbers, IsRoot, IsSplitFrom};
 
 use super::Cell;
@@ -48,13 +49,13 @@ impl<T: Told + Drop> Cell<T> {
     pub fn enter<R: Wait>(&self, rt: &R, pass: &mut Pass<T>) -> T
         requires cell { IsOf self.now pass.old }
         requires outside { IsOutside pass.old }
-        ensures value { Continues (IsForeign T.by (holds pass.old)) (T.entries result)
+        ensures value { Continues (IsForeign T.by (pass_numbers pass.old)) (T.entries result)
             (seen pass.old) }
         ensures alone { IsAlone pass.old → T.entries result ≡ seen pass.old }
         ensures tag { tag_of T.tag pass.old ≡ Some (T.tag result) }
         ensures kept { IsOf self.now pass.new × KeepsNumbers pass.old pass.new
             × (made pass.new ≡ made pass.old) }
-        ensures inside { IsInside pass.new }
+        ensures inside { IsInTurn pass.new }
         ensures seen { seen pass.new ≡ T.entries result }
     {
         let known = &mut pass.known;
@@ -67,7 +68,7 @@ impl<T: Told + Drop> Cell<T> {
     /// pass's number. Then the next one has its turn.
     pub fn leave(&self, pass: &mut Pass<T>, value: T)
         requires cell { IsOf self.now pass.old }
-        requires inside { IsInside pass.old }
+        requires inside { IsInTurn pass.old }
         requires value { MayLeave T.entries T.by T.tag (view pass.old) value }
         ensures kept { IsOf self.now pass.new × KeepsNumbers pass.old pass.new
             × (made pass.new ≡ made pass.old) }
@@ -84,7 +85,7 @@ impl<T: Told + Drop> Cell<T> {
     pub fn split(&self, _alloc: Global, pass: &mut Pass<T>) -> Result<Pass<T>, AllocError>
         requires cell { IsOf self.now pass.old }
         requires outside { IsOutside pass.old }
-        requires root { (number pass.old ≡ 0) × (made pass.old < 2 ^ 32) }
+        requires root { (pass_number pass.old ≡ 0) × (made pass.old < 2 ^ 32) }
         ensures ok { IfOk result (λ new. IsSplitFrom self.now pass.old new
             × (made pass.new ≡ made pass.old + 1)) }
         ensures err { IfErr result (λ _. made pass.new ≡ made pass.old) }
@@ -111,15 +112,16 @@ impl<T: Told + Drop> Cell<T> {
     pub fn join(&self, pass: &mut Pass<T>, other: Pass<T>)
         requires cell { IsOf self.now pass.old × IsOf self.now other }
         requires outside { IsOutside pass.old × IsOutside other }
-        requires other { number other ≢ 0 }
-        ensures holds { holds pass.new ≡ holds pass.old ++ holds other }
-        ensures kept { IsOf self.now pass.new × (number pass.new ≡ number pass.old)
+        requires other { pass_number other ≢ 0 }
+        ensures holds { pass_numbers pass.new ≡ pass_numbers pass.old ++ pass_numbers other }
+        ensures kept { IsOf self.now pass.new × (pass_number pass.new ≡ pass_number pass.old)
             × (made pass.new ≡ made pass.old) × (sample pass.new ≡ sample pass.old) }
         ensures outside { IsOutside pass.new }
         ensures seen { (seen pass.new ≡ seen pass.old) ⊎ (seen pass.new ≡ seen other) }
-        ensures first { Continues (IsForeign T.by (holds pass.old)) (seen pass.new)
+        ensures first { Continues (IsForeign T.by (pass_numbers pass.old)) (seen pass.new)
             (seen pass.old) }
-        ensures second { Continues (IsForeign T.by (holds other)) (seen pass.new) (seen other) }
+        ensures second { Continues (IsForeign T.by (pass_numbers other)) (seen pass.new)
+            (seen other) }
     {
         let Pass {
             known: Known { place, count, .. },

@@ -1,10 +1,10 @@
 -- Calls and continuations (Glulx 3.1.3, "Functions" and "Continuations").
 use Rattle.std.specs.Prelude.{ℕ, List, [], ◌∷◌, length}
-use Rattle.vm_operand.specs.Reading.{◌>>=◌}
+use Rattle.vm_memory.specs.Chaining.{◌>>=◌}
 use Rattle.vm_operand.specs.declared.opcode.Flow.{Flow}
 use Rattle.vm_operand.specs.declared.opcode.Flow.TheVariants.{Call, Return, Catch, Throw, Tailcall}
 use Rattle.vm_operand.specs.declared.opcode.Flow.TheVariants.{Callf, Callfi, Callfii, Callfiii}
-use Rattle.vm_stack.specs.Frame.{left}
+use Rattle.vm_stack.specs.Frame.{frame_left}
 use Rattle.vm_flow.specs.Throw.{thrown}
 use Rattle.vm_operand.specs.declared.operand.Dest as d
 use Rattle.vm_exec.specs.Rows.Work.{Work, Free}
@@ -27,7 +27,7 @@ throws m value token =
 
 -- the current frame is dropped, and the function begins over the stub below it
 abbrev pub tailcalls : ℕ → Machine → List ℕ → Rule
-tailcalls at m args = enters (record m { stack = left m.stack }) at args
+tailcalls at m args = enters (record m { stack = frame_left m.stack }) at args
 
 unfoldable pub flow_work : Flow → Machine → (ℕ → ℕ) → (ℕ → d.Dest) → Work
 flow_work Call m l d = Free (with_arguments m (l 1) (λ n args. calls n (l 0) args (d 0)))

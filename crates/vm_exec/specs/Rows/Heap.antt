@@ -1,13 +1,13 @@
 -- The size of memory, and the heap (Glulx 3.1.3, "Memory Map" and "Memory Allocation Heap").
 use Rattle.std.specs.Prelude.{ℕ, ◌%◌, ◌==◌, ◌||◌, not, max, nat_lt}
 use Rattle.std.specs.Prelude.{if◌then◌else◌, length, Option, Some, None, Result, Ok, Err}
+use Rattle.vm_memory.specs.Chaining.{◌>>=◌}
 use Rattle.vm_memory.specs.MemoryMap.{resized}
 use Rattle.vm_memory.specs.declared.memory.TheConstants.{MAX_SIZE}
 use Rattle.vm_heap.specs.HeapMap.{HeapMap, heap_end}
 use Rattle.vm_heap.specs.Allocation.{malloced, freed}
 use Rattle.vm_heap.specs.declared.fault.HeapFault.{HeapFault}
 use Rattle.vm_heap.specs.declared.fault.HeapFault.TheVariants.{BadBlock}
-use Rattle.vm_operand.specs.Reading.{◌>>=◌}
 use Rattle.vm_operand.specs.declared.operand.Dest as d
 use Rattle.vm_memory.specs.declared.faults.TheConstants.{BAD_BLOCK, BAD_SIZE}
 use Rattle.vm_exec.specs.declared.machine.Machine.{Machine}
@@ -31,12 +31,12 @@ with_heap m h end =
 
 -- a new block's address, or 0 where it would pass the greatest size; memory ends where the last
 -- block does
-abbrev pub given : Machine → Option ℕ × HeapMap → Machine × ℕ
-given m (None, h) = (record m { heap = h }, 0)
-given m (Some at, h) = (with_heap m h (heap_end h.blocks), at)
+abbrev pub block_given : Machine → Option ℕ × HeapMap → Machine × ℕ
+block_given m (None, h) = (record m { heap = h }, 0)
+block_given m (Some at, h) = (with_heap m h (heap_end h.blocks), at)
 
 abbrev pub allocated : Machine → ℕ → Machine × ℕ
-allocated m size = given m (malloced m.heap size (length m.memory.bytes))
+allocated m size = block_given m (malloced m.heap size (length m.memory.bytes))
 
 abbrev pub mallocs : Machine → ℕ → d.Dest → Rule
 mallocs m size to =

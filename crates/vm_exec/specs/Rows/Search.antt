@@ -1,8 +1,8 @@
 -- Blocks, searches and the heap (Glulx 3.1.3, "Block Copy and Clear", "Searching").
 use Rattle.std.specs.Prelude.{ℕ, ◌/◌, length}
+use Rattle.vm_memory.specs.Chaining.{◌>>=◌}
 use Rattle.vm_memory.specs.Access.{zeroed, copied}
 use Rattle.vm_memory.specs.Fault.{coded}
-use Rattle.vm_operand.specs.Reading.{◌>>=◌}
 use Rattle.vm_operand.specs.declared.opcode.Search.{Search}
 use Rattle.vm_operand.specs.declared.opcode.Search.TheVariants.{Linearsearch, Binarysearch}
 use Rattle.vm_operand.specs.declared.opcode.Search.TheVariants.{Linkedsearch, Mzero, Mcopy, Malloc}

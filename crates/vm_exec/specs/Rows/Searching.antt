@@ -1,11 +1,11 @@
 -- Searches of structures in memory (Glulx 3.1.3, "Searching").
 use Rattle.std.specs.Prelude.{ℕ, ◌^◌, if◌then◌else◌, Option, Some, None, Result, Ok}
 use Rattle.std.specs.Prelude.{Err}
+use Rattle.vm_memory.specs.Chaining.{◌>>=◌}
 use Rattle.vm_memory.specs.Fault.{coded}
-use Rattle.vm_operand.specs.Reading.{◌>>=◌}
 use Rattle.vm_search.specs.Binary.{binary_ends}
 use Rattle.vm_search.specs.Ending.{Ending, first_ending}
-use Rattle.vm_search.specs.Fault.{code_of}
+use Rattle.vm_search.specs.Fault.{search_fault_code}
 use Rattle.vm_search.specs.Key.{is_search}
 use Rattle.vm_search.specs.Linear.{linear_ends}
 use Rattle.vm_search.specs.Linked.{linked_ends}
@@ -48,14 +48,15 @@ linked_query l left = record {
 }
 
 -- a tick for each structure, and then the answer is stored; one without an end takes all ticks
-abbrev pub answered : Machine → d.Dest → Option Ending → Work
-answered m to None = Free (Err BUDGET_SPENT)
-answered m to (Some e) = Costs e.looked (coded e.answer >>= puts m to)
+abbrev pub search_answered : Machine → d.Dest → Option Ending → Work
+search_answered m to None = Free (Err BUDGET_SPENT)
+search_answered m to (Some e) = Costs e.looked (coded e.answer >>= puts m to)
 
 -- a search whose steps end so
 abbrev pub searched : Machine → d.Dest → Query → (ℕ → Option Ending) → Work
 searched m to q ends =
-    if is_search q then answered m to (first_ending ends 0 (2 ^ 32)) else Free (Err BAD_SEARCH)
+    if is_search q then search_answered m to (first_ending ends 0 (2 ^ 32))
+    else Free (Err BAD_SEARCH)
 
 -- the three searches; no step of theirs asks for the ticks
 abbrev pub linear_work : Machine → (ℕ → ℕ) → d.Dest → Work
@@ -71,4 +72,4 @@ linked_work m l to = searched m to (linked_query l 0) (linked_ends m.memory (lin
 abbrev pub found_in : ℕ → Machine → d.Dest → Result Found SearchStop
     → Result (Machine × Done) ℕ
 found_in left m to (Ok f) = budgeted left (Costs f.looked (puts m to f.answer))
-found_in left m to (Err stop) = Err (code_of stop)
+found_in left m to (Err stop) = Err (search_fault_code stop)

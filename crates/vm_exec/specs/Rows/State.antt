@@ -6,14 +6,14 @@ use Rattle.vm_operand.specs.declared.opcode.State.TheVariants.{Saveundo, Restore
 use Rattle.vm_operand.specs.declared.opcode.State.TheVariants.{Hasundo, Discardundo}
 use Rattle.vm_operand.specs.declared.operand.Dest as d
 use Rattle.vm_exec.specs.Rows.Work.{Work, Free, Costs}
-use Rattle.vm_exec.specs.Rules.{puts, tells}
+use Rattle.vm_exec.specs.Rules.{puts, tells_out}
 use Rattle.vm_exec.specs.Rows.Undo.{pages, restarts, asks_save, asks_restore, saves_undo}
 use Rattle.vm_exec.specs.Rows.Undo.{restores_undo, protects, tells_undo, discards}
 use Rattle.vm_exec.specs.declared.machine.Machine.{Machine}
 use Rattle.vm_exec.specs.declared.step.Out.TheVariants as out
 
 unfoldable pub state_work : State → Machine → (ℕ → ℕ) → (ℕ → d.Dest) → Work
-state_work Quit m l d = Free (tells m out.Quit)
+state_work Quit m l d = Free (tells_out m out.Quit)
 state_work Verify m l d = Costs (length m.memory.rom / 256) (puts m (d 0) m.verified)
 state_work Restart m l d = Costs (pages m) (restarts m)
 state_work Saveundo m l d = Costs (pages m) (saves_undo m (d 0))

@@ -11,7 +11,7 @@ use Rattle.vm_exec.specs.Rows.Random.{draws, seeds}
 use Rattle.vm_exec.specs.Rows.Work.{Work, Free, Costs}
 use Rattle.vm_memory.specs.declared.faults.TheConstants.{DEBUG_TRAP}
 use Rattle.vm_exec.specs.declared.machine.Machine.{Machine}
-use Rattle.vm_exec.specs.Rules.{Rule, goes, puts, tells}
+use Rattle.vm_exec.specs.Rules.{Rule, goes, puts, tells_out}
 use Rattle.vm_exec.specs.declared.step.Out.TheVariants as out
 use Rattle.vm_exec.specs.declared.step.Waiting.TheVariants.{Store}
 
@@ -33,7 +33,7 @@ gestalt_of m selector argument =
 
 -- the store is kept for the call's result
 abbrev pub calls_glk : Machine → ℕ → ℕ → d.Dest → Rule
-calls_glk m selector args to = tells (record m { waiting = Store to }) (out.Glk selector args)
+calls_glk m selector args to = tells_out (record m { waiting = Store to }) (out.Glk selector args)
 
 unfoldable pub system_work : System → Machine → (ℕ → ℕ) → (ℕ → d.Dest) → Work
 system_work Nop m l d = Free (goes m)

@@ -2,17 +2,17 @@
 use Rattle.std.specs.Prelude.{ℕ, zero, suc, ◌+◌, ◌==◌, ◌||◌, Bool, true, false}
 use Rattle.std.specs.Prelude.{if◌then◌else◌, List, [], ◌∷◌, slice_index, Result, Ok}
 use Rattle.std.specs.Prelude.{Err}
+use Rattle.vm_memory.specs.Chaining.{◌>>=◌}
 use Rattle.vm_memory.specs.Access.{read}
 use Rattle.vm_memory.specs.Fault as memory
 use Rattle.vm_memory.specs.MemoryMap.{MemoryMap}
-use Rattle.vm_operand.specs.Reading.{◌>>=◌}
 use Rattle.vm_string.specs.Fault as string
-use Rattle.vm_string.specs.Next.{next}
+use Rattle.vm_string.specs.Next.{piece_after}
 use Rattle.vm_string.specs.declared.piece.Cursor.{Cursor}
 use Rattle.vm_string.specs.declared.piece.Piece.{Piece}
 use Rattle.vm_string.specs.declared.piece.Piece.TheVariants as piece
 use Rattle.vm_exec.specs.Number.{number_text}
-use Rattle.vm_exec.specs.Rules.{Rule, goes, tells, enters, wrap}
+use Rattle.vm_exec.specs.Rules.{Rule, goes, tells_out, enters, wrap}
 use Rattle.vm_exec.specs.TextStub.{string_stub, suspended, unstubbed, number_left, text_on}
 use Rattle.vm_memory.specs.declared.faults.TheConstants.{BAD_STRING}
 use Rattle.vm_exec.specs.declared.machine.Machine.{Machine}
@@ -21,11 +21,11 @@ use Rattle.vm_exec.specs.declared.text.Text.TheVariants.{Pieces, Number}
 
 -- a character of a text goes to Glk, or nowhere
 abbrev pub shows : Machine → ℕ → Rule
-shows m x = tells m (if m.mode == 2 then Char x else Ran)
+shows m x = tells_out m (if m.mode == 2 then Char x else Ran)
 
 -- a string begins, before the first byte of its object
-abbrev pub begins : Machine → ℕ → Bool → Rule
-begins m at held =
+abbrev pub begins_string : Machine → ℕ → Bool → Rule
+begins_string m at held =
     goes (record m { text = Pieces (record { kind = 0; at = at; bit = 0 }) held })
 
 -- a number begins
@@ -54,12 +54,12 @@ words_at m at (suc n) =
 
 -- a string in a string begins
 abbrev pub nests : Machine → ℕ → Cursor → Bool → Rule
-nests m at c held = paused m c held >>= (λ n. begins n at true)
+nests m at c held = paused m c held >>= (λ n. begins_string n at true)
 
 -- an object that a string refers to: a string is printed, a function called with the n arguments
 -- that stand at an address; all that is read comes before the stubs
-abbrev pub refers : Machine → ℕ → ℕ → ℕ → Cursor → Bool → Rule
-refers m at args_at n c held = memory.coded (read 1 m.memory at) >>= (λ kind.
+abbrev pub refers_to_object : Machine → ℕ → ℕ → ℕ → Cursor → Bool → Rule
+refers_to_object m at args_at n c held = memory.coded (read 1 m.memory at) >>= (λ kind.
     if kind == 0xE0 || kind == 0xE1 || kind == 0xE2
     then nests m at c held
     else (if kind == 0xC0 || kind == 0xC1
@@ -67,19 +67,19 @@ refers m at args_at n c held = memory.coded (read 1 m.memory at) >>= (λ kind.
     else Err BAD_STRING))
 
 -- a string's end goes on at the stub on top, where one was pushed, or else with the code
-abbrev pub ends : Machine → Bool → Rule
-ends m false = goes m
-ends m true = unstubbed m >>= (λ x. text_on x.0 x.1 >>= goes)
+abbrev pub ends_string : Machine → Bool → Rule
+ends_string m false = goes m
+ends_string m true = unstubbed m >>= (λ x. text_on x.0 x.1 >>= goes)
 
 abbrev pub pieced : Machine → Bool → Piece → Cursor → Rule
 pieced m held (piece.Char x) c = says m x c held
-pieced m held (piece.Call at args_at args) c = refers m at args_at args c held
-pieced m held piece.End c = ends m held
+pieced m held (piece.Call at args_at args) c = refers_to_object m at args_at args c held
+pieced m held piece.End c = ends_string m held
 
 -- the next piece of a string
 abbrev pub string_rule : Machine → Cursor → Bool → Rule
 string_rule m c held =
-    string.coded (next m.memory m.string_table c) >>= (λ x. pieced m held x.0 x.1)
+    string.string_coded (piece_after m.memory m.string_table c) >>= (λ x. pieced m held x.0 x.1)
 
 -- a number makes way to the function at the rock, which gets its character at a place
 abbrev pub number_calls : Machine → ℕ → ℕ → Bool → Rule

@@ -1,21 +1,21 @@
 -- Saved states, restart and protection (Glulx 3.1.3, "Game State").
 use Rattle.std.specs.Prelude.{ℕ, ◌-◌, ◌/◌, ◌^◌, ◌==◌, if◌then◌else◌, []}
 use Rattle.std.specs.Prelude.{length, Option, Some, None, Result, Ok}
+use Rattle.vm_memory.specs.Chaining.{◌>>=◌}
 use Rattle.vm_memory.specs.MemoryMap.{MemoryMap, reset}
 use Rattle.vm_stack.specs.StackState.{StackState}
-use Rattle.vm_stack.specs.Frame.{loaded}
+use Rattle.vm_stack.specs.Frame.{stack_loaded}
 use Rattle.vm_stack.specs.Stub.{stub_taken}
-use Rattle.vm_flow.specs.Call.{called}
+use Rattle.vm_flow.specs.Call.{function_called}
 use Rattle.vm_undo.specs.Protection.{protected}
 use Rattle.vm_undo.specs.UndoList.{with_newest, without_newest, newest, has_any}
 use Rattle.vm_undo.specs.declared.saved.Saved.{Saved}
-use Rattle.vm_operand.specs.Reading.{◌>>=◌}
 use Rattle.vm_operand.specs.declared.operand.Dest as d
 use Rattle.vm_operand.specs.declared.operand.Dest.TheVariants.{Discard}
 use Rattle.vm_exec.specs.Fault.{stacked, flowed}
 use Rattle.vm_exec.specs.Machine.{no_heap}
 use Rattle.vm_exec.specs.declared.machine.Machine.{Machine}
-use Rattle.vm_exec.specs.Rules.{Rule, goes, tells, puts, stored, stub_dest, with_stub}
+use Rattle.vm_exec.specs.Rules.{Rule, goes, tells_out, puts, stored, stub_dest, with_stub}
 use Rattle.vm_exec.specs.declared.step.Out.TheVariants as out
 use Rattle.vm_exec.specs.declared.step.Waiting.TheVariants.{Store, Stub}
 
@@ -39,7 +39,7 @@ sparing m memory = protected m.memory memory m.protection.start m.protection.len
 -- with a saved state in place of memory, stack and heap; the protected bytes stay
 abbrev pub with_state : Machine → Saved → Result Machine ℕ
 with_state m s =
-    stacked (loaded m.stack s.stack)
+    stacked (stack_loaded m.stack s.stack)
     >>= (λ stack. Ok (record m {
       memory = sparing m s.memory;
       stack = stack;
@@ -73,14 +73,15 @@ abbrev pub undo_restored : Machine → d.Dest → Result Machine ℕ
 undo_restored m to =
     restored_from (record m { undo = without_newest m.undo }) to (newest m.undo)
 
-abbrev pub emptied : StackState → StackState
-emptied s = record s { bytes = []; frame = 0 }
+abbrev pub stack_emptied : StackState → StackState
+stack_emptied s = record s { bytes = []; frame = 0 }
 
 -- the original memory but for the protected bytes, no heap, an empty stack, I/O system 0 and the
 -- header's string table; the start function is called without arguments
 abbrev pub restarted : Machine → Result Machine ℕ
 restarted m =
-    flowed (called (sparing m (reset m.memory)) (emptied m.stack) m.start_function [])
+    flowed
+    (function_called (sparing m (reset m.memory)) (stack_emptied m.stack) m.start_function [])
     >>= (λ x. Ok (record m {
       memory = sparing m (reset m.memory);
       heap = no_heap;
@@ -96,14 +97,14 @@ restarted m =
 abbrev pub asks_save : Machine → ℕ → d.Dest → Rule
 asks_save m stream to =
     if m.mode == 2
-    then with_stub m to >>= (λ n. tells (record n { waiting = Stub }) (out.Save stream))
+    then with_stub m to >>= (λ n. tells_out (record n { waiting = Stub }) (out.Save stream))
     else puts m to 1
 
 -- a restore from a stream is asked for, without a stub; the same
 abbrev pub asks_restore : Machine → ℕ → d.Dest → Rule
 asks_restore m stream to =
     if m.mode == 2
-    then tells (record m { waiting = Store to }) (out.Restore stream)
+    then tells_out (record m { waiting = Store to }) (out.Restore stream)
     else puts m to 1
 
 -- a save is over: its stub is taken, and nothing is waited for

@@ -1,12 +1,12 @@
 -- The values of the current frame (Glulx 3.1.3, "The Stack").
 use Rattle.std.specs.Prelude.{ℕ, zero, suc, ◌-◌, ◌/◌, Result, Ok}
-use Rattle.vm_operand.specs.Reading.{◌>>=◌}
+use Rattle.vm_memory.specs.Chaining.{◌>>=◌}
 use Rattle.vm_operand.specs.declared.opcode.Values.{Values}
 use Rattle.vm_operand.specs.declared.opcode.Values.TheVariants.{Stkcount, Stkpeek, Stkswap, Stkroll}
 use Rattle.vm_operand.specs.declared.opcode.Values.TheVariants.{Stkcopy}
 use Rattle.vm_stack.specs.StackState.{StackState}
 use Rattle.vm_stack.specs.declared.fault.StackFault.{StackFault}
-use Rattle.vm_stack.specs.Values.{count, peeked, pushed, rolled}
+use Rattle.vm_stack.specs.Values.{value_count, peeked, pushed, rolled}
 use Rattle.vm_operand.specs.declared.operand.Dest as d
 use Rattle.vm_exec.specs.Rows.Work.{Work, Free, Costs}
 use Rattle.vm_exec.specs.declared.machine.Machine.{Machine}
@@ -33,7 +33,7 @@ abbrev pub copies : Machine → ℕ → Rule
 copies m n = copied_up m.stack (n - 1) n >>= (λ stack. goes (record m { stack = stack }))
 
 unfoldable pub values_work : Values → Machine → (ℕ → ℕ) → (ℕ → d.Dest) → Work
-values_work Stkcount m l d = Free (puts m (d 0) (count m.stack))
+values_work Stkcount m l d = Free (puts m (d 0) (value_count m.stack))
 values_work Stkpeek m l d = Free (peeks m (l 0) (d 0))
 values_work Stkswap m l d = Free (rolls m 2 1)
 values_work Stkroll m l d = Costs (l 0 / 16) (rolls m (l 0) (l 1))

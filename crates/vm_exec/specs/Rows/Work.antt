@@ -23,5 +23,5 @@ budgeted left (Free r) = costing 0 r
 budgeted left (Costs n r) = if nat_lt left n then Err BUDGET_SPENT else costing n r
 
 -- The call did what the rule says, at no cost.
-abbrev pub Tells : Rule → Machine → Result Done Trap → Type 0
-Tells r new result = Does (costing 0 r) new result
+abbrev pub DoesAtNoCost : Rule → Machine → Result Done Trap → Type 0
+DoesAtNoCost r new result = Does (costing 0 r) new result

@@ -1,10 +1,10 @@
 use Rattle.std.proofs.Common.{◌≡◌, ◌≢◌, ◌<◌, [], ◌∷◌, ℕ, List, Bool, sym, ◌∙◌, ap, subst, arith, length, get_or}
 use Rattle.std.specs.Prelude.{IsTrue}
 use Rattle.std.proofs.lemmas.List.{get_or_read}
-use Rattle.disk_model.specs.Disk.{written, AfterWrite, Torn}
+use Rattle.disk_model.specs.Disk.{file_written, AfterWrite, Torn}
 use Rattle.disk_model.proofs.Moments.{started, goes_on, weaker, and_then}
 use Rattle.gate_journal.specs.Gate.{IsShut}
-use Rattle.gate_journal.specs.Rows.{spelled, SpellsRows}
+use Rattle.gate_journal.specs.Rows.{journal_bytes, SpellsRows}
 use Rattle.gate_journal.specs.Log.{MayOpen, rows_of}
 use Rattle.gate_journal.proofs.Opening.{reclosed, reshut}
 use Rattle.gate_journal.proofs.load.load.Goals as goal
@@ -69,5 +69,5 @@ returns-clause-shut g c told_end f now =
     let bytes_are : c.deref.result.now ≡ s = c.deref.ensures.value ∙ c.in_ok-bytes.ensures.ok told_then ∙ c.in-Ok.ensures.seen told in
     let stands : SpellsRows s (rows_of p.history.list) = subst (λ (l : List ℕ). SpellsRows l (rows_of p.history.list)) bytes_are c.in_ok-parsed.ensures.ok.0 in
     let seen_is : g.D.Disk.seen c.read_all.new.disk ≡ s = c.in_ok-bytes.ensures.seen told_then ∙ c.in-Ok.ensures.seen told in
-    let now_is : f ≡ written s p.end (0 ∷ []) = c.in-Ok-write_through.ensures.ok told_last f now ∙ ap (λ (l : List ℕ). written l p.end (0 ∷ [])) seen_is in
-    subst (λ (l : List ℕ). IsShut (spelled (rows_of p.history.list)) l) (sym now_is) (reshut (rows_of p.history.list) s p.end stands c.in_ok-parsed.ensures.ok.1)
+    let now_is : f ≡ file_written s p.end (0 ∷ []) = c.in-Ok-write_through.ensures.ok told_last f now ∙ ap (λ (l : List ℕ). file_written l p.end (0 ∷ [])) seen_is in
+    subst (λ (l : List ℕ). IsShut (journal_bytes (rows_of p.history.list)) l) (sym now_is) (reshut (rows_of p.history.list) s p.end stands c.in_ok-parsed.ensures.ok.1)

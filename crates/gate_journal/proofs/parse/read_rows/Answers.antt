@@ -3,15 +3,15 @@ use Rattle.std.specs.Prelude.{nat_eq}
 use Rattle.std.specs.List.{starts_with}
 use Rattle.std.proofs.lemmas.List.{take_rest, nil_from_length}
 use Rattle.gate_journal.specs.declared.row.Row.{Row}
-use Rattle.gate_journal.specs.Parsing.{IsFirst, IsNoNext}
-use Rattle.gate_journal.specs.Rows.{header, spelled, payload_of, SpellsRows}
-use Rattle.gate_journal.specs.Seats.{Counts}
+use Rattle.gate_journal.specs.Parsing.{BeginsWithRow, IsNoNext}
+use Rattle.gate_journal.specs.Rows.{journal_header, journal_bytes, payload_of, SpellsRows}
+use Rattle.gate_journal.specs.Seats.{CountsRows}
 use Rattle.gate_journal.proofs.RowLemmas.{spells_split, corrupt_end, corrupt_row, no_header, parse_step}
 use Rattle.gate_journal.proofs.parse.read_rows.Goals as goal
 
 pub returns-then-not-starts_with-clause-exact : goal.returns-then-not-starts_with-clause-exact
 returns-then-not-starts_with-clause-exact c =
-    let other : starts_with nat_eq c.args.bytes.now header ≡ false = search rules in
+    let other : starts_with nat_eq c.args.bytes.now journal_header ≡ false = search rules in
     no_header c.args.bytes.now other
 
 pub returns-then-gate-ne1-clause-ok : goal.returns-then-gate-ne1-clause-ok
@@ -37,7 +37,7 @@ returns-clause-exact c =
     let I = c.loop-rest.invariant in
     let none : c.loop-rest.rest.now ≡ [] = nil_from_length c.loop-rest.rest.now (omega (arith, c.in_default.len_below)) in
     corrupt_end c.loop-rest.rows.items c.args.bytes.now c.loop-rest.place I.journal
-    (I.split ∙ ap (λ (l : List ℕ). spelled c.loop-rest.rows.items ++ l) none) I.place
+    (I.split ∙ ap (λ (l : List ℕ). journal_bytes c.loop-rest.rows.items ++ l) none) I.place
 
 pub loop-rest-preserved : goal.loop-rest-preserved
 loop-rest-preserved c =
@@ -48,8 +48,8 @@ loop-rest-preserved c =
     let n = c.payload_len-size.result in
     let is_open : get_or rest 0 0 ≡ 1 = search rules in
     let said = c.in_ok-row.ensures rows I.counted I.place in
-    let found : IsFirst rows (take (length rest - 1) (drop 1 rest)) r = rw c.in-Some.is at said in
-    let first : IsFirst rows (drop 1 rest) r = subst (λ (l : List ℕ). IsFirst rows l r) (take_rest rest 1) found in
+    let found : BeginsWithRow rows (take (length rest - 1) (drop 1 rest)) r = rw c.in-Some.is at said in
+    let first : BeginsWithRow rows (drop 1 rest) r = subst (λ (l : List ℕ). BeginsWithRow rows l r) (take_rest rest 1) found in
     let later : c.push.new.self.items ≡ rows ++ r ∷ [] = c.in_ok-push.ensures.items in
     let size : n ≡ length (payload_of r.command) = c.payload_len-size.ensures.value in
     let step = parse_step c.args.bytes.now rest (take (length rest - (5 + n)) (drop (5 + n) rest)) rows c.push.new.self.items r c.loop-rest.place (c.loop-rest.place + (5 + n))
@@ -60,5 +60,5 @@ loop-rest-preserved c =
       split = step.0;
       journal = step.1;
       place = step.2;
-      counted = subst (λ (l : List Row). Counts l c.count.new.self.counts c.count.new.self.uses) (sym later) counted;
+      counted = subst (λ (l : List Row). CountsRows l c.count.new.self.counts c.count.new.self.uses) (sym later) counted;
     }

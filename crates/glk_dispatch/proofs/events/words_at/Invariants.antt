@@ -6,8 +6,8 @@ use Rattle.glk_dispatch.proofs.events.words_at.Given as goal
 abbrev pub invariant-loop-left : goal.invariant-loop-left
 invariant-loop-left l = record {
   counted : length l.words.items + l.left ≡ l.fn.count;
-  sofar : rows.words_at l.left l.memory l.at l.words.items
-      ≡ rows.words_at l.fn.count l.memory l.from [];
+  sofar : rows.array_words l.left l.memory l.at l.words.items
+      ≡ rows.array_words l.fn.count l.memory l.from [];
 }
 
 abbrev pub decreases-loop-left : goal.decreases-loop-left

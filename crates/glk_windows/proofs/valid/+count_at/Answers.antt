@@ -2,7 +2,7 @@ use Rattle.std.proofs.Common.{arith, ℕ, ◌<◌, ◌≤◌, ◌≡◌, ◌-◌
 use Rattle.std.proofs.lemmas.Grind.{common_steps}
 use Rattle.std.proofs.lemmas.Bool.{cases_Bool}
 use mir.Val.{bool_byte}
-use Rattle.glk_windows.specs.OneTree.{Fork, bare, shape_of, size}
+use Rattle.glk_windows.specs.OneTree.{Fork, pair_without_key, shape_of, tree_size}
 use Rattle.glk_windows.proofs.FieldLemmas.{shape_end, shape_fork, shape_leaf}
 use Rattle.glk_windows.proofs.valid.+count_at.Goals as goal
 
@@ -26,7 +26,7 @@ returns-then-depth-eq0-clause-within t c =
 pub count_at-requires : goal.count_at-requires
 count_at-requires t c =
     let h : 0 < c.args.depth = omega arith in
-    let r : size (Fork c.args.win (bare c.in-Some.pair)
+    let r : tree_size (Fork c.args.win (pair_without_key c.in-Some.pair)
     (shape_of (c.args.depth - 1) c.args.slots.now c.in-Some.pair.first)
     (shape_of (c.args.depth - 1) c.args.slots.now c.in-Some.pair.second)) ≤ 64 =
     rw (shape_fork c.args.depth c.args.slots.now c.args.win c.in-Some.pair h
@@ -36,7 +36,7 @@ count_at-requires t c =
 pub overflow_add-result : goal.overflow_add-result
 overflow_add-result t c =
     let h : 0 < c.args.depth = omega arith in
-    let r : size (Fork c.args.win (bare c.in-Some.pair)
+    let r : tree_size (Fork c.args.win (pair_without_key c.in-Some.pair)
     (shape_of (c.args.depth - 1) c.args.slots.now c.in-Some.pair.first)
     (shape_of (c.args.depth - 1) c.args.slots.now c.in-Some.pair.second)) ≤ 64 =
     rw (shape_fork c.args.depth c.args.slots.now c.args.win c.in-Some.pair h
@@ -49,7 +49,7 @@ overflow_add-result t c =
 pub count_at-requires-in-Some : goal.count_at-requires-in-Some
 count_at-requires-in-Some t c =
     let h : 0 < c.args.depth = omega arith in
-    let r : size (Fork c.args.win (bare c.in-Some.pair)
+    let r : tree_size (Fork c.args.win (pair_without_key c.in-Some.pair)
     (shape_of (c.args.depth - 1) c.args.slots.now c.in-Some.pair.first)
     (shape_of (c.args.depth - 1) c.args.slots.now c.in-Some.pair.second)) ≤ 64 =
     rw (shape_fork c.args.depth c.args.slots.now c.args.win c.in-Some.pair h
@@ -59,7 +59,7 @@ count_at-requires-in-Some t c =
 pub overflow_add-result-in-Some : goal.overflow_add-result-in-Some
 overflow_add-result-in-Some t c =
     let h : 0 < c.args.depth = omega arith in
-    let r : size (Fork c.args.win (bare c.in-Some.pair)
+    let r : tree_size (Fork c.args.win (pair_without_key c.in-Some.pair)
     (shape_of (c.args.depth - 1) c.args.slots.now c.in-Some.pair.first)
     (shape_of (c.args.depth - 1) c.args.slots.now c.in-Some.pair.second)) ≤ 64 =
     rw (shape_fork c.args.depth c.args.slots.now c.args.win c.in-Some.pair h

@@ -2,12 +2,12 @@ use Rattle.std.proofs.Common.{◌≡◌, [], List, arith, sym, subst, ap}
 use Rattle.turn_cell.specs.History.{Each}
 use Rattle.turn_cell.proofs.HistoryLemmas.{each_append}
 use Rattle.disk_model.specs.DiskState.{DiskState}
-use Rattle.disk_model.specs.Memory.{state_in}
+use Rattle.disk_model.specs.Memory.{disk_state_in}
 use Rattle.disk_model.specs.declared.memory.MemDisk.{MemDisk}
 use Rattle.host_drill.proofs.opening.empty_disks.Goals as goal
 
 abbrev IsEmpty : MemDisk → Type 0
-IsEmpty d = (state_in d).seen ≡ []
+IsEmpty d = (disk_state_in d).seen ≡ []
 
 pub loop-preserved : goal.loop-preserved
 loop-preserved c = record {

@@ -1,11 +1,11 @@
 use Rattle.std.proofs.Common.{◌≡◌, [], length}
 use Rattle.turn_cell.specs.History.{Each}
-use Rattle.disk_model.specs.Memory.{state_in}
+use Rattle.disk_model.specs.Memory.{disk_state_in}
 use Rattle.disk_model.specs.declared.memory.MemDisk.{MemDisk}
 use Rattle.host_drill.proofs.opening.empty_disks.Given as goal
 
 abbrev pub invariant-loop : goal.invariant-loop
 invariant-loop l = record {
   many : length l.disks.items ≡ l.counter;
-  empty : Each (λ (d : MemDisk). (state_in d).seen ≡ []) l.disks.items;
+  empty : Each (λ (d : MemDisk). (disk_state_in d).seen ≡ []) l.disks.items;
 }

@@ -1,5 +1,5 @@
 use Rattle.std.proofs.Common.{◌≡◌, []}
-use Rattle.disk_model.specs.Memory.{state_in}
+use Rattle.disk_model.specs.Memory.{disk_state_in}
 use Rattle.disk_model.specs.declared.memory.MemDisk.{MemDisk}
 use Rattle.host_drill.proofs.OpenLemmas.{each_told}
 use Rattle.host_drill.proofs.text.drill.Goals as goal
@@ -7,5 +7,5 @@ use Rattle.host_drill.proofs.text.drill.Goals as goal
 pub drill_over-requires-clause-empty : goal.drill_over-requires-clause-empty
 drill_over-requires-clause-empty c opened = record {
   many = opened.in_ok-snaps.ensures.many;
-  each = each_told (λ (d : MemDisk). (state_in d).seen ≡ []) _ opened.in_ok-snaps.ensures.empty;
+  each = each_told (λ (d : MemDisk). (disk_state_in d).seen ≡ []) _ opened.in_ok-snaps.ensures.empty;
 }

@@ -3,7 +3,7 @@ use Rattle.std.proofs.lemmas.Map.Text.{btree_map_updates_text}
 use Rattle.std.specs.BTreeMap.{get_by_text}
 use Rattle.std.specs.Map.{update}
 use Rattle.std.specs.Str.{bytes_eq}
-use Rattle.host_top.specs.Files.{told_by}
+use Rattle.host_top.specs.Files.{told_of_all}
 use Rattle.host_top.specs.declared.memory_outside.Shelf.{Shelf}
 use Rattle.host_top.proofs.OutsideLemmas.{no_part_at, none_copied, some_copied, stands_at}
 use Rattle.host_top.proofs.memory_outside.make_shelf.Goals as goal
@@ -28,7 +28,7 @@ returns-clause-kept c =
     ∙ ap (λ (n : List ℕ). update bytes_eq (get_by_text c.args.shelves.now) n (Some now) other) same
     in
     λ other. (
-      ap told_by (no_part_at (λ s. s.disk) (get_by_text c.args.shelves.now)
+      ap told_of_all (no_part_at (λ s. s.disk) (get_by_text c.args.shelves.now)
           (get_by_text c.insert.new.self) name now at refl absent other),
       no_part_at (λ s. s.loan) (get_by_text c.args.shelves.now) (get_by_text c.insert.new.self) name
           now at refl absent other,

@@ -1,6 +1,6 @@
 use Rattle.std.proofs.Common.{◌∙◌, ap, map, string_bytes, sym}
 use Rattle.std.specs.Option.{option_map}
-use Rattle.command_words.specs.Words.{asked, asked_by}
+use Rattle.command_words.specs.Words.{command_asked, asked_by}
 use Rattle.host_top.proofs.CauseLemmas.{failed_six, failed_nine, coded_two, coded_four, coded_five}
 use Rattle.host_top.proofs.ToldLemmas.{tells, told_no_memory, done_no_memory}
 use Rattle.host_top.proofs.program.top.Goals as goal
@@ -21,12 +21,12 @@ returns-in-Err-clause-done g c =
 
 pub returns-clause-done : goal.returns-clause-done
 returns-clause-done g c =
-    let is = sym c.in-Ok-Some.ensures ∙ ap (option_map asked) c.in-Ok-Some.field-0-is in
+    let is = sym c.in-Ok-Some.ensures ∙ ap (option_map command_asked) c.in-Ok-Some.field-0-is in
     rw (is, c.code-2.ensures) c.follow-status.ensures.done
 
 pub returns-clause-told : goal.returns-clause-told
 returns-clause-told g c =
-    let is = sym c.in-Ok-Some.ensures ∙ ap (option_map asked) c.in-Ok-Some.field-0-is in
+    let is = sym c.in-Ok-Some.ensures ∙ ap (option_map command_asked) c.in-Ok-Some.field-0-is in
     rw (is, c.code-2.ensures) (tells _ _ _ _ _ _ _ _ _ c.follow-status.ensures.done)
 
 pub returns-clause-bad_words : goal.returns-clause-bad_words

@@ -1,6 +1,6 @@
 use Rattle.std.proofs.Common.{◌∙◌, ap, sym, arith, inr, is_ok, map, List, ℕ}
 use Rattle.std.proofs.lemmas.List.{length-map}
-use Rattle.host_top.specs.StoryFile.{story_of}
+use Rattle.host_top.specs.StoryFile.{story_in_file}
 use Rattle.host_top.proofs.LoansLemmas.{doors_then, keeps_then}
 use Rattle.host_top.proofs.StoriesLemmas.{any_error, loaded_more, loaded_last, loaded_story}
 use Rattle.host_top.proofs.stories.load_files.Goals as goal
@@ -15,7 +15,7 @@ pub returns-then-not-is_story-clause-settled : goal.returns-then-not-is_story-cl
 returns-then-not-is_story-clause-settled g c =
     inr (loaded_last _ _ _ _ c.in-Ok.ensures.items
     (sym (sym c.if-not-is_story.true ∙ c.is_story-is_story.ensures
-    ∙ ap (λ (b : List ℕ). is_ok (story_of b)) c.deref.ensures.value)))
+    ∙ ap (λ (b : List ℕ). is_ok (story_in_file b)) c.deref.ensures.value)))
 
 pub loop-name-preserved : goal.loop-name-preserved
 loop-name-preserved g c = record {
@@ -26,7 +26,7 @@ loop-name-preserved g c = record {
   stories =
       loaded_story _ _ _ _ c.in-Ok.ensures.items c.loop-name.invariant.stories
       (sym (sym c.if-not-is_story.false ∙ c.is_story-is_story.ensures
-      ∙ ap (λ (b : List ℕ). is_ok (story_of b)) c.deref.ensures.value));
+      ∙ ap (λ (b : List ℕ). is_ok (story_in_file b)) c.deref.ensures.value));
   count = omega (arith, c.in-Ok.ensures.len);
   kept = c.in_ok-bytes.ensures.kept ∙ c.loop-name.invariant.kept;
   later = omega (arith, c.in_ok-bytes.ensures.later);

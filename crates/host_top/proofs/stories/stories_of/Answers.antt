@@ -1,5 +1,5 @@
 use Rattle.std.proofs.Common.{◌∙◌, ap, sym, arith, length}
-use Rattle.host_top.specs.StoryFile.{story_of}
+use Rattle.host_top.specs.StoryFile.{story_in_file}
 use Rattle.host_top.proofs.StoriesLemmas.{behind_none, read_more}
 use Rattle.host_top.proofs.stories.stories_of.Goals as goal
 
@@ -17,6 +17,6 @@ loop-file-preserved c = record {
   found =
       read_more _ _ _ _ _ c.file-item.result c.in-Ok.story c.loop-file.file-index
       c.loop-file-test.true c.file-item.is
-      (sym (c.in-Ok.ensures ∙ ap story_of c.deref.ensures.value)) c.in-Ok-push.ensures.items
+      (sym (c.in-Ok.ensures ∙ ap story_in_file c.deref.ensures.value)) c.in-Ok-push.ensures.items
       c.loop-file.invariant.found;
 }

@@ -1,6 +1,6 @@
 use Rattle.std.proofs.Common.{◌≡◌, List, ℕ, sym, subst, Vec, Result, Ok, Err}
 use Rattle.std.specs.Result.{IfOk}
-use Rattle.quetzal.specs.Save.{IsReadAs, canon}
+use Rattle.quetzal.specs.Save.{SaveIsReadAs, canon}
 use Rattle.quetzal.proofs.WriteLemmas.{read_back}
 use Rattle.quetzal.proofs.writer.write.Goals as goal
 
@@ -13,5 +13,5 @@ returns-clause-read c =
     let image = c.args.image.now in
     let state = c.args.state.now in
     let back = read_back image state c.spelled.ensures.laid c.requires c.spelled.ensures.start c.spelled.ensures.kept in
-    with_value c.spelled.result (λ v. v.items ≡ canon image state) (λ v. IsReadAs image v.items state)
-    (λ v e. subst (λ bytes. IsReadAs image bytes state) (sym e) back) c.spelled.ensures.ok
+    with_value c.spelled.result (λ v. v.items ≡ canon image state) (λ v. SaveIsReadAs image v.items state)
+    (λ v e. subst (λ bytes. SaveIsReadAs image bytes state) (sym e) back) c.spelled.ensures.ok

@@ -1,10 +1,10 @@
 use Rattle.std.proofs.Common.{rules, ◌≡◌, map, refl}
 use Rattle.std.specs.List.{list_all}
 use Rattle.std.proofs.lemmas.Result.{err_from_is_err_and}
-use Rattle.glk_streams.specs.Laws.{IsValid}
+use Rattle.glk_streams.specs.Laws.{AreValidStreams}
 use Rattle.glk_streams.specs.Streams.{table_of}
 use Rattle.snap_glk.specs.Made.{file_made, streams_made}
-use Rattle.snap_glk.specs.Making.{is_file}
+use Rattle.snap_glk.specs.Making.{is_valid_file}
 use Rattle.snap_glk.specs.Texts.{AreTexts}
 use Rattle.snap_glk.proofs.FitLemmas.{are-files, unsound}
 use Rattle.snap_glk.proofs.fields.make_streams.Goals as goal
@@ -15,8 +15,8 @@ returns-in_err-files c =
     let list = c.as_slice-3.result.now in
     let p = err_from_is_err_and c.from_residual-in_err-files.result
     c.from_residual-in_err-files.ensures.1 in
-    rw (p.1, p.2) (unsound (map file_made) (list_all is_file) list (AreTexts fields)
-    IsValid (streams_made fields) c.in_err-files.field-0.0 c.in_err-files.ensures
+    rw (p.1, p.2) (unsound (map file_made) (list_all is_valid_file) list (AreTexts fields)
+    AreValidStreams (streams_made fields) c.in_err-files.field-0.0 c.in_err-files.ensures
     (λ t v. rw c.as_slice-3.ensures
     (are-files (streams_made fields) fields.files refl v t.files)))
 

@@ -14,6 +14,6 @@ returns-in_err-slots c =
     let list = c.as_slice-list.result.now in
     let p = err_from_is_err_and c.from_residual.result c.from_residual.ensures.1 in
     rw (p.1, p.2) (unsound (map window_made) (list_all (λ (w : Window). true)) list
-    (AreTexts fields) windows.IsValid (windows_made fields) c.in_err-slots.field-0.0
+    (AreTexts fields) windows.IsValidTree (windows_made fields) c.in_err-slots.field-0.0
     c.in_err-slots.ensures
     (λ t v. all-fit list))

@@ -2,7 +2,7 @@ use Rattle.std.proofs.Common.{◌≡◌, ◌∙◌, sym, ap, arith, true, false,
 use Rattle.std.specs.Prelude.{nat_le, nat_eq, ◌&&◌}
 use Rattle.std.specs.List.{starts_with}
 use Rattle.std.proofs.lemmas.Bool.Decides.{nat_tests}
-use Rattle.snap_store.specs.File.{has_header, header}
+use Rattle.snap_store.specs.File.{has_header, snapshot_header}
 use Rattle.snap_store.proofs.FileLemmas.{starts_same, and-true, and-false}
 use Rattle.snap_store.proofs.outline.is_header.Goals as goal
 
@@ -11,11 +11,11 @@ unfolding has_header
 returns-then-size c file size reads =
     let starts = starts_same c.args.bytes.now file (omega arith) (omega arith) (λ i lt. reads i (omega arith) ∙ ap (λ (k : ℕ). get_or file k 0) (omega arith)) in
     let long : nat_le 4096 (length file) ≡ true = grind (arith, nat_tests) in
-    c.starts_with.ensures.value ∙ starts ∙ sym (and-true (starts_with nat_eq file header)) ∙ ap (λ (b : Bool). starts_with nat_eq file header && b) (sym long)
+    c.starts_with.ensures.value ∙ starts ∙ sym (and-true (starts_with nat_eq file snapshot_header)) ∙ ap (λ (b : Bool). starts_with nat_eq file snapshot_header && b) (sym long)
 
 pub returns-else-size : goal.returns-else-size
 unfolding has_header
 returns-else-size c file size reads =
     let short : nat_le 4096 (length file) ≡ false = grind (arith, nat_tests) in
     let is : nat_le 4096 c.args.size ≡ false = grind (arith, nat_tests) in
-    is ∙ sym (and-false (starts_with nat_eq file header)) ∙ ap (λ (b : Bool). starts_with nat_eq file header && b) (sym short)
+    is ∙ sym (and-false (starts_with nat_eq file snapshot_header)) ∙ ap (λ (b : Bool). starts_with nat_eq file snapshot_header && b) (sym short)

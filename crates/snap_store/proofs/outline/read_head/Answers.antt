@@ -1,17 +1,17 @@
 use Rattle.std.proofs.Common.{◌≡◌, ◌∙◌, ap, subst, arith, ℕ, ◌+◌}
 use Rattle.byteorder.specs.Endian.{big_from}
-use Rattle.disk_model.specs.Disk.{Reads}
-use Rattle.snap_store.specs.File.{start_of, place_at, count_at, length_at}
+use Rattle.disk_model.specs.Disk.{ReadsFile}
+use Rattle.snap_store.specs.File.{side_start, area_place, count_at, length_at}
 use Rattle.snap_store.proofs.FileLemmas.{number_read, first_number_read}
 use Rattle.snap_store.proofs.outline.read_head.Goals as goal
 
 pub returns-clause-ok : goal.returns-clause-ok
-unfolding place_at count_at length_at
+unfolding area_place count_at length_at
 returns-clause-ok g c told =
     let file = g.D.Disk.seen c.args.disk.now in
     let bytes = c.read_at.new.into in
-    let at = start_of c.args.side in
-    let reads : Reads file at bytes = subst (λ (k : ℕ). Reads file k bytes) c.start.ensures (c.in_ok-read_at.ensures.ok told) in
+    let at = side_start c.args.side in
+    let reads : ReadsFile file at bytes = subst (λ (k : ℕ). ReadsFile file k bytes) c.start.ensures (c.in_ok-read_at.ensures.ok told) in
     let place : c.read_u64.result ≡ big_from at 8 file = c.read_u64.ensures ∙ first_number_read 8 at file bytes reads (omega arith) in
     let count : c.read_u32.result ≡ big_from (at + 8) 4 file = c.read_u32.ensures ∙ number_read 4 8 8 at file bytes reads (omega arith) (omega arith) in
     let many : c.read_u32-2.result ≡ big_from (at + 12) 4 file = c.read_u32-2.ensures ∙ number_read 4 12 4 at file bytes reads (omega arith) (omega arith) in

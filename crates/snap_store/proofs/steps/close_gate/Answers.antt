@@ -1,6 +1,6 @@
 use Rattle.std.proofs.Common.{◌≡◌, ◌∙◌, ◌∷◌, [], sym, ap, subst, List, ℕ, Bool}
 use Rattle.std.specs.Prelude.{IsTrue}
-use Rattle.disk_model.specs.Disk.{written, Torn}
+use Rattle.disk_model.specs.Disk.{file_written, Torn}
 use Rattle.disk_model.proofs.Moments.{weaker}
 use Rattle.disk_model.proofs.WorkLaws.{on_ok}
 use Rattle.snap_store.specs.declared.slot.Slot.TheVariants.{Closed}
@@ -23,8 +23,8 @@ returns-clause-ok g c = on_ok c.write_through.result (λ wrote area beside_area 
     let side = c.args.side in
     let told = subst (λ (b : Bool). IsTrue b) c.write_through.ensures.kept.telling told_last in
     let file = g.D.Disk.seen d in
-    let is : f ≡ written file (gate_of side) (0 ∷ []) =
-    wrote told f now ∙ ap (λ (k : ℕ). written file k (0 ∷ [])) c.gate.ensures in
+    let is : f ≡ file_written file (gate_of side) (0 ∷ []) =
+    wrote told f now ∙ ap (λ (k : ℕ). file_written file k (0 ∷ [])) c.gate.ensures in
     let laid = laid_loosened side c.args.slot area beside beside_area file (each told file (g.met.D.Disk.seen_may_stay d)) in
     subst (λ (l : List ℕ). IsLaid side Closed area beside beside_area l) (sym is)
     (laid_shut side area beside beside_area c.args.slot file (sym c.is_closed.ensures ∙ c.if-is_closed.false) laid)) c.write_through.ensures.ok

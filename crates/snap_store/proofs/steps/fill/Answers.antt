@@ -1,9 +1,9 @@
 use Rattle.std.proofs.Common.{◌≡◌, ◌∙◌, ◌+◌, sym, ap, subst, arith, length, List, ℕ, Bool}
 use Rattle.std.specs.Prelude.{IsTrue}
-use Rattle.disk_model.specs.Disk.{written}
+use Rattle.disk_model.specs.Disk.{file_written}
 use Rattle.snap_store.specs.declared.slot.Slot.TheVariants.{Closed, Unsure}
 use Rattle.std.specs.Prelude.{Some}
-use Rattle.snap_store.specs.File.{start_of, head_bytes}
+use Rattle.snap_store.specs.File.{side_start, head_bytes}
 use Rattle.snap_store.specs.Images.{IsLaid}
 use Rattle.snap_store.proofs.AreaWritten.{length-head}
 use Rattle.snap_store.proofs.LaidLemmas.{laid_area_torn, laid_filled}
@@ -52,12 +52,12 @@ returns-clause-ok g c = on_ok c.write_through.result (λ wrote area beside_area 
     let told = subst (λ (b : Bool). IsTrue b) c.write_at.ensures.kept.telling told_first in
     let file = g.D.Disk.seen d in
     let head = head_bytes c.args.place c.args.count (length c.args.bytes.now) in
-    let is : f ≡ written (written file (start_of side) head) (start_of side + 16) c.args.bytes.now =
+    let is : f ≡ file_written (file_written file (side_start side) head) (side_start side + 16) c.args.bytes.now =
     wrote told_first f now
-    ∙ ap (λ (l : List ℕ). written l (c.start-2.result + 16) c.args.bytes.now) (c.in_ok-write_at.ensures.ok told)
-    ∙ ap (λ (l : List ℕ). written (written file c.start.result l) (c.start-2.result + 16) c.args.bytes.now) c.head_bytes.ensures
-    ∙ ap (λ (k : ℕ). written (written file k head) (c.start-2.result + 16) c.args.bytes.now) c.start.ensures
-    ∙ ap (λ (k : ℕ). written (written file (start_of side) head) (k + 16) c.args.bytes.now) c.start-2.ensures in
+    ∙ ap (λ (l : List ℕ). file_written l (c.start-2.result + 16) c.args.bytes.now) (c.in_ok-write_at.ensures.ok told)
+    ∙ ap (λ (l : List ℕ). file_written (file_written file c.start.result l) (c.start-2.result + 16) c.args.bytes.now) c.head_bytes.ensures
+    ∙ ap (λ (k : ℕ). file_written (file_written file k head) (c.start-2.result + 16) c.args.bytes.now) c.start.ensures
+    ∙ ap (λ (k : ℕ). file_written (file_written file (side_start side) head) (k + 16) c.args.bytes.now) c.start-2.ensures in
     let laid = laid_filled side beside beside_area area file c.args.place c.args.count c.args.bytes.now (omega (arith, c.ranges.place.fits)) (omega (arith, c.ranges.count.fits)) c.requires spares
     (each told file (g.met.D.Disk.seen_may_stay d)) in
     subst (λ (l : List ℕ). IsLaid side Unsure (Some (record { place = c.args.place; count = c.args.count; bytes = c.args.bytes.now })) beside beside_area l) (sym is) laid) c.write_through.ensures.ok

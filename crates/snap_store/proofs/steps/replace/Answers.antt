@@ -5,7 +5,7 @@ use Rattle.snap_store.specs.declared.side.Side.{Side}
 use Rattle.snap_store.specs.declared.slot.Slot.{Slot}
 use Rattle.snap_store.specs.declared.slot.Slot.TheVariants.{Open}
 use Rattle.snap_store.specs.File.{Stored}
-use Rattle.snap_store.specs.Slots.{other, slot_of, with_slot, taken_side}
+use Rattle.snap_store.specs.Slots.{opposite_side, slot_of, with_slot, taken_side}
 use Rattle.snap_store.specs.Images.{IsLaid, Spares, DuringPut, IsLeft}
 use Rattle.snap_store.proofs.SlotLemmas.{spares_taken}
 use Rattle.snap_store.proofs.steps.replace.Goals as goal
@@ -17,7 +17,7 @@ returns-in-Ok-clause-images g c area beside_area each =
     let slots = c.args.slots.now in
     let side = taken_side slots in
     let slot = slot_of slots side in
-    let beside = slot_of slots (other side) in
+    let beside = slot_of slots (opposite_side side) in
     let put : Stored = record { place = c.args.place; count = c.args.count; bytes = c.args.bytes.now } in
     let is : c.taken-side.result ≡ side = c.taken-side.ensures in
     let slot_is : c.of-slot.result ≡ slot = c.of-slot.ensures ∙ ap (λ (s : Side). slot_of slots s) is in
@@ -33,7 +33,7 @@ returns-in-Ok-clause-crash g c area beside_area each told =
     let slots = c.args.slots.now in
     let side = taken_side slots in
     let slot = slot_of slots side in
-    let beside = slot_of slots (other side) in
+    let beside = slot_of slots (opposite_side side) in
     let put : Stored = record { place = c.args.place; count = c.args.count; bytes = c.args.bytes.now } in
     let is : c.taken-side.result ≡ side = c.taken-side.ensures in
     let slot_is : c.of-slot.result ≡ slot = c.of-slot.ensures ∙ ap (λ (s : Side). slot_of slots s) is in
@@ -51,7 +51,7 @@ returns-in-Err-clause-crash g c area beside_area each told =
     let slots = c.args.slots.now in
     let side = taken_side slots in
     let slot = slot_of slots side in
-    let beside = slot_of slots (other side) in
+    let beside = slot_of slots (opposite_side side) in
     let put : Stored = record { place = c.args.place; count = c.args.count; bytes = c.args.bytes.now } in
     let is : c.taken-side.result ≡ side = c.taken-side.ensures in
     let slot_is : c.of-slot.result ≡ slot = c.of-slot.ensures ∙ ap (λ (s : Side). slot_of slots s) is in
@@ -69,7 +69,7 @@ returns-in-Err-clause-err g c =
     let slots = c.args.slots.now in
     let side = taken_side slots in
     let slot = slot_of slots side in
-    let beside = slot_of slots (other side) in
+    let beside = slot_of slots (opposite_side side) in
     let put : Stored = record { place = c.args.place; count = c.args.count; bytes = c.args.bytes.now } in
     let is : c.taken-side.result ≡ side = c.taken-side.ensures in
     let slot_is : c.of-slot.result ≡ slot = c.of-slot.ensures ∙ ap (λ (s : Side). slot_of slots s) is in

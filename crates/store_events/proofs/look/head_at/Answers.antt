@@ -1,18 +1,18 @@
 use Rattle.std.proofs.Common.{◌≡◌, ◌∙◌, ap, subst, arith, ℕ, ◌+◌}
 use Rattle.byteorder.specs.Endian.{big_from}
-use Rattle.disk_model.specs.Disk.{Reads}
-use Rattle.snap_store.specs.File.{start_of, place_at, count_at, length_at}
+use Rattle.disk_model.specs.Disk.{ReadsFile}
+use Rattle.snap_store.specs.File.{side_start, area_place, count_at, length_at}
 use Rattle.snap_store.proofs.FileLemmas.{number_read, first_number_read}
 use Rattle.store_events.proofs.look.head_at.Goals as goal
 
 pub returns : goal.returns
-unfolding place_at count_at length_at
+unfolding area_place count_at length_at
 returns c =
     let file = c.args.file.now in
     let bytes = c.bytes_at-bytes.result in
-    let at = start_of c.args.side in
-    let reads : Reads file at bytes =
-    subst (λ (k : ℕ). Reads file k bytes) c.start.ensures c.bytes_at-bytes.ensures in
+    let at = side_start c.args.side in
+    let reads : ReadsFile file at bytes =
+    subst (λ (k : ℕ). ReadsFile file k bytes) c.start.ensures c.bytes_at-bytes.ensures in
     let place : c.read_u64.result ≡ big_from at 8 file =
     c.read_u64.ensures ∙ first_number_read 8 at file bytes reads (omega arith) in
     let count : c.read_u32.result ≡ big_from (at + 8) 4 file =

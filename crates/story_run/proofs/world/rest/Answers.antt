@@ -1,7 +1,7 @@
 use Rattle.std.proofs.Common.{◌≡◌, ◌∙◌, ap, subst, sym}
 use Rattle.glk_dispatch.specs.Glk.{turn_begun}
 use Rattle.glk_dispatch.specs.declared.glk.Glk.{Glk}
-use Rattle.story_run.specs.Solo.{settled}
+use Rattle.story_run.specs.Solo.{glk_settled}
 use Rattle.story_run.specs.World.{StandsAt}
 use Rattle.story_run.proofs.ValidLemmas.{begun-stage, settled-stage}
 use Rattle.story_run.proofs.WorldLemmas.{begun-again}
@@ -14,6 +14,6 @@ hold-requires c =
     let begun = sym (c.begin_turn.ensures ∙ ap turn_begun c.settle.ensures) in record {
       machine = c.requires.machine;
       glk = subst (StandsAt stage) begun
-          (begun-stage stage (settled stage glk) (settled-stage stage glk c.requires.glk));
-      begun = subst (λ (g : Glk). turn_begun g ≡ g) begun (begun-again (settled stage glk));
+          (begun-stage stage (glk_settled stage glk) (settled-stage stage glk c.requires.glk));
+      begun = subst (λ (g : Glk). turn_begun g ≡ g) begun (begun-again (glk_settled stage glk));
     }

@@ -1,7 +1,7 @@
 use Rattle.std.proofs.Common.{rules, ◌≡◌, not, nat_eq, ap, sym, ◌∙◌}
 use Rattle.std.specs.Prelude.{filter}
 use Rattle.std.proofs.lemmas.Fn.{filter_same}
-use Rattle.vm_heap.specs.History.{Holding, after_call, given_back}
+use Rattle.vm_heap.specs.History.{Holding, holding_after_call, block_given_back}
 use Rattle.vm_heap.proofs.history.play.Goals as goal
 
 pub returns-in-Ok : goal.returns-in-Ok
@@ -10,7 +10,7 @@ returns-in-Ok c =
     filter_same _ _ _ (λ x b f' k. search rules) _ _ c.retain.ensures.filtered in
     let old : Holding = record { heap = c.args.heap.now; held = c.args.held.now.items } in
     record {
-      ok = ap (λ call. after_call c.args.end call old) c.in-Free.is
-          ∙ ap (given_back c.in-Free.at old) c.in-Ok.ensures.value
+      ok = ap (λ call. holding_after_call c.args.end call old) c.in-Free.is
+          ∙ ap (block_given_back c.in-Free.at old) c.in-Ok.ensures.value
           ∙ ap (λ xs. record { heap = c.free.new.self; held = xs }) (sym kept);
     }

@@ -1,6 +1,6 @@
 use Rattle.std.proofs.Common.{rules, arith, ◌∙◌, sym, ◌≤◌, ◌+◌, drop}
 use Rattle.std.proofs.Math.ListN.{get_or}
-use Rattle.vm_heap.specs.HeapMap.{end_of}
+use Rattle.vm_heap.specs.HeapMap.{block_end}
 use Rattle.vm_heap.proofs.HeapLemmas.{none, in_order-limit, in_order-end}
 use Rattle.vm_heap.proofs.FitLemmas.{walk-first_fit, walk-stops, walk-ends}
 use Rattle.vm_heap.proofs.malloc.first_fit.Goals as goal
@@ -12,7 +12,7 @@ overflow_add-from c =
 
 pub overflow_add-at : goal.overflow_add-at
 overflow_add-at c =
-    let l : end_of (get_or c.args.blocks.now c.loop-index.index none) ≤ 16777216 =
+    let l : block_end (get_or c.args.blocks.now c.loop-index.index none) ≤ 16777216 =
     in_order-end c.args.blocks.now c.loop-index.index c.loop-index.at c.loop-index-test.true c.loop-index.invariant.order in
     search rules
 

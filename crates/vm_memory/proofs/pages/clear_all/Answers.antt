@@ -1,6 +1,6 @@
 use Rattle.std.proofs.Common.{◌≡◌, ◌+◌, ◌/◌, ℕ, [], replicate, refl, subst, arith}
 use Rattle.std.proofs.lemmas.List.{length-take, length-replicate}
-use Rattle.vm_memory.specs.Pages.{Puts}
+use Rattle.vm_memory.specs.Pages.{PutsBytes}
 use Rattle.vm_memory.proofs.PutLemmas.{puts_zeros}
 use Rattle.vm_memory.proofs.pages.clear_all.Goals as goal
 
@@ -23,6 +23,6 @@ loop-done-preserved c =
 pub returns : goal.returns
 returns c = λ rom.
     let e : c.loop-done.done ≡ c.args.count = omega arith in
-    subst (λ n. Puts rom c.args.rows.now.items c.loop-done.rows.items c.args.at
+    subst (λ n. PutsBytes rom c.args.rows.now.items c.loop-done.rows.items c.args.at
     (replicate {A = ℕ} n 0)) e
     (c.loop-done.invariant.puts rom)

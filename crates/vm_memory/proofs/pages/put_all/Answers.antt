@@ -1,6 +1,6 @@
 use Rattle.std.proofs.Common.{◌+◌, ◌/◌, [], ℕ, refl, subst, arith}
 use Rattle.std.proofs.lemmas.List.{take_all, length-take, length-drop}
-use Rattle.vm_memory.specs.Pages.{Puts}
+use Rattle.vm_memory.specs.Pages.{PutsBytes}
 use Rattle.vm_memory.proofs.PutLemmas.{puts_take}
 use Rattle.vm_memory.proofs.pages.put_all.Goals as goal
 
@@ -22,5 +22,5 @@ loop-done-preserved c =
 
 pub returns : goal.returns
 returns c = λ rom.
-    subst (Puts rom c.args.rows.now.items c.loop-done.rows.items c.args.at)
+    subst (PutsBytes rom c.args.rows.now.items c.loop-done.rows.items c.args.at)
     (take_all c.loop-done.done c.args.new.now (omega arith)) (c.loop-done.invariant.puts rom)

@@ -2,7 +2,7 @@ use Rattle.std.proofs.Common.{◌≡◌, ◌/◌, sym, ◌∙◌, subst, arith}
 use Rattle.std.proofs.lemmas.Bool.{le-leb}
 use Rattle.std.proofs.lemmas.List.{with_items_is}
 use Rattle.std.specs.Vec.{with_items}
-use Rattle.vm_memory.specs.Pages.{IsHeld, Puts, Shows}
+use Rattle.vm_memory.specs.Pages.{IsHeld, PutsBytes, Shows}
 use Rattle.vm_memory.proofs.PutLemmas.{put_in_puts, put_in_shows}
 use Rattle.vm_memory.proofs.pages.put_at.Goals as goal
 
@@ -14,8 +14,8 @@ rows_is c =
 
 pub returns-then-new-offset-clause-puts : goal.returns-then-new-offset-clause-puts
 returns-then-new-offset-clause-puts c = λ t rom.
-    subst (λ rows. Puts rom c.args.rows.now.items rows c.args.at c.args.new.now) (sym (rows_is c))
-    (subst (λ was. Puts rom was c.put_in_page.new.rows c.args.at c.args.new.now)
+    subst (λ rows. PutsBytes rom c.args.rows.now.items rows c.args.at c.args.new.now) (sym (rows_is c))
+    (subst (λ was. PutsBytes rom was c.put_in_page.new.rows c.args.at c.args.new.now)
     c.deref_mut.ensures.value
     (put_in_puts rom _ _ c.args.at c.args.new.now c.put_in_page.result (omega arith)
     c.put_in_page.ensures.held c.put_in_page.ensures.puts c.put_in_page.ensures.kept t))

@@ -2,7 +2,7 @@ use Rattle.std.proofs.Common.{◌≡◌, ◌/◌, ◌%◌, length, get_or, sym, 
 use Rattle.std.proofs.lemmas.List.{with_items_is}
 use Rattle.std.specs.Prelude.{◌+◌, nat_le}
 use Rattle.std.specs.Vec.{with_items}
-use Rattle.vm_memory.specs.Pages.{items_at, put_in}
+use Rattle.vm_memory.specs.Pages.{items_at, page_after_write}
 use Rattle.vm_memory.proofs.RowLemmas.{page_in_get, page_in_set, page_in_other, page_in_past}
 use Rattle.vm_memory.proofs.table.put_in_page.Goals as goal
 
@@ -20,9 +20,9 @@ returns-then-row-rows-clause-puts c =
     page_in_set c.args.rows.now c.args.number _ c.if-row-rows.true
     ∙ ap (λ pages. items_at pages (c.args.number % 64)) (row_is c)
     ∙ c.put_in_row.ensures.puts
-    ∙ ap (λ pages. put_in c.args.at c.args.new.now (items_at pages (c.args.number % 64)))
+    ∙ ap (λ pages. page_after_write c.args.at c.args.new.now (items_at pages (c.args.number % 64)))
     c.deref_mut.ensures.value
-    ∙ sym (ap (put_in c.args.at c.args.new.now)
+    ∙ sym (ap (page_after_write c.args.at c.args.new.now)
     (page_in_get c.args.rows.now c.args.number c.index-rows-row.result c.if-row-rows.true))
 
 pub returns-then-row-rows-clause-kept : goal.returns-then-row-rows-clause-kept

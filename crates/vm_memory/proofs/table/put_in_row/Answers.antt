@@ -1,7 +1,7 @@
 use Rattle.std.proofs.Common.{length, get_or, sym, ◌∙◌, ap, arith, rules}
 use Rattle.std.proofs.lemmas.List.{with_items_is}
 use Rattle.std.specs.Prelude.{◌+◌, nat_le}
-use Rattle.vm_memory.specs.Pages.{put_in}
+use Rattle.vm_memory.specs.Pages.{page_after_write}
 use Rattle.vm_memory.proofs.RowLemmas.{items_at_get, items_at_set, items_at_other, items_at_past}
 use Rattle.vm_memory.proofs.table.put_in_row.Goals as goal
 
@@ -11,7 +11,7 @@ returns-then-n-pages-clause-puts c =
     ∙ with_items_is (get_or c.args.pages.now c.args.n c.index-pages-n.result) c.put_held.new.page
     (grind (arith, c.put_held.auto.page, c.deref_mut.ensures.len, c.deref_mut.ensures.value))
     ∙ c.put_held.ensures.puts
-    ∙ ap (put_in c.args.at c.args.new.now) (c.deref_mut.ensures.value
+    ∙ ap (page_after_write c.args.at c.args.new.now) (c.deref_mut.ensures.value
     ∙ sym (items_at_get c.args.pages.now c.args.n c.index-pages-n.result c.if-n-pages.true))
 
 pub returns-then-n-pages-clause-kept : goal.returns-then-n-pages-clause-kept

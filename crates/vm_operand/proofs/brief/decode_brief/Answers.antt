@@ -1,12 +1,12 @@
 use Rattle.std.proofs.Common.{refl}
-use Rattle.vm_operand.specs.Opcode.{number_of}
+use Rattle.vm_operand.specs.Opcode.{opcode_number}
 use Rattle.vm_operand.proofs.BriefLemmas.{instruction_from, no_instruction, same_brief}
 use Rattle.vm_operand.proofs.OpcodeLemmas.{op_of-number_of}
 use Rattle.vm_operand.proofs.brief.decode_brief.Goals as goal
 
 pub returns-clause-value : goal.returns-clause-value
 returns-clause-value c =
-    instruction_from c.args.memory.now c.args.at (number_of c.in_ok-op.op) c.in_ok-op.place c.in_ok-op.op c.operands_of.result
+    instruction_from c.args.memory.now c.args.at (opcode_number c.in_ok-op.op) c.in_ok-op.place c.in_ok-op.op c.operands_of.result
     c.in_ok-op.ensures.exact (op_of-number_of c.in_ok-op.op) refl c.operands_of.ensures.value
 
 pub returns-clause-none : goal.returns-clause-none

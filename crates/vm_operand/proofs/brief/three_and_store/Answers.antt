@@ -1,5 +1,5 @@
 use Rattle.std.proofs.Common.{refl}
-use Rattle.vm_operand.specs.Opcode.{number_of}
+use Rattle.vm_operand.specs.Opcode.{opcode_number}
 use Rattle.vm_operand.proofs.BriefLemmas.{lost, no_three_and_store, reads_three_and_store, was_kept}
 use Rattle.vm_operand.proofs.brief.three_and_store.Goals as goal
 
@@ -13,20 +13,20 @@ returns-clause-value c =
 pub returns-in_err-modes-clause-none : goal.returns-in_err-modes-clause-none
 returns-in_err-modes-clause-none c = λ nothing.
     let gone = lost c.read1.ensures.value c.in_err-modes.ensures.value in
-    no_three_and_store c.args.memory.now (number_of c.args.op) c.args.place (rw gone.is refl)
+    no_three_and_store c.args.memory.now (opcode_number c.args.op) c.args.place (rw gone.is refl)
 
 pub returns-in_err-more-clause-none : goal.returns-in_err-more-clause-none
 returns-in_err-more-clause-none c = λ nothing.
     let h0 = was_kept c.read1.ensures.value c.in_ok-modes.ensures.value in
     let gone = lost c.read1-2.ensures.value c.in_err-more.ensures.value in
-    no_three_and_store c.args.memory.now (number_of c.args.op) c.args.place (rw h0 (rw gone.is refl))
+    no_three_and_store c.args.memory.now (opcode_number c.args.op) c.args.place (rw h0 (rw gone.is refl))
 
 pub returns-in_err-first-clause-none : goal.returns-in_err-first-clause-none
 returns-in_err-first-clause-none c = λ nothing.
     let h0 = was_kept c.read1.ensures.value c.in_ok-modes.ensures.value in
     let h1 = was_kept c.read1-2.ensures.value c.in_ok-more.ensures.value in
     let gone = lost c.load_by.ensures c.in_err-first.ensures.value in
-    no_three_and_store c.args.memory.now (number_of c.args.op) c.args.place (rw h0 (rw h1 (rw gone.is refl)))
+    no_three_and_store c.args.memory.now (opcode_number c.args.op) c.args.place (rw h0 (rw h1 (rw gone.is refl)))
 
 pub returns-in_err-second-clause-none : goal.returns-in_err-second-clause-none
 returns-in_err-second-clause-none c = λ nothing.
@@ -34,7 +34,7 @@ returns-in_err-second-clause-none c = λ nothing.
     let h1 = was_kept c.read1-2.ensures.value c.in_ok-more.ensures.value in
     let h2 = was_kept c.load_by.ensures c.in_ok-first.ensures.value in
     let gone = lost c.load_by-2.ensures c.in_err-second.ensures.value in
-    no_three_and_store c.args.memory.now (number_of c.args.op) c.args.place (rw h0 (rw h1 (rw h2 (rw gone.is refl))))
+    no_three_and_store c.args.memory.now (opcode_number c.args.op) c.args.place (rw h0 (rw h1 (rw h2 (rw gone.is refl))))
 
 pub returns-in_err-third-clause-none : goal.returns-in_err-third-clause-none
 returns-in_err-third-clause-none c = λ nothing.
@@ -43,7 +43,7 @@ returns-in_err-third-clause-none c = λ nothing.
     let h2 = was_kept c.load_by.ensures c.in_ok-first.ensures.value in
     let h3 = was_kept c.load_by-2.ensures c.in_ok-second.ensures.value in
     let gone = lost c.load_by-3.ensures c.in_err-third.ensures.value in
-    no_three_and_store c.args.memory.now (number_of c.args.op) c.args.place (rw h0 (rw h1 (rw h2 (rw h3 (rw gone.is refl)))))
+    no_three_and_store c.args.memory.now (opcode_number c.args.op) c.args.place (rw h0 (rw h1 (rw h2 (rw h3 (rw gone.is refl)))))
 
 pub returns-in_err-to-clause-none : goal.returns-in_err-to-clause-none
 returns-in_err-to-clause-none c = λ nothing.
@@ -53,4 +53,4 @@ returns-in_err-to-clause-none c = λ nothing.
     let h3 = was_kept c.load_by-2.ensures c.in_ok-second.ensures.value in
     let h4 = was_kept c.load_by-3.ensures c.in_ok-third.ensures.value in
     let gone = lost c.dest_by.ensures c.in_err-to.ensures.value in
-    no_three_and_store c.args.memory.now (number_of c.args.op) c.args.place (rw h0 (rw h1 (rw h2 (rw h3 (rw h4 (rw gone.is refl))))))
+    no_three_and_store c.args.memory.now (opcode_number c.args.op) c.args.place (rw h0 (rw h1 (rw h2 (rw h3 (rw h4 (rw gone.is refl))))))

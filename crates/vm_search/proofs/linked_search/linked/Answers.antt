@@ -1,5 +1,5 @@
 use Rattle.std.proofs.Common.{arith, refl, ◌∙◌, sym, subst, ◌+◌, Ok, Err}
-use Rattle.vm_search.specs.Linked.{linked_ends, place_at}
+use Rattle.vm_search.specs.Linked.{linked_ends, chain_place}
 use Rattle.vm_search.specs.declared.fault.SearchStop.TheVariants.{Read}
 use Rattle.vm_search.proofs.EndingLemmas.{first_ending-on, search-end, search-spent, search-endless}
 use Rattle.vm_search.proofs.EndingLemmas.{handed_on, looks-none, looks-some, found-is, AllLookMore}
@@ -8,7 +8,7 @@ use Rattle.vm_search.proofs.LinkedLemmas.{linked_ends-none, place_at-next, linke
 use Rattle.vm_search.proofs.linked_search.linked.Goals as goal
 
 pub loop-looked-init : goal.loop-looked-init
-unfolding place_at
+unfolding chain_place
 loop-looked-init c = record { room = omega arith; here = refl; sofar = refl }
 
 pub returns-then-at-eq0 : goal.returns-then-at-eq0

@@ -4,7 +4,7 @@ use Rattle.std.proofs.lemmas.Bool.Decides.{nat_tests}
 use Rattle.gate_journal.specs.declared.mark.Mark.{Mark}
 use Rattle.gate_journal.specs.declared.mark.Mark.TheVariants as marks
 use Rattle.gate_journal.specs.declared.entry.Entry.TheVariants.{Faulted}
-use Rattle.gate_journal.specs.History.{Entries, woven, count_rows}
+use Rattle.gate_journal.specs.History.{Entries, rows_woven, count_rows}
 use Rattle.gate_journal.proofs.HistoryLemmas.{count-fault, woven-fault}
 use Rattle.gate_journal.proofs.history.History.note_fault.Goals as goal
 
@@ -24,6 +24,6 @@ returns-clause-entry c =
     let free : vec_len c.self.inside.marks < vec_capacity c.self.inside.marks = grind (arith, nat_tests, room) in
     let fine = c.push.ensures.succeeds free in
     let pushed : c.push.new.self.items ≡ c.self.inside.marks.items ++ marks.Fault c.args.by c.args.from c.args.to ∷ [] = search rules in
-    ap (λ (l : List Mark). woven l c.self.inside.rows.items) pushed
+    ap (λ (l : List Mark). rows_woven l c.self.inside.rows.items) pushed
     ∙ woven-fault c.self.inside.marks.items c.self.inside.rows.items c.args.by c.args.from c.args.to c.self.invariant
     ∙ ap (λ (e : Entries). e.list ++ Faulted c.args.by c.args.from c.args.to ∷ []) c.self.view_is

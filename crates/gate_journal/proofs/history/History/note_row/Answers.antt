@@ -6,7 +6,7 @@ use Rattle.gate_journal.specs.declared.row.Row.{Row}
 use Rattle.gate_journal.specs.declared.mark.Mark.{Mark}
 use Rattle.gate_journal.specs.declared.mark.Mark.TheVariants as marks
 use Rattle.gate_journal.specs.declared.entry.Entry.TheVariants.{Kept}
-use Rattle.gate_journal.specs.History.{Entries, woven, count_rows}
+use Rattle.gate_journal.specs.History.{Entries, rows_woven, count_rows}
 use Rattle.gate_journal.proofs.HistoryLemmas.{count-row, woven-row}
 use Rattle.gate_journal.proofs.history.History.note_row.Goals as goal
 
@@ -32,7 +32,7 @@ returns c =
     let free_row : vec_len c.self.inside.rows < vec_capacity c.self.inside.rows = grind (arith, nat_tests, room) in
     let fine_row = c.push-2.ensures.succeeds free_row in
     let pushed : c.push-2.new.self.items ≡ c.self.inside.rows.items ++ c.args.row ∷ [] = search rules in
-    ap (λ (l : List Mark). woven l c.push-2.new.self.items) marked
-    ∙ ap (λ (l : List Row). woven (c.self.inside.marks.items ++ marks.Row ∷ []) l) pushed
+    ap (λ (l : List Mark). rows_woven l c.push-2.new.self.items) marked
+    ∙ ap (λ (l : List Row). rows_woven (c.self.inside.marks.items ++ marks.Row ∷ []) l) pushed
     ∙ woven-row c.self.inside.marks.items c.self.inside.rows.items c.args.row c.self.invariant
     ∙ ap (λ (e : Entries). e.list ++ Kept c.args.row ∷ []) c.self.view_is

@@ -1,6 +1,6 @@
 use Rattle.std.proofs.Common.{◌≡◌, ◌+◌, ◌++◌, ◌∷◌, [], ◌∙◌, ℕ, Bool, refl, ap, subst, arith, length, rules}
 use Rattle.std.specs.Prelude.{IsTrue}
-use Rattle.gate_journal.specs.Rows.{body}
+use Rattle.gate_journal.specs.Rows.{row_body}
 use Rattle.gate_journal.specs.declared.row.Row.{Row}
 use Rattle.disk_model.proofs.Moments.{holds_now}
 use Rattle.gate_journal.proofs.AppendLemmas.{faulted_rows, kept_rows, crash_repair, crash_row}
@@ -34,7 +34,7 @@ returns-in_default-clause-crash g c = crash_repair c.self.view_is c.self.invaria
 pub invariant_of-self-in-Ok-write_row : goal.invariant_of-self-in-Ok-write_row
 invariant_of-self-in-Ok-write_row g c =
     let past = c.deref.result.now in
-    let bytes : past ≡ body c.fill-row.result.0 ++ 0 ∷ [] = c.deref.ensures.value ∙ c.fill-row.ensures.bytes in
+    let bytes : past ≡ row_body c.fill-row.result.0 ++ 0 ∷ [] = c.deref.ensures.value ∙ c.fill-row.ensures.bytes in
     let size : c.len.result ≡ length past = search rules in (
       sound_row c.self.view_is c.self.invariant.0 c.requires.stands c.fill-row.ensures.row bytes c.in-Ok.ensures.gate c.in-Ok.ensures.triple c.settle.ensures.ran.same.telling
           c.in-Ok-write_row.ensures.triple c.write_row.ensures.ran.same.telling

@@ -6,7 +6,7 @@ use Rattle.session_core.specs.declared.entry.Entry.{Entry}
 use Rattle.session_desk.specs.Shared.{SharedState, desk_tag}
 use Rattle.host_serve.specs.Gathering.{Gathers}
 use Rattle.host_serve.specs.Holders.{holders, seens}
-use Rattle.host_serve.specs.Hosts.{ArePasses, rows_at_opening, stores_of, tags_in}
+use Rattle.host_serve.specs.Hosts.{ArePasses, rows_at_opening, opened_stores, tags_in}
 use Rattle.host_serve.proofs.EndLemmas.{agrees_back, ends_with, gives_back}
 use Rattle.host_serve.proofs.host.Host.end.Goals as goal
 
@@ -23,7 +23,7 @@ gather-requires-clause-passes g c = (
   c.args.self.stories.now,
   c.args.self.budget,
   rows_at_opening c.args.self,
-  stores_of c.args.self,
+  opened_stores c.args.self,
   c.requires.passes.whole.stores,
   subst (λ (x : List (Cell (SharedState g.row.D.Denot) Entry)
       × List (Pass (SharedState g.row.D.Denot) Entry)). ArePasses desk_tag

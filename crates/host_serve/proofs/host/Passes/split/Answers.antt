@@ -4,7 +4,7 @@ use Rattle.std.proofs.lemmas.List.{with_items_is}
 use Rattle.session_desk.specs.Shared.{desk_tag}
 use Rattle.host_serve.specs.Holders.{Holder, holders, seens}
 use Rattle.host_serve.specs.Hosts.{ArePasses, tags_in}
-use Rattle.host_serve.specs.Splitting.{AreRoots, after_split, with_newest}
+use Rattle.host_serve.specs.Splitting.{AreRoots, after_split, with_newest_pass}
 use Rattle.host_serve.proofs.PassLemmas.{pass_ready}
 use Rattle.host_serve.proofs.RootLemmas.{roots_first}
 use Rattle.host_serve.proofs.SplitLemmas.{SplitsOff, newest_there, own_tags, root_here, splits_all}
@@ -123,7 +123,7 @@ returns-in-Err-clause-roots g c = let split =
     let is = with_items_is (with_item c.loop-s.self.desks c.loop-s.s c.split.new.pass)
     c.join_again.new.roots (long ∙ c.deref_mut.ensures.len) in
     λ most roots. subst (λ hs. AreRoots (most + 1) hs) (sym (ap (λ l. holders l) is ∙ back.0))
-    (roots_first (λ (h : Holder). with_newest (after_split h)) (λ h. (refl, refl)) _ most _ roots)
+    (roots_first (λ (h : Holder). with_newest_pass (after_split h)) (λ h. (refl, refl)) _ most _ roots)
 
 pub loop-s-preserved : goal.loop-s-preserved
 loop-s-preserved g c =

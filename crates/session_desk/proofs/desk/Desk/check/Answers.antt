@@ -1,6 +1,6 @@
 use Rattle.std.proofs.Common.{◌≡◌, Some}
 use Rattle.session_core.specs.History.{game_of}
-use Rattle.session_core.specs.Answer.{first_of, plain_checks}
+use Rattle.session_core.specs.Answer.{first_refusal, plain_checks}
 use Rattle.session_desk.specs.Desk.{DeskState}
 use Rattle.session_desk.proofs.VerdictLemmas.{plain-told}
 use Rattle.session_desk.proofs.desk.Desk.check.Goals as goal
@@ -14,7 +14,7 @@ returns-in-Some-clause-value c =
       commands = c.self.inside.commands.items;
       held = c.self.inside.held;
     } in
-    let refused : first_of (plain_checks c.self.inside.stories.now (game_of c.self.inside.commands.items) c.args.request.now) ≡ Some c.in-Some.why = cc in
+    let refused : first_refusal (plain_checks c.self.inside.stories.now (game_of c.self.inside.commands.items) c.args.request.now) ≡ Some c.in-Some.why = cc in
     rw (← c.self.view_is) (plain-told desk c.args.request.now c.in-Some.why refused)
 
 pub returns-in-Some-clause-cold : goal.returns-in-Some-clause-cold

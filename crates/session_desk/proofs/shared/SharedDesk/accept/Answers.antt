@@ -4,7 +4,7 @@ use Rattle.gate_journal.specs.declared.command.Command.{Command}
 use Rattle.session_core.specs.declared.decision.Decision.{Decision}
 use Rattle.session_core.specs.declared.entry.Outcome.TheVariants.{DiskFailed, OutOfMemory}
 use Rattle.session_desk.specs.Desk.{DeskState, is_cold, ran}
-use Rattle.session_desk.specs.Laws.{answered}
+use Rattle.session_desk.specs.Laws.{decision_by_desk}
 use Rattle.session_desk.specs.Shared.{GoesOn}
 use Rattle.session_desk.proofs.SharedTurnLemmas.{fresh-goes, fresh-shown}
 use Rattle.session_desk.proofs.WarmLemmas.{stays_warm}
@@ -29,7 +29,7 @@ returns-in-Ok-clause-journal g c =
 pub returns-in-Err-DiskFault-clause-journal : goal.returns-in-Err-DiskFault-clause-journal
 returns-in-Err-DiskFault-clause-journal g c =
     let f = c.shows_fresh.ensures c.args.self.now.desk c.args.request.now c.requires.fresh in
-    let accepted : (answered c.args.self.now.desk c.args.request.now).accepted ≡ Some f.0 = ap (λ (d : Decision). d.accepted) f.2 in
+    let accepted : (decision_by_desk c.args.self.now.desk c.args.request.now).accepted ≡ Some f.0 = ap (λ (d : Decision). d.accepted) f.2 in
     let fault = c.in-Err-DiskFault.field-0-0 in
     let on = rw c.in-Err-DiskFault.field-0-is at (c.in-Err-DiskFault.ensures.journal f.0 f.1) in
     rw c.in-Err-DiskFault.field-0-0-is
@@ -39,7 +39,7 @@ returns-in-Err-DiskFault-clause-journal g c =
 pub returns-in-Err-NoMemory-clause-journal : goal.returns-in-Err-NoMemory-clause-journal
 returns-in-Err-NoMemory-clause-journal g c =
     let f = c.shows_fresh.ensures c.args.self.now.desk c.args.request.now c.requires.fresh in
-    let accepted : (answered c.args.self.now.desk c.args.request.now).accepted ≡ Some f.0 = ap (λ (d : Decision). d.accepted) f.2 in
+    let accepted : (decision_by_desk c.args.self.now.desk c.args.request.now).accepted ≡ Some f.0 = ap (λ (d : Decision). d.accepted) f.2 in
     let on = rw c.in-Err-NoMemory.field-0-is at (c.in-Err-NoMemory.ensures.journal f.0 f.1) in
     rw c.out_of_memory.ensures
     (subst (λ (a : Option Command). GoesOn c.args.self.now.desk.session a OutOfMemory (seen c.args.self.now.pass) (seen c.commit.new.self.pass)) (sym accepted) on)

@@ -3,8 +3,8 @@ use Rattle.turn_cell.specs.Passes.{seen}
 use Rattle.gate_journal.specs.Log.{rows_of}
 use Rattle.session_desk.specs.declared.shared.mark.Mark.{Mark}
 use Rattle.session_desk.specs.declared.verdict.Verdict.TheVariants.{Fresh}
-use Rattle.session_desk.specs.Keeping.{due}
-use Rattle.session_desk.specs.Marks.{marks_by, woven}
+use Rattle.session_desk.specs.Keeping.{snapshot_due}
+use Rattle.session_desk.specs.Marks.{marks_by, commands_woven}
 use Rattle.session_desk.specs.Shared.{history_met, IsMarked, met_by, SharedState}
 use Rattle.session_desk.specs.Verdict.{verdict}
 use Rattle.session_desk.proofs.LawLemmas.{shows_fresh}
@@ -25,7 +25,7 @@ pub invariant_of-self-2 : goal.invariant_of-self-2
 invariant_of-self-2 g c =
     let old : SharedState g.row.D.Denot = record {
       desk = c.self.inside.desk;
-      history = woven c.self.inside.marks.items c.self.inside.desk.commands;
+      history = commands_woven c.self.inside.marks.items c.self.inside.desk.commands;
       pass = c.self.inside.pass;
       saves = c.self.inside.saves;
       store = c.self.inside.store.value;
@@ -37,7 +37,7 @@ invariant_of-self-2 g c =
     let marked : c.note.new.marks.items ≡ c.self.inside.marks.items ++ marks_by c.args.by c.commit_in_turn-done.result = cc in
     let ok = c.commit_in_turn-done.ensures.ok f.0 f.1 in
     let err = c.commit_in_turn-done.ensures.err in
-    let idle : due old ≡ false = subst (λ (s : SharedState g.row.D.Denot). due s ≡ false) (sym c.self.view_is) c.requires.due in
+    let idle : snapshot_due old ≡ false = subst (λ (s : SharedState g.row.D.Denot). snapshot_due s ≡ false) (sym c.self.view_is) c.requires.due in
     let m : IsMarked c.note.new.marks.items c.commit_in_turn-done.new.desk c.commit_in_turn-done.new.pass =
     marked-by c.self.inside.marks.items c.note.new.marks.items c.args.by c.self.inside.desk c.commit_in_turn-done.new.desk c.self.inside.pass c.commit_in_turn-done.new.pass
     f.0 c.commit_in_turn-done.result marked c.self.invariant.marked ok err c.commit_in_turn-done.ensures.pass (c.commit_in_turn-done.ensures.history f.0 f.1) in
@@ -49,7 +49,7 @@ pub returns : goal.returns
 returns g c =
     let old : SharedState g.row.D.Denot = record {
       desk = c.self.inside.desk;
-      history = woven c.self.inside.marks.items c.self.inside.desk.commands;
+      history = commands_woven c.self.inside.marks.items c.self.inside.desk.commands;
       pass = c.self.inside.pass;
       saves = c.self.inside.saves;
       store = c.self.inside.store.value;
@@ -64,14 +64,14 @@ returns g c =
     let done = c.commit_in_turn-done.result in
     let new : SharedState g.row.D.Denot = record {
       desk = c.commit_in_turn-done.new.desk;
-      history = woven c.note.new.marks.items c.commit_in_turn-done.new.desk.commands;
+      history = commands_woven c.note.new.marks.items c.commit_in_turn-done.new.desk.commands;
       pass = c.commit_in_turn-done.new.pass;
       saves = c.self.inside.saves;
       store = c.self.inside.store.value;
       rows = rows_of (seen c.self.inside.first.value);
     } in
     let history : new.history ≡ history_met old.history c.args.by (Some f.0) (met_by done) =
-    ap (λ (l : List Mark). woven l new.desk.commands) marked
+    ap (λ (l : List Mark). commands_woven l new.desk.commands) marked
     ∙ woven-by c.self.inside.marks.items done c.args.by old.desk new.desk f.0 c.self.invariant.marked.counted ok err in
     let cell : new.pass.known.place.table_id ≡ old.pass.known.place.table_id =
     c.commit_in_turn-done.ensures.kept ∙ sym (ap (λ (s : SharedState g.row.D.Denot). s.pass.known.place.table_id) c.self.view_is ∙ c.requires.cell) in

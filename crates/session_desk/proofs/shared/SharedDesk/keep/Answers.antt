@@ -1,6 +1,6 @@
 use Rattle.turn_cell.specs.Passes.{seen}
 use Rattle.gate_journal.specs.Log.{rows_of}
-use Rattle.session_desk.specs.Marks.{woven}
+use Rattle.session_desk.specs.Marks.{commands_woven}
 use Rattle.session_desk.specs.Shared.{SharedState}
 use Rattle.session_desk.proofs.SoundLemmas.{whole-kept}
 use Rattle.session_desk.proofs.shared.SharedDesk.keep.Goals as goal
@@ -9,7 +9,7 @@ pub invariant_of-self : goal.invariant_of-self
 invariant_of-self g c =
     let old : SharedState g.row.D.Denot = record {
       desk = c.self.inside.desk;
-      history = woven c.self.inside.marks.items c.self.inside.desk.commands;
+      history = commands_woven c.self.inside.marks.items c.self.inside.desk.commands;
       pass = c.self.inside.pass;
       saves = c.self.inside.saves;
       store = c.self.inside.store.value;

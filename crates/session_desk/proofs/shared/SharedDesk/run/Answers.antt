@@ -1,7 +1,7 @@
 use Rattle.std.proofs.Common.{refl}
 use Rattle.turn_cell.specs.Passes.{seen}
 use Rattle.gate_journal.specs.Log.{rows_of}
-use Rattle.session_desk.specs.Marks.{woven}
+use Rattle.session_desk.specs.Marks.{commands_woven}
 use Rattle.session_desk.specs.Shared.{SharedState}
 use Rattle.session_desk.proofs.SoundLemmas.{whole-run}
 use Rattle.session_desk.proofs.shared.SharedDesk.run.Goals as goal
@@ -10,7 +10,7 @@ pub invariant_of-self : goal.invariant_of-self
 invariant_of-self g c =
     let old : SharedState g.row.D.Denot = record {
       desk = c.self.inside.desk;
-      history = woven c.self.inside.marks.items c.self.inside.desk.commands;
+      history = commands_woven c.self.inside.marks.items c.self.inside.desk.commands;
       pass = c.self.inside.pass;
       saves = c.self.inside.saves;
       store = c.self.inside.store.value;

@@ -3,7 +3,7 @@ use Rattle.turn_cell.specs.Passes.{seen}
 use Rattle.gate_journal.specs.Log.{rows_of}
 use Rattle.session_core.specs.Checks.{is_other_story}
 use Rattle.session_desk.specs.Desk.{game, is_cold}
-use Rattle.session_desk.specs.Marks.{woven}
+use Rattle.session_desk.specs.Marks.{commands_woven}
 use Rattle.session_desk.specs.Shared.{SharedState}
 use Rattle.session_desk.proofs.DeskWarming.{cold_used, has_place, warm_cost, warm_own, warms_held, whole_cold, whole_warmed}
 use Rattle.session_desk.proofs.StoryLemmas.{warms_some}
@@ -13,7 +13,7 @@ pub unwrap-place-requires : goal.unwrap-place-requires
 unwrap-place-requires g c =
     let old : SharedState g.row.D.Denot = record {
       desk = c.self.inside.desk;
-      history = woven c.self.inside.marks.items c.self.inside.desk.commands;
+      history = commands_woven c.self.inside.marks.items c.self.inside.desk.commands;
       pass = c.self.inside.pass;
       saves = c.self.inside.saves;
       store = c.self.inside.store.value;
@@ -26,7 +26,7 @@ pub invariant_of-self : goal.invariant_of-self
 invariant_of-self g c =
     let old : SharedState g.row.D.Denot = record {
       desk = c.self.inside.desk;
-      history = woven c.self.inside.marks.items c.self.inside.desk.commands;
+      history = commands_woven c.self.inside.marks.items c.self.inside.desk.commands;
       pass = c.self.inside.pass;
       saves = c.self.inside.saves;
       store = c.self.inside.store.value;
@@ -42,7 +42,7 @@ pub unwrap-requires : goal.unwrap-requires
 unwrap-requires g c =
     let old : SharedState g.row.D.Denot = record {
       desk = c.self.inside.desk;
-      history = woven c.self.inside.marks.items c.self.inside.desk.commands;
+      history = commands_woven c.self.inside.marks.items c.self.inside.desk.commands;
       pass = c.self.inside.pass;
       saves = c.self.inside.saves;
       store = c.self.inside.store.value;
@@ -59,7 +59,7 @@ pub invariant_of-self-2 : goal.invariant_of-self-2
 invariant_of-self-2 g c =
     let old : SharedState g.row.D.Denot = record {
       desk = c.self.inside.desk;
-      history = woven c.self.inside.marks.items c.self.inside.desk.commands;
+      history = commands_woven c.self.inside.marks.items c.self.inside.desk.commands;
       pass = c.self.inside.pass;
       saves = c.self.inside.saves;
       store = c.self.inside.store.value;
@@ -76,7 +76,7 @@ pub returns : goal.returns
 returns g c =
     let old : SharedState g.row.D.Denot = record {
       desk = c.self.inside.desk;
-      history = woven c.self.inside.marks.items c.self.inside.desk.commands;
+      history = commands_woven c.self.inside.marks.items c.self.inside.desk.commands;
       pass = c.self.inside.pass;
       saves = c.self.inside.saves;
       store = c.self.inside.store.value;
@@ -86,7 +86,7 @@ returns g c =
     subst (λ (s : SharedState g.row.D.Denot). is_other_story s.desk.stories (game s.desk) ≡ false) (sym c.self.view_is) c.requires.story in
     rw (← c.self.view_is)
     (record {
-      found = warms_held g.D.Disk.tells g.D.Disk.seen g.D.Disk.room g.D.Disk.label g.D.Disk.faults g.D.Disk.reach c.self.inside.marks.items c.self.inside.place old c.hold.new.self (woven c.self.inside.marks.items c.hold.new.self.commands) c.warm.new.self c.stories.result.now c.game.result.now
+      found = warms_held g.D.Disk.tells g.D.Disk.seen g.D.Disk.room g.D.Disk.label g.D.Disk.faults g.D.Disk.reach c.self.inside.marks.items c.self.inside.place old c.hold.new.self (commands_woven c.self.inside.marks.items c.hold.new.self.commands) c.warm.new.self c.stories.result.now c.game.result.now
           c.unwrap-place.result c.in_ok-world.world c.unwrap.result c.args.steps.now c.warm.new.steps c.self.invariant c.unwrap-place.ensures
           c.stories.ensures c.game.ensures.value c.unwrap.ensures c.hold.ensures c.in_ok-world.ensures.found;
       own = λ sound. rw c.hold.ensures (warm_own g.D.Disk.tells g.D.Disk.seen g.D.Disk.room g.D.Disk.label g.D.Disk.faults g.D.Disk.reach c.self.inside.marks.items c.self.inside.place old c.stories.result.now c.game.result.now c.unwrap-place.result c.in_ok-world.world c.unwrap.result c.self.invariant

@@ -1,11 +1,11 @@
 use Rattle.std.proofs.Common.{◌∙◌, ◌+◌, ap, arith, ℕ, Option, sym, subst}
 use Rattle.std.specs.Prelude.{IsTrue}
 use Rattle.story_run.specs.declared.setup.Setup.{Setup}
-use Rattle.snap_store.specs.File.{given, newest_area}
+use Rattle.snap_store.specs.File.{area_given, newest_area}
 use Rattle.snap_store.specs.declared.area.Area.{Area}
 use Rattle.session_saves.specs.Agreement.{IsAgreed}
 use Rattle.session_saves.specs.Game.{inputs_of, turns_after}
-use Rattle.session_saves.specs.Warming.{Finds, Warms, count_in}
+use Rattle.session_saves.specs.Warming.{FindsArea, Warms, count_in}
 use Rattle.session_saves.specs.Saves.{SavesState}
 use Rattle.session_saves.proofs.GameLemmas.{inputs_within}
 use Rattle.session_saves.proofs.WarmingLemmas.{no_story, warms_own}
@@ -55,12 +55,12 @@ returns-clause-cost g c rows told steady last same agreed =
     c.inputs_of-most.result c.in_ok-area.area c.in_ok-world.world c.args.steps.now c.play.new.steps
     (c.in_ok-area.ensures.given told_inside) warms).1 in
     let finds = subst (λ (s : SavesState g.row.D.Denot).
-    Finds (g.D.Disk.tells s.store.disk) (g.D.Disk.seen s.store.disk) c.args.place
+    FindsArea (g.D.Disk.tells s.store.disk) (g.D.Disk.seen s.store.disk) c.args.place
     c.inputs_of-most.result
     (g.D.Disk.faults s.store.disk) (g.D.Disk.faults c.found.new.store.disk) c.in_ok-area.area)
     c.self.view_is c.in_ok-area.ensures.value in
     let newest = finds.newest told steady
-    ∙ ap (λ (n : ℕ). given (newest_area c.args.place n
+    ∙ ap (λ (n : ℕ). area_given (newest_area c.args.place n
     (g.D.Disk.seen c.args.self.now.store.disk))) c.inputs_of-most.ensures.value in
     takes ∙ ap (λ (area : Option Area).
     c.args.steps.now + turns_after c.args.stories.now c.args.game.now (count_in area)) newest

@@ -3,7 +3,7 @@ use Rattle.std.specs.Prelude.{IsTrue}
 use Rattle.snap_store.specs.declared.outline.Outline.{Outline}
 use Rattle.snap_store.specs.declared.slot.Slot.{Slot}
 use Rattle.snap_store.specs.Slots.{slot_in}
-use Rattle.snap_store.specs.Store.{Snapshots, held}
+use Rattle.snap_store.specs.Store.{Snapshots, area_held}
 use Rattle.snap_store.proofs.StoreLemmas.{sound_read, sound_images, held_in, slots_are}
 use Rattle.snap_store.proofs.store.Store.open.Goals as goal
 
@@ -35,6 +35,6 @@ returns-clause-areas g c told side =
     let new = g.D.Disk.seen c.synced_outline.new.disk in
     let read = c.in-Ok.ensures.ok told in
     let slot = slots_are (record { a = c.slot.result; b = c.slot-2.result }) file (c.slot.ensures.value file read.0) (c.slot-2.ensures.value file read.0) side in
-    ap (λ (s : Slot). held side s new) slot
-    ∙ ap (λ (l : List ℕ). held side (slot_in side file) l) (c.in-Ok.ensures.seen told)
+    ap (λ (s : Slot). area_held side s new) slot
+    ∙ ap (λ (l : List ℕ). area_held side (slot_in side file) l) (c.in-Ok.ensures.seen told)
     ∙ held_in side file

@@ -4,9 +4,9 @@ use Rattle.disk_model.specs.Disk.{LeavesOnly, EachImage}
 use Rattle.disk_model.proofs.Moments.{weaker}
 use Rattle.snap_store.specs.declared.slot.Slot.TheVariants.{Open}
 use Rattle.snap_store.specs.File.{Stored, whole_area, open_area}
-use Rattle.snap_store.specs.Slots.{other, slot_of, taken_side}
+use Rattle.snap_store.specs.Slots.{opposite_side, slot_of, taken_side}
 use Rattle.snap_store.specs.Images.{DuringPut}
-use Rattle.snap_store.specs.Store.{Snapshots, area_of, IsPutImage}
+use Rattle.snap_store.specs.Store.{Snapshots, store_area, IsPutImage}
 use Rattle.snap_store.proofs.StoreLemmas.{sound_images, is_opened}
 use Rattle.snap_store.proofs.PutLemmas.{laid_before, put_image, sound_after, beside_after, put_after, left_after}
 use Rattle.snap_store.proofs.store.Store.put.Goals as goal
@@ -21,8 +21,8 @@ invariant_of-self g c =
     let put : Stored = record { place = c.args.place; count = c.args.count; bytes = c.args.bytes.now } in
     let side = taken_side S.slots in
     let area = whole_area side (seen S.disk) in
-    let beside = slot_of S.slots (other side) in
-    let beside_area = whole_area (other side) (seen S.disk) in
+    let beside = slot_of S.slots (opposite_side side) in
+    let beside_area = whole_area (opposite_side side) (seen S.disk) in
     let made : S.made ≡ true = c.if-not-self.false in
     let before = laid_before T I seen stays S c.self.invariant made put in
     let new = c.replace.new.disk in
@@ -42,8 +42,8 @@ returns-in_default-clause-images g c =
     let put : Stored = record { place = c.args.place; count = c.args.count; bytes = c.args.bytes.now } in
     let side = taken_side S.slots in
     let area = whole_area side (seen S.disk) in
-    let beside = slot_of S.slots (other side) in
-    let beside_area = whole_area (other side) (seen S.disk) in
+    let beside = slot_of S.slots (opposite_side side) in
+    let beside_area = whole_area (opposite_side side) (seen S.disk) in
     let made : S.made ≡ true = c.if-not-self.false in
     let before = laid_before T I seen stays S c.self.invariant made put in
     let new = c.replace.new.disk in
@@ -64,8 +64,8 @@ returns-in_default-clause-crash g c =
     let put : Stored = record { place = c.args.place; count = c.args.count; bytes = c.args.bytes.now } in
     let side = taken_side S.slots in
     let area = whole_area side (seen S.disk) in
-    let beside = slot_of S.slots (other side) in
-    let beside_area = whole_area (other side) (seen S.disk) in
+    let beside = slot_of S.slots (opposite_side side) in
+    let beside_area = whole_area (opposite_side side) (seen S.disk) in
     let made : S.made ≡ true = c.if-not-self.false in
     let before = laid_before T I seen stays S c.self.invariant made put in
     let new = c.replace.new.disk in
@@ -85,8 +85,8 @@ returns-in_default-clause-beside g c =
     let put : Stored = record { place = c.args.place; count = c.args.count; bytes = c.args.bytes.now } in
     let side = taken_side S.slots in
     let area = whole_area side (seen S.disk) in
-    let beside = slot_of S.slots (other side) in
-    let beside_area = whole_area (other side) (seen S.disk) in
+    let beside = slot_of S.slots (opposite_side side) in
+    let beside_area = whole_area (opposite_side side) (seen S.disk) in
     let made : S.made ≡ true = c.if-not-self.false in
     let before = laid_before T I seen stays S c.self.invariant made put in
     let new = c.replace.new.disk in
@@ -95,7 +95,7 @@ returns-in_default-clause-beside g c =
     let step = c.in_default.ensures.err in
     let found = step.2 area beside_area before in
     let after : Snapshots g.row.D.Denot = record { disk = new; made = S.made; slots = slots } in
-    subst (λ (s : Snapshots g.row.D.Denot). IsTrue (T s.disk) → area_of seen after (other (taken_side s.slots)) ≡ area_of seen s (other (taken_side s.slots))) c.self.view_is
+    subst (λ (s : Snapshots g.row.D.Denot). IsTrue (T s.disk) → store_area seen after (opposite_side (taken_side s.slots)) ≡ store_area seen s (opposite_side (taken_side s.slots))) c.self.view_is
     (λ told. beside_after T I seen stays S c.self.invariant made put new telling slots step.0 found.0 step.1 found.2 told)
 
 pub returns-in_default-clause-taken : goal.returns-in_default-clause-taken
@@ -108,8 +108,8 @@ returns-in_default-clause-taken g c =
     let put : Stored = record { place = c.args.place; count = c.args.count; bytes = c.args.bytes.now } in
     let side = taken_side S.slots in
     let area = whole_area side (seen S.disk) in
-    let beside = slot_of S.slots (other side) in
-    let beside_area = whole_area (other side) (seen S.disk) in
+    let beside = slot_of S.slots (opposite_side side) in
+    let beside_area = whole_area (opposite_side side) (seen S.disk) in
     let made : S.made ≡ true = c.if-not-self.false in
     let before = laid_before T I seen stays S c.self.invariant made put in
     let new = c.replace.new.disk in
@@ -118,7 +118,7 @@ returns-in_default-clause-taken g c =
     let step = c.in_default.ensures.err in
     let found = step.2 area beside_area before in
     let after : Snapshots g.row.D.Denot = record { disk = new; made = S.made; slots = slots } in
-    subst (λ (s : Snapshots g.row.D.Denot). s.made ≡ true → IsTrue (T s.disk) → (area_of seen after (taken_side s.slots) ≡ area_of seen s (taken_side s.slots)) ⊎ (area_of seen after (taken_side s.slots) ≡ None) ⊎ (area_of seen after (taken_side s.slots) ≡ Some put)) c.self.view_is
+    subst (λ (s : Snapshots g.row.D.Denot). s.made ≡ true → IsTrue (T s.disk) → (store_area seen after (taken_side s.slots) ≡ store_area seen s (taken_side s.slots)) ⊎ (store_area seen after (taken_side s.slots) ≡ None) ⊎ (store_area seen after (taken_side s.slots) ≡ Some put)) c.self.view_is
     (λ is told. left_after T I seen stays S c.self.invariant made put new telling slots step.0 found.0 step.1 found.2 found.1 told)
 
 pub invariant_of-self-2 : goal.invariant_of-self-2
@@ -131,8 +131,8 @@ invariant_of-self-2 g c =
     let put : Stored = record { place = c.args.place; count = c.args.count; bytes = c.args.bytes.now } in
     let side = taken_side S.slots in
     let area = whole_area side (seen S.disk) in
-    let beside = slot_of S.slots (other side) in
-    let beside_area = whole_area (other side) (seen S.disk) in
+    let beside = slot_of S.slots (opposite_side side) in
+    let beside_area = whole_area (opposite_side side) (seen S.disk) in
     let made : S.made ≡ true = c.if-not-self.false in
     let before = laid_before T I seen stays S c.self.invariant made put in
     let new = c.replace.new.disk in
@@ -152,8 +152,8 @@ returns-clause-images g c =
     let put : Stored = record { place = c.args.place; count = c.args.count; bytes = c.args.bytes.now } in
     let side = taken_side S.slots in
     let area = whole_area side (seen S.disk) in
-    let beside = slot_of S.slots (other side) in
-    let beside_area = whole_area (other side) (seen S.disk) in
+    let beside = slot_of S.slots (opposite_side side) in
+    let beside_area = whole_area (opposite_side side) (seen S.disk) in
     let made : S.made ≡ true = c.if-not-self.false in
     let before = laid_before T I seen stays S c.self.invariant made put in
     let new = c.replace.new.disk in
@@ -174,8 +174,8 @@ returns-clause-crash g c =
     let put : Stored = record { place = c.args.place; count = c.args.count; bytes = c.args.bytes.now } in
     let side = taken_side S.slots in
     let area = whole_area side (seen S.disk) in
-    let beside = slot_of S.slots (other side) in
-    let beside_area = whole_area (other side) (seen S.disk) in
+    let beside = slot_of S.slots (opposite_side side) in
+    let beside_area = whole_area (opposite_side side) (seen S.disk) in
     let made : S.made ≡ true = c.if-not-self.false in
     let before = laid_before T I seen stays S c.self.invariant made put in
     let new = c.replace.new.disk in
@@ -195,8 +195,8 @@ returns-clause-beside g c =
     let put : Stored = record { place = c.args.place; count = c.args.count; bytes = c.args.bytes.now } in
     let side = taken_side S.slots in
     let area = whole_area side (seen S.disk) in
-    let beside = slot_of S.slots (other side) in
-    let beside_area = whole_area (other side) (seen S.disk) in
+    let beside = slot_of S.slots (opposite_side side) in
+    let beside_area = whole_area (opposite_side side) (seen S.disk) in
     let made : S.made ≡ true = c.if-not-self.false in
     let before = laid_before T I seen stays S c.self.invariant made put in
     let new = c.replace.new.disk in
@@ -205,7 +205,7 @@ returns-clause-beside g c =
     let now = Open c.args.place c.args.count in
     let laid = c.in-Ok.ensures.images area beside_area before in
     let after : Snapshots g.row.D.Denot = record { disk = new; made = S.made; slots = slots } in
-    subst (λ (s : Snapshots g.row.D.Denot). IsTrue (T s.disk) → area_of seen after (other (taken_side s.slots)) ≡ area_of seen s (other (taken_side s.slots))) c.self.view_is
+    subst (λ (s : Snapshots g.row.D.Denot). IsTrue (T s.disk) → store_area seen after (opposite_side (taken_side s.slots)) ≡ store_area seen s (opposite_side (taken_side s.slots))) c.self.view_is
     (λ told. beside_after T I seen stays S c.self.invariant made put new telling slots now (Some put) c.in-Ok.ensures.ok laid told)
 
 pub returns-clause-taken : goal.returns-clause-taken
@@ -218,8 +218,8 @@ returns-clause-taken g c =
     let put : Stored = record { place = c.args.place; count = c.args.count; bytes = c.args.bytes.now } in
     let side = taken_side S.slots in
     let area = whole_area side (seen S.disk) in
-    let beside = slot_of S.slots (other side) in
-    let beside_area = whole_area (other side) (seen S.disk) in
+    let beside = slot_of S.slots (opposite_side side) in
+    let beside_area = whole_area (opposite_side side) (seen S.disk) in
     let made : S.made ≡ true = c.if-not-self.false in
     let before = laid_before T I seen stays S c.self.invariant made put in
     let new = c.replace.new.disk in
@@ -228,7 +228,7 @@ returns-clause-taken g c =
     let now = Open c.args.place c.args.count in
     let laid = c.in-Ok.ensures.images area beside_area before in
     let after : Snapshots g.row.D.Denot = record { disk = new; made = S.made; slots = slots } in
-    subst (λ (s : Snapshots g.row.D.Denot). s.made ≡ true → IsTrue (T s.disk) → area_of seen after (taken_side s.slots) ≡ Some put) c.self.view_is
+    subst (λ (s : Snapshots g.row.D.Denot). s.made ≡ true → IsTrue (T s.disk) → store_area seen after (taken_side s.slots) ≡ Some put) c.self.view_is
     (λ is told. put_after T I seen stays S c.self.invariant made put new telling slots now (Some put) c.in-Ok.ensures.ok laid c.args.place c.args.count refl refl told)
 
 pub returns-clause-durable : goal.returns-clause-durable
@@ -241,8 +241,8 @@ returns-clause-durable g c =
     let put : Stored = record { place = c.args.place; count = c.args.count; bytes = c.args.bytes.now } in
     let side = taken_side S.slots in
     let area = whole_area side (seen S.disk) in
-    let beside = slot_of S.slots (other side) in
-    let beside_area = whole_area (other side) (seen S.disk) in
+    let beside = slot_of S.slots (opposite_side side) in
+    let beside_area = whole_area (opposite_side side) (seen S.disk) in
     let made : S.made ≡ true = c.if-not-self.false in
     let before = laid_before T I seen stays S c.self.invariant made put in
     let new = c.replace.new.disk in

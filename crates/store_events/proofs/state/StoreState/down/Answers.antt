@@ -1,5 +1,5 @@
 use Rattle.std.proofs.Common.{◌≡◌, false, rules, subst}
-use Rattle.store_events.specs.Events.{down_over}
+use Rattle.store_events.specs.Events.{store_down_over}
 use Rattle.store_events.specs.Steady.{IsSteady}
 use Rattle.store_events.specs.declared.state.StoreState.{StoreState}
 use Rattle.store_events.specs.declared.state.Step.TheVariants.{Idle}
@@ -8,7 +8,7 @@ use Rattle.store_events.proofs.state.StoreState.down.Goals as goal
 
 pub returns-clause-steady : goal.returns-clause-steady
 returns-clause-steady c =
-    let value : down_over c.args.file.now ≡ record {
+    let value : store_down_over c.args.file.now ≡ record {
       up = false;
       disk = c.in_ok-settled.field-0;
       faults = 0;

@@ -1,13 +1,13 @@
 use Rattle.std.proofs.Common.{◌∙◌, ap, subst, sym}
-use Rattle.story_run.specs.World.{IsStageOf, state_of}
+use Rattle.story_run.specs.World.{IsStageOf, world_of_held}
 use Rattle.story_run.specs.declared.world.Held.{Held}
 use Rattle.story_run.proofs.WorldLemmas.{awaited, seed-of}
 use Rattle.story_run.proofs.world.World.turn.Goals as goal
 
 pub resume-requires-clause-awaited : goal.resume-requires-clause-awaited
 resume-requires-clause-awaited g c =
-    awaited (state_of c.into_inner-image.result) c.args.self c.args.input.now
-    (ap state_of c.into_inner-image.ensures ∙ c.self.view_is) c.requires
+    awaited (world_of_held c.into_inner-image.result) c.args.self c.args.input.now
+    (ap world_of_held c.into_inner-image.ensures ∙ c.self.view_is) c.requires
 
 pub rest-requires-clause-machine : goal.rest-requires-clause-machine
 rest-requires-clause-machine g c =

@@ -3,7 +3,7 @@ use Rattle.vm_operand.specs.Brief.{instr_of}
 use Rattle.vm_operand.specs.declared.opcode.Op.{Op}
 use Rattle.vm_operand.proofs.OpcodeLemmas.{op_of-number_of}
 use Rattle.vm_exec.specs.Answer.{Does}
-use Rattle.vm_exec.specs.Row.{charged, told, work_of, width_of}
+use Rattle.vm_exec.specs.Row.{charged, step_within, work_of, width_of}
 use Rattle.vm_exec.specs.Rows.Work.{Work}
 use Rattle.vm_exec.proofs.Told.{fetched_is, not_loaded}
 use Rattle.vm_exec.proofs.machine.Machine.brief.Goals as goal
@@ -19,7 +19,7 @@ returns-clause-does c =
     let b = c.args.brief in
     let m = c.load_brief.new.self in
     subst
-    (λ (w : Result Work ℕ). Does (told c.args.left (charged w)) c.run.new.self c.run.result)
+    (λ (w : Result Work ℕ). Does (step_within c.args.left (charged w)) c.run.new.self c.run.result)
     (ap (λ (op : Option Op). Ok (work_of op (record m { pc = b.next }) c.in_ok-args.args (instr_of b).stores.items)) (sym (op_of-number_of b.op))
     ∙ fetched_is c.args.self.now (instr_of b) (m, c.in_ok-args.args) 4 (sym c.requires.words ∙ ap width_of (sym (op_of-number_of b.op))) (sym c.requires.here) c.in_ok-args.ensures.does)
     c.run.ensures.does

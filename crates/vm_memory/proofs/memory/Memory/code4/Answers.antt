@@ -4,5 +4,7 @@ use Rattle.vm_memory.proofs.memory.Memory.code4.Goals as goal
 
 pub returns : goal.returns
 returns c =
-    record { value = code_number c.args.self.now c.args.start c.args.code.now c.args.at 4 c.requires.here c.requires.low c.requires.high
-    ∙ ap Ok (sym c.four_of.ensures) }
+    record {
+      value = code_number c.args.self.now c.args.start c.args.code.now c.args.at 4 c.requires.here c.requires.low c.requires.high
+          ∙ ap Ok (sym c.four_of.ensures);
+    }
