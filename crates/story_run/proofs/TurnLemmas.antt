@@ -4,6 +4,7 @@ use Rattle.std.proofs.Common.{refl, ap, sym, ◌∙◌, arith, add-one, Result, 
 use Rattle.std.proofs.Common.{IfOk, List}
 use Rattle.std.specs.declared.alloc.AllocError.{AllocError}
 use Rattle.std.proofs.lemmas.Bool.Decides.{nat_tests}
+use Rattle.vm_exec.specs.Plain.{RunsTo}
 use Rattle.vm_exec.specs.Row.{Charged, due, row, step_within, step_of}
 use Rattle.vm_exec.specs.Row as exec
 use Rattle.vm_exec.specs.Rows.Work.{Work, Free, Costs}
@@ -17,8 +18,8 @@ use Rattle.glk_dispatch.specs.Answer.{Reached, glk_call}
 use Rattle.glk_dispatch.specs.Answer as dispatch
 use Rattle.glk_dispatch.specs.Call.{selector_called}
 use Rattle.glk_dispatch.specs.Output.{put_code}
-use Rattle.story_run.specs.Step.{Next, Advances, faults, Runs, Rests, Running, next_step, stepped}
-use Rattle.story_run.specs.Step.{step_followed, after_glk_call, call_charged, done, machine_after_call, call_stored, character_put}
+use Rattle.story_run.specs.Step.{Next, Advances, faults, Runs, Rests, Running, next_step, running}
+use Rattle.story_run.specs.Step.{step_followed, stepped, after_glk_call, call_charged, done, machine_after_call, call_stored, character_put}
 use Rattle.story_run.specs.Step.{went_on}
 use Rattle.story_run.specs.Saves.{restored, saved}
 use Rattle.story_run.specs.Turn.{Stops, after_step, steps, rest}
@@ -150,6 +151,27 @@ rest-runs image left l r q e =
 pub rest-rests : (image : List ℕ) (left : ℕ) (r : Running) (g : Glk) (s : Stage)
     → next_step image left r ≡ Rests g s → rest image left r ≡ (g, s)
 rest-rests image left r g s e = rest-step image left r ∙ ap (after_step (steps image left)) e
+
+-- a plain step takes a tick, and the story runs on
+next-plain : (image : List ℕ) (left : ℕ) (g : Glk) (m n : Machine) → 0 < left
+    → row m ≡ record { cost = 1; gives = Ok (n, out.Ran) }
+    → next_step image left (running g m) ≡ Runs (left - 1) (running g n)
+unfolding next_step
+next-plain image left g m n some e =
+    let t : nat_lt left 1 ≡ false = grind (arith, nat_tests) in
+    ap (λ (c : Charged). stepped image left g (step_within left c)) e ∙ rw t refl
+
+-- so many plain steps leave the rest of the turn as it is
+pub rest-plain : (image : List ℕ) (k left : ℕ) (g : Glk) (m n : Machine) → RunsTo k m n → k ≤ left
+    → rest image left (running g m) ≡ rest image (left - k) (running g n)
+unfolding RunsTo
+rest-plain image zero left g m n e h = ap (λ (o : Machine). rest image left (running g o)) e
+rest-plain image (suc k) left g m n (o, (runs, e)) h =
+    let one : left - k - 1 ≡ left - suc k = omega (arith, h) in
+    rest-plain image k left g m o runs (omega (arith, h))
+    ∙ (rest-runs image (left - k) (left - k - 1) (running g o) (running g n)
+    (next-plain image (left - k) g o n (omega (arith, h)) e)
+    ∙ ap (λ (l : ℕ). rest image l (running g n)) one)
 
 -- a step that fails ends the turn with its fault
 pub rest-stops : (image : List ℕ) (left : ℕ) (r : Running) (g : Glk) (m : Machine) (t : Trap)

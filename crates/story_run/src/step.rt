@@ -1,9 +1,11 @@
 //! One step of the story: an instruction, and then what it asks of Glk.
 
-ghost use Rattle.std.specs.Prelude.{◌≡◌, IfOk, OnOk};
+ghost use Rattle.std.specs.Prelude.{◌≡◌, ◌≤◌, IfOk, OnOk};
 ghost use Rattle.glk_dispatch.specs.Answer.{glk_call};
+ghost use Rattle.glk_dispatch.specs.declared.glk.Glk.{Glk};
 ghost use Rattle.glk_dispatch.specs.Call.{selector_called};
 ghost use Rattle.story_run.specs.Step.{Advances, after_glk_call, done, next_step, running};
+ghost use Rattle.story_run.specs.Turn.{rest};
 ghost use Rattle.story_run.specs.World.{IsRunning, IsWaiting, StaysOver};
 
 use crate::save::{restore, save};
@@ -24,6 +26,20 @@ pub(crate) enum Progress {
     Waits,
     Prompts,
     Quits,
+}
+
+/// Does plain instructions of the story with this image, with so many ticks left, and gives the
+/// ticks that are left then.
+pub(crate) fn go_on<'i>(image: &Image<'i>, machine: &mut Machine<'i>, left: u64) -> u64
+    requires { IsRunning image.now machine.old }
+    ensures same { (glk : Glk) → rest image.now left (running glk machine.old)
+        ≡ rest image.now result (running glk machine.new) }
+    ensures within { result ≤ left }
+    ensures kept { IsRunning image.now machine.new }
+    ensures seed { machine.new.random.seed ≡ machine.old.random.seed }
+{
+    let _image = image;
+    left - machine.run_on(left)
 }
 
 /// Does one step of the story with this image, with so many ticks left.

@@ -8,5 +8,6 @@ pub mod Rules
 pub mod Rows
 pub mod Row
 pub mod Quick
+pub mod Plain
 pub mod Start
 pub mod Fields

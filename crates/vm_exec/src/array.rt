@@ -1,7 +1,7 @@
 //! Array data.
 
 ghost use Rattle.std.specs.Prelude.{◌≡◌, ◌≤◌, ◌<◌, ◌+◌, ◌^◌, IfOk, OnOk};
-ghost use Rattle.std.specs.Prelude.{slice_index};
+ghost use Rattle.std.specs.Prelude.{slice_index, OnErr};
 ghost use Rattle.vm_exec.specs.Answer.{Does};
 ghost use Rattle.vm_exec.specs.Machine.{IsFit, StaysFit};
 ghost use Rattle.vm_exec.specs.Row.{dest_by_index};
@@ -15,48 +15,63 @@ use vm_memory::Trap;
 use vm_operand::{Array, Dest};
 
 impl<'i> Machine<'i> {
+    #[inline(always)]
     fn aload(&mut self, from: u32, index: u32, to: Dest) -> Result<Done, Trap>
         ensures does { DoesAtNoCost
             (rules.reads_to self.old to 4 (rows.element 4 from index))
             self.new result }
+        ensures err { OnErr result (self.new ≡ self.old) }
+        ensures still { self.new.text ≡ self.old.text }
         ensures fit { IsFit self.old → IfOk result (λ done. StaysFit self.new done.out) }
     {
         let value = self.memory.read4(from.wrapping_add(index.wrapping_mul(4)))?;
         self.put(to, value)
     }
 
+    #[inline(always)]
     fn aloads(&mut self, from: u32, index: u32, to: Dest) -> Result<Done, Trap>
         ensures does { DoesAtNoCost
             (rules.reads_to self.old to 2 (rows.element 2 from index))
             self.new result }
+        ensures err { OnErr result (self.new ≡ self.old) }
+        ensures still { self.new.text ≡ self.old.text }
         ensures fit { IsFit self.old → IfOk result (λ done. StaysFit self.new done.out) }
     {
         let value = self.memory.read2(from.wrapping_add(index.wrapping_mul(2)))?;
         self.put(to, value)
     }
 
+    #[inline(always)]
     fn aloadb(&mut self, from: u32, index: u32, to: Dest) -> Result<Done, Trap>
         ensures does { DoesAtNoCost
             (rules.reads_to self.old to 1 (rules.wrap (from + index)))
             self.new result }
+        ensures err { OnErr result (self.new ≡ self.old) }
+        ensures still { self.new.text ≡ self.old.text }
         ensures fit { IsFit self.old → IfOk result (λ done. StaysFit self.new done.out) }
     {
         let value = self.memory.read1(from.wrapping_add(index))?;
         self.put(to, value)
     }
 
+    #[inline(always)]
     fn aloadbit(&mut self, from: u32, index: u32, to: Dest) -> Result<Done, Trap>
         ensures does { DoesAtNoCost (rows.loads_bit self.old from index to) self.new result }
+        ensures err { OnErr result (self.new ≡ self.old) }
+        ensures still { self.new.text ≡ self.old.text }
         ensures fit { IsFit self.old → IfOk result (λ done. StaysFit self.new done.out) }
     {
         let byte = self.memory.read1(byte_with_bit(from, index))?;
         self.put(to, bit(byte, index % 8))
     }
 
+    #[inline(always)]
     fn astore(&mut self, from: u32, index: u32, value: u32) -> Result<Done, Trap>
         ensures does { DoesAtNoCost
             (rules.writes self.old 4 (rows.element 4 from index) value)
             self.new result }
+        ensures err { OnErr result (self.new ≡ self.old) }
+        ensures still { self.new.text ≡ self.old.text }
         ensures fit { IsFit self.old → IfOk result (λ done. StaysFit self.new done.out) }
     {
         self.memory
@@ -64,10 +79,13 @@ impl<'i> Machine<'i> {
         self.tell(Out::Ran)
     }
 
+    #[inline(always)]
     fn astores(&mut self, from: u32, index: u32, value: u32) -> Result<Done, Trap>
         ensures does { DoesAtNoCost
             (rules.writes self.old 2 (rows.element 2 from index) value)
             self.new result }
+        ensures err { OnErr result (self.new ≡ self.old) }
+        ensures still { self.new.text ≡ self.old.text }
         ensures fit { IsFit self.old → IfOk result (λ done. StaysFit self.new done.out) }
     {
         self.memory
@@ -75,18 +93,24 @@ impl<'i> Machine<'i> {
         self.tell(Out::Ran)
     }
 
+    #[inline(always)]
     fn astoreb(&mut self, from: u32, index: u32, value: u32) -> Result<Done, Trap>
         ensures does { DoesAtNoCost
             (rules.writes self.old 1 (rules.wrap (from + index)) value)
             self.new result }
+        ensures err { OnErr result (self.new ≡ self.old) }
+        ensures still { self.new.text ≡ self.old.text }
         ensures fit { IsFit self.old → IfOk result (λ done. StaysFit self.new done.out) }
     {
         self.memory.write1(from.wrapping_add(index), value)?;
         self.tell(Out::Ran)
     }
 
+    #[inline(always)]
     fn astorebit(&mut self, from: u32, index: u32, value: u32) -> Result<Done, Trap>
         ensures does { DoesAtNoCost (rows.stores_bit self.old from index value) self.new result }
+        ensures err { OnErr result (self.new ≡ self.old) }
+        ensures still { self.new.text ≡ self.old.text }
         ensures fit { IsFit self.old → IfOk result (λ done. StaysFit self.new done.out) }
     {
         let at = byte_with_bit(from, index);
@@ -108,6 +132,8 @@ impl<'i> Machine<'i> {
             (budgeted left
             (rows.array_work op self.old (slice_index args.now) (dest_by_index to.now)))
             self.new result }
+        ensures err { OnErr result (self.new ≡ self.old) }
+        ensures still { self.new.text ≡ self.old.text }
         ensures fit { IsFit self.old → IfOk result (λ done. StaysFit self.new done.out) }
         ensures within { IfOk result (λ done. done.cost ≤ left) }
     {

@@ -16,6 +16,7 @@ mod operand;
 mod output;
 mod parts;
 mod perform;
+mod plain;
 mod quick;
 mod random;
 mod saving;

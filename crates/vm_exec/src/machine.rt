@@ -168,22 +168,7 @@ impl<'i> Machine<'i> {
     }
 
     // One tick, and then the instruction at the PC.
-    #[inline(always)]
     fn instruction(&mut self, alloc: Global, left: u64) -> Result<Step, Trap>
-        requires { 0 < left }
-        ensures does { Does (step_within left (charged (fetched self.old))) self.new result }
-        ensures fit { IsFit self.old → IfOk result (λ step. GoesOnFit self.new step) }
-        ensures cost { IfOk result (λ step. IsPriced left step) }
-    {
-        match self.opcode_below() {
-            Some((op, place)) => self.opcode(alloc, op, place, left),
-            None => self.in_brief(alloc, left),
-        }
-    }
-
-    // The same for instructions of few operands.
-    #[inline(never)]
-    pub(crate) fn in_brief(&mut self, alloc: Global, left: u64) -> Result<Step, Trap>
         requires { 0 < left }
         ensures does { Does (step_within left (charged (fetched self.old))) self.new result }
         ensures fit { IsFit self.old → IfOk result (λ step. GoesOnFit self.new step) }

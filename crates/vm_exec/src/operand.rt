@@ -1,7 +1,7 @@
 //! Loads and stores.
 
 ghost use Rattle.std.specs.Prelude.{◌≡◌, ◌⊎◌, ◌≤◌, ◌+◌, ◌%◌, ◌^◌};
-ghost use Rattle.std.specs.Prelude.{length, OnOk};
+ghost use Rattle.std.specs.Prelude.{length, OnErr, OnOk};
 ghost use Rattle.vm_exec.specs.Answer.{Changes, Does, LeavesTwoValues};
 ghost use Rattle.vm_exec.specs.Machine.{IsFit};
 ghost use Rattle.vm_exec.specs.Rules as rules;
@@ -50,6 +50,8 @@ impl<'i> Machine<'i> {
     pub(crate) fn store_in(&mut self, width: u32, to: Dest, value: u32) -> Result<(), Trap>
         requires { IsWidth width }
         ensures does { Changes (rules.stored_in width self.old to value) self.new result }
+        ensures err { OnErr result (self.new ≡ self.old) }
+        ensures still { self.new.text ≡ self.old.text }
         ensures fit { IsFit self.old → OnOk result (IsFit self.new) }
     {
         match to {
@@ -64,6 +66,8 @@ impl<'i> Machine<'i> {
     fn store_at(&mut self, width: u32, at: u32, value: u32) -> Result<(), Trap>
         requires { IsWidth width }
         ensures does { Changes (rules.stored_in width self.old (dest.At at) value) self.new result }
+        ensures err { OnErr result (self.new ≡ self.old) }
+        ensures still { self.new.text ≡ self.old.text }
         ensures fit { IsFit self.old → OnOk result (IsFit self.new) }
     {
         match width {
@@ -78,6 +82,8 @@ impl<'i> Machine<'i> {
     #[inline(always)]
     pub(crate) fn store(&mut self, to: Dest, value: u32) -> Result<(), Trap>
         ensures does { Changes (rules.stored self.old to value) self.new result }
+        ensures err { OnErr result (self.new ≡ self.old) }
+        ensures still { self.new.text ≡ self.old.text }
         ensures fit { IsFit self.old → OnOk result (IsFit self.new) }
     {
         self.store_in(4, to, value)

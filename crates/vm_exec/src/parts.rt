@@ -1,6 +1,6 @@
 //! What instructions are made of.
 
-ghost use Rattle.std.specs.Prelude.{◌≡◌, ◌+◌, ◌*◌, IfOk, OnOk, Ok, Err};
+ghost use Rattle.std.specs.Prelude.{◌≡◌, ◌+◌, ◌*◌, IfOk, IsOk, OnErr, OnOk, Ok, Err};
 ghost use Rattle.vm_exec.specs.Answer.{Does, MakesValue};
 ghost use Rattle.vm_exec.specs.Machine.{IsFit, StaysFit};
 ghost use Rattle.vm_exec.specs.Rows.Work.{DoesAtNoCost};
@@ -14,7 +14,8 @@ use vm_operand::Dest;
 impl<'i> Machine<'i> {
     #[inline(always)]
     pub(crate) fn tell(&self, out: Out) -> Result<Done, Trap>
-        ensures { DoesAtNoCost (rules.tells_out self.now out) self.now result }
+        ensures does { DoesAtNoCost (rules.tells_out self.now out) self.now result }
+        ensures ok { IsOk result }
     {
         Ok(Done { out, cost: 0 })
     }
@@ -23,6 +24,8 @@ impl<'i> Machine<'i> {
     #[inline(always)]
     pub(crate) fn put(&mut self, to: Dest, value: u32) -> Result<Done, Trap>
         ensures does { DoesAtNoCost (rules.puts self.old to value) self.new result }
+        ensures err { OnErr result (self.new ≡ self.old) }
+        ensures still { self.new.text ≡ self.old.text }
         ensures fit { IsFit self.old → IfOk result (λ done. StaysFit self.new done.out) }
     {
         self.store(to, value)?;

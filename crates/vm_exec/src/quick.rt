@@ -1,8 +1,8 @@
-//! The most common instructions, whose loads leave the machine as it is. `None` leaves the step to
-//! the body below.
+//! The most common instructions, whose loads leave the machine as it is. None leaves the step to
+//! another body.
 
-ghost use Rattle.std.specs.Prelude.{◌≡◌, ◌≤◌, ◌<◌, ◌+◌, [], ◌∷◌, IfOk};
-ghost use Rattle.std.specs.Prelude.{IfSome, Ok, Some};
+ghost use Rattle.std.specs.Prelude.{◌≡◌, ◌≤◌, ◌<◌, ◌+◌, [], ◌∷◌};
+ghost use Rattle.std.specs.Prelude.{IfSome, Ok, Some, replicate};
 ghost use Rattle.vm_exec.specs.Answer.{Does};
 ghost use Rattle.vm_exec.specs.Machine.{GoesOnFit, IsFit};
 ghost use Rattle.vm_exec.specs.Quick.{IsFetched, IsNear};
@@ -33,6 +33,16 @@ pub(crate) struct Quick {
     pub(crate) next: u32,
 }
 
+impl Quick {
+    /// The values of the loads, and zeros up to the eighth.
+    #[inline(always)]
+    pub(crate) fn args(self) -> [u32; 8]
+        ensures { result ≡ self.first ∷ self.second ∷ self.third ∷ replicate 5 0 }
+    {
+        [self.first, self.second, self.third, 0, 0, 0, 0, 0]
+    }
+}
+
 /// A load, its value, and the place after its bytes.
 #[derive(Clone, Copy, Debug, PartialEq, Eq)]
 struct Taken {
@@ -42,70 +52,8 @@ struct Taken {
 }
 
 impl<'i> Machine<'i> {
-    /// One tick, and then the instruction at the PC, which has this opcode.
     #[inline(always)]
-    pub(crate) fn opcode(
-        &mut self,
-        alloc: Global,
-        op: Op,
-        place: u32,
-        left: u64,
-    ) -> Result<Step, Trap>
-        requires left { 0 < left }
-        requires here { OpcodeAt self.old.memory self.old.pc op place }
-        requires near { IsNear self.old.pc place }
-        ensures does { Does (step_within left (charged (fetched self.old))) self.new result }
-        ensures fit { IsFit self.old → IfOk result (λ step. GoesOnFit self.new step) }
-        ensures cost { IfOk result (λ step. IsPriced left step) }
-    {
-        match op {
-            Op::Math(math) => {
-                let quick = self.quick_math(math, place);
-                self.quick(alloc, Op::Math(math), quick, left)
-            }
-            Op::Branch(branch) => {
-                let quick = self.quick_branch(branch, place);
-                self.quick(alloc, Op::Branch(branch), quick, left)
-            }
-            Op::Move(Move::Copy) => {
-                let quick = self.one_and_store(Op::Move(Move::Copy), place);
-                self.quick(alloc, Op::Move(Move::Copy), quick, left)
-            }
-            Op::Array(array) => {
-                let quick = self.quick_array(array, place);
-                self.quick(alloc, Op::Array(array), quick, left)
-            }
-            _ => self.in_brief(alloc, left),
-        }
-    }
-
-    // One tick, and then the instruction at the PC, whose loads were taken if they could be.
-    #[inline(always)]
-    fn quick(
-        &mut self,
-        alloc: Global,
-        op: Op,
-        quick: Option<Quick>,
-        left: u64,
-    ) -> Result<Step, Trap>
-        requires left { 0 < left }
-        requires here { IfSome quick (λ q. IsFetched self.old op q) }
-        ensures does { Does (step_within left (charged (fetched self.old))) self.new result }
-        ensures fit { IsFit self.old → IfOk result (λ step. GoesOnFit self.new step) }
-        ensures cost { IfOk result (λ step. IsPriced left step) }
-    {
-        match quick {
-            Some(quick) => {
-                self.pc = quick.next;
-                let args = [quick.first, quick.second, quick.third, 0, 0, 0, 0, 0];
-                self.run(alloc, Some(op), &args, &[quick.to, Dest::Discard], left)
-            }
-            None => self.in_brief(alloc, left),
-        }
-    }
-
-    #[inline(always)]
-    fn quick_math(&self, math: Math, place: u32) -> Option<Quick>
+    pub(crate) fn quick_math(&self, math: Math, place: u32) -> Option<Quick>
         requires here { OpcodeAt self.now.memory self.now.pc (op.Math math) place }
         requires near { IsNear self.now.pc place }
         ensures { IfSome result (λ quick. IsFetched self.now (op.Math math) quick) }
@@ -118,7 +66,7 @@ impl<'i> Machine<'i> {
     }
 
     #[inline(always)]
-    fn quick_branch(&self, branch: Branch, place: u32) -> Option<Quick>
+    pub(crate) fn quick_branch(&self, branch: Branch, place: u32) -> Option<Quick>
         requires here { OpcodeAt self.now.memory self.now.pc (op.Branch branch) place }
         requires near { IsNear self.now.pc place }
         ensures { IfSome result (λ quick. IsFetched self.now (op.Branch branch) quick) }
@@ -132,7 +80,7 @@ impl<'i> Machine<'i> {
     }
 
     #[inline(always)]
-    fn quick_array(&self, array: Array, place: u32) -> Option<Quick>
+    pub(crate) fn quick_array(&self, array: Array, place: u32) -> Option<Quick>
         requires here { OpcodeAt self.now.memory self.now.pc (op.Array array) place }
         requires near { IsNear self.now.pc place }
         ensures { IfSome result (λ quick. IsFetched self.now (op.Array array) quick) }
@@ -267,7 +215,7 @@ impl<'i> Machine<'i> {
 
     // One load and a store.
     #[inline(always)]
-    fn one_and_store(&self, op: Op, place: u32) -> Option<Quick>
+    pub(crate) fn one_and_store(&self, op: Op, place: u32) -> Option<Quick>
         requires here { OpcodeAt self.now.memory self.now.pc op place }
         requires kinds { kinds_of op ≡ kind.Load ∷ kind.Store ∷ [] }
         requires near { IsNear self.now.pc place }
