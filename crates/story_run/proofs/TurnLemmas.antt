@@ -165,7 +165,9 @@ next-plain image left g m n some e =
 pub rest-plain : (image : List ℕ) (k left : ℕ) (g : Glk) (m n : Machine) → RunsTo k m n → k ≤ left
     → rest image left (running g m) ≡ rest image (left - k) (running g n)
 unfolding RunsTo
-rest-plain image zero left g m n e h = ap (λ (o : Machine). rest image left (running g o)) e
+rest-plain image zero left g m n e h =
+    let none : left ≡ left - 0 = omega arith in
+    ap (λ (o : Machine). rest image left (running g o)) e ∙ ap (λ (l : ℕ). rest image l (running g n)) none
 rest-plain image (suc k) left g m n (o, (runs, e)) h =
     let one : left - k - 1 ≡ left - suc k = omega (arith, h) in
     rest-plain image k left g m o runs (omega (arith, h))

@@ -38,7 +38,6 @@ pub(crate) fn go_on<'i>(image: &Image<'i>, machine: &mut Machine<'i>, left: u64)
     ensures kept { IsRunning image.now machine.new }
     ensures seed { machine.new.random.seed ≡ machine.old.random.seed }
 {
-    let _image = image;
     left - machine.run_on(left)
 }
 

@@ -1,6 +1,6 @@
 -- Plain instructions: what they do is told by their row.
-use Rattle.std.proofs.Common.{◌≡◌, ℕ, zero, suc, ◌+◌, ◌-◌, ◌<◌, ◌≤◌, Result, Ok, Err, IfOk, List}
-use Rattle.std.proofs.Common.{refl, ap, sym, ◌∙◌, subst, slice_index, Option, Some, replicate, ◌∷◌, []}
+use Rattle.std.proofs.Common.{◌≡◌, ℕ, suc, ◌+◌, Result, Ok, Err, IfOk, List}
+use Rattle.std.proofs.Common.{refl, ap, sym, ◌∙◌, subst, slice_index, replicate, ◌∷◌, []}
 use Rattle.std.proofs.Common.{add-one, ◌%◌}
 use Rattle.vm_memory.specs.Access.{read, written}
 use Rattle.vm_memory.specs.Chaining.{◌>>=◌}
@@ -20,7 +20,7 @@ use Rattle.vm_exec.specs.Answer.{Does}
 use Rattle.vm_exec.specs.Machine.{IsFit, IsSoundMachine, KeepsImage, StaysFit}
 use Rattle.vm_exec.specs.Plain.{IsPlainOpcode, RunsTo, StepsTo}
 use Rattle.vm_exec.specs.Quick.{IsFetched}
-use Rattle.vm_exec.specs.Row.{charged, due, fetched, row, step_within, work, work_of, dest_by_index}
+use Rattle.vm_exec.specs.Row.{charged, due, row, step_within, work, dest_by_index}
 use Rattle.vm_exec.specs.Rows.Array.{array_work, bit, byte_with_bit, element, with_bit}
 use Rattle.vm_exec.specs.Rows.Math.{math_work}
 use Rattle.vm_exec.specs.Rows.Moving.{move_work}

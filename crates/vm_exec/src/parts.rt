@@ -1,7 +1,6 @@
 //! What instructions are made of.
 
-ghost use Rattle.std.specs.Prelude.{◌≡◌, ◌+◌, ◌*◌, IfOk, IsOk, OnErr, OnOk, Ok, Err};
-ghost use Rattle.vm_exec.specs.Answer.{Does, MakesValue};
+ghost use Rattle.std.specs.Prelude.{◌≡◌, IfOk, IsOk, OnErr};
 ghost use Rattle.vm_exec.specs.Machine.{IsFit, StaysFit};
 ghost use Rattle.vm_exec.specs.Rows.Work.{DoesAtNoCost};
 ghost use Rattle.vm_exec.specs.Rules as rules;

@@ -1,6 +1,6 @@
 //! Runs of plain instructions, those that take one tick and tell nothing.
 
-ghost use Rattle.std.specs.Prelude.{◌≡◌, ◌≤◌, ℕ, [], ◌∷◌, List, Ok, IsTrue, IsFalse, IfSome};
+ghost use Rattle.std.specs.Prelude.{◌≡◌, ◌≤◌, ℕ, ◌∷◌, List, Ok, IsTrue, IsFalse, IfSome};
 ghost use Rattle.std.specs.Prelude.{IfOk, OnErr, replicate, slice_index};
 ghost use Rattle.vm_exec.specs.Answer.{Does};
 ghost use Rattle.vm_exec.specs.Machine.{IsFit, IsSoundMachine, KeepsImage, StaysFit};

@@ -3,11 +3,8 @@
 
 ghost use Rattle.std.specs.Prelude.{◌≡◌, ◌≤◌, ◌<◌, ◌+◌, [], ◌∷◌};
 ghost use Rattle.std.specs.Prelude.{IfSome, Ok, Some, replicate};
-ghost use Rattle.vm_exec.specs.Answer.{Does};
-ghost use Rattle.vm_exec.specs.Machine.{GoesOnFit, IsFit};
 ghost use Rattle.vm_exec.specs.Quick.{IsFetched, IsNear};
 ghost use Rattle.vm_exec.specs.Row as row;
-ghost use Rattle.vm_exec.specs.Row.{IsPriced, charged, fetched, step_within};
 ghost use Rattle.vm_exec.specs.Rules.{operand_loaded};
 ghost use Rattle.vm_memory.specs.Access.{read};
 ghost use Rattle.vm_memory.specs.Code.{IsCode};
@@ -18,10 +15,8 @@ ghost use Rattle.vm_operand.specs.declared.opcode.Op.TheVariants as op;
 ghost use Rattle.vm_operand.specs.declared.operand.Kind.TheVariants as kind;
 
 use crate::Machine;
-use crate::step::Step;
-use std::alloc::Global;
-use vm_memory::{MAX_SIZE, Trap};
-use vm_operand::{Array, Branch, Dest, Load, Math, Move, Op, dest_in, load_in, opcode_in};
+use vm_memory::MAX_SIZE;
+use vm_operand::{Array, Branch, Dest, Load, Math, Op, dest_in, load_in, opcode_in};
 
 /// The values of an instruction's loads, where it stores, and the next address.
 #[derive(Clone, Copy, Debug, PartialEq, Eq)]

@@ -8,7 +8,7 @@ returns c =
     let running = c.requires in
     let e = c.run_on.ensures in
     record {
-      same = λ glk. rest-plain image c.run_on.result c.args.left glk c.args.machine.now c.run_on.new.machine e.runs e.within;
+      same = λ glk. rest-plain image c.run_on.result c.args.left glk c.args.machine.now c.run_on.new.self e.runs e.within;
       within = search rules;
       kept = record { sound = e.fit running.sound; over = e.over image running.sound running.over };
       seed = sym (e.kept running.sound).seed;

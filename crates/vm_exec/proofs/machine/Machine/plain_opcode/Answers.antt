@@ -1,4 +1,4 @@
-use Rattle.std.proofs.Common.{◌≡◌, ℕ, [], ◌∷◌, IfSome, List, Ok, Option, refl, slice_index, subst}
+use Rattle.std.proofs.Common.{◌≡◌, ℕ, [], ◌∷◌, IfSome, List, Ok, Option, slice_index, subst}
 use Rattle.vm_operand.specs.declared.operand.Dest.TheVariants as dest
 use Rattle.vm_exec.specs.Quick.{IsFetched}
 use Rattle.vm_exec.specs.Row.{dest_by_index, work}

@@ -1,4 +1,4 @@
-use Rattle.std.proofs.Common.{◌≡◌, ◌<◌, ℕ, length, take, subst, arith, sym, ap, ◌∙◌}
+use Rattle.std.proofs.Common.{◌≡◌, length, take, arith, sym, ap, ◌∙◌}
 use Rattle.std.proofs.lemmas.List.{length-take-le}
 use Rattle.vm_stack.proofs.SavedLemmas.{chain_down, framed_low, framed_top, framed_up, no_frames}
 use Rattle.vm_stack.proofs.stack.Stack.is_framed.Goals as goal

@@ -1,4 +1,4 @@
-use Rattle.std.proofs.Common.{◌+◌, ◌≤◌, ◌∙◌, List, ℕ, length, take, ap, arith}
+use Rattle.std.proofs.Common.{◌∙◌, List, ℕ, take, ap}
 use Rattle.vm_stack.proofs.HeadLemmas.{closed, head_around}
 use Rattle.vm_stack.specs.StackState.{replaced_within}
 use Rattle.vm_stack.proofs.stack.Stack.replace.Goals as goal
