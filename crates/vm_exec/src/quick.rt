@@ -47,6 +47,7 @@ struct Taken {
 }
 
 impl<'i> Machine<'i> {
+    /// Arithmetic of two loads and a store; None for that of one load.
     #[inline(always)]
     pub(crate) fn quick_math(&self, math: Math, place: u32) -> Option<Quick>
         requires here { OpcodeAt self.now.memory self.now.pc (op.Math math) place }
@@ -60,6 +61,7 @@ impl<'i> Machine<'i> {
         }
     }
 
+    /// A branch, of one load to three.
     #[inline(always)]
     pub(crate) fn quick_branch(&self, branch: Branch, place: u32) -> Option<Quick>
         requires here { OpcodeAt self.now.memory self.now.pc (op.Branch branch) place }
@@ -74,6 +76,7 @@ impl<'i> Machine<'i> {
         }
     }
 
+    /// A read of an array, or a write.
     #[inline(always)]
     pub(crate) fn quick_array(&self, array: Array, place: u32) -> Option<Quick>
         requires here { OpcodeAt self.now.memory self.now.pc (op.Array array) place }
@@ -127,8 +130,8 @@ impl<'i> Machine<'i> {
         self.memory.read4(at).ok()
     }
 
-    // The opcode at the PC and the place of its operands' modes, where the instruction is below
-    // RAMSTART.
+    /// The opcode at the PC and the place of its operands' modes, where the instruction is below
+    /// RAMSTART.
     #[inline(always)]
     pub(crate) fn opcode_below(&self) -> Option<(Op, u32)>
         ensures here { IfSome result (λ x. OpcodeAt self.now.memory self.now.pc x.0 x.1) }
@@ -208,7 +211,7 @@ impl<'i> Machine<'i> {
         })
     }
 
-    // One load and a store.
+    /// One load and a store.
     #[inline(always)]
     pub(crate) fn one_and_store(&self, op: Op, place: u32) -> Option<Quick>
         requires here { OpcodeAt self.now.memory self.now.pc op place }
