@@ -4,7 +4,8 @@
 usage: measure.py [--host PROGRAM] [--glulxe PROGRAM] [--part N]
 
 Seconds are processor seconds, the system's included, from the program's start to its end; memory
-is the most that was resident. With --part N each row does an Nth of its work.
+is the most that was resident. With --part N each row does an Nth of its work. Where git is installed
+(git.py says how), a second table has its seconds for the rows of one long turn, without its start.
 """
 import argparse
 import os
@@ -17,6 +18,7 @@ HERE = os.path.dirname(os.path.abspath(__file__))
 STORIES = os.path.join(HERE, "../stories")
 sys.path.insert(0, STORIES)
 
+import git  # noqa: E402
 from compare import Glulxe, solid  # noqa: E402
 from host import HOST, Host  # noqa: E402
 from terminal import peak_of  # noqa: E402
@@ -38,8 +40,8 @@ def rows(part, folder):
     def share(number):
         return max(number // part, 1)
 
-    loop, turns = os.path.join(folder, "loop.ulx"), share(25_000_000)
-    subprocess.run([sys.executable, os.path.join(HERE, "loop_story.py"), loop, str(turns)], check=True)
+    turns = share(25_000_000)
+    loop = loop_story(folder, turns)
     grinds, counts, calls, hauls, walks = share(1000), share(9000), share(6000), share(4000), share(60)
     prints, filters = share(4000), share(8000)
     return [
@@ -93,6 +95,23 @@ def in_host(row, program):
     return Used(host.usage, peak, text)
 
 
+def loop_story(folder, turns):
+    """A story that runs so many rounds of four simple instructions, and quits."""
+    story = os.path.join(folder, f"loop{turns}.ulx")
+    subprocess.run([sys.executable, os.path.join(HERE, "loop_story.py"), story, str(turns)], check=True)
+    return story
+
+
+def beside_git(measured, folder):
+    """The table of the rows of one long turn, beside git."""
+    print("\n| Work | seconds, git | storyhost | ratio |\n|---|---|---|---|")
+    idle = loop_story(folder, 1)
+    for row, ours in measured:
+        if len(row.moves) <= 1:
+            theirs = git.seconds(os.path.join(STORIES, row.story), row.moves, idle)
+            print(f"| {row.name} | {theirs:.2f} | {ours:.2f} | {ours / theirs:.2f} |", flush=True)
+
+
 def main():
     words = argparse.ArgumentParser(usage=__doc__)
     words.add_argument("--host", default=HOST)
@@ -103,6 +122,7 @@ def main():
     print("| Work | seconds, glulxe | storyhost | ratio | a second, glulxe | storyhost | peak MB, glulxe "
           "| storyhost |")
     print("|---|---|---|---|---|---|---|---|")
+    measured = []
     with tempfile.TemporaryDirectory() as folder:
         for row in rows(given.part, folder):
             theirs, ours = in_glulxe(row, given.glulxe), in_host(row, given.host)
@@ -111,6 +131,9 @@ def main():
                   f"| {ours.seconds / theirs.seconds:.2f} | {row.work / theirs.seconds:,.0f} "
                   f"| {row.work / ours.seconds:,.0f} | {theirs.peak / 1024:.1f} "
                   f"| {ours.peak / 1024:.1f} |" + ("" if same else " the texts differ"), flush=True)
+            measured.append((row, ours.seconds))
+        if git.is_here():
+            beside_git(measured, folder)
 
 
 if __name__ == "__main__":

@@ -3,6 +3,7 @@
 # Markdown: processor seconds, their ratio, work a second, peak memory. It takes some two minutes.
 # Wants, on Debian:
 #     apt-get update; apt-get install -y --no-install-recommends glulxe
+#     apt-get install -y --no-install-recommends gargoyle-free xvfb xdotool   (git, if that is wanted too)
 # and a storyhost that was built (README.md, "Begin"). The stories lie in stories/ as compiled files.
 # It needs no network.
 set -eu
