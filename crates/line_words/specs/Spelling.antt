@@ -10,7 +10,8 @@ use Rattle.line_words.specs.declared.request.Request.TheVariants.{Open, Line, Ch
 use Rattle.line_words.specs.declared.request.Request.TheVariants.{Close}
 use Rattle.glk_input.specs.declared.input.Input.{Input}
 use Rattle.glk_input.specs.declared.input.Input.TheVariants as plays
-use Rattle.line_words.specs.Keycode.{is_code, is_terminator}
+use Rattle.glk_input.specs.Keycode.{is_terminator}
+use Rattle.line_words.specs.Keycode.{is_code}
 use Rattle.line_words.specs.Field.{is_key}
 
 -- one space and the word
