@@ -1,10 +1,7 @@
 -- The output of `run`, which plays one story alone (own).
 use Rattle.std.specs.Prelude.{ℕ, if◌then◌else◌, List, ◌++◌, Option, None, Some, codes}
 use Rattle.glk_input.specs.declared.input.Input.{Input}
-use Rattle.glk_input.specs.declared.input.Input.TheVariants as input
 use Rattle.line_words.specs.Play.{play_of}
-use Rattle.line_words.specs.declared.play.Play.{Play}
-use Rattle.line_words.specs.declared.play.Play.TheVariants as play
 use Rattle.story_run.specs.Solo.{opening, is_wanted, world_after_input, is_over, last_lines}
 use Rattle.story_run.specs.World.{WorldState}
 use Rattle.story_run.specs.declared.setup.Setup.{Setup}
@@ -19,21 +16,15 @@ setup_alone budget = record { seed = 1; cols = 80; rows = 24; budget = budget }
 abbrev pub show_text : WorldState → List ℕ
 show_text world = last_lines world ++ codes ".\n"
 
--- what a line of the player gives to the story
-abbrev pub input_of_play : Play → Input
-input_of_play (play.Line win text key) = input.Line win text key
-input_of_play (play.Char win code) = input.Char win code
-input_of_play (play.File name) = input.File name
-
 -- the reply to an input: the show of its turn where the story waits for it
 abbrev pub input_reply : WorldState → Input → List ℕ
 input_reply world input = if is_wanted world input then show_text (world_after_input world input)
     else codes "NO 8\n"
 
 -- the reply to what a line spells; one that spells nothing gets NO 1
-abbrev pub play_reply : WorldState → Option Play → List ℕ
+abbrev pub play_reply : WorldState → Option Input → List ℕ
 play_reply world None = codes "NO 1\n"
-play_reply world (Some play) = input_reply world (input_of_play play)
+play_reply world (Some input) = input_reply world input
 
 -- the reply to a line; one that was dropped gets NO 14
 abbrev pub line_reply : WorldState → Option (List ℕ) → List ℕ
@@ -45,9 +36,9 @@ abbrev pub input_next : WorldState → Input → WorldState
 input_next world input = if is_wanted world input then world_after_input world input else world
 
 -- the world after what a line spells
-abbrev pub play_next : WorldState → Option Play → WorldState
+abbrev pub play_next : WorldState → Option Input → WorldState
 play_next world None = world
-play_next world (Some play) = input_next world (input_of_play play)
+play_next world (Some input) = input_next world input
 
 -- the world after a line
 abbrev pub line_next : WorldState → Option (List ℕ) → WorldState

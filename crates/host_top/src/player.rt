@@ -5,12 +5,12 @@ ghost use Rattle.story_run.specs.Solo.{is_wanted, world_after_input};
 ghost use Rattle.line_talk.specs.Streams.{Wrote};
 ghost use Rattle.line_talk.specs.Writing.{Stopped};
 ghost use Rattle.line_talk.specs.Lines.{IsHeard};
-ghost use Rattle.host_top.specs.RunText.{show_text, input_of_play, input_next, input_reply};
+ghost use Rattle.host_top.specs.RunText.{show_text, input_next, input_reply};
 ghost use Rattle.host_top.specs.RunText.{line_next, line_reply};
 
 use glk_input::Input;
 use line_talk::{Answers, Sink, Stop, write_all};
-use line_words::{LineFault, Play, read_play};
+use line_words::{LineFault, read_play};
 use std::alloc::{AllocError, Global};
 use std::marker::{Brand, Model};
 use std::sync::ledger::{Blank, Ledger};
@@ -25,17 +25,6 @@ pub fn say<K: Sink>(output: &mut K, world: &World<'_>) -> Result<(), Stop>
 {
     write_all(output, world.last())?;
     write_all(output, b".\n")
-}
-
-/// What a line of the player gives to the story.
-fn input_of(play: Play) -> Input
-    ensures { result ≡ input_of_play play }
-{
-    match play {
-        Play::Line { win, text, key } => Input::Line { win, text, key },
-        Play::Char { win, code } => Input::Char { win, code },
-        Play::File { name } => Input::File { name },
-    }
 }
 
 /// Plays a turn, whose steps are counted in a new ledger.
@@ -107,7 +96,7 @@ fn answer_line<'i, K: Sink>(
         return Ok(world);
     };
     match read_play(alloc, line) {
-        Ok(play) => reply_to(alloc, world, &input_of(play), output),
+        Ok(input) => reply_to(alloc, world, &input, output),
         Err(LineFault::BadLine) => {
             write_all(output, b"NO 1\n")?;
             Ok(world)

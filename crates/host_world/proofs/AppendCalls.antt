@@ -36,7 +36,8 @@ use Rattle.host_world.specs.declared.turn.Phase.TheVariants.{Begun, Broken, Kept
 use Rattle.host_world.specs.declared.turn.Session.{Session}
 use Rattle.host_world.specs.declared.turn.Turn.{Turn}
 use Rattle.host_world.proofs.Appends.{nothing_pending, rows_up, rows_with}
-use Rattle.host_world.proofs.ImageLemmas.{images_after, stays_after, stays_bad}
+use Rattle.host_world.proofs.ImageLemmas.{images_after}
+use Rattle.store_events.proofs.ImageLemmas.{stays_after, stays_bad}
 use Rattle.host_world.proofs.Lists.{some_same}
 use Rattle.host_world.proofs.Rephasing.{rephased, stepped}
 use Rattle.host_world.proofs.RowsOf.{rows-here, rows-other}

@@ -46,7 +46,8 @@ use Rattle.host_world.proofs.AppendCalls.{shut_syncs_good, shuts_good, write_syn
 use Rattle.host_world.proofs.AppendCalls.{writes_good}
 use Rattle.host_world.proofs.Appends.{SameHost, begun_well}
 use Rattle.host_world.proofs.Folds.{history-push, replies-push}
-use Rattle.host_world.proofs.ImageLemmas.{images_after, stays_after, stays_bad}
+use Rattle.host_world.proofs.ImageLemmas.{images_after}
+use Rattle.store_events.proofs.ImageLemmas.{stays_after, stays_bad}
 use Rattle.host_world.proofs.Phases.{if_kept}
 use Rattle.host_world.proofs.ReadingLemmas.{reads_rows}
 use Rattle.host_world.proofs.Reopening.{CallsWell, found_at, gate_zero, nobody, of_down}

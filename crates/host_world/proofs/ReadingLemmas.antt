@@ -21,7 +21,8 @@ use Rattle.gate_journal.specs.declared.command.Command.{Command}
 use Rattle.gate_journal.specs.declared.command.Command.TheVariants.{Char, Close, File, Line, Open}
 use Rattle.gate_journal.specs.declared.row.Row.{Row}
 use Rattle.line_words.specs.Field.{is_key}
-use Rattle.line_words.specs.Keycode.{is_code, is_terminator}
+use Rattle.glk_input.specs.Keycode.{is_terminator}
+use Rattle.line_words.specs.Keycode.{is_code}
 use Rattle.story_text.specs.Text.{IsText, is_short}
 use Rattle.host_world.specs.Reading.{begins_with, command_in, has_row, is_command, is_text}
 use Rattle.host_world.specs.Reading.{may_stand, row_at, rows_from, rows_in}

@@ -7,7 +7,8 @@ use Rattle.story_text.specs.Reading.{text_of}
 use Rattle.story_text.specs.Escape as texts
 use Rattle.story_text.specs.Laws.{AreVisible}
 use Rattle.story_text.proofs.TextLaws.{each_spelling, spells_only, visible_only}
-use Rattle.line_words.specs.Keycode.{is_code, is_terminator}
+use Rattle.glk_input.specs.Keycode.{is_terminator}
+use Rattle.line_words.specs.Keycode.{is_code}
 use Rattle.line_words.specs.Reading.{Reader, ◌>>=◌, ◌then◌, at_end, whole, made_if_read}
 use Rattle.line_words.specs.Field.{word_at, is_letter, are_letters, is_key, checked, number_between, key_at, text_at, code_at, terminator_at}
 use Rattle.line_words.specs.Spelling.{field, number_field, terminator, IsTerminator}

@@ -8,8 +8,8 @@ use Rattle.story_text.specs.Escape as texts
 use Rattle.story_text.proofs.TextLaws.{text_again, spells_only}
 use Rattle.line_words.specs.declared.request.Request.{Request}
 use Rattle.line_words.specs.declared.request.Request.TheVariants.{Open, Line, Char, File, Last, Close}
-use Rattle.line_words.specs.declared.play.Play.{Play}
-use Rattle.line_words.specs.declared.play.Play.TheVariants as plays
+use Rattle.glk_input.specs.declared.input.Input.{Input}
+use Rattle.glk_input.specs.declared.input.Input.TheVariants as plays
 use Rattle.line_words.specs.Keycode.{is_code}
 use Rattle.line_words.specs.Reading.{Reader, ◌then◌, whole, made_if_read}
 use Rattle.line_words.specs.Field.{number_between, key_at, text_at, code_at, terminator_at, behind_name, fields_or, fields_named}
@@ -278,34 +278,34 @@ prints (Close s key n) h = (h, [], refl, refl)
 
 -- ---- inputs of `run`
 
-play_line_only : (rest : List ℕ) (x : Play) → line_play rest ≡ Some x → SpellsPlay (codes "LINE" ++ rest) x
+play_line_only : (rest : List ℕ) (x : Input) → line_play rest ≡ Some x → SpellsPlay (codes "LINE" ++ rest) x
 play_line_only rest x e =
     kind_only IsNil Typed line_at play.made_line_play (SpellsPlay (codes "LINE" ++ rest)) rest x typed_reads (typed_behind rest) e where
       typed_behind : (rest : List ℕ) (x : ℕ × (List ℕ × ℕ)) → Typed rest x → SpellsPlay (codes "LINE" ++ rest) (play.made_line_play x)
       typed_behind rest (win, (text, term)) (f, g, e3, hw, (i, j, e4, ht, hm)) =
           (ht.0, hw.2, ht.2, hm.1, rw (e3, hw.0, e4, ht.1, hm.0) refl)
 
-play_char_only : (rest : List ℕ) (x : Play) → char_play rest ≡ Some x → SpellsPlay (codes "CHAR" ++ rest) x
+play_char_only : (rest : List ℕ) (x : Input) → char_play rest ≡ Some x → SpellsPlay (codes "CHAR" ++ rest) x
 play_char_only rest x e =
     kind_only IsEnd Pressed window_and_code_at play.made_char_play (SpellsPlay (codes "CHAR" ++ rest)) rest x pressed_reads (pressed_behind rest) e where
       pressed_behind : (rest : List ℕ) (x : ℕ × ℕ) → Pressed rest x → SpellsPlay (codes "CHAR" ++ rest) (play.made_char_play x)
       pressed_behind rest (win, code) (f, g, e3, hw, hc) = (hw.2, hc.1, rw (e3, hw.0, hc.0) refl)
 
-play_file_only : (rest : List ℕ) (x : Play) → file_play rest ≡ Some x → SpellsPlay (codes "FILE" ++ rest) x
+play_file_only : (rest : List ℕ) (x : Input) → file_play rest ≡ Some x → SpellsPlay (codes "FILE" ++ rest) x
 play_file_only rest x e =
     kind_only IsEnd TextIs text_at (λ name. plays.File name) (SpellsPlay (codes "FILE" ++ rest)) rest x text_reads (λ name h. (h.0, h.2, rw h.1 refl)) e
 
-play_nothing : (line : List ℕ) (x : Play) → None ≡ Some x → SpellsPlay line x
+play_nothing : (line : List ℕ) (x : Input) → None ≡ Some x → SpellsPlay line x
 play_nothing line x e = absurd cc
 
-play_only : (line : List ℕ) (x : Play) → spelled_play line ≡ Some x → SpellsPlay line x
+play_only : (line : List ℕ) (x : Input) → spelled_play line ≡ Some x → SpellsPlay line x
 unfolding spelled_play
 play_only line x =
     named_only SpellsPlay (codes "LINE") line line_play (fields_named (codes "CHAR") line char_play (fields_named (codes "FILE") line file_play None)) x (λ rest. play_line_only rest x)
     (named_only SpellsPlay (codes "CHAR") line char_play (fields_named (codes "FILE") line file_play None) x (λ rest. play_char_only rest x)
     (named_only SpellsPlay (codes "FILE") line file_play None x (λ rest. play_file_only rest x) (play_nothing line x)))
 
-play_again : (bytes : List ℕ) (x : Play) → SpellsPlay bytes x → spelled_play bytes ≡ Some x
+play_again : (bytes : List ℕ) (x : Input) → SpellsPlay bytes x → spelled_play bytes ≡ Some x
 unfolding spelled_play
 play_again bytes (plays.Line win text key) (word, w, t, h, e) =
     rw e (kind_again IsNil Typed line_at play.made_line_play _ (win, (text, key)) typed_reads refl (typed_spelling win word text key w t h))
@@ -314,7 +314,7 @@ play_again bytes (plays.Char win code) (w, h, e) =
 play_again bytes (plays.File name) (word, t, e) =
     rw e (kind_again IsEnd TextIs text_at (λ name. plays.File name) _ name text_reads tt (word, refl, t))
 
-play_clean : (bytes : List ℕ) (x : Play) → SpellsPlay bytes x → NoCr bytes
+play_clean : (bytes : List ℕ) (x : Input) → SpellsPlay bytes x → NoCr bytes
 play_clean bytes (plays.Line win text key) (word, w, t, h, e) = rw e (refl, (refl, (refl, (refl, typed_clean win word text key w t h))))
 play_clean bytes (plays.Char win code) (w, h, e) = rw e (refl, (refl, (refl, (refl, pressed_clean win code w h))))
 play_clean bytes (plays.File name) (word, t, e) = rw e (refl, (refl, (refl, (refl, text_clean word name t))))
@@ -396,8 +396,8 @@ request_again line request h = line_again SpellsRequest spelled_request spelled_
 pub request_only : (line : List ℕ) (request : Request) → request_of line ≡ Some request → IsLineOf SpellsRequest line request
 request_only line request e = line_only_of SpellsRequest spelled_request spelled_only line request e
 
-pub each_play : (line : List ℕ) (x : Play) → IsLineOf SpellsPlay line x → play_of line ≡ Some x
+pub each_play : (line : List ℕ) (x : Input) → IsLineOf SpellsPlay line x → play_of line ≡ Some x
 each_play line x h = line_again SpellsPlay spelled_play play_again play_clean line x h
 
-pub plays_only : (line : List ℕ) (x : Play) → play_of line ≡ Some x → IsLineOf SpellsPlay line x
+pub plays_only : (line : List ℕ) (x : Input) → play_of line ≡ Some x → IsLineOf SpellsPlay line x
 plays_only line x e = line_only_of SpellsPlay spelled_play play_only line x e

@@ -4,7 +4,8 @@ use Rattle.std.specs.Prelude.{◌==◌, nat_le, nat_lt, if◌then◌else◌, Lis
 use Rattle.std.specs.Prelude.{length, Option, Some, None}
 use Rattle.story_text.specs.Reading.{text_of}
 use Rattle.line_words.specs.Reading.{Reader, ◌>>=◌}
-use Rattle.line_words.specs.Keycode.{is_code, is_terminator}
+use Rattle.glk_input.specs.Keycode.{is_terminator}
+use Rattle.line_words.specs.Keycode.{is_code}
 
 -- the bytes up to the first space
 abbrev pub word_of : List ℕ → List ℕ

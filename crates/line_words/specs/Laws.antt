@@ -1,7 +1,7 @@
 -- What ties the reading of lines to their spellings (own).
 use Rattle.std.specs.Prelude.{◌≡◌, ℕ, List, Some}
 use Rattle.line_words.specs.declared.request.Request.{Request}
-use Rattle.line_words.specs.declared.play.Play.{Play}
+use Rattle.glk_input.specs.declared.input.Input.{Input}
 use Rattle.line_words.specs.Request.{request_of}
 use Rattle.line_words.specs.Play.{play_of}
 use Rattle.line_words.specs.Spelling.{SpellsRequest, SpellsPlay, IsRequest, IsLineOf, print_request}
@@ -26,9 +26,9 @@ PrintsSpellings =
 -- each line that spells an input of `run` is read as that input
 abbrev pub ReadsEachPlay : Type 0
 ReadsEachPlay =
-    (line : List ℕ) (play : Play) → IsLineOf SpellsPlay line play → play_of line ≡ Some play
+    (line : List ℕ) (play : Input) → IsLineOf SpellsPlay line play → play_of line ≡ Some play
 
 -- a line that is read as an input of `run` spells it
 abbrev pub ReadsPlaysOnly : Type 0
 ReadsPlaysOnly =
-    (line : List ℕ) (play : Play) → play_of line ≡ Some play → IsLineOf SpellsPlay line play
+    (line : List ℕ) (play : Input) → play_of line ≡ Some play → IsLineOf SpellsPlay line play

@@ -4,8 +4,8 @@ use Rattle.std.specs.Prelude.{nat_lt, take, slice_index, if◌then◌else◌, Li
 use Rattle.std.specs.Prelude.{None, codes}
 use Rattle.line_words.specs.declared.fault.LineFault.{LineFault}
 use Rattle.line_words.specs.declared.fault.LineFault.TheVariants.{BadLine, LongLine, NoMemory}
-use Rattle.line_words.specs.declared.play.Play.{Play}
-use Rattle.line_words.specs.declared.play.Play.TheVariants.{Line, Char, File}
+use Rattle.glk_input.specs.declared.input.Input.{Input}
+use Rattle.glk_input.specs.declared.input.Input.TheVariants.{Line, Char, File}
 use Rattle.line_words.specs.Reading.{Reader, ◌then◌, whole, made_if_read}
 use Rattle.line_words.specs.Field.{number_between, text_at, code_at, terminator_at, fields_named}
 
@@ -17,23 +17,23 @@ line_at = number_between 0 4294967295 then (text_at then terminator_at)
 unfoldable pub window_and_code_at : Reader (ℕ × ℕ)
 window_and_code_at = number_between 0 4294967295 then code_at
 
-abbrev pub made_line_play : ℕ × (List ℕ × ℕ) → Play
+abbrev pub made_line_play : ℕ × (List ℕ × ℕ) → Input
 made_line_play (win, (text, key)) = Line win text key
 
-abbrev pub made_char_play : ℕ × ℕ → Play
+abbrev pub made_char_play : ℕ × ℕ → Input
 made_char_play (win, code) = Char win code
 
-abbrev pub line_play : List ℕ → Option Play
+abbrev pub line_play : List ℕ → Option Input
 line_play bytes = made_if_read made_line_play (whole line_at bytes)
 
-abbrev pub char_play : List ℕ → Option Play
+abbrev pub char_play : List ℕ → Option Input
 char_play bytes = made_if_read made_char_play (whole window_and_code_at bytes)
 
-abbrev pub file_play : List ℕ → Option Play
+abbrev pub file_play : List ℕ → Option Input
 file_play bytes = made_if_read (λ name. File name) (whole text_at bytes)
 
 -- the input that a line without its CR spells
-unfoldable pub spelled_play : List ℕ → Option Play
+unfoldable pub spelled_play : List ℕ → Option Input
 spelled_play line =
     fields_named (codes "LINE") line line_play
     (fields_named (codes "CHAR") line char_play
@@ -56,7 +56,7 @@ abbrev pub unless_long : {A : Type 0} → List ℕ → Option A → Option A
 unless_long line spelled = if is_long line then None else spelled
 
 -- the input that a line spells, if it spells one
-abbrev pub play_of : List ℕ → Option Play
+abbrev pub play_of : List ℕ → Option Input
 play_of line = unless_long line (spelled_play (without_cr line))
 
 -- the refusal of a line: it is too long, or else it spells nothing

@@ -8,9 +8,10 @@ use Rattle.story_text.specs.Escape as texts
 use Rattle.line_words.specs.declared.request.Request.{Request}
 use Rattle.line_words.specs.declared.request.Request.TheVariants.{Open, Line, Char, File, Last}
 use Rattle.line_words.specs.declared.request.Request.TheVariants.{Close}
-use Rattle.line_words.specs.declared.play.Play.{Play}
-use Rattle.line_words.specs.declared.play.Play.TheVariants as plays
-use Rattle.line_words.specs.Keycode.{is_code, is_terminator}
+use Rattle.glk_input.specs.declared.input.Input.{Input}
+use Rattle.glk_input.specs.declared.input.Input.TheVariants as plays
+use Rattle.glk_input.specs.Keycode.{is_terminator}
+use Rattle.line_words.specs.Keycode.{is_code}
 use Rattle.line_words.specs.Field.{is_key}
 
 -- one space and the word
@@ -98,7 +99,7 @@ abbrev pub print_request : Request → List ℕ
 print_request request = line_with request (written_text request)
 
 -- bytes spell an input of `run`: as the request, without session, key and number
-abbrev pub SpellsPlay : List ℕ → Play → Type 0
+abbrev pub SpellsPlay : List ℕ → Input → Type 0
 SpellsPlay bytes (plays.Line win text key) =
     (word : List ℕ) × (win ≤ 4294967295) × texts.WordSpells word text × IsTerminator key
     × (bytes ≡ codes "LINE" ++ typed_fields win word key)

@@ -1,8 +1,7 @@
 //! The fields of a line: one space and a word (own).
 
 ghost use Rattle.std.specs.Prelude.{◌≡◌, ◌≤◌, IfOk, IfSome, MatchOption, None, Some};
-ghost use Rattle.line_words.specs.Keycode.{is_scalar, is_function_key, is_keycode, is_terminator};
-ghost use Rattle.line_words.specs.Keycode.{is_code};
+ghost use Rattle.line_words.specs.Keycode.{is_scalar, is_code};
 ghost use Rattle.line_words.specs.Field.{word_of, rest_from_space, word_at, number_between, key_at};
 ghost use Rattle.line_words.specs.Field.{text_at};
 ghost use Rattle.line_words.specs.Field.{code_at, terminator_at, behind_name};
@@ -11,6 +10,7 @@ ghost use Rattle.line_words.specs.Reading.{GivesLineReading, at_end};
 use crate::fault::LineFault;
 use crate::key::{Key, is_key};
 use crate::number::number_of;
+use glk_input::keycode::{is_keycode, is_terminator};
 use std::alloc::Global;
 use story_text::{Text, read_escaped};
 
@@ -88,19 +88,11 @@ pub fn text_at(alloc: Global, bytes: &[u8]) -> Result<(Text, &[u8]), LineFault>
     Ok((read_escaped(alloc, word)?, rest))
 }
 
-/// Whether the code is a terminator key: Escape, or Func1 to Func12.
-pub fn is_terminator(code: u32) -> bool
-    ensures { result ≡ is_terminator code }
-{
-    matches!(code, 0xFFFF_FFE4..=0xFFFF_FFEF | 0xFFFF_FFF8)
-}
-
 /// Whether the code is a Unicode scalar value or a keycode.
 pub fn is_code(code: u32) -> bool
     ensures { result ≡ is_code code }
 {
-    char::from_u32(code).is_some()
-        || matches!(code, 0xFFFF_FFE4..=0xFFFF_FFEF | 0xFFFF_FFF3..=0xFFFF_FFFF)
+    char::from_u32(code).is_some() || is_keycode(code)
 }
 
 /// A Unicode scalar value or a keycode.

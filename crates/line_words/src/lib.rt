@@ -12,12 +12,14 @@ mod reply;
 mod request;
 
 pub use fault::LineFault;
-pub use field::{is_code, is_terminator};
+pub use field::is_code;
+pub use glk_input::Input as Play;
+pub use glk_input::keycode::is_terminator;
 pub use key::{Key, is_key};
 pub use laws::{
     prints_spellings, reads_each_play, reads_each_request, reads_plays_only, reads_requests_only,
 };
-pub use play::{Play, read_play};
+pub use play::read_play;
 pub use read::read_request;
 pub use reply::{No, Reply, write_reply};
 pub use request::Request;

@@ -8,22 +8,12 @@ ghost use Rattle.line_words.specs.Play.{spelled_play, without_cr, play_of, Refus
 
 use crate::fault::LineFault;
 use crate::field::{after, at_end, code_at, terminator_at, text_at, u32_at};
+use glk_input::Input;
 use std::alloc::Global;
 use story_text::Text;
 
 /// The most bytes of a line without its LF.
 pub const MAX_LINE: usize = 2047;
-
-/// What a player gives a story, as a line of `run` spells it.
-#[derive(Debug, Drop)]
-pub enum Play {
-    /// `LINE win =text` or `LINE win =text key`, with key 0 where none is named.
-    Line { win: u32, text: Text, key: u32 },
-    /// `CHAR win code`.
-    Char { win: u32, code: u32 },
-    /// `FILE =name`.
-    File { name: Text },
-}
 
 /// The fields of LINE: a window, a text and a terminator key.
 #[tactic(auto, unfolding(crate::specs::Play::line_at))]
@@ -47,32 +37,32 @@ pub fn char_at(rest: &[u8]) -> Result<((u32, u32), &[u8]), LineFault>
     Ok(((win, code), rest))
 }
 
-fn line_play(alloc: Global, rest: &[u8]) -> Result<Play, LineFault>
+fn line_play(alloc: Global, rest: &[u8]) -> Result<Input, LineFault>
     ensures { GivesLineReading (λ x. x) result (line_play rest.now) }
 {
     let ((win, text, key), rest) = line_at(alloc, rest)?;
     at_end(rest)?;
-    Ok(Play::Line { win, text, key })
+    Ok(Input::Line { win, text, key })
 }
 
-fn char_play(rest: &[u8]) -> Result<Play, LineFault>
+fn char_play(rest: &[u8]) -> Result<Input, LineFault>
     ensures { GivesLineReading (λ x. x) result (char_play rest.now) }
 {
     let ((win, code), rest) = char_at(rest)?;
     at_end(rest)?;
-    Ok(Play::Char { win, code })
+    Ok(Input::Char { win, code })
 }
 
-fn file_play(alloc: Global, rest: &[u8]) -> Result<Play, LineFault>
+fn file_play(alloc: Global, rest: &[u8]) -> Result<Input, LineFault>
     ensures { GivesLineReading (λ x. x) result (file_play rest.now) }
 {
     let (name, rest) = text_at(alloc, rest)?;
     at_end(rest)?;
-    Ok(Play::File { name })
+    Ok(Input::File { name })
 }
 
 #[tactic(auto, unfolding(crate::specs::Play::spelled_play))]
-fn spelled_play(alloc: Global, line: &[u8]) -> Result<Play, LineFault>
+fn spelled_play(alloc: Global, line: &[u8]) -> Result<Input, LineFault>
     ensures { GivesLineReading (λ x. x) result (spelled_play line.now) }
 {
     if let Some(rest) = after(b"LINE", line) {
@@ -99,10 +89,11 @@ pub fn without_cr(line: &[u8]) -> &[u8]
     line
 }
 
-/// The input that the line spells. The line comes without its LF; a CR that ends it is counted and
+/// The input that the line spells: `LINE win =text` or `LINE win =text key`, with key 0 where none is
+/// named, `CHAR win code` or `FILE =name`. The line comes without its LF; a CR that ends it is counted and
 /// then dropped. `LongLine` exactly where the line has more than 2,047 bytes, and else `BadLine`
 /// exactly where it spells no input; `NoMemory` where memory runs out.
-pub fn read_play(alloc: Global, line: &[u8]) -> Result<Play, LineFault>
+pub fn read_play(alloc: Global, line: &[u8]) -> Result<Input, LineFault>
     ensures only { IfOk result (λ play. play_of line.now ≡ Some play) }
     ensures exact { IfErr result (RefusesLine line.now (play_of line.now)) }
 {
