@@ -1,14 +1,20 @@
 -- Laws of triples: a write that is durable has one, and two make one.
-use Rattle.std.proofs.Common.{◌≡◌, ℕ, Bool, List, length, sym, subst}
+use Rattle.std.proofs.Common.{◌≡◌, ◌≤◌, ℕ, Bool, List, length, sym, subst}
 use Rattle.std.specs.Prelude.{IsTrue, Result, Ok, Err, OnOk}
-use Rattle.disk_model.specs.Disk.{Torn, AfterWrite, LeavesOnly, Only, file_written}
+use Rattle.disk_model.specs.Disk.{Torn, AfterWrite, EachImage, Elapses, LeavesOnly, Only}
+use Rattle.disk_model.specs.Disk.{file_written}
 use Rattle.disk_model.specs.Work.{Triple}
-use Rattle.disk_model.proofs.Moments.{started, weaker, and_then}
+use Rattle.disk_model.proofs.Moments.{started, goes_on, holds_now, weaker, and_then}
 
 -- what follows from an Ok
 pub on_ok : {T E : Type 0} {P Q : Type 0} (result : Result T E) → (P → Q) → OnOk result P → OnOk result Q
 on_ok (Ok x) so is = so is
 on_ok (Err e) so is = tt
+
+-- what holds holds at an Ok
+pub at_ok : {T E : Type 0} {P : Type 0} (result : Result T E) → P → OnOk result P
+at_ok (Ok x) is = is
+at_ok (Err e) is = tt
 
 module _
     {D : Type 0} {tells : D → Bool} {may_leave : D → List ℕ → Type 0} {moment : D → ℕ}
@@ -78,3 +84,52 @@ module _
     meanwhile = λ told each. started moment left_since disk fact (λ c left. each c (only c left));
     ended = λ told each. each;
   }
+
+  -- one device call, after which each image has the fact
+  pub called :
+      {T E : Type 0} {result : Result T E} {old new : D} {before during after : List ℕ → Type 0}
+      → ((c : List ℕ) → left_since old (moment old) c → may_leave old c)
+      → Elapses (moment old) (moment new) (left_since old) (left_since new) (may_leave new)
+      → ((c : List ℕ) → before c → during c)
+      → ((c : List ℕ) → after c → during c)
+      → (IsTrue (tells old) → ((c : List ℕ) → may_leave old c → before c)
+      → (c : List ℕ) → may_leave new c → after c)
+      → Triple tells may_leave moment left_since result old new before during after
+  called {result = result} {old = old} {new = new} {during = during} only time first last now = record {
+    meanwhile = λ told each.
+        goes_on moment left_since old old new during (may_leave new)
+        (started moment left_since old during (λ c left. first c (each c (only c left)))) time
+        (λ c left. last c (now told each c left));
+    ended = λ told each. at_ok result (now told each);
+  }
+
+  -- an Ok, whatever it holds
+  pub done :
+      {S F T E : Type 0} {first : S} {last : T} {old new : D} {before during after : List ℕ → Type 0}
+      → Triple {E = F} tells may_leave moment left_since (Ok first) old new before during after
+      → Triple {E = E} tells may_leave moment left_since (Ok last) old new before during after
+  done triple = record { meanwhile = triple.meanwhile; ended = triple.ended }
+
+  -- the images afterwards have what held meanwhile
+  pub images_meanwhile :
+      {T E : Type 0} {result : Result T E} {old new : D} {before during after : List ℕ → Type 0}
+      → ((t : ℕ) (c : List ℕ) → t ≤ moment new → may_leave new c → left_since new t c)
+      → tells new ≡ tells old
+      → Triple tells may_leave moment left_since result old new before during after
+      → EachImage tells may_leave old before
+      → EachImage tells may_leave new during
+  images_meanwhile {old = old} {new = new} {during = during} counts same triple each told c now =
+      let told_before = subst (λ (b : Bool). IsTrue b) same told in
+      holds_now moment left_since may_leave old new during counts
+      (triple.meanwhile told_before (each told_before)) c now
+
+  -- and after Ok what is to hold then
+  pub images_after :
+      {T E : Type 0} {value : T} {old new : D} {before during after : List ℕ → Type 0}
+      → tells new ≡ tells old
+      → Triple {E = E} tells may_leave moment left_since (Ok value) old new before during after
+      → EachImage tells may_leave old before
+      → EachImage tells may_leave new after
+  images_after same triple each told =
+      let told_before = subst (λ (b : Bool). IsTrue b) same told in
+      triple.ended told_before (each told_before)

@@ -1,14 +1,14 @@
 -- A disk in a fixed room: what its fields say (own).
-use Rattle.std.specs.Prelude.{ℕ, length}
+use Rattle.std.specs.Prelude.{ℕ, List}
 use Rattle.disk_model.specs.declared.flat.FlatDisk.{FlatDisk}
+
+-- the bytes that it holds
+abbrev pub flat_bytes : FlatDisk → List ℕ
+flat_bytes d = d.bytes.items
 
 -- how many bytes it may hold
 abbrev pub flat_room : FlatDisk → ℕ
-flat_room d = length d.bytes.items
-
--- how many bytes it holds
-abbrev pub flat_size : FlatDisk → ℕ
-flat_size d = d.size
+flat_room d = d.room
 
 -- the greatest end of any write asked of it
 abbrev pub flat_reach : FlatDisk → ℕ

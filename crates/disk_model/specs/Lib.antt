@@ -5,5 +5,4 @@ pub mod Drawn
 pub mod Calls
 pub mod Memory
 pub mod Flat
-pub mod File
 pub mod Plain

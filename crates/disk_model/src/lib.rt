@@ -1,9 +1,8 @@
-//! Disks that may fail and stop at any call: in memory, in a flat space of bytes, and in a file.
+//! Disks that may fail and stop at any call: in memory, in a fixed room of bytes, and as plain data.
 #![tactic(auto)]
 
 mod call;
 mod disk;
-mod file;
 mod flat;
 mod memory;
 mod note;
@@ -13,7 +12,6 @@ mod through;
 
 pub use call::Call;
 pub use disk::{Disk, Failed};
-pub use file::FileDisk;
 pub use flat::FlatDisk;
 pub use memory::MemDisk;
 pub use plain::PlainDisk;

@@ -2,7 +2,7 @@
 
 ghost use Rattle.std.specs.Prelude.{◌≡◌, ℕ, List, ◌+◌, ◌≤◌, ◌<◌, ◌^◌};
 ghost use Rattle.std.specs.Prelude.{◌++◌, [], ◌∷◌, length, take, drop};
-ghost use Rattle.std.specs.Prelude.{if◌then◌else◌, OnOk, OnErr};
+ghost use Rattle.std.specs.Prelude.{if◌then◌else◌, vec_capacity, IsOk, OnOk, OnErr};
 ghost use Rattle.disk_model.specs.Disk.{file_written, ReadsFile, Elapses};
 ghost use Rattle.disk_model.specs.DiskState.{IsDiskImage, IsWell, after_write, after_sync};
 ghost use Rattle.disk_model.specs.Calls.{state_after, LeftSince};
@@ -24,7 +24,9 @@ fn overwrite(bytes: &mut [u8], place: usize, piece: &[u8])
 pub fn put_piece(bytes: &mut Vec<u8>, place: usize, piece: &[u8]) -> Result<(), AllocError>
     requires { place + length piece.now < 2 ^ 63 }
     ensures ok { OnOk result (bytes.new.items ≡ file_written bytes.old.items place piece.now) }
+    ensures works { place + length piece.now ≤ vec_capacity bytes.old → IsOk result }
     ensures err { OnErr result (bytes.new.items ≡ bytes.old.items) }
+    ensures capacity { vec_capacity bytes.old ≤ vec_capacity bytes.new }
 {
     let end = place + piece.len();
     if end <= bytes.len() {

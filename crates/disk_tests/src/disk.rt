@@ -1,12 +1,7 @@
-//! What no clause says: which images are drawn, and what a real file gives.
+//! What no clause says: which images are drawn, and that a call doesn't give up.
 
-use disk_model::{Disk, Failed, FileDisk, FlatDisk, MemDisk, write_through};
-use std::fs::{self, File};
+use disk_model::{Disk, Failed, FlatDisk, MemDisk, write_through};
 use std::test::Fail;
-
-const FOLDER: &str = "disk_model_test";
-
-const PATH: &str = "disk_model_test/file";
 
 // "hello" at place 3 of an empty disk, and what stands around it.
 fn has_hello<D: Disk>(disk: &mut D) -> bool {
@@ -67,24 +62,5 @@ fn a_flat_disk_fails_past_its_room_alone(rt: HostRuntime) -> Result<(), Fail> {
     assert_eq!(rt; (disk.size(), disk.faults()), (Ok(8), 1));
     assert_eq!(rt; disk.write_at(11, b"hello"), Ok(()));
     assert_eq!(rt; (disk.size(), disk.faults()), (Ok(16), 1));
-    Ok(())
-}
-
-#[test]
-fn a_real_file_keeps_its_bytes(rt: HostRuntime) -> Result<(), Fail> {
-    let _ = fs::remove_dir_all(&rt, FOLDER);
-    fs::create_dir(&rt, FOLDER)?;
-    let mut disk = FileDisk::new(File::create_new(&rt, PATH)?);
-    assert_eq!(rt; disk.size(), Ok(0));
-    assert!(rt; has_hello(&mut disk));
-    assert_eq!(rt; disk.write_at(1 << 40, b"x"), Err(Failed));
-    assert_eq!(rt; (disk.size(), disk.faults()), (Ok(8), 1));
-    let mut again = FileDisk::new(File::open(&rt, PATH)?);
-    let mut image = [9; 9];
-    assert_eq!(rt; again.read_at(0, &mut image), Ok(()));
-    assert_eq!(rt; (again.size(), image), (Ok(8), *b"\0\0\0hello\0"));
-    assert_eq!(rt; again.write_at(0, b"x"), Err(Failed));
-    assert_eq!(rt; again.faults(), 1);
-    fs::remove_dir_all(&rt, FOLDER)?;
     Ok(())
 }

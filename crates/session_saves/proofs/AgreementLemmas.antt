@@ -15,7 +15,8 @@ use Rattle.snap_store.specs.declared.side.Side.{Side}
 use Rattle.snap_store.specs.declared.side.Side.TheVariants.{A, B}
 use Rattle.session_saves.specs.Agreement.{Agrees, IsAgreed, last_row}
 use Rattle.session_saves.specs.Game.{inputs_of}
-use Rattle.session_saves.specs.Keeping.{AddsOnly, IsOldOrNew, MayStandMeanwhile, area_with}
+use Rattle.session_saves.specs.Keeping.{AddsOnly, IsOldOrNew, MayStandMeanwhile}
+use Rattle.snap_store.specs.File.{area_with}
 use Rattle.session_saves.specs.Laws.{ImagesStayAgreed, MoreCommandsStayAgreed, NewOpensStayAgreed}
 use Rattle.session_saves.proofs.GameLemmas.{inputs_of-more, is_other_story-more, world_at-all}
 use Rattle.session_saves.proofs.GameLemmas.{world_at-more}

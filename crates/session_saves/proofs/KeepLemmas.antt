@@ -20,7 +20,8 @@ use Rattle.session_saves.specs.declared.missed.Cause.TheVariants.{NotMade}
 use Rattle.session_saves.specs.declared.missed.Missed.{Missed}
 use Rattle.session_saves.specs.declared.saves.Point.{Point}
 use Rattle.session_saves.specs.Keeping.{AddsOnly, CountsExactly, Fits, IsMissed, IsOldOrNew, IsPut}
-use Rattle.session_saves.specs.Keeping.{IsTooLong, FailedPutLeaves, MayStandMeanwhile, Prevents, PutsWorld, area_with}
+use Rattle.session_saves.specs.Keeping.{IsTooLong, FailedPutLeaves, MayStandMeanwhile, Prevents, PutsWorld}
+use Rattle.snap_store.specs.File.{area_with}
 use Rattle.session_saves.specs.Keeping.{with_missed}
 use Rattle.session_saves.specs.Saves.{SavesState, with_cause}
 use Rattle.session_saves.proofs.AgreementLemmas.{side_cases}

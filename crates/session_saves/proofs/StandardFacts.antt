@@ -14,7 +14,7 @@ use Rattle.snap_store.specs.declared.side.Side.TheVariants.{A, B}
 use Rattle.snap_store.specs.File.{Stored, area_on_side, gate_byte, area_given, greatest, has_header, is_whole}
 use Rattle.snap_store.specs.File.{is_wanted_area, area_listed, newest_area, open_area}
 use Rattle.session_saves.specs.Game.{inputs_of, opening_setup, opened_story, turns_after, turns_of_inputs}
-use Rattle.session_saves.specs.Keeping.{area_with}
+use Rattle.snap_store.specs.File.{area_with}
 use Rattle.session_saves.specs.Laws.{AreWanted}
 use Rattle.session_saves.specs.Warming.{count_in}
 use Rattle.session_saves.proofs.GameLemmas.{wanted_inputs_are_turns}

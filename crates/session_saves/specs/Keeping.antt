@@ -3,7 +3,7 @@ use Rattle.std.specs.Prelude.{◌≡◌, ◌⊎◌, ◌≤◌, ◌<◌, ℕ, Boo
 use Rattle.disk_model.specs.Disk.{EachImage, Rose}
 use Rattle.story_run.specs.World.{WorldState}
 use Rattle.story_snap.specs.Bytes.{HasBytes}
-use Rattle.snap_store.specs.File.{Stored, open_area}
+use Rattle.snap_store.specs.File.{Stored, area_with, open_area}
 use Rattle.snap_store.specs.Slots.{taken_side, with_slot}
 use Rattle.snap_store.specs.Store.{Snapshots, IsImageOf, IsPutImage, store_area}
 use Rattle.snap_store.specs.declared.outline.TheConstants.{MAX_SNAPSHOT}
@@ -13,10 +13,6 @@ use Rattle.session_saves.specs.Saves.{SavesState, with_cause}
 use Rattle.session_saves.specs.declared.missed.Cause.{Cause}
 use Rattle.session_saves.specs.declared.missed.Cause.TheVariants.{NoMemory, TooLong, DiskFailed}
 use Rattle.session_saves.specs.declared.missed.Cause.TheVariants.{NotMade}
-
--- the area of a snapshot
-abbrev pub area_with : ℕ → ℕ → List ℕ → Stored
-area_with place count bytes = record { place = place; count = count; bytes = bytes }
 
 -- bytes of the world that a store takes
 pub record Fits (world : WorldState) (bytes : List ℕ) : Type 0 where

@@ -132,6 +132,14 @@ module _ (side : Side) (area : Option Stored) (beside : Slot) (beside_area : Opt
   laid_was Unsure d shut laid = absurd (cc)
   laid_was (Open place count) d shut laid = absurd (cc)
 
+  pub laid_of_shut :
+      (slot : Slot) (d : List ℕ) → is_closed slot ≡ true
+      → IsLaid side Closed area beside beside_area d
+      → IsLaid side (loosened slot) area beside beside_area d
+  laid_of_shut Closed d shut laid = laid
+  laid_of_shut Unsure d shut laid = absurd (cc)
+  laid_of_shut (Open place count) d shut laid = absurd (cc)
+
   -- the area beside it, through a write of this one
   spared :
       (side : Side) (slot : Slot) (c d : List ℕ) (at n : ℕ)

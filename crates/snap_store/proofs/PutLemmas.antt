@@ -1,20 +1,24 @@
 -- What a put leaves of a store.
-use Rattle.std.proofs.Common.{◌≡◌, ◌⊎◌, inl, inr, ℕ, Bool, true, false, List, refl}
+use Rattle.std.proofs.Common.{◌≡◌, ◌⊎◌, ◌≤◌, ◌+◌, inl, inr, ℕ, Bool, true, false, List, refl}
 use Rattle.std.proofs.Common.{sym, ◌∙◌, ap, subst}
-use Rattle.std.specs.Prelude.{Option, Some, None, IsTrue}
-use Rattle.disk_model.specs.Disk.{EachImage}
+use Rattle.std.specs.Prelude.{Option, Some, None, IsTrue, Result, Ok}
+use Rattle.disk_model.specs.Disk.{EachImage, Elapses, Follows, LeavesOnly, Torn}
+use Rattle.disk_model.specs.Work.{Triple}
+use Rattle.disk_model.proofs.Moments.{weaker}
+use Rattle.disk_model.proofs.WorkLaws.{called}
 use Rattle.snap_store.specs.declared.side.Side.{Side}
 use Rattle.snap_store.specs.declared.side.Side.TheVariants.{A, B}
 use Rattle.snap_store.specs.declared.slot.Slot.{Slot}
 use Rattle.snap_store.specs.declared.slot.Slot.TheVariants.{Closed, Open, Unsure}
 use Rattle.snap_store.specs.declared.slot.Slots.{Slots}
-use Rattle.snap_store.specs.File.{Stored, has_header, whole_area, openable_area}
+use Rattle.snap_store.specs.File.{Stored, side_start, has_header, whole_area, open_area, openable_area}
 use Rattle.snap_store.specs.Slots.{opposite_side, slot_of, with_slot, taken_side}
-use Rattle.snap_store.specs.Images.{StandsOnSide, IsLaid, loosened, DuringPut, IsLeft}
+use Rattle.snap_store.specs.Images.{StandsOnSide, IsLaid, Spares, loosened, DuringPut, IsLeft}
 use Rattle.snap_store.specs.Store.{Snapshots, area_held, store_area, IsPutImage, IsSoundStore}
+use Rattle.snap_store.proofs.LaidLemmas.{laid_area_torn}
 use Rattle.snap_store.proofs.StoreLemmas.{openable_is, shut_closed, stands_openable}
 use Rattle.snap_store.proofs.StoreLemmas.{newest_is_beside, open_at, laid_turned, laid_seen}
-use Rattle.snap_store.proofs.StoreLemmas.{held_is}
+use Rattle.snap_store.proofs.StoreLemmas.{held_is, is_opened}
 
 -- what is known of each side, once something is known of one
 pub slot_set :
@@ -73,13 +77,52 @@ held_loosened side Closed file file' stands = refl
 held_loosened side Unsure file file' stands = stands
 held_loosened side (Open place count) file file' stands = stands
 
+-- a first write in an area behind its closed gate
+pub area_begun :
+    {D : Type 0} {tells : D → Bool} {may_leave : D → List ℕ → Type 0} {moment : D → ℕ}
+    {left_since : D → ℕ → List ℕ → Type 0} {old new : D}
+    (side : Side) {area beside_area : Option Stored} {beside : Slot} {at n : ℕ}
+    → Spares side beside → side_start side ≤ at → at + n ≤ side_start side + 16 + 8388608
+    → ((c : List ℕ) → left_since old (moment old) c → may_leave old c)
+    → Elapses (moment old) (moment new) (left_since old) (left_since new) (may_leave new)
+    → (IsTrue (tells old) → Follows (Torn at n) (may_leave old) (may_leave new))
+    → Triple {T = Unit {0}} {E = Unit {0}} tells may_leave moment left_since (Ok tt) old new
+    (IsLaid side Closed area beside beside_area) (IsLaid side Closed area beside beside_area)
+    (IsLaid side Closed area beside beside_area)
+area_begun side {area} {beside_area} {beside} {at} {n} spares from to only time crash =
+    called only time (λ f laid. laid) (λ f laid. laid) (λ told each f now.
+    let was = crash told f now in
+    laid_area_torn side area beside beside_area f was.0 at n spares from to was.2
+    (each was.0 was.1))
+
+-- a put on a side is one on a side that is the same
+pub put_on_side :
+    {D T E : Type 0} {tells : D → Bool} {may_leave : D → List ℕ → Type 0} {moment : D → ℕ}
+    {left_since : D → ℕ → List ℕ → Type 0} {result : Result T E} {old new : D}
+    {side side' : Side} {slot slot' now : Slot} {area beside_area : Option Stored} {beside : Slot}
+    {put : Stored}
+    → side ≡ side' → slot ≡ slot'
+    → Triple tells may_leave moment left_since result old new
+    (IsLaid side slot area beside beside_area) (DuringPut side slot area put beside beside_area)
+    (IsLaid side now (Some put) beside beside_area)
+    → Triple tells may_leave moment left_since result old new
+    (IsLaid side' slot' area beside beside_area) (DuringPut side' slot' area put beside beside_area)
+    (IsLaid side' now (Some put) beside beside_area)
+put_on_side {D} {T} {E} {tells} {may_leave} {moment} {left_since} {result} {old} {new} {side} {side'} {slot} {slot'} {now} {area} {beside_area} {beside} {put} side_is slot_is triple =
+    subst (λ (k : Slot). Triple tells may_leave moment left_since result old new
+    (IsLaid side' k area beside beside_area) (DuringPut side' k area put beside beside_area)
+    (IsLaid side' now (Some put) beside beside_area)) slot_is
+    (subst (λ (s : Side). Triple tells may_leave moment left_since result old new
+    (IsLaid s slot area beside beside_area) (DuringPut s slot area put beside beside_area)
+    (IsLaid s now (Some put) beside beside_area)) side_is triple)
+
 module _
     {D : Type 0}
-    (tells : D → Bool)
-    (may_leave : D → List ℕ → Type 0)
-    (seen : D → List ℕ)
+    {tells : D → Bool}
+    {may_leave : D → List ℕ → Type 0}
+    {seen : D → List ℕ}
     (stays : (d : D) → may_leave d (seen d))
-    (store : Snapshots D)
+    {store : Snapshots D}
     (sound : IsSoundStore tells may_leave seen store)
     (made : store.made ≡ true)
     (put : Stored) where
@@ -129,8 +172,23 @@ module _
   put_image c (inr (inr laid)) = put_image_of c laid.header laid.there (λ x is.
       inr (same_area x put (sym (openable_is side c x is).2 ∙ laid.here)))
 
-  module _ (new : D) (telling : tells new ≡ tells store.disk) (slots : Slots)
-      (now : Slot) (left : Option Stored)
+  pub crash_of :
+      {T E : Type 0} {moment : D → ℕ} {left_since : D → ℕ → List ℕ → Type 0}
+      {result : Result T E} {new : D} {after : List ℕ → Type 0} {view : Snapshots D}
+      → store ≡ view
+      → Triple tells may_leave moment left_since result store.disk new
+      (IsLaid side slot area beside beside_area) (DuringPut side slot area put beside beside_area) after
+      → view.made ≡ true → IsTrue (tells view.disk)
+      → LeavesOnly moment left_since view.disk new (IsPutImage seen view put)
+  crash_of {moment = moment} {left_since = left_since} {new = new} view_is triple =
+      subst (λ (s : Snapshots D). s.made ≡ true → IsTrue (tells s.disk)
+      → LeavesOnly moment left_since s.disk new (IsPutImage seen s put)) view_is
+      (λ is told. weaker moment left_since store.disk new
+      (DuringPut side slot area put beside beside_area) (IsPutImage seen store put)
+      (triple.meanwhile told (laid_before told)) put_image)
+
+  module _ {new : D} (telling : tells new ≡ tells store.disk) {slots : Slots}
+      {now : Slot} {left : Option Stored}
       (set : slots ≡ with_slot store.slots side now)
       (laid : EachImage tells may_leave new (IsLaid side now left beside beside_area)) where
     abbrev after : Snapshots D
@@ -155,10 +213,10 @@ module _
     shows : IsTrue (tells store.disk) → IsLaid side now left beside beside_area (seen new)
     shows told = laid (told_after told) (seen new) (stays new)
 
-    pub beside_after :
+    kept_beside :
         IsTrue (tells store.disk)
         → store_area seen after (opposite_side side) ≡ store_area seen store (opposite_side side)
-    beside_after told =
+    kept_beside told =
         ap (λ (s : Slots). area_held (opposite_side side) (slot_of s (opposite_side side)) (seen new)) set
         ∙ ap (λ (s : Slot). area_held (opposite_side side) s (seen new)) (slot_kept side store.slots now)
         ∙ held_is (opposite_side side) beside beside_area (seen new) (seen store.disk)
@@ -170,27 +228,70 @@ module _
         ap (λ (s : Slots). area_held side (slot_of s side) (seen new)) set
         ∙ ap (λ (s : Slot). area_held side s (seen new)) (slot_set side store.slots now)
 
-    pub put_after :
-        (place count : ℕ) → now ≡ Open place count → left ≡ Some put → IsTrue (tells store.disk)
+    put_there :
+        {place count : ℕ} → now ≡ Open place count → left ≡ Some put → IsTrue (tells store.disk)
         → store_area seen after side ≡ Some put
-    put_after place count is is_left told =
+    put_there is is_left told =
         here_after
         ∙ ap (λ (s : Slot). area_held side s (seen new)) is
         ∙ (subst (λ (s : Slot). StandsOnSide side s left (seen new)) is (shows told).here).1
         ∙ is_left
 
-    pub left_after :
+    left_there :
         IsLeft slot area put now left → IsTrue (tells store.disk)
         → (store_area seen after side ≡ store_area seen store side)
         ⊎ (store_area seen after side ≡ None)
         ⊎ (store_area seen after side ≡ Some put)
-    left_after (inl is) told =
+    left_there (inl is) told =
         let stands : StandsOnSide side (loosened slot) area (seen new) =
         subst (λ (o : Option Stored). StandsOnSide side (loosened slot) o (seen new)) is.1
         (subst (λ (s : Slot). StandsOnSide side s left (seen new)) is.0 (shows told).here) in
         inl (here_after ∙ ap (λ (s : Slot). area_held side s (seen new)) is.0
         ∙ held_loosened side slot (seen store.disk) (seen new) stands)
-    left_after (inr (inl is)) told =
+    left_there (inr (inl is)) told =
         inr (inl (here_after ∙ ap (λ (s : Slot). area_held side s (seen new)) is.0))
-    left_after (inr (inr is)) told =
+    left_there (inr (inr is)) told =
         inr (inr (here_after ∙ held_stands side now left (seen new) is.0 (shows told).here ∙ is.1))
+
+    -- the same of the store as it is seen
+    module _ {view : Snapshots D} (view_is : store ≡ view) where
+      pub beside_after :
+          IsTrue (tells view.disk)
+          → store_area seen after (opposite_side (taken_side view.slots))
+          ≡ store_area seen view (opposite_side (taken_side view.slots))
+      beside_after =
+          subst (λ (s : Snapshots D). IsTrue (tells s.disk)
+          → store_area seen after (opposite_side (taken_side s.slots))
+          ≡ store_area seen s (opposite_side (taken_side s.slots))) view_is kept_beside
+
+      pub put_after :
+          {place count : ℕ} → now ≡ Open place count → left ≡ Some put
+          → view.made ≡ true → IsTrue (tells view.disk)
+          → store_area seen after (taken_side view.slots) ≡ Some put
+      put_after is is_left =
+          subst (λ (s : Snapshots D). s.made ≡ true → IsTrue (tells s.disk)
+          → store_area seen after (taken_side s.slots) ≡ Some put) view_is
+          (λ made_then. put_there is is_left)
+
+      pub left_after :
+          IsLeft slot area put now left → view.made ≡ true → IsTrue (tells view.disk)
+          → (store_area seen after (taken_side view.slots) ≡ store_area seen view (taken_side view.slots))
+          ⊎ (store_area seen after (taken_side view.slots) ≡ None)
+          ⊎ (store_area seen after (taken_side view.slots) ≡ Some put)
+      left_after is =
+          subst (λ (s : Snapshots D). s.made ≡ true → IsTrue (tells s.disk)
+          → (store_area seen after (taken_side s.slots) ≡ store_area seen s (taken_side s.slots))
+          ⊎ (store_area seen after (taken_side s.slots) ≡ None)
+          ⊎ (store_area seen after (taken_side s.slots) ≡ Some put)) view_is
+          (λ made_then. left_there is)
+
+      pub opened_after :
+          {place count : ℕ} → now ≡ Open place count → left ≡ Some put → view.made ≡ true
+          → EachImage tells may_leave new
+          (λ (c : List ℕ). open_area (taken_side view.slots) c ≡ Some put)
+      opened_after is is_left =
+          subst (λ (s : Snapshots D). s.made ≡ true → EachImage tells may_leave new
+          (λ (c : List ℕ). open_area (taken_side s.slots) c ≡ Some put)) view_is
+          (λ made_then told c at. let there = laid told c at in
+          let here = subst (λ (k : Slot). StandsOnSide side k left c) is there.here in
+          is_opened side c put there.header here.0 (here.1 ∙ is_left))

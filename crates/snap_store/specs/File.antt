@@ -36,6 +36,10 @@ pub record Stored : Type 0 where
   pub count : ℕ
   pub bytes : List ℕ
 
+-- the area with these fields
+abbrev pub area_with : ℕ → ℕ → List ℕ → Stored
+area_with place count bytes = record { place = place; count = count; bytes = bytes }
+
 -- the sixteen bytes with which an area starts: its place, its count and how many bytes follow
 abbrev pub head_bytes : ℕ → ℕ → ℕ → List ℕ
 head_bytes place count length = big_bytes 8 place ++ (big_bytes 4 count ++ big_bytes 4 length)

@@ -5,7 +5,8 @@ use Rattle.snap_store.specs.declared.side.Side.TheVariants.{A, B}
 use Rattle.snap_store.specs.declared.slot.Slot.{Slot}
 use Rattle.snap_store.specs.declared.slot.Slot.TheVariants.{Closed, Open, Unsure}
 use Rattle.snap_store.specs.File.{Stored, has_header, gate_byte, whole_area}
-use Rattle.snap_store.specs.Slots.{opposite_side}
+use Rattle.snap_store.specs.Slots.{opposite_side, slot_of, taken_side}
+use Rattle.snap_store.specs.declared.slot.Slots.{Slots}
 
 -- there is an area, of this OPEN row and after so many inputs
 abbrev pub IsAreaOf : ℕ → ℕ → Option Stored → Type 0
@@ -31,6 +32,11 @@ pub record IsLaid
   pub header : has_header image ≡ true
   pub here : StandsOnSide side own area image
   pub there : StandsOnSide (opposite_side side) beside beside_area image
+
+-- the same, seen from the side that a put takes
+abbrev pub IsLaidTaken : Slots → Slot → Option Stored → Option Stored → List ℕ → Type 0
+IsLaidTaken slots own area beside_area =
+    IsLaid (taken_side slots) own area (slot_of slots (opposite_side (taken_side slots))) beside_area
 
 -- the gate, once its closing has begun
 abbrev pub loosened : Slot → Slot

@@ -1,12 +1,12 @@
 //! The device calls of a put (own).
 
-ghost use Rattle.std.specs.Prelude.{◌≡◌, ◌⊎◌, ◌+◌, ◌≤◌, ℕ, List, IsTrue, OnOk, OnErr, IfErr};
+ghost use Rattle.std.specs.Prelude.{◌≡◌, ◌⊎◌, ◌+◌, ◌≤◌, ℕ, List, OnOk, OnErr, IfErr};
 ghost use Rattle.std.specs.Prelude.{Option, Some, None, length};
-ghost use Rattle.disk_model.specs.Disk.{LeavesOnly, EachImage};
-ghost use Rattle.disk_model.specs.Work.{Ran};
-ghost use Rattle.snap_store.specs.File.{Stored, gate_of, side_start, head_bytes};
+ghost use Rattle.disk_model.specs.Disk.{EachImage};
+ghost use Rattle.disk_model.specs.Work.{Ran, Triple};
+ghost use Rattle.snap_store.specs.File.{Stored, area_with, gate_of, side_start, head_bytes};
 ghost use Rattle.snap_store.specs.Slots.{slot_of, with_slot, taken_side, opposite_side};
-ghost use Rattle.snap_store.specs.Images.{IsLaid, Spares, loosened, DuringPut, IsLeft};
+ghost use Rattle.snap_store.specs.Images.{IsLaid, IsLaidTaken, Spares, loosened, DuringPut, IsLeft};
 ghost use Rattle.snap_store.specs.declared.slot.Slot.{Slot};
 ghost use Rattle.snap_store.specs.declared.slot.Slot.TheVariants.{Closed, Open, Unsure};
 ghost use Rattle.snap_store.specs.declared.outline.TheConstants.{MAX_SNAPSHOT};
@@ -18,13 +18,11 @@ use disk_model::{Disk, Failed, write_through};
 
 // Closes a gate: 0 is written where it isn't known to be 0, and a sync follows. At most two calls.
 fn close_gate<D: Disk>(disk: &mut D, side: Side, slot: Slot) -> Result<(), Failed>
-    ensures ok { OnOk result ((area beside_area : Option Stored) (beside : Slot)
-        → EachImage D.tells D.may_leave disk.old (IsLaid side slot area beside beside_area)
-        → EachImage D.tells D.may_leave disk.new (IsLaid side Closed area beside beside_area)) }
-    ensures crash { (area beside_area : Option Stored) (beside : Slot)
-        → EachImage D.tells D.may_leave disk.old (IsLaid side slot area beside beside_area)
-        → IsTrue (D.tells disk.old) → LeavesOnly D.moment D.left_since disk.old disk.new
-        (IsLaid side (loosened slot) area beside beside_area) }
+    ensures triple { (area beside_area : Option Stored) (beside : Slot)
+        → Triple D.tells D.may_leave D.moment D.left_since result disk.old disk.new
+        (IsLaid side slot area beside beside_area)
+        (IsLaid side (loosened slot) area beside beside_area)
+        (IsLaid side Closed area beside beside_area) }
     ensures ran { Ran D.tells D.steady D.room D.label D.faults D.reach
         (gate_of side + 1) result disk.old disk.new }
 {
@@ -44,16 +42,10 @@ fn fill<D: Disk>(
     bytes: &[u8],
 ) -> Result<(), Failed>
     requires { length bytes.now ≤ MAX_SNAPSHOT }
-    ensures ok { OnOk result ((area beside_area : Option Stored) (beside : Slot)
-        → Spares side beside
-        → EachImage D.tells D.may_leave disk.old (IsLaid side Closed area beside beside_area)
-        → EachImage D.tells D.may_leave disk.new (IsLaid side Unsure
-        (Some (record { place = place; count = count; bytes = bytes.now })) beside beside_area)) }
-    ensures crash { (area beside_area : Option Stored) (beside : Slot)
-        → Spares side beside
-        → EachImage D.tells D.may_leave disk.old (IsLaid side Closed area beside beside_area)
-        → IsTrue (D.tells disk.old) → LeavesOnly D.moment D.left_since disk.old disk.new
-        (IsLaid side Closed area beside beside_area) }
+    ensures triple { (area beside_area : Option Stored) (beside : Slot) → Spares side beside
+        → Triple D.tells D.may_leave D.moment D.left_since result disk.old disk.new
+        (IsLaid side Closed area beside beside_area) (IsLaid side Closed area beside beside_area)
+        (IsLaid side Unsure (Some (area_with place count bytes.now)) beside beside_area) }
     ensures ran { Ran D.tells D.steady D.room D.label D.faults D.reach
         (side_start side + 16 + length bytes.now) result disk.old disk.new }
 {
@@ -63,15 +55,11 @@ fn fill<D: Disk>(
 
 // Opens the gate of an area that is synced, and syncs it.
 fn open_gate<D: Disk>(disk: &mut D, side: Side) -> Result<(), Failed>
-    ensures ok { OnOk result ((area : Stored) (beside_area : Option Stored) (beside : Slot)
-        → EachImage D.tells D.may_leave disk.old
+    ensures triple { (area : Stored) (beside_area : Option Stored) (beside : Slot)
+        → Triple D.tells D.may_leave D.moment D.left_since result disk.old disk.new
         (IsLaid side Unsure (Some area) beside beside_area)
-        → EachImage D.tells D.may_leave disk.new
-        (IsLaid side (Open area.place area.count) (Some area) beside beside_area)) }
-    ensures crash { (area beside_area : Option Stored) (beside : Slot)
-        → EachImage D.tells D.may_leave disk.old (IsLaid side Unsure area beside beside_area)
-        → IsTrue (D.tells disk.old) → LeavesOnly D.moment D.left_since disk.old disk.new
-        (IsLaid side Unsure area beside beside_area) }
+        (IsLaid side Unsure (Some area) beside beside_area)
+        (IsLaid side (Open area.place area.count) (Some area) beside beside_area) }
     ensures ran { Ran D.tells D.steady D.room D.label D.faults D.reach
         (gate_of side + 1) result disk.old disk.new }
 {
@@ -100,25 +88,18 @@ fn write_area<D: Disk>(
     bytes: &[u8],
 ) -> Result<(), Slot>
     requires { length bytes.now ≤ MAX_SNAPSHOT }
-    ensures ok { OnOk result ((area beside_area : Option Stored) (beside : Slot)
-        → Spares side beside
-        → EachImage D.tells D.may_leave disk.old (IsLaid side slot area beside beside_area)
-        → EachImage D.tells D.may_leave disk.new (IsLaid side (Open place count)
-        (Some (record { place = place; count = count; bytes = bytes.now }))
-        beside beside_area)) }
+    ensures triple { (area beside_area : Option Stored) (beside : Slot) → Spares side beside
+        → Triple D.tells D.may_leave D.moment D.left_since result disk.old disk.new
+        (IsLaid side slot area beside beside_area)
+        (DuringPut side slot area (area_with place count bytes.now) beside beside_area)
+        (IsLaid side (Open place count) (Some (area_with place count bytes.now))
+        beside beside_area) }
     ensures err { IfErr result (λ now. (area beside_area : Option Stored) (beside : Slot)
         → Spares side beside
         → EachImage D.tells D.may_leave disk.old (IsLaid side slot area beside beside_area)
-        → (left : Option Stored)
-        × IsLeft slot area (record { place = place; count = count; bytes = bytes.now }) now left
+        → (left : Option Stored) × IsLeft slot area (area_with place count bytes.now) now left
         × EachImage D.tells D.may_leave disk.new (IsLaid side now left beside beside_area)) }
     ensures gate { IfErr result (λ now. (now ≡ Closed) ⊎ (now ≡ Unsure)) }
-    ensures crash { (area beside_area : Option Stored) (beside : Slot)
-        → Spares side beside
-        → EachImage D.tells D.may_leave disk.old (IsLaid side slot area beside beside_area)
-        → IsTrue (D.tells disk.old) → LeavesOnly D.moment D.left_since disk.old disk.new
-        (DuringPut side slot area (record { place = place; count = count; bytes = bytes.now })
-        beside beside_area) }
     ensures ran { Ran D.tells D.steady D.room D.label D.faults D.reach
         (side_start side + 16 + length bytes.now) result disk.old disk.new }
 {
@@ -145,37 +126,27 @@ pub fn replace<D: Disk>(
     requires { length bytes.now ≤ MAX_SNAPSHOT }
     ensures ok { OnOk result (slots.new
         ≡ with_slot slots.old (taken_side slots.old) (Open place count)) }
-    ensures images { OnOk result ((area beside_area : Option Stored)
-        → EachImage D.tells D.may_leave disk.old
-        (IsLaid (taken_side slots.old) (slot_of slots.old (taken_side slots.old)) area
+    ensures triple { (area beside_area : Option Stored)
+        → Triple D.tells D.may_leave D.moment D.left_since result disk.old disk.new
+        (IsLaidTaken slots.old (slot_of slots.old (taken_side slots.old)) area beside_area)
+        (DuringPut (taken_side slots.old) (slot_of slots.old (taken_side slots.old)) area
+        (area_with place count bytes.now)
         (slot_of slots.old (opposite_side (taken_side slots.old))) beside_area)
-        → EachImage D.tells D.may_leave disk.new
-        (IsLaid (taken_side slots.old) (Open place count)
-        (Some (record { place = place; count = count; bytes = bytes.now }))
-        (slot_of slots.old (opposite_side (taken_side slots.old))) beside_area)) }
+        (IsLaidTaken slots.old (Open place count) (Some (area_with place count bytes.now))
+        beside_area) }
     ensures err { OnErr result ((now : Slot)
         × (slots.new ≡ with_slot slots.old (taken_side slots.old) now)
         × ((area beside_area : Option Stored)
         → EachImage D.tells D.may_leave disk.old
-        (IsLaid (taken_side slots.old) (slot_of slots.old (taken_side slots.old)) area
-        (slot_of slots.old (opposite_side (taken_side slots.old))) beside_area)
+        (IsLaidTaken slots.old (slot_of slots.old (taken_side slots.old)) area beside_area)
         → (left : Option Stored)
         × IsLeft (slot_of slots.old (taken_side slots.old)) area
-        (record { place = place; count = count; bytes = bytes.now }) now left
+        (area_with place count bytes.now) now left
         × EachImage D.tells D.may_leave disk.new
-        (IsLaid (taken_side slots.old) now left
-        (slot_of slots.old (opposite_side (taken_side slots.old))) beside_area))) }
+        (IsLaidTaken slots.old now left beside_area))) }
     ensures gate { OnErr result
         ((slots.new ≡ with_slot slots.old (taken_side slots.old) Closed)
         ⊎ (slots.new ≡ with_slot slots.old (taken_side slots.old) Unsure)) }
-    ensures crash { (area beside_area : Option Stored)
-        → EachImage D.tells D.may_leave disk.old
-        (IsLaid (taken_side slots.old) (slot_of slots.old (taken_side slots.old)) area
-        (slot_of slots.old (opposite_side (taken_side slots.old))) beside_area)
-        → IsTrue (D.tells disk.old) → LeavesOnly D.moment D.left_since disk.old disk.new
-        (DuringPut (taken_side slots.old) (slot_of slots.old (taken_side slots.old)) area
-        (record { place = place; count = count; bytes = bytes.now })
-        (slot_of slots.old (opposite_side (taken_side slots.old))) beside_area) }
     ensures ran { Ran D.tells D.steady D.room D.label D.faults D.reach
         (side_start (taken_side slots.old) + 16 + length bytes.now) result disk.old disk.new }
 {

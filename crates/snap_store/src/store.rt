@@ -43,7 +43,7 @@ impl<D: Disk> Model for Store<D> {
 impl<D: Disk> Store<D> {
     ghost use Rattle.snap_store.specs.File.{Stored, has_header, side_start, open_area};
     ghost use Rattle.snap_store.specs.File.{openable_area};
-    ghost use Rattle.snap_store.specs.File.{newest_area, area_given};
+    ghost use Rattle.snap_store.specs.File.{newest_area, area_given, area_with};
     ghost use Rattle.snap_store.specs.Slots.{opposite_side, slot_of, slot_in, with_slot};
     ghost use Rattle.snap_store.specs.Slots.{taken_side};
     ghost use Rattle.snap_store.specs.Slots.{is_stored};
@@ -117,7 +117,7 @@ impl<D: Disk> Store<D> {
         ensures durable { OnOk result (self.old.made ≡ true
             → EachImage D.tells D.may_leave self.new.disk (λ image.
             open_area (taken_side self.old.slots) image
-            ≡ Some (record { place = place; count = count; bytes = bytes.now }))) }
+            ≡ Some (area_with place count bytes.now))) }
         ensures unmade { self.old.made ≡ false → IsOk result × (self.new ≡ self.old) }
         ensures works { IsTrue (D.steady self.old.disk)
             → side_start (taken_side self.old.slots) + 16 + length bytes.now
@@ -136,12 +136,12 @@ impl<D: Disk> Store<D> {
         ensures taken { self.old.made ≡ true → IsTrue (D.tells self.old.disk)
             → MatchResult result
             (λ _. store_area D.seen self.new (taken_side self.old.slots)
-            ≡ Some (record { place = place; count = count; bytes = bytes.now }))
+            ≡ Some (area_with place count bytes.now))
             (λ _. (store_area D.seen self.new (taken_side self.old.slots)
             ≡ store_area D.seen self.old (taken_side self.old.slots))
             ⊎ (store_area D.seen self.new (taken_side self.old.slots) ≡ None)
             ⊎ (store_area D.seen self.new (taken_side self.old.slots)
-            ≡ Some (record { place = place; count = count; bytes = bytes.now }))) }
+            ≡ Some (area_with place count bytes.now))) }
         ensures beside { IsTrue (D.tells self.old.disk)
             → store_area D.seen self.new (opposite_side (taken_side self.old.slots))
             ≡ store_area D.seen self.old (opposite_side (taken_side self.old.slots)) }
@@ -150,7 +150,7 @@ impl<D: Disk> Store<D> {
         ensures crash { self.old.made ≡ true → IsTrue (D.tells self.old.disk)
             → LeavesOnly D.moment D.left_since self.old.disk self.new.disk
             (IsPutImage D.seen self.old
-            (record { place = place; count = count; bytes = bytes.now })) }
+            (area_with place count bytes.now)) }
         ensures images { EachImage D.tells D.may_leave self.new.disk (IsImageOf D.seen self.new) }
 
         ensures reach { D.reach self.new.disk ≤ max (D.reach self.old.disk)

@@ -1,9 +1,9 @@
 -- What is known of the system's outside (own).
 use Rattle.std.specs.Prelude.{Option, None}
 use Rattle.std.specs.BTreeMap.{get_by_text}
-use Rattle.disk_model.specs.declared.file.FileDisk.{FileDisk}
 use Rattle.line_talk.specs.Failing.{Failing}
 use Rattle.host_top.specs.Files.{OutsideState, Untold}
+use Rattle.storyhost.specs.declared.edge.disk.FileDisk.{FileDisk}
 use Rattle.storyhost.specs.declared.edge.files.SystemFiles.{SystemFiles}
 
 -- no name is told; the loans, and the counts

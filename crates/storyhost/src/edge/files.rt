@@ -5,8 +5,9 @@ ghost use Rattle.std.specs.Str.{bytes_eq};
 ghost use Rattle.std.specs.BTreeMap.{get_by_text};
 ghost use Rattle.host_top.specs.Files.{Told, AreBelow};
 
+use super::disk::FileDisk;
 use super::tcp::TcpDoor;
-use disk_model::{Disk, Failed, FileDisk};
+use disk_model::{Disk, Failed};
 use host_serve::Worked;
 use host_top::{Fetch, Loan, Outside};
 use std::alloc::{AllocError, Global};

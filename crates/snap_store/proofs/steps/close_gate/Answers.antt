@@ -1,30 +1,22 @@
-use Rattle.std.proofs.Common.{◌≡◌, ◌∙◌, ◌∷◌, [], sym, ap, subst, List, ℕ, Bool}
-use Rattle.std.specs.Prelude.{IsTrue}
-use Rattle.disk_model.specs.Disk.{file_written, Torn}
-use Rattle.disk_model.proofs.Moments.{weaker}
-use Rattle.disk_model.proofs.WorkLaws.{on_ok}
+use Rattle.std.proofs.Common.{◌∙◌, ◌∷◌, [], sym, subst, ℕ}
+use Rattle.disk_model.specs.Disk.{Torn, file_written}
+use Rattle.disk_model.proofs.WorkLaws.{through}
 use Rattle.snap_store.specs.declared.slot.Slot.TheVariants.{Closed}
-use Rattle.snap_store.specs.File.{gate_of}
-use Rattle.snap_store.specs.Images.{IsLaid, loosened}
+use Rattle.snap_store.specs.Images.{IsLaid}
 use Rattle.snap_store.proofs.LaidLemmas.{laid_loosened, laid_closing, laid_shut}
 use Rattle.snap_store.proofs.steps.close_gate.Goals as goal
 
-pub returns-clause-crash : goal.returns-clause-crash
-returns-clause-crash g c area beside_area beside each told =
+pub returns-clause-triple : goal.returns-clause-triple
+returns-clause-triple g c area beside_area beside =
     let side = c.args.side in
     let slot = c.args.slot in
-    weaker g.D.Disk.moment g.D.Disk.left_since c.args.disk.now c.write_through.new.disk _ (IsLaid side (loosened slot) area beside beside_area) (c.write_through.ensures.crash told)
-    (λ f after. laid_closing side area beside beside_area slot f after.0 (sym c.is_closed.ensures ∙ c.if-is_closed.false) (subst (λ (k : ℕ). Torn k 1 after.0 f) c.gate.ensures after.2)
-    (laid_loosened side slot area beside beside_area after.0 (each told after.0 after.1)))
-
-pub returns-clause-ok : goal.returns-clause-ok
-returns-clause-ok g c = on_ok c.write_through.result (λ wrote area beside_area beside each told_last f now.
-    let d = c.args.disk.now in
-    let side = c.args.side in
-    let told = subst (λ (b : Bool). IsTrue b) c.write_through.ensures.kept.telling told_last in
-    let file = g.D.Disk.seen d in
-    let is : f ≡ file_written file (gate_of side) (0 ∷ []) =
-    wrote told f now ∙ ap (λ (k : ℕ). file_written file k (0 ∷ [])) c.gate.ensures in
-    let laid = laid_loosened side c.args.slot area beside beside_area file (each told file (g.met.D.Disk.seen_may_stay d)) in
-    subst (λ (l : List ℕ). IsLaid side Closed area beside beside_area l) (sym is)
-    (laid_shut side area beside beside_area c.args.slot file (sym c.is_closed.ensures ∙ c.if-is_closed.false) laid)) c.write_through.ensures.ok
+    let open_gate = sym c.is_closed.ensures ∙ c.if-is_closed.false in
+    through c.gate.result (0 ∷ []) _ (g.met.D.Disk.seen_may_stay c.args.disk.now)
+    c.write_through.ensures.ok c.write_through.ensures.crash
+    (λ f d laid torn. laid_closing side area beside beside_area slot f d open_gate
+    (subst (λ (k : ℕ). Torn k 1 d f) c.gate.ensures torn)
+    (laid_loosened side slot area beside beside_area d laid))
+    (λ d laid. subst (λ (k : ℕ). IsLaid side Closed area beside beside_area (file_written d k (0 ∷ [])))
+    (sym c.gate.ensures)
+    (laid_shut side area beside beside_area slot d open_gate
+    (laid_loosened side slot area beside beside_area d laid)))

@@ -1,9 +1,8 @@
-//! A file of the operating system as a disk. No clause says what it holds.
-
+//! A file of the system as a disk: what is trusted, since nothing is told of its content.
 ghost use Rattle.std.specs.Prelude.{◌≡◌, ◌≤◌, ◌^◌, false, IfOk};
 ghost use Rattle.disk_model.specs.Disk.{CountsErrors};
 
-use crate::{Disk, Failed};
+use disk_model::{Disk, Failed};
 use std::fs::File;
 use std::io;
 use std::os::unix::fs::FileExt;
@@ -24,7 +23,7 @@ pub struct FileDisk {
 }
 
 impl FileDisk {
-    ghost use Rattle.disk_model.specs.File.{file_reach, file_faults, file_label};
+    ghost use Rattle.storyhost.specs.FileDisk.{file_reach, file_faults, file_label};
 
     /// A disk on this file, which is open for reading and writing.
     pub fn new(file: File) -> FileDisk

@@ -1,6 +1,6 @@
 -- A disk on a file: what its fields say (own).
 use Rattle.std.specs.Prelude.{ℕ}
-use Rattle.disk_model.specs.declared.file.FileDisk.{FileDisk}
+use Rattle.storyhost.specs.declared.edge.disk.FileDisk.{FileDisk}
 
 -- the greatest end of any write asked of it
 abbrev pub file_reach : FileDisk → ℕ
