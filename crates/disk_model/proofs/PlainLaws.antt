@@ -1,10 +1,9 @@
 -- The test of an image says what an image is; what a write makes; one place more (own).
-use Rattle.std.proofs.Common.{Bool, List, [], ap, append_assoc, arith, drop, false, inl, inr, length}
-use Rattle.std.proofs.Common.{refl, replicate, subst, suc, sym, take, true, zero, ℕ}
-use Rattle.std.proofs.Common.{◌++◌, ◌+◌, ◌-◌, ◌<◌, ◌^◌, ◌∙◌, ◌∷◌, ◌≡◌, ◌≤◌, ◌⊎◌}
+use Rattle.std.proofs.Common.{Bool, List, [], ap, arith, false, inl, inr, length}
+use Rattle.std.proofs.Common.{refl, subst, suc, sym, true, zero, ℕ}
+use Rattle.std.proofs.Common.{◌+◌, ◌<◌, ◌^◌, ◌∙◌, ◌∷◌, ◌≡◌, ◌≤◌, ◌⊎◌}
 use Rattle.std.proofs.lemmas.Bool.{and_from, and_parts, cases_eq, cases_lt}
 use Rattle.std.proofs.lemmas.Bool.Decides.{nat_tests}
-use Rattle.std.proofs.lemmas.List.{append-nil, drop_all}
 use Rattle.std.specs.Prelude.{if◌then◌else◌, nat_eq, nat_le, nat_lt, slice_index, ◌&&◌, ◌||◌}
 use Rattle.disk_model.specs.Disk.{file_written}
 use Rattle.disk_model.specs.DiskState.{DiskState, IsDiskImage, Ranges, Untouched, after_write}

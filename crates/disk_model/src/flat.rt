@@ -1,4 +1,4 @@
-//! A disk that tells nothing of what it holds, and has all its room from the start.
+//! A disk in a fixed room of bytes, all of it reserved. As a `Disk` it tells nothing of them.
 
 ghost use Rattle.std.specs.Prelude.{◌≡◌, ◌≤◌, ◌+◌, ◌-◌, ◌<◌, ◌^◌, ◌↔◌, true, false, min, max};
 ghost use Rattle.std.specs.Prelude.{[], length, vec_capacity, Ok, IsOk, IfOk, OnOk, OnErr};
