@@ -12,10 +12,11 @@ KEYS = {"{Left}": 0xFFFFFFFE, "{Right}": 0xFFFFFFFD, "{Up}": 0xFFFFFFFC, "{Down}
 REFUSALS = {
     "1": "a key has 1 to 32 letters and digits, a line at most 1,024 characters",
     "2": "the session has another key, or its number isn't 0 to 63", "3": "the session is in use, with another key",
-    "4": "the host has no such story", "8": "the story doesn't wait for that",
+    "4": "the host has no such story", "5": "a move before this one is missing",
+    "6": "the session is further on", "7": "another move has this number", "8": "the story doesn't wait for that",
     "9": "the story is over", "10": "the session is full: it has 8,192 moves",
     "11": "the disk failed; the move isn't accepted", "12": "the host wants memory",
-    "13": "the session was kept with another story",
+    "13": "the session was kept with another story", "14": "the line is too long",
 }
 GREATEST = 0xFFFFFFFF       # the greatest number of a command
 # In the main window's text: what was printed in that turn before it was cleared isn't shown.

@@ -9,7 +9,8 @@ complaint code =
     codes "storyhost: a story is refused; the line that was written says which, and why" else
     (if code == 4 then codes "storyhost: the input failed, or a file can't be read" else
     (if code == 5 then codes "storyhost: the output failed" else
-    (if code == 6 then codes "storyhost: the journal can't be opened, made, read or written" else
+    (if code == 6 then
+    codes "storyhost: a file of the folder can't be opened, made, read or written" else
     (if code == 7 then codes "storyhost: there is too little memory" else
     (if code == 8 then
     codes "storyhost: what the folder holds is refused; the line that was written says why" else

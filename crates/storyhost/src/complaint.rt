@@ -11,7 +11,7 @@ pub fn complaint_of(code: u8) -> &'static str
         3 => "storyhost: a story is refused; the line that was written says which, and why",
         4 => "storyhost: the input failed, or a file can't be read",
         5 => "storyhost: the output failed",
-        6 => "storyhost: the journal can't be opened, made, read or written",
+        6 => "storyhost: a file of the folder can't be opened, made, read or written",
         7 => "storyhost: there is too little memory",
         8 => "storyhost: what the folder holds is refused; the line that was written says why",
         9 => "storyhost: the port can't be served; another program may be using it",

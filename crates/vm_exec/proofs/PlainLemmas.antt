@@ -1,10 +1,19 @@
 -- Plain instructions: what they do is told by their row.
 use Rattle.std.proofs.Common.{◌≡◌, ℕ, suc, ◌+◌, Result, Ok, Err, IfOk, List}
 use Rattle.std.proofs.Common.{refl, ap, sym, ◌∙◌, subst, slice_index, replicate, ◌∷◌, []}
-use Rattle.std.proofs.Common.{add-one, ◌%◌}
+use Rattle.std.proofs.Common.{add-one, ◌%◌, ◌≤◌, Option, Some, None, take}
 use Rattle.vm_memory.specs.Access.{read, written}
 use Rattle.vm_memory.specs.Chaining.{◌>>=◌}
 use Rattle.vm_memory.specs.Fault.{coded}
+use Rattle.vm_memory.specs.declared.fault.Trap.{Trap}
+use Rattle.vm_memory.specs.declared.fault.Trap.TheVariants.{Fault, NoMemory}
+use Rattle.vm_operand.specs.Brief.{OpcodeAt}
+use Rattle.vm_operand.specs.Instruction.{instruction_at}
+use Rattle.vm_operand.specs.Opcode.{op_of, opcode_number}
+use Rattle.vm_operand.specs.declared.fault.OpFault.{OpFault}
+use Rattle.vm_operand.specs.declared.instruction.Instr.{Instr}
+use Rattle.vm_operand.specs.declared.opcode.Branch.{Branch}
+use Rattle.vm_operand.proofs.OpcodeLemmas.{op_of-number_of}
 use Rattle.vm_operand.specs.Arithmetic.{applied}
 use Rattle.vm_operand.specs.Fault.{operation_coded}
 use Rattle.vm_operand.specs.declared.opcode.Op.{Op}
@@ -16,15 +25,16 @@ use Rattle.vm_operand.specs.declared.opcode.Array.TheVariants.{Astore, Astores, 
 use Rattle.vm_operand.specs.declared.opcode.Move.TheVariants.{Copy, Copys, Copyb, Sexs, Sexb}
 use Rattle.vm_operand.specs.declared.operand.Dest as d
 use Rattle.vm_operand.specs.declared.operand.Dest.TheVariants as dest
-use Rattle.vm_exec.specs.Answer.{Does}
+use Rattle.vm_exec.specs.Answer.{Does, NeedsNoMemory}
 use Rattle.vm_exec.specs.Machine.{IsFit, IsSoundMachine, KeepsImage, StaysFit}
-use Rattle.vm_exec.specs.Plain.{IsPlainOpcode, RunsTo, StepsTo}
-use Rattle.vm_exec.specs.Quick.{IsFetched}
-use Rattle.vm_exec.specs.Row.{charged, due, row, step_within, work, dest_by_index}
+use Rattle.vm_exec.specs.Plain.{IsPlainOpcode, LeadsOn, RunsTo, StepsTo, StopsAt, StopsBefore}
+use Rattle.vm_exec.specs.Quick.{IsFetched, IsRunOpcode, IsTaken, IsUnready}
+use Rattle.vm_exec.specs.Row.{Charged, charged, due, row, step_within, work, dest_by_index}
 use Rattle.vm_exec.specs.Rows.Array.{array_work, bit, byte_with_bit, element, with_bit}
 use Rattle.vm_exec.specs.Rows.Math.{math_work}
 use Rattle.vm_exec.specs.Rows.Moving.{move_work}
 use Rattle.vm_exec.specs.Rows.Work.{Work, Free, Costs, budgeted, costing}
+use Rattle.vm_exec.specs.Rules.{IsAside, loaded_all}
 use Rattle.vm_exec.specs.Rules.{Rule, goes, puts, stored, wrap, writes}
 use Rattle.vm_exec.specs.declared.machine.Machine.{Machine}
 use Rattle.vm_exec.specs.declared.quick.Quick.{Quick}
@@ -36,6 +46,7 @@ use Rattle.vm_exec.specs.declared.step.Step.TheVariants as step
 use Rattle.vm_exec.specs.declared.text.Text as t
 use Rattle.vm_exec.specs.declared.text.Text.TheVariants.{Off}
 use Rattle.vm_exec.proofs.KeepingCalls.{step_keeps, step_over}
+use Rattle.vm_exec.proofs.QuickLemmas.{one_value}
 
 -- a rule that tells nothing where it is done
 abbrev pub IsQuiet : Rule → Type 0
@@ -183,3 +194,21 @@ one_more k m o n g steps text fit =
       kept = λ s. keeps_both m o n (g.kept s) (step_keeps 1 o n Off (Ok (step.Ran 1)) does (g.fit s));
       over = λ image s v. step_over image 1 o n Off (Ok (step.Ran 1)) does (g.fit s) (g.over image s v);
     }
+
+op_in : Result (ℕ × ℕ) OpFault → Option Op
+op_in (Ok x) = op_of x.0
+op_in (Err e) = None
+
+some_is : (a b : Op) → Some a ≡ Some b → a ≡ b
+some_is a b e = cc
+
+same_op : (m : Machine) (o p : Op) (place next : ℕ) → OpcodeAt m.memory m.pc o place → OpcodeAt m.memory m.pc p next → o ≡ p
+unfolding op_in
+same_op m o p place next here there =
+    let row : op_of (opcode_number o) ≡ op_of (opcode_number p) = ap op_in (sym here ∙ there) in
+    some_is o p (sym (op_of-number_of o) ∙ row ∙ op_of-number_of p)
+
+-- the opcode that was read is the one there
+pub stops_at : (m : Machine) (o read : Op) (place : ℕ) → read ≡ o → OpcodeAt m.memory m.pc read place → StopsBefore m o → StopsAt m
+stops_at m o read place is here stops p next i args n at =
+    subst (λ (x : Op). StopsBefore m x) (sym is ∙ same_op m read p place next here at.opcode) stops next i args n at

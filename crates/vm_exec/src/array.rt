@@ -2,12 +2,15 @@
 
 ghost use Rattle.std.specs.Prelude.{◌≡◌, ◌≤◌, ◌<◌, ◌+◌, ◌^◌, IfOk, OnOk};
 ghost use Rattle.std.specs.Prelude.{slice_index, OnErr};
-ghost use Rattle.vm_exec.specs.Answer.{Does};
+ghost use Rattle.vm_exec.specs.Answer.{Does, NeedsNoMemory};
 ghost use Rattle.vm_exec.specs.Machine.{IsFit, StaysFit};
+ghost use Rattle.vm_exec.specs.Quick.{IsRunOpcode};
 ghost use Rattle.vm_exec.specs.Row.{dest_by_index};
 ghost use Rattle.vm_exec.specs.Rows.Array as rows;
 ghost use Rattle.vm_exec.specs.Rows.Work.{DoesAtNoCost, budgeted};
 ghost use Rattle.vm_exec.specs.Rules as rules;
+ghost use Rattle.vm_exec.specs.Rules.{IsAside};
+ghost use Rattle.vm_operand.specs.declared.opcode.Op.TheVariants as opcode;
 
 use crate::Machine;
 use crate::step::{Done, Out};
@@ -20,6 +23,7 @@ impl<'i> Machine<'i> {
         ensures does { DoesAtNoCost
             (rules.reads_to self.old to 4 (rows.element 4 from index))
             self.new result }
+        ensures aside { IsAside to → NeedsNoMemory result }
         ensures err { OnErr result (self.new ≡ self.old) }
         ensures still { self.new.text ≡ self.old.text }
         ensures fit { IsFit self.old → IfOk result (λ done. StaysFit self.new done.out) }
@@ -33,6 +37,7 @@ impl<'i> Machine<'i> {
         ensures does { DoesAtNoCost
             (rules.reads_to self.old to 2 (rows.element 2 from index))
             self.new result }
+        ensures aside { IsAside to → NeedsNoMemory result }
         ensures err { OnErr result (self.new ≡ self.old) }
         ensures still { self.new.text ≡ self.old.text }
         ensures fit { IsFit self.old → IfOk result (λ done. StaysFit self.new done.out) }
@@ -46,6 +51,7 @@ impl<'i> Machine<'i> {
         ensures does { DoesAtNoCost
             (rules.reads_to self.old to 1 (rules.wrap (from + index)))
             self.new result }
+        ensures aside { IsAside to → NeedsNoMemory result }
         ensures err { OnErr result (self.new ≡ self.old) }
         ensures still { self.new.text ≡ self.old.text }
         ensures fit { IsFit self.old → IfOk result (λ done. StaysFit self.new done.out) }
@@ -57,6 +63,7 @@ impl<'i> Machine<'i> {
     #[inline(always)]
     fn aloadbit(&mut self, from: u32, index: u32, to: Dest) -> Result<Done, Trap>
         ensures does { DoesAtNoCost (rows.loads_bit self.old from index to) self.new result }
+        ensures aside { IsAside to → NeedsNoMemory result }
         ensures err { OnErr result (self.new ≡ self.old) }
         ensures still { self.new.text ≡ self.old.text }
         ensures fit { IsFit self.old → IfOk result (λ done. StaysFit self.new done.out) }
@@ -132,6 +139,8 @@ impl<'i> Machine<'i> {
             (budgeted left
             (rows.array_work op self.old (slice_index args.now) (dest_by_index to.now)))
             self.new result }
+        ensures aside { IsRunOpcode (opcode.Array op) → IsAside (dest_by_index to.now 0)
+            → NeedsNoMemory result }
         ensures err { OnErr result (self.new ≡ self.old) }
         ensures still { self.new.text ≡ self.old.text }
         ensures fit { IsFit self.old → IfOk result (λ done. StaysFit self.new done.out) }

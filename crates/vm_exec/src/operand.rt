@@ -2,9 +2,10 @@
 
 ghost use Rattle.std.specs.Prelude.{◌≡◌, ◌⊎◌, ◌≤◌, ◌+◌, ◌%◌, ◌^◌};
 ghost use Rattle.std.specs.Prelude.{length, OnErr, OnOk};
-ghost use Rattle.vm_exec.specs.Answer.{Changes, Does, LeavesTwoValues};
+ghost use Rattle.vm_exec.specs.Answer.{Changes, Does, LeavesTwoValues, NeedsNoMemory};
 ghost use Rattle.vm_exec.specs.Machine.{IsFit};
 ghost use Rattle.vm_exec.specs.Rules as rules;
+ghost use Rattle.vm_exec.specs.Rules.{IsAside};
 ghost use Rattle.vm_stack.specs.Locals.{IsWidth};
 ghost use Rattle.vm_operand.specs.declared.operand.Load.TheVariants as load;
 ghost use Rattle.vm_operand.specs.declared.operand.Dest.TheVariants as dest;
@@ -50,6 +51,7 @@ impl<'i> Machine<'i> {
     pub(crate) fn store_in(&mut self, width: u32, to: Dest, value: u32) -> Result<(), Trap>
         requires { IsWidth width }
         ensures does { Changes (rules.stored_in width self.old to value) self.new result }
+        ensures aside { IsAside to → NeedsNoMemory result }
         ensures err { OnErr result (self.new ≡ self.old) }
         ensures still { self.new.text ≡ self.old.text }
         ensures fit { IsFit self.old → OnOk result (IsFit self.new) }
@@ -82,6 +84,7 @@ impl<'i> Machine<'i> {
     #[inline(always)]
     pub(crate) fn store(&mut self, to: Dest, value: u32) -> Result<(), Trap>
         ensures does { Changes (rules.stored self.old to value) self.new result }
+        ensures aside { IsAside to → NeedsNoMemory result }
         ensures err { OnErr result (self.new ≡ self.old) }
         ensures still { self.new.text ≡ self.old.text }
         ensures fit { IsFit self.old → OnOk result (IsFit self.new) }

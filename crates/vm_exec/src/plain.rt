@@ -1,15 +1,16 @@
 //! Runs of plain instructions, those that take one tick and tell nothing.
 
-ghost use Rattle.std.specs.Prelude.{◌≡◌, ◌≤◌, ℕ, ◌∷◌, List, Ok, IsTrue, IsFalse, IfSome};
-ghost use Rattle.std.specs.Prelude.{IfOk, OnErr, replicate, slice_index};
-ghost use Rattle.vm_exec.specs.Answer.{Does};
+ghost use Rattle.std.specs.Prelude.{◌≡◌, ◌≤◌, ◌<◌, ℕ, ◌∷◌, List, None, Ok, IsTrue, IsFalse};
+ghost use Rattle.std.specs.Prelude.{IfOk, IfSome, OnErr, replicate, slice_index};
+ghost use Rattle.vm_exec.specs.Answer.{Does, NeedsNoMemory};
 ghost use Rattle.vm_exec.specs.Machine.{IsFit, IsSoundMachine, KeepsImage, StaysFit};
-ghost use Rattle.vm_exec.specs.Plain.{IsPlainOpcode, RunsTo, StepsTo};
-ghost use Rattle.vm_exec.specs.Quick.{IsFetched};
+ghost use Rattle.vm_exec.specs.Plain.{IsPlainOpcode, LeadsOn, RunsTo, StepsTo};
+ghost use Rattle.vm_exec.specs.Plain.{StopsAt, StopsBefore};
+ghost use Rattle.vm_exec.specs.Quick.{IsFetched, IsRunOpcode, IsTaken, IsUnready};
 ghost use Rattle.vm_exec.specs.Row.{dest_by_index, work};
 ghost use Rattle.vm_exec.specs.Rows.Branch.{branch_work};
 ghost use Rattle.vm_exec.specs.Rows.Work.{Free, budgeted};
-ghost use Rattle.vm_exec.specs.Rules.{branches};
+ghost use Rattle.vm_exec.specs.Rules.{IsAside, branches};
 ghost use Rattle.vm_exec.specs.Start.{IsOver};
 ghost use Rattle.vm_exec.specs.declared.machine.Machine.{Machine};
 ghost use Rattle.vm_exec.specs.declared.step.Out.TheVariants as out;
@@ -30,6 +31,7 @@ impl<'i> Machine<'i> {
     pub fn run_on(&mut self, most: u64) -> u64
         ensures runs { RunsTo result self.old self.new }
         ensures within { result ≤ most }
+        ensures stops { result < most → StopsAt self.new }
         ensures fit { IsSoundMachine self.old → IsSoundMachine self.new }
         ensures kept { IsSoundMachine self.old → KeepsImage self.old self.new }
         ensures over { (image : List ℕ) → IsSoundMachine self.old → IsOver image self.old
@@ -46,6 +48,7 @@ impl<'i> Machine<'i> {
         requires { self.old.text ≡ text.Off }
         ensures runs { RunsTo result self.old self.new }
         ensures within { result ≤ most }
+        ensures stops { result < most → StopsAt self.new }
         ensures fit { IsSoundMachine self.old → IsSoundMachine self.new }
         ensures kept { IsSoundMachine self.old → KeepsImage self.old self.new }
         ensures over { (image : List ℕ) → IsSoundMachine self.old → IsOver image self.old
@@ -66,6 +69,7 @@ impl<'i> Machine<'i> {
     fn plain_step(&mut self) -> bool
         ensures does { IsTrue result → StepsTo self.old self.new }
         ensures none { IsFalse result → self.new ≡ self.old }
+        ensures stops { IsFalse result → StopsAt self.old }
         ensures still { self.new.text ≡ self.old.text }
         ensures fit { IsFit self.old → IsSoundMachine self.new }
     {
@@ -94,9 +98,12 @@ impl<'i> Machine<'i> {
     #[inline(always)]
     fn plain_opcode(&mut self, op: Op, quick: Option<Quick>) -> bool
         requires here { IfSome quick (λ q. IsFetched self.old op q) }
+        requires taken { IfSome quick (λ q. IsTaken self.old q) }
+        requires none { quick ≡ None → IsUnready self.old op }
         requires kind { IsPlainOpcode op }
         ensures does { IsTrue result → StepsTo self.old self.new }
         ensures none { IsFalse result → self.new ≡ self.old }
+        ensures stops { IsFalse result → StopsBefore self.old op }
         ensures still { self.new.text ≡ self.old.text }
         ensures fit { IsFit self.old → IsSoundMachine self.new }
     {
@@ -121,6 +128,7 @@ impl<'i> Machine<'i> {
         ensures does { Does
             (budgeted 0 (work op self.old (slice_index args.now) (dest_by_index to.now)))
             self.new result }
+        ensures aside { IsRunOpcode op → IsAside (dest_by_index to.now 0) → NeedsNoMemory result }
         ensures err { OnErr result (self.new ≡ self.old) }
         ensures still { self.new.text ≡ self.old.text }
         ensures fit { IsFit self.old → IfOk result (λ done. StaysFit self.new done.out) }
@@ -136,9 +144,12 @@ impl<'i> Machine<'i> {
     // A branch, if its loads were taken and it doesn't return.
     #[inline(always)]
     fn plain_branch(&mut self, branch: Branch, quick: Option<Quick>) -> bool
-        requires { IfSome quick (λ q. IsFetched self.old (op.Branch branch) q) }
+        requires here { IfSome quick (λ q. IsFetched self.old (op.Branch branch) q) }
+        requires taken { IfSome quick (λ q. IsTaken self.old q) }
+        requires none { quick ≡ None → IsUnready self.old (op.Branch branch) }
         ensures does { IsTrue result → StepsTo self.old self.new }
         ensures none { IsFalse result → self.new ≡ self.old }
+        ensures stops { IsFalse result → StopsBefore self.old (op.Branch branch) }
         ensures still { self.new.text ≡ self.old.text }
         ensures fit { IsFit self.old → IsSoundMachine self.new }
     {
@@ -157,10 +168,12 @@ impl<'i> Machine<'i> {
 #[inline(always)]
 #[tactic(auto, unfolding(crate::specs::Rows::Branch::branch_work))]
 fn target(branch: Branch, quick: Quick) -> Option<u32>
-    ensures { IfSome result (λ pc. (m : Machine) (d : ℕ → Dest)
+    ensures leads { IfSome result (λ pc. (m : Machine) (d : ℕ → Dest)
         → branch_work branch (record m { pc = quick.next })
         (slice_index (quick.first ∷ quick.second ∷ quick.third ∷ replicate 5 0)) d
         ≡ Free (Ok (record m { pc = pc }, out.Ran))) }
+    ensures returns { result ≡ None → LeadsOn (op.Branch branch)
+        (slice_index (quick.first ∷ quick.second ∷ quick.third ∷ replicate 5 0)) → ⊥ }
 {
     let holds = branch.holds(quick.first, quick.second);
     match branch {
@@ -175,8 +188,9 @@ fn target(branch: Branch, quick: Quick) -> Option<u32>
 // Where an offset leads from the end of its branch; None for 0 and 1, which return.
 #[inline(always)]
 fn by_offset(next: u32, offset: u32) -> Option<u32>
-    ensures { IfSome result (λ pc. (m : Machine)
+    ensures leads { IfSome result (λ pc. (m : Machine)
         → branches (record m { pc = next }) offset ≡ Ok (record m { pc = pc }, out.Ran)) }
+    ensures returns { result ≡ None → 2 ≤ offset → ⊥ }
 {
     if offset == 0 || offset == 1 {
         None

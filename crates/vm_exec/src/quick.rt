@@ -1,9 +1,9 @@
 //! The most common instructions, whose loads leave the machine as it is. None leaves the step to
 //! another body.
 
-ghost use Rattle.std.specs.Prelude.{◌≡◌, ◌≤◌, ◌<◌, ◌+◌, [], ◌∷◌};
-ghost use Rattle.std.specs.Prelude.{IfSome, Ok, Some, replicate};
-ghost use Rattle.vm_exec.specs.Quick.{IsFetched, IsNear};
+ghost use Rattle.std.specs.Prelude.{ℕ, ◌≡◌, ◌≤◌, ◌<◌, ◌+◌, [], ◌∷◌};
+ghost use Rattle.std.specs.Prelude.{IfSome, IsErr, None, Ok, Some, replicate};
+ghost use Rattle.vm_exec.specs.Quick.{IsFetched, IsNear, IsTaken, IsUnready};
 ghost use Rattle.vm_exec.specs.Row as row;
 ghost use Rattle.vm_exec.specs.Rules.{operand_loaded};
 ghost use Rattle.vm_memory.specs.Access.{read};
@@ -11,8 +11,10 @@ ghost use Rattle.vm_memory.specs.Code.{IsCode};
 ghost use Rattle.vm_operand.specs.Brief as brief;
 ghost use Rattle.vm_operand.specs.Brief.{OpcodeAt};
 ghost use Rattle.vm_operand.specs.Opcode.{kinds_of};
+ghost use Rattle.vm_operand.specs.declared.opcode.Op.{Op};
 ghost use Rattle.vm_operand.specs.declared.opcode.Op.TheVariants as op;
 ghost use Rattle.vm_operand.specs.declared.operand.Kind.TheVariants as kind;
+ghost use Rattle.vm_operand.specs.declared.operand.Load as l;
 
 use crate::Machine;
 use vm_memory::MAX_SIZE;
@@ -52,7 +54,9 @@ impl<'i> Machine<'i> {
     pub(crate) fn quick_math(&self, math: Math, place: u32) -> Option<Quick>
         requires here { OpcodeAt self.now.memory self.now.pc (op.Math math) place }
         requires near { IsNear self.now.pc place }
-        ensures { IfSome result (λ quick. IsFetched self.now (op.Math math) quick) }
+        ensures fetched { IfSome result (λ quick. IsFetched self.now (op.Math math) quick) }
+        ensures taken { IfSome result (λ quick. IsTaken self.now quick) }
+        ensures none { result ≡ None → IsUnready self.now (op.Math math) }
     {
         if math.is_binary() {
             self.two_and_store(Op::Math(math), place)
@@ -66,7 +70,9 @@ impl<'i> Machine<'i> {
     pub(crate) fn quick_branch(&self, branch: Branch, place: u32) -> Option<Quick>
         requires here { OpcodeAt self.now.memory self.now.pc (op.Branch branch) place }
         requires near { IsNear self.now.pc place }
-        ensures { IfSome result (λ quick. IsFetched self.now (op.Branch branch) quick) }
+        ensures fetched { IfSome result (λ quick. IsFetched self.now (op.Branch branch) quick) }
+        ensures taken { IfSome result (λ quick. IsTaken self.now quick) }
+        ensures none { result ≡ None → IsUnready self.now (op.Branch branch) }
     {
         match branch.loads() {
             1 => self.one(Op::Branch(branch), place),
@@ -81,7 +87,9 @@ impl<'i> Machine<'i> {
     pub(crate) fn quick_array(&self, array: Array, place: u32) -> Option<Quick>
         requires here { OpcodeAt self.now.memory self.now.pc (op.Array array) place }
         requires near { IsNear self.now.pc place }
-        ensures { IfSome result (λ quick. IsFetched self.now (op.Array array) quick) }
+        ensures fetched { IfSome result (λ quick. IsFetched self.now (op.Array array) quick) }
+        ensures taken { IfSome result (λ quick. IsTaken self.now quick) }
+        ensures none { result ≡ None → IsUnready self.now (op.Array array) }
     {
         if array.reads() {
             self.two_and_store(Op::Array(array), place)
@@ -101,6 +109,9 @@ impl<'i> Machine<'i> {
             brief.load_by self.now.memory number at ≡ Ok (x.load, x.next)) }
         ensures value { IfSome result
             (λ x. operand_loaded 4 self.now x.load ≡ Ok (self.now, x.value)) }
+        ensures none { result ≡ None → (x : l.Load × ℕ) (v : ℕ)
+            → brief.load_by self.now.memory number at ≡ Ok x
+            → operand_loaded 4 self.now x.0 ≡ Ok (self.now, v) → ⊥ }
         ensures above { IfSome result (λ x. at ≤ x.next) }
         ensures below { IfSome result (λ x. x.next ≤ at + 4) }
     {
@@ -112,7 +123,9 @@ impl<'i> Machine<'i> {
     // The value of a load that isn't from the stack.
     #[inline(always)]
     fn value(&self, from: Load) -> Option<u32>
-        ensures { IfSome result (λ x. operand_loaded 4 self.now from ≡ Ok (self.now, x)) }
+        ensures value { IfSome result (λ x. operand_loaded 4 self.now from ≡ Ok (self.now, x)) }
+        ensures none { result ≡ None → (x : ℕ)
+            → operand_loaded 4 self.now from ≡ Ok (self.now, x) → ⊥ }
     {
         match from {
             Load::Value(value) => Some(value),
@@ -125,7 +138,8 @@ impl<'i> Machine<'i> {
     // The word at an address.
     #[inline(never)]
     fn word(&self, at: u32) -> Option<u32>
-        ensures { IfSome result (λ x. read 4 self.now.memory at ≡ Ok x) }
+        ensures value { IfSome result (λ x. read 4 self.now.memory at ≡ Ok x) }
+        ensures none { result ≡ None → IsErr (read 4 self.now.memory at) }
     {
         self.memory.read4(at).ok()
     }
@@ -136,6 +150,9 @@ impl<'i> Machine<'i> {
     pub(crate) fn opcode_below(&self) -> Option<(Op, u32)>
         ensures here { IfSome result (λ x. OpcodeAt self.now.memory self.now.pc x.0 x.1) }
         ensures near { IfSome result (λ x. IsNear self.now.pc x.1) }
+        ensures none { result ≡ None → (o : Op) (place : ℕ)
+            → OpcodeAt self.now.memory self.now.pc o place → place ≤ self.now.pc + 2
+            → self.now.pc + 16 ≤ self.now.memory.ramstart → ⊥ }
     {
         let code = self.memory.code_at(self.pc)?;
         opcode_in(&self.memory, code, self.pc)
@@ -148,7 +165,9 @@ impl<'i> Machine<'i> {
         requires kinds { kinds_of op ≡ kind.Load ∷ kind.Load ∷ kind.Store ∷ [] }
         requires near { IsNear self.now.pc place }
         requires words { row.width_of (Some op) ≡ 4 }
-        ensures { IfSome result (λ quick. IsFetched self.now op quick) }
+        ensures fetched { IfSome result (λ quick. IsFetched self.now op quick) }
+        ensures taken { IfSome result (λ quick. IsTaken self.now quick) }
+        ensures none { result ≡ None → IsUnready self.now op }
     {
         let code = self.memory.code_at(self.pc)?;
         let modes = self.memory.code1(code, self.pc, place);
@@ -172,7 +191,9 @@ impl<'i> Machine<'i> {
         requires kinds { kinds_of op ≡ kind.Load ∷ kind.Load ∷ [] }
         requires near { IsNear self.now.pc place }
         requires words { row.width_of (Some op) ≡ 4 }
-        ensures { IfSome result (λ quick. IsFetched self.now op quick) }
+        ensures fetched { IfSome result (λ quick. IsFetched self.now op quick) }
+        ensures taken { IfSome result (λ quick. IsTaken self.now quick) }
+        ensures none { result ≡ None → IsUnready self.now op }
     {
         let code = self.memory.code_at(self.pc)?;
         let modes = self.memory.code1(code, self.pc, place);
@@ -194,7 +215,9 @@ impl<'i> Machine<'i> {
         requires kinds { kinds_of op ≡ kind.Load ∷ kind.Load ∷ kind.Load ∷ [] }
         requires near { IsNear self.now.pc place }
         requires words { row.width_of (Some op) ≡ 4 }
-        ensures { IfSome result (λ quick. IsFetched self.now op quick) }
+        ensures fetched { IfSome result (λ quick. IsFetched self.now op quick) }
+        ensures taken { IfSome result (λ quick. IsTaken self.now quick) }
+        ensures none { result ≡ None → IsUnready self.now op }
     {
         let code = self.memory.code_at(self.pc)?;
         let modes = self.memory.code1(code, self.pc, place);
@@ -218,7 +241,9 @@ impl<'i> Machine<'i> {
         requires kinds { kinds_of op ≡ kind.Load ∷ kind.Store ∷ [] }
         requires near { IsNear self.now.pc place }
         requires words { row.width_of (Some op) ≡ 4 }
-        ensures { IfSome result (λ quick. IsFetched self.now op quick) }
+        ensures fetched { IfSome result (λ quick. IsFetched self.now op quick) }
+        ensures taken { IfSome result (λ quick. IsTaken self.now quick) }
+        ensures none { result ≡ None → IsUnready self.now op }
     {
         let code = self.memory.code_at(self.pc)?;
         let modes = self.memory.code1(code, self.pc, place);
@@ -240,7 +265,9 @@ impl<'i> Machine<'i> {
         requires kinds { kinds_of op ≡ kind.Load ∷ [] }
         requires near { IsNear self.now.pc place }
         requires words { row.width_of (Some op) ≡ 4 }
-        ensures { IfSome result (λ quick. IsFetched self.now op quick) }
+        ensures fetched { IfSome result (λ quick. IsFetched self.now op quick) }
+        ensures taken { IfSome result (λ quick. IsTaken self.now quick) }
+        ensures none { result ≡ None → IsUnready self.now op }
     {
         let code = self.memory.code_at(self.pc)?;
         let modes = self.memory.code1(code, self.pc, place);

@@ -1,4 +1,6 @@
-use Rattle.std.proofs.Common.{arith, refl}
+use Rattle.std.proofs.Common.{arith, refl, subst, sym}
+use Rattle.vm_exec.specs.Plain.{StopsAt}
+use Rattle.vm_exec.specs.declared.machine.Machine.{Machine}
 use Rattle.vm_exec.proofs.PlainLemmas.{none_gone, one_more}
 use Rattle.vm_exec.proofs.machine.Machine.plain_steps.Goals as goal
 
@@ -13,3 +15,8 @@ loop-done-preserved c =
       one_more c.loop-done.done c.args.self.now c.loop-done.self c.plain_step.new.self c.loop-done.invariant.1
           (e.does refl) e.still e.fit,
     )
+
+pub returns-then-not-plain_step-clause-stops : goal.returns-then-not-plain_step-clause-stops
+returns-then-not-plain_step-clause-stops c = λ less.
+    let e = c.if-not-plain_step.ensures in
+    subst (λ (m : Machine). StopsAt m) (sym (e.none refl)) (e.stops refl)

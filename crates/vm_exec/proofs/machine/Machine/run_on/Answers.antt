@@ -1,12 +1,8 @@
-use Rattle.std.proofs.Common.{arith}
 use Rattle.vm_exec.proofs.PlainLemmas.{keeps_same, none_runs}
 use Rattle.vm_exec.proofs.machine.Machine.run_on.Goals as goal
 
-pub returns-in_default : goal.returns-in_default
-returns-in_default c = record {
-  runs = none_runs c.args.self.now;
-  within = omega arith;
-  fit = λ s. s;
-  kept = λ s. keeps_same c.args.self.now;
-  over = λ image s o. o;
-}
+pub returns-in_default-clause-runs : goal.returns-in_default-clause-runs
+returns-in_default-clause-runs c = none_runs c.args.self.now
+
+pub returns-in_default-clause-kept : goal.returns-in_default-clause-kept
+returns-in_default-clause-kept c = λ sound. keeps_same c.args.self.now
