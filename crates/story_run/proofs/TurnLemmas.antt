@@ -1,10 +1,10 @@
 -- A turn ends: each step takes a tick, so more steps than ticks change nothing.
 use Rattle.std.proofs.Common.{◌≡◌, ℕ, zero, suc, ◌+◌, ◌-◌, ◌<◌, ◌≤◌, Bool, true, false, nat_lt}
 use Rattle.std.proofs.Common.{refl, ap, sym, ◌∙◌, arith, add-one, Result, Ok, Err, cond, subst}
-use Rattle.std.proofs.Common.{IfOk, List}
+use Rattle.std.proofs.Common.{IfOk, IsErrAnd, List}
 use Rattle.std.specs.declared.alloc.AllocError.{AllocError}
 use Rattle.std.proofs.lemmas.Bool.Decides.{nat_tests}
-use Rattle.vm_exec.specs.Plain.{RunsTo}
+use Rattle.vm_exec.specs.Run.{EndsBy, RunsTo, RunsWithin}
 use Rattle.vm_exec.specs.Row.{Charged, due, row, step_within, step_of}
 use Rattle.vm_exec.specs.Row as exec
 use Rattle.vm_exec.specs.Rows.Work.{Work, Free, Costs}
@@ -22,12 +22,13 @@ use Rattle.story_run.specs.Step.{Next, Advances, faults, Runs, Rests, Running, n
 use Rattle.story_run.specs.Step.{step_followed, stepped, after_glk_call, call_charged, done, machine_after_call, call_stored, character_put}
 use Rattle.story_run.specs.Step.{went_on}
 use Rattle.story_run.specs.Saves.{restored, saved}
-use Rattle.story_run.specs.Turn.{Stops, after_step, steps, rest}
+use Rattle.story_run.specs.Turn.{Proceeds, Stops, after_step, steps, rest}
 use Rattle.glk_dispatch.specs.declared.called.Called.{Called}
 use Rattle.glk_dispatch.specs.declared.called.Called.TheVariants as call
 use Rattle.glk_dispatch.specs.declared.glk.Glk.{Glk}
 use Rattle.story_run.specs.declared.stage.Stage.{Stage}
 use Rattle.story_run.specs.declared.step.Progress.{Progress}
+use Rattle.story_run.specs.declared.step.Progress.TheVariants as progress
 use Rattle.story_run.specs.declared.stage.Stage.TheVariants as stage
 use Rattle.vm_memory.specs.declared.fault.Trap.{Trap}
 use Rattle.vm_memory.specs.declared.fault.Trap.TheVariants as trap
@@ -152,36 +153,71 @@ pub rest-rests : (image : List ℕ) (left : ℕ) (r : Running) (g : Glk) (s : St
     → next_step image left r ≡ Rests g s → rest image left r ≡ (g, s)
 rest-rests image left r g s e = rest-step image left r ∙ ap (after_step (steps image left)) e
 
--- a plain step takes a tick, and the story runs on
-next-plain : (image : List ℕ) (left : ℕ) (g : Glk) (m n : Machine) → 0 < left
-    → row m ≡ record { cost = 1; gives = Ok (n, out.Ran) }
-    → next_step image left (running g m) ≡ Runs (left - 1) (running g n)
+-- what a step of one tick comes to
+next-of : (image : List ℕ) (left : ℕ) (g : Glk) (m : Machine) (r : Rule) → 0 < left
+    → row m ≡ record { cost = 1; gives = r }
+    → next_step image left (running g m) ≡ stepped image left g (r >>= (λ x. Ok (x.0, step_of x.1 1)))
 unfolding next_step
-next-plain image left g m n some e =
+next-of image left g m r some e =
     let t : nat_lt left 1 ≡ false = grind (arith, nat_tests) in
     ap (λ (c : Charged). stepped image left g (step_within left c)) e ∙ rw t refl
 
--- so many plain steps leave the rest of the turn as it is
-pub rest-plain : (image : List ℕ) (k left : ℕ) (g : Glk) (m n : Machine) → RunsTo k m n → k ≤ left
+-- so many quick steps leave the rest of the turn as it is
+pub rest-quick : (image : List ℕ) (k left : ℕ) (g : Glk) (m n : Machine) → RunsTo k m n → k ≤ left
     → rest image left (running g m) ≡ rest image (left - k) (running g n)
 unfolding RunsTo
-rest-plain image zero left g m n e h =
+rest-quick image zero left g m n e h =
     let none : left ≡ left - 0 = omega arith in
     ap (λ (o : Machine). rest image left (running g o)) e ∙ ap (λ (l : ℕ). rest image l (running g n)) none
-rest-plain image (suc k) left g m n (o, (runs, e)) h =
+rest-quick image (suc k) left g m n (o, (runs, e)) h =
     let one : left - k - 1 ≡ left - suc k = omega (arith, h) in
-    rest-plain image k left g m o runs (omega (arith, h))
+    rest-quick image k left g m o runs (omega (arith, h))
     ∙ (rest-runs image (left - k) (left - k - 1) (running g o) (running g n)
-    (next-plain image (left - k) g o n (omega (arith, h)) e)
+    (next-of image (left - k) g o (Ok (n, out.Ran)) (omega (arith, h)) e)
     ∙ ap (λ (l : ℕ). rest image l (running g n)) one)
 
--- a step that fails ends the turn with its fault
+-- a run that ends with the story ends the turn
+pub rest-quits : (image : List ℕ) (left : ℕ) (g : Glk) (m n : Machine) → EndsBy left m (Ok (n, out.Quit))
+    → rest image left (running g m) ≡ (g, stage.Quit)
+rest-quits image left g m n (k, o, (less, (runs, e))) =
+    rest-quick image k left g m o runs (omega (arith, less))
+    ∙ rest-rests image (left - k) (running g o) g stage.Quit (next-of image (left - k) g o (Ok (n, out.Quit)) (omega (arith, less)) e)
+
+-- a run that ends with a fault ends the turn with it
+pub rest-faults : (image : List ℕ) (left : ℕ) (g : Glk) (m : Machine) (f : ℕ) → EndsBy left m (Err f)
+    → rest image left (running g m) ≡ (g, stage.Fault f)
+rest-faults image left g m f (k, o, (less, (runs, e))) =
+    rest-quick image k left g m o runs (omega (arith, less))
+    ∙ rest-rests image (left - k) (running g o) g (stage.Fault f) (next-of image (left - k) g o (Err f) (omega (arith, less)) e)
+
+-- a step behind a run comes to what the rest of the turn says
+pub proceeds : (image : List ℕ) (left l : ℕ) (r q : Running) (g : Glk) (m : Machine) (x : Result Progress Trap)
+    → rest image left r ≡ rest image l q → l ≤ left → Advances (next_step image l q) g m x
+    → Proceeds image left r g m x
+proceeds image left l r q g m (Ok (progress.Runs n)) e h a =
+    let below : n < l = runs-below image l n q (running g m) a in (
+      e ∙ rest-runs image l n q (running g m) a,
+      omega (arith, below, h),
+    )
+proceeds image left l r q g m (Ok progress.Waits) e h a = e ∙ rest-rests image l q g (stage.AtSelect m) a
+proceeds image left l r q g m (Ok progress.Prompts) e h a = e ∙ rest-rests image l q g (stage.AtPrompt m) a
+proceeds image left l r q g m (Ok progress.Quits) e h a = e ∙ rest-rests image l q g stage.Quit a
+proceeds image left l r q g m (Err (trap.Fault n)) e h a = e ∙ rest-rests image l q g (stage.Fault n) a
+proceeds image left l r q g m (Err trap.NoMemory) e h a = tt
+
+-- a run that is refused ends the turn
+pub run-refused : (image : List ℕ) (left : ℕ) (g : Glk) (m n : Machine) (t : Trap) (x : Result Progress Trap)
+    → RunsWithin left m n (Err t) → IsErrAnd x (λ f. f ≡ t) → Proceeds image left (running g m) g n x
+run-refused image left g m n t (Ok p) runs same = absurd same
+run-refused image left g m n t (Err (trap.Fault f)) runs same =
+    rest-faults image left g m f (subst (λ (u : Trap). RunsWithin left m n (Err u)) (sym same) runs)
+run-refused image left g m n t (Err trap.NoMemory) runs same = tt
+
+-- what fails ends the turn with its fault
 pub rest-stops : (image : List ℕ) (left : ℕ) (r : Running) (g : Glk) (m : Machine) (t : Trap)
     (x : Result Stage AllocError)
-    → Advances (next_step image left r) g m (Err t) → Stops t x
-    → IfOk x (λ s. (g, s) ≡ rest image left r)
-rest-stops image left r g m (trap.Fault n) (Ok s) a p =
-    ap (λ (q : Stage). (g, q)) p ∙ sym (rest-rests image left r g (stage.Fault n) a)
+    → Proceeds image left r g m (Err t) → Stops t x → IfOk x (λ s. (g, s) ≡ rest image left r)
+rest-stops image left r g m (trap.Fault n) (Ok s) a p = ap (λ (q : Stage). (g, q)) p ∙ sym a
 rest-stops image left r g m (trap.Fault n) (Err e) a p = tt
 rest-stops image left r g m trap.NoMemory (Ok s) a p = absurd cc
 rest-stops image left r g m trap.NoMemory (Err e) a p = tt

@@ -1,5 +1,5 @@
 -- A turn: steps until the story waits or ends, within its budget (own).
-use Rattle.std.specs.Prelude.{◌≡◌, ℕ, zero, suc, ◌+◌, List, Result, Ok, Err, IfOk}
+use Rattle.std.specs.Prelude.{◌≡◌, ◌<◌, ℕ, zero, suc, ◌+◌, List, Result, Ok, Err, IfOk}
 use Rattle.std.specs.Prelude.{IsErr}
 use Rattle.std.specs.declared.alloc.AllocError.{AllocError}
 use Rattle.vm_exec.specs.Start.{finished}
@@ -12,7 +12,9 @@ use Rattle.glk_dispatch.specs.Events as events
 use Rattle.glk_dispatch.specs.declared.glk.Glk.{Glk}
 use Rattle.story_run.specs.Step.{Next, Runs, Rests, Running, machine_after_call, next_step, running}
 use Rattle.story_run.specs.declared.stage.Stage.{Stage}
-use Rattle.story_run.specs.declared.stage.Stage.TheVariants.{Fault}
+use Rattle.story_run.specs.declared.stage.Stage.TheVariants.{AtPrompt, AtSelect, Fault, Quit}
+use Rattle.story_run.specs.declared.step.Progress.{Progress}
+use Rattle.story_run.specs.declared.step.Progress.TheVariants as progress
 
 -- what comes after a step: further steps, or the turn is at rest
 abbrev pub after_step : (ℕ → Running → Glk × Stage) → Next → Glk × Stage
@@ -57,6 +59,17 @@ turn_resumed image budget (Err e) = (e.0, Fault e.1)
 -- a turn on an input, from the delivery on
 abbrev pub turn_on : List ℕ → ℕ → Glk → Machine → Input → Glk × Stage
 turn_on image budget g m input = turn_resumed image budget (delivered_to_call g m input)
+
+-- With so many ticks left the story came to this and left these, unless memory ran out: what was to
+-- do is what is left to do, on fewer ticks, or the turn has come to rest.
+abbrev pub Proceeds : List ℕ → ℕ → Running → Glk → Machine → Result Progress Trap → Type 0
+Proceeds image left r g m (Ok (progress.Runs l)) =
+    (rest image left r ≡ rest image l (running g m)) × (l < left)
+Proceeds image left r g m (Ok progress.Waits) = rest image left r ≡ (g, AtSelect m)
+Proceeds image left r g m (Ok progress.Prompts) = rest image left r ≡ (g, AtPrompt m)
+Proceeds image left r g m (Ok progress.Quits) = rest image left r ≡ (g, Quit)
+Proceeds image left r g m (Err (trap.Fault n)) = rest image left r ≡ (g, Fault n)
+Proceeds image left r g m (Err trap.NoMemory) = Unit {0}
 
 -- A trap became this stage: a fault, unless memory ran out.
 abbrev pub Stops : Trap → Result Stage AllocError → Type 0

@@ -5,14 +5,14 @@ ghost use Rattle.glk_dispatch.specs.Answer.{glk_call};
 ghost use Rattle.glk_dispatch.specs.declared.glk.Glk.{Glk};
 ghost use Rattle.glk_dispatch.specs.Call.{selector_called};
 ghost use Rattle.story_run.specs.Step.{Advances, after_glk_call, done, next_step, running};
-ghost use Rattle.story_run.specs.Turn.{rest};
+ghost use Rattle.story_run.specs.Turn.{Proceeds};
 ghost use Rattle.story_run.specs.World.{IsRunning, IsWaiting, StaysOver};
 
 use crate::save::{restore, save};
 use glk_dispatch::{Called, Glk, call, put_code};
 use glulx_image::Image;
 use std::alloc::Global;
-use vm_exec::{Machine, Step};
+use vm_exec::{Machine, Run, Step};
 use vm_memory::Trap;
 
 /// The fault of a turn that takes more ticks than its budget has.
@@ -28,22 +28,28 @@ pub(crate) enum Progress {
     Quits,
 }
 
-/// Does plain instructions of the story with this image, with so many ticks left, and gives the
-/// ticks that are left then.
-pub(crate) fn go_on<'i>(image: &Image<'i>, machine: &mut Machine<'i>, left: u64) -> u64
+/// Does quick instructions of the story with this image, with so many ticks left, and then a step.
+pub(crate) fn proceed<'i>(
+    alloc: Global,
+    glk: &mut Glk,
+    image: &Image<'i>,
+    machine: &mut Machine<'i>,
+    left: u64,
+) -> Result<Progress, Trap>
     requires { IsRunning image.now machine.old }
-    ensures same { (glk : Glk) → rest image.now left (running glk machine.old)
-        ≡ rest image.now result (running glk machine.new) }
-    ensures within { result ≤ left }
-    ensures kept { IsRunning image.now machine.new }
-    ensures seed { machine.new.random.seed ≡ machine.old.random.seed }
+    ensures does { Proceeds image.now left (running glk.old machine.old) glk.new machine.new result }
+    ensures kept { IfOk result (λ progress. StaysOver image.now machine.new progress) }
+    ensures seed { OnOk result (machine.new.random.seed ≡ machine.old.random.seed) }
 {
-    left - machine.run_on(left)
+    match machine.run_on(alloc, left)? {
+        Run::Did(ticks) => advance(alloc, glk, image, machine, left - ticks),
+        Run::Quits => Ok(Progress::Quits),
+    }
 }
 
-/// Does one step of the story with this image, with so many ticks left.
+// Does one step of the story with this image, with so many ticks left.
 #[tactic(auto, unfolding(crate::specs::Step::next_step))]
-pub(crate) fn advance<'i>(
+fn advance<'i>(
     alloc: Global,
     glk: &mut Glk,
     image: &Image<'i>,

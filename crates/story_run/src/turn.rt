@@ -11,7 +11,7 @@ ghost use Rattle.story_run.specs.declared.stage.Stage.TheVariants.{AtPrompt, AtS
 ghost use Rattle.vm_exec.specs.Start.{started};
 
 use crate::stage::Stage;
-use crate::step::{Progress, advance, go_on};
+use crate::step::{Progress, proceed};
 use glk_dispatch::{Glk, answer};
 use glk_input::Input;
 use glulx_image::Image;
@@ -35,8 +35,7 @@ fn run<'i>(
 {
     let mut left = budget;
     loop {
-        left = go_on(image, &mut machine, left);
-        match advance(alloc, glk, image, &mut machine, left) {
+        match proceed(alloc, glk, image, &mut machine, left) {
             Ok(Progress::Runs { left: rest }) => left = rest,
             Ok(Progress::Waits) => return Ok(at_select(machine)),
             Ok(Progress::Prompts) => return Ok(at_prompt(machine)),

@@ -1,6 +1,6 @@
 pub mod Told
-pub mod QuickLemmas
-pub mod PlainLemmas
+pub mod FetchLemmas
+pub mod RunLemmas
 pub mod ArgumentLemmas
 pub mod WithinLemmas
 pub mod DigitLemmas

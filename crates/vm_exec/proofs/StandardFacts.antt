@@ -1,15 +1,10 @@
 -- Values that the dictionary of opcodes gives, so that a wrong rule in the specs doesn't check.
-use Rattle.std.proofs.Common.{arith, ◌≡◌, ◌%◌, refl, [], ◌∷◌, replicate}
-use Rattle.vm_operand.specs.Instruction.{instruction_at, load_at, modes_at, opcode_number_at, operand, operands}
-use Rattle.vm_operand.specs.Mode.{mode_of, modes}
+use Rattle.std.proofs.Common.{arith, ◌≡◌, ◌%◌, refl, ◌∷◌, replicate}
+use Rattle.vm_operand.specs.Instruction.{opcode_number_at}
 use Rattle.vm_operand.specs.Opcode.{op_of, opcodes}
 use Rattle.vm_operand.specs.declared.opcode.Branch.TheVariants.{Jump}
 use Rattle.vm_operand.specs.declared.opcode.Op.TheVariants as op
-use Rattle.vm_operand.specs.declared.operand.Load.TheVariants as load
-use Rattle.vm_operand.specs.declared.operand.Dest.TheVariants as dest
-use Rattle.vm_exec.specs.Plain.{StopsAt}
-use Rattle.vm_exec.specs.Rows.Branch.{branch_work}
-use Rattle.vm_exec.specs.Rules.{loaded_all}
+use Rattle.vm_exec.specs.Run.{StopsAt}
 use Rattle.vm_exec.specs.declared.machine.Machine.{Machine}
 use Rattle.vm_exec.specs.declared.text.Text.TheVariants.{Off}
 use Rattle.vm_exec.specs.Rows.Array.{byte_with_bit, bit, with_bit, element}
@@ -57,28 +52,13 @@ a_word_below_a_negative_bound = refl
 -- a jump of three bytes, which a run may not stop before
 abbrev jumping : Machine → Machine
 jumping m = record m {
-  memory = record m.memory { bytes = 0x20 ∷ 0x01 ∷ 0x05 ∷ replicate 13 0; ramstart = 16 };
+  memory = record m.memory { bytes = 0x20 ∷ 0x01 ∷ 0x05 ∷ replicate 29 0; ramstart = 32 };
   pc = 0;
   text = Off;
 }
 
 a_run_goes_over_a_jump : (m : Machine) → StopsAt (jumping m) → ⊥
-unfolding opcode_number_at instruction_at modes_at mode_of modes operands operand load_at loaded_all branch_work op_of opcodes
+unfolding opcode_number_at op_of opcodes
 a_run_goes_over_a_jump m stops =
-    stops (op.Branch Jump) 1
-    (record {
-      op = 0x20;
-      loads = record { count = 1; items = load.Value 5 ∷ replicate 7 (load.Value 0) };
-      stores = record { count = 0; items = dest.Discard ∷ dest.Discard ∷ [] };
-      next = 3;
-    })
-    (5 ∷ replicate 7 0) (record (jumping m) { pc = 6 })
-    (record {
-      quiet = refl;
-      opcode = refl;
-      short = omega arith;
-      ready = record { below = omega arith; kind = tt; reads = refl; loads = refl };
-      aside = tt;
-      leads = omega arith;
-      does = refl;
-    })
+    stops refl (op.Branch Jump) 1
+    (record { opcode = refl; short = omega arith; below = omega arith; quick = tt })

@@ -1,5 +1,5 @@
 -- One tick before an opcode's work.
-use Rattle.std.proofs.Common.{IsErrAnd, ◌≡◌, ℕ, ◌+◌, ◌-◌, ◌<◌, Bool, true, false, nat_lt, Result, Ok, Err, refl, arith, List, replicate, take, slice_index, Option, Some, ◌∙◌, sym, ap, subst, cond}
+use Rattle.std.proofs.Common.{◌≡◌, ℕ, ◌+◌, ◌-◌, ◌<◌, Bool, true, false, nat_lt, Result, Ok, Err, refl, arith, List, replicate, take, slice_index, Option, Some, ◌∙◌, sym, ap, subst, cond}
 use Rattle.std.proofs.lemmas.Bool.Decides.{nat_tests}
 use Rattle.vm_memory.specs.Chaining.{◌>>=◌}
 use Rattle.vm_memory.specs.declared.fault.Trap.{Trap}
@@ -60,22 +60,3 @@ fetched_is m i x w width decoded taken =
     let all : loaded_all (width_of (op_of i.op)) m (take i.loads.count i.loads.items) 0 (replicate 8 0) ≡ Ok x =
     subst (λ (n : ℕ). loaded_all n m (take i.loads.count i.loads.items) 0 (replicate 8 0) ≡ Ok x) width taken in
     rw (← decoded, all) refl
-
--- an instruction whose loads can't be taken is their fault
-loads_fault : (left : ℕ) (m new : Machine) (i : Instr) (w : ℕ) (e : Trap) → 0 < left → w ≡ width_of (op_of i.op)
-    → instruction_at m.memory m.pc ≡ Ok i → Does {A = List ℕ} (loaded_all w m (take i.loads.count i.loads.items) 0 (replicate 8 0)) new (Err e)
-    → Does {A = Step} (step_within left (charged (fetched m))) new (Err e)
-loads_fault left m new i w (Fault n) h width decoded d =
-    let all : loaded_all (width_of (op_of i.op)) m (take i.loads.count i.loads.items) 0 (replicate 8 0) ≡ Err n =
-    subst (λ (k : ℕ). loaded_all k m (take i.loads.count i.loads.items) 0 (replicate 8 0) ≡ Err n) width d in
-    rw (decoded, all) (rw (one left h) refl)
-loads_fault left m new i w NoMemory h width decoded d = tt
-
--- the same of the answer that hands it on
-pub not_loaded : (left : ℕ) (m new : Machine) (i : Instr) (w : ℕ) (e : Trap) (r : Result Step Trap) → 0 < left → w ≡ width_of (op_of i.op)
-    → instruction_at m.memory m.pc ≡ Ok i → Does {A = List ℕ} (loaded_all w m (take i.loads.count i.loads.items) 0 (replicate 8 0)) new (Err e)
-    → IsErrAnd r (λ f. f ≡ e)
-    → Does {A = Step} (step_within left (charged (fetched m))) new r
-not_loaded left m new i w e (Ok s) h width decoded d same = absurd same
-not_loaded left m new i w e (Err f) h width decoded d same =
-    subst (λ (g : Trap). Does {A = Step} (step_within left (charged (fetched m))) new (Err g)) (sym same) (loads_fault left m new i w e h width decoded d)

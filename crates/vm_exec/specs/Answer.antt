@@ -34,8 +34,3 @@ abbrev pub LeavesTwoValues : {S T A : Type 0} → Result (S × T) ℕ → S → 
 LeavesTwoValues should new also (Ok x) = should ≡ Ok (new, also)
 LeavesTwoValues should new also (Err (Fault n)) = should ≡ Err n
 LeavesTwoValues should new also (Err NoMemory) = Unit {0}
-
--- The call isn't refused for want of the host's memory.
-abbrev pub NeedsNoMemory : {A : Type 0} → Result A Trap → Type 0
-NeedsNoMemory (Err NoMemory) = ⊥
-NeedsNoMemory _ = Unit {0}

@@ -7,7 +7,7 @@ pub mod TextStub
 pub mod Rules
 pub mod Rows
 pub mod Row
-pub mod Quick
-pub mod Plain
+pub mod Fetch
+pub mod Run
 pub mod Start
 pub mod Fields

@@ -63,11 +63,6 @@ stored_in n m dest.Push x =
 abbrev pub stored : Machine → d.Dest → ℕ → Result Machine ℕ
 stored m to x = stored_in 4 m to x
 
--- a store that isn't to memory, where the host's may be wanting
-abbrev pub IsAside : d.Dest → Type 0
-IsAside (dest.At a) = ⊥
-IsAside _ = Unit {0}
-
 abbrev pub tells_out : Machine → Out → Rule
 tells_out m out = Ok (m, out)
 

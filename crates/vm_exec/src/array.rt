@@ -1,16 +1,13 @@
 //! Array data.
 
 ghost use Rattle.std.specs.Prelude.{◌≡◌, ◌≤◌, ◌<◌, ◌+◌, ◌^◌, IfOk, OnOk};
-ghost use Rattle.std.specs.Prelude.{slice_index, OnErr};
-ghost use Rattle.vm_exec.specs.Answer.{Does, NeedsNoMemory};
+ghost use Rattle.std.specs.Prelude.{slice_index};
+ghost use Rattle.vm_exec.specs.Answer.{Does};
 ghost use Rattle.vm_exec.specs.Machine.{IsFit, StaysFit};
-ghost use Rattle.vm_exec.specs.Quick.{IsRunOpcode};
 ghost use Rattle.vm_exec.specs.Row.{dest_by_index};
 ghost use Rattle.vm_exec.specs.Rows.Array as rows;
 ghost use Rattle.vm_exec.specs.Rows.Work.{DoesAtNoCost, budgeted};
 ghost use Rattle.vm_exec.specs.Rules as rules;
-ghost use Rattle.vm_exec.specs.Rules.{IsAside};
-ghost use Rattle.vm_operand.specs.declared.opcode.Op.TheVariants as opcode;
 
 use crate::Machine;
 use crate::step::{Done, Out};
@@ -23,9 +20,6 @@ impl<'i> Machine<'i> {
         ensures does { DoesAtNoCost
             (rules.reads_to self.old to 4 (rows.element 4 from index))
             self.new result }
-        ensures aside { IsAside to → NeedsNoMemory result }
-        ensures err { OnErr result (self.new ≡ self.old) }
-        ensures still { self.new.text ≡ self.old.text }
         ensures fit { IsFit self.old → IfOk result (λ done. StaysFit self.new done.out) }
     {
         let value = self.memory.read4(from.wrapping_add(index.wrapping_mul(4)))?;
@@ -37,9 +31,6 @@ impl<'i> Machine<'i> {
         ensures does { DoesAtNoCost
             (rules.reads_to self.old to 2 (rows.element 2 from index))
             self.new result }
-        ensures aside { IsAside to → NeedsNoMemory result }
-        ensures err { OnErr result (self.new ≡ self.old) }
-        ensures still { self.new.text ≡ self.old.text }
         ensures fit { IsFit self.old → IfOk result (λ done. StaysFit self.new done.out) }
     {
         let value = self.memory.read2(from.wrapping_add(index.wrapping_mul(2)))?;
@@ -51,9 +42,6 @@ impl<'i> Machine<'i> {
         ensures does { DoesAtNoCost
             (rules.reads_to self.old to 1 (rules.wrap (from + index)))
             self.new result }
-        ensures aside { IsAside to → NeedsNoMemory result }
-        ensures err { OnErr result (self.new ≡ self.old) }
-        ensures still { self.new.text ≡ self.old.text }
         ensures fit { IsFit self.old → IfOk result (λ done. StaysFit self.new done.out) }
     {
         let value = self.memory.read1(from.wrapping_add(index))?;
@@ -63,9 +51,6 @@ impl<'i> Machine<'i> {
     #[inline(always)]
     fn aloadbit(&mut self, from: u32, index: u32, to: Dest) -> Result<Done, Trap>
         ensures does { DoesAtNoCost (rows.loads_bit self.old from index to) self.new result }
-        ensures aside { IsAside to → NeedsNoMemory result }
-        ensures err { OnErr result (self.new ≡ self.old) }
-        ensures still { self.new.text ≡ self.old.text }
         ensures fit { IsFit self.old → IfOk result (λ done. StaysFit self.new done.out) }
     {
         let byte = self.memory.read1(byte_with_bit(from, index))?;
@@ -77,8 +62,6 @@ impl<'i> Machine<'i> {
         ensures does { DoesAtNoCost
             (rules.writes self.old 4 (rows.element 4 from index) value)
             self.new result }
-        ensures err { OnErr result (self.new ≡ self.old) }
-        ensures still { self.new.text ≡ self.old.text }
         ensures fit { IsFit self.old → IfOk result (λ done. StaysFit self.new done.out) }
     {
         self.memory
@@ -91,8 +74,6 @@ impl<'i> Machine<'i> {
         ensures does { DoesAtNoCost
             (rules.writes self.old 2 (rows.element 2 from index) value)
             self.new result }
-        ensures err { OnErr result (self.new ≡ self.old) }
-        ensures still { self.new.text ≡ self.old.text }
         ensures fit { IsFit self.old → IfOk result (λ done. StaysFit self.new done.out) }
     {
         self.memory
@@ -105,8 +86,6 @@ impl<'i> Machine<'i> {
         ensures does { DoesAtNoCost
             (rules.writes self.old 1 (rules.wrap (from + index)) value)
             self.new result }
-        ensures err { OnErr result (self.new ≡ self.old) }
-        ensures still { self.new.text ≡ self.old.text }
         ensures fit { IsFit self.old → IfOk result (λ done. StaysFit self.new done.out) }
     {
         self.memory.write1(from.wrapping_add(index), value)?;
@@ -116,8 +95,6 @@ impl<'i> Machine<'i> {
     #[inline(always)]
     fn astorebit(&mut self, from: u32, index: u32, value: u32) -> Result<Done, Trap>
         ensures does { DoesAtNoCost (rows.stores_bit self.old from index value) self.new result }
-        ensures err { OnErr result (self.new ≡ self.old) }
-        ensures still { self.new.text ≡ self.old.text }
         ensures fit { IsFit self.old → IfOk result (λ done. StaysFit self.new done.out) }
     {
         let at = byte_with_bit(from, index);
@@ -139,10 +116,6 @@ impl<'i> Machine<'i> {
             (budgeted left
             (rows.array_work op self.old (slice_index args.now) (dest_by_index to.now)))
             self.new result }
-        ensures aside { IsRunOpcode (opcode.Array op) → IsAside (dest_by_index to.now 0)
-            → NeedsNoMemory result }
-        ensures err { OnErr result (self.new ≡ self.old) }
-        ensures still { self.new.text ≡ self.old.text }
         ensures fit { IsFit self.old → IfOk result (λ done. StaysFit self.new done.out) }
         ensures within { IfOk result (λ done. done.cost ≤ left) }
     {

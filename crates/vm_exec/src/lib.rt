@@ -4,7 +4,7 @@
 mod arguments;
 mod array;
 mod branch;
-mod brief;
+mod fetch;
 mod fields;
 mod function;
 mod heap;
@@ -16,7 +16,6 @@ mod operand;
 mod output;
 mod parts;
 mod perform;
-mod plain;
 mod quick;
 mod random;
 mod saving;
@@ -33,6 +32,7 @@ mod values;
 
 pub use fields::{MachineFields, store_fields, store_of_fields};
 pub use machine::Machine;
+pub use quick::Run;
 pub use random::Random;
 pub use step::{Done, Out, Step, Waiting};
 pub use text::Text;

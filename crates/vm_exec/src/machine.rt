@@ -26,7 +26,7 @@ use std::alloc::Global;
 use vm_flow::call;
 use vm_heap::Heap;
 use vm_memory::{Memory, Trap};
-use vm_operand::{Dest, Op, decode, decode_brief};
+use vm_operand::{Dest, Op, decode};
 use vm_stack::Stack;
 use vm_string::Cursor;
 use vm_undo::Undo;
@@ -169,19 +169,6 @@ impl<'i> Machine<'i> {
 
     // One tick, and then the instruction at the PC.
     fn instruction(&mut self, alloc: Global, left: u64) -> Result<Step, Trap>
-        requires { 0 < left }
-        ensures does { Does (step_within left (charged (fetched self.old))) self.new result }
-        ensures fit { IsFit self.old → IfOk result (λ step. GoesOnFit self.new step) }
-        ensures cost { IfOk result (λ step. IsPriced left step) }
-    {
-        match decode_brief(&self.memory, self.pc) {
-            Some(brief) if width_of(Some(brief.op)) == 4 => self.brief(alloc, brief, left),
-            _ => self.plain(alloc, left),
-        }
-    }
-
-    // The same for every instruction.
-    fn plain(&mut self, alloc: Global, left: u64) -> Result<Step, Trap>
         requires { 0 < left }
         ensures does { Does (step_within left (charged (fetched self.old))) self.new result }
         ensures fit { IsFit self.old → IfOk result (λ step. GoesOnFit self.new step) }

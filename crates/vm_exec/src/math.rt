@@ -1,12 +1,11 @@
 //! Integer math.
 
-ghost use Rattle.std.specs.Prelude.{◌≡◌, ◌≤◌, IfOk, OnErr, OnOk, slice_index};
-ghost use Rattle.vm_exec.specs.Answer.{Does, NeedsNoMemory};
+ghost use Rattle.std.specs.Prelude.{◌≡◌, ◌≤◌, IfOk, OnOk, slice_index};
+ghost use Rattle.vm_exec.specs.Answer.{Does};
 ghost use Rattle.vm_exec.specs.Machine.{IsFit, StaysFit};
 ghost use Rattle.vm_exec.specs.Row.{dest_by_index};
 ghost use Rattle.vm_exec.specs.Rows.Math.{math_work};
 ghost use Rattle.vm_exec.specs.Rows.Work.{budgeted};
-ghost use Rattle.vm_exec.specs.Rules.{IsAside};
 
 use crate::Machine;
 use crate::step::Done;
@@ -26,9 +25,6 @@ impl<'i> Machine<'i> {
         ensures does { Does
             (budgeted left (math_work op self.old (slice_index args.now) (dest_by_index to.now)))
             self.new result }
-        ensures aside { IsAside (dest_by_index to.now 0) → NeedsNoMemory result }
-        ensures err { OnErr result (self.new ≡ self.old) }
-        ensures still { self.new.text ≡ self.old.text }
         ensures fit { IsFit self.old → IfOk result (λ done. StaysFit self.new done.out) }
         ensures within { IfOk result (λ done. done.cost ≤ left) }
     {

@@ -1,12 +1,11 @@
 //! Moving data.
 
-ghost use Rattle.std.specs.Prelude.{◌≡◌, ◌≤◌, IfOk, OnErr, OnOk, slice_index};
-ghost use Rattle.vm_exec.specs.Answer.{Does, NeedsNoMemory};
+ghost use Rattle.std.specs.Prelude.{◌≡◌, ◌≤◌, IfOk, OnOk, slice_index};
+ghost use Rattle.vm_exec.specs.Answer.{Does};
 ghost use Rattle.vm_exec.specs.Machine.{IsFit, StaysFit};
 ghost use Rattle.vm_exec.specs.Row.{dest_by_index};
 ghost use Rattle.vm_exec.specs.Rows.Moving as rows;
 ghost use Rattle.vm_exec.specs.Rows.Work.{DoesAtNoCost, budgeted};
-ghost use Rattle.vm_exec.specs.Rules.{IsAside};
 ghost use Rattle.vm_stack.specs.Locals.{IsWidth};
 
 use crate::Machine;
@@ -18,9 +17,6 @@ impl<'i> Machine<'i> {
     fn put_in(&mut self, width: u32, to: Dest, value: u32) -> Result<Done, Trap>
         requires { IsWidth width }
         ensures does { DoesAtNoCost (rows.puts_in width self.old to value) self.new result }
-        ensures aside { IsAside to → NeedsNoMemory result }
-        ensures err { OnErr result (self.new ≡ self.old) }
-        ensures still { self.new.text ≡ self.old.text }
         ensures fit { IsFit self.old → IfOk result (λ done. StaysFit self.new done.out) }
     {
         self.store_in(width, to, value)?;
@@ -40,9 +36,6 @@ impl<'i> Machine<'i> {
             (budgeted left
             (rows.move_work op self.old (slice_index args.now) (dest_by_index to.now)))
             self.new result }
-        ensures aside { IsAside (dest_by_index to.now 0) → NeedsNoMemory result }
-        ensures err { OnErr result (self.new ≡ self.old) }
-        ensures still { self.new.text ≡ self.old.text }
         ensures fit { IsFit self.old → IfOk result (λ done. StaysFit self.new done.out) }
         ensures within { IfOk result (λ done. done.cost ≤ left) }
     {

@@ -1,11 +1,10 @@
 //! Loads and stores.
 
 ghost use Rattle.std.specs.Prelude.{◌≡◌, ◌⊎◌, ◌≤◌, ◌+◌, ◌%◌, ◌^◌};
-ghost use Rattle.std.specs.Prelude.{length, OnErr, OnOk};
-ghost use Rattle.vm_exec.specs.Answer.{Changes, Does, LeavesTwoValues, NeedsNoMemory};
+ghost use Rattle.std.specs.Prelude.{length, OnOk};
+ghost use Rattle.vm_exec.specs.Answer.{Changes, Does, LeavesTwoValues};
 ghost use Rattle.vm_exec.specs.Machine.{IsFit};
 ghost use Rattle.vm_exec.specs.Rules as rules;
-ghost use Rattle.vm_exec.specs.Rules.{IsAside};
 ghost use Rattle.vm_stack.specs.Locals.{IsWidth};
 ghost use Rattle.vm_operand.specs.declared.operand.Load.TheVariants as load;
 ghost use Rattle.vm_operand.specs.declared.operand.Dest.TheVariants as dest;
@@ -21,6 +20,8 @@ impl<'i> Machine<'i> {
     pub(crate) fn load(&mut self, width: u32, from: Load) -> Result<u32, Trap>
         requires { IsWidth width }
         ensures does { Does (rules.operand_loaded width self.old from) self.new result }
+        ensures memory { self.new.memory ≡ self.old.memory }
+        ensures pc { self.new.pc ≡ self.old.pc }
         ensures fit { IsFit self.old → OnOk result (IsFit self.new) }
     {
         match from {
@@ -51,9 +52,6 @@ impl<'i> Machine<'i> {
     pub(crate) fn store_in(&mut self, width: u32, to: Dest, value: u32) -> Result<(), Trap>
         requires { IsWidth width }
         ensures does { Changes (rules.stored_in width self.old to value) self.new result }
-        ensures aside { IsAside to → NeedsNoMemory result }
-        ensures err { OnErr result (self.new ≡ self.old) }
-        ensures still { self.new.text ≡ self.old.text }
         ensures fit { IsFit self.old → OnOk result (IsFit self.new) }
     {
         match to {
@@ -68,8 +66,6 @@ impl<'i> Machine<'i> {
     fn store_at(&mut self, width: u32, at: u32, value: u32) -> Result<(), Trap>
         requires { IsWidth width }
         ensures does { Changes (rules.stored_in width self.old (dest.At at) value) self.new result }
-        ensures err { OnErr result (self.new ≡ self.old) }
-        ensures still { self.new.text ≡ self.old.text }
         ensures fit { IsFit self.old → OnOk result (IsFit self.new) }
     {
         match width {
@@ -84,9 +80,6 @@ impl<'i> Machine<'i> {
     #[inline(always)]
     pub(crate) fn store(&mut self, to: Dest, value: u32) -> Result<(), Trap>
         ensures does { Changes (rules.stored self.old to value) self.new result }
-        ensures aside { IsAside to → NeedsNoMemory result }
-        ensures err { OnErr result (self.new ≡ self.old) }
-        ensures still { self.new.text ≡ self.old.text }
         ensures fit { IsFit self.old → OnOk result (IsFit self.new) }
     {
         self.store_in(4, to, value)

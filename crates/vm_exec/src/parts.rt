@@ -1,11 +1,9 @@
 //! What instructions are made of.
 
-ghost use Rattle.std.specs.Prelude.{◌≡◌, IfOk, IsOk, OnErr};
-ghost use Rattle.vm_exec.specs.Answer.{NeedsNoMemory};
+ghost use Rattle.std.specs.Prelude.{◌≡◌, IfOk, IsOk};
 ghost use Rattle.vm_exec.specs.Machine.{IsFit, StaysFit};
 ghost use Rattle.vm_exec.specs.Rows.Work.{DoesAtNoCost};
 ghost use Rattle.vm_exec.specs.Rules as rules;
-ghost use Rattle.vm_exec.specs.Rules.{IsAside};
 
 use crate::Machine;
 use crate::step::{Done, Out};
@@ -25,9 +23,6 @@ impl<'i> Machine<'i> {
     #[inline(always)]
     pub(crate) fn put(&mut self, to: Dest, value: u32) -> Result<Done, Trap>
         ensures does { DoesAtNoCost (rules.puts self.old to value) self.new result }
-        ensures aside { IsAside to → NeedsNoMemory result }
-        ensures err { OnErr result (self.new ≡ self.old) }
-        ensures still { self.new.text ≡ self.old.text }
         ensures fit { IsFit self.old → IfOk result (λ done. StaysFit self.new done.out) }
     {
         self.store(to, value)?;

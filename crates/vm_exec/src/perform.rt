@@ -18,7 +18,7 @@ use vm_operand::{Dest, Move, Op};
 impl<'i> Machine<'i> {
     /// What the opcode's row says.
     #[inline(always)]
-    fn perform(
+    pub(crate) fn perform(
         &mut self,
         alloc: Global,
         op: Op,

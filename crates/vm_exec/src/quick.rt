@@ -1,283 +1,289 @@
-//! The most common instructions, whose loads leave the machine as it is. None leaves the step to
-//! another body.
+//! Runs of quick instructions: arithmetic, arrays, copy, branches, calls and returns below
+//! RAMSTART. Each takes one tick, and tells nothing unless the story has quit.
 
-ghost use Rattle.std.specs.Prelude.{ℕ, ◌≡◌, ◌≤◌, ◌<◌, ◌+◌, [], ◌∷◌};
-ghost use Rattle.std.specs.Prelude.{IfSome, IsErr, None, Ok, Some, replicate};
-ghost use Rattle.vm_exec.specs.Quick.{IsFetched, IsNear, IsTaken, IsUnready};
-ghost use Rattle.vm_exec.specs.Row as row;
-ghost use Rattle.vm_exec.specs.Rules.{operand_loaded};
-ghost use Rattle.vm_memory.specs.Access.{read};
-ghost use Rattle.vm_memory.specs.Code.{IsCode};
-ghost use Rattle.vm_operand.specs.Brief as brief;
-ghost use Rattle.vm_operand.specs.Brief.{OpcodeAt};
-ghost use Rattle.vm_operand.specs.Opcode.{kinds_of};
-ghost use Rattle.vm_operand.specs.declared.opcode.Op.{Op};
+ghost use Rattle.std.specs.Prelude.{◌≡◌, ◌<◌, ℕ, List, IfOk, OnOk, false, true};
+ghost use Rattle.vm_exec.specs.Fetch.{Fetches, IsAtHand};
+ghost use Rattle.vm_exec.specs.Machine.{IsFit, IsSoundMachine, KeepsImage};
+ghost use Rattle.vm_exec.specs.Run.{GoesBy, IfDid, IsQuickOpcode, RunsWithin, StaysOn, StopsAt};
+ghost use Rattle.vm_exec.specs.Run.{Works, went_of, work_for};
+ghost use Rattle.vm_exec.specs.Rules.{branches, returns};
+ghost use Rattle.vm_exec.specs.Rows.Work.{Free};
+ghost use Rattle.vm_exec.specs.Start.{IsOver};
+ghost use Rattle.vm_exec.specs.declared.text.Text.TheVariants as text;
 ghost use Rattle.vm_operand.specs.declared.opcode.Op.TheVariants as op;
-ghost use Rattle.vm_operand.specs.declared.operand.Kind.TheVariants as kind;
-ghost use Rattle.vm_operand.specs.declared.operand.Load as l;
+ghost use Rattle.vm_operand.specs.declared.opcode.Move.TheVariants.{Copy};
 
 use crate::Machine;
-use vm_memory::MAX_SIZE;
-use vm_operand::{Array, Branch, Dest, Load, Math, Op, dest_in, load_in, opcode_in};
+use crate::fetch::Fetched;
+use crate::step::{Done, Out};
+use crate::text::Text;
+use std::alloc::Global;
+use vm_memory::Trap;
+use vm_operand::{Array, Branch, Dest, Flow, Math, Move, Op, opcode_in};
 
-/// The values of an instruction's loads, where it stores, and the next address.
+/// What a run came to: so many instructions were done, or the story has quit.
 #[derive(Clone, Copy, Debug, PartialEq, Eq)]
-pub(crate) struct Quick {
-    pub(crate) first: u32,
-    pub(crate) second: u32,
-    pub(crate) third: u32,
-    pub(crate) to: Dest,
-    pub(crate) next: u32,
+pub enum Run {
+    Did(u64),
+    Quits,
 }
 
-impl Quick {
-    /// The values of the loads, and zeros up to the eighth.
-    #[inline(always)]
-    pub(crate) fn args(self) -> [u32; 8]
-        ensures { result ≡ self.first ∷ self.second ∷ self.third ∷ replicate 5 0 }
-    {
-        [self.first, self.second, self.third, 0, 0, 0, 0, 0]
-    }
-}
-
-/// A load, its value, and the place after its bytes.
+/// What a quick step came to: the story goes on, or has quit; or it is left to another body, since
+/// no quick instruction is at the PC.
 #[derive(Clone, Copy, Debug, PartialEq, Eq)]
-struct Taken {
-    load: Load,
-    value: u32,
-    next: u32,
+pub(crate) enum Went {
+    On,
+    Quits,
+    Aside,
 }
 
 impl<'i> Machine<'i> {
-    /// Arithmetic of two loads and a store; None for that of one load.
+    /// Does quick instructions, at most so many, up to the first that isn't one and while no text
+    /// is in progress. The fault is that of the instruction behind those that were done.
+    pub fn run_on(&mut self, alloc: Global, most: u64) -> Result<Run, Trap>
+        ensures runs { RunsWithin most self.old self.new result }
+        ensures stops { IfDid result (λ k. k < most → StopsAt self.new) }
+        ensures fit { IsSoundMachine self.old → IfDid result (λ k. IsSoundMachine self.new) }
+        ensures kept { IsSoundMachine self.old → OnOk result (KeepsImage self.old self.new) }
+        ensures over { (image : List ℕ) → IsSoundMachine self.old → IsOver image self.old
+            → OnOk result (IsOver image self.new) }
+    {
+        let mut done = 0;
+        while done < most && self.is_quiet() {
+            match self.quick_step(alloc) {
+                Ok(Went::On) => done += 1,
+                Ok(Went::Quits) => return Ok(Run::Quits),
+                Ok(Went::Aside) => return Ok(Run::Did(done)),
+                Err(trap) => return Err(trap),
+            }
+        }
+        Ok(Run::Did(done))
+    }
+
+    // Whether no text is in progress.
     #[inline(always)]
-    pub(crate) fn quick_math(&self, math: Math, place: u32) -> Option<Quick>
-        requires here { OpcodeAt self.now.memory self.now.pc (op.Math math) place }
-        requires near { IsNear self.now.pc place }
-        ensures fetched { IfSome result (λ quick. IsFetched self.now (op.Math math) quick) }
-        ensures taken { IfSome result (λ quick. IsTaken self.now quick) }
-        ensures none { result ≡ None → IsUnready self.now (op.Math math) }
+    fn is_quiet(&self) -> bool
+        ensures quiet { result ≡ true → self.now.text ≡ text.Off }
+        ensures busy { result ≡ false → ¬ (self.now.text ≡ text.Off) }
+    {
+        matches!(self.text, Text::Off)
+    }
+
+    // The instruction at the PC, if it is a quick one.
+    #[inline(always)]
+    fn quick_step(&mut self, alloc: Global) -> Result<Went, Trap>
+        ensures does { GoesBy self.old self.new result }
+        ensures fit { IsFit self.old → IfOk result (λ went. StaysOn self.new went) }
+    {
+        let Some(code) = self.memory.code_at(self.pc) else {
+            return Ok(Went::Aside);
+        };
+        let Some((op, place)) = opcode_in(&self.memory, code, self.pc) else {
+            return Ok(Went::Aside);
+        };
+        match op {
+            Op::Math(math) => {
+                let fetched = self.fetch_math(math, code, place)?;
+                self.math_on(math, fetched)
+            }
+            Op::Array(array) => {
+                let fetched = self.fetch_array(array, code, place)?;
+                self.work_on(alloc, op, fetched)
+            }
+            Op::Branch(branch) => {
+                let fetched = self.fetch_branch(branch, code, place)?;
+                self.branch_on(branch, fetched)
+            }
+            Op::Move(Move::Copy) => {
+                let fetched = self.one_and_store(op, code, place)?;
+                self.copy_on(fetched)
+            }
+            Op::Flow(
+                flow @ (Flow::Call
+                | Flow::Return
+                | Flow::Throw
+                | Flow::Tailcall
+                | Flow::Callf
+                | Flow::Callfi
+                | Flow::Callfii
+                | Flow::Callfiii),
+            ) => self.flow_step(alloc, flow, code, place),
+            Op::Flow(Flow::Catch) => Ok(Went::Aside),
+            Op::Move(Move::Copys) => Ok(Went::Aside),
+            Op::Move(Move::Copyb) => Ok(Went::Aside),
+            Op::Move(Move::Sexs) => Ok(Went::Aside),
+            Op::Move(Move::Sexb) => Ok(Went::Aside),
+            Op::Values(_) => Ok(Went::Aside),
+            Op::Stream(_) => Ok(Went::Aside),
+            Op::State(_) => Ok(Went::Aside),
+            Op::System(_) => Ok(Went::Aside),
+            Op::Search(_) => Ok(Went::Aside),
+        }
+    }
+
+    // A call or a return.
+    #[inline(never)]
+    fn flow_step(
+        &mut self,
+        alloc: Global,
+        flow: Flow,
+        code: &[u8],
+        place: u32,
+    ) -> Result<Went, Trap>
+        requires here { IsAtHand self.old (op.Flow flow) place code.now }
+        requires quick { IsQuickOpcode (op.Flow flow) }
+        ensures does { GoesBy self.old self.new result }
+        ensures fit { IsFit self.old → IfOk result (λ went. StaysOn self.new went) }
+    {
+        let fetched = self.fetch_flow(flow, code, place)?;
+        self.work_on(alloc, Op::Flow(flow), fetched)
+    }
+
+    // What the row of such an opcode says.
+    #[inline(always)]
+    fn work_on(&mut self, alloc: Global, op: Op, fetched: Fetched) -> Result<Went, Trap>
+        requires { IsQuickOpcode op }
+        ensures does { Works (work_for op self.old fetched) self.new result }
+        ensures fit { IsFit self.old → IfOk result (λ went. StaysOn self.new went) }
+    {
+        let args = fetched.args();
+        let done = self.perform(alloc, op, &args, &[fetched.to, Dest::Discard], 0)?;
+        Ok(done.went())
+    }
+
+    // The value of an operation is stored.
+    #[inline(always)]
+    #[tactic(auto, unfolding(crate::specs::Rows::Math::math_work))]
+    fn math_on(&mut self, math: Math, fetched: Fetched) -> Result<Went, Trap>
+        ensures does { Works (work_for (op.Math math) self.old fetched) self.new result }
+        ensures fit { IsFit self.old → IfOk result (λ went. StaysOn self.new went) }
+    {
+        let value = math.apply(fetched.first, fetched.second)?;
+        self.store(fetched.to, value)?;
+        Ok(Went::On)
+    }
+
+    // A load is stored.
+    #[inline(always)]
+    #[tactic(auto, unfolding(crate::specs::Rows::Moving::move_work))]
+    fn copy_on(&mut self, fetched: Fetched) -> Result<Went, Trap>
+        ensures does { Works (work_for (op.Move Copy) self.old fetched) self.new result }
+        ensures fit { IsFit self.old → IfOk result (λ went. StaysOn self.new went) }
+    {
+        self.store(fetched.to, fetched.first)?;
+        Ok(Went::On)
+    }
+
+    // The story goes on where the branch leads.
+    #[inline(always)]
+    #[tactic(auto, unfolding(crate::specs::Rows::Branch::branch_work))]
+    fn branch_on(&mut self, branch: Branch, fetched: Fetched) -> Result<Went, Trap>
+        ensures does { Works (work_for (op.Branch branch) self.old fetched) self.new result }
+        ensures fit { IsFit self.old → IfOk result (λ went. StaysOn self.new went) }
+    {
+        let holds = branch.holds(fetched.first, fetched.second);
+        match branch {
+            Branch::Jump => self.jump_on(fetched.first),
+            Branch::Jumpabs => {
+                self.pc = fetched.first;
+                Ok(Went::On)
+            }
+            _ if !holds => Ok(Went::On),
+            Branch::Jz | Branch::Jnz => self.jump_on(fetched.second),
+            _ => self.jump_on(fetched.third),
+        }
+    }
+
+    // By an offset, of which 0 and 1 return that value.
+    #[inline(always)]
+    fn jump_on(&mut self, offset: u32) -> Result<Went, Trap>
+        ensures does { Works (Free (branches self.old offset)) self.new result }
+        ensures fit { IsFit self.old → IfOk result (λ went. StaysOn self.new went) }
+    {
+        if offset == 0 || offset == 1 {
+            return self.return_on(offset);
+        }
+        self.pc = self.pc.wrapping_add(offset).wrapping_sub(2);
+        Ok(Went::On)
+    }
+
+    // The function returns.
+    #[inline(never)]
+    fn return_on(&mut self, value: u32) -> Result<Went, Trap>
+        ensures does { Works (Free (returns self.old value)) self.new result }
+        ensures fit { IsFit self.old → IfOk result (λ went. StaysOn self.new went) }
+    {
+        let done = self.give_back(value)?;
+        Ok(done.went())
+    }
+
+    #[inline(always)]
+    fn fetch_math(&mut self, math: Math, code: &[u8], place: u32) -> Result<Fetched, Trap>
+        requires here { IsAtHand self.old (op.Math math) place code.now }
+        ensures fetched { Fetches self.old (op.Math math) self.new result }
+        ensures fit { IsFit self.old → IfOk result (λ _. IsFit self.new) }
     {
         if math.is_binary() {
-            self.two_and_store(Op::Math(math), place)
+            self.two_and_store(Op::Math(math), code, place)
         } else {
-            None
+            self.one_and_store(Op::Math(math), code, place)
         }
     }
 
-    /// A branch, of one load to three.
     #[inline(always)]
-    pub(crate) fn quick_branch(&self, branch: Branch, place: u32) -> Option<Quick>
-        requires here { OpcodeAt self.now.memory self.now.pc (op.Branch branch) place }
-        requires near { IsNear self.now.pc place }
-        ensures fetched { IfSome result (λ quick. IsFetched self.now (op.Branch branch) quick) }
-        ensures taken { IfSome result (λ quick. IsTaken self.now quick) }
-        ensures none { result ≡ None → IsUnready self.now (op.Branch branch) }
-    {
-        match branch.loads() {
-            1 => self.one(Op::Branch(branch), place),
-            2 => self.two(Op::Branch(branch), place),
-            3 => self.three(Op::Branch(branch), place),
-            _ => None,
-        }
-    }
-
-    /// A read of an array, or a write.
-    #[inline(always)]
-    pub(crate) fn quick_array(&self, array: Array, place: u32) -> Option<Quick>
-        requires here { OpcodeAt self.now.memory self.now.pc (op.Array array) place }
-        requires near { IsNear self.now.pc place }
-        ensures fetched { IfSome result (λ quick. IsFetched self.now (op.Array array) quick) }
-        ensures taken { IfSome result (λ quick. IsTaken self.now quick) }
-        ensures none { result ≡ None → IsUnready self.now (op.Array array) }
+    fn fetch_array(&mut self, array: Array, code: &[u8], place: u32) -> Result<Fetched, Trap>
+        requires here { IsAtHand self.old (op.Array array) place code.now }
+        ensures fetched { Fetches self.old (op.Array array) self.new result }
+        ensures fit { IsFit self.old → IfOk result (λ _. IsFit self.new) }
     {
         if array.reads() {
-            self.two_and_store(Op::Array(array), place)
+            self.two_and_store(Op::Array(array), code, place)
         } else {
-            self.three(Op::Array(array), place)
+            self.three(Op::Array(array), code, place)
         }
     }
 
-    // A load by the number of its mode, with its value where it isn't from the stack.
     #[inline(always)]
-    fn taken(&self, code: &[u8], number: u32, at: u32) -> Option<Taken>
-        requires here { IsCode self.now.memory self.now.pc code.now }
-        requires limit { self.now.pc + 16 ≤ MAX_SIZE }
-        requires low { self.now.pc ≤ at }
-        requires high { at + 4 ≤ self.now.pc + 16 }
-        ensures load { IfSome result (λ x.
-            brief.load_by self.now.memory number at ≡ Ok (x.load, x.next)) }
-        ensures value { IfSome result
-            (λ x. operand_loaded 4 self.now x.load ≡ Ok (self.now, x.value)) }
-        ensures none { result ≡ None → (x : l.Load × ℕ) (v : ℕ)
-            → brief.load_by self.now.memory number at ≡ Ok x
-            → operand_loaded 4 self.now x.0 ≡ Ok (self.now, v) → ⊥ }
-        ensures above { IfSome result (λ x. at ≤ x.next) }
-        ensures below { IfSome result (λ x. x.next ≤ at + 4) }
+    fn fetch_branch(&mut self, branch: Branch, code: &[u8], place: u32) -> Result<Fetched, Trap>
+        requires here { IsAtHand self.old (op.Branch branch) place code.now }
+        ensures fetched { Fetches self.old (op.Branch branch) self.new result }
+        ensures fit { IsFit self.old → IfOk result (λ _. IsFit self.new) }
     {
-        let (load, next) = load_in(&self.memory, code, self.pc, number, at)?;
-        let value = self.value(load)?;
-        Some(Taken { load, value, next })
-    }
-
-    // The value of a load that isn't from the stack.
-    #[inline(always)]
-    fn value(&self, from: Load) -> Option<u32>
-        ensures value { IfSome result (λ x. operand_loaded 4 self.now from ≡ Ok (self.now, x)) }
-        ensures none { result ≡ None → (x : ℕ)
-            → operand_loaded 4 self.now from ≡ Ok (self.now, x) → ⊥ }
-    {
-        match from {
-            Load::Value(value) => Some(value),
-            Load::At(at) => self.word(at),
-            Load::Local(offset) => self.stack.local(offset, 4).ok(),
-            Load::Pop => None,
+        match branch.loads() {
+            1 => self.one(Op::Branch(branch), code, place),
+            2 => self.two(Op::Branch(branch), code, place),
+            _ => self.three(Op::Branch(branch), code, place),
         }
     }
 
-    // The word at an address.
-    #[inline(never)]
-    fn word(&self, at: u32) -> Option<u32>
-        ensures value { IfSome result (λ x. read 4 self.now.memory at ≡ Ok x) }
-        ensures none { result ≡ None → IsErr (read 4 self.now.memory at) }
-    {
-        self.memory.read4(at).ok()
-    }
-
-    /// The opcode at the PC and the place of its operands' modes, where the instruction is below
-    /// RAMSTART.
     #[inline(always)]
-    pub(crate) fn opcode_below(&self) -> Option<(Op, u32)>
-        ensures here { IfSome result (λ x. OpcodeAt self.now.memory self.now.pc x.0 x.1) }
-        ensures near { IfSome result (λ x. IsNear self.now.pc x.1) }
-        ensures none { result ≡ None → (o : Op) (place : ℕ)
-            → OpcodeAt self.now.memory self.now.pc o place → place ≤ self.now.pc + 2
-            → self.now.pc + 16 ≤ self.now.memory.ramstart → ⊥ }
+    fn fetch_flow(&mut self, flow: Flow, code: &[u8], place: u32) -> Result<Fetched, Trap>
+        requires here { IsAtHand self.old (op.Flow flow) place code.now }
+        requires quick { IsQuickOpcode (op.Flow flow) }
+        ensures fetched { Fetches self.old (op.Flow flow) self.new result }
+        ensures fit { IsFit self.old → IfOk result (λ _. IsFit self.new) }
     {
-        let code = self.memory.code_at(self.pc)?;
-        opcode_in(&self.memory, code, self.pc)
+        match flow {
+            Flow::Return => self.one(Op::Flow(flow), code, place),
+            Flow::Throw | Flow::Tailcall => self.two(Op::Flow(flow), code, place),
+            Flow::Callf => self.one_and_store(Op::Flow(flow), code, place),
+            Flow::Call | Flow::Callfi => self.two_and_store(Op::Flow(flow), code, place),
+            Flow::Callfii => self.three_and_store(Op::Flow(flow), code, place),
+            Flow::Callfiii => self.four_and_store(Op::Flow(flow), code, place),
+            Flow::Catch => unreachable!(),
+        }
     }
+}
 
-    // Two loads and a store.
+impl Done {
+    // Whether the story has quit; nothing else is told.
     #[inline(always)]
-    fn two_and_store(&self, op: Op, place: u32) -> Option<Quick>
-        requires here { OpcodeAt self.now.memory self.now.pc op place }
-        requires kinds { kinds_of op ≡ kind.Load ∷ kind.Load ∷ kind.Store ∷ [] }
-        requires near { IsNear self.now.pc place }
-        requires words { row.width_of (Some op) ≡ 4 }
-        ensures fetched { IfSome result (λ quick. IsFetched self.now op quick) }
-        ensures taken { IfSome result (λ quick. IsTaken self.now quick) }
-        ensures none { result ≡ None → IsUnready self.now op }
+    fn went(self) -> Went
+        ensures { result ≡ went_of self.out }
     {
-        let code = self.memory.code_at(self.pc)?;
-        let modes = self.memory.code1(code, self.pc, place);
-        let more = self.memory.code1(code, self.pc, place + 1);
-        let first = self.taken(code, modes % 16, place + 2)?;
-        let second = self.taken(code, modes / 16, first.next)?;
-        let (to, next) = dest_in(&self.memory, code, self.pc, more % 16, second.next)?;
-        Some(Quick {
-            first: first.value,
-            second: second.value,
-            third: 0,
-            to,
-            next,
-        })
-    }
-
-    // Two loads.
-    #[inline(always)]
-    fn two(&self, op: Op, place: u32) -> Option<Quick>
-        requires here { OpcodeAt self.now.memory self.now.pc op place }
-        requires kinds { kinds_of op ≡ kind.Load ∷ kind.Load ∷ [] }
-        requires near { IsNear self.now.pc place }
-        requires words { row.width_of (Some op) ≡ 4 }
-        ensures fetched { IfSome result (λ quick. IsFetched self.now op quick) }
-        ensures taken { IfSome result (λ quick. IsTaken self.now quick) }
-        ensures none { result ≡ None → IsUnready self.now op }
-    {
-        let code = self.memory.code_at(self.pc)?;
-        let modes = self.memory.code1(code, self.pc, place);
-        let first = self.taken(code, modes % 16, place + 1)?;
-        let second = self.taken(code, modes / 16, first.next)?;
-        Some(Quick {
-            first: first.value,
-            second: second.value,
-            third: 0,
-            to: Dest::Discard,
-            next: second.next,
-        })
-    }
-
-    // Three loads.
-    #[inline(always)]
-    fn three(&self, op: Op, place: u32) -> Option<Quick>
-        requires here { OpcodeAt self.now.memory self.now.pc op place }
-        requires kinds { kinds_of op ≡ kind.Load ∷ kind.Load ∷ kind.Load ∷ [] }
-        requires near { IsNear self.now.pc place }
-        requires words { row.width_of (Some op) ≡ 4 }
-        ensures fetched { IfSome result (λ quick. IsFetched self.now op quick) }
-        ensures taken { IfSome result (λ quick. IsTaken self.now quick) }
-        ensures none { result ≡ None → IsUnready self.now op }
-    {
-        let code = self.memory.code_at(self.pc)?;
-        let modes = self.memory.code1(code, self.pc, place);
-        let more = self.memory.code1(code, self.pc, place + 1);
-        let first = self.taken(code, modes % 16, place + 2)?;
-        let second = self.taken(code, modes / 16, first.next)?;
-        let third = self.taken(code, more % 16, second.next)?;
-        Some(Quick {
-            first: first.value,
-            second: second.value,
-            third: third.value,
-            to: Dest::Discard,
-            next: third.next,
-        })
-    }
-
-    /// One load and a store.
-    #[inline(always)]
-    pub(crate) fn one_and_store(&self, op: Op, place: u32) -> Option<Quick>
-        requires here { OpcodeAt self.now.memory self.now.pc op place }
-        requires kinds { kinds_of op ≡ kind.Load ∷ kind.Store ∷ [] }
-        requires near { IsNear self.now.pc place }
-        requires words { row.width_of (Some op) ≡ 4 }
-        ensures fetched { IfSome result (λ quick. IsFetched self.now op quick) }
-        ensures taken { IfSome result (λ quick. IsTaken self.now quick) }
-        ensures none { result ≡ None → IsUnready self.now op }
-    {
-        let code = self.memory.code_at(self.pc)?;
-        let modes = self.memory.code1(code, self.pc, place);
-        let first = self.taken(code, modes % 16, place + 1)?;
-        let (to, next) = dest_in(&self.memory, code, self.pc, modes / 16, first.next)?;
-        Some(Quick {
-            first: first.value,
-            second: 0,
-            third: 0,
-            to,
-            next,
-        })
-    }
-
-    // One load.
-    #[inline(always)]
-    fn one(&self, op: Op, place: u32) -> Option<Quick>
-        requires here { OpcodeAt self.now.memory self.now.pc op place }
-        requires kinds { kinds_of op ≡ kind.Load ∷ [] }
-        requires near { IsNear self.now.pc place }
-        requires words { row.width_of (Some op) ≡ 4 }
-        ensures fetched { IfSome result (λ quick. IsFetched self.now op quick) }
-        ensures taken { IfSome result (λ quick. IsTaken self.now quick) }
-        ensures none { result ≡ None → IsUnready self.now op }
-    {
-        let code = self.memory.code_at(self.pc)?;
-        let modes = self.memory.code1(code, self.pc, place);
-        let first = self.taken(code, modes % 16, place + 1)?;
-        Some(Quick {
-            first: first.value,
-            second: 0,
-            third: 0,
-            to: Dest::Discard,
-            next: first.next,
-        })
+        match self.out {
+            Out::Quit => Went::Quits,
+            _ => Went::On,
+        }
     }
 }

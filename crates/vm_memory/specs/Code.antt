@@ -2,8 +2,8 @@
 use Rattle.std.specs.Prelude.{◌≡◌, ◌≤◌, ℕ, ◌+◌, List, length, take, drop}
 use Rattle.vm_memory.specs.MemoryMap.{MemoryMap}
 
--- these are the 16 bytes at an address below RAMSTART
+-- these are the 32 bytes at an address below RAMSTART
 pub record IsCode (m : MemoryMap) (at : ℕ) (code : List ℕ) : Type 0 where
-  pub bytes : code ≡ take 16 (drop at m.bytes)
-  pub below : at + 16 ≤ m.ramstart
-  pub inside : at + 16 ≤ length m.bytes
+  pub bytes : code ≡ take 32 (drop at m.bytes)
+  pub below : at + 32 ≤ m.ramstart
+  pub inside : at + 32 ≤ length m.bytes

@@ -9,29 +9,29 @@ use crate::{MAX_SIZE, Memory};
 use byteorder::{BigEndian, ByteOrder};
 
 impl<'i> Memory<'i> {
-    /// The 16 bytes at the address, if they lie below RAMSTART.
+    /// The 32 bytes at the address, if they lie below RAMSTART.
     #[inline(always)]
-    pub fn code_at(&self, at: u32) -> Option<&[u8]>
+    pub fn code_at(&self, at: u32) -> Option<&'i [u8]>
         ensures found { IfSome result (λ code. IsCode self.now at code.now) }
-        ensures within { IfSome result (λ _. at + 16 ≤ MAX_SIZE) }
-        ensures none { result ≡ None → self.now.ramstart < at + 16 }
+        ensures within { IfSome result (λ _. at + 32 ≤ MAX_SIZE) }
+        ensures none { result ≡ None → self.now.ramstart < at + 32 }
     {
-        if !self.is_front(at, 16) {
+        if !self.is_front(at, 32) {
             return None;
         }
         Some(self.front_code(at))
     }
 
-    // The 16 bytes below RAMSTART at the address.
+    // The 32 bytes below RAMSTART at the address.
     #[inline(always)]
     #[tactic(auto, using(crate::proofs::LaidLemmas::length_laid))]
-    fn front_code(&self, at: u32) -> &[u8]
-        requires { at + 16 ≤ self.now.ramstart }
+    fn front_code(&self, at: u32) -> &'i [u8]
+        requires { at + 32 ≤ self.now.ramstart }
         ensures found { IsCode self.now at result.now }
-        ensures within { at + 16 ≤ MAX_SIZE }
+        ensures within { at + 32 ≤ MAX_SIZE }
     {
         let first = at as usize;
-        &self.rom[first..first + 16]
+        &self.rom[first..first + 32]
     }
 
     /// The byte at an address among these.
@@ -39,7 +39,7 @@ impl<'i> Memory<'i> {
     pub fn code1(&self, code: &[u8], start: u32, at: u32) -> u32
         requires here { IsCode self.now start code.now }
         requires low { start ≤ at }
-        requires high { at + 1 ≤ start + 16 }
+        requires high { at + 1 ≤ start + 32 }
         ensures value { read 1 self.now at ≡ Ok result }
         ensures fits { result < 256 }
     {
@@ -51,7 +51,7 @@ impl<'i> Memory<'i> {
     pub fn code2(&self, code: &[u8], start: u32, at: u32) -> u32
         requires here { IsCode self.now start code.now }
         requires low { start ≤ at }
-        requires high { at + 2 ≤ start + 16 }
+        requires high { at + 2 ≤ start + 32 }
         ensures value { read 2 self.now at ≡ Ok result }
         ensures fits { result < 65536 }
     {
@@ -63,7 +63,7 @@ impl<'i> Memory<'i> {
     pub fn code4(&self, code: &[u8], start: u32, at: u32) -> u32
         requires here { IsCode self.now start code.now }
         requires low { start ≤ at }
-        requires high { at + 4 ≤ start + 16 }
+        requires high { at + 4 ≤ start + 32 }
         ensures value { read 4 self.now at ≡ Ok result }
     {
         four_of(code, (at - start) as usize)

@@ -1,6 +1,6 @@
 pub mod OpcodeLemmas
 pub mod InstructionLemmas
-pub mod BriefLemmas
+pub mod OperandsLemmas
 pub mod StandLemmas
 pub mod OpcodeBytesLemmas
 pub mod ModeBytesLemmas

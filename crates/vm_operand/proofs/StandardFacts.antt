@@ -1,15 +1,13 @@
 -- Rows of the standard and instructions of story files, said of the definitions.
-use Rattle.std.proofs.Common.{arith, ◌≡◌, refl, ℕ, List, [], ◌∷◌, ◌++◌, ◌-◌, length, replicate, map}
+use Rattle.std.proofs.Common.{◌≡◌, refl, ℕ, List, [], ◌∷◌, ◌++◌, ◌-◌, length, replicate, map}
 use Rattle.std.proofs.Common.{true, false, Result, Ok, Err}
 use Rattle.vm_memory.specs.declared.fault.MemFault.TheVariants.{BadRead}
 use Rattle.vm_operand.specs.Opcode.{op_of, opcodes}
 use Rattle.vm_operand.specs.Mode.{mode_of, modes}
-use Rattle.vm_operand.specs.Brief.{IsBrief}
 use Rattle.vm_operand.specs.Instruction.{opcode_number_at, modes_at, load_at, dest_at, operand, operands}
 use Rattle.vm_operand.specs.Instruction.{instruction_at}
 use Rattle.vm_operand.specs.Arithmetic.{applied}
 use Rattle.vm_operand.specs.Branch.{holds}
-use Rattle.vm_operand.specs.declared.operand.Kind.TheVariants as kind
 use Rattle.vm_operand.specs.declared.operand.Load as l
 use Rattle.vm_operand.specs.declared.operand.Load.TheVariants.{Value, Pop}
 use Rattle.vm_operand.specs.declared.operand.Dest as d
@@ -115,10 +113,6 @@ pub signed_and_unsigned :
     ≡ true ∷ false ∷ false ∷ true ∷ false ∷ []
 unfolding holds
 signed_and_unsigned = refl
-
--- four loads and a store are in brief
-pub in_brief : IsBrief (kind.Load ∷ kind.Load ∷ kind.Load ∷ kind.Load ∷ kind.Store ∷ [])
-in_brief = record { some = omega arith; few = omega arith; one = omega arith; order = refl }
 
 -- the same three instructions in writing: `glk 0x23 5 -> sp`, `copyb -1 -> sp` and `catch`
 pub glk_spelled :

@@ -3,7 +3,7 @@ pub mod Reading
 pub mod Mode
 pub mod Instruction
 pub mod Spelling
-pub mod Brief
+pub mod Operands
 pub mod Arithmetic
 pub mod Branch
 pub mod Fault

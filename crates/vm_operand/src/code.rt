@@ -1,12 +1,11 @@
 //! Opcodes and operands of code below RAMSTART, whose bytes are at hand.
 
-ghost use Rattle.std.specs.Prelude.{ℕ, ◌≡◌, ◌≤◌, ◌<◌, ◌+◌, None, Ok, IfSome, IsErr};
+ghost use Rattle.std.specs.Prelude.{ℕ, ◌≡◌, ◌≤◌, ◌<◌, ◌+◌, ◌%◌, ◌^◌, None, Ok, IfSome, IsErr};
 ghost use Rattle.vm_memory.specs.Code.{IsCode};
-ghost use Rattle.vm_operand.specs.Brief as spec;
+ghost use Rattle.vm_operand.specs.Operands as spec;
 ghost use Rattle.vm_operand.specs.declared.opcode.Op.{Op};
 
 use crate::mode::Width;
-use crate::numbered::in_ram;
 use crate::opcode::Op;
 use crate::operand::{Dest, Load};
 use vm_memory::{MAX_SIZE, Memory};
@@ -17,7 +16,7 @@ use vm_memory::{MAX_SIZE, Memory};
 #[tactic(auto, unfolding(crate::specs::Instruction::opcode_number_at))]
 pub fn opcode_in(memory: &Memory<'_>, code: &[u8], start: u32) -> Option<(Op, u32)>
     requires here { IsCode memory.now start code.now }
-    requires limit { start + 16 ≤ MAX_SIZE }
+    requires limit { start + 32 ≤ MAX_SIZE }
     ensures found { IfSome result (λ x. spec.OpcodeAt memory.now start x.0 x.1) }
     ensures none { result ≡ None → (op : Op) (place : ℕ)
         → spec.OpcodeAt memory.now start op place → start + 2 < place }
@@ -46,9 +45,9 @@ pub fn load_in(
     at: u32,
 ) -> Option<(Load, u32)>
     requires here { IsCode memory.now start code.now }
-    requires limit { start + 16 ≤ MAX_SIZE }
+    requires limit { start + 32 ≤ MAX_SIZE }
     requires low { start ≤ at }
-    requires high { at + 4 ≤ start + 16 }
+    requires high { at + 4 ≤ start + 32 }
     ensures found { IfSome result (λ x. spec.load_by memory.now number at ≡ Ok x) }
     ensures none { result ≡ None → IsErr (spec.load_by memory.now number at) }
     ensures above { IfSome result (λ x. at ≤ x.1) }
@@ -99,9 +98,9 @@ pub fn dest_in(
     at: u32,
 ) -> Option<(Dest, u32)>
     requires here { IsCode memory.now start code.now }
-    requires limit { start + 16 ≤ MAX_SIZE }
+    requires limit { start + 32 ≤ MAX_SIZE }
     requires low { start ≤ at }
-    requires high { at + 4 ≤ start + 16 }
+    requires high { at + 4 ≤ start + 32 }
     ensures found { IfSome result (λ x. spec.dest_by memory.now number at ≡ Ok x) }
     ensures none { result ≡ None → IsErr (spec.dest_by memory.now number at) }
     ensures above { IfSome result (λ x. at ≤ x.1) }
@@ -130,4 +129,12 @@ pub fn dest_in(
         ),
         _ => return None,
     })
+}
+
+// The address of an offset from RAMSTART.
+#[inline(always)]
+fn in_ram(memory: &Memory<'_>, offset: u32) -> u32
+    ensures { result ≡ (memory.now.ramstart + offset) % 2 ^ 32 }
+{
+    memory.ramstart().wrapping_add(offset)
 }

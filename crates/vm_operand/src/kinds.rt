@@ -1,6 +1,6 @@
 //! The operands of each opcode.
 
-ghost use Rattle.std.specs.Prelude.{◌≡◌, [], ◌∷◌, length, true, false, nat_eq};
+ghost use Rattle.std.specs.Prelude.{◌≡◌, ◌≤◌, [], ◌∷◌, length, true, false, nat_eq};
 ghost use Rattle.vm_operand.specs.Opcode as spec;
 ghost use Rattle.vm_operand.specs.Opcode.{kinds_of, IsFew};
 ghost use Rattle.vm_operand.specs.declared.opcode.Op.TheVariants as op;
@@ -39,6 +39,7 @@ impl Math {
         ensures value { result ≡ nat_eq (length (kinds_of (op.Math self))) 3 }
         ensures two { result ≡ true
             → kinds_of (op.Math self) ≡ kind.Load ∷ kind.Load ∷ kind.Store ∷ [] }
+        ensures one { result ≡ false → kinds_of (op.Math self) ≡ kind.Load ∷ kind.Store ∷ [] }
     {
         match self {
             Math::Add
@@ -87,6 +88,8 @@ impl Branch {
             ≡ kind.Load ∷ kind.Load ∷ [] }
         ensures three { result ≡ 3
             → kinds_of (op.Branch self) ≡ kind.Load ∷ kind.Load ∷ kind.Load ∷ [] }
+        ensures some { 1 ≤ result }
+        ensures few { result ≤ 3 }
     {
         match self {
             Branch::Jump | Branch::Jumpabs => 1,

@@ -3,24 +3,20 @@
 
 mod arithmetic;
 mod branches;
-mod brief;
 mod code;
 mod fault;
 mod instruction;
 mod kinds;
 mod laws;
 mod mode;
-mod numbered;
 mod opcode;
 mod operand;
 
 pub use arithmetic::arith;
 pub use branches::holds;
-pub use brief::{Brief, decode_brief, opcode_at};
 pub use code::{dest_in, load_in, opcode_in};
 pub use fault::OpFault;
 pub use instruction::{Instr, decode};
 pub use laws::{decodes_what_is_spelled, spells_what_is_decoded};
-pub use numbered::{dest_by, load_by};
 pub use opcode::{Array, Branch, Flow, Math, Move, Op, Search, State, Stream, System, Values};
 pub use operand::{Dest, Dests, Kind, Load, Loads};

@@ -1,29 +1,19 @@
-use Rattle.std.proofs.Common.{arith, refl}
-use Rattle.vm_exec.proofs.QuickLemmas.{fetched_one, of_one}
+use Rattle.vm_exec.proofs.FetchLemmas.{fetches_err, one_fetched, one_stops_0}
 use Rattle.vm_exec.proofs.machine.Machine.one.Goals as goal
+
+pub returns-in_err-first-clause-fetched : goal.returns-in_err-first-clause-fetched
+returns-in_err-first-clause-fetched c =
+    fetches_err c.args.self.now c.take.new.self c.args.op c.in_err-first.field-0.0
+    c.from_residual.result
+    (one_stops_0 c.args.self.now c.take.new.self c.args.op c.args.place c.code1-modes.result
+    c.in_err-first.field-0.0
+    c.requires.here.opcode c.requires.kinds c.requires.words c.code1-modes.ensures.value
+    c.in_err-first.ensures.does)
+    c.from_residual.ensures.1
 
 pub returns-clause-fetched : goal.returns-clause-fetched
 returns-clause-fetched c =
-    (fetched_one c.args.self.now c.args.op c.args.place c.code1-modes.result
-    (c.in_ok-first.first.load, c.in_ok-first.first.next) c.in_ok-first.first.value
-    c.requires.here c.requires.kinds c.requires.words c.code1-modes.ensures.value
-    c.in_ok-first.ensures.load c.in_ok-first.ensures.value).0
-
-pub returns-clause-taken : goal.returns-clause-taken
-returns-clause-taken c =
-    (fetched_one c.args.self.now c.args.op c.args.place c.code1-modes.result
-    (c.in_ok-first.first.load, c.in_ok-first.first.next) c.in_ok-first.first.value
-    c.requires.here c.requires.kinds c.requires.words c.code1-modes.ensures.value
-    c.in_ok-first.ensures.load c.in_ok-first.ensures.value).1
-
-pub returns-in_err-code-clause-none : goal.returns-in_err-code-clause-none
-returns-in_err-code-clause-none c = λ nothing i args ready.
-    let far = c.in_err-code.ensures.none refl in
-    absurd (omega (arith, far, ready.below))
-
-pub returns-in_err-first-clause-none : goal.returns-in_err-first-clause-none
-returns-in_err-first-clause-none c = λ nothing i args ready.
-    let memory = c.args.self.now.memory in
-    let r = of_one c.args.self.now c.args.op c.args.place c.code1-modes.result i args
-    c.requires.here c.requires.kinds c.code1-modes.ensures.value ready.reads ready.loads in
-    c.in_err-first.ensures.none refl r.x0 r.v0 r.g0 r.t0
+    one_fetched c.args.self.now c.take.new.self c.args.op c.args.place c.code1-modes.result
+    c.in_ok-first.first
+    c.requires.here.opcode c.requires.kinds c.requires.words c.code1-modes.ensures.value
+    c.in_ok-first.ensures.does

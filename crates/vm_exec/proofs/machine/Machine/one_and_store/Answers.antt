@@ -1,38 +1,31 @@
-use Rattle.std.proofs.Common.{arith, refl, ◌/◌}
-use Rattle.vm_operand.specs.Brief.{dest_by}
-use Rattle.vm_exec.proofs.QuickLemmas.{fetched_one_and_store, of_one_and_store, moved, contrary}
+use Rattle.vm_exec.proofs.FetchLemmas.{fetches_err, one_and_store_fetched, one_and_store_stops_0}
+use Rattle.vm_exec.proofs.FetchLemmas.{one_and_store_stops_1}
 use Rattle.vm_exec.proofs.machine.Machine.one_and_store.Goals as goal
+
+pub returns-in_err-first-clause-fetched : goal.returns-in_err-first-clause-fetched
+returns-in_err-first-clause-fetched c =
+    fetches_err c.args.self.now c.take.new.self c.args.op c.in_err-first.field-0.0
+    c.from_residual.result
+    (one_and_store_stops_0 c.args.self.now c.take.new.self c.args.op c.args.place
+    c.code1-modes.result c.in_err-first.field-0.0
+    c.requires.here.opcode c.requires.kinds c.requires.words c.code1-modes.ensures.value
+    c.in_err-first.ensures.does)
+    c.from_residual.ensures.1
+
+pub returns-in_err-to-clause-fetched : goal.returns-in_err-to-clause-fetched
+returns-in_err-to-clause-fetched c =
+    fetches_err c.args.self.now c.take.new.self c.args.op c.in_err-to.field-0.0
+    c.from_residual-in_err-to.result
+    (one_and_store_stops_1 c.args.self.now c.take.new.self c.args.op c.args.place
+    c.code1-modes.result c.in_ok-first.first c.in_err-to.field-0.0
+    c.requires.here.opcode c.requires.kinds c.requires.words c.code1-modes.ensures.value
+    c.in_ok-first.ensures.memory c.in_ok-first.ensures.pc c.in_ok-first.ensures.does
+    c.in_err-to.ensures.does)
+    c.from_residual-in_err-to.ensures.1
 
 pub returns-clause-fetched : goal.returns-clause-fetched
 returns-clause-fetched c =
-    (fetched_one_and_store c.args.self.now c.args.op c.args.place c.code1-modes.result
-    (c.in_ok-first.first.load, c.in_ok-first.first.next) (c.in_ok-to.to, c.in_ok-to.next) c.in_ok-first.first.value
-    c.requires.here c.requires.kinds c.requires.words c.code1-modes.ensures.value
-    c.in_ok-first.ensures.load c.in_ok-to.ensures.found c.in_ok-first.ensures.value).0
-
-pub returns-clause-taken : goal.returns-clause-taken
-returns-clause-taken c =
-    (fetched_one_and_store c.args.self.now c.args.op c.args.place c.code1-modes.result
-    (c.in_ok-first.first.load, c.in_ok-first.first.next) (c.in_ok-to.to, c.in_ok-to.next) c.in_ok-first.first.value
-    c.requires.here c.requires.kinds c.requires.words c.code1-modes.ensures.value
-    c.in_ok-first.ensures.load c.in_ok-to.ensures.found c.in_ok-first.ensures.value).1
-
-pub returns-in_err-code-clause-none : goal.returns-in_err-code-clause-none
-returns-in_err-code-clause-none c = λ nothing i args ready.
-    let far = c.in_err-code.ensures.none refl in
-    absurd (omega (arith, far, ready.below))
-
-pub returns-in_err-first-clause-none : goal.returns-in_err-first-clause-none
-returns-in_err-first-clause-none c = λ nothing i args ready.
-    let memory = c.args.self.now.memory in
-    let r = of_one_and_store c.args.self.now c.args.op c.args.place c.code1-modes.result i args
-    c.requires.here c.requires.kinds c.code1-modes.ensures.value ready.reads ready.loads in
-    c.in_err-first.ensures.none refl r.x0 r.v0 r.g0 r.t0
-
-pub returns-in_err-to-clause-none : goal.returns-in_err-to-clause-none
-returns-in_err-to-clause-none c = λ nothing i args ready.
-    let memory = c.args.self.now.memory in
-    let r = of_one_and_store c.args.self.now c.args.op c.args.place c.code1-modes.result i args
-    c.requires.here c.requires.kinds c.code1-modes.ensures.value ready.reads ready.loads in
-    let g1 = moved _ r.x0 (c.in_ok-first.first.load, c.in_ok-first.first.next) (λ at. dest_by memory (c.code1-modes.result / 16) at) r.x1 r.g0 c.in_ok-first.ensures.load r.g1 in
-    contrary _ r.x1 g1 (c.in_err-to.ensures.none refl)
+    one_and_store_fetched c.args.self.now c.take.new.self c.args.op c.args.place
+    c.code1-modes.result c.in_ok-first.first (c.in_ok-to.to, c.in_ok-to.next)
+    c.requires.here.opcode c.requires.kinds c.requires.words c.code1-modes.ensures.value
+    c.in_ok-first.ensures.memory c.in_ok-first.ensures.does c.in_ok-to.ensures.does

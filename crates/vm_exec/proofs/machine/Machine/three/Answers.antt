@@ -1,47 +1,53 @@
-use Rattle.std.proofs.Common.{arith, refl, ◌%◌, ◌/◌}
-use Rattle.vm_operand.specs.Brief.{load_by}
-use Rattle.vm_exec.proofs.QuickLemmas.{fetched_three, of_three, moved}
+use Rattle.std.proofs.Common.{◌∙◌}
+use Rattle.vm_exec.proofs.FetchLemmas.{fetches_err, three_fetched, three_stops_0, three_stops_1}
+use Rattle.vm_exec.proofs.FetchLemmas.{three_stops_2}
 use Rattle.vm_exec.proofs.machine.Machine.three.Goals as goal
+
+pub returns-in_err-first-clause-fetched : goal.returns-in_err-first-clause-fetched
+returns-in_err-first-clause-fetched c =
+    fetches_err c.args.self.now c.take.new.self c.args.op c.in_err-first.field-0.0
+    c.from_residual.result
+    (three_stops_0 c.args.self.now c.take.new.self c.args.op c.args.place c.code1-modes.result
+    c.code1-more.result c.in_err-first.field-0.0
+    c.requires.here.opcode c.requires.kinds c.requires.words c.code1-modes.ensures.value
+    c.code1-more.ensures.value
+    c.in_err-first.ensures.does)
+    c.from_residual.ensures.1
+
+pub returns-in_err-second-clause-fetched : goal.returns-in_err-second-clause-fetched
+returns-in_err-second-clause-fetched c =
+    fetches_err c.args.self.now c.take-2.new.self c.args.op c.in_err-second.field-0.0
+    c.from_residual-in_err-second.result
+    (three_stops_1 c.args.self.now c.take.new.self c.take-2.new.self c.args.op c.args.place
+    c.code1-modes.result c.code1-more.result c.in_ok-first.first c.in_err-second.field-0.0
+    c.requires.here.opcode c.requires.kinds c.requires.words c.code1-modes.ensures.value
+    c.code1-more.ensures.value
+    c.in_ok-first.ensures.memory c.in_ok-first.ensures.pc c.in_ok-first.ensures.does
+    c.in_err-second.ensures.does)
+    c.from_residual-in_err-second.ensures.1
+
+pub returns-in_err-third-clause-fetched : goal.returns-in_err-third-clause-fetched
+returns-in_err-third-clause-fetched c =
+    fetches_err c.args.self.now c.take-3.new.self c.args.op c.in_err-third.field-0.0
+    c.from_residual-in_err-third.result
+    (three_stops_2 c.args.self.now c.take.new.self c.take-2.new.self c.take-3.new.self c.args.op
+    c.args.place c.code1-modes.result c.code1-more.result c.in_ok-first.first c.in_ok-second.second
+    c.in_err-third.field-0.0
+    c.requires.here.opcode c.requires.kinds c.requires.words c.code1-modes.ensures.value
+    c.code1-more.ensures.value
+    c.in_ok-first.ensures.memory (c.in_ok-second.ensures.memory
+    ∙ c.in_ok-first.ensures.memory) (c.in_ok-second.ensures.pc
+    ∙ c.in_ok-first.ensures.pc) c.in_ok-first.ensures.does c.in_ok-second.ensures.does
+    c.in_err-third.ensures.does)
+    c.from_residual-in_err-third.ensures.1
 
 pub returns-clause-fetched : goal.returns-clause-fetched
 returns-clause-fetched c =
-    (fetched_three c.args.self.now c.args.op c.args.place c.code1-modes.result c.code1-more.result
-    (c.in_ok-first.first.load, c.in_ok-first.first.next) (c.in_ok-second.second.load, c.in_ok-second.second.next) (c.in_ok-third.third.load, c.in_ok-third.third.next) c.in_ok-first.first.value c.in_ok-second.second.value c.in_ok-third.third.value
-    c.requires.here c.requires.kinds c.requires.words c.code1-modes.ensures.value c.code1-more.ensures.value
-    c.in_ok-first.ensures.load c.in_ok-second.ensures.load c.in_ok-third.ensures.load c.in_ok-first.ensures.value c.in_ok-second.ensures.value c.in_ok-third.ensures.value).0
-
-pub returns-clause-taken : goal.returns-clause-taken
-returns-clause-taken c =
-    (fetched_three c.args.self.now c.args.op c.args.place c.code1-modes.result c.code1-more.result
-    (c.in_ok-first.first.load, c.in_ok-first.first.next) (c.in_ok-second.second.load, c.in_ok-second.second.next) (c.in_ok-third.third.load, c.in_ok-third.third.next) c.in_ok-first.first.value c.in_ok-second.second.value c.in_ok-third.third.value
-    c.requires.here c.requires.kinds c.requires.words c.code1-modes.ensures.value c.code1-more.ensures.value
-    c.in_ok-first.ensures.load c.in_ok-second.ensures.load c.in_ok-third.ensures.load c.in_ok-first.ensures.value c.in_ok-second.ensures.value c.in_ok-third.ensures.value).1
-
-pub returns-in_err-code-clause-none : goal.returns-in_err-code-clause-none
-returns-in_err-code-clause-none c = λ nothing i args ready.
-    let far = c.in_err-code.ensures.none refl in
-    absurd (omega (arith, far, ready.below))
-
-pub returns-in_err-first-clause-none : goal.returns-in_err-first-clause-none
-returns-in_err-first-clause-none c = λ nothing i args ready.
-    let memory = c.args.self.now.memory in
-    let r = of_three c.args.self.now c.args.op c.args.place c.code1-modes.result c.code1-more.result i args
-    c.requires.here c.requires.kinds c.code1-modes.ensures.value c.code1-more.ensures.value ready.reads ready.loads in
-    c.in_err-first.ensures.none refl r.x0 r.v0 r.g0 r.t0
-
-pub returns-in_err-second-clause-none : goal.returns-in_err-second-clause-none
-returns-in_err-second-clause-none c = λ nothing i args ready.
-    let memory = c.args.self.now.memory in
-    let r = of_three c.args.self.now c.args.op c.args.place c.code1-modes.result c.code1-more.result i args
-    c.requires.here c.requires.kinds c.code1-modes.ensures.value c.code1-more.ensures.value ready.reads ready.loads in
-    let g1 = moved _ r.x0 (c.in_ok-first.first.load, c.in_ok-first.first.next) (λ at. load_by memory (c.code1-modes.result / 16) at) r.x1 r.g0 c.in_ok-first.ensures.load r.g1 in
-    c.in_err-second.ensures.none refl r.x1 r.v1 g1 r.t1
-
-pub returns-in_err-third-clause-none : goal.returns-in_err-third-clause-none
-returns-in_err-third-clause-none c = λ nothing i args ready.
-    let memory = c.args.self.now.memory in
-    let r = of_three c.args.self.now c.args.op c.args.place c.code1-modes.result c.code1-more.result i args
-    c.requires.here c.requires.kinds c.code1-modes.ensures.value c.code1-more.ensures.value ready.reads ready.loads in
-    let g1 = moved _ r.x0 (c.in_ok-first.first.load, c.in_ok-first.first.next) (λ at. load_by memory (c.code1-modes.result / 16) at) r.x1 r.g0 c.in_ok-first.ensures.load r.g1 in
-    let g2 = moved _ r.x1 (c.in_ok-second.second.load, c.in_ok-second.second.next) (λ at. load_by memory (c.code1-more.result % 16) at) r.x2 g1 c.in_ok-second.ensures.load r.g2 in
-    c.in_err-third.ensures.none refl r.x2 r.v2 g2 r.t2
+    three_fetched c.args.self.now c.take.new.self c.take-2.new.self c.take-3.new.self c.args.op
+    c.args.place c.code1-modes.result c.code1-more.result c.in_ok-first.first c.in_ok-second.second
+    c.in_ok-third.third
+    c.requires.here.opcode c.requires.kinds c.requires.words c.code1-modes.ensures.value
+    c.code1-more.ensures.value
+    c.in_ok-first.ensures.memory (c.in_ok-second.ensures.memory
+    ∙ c.in_ok-first.ensures.memory) c.in_ok-first.ensures.does c.in_ok-second.ensures.does
+    c.in_ok-third.ensures.does

@@ -1,13 +1,12 @@
--- Instructions of at most four loads and then at most one store (own).
-use Rattle.std.specs.Prelude.{◌≡◌, ◌≤◌, ℕ, Ok, ◌+◌, ◌/◌, List, [], ◌∷◌}
+-- Operands by the numbers of their modes (own).
+use Rattle.std.specs.Prelude.{◌≡◌, ℕ, Ok, ◌+◌, ◌-◌, ◌/◌, List}
 use Rattle.std.specs.Prelude.{◌++◌, length, replicate, Result}
 use Rattle.vm_memory.specs.Chaining.{◌>>=◌}
 use Rattle.vm_memory.specs.MemoryMap.{MemoryMap}
-use Rattle.vm_operand.specs.Opcode.{opcode_number, loads_in, stores_in}
+use Rattle.vm_operand.specs.Opcode.{opcode_number}
 use Rattle.vm_operand.specs.Mode.{mode_of}
 use Rattle.vm_operand.specs.Instruction.{bare, dest_at, load_at, modes_at, opcode_number_at}
 use Rattle.vm_operand.specs.Instruction.{operands}
-use Rattle.vm_operand.specs.declared.brief.Brief.{Brief}
 use Rattle.vm_operand.specs.declared.fault.OpFault.{OpFault}
 use Rattle.vm_operand.specs.declared.opcode.Op.{Op}
 use Rattle.vm_operand.specs.declared.instruction.Instr.{Instr}
@@ -18,25 +17,19 @@ use Rattle.vm_operand.specs.declared.operand.Load.TheVariants as load
 use Rattle.vm_operand.specs.declared.operand.Dest as d
 use Rattle.vm_operand.specs.declared.operand.Dest.TheVariants as dest
 
--- operands in brief: one to four loads and then at most one store
-pub record IsBrief (kinds : List Kind) : Type 0 where
-  pub some : 1 ≤ loads_in kinds
-  pub few : loads_in kinds ≤ 4
-  pub one : stores_in kinds ≤ 1
-  pub order :
-      kinds
-      ≡ replicate (loads_in kinds) kind.Load ++ replicate (stores_in kinds) kind.Store
-
--- the instruction in full
-abbrev pub instr_of : Brief → Instr
-instr_of b = record {
-  op = opcode_number b.op;
+-- the instruction of an opcode with these loads and stores, and the place after it
+abbrev pub instr_of : Op → List l.Load → List d.Dest → ℕ → Instr
+instr_of op loads stores next = record {
+  op = opcode_number op;
   loads = record {
-    count = b.loads;
-    items = b.first ∷ b.second ∷ b.third ∷ b.fourth ∷ replicate 4 (load.Value 0);
+    count = length loads;
+    items = loads ++ replicate (8 - length loads) (load.Value 0);
   };
-  stores = record { count = b.stores; items = b.to ∷ dest.Discard ∷ [] };
-  next = b.next;
+  stores = record {
+    count = length stores;
+    items = stores ++ replicate (2 - length stores) dest.Discard;
+  };
+  next = next;
 }
 
 -- a load by the number of its mode, and the place after its bytes

@@ -1,6 +1,6 @@
 use Rattle.std.proofs.Common.{◌-◌, ◌≤◌}
-use Rattle.vm_exec.proofs.PlainLemmas.{GoneOn}
-use Rattle.vm_exec.proofs.machine.Machine.plain_steps.Given as goal
+use Rattle.vm_exec.proofs.RunLemmas.{GoneOn}
+use Rattle.vm_exec.proofs.machine.Machine.run_on.Given as goal
 
 abbrev pub invariant-loop-done : goal.invariant-loop-done
 invariant-loop-done l = (l.done ≤ l.most) × GoneOn l.done l.fn.self l.self

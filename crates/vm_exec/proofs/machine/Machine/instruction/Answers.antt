@@ -4,7 +4,7 @@ use Rattle.vm_exec.specs.Answer.{Does}
 use Rattle.vm_exec.specs.Row.{charged, step_within, work_of, width_of}
 use Rattle.vm_exec.specs.Rows.Work.{Work}
 use Rattle.vm_exec.proofs.Told.{fetched_is}
-use Rattle.vm_exec.proofs.machine.Machine.plain.Goals as goal
+use Rattle.vm_exec.proofs.machine.Machine.instruction.Goals as goal
 
 pub returns-clause-does : goal.returns-clause-does
 returns-clause-does c =
