@@ -32,7 +32,6 @@ use Rattle.host_serve.specs.declared.served.Served.TheVariants as served
 use Rattle.line_talk.specs.declared.sink.Stop.{Stop}
 use Rattle.line_talk.specs.declared.sink.Stop.TheVariants as stop
 use Rattle.host_top.specs.declared.status.Status.{Status}
-use Rattle.host_top.specs.declared.status.Status.TheVariants.{ReadFault, DiskFault, NoMemory}
 use Rattle.host_top.specs.declared.status.Status.TheVariants.{BadFolder}
 use Rattle.line_talk.proofs.LinesLemmas.{still_reached, talk_settled, talk_first, first_then}
 
