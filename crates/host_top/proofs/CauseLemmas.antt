@@ -179,9 +179,9 @@ does_failed disks (Ok (Serves stories budget folder)) outside beyond input now o
     (inl none) = not_lent_failed disks _ outside beyond output new none
 does_failed disks (Ok (Serves stories budget folder)) outside beyond input now output new (inr t) =
     pipe_failed disks folder outside beyond output new t
-does_failed disks (Ok (ServesLinks stories folder)) outside beyond input now output new
+does_failed disks (Ok (ServesLinks stories folder call)) outside beyond input now output new
     (inl none, doors) = not_lent_failed disks _ outside beyond output new none
-does_failed disks (Ok (ServesLinks stories folder)) outside beyond input now output new
+does_failed disks (Ok (ServesLinks stories folder call)) outside beyond input now output new
     (inr t, doors) = links_failed disks folder outside beyond output new t
 does_failed disks (Ok (Begins folder)) outside beyond input now output new does =
     init_failed disks folder outside beyond output new does
@@ -268,7 +268,7 @@ door_in disks (Ok (Serves stories budget folder)) outside beyond input now outpu
 door_in disks (Ok (Serves stories budget folder)) outside beyond input now output new (inr t) =
     hosted_door disks _ t.given t.givens t.back input now output new _
     (λ journal snaps hosts. no_served hosts.0 _ hosts.1) t.done
-door_in disks (Ok (ServesLinks stories folder)) outside beyond input now output new does =
+door_in disks (Ok (ServesLinks stories folder call)) outside beyond input now output new does =
     does.1.fault refl
 door_in disks (Ok (Begins folder)) outside beyond input now output new (inl none) =
     not_lent_door disks _ outside beyond _ none

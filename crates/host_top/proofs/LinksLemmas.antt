@@ -1,6 +1,6 @@
 -- What `serve` leaves of its disk, its output and its doors, from what its host says as it is
 -- opened and ends.
-use Rattle.std.proofs.Common.{◌≡◌, ◌⊎◌, inl, inr, ℕ, ◌≤◌, List, [], ◌∷◌, length, map, refl, sym, ap}
+use Rattle.std.proofs.Common.{◌≡◌, ◌⊎◌, inl, inr, ℕ, ◌≤◌, List, [], ◌∷◌, length, map, refl, sym}
 use Rattle.std.proofs.Common.{◌∙◌, subst, arith, IsTrue}
 use Rattle.gate_journal.specs.Log.{rows_of}
 use Rattle.gate_journal.specs.Rows.{SpellsRows}
@@ -13,9 +13,6 @@ use Rattle.host_serve.specs.declared.host.Passes.{Passes}
 use Rattle.host_serve.specs.Holders.{Holder}
 use Rattle.host_serve.specs.Hosts.{sessions_below}
 use Rattle.host_serve.specs.Splitting.{AreRoots}
-use Rattle.host_serve.specs.declared.worked.Worked.{Worked}
-use Rattle.host_serve.specs.declared.worked.Worked.TheVariants as worked
-use Rattle.line_talk.specs.Causes.{Rose}
 use Rattle.line_talk.specs.Streams.{SourceState, SinkState}
 use Rattle.line_talk.specs.declared.sink.Stop.{Stop}
 use Rattle.line_talk.specs.declared.sink.Stop.TheVariants as stop
@@ -23,11 +20,12 @@ use Rattle.line_talk.proofs.StreamsLemmas.{gave_none, wrote_none}
 use Rattle.turn_cell.specs.History.{Each}
 use Rattle.story_run.specs.declared.story.Story.{Story}
 use Rattle.host_top.specs.DiskWords.{DiskWords}
-use Rattle.host_top.specs.Files.{OutsideState, Closes, KeepsDoors, KeepsFiles, after_one}
+use Rattle.host_top.specs.Files.{OutsideState}
 use Rattle.host_top.specs.Piped.{StoresBack}
 use Rattle.host_top.specs.LinksServed.{DoorsBy, LinksServed}
 use Rattle.host_top.specs.Said.{SaysFault, SaysLine}
-use Rattle.host_top.specs.Status.{status_of_stop, status_of_worked}
+use Rattle.host_top.specs.Status.{status_of_stop}
+use Rattle.host_top.specs.declared.door_call.DoorCall.{DoorCall}
 use Rattle.host_top.specs.declared.status.Status.{Status}
 use Rattle.host_top.specs.declared.status.Status.TheVariants as ends
 use Rattle.host_top.proofs.ConversedLemmas.{EndsOn, counts, grows, meanwhile, reaches}
@@ -76,66 +74,20 @@ are_roots holders is = subst (AreRoots 0) (sym is) (lone_roots (sessions_below 6
 
 -- ---- doors
 
-pub keeps_files_then : {D : Type 0} {a b c : OutsideState D} → KeepsFiles a b → KeepsFiles b c
-    → KeepsFiles a c
-keeps_files_then p q = record { file = q.file ∙ p.file; faults = q.faults ∙ p.faults }
-
--- the work at a door ends in one of two ways
-pub worked_so : {O C E F : Type 0} (how : Worked O C E F) (status : Status)
-    → status ≡ status_of_worked how → (status ≡ ends.Done) ⊎ (status ≡ ends.DoorFault)
-worked_so (worked.Shut end) status is = inl is
-worked_so (worked.DoorFault fault) status is = inr is
-
--- and the outside is told so
-pub doors_closed : {D O C E F : Type 0} (how : Worked O C E F) (outside mid beyond : OutsideState D)
-    (status : Status) → status ≡ status_of_worked how
-    → mid.shut ≡ outside.shut → outside.door_faults ≤ mid.door_faults → Closes how mid beyond
-    → DoorsBy outside beyond status
-doors_closed (worked.Shut end) outside mid beyond status is same later closes = record {
-  done = λ e. closes.0 ∙ ap after_one same;
-  not_done = λ other. absurd (other is);
-  fault = λ e. absurd (grind (arith, is, e));
-}
-doors_closed (worked.DoorFault fault) outside mid beyond status is same later closes = record {
-  done = λ e. absurd (grind (arith, is, e));
-  not_done = λ other. closes.0 ∙ same;
-  fault = λ e. omega (arith, later, closes.1);
-}
-
--- or no door was given
-pub doors_failed : {D : Type 0} (outside beyond : OutsideState D) → beyond.shut ≡ outside.shut
-    → Rose outside.door_faults beyond.door_faults → DoorsBy outside beyond ends.DoorFault
-doors_failed outside beyond same rose = record {
-  done = λ e. absurd (grind (arith, e));
-  not_done = λ other. same;
-  fault = λ e. rose;
-}
-
--- a status that is neither of the two leaves the doors
-pub no_doors : {D : Type 0} (outside beyond : OutsideState D) (status : Status)
+-- with a status that is neither of the two the doors are left alone
+pub no_doors : {D : Type 0} {call : DoorCall} (outside : OutsideState D) (status : Status)
     → (status ≡ ends.Done → ⊥) → (status ≡ ends.DoorFault → ⊥)
-    → beyond.shut ≡ outside.shut → DoorsBy outside beyond status
-no_doors outside beyond status not_done no_fault same = record {
+    → DoorsBy call outside outside status
+no_doors outside status not_done no_fault = record {
   done = λ e. absurd (not_done e);
-  not_done = λ e. same;
+  not_done = λ e. refl;
   fault = λ e. absurd (no_fault e);
+  asked = λ e. elim e [
+    | inl done ↦ absurd (not_done done)
+    | inr fault ↦ absurd (no_fault fault)
+  ];
+  unasked = λ d f. refl;
 }
-
--- what happens before and after leaves them, too
-pub doors_through : {D : Type 0} (a b c d : OutsideState D) (status : Status) → KeepsDoors a b
-    → DoorsBy b c status → KeepsDoors c d → DoorsBy a d status
-doors_through a b c d status before by after = record {
-  done = λ e. after.shut ∙ by.done e ∙ ap after_one before.shut;
-  not_done = λ e. after.shut ∙ by.not_done e ∙ before.shut;
-  fault =
-      λ e. subst (λ (n : ℕ). Rose n d.door_faults) before.door_faults
-      (subst (λ (n : ℕ). Rose b.door_faults n) (sym after.door_faults) (by.fault e));
-}
-
-pub doors_before : {D : Type 0} (a b c : OutsideState D) (status : Status) → KeepsDoors a b
-    → DoorsBy b c status → DoorsBy a c status
-doors_before a b c status before by =
-    doors_through a b c c status before by (record { door_faults = refl; shut = refl })
 
 -- ---- a journal that isn't opened
 

@@ -228,9 +228,16 @@ keeps_then p q = record {
   disk_faults = q.disk_faults ∙ p.disk_faults;
 }
 
+pub doors_none : {D : Type 0} (outside : OutsideState D) → KeepsDoors outside outside
+doors_none outside = record { door_faults = refl; shut = refl; asked = refl }
+
 pub doors_then : {D : Type 0} {a b c : OutsideState D} → KeepsDoors a b → KeepsDoors b c
     → KeepsDoors a c
-doors_then p q = record { door_faults = q.door_faults ∙ p.door_faults; shut = q.shut ∙ p.shut }
+doors_then p q = record {
+  door_faults = q.door_faults ∙ p.door_faults;
+  shut = q.shut ∙ p.shut;
+  asked = q.asked ∙ p.asked;
+}
 
 pub files_then : {D : Type 0} {a b c : OutsideState D} → KeepsFiles a b → KeepsFiles b c
     → KeepsFiles a c

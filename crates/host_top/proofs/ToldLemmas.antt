@@ -35,6 +35,7 @@ use Rattle.host_top.proofs.ServedLemmas.{WroteSome, consumed, nothing_left, pipe
 use Rattle.host_top.proofs.WrittenLemmas.{init_told}
 use Rattle.host_top.proofs.WrittenLemmas.{links_told, not_lent_served, not_lent_links}
 use Rattle.host_top.proofs.WrittenLemmas.{not_loaded_served, not_loaded_links, not_loaded_begun}
+use Rattle.host_top.proofs.LinksLemmas.{no_doors}
 use Rattle.host_top.proofs.LoansLemmas.{keeps_none}
 use Rattle.host_top.proofs.UsedLemmas.{not_lent, takes_lent}
 use Rattle.host_top.proofs.SpeechLemmas.{spoken_nothing, IsSteady, steady_once, steady_run}
@@ -116,7 +117,7 @@ nothing_writes status P said input (inr wanted) =
 abbrev IsSteadyTask : Result Task (List ℕ) → Type 0
 IsSteadyTask (Ok (Says speech)) = IsSteady speech
 IsSteadyTask (Ok (Serves stories budget folder)) = Unit {0}
-IsSteadyTask (Ok (ServesLinks stories folder)) = Unit {0}
+IsSteadyTask (Ok (ServesLinks stories folder call)) = Unit {0}
 IsSteadyTask (Ok (Begins folder)) = Unit {0}
 IsSteadyTask (Err line) = Unit {0}
 
@@ -177,7 +178,7 @@ held_on disks (Ok (Serves stories budget folder)) s bytes held outside beyond in
     t.givens t.back input now output new status
     (takes_lent disks folder t.given t.givens t.back outside beyond t.many t.borrowed) left_is
     t.done)
-held_on disks (Ok (ServesLinks stories folder)) s bytes held outside beyond input now output new
+held_on disks (Ok (ServesLinks stories folder call)) s bytes held outside beyond input now output new
     status (inl none, doors) left_is held_is =
     held_so held _ held_is (
       [],
@@ -185,7 +186,7 @@ held_on disks (Ok (ServesLinks stories folder)) s bytes held outside beyond inpu
       not_lent_links disks (outside.disk (journal_in folder))
           status _ none.cause,
     )
-held_on disks (Ok (ServesLinks stories folder)) s bytes held outside beyond input now output new
+held_on disks (Ok (ServesLinks stories folder call)) s bytes held outside beyond input now output new
     status (inr t, doors) left_is held_is =
     held_so held _ held_is (links_told disks stories (outside.disk (journal_in folder)) t.given
     t.givens t.back input now output new status t.borrowed.each.0.lent t.done)
@@ -201,7 +202,7 @@ nothing_tells disks disk status P (Ok (Says speech)) input c =
     nothing_writes status P (Ok speech) input c
 nothing_tells disks disk status P (Ok (Serves stories budget folder)) input c =
     not_loaded_served disks stories budget disk folder input status P c
-nothing_tells disks disk status P (Ok (ServesLinks stories folder)) input c =
+nothing_tells disks disk status P (Ok (ServesLinks stories folder call)) input c =
     not_loaded_links disks (disk (journal_in folder)) status P c
 nothing_tells disks disk status P (Ok (Begins folder)) input c =
     not_loaded_begun disks (disk (journal_in folder)) status P c
@@ -253,9 +254,9 @@ does_nothing disks (Ok (Says speech)) outside input output =
     (spoken_nothing (Ok speech) input output, keeps_none outside)
 does_nothing disks (Ok (Serves stories budget folder)) outside input output =
     inl (not_lent disks (journal_in folder ∷ snaps_below folder 64) outside input output)
-does_nothing disks (Ok (ServesLinks stories folder)) outside input output = (
+does_nothing disks (Ok (ServesLinks stories folder call)) outside input output = (
   inl (not_lent disks (journal_in folder ∷ snaps_below folder 64) outside input output),
-  record { done = λ e. cc; not_done = λ e. refl; fault = λ e. cc },
+  no_doors outside NoMemory (λ e. cc) (λ e. cc),
 )
 does_nothing disks (Ok (Begins folder)) outside input output =
     inl (not_lent disks (journal_in folder ∷ []) outside input output)

@@ -31,11 +31,11 @@ DoesTask disks (Ok (Serves stories budget folder)) outside beyond input now outp
     (λ given givens back. PipesOver disks stories budget given givens back input now output new
     status)
     outside beyond input now output new status
-DoesTask disks (Ok (ServesLinks stories folder)) outside beyond input now output new status =
+DoesTask disks (Ok (ServesLinks stories folder call)) outside beyond input now output new status =
     UsesFolder disks folder
     (λ given givens back. ServesOver disks stories given givens back input now output new status)
     outside beyond input now output new status
-    × DoorsBy outside beyond status
+    × DoorsBy call outside beyond status
 DoesTask disks (Ok (Begins folder)) outside beyond input now output new status =
     InitsOn disks folder outside beyond input now output new status
 
@@ -77,7 +77,7 @@ WritesFor disks disk status (Ok (Says speech)) bytes written =
     WritesOf status (Ok speech) bytes written
 WritesFor disks disk status (Ok (Serves stories budget folder)) bytes written =
     WritesServed status disks stories budget disk folder bytes written
-WritesFor disks disk status (Ok (ServesLinks stories folder)) bytes written =
+WritesFor disks disk status (Ok (ServesLinks stories folder call)) bytes written =
     WritesLinks status disks (disk (journal_in folder)) written
 WritesFor disks disk status (Ok (Begins folder)) bytes written =
     WritesBegun status disks (disk (journal_in folder)) written

@@ -17,6 +17,7 @@ memory_state o = record {
   disk_faults = o.disk_faults;
   door_faults = o.door_faults;
   shut = o.shut;
+  asked = o.asked;
 }
 
 -- of its loads that are to fail

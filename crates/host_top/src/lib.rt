@@ -2,6 +2,7 @@
 #![tactic(auto)]
 
 mod check;
+mod door_call;
 mod drill;
 mod folder;
 mod init;
@@ -23,6 +24,7 @@ mod status;
 mod stories;
 mod story_file;
 
+pub use door_call::DoorCall;
 pub use loan::Loan;
 pub use memory_door::MemoryDoor;
 pub use memory_outside::MemoryOutside;

@@ -9,6 +9,7 @@ ghost use Rattle.host_top.specs.MemoryOutside.{disk_in, loan_in};
 ghost use Rattle.std.specs.Map.{update};
 ghost use Rattle.std.specs.Str.{bytes_eq};
 
+use crate::door_call::DoorCall;
 use crate::loan::Loan;
 use crate::memory_door::MemoryDoor;
 use crate::outside::{Fetch, Outside};
@@ -154,6 +155,7 @@ pub struct MemoryOutside {
     failing_doors: Vec<u64>,
     door_faults: u64,
     shut: u64,
+    asked: Option<DoorCall>,
     ghost below: { AreBelow (loan_in shelves) calls },
 }
 
@@ -174,6 +176,7 @@ impl MemoryOutside {
           disk_faults = 0;
           door_faults = 0;
           shut = 0;
+          asked = None;
         } }
         ensures loads { ⟦<MemoryOutside as Outside>⟧.failing_loads result
             ≡ Some (record { next = 0; listed = failing_loads.items }) }
@@ -195,6 +198,7 @@ impl MemoryOutside {
             failing_doors,
             door_faults: 0,
             shut: 0,
+            asked: None,
         }
     }
 }
@@ -260,7 +264,8 @@ impl Outside for MemoryOutside {
         }
     }
 
-    fn door(&mut self, _port: u16, _links: u32) -> Result<MemoryDoor, Failed> {
+    fn door(&mut self, port: u16, links: u32) -> Result<MemoryDoor, Failed> {
+        self.asked = Some(DoorCall { port, links });
         let call = self.doors;
         self.doors = call.saturating_add(1);
         if self.failing_doors.contains(&call) {

@@ -1,6 +1,6 @@
 //! Where stories, disks and doors come from.
 ghost use Rattle.std.specs.Prelude.{◌≡◌, ◌≤◌, ℕ, List, IsTrue, IfOk, OnErr, IsErrOf, Option};
-ghost use Rattle.std.specs.Prelude.{is_err, false};
+ghost use Rattle.std.specs.Prelude.{Some, is_err, false};
 
 use disk_model::{Disk, Failed};
 use host_serve::{Door, Worked};
@@ -99,6 +99,8 @@ pub trait Outside {
         ensures others { (failing_loads self.new ≡ failing_loads self.old)
             × (failing_loans self.new ≡ failing_loans self.old) }
         ensures shut { (outside self.new).shut ≡ (outside self.old).shut }
+        ensures asked { (outside self.new).asked
+            ≡ Some (record { port = port; links = links }) }
         ensures files { KeepsFiles (outside self.old) (outside self.new) }
         ensures disks { KeepsDisks (outside self.old) (outside self.new) };
 

@@ -9,6 +9,7 @@ ghost use Rattle.line_talk.specs.Streams.{SourceState};
 ghost use Rattle.host_top.specs.Files.{KeepsDisks, KeepsFiles};
 ghost use Rattle.host_top.specs.Folder.{FitsNames, IsSameBack, UsesFolder};
 ghost use Rattle.host_top.specs.LinksServed.{DoorsBy, ServesOver};
+ghost use Rattle.host_top.specs.Speech.{door_call};
 ghost use Rattle.turn_cell.specs.History.{Each};
 
 use crate::folder::{Back, Disks, names_in};
@@ -58,7 +59,8 @@ fn serve_door<'i, R: Threads + Wait + Sync, O: Outside>(
     requires workers { (0 < length workers.old) × (length workers.old ≤ 16) }
     requires passes { Each (AreOf host.now) workers.old }
     ensures value { result ≡ Status.Done ⊎ (result ≡ Status.DoorFault) }
-    ensures doors { DoorsBy (O.outside outside.old) (O.outside outside.new) result }
+    ensures doors { DoorsBy (door_call serving) (O.outside outside.old) (O.outside outside.new)
+        result }
     ensures files { KeepsFiles (O.outside outside.old) (O.outside outside.new) }
     ensures disks { KeepsDisks (O.outside outside.old) (O.outside outside.new) }
 {
@@ -88,7 +90,8 @@ fn serve_links<'i, R: Threads + Wait + Sync, O: Outside>(
     ensures value { result ≡ Status.Done ⊎ (result ≡ Status.DoorFault)
         ⊎ (result ≡ Status.NoMemory) }
     ensures kept { AreOf host.now roots.new }
-    ensures doors { DoorsBy (O.outside outside.old) (O.outside outside.new) result }
+    ensures doors { DoorsBy (door_call serving) (O.outside outside.old) (O.outside outside.new)
+        result }
     ensures files { KeepsFiles (O.outside outside.old) (O.outside outside.new) }
     ensures disks { KeepsDisks (O.outside outside.old) (O.outside outside.new) }
 {
@@ -142,7 +145,8 @@ where
       label = D.label;
     }) disks.journal disks.snaps.items result.1 }
     ensures fits { FitsNames 64 result.1 }
-    ensures doors { DoorsBy (O.outside outside.old) (O.outside outside.new) result.0 }
+    ensures doors { DoorsBy (door_call serving) (O.outside outside.old) (O.outside outside.new)
+        result.0 }
     ensures files { KeepsFiles (O.outside outside.old) (O.outside outside.new) }
     ensures disks { KeepsDisks (O.outside outside.old) (O.outside outside.new) }
     ensures read_fault { ¬ (result.0 ≡ Status.ReadFault) }
@@ -197,7 +201,8 @@ pub fn serve<'i, R: Threads + Wait + Sync, O: Outside, K: Sink>(
         (K.sink output.old) (K.sink output.new) result)
         (O.outside outside.old) (O.outside outside.new) input input
         (K.sink output.old) (K.sink output.new) result }
-    ensures doors { DoorsBy (O.outside outside.old) (O.outside outside.new) result }
+    ensures doors { DoorsBy (door_call serving) (O.outside outside.old) (O.outside outside.new)
+        result }
     ensures read_fault { ¬ (result ≡ Status.ReadFault) }
     ensures write_fault { result ≡ Status.WriteFault
         → Rose (K.sink output.old).faults (K.sink output.new).faults }

@@ -1,5 +1,5 @@
 use Rattle.std.proofs.Common.{arith, refl}
-use Rattle.host_top.proofs.LoansLemmas.{doors_then, files_then}
+use Rattle.host_top.proofs.LoansLemmas.{doors_none, doors_then, files_then}
 use Rattle.host_top.proofs.InitLemmas.{stores_more, stores_none, stores_tried}
 use Rattle.host_top.proofs.LendingLemmas.{on_err}
 use Rattle.host_top.proofs.init.make_stores.Goals as goal
@@ -19,7 +19,7 @@ loop-session-init g c = record {
   }) c.args.folder.now (g.O.Outside.outside c.args.outside.now);
   later = omega arith;
   files = record { file = refl; faults = refl };
-  doors = record { door_faults = refl; shut = refl };
+  doors = doors_none _;
 }
 
 pub loop-session-preserved : goal.loop-session-preserved

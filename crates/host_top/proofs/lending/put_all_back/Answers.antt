@@ -4,7 +4,7 @@ use Rattle.std.proofs.Common.{◌<◌}
 use Rattle.std.proofs.lemmas.List.{length-take-le}
 use Rattle.std.proofs.Math.Seq.{take-length}
 use Rattle.std.specs.Option.{option_to_list}
-use Rattle.host_top.proofs.LoansLemmas.{doors_then, files_then}
+use Rattle.host_top.proofs.LoansLemmas.{doors_none, doors_then, files_then}
 use Rattle.host_top.proofs.LendingLemmas.{lent_beside, named_at, pop_last, puts_more, puts_none}
 use Rattle.host_top.proofs.lending.put_all_back.Goals as goal
 
@@ -19,7 +19,7 @@ loop-init g c = record {
       (omega (arith, c.len-many.ensures, c.args.disks.ok));
   lent = λ i name disk low. c.requires.lent i name disk;
   files = record { file = refl; faults = refl };
-  doors = record { door_faults = refl; shut = refl };
+  doors = doors_none _;
 }
 
 pub put_back-requires : goal.put_back-requires

@@ -3,7 +3,7 @@ use Rattle.std.proofs.Common.{map, string_bytes, length, slice_get}
 use Rattle.std.proofs.lemmas.List.{length-append}
 use Rattle.host_top.specs.Borrowed.{Borrowed, PutsBack, lent_as}
 use Rattle.host_top.specs.DiskWords.{DiskWords}
-use Rattle.host_top.proofs.LoansLemmas.{doors_then, files_then}
+use Rattle.host_top.proofs.LoansLemmas.{doors_none, doors_then, files_then}
 use Rattle.host_top.proofs.LendingLemmas.{cause_failed, lent_first_at, named_at, none_lent}
 use Rattle.host_top.proofs.LendingLemmas.{puts_later, refused_back, take_more, take_on}
 use Rattle.host_top.proofs.lending.take_all.Goals as goal
@@ -16,7 +16,7 @@ loop-name-init g c = record {
       c.new-disks.result.items c.new-disks.ensures.items;
   count = refl;
   files = record { file = refl; faults = refl };
-  doors = record { door_faults = refl; shut = refl };
+  doors = doors_none _;
 }
 
 pub put_all_back-requires-clause-lent : goal.put_all_back-requires-clause-lent

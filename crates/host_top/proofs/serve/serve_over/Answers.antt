@@ -1,4 +1,4 @@
-use Rattle.std.proofs.Common.{arith, refl, rules}
+use Rattle.std.proofs.Common.{arith, rules}
 use Rattle.host_top.proofs.ConversedLemmas.{same_back, same_stores, same_long, stores_back}
 use Rattle.host_top.proofs.UsedLemmas.{hosted_so}
 use Rattle.host_top.proofs.LinksLemmas.{are_roots, links_served, no_doors}
@@ -21,7 +21,7 @@ returns-in-Err-clause-value g c = λ input.
 
 pub returns-in-Err-clause-doors : goal.returns-in-Err-clause-doors
 returns-in-Err-clause-doors g c =
-    no_doors _ _ c.in-Err.refusal.0 c.in-Err.ensures.status.0 c.in-Err.ensures.status.1 refl
+    no_doors _ c.in-Err.refusal.0 c.in-Err.ensures.status.0 c.in-Err.ensures.status.1
 
 pub serve_links-status-requires-clause-roots : goal.serve_links-status-requires-clause-roots
 serve_links-status-requires-clause-roots g c = search (rules, are_roots)
