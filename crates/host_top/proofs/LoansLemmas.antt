@@ -229,14 +229,14 @@ keeps_then p q = record {
 }
 
 pub doors_none : {D : Type 0} (outside : OutsideState D) → KeepsDoors outside outside
-doors_none outside = record { door_faults = refl; shut = refl; asked = refl }
+doors_none outside = record { door_faults = refl; shut = refl; door_calls = refl }
 
 pub doors_then : {D : Type 0} {a b c : OutsideState D} → KeepsDoors a b → KeepsDoors b c
     → KeepsDoors a c
 doors_then p q = record {
   door_faults = q.door_faults ∙ p.door_faults;
   shut = q.shut ∙ p.shut;
-  asked = q.asked ∙ p.asked;
+  door_calls = q.door_calls ∙ p.door_calls;
 }
 
 pub files_then : {D : Type 0} {a b c : OutsideState D} → KeepsFiles a b → KeepsFiles b c

@@ -10,6 +10,7 @@ use Rattle.host_serve.specs.declared.worked.Worked.{Worked}
 use Rattle.host_serve.specs.declared.worked.Worked.TheVariants.{Shut, DoorFault}
 use Rattle.line_talk.specs.Causes.{Rose}
 use Rattle.host_top.specs.declared.door_call.DoorCall.{DoorCall}
+use Rattle.host_top.specs.declared.door_call.DoorCalls.{DoorCalls}
 use Rattle.host_top.specs.declared.loan.Loan.{Loan}
 use Rattle.host_top.specs.declared.outside.Fetch.{Fetch}
 use Rattle.host_top.specs.declared.outside.Fetch.TheVariants.{Failed, NoMemory}
@@ -34,7 +35,7 @@ has_failed (Err NoMemory) = false
 
 -- the files and the disks by their names where they are told, the last loan of the disk of a name,
 -- the faults of loads, those of disks and of the calls that lend them, those of doors and of the
--- calls that give them, how many doors were shut, and the last call for a door
+-- calls that give them, how many doors were shut, and the calls for a door
 pub record OutsideState (D : Type 0) : Type 0 where
   pub file : List ℕ → Told (List ℕ)
   pub disk : List ℕ → Told D
@@ -43,7 +44,7 @@ pub record OutsideState (D : Type 0) : Type 0 where
   pub disk_faults : ℕ
   pub door_faults : ℕ
   pub shut : ℕ
-  pub asked : Option DoorCall
+  pub door_calls : DoorCalls
 
 -- what is told by one who knows all names
 abbrev pub told_of_all : {A : Type 0} → Option A → Told A
@@ -67,26 +68,30 @@ pub record KeepsDisks {D : Type 0} (old new : OutsideState D) : Type 0 where
   pub loan : (name : List ℕ) → new.loan name ≡ old.loan name
   pub disk_faults : new.disk_faults ≡ old.disk_faults
 
--- the faults of doors, the number of those that were shut and the last call for one stay
+-- the faults of doors, the number of those that were shut and the calls for one stay
 pub record KeepsDoors {D : Type 0} (old new : OutsideState D) : Type 0 where
   pub door_faults : new.door_faults ≡ old.door_faults
   pub shut : new.shut ≡ old.shut
-  pub asked : new.asked ≡ old.asked
+  pub door_calls : new.door_calls ≡ old.door_calls
 
 -- a count after one more, which stands still at its type's end
 abbrev pub after_one : ℕ → ℕ
 after_one count = min (count + 1) (2 ^ 64 - 1)
 
--- the work at a door ended so: one door more was shut, or one fault more is counted; the last call
--- for one stays
+-- the calls for a door after one more
+abbrev pub after_call : DoorCall → DoorCalls → DoorCalls
+after_call call calls = record { count = after_one calls.count; last = Some call }
+
+-- the work at a door ended so: one door more was shut, or one fault more is counted; the calls for
+-- one stay
 abbrev pub Closes : {D O C E F : Type 0} → Worked O C E F → OutsideState D → OutsideState D
     → Type 0
 Closes (Shut end) old new =
     (new.shut ≡ after_one old.shut) × (new.door_faults ≡ old.door_faults)
-    × (new.asked ≡ old.asked)
+    × (new.door_calls ≡ old.door_calls)
 Closes (DoorFault fault) old new =
     (new.shut ≡ old.shut) × (new.door_faults ≡ after_one old.door_faults)
-    × (new.asked ≡ old.asked)
+    × (new.door_calls ≡ old.door_calls)
 
 -- the disk that is lent reads as the one that is told, and no image is new; where there is told to
 -- be none, it is empty

@@ -1,6 +1,5 @@
 -- What `serve` leaves of the disks of a folder, of its output and of its door (own).
 use Rattle.std.specs.Prelude.{◌≡◌, ◌⊎◌, ℕ, ◌+◌, ◌≤◌, max, IsTrue, List, [], ◌++◌, length, Option}
-use Rattle.std.specs.Prelude.{Some}
 use Rattle.disk_model.specs.Disk.{EachImage, LeavesOnly}
 use Rattle.gate_journal.specs.declared.entry.Entry.{Entry as JournalEntry}
 use Rattle.gate_journal.specs.declared.row.Row.{Row}
@@ -10,7 +9,7 @@ use Rattle.line_talk.specs.Causes.{Rose}
 use Rattle.story_run.specs.declared.story.Story.{Story}
 use Rattle.line_talk.specs.Streams.{SourceState, SinkState, Gave, Wrote}
 use Rattle.host_top.specs.DiskWords.{DiskWords}
-use Rattle.host_top.specs.Files.{OutsideState, Told, after_one}
+use Rattle.host_top.specs.Files.{OutsideState, Told, after_call, after_one}
 use Rattle.host_top.specs.Piped.{HostedOver, StoresBack}
 use Rattle.host_top.specs.Served.{BeginsRefusal, RefusesJournal}
 use Rattle.host_top.specs.declared.door_call.DoorCall.{DoorCall}
@@ -62,15 +61,16 @@ ServesOver disks stories given givens back input now output new status =
 
 -- What becomes of doors, by the exit status: one more was shut where the command is done, and else
 -- none; a door, or the call that gives it, failed where the status says so. With these two statuses
--- the last call for a door is this one, and else that of before.
+-- one call for a door was made, this one, and else none.
 pub record DoorsBy {D : Type 0} (call : DoorCall) (outside beyond : OutsideState D)
     (status : Status) : Type 0 where
   pub done : status ≡ ends.Done → beyond.shut ≡ after_one outside.shut
   pub not_done : (status ≡ ends.Done → ⊥) → beyond.shut ≡ outside.shut
   pub fault : status ≡ ends.DoorFault → Rose outside.door_faults beyond.door_faults
-  pub asked : (status ≡ ends.Done) ⊎ (status ≡ ends.DoorFault) → beyond.asked ≡ Some call
+  pub asked : (status ≡ ends.Done) ⊎ (status ≡ ends.DoorFault)
+      → beyond.door_calls ≡ after_call call outside.door_calls
   pub unasked : (status ≡ ends.Done → ⊥) → (status ≡ ends.DoorFault → ⊥)
-      → beyond.asked ≡ outside.asked
+      → beyond.door_calls ≡ outside.door_calls
 
 -- what `serve` writes on the program's output, by its exit status, and what is told of its
 -- journal's disk: the line by which a journal is refused, and else nothing

@@ -17,7 +17,7 @@ memory_state o = record {
   disk_faults = o.disk_faults;
   door_faults = o.door_faults;
   shut = o.shut;
-  asked = o.asked;
+  door_calls = o.door_calls;
 }
 
 -- of its loads that are to fail
@@ -30,4 +30,4 @@ loans_due o = Some (record { next = o.calls; listed = o.failing_loans.items })
 
 -- of its calls for a door that are to fail
 abbrev pub doors_due : MemoryOutside → Option Failing
-doors_due o = Some (record { next = o.doors; listed = o.failing_doors.items })
+doors_due o = Some (record { next = o.door_calls.count; listed = o.failing_doors.items })

@@ -24,7 +24,7 @@ mod status;
 mod stories;
 mod story_file;
 
-pub use door_call::DoorCall;
+pub use door_call::{DoorCall, DoorCalls};
 pub use loan::Loan;
 pub use memory_door::MemoryDoor;
 pub use memory_outside::MemoryOutside;

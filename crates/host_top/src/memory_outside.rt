@@ -9,7 +9,7 @@ ghost use Rattle.host_top.specs.MemoryOutside.{disk_in, loan_in};
 ghost use Rattle.std.specs.Map.{update};
 ghost use Rattle.std.specs.Str.{bytes_eq};
 
-use crate::door_call::DoorCall;
+use crate::door_call::{DoorCall, DoorCalls};
 use crate::loan::Loan;
 use crate::memory_door::MemoryDoor;
 use crate::outside::{Fetch, Outside};
@@ -151,11 +151,10 @@ pub struct MemoryOutside {
     calls: u64,
     failing_loans: Vec<u64>,
     disk_faults: u64,
-    doors: u64,
+    door_calls: DoorCalls,
     failing_doors: Vec<u64>,
     door_faults: u64,
     shut: u64,
-    asked: Option<DoorCall>,
     ghost below: { AreBelow (loan_in shelves) calls },
 }
 
@@ -176,7 +175,7 @@ impl MemoryOutside {
           disk_faults = 0;
           door_faults = 0;
           shut = 0;
-          asked = None;
+          door_calls = record { count = 0; last = None };
         } }
         ensures loads { ⟦<MemoryOutside as Outside>⟧.failing_loads result
             ≡ Some (record { next = 0; listed = failing_loads.items }) }
@@ -194,11 +193,10 @@ impl MemoryOutside {
             calls: 0,
             failing_loans,
             disk_faults: 0,
-            doors: 0,
+            door_calls: DoorCalls::none(),
             failing_doors,
             door_faults: 0,
             shut: 0,
-            asked: None,
         }
     }
 }
@@ -265,9 +263,8 @@ impl Outside for MemoryOutside {
     }
 
     fn door(&mut self, port: u16, links: u32) -> Result<MemoryDoor, Failed> {
-        self.asked = Some(DoorCall { port, links });
-        let call = self.doors;
-        self.doors = call.saturating_add(1);
+        let call = self.door_calls.count;
+        self.door_calls.add(DoorCall { port, links });
         if self.failing_doors.contains(&call) {
             self.door_faults = self.door_faults.saturating_add(1);
             return Err(Failed);

@@ -1,6 +1,6 @@
 //! Where stories, disks and doors come from.
 ghost use Rattle.std.specs.Prelude.{◌≡◌, ◌≤◌, ℕ, List, IsTrue, IfOk, OnErr, IsErrOf, Option};
-ghost use Rattle.std.specs.Prelude.{Some, is_err, false};
+ghost use Rattle.std.specs.Prelude.{is_err, false};
 
 use disk_model::{Disk, Failed};
 use host_serve::{Door, Worked};
@@ -17,7 +17,7 @@ pub enum Fetch {
 pub trait Outside {
     ghost use Rattle.line_talk.specs.Causes.{Rose};
     ghost use Rattle.host_top.specs.Files.{OutsideState, IsLoadOf, KeepsFiles, KeepsDisks};
-    ghost use Rattle.host_top.specs.Files.{KeepsDoors, Closes};
+    ghost use Rattle.host_top.specs.Files.{KeepsDoors, Closes, after_call};
     ghost use Rattle.line_talk.specs.Failing.{Failing, FailsAsListed};
     ghost use Rattle.host_top.specs.Files.{IsLentFrom, IsLent, Lends, TakesDiskBack};
     ghost use Rattle.host_top.specs.Files.{is_told_missing, is_out, has_failed};
@@ -99,8 +99,8 @@ pub trait Outside {
         ensures others { (failing_loads self.new ≡ failing_loads self.old)
             × (failing_loans self.new ≡ failing_loans self.old) }
         ensures shut { (outside self.new).shut ≡ (outside self.old).shut }
-        ensures asked { (outside self.new).asked
-            ≡ Some (record { port = port; links = links }) }
+        ensures asked { (outside self.new).door_calls
+            ≡ after_call (record { port = port; links = links }) (outside self.old).door_calls }
         ensures files { KeepsFiles (outside self.old) (outside self.new) }
         ensures disks { KeepsDisks (outside self.old) (outside self.new) };
 

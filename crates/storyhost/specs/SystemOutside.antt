@@ -6,7 +6,7 @@ use Rattle.host_top.specs.Files.{OutsideState, Untold}
 use Rattle.storyhost.specs.declared.edge.disk.FileDisk.{FileDisk}
 use Rattle.storyhost.specs.declared.edge.files.SystemFiles.{SystemFiles}
 
--- no name is told; the loans, the counts, and the last call for a door
+-- no name is told; the loans, the counts, and the calls for a door
 abbrev pub system_state : {R : Type 0} → SystemFiles R → OutsideState FileDisk
 system_state o = record {
   file = λ name. Untold;
@@ -16,7 +16,7 @@ system_state o = record {
   disk_faults = o.disk_faults;
   door_faults = o.door_faults;
   shut = o.shut;
-  asked = o.asked;
+  door_calls = o.door_calls;
 }
 
 -- which of its calls are to fail isn't told

@@ -9,7 +9,7 @@ use super::disk::FileDisk;
 use super::tcp::TcpDoor;
 use disk_model::{Disk, Failed};
 use host_serve::Worked;
-use host_top::{DoorCall, Fetch, Loan, Outside};
+use host_top::{DoorCall, DoorCalls, Fetch, Loan, Outside};
 use std::alloc::{AllocError, Global};
 use std::collections::BTreeMap;
 use std::fs::{self, File, OpenOptions};
@@ -32,7 +32,7 @@ pub struct SystemFiles<'r, R> {
     disk_faults: u64,
     door_faults: u64,
     shut: u64,
-    asked: Option<DoorCall>,
+    door_calls: DoorCalls,
     ghost below: { AreBelow (get_by_text loans) calls },
 }
 
@@ -46,7 +46,7 @@ impl<'r, R> SystemFiles<'r, R> {
             disk_faults: 0,
             door_faults: 0,
             shut: 0,
-            asked: None,
+            door_calls: DoorCalls::none(),
         }
     }
 }
@@ -170,7 +170,7 @@ where
     }
 
     fn door(&mut self, port: u16, links: u32) -> Result<TcpDoor, Failed> {
-        self.asked = Some(DoorCall { port, links });
+        self.door_calls.add(DoorCall { port, links });
         match TcpDoor::open(self.rt, port, links) {
             Ok(door) => {
                 let port = door.port();
