@@ -176,15 +176,15 @@ does_failed : {D : Type 0} (disks : DiskWords D) (task : Result Task (List ℕ))
 does_failed disks (Err line) outside beyond input now output new does = absurd does.0.leaves
 does_failed disks (Ok (Says speech)) outside beyond input now output new does = absurd does.0.leaves
 does_failed disks (Ok (Serves stories budget folder)) outside beyond input now output new
-    (inl none) = not_lent_failed disks _ outside beyond output new none
-does_failed disks (Ok (Serves stories budget folder)) outside beyond input now output new (inr t) =
-    pipe_failed disks folder outside beyond output new t
+    (inl none, doors) = not_lent_failed disks _ outside beyond output new none
+does_failed disks (Ok (Serves stories budget folder)) outside beyond input now output new
+    (inr t, doors) = pipe_failed disks folder outside beyond output new t
 does_failed disks (Ok (ServesLinks stories folder call)) outside beyond input now output new
     (inl none, doors) = not_lent_failed disks _ outside beyond output new none
 does_failed disks (Ok (ServesLinks stories folder call)) outside beyond input now output new
     (inr t, doors) = links_failed disks folder outside beyond output new t
 does_failed disks (Ok (Begins folder)) outside beyond input now output new does =
-    init_failed disks folder outside beyond output new does
+    init_failed disks folder outside beyond output new does.0
 
 disk_failed : {D : Type 0} (disks : DiskWords D) (asked : Asked) (outside beyond : OutsideState D)
     (input now : SourceState) (output new : SinkState)
@@ -263,25 +263,27 @@ door_in : {D : Type 0} (disks : DiskWords D) (task : Result Task (List ℕ))
     → Rose outside.door_faults beyond.door_faults
 door_in disks (Err line) outside beyond input now output new does = absurd does.0.leaves
 door_in disks (Ok (Says speech)) outside beyond input now output new does = absurd does.0.leaves
-door_in disks (Ok (Serves stories budget folder)) outside beyond input now output new (inl none) =
-    not_lent_door disks _ outside beyond _ none
-door_in disks (Ok (Serves stories budget folder)) outside beyond input now output new (inr t) =
+door_in disks (Ok (Serves stories budget folder)) outside beyond input now output new
+    (inl none, doors) = not_lent_door disks _ outside beyond _ none
+door_in disks (Ok (Serves stories budget folder)) outside beyond input now output new
+    (inr t, doors) =
     hosted_door disks _ t.given t.givens t.back input now output new _
     (λ journal snaps hosts. no_served hosts.0 _ hosts.1) t.done
 door_in disks (Ok (ServesLinks stories folder call)) outside beyond input now output new does =
     does.1.fault refl
-door_in disks (Ok (Begins folder)) outside beyond input now output new (inl none) =
+door_in disks (Ok (Begins folder)) outside beyond input now output new (inl none, doors) =
     not_lent_door disks _ outside beyond _ none
-door_in disks (Ok (Begins folder)) outside beyond input now output new (inr i) = elim i.inits.does [
-  | inl done ↦ elim done.1 [
-    | inl b ↦ unsaid _ (λ e. absurd (grind (arith, e))) b.0.says
-    | inr n ↦ unrefused n.0.fault output new _ n.0.says
-  ]
-  | inr u ↦ elim u.cause [
-    | inl failed ↦ absurd (grind (arith, failed.0))
-    | inr wanted ↦ absurd (grind (arith, wanted))
-  ]
-]
+door_in disks (Ok (Begins folder)) outside beyond input now output new (inr i, doors) =
+    elim i.inits.does [
+      | inl done ↦ elim done.1 [
+        | inl b ↦ unsaid _ (λ e. absurd (grind (arith, e))) b.0.says
+        | inr n ↦ unrefused n.0.fault output new _ n.0.says
+      ]
+      | inr u ↦ elim u.cause [
+        | inl failed ↦ absurd (grind (arith, failed.0))
+        | inr wanted ↦ absurd (grind (arith, wanted))
+      ]
+    ]
 
 door_failed : {D : Type 0} (disks : DiskWords D) (asked : Asked) (outside beyond : OutsideState D)
     (input now : SourceState) (output new : SinkState)

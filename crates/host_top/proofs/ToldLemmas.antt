@@ -15,7 +15,7 @@ use Rattle.command_words.specs.declared.words.Action.{Action}
 use Rattle.command_words.specs.declared.words.Action.TheVariants.{Run, Check, Pipe, Serve, Drill}
 use Rattle.command_words.specs.declared.words.Action.TheVariants.{Init, Help, Version}
 use Rattle.host_top.specs.Borrowed.{journal_in, snaps_below}
-use Rattle.host_top.specs.Files.{OutsideState, Told}
+use Rattle.host_top.specs.Files.{OutsideState, KeepsDisks, KeepsDoors, Told}
 use Rattle.host_top.specs.Follows.{DoesTask, FollowsCommand, TellsCaller, WritesFor}
 use Rattle.host_top.specs.Headline.{Speech, WritesOf, whole_text}
 use Rattle.command_words.specs.Help.{help_text, version_text}
@@ -36,7 +36,7 @@ use Rattle.host_top.proofs.WrittenLemmas.{init_told}
 use Rattle.host_top.proofs.WrittenLemmas.{links_told, not_lent_served, not_lent_links}
 use Rattle.host_top.proofs.WrittenLemmas.{not_loaded_served, not_loaded_links, not_loaded_begun}
 use Rattle.host_top.proofs.LinksLemmas.{no_doors}
-use Rattle.host_top.proofs.LoansLemmas.{keeps_none}
+use Rattle.host_top.proofs.LoansLemmas.{doors_none, keeps_none}
 use Rattle.host_top.proofs.UsedLemmas.{not_lent, takes_lent}
 use Rattle.host_top.proofs.SpeechLemmas.{spoken_nothing, IsSteady, steady_once, steady_run}
 use Rattle.host_top.proofs.SpeechLemmas.{steady_check}
@@ -165,7 +165,7 @@ held_on disks (Err line) s bytes held outside beyond input now output new status
 held_on disks (Ok (Says speech)) s bytes held outside beyond input now output new status does
     left_is held_is = said_held (Ok speech) s bytes held status does.0 left_is held_is
 held_on disks (Ok (Serves stories budget folder)) s bytes held outside beyond input now output new
-    status (inl none) left_is held_is =
+    status (inl none, doors) left_is held_is =
     held_so held _ held_is (
       [],
       none.wrote,
@@ -173,7 +173,7 @@ held_on disks (Ok (Serves stories budget folder)) s bytes held outside beyond in
           bytes status _ none.cause,
     )
 held_on disks (Ok (Serves stories budget folder)) s bytes held outside beyond input now output new
-    status (inr t) left_is held_is =
+    status (inr t, doors) left_is held_is =
     held_so held _ held_is (pipe_told disks stories budget outside.disk folder bytes t.given
     t.givens t.back input now output new status
     (takes_lent disks folder t.given t.givens t.back outside beyond t.many t.borrowed) left_is
@@ -192,7 +192,7 @@ held_on disks (Ok (ServesLinks stories folder call)) s bytes held outside beyond
     t.givens t.back input now output new status t.borrowed.each.0.lent t.done)
 held_on disks (Ok (Begins folder)) s bytes held outside beyond input now output new status does
     left_is held_is =
-    held_so held _ held_is (init_told disks folder outside beyond input now output new status does)
+    held_so held _ held_is (init_told disks folder outside beyond input now output new status does.0)
 
 nothing_tells : {D : Type 0} (disks : DiskWords D) (disk : List ℕ → Told D) (status : Status)
     (P : Type 0) (task : Result Task (List ℕ)) (input : List ℕ)
@@ -244,22 +244,33 @@ tells disks asked status outside beyond input now output new (inr some) files by
           t.2),
     )
 
+-- two facts as one
+pub both : {A B : Type 0} → A → B → A × B
+both a b = (a, b)
+
+-- what is so, of an outside that was left alone
+pub left_alone : {D A : Type 0} (outside : OutsideState D) → A
+    → A × KeepsDisks outside outside × KeepsDoors outside outside
+left_alone outside a = (a, keeps_none outside, doors_none outside)
+
 -- memory was wanted before a task was begun
 pub does_nothing : {D : Type 0} (disks : DiskWords D) (task : Result Task (List ℕ))
     (outside : OutsideState D) (input : SourceState) (output : SinkState)
     → DoesTask disks task outside outside input input output output NoMemory
 does_nothing disks (Err line) outside input output =
-    (spoken_nothing (Err line) input output, keeps_none outside)
+    left_alone outside (spoken_nothing (Err line) input output)
 does_nothing disks (Ok (Says speech)) outside input output =
-    (spoken_nothing (Ok speech) input output, keeps_none outside)
-does_nothing disks (Ok (Serves stories budget folder)) outside input output =
-    inl (not_lent disks (journal_in folder ∷ snaps_below folder 64) outside input output)
+    left_alone outside (spoken_nothing (Ok speech) input output)
+does_nothing disks (Ok (Serves stories budget folder)) outside input output = (
+  inl (not_lent disks (journal_in folder ∷ snaps_below folder 64) outside input output),
+  doors_none outside,
+)
 does_nothing disks (Ok (ServesLinks stories folder call)) outside input output = (
   inl (not_lent disks (journal_in folder ∷ snaps_below folder 64) outside input output),
   no_doors outside NoMemory (λ e. cc) (λ e. cc),
 )
 does_nothing disks (Ok (Begins folder)) outside input output =
-    inl (not_lent disks (journal_in folder ∷ []) outside input output)
+    (inl (not_lent disks (journal_in folder ∷ []) outside input output), doors_none outside)
 
 -- where memory was wanted before a file was loaded, each caller is told so
 tells_nothing : {D : Type 0} (disks : DiskWords D) (asked : Asked) (outside : OutsideState D)
@@ -306,8 +317,5 @@ done_no_memory disks asked code outside input output is =
       gave = gave_none input;
       wrote = wrote_none output;
       disks = keeps_none outside;
+      doors = doors_none outside;
     })))
-
--- two facts as one
-pub both : {A B : Type 0} → A → B → A × B
-both a b = (a, b)

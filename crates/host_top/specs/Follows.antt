@@ -24,20 +24,23 @@ abbrev pub DoesTask : {D : Type 0} → DiskWords D → Result Task (List ℕ)
     → Status → Type 0
 DoesTask disks (Err line) outside beyond input now output new status =
     Spoken (Err line) input now output new status × KeepsDisks outside beyond
+    × KeepsDoors outside beyond
 DoesTask disks (Ok (Says speech)) outside beyond input now output new status =
     Spoken (Ok speech) input now output new status × KeepsDisks outside beyond
+    × KeepsDoors outside beyond
 DoesTask disks (Ok (Serves stories budget folder)) outside beyond input now output new status =
     UsesFolder disks folder
     (λ given givens back. PipesOver disks stories budget given givens back input now output new
     status)
     outside beyond input now output new status
+    × KeepsDoors outside beyond
 DoesTask disks (Ok (ServesLinks stories folder call)) outside beyond input now output new status =
     UsesFolder disks folder
     (λ given givens back. ServesOver disks stories given givens back input now output new status)
     outside beyond input now output new status
     × DoorsBy call outside beyond status
 DoesTask disks (Ok (Begins folder)) outside beyond input now output new status =
-    InitsOn disks folder outside beyond input now output new status
+    InitsOn disks folder outside beyond input now output new status × KeepsDoors outside beyond
 
 -- a load failed behind stories alone, or memory was wanted; and nothing was read or written
 pub record NotLoaded {D : Type 0} (names : List (List ℕ)) (outside beyond : OutsideState D)
@@ -47,6 +50,7 @@ pub record NotLoaded {D : Type 0} (names : List (List ℕ)) (outside beyond : Ou
   pub gave : Gave input now []
   pub wrote : Wrote output new []
   pub disks : KeepsDisks outside beyond
+  pub doors : KeepsDoors outside beyond
 
 -- the stories were loaded, and the command does its task over them
 pub record Loaded {D : Type 0} (disks : DiskWords D) (asked : Asked)

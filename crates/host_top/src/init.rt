@@ -211,6 +211,7 @@ pub fn init_folder<O: Outside, K: Sink>(
     ensures write_fault { result ≡ Status.WriteFault
         → Rose (K.sink output.old).faults (K.sink output.new).faults }
     ensures files { KeepsFiles (O.outside outside.old) (O.outside outside.new) }
+    ensures doors { KeepsDoors (O.outside outside.old) (O.outside outside.new) }
 {
     let Ok(name) = journal_name(alloc, folder) else {
         return Status::NoMemory;

@@ -5,7 +5,7 @@ ghost use Rattle.host_serve.specs.Holders.{holders};
 ghost use Rattle.host_serve.specs.Hosts.{AreOf, IsSound};
 ghost use Rattle.line_talk.specs.Causes.{Rose};
 ghost use Rattle.host_top.specs.Folder.{FitsNames, IsSameBack, UsesFolder};
-ghost use Rattle.host_top.specs.Files.{KeepsFiles};
+ghost use Rattle.host_top.specs.Files.{KeepsDoors, KeepsFiles};
 ghost use Rattle.host_top.specs.Piped.{PipesOver};
 ghost use Rattle.host_top.specs.Between.{ServesBetween};
 
@@ -143,6 +143,7 @@ pub fn pipe<'i, R: Wait, O: Outside, S: Source, K: Sink>(
     ensures write_fault { result ≡ Status.WriteFault
         → Rose (K.sink output.old).faults (K.sink output.new).faults }
     ensures files { KeepsFiles (O.outside outside.old) (O.outside outside.new) }
+    ensures doors { KeepsDoors (O.outside outside.old) (O.outside outside.new) }
 {
     let Ok(names) = names_in(alloc, folder) else {
         return Status::NoMemory;
