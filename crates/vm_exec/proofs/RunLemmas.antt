@@ -50,7 +50,7 @@ use Rattle.vm_exec.specs.Rules.{resumes}
 use Rattle.vm_exec.specs.Rules.{returns, stored, stub_dest, when, with_arguments}
 use Rattle.vm_exec.specs.Rules.{with_stub, wrap, writes}
 use Rattle.vm_exec.specs.Run.{EndsBy, GoesBy, IsQuickOpcode, IsUnready, RunsTo, StaysOn}
-use Rattle.vm_exec.specs.Run.{Tells, Works, went_of}
+use Rattle.vm_exec.specs.Run.{Tells, WorkGives, went_of}
 use Rattle.vm_exec.specs.Start.{IsOver}
 use Rattle.vm_exec.specs.TextStub.{text_on}
 use Rattle.vm_exec.specs.declared.machine.Machine.{Machine}
@@ -236,7 +236,7 @@ both x new done e =
     ap (λ (y : Machine × Done). (y.0, y.1.out)) p
 
 works_by : (o : Out) (n : Machine) (w : Work) → w ≡ Free (Ok (n, o)) → IsQuietOut o
-    → Works w n (Ok (went_of o))
+    → WorkGives w n (Ok (went_of o))
 works_by Ran n w e q = e
 works_by Quit n w e q = e
 works_by (Char x) n w e q = absurd q
@@ -247,7 +247,7 @@ works_by (Restore s) n w e q = absurd q
 -- what such work did is what its row says, and it told no more
 pub works_ok : (w : Work) (new : Machine) (done : Done) → IsQuietWork w
     → budgeted 0 w ≡ Ok (new, done)
-    → Works w new (Ok (went_of done.out))
+    → WorkGives w new (Ok (went_of done.out))
 works_ok (Free (Ok x)) new done q e =
     let same = both x new done e in
     works_by done.out new (Free (Ok x)) (ap (λ (y : Machine × Out). Free (Ok y)) same)
@@ -256,7 +256,7 @@ works_ok (Free (Err n)) new done q e = absurd cc
 works_ok (Costs n r) new done q e = absurd q
 
 pub works_err : (w : Work) (new : Machine) (e : Trap) → IsQuietWork w
-    → Does {A = Done} (budgeted 0 w) new (Err e) → Works w new (Err e)
+    → Does {A = Done} (budgeted 0 w) new (Err e) → WorkGives w new (Err e)
 works_err (Free (Ok x)) new (Fault k) q e = absurd cc
 works_err (Free (Err n)) new (Fault k) q e = let same : n ≡ k = cc in ap (λ (j : ℕ). Free (Err j))
     same
@@ -264,10 +264,10 @@ works_err (Costs n r) new (Fault k) q e = absurd q
 works_err w new NoMemory q e = tt
 
 -- a refusal that is handed on
-pub works_handed : (w : Work) (n : Machine) (e : Trap) (r : Result Went Trap) → Works w n (Err e)
-    → IsErrAnd r (λ f. f ≡ e) → Works w n r
+pub works_handed : (w : Work) (n : Machine) (e : Trap) (r : Result Went Trap) → WorkGives w n (Err e)
+    → IsErrAnd r (λ f. f ≡ e) → WorkGives w n r
 works_handed w n e (Ok g) why same = absurd same
-works_handed w n e (Err f) why same = subst (λ (t : Trap). Works w n (Err t)) (sym same) why
+works_handed w n e (Err f) why same = subst (λ (t : Trap). WorkGives w n (Err t)) (sym same) why
 
 stays_by : (o : Out) (n : Machine) → StaysFit n o → IsQuietOut o → StaysOn n (went_of o)
 stays_by Ran n s q = s
@@ -287,7 +287,7 @@ stays_ok (Costs n r) new done q e s = absurd q
 
 -- an instruction that was fetched goes by its work
 pub goes_by : (m n new : Machine) (o : Op) (w : Work) (r : Result Went Trap) → fetched m ≡ Ok w
-    → Works w new r → GoesBy m new r
+    → WorkGives w new r → GoesBy m new r
 goes_by m n new o w (Ok went.On) f e = ap charged f ∙ ap (λ (x : Work). charged (Ok x)) e
 goes_by m n new o w (Ok went.Quits) f e = ap charged f ∙ ap (λ (x : Work). charged (Ok x)) e
 goes_by m n new o w (Ok went.Aside) f e = absurd e

@@ -67,12 +67,12 @@ work_for o m q =
     (dest_by_index (q.to ∷ dest.Discard ∷ []))
 
 -- what the work of a quick opcode came to
-abbrev pub Works : Work → Machine → Result Went Trap → Type 0
-Works w n (Ok On) = w ≡ Free (Ok (n, Ran))
-Works w n (Ok Quits) = w ≡ Free (Ok (n, Quit))
-Works w n (Ok Aside) = ⊥
-Works w n (Err (Fault k)) = w ≡ Free (Err k)
-Works w n (Err NoMemory) = Unit {0}
+abbrev pub WorkGives : Work → Machine → Result Went Trap → Type 0
+WorkGives w n (Ok On) = w ≡ Free (Ok (n, Ran))
+WorkGives w n (Ok Quits) = w ≡ Free (Ok (n, Quit))
+WorkGives w n (Ok Aside) = ⊥
+WorkGives w n (Err (Fault k)) = w ≡ Free (Err k)
+WorkGives w n (Err NoMemory) = Unit {0}
 
 abbrev pub went_of : Out → Went
 went_of Quit = Quits

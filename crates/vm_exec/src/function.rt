@@ -23,6 +23,7 @@ use vm_stack::Stub;
 
 impl<'i> Machine<'i> {
     // The stub that stores a result there and goes on behind this instruction.
+    #[inline(always)]
     #[tactic(auto, using(crate::proofs::FieldsLemmas::stub_is))]
     fn stub_for(&self, to: Dest) -> Stub
         ensures { result ≡ rules.stub_for self.now to }
@@ -36,6 +37,7 @@ impl<'i> Machine<'i> {
         }
     }
 
+    #[inline(always)]
     pub(crate) fn push_stub_for(&mut self, to: Dest) -> Result<(), Trap>
         ensures does { Changes (rules.with_stub self.old to) self.new result }
         ensures fit { IsFit self.old → OnOk result (IsFit self.new) }
@@ -46,6 +48,7 @@ impl<'i> Machine<'i> {
     }
 
     /// The function begins, over what is on the stack.
+    #[inline(always)]
     pub(crate) fn enter(&mut self, alloc: Global, at: u32, args: &[u32]) -> Result<Done, Trap>
         ensures does { DoesAtNoCost (rules.enters self.old at args.now) self.new result }
         ensures fit { IsFit self.old → IsReady self.old.stack
@@ -56,6 +59,7 @@ impl<'i> Machine<'i> {
     }
 
     /// A call whose result is stored there.
+    #[inline(always)]
     pub(crate) fn call(
         &mut self,
         alloc: Global,
@@ -103,6 +107,7 @@ impl<'i> Machine<'i> {
 
     /// The story goes on at a stub, whose result is the value; a text drops it. Fault 13 for a stub
     /// of no type.
+    #[inline(always)]
     fn resume_at(&mut self, stub: Stub, value: u32) -> Result<Done, Trap>
         ensures does { DoesAtNoCost (rules.resumes self.old stub value) self.new result }
         ensures fit { IsFit self.old → IfOk result (λ done. StaysFit self.new done.out) }
@@ -117,6 +122,7 @@ impl<'i> Machine<'i> {
     }
 
     /// A return from the current function; that of the start function ends the story.
+    #[inline(always)]
     pub(crate) fn give_back(&mut self, value: u32) -> Result<Done, Trap>
         ensures does { DoesAtNoCost (rules.returns self.old value) self.new result }
         ensures fit { IsFit self.old → IfOk result (λ done. StaysFit self.new done.out) }
@@ -154,6 +160,7 @@ impl<'i> Machine<'i> {
         self.resume_at(stub, value)
     }
 
+    #[inline(always)]
     #[tactic(auto, unfolding(crate::specs::Rows::Function::flow_work))]
     pub(crate) fn flow_op(
         &mut self,
@@ -185,6 +192,7 @@ impl<'i> Machine<'i> {
 }
 
 // Where the result goes that a stub waits for.
+#[inline(always)]
 pub(crate) fn stub_dest(stub: Stub) -> Result<Dest, Trap>
     ensures { MakesValue (rules.stub_dest stub) result }
 {

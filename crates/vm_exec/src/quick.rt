@@ -5,7 +5,7 @@ ghost use Rattle.std.specs.Prelude.{◌≡◌, ◌<◌, ℕ, List, IfOk, OnOk, f
 ghost use Rattle.vm_exec.specs.Fetch.{Fetches, IsAtHand};
 ghost use Rattle.vm_exec.specs.Machine.{IsFit, IsSoundMachine, KeepsImage};
 ghost use Rattle.vm_exec.specs.Run.{GoesBy, IfDid, IsQuickOpcode, RunsWithin, StaysOn, StopsAt};
-ghost use Rattle.vm_exec.specs.Run.{Works, went_of, work_for};
+ghost use Rattle.vm_exec.specs.Run.{WorkGives, went_of, work_for};
 ghost use Rattle.vm_exec.specs.Rules.{branches, returns};
 ghost use Rattle.vm_exec.specs.Rows.Work.{Free};
 ghost use Rattle.vm_exec.specs.Start.{IsOver};
@@ -143,7 +143,7 @@ impl<'i> Machine<'i> {
     #[inline(always)]
     fn work_on(&mut self, alloc: Global, op: Op, fetched: Fetched) -> Result<Went, Trap>
         requires { IsQuickOpcode op }
-        ensures does { Works (work_for op self.old fetched) self.new result }
+        ensures does { WorkGives (work_for op self.old fetched) self.new result }
         ensures fit { IsFit self.old → IfOk result (λ went. StaysOn self.new went) }
     {
         let args = fetched.args();
@@ -155,7 +155,7 @@ impl<'i> Machine<'i> {
     #[inline(always)]
     #[tactic(auto, unfolding(crate::specs::Rows::Math::math_work))]
     fn math_on(&mut self, math: Math, fetched: Fetched) -> Result<Went, Trap>
-        ensures does { Works (work_for (op.Math math) self.old fetched) self.new result }
+        ensures does { WorkGives (work_for (op.Math math) self.old fetched) self.new result }
         ensures fit { IsFit self.old → IfOk result (λ went. StaysOn self.new went) }
     {
         let value = math.apply(fetched.first, fetched.second)?;
@@ -167,7 +167,7 @@ impl<'i> Machine<'i> {
     #[inline(always)]
     #[tactic(auto, unfolding(crate::specs::Rows::Moving::move_work))]
     fn copy_on(&mut self, fetched: Fetched) -> Result<Went, Trap>
-        ensures does { Works (work_for (op.Move Copy) self.old fetched) self.new result }
+        ensures does { WorkGives (work_for (op.Move Copy) self.old fetched) self.new result }
         ensures fit { IsFit self.old → IfOk result (λ went. StaysOn self.new went) }
     {
         self.store(fetched.to, fetched.first)?;
@@ -178,7 +178,7 @@ impl<'i> Machine<'i> {
     #[inline(always)]
     #[tactic(auto, unfolding(crate::specs::Rows::Branch::branch_work))]
     fn branch_on(&mut self, branch: Branch, fetched: Fetched) -> Result<Went, Trap>
-        ensures does { Works (work_for (op.Branch branch) self.old fetched) self.new result }
+        ensures does { WorkGives (work_for (op.Branch branch) self.old fetched) self.new result }
         ensures fit { IsFit self.old → IfOk result (λ went. StaysOn self.new went) }
     {
         let holds = branch.holds(fetched.first, fetched.second);
@@ -197,7 +197,7 @@ impl<'i> Machine<'i> {
     // By an offset, of which 0 and 1 return that value.
     #[inline(always)]
     fn jump_on(&mut self, offset: u32) -> Result<Went, Trap>
-        ensures does { Works (Free (branches self.old offset)) self.new result }
+        ensures does { WorkGives (Free (branches self.old offset)) self.new result }
         ensures fit { IsFit self.old → IfOk result (λ went. StaysOn self.new went) }
     {
         if offset == 0 || offset == 1 {
@@ -210,7 +210,7 @@ impl<'i> Machine<'i> {
     // The function returns.
     #[inline(never)]
     fn return_on(&mut self, value: u32) -> Result<Went, Trap>
-        ensures does { Works (Free (returns self.old value)) self.new result }
+        ensures does { WorkGives (Free (returns self.old value)) self.new result }
         ensures fit { IsFit self.old → IfOk result (λ went. StaysOn self.new went) }
     {
         let done = self.give_back(value)?;

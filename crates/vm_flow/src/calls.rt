@@ -19,6 +19,7 @@ use vm_stack::Stack;
 /// Calls the function at an address with these arguments, the first one first, over the stub on
 /// top, and gives the address of its first instruction. After a stop the stack may have got a frame
 /// or values.
+#[inline(always)]
 pub fn call(
     alloc: Global,
     memory: &Memory<'_>,
@@ -78,6 +79,7 @@ fn begin_by_copy(
 
 // Begins the function of this type: a frame is made for its list of locals, and the arguments are
 // given to it.
+#[inline(always)]
 fn begin(
     stack: &mut Stack,
     at: u32,

@@ -8,6 +8,7 @@ use crate::stop::FlowStop;
 use vm_stack::{Stack, Stub};
 
 /// Drops the current frame and takes the stub below it, or gives None where nothing is left.
+#[inline(always)]
 pub fn give_back(stack: &mut Stack) -> Result<Option<Stub>, FlowStop>
     ensures ok { GivesOrStops (returns.given_back stack.old) stack.new result }
 

@@ -3,7 +3,7 @@ use Rattle.vm_operand.specs.declared.operand.Dest.TheVariants as dest
 use Rattle.vm_exec.specs.Answer.{Does}
 use Rattle.vm_exec.specs.Row.{dest_by_index, work}
 use Rattle.vm_exec.specs.Rows.Work.{Work, budgeted}
-use Rattle.vm_exec.specs.Run.{StaysOn, Works, work_for}
+use Rattle.vm_exec.specs.Run.{StaysOn, WorkGives, work_for}
 use Rattle.vm_exec.specs.declared.fetch.Fetched.{Fetched}
 use Rattle.vm_exec.specs.declared.machine.Machine.{Machine}
 use Rattle.vm_exec.specs.declared.quick.Went.{Went}
@@ -37,7 +37,7 @@ returns-in_err-done-clause-does c =
 pub returns-clause-does : goal.returns-clause-does
 returns-clause-does c =
     let w = work_for c.args.op c.args.self.now c.args.fetched in
-    subst (λ (g : Went). Works w c.perform.new.self (Ok g)) (sym c.went.ensures)
+    subst (λ (g : Went). WorkGives w c.perform.new.self (Ok g)) (sym c.went.ensures)
     (works_ok w c.perform.new.self c.in_ok-done.done (work_quiet c.args.op _ _ _ c.requires) (done
     c))
 
