@@ -1,6 +1,6 @@
 //! Instructions below RAMSTART, whose bytes are at hand: each load is taken as it is decoded.
 
-ghost use Rattle.std.specs.Prelude.{◌≡◌, ◌≤◌, ◌+◌, ℕ, [], ◌∷◌, IfErr, IfOk, IsErr, OnOk};
+ghost use Rattle.std.specs.Prelude.{◌≡◌, ◌≤◌, ◌<◌, ◌+◌, ℕ, [], ◌∷◌, IfErr, IfOk, IsErr, OnOk};
 ghost use Rattle.std.specs.Prelude.{Err, Ok, Some, replicate};
 ghost use Rattle.vm_exec.specs.Fetch.{Fetches, IsAtHand, Reads, Takes};
 ghost use Rattle.vm_exec.specs.Machine.{IsFit};
@@ -54,6 +54,7 @@ impl<'i> Machine<'i> {
     fn take(&mut self, code: &[u8], number: u32, at: u32) -> Result<Taken, Trap>
         requires here { IsCode self.old.memory self.old.pc code.now }
         requires limit { self.old.pc + 32 ≤ MAX_SIZE }
+        requires mode { number < 16 }
         requires low { self.old.pc ≤ at }
         requires high { at + 4 ≤ self.old.pc + 32 }
         ensures does { Takes self.old number at self.new result }
@@ -78,6 +79,7 @@ impl<'i> Machine<'i> {
     fn find(&self, code: &[u8], number: u32, at: u32) -> Result<(Dest, u32), Trap>
         requires here { IsCode self.now.memory self.now.pc code.now }
         requires limit { self.now.pc + 32 ≤ MAX_SIZE }
+        requires mode { number < 16 }
         requires low { self.now.pc ≤ at }
         requires high { at + 4 ≤ self.now.pc + 32 }
         ensures does { Reads self.now number at result }

@@ -46,6 +46,7 @@ pub fn load_in(
 ) -> Option<(Load, u32)>
     requires here { IsCode memory.now start code.now }
     requires limit { start + 32 ≤ MAX_SIZE }
+    requires mode { number < 16 }
     requires low { start ≤ at }
     requires high { at + 4 ≤ start + 32 }
     ensures found { IfSome result (λ x. spec.load_by memory.now number at ≡ Ok x) }
@@ -83,7 +84,8 @@ pub fn load_in(
             Load::At(in_ram(memory, memory.code4(code, start, at))),
             at + 4,
         ),
-        _ => return None,
+        4 | 12 => return None,
+        _ => unreachable!(),
     })
 }
 
@@ -99,6 +101,7 @@ pub fn dest_in(
 ) -> Option<(Dest, u32)>
     requires here { IsCode memory.now start code.now }
     requires limit { start + 32 ≤ MAX_SIZE }
+    requires mode { number < 16 }
     requires low { start ≤ at }
     requires high { at + 4 ≤ start + 32 }
     ensures found { IfSome result (λ x. spec.dest_by memory.now number at ≡ Ok x) }
@@ -127,7 +130,8 @@ pub fn dest_in(
             Dest::At(in_ram(memory, memory.code4(code, start, at))),
             at + 4,
         ),
-        _ => return None,
+        1..=4 | 12 => return None,
+        _ => unreachable!(),
     })
 }
 

@@ -23,6 +23,20 @@ pub(crate) fn number(bytes: &[u8], at: usize, width: u32) -> u32
     }
 }
 
+// The number at a place where its bytes all stand.
+#[inline(always)]
+pub(crate) fn held(bytes: &[u8], at: usize, width: u32) -> u32
+    requires width { IsWidth width }
+    requires inside { at + width ≤ length bytes.now }
+    ensures { result ≡ state.number width bytes.now at }
+{
+    match width {
+        1 => u32::from(bytes[at]),
+        2 => u32::from(BigEndian::read_u16(&bytes[at..])),
+        _ => BigEndian::read_u32(&bytes[at..]),
+    }
+}
+
 // The number of four bytes at a place where they all stand.
 #[inline(always)]
 pub(crate) fn word(bytes: &[u8], at: usize) -> u32
@@ -83,6 +97,17 @@ pub(crate) fn put(buf: &mut [u8], len: usize, at: usize, new: &[u8])
     ensures size { length buf.new ≡ length buf.old }
 {
     replace(&mut buf[..len], at, new);
+}
+
+// Puts the bytes in place of those at a place, all of which stand.
+#[inline(always)]
+pub(crate) fn put_held(buf: &mut [u8], len: usize, at: usize, new: &[u8])
+    requires size { len ≤ length buf.old }
+    requires inside { at + length new.now ≤ len }
+    ensures bytes { take len buf.new ≡ state.replaced_within (take len buf.old) at new.now }
+    ensures size { length buf.new ≡ length buf.old }
+{
+    place(&mut buf[..len], at, new);
 }
 
 // Puts the bytes in place of those at a place, where they are all inside.

@@ -5,7 +5,7 @@ ghost use Rattle.std.specs.Prelude.{replicate, nat_le, true, ◌++◌};
 ghost use Rattle.vm_stack.specs.StackState as state;
 ghost use Rattle.vm_stack.specs.Values as values;
 
-use crate::bytes::{append, append_zeros, number, put, rotate};
+use crate::bytes::{append, append_zeros, number, put, put_held, rotate};
 use crate::head::{Head, head_of, no_head};
 use std::alloc::{AllocError, Global};
 use std::marker::Model;
@@ -192,6 +192,18 @@ impl Stack {
             return;
         }
         self.head = head_of(&self.buf[..self.len], self.frame);
+    }
+
+    // The same where they all stand, behind the numbers of the current frame.
+    #[inline(always)]
+    pub(crate) fn replace_held(&mut self, at: usize, new: &[u8])
+        requires above { self.old.frame + 8 ≤ at }
+        requires below { at + length new.now ≤ length self.old.bytes }
+        ensures { self.new ≡ record self.old {
+          bytes = state.replaced_within self.old.bytes at new.now;
+        } }
+    {
+        put_held(&mut self.buf, self.len, at, new);
     }
 
     // Makes the frame that begins here the current one.

@@ -4,15 +4,15 @@ use Rattle.vm_stack.specs.StackState.{StackState}
 use Rattle.vm_stack.proofs.ChainLemmas.{set_keeps, length_replaced, has_local, length_word, has_width}
 use Rattle.vm_stack.proofs.stack.Stack.set_local.Goals as goal
 
-pub returns-clause-kept : goal.returns-clause-kept
-returns-clause-kept c = λ chain.
+pub returns-in-Some-clause-kept : goal.returns-in-Some-clause-kept
+returns-in-Some-clause-kept c = λ chain.
     let size = length_word c.args.width c.args.value in
-    let inside = c.in_ok-at.ensures.inside in
-    rw (c.put_number.ensures, c.in_ok-at.ensures.place)
+    let inside = c.in-Some.ensures.inside in
+    rw (c.put_held.ensures, c.in-Some.ensures.place)
     (set_keeps c.args.self.now c.args.offset (big_bytes c.args.width c.args.value) (rw size inside) chain
     (has_local c.args.self.now c.args.width c.args.offset (has_width c.args.width c.requires) inside))
 
-pub returns-clause-size : goal.returns-clause-size
-returns-clause-size c =
-    ap (λ (s : StackState). length s.bytes) c.put_number.ensures
-    ∙ length_replaced c.args.self.now.bytes c.in_ok-at.at (big_bytes c.args.width c.args.value)
+pub returns-in-Some-clause-size : goal.returns-in-Some-clause-size
+returns-in-Some-clause-size c =
+    ap (λ (s : StackState). length s.bytes) c.put_held.ensures
+    ∙ length_replaced c.args.self.now.bytes c.in-Some.at (big_bytes c.args.width c.args.value)
