@@ -68,7 +68,7 @@ impl<'i> Machine<'i> {
         let Some((load, next)) = load_in(&self.memory, code, self.pc, number, at) else {
             return Err(self.refusal(BAD_OPCODE));
         };
-        match self.load(4, load) {
+        match self.load_word(load) {
             Ok(value) => Ok(Taken { value, next }),
             Err(trap) => Err(self.refusal(trap)),
         }

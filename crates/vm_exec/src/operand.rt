@@ -20,8 +20,6 @@ impl<'i> Machine<'i> {
     pub(crate) fn load(&mut self, width: u32, from: Load) -> Result<u32, Trap>
         requires { IsWidth width }
         ensures does { Does (rules.operand_loaded width self.old from) self.new result }
-        ensures memory { self.new.memory ≡ self.old.memory }
-        ensures pc { self.new.pc ≡ self.old.pc }
         ensures fit { IsFit self.old → OnOk result (IsFit self.new) }
     {
         match from {
@@ -33,6 +31,39 @@ impl<'i> Machine<'i> {
                 Ok(cut(width, value))
             }
         }
+    }
+
+    /// A load of four bytes, in a body that is small where it is inlined.
+    #[inline(always)]
+    pub(crate) fn load_word(&mut self, from: Load) -> Result<u32, Trap>
+        ensures does { Does (rules.operand_loaded 4 self.old from) self.new result }
+        ensures memory { self.new.memory ≡ self.old.memory }
+        ensures pc { self.new.pc ≡ self.old.pc }
+        ensures fit { IsFit self.old → OnOk result (IsFit self.new) }
+    {
+        match from {
+            Load::Value(value) => Ok(value),
+            Load::At(at) => self.word(at),
+            Load::Local(offset) => self.stack.local(offset, 4).map_err(of_stack),
+            Load::Pop => self.pop_word(),
+        }
+    }
+
+    #[inline(never)]
+    fn word(&self, at: u32) -> Result<u32, Trap>
+        ensures { Does (rules.operand_loaded 4 self.now (load.At at)) self.now result }
+    {
+        Ok(self.memory.read4(at)?)
+    }
+
+    #[inline(never)]
+    fn pop_word(&mut self) -> Result<u32, Trap>
+        ensures does { Does (rules.operand_loaded 4 self.old load.Pop) self.new result }
+        ensures memory { self.new.memory ≡ self.old.memory }
+        ensures pc { self.new.pc ≡ self.old.pc }
+        ensures fit { IsFit self.old → OnOk result (IsFit self.new) }
+    {
+        self.stack.pop().map_err(of_stack)
     }
 
     #[inline(always)]

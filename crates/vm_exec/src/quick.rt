@@ -86,10 +86,7 @@ impl<'i> Machine<'i> {
                 let fetched = self.fetch_math(math, code, place)?;
                 self.math_on(math, fetched)
             }
-            Op::Array(array) => {
-                let fetched = self.fetch_array(array, code, place)?;
-                self.work_on(alloc, op, fetched)
-            }
+            Op::Array(array) => self.array_step(alloc, array, code, place),
             Op::Branch(branch) => {
                 let fetched = self.fetch_branch(branch, code, place)?;
                 self.branch_on(branch, fetched)
@@ -119,6 +116,23 @@ impl<'i> Machine<'i> {
             Op::System(_) => Ok(Went::Aside),
             Op::Search(_) => Ok(Went::Aside),
         }
+    }
+
+    // A read of an array, or a write.
+    #[inline(never)]
+    fn array_step(
+        &mut self,
+        alloc: Global,
+        array: Array,
+        code: &[u8],
+        place: u32,
+    ) -> Result<Went, Trap>
+        requires { IsAtHand self.old (op.Array array) place code.now }
+        ensures does { GoesBy self.old self.new result }
+        ensures fit { IsFit self.old → IfOk result (λ went. StaysOn self.new went) }
+    {
+        let fetched = self.fetch_array(array, code, place)?;
+        self.work_on(alloc, Op::Array(array), fetched)
     }
 
     // A call or a return.
