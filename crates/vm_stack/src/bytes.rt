@@ -16,11 +16,7 @@ pub(crate) fn number(bytes: &[u8], at: usize, width: u32) -> u32
     if bytes.len() < width as usize || bytes.len() - (width as usize) < at {
         return 0;
     }
-    match width {
-        1 => u32::from(bytes[at]),
-        2 => u32::from(BigEndian::read_u16(&bytes[at..])),
-        _ => BigEndian::read_u32(&bytes[at..]),
-    }
+    held(bytes, at, width)
 }
 
 // The number at a place where its bytes all stand.
@@ -35,15 +31,6 @@ pub(crate) fn held(bytes: &[u8], at: usize, width: u32) -> u32
         2 => u32::from(BigEndian::read_u16(&bytes[at..])),
         _ => BigEndian::read_u32(&bytes[at..]),
     }
-}
-
-// The number of four bytes at a place where they all stand.
-#[inline(always)]
-pub(crate) fn word(bytes: &[u8], at: usize) -> u32
-    requires { at + 4 ≤ length bytes.now }
-    ensures { result ≡ state.number 4 bytes.now at }
-{
-    BigEndian::read_u32(&bytes[at..])
 }
 
 // Puts the bytes after the first of a buffer.

@@ -2,7 +2,7 @@
 ghost use Rattle.std.specs.Prelude.{ℕ, ◌≤◌, List, length};
 ghost use Rattle.vm_stack.specs.Head.{IsHead};
 
-use crate::bytes::word;
+use crate::bytes::held;
 use crate::stack::MAX_STACK;
 
 /// Where the locals and the values of a frame that stands whole begin, and how many bytes the
@@ -35,8 +35,8 @@ pub(crate) fn head_of(bytes: &[u8], frame: u32) -> Head
     if bytes.len() < 8 || bytes.len() - 8 < frame {
         return no_head();
     }
-    let locals = frame + word(bytes, frame + 4) as usize;
-    let values = frame + word(bytes, frame) as usize;
+    let locals = frame + held(bytes, frame + 4, 4) as usize;
+    let values = frame + held(bytes, frame, 4) as usize;
     if locals < frame + 8 || values < locals || bytes.len() < values {
         return no_head();
     }

@@ -12,8 +12,8 @@ returns c =
         above = above;
         span = omega (arith, order);
         below = below;
-        locals = ap (λ (n : ℕ). c.args.frame + n) (sym c.word.ensures);
-        values = ap (λ (n : ℕ). c.args.frame + n) (sym c.word-2.ensures);
+        locals = ap (λ (n : ℕ). c.args.frame + n) (sym c.held.ensures);
+        values = ap (λ (n : ℕ). c.args.frame + n) (sym c.held-2.ensures);
       };
       spans = λ _. omega (arith, below, small);
     }
