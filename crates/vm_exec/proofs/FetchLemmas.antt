@@ -1,5 +1,5 @@
 -- Instructions below RAMSTART: what is fetched as each load is decoded is what the definition fetches.
-use Rattle.std.proofs.Common.{IsErrAnd, ◌≡◌, refl, sym, ◌∙◌, ap, ℕ, ◌+◌, ◌%◌, ◌/◌, List, [], ◌∷◌}
+use Rattle.std.proofs.Common.{IsErrAnd, ◌≡◌, ◌≢◌, refl, sym, ◌∙◌, ap, ℕ, ◌+◌, ◌%◌, ◌/◌, List, [], ◌∷◌}
 use Rattle.std.proofs.Common.{Result, Ok, Err, Option, Some, replicate, take, subst}
 use Rattle.std.specs.Prelude.{IsErr}
 use Rattle.vm_memory.specs.Access.{read}
@@ -510,22 +510,24 @@ fault_is j k e = cc
 pub take_refused : (m n : Machine) (number at : ℕ) (x : l.Load × ℕ) (why result : Trap)
     → n.memory ≡ m.memory → n.pc ≡ m.pc → load_by m.memory number at ≡ Ok x
     → Does {A = ℕ} (operand_loaded 4 m x.0) n (Err why)
-    → ((f : OpFault) → instruction_at n.memory n.pc ≡ Err f → result ≡ Fault (operation_fault_code
-    f))
+    → ◌≢◌ {A = Result ℕ Trap} (Err why) (Err NoMemory)
+    → ((f : OpFault) → instruction_at n.memory n.pc ≡ Err f
+    → result ≡ Fault (operation_fault_code f))
     → ((i : Instr) → instruction_at n.memory n.pc ≡ Ok i → result ≡ why)
-    → Takes m number at n (Err result)
-take_refused m n number at x why (Fault k) memory pc is does unread read =
+    → (result ≡ NoMemory → why ≡ NoMemory) → Takes m number at n (Err result)
+take_refused m n number at x why (Fault k) memory pc is does some bad good want =
     let same : instruction_at n.memory n.pc ≡ instruction_at m.memory m.pc =
     ap (λ (y : MemoryMap). instruction_at y n.pc) memory ∙ ap (λ (y : ℕ). instruction_at m.memory y)
     pc in
     record {
-      unread = λ f e. fault_is k (operation_fault_code f) (unread f (same ∙ e));
+      unread = λ f e. fault_is k (operation_fault_code f) (bad f (same ∙ e));
       read = λ i e y g.
           subst (λ (z : l.Load × ℕ). operand_loaded 4 m z.0 ≡ Err k) (one_value _ x y is g)
-          (subst (λ (t : Trap). Does {A = ℕ} (operand_loaded 4 m x.0) n (Err t)) (sym (read i (same
-          ∙ e))) does);
+          (subst (λ (t : Trap). Does {A = ℕ} (operand_loaded 4 m x.0) n (Err t))
+          (sym (good i (same ∙ e))) does);
     }
-take_refused m n number at x why NoMemory memory pc is does unread read = tt
+take_refused m n number at x why NoMemory memory pc is does some bad good want =
+    some (ap Err (want refl))
 
 pub one_fetched : (m m1 : Machine) (o : Op) (p b0 : ℕ) (t0 : Taken)
     → OpcodeAt m.memory m.pc o p → kinds_of o ≡ L ∷ [] → width_of (Some o) ≡ 4
@@ -544,7 +546,7 @@ pub one_stops_0 : (m n : Machine) (o : Op) (p b0 : ℕ) (e : Trap)
     → read 1 m.memory p ≡ Ok b0
     → Takes m (b0 % 16) (p + 1) n (Err e)
     → Fetches m o n (Err e)
-one_stops_0 m n o p b0 NoMemory here kinds words h0 why = tt
+one_stops_0 m n o p b0 NoMemory here kinds words h0 why = why
 one_stops_0 m n o p b0 (Fault k) here kinds words h0 why =
     refused m m k refl refl why (λ i there bad.
     let r = of_one m o p b0 i here kinds words h0 there in
@@ -570,7 +572,7 @@ pub one_and_store_stops_0 : (m n : Machine) (o : Op) (p b0 : ℕ) (e : Trap)
     → read 1 m.memory p ≡ Ok b0
     → Takes m (b0 % 16) (p + 1) n (Err e)
     → Fetches m o n (Err e)
-one_and_store_stops_0 m n o p b0 NoMemory here kinds words h0 why = tt
+one_and_store_stops_0 m n o p b0 NoMemory here kinds words h0 why = why
 one_and_store_stops_0 m n o p b0 (Fault k) here kinds words h0 why =
     refused m m k refl refl why (λ i there bad.
     let r = of_one_and_store m o p b0 i here kinds words h0 there in
@@ -582,7 +584,7 @@ pub one_and_store_stops_1 : (m m1 : Machine) (o : Op) (p b0 : ℕ) (t0 : Taken) 
     → m1.memory ≡ m.memory → m1.pc ≡ m.pc → Takes m (b0 % 16) (p + 1) m1 (Ok t0)
     → Reads m1 (b0 / 16) t0.next (Err e)
     → Fetches m o m1 (Err e)
-one_and_store_stops_1 m m1 o p b0 t0 NoMemory here kinds words h0 k1 pc w0 why = tt
+one_and_store_stops_1 m m1 o p b0 t0 NoMemory here kinds words h0 k1 pc w0 why = why
 one_and_store_stops_1 m m1 o p b0 t0 (Fault k) here kinds words h0 k1 pc w0 why =
     refused m m1 k k1 pc why (λ i there bad.
     let r = of_one_and_store m o p b0 i here kinds words h0 there in
@@ -612,7 +614,7 @@ pub two_stops_0 : (m n : Machine) (o : Op) (p b0 : ℕ) (e : Trap)
     → read 1 m.memory p ≡ Ok b0
     → Takes m (b0 % 16) (p + 1) n (Err e)
     → Fetches m o n (Err e)
-two_stops_0 m n o p b0 NoMemory here kinds words h0 why = tt
+two_stops_0 m n o p b0 NoMemory here kinds words h0 why = why
 two_stops_0 m n o p b0 (Fault k) here kinds words h0 why =
     refused m m k refl refl why (λ i there bad.
     let r = of_two m o p b0 i here kinds words h0 there in
@@ -625,7 +627,7 @@ pub two_stops_1 : (m m1 n : Machine) (o : Op) (p b0 : ℕ) (t0 : Taken) (e : Tra
     → m1.memory ≡ m.memory → m1.pc ≡ m.pc → Takes m (b0 % 16) (p + 1) m1 (Ok t0)
     → Takes m1 (b0 / 16) t0.next n (Err e)
     → Fetches m o n (Err e)
-two_stops_1 m m1 n o p b0 t0 NoMemory here kinds words h0 k1 pc w0 why = tt
+two_stops_1 m m1 n o p b0 t0 NoMemory here kinds words h0 k1 pc w0 why = why
 two_stops_1 m m1 n o p b0 t0 (Fault k) here kinds words h0 k1 pc w0 why =
     refused m m1 k k1 pc why (λ i there bad.
     let r = of_two m o p b0 i here kinds words h0 there in
@@ -659,7 +661,7 @@ pub two_and_store_stops_0 : (m n : Machine) (o : Op) (p b0 b1 : ℕ) (e : Trap)
     → read 1 m.memory p ≡ Ok b0 → read 1 m.memory (p + 1) ≡ Ok b1
     → Takes m (b0 % 16) (p + 2) n (Err e)
     → Fetches m o n (Err e)
-two_and_store_stops_0 m n o p b0 b1 NoMemory here kinds words h0 h1 why = tt
+two_and_store_stops_0 m n o p b0 b1 NoMemory here kinds words h0 h1 why = why
 two_and_store_stops_0 m n o p b0 b1 (Fault k) here kinds words h0 h1 why =
     refused m m k refl refl why (λ i there bad.
     let r = of_two_and_store m o p b0 b1 i here kinds words h0 h1 there in
@@ -671,7 +673,7 @@ pub two_and_store_stops_1 : (m m1 n : Machine) (o : Op) (p b0 b1 : ℕ) (t0 : Ta
     → m1.memory ≡ m.memory → m1.pc ≡ m.pc → Takes m (b0 % 16) (p + 2) m1 (Ok t0)
     → Takes m1 (b0 / 16) t0.next n (Err e)
     → Fetches m o n (Err e)
-two_and_store_stops_1 m m1 n o p b0 b1 t0 NoMemory here kinds words h0 h1 k1 pc w0 why = tt
+two_and_store_stops_1 m m1 n o p b0 b1 t0 NoMemory here kinds words h0 h1 k1 pc w0 why = why
 two_and_store_stops_1 m m1 n o p b0 b1 t0 (Fault k) here kinds words h0 h1 k1 pc w0 why =
     refused m m1 k k1 pc why (λ i there bad.
     let r = of_two_and_store m o p b0 b1 i here kinds words h0 h1 there in
@@ -689,7 +691,7 @@ pub two_and_store_stops_2 : (m m1 m2 : Machine) (o : Op) (p b0 b1 : ℕ) (t0 t1 
     → Reads m2 (b1 % 16) t1.next (Err e)
     → Fetches m o m2 (Err e)
 two_and_store_stops_2 m m1 m2 o p b0 b1 t0 t1 NoMemory here kinds words h0 h1 k1 k2 pc w0 w1 why =
-    tt
+    why
 two_and_store_stops_2 m m1 m2 o p b0 b1 t0 t1 (Fault k) here kinds words h0 h1 k1 k2 pc w0 w1 why =
     refused m m2 k k2 pc why (λ i there bad.
     let r = of_two_and_store m o p b0 b1 i here kinds words h0 h1 there in
@@ -723,7 +725,7 @@ pub three_stops_0 : (m n : Machine) (o : Op) (p b0 b1 : ℕ) (e : Trap)
     → read 1 m.memory p ≡ Ok b0 → read 1 m.memory (p + 1) ≡ Ok b1
     → Takes m (b0 % 16) (p + 2) n (Err e)
     → Fetches m o n (Err e)
-three_stops_0 m n o p b0 b1 NoMemory here kinds words h0 h1 why = tt
+three_stops_0 m n o p b0 b1 NoMemory here kinds words h0 h1 why = why
 three_stops_0 m n o p b0 b1 (Fault k) here kinds words h0 h1 why =
     refused m m k refl refl why (λ i there bad.
     let r = of_three m o p b0 b1 i here kinds words h0 h1 there in
@@ -736,7 +738,7 @@ pub three_stops_1 : (m m1 n : Machine) (o : Op) (p b0 b1 : ℕ) (t0 : Taken) (e 
     → m1.memory ≡ m.memory → m1.pc ≡ m.pc → Takes m (b0 % 16) (p + 2) m1 (Ok t0)
     → Takes m1 (b0 / 16) t0.next n (Err e)
     → Fetches m o n (Err e)
-three_stops_1 m m1 n o p b0 b1 t0 NoMemory here kinds words h0 h1 k1 pc w0 why = tt
+three_stops_1 m m1 n o p b0 b1 t0 NoMemory here kinds words h0 h1 k1 pc w0 why = why
 three_stops_1 m m1 n o p b0 b1 t0 (Fault k) here kinds words h0 h1 k1 pc w0 why =
     refused m m1 k k1 pc why (λ i there bad.
     let r = of_three m o p b0 b1 i here kinds words h0 h1 there in
@@ -754,7 +756,7 @@ pub three_stops_2 : (m m1 m2 n : Machine) (o : Op) (p b0 b1 : ℕ) (t0 t1 : Take
     → Takes m (b0 % 16) (p + 2) m1 (Ok t0) → Takes m1 (b0 / 16) t0.next m2 (Ok t1)
     → Takes m2 (b1 % 16) t1.next n (Err e)
     → Fetches m o n (Err e)
-three_stops_2 m m1 m2 n o p b0 b1 t0 t1 NoMemory here kinds words h0 h1 k1 k2 pc w0 w1 why = tt
+three_stops_2 m m1 m2 n o p b0 b1 t0 t1 NoMemory here kinds words h0 h1 k1 k2 pc w0 w1 why = why
 three_stops_2 m m1 m2 n o p b0 b1 t0 t1 (Fault k) here kinds words h0 h1 k1 k2 pc w0 w1 why =
     refused m m2 k k2 pc why (λ i there bad.
     let r = of_three m o p b0 b1 i here kinds words h0 h1 there in
@@ -794,7 +796,7 @@ pub three_and_store_stops_0 : (m n : Machine) (o : Op) (p b0 b1 : ℕ) (e : Trap
     → read 1 m.memory p ≡ Ok b0 → read 1 m.memory (p + 1) ≡ Ok b1
     → Takes m (b0 % 16) (p + 2) n (Err e)
     → Fetches m o n (Err e)
-three_and_store_stops_0 m n o p b0 b1 NoMemory here kinds words h0 h1 why = tt
+three_and_store_stops_0 m n o p b0 b1 NoMemory here kinds words h0 h1 why = why
 three_and_store_stops_0 m n o p b0 b1 (Fault k) here kinds words h0 h1 why =
     refused m m k refl refl why (λ i there bad.
     let r = of_three_and_store m o p b0 b1 i here kinds words h0 h1 there in
@@ -807,7 +809,7 @@ pub three_and_store_stops_1 : (m m1 n : Machine) (o : Op) (p b0 b1 : ℕ) (t0 : 
     → m1.memory ≡ m.memory → m1.pc ≡ m.pc → Takes m (b0 % 16) (p + 2) m1 (Ok t0)
     → Takes m1 (b0 / 16) t0.next n (Err e)
     → Fetches m o n (Err e)
-three_and_store_stops_1 m m1 n o p b0 b1 t0 NoMemory here kinds words h0 h1 k1 pc w0 why = tt
+three_and_store_stops_1 m m1 n o p b0 b1 t0 NoMemory here kinds words h0 h1 k1 pc w0 why = why
 three_and_store_stops_1 m m1 n o p b0 b1 t0 (Fault k) here kinds words h0 h1 k1 pc w0 why =
     refused m m1 k k1 pc why (λ i there bad.
     let r = of_three_and_store m o p b0 b1 i here kinds words h0 h1 there in
@@ -827,7 +829,7 @@ pub three_and_store_stops_2 : (m m1 m2 n : Machine) (o : Op) (p b0 b1 : ℕ) (t0
     → Takes m2 (b1 % 16) t1.next n (Err e)
     → Fetches m o n (Err e)
 three_and_store_stops_2 m m1 m2 n o p b0 b1 t0 t1 NoMemory here kinds words h0 h1 k1 k2 pc w0 w1 why
-    = tt
+    = why
 three_and_store_stops_2 m m1 m2 n o p b0 b1 t0 t1 (Fault k) here kinds words h0 h1 k1 k2 pc w0 w1
     why =
     refused m m2 k k2 pc why (λ i there bad.
@@ -851,7 +853,7 @@ pub three_and_store_stops_3 : (m m1 m2 m3 : Machine) (o : Op) (p b0 b1 : ℕ) (t
     → Takes m2 (b1 % 16) t1.next m3 (Ok t2) → Reads m3 (b1 / 16) t2.next (Err e)
     → Fetches m o m3 (Err e)
 three_and_store_stops_3 m m1 m2 m3 o p b0 b1 t0 t1 t2 NoMemory here kinds words h0 h1 k1 k2 k3 pc w0
-    w1 w2 why = tt
+    w1 w2 why = why
 three_and_store_stops_3 m m1 m2 m3 o p b0 b1 t0 t1 t2 (Fault k) here kinds words h0 h1 k1 k2 k3 pc
     w0 w1 w2 why =
     refused m m3 k k3 pc why (λ i there bad.
@@ -900,7 +902,7 @@ pub four_and_store_stops_0 : (m n : Machine) (o : Op) (p b0 b1 b2 : ℕ) (e : Tr
     → read 1 m.memory p ≡ Ok b0 → read 1 m.memory (p + 1) ≡ Ok b1 → read 1 m.memory (p + 2) ≡ Ok b2
     → Takes m (b0 % 16) (p + 3) n (Err e)
     → Fetches m o n (Err e)
-four_and_store_stops_0 m n o p b0 b1 b2 NoMemory here kinds words h0 h1 h2 why = tt
+four_and_store_stops_0 m n o p b0 b1 b2 NoMemory here kinds words h0 h1 h2 why = why
 four_and_store_stops_0 m n o p b0 b1 b2 (Fault k) here kinds words h0 h1 h2 why =
     refused m m k refl refl why (λ i there bad.
     let r = of_four_and_store m o p b0 b1 b2 i here kinds words h0 h1 h2 there in
@@ -913,7 +915,7 @@ pub four_and_store_stops_1 : (m m1 n : Machine) (o : Op) (p b0 b1 b2 : ℕ) (t0 
     → m1.memory ≡ m.memory → m1.pc ≡ m.pc → Takes m (b0 % 16) (p + 3) m1 (Ok t0)
     → Takes m1 (b0 / 16) t0.next n (Err e)
     → Fetches m o n (Err e)
-four_and_store_stops_1 m m1 n o p b0 b1 b2 t0 NoMemory here kinds words h0 h1 h2 k1 pc w0 why = tt
+four_and_store_stops_1 m m1 n o p b0 b1 b2 t0 NoMemory here kinds words h0 h1 h2 k1 pc w0 why = why
 four_and_store_stops_1 m m1 n o p b0 b1 b2 t0 (Fault k) here kinds words h0 h1 h2 k1 pc w0 why =
     refused m m1 k k1 pc why (λ i there bad.
     let r = of_four_and_store m o p b0 b1 b2 i here kinds words h0 h1 h2 there in
@@ -933,7 +935,7 @@ pub four_and_store_stops_2 : (m m1 m2 n : Machine) (o : Op) (p b0 b1 b2 : ℕ) (
     → Takes m2 (b1 % 16) t1.next n (Err e)
     → Fetches m o n (Err e)
 four_and_store_stops_2 m m1 m2 n o p b0 b1 b2 t0 t1 NoMemory here kinds words h0 h1 h2 k1 k2 pc w0
-    w1 why = tt
+    w1 why = why
 four_and_store_stops_2 m m1 m2 n o p b0 b1 b2 t0 t1 (Fault k) here kinds words h0 h1 h2 k1 k2 pc w0
     w1 why =
     refused m m2 k k2 pc why (λ i there bad.
@@ -957,7 +959,7 @@ pub four_and_store_stops_3 : (m m1 m2 m3 n : Machine) (o : Op) (p b0 b1 b2 : ℕ
     → Takes m2 (b1 % 16) t1.next m3 (Ok t2) → Takes m3 (b1 / 16) t2.next n (Err e)
     → Fetches m o n (Err e)
 four_and_store_stops_3 m m1 m2 m3 n o p b0 b1 b2 t0 t1 t2 NoMemory here kinds words h0 h1 h2 k1 k2
-    k3 pc w0 w1 w2 why = tt
+    k3 pc w0 w1 w2 why = why
 four_and_store_stops_3 m m1 m2 m3 n o p b0 b1 b2 t0 t1 t2 (Fault k) here kinds words h0 h1 h2 k1 k2
     k3 pc w0 w1 w2 why =
     refused m m3 k k3 pc why (λ i there bad.
@@ -985,7 +987,7 @@ pub four_and_store_stops_4 : (m m1 m2 m3 m4 : Machine) (o : Op) (p b0 b1 b2 : �
     → Reads m4 (b2 % 16) t3.next (Err e)
     → Fetches m o m4 (Err e)
 four_and_store_stops_4 m m1 m2 m3 m4 o p b0 b1 b2 t0 t1 t2 t3 NoMemory here kinds words h0 h1 h2 k1
-    k2 k3 k4 pc w0 w1 w2 w3 why = tt
+    k2 k3 k4 pc w0 w1 w2 w3 why = why
 four_and_store_stops_4 m m1 m2 m3 m4 o p b0 b1 b2 t0 t1 t2 t3 (Fault k) here kinds words h0 h1 h2 k1
     k2 k3 k4 pc w0 w1 w2 w3 why =
     refused m m4 k k4 pc why (λ i there bad.

@@ -37,6 +37,7 @@ use Rattle.vm_flow.specs.Return.{given_back}
 use Rattle.vm_flow.specs.Throw.{thrown}
 use Rattle.vm_exec.specs.Answer.{Does}
 use Rattle.vm_exec.specs.Fault.{flowed}
+use Rattle.vm_exec.specs.Fetch.{Fetches, work_for}
 use Rattle.vm_exec.specs.Machine.{IsFit, IsSoundMachine, KeepsImage, StaysFit}
 use Rattle.vm_exec.specs.Row.{charged, due, fetched, row, step_within, work}
 use Rattle.vm_exec.specs.Rows.Array.{array_work, bit, byte_with_bit, element, with_bit}
@@ -49,10 +50,12 @@ use Rattle.vm_exec.specs.Rules.{Rule, arguments, branches, calls, enters, goes, 
 use Rattle.vm_exec.specs.Rules.{resumes}
 use Rattle.vm_exec.specs.Rules.{returns, stored, stub_dest, when, with_arguments}
 use Rattle.vm_exec.specs.Rules.{with_stub, wrap, writes}
-use Rattle.vm_exec.specs.Run.{EndsBy, GoesBy, IsQuickOpcode, IsUnready, RunsTo, StaysOn}
-use Rattle.vm_exec.specs.Run.{Tells, WorkGives, went_of}
+use Rattle.vm_exec.specs.Run.{EndsBy, EndsWanting, GoesBy, IsQuickOpcode, IsUnready, RunsTo}
+use Rattle.vm_exec.specs.Run.{StaysOn, Tells, WorkGives, went_of}
 use Rattle.vm_exec.specs.Start.{IsOver}
 use Rattle.vm_exec.specs.TextStub.{text_on}
+use Rattle.vm_exec.specs.Want.{MayWant, WantsMemory}
+use Rattle.vm_exec.specs.declared.fetch.Fetched.{Fetched}
 use Rattle.vm_exec.specs.declared.machine.Machine.{Machine}
 use Rattle.vm_exec.specs.declared.quick.Went.{Went}
 use Rattle.vm_exec.specs.declared.quick.Went.TheVariants as went
@@ -286,13 +289,18 @@ stays_ok (Free (Err n)) new done q e s = absurd cc
 stays_ok (Costs n r) new done q e s = absurd q
 
 -- an instruction that was fetched goes by its work
-pub goes_by : (m n new : Machine) (o : Op) (w : Work) (r : Result Went Trap) → fetched m ≡ Ok w
-    → WorkGives w new r → GoesBy m new r
-goes_by m n new o w (Ok went.On) f e = ap charged f ∙ ap (λ (x : Work). charged (Ok x)) e
-goes_by m n new o w (Ok went.Quits) f e = ap charged f ∙ ap (λ (x : Work). charged (Ok x)) e
-goes_by m n new o w (Ok went.Aside) f e = absurd e
-goes_by m n new o w (Err (Fault k)) f e = ap charged f ∙ ap (λ (x : Work). charged (Ok x)) e
-goes_by m n new o w (Err NoMemory) f e = tt
+pub goes_by : (m n new : Machine) (o : Op) (place : ℕ) (q : Fetched) (r : Result Went Trap)
+    → OpcodeAt m.memory m.pc o place → Fetches m o n (Ok q) → WorkGives (work_for o n q) new r
+    → (r ≡ Err NoMemory → MayWant o q) → GoesBy m new r
+goes_by m n new o place q (Ok went.On) at f e want =
+    ap charged f ∙ ap (λ (x : Work). charged (Ok x)) e
+goes_by m n new o place q (Ok went.Quits) at f e want =
+    ap charged f ∙ ap (λ (x : Work). charged (Ok x)) e
+goes_by m n new o place q (Ok went.Aside) at f e want = absurd e
+goes_by m n new o place q (Err (Fault k)) at f e want =
+    ap charged f ∙ ap (λ (x : Work). charged (Ok x)) e
+goes_by m n new o place q (Err NoMemory) at f e want =
+    record { o = o; place = place; n = n; q = q; opcode = at; fetched = f; wants = want refl }
 
 op_in : Result (ℕ × ℕ) OpFault → Option Op
 op_in (Ok x) = op_of x.0
@@ -411,3 +419,8 @@ over_quit k m o n g tells image s v =
 pub ends_by : (most k : ℕ) (m o : Machine) (r : Rule) → k < most → RunsTo k m o → o.text ≡ Off
     → Tells o r → EndsBy most m r
 ends_by most k m o r less runs text tells = (k, o, (less, (runs, row_is o r text tells)))
+
+-- or memory is wanting for it
+pub ends_wanting : (most k : ℕ) (m o : Machine) → k < most → RunsTo k m o → WantsMemory o
+    → EndsWanting most m
+ends_wanting most k m o less runs wants = (k, o, (less, (runs, wants)))

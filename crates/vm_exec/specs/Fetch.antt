@@ -1,5 +1,5 @@
 -- Instructions below RAMSTART, whose loads are taken as they are decoded (own).
-use Rattle.std.specs.Prelude.{ℕ, ◌≡◌, ◌≤◌, ◌+◌, List, [], ◌∷◌, replicate, Result, Ok, Err, Some}
+use Rattle.std.specs.Prelude.{ℕ, ◌≡◌, ◌≤◌, ◌+◌, List, [], ◌∷◌, replicate, slice_index, Result, Ok, Err, Some}
 use Rattle.std.specs.Prelude.{IsErr}
 use Rattle.vm_memory.specs.Code.{IsCode}
 use Rattle.vm_memory.specs.declared.fault.Trap.{Trap}
@@ -13,7 +13,8 @@ use Rattle.vm_operand.specs.declared.opcode.Op.{Op}
 use Rattle.vm_operand.specs.declared.operand.Dest as d
 use Rattle.vm_operand.specs.declared.operand.Dest.TheVariants as dest
 use Rattle.vm_operand.specs.declared.operand.Load as l
-use Rattle.vm_exec.specs.Row.{fetched, work_of}
+use Rattle.vm_exec.specs.Row.{dest_by_index, fetched, work, work_of}
+use Rattle.vm_exec.specs.Rows.Work.{Work}
 use Rattle.vm_exec.specs.Rules.{operand_loaded}
 use Rattle.vm_exec.specs.declared.fetch.Fetched.{Fetched}
 use Rattle.vm_exec.specs.declared.fetch.Taken.{Taken}
@@ -32,7 +33,7 @@ pub record IsRefused (m : Machine) (fault : ℕ) (P : Type 0) : Type 0 where
   pub unread : (f : OpFault) → instruction_at m.memory m.pc ≡ Err f → fault ≡ operation_fault_code f
   pub read : (i : Instr) → instruction_at m.memory m.pc ≡ Ok i → P
 
--- a load by the number of its mode was taken, or refused
+-- a load by the number of its mode was taken, or refused; no memory is wanted
 abbrev pub Takes : Machine → ℕ → ℕ → Machine → Result Taken Trap → Type 0
 Takes m number at n (Ok t) =
     (x : l.Load)
@@ -40,13 +41,13 @@ Takes m number at n (Ok t) =
 Takes m number at n (Err (Fault k)) =
     IsRefused m k
     ((x : l.Load × ℕ) → load_by m.memory number at ≡ Ok x → operand_loaded 4 m x.0 ≡ Err k)
-Takes m number at n (Err NoMemory) = Unit {0}
+Takes m number at n (Err NoMemory) = ⊥
 
 -- a store by the number of its mode was found, or there is none
 abbrev pub Reads : Machine → ℕ → ℕ → Result (d.Dest × ℕ) Trap → Type 0
 Reads m number at (Ok x) = dest_by m.memory number at ≡ Ok x
 Reads m number at (Err (Fault k)) = IsRefused m k (IsErr (dest_by m.memory number at))
-Reads m number at (Err NoMemory) = Unit {0}
+Reads m number at (Err NoMemory) = ⊥
 
 -- the instruction at the PC, which has this opcode, was fetched: its loads are these, in a machine
 -- that goes on behind it; or the fault
@@ -56,4 +57,10 @@ Fetches m o n (Ok q) =
     ≡ Ok (work_of (Some o) n (q.first ∷ q.second ∷ q.third ∷ q.fourth ∷ replicate 4 0)
     (q.to ∷ dest.Discard ∷ []))
 Fetches m o n (Err (Fault k)) = fetched m ≡ Err k
-Fetches m o n (Err NoMemory) = Unit {0}
+Fetches m o n (Err NoMemory) = ⊥
+
+-- the work of an opcode that was fetched
+abbrev pub work_for : Op → Machine → Fetched → Work
+work_for o m q =
+    work o m (slice_index (q.first ∷ q.second ∷ q.third ∷ q.fourth ∷ replicate 4 0))
+    (dest_by_index (q.to ∷ dest.Discard ∷ []))

@@ -8,6 +8,7 @@ pub mod Rules
 pub mod Rows
 pub mod Row
 pub mod Fetch
+pub mod Want
 pub mod Run
 pub mod Start
 pub mod Fields

@@ -1,5 +1,5 @@
 -- Quick instructions, those of one tick that tell nothing unless the story has quit (own).
-use Rattle.std.specs.Prelude.{ℕ, ◌≡◌, ◌≤◌, ◌<◌, ◌+◌, zero, suc, [], ◌∷◌, replicate, slice_index}
+use Rattle.std.specs.Prelude.{ℕ, ◌≡◌, ◌≤◌, ◌<◌, ◌+◌, zero, suc}
 use Rattle.std.specs.Prelude.{Result, Ok, Err}
 use Rattle.vm_memory.specs.declared.fault.Trap.{Trap}
 use Rattle.vm_memory.specs.declared.fault.Trap.TheVariants.{Fault, NoMemory}
@@ -8,12 +8,11 @@ use Rattle.vm_operand.specs.declared.opcode.Flow.TheVariants.{Catch}
 use Rattle.vm_operand.specs.declared.opcode.Move.TheVariants.{Copy}
 use Rattle.vm_operand.specs.declared.opcode.Op.{Op}
 use Rattle.vm_operand.specs.declared.opcode.Op.TheVariants as op
-use Rattle.vm_operand.specs.declared.operand.Dest.TheVariants as dest
 use Rattle.vm_exec.specs.Machine.{IsSoundMachine}
-use Rattle.vm_exec.specs.Row.{charged, dest_by_index, fetched, row, work}
+use Rattle.vm_exec.specs.Row.{charged, fetched, row}
 use Rattle.vm_exec.specs.Rows.Work.{Work, Free}
 use Rattle.vm_exec.specs.Rules.{Rule}
-use Rattle.vm_exec.specs.declared.fetch.Fetched.{Fetched}
+use Rattle.vm_exec.specs.Want.{WantsMemory}
 use Rattle.vm_exec.specs.declared.machine.Machine.{Machine}
 use Rattle.vm_exec.specs.declared.quick.Run.{Run}
 use Rattle.vm_exec.specs.declared.quick.Run.TheVariants as run
@@ -58,13 +57,7 @@ GoesBy m n (Ok On) = Tells m (Ok (n, Ran))
 GoesBy m n (Ok Quits) = Tells m (Ok (n, Quit))
 GoesBy m n (Ok Aside) = (n ≡ m) × IsUnready m
 GoesBy m n (Err (Fault k)) = Tells m (Err k)
-GoesBy m n (Err NoMemory) = Unit {0}
-
--- the work of an opcode that was fetched
-abbrev pub work_for : Op → Machine → Fetched → Work
-work_for o m q =
-    work o m (slice_index (q.first ∷ q.second ∷ q.third ∷ q.fourth ∷ replicate 4 0))
-    (dest_by_index (q.to ∷ dest.Discard ∷ []))
+GoesBy m n (Err NoMemory) = WantsMemory m
 
 -- what the work of a quick opcode came to
 abbrev pub WorkGives : Work → Machine → Result Went Trap → Type 0
@@ -95,12 +88,17 @@ EndsBy most m r =
     (k : ℕ) × (o : Machine)
     × ((k < most) × (RunsTo k m o × (row o ≡ record { cost = 1; gives = r })))
 
+-- behind fewer than so many such steps memory may be wanting
+abbrev pub EndsWanting : ℕ → Machine → Type 0
+EndsWanting most m =
+    (k : ℕ) × (o : Machine) × ((k < most) × (RunsTo k m o × WantsMemory o))
+
 -- a run of at most so many steps
 abbrev pub RunsWithin : ℕ → Machine → Machine → Result Run Trap → Type 0
 RunsWithin most m n (Ok (run.Did k)) = (k ≤ most) × RunsTo k m n
 RunsWithin most m n (Ok run.Quits) = EndsBy most m (Ok (n, Quit))
 RunsWithin most m n (Err (Fault f)) = EndsBy most m (Err f)
-RunsWithin most m n (Err NoMemory) = Unit {0}
+RunsWithin most m n (Err NoMemory) = EndsWanting most m
 
 -- where so many instructions were done
 abbrev pub IfDid : Result Run Trap → (ℕ → Type 0) → Type 0

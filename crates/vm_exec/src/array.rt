@@ -1,13 +1,15 @@
 //! Array data.
 
 ghost use Rattle.std.specs.Prelude.{◌≡◌, ◌≤◌, ◌<◌, ◌+◌, ◌^◌, IfOk, OnOk};
-ghost use Rattle.std.specs.Prelude.{slice_index};
+ghost use Rattle.std.specs.Prelude.{slice_index, Err};
 ghost use Rattle.vm_exec.specs.Answer.{Does};
 ghost use Rattle.vm_exec.specs.Machine.{IsFit, StaysFit};
 ghost use Rattle.vm_exec.specs.Row.{dest_by_index};
 ghost use Rattle.vm_exec.specs.Rows.Array as rows;
 ghost use Rattle.vm_exec.specs.Rows.Work.{DoesAtNoCost, budgeted};
 ghost use Rattle.vm_exec.specs.Rules as rules;
+ghost use Rattle.vm_exec.specs.Want.{ArrayMayWant, IsInMemory};
+ghost use Rattle.vm_memory.specs.declared.fault.Trap.TheVariants.{NoMemory};
 
 use crate::Machine;
 use crate::step::{Done, Out};
@@ -20,6 +22,7 @@ impl<'i> Machine<'i> {
         ensures does { DoesAtNoCost
             (rules.reads_to self.old to 4 (rows.element 4 from index))
             self.new result }
+        ensures want { result ≡ Err NoMemory → IsInMemory to }
         ensures fit { IsFit self.old → IfOk result (λ done. StaysFit self.new done.out) }
     {
         let value = self.memory.read4(from.wrapping_add(index.wrapping_mul(4)))?;
@@ -31,6 +34,7 @@ impl<'i> Machine<'i> {
         ensures does { DoesAtNoCost
             (rules.reads_to self.old to 2 (rows.element 2 from index))
             self.new result }
+        ensures want { result ≡ Err NoMemory → IsInMemory to }
         ensures fit { IsFit self.old → IfOk result (λ done. StaysFit self.new done.out) }
     {
         let value = self.memory.read2(from.wrapping_add(index.wrapping_mul(2)))?;
@@ -42,6 +46,7 @@ impl<'i> Machine<'i> {
         ensures does { DoesAtNoCost
             (rules.reads_to self.old to 1 (rules.wrap (from + index)))
             self.new result }
+        ensures want { result ≡ Err NoMemory → IsInMemory to }
         ensures fit { IsFit self.old → IfOk result (λ done. StaysFit self.new done.out) }
     {
         let value = self.memory.read1(from.wrapping_add(index))?;
@@ -51,6 +56,7 @@ impl<'i> Machine<'i> {
     #[inline(always)]
     fn aloadbit(&mut self, from: u32, index: u32, to: Dest) -> Result<Done, Trap>
         ensures does { DoesAtNoCost (rows.loads_bit self.old from index to) self.new result }
+        ensures want { result ≡ Err NoMemory → IsInMemory to }
         ensures fit { IsFit self.old → IfOk result (λ done. StaysFit self.new done.out) }
     {
         let byte = self.memory.read1(byte_with_bit(from, index))?;
@@ -116,6 +122,7 @@ impl<'i> Machine<'i> {
             (budgeted left
             (rows.array_work op self.old (slice_index args.now) (dest_by_index to.now)))
             self.new result }
+        ensures want { result ≡ Err NoMemory → ArrayMayWant op (dest_by_index to.now 0) }
         ensures fit { IsFit self.old → IfOk result (λ done. StaysFit self.new done.out) }
         ensures within { IfOk result (λ done. done.cost ≤ left) }
     {

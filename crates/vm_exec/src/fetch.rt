@@ -13,7 +13,7 @@ ghost use Rattle.vm_operand.specs.declared.fault.OpFault.{OpFault};
 ghost use Rattle.vm_operand.specs.declared.instruction.Instr.{Instr};
 ghost use Rattle.vm_operand.specs.declared.opcode.Op.{Op};
 ghost use Rattle.vm_operand.specs.declared.operand.Kind.TheVariants as kind;
-ghost use Rattle.vm_memory.specs.declared.fault.Trap.TheVariants.{Fault};
+ghost use Rattle.vm_memory.specs.declared.fault.Trap.TheVariants.{Fault, NoMemory};
 
 use crate::Machine;
 use crate::trap::BAD_OPCODE;
@@ -98,6 +98,7 @@ impl<'i> Machine<'i> {
             → result ≡ Fault (operation_fault_code f) }
         ensures read { (i : Instr) → instruction_at self.now.memory self.now.pc ≡ Ok i
             → result ≡ trap }
+        ensures want { result ≡ NoMemory → trap ≡ NoMemory }
     {
         match decode(&self.memory, self.pc) {
             Ok(_) => trap,

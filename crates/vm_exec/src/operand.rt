@@ -1,10 +1,12 @@
 //! Loads and stores.
 
-ghost use Rattle.std.specs.Prelude.{◌≡◌, ◌⊎◌, ◌≤◌, ◌+◌, ◌%◌, ◌^◌};
-ghost use Rattle.std.specs.Prelude.{length, OnOk};
+ghost use Rattle.std.specs.Prelude.{◌≡◌, ◌≢◌, ◌⊎◌, ◌≤◌, ◌+◌, ◌%◌, ◌^◌};
+ghost use Rattle.std.specs.Prelude.{length, Err, OnOk};
+ghost use Rattle.vm_memory.specs.declared.fault.Trap.TheVariants.{NoMemory};
 ghost use Rattle.vm_exec.specs.Answer.{Changes, Does, LeavesTwoValues};
 ghost use Rattle.vm_exec.specs.Machine.{IsFit};
 ghost use Rattle.vm_exec.specs.Rules as rules;
+ghost use Rattle.vm_exec.specs.Want.{IsInMemory};
 ghost use Rattle.vm_stack.specs.Locals.{IsWidth};
 ghost use Rattle.vm_operand.specs.declared.operand.Load.TheVariants as load;
 ghost use Rattle.vm_operand.specs.declared.operand.Dest.TheVariants as dest;
@@ -37,6 +39,7 @@ impl<'i> Machine<'i> {
     #[inline(always)]
     pub(crate) fn load_word(&mut self, from: Load) -> Result<u32, Trap>
         ensures does { Does (rules.operand_loaded 4 self.old from) self.new result }
+        ensures refusal { result ≢ Err NoMemory }
         ensures memory { self.new.memory ≡ self.old.memory }
         ensures pc { self.new.pc ≡ self.old.pc }
         ensures fit { IsFit self.old → OnOk result (IsFit self.new) }
@@ -51,7 +54,8 @@ impl<'i> Machine<'i> {
 
     #[inline(never)]
     fn word(&self, at: u32) -> Result<u32, Trap>
-        ensures { Does (rules.operand_loaded 4 self.now (load.At at)) self.now result }
+        ensures does { Does (rules.operand_loaded 4 self.now (load.At at)) self.now result }
+        ensures refusal { result ≢ Err NoMemory }
     {
         Ok(self.memory.read4(at)?)
     }
@@ -59,6 +63,7 @@ impl<'i> Machine<'i> {
     #[inline(never)]
     fn pop_word(&mut self) -> Result<u32, Trap>
         ensures does { Does (rules.operand_loaded 4 self.old load.Pop) self.new result }
+        ensures refusal { result ≢ Err NoMemory }
         ensures memory { self.new.memory ≡ self.old.memory }
         ensures pc { self.new.pc ≡ self.old.pc }
         ensures fit { IsFit self.old → OnOk result (IsFit self.new) }
@@ -83,6 +88,7 @@ impl<'i> Machine<'i> {
     pub(crate) fn store_in(&mut self, width: u32, to: Dest, value: u32) -> Result<(), Trap>
         requires { IsWidth width }
         ensures does { Changes (rules.stored_in width self.old to value) self.new result }
+        ensures want { result ≡ Err NoMemory → IsInMemory to }
         ensures fit { IsFit self.old → OnOk result (IsFit self.new) }
     {
         match to {
@@ -111,6 +117,7 @@ impl<'i> Machine<'i> {
     #[inline(always)]
     pub(crate) fn store(&mut self, to: Dest, value: u32) -> Result<(), Trap>
         ensures does { Changes (rules.stored self.old to value) self.new result }
+        ensures want { result ≡ Err NoMemory → IsInMemory to }
         ensures fit { IsFit self.old → OnOk result (IsFit self.new) }
     {
         self.store_in(4, to, value)

@@ -1,9 +1,11 @@
 //! What instructions are made of.
 
-ghost use Rattle.std.specs.Prelude.{◌≡◌, IfOk, IsOk};
+ghost use Rattle.std.specs.Prelude.{◌≡◌, Err, IfOk, IsOk};
+ghost use Rattle.vm_memory.specs.declared.fault.Trap.TheVariants.{NoMemory};
 ghost use Rattle.vm_exec.specs.Machine.{IsFit, StaysFit};
 ghost use Rattle.vm_exec.specs.Rows.Work.{DoesAtNoCost};
 ghost use Rattle.vm_exec.specs.Rules as rules;
+ghost use Rattle.vm_exec.specs.Want.{IsInMemory};
 
 use crate::Machine;
 use crate::step::{Done, Out};
@@ -23,6 +25,7 @@ impl<'i> Machine<'i> {
     #[inline(always)]
     pub(crate) fn put(&mut self, to: Dest, value: u32) -> Result<Done, Trap>
         ensures does { DoesAtNoCost (rules.puts self.old to value) self.new result }
+        ensures want { result ≡ Err NoMemory → IsInMemory to }
         ensures fit { IsFit self.old → IfOk result (λ done. StaysFit self.new done.out) }
     {
         self.store(to, value)?;

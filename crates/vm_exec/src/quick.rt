@@ -1,17 +1,22 @@
 //! Runs of quick instructions: arithmetic, arrays, copy, branches, calls and returns below
 //! RAMSTART. Each takes one tick, and tells nothing unless the story has quit.
 
-ghost use Rattle.std.specs.Prelude.{◌≡◌, ◌<◌, ℕ, List, IfOk, OnOk, false, true};
-ghost use Rattle.vm_exec.specs.Fetch.{Fetches, IsAtHand};
+ghost use Rattle.std.specs.Prelude.{◌≡◌, ◌<◌, ℕ, List, Err, IfOk, OnOk, false, true};
+ghost use Rattle.vm_exec.specs.Fetch.{Fetches, IsAtHand, work_for};
 ghost use Rattle.vm_exec.specs.Machine.{IsFit, IsSoundMachine, KeepsImage};
 ghost use Rattle.vm_exec.specs.Run.{GoesBy, IfDid, IsQuickOpcode, RunsWithin, StaysOn, StopsAt};
-ghost use Rattle.vm_exec.specs.Run.{WorkGives, went_of, work_for};
+ghost use Rattle.vm_exec.specs.Run.{WorkGives, went_of};
 ghost use Rattle.vm_exec.specs.Rules.{branches, returns};
 ghost use Rattle.vm_exec.specs.Rows.Work.{Free};
 ghost use Rattle.vm_exec.specs.Start.{IsOver};
+ghost use Rattle.vm_exec.specs.Want.{IsInMemory, MayReturn, MayWant, StoreMayWant};
+ghost use Rattle.vm_memory.specs.declared.fault.Trap.TheVariants.{NoMemory};
 ghost use Rattle.vm_exec.specs.declared.text.Text.TheVariants as text;
 ghost use Rattle.vm_operand.specs.declared.opcode.Op.TheVariants as op;
 ghost use Rattle.vm_operand.specs.declared.opcode.Move.TheVariants.{Copy};
+ghost use Rattle.vm_operand.specs.Operands.{OpcodeAt};
+ghost use Rattle.vm_exec.specs.declared.fetch.Fetched.{Fetched};
+ghost use Rattle.vm_exec.specs.declared.machine.Machine.{Machine};
 
 use crate::Machine;
 use crate::fetch::Fetched;
@@ -131,8 +136,8 @@ impl<'i> Machine<'i> {
         ensures does { GoesBy self.old self.new result }
         ensures fit { IsFit self.old → IfOk result (λ went. StaysOn self.new went) }
     {
-        let fetched = self.fetch_array(array, code, place)?;
-        self.work_on(alloc, Op::Array(array), fetched)
+        let fetched = self.fetch_array(array, code, place);
+        self.go_by(alloc, Op::Array(array), fetched)
     }
 
     // A call or a return.
@@ -149,8 +154,57 @@ impl<'i> Machine<'i> {
         ensures does { GoesBy self.old self.new result }
         ensures fit { IsFit self.old → IfOk result (λ went. StaysOn self.new went) }
     {
-        let fetched = self.fetch_flow(flow, code, place)?;
-        self.work_on(alloc, Op::Flow(flow), fetched)
+        // an arm for each, so that each has the code of its own row alone
+        match flow {
+            Flow::Return => {
+                let fetched = self.one(Op::Flow(flow), code, place);
+                self.go_by(alloc, Op::Flow(Flow::Return), fetched)
+            }
+            Flow::Throw => {
+                let fetched = self.two(Op::Flow(flow), code, place);
+                self.go_by(alloc, Op::Flow(Flow::Throw), fetched)
+            }
+            Flow::Tailcall => {
+                let fetched = self.two(Op::Flow(flow), code, place);
+                self.go_by(alloc, Op::Flow(Flow::Tailcall), fetched)
+            }
+            Flow::Call => {
+                let fetched = self.two_and_store(Op::Flow(flow), code, place);
+                self.go_by(alloc, Op::Flow(Flow::Call), fetched)
+            }
+            Flow::Callf => {
+                let fetched = self.one_and_store(Op::Flow(flow), code, place);
+                self.go_by(alloc, Op::Flow(Flow::Callf), fetched)
+            }
+            Flow::Callfi => {
+                let fetched = self.two_and_store(Op::Flow(flow), code, place);
+                self.go_by(alloc, Op::Flow(Flow::Callfi), fetched)
+            }
+            Flow::Callfii => {
+                let fetched = self.three_and_store(Op::Flow(flow), code, place);
+                self.go_by(alloc, Op::Flow(Flow::Callfii), fetched)
+            }
+            Flow::Callfiii => {
+                let fetched = self.four_and_store(Op::Flow(flow), code, place);
+                self.go_by(alloc, Op::Flow(Flow::Callfiii), fetched)
+            }
+            Flow::Catch => unreachable!(),
+        }
+    }
+
+    // What the row of an opcode says that was fetched, or the fault of the fetch.
+    #[inline(always)]
+    fn go_by(&mut self, alloc: Global, op: Op, fetched: Result<Fetched, Trap>) -> Result<Went, Trap>
+        requires quick { IsQuickOpcode op }
+        // the store tells where memory may be wanted
+        requires want { (q : Fetched) → StoreMayWant op q.to → MayWant op q }
+        ensures does { (m : Machine) (place : ℕ) → OpcodeAt m.memory m.pc op place
+            → Fetches m op self.old fetched → GoesBy m self.new result }
+        ensures fit { IfOk fetched (λ _. IsFit self.old)
+            → IfOk result (λ went. StaysOn self.new went) }
+    {
+        let fetched = fetched?;
+        self.work_on(alloc, op, fetched)
     }
 
     // What the row of such an opcode says.
@@ -158,6 +212,7 @@ impl<'i> Machine<'i> {
     fn work_on(&mut self, alloc: Global, op: Op, fetched: Fetched) -> Result<Went, Trap>
         requires { IsQuickOpcode op }
         ensures does { WorkGives (work_for op self.old fetched) self.new result }
+        ensures want { result ≡ Err NoMemory → StoreMayWant op fetched.to }
         ensures fit { IsFit self.old → IfOk result (λ went. StaysOn self.new went) }
     {
         let args = fetched.args();
@@ -170,6 +225,7 @@ impl<'i> Machine<'i> {
     #[tactic(auto, unfolding(crate::specs::Rows::Math::math_work))]
     fn math_on(&mut self, math: Math, fetched: Fetched) -> Result<Went, Trap>
         ensures does { WorkGives (work_for (op.Math math) self.old fetched) self.new result }
+        ensures want { result ≡ Err NoMemory → IsInMemory fetched.to }
         ensures fit { IsFit self.old → IfOk result (λ went. StaysOn self.new went) }
     {
         let value = math.apply(fetched.first, fetched.second)?;
@@ -182,6 +238,7 @@ impl<'i> Machine<'i> {
     #[tactic(auto, unfolding(crate::specs::Rows::Moving::move_work))]
     fn copy_on(&mut self, fetched: Fetched) -> Result<Went, Trap>
         ensures does { WorkGives (work_for (op.Move Copy) self.old fetched) self.new result }
+        ensures want { result ≡ Err NoMemory → IsInMemory fetched.to }
         ensures fit { IsFit self.old → IfOk result (λ went. StaysOn self.new went) }
     {
         self.store(fetched.to, fetched.first)?;
@@ -193,6 +250,7 @@ impl<'i> Machine<'i> {
     #[tactic(auto, unfolding(crate::specs::Rows::Branch::branch_work))]
     fn branch_on(&mut self, branch: Branch, fetched: Fetched) -> Result<Went, Trap>
         ensures does { WorkGives (work_for (op.Branch branch) self.old fetched) self.new result }
+        ensures want { result ≡ Err NoMemory → MayReturn branch fetched }
         ensures fit { IsFit self.old → IfOk result (λ went. StaysOn self.new went) }
     {
         let holds = branch.holds(fetched.first, fetched.second);
@@ -212,6 +270,7 @@ impl<'i> Machine<'i> {
     #[inline(always)]
     fn jump_on(&mut self, offset: u32) -> Result<Went, Trap>
         ensures does { WorkGives (Free (branches self.old offset)) self.new result }
+        ensures want { result ≡ Err NoMemory → offset < 2 }
         ensures fit { IsFit self.old → IfOk result (λ went. StaysOn self.new went) }
     {
         if offset == 0 || offset == 1 {
@@ -267,24 +326,6 @@ impl<'i> Machine<'i> {
             1 => self.one(Op::Branch(branch), code, place),
             2 => self.two(Op::Branch(branch), code, place),
             _ => self.three(Op::Branch(branch), code, place),
-        }
-    }
-
-    #[inline(always)]
-    fn fetch_flow(&mut self, flow: Flow, code: &[u8], place: u32) -> Result<Fetched, Trap>
-        requires here { IsAtHand self.old (op.Flow flow) place code.now }
-        requires quick { IsQuickOpcode (op.Flow flow) }
-        ensures fetched { Fetches self.old (op.Flow flow) self.new result }
-        ensures fit { IsFit self.old → IfOk result (λ _. IsFit self.new) }
-    {
-        match flow {
-            Flow::Return => self.one(Op::Flow(flow), code, place),
-            Flow::Throw | Flow::Tailcall => self.two(Op::Flow(flow), code, place),
-            Flow::Callf => self.one_and_store(Op::Flow(flow), code, place),
-            Flow::Call | Flow::Callfi => self.two_and_store(Op::Flow(flow), code, place),
-            Flow::Callfii => self.three_and_store(Op::Flow(flow), code, place),
-            Flow::Callfiii => self.four_and_store(Op::Flow(flow), code, place),
-            Flow::Catch => unreachable!(),
         }
     }
 }

@@ -40,6 +40,11 @@ pub(crate) fn append(buf: &mut [u8], len: usize, new: &[u8])
     ensures bytes { take (len + length new.now) buf.new ≡ take len buf.old ++ new.now }
     ensures size { length buf.new ≡ length buf.old }
 {
+    // a word, or a list of one pair of locals: no call of the C library
+    if let [a, b, c, d] = *new {
+        buf[len..len + 4].copy_from_slice(&[a, b, c, d]);
+        return;
+    }
     buf[len..len + new.len()].copy_from_slice(new);
 }
 

@@ -7,7 +7,7 @@ ghost use Rattle.vm_stack.specs.Values.{without_top};
 ghost use Rattle.vm_stack.specs.Token as tokens;
 ghost use Rattle.vm_stack.specs.Chain.{Chain, HasFrame, IsReady, EndsInOwnStub};
 
-use crate::bytes::number;
+use crate::bytes::{held, number};
 use crate::fault::StackFault;
 use crate::stack::Stack;
 use byteorder::{BigEndian, ByteOrder};
@@ -95,13 +95,13 @@ impl Stack {
 
 // The stub at a place.
 fn stub_at(bytes: &[u8], at: usize) -> Stub
-    requires { at < 4294967296 }
+    requires { at + 16 ≤ length bytes.now }
     ensures { result ≡ stubs.stub_at bytes.now at }
 {
     Stub {
-        kind: number(bytes, at, 4),
-        at: number(bytes, at + 4, 4),
-        pc: number(bytes, at + 8, 4),
-        frame: number(bytes, at + 12, 4),
+        kind: held(bytes, at, 4),
+        at: held(bytes, at + 4, 4),
+        pc: held(bytes, at + 8, 4),
+        frame: held(bytes, at + 12, 4),
     }
 }

@@ -4,7 +4,7 @@ ghost use Rattle.vm_stack.specs.Answer.{GivesFromStack, LeavesStack};
 ghost use Rattle.vm_stack.specs.Values as values;
 ghost use Rattle.vm_stack.specs.Chain.{Chain, HasFrame};
 
-use crate::bytes::number;
+use crate::bytes::{held, number};
 use crate::fault::StackFault;
 use crate::stack::{MAX_STACK, Stack};
 
@@ -40,7 +40,7 @@ impl Stack {
             return Err(StackFault::Underflow);
         }
         let bytes = self.live();
-        let value = number(bytes, bytes.len() - 4, 4);
+        let value = held(bytes, bytes.len() - 4, 4);
         self.shrink(4);
         Ok(value)
     }

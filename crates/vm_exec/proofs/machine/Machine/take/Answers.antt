@@ -8,5 +8,5 @@ returns-in-Err-clause-does c =
       c.in-Some.load,
       c.in-Some.next,
     ) c.in-Err.trap c.refusal-in-Err.result
-    c.load_word.ensures.memory c.load_word.ensures.pc c.in-Some.ensures.found c.in-Err.ensures.does e.unread
-    e.read
+    c.load_word.ensures.memory c.load_word.ensures.pc c.in-Some.ensures.found c.in-Err.ensures.does
+    c.in-Err.ensures.refusal e.unread e.read e.want

@@ -3,7 +3,8 @@ use Rattle.vm_operand.specs.declared.operand.Dest.TheVariants as dest
 use Rattle.vm_exec.specs.Answer.{Does}
 use Rattle.vm_exec.specs.Row.{dest_by_index, work}
 use Rattle.vm_exec.specs.Rows.Work.{Work, budgeted}
-use Rattle.vm_exec.specs.Run.{StaysOn, WorkGives, work_for}
+use Rattle.vm_exec.specs.Fetch.{work_for}
+use Rattle.vm_exec.specs.Run.{StaysOn, WorkGives}
 use Rattle.vm_exec.specs.declared.fetch.Fetched.{Fetched}
 use Rattle.vm_exec.specs.declared.machine.Machine.{Machine}
 use Rattle.vm_exec.specs.declared.quick.Went.{Went}
