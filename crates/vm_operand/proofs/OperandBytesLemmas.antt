@@ -130,8 +130,9 @@ filled xs n v x h =
 one_more : {A : Type 0} (xs : List A) (x : A) → length xs + 1 ≡ length (xs ++ x ∷ [])
 one_more xs x = let l = length-append xs (x ∷ []) in omega (arith, l)
 
-loaded : (number : ℕ) (ls : List l.Load) (ss : List d.Dest) (p q : ℕ) (x : l.Load) → length ls < 8
-    → with_load (instr number ls ss p) (x, q) ≡ instr number (ls ++ x ∷ []) ss q
+-- one more load
+pub loaded : (number : ℕ) (ls : List l.Load) (ss : List d.Dest) (p q : ℕ) (x : l.Load)
+    → length ls < 8 → with_load (instr number ls ss p) (x, q) ≡ instr number (ls ++ x ∷ []) ss q
 loaded number ls ss p q x h =
     ap (λ (c : ℕ). record
     (instr number ls ss q) {
@@ -145,8 +146,9 @@ loaded number ls ss p q x h =
     (instr number ls ss q) { loads = record { count = length (ls ++ x ∷ []); items = xs } })
     (filled ls 8 (load.Value 0) x h)
 
-stored : (number : ℕ) (ls : List l.Load) (ss : List d.Dest) (p q : ℕ) (x : d.Dest) → length ss < 2
-    → with_store (instr number ls ss p) (x, q) ≡ instr number ls (ss ++ x ∷ []) q
+-- one more store
+pub stored : (number : ℕ) (ls : List l.Load) (ss : List d.Dest) (p q : ℕ) (x : d.Dest)
+    → length ss < 2 → with_store (instr number ls ss p) (x, q) ≡ instr number ls (ss ++ x ∷ []) q
 stored number ls ss p q x h =
     ap (λ (c : ℕ). record
     (instr number ls ss q) {

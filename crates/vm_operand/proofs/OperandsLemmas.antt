@@ -1,307 +1,218 @@
--- Instructions of few operands, all of which are read.
-use Rattle.std.proofs.Common.{arith, ◌≡◌, refl, ℕ, ◌+◌, ◌%◌, ◌/◌, [], ◌∷◌, Result, Ok}
-use Rattle.std.proofs.Common.{Err, subst}
+-- Operands read by the numbers of their modes.
+use Rattle.std.proofs.Common.{arith, ◌≡◌, ◌≤◌, refl, sym, ap, ℕ, ◌+◌, ◌%◌, ◌/◌, List, [], ◌∷◌, ◌++◌}
+use Rattle.std.proofs.Common.{length, Result, Ok, Err, subst, append_assoc, append-nil}
+use Rattle.std.proofs.Common.{length-append}
+use Rattle.std.specs.Prelude.{IsErr}
 use Rattle.vm_memory.specs.Chaining.{◌>>=◌}
 use Rattle.vm_memory.specs.MemoryMap.{MemoryMap}
 use Rattle.vm_memory.specs.Access.{read}
-use Rattle.vm_operand.specs.Operands.{OpcodeAt, dest_by, instr_of, load_by, operands_from}
+use Rattle.vm_operand.specs.Operands.{OpcodeAt, dest_by, load_by}
 use Rattle.vm_operand.specs.Instruction.{modes_at, operand, operands, load_at, dest_at}
 use Rattle.vm_operand.specs.Instruction.{instruction_at}
 use Rattle.vm_operand.specs.Mode.{mode_of}
-use Rattle.vm_operand.proofs.OpcodeLemmas.{op_of-number_of}
-use Rattle.vm_operand.specs.Reading.{instruction_read}
-use Rattle.std.specs.Prelude.{IsErr}
-use Rattle.vm_operand.specs.Opcode.{kinds_of, opcode_number}
+use Rattle.vm_operand.specs.Opcode.{kinds_of, loads_in, opcode_number, stores_in}
+use Rattle.vm_operand.specs.Spelling.{instr}
 use Rattle.vm_operand.specs.declared.opcode.Op.{Op}
 use Rattle.vm_operand.specs.declared.mode.Mode.{Mode}
 use Rattle.vm_operand.specs.declared.fault.OpFault.{OpFault}
+use Rattle.vm_operand.specs.declared.operand.Kind.{Kind}
 use Rattle.vm_operand.specs.declared.operand.Kind.TheVariants.{Load as L, Store as S}
 use Rattle.vm_operand.specs.declared.operand.Load as l
 use Rattle.vm_operand.specs.declared.operand.Dest as d
-
--- a mode that was found, and what came of it
-record Found {B : Type 0} (r : Result Mode OpFault) (f : Mode
-    → Result B OpFault) (x : B) : Type 0 where
-  mode : Mode
-  is : r ≡ Ok mode
-  gives : f mode ≡ Ok x
-
-found : {B : Type 0} (r : Result Mode OpFault) (f : Mode → Result B OpFault) (x : B)
-    → (r >>= f) ≡ Ok x → Found r f x
-found (Ok mode) f x h = record { mode = mode; is = refl; gives = h }
-found (Err e) f x h = absurd cc
-
-pub reads_one : (m : MemoryMap) (o : Op) (at b0 : ℕ) (x0 : l.Load × ℕ)
-    → read 1 m at ≡ Ok b0 → load_by m (b0 % 16) (at + 1) ≡ Ok x0
-    → operands_from m (opcode_number o) (L ∷ []) at ≡ Ok (instr_of o (x0.0 ∷ []) [] x0.1)
-unfolding modes_at operands operand
-reads_one m o at b0 x0 h0 g0 =
-    let p0 = found (mode_of L (b0 % 16)) (λ mode. load_at m mode (at + 1)) x0 g0 in
-    rw h0 (rw p0.is (rw p0.gives refl))
-
-pub reads_one_and_store : (m : MemoryMap) (o : Op) (at b0 : ℕ) (x0 : l.Load × ℕ) (x1 : d.Dest × ℕ)
-    → read 1 m at ≡ Ok b0 → load_by m (b0 % 16) (at + 1) ≡ Ok x0 → dest_by m (b0 / 16) x0.1 ≡ Ok x1
-    → operands_from m (opcode_number o) (L ∷ S ∷ []) at ≡ Ok (instr_of o (x0.0 ∷ []) (x1.0 ∷ [])
-    x1.1)
-unfolding modes_at operands operand
-reads_one_and_store m o at b0 x0 x1 h0 g0 g1 =
-    let p0 = found (mode_of L (b0 % 16)) (λ mode. load_at m mode (at + 1)) x0 g0 in
-    let p1 = found (mode_of S (b0 / 16)) (λ mode. dest_at m mode x0.1) x1 g1 in
-    rw h0 (rw p0.is (rw p1.is (rw p0.gives (rw p1.gives refl))))
-
-pub reads_two : (m : MemoryMap) (o : Op) (at b0 : ℕ) (x0 : l.Load × ℕ) (x1 : l.Load × ℕ)
-    → read 1 m at ≡ Ok b0 → load_by m (b0 % 16) (at + 1) ≡ Ok x0 → load_by m (b0 / 16) x0.1 ≡ Ok x1
-    → operands_from m (opcode_number o) (L ∷ L ∷ []) at ≡ Ok (instr_of o (x0.0 ∷ x1.0 ∷ []) [] x1.1)
-unfolding modes_at operands operand
-reads_two m o at b0 x0 x1 h0 g0 g1 =
-    let p0 = found (mode_of L (b0 % 16)) (λ mode. load_at m mode (at + 1)) x0 g0 in
-    let p1 = found (mode_of L (b0 / 16)) (λ mode. load_at m mode x0.1) x1 g1 in
-    rw h0 (rw p0.is (rw p1.is (rw p0.gives (rw p1.gives refl))))
-
-pub reads_two_and_store : (m : MemoryMap) (o : Op) (at b0 b1 : ℕ) (x0 : l.Load × ℕ) (x1 : l.Load ×
-    ℕ) (x2 : d.Dest × ℕ)
-    → read 1 m at ≡ Ok b0 → read 1 m (at + 1) ≡ Ok b1 → load_by m (b0 % 16) (at + 2) ≡ Ok x0
-    → load_by m (b0 / 16) x0.1 ≡ Ok x1 → dest_by m (b1 % 16) x1.1 ≡ Ok x2
-    → operands_from m (opcode_number o) (L ∷ L ∷ S ∷ []) at ≡ Ok (instr_of o (x0.0 ∷ x1.0 ∷ [])
-    (x2.0 ∷ []) x2.1)
-unfolding modes_at operands operand
-reads_two_and_store m o at b0 b1 x0 x1 x2 h0 h1 g0 g1 g2 =
-    let p0 = found (mode_of L (b0 % 16)) (λ mode. load_at m mode (at + 2)) x0 g0 in
-    let p1 = found (mode_of L (b0 / 16)) (λ mode. load_at m mode x0.1) x1 g1 in
-    let p2 = found (mode_of S (b1 % 16)) (λ mode. dest_at m mode x1.1) x2 g2 in
-    rw h0 (rw p0.is (rw p1.is (rw h1 (rw p2.is (rw p0.gives (rw p1.gives (rw p2.gives refl)))))))
-
-pub reads_three : (m : MemoryMap) (o : Op) (at b0 b1 : ℕ) (x0 : l.Load × ℕ) (x1 : l.Load × ℕ) (x2 :
-    l.Load × ℕ)
-    → read 1 m at ≡ Ok b0 → read 1 m (at + 1) ≡ Ok b1 → load_by m (b0 % 16) (at + 2) ≡ Ok x0
-    → load_by m (b0 / 16) x0.1 ≡ Ok x1 → load_by m (b1 % 16) x1.1 ≡ Ok x2
-    → operands_from m (opcode_number o) (L ∷ L ∷ L ∷ []) at ≡ Ok (instr_of o (x0.0 ∷ x1.0 ∷ x2.0 ∷
-    []) [] x2.1)
-unfolding modes_at operands operand
-reads_three m o at b0 b1 x0 x1 x2 h0 h1 g0 g1 g2 =
-    let p0 = found (mode_of L (b0 % 16)) (λ mode. load_at m mode (at + 2)) x0 g0 in
-    let p1 = found (mode_of L (b0 / 16)) (λ mode. load_at m mode x0.1) x1 g1 in
-    let p2 = found (mode_of L (b1 % 16)) (λ mode. load_at m mode x1.1) x2 g2 in
-    rw h0 (rw p0.is (rw p1.is (rw h1 (rw p2.is (rw p0.gives (rw p1.gives (rw p2.gives refl)))))))
-
-pub reads_three_and_store : (m : MemoryMap) (o : Op) (at b0 b1 : ℕ) (x0 : l.Load × ℕ) (x1 : l.Load ×
-    ℕ) (x2 : l.Load × ℕ) (x3 : d.Dest × ℕ)
-    → read 1 m at ≡ Ok b0 → read 1 m (at + 1) ≡ Ok b1 → load_by m (b0 % 16) (at + 2) ≡ Ok x0
-    → load_by m (b0 / 16) x0.1 ≡ Ok x1 → load_by m (b1 % 16) x1.1 ≡ Ok x2
-    → dest_by m (b1 / 16) x2.1 ≡ Ok x3
-    → operands_from m (opcode_number o) (L ∷ L ∷ L ∷ S ∷ []) at ≡ Ok (instr_of o (x0.0 ∷ x1.0 ∷ x2.0
-    ∷ []) (x3.0 ∷ []) x3.1)
-unfolding modes_at operands operand
-reads_three_and_store m o at b0 b1 x0 x1 x2 x3 h0 h1 g0 g1 g2 g3 =
-    let p0 = found (mode_of L (b0 % 16)) (λ mode. load_at m mode (at + 2)) x0 g0 in
-    let p1 = found (mode_of L (b0 / 16)) (λ mode. load_at m mode x0.1) x1 g1 in
-    let p2 = found (mode_of L (b1 % 16)) (λ mode. load_at m mode x1.1) x2 g2 in
-    let p3 = found (mode_of S (b1 / 16)) (λ mode. dest_at m mode x2.1) x3 g3 in
-    rw h0 (rw p0.is (rw p1.is (rw h1 (rw p2.is (rw p3.is (rw p0.gives (rw p1.gives (rw p2.gives (rw
-    p3.gives refl)))))))))
-
-pub reads_four_and_store : (m : MemoryMap) (o : Op) (at b0 b1 b2 : ℕ) (x0 : l.Load × ℕ) (x1 : l.Load
-    × ℕ) (x2 : l.Load × ℕ) (x3 : l.Load × ℕ) (x4 : d.Dest × ℕ)
-    → read 1 m at ≡ Ok b0 → read 1 m (at + 1) ≡ Ok b1 → read 1 m (at + 2) ≡ Ok b2
-    → load_by m (b0 % 16) (at + 3) ≡ Ok x0 → load_by m (b0 / 16) x0.1 ≡ Ok x1
-    → load_by m (b1 % 16) x1.1 ≡ Ok x2 → load_by m (b1 / 16) x2.1 ≡ Ok x3
-    → dest_by m (b2 % 16) x3.1 ≡ Ok x4
-    → operands_from m (opcode_number o) (L ∷ L ∷ L ∷ L ∷ S ∷ []) at ≡ Ok (instr_of o (x0.0 ∷ x1.0 ∷
-    x2.0 ∷ x3.0 ∷ []) (x4.0 ∷ []) x4.1)
-unfolding modes_at operands operand
-reads_four_and_store m o at b0 b1 b2 x0 x1 x2 x3 x4 h0 h1 h2 g0 g1 g2 g3 g4 =
-    let h3 : read 1 m (at + 1 + 1) ≡ Ok b2 = subst (λ n. read 1 m n ≡ Ok b2) (omega arith) h2 in
-    let p0 = found (mode_of L (b0 % 16)) (λ mode. load_at m mode (at + 3)) x0 g0 in
-    let p1 = found (mode_of L (b0 / 16)) (λ mode. load_at m mode x0.1) x1 g1 in
-    let p2 = found (mode_of L (b1 % 16)) (λ mode. load_at m mode x1.1) x2 g2 in
-    let p3 = found (mode_of L (b1 / 16)) (λ mode. load_at m mode x2.1) x3 g3 in
-    let p4 = found (mode_of S (b2 % 16)) (λ mode. dest_at m mode x3.1) x4 g4 in
-    rw h0 (rw p0.is (rw p1.is (rw h1 (rw p2.is (rw p3.is (rw h3 (rw p4.is (rw p0.gives (rw p1.gives
-    (rw p2.gives (rw p3.gives (rw p4.gives refl))))))))))))
+use Rattle.vm_operand.proofs.OpcodeBytesLemmas.{bound, ok_is}
+use Rattle.vm_operand.proofs.OpcodeLemmas.{op_of-number_of}
+use Rattle.vm_operand.proofs.OperandBytesLemmas.{loaded, stored}
+use Rattle.vm_operand.proofs.SpellingLemmas.{is_small}
 
 -- a result that is an error, or a value
-either : {A E : Type 0} {P : Type 0} (r : Result A E) → ((e : E) → r ≡ Err e → P) → ((x : A)
-    → r ≡ Ok x → P) → P
+pub either : {A E : Type 0} {P : Type 0} (r : Result A E) → ((e : E) → r ≡ Err e → P)
+    → ((x : A) → r ≡ Ok x → P) → P
 either (Ok x) bad good = good x refl
 either (Err e) bad good = bad e refl
 
-contrary : {A E : Type 0} {P : Type 0} (r : Result A E) (x : A) → r ≡ Ok x → IsErr r → P
+-- no result is a value and an error
+pub contrary : {A E : Type 0} {P : Type 0} (r : Result A E) (x : A) → r ≡ Ok x → IsErr r → P
 contrary (Ok y) x is bad = absurd cc
 contrary (Err e) x is bad = absurd cc
 
--- the bytes of its modes, and then its operands
-abbrev pub read_one : MemoryMap → ℕ → Result (l.Load × ℕ) OpFault
-read_one m at =
-    instruction_read (read 1 m at) >>= (λ b0. load_by m (b0 % 16) (at + 1))
+-- the numbers in bytes of modes, the low half first
+abbrev pub halves : List ℕ → List ℕ
+halves [] = []
+halves (b ∷ bs) = b % 16 ∷ b / 16 ∷ halves bs
 
-pub no_one : (m : MemoryMap) (n at : ℕ) → IsErr (read_one m at)
-    → IsErr (operands_from m n (L ∷ []) at)
-unfolding modes_at operands operand
-no_one m n at bad =
-    either (read 1 m at) (λ e h. rw h refl) (λ b0 h0.
-    either (mode_of L (b0 % 16)) (λ e h. rw h0 (rw h refl)) (λ k0 p0.
-    either (load_at m k0 (at + 1)) (λ e h. rw h0 (rw p0 (rw h refl))) (λ x0 g0.
-    let all : read_one m at ≡ Ok x0 = rw h0 (rw p0 (rw g0 refl)) in
-    contrary (read_one m at) x0 all bad)))
+-- these are the bytes of the modes of such operands
+abbrev pub BytesAt : MemoryMap → ℕ → List Kind → List ℕ → Type 0
+BytesAt m p [] bs = Unit {0}
+BytesAt m p (kind ∷ kinds) [] = ⊥
+BytesAt m p (kind ∷ []) (b ∷ bs) = read 1 m p ≡ Ok b
+BytesAt m p (first ∷ second ∷ kinds) (b ∷ bs) = (read 1 m p ≡ Ok b) × BytesAt m (p + 1) kinds bs
 
--- the bytes of its modes, and then its operands
-abbrev pub read_one_and_store : MemoryMap → ℕ → Result (d.Dest × ℕ) OpFault
-read_one_and_store m at =
-    instruction_read (read 1 m at) >>= (λ b0. load_by m (b0 % 16) (at + 1) >>= (λ x0. dest_by m (b0
-    / 16) x0.1))
+-- the modes of these numbers
+unfoldable pub modes_by : List Kind → List ℕ → Result (List Mode) OpFault
+modes_by [] ns = Ok []
+modes_by (kind ∷ kinds) [] = Ok []
+modes_by (kind ∷ kinds) (n ∷ ns) = do
+  mode ← mode_of kind n
+  modes ← modes_by kinds ns
+  Ok (mode ∷ modes)
 
-pub no_one_and_store : (m : MemoryMap) (n at : ℕ) → IsErr (read_one_and_store m at)
-    → IsErr (operands_from m n (L ∷ S ∷ []) at)
-unfolding modes_at operands operand
-no_one_and_store m n at bad =
-    either (read 1 m at) (λ e h. rw h refl) (λ b0 h0.
-    either (mode_of L (b0 % 16)) (λ e h. rw h0 (rw h refl)) (λ k0 p0.
-    either (mode_of S (b0 / 16)) (λ e h. rw h0 (rw p0 (rw h refl))) (λ k1 p1.
-    either (load_at m k0 (at + 1)) (λ e h. rw h0 (rw p0 (rw p1 (rw h refl)))) (λ x0 g0.
-    either (dest_at m k1 x0.1) (λ e h. rw h0 (rw p0 (rw p1 (rw g0 (rw h refl))))) (λ x1 g1.
-    let all : read_one_and_store m at ≡ Ok x1 = rw h0 (rw p0 (rw g0 (rw p1 (rw g1 refl)))) in
-    contrary (read_one_and_store m at) x1 all bad)))))
+-- the modes that are read are those of the numbers in their bytes
+modes_at-by : (m : MemoryMap) (p : ℕ) (ks : List Kind) (bs : List ℕ) → BytesAt m p ks bs
+    → modes_at m p ks ≡ modes_by ks (halves bs)
+unfolding modes_at modes_by
+modes_at-by m p [] bs bytes = refl
+modes_at-by m p (kind ∷ kinds) [] bytes = absurd bytes
+modes_at-by m p (kind ∷ []) (b ∷ bs) bytes = rw bytes refl
+modes_at-by m p (first ∷ second ∷ kinds) (b ∷ bs) bytes =
+    rw (bytes.0, modes_at-by m (p + 1) kinds bs bytes.1)
+    (either (mode_of first (b % 16)) (λ e h. rw h refl) (λ low h.
+    rw h (either (mode_of second (b / 16)) (λ e g. rw g refl) (λ high g.
+    rw g (either (modes_by kinds (halves bs)) (λ e f. rw f refl) (λ modes f. rw f refl))))))
 
--- the bytes of its modes, and then its operands
-abbrev pub read_two : MemoryMap → ℕ → Result (l.Load × ℕ) OpFault
-read_two m at =
-    instruction_read (read 1 m at) >>= (λ b0. load_by m (b0 % 16) (at + 1) >>= (λ x0. load_by m (b0
-    / 16) x0.1))
+-- what is left of an instruction
+pub record Rest : Type 0 where
+  pub loads : List l.Load
+  pub stores : List d.Dest
+  pub next : ℕ
 
-pub no_two : (m : MemoryMap) (n at : ℕ) → IsErr (read_two m at)
-    → IsErr (operands_from m n (L ∷ L ∷ []) at)
-unfolding modes_at operands operand
-no_two m n at bad =
-    either (read 1 m at) (λ e h. rw h refl) (λ b0 h0.
-    either (mode_of L (b0 % 16)) (λ e h. rw h0 (rw h refl)) (λ k0 p0.
-    either (mode_of L (b0 / 16)) (λ e h. rw h0 (rw p0 (rw h refl))) (λ k1 p1.
-    either (load_at m k0 (at + 1)) (λ e h. rw h0 (rw p0 (rw p1 (rw h refl)))) (λ x0 g0.
-    either (load_at m k1 x0.1) (λ e h. rw h0 (rw p0 (rw p1 (rw g0 (rw h refl))))) (λ x1 g1.
-    let all : read_two m at ≡ Ok x1 = rw h0 (rw p0 (rw g0 (rw p1 (rw g1 refl)))) in
-    contrary (read_two m at) x1 all bad)))))
+-- operands of these modes, whose bytes begin at a place
+unfoldable pub operands_at : MemoryMap → List Kind → List Mode → ℕ → Result Rest OpFault
+operands_at m [] modes at = Ok (record { loads = []; stores = []; next = at })
+operands_at m (kind ∷ kinds) [] at = Ok (record { loads = []; stores = []; next = at })
+operands_at m (L ∷ kinds) (mode ∷ modes) at = do
+  x ← load_at m mode at
+  r ← operands_at m kinds modes x.1
+  Ok (record r { loads = x.0 ∷ r.loads })
+operands_at m (S ∷ kinds) (mode ∷ modes) at = do
+  x ← dest_at m mode at
+  r ← operands_at m kinds modes x.1
+  Ok (record r { stores = x.0 ∷ r.stores })
 
--- the bytes of its modes, and then its operands
-abbrev pub read_two_and_store : MemoryMap → ℕ → Result (d.Dest × ℕ) OpFault
-read_two_and_store m at =
-    instruction_read (read 1 m at) >>= (λ b0. instruction_read (read 1 m (at + 1)) >>= (λ b1.
-    load_by m (b0 % 16) (at + 2) >>= (λ x0. load_by m (b0 / 16) x0.1 >>= (λ x1. dest_by m (b1 % 16)
-    x1.1))))
+-- the operands that are read are added to an instruction with these loads and stores
+operands_added : (m : MemoryMap) (number : ℕ) (ks : List Kind) (modes : List Mode)
+    (xs : List l.Load) (ys : List d.Dest) (at : ℕ)
+    → length xs + loads_in ks ≤ 8 → length ys + stores_in ks ≤ 2
+    → operands m ks modes (instr number xs ys at) ≡ (operands_at m ks modes at >>= (λ r. Ok (instr
+    number (xs ++ r.loads) (ys ++ r.stores) r.next)))
+unfolding operands operand operands_at
+operands_added m number [] modes xs ys at a b = rw (append-nil xs, append-nil ys) refl
+operands_added m number (kind ∷ kinds) [] xs ys at a b = rw (append-nil xs, append-nil ys) refl
+operands_added m number (L ∷ kinds) (mode ∷ modes) xs ys at a b =
+    either (load_at m mode at) (λ e h. rw h refl) (λ x h.
+    let n = length-append xs (x.0 ∷ []) in
+    rw (
+      h,
+      loaded number xs ys at x.1 x.0 (omega (arith, a)),
+      operands_added m number kinds modes
+          (xs ++ x.0 ∷ []) ys x.1 (omega (arith, a, n)) b,
+    )
+    (either (operands_at m kinds modes x.1) (λ e g. rw g refl) (λ r g.
+    rw (g, append_assoc xs (x.0 ∷ []) r.loads) refl)))
+operands_added m number (S ∷ kinds) (mode ∷ modes) xs ys at a b =
+    either (dest_at m mode at) (λ e h. rw h refl) (λ x h.
+    let n = length-append ys (x.0 ∷ []) in
+    rw (
+      h,
+      stored number xs ys at x.1 x.0 (omega (arith, b)),
+      operands_added m number kinds modes
+          xs (ys ++ x.0 ∷ []) x.1 a (omega (arith, b, n)),
+    )
+    (either (operands_at m kinds modes x.1) (λ e g. rw g refl) (λ r g.
+    rw (g, append_assoc ys (x.0 ∷ []) r.stores) refl)))
 
-pub no_two_and_store : (m : MemoryMap) (n at : ℕ) → IsErr (read_two_and_store m at)
-    → IsErr (operands_from m n (L ∷ L ∷ S ∷ []) at)
-unfolding modes_at operands operand
-no_two_and_store m n at bad =
-    either (read 1 m at) (λ e h. rw h refl) (λ b0 h0.
-    either (mode_of L (b0 % 16)) (λ e h. rw h0 (rw h refl)) (λ k0 p0.
-    either (mode_of L (b0 / 16)) (λ e h. rw h0 (rw p0 (rw h refl))) (λ k1 p1.
-    either (read 1 m (at + 1)) (λ e h. rw h0 (rw p0 (rw p1 (rw h refl)))) (λ b1 h1.
-    either (mode_of S (b1 % 16)) (λ e h. rw h0 (rw p0 (rw p1 (rw h1 (rw h refl))))) (λ k2 p2.
-    either (load_at m k0 (at + 2)) (λ e h. rw h0 (rw p0 (rw p1 (rw h1 (rw p2 (rw h refl)))))) (λ x0
-    g0.
-    either (load_at m k1 x0.1) (λ e h. rw h0 (rw p0 (rw p1 (rw h1 (rw p2 (rw g0 (rw h refl))))))) (λ
-    x1 g1.
-    either (dest_at m k2 x1.1) (λ e h. rw h0 (rw p0 (rw p1 (rw h1 (rw p2 (rw g0 (rw g1 (rw h
-    refl)))))))) (λ x2 g2.
-    let all : read_two_and_store m at ≡ Ok x2 = rw h0 (rw h1 (rw p0 (rw g0 (rw p1 (rw g1 (rw p2 (rw
-    g2 refl))))))) in
-    contrary (read_two_and_store m at) x2 all bad))))))))
+-- what is left of an instruction from a place on, by the kinds and the numbers of the modes
+unfoldable pub left : MemoryMap → List Kind → List ℕ → ℕ → Result Rest OpFault
+left m ks ns at = modes_by ks ns >>= (λ modes. operands_at m ks modes at)
 
--- the bytes of its modes, and then its operands
-abbrev pub read_three : MemoryMap → ℕ → Result (l.Load × ℕ) OpFault
-read_three m at =
-    instruction_read (read 1 m at) >>= (λ b0. instruction_read (read 1 m (at + 1)) >>= (λ b1.
-    load_by m (b0 % 16) (at + 2) >>= (λ x0. load_by m (b0 / 16) x0.1 >>= (λ x1. load_by m (b1 % 16)
-    x1.1))))
+-- the instruction of an opcode that stands there, whose bytes of modes are these
+pub instruction_left : (m : MemoryMap) (at : ℕ) (o : Op) (p : ℕ) (ks : List Kind) (bs : List ℕ)
+    → OpcodeAt m at o p → kinds_of o ≡ ks → BytesAt m p ks bs
+    → instruction_at m at ≡ (left m ks (halves bs) (p + (length ks + 1) / 2) >>= (λ r. Ok (instr
+    (opcode_number o) r.loads r.stores r.next)))
+unfolding instruction_at left
+instruction_left m at o p ks bs here kinds bytes =
+    let few = is_small o in
+    let loads = few.loads in
+    let stores = few.stores in
+    rw (here, op_of-number_of o, kinds, modes_at-by m p ks bs bytes)
+    (either (modes_by ks (halves bs)) (λ e h. rw h refl) (λ modes h.
+    rw (
+      h,
+      operands_added m (opcode_number o) ks modes [] [] (p + (length ks + 1) / 2)
+          (omega (arith, loads, ap loads_in kinds)) (omega (arith, stores, ap stores_in kinds)),
+    ) refl))
 
-pub no_three : (m : MemoryMap) (n at : ℕ) → IsErr (read_three m at)
-    → IsErr (operands_from m n (L ∷ L ∷ L ∷ []) at)
-unfolding modes_at operands operand
-no_three m n at bad =
-    either (read 1 m at) (λ e h. rw h refl) (λ b0 h0.
-    either (mode_of L (b0 % 16)) (λ e h. rw h0 (rw h refl)) (λ k0 p0.
-    either (mode_of L (b0 / 16)) (λ e h. rw h0 (rw p0 (rw h refl))) (λ k1 p1.
-    either (read 1 m (at + 1)) (λ e h. rw h0 (rw p0 (rw p1 (rw h refl)))) (λ b1 h1.
-    either (mode_of L (b1 % 16)) (λ e h. rw h0 (rw p0 (rw p1 (rw h1 (rw h refl))))) (λ k2 p2.
-    either (load_at m k0 (at + 2)) (λ e h. rw h0 (rw p0 (rw p1 (rw h1 (rw p2 (rw h refl)))))) (λ x0
-    g0.
-    either (load_at m k1 x0.1) (λ e h. rw h0 (rw p0 (rw p1 (rw h1 (rw p2 (rw g0 (rw h refl))))))) (λ
-    x1 g1.
-    either (load_at m k2 x1.1) (λ e h. rw h0 (rw p0 (rw p1 (rw h1 (rw p2 (rw g0 (rw g1 (rw h
-    refl)))))))) (λ x2 g2.
-    let all : read_three m at ≡ Ok x2 = rw h0 (rw h1 (rw p0 (rw g0 (rw p1 (rw g1 (rw p2 (rw g2
-    refl))))))) in
-    contrary (read_three m at) x2 all bad))))))))
+-- nothing is left
+pub left-none : (m : MemoryMap) (ns : List ℕ) (at : ℕ)
+    → left m [] ns at ≡ Ok (record { loads = []; stores = []; next = at })
+unfolding left modes_by operands_at
+left-none m ns at = refl
 
--- the bytes of its modes, and then its operands
-abbrev pub read_three_and_store : MemoryMap → ℕ → Result (d.Dest × ℕ) OpFault
-read_three_and_store m at =
-    instruction_read (read 1 m at) >>= (λ b0. instruction_read (read 1 m (at + 1)) >>= (λ b1.
-    load_by m (b0 % 16) (at + 2) >>= (λ x0. load_by m (b0 / 16) x0.1 >>= (λ x1. load_by m (b1 % 16)
-    x1.1 >>= (λ x2. dest_by m (b1 / 16) x2.1)))))
+-- a load, and the rest behind it
+pub left-load : (m : MemoryMap) (ks : List Kind) (n : ℕ) (ns : List ℕ) (at : ℕ) (x : l.Load × ℕ)
+    (r : Rest) → load_by m n at ≡ Ok x → left m ks ns x.1 ≡ Ok r
+    → left m (L ∷ ks) (n ∷ ns) at ≡ Ok (record r { loads = x.0 ∷ r.loads })
+unfolding left modes_by operands_at
+left-load m ks n ns at x r reads behind =
+    let a = bound (mode_of L n) _ x reads in
+    let b = bound (modes_by ks ns) _ r behind in
+    rw (a.1, b.1, a.2, b.2) refl
 
-pub no_three_and_store : (m : MemoryMap) (n at : ℕ) → IsErr (read_three_and_store m at)
-    → IsErr (operands_from m n (L ∷ L ∷ L ∷ S ∷ []) at)
-unfolding modes_at operands operand
-no_three_and_store m n at bad =
-    either (read 1 m at) (λ e h. rw h refl) (λ b0 h0.
-    either (mode_of L (b0 % 16)) (λ e h. rw h0 (rw h refl)) (λ k0 p0.
-    either (mode_of L (b0 / 16)) (λ e h. rw h0 (rw p0 (rw h refl))) (λ k1 p1.
-    either (read 1 m (at + 1)) (λ e h. rw h0 (rw p0 (rw p1 (rw h refl)))) (λ b1 h1.
-    either (mode_of L (b1 % 16)) (λ e h. rw h0 (rw p0 (rw p1 (rw h1 (rw h refl))))) (λ k2 p2.
-    either (mode_of S (b1 / 16)) (λ e h. rw h0 (rw p0 (rw p1 (rw h1 (rw p2 (rw h refl)))))) (λ k3
-    p3.
-    either (load_at m k0 (at + 2)) (λ e h. rw h0 (rw p0 (rw p1 (rw h1 (rw p2 (rw p3 (rw h
-    refl))))))) (λ x0 g0.
-    either (load_at m k1 x0.1) (λ e h. rw h0 (rw p0 (rw p1 (rw h1 (rw p2 (rw p3 (rw g0 (rw h
-    refl)))))))) (λ x1 g1.
-    either (load_at m k2 x1.1) (λ e h. rw h0 (rw p0 (rw p1 (rw h1 (rw p2 (rw p3 (rw g0 (rw g1 (rw h
-    refl))))))))) (λ x2 g2.
-    either (dest_at m k3 x2.1) (λ e h. rw h0 (rw p0 (rw p1 (rw h1 (rw p2 (rw p3 (rw g0 (rw g1 (rw g2
-    (rw h refl)))))))))) (λ x3 g3.
-    let all : read_three_and_store m at ≡ Ok x3 = rw h0 (rw h1 (rw p0 (rw g0 (rw p1 (rw g1 (rw p2
-    (rw g2 (rw p3 (rw g3 refl))))))))) in
-    contrary (read_three_and_store m at) x3 all bad))))))))))
+-- a store, and the rest behind it
+pub left-store : (m : MemoryMap) (ks : List Kind) (n : ℕ) (ns : List ℕ) (at : ℕ) (x : d.Dest × ℕ)
+    (r : Rest) → dest_by m n at ≡ Ok x → left m ks ns x.1 ≡ Ok r
+    → left m (S ∷ ks) (n ∷ ns) at ≡ Ok (record r { stores = x.0 ∷ r.stores })
+unfolding left modes_by operands_at
+left-store m ks n ns at x r reads behind =
+    let a = bound (mode_of S n) _ x reads in
+    let b = bound (modes_by ks ns) _ r behind in
+    rw (a.1, b.1, a.2, b.2) refl
 
--- the bytes of its modes, and then its operands
-abbrev pub read_four_and_store : MemoryMap → ℕ → Result (d.Dest × ℕ) OpFault
-read_four_and_store m at =
-    instruction_read (read 1 m at) >>= (λ b0. instruction_read (read 1 m (at + 1)) >>= (λ b1.
-    instruction_read (read 1 m (at + 2)) >>= (λ b2. load_by m (b0 % 16) (at + 3) >>= (λ x0. load_by
-    m (b0 / 16) x0.1 >>= (λ x1. load_by m (b1 % 16) x1.1 >>= (λ x2. load_by m (b1 / 16) x2.1 >>= (λ
-    x3. dest_by m (b2 % 16) x3.1)))))))
+-- the first mode, and those of the rest
+record Split (m : MemoryMap) (kind : Kind) (ks : List Kind) (n : ℕ) (ns : List ℕ) (at : ℕ) (r :
+    Rest) : Type 0 where
+  mode : Mode
+  modes : List Mode
+  first : mode_of kind n ≡ Ok mode
+  others : modes_by ks ns ≡ Ok modes
+  is : operands_at m (kind ∷ ks) (mode ∷ modes) at ≡ Ok r
 
-pub no_four_and_store : (m : MemoryMap) (n at : ℕ) → IsErr (read_four_and_store m at)
-    → IsErr (operands_from m n (L ∷ L ∷ L ∷ L ∷ S ∷ []) at)
-unfolding modes_at operands operand
-no_four_and_store m n at bad =
-    either (read 1 m at) (λ e h. rw h refl) (λ b0 h0.
-    either (mode_of L (b0 % 16)) (λ e h. rw h0 (rw h refl)) (λ k0 p0.
-    either (mode_of L (b0 / 16)) (λ e h. rw h0 (rw p0 (rw h refl))) (λ k1 p1.
-    either (read 1 m (at + 1)) (λ e h. rw h0 (rw p0 (rw p1 (rw h refl)))) (λ b1 h1.
-    either (mode_of L (b1 % 16)) (λ e h. rw h0 (rw p0 (rw p1 (rw h1 (rw h refl))))) (λ k2 p2.
-    either (mode_of L (b1 / 16)) (λ e h. rw h0 (rw p0 (rw p1 (rw h1 (rw p2 (rw h refl)))))) (λ k3
-    p3.
-    either (read 1 m (at + 1 + 1)) (λ e h. rw h0 (rw p0 (rw p1 (rw h1 (rw p2 (rw p3 (rw h
-    refl))))))) (λ b2 h2.
-    either (mode_of S (b2 % 16)) (λ e h. rw h0 (rw p0 (rw p1 (rw h1 (rw p2 (rw p3 (rw h2 (rw h
-    refl)))))))) (λ k4 p4.
-    either (load_at m k0 (at + 3)) (λ e h. rw h0 (rw p0 (rw p1 (rw h1 (rw p2 (rw p3 (rw h2 (rw p4
-    (rw h refl))))))))) (λ x0 g0.
-    either (load_at m k1 x0.1) (λ e h. rw h0 (rw p0 (rw p1 (rw h1 (rw p2 (rw p3 (rw h2 (rw p4 (rw g0
-    (rw h refl)))))))))) (λ x1 g1.
-    either (load_at m k2 x1.1) (λ e h. rw h0 (rw p0 (rw p1 (rw h1 (rw p2 (rw p3 (rw h2 (rw p4 (rw g0
-    (rw g1 (rw h refl))))))))))) (λ x2 g2.
-    either (load_at m k3 x2.1) (λ e h. rw h0 (rw p0 (rw p1 (rw h1 (rw p2 (rw p3 (rw h2 (rw p4 (rw g0
-    (rw g1 (rw g2 (rw h refl)))))))))))) (λ x3 g3.
-    either (dest_at m k4 x3.1) (λ e h. rw h0 (rw p0 (rw p1 (rw h1 (rw p2 (rw p3 (rw h2 (rw p4 (rw g0
-    (rw g1 (rw g2 (rw g3 (rw h refl))))))))))))) (λ x4 g4.
-    let h3 : read 1 m (at + 2) ≡ Ok b2 = subst (λ i. read 1 m i ≡ Ok b2) (omega arith) h2 in
-    let all : read_four_and_store m at ≡ Ok x4 = rw h0 (rw h1 (rw h3 (rw p0 (rw g0 (rw p1 (rw g1 (rw
-    p2 (rw g2 (rw p3 (rw g3 (rw p4 (rw g4 refl)))))))))))) in
-    contrary (read_four_and_store m at) x4 all bad)))))))))))))
+-- what can be read is read operand by operand
+split : (m : MemoryMap) (kind : Kind) (ks : List Kind) (n : ℕ) (ns : List ℕ) (at : ℕ) (r : Rest)
+    → left m (kind ∷ ks) (n ∷ ns) at ≡ Ok r → Split m kind ks n ns at r
+unfolding left modes_by
+split m kind ks n ns at r whole =
+    let a = bound (modes_by (kind ∷ ks) (n ∷ ns)) _ r whole in
+    let b = bound (mode_of kind n) _ a.0 a.1 in
+    let c = bound (modes_by ks ns) _ a.0 b.2 in
+    record {
+      mode = b.0;
+      modes = c.0;
+      first = b.1;
+      others = c.1;
+      is = subst (λ modes. operands_at m (kind ∷ ks) modes at ≡ Ok r) (sym (ok_is c.2)) a.2;
+    }
 
--- the instruction of an opcode that stands there is that of its operands
-pub instruction_from : (m : MemoryMap) (at : ℕ) (o : Op) (p : ℕ) → OpcodeAt m at o p
-    → instruction_at m at ≡ operands_from m (opcode_number o) (kinds_of o) p
-unfolding instruction_at
-instruction_from m at o p here = rw here (rw (op_of-number_of o) refl)
+-- a load that can be read, and what is left behind it
+pub record LoadFirst (m : MemoryMap) (ks : List Kind) (n : ℕ) (ns : List ℕ) (at : ℕ) : Type 0 where
+  pub load : l.Load × ℕ
+  pub rest : Rest
+  pub is : load_by m n at ≡ Ok load
+  pub behind : left m ks ns load.1 ≡ Ok rest
+
+pub load_first : (m : MemoryMap) (ks : List Kind) (n : ℕ) (ns : List ℕ) (at : ℕ) (r : Rest)
+    → left m (L ∷ ks) (n ∷ ns) at ≡ Ok r → LoadFirst m ks n ns at
+unfolding left operands_at
+load_first m ks n ns at r whole =
+    let s = split m L ks n ns at r whole in
+    let a = bound (load_at m s.mode at) _ r s.is in
+    let b = bound (operands_at m ks s.modes a.0.1) _ r a.2 in
+    record { load = a.0; rest = b.0; is = rw s.first a.1; behind = rw s.others b.1 }
+
+-- a store that can be read is there
+pub store_first : (m : MemoryMap) (ks : List Kind) (n : ℕ) (ns : List ℕ) (at : ℕ) (r : Rest)
+    → left m (S ∷ ks) (n ∷ ns) at ≡ Ok r → (x : d.Dest × ℕ) × (dest_by m n at ≡ Ok x)
+unfolding left operands_at
+store_first m ks n ns at r whole =
+    let s = split m S ks n ns at r whole in
+    let a = bound (dest_at m s.mode at) _ r s.is in (a.0, rw s.first a.1)

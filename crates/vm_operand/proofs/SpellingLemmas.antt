@@ -66,10 +66,10 @@ small (op.System o) = refl
 small (op.Search Linearsearch) = refl
 small (op.Search o) = refl
 
-record IsSmall (o : Op) : Type 0 where
-  number : opcode_number o < 0x200
-  loads : loads_in (kinds_of o) ≤ 8
-  stores : stores_in (kinds_of o) ≤ 2
+pub record IsSmall (o : Op) : Type 0 where
+  pub number : opcode_number o < 0x200
+  pub loads : loads_in (kinds_of o) ≤ 8
+  pub stores : stores_in (kinds_of o) ≤ 2
 
 three : (a b c : Bool) → (a && b && c) ≡ true → (a ≡ true) × (b ≡ true) × (c ≡ true)
 three true true true h = (refl, refl, refl)
@@ -77,7 +77,7 @@ three true true false h = cc
 three true false c h = cc
 three false b c h = cc
 
-is_small : (o : Op) → IsSmall o
+pub is_small : (o : Op) → IsSmall o
 is_small o =
     let t = three (nat_lt (opcode_number o) 0x200) (nat_le (loads_in (kinds_of o)) 8)
     (nat_le (stores_in (kinds_of o)) 2) (small o) in
