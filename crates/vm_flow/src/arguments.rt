@@ -86,41 +86,8 @@ fn set_locals(stack: &mut Stack, format: &[u8], args: &[u32]) -> Result<(), Flow
     Ok(())
 }
 
-// Puts values into locals of one type, which nearly always have four bytes.
-#[inline(always)]
+// Puts values into locals of one type.
 fn set_pair(stack: &mut Stack, begin: u32, size: u8, values: &[u32]) -> Result<(), FlowStop>
-    requires width { IsWidth size }
-    requires begin { begin ≤ MAX_STACK }
-    requires few { length values.now < 256 }
-    ensures ok { LeavesOrStops (calls.pair_set stack.old begin size values.now) stack.new result }
-    ensures kept { Chain stack.old → OnOk result (Chain stack.new) }
-    ensures there { HasFrame stack.old → OnOk result (HasFrame stack.new) }
-    ensures room { result ≢ Err stop.NoMemory }
-{
-    if size == 4 {
-        return set_values(stack, begin, 4, values);
-    }
-    set_narrow(stack, begin, size, values)
-}
-
-// The same of locals of one byte or two.
-#[cold]
-#[inline(never)]
-fn set_narrow(stack: &mut Stack, begin: u32, size: u8, values: &[u32]) -> Result<(), FlowStop>
-    requires width { IsWidth size }
-    requires begin { begin ≤ MAX_STACK }
-    requires few { length values.now < 256 }
-    ensures ok { LeavesOrStops (calls.pair_set stack.old begin size values.now) stack.new result }
-    ensures kept { Chain stack.old → OnOk result (Chain stack.new) }
-    ensures there { HasFrame stack.old → OnOk result (HasFrame stack.new) }
-    ensures room { result ≢ Err stop.NoMemory }
-{
-    set_values(stack, begin, size, values)
-}
-
-// Puts values one after the other, each in so many bytes.
-#[inline(always)]
-fn set_values(stack: &mut Stack, begin: u32, size: u8, values: &[u32]) -> Result<(), FlowStop>
     requires width { IsWidth size }
     requires begin { begin ≤ MAX_STACK }
     requires few { length values.now < 256 }

@@ -1,7 +1,7 @@
 use Rattle.std.proofs.Common.{◌≡◌, ◌≤◌, ◌+◌, ◌*◌, drop}
 use Rattle.vm_stack.specs.Chain.{Chain, HasFrame}
 use Rattle.vm_flow.specs.Call.{pair_set}
-use Rattle.vm_flow.proofs.arguments.set_values.Given as goal
+use Rattle.vm_flow.proofs.arguments.set_pair.Given as goal
 
 abbrev pub invariant-loop-value : goal.invariant-loop-value
 invariant-loop-value l = record {
