@@ -1,19 +1,21 @@
-use Rattle.vm_exec.proofs.FetchLemmas.{fetches_err, one_fetched, one_stops_0}
+use Rattle.std.proofs.Common.{[], ◌∷◌}
+use Rattle.vm_operand.specs.declared.operand.Kind.TheVariants.{Load as L}
+use Rattle.vm_exec.proofs.FetchLemmas.{Begins, begun, ended, stopped, taken}
 use Rattle.vm_exec.proofs.machine.Machine.one.Goals as goal
+use Rattle.vm_exec.proofs.machine.Machine.one.Goals.{After-code1-modes}
+
+begin : (c : After-code1-modes)
+    → Begins c.args.self.now c.args.op c.args.place (L ∷ []) (c.code1-modes.result ∷ [])
+begin c =
+    begun (c.code1-modes.result ∷ []) c.requires.here c.requires.kinds c.requires.words tt
+    c.code1-modes.ensures.value
 
 pub returns-in_err-first-clause-fetched : goal.returns-in_err-first-clause-fetched
 returns-in_err-first-clause-fetched c =
-    fetches_err c.args.self.now c.take.new.self c.args.op c.in_err-first.field-0.0
-    c.from_residual.result
-    (one_stops_0 c.args.self.now c.take.new.self c.args.op c.args.place c.code1-modes.result
-    c.in_err-first.field-0.0
-    c.requires.here.opcode c.requires.kinds c.requires.words c.code1-modes.ensures.value
-    c.in_err-first.ensures.does)
-    c.from_residual.ensures.1
+    let b = begin (goal.at.returns-in_err-first-clause-fetched c).After-code1-modes in
+    stopped _ _ _ b c.in_err-first.ensures.does c.from_residual.ensures.1
 
 pub returns-clause-fetched : goal.returns-clause-fetched
 returns-clause-fetched c =
-    one_fetched c.args.self.now c.take.new.self c.args.op c.args.place c.code1-modes.result
-    c.in_ok-first.first
-    c.requires.here.opcode c.requires.kinds c.requires.words c.code1-modes.ensures.value
-    c.in_ok-first.ensures.does
+    let b = begin (goal.at.returns-clause-fetched c).After-code1-modes in
+    ended (taken b c.in_ok-first.ensures.does)

@@ -1,31 +1,27 @@
-use Rattle.vm_exec.proofs.FetchLemmas.{fetches_err, one_and_store_fetched, one_and_store_stops_0}
-use Rattle.vm_exec.proofs.FetchLemmas.{one_and_store_stops_1}
+use Rattle.std.proofs.Common.{[], ◌∷◌}
+use Rattle.vm_operand.specs.declared.operand.Kind.TheVariants.{Load as L, Store as S}
+use Rattle.vm_exec.proofs.FetchLemmas.{Begins, begun, ended_by, stopped, stopped_by, taken}
 use Rattle.vm_exec.proofs.machine.Machine.one_and_store.Goals as goal
+use Rattle.vm_exec.proofs.machine.Machine.one_and_store.Goals.{After-code1-modes}
+
+begin : (c : After-code1-modes)
+    → Begins c.args.self.now c.args.op c.args.place (L ∷ S ∷ []) (c.code1-modes.result ∷ [])
+begin c =
+    begun (c.code1-modes.result ∷ []) c.requires.here c.requires.kinds c.requires.words tt
+    (c.code1-modes.ensures.value, tt)
 
 pub returns-in_err-first-clause-fetched : goal.returns-in_err-first-clause-fetched
 returns-in_err-first-clause-fetched c =
-    fetches_err c.args.self.now c.take.new.self c.args.op c.in_err-first.field-0.0
-    c.from_residual.result
-    (one_and_store_stops_0 c.args.self.now c.take.new.self c.args.op c.args.place
-    c.code1-modes.result c.in_err-first.field-0.0
-    c.requires.here.opcode c.requires.kinds c.requires.words c.code1-modes.ensures.value
-    c.in_err-first.ensures.does)
-    c.from_residual.ensures.1
+    let b = begin (goal.at.returns-in_err-first-clause-fetched c).After-code1-modes in
+    stopped _ _ _ b c.in_err-first.ensures.does c.from_residual.ensures.1
 
 pub returns-in_err-to-clause-fetched : goal.returns-in_err-to-clause-fetched
 returns-in_err-to-clause-fetched c =
-    fetches_err c.args.self.now c.take.new.self c.args.op c.in_err-to.field-0.0
-    c.from_residual-in_err-to.result
-    (one_and_store_stops_1 c.args.self.now c.take.new.self c.args.op c.args.place
-    c.code1-modes.result c.in_ok-first.first c.in_err-to.field-0.0
-    c.requires.here.opcode c.requires.kinds c.requires.words c.code1-modes.ensures.value
-    c.in_ok-first.ensures.memory c.in_ok-first.ensures.pc c.in_ok-first.ensures.does
-    c.in_err-to.ensures.does)
+    let b = begin (goal.at.returns-in_err-to-clause-fetched c).After-code1-modes in
+    stopped_by _ _ (taken b c.in_ok-first.ensures.does) c.in_err-to.ensures.does
     c.from_residual-in_err-to.ensures.1
 
 pub returns-clause-fetched : goal.returns-clause-fetched
 returns-clause-fetched c =
-    one_and_store_fetched c.args.self.now c.take.new.self c.args.op c.args.place
-    c.code1-modes.result c.in_ok-first.first (c.in_ok-to.to, c.in_ok-to.next)
-    c.requires.here.opcode c.requires.kinds c.requires.words c.code1-modes.ensures.value
-    c.in_ok-first.ensures.memory c.in_ok-first.ensures.does c.in_ok-to.ensures.does
+    let b = begin (goal.at.returns-clause-fetched c).After-code1-modes in
+    ended_by _ (taken b c.in_ok-first.ensures.does) c.in_ok-to.ensures.does

@@ -1,53 +1,35 @@
-use Rattle.std.proofs.Common.{◌∙◌}
-use Rattle.vm_exec.proofs.FetchLemmas.{fetches_err, three_fetched, three_stops_0, three_stops_1}
-use Rattle.vm_exec.proofs.FetchLemmas.{three_stops_2}
+use Rattle.std.proofs.Common.{[], ◌∷◌}
+use Rattle.vm_operand.specs.declared.operand.Kind.TheVariants.{Load as L}
+use Rattle.vm_exec.proofs.FetchLemmas.{Begins, begun, ended, stopped, taken}
 use Rattle.vm_exec.proofs.machine.Machine.three.Goals as goal
+use Rattle.vm_exec.proofs.machine.Machine.three.Goals.{After-code1-more}
+
+begin : (c : After-code1-more)
+    → Begins c.args.self.now c.args.op c.args.place (L ∷ L ∷ L ∷ [])
+    (c.code1-modes.result ∷ c.code1-more.result ∷ [])
+begin c =
+    begun (c.code1-modes.result ∷ c.code1-more.result ∷ []) c.requires.here c.requires.kinds
+    c.requires.words tt (c.code1-modes.ensures.value, c.code1-more.ensures.value)
 
 pub returns-in_err-first-clause-fetched : goal.returns-in_err-first-clause-fetched
 returns-in_err-first-clause-fetched c =
-    fetches_err c.args.self.now c.take.new.self c.args.op c.in_err-first.field-0.0
-    c.from_residual.result
-    (three_stops_0 c.args.self.now c.take.new.self c.args.op c.args.place c.code1-modes.result
-    c.code1-more.result c.in_err-first.field-0.0
-    c.requires.here.opcode c.requires.kinds c.requires.words c.code1-modes.ensures.value
-    c.code1-more.ensures.value
-    c.in_err-first.ensures.does)
-    c.from_residual.ensures.1
+    let b = begin (goal.at.returns-in_err-first-clause-fetched c).After-code1-more in
+    stopped _ _ _ b c.in_err-first.ensures.does c.from_residual.ensures.1
 
 pub returns-in_err-second-clause-fetched : goal.returns-in_err-second-clause-fetched
 returns-in_err-second-clause-fetched c =
-    fetches_err c.args.self.now c.take-2.new.self c.args.op c.in_err-second.field-0.0
-    c.from_residual-in_err-second.result
-    (three_stops_1 c.args.self.now c.take.new.self c.take-2.new.self c.args.op c.args.place
-    c.code1-modes.result c.code1-more.result c.in_ok-first.first c.in_err-second.field-0.0
-    c.requires.here.opcode c.requires.kinds c.requires.words c.code1-modes.ensures.value
-    c.code1-more.ensures.value
-    c.in_ok-first.ensures.memory c.in_ok-first.ensures.pc c.in_ok-first.ensures.does
-    c.in_err-second.ensures.does)
+    let b = begin (goal.at.returns-in_err-second-clause-fetched c).After-code1-more in
+    stopped _ _ _ (taken b c.in_ok-first.ensures.does) c.in_err-second.ensures.does
     c.from_residual-in_err-second.ensures.1
 
 pub returns-in_err-third-clause-fetched : goal.returns-in_err-third-clause-fetched
 returns-in_err-third-clause-fetched c =
-    fetches_err c.args.self.now c.take-3.new.self c.args.op c.in_err-third.field-0.0
-    c.from_residual-in_err-third.result
-    (three_stops_2 c.args.self.now c.take.new.self c.take-2.new.self c.take-3.new.self c.args.op
-    c.args.place c.code1-modes.result c.code1-more.result c.in_ok-first.first c.in_ok-second.second
-    c.in_err-third.field-0.0
-    c.requires.here.opcode c.requires.kinds c.requires.words c.code1-modes.ensures.value
-    c.code1-more.ensures.value
-    c.in_ok-first.ensures.memory (c.in_ok-second.ensures.memory
-    ∙ c.in_ok-first.ensures.memory) (c.in_ok-second.ensures.pc
-    ∙ c.in_ok-first.ensures.pc) c.in_ok-first.ensures.does c.in_ok-second.ensures.does
-    c.in_err-third.ensures.does)
-    c.from_residual-in_err-third.ensures.1
+    let b = begin (goal.at.returns-in_err-third-clause-fetched c).After-code1-more in
+    stopped _ _ _ (taken (taken b c.in_ok-first.ensures.does) c.in_ok-second.ensures.does)
+    c.in_err-third.ensures.does c.from_residual-in_err-third.ensures.1
 
 pub returns-clause-fetched : goal.returns-clause-fetched
 returns-clause-fetched c =
-    three_fetched c.args.self.now c.take.new.self c.take-2.new.self c.take-3.new.self c.args.op
-    c.args.place c.code1-modes.result c.code1-more.result c.in_ok-first.first c.in_ok-second.second
-    c.in_ok-third.third
-    c.requires.here.opcode c.requires.kinds c.requires.words c.code1-modes.ensures.value
-    c.code1-more.ensures.value
-    c.in_ok-first.ensures.memory (c.in_ok-second.ensures.memory
-    ∙ c.in_ok-first.ensures.memory) c.in_ok-first.ensures.does c.in_ok-second.ensures.does
-    c.in_ok-third.ensures.does
+    let b = begin (goal.at.returns-clause-fetched c).After-code1-more in
+    ended (taken (taken (taken b c.in_ok-first.ensures.does) c.in_ok-second.ensures.does)
+    c.in_ok-third.ensures.does)
