@@ -1,4 +1,5 @@
--- Instructions below RAMSTART: what is fetched as each load is decoded is what the definition fetches.
+-- Instructions below RAMSTART: what is fetched as each load is decoded is what the definition
+-- fetches.
 use Rattle.std.proofs.Common.{IsErrAnd, ◌≡◌, ◌≢◌, refl, sym, ◌∙◌, ap, ℕ, ◌+◌, ◌/◌, List, [], ◌∷◌}
 use Rattle.std.proofs.Common.{Result, Ok, Err, Some, replicate, subst, slice_set, length}
 use Rattle.std.proofs.Math.Seq.{take-append_seam}
@@ -105,7 +106,8 @@ taken {m} {n} {next} {o} {ks} {number} {at} {i} {value} {after} {ns} {args} b (x
     }
 
 -- a fetch that is refused
-refused : {m n : Machine} {o : Op} {ks : List Kind} {at i : ℕ} {ns args : List ℕ} {P : Type 0} (k : ℕ)
+refused : {m n : Machine} {o : Op} {ks : List Kind} {at i : ℕ} {ns args : List ℕ}
+    {P : Type 0} (k : ℕ)
     → Begun m n o ks ns at i args → IsRefused n k P
     → (Readable m.memory ks ns at → P → fetched m ≡ Err k) → fetched m ≡ Err k
 refused {m} {n} k b why reads =
