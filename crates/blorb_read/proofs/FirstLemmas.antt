@@ -1,5 +1,6 @@
 -- The first entry of a story, entry by entry.
-use Rattle.std.proofs.Common.{◌≡◌, ◌∙◌, ◌<◌, ◌+◌, ◌*◌, ◌-◌, ℕ, zero, suc, Bool, true, false, cond, List, Option, Some, None, refl, sym, ap, subst, arith}
+use Rattle.std.proofs.Common.{◌≡◌, ◌∙◌, ◌<◌, ◌+◌, ◌*◌, ◌-◌, ℕ, zero, suc, Bool, true, false}
+use Rattle.std.proofs.Common.{cond, List, Option, Some, None, refl, sym, ap, subst, arith}
 use Rattle.std.specs.Prelude.{MatchOption}
 use Rattle.blorb_read.specs.Container.{word, is_executable, story_start}
 use Rattle.blorb_read.specs.Laws.{IsFirstStory, HasNone, FindsFirst, entry_at}
@@ -22,9 +23,13 @@ each from bytes n (suc j) e f l =
     ap (is_executable bytes) (sym same) ∙ f j h
 
 Finds : ℕ → ℕ → List ℕ → Option ℕ → Type 0
-Finds count from bytes o = MatchOption o (HasNone count from bytes) (λ start. (i : ℕ) × IsFirstStory count from bytes start i)
+Finds count from bytes o =
+    MatchOption o (HasNone count from bytes)
+    (λ start. (i : ℕ) × IsFirstStory count from bytes start i)
 
-later : (n from : ℕ) (bytes : List ℕ) (o : Option ℕ) → is_executable bytes from ≡ false → Finds n (from + 12) bytes o
+later : (n from : ℕ) (bytes : List ℕ) (o : Option ℕ)
+    → is_executable bytes from ≡ false
+    → Finds n (from + 12) bytes o
     → Finds (suc n) from bytes o
 unfolding Finds
 later n from bytes None e f = λ j l. each from bytes n j e f (omega (arith, l))
@@ -43,7 +48,8 @@ later n from bytes (Some start) e f =
 
 step : (b : Bool) (n from : ℕ) (bytes : List ℕ) → is_executable bytes from ≡ b
     → Finds n (from + 12) bytes (story_start n (from + 12) bytes)
-    → Finds (suc n) from bytes (cond b (Some (word bytes (from + 8))) (story_start n (from + 12) bytes))
+    → Finds (suc n) from bytes
+    (cond b (Some (word bytes (from + 8))) (story_start n (from + 12) bytes))
 unfolding Finds
 step true n from bytes e f = (
   0,

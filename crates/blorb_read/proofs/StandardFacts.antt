@@ -20,7 +20,8 @@ container number chunk =
     ∷ 0x45 ∷ 0x78 ∷ 0x65 ∷ 0x63 ∷ 0x00 ∷ 0x00 ∷ 0x00 ∷ number ∷ 0x00 ∷ 0x00 ∷ 0x00 ∷ 0x24 ∷ [])
     ++ chunk ++ 0x00 ∷ 0x00 ∷ 0x01 ∷ 0x00 ∷ []
 
-pub story_is_found : story_span (container 0 (codes "GLUL") ++ replicate 256 0) ≡ Ok (record { start = 44; length = 256 })
+pub story_is_found : story_span (container 0 (codes "GLUL") ++ replicate 256 0)
+    ≡ Ok (record { start = 44; length = 256 })
 unfolding container
 story_is_found = refl
 

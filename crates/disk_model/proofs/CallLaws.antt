@@ -68,7 +68,8 @@ module _ (start : List ℕ) (calls : List Call) where
       left.0,
       left.1,
       omega (arith, left.2, longer),
-      subst (λ (l : List Call). IsDiskImage (state_after start l) c) (sym (same left.0 left.2)) left.3,
+      subst (λ (l : List Call). IsDiskImage (state_after start l) c)
+          (sym (same left.0 left.2)) left.3,
     );
   }
     where

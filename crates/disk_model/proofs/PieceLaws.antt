@@ -1,6 +1,6 @@
 -- A piece put in its place, byte by byte or at the end (own).
-use Rattle.std.proofs.Common.{List, ap, arith, inl, inr, drop, length, length-append, replicate, sym}
-use Rattle.std.proofs.Common.{take, ℕ, ◌++◌, ◌+◌, ◌-◌, ◌<◌, ◌∙◌, ◌≡◌, ◌≤◌}
+use Rattle.std.proofs.Common.{List, ap, arith, inl, inr, drop, length, length-append}
+use Rattle.std.proofs.Common.{replicate, sym, take, ℕ, ◌++◌, ◌+◌, ◌-◌, ◌<◌, ◌∙◌, ◌≡◌, ◌≤◌}
 use Rattle.std.proofs.lemmas.List.{append-nil, drop_all, take_all, length-replicate}
 use Rattle.std.proofs.lemmas.Bool.{cases_lt}
 use Rattle.disk_model.specs.Disk.{file_written}

@@ -150,7 +150,8 @@ well_settled s le = record { stays = settled_image s; within = le; ends = le }
 abbrev pub if_fits : Bool → Bool → ℕ → List ℕ → DiskState → DiskState
 if_fits fits good at piece p =
     if fits
-    then with_range p (if good then file_written p.seen at piece else p.seen) (at, at + length piece)
+    then with_range p (if good then file_written p.seen at piece else p.seen)
+    (at, at + length piece)
     else p
 
 pub well_write :

@@ -7,7 +7,8 @@ use Rattle.disk_model.specs.Work.{Triple}
 use Rattle.disk_model.proofs.Moments.{started, goes_on, holds_now, weaker, and_then}
 
 -- what follows from an Ok
-pub on_ok : {T E : Type 0} {P Q : Type 0} (result : Result T E) → (P → Q) → OnOk result P → OnOk result Q
+pub on_ok : {T E : Type 0} {P Q : Type 0} (result : Result T E)
+    → (P → Q) → OnOk result P → OnOk result Q
 on_ok (Ok x) so is = so is
 on_ok (Err e) so is = tt
 
@@ -29,14 +30,15 @@ module _
       → ((c d : List ℕ) → before d → Torn at (length piece) d c → during c)
       → ((d : List ℕ) → before d → after (file_written d at piece))
       → Triple tells may_leave moment left_since result old new before during after
-  through {result = result} {old = old} {new = new} {during = during} {after = after} at piece seen reads ok crash torn wrote = record {
-    meanwhile = λ told each.
-        weaker moment left_since old new _ during (crash told)
-        (λ c now. torn c now.0 (each now.0 now.1) now.2);
-    ended = λ told each.
-        on_ok result
-        (λ only c now. subst after (sym (only told c now)) (wrote seen (each seen reads))) ok;
-  }
+  through {result = result} {old = old} {new = new} {during = during}
+      {after = after} at piece seen reads ok crash torn wrote = record {
+        meanwhile = λ told each.
+            weaker moment left_since old new _ during (crash told)
+            (λ c now. torn c now.0 (each now.0 now.1) now.2);
+        ended = λ told each.
+            on_ok result
+            (λ only c now. subst after (sym (only told c now)) (wrote seen (each seen reads))) ok;
+      }
 
   -- one piece of work after another that ended Ok
   pub then_ :
@@ -58,12 +60,14 @@ module _
 
   -- with a weaker fact while it goes on
   pub looser :
-      {T E : Type 0} {result : Result T E} {old new : D} {before during later after : List ℕ → Type 0}
+      {T E : Type 0} {result : Result T E} {old new : D}
+      {before during later after : List ℕ → Type 0}
       → ((c : List ℕ) → during c → later c)
       → Triple tells may_leave moment left_since result old new before during after
       → Triple tells may_leave moment left_since result old new before later after
   looser {old = old} {new = new} {during = during} {later = later} so triple = record {
-    meanwhile = λ told each. weaker moment left_since old new during later (triple.meanwhile told each) so;
+    meanwhile =
+        λ told each. weaker moment left_since old new during later (triple.meanwhile told each) so;
     ended = triple.ended;
   }
 
@@ -95,17 +99,19 @@ module _
       → (IsTrue (tells old) → ((c : List ℕ) → may_leave old c → before c)
       → (c : List ℕ) → may_leave new c → after c)
       → Triple tells may_leave moment left_since result old new before during after
-  called {result = result} {old = old} {new = new} {during = during} only time first last now = record {
-    meanwhile = λ told each.
-        goes_on moment left_since old old new during (may_leave new)
-        (started moment left_since old during (λ c left. first c (each c (only c left)))) time
-        (λ c left. last c (now told each c left));
-    ended = λ told each. at_ok result (now told each);
-  }
+  called {result = result} {old = old} {new = new} {during = during} only time first last now =
+      record {
+        meanwhile = λ told each.
+            goes_on moment left_since old old new during (may_leave new)
+            (started moment left_since old during (λ c left. first c (each c (only c left)))) time
+            (λ c left. last c (now told each c left));
+        ended = λ told each. at_ok result (now told each);
+      }
 
   -- an Ok, whatever it holds
   pub done :
-      {S F T E : Type 0} {first : S} {last : T} {old new : D} {before during after : List ℕ → Type 0}
+      {S F T E : Type 0} {first : S} {last : T} {old new : D}
+      {before during after : List ℕ → Type 0}
       → Triple {E = F} tells may_leave moment left_since (Ok first) old new before during after
       → Triple {E = E} tells may_leave moment left_since (Ok last) old new before during after
   done triple = record { meanwhile = triple.meanwhile; ended = triple.ended }

@@ -1,5 +1,6 @@
 -- Rows and marks as one list.
-use Rattle.std.proofs.Common.{◌≡◌, ℕ, zero, suc, List, [], ◌∷◌, ◌++◌, length, replicate, refl, ap, arith}
+use Rattle.std.proofs.Common.{◌≡◌, ℕ, zero, suc, List, [], ◌∷◌, ◌++◌}
+use Rattle.std.proofs.Common.{length, replicate, refl, ap, arith}
 use Rattle.gate_journal.specs.declared.row.Row.{Row}
 use Rattle.gate_journal.specs.declared.mark.Mark.{Mark}
 use Rattle.gate_journal.specs.declared.mark.Mark.TheVariants as marks
@@ -8,7 +9,8 @@ use Rattle.gate_journal.specs.declared.entry.Entry.TheVariants.{Kept, Faulted}
 use Rattle.gate_journal.specs.History.{rows_woven, count_rows}
 use Rattle.gate_journal.specs.Log.{rows_of, rows_kept}
 
-pub count-fault : (l : List Mark) (by from to : ℕ) → count_rows (l ++ marks.Fault by from to ∷ []) ≡ count_rows l
+pub count-fault : (l : List Mark) (by from to : ℕ)
+    → count_rows (l ++ marks.Fault by from to ∷ []) ≡ count_rows l
 count-fault [] by from to = refl
 count-fault (marks.Row ∷ l) by from to = ap suc (count-fault l by from to)
 count-fault (marks.Fault b f t ∷ l) by from to = count-fault l by from to
@@ -18,27 +20,41 @@ count-row [] = refl
 count-row (marks.Row ∷ l) = ap suc (count-row l)
 count-row (marks.Fault b f t ∷ l) = count-row l
 
-pub woven-fault : (l : List Mark) (rows : List Row) (by from to : ℕ) → count_rows l ≡ length rows → rows_woven (l ++ marks.Fault by from to ∷ []) rows ≡ rows_woven l rows ++ Faulted by from to ∷ []
+pub woven-fault : (l : List Mark) (rows : List Row) (by from to : ℕ)
+    → count_rows l ≡ length rows
+    → rows_woven (l ++ marks.Fault by from to ∷ []) rows
+    ≡ rows_woven l rows ++ Faulted by from to ∷ []
 woven-fault [] rows by from to is = refl
 woven-fault (marks.Row ∷ l) [] by from to is = absurd (omega (arith, is))
-woven-fault (marks.Row ∷ l) (r ∷ rows) by from to is = ap (λ (m : List Entry). Kept r ∷ m) (woven-fault l rows by from to (omega (arith, is)))
-woven-fault (marks.Fault b f t ∷ l) rows by from to is = ap (λ (m : List Entry). Faulted b f t ∷ m) (woven-fault l rows by from to is)
+woven-fault (marks.Row ∷ l) (r ∷ rows) by from to is =
+    ap (λ (m : List Entry). Kept r ∷ m) (woven-fault l rows by from to (omega (arith, is)))
+woven-fault (marks.Fault b f t ∷ l) rows by from to is =
+    ap (λ (m : List Entry). Faulted b f t ∷ m) (woven-fault l rows by from to is)
 
-pub woven-row : (l : List Mark) (rows : List Row) (r : Row) → count_rows l ≡ length rows → rows_woven (l ++ marks.Row ∷ []) (rows ++ r ∷ []) ≡ rows_woven l rows ++ Kept r ∷ []
+pub woven-row : (l : List Mark) (rows : List Row) (r : Row)
+    → count_rows l ≡ length rows
+    → rows_woven (l ++ marks.Row ∷ []) (rows ++ r ∷ []) ≡ rows_woven l rows ++ Kept r ∷ []
 woven-row [] [] r is = refl
 woven-row [] (x ∷ rows) r is = absurd (omega (arith, is))
 woven-row (marks.Row ∷ l) [] r is = absurd (omega (arith, is))
-woven-row (marks.Row ∷ l) (x ∷ rows) r is = ap (λ (m : List Entry). Kept x ∷ m) (woven-row l rows r (omega (arith, is)))
-woven-row (marks.Fault b f t ∷ l) rows r is = ap (λ (m : List Entry). Faulted b f t ∷ m) (woven-row l rows r is)
+woven-row (marks.Row ∷ l) (x ∷ rows) r is =
+    ap (λ (m : List Entry). Kept x ∷ m) (woven-row l rows r (omega (arith, is)))
+woven-row (marks.Fault b f t ∷ l) rows r is =
+    ap (λ (m : List Entry). Faulted b f t ∷ m) (woven-row l rows r is)
 
-pub rows_of-woven : (l : List Mark) (rows : List Row) → count_rows l ≡ length rows → rows_of (rows_woven l rows) ≡ rows
+pub rows_of-woven : (l : List Mark) (rows : List Row)
+    → count_rows l ≡ length rows
+    → rows_of (rows_woven l rows) ≡ rows
 rows_of-woven [] [] is = refl
 rows_of-woven [] (x ∷ rows) is = absurd (omega (arith, is))
 rows_of-woven (marks.Row ∷ l) [] is = absurd (omega (arith, is))
-rows_of-woven (marks.Row ∷ l) (x ∷ rows) is = ap (λ (m : List Row). x ∷ m) (rows_of-woven l rows (omega (arith, is)))
+rows_of-woven (marks.Row ∷ l) (x ∷ rows) is =
+    ap (λ (m : List Row). x ∷ m) (rows_of-woven l rows (omega (arith, is)))
 rows_of-woven (marks.Fault b f t ∷ l) rows is = rows_of-woven l rows is
 
-pub length-woven : (l : List Mark) (rows : List Row) → count_rows l ≡ length rows → length (rows_woven l rows) ≡ length l
+pub length-woven : (l : List Mark) (rows : List Row)
+    → count_rows l ≡ length rows
+    → length (rows_woven l rows) ≡ length l
 length-woven [] rows is = refl
 length-woven (marks.Row ∷ l) [] is = absurd (omega (arith, is))
 length-woven (marks.Row ∷ l) (x ∷ rows) is = ap suc (length-woven l rows (omega (arith, is)))
@@ -48,6 +64,7 @@ pub count-all : (n : ℕ) → count_rows (replicate n marks.Row) ≡ n
 count-all zero = refl
 count-all (suc n) = ap suc (count-all n)
 
-pub woven-all : (rows : List Row) → rows_woven (replicate (length rows) marks.Row) rows ≡ rows_kept rows
+pub woven-all : (rows : List Row)
+    → rows_woven (replicate (length rows) marks.Row) rows ≡ rows_kept rows
 woven-all [] = refl
 woven-all (r ∷ rows) = ap (λ (m : List Entry). Kept r ∷ m) (woven-all rows)

@@ -1,5 +1,6 @@
 -- How long a row may be.
-use Rattle.std.proofs.Common.{◌≡◌, ℕ, ◌*◌, ◌≤◌, List, [], ◌∷◌, ◌++◌, length, true, arith, length-append}
+use Rattle.std.proofs.Common.{◌≡◌, ℕ, ◌*◌, ◌≤◌, List, [], ◌∷◌, ◌++◌}
+use Rattle.std.proofs.Common.{length, true, arith, length-append}
 use Rattle.std.specs.Int.{w16, w32, w64, to_be_bytes}
 use Rattle.std.specs.Str.{encode_utf8_all}
 use Rattle.std.proofs.Math.Utf8.{encode}
@@ -15,7 +16,14 @@ use Rattle.gate_journal.specs.Rows.{payload_of}
 
 pub text_long : (text : List ℕ) → length (encode_utf8_all text) ≤ 4 * length text
 text_long [] = omega arith
-text_long (c ∷ text) = omega (arith, text_long text, length-append (encode c) (encode_utf8_all text), length-encode c, (len_utf8_bounds c).1)
+text_long (c ∷ text) =
+    omega (
+      arith,
+      text_long text,
+      length-append (encode c) (encode_utf8_all text),
+      length-encode c,
+      (len_utf8_bounds c).1,
+    )
 
 pub text_most : (text : List ℕ) → IsText text → length (encode_utf8_all text) ≤ 4096
 text_most text is = omega (arith, text_long text, short)
@@ -30,9 +38,33 @@ pub payload_most : (c : Command) → IsCommand c → length (payload_of c) ≤ 4
 payload_most (Open key story digest seed cols rows budget) is =
     let d = cols ∷ rows ∷ to_be_bytes w64 budget in
     let b = to_be_bytes w64 seed ++ d in
-    omega (arith, length-append key (to_be_bytes w16 story ++ (digest ++ b)), length-append (to_be_bytes w16 story) (digest ++ b), length-append digest b, length-append (to_be_bytes w64 seed) d, length-bytes_high_first 2 story, length-bytes_high_first 8 seed, length-bytes_high_first 8 budget, is.2, key_most key is.0)
+    omega (
+      arith,
+      length-append key (to_be_bytes w16 story ++ (digest ++ b)),
+      length-append (to_be_bytes w16 story) (digest ++ b),
+      length-append digest b,
+      length-append (to_be_bytes w64 seed) d,
+      length-bytes_high_first 2 story,
+      length-bytes_high_first 8 seed,
+      length-bytes_high_first 8 budget,
+      is.2,
+      key_most key is.0,
+    )
 payload_most (Line win term text) is =
-    omega (arith, length-append (to_be_bytes w32 win) (to_be_bytes w32 term ++ encode_utf8_all text), length-append (to_be_bytes w32 term) (encode_utf8_all text), length-bytes_high_first 4 win, length-bytes_high_first 4 term, text_most text is.2)
-payload_most (Char win code) is = omega (arith, length-append (to_be_bytes w32 win) (to_be_bytes w32 code), length-bytes_high_first 4 win, length-bytes_high_first 4 code)
+    omega (
+      arith,
+      length-append (to_be_bytes w32 win) (to_be_bytes w32 term ++ encode_utf8_all text),
+      length-append (to_be_bytes w32 term) (encode_utf8_all text),
+      length-bytes_high_first 4 win,
+      length-bytes_high_first 4 term,
+      text_most text is.2,
+    )
+payload_most (Char win code) is =
+    omega (
+      arith,
+      length-append (to_be_bytes w32 win) (to_be_bytes w32 code),
+      length-bytes_high_first 4 win,
+      length-bytes_high_first 4 code,
+    )
 payload_most (File name) is = omega (arith, text_most name is)
 payload_most Close is = omega arith

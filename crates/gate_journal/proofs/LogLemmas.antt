@@ -1,5 +1,6 @@
 -- One entry more, and what the images of a journal spell.
-use Rattle.std.proofs.Common.{◌≡◌, ◌⊎◌, inl, inr, ℕ, ◌+◌, ◌≤◌, List, [], ◌∷◌, ◌++◌, length, get_or, refl, sym, ◌∙◌, ap, arith, length-append}
+use Rattle.std.proofs.Common.{◌≡◌, ◌⊎◌, inl, inr, ℕ, ◌+◌, ◌≤◌, List, [], ◌∷◌, ◌++◌}
+use Rattle.std.proofs.Common.{length, get_or, refl, sym, ◌∙◌, ap, arith, length-append}
 use Rattle.std.specs.Prelude.{Bool, false, Option, Some, None, IfSome, is_none, Result}
 use Rattle.disk_model.specs.Work.{Triple}
 use Rattle.std.proofs.lemmas.Bool.{cases_eq}
@@ -10,51 +11,88 @@ use Rattle.gate_journal.specs.declared.entry.Entry.{Entry}
 use Rattle.gate_journal.specs.declared.entry.Entry.TheVariants.{Kept, Faulted}
 use Rattle.gate_journal.specs.Gate.{IsShut, IsUnsure}
 use Rattle.gate_journal.specs.Rows.{row_body, journal_bytes, IsJournal, IsNext}
-use Rattle.gate_journal.specs.Log.{rows_of, rows_kept, Rises, StandsInImage, IsClosedWell, MaySpell, MayOpen}
-use Rattle.gate_journal.proofs.RowLemmas.{spells_shut, spells_not_open, opens, journal_push, spelled-push}
+use Rattle.gate_journal.specs.Log.{rows_of, rows_kept, Rises, StandsInImage}
+use Rattle.gate_journal.specs.Log.{IsClosedWell, MaySpell, MayOpen}
+use Rattle.gate_journal.proofs.RowLemmas.{spells_shut, spells_not_open}
+use Rattle.gate_journal.proofs.RowLemmas.{opens, journal_push, spelled-push}
 
-pub rows_of-kept : (entries : List Entry) (r : Row) → rows_of (entries ++ Kept r ∷ []) ≡ rows_of entries ++ r ∷ []
+pub rows_of-kept : (entries : List Entry) (r : Row)
+    → rows_of (entries ++ Kept r ∷ []) ≡ rows_of entries ++ r ∷ []
 rows_of-kept [] r = refl
 rows_of-kept (Kept x ∷ entries) r = ap (λ (l : List Row). x ∷ l) (rows_of-kept entries r)
 rows_of-kept (Faulted by from to ∷ entries) r = rows_of-kept entries r
 
-pub rows_of-faulted : (entries : List Entry) (by from to : ℕ) → rows_of (entries ++ Faulted by from to ∷ []) ≡ rows_of entries
+pub rows_of-faulted : (entries : List Entry) (by from to : ℕ)
+    → rows_of (entries ++ Faulted by from to ∷ []) ≡ rows_of entries
 rows_of-faulted [] by from to = refl
-rows_of-faulted (Kept x ∷ entries) by from to = ap (λ (l : List Row). x ∷ l) (rows_of-faulted entries by from to)
+rows_of-faulted (Kept x ∷ entries) by from to =
+    ap (λ (l : List Row). x ∷ l) (rows_of-faulted entries by from to)
 rows_of-faulted (Faulted b f t ∷ entries) by from to = rows_of-faulted entries by from to
 
-pub rises-kept : (entries : List Entry) (r : Row) (low high now : ℕ) → Rises low entries high → high ≤ now → Rises low (entries ++ Kept r ∷ []) now
+pub rises-kept : (entries : List Entry) (r : Row) (low high now : ℕ)
+    → Rises low entries high → high ≤ now
+    → Rises low (entries ++ Kept r ∷ []) now
 rises-kept [] r low high now rises le = omega arith
 rises-kept (Kept x ∷ entries) r low high now rises le = rises-kept entries r low high now rises le
-rises-kept (Faulted by from to ∷ entries) r low high now rises le = (rises.0, rises.1, rises.2, rises-kept entries r to high now rises.3 le)
+rises-kept (Faulted by from to ∷ entries) r low high now rises le =
+    (rises.0, rises.1, rises.2, rises-kept entries r to high now rises.3 le)
 
-pub rises-faulted : (entries : List Entry) (by from to low : ℕ) → Rises low entries from → from ≤ to → Rose from to → Rises low (entries ++ Faulted by from to ∷ []) to
+pub rises-faulted : (entries : List Entry) (by from to low : ℕ)
+    → Rises low entries from → from ≤ to → Rose from to
+    → Rises low (entries ++ Faulted by from to ∷ []) to
 rises-faulted [] by from to low rises le rose = (rises, le, rose, omega arith)
-rises-faulted (Kept x ∷ entries) by from to low rises le rose = rises-faulted entries by from to low rises le rose
-rises-faulted (Faulted b f t ∷ entries) by from to low rises le rose = (rises.0, rises.1, rises.2, rises-faulted entries by from to t rises.3 le rose)
+rises-faulted (Kept x ∷ entries) by from to low rises le rose =
+    rises-faulted entries by from to low rises le rose
+rises-faulted (Faulted b f t ∷ entries) by from to low rises le rose =
+    (rises.0, rises.1, rises.2, rises-faulted entries by from to t rises.3 le rose)
 
-pub closed_shut : (rows : List Row) (c : List ℕ) → IsJournal rows → IsShut (journal_bytes rows) c → IsClosedWell rows c
+pub closed_shut : (rows : List Row) (c : List ℕ)
+    → IsJournal rows → IsShut (journal_bytes rows) c
+    → IsClosedWell rows c
 closed_shut rows c all shut =
-    let gate : Holds c (length (journal_bytes rows)) (0 ∷ []) = holds_rest {p = 0} (journal_bytes rows) (0 ∷ []) (omega arith) shut in
-    record { spells = spells_shut rows c all shut; gate = inl (ap (λ (k : ℕ). get_or c k 0) (omega arith) ∙ gate.each 0 (omega arith)) }
+    let gate : Holds c (length (journal_bytes rows)) (0 ∷ []) =
+    holds_rest {p = 0} (journal_bytes rows) (0 ∷ []) (omega arith) shut in
+    record {
+      spells = spells_shut rows c all shut;
+      gate = inl (ap (λ (k : ℕ). get_or c k 0) (omega arith) ∙ gate.each 0 (omega arith));
+    }
 
 -- both, exactly where the gate is open
-pub closed_unsure : (rows : List Row) (r : Row) (c : List ℕ) → IsJournal rows → IsNext rows r → IsUnsure (journal_bytes rows) (row_body r ++ 0 ∷ []) c → IsClosedWell rows c ⊎ IsClosedWell (rows ++ r ∷ []) c
-closed_unsure rows r c all next unsure = elim (cases_eq (get_or c (length (journal_bytes rows)) 0) 1) [
-  | inl is_open ↦ inr (closed_shut (rows ++ r ∷ []) c (journal_push rows r all next) (opens rows r c unsure is_open))
-  | inr shut ↦ inl (record {
-    spells = spells_not_open rows (row_body r ++ 0 ∷ []) c all unsure shut (omega (arith, unsure.behind.within, length-append (row_body r) (0 ∷ [])));
-    gate = inr (r, next, unsure.behind);
-  })
-]
+pub closed_unsure : (rows : List Row) (r : Row) (c : List ℕ)
+    → IsJournal rows → IsNext rows r
+    → IsUnsure (journal_bytes rows) (row_body r ++ 0 ∷ []) c
+    → IsClosedWell rows c ⊎ IsClosedWell (rows ++ r ∷ []) c
+closed_unsure rows r c all next unsure =
+    elim (cases_eq (get_or c (length (journal_bytes rows)) 0) 1) [
+      | inl is_open ↦
+          inr (closed_shut (rows ++ r ∷ []) c (journal_push rows r all next)
+          (opens rows r c unsure is_open))
+      | inr shut ↦ inl (record {
+        spells =
+            spells_not_open rows (row_body r ++ 0 ∷ []) c all unsure shut
+            (omega (arith, unsure.behind.within, length-append (row_body r) (0 ∷ [])));
+        gate = inr (r, next, unsure.behind);
+      })
+    ]
 
-pub stands_well : (rows : List Row) (uncertain : Option Row) (c : List ℕ) → IsJournal rows → IfSome uncertain (IsNext rows) → StandsInImage rows uncertain c → MaySpell rows uncertain c
+pub stands_well : (rows : List Row) (uncertain : Option Row) (c : List ℕ)
+    → IsJournal rows → IfSome uncertain (IsNext rows)
+    → StandsInImage rows uncertain c → MaySpell rows uncertain c
 stands_well rows None c all next stands = closed_shut rows c all stands
 stands_well rows (Some r) c all next stands = closed_unsure rows r c all next stands
 
 -- the end behind one row more
-pub end_push : (rows : List Row) (r : Row) (end : ℕ) → end ≡ length (journal_bytes rows) → end + length (row_body r ++ 0 ∷ []) ≡ length (journal_bytes (rows ++ r ∷ []))
-end_push rows r end is = omega (arith, is, ap length (spelled-push rows r), length-append (journal_bytes rows) (1 ∷ row_body r), length-append (row_body r) (0 ∷ []))
+pub end_push : (rows : List Row) (r : Row) (end : ℕ)
+    → end ≡ length (journal_bytes rows)
+    → end + length (row_body r ++ 0 ∷ []) ≡ length (journal_bytes (rows ++ r ∷ []))
+end_push rows r end is =
+    omega (
+      arith,
+      is,
+      ap length (spelled-push rows r),
+      length-append (journal_bytes rows) (1 ∷ row_body r),
+      length-append (row_body r) (0 ∷ []),
+    )
 
 pub rows_of-all : (rows : List Row) → rows_of (rows_kept rows) ≡ rows
 rows_of-all [] = refl
@@ -64,7 +102,9 @@ pub rises-all : (rows : List Row) (low high : ℕ) → low ≤ high → Rises lo
 rises-all [] low high le = le
 rises-all (r ∷ rows) low high le = rises-all rows low high le
 
-pub stands_closed : (rows : List Row) (uncertain : Option Row) (c : List ℕ) → IfSome uncertain (IsNext rows) → StandsInImage rows uncertain c → MayOpen rows c
+pub stands_closed : (rows : List Row) (uncertain : Option Row) (c : List ℕ)
+    → IfSome uncertain (IsNext rows)
+    → StandsInImage rows uncertain c → MayOpen rows c
 stands_closed rows None c next stands = inl stands
 stands_closed rows (Some r) c next stands = inr (r, next, stands)
 
@@ -72,9 +112,14 @@ stands_closed rows (Some r) c next stands = inr (r, next, stands)
 pub repaired :
     {D T E : Type 0} {tells : D → Bool} {may_leave : D → List ℕ → Type 0} {moment : D → ℕ}
     {left_since : D → ℕ → List ℕ → Type 0} {result : Result T E} {old new : D} (end : ℕ)
-    (uncertain : Option Row) (rows : List Row) → is_none uncertain ≡ false → end ≡ length (journal_bytes rows)
+    (uncertain : Option Row) (rows : List Row)
+    → is_none uncertain ≡ false
+    → end ≡ length (journal_bytes rows)
     → ((front past : List ℕ) → length front ≡ end
-    → Triple tells may_leave moment left_since result old new (IsUnsure front past) (IsUnsure front past) (IsShut front))
-    → Triple tells may_leave moment left_since result old new (StandsInImage rows uncertain) (StandsInImage rows uncertain) (StandsInImage rows None)
+    → Triple tells may_leave moment left_since result old new (IsUnsure front past)
+    (IsUnsure front past) (IsShut front))
+    → Triple tells may_leave moment left_since result old new (StandsInImage rows uncertain)
+    (StandsInImage rows uncertain) (StandsInImage rows None)
 repaired end None rows some ends triple = absurd (cc)
-repaired end (Some r) rows some ends triple = triple (journal_bytes rows) (row_body r ++ 0 ∷ []) (sym ends)
+repaired end (Some r) rows some ends triple =
+    triple (journal_bytes rows) (row_body r ++ 0 ∷ []) (sym ends)

@@ -1,6 +1,7 @@
 -- Any bytes have one reading: rows, a corrupt place, or no header.
-use Rattle.std.proofs.Common.{◌≡◌, ◌≢◌, ◌⊎◌, inl, inr, ⊎_elim, ℕ, zero, suc, ◌+◌, ◌-◌, ◌*◌, ◌<◌, ◌≤◌, Bool, true, false}
-use Rattle.std.proofs.Common.{List, [], ◌∷◌, ◌++◌, length, get_or, take, drop, refl, sym, ◌∙◌, ap, subst, arith, length-append}
+use Rattle.std.proofs.Common.{◌≡◌, ◌≢◌, ◌⊎◌, inl, inr, ⊎_elim, ℕ, zero, suc, ◌+◌, ◌-◌, ◌*◌}
+use Rattle.std.proofs.Common.{◌<◌, ◌≤◌, Bool, true, false, List, [], ◌∷◌, ◌++◌, length, get_or}
+use Rattle.std.proofs.Common.{take, drop, refl, sym, ◌∙◌, ap, subst, arith, length-append}
 use Rattle.std.specs.Prelude.{Option, Some, None, nat_eq}
 use Rattle.std.specs.List.{starts_with}
 use Rattle.std.specs.Int.{w16, to_be_bytes}
@@ -8,7 +9,8 @@ use Rattle.std.proofs.lemmas.Bool.{cases_lt, cases_eq, cases_Bool}
 use Rattle.std.proofs.lemmas.Bool.Decides.{Decides-eqb}
 use Rattle.std.proofs.lemmas.Slice.Eq.{starts_is}
 use Rattle.std.proofs.lemmas.Nat.{be_bytes_2}
-use Rattle.std.proofs.lemmas.List.{length-take, length-drop, get_or-append_right, get_or-drop, get_or-take, get_or_past, take-append-drop, drop-drop, drop_more}
+use Rattle.std.proofs.lemmas.List.{length-take, length-drop, get_or-append_right, get_or-drop}
+use Rattle.std.proofs.lemmas.List.{get_or-take, get_or_past, take-append-drop, drop-drop, drop_more}
 use Rattle.byteorder.specs.Endian.{big_number}
 use Rattle.line_words.specs.Field.{is_key}
 use Rattle.line_words.specs.Keycode.{is_code}
@@ -19,13 +21,19 @@ use Rattle.gate_journal.specs.declared.command.Command.{Command}
 use Rattle.gate_journal.specs.declared.command.Command.TheVariants.{Open, Line, Char, File, Close}
 use Rattle.gate_journal.specs.declared.row.Row.{Row}
 use Rattle.gate_journal.specs.Command.{IsCommand}
-use Rattle.gate_journal.specs.Rows.{journal_header, command_kind, payload_of, row_body, rows_behind_open_gates, journal_bytes, may_follow, commands_of, MayStand, IsJournal}
+use Rattle.gate_journal.specs.Rows.{journal_header, command_kind, payload_of}
+use Rattle.gate_journal.specs.Rows.{row_body, rows_behind_open_gates, journal_bytes}
+use Rattle.gate_journal.specs.Rows.{may_follow, commands_of, MayStand, IsJournal}
 use Rattle.gate_journal.specs.Payload.{IsPayload, IsNoPayload, open_in, line_in, char_in, file_in}
 use Rattle.gate_journal.specs.Parsing.{BeginsWithRow, IsNoNext}
 use Rattle.gate_journal.specs.Laws.{Reading, Rows, CorruptAt, NoHeader, IsReading, HasOneReading}
-use Rattle.gate_journal.proofs.PayloadLemmas.{AreBytes, key_in, after_in, only_open, only_line, only_char, only_file, only_close, spells_whole, spells_line, spells_char, spells_file}
-use Rattle.gate_journal.proofs.PayloadLemmas.{text_found, text_missing, line_text, file_text, same_command}
-use Rattle.gate_journal.proofs.RowLemmas.{length-body, body_parts, spells_split, corrupt_end, corrupt_row, no_header, parse_step, one_list, one_place, never_both}
+use Rattle.gate_journal.proofs.PayloadLemmas.{AreBytes, key_in, after_in, only_open, only_line}
+use Rattle.gate_journal.proofs.PayloadLemmas.{only_char, only_file, only_close, spells_whole}
+use Rattle.gate_journal.proofs.PayloadLemmas.{spells_line, spells_char, spells_file, text_found}
+use Rattle.gate_journal.proofs.PayloadLemmas.{text_missing, line_text, file_text, same_command}
+use Rattle.gate_journal.proofs.RowLemmas.{length-body, body_parts, spells_split}
+use Rattle.gate_journal.proofs.RowLemmas.{corrupt_end, corrupt_row, no_header}
+use Rattle.gate_journal.proofs.RowLemmas.{parse_step, one_list, one_place, never_both}
 
 -- it holds, or it doesn't
 abbrev Decided : Type 0 → Type 0
@@ -42,10 +50,12 @@ again to from (inl p) = inl (to p)
 again to from (inr out) = inr (λ q. out (from q))
 
 at_most : (a b : ℕ) → Decided (a ≤ b)
-at_most a b = ⊎_elim (λ past. inr (λ le. absurd (omega (arith, past, le)))) (λ le. inl le) (cases_lt b a)
+at_most a b =
+    ⊎_elim (λ past. inr (λ le. absurd (omega (arith, past, le)))) (λ le. inl le) (cases_lt b a)
 
 below : (a b : ℕ) → Decided (a < b)
-below a b = ⊎_elim (λ lt. inl lt) (λ past. inr (λ lt. absurd (omega (arith, past, lt)))) (cases_lt a b)
+below a b =
+    ⊎_elim (λ lt. inl lt) (λ past. inr (λ lt. absurd (omega (arith, past, lt)))) (cases_lt a b)
 
 same : (a b : ℕ) → Decided (a ≡ b)
 same a b = ⊎_elim (λ is. inl is) (λ other. inr other) (cases_eq a b)
@@ -62,8 +72,10 @@ HasCommand kind p = ((c : Command) × IsPayload kind p c) ⊎ IsNoPayload kind p
 checked :
     (kind : ℕ) (p : List ℕ) (x : Command) → command_kind x ≡ kind → payload_of x ≡ p
     → ((c : Command) → IsPayload kind p c → c ≡ x) → Decided (IsCommand x) → HasCommand kind p
-checked kind p x number bytes only (inl is) = inl (x, record { ranges = is; number = number; bytes = bytes })
-checked kind p x number bytes only (inr out) = inr (λ c is. out (subst (λ (k : Command). IsCommand k) (only c is) is.ranges))
+checked kind p x number bytes only (inl is) =
+    inl (x, record { ranges = is; number = number; bytes = bytes })
+checked kind p x number bytes only (inr out) =
+    inr (λ c is. out (subst (λ (k : Command). IsCommand k) (only c is) is.ranges))
 
 an_open : (p : List ℕ) → AreBytes p → HasCommand 1 p
 an_open p are = elim (cases_eq (length p) (get_or p 0 0 + 53)) [
@@ -72,11 +84,25 @@ an_open p are = elim (cases_eq (length p) (get_or p 0 0 + 53)) [
       let key = key_in p in
       let after = after_in p in
       checked 1 p (open_in key after) refl (spells_whole p are size) (λ c is. (only_open p c is).1)
-      (again (λ n. (n.0, n.1.0, n.1.1.0, n.1.1.1.0, n.1.1.1.1.0, n.1.1.1.1.1.0, n.1.1.1.1.1.1.0, n.1.1.1.1.1.1.1.0, n.1.1.1.1.1.1.1.1)) (λ r. (r.0, (r.1, (r.2, (r.3, (r.4, (r.5, (r.6, (r.7, r.8)))))))))
-      (both (said (is_key key)) (both (at_most (big_number 2 after) 65535) (both (same (length (take 32 (drop 2 after))) 32)
-      (both (at_most (big_number 8 (drop 34 after)) 18446744073709551615) (both (at_most 1 (get_or after 42 0)) (both (at_most (get_or after 42 0) 255)
+      (again (λ n. (
+        n.0,
+        n.1.0,
+        n.1.1.0,
+        n.1.1.1.0,
+        n.1.1.1.1.0,
+        n.1.1.1.1.1.0,
+        n.1.1.1.1.1.1.0,
+        n.1.1.1.1.1.1.1.0,
+        n.1.1.1.1.1.1.1.1,
+      ))
+      (λ r. (r.0, (r.1, (r.2, (r.3, (r.4, (r.5, (r.6, (r.7, r.8)))))))))
+      (both (said (is_key key))
+      (both (at_most (big_number 2 after) 65535) (both (same (length (take 32 (drop 2 after))) 32)
+      (both (at_most (big_number 8 (drop 34 after)) 18446744073709551615)
+      (both (at_most 1 (get_or after 42 0)) (both (at_most (get_or after 42 0) 255)
       (both (at_most 1 (get_or after 43 0)) (both (at_most (get_or after 43 0) 255)
-      (both (at_most 1 (big_number 8 (drop 44 after))) (at_most (big_number 8 (drop 44 after)) 1000000000000)))))))))))
+      (both (at_most 1 (big_number 8 (drop 44 after)))
+      (at_most (big_number 8 (drop 44 after)) 1000000000000)))))))))))
 ]
 
 a_line : (p : List ℕ) → AreBytes p → HasCommand 2 p
@@ -86,11 +112,15 @@ a_line p are = elim (cases_lt (length p) 8) [
 ]
   where
     with_text : (o : Option (List ℕ)) → text_of_bytes (drop 8 p) ≡ o → 8 ≤ length p → HasCommand 2 p
-    with_text None none long = inr (λ c is. let text = line_text p c is in text_missing (drop 8 p) text.0 none text.1 text.2)
+    with_text None none long =
+        inr
+        (λ c is. let text = line_text p c is in text_missing (drop 8 p) text.0 none text.1 text.2)
     with_text (Some text) some long =
         let found = text_found (drop 8 p) text some in
         checked 2 p (line_in p) refl (spells_line p are long found.0) (λ c is. (only_line p c is).1)
-        (again (λ n. (n.0, n.1.0, n.1.1)) (λ r. (r.0, (r.1, r.2))) (both (at_most (big_number 4 p) 4294967295) (both (said _) (inl (subst (λ (l : List ℕ). IsText l) found.2 found.1)))))
+        (again (λ n. (n.0, n.1.0, n.1.1)) (λ r. (r.0, (r.1, r.2)))
+        (both (at_most (big_number 4 p) 4294967295)
+        (both (said _) (inl (subst (λ (l : List ℕ). IsText l) found.2 found.1)))))
 
 a_char : (p : List ℕ) → AreBytes p → HasCommand 3 p
 a_char p are = elim (cases_eq (length p) 8) [
@@ -104,10 +134,12 @@ a_file : (p : List ℕ) → HasCommand 4 p
 a_file p = with_text (text_of_bytes p) refl
   where
     with_text : (o : Option (List ℕ)) → text_of_bytes p ≡ o → HasCommand 4 p
-    with_text None none = inr (λ c is. let text = file_text p c is in text_missing p text.0 none text.1 text.2)
+    with_text None none =
+        inr (λ c is. let text = file_text p c is in text_missing p text.0 none text.1 text.2)
     with_text (Some text) some =
         let found = text_found p text some in
-        checked 4 p (file_in p) refl (spells_file p found.0) (only_file p) (inl (subst (λ (l : List ℕ). IsText l) found.2 found.1))
+        checked 4 p (file_in p) refl (spells_file p found.0) (only_file p)
+        (inl (subst (λ (l : List ℕ). IsText l) found.2 found.1))
 
 a_close : (p : List ℕ) → HasCommand 5 p
 a_close [] = inl (Close, record { ranges = tt; number = refl; bytes = refl })
@@ -164,7 +196,9 @@ payload_in past = take (size_in past) (drop 4 past)
 whole_row :
     (past : List ℕ) (c : Command) → AreBytes past → 4 + size_in past ≤ length past
     → command_kind c ≡ get_or past 1 0 → payload_of c ≡ payload_in past
-    → past ≡ (get_or past 0 0 ∷ command_kind c ∷ to_be_bytes w16 (length (payload_of c)) ++ payload_of c) ++ drop (4 + size_in past) past
+    → past ≡ (get_or past 0 0 ∷ command_kind c ∷ to_be_bytes w16 (length (payload_of c))
+    ++ payload_of c)
+    ++ drop (4 + size_in past) past
 whole_row past c are long kind payload =
     drop_more past 0 0 (omega (arith, long))
     ∙ ap (λ (l : List ℕ). get_or past 0 0 ∷ l) (drop_more past 1 0 (omega (arith, long)))
@@ -172,15 +206,26 @@ whole_row past c are long kind payload =
     ∙ ap (λ (l : List ℕ). get_or past 0 0 ∷ command_kind c ∷ l) rest
   where
     size : length (payload_of c) ≡ size_in past
-    size = ap length payload ∙ (omega (arith, long, length-take (size_in past) (drop 4 past), length-drop 4 past))
+    size =
+        ap length payload
+        ∙ (omega (arith, long, length-take (size_in past) (drop 4 past), length-drop 4 past))
 
     two : to_be_bytes w16 (length (payload_of c)) ≡ take 2 (drop 2 past)
     two =
-        be_bytes_2 (take 2 (drop 2 past)) (length (payload_of c)) (omega (arith, long, length-take 2 (drop 2 past), length-drop 2 past))
+        be_bytes_2 (take 2 (drop 2 past)) (length (payload_of c))
+        (omega (arith, long, length-take 2 (drop 2 past), length-drop 2 past))
         (bytes_front 2 (drop 2 past) (bytes_past 2 past are))
-        (size ∙ (omega (arith, get_or-take 2 (drop 2 past) 0 0 (omega arith), get_or-take 2 (drop 2 past) 1 0 (omega arith), get_or-drop 2 past 0 0, get_or-drop 2 past 1 0)))
+        (size
+        ∙ (omega (
+          arith,
+          get_or-take 2 (drop 2 past) 0 0 (omega arith),
+          get_or-take 2 (drop 2 past) 1 0 (omega arith),
+          get_or-drop 2 past 0 0,
+          get_or-drop 2 past 1 0,
+        )))
 
-    rest : drop 2 past ≡ to_be_bytes w16 (length (payload_of c)) ++ payload_of c ++ drop (4 + size_in past) past
+    rest : drop 2 past
+        ≡ to_be_bytes w16 (length (payload_of c)) ++ payload_of c ++ drop (4 + size_in past) past
     rest =
         sym (take-append-drop 2 (drop 2 past))
         ∙ ap (λ (l : List ℕ). l ++ drop 2 (drop 2 past)) (sym two)
@@ -193,48 +238,85 @@ whole_row past c are long kind payload =
 abbrev HasRow : List Row → List ℕ → Type 0
 HasRow rows past = ((r : Row) × BeginsWithRow rows past r) ⊎ IsNoNext rows past
 
-stands : (rows : List Row) (session : ℕ) (c : Command) → IsCommand c → Decided (MayStand rows session c)
+stands : (rows : List Row) (session : ℕ) (c : Command)
+    → IsCommand c → Decided (MayStand rows session c)
 stands rows session c ranges =
-    ⊎_elim (λ all. inl (record { below = all.0; ranges = ranges; follows = all.1.0; fewer = all.1.1 }))
+    ⊎_elim
+    (λ all. inl (record { below = all.0; ranges = ranges; follows = all.1.0; fewer = all.1.1 }))
     (λ out. inr (λ is. out (is.below, (is.follows, is.fewer))))
-    (both (below session 64) (both (said (may_follow (commands_of rows session) c)) (below (length (commands_of rows session)) 8192)))
+    (both (below session 64) (both (said (may_follow (commands_of rows session) c))
+    (below (length (commands_of rows session)) 8192)))
 
 has_row : (rows : List Row) (past : List ℕ) → AreBytes past → HasRow rows past
 has_row rows past are = elim (cases_lt (length past) (4 + size_in past)) [
   | inl short ↦ inr (λ r rest next is.
       let parts = body_parts r rest past next.stands.ranges is in
-      absurd (omega (arith, short, parts.1, ap length is, length-append (row_body r) rest, length-body r)))
-  | inr long ↦ with_command long (has_command (get_or past 1 0) (payload_in past) (bytes_front (size_in past) (drop 4 past) (bytes_past 4 past are)))
+      absurd
+      (omega (arith, short, parts.1, ap length is, length-append (row_body r) rest, length-body r)))
+  | inr long ↦
+      with_command long (has_command (get_or past 1 0) (payload_in past)
+      (bytes_front (size_in past) (drop 4 past) (bytes_past 4 past are)))
 ]
   where
-    with_command : 4 + size_in past ≤ length past → HasCommand (get_or past 1 0) (payload_in past) → HasRow rows past
+    with_command : 4 + size_in past ≤ length past
+        → HasCommand (get_or past 1 0) (payload_in past)
+        → HasRow rows past
     with_command long (inr none) = inr (λ r rest next is.
         let parts = body_parts r rest past next.stands.ranges is in
-        none r.command (record { ranges = next.stands.ranges; number = sym parts.0; bytes = sym parts.2 }))
+        none r.command
+        (record { ranges = next.stands.ranges; number = sym parts.0; bytes = sym parts.2 }))
     with_command long (inl (c, is)) = elim (stands rows (get_or past 0 0) c is.ranges) [
       | inl may ↦
-          let r : Row = record { place = length (journal_bytes rows); session = get_or past 0 0; by = get_or past 0 0 + 1; command = c } in
+          let r : Row = record {
+            place = length (journal_bytes rows);
+            session = get_or past 0 0;
+            by = get_or past 0 0 + 1;
+            command = c;
+          } in
           let whole = whole_row past c are long is.number is.bytes in
           let size : 4 + size_in past ≡ length (row_body r) =
-          omega (arith, long, length-body r, ap length is.bytes, length-take (size_in past) (drop 4 past), length-drop 4 past) in
-          inl (r, record { next = record { place = refl; by = refl; stands = may }; bytes = whole ∙ ap (λ (k : ℕ). row_body r ++ drop k past) size })
+          omega (
+            arith,
+            long,
+            length-body r,
+            ap length is.bytes,
+            length-take (size_in past) (drop 4 past),
+            length-drop 4 past,
+          ) in
+          inl (
+            r,
+            record {
+              next = record { place = refl; by = refl; stands = may };
+              bytes = whole ∙ ap (λ (k : ℕ). row_body r ++ drop k past) size;
+            },
+          )
       | inr out ↦ inr (λ r rest next bytes.
           let parts = body_parts r rest past next.stands.ranges bytes in
           let same_one : r.command ≡ c =
-          same_command r.command c next.stands.ranges is.ranges (sym parts.0 ∙ sym is.number) (sym parts.2 ∙ sym is.bytes) in
-          let session : r.session ≡ get_or past 0 0 = sym (ap (λ (l : List ℕ). get_or l 0 0) bytes) in
-          out (subst (λ (k : Command). MayStand rows (get_or past 0 0) k) same_one (subst (λ (k : ℕ). MayStand rows k r.command) session next.stands)))
+          same_command r.command c next.stands.ranges is.ranges (sym parts.0 ∙ sym is.number)
+          (sym parts.2 ∙ sym is.bytes) in
+          let session : r.session ≡ get_or past 0 0 =
+          sym (ap (λ (l : List ℕ). get_or l 0 0) bytes) in
+          out (subst (λ (k : Command). MayStand rows (get_or past 0 0) k) same_one
+          (subst (λ (k : ℕ). MayStand rows k r.command) session next.stands)))
     ]
 
 -- of bytes that begin with these rows
 read_from :
-    (fuel : ℕ) (rows : List Row) (bytes rest : List ℕ) → AreBytes bytes → bytes ≡ journal_bytes rows ++ rest → IsJournal rows
+    (fuel : ℕ) (rows : List Row) (bytes rest : List ℕ)
+    → AreBytes bytes → bytes ≡ journal_bytes rows ++ rest
+    → IsJournal rows
     → length rest ≤ fuel → (reading : Reading) × IsReading bytes reading
-read_from fuel rows bytes [] are split all le = (CorruptAt (length (journal_bytes rows)), corrupt_end rows bytes (length (journal_bytes rows)) all split refl)
+read_from fuel rows bytes [] are split all le = (
+  CorruptAt (length (journal_bytes rows)),
+  corrupt_end rows bytes (length (journal_bytes rows)) all split refl,
+)
 read_from zero rows bytes (gate ∷ past) are split all le = absurd (omega (arith, le))
 read_from (suc fuel) rows bytes (gate ∷ past) are split all le = elim (cases_eq gate 1) [
   | inr shut ↦ (Rows rows, spells_split rows bytes (gate ∷ past) all split (omega arith) shut)
-  | inl is_open ↦ after_gate (λ later after. read_from fuel later bytes after are) is_open (has_row rows past past_are)
+  | inl is_open ↦
+      after_gate (λ later after. read_from fuel later bytes after are) is_open
+      (has_row rows past past_are)
 ]
   where
     past_are : AreBytes past
@@ -243,44 +325,69 @@ read_from (suc fuel) rows bytes (gate ∷ past) are split all le = elim (cases_e
           arith,
           are (length (journal_bytes rows) + (1 + i)),
           ap (λ (l : List ℕ). get_or l (length (journal_bytes rows) + (1 + i)) 0) split,
-          get_or-append_right (journal_bytes rows) (gate ∷ past) (length (journal_bytes rows)) (length (journal_bytes rows) + (1 + i)) 0 refl (omega arith),
+          get_or-append_right (journal_bytes rows) (gate ∷ past) (length (journal_bytes rows))
+              (length (journal_bytes rows) + (1 + i)) 0 refl (omega arith),
           behind i,
         )
       where
-        behind : (i : ℕ) → get_or (gate ∷ past) (length (journal_bytes rows) + (1 + i) - length (journal_bytes rows)) 0 ≡ get_or past i 0
+        behind : (i : ℕ)
+            → get_or (gate ∷ past)
+            (length (journal_bytes rows) + (1 + i) - length (journal_bytes rows)) 0
+            ≡ get_or past i 0
         behind i =
-            let at : length (journal_bytes rows) + (1 + i) - length (journal_bytes rows) ≡ suc i = omega arith in
+            let at : length (journal_bytes rows) + (1 + i) - length (journal_bytes rows) ≡ suc i =
+            omega arith in
             ap (λ (k : ℕ). get_or (gate ∷ past) k 0) at
 
     after_gate :
-        ((later : List Row) (after : List ℕ) → bytes ≡ journal_bytes later ++ after → IsJournal later → length after ≤ fuel
+        ((later : List Row) (after : List ℕ)
+        → bytes ≡ journal_bytes later ++ after → IsJournal later
+        → length after ≤ fuel
         → (reading : Reading) × IsReading bytes reading)
         → gate ≡ 1 → HasRow rows past → (reading : Reading) × IsReading bytes reading
-    after_gate go is_open (inr none) = (CorruptAt (length (journal_bytes rows)), corrupt_row rows bytes (gate ∷ past) (length (journal_bytes rows)) all split refl is_open none)
+    after_gate go is_open (inr none) = (
+      CorruptAt (length (journal_bytes rows)),
+      corrupt_row rows bytes (gate ∷ past)
+          (length (journal_bytes rows)) all split refl is_open none,
+    )
     after_gate go is_open (inl (r, first)) =
         let n = length (payload_of r.command) in
         let after = drop (5 + n) (gate ∷ past) in
-        let step = parse_step bytes (gate ∷ past) after rows (rows ++ r ∷ []) r (length (journal_bytes rows)) (length (journal_bytes rows) + (5 + n))
+        let step =
+        parse_step bytes (gate ∷ past) after rows (rows ++ r ∷ []) r (length (journal_bytes rows))
+        (length (journal_bytes rows) + (5 + n))
         split all refl is_open (omega arith) first refl refl refl in
-        go (rows ++ r ∷ []) after step.0 step.1 (omega (arith, le, length-drop (5 + n) (gate ∷ past)))
+        go (rows ++ r ∷ []) after step.0 step.1
+        (omega (arith, le, length-drop (5 + n) (gate ∷ past)))
 
 -- any bytes
 reading_of : (bytes : List ℕ) → AreBytes bytes → (reading : Reading) × IsReading bytes reading
 reading_of bytes are = elim (cases_Bool (starts_with nat_eq bytes journal_header)) [
   | inr other ↦ (NoHeader, no_header bytes other)
-  | inl begins ↦ read_from (length bytes) [] bytes (drop 16 bytes) are ((starts_is Decides-eqb bytes journal_header true (sym begins)).0 refl) tt (omega (arith, length-drop 16 bytes))
+  | inl begins ↦
+      read_from (length bytes) [] bytes (drop 16 bytes) are
+      ((starts_is Decides-eqb bytes journal_header true (sym begins)).0 refl) tt
+      (omega (arith, length-drop 16 bytes))
 ]
 
 -- no bytes have two
 only_reading : (bytes : List ℕ) (a b : Reading) → IsReading bytes a → IsReading bytes b → b ≡ a
-only_reading bytes (Rows rows) (Rows others) first second = ap (λ (l : List Row). Rows l) (one_list bytes others rows second first)
-only_reading bytes (Rows rows) (CorruptAt place) first second = absurd (never_both bytes rows place first second)
-only_reading bytes (Rows rows) NoHeader first second = absurd (second (holds_front journal_header (rows_behind_open_gates rows) first.front))
-only_reading bytes (CorruptAt place) (Rows rows) first second = absurd (never_both bytes rows place second first)
-only_reading bytes (CorruptAt place) (CorruptAt other) first second = ap (λ (k : ℕ). CorruptAt k) (one_place bytes other place second first)
-only_reading bytes (CorruptAt place) NoHeader first second = absurd (second (holds_front journal_header (rows_behind_open_gates first.rows) first.front))
-only_reading bytes NoHeader (Rows rows) first second = absurd (first (holds_front journal_header (rows_behind_open_gates rows) second.front))
-only_reading bytes NoHeader (CorruptAt place) first second = absurd (first (holds_front journal_header (rows_behind_open_gates second.rows) second.front))
+only_reading bytes (Rows rows) (Rows others) first second =
+    ap (λ (l : List Row). Rows l) (one_list bytes others rows second first)
+only_reading bytes (Rows rows) (CorruptAt place) first second =
+    absurd (never_both bytes rows place first second)
+only_reading bytes (Rows rows) NoHeader first second =
+    absurd (second (holds_front journal_header (rows_behind_open_gates rows) first.front))
+only_reading bytes (CorruptAt place) (Rows rows) first second =
+    absurd (never_both bytes rows place second first)
+only_reading bytes (CorruptAt place) (CorruptAt other) first second =
+    ap (λ (k : ℕ). CorruptAt k) (one_place bytes other place second first)
+only_reading bytes (CorruptAt place) NoHeader first second =
+    absurd (second (holds_front journal_header (rows_behind_open_gates first.rows) first.front))
+only_reading bytes NoHeader (Rows rows) first second =
+    absurd (first (holds_front journal_header (rows_behind_open_gates rows) second.front))
+only_reading bytes NoHeader (CorruptAt place) first second =
+    absurd (first (holds_front journal_header (rows_behind_open_gates second.rows) second.front))
 only_reading bytes NoHeader NoHeader first second = refl
 
 pub one_reading : HasOneReading

@@ -12,9 +12,11 @@ use Rattle.gate_journal.specs.declared.command.Command.{Command}
 use Rattle.gate_journal.specs.declared.row.Row.{Row}
 use Rattle.gate_journal.specs.declared.entry.Entry.{Entry}
 use Rattle.gate_journal.specs.declared.entry.Entry.TheVariants.{Kept, Faulted}
-use Rattle.gate_journal.specs.Rows.{row_body, journal_header, rows_behind_open_gates, journal_bytes, EachNext, IsJournal, MayStand}
-use Rattle.gate_journal.specs.Log.{Log, IsBetween, IsOfSession, IsSinceOpened, IsSoundJournal, rows_kept}
-use Rattle.gate_journal.specs.Log.{MayOpen, MaySpell, Meanwhile, next_row, rows_found, rows_of}
+use Rattle.gate_journal.specs.Rows.{row_body, journal_header, rows_behind_open_gates}
+use Rattle.gate_journal.specs.Rows.{journal_bytes, EachNext, IsJournal, MayStand}
+use Rattle.gate_journal.specs.Log.{Log, IsBetween, IsOfSession, IsSinceOpened}
+use Rattle.gate_journal.specs.Log.{IsSoundJournal, rows_kept, MayOpen, MaySpell}
+use Rattle.gate_journal.specs.Log.{Meanwhile, next_row, rows_found, rows_of}
 use Rattle.gate_journal.specs.Command.{IsCommand}
 use Rattle.gate_journal.proofs.LimitLemmas.{payload_most}
 use Rattle.gate_journal.proofs.LogLemmas.{rows_of-all}
@@ -24,10 +26,12 @@ rows_of-append [] ys = refl
 rows_of-append (Kept r ∷ xs) ys = ap (λ (x : List Row). r ∷ x) (rows_of-append xs ys)
 rows_of-append (Faulted by from to ∷ xs) ys = rows_of-append xs ys
 
-opened_grows : (rows more : List Row) → length (rows_behind_open_gates rows) ≤ length (rows_behind_open_gates (rows ++ more))
+opened_grows : (rows more : List Row)
+    → length (rows_behind_open_gates rows) ≤ length (rows_behind_open_gates (rows ++ more))
 opened_grows [] more = omega arith
 opened_grows (r ∷ rows) more =
-    let rest : length (rows_behind_open_gates rows) ≤ length (rows_behind_open_gates (rows ++ more)) = opened_grows rows more in
+    let rest : length (rows_behind_open_gates rows)
+    ≤ length (rows_behind_open_gates (rows ++ more)) = opened_grows rows more in
     omega (
       arith,
       rest,
@@ -40,7 +44,8 @@ pub spelled_grows :
     (first last more : List Row) → last ≡ first ++ more
     → length (journal_bytes first) ≤ length (journal_bytes last)
 spelled_grows first last more grows =
-    subst (λ (rows : List Row). length (journal_bytes first) ≤ length (journal_bytes rows)) (sym grows)
+    subst (λ (rows : List Row). length (journal_bytes first) ≤ length (journal_bytes rows))
+    (sym grows)
     (omega (
       arith,
       opened_grows first more,
@@ -180,11 +185,13 @@ module _
           (since.meanwhile start journal may told)
           (λ c. ⊎_elim (λ opens. inl opens)
           (λ b. inr (subst (λ (x : List Row). IsBetween x (rows_of entries) c) same_found
-          (between_later (found_in log.entries) rows (rows_of entries) (rows_of (e ∷ [])) c grows b)))))
+          (between_later (found_in log.entries) rows (rows_of entries)
+          (rows_of (e ∷ [])) c grows b)))))
           (weaker moment left_since log.disk disk
           (Meanwhile rows log.uncertain (next_row rows session command)) P (here told_now)
           (λ c m. inr (subst (λ (x : List Row). IsBetween x (rows_of entries) c) same_found
-          (between_meanwhile (found_in log.entries) (rows_of (drop log.opening.found log.entries)) rows (rows_of entries) (rows_of (e ∷ [])) log.uncertain
+          (between_meanwhile (found_in log.entries) (rows_of (drop log.opening.found log.entries))
+          rows (rows_of entries) (rows_of (e ∷ [])) log.uncertain
           (next_row rows session command) c (rows_after log.opening.found log.entries) grows m))))
 
   -- how far a repair writes, and then a row
@@ -202,7 +209,8 @@ module _
       → now ≤ max mid (end + 1 + length past)
       → now ≤ max before (length (journal_bytes (rows_of log.entries)) + 4110)
   asked_row before mid now end {q} {past} ends made bytes first second =
-      let same : length (row_body q) ≡ length (row_body (next_row (rows_of log.entries) session command))
+      let same : length (row_body q)
+      ≡ length (row_body (next_row (rows_of log.entries) session command))
       = ap (λ (r : Row). length (row_body r)) made
       in
       omega (
@@ -266,7 +274,8 @@ pub reserved :
     → entries ≡ log.entries
     → IsSoundJournal tells may_leave room faults log end
     × IsSinceOpened tells may_leave room label reach moment left_since log
-    → IsSoundJournal tells may_leave room faults (record log { entries = entries; ready = ready }) end
+    → IsSoundJournal tells may_leave room faults
+    (record log { entries = entries; ready = ready }) end
     × IsSinceOpened tells may_leave room label reach moment left_since
     (record log { entries = entries; ready = ready })
 reserved {D} {tells} {may_leave} {room} {faults} {label} {reach} {moment} {left_since} {log}

@@ -1,5 +1,6 @@
 -- How a journal stays sound.
-use Rattle.std.proofs.Common.{◌≡◌, ◌⊎◌, inl, inr, ℕ, ◌+◌, ◌<◌, ◌≤◌, Bool, List, [], ◌∷◌, ◌++◌, length, sym, ◌∙◌, ap, subst, arith, append_assoc}
+use Rattle.std.proofs.Common.{◌≡◌, ◌⊎◌, inl, inr, ℕ, ◌+◌, ◌<◌, ◌≤◌, Bool, List, [], ◌∷◌}
+use Rattle.std.proofs.Common.{◌++◌, length, sym, ◌∙◌, ap, subst, arith, append_assoc}
 use Rattle.std.specs.Prelude.{Option, None, IfSome}
 use Rattle.disk_model.specs.Disk.{LeavesOnly, Rose, Holds, EachImage}
 use Rattle.disk_model.proofs.Moments.{weaker, and_then}
@@ -10,57 +11,129 @@ use Rattle.gate_journal.specs.Gate.{IsShut, IsUnsure}
 use Rattle.gate_journal.specs.Rows.{row_body, journal_bytes, IsJournal, IsNext}
 use Rattle.gate_journal.specs.Log.{Log, IsSoundJournal, rows_of, Rises, StandsInImage, Meanwhile}
 use Rattle.gate_journal.proofs.RowLemmas.{journal_push, spelled-push}
-use Rattle.gate_journal.proofs.LogLemmas.{rows_of-kept, rows_of-faulted, rises-kept, rises-faulted, closed_shut, closed_unsure, stands_well, stands_closed, end_push}
+use Rattle.gate_journal.proofs.LogLemmas.{rows_of-kept, rows_of-faulted, rises-kept}
+use Rattle.gate_journal.proofs.LogLemmas.{rises-faulted, closed_shut, closed_unsure}
+use Rattle.gate_journal.proofs.LogLemmas.{stands_well, stands_closed, end_push}
 
-module _ {D : Type 0} (tells : D → Bool) (may_leave : D → List ℕ → Type 0) (room faults : D → ℕ) where
+module _ {D : Type 0} (tells : D → Bool) (may_leave : D → List ℕ → Type 0)
+    (room faults : D → ℕ) where
   -- after a fault
-  pub sound_faulted : (log : Log D) (end : ℕ) (disk : D) (entries : List Entry) (uncertain : Option Row) (by from to : ℕ) (ready : Bool) → IsSoundJournal tells may_leave room faults log end
-      → entries ≡ log.entries ++ Faulted by from to ∷ [] → room disk ≡ room log.disk → from ≡ faults log.disk → to ≡ faults disk → from ≤ to → Rose from to
-      → IfSome uncertain (IsNext (rows_of log.entries)) → EachImage tells may_leave disk (StandsInImage (rows_of log.entries) uncertain)
-      → IsSoundJournal tells may_leave room faults (record { disk = disk; entries = entries; uncertain = uncertain; opening = log.opening; ready = ready }) end
-  sound_faulted log end disk entries uncertain by from to ready sound pushed same_room is_from is_to le rose next images =
-      let same : rows_of log.entries ≡ rows_of entries = sym (ap rows_of pushed ∙ rows_of-faulted log.entries by from to) in
-      let counts : Rises (faults log.opening.disk) log.entries from = subst (λ (n : ℕ). Rises (faults log.opening.disk) log.entries n) (sym is_from) sound.counts in
+  pub sound_faulted : (log : Log D) (end : ℕ) (disk : D) (entries : List Entry)
+      (uncertain : Option Row) (by from to : ℕ) (ready : Bool)
+      → IsSoundJournal tells may_leave room faults log end
+      → entries ≡ log.entries ++ Faulted by from to ∷ []
+      → room disk ≡ room log.disk → from ≡ faults log.disk
+      → to ≡ faults disk → from ≤ to → Rose from to
+      → IfSome uncertain (IsNext (rows_of log.entries))
+      → EachImage tells may_leave disk (StandsInImage (rows_of log.entries) uncertain)
+      → IsSoundJournal tells may_leave room faults (record {
+        disk = disk;
+        entries = entries;
+        uncertain = uncertain;
+        opening = log.opening;
+        ready = ready;
+      }) end
+  sound_faulted log end disk entries uncertain by from to ready sound pushed same_room
+      is_from is_to le rose next images =
+      let same : rows_of log.entries ≡ rows_of entries =
+      sym (ap rows_of pushed ∙ rows_of-faulted log.entries by from to) in
+      let counts : Rises (faults log.opening.disk) log.entries from =
+      subst (λ (n : ℕ). Rises (faults log.opening.disk) log.entries n) (sym is_from) sound.counts in
       record {
         journal = subst (λ (rows : List Row). IsJournal rows) same sound.journal;
         ends = sound.ends ∙ ap (λ (rows : List Row). length (journal_bytes rows)) same;
         within = omega (arith, sound.within, same_room);
         next = subst (λ (rows : List Row). IfSome uncertain (IsNext rows)) same next;
-        images = subst (λ (rows : List Row). EachImage tells may_leave disk (StandsInImage rows uncertain)) same images;
-        counts = subst (λ (l : List Entry). Rises (faults log.opening.disk) l (faults disk)) (sym pushed) (subst (λ (n : ℕ). Rises (faults log.opening.disk) (log.entries ++ Faulted by from to ∷ []) n) is_to (rises-faulted log.entries by from to (faults log.opening.disk) counts le rose));
+        images =
+            subst
+            (λ (rows : List Row). EachImage tells may_leave disk (StandsInImage rows uncertain))
+            same images;
+        counts =
+            subst (λ (l : List Entry). Rises (faults log.opening.disk) l (faults disk)) (sym pushed)
+            (subst
+            (λ (n : ℕ). Rises (faults log.opening.disk) (log.entries ++ Faulted by from to ∷ []) n)
+            is_to (rises-faulted log.entries by from to (faults log.opening.disk) counts le rose));
       }
 
   -- after a row
-  pub sound_kept : (log : Log D) (end later : ℕ) (disk : D) (entries : List Entry) (r : Row) (ready : Bool) → IsSoundJournal tells may_leave room faults log end
-      → entries ≡ log.entries ++ Kept r ∷ [] → room disk ≡ room log.disk → faults log.disk ≤ faults disk → later ≡ end + length (row_body r ++ 0 ∷ []) → later < room disk
-      → IsNext (rows_of log.entries) r → EachImage tells may_leave disk (IsShut (journal_bytes (rows_of log.entries ++ r ∷ [])))
-      → IsSoundJournal tells may_leave room faults (record { disk = disk; entries = entries; uncertain = None; opening = log.opening; ready = ready }) later
-  sound_kept log end later disk entries r ready sound pushed same_room le is_later within next images =
-      let same : rows_of log.entries ++ r ∷ [] ≡ rows_of entries = sym (ap rows_of pushed ∙ rows_of-kept log.entries r) in
+  pub sound_kept : (log : Log D) (end later : ℕ) (disk : D) (entries : List Entry)
+      (r : Row) (ready : Bool)
+      → IsSoundJournal tells may_leave room faults log end
+      → entries ≡ log.entries ++ Kept r ∷ []
+      → room disk ≡ room log.disk → faults log.disk ≤ faults disk
+      → later ≡ end + length (row_body r ++ 0 ∷ [])
+      → later < room disk
+      → IsNext (rows_of log.entries) r
+      → EachImage tells may_leave disk (IsShut (journal_bytes (rows_of log.entries ++ r ∷ [])))
+      → IsSoundJournal tells may_leave room faults (record {
+        disk = disk;
+        entries = entries;
+        uncertain = None;
+        opening = log.opening;
+        ready = ready;
+      }) later
+  sound_kept log end later disk entries r ready sound pushed same_room le is_later within
+      next images =
+      let same : rows_of log.entries ++ r ∷ [] ≡ rows_of entries =
+      sym (ap rows_of pushed ∙ rows_of-kept log.entries r) in
       record {
-        journal = subst (λ (rows : List Row). IsJournal rows) same (journal_push (rows_of log.entries) r sound.journal next);
-        ends = is_later ∙ end_push (rows_of log.entries) r end sound.ends ∙ ap (λ (rows : List Row). length (journal_bytes rows)) same;
+        journal =
+            subst (λ (rows : List Row). IsJournal rows) same
+            (journal_push (rows_of log.entries) r sound.journal next);
+        ends =
+            is_later ∙ end_push (rows_of log.entries) r end sound.ends
+            ∙ ap (λ (rows : List Row). length (journal_bytes rows)) same;
         within = within;
         next = tt;
-        images = subst (λ (rows : List Row). EachImage tells may_leave disk (StandsInImage rows None)) same images;
-        counts = subst (λ (l : List Entry). Rises (faults log.opening.disk) l (faults disk)) (sym pushed) (rises-kept log.entries r (faults log.opening.disk) (faults log.disk) (faults disk) sound.counts le);
+        images =
+            subst (λ (rows : List Row). EachImage tells may_leave disk (StandsInImage rows None))
+            same images;
+        counts =
+            subst (λ (l : List Entry). Rises (faults log.opening.disk) l (faults disk)) (sym pushed)
+            (rises-kept log.entries r (faults log.opening.disk) (faults log.disk)
+            (faults disk) sound.counts le);
       }
 
-module _ {D : Type 0} (moment : D → ℕ) (left_since : D → ℕ → List ℕ → Type 0) (rows : List Row) (uncertain : Option Row) (r : Row) (all : IsJournal rows) (next : IsNext rows r) (stood : IfSome uncertain (IsNext rows)) where
-  pub settled : (old new : D) → LeavesOnly moment left_since old new (StandsInImage rows uncertain) → LeavesOnly moment left_since old new (Meanwhile rows uncertain r)
-  settled old new leaves = weaker moment left_since old new (StandsInImage rows uncertain) (Meanwhile rows uncertain r) leaves (λ c stands. (inl (stands_well rows uncertain c all stood stands), stands_closed rows uncertain c stood stands))
+module _ {D : Type 0} (moment : D → ℕ) (left_since : D → ℕ → List ℕ → Type 0) (rows : List Row)
+    (uncertain : Option Row) (r : Row) (all : IsJournal rows) (next : IsNext rows r)
+    (stood : IfSome uncertain (IsNext rows)) where
+  pub settled : (old new : D)
+      → LeavesOnly moment left_since old new (StandsInImage rows uncertain)
+      → LeavesOnly moment left_since old new (Meanwhile rows uncertain r)
+  settled old new leaves =
+      weaker moment left_since old new (StandsInImage rows uncertain)
+      (Meanwhile rows uncertain r) leaves
+      (λ c stands. (
+        inl (stands_well rows uncertain c all stood stands),
+        stands_closed rows uncertain c stood stands,
+      ))
 
-  pub appended : (old mid new : D) (past : List ℕ) → past ≡ row_body r ++ 0 ∷ [] → LeavesOnly moment left_since old mid (StandsInImage rows uncertain)
-      → LeavesOnly moment left_since mid new (λ c. IsShut (journal_bytes rows) c ⊎ IsUnsure (journal_bytes rows) past c) → LeavesOnly moment left_since old new (Meanwhile rows uncertain r)
+  pub appended : (old mid new : D) (past : List ℕ)
+      → past ≡ row_body r ++ 0 ∷ []
+      → LeavesOnly moment left_since old mid (StandsInImage rows uncertain)
+      → LeavesOnly moment left_since mid new
+      (λ c. IsShut (journal_bytes rows) c ⊎ IsUnsure (journal_bytes rows) past c)
+      → LeavesOnly moment left_since old new (Meanwhile rows uncertain r)
   appended old mid new past is first second =
-      and_then moment left_since old mid new (Meanwhile rows uncertain r) (settled old mid first) (weaker moment left_since mid new (λ c. IsShut (journal_bytes rows) c ⊎ IsUnsure (journal_bytes rows) past c) (Meanwhile rows uncertain r) second each)
+      and_then moment left_since old mid new (Meanwhile rows uncertain r) (settled old mid first)
+      (weaker moment left_since mid new
+      (λ c. IsShut (journal_bytes rows) c ⊎ IsUnsure (journal_bytes rows) past c)
+      (Meanwhile rows uncertain r) second each)
     where
-      each : (c : List ℕ) → IsShut (journal_bytes rows) c ⊎ IsUnsure (journal_bytes rows) past c → Meanwhile rows uncertain r c
+      each : (c : List ℕ)
+          → IsShut (journal_bytes rows) c ⊎ IsUnsure (journal_bytes rows) past c
+          → Meanwhile rows uncertain r c
       each c (inl shut) = (inr (inl (closed_shut rows c all shut)), inl shut)
       each c (inr unsure) =
-          let stands : IsUnsure (journal_bytes rows) (row_body r ++ 0 ∷ []) c = subst (λ (l : List ℕ). IsUnsure (journal_bytes rows) l c) is unsure in
+          let stands : IsUnsure (journal_bytes rows) (row_body r ++ 0 ∷ []) c =
+          subst (λ (l : List ℕ). IsUnsure (journal_bytes rows) l c) is unsure in
           (inr (closed_unsure rows r c all next stands), inr (r, next, stands))
 
-pub opened_shut : (rows : List Row) (r : Row) (past c : List ℕ) → past ≡ row_body r ++ 0 ∷ [] → Holds c 0 (journal_bytes rows ++ 1 ∷ past) → IsShut (journal_bytes (rows ++ r ∷ [])) c
+pub opened_shut : (rows : List Row) (r : Row) (past c : List ℕ)
+    → past ≡ row_body r ++ 0 ∷ []
+    → Holds c 0 (journal_bytes rows ++ 1 ∷ past)
+    → IsShut (journal_bytes (rows ++ r ∷ [])) c
 opened_shut rows r past c is holds =
-    subst (λ (l : List ℕ). Holds c 0 l) (ap (λ (l : List ℕ). journal_bytes rows ++ 1 ∷ l) is ∙ sym (append_assoc (journal_bytes rows) (1 ∷ row_body r) (0 ∷ [])) ∙ ap (λ (l : List ℕ). l ++ 0 ∷ []) (sym (spelled-push rows r))) holds
+    subst (λ (l : List ℕ). Holds c 0 l) (ap (λ (l : List ℕ). journal_bytes rows ++ 1 ∷ l) is
+    ∙ sym (append_assoc (journal_bytes rows) (1 ∷ row_body r) (0 ∷ []))
+    ∙ ap (λ (l : List ℕ). l ++ 0 ∷ []) (sym (spelled-push rows r))) holds

@@ -37,7 +37,8 @@ pub asked-changed : (g : Glk) (f : WindowInput → WindowInput) (win : ℕ)
     → (may_ask g win ≡ true) ⊎ (is_some w.request ≡ true))
     → AreAsked g → AreAsked (record g { requests = request.window_input_changed f g.requests win })
 asked-changed g f win same may v = record {
-  listed = λ m. has-found request.input_window_number (request.window_input_changed f g.requests win) m
+  listed =
+      λ m. has-found request.input_window_number (request.window_input_changed f g.requests win) m
       ∙ ap is_some (found-changed request.input_window_number f same g.requests win m)
       ∙ some-there (m == win) (found request.input_window_number g.requests m)
       ∙ sym (has-found request.input_window_number g.requests m) ∙ v.listed m;
@@ -53,11 +54,13 @@ asked-changed g f win same may v = record {
     some-there true (Some w) = refl
     some-there false o = refl
 
-    asker-was : (m : ℕ) (o : Option WindowInput) → found request.input_window_number g.requests m ≡ o
+    asker-was : (m : ℕ) (o : Option WindowInput)
+        → found request.input_window_number g.requests m ≡ o
         → is_some (request_in o) ≡ true → may_ask g m ≡ true
     asker-was m o e i = v.askers m (ap is_some (request-found g.requests m ∙ ap request_in e) ∙ i)
 
-    asker-new : (m : ℕ) (o : Option WindowInput) → found request.input_window_number g.requests m ≡ o → m
+    asker-new : (m : ℕ) (o : Option WindowInput)
+        → found request.input_window_number g.requests m ≡ o → m
         ≡ win → is_some (request_in (option_map f o)) ≡ true → may_ask g m ≡ true
     asker-new m None e z i = absurd cc
     asker-new m (Some w) e z i = elim (may w i) [
@@ -74,7 +77,9 @@ asked-changed g f win same may v = record {
         (λ b. is_some (request_in (if b then option_map f o else o))) h) ∙ i)
 
 -- the entry of a live window is there
-pub with-live : (g : Glk) (win : ℕ) → AreAsked g → has request.input_window_number g.requests win ≡ true
+pub with-live : (g : Glk) (win : ℕ)
+    → AreAsked g
+    → has request.input_window_number g.requests win ≡ true
     → request.with_window g.requests win ≡ g.requests
 with-live g win v e = rw e refl
 
@@ -201,7 +206,8 @@ asked-more w rs a l none v =
       listed = λ m. has-put rs (request.count_below rs a) (request.window_without_request a) m
           ∙ ap (λ b. a == m || b) (v.listed m) ∙ some-more m (cases_Bool (m == a));
       askers = λ m i. asker-more m (cases_Bool (m == a))
-          (ap is_some (sym (asked-put rs (request.count_below rs a) (request.window_without_request a) m refl free))
+          (ap is_some (sym
+          (asked-put rs (request.count_below rs a) (request.window_without_request a) m refl free))
           ∙ i);
     })
   where

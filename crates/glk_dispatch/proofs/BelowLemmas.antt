@@ -10,8 +10,9 @@ use Rattle.glk_windows.specs.declared.window.Content.{Content}
 use Rattle.glk_windows.specs.declared.window.Content.TheVariants.{Pair, Blank, Buffer, Grid}
 use Rattle.glk_windows.specs.Reading as reading
 use Rattle.glk_windows.specs.Valid.{Ascends, IsOrdered}
-use Rattle.glk_windows.specs.OneTree.{Shape, Leaf, Fork, IsTree, top, times_reached, pair_without_key, below, pair_above}
-use Rattle.glk_windows.specs.OneTree.{node_of, SpellsTree, tree_size}
+use Rattle.glk_windows.specs.OneTree.{Shape, Leaf, Fork, IsTree, top}
+use Rattle.glk_windows.specs.OneTree.{times_reached, pair_without_key, below}
+use Rattle.glk_windows.specs.OneTree.{pair_above, node_of, SpellsTree, tree_size}
 use Rattle.glk_windows.specs.declared.window.Pair as p
 use Rattle.glk_windows.specs.declared.window.Window.{Window}
 use Rattle.glk_windows.proofs.CutLemmas.{both_nodes, node_closed, node_lower, node_pair}
@@ -70,7 +71,8 @@ children-bare (Some r) q e =
     let i : pair_without_key r ≡ q = cc in
     ap (λ (x : p.Pair). (x.first, x.second)) i
 
-both_children : (o : Option p.Pair) (depth : ℕ) (h : Glk) (q : p.Pair) → option_map pair_without_key o ≡ Some q
+both_children : (o : Option p.Pair) (depth : ℕ) (h : Glk) (q : p.Pair)
+    → option_map pair_without_key o ≡ Some q
     → (q.first == 0) ≡ false
     → rows.both_dropped (rows.all_dropped depth) h (reading.children_in o)
     ≡ rows.all_dropped depth (rows.all_dropped depth h q.first) q.second
@@ -105,7 +107,8 @@ one-less ws g z n x o e v = record {
 
 pub removed-left : (d : ℕ) (s : Shape) (ws : List Window) (g : Glk) (up z : ℕ) → tree_size s ≤ d
     → Ascends 1 ws z → SpellsTree ws up s
-    → ((m : ℕ) → times_reached s m ≤ 1) → ((m : ℕ) → 0 < times_reached s m → node_of g.windows.slots m
+    → ((m : ℕ) → times_reached s m ≤ 1)
+    → ((m : ℕ) → 0 < times_reached s m → node_of g.windows.slots m
     ≡ node_of ws m)
     → AreLeft ws g → AreLeft (removed d ws (top s)) (rows.all_dropped d g (top s))
 unfolding removed rows.all_dropped
@@ -129,7 +132,8 @@ removed-left (suc d) (Fork n q x y) ws g up z h o t c same v =
     let s1 : (k : ℕ) → 0 < times_reached x k → node_of w1 k ≡ node_of ws k = λ k l. n1 k
     ∙ (let ck : _ = c k in grind (arith, common_steps)) in
     let t1 : SpellsTree w1 n x = spells_on ws w1 x n s1 t.3 in
-    let n2 : (k : ℕ) → node_of w2 k ≡ (if nat_lt 0 (times_reached x k) then None else node_of w1 k) =
+    let n2 : (k : ℕ)
+    → node_of w2 k ≡ (if nat_lt 0 (times_reached x k) then None else node_of w1 k) =
     λ k. node_removed d x w1 n 1 z (omega (arith, h)) o1 t1 (λ j. omega (arith, c j)) k in
     let s2 : (k : ℕ) → 0 < times_reached y k → node_of w2 k ≡ node_of ws k = λ k l. n2 k
     ∙ (let ck : _ = c k in let nk : _ = n1 k in grind (arith, common_steps)) in
@@ -167,8 +171,10 @@ kind-swapped (Grid g) old new = refl
 raised-links : (ws : List Window) (pair sibling above m : ℕ)
     → links_in (raised ws pair sibling above) m ≡ links_in (windows_without ws pair) m
 raised-links ws pair sibling above m =
-    part-changed tree.window_number window_link (λ w. record w { parent = above }) (λ w. refl) (λ w. refl)
-    (tree.set_at (λ w. record w { content = tree.swapped w.content pair sibling }) (windows_without ws pair)
+    part-changed tree.window_number window_link (λ w. record w { parent = above })
+    (λ w. refl) (λ w. refl)
+    (tree.set_at (λ w. record w { content = tree.swapped w.content pair sibling })
+    (windows_without ws pair)
     above) sibling m
     ∙ part-changed tree.window_number window_link (λ w. record w
     { content = tree.swapped w.content pair sibling }) (λ w. refl)
@@ -182,11 +188,14 @@ raised-left ws g z pair sibling above x o e v =
     let less = one-less ws g z pair x o e v in
     record {
       order = less.order;
-      linked = linked-same (links_in (windows_without ws pair)) (ends_in (rows.window_dropped g pair).streams)
+      linked =
+          linked-same (links_in (windows_without ws pair))
+          (ends_in (rows.window_dropped g pair).streams)
           (links_in (raised ws pair sibling above)) (ends_in (rows.window_dropped g pair).streams)
           (record { windows = raised-links ws pair sibling above; streams = λ m. refl })
           less.linked;
-      asked = asked-same (links_in (windows_without ws pair)) (links_in (raised ws pair sibling above))
+      asked =
+          asked-same (links_in (windows_without ws pair)) (links_in (raised ws pair sibling above))
           (rows.window_dropped g pair).requests (raised-links ws pair sibling above) less.asked;
     }
 
@@ -219,7 +228,8 @@ closed-left g s n x o h live hn v =
     let dd : (m : ℕ) → times_reached s m ≤ 1 = λ m. once_le _ _ (h.2 m) in
     let sb : (top sub ≡ n) × SpellsTree ws pair sub = spells_below ws n s 0 h.1 c0 in
     let sz : tree_size s ≡ d = size_length 1 ws g.windows.next 0 s o h.1 h.2 in
-    let n2 : (m : ℕ) → node_of w2 m ≡ (if nat_lt 0 (times_reached sub m) then None else node_of ws m) =
+    let n2 : (m : ℕ)
+    → node_of w2 m ≡ (if nat_lt 0 (times_reached sub m) then None else node_of ws m) =
     λ m. ap (λ j. node_of (removed d ws j) m) (sym sb.0)
     ∙ node_removed d sub ws pair 1 g.windows.next (omega (arith, size_below n s, sz)) o sb.1
     (λ k. omega (arith, count_below n s k, dd k)) m in

@@ -17,8 +17,8 @@ use Rattle.glk_streams.specs.Opening as sopen
 use Rattle.glk_streams.specs.declared.stream.Stream.{Stream}
 use Rattle.glk_streams.specs.declared.stream.Target as target
 use Rattle.glk_streams.specs.declared.stream.Target.TheVariants as to
-use Rattle.glk_dispatch.specs.Links.{AreLinked, Ends, Link, Links, stream_end, window_link, owner, owner_in}
-use Rattle.glk_dispatch.specs.Links.{live_stream}
+use Rattle.glk_dispatch.specs.Links.{AreLinked, Ends, Link, Links, stream_end}
+use Rattle.glk_dispatch.specs.Links.{window_link, owner, owner_in, live_stream}
 use Rattle.glk_dispatch.proofs.FoundLemmas.{found-low, found-map, found-without}
 use Rattle.glk_dispatch.proofs.LinkLemmas.{linked-closed, unechoed}
 
@@ -29,7 +29,8 @@ links_in ws m = option_map window_link (tree.window_at ws m)
 abbrev pub ends_in : streams.StreamTable → Ends
 ends_in t m = option_map stream_end (streams.stream_at t m)
 
-pub to-ascends : (ws : List Window) (a z : ℕ) → Ascends (a + 1) ws z → ascends tree.window_number a z ws
+pub to-ascends : (ws : List Window) (a z : ℕ)
+    → Ascends (a + 1) ws z → ascends tree.window_number a z ws
     ≡ true
 unfolding ascends
 to-ascends [] a z o = refl
@@ -74,12 +75,14 @@ owned (s ∷ ss) low high n k a e = elim (cases_Bool (streams.is_of_window n s.t
       let not_here : (s.number == k) ≡ false = elim (cases_Bool (s.number == k)) [
         | inl x ↦
             let c = of-owner s.target n (sym (ap (λ b. owner
-            (option_map stream_end (if b then Some s else found streams.stream_number ss k))) x) ∙ e) in
+            (option_map stream_end (if b then Some s else found streams.stream_number ss k))) x)
+            ∙ e) in
             absurd (true-false (streams.is_of_window n s.target) c h)
         | inr x ↦ x
       ] in
       let rest = owned ss s.number high n k order (sym
-      (ap (λ b. owner (option_map stream_end (if b then Some s else found streams.stream_number ss k)))
+      (ap
+      (λ b. owner (option_map stream_end (if b then Some s else found streams.stream_number ss k)))
       not_here) ∙ e) in
       let later : (s.number == streams.stream_of_window ss n)
       ≡ false = elim (cases_Bool (s.number == streams.stream_of_window ss n)) [
@@ -184,7 +187,8 @@ linked-less ws t z n k o a live v =
       streams = λ m.
           ap (λ j. option_map stream_end (found streams.stream_number
           (without streams.stream_number t.streams j) m)) first_is
-          ∙ ap (option_map stream_end) (found-without streams.stream_number t.streams 0 t.next k m a)
+          ∙ ap (option_map stream_end)
+          (found-without streams.stream_number t.streams 0 t.next k m a)
           ∙ end-closed (m == k) (streams.stream_at t m);
       together = λ m win e. both-or-none (m == k) (win == n)
           (λ x. number-same win n (some-same win n (sym e

@@ -44,7 +44,8 @@ none-owned (s ∷ ss) low high n a h = elim (cases_Bool (streams.is_of_window n 
   | inl e ↦
       let here : (s.number == s.number) ≡ true = grind (arith, common_steps) in
       absurd (h s.number
-      (ap (λ b. owner (option_map stream_end (cond b (Some s) (found streams.stream_number ss s.number))))
+      (ap (λ b.
+      owner (option_map stream_end (cond b (Some s) (found streams.stream_number ss s.number))))
       here ∙ is-of s.target n e))
   | inr e ↦
       let order : ascends streams.stream_number s.number high ss ≡ true =
@@ -55,7 +56,8 @@ none-owned (s ∷ ss) low high n a h = elim (cases_Bool (streams.is_of_window n 
   where
     behind : (k : ℕ) → ascends streams.stream_number s.number high ss ≡ true
         → owner (option_map stream_end (found streams.stream_number ss k)) ≡ Some n
-        → owner (option_map stream_end (cond (s.number == k) (Some s) (found streams.stream_number ss k)))
+        → owner
+        (option_map stream_end (cond (s.number == k) (Some s) (found streams.stream_number ss k)))
         ≡ Some n
     behind k order own = elim (cases_Bool (s.number == k)) [
       | inl x ↦
@@ -65,7 +67,9 @@ none-owned (s ∷ ss) low high n a h = elim (cases_Bool (streams.is_of_window n 
           (found-low streams.stream_number ss s.number high k order le)) ∙ own in
           absurd cc
       | inr x ↦
-          ap (λ b. owner (option_map stream_end (cond b (Some s) (found streams.stream_number ss k)))) x
+          ap
+          (λ b. owner (option_map stream_end (cond b (Some s) (found streams.stream_number ss k))))
+          x
           ∙ own
     ]
 
@@ -92,7 +96,8 @@ none-left us g z o v = record {
     same-ends : (m : ℕ) → ends_in (sopen.closed_window g.streams 0).0 m ≡ ends_in g.streams m
     same-ends m =
         ap (λ j. option_map stream_end
-        (found streams.stream_number (without streams.stream_number g.streams.streams j) m)) no_stream
+        (found streams.stream_number (without streams.stream_number g.streams.streams j) m))
+        no_stream
         ∙ ap (option_map stream_end)
         (found-without streams.stream_number g.streams.streams 0 g.streams.next 0 m v.order)
         ∙ at-zero (m == 0) refl
@@ -145,7 +150,8 @@ root-left g s n o h e v =
     (sibling_lifted (record g.windows { slots = removed d ws n }) (tree.parent_of ws n)
     (tree.pair_of (removed d ws n) (tree.parent_of ws n)) n)
     (rows.closed_dropped g n) (ap (λ j. j == 0) above)
-    (subst (λ j. AreLeft (removed d ws n) (rows.window_dropped (rows.all_dropped d g n) j)) (sym above)
+    (subst (λ j. AreLeft (removed d ws n) (rows.window_dropped (rows.all_dropped d g n) j))
+    (sym above)
     last)
 
 close-left : (g : Glk) (n : ℕ) → IsOrdered g.windows → SomeTree g.windows
@@ -162,7 +168,9 @@ close-left g n o (Some s, h, k) live v =
 
 -- the closed windows, beside what was dropped with them, get their rectangles
 pub closed-ready : (g : Glk) (win : ℕ) → IsReadyGlk g → has_window g win ≡ true
-    → AreValid (rows.window_ended g win) → AreValid (rows.glk_without_window g win) → IsReadyGlk (rows.glk_without_window g win)
+    → AreValid (rows.window_ended g win)
+    → AreValid (rows.glk_without_window g win)
+    → IsReadyGlk (rows.glk_without_window g win)
 closed-ready g win v live ended parts =
     let d = length g.windows.slots in
     let c = rows.closed_dropped g win in

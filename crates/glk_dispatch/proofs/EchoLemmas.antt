@@ -19,8 +19,8 @@ use Rattle.glk_streams.specs.declared.stream.Target.TheVariants as to
 use Rattle.glk_dispatch.specs.Glk.{is_stream, window_of_stream}
 use Rattle.glk_dispatch.specs.Windows as rows
 use Rattle.glk_dispatch.specs.declared.glk.Glk.{Glk}
-use Rattle.glk_dispatch.specs.Links.{Link, AreLinked, window_link, stream_end, links, stream_ends, next_echo, owner}
-use Rattle.glk_dispatch.specs.Links.{owner_in, echo_by, echo_in, live_stream}
+use Rattle.glk_dispatch.specs.Links.{Link, AreLinked, window_link, stream_end, links, stream_ends}
+use Rattle.glk_dispatch.specs.Links.{next_echo, owner, owner_in, echo_by, echo_in, live_stream}
 use Rattle.glk_dispatch.proofs.FoundLemmas.{found-changed, found-low, has-found}
 use Rattle.glk_dispatch.proofs.LinkLemmas.{linked-echoed, echoing, owns}
 use Rattle.glk_dispatch.proofs.LoopLemmas.{AreListed, is_in, passes, passes-none, passes-within}
@@ -40,7 +40,8 @@ no-window (w ∷ ws) a z m o l =
 
 pub window-none : (g : Glk) → wvalid.IsValidTree g.windows → links g 0 ≡ None
 unfolding wvalid.IsOrdered
-window-none g v = ap (option_map window_link) (no-window g.windows.slots 1 g.windows.next 0 v.ordered
+window-none g v =
+    ap (option_map window_link) (no-window g.windows.slots 1 g.windows.next 0 v.ordered
     (omega arith))
 
 -- ---- the walk of the test for a loop
@@ -65,7 +66,8 @@ owner-some (Some s) win e = owner-target s.target win e
     owner-target (to.Memory b l) win e = absurd cc
     owner-target (to.File u n) win e = absurd cc
 
-pub echo-link : (o : Option Window) → tree.read_window 0 (λ w. w.echo) o ≡ echo_in (option_map window_link o)
+pub echo-link : (o : Option Window)
+    → tree.read_window 0 (λ w. w.echo) o ≡ echo_in (option_map window_link o)
 echo-link None = refl
 echo-link (Some w) = refl
 
@@ -174,7 +176,8 @@ module _ (g : Glk) (valid : AreValid g) (v : AreLinked (links g) (stream_ends g)
       → owns win (owner (stream_ends g (walk j (next_echo (links g) (stream_ends g)) n))) ≡ false
   unfolding follows comes
   never-comes n e j =
-      walk-passes follows comes j n (passes-within follows comes (λ n. is_some (owner (stream_ends g n)))
+      walk-passes follows comes j n
+      (passes-within follows comes (λ n. is_some (owner (stream_ends g n)))
       (λ (w : Window). w.echo) g.windows.slots all-listed
       n (suc j) (v.no_loop n) (sym (reaches-passes (length g.windows.slots) n) ∙ e))
 
@@ -187,14 +190,16 @@ echo_set-links g win n m = part-echo g.windows.slots
   where
     split : (b : Bool) (o : Option Window) → option_map window_link
         (if b then option_map (λ (w : Window). record w { echo = n }) o else o)
-        ≡ (if b then option_map (echoing n) (option_map window_link o) else option_map window_link o)
+        ≡ (if b then option_map (echoing n) (option_map window_link o)
+        else option_map window_link o)
     split true None = refl
     split true (Some w) = refl
     split false o = refl
 
     part-echo : (ws : List Window) → option_map window_link
         (found tree.window_number (tree.set_at (λ w. record w { echo = n }) ws win) m)
-        ≡ (if m == win then option_map (echoing n) (option_map window_link (found tree.window_number ws m))
+        ≡ (if m == win
+        then option_map (echoing n) (option_map window_link (found tree.window_number ws m))
         else option_map window_link (found tree.window_number ws m))
     part-echo ws = ap (option_map window_link) (found-changed tree.window_number
         (λ (w : Window). record w { echo = n }) (λ w. refl) ws win m)

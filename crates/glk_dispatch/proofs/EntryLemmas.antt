@@ -12,7 +12,8 @@ use Rattle.glk_windows.specs.Valid as wvalid
 use Rattle.glk_input.specs.Request as request
 use Rattle.glk_input.specs.Valid as ivalid
 use Rattle.glk_dispatch.specs.Fields.{EntriesFollowWindows, StreamsFollowWindows}
-use Rattle.glk_dispatch.specs.Links.{stream_end, stream_ends, window_link, links, owner, owner_in, live_stream}
+use Rattle.glk_dispatch.specs.Links.{stream_end, stream_ends, window_link}
+use Rattle.glk_dispatch.specs.Links.{links, owner, owner_in, live_stream}
 use Rattle.glk_dispatch.proofs.CloseLemmas.{to-ascends}
 use Rattle.glk_dispatch.proofs.FoundLemmas.{found-low, has-found}
 
@@ -109,7 +110,8 @@ streams_follow g s n w v h t k = both_ways (w.stream == s.number) (w.number == n
     let at : w.stream ≡ s.number = grind (arith, nat_tests, e) in
     let one : owner (stream_ends g w.stream) ≡ Some w.number =
     v.linked.streams w.number (window_link w) (ap (option_map window_link) k) in
-    let two : owner (stream_ends g w.stream) ≡ Some n = ap (λ m. owner (stream_ends g m)) at ∙ owned in
+    let two : owner (stream_ends g w.stream) ≡ Some n =
+    ap (λ m. owner (stream_ends g m)) at ∙ owned in
     let same : Some w.number ≡ Some n = sym one ∙ two in
     let is : w.number ≡ n = cc in
     grind (arith, nat_tests, is))

@@ -20,8 +20,8 @@ use Rattle.glk_dispatch.specs.Fields.{is_owned, parts_fit, stream_fits, streams_
 use Rattle.glk_dispatch.specs.Fields.{windows_fit}
 use Rattle.glk_dispatch.specs.Glk.{is_stream, has_window}
 use Rattle.glk_dispatch.specs.Links.{AreLinked, ComesToAnEnd, End, HasNoLoop, Link}
-use Rattle.glk_dispatch.specs.Links.{stream_end, stream_ends, is_plain_stream, window_link, links, next_echo, owner}
-use Rattle.glk_dispatch.specs.Links.{live_stream}
+use Rattle.glk_dispatch.specs.Links.{stream_end, stream_ends, is_plain_stream}
+use Rattle.glk_dispatch.specs.Links.{window_link, links, next_echo, owner, live_stream}
 use Rattle.glk_dispatch.specs.Output.{echo_from}
 use Rattle.glk_dispatch.specs.Valid.{AreAsked, AreValid, IsValidGlk}
 use Rattle.glk_dispatch.specs.declared.glk.Glk.{Glk}
@@ -101,7 +101,8 @@ module _ (g : Glk) (v : AreValid g) where
           let is = number-found streams.stream_number g.streams.streams n s h in
           record {
             steps = length g.windows.slots + 1;
-            over = sym (over-same (echo_from g) (next_echo (links g) (stream_ends g)) (echo-next g v)
+            over =
+                sym (over-same (echo_from g) (next_echo (links g) (stream_ends g)) (echo-next g v)
                 (length g.windows.slots + 1) n)
                 ∙ sym (ap (comes_to_an_end g) is)
                 ∙ (and_parts (is_plain_stream s) (comes_to_an_end g s.number) t.1).1;
@@ -124,7 +125,8 @@ module _ (g : Glk) (v : AreValid g) where
   entry-fit e n w h = all-found request.input_window_number (entry_fits g) g.requests n w e h
 
   has-window : windows_fit g ≡ true → (n : ℕ) (w : Window)
-      → tree.window_at g.windows.slots n ≡ Some w → has request.input_window_number g.requests n ≡ true
+      → tree.window_at g.windows.slots n ≡ Some w
+      → has request.input_window_number g.requests n ≡ true
   has-window e n w h =
       let t = and_parts (is_owned g w.number w.stream)
       ((w.echo == 0 || is_stream g w.echo) && has request.input_window_number g.requests w.number)
@@ -156,7 +158,8 @@ module _ (g : Glk) (v : AreValid g) where
       live o h = has-found tree.window_number g.windows.slots n ∙ ap is_some h
 
       by-both : (o : Option WindowInput) (w : Option Window)
-          → found request.input_window_number g.requests n ≡ o → tree.window_at g.windows.slots n ≡ w
+          → found request.input_window_number g.requests n ≡ o
+          → tree.window_at g.windows.slots n ≡ w
           → has request.input_window_number g.requests n ≡ has_window g n
       by-both None None h k = entry None h ∙ sym (live None k)
       by-both (Some x) w h k = entry (Some x) h ∙ sym (has-entry f n x h)
@@ -212,12 +215,14 @@ module _ (g : Glk) (v : AreValid g) (k : AreLinked (links g) (stream_ends g)) (a
       ((w.echo == 0 || is_stream g w.echo) && has request.input_window_number g.requests w.number)
       (owner-owned (streams.stream_at g.streams w.stream) w.number
       (k.streams w.number (window_link w) (link-of w h)))
-      (both (w.echo == 0 || is_stream g w.echo) (has request.input_window_number g.requests w.number)
+      (both (w.echo == 0 || is_stream g w.echo)
+      (has request.input_window_number g.requests w.number)
       (echo-fits w h) (a.listed w.number ∙ live))
 
   -- where an echo goes on, a window has it
   goes-on : (n : ℕ) → next_echo (links g) (stream_ends g) n ≢ 0
-      → is_in (λ (w : Window). w.echo == next_echo (links g) (stream_ends g) n) g.windows.slots ≡ true
+      → is_in (λ (w : Window). w.echo == next_echo (links g) (stream_ends g) n) g.windows.slots
+      ≡ true
   unfolding follows comes
   goes-on n h =
       let all = all-listed g v k 0 in
@@ -230,7 +235,8 @@ module _ (g : Glk) (v : AreValid g) (k : AreLinked (links g) (stream_ends g)) (a
   ends-fit n =
       over-same (echo_from g) (next_echo (links g) (stream_ends g)) (echo-next g v)
       (length g.windows.slots + 1) n
-      ∙ rw add-one (over-within (next_echo (links g) (stream_ends g)) (λ (w : Window). w.echo) g.windows.slots
+      ∙ rw add-one
+      (over-within (next_echo (links g) (stream_ends g)) (λ (w : Window). w.echo) g.windows.slots
       goes-on (k.no_loop n).steps n (k.no_loop n).over)
 
   stream-fits : (s : Stream) → streams.stream_at g.streams s.number ≡ Some s
@@ -269,7 +275,8 @@ module _ (g : Glk) (v : AreValid g) (k : AreLinked (links g) (stream_ends g)) (a
       (both (streams_fit g) (entries_fit g)
       (found-all streams.stream_number (stream_fits g) g.streams.streams 0 g.streams.next
       (streams-ascend g v) stream-fits)
-      (found-all request.input_window_number (entry_fits g) g.requests 0 4294967295 entries.0 entry-fits))
+      (found-all request.input_window_number
+      (entry_fits g) g.requests 0 4294967295 entries.0 entry-fits))
 
 -- ---- a state whose parts are valid, fit and have their rectangles is valid
 

@@ -21,15 +21,17 @@ use Rattle.glk_windows.specs.declared.window.Content.TheVariants as wc
 use Rattle.glk_streams.specs.FileRefs as refs
 use Rattle.glk_input.specs.declared.input.Input.{Input}
 use Rattle.glk_input.specs.declared.request.WindowInput.{WindowInput}
-use Rattle.glk_dispatch.specs.Answer.{AnswersOverGlk, GlkCall, DoesCall, LeavesGlkAndMemory as LeavesPut, Reached, CallRule}
-use Rattle.glk_dispatch.specs.Answer.{UnlessNoMemory, glk_call, within}
+use Rattle.glk_dispatch.specs.Answer.{AnswersOverGlk, GlkCall, DoesCall}
+use Rattle.glk_dispatch.specs.Answer.{LeavesGlkAndMemory as LeavesPut, Reached}
+use Rattle.glk_dispatch.specs.Answer.{CallRule, UnlessNoMemory, glk_call, within}
 use Rattle.glk_dispatch.specs.Arguments.{call_arguments}
 use Rattle.glk_dispatch.specs.Call.{selector_called, called_with, call_work}
 use Rattle.glk_dispatch.specs.Case as cases
 use Rattle.glk_dispatch.specs.Events as events
 use Rattle.glk_dispatch.specs.FileRefs.{prompted}
 use Rattle.glk_dispatch.specs.Gestalt as base
-use Rattle.glk_dispatch.specs.Glk.{character_charged, empty_screen, is_stream, has_window, turn_begun}
+use Rattle.glk_dispatch.specs.Glk.{character_charged, empty_screen}
+use Rattle.glk_dispatch.specs.Glk.{is_stream, has_window, turn_begun}
 use Rattle.glk_dispatch.specs.Keeping.{KeepsFrames, KeepsStory}
 use Rattle.glk_dispatch.specs.Laws as law
 use Rattle.glk_dispatch.specs.Laws.{Reaches}
@@ -103,7 +105,8 @@ kept-word s rs k g m at h =
     let v : Valid s (character_charged g) = λ w. charged-valid g (h.keeps.parts w) in
     kept-bind s (λ n. Puts s rs (character_charged g) n) (puts s rs)
     (within g (coded (read 4 m at)) >>=
-    (λ x. within (character_charged g) (coded (written 4 m at (cases.in_case k x))))) (λ n. Ok (character_charged g, n))
+    (λ x. within (character_charged g) (coded (written 4 m at (cases.in_case k x)))))
+    (λ n. Ok (character_charged g, n))
     (kept-read s (λ n. Puts s rs (character_charged g) n) g (coded (read 4 m at))
     (λ x. within (character_charged g) (coded (written 4 m at (cases.in_case k x)))) h.keeps.parts
     (λ x. kept-last s rs (character_charged g) (coded (written 4 m at (cases.in_case k x)))
@@ -225,8 +228,13 @@ new-ready cols rows = record {
       windows = λ n win e. absurd cc;
       plain = λ n e f. absurd cc;
       echoes = λ win l e z. absurd cc;
-      no_loop = λ n. end-go (next_echo (links (empty_screen cols rows)) (stream_ends (empty_screen cols rows))) n 0 refl
-          (end-stop (next_echo (links (empty_screen cols rows)) (stream_ends (empty_screen cols rows))) 0 refl);
+      no_loop =
+          λ n. end-go
+          (next_echo (links (empty_screen cols rows)) (stream_ends (empty_screen cols rows)))
+          n 0 refl
+          (end-stop
+          (next_echo (links (empty_screen cols rows)) (stream_ends (empty_screen cols rows)))
+          0 refl);
     };
     asked = record { listed = λ win. refl; askers = λ win e. absurd cc };
     areas = record {
@@ -279,7 +287,8 @@ calls_keep_valid = record {
   new = new-ready;
   begun = begun-valid;
   called = λ s selector given v.
-      reaches s (row s) (λ p. IsValidWaiting p.1 p.0.glk) (selector_called s selector given) v (λ p k. k.parts v)
+      reaches s (row s) (λ p. IsValidWaiting p.1 p.0.glk) (selector_called s selector given) v
+      (λ p k. k.parts v)
       (kept-called_with (call_of selector) s given);
   answered = λ s i v. let w = rested-valid s.glk v in
       reaches (at_rest s) (on (at_rest s)) (λ p. IsReadyGlk p.0.glk) (events.input_answered s i) w
@@ -380,7 +389,8 @@ event_keeps s i g m t r does = does-keeps (at_rest s) (events.event_answered s i
 
 pub event_readies : (s : GlkCall) (i : Input) (g : Glk) (m : MemoryMap) (t : StackState)
     (r : Result ℕ Trap)
-    → DoesCall (events.event_answered s i) g m t r → UnlessNoMemory r (IsValidGlk s.glk → IsReadyGlk g)
+    → DoesCall (events.event_answered s i) g m t r
+    → UnlessNoMemory r (IsValidGlk s.glk → IsReadyGlk g)
 event_readies s i g m t r does = under (IsValidGlk s.glk) (IsReadyGlk g) r (λ v.
     does-ready (at_rest s) (events.event_answered s i) g m t r (rested-valid s.glk v)
     (kept-event_answered s i) does)
@@ -432,7 +442,9 @@ got_readies g h m stream r does = under (IsReadyGlk g) (IsReadyGlk h) r (λ v.
     call_on : GlkCall
     call_on = glk_call g m (record { bytes = []; frame = 0; limit = 0 })
 
-    by-result : IsReadyGlk g → (r : Result (Option ℕ) Trap) → AnswersOverGlk (rows.got_code g m stream) h r
+    by-result : IsReadyGlk g
+        → (r : Result (Option ℕ) Trap)
+        → AnswersOverGlk (rows.got_code g m stream) h r
         → Kept call_on (beside call_on) (rows.got_code g m stream) → UnlessNoMemory r (IsReadyGlk h)
     by-result v (Ok x) e k =
         subst (λ (y : Reached (Glk × Option ℕ)). Kept call_on (beside call_on) y) e k v

@@ -50,7 +50,8 @@ same-number m n e = grind (arith, nat_tests)
 -- a live window has a number from 1 on that is below the next one
 range-case : (t : Bool) (w : Win) (ws : List Win) (a z n : ℕ) → (w.number == n) ≡ t
     → (a ≤ w.number) × (w.number < z)
-    → (t || has window_number ws n) ≡ true → (has window_number ws n ≡ true → (w.number + 1 ≤ n) × (n < z))
+    → (t || has window_number ws n) ≡ true
+    → (has window_number ws n ≡ true → (w.number + 1 ≤ n) × (n < z))
     → (a ≤ n) × (n < z)
 range-case true w ws a z n e o h k =
     let x : w.number ≡ n = same-number w.number n e in
@@ -120,7 +121,8 @@ words-length (suc n) m at words xs e =
     (λ x h. words-length n m ((at + 4) % 2 ^ 32) (words ++ x ∷ []) xs h)
 
 -- so it is for each list that is read
-ok-words : (n : ℕ) (m : MemoryMap) (at : ℕ) (r : Result (List ℕ) ℕ) → events.array_words n m at [] ≡ r
+ok-words : (n : ℕ) (m : MemoryMap) (at : ℕ) (r : Result (List ℕ) ℕ)
+    → events.array_words n m at [] ≡ r
     → IfOk r (λ xs. length xs ≡ n)
 ok-words n m at (Ok xs) e = let h : length xs ≡ 0 + n = words-length n m at [] xs e in
     omega (arith, h)
@@ -217,7 +219,9 @@ asked-live : (g : Glk) (f : WindowInput → WindowInput) (win : ℕ) → has_win
     → ((w : WindowInput) → is_some (f w).request ≡ true
     → (events.may_ask g win ≡ true) ⊎ (is_some w.request ≡ true))
     → AreAsked g
-    → AreAsked (record g { requests = request.window_input_changed f (request.with_window g.requests win) win })
+    → AreAsked (record g {
+      requests = request.window_input_changed f (request.with_window g.requests win) win;
+    })
 asked-live g f win live same may v =
     rw (with-live g win v (v.listed win ∙ live)) (asked-changed g f win same may v)
 

@@ -34,7 +34,8 @@ use Rattle.glk_input.specs.Valid as requests
 use Rattle.glk_input.specs.declared.request.WindowInput.{WindowInput}
 use Rattle.glk_input.proofs.ValidLemmas.{stays_valid}
 use Rattle.glk_dispatch.specs.Answer.{GlkCall, Reached, over_glk_alone, glk_call, needs, within}
-use Rattle.glk_dispatch.specs.Arguments.{call_arguments, argument_popped, arguments_taken, takes_count}
+use Rattle.glk_dispatch.specs.Arguments.{call_arguments, argument_popped}
+use Rattle.glk_dispatch.specs.Arguments.{arguments_taken, takes_count}
 use Rattle.glk_dispatch.specs.Fault.{streams_coded, stacked}
 use Rattle.glk_dispatch.specs.Gestalt.{array_begun}
 use Rattle.glk_dispatch.specs.Glk.{character_charged, wait_set_back}
@@ -208,7 +209,8 @@ with-streams g t v h more = record {
   rests = record { event = v.rests.event; prompt = v.rests.prompt };
 }
 
-pub with-requests : (g : Glk) (r : List WindowInput) → IsReadyGlk g → requests.are_valid_inputs r ≡ true
+pub with-requests : (g : Glk) (r : List WindowInput)
+    → IsReadyGlk g → requests.are_valid_inputs r ≡ true
     → AreAsked (record g { requests = r }) → IsReadyGlk (record g { requests = r })
 with-requests g r v h asked = record {
   valid = record {
@@ -437,7 +439,8 @@ ok-referred_all : (b : GlkCall) (xs : List ℕ) (m : MemoryMap) (s : StackState)
     → IfOk (referred_all m s at xs) (both b)
 ok-referred_all b [] m s at k = k
 ok-referred_all b (x ∷ xs) m s at k =
-    ok-bind (both b) (both b) (word_referred m s at x) (λ p. referred_all p.0 p.1 (next_field at) xs)
+    ok-bind (both b) (both b) (word_referred m s at x)
+    (λ p. referred_all p.0 p.1 (next_field at) xs)
     (ok-referred b m s at x k) (λ p h. ok-referred_all b xs p.0 p.1 (next_field at) h)
 
 story : (b d : GlkCall) → Keeps b d → KeepsStory b.memory b.stack d.memory d.stack

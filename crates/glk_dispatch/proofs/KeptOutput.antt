@@ -95,8 +95,10 @@ put-live : (o : MemoryMap) (t : StreamTable) (n : ℕ) (s : Option Stream) (m : 
 put-live o t n None m code k = tt
 put-live o t n (Some x) m code k =
     put-on o (sout.put_by t.files m x code)
-    (λ done. with_stream (record t { files = done.0 }) n (sout.write_counted (sout.at_position done.2 x)))
-    (put-by-if o (is_write_mode x.mode) (sout.put_in_target x.target x.unicode t.files m x.place code)
+    (λ done.
+    with_stream (record t { files = done.0 }) n (sout.write_counted (sout.at_position done.2 x)))
+    (put-by-if o (is_write_mode x.mode)
+    (sout.put_in_target x.target x.unicode t.files m x.place code)
     (ok-put_in o x.target x.unicode t.files m x.place code k))
 
 -- ---- characters of a call
@@ -104,7 +106,8 @@ put-live o t n (Some x) m code k =
 kept-put : (b : GlkCall) (rs : List WindowInput) (g : Glk) (m : MemoryMap)
     (r : Result (StreamTable × MemoryMap) StreamStop) → Puts b rs g m
     → (AreValid g → of_streams.LeavesBeside r) → LeavesEnds g.streams r → IfOk r (second b.memory)
-    → Kept b (puts b rs) (within g (streams_coded r) >>= (λ p. Ok (record g { streams = p.0 }, p.1)))
+    → Kept b (puts b rs)
+    (within g (streams_coded r) >>= (λ p. Ok (record g { streams = p.0 }, p.1)))
 kept-put b rs g m (Ok p) k l same h = record {
   keeps = record {
     parts = λ v. let w = k.keeps.parts v in
@@ -130,7 +133,9 @@ put-placement code style Blank = (refl, refl)
 put-placement code style (Buffer b) = (refl, refl)
 put-placement code style (Grid g) = (refl, refl)
 
-shown-valid : (g : Glk) (win style code : ℕ) → IsReadyGlk g → IsReadyGlk (out.character_shown g win style code)
+shown-valid : (g : Glk) (win style code : ℕ)
+    → IsReadyGlk g
+    → IsReadyGlk (out.character_shown g win style code)
 shown-valid g win style code v =
     ready-alike g (out.character_shown g win style code)
     (record { windows = put-links g.windows win code style; streams = λ m. refl }) refl refl refl
@@ -195,7 +200,8 @@ kept-put_array b rs zero u g m n at k = k
 kept-put_array b rs (suc count) u g m n at k =
     kept-bind b (puts b rs) (puts b rs) (out.put_item u g m n at)
     (λ p. out.put_array count u p.0 p.1 n ((at + width u) % 2 ^ 32))
-    (kept-read b (puts b rs) g (out.array_code_at u m at) (λ code. out.put_code g m n code) k.keeps.parts
+    (kept-read b (puts b rs) g (out.array_code_at u m at)
+    (λ code. out.put_code g m n code) k.keeps.parts
     (λ code. kept-put_code b rs g m n code k))
     (λ p h. kept-put_array b rs count u p.0 p.1 n ((at + width u) % 2 ^ 32) h)
 

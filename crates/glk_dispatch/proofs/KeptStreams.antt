@@ -25,7 +25,8 @@ use Rattle.glk_streams.specs.declared.stream.Target as target
 use Rattle.glk_streams.specs.declared.stream.Target.TheVariants as to
 use Rattle.glk_dispatch.specs.Answer.{GlkCall, Reached, glk_call, within}
 use Rattle.glk_dispatch.specs.FileRefs as names
-use Rattle.glk_dispatch.specs.Glk.{character_charged, is_ref, is_stream, ref_rock, wait_set_back, stream_rock}
+use Rattle.glk_dispatch.specs.Glk.{character_charged, is_ref, is_stream}
+use Rattle.glk_dispatch.specs.Glk.{ref_rock, wait_set_back, stream_rock}
 use Rattle.glk_dispatch.specs.Links.{stream_end, stream_ends, owner, owner_in}
 use Rattle.glk_dispatch.specs.Valid.{AreValid, IsReadyGlk}
 use Rattle.glk_dispatch.specs.Output.{code_written, text_start}
@@ -55,7 +56,8 @@ kept-gets s r h = kept-bind s (between s) (row s) r
     (λ p k. answers s (record s { glk = p.0; memory = p.1 }) p.2 k)
 
 -- a stream of no window less, to which no window echoes any more
-stream_closed-ready : (g : Glk) (n : ℕ) → of_streams.AreValidStreams (opening.stream_dropped g.streams n)
+stream_closed-ready : (g : Glk) (n : ℕ)
+    → of_streams.AreValidStreams (opening.stream_dropped g.streams n)
     → owner (stream_ends g n) ≡ None → IsReadyGlk g → IsReadyGlk (stream_closed g n)
 stream_closed-ready g n parts alone v = record {
   valid = record {
@@ -90,7 +92,8 @@ kept-closed s n =
     close-as : (x : Stream) (b : Bool) → table.stream_at g.streams n ≡ Some x
         → table.is_window_target x.target ≡ b
         → (AreValid g
-        → of_streams.LeavesBeside (cond b (Err BadArgument) (Ok (opening.stream_taken g.streams n))))
+        → of_streams.LeavesBeside
+        (cond b (Err BadArgument) (Ok (opening.stream_taken g.streams n))))
         → Kept s (beside s)
         (rows.streams_changed g (cond b (Err BadArgument) (Ok (opening.stream_taken g.streams n)))
         >>= (λ p. Ok (record p.0 { windows = closing.echo_ended g.windows n }, p.1)))
@@ -101,10 +104,12 @@ kept-closed s n =
 
     close-live : (o : Option Stream) → table.stream_at g.streams n ≡ o
         → (AreValid g → of_streams.LeavesBeside (answer.live o
-        (λ x. cond (table.is_window_target x.target) (Err BadArgument) (Ok (opening.stream_taken g.streams n)))))
+        (λ x. cond (table.is_window_target x.target) (Err BadArgument)
+        (Ok (opening.stream_taken g.streams n)))))
         → Kept s (beside s)
         (rows.streams_changed g (answer.live o
-        (λ x. cond (table.is_window_target x.target) (Err BadArgument) (Ok (opening.stream_taken g.streams n))))
+        (λ x. cond (table.is_window_target x.target) (Err BadArgument)
+        (Ok (opening.stream_taken g.streams n))))
         >>= (λ p. Ok (record p.0 { windows = closing.echo_ended g.windows n }, p.1)))
     close-live None e h = λ v. v
     close-live (Some x) e h = close-as x (table.is_window_target x.target) e refl h
@@ -125,7 +130,8 @@ counted-valid (Some c) g v = charged-valid g v
 pub kept-got_code : (b : GlkCall) (g : Glk) (m : MemoryMap) (n : ℕ) → Valid b g
     → Kept b (beside b) (rows.got_code g m n)
 kept-got_code b g m n k =
-    kept-bind b (beside b) (beside b) (rows.char_got g m n) (λ p. Ok (rows.read_counted p.1 p.0, p.1))
+    kept-bind b (beside b) (beside b) (rows.char_got g m n)
+    (λ p. Ok (rows.read_counted p.1 p.0, p.1))
     (kept-made b g (input.got g.streams m n) k (λ v. (laws.streams g.streams v.streams).read m n)
     (λ v. got-more g.streams m n))
     (λ p h v. counted-valid p.1 p.0 (h v))
@@ -191,7 +197,8 @@ kept-line_read s u n buf len =
     (λ e. kept-if s (between s) (len == 0) _ _ (λ f. self s)
     (λ f. kept-bind s (between s) (between s)
     (rows.got_array (len - 1) true u s.glk s.memory n buf 0)
-    (λ p. within p.0 (code_written u p.1 (rows.address_behind u buf p.2) 0) >>= (λ k. Ok (p.0, k, p.2)))
+    (λ p.
+    within p.0 (code_written u p.1 (rows.address_behind u buf p.2) 0) >>= (λ k. Ok (p.0, k, p.2)))
     (kept-got_array s (len - 1) true u s.glk s.memory n buf 0 (self s))
     (λ p k. kept-step s (KeepsMap s.memory) (between s) p.0
     (code_written u p.1 (rows.address_behind u buf p.2) 0) (λ j. Ok (p.0, j, p.2)) k.parts
@@ -209,7 +216,8 @@ pub kept-stream_work : (c : StreamCall) (s : GlkCall) (l : ℕ → ℕ)
 unfolding rows.stream_work
 kept-stream_work str.Iterate s l =
     row-needs s (row s) (l 0 == 0 || is_stream s.glk (l 0)) 21 _
-    (λ e. kept-one s (l 1) (stream_rock s.glk (number_above table.stream_number s.glk.streams.streams (l 0)))
+    (λ e. kept-one s (l 1)
+    (stream_rock s.glk (number_above table.stream_number s.glk.streams.streams (l 0)))
     (number_above table.stream_number s.glk.streams.streams (l 0)))
 kept-stream_work str.GetRock s l = row-needs s (row s) (is_stream s.glk (l 0)) 21 _
     (λ e. answers s s _ (self s))
@@ -325,7 +333,8 @@ kept-fileref_work ref.Destroy s l =
     (λ v. alone-more s.glk.streams (table.ref_at s.glk.streams (l 0)) _ (λ r. refl)))
 kept-fileref_work ref.Iterate s l =
     row-needs s (row s) (l 0 == 0 || is_ref s.glk (l 0)) 21 _
-    (λ e. kept-one s (l 1) (ref_rock s.glk (number_above table.ref_number_of s.glk.streams.refs (l 0)))
+    (λ e.
+    kept-one s (l 1) (ref_rock s.glk (number_above table.ref_number_of s.glk.streams.refs (l 0)))
     (number_above table.ref_number_of s.glk.streams.refs (l 0)))
 kept-fileref_work ref.GetRock s l = row-needs s (row s) (is_ref s.glk (l 0)) 21 _
     (λ e. answers s s _ (self s))

@@ -115,10 +115,15 @@ beside_made-valid g made v w nx hi =
       requests = v.requests;
       next = nx;
     } in
-    first-case (made.1 == 0) (record g { windows = made.0 }, 0)
-    (with_rectangles (rows.window_begun (rows.window_begun (record g { windows = made.0 }) made.1) (made.1 + 1)), made.1) h
-    (λ e. placed-parts (rows.window_begun (rows.window_begun (record g { windows = made.0 }) made.1) (made.1 + 1))
-    (begun-valid (rows.window_begun (record g { windows = made.0 }) made.1) (made.1 + 1) (omega arith) hi
+    first-case (made.1 == 0) (record g { windows = made.0 }, 0) (
+      with_rectangles (rows.window_begun (rows.window_begun (record g { windows = made.0 }) made.1)
+          (made.1 + 1)),
+      made.1,
+    ) h
+    (λ e. placed-parts
+    (rows.window_begun (rows.window_begun (record g { windows = made.0 }) made.1) (made.1 + 1))
+    (begun-valid (rows.window_begun (record g { windows = made.0 }) made.1) (made.1 + 1)
+    (omega arith) hi
     (begun-valid (record g { windows = made.0 }) made.1 (not-none made.1 e) (omega arith) h)))
 
 neither-first : (a b : Bool) → (a || b) ≡ false → a ≡ false
@@ -181,7 +186,9 @@ split-fine t split method size kind rock h e =
 number_of-fine : (p : tree.WindowTree × ℕ) → IsFine 0 p → p.1 < 4294967295
 number_of-fine p h = let k : p.1 + 0 < 4294967295 = h.number in omega arith
 
-opened-first : (g : Glk) (kind rock : ℕ) → AreValid g → AreValid (rows.first_window_opened g kind rock).0
+opened-first : (g : Glk) (kind rock : ℕ)
+    → AreValid g
+    → AreValid (rows.first_window_opened g kind rock).0
 opened-first g kind rock v =
     let made = opening.split g.windows 0 0 0 kind rock in
     let fine = first-fine g.windows kind rock v.next in
@@ -274,7 +281,8 @@ placed-ready g t v windows next same =
     let h = record g { windows = t } in record {
       valid = placed-valid h
           (placed-parts h (parts-windows g t v.valid.parts windows next)) windows
-          (beside-same (links g) (links h) (stream_ends g) (stream_ends h) g.requests same (λ m. refl)
+          (beside-same (links g) (links h) (stream_ends g) (stream_ends h) g.requests same
+          (λ m. refl)
           (beside-of g v.valid));
       rests = record { event = v.rests.event; prompt = v.rests.prompt };
     }
@@ -292,7 +300,8 @@ kind-arranged Blank method size key = refl
 kind-arranged (Buffer b) method size key = refl
 kind-arranged (Grid g) method size key = refl
 
-kind-moved : (c : Content) (x y : ℕ) → reading.kind_in (tree.grid_cursor_moved c x y) ≡ reading.kind_in c
+kind-moved : (c : Content) (x y : ℕ)
+    → reading.kind_in (tree.grid_cursor_moved c x y) ≡ reading.kind_in c
 kind-moved (Pair p) x y = refl
 kind-moved Blank x y = refl
 kind-moved (Buffer b) x y = refl
@@ -327,7 +336,8 @@ content-links : (f : Content → Content)
     → ((c : Content) → reading.kind_in (f c) ≡ reading.kind_in c) → (ws : List Win) (n m : ℕ)
     → links_in (tree.set_at (λ w. record w { content = f w.content }) ws n) m ≡ links_in ws m
 content-links f same ws n m =
-    part-changed tree.window_number window_link (λ w. record w { content = f w.content }) (λ w. refl)
+    part-changed tree.window_number window_link (λ w. record w { content = f w.content })
+    (λ w. refl)
     (λ w. ap (λ k. record { stream = w.stream; echo = w.echo; kind = k }) (same w.content)) ws n m
 
 kept-arranged : (s : GlkCall) (win method size key : ℕ)
@@ -376,7 +386,8 @@ echo_set-ready g win n live loop v = record {
 }
 
 kept-tells : (s : GlkCall) (win value : ℕ) → Kept s (row s) (rows.tells_of_window s win value)
-kept-tells s win value = kept-read s (row s) s.glk (rows.told_of_window s.glk win value) (λ x. gives x s)
+kept-tells s win value =
+    kept-read s (row s) s.glk (rows.told_of_window s.glk win value) (λ x. gives x s)
     (λ v. v) (λ x. answers s s x (self s))
 
 kept-current : (s : GlkCall) (r : Result StreamTable StreamStop)
@@ -399,7 +410,8 @@ kept-window_work to.Iterate s l =
 kept-window_work to.GetRock s l = kept-tells s (l 0) (reading.rock_of (rows.slots s) (l 0))
 kept-window_work to.GetRoot s l = answers s s _ (self s)
 kept-window_work to.Open s l =
-    kept-bind s (on s) (row s) (over_glk_alone s (rows.window_opened s.glk (l 0) (l 1) (l 2) (l 3) (l 4)))
+    kept-bind s (on s) (row s)
+    (over_glk_alone s (rows.window_opened s.glk (l 0) (l 1) (l 2) (l 3) (l 4)))
     (λ p. gives p.1 p.0)
     (kept-alone s (rows.window_opened s.glk (l 0) (l 1) (l 2) (l 3) (l 4))
     (kept-opened s (l 0) (l 1) (l 2) (l 3) (l 4))) (λ p k. answers s p.0 p.1 k)
@@ -448,7 +460,8 @@ kept-window_work to.MoveCursor s l =
     v.valid.parts.next
     (content-links (λ c. tree.grid_cursor_moved c (l 1) (l 2)) (λ c. kind-moved c (l 1) (l 2))
     s.glk.windows.slots (l 0))
-    (content-areas (λ c. tree.grid_cursor_moved c (l 1) (l 2)) (moved-placement (l 1) (l 2)) s.glk.windows
+    (content-areas (λ c. tree.grid_cursor_moved c (l 1) (l 2))
+    (moved-placement (l 1) (l 2)) s.glk.windows
     (l 0) s.glk.cols s.glk.rows v.valid.areas)))))
 kept-window_work to.GetStream s l = kept-tells s (l 0) (tree.stream_of (rows.slots s) (l 0))
 kept-window_work to.SetEchoStream s l =

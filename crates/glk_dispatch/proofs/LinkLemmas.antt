@@ -193,7 +193,9 @@ linked-closed w s v t gone lost h k = record {
       ap (λ n. is_some (t n)) echo_was ∙ ap is_some (h.streams x.1.link.echo)
       ∙ ap (λ b. is_some (if b then None else s x.1.link.echo)) y.0
       ∙ k.echoes win x.1.link x.1.there y.1;
-  no_loop = no_loop-fewer (next_echo w s) (next_echo v t) (λ n. echo-fewer n (lost n) (owner (s n)) refl refl)
+  no_loop =
+      no_loop-fewer (next_echo w s) (next_echo v t)
+      (λ n. echo-fewer n (lost n) (owner (s n)) refl refl)
       k.no_loop;
 }
   where

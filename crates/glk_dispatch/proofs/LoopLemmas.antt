@@ -15,7 +15,9 @@ unfolding echoes_end
 over-stop zero f n e = rw e refl
 over-stop (suc k) f n e = rw e refl
 
-pub over-go : (k : ℕ) (f : ℕ → ℕ) (n : ℕ) → echoes_end k f (f n) ≡ true → echoes_end (suc k) f n ≡ true
+pub over-go : (k : ℕ) (f : ℕ → ℕ) (n : ℕ)
+    → echoes_end k f (f n) ≡ true
+    → echoes_end (suc k) f n ≡ true
 unfolding echoes_end
 over-go k f n e = elim (cases_Bool (n == 0)) [
   | inl h ↦ rw h refl
@@ -45,7 +47,9 @@ end-go f n m e h = record {
 }
 
 -- where each echo is as it was, or is none, no loop begins
-end-fewer : (f g : ℕ → ℕ) → ((n : ℕ) → (g n ≡ f n) ⊎ (g n ≡ 0)) → (k n : ℕ) → echoes_end k f n ≡ true
+end-fewer : (f g : ℕ → ℕ)
+    → ((n : ℕ) → (g n ≡ f n) ⊎ (g n ≡ 0)) → (k n : ℕ)
+    → echoes_end k f n ≡ true
     → ComesToAnEnd g n
 unfolding echoes_end
 end-fewer f g h zero n e = end-stop g n (grind (arith, common_steps, e))
@@ -216,7 +220,9 @@ over-on k f n e not = elim (over-cases k f n e) [
   | inr r ↦ r
 ]
 
-over-before : (k : ℕ) (f : ℕ → ℕ) (n : ℕ) → echoes_end (suc k) f n ≡ false → echoes_end k f (f n) ≡ false
+over-before : (k : ℕ) (f : ℕ → ℕ) (n : ℕ)
+    → echoes_end (suc k) f n ≡ false
+    → echoes_end k f (f n) ≡ false
 unfolding echoes_end
 over-before k f n e = or-rest (n == 0) (echoes_end k f (f n)) e
 
@@ -254,7 +260,9 @@ module _ {X : Type 0} (f : ℕ → ℕ) (hit own : ℕ → Bool) (echo : X
     | inr e ↦ absurd (h e)
   ]
 
-  pub few-step : (k n j : ℕ) → echoes_end (suc k) f n ≡ true → echoes_end k f n ≡ false → passes j f hit n
+  pub few-step : (k n j : ℕ)
+      → echoes_end (suc k) f n ≡ true → echoes_end k f n ≡ false
+      → passes j f hit n
       ≡ true
       → ((i : ℕ) → passes i f hit (f n) ≡ true → echoes_end k f (f n) ≡ true
       → passes (count (λ x. echoes_end k f (echo x)) ws) f hit n ≡ true)
@@ -271,7 +279,9 @@ module _ {X : Type 0} (f : ℕ → ℕ) (hit own : ℕ → Bool) (echo : X
         | inr p ↦ rest i p on
       ]
 
-  pub few : (k n j : ℕ) → echoes_end (suc k) f n ≡ true → echoes_end k f n ≡ false → passes j f hit n
+  pub few : (k n j : ℕ)
+      → echoes_end (suc k) f n ≡ true → echoes_end k f n ≡ false
+      → passes j f hit n
       ≡ true
       → passes (count (λ x. echoes_end k f (echo x)) ws) f hit n ≡ true
   few zero n j o not e = few-step 0 n j o not e (λ i p on. absurd
@@ -320,7 +330,9 @@ over-step (suc k) f n l h =
     let other : (n == 0) ≡ false = grind (arith, common_steps, h) in
     simp unary_clauses (ap (λ b. b || echoes_end k f (f n)) other)
 
-pub over-same : (f g : ℕ → ℕ) → ((n : ℕ) → f n ≡ g n) → (k n : ℕ) → echoes_end k f n ≡ echoes_end k g n
+pub over-same : (f g : ℕ → ℕ)
+    → ((n : ℕ) → f n ≡ g n) → (k n : ℕ)
+    → echoes_end k f n ≡ echoes_end k g n
 unfolding echoes_end
 over-same f g e zero n = refl
 over-same f g e (suc k) n =

@@ -169,14 +169,17 @@ stream-named g win n e =
 
 -- ---- the echoes, as the code follows them
 
-pub echo-next : (g : Glk) → AreValid g → (n : ℕ) → echo_from g n ≡ next_echo (links g) (stream_ends g) n
+pub echo-next : (g : Glk)
+    → AreValid g → (n : ℕ)
+    → echo_from g n ≡ next_echo (links g) (stream_ends g) n
 echo-next g v n = by-owner (owner (stream_ends g n)) refl
   where
     at : ℕ → ℕ
     at x = reading.echo_of g.windows.slots x
 
     by-owner : (o : Option ℕ) → owner (stream_ends g n) ≡ o
-        → reading.echo_of g.windows.slots (window_of_stream g n) ≡ echo_by (links g) (owner (stream_ends g n))
+        → reading.echo_of g.windows.slots (window_of_stream g n)
+        ≡ echo_by (links g) (owner (stream_ends g n))
     by-owner None e =
         ap (reading.echo_of g.windows.slots) ((window-some g None n e).0 refl)
         ∙ echo-link (tree.window_at g.windows.slots 0)

@@ -26,7 +26,8 @@ use Rattle.glk_streams.specs.Opening as sopen
 use Rattle.glk_streams.specs.declared.stream.Stream.{Stream}
 use Rattle.glk_streams.specs.declared.stream.Target.TheVariants as to
 use Rattle.glk_dispatch.specs.Glk.{with_rectangles}
-use Rattle.glk_dispatch.specs.Links.{AreLinked, Ends, Link, Links, stream_end, stream_ends, window_link, links}
+use Rattle.glk_dispatch.specs.Links.{AreLinked, Ends, Link, Links, stream_end}
+use Rattle.glk_dispatch.specs.Links.{stream_ends, window_link, links}
 use Rattle.glk_dispatch.specs.Valid.{AreValid, IsReadyGlk, IsValidGlk}
 use Rattle.glk_dispatch.specs.Windows as rows
 use Rattle.glk_dispatch.specs.declared.glk.Glk.{Glk}
@@ -86,7 +87,9 @@ pub placed-valid : (g : Glk) → AreValid (with_rectangles g) → wvalid.IsValid
     → Beside (links g) (stream_ends g) g.requests → IsValidGlk (with_rectangles g)
 placed-valid g parts windows b =
     let same = placed-alike g in
-    let c = beside-same (links g) (links (with_rectangles g)) (stream_ends g) (stream_ends (with_rectangles g)) g.requests
+    let c =
+    beside-same (links g) (links (with_rectangles g)) (stream_ends g)
+    (stream_ends (with_rectangles g)) g.requests
     same.windows same.streams b in
     record {
       parts = parts;
@@ -251,7 +254,8 @@ made-if false x y e p k = k p
 
 pub first-ready : (g : Glk) (kind rock : ℕ) → IsReadyGlk g
     → wvalid.IsValidTree (opening.split g.windows 0 0 0 kind rock).0
-    → AreValid (rows.first_window_opened g kind rock).0 → IsReadyGlk (rows.first_window_opened g kind rock).0
+    → AreValid (rows.first_window_opened g kind rock).0
+    → IsReadyGlk (rows.first_window_opened g kind rock).0
 first-ready g kind rock v windows parts =
     by-number (nat_lt MAX_NUMBER g.streams.next) refl parts
   where
@@ -265,7 +269,8 @@ first-ready g kind rock v windows parts =
     h = windows_with g (t.slots ++ w ∷ []) (t.next + 1) t.next
 
     begun-ready : nat_lt MAX_NUMBER g.streams.next ≡ false → wvalid.IsValidTree h.windows
-        → AreValid (with_rectangles (rows.window_begun h t.next)) → IsReadyGlk (with_rectangles (rows.window_begun h t.next))
+        → AreValid (with_rectangles (rows.window_begun h t.next))
+        → IsReadyGlk (with_rectangles (rows.window_begun h t.next))
     begun-ready e w_valid p =
         let is : rows.window_begun h t.next ≡ begun_as h t.next = begun-is h t.next e in
         subst (λ x. IsReadyGlk (with_rectangles x)) (sym is) (record {
@@ -306,7 +311,8 @@ changed-front number f (y ∷ ys) x n e =
 joined-links : (ws : List Window) (from pair m : ℕ)
     → links_in (opening.pair_joined ws from pair) m ≡ links_in ws m
 joined-links ws from pair m =
-    part-changed tree.window_number window_link (λ w. record w { parent = pair }) (λ w. refl) (λ w. refl)
+    part-changed tree.window_number window_link (λ w. record w { parent = pair })
+    (λ w. refl) (λ w. refl)
     (tree.set_at (λ w. record w { content = tree.swapped w.content from pair }) ws
     (tree.parent_of ws from)) from m
     ∙ part-changed tree.window_number window_link
@@ -323,7 +329,8 @@ pub beside-beside : (g : Glk) (js : List Window) (w x : Window) (next root : ℕ
     → w.number ≡ g.windows.next → x.number ≡ g.windows.next + 1 → w.echo ≡ 0 → x.echo ≡ 0
     → Beside
     (links (begun_as (begun_as (windows_with g (js ++ w ∷ x ∷ []) next root) w.number) x.number))
-    (stream_ends (begun_as (begun_as (windows_with g (js ++ w ∷ x ∷ []) next root) w.number) x.number))
+    (stream_ends
+    (begun_as (begun_as (windows_with g (js ++ w ∷ x ∷ []) next root) w.number) x.number))
     (with_window (with_window g.requests w.number) x.number)
 beside-beside g js w x next root v same wn xn we xe =
     beside-same second (links h) second_ends (stream_ends h) second_asked second-links second-ends

@@ -31,7 +31,8 @@ use Rattle.glk_dispatch.specs.Events.{may_ask}
 use Rattle.glk_dispatch.specs.Glk.{has_window}
 use Rattle.glk_dispatch.specs.Valid.{AreValid}
 use Rattle.glk_dispatch.specs.declared.glk.Glk.{Glk}
-use Rattle.glk_dispatch.specs.Links.{Link, AreLinked, window_link, stream_end, links, stream_ends, owner}
+use Rattle.glk_dispatch.specs.Links.{Link, AreLinked, window_link}
+use Rattle.glk_dispatch.specs.Links.{stream_end, links, stream_ends, owner}
 use Rattle.glk_dispatch.specs.Valid.{IsValidGlk, AreAsked}
 use Rattle.glk_dispatch.proofs.FoundLemmas.{found-map, found-without, has-found, part-changed}
 use Rattle.glk_dispatch.proofs.FoundLemmas.{part-replaced}
@@ -55,7 +56,8 @@ abbrev pub kind_at : Option Link → ℕ
 kind_at None = 0
 kind_at (Some l) = l.kind
 
-pub kind-link : (g : Glk) (win : ℕ) → reading.window_kind g.windows.slots win ≡ kind_at (links g win)
+pub kind-link : (g : Glk) (win : ℕ)
+    → reading.window_kind g.windows.slots win ≡ kind_at (links g win)
 kind-link g win = kind-in (tree.window_at g.windows.slots win)
   where
     kind-in : (o : Option Window) → tree.read_window 0 (λ w. reading.kind_in w.content) o
@@ -89,7 +91,8 @@ may_ask-kinds g win = ap (λ k. k == 3 || k == 4) (kind-link g win ∙ at-kind (
 pub asked-kinds : (g h : Glk) → ((win : ℕ) → kinds h win ≡ kinds g win) → h.requests ≡ g.requests
     → AreAsked g → AreAsked h
 asked-kinds g h same e v = record {
-  listed = λ win. ap (λ r. has request.input_window_number r win) e ∙ v.listed win ∙ live-kinds g win
+  listed =
+      λ win. ap (λ r. has request.input_window_number r win) e ∙ v.listed win ∙ live-kinds g win
       ∙ ap is_some (sym (same win)) ∙ sym (live-kinds h win);
   askers = λ win i.
       may_ask-kinds h win ∙ ap (λ k. kind_or k == 3 || kind_or k == 4) (same win)
@@ -224,16 +227,20 @@ stream_closed g n = record g {
       g.windows n;
 }
 
-pub closed-linked : (g : Glk) (n : ℕ) → AreValid g → AreLinked (links g) (stream_ends g) → owner (stream_ends g n)
+pub closed-linked : (g : Glk) (n : ℕ)
+    → AreValid g → AreLinked (links g) (stream_ends g)
+    → owner (stream_ends g n)
     ≡ None
     → AreLinked (links (stream_closed g n)) (stream_ends (stream_closed g n))
 closed-linked g n valid v alone =
-    linked-closed (links g) (stream_ends g) (links (stream_closed g n)) (stream_ends (stream_closed g n))
+    linked-closed (links g) (stream_ends g) (links (stream_closed g n))
+    (stream_ends (stream_closed g n))
     (λ m. false) (λ m. m == n) (record {
       windows = λ m. ap (option_map window_link) (found-map tree.window_number (closing.unechoed n)
           (λ w. refl) g.windows.slots m)
           ∙ of-link (tree.window_at g.windows.slots m);
-      streams = λ m. ap (option_map stream_end) (found-without streams.stream_number g.streams.streams 0
+      streams =
+          λ m. ap (option_map stream_end) (found-without streams.stream_number g.streams.streams 0
           g.streams.next n m (streams-ascend g valid))
           ∙ of-end (m == n) (streams.stream_at g.streams m);
       together = λ m win e. other m win e (cases_Bool (m == n));
@@ -249,10 +256,13 @@ closed-linked g n valid v alone =
     of-end true o = refl
     of-end false o = refl
 
-    other : (m win : ℕ) → owner (stream_ends g m) ≡ Some win → ((m == n) ≡ true) ⊎ ((m == n) ≡ false)
+    other : (m win : ℕ)
+        → owner (stream_ends g m) ≡ Some win
+        → ((m == n) ≡ true) ⊎ ((m == n) ≡ false)
         → (m == n) ≡ false
     other m win e (inl h) = (let i : m ≡ n = grind (arith, common_steps, h) in
-        let c : None ≡ Some win = sym (ap (λ k. owner (stream_ends g k)) i ∙ alone) ∙ e in absurd cc)
+        let c : None ≡ Some win = sym (ap (λ k. owner (stream_ends g k)) i ∙ alone) ∙ e in
+        absurd cc)
     other m win e (inr h) = h
 
 pub closed-kinds : (g : Glk) (n m : ℕ) → kinds (stream_closed g n) m ≡ kinds g m

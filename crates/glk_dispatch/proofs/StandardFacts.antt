@@ -23,7 +23,8 @@ numbers = refl
 pub version : glk_gestalt 0 0 ≡ 0x705
 version = refl
 
-pub capabilities : map (λ sel. glk_gestalt sel 0) (8 ∷ 15 ∷ 17 ∷ 18 ∷ 22 ∷ []) ≡ 0 ∷ 1 ∷ 1 ∷ 1 ∷ 0 ∷ []
+pub capabilities : map (λ sel. glk_gestalt sel 0) (8 ∷ 15 ∷ 17 ∷ 18 ∷ 22 ∷ [])
+    ≡ 0 ∷ 1 ∷ 1 ∷ 1 ∷ 0 ∷ []
 capabilities = refl
 
 -- a character is printed as one; so is the newline; a control character and half a pair aren't

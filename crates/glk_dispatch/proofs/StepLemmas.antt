@@ -14,25 +14,28 @@ use Rattle.glk_dispatch.specs.Case.{word_cased, words_cased}
 use Rattle.glk_dispatch.specs.Events.{echo_array, echo_item, array_words}
 use Rattle.glk_dispatch.specs.FileRefs.{name_read}
 use Rattle.glk_dispatch.specs.Glk.{character_charged, style_of_stream}
-use Rattle.glk_dispatch.specs.Output.{array_code_at, echo_from, put_array, put_code, put_item, put_once}
-use Rattle.glk_dispatch.specs.Output.{put_text, spread}
+use Rattle.glk_dispatch.specs.Output.{array_code_at, echo_from, put_array, put_code}
+use Rattle.glk_dispatch.specs.Output.{put_item, put_once, put_text, spread}
 use Rattle.glk_dispatch.specs.Streams.{got_array, got_item, got_on}
 use Rattle.glk_dispatch.specs.declared.case.Case.{Case}
 use Rattle.glk_dispatch.specs.declared.glk.Glk.{Glk}
 
 pub taken-more : (n : ℕ) (s : StackState) (i : ℕ) (args : List ℕ) → 0 < n
-    → arguments_taken n s i args ≡ argument_popped s >>= (λ p. arguments_taken (n - 1) p.0 (i + 1) (slice_set args i p.1))
+    → arguments_taken n s i args
+    ≡ argument_popped s >>= (λ p. arguments_taken (n - 1) p.0 (i + 1) (slice_set args i p.1))
 unfolding arguments_taken
 taken-more zero s i args h = absurd (omega arith)
 taken-more (suc n) s i args h = simp unary_clauses
 
-pub taken-none : (s : StackState) (i : ℕ) (args : List ℕ) → arguments_taken 0 s i args ≡ Ok (s, args)
+pub taken-none : (s : StackState) (i : ℕ) (args : List ℕ)
+    → arguments_taken 0 s i args ≡ Ok (s, args)
 unfolding arguments_taken
 taken-none s i args = refl
 
 pub spread-more : (n : ℕ) (g : Glk) (m : MemoryMap) (s code : ℕ) → 0 < n
     → spread n g m s code ≡ cond (s == 0) (Ok (g, m))
-    (put_once g m s (style_of_stream g s) code >>= (λ p. spread (n - 1) p.0 p.1 (echo_from p.0 s) code))
+    (put_once g m s (style_of_stream g s) code
+    >>= (λ p. spread (n - 1) p.0 p.1 (echo_from p.0 s) code))
 unfolding spread
 spread-more zero g m s code h = absurd (omega arith)
 spread-more (suc n) g m s code h = simp unary_clauses

@@ -23,8 +23,8 @@ use Rattle.glk_streams.specs.declared.fileref.TheConstants.{MAX_REFS}
 use Rattle.glk_streams.specs.declared.stream.Stream.{Stream}
 use Rattle.glk_streams.specs.declared.stream.Target as target
 use Rattle.glk_streams.specs.declared.stream.Target.TheVariants as to
-use Rattle.glk_dispatch.specs.Links.{AreLinked, End, Ends, Links, echo_by, stream_end, stream_ends, links}
-use Rattle.glk_dispatch.specs.Links.{next_echo, owner}
+use Rattle.glk_dispatch.specs.Links.{AreLinked, End, Ends, Links, echo_by}
+use Rattle.glk_dispatch.specs.Links.{stream_end, stream_ends, links, next_echo, owner}
 use Rattle.glk_dispatch.specs.declared.glk.Glk.{Glk}
 use Rattle.glk_dispatch.proofs.CloseLemmas.{ends_in}
 use Rattle.glk_dispatch.proofs.FoundLemmas.{found-added, found-high, part-replaced}
@@ -79,7 +79,8 @@ linked-more w s t h k = record {
       (λ n. inl (ap (echo_by w) (owner-more (s n) (t n) (h n)))) k.no_loop;
 }
 
-pub added-linked : (g : Glk) (t : StreamTable) → More g.streams t → AreLinked (links g) (stream_ends g)
+pub added-linked : (g : Glk) (t : StreamTable)
+    → More g.streams t → AreLinked (links g) (stream_ends g)
     → AreLinked (links g) (ends_in t)
 added-linked g t more v = linked-more (links g) (stream_ends g) (ends_in t) more v
 
@@ -115,7 +116,8 @@ joined-more t u s same number other order m =
 
     at-number : (b : Bool) → (m == s.number) ≡ b
         → option_map stream_end (found streams.stream_number (u.streams ++ s ∷ []) m)
-        ≡ option_map stream_end (cond (m == s.number) (Some s) (found streams.stream_number t.streams m))
+        ≡ option_map stream_end
+        (cond (m == s.number) (Some s) (found streams.stream_number t.streams m))
         → found streams.stream_number t.streams s.number ≡ None
         → IsMore (ends_in t m) (ends_in (opening.stream_added u s) m)
     at-number true e f free =
@@ -123,11 +125,15 @@ joined-more t u s same number other order m =
         inr (
           ap (λ k. option_map stream_end (found streams.stream_number t.streams k)) m_is
               ∙ ap (option_map stream_end) free,
-          f ∙ ap (λ b. option_map stream_end (cond b (Some s) (found streams.stream_number t.streams m))) e
+          f
+              ∙ ap (λ b.
+              option_map stream_end (cond b (Some s) (found streams.stream_number t.streams m))) e
               ∙ ap Some (new-end s other),
         )
     at-number false e f free =
-        inl (f ∙ ap (λ b. option_map stream_end (cond b (Some s) (found streams.stream_number t.streams m)))
+        inl (f
+        ∙ ap
+        (λ b. option_map stream_end (cond b (Some s) (found streams.stream_number t.streams m)))
         e)
 
 same-table : (t u : StreamTable) → u.streams ≡ t.streams → More t u
@@ -159,7 +165,8 @@ file-more t fref mode rock u order = of-ref (streams.ref_at t fref)
 
     by-mode : (r : FileRef) (b : Bool)
         → LeavesMore t (cond b (Err BadArgument)
-        (cond (opening.are_streams_full t || not (opening.can_open t.files r.usage r.name mode)) (Ok (t, 0))
+        (cond (opening.are_streams_full t || not (opening.can_open t.files r.usage r.name mode))
+        (Ok (t, 0))
         (Ok (opening.opened_name t r.usage r.name mode rock u))))
     by-mode r true = tt
     by-mode r false =
@@ -184,7 +191,8 @@ memory-more t buf len mode rock u order =
     by-mode false true = same-table t t refl
     by-mode false false = joined-more t t _ refl refl refl order
 
-pub sought-more : (t : StreamTable) (n by from : ℕ) → LeavesAlone t (place.position_sought t n by from)
+pub sought-more : (t : StreamTable) (n by from : ℕ)
+    → LeavesAlone t (place.position_sought t n by from)
 sought-more t n by from = of-stream (streams.stream_at t n) refl
   where
     sought-end : (s : Stream) (x : target.Target) → s.target ≡ x

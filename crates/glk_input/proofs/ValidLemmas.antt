@@ -6,9 +6,10 @@ use Rattle.std.proofs.Common.{Option, Some, None, cond, sym, subst}
 use Rattle.std.proofs.lemmas.Bool.Decides.{nat_tests}
 use Rattle.std.specs.List.{insert}
 use Rattle.glk_numbers.specs.Numbered.{ascends, changed_at, has}
-use Rattle.glk_input.specs.Request.{asked, window_input_changed, char_asked, char_ended, count_below, request_ended}
-use Rattle.glk_input.specs.Request.{window_without_request, line_asked, line_ended, input_window_number, with_echo, with_keys}
-use Rattle.glk_input.specs.Request.{without_char, without_line, without_window}
+use Rattle.glk_input.specs.Request.{asked, window_input_changed, char_asked, char_ended}
+use Rattle.glk_input.specs.Request.{count_below, request_ended, window_without_request}
+use Rattle.glk_input.specs.Request.{line_asked, line_ended, input_window_number, with_echo}
+use Rattle.glk_input.specs.Request.{with_keys, without_char, without_line, without_window}
 use Rattle.glk_input.specs.Valid.{are_windows, is_request, are_valid_inputs, is_window_input}
 use Rattle.glk_input.specs.Laws.{KeepsInputsValid, InputsStayValid}
 use Rattle.glk_input.specs.declared.request.LineRequest.{LineRequest}
@@ -31,15 +32,19 @@ second false b e = absurd cc
 -- a change of one window that keeps it valid keeps all valid
 are-changed : (f : WindowInput → WindowInput)
     → ((w : WindowInput) → is_window_input w ≡ true → is_window_input (f w) ≡ true)
-    → (ws : List WindowInput) (n : ℕ) → are_windows ws ≡ true → are_windows (window_input_changed f ws n) ≡ true
+    → (ws : List WindowInput) (n : ℕ) → are_windows ws ≡ true
+    → are_windows (window_input_changed f ws n) ≡ true
 unfolding changed_at
 are-changed f k [] n e = refl
 are-changed f k (w ∷ ws) n e =
     let a = first (is_window_input w) (are_windows ws) e in
     let b = second (is_window_input w) (are_windows ws) e in
-    elim (w.win == n) as (λ t. are_windows (cond t (f w ∷ ws) (w ∷ window_input_changed f ws n)) ≡ true) [
+    elim (w.win == n)
+    as (λ t. are_windows (cond t (f w ∷ ws) (w ∷ window_input_changed f ws n)) ≡ true) [
       | true ↦ both (is_window_input (f w)) (are_windows ws) (k w a) b
-      | false ↦ both (is_window_input w) (are_windows (window_input_changed f ws n)) a (are-changed f k ws n b)
+      | false ↦
+          both (is_window_input w) (are_windows (window_input_changed f ws n)) a
+          (are-changed f k ws n b)
     ]
 
 -- and one that keeps its number keeps the order
@@ -49,22 +54,29 @@ ascends-changed : (f : WindowInput → WindowInput) → ((w : WindowInput) → (
 unfolding changed_at ascends
 ascends-changed f k [] n low high e = refl
 ascends-changed f k (w ∷ ws) n low high e =
-    let a = first (nat_lt low w.win && nat_lt w.win high) (ascends input_window_number w.win high ws) e in
-    let b = second (nat_lt low w.win && nat_lt w.win high) (ascends input_window_number w.win high ws) e in
+    let a =
+    first (nat_lt low w.win && nat_lt w.win high) (ascends input_window_number w.win high ws) e in
+    let b =
+    second (nat_lt low w.win && nat_lt w.win high) (ascends input_window_number w.win high ws) e in
     elim (w.win == n) as
-    (λ t. ascends input_window_number low high (cond t (f w ∷ ws) (w ∷ window_input_changed f ws n)) ≡ true) [
+    (λ t. ascends input_window_number low high (cond t (f w ∷ ws) (w ∷ window_input_changed f ws n))
+    ≡ true) [
       | true ↦ rw (k w) e
       | false ↦ both (nat_lt low w.win && nat_lt w.win high)
-          (ascends input_window_number w.win high (window_input_changed f ws n)) a (ascends-changed f k ws n w.win high b)
+          (ascends input_window_number w.win high (window_input_changed f ws n)) a
+          (ascends-changed f k ws n w.win high b)
     ]
 
 keeps : (f : WindowInput → WindowInput) → ((w : WindowInput) → (f w).win ≡ w.win)
-    → ((w : WindowInput) → is_window_input w ≡ true → is_window_input (f w) ≡ true) → KeepsInputsValid f
+    → ((w : WindowInput) → is_window_input w ≡ true → is_window_input (f w) ≡ true)
+    → KeepsInputsValid f
 keeps f same k ws win e =
-    both (ascends input_window_number 0 4294967295 (window_input_changed f ws win)) (are_windows (window_input_changed f ws win))
+    both (ascends input_window_number 0 4294967295 (window_input_changed f ws win))
+    (are_windows (window_input_changed f ws win))
     (ascends-changed f same ws win 0 4294967295
     (first (ascends input_window_number 0 4294967295 ws) (are_windows ws) e))
-    (are-changed f k ws win (second (ascends input_window_number 0 4294967295 ws) (are_windows ws) e))
+    (are-changed f k ws win
+    (second (ascends input_window_number 0 4294967295 ws) (are_windows ws) e))
 
 is_true-lt : (a b : ℕ) → a < b → nat_lt a b ≡ true
 is_true-lt a b h = grind (arith, nat_tests)
@@ -80,26 +92,33 @@ behind : (a b : ℕ) → nat_lt a b ≡ false → (a == b) ≡ false → b < a
 behind a b h k = grind (arith, nat_tests)
 
 ascends-lower : (ws : List WindowInput) (low mid high : ℕ) → low ≤ mid
-    → ascends input_window_number mid high ws ≡ true → ascends input_window_number low high ws ≡ true
+    → ascends input_window_number mid high ws ≡ true
+    → ascends input_window_number low high ws ≡ true
 unfolding ascends
 ascends-lower [] low mid high h e = refl
 ascends-lower (w ∷ ws) low mid high h e =
-    let a = first (nat_lt mid w.win && nat_lt w.win high) (ascends input_window_number w.win high ws) e in
-    let b = second (nat_lt mid w.win && nat_lt w.win high) (ascends input_window_number w.win high ws) e in
+    let a =
+    first (nat_lt mid w.win && nat_lt w.win high) (ascends input_window_number w.win high ws) e in
+    let b =
+    second (nat_lt mid w.win && nat_lt w.win high) (ascends input_window_number w.win high ws) e in
     let m : mid < w.win = from-lt mid w.win (first (nat_lt mid w.win) (nat_lt w.win high) a) in
     both (nat_lt low w.win && nat_lt w.win high) (ascends input_window_number w.win high ws)
     (both (nat_lt low w.win) (nat_lt w.win high) (is_true-lt low w.win (omega arith))
     (second (nat_lt mid w.win) (nat_lt w.win high) a)) b
 
 ascends-kept : (p : WindowInput → Bool) (ws : List WindowInput) (low high : ℕ)
-    → ascends input_window_number low high ws ≡ true → ascends input_window_number low high (filter p ws) ≡ true
+    → ascends input_window_number low high ws ≡ true
+    → ascends input_window_number low high (filter p ws) ≡ true
 unfolding ascends
 ascends-kept p [] low high e = refl
 ascends-kept p (w ∷ ws) low high e =
-    let a = first (nat_lt low w.win && nat_lt w.win high) (ascends input_window_number w.win high ws) e in
-    let b = second (nat_lt low w.win && nat_lt w.win high) (ascends input_window_number w.win high ws) e in
+    let a =
+    first (nat_lt low w.win && nat_lt w.win high) (ascends input_window_number w.win high ws) e in
+    let b =
+    second (nat_lt low w.win && nat_lt w.win high) (ascends input_window_number w.win high ws) e in
     let l : low < w.win = from-lt low w.win (first (nat_lt low w.win) (nat_lt w.win high) a) in
-    elim (p w) as (λ t. ascends input_window_number low high (cond t (w ∷ filter p ws) (filter p ws)) ≡ true) [
+    elim (p w)
+    as (λ t. ascends input_window_number low high (cond t (w ∷ filter p ws) (filter p ws)) ≡ true) [
       | true ↦ both (nat_lt low w.win && nat_lt w.win high)
           (ascends input_window_number w.win high (filter p ws)) a (ascends-kept p ws w.win high b)
       | false ↦ ascends-lower (filter p ws) low w.win high (omega arith)
@@ -123,7 +142,8 @@ are-inserted [] zero x h e = both (is_window_input x) true h refl
 are-inserted [] (suc i) x h e = both (is_window_input x) true h refl
 are-inserted (w ∷ ws) zero x h e = both (is_window_input x) (are_windows (w ∷ ws)) h e
 are-inserted (w ∷ ws) (suc i) x h e =
-    both (is_window_input w) (are_windows (insert ws i x)) (first (is_window_input w) (are_windows ws) e)
+    both (is_window_input w) (are_windows (insert ws i x))
+    (first (is_window_input w) (are_windows ws) e)
     (are-inserted ws i x h (second (is_window_input w) (are_windows ws) e))
 
 neither-first : (a b : Bool) → (a || b) ≡ false → a ≡ false
@@ -134,7 +154,8 @@ neither-second : (a b : Bool) → (a || b) ≡ false → b ≡ false
 neither-second true b e = absurd cc
 neither-second false b e = e
 
-has-rest : (w : WindowInput) (ws : List WindowInput) (win : ℕ) → has input_window_number (w ∷ ws) win ≡ false
+has-rest : (w : WindowInput) (ws : List WindowInput) (win : ℕ)
+    → has input_window_number (w ∷ ws) win ≡ false
     → ((w.win == win) ≡ false) × (has input_window_number ws win ≡ false)
 unfolding has
 has-rest w ws win e = (
@@ -149,21 +170,27 @@ insert-more w x ws k = simp unary_clauses
 
 at-test : (t : Bool) (w : WindowInput) (ws : List WindowInput) (win low high : ℕ)
     → nat_lt w.win win ≡ t → low < win → win < high
-    → has input_window_number (w ∷ ws) win ≡ false → ascends input_window_number low high (w ∷ ws) ≡ true
-    → (w.win < win → ascends input_window_number w.win high (insert ws (count_below ws win) (window_without_request win))
+    → has input_window_number (w ∷ ws) win ≡ false
+    → ascends input_window_number low high (w ∷ ws) ≡ true
+    → (w.win < win
+    → ascends input_window_number w.win high
+    (insert ws (count_below ws win) (window_without_request win))
     ≡ true)
-    → ascends input_window_number low high (insert (w ∷ ws) (cond t (count_below ws win + 1) 0) (window_without_request win))
+    → ascends input_window_number low high
+    (insert (w ∷ ws) (cond t (count_below ws win + 1) 0) (window_without_request win))
     ≡ true
 unfolding ascends
 at-test true w ws win low high t l h k e rest =
     subst (λ xs. ascends input_window_number low high xs ≡ true)
     (sym (insert-more w (window_without_request win) ws (count_below ws win)))
     (both (nat_lt low w.win && nat_lt w.win high)
-    (ascends input_window_number w.win high (insert ws (count_below ws win) (window_without_request win)))
+    (ascends input_window_number w.win high
+    (insert ws (count_below ws win) (window_without_request win)))
     (first (nat_lt low w.win && nat_lt w.win high) (ascends input_window_number w.win high ws) e)
     (rest (from-lt w.win win t)))
 at-test false w ws win low high t l h k e rest =
-    let b = second (nat_lt low w.win && nat_lt w.win high) (ascends input_window_number w.win high ws) e in
+    let b =
+    second (nat_lt low w.win && nat_lt w.win high) (ascends input_window_number w.win high ws) e in
     let a = second (nat_lt low w.win) (nat_lt w.win high)
     (first (nat_lt low w.win && nat_lt w.win high) (ascends input_window_number w.win high ws) e) in
     let x = is_true-lt win w.win (behind w.win win t (has-rest w ws win k).0) in
@@ -176,7 +203,9 @@ at-test false w ws win low high t l h k e rest =
 ascends-inserted : (ws : List WindowInput) (win low high : ℕ) → low < win → win < high
     → has input_window_number ws win ≡ false
     → ascends input_window_number low high ws ≡ true
-    → ascends input_window_number low high (insert ws (count_below ws win) (window_without_request win)) ≡ true
+    → ascends input_window_number low high
+    (insert ws (count_below ws win) (window_without_request win))
+    ≡ true
 unfolding count_below ascends
 ascends-inserted [] win low high l h k e =
     both (nat_lt low win && nat_lt win high) true
@@ -186,12 +215,15 @@ ascends-inserted (w ∷ ws) win low high l h k e =
     (λ lt. ascends-inserted ws win w.win high lt h (has-rest w ws win k).1
     (second (nat_lt low w.win && nat_lt w.win high) (ascends input_window_number w.win high ws) e))
 
-valid-begun : (t : Bool) (ws : List WindowInput) (win : ℕ) → has input_window_number ws win ≡ t → 0 < win
+valid-begun : (t : Bool) (ws : List WindowInput) (win : ℕ)
+    → has input_window_number ws win ≡ t → 0 < win
     → win < 4294967295 → are_valid_inputs ws ≡ true
-    → are_valid_inputs (cond t ws (insert ws (count_below ws win) (window_without_request win))) ≡ true
+    → are_valid_inputs (cond t ws (insert ws (count_below ws win) (window_without_request win)))
+    ≡ true
 valid-begun true ws win k l h e = e
 valid-begun false ws win k l h e =
-    both (ascends input_window_number 0 4294967295 (insert ws (count_below ws win) (window_without_request win)))
+    both (ascends input_window_number 0 4294967295
+    (insert ws (count_below ws win) (window_without_request win)))
     (are_windows (insert ws (count_below ws win) (window_without_request win)))
     (ascends-inserted ws win 0 4294967295 l h k
     (first (ascends input_window_number 0 4294967295 ws) (are_windows ws) e))

@@ -2,7 +2,8 @@
 use Rattle.std.proofs.Common.{◌≡◌, ℕ, ◌<◌, ◌≤◌, List, [], ◌∷◌, refl, Some, None, arith, slice_set}
 use Rattle.std.proofs.Common.{slice_index_or, true, false}
 use Rattle.std.proofs.lemmas.Grind.{common_steps}
-use Rattle.glk_numbers.specs.Numbered.{place_of, changed_at, number_above, ascends, has, IsLeastAbove}
+use Rattle.glk_numbers.specs.Numbered.{place_of, changed_at, number_above}
+use Rattle.glk_numbers.specs.Numbered.{ascends, has, IsLeastAbove}
 
 pub changed_at-none : {X : Type 0} (number : X → ℕ) (f : X → X) (xs : List X) (n : ℕ)
     → None ≡ place_of number xs n → xs ≡ changed_at number f xs n
@@ -27,7 +28,9 @@ ascends-above number low high (x ∷ xs) m a h =
     grind (arith, common_steps, ascends-above number (number x) high xs m)
 
 after-none : {X : Type 0} (number : X → ℕ) (low high : ℕ) (xs : List X) (n m : ℕ)
-    → ascends number low high xs ≡ true → number_above number xs n ≡ 0 → n < m → has number xs m ≡ false
+    → ascends number low high xs ≡ true
+    → number_above number xs n ≡ 0 → n < m
+    → has number xs m ≡ false
 unfolding ascends has number_above
 after-none number low high [] n m a e l = refl
 after-none number low high (x ∷ xs) n m a e l =
@@ -46,7 +49,8 @@ after-there number [] n l = absurd (grind (arith, l))
 after-there number (x ∷ xs) n l = grind (arith, common_steps, after-there number xs n)
 
 after-first : {X : Type 0} (number : X → ℕ) (low high : ℕ) (xs : List X) (n m : ℕ)
-    → ascends number low high xs ≡ true → n < m → has number xs m ≡ true → number_above number xs n ≤ m
+    → ascends number low high xs ≡ true → n < m
+    → has number xs m ≡ true → number_above number xs n ≤ m
 unfolding number_above has ascends
 after-first number low high [] n m a l h = absurd cc
 after-first number low high (x ∷ xs) n m a l h =

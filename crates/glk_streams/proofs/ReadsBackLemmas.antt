@@ -16,13 +16,14 @@ use Rattle.glk_streams.specs.declared.file.File as file
 use Rattle.glk_streams.specs.declared.stream.Stream.{Stream}
 use Rattle.glk_streams.specs.declared.stream.Target.TheVariants.{File}
 use Rattle.glk_streams.specs.Coding.{coding_of, bytes_kept, bytes_in, units_of, steps_of}
-use Rattle.glk_streams.specs.Files.{key_of_file, is_named, has_file, content_of, file_with_bytes, with_file}
-use Rattle.glk_streams.specs.Files.{files_holding, sum_of_bytes, file_may_stand, room_of, file_of}
+use Rattle.glk_streams.specs.Files.{key_of_file, is_named, has_file, content_of}
+use Rattle.glk_streams.specs.Files.{file_with_bytes, with_file, files_holding}
+use Rattle.glk_streams.specs.Files.{sum_of_bytes, file_may_stand, room_of, file_of}
 use Rattle.glk_streams.specs.Input.{passed}
-use Rattle.glk_streams.specs.Output.{put_on_stream, put_by, put_bytes, byte_start, position_held, write_counted}
-use Rattle.glk_streams.specs.Output.{at_position}
-use Rattle.glk_streams.specs.RoundTrip.{has_code, AreHeld, bytes_of_characters, ReadsCharacters, IsOpen, put_all, GivesCharacters}
-use Rattle.glk_streams.specs.RoundTrip.{ReadsBack}
+use Rattle.glk_streams.specs.Output.{put_on_stream, put_by, put_bytes, byte_start}
+use Rattle.glk_streams.specs.Output.{position_held, write_counted, at_position}
+use Rattle.glk_streams.specs.RoundTrip.{has_code, AreHeld, bytes_of_characters, ReadsCharacters}
+use Rattle.glk_streams.specs.RoundTrip.{IsOpen, put_all, GivesCharacters, ReadsBack}
 use Rattle.glk_streams.specs.Streams.{StreamTable, stream_number, with_stream, is_read_mode}
 use Rattle.glk_streams.specs.Streams.{is_write_mode}
 use Rattle.glk_streams.proofs.ValidLemmas.{bytes-bytes, bytes-file, number-found}
@@ -112,7 +113,8 @@ record On (t : StreamTable) (a b u : ℕ) (n : List ℕ) (unicode : Bool)
 put-bytes-kept : (fs : List file.File) (place u : ℕ) (n : List ℕ) (c : Coding)
     (new bytes all : List ℕ)
     → content_of fs u n ≡ bytes
-    → (file_may_stand fs u n && nat_le (byte_start c bytes place + length new - length bytes) (room_of fs))
+    → (file_may_stand fs u n
+    && nat_le (byte_start c bytes place + length new - length bytes) (room_of fs))
     ≡ true
     → replaced bytes (byte_start c bytes place) new ≡ all → position_held c bytes place ≡ place
     → put_bytes fs place u n c new ≡ (files_holding fs u n all, place + steps_of c (length new))
@@ -122,7 +124,8 @@ put-by-kept : (fs : List file.File) (m : MemoryMap) (s : Stream) (x u : ℕ) (n 
     (unicode : Bool) (place : ℕ)
     (after : List file.File) (next : ℕ) → is_write_mode s.mode ≡ true → s.target ≡ File u n
     → s.unicode ≡ unicode → s.place ≡ place
-    → put_bytes fs place u n (coding_of unicode (File u n)) (bytes_kept (coding_of unicode (File u n)) x)
+    → put_bytes fs place u n (coding_of unicode (File u n))
+    (bytes_kept (coding_of unicode (File u n)) x)
     ≡ (after, next)
     → put_by fs m s x ≡ Ok (after, m, next)
 put-by-kept fs m s x u n unicode place after next w t v p e =
@@ -140,7 +143,8 @@ record Step (t : StreamTable) (m : MemoryMap) (a b u : ℕ) (n : List ℕ) (unic
   after : StreamTable
   put_is : put_on_stream t m a x ≡ Ok (after, m)
   on : On after a b u n unicode (bytes ++ bytes_in (coding_of unicode (File u n)) x)
-  sum : sum_of_bytes after.files ≡ sum_of_bytes t.files + length (bytes_in (coding_of unicode (File u n)) x)
+  sum : sum_of_bytes after.files
+      ≡ sum_of_bytes t.files + length (bytes_in (coding_of unicode (File u n)) x)
 
 module _ (m : MemoryMap) (a b u : ℕ) (n : List ℕ) (unicode : Bool) (apart : a ≢ b) where
   abbrev c : Coding
@@ -194,9 +198,12 @@ module _ (m : MemoryMap) (a b u : ℕ) (n : List ℕ) (unicode : Bool) (apart : 
           content = now.content;
           may = now.may;
         };
-        sum = summed (sum_of_bytes t.files) (sum_of_bytes files) (length bytes) (length new) (length all)
+        sum =
+            summed (sum_of_bytes t.files) (sum_of_bytes files) (length bytes) (length new)
+            (length all)
             (length-append bytes new)
-            (subst (λ (z : List ℕ). sum_of_bytes files + length z ≡ sum_of_bytes t.files + length all)
+            (subst
+            (λ (z : List ℕ). sum_of_bytes files + length z ≡ sum_of_bytes t.files + length all)
             o.content now.bytes);
       }
     where
@@ -236,7 +243,9 @@ module _ (m : MemoryMap) (a b u : ℕ) (n : List ℕ) (unicode : Bool) (apart : 
 
   gets : (codes : List ℕ) (t : StreamTable) (bytes : List ℕ) (place : ℕ)
       → IsOpen is_read_mode t b (File u n) unicode place
-      → content_of t.files u n ≡ bytes → ReadsCharacters c bytes place codes → GivesCharacters t m b codes
+      → content_of t.files u n ≡ bytes
+      → ReadsCharacters c bytes place codes
+      → GivesCharacters t m b codes
   gets [] t bytes place o e r = rw (o.is, o.mode, o.target_is, o.unicode_is, o.place_is, e, r) refl
   gets (x ∷ xs) t bytes place o e r =
       let s = o.stream in
@@ -272,5 +281,6 @@ reads_back t m a b u n unicode codes apart writer reader empty may h room =
       done.put_is,
       gets m a b u n unicode apart codes done.after
           (bytes_of_characters c codes) 0 done.on.reader done.on.content
-          (subst (λ p. ReadsCharacters c (bytes_of_characters c codes) p codes) (empty-units c) all),
+          (subst (λ p. ReadsCharacters c (bytes_of_characters c codes) p codes)
+          (empty-units c) all),
     )

@@ -12,9 +12,11 @@ use Rattle.byteorder.specs.Endian.{big_bytes}
 use Rattle.byteorder.specs.Numbers.{big_number-reads_back, length-bytes_high_first}
 use Rattle.bstr.proofs.lemmas.EncodeLemmas.{decoded-encode}
 use Rattle.vm_memory.specs.MemoryMap.{replaced, number_at}
-use Rattle.glk_streams.specs.Coding.{bytes_kept, bytes_in, units_of, unit_of, steps_of, character_at}
+use Rattle.glk_streams.specs.Coding.{bytes_kept, bytes_in, units_of}
+use Rattle.glk_streams.specs.Coding.{unit_of, steps_of, character_at}
 use Rattle.glk_streams.specs.Output.{byte_start}
-use Rattle.glk_streams.specs.RoundTrip.{has_code, AreHeld, after_puts, bytes_of_characters, ReadsCharacters, StreamRoundTrip}
+use Rattle.glk_streams.specs.RoundTrip.{has_code, AreHeld, after_puts, bytes_of_characters}
+use Rattle.glk_streams.specs.RoundTrip.{ReadsCharacters, StreamRoundTrip}
 use Rattle.glk_streams.specs.declared.coding.Coding.{Coding}
 use Rattle.glk_streams.specs.declared.coding.Coding.TheVariants.{Latin1, Utf8, Utf32}
 
@@ -82,9 +84,11 @@ replaced-end bytes new at e =
     rw (cut, past) (append-nil (bytes ++ new))
 
 pub put-end : (c : Coding) (bytes : List ℕ) (x : ℕ) → IsWhole c bytes → has_code c x ≡ true
-    → replaced bytes (byte_start c bytes (units_of c bytes)) (bytes_kept c x) ≡ bytes ++ bytes_in c x
+    → replaced bytes (byte_start c bytes (units_of c bytes)) (bytes_kept c x)
+    ≡ bytes ++ bytes_in c x
 put-end c bytes x w h =
-    replaced-end bytes (bytes_kept c x) (byte_start c bytes (units_of c bytes)) (start-end c bytes w)
+    replaced-end bytes (bytes_kept c x) (byte_start c bytes (units_of c bytes))
+    (start-end c bytes w)
     ∙ ap (λ new. bytes ++ new) (kept-held c x h)
 
 puts-spell : (c : Coding) (bytes codes : List ℕ) → IsWhole c bytes → AreHeld c codes

@@ -21,22 +21,25 @@ use Rattle.glk_streams.specs.declared.stream.Target.TheVariants.{Window, Memory,
 use Rattle.glk_streams.specs.Answer.{live}
 use Rattle.glk_streams.specs.Coding.{coding_of, bytes_kept}
 use Rattle.glk_streams.specs.FileRefs.{made_ref, with_current, style_of}
-use Rattle.glk_streams.specs.Files.{has_file, content_of, files_holding, sum_of_bytes, file_may_stand, room_of}
-use Rattle.glk_streams.specs.Files.{without_file}
+use Rattle.glk_streams.specs.Files.{has_file, content_of, files_holding, sum_of_bytes}
+use Rattle.glk_streams.specs.Files.{file_may_stand, room_of, without_file}
 use Rattle.glk_streams.specs.Input.{got_by, stream_behind, passed}
-use Rattle.glk_streams.specs.Laws.{AreValidStreams, LeavesValidStreams, LeavesBeside, StreamsStayValid}
+use Rattle.glk_streams.specs.Laws.{AreValidStreams, LeavesValidStreams}
+use Rattle.glk_streams.specs.Laws.{LeavesBeside, StreamsStayValid}
 use Rattle.glk_streams.specs.Opening.{opened_window, opened_memory, opened_ref, opened_name}
-use Rattle.glk_streams.specs.Opening.{readied, can_open, first_place, fresh_stream, added_with_number, stream_taken}
-use Rattle.glk_streams.specs.Opening.{count_of, are_streams_full, is_memory_mode, is_file_mode, stream_dropped}
-use Rattle.glk_streams.specs.Output.{put_by, put_in_target, put_bytes, put_in_memory, in_memory, is_kept}
-use Rattle.glk_streams.specs.Output.{byte_start, write_counted, at_position, Put}
+use Rattle.glk_streams.specs.Opening.{readied, can_open, first_place, fresh_stream}
+use Rattle.glk_streams.specs.Opening.{added_with_number, stream_taken, count_of, are_streams_full}
+use Rattle.glk_streams.specs.Opening.{is_memory_mode, is_file_mode, stream_dropped}
+use Rattle.glk_streams.specs.Output.{put_by, put_in_target, put_bytes, put_in_memory, in_memory}
+use Rattle.glk_streams.specs.Output.{is_kept, byte_start, write_counted, at_position, Put}
 use Rattle.glk_streams.specs.Position.{sought_in}
-use Rattle.glk_streams.specs.Streams.{StreamTable, ref_number_of, stream_at, ref_at}
-use Rattle.glk_streams.specs.Streams.{stream_of_window, is_window_target, with_stream, is_write_mode}
+use Rattle.glk_streams.specs.Streams.{StreamTable, ref_number_of, stream_at}
+use Rattle.glk_streams.specs.Streams.{ref_at, stream_of_window, is_window_target}
+use Rattle.glk_streams.specs.Streams.{with_stream, is_write_mode}
 use Rattle.glk_streams.specs.Valid.{is_current, are_files, are_streams}
 use Rattle.glk_streams.proofs.ValidLemmas.{count-window, count-more, or_parts}
-use Rattle.glk_streams.proofs.ValidLaws.{Parts, parts_of, of_parts, files_of, files-held}
-use Rattle.glk_streams.proofs.ValidLaws.{both, files-without, held_of, streams-more, streams-changed}
+use Rattle.glk_streams.proofs.ValidLaws.{Parts, parts_of, of_parts, files_of, files-held, both}
+use Rattle.glk_streams.proofs.ValidLaws.{files-without, held_of, streams-more, streams-changed}
 use Rattle.glk_streams.proofs.ValidLaws.{streams-without, streams-current, refs-more, refs-without}
 
 negated : (x : Bool) → not x ≡ false → x ≡ true
@@ -45,7 +48,8 @@ negated false e = absurd (grind (arith, e))
 
 -- opening
 
-window-by : (t : StreamTable) (win : ℕ) (s : Bool) → nat_lt 4294967294 t.next ≡ s → AreValidStreams t
+window-by : (t : StreamTable) (win : ℕ) (s : Bool)
+    → nat_lt 4294967294 t.next ≡ s → AreValidStreams t
     → AreValidStreams (opened_window t win).0
 window-by t win true e h = rw e h
 window-by t win false e h =
@@ -61,7 +65,9 @@ window-by t win false e h =
       files = p.files;
     }))
 
-room-of : (t : StreamTable) → are_streams_full t ≡ false → (t.next ≤ 4294967294) × (count_of t.streams < 64)
+room-of : (t : StreamTable)
+    → are_streams_full t ≡ false
+    → (t.next ≤ 4294967294) × (count_of t.streams < 64)
 room-of t e =
     let a = or_parts (nat_lt 4294967294 t.next) (nat_le 64 (count_of t.streams)) e in
     (grind (arith, common_steps, a.0), grind (arith, common_steps, a.1))
@@ -88,7 +94,8 @@ stands : (fs : List file.File) (u : ℕ) (n : List ℕ) (mode : ℕ) → can_ope
     → file_may_stand fs u n ≡ true
 stands fs u n mode e = grind (arith, common_steps, e)
 
-emptied : (fs : List file.File) (u : ℕ) (n : List ℕ) → are_files fs ≡ true → file_may_stand fs u n ≡ true
+emptied : (fs : List file.File) (u : ℕ) (n : List ℕ)
+    → are_files fs ≡ true → file_may_stand fs u n ≡ true
     → are_files (files_holding fs u n []) ≡ true
 emptied fs u n h m =
     let f = files_of fs h in
@@ -100,7 +107,8 @@ name-by : (t : StreamTable) (u : ℕ) (n : List ℕ) (mode rock : ℕ) (unicode 
     → AreValidStreams (opened_name t u n mode rock unicode).0
 name-by t u n mode rock unicode s e m stand f h =
     let p = parts_of t h in
-    let v = fresh_stream t.next rock mode unicode (File u n) (first_place t.files u n mode unicode) in
+    let v =
+    fresh_stream t.next rock mode unicode (File u n) (first_place t.files u n mode unicode) in
     let room = room-of t f in
     let few : count_of (t.streams ++ v ∷ []) ≤ 64 =
     grind (arith, common_steps, count-more t.streams v, room.1) in
@@ -110,9 +118,11 @@ name-by t u n mode rock unicode s e m stand f h =
   where
     by : (s : Bool) → (mode == 1 || not (has_file t.files u n)) ≡ s → (v : Stream)
         → are_streams (t.next + 1) t.current (t.streams ++ v ∷ []) ≡ true → Parts t
-        → file_may_stand t.files u n ≡ true → AreValidStreams (added_with_number (readied t u n mode) v).0
+        → file_may_stand t.files u n ≡ true
+        → AreValidStreams (added_with_number (readied t u n mode) v).0
     by true e v streams p stand =
-        rw e (of_parts (added_with_number (record t { files = files_holding t.files u n [] }) v).0 (record {
+        rw e (of_parts (added_with_number (record t { files = files_holding t.files u n [] }) v).0
+        (record {
           streams = streams;
           refs = p.refs;
           files = emptied t.files u n p.files stand;
@@ -133,7 +143,8 @@ ref-by t r mode rock unicode true false e f h =
     (mode == 1 || not (has_file t.files r.usage r.name)) refl e
     (stands t.files r.usage r.name mode (negated _ a.1)) a.0 h)
 
-file-by : (t : StreamTable) (o : Option FileRef) (mode rock : ℕ) (unicode : Bool) → AreValidStreams t
+file-by : (t : StreamTable) (o : Option FileRef) (mode rock : ℕ) (unicode : Bool)
+    → AreValidStreams t
     → LeavesBeside (live o (λ r. opened_ref t r mode rock unicode))
 file-by t None mode rock unicode h = tt
 file-by t (Some r) mode rock unicode h =
@@ -152,7 +163,8 @@ dropped-valid t n h =
     })
 
 close-by : (t : StreamTable) (n : ℕ) (o : Option Stream) → AreValidStreams t
-    → LeavesBeside (live o (λ s. cond (is_window_target s.target) (Err BadArgument) (Ok (stream_taken t n))))
+    → LeavesBeside
+    (live o (λ s. cond (is_window_target s.target) (Err BadArgument) (Ok (stream_taken t n))))
 close-by t n None h = tt
 close-by t n (Some s) h = by (is_window_target s.target)
   where
@@ -165,7 +177,8 @@ close-by t n (Some s) h = by (is_window_target s.target)
 changed-valid : (t : StreamTable) (n : ℕ) (s v : Stream) (fs : List file.File)
     → stream_at t n ≡ Some s → v.number ≡ s.number
     → v.target ≡ s.target → v.mode ≡ s.mode
-    → (nat_le s.style 10 ≡ true → nat_le v.style 10 ≡ true) → are_files fs ≡ true → AreValidStreams t
+    → (nat_le s.style 10 ≡ true → nat_le v.style 10 ≡ true)
+    → are_files fs ≡ true → AreValidStreams t
     → AreValidStreams (with_stream (record t { files = fs }) n v)
 changed-valid t n s v fs f e g m y k h =
     let p = parts_of t h in
@@ -222,7 +235,8 @@ put-in (Window win) unicode fs m place code h = h
 put-in (Memory buf len) unicode fs m place code h =
     in-memory fs (put_in_memory m place buf len (coding_of unicode (Memory buf len)) code) h
 put-in (File u n) unicode fs m place code h =
-    bytes-by fs place u n (coding_of unicode (File u n)) (bytes_kept (coding_of unicode (File u n)) code)
+    bytes-by fs place u n (coding_of unicode (File u n))
+    (bytes_kept (coding_of unicode (File u n)) code)
     (is_kept fs u n (byte_start (coding_of unicode (File u n)) (content_of fs u n) place)
     (length (bytes_kept (coding_of unicode (File u n)) code)))
     refl h
@@ -236,7 +250,9 @@ put-by fs m s code false e h = rw e tt
 put-then : (t : StreamTable) (n : ℕ) (s : Stream) (r : Put) → stream_at t n ≡ Some s → FilesIn r
     → AreValidStreams t
     → LeavesBeside (r >>=
-    (λ done. Ok (with_stream (record t { files = done.0 }) n (write_counted (at_position done.2 s)), done.1)))
+    (λ done.
+    Ok
+    (with_stream (record t { files = done.0 }) n (write_counted (at_position done.2 s)), done.1)))
 put-then t n s (Ok done) f k h =
     changed-valid t n s (write_counted (at_position done.2 s)) done.0 f refl refl refl (λ y. y) k h
 put-then t n s (Err e) f k h = tt
@@ -292,7 +308,8 @@ seek-by t n by from (Some s) false f e h =
 few-styles : (style : ℕ) → nat_le (style_of style) 10 ≡ true
 few-styles style = grind (arith, common_steps)
 
-style-by : (t : StreamTable) (n style : ℕ) (o : Option Stream) → stream_at t n ≡ o → AreValidStreams t
+style-by : (t : StreamTable) (n style : ℕ) (o : Option Stream)
+    → stream_at t n ≡ o → AreValidStreams t
     → LeavesValidStreams (live o (λ s. Ok (with_stream t n (record s { style = style_of style }))))
 style-by t n style None f h = tt
 style-by t n style (Some s) f h =
@@ -349,7 +366,8 @@ forget-by t n (Some r) h =
     })
 
 delete-by : (t : StreamTable) (o : Option FileRef) → AreValidStreams t
-    → LeavesValidStreams (live o (λ r. Ok (record t { files = without_file t.files r.usage r.name })))
+    → LeavesValidStreams
+    (live o (λ r. Ok (record t { files = without_file t.files r.usage r.name })))
 delete-by t None h = tt
 delete-by t (Some r) h =
     let p = parts_of t h in

@@ -10,9 +10,11 @@ use Rattle.glk_streams.specs.declared.stream.Stream.{Stream}
 use Rattle.glk_streams.specs.declared.fileref.FileRef.{FileRef}
 use Rattle.glk_streams.specs.Files.{has_file, content_of, file_with_bytes, with_file, without_file}
 use Rattle.glk_streams.specs.Files.{files_holding, sum_of_bytes, file_may_stand}
-use Rattle.glk_streams.specs.Streams.{StreamTable, no_streams, stream_number, ref_number_of, is_window_target}
+use Rattle.glk_streams.specs.Streams.{StreamTable, no_streams, stream_number}
+use Rattle.glk_streams.specs.Streams.{ref_number_of, is_window_target}
 use Rattle.glk_streams.specs.Opening.{count_of}
-use Rattle.glk_streams.specs.Valid.{is_mode, is_sound_stream, are_sound_streams, is_current, is_next, files_in_order, are_kinds}
+use Rattle.glk_streams.specs.Valid.{is_mode, is_sound_stream, are_sound_streams}
+use Rattle.glk_streams.specs.Valid.{is_current, is_next, files_in_order, are_kinds}
 use Rattle.glk_streams.specs.Valid.{are_files, are_streams, are_refs, are_valid_streams}
 use Rattle.glk_streams.proofs.ValidLemmas.{in_order-bytes, in_order-file, in_order-without}
 use Rattle.glk_streams.proofs.ValidLemmas.{kinds-bytes, kinds-file, kinds-without, length-bytes}

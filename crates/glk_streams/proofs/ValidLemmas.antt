@@ -10,11 +10,13 @@ use Rattle.std.specs.Cmp.Lexicographic.{slice_cmp, nat_list_cmp_total}
 use Rattle.glk_numbers.specs.Numbered.{has, found, changed_at, without, ascends}
 use Rattle.glk_streams.specs.declared.file.File.{File}
 use Rattle.glk_streams.specs.declared.stream.Stream.{Stream}
-use Rattle.glk_streams.specs.Files.{key_of_file, file_key, is_named, stands_before, has_file, content_of}
-use Rattle.glk_streams.specs.Files.{file_with_bytes, with_file, without_file, sum_of_bytes}
+use Rattle.glk_streams.specs.Files.{key_of_file, file_key, is_named, stands_before}
+use Rattle.glk_streams.specs.Files.{has_file, content_of, file_with_bytes}
+use Rattle.glk_streams.specs.Files.{with_file, without_file, sum_of_bytes}
 use Rattle.glk_streams.specs.Streams.{stream_number, is_window_target}
 use Rattle.glk_streams.specs.Opening.{count_of}
-use Rattle.glk_streams.specs.Valid.{is_sound_stream, are_sound_streams, is_first, files_in_order, are_kinds}
+use Rattle.glk_streams.specs.Valid.{is_sound_stream, are_sound_streams}
+use Rattle.glk_streams.specs.Valid.{is_first, files_in_order, are_kinds}
 
 pub or_parts : (x y : Bool) → (x || y) ≡ false → (x ≡ false) × (y ≡ false)
 or_parts true y e = absurd (grind (arith, e))
@@ -166,7 +168,8 @@ length-without [] u n = omega arith
 length-without (f ∷ fs) u n = grind (arith, common_steps, length-without fs u n)
 
 pub bytes-bytes : (fs : List File) (u : ℕ) (n b : List ℕ) → has_file fs u n ≡ true
-    → sum_of_bytes (file_with_bytes fs u n b) + length (content_of fs u n) ≡ sum_of_bytes fs + length b
+    → sum_of_bytes (file_with_bytes fs u n b) + length (content_of fs u n)
+    ≡ sum_of_bytes fs + length b
 unfolding file_with_bytes has_file content_of sum_of_bytes
 bytes-bytes [] u n b h = absurd (grind (arith, h))
 bytes-bytes (f ∷ fs) u n b h = grind (arith, common_steps, h, bytes-bytes fs u n b)

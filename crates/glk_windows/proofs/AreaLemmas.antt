@@ -7,14 +7,15 @@ use Rattle.std.proofs.lemmas.Bool.{cases_Bool, and_parts}
 use Rattle.glk_numbers.specs.Numbered.{changed_at, found}
 use Rattle.glk_windows.specs.Areas.{HaveAreas, PlacesWindows}
 use Rattle.glk_windows.specs.Laws.{window_area, nowhere}
-use Rattle.glk_windows.specs.OneTree.{Shape, Leaf, Fork, IsTree, SpellsTree, pair_without_key, times_reached, node_of, tree_size}
-use Rattle.glk_windows.specs.OneTree.{top}
-use Rattle.glk_windows.specs.Placing.{pair_divided, first_part, has_size, place, windows_placed, second_part}
-use Rattle.glk_windows.specs.Placing.{is_shown_content, with_area}
+use Rattle.glk_windows.specs.OneTree.{Shape, Leaf, Fork, IsTree, SpellsTree, pair_without_key}
+use Rattle.glk_windows.specs.OneTree.{times_reached, node_of, tree_size, top}
+use Rattle.glk_windows.specs.Placing.{pair_divided, first_part, has_size, place}
+use Rattle.glk_windows.specs.Placing.{windows_placed, second_part, is_shown_content, with_area}
 use Rattle.glk_windows.specs.Resizing.{content_sized, rows_sized, sized}
-use Rattle.glk_windows.specs.Tree.{WindowTree, window_number, pair_content, pair_in, pair_of, read_window}
-use Rattle.glk_windows.specs.Tree.{set_at, window_at}
-use Rattle.glk_windows.specs.Valid.{IsOrdered, IsValidTree, are_sound_windows, is_sound_window, is_sound_content}
+use Rattle.glk_windows.specs.Tree.{WindowTree, window_number, pair_content}
+use Rattle.glk_windows.specs.Tree.{pair_in, pair_of, read_window, set_at, window_at}
+use Rattle.glk_windows.specs.Valid.{IsOrdered, IsValidTree, are_sound_windows}
+use Rattle.glk_windows.specs.Valid.{is_sound_window, is_sound_content}
 use Rattle.glk_windows.specs.declared.window.Area.{Area}
 use Rattle.glk_windows.specs.declared.window.Content.{Content}
 use Rattle.glk_windows.specs.declared.window.Content.TheVariants.{Pair, Blank, Buffer, Grid}
@@ -50,18 +51,21 @@ sized_in : Option Placement → Bool
 sized_in None = false
 sized_in (Some q) = q.2
 
-area-read : (o : Option Window) → read_window nowhere (λ w. w.area) o ≡ area_in (read_window None placement o)
+area-read : (o : Option Window)
+    → read_window nowhere (λ w. w.area) o ≡ area_in (read_window None placement o)
 unfolding area_in
 area-read None = refl
 area-read (Some w) = refl
 
-pair-read : (o : Option Window) → read_window None pair_in o ≡ pair_there (read_window None placement o)
+pair-read : (o : Option Window)
+    → read_window None pair_in o ≡ pair_there (read_window None placement o)
 unfolding pair_there
 pair-read None = refl
 pair-read (Some w) = refl
 
 size-read : (o : Option Window)
-    → read_window false (λ w. is_shown_content w.content) o ≡ sized_in (read_window None placement o)
+    → read_window false (λ w. is_shown_content w.content) o
+    ≡ sized_in (read_window None placement o)
 unfolding sized_in
 size-read None = refl
 size-read (Some w) = refl
@@ -135,7 +139,9 @@ placement-map f number same (w ∷ ws) m = elim (cases_Bool (w.number == m)) [
 
 -- a change of content that keeps a pair's windows, and which windows show something
 abbrev pub SamePlacement : (Content → Content) → Type 0
-SamePlacement f = (c : Content) → (pair_content (f c) ≡ pair_content c) × (is_shown_content (f c) ≡ is_shown_content c)
+SamePlacement f =
+    (c : Content)
+    → (pair_content (f c) ≡ pair_content c) × (is_shown_content (f c) ≡ is_shown_content c)
 
 pub content-placed : (f : Content → Content) → SamePlacement f → (w : Window)
     → placement (record w { content = f w.content }) ≡ placement w
@@ -219,7 +225,8 @@ record Given (d : ℕ) (ws : List Window) (n : ℕ) (r : Area) (q : p.Pair) (a b
   one : q.first ≡ top a
   two : q.second ≡ top b
   is : windows_placed (suc d) ws n r
-      ≡ windows_placed d (windows_placed d (with_area ws n r) (top a) (first_part q (has_size ws q.key) r)) (top b)
+      ≡ windows_placed d
+      (windows_placed d (with_area ws n r) (top a) (first_part q (has_size ws q.key) r)) (top b)
       (second_part q (has_size ws q.key) r)
 
 given : (d : ℕ) (ws : List Window) (n : ℕ) (r : Area) (f : p.Pair) (a b : Shape) (up : ℕ)
@@ -241,9 +248,11 @@ given d ws n r f a b up t e g =
         is = ap (λ o. pair_divided (windows_placed d) vs o r) k.1
             ∙ ap (λ z. windows_placed d (windows_placed d vs q.first (first_part q z r)) q.second
             (second_part q z r)) (size_with ws n r q.key)
-            ∙ ap (λ v. windows_placed d (windows_placed d vs v (first_part q (has_size ws q.key) r)) q.second
+            ∙ ap (λ v.
+            windows_placed d (windows_placed d vs v (first_part q (has_size ws q.key) r)) q.second
             (second_part q (has_size ws q.key) r)) one
-            ∙ ap (λ v. windows_placed d (windows_placed d vs (top a) (first_part q (has_size ws q.key) r)) v
+            ∙ ap (λ v.
+            windows_placed d (windows_placed d vs (top a) (first_part q (has_size ws q.key) r)) v
             (second_part q (has_size ws q.key) r)) two;
       },
     )
@@ -270,7 +279,8 @@ leaf-given d ws n r up t = record {
 }
 
 areas-given : (d : ℕ) (s : Shape) (ws : List Window) (up : ℕ) (r : Area) → tree_size s ≤ d
-    → SpellsTree ws up s → ((k : ℕ) → times_reached s k ≤ 1) → AreGiven ws (windows_placed d ws (top s) r) s r
+    → SpellsTree ws up s → ((k : ℕ) → times_reached s k ≤ 1)
+    → AreGiven ws (windows_placed d ws (top s) r) s r
 areas-given zero (Leaf n) ws up r h t c = absurd (omega (arith, h))
 areas-given zero (Fork n f a b) ws up r h t c = absurd (omega (arith, h))
 areas-given (suc d) (Leaf n) ws up r h t c = leaf-given d ws n r up t
@@ -291,7 +301,8 @@ areas-given (suc d) (Fork n f a b) ws up r h t c =
     let ib = areas-given d b w2 n two hb t2 (λ k. omega (arith, c k)) in
     let ta : 0 < times_reached a (top a) = count_top a in
     let tb : 0 < times_reached b (top b) = count_top b in
-    let apart : (m : ℕ) → 0 < times_reached a m → times_reached b m ≡ 0 = λ m l. omega (arith, c m, l) in
+    let apart : (m : ℕ) → 0 < times_reached a m → times_reached b m ≡ 0 =
+    λ m l. omega (arith, c m, l) in
     let kept : (m : ℕ) → times_reached b m ≡ 0 → window_area w3 m ≡ window_area w2 m =
     λ m e. area_kept d b w2 n two m t2 e in
     let whole : window_area w3 n ≡ r =
@@ -417,7 +428,8 @@ some-given t s cols rows o h =
     let of : (n : ℕ) (q : p.Pair) → pair_of vs n ≡ Some q → PartsOf ws vs n q =
     λ n q e. let f : pair_of ws n ≡ Some q = sym (pairs n) ∙ e in
     g.parts n q (live-count ws n (times_reached s n) q (h.2 n) f) f in
-    subst (λ k. HaveAreas (record t { slots = windows_placed d ws k r }) cols rows) (sym h.0) (record {
+    subst (λ k. HaveAreas (record t { slots = windows_placed d ws k r }) cols rows)
+    (sym h.0) (record {
       root = λ there. ap (window_area vs) h.0 ∙ g.whole;
       first = λ n q e. (of n q e).first
           ∙ ap (λ z. first_part q z (window_area vs n)) (sym (sizes q.key));
@@ -451,22 +463,28 @@ window-same : (w : Window) → is_sound_window w ≡ true → sized w.area w ≡
 window-same w e = ap (λ c. record w { content = c }) (content-same w.content w.area e)
 
 -- a window that has its rectangle already
-area-same : (ws : List Window) (n : ℕ) (a : Area) → are_sound_windows ws ≡ true → window_area ws n ≡ a
+area-same : (ws : List Window) (n : ℕ) (a : Area)
+    → are_sound_windows ws ≡ true → window_area ws n ≡ a
     → with_area ws n a ≡ ws
 unfolding changed_at found
 area-same [] n a s e = refl
 area-same (w ∷ ws) n a s e = elim (cases_Bool (w.number == n)) [
   | inl h ↦
       let here : w.area ≡ a =
-      sym (ap (λ b. read_window nowhere (λ v. v.area) (cond b (Some w) (found window_number ws n))) h) ∙ e in
+      sym
+      (ap (λ b. read_window nowhere (λ v. v.area) (cond b (Some w) (found window_number ws n))) h)
+      ∙ e in
       ap (λ b. cond b (sized a w ∷ ws) (w ∷ set_at (sized a) ws n)) h
       ∙ ap (λ b. sized b w ∷ ws) (sym here)
       ∙ ap (λ v. v ∷ ws) (window-same w (and_parts (is_sound_window w) (are_sound_windows ws) s).0)
   | inr h ↦
       let rest : window_area ws n ≡ a =
-      sym (ap (λ b. read_window nowhere (λ v. v.area) (cond b (Some w) (found window_number ws n))) h) ∙ e in
+      sym
+      (ap (λ b. read_window nowhere (λ v. v.area) (cond b (Some w) (found window_number ws n))) h)
+      ∙ e in
       ap (λ b. cond b (sized a w ∷ ws) (w ∷ set_at (sized a) ws n)) h
-      ∙ ap (λ v. w ∷ v) (area-same ws n a (and_parts (is_sound_window w) (are_sound_windows ws) s).1 rest)
+      ∙ ap (λ v. w ∷ v)
+      (area-same ws n a (and_parts (is_sound_window w) (are_sound_windows ws) s).1 rest)
 ]
 
 placed-again : (t : WindowTree) (cols rows : ℕ) → HaveAreas t cols rows

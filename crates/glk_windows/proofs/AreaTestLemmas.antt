@@ -9,7 +9,8 @@ use Rattle.glk_windows.specs.Areas.{HaveAreas}
 use Rattle.glk_windows.specs.Fields.{has_parts, has_screen, have_areas, have_parts, is_same}
 use Rattle.glk_windows.specs.Laws.{window_area}
 use Rattle.glk_windows.specs.Placing.{first_part, has_size, second_part}
-use Rattle.glk_windows.specs.Tree.{WindowTree, window_number, pair_in, pair_of, read_window, window_at}
+use Rattle.glk_windows.specs.Tree.{WindowTree, window_number, pair_in}
+use Rattle.glk_windows.specs.Tree.{pair_of, read_window, window_at}
 use Rattle.glk_windows.specs.Valid.{Ascends, IsOrdered, IsValidTree}
 use Rattle.glk_windows.specs.declared.window.Area.{Area}
 use Rattle.glk_windows.specs.declared.window.Pair as p
@@ -79,7 +80,8 @@ found-above (v ∷ vs) a z m w o h = elim (cases_Bool (v.number == m)) [
 
 found-first : (v : Window) (vs : List Window) → found window_number (v ∷ vs) v.number ≡ Some v
 unfolding found
-found-first v vs = ap (λ b. if b then Some v else found window_number vs v.number) (is-itself v.number)
+found-first v vs =
+    ap (λ b. if b then Some v else found window_number vs v.number) (is-itself v.number)
 
 found-later : (v : Window) (vs : List Window) (a z m : ℕ) (w : Window) → Ascends a (v ∷ vs) z
     → found window_number vs m ≡ Some w → found window_number (v ∷ vs) m ≡ Some w
@@ -106,7 +108,8 @@ window-with : (o : Option Window) (q : p.Pair) → read_window None pair_in o �
 window-with None q e = absurd cc
 window-with (Some w) q e = (w, refl, e)
 
-area-in : (ws : List Window) (n : ℕ) (w : Window) → window_at ws n ≡ Some w → window_area ws n ≡ w.area
+area-in : (ws : List Window) (n : ℕ) (w : Window)
+    → window_at ws n ≡ Some w → window_area ws n ≡ w.area
 area-in ws n w e = ap (read_window (record { x = 0; y = 0; w = 0; h = 0 }) (λ v. v.area)) e
 
 -- ---- the root
@@ -138,7 +141,8 @@ Parts t q a =
 parts-of : (t : WindowTree) (q : p.Pair) (a : Area) → has_parts t.slots (Some q) a ≡ true
     → Parts t q a
 parts-of t q a e =
-    let one : Bool = is_same (window_area t.slots q.first) (first_part q (has_size t.slots q.key) a) in
+    let one : Bool =
+    is_same (window_area t.slots q.first) (first_part q (has_size t.slots q.key) a) in
     let two : Bool =
     is_same (window_area t.slots q.second) (second_part q (has_size t.slots q.key) a) in
     let k = and_parts one two e in (

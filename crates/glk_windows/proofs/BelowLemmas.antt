@@ -1,14 +1,20 @@
 -- A window below a pair, by the way up and by the tree.
-use Rattle.std.proofs.Common.{◌≡◌, ◌≢◌, ◌⊎◌, inl, inr, ℕ, zero, suc, ◌≤◌, ◌<◌, ◌==◌, ◌||◌, ◌&&◌, List, [], ◌∷◌, length, refl, sym, ap, ◌∙◌, Option, Some, None, is_some, option_map, arith, Bool, true, false, not, if◌then◌else◌, nat_lt}
+use Rattle.std.proofs.Common.{◌≡◌, ◌≢◌, ◌⊎◌, inl, inr, ℕ, zero, suc, ◌≤◌, ◌<◌}
+use Rattle.std.proofs.Common.{◌==◌, ◌||◌, ◌&&◌, List, [], ◌∷◌, length, refl, sym}
+use Rattle.std.proofs.Common.{ap, ◌∙◌, Option, Some, None, is_some, option_map}
+use Rattle.std.proofs.Common.{arith, Bool, true, false, not, if◌then◌else◌, nat_lt}
 use Rattle.std.proofs.lemmas.Grind.{common_steps}
 use Rattle.glk_numbers.specs.Numbered.{found}
 use Rattle.glk_windows.specs.declared.window.Window.{Window}
 use Rattle.glk_windows.specs.declared.window.Pair as pairs
 use Rattle.glk_windows.specs.declared.window.Content.{Content}
 use Rattle.glk_windows.specs.declared.window.Content.TheVariants.{Pair, Blank, Buffer, Grid}
-use Rattle.glk_windows.specs.Tree.{WindowTree, IsLive, read_window, window_at, pair_of, pair_in, pair_content, parent_of}
+use Rattle.glk_windows.specs.Tree.{WindowTree, IsLive, read_window, window_at}
+use Rattle.glk_windows.specs.Tree.{pair_of, pair_in, pair_content, parent_of}
 use Rattle.glk_windows.specs.Reading.{is_below, kind_in, window_kind, may_key}
-use Rattle.glk_windows.specs.OneTree.{Shape, Leaf, Fork, top, times_reached, pair_without_key, node_of, SpellsTree, Once, below, has_leaf, tree_size, tree_of}
+use Rattle.glk_windows.specs.OneTree.{Shape, Leaf, Fork, top, times_reached}
+use Rattle.glk_windows.specs.OneTree.{pair_without_key, node_of, SpellsTree}
+use Rattle.glk_windows.specs.OneTree.{Once, below, has_leaf, tree_size, tree_of}
 use Rattle.glk_windows.specs.Valid.{IsValidTree, IsOrdered}
 use Rattle.glk_windows.specs.Laws.{IsKeyOf, MayKeyHolds}
 use Rattle.glk_windows.proofs.OneTreeLemmas.{count_top, is_eq, once_at, once_le, node_parent}
@@ -52,10 +58,12 @@ zero-at f u m e z c = absurd (omega (arith, ap f e, z, c))
 at-top : (s : Shape) (n u : ℕ) → top s ≡ n → u ≡ n → 0 < times_reached s u
 at-top s n u e f = ap-lt (ap (times_reached s) (e ∙ sym f)) (count_top s)
 
-own-count : (m : ℕ) (p : pairs.Pair) (a b : Shape) (u : ℕ) → u ≡ m → 0 < times_reached (Fork m p a b) u
+own-count : (m : ℕ) (p : pairs.Pair) (a b : Shape) (u : ℕ)
+    → u ≡ m → 0 < times_reached (Fork m p a b) u
 own-count m p a b u e = at-top (Fork m p a b) m u refl e
 
-above : (ws : List Window) (m k u up : ℕ) (p : pairs.Pair) (a b : Shape) → k ≡ m → parent_of ws k ≡ u → up ≡ parent_of ws m
+above : (ws : List Window) (m k u up : ℕ) (p : pairs.Pair) (a b : Shape)
+    → k ≡ m → parent_of ws k ≡ u → up ≡ parent_of ws m
     → times_reached (Fork m p a b) up ≡ 0 → 0 < times_reached (Fork m p a b) u → ⊥
 above ws m k u up p a b e f g z c =
     zero-at (times_reached (Fork m p a b)) u up (sym f ∙ ap (parent_of ws) e ∙ sym g) z c
@@ -66,16 +74,21 @@ pub data Place (m : ℕ) (a b : Shape) (k : ℕ) : Type 0 where
   InA : 0 < times_reached a k → Place m a b k
   InB : 0 < times_reached b k → Place m a b k
 
-stands : (m k : ℕ) (p : pairs.Pair) (a b : Shape) (x y : Bool) → (m == k) ≡ x → nat_lt 0 (times_reached a k) ≡ y
+stands : (m k : ℕ) (p : pairs.Pair) (a b : Shape) (x y : Bool)
+    → (m == k) ≡ x → nat_lt 0 (times_reached a k) ≡ y
     → 0 < times_reached (Fork m p a b) k → Place m a b k
 stands m k p a b true y e f h = Here (sym (is_eq m k e))
 stands m k p a b false true e f h = InA (grind (arith, common_steps))
 stands m k p a b false false e f h = InB (grind (arith, common_steps))
 
-place-of : (m k : ℕ) (p : pairs.Pair) (a b : Shape) → 0 < times_reached (Fork m p a b) k → Place m a b k
+place-of : (m k : ℕ) (p : pairs.Pair) (a b : Shape)
+    → 0 < times_reached (Fork m p a b) k → Place m a b k
 place-of m k p a b h = stands m k p a b (m == k) (nat_lt 0 (times_reached a k)) refl refl h
 
-own : (m : ℕ) (p : pairs.Pair) (a b : Shape) (k : ℕ) → times_reached (Fork m p a b) m ≤ 1 → times_reached a k ≡ times_reached a k → (times_reached a m ≡ 0) × (times_reached b m ≡ 0)
+own : (m : ℕ) (p : pairs.Pair) (a b : Shape) (k : ℕ)
+    → times_reached (Fork m p a b) m ≤ 1
+    → times_reached a k ≡ times_reached a k
+    → (times_reached a m ≡ 0) × (times_reached b m ≡ 0)
 own m p a b k h e = (grind (arith, common_steps), grind (arith, common_steps))
 
 -- the parent of a window of a tree is in the tree, or above it
@@ -85,17 +98,26 @@ parent-in ws (Leaf m) up k t c =
     let e : m ≡ k = grind (arith, common_steps) in
     inl (ap (parent_of ws) (sym e) ∙ sym (node_parent ws m _ t))
 parent-in ws (Fork m p a b) up k t c =
-    elim (place-of m k p a b c) as (λ _. (parent_of ws k ≡ up) ⊎ (0 < times_reached (Fork m p a b) (parent_of ws k))) [
+    elim (place-of m k p a b c)
+    as (λ _. (parent_of ws k ≡ up) ⊎ (0 < times_reached (Fork m p a b) (parent_of ws k))) [
       | Here e ↦ inl (ap (parent_of ws) e ∙ sym (node_parent ws m _ t.0))
-      | InA f ↦ (elim (parent-in ws a m k t.3 f) as (λ _. (parent_of ws k ≡ up) ⊎ (0 < times_reached (Fork m p a b) (parent_of ws k)))
+      | InA f ↦
+          (elim (parent-in ws a m k t.3 f)
+          as (λ _. (parent_of ws k ≡ up) ⊎ (0 < times_reached (Fork m p a b) (parent_of ws k)))
           [ inl e ↦ inr (own-count m p a b (parent_of ws k) e) | inr g ↦ inr (omega (arith, g)) ])
-      | InB f ↦ (elim (parent-in ws b m k t.4 f) as (λ _. (parent_of ws k ≡ up) ⊎ (0 < times_reached (Fork m p a b) (parent_of ws k)))
+      | InB f ↦
+          (elim (parent-in ws b m k t.4 f)
+          as (λ _. (parent_of ws k ≡ up) ⊎ (0 < times_reached (Fork m p a b) (parent_of ws k)))
           [ inl e ↦ inr (own-count m p a b (parent_of ws k) e) | inr g ↦ inr (omega (arith, g)) ])
     ]
 
 -- what hangs below a window of a part is in the part
-below-part : (ws : List Window) (n : ℕ) (s : Shape) (up k : ℕ) → SpellsTree ws up s → ((m : ℕ) → times_reached s m ≤ 1) → times_reached s up ≡ 0
-    → 0 < times_reached s n → 0 < times_reached s k → 0 < times_reached (below n s) (parent_of ws k) → 0 < times_reached (below n s) k
+below-part : (ws : List Window) (n : ℕ) (s : Shape) (up k : ℕ)
+    → SpellsTree ws up s → ((m : ℕ) → times_reached s m ≤ 1)
+    → times_reached s up ≡ 0
+    → 0 < times_reached s n → 0 < times_reached s k
+    → 0 < times_reached (below n s) (parent_of ws k)
+    → 0 < times_reached (below n s) k
 below-part ws n (Leaf m) up k t d z cn ck cu =
     let e : m ≡ k = grind (arith, common_steps) in
     let u : parent_of ws k ≡ up = ap (parent_of ws) (sym e) ∙ sym (node_parent ws m _ t) in
@@ -115,7 +137,8 @@ below-part ws n (Fork m p a b) up k t d z cn ck cu =
     let cau : 0 < times_reached a u = omega (arith, cv, count_below n a u) in
     lt-ap (ap (λ x. times_reached x k) g)
     (elim (place-of m k p a b ck) as (λ _. 0 < times_reached (below n a) k) [
-      | Here h ↦ absurd (above ws m k u up p a b h refl (node_parent ws m _ t.0) z (omega (arith, cau)))
+      | Here h ↦
+          absurd (above ws m k u up p a b h refl (node_parent ws m _ t.0) z (omega (arith, cau)))
       | InA h ↦ below-part ws n a m k t.3 (λ x. omega (arith, d x)) o.0 ca h cv
       | InB h ↦ (elim (parent-in ws b m k t.4 h) as (λ _. 0 < times_reached (below n a) k) [
         | inl i ↦ absurd (zero-at (times_reached a) u m i o.0 cau)
@@ -128,7 +151,8 @@ below-part ws n (Fork m p a b) up k t d z cn ck cu =
     let cbu : 0 < times_reached b u = omega (arith, cv, count_below n b u) in
     lt-ap (ap (λ x. times_reached x k) g)
     (elim (place-of m k p a b ck) as (λ _. 0 < times_reached (below n b) k) [
-      | Here h ↦ absurd (above ws m k u up p a b h refl (node_parent ws m _ t.0) z (omega (arith, cbu)))
+      | Here h ↦
+          absurd (above ws m k u up p a b h refl (node_parent ws m _ t.0) z (omega (arith, cbu)))
       | InB h ↦ below-part ws n b m k t.4 (λ x. omega (arith, d x)) o.1 cb h cv
       | InA h ↦ (elim (parent-in ws a m k t.3 h) as (λ _. 0 < times_reached (below n b) k) [
         | inl i ↦ absurd (zero-at (times_reached b) u m i o.1 cbu)
@@ -139,15 +163,22 @@ below-part ws n (Fork m p a b) up k t d z cn ck cu =
 parent-none : (ws : List Window) (k : ℕ) → node_of ws k ≡ None → parent_of ws k ≡ 0
 unfolding found
 parent-none [] k e = refl
-parent-none (w ∷ ws) k e = let h : node_of ws k ≡ None → parent_of ws k ≡ 0 = parent-none ws k in grind (arith, common_steps)
+parent-none (w ∷ ws) k e =
+    let h : node_of ws k ≡ None → parent_of ws k ≡ 0 = parent-none ws k in
+    grind (arith, common_steps)
 
-live-count : (o : Option (ℕ × Option pairs.Pair)) (n u : ℕ) → n ≡ (if is_some o then 1 else 0) → (o ≡ None → u ≡ 0) → u ≢ 0 → 0 < n
+live-count : (o : Option (ℕ × Option pairs.Pair)) (n u : ℕ)
+    → n ≡ (if is_some o then 1 else 0) → (o ≡ None → u ≡ 0)
+    → u ≢ 0 → 0 < n
 live-count None n u e f h = absurd (h (f refl))
 live-count (Some x) n u e f h = omega (arith, e)
 
 -- the way up from a window leads to those above it alone
-way-up : (d : ℕ) (ws : List Window) (n : ℕ) (s : Shape) (k : ℕ) → SpellsTree ws 0 s → ((m : ℕ) → times_reached s m ≤ 1) → Once ws s
-    → times_reached s 0 ≡ 0 → 0 < times_reached s n → is_below d ws k n ≡ true → 0 < times_reached (below n s) k
+way-up : (d : ℕ) (ws : List Window) (n : ℕ) (s : Shape) (k : ℕ)
+    → SpellsTree ws 0 s → ((m : ℕ) → times_reached s m ≤ 1)
+    → Once ws s
+    → times_reached s 0 ≡ 0 → 0 < times_reached s n
+    → is_below d ws k n ≡ true → 0 < times_reached (below n s) k
 unfolding is_below
 way-up zero ws n s k t d w z cn e = cc
 way-up (suc j) ws n s k t d w z cn e =
@@ -158,14 +189,22 @@ way-up (suc j) ws n s k t d w z cn e =
     (λ f. way-up j ws n s u t d w z cn (or-false (u == n) _ f e)) in
     let csu : 0 < times_reached s u = omega (arith, cu, count_below n s u) in
     let uz : u ≢ 0 = λ i. zero-at (times_reached s) u 0 i z csu in
-    below-part ws n s 0 k t d z cn (live-count (node_of ws k) (times_reached s k) u (w k) (parent-none ws k) uz) cu
+    below-part ws n s 0 k t d z cn
+    (live-count (node_of ws k) (times_reached s k) u (w k) (parent-none ws k) uz) cu
 
-leaf-of : (ws : List Window) (s : Shape) (up k : ℕ) → SpellsTree ws up s → ((m : ℕ) → times_reached s m ≤ 1) → 0 < times_reached s k → pair_of ws k ≡ None → has_leaf s k ≡ true
+leaf-of : (ws : List Window) (s : Shape) (up k : ℕ)
+    → SpellsTree ws up s → ((m : ℕ) → times_reached s m ≤ 1)
+    → 0 < times_reached s k → pair_of ws k ≡ None
+    → has_leaf s k ≡ true
 leaf-of ws (Leaf n) up k t d c e = grind (arith, common_steps)
 leaf-of ws (Fork n p a b) up k t d c e =
     elim (below_one ws n k p a b up t.0 e c (d k)) as (λ _. (has_leaf a k || has_leaf b k) ≡ true) [
-      | InFirst f g ↦ (let h : has_leaf a k ≡ true = leaf-of ws a n k t.3 (λ x. omega (arith, d x)) f e in grind (arith, common_steps))
-      | InSecond f g ↦ (let h : has_leaf b k ≡ true = leaf-of ws b n k t.4 (λ x. omega (arith, d x)) f e in grind (arith, common_steps))
+      | InFirst f g ↦
+          (let h : has_leaf a k ≡ true = leaf-of ws a n k t.3 (λ x. omega (arith, d x)) f e in
+          grind (arith, common_steps))
+      | InSecond f g ↦
+          (let h : has_leaf b k ≡ true = leaf-of ws b n k t.4 (λ x. omega (arith, d x)) f e in
+          grind (arith, common_steps))
     ]
 
 kind-pair : (c : Content) → (kind_in c == 1) ≡ false → pair_content c ≡ None
@@ -174,30 +213,39 @@ kind-pair Blank e = refl
 kind-pair (Buffer b) e = refl
 kind-pair (Grid g) e = refl
 
-kind-found : (o : Option Window) → (read_window 0 (λ w. kind_in w.content) o == 1) ≡ false → read_window None pair_in o ≡ None
+kind-found : (o : Option Window)
+    → (read_window 0 (λ w. kind_in w.content) o == 1) ≡ false
+    → read_window None pair_in o ≡ None
 kind-found None e = refl
 kind-found (Some w) e = kind-pair w.content e
 
-key-tree : (t : WindowTree) (n key : ℕ) (x : ℕ × Option pairs.Pair) → SomeTree t → IsOrdered t → node_of t.slots n ≡ Some x
+key-tree : (t : WindowTree) (n key : ℕ) (x : ℕ × Option pairs.Pair)
+    → SomeTree t → IsOrdered t → node_of t.slots n ≡ Some x
     → is_below (length t.slots) t.slots key n ≡ true → pair_of t.slots key ≡ None → IsKeyOf t n key
 unfolding IsOrdered
 key-tree t n key x (None, h, k) o l up pn = absurd (node_nil t.slots n x h.1 l)
 key-tree t n key x (Some s, h, k) o l up pn =
     let cn : 0 < times_reached s n = omega (arith, once_at _ _ x l (h.2 n)) in
     let dd : (m : ℕ) → times_reached s m ≤ 1 = λ m. once_le _ _ (h.2 m) in
-    let z : times_reached s 0 ≡ 0 = h.2 0 ∙ ap (λ o. if is_some o then 1 else 0) (node_lower 1 t.slots t.next 0 o (omega arith)) in
+    let z : times_reached s 0 ≡ 0 =
+    h.2 0 ∙ ap (λ o. if is_some o then 1 else 0) (node_lower 1 t.slots t.next 0 o (omega arith)) in
     let tb : _ = spells_below t.slots n s 0 h.1 cn in
-    let ck : 0 < times_reached (below n s) key = way-up (length t.slots) t.slots n s key h.1 dd h.2 z cn up in
+    let ck : 0 < times_reached (below n s) key =
+    way-up (length t.slots) t.slots n s key h.1 dd h.2 z cn up in
     let lf : has_leaf (below n s) key ≡ true =
-    leaf-of t.slots (below n s) (parent_of t.slots n) key tb.1 (λ m. omega (arith, count_below n s m, dd m)) ck pn in
+    leaf-of t.slots (below n s) (parent_of t.slots n) key tb.1
+    (λ m. omega (arith, count_below n s m, dd m)) ck pn in
     inr (ap (λ x. has_leaf (below n x) key) (tree_found t s o h) ∙ lf)
 
 key-case : (t : WindowTree) (n key : ℕ) (b : Bool) → (key == 0) ≡ b → IsValidTree t → IsLive t n
-    → (b || (is_below (length t.slots) t.slots key n && not (window_kind t.slots key == 1))) ≡ true → IsKeyOf t n key
+    → (b || (is_below (length t.slots) t.slots key n && not (window_kind t.slots key == 1))) ≡ true
+    → IsKeyOf t n key
 key-case t n key true e v l h = inl (is_eq key 0 e)
 key-case t n key false e v l h =
-    let up : is_below (length t.slots) t.slots key n ≡ true = and-left (is_below (length t.slots) t.slots key n) _ h in
-    let kd : (window_kind t.slots key == 1) ≡ false = not-false _ (and-right (is_below (length t.slots) t.slots key n) _ h) in
+    let up : is_below (length t.slots) t.slots key n ≡ true =
+    and-left (is_below (length t.slots) t.slots key n) _ h in
+    let kd : (window_kind t.slots key == 1) ≡ false =
+    not-false _ (and-right (is_below (length t.slots) t.slots key n) _ h) in
     let pn : pair_of t.slots key ≡ None = kind-found (window_at t.slots key) kd in
     let x : _ = node_live t.slots n l in
     key-tree t n key x.0 (some_tree t v) v.ordered x.1 up pn

@@ -1,37 +1,51 @@
 -- Closing a window below the root keeps the windows one tree.
-use Rattle.std.proofs.Common.{◌≡◌, ℕ, ◌+◌, ◌<◌, ◌≤◌, ◌≢◌, List, length, refl, sym, ap, ◌∙◌}
-use Rattle.std.proofs.Common.{Option, Some, None, is_some, option_map, arith, Bool, true, false, cond}
-use Rattle.std.proofs.Common.{nat_lt, ◌==◌, if◌then◌else◌}
+use Rattle.std.proofs.Common.{◌≡◌, ℕ, ◌+◌, ◌<◌, ◌≤◌, ◌≢◌, List, length, refl, sym}
+use Rattle.std.proofs.Common.{ap, ◌∙◌, Option, Some, None, is_some, option_map, arith}
+use Rattle.std.proofs.Common.{Bool, true, false, cond, nat_lt, ◌==◌, if◌then◌else◌}
 use Rattle.std.proofs.lemmas.Grind.{common_steps}
 use Rattle.glk_windows.specs.declared.window.Window.{Window}
 use Rattle.glk_windows.specs.declared.window.Pair as p
 use Rattle.glk_windows.specs.Tree.{WindowTree, set_at, pair_of, pair_swapped, swapped, parent_of}
-use Rattle.glk_windows.specs.Closing.{windows_without, removed, raised, lifted, close, sibling_lifted}
+use Rattle.glk_windows.specs.Closing.{windows_without, removed, raised}
+use Rattle.glk_windows.specs.Closing.{lifted, close, sibling_lifted}
 use Rattle.glk_windows.specs.Reading.{other_window as sibling}
 use Rattle.glk_windows.specs.Valid.{Ascends, IsOrdered}
-use Rattle.glk_windows.specs.OneTree.{Shape, Leaf, Fork, top, times_reached, pair_without_key, node_of, SpellsTree, IsTree}
+use Rattle.glk_windows.specs.OneTree.{Shape, Leaf, Fork, top, times_reached}
+use Rattle.glk_windows.specs.OneTree.{pair_without_key, node_of, SpellsTree, IsTree}
 use Rattle.glk_windows.specs.OneTree.{tree_size, below, tree_without, pair_above}
 use Rattle.glk_windows.proofs.OneTreeLemmas.{node_set_at, content-swapped, once_at, once_le}
 use Rattle.glk_windows.proofs.OneTreeLemmas.{node_parent, is_eq}
-use Rattle.glk_windows.proofs.CutLemmas.{node_lower, node_removed, node_closed, node_pair, size_length}
+use Rattle.glk_windows.proofs.CutLemmas.{node_lower, node_removed}
+use Rattle.glk_windows.proofs.CutLemmas.{node_closed, node_pair, size_length}
 use Rattle.glk_windows.proofs.LiftLemmas.{Cuts, count_below, count_cut, outside, relift, spells_cut}
 use Rattle.glk_windows.proofs.LiftLemmas.{top_cut}
 use Rattle.glk_windows.proofs.OrderLemmas.{ascends-removed}
 
 below-if : (b : Bool) (ws : List Window) (n : ℕ) (x y : Shape)
-    → (b ≡ true → (top x ≡ n) × SpellsTree ws (parent_of ws n) x) → (b ≡ false → (top y ≡ n) × SpellsTree ws (parent_of ws n) y)
+    → (b ≡ true → (top x ≡ n) × SpellsTree ws (parent_of ws n) x)
+    → (b ≡ false → (top y ≡ n) × SpellsTree ws (parent_of ws n) y)
     → (top (cond b x y) ≡ n) × SpellsTree ws (parent_of ws n) (cond b x y)
 below-if true ws n x y h k = h refl
 below-if false ws n x y h k = k refl
 
-pub spells_below : (ws : List Window) (n : ℕ) (s : Shape) (up : ℕ) → SpellsTree ws up s → 0 < times_reached s n
+pub spells_below : (ws : List Window) (n : ℕ) (s : Shape) (up : ℕ)
+    → SpellsTree ws up s → 0 < times_reached s n
     → (top (below n s) ≡ n) × SpellsTree ws (parent_of ws n) (below n s)
 spells_below ws n (Leaf m) up t c =
     let i : m ≡ n = grind (arith, common_steps) in
     (i, t ∙ ap (λ u. Some (u, None)) (node_parent ws m _ t ∙ ap (parent_of ws) i))
 spells_below ws n (Fork m p a b) up t c =
     below-if (m == n) ws n _ _
-    (λ e. (is_eq m n e, (t.0 ∙ ap (λ u. Some (u, Some p)) (node_parent ws m _ t.0 ∙ ap (parent_of ws) (is_eq m n e)), t.1, t.2, t.3, t.4)))
+    (λ e. (
+      is_eq m n e,
+      (
+        t.0 ∙ ap (λ u. Some (u, Some p)) (node_parent ws m _ t.0 ∙ ap (parent_of ws) (is_eq m n e)),
+        t.1,
+        t.2,
+        t.3,
+        t.4,
+      ),
+    ))
     (λ e. below-if (nat_lt 0 (times_reached a n)) ws n _ _
     (λ f. spells_below ws n a m t.3 (grind (arith, common_steps)))
     (λ f. spells_below ws n b m t.4 (grind (arith, common_steps))))
@@ -75,7 +89,8 @@ pair_rest t s n x o h live hn =
 
 relifts : (o : Option (ℕ × Option p.Pair)) (pair other above m : ℕ)
     → option_map (λ x. if m == other then (above, x.1) else x)
-    (option_map (λ x. if m == above then (x.0, option_map (λ p. pair_swapped p pair other) x.1) else x) o)
+    (option_map
+    (λ x. if m == above then (x.0, option_map (λ p. pair_swapped p pair other) x.1) else x) o)
     ≡ option_map (relift pair other above m) o
 relifts None pair other above m = refl
 relifts (Some (u, None)) pair other above m = grind (arith, common_steps)
@@ -83,37 +98,49 @@ relifts (Some (u, Some p)) pair other above m = grind (arith, common_steps)
 
 -- what a list says after the lifting
 pub node_raised : (ws : List Window) (z pair other above m : ℕ) → Ascends 1 ws z
-    → node_of (raised ws pair other above) m ≡ option_map (relift pair other above m) (if m == pair then None else node_of ws m)
+    → node_of (raised ws pair other above) m
+    ≡ option_map (relift pair other above m) (if m == pair then None else node_of ws m)
 node_raised ws z pair other above m o =
-    let i : _ = node_set_at (λ w. record w { parent = above }) (λ x. (above, x.1)) (λ w. refl) (λ w. refl)
-    (set_at (λ w. record w { content = swapped w.content pair other }) (windows_without ws pair) above) other m in
+    let i : _ =
+    node_set_at (λ w. record w { parent = above }) (λ x. (above, x.1)) (λ w. refl) (λ w. refl)
+    (set_at (λ w. record w { content = swapped w.content pair other })
+    (windows_without ws pair) above) other m in
     let j : _ = node_set_at (λ w. record w { content = swapped w.content pair other })
     (λ x. (x.0, option_map (λ p. pair_swapped p pair other) x.1)) (λ w. refl)
-    (λ w. ap (λ o. (w.parent, o)) (content-swapped w.content pair other)) (windows_without ws pair) above m in
+    (λ w. ap (λ o. (w.parent, o)) (content-swapped w.content pair other))
+    (windows_without ws pair) above m in
     i ∙ ap (option_map (λ x. if m == other then (above, x.1) else x)) j
     ∙ relifts (node_of (windows_without ws pair) m) pair other above m
     ∙ ap (option_map (relift pair other above m)) (node_closed 1 ws z pair m o)
 
-tree-false : (b : Bool) (x y : WindowTree) (s : Option Shape) → b ≡ false → IsTree y s → IsTree (cond b x y) s
+tree-false : (b : Bool) (x y : WindowTree) (s : Option Shape)
+    → b ≡ false → IsTree y s → IsTree (cond b x y) s
 tree-false true x y s e h = cc
 tree-false false x y s e h = h
 
-lift-of : (o : Option p.Pair) (r : p.Pair) → option_map pair_without_key o ≡ Some r → (t : WindowTree) (pair n : ℕ)
+lift-of : (o : Option p.Pair) (r : p.Pair)
+    → option_map pair_without_key o ≡ Some r
+    → (t : WindowTree) (pair n : ℕ)
     → sibling_lifted t pair o n ≡ lifted t pair (sibling r n)
 lift-of None r e t pair n = cc
-lift-of (Some q) r e t pair n = (let i : pair_without_key q ≡ r = cc in ap (λ y. lifted t pair (sibling y n)) i)
+lift-of (Some q) r e t pair n =
+    (let i : pair_without_key q ≡ r = cc in ap (λ y. lifted t pair (sibling y n)) i)
 
-pair-is : (x y : ℕ × Option p.Pair) (q r : p.Pair) → Some x ≡ Some y → x.1 ≡ Some q → y.1 ≡ Some r → q ≡ r
+pair-is : (x y : ℕ × Option p.Pair) (q r : p.Pair)
+    → Some x ≡ Some y → x.1 ≡ Some q → y.1 ≡ Some r → q ≡ r
 pair-is x y q r e f g = cc
 
-once-lift : (o v : Option (ℕ × Option p.Pair)) (f : ℕ × Option p.Pair → ℕ × Option p.Pair) (m pair c b : ℕ)
+once-lift : (o v : Option (ℕ × Option p.Pair)) (f : ℕ × Option p.Pair → ℕ × Option p.Pair)
+    (m pair c b : ℕ)
     → c + b + (if pair == m then 1 else 0) ≡ (if is_some o then 1 else 0)
-    → v ≡ option_map f (if m == pair then None else (if nat_lt 0 b then None else o)) → c ≡ (if is_some v then 1 else 0)
+    → v ≡ option_map f (if m == pair then None else (if nat_lt 0 b then None else o))
+    → c ≡ (if is_some v then 1 else 0)
 once-lift None v f m pair c b h e = grind (arith, common_steps)
 once-lift (Some y) v f m pair c b h e = grind (arith, common_steps)
 
 -- closing a window below the root keeps the windows one tree
-pub tree_close : (t : WindowTree) (s : Shape) (n : ℕ) (x : ℕ × Option p.Pair) → IsOrdered t → IsTree t (Some s)
+pub tree_close : (t : WindowTree) (s : Shape) (n : ℕ) (x : ℕ × Option p.Pair)
+    → IsOrdered t → IsTree t (Some s)
     → node_of t.slots n ≡ Some x → top s ≢ n → IsTree (close t n) (Some (tree_without n s))
 unfolding IsOrdered
 tree_close t s n x o h live hn =
@@ -128,24 +155,33 @@ tree_close t s n x o h live hn =
     let c1 : times_reached s n ≡ 1 = once_at _ _ x live (h.2 n) in
     let c0 : 0 < times_reached s n = omega (arith, c1) in
     let dd : (m : ℕ) → times_reached s m ≤ 1 = λ m. once_le _ _ (h.2 m) in
-    let n2 : (m : ℕ) → node_of w2 m ≡ (if nat_lt 0 (times_reached sub m) then None else node_of ws m) =
+    let n2 : (m : ℕ)
+    → node_of w2 m ≡ (if nat_lt 0 (times_reached sub m) then None else node_of ws m) =
     node_rest t s n x o h live in
-    let out : (times_reached sub pair ≡ 0) × (node_of ws pair ≡ Some (parent_of ws pair, Some (pair_above n s))) × (0 < times_reached s pair) =
+    let out : (times_reached sub pair ≡ 0)
+    × (node_of ws pair ≡ Some (parent_of ws pair, Some (pair_above n s)))
+    × (0 < times_reached s pair) =
     outside ws n s 0 h.1 dd hn c0 in
     let o1 : node_of ws pair ≡ Some (parent_of ws pair, Some (pair_above n s)) = out.1 in
     let np2 : node_of w2 pair ≡ Some (parent_of ws pair, Some (pair_above n s)) =
     pair_rest t s n x o h live hn in
     let ab : parent_of ws pair ≡ above = node_parent w2 pair _ np2 in
     let o2 : Ascends 1 w2 t.next = ascends-removed d 1 ws t.next n o in
-    let nv : (m : ℕ) → node_of vs m ≡ option_map (relift pair other above m) (if m == pair then None else node_of w2 m) =
+    let nv : (m : ℕ)
+    → node_of vs m
+    ≡ option_map (relift pair other above m) (if m == pair then None else node_of w2 m) =
     λ m. node_raised w2 t.next pair other above m o2 in
     let k : Cuts ws vs n sub pair other above = record {
       kept = λ m y e a b. (let z : _ = n2 m in
-          let v : (if m == pair then None else node_of w2 m) ≡ Some y = grind (arith, common_steps) in
+          let v : (if m == pair then None else node_of w2 m) ≡ Some y =
+          grind (arith, common_steps) in
           nv m ∙ ap (option_map (relift pair other above m)) v);
       under = λ m y e l. node_parent ws m y l ∙ ap (parent_of ws) e;
       over = λ m y e l. node_parent ws m y l ∙ ap (parent_of ws) e ∙ ab;
-      beside = λ m u q e l. ap (λ y. sibling y n) (sym (pair-is (u, Some q) (parent_of ws pair, Some (pair_above n s)) q (pair_above n s) (sym l ∙ ap (node_of ws) e ∙ o1) refl refl));
+      beside =
+          λ m u q e l. ap (λ y.
+          sibling y n) (sym (pair-is (u, Some q) (parent_of ws pair, Some (pair_above n s)) q
+          (pair_above n s) (sym l ∙ ap (node_of ws) e ∙ o1) refl refl));
     } in
     let lo : pair < 1 → node_of ws pair ≡ None = node_lower 1 ws t.next pair o in
     let pz : (pair == 0) ≡ false = grind (arith, common_steps) in
@@ -154,10 +190,14 @@ tree_close t s n x o h live hn =
     top_cut ws vs n sub pair other above k s 0 h.1 dd hn c0 in
     tree-false (pair == 0) (record t { slots = w2; root = 0 })
     (sibling_lifted (record t { slots = w2 }) pair (pair_of w2 pair) n) (Some (tree_without n s)) pz
-    (rw (lift-of (pair_of w2 pair) (pair_above n s) (node_pair w2 pair _ np2) (record t { slots = w2 }) pair n) (
+    (rw (lift-of (pair_of w2 pair) (pair_above n s) (node_pair w2 pair _ np2)
+    (record t { slots = w2 }) pair n) (
       grind (arith, common_steps),
       spells_cut ws vs n sub pair other above k s 0 h.1 dd hn c0 (λ j. refl),
-      λ m. once-lift (node_of ws m) (node_of vs m) (relift pair other above m) m pair _ (times_reached sub m)
+      λ m. once-lift (node_of ws m) (node_of vs m) (relift pair other above m) m pair _
+          (times_reached sub m)
           (count_cut ws vs n sub pair other above k s 0 h.1 dd hn c0 m ∙ h.2 m)
-          (nv m ∙ ap (λ y. option_map (relift pair other above m) (if m == pair then None else y)) (n2 m)),
+          (nv m
+          ∙ ap (λ y. option_map (relift pair other above m) (if m == pair then None else y))
+          (n2 m)),
     ))

@@ -1,6 +1,7 @@
 -- Windows that are taken away, by place and by number.
 use native.Mathlib.Numerals.{unary_clauses}
-use Rattle.std.proofs.Common.{◌≡◌, ℕ, zero, suc, ◌-◌, ◌<◌, List, [], ◌∷◌, refl, Option, Some, None, arith}
+use Rattle.std.proofs.Common.{◌≡◌, ℕ, zero, suc, ◌-◌, ◌<◌, List, []}
+use Rattle.std.proofs.Common.{◌∷◌, refl, Option, Some, None, arith}
 use Rattle.std.specs.List.{remove}
 use Rattle.std.proofs.lemmas.Grind.{common_steps}
 use Rattle.glk_numbers.specs.Numbered.{place_of, without}
@@ -9,12 +10,16 @@ use Rattle.glk_windows.specs.declared.window.Pair as p
 use Rattle.glk_windows.specs.Tree.{window_number, pair_of}
 use Rattle.glk_windows.specs.Closing.{windows_without, removed, both}
 
-pub without-none : (ws : List Window) (n : ℕ) → None ≡ place_of window_number ws n → ws ≡ without window_number ws n
+pub without-none : (ws : List Window) (n : ℕ)
+    → None ≡ place_of window_number ws n
+    → ws ≡ without window_number ws n
 unfolding without place_of
 without-none [] n e = refl
 without-none (w ∷ ws) n e = grind (arith, common_steps, without-none ws n)
 
-pub without-some : (ws : List Window) (n i : ℕ) → Some i ≡ place_of window_number ws n → remove ws i ≡ without window_number ws n
+pub without-some : (ws : List Window) (n i : ℕ)
+    → Some i ≡ place_of window_number ws n
+    → remove ws i ≡ without window_number ws n
 unfolding without place_of
 without-some [] n i e = absurd (grind (arith, e))
 without-some (w ∷ ws) n zero e = grind (arith, common_steps)

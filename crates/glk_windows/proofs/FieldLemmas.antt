@@ -9,11 +9,12 @@ use Rattle.std.proofs.lemmas.Bool.Decides.{nat_tests}
 use Rattle.std.proofs.lemmas.Grind.{common_steps}
 use Rattle.glk_numbers.specs.Numbered.{ascends, found}
 use Rattle.glk_windows.specs.Fields.{IsRest, is_ordered, is_valid_tree}
-use Rattle.glk_windows.specs.OneTree.{Shape, Leaf, Fork, are_keyed, pair_without_key, bare_in, times_reached}
-use Rattle.glk_windows.specs.OneTree.{is_tree_spelled, is_under, pair_key, no_pair, node_of, once}
-use Rattle.glk_windows.specs.OneTree.{shape_of, tree_size}
-use Rattle.glk_windows.specs.OneTree.{shape_with, tested, top, tree_of, key_in}
-use Rattle.glk_windows.specs.Tree.{WindowTree, window_number, pair_in, pair_of, read_window, window_at}
+use Rattle.glk_windows.specs.OneTree.{Shape, Leaf, Fork, are_keyed, pair_without_key}
+use Rattle.glk_windows.specs.OneTree.{bare_in, times_reached, is_tree_spelled, is_under}
+use Rattle.glk_windows.specs.OneTree.{pair_key, no_pair, node_of, once, shape_of}
+use Rattle.glk_windows.specs.OneTree.{tree_size, shape_with, tested, top, tree_of, key_in}
+use Rattle.glk_windows.specs.Tree.{WindowTree, window_number, pair_in}
+use Rattle.glk_windows.specs.Tree.{pair_of, read_window, window_at}
 use Rattle.glk_windows.specs.Valid.{Ascends, IsOrdered, IsValidTree, are_sound_windows, is_one_tree}
 use Rattle.glk_windows.specs.declared.window.Pair as p
 use Rattle.glk_windows.specs.declared.window.Window.{Window}
@@ -90,14 +91,16 @@ leaf-there : (o : Option Window) (x : Option (ℕ × Option p.Pair)) (up : ℕ)
 leaf-there None x up e u h =
     let c : is_under up None ≡ true = ap (is_under up) (sym e) ∙ u in absurd cc
 leaf-there (Some w) x up e u h =
-    let none : x ≡ Some (w.parent, None) = e ∙ ap (λ q. Some (w.parent, option_map pair_without_key q)) h in
+    let none : x ≡ Some (w.parent, None) =
+    e ∙ ap (λ q. Some (w.parent, option_map pair_without_key q)) h in
     both (is_under up x) (no_pair x) u (ap no_pair none)
 
 pair-there : (o : Option Window) (x : Option (ℕ × Option p.Pair)) (q : p.Pair)
     → x ≡ option_map (λ w. (w.parent, bare_in w)) o → read_window None pair_in o ≡ Some q
     → no_pair x ≡ false
 pair-there None x q e h = absurd cc
-pair-there (Some w) x q e h = ap no_pair (e ∙ ap (λ r. Some (w.parent, option_map pair_without_key r)) h)
+pair-there (Some w) x q e h =
+    ap no_pair (e ∙ ap (λ r. Some (w.parent, option_map pair_without_key r)) h)
 
 pub rest-leaf : (ws : List Window) (up d n most : ℕ) → 0 < most
     → is_under up (node_of ws n) ≡ true → pair_of ws n ≡ None
@@ -141,7 +144,8 @@ pub rest-none : (ws : List Window) (up d n most : ℕ) (q : p.Pair) → 0 < d �
     → IsRest ws up (shape_of d ws n) most None
 rest-none ws up d n most q l m h r =
     rw (shape_fork d ws n q l h)
-    (rest-first ws up n most (pair_without_key q) (shape_of (d - 1) ws q.first) (shape_of (d - 1) ws q.second)
+    (rest-first ws up n most (pair_without_key q) (shape_of (d - 1) ws q.first)
+    (shape_of (d - 1) ws q.second)
     m r)
 
 pub rest-fork : (ws : List Window) (up d n most left : ℕ) (q : p.Pair) (o : Option ℕ) → 0 < d
@@ -243,7 +247,8 @@ ascends-of (w ∷ ws) a z l e =
     let high : w.number < z = grind (arith, nat_tests, u.1) in
     (omega (arith, low), high, ascends-of ws w.number z high t.1)
 
-to-ascends : (ws : List Window) (a z : ℕ) → Ascends (a + 1) ws z → ascends window_number a z ws ≡ true
+to-ascends : (ws : List Window) (a z : ℕ)
+    → Ascends (a + 1) ws z → ascends window_number a z ws ≡ true
 unfolding ascends
 to-ascends [] a z o = refl
 to-ascends (w ∷ ws) a z o =
@@ -274,7 +279,8 @@ unfolding IsOrdered
 to-ordered t o =
     let l = ascends-bounds 1 t.slots t.next o in
     let k : not (t.next == 0) ≡ true = grind (arith, nat_tests, l) in
-    both (not (t.next == 0)) (ascends window_number 0 t.next t.slots) k (to-ascends t.slots 0 t.next o)
+    both (not (t.next == 0)) (ascends window_number 0 t.next t.slots) k
+    (to-ascends t.slots 0 t.next o)
 
 -- ---- the test tells what is valid
 
@@ -299,7 +305,8 @@ of-valid t v =
     let f : Bool = nat_le (length t.slots) 64 in
     let k : Bool = are_keyed t.slots (tree_of t) in
     let few = v.few in
-    both (is_ordered t) (f && (are_sound_windows t.slots && (is_one_tree t && k))) (to-ordered t v.ordered)
+    both (is_ordered t) (f && (are_sound_windows t.slots && (is_one_tree t && k)))
+    (to-ordered t v.ordered)
     (both f (are_sound_windows t.slots && (is_one_tree t && k)) (grind (arith, nat_tests, few))
     (both (are_sound_windows t.slots) (is_one_tree t && k) v.sound
     (both (is_one_tree t) k v.one_tree v.keyed)))

@@ -1,12 +1,17 @@
 -- Calls keep the windows one tree.
-use Rattle.std.proofs.Common.{◌≡◌, ℕ, ◌+◌, ◌<◌, ◌≤◌, ◌≢◌, List, [], ◌∷◌, ◌++◌, length, refl, sym, ap, ◌∙◌, Option, Some, None, is_some, option_map, arith, Bool, true, false, cond, nat_lt, nat_le, not, ◌||◌, ◌==◌, if◌then◌else◌}
+use Rattle.std.proofs.Common.{◌≡◌, ℕ, ◌+◌, ◌<◌, ◌≤◌, ◌≢◌, List, [], ◌∷◌, ◌++◌, length, refl}
+use Rattle.std.proofs.Common.{sym, ap, ◌∙◌, Option, Some, None, is_some, option_map, arith, Bool}
+use Rattle.std.proofs.Common.{true, false, cond, nat_lt, nat_le, not, ◌||◌, ◌==◌, if◌then◌else◌}
 use Rattle.std.proofs.lemmas.Grind.{common_steps}
 use Rattle.glk_windows.specs.declared.window.Window.{Window}
 use Rattle.glk_windows.specs.declared.window.Pair as p
 use Rattle.glk_numbers.specs.Numbered.{changed_at, found}
-use Rattle.glk_windows.specs.Tree.{WindowTree, set_at, pair_swapped, swapped, parent_of, pair_content}
-use Rattle.glk_windows.specs.Opening.{pair_joined, first_opened, beside_opened, is_kind, unplaced_window, new_content}
-use Rattle.glk_windows.specs.OneTree.{Shape, Leaf, Fork, top, kids, times_reached, pair_without_key, bare_in, node_of, SpellsTree, tree_forked, Once, IsTree}
+use Rattle.glk_windows.specs.Tree.{WindowTree, set_at, pair_swapped}
+use Rattle.glk_windows.specs.Tree.{swapped, parent_of, pair_content}
+use Rattle.glk_windows.specs.Opening.{pair_joined, first_opened, beside_opened}
+use Rattle.glk_windows.specs.Opening.{is_kind, unplaced_window, new_content}
+use Rattle.glk_windows.specs.OneTree.{Shape, Leaf, Fork, top, kids, times_reached, pair_without_key}
+use Rattle.glk_windows.specs.OneTree.{bare_in, node_of, SpellsTree, tree_forked, Once, IsTree}
 use Rattle.glk_windows.specs.declared.window.Content.{Content}
 use Rattle.glk_windows.specs.declared.window.Content.TheVariants.{Pair, Blank, Buffer, Grid}
 use Rattle.glk_windows.specs.Valid.{Ascends, IsOrdered}
@@ -20,23 +25,38 @@ pub count_top : (s : Shape) → 0 < times_reached s (top s)
 count_top (Leaf n) = grind (arith, common_steps)
 count_top (Fork n q a b) = grind (arith, common_steps)
 
-pub count_forked-none : (from pair new : ℕ) (p : p.Pair) (s : Shape) (m : ℕ) → times_reached s from ≡ 0
+pub count_forked-none : (from pair new : ℕ) (p : p.Pair) (s : Shape) (m : ℕ)
+    → times_reached s from ≡ 0
     → times_reached (tree_forked from pair p new s) m ≡ times_reached s m
 count_forked-none from pair new p (Leaf n) m h = grind (arith, common_steps)
 count_forked-none from pair new p (Fork n q a b) m h =
-    grind (arith, common_steps, count_forked-none from pair new p a m, count_forked-none from pair new p b m)
+    grind (
+      arith,
+      common_steps,
+      count_forked-none from pair new p a m,
+      count_forked-none from pair new p b m,
+    )
 
 -- one pair and one window more
 pub count_forked : (from pair new : ℕ) (p : p.Pair) (s : Shape) (m : ℕ) → times_reached s from ≡ 1
-    → times_reached (tree_forked from pair p new s) m ≡ times_reached s m + (if pair == m then 1 else 0) + (if new == m then 1 else 0)
+    → times_reached (tree_forked from pair p new s) m
+    ≡ times_reached s m + (if pair == m then 1 else 0) + (if new == m then 1 else 0)
 count_forked from pair new p (Leaf n) m h = grind (arith, common_steps)
 count_forked from pair new p (Fork n q a b) m h =
-    grind (arith, common_steps, count_forked from pair new p a m, count_forked from pair new p b m, count_forked-none from pair new p a m, count_forked-none from pair new p b m)
+    grind (
+      arith,
+      common_steps,
+      count_forked from pair new p a m,
+      count_forked from pair new p b m,
+      count_forked-none from pair new p a m,
+      count_forked-none from pair new p b m,
+    )
 
 -- the parent and pair of a window where another got a pair above it
 abbrev pub renode : ℕ → ℕ → ℕ → ℕ → ℕ × Option p.Pair → ℕ × Option p.Pair
 renode from pair q m (u, None) = (if m == from then pair else u, None)
-renode from pair q m (u, Some p) = (if m == from then pair else u, Some (if m == q then pair_swapped p from pair else p))
+renode from pair q m (u, Some p) =
+    (if m == from then pair else u, Some (if m == q then pair_swapped p from pair else p))
 
 pub renode-same : (from pair q m u : ℕ) (p : p.Pair) → m ≢ from → p.first ≢ from → p.second ≢ from
     → renode from pair q m (u, Some p) ≡ (u, Some p)
@@ -44,7 +64,9 @@ renode-same from pair q m u p h f g = grind (arith, common_steps)
 
 -- a part of the tree without the window is spelled as before
 pub spells_apart : (ws vs : List Window) (from pair q : ℕ)
-    (h : (m : ℕ) (x : ℕ × Option p.Pair) → node_of ws m ≡ Some x → node_of vs m ≡ Some (renode from pair q m x))
+    (h : (m : ℕ) (x : ℕ × Option p.Pair)
+    → node_of ws m ≡ Some x
+    → node_of vs m ≡ Some (renode from pair q m x))
     → (s : Shape) (up : ℕ) → times_reached s from ≡ 0 → SpellsTree ws up s → SpellsTree vs up s
 spells_apart ws vs from pair q h (Leaf n) up c t =
     h n _ t ∙ ap Some (grind (arith, common_steps))
@@ -62,7 +84,9 @@ spells_apart ws vs from pair q h (Fork n p a b) up c t =
     )
 
 pub spells-if : (b : Bool) (vs : List Window) (up : ℕ) (x y : Shape)
-    → (b ≡ true → SpellsTree vs up x) → (b ≡ false → SpellsTree vs up y) → SpellsTree vs up (cond b x y)
+    → (b ≡ true → SpellsTree vs up x)
+    → (b ≡ false → SpellsTree vs up y)
+    → SpellsTree vs up (cond b x y)
 spells-if true vs up x y h k = h refl
 spells-if false vs up x y h k = k refl
 
@@ -72,7 +96,9 @@ is_eq a b e = grind (arith, common_steps)
 pub isnt_eq : (a b : ℕ) → (a == b) ≡ false → a ≢ b
 isnt_eq a b e = λ k. grind (arith, common_steps)
 
-pub spells_top : (ws : List Window) (s : Shape) (up : ℕ) → SpellsTree ws up s → node_of ws (top s) ≡ Some (up, kids s)
+pub spells_top : (ws : List Window) (s : Shape) (up : ℕ)
+    → SpellsTree ws up s
+    → node_of ws (top s) ≡ Some (up, kids s)
 spells_top ws (Leaf n) up t = t
 spells_top ws (Fork n p a b) up t = t.0
 
@@ -80,19 +106,25 @@ pub renode-at : (from pair q m u : ℕ) (p : p.Pair) → m ≡ from → p.first 
     → renode from pair q m (u, Some p) ≡ (pair, Some p)
 renode-at from pair q m u p h f g = grind (arith, common_steps)
 
-pub renode-swap : (from pair q m u : ℕ) (p : p.Pair) → m ≢ from → (p.first ≡ from → m ≡ q) → (p.second ≡ from → m ≡ q)
+pub renode-swap : (from pair q m u : ℕ) (p : p.Pair)
+    → m ≢ from → (p.first ≡ from → m ≡ q)
+    → (p.second ≡ from → m ≡ q)
     → renode from pair q m (u, Some p) ≡ (u, Some (pair_swapped p from pair))
 renode-swap from pair q m u p h f g = grind (arith, common_steps)
 
 pub not_top : (s : Shape) (m : ℕ) → times_reached s m ≡ 0 → top s ≢ m
-not_top s m c = λ e. (let t : 0 < times_reached s (top s) = count_top s in grind (arith, common_steps))
+not_top s m c =
+    λ e. (let t : 0 < times_reached s (top s) = count_top s in grind (arith, common_steps))
 
 pub swap-first : (from pair new : ℕ) (q p : p.Pair) (a : Shape) → p.first ≡ top a
     → (pair_swapped p from pair).first ≡ top (tree_forked from pair q new a)
-swap-first from pair new q p a e = let t : _ = top_forked from pair new q a in grind (arith, common_steps)
+swap-first from pair new q p a e =
+    let t : _ = top_forked from pair new q a in grind (arith, common_steps)
 
-pub swap-second : (from pair new : ℕ) (q p : p.Pair) (a b : Shape) → p.first ≡ top a → p.second ≡ top b
-    → times_reached a from + times_reached b from ≤ 1 → (pair_swapped p from pair).second ≡ top (tree_forked from pair q new b)
+pub swap-second : (from pair new : ℕ) (q p : p.Pair) (a b : Shape)
+    → p.first ≡ top a → p.second ≡ top b
+    → times_reached a from + times_reached b from ≤ 1
+    → (pair_swapped p from pair).second ≡ top (tree_forked from pair q new b)
 swap-second from pair new q p a b e k c =
     let t : _ = top_forked from pair new q b in
     let ta : 0 < times_reached a (top a) = count_top a in
@@ -101,11 +133,15 @@ swap-second from pair new q p a b e k c =
 
 -- the tree with the pair is spelled
 pub spells_forked : (ws vs : List Window) (from pair new q : ℕ) (r : p.Pair)
-    (h : (m : ℕ) (x : ℕ × Option p.Pair) → node_of ws m ≡ Some x → node_of vs m ≡ Some (renode from pair q m x))
+    (h : (m : ℕ) (x : ℕ × Option p.Pair)
+    → node_of ws m ≡ Some x
+    → node_of vs m ≡ Some (renode from pair q m x))
     (hq : (m : ℕ) (x : ℕ × Option p.Pair) → m ≡ from → node_of ws m ≡ Some x → x.0 ≡ q)
     (hp : node_of vs pair ≡ Some (q, Some r)) (hn : node_of vs new ≡ Some (pair, None))
     (rf : r.first ≡ from) (rn : r.second ≡ new)
-    → (s : Shape) (up : ℕ) → ((m : ℕ) → times_reached s m ≤ 1) → SpellsTree ws up s → SpellsTree vs up (tree_forked from pair r new s)
+    → (s : Shape) (up : ℕ) → ((m : ℕ) → times_reached s m ≤ 1)
+    → SpellsTree ws up s
+    → SpellsTree vs up (tree_forked from pair r new s)
 spells_forked ws vs from pair new q r h hq hp hn rf rn (Leaf n) up c t =
     spells-if (n == from) vs up (Fork pair r (Leaf n) (Leaf new)) (Leaf n)
     (λ e. (
@@ -119,7 +155,8 @@ spells_forked ws vs from pair new q r h hq hp hn rf rn (Leaf n) up c t =
 spells_forked ws vs from pair new q r h hq hp hn rf rn (Fork n p a b) up c t =
     let ch : times_reached (Fork n p a b) from ≤ 1 = c from in
     spells-if (n == from) vs up (Fork pair r (Fork n p a b) (Leaf new))
-    (Fork n (pair_swapped p from pair) (tree_forked from pair r new a) (tree_forked from pair r new b))
+    (Fork n (pair_swapped p from pair) (tree_forked from pair r new a)
+    (tree_forked from pair r new b))
     (λ e. (let i : n ≡ from = is_eq n from e in
     let ca : times_reached a from ≡ 0 = grind (arith, common_steps) in
     let cb : times_reached b from ≡ 0 = grind (arith, common_steps) in (
@@ -161,17 +198,20 @@ node_set_at f g num nd (w ∷ ws) n m =
     grind (arith, common_steps)
 
 pub content-swapped : (c : Content) (a b : ℕ)
-    → option_map pair_without_key (pair_content (swapped c a b)) ≡ option_map (λ p. pair_swapped p a b) (option_map pair_without_key (pair_content c))
+    → option_map pair_without_key (pair_content (swapped c a b))
+    ≡ option_map (λ p. pair_swapped p a b) (option_map pair_without_key (pair_content c))
 content-swapped (Pair p) a b = grind (arith, common_steps)
 content-swapped Blank a b = refl
 content-swapped (Buffer x) a b = refl
 content-swapped (Grid x) a b = refl
 
-pub node_append : (ws vs : List Window) (m : ℕ) (x : ℕ × Option p.Pair) → node_of ws m ≡ Some x → node_of (ws ++ vs) m ≡ Some x
+pub node_append : (ws vs : List Window) (m : ℕ) (x : ℕ × Option p.Pair)
+    → node_of ws m ≡ Some x → node_of (ws ++ vs) m ≡ Some x
 node_append [] vs m x e = cc
 node_append (w ∷ ws) vs m x e = grind (arith, common_steps, node_append ws vs m x)
 
-pub node_new : (ws vs : List Window) (m : ℕ) → node_of ws m ≡ None → node_of (ws ++ vs) m ≡ node_of vs m
+pub node_new : (ws vs : List Window) (m : ℕ)
+    → node_of ws m ≡ None → node_of (ws ++ vs) m ≡ node_of vs m
 node_new [] vs m e = refl
 node_new (w ∷ ws) vs m e = grind (arith, common_steps, node_new ws vs m)
 
@@ -183,28 +223,35 @@ node_later a (w ∷ ws) z m o h =
     let k : _ = node_later (w.number + 1) ws z m o.2 h in
     grind (arith, common_steps)
 
-pub node_parent : (ws : List Window) (m : ℕ) (x : ℕ × Option p.Pair) → node_of ws m ≡ Some x → x.0 ≡ parent_of ws m
+pub node_parent : (ws : List Window) (m : ℕ) (x : ℕ × Option p.Pair)
+    → node_of ws m ≡ Some x → x.0 ≡ parent_of ws m
 unfolding found
 node_parent [] m x e = cc
 node_parent (w ∷ ws) m x e = grind (arith, common_steps, node_parent ws m x)
 
 renodes : (o : Option (ℕ × Option p.Pair)) (from pair q m : ℕ)
     → option_map (λ x. if m == from then (pair, x.1) else x)
-    (option_map (λ x. if m == q then (x.0, option_map (λ p. pair_swapped p from pair) x.1) else x) o)
+    (option_map (λ x. if m == q then (x.0, option_map (λ p. pair_swapped p from pair) x.1) else x)
+    o)
     ≡ option_map (renode from pair q m) o
 renodes None from pair q m = refl
 renodes (Some (u, None)) from pair q m = grind (arith, common_steps)
 renodes (Some (u, Some p)) from pair q m = grind (arith, common_steps)
 
 pub node_joined : (ws : List Window) (from pair m : ℕ)
-    → node_of (pair_joined ws from pair) m ≡ option_map (renode from pair (parent_of ws from) m) (node_of ws m)
+    → node_of (pair_joined ws from pair) m
+    ≡ option_map (renode from pair (parent_of ws from) m) (node_of ws m)
 node_joined ws from pair m =
-    let i : _ = node_set_at (λ w. record w { parent = pair }) (λ x. (pair, x.1)) (λ w. refl) (λ w. refl)
-    (set_at (λ w. record w { content = swapped w.content from pair }) ws (parent_of ws from)) from m in
+    let i : _ =
+    node_set_at (λ w. record w { parent = pair }) (λ x. (pair, x.1)) (λ w. refl) (λ w. refl)
+    (set_at (λ w. record w { content = swapped w.content from pair }) ws (parent_of ws from))
+    from m in
     let j : _ = node_set_at (λ w. record w { content = swapped w.content from pair })
     (λ x. (x.0, option_map (λ p. pair_swapped p from pair) x.1)) (λ w. refl)
     (λ w. ap (λ o. (w.parent, o)) (content-swapped w.content from pair)) ws (parent_of ws from) m in
-    i ∙ ap (option_map (λ x. if m == from then (pair, x.1) else x)) j ∙ renodes (node_of ws m) from pair (parent_of ws from) m
+    i
+    ∙ ap (option_map (λ x. if m == from then (pair, x.1) else x)) j
+    ∙ renodes (node_of ws m) from pair (parent_of ws from) m
 
 -- what a list with a pair in the place of a window holds
 abbrev pub Beside : List Window → ℕ → ℕ → List Window → ℕ → p.Pair → Type 0
@@ -212,7 +259,9 @@ Beside ws z from vs q r = (m : ℕ) → node_of vs m ≡
     (if m == z then Some (z + 1, None) else (if m == z + 1 then Some (q, Some r)
     else option_map (renode from (z + 1) q m) (node_of ws m)))
 
-fresh-if : (b : Bool) (x y : Content) → pair_content x ≡ None → pair_content y ≡ None → pair_content (cond b x y) ≡ None
+fresh-if : (b : Bool) (x y : Content)
+    → pair_content x ≡ None → pair_content y ≡ None
+    → pair_content (cond b x y) ≡ None
 fresh-if true x y e k = e
 fresh-if false x y e k = k
 
@@ -228,13 +277,15 @@ once-mapped : (o : Option (ℕ × Option p.Pair)) (f : ℕ × Option p.Pair → 
 once-mapped None f = refl
 once-mapped (Some x) f = refl
 
-beside-case : (o : Option (ℕ × Option p.Pair)) (js ws : List Window) (z m : ℕ) (v u : Window) (q : ℕ) (r : p.Pair)
+beside-case : (o : Option (ℕ × Option p.Pair)) (js ws : List Window) (z m : ℕ)
+    (v u : Window) (q : ℕ) (r : p.Pair)
     (f : ℕ × Option p.Pair → ℕ × Option p.Pair)
     → Ascends 1 ws z → v.number ≡ z → u.number ≡ z + 1 → v.parent ≡ z + 1 → u.parent ≡ q
     → bare_in v ≡ None → bare_in u ≡ Some r
     → node_of js m ≡ option_map f o → node_of ws m ≡ o
     → node_of (js ++ v ∷ u ∷ []) m
-    ≡ (if m == z then Some (z + 1, None) else (if m == z + 1 then Some (q, Some r) else option_map f o))
+    ≡ (if m == z then Some (z + 1, None)
+    else (if m == z + 1 then Some (q, Some r) else option_map f o))
 beside-case None js ws z m v u q r f o a b c d e g h k =
     node_new js (v ∷ u ∷ []) m h ∙ grind (arith, common_steps)
 beside-case (Some x) js ws z m v u q r f o a b c d e g h k =
@@ -242,12 +293,14 @@ beside-case (Some x) js ws z m v u q r f o a b c d e g h k =
     let i : m < z = grind (arith, common_steps) in
     node_append js (v ∷ u ∷ []) m (f x) h ∙ grind (arith, common_steps)
 
-beside-node : (js ws : List Window) (z m : ℕ) (v u : Window) (q : ℕ) (r : p.Pair) (f : ℕ × Option p.Pair → ℕ × Option p.Pair)
+beside-node : (js ws : List Window) (z m : ℕ) (v u : Window) (q : ℕ) (r : p.Pair)
+    (f : ℕ × Option p.Pair → ℕ × Option p.Pair)
     → Ascends 1 ws z → v.number ≡ z → u.number ≡ z + 1 → v.parent ≡ z + 1 → u.parent ≡ q
     → bare_in v ≡ None → bare_in u ≡ Some r
     → node_of js m ≡ option_map f (node_of ws m)
     → node_of (js ++ v ∷ u ∷ []) m
-    ≡ (if m == z then Some (z + 1, None) else (if m == z + 1 then Some (q, Some r) else option_map f (node_of ws m)))
+    ≡ (if m == z then Some (z + 1, None)
+    else (if m == z + 1 then Some (q, Some r) else option_map f (node_of ws m)))
 beside-node js ws z m v u q r f o a b c d e g h =
     beside-case (node_of ws m) js ws z m v u q r f o a b c d e g h refl
 
@@ -257,15 +310,20 @@ pub beside_nodes : (t : WindowTree) (from method size kind rock : ℕ) → IsOrd
     (pair_joined t.slots from (t.next + 1)
     ++ unplaced_window t.next rock (t.next + 1) (new_content kind)
     ∷ unplaced_window (t.next + 1) 0 (parent_of t.slots from)
-    (Pair (record { method = method; size = size; key = t.next; first = from; second = t.next })) ∷ [])
-    (parent_of t.slots from) (record { method = method; size = size; key = 0; first = from; second = t.next })
+    (Pair (record { method = method; size = size; key = t.next; first = from; second = t.next }))
+    ∷ [])
+    (parent_of t.slots from)
+    (record { method = method; size = size; key = 0; first = from; second = t.next })
 unfolding IsOrdered
 beside_nodes t from method size kind rock o m =
-    beside-node (pair_joined t.slots from (t.next + 1)) t.slots t.next m _ _ (parent_of t.slots from) _
-    (renode from (t.next + 1) (parent_of t.slots from) m) o refl refl refl refl (ap (option_map pair_without_key) (pair_fresh kind)) refl
+    beside-node (pair_joined t.slots from (t.next + 1)) t.slots t.next m _ _
+    (parent_of t.slots from) _
+    (renode from (t.next + 1) (parent_of t.slots from) m) o refl refl refl refl
+    (ap (option_map pair_without_key) (pair_fresh kind)) refl
     (node_joined t.slots from (t.next + 1) m)
 
-once-cases : (b c : Bool) (z m : ℕ) (o v : Option (ℕ × Option p.Pair)) (n : ℕ) (x : ℕ × Option p.Pair)
+once-cases : (b c : Bool) (z m : ℕ) (o v : Option (ℕ × Option p.Pair)) (n : ℕ)
+    (x : ℕ × Option p.Pair)
     (w : Option (ℕ × Option p.Pair)) (y : ℕ × Option p.Pair)
     → (m == z) ≡ b → (m == z + 1) ≡ c → is_some w ≡ is_some o → (z ≤ m → o ≡ None)
     → n ≡ (if is_some o then 1 else 0)
@@ -276,16 +334,21 @@ once-cases b c z m (Some s) v n x w y e f k l j h = grind (arith, common_steps)
 
 -- one more pair and window are in the tree once
 pub once_forked : (ws vs : List Window) (z from q : ℕ) (r : p.Pair) (s : Shape) → Ascends 1 ws z
-    → Beside ws z from vs q r → times_reached s from ≡ 1 → Once ws s → Once vs (tree_forked from (z + 1) r z s)
+    → Beside ws z from vs q r → times_reached s from ≡ 1
+    → Once ws s → Once vs (tree_forked from (z + 1) r z s)
 once_forked ws vs z from q r s o h c w m =
     let i : _ = count_forked from (z + 1) z r s m c in
     let j : times_reached s m ≡ (if is_some (node_of ws m) then 1 else 0) = w m in
-    let k : is_some (option_map (renode from (z + 1) q m) (node_of ws m)) ≡ is_some (node_of ws m) = once-mapped _ _ in
+    let k : is_some (option_map (renode from (z + 1) q m) (node_of ws m)) ≡ is_some (node_of ws m) =
+    once-mapped _ _ in
     let lz : z ≤ m → node_of ws m ≡ None = node_later 1 ws z m o in
     let hm : _ = h m in
-    i ∙ once-cases (m == z) (m == z + 1) z m (node_of ws m) (node_of vs m) (times_reached s m) _ _ _ refl refl k lz j hm
+    i
+    ∙ once-cases (m == z) (m == z + 1) z m (node_of ws m) (node_of vs m)
+    (times_reached s m) _ _ _ refl refl k lz j hm
 
-tree-if : (b : Bool) (x y : WindowTree × ℕ) (s u : Shape) → IsTree x.0 (Some s) → IsTree y.0 (Some u)
+tree-if : (b : Bool) (x y : WindowTree × ℕ) (s u : Shape)
+    → IsTree x.0 (Some s) → IsTree y.0 (Some u)
     → IsTree (cond b x y).0 (Some (cond b s u))
 tree-if true x y s u h k = h
 tree-if false x y s u h k = k
@@ -296,8 +359,10 @@ once_at None n x e h = cc
 once_at (Some y) n x e h = h
 
 -- the nodes of a split list, one by one
-beside-old : (ws vs : List Window) (z from q : ℕ) (r : p.Pair) → Ascends 1 ws z → Beside ws z from vs q r
-    → (m : ℕ) (x : ℕ × Option p.Pair) → node_of ws m ≡ Some x → node_of vs m ≡ Some (renode from (z + 1) q m x)
+beside-old : (ws vs : List Window) (z from q : ℕ) (r : p.Pair)
+    → Ascends 1 ws z → Beside ws z from vs q r
+    → (m : ℕ) (x : ℕ × Option p.Pair) → node_of ws m ≡ Some x
+    → node_of vs m ≡ Some (renode from (z + 1) q m x)
 beside-old ws vs z from q r o h m x e =
     let l : z ≤ m → node_of ws m ≡ None = node_later 1 ws z m o in
     let i : _ = h m in
@@ -307,24 +372,29 @@ beside-old ws vs z from q r o h m x e =
     grind (arith, common_steps)
 
 -- a window beside a live one keeps the windows one tree
-pub tree_beside : (t : WindowTree) (from method size kind rock : ℕ) (s : Shape) (x : ℕ × Option p.Pair)
+pub tree_beside : (t : WindowTree) (from method size kind rock : ℕ) (s : Shape)
+    (x : ℕ × Option p.Pair)
     → IsOrdered t → node_of t.slots from ≡ Some x → IsTree t (Some s)
     → IsTree (beside_opened t from method size kind rock).0
-    (Some (if not (is_kind kind) || nat_le 4294967294 t.next || nat_lt 64 (length t.slots + 2) then s
+    (Some
+    (if not (is_kind kind) || nat_le 4294967294 t.next || nat_lt 64 (length t.slots + 2) then s
     else tree_forked from (t.next + 1)
     (record { method = method; size = size; key = 0; first = from; second = t.next }) t.next s))
 unfolding IsOrdered
 tree_beside t from method size kind rock s x o live h =
-    let r : p.Pair = record { method = method; size = size; key = 0; first = from; second = t.next } in
+    let r : p.Pair =
+    record { method = method; size = size; key = 0; first = from; second = t.next } in
     let vs : List Window = pair_joined t.slots from (t.next + 1)
     ++ unplaced_window t.next rock (t.next + 1) (new_content kind)
-    ∷ unplaced_window (t.next + 1) 0 (parent_of t.slots from) (Pair (record r { key = t.next })) ∷ [] in
+    ∷ unplaced_window (t.next + 1) 0 (parent_of t.slots from) (Pair (record r { key = t.next }))
+    ∷ [] in
     let q : ℕ = parent_of t.slots from in
     let b : Beside t.slots t.next from vs q r = beside_nodes t from method size kind rock o in
     let c1 : times_reached s from ≡ 1 = once_at _ _ x live (h.2 from) in
     let bn : _ = b t.next in
     let bp : _ = b (t.next + 1) in
-    tree-if (not (is_kind kind) || nat_le 4294967294 t.next || nat_lt 64 (length t.slots + 2)) _ _ _ _ h (
+    tree-if (not (is_kind kind) || nat_le 4294967294 t.next || nat_lt 64 (length t.slots + 2))
+    _ _ _ _ h (
       (let i : _ = top_forked from (t.next + 1) t.next r s in
           let e : t.root ≡ top s = h.0 in grind (arith, common_steps)),
       spells_forked t.slots vs from (t.next + 1) t.next q r
@@ -343,10 +413,12 @@ first-if false x y s u h k = k
 -- the first window is a tree
 pub tree_first : (t : WindowTree) (kind rock : ℕ) → IsTree t None
     → IsTree (first_opened t kind rock).0
-    (if not (t.root == 0) || not (is_kind kind) || nat_lt 4294967294 t.next || nat_lt 64 (length t.slots + 1)
+    (if not (t.root == 0) || not (is_kind kind) || nat_lt 4294967294 t.next
+    || nat_lt 64 (length t.slots + 1)
     then None else Some (Leaf t.next))
 tree_first t kind rock h =
-    first-if (not (t.root == 0) || not (is_kind kind) || nat_lt 4294967294 t.next || nat_lt 64 (length t.slots + 1))
+    first-if (not (t.root == 0) || not (is_kind kind) || nat_lt 4294967294 t.next
+    || nat_lt 64 (length t.slots + 1))
     _ _ _ _ h
     (rw h.1 (
       refl,

@@ -1,16 +1,20 @@
 -- Closing takes the windows that go with one, and leaves the others what is their own.
-use Rattle.std.proofs.Common.{◌≡◌, ◌≢◌, ◌⊎◌, inl, inr, ℕ, zero, suc, ◌+◌, ◌<◌, ◌==◌, ◌||◌, List, [], ◌∷◌, length, refl, sym, ap, ◌∙◌}
-use Rattle.std.proofs.Common.{Option, Some, None, is_some, option_map, arith, Bool, true, false, cond, if◌then◌else◌, nat_lt}
+use Rattle.std.proofs.Common.{◌≡◌, ◌≢◌, ◌⊎◌, inl, inr, ℕ, zero, suc, ◌+◌, ◌<◌, ◌==◌, ◌||◌, List}
+use Rattle.std.proofs.Common.{[], ◌∷◌, length, refl, sym, ap, ◌∙◌, Option, Some, None, is_some}
+use Rattle.std.proofs.Common.{option_map, arith, Bool, true, false, cond, if◌then◌else◌, nat_lt}
 use Rattle.std.proofs.lemmas.Grind.{common_steps}
 use Rattle.glk_numbers.specs.Numbered.{found, without}
 use Rattle.glk_windows.specs.declared.window.Window.{Window}
 use Rattle.glk_windows.specs.declared.window.Pair as pairs
 use Rattle.glk_windows.specs.declared.window.Content.{Content}
 use Rattle.glk_windows.specs.declared.window.Content.TheVariants.{Pair, Blank, Buffer, Grid}
-use Rattle.glk_windows.specs.Tree.{WindowTree, window_number, pair_of, parent_of, stream_of, swapped}
-use Rattle.glk_windows.specs.Closing.{both, close, windows_without, content_unkeyed, sibling_lifted, forgotten, removed}
+use Rattle.glk_windows.specs.Tree.{WindowTree, window_number, pair_of}
+use Rattle.glk_windows.specs.Tree.{parent_of, stream_of, swapped}
+use Rattle.glk_windows.specs.Closing.{both, close, windows_without, content_unkeyed}
+use Rattle.glk_windows.specs.Closing.{sibling_lifted, forgotten, removed}
 use Rattle.glk_windows.specs.Reading.{other_window as sibling}
-use Rattle.glk_windows.specs.OneTree.{Shape, pair_without_key, below, times_reached, pair_above, node_of, IsTree, top}
+use Rattle.glk_windows.specs.OneTree.{Shape, pair_without_key, below, times_reached}
+use Rattle.glk_windows.specs.OneTree.{pair_above, node_of, IsTree, top}
 use Rattle.glk_windows.specs.Valid.{Ascends, IsOrdered}
 use Rattle.glk_windows.specs.Laws.{ClosesBelow, goes_with, own_fields, own_content, own_of}
 use Rattle.glk_windows.proofs.CutLemmas.{node_lower, node_pair}
@@ -82,7 +86,8 @@ rests-if : (b : Bool) (o v : Option Window) → v ≡ (if b then None else o) �
 rests-if true o v e = inr e
 rests-if false o v e = inl e
 
-rests-closed : (a : ℕ) (ws : List Window) (z n m : ℕ) → Ascends a ws z → Rests ws (windows_without ws n) m
+rests-closed : (a : ℕ) (ws : List Window) (z n m : ℕ)
+    → Ascends a ws z → Rests ws (windows_without ws n) m
 rests-closed a ws z n m o = rests-if (m == n) (own_of ws m) _ (own-closed a ws z n m o)
 
 rests-both : (f : List Window → ℕ → List Window) (a z m : ℕ)
@@ -151,7 +156,8 @@ not-root : (t : WindowTree) (s : Shape) (n : ℕ) → IsTree t (Some s)
     → (parent_of t.slots n == 0) ≡ false → top s ≢ n
 not-root t s n h e = λ i.
     isnt_eq (parent_of t.slots n) 0 e
-    (ap (parent_of t.slots) (sym i) ∙ sym (node_parent t.slots (top s) _ (spells_top t.slots s 0 h.1)))
+    (ap (parent_of t.slots) (sym i)
+    ∙ sym (node_parent t.slots (top s) _ (spells_top t.slots s 0 h.1)))
 
 own-close : (t : WindowTree) (s : Shape) (n : ℕ) (x : ℕ × Option pairs.Pair) (m : ℕ)
     → IsOrdered t → IsTree t (Some s) → node_of t.slots n ≡ Some x

@@ -1,6 +1,7 @@
 -- The last run of a buffer, by its place.
 use native.Mathlib.Numerals.{unary_clauses}
-use Rattle.std.proofs.Common.{◌≡◌, ℕ, ◌-◌, ◌<◌, ◌==◌, List, [], ◌∷◌, length, refl, arith, slice_set, slice_index_or, false, ap}
+use Rattle.std.proofs.Common.{◌≡◌, ℕ, ◌-◌, ◌<◌, ◌==◌, List, [], ◌∷◌, length}
+use Rattle.std.proofs.Common.{refl, arith, slice_set, slice_index_or, false, ap}
 use Rattle.glk_windows.specs.declared.text.Run.{Run}
 use Rattle.glk_windows.specs.Output.{ends_in_style, last_longer, longer_run}
 

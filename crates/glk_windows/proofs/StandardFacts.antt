@@ -18,7 +18,8 @@ methods = refl
 -- a buffer, a grid of one row above it, and a buffer of a third at its right
 abbrev pub three : WindowTree
 three =
-    (split (split (split (record { slots = []; next = 1; root = 0 }) 0 0 0 3 0).0 1 0x12 1 4 0).0 1 0x21 33 3 0).0
+    (split (split (split (record { slots = []; next = 1; root = 0 }) 0 0 0 3 0).0 1 0x12 1 4 0).0
+    1 0x21 33 3 0).0
 
 abbrev pub area : ℕ → ℕ → ℕ → ℕ → Area
 area x y w h = record { x = x; y = y; w = w; h = h }
@@ -33,6 +34,7 @@ unfolding found changed_at without windows_placed removed
 place_after_closing = refl
 
 -- a full row goes on in the next
-pub row_is_full : grid_put (record { w = 3; h = 2; x = 3; y = 0; cells = 97 ∷ 98 ∷ 99 ∷ 32 ∷ 32 ∷ 32 ∷ [] }) 100
+pub row_is_full : grid_put
+    (record { w = 3; h = 2; x = 3; y = 0; cells = 97 ∷ 98 ∷ 99 ∷ 32 ∷ 32 ∷ 32 ∷ [] }) 100
     ≡ record { w = 3; h = 2; x = 1; y = 1; cells = 97 ∷ 98 ∷ 99 ∷ 100 ∷ 32 ∷ 32 ∷ [] }
 row_is_full = refl

@@ -3,7 +3,9 @@ use Rattle.std.proofs.Common.{◌≡◌, ℕ, ◌+◌, ◌%◌, ◌^◌, List, s
 use native.Mathlib.Numerals.{unary_clauses}
 use Rattle.glulx_image.specs.Checksum.{sum_of_words, summand}
 
-sum_of_words-suc : (file : List ℕ) (k n : ℕ) → n ≡ suc k → sum_of_words file n ≡ sum_of_words file k + summand file k
+sum_of_words-suc : (file : List ℕ) (k n : ℕ)
+    → n ≡ suc k
+    → sum_of_words file n ≡ sum_of_words file k + summand file k
 unfolding sum_of_words
 sum_of_words-suc file k n e = rw e refl
 

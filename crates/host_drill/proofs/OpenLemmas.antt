@@ -1,5 +1,6 @@
 -- A journal that was just begun has no row, and empty disks have no area.
-use Rattle.std.proofs.Common.{◌≡◌, ℕ, zero, suc, List, [], ◌∷◌, ◌++◌, length, refl, sym, ap, ◌∙◌, subst, arith, inl, inr}
+use Rattle.std.proofs.Common.{◌≡◌, ℕ, zero, suc, List, [], ◌∷◌, ◌++◌, length}
+use Rattle.std.proofs.Common.{refl, sym, ap, ◌∙◌, subst, arith, inl, inr}
 use Rattle.std.proofs.lemmas.Bool.{cases_lt}
 use Rattle.std.proofs.lemmas.List.{get_or_past}
 use Rattle.std.specs.Prelude.{slice_get, slice_index, Bool, IsTrue, true, None, Some}
@@ -23,17 +24,32 @@ use Rattle.story_run.specs.declared.story.Story.{Story}
 use Rattle.host_drill.specs.Drilled.{AreEmpty}
 
 whole : (bytes : List ℕ) → Holds bytes 0 bytes
-whole bytes = record { within = omega arith; each = λ i below. ap (λ (k : ℕ). slice_index bytes k) (omega arith) }
+whole bytes = record {
+  within = omega arith;
+  each = λ i below. ap (λ (k : ℕ). slice_index bytes k) (omega arith);
+}
 
 -- it spells none
-pub no_rows : (bytes : List ℕ) (rows : List Row) → bytes ≡ journal_header ++ 0 ∷ [] → SpellsRows bytes rows → rows ≡ []
-no_rows bytes rows is spells = one_list bytes rows [] spells (spells_shut [] bytes tt (subst (λ (c : List ℕ). Holds c 0 (journal_header ++ 0 ∷ [])) (sym is) (whole (journal_header ++ 0 ∷ []))))
+pub no_rows : (bytes : List ℕ) (rows : List Row)
+    → bytes ≡ journal_header ++ 0 ∷ [] → SpellsRows bytes rows
+    → rows ≡ []
+no_rows bytes rows is spells =
+    one_list bytes rows [] spells (spells_shut [] bytes tt
+    (subst (λ (c : List ℕ). Holds c 0 (journal_header ++ 0 ∷ [])) (sym is)
+    (whole (journal_header ++ 0 ∷ []))))
 
 -- so nothing was seen of any session
-pub none_seen : (rows : List Row) (seens : List (List Entry)) → rows ≡ [] → seens ≡ histories_in_rows rows → (k : ℕ) → seen_at seens k ≡ []
+pub none_seen : (rows : List Row) (seens : List (List Entry))
+    → rows ≡ [] → seens ≡ histories_in_rows rows → (k : ℕ)
+    → seen_at seens k ≡ []
 none_seen rows seens none is k = elim (cases_lt k 64) [
-  | inl below ↦ ap (λ (h : List (List Entry)). seen_at h k) is ∙ history_there rows k below ∙ ap (λ (r : List Row). history_in (rows_kept r) k) none
-  | inr past ↦ get_or_past seens k [] (omega (arith, past, ap (λ (h : List (List Entry)). length h) is, many_histories rows))
+  | inl below ↦
+      ap (λ (h : List (List Entry)). seen_at h k) is
+      ∙ history_there rows k below
+      ∙ ap (λ (r : List Row). history_in (rows_kept r) k) none
+  | inr past ↦
+      get_or_past seens k []
+      (omega (arith, past, ap (λ (h : List (List Entry)). length h) is, many_histories rows))
 ]
 
 -- ---- disks without areas
@@ -42,9 +58,11 @@ no_area : (side : Side) → openable_area side [] ≡ None
 unfolding has_header
 no_area side = refl
 
-agrees : (stories : List Story) (rows : List ℕ) (game : List Command) (file : List ℕ) → file ≡ [] → IsAgreedFile stories rows game file
+agrees : (stories : List Story) (rows : List ℕ) (game : List Command) (file : List ℕ)
+    → file ≡ [] → IsAgreedFile stories rows game file
 agrees stories rows game file is side area there =
-    absurd (none_some area (sym (ap (λ (f : List ℕ). openable_area side f) is ∙ no_area side) ∙ there))
+    absurd
+    (none_some area (sym (ap (λ (f : List ℕ). openable_area side f) is ∙ no_area side) ∙ there))
 
 module _ {A : Type 0} (P : A → Type 0) where
   each_got : (xs : List A) (s : ℕ) (x : A) → Each P xs → slice_get xs s ≡ Some x → P x
@@ -53,13 +71,16 @@ module _ {A : Type 0} (P : A → Type 0) where
   each_got (y ∷ ys) (suc s) x each is = each_got ys s x each.1 is
 
 -- so they agree with the rows of any journal
-pub empty_agree : {D : Type 0} (tells : D → Bool) (reads : D → List ℕ) (stories : List Story) (rows : List Row) (disks : List D) → AreEmpty tells reads disks
+pub empty_agree : {D : Type 0} (tells : D → Bool) (reads : D → List ℕ) (stories : List Story)
+    (rows : List Row) (disks : List D)
+    → AreEmpty tells reads disks
     → AreAgreed tells reads stories rows disks
 empty_agree tells reads stories rows disks empty s disk there =
     let one = each_got (λ d. IsTrue (tells d) × (reads d ≡ [])) disks s disk empty.each there in
     (one.0, agrees stories _ _ (reads disk) one.1)
 
 -- disks in memory tell what they hold
-pub each_told : {A : Type 0} (P : A → Type 0) (xs : List A) → Each P xs → Each (λ (x : A). IsTrue true × P x) xs
+pub each_told : {A : Type 0} (P : A → Type 0) (xs : List A)
+    → Each P xs → Each (λ (x : A). IsTrue true × P x) xs
 each_told P [] each = tt
 each_told P (x ∷ xs) each = ((refl, each.0), each_told P xs each.1)

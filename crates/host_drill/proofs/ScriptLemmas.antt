@@ -1,12 +1,14 @@
 -- The lines of a script name its session.
-use Rattle.std.proofs.Common.{◌≡◌, ℕ, ◌+◌, ◌-◌, ◌%◌, ◌^◌, ◌<◌, ◌==◌, cond, Bool, true, false, List, [], ◌∷◌, map, codes, min, Some, refl, ap, ◌∙◌, arith}
+use Rattle.std.proofs.Common.{◌≡◌, ℕ, ◌+◌, ◌-◌, ◌%◌, ◌^◌, ◌<◌, ◌==◌, cond, Bool, true, false}
+use Rattle.std.proofs.Common.{List, [], ◌∷◌, map, codes, min, Some, refl, ap, ◌∙◌, arith}
 use Rattle.turn_cell.specs.History.{Each}
 use Rattle.line_talk.specs.Lines.{lines}
 use Rattle.line_words.specs.Request.{request_of}
 use Rattle.line_words.specs.declared.request.Request.{Request}
 use Rattle.session_core.specs.Checks.{session_of}
 use Rattle.session_core.specs.Hosts.{session_in, session_on}
-use Rattle.story_make.specs.Script.{Place, script_start, letters, requests, script_bytes, place_after_turn, requests_from, typed_line, script_words}
+use Rattle.story_make.specs.Script.{Place, script_start, letters, requests, script_bytes}
+use Rattle.story_make.specs.Script.{place_after_turn, requests_from, typed_line, script_words}
 use Rattle.story_make.proofs.ScriptLaws.{reads}
 
 module _ (s : ℕ) where
@@ -15,13 +17,16 @@ module _ (s : ℕ) where
 
   -- the three ways of a turn
   one_turn : (word : ℕ) (place : Place) → Names place.last → (again skips : Bool)
-      → Names (cond again place (cond skips (record place { last = typed_line s (place.sent + 2) (codes "x") })
+      → Names (cond again place
+      (cond skips (record place { last = typed_line s (place.sent + 2) (codes "x") })
       (record { sent = place.sent + 1; last = typed_line s (place.sent + 1) (letters word) }))).last
   one_turn word place names true skips = names
   one_turn word place names false true = refl
   one_turn word place names false false = refl
 
-  all_turns : (words : List ℕ) (place : Place) → Names place.last → Each Names (requests_from s place words)
+  all_turns : (words : List ℕ) (place : Place)
+      → Names place.last
+      → Each Names (requests_from s place words)
   all_turns [] place names = tt
   all_turns (word ∷ words) place names =
       let after = one_turn word place names (word % 10 == 0) (word % 10 == 1) in
@@ -29,7 +34,8 @@ module _ (s : ℕ) where
 
   all_requests : (number turns : ℕ) → Each Names (requests number s turns)
   unfolding requests
-  all_requests number turns = (refl, all_turns (script_words number s turns) (script_start number s) refl)
+  all_requests number turns =
+      (refl, all_turns (script_words number s turns) (script_start number s) refl)
 
   module _ (below : s < 64) where
     abbrev IsOnLine : List ℕ → Type 0
@@ -38,15 +44,22 @@ module _ (s : ℕ) where
     same_number : min s 64 ≡ s
     same_number = omega (arith, below)
 
-    of_requests : (ls : List (List ℕ)) (rs : List Request) → map request_of ls ≡ map (λ (r : Request). Some r) rs → Each Names rs → Each IsOnLine ls
+    of_requests : (ls : List (List ℕ)) (rs : List Request)
+        → map request_of ls ≡ map (λ (r : Request). Some r) rs
+        → Each Names rs → Each IsOnLine ls
     of_requests [] rs e names = tt
     of_requests (l ∷ ls) [] e names = cc
     of_requests (l ∷ ls) (r ∷ rs) e names =
         let first : request_of l ≡ Some r = cc in
-        let more : map request_of ls ≡ map (λ (q : Request). Some q) rs = cc in
-        (ap session_in first ∙ ap (λ (n : ℕ). min n 64) names.0 ∙ same_number, of_requests ls rs more names.1)
+        let more : map request_of ls ≡ map (λ (q : Request). Some q) rs = cc in (
+          ap session_in first ∙ ap (λ (n : ℕ). min n 64) names.0 ∙ same_number,
+          of_requests ls rs more names.1,
+        )
 
     -- each line of the script does
-    pub script_names : (number turns : ℕ) → number < 2 ^ 64 → turns < 2 ^ 32 - 1 → Each IsOnLine (lines (script_bytes number s turns))
+    pub script_names : (number turns : ℕ)
+        → number < 2 ^ 64 → turns < 2 ^ 32 - 1
+        → Each IsOnLine (lines (script_bytes number s turns))
     script_names number turns fits few =
-        of_requests (lines (script_bytes number s turns)) (requests number s turns) (reads number s turns fits (omega (arith, below)) few) (all_requests number turns)
+        of_requests (lines (script_bytes number s turns)) (requests number s turns)
+        (reads number s turns fits (omega (arith, below)) few) (all_requests number turns)

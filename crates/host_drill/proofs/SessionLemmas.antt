@@ -1,5 +1,6 @@
 -- Turns in one session, one after the other, by passes that were never split.
-use Rattle.std.proofs.Common.{◌≡◌, ◌≢◌, ℕ, suc, ◌+◌, ◌<◌, List, [], ◌∷◌, ◌++◌, length, map, set, refl, ap, ◌∙◌, subst, arith, false, Bool, Option, Some, None}
+use Rattle.std.proofs.Common.{◌≡◌, ◌≢◌, ℕ, suc, ◌+◌, ◌<◌, List, [], ◌∷◌, ◌++◌, length, map}
+use Rattle.std.proofs.Common.{set, refl, ap, ◌∙◌, subst, arith, false, Bool, Option, Some, None}
 use Rattle.std.proofs.lemmas.List.{get_or-set_same, get_or-set_other}
 use Rattle.turn_cell.specs.History.{Each}
 use Rattle.gate_journal.specs.declared.command.Command.{Command}
@@ -17,7 +18,8 @@ use Rattle.session_core.specs.Turning.{MayMeet, commands_in, decision_on, turn_m
 use Rattle.session_core.specs.declared.entry.Entry.{Entry}
 use Rattle.session_core.specs.declared.entry.Entry.TheVariants as entries
 use Rattle.session_core.specs.declared.entry.Outcome.{Outcome}
-use Rattle.session_core.specs.declared.entry.Outcome.TheVariants.{Answered, DiskFailed, Forgotten, OutOfMemory}
+use Rattle.session_core.specs.declared.entry.Outcome.TheVariants.{Answered, DiskFailed}
+use Rattle.session_core.specs.declared.entry.Outcome.TheVariants.{Forgotten, OutOfMemory}
 use Rattle.story_run.specs.declared.story.Story.{Story}
 use Rattle.host_drill.specs.Alone.{history_alone, replies_alone, turn_alone}
 
@@ -36,7 +38,8 @@ IsOn s t = session_on t.line ≡ s
 module _ (stories : List Story) (budget : ℕ) where
   -- ---- what a turn met
 
-  met_fine : (h : List Entry) (reply : Reply) (accepted : Option Command) (outcome : Outcome) → MayMeet accepted outcome
+  met_fine : (h : List Entry) (reply : Reply) (accepted : Option Command) (outcome : Outcome)
+      → MayMeet accepted outcome
       → is_failing (turn_met h 0 reply accepted outcome).reply ≡ false → outcome ≡ Answered
   met_fine h reply None Answered may fine = refl
   met_fine h reply None OutOfMemory may fine = cc
@@ -48,20 +51,25 @@ module _ (stories : List Story) (budget : ℕ) where
   met_fine h reply (Some command) Forgotten may fine = cc
 
   -- a turn whose reply doesn't say so met nothing
-  turn_fine : (h : List Entry) (line : List ℕ) (outcome : Outcome) → MayMeet (decision_on stories budget (commands_in h) line).accepted outcome
+  turn_fine : (h : List Entry) (line : List ℕ) (outcome : Outcome)
+      → MayMeet (decision_on stories budget (commands_in h) line).accepted outcome
       → is_failing (turn_of stories budget h 0 line outcome).reply ≡ false → outcome ≡ Answered
   unfolding turn_of
   turn_fine h line outcome may fine =
-      met_fine h (decision_on stories budget (commands_in h) line).reply (decision_on stories budget (commands_in h) line).accepted outcome may fine
+      met_fine h (decision_on stories budget (commands_in h) line).reply
+      (decision_on stories budget (commands_in h) line).accepted outcome may fine
 
   -- ---- histories that have commands alone
 
   abbrev AreCommands : List Entry → Type 0
   AreCommands h = length (commands_in h) ≡ length h
 
-  one_more : (h : List Entry) (command : Command) → AreCommands h → AreCommands (h ++ entries.Accepted 0 command ∷ [])
+  one_more : (h : List Entry) (command : Command)
+      → AreCommands h
+      → AreCommands (h ++ entries.Accepted 0 command ∷ [])
   one_more [] command are = refl
-  one_more (entries.Accepted by first ∷ h) command are = ap suc (one_more h command (omega (arith, are)))
+  one_more (entries.Accepted by first ∷ h) command are =
+      ap suc (one_more h command (omega (arith, are)))
   one_more (entries.Faulted by from to ∷ h) command are = absurd (omega (arith, are, fewer h))
     where
       fewer : (g : List Entry) → length (commands_in g) < length g + 1
@@ -69,65 +77,96 @@ module _ (stories : List Story) (budget : ℕ) where
       fewer (entries.Accepted n c ∷ g) = omega (arith, fewer g)
       fewer (entries.Faulted n a b ∷ g) = omega (arith, fewer g)
 
-  met_commands : (h : List Entry) (reply : Reply) (accepted : Option Command) → AreCommands h → AreCommands (turn_met h 0 reply accepted Answered).history
+  met_commands : (h : List Entry) (reply : Reply) (accepted : Option Command)
+      → AreCommands h
+      → AreCommands (turn_met h 0 reply accepted Answered).history
   met_commands h reply None are = are
   met_commands h reply (Some command) are = one_more h command are
 
-  turn_commands : (h : List Entry) (line : List ℕ) → AreCommands h → AreCommands (turn_alone stories budget h line).history
+  turn_commands : (h : List Entry) (line : List ℕ)
+      → AreCommands h
+      → AreCommands (turn_alone stories budget h line).history
   unfolding turn_of
   turn_commands h line are =
-      met_commands h (decision_on stories budget (commands_in h) line).reply (decision_on stories budget (commands_in h) line).accepted are
+      met_commands h (decision_on stories budget (commands_in h) line).reply
+      (decision_on stories budget (commands_in h) line).accepted are
 
-  pub are_commands : (h : List Entry) (lines : List (List ℕ)) → AreCommands h → AreCommands (history_alone stories budget h lines)
+  pub are_commands : (h : List Entry) (lines : List (List ℕ))
+      → AreCommands h
+      → AreCommands (history_alone stories budget h lines)
   are_commands h [] are = are
-  are_commands h (line ∷ lines) are = are_commands (turn_alone stories budget h line).history lines (turn_commands h line are)
+  are_commands h (line ∷ lines) are =
+      are_commands (turn_alone stories budget h line).history lines (turn_commands h line are)
 
   -- ---- in one session
 
   -- the session's replies and its history are those of the session alone
-  pub record IsAlone (h : List Entry) (turns : List AnsweredLine) (after : List Entry) : Type 0 where
-    pub replies : map (λ (t : AnsweredLine). t.reply) turns ≡ replies_alone stories budget h (map (λ (t : AnsweredLine). t.line) turns)
+  pub record IsAlone (h : List Entry) (turns : List AnsweredLine)
+      (after : List Entry) : Type 0 where
+    pub replies : map (λ (t : AnsweredLine). t.reply) turns
+        ≡ replies_alone stories budget h (map (λ (t : AnsweredLine). t.line) turns)
     pub history : after ≡ history_alone stories budget h (map (λ (t : AnsweredLine). t.line) turns)
 
   record IsAloneOnce (h : List Entry) (t : AnsweredLine) (after : List Entry) : Type 0 where
     reply : t.reply ≡ (turn_alone stories budget h t.line).reply
     history : after ≡ (turn_alone stories budget h t.line).history
 
-  alone_more : (h : List Entry) (t : AnsweredLine) (mid : List Entry) (turns : List AnsweredLine) (after : List Entry) → IsAloneOnce h t mid → IsAlone mid turns after
+  alone_more : (h : List Entry) (t : AnsweredLine) (mid : List Entry) (turns : List AnsweredLine)
+      (after : List Entry)
+      → IsAloneOnce h t mid → IsAlone mid turns after
       → IsAlone h (t ∷ turns) after
   alone_more h t mid turns after one more =
       let lines : List (List ℕ) = map (λ (u : AnsweredLine). u.line) turns in
       record {
         replies = ap (λ (r : Reply). r ∷ map (λ (u : AnsweredLine). u.reply) turns) one.reply
             ∙ ap (λ (rs : List Reply). (turn_alone stories budget h t.line).reply ∷ rs)
-            (more.replies ∙ ap (λ (g : List Entry). replies_alone stories budget g lines) one.history);
-        history = more.history ∙ ap (λ (g : List Entry). history_alone stories budget g lines) one.history;
+            (more.replies
+            ∙ ap (λ (g : List Entry). replies_alone stories budget g lines) one.history);
+        history =
+            more.history
+            ∙ ap (λ (g : List Entry). history_alone stories budget g lines) one.history;
       }
 
   -- where the host is sound
   module _ (sound : Type 0) (sure : sound) (s : ℕ) (below : s < 64) where
-    others_one : (old : Histories) (t : AnsweredLine) (new : Histories) → IsMet stories budget old t new → IsOn s t → (k : ℕ) → k ≢ s → seen_at new k ≡ seen_at old k
+    others_one : (old : Histories) (t : AnsweredLine) (new : Histories)
+        → IsMet stories budget old t new → IsOn s t → (k : ℕ)
+        → k ≢ s → seen_at new k ≡ seen_at old k
     others_one old t new m on k other =
-        ap (λ (h : Histories). seen_at h k) m.after ∙ get_or-set_other old (session_on t.line) k _ [] (λ (e : k ≡ session_on t.line). other (e ∙ on))
+        ap (λ (h : Histories). seen_at h k) m.after
+        ∙ get_or-set_other old (session_on t.line) k _ []
+        (λ (e : k ≡ session_on t.line). other (e ∙ on))
 
     -- other sessions have what they had
-    pub others_all : (old : Histories) (turns : List AnsweredLine) (new : Histories) → length old ≡ 64 → AnswersInOrder stories budget sound roots old turns new
+    pub others_all : (old : Histories) (turns : List AnsweredLine) (new : Histories)
+        → length old ≡ 64
+        → AnswersInOrder stories budget sound roots old turns new
         → Each (IsOn s) turns → (k : ℕ) → k ≢ s → seen_at new k ≡ seen_at old k
     others_all old [] new wide c on k other = ap (λ (h : Histories). seen_at h k) c
     others_all old (t ∷ turns) new wide c on k other =
-        others_all c.0 turns new (answer_wide stories budget sound roots old t c.0 wide c.1) c.2 on.1 k other
+        others_all c.0 turns new
+        (answer_wide stories budget sound roots old t c.0 wide c.1) c.2 on.1 k other
         ∙ others_one old t c.0 (met_one stories budget sound sure old t c.0 wide c.1) on.0 k other
 
-    alone_one : (old : Histories) (t : AnsweredLine) (new : Histories) → length old ≡ 64 → IsMet stories budget old t new → IsOn s t → is_failing t.reply ≡ false
+    alone_one : (old : Histories) (t : AnsweredLine) (new : Histories)
+        → length old ≡ 64 → IsMet stories budget old t new
+        → IsOn s t → is_failing t.reply ≡ false
         → IsAloneOnce (seen_at old s) t (seen_at new s)
     alone_one old t new wide m on fine =
-        let there : seen_at old (session_on t.line) ≡ seen_at old s = ap (λ (k : ℕ). seen_at old k) on in
-        let is_fine : is_failing (turn_of stories budget (seen_at old (session_on t.line)) 0 t.line t.outcome).reply ≡ false
+        let there : seen_at old (session_on t.line) ≡ seen_at old s =
+        ap (λ (k : ℕ). seen_at old k) on in
+        let is_fine : is_failing
+        (turn_of stories budget (seen_at old (session_on t.line)) 0 t.line t.outcome).reply
+        ≡ false
         = subst (λ (r : Reply). is_failing r ≡ false) m.said fine in
-        let behind : List Entry = (turn_of stories budget (seen_at old (session_on t.line)) 0 t.line t.outcome).history in
-        let met : t.outcome ≡ Answered = turn_fine (seen_at old (session_on t.line)) t.line t.outcome m.may is_fine in
-        let turned : turn_of stories budget (seen_at old (session_on t.line)) 0 t.line t.outcome ≡ turn_alone stories budget (seen_at old s) t.line
-        = ap (λ (o : Outcome). turn_of stories budget (seen_at old (session_on t.line)) 0 t.line o) met
+        let behind : List Entry =
+        (turn_of stories budget (seen_at old (session_on t.line)) 0 t.line t.outcome).history in
+        let met : t.outcome ≡ Answered =
+        turn_fine (seen_at old (session_on t.line)) t.line t.outcome m.may is_fine in
+        let turned : turn_of stories budget (seen_at old (session_on t.line)) 0 t.line t.outcome
+        ≡ turn_alone stories budget (seen_at old s) t.line
+        = ap (λ (o : Outcome). turn_of stories budget (seen_at old (session_on t.line)) 0 t.line o)
+        met
         ∙ ap (λ (h : List Entry). turn_of stories budget h 0 t.line Answered) there in
         record {
           reply = m.said ∙ ap (λ u. u.reply) turned;
@@ -137,10 +176,17 @@ module _ (stories : List Story) (budget : ℕ) where
               ∙ ap (λ u. u.history) turned;
         }
 
-    pub alone_all : (old : Histories) (turns : List AnsweredLine) (new : Histories) → length old ≡ 64 → AnswersInOrder stories budget sound roots old turns new
-        → Each (IsOn s) turns → Each (λ (t : AnsweredLine). is_failing t.reply ≡ false) turns → IsAlone (seen_at old s) turns (seen_at new s)
-    alone_all old [] new wide c on fine = record { replies = refl; history = ap (λ (h : Histories). seen_at h s) c }
+    pub alone_all : (old : Histories) (turns : List AnsweredLine) (new : Histories)
+        → length old ≡ 64
+        → AnswersInOrder stories budget sound roots old turns new
+        → Each (IsOn s) turns
+        → Each (λ (t : AnsweredLine). is_failing t.reply ≡ false) turns
+        → IsAlone (seen_at old s) turns (seen_at new s)
+    alone_all old [] new wide c on fine =
+        record { replies = refl; history = ap (λ (h : Histories). seen_at h s) c }
     alone_all old (t ∷ turns) new wide c on fine =
         alone_more (seen_at old s) t (seen_at c.0 s) turns (seen_at new s)
-        (alone_one old t c.0 wide (met_one stories budget sound sure old t c.0 wide c.1) on.0 fine.0)
-        (alone_all c.0 turns new (answer_wide stories budget sound roots old t c.0 wide c.1) c.2 on.1 fine.1)
+        (alone_one old t c.0 wide
+        (met_one stories budget sound sure old t c.0 wide c.1) on.0 fine.0)
+        (alone_all c.0 turns new
+        (answer_wide stories budget sound roots old t c.0 wide c.1) c.2 on.1 fine.1)

@@ -13,7 +13,8 @@ use Rattle.host_serve.specs.Chain.{Answers, AnswersInOrder, TurnsIn, TurnsOnNone
 use Rattle.host_serve.specs.Holders.{Holder, IsAloneHolder, holder_at, seen_at}
 use Rattle.host_serve.specs.Hosts.{sessions_below}
 use Rattle.host_serve.specs.Opening.{histories_in_rows, lone, roots}
-use Rattle.host_serve.specs.Serves.{AnsweredLine, MayMeetIn, decided_on_line, own_world, turned_again}
+use Rattle.host_serve.specs.Serves.{AnsweredLine, MayMeetIn}
+use Rattle.host_serve.specs.Serves.{decided_on_line, own_world, turned_again}
 use Rattle.host_serve.proofs.ChainLemmas.{answer_wide}
 use Rattle.host_serve.proofs.ListLemmas.{eq_or_ne}
 use Rattle.line_words.specs.declared.reply.Reply.{Reply}
@@ -60,13 +61,16 @@ module _ (stories : List Story) (budget : ℕ) where
   -- ---- a turn in the session's own world
 
   own_decides : (history : List Entry) (t : AnsweredLine) → t.world ≡ own_world stories history
-      → decided_on_line stories budget history t ≡ decision_on stories budget (commands_in history) t.line
+      → decided_on_line stories budget history t
+      ≡ decision_on stories budget (commands_in history) t.line
   own_decides history t own =
       ap (λ (w : Option WorldState). decision_in stories budget (commands_in history) w t.line) own
       ∙ decides_alike stories budget (commands_in history) t.line
 
-  own_turns : (history : List Entry) (by : ℕ) (t : AnsweredLine) → t.world ≡ own_world stories history
-      → turned_again stories budget history by t ≡ turn_of stories budget history by t.line t.outcome
+  own_turns : (history : List Entry) (by : ℕ) (t : AnsweredLine)
+      → t.world ≡ own_world stories history
+      → turned_again stories budget history by t
+      ≡ turn_of stories budget history by t.line t.outcome
   own_turns history by t own =
       ap (λ (w : Option WorldState). turn_in stories budget history w by t.line t.outcome) own
       ∙ turns_alike stories budget history by t.line t.outcome
@@ -149,7 +153,8 @@ module _ (stories : List Story) (budget : ℕ) where
     pub after : new ≡ histories_met stories budget old 0 (map (λ (t : AnsweredLine). t.line) turns)
         (map (λ (t : AnsweredLine). t.outcome) turns)
 
-  met_more : (old : Histories) (t : AnsweredLine) (mid : Histories) (turns : List AnsweredLine) (new : Histories)
+  met_more : (old : Histories) (t : AnsweredLine) (mid : Histories) (turns : List AnsweredLine)
+      (new : Histories)
       → IsMet old t mid → AreMetBy mid turns new → AreMetBy old (t ∷ turns) new
   met_more old t mid turns new one more =
       let lines : List (List ℕ) = map (λ (u : AnsweredLine). u.line) turns in
@@ -161,7 +166,8 @@ module _ (stories : List Story) (budget : ℕ) where
               more.met,
         );
         said = ap (λ (r : Reply). r ∷ map (λ (u : AnsweredLine). u.reply) turns) one.said
-            ∙ ap (λ (rs : List Reply). (turn_on_line stories budget old 0 t.line t.outcome).reply ∷ rs)
+            ∙ ap
+            (λ (rs : List Reply). (turn_on_line stories budget old 0 t.line t.outcome).reply ∷ rs)
             (more.said ∙ ap (λ (h : Histories). replies_met stories budget h 0 lines outcomes)
             one.after);
         after =
@@ -207,7 +213,8 @@ module _ (stories : List Story) (budget : ℕ) where
         (sym (history_there rows s below ∙ history_in-kept rows s))
         (unnumbered-all (commands_of rows s))
     | inr past ↦ subst (λ (l : List Entry). map unnumbered l ≡ l)
-        (sym (get_or_past (histories_in_rows rows) s [] (omega (arith, past, many_histories rows)))) refl
+        (sym (get_or_past (histories_in_rows rows) s [] (omega (arith, past, many_histories rows))))
+        refl
   ]
 
   -- on a sound host, as `sound` says
@@ -221,7 +228,8 @@ module _ (stories : List Story) (budget : ℕ) where
         let before : i.before ≡ entries_of old (session_on t.line) =
         i.alone (subst IsAloneHolder (sym is) (refl, refl))
         ∙ ap (λ (k : ℕ). seen_at old k) there in
-        let turned : turned_again stories budget i.before h.number t ≡ turn_on_line stories budget old 0
+        let turned : turned_again stories budget i.before h.number t
+        ≡ turn_on_line stories budget old 0
         t.line t.outcome
         = own_turns i.before h.number t (i.own holds)
         ∙ (ap (λ (b : List Entry). turn_of stories budget b h.number t.line t.outcome) before
@@ -249,7 +257,9 @@ module _ (stories : List Story) (budget : ℕ) where
       | inr wanted ↦ met_wanting old t new wanted n
     ]
 
-    pub met_all : sound → (old : Histories) (turns : List AnsweredLine) (new : Histories) → length old ≡ 64
+    pub met_all : sound
+        → (old : Histories) (turns : List AnsweredLine) (new : Histories)
+        → length old ≡ 64
         → AnswersInOrder stories budget sound roots old turns new → AreMetBy old turns new
     met_all holds old [] new wide c = record { met = tt; said = refl; after = c }
     met_all holds old (t ∷ turns) new wide c =
@@ -257,7 +267,8 @@ module _ (stories : List Story) (budget : ℕ) where
         (met_all holds c.0 turns new (answer_wide stories budget sound roots old t c.0 wide c.1)
         c.2)
 
-    own_in : (old : Histories) (t : AnsweredLine) (h : Holder) (after : List Entry) → h ≡ lone → AreOwn old
+    own_in : (old : Histories) (t : AnsweredLine) (h : Holder) (after : List Entry)
+        → h ≡ lone → AreOwn old
         → TurnsIn stories budget sound h (seen_at old t.mark.session) t after
         → map unnumbered after ≡ after
     own_in old t h after is own i =

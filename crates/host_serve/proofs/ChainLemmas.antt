@@ -29,7 +29,8 @@ grows_trans a b c f g s = let p = f s in let q = g s in (
 
 module _ (stories : List Story) (budget : ℕ) (sound : Type 0) where
   -- one more answered line at the end
-  pub chain_more : (holders : List Holder) (old mid new : List (List Entry)) (ts : List AnsweredLine)
+  pub chain_more : (holders : List Holder) (old mid new : List (List Entry))
+      (ts : List AnsweredLine)
       (t : AnsweredLine) → AnswersInOrder stories budget sound holders old ts mid
       → Answers stories budget sound holders mid t new
       → AnswersInOrder stories budget sound holders old (ts ++ t ∷ []) new
@@ -119,14 +120,18 @@ module _ (stories : List Story) (budget : ℕ) (sound : Type 0) where
       of_answer (inl o) = λ s. of o s (eq_or_ne s t.mark.session)
 
   pub chain_wide : (holders : List Holder) (old : List (List Entry)) (ts : List AnsweredLine)
-      (new : List (List Entry)) → length old ≡ 64 → AnswersInOrder stories budget sound holders old ts new
+      (new : List (List Entry))
+      → length old ≡ 64
+      → AnswersInOrder stories budget sound holders old ts new
       → length new ≡ 64
   chain_wide holders old [] new wide c = ap (λ (x : List (List Entry)). length x) c ∙ wide
   chain_wide holders old (t ∷ ts) new wide c =
       chain_wide holders c.0 ts new (answer_wide holders old t c.0 wide c.1) c.2
 
   pub chain_grows : (holders : List Holder) (old : List (List Entry)) (ts : List AnsweredLine)
-      (new : List (List Entry)) → length old ≡ 64 → AnswersInOrder stories budget sound holders old ts new
+      (new : List (List Entry))
+      → length old ≡ 64
+      → AnswersInOrder stories budget sound holders old ts new
       → Grows old new
   chain_grows holders old [] new wide c = grows_same old new c
   chain_grows holders old (t ∷ ts) new wide c =

@@ -37,7 +37,8 @@ few_lines begun (x ∷ xs) = of (x == 10) (few_lines [] xs) (few_lines (begun ++
     of false m n = omega (arith, n)
 
 -- what `serve` answers, a link may be hung up for
-pub hung_up : (why : Served) (turns : List AnsweredLine) (input now : SourceState) (output new : SinkState)
+pub hung_up : (why : Served) (turns : List AnsweredLine) (input now : SourceState)
+    (output new : SinkState)
     (old_marks marks : List Mark) → TellsLink turns input now output new old_marks marks why
     → IsFresh input output → (why ≡ ReadFault → Rose input.faults now.faults)
     → (why ≡ WriteFault → Rose output.faults new.faults) → MayHangUp why now new
@@ -105,10 +106,13 @@ module _ {Conn Lent D : Type 0} (source : Conn → SourceState) (sink : Conn →
   visits_more old mid new v more kept held = let hs = holders old.desks.items in record {
     visits = v.visits ++ more.0 ∷ [];
     each = each_append (IsVisit source sink lent Gives) v.visits (more.0 ∷ []) v.each (more.1, tt);
-    chain = subst (λ (ts : List AnsweredLine). AnswersInOrder host.stories.now host.budget (sound host) hs
+    chain =
+        subst
+        (λ (ts : List AnsweredLine). AnswersInOrder host.stories.now host.budget (sound host) hs
         (seens old.desks.items) ts (seens new.desks.items)) (sym (turns_more v.visits more.0))
         (chain_append host.stories.now host.budget (sound host) hs (seens old.desks.items)
-        (seens mid.desks.items) (seens new.desks.items) (turns_of_visits v.visits) more.0.turns v.chain
+        (seens mid.desks.items) (seens new.desks.items)
+        (turns_of_visits v.visits) more.0.turns v.chain
         (subst (λ (x : List Holder). AnswersInOrder host.stories.now host.budget (sound host) x
         (seens mid.desks.items) more.0.turns (seens new.desks.items)) v.held more.2));
     kept = kept;
@@ -123,7 +127,8 @@ module _ {Conn Lent D : Type 0} (source : Conn → SourceState) (sink : Conn →
   works_of Shuts Fails old new answer of v ends = record {
     served = v;
     serves = serves_of host.stories.now host.budget (sound host) (holders old.desks.items)
-        (holders_many _ _ _ _ of.each of.whole.many) (seens old.desks.items) (turns_of_visits v.visits)
+        (holders_many _ _ _ _ of.each of.whole.many) (seens old.desks.items)
+        (turns_of_visits v.visits)
         (seens new.desks.items) (seens_many _ _ _ _ of.each of.whole.many) v.chain;
     ends = ends;
   }

@@ -88,8 +88,11 @@ module _ {D : Type 0} where
   keeps_more a b first mid new k l = record {
     holds_both = l.holds_both ∙ (ap (λ (n : List ℕ). n ++ b) k.holds_both
         ∙ append_assoc (pass_numbers first) a b);
-    since = goes_on (IsForeign entry_number (pass_numbers first)) (seen first) (seen mid) (seen new) k.since
-        (goes_by (IsForeign entry_number (pass_numbers mid)) (IsForeign entry_number (pass_numbers first)) (seen mid)
+    since =
+        goes_on (IsForeign entry_number (pass_numbers first)) (seen first) (seen mid)
+        (seen new) k.since
+        (goes_by (IsForeign entry_number (pass_numbers mid))
+        (IsForeign entry_number (pass_numbers first)) (seen mid)
         (seen new) (λ e foreign there. foreign (subst (λ (n : List ℕ). IsAmong (entry_number e) n)
         (sym k.holds_both) (among_first (entry_number e) (pass_numbers first) a there))) l.since);
     kept = (l.kept.0 ∙ k.kept.0, l.kept.1 ∙ k.kept.1);
@@ -256,7 +259,8 @@ module _ {D : Type 0} (tells : D → Bool) (may_leave : D → List ℕ → Type 
             (λ i. (sym last i, sym (there_last g.finals b.final s (last ∙ sym g.many)) i)) b.heard)
             (below_or_last s n low);
         held = λ s low. subst (λ (l : List ℕ). IsAmong (s + 1) l) (sym k.holds_both) (⊎_elim
-            (λ (below : s < n). among_first (s + 1) (pass_numbers mid) ((n + 1) ∷ []) (g.held s below))
+            (λ (below : s < n).
+            among_first (s + 1) (pass_numbers mid) ((n + 1) ∷ []) (g.held s below))
             (λ (last : s ≡ n). among_second (s + 1) (pass_numbers mid) ((n + 1) ∷ [])
             (inl (ap (λ (m : ℕ). m + 1) (sym last))))
             (below_or_last s n low));
@@ -337,7 +341,8 @@ module _ {D : Type 0} (tells : D → Bool) (may_leave : D → List ℕ → Type 
         many = g.many;
         each = g.ends;
         kept = λ s low. heard_kept s log.entries (seen_at g.finals s) rows
-            (heard_to s (seen_at g.finals s) (pass_numbers root) (seen root) log.entries (g.heard s low)
+            (heard_to s (seen_at g.finals s) (pass_numbers root) (seen root) log.entries
+            (g.heard s low)
             (g.held s low) since);
         opening = ap (λ (x : Option (Log D)). tag_in (λ (j : Log D). j.opening) x) (sym k.kept.1)
             ∙ tagged;
@@ -345,7 +350,8 @@ module _ {D : Type 0} (tells : D → Bool) (may_leave : D → List ℕ → Type 
             (seen host.root)) whole.numbered.1
             (goes_on (IsForeign entry_number (pass_numbers host.root)) (seen host.root) (seen root)
             log.entries k.since
-            (goes_by (IsForeign entry_number (pass_numbers root)) (IsForeign entry_number (pass_numbers host.root))
+            (goes_by (IsForeign entry_number (pass_numbers root))
+            (IsForeign entry_number (pass_numbers host.root))
             (seen root) log.entries (λ e foreign there. foreign
             (subst (λ (l : List ℕ). IsAmong (entry_number e) l) (sym k.holds_both)
             (among_first (entry_number e) (pass_numbers host.root) g.grows.0 there))) since));
@@ -384,7 +390,8 @@ module _ {D : Type 0} (tells : D → Bool) (may_leave : D → List ℕ → Type 
       let low' : s < 64 = omega arith in
       let store = get_below (opened_stores host) s (omega arith) in
       let r = store_returns of g s store.0 back store.1 there in
-      let since' = since_to s (pass_numbers root) r.seen (seen root) log.entries r.since (g.held s low')
+      let since' =
+      since_to s (pass_numbers root) r.seen (seen root) log.entries r.since (g.held s low')
       since in
       subst (λ (x : List ℕ × List Command). EachImage tells may_leave back
       (IsAgreedFile host.stories.now x.0 (game_of x.1)))

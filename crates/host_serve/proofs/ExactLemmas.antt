@@ -14,8 +14,8 @@ use Rattle.session_core.specs.declared.entry.Outcome.TheVariants.{Answered, Disk
 use Rattle.session_core.specs.declared.entry.Outcome.TheVariants.{Forgotten}
 use Rattle.session_core.specs.Turning.{MayMeet, turn_in, turn_met}
 use Rattle.host_serve.specs.Holders.{Holder, holder_at, seen_at}
-use Rattle.host_serve.specs.Serves.{AnsweredLine, AddsItsEntry, AddsNothing, IsExact, MayMeetIn, decided_on_line, marked}
-use Rattle.host_serve.specs.Serves.{turned}
+use Rattle.host_serve.specs.Serves.{AnsweredLine, AddsItsEntry, AddsNothing, IsExact}
+use Rattle.host_serve.specs.Serves.{MayMeetIn, decided_on_line, marked, turned}
 use Rattle.host_serve.proofs.ListLemmas.{length_more, same_last}
 
 -- the reply that is decided, or want of memory, or a fault that is added

@@ -11,9 +11,9 @@ use Rattle.session_core.specs.declared.entry.Entry.{Entry}
 use Rattle.session_core.specs.Turning.{entry_by, AddsTo, Turned}
 use Rattle.session_core.proofs.TurningLemmas.{turn_in_adds}
 use Rattle.host_serve.specs.Holders.{Holder, nobody, IsAloneHolder, holder_at, seen_at}
-use Rattle.host_serve.specs.Serves.{AnsweredLine, IsTurn, IsOfItsSession, IsOfNoSession, MayMeetIn, marked}
-use Rattle.host_serve.specs.Serves.{own_world, turned_again, turned, AddsItsEntry, AddsNothing, AddedOnce}
-use Rattle.host_serve.specs.Serves.{Folds, IsExact, ServesLines}
+use Rattle.host_serve.specs.Serves.{AnsweredLine, IsTurn, IsOfItsSession, IsOfNoSession, MayMeetIn}
+use Rattle.host_serve.specs.Serves.{marked, own_world, turned_again, turned, AddsItsEntry}
+use Rattle.host_serve.specs.Serves.{AddsNothing, AddedOnce, Folds, IsExact, ServesLines}
 use Rattle.host_serve.specs.Chain.{TurnsIn, Answers, AnswersInOrder}
 use Rattle.host_serve.proofs.TurnLemmas.{none_adds}
 use Rattle.host_serve.proofs.ExactLemmas.{exact}
@@ -39,7 +39,8 @@ module _ (stories : List Story) (budget : ℕ) (sound : Type 0) where
       × (slice_get final t.mark.length ≡ Some e) × (entry_by e ≡ h.number)
 
   -- in one session: what a turn is, with what was seen before it, after it and in the end
-  record Stands (h : Holder) (old : List Entry) (t : AnsweredLine) (mid final : List Entry) : Type 0 where
+  record Stands (h : Holder) (old : List Entry) (t : AnsweredLine)
+      (mid final : List Entry) : Type 0 where
     pub prefix : t.mark.length ≤ length final
     pub begins : length old ≤ t.mark.length
     pub least : t.mark.length ≤ length mid
@@ -146,7 +147,9 @@ module _ (stories : List Story) (budget : ℕ) (sound : Type 0) where
                 (cases_lt place (length i.before));
           }
 
-  stands_none : (t : AnsweredLine) → IsOfNoSession t → t.world ≡ None → MayMeetIn stories budget [] t
+  stands_none : (t : AnsweredLine)
+      → IsOfNoSession t → t.world ≡ None
+      → MayMeetIn stories budget [] t
       → t.reply ≡ (turned_again stories budget [] 0 t).reply → Stands nobody [] t [] []
   stands_none t none world met reply = let e = none.1 in let nil = take_none t.mark.length none.1 in
       let same = ap (λ (l : List Entry). turned_again stories budget l 0 t) nil in
@@ -165,7 +168,9 @@ module _ (stories : List Story) (budget : ℕ) (sound : Type 0) where
 
   module _ (holders : List Holder) (many : length holders ≡ 64) where
     -- an answered line, against what is seen in the end
-    abbrev StandsAt : List (List Entry) → AnsweredLine → List (List Entry) → List (List Entry) → Type 0
+    abbrev StandsAt : List (List Entry)
+        → AnsweredLine → List (List Entry) → List (List Entry)
+        → Type 0
     StandsAt old t mid new = Stands (holder_at holders t.mark.session)
         (seen_at old t.mark.session) t (seen_at mid t.mark.session) (seen_at new t.mark.session)
 
@@ -191,7 +196,8 @@ module _ (stories : List Story) (budget : ℕ) (sound : Type 0) where
     -- the first turn of a chain
     first_stands : (old : List (List Entry)) (t : AnsweredLine) (ts : List AnsweredLine)
         (new : List (List Entry)) → length old ≡ 64
-        → (c : AnswersInOrder stories budget sound holders old (t ∷ ts) new) → StandsAt old t c.0 new
+        → (c : AnswersInOrder stories budget sound holders old (t ∷ ts) new)
+        → StandsAt old t c.0 new
     first_stands old t ts new wide c =
         let wide' = answer_wide stories budget sound holders old t c.0 wide c.1 in
         head_stands old t c.0 new wide
@@ -213,7 +219,9 @@ module _ (stories : List Story) (budget : ℕ) (sound : Type 0) where
         × (sound → t.world ≡ own_world stories (marked new t))
 
     settled : (old : List (List Entry)) (ts : List AnsweredLine) (new : List (List Entry))
-        → length old ≡ 64 → AnswersInOrder stories budget sound holders old ts new → (i : ℕ) (t : AnsweredLine)
+        → length old ≡ 64
+        → AnswersInOrder stories budget sound holders old ts new
+        → (i : ℕ) (t : AnsweredLine)
         → IsTurn ts i t → Settled new t
     settled old [] new wide c i t is = absurd (none_some t is)
     settled old (x ∷ xs) new wide c zero t is =
@@ -224,7 +232,9 @@ module _ (stories : List Story) (budget : ℕ) (sound : Type 0) where
         settled c.0 xs new (answer_wide stories budget sound holders old x c.0 wide c.1) c.2 i t is
 
     begins_all : (old : List (List Entry)) (ts : List AnsweredLine) (new : List (List Entry))
-        → length old ≡ 64 → AnswersInOrder stories budget sound holders old ts new → (i : ℕ) (t : AnsweredLine)
+        → length old ≡ 64
+        → AnswersInOrder stories budget sound holders old ts new
+        → (i : ℕ) (t : AnsweredLine)
         → IsTurn ts i t → length (seen_at old t.mark.session) ≤ t.mark.length
     begins_all old [] new wide c i t is = absurd (none_some t is)
     begins_all old (x ∷ xs) new wide c zero t is =
@@ -243,7 +253,9 @@ module _ (stories : List Story) (budget : ℕ) (sound : Type 0) where
         × (AddsItsEntry stories budget holders new t → t.mark.length < u.mark.length)
 
     rises_all : (old : List (List Entry)) (ts : List AnsweredLine) (new : List (List Entry))
-        → length old ≡ 64 → AnswersInOrder stories budget sound holders old ts new → (i j : ℕ) (t u : AnsweredLine)
+        → length old ≡ 64
+        → AnswersInOrder stories budget sound holders old ts new
+        → (i j : ℕ) (t u : AnsweredLine)
         → IsTurn ts i t → IsTurn ts j u → i < j → t.mark.session ≡ u.mark.session
         → Rises new t u
     rises_all old [] new wide c i j t u is at low same = absurd (none_some t is)
@@ -295,7 +307,9 @@ module _ (stories : List Story) (budget : ℕ) (sound : Type 0) where
         }
           where
             only_later : (j : ℕ) (u : AnsweredLine) → IsTurn (x ∷ xs) j u → u.mark.session ≡ s
-                → u.mark.length ≡ place → AddsItsEntry stories budget holders new u → j ≡ suc r.which
+                → u.mark.length ≡ place
+                → AddsItsEntry stories budget holders new u
+                → j ≡ suc r.which
             only_later (suc j) u at session long adds = ap suc (r.only j u at session long adds)
             only_later zero u at session long adds = let same = same_some x u at in
                 let more = stands.more
@@ -359,7 +373,8 @@ module _ (stories : List Story) (budget : ℕ) (sound : Type 0) where
                   ∙ ap (λ (l : List Entry). (turned_again stories budget l h.number x).reply) same,
               subst (λ (l : List (List Entry)). Folds stories budget holders l xs new)
                   (o.seen ∙ ap (λ (l : List Entry). set old x.mark.session l) (o.turn.history
-                  ∙ ap (λ (l : List Entry). (turned_again stories budget l h.number x).history) same))
+                  ∙ ap (λ (l : List Entry). (turned_again stories budget l h.number x).history)
+                  same))
                   rest,
             )
         of rest (inr n) = let s = n.none.0 in let nil = empty_there old x.mark.session wide s in

@@ -5,8 +5,8 @@ use Rattle.std.proofs.lemmas.List.{length-map, get_or-map}
 use Rattle.std.proofs.Math.Seq.{map-set_same}
 use Rattle.turn_cell.specs.declared.cell.Cell.{Cell}
 use Rattle.turn_cell.specs.declared.pass.Pass.{Pass}
-use Rattle.turn_cell.specs.Passes.{IsOf, IsOutside, IsSplitFrom, KeepsNumbers, pass_numbers, made, pass_number}
-use Rattle.turn_cell.specs.Passes.{sample, seen, tag_of}
+use Rattle.turn_cell.specs.Passes.{IsOf, IsOutside, IsSplitFrom, KeepsNumbers}
+use Rattle.turn_cell.specs.Passes.{pass_numbers, made, pass_number, sample, seen, tag_of}
 use Rattle.host_serve.specs.Holders.{Holder, holder_of, holders, nobody, seens}
 use Rattle.host_serve.specs.Hosts.{ArePasses}
 use Rattle.host_serve.specs.Splitting.{AreNewest, AreRoots, after_split, first_by, newest_of}
@@ -76,7 +76,8 @@ module _ {T E G : Type 0} (tag : T → G) (cells : List (Cell T E)) where
       let holders_long = length-map first holder_of in
       let becomes : holder_of p' ≡ with_newest_pass (holder_of p) =
       (λ i. record { number = kept.1 i; made = kept.2 i; holds = held i })
-      ∙ ap (λ (h : Holder). record { number = pass_number p; made = made p; holds = pass_numbers p ++ h.holds })
+      ∙ ap (λ (h : Holder).
+      record { number = pass_number p; made = made p; holds = pass_numbers p ++ h.holds })
       l.4 in
       let same : seen p' ≡ seen p = ⊎_elim (λ (e : seen p' ≡ seen p). e)
       (λ (e : seen p' ≡ seen q). e ∙ l.5) heard in
@@ -190,7 +191,8 @@ module _ {T E G : Type 0} (tag : T → G) (cells : List (Cell T E)) where
       → ArePasses tag tags cells first → cells' ≡ cells → now' ≡ now
       → holders final ≡ first_by with_newest_pass (length newest) (holders now')
       → seens final ≡ seens now' → ArePasses tag (map (tag_of tag) now') cells' final
-      → (holders final ≡ first_by (λ (h : Holder). with_newest_pass (after_split h)) n (holders first))
+      → (holders final
+      ≡ first_by (λ (h : Holder). with_newest_pass (after_split h)) n (holders first))
       × (seens final ≡ seens first) × ArePasses tag tags cells final
   splits_back tags n cells' first now now' newest final s a is is' who heard are =
       let whole : ArePasses tag (map (tag_of tag) now) cells final =

@@ -6,7 +6,8 @@ use Rattle.std.proofs.lemmas.List.{map-append}
 use Rattle.turn_cell.proofs.HistoryLemmas.{nil_right}
 use Rattle.line_words.specs.Reply.{print_reply}
 use Rattle.line_words.specs.declared.reply.Reply.{Reply}
-use Rattle.line_talk.specs.Conversation.{Answered, BreaksLast, Line, StopsBehind, Turns, texts_joined}
+use Rattle.line_talk.specs.Conversation.{Answered, BreaksLast, Line}
+use Rattle.line_talk.specs.Conversation.{StopsBehind, Turns, texts_joined}
 use Rattle.line_talk.specs.Lines.{heard, talk}
 use Rattle.line_talk.specs.Streams.{SinkState, SourceState, Gave, Wrote}
 use Rattle.line_talk.specs.Talked.{AnswersOf, Talked}
@@ -27,7 +28,8 @@ use Rattle.host_serve.specs.Chain.{Answers, AnswersInOrder}
 use Rattle.host_serve.specs.Holders.{Holder}
 use Rattle.host_serve.specs.Serves.{ServesLines, AnsweredLine}
 use Rattle.host_serve.specs.Speaking.{Speaking, Speaks, seen_and_marked, turn_with}
-use Rattle.host_serve.specs.Told.{AnsweredOf, IsCutText, TellsLink, WritesReplies, served_of, turn_from}
+use Rattle.host_serve.specs.Told.{AnsweredOf, IsCutText, TellsLink}
+use Rattle.host_serve.specs.Told.{WritesReplies, served_of, turn_from}
 use Rattle.host_serve.proofs.ChainLemmas.{chain_more}
 use Rattle.host_serve.proofs.ServesLemmas.{serves_of}
 
@@ -141,7 +143,8 @@ module _ {D : Type 0} (sound : Host D → Type 0) where
     pub turns : List AnsweredLine
     pub lines : map line_of turns ≡ answered
     pub replies : texts ≡ map print_reply (map reply_of turns)
-    pub chain : AnswersInOrder old.host.stories.now old.host.budget (sound old.host) old.holders old.seen
+    pub chain : AnswersInOrder old.host.stories.now old.host.budget
+        (sound old.host) old.holders old.seen
         turns new.seen
     pub after : new ≡ seen_and_marked old new.seen (old.marks ++ map mark_of turns)
 
@@ -172,7 +175,8 @@ module _ {D : Type 0} (sound : Host D → Type 0) where
         chain = (
           mid.seen,
           speaks.answers line refl,
-          subst (λ (s : Speaking D). AnswersInOrder s.host.stories.now s.host.budget (sound s.host) s.holders
+          subst (λ (s : Speaking D).
+              AnswersInOrder s.host.stories.now s.host.budget (sound s.host) s.holders
               mid.seen rest.turns new.seen)
               speaks.after rest.chain,
         );
@@ -189,7 +193,8 @@ module _ {D : Type 0} (sound : Host D → Type 0) where
       (turns : List AnsweredLine)
       : Type 0 where
     pub lines : map line_of turns ≡ answered
-    pub chain : AnswersInOrder old.host.stories.now old.host.budget (sound old.host) old.holders old.seen
+    pub chain : AnswersInOrder old.host.stories.now old.host.budget
+        (sound old.host) old.holders old.seen
         turns new.seen
     pub after : new ≡ seen_and_marked old new.seen (old.marks ++ map mark_of turns)
 
@@ -262,9 +267,11 @@ module _ {D : Type 0} (sound : Host D → Type 0) where
     abbrev pub Told : Served → Type 0
     Told served = (turns : List AnsweredLine)
         × TellsLink turns input now output written old.marks new.marks served
-        × AnswersInOrder old.host.stories.now old.host.budget (sound old.host) old.holders old.seen turns
+        × AnswersInOrder old.host.stories.now old.host.budget
+        (sound old.host) old.holders old.seen turns
         new.seen
-        × ServesLines old.host.stories.now old.host.budget (sound old.host) old.holders old.seen turns
+        × ServesLines old.host.stories.now old.host.budget
+        (sound old.host) old.holders old.seen turns
         new.seen
         × (new ≡ seen_and_marked old new.seen new.marks)
 
@@ -298,7 +305,8 @@ module _ {D : Type 0} (sound : Host D → Type 0) where
     tell_whole : (served : Served) (read : List ℕ) (answered : List (List ℕ)) → Gave input now read
         → length read ≤ 2 ^ 31 → AnsweredOf served read now answered
         → Answered (Speaks sound) never old (map heard answered) new output written
-        → ((replies : List Reply) → WritesReplies served (texts_joined (map print_reply replies)) replies)
+        → ((replies : List Reply)
+        → WritesReplies served (texts_joined (map print_reply replies)) replies)
         → Told served
     tell_whole served read answered gave within which how writes =
         let s = said_whole old new answered output written how in
@@ -359,15 +367,19 @@ module _ {D : Type 0} (sound : Host D → Type 0) where
     -- what the caller's passes and marks then are
     pub told_at : (ended : Ended) → Talks ended → (served : Served) (seen : List (List Entry))
         (marks : List Mark) → served ≡ served_of ended → seen ≡ new.seen → marks ≡ new.marks
-        → (turns : List AnsweredLine) × TellsLink turns input now output written old.marks marks served
-        × AnswersInOrder old.host.stories.now old.host.budget (sound old.host) old.holders old.seen turns
+        → (turns : List AnsweredLine)
+        × TellsLink turns input now output written old.marks marks served
+        × AnswersInOrder old.host.stories.now old.host.budget
+        (sound old.host) old.holders old.seen turns
         seen
-        × ServesLines old.host.stories.now old.host.budget (sound old.host) old.holders old.seen turns
+        × ServesLines old.host.stories.now old.host.budget
+        (sound old.host) old.holders old.seen turns
         seen
     told_at ended talks served seen marks is_served is_seen is_marks =
         let t = told_of ended talks in (
           t.0,
-          subst (λ (x : Served × List Mark). TellsLink t.0 input now output written old.marks x.1 x.0)
+          subst
+              (λ (x : Served × List Mark). TellsLink t.0 input now output written old.marks x.1 x.0)
               (λ i. (sym is_served i, sym is_marks i)) t.1,
           subst (λ (x : List (List Entry)). AnswersInOrder old.host.stories.now old.host.budget
               (sound old.host) old.holders old.seen t.0 x)
@@ -383,8 +395,10 @@ module _ {D : Type 0} (sound : Host D → Type 0) where
   -- no room was found before the first read
   pub told_nothing : (old : Speaking D) (input : SourceState) (output : SinkState)
       → length old.holders ≡ 64 → length old.seen ≡ 64
-      → (turns : List AnsweredLine) × TellsLink turns input input output output old.marks old.marks NoMemory
-      × AnswersInOrder old.host.stories.now old.host.budget (sound old.host) old.holders old.seen turns
+      → (turns : List AnsweredLine)
+      × TellsLink turns input input output output old.marks old.marks NoMemory
+      × AnswersInOrder old.host.stories.now old.host.budget
+      (sound old.host) old.holders old.seen turns
       old.seen
       × ServesLines old.host.stories.now old.host.budget (sound old.host) old.holders old.seen turns
       old.seen

@@ -93,7 +93,8 @@ module _ (stories : List Story) (budget : ℕ) (now : Option WorldState) where
 -- what a desk answers to a request is what its session decides on the line that was read so
 pub answered_on : (stories : List Story) (budget : ℕ) (desk : DeskState)
     (now : Option WorldState) (history : List Entry) (line : List ℕ) (request : Request)
-    → LineIsReadAs budget line request → desk.stories ≡ stories → commands_in history ≡ desk.commands
+    → LineIsReadAs budget line request → desk.stories ≡ stories
+    → commands_in history ≡ desk.commands
     → answer_in desk.stories desk.commands now request
     ≡ decision_in stories budget (commands_in history) now line
 unfolding decision_in
@@ -156,7 +157,8 @@ module _ (stories : List Story) (budget : ℕ) where
       (λ r. answer_in stories [] None (with_budget budget r)) line o) none
 
   -- a turn without a session
-  none_turned : (t : AnsweredLine) (seen : List (List Entry)) (reply : Reply) (accepted : Option Command)
+  none_turned : (t : AnsweredLine) (seen : List (List Entry)) (reply : Reply)
+      (accepted : Option Command)
       → decision_in stories budget [] t.world t.line ≡ record { reply = reply; accepted = accepted }
       → t.world ≡ None → IsOfNoSession t → MayMeet accepted t.outcome
       → t.reply ≡ (turn_met [] 0 reply accepted t.outcome).reply
@@ -219,7 +221,8 @@ module _ (stories : List Story) (budget : ℕ) where
           omega arith
 
 -- the session of a line is that of the request that it is read as
-pub session_read : (budget : ℕ) (line : List ℕ) (request : Request) → LineIsReadAs budget line request
+pub session_read : (budget : ℕ) (line : List ℕ) (request : Request)
+    → LineIsReadAs budget line request
     → session_of request < 64 → session_on line ≡ session_of request
 session_read budget line request read low =
     let same = ap session_of read.budgeted ∙ budgeted_session budget read.given in

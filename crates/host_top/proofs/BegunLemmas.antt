@@ -222,7 +222,8 @@ module _ {D : Type 0} (disks : DiskWords D) where
     where
       counted : (stores : List (Lending D))
           → Lends disks.label disks.faults (journal_in folder) given o a
-          → CountsFaults disks a b stores → TakesDiskBack disks.faults (journal_in folder) back b beyond
+          → CountsFaults disks a b stores
+          → TakesDiskBack disks.faults (journal_in folder) back b beyond
           → b.loan (journal_in folder) ≡ Some
           (loan_by disks (record { name = journal_in folder; given = given; back = None }))
           → CountsFaults disks o beyond (record {

@@ -108,7 +108,8 @@ hosted_failed disks Hosts folder given givens back.Nothing outside beyond input 
 pipe_failed : {D : Type 0} (disks : DiskWords D) {stories : List Story} {budget : ℕ}
     (folder : List ℕ) (outside beyond : OutsideState D) {input now : SourceState}
     (output new : SinkState)
-    → TakesDisks disks folder (λ given givens b. PipesOver disks stories budget given givens b input now
+    → TakesDisks disks folder
+    (λ given givens b. PipesOver disks stories budget given givens b input now
     output new DiskFault) outside beyond → Failed outside.disk_faults beyond.disk_faults output new
 pipe_failed disks {stories} {budget} folder outside beyond {input} {now} output new t =
     hosted_failed disks _ folder t.given t.givens t.back outside beyond input now output new t.many
@@ -125,7 +126,8 @@ no_links disks A served = elim served.how [
 
 links_failed : {D : Type 0} (disks : DiskWords D) {stories : List Story} (folder : List ℕ)
     (outside beyond : OutsideState D) {input now : SourceState} (output new : SinkState)
-    → TakesDisks disks folder (λ given givens b. ServesOver disks stories given givens b input now output
+    → TakesDisks disks folder
+    (λ given givens b. ServesOver disks stories given givens b input now output
     new DiskFault) outside beyond → Failed outside.disk_faults beyond.disk_faults output new
 links_failed disks {stories} folder outside beyond {input} {now} output new t =
     hosted_failed disks _ folder t.given t.givens t.back outside beyond input now output new t.many
@@ -204,7 +206,8 @@ six status code is e = cc
 -- exit code 6 is a disk's
 pub failed_six : {D : Type 0} (disks : DiskWords D) (asked : Asked) (status : Status) (code : ℕ)
     (outside beyond : OutsideState D) (input now : SourceState) (output new : SinkState)
-    → FollowsCommand disks asked status outside beyond input now output new → status_of code ≡ Some status
+    → FollowsCommand disks asked status outside beyond input now output new
+    → status_of code ≡ Some status
     → code ≡ 6 → Failed outside.disk_faults beyond.disk_faults output new
 failed_six disks asked status code outside beyond input now output new follows is e =
     disk_failed disks asked outside beyond input now output new
@@ -303,7 +306,8 @@ nine status code is e = cc
 -- exit code 9 is a door's
 pub failed_nine : {D : Type 0} (disks : DiskWords D) (asked : Asked) (status : Status) (code : ℕ)
     (outside beyond : OutsideState D) (input now : SourceState) (output new : SinkState)
-    → FollowsCommand disks asked status outside beyond input now output new → status_of code ≡ Some status
+    → FollowsCommand disks asked status outside beyond input now output new
+    → status_of code ≡ Some status
     → code ≡ 9 → Rose outside.door_faults beyond.door_faults
 failed_nine disks asked status code outside beyond input now output new follows is e =
     door_failed disks asked outside beyond input now output new

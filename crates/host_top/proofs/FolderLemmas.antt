@@ -122,7 +122,8 @@ module _ {D : Type 0} (disks : DiskWords D) where
     pub before : Each (IsOther l.name) front
     pub behind : Each (IsOther l.name) rest
 
-  stands_at : (ns : List (List ℕ)) (gs : List D) (s : ℕ) (n : List ℕ) (g d : D) → AreDifferentNames ns
+  stands_at : (ns : List (List ℕ)) (gs : List D) (s : ℕ) (n : List ℕ) (g d : D)
+      → AreDifferentNames ns
       → slice_get ns s ≡ Some n → slice_get gs s ≡ Some g
       → Stands (lent_as ns gs) (back_at s d (lent_as ns gs))
       (record { name = n; given = g; back = None }) d
@@ -166,7 +167,8 @@ module _ {D : Type 0} (disks : DiskWords D) where
   handled_one : (a b c : OutsideState D) (front : List (Lending D)) (l : Lending D)
       (rest : List (Lending D)) (d : D) → Handled a b (front ++ l ∷ rest) → l.back ≡ None
       → Each (IsOther l.name) front → Each (IsOther l.name) rest
-      → TakesDiskBack disks.faults l.name d b c → SameDisk disks.tells disks.room disks.label l.given d
+      → TakesDiskBack disks.faults l.name d b c
+      → SameDisk disks.tells disks.room disks.label l.given d
       → Handled a c (front ++ record l { back = Some d } ∷ rest)
   handled_one a b c front l rest d is out before behind takes same =
       let here = each_last (IsLending disks a b) front (l ∷ rest) is.0.each in (

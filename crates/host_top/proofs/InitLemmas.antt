@@ -66,7 +66,8 @@ module _ {D : Type 0} (disks : DiskWords D) where
       → first ≡ name → second ≡ name → Lends disks.label disks.faults first given a b
       → (IsTrue (disks.tells given) → IsLentFrom disks.seen disks.may_leave (a.disk first) given)
       → SameDisk disks.tells disks.room disks.label given back
-      → TakesDiskBack disks.faults second back b c → IsTried disks given back → IsMade disks given back
+      → TakesDiskBack disks.faults second back b c
+      → IsTried disks given back → IsMade disks given back
       → MakesStores disks (name ∷ []) a c
   store_made name first second given back a b c is again lends lent same takes tried made =
       let lends' = subst (λ (n : List ℕ). Lends disks.label disks.faults n given a b) is lends in

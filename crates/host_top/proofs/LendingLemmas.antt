@@ -10,8 +10,8 @@ use Rattle.std.specs.Str.{bytes_eq}
 use Rattle.disk_model.specs.Disk.{SameDisk}
 use Rattle.turn_cell.specs.History.{Each}
 use Rattle.turn_cell.proofs.HistoryLemmas.{each_append, each_first, each_map}
-use Rattle.host_top.specs.Borrowed.{AreDifferentNames, AreAsGiven, AreNamed, Borrowed, IsLending, IsOther}
-use Rattle.host_top.specs.Borrowed.{Lending, PutsBack, back_as, lent_as}
+use Rattle.host_top.specs.Borrowed.{AreDifferentNames, AreAsGiven, AreNamed, Borrowed}
+use Rattle.host_top.specs.Borrowed.{IsLending, IsOther, Lending, PutsBack, back_as, lent_as}
 use Rattle.host_top.specs.DiskWords.{DiskWords}
 use Rattle.host_top.specs.Files.{IsLent, IsLentFrom, Lends, OutsideState, RisesWith, TakesDiskBack}
 use Rattle.line_talk.specs.Causes.{Rose}
@@ -98,7 +98,8 @@ each_take P zero ns each = tt
 each_take P (suc n) [] each = tt
 each_take P (suc n) (m ∷ ns) each = (each.0, each_take P n ns each.1)
 
-pub apart_at : (ns : List (List ℕ)) (i k : ℕ) (a b : List ℕ) → AreDifferentNames ns → slice_get ns i ≡ Some a
+pub apart_at : (ns : List (List ℕ)) (i k : ℕ) (a b : List ℕ)
+    → AreDifferentNames ns → slice_get ns i ≡ Some a
     → slice_get ns k ≡ Some b → i < k → bytes_eq a b ≡ false
 apart_at [] i k a b apart here there low = cc
 apart_at (n ∷ ns) zero zero a b apart here there low = absurd (omega arith)
@@ -208,7 +209,9 @@ module _ {D : Type 0} (disks : DiskWords D) where
         name apart.1 e,
   )
 
-  apart_first : (ns : List (List ℕ)) (ds : List D) → AreDifferentNames ns → AreDifferentNames (take (length ds) ns)
+  apart_first : (ns : List (List ℕ)) (ds : List D)
+      → AreDifferentNames ns
+      → AreDifferentNames (take (length ds) ns)
   apart_first [] [] apart = tt
   apart_first [] (d ∷ ds) apart = tt
   apart_first (n ∷ ns) [] apart = tt

@@ -6,8 +6,8 @@ use Rattle.std.specs.Str.{bytes_eq}
 use Rattle.line_talk.specs.Causes.{Rose}
 use Rattle.turn_cell.specs.History.{Each}
 use Rattle.turn_cell.proofs.HistoryLemmas.{each_append, each_first, each_map}
-use Rattle.host_top.specs.Borrowed.{AreDifferentNames, Borrowed, CountsFaults, HasFailed, IsLending, IsOther}
-use Rattle.host_top.specs.Borrowed.{Lending, PutsBack, back_as, lent_as, loan_by}
+use Rattle.host_top.specs.Borrowed.{AreDifferentNames, Borrowed, CountsFaults, HasFailed, IsLending}
+use Rattle.host_top.specs.Borrowed.{IsOther, Lending, PutsBack, back_as, lent_as, loan_by}
 use Rattle.host_top.specs.DiskWords.{DiskWords}
 use Rattle.host_top.specs.Files.{KeepsDisks, KeepsDoors}
 use Rattle.host_top.specs.Files.{KeepsFiles, OutsideState, RisesWith, TakesDiskBack}
@@ -177,7 +177,9 @@ module _ {D : Type 0} (disks : DiskWords D) where
   -- they are put back, between others
   pub all_back : (s a b c : OutsideState D) (front rest : List (Lending D)) (ns : List (List ℕ))
       (gs bs : List D) → Borrowed disks a b (front ++ (lent_as ns gs ++ rest))
-      → AreDifferentNames ns → Each (λ n. Each (IsOther n) front) ns → Each (λ n. Each (IsOther n) rest) ns
+      → AreDifferentNames ns
+      → Each (λ n. Each (IsOther n) front) ns
+      → Each (λ n. Each (IsOther n) rest) ns
       → AreSame disks gs bs → PutsBack disks.faults ns bs b c
       → Goes s a b c (front ++ (lent_as ns gs ++ rest))
       (front ++ (back_as (lent_as ns gs) bs ++ rest))

@@ -43,7 +43,8 @@ module _ (stories : List Story) (budget : ℕ) where
       record {
         may = subst (λ (b : List Entry). MayMeetIn stories budget b t) (sym empty) n.met;
         said =
-            n.reply ∙ ap (λ (b : List Entry). (turned_again stories budget b 0 t).reply) (sym empty);
+            n.reply
+            ∙ ap (λ (b : List Entry). (turned_again stories budget b 0 t).reply) (sym empty);
         after =
             n.seen ∙ sym (set_past old (session_on t.line) (turn_held stories budget old t).history
             far);
@@ -84,7 +85,8 @@ module _ (stories : List Story) (budget : ℕ) where
             ∙ set-get_or old (session_on t.line) []);
       }
 
-  led_then : (old : Histories) (t : AnsweredLine) (mid : Histories) (turns : List AnsweredLine) (new : Histories)
+  led_then : (old : Histories) (t : AnsweredLine) (mid : Histories) (turns : List AnsweredLine)
+      (new : Histories)
       → IsLed old t mid → Lead stories budget mid turns new
       → Lead stories budget old (t ∷ turns) new
   led_then old t mid turns new one more =
@@ -92,7 +94,8 @@ module _ (stories : List Story) (budget : ℕ) where
 
   module _ (sound : Type 0) where
     -- in its session, where its pass is alone
-    led_in : (old : Histories) (t : AnsweredLine) (new : Histories) (h : Holder) (after : List Entry)
+    led_in : (old : Histories) (t : AnsweredLine) (new : Histories) (h : Holder)
+        (after : List Entry)
         → h ≡ lone → t.mark.session ≡ session_on t.line
         → TurnsIn stories budget sound h (seen_at old t.mark.session) t after
         → new ≡ set old t.mark.session after → IsLed old t new
@@ -100,7 +103,8 @@ module _ (stories : List Story) (budget : ℕ) where
         let before : i.before ≡ entries_of old (session_on t.line) =
         i.alone (subst IsAloneHolder (sym is) (refl, refl))
         ∙ ap (λ (k : ℕ). seen_at old k) there in
-        let turned : turned_again stories budget i.before h.number t ≡ turn_held stories budget old t
+        let turned : turned_again stories budget i.before h.number t
+        ≡ turn_held stories budget old t
         =
         ap (λ (b : List Entry). turned_again stories budget b h.number t) before
         ∙ ap (λ (g : Holder). turned_again stories budget (entries_of old (session_on t.line))
@@ -125,7 +129,8 @@ module _ (stories : List Story) (budget : ℕ) where
     ]
 
     pub led_all : (old : Histories) (turns : List AnsweredLine) (new : Histories) → length old ≡ 64
-        → AnswersInOrder stories budget sound roots old turns new → Lead stories budget old turns new
+        → AnswersInOrder stories budget sound roots old turns new
+        → Lead stories budget old turns new
     led_all old [] new wide c = c
     led_all old (t ∷ turns) new wide c =
         led_then old t c.0 turns new (led_one old t c.0 wide c.1)

@@ -28,7 +28,8 @@ told_known None now = refl
 told_known (Some a) now = refl
 
 tells_by : {X : Type 0} (b : Bool) (now old : Option X)
-    → told_of_all (cond b now old) ≡ cond b (told_now (told_of_all old) (told_of_all now)) (told_of_all old)
+    → told_of_all (cond b now old)
+    ≡ cond b (told_now (told_of_all old) (told_of_all now)) (told_of_all old)
 tells_by true now old = sym (told_known old (told_of_all now))
 tells_by false now old = refl
 

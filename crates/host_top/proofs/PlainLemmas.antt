@@ -12,8 +12,9 @@ use Rattle.line_talk.specs.Lines.{heard, lines, talk}
 use Rattle.line_talk.specs.Writing.{IsPartOf}
 use Rattle.line_talk.specs.Conversation.{Line, Turns, Answered, BreaksLast, texts_joined}
 use Rattle.line_talk.specs.Talked.{Talked}
-use Rattle.host_top.specs.Plain.{Answering, Plain, PlainReply, answering_held, is_over_held, replies_heard}
-use Rattle.host_top.specs.Plain.{after_heard, replies, state_after_lines, PlainLeaves, TalkedPlain}
+use Rattle.host_top.specs.Plain.{Answering, Plain, PlainReply, answering_held}
+use Rattle.host_top.specs.Plain.{is_over_held, replies_heard, after_heard, replies}
+use Rattle.host_top.specs.Plain.{state_after_lines, PlainLeaves, TalkedPlain}
 use Rattle.line_talk.proofs.HearingLemmas.{heard_append}
 use Rattle.line_talk.proofs.StreamsLemmas.{wrote_then}
 use Rattle.line_talk.proofs.TalkLemmas.{kept_lines}
@@ -313,7 +314,8 @@ held_replies : {A : Type 0} (by : Answering A) (state : A) (lines : List Line)
 held_replies by state [] = refl
 held_replies by state (line ∷ lines) =
     elim (by.is_over state) as (λ b. cond b []
-    (by.reply state line ++ replies_heard (answering_held by) (Some (by.next state line)) lines) ≡ cond b
+    (by.reply state line ++ replies_heard (answering_held by) (Some (by.next state line)) lines)
+    ≡ cond b
     [] (by.reply state line ++ replies_heard by (by.next state line) lines)) [
       | true ↦ refl
       | false ↦ ap (λ t. by.reply state line ++ t) (held_replies by (by.next state line) lines)
@@ -353,7 +355,8 @@ leaves_held by start LineLimit read now written p =
 
 pub talked_held : {A : Type 0} (by : Answering A) {start : A} {new : Option A}
     {input now : SourceState} {output wrote : SinkState} (ended : Ended)
-    → Talked (Plain (answering_held by)) (PlainReply (answering_held by)) (is_over_held by) (Some start) new input
+    → Talked (Plain (answering_held by)) (PlainReply (answering_held by)) (is_over_held by)
+    (Some start) new input
     now output wrote ended → TalkedPlain by start input now output wrote ended
 talked_held by {start} {now = now} ended talked =
     let t = talked_plain (answering_held by) ended talked in

@@ -192,7 +192,8 @@ pipe_told disks stories budget disk folder bytes given givens (back.All journal 
       handed_in = where_told disks (disk (journal_in folder)) given _ lent.0 c.handed_in;
       turns = c.turns;
       which =
-          answers_in how c.read read.0 now (map (λ (t : AnsweredLine). t.line) c.turns) c.within read.2
+          answers_in how c.read read.0 now
+          (map (λ (t : AnsweredLine). t.line) c.turns) c.within read.2
           c.which;
       writes = c.writes;
       histories = c.histories;

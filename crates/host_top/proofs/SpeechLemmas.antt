@@ -8,8 +8,8 @@ use Rattle.story_run.specs.declared.story.Story.{Story}
 use Rattle.line_talk.specs.declared.sink.Stop.{Stop}
 use Rattle.line_talk.specs.declared.sink.Stop.TheVariants as stop
 use Rattle.host_top.specs.declared.status.Status.TheVariants.{Done, Refused, NoMemory}
-use Rattle.host_top.specs.Plain.{Answering, replies, state_after_lines, PlainLeaves, TalkedPlain, answering_held}
-use Rattle.host_top.specs.Plain.{is_over_held}
+use Rattle.host_top.specs.Plain.{Answering, replies, state_after_lines, PlainLeaves}
+use Rattle.host_top.specs.Plain.{TalkedPlain, answering_held, is_over_held}
 use Rattle.line_talk.specs.declared.ended.Ended.{Ended}
 use Rattle.line_talk.specs.declared.ended.Ended.TheVariants as ended
 use Rattle.host_top.specs.Headline.{Speech, whole_text}
@@ -171,18 +171,21 @@ pub run_over : (story : Story) (budget : ℕ) (input : SourceState) {output new 
     → is_over start ≡ true → Wrote output new (show_text start)
     → Spoken (Ok (run_speech (Some story) budget)) input input output new Done
 run_over story budget input {output} {new} start is over wrote =
-    spoken_over solo (world_after_opening story budget) (show_text (world_after_opening story budget)) input
+    spoken_over solo (world_after_opening story budget)
+    (show_text (world_after_opening story budget)) input
     (subst (λ (w : WorldState). Wrote output new (show_text w)) is wrote)
     (ap is_over (sym is) ∙ over)
 
 pub run_talked : (story : Story) (budget : ℕ) {input now : SourceState} {output mid new : SinkState}
     (e : Ended) (start : WorldState) → start ≡ world_after_opening story budget
     → Wrote output mid (show_text start) → {new_player : Option WorldState}
-    → Talked (Plain (answering_held solo)) (PlainReply (answering_held solo)) (is_over_held solo) (Some start)
+    → Talked (Plain (answering_held solo)) (PlainReply (answering_held solo)) (is_over_held solo)
+    (Some start)
     new_player input now mid new e
     → Spoken (Ok (run_speech (Some story) budget)) input now output new (status_of_end e)
 run_talked story budget {input} {now} {output} {mid} {new} e start is wrote talked =
-    spoken_by solo (world_after_opening story budget) (show_text (world_after_opening story budget)) e
+    spoken_by solo (world_after_opening story budget)
+    (show_text (world_after_opening story budget)) e
     (subst (λ (w : WorldState). Wrote output mid (show_text w)) is wrote)
     (subst (λ (w : WorldState). TalkedPlain solo w input now mid new e) is
     (talked_held solo e talked))

@@ -156,7 +156,8 @@ loaded_last contents loaded new one pushed refused =
     let longer : map contents new ≡ map contents loaded ++ contents one ∷ [] =
     ap (map contents) pushed ∙ map-append contents loaded (one ∷ []) in
     subst (λ (l : List (List ℕ)). IsErr (stories_of l)) (sym longer)
-    (err_last 0 (map contents loaded) (contents one) (no_story (story_in_file (contents one)) refused))
+    (err_last 0 (map contents loaded) (contents one)
+    (no_story (story_in_file (contents one)) refused))
 
 ok_more : (position : ℕ) (story : Result Story StoryFault) (x y : Found) → (IsOk x → IsOk y)
     → IsOk (followed_by position story x) → IsOk (followed_by position story y)

@@ -112,7 +112,8 @@ nothing_writes : (status : Status) (P : Type 0) (said : Result Speech (List ℕ)
 nothing_writes status P said input (inl failed) =
     subst (λ (s : Status). WritesOf s said input []) (sym failed.0) (inl refl)
 nothing_writes status P said input (inr wanted) =
-    subst (λ (s : Status). WritesOf s said input []) (sym wanted) (whole_text said (talk input), refl)
+    subst (λ (s : Status). WritesOf s said input []) (sym wanted)
+    (whole_text said (talk input), refl)
 
 abbrev IsSteadyTask : Result Task (List ℕ) → Type 0
 IsSteadyTask (Ok (Says speech)) = IsSteady speech
@@ -178,7 +179,8 @@ held_on disks (Ok (Serves stories budget folder)) s bytes held outside beyond in
     t.givens t.back input now output new status
     (takes_lent disks folder t.given t.givens t.back outside beyond t.many t.borrowed) left_is
     t.done)
-held_on disks (Ok (ServesLinks stories folder call)) s bytes held outside beyond input now output new
+held_on disks (Ok (ServesLinks stories folder call))
+    s bytes held outside beyond input now output new
     status (inl none, doors) left_is held_is =
     held_so held _ held_is (
       [],
@@ -186,13 +188,15 @@ held_on disks (Ok (ServesLinks stories folder call)) s bytes held outside beyond
       not_lent_links disks (outside.disk (journal_in folder))
           status _ none.cause,
     )
-held_on disks (Ok (ServesLinks stories folder call)) s bytes held outside beyond input now output new
+held_on disks (Ok (ServesLinks stories folder call))
+    s bytes held outside beyond input now output new
     status (inr t, doors) left_is held_is =
     held_so held _ held_is (links_told disks stories (outside.disk (journal_in folder)) t.given
     t.givens t.back input now output new status t.borrowed.each.0.lent t.done)
 held_on disks (Ok (Begins folder)) s bytes held outside beyond input now output new status does
     left_is held_is =
-    held_so held _ held_is (init_told disks folder outside beyond input now output new status does.0)
+    held_so held _ held_is
+    (init_told disks folder outside beyond input now output new status does.0)
 
 nothing_tells : {D : Type 0} (disks : DiskWords D) (disk : List ℕ → Told D) (status : Status)
     (P : Type 0) (task : Result Task (List ℕ)) (input : List ℕ)

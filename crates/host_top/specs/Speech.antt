@@ -39,8 +39,8 @@ abbrev pub door_call : Serving → DoorCall
 door_call serving = record { port = serving.port; links = serving.links }
 
 -- what a command does: it says a text, serves these stories with this budget from a folder to its
--- input, serves them to the links of a door that is asked for by this call, or makes the stores of a
--- folder and begins its journal
+-- input, serves them to the links of a door that is asked for by this call, or makes the stores of
+-- a folder and begins its journal
 pub data Task : Type 0 where
   Says : Speech → Task
   Serves : List Story → ℕ → List ℕ → Task

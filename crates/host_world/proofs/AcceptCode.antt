@@ -53,7 +53,8 @@ module _ (h : List Entry) (by : ℕ) (commands : List Command) (d : Decision) (o
       subst (λ (t : Turned). length (commands_in t.history) ≤ 8192) met
       (turn_few h by d.reply d.accepted outcome
       (subst (λ (l : List Command). length l ≤ 8192) same few)
-      (subst (λ (l : List Command). IfSome d.accepted (λ (_ : Command). length l < 8192)) same room))
+      (subst (λ (l : List Command). IfSome d.accepted (λ (_ : Command). length l < 8192))
+      same room))
 
   -- it is the turn's
   pub entry_is : (stories : List Story) (budget : ℕ) (line : List ℕ)

@@ -28,8 +28,9 @@ use Rattle.line_words.proofs.RequestLaws.{request_only}
 use Rattle.session_core.specs.History.{game_of, command_count, game_goes_on, has_key, is_in_use}
 use Rattle.session_core.specs.History.{story_at, world_of}
 use Rattle.session_core.specs.Checks.{command_of, is_fresh, is_full, opening_command}
-use Rattle.session_core.specs.Answer.{answer, decided, accepted_by, first_refusal, plain_checks}
-use Rattle.session_core.specs.Answer.{history_extended, story_checks, refusal_in, refusal_of, game_show}
+use Rattle.session_core.specs.Answer.{answer, decided, accepted_by, first_refusal}
+use Rattle.session_core.specs.Answer.{plain_checks, history_extended, story_checks}
+use Rattle.session_core.specs.Answer.{refusal_in, refusal_of, game_show}
 use Rattle.session_core.specs.Sessions.{with_budget}
 use Rattle.session_core.specs.Turning.{decided_by, decision_on}
 use Rattle.session_core.proofs.AnswerLemmas.{accepted_has_room}
@@ -151,7 +152,8 @@ one_follows xs a used = rw (a, used) refl
 
 -- what OPEN asks for, where its story is there
 opens : (found : Option Story) (key : List ℕ) (story seed cols rows budget : ℕ) (c : Command)
-    → opening_command found (λ digest. commands.Open key story digest seed cols rows budget) ≡ Some c
+    → opening_command found (λ digest. commands.Open key story digest seed cols rows budget)
+    ≡ Some c
     → (there : Story) × (found ≡ Some there)
     × (c ≡ commands.Open key story there.digest seed cols rows budget)
 opens None key story seed cols rows budget c e = absurd cc
@@ -187,12 +189,14 @@ follows stories xs (Close s key n) c a none fresh e =
     let g = game_of xs in
     let used =
     closes (nat_le 64 s) (has_key g key) (is_in_use g) (n == command_count g)
-    (all_fail (plain_checks stories g (Close s key n)) none).0 (not_last n (command_count g) fresh) in
+    (all_fail (plain_checks stories g (Close s key n)) none).0
+    (not_last n (command_count g) fresh) in
     rw (sym (some_is _ c e)) (one_follows xs a used)
 
 -- ---- what an accepted command is
 
-first_of-front : (xs ys : List (Bool × Refusal)) → first_refusal (xs ++ ys) ≡ None → first_refusal xs ≡ None
+first_of-front : (xs ys : List (Bool × Refusal))
+    → first_refusal (xs ++ ys) ≡ None → first_refusal xs ≡ None
 first_of-front [] ys e = refl
 first_of-front ((true, why) ∷ xs) ys e = e
 first_of-front ((false, why) ∷ xs) ys e = first_of-front xs ys e

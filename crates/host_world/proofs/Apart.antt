@@ -13,8 +13,8 @@ use Rattle.session_core.specs.declared.entry.Outcome.TheVariants.{Answered, Disk
 use Rattle.session_core.specs.declared.entry.Outcome.TheVariants.{OutOfMemory}
 use Rattle.disk_model.specs.Plain.{agree}
 use Rattle.host_world.specs.Events.{run}
-use Rattle.host_world.specs.Happenings.{Cut, Ended, Happening, Opened, all_told, cut_at, history_left}
-use Rattle.host_world.specs.Happenings.{replies_of, given_replies}
+use Rattle.host_world.specs.Happenings.{Cut, Ended, Happening, Opened, all_told}
+use Rattle.host_world.specs.Happenings.{cut_at, history_left, replies_of, given_replies}
 use Rattle.host_world.specs.Headline.{AreGiven, uncounted, uncounted_outcome, uncounted_reply}
 use Rattle.host_world.specs.Sessions.{history_found}
 use Rattle.host_world.specs.Starts.{IsStart}
@@ -111,7 +111,8 @@ module _ (stories : List Story) (budget : ℕ) (premise : AreGiven stories budge
       (turn_of stories budget g 0 line (uncounted_outcome outcome)).history
       (same_turn h g pass 0 line outcome is).after_
   uncounted_replies (Opened cs ∷ past) h g is =
-      uncounted_replies past (history_found (commands_in h ++ cs)) (history_found (commands_in g ++ cs))
+      uncounted_replies past (history_found (commands_in h ++ cs))
+      (history_found (commands_in g ++ cs))
       (ap (λ (l : List Command). commands_in (history_found (l ++ cs))) is)
 
   pub isolated_holds :
@@ -186,7 +187,8 @@ module _ (stories : List Story) (budget : ℕ) (premise : AreGiven stories budge
   history_grows (Opened cs ∷ past) h =
       grows_on (commands_in h) (commands_in (history_found (commands_in h ++ cs)))
       (commands_in (history_left stories budget (history_found (commands_in h ++ cs)) past))
-      (cs, commands-found (commands_in h ++ cs)) (history_grows past (history_found (commands_in h ++ cs)))
+      (cs, commands-found (commands_in h ++ cs))
+      (history_grows past (history_found (commands_in h ++ cs)))
 
   pub nothing_lost :
       (w : HostState) (events later : List Event) → IsStart w → (s : ℕ) (x y : Session)

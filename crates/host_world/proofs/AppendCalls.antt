@@ -122,14 +122,17 @@ module _ (stories : List Story) (budget : ℕ) (premise : AreGiven stories budge
         (sym (some_same b.asker z (sym b.at ∙ ap (λ (i : ℕ). slice_get v.sessions i) is ∙ at)))
         ∙ busy_pending r b)
 
-    only : (P : List ℕ → Type 0) → P v.disk.seen → (c : List ℕ) → IsDiskImage (settled v.disk.seen) c
+    only : (P : List ℕ → Type 0)
+        → P v.disk.seen → (c : List ℕ)
+        → IsDiskImage (settled v.disk.seen) c
         → P c
     only P here c image = subst P (sym (only_settled v.disk.seen c image)) here
 
     abbrev after_call : DiskCall → HostState
     after_call call = record v { disk = disk_after call true reads v.disk }
 
-    pub shuts_good : (r : Row) (n : ℕ) → may_work (Write (length (journal_bytes v.rows)) (0 ∷ [])) ≡ true
+    pub shuts_good : (r : Row) (n : ℕ)
+        → may_work (Write (length (journal_bytes v.rows)) (0 ∷ [])) ≡ true
         → StepFact stories budget v (RepairWrite r n)
         → Sound stories budget first past
         (onward (record v {
@@ -171,7 +174,8 @@ module _ (stories : List Story) (budget : ℕ) (premise : AreGiven stories budge
         → Sound stories budget first past
         (onward (record v {
           disk =
-              disk_after (Write (length (journal_bytes v.rows) + 1) (past_gate r)) true reads v.disk;
+              disk_after (Write (length (journal_bytes v.rows) + 1) (past_gate r))
+              true reads v.disk;
         })
         (RowWrite r n))
     writes_good r n fits fact =
@@ -203,7 +207,8 @@ module _ (stories : List Story) (budget : ℕ) (premise : AreGiven stories budge
         (busy_on r (reading_after Sync) v.faults (Some r) (GateWrite r n) fact.0, refl)
         (λ k z at f. its_gate k z r fact.0 at f)
 
-    pub opens_good : (r : Row) (n : ℕ) → may_work (Write (length (journal_bytes v.rows)) (1 ∷ [])) ≡ true
+    pub opens_good : (r : Row) (n : ℕ)
+        → may_work (Write (length (journal_bytes v.rows)) (1 ∷ [])) ≡ true
         → StepFact stories budget v (GateWrite r n)
         → Sound stories budget first past
         (onward (record v {

@@ -12,8 +12,8 @@ use Rattle.gate_journal.specs.declared.row.Row.{Row}
 use Rattle.story_run.specs.declared.story.Story.{Story}
 use Rattle.session_core.specs.Turning.{commands_in, decision_on}
 use Rattle.session_core.specs.declared.entry.Entry.{Entry}
-use Rattle.host_world.specs.Events.{begin_append, begin_held, begin_session, begin_session_turn, begun}
-use Rattle.host_world.specs.Events.{first_step}
+use Rattle.host_world.specs.Events.{begin_append, begin_held, begin_session}
+use Rattle.host_world.specs.Events.{begin_session_turn, begun, first_step}
 use Rattle.host_world.specs.Happenings.{Happening, history_left}
 use Rattle.host_world.specs.Headline.{AreGiven}
 use Rattle.host_world.specs.Pending.{pending, pending_at, pending_of}
@@ -162,7 +162,8 @@ module _ (stories : List Story) (budget : ℕ) (premise : AreGiven stories budge
 
     at_turn : (s : ℕ) (x : Session) → slice_get w.sessions s ≡ Some x → w.holder ≡ Some s
         → (o : Option Turn) → x.turn ≡ o → Sound stories budget first past
-        (begin_session_turn stories budget w s x o) × SameHost w (begin_session_turn stories budget w s x o)
+        (begin_session_turn stories budget w s x o)
+        × SameHost w (begin_session_turn stories budget w s x o)
     at_turn s x at held None turn = as_it_is
     at_turn s x at held (Some t) turn =
         at_phase s x t at turn held t.phase refl

@@ -1,13 +1,14 @@
 -- A device call, as it is made.
-use Rattle.std.proofs.Common.{Bool, List, None, Option, Some, ap, false, refl, sym, true, ℕ, ◌==◌, ◌∙◌, ◌≡◌}
+use Rattle.std.proofs.Common.{Bool, List, None, Option, Some, ap}
+use Rattle.std.proofs.Common.{false, refl, sym, true, ℕ, ◌==◌, ◌∙◌, ◌≡◌}
 use Rattle.std.specs.Prelude.{if◌then◌else◌, slice_index, length}
 use Rattle.gate_journal.specs.Rows.{journal_bytes}
 use Rattle.gate_journal.specs.declared.row.Row.{Row}
 use Rattle.story_run.specs.declared.story.Story.{Story}
 use Rattle.store_events.specs.Disk.{may_happen}
 use Rattle.host_world.specs.Events.{begin_held}
-use Rattle.host_world.specs.Journal.{call_ended, host_called, comes_up, is_idle, looked, next_call, onward}
-use Rattle.host_world.specs.Journal.{with_disk}
+use Rattle.host_world.specs.Journal.{call_ended, host_called, comes_up, is_idle}
+use Rattle.host_world.specs.Journal.{looked, next_call, onward, with_disk}
 use Rattle.host_world.specs.Reading.{rows_in}
 use Rattle.store_events.specs.declared.disk.DiskCall.{DiskCall}
 use Rattle.host_world.specs.declared.state.HostState.{HostState}
@@ -107,7 +108,8 @@ if_false true x y is = absurd cc
 
 may_happens : (w v : HostState) (good : Bool) (reads : List ℕ) (step : Step) (call : DiskCall)
     → may_happen call good reads v.disk ≡ true
-    → host_called w v good reads step (Some call) ≡ call_ended (with_disk v call good reads) good step
+    → host_called w v good reads step (Some call)
+    ≡ call_ended (with_disk v call good reads) good step
 may_happens w v true reads step call is = if_true _ _ _ is
 may_happens w v false reads step call is = if_true _ _ _ is
 
@@ -130,10 +132,12 @@ pub call_not_made : (w v : HostState) (good : Bool) (reads : List ℕ) (call : D
 call_not_made w v true reads call next is =
     sym (ap (λ (o : Option DiskCall). host_called w v true reads v.step o) next ∙ if_false _ _ _ is)
 call_not_made w v false reads call next is =
-    sym (ap (λ (o : Option DiskCall). host_called w v false reads v.step o) next ∙ if_false _ _ _ is)
+    sym
+    (ap (λ (o : Option DiskCall). host_called w v false reads v.step o) next ∙ if_false _ _ _ is)
 
 -- where there is no next call
 pub call_none : (w v : HostState) (good : Bool) (reads : List ℕ)
-    → next_call v.rows v.step ≡ None → w ≡ host_called w v good reads v.step (next_call v.rows v.step)
+    → next_call v.rows v.step ≡ None
+    → w ≡ host_called w v good reads v.step (next_call v.rows v.step)
 call_none w v good reads next =
     sym (ap (λ (o : Option DiskCall). host_called w v good reads v.step o) next)

@@ -10,10 +10,10 @@ use Rattle.story_run.specs.declared.story.Story.{Story}
 use Rattle.session_core.specs.Turning.{Turned, commands_in, turn_of}
 use Rattle.session_core.specs.declared.entry.Entry.{Entry}
 use Rattle.session_core.specs.declared.entry.Outcome.{Outcome}
-use Rattle.host_world.specs.Events.{accept_at, accept_turn, after, free, gives_reply, hold, holds_journal}
-use Rattle.host_world.specs.Events.{run_turn, takes_at, want}
-use Rattle.host_world.specs.Happenings.{Ended, Happening, turn_over, ended_at, ended_in, history_left}
-use Rattle.host_world.specs.Happenings.{replies_of}
+use Rattle.host_world.specs.Events.{accept_at, accept_turn, after, free, gives_reply}
+use Rattle.host_world.specs.Events.{hold, holds_journal, run_turn, takes_at, want}
+use Rattle.host_world.specs.Happenings.{Ended, Happening, turn_over, ended_at}
+use Rattle.host_world.specs.Happenings.{ended_in, history_left, replies_of}
 use Rattle.host_world.specs.Pending.{pending, pending_at}
 use Rattle.host_world.specs.Sessions.{ready_reply, phase_in, phase_of, turn_ended}
 use Rattle.host_world.specs.declared.event.Event.TheVariants.{Accept, Free, Hold, Run, Take, Want}
@@ -121,12 +121,14 @@ module _ (stories : List Story) (budget : ℕ) where
       give_phase (Ready outcome) is = nothing_told
 
     give_turn : (x : Session) → slice_get w.sessions s ≡ Some x → (o : Option Turn) → x.turn ≡ o
-        → Sound stories budget first (past_with (ended_at o)) (gives_reply w s (ready_reply (phase_in o)))
+        → Sound stories budget first (past_with (ended_at o))
+        (gives_reply w s (ready_reply (phase_in o)))
     give_turn x at None is = nothing_told
     give_turn x at (Some t) is = give_phase x at t is t.phase refl
 
     pub give_kept : (o : Option Session) → slice_get w.sessions s ≡ o
-        → Sound stories budget first (past_with (ended_in o)) (gives_reply w s (ready_reply (phase_of o)))
+        → Sound stories budget first (past_with (ended_in o))
+        (gives_reply w s (ready_reply (phase_of o)))
     give_kept None is = nothing_told
     give_kept (Some x) is = give_turn x is x.turn refl
 

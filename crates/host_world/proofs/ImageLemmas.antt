@@ -34,21 +34,25 @@ module _ (stories : List Story) (budget : ℕ) where
         → (byte : ℕ) (good : Bool) (reads : List ℕ)
         → All (disk_after (Write (length (journal_bytes w.rows)) (byte ∷ [])) good reads w.disk)
     gate_write u is all byte good reads c image =
-        let from = write_leaves good (length (journal_bytes w.rows)) (byte ∷ []) reads w.disk c image in
+        let from =
+        write_leaves good (length (journal_bytes w.rows)) (byte ∷ []) reads w.disk c image in
         let old : IsUnsure (journal_bytes w.rows) (past_gate u) from.0 =
         subst (λ (o : Option Row). StandsInImage w.rows o from.0) is (all from.0 from.1) in
         subst (λ (o : Option Row). StandsInImage w.rows o c) (sym is)
-        (unsure_torn (journal_bytes w.rows) (past_gate u) (length (journal_bytes w.rows)) refl c from.0 old
+        (unsure_torn (journal_bytes w.rows) (past_gate u)
+        (length (journal_bytes w.rows)) refl c from.0 old
         from.2)
 
     past_write : w.uncertain ≡ None → All w.disk → (piece : List ℕ) (good : Bool) (reads : List ℕ)
         → All (disk_after (Write (length (journal_bytes w.rows) + 1) piece) good reads w.disk)
     past_write is all piece good reads c image =
-        let from = write_leaves good (length (journal_bytes w.rows) + 1) piece reads w.disk c image in
+        let from =
+        write_leaves good (length (journal_bytes w.rows) + 1) piece reads w.disk c image in
         let old : IsShut (journal_bytes w.rows) from.0 =
         subst (λ (o : Option Row). StandsInImage w.rows o from.0) is (all from.0 from.1) in
         subst (λ (o : Option Row). StandsInImage w.rows o c) (sym is)
-        (shut_torn (journal_bytes w.rows) (length (journal_bytes w.rows) + 1) (length piece) refl c from.0 old
+        (shut_torn (journal_bytes w.rows) (length (journal_bytes w.rows) + 1)
+        (length piece) refl c from.0 old
         from.2)
 
     quiet_sync : IsDiskImage w.disk w.disk.seen → All w.disk → (good : Bool) (reads : List ℕ)
@@ -59,12 +63,15 @@ module _ (stories : List Story) (budget : ℕ) where
     Leaves good reads d = All (disk_after d good reads w.disk)
 
     -- no call takes the images from where they stand
-    pub images_after : (step : Step) → StepFact stories budget w step → IsDiskImage w.disk w.disk.seen
+    pub images_after : (step : Step)
+        → StepFact stories budget w step
+        → IsDiskImage w.disk w.disk.seen
         → All w.disk → (good : Bool) (reads : List ℕ) (call : DiskCall)
         → next_call w.rows step ≡ Some call → All (disk_after call good reads w.disk)
     images_after Idle fact stays all good reads call is = absurd (some_none call (sym is))
     images_after (RepairWrite r n) fact stays all good reads call is =
-        subst (Leaves good reads) (some_same (Write (length (journal_bytes w.rows)) (0 ∷ [])) call is)
+        subst (Leaves good reads)
+        (some_same (Write (length (journal_bytes w.rows)) (0 ∷ [])) call is)
         (gate_write fact.1.0 fact.1.1 all 0 good reads)
     images_after (RepairSync r n) fact stays all good reads call is =
         subst (Leaves good reads) (some_same Sync call is) (quiet_sync stays all good reads)
@@ -75,7 +82,8 @@ module _ (stories : List Story) (budget : ℕ) where
     images_after (RowSync r n) fact stays all good reads call is =
         subst (Leaves good reads) (some_same Sync call is) (quiet_sync stays all good reads)
     images_after (GateWrite r n) fact stays all good reads call is =
-        subst (Leaves good reads) (some_same (Write (length (journal_bytes w.rows)) (1 ∷ [])) call is)
+        subst (Leaves good reads)
+        (some_same (Write (length (journal_bytes w.rows)) (1 ∷ [])) call is)
         (gate_write r fact.1 all 1 good reads)
     images_after (GateSync r n) fact stays all good reads call is =
         subst (Leaves good reads) (some_same Sync call is) (quiet_sync stays all good reads)

@@ -16,7 +16,8 @@ use Rattle.gate_journal.proofs.RowLemmas.{journal_push, opens, spells_not_open, 
 use Rattle.gate_journal.proofs.Steps.{unsure_written}
 use Rattle.gate_journal.specs.Gate.{IsShut, IsUnsure}
 use Rattle.gate_journal.specs.Log.{StandsInImage}
-use Rattle.gate_journal.specs.Rows.{IsJournal, IsNext, row_body, commands_of, is_open, journal_bytes}
+use Rattle.gate_journal.specs.Rows.{IsJournal, IsNext, row_body}
+use Rattle.gate_journal.specs.Rows.{commands_of, is_open, journal_bytes}
 use Rattle.gate_journal.specs.declared.command.Command.{Command}
 use Rattle.gate_journal.specs.declared.row.Row.{Row}
 use Rattle.story_run.specs.declared.story.Story.{Story}
@@ -27,7 +28,8 @@ use Rattle.store_events.specs.Disk.{fault_counted, disk_after, may_work}
 use Rattle.host_world.specs.Events.{after, begun, call_next}
 use Rattle.host_world.specs.Happenings.{Happening, Opened, further, history_left, news, replies_of}
 use Rattle.host_world.specs.Headline.{AreGiven}
-use Rattle.host_world.specs.Journal.{broken, host_called, comes_up, looked, next_call, onward, past_gate}
+use Rattle.host_world.specs.Journal.{broken, host_called, comes_up}
+use Rattle.host_world.specs.Journal.{looked, next_call, onward, past_gate}
 use Rattle.host_world.specs.Reading.{rows_in}
 use Rattle.host_world.specs.Sessions.{history_found, found_session, found_sessions}
 use Rattle.store_events.specs.declared.disk.DiskCall.{DiskCall}
@@ -196,28 +198,31 @@ module _ (stories : List Story) (budget : ℕ) (premise : AreGiven stories budge
                   (journal_push v.rows u sound.journal next)
                   (opens v.rows u v.disk.seen stands is_open) down only
                   (inr (u, sym same.uncertain ∙ is, ap (λ (l : List Row). l ++ u ∷ []) same.rows))
-              | inr not_open ↦ elim (cases_eq (get_or v.disk.seen (length (journal_bytes v.rows)) 0) 0) [
-                | inl is_shut ↦ looks_shut v.rows sound.journal
-                    (unsure_zero (journal_bytes v.rows)
-                    (past_gate u) v.disk.seen stands is_shut) down only (inl same.rows)
-                | inr other ↦
-                    let spells : rows_in v.disk.seen ≡ Some v.rows =
-                    reads_rows v.disk.seen v.rows
-                    (spells_not_open v.rows
-                    (past_gate u) v.disk.seen sound.journal stands not_open
-                    (omega (arith, stands.behind.within, length-append (row_body u) (0 ∷ [])))) in
-                    let test : (slice_index v.disk.seen (length (journal_bytes v.rows)) == 0) ≡ false =
-                    grind (arith, nat_tests) in
-                    subst (λ (o : Option (List Row)). CallsWell stories budget first past w
-                    (looked v o)) (sym spells)
-                    (subst (λ (b : Bool). CallsWell stories budget first past w
-                    (if b then comes_up v v.rows else record v { step = CloseWrite v.rows }))
-                    (sym test)
-                    (well (record v { step = CloseWrite v.rows }) refl
-                    (stepped stories budget first past v v.disk v.faults v.uncertain
-                    (CloseWrite v.rows) sound sound.stays sound.images sound.next
-                    (down, refl, (u, is)) (λ k z at f. f))))
-              ]
+              | inr not_open ↦
+                  elim (cases_eq (get_or v.disk.seen (length (journal_bytes v.rows)) 0) 0) [
+                    | inl is_shut ↦ looks_shut v.rows sound.journal
+                        (unsure_zero (journal_bytes v.rows)
+                        (past_gate u) v.disk.seen stands is_shut) down only (inl same.rows)
+                    | inr other ↦
+                        let spells : rows_in v.disk.seen ≡ Some v.rows =
+                        reads_rows v.disk.seen v.rows
+                        (spells_not_open v.rows
+                        (past_gate u) v.disk.seen sound.journal stands not_open
+                        (omega
+                        (arith, stands.behind.within, length-append (row_body u) (0 ∷ [])))) in
+                        let test : (slice_index v.disk.seen (length (journal_bytes v.rows)) == 0)
+                        ≡ false =
+                        grind (arith, nat_tests) in
+                        subst (λ (o : Option (List Row)). CallsWell stories budget first past w
+                        (looked v o)) (sym spells)
+                        (subst (λ (b : Bool). CallsWell stories budget first past w
+                        (if b then comes_up v v.rows else record v { step = CloseWrite v.rows }))
+                        (sym test)
+                        (well (record v { step = CloseWrite v.rows }) refl
+                        (stepped stories budget first past v v.disk v.faults v.uncertain
+                        (CloseWrite v.rows) sound sound.stays sound.images sound.next
+                        (down, refl, (u, is)) (λ k z at f. f))))
+                  ]
             ]
 
     when_fits : (made : DiskCall) (new : HostState)
@@ -253,12 +258,14 @@ module _ (stories : List Story) (budget : ℕ) (premise : AreGiven stories budge
           when_fits (Write (length (journal_bytes v.rows) + 1) (past_gate r))
           (onward (record v {
             disk =
-                disk_after (Write (length (journal_bytes v.rows) + 1) (past_gate r)) true reads v.disk;
+                disk_after (Write (length (journal_bytes v.rows) + 1) (past_gate r))
+                true reads v.disk;
           })
           (RowWrite r n)) (λ fits. well (onward
           (record v {
             disk =
-                disk_after (Write (length (journal_bytes v.rows) + 1) (past_gate r)) true reads v.disk;
+                disk_after (Write (length (journal_bytes v.rows) + 1) (past_gate r))
+                true reads v.disk;
           })
           (RowWrite r n)) refl
           (writes_good stories budget premise first past v sound reads r n fits fact))

@@ -10,8 +10,9 @@ use Rattle.std.specs.Prelude.{if◌then◌else◌, slice_index}
 use Rattle.disk_model.proofs.Torn.{holds_front}
 use Rattle.gate_journal.proofs.RowLemmas.{length-body, never_both, spelled-push, spells_shut}
 use Rattle.gate_journal.specs.Gate.{IsShut}
-use Rattle.gate_journal.specs.Rows.{EachNext, HasNoHeader, IsCorrupt, IsJournal, SpellsRows, row_body}
-use Rattle.gate_journal.specs.Rows.{commands_of, journal_header, rows_behind_open_gates, payload_of, journal_bytes}
+use Rattle.gate_journal.specs.Rows.{EachNext, HasNoHeader, IsCorrupt, IsJournal}
+use Rattle.gate_journal.specs.Rows.{SpellsRows, row_body, commands_of, journal_header}
+use Rattle.gate_journal.specs.Rows.{rows_behind_open_gates, payload_of, journal_bytes}
 use Rattle.gate_journal.specs.declared.command.Command.{Command}
 use Rattle.gate_journal.specs.declared.row.Row.{Row}
 use Rattle.session_core.specs.Turning.{commands_in}
@@ -35,7 +36,8 @@ none_of bytes (Some rows) is none = absurd (none rows (found_rows bytes rows is)
 pub headless_none : (bytes : List ℕ) → HasNoHeader bytes → None ≡ rows_in bytes
 headless_none bytes refuses =
     sym (none_of bytes (rows_in bytes) refl
-    (λ rows spells. refuses (holds_front journal_header (rows_behind_open_gates rows) spells.front)))
+    (λ rows spells.
+    refuses (holds_front journal_header (rows_behind_open_gates rows) spells.front)))
 
 pub corrupt_none : (bytes : List ℕ) (place : ℕ) → IsCorrupt bytes place → None ≡ rows_in bytes
 corrupt_none bytes place refuses =
@@ -73,7 +75,8 @@ few_on s rows (r ∷ more) each few =
     subst (λ (l : List Row). length (commands_of l s) ≤ 8192) (append_assoc rows (r ∷ []) more)
     (few_on s (rows ++ r ∷ []) more each.1 (elim (cases_eq r.session s) [
       | inl same ↦ here same
-      | inr other ↦ omega (arith, few, ap (λ (l : List Command). length l) (rows-other s rows r other))
+      | inr other ↦
+          omega (arith, few, ap (λ (l : List Command). length l) (rows-other s rows r other))
     ]))
   where
     here : r.session ≡ s → length (commands_of (rows ++ r ∷ []) s) ≤ 8192
@@ -122,7 +125,8 @@ spelled_more found_rows added now r is =
 
 -- over a journal whose closing gate is closed a list of events may begin
 pub down_starts : (bytes : List ℕ) (rows : List Row) → IsJournal rows
-    → IsShut (journal_bytes rows) bytes → IsStart (down_over bytes (rows_or_none (rows_in bytes)) None)
+    → IsShut (journal_bytes rows) bytes
+    → IsStart (down_over bytes (rows_or_none (rows_in bytes)) None)
 down_starts bytes rows all shut =
     subst (λ (l : List Row). IsStart (down_over bytes l None))
     (sym (ap rows_or_none (reads_rows bytes rows (spells_shut rows bytes all shut))))

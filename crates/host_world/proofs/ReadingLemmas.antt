@@ -15,8 +15,8 @@ use Rattle.gate_journal.specs.Command.{IsCommand}
 use Rattle.gate_journal.specs.Log.{next_row}
 use Rattle.gate_journal.specs.Parsing.{BeginsWithRow}
 use Rattle.gate_journal.specs.Rows.{EachNext, IsJournal, IsNext, MayStand, SpellsRows, row_body}
-use Rattle.gate_journal.specs.Rows.{commands_of, journal_header, is_open, command_kind, may_follow, rows_behind_open_gates}
-use Rattle.gate_journal.specs.Rows.{payload_of, journal_bytes}
+use Rattle.gate_journal.specs.Rows.{commands_of, journal_header, is_open, command_kind}
+use Rattle.gate_journal.specs.Rows.{may_follow, rows_behind_open_gates, payload_of, journal_bytes}
 use Rattle.gate_journal.specs.declared.command.Command.{Command}
 use Rattle.gate_journal.specs.declared.command.Command.TheVariants.{Char, Close, File, Line, Open}
 use Rattle.gate_journal.specs.declared.row.Row.{Row}
@@ -180,7 +180,8 @@ stand_told rows s c is =
     lt_of m n test = grind (arith, nat_tests)
 
 -- the row that stands behind a gate is found
-row_is : (rows : List Row) (r : Row) (rest past : List ℕ) → IsNext rows r → past ≡ row_body r ++ rest
+row_is : (rows : List Row) (r : Row) (rest past : List ℕ)
+    → IsNext rows r → past ≡ row_body r ++ rest
     → row_at rows past ≡ r
 row_is rows r rest past next is =
     let parts = body_parts r rest past next.stands.ranges is in
@@ -254,14 +255,16 @@ rows_found [] n rows x le each some shut = end_found n rows x some shut
     ∙ ap (λ (l : List Row). Some l) (sym (append-nil rows))
 rows_found (r ∷ more) zero rows x le each some shut = absurd (omega (arith, le))
 rows_found (r ∷ more) (suc n) rows x le each some shut =
-    ap (λ (l : List ℕ). rows_from (suc n) rows (1 ∷ l)) (append_assoc (row_body r) (rows_behind_open_gates more) x)
+    ap (λ (l : List ℕ). rows_from (suc n) rows (1 ∷ l))
+    (append_assoc (row_body r) (rows_behind_open_gates more) x)
     ∙ rows_on n rows r (rows_behind_open_gates more ++ x) each.0
     ∙ rows_found more n (rows ++ r ∷ []) x (omega (arith, le)) each.1 some shut
     ∙ ap (λ (l : List Row). Some l) (append_assoc rows (r ∷ []) more)
 
 opened_size : (rows : List Row) → length rows ≤ length (rows_behind_open_gates rows)
 opened_size [] = omega arith
-opened_size (r ∷ rows) = omega (arith, opened_size rows, length-append (row_body r) (rows_behind_open_gates rows))
+opened_size (r ∷ rows) =
+    omega (arith, opened_size rows, length-append (row_body r) (rows_behind_open_gates rows))
 
 first_behind : (c : List ℕ) (n : ℕ) → get_or (drop n c) 0 0 ≡ get_or c n 0
 first_behind c n = get_or-drop n c 0 0 ∙ ap (λ (k : ℕ). get_or c k 0) (omega arith)
@@ -274,12 +277,20 @@ reads_rows c rows spells =
     let x = drop (length (journal_bytes rows)) c in
     let whole : c ≡ journal_bytes rows ++ drop (length (journal_bytes rows)) c =
     holds_split c (journal_bytes rows) spells.front in
-    let split : c ≡ journal_header ++ (rows_behind_open_gates rows ++ drop (length (journal_bytes rows)) c) = whole
-    ∙ append_assoc journal_header (rows_behind_open_gates rows) (drop (length (journal_bytes rows)) c) in
+    let split : c ≡ journal_header
+    ++ (rows_behind_open_gates rows ++ drop (length (journal_bytes rows)) c) = whole
+    ∙ append_assoc journal_header (rows_behind_open_gates rows)
+    (drop (length (journal_bytes rows)) c) in
     let size : length rows ≤ length c =
-    omega (arith, opened_size rows, spells.within, length-append journal_header (rows_behind_open_gates rows)) in
+    omega (
+      arith,
+      opened_size rows,
+      spells.within,
+      length-append journal_header (rows_behind_open_gates rows),
+    ) in
     ap (λ (b : Bool). if b then rows_from (length c) [] (drop 16 c) else None)
-    (front_test journal_header (rows_behind_open_gates rows ++ drop (length (journal_bytes rows)) c) c split)
+    (front_test journal_header
+    (rows_behind_open_gates rows ++ drop (length (journal_bytes rows)) c) c split)
     ∙ ap (λ (l : List ℕ). rows_from (length c) [] (drop 16 l)) split
     ∙ rows_found rows (length c) [] x size spells.journal
     (omega (arith, length-drop n c, spells.within))
@@ -305,7 +316,8 @@ Spelt c those n =
 
 one_more :
     (c : List ℕ) (those : List Row) (n : ℕ) (rows : List Row) (gate : ℕ) (past : List ℕ) (r : Row)
-    → r ≡ row_at rows past → Spelt c those n → IsJournal rows → c ≡ journal_bytes rows ++ gate ∷ past
+    → r ≡ row_at rows past → Spelt c those n → IsJournal rows
+    → c ≡ journal_bytes rows ++ gate ∷ past
     → (gate == 1) ≡ true
     → (b : Bool) → has_row rows past r ≡ b
     → (if b then rows_from n (rows ++ r ∷ []) (drop (length (row_body r)) past) else None)
@@ -313,7 +325,8 @@ one_more :
 one_more c those n rows gate past r is later journal split is_open false test said =
     absurd (none_some those said)
 one_more c those n rows gate past r is later journal split is_open true test said =
-    let both = and_parts (may_stand rows r.session r.command) (begins_with past (row_body r)) test in
+    let both =
+    and_parts (may_stand rows r.session r.command) (begins_with past (row_body r)) test in
     let next : IsNext rows r =
     record {
       place = ap (λ (q : Row). q.place) is;

@@ -169,7 +169,8 @@ module _ (stories : List Story) (budget : ℕ) where
 
   -- no turn changes, but the journal
   pub stepped : (first : ℕ → List Entry) (past : ℕ → List Happening) (v : HostState) (p : DiskState)
-      (n : ℕ) (u : Option Row) (step : Step) → Sound stories budget first past v → IsDiskImage p p.seen
+      (n : ℕ) (u : Option Row) (step : Step)
+      → Sound stories budget first past v → IsDiskImage p p.seen
       → ((c : List ℕ) → IsDiskImage p c → StandsInImage v.rows u c) → IfSome u (IsNext v.rows)
       → StepFact stories budget (record v { disk = p; faults = n; uncertain = u; step = step }) step
       → ((k : ℕ) (z : Session) → slice_get v.sessions k ≡ Some z

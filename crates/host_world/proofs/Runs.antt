@@ -18,9 +18,9 @@ use Rattle.session_core.specs.Turning.{commands_in}
 use Rattle.session_core.specs.declared.entry.Entry.{Entry}
 use Rattle.disk_model.specs.Plain.{is_image}
 use Rattle.host_world.specs.Events.{after, run}
-use Rattle.host_world.specs.Happenings.{Happening, Opened, all_told, turn_cut, cut_at, cut_in, turn_over}
-use Rattle.host_world.specs.Happenings.{ended_at, ended_in, further, history_left, replies_of}
-use Rattle.host_world.specs.Happenings.{given_replies, told}
+use Rattle.host_world.specs.Happenings.{Happening, Opened, all_told, turn_cut, cut_at}
+use Rattle.host_world.specs.Happenings.{cut_in, turn_over, ended_at, ended_in, further}
+use Rattle.host_world.specs.Happenings.{history_left, replies_of, given_replies, told}
 use Rattle.host_world.specs.Headline.{AreGiven, EachFindsOneMore, Lives}
 use Rattle.host_world.specs.Laws.{StartsOver}
 use Rattle.host_world.specs.Pending.{OneMore, pending, pending_of}
@@ -158,7 +158,8 @@ module _ (stories : List Story) (budget : ℕ) (premise : AreGiven stories budge
   opened_well : (w : HostState) → IsOpenedState w → Sound stories budget (first_of w) (λ s. []) w
   opened_well w o = record {
     stays = o.quiet.reads;
-    images = λ c is. subst (λ (u : Option Row). StandsInImage w.rows u c) (sym o.certain) (o.shut c is);
+    images =
+        λ c is. subst (λ (u : Option Row). StandsInImage w.rows u c) (sym o.certain) (o.shut c is);
     journal = o.quiet.journal;
     next = subst (λ (u : Option Row). IfSome u (IsNext w.rows)) (sym o.certain) tt;
     sessions = o.quiet.sessions;
@@ -174,11 +175,12 @@ module _ (stories : List Story) (budget : ℕ) (premise : AreGiven stories budge
           turn = subst (λ (t : Option Turn). TurnFact stories budget (first_of w s) x.history t)
               (sym e.0) (sym (ap history_at at));
           replies = ap (λ (l : List Given). given_replies s l) o.quiet.silent;
-          rows = subst (λ (up : Bool). RowsFact stories budget s w.rows w.uncertain x up) (sym o.up) (
-            same,
-            subst (λ (u : Option Row). IfSome u
-                (λ r. r.session ≡ s → pending stories budget x ≡ [])) (sym o.certain) tt,
-          );
+          rows =
+              subst (λ (up : Bool). RowsFact stories budget s w.rows w.uncertain x up) (sym o.up) (
+                same,
+                subst (λ (u : Option Row). IfSome u
+                    (λ r. r.session ≡ s → pending stories budget x ≡ [])) (sym o.certain) tt,
+              );
         };
   }
 

@@ -23,9 +23,10 @@ use Rattle.session_core.specs.declared.entry.Outcome.TheVariants.{Answered, Disk
 use Rattle.session_core.specs.declared.entry.Outcome.TheVariants.{OutOfMemory}
 use Rattle.disk_model.specs.Plain.{is_image}
 use Rattle.host_world.specs.Events.{stop, stopped}
-use Rattle.host_world.specs.Happenings.{Cut, Happening, turn_cut, cut_at, cut_in, history_left, lost}
-use Rattle.host_world.specs.Happenings.{replies_of}
-use Rattle.host_world.specs.Pending.{KeepsCommands, OneMore, command_listed, pending, pending_at, pending_of}
+use Rattle.host_world.specs.Happenings.{Cut, Happening, turn_cut, cut_at}
+use Rattle.host_world.specs.Happenings.{cut_in, history_left, lost, replies_of}
+use Rattle.host_world.specs.Pending.{KeepsCommands, OneMore, command_listed}
+use Rattle.host_world.specs.Pending.{pending, pending_at, pending_of}
 use Rattle.host_world.specs.Sessions.{without_turn}
 use Rattle.host_world.specs.declared.state.HostState.{HostState}
 use Rattle.host_world.specs.declared.turn.Phase.{Phase}

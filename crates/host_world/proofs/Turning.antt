@@ -69,7 +69,8 @@ module _ (stories : List Story) (budget : ℕ) where
       -- from one phase to the next
       advance : (phase next : Phase) (holder : Option ℕ) → t.phase ≡ phase
           → Quiet stories budget phase → ((n : ℕ) → n ≢ s → w.holder ≡ Some n → holder ≡ Some n)
-          → PhaseFact stories budget (history_left stories budget (first s) (past s)) x.history t next
+          → PhaseFact stories budget
+          (history_left stories budget (first s) (past s)) x.history t next
           → pending_at stories budget (commands_in x.history) t.line next
           ≡ pending_at stories budget (commands_in x.history) t.line phase
           → Sound stories budget first past (goes_to w s next holder)
@@ -280,7 +281,8 @@ module _ (stories : List Story) (budget : ℕ) where
               (decision_on stories budget (commands_in x.history) line).accepted
               (subst (λ (o : Option Turn). TurnFact stories budget
               (history_left stories budget (first s) (past s)) x.history o) is knows_of.turn) refl;
-          replies = ap (λ (l : List Given). given_replies s l) (append-nil w.given) ∙ knows_of.replies;
+          replies =
+              ap (λ (l : List Given). given_replies s l) (append-nil w.given) ∙ knows_of.replies;
           rows = ap (λ (l : List Command). commands_in x.history ++ l) (p ∙ sym nothing);
           none = λ none. p;
         }) sound)

@@ -1,8 +1,9 @@
 -- The files of a host's sessions stay in agreement, whatever happens.
-use Rattle.std.proofs.Common.{◌≡◌, ◌⊎◌, inl, inr, ◌∙◌, ℕ, zero, suc, ◌+◌, ◌-◌, ◌<◌, ◌≤◌, ◌==◌, Bool, true, false}
-use Rattle.std.proofs.Common.{drop, get_or}
+use Rattle.std.proofs.Common.{◌≡◌, ◌⊎◌, inl, inr, ◌∙◌, ℕ, zero, suc, ◌+◌, ◌-◌}
+use Rattle.std.proofs.Common.{◌<◌, ◌≤◌, ◌==◌, Bool, true, false, drop, get_or}
 use Rattle.std.proofs.lemmas.List.{drop_more}
-use Rattle.std.proofs.Common.{List, [], ◌∷◌, ◌++◌, length, Option, Some, None, refl, sym, ap, subst, arith}
+use Rattle.std.proofs.Common.{List, [], ◌∷◌, ◌++◌, length, Option}
+use Rattle.std.proofs.Common.{Some, None, refl, sym, ap, subst, arith}
 use Rattle.std.specs.Prelude.{◌&&◌, map, not, set, if◌then◌else◌}
 use Rattle.std.specs.List.{slice_get}
 use Rattle.disk_model.specs.Plain.{is_image}
@@ -28,8 +29,8 @@ use Rattle.host_world.specs.Happenings.{Happening, all_told}
 use Rattle.host_world.specs.Headline.{AreGiven}
 use Rattle.host_world.specs.Keeping.{IsOwnSnapshot, file_set, put_begun, with_event}
 use Rattle.host_world.specs.Puts.{AreOwnPuts, IsOwnPut}
-use Rattle.host_world.specs.Whole.{all_to_host, are_images, closes_host, fails_at, is_up, no_put, put_of}
-use Rattle.host_world.specs.Whole.{stopped_files, to_files, to_host, whole_after, whole_run}
+use Rattle.host_world.specs.Whole.{all_to_host, are_images, closes_host, fails_at, is_up, no_put}
+use Rattle.host_world.specs.Whole.{put_of, stopped_files, to_files, to_host, whole_after, whole_run}
 use Rattle.host_world.specs.WholeHeadline.{EachInAgreement, FilesAgree, LivesAsHost}
 use Rattle.host_world.specs.WholeHeadline.{NoneAreMissed, NoneIsMissed}
 use Rattle.host_world.specs.WholeHeadline.{SessionWarmsInSixteen}
@@ -37,8 +38,9 @@ use Rattle.host_world.specs.declared.event.Event.{Event}
 use Rattle.host_world.specs.declared.event.Event.TheVariants as journal
 use Rattle.host_world.specs.declared.keeping.Snapshot.{Snapshot}
 use Rattle.host_world.specs.declared.whole.WholeEvent.{WholeEvent}
-use Rattle.host_world.specs.declared.whole.WholeEvent.TheVariants.{Take, Want, Hold, Call, Free, Run}
-use Rattle.host_world.specs.declared.whole.WholeEvent.TheVariants.{Keep, Accept, Give, Stop, Recover}
+use Rattle.host_world.specs.declared.whole.WholeEvent.TheVariants.{Take, Want, Hold, Call}
+use Rattle.host_world.specs.declared.whole.WholeEvent.TheVariants.{Free, Run, Keep, Accept}
+use Rattle.host_world.specs.declared.whole.WholeEvent.TheVariants.{Give, Stop, Recover}
 use Rattle.host_world.specs.declared.whole.WholeState.{WholeState}
 use Rattle.gate_journal.proofs.RowLemmas.{spells_shut}
 use Rattle.host_world.specs.Reading.{rows_in}
@@ -117,12 +119,14 @@ module _ (stories : List Story) where
       let told = rows_are_told stories rows r s store all next in
       subst (λ (l : List Row). IsInAgreement stories (session_in_rows l s store)) (sym is)
       (subst (λ (y : SessionState). IsInAgreement stories y) (sym told.0)
-      ((stays_in_agreement stories).goes_on (session_in_rows rows s store) (told_of r s) agrees told.1))
+      ((stays_in_agreement stories).goes_on (session_in_rows rows s store)
+      (told_of r s) agrees told.1))
 
   dated : (s : ℕ) (store : StoreState) (rows : List Row) (r : Row) → IsJournal rows → IsNext rows r
       → IsInAgreement stories (session_in_rows rows s store)
       → EachMissesNone (session_in_rows rows s store) (told_of r s)
-      → IsUpToDate (session_in_rows rows s store) → IsUpToDate (session_in_rows (rows ++ r ∷ []) s store)
+      → IsUpToDate (session_in_rows rows s store)
+      → IsUpToDate (session_in_rows (rows ++ r ∷ []) s store)
   dated s store rows r all next agrees misses date =
       let told = rows_are_told stories rows r s store all next in
       subst (λ (y : SessionState). IsUpToDate y) (sym told.0)
@@ -177,7 +181,8 @@ module _ (stories : List Story) where
     if_of false stores s y step at = as_it_is s y at
 
     event_of : (t : ℕ) (event : FileEvent)
-        → ((x : StoreState) → slice_get w.stores t ≡ Some x → MayCome stories (x_of t x) (Does event))
+        → ((x : StoreState) → slice_get w.stores t ≡ Some x
+        → MayCome stories (x_of t x) (Does event))
         → (o : Option StoreState) → slice_get w.stores t ≡ o → (s : ℕ) (y : StoreState)
         → slice_get (file_set w.stores t event o) s ≡ Some y → FileOf s y
     event_of t event may None none s y at = as_it_is s y at
@@ -273,7 +278,8 @@ module _ (stories : List Story) where
     if_one event one true same = by_one event one same
     if_one event one false same = inl refl
 
-    closed_rows : (b : Bool) → (run stories budget w.host (if b then closes_host w.host else [])).rows
+    closed_rows : (b : Bool)
+        → (run stories budget w.host (if b then closes_host w.host else [])).rows
         ≡ w.host.rows
     closed_rows true = stop_rows w.host (w.host.disk.seen ∷ [])
     closed_rows false = refl
@@ -407,12 +413,14 @@ module _ (stories : List Story) where
       → AreOwnPuts stories budget w events
       → FilesAgree stories budget w events (whole_run stories budget w events)
   files_agree budget w events own premise start all =
-      let agree = all_agree budget premise events w (first_of stories budget premise w.host) (λ s. [])
+      let agree =
+      all_agree budget premise events w (first_of stories budget premise w.host) (λ s. [])
       (start_well stories budget premise w.host start) all own in (
         agree,
         (λ s x image at is.
             (stays_in_agreement stories).shows
-            (session_in_rows (whole_run stories budget w events).host.rows s x) image (agree s x at) is),
+            (session_in_rows (whole_run stories budget w events).host.rows s x) image
+            (agree s x at) is),
       )
 
   pub session_warms : (budget : ℕ) (w : WholeState) (events : List WholeEvent)
@@ -494,6 +502,7 @@ may_begin journal files rows all shut =
       (λ stories budget agreed s x at.
           let found = file_of files s x at in
           subst (λ (l : List Row). IsInAgreement stories (session_in_rows l s x)) (sym same)
-          (subst (λ (z : StoreState). IsInAgreement stories (session_in_rows rows s z)) (sym found.2)
+          (subst (λ (z : StoreState). IsInAgreement stories (session_in_rows rows s z))
+          (sym found.2)
           (begins_by_rows stories rows s found.0 all (agreed s found.0 found.1)))),
     )

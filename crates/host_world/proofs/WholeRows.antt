@@ -1,6 +1,6 @@
 -- An event leaves a host's rows, or adds the next one.
-use Rattle.std.proofs.Common.{◌≡◌, ◌⊎◌, inl, inr, ◌∙◌, ℕ, ◌==◌, Bool, true, false, List, [], ◌∷◌, ◌++◌}
-use Rattle.std.proofs.Common.{length, Option, Some, None, refl, sym, ap, subst}
+use Rattle.std.proofs.Common.{◌≡◌, ◌⊎◌, inl, inr, ◌∙◌, ℕ, ◌==◌, Bool, true, false, List, []}
+use Rattle.std.proofs.Common.{◌∷◌, ◌++◌, length, Option, Some, None, refl, sym, ap, subst}
 use Rattle.std.specs.Prelude.{IfSome, if◌then◌else◌, slice_index}
 use Rattle.std.specs.List.{slice_get}
 use Rattle.disk_model.specs.Plain.{is_image}
@@ -10,13 +10,13 @@ use Rattle.line_words.specs.declared.reply.Reply.{Reply}
 use Rattle.story_run.specs.declared.story.Story.{Story}
 use Rattle.session_core.specs.declared.entry.Entry.{Entry}
 use Rattle.store_events.specs.Disk.{disk_after, may_work}
-use Rattle.host_world.specs.Events.{accept, accept_at, accept_turn, after, begun, call_next, free}
-use Rattle.host_world.specs.Events.{gives_reply, hold, holds_journal, run_turn, stop, stopped, take_turn, takes_at}
-use Rattle.host_world.specs.Events.{want}
+use Rattle.host_world.specs.Events.{accept, accept_at, accept_turn, after, begun}
+use Rattle.host_world.specs.Events.{call_next, free, gives_reply, hold, holds_journal}
+use Rattle.host_world.specs.Events.{run_turn, stop, stopped, take_turn, takes_at, want}
 use Rattle.host_world.specs.Happenings.{Happening}
 use Rattle.host_world.specs.Headline.{AreGiven}
-use Rattle.host_world.specs.Journal.{host_called, comes_up, failed, looked, next_call, onward, with_disk}
-use Rattle.host_world.specs.Journal.{with_fault}
+use Rattle.host_world.specs.Journal.{host_called, comes_up, failed, looked}
+use Rattle.host_world.specs.Journal.{next_call, onward, with_disk, with_fault}
 use Rattle.host_world.specs.Reading.{rows_in}
 use Rattle.host_world.specs.Sessions.{ready_reply, phase_of}
 use Rattle.store_events.specs.declared.disk.DiskCall.{DiskCall}

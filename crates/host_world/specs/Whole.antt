@@ -14,8 +14,9 @@ use Rattle.host_world.specs.declared.event.Event.TheVariants as journal
 use Rattle.host_world.specs.declared.keeping.Snapshot.{Snapshot}
 use Rattle.host_world.specs.declared.state.HostState.{HostState}
 use Rattle.host_world.specs.declared.whole.WholeEvent.{WholeEvent}
-use Rattle.host_world.specs.declared.whole.WholeEvent.TheVariants.{Take, Want, Hold, Call, Free, Run}
-use Rattle.host_world.specs.declared.whole.WholeEvent.TheVariants.{Keep, Accept, Give, Stop, Recover}
+use Rattle.host_world.specs.declared.whole.WholeEvent.TheVariants.{Take, Want, Hold, Call}
+use Rattle.host_world.specs.declared.whole.WholeEvent.TheVariants.{Free, Run, Keep, Accept}
+use Rattle.host_world.specs.declared.whole.WholeEvent.TheVariants.{Give, Stop, Recover}
 use Rattle.host_world.specs.declared.whole.WholeState.{WholeState}
 use Rattle.host_world.specs.Events.{holds_journal, run}
 use Rattle.host_world.specs.Keeping.{due_snapshot, put_begun, with_event}
@@ -50,8 +51,8 @@ abbrev pub fails_at : Option StoreState → Bool → List ℕ → Bool
 fails_at None good reads = false
 fails_at (Some x) good reads = fails x (file_after x (files.Call good reads))
 
--- The host, of which a file can't be opened, is down again: nothing is pending in its journal, so it
--- stays as it reads.
+-- The host, of which a file can't be opened, is down again: nothing is pending in its journal, so
+-- it stays as it reads.
 abbrev pub closes_host : HostState → List Event
 closes_host w = journal.Stop (w.disk.seen ∷ []) ∷ []
 

@@ -13,7 +13,8 @@ pub upto_none : (k : SinkState) (text : List ℕ) → WroteUpTo k k text text
 upto_none k text = record { part = []; split = refl; wrote = wrote_none k }
 
 pub upto_more : {old mid new : SinkState} {text rest : List ℕ} → WroteUpTo old mid text rest
-    → (bytes more : List ℕ) → rest ≡ bytes ++ more → Wrote mid new bytes → WroteUpTo old new text more
+    → (bytes more : List ℕ) → rest ≡ bytes ++ more
+    → Wrote mid new bytes → WroteUpTo old new text more
 upto_more {old} {mid} {new} {text} {rest} u bytes more e w = record {
   part = u.part ++ bytes;
   split = grind (arith, common_steps, u.split, e);
@@ -27,7 +28,9 @@ upto_done {old} {new} {text} rest u empty =
     subst (λ (t : List ℕ). Wrote old new t) (sym same) u.wrote
 
 pub upto_stopped : {old mid new : SinkState} {text rest : List ℕ} → WroteUpTo old mid text rest
-    → Wrote mid new [] → (cause : Stop) → (cause ≡ Output → Rose mid.faults new.faults) → Stopped old new text cause
+    → Wrote mid new [] → (cause : Stop)
+    → (cause ≡ Output → Rose mid.faults new.faults)
+    → Stopped old new text cause
 upto_stopped {old} {mid} {new} {text} {rest} u w cause rose = record {
   rest = rest;
   wrote = upto_more u [] rest refl w;
@@ -35,24 +38,33 @@ upto_stopped {old} {mid} {new} {text} {rest} u w cause rose = record {
 }
 
 -- a part of a text was written, and then the next part only in part
-pub stopped_within : {old mid new : SinkState} {text rest a : List ℕ} {cause : Stop} → WroteUpTo old mid text rest
+pub stopped_within : {old mid new : SinkState} {text rest a : List ℕ} {cause : Stop}
+    → WroteUpTo old mid text rest
     → (b : List ℕ) → rest ≡ a ++ b → Stopped mid new a cause → Stopped old new text cause
 stopped_within {old} {mid} {new} {text} {rest} {a} {cause} u b e s = record {
   rest = s.rest ++ b;
-  wrote = upto_more u s.wrote.part (s.rest ++ b) (grind (arith, common_steps, s.wrote.split, e)) s.wrote.wrote;
+  wrote =
+      upto_more u s.wrote.part (s.rest ++ b)
+      (grind (arith, common_steps, s.wrote.split, e)) s.wrote.wrote;
   rose = λ o. let r = s.rose o in let l = u.wrote.later in omega (arith, r, l);
 }
 
-pub stopped_more : {old new : SinkState} {a : List ℕ} {cause : Stop} (b : List ℕ) → Stopped old new a cause → Stopped old new (a ++ b) cause
+pub stopped_more : {old new : SinkState} {a : List ℕ} {cause : Stop} (b : List ℕ)
+    → Stopped old new a cause → Stopped old new (a ++ b) cause
 stopped_more {old} {new} {a} {cause} b s = stopped_within (upto_none old (a ++ b)) b refl s
 
-pub upto_wrote : {old new : SinkState} {a : List ℕ} (b : List ℕ) → Wrote old new a → WroteUpTo old new (a ++ b) b
+pub upto_wrote : {old new : SinkState} {a : List ℕ} (b : List ℕ)
+    → Wrote old new a → WroteUpTo old new (a ++ b) b
 upto_wrote {old} {new} {a} b w = record { part = a; split = refl; wrote = w }
 
-pub stopped_then : {old mid new : SinkState} {a b : List ℕ} {cause : Stop} → Wrote old mid a → Stopped mid new b cause → Stopped old new (a ++ b) cause
-stopped_then {old} {mid} {new} {a} {b} {cause} w s = stopped_within (upto_wrote b w) [] (sym (append-nil b)) s
+pub stopped_then : {old mid new : SinkState} {a b : List ℕ} {cause : Stop}
+    → Wrote old mid a → Stopped mid new b cause
+    → Stopped old new (a ++ b) cause
+stopped_then {old} {mid} {new} {a} {b} {cause} w s =
+    stopped_within (upto_wrote b w) [] (sym (append-nil b)) s
 
-pub stopped_memory : {old new : SinkState} {text : List ℕ} (rest : List ℕ) → WroteUpTo old new text rest → Stopped old new text Memory
+pub stopped_memory : {old new : SinkState} {text : List ℕ} (rest : List ℕ)
+    → WroteUpTo old new text rest → Stopped old new text Memory
 stopped_memory rest u = record { rest = rest; wrote = u; rose = λ e. cc }
 
 pub stopped_at_once : (k : SinkState) (text : List ℕ) → Stopped k k text Memory

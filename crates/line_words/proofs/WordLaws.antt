@@ -1,14 +1,20 @@
 -- The words and numbers of a line: what is read stands there, and what stands there is read.
-use Rattle.std.proofs.Common.{◌≡◌, ℕ, zero, suc, ◌+◌, ◌-◌, ◌*◌, ◌^◌, ◌<◌, ◌≤◌, Bool, true, false, ◌&&◌, ◌==◌, cond, nat_le, List, [], ◌∷◌, ◌++◌, length, get_or, Option, Some, None, refl, ap, sym, subst, ◌∙◌, arith}
+use Rattle.std.proofs.Common.{◌≡◌, ℕ, zero, suc, ◌+◌, ◌-◌, ◌*◌, ◌^◌, ◌<◌, ◌≤◌, Bool, true}
+use Rattle.std.proofs.Common.{false, ◌&&◌, ◌==◌, cond, nat_le, List, [], ◌∷◌, ◌++◌, length}
+use Rattle.std.proofs.Common.{get_or, Option, Some, None, refl, ap, sym, subst, ◌∙◌, arith}
 use Rattle.std.specs.Fmt.{decimal}
 use Rattle.std.specs.Int.{IsInRange}
 use Rattle.std.proofs.lemmas.Bool.Decides.{nat_tests}
-use Rattle.std.proofs.lemmas.Fmt.{decimal_digit, decimal_nonempty, first_decimal, digits_decimal, digits_value-decimal, decimal-digits_value}
+use Rattle.std.proofs.lemmas.Fmt.{decimal_digit, decimal_nonempty, first_decimal}
+use Rattle.std.proofs.lemmas.Fmt.{digits_decimal, digits_value-decimal, decimal-digits_value}
 use Rattle.std.proofs.lemmas.Str.Parse.{IsDigitsTest, FoldsDigits, IsNumeralModel, numerals_by_fold}
-use Rattle.line_words.specs.Field.{word_of, rest_from_space, word_at, is_digit, number_from, number_spelled, checked, number_between}
+use Rattle.line_words.specs.Field.{word_of, rest_from_space, word_at, is_digit}
+use Rattle.line_words.specs.Field.{number_from, number_spelled, checked, number_between}
 use Rattle.line_words.specs.Reading.{◌>>=◌}
 
-pub bind_some : {A B : Type 0} (r : Option A) (f : A → Option B) (y : B) → (r >>= f) ≡ Some y → (x : A) × (r ≡ Some x) × (f x ≡ Some y)
+pub bind_some : {A B : Type 0} (r : Option A) (f : A → Option B) (y : B)
+    → (r >>= f) ≡ Some y
+    → (x : A) × (r ≡ Some x) × (f x ≡ Some y)
 bind_some (Some x) f y e = (x, refl, e)
 bind_some None f y e = absurd cc
 
@@ -23,11 +29,13 @@ some x = Some x
 pub some_is : {A : Type 0} (x y : A) → some x ≡ some y → x ≡ y
 some_is x y e = cc
 
-pub if_some : {A : Type 0} (b : Bool) (x : Option A) (y : A) → cond b x None ≡ Some y → (b ≡ true) × (x ≡ Some y)
+pub if_some : {A : Type 0} (b : Bool) (x : Option A) (y : A)
+    → cond b x None ≡ Some y → (b ≡ true) × (x ≡ Some y)
 if_some true x y e = (refl, e)
 if_some false x y e = absurd cc
 
-pub else_some : {A : Type 0} (b : Bool) (x : Option A) (y : A) → cond b None x ≡ Some y → (b ≡ false) × (x ≡ Some y)
+pub else_some : {A : Type 0} (b : Bool) (x : Option A) (y : A)
+    → cond b None x ≡ Some y → (b ≡ false) × (x ≡ Some y)
 else_some true x y e = absurd cc
 else_some false x y e = (refl, e)
 
@@ -51,7 +59,9 @@ rest_again [] [] n e = refl
 rest_again [] (b ∷ bs) n e = rw e refl
 rest_again (x ∷ xs) rest n e = rw n.0 (rest_again xs rest n.1 e)
 
-word_part : (b : ℕ) (bs : List ℕ) (c : Bool) → word_of bs ++ rest_from_space bs ≡ bs → cond c [] (b ∷ word_of bs) ++ cond c (b ∷ bs) (rest_from_space bs) ≡ b ∷ bs
+word_part : (b : ℕ) (bs : List ℕ) (c : Bool)
+    → word_of bs ++ rest_from_space bs ≡ bs
+    → cond c [] (b ∷ word_of bs) ++ cond c (b ∷ bs) (rest_from_space bs) ≡ b ∷ bs
 word_part b bs true more = refl
 word_part b bs false more = ap (λ (t : List ℕ). b ∷ t) more
 
@@ -59,7 +69,9 @@ word_parts : (bs : List ℕ) → word_of bs ++ rest_from_space bs ≡ bs
 word_parts [] = refl
 word_parts (b ∷ bs) = word_part b bs (b == 32) (word_parts bs)
 
-rest_end : (b : ℕ) (bs : List ℕ) (c : Bool) → (b == 32) ≡ c → IsEnd (rest_from_space bs) → IsEnd (cond c (b ∷ bs) (rest_from_space bs))
+rest_end : (b : ℕ) (bs : List ℕ) (c : Bool)
+    → (b == 32) ≡ c → IsEnd (rest_from_space bs)
+    → IsEnd (cond c (b ∷ bs) (rest_from_space bs))
 rest_end b bs true e more = e
 rest_end b bs false e more = more
 
@@ -67,7 +79,9 @@ rest_ends : (bs : List ℕ) → IsEnd (rest_from_space bs)
 rest_ends [] = tt
 rest_ends (b ∷ bs) = rest_end b bs (b == 32) refl (rest_ends bs)
 
-pub word_at_again : (w rest : List ℕ) → NoSpace w → IsEnd rest → word_at (32 ∷ (w ++ rest)) ≡ Some (w, rest)
+pub word_at_again : (w rest : List ℕ)
+    → NoSpace w → IsEnd rest
+    → word_at (32 ∷ (w ++ rest)) ≡ Some (w, rest)
 unfolding word_at
 word_at_again w rest n e = rw (word_again w rest n e, rest_again w rest n e) refl
 
@@ -84,7 +98,10 @@ word_at_only (b ∷ bs) w rest e =
     let is-space : b ≡ 32 = grind (arith, nat_tests, h.0) in
     let same = some_is (word_of bs, rest_from_space bs) (w, rest) h.1 in
     subst (λ (p : List ℕ × List ℕ). Takes (b ∷ bs) p.0 p.1) same
-    (record { parts = rw is-space (ap (λ (t : List ℕ). 32 ∷ t) (sym (word_parts bs))); ends = rest_ends bs })
+    (record {
+      parts = rw is-space (ap (λ (t : List ℕ). 32 ∷ t) (sym (word_parts bs)));
+      ends = rest_ends bs;
+    })
 
 -- ---- numbers
 
@@ -119,22 +136,33 @@ value_grows : (n : ℕ) (ds : List ℕ) → n ≤ value n ds
 value_grows n [] = omega arith
 value_grows n (b ∷ bs) = omega (arith, value_grows (n * 10 + (b - 48)) bs)
 
-number_from_again : (high n : ℕ) (ds : List ℕ) → all_digits ds ≡ true → value n ds ≤ high → number_from high n ds ≡ Some (value n ds)
+number_from_again : (high n : ℕ) (ds : List ℕ)
+    → all_digits ds ≡ true → value n ds ≤ high
+    → number_from high n ds ≡ Some (value n ds)
 number_from_again high n [] h le = refl
 number_from_again high n (b ∷ bs) h le =
     let p = both (is_digit b) (all_digits bs) h in
-    let small : nat_le (n * 10 + (b - 48)) high ≡ true = grind (arith, nat_tests, value_grows (n * 10 + (b - 48)) bs, le) in
+    let small : nat_le (n * 10 + (b - 48)) high ≡ true =
+    grind (arith, nat_tests, value_grows (n * 10 + (b - 48)) bs, le) in
     rw (p.0, small) (number_from_again high (n * 10 + (b - 48)) bs p.1 le)
 
-number_from_only : (high n m : ℕ) (ds : List ℕ) → n ≤ high → number_from high n ds ≡ Some m → (all_digits ds ≡ true) × (value n ds ≡ m) × (m ≤ high)
-number_from_only high n m [] le e = let same = some_is n m e in (refl, same, subst (λ (x : ℕ). x ≤ high) same le)
+number_from_only : (high n m : ℕ) (ds : List ℕ)
+    → n ≤ high → number_from high n ds ≡ Some m
+    → (all_digits ds ≡ true) × (value n ds ≡ m) × (m ≤ high)
+number_from_only high n m [] le e =
+    let same = some_is n m e in (refl, same, subst (λ (x : ℕ). x ≤ high) same le)
 number_from_only high n m (b ∷ bs) le e =
-    let h = if_some (is_digit b && nat_le (n * 10 + (b - 48)) high) (number_from high (n * 10 + (b - 48)) bs) m e in
+    let h =
+    if_some (is_digit b && nat_le (n * 10 + (b - 48)) high)
+    (number_from high (n * 10 + (b - 48)) bs) m e in
     let p = both (is_digit b) (nat_le (n * 10 + (b - 48)) high) h.0 in
     let t = number_from_only high (n * 10 + (b - 48)) m bs (grind (arith, nat_tests, p.1)) h.1 in
     (rw (p.0, t.0) refl, t.1, t.2)
 
-number_of_again : (high : ℕ) (ds : List ℕ) → all_digits ds ≡ true → 0 < length ds → (get_or ds 0 0 ≡ 48 → length ds ≡ 1) → value 0 ds ≤ high → number_spelled high ds ≡ Some (value 0 ds)
+number_of_again : (high : ℕ) (ds : List ℕ)
+    → all_digits ds ≡ true → 0 < length ds
+    → (get_or ds 0 0 ≡ 48 → length ds ≡ 1) → value 0 ds ≤ high
+    → number_spelled high ds ≡ Some (value 0 ds)
 unfolding number_spelled
 number_of_again high [] h l z le = absurd (omega (arith, l))
 number_of_again high (b ∷ []) h l z le = number_from_again high 0 (b ∷ []) h le
@@ -149,44 +177,74 @@ decimal_leads : (n : ℕ) → n < 2 ^ 64 → get_or (decimal n) 0 0 ≡ 48 → l
 decimal_leads zero lt e = ap length (decimal_digit 0 (omega arith))
 decimal_leads (suc n) lt e = absurd (omega (arith, first_decimal (suc n) (omega arith) lt, e))
 
-pub decimal_again : (high n : ℕ) → n ≤ high → high < 2 ^ 64 → number_spelled high (decimal n) ≡ Some n
+pub decimal_again : (high n : ℕ)
+    → n ≤ high → high < 2 ^ 64
+    → number_spelled high (decimal n) ≡ Some n
 decimal_again high n le small =
     let lt : n < 2 ^ 64 = omega (arith, le, small) in
     let is : value 0 (decimal n) ≡ n = digits_value-decimal own n lt in
-    number_of_again high (decimal n) (digits_decimal own n lt) (decimal_nonempty n lt) (decimal_leads n lt) (omega (arith, is, le)) ∙ ap (λ (m : ℕ). some m) is
+    number_of_again high (decimal n) (digits_decimal own n lt) (decimal_nonempty n lt)
+    (decimal_leads n lt) (omega (arith, is, le))
+    ∙ ap (λ (m : ℕ). some m) is
 
-pub decimal_only : (high n : ℕ) (w : List ℕ) → high < 2 ^ 64 → number_spelled high w ≡ Some n → (w ≡ decimal n) × (n ≤ high)
+pub decimal_only : (high n : ℕ) (w : List ℕ)
+    → high < 2 ^ 64 → number_spelled high w ≡ Some n
+    → (w ≡ decimal n) × (n ≤ high)
 unfolding number_spelled
 decimal_only high n [] small e = absurd cc
 decimal_only high n (b ∷ []) small e =
-    let t = number_from_only high 0 n (b ∷ []) (omega arith) e in
-    (sym (decimal-digits_value own (b ∷ []) t.0 (omega arith) (λ z. refl) (omega (arith, t.1, t.2, small))) ∙ ap decimal t.1, t.2)
+    let t = number_from_only high 0 n (b ∷ []) (omega arith) e in (
+      sym (decimal-digits_value own (b ∷ []) t.0 (omega arith) (λ z. refl)
+          (omega (arith, t.1, t.2, small)))
+          ∙ ap decimal t.1,
+      t.2,
+    )
 decimal_only high n (b ∷ c ∷ bs) small e =
     let h = else_some (b == 48) (number_from high 0 (b ∷ c ∷ bs)) n e in
-    let t = number_from_only high 0 n (b ∷ c ∷ bs) (omega arith) h.1 in
-    (sym (decimal-digits_value own (b ∷ c ∷ bs) t.0 (omega arith) (λ z. absurd (grind (arith, nat_tests, h.0, z))) (omega (arith, t.1, t.2, small))) ∙ ap decimal t.1, t.2)
+    let t = number_from_only high 0 n (b ∷ c ∷ bs) (omega arith) h.1 in (
+      sym (decimal-digits_value own (b ∷ c ∷ bs) t.0 (omega arith)
+          (λ z. absurd (grind (arith, nat_tests, h.0, z))) (omega (arith, t.1, t.2, small)))
+          ∙ ap decimal t.1,
+      t.2,
+    )
 
 pub digits_no_space : (ds : List ℕ) → all_digits ds ≡ true → NoSpace ds
 digits_no_space [] h = tt
-digits_no_space (b ∷ bs) h = let p = both (is_digit b) (all_digits bs) h in (grind (arith, nat_tests, p.0), digits_no_space bs p.1)
+digits_no_space (b ∷ bs) h =
+    let p = both (is_digit b) (all_digits bs) h in
+    (grind (arith, nat_tests, p.0), digits_no_space bs p.1)
 
-pub number_again : (low high n : ℕ) (rest : List ℕ) → low ≤ n → n ≤ high → high < 2 ^ 64 → IsEnd rest → number_between low high (32 ∷ (decimal n ++ rest)) ≡ Some (n, rest)
+pub number_again : (low high n : ℕ) (rest : List ℕ)
+    → low ≤ n → n ≤ high → high < 2 ^ 64 → IsEnd rest
+    → number_between low high (32 ∷ (decimal n ++ rest)) ≡ Some (n, rest)
 unfolding number_between
 number_again low high n rest lo hi small e =
     let lt : n < 2 ^ 64 = omega (arith, hi, small) in
     let above : nat_le low n ≡ true = grind (arith, nat_tests, lo) in
-    rw (word_at_again (decimal n) rest (digits_no_space (decimal n) (digits_decimal own n lt)) e, decimal_again high n hi small, above) refl
+    rw (
+      word_at_again (decimal n) rest (digits_no_space (decimal n) (digits_decimal own n lt)) e,
+      decimal_again high n hi small,
+      above,
+    ) refl
 
-pub number_only : (low high n : ℕ) (bytes rest : List ℕ) → high < 2 ^ 64 → number_between low high bytes ≡ Some (n, rest) → Takes bytes (decimal n) rest × (low ≤ n) × (n ≤ high)
+pub number_only : (low high n : ℕ) (bytes rest : List ℕ)
+    → high < 2 ^ 64
+    → number_between low high bytes ≡ Some (n, rest)
+    → Takes bytes (decimal n) rest × (low ≤ n) × (n ≤ high)
 unfolding number_between
 number_only low high n bytes rest small e =
-    let a = bind_some (word_at bytes) (λ word. number_spelled high word.0 >>= λ k. checked (nat_le low k) (k, word.1)) (n, rest) e in
-    let b = bind_some (number_spelled high a.0.0) (λ k. checked (nat_le low k) (k, a.0.1)) (n, rest) a.2 in
+    let a =
+    bind_some (word_at bytes)
+    (λ word. number_spelled high word.0 >>= λ k. checked (nat_le low k) (k, word.1)) (n, rest) e in
+    let b =
+    bind_some (number_spelled high a.0.0) (λ k. checked (nat_le low k) (k, a.0.1)) (n, rest) a.2 in
     let d = if_some (nat_le low b.0) (Some (b.0, a.0.1)) (n, rest) b.2 in
     let w = word_at_only bytes a.0.0 a.0.1 a.1 in
     let is = decimal_only high b.0 a.0.0 small b.1 in
-    let taken : Takes bytes (decimal b.0) a.0.1 = subst (λ (t : List ℕ). Takes bytes t a.0.1) is.0 w in
-    subst (λ (p : ℕ × List ℕ). Takes bytes (decimal p.0) p.1 × (low ≤ p.0) × (p.0 ≤ high)) (some_is (b.0, a.0.1) (n, rest) d.1)
+    let taken : Takes bytes (decimal b.0) a.0.1 =
+    subst (λ (t : List ℕ). Takes bytes t a.0.1) is.0 w in
+    subst (λ (p : ℕ × List ℕ). Takes bytes (decimal p.0) p.1 × (low ≤ p.0) × (p.0 ≤ high))
+    (some_is (b.0, a.0.1) (n, rest) d.1)
     (taken, grind (arith, nat_tests, d.0), is.1)
 
 pub digits-decimal : (n : ℕ) → n < 2 ^ 64 → all_digits (decimal n) ≡ true

@@ -1,8 +1,12 @@
 -- Blocks by their addresses, none of them empty or over another, have one order alone.
-use Rattle.std.proofs.Common.{◌≡◌, ℕ, zero, suc, ◌+◌, ◌-◌, ◌<◌, ◌≤◌, Bool, true, false, ◌&&◌, nat_lt, nat_le, cond, List, [], ◌∷◌, length, drop, refl, ap, sym, ◌∙◌, arith, IsTrue}
+use Rattle.std.proofs.Common.{◌≡◌, ℕ, zero, suc, ◌+◌, ◌-◌, ◌<◌, ◌≤◌, Bool, true}
+use Rattle.std.proofs.Common.{false, ◌&&◌, nat_lt, nat_le, cond, List, [], ◌∷◌}
+use Rattle.std.proofs.Common.{length, drop, refl, ap, sym, ◌∙◌, arith, IsTrue}
 use Rattle.std.proofs.Math.ListN.{get_or}
 use Rattle.std.proofs.lemmas.Bool.Decides.{nat_tests}
-use Rattle.std.proofs.lemmas.List.Sorted.{IsNonDecreasingBy-drop, sum_by-IsPermutation, length_permutation, IsPermutation-trans, IsPermutation-sym}
+use Rattle.std.proofs.lemmas.List.Sorted.{IsNonDecreasingBy-drop}
+use Rattle.std.proofs.lemmas.List.Sorted.{sum_by-IsPermutation, length_permutation}
+use Rattle.std.proofs.lemmas.List.Sorted.{IsPermutation-trans, IsPermutation-sym}
 use Rattle.std.proofs.lemmas.List.Sums.{sum_by-cons}
 use Rattle.std.specs.List.{sum_by}
 use Rattle.std.specs.List.Sorted.{IsNonDecreasingBy, IsPermutation}
@@ -31,44 +35,60 @@ measured n x = cond (nat_le x.at n) x.length 0
 abbrev earlier : ℕ → Block → ℕ
 earlier n x = cond (nat_lt x.at n) 1 0
 
-none_counted : (n from : ℕ) (bs : List Block) → n < from → IsTrue (in_order from bs) → total (counted n) bs ≡ 0
+none_counted : (n from : ℕ) (bs : List Block)
+    → n < from → IsTrue (in_order from bs)
+    → total (counted n) bs ≡ 0
 none_counted n from [] lt h = refl
 none_counted n from (b ∷ bs) lt h =
     let x : Next from b bs = next_of from b bs h in
     let above : nat_le b.at n ≡ false = grind (arith, nat_tests, x.above) in
-    let rest = none_counted n (block_end b) bs (omega (arith, x.above, lt)) x.rest in rw above (omega (arith, rest))
+    let rest = none_counted n (block_end b) bs (omega (arith, x.above, lt)) x.rest in
+    rw above (omega (arith, rest))
 
-none_measured : (n from : ℕ) (bs : List Block) → n < from → IsTrue (in_order from bs) → total (measured n) bs ≡ 0
+none_measured : (n from : ℕ) (bs : List Block)
+    → n < from → IsTrue (in_order from bs)
+    → total (measured n) bs ≡ 0
 none_measured n from [] lt h = refl
 none_measured n from (b ∷ bs) lt h =
     let x : Next from b bs = next_of from b bs h in
     let above : nat_le b.at n ≡ false = grind (arith, nat_tests, x.above) in
-    let rest = none_measured n (block_end b) bs (omega (arith, x.above, lt)) x.rest in rw above (omega (arith, rest))
+    let rest = none_measured n (block_end b) bs (omega (arith, x.above, lt)) x.rest in
+    rw above (omega (arith, rest))
 
-none_earlier : (n from : ℕ) (bs : List Block) → n ≤ from → IsTrue (in_order from bs) → total (earlier n) bs ≡ 0
+none_earlier : (n from : ℕ) (bs : List Block)
+    → n ≤ from → IsTrue (in_order from bs)
+    → total (earlier n) bs ≡ 0
 none_earlier n from [] le h = refl
 none_earlier n from (b ∷ bs) le h =
     let x : Next from b bs = next_of from b bs h in
     let above : nat_lt b.at n ≡ false = grind (arith, nat_tests, x.above) in
-    let rest = none_earlier n (block_end b) bs (omega (arith, x.above, le)) x.rest in rw above (omega (arith, rest))
+    let rest = none_earlier n (block_end b) bs (omega (arith, x.above, le)) x.rest in
+    rw above (omega (arith, rest))
 
 -- blocks whose addresses don't fall, the first of them behind n
-none_before : (n : ℕ) (bs : List Block) → IsNonDecreasingBy (λ b. b.at) bs → (0 < length bs → n < (get_or bs 0 none).at)
+none_before : (n : ℕ) (bs : List Block)
+    → IsNonDecreasingBy (λ b. b.at) bs
+    → (0 < length bs → n < (get_or bs 0 none).at)
     → total (counted n) bs ≡ 0
 none_before n [] up first = refl
 none_before n (b ∷ bs) up first =
     let here : n < b.at = first (omega arith) in
     let above : nat_le b.at n ≡ false = grind (arith, nat_tests, here) in
     let next : 0 < length bs → n < (get_or bs 0 none).at =
-    λ some. (let far : b.at ≤ (get_or bs 0 none).at = up 0 1 none (omega arith) (omega arith) in omega arith) in
-    let rest = none_before n bs (IsNonDecreasingBy-drop (λ b. b.at) 1 (b ∷ bs) up) next in rw above (omega (arith, rest))
+    λ some. (let far : b.at ≤ (get_or bs 0 none).at = up 0 1 none (omega arith) (omega arith) in
+    omega arith) in
+    let rest = none_before n bs (IsNonDecreasingBy-drop (λ b. b.at) 1 (b ∷ bs) up) next in
+    rw above (omega (arith, rest))
 
 unmeasured_by : (n : ℕ) (b : Block) (bs : List Block) (t : Bool) → nat_le b.at n ≡ t
     → total (counted n) (b ∷ bs) ≡ 0 → (total (counted n) bs ≡ 0 → total (measured n) bs ≡ 0)
     → total (measured n) (b ∷ bs) ≡ 0
-unmeasured_by n b bs true is e rest = absurd (let more : 1 + total (counted n) bs ≡ 0 = rw is at e in omega arith)
+unmeasured_by n b bs true is e rest =
+    absurd (let more : 1 + total (counted n) bs ≡ 0 = rw is at e in omega arith)
 unmeasured_by n b bs false is e rest =
-    let less : 0 + total (counted n) bs ≡ 0 = rw is at e in let least = rest (omega arith) in rw is (omega (arith, least))
+    let less : 0 + total (counted n) bs ≡ 0 = rw is at e in
+    let least = rest (omega arith) in
+    rw is (omega (arith, least))
 
 -- where none is counted none has a length
 unmeasured : (n : ℕ) (bs : List Block) → total (counted n) bs ≡ 0 → total (measured n) bs ≡ 0
@@ -89,9 +109,11 @@ same_head from c b cs bs up alike h =
     let one : total (counted b.at) (c ∷ cs) ≡ 1 =
     alike (counted b.at) ∙ rw (self, none_counted b.at (block_end b) bs behind x.rest) refl in
     let none-less : total (earlier b.at) (c ∷ cs) ≡ 0 =
-    alike (earlier b.at) ∙ rw (not-before, none_earlier b.at (block_end b) bs (omega arith) x.rest) refl in
+    alike (earlier b.at)
+    ∙ rw (not-before, none_earlier b.at (block_end b) bs (omega arith) x.rest) refl in
     let long : total (measured b.at) (c ∷ cs) ≡ b.length =
-    alike (measured b.at) ∙ rw (self, none_measured b.at (block_end b) bs behind x.rest) (omega arith) in
+    alike (measured b.at)
+    ∙ rw (self, none_measured b.at (block_end b) bs behind x.rest) (omega arith) in
     let least : b.at ≤ c.at = low (nat_lt c.at b.at) refl none-less in
     let most : c.at ≤ b.at = high (nat_le c.at b.at) refl one in
     let at-is : c.at ≡ b.at = omega arith in
@@ -103,14 +125,17 @@ same_head from c b cs bs up alike h =
     let unmeasured-rest : total (measured b.at) cs ≡ 0 = unmeasured b.at cs rest in omega arith) in
     rw (sym at-is, sym length-is) refl where
       low : (t : Bool) → nat_lt c.at b.at ≡ t → total (earlier b.at) (c ∷ cs) ≡ 0 → b.at ≤ c.at
-      low true is e = absurd (let whole : 1 + total (earlier b.at) cs ≡ 0 = rw is at e in omega arith)
+      low true is e =
+          absurd (let whole : 1 + total (earlier b.at) cs ≡ 0 = rw is at e in omega arith)
       low false is e = grind (arith, nat_tests, is)
 
       high : (t : Bool) → nat_le c.at b.at ≡ t → total (counted b.at) (c ∷ cs) ≡ 1 → c.at ≤ b.at
       high true is e = grind (arith, nat_tests, is)
       high false is e = absurd (
           let far : b.at < c.at = grind (arith, nat_tests, is) in
-          let zero-all : total (counted b.at) (c ∷ cs) ≡ 0 = none_before b.at (c ∷ cs) up (λ some. far) in omega arith)
+          let zero-all : total (counted b.at) (c ∷ cs) ≡ 0 =
+          none_before b.at (c ∷ cs) up (λ some. far) in
+          omega arith)
 
 same_alike : (from : ℕ) (s t : List Block) → length s ≡ length t → IsNonDecreasingBy (λ b. b.at) s
     → Alike s t → IsTrue (in_order from t) → s ≡ t
@@ -122,13 +147,16 @@ same_alike from (c ∷ cs) (b ∷ bs) len up alike h =
     let x : Next from b bs = next_of from b bs h in
     let rest : Alike cs bs = λ f. (let whole : f c + total f cs ≡ f b + total f bs = alike f in
     let same : f c ≡ f b = ap f head in omega arith) in
-    let tail : cs ≡ bs = same_alike (block_end b) cs bs (omega (arith, len)) (IsNonDecreasingBy-drop (λ b. b.at) 1 (c ∷ cs) up) rest x.rest in
+    let tail : cs ≡ bs =
+    same_alike (block_end b) cs bs (omega (arith, len))
+    (IsNonDecreasingBy-drop (λ b. b.at) 1 (c ∷ cs) up) rest x.rest in
     rw (head, tail) refl
 
 pub same_order : (from : ℕ) (s t : List Block) → IsNonDecreasingBy (λ b. b.at) s → IsPermutation t s
     → IsTrue (in_order from t) → s ≡ t
 same_order from s t up order h =
-    same_alike from s t (length_permutation t s order) up (λ f. sym (total-sum f s) ∙ sum_by-IsPermutation f t s order ∙ total-sum f t) h
+    same_alike from s t (length_permutation t s order) up
+    (λ f. sym (total-sum f s) ∙ sum_by-IsPermutation f t s order ∙ total-sum f t) h
 
 pub and_left : (a b : Bool) → (a && b) ≡ true → a ≡ true
 and_left true b h = refl
@@ -138,7 +166,8 @@ pub and_right : (a b : Bool) → (a && b) ≡ true → b ≡ true
 and_right true b h = h
 and_right false b h = absurd (grind (arith, h))
 
-pub fits-filled : (endmem size start : ℕ) (bs : List Block) → 0 < length bs → is_heap start bs ≡ true
+pub fits-filled : (endmem size start : ℕ) (bs : List Block)
+    → 0 < length bs → is_heap start bs ≡ true
     → heap_fits endmem size start bs ≡ is_placed endmem size start (heap_end bs)
 fits-filled endmem size start [] some h = absurd (omega arith)
 fits-filled endmem size start (b ∷ bs) some h =
@@ -152,11 +181,15 @@ fits-order endmem size start (b ∷ bs) h =
     in_order-lower (b ∷ bs) 0 start (omega arith) (is_heap-order start (b ∷ bs) heap)
 
 -- blocks by their addresses that don't fit have no order that does
-pub one_order : (endmem size start : ℕ) (pairs blocks s : List Block) → IsNonDecreasingBy (λ b. b.at) s
-    → HaveOrder endmem size start pairs blocks → IsPermutation pairs s → heap_fits endmem size start s ≡ false → ⊥
+pub one_order : (endmem size start : ℕ) (pairs blocks s : List Block)
+    → IsNonDecreasingBy (λ b. b.at) s
+    → HaveOrder endmem size start pairs blocks
+    → IsPermutation pairs s
+    → heap_fits endmem size start s ≡ false → ⊥
 one_order endmem size start pairs blocks s up have order bad =
     let between : IsPermutation blocks s =
     IsPermutation-trans blocks pairs s (IsPermutation-sym pairs blocks have.order) order in
-    let same : s ≡ blocks = same_order 0 s blocks up between (fits-order endmem size start blocks have.fits) in
+    let same : s ≡ blocks =
+    same_order 0 s blocks up between (fits-order endmem size start blocks have.fits) in
     let both : true ≡ false = sym have.fits ∙ ap (heap_fits endmem size start) (sym same) ∙ bad in
     grind (arith, both)

@@ -1,8 +1,12 @@
 -- What a reader answers is the state that the bytes spell.
-use Rattle.std.proofs.Common.{◌≡◌, ◌≢◌, ℕ, zero, suc, ◌+◌, ◌<◌, ◌≤◌, Bool, true, false, ◌&&◌, nat_le, nat_lt, cond, List, [], ◌∷◌, ◌++◌, length, Option, Some, None, Result, Ok, Err, refl, ap, sym, subst, ◌∙◌, arith, IsTrue}
+use Rattle.std.proofs.Common.{◌≡◌, ◌≢◌, ℕ, zero, suc, ◌+◌, ◌<◌, ◌≤◌, Bool, true, false, ◌&&◌}
+use Rattle.std.proofs.Common.{nat_le, nat_lt, cond, List, [], ◌∷◌, ◌++◌, length, Option, Some}
+use Rattle.std.proofs.Common.{None, Result, Ok, Err, refl, ap, sym, subst, ◌∙◌, arith, IsTrue}
 use Rattle.std.proofs.Math.ListN.{get_or}
 use Rattle.std.proofs.lemmas.Bool.Decides.{nat_tests}
-use Rattle.std.proofs.lemmas.List.Sorted.{IsNonDecreasingBy-from_all_adjacent, IsPermutation-refl, IsPermutation-sym, IsPermutation-trans, IsPermutation-cons, IsPermutation-middle}
+use Rattle.std.proofs.lemmas.List.Sorted.{IsNonDecreasingBy-from_all_adjacent, IsPermutation-refl}
+use Rattle.std.proofs.lemmas.List.Sorted.{IsPermutation-sym, IsPermutation-trans}
+use Rattle.std.proofs.lemmas.List.Sorted.{IsPermutation-cons, IsPermutation-middle}
 use Rattle.std.proofs.lemmas.Slice.Eq.{bytes_eq-Decides}
 use Rattle.std.specs.List.Sorted.{IsNonDecreasingBy, IsPermutation}
 use Rattle.std.specs.Str.{bytes_eq}
@@ -15,10 +19,14 @@ use Rattle.vm_stack.proofs.SavedTests.{saved_decided}
 use Rattle.vm_undo.specs.declared.saved.Saved.{Saved}
 use Rattle.quetzal.specs.Chunks.{Pieces, parts_of}
 use Rattle.quetzal.specs.Heap.{HaveOrder, IsHeapIn, heap_fits, heap_listed}
-use Rattle.quetzal.specs.Save.{identity, memory_loaded, ram_in, IsStackOf, RefusesSave, IsStateIn, HasNoHeap, ReadsSave, ReadsHeapOf, ReadsStack, ReadsMemory, ReadsStory, ReadsParts, canon}
-use Rattle.quetzal.specs.State.{FindsState, by_address, heap_in_chunk, is_stack_of, state_in, state_of, state_over, state_with}
+use Rattle.quetzal.specs.Save.{identity, memory_loaded, ram_in, IsStackOf, RefusesSave}
+use Rattle.quetzal.specs.Save.{IsStateIn, HasNoHeap, ReadsSave, ReadsHeapOf}
+use Rattle.quetzal.specs.Save.{ReadsStack, ReadsMemory, ReadsStory, ReadsParts, canon}
+use Rattle.quetzal.specs.State.{FindsState, by_address, heap_in_chunk, is_stack_of}
+use Rattle.quetzal.specs.State.{state_in, state_of, state_over, state_with}
 use Rattle.quetzal.specs.declared.fault.SaveFault.{SaveFault}
-use Rattle.quetzal.specs.declared.fault.SaveFault.TheVariants.{NotSave, Cut, OtherStory, BadRuns, BadStack, BadHeap, NoMemory}
+use Rattle.quetzal.specs.declared.fault.SaveFault.TheVariants.{NotSave, Cut, OtherStory, BadRuns}
+use Rattle.quetzal.specs.declared.fault.SaveFault.TheVariants.{BadStack, BadHeap, NoMemory}
 use Rattle.quetzal.specs.Returns.{GivesStateBack}
 use Rattle.quetzal.proofs.OrderLemmas.{and_left, and_right, fits-order, same_order}
 use Rattle.quetzal.proofs.WriteLemmas.{written_reads}
@@ -34,7 +42,8 @@ up_lower : (n m : ℕ) (bs : List Block) → n ≤ m → Up m bs → Up n bs
 up_lower n m [] le u = tt
 up_lower n m (b ∷ bs) le u = (let h = u.0 in omega (arith, le, h), u.1)
 
-put-up : (n : ℕ) (x b : Block) (bs : List Block) (t : Bool) → nat_lt x.at b.at ≡ t → n ≤ x.at → n ≤ b.at → Up b.at bs
+put-up : (n : ℕ) (x b : Block) (bs : List Block) (t : Bool)
+    → nat_lt x.at b.at ≡ t → n ≤ x.at → n ≤ b.at → Up b.at bs
     → (b.at ≤ x.at → Up b.at (with_block x bs)) → Up n (cond t (x ∷ b ∷ bs) (b ∷ with_block x bs))
 put-up n x b bs true is le here u rest = (le, (grind (arith, nat_tests, is), u))
 put-up n x b bs false is le here u rest = (here, rest (grind (arith, nat_tests, is)))
@@ -60,7 +69,8 @@ adjacent n (b ∷ c ∷ bs) u (suc k) d lt =
 
 by_address-rises : (bs : List Block) → IsNonDecreasingBy (λ b. b.at) (by_address bs)
 by_address-rises bs =
-    IsNonDecreasingBy-from_all_adjacent (λ b. b.at) (by_address bs) (adjacent 0 (by_address bs) (by_address-up bs))
+    IsNonDecreasingBy-from_all_adjacent (λ b. b.at) (by_address bs)
+    (adjacent 0 (by_address bs) (by_address-up bs))
 
 put-order : (x b : Block) (bs : List Block) (t : Bool) → IsPermutation (x ∷ bs) (with_block x bs)
     → IsPermutation (x ∷ b ∷ bs) (cond t (x ∷ b ∷ bs) (b ∷ with_block x bs))
@@ -77,32 +87,41 @@ by_address-order : (bs : List Block) → IsPermutation bs (by_address bs)
 by_address-order [] = IsPermutation-refl []
 by_address-order (b ∷ bs) =
     IsPermutation-trans (b ∷ bs) (b ∷ by_address bs) (with_block b (by_address bs))
-    (IsPermutation-cons b bs (by_address bs) (by_address-order bs)) (with_block-order b (by_address bs))
+    (IsPermutation-cons b bs (by_address bs) (by_address-order bs))
+    (with_block-order b (by_address bs))
 
 -- blocks that fit in some order fit by their addresses
-one_order : (endmem size start : ℕ) (pairs blocks : List Block) → HaveOrder endmem size start pairs blocks
+one_order : (endmem size start : ℕ) (pairs blocks : List Block)
+    → HaveOrder endmem size start pairs blocks
     → by_address pairs ≡ blocks
 one_order endmem size start pairs blocks have =
     same_order 0 (by_address pairs) blocks (by_address-rises pairs)
-    (IsPermutation-trans blocks pairs (by_address pairs) (IsPermutation-sym pairs blocks have.order) (by_address-order pairs))
+    (IsPermutation-trans blocks pairs (by_address pairs) (IsPermutation-sym pairs blocks have.order)
+    (by_address-order pairs))
     (fits-order endmem size start blocks have.fits)
 
 -- ---- the heap
 
-heap_found : (end size : ℕ) (chunk : Option (List ℕ)) (start : ℕ) (blocks : List Block) → IsHeapIn end size chunk start blocks
+heap_found : (end size : ℕ) (chunk : Option (List ℕ)) (start : ℕ) (blocks : List Block)
+    → IsHeapIn end size chunk start blocks
     → heap_in_chunk end size (heap_listed chunk) ≡ Some (start, blocks)
 heap_found end size chunk start blocks h =
     let same : by_address h.pairs ≡ blocks = one_order end size start h.pairs blocks h.order in
     ap (heap_in_chunk end size) h.listed
-    ∙ (ap (λ (bs : List Block). cond {A = Option (ℕ × List Block)} (heap_fits end size start bs) (Some (start, bs)) None) same
-    ∙ ap (λ (t : Bool). cond {A = Option (ℕ × List Block)} t (Some (start, blocks)) None) h.order.fits)
+    ∙ (ap (λ (bs : List Block).
+    cond {A = Option (ℕ × List Block)} (heap_fits end size start bs) (Some (start, bs)) None) same
+    ∙ ap (λ (t : Bool). cond {A = Option (ℕ × List Block)} t (Some (start, blocks)) None)
+    h.order.fits)
 
-heap_missing_by : (end size start : ℕ) (bs : List Block) (t : Bool) → heap_fits end size start bs ≡ t
-    → (heap_fits end size start bs ≡ true → ⊥) → cond {A = Option (ℕ × List Block)} t (Some (start, bs)) None ≡ None
+heap_missing_by : (end size start : ℕ) (bs : List Block) (t : Bool)
+    → heap_fits end size start bs ≡ t
+    → (heap_fits end size start bs ≡ true → ⊥)
+    → cond {A = Option (ℕ × List Block)} t (Some (start, bs)) None ≡ None
 heap_missing_by end size start bs true is unfit = absurd (unfit is)
 heap_missing_by end size start bs false is unfit = refl
 
-heap_missing : (end size : ℕ) (chunk : Option (List ℕ)) (l : Option (ℕ × List Block)) → heap_listed chunk ≡ l → HasNoHeap end size chunk
+heap_missing : (end size : ℕ) (chunk : Option (List ℕ)) (l : Option (ℕ × List Block))
+    → heap_listed chunk ≡ l → HasNoHeap end size chunk
     → heap_in_chunk end size l ≡ None
 heap_missing end size chunk None is none = refl
 heap_missing end size chunk (Some l) is none =
@@ -115,7 +134,8 @@ heap_missing end size chunk (Some l) is none =
 
 -- ---- a refusal finds nothing
 
-refused : (cause : SaveFault) (result : Result Saved SaveFault) → RefusesSave cause result → FindsState None result
+refused : (cause : SaveFault) (result : Result Saved SaveFault)
+    → RefusesSave cause result → FindsState None result
 refused cause (Ok s) h = absurd h
 refused cause (Err NoMemory) h = tt
 refused cause (Err NotSave) h = refl
@@ -131,70 +151,94 @@ same_state : (s : Saved) (image : List ℕ) (p : Pieces) (ram : List ℕ) → Is
     → state_with image p ram (Some (s.heap_start, s.heap)) ≡ Some s
 same_state s image p ram h = rw (sym h.memory, sym h.stack) refl
 
-heap_finds : (image : List ℕ) (p : Pieces) (ram : List ℕ) (result : Result Saved SaveFault) → ReadsHeapOf image p ram result
-    → FindsState (state_with image p ram (heap_in_chunk (endmem image) (ramstart image + length ram) (heap_listed p.heap))) result
+heap_finds : (image : List ℕ) (p : Pieces) (ram : List ℕ) (result : Result Saved SaveFault)
+    → ReadsHeapOf image p ram result
+    → FindsState (state_with image p ram
+    (heap_in_chunk (endmem image) (ramstart image + length ram) (heap_listed p.heap))) result
 heap_finds image p ram (Ok s) h =
-    ap (state_with image p ram) (heap_found (endmem image) (ramstart image + length ram) p.heap s.heap_start s.heap h.heap)
+    ap (state_with image p ram)
+    (heap_found (endmem image) (ramstart image + length ram) p.heap s.heap_start s.heap h.heap)
     ∙ same_state s image p ram h
 heap_finds image p ram (Err NoMemory) h = tt
 heap_finds image p ram (Err BadHeap) h =
-    ap (state_with image p ram) (heap_missing (endmem image) (ramstart image + length ram) p.heap (heap_listed p.heap) refl (h.1 refl))
+    ap (state_with image p ram) (heap_missing (endmem image) (ramstart image + length ram) p.heap
+    (heap_listed p.heap) refl (h.1 refl))
 heap_finds image p ram (Err NotSave) h = absurd (let e = h.0 in cc)
 heap_finds image p ram (Err Cut) h = absurd (let e = h.0 in cc)
 heap_finds image p ram (Err OtherStory) h = absurd (let e = h.0 in cc)
 heap_finds image p ram (Err BadRuns) h = absurd (let e = h.0 in cc)
 heap_finds image p ram (Err BadStack) h = absurd (let e = h.0 in cc)
 
-stack_yes : (image bytes : List ℕ) → IsLaidOut image → is_stack_of image bytes ≡ true → IsStackOf image bytes
+stack_yes : (image bytes : List ℕ)
+    → IsLaidOut image → is_stack_of image bytes ≡ true
+    → IsStackOf image bytes
 stack_yes image bytes laid e =
-    let within : nat_le (length bytes) (stack_size image) ≡ true = and_left (nat_le (length bytes) (stack_size image)) (is_saved_stack bytes) e in
+    let within : nat_le (length bytes) (stack_size image) ≡ true =
+    and_left (nat_le (length bytes) (stack_size image)) (is_saved_stack bytes) e in
     let size : length bytes ≤ stack_size image = grind (arith, nat_tests, within) in
     let most = laid.stack_limit in
     record {
-      frames = (saved_decided bytes (omega (arith, size, most))).0 (and_right (nat_le (length bytes) (stack_size image)) (is_saved_stack bytes) e);
+      frames =
+          (saved_decided bytes (omega (arith, size, most))).0
+          (and_right (nat_le (length bytes) (stack_size image)) (is_saved_stack bytes) e);
       size = size;
     }
 
-stack_no : (image bytes : List ℕ) → IsLaidOut image → is_stack_of image bytes ≡ false → IsStackOf image bytes → ⊥
+stack_no : (image bytes : List ℕ)
+    → IsLaidOut image → is_stack_of image bytes ≡ false
+    → IsStackOf image bytes → ⊥
 stack_no image bytes laid e s =
-    let size : nat_le (length bytes) (stack_size image) ≡ true = (let h = s.size in grind (arith, nat_tests, h)) in
+    let size : nat_le (length bytes) (stack_size image) ≡ true =
+    (let h = s.size in grind (arith, nat_tests, h)) in
     let most = laid.stack_limit in
     let within = s.size in
-    let test : is_saved_stack bytes ≡ true = (saved_decided bytes (omega (arith, within, most))).1 s.frames in
+    let test : is_saved_stack bytes ≡ true =
+    (saved_decided bytes (omega (arith, within, most))).1 s.frames in
     let both : is_stack_of image bytes ≡ true = rw (size, test) refl in
     let wrong : true ≡ false = sym both ∙ e in
     grind (arith, wrong)
 
-stack_finds : (image : List ℕ) (p : Pieces) (ram : List ℕ) (result : Result Saved SaveFault) → IsLaidOut image → ReadsStack image p ram result
+stack_finds : (image : List ℕ) (p : Pieces) (ram : List ℕ) (result : Result Saved SaveFault)
+    → IsLaidOut image → ReadsStack image p ram result
     → FindsState (state_over image p (Ok ram)) result
 stack_finds image p ram result laid h = by (is_stack_of image p.stack) refl where
   by : (t : Bool) → is_stack_of image p.stack ≡ t
-      → FindsState (cond t (state_with image p ram (heap_in_chunk (endmem image) (ramstart image + length ram) (heap_listed p.heap))) None) result
+      → FindsState (cond t (state_with image p ram (heap_in_chunk (endmem image)
+      (ramstart image + length ram) (heap_listed p.heap))) None) result
   by true e = heap_finds image p ram result (h.good (stack_yes image p.stack laid e))
   by false e = refused BadStack result (h.bad (stack_no image p.stack laid e))
 
-memory_finds : (image : List ℕ) (p : Pieces) (r : Result (List ℕ) SaveFault) (result : Result Saved SaveFault) → IsLaidOut image
+memory_finds : (image : List ℕ) (p : Pieces) (r : Result (List ℕ) SaveFault)
+    (result : Result Saved SaveFault)
+    → IsLaidOut image
     → ReadsMemory image p r result → FindsState (state_over image p r) result
 memory_finds image p (Ok ram) result laid h = stack_finds image p ram result laid h
 memory_finds image p (Err e) result laid h = refused e result h
 
-story_finds : (image : List ℕ) (p : Pieces) (result : Result Saved SaveFault) → IsLaidOut image → ReadsStory image p result
+story_finds : (image : List ℕ) (p : Pieces) (result : Result Saved SaveFault)
+    → IsLaidOut image → ReadsStory image p result
     → FindsState (state_of image (Ok p)) result
 story_finds image p result laid h = by (bytes_eq p.header (identity image)) refl where
-  by : (t : Bool) → bytes_eq p.header (identity image) ≡ t → FindsState (cond t (state_over image p (ram_in image p)) None) result
-  by true e = memory_finds image p (ram_in image p) result laid (h.own ((bytes_eq-Decides p.header (identity image)).0 e))
+  by : (t : Bool)
+      → bytes_eq p.header (identity image) ≡ t
+      → FindsState (cond t (state_over image p (ram_in image p)) None) result
+  by true e =
+      memory_finds image p (ram_in image p) result laid
+      (h.own ((bytes_eq-Decides p.header (identity image)).0 e))
   by false e =
       refused OtherStory result (h.other (λ same.
       (let yes = (bytes_eq-Decides p.header (identity image)).1 same in
       let wrong : true ≡ false = sym yes ∙ e in
       grind (arith, wrong))))
 
-parts_finds : (image : List ℕ) (parts : Result Pieces SaveFault) (result : Result Saved SaveFault) → IsLaidOut image → ReadsParts image parts result
+parts_finds : (image : List ℕ) (parts : Result Pieces SaveFault) (result : Result Saved SaveFault)
+    → IsLaidOut image → ReadsParts image parts result
     → FindsState (state_of image parts) result
 parts_finds image (Ok p) result laid h = story_finds image p result laid h
 parts_finds image (Err e) result laid h = refused e result h
 
-pub reader_finds : (image bytes : List ℕ) (result : Result Saved SaveFault) → IsLaidOut image → ReadsSave image bytes result
+pub reader_finds : (image bytes : List ℕ) (result : Result Saved SaveFault)
+    → IsLaidOut image → ReadsSave image bytes result
     → FindsState (state_in image bytes) result
 unfolding state_in
 reader_finds image bytes result laid h = parts_finds image (parts_of bytes) result laid h

@@ -1,31 +1,43 @@
 -- What is written of a state fits a form, and is read as that state alone.
-use Rattle.std.proofs.Common.{◌≡◌, ◌≢◌, ℕ, zero, suc, ◌+◌, ◌-◌, ◌*◌, ◌/◌, ◌%◌, ◌^◌, ◌<◌, ◌≤◌, Bool, true, false, ◌&&◌, ◌==◌, nat_le, cond, List, [], ◌∷◌, ◌++◌, length, take, drop, replicate, Option, Some, None, Result, Ok, Err, refl, ap, sym, subst, ◌∙◌, append_assoc, take-append-drop, arith, IsTrue}
+use Rattle.std.proofs.Common.{◌≡◌, ◌≢◌, ℕ, zero, suc, ◌+◌, ◌-◌, ◌*◌, ◌/◌, ◌%◌, ◌^◌, ◌<◌, ◌≤◌, Bool}
+use Rattle.std.proofs.Common.{true, false, ◌&&◌, ◌==◌, nat_le, cond, List, [], ◌∷◌, ◌++◌, length}
+use Rattle.std.proofs.Common.{take, drop, replicate, Option, Some, None, Result, Ok, Err, refl}
+use Rattle.std.proofs.Common.{ap, sym, subst, ◌∙◌, append_assoc, take-append-drop, arith, IsTrue}
 use Rattle.std.proofs.Math.ListN.{get_or}
 use Rattle.std.proofs.lemmas.Bool.Decides.{nat_tests}
 use Rattle.std.proofs.lemmas.Grind.{common_steps}
-use Rattle.std.proofs.lemmas.List.{append-nil, length-append, length-take, length-drop, length-replicate, take-append-le, take-take}
-use Rattle.std.proofs.lemmas.List.Sorted.{IsNonDecreasingBy-from_all_adjacent, IsPermutation-refl, IsPermutation-sym}
+use Rattle.std.proofs.lemmas.List.{append-nil, length-append, length-take, length-drop}
+use Rattle.std.proofs.lemmas.List.{length-replicate, take-append-le, take-take}
+use Rattle.std.proofs.lemmas.List.Sorted.{IsNonDecreasingBy-from_all_adjacent}
+use Rattle.std.proofs.lemmas.List.Sorted.{IsPermutation-refl, IsPermutation-sym}
 use Rattle.std.specs.Int.{w32, to_be_bytes}
 use Rattle.std.specs.Int.RustNames.{bit_xor}
 use Rattle.std.specs.List.Sorted.{IsNonDecreasingBy, IsPermutation}
 use Rattle.vm_heap.specs.HeapMap.{in_order, is_heap, heap_end, block_end}
 use Rattle.vm_heap.specs.declared.block.Block.{Block}
-use Rattle.vm_heap.proofs.HeapLemmas.{none, Next, next_of, in_order-limit, is_heap-order, in_order-lower, positive}
+use Rattle.vm_heap.proofs.HeapLemmas.{none, Next, next_of, in_order-limit}
+use Rattle.vm_heap.proofs.HeapLemmas.{is_heap-order, in_order-lower, positive}
 use Rattle.quetzal.specs.Runs.{differences, pairs, last_run, zeros, runs_coded}
 use Rattle.glulx_image.specs.Header.{word}
 use Rattle.glulx_image.specs.Header.{IsLaidOut, ramstart, extstart, endmem, stack_size}
 use Rattle.vm_memory.specs.Chaining.{◌>>=◌}
-use Rattle.vm_memory.specs.MemoryMap.{MemoryMap, KeepsRom, origin_of, original, ram_of, resized, with_ram}
+use Rattle.vm_memory.specs.MemoryMap.{MemoryMap, KeepsRom, origin_of}
+use Rattle.vm_memory.specs.MemoryMap.{original, ram_of, resized, with_ram}
 use Rattle.vm_undo.specs.SavedState.{IsHeapOver, IsSize}
 use Rattle.vm_undo.specs.declared.saved.Saved.{Saved}
 use Rattle.quetzal.specs.Chunks.{Pieces, parts_of}
-use Rattle.quetzal.specs.Heap.{HaveOrder, IsHeapIn, block_bytes, blocks_in, heap_fits, is_without, heap_listed, print_heap}
+use Rattle.quetzal.specs.Heap.{HaveOrder, IsHeapIn, block_bytes, blocks_in}
+use Rattle.quetzal.specs.Heap.{heap_fits, is_without, heap_listed, print_heap}
 use Rattle.quetzal.specs.Memory.{is_size, first_ram as original_ram, print_memory}
 use Rattle.quetzal.specs.Printing.{padding, chunk, heap_chunk, chunks_of, print_save}
-use Rattle.quetzal.specs.Save.{rom, image_memory, memory_loaded, identity, ram_in, origin, canon, IsStackOf, RefusesSave, IsStateIn, IsStateOf, HasNoHeap, ReadsSave, ReadsHeapOf, ReadsStack, ReadsMemory, ReadsStory, ReadsParts, GivesState, SaveIsReadAs}
+use Rattle.quetzal.specs.Save.{rom, image_memory, memory_loaded, identity, ram_in, origin}
+use Rattle.quetzal.specs.Save.{canon, IsStackOf, RefusesSave, IsStateIn, IsStateOf}
+use Rattle.quetzal.specs.Save.{HasNoHeap, ReadsSave, ReadsHeapOf, ReadsStack, ReadsMemory}
+use Rattle.quetzal.specs.Save.{ReadsStory, ReadsParts, GivesState, SaveIsReadAs}
 use Rattle.quetzal.specs.Returns.{HasRom, GivesMemoryBack, GivesStateBack}
 use Rattle.quetzal.specs.declared.fault.SaveFault.{SaveFault}
-use Rattle.quetzal.specs.declared.fault.SaveFault.TheVariants.{NotSave, Cut, OtherStory, BadRuns, BadStack, BadHeap, NoMemory}
+use Rattle.quetzal.specs.declared.fault.SaveFault.TheVariants.{NotSave, Cut, OtherStory, BadRuns}
+use Rattle.quetzal.specs.declared.fault.SaveFault.TheVariants.{BadStack, BadHeap, NoMemory}
 use Rattle.quetzal.proofs.MemoryLemmas.{word_again, memory_again}
 use Rattle.quetzal.proofs.OrderLemmas.{fits-order, same_order}
 use Rattle.quetzal.proofs.PrintLemmas.{length-chunk, reads_printed}
@@ -42,15 +54,25 @@ length-last_run (suc n) = omega arith
 
 length-zeros : (n : ℕ) → length (zeros n) ≤ 2 * n
 unfolding zeros
-length-zeros n = omega (arith, length-append (pairs (n / 256)) (last_run (n % 256)), length-pairs (n / 256), length-last_run (n % 256))
+length-zeros n =
+    omega (
+      arith,
+      length-append (pairs (n / 256)) (last_run (n % 256)),
+      length-pairs (n / 256),
+      length-last_run (n % 256),
+    )
 
 pub length-coded : (n : ℕ) (ds : List ℕ) → length (runs_coded n ds) ≤ 2 * n + 2 * length ds
 length-coded n [] = omega arith
 length-coded n (d ∷ ds) = by (d == 0) (length-coded (n + 1) ds) (length-coded 0 ds) where
-  by : (t : Bool) → length (runs_coded (n + 1) ds) ≤ 2 * (n + 1) + 2 * length ds → length (runs_coded 0 ds) ≤ 2 * 0 + 2 * length ds
-      → length (cond t (runs_coded (n + 1) ds) (zeros n ++ (d ∷ runs_coded 0 ds))) ≤ 2 * n + 2 * length (d ∷ ds)
+  by : (t : Bool)
+      → length (runs_coded (n + 1) ds) ≤ 2 * (n + 1) + 2 * length ds
+      → length (runs_coded 0 ds) ≤ 2 * 0 + 2 * length ds
+      → length (cond t (runs_coded (n + 1) ds) (zeros n ++ (d ∷ runs_coded 0 ds)))
+      ≤ 2 * n + 2 * length (d ∷ ds)
   by true skips goes = omega (arith, skips)
-  by false skips goes = omega (arith, goes, length-append (zeros n) (d ∷ runs_coded 0 ds), length-zeros n)
+  by false skips goes =
+      omega (arith, goes, length-append (zeros n) (d ∷ runs_coded 0 ds), length-zeros n)
 
 pub length-differences : (os rs : List ℕ) → length (differences os rs) ≤ length rs
 length-differences [] rs = omega arith
@@ -58,7 +80,8 @@ length-differences (o ∷ os) [] = omega arith
 length-differences (o ∷ os) (r ∷ rs) = let rest = length-differences os rs in omega (arith, rest)
 
 -- blocks in order are no more than the addresses below the limit
-pub in_order-count : (from : ℕ) (bs : List Block) → IsTrue (in_order from bs) → from + length bs ≤ 16777216
+pub in_order-count : (from : ℕ) (bs : List Block)
+    → IsTrue (in_order from bs) → from + length bs ≤ 16777216
 in_order-count from [] h = omega (arith, in_order-limit from [] h)
 in_order-count from (b ∷ bs) h =
     let x : Next from b bs = next_of from b bs h in
@@ -66,20 +89,25 @@ in_order-count from (b ∷ bs) h =
 
 -- ---- blocks in order
 
-rises : (from : ℕ) (bs : List Block) → IsTrue (in_order from bs) → (k : ℕ) (d : Block) → k + 1 < length bs
+rises : (from : ℕ) (bs : List Block)
+    → IsTrue (in_order from bs) → (k : ℕ) (d : Block)
+    → k + 1 < length bs
     → (get_or bs k d).at ≤ (get_or bs (k + 1) d).at
 rises from [] h k d lt = absurd (omega arith)
 rises from (b ∷ []) h k d lt = absurd (omega arith)
 rises from (b ∷ c ∷ bs) h zero d lt =
     let x : Next from b (c ∷ bs) = next_of from b (c ∷ bs) h in
-    let y : Next (block_end b) c bs = next_of (block_end b) c bs x.rest in omega (arith, x.filled, y.above)
+    let y : Next (block_end b) c bs = next_of (block_end b) c bs x.rest in
+    omega (arith, x.filled, y.above)
 rises from (b ∷ c ∷ bs) h (suc k) d lt =
     let x : Next from b (c ∷ bs) = next_of from b (c ∷ bs) h in
     let moved : suc k + 1 ≡ suc (k + 1) = omega arith in
     subst (λ i. (get_or (c ∷ bs) k d).at ≤ (get_or (b ∷ c ∷ bs) i d).at) (sym moved)
     (rises (block_end b) (c ∷ bs) x.rest k d (omega (arith, lt)))
 
-pub in_order-rises : (from : ℕ) (bs : List Block) → IsTrue (in_order from bs) → IsNonDecreasingBy (λ b. b.at) bs
+pub in_order-rises : (from : ℕ) (bs : List Block)
+    → IsTrue (in_order from bs)
+    → IsNonDecreasingBy (λ b. b.at) bs
 in_order-rises from bs h = IsNonDecreasingBy-from_all_adjacent (λ b. b.at) bs (rises from bs h)
 
 -- ---- the heap that is written is listed again
@@ -106,7 +134,8 @@ blocks_again from (b ∷ bs) h =
     word_again b.length (block_bytes bs) (omega (arith, limit)) in
     let rest : blocks_in (length bs) (block_bytes bs) ≡ bs = blocks_again (block_end b) bs x.rest in
     ap (λ (k : ℕ). blocks_in k (block_bytes (b ∷ bs))) one
-    ∙ same_block (word (block_bytes (b ∷ bs)) 0) (word (block_bytes (b ∷ bs)) 4) b _ bs first second rest
+    ∙ same_block (word (block_bytes (b ∷ bs)) 0)
+    (word (block_bytes (b ∷ bs)) 4) b _ bs first second rest
 
 pub listed_again : (start : ℕ) (bs : List Block) → start < 2 ^ 32 → IsTrue (is_heap start bs)
     → heap_listed (print_heap start bs) ≡ Some (start, bs)
@@ -125,7 +154,8 @@ listed_again start (b ∷ bs) fits h =
     let filled : (n == 0) ≡ false = grind (arith, nat_tests) in
     let long : nat_le 8 (length bytes) ≡ true = grind (arith, nat_tests, len) in
     let exact : (length bytes == 8 + 8 * n) ≡ true = grind (arith, nat_tests, len) in
-    let with : is_without bytes ≡ false = no_zero (nat_le 8 (length bytes)) (word bytes 0 == 0) (word bytes 4 == 0) (rw second filled) in
+    let with : is_without bytes ≡ false =
+    no_zero (nat_le 8 (length bytes)) (word bytes 0 == 0) (word bytes 4 == 0) (rw second filled) in
     rw (some, with, long, second, exact, first, blocks_again start (b ∷ bs) order) refl where
       no_zero : (a c d : Bool) → d ≡ false → (a && (c && d)) ≡ false
       no_zero true true d e = e
@@ -159,12 +189,15 @@ record Sizes (image : List ℕ) (m : MemoryMap) : Type 0 where
   high : length (rom image) ≤ endmem image
   size : is_size (endmem image) (ramstart image + length (ram_of m)) ≡ true
 
-sizes_of : (image : List ℕ) (m : MemoryMap) → IsLaidOut image → origin_of m ≡ origin image → IsSize m.endmem (length m.bytes) → Sizes image m
+sizes_of : (image : List ℕ) (m : MemoryMap)
+    → IsLaidOut image → origin_of m ≡ origin image
+    → IsSize m.endmem (length m.bytes) → Sizes image m
 sizes_of image m laid is size =
     let rs : m.ramstart ≡ ramstart image = ap (λ o. o.ramstart) is in
     let ro : m.rom ≡ rom image = ap (λ o. o.rom) is in
     let en : m.endmem ≡ endmem image = ap (λ o. o.endmem) is in
-    let rom-length : length (rom image) ≡ extstart image = omega (arith, length-take (extstart image) image, laid.ext_inside) in
+    let rom-length : length (rom image) ≡ extstart image =
+    omega (arith, length-take (extstart image) image, laid.ext_inside) in
     let least : endmem image ≤ length m.bytes = rw en at size.least in
     let ram : ramstart image + length (ram_of m) ≡ length m.bytes =
     omega (arith, length-drop m.ramstart m.bytes, rs, least, laid.ram_below, laid.ext_below) in
@@ -181,7 +214,8 @@ sizes_of image m laid is size =
       size = rw (ram, pages, from, to) refl;
     }
 
-state_sizes : (image : List ℕ) (s : Saved) → IsLaidOut image → IsStateOf image s → Sizes image s.memory
+state_sizes : (image : List ℕ) (s : Saved)
+    → IsLaidOut image → IsStateOf image s → Sizes image s.memory
 state_sizes image s laid is = sizes_of image s.memory laid is.saved.image is.saved.saved.size
 
 length-padding : (n : ℕ) (t : Bool) → length {A = ℕ} (cond t (0 ∷ []) []) ≤ 1
@@ -191,24 +225,38 @@ length-padding n false = omega arith
 chunk-most : (name : ℕ) (contents : List ℕ) → length (chunk name contents) ≤ 9 + length contents
 unfolding chunk
 chunk-most name contents =
-    omega (arith, length-append contents (padding (length contents)), length-padding (length contents) (length contents % 2 == 1))
+    omega (
+      arith,
+      length-append contents (padding (length contents)),
+      length-padding (length contents) (length contents % 2 == 1),
+    )
 
 heap-most : (start : ℕ) (bs : List Block) → IsTrue (is_heap start bs)
     → length (heap_chunk (print_heap start bs)) ≤ 134217800
 heap-most start [] h = omega arith
 heap-most start (b ∷ bs) h =
     let count = in_order-count start (b ∷ bs) (is_heap-order start (b ∷ bs) h) in
-    omega (arith, count, length-block_bytes (b ∷ bs), chunk-most 0x4D416C6C (to_be_bytes w32 start ++ (to_be_bytes w32 (length (b ∷ bs)) ++ block_bytes (b ∷ bs))))
+    omega (
+      arith,
+      count,
+      length-block_bytes (b ∷ bs),
+      chunk-most 0x4D416C6C
+          (to_be_bytes w32 start ++ (to_be_bytes w32 (length (b ∷ bs)) ++ block_bytes (b ∷ bs))),
+    )
 
 pub save_fits : (image : List ℕ) (s : Saved) → IsLaidOut image → IsStateOf image s
-    → 4 + length (chunks_of (identity image) (print_memory (rom image) (ramstart image) (ram_of s.memory)) s.stack (print_heap s.heap_start s.heap)) < 2 ^ 32
+    → 4 + length (chunks_of (identity image)
+    (print_memory (rom image) (ramstart image) (ram_of s.memory)) s.stack
+    (print_heap s.heap_start s.heap))
+    < 2 ^ 32
 save_fits image s laid is =
     let z = state_sizes image s laid is in
     let h = heap_chunk (print_heap s.heap_start s.heap) in
     let memory = print_memory (rom image) (ramstart image) (ram_of s.memory) in
     let r2 = chunk 0x53746B73 s.stack ++ h in
     let r1 = chunk 0x434D656D memory ++ r2 in
-    let was = original_ram (rom image) (ramstart image) (ramstart image + length (ram_of s.memory)) in
+    let was =
+    original_ram (rom image) (ramstart image) (ramstart image + length (ram_of s.memory)) in
     let coding = length-coded 0 (differences was (ram_of s.memory)) in
     let changes = length-differences was (ram_of s.memory) in
     let limit : length s.memory.bytes ≤ 16777216 = is.saved.saved.size.limit in
@@ -233,76 +281,104 @@ save_fits image s laid is =
       laid.stack_limit,
     )
 
-heap_back : (image : List ℕ) (size : ℕ) (s : Saved) (start : ℕ) (blocks : List Block) → s.heap_start < 2 ^ 32
-    → IsTrue (is_heap s.heap_start s.heap) → IsHeapIn (endmem image) size (print_heap s.heap_start s.heap) start blocks
+heap_back : (image : List ℕ) (size : ℕ) (s : Saved) (start : ℕ) (blocks : List Block)
+    → s.heap_start < 2 ^ 32
+    → IsTrue (is_heap s.heap_start s.heap)
+    → IsHeapIn (endmem image) size (print_heap s.heap_start s.heap) start blocks
     → (start ≡ s.heap_start) × (blocks ≡ s.heap)
 heap_back image size s start blocks small heap is =
     let again = listed_again s.heap_start s.heap small heap in
     let both : (s.heap_start, s.heap) ≡ (start, is.pairs) = some_back (sym again ∙ is.listed) in
     let start-is : s.heap_start ≡ start = ap (λ p. p.0) both in
     let pairs-is : s.heap ≡ is.pairs = ap (λ p. p.1) both in
-    let order : IsPermutation s.heap blocks = subst (λ xs. IsPermutation xs blocks) (sym pairs-is) is.order.order in (
+    let order : IsPermutation s.heap blocks =
+    subst (λ xs. IsPermutation xs blocks) (sym pairs-is) is.order.order in (
       sym start-is,
       sym (same_order 0 s.heap blocks
-          (in_order-rises s.heap_start s.heap (is_heap-order s.heap_start s.heap heap)) (IsPermutation-sym s.heap blocks order)
+          (in_order-rises s.heap_start s.heap (is_heap-order s.heap_start s.heap heap))
+          (IsPermutation-sym s.heap blocks order)
           (fits-order (endmem image) size start blocks is.order.fits)),
     )
 
 front_of : (n size : ℕ) (file bytes tail : List ℕ) → n ≤ length file → n ≤ size
     → take n (take size (file ++ tail) ++ bytes) ≡ take n file
 front_of n size file bytes tail low le =
-    take-append-le n (take size (file ++ tail)) bytes (omega (arith, length-take size (file ++ tail), length-append file tail, low, le))
+    take-append-le n (take size (file ++ tail)) bytes
+    (omega (arith, length-take size (file ++ tail), length-append file tail, low, le))
     ∙ take-take n size (file ++ tail) le
     ∙ take-append-le n file tail low
 
-same_map : (m : MemoryMap) (bytes rom : List ℕ) (ramstart endmem : ℕ) → bytes ≡ m.bytes → ramstart ≡ m.ramstart
+same_map : (m : MemoryMap) (bytes rom : List ℕ) (ramstart endmem : ℕ)
+    → bytes ≡ m.bytes → ramstart ≡ m.ramstart
     → rom ≡ m.rom → endmem ≡ m.endmem
     → record { bytes = bytes; ramstart = ramstart; rom = rom; endmem = endmem } ≡ m
 same_map m bytes rom ramstart endmem a b c d = rw (a, b, c, d) refl
 
 -- memory of the story is the story's with what RAM holds
-same_memory : (image : List ℕ) (m : MemoryMap) → Sizes image m → HasRom m → memory_loaded image (ram_of m) ≡ m
+same_memory : (image : List ℕ) (m : MemoryMap)
+    → Sizes image m → HasRom m
+    → memory_loaded image (ram_of m) ≡ m
 same_memory image m z kept =
-    let whole : m.bytes ≡ take m.ramstart m.bytes ++ ram_of m = sym (take-append-drop m.ramstart m.bytes) in
+    let whole : m.bytes ≡ take m.ramstart m.bytes ++ ram_of m =
+    sym (take-append-drop m.ramstart m.bytes) in
     let zeros = replicate (endmem image - length (rom image)) 0 in
     let size = ramstart image + length (ram_of m) in
     let rest = replicate (size - length (original (rom image) (endmem image))) 0 in
-    let front : take (ramstart image) (take size (rom image ++ zeros) ++ rest) ≡ take m.ramstart m.bytes =
+    let front : take (ramstart image) (take size (rom image ++ zeros) ++ rest)
+    ≡ take m.ramstart m.bytes =
     front_of (ramstart image) size (rom image) rest zeros z.low (omega arith)
     ∙ rw (sym z.ramstart-is, sym z.rom-is) (sym kept.same) in
-    same_map m _ _ _ _ (ap (λ t. t ++ ram_of m) front ∙ sym whole) (sym z.ramstart-is) (sym z.rom-is) (sym z.endmem-is)
+    same_map m _ _ _ _ (ap (λ t. t ++ ram_of m) front ∙ sym whole) (sym z.ramstart-is)
+    (sym z.rom-is) (sym z.endmem-is)
 
 pub memory_given_back : GivesMemoryBack
 memory_given_back image m laid is size kept =
     let z = sizes_of image m laid is size in
-    ap (λ r. r >>= (λ ram. Ok (memory_loaded image ram))) (memory_again (rom image) (ram_of m) (ramstart image) (endmem image) z.low z.high z.size)
+    ap (λ r. r >>= (λ ram. Ok (memory_loaded image ram)))
+    (memory_again (rom image) (ram_of m) (ramstart image) (endmem image) z.low z.high z.size)
     ∙ ap Ok (same_memory image m z kept)
 
-memory_back : (image : List ℕ) (s : Saved) → Sizes image s.memory → ram_in image (written_parts image s) ≡ Ok (ram_of s.memory)
-memory_back image s z = memory_again (rom image) (ram_of s.memory) (ramstart image) (endmem image) z.low z.high z.size
+memory_back : (image : List ℕ) (s : Saved)
+    → Sizes image s.memory
+    → ram_in image (written_parts image s) ≡ Ok (ram_of s.memory)
+memory_back image s z =
+    memory_again (rom image) (ram_of s.memory) (ramstart image) (endmem image) z.low z.high z.size
 
-state_back : (image : List ℕ) (s t : Saved) → IsLaidOut image → IsStateOf image s → s.heap_start < 2 ^ 32
+state_back : (image : List ℕ) (s t : Saved)
+    → IsLaidOut image → IsStateOf image s
+    → s.heap_start < 2 ^ 32
     → KeepsRom s.memory.ramstart s.memory.rom s.memory.bytes
     → IsStateIn image (written_parts image s) (ram_of s.memory) t → t ≡ s
 state_back image s t laid is small kept in-parts =
     let z = state_sizes image s laid is in
     let memory : t.memory ≡ s.memory = in-parts.memory ∙ same_memory image s.memory z kept in
-    let heap = heap_back image (ramstart image + length (ram_of s.memory)) s t.heap_start t.heap small is.saved.saved.heap.heap in-parts.heap in
+    let heap =
+    heap_back image (ramstart image + length (ram_of s.memory))
+    s t.heap_start t.heap small is.saved.saved.heap.heap in-parts.heap in
     rw (memory, in-parts.stack, heap.0, heap.1) refl
 
-fits_from : (end size start : ℕ) (bs : List Block) → IsHeapOver end size start bs → heap_fits end size start bs ≡ true
+fits_from : (end size start : ℕ) (bs : List Block)
+    → IsHeapOver end size start bs
+    → heap_fits end size start bs ≡ true
 fits_from end size start [] h = h.heap
 fits_from end size start (b ∷ bs) h =
     let some : 0 < start = positive start b bs h.heap in
     let page : (start % 256 == 0) ≡ true = grind (arith, nat_tests, h.page) in
     let least : nat_le end start ≡ true = (let le = h.least some in grind (arith, nat_tests, le)) in
-    let ends : (size == heap_end (b ∷ bs)) ≡ true = (let e = h.ends some in grind (arith, nat_tests, e)) in
-    all_true (is_heap start (b ∷ bs)) (start % 256 == 0) (nat_le end start) (size == heap_end (b ∷ bs)) h.heap page least ends where
-      all_true : (a b c d : Bool) → a ≡ true → b ≡ true → c ≡ true → d ≡ true → (a && (b && (c && d))) ≡ true
+    let ends : (size == heap_end (b ∷ bs)) ≡ true =
+    (let e = h.ends some in grind (arith, nat_tests, e)) in
+    all_true (is_heap start (b ∷ bs)) (start % 256 == 0) (nat_le end start)
+    (size == heap_end (b ∷ bs)) h.heap page least ends where
+      all_true : (a b c d : Bool)
+          → a ≡ true → b ≡ true → c ≡ true → d ≡ true
+          → (a && (b && (c && d))) ≡ true
       all_true a b c d e f g h = rw (e, f, g, h) refl
 
-heap_stands : (image : List ℕ) (s : Saved) → Sizes image s.memory → IsStateOf image s → s.heap_start < 2 ^ 32
-    → IsHeapIn (endmem image) (ramstart image + length (ram_of s.memory)) (print_heap s.heap_start s.heap) s.heap_start s.heap
+heap_stands : (image : List ℕ) (s : Saved)
+    → Sizes image s.memory → IsStateOf image s
+    → s.heap_start < 2 ^ 32
+    → IsHeapIn (endmem image) (ramstart image + length (ram_of s.memory))
+    (print_heap s.heap_start s.heap) s.heap_start s.heap
 heap_stands image s z is small = record {
   pairs = s.heap;
   listed = listed_again s.heap_start s.heap small is.saved.saved.heap.heap;
@@ -313,28 +389,35 @@ heap_stands image s z is small = record {
   };
 }
 
-answered_back : (image : List ℕ) (s : Saved) (r : Result Saved SaveFault) → IsLaidOut image → IsStateOf image s
+answered_back : (image : List ℕ) (s : Saved) (r : Result Saved SaveFault)
+    → IsLaidOut image → IsStateOf image s
     → s.heap_start < 2 ^ 32 → KeepsRom s.memory.ramstart s.memory.rom s.memory.bytes
     → ReadsHeapOf image (written_parts image s) (ram_of s.memory) r → GivesState s r
 answered_back image s (Ok t) laid is small kept h = state_back image s t laid is small kept h
 answered_back image s (Err NoMemory) laid is small kept h = refl
 answered_back image s (Err BadHeap) laid is small kept h =
-    absurd (h.1 refl s.heap_start s.heap (heap_stands image s (state_sizes image s laid is) is small))
+    absurd
+    (h.1 refl s.heap_start s.heap (heap_stands image s (state_sizes image s laid is) is small))
 answered_back image s (Err NotSave) laid is small kept h = absurd (grind (arith, h.0))
 answered_back image s (Err Cut) laid is small kept h = absurd (grind (arith, h.0))
 answered_back image s (Err OtherStory) laid is small kept h = absurd (grind (arith, h.0))
 answered_back image s (Err BadRuns) laid is small kept h = absurd (grind (arith, h.0))
 answered_back image s (Err BadStack) laid is small kept h = absurd (grind (arith, h.0))
 
-pub read_back : (image : List ℕ) (s : Saved) → IsLaidOut image → IsStateOf image s → s.heap_start < 2 ^ 32
+pub read_back : (image : List ℕ) (s : Saved)
+    → IsLaidOut image → IsStateOf image s
+    → s.heap_start < 2 ^ 32
     → KeepsRom s.memory.ramstart s.memory.rom s.memory.bytes → SaveIsReadAs image (canon image s) s
 read_back image s laid is small kept result h =
     let z = state_sizes image s laid is in
     let parts : parts_of (canon image s) ≡ Ok (written_parts image s) =
-    reads_printed (identity image) (print_memory (rom image) (ramstart image) (ram_of s.memory)) s.stack (print_heap s.heap_start s.heap) (save_fits image s laid is) in
-    let story : ReadsParts image (Ok (written_parts image s)) result = subst (λ p. ReadsParts image p result) parts h in
+    reads_printed (identity image) (print_memory (rom image) (ramstart image) (ram_of s.memory))
+    s.stack (print_heap s.heap_start s.heap) (save_fits image s laid is) in
+    let story : ReadsParts image (Ok (written_parts image s)) result =
+    subst (λ p. ReadsParts image p result) parts h in
     let stack : ReadsMemory image (written_parts image s) (Ok (ram_of s.memory)) result =
-    subst (λ m. ReadsMemory image (written_parts image s) m result) (memory_back image s z) (story.own refl) in
+    subst (λ m. ReadsMemory image (written_parts image s) m result) (memory_back image s z)
+    (story.own refl) in
     answered_back image s result laid is small kept
     (stack.good (record { frames = is.saved.saved.stack; size = is.size }))
 
@@ -346,7 +429,8 @@ small_start start (b ∷ bs) h =
     let limit : start ≤ 16777216 = in_order-limit start (b ∷ bs) (is_heap-order start (b ∷ bs) h) in
     omega (arith, limit)
 
-written_state : (image : List ℕ) (s : Saved) → Sizes image s.memory → IsStateOf image s → HasRom s.memory
+written_state : (image : List ℕ) (s : Saved)
+    → Sizes image s.memory → IsStateOf image s → HasRom s.memory
     → IsStateIn image (written_parts image s) (ram_of s.memory) s
 written_state image s z is kept = record {
   memory = sym (same_memory image s.memory z kept);
@@ -354,18 +438,22 @@ written_state image s z is kept = record {
   heap = heap_stands image s z is (small_start s.heap_start s.heap is.saved.saved.heap.heap);
 }
 
-pub written_reads : (image : List ℕ) (s : Saved) → IsLaidOut image → IsStateOf image s → HasRom s.memory
+pub written_reads : (image : List ℕ) (s : Saved)
+    → IsLaidOut image → IsStateOf image s → HasRom s.memory
     → ReadsSave image (canon image s) (Ok s)
 written_reads image s laid is kept =
     let z = state_sizes image s laid is in
     let parts : parts_of (canon image s) ≡ Ok (written_parts image s) =
-    reads_printed (identity image) (print_memory (rom image) (ramstart image) (ram_of s.memory)) s.stack (print_heap s.heap_start s.heap) (save_fits image s laid is) in
+    reads_printed (identity image) (print_memory (rom image) (ramstart image) (ram_of s.memory))
+    s.stack (print_heap s.heap_start s.heap) (save_fits image s laid is) in
     let stack : ReadsStack image (written_parts image s) (ram_of s.memory) (Ok s) = record {
       good = λ frames. written_state image s z is kept;
       bad = λ no. no (record { frames = is.saved.saved.stack; size = is.size });
     } in
-    let memory : ReadsMemory image (written_parts image s) (ram_in image (written_parts image s)) (Ok s) =
-    subst (λ m. ReadsMemory image (written_parts image s) m (Ok s)) (sym (memory_back image s z)) stack in
+    let memory : ReadsMemory image (written_parts image s)
+    (ram_in image (written_parts image s)) (Ok s) =
+    subst (λ m. ReadsMemory image (written_parts image s) m (Ok s))
+    (sym (memory_back image s z)) stack in
     let story : ReadsParts image (Ok (written_parts image s)) (Ok s) =
     record { own = λ e. memory; other = λ ne. absurd (ne refl) } in
     subst (λ p. ReadsParts image p (Ok s)) (sym parts) story

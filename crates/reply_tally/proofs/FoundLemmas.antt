@@ -65,7 +65,8 @@ parts_of_show a b c body dot rest = simp append_assoc
 head_whole : (s n : ℕ) → NoLf (head s n)
 unfolding head
 head_whole s n =
-    NoLf-append (codes "SHOW") (number_field s ++ number_field n) (checked_no_lf (codes "SHOW") refl)
+    NoLf-append (codes "SHOW") (number_field s ++ number_field n)
+    (checked_no_lf (codes "SHOW") refl)
     (NoLf-append (number_field s) (number_field n) (number_no_lf s) (number_no_lf n))
 
 lines_of_show : (s n : ℕ) (body rest : List ℕ) (h : AreShowLines body)
@@ -75,7 +76,8 @@ lines_of_show s n body rest h =
     let each = recursion_from_All IsShowLine h.lines h.each in
     let behind = codes ".\n" ++ rest in
     let dot = first_line (46 ∷ []) rest (letter_no_lf 46 refl) in
-    ap lines (parts_of_show (codes "SHOW") (number_field s) (number_field n) body (codes ".\n") rest)
+    ap lines
+    (parts_of_show (codes "SHOW") (number_field s) (number_field n) body (codes ".\n") rest)
     ∙ first_line (head s n) (body ++ behind) (head_whole s n)
     ∙ ap (λ (b : List ℕ). head s n ∷ lines (b ++ behind)) h.spelled
     ∙ ap (λ (more : List (List ℕ)). head s n ∷ more) (

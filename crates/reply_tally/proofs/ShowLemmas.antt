@@ -91,7 +91,9 @@ ends_in_text front cs begins h =
 with_field : (front : List ℕ) (n : ℕ) → NoLf front → NoLf (front ++ number_after_space n)
 with_field front n h = NoLf-append front (number_after_space n) h (field_no_lf n)
 
-with_field_2 : (front : List ℕ) (m n : ℕ) → NoLf front → NoLf (front ++ number_after_space m ++ number_after_space n)
+with_field_2 : (front : List ℕ) (m n : ℕ)
+    → NoLf front
+    → NoLf (front ++ number_after_space m ++ number_after_space n)
 with_field_2 front m n h = with_field (front ++ number_after_space m) n (with_field front m h)
 
 place_lines : (p : Place) → AreShowLines (place_line p)
@@ -106,7 +108,8 @@ place_lines p =
 part_lines : (p : Part) → AreShowLines (part_line p)
 unfolding part_line
 part_lines (Clear id) =
-    are_one (codes "C" ++ number_after_space id) refl (with_field (codes "C") id (letter_no_lf 67 refl))
+    are_one (codes "C" ++ number_after_space id) refl
+    (with_field (codes "C") id (letter_no_lf 67 refl))
 part_lines (Run id style cs) =
     ends_in_text (codes "T" ++ number_after_space id ++ number_after_space style) cs refl
     (with_field_2 (codes "T") id style (letter_no_lf 84 refl))

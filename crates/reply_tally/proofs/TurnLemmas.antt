@@ -13,15 +13,16 @@ use Rattle.line_words.specs.declared.reply.No.{No}
 use Rattle.line_words.specs.declared.reply.Reply.{Reply}
 use Rattle.line_words.specs.declared.request.Request.{Request}
 use Rattle.story_run.specs.Show.{ends_of}
-use Rattle.story_run.specs.Solo.{rested, opening, is_wanted, world_after_turn, world_after_input, turned_by, last_lines}
+use Rattle.story_run.specs.Solo.{rested, opening, is_wanted, world_after_turn}
+use Rattle.story_run.specs.Solo.{world_after_input, turned_by, last_lines}
 use Rattle.story_run.specs.Turn.{story_begun, turn_on}
 use Rattle.story_run.specs.World.{WorldState}
 use Rattle.story_run.specs.declared.setup.Setup.{Setup}
 use Rattle.story_run.specs.declared.stage.Stage.{Stage}
 use Rattle.story_run.specs.declared.stage.Stage.TheVariants.{AtSelect, AtPrompt, Quit, Fault}
 use Rattle.story_run.specs.declared.story.Story.{Story}
-use Rattle.session_core.specs.Answer.{show_in, game_show, show_while, refusal_of, decided, history_extended}
-use Rattle.session_core.specs.Answer.{answer}
+use Rattle.session_core.specs.Answer.{show_in, game_show, show_while, refusal_of}
+use Rattle.session_core.specs.Answer.{decided, history_extended, answer}
 use Rattle.session_core.specs.History.{story_at, game_of, is_in_use, input_of, world_in, world_of}
 use Rattle.session_core.specs.Sessions.{with_budget}
 use Rattle.session_core.specs.Turning.{commands_in, decided_by, decision_on, turn_met, turn_of}
@@ -103,7 +104,8 @@ show_lines stories game = either (is_in_use game) where
 decided_lines : (stories : List Story) (history : List Command) (request : Request)
     (refusal : Option No)
     → HasShowLines (decided stories (game_of history)
-    (λ accepted. game_show stories (game_of (history_extended history accepted))) request refusal).reply
+    (λ accepted. game_show stories (game_of (history_extended history accepted)))
+    request refusal).reply
 decided_lines stories history request (Some why) = tt
 decided_lines stories history request None = show_lines stories _
 

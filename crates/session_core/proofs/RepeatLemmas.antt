@@ -1,5 +1,8 @@
--- What a session's game is once a command has joined it, and that no check holds of that command then.
-use Rattle.std.proofs.Common.{◌≡◌, ℕ, suc, ◌+◌, ◌-◌, Bool, true, false, ◌&&◌, ◌||◌, ◌==◌, not, nat_lt, nat_le, cond, List, [], ◌∷◌, ◌++◌, length, Option, Some, None, refl, ap, sym, subst, ◌∙◌, arith, slice_get}
+-- What a session's game is once a command has joined it, and that no check holds of that command
+-- then.
+use Rattle.std.proofs.Common.{◌≡◌, ℕ, suc, ◌+◌, ◌-◌, Bool, true, false, ◌&&◌, ◌||◌, ◌==◌}
+use Rattle.std.proofs.Common.{not, nat_lt, nat_le, cond, List, [], ◌∷◌, ◌++◌, length, Option}
+use Rattle.std.proofs.Common.{Some, None, refl, ap, sym, subst, ◌∙◌, arith, slice_get}
 use Rattle.std.proofs.lemmas.Bool.Decides.{nat_tests}
 use Rattle.std.proofs.lemmas.List.{length-append}
 use Rattle.std.specs.Str.{bytes_eq}
@@ -8,15 +11,21 @@ use Rattle.gate_journal.specs.Rows.{is_open}
 use Rattle.gate_journal.specs.declared.command.Command.{Command}
 use Rattle.gate_journal.specs.declared.command.Command.TheVariants as commands
 use Rattle.line_words.specs.declared.request.Request.{Request}
-use Rattle.line_words.specs.declared.request.Request.TheVariants.{Open, Line, Char, File, Last, Close}
+use Rattle.line_words.specs.declared.request.Request.TheVariants.{Open, Line, Char}
+use Rattle.line_words.specs.declared.request.Request.TheVariants.{File, Last, Close}
 use Rattle.line_words.specs.declared.reply.No.{No}
 use Rattle.line_words.specs.declared.reply.Reply.TheVariants as replies
 use Rattle.story_run.specs.declared.story.Story.{Story}
 use Rattle.session_core.specs.declared.decision.Decision.{Decision}
 use Rattle.story_run.specs.World.{WorldState}
-use Rattle.session_core.specs.History.{later, game_of, command_count, last_of, is_in_use, story_at, world_of}
-use Rattle.session_core.specs.Checks.{session_of, command_of, opening_command, is_fresh, is_absent, is_taken, is_story_missing, is_changed, is_early, is_different, is_ahead}
-use Rattle.session_core.specs.Answer.{first_refusal, checks, refusal_in, refusal_of, accepted_by, history_extended, game_show, show_with, shown_number, show_reply, decided, answer, answer_in}
+use Rattle.session_core.specs.History.{later, game_of, command_count}
+use Rattle.session_core.specs.History.{last_of, is_in_use, story_at, world_of}
+use Rattle.session_core.specs.Checks.{session_of, command_of, opening_command}
+use Rattle.session_core.specs.Checks.{is_fresh, is_absent, is_taken, is_story_missing}
+use Rattle.session_core.specs.Checks.{is_changed, is_early, is_different, is_ahead}
+use Rattle.session_core.specs.Answer.{first_refusal, checks, refusal_in, refusal_of}
+use Rattle.session_core.specs.Answer.{accepted_by, history_extended, game_show, show_with}
+use Rattle.session_core.specs.Answer.{shown_number, show_reply, decided, answer, answer_in}
 use Rattle.session_core.specs.Repeats.{again}
 
 -- ---- the game after a command
@@ -27,16 +36,21 @@ joined [] x = []
 joined (c ∷ cs) x = c ∷ (cs ++ x ∷ [])
 
 later_joined : (opens : Bool) (c : Command) (cs : List Command) (x : Command) (g : List Command)
-    → later (cond opens (c ∷ (cs ++ x ∷ [])) []) (joined g x) ≡ joined (later (cond opens (c ∷ cs) []) g) x
+    → later (cond opens (c ∷ (cs ++ x ∷ [])) []) (joined g x)
+    ≡ joined (later (cond opens (c ∷ cs) []) g) x
 later_joined true c cs x [] = refl
 later_joined false c cs x [] = refl
 later_joined opens c cs x (d ∷ ds) = refl
 
-pub game_of-append : (history : List Command) (x : Command) → is_open x ≡ false → game_of (history ++ x ∷ []) ≡ joined (game_of history) x
+pub game_of-append : (history : List Command) (x : Command)
+    → is_open x ≡ false
+    → game_of (history ++ x ∷ []) ≡ joined (game_of history) x
 game_of-append [] x e = rw e refl
-game_of-append (c ∷ cs) x e = rw (game_of-append cs x e) (later_joined (is_open c) c cs x (game_of cs))
+game_of-append (c ∷ cs) x e =
+    rw (game_of-append cs x e) (later_joined (is_open c) c cs x (game_of cs))
 
-pub game_of-append-open : (history : List Command) (x : Command) → is_open x ≡ true → game_of (history ++ x ∷ []) ≡ x ∷ []
+pub game_of-append-open : (history : List Command) (x : Command)
+    → is_open x ≡ true → game_of (history ++ x ∷ []) ≡ x ∷ []
 game_of-append-open [] x e = rw e refl
 game_of-append-open (c ∷ cs) x e = rw (game_of-append-open cs x e) refl
 
@@ -44,18 +58,21 @@ at_end : (cs : List Command) (x : Command) → slice_get (cs ++ x ∷ []) (lengt
 at_end [] x = refl
 at_end (c ∷ cs) x = at_end cs x
 
-pub last_of-joined : (c : Command) (cs : List Command) (x : Command) → last_of (c ∷ (cs ++ x ∷ [])) ≡ Some x
+pub last_of-joined : (c : Command) (cs : List Command) (x : Command)
+    → last_of (c ∷ (cs ++ x ∷ [])) ≡ Some x
 last_of-joined c cs x =
     let len : length (cs ++ x ∷ []) ≡ length cs + 1 = length-append cs (x ∷ []) in
     let index : suc (length (cs ++ x ∷ [])) - 1 ≡ suc (length cs) = omega (arith, len) in
     ap (λ (i : ℕ). slice_get (c ∷ (cs ++ x ∷ [])) i) index ∙ at_end cs x
 
-count-joined : (c : Command) (cs : List Command) (x : Command) → command_count (c ∷ (cs ++ x ∷ [])) ≡ command_count (c ∷ cs) + 1
+count-joined : (c : Command) (cs : List Command) (x : Command)
+    → command_count (c ∷ (cs ++ x ∷ [])) ≡ command_count (c ∷ cs) + 1
 count-joined c cs x = omega (arith, length-append cs (x ∷ []))
 
 -- ---- what an accepted request passed
 
-record Passed (stories : List Story) (history : List Command) (request : Request) (command : Command) : Type 0 where
+record Passed (stories : List Story) (history : List Command) (request : Request)
+    (command : Command) : Type 0 where
   pub present : is_absent (game_of history) request ≡ false
   pub unchanged : is_changed stories (game_of history) request ≡ false
   pub fresh : is_fresh (game_of history) request ≡ true
@@ -72,25 +89,38 @@ all_fail [] e = tt
 all_fail ((true, why) ∷ more) e = absurd cc
 all_fail ((false, why) ∷ more) e = (refl, all_fail more e)
 
-accepted_none : (stories : List Story) (game : List Command) (show : Option Command → List ℕ) (request : Request) (refusal : Option No) (command : Command)
-    → (decided stories game show request refusal).accepted ≡ Some command → (refusal ≡ None) × (accepted_by stories game request ≡ Some command)
+accepted_none : (stories : List Story) (game : List Command) (show : Option Command → List ℕ)
+    (request : Request) (refusal : Option No) (command : Command)
+    → (decided stories game show request refusal).accepted ≡ Some command
+    → (refusal ≡ None) × (accepted_by stories game request ≡ Some command)
 accepted_none stories game show request (Some why) command e = absurd cc
 accepted_none stories game show request None command e = (refl, e)
 
-pub chosen : (fresh : Bool) (asked : Option Command) (command : Command) → cond fresh asked None ≡ Some command → (fresh ≡ true) × (asked ≡ Some command)
+pub chosen : (fresh : Bool) (asked : Option Command) (command : Command)
+    → cond fresh asked None ≡ Some command
+    → (fresh ≡ true) × (asked ≡ Some command)
 chosen true asked command e = (refl, e)
 chosen false asked command e = absurd cc
 
-passed : (stories : List Story) (history : List Command) (request : Request) (command : Command) → (answer stories history request).accepted ≡ Some command
+passed : (stories : List Story) (history : List Command) (request : Request) (command : Command)
+    → (answer stories history request).accepted ≡ Some command
     → Passed stories history request command
 unfolding answer refusal_of refusal_in accepted_by
 passed stories history request command e =
     let game = game_of history in
-    let show : Option Command → List ℕ = λ accepted. game_show stories (game_of (history_extended history accepted)) in
-    let parts = accepted_none stories game show request (refusal_of stories history game request) command e in
+    let show : Option Command → List ℕ =
+    λ accepted. game_show stories (game_of (history_extended history accepted)) in
+    let parts =
+    accepted_none stories game show request (refusal_of stories history game request) command e in
     let taken = chosen (is_fresh game request) (command_of stories request) command parts.1 in
     let fails = all_fail (checks (world_of stories game) stories history game request) parts.0 in
-    record { present = fails.0; unchanged = fails.1.1.1.0; fresh = taken.0; asked = taken.1; told = parts.0 }
+    record {
+      present = fails.0;
+      unchanged = fails.1.1.1.0;
+      fresh = taken.0;
+      asked = taken.1;
+      told = parts.0;
+    }
 
 -- ---- no check holds of the same request then
 
@@ -104,41 +134,63 @@ record Passes (stories : List Story) (game : List Command) (request : Request) :
   pub ahead : is_ahead game request ≡ false
   pub stale : is_fresh game request ≡ false
 
-none_holds : (stories : List Story) (history game : List Command) (request : Request) → Passes stories game request → refusal_of stories history game request ≡ None
+none_holds : (stories : List Story) (history game : List Command) (request : Request)
+    → Passes stories game request
+    → refusal_of stories history game request ≡ None
 unfolding refusal_of refusal_in
 none_holds stories history game request p =
     rw (p.present, p.taken, p.missing, p.changed, p.early, p.different, p.ahead, p.stale) refl
 
-nothing_accepted : (stories : List Story) (game : List Command) (request : Request) → is_fresh game request ≡ false → accepted_by stories game request ≡ None
+nothing_accepted : (stories : List Story) (game : List Command) (request : Request)
+    → is_fresh game request ≡ false
+    → accepted_by stories game request ≡ None
 unfolding accepted_by
 nothing_accepted stories game request e = rw e refl
 
-taken-some : (stories : List Story) (game : List Command) (request : Request) (command : Command) → is_fresh game request ≡ true → command_of stories request ≡ Some command
+taken-some : (stories : List Story) (game : List Command) (request : Request) (command : Command)
+    → is_fresh game request ≡ true
+    → command_of stories request ≡ Some command
     → accepted_by stories game request ≡ Some command
 unfolding accepted_by
 taken-some stories game request command f e = rw (f, e) refl
 
-decided-none : (stories : List Story) (game : List Command) (show : Option Command → List ℕ) (request : Request) (refusal : Option No) (accepted : Option Command)
+decided-none : (stories : List Story) (game : List Command) (show : Option Command → List ℕ)
+    (request : Request) (refusal : Option No) (accepted : Option Command)
     → refusal ≡ None → accepted_by stories game request ≡ accepted
-    → decided stories game show request refusal ≡ record { reply = show_reply game (show accepted) request; accepted = accepted }
+    → decided stories game show request refusal
+    ≡ record { reply = show_reply game (show accepted) request; accepted = accepted }
 decided-none stories game show request refusal accepted e a = rw (e, a) refl
 
-pub answer-none : (stories : List Story) (history : List Command) (request : Request) (accepted : Option Command)
-    → refusal_of stories history (game_of history) request ≡ None → accepted_by stories (game_of history) request ≡ accepted
+pub answer-none : (stories : List Story) (history : List Command) (request : Request)
+    (accepted : Option Command)
+    → refusal_of stories history (game_of history) request ≡ None
+    → accepted_by stories (game_of history) request ≡ accepted
     → answer stories history request
-    ≡ record { reply = show_reply (game_of history) (game_show stories (game_of (history_extended history accepted))) request; accepted = accepted }
+    ≡ record {
+      reply =
+          show_reply (game_of history)
+          (game_show stories (game_of (history_extended history accepted))) request;
+      accepted = accepted;
+    }
 unfolding answer
 answer-none stories history request accepted e a =
-    decided-none stories (game_of history) (λ taken. game_show stories (game_of (history_extended history taken))) request
+    decided-none stories (game_of history)
+    (λ taken. game_show stories (game_of (history_extended history taken))) request
     (refusal_of stories history (game_of history) request) accepted e a
 
-pub answer_in-none : (stories : List Story) (history : List Command) (now : Option WorldState) (request : Request) (accepted : Option Command)
-    → refusal_in now stories history (game_of history) request ≡ None → accepted_by stories (game_of history) request ≡ accepted
+pub answer_in-none : (stories : List Story) (history : List Command) (now : Option WorldState)
+    (request : Request) (accepted : Option Command)
+    → refusal_in now stories history (game_of history) request ≡ None
+    → accepted_by stories (game_of history) request ≡ accepted
     → answer_in stories history now request
-    ≡ record { reply = show_reply (game_of history) (show_with stories history now accepted) request; accepted = accepted }
+    ≡ record {
+      reply = show_reply (game_of history) (show_with stories history now accepted) request;
+      accepted = accepted;
+    }
 unfolding answer_in
 answer_in-none stories history now request accepted e a =
-    decided-none stories (game_of history) (show_with stories history now) request (refusal_in now stories history (game_of history) request) accepted e a
+    decided-none stories (game_of history) (show_with stories history now) request
+    (refusal_in now stories history (game_of history) request) accepted e a
 
 pub some_is : (x y : Command) → Some x ≡ Some y → x ≡ y
 some_is x y e = cc
@@ -148,8 +200,12 @@ some_is x y e = cc
 numbers : (n c d : ℕ) → (n == c + 1) ≡ true → d ≡ c + 1
     → (nat_lt n d ≡ false) × ((n == d) ≡ true) × (nat_lt (d + 1) n ≡ false) × ((n == d + 1) ≡ false)
 numbers n c d e same =
-    let is : n ≡ c + 1 = grind (arith, nat_tests, e) in
-    (grind (arith, nat_tests, is, same), grind (arith, nat_tests, is, same), grind (arith, nat_tests, is, same), grind (arith, nat_tests, is, same))
+    let is : n ≡ c + 1 = grind (arith, nat_tests, e) in (
+      grind (arith, nat_tests, is, same),
+      grind (arith, nat_tests, is, same),
+      grind (arith, nat_tests, is, same),
+      grind (arith, nat_tests, is, same),
+    )
 
 both : (x y : Bool) → (x && y) ≡ true → (x ≡ true) × (y ≡ true)
 both true true e = (refl, refl)
@@ -170,33 +226,47 @@ same_list xs = (bytes_eq-Decides xs xs).1 refl
 
 -- ---- each kind of request
 
-line_passes : (stories : List Story) (g : List Command) (s : ℕ) (key : List ℕ) (n win : ℕ) (text : List ℕ) (term : ℕ)
-    → is_absent g (Line s key n win text term) ≡ false → is_changed stories g (Line s key n win text term) ≡ false → is_fresh g (Line s key n win text term) ≡ true
+line_passes : (stories : List Story) (g : List Command) (s : ℕ) (key : List ℕ)
+    (n win : ℕ) (text : List ℕ) (term : ℕ)
+    → is_absent g (Line s key n win text term) ≡ false
+    → is_changed stories g (Line s key n win text term) ≡ false
+    → is_fresh g (Line s key n win text term) ≡ true
     → Passes stories (joined g (commands.Line win term text)) (Line s key n win text term)
-line_passes stories [] s key n win text term a u f = absurd (let k = known (nat_le 64 s) false a in cc)
+line_passes stories [] s key n win text term a u f =
+    absurd (let k = known (nat_le 64 s) false a in cc)
 line_passes stories (commands.Open k t d sd cl ro b ∷ cs) s key n win text term a u f =
     let head = commands.Open k t d sd cl ro b in
     let x = commands.Line win term text in
     let is = known (nat_le 64 s) (bytes_eq k key && (is_in_use (head ∷ cs) || false)) a in
     let keys = both (bytes_eq k key) (is_in_use (head ∷ cs) || false) is.1 in
-    let ns = numbers n (command_count (head ∷ cs)) (command_count (head ∷ (cs ++ x ∷ []))) f (count-joined head cs x) in
+    let ns =
+    numbers n (command_count (head ∷ cs)) (command_count (head ∷ (cs ++ x ∷ []))) f
+    (count-joined head cs x) in
     record {
       present = rw (is.0, keys.0, last_of-joined head cs x) refl;
       taken = refl;
       missing = refl;
       changed = u;
       early = ns.0;
-      different = rw (ns.1, last_of-joined head cs x, same_number win, same_number term, same_list text) refl;
+      different =
+          rw (ns.1, last_of-joined head cs x, same_number win, same_number term, same_list text)
+          refl;
       ahead = ns.2;
       stale = ns.3;
     }
-line_passes stories (commands.Line w t x ∷ cs) s key n win text term a u f = absurd (let k = known (nat_le 64 s) false a in cc)
-line_passes stories (commands.Char w c ∷ cs) s key n win text term a u f = absurd (let k = known (nat_le 64 s) false a in cc)
-line_passes stories (commands.File x ∷ cs) s key n win text term a u f = absurd (let k = known (nat_le 64 s) false a in cc)
-line_passes stories (commands.Close ∷ cs) s key n win text term a u f = absurd (let k = known (nat_le 64 s) false a in cc)
+line_passes stories (commands.Line w t x ∷ cs) s key n win text term a u f =
+    absurd (let k = known (nat_le 64 s) false a in cc)
+line_passes stories (commands.Char w c ∷ cs) s key n win text term a u f =
+    absurd (let k = known (nat_le 64 s) false a in cc)
+line_passes stories (commands.File x ∷ cs) s key n win text term a u f =
+    absurd (let k = known (nat_le 64 s) false a in cc)
+line_passes stories (commands.Close ∷ cs) s key n win text term a u f =
+    absurd (let k = known (nat_le 64 s) false a in cc)
 
 char_passes : (stories : List Story) (g : List Command) (s : ℕ) (key : List ℕ) (n win code : ℕ)
-    → is_absent g (Char s key n win code) ≡ false → is_changed stories g (Char s key n win code) ≡ false → is_fresh g (Char s key n win code) ≡ true
+    → is_absent g (Char s key n win code) ≡ false
+    → is_changed stories g (Char s key n win code) ≡ false
+    → is_fresh g (Char s key n win code) ≡ true
     → Passes stories (joined g (commands.Char win code)) (Char s key n win code)
 char_passes stories [] s key n win code a u f = absurd (let k = known (nat_le 64 s) false a in cc)
 char_passes stories (commands.Open k t d sd cl ro b ∷ cs) s key n win code a u f =
@@ -204,7 +274,9 @@ char_passes stories (commands.Open k t d sd cl ro b ∷ cs) s key n win code a u
     let x = commands.Char win code in
     let is = known (nat_le 64 s) (bytes_eq k key && (is_in_use (head ∷ cs) || false)) a in
     let keys = both (bytes_eq k key) (is_in_use (head ∷ cs) || false) is.1 in
-    let ns = numbers n (command_count (head ∷ cs)) (command_count (head ∷ (cs ++ x ∷ []))) f (count-joined head cs x) in
+    let ns =
+    numbers n (command_count (head ∷ cs)) (command_count (head ∷ (cs ++ x ∷ []))) f
+    (count-joined head cs x) in
     record {
       present = rw (is.0, keys.0, last_of-joined head cs x) refl;
       taken = refl;
@@ -215,13 +287,20 @@ char_passes stories (commands.Open k t d sd cl ro b ∷ cs) s key n win code a u
       ahead = ns.2;
       stale = ns.3;
     }
-char_passes stories (commands.Line w t x ∷ cs) s key n win code a u f = absurd (let k = known (nat_le 64 s) false a in cc)
-char_passes stories (commands.Char w c ∷ cs) s key n win code a u f = absurd (let k = known (nat_le 64 s) false a in cc)
-char_passes stories (commands.File x ∷ cs) s key n win code a u f = absurd (let k = known (nat_le 64 s) false a in cc)
-char_passes stories (commands.Close ∷ cs) s key n win code a u f = absurd (let k = known (nat_le 64 s) false a in cc)
+char_passes stories (commands.Line w t x ∷ cs) s key n win code a u f =
+    absurd (let k = known (nat_le 64 s) false a in cc)
+char_passes stories (commands.Char w c ∷ cs) s key n win code a u f =
+    absurd (let k = known (nat_le 64 s) false a in cc)
+char_passes stories (commands.File x ∷ cs) s key n win code a u f =
+    absurd (let k = known (nat_le 64 s) false a in cc)
+char_passes stories (commands.Close ∷ cs) s key n win code a u f =
+    absurd (let k = known (nat_le 64 s) false a in cc)
 
-file_passes : (stories : List Story) (g : List Command) (s : ℕ) (key : List ℕ) (n : ℕ) (name : List ℕ)
-    → is_absent g (File s key n name) ≡ false → is_changed stories g (File s key n name) ≡ false → is_fresh g (File s key n name) ≡ true
+file_passes : (stories : List Story) (g : List Command) (s : ℕ) (key : List ℕ) (n : ℕ)
+    (name : List ℕ)
+    → is_absent g (File s key n name) ≡ false
+    → is_changed stories g (File s key n name) ≡ false
+    → is_fresh g (File s key n name) ≡ true
     → Passes stories (joined g (commands.File name)) (File s key n name)
 file_passes stories [] s key n name a u f = absurd (let k = known (nat_le 64 s) false a in cc)
 file_passes stories (commands.Open k t d sd cl ro b ∷ cs) s key n name a u f =
@@ -229,7 +308,9 @@ file_passes stories (commands.Open k t d sd cl ro b ∷ cs) s key n name a u f =
     let x = commands.File name in
     let is = known (nat_le 64 s) (bytes_eq k key && (is_in_use (head ∷ cs) || false)) a in
     let keys = both (bytes_eq k key) (is_in_use (head ∷ cs) || false) is.1 in
-    let ns = numbers n (command_count (head ∷ cs)) (command_count (head ∷ (cs ++ x ∷ []))) f (count-joined head cs x) in
+    let ns =
+    numbers n (command_count (head ∷ cs)) (command_count (head ∷ (cs ++ x ∷ []))) f
+    (count-joined head cs x) in
     record {
       present = rw (is.0, keys.0, last_of-joined head cs x) refl;
       taken = refl;
@@ -240,10 +321,14 @@ file_passes stories (commands.Open k t d sd cl ro b ∷ cs) s key n name a u f =
       ahead = ns.2;
       stale = ns.3;
     }
-file_passes stories (commands.Line w t x ∷ cs) s key n name a u f = absurd (let k = known (nat_le 64 s) false a in cc)
-file_passes stories (commands.Char w c ∷ cs) s key n name a u f = absurd (let k = known (nat_le 64 s) false a in cc)
-file_passes stories (commands.File x ∷ cs) s key n name a u f = absurd (let k = known (nat_le 64 s) false a in cc)
-file_passes stories (commands.Close ∷ cs) s key n name a u f = absurd (let k = known (nat_le 64 s) false a in cc)
+file_passes stories (commands.Line w t x ∷ cs) s key n name a u f =
+    absurd (let k = known (nat_le 64 s) false a in cc)
+file_passes stories (commands.Char w c ∷ cs) s key n name a u f =
+    absurd (let k = known (nat_le 64 s) false a in cc)
+file_passes stories (commands.File x ∷ cs) s key n name a u f =
+    absurd (let k = known (nat_le 64 s) false a in cc)
+file_passes stories (commands.Close ∷ cs) s key n name a u f =
+    absurd (let k = known (nat_le 64 s) false a in cc)
 
 close_passes : (stories : List Story) (g : List Command) (s : ℕ) (key : List ℕ) (n : ℕ)
     → is_absent g (Close s key n) ≡ false → is_fresh g (Close s key n) ≡ true
@@ -252,9 +337,14 @@ close_passes stories [] s key n a f = absurd (let k = known (nat_le 64 s) false 
 close_passes stories (commands.Open k t d sd cl ro b ∷ cs) s key n a f =
     let head = commands.Open k t d sd cl ro b in
     let x = commands.Close in
-    let is = known (nat_le 64 s) (bytes_eq k key && (is_in_use (head ∷ cs) || (n == command_count (head ∷ cs)))) a in
-    let keys = both (bytes_eq k key) (is_in_use (head ∷ cs) || (n == command_count (head ∷ cs))) is.1 in
-    let ns = numbers n (command_count (head ∷ cs)) (command_count (head ∷ (cs ++ x ∷ []))) f (count-joined head cs x) in
+    let is =
+    known (nat_le 64 s)
+    (bytes_eq k key && (is_in_use (head ∷ cs) || (n == command_count (head ∷ cs)))) a in
+    let keys =
+    both (bytes_eq k key) (is_in_use (head ∷ cs) || (n == command_count (head ∷ cs))) is.1 in
+    let ns =
+    numbers n (command_count (head ∷ cs)) (command_count (head ∷ (cs ++ x ∷ []))) f
+    (count-joined head cs x) in
     record {
       present = rw (is.0, keys.0, last_of-joined head cs x, ns.1) refl;
       taken = refl;
@@ -265,24 +355,34 @@ close_passes stories (commands.Open k t d sd cl ro b ∷ cs) s key n a f =
       ahead = ns.2;
       stale = ns.3;
     }
-close_passes stories (commands.Line w t x ∷ cs) s key n a f = absurd (let k = known (nat_le 64 s) false a in cc)
-close_passes stories (commands.Char w c ∷ cs) s key n a f = absurd (let k = known (nat_le 64 s) false a in cc)
-close_passes stories (commands.File x ∷ cs) s key n a f = absurd (let k = known (nat_le 64 s) false a in cc)
-close_passes stories (commands.Close ∷ cs) s key n a f = absurd (let k = known (nat_le 64 s) false a in cc)
+close_passes stories (commands.Line w t x ∷ cs) s key n a f =
+    absurd (let k = known (nat_le 64 s) false a in cc)
+close_passes stories (commands.Char w c ∷ cs) s key n a f =
+    absurd (let k = known (nat_le 64 s) false a in cc)
+close_passes stories (commands.File x ∷ cs) s key n a f =
+    absurd (let k = known (nat_le 64 s) false a in cc)
+close_passes stories (commands.Close ∷ cs) s key n a f =
+    absurd (let k = known (nat_le 64 s) false a in cc)
 
-open_passes : (stories : List Story) (g : List Command) (s : ℕ) (key : List ℕ) (story seed cols rows budget : ℕ) (there : Option Story) (x : Command)
+open_passes : (stories : List Story) (g : List Command) (s : ℕ) (key : List ℕ)
+    (story seed cols rows budget : ℕ) (there : Option Story) (x : Command)
     → is_absent g (Open s key story seed cols rows budget) ≡ false → story_at stories story ≡ there
-    → opening_command there (λ digest. commands.Open key story digest seed cols rows budget) ≡ Some x
+    → opening_command there (λ digest. commands.Open key story digest seed cols rows budget)
+    ≡ Some x
     → (is_open x ≡ true) × Passes stories (x ∷ []) (Open s key story seed cols rows budget)
 open_passes stories g s key story seed cols rows budget None x a t e = absurd cc
 open_passes stories g s key story seed cols rows budget (Some file) x a t e =
     let is : commands.Open key story file.digest seed cols rows budget ≡ x = some_is _ x e in
     let far = (known (nat_le 64 s) true a).0 in
-    subst (λ (y : Command). (is_open y ≡ true) × Passes stories (y ∷ []) (Open s key story seed cols rows budget)) is (
+    subst (λ (y : Command).
+    (is_open y ≡ true) × Passes stories (y ∷ []) (Open s key story seed cols rows budget)) is (
       refl,
       record {
         present = rw far refl;
-        taken = rw (same_list key, same_number story, same_number seed, same_number cols, same_number rows) refl;
+        taken =
+            rw
+            (same_list key, same_number story, same_number seed, same_number cols, same_number rows)
+            refl;
         missing = refl;
         changed = rw (t, same_list file.digest) refl;
         early = refl;
@@ -298,48 +398,77 @@ record Again (stories : List Story) (game old : List Command) (request : Request
   pub passes : Passes stories game request
   pub number : shown_number game request ≡ shown_number old request
 
-joins : (stories : List Story) (history : List Command) (request : Request) (x command : Command) → Some x ≡ Some command → is_open x ≡ false
-    → Passes stories (joined (game_of history) x) request → Passes stories (game_of (history ++ command ∷ [])) request
+joins : (stories : List Story) (history : List Command) (request : Request) (x command : Command)
+    → Some x ≡ Some command → is_open x ≡ false
+    → Passes stories (joined (game_of history) x) request
+    → Passes stories (game_of (history ++ command ∷ [])) request
 joins stories history request x command same shut p =
     let grown = game_of-append history x shut in
-    subst (λ (c : Command). Passes stories (game_of (history ++ c ∷ [])) request) (some_is x command same)
+    subst (λ (c : Command). Passes stories (game_of (history ++ c ∷ [])) request)
+    (some_is x command same)
     (subst (λ (g : List Command). Passes stories g request) (sym grown) p)
 
-comes_again : (stories : List Story) (history : List Command) (request : Request) (command : Command) → Passed stories history request command
+comes_again : (stories : List Story) (history : List Command) (request : Request)
+    (command : Command)
+    → Passed stories history request command
     → Again stories (game_of (history ++ command ∷ [])) (game_of history) request
 comes_again stories history (Open s key story seed cols rows budget) command p =
-    let o = open_passes stories (game_of history) s key story seed cols rows budget (story_at stories story) command p.present refl p.asked in
+    let o =
+    open_passes stories (game_of history) s key story seed cols rows budget
+    (story_at stories story) command p.present refl p.asked in
     record {
-      passes = subst (λ (g : List Command). Passes stories g (Open s key story seed cols rows budget)) (sym (game_of-append-open history command o.0)) o.1;
+      passes =
+          subst (λ (g : List Command). Passes stories g (Open s key story seed cols rows budget))
+          (sym (game_of-append-open history command o.0)) o.1;
       number = refl;
     }
 comes_again stories history (Line s key n win text term) command p = record {
-  passes = joins stories history _ (commands.Line win term text) command p.asked refl (line_passes stories (game_of history) s key n win text term p.present p.unchanged p.fresh);
+  passes =
+      joins stories history _ (commands.Line win term text) command p.asked refl
+      (line_passes stories (game_of history) s key n win text term p.present p.unchanged p.fresh);
   number = refl;
 }
 comes_again stories history (Char s key n win code) command p = record {
-  passes = joins stories history _ (commands.Char win code) command p.asked refl (char_passes stories (game_of history) s key n win code p.present p.unchanged p.fresh);
+  passes =
+      joins stories history _ (commands.Char win code) command p.asked refl
+      (char_passes stories (game_of history) s key n win code p.present p.unchanged p.fresh);
   number = refl;
 }
 comes_again stories history (File s key n name) command p = record {
-  passes = joins stories history _ (commands.File name) command p.asked refl (file_passes stories (game_of history) s key n name p.present p.unchanged p.fresh);
+  passes =
+      joins stories history _ (commands.File name) command p.asked refl
+      (file_passes stories (game_of history) s key n name p.present p.unchanged p.fresh);
   number = refl;
 }
 comes_again stories history (Last s key) command p = absurd (let e = p.asked in cc)
 comes_again stories history (Close s key n) command p = record {
-  passes = joins stories history _ commands.Close command p.asked refl (close_passes stories (game_of history) s key n p.present p.fresh);
+  passes =
+      joins stories history _ commands.Close command p.asked refl
+      (close_passes stories (game_of history) s key n p.present p.fresh);
   number = refl;
 }
 
-pub repeats : (stories : List Story) (history : List Command) (request : Request) (command : Command) → (answer stories history request).accepted ≡ Some command
+pub repeats : (stories : List Story) (history : List Command) (request : Request)
+    (command : Command)
+    → (answer stories history request).accepted ≡ Some command
     → answer stories (history ++ command ∷ []) request ≡ again (answer stories history request)
 repeats stories history request command e =
     let p = passed stories history request command e in
     let game = game_of history in
     let grown = game_of (history ++ command ∷ []) in
     let a = comes_again stories history request command p in
-    let first = answer-none stories history request (Some command) p.told (taken-some stories game request command p.fresh p.asked) in
-    let second = answer-none stories (history ++ command ∷ []) request None (none_holds stories (history ++ command ∷ []) grown request a.passes) (nothing_accepted stories grown request a.passes.stale) in
-    second ∙ ap (λ (n : ℕ). shows stories (history ++ command ∷ []) n request) a.number ∙ sym (ap again first) where
+    let first =
+    answer-none stories history request (Some command) p.told
+    (taken-some stories game request command p.fresh p.asked) in
+    let second =
+    answer-none stories (history ++ command ∷ []) request None
+    (none_holds stories (history ++ command ∷ []) grown request a.passes)
+    (nothing_accepted stories grown request a.passes.stale) in
+    second
+    ∙ ap (λ (n : ℕ). shows stories (history ++ command ∷ []) n request) a.number
+    ∙ sym (ap again first) where
       shows : List Story → List Command → ℕ → Request → Decision
-      shows stories commands n request = record { reply = replies.Show (session_of request) n (game_show stories (game_of commands)); accepted = None }
+      shows stories commands n request = record {
+        reply = replies.Show (session_of request) n (game_show stories (game_of commands));
+        accepted = None;
+      }

@@ -7,11 +7,14 @@ use Rattle.story_run.specs.World.{WorldState}
 use Rattle.session_core.specs.declared.entry.Entry.{Entry}
 use Rattle.session_core.specs.declared.entry.Entry.TheVariants.{Accepted, Faulted}
 use Rattle.session_core.specs.declared.entry.Outcome.{Outcome}
-use Rattle.session_core.specs.declared.entry.Outcome.TheVariants.{Answered, DiskFailed, OutOfMemory, Forgotten}
-use Rattle.session_core.specs.Turning.{AddsTo, commands_in, decision_in, decision_on, turn_in, turn_met, turn_of}
+use Rattle.session_core.specs.declared.entry.Outcome.TheVariants.{Answered, DiskFailed}
+use Rattle.session_core.specs.declared.entry.Outcome.TheVariants.{OutOfMemory, Forgotten}
+use Rattle.session_core.specs.Turning.{AddsTo, commands_in, decision_in}
+use Rattle.session_core.specs.Turning.{decision_on, turn_in, turn_met, turn_of}
 
 -- whatever is decided and met, a turn adds nothing, or one entry of its number
-pub met_adds : (h : List Entry) (by : ℕ) (reply : Reply) (accepted : Option Command) (outcome : Outcome)
+pub met_adds : (h : List Entry) (by : ℕ) (reply : Reply) (accepted : Option Command)
+    (outcome : Outcome)
     → AddsTo h by (turn_met h by reply accepted outcome).history
 met_adds h by reply None Answered = inl refl
 met_adds h by reply None (DiskFailed from to) = inl refl
@@ -22,14 +25,18 @@ met_adds h by reply (Some c) (DiskFailed from to) = inr (Faulted by from to, ref
 met_adds h by reply (Some c) OutOfMemory = inl refl
 met_adds h by reply (Some c) Forgotten = inr (Accepted by c, refl, refl)
 
-pub turn_adds : (stories : List Story) (budget : ℕ) (h : List Entry) (by : ℕ) (line : List ℕ) (outcome : Outcome)
+pub turn_adds : (stories : List Story) (budget : ℕ) (h : List Entry) (by : ℕ)
+    (line : List ℕ) (outcome : Outcome)
     → AddsTo h by (turn_of stories budget h by line outcome).history
 unfolding turn_of
 turn_adds stories budget h by line outcome =
-    met_adds h by (decision_on stories budget (commands_in h) line).reply (decision_on stories budget (commands_in h) line).accepted outcome
+    met_adds h by (decision_on stories budget (commands_in h) line).reply
+    (decision_on stories budget (commands_in h) line).accepted outcome
 
-pub turn_in_adds : (stories : List Story) (budget : ℕ) (h : List Entry) (now : Option WorldState) (by : ℕ) (line : List ℕ) (outcome : Outcome)
+pub turn_in_adds : (stories : List Story) (budget : ℕ) (h : List Entry)
+    (now : Option WorldState) (by : ℕ) (line : List ℕ) (outcome : Outcome)
     → AddsTo h by (turn_in stories budget h now by line outcome).history
 unfolding turn_in
 turn_in_adds stories budget h now by line outcome =
-    met_adds h by (decision_in stories budget (commands_in h) now line).reply (decision_in stories budget (commands_in h) now line).accepted outcome
+    met_adds h by (decision_in stories budget (commands_in h) now line).reply
+    (decision_in stories budget (commands_in h) now line).accepted outcome

@@ -1,5 +1,6 @@
 -- A desk that is made warm.
-use Rattle.std.proofs.Common.{◌≡◌, ◌≢◌, ℕ, ◌+◌, ◌≤◌, Bool, true, false, IsTrue, List, length, Option, Some, IsSome, Result, Ok, Err, refl, sym, subst, ◌∙◌}
+use Rattle.std.proofs.Common.{◌≡◌, ◌≢◌, ℕ, ◌+◌, ◌≤◌, Bool, true, false, IsTrue, List, length}
+use Rattle.std.proofs.Common.{Option, Some, IsSome, Result, Ok, Err, refl, sym, subst, ◌∙◌}
 use Rattle.std.specs.Prelude.{OnOk}
 use Rattle.disk_model.specs.Disk.{OnlyLooks, Rose}
 use Rattle.turn_cell.specs.Passes.{seen}
@@ -40,100 +41,171 @@ is_some : (o : Option ℕ) (q : ℕ) → o ≡ Some q → IsSome o
 is_some o q e = rw e refl
 
 -- it isn't cold to any request then
-warms_tell : {D : Type 0} (tells : D → Bool) (seen_of : D → List ℕ) (faults : D → ℕ) (request : Request) (old new : SharedState D) (before after : ℕ)
+warms_tell : {D : Type 0} (tells : D → Bool) (seen_of : D → List ℕ) (faults : D → ℕ)
+    (request : Request) (old new : SharedState D) (before after : ℕ)
     → IsWarmed tells seen_of faults old new before after → verdict new.desk request ≢ Cold
 warms_tell tells seen_of faults request old new before after w =
     λ e. let no = warm_tells new.desk request (rw w.holds refl) e in absurd cc
 
-pub warms_tell_ok : {D T E : Type 0} (tells : D → Bool) (seen_of : D → List ℕ) (faults : D → ℕ) (request : Request) (old new : SharedState D) (before after : ℕ) (done : Result T E)
-    → OnOk done (IsWarmed tells seen_of faults old new before after) → OnOk done (verdict new.desk request ≢ Cold)
-warms_tell_ok tells seen_of faults request old new before after (Ok x) w = warms_tell tells seen_of faults request old new before after w
+pub warms_tell_ok : {D T E : Type 0} (tells : D → Bool) (seen_of : D → List ℕ) (faults : D → ℕ)
+    (request : Request) (old new : SharedState D) (before after : ℕ) (done : Result T E)
+    → OnOk done (IsWarmed tells seen_of faults old new before after)
+    → OnOk done (verdict new.desk request ≢ Cold)
+warms_tell_ok tells seen_of faults request old new before after (Ok x) w =
+    warms_tell tells seen_of faults request old new before after w
 warms_tell_ok tells seen_of faults request old new before after (Err e) w = tt
 
-module _ {D : Type 0} (tells : D → Bool) (seen_of : D → List ℕ) (room label faults reach : D → ℕ) where
+module _ {D : Type 0} (tells : D → Bool) (seen_of : D → List ℕ)
+    (room label faults reach : D → ℕ) where
   abbrev Whole : List Mark → Option ℕ → SharedState D → Type 0
   Whole l place state = IsWhole tells seen_of room label faults reach l place state
 
   -- a session in use has an OPEN row
-  pub has_place : (l : List Mark) (place : Option ℕ) (old : SharedState D) → Whole l place old → is_in_use (game old.desk) ≡ true → IsSome place
+  pub has_place : (l : List Mark) (place : Option ℕ) (old : SharedState D)
+      → Whole l place old → is_in_use (game old.desk) ≡ true
+      → IsSome place
   has_place l place old w used =
-      let q = in_use_row (rows_of (seen old.pass)) old.desk.session old.desk.commands (rows-seen l old.desk old.pass w.marked) used in
+      let q =
+      in_use_row (rows_of (seen old.pass)) old.desk.session old.desk.commands
+      (rows-seen l old.desk old.pass w.marked) used in
       is_some place q.0 (w.row ∙ q.1)
 
-  pub warms_held : (l : List Mark) (place : Option ℕ) (old : SharedState D) (desk : DeskState) (history : List Entry) (saves : SavesState D) (stories : List Story)
-      (g : List Command) (row : ℕ) (o : Option WorldState) (world : WorldState) (before after : ℕ) → Whole l place old → place ≡ Some row
-      → stories ≡ old.desk.stories → g ≡ game old.desk → o ≡ Some world → desk ≡ warmed old.desk world
-      → WarmsFrom (tells old.saves.store.disk) (seen_of old.saves.store.disk) row (faults old.saves.store.disk) (faults saves.store.disk) stories g o before after
-      → IsWarmed tells seen_of faults old (record old { desk = desk; history = history; saves = saves }) before after
-  warms_held l place old desk history saves stories g row o world before after w at same game_is is holds warms = record {
-    world = world;
-    holds = holds;
-    place = row;
-    row = sym w.row ∙ at;
-    warms = subst (λ (x : Option WorldState). From old.desk.stories (game old.desk) x) is
-        (subst (λ (x : List Command). From old.desk.stories x o) game_is (subst (λ (x : List Story). From x g o) same warms));
-  }
+  pub warms_held : (l : List Mark) (place : Option ℕ) (old : SharedState D) (desk : DeskState)
+      (history : List Entry) (saves : SavesState D) (stories : List Story)
+      (g : List Command) (row : ℕ) (o : Option WorldState) (world : WorldState) (before after : ℕ)
+      → Whole l place old → place ≡ Some row
+      → stories ≡ old.desk.stories → g ≡ game old.desk
+      → o ≡ Some world → desk ≡ warmed old.desk world
+      → WarmsFrom (tells old.saves.store.disk) (seen_of old.saves.store.disk) row
+      (faults old.saves.store.disk) (faults saves.store.disk) stories g o before after
+      → IsWarmed tells seen_of faults old
+      (record old { desk = desk; history = history; saves = saves }) before after
+  warms_held l place old desk history saves stories g row o world
+      before after w at same game_is is holds warms = record {
+        world = world;
+        holds = holds;
+        place = row;
+        row = sym w.row ∙ at;
+        warms = subst (λ (x : Option WorldState). From old.desk.stories (game old.desk) x) is
+            (subst (λ (x : List Command). From old.desk.stories x o) game_is
+            (subst (λ (x : List Story). From x g o) same warms));
+      }
     where
       From : List Story → List Command → Option WorldState → Type 0
-      From x y z = WarmsFrom (tells old.saves.store.disk) (seen_of old.saves.store.disk) row (faults old.saves.store.disk) (faults saves.store.disk) x y z before after
+      From x y z =
+          WarmsFrom (tells old.saves.store.disk) (seen_of old.saves.store.disk) row
+          (faults old.saves.store.disk) (faults saves.store.disk) x y z before after
 
   -- on a sound desk with the session's own world
-  pub warm_own : (l : List Mark) (place : Option ℕ) (old : SharedState D) (stories : List Story) (g : List Command) (row : ℕ) (o : Option WorldState) (world : WorldState)
-      → Whole l place old → place ≡ Some row → stories ≡ old.desk.stories → g ≡ game old.desk → o ≡ Some world
+  pub warm_own : (l : List Mark) (place : Option ℕ) (old : SharedState D) (stories : List Story)
+      (g : List Command) (row : ℕ) (o : Option WorldState) (world : WorldState)
+      → Whole l place old → place ≡ Some row
+      → stories ≡ old.desk.stories → g ≡ game old.desk
+      → o ≡ Some world
       → is_other_story old.desk.stories (game old.desk) ≡ false
-      → ((rows : List ℕ) → IsTrue (tells old.saves.store.disk) → last_row rows ≡ Some row → is_other_story stories g ≡ false
+      → ((rows : List ℕ) → IsTrue (tells old.saves.store.disk)
+      → last_row rows ≡ Some row
+      → is_other_story stories g ≡ false
       → IsAgreed seen_of stories rows g old.saves.store → o ≡ world_of stories g)
-      → IsSoundDesk tells seen_of (desk_tag old) → HoldsOwnWorld old.desk.stories (game old.desk) (Current world)
+      → IsSoundDesk tells seen_of (desk_tag old)
+      → HoldsOwnWorld old.desk.stories (game old.desk) (Current world)
   warm_own l place old stories g row o world w at same game_is is other value sound =
-      let told = still_tells tells room label faults reach old.store old.saves.store w.store sound.0 in
-      let v : (rows : List ℕ) → IsTrue (tells old.saves.store.disk) → last_row rows ≡ Some row → is_other_story old.desk.stories (game old.desk) ≡ false
-      → IsAgreed seen_of old.desk.stories rows (game old.desk) old.saves.store → o ≡ world_of old.desk.stories (game old.desk) =
-      subst (λ (y : List Command). (rows : List ℕ) → IsTrue (tells old.saves.store.disk) → last_row rows ≡ Some row → is_other_story old.desk.stories y ≡ false
-      → IsAgreed seen_of old.desk.stories rows y old.saves.store → o ≡ world_of old.desk.stories y) game_is
-      (subst (λ (x : List Story). (rows : List ℕ) → IsTrue (tells old.saves.store.disk) → last_row rows ≡ Some row → is_other_story x g ≡ false
+      let told =
+      still_tells tells room label faults reach old.store old.saves.store w.store sound.0 in
+      let v : (rows : List ℕ)
+      → IsTrue (tells old.saves.store.disk)
+      → last_row rows ≡ Some row
+      → is_other_story old.desk.stories (game old.desk) ≡ false
+      → IsAgreed seen_of old.desk.stories rows (game old.desk) old.saves.store
+      → o ≡ world_of old.desk.stories (game old.desk) =
+      subst (λ (y : List Command). (rows : List ℕ)
+      → IsTrue (tells old.saves.store.disk)
+      → last_row rows ≡ Some row
+      → is_other_story old.desk.stories y ≡ false
+      → IsAgreed seen_of old.desk.stories rows y old.saves.store → o ≡ world_of old.desk.stories y)
+      game_is
+      (subst (λ (x : List Story). (rows : List ℕ)
+      → IsTrue (tells old.saves.store.disk)
+      → last_row rows ≡ Some row → is_other_story x g ≡ false
       → IsAgreed seen_of x rows g old.saves.store → o ≡ world_of x g) same value) in
       sym (v (open_rows old) told (sym w.row ∙ at) other (w.own sound).agreed) ∙ is
 
   -- and in so many steps
-  pub warm_cost : (l : List Mark) (place : Option ℕ) (old : SharedState D) (saves : SavesState D) (stories : List Story) (g : List Command) (row : ℕ) (before after : ℕ)
+  pub warm_cost : (l : List Mark) (place : Option ℕ) (old : SharedState D) (saves : SavesState D)
+      (stories : List Story) (g : List Command) (row : ℕ) (before after : ℕ)
       → Whole l place old → place ≡ Some row → stories ≡ old.desk.stories → g ≡ game old.desk
       → is_other_story old.desk.stories (game old.desk) ≡ false
-      → ((rows : List ℕ) → IsTrue (tells old.saves.store.disk) → (Rose (faults old.saves.store.disk) (faults saves.store.disk) → ⊥) → last_row rows ≡ Some row
+      → ((rows : List ℕ) → IsTrue (tells old.saves.store.disk)
+      → (Rose (faults old.saves.store.disk) (faults saves.store.disk) → ⊥)
+      → last_row rows ≡ Some row
       → is_other_story stories g ≡ false → IsAgreed seen_of stories rows g old.saves.store
-      → after ≡ before + turns_after stories g (count_in (area_given (newest_area row (length (inputs_of g)) (seen_of old.saves.store.disk)))))
-      → (p : ℕ) → IsSoundDesk tells seen_of (desk_tag old) → (Rose (faults old.saves.store.disk) (faults saves.store.disk) → ⊥) → last_row (open_rows old) ≡ Some p
-      → after ≡ before + turns_after old.desk.stories (game old.desk) (count_in (area_given (newest_area p (length (inputs_of (game old.desk))) (seen_of old.saves.store.disk))))
-  warm_cost l place old saves stories g row before after w at same game_is other cost p sound steady last =
-      let told = still_tells tells room label faults reach old.store old.saves.store w.store sound.0 in
+      → after ≡ before + turns_after stories g (count_in
+      (area_given (newest_area row (length (inputs_of g)) (seen_of old.saves.store.disk)))))
+      → (p : ℕ) → IsSoundDesk tells seen_of (desk_tag old)
+      → (Rose (faults old.saves.store.disk) (faults saves.store.disk) → ⊥)
+      → last_row (open_rows old) ≡ Some p
+      → after ≡ before + turns_after old.desk.stories (game old.desk)
+      (count_in (area_given
+      (newest_area p (length (inputs_of (game old.desk))) (seen_of old.saves.store.disk))))
+  warm_cost l place old saves stories g row
+      before after w at same game_is other cost p sound steady last =
+      let told =
+      still_tells tells room label faults reach old.store old.saves.store w.store sound.0 in
       let is : row ≡ p = some_is (sym at ∙ w.row ∙ last) in
-      let taken = cost (open_rows old) told steady (sym w.row ∙ at) (rw (same, game_is) other) (rw (same, game_is) (w.own sound).agreed) in
-      subst (λ (q : ℕ). after ≡ before + turns_after old.desk.stories (game old.desk) (count_in (area_given (newest_area q (length (inputs_of (game old.desk))) (seen_of old.saves.store.disk))))) is
+      let taken =
+      cost (open_rows old) told steady (sym w.row ∙ at) (rw (same, game_is) other)
+      (rw (same, game_is) (w.own sound).agreed) in
+      subst (λ (q : ℕ). after ≡ before + turns_after old.desk.stories (game old.desk)
+      (count_in (area_given
+      (newest_area q (length (inputs_of (game old.desk))) (seen_of old.saves.store.disk))))) is
       (rw (same, game_is) at taken)
     where
       some_is : {q r : ℕ} → Some q ≡ Some r → q ≡ r
       some_is e = cc
 
-  pub whole_warmed : (may_leave : D → List ℕ → Type 0) (moment : D → ℕ) (left_since : D → ℕ → List ℕ → Type 0)
-      (l : List Mark) (place : Option ℕ) (old : SharedState D) (desk : DeskState) (saves : SavesState D) (world : WorldState) → Whole l place old
+  pub whole_warmed : (may_leave : D → List ℕ → Type 0) (moment : D → ℕ)
+      (left_since : D → ℕ → List ℕ → Type 0)
+      (l : List Mark) (place : Option ℕ) (old : SharedState D) (desk : DeskState)
+      (saves : SavesState D) (world : WorldState)
+      → Whole l place old
       → old.history ≡ commands_woven l old.desk.commands → desk ≡ warmed old.desk world
-      → OnlyLooks tells may_leave moment left_since reach room label old.saves.store.disk saves.store.disk
+      → OnlyLooks tells may_leave moment left_since reach room label old.saves.store.disk
+      saves.store.disk
       → faults old.saves.store.disk ≤ faults saves.store.disk
-      → ((side : Side) → IsTrue (tells old.saves.store.disk) → store_area seen_of saves.store side ≡ store_area seen_of old.saves.store side)
-      → (saves.store.made ≡ old.saves.store.made) × (saves.store.slots ≡ old.saves.store.slots) × (saves.missed ≡ old.saves.missed) × (saves.last ≡ old.saves.last)
-      → (IsSoundDesk tells seen_of (desk_tag old) → HoldsOwnWorld old.desk.stories (game old.desk) (Current world))
-      → Whole l place (record old { desk = desk; history = commands_woven l desk.commands; saves = saves })
-  whole_warmed may_leave moment left_since l place old desk saves world w weaves is looks counts areas slots holds =
-      rw is (subst (λ (h : List Entry). Whole l place (record old { desk = warmed old.desk world; history = h; saves = saves })) weaves
-      (whole-looked tells seen_of room label faults reach may_leave moment left_since l place old (Current world) saves w looks counts areas slots.0 slots.1 slots.2 holds))
+      → ((side : Side) → IsTrue (tells old.saves.store.disk)
+      → store_area seen_of saves.store side ≡ store_area seen_of old.saves.store side)
+      → (saves.store.made ≡ old.saves.store.made)
+      × (saves.store.slots ≡ old.saves.store.slots)
+      × (saves.missed ≡ old.saves.missed)
+      × (saves.last ≡ old.saves.last)
+      → (IsSoundDesk tells seen_of (desk_tag old)
+      → HoldsOwnWorld old.desk.stories (game old.desk) (Current world))
+      → Whole l place
+      (record old { desk = desk; history = commands_woven l desk.commands; saves = saves })
+  whole_warmed may_leave moment left_since l place old desk saves world w weaves is
+      looks counts areas slots holds =
+      rw is (subst (λ (h : List Entry).
+      Whole l place (record old { desk = warmed old.desk world; history = h; saves = saves }))
+      weaves
+      (whole-looked tells seen_of room label faults reach may_leave moment left_since l place old
+      (Current world) saves w looks counts areas slots.0 slots.1 slots.2 holds))
 
   -- where memory ran out
-  pub whole_cold : (may_leave : D → List ℕ → Type 0) (moment : D → ℕ) (left_since : D → ℕ → List ℕ → Type 0)
-      (l : List Mark) (place : Option ℕ) (old : SharedState D) (saves : SavesState D) → Whole l place old
-      → OnlyLooks tells may_leave moment left_since reach room label old.saves.store.disk saves.store.disk
+  pub whole_cold : (may_leave : D → List ℕ → Type 0) (moment : D → ℕ)
+      (left_since : D → ℕ → List ℕ → Type 0)
+      (l : List Mark) (place : Option ℕ) (old : SharedState D) (saves : SavesState D)
+      → Whole l place old
+      → OnlyLooks tells may_leave moment left_since reach room label old.saves.store.disk
+      saves.store.disk
       → faults old.saves.store.disk ≤ faults saves.store.disk
-      → ((side : Side) → IsTrue (tells old.saves.store.disk) → store_area seen_of saves.store side ≡ store_area seen_of old.saves.store side)
-      → (saves.store.made ≡ old.saves.store.made) × (saves.store.slots ≡ old.saves.store.slots) × (saves.missed ≡ old.saves.missed) × (saves.last ≡ old.saves.last)
+      → ((side : Side) → IsTrue (tells old.saves.store.disk)
+      → store_area seen_of saves.store side ≡ store_area seen_of old.saves.store side)
+      → (saves.store.made ≡ old.saves.store.made)
+      × (saves.store.slots ≡ old.saves.store.slots)
+      × (saves.missed ≡ old.saves.missed)
+      × (saves.last ≡ old.saves.last)
       → Whole l place (record old { saves = saves })
   whole_cold may_leave moment left_since l place old saves w looks counts areas slots =
-      whole-looked tells seen_of room label faults reach may_leave moment left_since l place old old.desk.held saves w looks counts areas slots.0 slots.1 slots.2
+      whole-looked tells seen_of room label faults reach may_leave moment left_since l place
+      old old.desk.held saves w looks counts areas slots.0 slots.1 slots.2
       (λ sound. (w.own sound).holds)

@@ -1,17 +1,21 @@
 -- Where an answer needs no world.
-use Rattle.std.proofs.Common.{◌≡◌, ℕ, Bool, true, false, ◌&&◌, ◌==◌, ◌+◌, cond, nat_le, List, Option, Some, None, is_none, refl, sym, ap, ◌∙◌}
+use Rattle.std.proofs.Common.{◌≡◌, ℕ, Bool, true, false, ◌&&◌, ◌==◌, ◌+◌, cond, nat_le}
+use Rattle.std.proofs.Common.{List, Option, Some, None, is_none, refl, sym, ap, ◌∙◌}
 use Rattle.gate_journal.specs.declared.command.Command.{Command}
 use Rattle.gate_journal.specs.declared.command.Command.TheVariants as commands
 use Rattle.line_words.specs.declared.request.Request.{Request}
-use Rattle.line_words.specs.declared.request.Request.TheVariants.{Open, Line, Char, File, Last, Close}
+use Rattle.line_words.specs.declared.request.Request.TheVariants.{Open, Line, Char}
+use Rattle.line_words.specs.declared.request.Request.TheVariants.{File, Last, Close}
 use Rattle.line_words.specs.declared.reply.No.{No}
 use Rattle.line_words.specs.declared.reply.Reply.TheVariants as replies
 use Rattle.story_run.specs.declared.story.Story.{Story}
 use Rattle.story_run.specs.World.{WorldState}
 use Rattle.session_core.specs.declared.decision.Decision.{Decision}
-use Rattle.session_core.specs.History.{command_count, game_of, has_key, is_in_use, story_at, world_of}
+use Rattle.session_core.specs.History.{command_count, game_of, has_key}
+use Rattle.session_core.specs.History.{is_in_use, story_at, world_of}
 use Rattle.session_core.specs.Checks.{is_fresh, opening_command}
-use Rattle.session_core.specs.Answer.{accepted_by, answer_in, decided, first_refusal, plain_checks, refusal_in, show_reply, show_with}
+use Rattle.session_core.specs.Answer.{accepted_by, answer_in, decided, first_refusal}
+use Rattle.session_core.specs.Answer.{plain_checks, refusal_in, show_reply, show_with}
 use Rattle.session_core.proofs.AnswerLemmas.{refusal_in-plain}
 use Rattle.session_core.proofs.RepeatLemmas.{all_fail}
 use Rattle.session_desk.specs.declared.held.Held.{Held}
@@ -24,14 +28,21 @@ use Rattle.session_desk.proofs.WarmLemmas.{closed_again}
 
 -- ---- the same refusal
 
-refusal_free : (stories : List Story) (history : List Command) (now other : Option WorldState) (request : Request) (fresh : Bool)
-    → first_refusal (plain_checks stories (game_of history) request) ≡ None → is_to_story (game_of history) request ≡ false → is_fresh (game_of history) request ≡ fresh
-    → refusal_in now stories history (game_of history) request ≡ refusal_in other stories history (game_of history) request
+refusal_free : (stories : List Story) (history : List Command) (now other : Option WorldState)
+    (request : Request) (fresh : Bool)
+    → first_refusal (plain_checks stories (game_of history) request) ≡ None
+    → is_to_story (game_of history) request ≡ false
+    → is_fresh (game_of history) request ≡ fresh
+    → refusal_in now stories history (game_of history) request
+    ≡ refusal_in other stories history (game_of history) request
 refusal_free stories history now other request false none free stale =
-    stale-passes stories history (game_of history) now request none stale ∙ sym (stale-passes stories history (game_of history) other request none stale)
+    stale-passes stories history (game_of history) now request none stale
+    ∙ sym (stale-passes stories history (game_of history) other request none stale)
 refusal_free stories history now other request true none free fresh =
-    past_story stories history (game_of history) now request none (checks_free stories (game_of history) now request none free fresh)
-    ∙ sym (past_story stories history (game_of history) other request none (checks_free stories (game_of history) other request none free fresh))
+    past_story stories history (game_of history) now request none
+    (checks_free stories (game_of history) now request none free fresh)
+    ∙ sym (past_story stories history (game_of history) other request none
+    (checks_free stories (game_of history) other request none free fresh))
 
 -- ---- the same show
 
@@ -39,15 +50,21 @@ not_used : (used : Bool) → (used && true) ≡ false → used ≡ false
 not_used true e = absurd cc
 not_used false e = refl
 
-open_free : (stories : List Story) (history : List Command) (now other : Option WorldState) (found : Option Story) (key : List ℕ) (story seed cols rows budget : ℕ)
+open_free : (stories : List Story) (history : List Command) (now other : Option WorldState)
+    (found : Option Story) (key : List ℕ) (story seed cols rows budget : ℕ)
     → is_in_use (game_of history) ≡ false
-    → show_with stories history now (opening_command found (λ digest. commands.Open key story digest seed cols rows budget))
-    ≡ show_with stories history other (opening_command found (λ digest. commands.Open key story digest seed cols rows budget))
+    → show_with stories history now
+    (opening_command found (λ digest. commands.Open key story digest seed cols rows budget))
+    ≡ show_with stories history other
+    (opening_command found (λ digest. commands.Open key story digest seed cols rows budget))
 open_free stories history now other None key story seed cols rows budget free = rw free refl
 open_free stories history now other (Some there) key story seed cols rows budget free = refl
 
-close_free : (stories : List Story) (history : List Command) (now other : Option WorldState) (fresh : Bool) → (fresh ≡ false → is_in_use (game_of history) ≡ false)
-    → show_with stories history now (cond fresh (Some commands.Close) None) ≡ show_with stories history other (cond fresh (Some commands.Close) None)
+close_free : (stories : List Story) (history : List Command) (now other : Option WorldState)
+    (fresh : Bool)
+    → (fresh ≡ false → is_in_use (game_of history) ≡ false)
+    → show_with stories history now (cond fresh (Some commands.Close) None)
+    ≡ show_with stories history other (cond fresh (Some commands.Close) None)
 close_free stories history now other true free = refl
 close_free stories history now other false free = rw (free refl) refl
 
@@ -59,94 +76,135 @@ used_asks : (used : Bool) → used ≡ true → (used && true) ≡ false → tru
 used_asks true u e = e
 used_asks false u e = sym u
 
-show_free : (stories : List Story) (history : List Command) (now other : Option WorldState) (request : Request)
-    → first_refusal (plain_checks stories (game_of history) request) ≡ None → is_to_story (game_of history) request ≡ false
-    → show_with stories history now (accepted_by stories (game_of history) request) ≡ show_with stories history other (accepted_by stories (game_of history) request)
+show_free : (stories : List Story) (history : List Command) (now other : Option WorldState)
+    (request : Request)
+    → first_refusal (plain_checks stories (game_of history) request) ≡ None
+    → is_to_story (game_of history) request ≡ false
+    → show_with stories history now (accepted_by stories (game_of history) request)
+    ≡ show_with stories history other (accepted_by stories (game_of history) request)
 unfolding accepted_by
 show_free stories history now other (Open s key story seed cols rows budget) none free =
     let unused = not_used (is_in_use (game_of history)) free in
-    rw unused (open_free stories history now other (story_at stories story) key story seed cols rows budget unused)
+    rw unused (open_free stories history now other
+    (story_at stories story) key story seed cols rows budget unused)
 show_free stories history now other (Line s key n win text term) none free =
     let g = game_of history in
-    let used = knows (nat_le 64 s) (has_key g key) (is_in_use g) (all_fail (plain_checks stories g (Line s key n win text term)) none).0 in
+    let used =
+    knows (nat_le 64 s) (has_key g key) (is_in_use g)
+    (all_fail (plain_checks stories g (Line s key n win text term)) none).0 in
     absurd (let e = used_asks (is_in_use g) used.1 free in cc)
 show_free stories history now other (Char s key n win code) none free =
     let g = game_of history in
-    let used = knows (nat_le 64 s) (has_key g key) (is_in_use g) (all_fail (plain_checks stories g (Char s key n win code)) none).0 in
+    let used =
+    knows (nat_le 64 s) (has_key g key) (is_in_use g)
+    (all_fail (plain_checks stories g (Char s key n win code)) none).0 in
     absurd (let e = used_asks (is_in_use g) used.1 free in cc)
 show_free stories history now other (File s key n name) none free =
     let g = game_of history in
-    let used = knows (nat_le 64 s) (has_key g key) (is_in_use g) (all_fail (plain_checks stories g (File s key n name)) none).0 in
+    let used =
+    knows (nat_le 64 s) (has_key g key) (is_in_use g)
+    (all_fail (plain_checks stories g (File s key n name)) none).0 in
     absurd (let e = used_asks (is_in_use g) used.1 free in cc)
 show_free stories history now other (Last s key) none free =
     let g = game_of history in
-    let used = knows (nat_le 64 s) (has_key g key) (is_in_use g) (all_fail (plain_checks stories g (Last s key)) none).0 in
+    let used =
+    knows (nat_le 64 s) (has_key g key) (is_in_use g)
+    (all_fail (plain_checks stories g (Last s key)) none).0 in
     absurd (let e = used_asks (is_in_use g) used.1 free in cc)
 show_free stories history now other (Close s key n) none free =
     let g = game_of history in
     close_free stories history now other (n == command_count g + 1)
-    (λ stale. closed_again stories g s key n none (none_taken (n == command_count g + 1) commands.Close stale))
+    (λ stale.
+    closed_again stories g s key n none
+    (none_taken (n == command_count g + 1) commands.Close stale))
 
 -- ---- the same answer
 
-decided_alike : (stories : List Story) (game : List Command) (f g : Option Command → List ℕ) (request : Request) (refusal : Option No)
-    → f (accepted_by stories game request) ≡ g (accepted_by stories game request) → decided stories game f request refusal ≡ decided stories game g request refusal
+decided_alike : (stories : List Story) (game : List Command) (f g : Option Command → List ℕ)
+    (request : Request) (refusal : Option No)
+    → f (accepted_by stories game request) ≡ g (accepted_by stories game request)
+    → decided stories game f request refusal ≡ decided stories game g request refusal
 decided_alike stories game f g request (Some why) e = refl
 decided_alike stories game f g request None e = ap (λ (show : List ℕ). showing show) e
   where
     showing : List ℕ → Decision
-    showing show = record { reply = show_reply game show request; accepted = accepted_by stories game request }
+    showing show =
+        record { reply = show_reply game show request; accepted = accepted_by stories game request }
 
-refused_alike : (stories : List Story) (history : List Command) (now : Option WorldState) (request : Request) (why : No)
-    → refusal_in now stories history (game_of history) request ≡ Some why → answer_in stories history now request ≡ record { reply = replies.No why; accepted = None }
+refused_alike : (stories : List Story) (history : List Command) (now : Option WorldState)
+    (request : Request) (why : No)
+    → refusal_in now stories history (game_of history) request ≡ Some why
+    → answer_in stories history now request ≡ record { reply = replies.No why; accepted = None }
 unfolding answer_in
 refused_alike stories history now request why e = rw e refl
 
-answered_free : (stories : List Story) (history : List Command) (now other : Option WorldState) (request : Request)
-    → first_refusal (plain_checks stories (game_of history) request) ≡ None → is_to_story (game_of history) request ≡ false
+answered_free : (stories : List Story) (history : List Command) (now other : Option WorldState)
+    (request : Request)
+    → first_refusal (plain_checks stories (game_of history) request) ≡ None
+    → is_to_story (game_of history) request ≡ false
     → answer_in stories history now request ≡ answer_in stories history other request
 unfolding answer_in
 answered_free stories history now other request none free =
-    ap (λ (refusal : Option No). decided stories (game_of history) (show_with stories history now) request refusal)
-    (refusal_free stories history now other request (is_fresh (game_of history) request) none free refl)
-    ∙ decided_alike stories (game_of history) (show_with stories history now) (show_with stories history other) request
-    (refusal_in other stories history (game_of history) request) (show_free stories history now other request none free)
+    ap (λ (refusal : Option No).
+    decided stories (game_of history) (show_with stories history now) request refusal)
+    (refusal_free stories history now other request
+    (is_fresh (game_of history) request) none free refl)
+    ∙ decided_alike stories (game_of history) (show_with stories history now)
+    (show_with stories history other) request
+    (refusal_in other stories history (game_of history) request)
+    (show_free stories history now other request none free)
 
-by_plain : (stories : List Story) (history : List Command) (now other : Option WorldState) (request : Request) (plain : Option No)
-    → first_refusal (plain_checks stories (game_of history) request) ≡ plain → (is_none plain && is_to_story (game_of history) request) ≡ false
+by_plain : (stories : List Story) (history : List Command) (now other : Option WorldState)
+    (request : Request) (plain : Option No)
+    → first_refusal (plain_checks stories (game_of history) request) ≡ plain
+    → (is_none plain && is_to_story (game_of history) request) ≡ false
     → answer_in stories history now request ≡ answer_in stories history other request
-by_plain stories history now other request None e free = answered_free stories history now other request e free
+by_plain stories history now other request None e free =
+    answered_free stories history now other request e free
 by_plain stories history now other request (Some why) e free =
-    refused_alike stories history now request why (sym (refusal_in-plain now stories history (game_of history) request why e))
-    ∙ sym (refused_alike stories history other request why (sym (refusal_in-plain other stories history (game_of history) request why e)))
+    refused_alike stories history now request why
+    (sym (refusal_in-plain now stories history (game_of history) request why e))
+    ∙ sym (refused_alike stories history other request why
+    (sym (refusal_in-plain other stories history (game_of history) request why e)))
 
-pub asks_no_world : (stories : List Story) (history : List Command) (now other : Option WorldState) (request : Request) → needs_world stories (game_of history) request ≡ false
+pub asks_no_world : (stories : List Story) (history : List Command) (now other : Option WorldState)
+    (request : Request)
+    → needs_world stories (game_of history) request ≡ false
     → answer_in stories history now request ≡ answer_in stories history other request
 asks_no_world stories history now other request e =
-    by_plain stories history now other request (first_refusal (plain_checks stories (game_of history) request)) refl e
+    by_plain stories history now other request
+    (first_refusal (plain_checks stories (game_of history) request)) refl e
 
 -- ---- the world by which a desk answers
 
 -- it is the session's own where what is held is
-pub record IsBy (stories : List Story) (history : List Command) (held : Held) (request : Request) : Type 0 where
+pub record IsBy (stories : List Story) (history : List Command) (held : Held)
+    (request : Request) : Type 0 where
   pub now : Option WorldState
   pub own : HoldsOwnWorld stories (game_of history) held → now ≡ world_of stories (game_of history)
-  pub same : answer_in stories history (world_now held) request ≡ answer_in stories history now request
+  pub same : answer_in stories history (world_now held) request
+      ≡ answer_in stories history now request
 
 needs_not : (needs : Bool) → (needs && true) ≡ false → needs ≡ false
 needs_not true e = absurd cc
 needs_not false e = refl
 
 pub is_by : (stories : List Story) (history : List Command) (held : Held) (request : Request)
-    → (needs_world stories (game_of history) request && is_none (world_now held)) ≡ false → IsBy stories history held request
-is_by stories history (Current w) request lacks = record { now = Some w; own = λ h. sym h; same = refl }
+    → (needs_world stories (game_of history) request && is_none (world_now held)) ≡ false
+    → IsBy stories history held request
+is_by stories history (Current w) request lacks =
+    record { now = Some w; own = λ h. sym h; same = refl }
 is_by stories history Nothing request lacks = record {
   now = world_of stories (game_of history);
   own = λ h. refl;
-  same = asks_no_world stories history None (world_of stories (game_of history)) request (needs_not (needs_world stories (game_of history) request) lacks);
+  same =
+      asks_no_world stories history None (world_of stories (game_of history)) request
+      (needs_not (needs_world stories (game_of history) request) lacks);
 }
 is_by stories history (Previous w) request lacks = record {
   now = world_of stories (game_of history);
   own = λ h. refl;
-  same = asks_no_world stories history None (world_of stories (game_of history)) request (needs_not (needs_world stories (game_of history) request) lacks);
+  same =
+      asks_no_world stories history None (world_of stories (game_of history)) request
+      (needs_not (needs_world stories (game_of history) request) lacks);
 }

@@ -1,5 +1,7 @@
 -- A shared desk and the journal that it stands on.
-use Rattle.std.proofs.Common.{◌≡◌, ◌⊎◌, inl, inr, ⊎_elim, ℕ, ◌+◌, ◌==◌, Bool, true, false, cond, List, [], ◌∷◌, ◌++◌, length, map, replicate, Option, Some, None, Result, Ok, Err, refl, sym, ap, subst, ◌∙◌, ne_eqb}
+use Rattle.std.proofs.Common.{◌≡◌, ◌⊎◌, inl, inr, ⊎_elim, ℕ, ◌+◌, ◌==◌, Bool, true, false}
+use Rattle.std.proofs.Common.{cond, List, [], ◌∷◌, ◌++◌, length, map, replicate, Option}
+use Rattle.std.proofs.Common.{Some, None, Result, Ok, Err, refl, sym, ap, subst, ◌∙◌, ne_eqb}
 use Rattle.std.specs.Prelude.{IfErr, OnErr, OnOk}
 use Rattle.std.proofs.lemmas.List.{append-nil, map-append}
 use Rattle.atomic_table.specs.Seated.{TableId}
@@ -21,7 +23,8 @@ use Rattle.story_run.specs.declared.story.Story.{Story}
 use Rattle.session_core.specs.declared.entry.Entry.{Entry}
 use Rattle.session_core.specs.declared.entry.Entry.TheVariants as entries
 use Rattle.session_core.specs.declared.entry.Outcome.{Outcome}
-use Rattle.session_core.specs.declared.entry.Outcome.TheVariants.{Answered, DiskFailed, OutOfMemory, Forgotten}
+use Rattle.session_core.specs.declared.entry.Outcome.TheVariants.{Answered, DiskFailed}
+use Rattle.session_core.specs.declared.entry.Outcome.TheVariants.{OutOfMemory, Forgotten}
 use Rattle.session_core.specs.Checks.{command_of}
 use Rattle.session_core.specs.Turning.{commands_in}
 use Rattle.session_core.proofs.RepeatLemmas.{some_is}
@@ -32,125 +35,174 @@ use Rattle.session_desk.specs.declared.shared.mark.Mark.{Mark}
 use Rattle.session_desk.specs.declared.shared.mark.Mark.TheVariants as marks
 use Rattle.session_desk.specs.Desk.{committed, DeskState, cold_desk}
 use Rattle.session_desk.specs.Marks.{count_commands, marks_by, commands_woven}
-use Rattle.session_desk.specs.Shared.{desk_tag, DeskTag, history_met, IsMarked, IsPassOf, LeavesHistory, met_by, SharedState, TakesEntry, unnumbered, unplaced}
+use Rattle.session_desk.specs.Shared.{desk_tag, DeskTag, history_met, IsMarked}
+use Rattle.session_desk.specs.Shared.{IsPassOf, LeavesHistory, met_by, SharedState}
+use Rattle.session_desk.specs.Shared.{TakesEntry, unnumbered, unplaced}
 use Rattle.session_desk.specs.Turn.{entries_added, history_in}
 use Rattle.session_desk.proofs.OpensLemmas.{IsNumbered, later_numbered, next_numbered, Others}
 use Rattle.snap_store.specs.Store.{Snapshots}
-use Rattle.session_desk.proofs.MarkLemmas.{commands_in-woven, count-all, count-by, woven-all, woven-by}
-use Rattle.session_desk.proofs.HistoryLemmas.{commands_in-history, history_in-added, history_in-append}
+use Rattle.session_desk.proofs.MarkLemmas.{commands_in-woven, count-all}
+use Rattle.session_desk.proofs.MarkLemmas.{count-by, woven-all, woven-by}
+use Rattle.session_desk.proofs.HistoryLemmas.{commands_in-history}
+use Rattle.session_desk.proofs.HistoryLemmas.{history_in-added, history_in-append}
 
 -- ---- without the numbers of passes
 
 pub commands_in-unnumbered : (h : List Entry) → commands_in (map unnumbered h) ≡ commands_in h
 commands_in-unnumbered [] = refl
-commands_in-unnumbered (entries.Accepted by c ∷ h) = ap (λ (m : List Command). c ∷ m) (commands_in-unnumbered h)
+commands_in-unnumbered (entries.Accepted by c ∷ h) =
+    ap (λ (m : List Command). c ∷ m) (commands_in-unnumbered h)
 commands_in-unnumbered (entries.Faulted by from to ∷ h) = commands_in-unnumbered h
 
 pub unnumbered-met : (h : List Entry) (by : ℕ) (accepted : Option Command) (outcome : Outcome)
-    → map unnumbered (history_met h by accepted outcome) ≡ history_met (map unnumbered h) 0 accepted outcome
+    → map unnumbered (history_met h by accepted outcome)
+    ≡ history_met (map unnumbered h) 0 accepted outcome
 unnumbered-met h by None Answered = refl
 unnumbered-met h by None (DiskFailed from to) = refl
 unnumbered-met h by None OutOfMemory = refl
 unnumbered-met h by None Forgotten = refl
 unnumbered-met h by (Some c) Answered = map-append unnumbered h (entries.Accepted by c ∷ [])
-unnumbered-met h by (Some c) (DiskFailed from to) = map-append unnumbered h (entries.Faulted by from to ∷ [])
+unnumbered-met h by (Some c) (DiskFailed from to) =
+    map-append unnumbered h (entries.Faulted by from to ∷ [])
 unnumbered-met h by (Some c) OutOfMemory = refl
 unnumbered-met h by (Some c) Forgotten = map-append unnumbered h (entries.Accepted by c ∷ [])
 
 -- ---- entries of other sessions change nothing of one
 
-foreign_none : (s : ℕ) (rest : List JournalEntry) → Each IsNumbered (rows_of rest) → Others s rest → history_in rest s ≡ []
+foreign_none : (s : ℕ) (rest : List JournalEntry)
+    → Each IsNumbered (rows_of rest) → Others s rest
+    → history_in rest s ≡ []
 foreign_none s [] n f = refl
 foreign_none s (Kept r ∷ rest) n f =
-    let differ : (r.session == s) ≡ false = ne_eqb r.session s (λ e. f.0 (inl (sym (n.0 ∙ ap (λ (k : ℕ). k + 1) e)))) in
+    let differ : (r.session == s) ≡ false =
+    ne_eqb r.session s (λ e. f.0 (inl (sym (n.0 ∙ ap (λ (k : ℕ). k + 1) e)))) in
     rw differ (foreign_none s rest n.1 f.1)
 foreign_none s (Faulted by from to ∷ rest) n f =
     let differ : (by == s + 1) ≡ false = ne_eqb by (s + 1) (λ e. f.0 (inl (sym e))) in
     rw differ (foreign_none s rest n f.1)
 
 -- the history of a session in a journal is the one in what its pass had seen of it
-pub history_in-since : (s : ℕ) (log seen : List JournalEntry) → IsJournal (rows_of log) → Continues (IsForeign entry_number ((s + 1) ∷ [])) log seen
+pub history_in-since : (s : ℕ) (log seen : List JournalEntry)
+    → IsJournal (rows_of log)
+    → Continues (IsForeign entry_number ((s + 1) ∷ [])) log seen
     → history_in log s ≡ history_in seen s
 history_in-since s log seen journal on =
-    let rows : IsJournal (rows_of (seen ++ on.0)) = subst (λ (es : List JournalEntry). IsJournal (rows_of es)) on.1 journal in
-    let none : history_in on.0 s ≡ [] = foreign_none s on.0 (later_numbered seen on.0 (next_numbered [] (rows_of (seen ++ on.0)) rows)) on.2 in
+    let rows : IsJournal (rows_of (seen ++ on.0)) =
+    subst (λ (es : List JournalEntry). IsJournal (rows_of es)) on.1 journal in
+    let none : history_in on.0 s ≡ [] =
+    foreign_none s on.0
+    (later_numbered seen on.0 (next_numbered [] (rows_of (seen ++ on.0)) rows)) on.2 in
     ap (λ (es : List JournalEntry). history_in es s) on.1
     ∙ history_in-append seen on.0 s
     ∙ ap (λ (h : List Entry). history_in seen s ++ h) none
     ∙ append-nil (history_in seen s)
 
 -- so are its commands
-pub kept-since : (s : ℕ) (log seen : List JournalEntry) (commands : List Command) → IsJournal (rows_of log)
-    → Continues (IsForeign entry_number ((s + 1) ∷ [])) log seen → commands_of (rows_of seen) s ≡ commands → commands_of (rows_of log) s ≡ commands
+pub kept-since : (s : ℕ) (log seen : List JournalEntry) (commands : List Command)
+    → IsJournal (rows_of log)
+    → Continues (IsForeign entry_number ((s + 1) ∷ [])) log seen
+    → commands_of (rows_of seen) s ≡ commands
+    → commands_of (rows_of log) s ≡ commands
 kept-since s log seen commands journal on is =
-    sym (commands_in-history log s) ∙ ap commands_in (history_in-since s log seen journal on) ∙ commands_in-history seen s ∙ is
+    sym (commands_in-history log s)
+    ∙ ap commands_in (history_in-since s log seen journal on)
+    ∙ commands_in-history seen s ∙ is
 
 -- ---- what a commit adds
 
-pub appended : {D T : Type 0} (faults : D → ℕ) (request : Request) (desk new_desk : DeskState) (old new : Log D) (c : Command) (done : Result T Refused)
-    → command_of desk.stories request ≡ Some c → OnOk done (Commits request desk old new_desk new) → IfErr done (λ why. RefusalLeaves faults desk.session old new why)
-    → new.entries ≡ old.entries ++ entries_added (rows_of old.entries) desk.session (Some c) (met_by done)
+pub appended : {D T : Type 0} (faults : D → ℕ) (request : Request) (desk new_desk : DeskState)
+    (old new : Log D) (c : Command) (done : Result T Refused)
+    → command_of desk.stories request ≡ Some c
+    → OnOk done (Commits request desk old new_desk new)
+    → IfErr done (λ why. RefusalLeaves faults desk.session old new why)
+    → new.entries
+    ≡ old.entries ++ entries_added (rows_of old.entries) desk.session (Some c) (met_by done)
 appended faults request desk new_desk old new c (Ok x) asked ok err =
-    ok.row ∙ ap (λ (d : Command). old.entries ++ Kept (next_row (rows_of old.entries) desk.session d) ∷ []) (some_is ok.command c (sym ok.asked ∙ asked))
+    ok.row
+    ∙ ap (λ (d : Command). old.entries ++ Kept (next_row (rows_of old.entries) desk.session d) ∷ [])
+    (some_is ok.command c (sym ok.asked ∙ asked))
 appended faults request desk new_desk old new c (Err (DiskFault fault)) asked ok err = err.1
-appended faults request desk new_desk old new c (Err NoMemory) asked ok err = err.entries ∙ sym (append-nil old.entries)
+appended faults request desk new_desk old new c (Err NoMemory) asked ok err =
+    err.entries ∙ sym (append-nil old.entries)
 
 -- at most one entry, of the number of the session and 1
-pub at_most_one : (s : ℕ) (rows : List Row) (accepted : Option Command) (outcome : Outcome) (old new : List JournalEntry) → new ≡ old ++ entries_added rows s accepted outcome
+pub at_most_one : (s : ℕ) (rows : List Row) (accepted : Option Command) (outcome : Outcome)
+    (old new : List JournalEntry)
+    → new ≡ old ++ entries_added rows s accepted outcome
     → (new ≡ old) ⊎ ((e : JournalEntry) × (new ≡ old ++ e ∷ []) × (entry_number e ≡ s + 1))
 at_most_one s rows None Answered old new is = inl (is ∙ append-nil old)
 at_most_one s rows None (DiskFailed from to) old new is = inl (is ∙ append-nil old)
 at_most_one s rows None OutOfMemory old new is = inl (is ∙ append-nil old)
 at_most_one s rows None Forgotten old new is = inl (is ∙ append-nil old)
 at_most_one s rows (Some c) Answered old new is = inr (Kept (next_row rows s c), is, refl)
-at_most_one s rows (Some c) (DiskFailed from to) old new is = inr (Faulted (s + 1) from to, is, refl)
+at_most_one s rows (Some c) (DiskFailed from to) old new is =
+    inr (Faulted (s + 1) from to, is, refl)
 at_most_one s rows (Some c) OutOfMemory old new is = inl (is ∙ append-nil old)
 at_most_one s rows (Some c) Forgotten old new is = inr (Kept (next_row rows s c), is, refl)
 
 -- the session's history behind it
-pub history_in-behind : (s : ℕ) (log seen new : List JournalEntry) (c : Command) (outcome : Outcome) → IsJournal (rows_of log)
-    → Continues (IsForeign entry_number ((s + 1) ∷ [])) log seen → new ≡ log ++ entries_added (rows_of log) s (Some c) outcome
+pub history_in-behind : (s : ℕ) (log seen new : List JournalEntry) (c : Command) (outcome : Outcome)
+    → IsJournal (rows_of log)
+    → Continues (IsForeign entry_number ((s + 1) ∷ [])) log seen
+    → new ≡ log ++ entries_added (rows_of log) s (Some c) outcome
     → history_in new s ≡ history_met (history_in seen s) 0 (Some c) outcome
 history_in-behind s log seen new c outcome journal on is =
     ap (λ (es : List JournalEntry). history_in es s) is
     ∙ history_in-added log (rows_of log) s (replies.No no.NoMemory) (Some c) outcome tt
-    ∙ ap (λ (h : List Entry). history_met h 0 (Some c) outcome) (history_in-since s log seen journal on)
+    ∙ ap (λ (h : List Entry). history_met h 0 (Some c) outcome)
+    (history_in-since s log seen journal on)
 
 -- it may be put back
-pub leaves : {D : Type 0} (v : View JournalEntry (Log D)) (s : ℕ) (old new : Log D) (accepted : Option Command) (outcome : Outcome) → v.seen ≡ old.entries → v.number ≡ s + 1
-    → tag_in (λ (log : Log D). log.opening) v.sample ≡ Some old.opening → new.opening ≡ old.opening → new.entries ≡ old.entries ++ entries_added (rows_of old.entries) s accepted outcome
+pub leaves : {D : Type 0} (v : View JournalEntry (Log D)) (s : ℕ) (old new : Log D)
+    (accepted : Option Command) (outcome : Outcome)
+    → v.seen ≡ old.entries → v.number ≡ s + 1
+    → tag_in (λ (log : Log D). log.opening) v.sample ≡ Some old.opening
+    → new.opening ≡ old.opening
+    → new.entries ≡ old.entries ++ entries_added (rows_of old.entries) s accepted outcome
     → MayLeave (λ (log : Log D). log.entries) entry_number (λ (log : Log D). log.opening) v new
 leaves {D} v s old new accepted outcome saw number tagged opening is = (
   tagged ∙ ap Some (sym opening),
   ⊎_elim (λ e. inl (e ∙ sym saw))
-      (λ e. inr (e.0, e.1 ∙ ap (λ (l : List JournalEntry). l ++ e.0 ∷ []) (sym saw), e.2 ∙ sym number))
+      (λ e.
+      inr (e.0, e.1 ∙ ap (λ (l : List JournalEntry). l ++ e.0 ∷ []) (sym saw), e.2 ∙ sym number))
       (at_most_one s (rows_of old.entries) accepted outcome old.entries new.entries is),
 )
 
 -- what a pass of the session finds is other sessions' alone
-pub others : {D : Type 0} (pass : Pass (Log D) JournalEntry) (s : ℕ) (log : List JournalEntry) → IsPassOf s pass
-    → Continues (IsForeign entry_number (pass_numbers pass)) log (seen pass) → Continues (IsForeign entry_number ((s + 1) ∷ [])) log (seen pass)
-others pass s log of on = subst (λ (numbers : List ℕ). Continues (IsForeign entry_number numbers) log (seen pass)) of.only on
+pub others : {D : Type 0} (pass : Pass (Log D) JournalEntry) (s : ℕ) (log : List JournalEntry)
+    → IsPassOf s pass
+    → Continues (IsForeign entry_number (pass_numbers pass)) log (seen pass)
+    → Continues (IsForeign entry_number ((s + 1) ∷ [])) log (seen pass)
+others pass s log of on =
+    subst (λ (numbers : List ℕ). Continues (IsForeign entry_number numbers) log (seen pass))
+    of.only on
 
 -- ---- a desk as it is opened
 
-pub history_in-kept : (rows : List Row) (s : ℕ) → history_in (rows_kept rows) s ≡ map (entries.Accepted 0) (commands_of rows s)
+pub history_in-kept : (rows : List Row) (s : ℕ)
+    → history_in (rows_kept rows) s ≡ map (entries.Accepted 0) (commands_of rows s)
 history_in-kept [] s = refl
-history_in-kept (r ∷ rows) s = rw (history_in-kept rows s) (front (r.session == s) r.command (commands_of rows s))
+history_in-kept (r ∷ rows) s =
+    rw (history_in-kept rows s) (front (r.session == s) r.command (commands_of rows s))
   where
     front : (own : Bool) (c : Command) (commands : List Command)
-        → cond own (entries.Accepted 0 c ∷ map (entries.Accepted 0) commands) (map (entries.Accepted 0) commands) ≡ map (entries.Accepted 0) (cond own (c ∷ commands) commands)
+        → cond own (entries.Accepted 0 c ∷ map (entries.Accepted 0) commands)
+        (map (entries.Accepted 0) commands)
+        ≡ map (entries.Accepted 0) (cond own (c ∷ commands) commands)
     front true c commands = refl
     front false c commands = refl
 
-pub unnumbered-all : (commands : List Command) → map unnumbered (map (entries.Accepted 0) commands) ≡ map (entries.Accepted 0) commands
+pub unnumbered-all : (commands : List Command)
+    → map unnumbered (map (entries.Accepted 0) commands) ≡ map (entries.Accepted 0) commands
 unnumbered-all [] = refl
-unnumbered-all (c ∷ commands) = ap (λ (h : List Entry). entries.Accepted 0 c ∷ h) (unnumbered-all commands)
+unnumbered-all (c ∷ commands) =
+    ap (λ (h : List Entry). entries.Accepted 0 c ∷ h) (unnumbered-all commands)
 
 -- ---- what holds of the fields
 
 -- the rows that the pass has seen of its session are the desk's commands
-pub rows-seen : {D : Type 0} (l : List Mark) (desk : DeskState) (pass : Pass (Log D) JournalEntry) → IsMarked l desk pass
+pub rows-seen : {D : Type 0} (l : List Mark) (desk : DeskState) (pass : Pass (Log D) JournalEntry)
+    → IsMarked l desk pass
     → commands_of (rows_of (seen pass)) desk.session ≡ desk.commands
 rows-seen l desk pass w =
     sym (commands_in-history (seen pass) desk.session)
@@ -159,10 +211,14 @@ rows-seen l desk pass w =
     ∙ w.commands
 
 -- behind a commit
-marked_behind : {D : Type 0} (l m : List Mark) (by : ℕ) (old new : DeskState) (pass next : Pass (Log D) JournalEntry) (c : Command) (outcome : Outcome)
+marked_behind : {D : Type 0} (l m : List Mark) (by : ℕ) (old new : DeskState)
+    (pass next : Pass (Log D) JournalEntry) (c : Command) (outcome : Outcome)
     → IsMarked l old pass → new.session ≡ old.session → count_commands m ≡ length new.commands
-    → commands_woven m new.commands ≡ history_met (commands_woven l old.commands) by (Some c) outcome → IsPassOf old.session next
-    → history_in (seen next) old.session ≡ history_met (history_in (seen pass) old.session) 0 (Some c) outcome
+    → commands_woven m new.commands
+    ≡ history_met (commands_woven l old.commands) by (Some c) outcome
+    → IsPassOf old.session next
+    → history_in (seen next) old.session
+    ≡ history_met (history_in (seen pass) old.session) 0 (Some c) outcome
     → IsMarked m new next
 marked_behind l m by old new pass next c outcome w same many weaves of adds = record {
   counted = many;
@@ -175,41 +231,57 @@ marked_behind l m by old new pass next c outcome w same many weaves of adds = re
       ∙ sym (ap (history_in (seen next)) same);
 }
 
-session_by : {T : Type 0} (done : Result T Refused) (old new : DeskState) (c : Command) → OnOk done (new ≡ committed old c) → OnErr done (new ≡ old) → new.session ≡ old.session
+session_by : {T : Type 0} (done : Result T Refused) (old new : DeskState) (c : Command)
+    → OnOk done (new ≡ committed old c) → OnErr done (new ≡ old)
+    → new.session ≡ old.session
 session_by (Ok x) old new c ok err = ap (λ (d : DeskState). d.session) ok
 session_by (Err why) old new c ok err = ap (λ (d : DeskState). d.session) err
 
-pub marked-by : {D T : Type 0} (l m : List Mark) (by : ℕ) (old new : DeskState) (pass next : Pass (Log D) JournalEntry) (c : Command) (done : Result T Refused)
-    → m ≡ l ++ marks_by by done → IsMarked l old pass → OnOk done (new ≡ committed old c) → OnErr done (new ≡ old) → IsPassOf old.session next
-    → history_in (seen next) old.session ≡ history_met (history_in (seen pass) old.session) 0 (Some c) (met_by done)
+pub marked-by : {D T : Type 0} (l m : List Mark) (by : ℕ) (old new : DeskState)
+    (pass next : Pass (Log D) JournalEntry) (c : Command) (done : Result T Refused)
+    → m ≡ l ++ marks_by by done → IsMarked l old pass
+    → OnOk done (new ≡ committed old c) → OnErr done (new ≡ old)
+    → IsPassOf old.session next
+    → history_in (seen next) old.session
+    ≡ history_met (history_in (seen pass) old.session) 0 (Some c) (met_by done)
     → IsMarked m new next
 marked-by l m by old new pass next c done is w ok err of adds =
     marked_behind l m by old new pass next c (met_by done) w (session_by done old new c ok err)
     (ap count_commands is ∙ count-by l done by old new c w.counted ok err)
-    (ap (λ (x : List Mark). commands_woven x new.commands) is ∙ woven-by l done by old new c w.counted ok err) of adds
+    (ap (λ (x : List Mark). commands_woven x new.commands) is
+    ∙ woven-by l done by old new c w.counted ok err) of adds
 
 -- as it is opened
-opened_marked : {D : Type 0} (l : List Mark) (s : ℕ) (stories : List Story) (budget : ℕ) (rows : List Row) (pass : Pass (Log D) JournalEntry)
-    → commands_woven l (commands_of rows s) ≡ history_in (rows_kept rows) s → count_commands l ≡ length (commands_of rows s) → IsPassOf s pass → seen pass ≡ rows_kept rows
+opened_marked : {D : Type 0} (l : List Mark) (s : ℕ) (stories : List Story) (budget : ℕ)
+    (rows : List Row) (pass : Pass (Log D) JournalEntry)
+    → commands_woven l (commands_of rows s) ≡ history_in (rows_kept rows) s
+    → count_commands l ≡ length (commands_of rows s)
+    → IsPassOf s pass → seen pass ≡ rows_kept rows
     → IsMarked l (cold_desk s stories budget (commands_of rows s)) pass
 opened_marked l s stories budget rows pass weaves many of saw = record {
   counted = many;
   of_session = of;
   commands = commands_in-woven l (commands_of rows s) many;
-  entries = ap (map unnumbered) (weaves ∙ history_in-kept rows s) ∙ unnumbered-all (commands_of rows s)
+  entries =
+      ap (map unnumbered) (weaves ∙ history_in-kept rows s) ∙ unnumbered-all (commands_of rows s)
       ∙ sym (ap (λ (es : List JournalEntry). history_in es s) saw ∙ history_in-kept rows s);
 }
 
 -- the history of a desk as it is opened
-pub marked-opened : {D : Type 0} (l : List Mark) (desk : DeskState) (s : ℕ) (stories : List Story) (budget : ℕ) (rows : List Row) (pass : Pass (Log D) JournalEntry)
-    → l ≡ replicate (length desk.commands) (marks.Accepted 0) → desk ≡ cold_desk s stories budget (commands_of rows s) → IsPassOf s pass → seen pass ≡ rows_kept rows
+pub marked-opened : {D : Type 0} (l : List Mark) (desk : DeskState) (s : ℕ)
+    (stories : List Story) (budget : ℕ) (rows : List Row) (pass : Pass (Log D) JournalEntry)
+    → l ≡ replicate (length desk.commands) (marks.Accepted 0)
+    → desk ≡ cold_desk s stories budget (commands_of rows s)
+    → IsPassOf s pass → seen pass ≡ rows_kept rows
     → IsMarked l desk pass × (commands_woven l desk.commands ≡ history_in (rows_kept rows) s)
 marked-opened l desk s stories budget rows pass is has of saw =
     let commands : desk.commands ≡ commands_of rows s = ap (λ (d : DeskState). d.commands) has in
     let many : count_commands l ≡ length (commands_of rows s) =
-    ap count_commands is ∙ count-all (length desk.commands) 0 ∙ ap (λ (x : List Command). length x) commands in
+    ap count_commands is ∙ count-all (length desk.commands) 0
+    ∙ ap (λ (x : List Command). length x) commands in
     let weaves : commands_woven l (commands_of rows s) ≡ history_in (rows_kept rows) s =
-    ap (λ (m : List Mark). commands_woven m (commands_of rows s)) (is ∙ ap (λ (x : List Command). replicate (length x) (marks.Accepted 0)) commands)
+    ap (λ (m : List Mark). commands_woven m (commands_of rows s))
+    (is ∙ ap (λ (x : List Command). replicate (length x) (marks.Accepted 0)) commands)
     ∙ woven-all (commands_of rows s) 0 ∙ sym (history_in-kept rows s) in (
       rw has (opened_marked l s stories budget rows pass weaves many of saw),
       ap (λ (x : List Command). commands_woven l x) commands ∙ weaves,
@@ -217,12 +289,19 @@ marked-opened l desk s stories budget rows pass is has of saw =
 
 -- ---- what a commit gives
 
-pub takes : {D T : Type 0} (done : Result T Refused) (request : Request) (by : ℕ) (old new : SharedState D) (c : Command) → command_of old.desk.stories request ≡ Some c
-    → OnOk done (new.desk ≡ committed old.desk c) → new.history ≡ history_met old.history by (Some c) (met_by done) → OnOk done (TakesEntry request by old new)
-takes (Ok x) request by old new c asked ok entry = record { command = c; asked = asked; taken = ok; entry = entry }
+pub takes : {D T : Type 0} (done : Result T Refused) (request : Request) (by : ℕ)
+    (old new : SharedState D) (c : Command)
+    → command_of old.desk.stories request ≡ Some c
+    → OnOk done (new.desk ≡ committed old.desk c)
+    → new.history ≡ history_met old.history by (Some c) (met_by done)
+    → OnOk done (TakesEntry request by old new)
+takes (Ok x) request by old new c asked ok entry =
+    record { command = c; asked = asked; taken = ok; entry = entry }
 takes (Err why) request by old new c asked ok entry = tt
 
-pub leaves_history : {T : Type 0} (done : Result T Refused) (by : ℕ) (old new : List Entry) (c : Command) → new ≡ history_met old by (Some c) (met_by done)
+pub leaves_history : {T : Type 0} (done : Result T Refused) (by : ℕ) (old new : List Entry)
+    (c : Command)
+    → new ≡ history_met old by (Some c) (met_by done)
     → IfErr done (LeavesHistory by old new)
 leaves_history (Ok x) by old new c entry = tt
 leaves_history (Err (DiskFault fault)) by old new c entry = entry
@@ -230,10 +309,21 @@ leaves_history (Err NoMemory) by old new c entry = entry
 
 abbrev tag_at : {D : Type 0} → DeskState → TableId → Snapshots D → List Row → DeskTag D
 tag_at desk cell store rows =
-    record { session = desk.session; stories = desk.stories; budget = desk.budget; cell = cell; store = store; rows = rows }
+    record {
+      session = desk.session;
+      stories = desk.stories;
+      budget = desk.budget;
+      cell = cell;
+      store = store;
+      rows = rows;
+    }
 
-pub tag-by : {D T : Type 0} (done : Result T Refused) (old new : SharedState D) (c : Command) → OnOk done (new.desk ≡ committed old.desk c) → OnErr done (new.desk ≡ old.desk)
-    → new.pass.known.place.table_id ≡ old.pass.known.place.table_id → new.store ≡ old.store → new.rows ≡ old.rows → desk_tag new ≡ desk_tag old
+pub tag-by : {D T : Type 0} (done : Result T Refused) (old new : SharedState D) (c : Command)
+    → OnOk done (new.desk ≡ committed old.desk c)
+    → OnErr done (new.desk ≡ old.desk)
+    → new.pass.known.place.table_id ≡ old.pass.known.place.table_id
+    → new.store ≡ old.store → new.rows ≡ old.rows
+    → desk_tag new ≡ desk_tag old
 tag-by (Ok x) old new c ok err cell store rows = rw (ok, cell, store, rows) refl
 tag-by (Err why) old new c ok err cell store rows = rw (err, cell, store, rows) refl
 
@@ -247,7 +337,8 @@ pub err_unplaced : (done : Result ℕ Refused) (P : Type 0) → OnErr done P →
 err_unplaced (Ok place) P p = tt
 err_unplaced (Err why) P p = p
 
-pub why_unplaced : (done : Result ℕ Refused) (P : Refused → Type 0) → IfErr done P → IfErr (unplaced done) P
+pub why_unplaced : (done : Result ℕ Refused) (P : Refused → Type 0)
+    → IfErr done P → IfErr (unplaced done) P
 why_unplaced (Ok place) P p = tt
 why_unplaced (Err why) P p = p
 

@@ -1,5 +1,6 @@
 -- Turns of a shared desk, by what they met.
-use Rattle.std.proofs.Common.{◌≡◌, ◌≢◌, inl, inr, ℕ, ◌+◌, Bool, true, false, List, [], ◌∷◌, ◌++◌, Option, Some, refl, sym, ap, subst, ◌∙◌}
+use Rattle.std.proofs.Common.{◌≡◌, ◌≢◌, inl, inr, ℕ, ◌+◌, Bool, true, false, List}
+use Rattle.std.proofs.Common.{[], ◌∷◌, ◌++◌, Option, Some, refl, sym, ap, subst, ◌∙◌}
 use Rattle.std.proofs.lemmas.List.{append-nil}
 use Rattle.turn_cell.specs.History.{Continues, IsForeign}
 use Rattle.gate_journal.specs.Log.{entry_number}
@@ -26,7 +27,8 @@ use Rattle.session_desk.specs.declared.turned.Turned.{Turned}
 use Rattle.session_desk.specs.declared.verdict.Verdict.TheVariants.{Cold}
 use Rattle.session_desk.specs.Desk.{committed, DeskState, game, HoldsOwnWorld, ran, shown_to}
 use Rattle.session_desk.specs.Laws.{decision_by_desk}
-use Rattle.session_desk.specs.Shared.{desk_tag, DeskTag, GoesOn, Rests, SharedState, TakesEntry, TurnsTo}
+use Rattle.session_desk.specs.Shared.{desk_tag, DeskTag, GoesOn, Rests}
+use Rattle.session_desk.specs.Shared.{SharedState, TakesEntry, TurnsTo}
 use Rattle.session_desk.specs.Sound.{Decides, IsSoundDesk, TurnsBy}
 use Rattle.session_desk.specs.Verdict.{lacks_world, verdict}
 use Rattle.session_desk.proofs.LawLemmas.{cold_alone}
@@ -36,108 +38,165 @@ use Rattle.session_desk.proofs.TurnLemmas.{may_forget}
 
 -- ---- the reply and the history
 
-pub turns-quiet : (d : Decision) (by : ℕ) (h : List Entry) (t : Turned) → AcceptsNothing d t → TurnsTo d by h t h
-turns-quiet d by h t (inl e) = rw e (record { met = may_forget d.accepted; reply = refl; history = refl })
+pub turns-quiet : (d : Decision) (by : ℕ) (h : List Entry) (t : Turned)
+    → AcceptsNothing d t → TurnsTo d by h t h
+turns-quiet d by h t (inl e) =
+    rw e (record { met = may_forget d.accepted; reply = refl; history = refl })
 turns-quiet d by h t (inr e) = rw (e.0, e.1) (record { met = tt; reply = refl; history = refl })
 
-pub turns-shown : (d : Decision) (by : ℕ) (h : List Entry) (t : Turned) (show : Reply) (c : Command) → d ≡ record { reply = show; accepted = Some c }
+pub turns-shown : (d : Decision) (by : ℕ) (h : List Entry) (t : Turned) (show : Reply) (c : Command)
+    → d ≡ record { reply = show; accepted = Some c }
     → IsShown show t → TurnsTo d by h t (h ++ entries.Accepted by c ∷ [])
-turns-shown d by h t show c e (inl is) = rw (e, is) (record { met = tt; reply = refl; history = refl })
-turns-shown d by h t show c e (inr is) = rw (e, is) (record { met = tt; reply = refl; history = refl })
+turns-shown d by h t show c e (inl is) =
+    rw (e, is) (record { met = tt; reply = refl; history = refl })
+turns-shown d by h t show c e (inr is) =
+    rw (e, is) (record { met = tt; reply = refl; history = refl })
 
-pub turns-failed : (d : Decision) (by from to : ℕ) (h : List Entry) (show : Reply) (c : Command) → d ≡ record { reply = show; accepted = Some c }
-    → TurnsTo d by h (record { reply = replies.No (no.DiskFault from to); outcome = DiskFailed from to }) (h ++ entries.Faulted by from to ∷ [])
+pub turns-failed : (d : Decision) (by from to : ℕ) (h : List Entry) (show : Reply) (c : Command)
+    → d ≡ record { reply = show; accepted = Some c }
+    → TurnsTo d by h
+    (record { reply = replies.No (no.DiskFault from to); outcome = DiskFailed from to })
+    (h ++ entries.Faulted by from to ∷ [])
 turns-failed d by from to h show c e = rw e (record { met = tt; reply = refl; history = refl })
 
 -- ---- the journal
 
-rests : (s : ℕ) (old : List JournalEntry) → Continues (IsForeign entry_number ((s + 1) ∷ [])) old old
+rests : (s : ℕ) (old : List JournalEntry)
+    → Continues (IsForeign entry_number ((s + 1) ∷ [])) old old
 rests s old = ([], sym (append-nil old), tt)
 
-pub goes-quiet : (d : Decision) (s : ℕ) (old : List JournalEntry) (t : Turned) → AcceptsNothing d t → GoesOn s d.accepted t.outcome old old
-goes-quiet d s old t (inl e) = rw e (record { before = old; since = rests s old; adds = sym (append-nil old) })
-goes-quiet d s old t (inr e) = rw (e.0, e.1) (record { before = old; since = rests s old; adds = sym (append-nil old) })
+pub goes-quiet : (d : Decision) (s : ℕ) (old : List JournalEntry) (t : Turned)
+    → AcceptsNothing d t → GoesOn s d.accepted t.outcome old old
+goes-quiet d s old t (inl e) =
+    rw e (record { before = old; since = rests s old; adds = sym (append-nil old) })
+goes-quiet d s old t (inr e) =
+    rw (e.0, e.1) (record { before = old; since = rests s old; adds = sym (append-nil old) })
 
-pub goes-nowhere : (s : ℕ) (accepted : Option Command) (old new : List JournalEntry) → new ≡ old → GoesOn s accepted OutOfMemory old new
-goes-nowhere s accepted old new is = record { before = old; since = rests s old; adds = is ∙ sym (append-nil old) }
+pub goes-nowhere : (s : ℕ) (accepted : Option Command) (old new : List JournalEntry)
+    → new ≡ old → GoesOn s accepted OutOfMemory old new
+goes-nowhere s accepted old new is =
+    record { before = old; since = rests s old; adds = is ∙ sym (append-nil old) }
 
-pub goes-shown : (s : ℕ) (accepted : Option Command) (old new : List JournalEntry) (t : Turned) (show : Reply) (c : Command) → accepted ≡ Some c
+pub goes-shown : (s : ℕ) (accepted : Option Command) (old new : List JournalEntry)
+    (t : Turned) (show : Reply) (c : Command)
+    → accepted ≡ Some c
     → IsShown show t → GoesOn s (Some c) Answered old new → GoesOn s accepted t.outcome old new
 goes-shown s accepted old new t show c e (inl is) on = rw (e, is) on
-goes-shown s accepted old new t show c e (inr is) on = rw (e, is) (record { before = on.before; since = on.since; adds = on.adds })
+goes-shown s accepted old new t show c e (inr is) on =
+    rw (e, is) (record { before = on.before; since = on.since; adds = on.adds })
 
 -- ---- by the world that is held
 
 -- a desk that isn't cold to the request decides so
-pub lacks-not : (desk : DeskState) (request : Request) → verdict desk request ≢ Cold → lacks_world desk request ≡ false
+pub lacks-not : (desk : DeskState) (request : Request)
+    → verdict desk request ≢ Cold
+    → lacks_world desk request ≡ false
 lacks-not desk request warm = either (lacks_world desk request) refl
   where
     either : (lacks : Bool) → lacks_world desk request ≡ lacks → lacks ≡ false
     either true e = absurd (warm ((cold_alone desk request).1 e))
     either false e = refl
 
-pub decides-held : {D : Type 0} (tells : D → Bool) (seen_of : D → List ℕ) (request : Request) (old : SharedState D) (held : Held)
+pub decides-held : {D : Type 0} (tells : D → Bool) (seen_of : D → List ℕ) (request : Request)
+    (old : SharedState D) (held : Held)
     → lacks_world (record old.desk { held = held }) request ≡ false
-    → (IsSoundDesk tells seen_of (desk_tag old) → HoldsOwnWorld old.desk.stories (game old.desk) held)
+    → (IsSoundDesk tells seen_of (desk_tag old)
+    → HoldsOwnWorld old.desk.stories (game old.desk) held)
     → Decides tells seen_of request old (decision_by_desk (record old.desk { held = held }) request)
 decides-held tells seen_of request old held lacks holds =
     let b = is_by old.desk.stories old.desk.commands held request lacks in
     record { now = b.now; own = λ sound. b.own (holds sound); decides = b.same }
 
-pub decides-rested : {D : Type 0} (tells : D → Bool) (seen_of : D → List ℕ) (request : Request) (old new : SharedState D) → Rests old new
+pub decides-rested : {D : Type 0} (tells : D → Bool) (seen_of : D → List ℕ)
+    (request : Request) (old new : SharedState D)
+    → Rests old new
     → verdict new.desk request ≢ Cold
-    → (IsSoundDesk tells seen_of (desk_tag new) → HoldsOwnWorld new.desk.stories (game new.desk) new.desk.held)
+    → (IsSoundDesk tells seen_of (desk_tag new)
+    → HoldsOwnWorld new.desk.stories (game new.desk) new.desk.held)
     → Decides tells seen_of request old (decision_by_desk new.desk request)
 decides-rested {D = D} tells seen_of request old new rests warm holds =
     let same = rests.desk in
-    subst (λ (d : DeskState). Decides tells seen_of request old (decision_by_desk d request)) (sym same)
+    subst (λ (d : DeskState). Decides tells seen_of request old (decision_by_desk d request))
+    (sym same)
     (decides-held tells seen_of request old new.desk.held
-    (subst (λ (d : DeskState). lacks_world d request ≡ false) same (lacks-not new.desk request warm))
+    (subst (λ (d : DeskState). lacks_world d request ≡ false) same
+    (lacks-not new.desk request warm))
     (λ sound. subst (λ (d : DeskState). HoldsOwnWorld d.stories (game d) d.held) same
     (holds (subst (λ (t : DeskTag D). IsSoundDesk tells seen_of t) (sym rests.tag) sound))))
 
 -- memory may run out, whatever is decided
-pub decides-any : {D : Type 0} (tells : D → Bool) (seen_of : D → List ℕ) (request : Request) (old : SharedState D)
-    → Decides tells seen_of request old (answer_in old.desk.stories old.desk.commands (world_of old.desk.stories (game_of old.desk.commands)) request)
-decides-any tells seen_of request old = record { now = world_of old.desk.stories (game_of old.desk.commands); own = λ sound. refl; decides = refl }
+pub decides-any : {D : Type 0} (tells : D → Bool) (seen_of : D → List ℕ) (request : Request)
+    (old : SharedState D)
+    → Decides tells seen_of request old (answer_in old.desk.stories old.desk.commands
+    (world_of old.desk.stories (game_of old.desk.commands)) request)
+decides-any tells seen_of request old = record {
+  now = world_of old.desk.stories (game_of old.desk.commands);
+  own = λ sound. refl;
+  decides = refl;
+}
 
-pub turns-by : {D : Type 0} (tells : D → Bool) (seen_of : D → List ℕ) (request : Request) (by : ℕ) (old new : SharedState D) (t : Turned) (d : Decision)
+pub turns-by : {D : Type 0} (tells : D → Bool) (seen_of : D → List ℕ) (request : Request)
+    (by : ℕ) (old new : SharedState D) (t : Turned) (d : Decision)
     → Decides tells seen_of request old d → TurnsTo d by old.history t new.history
-    → GoesOn old.desk.session d.accepted t.outcome (seen old.pass) (seen new.pass) → TurnsBy tells seen_of request by old t new
+    → GoesOn old.desk.session d.accepted t.outcome (seen old.pass) (seen new.pass)
+    → TurnsBy tells seen_of request by old t new
 turns-by tells seen_of request by old new t d decides turns goes = record {
   now = decides.now;
   own = decides.own;
   met = subst (λ (x : Decision). MayMeet x.accepted t.outcome) decides.decides turns.met;
-  reply = subst (λ (x : Decision). t.reply ≡ (turn_met old.history by x.reply x.accepted t.outcome).reply) decides.decides turns.reply;
-  history = subst (λ (x : Decision). new.history ≡ (turn_met old.history by x.reply x.accepted t.outcome).history) decides.decides turns.history;
-  journal = subst (λ (x : Decision). GoesOn old.desk.session x.accepted t.outcome (seen old.pass) (seen new.pass)) decides.decides goes;
+  reply =
+      subst
+      (λ (x : Decision). t.reply ≡ (turn_met old.history by x.reply x.accepted t.outcome).reply)
+      decides.decides turns.reply;
+  history =
+      subst (λ (x : Decision).
+      new.history ≡ (turn_met old.history by x.reply x.accepted t.outcome).history) decides.decides
+      turns.history;
+  journal =
+      subst (λ (x : Decision).
+      GoesOn old.desk.session x.accepted t.outcome (seen old.pass) (seen new.pass))
+      decides.decides goes;
 }
 
 -- a turn that makes the session accept nothing
-pub turns-by-quiet : {D : Type 0} (tells : D → Bool) (seen_of : D → List ℕ) (request : Request) (by : ℕ) (old new : SharedState D) (t : Turned)
-    → Rests old new → ((d : Decision) × Decides tells seen_of request old d × AcceptsNothing d t) → TurnsBy tells seen_of request by old t new
+pub turns-by-quiet : {D : Type 0} (tells : D → Bool) (seen_of : D → List ℕ)
+    (request : Request) (by : ℕ) (old new : SharedState D) (t : Turned)
+    → Rests old new
+    → ((d : Decision) × Decides tells seen_of request old d × AcceptsNothing d t)
+    → TurnsBy tells seen_of request by old t new
 turns-by-quiet tells seen_of request by old new t rests (d, decides, quiet) =
     turns-by tells seen_of request by old new t d decides
-    (subst (λ (h : List Entry). TurnsTo d by old.history t h) (sym rests.history) (turns-quiet d by old.history t quiet))
-    (subst (λ (es : List JournalEntry). GoesOn old.desk.session d.accepted t.outcome (seen old.pass) es) (sym (ap seen rests.pass))
+    (subst (λ (h : List Entry). TurnsTo d by old.history t h) (sym rests.history)
+    (turns-quiet d by old.history t quiet))
+    (subst
+    (λ (es : List JournalEntry). GoesOn old.desk.session d.accepted t.outcome (seen old.pass) es)
+    (sym (ap seen rests.pass))
     (goes-quiet d old.desk.session (seen old.pass) t quiet))
 
 -- a turn of a command, behind the steps that leave the session
-pub turns-by-fresh : {D : Type 0} (tells : D → Bool) (seen_of : D → List ℕ) (request : Request) (by : ℕ) (old mid new : SharedState D) (t : Turned)
+pub turns-by-fresh : {D : Type 0} (tells : D → Bool) (seen_of : D → List ℕ)
+    (request : Request) (by : ℕ) (old mid new : SharedState D) (t : Turned)
     → Rests old mid → Decides tells seen_of request old (decision_by_desk mid.desk request)
     → TurnsTo (decision_by_desk mid.desk request) by mid.history t new.history
-    → GoesOn mid.desk.session (decision_by_desk mid.desk request).accepted t.outcome (seen mid.pass) (seen new.pass)
+    → GoesOn mid.desk.session (decision_by_desk mid.desk request).accepted t.outcome
+    (seen mid.pass) (seen new.pass)
     → TurnsBy tells seen_of request by old t new
 turns-by-fresh tells seen_of request by old mid new t rests decides turns goes =
     turns-by tells seen_of request by old new t (decision_by_desk mid.desk request) decides
-    (subst (λ (h : List Entry). TurnsTo (decision_by_desk mid.desk request) by h t new.history) rests.history turns)
-    (subst (λ (es : List JournalEntry). GoesOn old.desk.session (decision_by_desk mid.desk request).accepted t.outcome es (seen new.pass)) (ap seen rests.pass)
-    (subst (λ (s : ℕ). GoesOn s (decision_by_desk mid.desk request).accepted t.outcome (seen mid.pass) (seen new.pass)) (ap (λ (d : DeskState). d.session) rests.desk) goes))
+    (subst (λ (h : List Entry). TurnsTo (decision_by_desk mid.desk request) by h t new.history)
+    rests.history turns)
+    (subst (λ (es : List JournalEntry). GoesOn old.desk.session
+    (decision_by_desk mid.desk request).accepted t.outcome es (seen new.pass)) (ap seen rests.pass)
+    (subst (λ (s : ℕ).
+    GoesOn s (decision_by_desk mid.desk request).accepted t.outcome (seen mid.pass) (seen new.pass))
+    (ap (λ (d : DeskState). d.session) rests.desk) goes))
 
-pub turns-by-add : {D : Type 0} (tells : D → Bool) (seen_of : D → List ℕ) (request : Request) (by : ℕ) (old new : SharedState D) (t : Turned)
+pub turns-by-add : {D : Type 0} (tells : D → Bool) (seen_of : D → List ℕ) (request : Request)
+    (by : ℕ) (old new : SharedState D) (t : Turned)
     → TurnsBy tells seen_of request by old t new → AddsTo old.history by new.history
 turns-by-add tells seen_of request by old new t turns =
-    subst (λ (x : List Entry). AddsTo old.history by x) (sym turns.history) (met_adds old.history by (answer_in old.desk.stories old.desk.commands turns.now request).reply
+    subst (λ (x : List Entry). AddsTo old.history by x) (sym turns.history)
+    (met_adds old.history by (answer_in old.desk.stories old.desk.commands turns.now request).reply
     (answer_in old.desk.stories old.desk.commands turns.now request).accepted t.outcome)
 
 -- ---- a command that was committed
@@ -145,28 +204,49 @@ turns-by-add tells seen_of request by old new t turns =
 -- what a fresh request is answered, by the desk that has run its command
 abbrev pub AnswersFresh : DeskState → Request → Type 0
 AnswersFresh desk request =
-    (c : Command) × (command_of desk.stories request ≡ Some c) × (decision_by_desk desk request ≡ record { reply = shown_to (ran (committed desk c)) request; accepted = Some c })
+    (c : Command) × (command_of desk.stories request ≡ Some c)
+    × (decision_by_desk desk request
+    ≡ record { reply = shown_to (ran (committed desk c)) request; accepted = Some c })
 
-same_command : (stories : List Story) (request : Request) (c d : Command) → command_of stories request ≡ Some c → command_of stories request ≡ Some d → c ≡ d
+same_command : (stories : List Story) (request : Request) (c d : Command)
+    → command_of stories request ≡ Some c
+    → command_of stories request ≡ Some d → c ≡ d
 same_command stories request c d e f = some_is c d (sym e ∙ f)
 
-pub fresh-shown : {D : Type 0} (request : Request) (by : ℕ) (old mid new : SharedState D) (t : Turned) → AnswersFresh old.desk request → TakesEntry request by old mid
-    → IsShown (shown_to (ran mid.desk) request) t → Rests mid new → TurnsTo (decision_by_desk old.desk request) by old.history t new.history
+pub fresh-shown : {D : Type 0} (request : Request) (by : ℕ) (old mid new : SharedState D)
+    (t : Turned)
+    → AnswersFresh old.desk request
+    → TakesEntry request by old mid
+    → IsShown (shown_to (ran mid.desk) request) t
+    → Rests mid new
+    → TurnsTo (decision_by_desk old.desk request) by old.history t new.history
 fresh-shown request by old mid new t f takes shown rests =
-    let same : f.0 ≡ takes.command = same_command old.desk.stories request f.0 takes.command f.1 takes.asked in
+    let same : f.0 ≡ takes.command =
+    same_command old.desk.stories request f.0 takes.command f.1 takes.asked in
     let is : IsShown (shown_to (ran (committed old.desk f.0)) request) t =
     subst (λ (c : Command). IsShown (shown_to (ran (committed old.desk c)) request) t) (sym same)
     (subst (λ (d : DeskState). IsShown (shown_to (ran d) request) t) takes.taken shown) in
     let history : new.history ≡ old.history ++ entries.Accepted by f.0 ∷ [] =
-    rests.history ∙ takes.entry ∙ ap (λ (c : Command). old.history ++ entries.Accepted by c ∷ []) (sym same) in
-    subst (λ (h : List Entry). TurnsTo (decision_by_desk old.desk request) by old.history t h) (sym history)
-    (turns-shown (decision_by_desk old.desk request) by old.history t (shown_to (ran (committed old.desk f.0)) request) f.0 f.2 is)
+    rests.history ∙ takes.entry
+    ∙ ap (λ (c : Command). old.history ++ entries.Accepted by c ∷ []) (sym same) in
+    subst (λ (h : List Entry). TurnsTo (decision_by_desk old.desk request) by old.history t h)
+    (sym history)
+    (turns-shown (decision_by_desk old.desk request) by old.history t
+    (shown_to (ran (committed old.desk f.0)) request) f.0 f.2 is)
 
-pub fresh-goes : {D : Type 0} (request : Request) (by : ℕ) (old mid new : SharedState D) (t : Turned) → AnswersFresh old.desk request
-    → ((c : Command) → command_of old.desk.stories request ≡ Some c → GoesOn old.desk.session (Some c) Answered (seen old.pass) (seen mid.pass))
+pub fresh-goes : {D : Type 0} (request : Request) (by : ℕ) (old mid new : SharedState D)
+    (t : Turned)
+    → AnswersFresh old.desk request
+    → ((c : Command)
+    → command_of old.desk.stories request ≡ Some c
+    → GoesOn old.desk.session (Some c) Answered (seen old.pass) (seen mid.pass))
     → IsShown (shown_to (ran mid.desk) request) t → Rests mid new
-    → GoesOn old.desk.session (decision_by_desk old.desk request).accepted t.outcome (seen old.pass) (seen new.pass)
+    → GoesOn old.desk.session (decision_by_desk old.desk request).accepted t.outcome
+    (seen old.pass) (seen new.pass)
 fresh-goes request by old mid new t f goes shown rests =
-    subst (λ (es : List JournalEntry). GoesOn old.desk.session (decision_by_desk old.desk request).accepted t.outcome (seen old.pass) es) (sym (ap seen rests.pass))
-    (goes-shown old.desk.session (decision_by_desk old.desk request).accepted (seen old.pass) (seen mid.pass) t (shown_to (ran mid.desk) request) f.0
+    subst (λ (es : List JournalEntry). GoesOn old.desk.session
+    (decision_by_desk old.desk request).accepted t.outcome (seen old.pass) es)
+    (sym (ap seen rests.pass))
+    (goes-shown old.desk.session (decision_by_desk old.desk request).accepted (seen old.pass)
+    (seen mid.pass) t (shown_to (ran mid.desk) request) f.0
     (ap (λ (d : Decision). d.accepted) f.2) shown (goes f.0 f.1))

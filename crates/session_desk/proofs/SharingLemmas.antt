@@ -29,7 +29,8 @@ journal_send T g s =
     search (sendable, view_send, history.the_send, room.the_send, row.the_send) depth 30
 
 marks_send : IsSend (vec_type.the_field mark_type.the_row global_type.the_row heap_type.ghosts).row
-marks_send = search (sendable, mark.the_send, vec.the_send, global.the_send, heap.the_frees) depth 20
+marks_send =
+    search (sendable, mark.the_send, vec.the_send, global.the_send, heap.the_frees) depth 20
 
 store_send : (T : RattleType) (g : Ghosts T.Denot) → IsSend T → IsSend (store.the_row T g)
 store_send T g s = search (sendable, view_send) depth 30
@@ -37,20 +38,24 @@ store_send T g s = search (sendable, view_send) depth 30
 pub saves_send : (T : RattleType) (g : Ghosts T.Denot) → IsSend T → IsSend (saves.the_row T g)
 saves_send T g s = search (sendable, view_send, store_send, point.the_send) depth 30
 
-pub inside_send : (κ : NamedLft) (T : RattleType) (g : Ghosts T.Denot) → IsSend T → IsSend (inside.the_row κ T g)
-inside_send κ T g s = recorded_send _ _ _ (inside.the_type κ T g).to_one (struct_send (shape (inside.the_type κ T g)) (
-  desk.the_send κ,
-  (
-    marks_send,
-    (
-      search (sendable, pass_shares.the_field_send, journal_send) depth 20,
+pub inside_send : (κ : NamedLft) (T : RattleType) (g : Ghosts T.Denot)
+    → IsSend T → IsSend (inside.the_row κ T g)
+inside_send κ T g s =
+    recorded_send _ _ _ (inside.the_type κ T g).to_one
+    (struct_send (shape (inside.the_type κ T g)) (
+      desk.the_send κ,
       (
-        search (sendable, saves_send) depth 20,
-        (search sendable depth 20, (search sendable depth 20, (search sendable depth 20, tt))),
+        marks_send,
+        (
+          search (sendable, pass_shares.the_field_send, journal_send) depth 20,
+          (
+            search (sendable, saves_send) depth 20,
+            (search sendable depth 20, (search sendable depth 20, (search sendable depth 20, tt))),
+          ),
+        ),
       ),
-    ),
-  ),
-))
+    ))
 
-pub desk_send : (κ : NamedLft) (T : RattleType) (g : Ghosts T.Denot) → IsSend T → IsSend (shared_desk.the_row κ T g)
+pub desk_send : (κ : NamedLft) (T : RattleType) (g : Ghosts T.Denot)
+    → IsSend T → IsSend (shared_desk.the_row κ T g)
 desk_send κ T g s = view_send (inside.the_row κ T g) _ _ _ _ (inside_send κ T g s)

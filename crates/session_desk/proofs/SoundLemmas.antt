@@ -1,5 +1,8 @@
 -- What holds of a desk, its snapshots and its world, behind each of its steps.
-use Rattle.std.proofs.Common.{◌≡◌, ◌⊎◌, inl, inr, ⊎_elim, ℕ, ◌+◌, ◌<◌, ◌≤◌, max, Bool, true, false, nat_le, cond, IsTrue, List, [], ◌∷◌, ◌++◌, length, replicate, Option, Some, None, is_none, Result, Ok, Err, refl, sym, ap, subst, ◌∙◌, arith}
+use Rattle.std.proofs.Common.{◌≡◌, ◌⊎◌, inl, inr, ⊎_elim, ℕ, ◌+◌, ◌<◌, ◌≤◌, max}
+use Rattle.std.proofs.Common.{Bool, true, false, nat_le, cond, IsTrue, List, [], ◌∷◌}
+use Rattle.std.proofs.Common.{◌++◌, length, replicate, Option, Some, None, is_none}
+use Rattle.std.proofs.Common.{Result, Ok, Err, refl, sym, ap, subst, ◌∙◌, arith}
 use Rattle.std.specs.Prelude.{OnErr, OnOk}
 use Rattle.std.specs.List.{Contains}
 use Rattle.std.proofs.lemmas.List.{length-append}
@@ -16,14 +19,16 @@ use Rattle.gate_journal.specs.declared.command.Command.TheVariants as commands
 use Rattle.gate_journal.specs.declared.row.Row.{Row}
 use Rattle.gate_journal.specs.declared.entry.Entry.{Entry as JournalEntry}
 use Rattle.line_words.specs.declared.request.Request.{Request}
-use Rattle.line_words.specs.declared.request.Request.TheVariants.{Open, Line, Char, File, Last, Close}
+use Rattle.line_words.specs.declared.request.Request.TheVariants.{Open, Line, Char}
+use Rattle.line_words.specs.declared.request.Request.TheVariants.{File, Last, Close}
 use Rattle.story_run.specs.declared.story.Story.{Story}
 use Rattle.story_run.specs.World.{WorldState}
 use Rattle.session_core.specs.declared.entry.Entry.{Entry}
 use Rattle.session_core.specs.Checks.{command_of}
 use Rattle.session_core.specs.History.{game_of, input_of, is_in_use, has_key, world_of, story_at}
 use Rattle.session_core.specs.Answer.{plain_checks}
-use Rattle.session_core.proofs.RepeatLemmas.{all_fail, joined, game_of-append, game_of-append-open, some_is}
+use Rattle.session_core.proofs.RepeatLemmas.{all_fail, joined, game_of-append}
+use Rattle.session_core.proofs.RepeatLemmas.{game_of-append-open, some_is}
 use Rattle.snap_store.specs.Store.{IsImageOf, Snapshots, store_area}
 use Rattle.snap_store.specs.declared.side.Side.{Side}
 use Rattle.session_saves.specs.Agreement.{IsAgreed, last_row, opens_of}
@@ -38,13 +43,15 @@ use Rattle.session_desk.specs.declared.refused.Refused.{Refused}
 use Rattle.session_desk.specs.declared.shared.mark.Mark.{Mark}
 use Rattle.session_desk.specs.declared.shared.mark.Mark.TheVariants as marks
 use Rattle.session_desk.specs.declared.verdict.Verdict.TheVariants.{Fresh}
-use Rattle.session_desk.specs.Desk.{committed, DeskState, desk_emptied, game, HoldsOwnWorld, cold_desk, ran, world_now}
+use Rattle.session_desk.specs.Desk.{committed, DeskState, desk_emptied, game}
+use Rattle.session_desk.specs.Desk.{HoldsOwnWorld, cold_desk, ran, world_now}
 use Rattle.session_desk.specs.Keeping as keeping
 use Rattle.session_desk.specs.Marks.{commands_woven}
 use Rattle.session_desk.specs.Opens.{opens_behind, OpensBy, row_behind}
 use Rattle.session_desk.specs.Shared.{as_opened, desk_tag, IsMarked, IsPassOf, SharedState}
 use Rattle.session_desk.specs.Turn.{history_in}
-use Rattle.session_desk.specs.Sound.{AreKeptUp, EndsStore, IsSameStore, IsSoundDesk, IsWhole, open_rows}
+use Rattle.session_desk.specs.Sound.{AreKeptUp, EndsStore, IsSameStore}
+use Rattle.session_desk.specs.Sound.{IsSoundDesk, IsWhole, open_rows}
 use Rattle.session_desk.specs.Verdict.{verdict}
 use Rattle.session_desk.proofs.HeldLemmas.{holds-aside, holds-then}
 use Rattle.session_desk.proofs.LawLemmas.{accepts, held_now, knows, opens}
@@ -53,7 +60,8 @@ use Rattle.session_desk.proofs.SharedLemmas.{marked-opened}
 
 -- ---- the inputs of a game with a command more
 
-inputs-more : (g : List Command) (c : Command) → inputs_of (g ++ c ∷ []) ≡ inputs_of g ++ inputs_of (c ∷ [])
+inputs-more : (g : List Command) (c : Command)
+    → inputs_of (g ++ c ∷ []) ≡ inputs_of g ++ inputs_of (c ∷ [])
 inputs-more g c = filter_map-append input_of g (c ∷ [])
 
 one_input : (c : Command) (x : Input) → input_of c ≡ Some x → length (inputs_of (c ∷ [])) ≡ 1
@@ -71,106 +79,157 @@ open_input commands.Close e = absurd cc
 
 -- ---- the areas behind a command
 
-agreed-joined : {D : Type 0} (seen_of : D → List ℕ) (stories : List Story) (places : List ℕ) (g : List Command) (c : Command) (store : Snapshots D)
-    → is_open c ≡ false → IsAgreed seen_of stories places g store → IsAgreed seen_of stories places (joined g c) store
+agreed-joined : {D : Type 0} (seen_of : D → List ℕ) (stories : List Story) (places : List ℕ)
+    (g : List Command) (c : Command) (store : Snapshots D)
+    → is_open c ≡ false
+    → IsAgreed seen_of stories places g store
+    → IsAgreed seen_of stories places (joined g c) store
 agreed-joined seen_of stories places [] c store shut agreed = agreed
 agreed-joined seen_of stories places (d ∷ ds) c store shut agreed =
     λ side area e. more_commands stories places (d ∷ ds) c area shut (agreed side area e)
 
-agreed-behind : {D : Type 0} (seen_of : D → List ℕ) (stories : List Story) (places : List ℕ) (history : List Command) (c : Command) (row : ℕ) (opens : Bool) (store : Snapshots D)
-    → is_open c ≡ opens → ((p : ℕ) → Contains places p → p < row) → IsAgreed seen_of stories places (game_of history) store
-    → IsAgreed seen_of stories (cond opens (places ++ row ∷ []) places) (game_of (history ++ c ∷ [])) store
+agreed-behind : {D : Type 0} (seen_of : D → List ℕ) (stories : List Story) (places : List ℕ)
+    (history : List Command) (c : Command) (row : ℕ) (opens : Bool) (store : Snapshots D)
+    → is_open c ≡ opens
+    → ((p : ℕ) → Contains places p → p < row)
+    → IsAgreed seen_of stories places (game_of history) store
+    → IsAgreed seen_of stories (cond opens (places ++ row ∷ []) places)
+    (game_of (history ++ c ∷ [])) store
 agreed-behind seen_of stories places history c row true store opens before agreed =
-    λ side area e. new_opens stories places (game_of history) (game_of (history ++ c ∷ [])) area row before (agreed side area e)
+    λ side area e. new_opens stories places (game_of history) (game_of (history ++ c ∷ [])) area row
+    before (agreed side area e)
 agreed-behind seen_of stories places history c row false store shut before agreed =
-    rw (game_of-append history c shut) (agreed-joined seen_of stories places (game_of history) c store shut agreed)
+    rw (game_of-append history c shut)
+    (agreed-joined seen_of stories places (game_of history) c store shut agreed)
 
 -- ---- what is kept up behind a command
 
 -- the snapshots of a game whose last OPEN row is there are kept up
 abbrev IsKeptAt : {D : Type 0} → SavesState D → List ℕ → List Command → Type 0
-IsKeptAt saves places g = (place : ℕ) → last_row places ≡ Some place → IsKeptUp place (length (inputs_of g)) saves.store.slots saves.missed
+IsKeptAt saves places g =
+    (place : ℕ) → last_row places ≡ Some place
+    → IsKeptUp place (length (inputs_of g)) saves.store.slots saves.missed
 
 -- a command that gives the story something comes where no snapshot is due
 abbrev IsDone : {D : Type 0} → SavesState D → List ℕ → List Command → Command → Type 0
 IsDone saves places g c =
-    (input_of c ≡ None) ⊎ ((place : ℕ) → last_row places ≡ Some place → is_due saves place (length (inputs_of g)) ≡ false)
+    (input_of c ≡ None)
+    ⊎ ((place : ℕ) → last_row places ≡ Some place
+    → is_due saves place (length (inputs_of g)) ≡ false)
 
-kept-more : {D : Type 0} (saves : SavesState D) (places : List ℕ) (g : List Command) (c : Command) (given : Option Input) → IsMissCounted saves.missed saves.last
-    → input_of c ≡ given → IsDone saves places g c → IsKeptAt saves places g → IsKeptAt saves places (g ++ c ∷ [])
+kept-more : {D : Type 0} (saves : SavesState D) (places : List ℕ) (g : List Command)
+    (c : Command) (given : Option Input)
+    → IsMissCounted saves.missed saves.last
+    → input_of c ≡ given → IsDone saves places g c
+    → IsKeptAt saves places g
+    → IsKeptAt saves places (g ++ c ∷ [])
 kept-more saves places g c None counted e done kept place last =
     let same : length (inputs_of (g ++ c ∷ [])) ≡ length (inputs_of g) =
-    ap (λ (l : List Input). length l) (inputs-more g c) ∙ length-append (inputs_of g) (inputs_of (c ∷ []))
+    ap (λ (l : List Input). length l) (inputs-more g c)
+    ∙ length-append (inputs_of g) (inputs_of (c ∷ []))
     ∙ omega (arith, ap (λ (l : List Input). length l) (no_input c e)) in
     subst (λ (n : ℕ). IsKeptUp place n saves.store.slots saves.missed) (sym same) (kept place last)
 kept-more saves places g c (Some x) counted e done kept place last =
     let more : length (inputs_of (g ++ c ∷ [])) ≡ length (inputs_of g) + 1 =
-    ap (λ (l : List Input). length l) (inputs-more g c) ∙ length-append (inputs_of g) (inputs_of (c ∷ []))
+    ap (λ (l : List Input). length l) (inputs-more g c)
+    ∙ length-append (inputs_of g) (inputs_of (c ∷ []))
     ∙ omega (arith, one_input c x e) in
-    let due = ⊎_elim (λ none. absurd (let both = sym none ∙ e in cc)) (λ idle. idle place last) done in
+    let due =
+    ⊎_elim (λ none. absurd (let both = sym none ∙ e in cc)) (λ idle. idle place last) done in
     subst (λ (n : ℕ). IsKeptUp place n saves.store.slots saves.missed) (sym more)
-    (stays_kept_up.goes_on saves.store.slots saves.missed saves.last place (length (inputs_of g)) counted due (kept place last))
+    (stays_kept_up.goes_on saves.store.slots saves.missed saves.last place
+    (length (inputs_of g)) counted due (kept place last))
 
-kept-joined : {D : Type 0} (saves : SavesState D) (places : List ℕ) (g : List Command) (c : Command) → IsMissCounted saves.missed saves.last
+kept-joined : {D : Type 0} (saves : SavesState D) (places : List ℕ) (g : List Command) (c : Command)
+    → IsMissCounted saves.missed saves.last
     → IsDone saves places g c → IsKeptAt saves places g → IsKeptAt saves places (joined g c)
 kept-joined saves places [] c counted done kept = kept
-kept-joined saves places (d ∷ ds) c counted done kept = kept-more saves places (d ∷ ds) c (input_of c) counted refl done kept
+kept-joined saves places (d ∷ ds) c counted done kept =
+    kept-more saves places (d ∷ ds) c (input_of c) counted refl done kept
 
 none_since : (c : Command) → is_open c ≡ true → length (inputs_of (c ∷ [])) ≤ 16
-none_since c opens = let none = ap (λ (l : List Input). length l) (open_input c opens) in omega (arith, none)
+none_since c opens =
+    let none = ap (λ (l : List Input). length l) (open_input c opens) in omega (arith, none)
 
-kept-behind : {D : Type 0} (saves : SavesState D) (places : List ℕ) (history : List Command) (c : Command) (row : ℕ) (opens : Bool) → IsMissCounted saves.missed saves.last
-    → is_open c ≡ opens → IsDone saves places (game_of history) c → IsKeptAt saves places (game_of history)
+kept-behind : {D : Type 0} (saves : SavesState D) (places : List ℕ) (history : List Command)
+    (c : Command) (row : ℕ) (opens : Bool)
+    → IsMissCounted saves.missed saves.last
+    → is_open c ≡ opens
+    → IsDone saves places (game_of history) c
+    → IsKeptAt saves places (game_of history)
     → IsKeptAt saves (cond opens (places ++ row ∷ []) places) (game_of (history ++ c ∷ []))
 kept-behind saves places history c row true counted e done before = λ place last.
     rw (game_of-append-open history c e)
-    (stays_kept_up.begins saves.store.slots saves.missed place (length (inputs_of (c ∷ []))) (none_since c e))
+    (stays_kept_up.begins saves.store.slots saves.missed place (length (inputs_of (c ∷ [])))
+    (none_since c e))
 kept-behind saves places history c row false counted e done before =
-    rw (game_of-append history c e) (kept-joined saves places (game_of history) c counted done before)
+    rw (game_of-append history c e)
+    (kept-joined saves places (game_of history) c counted done before)
 
 -- ---- a command that gives the story something finds the world held
 
-open_gives : (stories : List Story) (s : ℕ) (key : List ℕ) (story seed cols rows budget : ℕ) (c : Command)
+open_gives : (stories : List Story) (s : ℕ) (key : List ℕ) (story seed cols rows budget : ℕ)
+    (c : Command)
     → command_of stories (Open s key story seed cols rows budget) ≡ Some c → input_of c ≡ None
 open_gives stories s key story seed cols rows budget c e =
     let it = opens (story_at stories story) key story seed cols rows budget c e in rw it.1 refl
 
-input_held : (desk : DeskState) (request : Request) (c : Command) → verdict desk request ≡ Fresh → command_of desk.stories request ≡ Some c
+input_held : (desk : DeskState) (request : Request) (c : Command)
+    → verdict desk request ≡ Fresh
+    → command_of desk.stories request ≡ Some c
     → (input_of c ≡ None) ⊎ (is_none (world_now desk.held) ≡ false)
-input_held desk (Open s key story seed cols rows budget) c v e = inl (open_gives desk.stories s key story seed cols rows budget c e)
+input_held desk (Open s key story seed cols rows budget) c v e =
+    inl (open_gives desk.stories s key story seed cols rows budget c e)
 input_held desk (Line s key n win text term) c v e =
     let g = game desk in
     let a = accepts desk (Line s key n win text term) v in
-    let k = knows (nat_le 64 s) (has_key g key) (is_in_use g) (all_fail (plain_checks desk.stories g (Line s key n win text term)) a.none).0 in
+    let k =
+    knows (nat_le 64 s) (has_key g key) (is_in_use g)
+    (all_fail (plain_checks desk.stories g (Line s key n win text term)) a.none).0 in
     inr (held_now desk (Line s key n win text term) v a.none (rw k.1 refl))
 input_held desk (Char s key n win code) c v e =
     let g = game desk in
     let a = accepts desk (Char s key n win code) v in
-    let k = knows (nat_le 64 s) (has_key g key) (is_in_use g) (all_fail (plain_checks desk.stories g (Char s key n win code)) a.none).0 in
+    let k =
+    knows (nat_le 64 s) (has_key g key) (is_in_use g)
+    (all_fail (plain_checks desk.stories g (Char s key n win code)) a.none).0 in
     inr (held_now desk (Char s key n win code) v a.none (rw k.1 refl))
 input_held desk (File s key n name) c v e =
     let g = game desk in
     let a = accepts desk (File s key n name) v in
-    let k = knows (nat_le 64 s) (has_key g key) (is_in_use g) (all_fail (plain_checks desk.stories g (File s key n name)) a.none).0 in
+    let k =
+    knows (nat_le 64 s) (has_key g key) (is_in_use g)
+    (all_fail (plain_checks desk.stories g (File s key n name)) a.none).0 in
     inr (held_now desk (File s key n name) v a.none (rw k.1 refl))
 input_held desk (Last s key) c v e = absurd cc
 input_held desk (Close s key n) c v e = inl (rw (sym (some_is _ c e)) refl)
 
-not_due : {D : Type 0} (saves : SavesState D) (now : Option WorldState) (row : Option ℕ) (count : ℕ) → keeping.due_with saves now row count ≡ false → is_none now ≡ false
+not_due : {D : Type 0} (saves : SavesState D) (now : Option WorldState) (row : Option ℕ) (count : ℕ)
+    → keeping.due_with saves now row count ≡ false
+    → is_none now ≡ false
     → (place : ℕ) → row ≡ Some place → is_due saves place count ≡ false
 not_due saves None row count due held place e = absurd cc
 not_due saves (Some w) row count due held place e = rw e at due
 
-is_done : {D : Type 0} (saves : SavesState D) (places : List ℕ) (desk : DeskState) (request : Request) (c : Command) → verdict desk request ≡ Fresh
-    → command_of desk.stories request ≡ Some c → keeping.due_with saves (world_now desk.held) (last_row places) (length (inputs_of (game desk))) ≡ false
+is_done : {D : Type 0} (saves : SavesState D) (places : List ℕ) (desk : DeskState)
+    (request : Request) (c : Command)
+    → verdict desk request ≡ Fresh
+    → command_of desk.stories request ≡ Some c
+    → keeping.due_with saves (world_now desk.held) (last_row places)
+    (length (inputs_of (game desk)))
+    ≡ false
     → IsDone saves places (game desk) c
 is_done saves places desk request c v e due =
-    ⊎_elim (λ none. inl none) (λ held. inr (not_due saves (world_now desk.held) (last_row places) (length (inputs_of (game desk))) due held))
+    ⊎_elim (λ none.
+    inl none) (λ held. inr (not_due saves (world_now desk.held) (last_row places)
+    (length (inputs_of (game desk))) due held))
     (input_held desk request c v e)
 
 -- ---- the store
 
-no_farther : (old mid new : ℕ) → mid ≤ max old 16781344 → new ≤ max mid 16781344 → new ≤ max old 16781344
+no_farther : (old mid new : ℕ)
+    → mid ≤ max old 16781344 → new ≤ max mid 16781344
+    → new ≤ max old 16781344
 no_farther old mid new first next = omega (arith, first, next)
 
 at_most : (x y z : ℕ) → x ≤ y → y ≤ z → x ≤ z
@@ -198,8 +257,12 @@ module _ {D : Type 0} (tells : D → Bool) (room label faults reach : D → ℕ)
     made = refl;
   }
 
-  pub store-kept : (old mid new : Snapshots D) → IsSameStore tells room label faults reach old mid → SameDisk tells room label mid.disk new.disk
-      → faults mid.disk ≤ faults new.disk → reach new.disk ≤ max (reach mid.disk) 16781344 → new.made ≡ mid.made
+  pub store-kept : (old mid new : Snapshots D)
+      → IsSameStore tells room label faults reach old mid
+      → SameDisk tells room label mid.disk new.disk
+      → faults mid.disk ≤ faults new.disk
+      → reach new.disk ≤ max (reach mid.disk) 16781344
+      → new.made ≡ mid.made
       → IsSameStore tells room label faults reach old new
   store-kept old mid new first same counts reaches made = record {
     same = record {
@@ -212,12 +275,15 @@ module _ {D : Type 0} (tells : D → Bool) (room label faults reach : D → ℕ)
     made = made ∙ first.made;
   }
 
-  pub still_tells : (old new : Snapshots D) → IsSameStore tells room label faults reach old new → IsTrue (tells old.disk) → IsTrue (tells new.disk)
+  pub still_tells : (old new : Snapshots D)
+      → IsSameStore tells room label faults reach old new
+      → IsTrue (tells old.disk) → IsTrue (tells new.disk)
   still_tells old new same told = subst (λ (t : Bool). IsTrue t) (sym same.same.telling) told
 
 -- ---- what holds of the fields
 
-module _ {D : Type 0} (tells : D → Bool) (seen_of : D → List ℕ) (room label faults reach : D → ℕ) where
+module _ {D : Type 0} (tells : D → Bool) (seen_of : D → List ℕ)
+    (room label faults reach : D → ℕ) where
   abbrev Whole : List Mark → Option ℕ → SharedState D → Type 0
   Whole l place state = IsWhole tells seen_of room label faults reach l place state
 
@@ -225,14 +291,23 @@ module _ {D : Type 0} (tells : D → Bool) (seen_of : D → List ℕ) (room labe
   abbrev rested : SharedState D → Held → SavesState D → SharedState D
   rested old held saves = record old { desk = record old.desk { held = held }; saves = saves }
 
-  pub whole-rested : (l : List Mark) (place : Option ℕ) (old : SharedState D) (held : Held) (saves : SavesState D) → Whole l place old
+  pub whole-rested : (l : List Mark) (place : Option ℕ) (old : SharedState D) (held : Held)
+      (saves : SavesState D)
+      → Whole l place old
       → IsSameStore tells room label faults reach old.store saves.store
-      → (IsSoundDesk tells seen_of (desk_tag old) → HoldsOwnWorld old.desk.stories (game old.desk) held)
-      → (IsSoundDesk tells seen_of (desk_tag old) → IsAgreed seen_of old.desk.stories (open_rows old) (game old.desk) saves.store)
+      → (IsSoundDesk tells seen_of (desk_tag old)
+      → HoldsOwnWorld old.desk.stories (game old.desk) held)
+      → (IsSoundDesk tells seen_of (desk_tag old)
+      → IsAgreed seen_of old.desk.stories (open_rows old) (game old.desk) saves.store)
       → AreKeptUp (rested old held saves)
       → Whole l place (rested old held saves)
   whole-rested l place old held saves w store holds agreed kept = record {
-    marked = record { counted = w.marked.counted; of_session = w.marked.of_session; commands = w.marked.commands; entries = w.marked.entries };
+    marked = record {
+      counted = w.marked.counted;
+      of_session = w.marked.of_session;
+      commands = w.marked.commands;
+      entries = w.marked.entries;
+    };
     row = w.row;
     store = store;
     own = λ sound. record { holds = holds sound; agreed = agreed sound };
@@ -240,45 +315,75 @@ module _ {D : Type 0} (tells : D → Bool) (seen_of : D → List ℕ) (room labe
   }
 
   -- as the last command is run
-  whole-held : (l : List Mark) (place : Option ℕ) (old : SharedState D) (desk : DeskState) (held : Held) → Whole l place old → old.history ≡ commands_woven l old.desk.commands
-      → desk ≡ record old.desk { held = held } → (IsSoundDesk tells seen_of (desk_tag old) → HoldsOwnWorld old.desk.stories (game old.desk) held)
+  whole-held : (l : List Mark) (place : Option ℕ) (old : SharedState D) (desk : DeskState)
+      (held : Held)
+      → Whole l place old
+      → old.history ≡ commands_woven l old.desk.commands
+      → desk ≡ record old.desk { held = held }
+      → (IsSoundDesk tells seen_of (desk_tag old)
+      → HoldsOwnWorld old.desk.stories (game old.desk) held)
       → Whole l place (record old { desk = desk; history = commands_woven l desk.commands })
   whole-held l place old desk held w weaves is holds =
-      rw is (subst (λ (h : List Entry). Whole l place (record old { desk = record old.desk { held = held }; history = h })) weaves
-      (whole-rested l place old held old.saves w w.store holds (λ sound. (w.own sound).agreed) w.kept_up))
+      rw is (subst (λ (h : List Entry).
+      Whole l place (record old { desk = record old.desk { held = held }; history = h })) weaves
+      (whole-rested l place old held old.saves w w.store holds
+      (λ sound. (w.own sound).agreed) w.kept_up))
 
-  pub whole-run : {T E : Type 0} (l : List Mark) (place : Option ℕ) (old : SharedState D) (desk : DeskState) (done : Result T E) → Whole l place old
+  pub whole-run : {T E : Type 0} (l : List Mark) (place : Option ℕ) (old : SharedState D)
+      (desk : DeskState) (done : Result T E)
+      → Whole l place old
       → old.history ≡ commands_woven l old.desk.commands
-      → OnOk done (desk ≡ ran old.desk) → OnErr done (desk ≡ desk_emptied old.desk) → Whole l place (record old { desk = desk; history = commands_woven l desk.commands })
+      → OnOk done (desk ≡ ran old.desk)
+      → OnErr done (desk ≡ desk_emptied old.desk)
+      → Whole l place (record old { desk = desk; history = commands_woven l desk.commands })
   whole-run l place old desk (Ok x) w weaves ok err =
-      whole-held l place old desk (ran old.desk).held w weaves ok (λ sound. holds-then old.desk.stories (game old.desk) old.desk.held (w.own sound).holds)
-  whole-run l place old desk (Err e) w weaves ok err = whole-held l place old desk Nothing w weaves err (λ sound. tt)
+      whole-held l place old desk (ran old.desk).held w weaves ok
+      (λ sound. holds-then old.desk.stories (game old.desk) old.desk.held (w.own sound).holds)
+  whole-run l place old desk (Err e) w weaves ok err =
+      whole-held l place old desk Nothing w weaves err (λ sound. tt)
 
   -- behind a commit
-  pub whole-committed : (l m : List Mark) (place : Option ℕ) (old : SharedState D) (desk : DeskState) (pass : Pass (Log D) JournalEntry) (request : Request) (c : Command)
+  pub whole-committed : (l m : List Mark) (place : Option ℕ) (old : SharedState D)
+      (desk : DeskState) (pass : Pass (Log D) JournalEntry) (request : Request) (c : Command)
       (done : Result ℕ Refused) → Whole l place old → IsMarked m desk pass
       → OnOk done (desk ≡ committed old.desk c) → OnErr done (desk ≡ old.desk)
-      → OpensBy old.desk.session c done (seen old.pass) (seen pass) → command_of old.desk.stories request ≡ Some c
-      → verdict old.desk request ≡ Fresh → keeping.snapshot_due old ≡ false → IsMissCounted old.saves.missed old.saves.last
-      → Whole m (row_behind place request done) (record old { desk = desk; history = commands_woven m desk.commands; pass = pass })
-  whole-committed l m place old desk pass request c (Ok row) w marked ok err opens asked fresh due counted =
+      → OpensBy old.desk.session c done (seen old.pass) (seen pass)
+      → command_of old.desk.stories request ≡ Some c
+      → verdict old.desk request ≡ Fresh
+      → keeping.snapshot_due old ≡ false
+      → IsMissCounted old.saves.missed old.saves.last
+      → Whole m (row_behind place request done)
+      (record old { desk = desk; history = commands_woven m desk.commands; pass = pass })
+  whole-committed l m place old desk pass request c
+      (Ok row) w marked ok err opens asked fresh due counted =
       let places = open_rows old in
       let session : desk.session ≡ old.desk.session = ap (λ (d : DeskState). d.session) ok in
       let is : opens_of (rows_of (seen pass)) desk.session ≡ opens_behind places c (Ok row) =
       ap (λ (s : ℕ). opens_of (rows_of (seen pass)) s) session ∙ opens.opens in
       record {
         marked = marked;
-        row = row_by old.desk.stories old.desk.session (seen old.pass) (seen pass) place request c (Ok row) asked opens w.row
+        row =
+            row_by old.desk.stories old.desk.session (seen old.pass) (seen pass) place request c
+            (Ok row) asked opens w.row
             ∙ ap (λ (s : ℕ). last_row (opens_of (rows_of (seen pass)) s)) (sym session);
         store = w.store;
         own = λ sound. let o = w.own (rw ok at sound) in record {
           holds = rw ok (holds-aside old.desk.stories old.desk.commands c old.desk.held o.holds);
-          agreed = rw (is, ok) (agreed-behind seen_of old.desk.stories places old.desk.commands c row (is_open c) old.saves.store refl opens.before o.agreed);
+          agreed =
+              rw (
+                is,
+                ok,
+              ) (agreed-behind seen_of old.desk.stories places old.desk.commands c row
+              (is_open c) old.saves.store refl opens.before o.agreed);
         };
-        kept_up = λ none. rw (is, ok) (kept-behind old.saves places old.desk.commands c row (is_open c) counted refl
-            (is_done old.saves places old.desk request c fresh asked due) (w.kept_up (subst (λ (s : ℕ). commands_of old.rows s ≡ []) session none)));
+        kept_up =
+            λ none. rw (is, ok)
+            (kept-behind old.saves places old.desk.commands c row (is_open c) counted refl
+            (is_done old.saves places old.desk request c fresh asked due)
+            (w.kept_up (subst (λ (s : ℕ). commands_of old.rows s ≡ []) session none)));
       }
-  whole-committed l m place old desk pass request c (Err why) w marked ok err opens asked fresh due counted =
+  whole-committed l m place old desk pass request c
+      (Err why) w marked ok err opens asked fresh due counted =
       let session : desk.session ≡ old.desk.session = ap (λ (d : DeskState). d.session) err in
       let is : opens_of (rows_of (seen pass)) desk.session ≡ open_rows old =
       ap (λ (s : ℕ). opens_of (rows_of (seen pass)) s) session ∙ opens.opens in
@@ -286,52 +391,80 @@ module _ {D : Type 0} (tells : D → Bool) (seen_of : D → List ℕ) (room labe
         marked = marked;
         row = w.row ∙ ap last_row (sym is);
         store = w.store;
-        own = λ sound. let o = w.own (rw err at sound) in record { holds = rw err o.holds; agreed = rw (is, err) o.agreed };
-        kept_up = λ none. rw (is, err) (w.kept_up (subst (λ (s : ℕ). commands_of old.rows s ≡ []) session none));
+        own =
+            λ sound. let o = w.own (rw err at sound) in
+            record { holds = rw err o.holds; agreed = rw (is, err) o.agreed };
+        kept_up =
+            λ none.
+            rw (is, err) (w.kept_up (subst (λ (s : ℕ). commands_of old.rows s ≡ []) session none));
       }
 
   -- as a store was only looked at
-  pub whole-looked : (may_leave : D → List ℕ → Type 0) (moment : D → ℕ) (left_since : D → ℕ → List ℕ → Type 0)
-      (l : List Mark) (place : Option ℕ) (old : SharedState D) (held : Held) (saves : SavesState D) → Whole l place old
-      → OnlyLooks tells may_leave moment left_since reach room label old.saves.store.disk saves.store.disk
+  pub whole-looked : (may_leave : D → List ℕ → Type 0) (moment : D → ℕ)
+      (left_since : D → ℕ → List ℕ → Type 0)
+      (l : List Mark) (place : Option ℕ) (old : SharedState D) (held : Held) (saves : SavesState D)
+      → Whole l place old
+      → OnlyLooks tells may_leave moment left_since reach room label old.saves.store.disk
+      saves.store.disk
       → faults old.saves.store.disk ≤ faults saves.store.disk
-      → ((side : Side) → IsTrue (tells old.saves.store.disk) → store_area seen_of saves.store side ≡ store_area seen_of old.saves.store side)
-      → saves.store.made ≡ old.saves.store.made → saves.store.slots ≡ old.saves.store.slots → saves.missed ≡ old.saves.missed
-      → (IsSoundDesk tells seen_of (desk_tag old) → HoldsOwnWorld old.desk.stories (game old.desk) held)
+      → ((side : Side) → IsTrue (tells old.saves.store.disk)
+      → store_area seen_of saves.store side ≡ store_area seen_of old.saves.store side)
+      → saves.store.made ≡ old.saves.store.made
+      → saves.store.slots ≡ old.saves.store.slots
+      → saves.missed ≡ old.saves.missed
+      → (IsSoundDesk tells seen_of (desk_tag old)
+      → HoldsOwnWorld old.desk.stories (game old.desk) held)
       → Whole l place (rested old held saves)
-  whole-looked may_leave moment left_since l place old held saves w looks counts areas made slots missed holds =
+  whole-looked may_leave moment left_since l place old held saves w looks counts areas
+      made slots missed holds =
       whole-rested l place old held saves w
-      (store-kept tells room label faults reach old.store old.saves.store saves.store w.store looks.same counts
+      (store-kept tells room label faults reach old.store old.saves.store saves.store w.store
+      looks.same counts
       (not_past (reach old.saves.store.disk) (reach saves.store.disk) looks.asked) made)
       holds
       (λ sound side area e. (w.own sound).agreed side area
-      (sym (areas side (still_tells tells room label faults reach old.store old.saves.store w.store sound.0)) ∙ e))
+      (sym (areas side
+      (still_tells tells room label faults reach old.store old.saves.store w.store sound.0))
+      ∙ e))
       (λ none place last. rw (slots, missed) (w.kept_up none place last))
 
   -- as a snapshot was kept
-  pub whole-kept : (l : List Mark) (place : Option ℕ) (old : SharedState D) (saves : SavesState D) → Whole l place old
-      → SameDisk tells room label old.saves.store.disk saves.store.disk × (saves.store.made ≡ old.saves.store.made)
+  pub whole-kept : (l : List Mark) (place : Option ℕ) (old : SharedState D) (saves : SavesState D)
+      → Whole l place old
+      → SameDisk tells room label old.saves.store.disk saves.store.disk
+      × (saves.store.made ≡ old.saves.store.made)
       → faults old.saves.store.disk ≤ faults saves.store.disk
       → reach saves.store.disk ≤ max (reach old.saves.store.disk) 16781344
-      → (row count : ℕ) (world : WorldState) → place ≡ Some row → count ≡ length (inputs_of (game old.desk)) → old.desk.held ≡ Current world
-      → (IsKeptUp row count old.saves.store.slots old.saves.missed → IsKeptUp row count saves.store.slots saves.missed)
-      → ((stories : List Story) (rows : List ℕ) (g : List Command) → IsTrue (tells old.saves.store.disk) → last_row rows ≡ Some row → length (inputs_of g) ≡ count
-      → world_of stories g ≡ Some world → IsAgreed seen_of stories rows g old.saves.store → IsAgreed seen_of stories rows g saves.store)
+      → (row count : ℕ) (world : WorldState) → place ≡ Some row
+      → count ≡ length (inputs_of (game old.desk))
+      → old.desk.held ≡ Current world
+      → (IsKeptUp row count old.saves.store.slots old.saves.missed
+      → IsKeptUp row count saves.store.slots saves.missed)
+      → ((stories : List Story) (rows : List ℕ) (g : List Command)
+      → IsTrue (tells old.saves.store.disk)
+      → last_row rows ≡ Some row → length (inputs_of g) ≡ count
+      → world_of stories g ≡ Some world
+      → IsAgreed seen_of stories rows g old.saves.store
+      → IsAgreed seen_of stories rows g saves.store)
       → Whole l place (record old { saves = saves })
   whole-kept l place old saves w same counts reaches row count world at counted held keeps agrees =
       whole-rested l place old old.desk.held saves w
-      (store-kept tells room label faults reach old.store old.saves.store saves.store w.store same.0 counts reaches same.1)
+      (store-kept tells room label faults reach old.store old.saves.store saves.store w.store
+      same.0 counts reaches same.1)
       (λ sound. (w.own sound).holds)
       (λ sound. let o = w.own sound in
-      agrees old.desk.stories (open_rows old) (game old.desk) (still_tells tells room label faults reach old.store old.saves.store w.store sound.0)
+      agrees old.desk.stories (open_rows old) (game old.desk)
+      (still_tells tells room label faults reach old.store old.saves.store w.store sound.0)
       (sym w.row ∙ at) (sym counted) (rw held at o.holds) o.agreed)
       (λ none p last. let same_row = some_row p row (sym last ∙ sym w.row ∙ at) in
       let before = w.kept_up none p last in
       rw (same_row, sym counted) (keeps (rw (same_row, sym counted) at before)))
 
   -- as a desk was opened
-  pub whole-opened : (l : List Mark) (s : ℕ) (stories : List Story) (budget : ℕ) (rows : List Row) (pass : Pass (Log D) JournalEntry) (store : Snapshots D)
-      → IsMarked l (cold_desk s stories budget (commands_of rows s)) pass → seen pass ≡ rows_kept rows
+  pub whole-opened : (l : List Mark) (s : ℕ) (stories : List Story) (budget : ℕ)
+      (rows : List Row) (pass : Pass (Log D) JournalEntry) (store : Snapshots D)
+      → IsMarked l (cold_desk s stories budget (commands_of rows s)) pass
+      → seen pass ≡ rows_kept rows
       → Whole l (last_row (opens_of rows s)) (as_opened s stories budget rows pass store)
   whole-opened l s stories budget rows pass store marked saw =
       let same : rows_of (seen pass) ≡ rows = ap rows_of saw ∙ rows_of-kept rows in
@@ -339,40 +472,80 @@ module _ {D : Type 0} (tells : D → Bool) (seen_of : D → List ℕ) (room labe
         marked = marked;
         row = ap (λ (x : List Row). last_row (opens_of x s)) (sym same);
         store = same-store tells room label faults reach store;
-        own = λ sound. record { holds = tt; agreed = subst (λ (x : List Row). IsAgreed seen_of stories (opens_of x s) (game_of (commands_of rows s)) store) (sym same) sound.1 };
-        kept_up = λ none place last. absurd (let e = sym last ∙ ap last_row (ap (λ (x : List Row). opens_of x s) same ∙ no_rows rows s none) in cc);
+        own =
+            λ sound. record {
+              holds = tt;
+              agreed =
+                  subst (λ (x : List Row).
+                  IsAgreed seen_of stories (opens_of x s) (game_of (commands_of rows s)) store)
+                  (sym same) sound.1;
+            };
+        kept_up =
+            λ none place last. absurd (let e =
+            sym last
+            ∙ ap last_row (ap (λ (x : List Row). opens_of x s) same ∙ no_rows rows s none) in
+            cc);
       }
 
-  abbrev pub state : DeskState → List Entry → Pass (Log D) JournalEntry → SavesState D → Snapshots D → List Row → SharedState D
+  abbrev pub state : DeskState → List Entry
+      → Pass (Log D) JournalEntry → SavesState D → Snapshots D
+      → List Row → SharedState D
   state desk history pass saves store rows =
-      record { desk = desk; history = history; pass = pass; saves = saves; store = store; rows = rows }
+      record {
+        desk = desk;
+        history = history;
+        pass = pass;
+        saves = saves;
+        store = store;
+        rows = rows;
+      }
 
-  same_state : (a b : DeskState) (h k : List Entry) (pass : Pass (Log D) JournalEntry) (v w : SavesState D) (x y : Snapshots D) (r q : List Row)
+  same_state : (a b : DeskState) (h k : List Entry) (pass : Pass (Log D) JournalEntry)
+      (v w : SavesState D) (x y : Snapshots D) (r q : List Row)
       → a ≡ b → h ≡ k → v ≡ w → x ≡ y → r ≡ q → state a h pass v x r ≡ state b k pass w y q
   same_state a b h k pass v w x y r q e f i j m = rw (e, f, i, j, m) refl
 
-  pub whole-open : (l : List Mark) (place : Option ℕ) (desk : DeskState) (s : ℕ) (stories : List Story) (budget : ℕ) (rows : List Row) (pass : Pass (Log D) JournalEntry)
-      (saves : SavesState D) (given : Snapshots D) (first : Pass (Log D) JournalEntry) (store : Snapshots D)
-      → l ≡ replicate (length desk.commands) (marks.Accepted 0) → desk ≡ cold_desk s stories budget (commands_of rows s) → IsPassOf s pass → seen pass ≡ rows_kept rows
-      → place ≡ last_row (opens_of rows s) → saves ≡ own.saves_of_opened_store store → given ≡ store → first ≡ pass
-      → Whole l place (state desk (commands_woven l desk.commands) pass saves given (rows_of (seen first)))
-      × (state desk (commands_woven l desk.commands) pass saves given (rows_of (seen first)) ≡ as_opened s stories budget rows pass store)
-  whole-open l place desk s stories budget rows pass saves given first store all has of saw at clear is was =
+  pub whole-open : (l : List Mark) (place : Option ℕ) (desk : DeskState) (s : ℕ)
+      (stories : List Story) (budget : ℕ) (rows : List Row) (pass : Pass (Log D) JournalEntry)
+      (saves : SavesState D) (given : Snapshots D) (first : Pass (Log D) JournalEntry)
+      (store : Snapshots D)
+      → l ≡ replicate (length desk.commands) (marks.Accepted 0)
+      → desk ≡ cold_desk s stories budget (commands_of rows s)
+      → IsPassOf s pass → seen pass ≡ rows_kept rows
+      → place ≡ last_row (opens_of rows s)
+      → saves ≡ own.saves_of_opened_store store → given ≡ store
+      → first ≡ pass
+      → Whole l place
+      (state desk (commands_woven l desk.commands) pass saves given (rows_of (seen first)))
+      × (state desk (commands_woven l desk.commands) pass saves given (rows_of (seen first))
+      ≡ as_opened s stories budget rows pass store)
+  whole-open l place desk s stories budget rows pass saves given first store all has of
+      saw at clear is was =
       let m = marked-opened l desk s stories budget rows pass all has of saw in
-      let same : state desk (commands_woven l desk.commands) pass saves given (rows_of (seen first)) ≡ as_opened s stories budget rows pass store =
-      same_state desk (cold_desk s stories budget (commands_of rows s)) (commands_woven l desk.commands) (history_in (rows_kept rows) s) pass saves (own.saves_of_opened_store store) given store (rows_of (seen first)) rows
-      has m.1 clear is (ap (λ (p : Pass (Log D) JournalEntry). rows_of (seen p)) was ∙ ap rows_of saw ∙ rows_of-kept rows) in (
+      let same : state desk (commands_woven l desk.commands) pass saves given (rows_of (seen first))
+      ≡ as_opened s stories budget rows pass store =
+      same_state desk (cold_desk s stories budget (commands_of rows s))
+      (commands_woven l desk.commands) (history_in (rows_kept rows) s) pass saves
+      (own.saves_of_opened_store store) given store (rows_of (seen first)) rows
+      has m.1 clear is (ap (λ (p : Pass (Log D) JournalEntry). rows_of (seen p)) was
+      ∙ ap rows_of saw ∙ rows_of-kept rows) in (
         subst (λ (x : SharedState D). Whole l place x) (sym same)
-            (subst (λ (o : Option ℕ). Whole l o (as_opened s stories budget rows pass store)) (sym at)
-            (whole-opened l s stories budget rows pass store (subst (λ (d : DeskState). IsMarked l d pass) has m.0) saw)),
+            (subst (λ (o : Option ℕ). Whole l o (as_opened s stories budget rows pass store))
+            (sym at)
+            (whole-opened l s stories budget rows pass store
+            (subst (λ (d : DeskState). IsMarked l d pass) has m.0) saw)),
         same,
       )
 
   -- what is left of the store
-  pub ends_store : (may_leave : D → List ℕ → Type 0) (l : List Mark) (place : Option ℕ) (old : SharedState D) → Whole l place old
+  pub ends_store : (may_leave : D → List ℕ → Type 0) (l : List Mark) (place : Option ℕ)
+      (old : SharedState D)
+      → Whole l place old
       → EachImage tells may_leave old.saves.store.disk (IsImageOf seen_of old.saves.store)
       → EndsStore tells may_leave seen_of room label faults reach old
   ends_store may_leave l place old w images = record {
     store = w.store;
-    agreed = λ sound told image may side area e. (w.own sound).agreed side area ((images told image may).openable side area e);
+    agreed =
+        λ sound told image may side area e.
+        (w.own sound).agreed side area ((images told image may).openable side area e);
   }

@@ -1,18 +1,23 @@
 -- A desk may be warmed where a request finds it cold, and is warm once its command was run.
-use Rattle.std.proofs.Common.{◌≡◌, ℕ, Bool, true, false, ◌&&◌, ◌==◌, not, nat_le, nat_lt, cond, List, [], ◌∷◌, ◌++◌, Option, Some, None, is_none, refl, sym, arith, ◌+◌}
+use Rattle.std.proofs.Common.{◌≡◌, ℕ, Bool, true, false, ◌&&◌, ◌==◌, not}
+use Rattle.std.proofs.Common.{nat_le, nat_lt, cond, List, [], ◌∷◌, ◌++◌, Option}
+use Rattle.std.proofs.Common.{Some, None, is_none, refl, sym, arith, ◌+◌}
 use Rattle.std.proofs.lemmas.Bool.Decides.{nat_tests}
 use Rattle.gate_journal.specs.declared.command.Command.{Command}
 use Rattle.gate_journal.specs.declared.command.Command.TheVariants as commands
 use Rattle.line_words.specs.declared.reply.No.{No}
 use Rattle.line_words.specs.declared.request.Request.{Request}
-use Rattle.line_words.specs.declared.request.Request.TheVariants.{Open, Line, Char, File, Last, Close}
+use Rattle.line_words.specs.declared.request.Request.TheVariants.{Open, Line, Char}
+use Rattle.line_words.specs.declared.request.Request.TheVariants.{File, Last, Close}
 use Rattle.story_run.specs.declared.setup.Setup.{Setup}
 use Rattle.story_run.specs.declared.story.Story.{Story}
 use Rattle.story_run.specs.World.{WorldState}
-use Rattle.session_core.specs.History.{command_count, game_of, game_goes_on, has_key, is_in_use, last_of, story_at, world_in, world_of}
+use Rattle.session_core.specs.History.{command_count, game_of, game_goes_on, has_key}
+use Rattle.session_core.specs.History.{is_in_use, last_of, story_at, world_in, world_of}
 use Rattle.session_core.specs.Checks.{command_of, is_last, is_other_story, opening_command}
 use Rattle.session_core.specs.Answer.{accepted_by, first_refusal, plain_checks}
-use Rattle.session_core.proofs.RepeatLemmas.{all_fail, joined, game_of-append, game_of-append-open, last_of-joined, some_is}
+use Rattle.session_core.proofs.RepeatLemmas.{all_fail, joined, game_of-append}
+use Rattle.session_core.proofs.RepeatLemmas.{game_of-append-open, last_of-joined, some_is}
 use Rattle.session_desk.specs.declared.held.Held.{Held}
 use Rattle.session_desk.specs.declared.held.Held.TheVariants.{Nothing, Current, Previous}
 use Rattle.session_desk.specs.declared.verdict.Verdict.TheVariants.{Again, Fresh, Cold}
@@ -28,26 +33,41 @@ left_false : (x y : Bool) → (x && y) ≡ false → x ≡ true → y ≡ false
 left_false true y e x = e
 left_false false y e x = absurd cc
 
-unchanged : (stories : List Story) (g : List Command) (request : Request) → first_refusal (plain_checks stories g request) ≡ None → is_to_story g request ≡ true
+unchanged : (stories : List Story) (g : List Command) (request : Request)
+    → first_refusal (plain_checks stories g request) ≡ None
+    → is_to_story g request ≡ true
     → is_other_story stories g ≡ false
 unchanged stories g (Open s key story seed cols rows budget) none asks =
     let fails = all_fail (plain_checks stories g (Open s key story seed cols rows budget)) none in
-    left_false (is_in_use g) (is_other_story stories g) fails.1.1.1.0 (both_hold (is_in_use g) true asks).0
-unchanged stories g (Line s key n win text term) none asks = (all_fail (plain_checks stories g (Line s key n win text term)) none).1.1.1.0
-unchanged stories g (Char s key n win code) none asks = (all_fail (plain_checks stories g (Char s key n win code)) none).1.1.1.0
-unchanged stories g (File s key n name) none asks = (all_fail (plain_checks stories g (File s key n name)) none).1.1.1.0
-unchanged stories g (Last s key) none asks = (all_fail (plain_checks stories g (Last s key)) none).1.1.1.0
-unchanged stories g (Close s key n) none asks = absurd (let e = (both_hold (is_in_use g) false asks).1 in cc)
+    left_false (is_in_use g) (is_other_story stories g) fails.1.1.1.0
+    (both_hold (is_in_use g) true asks).0
+unchanged stories g (Line s key n win text term) none asks =
+    (all_fail (plain_checks stories g (Line s key n win text term)) none).1.1.1.0
+unchanged stories g (Char s key n win code) none asks =
+    (all_fail (plain_checks stories g (Char s key n win code)) none).1.1.1.0
+unchanged stories g (File s key n name) none asks =
+    (all_fail (plain_checks stories g (File s key n name)) none).1.1.1.0
+unchanged stories g (Last s key) none asks =
+    (all_fail (plain_checks stories g (Last s key)) none).1.1.1.0
+unchanged stories g (Close s key n) none asks =
+    absurd (let e = (both_hold (is_in_use g) false asks).1 in cc)
 
 none_is : {A : Type 0} → (o : Option A) → is_none o ≡ true → o ≡ None
 none_is None e = refl
 none_is (Some x) e = absurd cc
 
-may_warm : (desk : DeskState) (request : Request) → verdict desk request ≡ Cold → is_other_story desk.stories (game desk) ≡ false
+may_warm : (desk : DeskState) (request : Request)
+    → verdict desk request ≡ Cold
+    → is_other_story desk.stories (game desk) ≡ false
 may_warm desk request e =
-    let lacks = both_hold (needs_world desk.stories (game desk) request) (is_none (world_now desk.held)) ((cold_alone desk request).0 e) in
-    let needs = both_hold (is_none (first_refusal (plain_checks desk.stories (game desk) request))) (is_to_story (game desk) request) lacks.0 in
-    unchanged desk.stories (game desk) request (none_is (first_refusal (plain_checks desk.stories (game desk) request)) needs.0) needs.1
+    let lacks =
+    both_hold (needs_world desk.stories (game desk) request) (is_none (world_now desk.held))
+    ((cold_alone desk request).0 e) in
+    let needs =
+    both_hold (is_none (first_refusal (plain_checks desk.stories (game desk) request)))
+    (is_to_story (game desk) request) lacks.0 in
+    unchanged desk.stories (game desk) request
+    (none_is (first_refusal (plain_checks desk.stories (game desk) request)) needs.0) needs.1
 
 -- ---- once a command was run
 
@@ -59,59 +79,90 @@ holds_world : (used : Bool) → (used && false) ≡ false
 holds_world true = refl
 holds_world false = refl
 
-input_run : (stories : List Story) (g : List Command) (c : Command) (held : Held) → ((w : WorldState) → aside c (Current w) ≡ Previous w) → is_none (world_now held) ≡ false
+input_run : (stories : List Story) (g : List Command) (c : Command) (held : Held)
+    → ((w : WorldState) → aside c (Current w) ≡ Previous w)
+    → is_none (world_now held) ≡ false
     → IsWarmWith g (held_then stories g (aside c held))
 input_run stories g c Nothing sets held = absurd cc
 input_run stories g c (Previous w) sets held = absurd cc
 input_run stories g c (Current w) sets held = rw (sets w) (holds_world (is_in_use g))
 
-begun_run : (used : Bool) (now : Option WorldState) → is_none now ≡ false → (used && is_none (world_now (cond used (world_held now) Nothing))) ≡ false
+begun_run : (used : Bool) (now : Option WorldState)
+    → is_none now ≡ false
+    → (used && is_none (world_now (cond used (world_held now) Nothing))) ≡ false
 begun_run true None some = absurd cc
 begun_run true (Some w) some = refl
 begun_run false now some = refl
 
-found_world : (found : Option Story) (setup : Setup) (after : List Command) (key : List ℕ) (story seed cols rows budget : ℕ) (c : Command)
-    → opening_command found (λ digest. commands.Open key story digest seed cols rows budget) ≡ Some c → is_none (world_in found setup after) ≡ false
+found_world : (found : Option Story) (setup : Setup) (after : List Command) (key : List ℕ)
+    (story seed cols rows budget : ℕ) (c : Command)
+    → opening_command found (λ digest. commands.Open key story digest seed cols rows budget)
+    ≡ Some c
+    → is_none (world_in found setup after) ≡ false
 found_world None setup after key story seed cols rows budget c e = absurd cc
 found_world (Some there) setup after key story seed cols rows budget c e = refl
 
-open_run : (stories : List Story) (history : List Command) (held : Held) (key : List ℕ) (story seed cols rows budget : ℕ) (c : Command)
-    → opening_command (story_at stories story) (λ digest. commands.Open key story digest seed cols rows budget) ≡ Some c
-    → IsWarmWith (game_of (history ++ c ∷ [])) (held_then stories (game_of (history ++ c ∷ [])) (aside c held))
+open_run : (stories : List Story) (history : List Command) (held : Held) (key : List ℕ)
+    (story seed cols rows budget : ℕ) (c : Command)
+    → opening_command (story_at stories story)
+    (λ digest. commands.Open key story digest seed cols rows budget)
+    ≡ Some c
+    → IsWarmWith (game_of (history ++ c ∷ []))
+    (held_then stories (game_of (history ++ c ∷ [])) (aside c held))
 open_run stories history held key story seed cols rows budget c e =
     let it = opens (story_at stories story) key story seed cols rows budget c e in
     let x = commands.Open key story it.0 seed cols rows budget in
     rw it.1 (rw (game_of-append-open history x refl)
     (begun_run true (world_of stories (x ∷ []))
-    (found_world (story_at stories story) (record { seed = seed; cols = cols; rows = rows; budget = budget }) [] key story seed cols rows budget c e)))
+    (found_world (story_at stories story)
+    (record { seed = seed; cols = cols; rows = rows; budget = budget })
+    [] key story seed cols rows budget c e)))
 
 closed_free : (g : List Command) → is_in_use (joined g commands.Close) ≡ false
 closed_free [] = refl
 closed_free (d ∷ ds) = rw (last_of-joined d ds commands.Close) refl
 
-after_run : (desk : DeskState) (request : Request) (c : Command) → verdict desk request ≡ Fresh → first_refusal (plain_checks desk.stories (game desk) request) ≡ None
+after_run : (desk : DeskState) (request : Request) (c : Command)
+    → verdict desk request ≡ Fresh
+    → first_refusal (plain_checks desk.stories (game desk) request) ≡ None
     → command_of desk.stories request ≡ Some c
-    → IsWarmWith (game_of (desk.commands ++ c ∷ [])) (held_then desk.stories (game_of (desk.commands ++ c ∷ [])) (aside c desk.held))
-after_run desk (Open s key story seed cols rows budget) c v none e = open_run desk.stories desk.commands desk.held key story seed cols rows budget c e
+    → IsWarmWith (game_of (desk.commands ++ c ∷ []))
+    (held_then desk.stories (game_of (desk.commands ++ c ∷ [])) (aside c desk.held))
+after_run desk (Open s key story seed cols rows budget) c v none e =
+    open_run desk.stories desk.commands desk.held key story seed cols rows budget c e
 after_run desk (Line s key n win text term) c v none e =
     let g = game desk in
-    let k = knows (nat_le 64 s) (has_key g key) (is_in_use g) (all_fail (plain_checks desk.stories g (Line s key n win text term)) none).0 in
-    rw (sym (some_is _ c e)) (input_run desk.stories (game_of (desk.commands ++ commands.Line win term text ∷ [])) (commands.Line win term text) desk.held (λ w. refl) (held_now desk (Line s key n win text term) v none (rw k.1 refl)))
+    let k =
+    knows (nat_le 64 s) (has_key g key) (is_in_use g)
+    (all_fail (plain_checks desk.stories g (Line s key n win text term)) none).0 in
+    rw (sym (some_is _ c e)) (input_run desk.stories
+    (game_of (desk.commands ++ commands.Line win term text ∷ [])) (commands.Line win term text)
+    desk.held (λ w. refl) (held_now desk (Line s key n win text term) v none (rw k.1 refl)))
 after_run desk (Char s key n win code) c v none e =
     let g = game desk in
-    let k = knows (nat_le 64 s) (has_key g key) (is_in_use g) (all_fail (plain_checks desk.stories g (Char s key n win code)) none).0 in
-    rw (sym (some_is _ c e)) (input_run desk.stories (game_of (desk.commands ++ commands.Char win code ∷ [])) (commands.Char win code) desk.held (λ w. refl) (held_now desk (Char s key n win code) v none (rw k.1 refl)))
+    let k =
+    knows (nat_le 64 s) (has_key g key) (is_in_use g)
+    (all_fail (plain_checks desk.stories g (Char s key n win code)) none).0 in
+    rw (sym (some_is _ c e)) (input_run desk.stories
+    (game_of (desk.commands ++ commands.Char win code ∷ [])) (commands.Char win code) desk.held
+    (λ w. refl) (held_now desk (Char s key n win code) v none (rw k.1 refl)))
 after_run desk (File s key n name) c v none e =
     let g = game desk in
-    let k = knows (nat_le 64 s) (has_key g key) (is_in_use g) (all_fail (plain_checks desk.stories g (File s key n name)) none).0 in
-    rw (sym (some_is _ c e)) (input_run desk.stories (game_of (desk.commands ++ commands.File name ∷ [])) (commands.File name) desk.held (λ w. refl) (held_now desk (File s key n name) v none (rw k.1 refl)))
+    let k =
+    knows (nat_le 64 s) (has_key g key) (is_in_use g)
+    (all_fail (plain_checks desk.stories g (File s key n name)) none).0 in
+    rw (sym (some_is _ c e)) (input_run desk.stories
+    (game_of (desk.commands ++ commands.File name ∷ [])) (commands.File name) desk.held
+    (λ w. refl) (held_now desk (File s key n name) v none (rw k.1 refl)))
 after_run desk (Last s key) c v none e = absurd cc
 after_run desk (Close s key n) c v none e =
-    rw (sym (some_is _ c e)) (rw (game_of-append desk.commands commands.Close refl) (rw (closed_free (game desk)) refl))
+    rw (sym (some_is _ c e))
+    (rw (game_of-append desk.commands commands.Close refl) (rw (closed_free (game desk)) refl))
 
 -- ---- where the last show is given again
 
-last_closes : (o : Option Command) (s : ℕ) (key : List ℕ) (n : ℕ) → is_last o (Close s key n) ≡ true → game_goes_on o ≡ false
+last_closes : (o : Option Command) (s : ℕ) (key : List ℕ) (n : ℕ)
+    → is_last o (Close s key n) ≡ true → game_goes_on o ≡ false
 last_closes None s key n e = refl
 last_closes (Some (commands.Open k story digest seed cols rows budget)) s key n e = absurd cc
 last_closes (Some (commands.Line win term text)) s key n e = absurd cc
@@ -128,41 +179,57 @@ left_true true true e x = refl
 left_true true false e x = absurd cc
 left_true false y e x = absurd cc
 
-the_last : (n c : ℕ) → nat_lt n c ≡ false → nat_lt (c + 1) n ≡ false → (n == c + 1) ≡ false → (n == c) ≡ true
+the_last : (n c : ℕ)
+    → nat_lt n c ≡ false → nat_lt (c + 1) n ≡ false
+    → (n == c + 1) ≡ false → (n == c) ≡ true
 the_last n c early ahead fresh = grind (arith, nat_tests, early, ahead, fresh)
 
 -- a CLOSE that is given again has closed the session
-pub closed_again : (stories : List Story) (g : List Command) (s : ℕ) (key : List ℕ) (n : ℕ) → first_refusal (plain_checks stories g (Close s key n)) ≡ None
+pub closed_again : (stories : List Story) (g : List Command) (s : ℕ) (key : List ℕ) (n : ℕ)
+    → first_refusal (plain_checks stories g (Close s key n)) ≡ None
     → accepted_by stories g (Close s key n) ≡ None → is_in_use g ≡ false
 unfolding accepted_by
 closed_again stories g s key n none accepted =
     let fails = all_fail (plain_checks stories g (Close s key n)) none in
     let fresh = not_taken (n == command_count g + 1) commands.Close accepted in
     let last = the_last n (command_count g) fails.1.1.1.1.0 fails.1.1.1.1.1.1.0 fresh in
-    last_closes (last_of g) s key n (left_true (n == command_count g) (is_last (last_of g) (Close s key n)) fails.1.1.1.1.1.0 last)
+    last_closes (last_of g) s key n
+    (left_true (n == command_count g) (is_last (last_of g) (Close s key n)) fails.1.1.1.1.1.0 last)
 
-held_by : (checks : Option No) (used none : Bool) → checks ≡ None → ((is_none checks && (used && true)) && none) ≡ false → (used && none) ≡ false
+held_by : (checks : Option No) (used none : Bool)
+    → checks ≡ None
+    → ((is_none checks && (used && true)) && none) ≡ false
+    → (used && none) ≡ false
 held_by None true none e held = held
 held_by None false none e held = refl
 held_by (Some why) used none e held = absurd cc
 
-after_again : (desk : DeskState) (request : Request) → verdict desk request ≡ Again → (is_in_use (game desk) && is_none (world_now desk.held)) ≡ false
+after_again : (desk : DeskState) (request : Request)
+    → verdict desk request ≡ Again
+    → (is_in_use (game desk) && is_none (world_now desk.held)) ≡ false
 after_again desk (Open s key story seed cols rows budget) e =
-    let r = repeats desk (Open s key story seed cols rows budget) e in held_by _ (is_in_use (game desk)) (is_none (world_now desk.held)) r.none r.held
+    let r = repeats desk (Open s key story seed cols rows budget) e in
+    held_by _ (is_in_use (game desk)) (is_none (world_now desk.held)) r.none r.held
 after_again desk (Line s key n win text term) e =
-    let r = repeats desk (Line s key n win text term) e in held_by _ (is_in_use (game desk)) (is_none (world_now desk.held)) r.none r.held
+    let r = repeats desk (Line s key n win text term) e in
+    held_by _ (is_in_use (game desk)) (is_none (world_now desk.held)) r.none r.held
 after_again desk (Char s key n win code) e =
-    let r = repeats desk (Char s key n win code) e in held_by _ (is_in_use (game desk)) (is_none (world_now desk.held)) r.none r.held
+    let r = repeats desk (Char s key n win code) e in
+    held_by _ (is_in_use (game desk)) (is_none (world_now desk.held)) r.none r.held
 after_again desk (File s key n name) e =
-    let r = repeats desk (File s key n name) e in held_by _ (is_in_use (game desk)) (is_none (world_now desk.held)) r.none r.held
+    let r = repeats desk (File s key n name) e in
+    held_by _ (is_in_use (game desk)) (is_none (world_now desk.held)) r.none r.held
 after_again desk (Last s key) e =
-    let r = repeats desk (Last s key) e in held_by _ (is_in_use (game desk)) (is_none (world_now desk.held)) r.none r.held
+    let r = repeats desk (Last s key) e in
+    held_by _ (is_in_use (game desk)) (is_none (world_now desk.held)) r.none r.held
 after_again desk (Close s key n) e =
-    let r = repeats desk (Close s key n) e in rw (closed_again desk.stories (game desk) s key n r.none r.accepted) refl
+    let r = repeats desk (Close s key n) e in
+    rw (closed_again desk.stories (game desk) s key n r.none r.accepted) refl
 
 pub stays_warm : StaysWarm
 stays_warm desk request = (
   λ e. may_warm desk request e,
-  λ command e asked. let a = accepts desk request e in after_run desk request command e a.none asked,
+  λ command e asked.
+      let a = accepts desk request e in after_run desk request command e a.none asked,
   λ e. after_again desk request e,
 )

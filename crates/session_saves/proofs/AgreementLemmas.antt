@@ -139,12 +139,14 @@ pub in_image : {D : Type 0} (seen : D
 in_image seen world place count store image (inl is) side area e = inl (is.openable side area e)
 in_image seen world place count store image (inr (bytes, has, put)) side area e =
     elim (side_cases (taken_side store.slots) side) [
-      | inl taken ↦ subst (λ (s : Side). IsOldOrNew world place count (store_area seen store s) area)
+      | inl taken ↦
+          subst (λ (s : Side). IsOldOrNew world place count (store_area seen store s) area)
           (sym taken)
           (put_or_kept world place count bytes (store_area seen store (taken_side store.slots)) area
           has
           (put.taken area (subst (λ (s : Side). openable_area s image ≡ Some area) taken e)))
-      | inr beside ↦ subst (λ (s : Side). IsOldOrNew world place count (store_area seen store s) area)
+      | inr beside ↦
+          subst (λ (s : Side). IsOldOrNew world place count (store_area seen store s) area)
           (sym beside)
           (inl (put.beside area (subst (λ (s : Side). openable_area s image ≡ Some area) beside e)))
     ]

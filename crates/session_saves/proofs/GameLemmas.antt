@@ -17,7 +17,8 @@ use Rattle.story_run.specs.declared.stage.Stage.{Stage}
 use Rattle.story_run.specs.declared.stage.Stage.TheVariants.{AtSelect, AtPrompt, Quit, Fault}
 use Rattle.story_run.specs.declared.story.Story.{Story}
 use Rattle.story_run.specs.World.{WorldState}
-use Rattle.story_run.specs.Solo.{world_after_turn, is_wanted, opening, world_after_input, turned_by, world_after}
+use Rattle.story_run.specs.Solo.{world_after_turn, is_wanted, opening}
+use Rattle.story_run.specs.Solo.{world_after_input, turned_by, world_after}
 use Rattle.session_core.specs.History.{input_of, story_at, world_in, world_of}
 use Rattle.session_core.specs.Checks.{is_other_story}
 use Rattle.session_core.specs.Turns.{turns_by}

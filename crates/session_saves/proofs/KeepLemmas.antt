@@ -19,8 +19,9 @@ use Rattle.session_saves.specs.declared.missed.Cause.TheVariants.{NoMemory, TooL
 use Rattle.session_saves.specs.declared.missed.Cause.TheVariants.{NotMade}
 use Rattle.session_saves.specs.declared.missed.Missed.{Missed}
 use Rattle.session_saves.specs.declared.saves.Point.{Point}
-use Rattle.session_saves.specs.Keeping.{AddsOnly, CountsExactly, Fits, IsMissed, IsOldOrNew, IsPut}
-use Rattle.session_saves.specs.Keeping.{IsTooLong, FailedPutLeaves, MayStandMeanwhile, Prevents, PutsWorld}
+use Rattle.session_saves.specs.Keeping.{AddsOnly, CountsExactly, Fits, IsMissed}
+use Rattle.session_saves.specs.Keeping.{IsOldOrNew, IsPut, IsTooLong, FailedPutLeaves}
+use Rattle.session_saves.specs.Keeping.{MayStandMeanwhile, Prevents, PutsWorld}
 use Rattle.snap_store.specs.File.{area_with}
 use Rattle.session_saves.specs.Keeping.{with_missed}
 use Rattle.session_saves.specs.Saves.{SavesState, with_cause}
@@ -64,7 +65,8 @@ adds_only seen world place count bytes old new has left beside side area e =
           (left_old_or_new world place count bytes (store_area seen old (taken_side old.slots))
           (store_area seen new (taken_side old.slots)) area has left
           (subst (λ (s : Side). store_area seen new s ≡ Some area) taken e))
-      | inr is_other ↦ subst (λ (s : Side). IsOldOrNew world place count (store_area seen old s) area)
+      | inr is_other ↦
+          subst (λ (s : Side). IsOldOrNew world place count (store_area seen old s) area)
           (sym is_other)
           (inl (sym beside ∙ subst (λ (s : Side). store_area seen new s ≡ Some area) is_other e))
     ]
@@ -81,7 +83,8 @@ module _ {D : Type 0} (tells : D → Bool) (may_leave : D → List ℕ → Type 
   pub untouched : ((d : D) (c : List ℕ) → left_since d (moment d) c → may_leave d c)
       → (world : WorldState) (place count : ℕ) (store : Snapshots D)
       → EachImage tells may_leave store.disk (IsImageOf seen store) → IsTrue (tells store.disk)
-      → LeavesOnly moment left_since store.disk store.disk (MayStandMeanwhile seen world place count store)
+      → LeavesOnly moment left_since store.disk store.disk
+      (MayStandMeanwhile seen world place count store)
   untouched only_now world place count store images told =
       started moment left_since store.disk (MayStandMeanwhile seen world place count store)
       (λ c left. inl (images told c (only_now store.disk c left)))
@@ -100,7 +103,8 @@ module _ {D : Type 0} (tells : D → Bool) (may_leave : D → List ℕ → Type 
 
 pub put_stored : {D : Type 0} (tells : D → Bool) (may_leave : D → List ℕ → Type 0) (faults : D
     → ℕ) (world : WorldState) (place count : ℕ) (old new : Snapshots D)
-    → PutsWorld tells may_leave faults world place count old new → is_stored place count new.slots ≡ true
+    → PutsWorld tells may_leave faults world place count old new
+    → is_stored place count new.slots ≡ true
 put_stored tells may_leave faults world place count old new puts =
     ap (λ (s : Slots). is_stored place count s) puts.slots
     ∙ stored_with old.slots (taken_side old.slots) place count

@@ -11,9 +11,10 @@ use Rattle.story_run.specs.World.{WorldState}
 use Rattle.story_run.specs.Solo.{opening, world_after_input, turned_by, world_after}
 use Rattle.session_core.specs.History.{game_of}
 use Rattle.snap_store.specs.declared.side.Side.TheVariants.{A, B}
-use Rattle.snap_store.specs.File.{Stored, area_on_side, gate_byte, area_given, greatest, has_header, is_whole}
-use Rattle.snap_store.specs.File.{is_wanted_area, area_listed, newest_area, open_area}
-use Rattle.session_saves.specs.Game.{inputs_of, opening_setup, opened_story, turns_after, turns_of_inputs}
+use Rattle.snap_store.specs.File.{Stored, area_on_side, gate_byte, area_given, greatest, has_header}
+use Rattle.snap_store.specs.File.{is_whole, is_wanted_area, area_listed, newest_area, open_area}
+use Rattle.session_saves.specs.Game.{inputs_of, opening_setup, opened_story}
+use Rattle.session_saves.specs.Game.{turns_after, turns_of_inputs}
 use Rattle.snap_store.specs.File.{area_with}
 use Rattle.session_saves.specs.Laws.{AreWanted}
 use Rattle.session_saves.specs.Warming.{count_in}
@@ -25,8 +26,8 @@ abbrev IsWanted : Story → List Command → Type 0
 IsWanted story game =
     AreWanted (opening story.image (opening_setup game)) (inputs_of game)
 
--- Of a game whose inputs are all wanted, a warming of this OPEN row takes so many turns, where these
--- areas of the file are open: that of A, and that of B.
+-- Of a game whose inputs are all wanted, a warming of this OPEN row takes so many turns, where
+-- these areas of the file are open: that of A, and that of B.
 abbrev Takes : List Command → ℕ → Option Stored → Option Stored → ℕ → Type 0
 Takes game place a b turns =
     (stories : List Story) (story : Story) (file : List ℕ)
@@ -39,14 +40,16 @@ wanted_behind : (n : ℕ) (world : WorldState) (inputs : List Input) → AreWant
     → AreWanted (turned_by world (take n inputs)) (drop n inputs)
 wanted_behind zero world inputs wanted = wanted
 wanted_behind (suc n) world [] wanted = wanted
-wanted_behind (suc n) world (x ∷ xs) wanted = wanted_behind n (world_after_input world x) xs wanted.1
+wanted_behind (suc n) world (x ∷ xs) wanted =
+    wanted_behind n (world_after_input world x) xs wanted.1
 
 turns_behind : (stories : List Story) (game : List Command) (story : Story) (n : ℕ)
     → opened_story stories game ≡ Some story → IsWanted story game
     → turns_after stories game n ≡ length (inputs_of game) - n
 turns_behind stories game story n there wanted =
     let inputs = inputs_of game in
-    ap (λ (o : Option WorldState). turns_of_inputs o (drop n inputs)) (at_story stories game story n there)
+    ap (λ (o : Option WorldState). turns_of_inputs o (drop n inputs))
+    (at_story stories game story n there)
     ∙ wanted_inputs_are_turns (world_after story.image (opening_setup game) (take n inputs))
     (drop n inputs)
     (wanted_behind n (opening story.image (opening_setup game)) inputs wanted)
@@ -54,15 +57,19 @@ turns_behind stories game story n there wanted =
 
 -- the newest of two areas that are open, of this OPEN row and after at most so many inputs
 abbrev newest_of : ℕ → ℕ → Option Stored → Option Stored → Option Stored
-newest_of place most a b = greatest (filter (is_wanted_area place most) (area_listed a ++ area_listed b))
+newest_of place most a b =
+    greatest (filter (is_wanted_area place most) (area_listed a ++ area_listed b))
 
 takes : (game : List Command) (place : ℕ) (a b : Option Stored)
     → Takes game place a b
-    (length (inputs_of game) - count_in (area_given (newest_of place (length (inputs_of game)) a b)))
+    (length (inputs_of game)
+    - count_in (area_given (newest_of place (length (inputs_of game)) a b)))
 takes game place a b stories story file there wanted is_a is_b =
     let most = length (inputs_of game) in
-    turns_behind stories game story (count_in (area_given (newest_area place most file))) there wanted
-    ∙ ap (λ (x : Option Stored). most - count_in (area_given (newest_of place most x (open_area B file))))
+    turns_behind stories game story
+    (count_in (area_given (newest_area place most file))) there wanted
+    ∙ ap (λ (x : Option Stored).
+    most - count_in (area_given (newest_of place most x (open_area B file))))
     is_a
     ∙ ap (λ (x : Option Stored). most - count_in (area_given (newest_of place most a x))) is_b
 
@@ -107,7 +114,8 @@ newest bytes more = takes (game_with 36) 16 (kept 16 16 bytes) (kept 16 32 more)
 -- the same, but that the gate of the area after 32 is 0
 shut : (file : List ℕ) → gate_byte B file ≡ 0 → open_area B file ≡ None
 shut file closed =
-    ap (λ (n : ℕ). cond (has_header file && (n == 1) && is_whole B file) (Some (area_on_side B file))
+    ap
+    (λ (n : ℕ). cond (has_header file && (n == 1) && is_whole B file) (Some (area_on_side B file))
     None) closed
     ∙ none (has_header file) (is_whole B file) (area_on_side B file)
   where

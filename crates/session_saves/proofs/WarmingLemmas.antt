@@ -16,8 +16,8 @@ use Rattle.snap_store.specs.File.{area_given, newest_area}
 use Rattle.snap_store.specs.Store.{Snapshots, IsGiven}
 use Rattle.snap_store.specs.declared.area.Area.{Area}
 use Rattle.session_saves.specs.Agreement.{IsAgreed, last_row}
-use Rattle.session_saves.specs.Game.{inputs_of, played, opening_setup, opened_story, turns_after, turns_of_inputs}
-use Rattle.session_saves.specs.Game.{world_at}
+use Rattle.session_saves.specs.Game.{inputs_of, played, opening_setup, opened_story}
+use Rattle.session_saves.specs.Game.{turns_after, turns_of_inputs, world_at}
 use Rattle.session_saves.specs.Warming.{Beginning, BeginsWith, Warms, WarmsFrom, WarmsIn, at_start}
 use Rattle.session_saves.specs.Warming.{count_in}
 use Rattle.session_saves.proofs.GameLemmas.{image-world_after, turned_by-rest, world_at-all}

@@ -1,8 +1,8 @@
 -- Fields that have bytes have lists whose counts have four.
 use Rattle.std.proofs.Common.{List, [], ◌∷◌}
 use Rattle.std.specs.List.{AllByRecursion}
-use Rattle.snap_fields.specs.Counts.{CountsList, CountsWindow, HasCells, CountsRequest, CountsTarget}
-use Rattle.snap_fields.specs.Counts.{HasCounts}
+use Rattle.snap_fields.specs.Counts.{CountsList, CountsWindow, HasCells}
+use Rattle.snap_fields.specs.Counts.{CountsRequest, CountsTarget, HasCounts}
 use Rattle.snap_fields.specs.Numbers.{IsListOf}
 use Rattle.snap_fields.specs.Printable.{IsContent, IsGlkRequest, IsWindow, IsTarget, IsPrintable}
 use Rattle.snap_fields.specs.declared.fields.Fields.{Fields}

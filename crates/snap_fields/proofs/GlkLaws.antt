@@ -15,9 +15,9 @@ use Rattle.snap_fields.specs.declared.glk.Window.{Window}
 use Rattle.snap_fields.specs.Printing.{type_of, print_area, print_content, print_glk_request}
 use Rattle.snap_fields.specs.Printing.{print_window}
 use Rattle.snap_fields.specs.Printable.{IsArea, IsContent, IsGlkRequest, IsWindow}
-use Rattle.snap_fields.specs.GlkItems.{area_item, area_at, pair_item, grid_of, content_at, line_item}
-use Rattle.snap_fields.specs.GlkItems.{request_with, request_at, Head, head_at, behind_head}
-use Rattle.snap_fields.specs.GlkItems.{window_item, window_item_at}
+use Rattle.snap_fields.specs.GlkItems.{area_item, area_at, pair_item, grid_of, content_at}
+use Rattle.snap_fields.specs.GlkItems.{line_item, request_with, request_at, Head}
+use Rattle.snap_fields.specs.GlkItems.{head_at, behind_head, window_item, window_item_at}
 use Rattle.snap_fields.proofs.Readers.{IsReader, ◌before◌, made_reads, led_reads, joined_reads}
 use Rattle.snap_fields.proofs.Readers.{none_reads, pure_reads, if_reads, n1_reads, n4_reads}
 use Rattle.snap_fields.proofs.Lists.{list_reads, many_reads, flag1_reads, flag4_reads}
@@ -31,7 +31,8 @@ codes_reads = list_reads n4 IsWord n4_at n4_reads
 pub area_reads : IsReader Area print_area IsArea area_at
 unfolding area_at
 area_reads =
-    made_reads print_area IsArea area_item (n4_reads before n4_reads before n4_reads before n4_reads)
+    made_reads print_area IsArea area_item
+    (n4_reads before n4_reads before n4_reads before n4_reads)
     (λ a h. ((a.x, (a.y, (a.w, a.h))), refl, (h.x, (h.y, (h.w, h.h)))))
     (λ x h. record { x = h.0; y = h.1.0; w = h.1.1.0; h = h.1.1.1 })
     (λ x h. refl)

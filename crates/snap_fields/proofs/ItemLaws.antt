@@ -15,13 +15,12 @@ use Rattle.snap_fields.specs.declared.fields.Waiting.{Waiting}
 use Rattle.snap_fields.specs.declared.fields.Waiting.TheVariants.{Quit, Fault, Select, Prompt}
 use Rattle.snap_fields.specs.Printing.{print_setup, print_block, print_machine, print_settings}
 use Rattle.snap_fields.specs.Printing.{print_random, print_store, print_waiting, print_numbers}
-use Rattle.snap_fields.specs.Printable.{IsSetup, IsBlock, IsMachine, IsSettings, IsRandom, IsStoreFields}
-use Rattle.snap_fields.specs.Printable.{IsWaitingFields, IsNumbers}
-use Rattle.snap_fields.specs.Items.{setup_item, setup_at, block_of, block_at, machine_item, machine_at}
-use Rattle.snap_fields.specs.Items.{settings_item, settings_at, random_of, random_at}
-use Rattle.snap_fields.specs.Items.{store_item, store_at}
-use Rattle.snap_fields.specs.Items.{select_of, prompt_of, waiting_with, waiting_at, numbers_of}
-use Rattle.snap_fields.specs.Items.{numbers_at}
+use Rattle.snap_fields.specs.Printable.{IsSetup, IsBlock, IsMachine, IsSettings, IsRandom}
+use Rattle.snap_fields.specs.Printable.{IsStoreFields, IsWaitingFields, IsNumbers}
+use Rattle.snap_fields.specs.Items.{setup_item, setup_at, block_of, block_at, machine_item}
+use Rattle.snap_fields.specs.Items.{machine_at, settings_item, settings_at, random_of}
+use Rattle.snap_fields.specs.Items.{random_at, store_item, store_at, select_of, prompt_of}
+use Rattle.snap_fields.specs.Items.{waiting_with, waiting_at, numbers_of, numbers_at}
 use Rattle.snap_fields.proofs.Readers.{IsReader, ◌before◌, made_reads, led_reads}
 use Rattle.snap_fields.proofs.Readers.{none_reads, pure_reads, if_reads}
 use Rattle.snap_fields.proofs.Readers.{n1_reads, n4_reads, n8_reads}

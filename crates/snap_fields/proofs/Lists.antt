@@ -7,7 +7,8 @@ use Rattle.std.proofs.lemmas.Bool.{ltb-false, le-ltb}
 use Rattle.std.proofs.lemmas.Bool.Decides.{nat_tests}
 use Rattle.std.proofs.lemmas.List.{length-append, length-take, take-append-drop, take_at, drop_at}
 use Rattle.std.proofs.lemmas.List.Concat.{flat_map-cons}
-use Rattle.snap_fields.specs.Numbers.{n1, n4, IsByte, IsWord, IsListOf, flag, list_of, bytes_with_count}
+use Rattle.snap_fields.specs.Numbers.{n1, n4, IsByte, IsWord, IsListOf}
+use Rattle.snap_fields.specs.Numbers.{flag, list_of, bytes_with_count}
 use Rattle.snap_fields.specs.Reading.{Reader, ◌>>=◌, none_at, pure_at, n1_at, n4_at, bool_at}
 use Rattle.snap_fields.specs.Reading.{flag1_at, flag4_at, many_at, taken_at, list_at, bytes_at}
 use Rattle.snap_fields.proofs.Readers.{bind_some, some_is, else_some, IsBytes, bytes_take}
@@ -170,5 +171,6 @@ taken_reads n small = record {
 pub bytes_reads : IsReader (List ℕ) bytes_with_count (IsListOf IsByte) bytes_at
 unfolding bytes_at
 bytes_reads =
-    led_reads n4 IsWord bytes_with_count itself (IsListOf IsByte) length n4_at taken_at (λ bytes h. h.0)
+    led_reads n4 IsWord bytes_with_count itself (IsListOf IsByte) length n4_at taken_at
+    (λ bytes h. h.0)
     (λ bytes. refl) n4_reads taken_reads

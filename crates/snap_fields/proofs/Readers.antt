@@ -11,8 +11,8 @@ use Rattle.std.proofs.lemmas.Bool.{cases_lt, ltb-false, le-ltb}
 use Rattle.std.proofs.lemmas.Nat.{be_bytes_4, be_bytes_8, from_be_bytes-to_be_bytes_4}
 use Rattle.std.proofs.lemmas.Nat.{from_be_bytes-to_be_bytes_8}
 use Rattle.snap_fields.specs.Numbers.{n1, n4, n8, IsByte, IsWord, IsLong}
-use Rattle.snap_fields.specs.Reading.{Reader, ◌>>=◌, readers_joined, ◌then◌, led_by, reader_made, none_at, pure_at}
-use Rattle.snap_fields.specs.Reading.{number_of_width, n1_at, n4_at, n8_at}
+use Rattle.snap_fields.specs.Reading.{Reader, ◌>>=◌, readers_joined, ◌then◌, led_by, reader_made}
+use Rattle.snap_fields.specs.Reading.{none_at, pure_at, number_of_width, n1_at, n4_at, n8_at}
 
 -- ---- tools
 

@@ -8,7 +8,8 @@ use Rattle.glk_windows.specs.Valid as windows
 use Rattle.glk_windows.specs.declared.window.Window as window
 use Rattle.glk_streams.specs.Streams as streams
 use Rattle.glk_streams.specs.declared.stream.Stream as stream
-use Rattle.glk_dispatch.specs.Links.{stream_end, stream_ends, window_link, owner, owner_in, live_stream}
+use Rattle.glk_dispatch.specs.Links.{stream_end, stream_ends, window_link}
+use Rattle.glk_dispatch.specs.Links.{owner, owner_in, live_stream}
 use Rattle.glk_dispatch.specs.Valid.{IsValidGlk}
 use Rattle.glk_dispatch.specs.declared.glk.Glk.{Glk}
 use Rattle.glk_dispatch.proofs.CloseLemmas.{to-ascends}

@@ -46,7 +46,8 @@ windows-few (w ∷ ws) e =
 
 pub are-few : (ws : List Window) → inputs.are_valid_inputs (map input_made ws) ≡ true
     → list_all has_few_keys ws ≡ true
-are-few ws e = windows-few ws (and_parts (ascends input_window_number 0 4294967295 (map input_made ws))
+are-few ws e =
+    windows-few ws (and_parts (ascends input_window_number 0 4294967295 (map input_made ws))
     (inputs.are_windows (map input_made ws)) e).1
 
 -- ---- files
@@ -65,7 +66,9 @@ file-bytes (f ∷ fs) l t =
     (file-bytes fs rest p.1)
 
 pub are-files : (t : StreamTable) (fs : List File) → t.files ≡ map file_made fs
-    → streams.are_valid_streams t ≡ true → list_all is_text_of_file fs ≡ true → list_all is_valid_file fs ≡ true
+    → streams.are_valid_streams t ≡ true
+    → list_all is_text_of_file fs ≡ true
+    → list_all is_valid_file fs ≡ true
 are-files t fs e v x =
     let files = (and_parts (streams.are_streams t.next t.current t.streams
     && streams.are_refs t.next_ref t.refs) (streams.are_files t.files) v).1 in

@@ -41,7 +41,8 @@ window-found (w ∷ ws) (i ∷ is) stream n v e a f = elim (cases_Bool (w.number
       rw (a.0, k) same
   | inr k ↦
       let rest : found tree.window_number ws n ≡ Some v = rw k at f in
-      let m = numbers i.win w.number (map requests.input_window_number is) (map tree.window_number ws) e in
+      let m =
+      numbers i.win w.number (map requests.input_window_number is) (map tree.window_number ws) e in
       rw (a.0, k) (window-found ws is stream n v m.1 a.1 rest)
 ]
 

@@ -63,7 +63,8 @@ windows-back (w ∷ ws) [] n k s = absurd cc
 windows-back (w ∷ ws) (i ∷ is) n k s =
     let p = and_parts (windows.is_sound_window w) (windows.are_sound_windows ws) s in
     let q = firsts (window_kept w) w (map window_kept ws) ws k in
-    let m = numbers i.win w.number (map requests.input_window_number is) (map tree.window_number ws) n in
+    let m =
+    numbers i.win w.number (map requests.input_window_number is) (map tree.window_number ws) n in
     ap (λ (v : window.Window). v ∷ map window_made (map window_told (zip ws is)))
     (window-back w i q.0 p.0)
     ∙ ap (λ (vs : List window.Window). w ∷ vs) (windows-back ws is m.1 q.1 p.1)
@@ -85,7 +86,8 @@ inputs-back [] [] n = refl
 inputs-back [] (i ∷ is) n = absurd cc
 inputs-back (w ∷ ws) [] n = absurd cc
 inputs-back (w ∷ ws) (i ∷ is) n =
-    let m = numbers i.win w.number (map requests.input_window_number is) (map tree.window_number ws) n in
+    let m =
+    numbers i.win w.number (map requests.input_window_number is) (map tree.window_number ws) n in
     ap (λ (j : WindowInput). j ∷ map input_made (map window_told (zip ws is)))
     (input-back w i m.0)
     ∙ ap (λ (js : List WindowInput). i ∷ js) (inputs-back ws is m.1)

@@ -1,5 +1,6 @@
 -- The parts of a machine give it back.
-use Rattle.std.proofs.Common.{◌≡◌, ℕ, ◌≤◌, Bool, true, cond, nat_le, List, [], ◌∷◌, length, Option, Some, None, refl, ap, sym, subst, ◌∙◌, arith}
+use Rattle.std.proofs.Common.{◌≡◌, ℕ, ◌≤◌, Bool, true, cond, nat_le, List, [], ◌∷◌}
+use Rattle.std.proofs.Common.{length, Option, Some, None, refl, ap, sym, subst, ◌∙◌, arith}
 use Rattle.std.proofs.lemmas.Bool.Decides.{nat_tests}
 use Rattle.std.proofs.lemmas.List.Elements.{All-cons, All-head, All-nil, All-tail}
 use Rattle.std.specs.Prelude.{All, IsTrue}
@@ -23,7 +24,8 @@ use Rattle.vm_operand.specs.declared.operand.Dest.{Dest}
 use Rattle.vm_stack.specs.StackState.{StackState}
 use Rattle.vm_undo.specs.SavedState.{IsSavedOf}
 use Rattle.vm_undo.specs.declared.saved.Saved.{Saved}
-use Rattle.snap_machine.specs.Fields.{memory_given, memory_from_chunk, stack_of, heap_from_fields, undo_of, dest_of_store, fields_with}
+use Rattle.snap_machine.specs.Fields.{memory_given, memory_from_chunk, stack_of}
+use Rattle.snap_machine.specs.Fields.{heap_from_fields, undo_of, dest_of_store, fields_with}
 use Rattle.snap_machine.specs.Laws.{GivesBackMachine, HasRoms}
 use Rattle.snap_machine.specs.Parts.{machine_parts, store, waiting_store}
 use Rattle.snap_machine.proofs.SaveLemmas.{same_some, undo_back}
@@ -31,25 +33,33 @@ use Rattle.snap_machine.proofs.StoreLemmas.{dest_back}
 
 -- ---- each part gives back what it was made of
 
-memory_back : (image : List ℕ) (m : Machine) → IsLaidOut image → IsFit m → IsOver image m → HasRoms m
+memory_back : (image : List ℕ) (m : Machine)
+    → IsLaidOut image → IsFit m → IsOver image m → HasRoms m
     → memory_from_chunk image (memory_contents image m.memory) ≡ Some m.memory
 memory_back image m laid fit over kept =
     ap memory_given (memory_given_back image m.memory laid over.origin fit.map.size kept.memory)
 
-stack_back : (image : List ℕ) (s : StackState) → s.limit ≡ stack_size image → length s.bytes ≤ s.limit
+stack_back : (image : List ℕ) (s : StackState)
+    → s.limit ≡ stack_size image → length s.bytes ≤ s.limit
     → stack_of image s.bytes s.frame ≡ Some s
 stack_back image s limit room =
-    let fits : nat_le (length s.bytes) (stack_size image) ≡ true = grind (arith, nat_tests, limit, room) in
+    let fits : nat_le (length s.bytes) (stack_size image) ≡ true =
+    grind (arith, nat_tests, limit, room) in
     rw fits (same s.bytes s.frame (stack_size image) s refl refl (sym limit)) where
-      same : (bytes : List ℕ) (frame limit : ℕ) (s : StackState) → bytes ≡ s.bytes → frame ≡ s.frame → limit ≡ s.limit
-          → ◌≡◌ {A = Option StackState} (Some (record { bytes = bytes; frame = frame; limit = limit })) (Some s)
+      same : (bytes : List ℕ) (frame limit : ℕ) (s : StackState)
+          → bytes ≡ s.bytes → frame ≡ s.frame → limit ≡ s.limit
+          → ◌≡◌ {A = Option StackState}
+          (Some (record { bytes = bytes; frame = frame; limit = limit })) (Some s)
       same bytes frame limit s a b c = rw (a, b, c) refl
 
-heap_back : (h : HeapMap) → IsTrue (is_heap h.start h.blocks) → heap_from_fields h.start h.blocks ≡ Some h
+heap_back : (h : HeapMap)
+    → IsTrue (is_heap h.start h.blocks)
+    → heap_from_fields h.start h.blocks ≡ Some h
 heap_back h is = ap (λ (t : Bool). cond {A = Option HeapMap} t (Some h) None) is
 
 -- the states that undo keeps are of the story
-states_of : (image : List ℕ) (o : Origin) (states : List Saved) → o ≡ origin image → All (IsSavedOf o) states
+states_of : (image : List ℕ) (o : Origin) (states : List Saved)
+    → o ≡ origin image → All (IsSavedOf o) states
     → All (IsHeldBy (stack_size image)) states → All (IsStateOf image) states
 states_of image o [] e of held = All-nil (IsStateOf image)
 states_of image o (s ∷ ss) e of held =
@@ -58,9 +68,11 @@ states_of image o (s ∷ ss) e of held =
       saved = subst (λ x. IsSavedOf x s) e (All-head (IsSavedOf o) s ss of);
       size = All-head (IsHeldBy (stack_size image)) s ss held;
     })
-    (states_of image o ss e (All-tail (IsSavedOf o) s ss of) (All-tail (IsHeldBy (stack_size image)) s ss held))
+    (states_of image o ss e (All-tail (IsSavedOf o) s ss of)
+    (All-tail (IsHeldBy (stack_size image)) s ss held))
 
-pub are_states : (image : List ℕ) (m : Machine) → IsFit m → IsOver image m → All (IsStateOf image) m.undo
+pub are_states : (image : List ℕ) (m : Machine)
+    → IsFit m → IsOver image m → All (IsStateOf image) m.undo
 are_states image m fit over =
     states_of image (origin_of m.memory) m.undo over.origin fit.map.undo over.within.held
 
@@ -96,20 +108,32 @@ fields_of m to = record {
 }
 
 same_machine : (m : Machine) (text : Text) (waiting : Waiting) (verified start table : ℕ)
-    → text ≡ m.text → waiting ≡ m.waiting → verified ≡ m.verified → start ≡ m.start_function → table ≡ m.first_table
-    → record m { text = text; waiting = waiting; verified = verified; start_function = start; first_table = table } ≡ m
+    → text ≡ m.text → waiting ≡ m.waiting
+    → verified ≡ m.verified → start ≡ m.start_function
+    → table ≡ m.first_table
+    → record m {
+      text = text;
+      waiting = waiting;
+      verified = verified;
+      start_function = start;
+      first_table = table;
+    }
+    ≡ m
 same_machine m text waiting verified start table a b c d e = rw (a, b, c, d, e) refl
 
-machine_back : (image : List ℕ) (m : Machine) (to : Dest) → IsFit m → IsOver image m → Store to ≡ m.waiting
+machine_back : (image : List ℕ) (m : Machine) (to : Dest)
+    → IsFit m → IsOver image m → Store to ≡ m.waiting
     → machine_of image (fields_of m to) ≡ m
 machine_back image m to fit over waits =
     same_machine m Off (Store to) (verified image) (start_function image) (string_table image)
     (sym fit.still) waits (sym over.verified) (sym over.start_function) (sym over.first_table)
 
-bind_is : {A B : Type 0} {o : Option A} {x : A} {y : Option B} (f : A → Option B) → o ≡ Some x → f x ≡ y → (o >>= f) ≡ y
+bind_is : {A B : Type 0} {o : Option A} {x : A} {y : Option B} (f : A → Option B)
+    → o ≡ Some x → f x ≡ y → (o >>= f) ≡ y
 bind_is f e g = ap (λ p. p >>= f) e ∙ g
 
-fields_back : (image : List ℕ) (m : Machine) (to : Dest) → IsLaidOut image → IsFit m → IsOver image m
+fields_back : (image : List ℕ) (m : Machine) (to : Dest)
+    → IsLaidOut image → IsFit m → IsOver image m
     → length m.stack.bytes ≤ m.stack.limit → HasRoms m → dest_of_store (store m) ≡ Some to
     → fields_with image m.random.seed (machine_parts image m) (store m) ≡ Some (fields_of m to)
 fields_back image m to laid fit over room kept at =

@@ -1,5 +1,6 @@
 -- The store of a DestType and a DestAddr.
-use Rattle.std.proofs.Common.{◌≡◌, ℕ, Bool, true, false, ◌&&◌, ◌==◌, Option, Some, None, refl, ap, sym, ◌∙◌, arith}
+use Rattle.std.proofs.Common.{◌≡◌, ℕ, Bool, true, false, ◌&&◌, ◌==◌}
+use Rattle.std.proofs.Common.{Option, Some, None, refl, ap, sym, ◌∙◌, arith}
 use Rattle.std.proofs.lemmas.Bool.Decides.{nat_tests}
 use Rattle.std.specs.Prelude.{IfNone, IfSome}
 use Rattle.vm_exec.specs.Fields.{IsNoStore, store_fields}
@@ -32,9 +33,12 @@ no_dest s none =
     let address : s.address ≡ 0 = grind (arith, nat_tests, e) in
     none Discard (rw (kind, address) refl))) in
     let at : (s.kind == 1) ≡ false =
-    unless_true _ (λ e. (let kind : s.kind ≡ 1 = grind (arith, nat_tests, e) in none (At s.address) (rw kind refl))) in
+    unless_true _ (λ e.
+    (let kind : s.kind ≡ 1 = grind (arith, nat_tests, e) in none (At s.address) (rw kind refl))) in
     let local : (s.kind == 2) ≡ false =
-    unless_true _ (λ e. (let kind : s.kind ≡ 2 = grind (arith, nat_tests, e) in none (Local s.address) (rw kind refl))) in
+    unless_true _ (λ e.
+    (let kind : s.kind ≡ 2 = grind (arith, nat_tests, e) in
+    none (Local s.address) (rw kind refl))) in
     let push : (s.kind == 3 && s.address == 0) ≡ false =
     unless_true _ (λ e.
     (let kind : s.kind ≡ 3 = grind (arith, nat_tests, e) in
@@ -43,9 +47,11 @@ no_dest s none =
     rw (discard, at, local, push) refl
 
 -- what the fields of a store tell of it
-pub dest_told : (s : Store) (r : Option Dest) → IfSome r (λ to. store_fields to ≡ (s.kind, s.address))
+pub dest_told : (s : Store) (r : Option Dest)
+    → IfSome r (λ to. store_fields to ≡ (s.kind, s.address))
     → IfNone r (IsNoStore s.kind s.address) → r ≡ dest_of_store s
 dest_told s None found only = sym (no_dest s only)
 dest_told s (Some to) found only =
     sym (dest_back to)
-    ∙ ap dest_of_store (same_store (store_fields to).0 (store_fields to).1 s (ap (λ p. p.0) found) (ap (λ p. p.1) found))
+    ∙ ap dest_of_store (same_store (store_fields to).0 (store_fields to).1 s (ap (λ p. p.0) found)
+    (ap (λ p. p.1) found))

@@ -15,8 +15,9 @@ use Rattle.std.proofs.lemmas.Bool.Decides.{nat_tests}
 use Rattle.byteorder.specs.Endian.{big_from}
 use Rattle.disk_model.specs.Disk.{Torn, ReadsFile}
 use Rattle.snap_store.specs.declared.side.Side.{Side}
-use Rattle.snap_store.specs.File.{Stored, snapshot_header, gate_of, side_start, has_header, gate_byte}
-use Rattle.snap_store.specs.File.{area_place, count_at, length_at, is_whole, area_on_side, whole_area}
+use Rattle.snap_store.specs.File.{Stored, snapshot_header, gate_of, side_start}
+use Rattle.snap_store.specs.File.{has_header, gate_byte, area_place, count_at}
+use Rattle.snap_store.specs.File.{length_at, is_whole, area_on_side, whole_area}
 
 -- the same elements at the front
 pub take_same :
@@ -153,7 +154,8 @@ module _ (side : Side) (c d : List ℕ)
   whole_same = rw (is_whole_same, area_same) refl
 
 -- an area whose numbers pass the file's end isn't whole
-is_whole_short : (side : Side) (c : List ℕ) → length c < side_start side + 16 → is_whole side c ≡ false
+is_whole_short : (side : Side) (c : List ℕ)
+    → length c < side_start side + 16 → is_whole side c ≡ false
 unfolding is_whole
 is_whole_short side c short = grind (arith, nat_tests)
 

@@ -71,7 +71,8 @@ gate_low B = omega arith
 
 gates_apart :
     (side : Side)
-    → (gate_of (opposite_side side) + 1 ≤ gate_of side) ⊎ (gate_of side + 1 ≤ gate_of (opposite_side side))
+    → (gate_of (opposite_side side) + 1 ≤ gate_of side)
+    ⊎ (gate_of side + 1 ≤ gate_of (opposite_side side))
 gates_apart A = inr (omega arith)
 gates_apart B = inl (omega arith)
 
@@ -87,11 +88,13 @@ module _ (side : Side) (area : Option Stored) (beside : Slot) (beside_area : Opt
     there = stands_same (opposite_side side) beside beside_area c d
         (gate_torn (opposite_side side) c d (gate_of side) 1 (gates_apart side) torn
         (omega (arith, header_long d laid.header, gate_low (opposite_side side))))
-        (whole_before (opposite_side side) c d (gate_of side) 1 (gate_first side (opposite_side side)) torn)
+        (whole_before (opposite_side side) c d (gate_of side) 1
+        (gate_first side (opposite_side side)) torn)
         laid.there;
   }
 
-  gate_written : (d : List ℕ) (byte : ℕ) → gate_byte side (file_written d (gate_of side) (byte ∷ [])) ≡ byte
+  gate_written : (d : List ℕ) (byte : ℕ)
+      → gate_byte side (file_written d (gate_of side) (byte ∷ [])) ≡ byte
   unfolding gate_byte
   gate_written d byte =
       ap (λ (k : ℕ). get_or (file_written d (gate_of side) (byte ∷ [])) k 0) (omega arith)
@@ -156,7 +159,9 @@ module _ (side : Side) (area : Option Stored) (beside : Slot) (beside_area : Opt
       (whole_behind A c d at n whole
       (omega (arith, whole_short_enough A d whole)) torn) stands
     where
-      is_some : (o : Option Stored) → IsAreaOf place count o → whole_area A d ≡ o → is_whole A d ≡ true
+      is_some : (o : Option Stored)
+          → IsAreaOf place count o → whole_area A d ≡ o
+          → is_whole A d ≡ true
       is_some None is there = absurd is
       is_some (Some x) is there = whole_is A d x there
 
@@ -195,7 +200,8 @@ module _ (side : Side) (beside : Slot) (beside_area : Option Stored) where
       let head = head_bytes place count (length bytes) in
       let begun = file_written d (side_start side) head in
       let done = file_written begun (side_start side + 16) bytes in
-      let first = laid_area_torn side area beside beside_area begun d (side_start side) (length head)
+      let first =
+      laid_area_torn side area beside beside_area begun d (side_start side) (length head)
       spares (omega arith) (omega (arith, length-head place count (length bytes)))
       (torn_written d (side_start side) head) laid in
       let second = laid_area_torn side area beside beside_area done begun (side_start side + 16)

@@ -6,8 +6,8 @@ use Rattle.std.specs.Prelude.{nat_le, ◌==◌}
 use Rattle.std.proofs.lemmas.Bool.Decides.{nat_tests}
 use Rattle.snap_store.specs.declared.side.Side.{Side}
 use Rattle.snap_store.specs.declared.side.Side.TheVariants.{A, B}
-use Rattle.snap_store.specs.File.{Stored, area_listed, greatest, is_open_area, is_wanted_area, area_on_side, open_area}
-use Rattle.snap_store.specs.File.{newest_area}
+use Rattle.snap_store.specs.File.{Stored, area_listed, greatest, is_open_area}
+use Rattle.snap_store.specs.File.{is_wanted_area, area_on_side, open_area, newest_area}
 use Rattle.snap_store.proofs.FileLemmas.{none_some}
 
 -- of two areas, each of which is wanted or not
@@ -37,7 +37,8 @@ choice_is true false true false a b test is_a is_b = rw (is_a, is_b) refl
 same_area : (x y : Stored) → Some x ≡ Some y → x ≡ y
 same_area x y is = cc
 
-one_of : (later : Bool) (a b x : Stored) → Some (if later then b else a) ≡ Some x → (a ≡ x) ⊎ (b ≡ x)
+one_of : (later : Bool) (a b x : Stored)
+    → Some (if later then b else a) ≡ Some x → (a ≡ x) ⊎ (b ≡ x)
 one_of true a b x is = inr (same_area b x is)
 one_of false a b x is = inl (same_area a x is)
 
@@ -84,7 +85,8 @@ wanted_is place most x is =
     no_more m n is = grind (arith, nat_tests)
 
 open_is :
-    (side : Side) (file : List ℕ) (x : Stored) → is_open_area side file ≡ true → area_on_side side file ≡ x
+    (side : Side) (file : List ℕ) (x : Stored)
+    → is_open_area side file ≡ true → area_on_side side file ≡ x
     → open_area side file ≡ Some x
 open_is side file x is same =
     ap (λ (b : Bool). if b then Some (area_on_side side file) else None) is
@@ -94,9 +96,11 @@ pub newest_found :
     (place most : ℕ) (file : List ℕ) (x : Stored) → newest_area place most file ≡ Some x
     → (side : Side) × (open_area side file ≡ Some x) × (x.place ≡ place) × (x.count ≤ most)
 newest_found place most file x is = from_side
-    (found_among (is_open_area A file) (is_wanted_area place most (area_on_side A file)) (is_open_area B file)
+    (found_among (is_open_area A file) (is_wanted_area place most (area_on_side A file))
+    (is_open_area B file)
     (is_wanted_area place most (area_on_side B file)) (area_on_side A file) (area_on_side B file) x
-    (sym (choice_is (is_open_area A file) (is_wanted_area place most (area_on_side A file)) (is_open_area B file)
+    (sym (choice_is (is_open_area A file) (is_wanted_area place most (area_on_side A file))
+    (is_open_area B file)
     (is_wanted_area place most (area_on_side B file)) (area_on_side A file) (area_on_side B file)
     (is_wanted_area place most) refl refl) ∙ is))
   where
@@ -110,8 +114,10 @@ newest_found place most file x is = from_side
         (side, open_is side file x is_opened same, parts.0, parts.1)
 
     from_side :
-        Among (is_open_area A file) (is_wanted_area place most (area_on_side A file)) (is_open_area B file)
-        (is_wanted_area place most (area_on_side B file)) (area_on_side A file) (area_on_side B file) x
+        Among (is_open_area A file) (is_wanted_area place most (area_on_side A file))
+        (is_open_area B file)
+        (is_wanted_area place most (area_on_side B file)) (area_on_side A file)
+        (area_on_side B file) x
         → (side : Side) × (open_area side file ≡ Some x) × (x.place ≡ place) × (x.count ≤ most)
     from_side (inl at) = at_side A at.0 at.1 at.2
     from_side (inr at) = at_side B at.0 at.1 at.2

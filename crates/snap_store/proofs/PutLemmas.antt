@@ -11,7 +11,8 @@ use Rattle.snap_store.specs.declared.side.Side.TheVariants.{A, B}
 use Rattle.snap_store.specs.declared.slot.Slot.{Slot}
 use Rattle.snap_store.specs.declared.slot.Slot.TheVariants.{Closed, Open, Unsure}
 use Rattle.snap_store.specs.declared.slot.Slots.{Slots}
-use Rattle.snap_store.specs.File.{Stored, side_start, has_header, whole_area, open_area, openable_area}
+use Rattle.snap_store.specs.File.{Stored, side_start, has_header}
+use Rattle.snap_store.specs.File.{whole_area, open_area, openable_area}
 use Rattle.snap_store.specs.Slots.{opposite_side, slot_of, with_slot, taken_side}
 use Rattle.snap_store.specs.Images.{StandsOnSide, IsLaid, Spares, loosened, DuringPut, IsLeft}
 use Rattle.snap_store.specs.Store.{Snapshots, area_held, store_area, IsPutImage, IsSoundStore}
@@ -108,7 +109,8 @@ pub put_on_side :
     → Triple tells may_leave moment left_since result old new
     (IsLaid side' slot' area beside beside_area) (DuringPut side' slot' area put beside beside_area)
     (IsLaid side' now (Some put) beside beside_area)
-put_on_side {D} {T} {E} {tells} {may_leave} {moment} {left_since} {result} {old} {new} {side} {side'} {slot} {slot'} {now} {area} {beside_area} {beside} {put} side_is slot_is triple =
+put_on_side {D} {T} {E} {tells} {may_leave} {moment} {left_since} {result} {old} {new}
+    {side} {side'} {slot} {slot'} {now} {area} {beside_area} {beside} {put} side_is slot_is triple =
     subst (λ (k : Slot). Triple tells may_leave moment left_since result old new
     (IsLaid side' k area beside beside_area) (DuringPut side' k area put beside beside_area)
     (IsLaid side' now (Some put) beside beside_area)) slot_is
@@ -177,7 +179,8 @@ module _
       {result : Result T E} {new : D} {after : List ℕ → Type 0} {view : Snapshots D}
       → store ≡ view
       → Triple tells may_leave moment left_since result store.disk new
-      (IsLaid side slot area beside beside_area) (DuringPut side slot area put beside beside_area) after
+      (IsLaid side slot area beside beside_area)
+      (DuringPut side slot area put beside beside_area) after
       → view.made ≡ true → IsTrue (tells view.disk)
       → LeavesOnly moment left_since view.disk new (IsPutImage seen view put)
   crash_of {moment = moment} {left_since = left_since} {new = new} view_is triple =
@@ -217,8 +220,11 @@ module _
         IsTrue (tells store.disk)
         → store_area seen after (opposite_side side) ≡ store_area seen store (opposite_side side)
     kept_beside told =
-        ap (λ (s : Slots). area_held (opposite_side side) (slot_of s (opposite_side side)) (seen new)) set
-        ∙ ap (λ (s : Slot). area_held (opposite_side side) s (seen new)) (slot_kept side store.slots now)
+        ap
+        (λ (s : Slots). area_held (opposite_side side) (slot_of s (opposite_side side)) (seen new))
+        set
+        ∙ ap (λ (s : Slot). area_held (opposite_side side) s (seen new))
+        (slot_kept side store.slots now)
         ∙ held_is (opposite_side side) beside beside_area (seen new) (seen store.disk)
         (shows told).there
         (laid_before told (seen store.disk) (stays store.disk)).there
@@ -275,7 +281,8 @@ module _
 
       pub left_after :
           IsLeft slot area put now left → view.made ≡ true → IsTrue (tells view.disk)
-          → (store_area seen after (taken_side view.slots) ≡ store_area seen view (taken_side view.slots))
+          → (store_area seen after (taken_side view.slots)
+          ≡ store_area seen view (taken_side view.slots))
           ⊎ (store_area seen after (taken_side view.slots) ≡ None)
           ⊎ (store_area seen after (taken_side view.slots) ≡ Some put)
       left_after is =

@@ -4,7 +4,8 @@ use Rattle.std.specs.Prelude.{Some}
 use Rattle.snap_store.specs.declared.side.Side.TheVariants.{A, B}
 use Rattle.snap_store.specs.declared.slot.Slot.TheVariants.{Closed, Open, Unsure}
 use Rattle.snap_store.specs.declared.outline.TheConstants.{MAX_SNAPSHOT, PAGE}
-use Rattle.snap_store.specs.File.{head_bytes, gate_of, side_start, has_header, snapshot_header, greatest}
+use Rattle.snap_store.specs.File.{head_bytes, gate_of, side_start}
+use Rattle.snap_store.specs.File.{has_header, snapshot_header, greatest}
 use Rattle.snap_store.specs.Slots.{taken_side}
 
 -- the first area of an OPEN row at place 16, after 16 inputs, with three bytes

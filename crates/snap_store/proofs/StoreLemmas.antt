@@ -63,7 +63,8 @@ pub openable_is :
     → (has_header c ≡ true) × ((gate_byte side c == 0) ≡ false)
     × (whole_area side c ≡ Some area)
 openable_is side c area is =
-    openable_parts (has_header c) (gate_byte side c == 0) (is_whole side c) (area_on_side side c) area is
+    openable_parts (has_header c) (gate_byte side c == 0) (is_whole side c)
+    (area_on_side side c) area is
 
 -- an open one may open
 pub open_openable :
@@ -71,8 +72,10 @@ pub open_openable :
     → openable_area side c ≡ Some area
 open_openable side c area is =
     let parts =
-    open_parts (has_header c) (gate_byte side c == 1) (is_whole side c) (area_on_side side c) area is in
-    both_true (has_header c) (not (gate_byte side c == 0)) (is_whole side c) (area_on_side side c) area
+    open_parts (has_header c) (gate_byte side c == 1) (is_whole side c)
+    (area_on_side side c) area is in
+    both_true (has_header c) (not (gate_byte side c == 0)) (is_whole side c)
+    (area_on_side side c) area
     parts.0 (ap not (not_zero (gate_byte side c) parts.1)) parts.2
   where
     not_zero : (gate : ℕ) → (gate == 1) ≡ true → (gate == 0) ≡ false
@@ -186,7 +189,8 @@ newest_is_beside slots side is = beside_is (newest_side slots) side is
     twice B = refl
 
     beside_is :
-        (found : Option Side) (side : Side) → found ≡ Some side → opposite_side (beside found) ≡ side
+        (found : Option Side) (side : Side)
+        → found ≡ Some side → opposite_side (beside found) ≡ side
     beside_is None side is = absurd (no_side side is)
     beside_is (Some x) side is = twice x ∙ same_side x side is
 
@@ -333,19 +337,22 @@ module _ (side : Side) (file : List ℕ) (header : has_header file ≡ true) whe
   stands_in = elim (cases_Bool (gate_byte side file == 0)) [
     | inl zero_gate ↦
         subst (λ (s : Slot). StandsOnSide side s (whole_area side file) file)
-        (sym (ap (λ (h : Bool). by_tests h (gate_byte side file == 0) (is_open_area side file)) header
+        (sym
+        (ap (λ (h : Bool). by_tests h (gate_byte side file == 0) (is_open_area side file)) header
         ∙ ap (λ (z : Bool). by_tests true z (is_open_area side file)) zero_gate))
         (is_zero (gate_byte side file) zero_gate)
     | inr set_gate ↦ elim (cases_Bool (is_open_area side file)) [
       | inl one ↦
           subst (λ (s : Slot). StandsOnSide side s (whole_area side file) file)
-          (sym (ap (λ (h : Bool). by_tests h (gate_byte side file == 0) (is_open_area side file)) header
+          (sym
+          (ap (λ (h : Bool). by_tests h (gate_byte side file == 0) (is_open_area side file)) header
           ∙ ap (λ (z : Bool). by_tests true z (is_open_area side file)) set_gate
           ∙ ap (λ (o : Bool). by_tests true false o) one))
           (is_one one, refl, opened_head (is_whole side file) refl one)
       | inr not_one ↦
           subst (λ (s : Slot). StandsOnSide side s (whole_area side file) file)
-          (sym (ap (λ (h : Bool). by_tests h (gate_byte side file == 0) (is_open_area side file)) header
+          (sym
+          (ap (λ (h : Bool). by_tests h (gate_byte side file == 0) (is_open_area side file)) header
           ∙ ap (λ (z : Bool). by_tests true z (is_open_area side file)) set_gate
           ∙ ap (λ (o : Bool). by_tests true false o) not_one))
           refl

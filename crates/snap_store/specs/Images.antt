@@ -36,7 +36,8 @@ pub record IsLaid
 -- the same, seen from the side that a put takes
 abbrev pub IsLaidTaken : Slots → Slot → Option Stored → Option Stored → List ℕ → Type 0
 IsLaidTaken slots own area beside_area =
-    IsLaid (taken_side slots) own area (slot_of slots (opposite_side (taken_side slots))) beside_area
+    IsLaid (taken_side slots) own area
+    (slot_of slots (opposite_side (taken_side slots))) beside_area
 
 -- the gate, once its closing has begun
 abbrev pub loosened : Slot → Slot

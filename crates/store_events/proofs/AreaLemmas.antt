@@ -1,5 +1,6 @@
 -- What is so of each area stays so, through every event.
-use Rattle.std.proofs.Common.{◌≡◌, ◌⊎◌, inl, inr, ◌∙◌, ℕ, Bool, true, false, List, refl, sym, ap, subst}
+use Rattle.std.proofs.Common.{◌≡◌, ◌⊎◌, inl, inr, ◌∙◌, ℕ, Bool, true}
+use Rattle.std.proofs.Common.{false, List, refl, sym, ap, subst}
 use Rattle.std.specs.Prelude.{◌&&◌, if◌then◌else◌, Option, Some, None, IfSome}
 use Rattle.std.proofs.lemmas.Bool.{cases_Bool}
 use Rattle.disk_model.specs.DiskState.{IsDiskImage}
@@ -31,8 +32,9 @@ use Rattle.store_events.specs.declared.state.Step.{Step}
 use Rattle.store_events.specs.declared.state.Step.TheVariants.{Idle, Put, Opening}
 use Rattle.store_events.specs.declared.state.StoreState.{StoreState}
 use Rattle.store_events.specs.Disk.{fault_counted, disk_after, may_work}
-use Rattle.store_events.specs.Events.{file_after, store_called, store_comes_up, has_room, keep_at, next_store_call}
-use Rattle.store_events.specs.Events.{store_onward, begins_opening, put_begins, put_call, put_onward, slots_in, store_stopped}
+use Rattle.store_events.specs.Events.{file_after, store_called, store_comes_up, has_room}
+use Rattle.store_events.specs.Events.{keep_at, next_store_call, store_onward, begins_opening}
+use Rattle.store_events.specs.Events.{put_begins, put_call, put_onward, slots_in, store_stopped}
 use Rattle.store_events.specs.Steady.{HasStage, HasStep, IsPutting, IsSteady}
 use Rattle.store_events.specs.Steady.{seen_of, store_of, always_tells}
 use Rattle.store_events.specs.Areas.{Brings, EachArea, EachOpenable, area_being_put}
@@ -96,7 +98,8 @@ held_at P w steady all c image = elim (stands_by w steady c image) [
 
 -- ---- a call of a put
 
-module _ (P : Stored → Type 0) (w : StoreState) (steady : IsSteady w) (all : EachArea P w) (side : Side)
+module _ (P : Stored → Type 0) (w : StoreState) (steady : IsSteady w) (all : EachArea P w)
+    (side : Side)
     (area : Stored) (putting : IsPutting w side area) (new : P area) where
   put_stands : (stage : Stage) → HasStage w stage side area → (good : Bool) (reads : List ℕ)
       → (let q = disk_after (put_call stage side area) good reads w.disk in
@@ -131,12 +134,15 @@ module _ (P : Stored → Type 0) (w : StoreState) (steady : IsSteady w) (all : E
       of (inl same) =
           here x
           (ap (λ (t : Slot). area_held side t w.disk.seen) (sym (slot_set side w.slots slot))
-          ∙ subst (λ (t : Side). area_held t (slot_of (with_slot w.slots side slot) t) w.disk.seen ≡ Some x)
+          ∙ subst
+          (λ (t : Side). area_held t (slot_of (with_slot w.slots side slot) t) w.disk.seen ≡ Some x)
           same is)
       of (inr beside) =
           all.held (opposite_side side) x
-          (ap (λ (t : Slot). area_held (opposite_side side) t w.disk.seen) (sym (slot_kept side w.slots slot))
-          ∙ subst (λ (t : Side). area_held t (slot_of (with_slot w.slots side slot) t) w.disk.seen ≡ Some x)
+          (ap (λ (t : Slot). area_held (opposite_side side) t w.disk.seen)
+          (sym (slot_kept side w.slots slot))
+          ∙ subst
+          (λ (t : Side). area_held t (slot_of (with_slot w.slots side slot) t) w.disk.seen ≡ Some x)
           beside is)
 
   closed_held : (x : Stored) → area_held side Closed w.disk.seen ≡ Some x → P x
@@ -179,7 +185,8 @@ module _ (P : Stored → Type 0) (w : StoreState) (steady : IsSteady w) (all : E
 
 module _ (P : Stored → Type 0) where
   bad_areas : (w : StoreState) → IsSteady w → EachArea P w → (step : Step) → HasStep w step
-      → IfSome (area_being_put step) P → (call : DiskCall) → next_store_call step ≡ Some call → (reads : List ℕ)
+      → IfSome (area_being_put step) P → (call : DiskCall)
+      → next_store_call step ≡ Some call → (reads : List ℕ)
       → (let q = disk_after call false reads w.disk in IsDiskImage q q.seen
       → HeldBy P w.slots q.seen)
   bad_areas w steady all Idle has put call is reads read = absurd cc
@@ -198,13 +205,15 @@ module _ (P : Stored → Type 0) where
       of_sync : Sync ≡ call → HeldBy P w.slots (disk_after call false reads w.disk).seen
       of_sync same =
           by_image (subst (λ (d : DiskCall). IsDiskImage (disk_after d false reads w.disk)
-          (disk_after d false reads w.disk).seen → IsDiskImage w.disk (disk_after d false reads w.disk).seen)
+          (disk_after d false reads w.disk).seen
+          → IsDiskImage w.disk (disk_after d false reads w.disk).seen)
           same (λ image. sync_leaves false reads w.disk reads steady.reads image) read)
 
       of_look : Look ≡ call → HeldBy P w.slots (disk_after call false reads w.disk).seen
       of_look same =
           by_image (subst (λ (d : DiskCall). IsDiskImage (disk_after d false reads w.disk)
-          (disk_after d false reads w.disk).seen → IsDiskImage w.disk (disk_after d false reads w.disk).seen)
+          (disk_after d false reads w.disk).seen
+          → IsDiskImage w.disk (disk_after d false reads w.disk).seen)
           same (λ image. look_leaves false reads w.disk reads image) read)
 
       of : (r : Reading) → next_store_call (Opening r) ≡ Some call
@@ -220,7 +229,8 @@ module _ (P : Stored → Type 0) where
       → IsDiskImage w.disk image → EachOpenable P image
   in_image w steady all image is side area there =
       all.held side area
-      ((sound_images always_tells IsDiskImage seen_of (store_of w) steady.sound refl image is).openable side area
+      ((sound_images always_tells IsDiskImage seen_of
+      (store_of w) steady.sound refl image is).openable side area
       there)
 
   shown_side : (side : Side) (file : List ℕ) → slot_of (slots_in file) side ≡ slot_in side file
@@ -241,7 +251,8 @@ module _ (P : Stored → Type 0) where
       EachArea P (store_onward (record w { disk = disk_after call true reads w.disk }) step)
 
   good_areas : (w : StoreState) → IsSteady w → EachArea P w → (step : Step) → HasStep w step
-      → IfSome (area_being_put step) P → (call : DiskCall) → next_store_call step ≡ Some call → (reads : List ℕ)
+      → IfSome (area_being_put step) P → (call : DiskCall)
+      → next_store_call step ≡ Some call → (reads : List ℕ)
       → GoodAreas w step reads call
   good_areas w steady all Idle has put call is reads = absurd cc
   good_areas w steady all (Put stage side area) has put call is reads =
@@ -249,7 +260,9 @@ module _ (P : Stored → Type 0) where
       (put_areas P w steady all side area has.0 put stage has.1 reads)
   good_areas w steady all (Opening reading) has put call is reads = of reading is
     where
-      of : (r : Reading) → next_store_call (Opening r) ≡ Some call → GoodAreas w (Opening r) reads call
+      of : (r : Reading)
+          → next_store_call (Opening r) ≡ Some call
+          → GoodAreas w (Opening r) reads call
       of FirstSync is =
           subst (λ (d : DiskCall). GoodAreas w (Opening FirstSync) reads d) (some_same is)
           (record { held = all.held; put = tt })
@@ -309,7 +322,8 @@ module _ (P : Stored → Type 0) where
   }
     where
       of : (side s : Side) (slot : Slot) → slot_of w.slots side ≡ slot → (x : Stored)
-          → area_held s (slot_of (with_slot w.slots side (loosened slot)) s) w.disk.seen ≡ Some x → P x
+          → area_held s (slot_of (with_slot w.slots side (loosened slot)) s) w.disk.seen ≡ Some x
+          → P x
       of A A slot at x is = all.held A x
           (ap (λ (t : Slot). area_held A t w.disk.seen) at ∙ loosened_held A slot w.disk.seen x is)
       of A B slot at x is = all.held B x is
@@ -344,7 +358,9 @@ module _ (P : Stored → Type 0) where
       called_areas w steady all good reads w.step steady.step all.put (next_store_call w.step) refl
   after_areas w (Stop image) steady brings all = of (is_image w.disk image) refl
     where
-      of : (b : Bool) → is_image w.disk image ≡ b → EachArea P (if b then store_stopped w image else w)
+      of : (b : Bool)
+          → is_image w.disk image ≡ b
+          → EachArea P (if b then store_stopped w image else w)
       of true is = stop_areas w steady all image (image_is w.disk image is)
       of false is = all
   after_areas w Recover steady brings all = of w.up

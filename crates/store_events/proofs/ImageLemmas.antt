@@ -13,12 +13,14 @@ use Rattle.store_events.specs.declared.disk.DiskCall.{DiskCall}
 use Rattle.store_events.specs.declared.disk.DiskCall.TheVariants.{Look, Sync, Write}
 
 -- a disk that reads otherwise has the same images
-pub read_otherwise : (p : DiskState) (seen c : List ℕ) → IsDiskImage (reading seen p) c → IsDiskImage p c
+pub read_otherwise : (p : DiskState) (seen c : List ℕ)
+    → IsDiskImage (reading seen p) c → IsDiskImage p c
 read_otherwise p seen c image =
     record { no_shorter = image.no_shorter; no_longer = image.no_longer; same = image.same }
 
 -- nothing written is a write too
-not_torn : (at n : ℕ) (p : DiskState) (c : List ℕ) → IsDiskImage p c → AfterWrite at n (IsDiskImage p) c
+not_torn : (at n : ℕ) (p : DiskState) (c : List ℕ)
+    → IsDiskImage p c → AfterWrite at n (IsDiskImage p) c
 not_torn at n p c image = (c, image, torn_same at n c)
 
 write_torn : (fits good : Bool) (at : ℕ) (piece : List ℕ) (p : DiskState) (c : List ℕ)
@@ -73,5 +75,6 @@ pub stays_bad : (call : DiskCall) (reads : List ℕ) (p : DiskState)
     → is_image (disk_after call false reads p) reads ≡ true
     → IsDiskImage (disk_after call false reads p) (disk_after call false reads p).seen
 stays_bad call reads p is =
-    subst (λ (l : List ℕ). IsDiskImage (disk_after call false reads p) l) (sym (reads_are call reads p))
+    subst (λ (l : List ℕ). IsDiskImage (disk_after call false reads p) l)
+    (sym (reads_are call reads p))
     (image_is (disk_after call false reads p) reads is)

@@ -13,7 +13,8 @@ use Rattle.snap_store.specs.declared.slot.Slots.{Slots}
 use Rattle.snap_store.specs.File.{Stored, area_on_side, count_at, gate_byte, has_header, is_whole}
 use Rattle.snap_store.specs.File.{open_area, area_place}
 use Rattle.snap_store.specs.Images.{loosened}
-use Rattle.snap_store.specs.Slots.{is_before, opposite_side, slot_in, slot_of, taken_side, with_slot}
+use Rattle.snap_store.specs.Slots.{is_before, opposite_side, slot_in}
+use Rattle.snap_store.specs.Slots.{slot_of, taken_side, with_slot}
 use Rattle.snap_store.specs.Store.{IsImageOf}
 use Rattle.snap_store.proofs.PutLemmas.{slot_kept}
 use Rattle.snap_store.proofs.StoreLemmas.{sound_images}
@@ -30,8 +31,9 @@ use Rattle.store_events.specs.declared.state.Step.{Step}
 use Rattle.store_events.specs.declared.state.Step.TheVariants.{Idle, Put, Opening}
 use Rattle.store_events.specs.declared.state.StoreState.{StoreState}
 use Rattle.store_events.specs.Disk.{fault_counted, disk_after, may_work}
-use Rattle.store_events.specs.Events.{file_after, store_called, store_comes_up, has_room, keep_at, next_store_call}
-use Rattle.store_events.specs.Events.{store_onward, begins_opening, put_begins, put_onward, slots_in, store_stopped}
+use Rattle.store_events.specs.Events.{file_after, store_called, store_comes_up, has_room}
+use Rattle.store_events.specs.Events.{keep_at, next_store_call, store_onward, begins_opening}
+use Rattle.store_events.specs.Events.{put_begins, put_onward, slots_in, store_stopped}
 use Rattle.store_events.specs.Steady.{HasStep, IsPutting, IsSteady, seen_of, store_of, always_tells}
 use Rattle.store_events.specs.Areas.{EachArea}
 
@@ -197,7 +199,8 @@ module _ (place least : ℕ) (w : StoreState) (steady : IsSteady w)
           let same = same_row newer.0 newer.1 place has.1 newer.3
           (no_later (opposite_side (taken_side w.slots)) newer.0 newer.1 newer.2) in
           beside_has place least w.slots (taken_side w.slots) slot newer.1
-          (subst (λ (p : ℕ). slot_of w.slots (opposite_side (taken_side w.slots)) ≡ Open p newer.1) same.0
+          (subst (λ (p : ℕ). slot_of w.slots (opposite_side (taken_side w.slots)) ≡ Open p newer.1)
+          same.0
           newer.2)
           (omega (arith, same.1, has.3))
       of (inr beside) =
@@ -212,7 +215,8 @@ module _ (place least : ℕ) (w : StoreState) (steady : IsSteady w)
       → (slot : Slot) → Has place least (with_slot w.slots side slot)
   known_has side area putting has slot = of (same_or_other side has.0)
     where
-      of : (has.0 ≡ side) ⊎ (has.0 ≡ opposite_side side) → Has place least (with_slot w.slots side slot)
+      of : (has.0 ≡ side) ⊎ (has.0 ≡ opposite_side side)
+          → Has place least (with_slot w.slots side slot)
       of (inl own) =
           absurd (loose_shut place has.1
           (subst (λ (s : Slot). loosened s ≡ s)
@@ -280,7 +284,8 @@ module _ (place least : ℕ) (w : StoreState) (steady : IsSteady w)
   called_has has true reads step held (Some call) is = of (may_work call)
     where
       of : (b : Bool) → Has place least
-          (if b then store_onward (record w { disk = disk_after call true reads w.disk }) step else w).slots
+          (if b then store_onward (record w { disk = disk_after call true reads w.disk }) step
+          else w).slots
       of true = good_has step held has call reads is
       of false = has
   called_has has false reads step held (Some call) is =
@@ -305,7 +310,9 @@ module _ (place least : ℕ) (w : StoreState) (steady : IsSteady w)
   keep_has has area (Put stage side old) = has
   keep_has has area (Opening reading) = has
 
-  pub after_has : (event : Event) → Has place least w.slots → Has place least (file_after w event).slots
+  pub after_has : (event : Event)
+      → Has place least w.slots
+      → Has place least (file_after w event).slots
   after_has (Keep place count bytes) has =
       keep_has has (record { place = place; count = count; bytes = bytes }) w.step
   after_has (Call good reads) has =

@@ -4,7 +4,8 @@ use Rattle.std.specs.Prelude.{◌&&◌, nat_lt, if◌then◌else◌, Some, None}
 use Rattle.std.proofs.lemmas.Bool.Decides.{nat_tests}
 use Rattle.snap_store.specs.declared.side.Side.{Side}
 use Rattle.snap_store.specs.declared.side.Side.TheVariants.{A, B}
-use Rattle.snap_store.specs.File.{Stored, area_on_side, is_open_area, is_wanted_area, newest_area, open_area}
+use Rattle.snap_store.specs.File.{Stored, area_on_side, is_open_area}
+use Rattle.snap_store.specs.File.{is_wanted_area, newest_area, open_area}
 use Rattle.snap_store.proofs.Newest.{choice, choice_is}
 
 open_is : (is_there : Bool) (x y : Stored) → (if is_there then Some x else None) ≡ Some y
@@ -25,7 +26,9 @@ first false a b = (a, refl, omega arith)
 first true a b = of (nat_lt a.count b.count) refl
   where
     of : (t : Bool) → nat_lt a.count b.count ≡ t
-        → (x : Stored) × (Some (if nat_lt a.count b.count then b else a) ≡ Some x) × (a.count ≤ x.count)
+        → (x : Stored)
+        × (Some (if nat_lt a.count b.count then b else a) ≡ Some x)
+        × (a.count ≤ x.count)
     of true is =
         (b, ap (λ (t : Bool). Some (if t then b else a)) is, grind (arith, nat_tests))
     of false is = (a, ap (λ (t : Bool). Some (if t then b else a)) is, omega arith)
@@ -35,7 +38,9 @@ second false a b = (b, refl, omega arith)
 second true a b = of (nat_lt a.count b.count) refl
   where
     of : (t : Bool) → nat_lt a.count b.count ≡ t
-        → (x : Stored) × (Some (if nat_lt a.count b.count then b else a) ≡ Some x) × (b.count ≤ x.count)
+        → (x : Stored)
+        × (Some (if nat_lt a.count b.count then b else a) ≡ Some x)
+        × (b.count ≤ x.count)
     of true is = (b, ap (λ (t : Bool). Some (if t then b else a)) is, omega arith)
     of false is =
         (a, ap (λ (t : Bool). Some (if t then b else a)) is, grind (arith, nat_tests))
@@ -47,7 +52,8 @@ module _ (place most : ℕ) (file : List ℕ) where
   newest_is : newest_area place most file
       ≡ choice (of_side A) (of_side B) (area_on_side A file) (area_on_side B file)
   newest_is =
-      choice_is (is_open_area A file) (is_wanted_area place most (area_on_side A file)) (is_open_area B file)
+      choice_is (is_open_area A file) (is_wanted_area place most (area_on_side A file))
+      (is_open_area B file)
       (is_wanted_area place most (area_on_side B file)) (area_on_side A file) (area_on_side B file)
       (is_wanted_area place most) refl refl
 
@@ -69,7 +75,8 @@ module _ (place most : ℕ) (file : List ℕ) where
       let found = first (of_side B) (area_on_side A file) (area_on_side B file) in (
         found.0,
         newest_is
-            ∙ ap (λ (b : Bool). choice b (of_side B) (area_on_side A file) (area_on_side B file)) is.0
+            ∙ ap (λ (b : Bool). choice b (of_side B) (area_on_side A file) (area_on_side B file))
+            is.0
             ∙ found.1,
         subst (λ (x : Stored). x.count ≤ found.0.count) is.1 found.2,
       )
@@ -78,7 +85,8 @@ module _ (place most : ℕ) (file : List ℕ) where
       let found = second (of_side A) (area_on_side A file) (area_on_side B file) in (
         found.0,
         newest_is
-            ∙ ap (λ (b : Bool). choice (of_side A) b (area_on_side A file) (area_on_side B file)) is.0
+            ∙ ap (λ (b : Bool). choice (of_side A) b (area_on_side A file) (area_on_side B file))
+            is.0
             ∙ found.1,
         subst (λ (x : Stored). x.count ≤ found.0.count) is.1 found.2,
       )

@@ -1,7 +1,7 @@
 -- A row more, as a session is told of it.
-use Rattle.std.proofs.Common.{◌≡◌, ◌≢◌, inl, inr, ◌∙◌, ℕ, ◌<◌, Bool, true, false, List, []}
-use Rattle.std.proofs.Common.{◌∷◌, ◌++◌, length, refl, sym, ap, subst, append_assoc, arith, zero, suc}
-use Rattle.std.proofs.Common.{get_or}
+use Rattle.std.proofs.Common.{◌≡◌, ◌≢◌, inl, inr, ◌∙◌, ℕ, ◌<◌, Bool, true}
+use Rattle.std.proofs.Common.{false, List, [], ◌∷◌, ◌++◌, length, refl, sym}
+use Rattle.std.proofs.Common.{ap, subst, append_assoc, arith, zero, suc, get_or}
 use Rattle.std.specs.Prelude.{◌&&◌, ◌==◌, ◌≤◌, Some, if◌then◌else◌, not}
 use Rattle.std.specs.List.{Contains}
 use Rattle.std.proofs.lemmas.Bool.{cases_Bool, cases_eq}
@@ -12,8 +12,8 @@ use Rattle.gate_journal.specs.Rows.{is_open}
 use Rattle.gate_journal.specs.declared.command.Command.{Command}
 use Rattle.gate_journal.specs.declared.command.Command.TheVariants.{Open, Line, Char, File, Close}
 use Rattle.gate_journal.specs.declared.row.Row.{Row}
-use Rattle.gate_journal.specs.Rows.{EachNext, IsJournal, IsNext, row_body, commands_of, may_follow, journal_bytes}
-use Rattle.gate_journal.specs.Rows.{is_open as opens_there}
+use Rattle.gate_journal.specs.Rows.{EachNext, IsJournal, IsNext, row_body, commands_of}
+use Rattle.gate_journal.specs.Rows.{may_follow, journal_bytes, is_open as opens_there}
 use Rattle.gate_journal.proofs.RowLemmas.{spelled-push}
 use Rattle.gate_journal.proofs.SeatLemmas.{commands_of-other, commands_of-same}
 use Rattle.story_run.specs.declared.story.Story.{Story}
@@ -22,7 +22,8 @@ use Rattle.session_core.proofs.RepeatLemmas.{game_of-append, game_of-append-open
 use Rattle.store_events.specs.declared.state.StoreState.{StoreState}
 use Rattle.session_saves.specs.Agreement.{last_row, opens_of}
 use Rattle.store_events.specs.Rows.{BeginsByRows, RowsAreTold, session_in_rows, told_of}
-use Rattle.store_events.specs.Session.{Begins, EachMayCome, FileHappening, SessionState, Takes, lived}
+use Rattle.store_events.specs.Session.{Begins, EachMayCome, FileHappening}
+use Rattle.store_events.specs.Session.{SessionState, Takes, lived}
 use Rattle.store_events.proofs.SessionLemmas.{last_behind, stays_in_agreement}
 
 -- ---- a session's commands begin with an OPEN
@@ -120,7 +121,8 @@ one_there true place row at = of at.0 at.1 at.2
     of (suc k) lt is = absurd (omega (arith, lt))
 one_there false place row at = absurd (omega (arith, at.1))
 
-longer : (rows : List Row) (r : Row) → length (journal_bytes rows) < length (journal_bytes (rows ++ r ∷ []))
+longer : (rows : List Row) (r : Row)
+    → length (journal_bytes rows) < length (journal_bytes (rows ++ r ∷ []))
 longer rows r =
     let is = ap (λ (l : List ℕ). length l) (spelled-push rows r)
     ∙ length-append (journal_bytes rows) (1 ∷ row_body r) in

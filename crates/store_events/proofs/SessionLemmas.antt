@@ -1,6 +1,7 @@
 -- A session's file agrees with its rows and commands, whatever happens, and warms in 16 turns.
-use Rattle.std.proofs.Common.{◌≡◌, ◌⊎◌, inl, inr, ◌∙◌, ℕ, zero, suc, ◌+◌, ◌*◌, ◌-◌, ◌<◌, ◌≤◌, Bool}
-use Rattle.std.proofs.Common.{true, false, get_or, List, [], ◌∷◌, ◌++◌, length, drop, refl, sym, ap, subst, arith}
+use Rattle.std.proofs.Common.{◌≡◌, ◌⊎◌, inl, inr, ◌∙◌, ℕ, zero, suc, ◌+◌, ◌*◌}
+use Rattle.std.proofs.Common.{◌-◌, ◌<◌, ◌≤◌, Bool, true, false, get_or, List, []}
+use Rattle.std.proofs.Common.{◌∷◌, ◌++◌, length, drop, refl, sym, ap, subst, arith}
 use Rattle.std.specs.Prelude.{Option, Some, None, IfSome, if◌then◌else◌}
 use Rattle.std.specs.List.{Contains}
 use Rattle.std.proofs.lemmas.Bool.{cases_Bool, cases_lt}
@@ -28,7 +29,8 @@ use Rattle.session_saves.specs.Agreement.{Agrees, IsAgreedFile, last_row}
 use Rattle.session_saves.specs.Game.{inputs_of, turns_after, turns_of_inputs, world_at}
 use Rattle.session_saves.specs.Saves.{HasSince, IsKeptUp, due_in, none_missed}
 use Rattle.session_saves.specs.Warming.{count_in}
-use Rattle.session_saves.proofs.AgreementLemmas.{last-append, last_contained, more_commands, new_opens}
+use Rattle.session_saves.proofs.AgreementLemmas.{last-append, last_contained}
+use Rattle.session_saves.proofs.AgreementLemmas.{more_commands, new_opens}
 use Rattle.session_saves.proofs.KeptUpLemmas.{is_within_sixteen, stays_kept_up}
 use Rattle.store_events.specs.declared.event.Event.{Event}
 use Rattle.store_events.specs.declared.event.Event.TheVariants.{Keep, Call, Stop, Recover}
@@ -37,8 +39,9 @@ use Rattle.store_events.specs.Areas.{Brings, EachArea, area_being_put}
 use Rattle.store_events.specs.Events.{file_after, store_down_over, slots_in}
 use Rattle.store_events.specs.Laws.{HasOpen, StaysInAgreement, StaysOpen, StaysSteady}
 use Rattle.store_events.specs.Laws.{WarmsInSixteen}
-use Rattle.store_events.specs.Session.{Begins, Does, EachMayCome, EachMissesNone, FileHappening, IsDue}
-use Rattle.store_events.specs.Session.{IsInAgreement, IsSnapshotOfGame, IsUpToDate, MayCome, MissesNone}
+use Rattle.store_events.specs.Session.{Begins, Does, EachMayCome, EachMissesNone}
+use Rattle.store_events.specs.Session.{FileHappening, IsDue, IsInAgreement}
+use Rattle.store_events.specs.Session.{IsSnapshotOfGame, IsUpToDate, MayCome, MissesNone}
 use Rattle.store_events.specs.Session.{SessionState, Takes, inputs, lived, session_after}
 use Rattle.store_events.specs.Steady.{IsSteady}
 use Rattle.store_events.proofs.AreaLemmas.{after_areas, in_image}
@@ -277,7 +280,8 @@ module _ (stories : List Story) where
       (next_kept x one kept misses.0 date) misses.1
 
   begins_date : (rows : List ℕ) (game : List Command) (bytes : List ℕ)
-      → (let x : SessionState = record { rows = rows; game = game; store = store_down_over bytes } in
+      → (let x : SessionState =
+      record { rows = rows; game = game; store = store_down_over bytes } in
       (inputs x ≤ 16) ⊎ HasOpen x bytes → IsUpToDate x)
   begins_date rows game bytes (inl few) place is =
       stays_kept_up.begins (slots_in bytes) none_missed place (length (inputs_of game)) few

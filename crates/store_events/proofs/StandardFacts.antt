@@ -32,16 +32,19 @@ abbrev put : ℕ → Event
 put count = Keep 16 count (7 ∷ [])
 
 -- six calls where the gate is known to be closed, and seven where it isn't
-closed_gate : (run_store (knowing (record { a = Closed; b = Closed })) (put 16 ∷ three ++ three)).slots
+closed_gate :
+    (run_store (knowing (record { a = Closed; b = Closed })) (put 16 ∷ three ++ three)).slots
     ≡ record { a = Open 16 16; b = Closed }
 closed_gate = refl
 
-unsure_gate : (run_store (knowing (record { a = Unsure; b = Closed })) (put 16 ∷ good ∷ three ++ three)).slots
+unsure_gate :
+    (run_store (knowing (record { a = Unsure; b = Closed })) (put 16 ∷ good ∷ three ++ three)).slots
     ≡ record { a = Open 16 16; b = Closed }
 unsure_gate = refl
 
 -- the next one beside it, and then the older one's place
-beside : (run_store (knowing (record { a = Open 16 16; b = Closed })) (put 32 ∷ three ++ three)).slots
+beside :
+    (run_store (knowing (record { a = Open 16 16; b = Closed })) (put 32 ∷ three ++ three)).slots
     ≡ record { a = Open 16 16; b = Open 16 32 }
 beside = refl
 
@@ -50,7 +53,8 @@ older : (run_store (knowing (record { a = Open 16 16; b = Open 16 32 })) (put 48
 older = refl
 
 -- before the last call nothing is known of it
-before_the_last : (run_store (knowing (record { a = Closed; b = Closed })) (put 16 ∷ three ++ good ∷ good ∷ [])).slots
+before_the_last : (run_store (knowing (record { a = Closed; b = Closed }))
+    (put 16 ∷ three ++ good ∷ good ∷ [])).slots
     ≡ record { a = Unsure; b = Closed }
 before_the_last = refl
 
@@ -64,16 +68,19 @@ counts_pass : run_store (knowing (record { a = Closed; b = Closed })) (Keep 16 4
     ≡ knowing (record { a = Closed; b = Closed })
 counts_pass = refl
 
-places_pass : run_store (knowing (record { a = Closed; b = Closed })) (Keep 18446744073709551616 16 [] ∷ [])
+places_pass : run_store (knowing (record { a = Closed; b = Closed }))
+    (Keep 18446744073709551616 16 [] ∷ [])
     ≡ knowing (record { a = Closed; b = Closed })
 places_pass = refl
 
 -- a call that fails ends it
-failed_close : (run_store (knowing (record { a = Open 16 16; b = Open 16 32 })) (put 48 ∷ Call false [] ∷ [])).step
+failed_close : (run_store (knowing (record { a = Open 16 16; b = Open 16 32 }))
+    (put 48 ∷ Call false [] ∷ [])).step
     ≡ Idle
 failed_close = refl
 
-failed_count : (run_store (knowing (record { a = Open 16 16; b = Open 16 32 })) (put 48 ∷ Call false [] ∷ [])).faults
+failed_count : (run_store (knowing (record { a = Open 16 16; b = Open 16 32 }))
+    (put 48 ∷ Call false [] ∷ [])).faults
     ≡ 1
 failed_count = refl
 

@@ -18,7 +18,8 @@ use Rattle.snap_store.specs.declared.outline.TheConstants.{MAX_SNAPSHOT}
 use Rattle.snap_store.specs.File.{Stored, gate_byte, gate_of, has_header, head_bytes, side_start}
 use Rattle.snap_store.specs.File.{whole_area}
 use Rattle.snap_store.specs.Images.{IsLaid, Spares, StandsOnSide, loosened}
-use Rattle.snap_store.specs.Slots.{is_closed, opposite_side, slot_in, slot_of, taken_side, with_slot}
+use Rattle.snap_store.specs.Slots.{is_closed, opposite_side, slot_in}
+use Rattle.snap_store.specs.Slots.{slot_of, taken_side, with_slot}
 use Rattle.snap_store.specs.Store.{IsSoundStore}
 use Rattle.snap_store.proofs.AreaWritten.{length-head, whole_there}
 use Rattle.snap_store.proofs.LaidLemmas.{laid_area_torn, laid_closed, laid_gate_torn, laid_loosened}
@@ -41,9 +42,9 @@ use Rattle.store_events.specs.declared.state.Step.{Step}
 use Rattle.store_events.specs.declared.state.Step.TheVariants.{Idle, Put, Opening}
 use Rattle.store_events.specs.declared.state.StoreState.{StoreState}
 use Rattle.store_events.specs.Disk.{fault_counted, disk_after, may_work}
-use Rattle.store_events.specs.Events.{file_after, store_called, store_down_over, has_room, keep_at}
-use Rattle.store_events.specs.Events.{next_store_call, store_onward, begins_opening, put_begins, put_call, put_onward}
-use Rattle.store_events.specs.Events.{slots_in, store_stopped}
+use Rattle.store_events.specs.Events.{file_after, store_called, store_down_over, has_room}
+use Rattle.store_events.specs.Events.{keep_at, next_store_call, store_onward, begins_opening}
+use Rattle.store_events.specs.Events.{put_begins, put_call, put_onward, slots_in, store_stopped}
 use Rattle.store_events.specs.Steady.{HasStage, HasStep, IsPutting, IsSettled}
 use Rattle.store_events.specs.Steady.{IsSteady, seen_of, always_tells}
 use Rattle.store_events.proofs.ImageLemmas.{look_leaves, stays_after, stays_bad, sync_leaves}
@@ -121,7 +122,8 @@ sound_laid p made slots side own area beside beside_area is reads own_is beside_
   header = λ told c image. (laid c image).header ∙ sym is;
   laid = λ _ told c image.
       laid_back side slots p.seen c
-      (subst (λ (s : Slot). IsLaid side s (whole_area side p.seen) (slot_of slots (opposite_side side))
+      (subst
+      (λ (s : Slot). IsLaid side s (whole_area side p.seen) (slot_of slots (opposite_side side))
       (whole_area (opposite_side side) p.seen) c) (sym own_is)
       (subst (λ (s : Slot). IsLaid side own (whole_area side p.seen) s
       (whole_area (opposite_side side) p.seen) c) (sym beside_is)
@@ -205,7 +207,8 @@ module _ (w : StoreState) (steady : IsSteady w) (side : Side) (area : Stored)
   area_leaves is at piece good reads from to c image =
       let before = write_leaves good at piece reads p c image in
       back Closed is c
-      (laid_area_torn side old beside beside_area c before.0 at (length piece) putting.spares from to
+      (laid_area_torn side old beside beside_area c before.0 at
+      (length piece) putting.spares from to
       before.2 (laid_as Closed is before.0 before.1))
 
   -- the images after each call of it, good or bad, by what was known before it
@@ -215,7 +218,8 @@ module _ (w : StoreState) (steady : IsSteady w) (side : Side) (area : Stored)
   put_leaves CloseSync has good reads c image =
       laid c (sync_leaves good reads p c steady.reads image)
   put_leaves HeadWrite has good reads c image =
-      area_leaves has (side_start side) (head_bytes area.place area.count (length area.bytes)) good reads
+      area_leaves has (side_start side)
+      (head_bytes area.place area.count (length area.bytes)) good reads
       (omega arith) (omega (arith, length-head area.place area.count (length area.bytes))) c image
   put_leaves BytesWrite has good reads c image =
       area_leaves has.0 (side_start side + 16) area.bytes good reads
@@ -243,7 +247,8 @@ module _ (w : StoreState) (steady : IsSteady w) (side : Side) (area : Stored)
   sound_known slot held there =
       sound_laid (settled p.seen) w.made (known slot) side slot held beside beside_area putting.made
       (settled_image p.seen) (slot_set side w.slots slot) (slot_kept side w.slots slot)
-      (λ c image. subst (λ (l : List ℕ). Laid slot held l) (sym (only_settled p.seen c image)) there)
+      (λ c image.
+      subst (λ (l : List ℕ). Laid slot held l) (sym (only_settled p.seen c image)) there)
 
   kept_spares : (slot : Slot) → Spares side (slot_of (known slot) (opposite_side side))
   kept_spares slot =
@@ -374,7 +379,8 @@ module _ (w : StoreState) (steady : IsSteady w) (side : Side) (area : Stored)
         has.0,
         subst (λ (l : List ℕ). StandsOnSide side (Open area.place area.count) (Some area) l)
             (sym (seen_write (gate_of side) (1 ∷ []) p (gate_first side)))
-            (laid_opened side beside beside_area area p.seen (seen_stands Unsure (Some area) has.1)).here,
+            (laid_opened side beside beside_area area p.seen
+            (seen_stands Unsure (Some area) has.1)).here,
       ),
     );
   }
@@ -481,12 +487,13 @@ good_steady w steady (Opening reading) has call is reads room = of reading has i
 
     of : (r : Reading) → HasStep w (Opening r) → next_store_call (Opening r) ≡ Some call
         → GoesOn w reads r call
-    of FirstSync has is = subst (λ (d : DiskCall). GoesOn w reads FirstSync d) (some_call is) (record {
-      reads = settled_image w.disk.seen;
-      sound = narrowed w (settled w.disk.seen) steady (sync_narrows w steady true reads)
-          (settled_image w.disk.seen);
-      step = λ image of. only_settled w.disk.seen image of;
-    })
+    of FirstSync has is =
+        subst (λ (d : DiskCall). GoesOn w reads FirstSync d) (some_call is) (record {
+          reads = settled_image w.disk.seen;
+          sound = narrowed w (settled w.disk.seen) steady (sync_narrows w steady true reads)
+              (settled_image w.disk.seen);
+          step = λ image of. only_settled w.disk.seen image of;
+        })
     of AskSize has is = subst (λ (d : DiskCall). GoesOn w reads AskSize d) (some_call is)
         (looks_on w steady ReadFront has)
     of ReadFront has is = subst (λ (d : DiskCall). GoesOn w reads ReadFront d) (some_call is)
@@ -504,7 +511,8 @@ called_steady w steady true reads step has (Some call) is =
     of (may_work call) refl
   where
     of : (b : Bool) → may_work call ≡ b
-        → IsSteady (if b then store_onward (record w { disk = disk_after call true reads w.disk }) step
+        → IsSteady
+        (if b then store_onward (record w { disk = disk_after call true reads w.disk }) step
         else w)
     of true room = good_steady w steady step has call is reads room
     of false room = steady

@@ -1,5 +1,7 @@
 -- The lines of a script as they are written.
-use Rattle.std.proofs.Common.{◌≡◌, ℕ, zero, suc, ◌+◌, ◌/◌, ◌%◌, true, List, [], ◌∷◌, ◌++◌, length, map, flat_map, codes, refl, ap, ◌∙◌, arith, append_assoc, append-nil, rules}
+use Rattle.std.proofs.Common.{◌≡◌, ℕ, zero, suc, ◌+◌, ◌/◌, ◌%◌, true, List, []}
+use Rattle.std.proofs.Common.{◌∷◌, ◌++◌, length, map, flat_map, codes, refl}
+use Rattle.std.proofs.Common.{ap, ◌∙◌, arith, append_assoc, append-nil, rules}
 use Rattle.std.specs.List.{AllByRecursion, range_with_len}
 use Rattle.std.specs.Fmt.{decimal, digits}
 use Rattle.std.specs.Str.{encode_utf8_all}
@@ -25,7 +27,8 @@ letter_escaped c h = rw (letter_plain c h) refl
 letters_escaped : (cs : List ℕ) → AreLetters cs → flat_map escaped_byte (encode_utf8_all cs) ≡ cs
 letters_escaped [] h = refl
 letters_escaped (c ∷ cs) h =
-    rw (encode_ascii c (omega (arith, h.0.1)), letter_escaped c h.0) (ap (λ (t : List ℕ). c ∷ t) (letters_escaped cs h.1))
+    rw (encode_ascii c (omega (arith, h.0.1)), letter_escaped c h.0)
+    (ap (λ (t : List ℕ). c ∷ t) (letters_escaped cs h.1))
 
 -- what a word stands for is letters
 letter_is : (word i : ℕ) → IsLetter (letter word i)
@@ -60,23 +63,34 @@ rows = refl
 
 -- the parts of a command's line, and of the line that opens a session
 typed_parts : (a b text : List ℕ)
-    → codes "LINE" ++ (((32 ∷ a) ++ ((32 ∷ codes "k") ++ (32 ∷ b))) ++ ((32 ∷ codes "1") ++ ((32 ∷ 61 ∷ text) ++ [])))
+    → codes "LINE" ++ (((32 ∷ a) ++ ((32 ∷ codes "k") ++ (32 ∷ b)))
+    ++ ((32 ∷ codes "1") ++ ((32 ∷ 61 ∷ text) ++ [])))
     ≡ (codes "LINE " ++ (a ++ (codes " k " ++ (b ++ codes " 1 =")))) ++ text
 typed_parts a b text = search (rules, append_assoc, append-nil)
 
 opening_parts : (a b end : List ℕ)
-    → (codes "OPEN" ++ (((32 ∷ a) ++ (32 ∷ codes "k")) ++ ((32 ∷ codes "0") ++ ((32 ∷ b) ++ ((32 ∷ codes "80") ++ (32 ∷ codes "24")))))) ++ end
+    → (codes "OPEN" ++ (((32 ∷ a) ++ (32 ∷ codes "k"))
+    ++ ((32 ∷ codes "0") ++ ((32 ∷ b) ++ ((32 ∷ codes "80") ++ (32 ∷ codes "24")))))) ++ end
     ≡ codes "OPEN " ++ (a ++ (codes " k 0 " ++ (b ++ (codes " 80 24" ++ end))))
 opening_parts a b end = search (rules, append_assoc, append-nil)
 
 -- a command's line without its LF
-pub print_typed : (s n : ℕ) (text : List ℕ) → AreLetters text → print_request (typed_line s n text) ≡ command_front s n ++ text
+pub print_typed : (s n : ℕ) (text : List ℕ)
+    → AreLetters text
+    → print_request (typed_line s n text) ≡ command_front s n ++ text
 unfolding escaped
 print_typed s n text h = rw (letters_escaped text h, one) (typed_parts (decimal s) (decimal n) text)
 
-pub line_typed : (s n : ℕ) (text : List ℕ) → AreLetters text → line_of_request (typed_line s n text) ≡ command_front s n ++ (text ++ 10 ∷ [])
-line_typed s n text h = ap (λ (t : List ℕ). t ++ 10 ∷ []) (print_typed s n text h) ∙ append_assoc (command_front s n) text (10 ∷ [])
+pub line_typed : (s n : ℕ) (text : List ℕ)
+    → AreLetters text
+    → line_of_request (typed_line s n text) ≡ command_front s n ++ (text ++ 10 ∷ [])
+line_typed s n text h =
+    ap (λ (t : List ℕ). t ++ 10 ∷ []) (print_typed s n text h)
+    ∙ append_assoc (command_front s n) text (10 ∷ [])
 
 -- the line that opens a session, with what follows it
-pub print_opening : (number s : ℕ) (end : List ℕ) → print_request (opening_request number s) ++ end ≡ codes "OPEN " ++ (decimal s ++ (codes " k 0 " ++ (decimal number ++ (codes " 80 24" ++ end))))
-print_opening number s end = rw (none, columns, rows) (opening_parts (decimal s) (decimal number) end)
+pub print_opening : (number s : ℕ) (end : List ℕ)
+    → print_request (opening_request number s) ++ end
+    ≡ codes "OPEN " ++ (decimal s ++ (codes " k 0 " ++ (decimal number ++ (codes " 80 24" ++ end))))
+print_opening number s end =
+    rw (none, columns, rows) (opening_parts (decimal s) (decimal number) end)

@@ -43,6 +43,7 @@ a_text_of_eighteen_letters : letters 0xA15C02B7 ≡ codes "bnjtkehwlsqpkqmlks"
 a_text_of_eighteen_letters = refl
 
 a_script_of_three_turns : requests 42 54 3
-    ≡ opening_request 42 54 ∷ typed_line 54 1 (codes "bnjtkehwlsqpkqmlks") ∷ typed_line 54 2 (codes "twpythrz") ∷ typed_line 54 3 (codes "aaiaur") ∷ []
+    ≡ opening_request 42 54 ∷ typed_line 54 1 (codes "bnjtkehwlsqpkqmlks")
+    ∷ typed_line 54 2 (codes "twpythrz") ∷ typed_line 54 3 (codes "aaiaur") ∷ []
 unfolding requests first_words
 a_script_of_three_turns = refl

@@ -15,8 +15,9 @@ use Rattle.glk_dispatch.specs.Answer.{Reached, glk_call}
 use Rattle.glk_dispatch.specs.Answer as dispatch
 use Rattle.glk_dispatch.specs.Call.{selector_called}
 use Rattle.glk_dispatch.specs.Output.{put_code}
-use Rattle.story_run.specs.Step.{Next, Runs, Rests, Running, next_step, running, stepped, step_followed}
-use Rattle.story_run.specs.Step.{after_glk_call, call_charged, done, machine_after_call, call_stored, character_put, went_on}
+use Rattle.story_run.specs.Step.{Next, Runs, Rests, Running, next_step, running, stepped}
+use Rattle.story_run.specs.Step.{step_followed, after_glk_call, call_charged, done}
+use Rattle.story_run.specs.Step.{machine_after_call, call_stored, character_put, went_on}
 use Rattle.story_run.specs.Saves.{restored, saved}
 use Rattle.story_run.specs.Turn.{after_step, steps, rest}
 use Rattle.glk_dispatch.specs.declared.called.Called.{Called}
@@ -152,12 +153,14 @@ unfolding steps
 steps-shift image zero k left more r g s h i p f = absurd (omega arith)
 steps-shift image (suc n) zero left more r g s h i p f = absurd (omega arith)
 steps-shift image (suc n) (suc k) left more r g s h i p f =
-    elim (next_step image left r) as (λ x. IsBelow left x → Shifts more x (next_step image (left + more) r)
+    elim (next_step image left r)
+    as (λ x. IsBelow left x → Shifts more x (next_step image (left + more) r)
     → after_step (steps image n) x ≡ (g, s)
     → after_step (steps image k) (next_step image (left + more) r) ≡ (g, s)) [
       | Runs l q ↦ λ b e o. ap (after_step (steps image k)) e
           ∙ steps-shift image n k l more q g s (omega arith) (omega arith) o f
-      | Rests x y ↦ λ b e o. rests-shift image k more g x s y (next_step image (left + more) r) e o f
+      | Rests x y ↦
+          λ b e o. rests-shift image k more g x s y (next_step image (left + more) r) e o f
     ]
     (next-below image left r) (next-shifts image left more r) p
 

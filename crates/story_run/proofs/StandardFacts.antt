@@ -28,7 +28,8 @@ pub just_enough : (g : Glk) (m : Machine) (answer : Called)
     → call_charged 4 4 g m answer ≡ done 0 g m answer
 just_enough g m answer = refl
 
-pub one_too_many : (g : Glk) (m : Machine) (answer : Called) → call_charged 4 5 g m answer ≡ faults g 24
+pub one_too_many : (g : Glk) (m : Machine) (answer : Called)
+    → call_charged 4 5 g m answer ≡ faults g 24
 one_too_many g m answer = refl
 
 -- what a line begins with: a character past memory's end is 0, as is a word that passes it

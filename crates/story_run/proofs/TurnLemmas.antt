@@ -18,9 +18,9 @@ use Rattle.glk_dispatch.specs.Answer.{Reached, glk_call}
 use Rattle.glk_dispatch.specs.Answer as dispatch
 use Rattle.glk_dispatch.specs.Call.{selector_called}
 use Rattle.glk_dispatch.specs.Output.{put_code}
-use Rattle.story_run.specs.Step.{Next, Advances, faults, Runs, Rests, Running, next_step, running}
-use Rattle.story_run.specs.Step.{step_followed, stepped, after_glk_call, call_charged, done, machine_after_call, call_stored, character_put}
-use Rattle.story_run.specs.Step.{went_on}
+use Rattle.story_run.specs.Step.{Next, Advances, faults, Runs, Rests, Running, next_step}
+use Rattle.story_run.specs.Step.{running, step_followed, stepped, after_glk_call, call_charged}
+use Rattle.story_run.specs.Step.{done, machine_after_call, call_stored, character_put, went_on}
 use Rattle.story_run.specs.Saves.{restored, saved}
 use Rattle.story_run.specs.Turn.{Proceeds, Stops, after_step, steps, rest}
 use Rattle.glk_dispatch.specs.declared.called.Called.{Called}
@@ -66,7 +66,8 @@ charged-below ticks left chars g m x h =
     either-below ticks (nat_lt left chars) _ _ tt
     (done-below ticks (left - chars) g m x (omega arith))
 
-answered-below : (ticks left : ℕ) (g : Glk) (m : Machine) (x : dispatch.CallRule Called) → left < ticks
+answered-below : (ticks left : ℕ) (g : Glk) (m : Machine) (x : dispatch.CallRule Called)
+    → left < ticks
     → IsBelow ticks (after_glk_call left g m x)
 answered-below ticks left g m (Ok x) h =
     charged-below ticks left (x.0.glk.chars - g.chars) x.0.glk (machine_after_call m x.0) x.1 h
@@ -83,7 +84,8 @@ followed-below image left cost g m out.Ran h k = omega arith
 followed-below image left cost g m (out.Char x) h k =
     put-below left (left - cost) m (put_code g m.memory g.streams.current x) (omega arith)
 followed-below image left cost g m (out.Glk selector args) h k =
-    answered-below left (left - cost) g m (selector_called (glk_call g m.memory m.stack) selector args)
+    answered-below left (left - cost) g m
+    (selector_called (glk_call g m.memory m.stack) selector args)
     (omega arith)
 followed-below image left cost g m (out.Save stream) h k =
     went_on-below left (left - cost) (saved image g m stream) (omega arith)
@@ -156,7 +158,8 @@ rest-rests image left r g s e = rest-step image left r ∙ ap (after_step (steps
 -- what a step of one tick comes to
 next-of : (image : List ℕ) (left : ℕ) (g : Glk) (m : Machine) (r : Rule) → 0 < left
     → row m ≡ record { cost = 1; gives = r }
-    → next_step image left (running g m) ≡ stepped image left g (r >>= (λ x. Ok (x.0, step_of x.1 1)))
+    → next_step image left (running g m)
+    ≡ stepped image left g (r >>= (λ x. Ok (x.0, step_of x.1 1)))
 unfolding next_step
 next-of image left g m r some e =
     let t : nat_lt left 1 ≡ false = grind (arith, nat_tests) in
@@ -168,7 +171,8 @@ pub rest-quick : (image : List ℕ) (k left : ℕ) (g : Glk) (m n : Machine) →
 unfolding RunsTo
 rest-quick image zero left g m n e h =
     let none : left ≡ left - 0 = omega arith in
-    ap (λ (o : Machine). rest image left (running g o)) e ∙ ap (λ (l : ℕ). rest image l (running g n)) none
+    ap (λ (o : Machine). rest image left (running g o)) e
+    ∙ ap (λ (l : ℕ). rest image l (running g n)) none
 rest-quick image (suc k) left g m n (o, (runs, e)) h =
     let one : left - k - 1 ≡ left - suc k = omega (arith, h) in
     rest-quick image k left g m o runs (omega (arith, h))
@@ -177,21 +181,26 @@ rest-quick image (suc k) left g m n (o, (runs, e)) h =
     ∙ ap (λ (l : ℕ). rest image l (running g n)) one)
 
 -- a run that ends with the story ends the turn
-pub rest-quits : (image : List ℕ) (left : ℕ) (g : Glk) (m n : Machine) → EndsBy left m (Ok (n, out.Quit))
+pub rest-quits : (image : List ℕ) (left : ℕ) (g : Glk) (m n : Machine)
+    → EndsBy left m (Ok (n, out.Quit))
     → rest image left (running g m) ≡ (g, stage.Quit)
 rest-quits image left g m n (k, o, (less, (runs, e))) =
     rest-quick image k left g m o runs (omega (arith, less))
-    ∙ rest-rests image (left - k) (running g o) g stage.Quit (next-of image (left - k) g o (Ok (n, out.Quit)) (omega (arith, less)) e)
+    ∙ rest-rests image (left - k) (running g o) g stage.Quit
+    (next-of image (left - k) g o (Ok (n, out.Quit)) (omega (arith, less)) e)
 
 -- a run that ends with a fault ends the turn with it
-pub rest-faults : (image : List ℕ) (left : ℕ) (g : Glk) (m : Machine) (f : ℕ) → EndsBy left m (Err f)
+pub rest-faults : (image : List ℕ) (left : ℕ) (g : Glk) (m : Machine) (f : ℕ)
+    → EndsBy left m (Err f)
     → rest image left (running g m) ≡ (g, stage.Fault f)
 rest-faults image left g m f (k, o, (less, (runs, e))) =
     rest-quick image k left g m o runs (omega (arith, less))
-    ∙ rest-rests image (left - k) (running g o) g (stage.Fault f) (next-of image (left - k) g o (Err f) (omega (arith, less)) e)
+    ∙ rest-rests image (left - k) (running g o) g (stage.Fault f)
+    (next-of image (left - k) g o (Err f) (omega (arith, less)) e)
 
 -- a step behind a run comes to what the rest of the turn says
-pub proceeds : (image : List ℕ) (left l : ℕ) (r q : Running) (g : Glk) (m : Machine) (x : Result Progress Trap)
+pub proceeds : (image : List ℕ) (left l : ℕ) (r q : Running) (g : Glk) (m : Machine)
+    (x : Result Progress Trap)
     → rest image left r ≡ rest image l q → l ≤ left → Advances (next_step image l q) g m x
     → Proceeds image left r g m x
 proceeds image left l r q g m (Ok (progress.Runs n)) e h a =
@@ -199,15 +208,20 @@ proceeds image left l r q g m (Ok (progress.Runs n)) e h a =
       e ∙ rest-runs image l n q (running g m) a,
       omega (arith, below, h),
     )
-proceeds image left l r q g m (Ok progress.Waits) e h a = e ∙ rest-rests image l q g (stage.AtSelect m) a
-proceeds image left l r q g m (Ok progress.Prompts) e h a = e ∙ rest-rests image l q g (stage.AtPrompt m) a
+proceeds image left l r q g m (Ok progress.Waits) e h a =
+    e ∙ rest-rests image l q g (stage.AtSelect m) a
+proceeds image left l r q g m (Ok progress.Prompts) e h a =
+    e ∙ rest-rests image l q g (stage.AtPrompt m) a
 proceeds image left l r q g m (Ok progress.Quits) e h a = e ∙ rest-rests image l q g stage.Quit a
-proceeds image left l r q g m (Err (trap.Fault n)) e h a = e ∙ rest-rests image l q g (stage.Fault n) a
+proceeds image left l r q g m (Err (trap.Fault n)) e h a =
+    e ∙ rest-rests image l q g (stage.Fault n) a
 proceeds image left l r q g m (Err trap.NoMemory) e h a = tt
 
 -- a run that is refused ends the turn
-pub run-refused : (image : List ℕ) (left : ℕ) (g : Glk) (m n : Machine) (t : Trap) (x : Result Progress Trap)
-    → RunsWithin left m n (Err t) → IsErrAnd x (λ f. f ≡ t) → Proceeds image left (running g m) g n x
+pub run-refused : (image : List ℕ) (left : ℕ) (g : Glk) (m n : Machine) (t : Trap)
+    (x : Result Progress Trap)
+    → RunsWithin left m n (Err t) → IsErrAnd x (λ f. f ≡ t)
+    → Proceeds image left (running g m) g n x
 run-refused image left g m n t (Ok p) runs same = absurd same
 run-refused image left g m n t (Err (trap.Fault f)) runs same =
     rest-faults image left g m f (subst (λ (u : Trap). RunsWithin left m n (Err u)) (sym same) runs)

@@ -1,7 +1,7 @@
 -- The Glk state stays valid through a turn.
-use Rattle.std.proofs.Common.{◌≡◌, ℕ, zero, suc, ◌+◌, ◌-◌, ◌++◌, ◌==◌, ◌&&◌, not, nat_lt, Bool, true}
-use Rattle.std.proofs.Common.{false, List, [], ◌∷◌, Option, Some, None, Result, Ok, Err, cond, subst}
-use Rattle.std.proofs.Common.{refl, sym}
+use Rattle.std.proofs.Common.{◌≡◌, ℕ, zero, suc, ◌+◌, ◌-◌, ◌++◌, ◌==◌, ◌&&◌, not}
+use Rattle.std.proofs.Common.{nat_lt, Bool, true, false, List, [], ◌∷◌, Option}
+use Rattle.std.proofs.Common.{Some, None, Result, Ok, Err, cond, subst, refl, sym}
 use Rattle.std.specs.Prelude.{IfOk}
 use Rattle.std.specs.declared.alloc.AllocError.{AllocError}
 use Rattle.vm_memory.specs.Chaining.{◌>>=◌}
@@ -86,7 +86,8 @@ byte-put g m n byte v =
     (put_code g m n byte)
     (λ p. within p.0 (stream_position p.0 n) >>= (λ behind. Ok (p.0, p.1, not (behind == before))))
     (code-put g m n byte v)
-    (λ p w. reach-within (λ (q : Glk × MemoryMap × Bool). IsReadyGlk q.0) p.0 (stream_position p.0 n)
+    (λ p w.
+    reach-within (λ (q : Glk × MemoryMap × Bool). IsReadyGlk q.0) p.0 (stream_position p.0 n)
     (λ behind. Ok (p.0, p.1, not (behind == before))) w (λ behind. w)))
 
 bytes-put : (bs : List ℕ) (g : Glk) (m : MemoryMap) (n : ℕ) (kept : Bool) → IsReadyGlk g
@@ -98,7 +99,8 @@ bytes-put (b ∷ bs) g m n kept v =
     (λ p. saves.put_save_bytes p.0 p.1 n (kept && p.2) bs) (byte-put g m n b v)
     (λ p w. bytes-put bs p.0 p.1 n (kept && p.2) w)
 
-ended-ready : (g : Glk) (m : Machine) (x : ℕ) → IsReadyGlk g → Reaches first (saves.result_stored g m x)
+ended-ready : (g : Glk) (m : Machine) (x : ℕ)
+    → IsReadyGlk g → Reaches first (saves.result_stored g m x)
 ended-ready g m x v = reach-within first g (finished m x) (λ k. Ok (g, k)) v (λ k. v)
 
 saved-ready : (image : List ℕ) (g : Glk) (m : Machine) (n : ℕ) → IsReadyGlk g
@@ -314,7 +316,8 @@ opened-stage : (image : List ℕ) (setup : Setup)
 unfolding solo.opening
 opened-stage image setup =
     rested-stage image setup.seed setup.budget
-    (turn.story_begun image setup.budget (empty_screen setup.cols setup.rows) (started image setup.seed))
+    (turn.story_begun image setup.budget (empty_screen setup.cols setup.rows)
+    (started image setup.seed))
     (begun-rest image setup.budget (empty_screen setup.cols setup.rows) (started image setup.seed)
     (glk.calls_keep_valid.new setup.cols setup.rows))
 

@@ -37,7 +37,8 @@ pub(crate) fn proceed<'i>(
     left: u64,
 ) -> Result<Progress, Trap>
     requires { IsRunning image.now machine.old }
-    ensures does { Proceeds image.now left (running glk.old machine.old) glk.new machine.new result }
+    ensures does { Proceeds image.now left (running glk.old machine.old) glk.new machine.new
+        result }
     ensures kept { IfOk result (λ progress. StaysOver image.now machine.new progress) }
     ensures seed { OnOk result (machine.new.random.seed ≡ machine.old.random.seed) }
 {

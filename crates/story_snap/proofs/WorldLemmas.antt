@@ -1,5 +1,6 @@
 -- Worlds are made again of their fields.
-use Rattle.std.proofs.Common.{◌≡◌, ◌∙◌, ap, refl, subst, sym, ℕ, List, Option, Some, None, option_map}
+use Rattle.std.proofs.Common.{◌≡◌, ◌∙◌, ap, refl, subst, sym, ℕ}
+use Rattle.std.proofs.Common.{List, Option, Some, None, option_map}
 use Rattle.glulx_image.specs.Header.{IsLaidOut}
 use Rattle.glk_dispatch.specs.Glk.{turn_begun}
 use Rattle.glk_dispatch.specs.Valid.{IsValidGlk}

@@ -9,13 +9,19 @@ agree true b forth back = sym (forth refl)
 agree false true forth back = back refl
 agree false false forth back = refl
 
-pub bytes_eq-chars : (xs ys : List ℕ) → IsUtf8 xs → IsUtf8 ys → bytes_eq xs ys ≡ bytes_eq (chars xs) (chars ys)
+pub bytes_eq-chars : (xs ys : List ℕ)
+    → IsUtf8 xs → IsUtf8 ys
+    → bytes_eq xs ys ≡ bytes_eq (chars xs) (chars ys)
 bytes_eq-chars xs ys x y =
     let bytes = bytes_eq-Decides xs ys in
     let codes = bytes_eq-Decides (chars xs) (chars ys) in
     agree (bytes_eq xs ys) (bytes_eq (chars xs) (chars ys)) (λ e. codes.1 (ap chars (bytes.0 e)))
     (λ e. bytes.1 (sym (encodes-chars xs x) ∙ ap encode_utf8_all (codes.0 e) ∙ encodes-chars ys y))
 
-pub bytes_eq-views : (xs ys cs ds : List ℕ) → IsUtf8 xs → IsUtf8 ys → chars xs ≡ cs → chars ys ≡ ds → bytes_eq xs ys ≡ bytes_eq cs ds
+pub bytes_eq-views : (xs ys cs ds : List ℕ)
+    → IsUtf8 xs → IsUtf8 ys → chars xs ≡ cs → chars ys ≡ ds
+    → bytes_eq xs ys ≡ bytes_eq cs ds
 bytes_eq-views xs ys cs ds x y c d =
-    bytes_eq-chars xs ys x y ∙ ap (λ (us : List ℕ). bytes_eq us (chars ys)) c ∙ ap (λ (us : List ℕ). bytes_eq cs us) d
+    bytes_eq-chars xs ys x y
+    ∙ ap (λ (us : List ℕ). bytes_eq us (chars ys)) c
+    ∙ ap (λ (us : List ℕ). bytes_eq cs us) d

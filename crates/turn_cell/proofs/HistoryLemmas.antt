@@ -1,5 +1,7 @@
 -- Lists of entries, of numbers and of views.
-use Rattle.std.proofs.Common.{◌≡◌, ◌⊎◌, ℕ, zero, suc, ◌+◌, ◌<◌, ◌≤◌, List, [], ◌∷◌, ◌++◌, length, get_or, set, sym, refl, ap, ◌∙◌, subst, ⊎_elim, inl, inr, arith, append_assoc}
+use Rattle.std.proofs.Common.{◌≡◌, ◌⊎◌, ℕ, zero, suc, ◌+◌, ◌<◌, ◌≤◌, List, []}
+use Rattle.std.proofs.Common.{◌∷◌, ◌++◌, length, get_or, set, sym, refl, ap}
+use Rattle.std.proofs.Common.{◌∙◌, subst, ⊎_elim, inl, inr, arith, append_assoc}
 use mathlib.Core.Option.{some, some-injective, some-ne-none}
 use lib.ListN.{get_elem?}
 use Rattle.turn_cell.specs.declared.view.View.{View}
@@ -28,10 +30,18 @@ module _ {A : Type 0} where
   pub continues_all : (P : A → Type 0) (xs : List A) → Continues P xs xs
   continues_all P xs = ([], sym (nil_right xs), tt)
 
-  pub continues_more : (P : A → Type 0) (log seen more : List A) → Continues P log seen → Each P more → Continues P (log ++ more) seen
-  continues_more P log seen more s m = (s.0 ++ more, ap (λ (l : List A). l ++ more) s.1 ∙ append_assoc seen s.0 more, each_append P s.0 more s.2 m)
+  pub continues_more : (P : A → Type 0) (log seen more : List A)
+      → Continues P log seen → Each P more
+      → Continues P (log ++ more) seen
+  continues_more P log seen more s m = (
+    s.0 ++ more,
+    ap (λ (l : List A). l ++ more) s.1 ∙ append_assoc seen s.0 more,
+    each_append P s.0 more s.2 m,
+  )
 
-  pub continues_map : (P Q : A → Type 0) (log seen : List A) → ((x : A) → P x → Q x) → Continues P log seen → Continues Q log seen
+  pub continues_map : (P Q : A → Type 0) (log seen : List A)
+      → ((x : A) → P x → Q x) → Continues P log seen
+      → Continues Q log seen
   continues_map P Q log seen f s = (s.0, s.1, each_map P Q s.0 f s.2)
 
   abbrev head_or : A → List A → A
@@ -46,19 +56,30 @@ module _ {A : Type 0} where
   cons_same x y xs ys e = (ap (head_or x) e, ap tail_of e)
 
   -- the longer of two beginnings goes on from each
-  pub longer_first : (P : A → Type 0) (a b ra rb : List A) → a ++ ra ≡ b ++ rb → Each P ra → Continues P (longer_list a b) a
+  pub longer_first : (P : A → Type 0) (a b ra rb : List A)
+      → a ++ ra ≡ b ++ rb → Each P ra
+      → Continues P (longer_list a b) a
   longer_first P [] b ra rb e each = (b, refl, each_first P b rb (subst (Each P) e each))
   longer_first P (x ∷ xs) [] ra rb e each = ([], sym (nil_right (x ∷ xs)), tt)
-  longer_first P (x ∷ xs) (y ∷ ys) ra rb e each = let t = longer_first P xs ys ra rb (cons_same x y (xs ++ ra) (ys ++ rb) e).1 each in (t.0, ap (λ (l : List A). x ∷ l) t.1, t.2)
+  longer_first P (x ∷ xs) (y ∷ ys) ra rb e each =
+      let t = longer_first P xs ys ra rb (cons_same x y (xs ++ ra) (ys ++ rb) e).1 each in
+      (t.0, ap (λ (l : List A). x ∷ l) t.1, t.2)
 
-  pub longer_second : (P : A → Type 0) (a b ra rb : List A) → a ++ ra ≡ b ++ rb → Each P rb → Continues P (longer_list a b) b
+  pub longer_second : (P : A → Type 0) (a b ra rb : List A)
+      → a ++ ra ≡ b ++ rb → Each P rb
+      → Continues P (longer_list a b) b
   longer_second P [] b ra rb e each = ([], sym (nil_right b), tt)
-  longer_second P (x ∷ xs) [] ra rb e each = (x ∷ xs, refl, each_first P (x ∷ xs) ra (subst (Each P) (sym e) each))
-  longer_second P (x ∷ xs) (y ∷ ys) ra rb e each = let same = cons_same x y (xs ++ ra) (ys ++ rb) e in let t = longer_second P xs ys ra rb same.1 each in
+  longer_second P (x ∷ xs) [] ra rb e each =
+      (x ∷ xs, refl, each_first P (x ∷ xs) ra (subst (Each P) (sym e) each))
+  longer_second P (x ∷ xs) (y ∷ ys) ra rb e each =
+      let same = cons_same x y (xs ++ ra) (ys ++ rb) e in
+      let t = longer_second P xs ys ra rb same.1 each in
       (t.0, (λ i. same.0 i ∷ t.1 i), t.2)
 
   -- and the whole list goes on from it
-  pub longer_whole : (P Q : A → Type 0) (a b ra rb : List A) → a ++ ra ≡ b ++ rb → Each P ra → Each Q rb → Continues (λ x. P x × Q x) (a ++ ra) (longer_list a b)
+  pub longer_whole : (P Q : A → Type 0) (a b ra rb : List A)
+      → a ++ ra ≡ b ++ rb → Each P ra → Each Q rb
+      → Continues (λ x. P x × Q x) (a ++ ra) (longer_list a b)
   longer_whole P Q [] b ra rb e p q = (rb, e, each_two rb (each_last b rb (subst (Each P) e p)) q)
     where
       each_last : (xs ys : List A) → Each P (xs ++ ys) → Each P ys
@@ -68,7 +89,8 @@ module _ {A : Type 0} where
       each_two : (xs : List A) → Each P xs → Each Q xs → Each (λ x. P x × Q x) xs
       each_two [] a b = tt
       each_two (x ∷ xs) a b = ((a.0, b.0), each_two xs a.1 b.1)
-  longer_whole P Q (x ∷ xs) [] ra rb e p q = (ra, refl, each_both ra p (each_after (x ∷ xs) ra (subst (Each Q) (sym e) q)))
+  longer_whole P Q (x ∷ xs) [] ra rb e p q =
+      (ra, refl, each_both ra p (each_after (x ∷ xs) ra (subst (Each Q) (sym e) q)))
     where
       each_after : (xs ys : List A) → Each Q (xs ++ ys) → Each Q ys
       each_after [] ys a = a
@@ -77,7 +99,9 @@ module _ {A : Type 0} where
       each_both : (xs : List A) → Each P xs → Each Q xs → Each (λ x. P x × Q x) xs
       each_both [] a b = tt
       each_both (x ∷ xs) a b = ((a.0, b.0), each_both xs a.1 b.1)
-  longer_whole P Q (x ∷ xs) (y ∷ ys) ra rb e p q = let t = longer_whole P Q xs ys ra rb (cons_same x y (xs ++ ra) (ys ++ rb) e).1 p q in (t.0, ap (λ (l : List A). x ∷ l) t.1, t.2)
+  longer_whole P Q (x ∷ xs) (y ∷ ys) ra rb e p q =
+      let t = longer_whole P Q xs ys ra rb (cons_same x y (xs ++ ra) (ys ++ rb) e).1 p q in
+      (t.0, ap (λ (l : List A). x ∷ l) t.1, t.2)
 
 module _ {A : Type 0} where
   pub longer_right : (a b : List A) → length a < length b → length (longer_list a b) ≡ length b
@@ -91,7 +115,10 @@ module _ {A : Type 0} where
   longer_left (x ∷ xs) [] low = refl
   longer_left (x ∷ xs) (y ∷ ys) low = let t = longer_left xs ys (omega arith) in omega arith
 
-  pub longer_one : (P Q : A → Type 0) (a b : List A) → Continues P (longer_list a b) a → Continues Q (longer_list a b) b → (longer_list a b ≡ a) ⊎ (longer_list a b ≡ b)
+  pub longer_one : (P Q : A → Type 0) (a b : List A)
+      → Continues P (longer_list a b) a
+      → Continues Q (longer_list a b) b
+      → (longer_list a b ≡ a) ⊎ (longer_list a b ≡ b)
   longer_one P Q a b s t = of a b s.0 t.0 (sym s.1 ∙ t.1)
     where
       of : (a b p q : List A) → a ++ p ≡ b ++ q → (longer_list a b ≡ a) ⊎ (longer_list a b ≡ b)
@@ -118,7 +145,9 @@ among_second n (x ∷ xs) ys h = inr (among_second n xs ys h)
 pub among_either : (n : ℕ) (xs ys : List ℕ) → IsAmong n (xs ++ ys) → IsAmong n xs ⊎ IsAmong n ys
 among_either n [] ys h = inr h
 among_either n (x ∷ xs) ys (inl e) = inl (inl e)
-among_either n (x ∷ xs) ys (inr h) = ⊎_elim (λ (t : IsAmong n xs). inl (inr t)) (λ (t : IsAmong n ys). inr t) (among_either n xs ys h)
+among_either n (x ∷ xs) ys (inr h) =
+    ⊎_elim (λ (t : IsAmong n xs). inl (inr t)) (λ (t : IsAmong n ys). inr t)
+    (among_either n xs ys h)
 
 module _ {E : Type 0} where
   ticket_count_le : (s : Stage E) → ticket_count s ≤ 1
@@ -128,20 +157,29 @@ module _ {E : Type 0} where
   ticket_count_le (Joined _ _ _ _) = omega arith
 
 module _ {E G : Type 0} where
-  pub tickets_out_set : (views : List (View E G)) (id : ℕ) (v w : View E G) → get_elem? views id ≡ some v → tickets_out (set views id w) + ticket_count v.stage ≡ tickets_out views + ticket_count w.stage
+  pub tickets_out_set : (views : List (View E G)) (id : ℕ) (v w : View E G)
+      → get_elem? views id ≡ some v
+      → tickets_out (set views id w) + ticket_count v.stage
+      ≡ tickets_out views + ticket_count w.stage
   tickets_out_set [] id v w e = absurd (some-ne-none v (sym e))
-  tickets_out_set (x ∷ xs) zero v w e = let same : ticket_count x.stage ≡ ticket_count v.stage = ap (λ (u : View E G). ticket_count u.stage) (some-injective x v e) in omega arith
+  tickets_out_set (x ∷ xs) zero v w e =
+      let same : ticket_count x.stage ≡ ticket_count v.stage =
+      ap (λ (u : View E G). ticket_count u.stage) (some-injective x v e) in
+      omega arith
   tickets_out_set (x ∷ xs) (suc id) v w e = let t = tickets_out_set xs id v w e in omega arith
 
   pub tickets_out_le : (views : List (View E G)) → tickets_out views ≤ length views
   tickets_out_le [] = omega arith
-  tickets_out_le (x ∷ xs) = let t = tickets_out_le xs in let u = ticket_count_le x.stage in omega arith
+  tickets_out_le (x ∷ xs) =
+      let t = tickets_out_le xs in let u = ticket_count_le x.stage in omega arith
 
-  pub tickets_out_append : (views : List (View E G)) (w : View E G) → tickets_out (views ++ w ∷ []) ≡ tickets_out views + ticket_count w.stage
+  pub tickets_out_append : (views : List (View E G)) (w : View E G)
+      → tickets_out (views ++ w ∷ []) ≡ tickets_out views + ticket_count w.stage
   tickets_out_append [] w = omega arith
   tickets_out_append (x ∷ xs) w = let t = tickets_out_append xs w in omega arith
 
-  pub at_low : (views : List (View E G)) (j : ℕ) (v : View E G) → get_elem? views j ≡ some v → j < length views
+  pub at_low : (views : List (View E G)) (j : ℕ) (v : View E G)
+      → get_elem? views j ≡ some v → j < length views
   at_low [] j v e = absurd (some-ne-none v (sym e))
   at_low (x ∷ xs) zero v e = omega arith
   at_low (x ∷ xs) (suc j) v e = let t = at_low xs j v e in omega arith

@@ -1,5 +1,6 @@
 -- Arguments taken one by one, and values copied one by one.
-use Rattle.std.proofs.Common.{◌≡◌, ◌<◌, ℕ, suc, ◌+◌, ◌-◌, List, [], ◌∷◌, ◌++◌, Result, Ok, Err, refl, arith, ap, sym, ◌∙◌}
+use Rattle.std.proofs.Common.{◌≡◌, ◌<◌, ℕ, suc, ◌+◌, ◌-◌, List, [], ◌∷◌, ◌++◌}
+use Rattle.std.proofs.Common.{Result, Ok, Err, refl, arith, ap, sym, ◌∙◌}
 use native.Mathlib.Numerals.{unary_clauses}
 use mathlib.Core.List.{append_assoc, append-nil}
 use Rattle.vm_memory.specs.Chaining.{◌>>=◌}
@@ -28,7 +29,8 @@ all_left : (n : ℕ) → n ≡ n - 0
 all_left n = omega arith
 
 pub arguments-begin : (s : StackState) (n : ℕ) → arguments s n ≡ with_front [] (arguments s (n - 0))
-arguments-begin s n = front_nothing (arguments s n) ∙ ap (λ (k : ℕ). with_front [] (arguments s k)) (all_left n)
+arguments-begin s n =
+    front_nothing (arguments s n) ∙ ap (λ (k : ℕ). with_front [] (arguments s k)) (all_left n)
 
 pub copied_up-begin : (s : StackState) (d n : ℕ) → copied_up s d n ≡ copied_up s d (n - 0)
 copied_up-begin s d n = ap (λ (k : ℕ). copied_up s d k) (all_left n)
@@ -38,20 +40,26 @@ pub arguments-more : (s t : StackState) (x n k : ℕ) (xs : List ℕ) → n ≡ 
 unfolding arguments
 arguments-more s t x n k xs is e = rw (is, e) (front_twice xs x (arguments t k))
 
-pub arguments-stop : (s : StackState) (n k : ℕ) (f : StackFault) (xs : List ℕ) → n ≡ suc k → popped s ≡ Err f
+pub arguments-stop : (s : StackState) (n k : ℕ) (f : StackFault) (xs : List ℕ)
+    → n ≡ suc k → popped s ≡ Err f
     → with_front xs (arguments s n) ≡ Err (stack_code f)
 unfolding arguments
 arguments-stop s n k f xs is e = rw (is, e) refl
 
-pub arguments-end : (s : StackState) (n : ℕ) (xs : List ℕ) → n ≡ 0 → with_front xs (arguments s n) ≡ Ok (s, xs)
+pub arguments-end : (s : StackState) (n : ℕ) (xs : List ℕ)
+    → n ≡ 0 → with_front xs (arguments s n) ≡ Ok (s, xs)
 unfolding arguments
 arguments-end s n xs e = rw e (ap (λ (ys : List ℕ). Ok (s, ys)) (append-nil xs))
 
-pub copied_up-more : (s t : StackState) (d n k : ℕ) → n ≡ suc k → copied_one s d ≡ Ok t → copied_up s d n ≡ copied_up t d k
+pub copied_up-more : (s t : StackState) (d n k : ℕ)
+    → n ≡ suc k → copied_one s d ≡ Ok t
+    → copied_up s d n ≡ copied_up t d k
 unfolding copied_up
 copied_up-more s t d n k is e = rw (is, e) refl
 
-pub copied_up-stop : (s : StackState) (d n k : ℕ) (f : StackFault) → n ≡ suc k → copied_one s d ≡ Err f → copied_up s d n ≡ Err (stack_code f)
+pub copied_up-stop : (s : StackState) (d n k : ℕ) (f : StackFault)
+    → n ≡ suc k → copied_one s d ≡ Err f
+    → copied_up s d n ≡ Err (stack_code f)
 unfolding copied_up
 copied_up-stop s d n k f is stop = rw (is, stop) refl
 

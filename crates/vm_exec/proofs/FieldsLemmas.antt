@@ -45,12 +45,20 @@ fit_by image f laid origin size heap limit frames mode held few =
       },
     )
 
-pub undo_of : (image : List ℕ) (f : MachineFields) → IsFit (machine_of image f) → IsOver image (machine_of image f)
+pub undo_of : (image : List ℕ) (f : MachineFields)
+    → IsFit (machine_of image f)
+    → IsOver image (machine_of image f)
     → All (IsSavedWithin (origin_of f.memory) (stack_size image)) f.undo
 undo_of image f fit over = λ k d l. (fit.map.undo k d l, over.within.held k d l)
 
 stub_at : (m : Machine) (to : Dest)
-    → record { kind = (store_fields to).0; at = (store_fields to).1; pc = m.pc; frame = m.stack.frame } ≡ stub_for m to
+    → record {
+      kind = (store_fields to).0;
+      at = (store_fields to).1;
+      pc = m.pc;
+      frame = m.stack.frame;
+    }
+    ≡ stub_for m to
 stub_at m Discard = refl
 stub_at m (At a) = refl
 stub_at m (Local o) = refl
@@ -60,4 +68,5 @@ stub_at m Push = refl
 pub stub_is : (m : Machine) (to : Dest) (kind at : ℕ) → ◌≡◌ {A = ℕ × ℕ} (kind, at) (store_fields to)
     → record { kind = kind; at = at; pc = m.pc; frame = m.stack.frame } ≡ stub_for m to
 stub_is m to kind at e =
-    ap (λ (x : ℕ × ℕ). record { kind = x.0; at = x.1; pc = m.pc; frame = m.stack.frame }) e ∙ stub_at m to
+    ap (λ (x : ℕ × ℕ). record { kind = x.0; at = x.1; pc = m.pc; frame = m.stack.frame }) e
+    ∙ stub_at m to

@@ -1,5 +1,6 @@
 -- Each call of a machine keeps what memory has of its image, and leaves a machine of the story one.
-use Rattle.std.proofs.Common.{◌≡◌, ◌∙◌, arith, ℕ, Bool, true, false, List, [], length, refl, sym, subst, ap, Result, Ok, Err}
+use Rattle.std.proofs.Common.{◌≡◌, ◌∙◌, arith, ℕ, Bool, true, false, List, []}
+use Rattle.std.proofs.Common.{length, refl, sym, subst, ap, Result, Ok, Err}
 use Rattle.std.specs.Prelude.{All, IfOk, OnOk}
 use Rattle.std.proofs.lemmas.List.Elements.{All-weaker}
 use Rattle.vm_memory.specs.MemoryMap.{MemoryMap, origin_of}
@@ -19,7 +20,8 @@ use Rattle.vm_exec.specs.declared.machine.Machine.{Machine}
 use Rattle.vm_exec.specs.declared.step.Step.{Step}
 use Rattle.vm_exec.specs.declared.step.Waiting as w
 use Rattle.vm_exec.specs.declared.text.Text as t
-use Rattle.vm_exec.proofs.KeepingLemmas.{Base, Fixed, Has, HasFirst, Over, OverFirst, SavedOver, fixed_of, has-called, ok-flowed}
+use Rattle.vm_exec.proofs.KeepingLemmas.{Base, Fixed, Has, HasFirst, Over, OverFirst}
+use Rattle.vm_exec.proofs.KeepingLemmas.{SavedOver, fixed_of, has-called, ok-flowed}
 use Rattle.vm_exec.proofs.KeepingRows.{over-came_back, over-finished, over-told, over-with_state}
 
 -- what a machine keeps, known to be within its limits or not
@@ -36,7 +38,9 @@ keeps b m new k = record {
   seed = ap (λ (f : Fixed). f.seed) k.fixed;
 }
 
-lies : (image : List ℕ) (m new : Machine) → IsOver image m → Over (base_of true m) m.stack.limit new → IsOver image new
+lies : (image : List ℕ) (m new : Machine)
+    → IsOver image m → Over (base_of true m) m.stack.limit new
+    → IsOver image new
 lies image m new over k =
     let kept = keeps true m new k in
     record {
@@ -52,16 +56,28 @@ ok-on : {A E : Type 0} (P Q : Type 0) (r : Result A E) → OnOk r P → (P → Q
 ok-on P Q (Ok x) h f = f h
 ok-on P Q (Err e) h f = tt
 
-images : (b : Bool) (m : Machine) (states : List Saved) → All (IsSavedOf (origin_of m.memory)) states → All (SavedOver (base_of b m)) states
-images b m states h = All-weaker (IsSavedOf (origin_of m.memory)) (SavedOver (base_of b m)) (λ s k. sym k.image) states h
+images : (b : Bool) (m : Machine) (states : List Saved)
+    → All (IsSavedOf (origin_of m.memory)) states
+    → All (SavedOver (base_of b m)) states
+images b m states h =
+    All-weaker (IsSavedOf (origin_of m.memory)) (SavedOver (base_of b m))
+    (λ s k. sym k.image) states h
 
 abbrev Mapped : Machine → Type 0
 Mapped m = IsMapped (origin_of m.memory) (length m.memory.bytes) m.heap m.undo
 
 free : (m : Machine) → Mapped m → Over (base_of false m) m.stack.limit m
-free m map = record { memory = refl; limit = refl; undo = images false m m.undo map.undo; fixed = refl; within = λ t. absurd cc }
+free m map = record {
+  memory = refl;
+  limit = refl;
+  undo = images false m m.undo map.undo;
+  fixed = refl;
+  within = λ t. absurd cc;
+}
 
-bound : (image : List ℕ) (m : Machine) → Mapped m → IsOver image m → Over (base_of true m) m.stack.limit m
+bound : (image : List ℕ) (m : Machine)
+    → Mapped m → IsOver image m
+    → Over (base_of true m) m.stack.limit m
 bound image m map over = record {
   memory = refl;
   limit = refl;
@@ -71,67 +87,101 @@ bound image m map over = record {
 }
 
 stepped : (b : Bool) (left : ℕ) (m new : Machine) (x : t.Text) (r : Result Step Trap)
-    → Does (row.step_within left (row.charged (row.due m x))) new r → Over (base_of b m) m.stack.limit m → OnOk r (Over (base_of b m) m.stack.limit new)
+    → Does (row.step_within left (row.charged (row.due m x))) new r
+    → Over (base_of b m) m.stack.limit m
+    → OnOk r (Over (base_of b m) m.stack.limit new)
 stepped b left m new x (Ok s) e over =
-    subst (λ (y : Result (Machine × Step) ℕ). IfOk y (OverFirst (base_of b m) m.stack.limit)) e (over-told (base_of b m) m.stack.limit left m x over)
+    subst (λ (y : Result (Machine × Step) ℕ). IfOk y (OverFirst (base_of b m) m.stack.limit)) e
+    (over-told (base_of b m) m.stack.limit left m x over)
 stepped b left m new x (Err t) e over = tt
 
 pub step_keeps : (left : ℕ) (m new : Machine) (x : t.Text) (r : Result Step Trap)
-    → Does (row.step_within left (row.charged (row.due m x))) new r → IsSoundMachine m → OnOk r (KeepsImage m new)
+    → Does (row.step_within left (row.charged (row.due m x))) new r
+    → IsSoundMachine m → OnOk r (KeepsImage m new)
 step_keeps left m new x r e sound =
     ok-on _ _ r (stepped false left m new x r e (free m sound.map)) (keeps false m new)
 
 pub step_over : (image : List ℕ) (left : ℕ) (m new : Machine) (x : t.Text) (r : Result Step Trap)
-    → Does (row.step_within left (row.charged (row.due m x))) new r → IsSoundMachine m → IsOver image m → OnOk r (IsOver image new)
+    → Does (row.step_within left (row.charged (row.due m x))) new r
+    → IsSoundMachine m → IsOver image m
+    → OnOk r (IsOver image new)
 step_over image left m new x r e sound over =
-    ok-on _ _ r (stepped true left m new x r e (bound image m sound.map over)) (lies image m new over)
+    ok-on _ _ r (stepped true left m new x r e (bound image m sound.map over))
+    (lies image m new over)
 
-changed : (b : Bool) (m new : Machine) (should : Result Machine ℕ) (r : Result (Unit {0}) Trap) → IfOk should (Over (base_of b m) m.stack.limit)
+changed : (b : Bool) (m new : Machine) (should : Result Machine ℕ) (r : Result (Unit {0}) Trap)
+    → IfOk should (Over (base_of b m) m.stack.limit)
     → Changes should new r → OnOk r (Over (base_of b m) m.stack.limit new)
-changed b m new should (Ok x) h e = subst (λ (y : Result Machine ℕ). IfOk y (Over (base_of b m) m.stack.limit)) e h
+changed b m new should (Ok x) h e =
+    subst (λ (y : Result Machine ℕ). IfOk y (Over (base_of b m) m.stack.limit)) e h
 changed b m new should (Err t) h e = tt
 
 -- a result was stored, or a save's stub taken
-done : (b : Bool) (m new : Machine) (w : w.Waiting) (value : ℕ) (r : Result (Unit {0}) Trap) → Changes (finished_at m w value) new r
+done : (b : Bool) (m new : Machine) (w : w.Waiting) (value : ℕ) (r : Result (Unit {0}) Trap)
+    → Changes (finished_at m w value) new r
     → Over (base_of b m) m.stack.limit m → OnOk r (Over (base_of b m) m.stack.limit new)
 done b m new w value r e over =
-    changed b m new (finished_at m w value) r (over-finished (base_of b m) m.stack.limit m w value over) e
+    changed b m new (finished_at m w value) r
+    (over-finished (base_of b m) m.stack.limit m w value over) e
 
-pub finish_keeps : (m new : Machine) (w : w.Waiting) (value : ℕ) (r : Result (Unit {0}) Trap) → Changes (finished_at m w value) new r
-    → IsMapped (origin_of m.memory) (length m.memory.bytes) m.heap m.undo → OnOk r (KeepsImage m new)
-finish_keeps m new w value r e map = ok-on _ _ r (done false m new w value r e (free m map)) (keeps false m new)
+pub finish_keeps : (m new : Machine) (w : w.Waiting) (value : ℕ) (r : Result (Unit {0}) Trap)
+    → Changes (finished_at m w value) new r
+    → IsMapped (origin_of m.memory) (length m.memory.bytes) m.heap m.undo
+    → OnOk r (KeepsImage m new)
+finish_keeps m new w value r e map =
+    ok-on _ _ r (done false m new w value r e (free m map)) (keeps false m new)
 
-pub finish_over : (image : List ℕ) (m new : Machine) (w : w.Waiting) (value : ℕ) (r : Result (Unit {0}) Trap) → Changes (finished_at m w value) new r
-    → IsMapped (origin_of m.memory) (length m.memory.bytes) m.heap m.undo → IsOver image m → OnOk r (IsOver image new)
-finish_over image m new w value r e map over = ok-on _ _ r (done true m new w value r e (bound image m map over)) (lies image m new over)
+pub finish_over : (image : List ℕ) (m new : Machine) (w : w.Waiting) (value : ℕ)
+    (r : Result (Unit {0}) Trap)
+    → Changes (finished_at m w value) new r
+    → IsMapped (origin_of m.memory) (length m.memory.bytes) m.heap m.undo
+    → IsOver image m → OnOk r (IsOver image new)
+finish_over image m new w value r e map over =
+    ok-on _ _ r (done true m new w value r e (bound image m map over)) (lies image m new over)
 
 -- a saved state was put in place, and its stub taken
-put_back : (b : Bool) (m mid new : Machine) (s : Saved) (x : ℕ) (r : Result (Unit {0}) Trap) → undo.with_state m s ≡ Ok mid
-    → Changes (undo.came_back mid x) new r → Over (base_of b m) m.stack.limit m → IsSavedOf (origin_of m.memory) s
+put_back : (b : Bool) (m mid new : Machine) (s : Saved) (x : ℕ) (r : Result (Unit {0}) Trap)
+    → undo.with_state m s ≡ Ok mid
+    → Changes (undo.came_back mid x) new r
+    → Over (base_of b m) m.stack.limit m
+    → IsSavedOf (origin_of m.memory) s
     → OnOk r (Over (base_of b m) m.stack.limit new)
 put_back b m mid new s x r put back over h =
     let o = base_of b m in
     let n = m.stack.limit in
     changed b m new (undo.came_back mid x) r
-    (over-came_back o n mid x (subst (λ (y : Result Machine ℕ). IfOk y (Over o n)) put (over-with_state o n m s over (sym h.image)))) back
+    (over-came_back o n mid x (subst (λ (y : Result Machine ℕ). IfOk y (Over o n)) put
+    (over-with_state o n m s over (sym h.image)))) back
 
-pub resume_keeps : (m mid new : Machine) (s : Saved) (x : ℕ) (r : Result (Unit {0}) Trap) → undo.with_state m s ≡ Ok mid
-    → Changes (undo.came_back mid x) new r → IsFit m → IsSavedOf (origin_of m.memory) s → OnOk r (KeepsImage m new)
-resume_keeps m mid new s x r put back f h = ok-on _ _ r (put_back false m mid new s x r put back (free m f.map) h) (keeps false m new)
+pub resume_keeps : (m mid new : Machine) (s : Saved) (x : ℕ) (r : Result (Unit {0}) Trap)
+    → undo.with_state m s ≡ Ok mid
+    → Changes (undo.came_back mid x) new r → IsFit m
+    → IsSavedOf (origin_of m.memory) s
+    → OnOk r (KeepsImage m new)
+resume_keeps m mid new s x r put back f h =
+    ok-on _ _ r (put_back false m mid new s x r put back (free m f.map) h) (keeps false m new)
 
-pub resume_over : (image : List ℕ) (m mid new : Machine) (s : Saved) (x : ℕ) (r : Result (Unit {0}) Trap) → undo.with_state m s ≡ Ok mid
-    → Changes (undo.came_back mid x) new r → IsFit m → IsSavedOf (origin_of m.memory) s → IsOver image m → OnOk r (IsOver image new)
+pub resume_over : (image : List ℕ) (m mid new : Machine) (s : Saved) (x : ℕ)
+    (r : Result (Unit {0}) Trap)
+    → undo.with_state m s ≡ Ok mid
+    → Changes (undo.came_back mid x) new r → IsFit m
+    → IsSavedOf (origin_of m.memory) s → IsOver image m
+    → OnOk r (IsOver image new)
 resume_over image m mid new s x r put back f h over =
-    ok-on _ _ r (put_back true m mid new s x r put back (bound image m f.map over) h) (lies image m new over)
+    ok-on _ _ r (put_back true m mid new s x r put back (bound image m f.map over) h)
+    (lies image m new over)
 
 -- no state is kept, and output goes nowhere
 pub none_within : (n : ℕ) → IsWithin n 0 []
-none_within n = record { system = omega arith; few = omega arith; held = λ k d l. absurd (omega (arith, l)) }
+none_within n =
+    record { system = omega arith; few = omega arith; held = λ k d l. absurd (omega (arith, l)) }
 
 -- the machine with which a story begins lies over its image
 pub started_over : (image : List ℕ) (memory : MemoryMap) (stack new : StackState) (at pc : ℕ)
-    → ◌≡◌ {A = Result MemoryMap ℕ} (Ok (image_memory image)) (Ok memory) → ◌≡◌ {A = Result StackState ℕ} (Ok (empty_stack image)) (Ok stack)
-    → flowed (function_called memory stack at []) ≡ Ok (new, pc) → (origin_of memory ≡ origin_of (image_memory image)) × (new.limit ≡ stack_size image)
+    → ◌≡◌ {A = Result MemoryMap ℕ} (Ok (image_memory image)) (Ok memory)
+    → ◌≡◌ {A = Result StackState ℕ} (Ok (empty_stack image)) (Ok stack)
+    → flowed (function_called memory stack at []) ≡ Ok (new, pc)
+    → (origin_of memory ≡ origin_of (image_memory image)) × (new.limit ≡ stack_size image)
 started_over image memory stack new at pc m s e =
     let same : image_memory image ≡ memory = cc in
     let empty : empty_stack image ≡ stack = cc in
@@ -139,5 +189,6 @@ started_over image memory stack new at pc m s e =
     let has : Has n stack = ap (λ (t : StackState). t.limit) empty in (
       ap origin_of (sym same),
       sym (subst (λ (y : Result (StackState × ℕ) ℕ). IfOk y (HasFirst n)) e
-          (ok-flowed (HasFirst n) (function_called memory stack at []) (has-called n memory stack at [] has))),
+          (ok-flowed (HasFirst n) (function_called memory stack at [])
+          (has-called n memory stack at [] has))),
     )

@@ -267,7 +267,8 @@ works_err (Costs n r) new (Fault k) q e = absurd q
 works_err w new NoMemory q e = tt
 
 -- a refusal that is handed on
-pub works_handed : (w : Work) (n : Machine) (e : Trap) (r : Result Went Trap) → WorkGives w n (Err e)
+pub works_handed : (w : Work) (n : Machine) (e : Trap) (r : Result Went Trap)
+    → WorkGives w n (Err e)
     → IsErrAnd r (λ f. f ≡ e) → WorkGives w n r
 works_handed w n e (Ok g) why same = absurd same
 works_handed w n e (Err f) why same = subst (λ (t : Trap). WorkGives w n (Err t)) (sym same) why

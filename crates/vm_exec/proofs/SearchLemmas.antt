@@ -1,5 +1,6 @@
 -- A search within the ticks that are left, and as its row has it.
-use Rattle.std.proofs.Common.{◌≡◌, ℕ, zero, suc, ◌^◌, Bool, true, false, cond, nat_lt, Option, Some, None, Result, Ok, Err, refl, ap, sym, ◌∙◌}
+use Rattle.std.proofs.Common.{◌≡◌, ℕ, zero, suc, ◌^◌, Bool, true, false, cond, nat_lt}
+use Rattle.std.proofs.Common.{Option, Some, None, Result, Ok, Err, refl, ap, sym, ◌∙◌}
 use Rattle.vm_memory.specs.Chaining.{◌>>=◌}
 use Rattle.vm_memory.specs.Fault.{coded}
 use Rattle.vm_memory.specs.MemoryMap.{MemoryMap, number_at}
@@ -17,13 +18,16 @@ use Rattle.vm_search.specs.declared.binary_search.Interval.{Interval}
 use Rattle.vm_search.specs.declared.query.Found.{Found}
 use Rattle.vm_search.specs.declared.query.Query.{Query}
 use Rattle.vm_exec.specs.Rules.{puts}
-use Rattle.vm_exec.specs.Rows.Searching.{search_answered, found_in, query_of, linked_query, linear_work, binary_work, linked_work}
+use Rattle.vm_exec.specs.Rows.Searching.{search_answered, found_in, query_of, linked_query}
+use Rattle.vm_exec.specs.Rows.Searching.{linear_work, binary_work, linked_work}
 use Rattle.vm_exec.specs.Rows.Work.{Free, Costs, budgeted}
 use Rattle.vm_exec.specs.declared.machine.Machine.{Machine}
 
 -- an end, within the ticks or past them
-answer_is : (left k : ℕ) (m : Machine) (to : Dest) (a : Result ℕ MemFault) (b : Bool) → nat_lt left k ≡ b
-    → budgeted left (Costs k (coded a >>= puts m to)) ≡ found_in left m to (cond b (Err Spent) (told_answer k a))
+answer_is : (left k : ℕ) (m : Machine) (to : Dest) (a : Result ℕ MemFault) (b : Bool)
+    → nat_lt left k ≡ b
+    → budgeted left (Costs k (coded a >>= puts m to))
+    ≡ found_in left m to (cond b (Err Spent) (told_answer k a))
 answer_is left k m to a true past = rw past refl
 answer_is left k m to (Ok x) false past = refl
 answer_is left k m to (Err (BadRead at)) false past = rw past refl
@@ -35,67 +39,94 @@ ending_is left m to None = refl
 ending_is left m to (Some e) = answer_is left e.looked m to e.answer (nat_lt left e.looked) refl
 
 search_if : (left : ℕ) (m : Machine) (to : Dest) (e : Option Ending) (b : Bool)
-    → budgeted left (cond b (search_answered m to e) (Free (Err 10))) ≡ found_in left m to (cond b (found_within left e) (Err BadSearch))
+    → budgeted left (cond b (search_answered m to e) (Free (Err 10)))
+    ≡ found_in left m to (cond b (found_within left e) (Err BadSearch))
 search_if left m to e true = ending_is left m to e
 search_if left m to e false = refl
 
 -- steps that end alike have one first end
-first_same : (f g : ℕ → Option Ending) → ((k : ℕ) → f k ≡ g k) → (k n : ℕ) → first_ending f n k ≡ first_ending g n k
+first_same : (f g : ℕ → Option Ending)
+    → ((k : ℕ) → f k ≡ g k) → (k n : ℕ)
+    → first_ending f n k ≡ first_ending g n k
 unfolding first_ending
 first_same f g same zero n = refl
 first_same f g same (suc k) n = rw (same n, first_same f g same k (suc n)) refl
 
-same_search : (left : ℕ) (m : Machine) (to : Dest) (f g : ℕ → Option Ending) (b : Bool) → ((k : ℕ) → f k ≡ g k)
+same_search : (left : ℕ) (m : Machine) (to : Dest) (f g : ℕ → Option Ending) (b : Bool)
+    → ((k : ℕ) → f k ≡ g k)
     → budgeted left (cond b (search_answered m to (first_ending f 0 (2 ^ 32))) (Free (Err 10)))
     ≡ found_in left m to (cond b (found_within left (first_ending g 0 (2 ^ 32))) (Err BadSearch))
 same_search left m to f g b same =
     search_if left m to (first_ending f 0 (2 ^ 32)) b
-    ∙ ap (λ (e : Option Ending). found_in left m to (cond b (found_within left e) (Err BadSearch))) (first_same f g same (2 ^ 32) 0)
+    ∙ ap (λ (e : Option Ending). found_in left m to (cond b (found_within left e) (Err BadSearch)))
+    (first_same f g same (2 ^ 32) 0)
 
 pub linear_is : (left : ℕ) (m : Machine) (l : ℕ → ℕ) (to : Dest)
-    → budgeted left (linear_work m l to) ≡ found_in left m to (search_of (query_of l left) (linear_ends m.memory (query_of l left)))
-linear_is left m l to = search_if left m to (first_ending (linear_ends m.memory (query_of l 0)) 0 (2 ^ 32)) (is_search (query_of l 0))
+    → budgeted left (linear_work m l to)
+    ≡ found_in left m to (search_of (query_of l left) (linear_ends m.memory (query_of l left)))
+linear_is left m l to =
+    search_if left m to (first_ending (linear_ends m.memory (query_of l 0)) 0 (2 ^ 32))
+    (is_search (query_of l 0))
 
-interval_is : (m : MemoryMap) (l : ℕ → ℕ) (left k : ℕ) → interval_at m (query_of l 0) k ≡ interval_at m (query_of l left) k
+interval_is : (m : MemoryMap) (l : ℕ → ℕ) (left k : ℕ)
+    → interval_at m (query_of l 0) k ≡ interval_at m (query_of l left) k
 unfolding interval_at
 interval_is m l left zero = refl
 interval_is m l left (suc k) =
-    ap (λ (i : Interval). half i (compared m (query_of l left) (structure_at (query_of l left) (middle i)))) (interval_is m l left k)
+    ap (λ (i : Interval).
+    half i (compared m (query_of l left) (structure_at (query_of l left) (middle i))))
+    (interval_is m l left k)
 
 pub binary_is : (left : ℕ) (m : Machine) (l : ℕ → ℕ) (to : Dest)
-    → budgeted left (binary_work m l to) ≡ found_in left m to (search_of (query_of l left) (binary_ends m.memory (query_of l left)))
+    → budgeted left (binary_work m l to)
+    ≡ found_in left m to (search_of (query_of l left) (binary_ends m.memory (query_of l left)))
 binary_is left m l to =
-    same_search left m to (binary_ends m.memory (query_of l 0)) (binary_ends m.memory (query_of l left)) (is_search (query_of l 0))
-    (λ k. ap (λ (i : Interval). ends_at_interval m.memory (query_of l left) k i) (interval_is m.memory l left k))
+    same_search left m to (binary_ends m.memory (query_of l 0))
+    (binary_ends m.memory (query_of l left)) (is_search (query_of l 0))
+    (λ k. ap (λ (i : Interval). ends_at_interval m.memory (query_of l left) k i)
+    (interval_is m.memory l left k))
 
-place_is : (m : MemoryMap) (l : ℕ → ℕ) (left k : ℕ) → chain_place m (linked_query l 0) k ≡ chain_place m (linked_query l left) k
+place_is : (m : MemoryMap) (l : ℕ → ℕ) (left k : ℕ)
+    → chain_place m (linked_query l 0) k ≡ chain_place m (linked_query l left) k
 unfolding chain_place
 place_is m l left zero = refl
 place_is m l left (suc k) =
     ap (λ (at : ℕ). number_at 4 m.bytes (next_link (linked_query l left) at)) (place_is m l left k)
 
 pub linked_is : (left : ℕ) (m : Machine) (l : ℕ → ℕ) (to : Dest)
-    → budgeted left (linked_work m l to) ≡ found_in left m to (search_of (linked_query l left) (linked_ends m.memory (linked_query l left)))
+    → budgeted left (linked_work m l to)
+    ≡ found_in left m to
+    (search_of (linked_query l left) (linked_ends m.memory (linked_query l left)))
 linked_is left m l to =
-    same_search left m to (linked_ends m.memory (linked_query l 0)) (linked_ends m.memory (linked_query l left)) (is_search (linked_query l 0))
+    same_search left m to (linked_ends m.memory (linked_query l 0))
+    (linked_ends m.memory (linked_query l left)) (is_search (linked_query l 0))
     (λ k. ap (λ (at : ℕ). ends_at m.memory (linked_query l left) k at) (place_is m.memory l left k))
 
-pub linear_of : (left : ℕ) (m : Machine) (l : ℕ → ℕ) (to : Dest) (q : Query) (r : Result Found SearchStop)
-    → q ≡ query_of l left → r ≡ search_of q (linear_ends m.memory q) → budgeted left (linear_work m l to) ≡ found_in left m to r
+pub linear_of : (left : ℕ) (m : Machine) (l : ℕ → ℕ) (to : Dest) (q : Query)
+    (r : Result Found SearchStop)
+    → q ≡ query_of l left
+    → r ≡ search_of q (linear_ends m.memory q)
+    → budgeted left (linear_work m l to) ≡ found_in left m to r
 linear_of left m l to q r asked told =
     linear_is left m l to
     ∙ sym (ap (λ (p : Query). found_in left m to (search_of p (linear_ends m.memory p))) asked)
     ∙ sym (ap (λ (s : Result Found SearchStop). found_in left m to s) told)
 
-pub binary_of : (left : ℕ) (m : Machine) (l : ℕ → ℕ) (to : Dest) (q : Query) (r : Result Found SearchStop)
-    → q ≡ query_of l left → r ≡ search_of q (binary_ends m.memory q) → budgeted left (binary_work m l to) ≡ found_in left m to r
+pub binary_of : (left : ℕ) (m : Machine) (l : ℕ → ℕ) (to : Dest) (q : Query)
+    (r : Result Found SearchStop)
+    → q ≡ query_of l left
+    → r ≡ search_of q (binary_ends m.memory q)
+    → budgeted left (binary_work m l to) ≡ found_in left m to r
 binary_of left m l to q r asked told =
     binary_is left m l to
     ∙ sym (ap (λ (p : Query). found_in left m to (search_of p (binary_ends m.memory p))) asked)
     ∙ sym (ap (λ (s : Result Found SearchStop). found_in left m to s) told)
 
-pub linked_of : (left : ℕ) (m : Machine) (l : ℕ → ℕ) (to : Dest) (q : Query) (r : Result Found SearchStop)
-    → q ≡ linked_query l left → r ≡ search_of q (linked_ends m.memory q) → budgeted left (linked_work m l to) ≡ found_in left m to r
+pub linked_of : (left : ℕ) (m : Machine) (l : ℕ → ℕ) (to : Dest) (q : Query)
+    (r : Result Found SearchStop)
+    → q ≡ linked_query l left
+    → r ≡ search_of q (linked_ends m.memory q)
+    → budgeted left (linked_work m l to) ≡ found_in left m to r
 linked_of left m l to q r asked told =
     linked_is left m l to
     ∙ sym (ap (λ (p : Query). found_in left m to (search_of p (linked_ends m.memory p))) asked)

@@ -1,5 +1,7 @@
 -- One tick before an opcode's work.
-use Rattle.std.proofs.Common.{◌≡◌, ℕ, ◌+◌, ◌-◌, ◌<◌, Bool, true, false, nat_lt, Result, Ok, Err, refl, arith, List, replicate, take, slice_index, Option, Some, ◌∙◌, sym, ap, subst, cond}
+use Rattle.std.proofs.Common.{◌≡◌, ℕ, ◌+◌, ◌-◌, ◌<◌, Bool, true, false, nat_lt}
+use Rattle.std.proofs.Common.{Result, Ok, Err, refl, arith, List, replicate, take}
+use Rattle.std.proofs.Common.{slice_index, Option, Some, ◌∙◌, sym, ap, subst, cond}
 use Rattle.std.proofs.lemmas.Bool.Decides.{nat_tests}
 use Rattle.vm_memory.specs.Chaining.{◌>>=◌}
 use Rattle.vm_memory.specs.declared.fault.Trap.{Trap}
@@ -12,7 +14,8 @@ use Rattle.vm_operand.specs.declared.operand.Dest.{Dest}
 use Rattle.vm_exec.specs.Answer.{Does}
 use Rattle.vm_exec.specs.Rules.{Rule, loaded_all}
 use Rattle.vm_exec.specs.Rows.Work.{Work, Free, Costs, budgeted, costing}
-use Rattle.vm_exec.specs.Row.{charged, step_within, step_of, work_of, work, width_of, dest_by_index, fetched}
+use Rattle.vm_exec.specs.Row.{charged, step_within, step_of, work_of}
+use Rattle.vm_exec.specs.Row.{work, width_of, dest_by_index, fetched}
 use Rattle.vm_exec.specs.declared.machine.Machine.{Machine}
 use Rattle.vm_exec.specs.declared.step.Step.{Step}
 use Rattle.vm_exec.specs.declared.step.Done.{Done}
@@ -29,34 +32,49 @@ stepped (Ok x) = Ok (x.0, step_of x.1.out (x.1.cost + 1))
 stepped (Err n) = Err n
 
 -- a test on the ticks stands on both sides
-over : (b : Bool) (n : ℕ) (r : Rule) → cond b (Err 24) (r >>= (λ x. Ok (x.0, step_of x.1 (n + 1)))) ≡ stepped (cond b (Err 24) (costing n r))
+over : (b : Bool) (n : ℕ) (r : Rule)
+    → cond b (Err 24) (r >>= (λ x. Ok (x.0, step_of x.1 (n + 1))))
+    ≡ stepped (cond b (Err 24) (costing n r))
 over true n r = refl
 over false n (Ok x) = refl
 over false n (Err m) = refl
 
-pub told_work : (left : ℕ) (w : Work) → 0 < left → step_within left (charged (Ok w)) ≡ stepped (budgeted (left - 1) w)
+pub told_work : (left : ℕ) (w : Work)
+    → 0 < left
+    → step_within left (charged (Ok w)) ≡ stepped (budgeted (left - 1) w)
 told_work left (Free (Ok x)) h = rw (one left h) refl
 told_work left (Free (Err n)) h = rw (one left h) refl
 told_work left (Costs n r) h = rw (later left n h) (over (nat_lt (left - 1) n) n r)
 
 -- an error of the work is one of the step
-pub told_err : (left : ℕ) (w : Work) (new : Machine) (e : Trap) → 0 < left → Does (budgeted (left - 1) w) new (Err e) → Does {A = Step} (step_within left (charged (Ok w))) new (Err e)
+pub told_err : (left : ℕ) (w : Work) (new : Machine) (e : Trap)
+    → 0 < left → Does (budgeted (left - 1) w) new (Err e)
+    → Does {A = Step} (step_within left (charged (Ok w))) new (Err e)
 told_err left w new (Fault n) h d = told_work left w h ∙ ap stepped d
 told_err left w new NoMemory h d = tt
 
 -- what the work told is what the step tells
-pub told_ok : (left : ℕ) (op : Option Op) (o : Op) (m new : Machine) (args : List ℕ) (to : List Dest) (done : Done) (s : Step)
-    → op ≡ Some o → 0 < left → budgeted (left - 1) (work o m (slice_index args) (dest_by_index to)) ≡ Ok (new, done) → s ≡ step_of done.out (done.cost + 1)
+pub told_ok : (left : ℕ) (op : Option Op) (o : Op) (m new : Machine) (args : List ℕ)
+    (to : List Dest) (done : Done) (s : Step)
+    → op ≡ Some o → 0 < left
+    → budgeted (left - 1) (work o m (slice_index args) (dest_by_index to)) ≡ Ok (new, done)
+    → s ≡ step_of done.out (done.cost + 1)
     → step_within left (charged (Ok (work_of op m args to))) ≡ Ok (new, s)
 told_ok left op o m new args to done s is h worked step =
     ap (λ (p : Option Op). step_within left (charged (Ok (work_of p m args to)))) is
-    ∙ (told_work left (work o m (slice_index args) (dest_by_index to)) h ∙ (ap stepped worked ∙ ap (λ (t : Step). Ok (new, t)) (sym step)))
+    ∙ (told_work left (work o m (slice_index args) (dest_by_index to)) h
+    ∙ (ap stepped worked ∙ ap (λ (t : Step). Ok (new, t)) (sym step)))
 
 -- what an instruction does, once it is decoded and its loads are taken
-pub fetched_is : (m : Machine) (i : Instr) (x : Machine × List ℕ) (w : ℕ) → w ≡ width_of (op_of i.op)
-    → Ok i ≡ instruction_at m.memory m.pc → loaded_all w m (take i.loads.count i.loads.items) 0 (replicate 8 0) ≡ Ok x
+pub fetched_is : (m : Machine) (i : Instr) (x : Machine × List ℕ) (w : ℕ)
+    → w ≡ width_of (op_of i.op)
+    → Ok i ≡ instruction_at m.memory m.pc
+    → loaded_all w m (take i.loads.count i.loads.items) 0 (replicate 8 0) ≡ Ok x
     → Ok (work_of (op_of i.op) (record x.0 { pc = i.next }) x.1 i.stores.items) ≡ fetched m
 fetched_is m i x w width decoded taken =
-    let all : loaded_all (width_of (op_of i.op)) m (take i.loads.count i.loads.items) 0 (replicate 8 0) ≡ Ok x =
-    subst (λ (n : ℕ). loaded_all n m (take i.loads.count i.loads.items) 0 (replicate 8 0) ≡ Ok x) width taken in
+    let all : loaded_all (width_of (op_of i.op)) m (take i.loads.count i.loads.items) 0
+    (replicate 8 0)
+    ≡ Ok x =
+    subst (λ (n : ℕ). loaded_all n m (take i.loads.count i.loads.items) 0 (replicate 8 0) ≡ Ok x)
+    width taken in
     rw (← decoded, all) refl

@@ -1,5 +1,6 @@
 -- Words of memory, read one by one.
-use Rattle.std.proofs.Common.{◌≡◌, ℕ, suc, ◌+◌, ◌-◌, List, [], ◌∷◌, ◌++◌, Result, Ok, Err, refl, arith, ap, sym, ◌∙◌}
+use Rattle.std.proofs.Common.{◌≡◌, ℕ, suc, ◌+◌, ◌-◌, List, [], ◌∷◌, ◌++◌}
+use Rattle.std.proofs.Common.{Result, Ok, Err, refl, arith, ap, sym, ◌∙◌}
 use mathlib.Core.List.{append_assoc, append-nil}
 use Rattle.vm_memory.specs.Chaining.{◌>>=◌}
 use Rattle.vm_memory.specs.Access.{read}
@@ -26,18 +27,21 @@ all_left : (n : ℕ) → n ≡ n - 0
 all_left n = omega arith
 
 pub words-begin : (m : MemoryMap) (at n : ℕ) → words_at m at n ≡ behind [] (words_at m at (n - 0))
-words-begin m at n = behind_nothing (words_at m at n) ∙ ap (λ (k : ℕ). behind [] (words_at m at k)) (all_left n)
+words-begin m at n =
+    behind_nothing (words_at m at n) ∙ ap (λ (k : ℕ). behind [] (words_at m at k)) (all_left n)
 
 pub words-more : (m : MemoryMap) (at x n k : ℕ) (xs : List ℕ) → n ≡ suc k → read 4 m at ≡ Ok x
     → behind xs (words_at m at n) ≡ behind (xs ++ x ∷ []) (words_at m (at + 4) k)
 unfolding words_at
 words-more m at x n k xs is e = rw (is, e) (behind_twice xs x (words_at m (at + 4) k))
 
-pub words-stop : (m : MemoryMap) (at n k : ℕ) (f : MemFault) (xs : List ℕ) → n ≡ suc k → read 4 m at ≡ Err f
+pub words-stop : (m : MemoryMap) (at n k : ℕ) (f : MemFault) (xs : List ℕ)
+    → n ≡ suc k → read 4 m at ≡ Err f
     → behind xs (words_at m at n) ≡ Err (code_of f)
 unfolding words_at
 words-stop m at n k f xs is e = rw (is, e) refl
 
-pub words-end : (m : MemoryMap) (at n : ℕ) (xs : List ℕ) → n ≡ 0 → behind xs (words_at m at n) ≡ Ok xs
+pub words-end : (m : MemoryMap) (at n : ℕ) (xs : List ℕ)
+    → n ≡ 0 → behind xs (words_at m at n) ≡ Ok xs
 unfolding words_at
 words-end m at n xs e = rw e (ap (λ (ys : List ℕ). Ok ys) (append-nil xs))

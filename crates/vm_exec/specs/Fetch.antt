@@ -1,6 +1,6 @@
 -- Instructions below RAMSTART, whose loads are taken as they are decoded (own).
-use Rattle.std.specs.Prelude.{ℕ, ◌≡◌, ◌≤◌, ◌+◌, List, [], ◌∷◌, replicate, slice_index, Result, Ok, Err, Some}
-use Rattle.std.specs.Prelude.{IsErr}
+use Rattle.std.specs.Prelude.{ℕ, ◌≡◌, ◌≤◌, ◌+◌, List, [], ◌∷◌, replicate}
+use Rattle.std.specs.Prelude.{slice_index, Result, Ok, Err, Some, IsErr}
 use Rattle.vm_memory.specs.Code.{IsCode}
 use Rattle.vm_memory.specs.declared.fault.Trap.{Trap}
 use Rattle.vm_memory.specs.declared.fault.Trap.TheVariants.{Fault, NoMemory}

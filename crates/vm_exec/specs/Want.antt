@@ -26,7 +26,7 @@ ArrayMayWant Aloadb to = IsInMemory to
 ArrayMayWant Aloadbit to = IsInMemory to
 ArrayMayWant _ to = Unit {0}
 
--- what the store of an opcode says of it
+-- the same by an opcode's row: nothing is said of other families than arrays
 abbrev pub StoreMayWant : Op → d.Dest → Type 0
 StoreMayWant (op.Array o) to = ArrayMayWant o to
 StoreMayWant _ to = Unit {0}

@@ -48,7 +48,8 @@ called_is m s at args kind format stands =
     ∙ (typed_is m s at args kind stands.kinds
     ∙ ap (λ (r : Result (List ℕ) FlowStop). and_then r (begun s at args kind)) stands.list)
 
-gives_room : (should : Answered) (new : StackState) (r : Result ℕ FlowStop) → GivesOrStops should new r
+gives_room : (should : Answered) (new : StackState) (r : Result ℕ FlowStop)
+    → GivesOrStops should new r
     → GivesWithRoom should new r
 gives_room should new (Ok x) h = h
 gives_room should new (Err (stop.Memory f)) h = h
@@ -60,7 +61,8 @@ gives_room should new (Err stop.NoMemory) h = tt
 
 pub gives_called : (m : MemoryMap) (s new : StackState) (at : ℕ) (args : List ℕ) (kind : ℕ)
     (format : List ℕ) (r : Result ℕ FlowStop) → Stands m at kind format
-    → GivesOrStops (begun s at args kind format) new r → GivesWithRoom (function_called m s at args) new r
+    → GivesOrStops (begun s at args kind format) new r
+    → GivesWithRoom (function_called m s at args) new r
 gives_called m s new at args kind format r stands h =
     subst (λ (should : Answered). GivesWithRoom should new r)
     (sym (called_is m s at args kind format stands))

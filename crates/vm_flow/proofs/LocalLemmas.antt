@@ -22,7 +22,8 @@ use Rattle.vm_stack.specs.declared.fault.StackFault.{StackFault}
 use Rattle.vm_stack.proofs.NumberLemmas.{le_true, number_within}
 use Rattle.vm_stack.proofs.ChainLemmas.{length_word}
 use Rattle.vm_flow.specs.Answer.{from_stack, and_then}
-use Rattle.vm_flow.specs.Call.{pair_set, locals_set, arguments_given, locals_of, frame_with, with_frame}
+use Rattle.vm_flow.specs.Call.{pair_set, locals_set, arguments_given}
+use Rattle.vm_flow.specs.Call.{locals_of, frame_with, with_frame}
 use Rattle.vm_flow.specs.declared.stop.FlowStop.{FlowStop}
 use Rattle.vm_flow.proofs.ArgumentLemmas.{aligned_up, grows, next_end}
 
@@ -63,7 +64,8 @@ put_zeros : (p done new : List ℕ) (n w : ℕ) → length new ≡ w → w ≤ n
 put_zeros p done new n w e h =
     ap (λ (b : List ℕ). replaced_within b (length p + length done) new)
     (sym (append_assoc p done (replicate n 0)))
-    ∙ (ap (λ (k : ℕ). replaced_within ((p ++ done) ++ replicate n 0) k new) (sym (length-append p done))
+    ∙ (ap (λ (k : ℕ). replaced_within ((p ++ done) ++ replicate n 0) k new)
+    (sym (length-append p done))
     ∙ (put_at_seam (p ++ done) new n w e h ∙ inner p done new (replicate (n - w) 0)))
 
 number_in : (p rest : List ℕ) (at : ℕ) → at + 4 ≤ length p → number 4 (p ++ rest) at ≡ number 4 p at

@@ -35,7 +35,8 @@ answered (Ok x) = Ok x.1
 answered (Err e) = Err e
 
 -- a call that should stop answers that stop
-pub gives_stop : (new : StackState) (r : Result Stub FlowStop) (e : FlowStop) → GivesOrStops (Err e) new r
+pub gives_stop : (new : StackState) (r : Result Stub FlowStop) (e : FlowStop)
+    → GivesOrStops (Err e) new r
     → r ≡ Err e
 gives_stop new (Ok x) e h = absurd (subst Stops h tt)
 gives_stop new (Err f) e h = sym (ap answered h)

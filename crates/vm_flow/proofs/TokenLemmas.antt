@@ -14,7 +14,8 @@ use Rattle.vm_stack.proofs.NumberLemmas.{number_within}
 use Rattle.vm_stack.proofs.SavedLemmas.{take_within}
 use Rattle.vm_flow.specs.Answer.{from_stack, and_then}
 use Rattle.vm_stack.specs.Token.{ends_stub}
-use Rattle.vm_stack.specs.Chain.{Frame, IsFrame, IsChain, Chain, HasFrame, IsReady, bytes_of_frames, start}
+use Rattle.vm_stack.specs.Chain.{Frame, IsFrame, IsChain, Chain, HasFrame}
+use Rattle.vm_stack.specs.Chain.{IsReady, bytes_of_frames, start}
 use Rattle.vm_stack.specs.declared.stub.Stub.{Stub}
 use Rattle.vm_stack.proofs.FrameLemmas.{before, length_before, frame_len_is, fours_below}
 use Rattle.vm_stack.proofs.ChainLemmas.{left_bytes, left_frame, number_before}

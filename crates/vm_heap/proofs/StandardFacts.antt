@@ -29,7 +29,8 @@ ends = refl
 
 -- no start without a block, and no blocks that meet
 pub heaps :
-    is_heap 0 [] ∷ is_heap 0x100 [] ∷ is_heap 0x100 (block 0x100 4 ∷ block 0x103 4 ∷ []) ∷ is_heap 0x100 (block 0x100 4 ∷ block 0x104 4 ∷ []) ∷ []
+    is_heap 0 [] ∷ is_heap 0x100 [] ∷ is_heap 0x100 (block 0x100 4 ∷ block 0x103 4 ∷ [])
+    ∷ is_heap 0x100 (block 0x100 4 ∷ block 0x104 4 ∷ []) ∷ []
     ≡ true ∷ false ∷ false ∷ true ∷ []
 heaps = refl
 

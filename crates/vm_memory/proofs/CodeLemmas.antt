@@ -19,13 +19,15 @@ code_size m start code here =
     omega (arith, t, d, inside))
 
 -- a number in the code ends in it
-pub code_holds : (m : MemoryMap) (start : ℕ) (code : List ℕ) (at n : ℕ) → IsCode m start code → start ≤ at
+pub code_holds : (m : MemoryMap) (start : ℕ) (code : List ℕ) (at n : ℕ)
+    → IsCode m start code → start ≤ at
     → at + n ≤ start + 32 → at - start + n ≤ length code
 code_holds m start code at n here low high =
     let size = code_size m start code here in omega (arith, size, low, high)
 
 -- a byte of the code is one of memory
-code_byte : (m : MemoryMap) (start : ℕ) (code : List ℕ) (at k : ℕ) → IsCode m start code → start ≤ at
+code_byte : (m : MemoryMap) (start : ℕ) (code : List ℕ) (at k : ℕ)
+    → IsCode m start code → start ≤ at
     → at + k < start + 32 → slice_index (drop (at - start) code) k ≡ slice_index (drop at m.bytes) k
 code_byte m start code at k here low high =
     get_or-drop (at - start) code k 0
@@ -36,17 +38,21 @@ code_byte m start code at k here low high =
     ∙ sym (get_or-drop at m.bytes k 0)
 
 -- a number in the code is what memory reads there
-pub code_number : (m : MemoryMap) (start : ℕ) (code : List ℕ) (at n : ℕ) → IsCode m start code → start ≤ at
+pub code_number : (m : MemoryMap) (start : ℕ) (code : List ℕ) (at n : ℕ)
+    → IsCode m start code → start ≤ at
     → at + n ≤ start + 32 → read n m at ≡ Ok (big_number n (drop (at - start) code))
 code_number m start code at n here low high =
     let inside = here.inside in
-    let t : nat_le (at + n) (length m.bytes) ≡ true = (let le : at + n ≤ length m.bytes = omega (arith, high, inside) in grind (arith, nat_tests)) in
+    let t : nat_le (at + n) (length m.bytes) ≡ true =
+    (let le : at + n ≤ length m.bytes = omega (arith, high, inside) in grind (arith, nat_tests)) in
     rw t (ap Ok (sym (big_from_same 0 n (drop (at - start) code) (drop at m.bytes)
     (λ k l. code_byte m start code at k here low (omega (arith, high, l))))))
 
-pub code_one : (m : MemoryMap) (start : ℕ) (code : List ℕ) (at : ℕ) → IsCode m start code → start ≤ at
+pub code_one : (m : MemoryMap) (start : ℕ) (code : List ℕ) (at : ℕ)
+    → IsCode m start code → start ≤ at
     → at + 1 ≤ start + 32 → read 1 m at ≡ Ok (slice_index code (at - start))
 code_one m start code at here low high =
     code_number m start code at 1 here low high
     ∙ ap Ok (let e : slice_index (drop (at - start) code) 0 ≡ slice_index code (at - start) =
-    get_or-drop (at - start) code 0 0 ∙ ap (λ (n : ℕ). slice_index code n) (omega arith) in omega (arith, e))
+    get_or-drop (at - start) code 0 0 ∙ ap (λ (n : ℕ). slice_index code n) (omega arith) in
+    omega (arith, e))

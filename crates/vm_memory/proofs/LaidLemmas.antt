@@ -190,7 +190,12 @@ slice_rom rom ramstart rows size at n fits low within =
 -- the 32 bytes of the image below RAMSTART are memory's
 pub code_below : (rom : List ℕ) (ramstart : ℕ) (rows : Rows) (size endmem at : ℕ) (bytes : List ℕ)
     → at + 32 ≤ ramstart → ramstart ≤ length rom → ramstart ≤ size → bytes ≡ take 32 (drop at rom)
-    → IsCode (record { bytes = laid rom ramstart rows size; ramstart = ramstart; rom = rom; endmem = endmem }) at bytes
+    → IsCode (record {
+      bytes = laid rom ramstart rows size;
+      ramstart = ramstart;
+      rom = rom;
+      endmem = endmem;
+    }) at bytes
 code_below rom ramstart rows size endmem at bytes low within high e = record {
   bytes = e ∙ slice_rom rom ramstart rows size at 32 (omega arith) low within;
   below = low;

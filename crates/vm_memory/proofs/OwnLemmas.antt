@@ -194,7 +194,8 @@ own_put m at new some few fits =
       | inl low ↦ byte_before m.bytes at new i d fits low
       | inr high ↦ byte_after m.bytes at new i d fits (omega (arith, f, g))
     ])) ∙ ap (λ k. bytes_eq (page_of m.bytes n) (page_of (original m.rom k) n)) z) in
-    let count = count_two (page_differs m.rom (replaced m.bytes at new)) (page_differs m.rom m.bytes)
+    let count =
+    count_two (page_differs m.rom (replaced m.bytes at new)) (page_differs m.rom m.bytes)
     (at / 256) ((at + length new - 1) / 256) 0 (length m.bytes / 256 + 1) same in
     omega (
       arith,
@@ -229,7 +230,8 @@ pub own_more : (rom bytes : List ℕ) (n count own : ℕ) (b : Bool)
 own_more rom bytes n count own b was is one =
     let more = count_more (page_differs rom bytes) 0 n in
     let here = counted b (page_differs rom bytes n) is in
-    let at_n = counted (page_differs rom bytes n) (page_differs rom bytes (0 + n)) (ap (page_differs rom bytes)
+    let at_n =
+    counted (page_differs rom bytes n) (page_differs rom bytes (0 + n)) (ap (page_differs rom bytes)
     (sym (zero-add n))) in
     let next = add-one n in
     let total : count + own ≡ count_by (page_differs rom bytes) (range_with_len 0 (suc n)) = omega
@@ -268,5 +270,6 @@ own_stop rom ramstart rows size some all within few past = elim past [
       (page_in_past rows n (omega arith))) in
       let e : some + (all - some) ≡ all = omega arith in
       sym (count_stop p some (all - some) none) ∙ ap (λ n. count_by p (range_with_len 0 n)) e
-  | inr e ↦ ap (λ n. count_by (page_differs rom (laid rom ramstart rows size)) (range_with_len 0 n)) e
+  | inr e ↦
+      ap (λ n. count_by (page_differs rom (laid rom ramstart rows size)) (range_with_len 0 n)) e
 ]

@@ -143,7 +143,8 @@ puts_take rom a b d at to done end new f l m e g =
 
 pub puts_zeros : (rom : List ℕ) (a b d : Rows) (at to done n : ℕ)
     → PutsBytes rom a b at (replicate done 0) → to ≡ at + done → n ≤ 256
-    → PutsBytes rom b d to (take n (replicate 256 0)) → PutsBytes rom a d at (replicate (done + n) 0)
+    → PutsBytes rom b d to (take n (replicate 256 0))
+    → PutsBytes rom a d at (replicate (done + n) 0)
 puts_zeros rom a b d at to done n f e l g =
     subst (PutsBytes rom a d at) (replicate-append-replicate done n 0)
     (puts_more rom a b d at to (replicate done 0) (replicate n 0) f (omega

@@ -96,7 +96,8 @@ modes_read m p (o ∷ q ∷ os) spare low are s =
     let byte : ℕ = mode_number (mode_in o) + 16 * mode_number (mode_in q) in
     let rest : List ℕ = mode_bytes (map mode_in os) spare in
     let others : All IsOperand (q ∷ os) = All-tail IsOperand o (q ∷ os) are in
-    two_modes m p byte (operand_kind o) (operand_kind q) (map operand_kind os) (mode_in o) (mode_in q)
+    two_modes m p byte (operand_kind o) (operand_kind q) (map operand_kind os)
+    (mode_in o) (mode_in q)
     (byte_read m p byte (omega (arith, n, k)) (stand_first m p (byte ∷ []) rest s))
     (mode_is (operand_kind o) (mode_in o) (byte % 16) (omega (arith, n, k))
     (All-head IsOperand o (q ∷ os) are).allowed)

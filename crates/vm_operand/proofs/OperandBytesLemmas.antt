@@ -16,9 +16,9 @@ use Rattle.vm_operand.specs.Mode.{allows, size}
 use Rattle.vm_operand.specs.Reading.{instruction_read}
 use Rattle.vm_operand.specs.Instruction.{dest_at, load_at, operand, operands, with_load}
 use Rattle.vm_operand.specs.Instruction.{with_store}
-use Rattle.vm_operand.specs.Spelling.{Operand, operand_kind, mode_in, number_in, mode_size, IsOperand}
-use Rattle.vm_operand.specs.Spelling.{operand_bytes, load_of, dest_of, loads_of}
-use Rattle.vm_operand.specs.Spelling.{stores_of, instr, Stand}
+use Rattle.vm_operand.specs.Spelling.{Operand, operand_kind, mode_in, number_in}
+use Rattle.vm_operand.specs.Spelling.{mode_size, IsOperand, operand_bytes, load_of}
+use Rattle.vm_operand.specs.Spelling.{dest_of, loads_of, stores_of, instr, Stand}
 use Rattle.vm_operand.specs.Spelling.Operand.{Load, Store}
 use Rattle.vm_operand.specs.declared.operand.Kind.{Kind}
 use Rattle.vm_operand.specs.declared.operand.Kind.TheVariants as kind
@@ -191,7 +191,8 @@ bytes_then m p k n rest s =
 
 pub operands_read : (m : MemoryMap) (number : ℕ) (os : List Operand) (ls : List l.Load)
     (ss : List d.Dest) (p : ℕ)
-    → length ls + loads_in (map operand_kind os) ≤ 8 → length ss + stores_in (map operand_kind os) ≤ 2
+    → length ls + loads_in (map operand_kind os) ≤ 8
+    → length ss + stores_in (map operand_kind os) ≤ 2
     → All IsOperand os → Stand m p (operand_bytes os)
     → operands m (map operand_kind os) (map mode_in os) (instr number ls ss p)
     ≡ Ok (instr number (ls ++ loads_of m os) (ss ++ stores_of m os) (p + length (operand_bytes os)))
@@ -238,7 +239,8 @@ pub record Operands (m : MemoryMap) (p : ℕ) (ks : List Kind) (ms : List Mode) 
 
 with_first : (m : MemoryMap) (p : ℕ) (o : Operand) (ks : List Kind) (ms : List Mode) → IsOperand o
     → Stand m p (big_bytes (mode_size (mode_in o)) (number_in o))
-    → Operands m (p + mode_size (mode_in o)) ks ms → Operands m p (operand_kind o ∷ ks) (mode_in o ∷ ms)
+    → Operands m (p + mode_size (mode_in o)) ks ms
+    → Operands m p (operand_kind o ∷ ks) (mode_in o ∷ ms)
 with_first m p o ks ms is s rest = record {
   operands = o ∷ rest.operands;
   kinds = ap (λ (js : List Kind). operand_kind o ∷ js) rest.kinds;

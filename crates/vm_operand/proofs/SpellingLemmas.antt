@@ -9,11 +9,12 @@ use Rattle.byteorder.specs.Numbers.{length-bytes_high_first}
 use Rattle.vm_memory.specs.MemoryMap.{MemoryMap}
 use Rattle.vm_operand.specs.Opcode.{kinds_of, loads_in, opcode_number, op_of, stores_in}
 use Rattle.vm_operand.specs.Mode.{size}
-use Rattle.vm_operand.specs.Instruction.{bare, instruction_at, known, modes_at, opcode_number_at, operands}
-use Rattle.vm_operand.specs.Spelling.{operand_kind, mode_in, HasWidth, Writing, IsWriting, opcode_bytes}
-use Rattle.vm_operand.specs.Spelling.{mode_bytes, operand_bytes, bytes_of_writing, loads_of, stores_of}
-use Rattle.vm_operand.specs.Spelling.{instr, Stand, SpellsInstruction, DecodesWhatIsSpelled}
-use Rattle.vm_operand.specs.Spelling.{SpellsWhatIsDecoded}
+use Rattle.vm_operand.specs.Instruction.{bare, instruction_at, known}
+use Rattle.vm_operand.specs.Instruction.{modes_at, opcode_number_at, operands}
+use Rattle.vm_operand.specs.Spelling.{operand_kind, mode_in, HasWidth, Writing, IsWriting}
+use Rattle.vm_operand.specs.Spelling.{opcode_bytes, mode_bytes, operand_bytes, bytes_of_writing}
+use Rattle.vm_operand.specs.Spelling.{loads_of, stores_of, instr, Stand, SpellsInstruction}
+use Rattle.vm_operand.specs.Spelling.{DecodesWhatIsSpelled, SpellsWhatIsDecoded}
 use Rattle.vm_operand.specs.declared.opcode.Op.{Op}
 use Rattle.vm_operand.specs.declared.opcode.Op.TheVariants as op
 use Rattle.vm_operand.specs.declared.opcode.Math.TheVariants.{Add}
@@ -102,7 +103,9 @@ mode_len (a ∷ b ∷ ms) spare = let e = mode_len ms spare in omega (arith, e)
 -- ---- the law
 
 decoded : (m : MemoryMap) (at n p : ℕ) (o : Op) (ms : List Mode) (i : Instr)
-    → opcode_number_at m at ≡ Ok (n, p) → known n (op_of n) ≡ Ok o → modes_at m p (kinds_of o) ≡ Ok ms
+    → opcode_number_at m at ≡ Ok (n, p)
+    → known n (op_of n) ≡ Ok o
+    → modes_at m p (kinds_of o) ≡ Ok ms
     → operands m (kinds_of o) ms (bare n (p + (length (kinds_of o) + 1) / 2)) ≡ Ok i
     → instruction_at m at ≡ Ok i
 unfolding instruction_at
@@ -134,7 +137,8 @@ decodes_what_is_spelled m at i s =
     let place : p + length middle ≡ q = omega (arith, b, c, d, e) in
     let last : Stand m q rest =
     subst (λ (k : ℕ). Stand m k rest) place (stand_then m p middle rest behind) in
-    let next : q + length rest ≡ at + length (bytes_of_writing w) = omega (arith, place, whole, half, a) in
+    let next : q + length rest ≡ at + length (bytes_of_writing w) =
+    omega (arith, place, whole, half, a) in
     decoded m at n p w.op ms i
     (opcode_read m at n w.width s.is.width (stand_first m at front (middle ++ rest) s.bytes))
     (ap (known n) (op_of-number_of w.op))
@@ -149,7 +153,8 @@ decodes_what_is_spelled m at i s =
     s.is.operands last)
     ∙ ap Ok (ap (instr n (loads_of m w.operands) (stores_of m w.operands)) next ∙ sym s.reads))
 
-was_known : (n : ℕ) (o : Option Op) (x : Op) → IfSome o (λ y. opcode_number y ≡ n) → known n o ≡ Ok x
+was_known : (n : ℕ) (o : Option Op) (x : Op)
+    → IfSome o (λ y. opcode_number y ≡ n) → known n o ≡ Ok x
     → (o ≡ Some x) × (opcode_number x ≡ n)
 was_known n (Some y) x h e =
     subst (λ (z : Op). (Some y ≡ Some z) × (opcode_number z ≡ n)) (ok_is e) (refl, h)

@@ -4,8 +4,8 @@ use Rattle.std.proofs.Common.{true, false, Result, Ok, Err}
 use Rattle.vm_memory.specs.declared.fault.MemFault.TheVariants.{BadRead}
 use Rattle.vm_operand.specs.Opcode.{op_of, opcodes}
 use Rattle.vm_operand.specs.Mode.{mode_of, modes}
-use Rattle.vm_operand.specs.Instruction.{opcode_number_at, modes_at, load_at, dest_at, operand, operands}
-use Rattle.vm_operand.specs.Instruction.{instruction_at}
+use Rattle.vm_operand.specs.Instruction.{opcode_number_at, modes_at, load_at}
+use Rattle.vm_operand.specs.Instruction.{dest_at, operand, operands, instruction_at}
 use Rattle.vm_operand.specs.Arithmetic.{applied}
 use Rattle.vm_operand.specs.Branch.{holds}
 use Rattle.vm_operand.specs.declared.operand.Load as l

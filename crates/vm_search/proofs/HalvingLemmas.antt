@@ -60,7 +60,8 @@ halved m q i r e d (inr greater) b =
       below = b.below;
     })
 
-step : (m : MemoryMap) (q : Query) (k : ℕ) (i : Interval) → ends_at_interval m q k i ≡ None → Between m q i
+step : (m : MemoryMap) (q : Query) (k : ℕ) (i : Interval)
+    → ends_at_interval m q k i ≡ None → Between m q i
     → Between m q (half i (compared m q (structure_at q (middle i))))
 step m q k i h b =
     let p = past_ends (i.low == i.high) (ending k (Ok (failure q))) _ h in
@@ -89,14 +90,16 @@ ordered (Err g) false own f o h = absurd cc
 
 -- what a look says of the key that is sought
 looks : (m : MemoryMap) (q : Query) (at : ℕ) (o : Ordering) → compared m q at ≡ Ok o
-    → (k : ℕ) × (sought m q ≡ Ok k) × MatchOrdering o (k < key_in_memory m q at) (k ≡ key_in_memory m q at)
+    → (k : ℕ) × (sought m q ≡ Ok k)
+    × MatchOrdering o (k < key_in_memory m q at) (k ≡ key_in_memory m q at)
     (key_in_memory m q at < k)
 looks m q at o h =
     let r = ordered (sought m q) (nat_le (key_place q at + q.key_size) (length m.bytes))
     (key_in_memory m q at) (BadRead (key_place q at)) o h in (
       r.0,
       r.1,
-      subst (λ (x : Ordering). MatchOrdering x (r.0 < key_in_memory m q at) (r.0 ≡ key_in_memory m q at)
+      subst (λ (x : Ordering).
+          MatchOrdering x (r.0 < key_in_memory m q at) (r.0 ≡ key_in_memory m q at)
           (key_in_memory m q at < r.0)) r.2 (ranks r.0 (key_in_memory m q at)),
     )
 
@@ -105,7 +108,9 @@ rises : (m : MemoryMap) (q : Query) → IsSorted m q → (i j : ℕ) → i ≤ j
 rises m q sorted i j l h =
     elim (eq-or-lt_of_le l) as
     (λ _. key_in_memory m q (structure_at q i) ≤ key_in_memory m q (structure_at q j)) [
-      | inl e ↦ subst (λ (n : ℕ). key_in_memory m q (structure_at q i) ≤ key_in_memory m q (structure_at q n)) e
+      | inl e ↦
+          subst
+          (λ (n : ℕ). key_in_memory m q (structure_at q i) ≤ key_in_memory m q (structure_at q n)) e
           (omega arith)
       | inr s ↦ sorted i j s h
     ]

@@ -12,8 +12,8 @@ use Rattle.vm_search.specs.Ending.{Ending, ending, failure, at_structure, first_
 use Rattle.vm_search.specs.Ending.{found_within, told_answer}
 use Rattle.vm_search.specs.Linear.{is_past, linear_ends, at_index}
 use Rattle.vm_search.specs.Linked.{linked_ends, next_link, or_at_link, chain_place}
-use Rattle.vm_search.specs.Laws.{Structures, table, chain, NoneOf, FindsKey, FindsNoKey, AnswersSearch}
-use Rattle.vm_search.specs.Laws.{FindsOrFails}
+use Rattle.vm_search.specs.Laws.{Structures, table, chain, NoneOf, FindsKey}
+use Rattle.vm_search.specs.Laws.{FindsNoKey, AnswersSearch, FindsOrFails}
 use Rattle.vm_search.specs.declared.query.Query.{Query}
 use Rattle.vm_search.specs.declared.query.Found.{Found}
 use Rattle.vm_search.specs.declared.fault.SearchStop.{SearchStop}
@@ -165,7 +165,8 @@ record Told (o : Option Ending) (found : Found) : Type 0 where
   answer : e.answer ≡ Ok found.answer
   looked : found.looked ≡ e.looked
 
-tell : (left : ℕ) (o : Option Ending) (found : Found) → found_within left o ≡ Ok found → Told o found
+tell : (left : ℕ) (o : Option Ending) (found : Found)
+    → found_within left o ≡ Ok found → Told o found
 tell left None found h = absurd cc
 tell left (Some e) found h =
     let t = tells-left (nat_lt left e.looked) e.looked e.answer found h in
@@ -184,11 +185,13 @@ pub record Ended (ends : ℕ → Option Ending) (found : Found) : Type 0 where
   pub looked : found.looked ≡ e.looked
 
 pub ended : (q : Query) (ends : ℕ → Option Ending) (found : Found)
-    → cond (is_search q) (found_within q.left (first_ending ends 0 (2 ^ 32))) (Err BadSearch) ≡ Ok found
+    → cond (is_search q) (found_within q.left (first_ending ends 0 (2 ^ 32))) (Err BadSearch)
+    ≡ Ok found
     → Ended ends found
 ended q ends found h =
     let o : Option Ending = first_ending ends 0 (2 ^ 32) in
-    let t : Told o found = tell q.left o found (chosen (is_search q) (found_within q.left o) found h) in
+    let t : Told o found =
+    tell q.left o found (chosen (is_search q) (found_within q.left o) found h) in
     record { e = t.e; first = first ends (2 ^ 32) 0 t.e t.is; answer = t.answer; looked = t.looked }
 
 -- an end at a structure

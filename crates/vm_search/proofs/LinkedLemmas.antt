@@ -29,7 +29,8 @@ linked_ends-structure m q n at x p d e =
     ap (ends_at m q n) p ∙ at_place m q n at d
     ∙ ap (λ o. or_at_link (n + 1) o (read 4 m (next_link q at))) e
 
-pub linked_ends-link : (m : MemoryMap) (q : Query) (n at : ℕ) (f : MemFault) → chain_place m q n ≡ at
+pub linked_ends-link : (m : MemoryMap) (q : Query) (n at : ℕ) (f : MemFault)
+    → chain_place m q n ≡ at
     → at ≢ 0 → tells m q n at ≡ None → read 4 m (next_link q at) ≡ Err f
     → linked_ends m q n ≡ Some (ending (n + 1) (Err f))
 linked_ends-link m q n at f p d e r =

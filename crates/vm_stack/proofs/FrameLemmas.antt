@@ -1,28 +1,37 @@
 -- A chain, opened at the values of its current frame.
-use Rattle.std.proofs.Common.{◌≡◌, ℕ, ◌+◌, ◌*◌, ◌/◌, ◌≤◌, ◌<◌, List, [], ◌∷◌, ◌++◌, length, refl, arith, ap, ◌∙◌, append_assoc, length-append}
+use Rattle.std.proofs.Common.{◌≡◌, ℕ, ◌+◌, ◌*◌, ◌/◌, ◌≤◌, ◌<◌, List, [], ◌∷◌, ◌++◌}
+use Rattle.std.proofs.Common.{length, refl, arith, ap, ◌∙◌, append_assoc, length-append}
 use Rattle.byteorder.specs.Endian.{big_bytes}
 use Rattle.byteorder.specs.Numbers.{length-bytes_high_first}
 use Rattle.vm_stack.specs.StackState.{StackState, number, frame_len, locals_pos, value_bytes}
 use Rattle.vm_stack.specs.Frame.{frame_head, locals_end, locals_pos_of, frame_len_of, aligned}
-use Rattle.vm_stack.specs.Chain.{Frame, IsFrame, IsChain, IsBelow, Chain, HasFrame, bytes_of_frames, start}
+use Rattle.vm_stack.specs.Chain.{Frame, IsFrame, IsChain, IsBelow}
+use Rattle.vm_stack.specs.Chain.{Chain, HasFrame, bytes_of_frames, start}
 use Rattle.vm_stack.proofs.NumberLemmas.{number_behind, number_first}
 
 pub aligned_up : (at : ℕ) → at ≤ aligned 4 at
 aligned_up at = omega arith
 
-lengths : (low a b f z l : List ℕ) → length (low ++ (a ++ b ++ f) ++ z ++ l) ≡ length low + (length a + length b + length f) + length z + length l
+lengths : (low a b f z l : List ℕ)
+    → length (low ++ (a ++ b ++ f) ++ z ++ l)
+    ≡ length low + (length a + length b + length f) + length z + length l
 lengths low a b f z l = simp length-append refl
 
-pub seam : (low a b f z l v : List ℕ) → low ++ (a ++ b ++ f) ++ z ++ l ++ v ≡ low ++ (a ++ (b ++ (f ++ (z ++ (l ++ v)))))
+pub seam : (low a b f z l v : List ℕ)
+    → low ++ (a ++ b ++ f) ++ z ++ l ++ v ≡ low ++ (a ++ (b ++ (f ++ (z ++ (l ++ v)))))
 seam low a b f z l v = simp append_assoc refl
 
 -- what stands of a frame before its values
 abbrev pub before : Frame → List Frame → List ℕ
 before fr below = bytes_of_frames below ++ frame_head fr.format ++ fr.padding ++ fr.locals
 
-pub length_before : (fr : Frame) (below : List Frame) → IsFrame fr → length (before fr below) ≡ length (bytes_of_frames below) + frame_len_of fr.format
+pub length_before : (fr : Frame) (below : List Frame)
+    → IsFrame fr
+    → length (before fr below) ≡ length (bytes_of_frames below) + frame_len_of fr.format
 length_before fr below h =
-    let e = lengths (bytes_of_frames below) (big_bytes 4 (frame_len_of fr.format)) (big_bytes 4 (locals_pos_of fr.format)) fr.format fr.padding fr.locals in
+    let e =
+    lengths (bytes_of_frames below) (big_bytes 4 (frame_len_of fr.format))
+    (big_bytes 4 (locals_pos_of fr.format)) fr.format fr.padding fr.locals in
     let z = h.padding in
     let a = length-bytes_high_first 4 (frame_len_of fr.format) in
     let b = length-bytes_high_first 4 (locals_pos_of fr.format) in
@@ -30,32 +39,45 @@ length_before fr below h =
     let l = h.locals in
     omega (arith, e, z, u, l, a, b)
 
-pub first_word : (low a rest : List ℕ) (x : ℕ) → a ≡ big_bytes 4 x → x < 4294967296 → number 4 (low ++ (a ++ rest)) (length low) ≡ x
-first_word low a rest x e h = number_behind low (a ++ rest) 4 (length low) 0 (omega arith) ∙ (rw e (number_first x rest h))
+pub first_word : (low a rest : List ℕ) (x : ℕ)
+    → a ≡ big_bytes 4 x → x < 4294967296
+    → number 4 (low ++ (a ++ rest)) (length low) ≡ x
+first_word low a rest x e h =
+    number_behind low (a ++ rest) 4 (length low) 0 (omega arith) ∙ (rw e (number_first x rest h))
 
-pub second_word : (low a b rest : List ℕ) (x : ℕ) → length a ≡ 4 → b ≡ big_bytes 4 x → x < 4294967296 → number 4 (low ++ (a ++ (b ++ rest))) (length low + 4) ≡ x
+pub second_word : (low a b rest : List ℕ) (x : ℕ)
+    → length a ≡ 4 → b ≡ big_bytes 4 x → x < 4294967296
+    → number 4 (low ++ (a ++ (b ++ rest))) (length low + 4) ≡ x
 second_word low a b rest x n e h =
     number_behind low (a ++ (b ++ rest)) 4 (length low + 4) 4 (omega arith)
     ∙ (number_behind a (b ++ rest) 4 4 0 (omega (arith, n)) ∙ (rw e (number_first x rest h)))
 
-pub frame_len_is : (s : StackState) (fr : Frame) (below : List Frame) → IsFrame fr → s.bytes ≡ bytes_of_frames (fr ∷ below) → s.frame ≡ start (fr ∷ below)
+pub frame_len_is : (s : StackState) (fr : Frame) (below : List Frame)
+    → IsFrame fr → s.bytes ≡ bytes_of_frames (fr ∷ below)
+    → s.frame ≡ start (fr ∷ below)
     → frame_len s ≡ frame_len_of fr.format
 frame_len_is s fr below h bytes frame =
     ap (λ (xs : List ℕ). number 4 xs s.frame) bytes
     ∙ (ap (λ (n : ℕ). number 4 (bytes_of_frames (fr ∷ below)) n) frame
     ∙ (ap (λ (xs : List ℕ). number 4 xs (length (bytes_of_frames below)))
-    (seam (bytes_of_frames below) (big_bytes 4 (frame_len_of fr.format)) (big_bytes 4 (locals_pos_of fr.format)) fr.format fr.padding fr.locals fr.values)
-    ∙ first_word (bytes_of_frames below) (big_bytes 4 (frame_len_of fr.format)) _ (frame_len_of fr.format) refl h.fits))
+    (seam (bytes_of_frames below) (big_bytes 4 (frame_len_of fr.format))
+    (big_bytes 4 (locals_pos_of fr.format)) fr.format fr.padding fr.locals fr.values)
+    ∙ first_word (bytes_of_frames below) (big_bytes 4 (frame_len_of fr.format)) _
+    (frame_len_of fr.format) refl h.fits))
 
-pub locals_pos_is : (s : StackState) (fr : Frame) (below : List Frame) → IsFrame fr → s.bytes ≡ bytes_of_frames (fr ∷ below) → s.frame ≡ start (fr ∷ below)
+pub locals_pos_is : (s : StackState) (fr : Frame) (below : List Frame)
+    → IsFrame fr → s.bytes ≡ bytes_of_frames (fr ∷ below)
+    → s.frame ≡ start (fr ∷ below)
     → locals_pos s ≡ locals_pos_of fr.format
 locals_pos_is s fr below h bytes frame =
     let f = h.fits in
     ap (λ (xs : List ℕ). number 4 xs (s.frame + 4)) bytes
     ∙ (ap (λ (n : ℕ). number 4 (bytes_of_frames (fr ∷ below)) (n + 4)) frame
     ∙ (ap (λ (xs : List ℕ). number 4 xs (length (bytes_of_frames below) + 4))
-    (seam (bytes_of_frames below) (big_bytes 4 (frame_len_of fr.format)) (big_bytes 4 (locals_pos_of fr.format)) fr.format fr.padding fr.locals fr.values)
-    ∙ second_word (bytes_of_frames below) (big_bytes 4 (frame_len_of fr.format)) (big_bytes 4 (locals_pos_of fr.format)) _ (locals_pos_of fr.format)
+    (seam (bytes_of_frames below) (big_bytes 4 (frame_len_of fr.format))
+    (big_bytes 4 (locals_pos_of fr.format)) fr.format fr.padding fr.locals fr.values)
+    ∙ second_word (bytes_of_frames below) (big_bytes 4 (frame_len_of fr.format))
+    (big_bytes 4 (locals_pos_of fr.format)) _ (locals_pos_of fr.format)
     (length-bytes_high_first 4 (frame_len_of fr.format)) refl (omega (arith, f))))
 
 -- the values of the current frame, and that others may stand in their place
@@ -70,9 +92,13 @@ pub record Top (s : StackState) : Type 0 where
   pub size : length values ≡ 4 * count
   pub held : value_bytes s ≡ length values
   pub again : (ys : List ℕ) (n : ℕ) → length ys ≡ 4 * n → Chain (record s { bytes = before ++ ys })
-  pub again_held : (ys : List ℕ) (n : ℕ) → length ys ≡ 4 * n → value_bytes (record s { bytes = before ++ ys }) ≡ length ys
+  pub again_held : (ys : List ℕ) (n : ℕ)
+      → length ys ≡ 4 * n
+      → value_bytes (record s { bytes = before ++ ys }) ≡ length ys
 
-pub held_in : (s : StackState) (fr : Frame) (below : List Frame) → IsFrame fr → s.bytes ≡ bytes_of_frames (fr ∷ below) → s.frame ≡ start (fr ∷ below)
+pub held_in : (s : StackState) (fr : Frame) (below : List Frame)
+    → IsFrame fr → s.bytes ≡ bytes_of_frames (fr ∷ below)
+    → s.frame ≡ start (fr ∷ below)
     → value_bytes s ≡ length fr.values
 held_in s fr below h bytes frame =
     let len = frame_len_is s fr below h bytes frame in
@@ -89,7 +115,9 @@ fours_of_is : (format : List ℕ) → frame_len_of format ≡ 4 * fours_of forma
 unfolding fours_of
 fours_of_is format = omega arith
 
-pub fours_below : (frames : List Frame) → IsChain frames → (n : ℕ) × (length (bytes_of_frames frames) ≡ 4 * n)
+pub fours_below : (frames : List Frame)
+    → IsChain frames
+    → (n : ℕ) × (length (bytes_of_frames frames) ≡ 4 * n)
 fours_below [] c = (0, refl)
 fours_below (fr ∷ below) c =
     let rest = fours_below below c.1.1 in
@@ -100,11 +128,15 @@ fours_below (fr ∷ below) c =
     let v = c.0.values in
     (rest.0 + fours_of fr.format + fr.count, omega (arith, low, b, f, a, v))
 
-inside_in : (s : StackState) (frames : List Frame) → s.bytes ≡ bytes_of_frames frames → s.frame ≡ start frames → s.frame ≤ length s.bytes
+inside_in : (s : StackState) (frames : List Frame)
+    → s.bytes ≡ bytes_of_frames frames → s.frame ≡ start frames
+    → s.frame ≤ length s.bytes
 inside_in s [] bytes frame = omega (arith, frame)
 inside_in s (fr ∷ below) bytes frame =
     let l = ap length bytes in
-    let a = length-append (bytes_of_frames below ++ frame_head fr.format ++ fr.padding ++ fr.locals) fr.values in
+    let a =
+    length-append (bytes_of_frames below ++ frame_head fr.format ++ fr.padding ++ fr.locals)
+    fr.values in
     let b = length-append (bytes_of_frames below ++ frame_head fr.format ++ fr.padding) fr.locals in
     let p = length-append (bytes_of_frames below ++ frame_head fr.format) fr.padding in
     let d = length-append (bytes_of_frames below) (frame_head fr.format) in
@@ -113,7 +145,8 @@ inside_in s (fr ∷ below) bytes frame =
 pub frame_inside : (s : StackState) → Chain s → s.frame ≤ length s.bytes
 frame_inside s c = inside_in s c.frames c.bytes c.frame
 
-top_of : (s : StackState) (fr : Frame) (below : List Frame) → IsFrame fr → IsBelow below → IsChain below
+top_of : (s : StackState) (fr : Frame) (below : List Frame)
+    → IsFrame fr → IsBelow below → IsChain below
     → s.bytes ≡ bytes_of_frames (fr ∷ below) → s.frame ≡ start (fr ∷ below) → Top s
 top_of s fr below h is chain bytes frame = record {
   before = before fr below;
@@ -134,16 +167,34 @@ top_of s fr below h is chain bytes frame = record {
   held = held_in s fr below h bytes frame;
   again = λ ys n e. record {
     frames = record fr { values = ys; count = n } ∷ below;
-    linked = (record { format = h.format; padding = h.padding; locals = h.locals; values = e; fits = h.fits }, (is, chain));
+    linked = (
+      record {
+        format = h.format;
+        padding = h.padding;
+        locals = h.locals;
+        values = e;
+        fits = h.fits;
+      },
+      (is, chain),
+    );
     bytes = refl;
     frame = frame;
   };
   again_held = λ ys n e.
-      held_in (record s { bytes = before fr below ++ ys }) (record fr { values = ys; count = n }) below
-      (record { format = h.format; padding = h.padding; locals = h.locals; values = e; fits = h.fits }) refl frame;
+      held_in (record s { bytes = before fr below ++ ys })
+      (record fr { values = ys; count = n }) below
+      (record {
+        format = h.format;
+        padding = h.padding;
+        locals = h.locals;
+        values = e;
+        fits = h.fits;
+      }) refl frame;
 }
 
-top_in : (s : StackState) (frames : List Frame) → IsChain frames → s.bytes ≡ bytes_of_frames frames → s.frame ≡ start frames → HasFrame s → Top s
+top_in : (s : StackState) (frames : List Frame)
+    → IsChain frames → s.bytes ≡ bytes_of_frames frames
+    → s.frame ≡ start frames → HasFrame s → Top s
 top_in s [] c bytes frame has = absurd (let l = ap length bytes in omega (arith, l, has))
 top_in s (fr ∷ below) c bytes frame has = top_of s fr below c.0 c.1.0 c.1.1 bytes frame
 

@@ -41,10 +41,12 @@ stands_in xs n frame head le within s =
       span = span;
       below = omega (arith, within, le, size);
       locals = ap (λ (n : ℕ). frame + n)
-          (number_within (take n xs) (drop n xs) (frame + 4) (omega (arith, above, span, within, le, size))
+          (number_within (take n xs) (drop n xs) (frame + 4)
+          (omega (arith, above, span, within, le, size))
           ∙ ap (λ (zs : List ℕ). number 4 zs (frame + 4)) whole) ∙ s.locals;
       values = ap (λ (n : ℕ). frame + n)
-          (number_within (take n xs) (drop n xs) frame (omega (arith, above, span, within, le, size))
+          (number_within (take n xs) (drop n xs) frame
+          (omega (arith, above, span, within, le, size))
           ∙ ap (λ (zs : List ℕ). number 4 zs frame) whole) ∙ s.values;
     }
 
@@ -57,7 +59,8 @@ number_before xs new at place le =
           let inside = leb-true _ _ e in
           let size = length-take-le at xs (omega (arith, inside)) in
           let more = length-append (take at xs) new in
-          rw e (sym (number_within (take at xs ++ new) (drop (at + length new) xs) place (omega (arith, le, size, more)))
+          rw e (sym (number_within (take at xs ++ new) (drop (at + length new) xs) place
+          (omega (arith, le, size, more)))
           ∙ (sym (number_within (take at xs) new place (omega (arith, le, size)))
           ∙ (number_within (take at xs) (drop at xs) place (omega (arith, le, size))
           ∙ ap (λ (zs : List ℕ). number 4 zs place) (take-append-drop at xs))))
@@ -73,11 +76,15 @@ stands_around xs new at frame head le s =
       above = s.above;
       span = s.span;
       below = rw (length_replaced xs at new) s.below;
-      locals = ap (λ (n : ℕ). frame + n) (number_before xs new at (frame + 4) (omega (arith, le))) ∙ s.locals;
-      values = ap (λ (n : ℕ). frame + n) (number_before xs new at frame (omega (arith, le))) ∙ s.values;
+      locals =
+          ap (λ (n : ℕ). frame + n) (number_before xs new at (frame + 4) (omega (arith, le)))
+          ∙ s.locals;
+      values =
+          ap (λ (n : ℕ). frame + n) (number_before xs new at frame (omega (arith, le))) ∙ s.values;
     }
 
-pub head_below : (xs ys : List ℕ) (frame : ℕ) (head : Head) → IsHead xs frame head → IsHead (xs ++ ys) frame head
+pub head_below : (xs ys : List ℕ) (frame : ℕ) (head : Head)
+    → IsHead xs frame head → IsHead (xs ++ ys) frame head
 head_below xs ys frame head h = record {
   whole = λ within. stands_below xs ys frame head (h.whole within);
   spans = h.spans;
@@ -107,7 +114,8 @@ restored items buf n room size =
     rw (size, drop-length items, append-nil buf, sym room, sym size) (take-length buf)
 
 -- what is true of a stack's fields once its buffer, of which these first bytes stand, was lent
-pub closed : (items old buf now : List ℕ) (n m frame : ℕ) (head : Head) → old ≡ items → length old ≡ n
+pub closed : (items old buf now : List ℕ) (n m frame : ℕ) (head : Head)
+    → old ≡ items → length old ≡ n
     → length buf ≡ length old → m ≤ length items → length items ≤ 1048576 → take m buf ≡ now
     → IsHead now frame head
     → (m ≤ length (take n (buf ++ drop (length buf) items)))

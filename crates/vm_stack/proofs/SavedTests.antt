@@ -1,5 +1,7 @@
 -- The test of a saved stack's bytes tells saved stacks.
-use Rattle.std.proofs.Common.{◌≡◌, inl, inr, ℕ, zero, suc, ◌+◌, ◌-◌, ◌%◌, ◌≤◌, ◌<◌, Bool, true, false, ◌==◌, ◌&&◌, ◌||◌, nat_le, nat_lt, List, [], ◌∷◌, length, take, drop, refl, arith, sym, ap, ◌∙◌, length-drop}
+use Rattle.std.proofs.Common.{◌≡◌, inl, inr, ℕ, zero, suc, ◌+◌, ◌-◌, ◌%◌, ◌≤◌, ◌<◌, Bool}
+use Rattle.std.proofs.Common.{true, false, ◌==◌, ◌&&◌, ◌||◌, nat_le, nat_lt, List, [], ◌∷◌}
+use Rattle.std.proofs.Common.{length, take, drop, refl, arith, sym, ap, ◌∙◌, length-drop}
 use Rattle.std.proofs.lemmas.Bool.{or_cases, eqb-true}
 use Rattle.std.proofs.lemmas.Bool.Decides.{nat_tests}
 use Rattle.std.proofs.lemmas.List.{length-take}
@@ -10,8 +12,10 @@ use Rattle.vm_stack.specs.StackState.{number}
 use Rattle.vm_stack.specs.Frame.{frame_head, frame_len_of}
 use Rattle.vm_stack.specs.Chain.{IsFormat}
 use Rattle.vm_stack.specs.Saved.{LinkedFrames, SavedStack, OneFrame, format_from}
-use Rattle.vm_stack.specs.SavedTest.{is_frame_of, is_one_frame, is_frame_over, are_linked, is_saved_stack}
-use Rattle.vm_stack.proofs.SavedLemmas.{parts, no_frames, link_up, link_down, read_frame, frame_read}
+use Rattle.vm_stack.specs.SavedTest.{is_frame_of, is_one_frame, is_frame_over}
+use Rattle.vm_stack.specs.SavedTest.{are_linked, is_saved_stack}
+use Rattle.vm_stack.proofs.SavedLemmas.{parts, no_frames, link_up}
+use Rattle.vm_stack.proofs.SavedLemmas.{link_down, read_frame, frame_read}
 
 left : (a b : Bool) → (a && b) ≡ true → a ≡ true
 left true b h = refl
@@ -30,14 +34,18 @@ second false b h = h
 
 -- one frame
 
-tested : (b f : List ℕ) (n : ℕ) → n ≡ format_from 0 (drop 8 b) → f ≡ take n (drop 8 b) → length b ≤ 1048576
+tested : (b f : List ℕ) (n : ℕ)
+    → n ≡ format_from 0 (drop 8 b) → f ≡ take n (drop 8 b)
+    → length b ≤ 1048576
     → is_frame_of f b ≡ true → OneFrame 16 b
 tested b f n size is small e =
     let head_is = bytes_eq (take (8 + length f) b) (frame_head f) in
     let in_fours = length b % 4 == 0 in
     let fits = nat_le (frame_len_of f + 16) (length b) in
-    let e0 : nat_lt 0 (length f) ≡ true = left (nat_lt 0 (length f)) (fits && (in_fours && head_is)) e in
-    let e1 : (fits && (in_fours && head_is)) ≡ true = right (nat_lt 0 (length f)) (fits && (in_fours && head_is)) e in
+    let e0 : nat_lt 0 (length f) ≡ true =
+    left (nat_lt 0 (length f)) (fits && (in_fours && head_is)) e in
+    let e1 : (fits && (in_fours && head_is)) ≡ true =
+    right (nat_lt 0 (length f)) (fits && (in_fours && head_is)) e in
     let e2 : fits ≡ true = left fits (in_fours && head_is) e1 in
     let e3 : (in_fours && head_is) ≡ true = right fits (in_fours && head_is) e1 in
     let some : 0 < length f = grind (arith, nat_tests, e0) in
@@ -47,18 +55,22 @@ tested b f n size is small e =
     (bytes_eq-Decides (take (8 + length f) b) (frame_head f)).0 (right in_fours head_is e3) in
     let taken : length f ≡ length (take n (drop 8 b)) = ap length is in
     let short = length-take n (drop 8 b) in
-    read_frame 16 b f n size (λ z. absurd (omega (arith, z, some, taken, short))) is long fours small head
+    read_frame 16 b f n size
+    (λ z. absurd (omega (arith, z, some, taken, short))) is long fours small head
 
 frame_tested : (b : List ℕ) → length b ≤ 1048576 → is_one_frame b ≡ true → OneFrame 16 b
 frame_tested b small e =
-    tested b (take (format_from 0 (drop 8 b)) (drop 8 b)) (format_from 0 (drop 8 b)) refl refl small e
+    tested b (take (format_from 0 (drop 8 b)) (drop 8 b))
+    (format_from 0 (drop 8 b)) refl refl small e
 
 some_format : (f : List ℕ) → IsFormat f → 2 ≤ length f
 some_format [] is = absurd is
 some_format (x ∷ []) is = absurd is
 some_format (x ∷ y ∷ g) is = omega arith
 
-passed : (b f : List ℕ) → 0 < length f → frame_len_of f + 16 ≤ length b → length b % 4 ≡ 0 → take (8 + length f) b ≡ frame_head f
+passed : (b f : List ℕ)
+    → 0 < length f → frame_len_of f + 16 ≤ length b
+    → length b % 4 ≡ 0 → take (8 + length f) b ≡ frame_head f
     → is_frame_of f b ≡ true
 passed b f some long fours head =
     let one : nat_lt 0 (length f) ≡ true = grind (arith, nat_tests, some) in
@@ -80,8 +92,10 @@ frame_passes b h =
 
 -- frames on one another
 
-up_from : (below : List ℕ → Bool) (xs : List ℕ) (at : ℕ) → ((ys : List ℕ) → length ys ≤ 1048576 → below ys ≡ true → LinkedFrames ys)
-    → at ≡ number 4 xs (length xs - 4) → length xs ≤ 1048576 → is_frame_over below xs at ≡ true → LinkedFrames xs
+up_from : (below : List ℕ → Bool) (xs : List ℕ) (at : ℕ)
+    → ((ys : List ℕ) → length ys ≤ 1048576 → below ys ≡ true → LinkedFrames ys)
+    → at ≡ number 4 xs (length xs - 4) → length xs ≤ 1048576
+    → is_frame_over below xs at ≡ true → LinkedFrames xs
 up_from below xs at low is small e =
     let frame = is_one_frame (drop at xs) in
     let rest = below (take at xs) in
@@ -98,19 +112,24 @@ linked_up : (n : ℕ) (xs : List ℕ) → length xs ≤ 1048576 → are_linked n
 unfolding are_linked
 linked_up zero xs small e = no_frames xs (eqb-true (length xs) 0 e)
 linked_up (suc n) xs small e =
-    elim (or_cases (length xs == 0) (is_frame_over (are_linked n) xs (number 4 xs (length xs - 4))) e) [
+    elim (or_cases (length xs == 0)
+    (is_frame_over (are_linked n) xs (number 4 xs (length xs - 4))) e) [
       | inl z ↦ no_frames xs (eqb-true (length xs) 0 z)
       | inr h ↦ up_from (are_linked n) xs (number 4 xs (length xs - 4)) (linked_up n) refl small h
     ]
 
-down_from : (below : List ℕ → Bool) (n : ℕ) (xs : List ℕ) (at : ℕ) → ((ys : List ℕ) → length ys ≤ n → LinkedFrames ys → below ys ≡ true)
-    → at ≡ number 4 xs (length xs - 4) → 0 < length xs → length xs ≤ suc n → LinkedFrames xs → is_frame_over below xs at ≡ true
+down_from : (below : List ℕ → Bool) (n : ℕ) (xs : List ℕ) (at : ℕ)
+    → ((ys : List ℕ) → length ys ≤ n → LinkedFrames ys → below ys ≡ true)
+    → at ≡ number 4 xs (length xs - 4) → 0 < length xs
+    → length xs ≤ suc n → LinkedFrames xs
+    → is_frame_over below xs at ≡ true
 down_from below n xs at low is some most linked =
     let d = link_down xs at some (sym is) linked in
     let inside : at < length xs = d.inside in
     let under = length-take at xs in
     both _ _ (grind (arith, nat_tests, inside))
-    (both _ _ (frame_passes (drop at xs) d.frame) (low (take at xs) (omega (arith, under, inside, most)) d.low))
+    (both _ _ (frame_passes (drop at xs) d.frame)
+    (low (take at xs) (omega (arith, under, inside, most)) d.low))
 
 none_or_by : (n : ℕ) (b t : Bool) → (n == 0) ≡ t → (0 < n → b ≡ true) → (t || b) ≡ true
 none_or_by n b true e h = refl
@@ -121,18 +140,23 @@ none_or n b h = none_or_by n b (n == 0) refl h
 
 linked_down : (n : ℕ) (xs : List ℕ) → length xs ≤ n → LinkedFrames xs → are_linked n xs ≡ true
 unfolding are_linked
-linked_down zero xs most linked = let none : length xs ≡ 0 = omega (arith, most) in grind (arith, nat_tests, none)
+linked_down zero xs most linked =
+    let none : length xs ≡ 0 = omega (arith, most) in grind (arith, nat_tests, none)
 linked_down (suc n) xs most linked =
     none_or (length xs) (is_frame_over (are_linked n) xs (number 4 xs (length xs - 4)))
-    (λ some. down_from (are_linked n) n xs (number 4 xs (length xs - 4)) (linked_down n) refl some most linked)
+    (λ some. down_from (are_linked n) n xs (number 4 xs (length xs - 4))
+    (linked_down n) refl some most linked)
 
 saved_by : (xs : List ℕ) → length xs ≤ 1048576 → is_saved_stack xs ≡ true → SavedStack xs
 unfolding is_saved_stack
 saved_by xs small e =
-    let e1 : nat_lt 0 (length xs) ≡ true = left (nat_lt 0 (length xs)) (are_linked (length xs) xs) e in
+    let e1 : nat_lt 0 (length xs) ≡ true =
+    left (nat_lt 0 (length xs)) (are_linked (length xs) xs) e in
     record {
       some = grind (arith, nat_tests, e1);
-      linked = linked_up (length xs) xs small (right (nat_lt 0 (length xs)) (are_linked (length xs) xs) e);
+      linked =
+          linked_up (length xs) xs small
+          (right (nat_lt 0 (length xs)) (are_linked (length xs) xs) e);
     }
 
 saved_passes : (xs : List ℕ) → SavedStack xs → is_saved_stack xs ≡ true
@@ -142,5 +166,7 @@ saved_passes xs s =
     both _ _ (grind (arith, nat_tests, some)) (linked_down (length xs) xs (omega arith) s.linked)
 
 -- what a stack may hold passes the test exactly where it is a saved stack
-pub saved_decided : (xs : List ℕ) → length xs ≤ 1048576 → Decides (is_saved_stack xs) (SavedStack xs)
+pub saved_decided : (xs : List ℕ)
+    → length xs ≤ 1048576
+    → Decides (is_saved_stack xs) (SavedStack xs)
 saved_decided xs small = (saved_by xs small, saved_passes xs)

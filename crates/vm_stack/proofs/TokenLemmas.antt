@@ -1,5 +1,6 @@
 -- What a good token says.
-use Rattle.std.proofs.Common.{◌≡◌, ℕ, ◌+◌, ◌-◌, ◌/◌, ◌%◌, ◌<◌, true, ◌&&◌, ◌==◌, nat_le, length, take, arith}
+use Rattle.std.proofs.Common.{◌≡◌, ℕ, ◌+◌, ◌-◌, ◌/◌, ◌%◌, ◌<◌, true}
+use Rattle.std.proofs.Common.{◌&&◌, ◌==◌, nat_le, length, take, arith}
 use Rattle.std.proofs.lemmas.List.{length-take-le}
 use Rattle.std.proofs.lemmas.Bool.{and_parts, leb-true, eqb-true}
 use Rattle.vm_stack.specs.StackState.{StackState, number, frame_len}
@@ -8,7 +9,9 @@ use Rattle.vm_stack.specs.Chain.{Chain}
 use Rattle.vm_stack.specs.Token.{ends_stub}
 use Rattle.vm_stack.proofs.ChainLemmas.{cut_keeps}
 
-pub token_keeps : (s : StackState) (token : ℕ) → ends_stub s token ≡ true → Chain s → Chain (in_named_frame s (take token s.bytes))
+pub token_keeps : (s : StackState) (token : ℕ)
+    → ends_stub s token ≡ true → Chain s
+    → Chain (in_named_frame s (take token s.bytes))
 token_keeps s token e c =
     let a = nat_le (s.frame + frame_len s + 16) token in
     let b = nat_le token (length s.bytes) in
@@ -16,9 +19,11 @@ token_keeps s token e c =
     let q = and_parts (a && b) (token % 4 == 0) p.0 in
     let r = and_parts a b q.0 in
     let four = eqb-true _ _ q.1 in
-    cut_keeps s token (token / 4) (leb-true _ _ r.0) (leb-true _ _ r.1) (omega (arith, four)) (eqb-true _ _ p.1) c
+    cut_keeps s token (token / 4) (leb-true _ _ r.0) (leb-true _ _ r.1) (omega (arith, four))
+    (eqb-true _ _ p.1) c
 
-pub token_there : (s : StackState) (token : ℕ) → ends_stub s token ≡ true → 0 < length (take token s.bytes)
+pub token_there : (s : StackState) (token : ℕ)
+    → ends_stub s token ≡ true → 0 < length (take token s.bytes)
 token_there s token e =
     let a = nat_le (s.frame + frame_len s + 16) token in
     let b = nat_le token (length s.bytes) in

@@ -99,6 +99,14 @@ impl Stack {
         count <= (self.buf.len() - self.len) as u64
     }
 
+    // Whether the current frame holds a value, as far as is kept of it.
+    #[inline(always)]
+    pub(crate) fn has_word(&self) -> bool
+        ensures { result ≡ true → 4 ≤ state.value_bytes self.now }
+    {
+        self.head.values <= self.len.saturating_sub(4)
+    }
+
     // How many bytes the values of the current frame have.
     #[inline(always)]
     pub(crate) fn value_bytes(&self) -> usize

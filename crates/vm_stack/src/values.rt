@@ -1,6 +1,7 @@
 // The values of the current frame: push, pop and the stack opcodes.
-ghost use Rattle.std.specs.Prelude.{◌≡◌, ◌≤◌, ◌+◌, length, OnErr, OnOk};
+ghost use Rattle.std.specs.Prelude.{◌≡◌, ◌≤◌, ◌+◌, ◌-◌, length, OnErr, OnOk};
 ghost use Rattle.vm_stack.specs.Answer.{GivesFromStack, LeavesStack};
+ghost use Rattle.vm_stack.specs.StackState as state;
 ghost use Rattle.vm_stack.specs.Values as values;
 ghost use Rattle.vm_stack.specs.Chain.{Chain, HasFrame};
 
@@ -36,13 +37,40 @@ impl Stack {
         ensures kept { Chain self.old → OnOk result (Chain self.new) }
         ensures there { Chain self.old → OnOk result (HasFrame self.new) }
     {
+        if self.has_word() {
+            return Ok(self.take_word());
+        }
+        self.pop_by_number()
+    }
+
+    // The same by FrameLen, where nothing is kept of the frame, or it holds none.
+    #[cold]
+    #[inline(never)]
+    fn pop_by_number(&mut self) -> Result<u32, StackFault>
+        ensures ok { GivesFromStack (values.popped self.old) self.new result }
+        ensures err { OnErr result (self.new ≡ self.old) }
+        ensures kept { Chain self.old → OnOk result (Chain self.new) }
+        ensures there { Chain self.old → OnOk result (HasFrame self.new) }
+    {
         if self.value_bytes() < 4 {
             return Err(StackFault::Underflow);
         }
+        Ok(self.take_word())
+    }
+
+    // Takes the value on top, which is there.
+    #[inline(always)]
+    fn take_word(&mut self) -> u32
+        requires { 4 ≤ state.value_bytes self.old }
+        ensures value { result ≡ state.number 4 self.old.bytes (length self.old.bytes - 4) }
+        ensures rest { self.new ≡ values.without_top self.old 4 }
+        ensures kept { Chain self.old → Chain self.new }
+        ensures there { Chain self.old → HasFrame self.new }
+    {
         let bytes = self.live();
         let value = held(bytes, bytes.len() - 4, 4);
         self.shrink(4);
-        Ok(value)
+        value
     }
 
     /// How many values the current frame holds (`stkcount`).

@@ -32,16 +32,22 @@ walk_gives zero m root w x p c is seen = rw (← is, ← seen) refl
 walk_gives (suc n) m root w x p c is seen = rw (← is, ← seen) refl
 
 pub walk_ends : (n : ℕ) (m : MemoryMap) (root : ℕ) (w : Way) (x : Node) (b : Branch) → n ≡ 0
-    → Ok x ≡ node_at m w.node → Ok (Branches b) ≡ met m w x → Err (BadString w.node) ≡ walk n m root w
+    → Ok x ≡ node_at m w.node → Ok (Branches b) ≡ met m w x
+    → Err (BadString w.node) ≡ walk n m root w
 unfolding walk
 walk_ends zero m root w x b h is seen = rw (← is, ← seen) refl
 walk_ends (suc n) m root w x b h is seen = absurd (omega arith)
 
-pub walk_lost : (n : ℕ) (m : MemoryMap) (root : ℕ) (w : Way) (x : Node) (b : Branch) (e : StringStop) → 0 < n
-    → Ok x ≡ node_at m w.node → Ok (Branches b) ≡ met m w x → Err e ≡ branch_followed m root w b → Err e ≡ walk n m root w
+pub walk_lost : (n : ℕ) (m : MemoryMap) (root : ℕ) (w : Way) (x : Node) (b : Branch)
+    (e : StringStop)
+    → 0 < n
+    → Ok x ≡ node_at m w.node → Ok (Branches b) ≡ met m w x
+    → Err e ≡ branch_followed m root w b
+    → Err e ≡ walk n m root w
 unfolding walk
 walk_lost zero m root w x b e h is seen lost = absurd (omega arith)
-walk_lost (suc n) m root w x b e h is seen lost = rw (← is, ← seen) (ap (λ (r : Result Way StringStop). r >>= (λ v. walk n m root v)) lost)
+walk_lost (suc n) m root w x b e h is seen lost =
+    rw (← is, ← seen) (ap (λ (r : Result Way StringStop). r >>= (λ v. walk n m root v)) lost)
 
 pub walk_on : (n : ℕ) (m : MemoryMap) (root : ℕ) (w v : Way) (x : Node) (b : Branch) → 0 < n
     → Ok x ≡ node_at m w.node → Ok (Branches b) ≡ met m w x → Ok v ≡ branch_followed m root w b

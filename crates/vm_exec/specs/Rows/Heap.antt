@@ -17,7 +17,8 @@ use Rattle.vm_exec.specs.Rules.{Rule, goes, puts, stored}
 -- is taken, and none while the heap is active
 abbrev pub size_set : Machine → ℕ → d.Dest → Result Machine ℕ
 size_set m size to =
-    if not (m.heap.start == 0) || not (size % 256 == 0) || nat_lt size m.memory.endmem then Err BAD_SIZE
+    if not (m.heap.start == 0) || not (size % 256 == 0) || nat_lt size m.memory.endmem
+    then Err BAD_SIZE
     else (if nat_lt MAX_SIZE size then stored m to 1
     else stored (record m { memory = resized m.memory size }) to 0)
 

@@ -7,7 +7,10 @@ use Rattle.disk_model.proofs.CallLaws.{after_calls-push, well_push}
 use Rattle.disk_model.proofs.note.note_look.Goals as goal
 
 pub returns-clause-state : goal.returns-clause-state
-returns-clause-state c start = ap (λ (l : List Call). state_after start l) c.in_ok-push.ensures.items ∙ after_calls-push c.args.calls.now.items (settled start) Look
+returns-clause-state c start =
+    ap (λ (l : List Call). state_after start l) c.in_ok-push.ensures.items
+    ∙ after_calls-push c.args.calls.now.items (settled start) Look
 
 pub returns-clause-well : goal.returns-clause-well
-returns-clause-well c start = well_push start c.args.calls.now.items c.push.new.self.items Look c.in_ok-push.ensures.items
+returns-clause-well c start =
+    well_push start c.args.calls.now.items c.push.new.self.items Look c.in_ok-push.ensures.items

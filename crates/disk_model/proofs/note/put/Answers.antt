@@ -11,8 +11,10 @@ returns-clause-state c start =
     let call = Write c.args.place c.in_ok-piece_kept.piece_kept c.args.good in
     let same : c.in_ok-piece_kept.piece_kept.items ≡ c.args.piece.now = search rules in
     let later : c.push.new.self.items ≡ c.args.calls.now.items ++ call ∷ [] = search rules in
-    ap (λ (l : List Call). state_after start l) later ∙ after_calls-push c.args.calls.now.items (settled start) call
-    ∙ ap (λ (l : List ℕ). after_write c.args.good c.args.place l (state_after start c.args.calls.now.items)) same
+    ap (λ (l : List Call). state_after start l) later
+    ∙ after_calls-push c.args.calls.now.items (settled start) call
+    ∙ ap (λ (l : List ℕ).
+    after_write c.args.good c.args.place l (state_after start c.args.calls.now.items)) same
 
 pub returns-clause-time : goal.returns-clause-time
 returns-clause-time c start =

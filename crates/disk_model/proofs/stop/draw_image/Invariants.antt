@@ -5,6 +5,11 @@ use Rattle.disk_model.proofs.stop.draw_image.Given as goal
 abbrev pub invariant-loop-place : goal.invariant-loop-place
 invariant-loop-place l = record {
   size : length l.image.items ≡ l.place;
-  kept : (i : ℕ) → i < l.place → i < length l.seen → keeps l.choice i ≡ true → get_or l.image.items i 0 ≡ get_or l.seen i 0;
-  lost : (i : ℕ) → i < l.place → i < length l.synced → keeps l.choice i ≡ false → get_or l.image.items i 0 ≡ get_or l.synced i 0;
+  kept : (i : ℕ)
+      → i < l.place → i < length l.seen → keeps l.choice i ≡ true
+      → get_or l.image.items i 0 ≡ get_or l.seen i 0;
+  lost : (i : ℕ)
+      → i < l.place → i < length l.synced
+      → keeps l.choice i ≡ false
+      → get_or l.image.items i 0 ≡ get_or l.synced i 0;
 }

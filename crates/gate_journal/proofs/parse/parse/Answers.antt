@@ -9,12 +9,15 @@ pub returns-clause-ok : goal.returns-clause-ok
 returns-clause-ok c =
     let rows = c.list.inside.list.items in
     let spells : SpellsRows c.args.bytes.now c.list.inside.list.items = search rules in
-    let same : rows ≡ rows_of c.in_ok-history.history.list = sym (ap rows_of c.in_ok-history.ensures ∙ rows_of-all rows) in
-    subst (λ (l : List Row). SpellsRows c.args.bytes.now l × (c.list.inside.end ≡ length (journal_bytes l))) same
+    let same : rows ≡ rows_of c.in_ok-history.history.list =
+    sym (ap rows_of c.in_ok-history.ensures ∙ rows_of-all rows) in
+    subst (λ (l : List Row).
+    SpellsRows c.args.bytes.now l × (c.list.inside.end ≡ length (journal_bytes l))) same
     (spells, c.list.invariant.1)
 
 pub returns-clause-fresh : goal.returns-clause-fresh
 returns-clause-fresh c =
     let rows = c.list.inside.list.items in
     c.in_ok-history.ensures
-    ∙ ap (λ (l : List Row). rows_kept l) (sym (ap rows_of c.in_ok-history.ensures ∙ rows_of-all rows))
+    ∙ ap (λ (l : List Row). rows_kept l)
+    (sym (ap rows_of c.in_ok-history.ensures ∙ rows_of-all rows))

@@ -27,9 +27,20 @@ returns-in-Open-clause-value c =
     (c.put-in-Open.ensures.value
     ∙ ap (λ (l : List ℕ). l ++ key) c.put.ensures.value)))))
     ∙ seven x (length first ∷ []) key story o.digest seed (o.cols ∷ o.rows ∷ []) budget
-    ∙ ap (λ (l : List ℕ). x ++ (length l ∷ key ++ (story ++ (o.digest ++ (seed ++ (o.cols ∷ o.rows ∷ budget)))))) c.as_slice.ensures
-    ∙ ap (λ (l : List ℕ). x ++ (length o.key ∷ l ++ (story ++ (o.digest ++ (seed ++ (o.cols ∷ o.rows ∷ budget)))))) c.as_slice-in-Open.ensures
-    ∙ ap (λ (l : List ℕ). x ++ (length o.key ∷ o.key ++ (l ++ (o.digest ++ (seed ++ (o.cols ∷ o.rows ∷ budget)))))) c.to_be_bytes.ensures
-    ∙ ap (λ (l : List ℕ). x ++ (length o.key ∷ o.key ++ (to_be_bytes w16 o.story ++ (o.digest ++ (l ++ (o.cols ∷ o.rows ∷ budget)))))) c.to_be_bytes-in-Open.ensures
-    ∙ ap (λ (l : List ℕ). x ++ (length o.key ∷ o.key ++ (to_be_bytes w16 o.story ++ (o.digest ++ (to_be_bytes w64 o.seed ++ (o.cols ∷ o.rows ∷ l)))))) c.to_be_bytes-in-Open-2.ensures
+    ∙ ap (λ (l : List ℕ).
+    x ++ (length l ∷ key ++ (story ++ (o.digest ++ (seed ++ (o.cols ∷ o.rows ∷ budget))))))
+    c.as_slice.ensures
+    ∙ ap (λ (l : List ℕ).
+    x ++ (length o.key ∷ l ++ (story ++ (o.digest ++ (seed ++ (o.cols ∷ o.rows ∷ budget))))))
+    c.as_slice-in-Open.ensures
+    ∙ ap (λ (l : List ℕ).
+    x ++ (length o.key ∷ o.key ++ (l ++ (o.digest ++ (seed ++ (o.cols ∷ o.rows ∷ budget))))))
+    c.to_be_bytes.ensures
+    ∙ ap (λ (l : List ℕ). x ++ (length o.key ∷ o.key
+    ++ (to_be_bytes w16 o.story ++ (o.digest ++ (l ++ (o.cols ∷ o.rows ∷ budget))))))
+    c.to_be_bytes-in-Open.ensures
+    ∙ ap (λ (l : List ℕ). x ++ (length o.key ∷ o.key
+    ++ (to_be_bytes w16 o.story
+    ++ (o.digest ++ (to_be_bytes w64 o.seed ++ (o.cols ∷ o.rows ∷ l))))))
+    c.to_be_bytes-in-Open-2.ensures
     ∙ ap (λ (k : Command). x ++ payload_of k) (sym o.is)

@@ -9,7 +9,8 @@ pub returns-in-Ok-open-clause-ok : goal.returns-in-Ok-open-clause-ok
 returns-in-Ok-open-clause-ok c =
     let yes : IsTrue true = search rules in
     let left = (disk_state_in c.in-Ok.disk).seen in
-    found_in (rows_of c.args.journal.entries) c.args.journal.uncertain (rows_of c.in-Ok-open.opened.entries) left
+    found_in (rows_of c.args.journal.entries) c.args.journal.uncertain
+    (rows_of c.in-Ok-open.opened.entries) left
     (c.into_disk.ensures.images yes left c.in-Ok.ensures.ok) (c.in-Ok-open.ensures.ok yes)
 
 pub returns-clause-err : goal.returns-clause-err

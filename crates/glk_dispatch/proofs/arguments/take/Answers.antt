@@ -8,7 +8,8 @@ returns-in_err-value c =
     rw (
       ← c.loop-index.invariant.sofar,
       taken-more
-          (c.args.given - c.loop-index.index) c.loop-index.stack c.loop-index.index c.loop-index.args h,
+          (c.args.given - c.loop-index.index)
+          c.loop-index.stack c.loop-index.index c.loop-index.args h,
     )
     (search rules)
 
@@ -23,7 +24,8 @@ loop-index-preserved c =
         ← k,
         ← c.loop-index.invariant.sofar,
         taken-more
-            (c.args.given - c.loop-index.index) c.loop-index.stack c.loop-index.index c.loop-index.args h,
+            (c.args.given - c.loop-index.index)
+            c.loop-index.stack c.loop-index.index c.loop-index.args h,
       )
           (search rules);
     }

@@ -6,7 +6,8 @@ use Rattle.glk_dispatch.proofs.arguments.take.Given as goal
 abbrev pub invariant-loop-index : goal.invariant-loop-index
 invariant-loop-index l = record {
   below : l.index ≤ l.given;
-  sofar : arguments_taken (l.given - l.index) l.stack l.index l.args ≡ arguments_taken l.given l.fn.stack 0
+  sofar : arguments_taken (l.given - l.index) l.stack l.index l.args
+      ≡ arguments_taken l.given l.fn.stack 0
       (replicate 5 0);
 }
 

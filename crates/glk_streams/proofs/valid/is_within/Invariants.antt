@@ -4,5 +4,6 @@ use Rattle.glk_streams.proofs.valid.is_within.Given as goal
 
 abbrev pub invariant-loop-file : goal.invariant-loop-file
 invariant-loop-file l = record {
-  sofar : nat_le (sum_of_bytes l.list) 1048576 ≡ nat_le (sum_of_bytes (drop l.file-index l.list)) l.left;
+  sofar : nat_le (sum_of_bytes l.list) 1048576
+      ≡ nat_le (sum_of_bytes (drop l.file-index l.list)) l.left;
 }

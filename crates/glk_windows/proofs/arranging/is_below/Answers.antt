@@ -19,6 +19,7 @@ loop-left-preserved c =
 
 pub returns : goal.returns
 returns c =
-    let m : _ = is_below-none c.loop-left.left c.args.slots.now c.loop-left.at c.args.pair (omega arith) in
+    let m : _ =
+    is_below-none c.loop-left.left c.args.slots.now c.loop-left.at c.args.pair (omega arith) in
     let i : _ = c.loop-left.invariant in
     grind (arith, common_steps, m, i)

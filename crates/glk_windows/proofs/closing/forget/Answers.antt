@@ -7,5 +7,6 @@ pub loop-slot-preserved : goal.loop-slot-preserved
 loop-slot-preserved c =
     let h : c.loop-slot.slot-index < length c.args.slots.now = omega arith in
     let e = rw (← c.slot-item.is) at c.unlink.ensures in
-    rw e (map_over_more (unlinked c.args.key c.args.stream) c.args.slots.now c.loop-slot.slots c.loop-slot.slot-index
+    rw e (map_over_more (unlinked c.args.key c.args.stream)
+    c.args.slots.now c.loop-slot.slots c.loop-slot.slot-index
     c.slot-item.result h c.loop-slot.invariant c.slot-item.is)

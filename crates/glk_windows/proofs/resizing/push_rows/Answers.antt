@@ -12,6 +12,7 @@ loop-left-preserved c =
 
 pub returns : goal.returns
 returns c =
-    let none : _ = rows_sized-none c.loop-left.left c.args.w c.args.old c.loop-left.rest.now (omega arith) in
+    let none : _ =
+    rows_sized-none c.loop-left.left c.args.w c.args.old c.loop-left.rest.now (omega arith) in
     let i : _ = c.loop-left.invariant in
     grind (arith, common_steps, none, i)

@@ -4,8 +4,9 @@ use Rattle.glk_windows.proofs.FieldLemmas.{rest-away, rest-cut, rest-fork, rest-
 use Rattle.glk_windows.proofs.FieldLemmas.{rest-none}
 use Rattle.glk_windows.proofs.valid.+rest_of.Goals as goal
 use Rattle.glk_windows.proofs.valid.+rest_of.Goals.{then-most-eq0-via-then-most-eq0}
-use Rattle.glk_windows.proofs.valid.+rest_of.Goals.{}
-use Rattle.glk_windows.proofs.valid.+rest_of.Goals.{then-most-eq0-via-else-most-eq0+then-not-is_under}
+use Rattle.glk_windows.proofs.valid.+rest_of.Goals.{
+  then-most-eq0-via-else-most-eq0+then-not-is_under,
+}
 
 pub returns-then-most-eq0 : goal.returns-then-most-eq0
 returns-then-most-eq0 t c = elim c.then-most-eq0.branch [

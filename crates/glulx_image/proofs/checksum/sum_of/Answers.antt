@@ -9,9 +9,11 @@ loop-k-init c = refl
 
 pub loop-k-preserved : goal.loop-k-preserved
 loop-k-preserved c =
-    rw c.word_to_sum-sum.ensures (sum_of_words-next c.args.bytes.now c.loop-k.k c.loop-k.sum c.loop-k.invariant)
+    rw c.word_to_sum-sum.ensures
+    (sum_of_words-next c.args.bytes.now c.loop-k.k c.loop-k.sum c.loop-k.invariant)
 
 pub returns : goal.returns
 returns c =
-    let last : c.loop-k.k ≡ c.args.words = omega (arith, c.loop-k-test.false, c.loop-k.auto.k-end) in
+    let last : c.loop-k.k ≡ c.args.words =
+    omega (arith, c.loop-k-test.false, c.loop-k.auto.k-end) in
     rw (← last) c.loop-k.invariant

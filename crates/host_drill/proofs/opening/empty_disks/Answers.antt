@@ -13,5 +13,6 @@ pub loop-preserved : goal.loop-preserved
 loop-preserved c = record {
   many = omega (arith, c.in_ok-push.ensures.len, c.loop.invariant.many);
   empty = subst (λ (ds : List MemDisk). Each IsEmpty ds) (sym c.in_ok-push.ensures.items)
-      (each_append IsEmpty c.loop.disks.items _ c.loop.invariant.empty (ap (λ (s : DiskState). s.seen) c.new.ensures.value.0, tt));
+      (each_append IsEmpty c.loop.disks.items _ c.loop.invariant.empty
+      (ap (λ (s : DiskState). s.seen) c.new.ensures.value.0, tt));
 }

@@ -17,6 +17,10 @@ returns-in-Ok-open-clause-drilled g c =
 
 pub returns-in-Ok-open-clause-fresh : goal.returns-in-Ok-open-clause-fresh
 returns-in-Ok-open-clause-fresh g c =
-    let holds = (c.in-Ok.ensures.ok c.requires.tells).1 _ (g.met.D.Disk.seen_may_stay c.init.new.disk) in
-    let spells = c.in-Ok-open.ensures.ok.2 (subst (λ (b : Bool). IsTrue b) (sym c.in-Ok.ensures.kept.telling) c.requires.tells) in
-    λ k high. none_seen c.in-Ok-open.ensures.ok.0 _ (no_rows _ _ holds spells) c.in-Ok-open.ensures.ok.3.histories k
+    let holds =
+    (c.in-Ok.ensures.ok c.requires.tells).1 _ (g.met.D.Disk.seen_may_stay c.init.new.disk) in
+    let spells =
+    c.in-Ok-open.ensures.ok.2
+    (subst (λ (b : Bool). IsTrue b) (sym c.in-Ok.ensures.kept.telling) c.requires.tells) in
+    λ k high. none_seen c.in-Ok-open.ensures.ok.0 _
+    (no_rows _ _ holds spells) c.in-Ok-open.ensures.ok.3.histories k

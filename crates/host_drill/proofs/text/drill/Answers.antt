@@ -7,5 +7,6 @@ use Rattle.host_drill.proofs.text.drill.Goals as goal
 pub drill_over-requires-clause-empty : goal.drill_over-requires-clause-empty
 drill_over-requires-clause-empty c opened = record {
   many = opened.in_ok-snaps.ensures.many;
-  each = each_told (λ (d : MemDisk). (disk_state_in d).seen ≡ []) _ opened.in_ok-snaps.ensures.empty;
+  each =
+      each_told (λ (d : MemDisk). (disk_state_in d).seen ≡ []) _ opened.in_ok-snaps.ensures.empty;
 }

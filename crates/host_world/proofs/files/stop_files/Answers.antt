@@ -1,4 +1,5 @@
-use Rattle.std.proofs.Common.{◌≡◌, ◌∙◌, ◌<◌, List, length, rules, sym, ap, None, Some, Vec, Global, ℕ}
+use Rattle.std.proofs.Common.{◌≡◌, ◌∙◌, ◌<◌, List, length, rules}
+use Rattle.std.proofs.Common.{sym, ap, None, Some, Vec, Global, ℕ}
 use Rattle.std.specs.List.{slice_get}
 use Rattle.std.proofs.lemmas.Option.{slice_get-get_or, slice_get_past}
 use Rattle.store_events.specs.declared.state.StoreState.{StoreState}

@@ -5,4 +5,7 @@ use Rattle.quetzal.proofs.form.are_chunks.Goals as goal
 
 pub loop-preserved : goal.loop-preserved
 loop-preserved c =
-    sym (chunks_step (length c.args.bytes.now) c.loop.counter c.loop.rest.now _ c.loop-test.true (λ none. grind (arith, nat_tests, none, c.is_empty.ensures, c.if-is_empty.false)) c.in-Some.ensures) ∙ c.loop.invariant
+    sym (chunks_step (length c.args.bytes.now) c.loop.counter c.loop.rest.now _ c.loop-test.true
+    (λ none. grind (arith, nat_tests, none, c.is_empty.ensures, c.if-is_empty.false))
+    c.in-Some.ensures)
+    ∙ c.loop.invariant

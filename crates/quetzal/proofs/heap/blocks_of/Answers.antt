@@ -10,5 +10,6 @@ loop-index-preserved c = record {
 }
 
 pub returns : goal.returns
-returns c = blocks_end (length c.args.pairs.now / 8) c.loop-index.index _ c.loop-index.blocks.items _
+returns c =
+    blocks_end (length c.args.pairs.now / 8) c.loop-index.index _ c.loop-index.blocks.items _
     c.loop-index-test.false c.loop-index.invariant.sofar

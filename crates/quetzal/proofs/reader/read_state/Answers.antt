@@ -5,7 +5,8 @@ use Rattle.quetzal.proofs.reader.read_state.Goals as goal
 
 pub returns-in_ok-stack-in-Ok-clause-kept : goal.returns-in_ok-stack-in-Ok-clause-kept
 returns-in_ok-stack-in-Ok-clause-kept c =
-    state_of c.args.image.now (pieces_seen c.args.parts.now) c.args.ram.now _ c.ramstart.ensures.kept
+    state_of c.args.image.now
+    (pieces_seen c.args.parts.now) c.args.ram.now _ c.ramstart.ensures.kept
     c.requires.size c.requires.stack (search rules)
 
 pub returns-in-Err-clause-exact : goal.returns-in-Err-clause-exact

@@ -5,7 +5,8 @@ use Rattle.quetzal.proofs.reader.read_story.Goals as goal
 
 pub returns-in-Ok-clause-exact : goal.returns-in-Ok-clause-exact
 returns-in-Ok-clause-exact c =
-    story_read c.args.image.now (pieces_seen c.args.parts.now) c.as_slice.result.now _ c.read_stack.result
+    story_read c.args.image.now
+    (pieces_seen c.args.parts.now) c.as_slice.result.now _ c.read_stack.result
     (search rules) (c.in-Ok.ensures.exact ∙ ap Ok (sym c.as_slice.ensures.value)) (search rules)
     c.read_stack.ensures.exact
 

@@ -13,5 +13,6 @@ write_heap-requires c =
 
 pub write_save-requires : goal.write_save-requires
 write_save-requires c =
-    let fits = save_fits c.args.image.now c.args.state.now c.ramstart-ramstart.ensures.kept c.requires in
+    let fits =
+    save_fits c.args.image.now c.args.state.now c.ramstart-ramstart.ensures.kept c.requires in
     search (rules, fits)

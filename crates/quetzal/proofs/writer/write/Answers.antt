@@ -4,7 +4,8 @@ use Rattle.quetzal.specs.Save.{SaveIsReadAs, canon}
 use Rattle.quetzal.proofs.WriteLemmas.{read_back}
 use Rattle.quetzal.proofs.writer.write.Goals as goal
 
-with_value : {A E : Type 0} (r : Result A E) (P Q : A → Type 0) → ((x : A) → P x → Q x) → IfOk r P → IfOk r Q
+with_value : {A E : Type 0} (r : Result A E) (P Q : A → Type 0)
+    → ((x : A) → P x → Q x) → IfOk r P → IfOk r Q
 with_value (Ok x) P Q f h = f x h
 with_value (Err e) P Q f h = h
 
@@ -12,6 +13,9 @@ pub returns-clause-read : goal.returns-clause-read
 returns-clause-read c =
     let image = c.args.image.now in
     let state = c.args.state.now in
-    let back = read_back image state c.spelled.ensures.laid c.requires c.spelled.ensures.start c.spelled.ensures.kept in
-    with_value c.spelled.result (λ v. v.items ≡ canon image state) (λ v. SaveIsReadAs image v.items state)
+    let back =
+    read_back image state c.spelled.ensures.laid c.requires c.spelled.ensures.start
+    c.spelled.ensures.kept in
+    with_value c.spelled.result (λ v. v.items ≡ canon image state)
+    (λ v. SaveIsReadAs image v.items state)
     (λ v e. subst (λ bytes. SaveIsReadAs image bytes state) (sym e) back) c.spelled.ensures.ok

@@ -9,20 +9,25 @@ pub returns-then-not-is_fresh : goal.returns-then-not-is_fresh
 returns-then-not-is_fresh c =
     let free : is_to_story (game_of c.args.commands.now) c.args.request.now ≡ false = cc in
     let stale : is_fresh (game_of c.args.commands.now) c.args.request.now ≡ false = cc in
-    rw free (stale-told c.args.stories.now c.args.commands.now None c.args.request.now c.requires.plain stale)
+    rw free (stale-told c.args.stories.now c.args.commands.now None c.args.request.now
+    c.requires.plain stale)
 
 pub returns-then-commands-ge-MAX_COMMANDS : goal.returns-then-commands-ge-MAX_COMMANDS
 returns-then-commands-ge-MAX_COMMANDS c =
     let free : is_to_story (game_of c.args.commands.now) c.args.request.now ≡ false = cc in
     let fresh : is_fresh (game_of c.args.commands.now) c.args.request.now ≡ true = cc in
-    rw free (full-told c.args.stories.now c.args.commands.now None c.args.request.now c.requires.plain
-    (checks_free c.args.stories.now (game_of c.args.commands.now) None c.args.request.now c.requires.plain free fresh)
+    rw free
+    (full-told c.args.stories.now c.args.commands.now None c.args.request.now c.requires.plain
+    (checks_free c.args.stories.now
+    (game_of c.args.commands.now) None c.args.request.now c.requires.plain free fresh)
     fresh c.if-commands-ge-MAX_COMMANDS.true)
 
 pub returns : goal.returns
 returns c =
     let free : is_to_story (game_of c.args.commands.now) c.args.request.now ≡ false = cc in
     let fresh : is_fresh (game_of c.args.commands.now) c.args.request.now ≡ true = cc in
-    rw free (fresh-told c.args.stories.now c.args.commands.now None c.args.request.now c.requires.plain
-    (checks_free c.args.stories.now (game_of c.args.commands.now) None c.args.request.now c.requires.plain free fresh)
+    rw free
+    (fresh-told c.args.stories.now c.args.commands.now None c.args.request.now c.requires.plain
+    (checks_free c.args.stories.now
+    (game_of c.args.commands.now) None c.args.request.now c.requires.plain free fresh)
     fresh c.if-commands-ge-MAX_COMMANDS.false)

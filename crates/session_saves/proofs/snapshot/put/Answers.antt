@@ -26,7 +26,8 @@ returns-clause-areas g c told =
 pub returns-then-len-clause-crash : goal.returns-then-len-clause-crash
 returns-then-len-clause-crash g c told =
     untouched g.D.Disk.tells g.D.Disk.may_leave g.D.Disk.moment g.D.Disk.left_since g.D.Disk.seen
-    g.met.D.Disk.only_now c.args.world.now c.args.place c.args.count c.args.store.now c.is_made.ensures.images told
+    g.met.D.Disk.only_now c.args.world.now c.args.place c.args.count c.args.store.now
+    c.is_made.ensures.images told
 
 pub returns-in-Ok-put-clause-crash : goal.returns-in-Ok-put-clause-crash
 returns-in-Ok-put-clause-crash g c told =

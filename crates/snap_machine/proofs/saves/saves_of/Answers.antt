@@ -11,12 +11,18 @@ loop-index-preserved c =
     let at = c.loop-index.index in
     elim c.match-state.branch [
       | in-Some+in_ok-save_of+in_ok-push w ↦ record {
-        sofar = saved_more (canon c.args.image.now) states at w.in-Some.state.now c.loop-index.saves.items c.match-state.saves.items
+        sofar =
+            saved_more (canon c.args.image.now)
+            states at w.in-Some.state.now c.loop-index.saves.items c.match-state.saves.items
             (search rules) (search rules) c.loop-index.invariant.sofar;
-        kept = all_more StateHasRom states at w.in-Some.state.now (search rules) w.save_of.ensures.kept c.loop-index.invariant.kept;
+        kept =
+            all_more StateHasRom states at w.in-Some.state.now
+            (search rules) w.save_of.ensures.kept c.loop-index.invariant.kept;
       }
       | in_default w ↦ record {
-        sofar = saved_same (canon c.args.image.now) states at c.loop-index.saves.items c.match-state.saves.items
+        sofar =
+            saved_same (canon c.args.image.now)
+            states at c.loop-index.saves.items c.match-state.saves.items
             (search rules) (search rules) c.loop-index.invariant.sofar;
         kept = all_same StateHasRom states at (search rules) c.loop-index.invariant.kept;
       }

@@ -7,5 +7,6 @@ use Rattle.snap_machine.proofs.saves.undo_of.Given as goal
 abbrev pub invariant-loop-save : goal.invariant-loop-save
 invariant-loop-save l = record {
   count : length l.undo ≤ l.save-index;
-  sofar : onto l.undo (each_of (state_in l.image) (drop l.save-index l.saves)) ≡ onto [] (each_of (state_in l.image) l.saves);
+  sofar : onto l.undo (each_of (state_in l.image) (drop l.save-index l.saves))
+      ≡ onto [] (each_of (state_in l.image) l.saves);
 }

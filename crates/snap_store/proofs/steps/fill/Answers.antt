@@ -49,8 +49,10 @@ returns-clause-triple g c area beside_area beside spares =
     record {
       meanwhile = meanwhile.meanwhile;
       ended = λ told each. on_ok c.write_through.result (λ wrote f now.
-          let told_first = subst (λ (b : Bool). IsTrue b) (sym c.write_at.ensures.kept.telling) told in
-          let is : f ≡ file_written (file_written file (side_start side) head) (side_start side + 16) bytes =
+          let told_first =
+          subst (λ (b : Bool). IsTrue b) (sym c.write_at.ensures.kept.telling) told in
+          let is : f
+          ≡ file_written (file_written file (side_start side) head) (side_start side + 16) bytes =
           wrote told_first f now
           ∙ ap (λ (l : List ℕ). file_written l (c.start-2.result + 16) bytes)
           (c.in_ok-write_at.ensures.ok told)
@@ -63,6 +65,7 @@ returns-clause-triple g c area beside_area beside spares =
           subst (λ (l : List ℕ). IsLaid side Unsure
           (Some (area_with c.args.place c.args.count bytes)) beside beside_area l) (sym is)
           (laid_filled side beside beside_area area file c.args.place c.args.count bytes
-          (omega (arith, c.ranges.place.fits)) (omega (arith, c.ranges.count.fits)) c.requires spares
+          (omega (arith, c.ranges.place.fits))
+          (omega (arith, c.ranges.count.fits)) c.requires spares
           (each file (g.met.D.Disk.seen_may_stay d)))) c.write_through.ensures.ok;
     }

@@ -14,6 +14,7 @@ returns-clause-triple g c area beside_area beside =
     c.write_through.ensures.ok c.write_through.ensures.crash
     (λ f d laid torn. laid_gate_torn side (Some area) beside beside_area f d
     (subst (λ (k : ℕ). Torn k 1 d f) c.gate.ensures torn) laid)
-    (λ d laid. subst (λ (k : ℕ). IsLaid side (Open area.place area.count) (Some area) beside beside_area
+    (λ d laid.
+    subst (λ (k : ℕ). IsLaid side (Open area.place area.count) (Some area) beside beside_area
     (file_written d k (1 ∷ [])))
     (sym c.gate.ensures) (laid_opened side beside beside_area area d laid))

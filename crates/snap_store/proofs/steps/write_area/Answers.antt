@@ -15,7 +15,8 @@ returns-in_default-clause-triple g c area beside_area beside spares =
 pub returns-in_default-clause-err : goal.returns-in_default-clause-err
 returns-in_default-clause-err g c area beside_area beside spares each =
     let now = images_meanwhile (g.met.D.Disk.counts_now c.close_gate.new.disk)
-    c.close_gate.ensures.ran.same.telling (c.close_gate.ensures.triple area beside_area beside) each in (
+    c.close_gate.ensures.ran.same.telling
+    (c.close_gate.ensures.triple area beside_area beside) each in (
       area,
       inl (c.loosened.ensures, refl),
       subst (λ (s : Slot). EachImage g.D.Disk.tells
@@ -37,7 +38,8 @@ returns-in_default-fill-clause-err g c area beside_area beside spares each =
       area,
       inr (inl (refl, refl)),
       images_meanwhile (g.met.D.Disk.counts_now c.fill.new.disk)
-          c.fill.ensures.ran.same.telling (c.fill.ensures.triple area beside_area beside spares) shut,
+          c.fill.ensures.ran.same.telling
+          (c.fill.ensures.triple area beside_area beside spares) shut,
     )
 
 -- the gate wasn't opened
@@ -46,7 +48,8 @@ returns-in_default-open_gate-clause-triple g c area beside_area beside spares =
     let put = area_with c.args.place c.args.count c.args.bytes.now in
     failed (then_ (looser (λ f laid. inl laid) (c.in-Ok.ensures.triple area beside_area beside))
     c.close_gate.ensures.ran.same.telling
-    (then_ (looser (λ f laid. inr (inl laid)) (c.in-Ok-fill.ensures.triple area beside_area beside spares))
+    (then_
+    (looser (λ f laid. inr (inl laid)) (c.in-Ok-fill.ensures.triple area beside_area beside spares))
     c.fill.ensures.ran.same.telling
     (looser (λ f laid. inr (inr laid)) (c.open_gate.ensures.triple put beside_area beside))))
 
@@ -60,7 +63,8 @@ returns-in_default-open_gate-clause-err g c area beside_area beside spares each 
       Some put,
       inr (inr (refl, refl)),
       images_meanwhile (g.met.D.Disk.counts_now c.open_gate.new.disk)
-          c.open_gate.ensures.ran.same.telling (c.open_gate.ensures.triple put beside_area beside) full,
+          c.open_gate.ensures.ran.same.telling
+          (c.open_gate.ensures.triple put beside_area beside) full,
     )
 
 -- all three were done
@@ -69,6 +73,7 @@ returns-clause-triple g c area beside_area beside spares =
     let put = area_with c.args.place c.args.count c.args.bytes.now in
     done (then_ (looser (λ f laid. inl laid) (c.in-Ok.ensures.triple area beside_area beside))
     c.close_gate.ensures.ran.same.telling
-    (then_ (looser (λ f laid. inr (inl laid)) (c.in-Ok-fill.ensures.triple area beside_area beside spares))
+    (then_
+    (looser (λ f laid. inr (inl laid)) (c.in-Ok-fill.ensures.triple area beside_area beside spares))
     c.fill.ensures.ran.same.telling
     (looser (λ f laid. inr (inr laid)) (c.in-Ok-open_gate.ensures.triple put beside_area beside))))

@@ -19,6 +19,10 @@ returns c =
     c.read_u32.ensures ∙ number_read 4 8 8 at file bytes reads (omega arith) (omega arith) in
     let many : c.read_u32-2.result ≡ big_from (at + 12) 4 file =
     c.read_u32-2.ensures ∙ number_read 4 12 4 at file bytes reads (omega arith) (omega arith) in
-    ap (λ (p : ℕ). record { place = p; count = c.read_u32.result; length = c.read_u32-2.result }) place
-    ∙ ap (λ (n : ℕ). record { place = big_from at 8 file; count = n; length = c.read_u32-2.result }) count
-    ∙ ap (λ (n : ℕ). record { place = big_from at 8 file; count = big_from (at + 8) 4 file; length = n }) many
+    ap (λ (p : ℕ). record { place = p; count = c.read_u32.result; length = c.read_u32-2.result })
+    place
+    ∙ ap (λ (n : ℕ). record { place = big_from at 8 file; count = n; length = c.read_u32-2.result })
+    count
+    ∙ ap
+    (λ (n : ℕ). record { place = big_from at 8 file; count = big_from (at + 8) 4 file; length = n })
+    many

@@ -10,7 +10,11 @@ unfolding echo_bytes
 returns-clause-value c = search rules
 
 pub returns-clause-image : goal.returns-clause-image
-returns-clause-image c = subst (λ (bytes : List ℕ). image_of bytes ≡ Ok bytes) (sym (returns-clause-value c)) echo_is_an_image
+returns-clause-image c =
+    subst (λ (bytes : List ℕ). image_of bytes ≡ Ok bytes)
+    (sym (returns-clause-value c)) echo_is_an_image
 
 pub returns-clause-checksum : goal.returns-clause-checksum
-returns-clause-checksum c = subst (λ (bytes : List ℕ). verified bytes ≡ 0) (sym (returns-clause-value c)) echo_has_its_checksum
+returns-clause-checksum c =
+    subst (λ (bytes : List ℕ). verified bytes ≡ 0)
+    (sym (returns-clause-value c)) echo_has_its_checksum

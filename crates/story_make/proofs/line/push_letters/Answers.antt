@@ -6,4 +6,5 @@ use Rattle.story_make.proofs.line.push_letters.Goals as goal
 pub loop-i-preserved : goal.loop-i-preserved
 loop-i-preserved c =
     let i = c.loop-i.i in
-    rw (map-range_with_len_more (letter c.args.word) 0 i i (omega arith)) (search (rules, append_assoc))
+    rw (map-range_with_len_more (letter c.args.word) 0 i i (omega arith))
+    (search (rules, append_assoc))

@@ -5,9 +5,14 @@ use Rattle.story_make.proofs.line.push_line.Goals as goal
 
 pub returns-in_ok-extend_from_slice-in-Skip : goal.returns-in_ok-extend_from_slice-in-Skip
 returns-in_ok-extend_from_slice-in-Skip c =
-    rw (c.in-Skip.is, line_typed c.args.session c.in-Skip.n (codes "x") ((omega arith, omega arith), tt)) (search (rules, append_assoc))
+    rw (
+      c.in-Skip.is,
+      line_typed c.args.session c.in-Skip.n (codes "x") ((omega arith, omega arith), tt),
+    )
+    (search (rules, append_assoc))
 
 pub returns-in_ok-push-in-Next : goal.returns-in_ok-push-in-Next
 returns-in_ok-push-in-Next c =
     let word = c.in-Next.word in
-    rw (c.in-Next.is, line_typed c.args.session c.in-Next.n (letters word) (letters_are word)) (search (rules, append_assoc))
+    rw (c.in-Next.is, line_typed c.args.session c.in-Next.n (letters word) (letters_are word))
+    (search (rules, append_assoc))

@@ -9,6 +9,8 @@ use Rattle.story_make.proofs.scripts.script.Given as goal
 abbrev pub invariant-loop : goal.invariant-loop
 invariant-loop l = record {
   counted : l.place.sent ≤ l.counter;
-  sofar : l.out.items ++ flat_map line_of_request (requests_from l.session (kept_place l.session l.place) (first_words pcg32 (l.turns - l.counter) l.words))
+  sofar : l.out.items ++ flat_map line_of_request
+      (requests_from l.session (kept_place l.session l.place)
+      (first_words pcg32 (l.turns - l.counter) l.words))
       ≡ script_bytes l.number l.session l.turns;
 }

@@ -45,7 +45,8 @@ returns-in-Ok-Prompts-clause-kept c = λ seed e.
 
 pub returns-in-Ok-Quits-clause-value : goal.returns-in-Ok-Quits-clause-value
 returns-in-Ok-Quits-clause-value c =
-    let e = rw c.in-Ok-Quits.field-0-is at c.in-Ok-Quits.ensures.does in sym e ∙ c.loop-rest.invariant.0
+    let e = rw c.in-Ok-Quits.field-0-is at c.in-Ok-Quits.ensures.does in
+    sym e ∙ c.loop-rest.invariant.0
 
 pub returns-in-Err-clause-value : goal.returns-in-Err-clause-value
 returns-in-Err-clause-value c =

@@ -34,4 +34,5 @@ returns-clause-value c =
     let over = over-image image c.in_ok-fields.fields c.in-Some.world made in
     subst (λ (i : List ℕ). HasBytes i c.args.bytes.now c.in-Some.world) over
     (subst (λ (bytes : List ℕ). HasBytes c.in-Some.world.image bytes c.in-Some.world)
-    (sym c.as_slice.ensures.value ∙ c.are_same.ensures.only (search rules)) c.in_ok-again.ensures.value)
+    (sym c.as_slice.ensures.value ∙ c.are_same.ensures.only (search rules))
+    c.in_ok-again.ensures.value)

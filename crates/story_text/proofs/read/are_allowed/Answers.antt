@@ -15,8 +15,12 @@ pub loop-code-preserved : goal.loop-code-preserved
 loop-code-preserved c =
     let held = c.loop-code.invariant in
     let parts = c.in-Some.ensures.steps.0 in
-    let taken = sym c.is_allowed.ensures ∙ c.if-not-is_allowed.false in
-    (IsUtf8-past_char _ _ c.in-Some.code held.0 parts, rw (chars_past_char _ _ c.in-Some.code held.0 parts, taken) at held.1)
+    let taken = sym c.is_allowed.ensures ∙ c.if-not-is_allowed.false in (
+      IsUtf8-past_char _ _ c.in-Some.code held.0 parts,
+      rw (chars_past_char _ _ c.in-Some.code held.0 parts, taken) at held.1,
+    )
 
 pub returns : goal.returns
-returns c = rw (ap chars (nil_from_length _ c.in-None.ensures.steps.0.0) ∙ chars-nil) at c.loop-code.invariant.1
+returns c =
+    rw (ap chars (nil_from_length _ c.in-None.ensures.steps.0.0) ∙ chars-nil)
+    at c.loop-code.invariant.1

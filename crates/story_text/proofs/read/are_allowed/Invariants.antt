@@ -4,4 +4,6 @@ use Rattle.story_text.specs.Text.{are_allowed}
 use Rattle.story_text.proofs.read.are_allowed.Given as goal
 
 abbrev pub invariant-loop-code : goal.invariant-loop-code
-invariant-loop-code l = IsUtf8 (chars_rest l.code-iterator) × (are_allowed (chars (chars_rest l.code-iterator)) ≡ are_allowed (chars l.fn.text))
+invariant-loop-code l =
+    IsUtf8 (chars_rest l.code-iterator)
+    × (are_allowed (chars (chars_rest l.code-iterator)) ≡ are_allowed (chars l.fn.text))

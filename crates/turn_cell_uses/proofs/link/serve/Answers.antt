@@ -10,5 +10,7 @@ loop-text-preserved g c = let i = c.loop-text.invariant in let t = c.turn-answer
   same = (t.kept.2.0 ∙ i.same.0, t.kept.2.1 ∙ i.same.1, t.kept.2.2 ∙ i.same.2);
   made = t.kept.3 ∙ i.made;
   room = first_of (search rules, grind (arith, common_steps));
-  serves = serves_step _ _ _ _ c.loop-text.text-index _ c.args.texts.now _ _ _ _ c.turn-answer.result _ i.same.1 i.same.0 (omega arith) refl (search rules) i.serves t.value;
+  serves =
+      serves_step _ _ _ _ c.loop-text.text-index _ c.args.texts.now _ _ _ _ c.turn-answer.result
+      _ i.same.1 i.same.0 (omega arith) refl (search rules) i.serves t.value;
 }

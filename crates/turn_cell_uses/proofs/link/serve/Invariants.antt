@@ -11,5 +11,6 @@ invariant-loop-text g l = record {
   same : KeepsNumbers l.fn.pass l.pass;
   made : l.pass.known.made ≡ l.fn.pass.known.made;
   room : (vec_len l.answers ≡ l.text-index) × (length l.texts ≤ vec_capacity l.answers);
-  serves : AnswersEachTurn (pass_numbers l.fn.pass) l.fn.pass.known.number (seen l.fn.pass) (take l.text-index l.texts) l.answers.items (seen l.pass);
+  serves : AnswersEachTurn (pass_numbers l.fn.pass) l.fn.pass.known.number (seen l.fn.pass)
+      (take l.text-index l.texts) l.answers.items (seen l.pass);
 }

@@ -6,6 +6,7 @@ use Rattle.vm_exec.proofs.arguments.take_arguments.Given as goal
 
 abbrev pub invariant-loop : goal.invariant-loop
 invariant-loop l = record {
-  same : rules.arguments l.fn.stack l.count ≡ with_front l.args.items (rules.arguments l.stack (l.count - l.counter));
+  same : rules.arguments l.fn.stack l.count
+      ≡ with_front l.args.items (rules.arguments l.stack (l.count - l.counter));
   kept : Chain l.fn.stack → HasFrame l.fn.stack → Chain l.stack × HasFrame l.stack;
 }

@@ -7,7 +7,9 @@ use Rattle.vm_flow.proofs.returns.give_back.Goals as goal
 
 pub returns : goal.returns
 returns c = record {
-  ok = subst (λ (s : StackState). GivesOrStops (stub_or_end s) c.take_top.new.stack c.take_top.result)
+  ok =
+      subst
+      (λ (s : StackState). GivesOrStops (stub_or_end s) c.take_top.new.stack c.take_top.result)
       c.leave.ensures.ok c.take_top.ensures.ok;
   chain = λ chain. c.take_top.ensures.ready (c.leave.ensures.ready chain);
   kept = λ chain. c.take_top.ensures.kept (c.leave.ensures.kept chain)

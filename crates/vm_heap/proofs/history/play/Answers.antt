@@ -6,7 +6,8 @@ use Rattle.vm_heap.proofs.history.play.Goals as goal
 
 pub returns-in-Ok : goal.returns-in-Ok
 returns-in-Ok c =
-    let kept : c.retain.new.self.items ≡ filter (λ b. not (nat_eq b.at c.in-Free.at)) c.args.held.now.items =
+    let kept : c.retain.new.self.items
+    ≡ filter (λ b. not (nat_eq b.at c.in-Free.at)) c.args.held.now.items =
     filter_same _ _ _ (λ x b f' k. search rules) _ _ c.retain.ensures.filtered in
     let old : Holding = record { heap = c.args.heap.now; held = c.args.held.now.items } in
     record {

@@ -14,7 +14,8 @@ rows_is c =
 
 pub returns-then-new-offset-clause-puts : goal.returns-then-new-offset-clause-puts
 returns-then-new-offset-clause-puts c = λ t rom.
-    subst (λ rows. PutsBytes rom c.args.rows.now.items rows c.args.at c.args.new.now) (sym (rows_is c))
+    subst (λ rows. PutsBytes rom c.args.rows.now.items rows c.args.at c.args.new.now)
+    (sym (rows_is c))
     (subst (λ was. PutsBytes rom was c.put_in_page.new.rows c.args.at c.args.new.now)
     c.deref_mut.ensures.value
     (put_in_puts rom _ _ c.args.at c.args.new.now c.put_in_page.result (omega arith)

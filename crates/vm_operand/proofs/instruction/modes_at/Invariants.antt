@@ -8,7 +8,8 @@ invariant-loop-count l = record {
   slots : length l.modes ≡ 8;
   room : l.count ≤ length l.kinds;
   near : l.place ≤ l.at + l.count;
-  sofar : spec.modes_at l.memory l.at l.kinds ≡ after (take l.count l.modes) (spec.modes_at l.memory l.place (drop l.count l.kinds));
+  sofar : spec.modes_at l.memory l.at l.kinds
+      ≡ after (take l.count l.modes) (spec.modes_at l.memory l.place (drop l.count l.kinds));
 }
 
 abbrev pub decreases-loop-count : goal.decreases-loop-count

@@ -10,9 +10,12 @@ loop-read-preserved c =
     let step = c.pair_end-end.ensures.within in
     record {
       same = c.loop-read.invariant.same
-          ∙ (locals_more c.args.format.now c.loop-read.end c.loop-read.read (slice_index c.args.format.now c.loop-read.read)
-          (slice_index c.args.format.now (c.loop-read.read + 1)) (omega (arith, left)) refl refl c.if-format-read-eq0.false
-          ∙ ap (λ (n : ℕ). locals_end n (drop (c.loop-read.read + 2) c.args.format.now)) (sym c.pair_end-end.ensures.value));
+          ∙ (locals_more c.args.format.now c.loop-read.end c.loop-read.read
+          (slice_index c.args.format.now c.loop-read.read)
+          (slice_index c.args.format.now (c.loop-read.read + 1))
+          (omega (arith, left)) refl refl c.if-format-read-eq0.false
+          ∙ ap (λ (n : ℕ). locals_end n (drop (c.loop-read.read + 2) c.args.format.now))
+          (sym c.pair_end-end.ensures.value));
       inside = omega (arith, left);
       within = omega (arith, low, step);
     }
@@ -21,4 +24,6 @@ pub returns-clause-value : goal.returns-clause-value
 returns-clause-value c =
     let left = c.loop-read-test.false in
     let l = length-drop c.loop-read.read c.args.format.now in
-    sym (c.loop-read.invariant.same ∙ locals_none c.loop-read.end (drop c.loop-read.read c.args.format.now) (omega (arith, left, l)))
+    sym (c.loop-read.invariant.same
+    ∙ locals_none c.loop-read.end (drop c.loop-read.read c.args.format.now)
+    (omega (arith, left, l)))

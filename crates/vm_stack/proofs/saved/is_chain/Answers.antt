@@ -4,7 +4,9 @@ use Rattle.vm_stack.proofs.saved.is_chain.Goals as goal
 
 pub returns-then-start-end-clause-found : goal.returns-then-start-end-clause-found
 returns-then-start-end-clause-found c = λ saved.
-    let s = step_down c.args.bytes.now c.stub_frame-start.result c.loop-end.end c.loop-end-test.true c.loop-end.invariant.inside
+    let s =
+    step_down c.args.bytes.now c.stub_frame-start.result c.loop-end.end c.loop-end-test.true
+    c.loop-end.invariant.inside
     c.stub_frame-start.ensures (c.loop-end.invariant.down saved.linked) in
     let inside = s.inside in
     let out = c.if-start-end.true in
@@ -12,7 +14,9 @@ returns-then-start-end-clause-found c = λ saved.
 
 pub returns-then-not-is_frame-clause-found : goal.returns-then-not-is_frame-clause-found
 returns-then-not-is_frame-clause-found c = λ saved.
-    let s = step_down c.args.bytes.now c.stub_frame-start.result c.loop-end.end c.loop-end-test.true c.loop-end.invariant.inside
+    let s =
+    step_down c.args.bytes.now c.stub_frame-start.result c.loop-end.end c.loop-end-test.true
+    c.loop-end.invariant.inside
     c.stub_frame-start.ensures (c.loop-end.invariant.down saved.linked) in
     sym c.if-not-is_frame.true ∙ c.is_frame.ensures.found s.frame
 
@@ -22,10 +26,12 @@ loop-end-preserved c =
     let in_end = c.if-start-end.false in
     record {
       up = λ low. c.loop-end.invariant.up
-          (step_up c.args.bytes.now c.stub_frame-start.result c.loop-end.end (omega (arith, in_end)) c.loop-end.invariant.inside
+          (step_up c.args.bytes.now c.stub_frame-start.result c.loop-end.end
+          (omega (arith, in_end)) c.loop-end.invariant.inside
           c.stub_frame-start.ensures (c.is_frame.ensures.only c.if-not-is_frame.false) low);
       down = λ linked.
-          (step_down c.args.bytes.now c.stub_frame-start.result c.loop-end.end c.loop-end-test.true c.loop-end.invariant.inside
+          (step_down c.args.bytes.now c.stub_frame-start.result c.loop-end.end c.loop-end-test.true
+          c.loop-end.invariant.inside
           c.stub_frame-start.ensures (c.loop-end.invariant.down linked)).low;
       inside = omega (arith, in_end, inside);
     }

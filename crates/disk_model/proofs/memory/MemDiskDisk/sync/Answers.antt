@@ -15,8 +15,11 @@ pub returns-clause-ok : goal.returns-clause-ok
 returns-clause-ok c told f now =
     let m = c.args.self.now in
     let p = state_after m.start.items m.calls.items in
-    let then_ : IsDiskImage (after_sync (not c.is_failing-good.result) p) f = subst (λ (q : DiskState). IsDiskImage q f) (c.in-Ok-note_sync.ensures.state m.start.items) now in
-    only_settled p.seen f (subst (λ (b : Bool). IsDiskImage (after_sync (not b) p) f) c.if-not-good.false then_)
+    let then_ : IsDiskImage (after_sync (not c.is_failing-good.result) p) f =
+    subst (λ (q : DiskState). IsDiskImage q f)
+    (c.in-Ok-note_sync.ensures.state m.start.items) now in
+    only_settled p.seen f
+    (subst (λ (b : Bool). IsDiskImage (after_sync (not b) p) f) c.if-not-good.false then_)
 
 pub returns-clause-crash : goal.returns-clause-crash
 returns-clause-crash c told f now =

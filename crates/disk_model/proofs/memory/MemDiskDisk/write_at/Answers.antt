@@ -17,11 +17,13 @@ returns-clause-time c = c.put.ensures.time c.args.self.now.start.items
 pub returns-then-not-good-clause-crash : goal.returns-then-not-good-clause-crash
 returns-then-not-good-clause-crash c told f now =
     let m = c.args.self.now in
-    crash_write (not c.is_failing-good.result) c.args.place c.args.piece.now (state_after m.start.items m.calls.items) (omega arith) f
+    crash_write (not c.is_failing-good.result) c.args.place c.args.piece.now
+    (state_after m.start.items m.calls.items) (omega arith) f
     (subst (λ (p : DiskState). IsDiskImage p f) (c.in-Ok.ensures.state m.start.items) now)
 
 pub returns-clause-crash : goal.returns-clause-crash
 returns-clause-crash c told f now =
     let m = c.args.self.now in
-    crash_write (not c.is_failing-good.result) c.args.place c.args.piece.now (state_after m.start.items m.calls.items) (omega arith) f
+    crash_write (not c.is_failing-good.result) c.args.place c.args.piece.now
+    (state_after m.start.items m.calls.items) (omega arith) f
     (subst (λ (p : DiskState). IsDiskImage p f) (c.in-Ok.ensures.state m.start.items) now)

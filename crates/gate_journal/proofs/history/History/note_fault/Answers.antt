@@ -1,4 +1,5 @@
-use Rattle.std.proofs.Common.{◌≡◌, ◌<◌, ◌++◌, ◌∷◌, [], true, ◌∙◌, ap, List, rules, vec_len, vec_capacity, arith}
+use Rattle.std.proofs.Common.{◌≡◌, ◌<◌, ◌++◌, ◌∷◌, [], true, ◌∙◌, ap}
+use Rattle.std.proofs.Common.{List, rules, vec_len, vec_capacity, arith}
 use Rattle.std.specs.Prelude.{nat_lt, ◌&&◌}
 use Rattle.std.proofs.lemmas.Bool.Decides.{nat_tests}
 use Rattle.gate_journal.specs.declared.mark.Mark.{Mark}
@@ -10,20 +11,33 @@ use Rattle.gate_journal.proofs.history.History.note_fault.Goals as goal
 
 pub invariant_of-self : goal.invariant_of-self
 invariant_of-self c =
-    let room : (nat_lt (vec_len c.self.inside.rows) (vec_capacity c.self.inside.rows) && nat_lt (vec_len c.self.inside.marks) (vec_capacity c.self.inside.marks)) ≡ true =
+    let room : (nat_lt (vec_len c.self.inside.rows) (vec_capacity c.self.inside.rows)
+    && nat_lt (vec_len c.self.inside.marks) (vec_capacity c.self.inside.marks))
+    ≡ true =
     ap (λ (e : Entries). e.room) c.self.view_is ∙ c.requires in
-    let free : vec_len c.self.inside.marks < vec_capacity c.self.inside.marks = grind (arith, nat_tests, room) in
+    let free : vec_len c.self.inside.marks < vec_capacity c.self.inside.marks =
+    grind (arith, nat_tests, room) in
     let fine = c.push.ensures.succeeds free in
-    let pushed : c.push.new.self.items ≡ c.self.inside.marks.items ++ marks.Fault c.args.by c.args.from c.args.to ∷ [] = search rules in
-    ap count_rows pushed ∙ count-fault c.self.inside.marks.items c.args.by c.args.from c.args.to ∙ c.self.invariant
+    let pushed : c.push.new.self.items
+    ≡ c.self.inside.marks.items ++ marks.Fault c.args.by c.args.from c.args.to ∷ [] =
+    search rules in
+    ap count_rows pushed
+    ∙ count-fault c.self.inside.marks.items c.args.by c.args.from c.args.to
+    ∙ c.self.invariant
 
 pub returns-clause-entry : goal.returns-clause-entry
 returns-clause-entry c =
-    let room : (nat_lt (vec_len c.self.inside.rows) (vec_capacity c.self.inside.rows) && nat_lt (vec_len c.self.inside.marks) (vec_capacity c.self.inside.marks)) ≡ true =
+    let room : (nat_lt (vec_len c.self.inside.rows) (vec_capacity c.self.inside.rows)
+    && nat_lt (vec_len c.self.inside.marks) (vec_capacity c.self.inside.marks))
+    ≡ true =
     ap (λ (e : Entries). e.room) c.self.view_is ∙ c.requires in
-    let free : vec_len c.self.inside.marks < vec_capacity c.self.inside.marks = grind (arith, nat_tests, room) in
+    let free : vec_len c.self.inside.marks < vec_capacity c.self.inside.marks =
+    grind (arith, nat_tests, room) in
     let fine = c.push.ensures.succeeds free in
-    let pushed : c.push.new.self.items ≡ c.self.inside.marks.items ++ marks.Fault c.args.by c.args.from c.args.to ∷ [] = search rules in
+    let pushed : c.push.new.self.items
+    ≡ c.self.inside.marks.items ++ marks.Fault c.args.by c.args.from c.args.to ∷ [] =
+    search rules in
     ap (λ (l : List Mark). rows_woven l c.self.inside.rows.items) pushed
-    ∙ woven-fault c.self.inside.marks.items c.self.inside.rows.items c.args.by c.args.from c.args.to c.self.invariant
+    ∙ woven-fault c.self.inside.marks.items c.self.inside.rows.items c.args.by c.args.from
+    c.args.to c.self.invariant
     ∙ ap (λ (e : Entries). e.list ++ Faulted c.args.by c.args.from c.args.to ∷ []) c.self.view_is

@@ -9,5 +9,6 @@ invariant_of-result c =
     let pages : has_pages file ≡ true = cc in
     let order : has_order file ≡ true = cc in
     let small : is_too_large file ≡ false = cc in
-    let inside : extstart file ≤ length file = subst (λ (n : ℕ). n ≤ length file) c.word-2.ensures c.if-bytes-word.false in
+    let inside : extstart file ≤ length file =
+    subst (λ (n : ℕ). n ≤ length file) c.word-2.ensures c.if-bytes-word.false in
     laid_out file c.if-bytes-lt-HEADER_SIZE.false pages order small inside

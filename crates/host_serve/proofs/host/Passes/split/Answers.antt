@@ -123,7 +123,8 @@ returns-in-Err-clause-roots g c = let split =
     let is = with_items_is (with_item c.loop-s.self.desks c.loop-s.s c.split.new.pass)
     c.join_again.new.roots (long ∙ c.deref_mut.ensures.len) in
     λ most roots. subst (λ hs. AreRoots (most + 1) hs) (sym (ap (λ l. holders l) is ∙ back.0))
-    (roots_first (λ (h : Holder). with_newest_pass (after_split h)) (λ h. (refl, refl)) _ most _ roots)
+    (roots_first (λ (h : Holder). with_newest_pass (after_split h))
+    (λ h. (refl, refl)) _ most _ roots)
 
 pub loop-s-preserved : goal.loop-s-preserved
 loop-s-preserved g c =

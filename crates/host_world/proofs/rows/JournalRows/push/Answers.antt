@@ -7,7 +7,8 @@ use Rattle.host_world.proofs.rows.JournalRows.push.Goals as goal
 pub invariant_of-self-2 : goal.invariant_of-self-2
 invariant_of-self-2 c =
     let added = c.self.inside.added.items in
-    let grown : c.push.new.self.items ≡ c.self.inside.added.items ++ c.args.row ∷ [] = search rules in
+    let grown : c.push.new.self.items ≡ c.self.inside.added.items ++ c.args.row ∷ [] =
+    search rules in
     let size : c.payload_len.result ≡ length (payload_of c.args.row.command) = search rules in
     let more = spelled_more c.self.inside.found added c.push.new.self.items c.args.row grown in (
       omega (arith, c.self.invariant.0, more, size),

@@ -34,19 +34,36 @@ returns c =
     let good = c.args.good in
     let reads = c.args.reads.now in
     let made : c.in_ok-make_call.field-0 ≡ true = c.if-not-branch.false in
-    let disk : c.make_call.new.disk ≡ disk_after c.in-Some.call c.args.good c.args.reads.now c.args.self.now.disk =
+    let disk : c.make_call.new.disk
+    ≡ disk_after c.in-Some.call c.args.good c.args.reads.now c.args.self.now.disk =
     c.in_ok-make_call.ensures.disk
     ∙ ap (λ (b : Bool). if b then disk_after call good reads w.disk else w.disk) made in
     let after = disk_after c.in-Some.call c.args.good c.args.reads.now c.args.self.now.disk in
-    let alike : c.go_to.new.self ≡ record c.args.self.now { disk = after; sessions = sessions_with c.args.self.now c.args.row.session Begun; step = Idle } =
+    let alike : c.go_to.new.self
+    ≡ record c.args.self.now {
+      disk = after;
+      sessions = sessions_with c.args.self.now c.args.row.session Begun;
+      step = Idle;
+    } =
     c.go_to.ensures
-    ∙ ap (λ (d : DiskState). record c.args.self.now { disk = d; sessions = sessions_with c.args.self.now c.session-s.result Begun }) disk
-    ∙ ap (λ (n : ℕ). record c.args.self.now { disk = after; sessions = sessions_with c.args.self.now n Begun }) c.session-s.ensures
-    ∙ ap (λ (s : Step). record c.args.self.now { disk = after; sessions = sessions_with c.args.self.now c.args.row.session Begun; step = s }) c.requires in
-    let ends : call_ended c.go_to.new.self good c.first_step-step.result ≡ call_next w (begun_with w c.args.row) good reads =
+    ∙ ap (λ (d : DiskState). record c.args.self.now {
+      disk = d;
+      sessions = sessions_with c.args.self.now c.session-s.result Begun;
+    }) disk
+    ∙ ap (λ (n : ℕ).
+    record c.args.self.now { disk = after; sessions = sessions_with c.args.self.now n Begun })
+    c.session-s.ensures
+    ∙ ap (λ (s : Step). record c.args.self.now {
+      disk = after;
+      sessions = sessions_with c.args.self.now c.args.row.session Begun;
+      step = s;
+    }) c.requires in
+    let ends : call_ended c.go_to.new.self good c.first_step-step.result
+    ≡ call_next w (begun_with w c.args.row) good reads =
     ap (λ (s : Step). call_ended c.go_to.new.self good s) c.first_step-step.ensures
     ∙ call_made w (begun_with w c.args.row) c.go_to.new.self good reads call
     (ap (λ (s : Step). next_call w.rows s) (sym c.first_step-step.ensures)
     ∙ sym c.in_ok-call.ensures ∙ c.in-Some.is)
     (sym c.in_ok-make_call.ensures.made ∙ made) alike in
-    subst (λ (z : HostState). OnOk c.end_call.result (c.end_call.new.self ≡ z)) ends c.end_call.ensures
+    subst (λ (z : HostState). OnOk c.end_call.result (c.end_call.new.self ≡ z))
+    ends c.end_call.ensures

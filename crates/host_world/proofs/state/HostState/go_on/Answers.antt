@@ -31,16 +31,23 @@ returns c =
     let good = c.args.good in
     let reads = c.args.reads.now in
     let made : c.in_ok-make_call.field-0 ≡ true = c.if-not-branch.false in
-    let disk : c.make_call.new.disk ≡ disk_after c.in-Some.call c.args.good c.args.reads.now c.args.self.now.disk =
+    let disk : c.make_call.new.disk
+    ≡ disk_after c.in-Some.call c.args.good c.args.reads.now c.args.self.now.disk =
     c.in_ok-make_call.ensures.disk
     ∙ ap (λ (b : Bool). if b then disk_after call good reads w.disk else w.disk) made in
-    let there : HostState = record c.args.self.now { disk = c.make_call.new.disk; step = c.replace-step.new.dest } in
-    let alike : there ≡ record c.args.self.now { disk = disk_after c.in-Some.call c.args.good c.args.reads.now c.args.self.now.disk; step = Idle } =
+    let there : HostState =
+    record c.args.self.now { disk = c.make_call.new.disk; step = c.replace-step.new.dest } in
+    let alike : there ≡ record c.args.self.now {
+      disk = disk_after c.in-Some.call c.args.good c.args.reads.now c.args.self.now.disk;
+      step = Idle;
+    } =
     ap (λ (d : DiskState). record c.args.self.now { disk = d; step = c.replace-step.new.dest }) disk
-    ∙ ap (λ (s : Step). record c.args.self.now { disk = disk_after call good reads w.disk; step = s })
+    ∙ ap
+    (λ (s : Step). record c.args.self.now { disk = disk_after call good reads w.disk; step = s })
     c.replace-step.ensures.after in
     let ends : call_ended there good c.replace-step.result ≡ call_next w w good reads =
     ap (λ (s : Step). call_ended there good s) c.replace-step.ensures.value
     ∙ call_made w w there good reads call (sym c.in_ok-call.ensures ∙ c.in-Some.is)
     (sym c.in_ok-make_call.ensures.made ∙ made) alike in
-    subst (λ (z : HostState). OnOk c.end_call.result (c.end_call.new.self ≡ z)) ends c.end_call.ensures
+    subst (λ (z : HostState). OnOk c.end_call.result (c.end_call.new.self ≡ z))
+    ends c.end_call.ensures

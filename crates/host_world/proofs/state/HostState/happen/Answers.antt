@@ -6,17 +6,20 @@ use Rattle.host_world.proofs.state.HostState.happen.Goals as goal
 pub returns-in-Want : goal.returns-in-Want
 returns-in-Want c =
     c.want.ensures c.args.stories.now c.args.budget
-    ∙ sym (ap (λ (e : Event). after c.args.stories.now c.args.budget c.args.self.now e) c.in-Want.is)
+    ∙ sym
+    (ap (λ (e : Event). after c.args.stories.now c.args.budget c.args.self.now e) c.in-Want.is)
 
 pub returns-in-Hold : goal.returns-in-Hold
 returns-in-Hold c =
     c.hold.ensures c.args.stories.now c.args.budget
-    ∙ sym (ap (λ (e : Event). after c.args.stories.now c.args.budget c.args.self.now e) c.in-Hold.is)
+    ∙ sym
+    (ap (λ (e : Event). after c.args.stories.now c.args.budget c.args.self.now e) c.in-Hold.is)
 
 pub returns-in-Free : goal.returns-in-Free
 returns-in-Free c =
     c.free.ensures c.args.stories.now c.args.budget
-    ∙ sym (ap (λ (e : Event). after c.args.stories.now c.args.budget c.args.self.now e) c.in-Free.is)
+    ∙ sym
+    (ap (λ (e : Event). after c.args.stories.now c.args.budget c.args.self.now e) c.in-Free.is)
 
 pub returns-in-Run : goal.returns-in-Run
 returns-in-Run c =
@@ -26,7 +29,8 @@ returns-in-Run c =
 pub returns-in-Recover : goal.returns-in-Recover
 returns-in-Recover c =
     c.recover.ensures c.args.stories.now c.args.budget
-    ∙ sym (ap (λ (e : Event). after c.args.stories.now c.args.budget c.args.self.now e) c.in-Recover.is)
+    ∙ sym
+    (ap (λ (e : Event). after c.args.stories.now c.args.budget c.args.self.now e) c.in-Recover.is)
 
 pub returns-in-Give : goal.returns-in-Give
 returns-in-Give c =

@@ -16,7 +16,8 @@ on_any (Err e) p = tt
 pub returns-in-Want : goal.returns-in-Want
 returns-in-Want c = record {
   value =
-      ap (λ (h : HostState). as_whole h c.args.self.now) (c.want.ensures c.args.stories.now c.args.budget)
+      ap (λ (h : HostState). as_whole h c.args.self.now)
+      (c.want.ensures c.args.stories.now c.args.budget)
       ∙ sym (ap (λ (e : WholeEvent). whole_after c.args.stories.now c.args.budget c.args.self.now e)
       c.in-Want.is);
   own =
@@ -27,7 +28,8 @@ returns-in-Want c = record {
 pub returns-in-Hold : goal.returns-in-Hold
 returns-in-Hold c = record {
   value =
-      ap (λ (h : HostState). as_whole h c.args.self.now) (c.hold.ensures c.args.stories.now c.args.budget)
+      ap (λ (h : HostState). as_whole h c.args.self.now)
+      (c.hold.ensures c.args.stories.now c.args.budget)
       ∙ sym (ap (λ (e : WholeEvent). whole_after c.args.stories.now c.args.budget c.args.self.now e)
       c.in-Hold.is);
   own =
@@ -38,7 +40,8 @@ returns-in-Hold c = record {
 pub returns-in-Free : goal.returns-in-Free
 returns-in-Free c = record {
   value =
-      ap (λ (h : HostState). as_whole h c.args.self.now) (c.free.ensures c.args.stories.now c.args.budget)
+      ap (λ (h : HostState). as_whole h c.args.self.now)
+      (c.free.ensures c.args.stories.now c.args.budget)
       ∙ sym (ap (λ (e : WholeEvent). whole_after c.args.stories.now c.args.budget c.args.self.now e)
       c.in-Free.is);
   own =
@@ -49,7 +52,8 @@ returns-in-Free c = record {
 pub returns-in-Run : goal.returns-in-Run
 returns-in-Run c = record {
   value =
-      ap (λ (h : HostState). as_whole h c.args.self.now) (c.run_turn.ensures c.args.stories.now c.args.budget)
+      ap (λ (h : HostState). as_whole h c.args.self.now)
+      (c.run_turn.ensures c.args.stories.now c.args.budget)
       ∙ sym (ap (λ (e : WholeEvent). whole_after c.args.stories.now c.args.budget c.args.self.now e)
       c.in-Run.is);
   own =

@@ -14,7 +14,9 @@ returns-in-Some-clause-value c =
       commands = c.self.inside.commands.items;
       held = c.self.inside.held;
     } in
-    let refused : first_refusal (plain_checks c.self.inside.stories.now (game_of c.self.inside.commands.items) c.args.request.now) ≡ Some c.in-Some.why = cc in
+    let refused : first_refusal (plain_checks c.self.inside.stories.now
+    (game_of c.self.inside.commands.items) c.args.request.now)
+    ≡ Some c.in-Some.why = cc in
     rw (← c.self.view_is) (plain-told desk c.args.request.now c.in-Some.why refused)
 
 pub returns-in-Some-clause-cold : goal.returns-in-Some-clause-cold

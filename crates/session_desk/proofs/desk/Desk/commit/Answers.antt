@@ -20,7 +20,8 @@ asked-requires-clause-some g c =
       held = c.self.inside.held;
     } in
     let fresh : verdict desk c.args.request.now ≡ Fresh =
-    subst (λ (d : DeskState). verdict d c.args.request.now ≡ Fresh) (sym c.self.view_is) c.requires.fresh in
+    subst (λ (d : DeskState). verdict d c.args.request.now ≡ Fresh)
+    (sym c.self.view_is) c.requires.fresh in
     let accepted = accepts desk c.args.request.now fresh in
     rw accepted.asked refl
 
@@ -34,12 +35,16 @@ write_down-requires g c =
       held = c.self.inside.held;
     } in
     let fresh : verdict desk c.args.request.now ≡ Fresh =
-    subst (λ (d : DeskState). verdict d c.args.request.now ≡ Fresh) (sym c.self.view_is) c.requires.fresh in
+    subst (λ (d : DeskState). verdict d c.args.request.now ≡ Fresh)
+    (sym c.self.view_is) c.requires.fresh in
     let accepted = accepts desk c.args.request.now fresh in
     let kept : commands_of (rows_of c.args.journal.now.entries) desk.session ≡ desk.commands =
-    subst (λ (d : DeskState). commands_of (rows_of c.args.journal.now.entries) d.session ≡ d.commands) (sym c.self.view_is) c.requires.rows in
+    subst
+    (λ (d : DeskState). commands_of (rows_of c.args.journal.now.entries) d.session ≡ d.commands)
+    (sym c.self.view_is) c.requires.rows in
     may_stand desk (rows_of c.args.journal.now.entries) c.args.request.now c.in-Ok.command accepted
-    c.in-Ok.ensures.value c.in-Ok.ensures.ranges c.self.invariant.0.numbered c.row_count-count.ensures.journal kept
+    c.in-Ok.ensures.value c.in-Ok.ensures.ranges c.self.invariant.0.numbered
+    c.row_count-count.ensures.journal kept
 
 pub invariant_of-self-in-Ok-write_down : goal.invariant_of-self-in-Ok-write_down
 invariant_of-self-in-Ok-write_down g c =
@@ -51,20 +56,28 @@ invariant_of-self-in-Ok-write_down g c =
       held = c.self.inside.held;
     } in
     let fresh : verdict desk c.args.request.now ≡ Fresh =
-    subst (λ (d : DeskState). verdict d c.args.request.now ≡ Fresh) (sym c.self.view_is) c.requires.fresh in
+    subst (λ (d : DeskState). verdict d c.args.request.now ≡ Fresh)
+    (sym c.self.view_is) c.requires.fresh in
     let accepted = accepts desk c.args.request.now fresh in
-    let more : c.take_down.new.commands.items ≡ c.self.inside.commands.items ++ c.in-Ok.command ∷ [] = cc in (
-      is_desk-committed desk c.in-Ok.command c.take_down.new.commands.items c.take_down.new.held c.self.invariant.0 accepted.room more c.take_down.ensures.held,
+    let more : c.take_down.new.commands.items
+    ≡ c.self.inside.commands.items ++ c.in-Ok.command ∷ [] = cc in (
+      is_desk-committed desk c.in-Ok.command c.take_down.new.commands.items c.take_down.new.held
+          c.self.invariant.0 accepted.room more c.take_down.ensures.held,
       c.take_down.ensures.begins,
     )
 
 pub returns-in-Ok-write_down-clause-rows : goal.returns-in-Ok-write_down-clause-rows
 returns-in-Ok-write_down-clause-rows g c =
-    let kept : commands_of (rows_of c.args.journal.now.entries) c.self.inside.session ≡ c.self.inside.commands.items =
-    subst (λ (d : DeskState). commands_of (rows_of c.args.journal.now.entries) d.session ≡ d.commands) (sym c.self.view_is) c.requires.rows in
-    let more : c.take_down.new.commands.items ≡ c.self.inside.commands.items ++ c.in-Ok.command ∷ [] = cc in
+    let kept : commands_of (rows_of c.args.journal.now.entries) c.self.inside.session
+    ≡ c.self.inside.commands.items =
+    subst
+    (λ (d : DeskState). commands_of (rows_of c.args.journal.now.entries) d.session ≡ d.commands)
+    (sym c.self.view_is) c.requires.rows in
+    let more : c.take_down.new.commands.items
+    ≡ c.self.inside.commands.items ++ c.in-Ok.command ∷ [] = cc in
     rw (c.in-Ok-write_down.ensures.rows, more)
-    (kept-more (rows_of c.args.journal.now.entries) c.self.inside.session c.in-Ok.command c.self.inside.commands.items kept)
+    (kept-more (rows_of c.args.journal.now.entries)
+    c.self.inside.session c.in-Ok.command c.self.inside.commands.items kept)
 
 pub returns-in-Ok-write_down-clause-runs : goal.returns-in-Ok-write_down-clause-runs
 returns-in-Ok-write_down-clause-runs g c =
@@ -76,7 +89,10 @@ returns-in-Ok-write_down-clause-runs g c =
       held = c.self.inside.held;
     } in
     let fresh : verdict desk c.args.request.now ≡ Fresh =
-    subst (λ (d : DeskState). verdict d c.args.request.now ≡ Fresh) (sym c.self.view_is) c.requires.fresh in
+    subst (λ (d : DeskState). verdict d c.args.request.now ≡ Fresh)
+    (sym c.self.view_is) c.requires.fresh in
     let accepted = accepts desk c.args.request.now fresh in
-    let more : c.take_down.new.commands.items ≡ c.self.inside.commands.items ++ c.in-Ok.command ∷ [] = cc in
-    rw (more, c.take_down.ensures.held) (to_run desk c.args.request.now c.in-Ok.command fresh accepted c.in-Ok.ensures.value)
+    let more : c.take_down.new.commands.items
+    ≡ c.self.inside.commands.items ++ c.in-Ok.command ∷ [] = cc in
+    rw (more, c.take_down.ensures.held)
+    (to_run desk c.args.request.now c.in-Ok.command fresh accepted c.in-Ok.ensures.value)

@@ -18,28 +18,36 @@ shown_after-requires-clause-warm g c =
 
 pub returns-in-Ok-clause-turn : goal.returns-in-Ok-clause-turn
 returns-in-Ok-clause-turn g c =
-    fresh-shown c.args.request.now c.args.by c.args.self.now c.commit.new.self c.shown_after.new.self c.shown_after.result
-    (c.shows_fresh.ensures c.args.self.now.desk c.args.request.now c.requires.fresh) c.in-Ok.ensures.ok c.shown_after.ensures.value c.shown_after.ensures.rests
+    fresh-shown c.args.request.now c.args.by c.args.self.now c.commit.new.self
+    c.shown_after.new.self c.shown_after.result
+    (c.shows_fresh.ensures c.args.self.now.desk c.args.request.now c.requires.fresh)
+    c.in-Ok.ensures.ok c.shown_after.ensures.value c.shown_after.ensures.rests
 
 pub returns-in-Ok-clause-journal : goal.returns-in-Ok-clause-journal
 returns-in-Ok-clause-journal g c =
-    fresh-goes c.args.request.now c.args.by c.args.self.now c.commit.new.self c.shown_after.new.self c.shown_after.result
-    (c.shows_fresh.ensures c.args.self.now.desk c.args.request.now c.requires.fresh) c.in-Ok.ensures.journal c.shown_after.ensures.value c.shown_after.ensures.rests
+    fresh-goes c.args.request.now c.args.by c.args.self.now c.commit.new.self
+    c.shown_after.new.self c.shown_after.result
+    (c.shows_fresh.ensures c.args.self.now.desk c.args.request.now c.requires.fresh)
+    c.in-Ok.ensures.journal c.shown_after.ensures.value c.shown_after.ensures.rests
 
 pub returns-in-Err-DiskFault-clause-journal : goal.returns-in-Err-DiskFault-clause-journal
 returns-in-Err-DiskFault-clause-journal g c =
     let f = c.shows_fresh.ensures c.args.self.now.desk c.args.request.now c.requires.fresh in
-    let accepted : (decision_by_desk c.args.self.now.desk c.args.request.now).accepted ≡ Some f.0 = ap (λ (d : Decision). d.accepted) f.2 in
+    let accepted : (decision_by_desk c.args.self.now.desk c.args.request.now).accepted ≡ Some f.0 =
+    ap (λ (d : Decision). d.accepted) f.2 in
     let fault = c.in-Err-DiskFault.field-0-0 in
     let on = rw c.in-Err-DiskFault.field-0-is at (c.in-Err-DiskFault.ensures.journal f.0 f.1) in
     rw c.in-Err-DiskFault.field-0-0-is
-    (subst (λ (a : Option Command). GoesOn c.args.self.now.desk.session a (DiskFailed fault.from fault.to) (seen c.args.self.now.pass) (seen c.commit.new.self.pass))
+    (subst (λ (a : Option Command). GoesOn c.args.self.now.desk.session a
+    (DiskFailed fault.from fault.to) (seen c.args.self.now.pass) (seen c.commit.new.self.pass))
     (sym accepted) on)
 
 pub returns-in-Err-NoMemory-clause-journal : goal.returns-in-Err-NoMemory-clause-journal
 returns-in-Err-NoMemory-clause-journal g c =
     let f = c.shows_fresh.ensures c.args.self.now.desk c.args.request.now c.requires.fresh in
-    let accepted : (decision_by_desk c.args.self.now.desk c.args.request.now).accepted ≡ Some f.0 = ap (λ (d : Decision). d.accepted) f.2 in
+    let accepted : (decision_by_desk c.args.self.now.desk c.args.request.now).accepted ≡ Some f.0 =
+    ap (λ (d : Decision). d.accepted) f.2 in
     let on = rw c.in-Err-NoMemory.field-0-is at (c.in-Err-NoMemory.ensures.journal f.0 f.1) in
     rw c.out_of_memory.ensures
-    (subst (λ (a : Option Command). GoesOn c.args.self.now.desk.session a OutOfMemory (seen c.args.self.now.pass) (seen c.commit.new.self.pass)) (sym accepted) on)
+    (subst (λ (a : Option Command). GoesOn c.args.self.now.desk.session a OutOfMemory
+    (seen c.args.self.now.pass) (seen c.commit.new.self.pass)) (sym accepted) on)

@@ -5,4 +5,5 @@ use Rattle.session_desk.proofs.shared.SharedDesk.answer.Goals as goal
 
 pub returns-clause-commands : goal.returns-clause-commands
 returns-clause-commands g c =
-    subst (λ (s : SharedState g.row.D.Denot). commands_in s.history ≡ s.desk.commands) c.self.view_is c.self.invariant.marked.commands
+    subst (λ (s : SharedState g.row.D.Denot). commands_in s.history ≡ s.desk.commands)
+    c.self.view_is c.self.invariant.marked.commands

@@ -12,6 +12,9 @@ returns g c =
         commands = c.self.invariant.marked.commands;
         entries = c.self.invariant.marked.entries;
       };
-      store = ends_store g.D.Disk.tells g.D.Disk.seen g.D.Disk.room g.D.Disk.label g.D.Disk.faults g.D.Disk.reach g.D.Disk.may_leave c.self.inside.marks.items c.self.inside.place _ c.self.invariant
+      store =
+          ends_store g.D.Disk.tells g.D.Disk.seen g.D.Disk.room g.D.Disk.label g.D.Disk.faults
+          g.D.Disk.reach g.D.Disk.may_leave c.self.inside.marks.items c.self.inside.place _
+          c.self.invariant
           (rw c.into_store-store.ensures.value at c.is_made-made.ensures.images);
     })

@@ -15,6 +15,9 @@ invariant_of-self g c =
       store = c.self.inside.store.value;
       rows = rows_of (seen c.self.inside.first.value);
     } in
-    whole-kept g.D.Disk.tells g.D.Disk.seen g.D.Disk.room g.D.Disk.label g.D.Disk.faults g.D.Disk.reach c.self.inside.marks.items c.self.inside.place old
-    c.keep.new.self c.self.invariant c.keep.ensures.kept c.keep.ensures.counts c.keep.ensures.reach c.in-Some.place c.inputs.result c.in-Some-world.world.now
-    c.in-Some.is c.inputs.ensures c.in-Some-world.ensures c.keep.ensures.kept_up c.keep.ensures.agreed
+    whole-kept g.D.Disk.tells g.D.Disk.seen g.D.Disk.room g.D.Disk.label g.D.Disk.faults
+    g.D.Disk.reach c.self.inside.marks.items c.self.inside.place old
+    c.keep.new.self c.self.invariant c.keep.ensures.kept c.keep.ensures.counts
+    c.keep.ensures.reach c.in-Some.place c.inputs.result c.in-Some-world.world.now
+    c.in-Some.is c.inputs.ensures c.in-Some-world.ensures c.keep.ensures.kept_up
+    c.keep.ensures.agreed

@@ -5,18 +5,30 @@ use Rattle.session_desk.proofs.shared.SharedDesk.open.Goals as goal
 
 pub invariant_of-result : goal.invariant_of-result
 invariant_of-result g c =
-    let all : c.in_ok-marks.marks.items ≡ replicate (length c.in_ok-desk.desk.commands) (marks.Accepted 0) =
-    c.in_ok-marks.ensures.items_if_clones_equal (λ y is. is) ∙ ap (λ (n : ℕ). replicate n (marks.Accepted 0)) (omega (arith, c.len.ensures)) in
-    (whole-open g.D.Disk.tells g.D.Disk.seen g.D.Disk.room g.D.Disk.label g.D.Disk.faults g.D.Disk.reach c.in_ok-marks.marks.items c.last_open-place.result
-    c.in_ok-desk.desk c.args.session c.args.stories.now c.args.budget c.args.rows.now c.args.pass c.open-saves.result c.of-given.result.value c.of-first.result.value c.args.store
-    all c.in_ok-desk.ensures.value c.requires.pass c.requires.rows c.last_open-place.ensures c.open-saves.ensures.value c.of-given.ensures c.of-first.ensures).0
+    let all : c.in_ok-marks.marks.items
+    ≡ replicate (length c.in_ok-desk.desk.commands) (marks.Accepted 0) =
+    c.in_ok-marks.ensures.items_if_clones_equal (λ y is. is)
+    ∙ ap (λ (n : ℕ). replicate n (marks.Accepted 0)) (omega (arith, c.len.ensures)) in
+    (whole-open g.D.Disk.tells g.D.Disk.seen g.D.Disk.room g.D.Disk.label g.D.Disk.faults
+    g.D.Disk.reach c.in_ok-marks.marks.items c.last_open-place.result
+    c.in_ok-desk.desk c.args.session c.args.stories.now c.args.budget c.args.rows.now
+    c.args.pass c.open-saves.result c.of-given.result.value c.of-first.result.value c.args.store
+    all c.in_ok-desk.ensures.value c.requires.pass c.requires.rows c.last_open-place.ensures
+    c.open-saves.ensures.value c.of-given.ensures c.of-first.ensures).0
 
 pub returns : goal.returns
 returns g c =
-    let all : c.in_ok-marks.marks.items ≡ replicate (length c.in_ok-desk.desk.commands) (marks.Accepted 0) =
-    c.in_ok-marks.ensures.items_if_clones_equal (λ y is. is) ∙ ap (λ (n : ℕ). replicate n (marks.Accepted 0)) (omega (arith, c.len.ensures)) in
+    let all : c.in_ok-marks.marks.items
+    ≡ replicate (length c.in_ok-desk.desk.commands) (marks.Accepted 0) =
+    c.in_ok-marks.ensures.items_if_clones_equal (λ y is. is)
+    ∙ ap (λ (n : ℕ). replicate n (marks.Accepted 0)) (omega (arith, c.len.ensures)) in
     record {
-      value = (whole-open g.D.Disk.tells g.D.Disk.seen g.D.Disk.room g.D.Disk.label g.D.Disk.faults g.D.Disk.reach c.in_ok-marks.marks.items c.last_open-place.result
-          c.in_ok-desk.desk c.args.session c.args.stories.now c.args.budget c.args.rows.now c.args.pass c.open-saves.result c.of-given.result.value c.of-first.result.value c.args.store
-          all c.in_ok-desk.ensures.value c.requires.pass c.requires.rows c.last_open-place.ensures c.open-saves.ensures.value c.of-given.ensures c.of-first.ensures).1;
+      value =
+          (whole-open g.D.Disk.tells g.D.Disk.seen g.D.Disk.room g.D.Disk.label g.D.Disk.faults
+          g.D.Disk.reach c.in_ok-marks.marks.items c.last_open-place.result
+          c.in_ok-desk.desk c.args.session c.args.stories.now c.args.budget c.args.rows.now
+          c.args.pass c.open-saves.result c.of-given.result.value c.of-first.result.value
+          c.args.store
+          all c.in_ok-desk.ensures.value c.requires.pass c.requires.rows c.last_open-place.ensures
+          c.open-saves.ensures.value c.of-given.ensures c.of-first.ensures).1;
     }

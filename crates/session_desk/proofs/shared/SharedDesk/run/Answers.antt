@@ -16,5 +16,6 @@ invariant_of-self g c =
       store = c.self.inside.store.value;
       rows = rows_of (seen c.self.inside.first.value);
     } in
-    whole-run g.D.Disk.tells g.D.Disk.seen g.D.Disk.room g.D.Disk.label g.D.Disk.faults g.D.Disk.reach c.self.inside.marks.items c.self.inside.place old
+    whole-run g.D.Disk.tells g.D.Disk.seen g.D.Disk.room g.D.Disk.label g.D.Disk.faults
+    g.D.Disk.reach c.self.inside.marks.items c.self.inside.place old
     c.run.new.self c.run.result c.self.invariant refl c.run.ensures.ok c.run.ensures.err

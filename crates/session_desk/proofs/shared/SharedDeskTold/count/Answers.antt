@@ -7,5 +7,6 @@ pub returns : goal.returns
 returns g c =
     let size : c.len.result ≡ length c.self.inside.marks.items = search rules in
     size
-    ∙ sym (length-woven c.self.inside.marks.items c.self.inside.desk.commands c.self.invariant.marked.counted)
+    ∙ sym (length-woven c.self.inside.marks.items c.self.inside.desk.commands
+    c.self.invariant.marked.counted)
     ∙ ap (λ (s : SharedState g.row.D.Denot). length s.history) c.self.view_is

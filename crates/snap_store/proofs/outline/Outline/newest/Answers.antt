@@ -13,12 +13,14 @@ both :
     → (is_open_area A file && is_wanted_area place most (area_on_side A file)) ≡ true
     → (is_open_area B file && is_wanted_area place most (area_on_side B file)) ≡ true
     → nat_lt (area_on_side A file).count (area_on_side B file).count ≡ later
-    → Some (if later then area_on_side B file else area_on_side A file) ≡ newest_area place most file
+    → Some (if later then area_on_side B file else area_on_side A file)
+    ≡ newest_area place most file
 both place most file later a b is =
     let x = area_on_side A file in
     let y = area_on_side B file in
     sym (
-    choice_is (is_open_area A file) (is_wanted_area place most x) (is_open_area B file) (is_wanted_area place most y) x y (is_wanted_area place most) refl refl
+    choice_is (is_open_area A file) (is_wanted_area place most x) (is_open_area B file)
+    (is_wanted_area place most y) x y (is_wanted_area place most) refl refl
     ∙ ap (λ (t : Bool). choice t (is_open_area B file && is_wanted_area place most y) x y) a
     ∙ ap (λ (t : Bool). choice true t x y) b
     ∙ ap (λ (t : Bool). Some (if t then y else x)) is
@@ -30,7 +32,8 @@ returns-then-self-clause-value c file is =
     let a : c.args.self.now.a.count ≡ count_at A file = ap (λ (o : Outline). o.a.count) is in
     let b : c.args.self.now.b.count ≡ count_at B file = ap (λ (o : Outline). o.b.count) is in
     let later : nat_lt (count_at A file) (count_at B file) ≡ true = grind (arith, nat_tests) in
-    both c.args.place c.args.most file true (sym (c.in-true-true.ensures file is)) (sym (c.in-true-true.ensures' file is)) later
+    both c.args.place c.args.most file true (sym (c.in-true-true.ensures file is))
+    (sym (c.in-true-true.ensures' file is)) later
 
 pub returns-else-self-clause-value : goal.returns-else-self-clause-value
 unfolding area_on_side
@@ -38,4 +41,5 @@ returns-else-self-clause-value c file is =
     let a : c.args.self.now.a.count ≡ count_at A file = ap (λ (o : Outline). o.a.count) is in
     let b : c.args.self.now.b.count ≡ count_at B file = ap (λ (o : Outline). o.b.count) is in
     let later : nat_lt (count_at A file) (count_at B file) ≡ false = grind (arith, nat_tests) in
-    both c.args.place c.args.most file false (sym (c.in-true-true.ensures file is)) (sym (c.in-true-true.ensures' file is)) later
+    both c.args.place c.args.most file false (sym (c.in-true-true.ensures file is))
+    (sym (c.in-true-true.ensures' file is)) later

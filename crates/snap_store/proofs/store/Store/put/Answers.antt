@@ -23,7 +23,8 @@ returns-in_default-clause-images g c =
     let made = c.if-not-self.false in
     let step = c.in_default.ensures.err in
     let found = step.2 _ _ (laid_before stays c.self.invariant made put) in
-    sound_images _ _ _ _ (sound_after stays c.self.invariant made put c.replace.ensures.ran.same.telling step.1 found.2)
+    sound_images _ _ _ _
+    (sound_after stays c.self.invariant made put c.replace.ensures.ran.same.telling step.1 found.2)
 
 pub returns-in_default-clause-crash : goal.returns-in_default-clause-crash
 returns-in_default-clause-crash g c =
@@ -38,7 +39,8 @@ returns-in_default-clause-beside g c =
     let made = c.if-not-self.false in
     let step = c.in_default.ensures.err in
     let found = step.2 _ _ (laid_before stays c.self.invariant made put) in
-    beside_after stays c.self.invariant made put c.replace.ensures.ran.same.telling step.1 found.2 c.self.view_is
+    beside_after stays c.self.invariant made put c.replace.ensures.ran.same.telling step.1
+    found.2 c.self.view_is
 
 pub returns-in_default-clause-taken : goal.returns-in_default-clause-taken
 returns-in_default-clause-taken g c =
@@ -47,7 +49,8 @@ returns-in_default-clause-taken g c =
     let made = c.if-not-self.false in
     let step = c.in_default.ensures.err in
     let found = step.2 _ _ (laid_before stays c.self.invariant made put) in
-    left_after stays c.self.invariant made put c.replace.ensures.ran.same.telling step.1 found.2 c.self.view_is found.1
+    left_after stays c.self.invariant made put c.replace.ensures.ran.same.telling step.1
+    found.2 c.self.view_is found.1
 
 -- it was done
 pub invariant_of-self-2 : goal.invariant_of-self-2
@@ -68,7 +71,8 @@ returns-clause-images g c =
     let telling = c.replace.ensures.ran.same.telling in
     let laid = images_after telling (c.in-Ok.ensures.triple _ _)
     (laid_before stays c.self.invariant made put) in
-    sound_images _ _ _ _ (sound_after stays c.self.invariant made put telling c.in-Ok.ensures.ok laid)
+    sound_images _ _ _ _
+    (sound_after stays c.self.invariant made put telling c.in-Ok.ensures.ok laid)
 
 pub returns-clause-crash : goal.returns-clause-crash
 returns-clause-crash g c =
@@ -94,7 +98,8 @@ returns-clause-taken g c =
     let telling = c.replace.ensures.ran.same.telling in
     let laid = images_after telling (c.in-Ok.ensures.triple _ _)
     (laid_before stays c.self.invariant made put) in
-    put_after stays c.self.invariant made put telling c.in-Ok.ensures.ok laid c.self.view_is refl refl
+    put_after stays c.self.invariant made put telling c.in-Ok.ensures.ok laid
+    c.self.view_is refl refl
 
 pub returns-clause-durable : goal.returns-clause-durable
 returns-clause-durable g c =
@@ -104,4 +109,5 @@ returns-clause-durable g c =
     let telling = c.replace.ensures.ran.same.telling in
     let laid = images_after telling (c.in-Ok.ensures.triple _ _)
     (laid_before stays c.self.invariant made put) in
-    opened_after stays c.self.invariant made put telling c.in-Ok.ensures.ok laid c.self.view_is refl refl
+    opened_after stays c.self.invariant made put telling c.in-Ok.ensures.ok laid
+    c.self.view_is refl refl

@@ -13,7 +13,10 @@ hold-requires c = record {
   machine = rw c.lend-image.ensures.value c.in-Some.ensures.kept;
   glk = subst (StandsAt c.in-Some.stage) (sym c.begin_turn.ensures)
       (begun-stage c.in-Some.stage c.args.fields.glk
-      (stands-of c.in-Some.stage c.args.fields.glk c.requires (subst (λ (a : Called). WaitsFor a c.args.fields.glk) c.answer.ensures
+      (stands-of c.in-Some.stage c.args.fields.glk c.requires
+      (subst (λ (a : Called). WaitsFor a c.args.fields.glk) c.answer.ensures
       (c.waits_for.ensures.0 (search rules)))));
-  begun = subst (λ (g : Glk). turn_begun g ≡ g) (sym c.begin_turn.ensures) (begun-again c.args.fields.glk);
+  begun =
+      subst (λ (g : Glk). turn_begun g ≡ g) (sym c.begin_turn.ensures)
+      (begun-again c.args.fields.glk);
 }

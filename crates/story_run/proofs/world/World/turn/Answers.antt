@@ -12,6 +12,8 @@ resume-requires-clause-awaited g c =
 pub rest-requires-clause-machine : goal.rest-requires-clause-machine
 rest-requires-clause-machine g c =
     c.in_ok-stage-in-AtSelect.ensures.kept c.into_inner-image.result.seed
-    (seed-of c.into_inner-image.result.image c.into_inner-image.result.seed c.into_inner-image.result.stage c.in-AtSelect.machine
-    (subst (λ (x : Held). IsStageOf x.image x.seed x.stage) (sym c.into_inner-image.ensures) c.self.invariant.machine)
+    (seed-of c.into_inner-image.result.image c.into_inner-image.result.seed
+    c.into_inner-image.result.stage c.in-AtSelect.machine
+    (subst (λ (x : Held). IsStageOf x.image x.seed x.stage)
+    (sym c.into_inner-image.ensures) c.self.invariant.machine)
     c.in-AtSelect.is)

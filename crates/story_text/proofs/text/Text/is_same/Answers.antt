@@ -6,4 +6,5 @@ use Rattle.story_text.proofs.text.Text.is_same.Goals as goal
 pub returns : goal.returns
 returns c =
     c.eq.ensures
-    ∙ bytes_eq-views _ _ _ _ (IsUtf8-string_bytes c.self.inside.utf8) (IsUtf8-string_bytes c.other.inside.utf8) c.self.view_is c.other.view_is
+    ∙ bytes_eq-views _ _ _ _ (IsUtf8-string_bytes c.self.inside.utf8)
+    (IsUtf8-string_bytes c.other.inside.utf8) c.self.view_is c.other.view_is

@@ -9,31 +9,62 @@ use Rattle.turn_cell.proofs.StepLemmas.{learns}
 use Rattle.turn_cell.proofs.cell.Cell.join.Goals as goal
 
 pub join_seat-requires : goal.join_seat-requires
-join_seat-requires g c = let o = c.args.other.known in
-    (c.requires.cell.0, c.requires.cell.1, c.requires.outside.1.1, omega (arith, c.args.self.now.sized.0), joins g.T.Told.entries g.T.Told.by g.T.Told.tag _ _ _ _ _ c.requires.outside.0.0 c.requires.outside.1.0 (λ h. c.requires.other (o.numbered.0 ∙ o.numbered.1.2 h)))
+join_seat-requires g c = let o = c.args.other.known in (
+  c.requires.cell.0,
+  c.requires.cell.1,
+  c.requires.outside.1.1,
+  omega (arith, c.args.self.now.sized.0),
+  joins g.T.Told.entries g.T.Told.by g.T.Told.tag _ _ _ _ _ c.requires.outside.0.0
+      c.requires.outside.1.0 (λ h. c.requires.other (o.numbered.0 ∙ o.numbered.1.2 h)),
+)
 
 pub load-requires : goal.load-requires
-load-requires g c = let t = c.join_seat.ensures in
-    (t.0 ∙ c.requires.cell.0, omega (arith, c.args.self.now.sized.0), learns g.T.Told.entries g.T.Told.by g.T.Told.tag _ _ _ (step 0 0 0 0 none) _ _ _ _ _ (ap (λ m. m.0.stage) t.2))
+load-requires g c = let t = c.join_seat.ensures in (
+  t.0 ∙ c.requires.cell.0,
+  omega (arith, c.args.self.now.sized.0),
+  learns g.T.Told.entries g.T.Told.by g.T.Told.tag _ _ _ (step 0 0 0 0 none) _ _ _ _ _
+      (ap (λ m. m.0.stage) t.2),
+)
 
 pub invariant_of-known : goal.invariant_of-known
 invariant_of-known g c = let p = c.args.pass.now.known in let o = c.args.other.known in
-    let k = learn_end g.T.Told.by p.place.me _ _ o.place.me.0 c.join_seat.ensures.2 c.requires.outside.0.1 c.load.ensures.2 in record {
-      numbered = (p.numbered.0 ∙ ap (λ m. m.0.number) (sym k.0), joined_numbered p.place.me.0 o.place.me.0 _ (ap (λ m. m.0) k.0) p.numbered.1 o.numbered.1 (λ e. c.requires.other (o.numbered.0 ∙ e)));
+    let k =
+    learn_end g.T.Told.by p.place.me _ _ o.place.me.0 c.join_seat.ensures.2 c.requires.outside.0.1
+    c.load.ensures.2 in
+    record {
+      numbered = (
+        p.numbered.0 ∙ ap (λ m. m.0.number) (sym k.0),
+        joined_numbered p.place.me.0 o.place.me.0 _ (ap (λ m. m.0) k.0) p.numbered.1 o.numbered.1
+            (λ e. c.requires.other (o.numbered.0 ∙ e)),
+      );
       tagged = subst IsSome (ap (λ m. m.0.sample) (sym k.0)) p.tagged;
       counted = (
         p.counted.0 ∙ ap (λ m. m.0.made) (sym k.0),
-        o.counted.1 ∙ (sym (longer_right p.place.me.0.seen o.place.me.0.seen (omega (arith, c.if-count-known.true, p.counted.1, o.counted.1))) ∙ ap (λ m. length m.0.seen) (sym k.0)),
+        o.counted.1
+            ∙ (sym (longer_right p.place.me.0.seen o.place.me.0.seen
+            (omega (arith, c.if-count-known.true, p.counted.1, o.counted.1)))
+            ∙ ap (λ m. length m.0.seen) (sym k.0)),
       );
     }
 
 pub invariant_of-known-else-count-known : goal.invariant_of-known-else-count-known
-invariant_of-known-else-count-known g c = let p = c.args.pass.now.known in let o = c.args.other.known in
-    let k = learn_end g.T.Told.by p.place.me _ _ o.place.me.0 c.join_seat.ensures.2 c.requires.outside.0.1 c.load.ensures.2 in record {
-      numbered = (p.numbered.0 ∙ ap (λ m. m.0.number) (sym k.0), joined_numbered p.place.me.0 o.place.me.0 _ (ap (λ m. m.0) k.0) p.numbered.1 o.numbered.1 (λ e. c.requires.other (o.numbered.0 ∙ e)));
+invariant_of-known-else-count-known g c =
+    let p = c.args.pass.now.known in let o = c.args.other.known in
+    let k =
+    learn_end g.T.Told.by p.place.me _ _ o.place.me.0 c.join_seat.ensures.2 c.requires.outside.0.1
+    c.load.ensures.2 in
+    record {
+      numbered = (
+        p.numbered.0 ∙ ap (λ m. m.0.number) (sym k.0),
+        joined_numbered p.place.me.0 o.place.me.0 _ (ap (λ m. m.0) k.0) p.numbered.1 o.numbered.1
+            (λ e. c.requires.other (o.numbered.0 ∙ e)),
+      );
       tagged = subst IsSome (ap (λ m. m.0.sample) (sym k.0)) p.tagged;
       counted = (
         p.counted.0 ∙ ap (λ m. m.0.made) (sym k.0),
-        p.counted.1 ∙ (sym (longer_left p.place.me.0.seen o.place.me.0.seen (omega (arith, c.if-count-known.false, p.counted.1, o.counted.1))) ∙ ap (λ m. length m.0.seen) (sym k.0)),
+        p.counted.1
+            ∙ (sym (longer_left p.place.me.0.seen o.place.me.0.seen
+            (omega (arith, c.if-count-known.false, p.counted.1, o.counted.1)))
+            ∙ ap (λ m. length m.0.seen) (sym k.0)),
       );
     }

@@ -8,5 +8,7 @@ use Rattle.vm_exec.proofs.machine.Machine.binarysearch.Goals as goal
 pub returns-clause-does : goal.returns-clause-does
 returns-clause-does c =
     subst (λ (r : Result (Machine × Done) ℕ). Does r c.put_found.new.self c.put_found.result)
-    (sym (binary_of c.args.left c.args.self.now (slice_index c.args.args.now) c.args.to c.query_of-query.result c.binary-found.result c.query_of-query.ensures c.binary-found.ensures.value))
+    (sym (binary_of c.args.left c.args.self.now
+    (slice_index c.args.args.now) c.args.to c.query_of-query.result c.binary-found.result
+    c.query_of-query.ensures c.binary-found.ensures.value))
     c.put_found.ensures.does

@@ -12,6 +12,10 @@ returns-clause-does c =
     let m = c.load_all.new.self in
     subst
     (λ (w : Result Work ℕ). Does (step_within c.args.left (charged w)) c.run.new.self c.run.result)
-    (ap (λ (op : Option Op). Ok (work_of op (record m { pc = i.next }) c.load_all.new.args i.stores.items)) c.of-op.ensures.value
-    ∙ fetched_is c.args.self.now i (m, c.load_all.new.args) c.width_of.result (c.width_of.ensures.value ∙ ap width_of c.of-op.ensures.value) c.in_ok-instr.ensures.value c.in_ok-load_all.ensures.does)
+    (ap (λ (op : Option Op).
+    Ok (work_of op (record m { pc = i.next }) c.load_all.new.args i.stores.items))
+    c.of-op.ensures.value
+    ∙ fetched_is c.args.self.now i (m, c.load_all.new.args) c.width_of.result
+    (c.width_of.ensures.value ∙ ap width_of c.of-op.ensures.value)
+    c.in_ok-instr.ensures.value c.in_ok-load_all.ensures.does)
     c.run.ensures.does

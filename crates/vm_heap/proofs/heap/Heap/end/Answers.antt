@@ -7,19 +7,25 @@ use Rattle.vm_heap.proofs.heap.Heap.end.Goals as goal
 pub overflow_add-result : goal.overflow_add-result
 overflow_add-result c =
     let heap : IsTrue (is_heap c.self.inside.start c.as_slice.result.now) = search rules in
-    let last : block_end (get_or c.as_slice.result.now (length c.as_slice.result.now - 1) none) ≤ 16777216 = last_end c.self.inside.start c.as_slice.result.now heap c.in-len1-up.len_at_least in
+    let last : block_end (get_or c.as_slice.result.now (length c.as_slice.result.now - 1) none)
+    ≤ 16777216 =
+    last_end c.self.inside.start c.as_slice.result.now heap c.in-len1-up.len_at_least in
     search rules
 
 pub overflow_add-result-in-len1-up : goal.overflow_add-result-in-len1-up
 overflow_add-result-in-len1-up c =
     let heap : IsTrue (is_heap c.self.inside.start c.as_slice.result.now) = search rules in
-    let last : block_end (get_or c.as_slice.result.now (length c.as_slice.result.now - 1) none) ≤ 16777216 = last_end c.self.inside.start c.as_slice.result.now heap c.in-len1-up.len_at_least in
+    let last : block_end (get_or c.as_slice.result.now (length c.as_slice.result.now - 1) none)
+    ≤ 16777216 =
+    last_end c.self.inside.start c.as_slice.result.now heap c.in-len1-up.len_at_least in
     search rules
 
 pub overflow_mul-result : goal.overflow_mul-result
 overflow_mul-result c =
     let heap : IsTrue (is_heap c.self.inside.start c.as_slice.result.now) = search rules in
-    let last : block_end (get_or c.as_slice.result.now (length c.as_slice.result.now - 1) none) ≤ 16777216 = last_end c.self.inside.start c.as_slice.result.now heap c.in-len1-up.len_at_least in
+    let last : block_end (get_or c.as_slice.result.now (length c.as_slice.result.now - 1) none)
+    ≤ 16777216 =
+    last_end c.self.inside.start c.as_slice.result.now heap c.in-len1-up.len_at_least in
     search rules
 
 pub returns-in-len1-up : goal.returns-in-len1-up
@@ -29,7 +35,10 @@ returns-in-len1-up c = record {
       sym (heap_end-last c.as_slice.result.now c.in-len1-up.len_at_least) ∙ ap heap_end same;
   within =
       let heap : IsTrue (is_heap c.self.inside.start c.as_slice.result.now) = search rules in
-      let last : block_end (get_or c.as_slice.result.now (length c.as_slice.result.now - 1) none) ≤ 16777216 = last_end c.self.inside.start c.as_slice.result.now heap c.in-len1-up.len_at_least in
-      rounded_within (block_end (get_or c.as_slice.result.now (length c.as_slice.result.now - 1) none)) last;
+      let last : block_end (get_or c.as_slice.result.now (length c.as_slice.result.now - 1) none)
+      ≤ 16777216 =
+      last_end c.self.inside.start c.as_slice.result.now heap c.in-len1-up.len_at_least in
+      rounded_within
+      (block_end (get_or c.as_slice.result.now (length c.as_slice.result.now - 1) none)) last;
   heap = search rules;
 }

@@ -6,8 +6,10 @@ use Rattle.vm_heap.proofs.heap.Heap.free.Goals as goal
 
 pub invariant_of-self-else-is_empty : goal.invariant_of-self-else-is_empty
 invariant_of-self-else-is_empty c =
-    is_heap-without c.args.at c.self.inside.start c.self.inside.blocks.items c.remove.new.self.items c.self.invariant
+    is_heap-without c.args.at c.self.inside.start c.self.inside.blocks.items
+    c.remove.new.self.items c.self.invariant
     (c.remove.ensures.by_index.2
-    ∙ sym (subst (λ xs. blocks_without c.args.at xs ≡ take c.in-Some.index xs ++ drop (c.in-Some.index + 1) xs)
+    ∙ sym (subst
+    (λ xs. blocks_without c.args.at xs ≡ take c.in-Some.index xs ++ drop (c.in-Some.index + 1) xs)
     c.deref.ensures.value c.in-Some.ensures.others))
     (grind (arith, common_steps))

@@ -7,4 +7,6 @@ pub returns-clause-found : goal.returns-clause-found
 returns-clause-found c = λ o e. c.lookup.ensures.value ∙ ap op_of (sym e) ∙ op_of-number_of o
 
 pub returns-clause-only : goal.returns-clause-only
-returns-clause-only c = subst (λ r. IfSome r (λ o. opcode_number o ≡ c.args.number)) (sym c.lookup.ensures.value) (number_of-op_of c.args.number)
+returns-clause-only c =
+    subst (λ r. IfSome r (λ o. opcode_number o ≡ c.args.number)) (sym c.lookup.ensures.value)
+    (number_of-op_of c.args.number)

@@ -9,8 +9,10 @@ invariant_of-self c =
     let i = c.self.invariant in
     let d = c.deref_mut.ensures in
     let p = c.append.ensures in
-    let fits : s.len + length c.args.new.now ≤ length s.buf.items = grind (arith, common_steps, c.requires, c.self.view_is) in
-    closed s.buf.items c.deref_mut.result.now c.append.new.buf _ s.buf.len (s.len + length c.args.new.now)
+    let fits : s.len + length c.args.new.now ≤ length s.buf.items =
+    grind (arith, common_steps, c.requires, c.self.view_is) in
+    closed s.buf.items c.deref_mut.result.now c.append.new.buf _ s.buf.len
+    (s.len + length c.args.new.now)
     s.frame s.head d.value d.len p.size fits i.1.0
     (p.bytes ∙ ap (λ (xs : List ℕ). take s.len xs ++ c.args.new.now) d.value)
     (head_below (take s.len s.buf.items) c.args.new.now s.frame s.head i.1.1)

@@ -7,7 +7,8 @@ pub returns-then-start-bytes-clause-found : goal.returns-then-start-bytes-clause
 returns-then-start-bytes-clause-found c = λ chain has.
     let top = chain_down c.args.self.now chain has in
     let inside = top.inside in
-    let same : length c.live-bytes.result.now ≡ length c.args.self.now.bytes = ap length c.live-bytes.ensures.bytes in
+    let same : length c.live-bytes.result.now ≡ length c.args.self.now.bytes =
+    ap length c.live-bytes.ensures.bytes in
     let place = c.frame-start.ensures in
     let out = c.if-start-bytes.true in
     absurd (omega (arith, inside, same, place, out))
@@ -16,23 +17,29 @@ pub returns-then-not-is_frame-clause-found : goal.returns-then-not-is_frame-clau
 returns-then-not-is_frame-clause-found c = λ chain has.
     sym c.if-not-is_frame.true
     ∙ c.is_frame.ensures.found
-    (framed_top c.args.self.now c.live-bytes.result.now c.frame-start.result c.live-bytes.ensures.bytes c.frame-start.ensures chain has)
+    (framed_top c.args.self.now c.live-bytes.result.now c.frame-start.result
+    c.live-bytes.ensures.bytes c.frame-start.ensures chain has)
 
 pub returns-then-start-eq0-clause-only : goal.returns-then-start-eq0-clause-only
 returns-then-start-eq0-clause-only c = λ yes.
     let inside = c.if-start-bytes.false in
     let zero = c.if-start-eq0.true in
-    let short = length-take-le c.frame-start.result c.live-bytes.result.now (omega (arith, inside)) in
-    framed_up c.args.self.now c.live-bytes.result.now c.frame-start.result c.live-bytes.ensures.bytes c.frame-start.ensures c.if-start-bytes.false
-    (c.is_frame.ensures.only c.if-not-is_frame.false) (no_frames (take c.frame-start.result c.live-bytes.result.now) (omega (arith, short, zero)))
+    let short =
+    length-take-le c.frame-start.result c.live-bytes.result.now (omega (arith, inside)) in
+    framed_up c.args.self.now c.live-bytes.result.now c.frame-start.result
+    c.live-bytes.ensures.bytes c.frame-start.ensures c.if-start-bytes.false
+    (c.is_frame.ensures.only c.if-not-is_frame.false)
+    (no_frames (take c.frame-start.result c.live-bytes.result.now) (omega (arith, short, zero)))
 
 pub returns-else-start-eq0-clause-only : goal.returns-else-start-eq0-clause-only
 returns-else-start-eq0-clause-only c = λ yes.
-    framed_up c.args.self.now c.live-bytes.result.now c.frame-start.result c.live-bytes.ensures.bytes c.frame-start.ensures c.if-start-bytes.false
+    framed_up c.args.self.now c.live-bytes.result.now c.frame-start.result
+    c.live-bytes.ensures.bytes c.frame-start.ensures c.if-start-bytes.false
     (c.is_frame.ensures.only c.if-not-is_frame.false) (c.is_chain.ensures.only yes).linked
 
 pub returns-else-start-eq0-clause-found : goal.returns-else-start-eq0-clause-found
 returns-else-start-eq0-clause-found c = λ chain has.
     c.is_chain.ensures.found
-    (framed_low c.args.self.now c.live-bytes.result.now c.frame-start.result c.live-bytes.ensures.bytes c.frame-start.ensures c.if-start-bytes.false
+    (framed_low c.args.self.now c.live-bytes.result.now c.frame-start.result
+    c.live-bytes.ensures.bytes c.frame-start.ensures c.if-start-bytes.false
     c.if-start-eq0.false chain has)

@@ -4,4 +4,6 @@ use Rattle.vm_stack.proofs.SavedLemmas.{linked_keeps}
 use Rattle.vm_stack.proofs.stack.Stack.load.Goals as goal
 
 pub returns-clause-kept : goal.returns-clause-kept
-returns-clause-kept c = λ linked. subst Chain (sym c.put_all.ensures) (linked_keeps c.args.self.now c.args.bytes.now linked)
+returns-clause-kept c =
+    λ linked.
+    subst Chain (sym c.put_all.ensures) (linked_keeps c.args.self.now c.args.bytes.now linked)

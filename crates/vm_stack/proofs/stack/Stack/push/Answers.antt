@@ -5,4 +5,5 @@ use Rattle.vm_stack.proofs.stack.Stack.push.Goals as goal
 
 pub returns-clause-kept : goal.returns-clause-kept
 returns-clause-kept c = λ chain has.
-    subst Chain (sym c.add.ensures) (appended_keeps c.args.self.now c.to_be_bytes.result 1 (ap length c.to_be_bytes.ensures) chain has)
+    subst Chain (sym c.add.ensures) (appended_keeps c.args.self.now c.to_be_bytes.result 1
+    (ap length c.to_be_bytes.ensures) chain has)

@@ -7,7 +7,10 @@ use Rattle.vm_stack.proofs.stack.Stack.roll.Goals as goal
 pub returns-clause-kept : goal.returns-clause-kept
 returns-clause-kept c = λ chain.
     subst Chain (sym c.rotate_top.ensures)
-    (roll_keeps c.args.self.now c.args.count (4 * c.turn.result) (rw (← c.value_bytes.ensures.value) c.if-value_bytes-needed.false) chain)
+    (roll_keeps c.args.self.now c.args.count (4 * c.turn.result)
+    (rw (← c.value_bytes.ensures.value) c.if-value_bytes-needed.false) chain)
 
 pub returns-clause-size : goal.returns-clause-size
-returns-clause-size c = ap (λ (s : StackState). length s.bytes) c.rotate_top.ensures ∙ length_rolled c.args.self.now.bytes (4 * c.args.count) (4 * c.turn.result)
+returns-clause-size c =
+    ap (λ (s : StackState). length s.bytes) c.rotate_top.ensures
+    ∙ length_rolled c.args.self.now.bytes (4 * c.args.count) (4 * c.turn.result)

@@ -8,5 +8,9 @@ invariant_of-self c =
     let i = c.self.invariant in
     let len = i.0 in (
       omega (arith, len),
-      (i.1.0, head_in s.buf.items s.len (s.len - c.args.count) s.frame s.head i.0 (omega arith) c.if-self.true i.1.1),
+      (
+        i.1.0,
+        head_in s.buf.items s.len (s.len - c.args.count) s.frame s.head i.0
+            (omega arith) c.if-self.true i.1.1,
+      ),
     )

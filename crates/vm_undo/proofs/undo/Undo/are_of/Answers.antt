@@ -11,7 +11,8 @@ returns-then-not-is_of-clause-found c = λ all.
     let P = IsSavedWithin (origin_of c.args.memory.now) c.args.stack_size in
     sym c.if-not-is_of.true
     ∙ c.is_of.ensures.found
-    (all_first P c.self.inside.newest (c.self.inside.second ∷ c.self.inside.third ∷ c.self.inside.oldest ∷ [])
+    (all_first P c.self.inside.newest
+    (c.self.inside.second ∷ c.self.inside.third ∷ c.self.inside.oldest ∷ [])
     (subst (λ (xs : List Saved). All P xs) (sym c.self.view_is) all))
 
 pub returns-then-not-is_of-2-clause-found : goal.returns-then-not-is_of-2-clause-found
@@ -19,7 +20,8 @@ returns-then-not-is_of-2-clause-found c = λ all.
     let P = IsSavedWithin (origin_of c.args.memory.now) c.args.stack_size in
     sym c.if-not-is_of-2.true
     ∙ c.is_of-2.ensures.found
-    (all_second P c.self.inside.newest c.self.inside.second (c.self.inside.third ∷ c.self.inside.oldest ∷ [])
+    (all_second P c.self.inside.newest c.self.inside.second
+    (c.self.inside.third ∷ c.self.inside.oldest ∷ [])
     (subst (λ (xs : List Saved). All P xs) (sym c.self.view_is) all))
 
 pub returns-then-not-is_of-3-clause-found : goal.returns-then-not-is_of-3-clause-found
@@ -27,7 +29,8 @@ returns-then-not-is_of-3-clause-found c = λ all.
     let P = IsSavedWithin (origin_of c.args.memory.now) c.args.stack_size in
     sym c.if-not-is_of-3.true
     ∙ c.is_of-3.ensures.found
-    (all_third P c.self.inside.newest c.self.inside.second c.self.inside.third (c.self.inside.oldest ∷ [])
+    (all_third P c.self.inside.newest c.self.inside.second c.self.inside.third
+    (c.self.inside.oldest ∷ [])
     (subst (λ (xs : List Saved). All P xs) (sym c.self.view_is) all))
 
 pub returns-clause-only : goal.returns-clause-only
