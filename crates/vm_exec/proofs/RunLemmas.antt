@@ -39,7 +39,7 @@ use Rattle.vm_exec.specs.Answer.{Does}
 use Rattle.vm_exec.specs.Fault.{flowed}
 use Rattle.vm_exec.specs.Fetch.{Fetches, work_for}
 use Rattle.vm_exec.specs.Machine.{IsFit, IsSoundMachine, KeepsImage, StaysFit}
-use Rattle.vm_exec.specs.Row.{charged, due, fetched, row, step_within, work}
+use Rattle.vm_exec.specs.Row.{charged, due, row, step_within, work}
 use Rattle.vm_exec.specs.Rows.Array.{array_work, bit, byte_with_bit, element, with_bit}
 use Rattle.vm_exec.specs.Rows.Branch.{branch_work}
 use Rattle.vm_exec.specs.Rows.Function.{flow_work, tailcalls}
@@ -292,7 +292,7 @@ stays_ok (Costs n r) new done q e s = absurd q
 -- an instruction that was fetched goes by its work
 pub goes_by : (m n new : Machine) (o : Op) (place : ℕ) (q : Fetched) (r : Result Went Trap)
     → OpcodeAt m.memory m.pc o place → Fetches m o n (Ok q) → WorkGives (work_for o n q) new r
-    → (r ≡ Err NoMemory → MayWant o q) → GoesBy m new r
+    → (r ≡ Err NoMemory → MayWant n o q) → GoesBy m new r
 goes_by m n new o place q (Ok went.On) at f e want =
     ap charged f ∙ ap (λ (x : Work). charged (Ok x)) e
 goes_by m n new o place q (Ok went.Quits) at f e want =

@@ -1,12 +1,15 @@
 //! Calls, returns, catch and throw.
 
-ghost use Rattle.std.specs.Prelude.{◌≡◌, ◌≤◌, IfOk, OnOk, slice_index, length, Ok, Err};
+ghost use Rattle.std.specs.Prelude.{◌≡◌, ◌≢◌, ◌≤◌, IfOk, OnOk, slice_index, length, Ok, Err};
 ghost use Rattle.vm_exec.specs.Answer.{Changes, Does, MakesValue};
 ghost use Rattle.vm_exec.specs.Machine.{IsFit, StaysFit};
 ghost use Rattle.vm_exec.specs.Row.{dest_by_index};
 ghost use Rattle.vm_exec.specs.Rows.Function as rows;
 ghost use Rattle.vm_exec.specs.Rows.Work.{DoesAtNoCost, budgeted};
 ghost use Rattle.vm_exec.specs.Rules as rules;
+ghost use Rattle.vm_exec.specs.Want.{ReturnMayWant};
+ghost use Rattle.vm_flow.specs.Function.{IsInFront};
+ghost use Rattle.vm_memory.specs.declared.fault.Trap.TheVariants.{NoMemory};
 ghost use Rattle.vm_stack.specs.Chain.{IsReady};
 
 use crate::Machine;
@@ -40,6 +43,8 @@ impl<'i> Machine<'i> {
     #[inline(always)]
     pub(crate) fn push_stub_for(&mut self, to: Dest) -> Result<(), Trap>
         ensures does { Changes (rules.with_stub self.old to) self.new result }
+        ensures refusal { result ≢ Err NoMemory }
+        ensures memory { self.new.memory ≡ self.old.memory }
         ensures fit { IsFit self.old → OnOk result (IsFit self.new) }
         ensures ready { IsFit self.old → OnOk result (IsReady self.new.stack) }
     {
@@ -51,6 +56,7 @@ impl<'i> Machine<'i> {
     #[inline(always)]
     pub(crate) fn enter(&mut self, alloc: Global, at: u32, args: &[u32]) -> Result<Done, Trap>
         ensures does { DoesAtNoCost (rules.enters self.old at args.now) self.new result }
+        ensures front { IsInFront self.old.memory at → result ≢ Err NoMemory }
         ensures fit { IsFit self.old → IsReady self.old.stack
             → IfOk result (λ done. StaysFit self.new done.out) }
     {
@@ -68,13 +74,20 @@ impl<'i> Machine<'i> {
         to: Dest,
     ) -> Result<Done, Trap>
         ensures does { DoesAtNoCost (rules.calls self.old at args.now to) self.new result }
+        ensures front { IsInFront self.old.memory at → result ≢ Err NoMemory }
         ensures fit { IsFit self.old → IfOk result (λ done. StaysFit self.new done.out) }
     {
         self.push_stub_for(to)?;
         self.enter(alloc, at, args)
     }
 
-    fn call_with(&mut self, alloc: Global, at: u32, count: u32, to: Dest) -> Result<Done, Trap>
+    pub(crate) fn call_with(
+        &mut self,
+        alloc: Global,
+        at: u32,
+        count: u32,
+        to: Dest,
+    ) -> Result<Done, Trap>
         ensures does { DoesAtNoCost
             (rules.with_arguments self.old count (λ n args. rules.calls n at args to))
             self.new result }
@@ -94,7 +107,7 @@ impl<'i> Machine<'i> {
         self.tell(Out::Ran)
     }
 
-    fn tailcall(&mut self, alloc: Global, at: u32, count: u32) -> Result<Done, Trap>
+    pub(crate) fn tailcall(&mut self, alloc: Global, at: u32, count: u32) -> Result<Done, Trap>
         ensures does { DoesAtNoCost
             (rules.with_arguments self.old count (rows.tailcalls at))
             self.new result }
@@ -110,6 +123,7 @@ impl<'i> Machine<'i> {
     #[inline(always)]
     fn resume_at(&mut self, stub: Stub, value: u32) -> Result<Done, Trap>
         ensures does { DoesAtNoCost (rules.resumes self.old stub value) self.new result }
+        ensures want { result ≡ Err NoMemory → stub.kind ≡ 1 }
         ensures fit { IsFit self.old → IfOk result (λ done. StaysFit self.new done.out) }
     {
         if stub.kind > 3 {
@@ -125,6 +139,7 @@ impl<'i> Machine<'i> {
     #[inline(always)]
     pub(crate) fn give_back(&mut self, value: u32) -> Result<Done, Trap>
         ensures does { DoesAtNoCost (rules.returns self.old value) self.new result }
+        ensures want { result ≡ Err NoMemory → ReturnMayWant self.old }
         ensures fit { IsFit self.old → IfOk result (λ done. StaysFit self.new done.out) }
     {
         match give_back(&mut self.stack).map_err(of_flow)? {
@@ -152,7 +167,7 @@ impl<'i> Machine<'i> {
         self.branch(offset)
     }
 
-    fn throw(&mut self, value: u32, token: u32) -> Result<Done, Trap>
+    pub(crate) fn throw(&mut self, value: u32, token: u32) -> Result<Done, Trap>
         ensures does { DoesAtNoCost (rows.throws self.old value token) self.new result }
         ensures fit { IsFit self.old → IfOk result (λ done. StaysFit self.new done.out) }
     {
@@ -194,7 +209,8 @@ impl<'i> Machine<'i> {
 // Where the result goes that a stub waits for.
 #[inline(always)]
 pub(crate) fn stub_dest(stub: Stub) -> Result<Dest, Trap>
-    ensures { MakesValue (rules.stub_dest stub) result }
+    ensures value { MakesValue (rules.stub_dest stub) result }
+    ensures refusal { result ≢ Err NoMemory }
 {
     match stub.kind {
         0 => Ok(Dest::Discard),

@@ -60,7 +60,7 @@ impl<'i> Machine<'i> {
         Ok(self.memory.read4(at)?)
     }
 
-    #[inline(never)]
+    #[inline(always)]
     fn pop_word(&mut self) -> Result<u32, Trap>
         ensures does { Does (rules.operand_loaded 4 self.old load.Pop) self.new result }
         ensures refusal { result ≢ Err NoMemory }

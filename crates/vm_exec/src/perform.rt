@@ -1,13 +1,11 @@
 //! From an opcode to its work.
 
-ghost use Rattle.std.specs.Prelude.{◌≡◌, ◌≤◌, ◌<◌, IfOk, OnOk, Ok, Err, slice_index};
+ghost use Rattle.std.specs.Prelude.{◌≡◌, ◌≤◌, ◌<◌, IfOk, OnOk, Ok, slice_index};
 ghost use Rattle.vm_exec.specs.Answer.{Does};
 ghost use Rattle.vm_exec.specs.Machine.{GoesOnFit, IsFit, StaysFit};
 ghost use Rattle.vm_exec.specs.Row as row;
 ghost use Rattle.vm_exec.specs.Row.{IsPriced, charged, dest_by_index, step_within, work, work_of};
 ghost use Rattle.vm_exec.specs.Rows.Work.{budgeted};
-ghost use Rattle.vm_exec.specs.Want.{StoreMayWant};
-ghost use Rattle.vm_memory.specs.declared.fault.Trap.TheVariants.{NoMemory};
 ghost use Rattle.vm_stack.specs.Locals.{IsWidth};
 
 use crate::Machine;
@@ -31,7 +29,6 @@ impl<'i> Machine<'i> {
         ensures does { Does
             (budgeted left (work op self.old (slice_index args.now) (dest_by_index to.now)))
             self.new result }
-        ensures want { result ≡ Err NoMemory → StoreMayWant op (dest_by_index to.now 0) }
         ensures fit { IsFit self.old → IfOk result (λ done. StaysFit self.new done.out) }
         ensures within { IfOk result (λ done. done.cost ≤ left) }
     {

@@ -1,15 +1,17 @@
 //! Runs of quick instructions: arithmetic, arrays, copy, branches, calls and returns below
 //! RAMSTART. Each takes one tick, and tells nothing unless the story has quit.
 
-ghost use Rattle.std.specs.Prelude.{◌≡◌, ◌<◌, ℕ, List, Err, IfOk, OnOk, false, true};
+ghost use Rattle.std.specs.Prelude.{◌≡◌, ◌≢◌, ◌<◌, ℕ, List, Err, IfOk, OnOk, false, true};
 ghost use Rattle.vm_exec.specs.Fetch.{Fetches, IsAtHand, work_for};
 ghost use Rattle.vm_exec.specs.Machine.{IsFit, IsSoundMachine, KeepsImage};
 ghost use Rattle.vm_exec.specs.Run.{GoesBy, IfDid, IsQuickOpcode, RunsWithin, StaysOn, StopsAt};
 ghost use Rattle.vm_exec.specs.Run.{WorkGives, went_of};
-ghost use Rattle.vm_exec.specs.Rules.{branches, returns};
+ghost use Rattle.vm_exec.specs.Rules.{branches, calls, returns, with_arguments};
+ghost use Rattle.vm_exec.specs.Rows.Function.{tailcalls, throws};
 ghost use Rattle.vm_exec.specs.Rows.Work.{Free};
 ghost use Rattle.vm_exec.specs.Start.{IsOver};
-ghost use Rattle.vm_exec.specs.Want.{IsInMemory, MayReturn, MayWant, StoreMayWant};
+ghost use Rattle.vm_exec.specs.Want.{ArrayMayWant, IsInMemory, IsReturn, ReturnMayWant};
+ghost use Rattle.vm_flow.specs.Function.{IsInFront};
 ghost use Rattle.vm_memory.specs.declared.fault.Trap.TheVariants.{NoMemory};
 ghost use Rattle.vm_exec.specs.declared.text.Text.TheVariants as text;
 ghost use Rattle.vm_operand.specs.declared.opcode.Op.TheVariants as op;
@@ -91,7 +93,7 @@ impl<'i> Machine<'i> {
                 let fetched = self.fetch_math(math, code, place)?;
                 self.math_on(math, fetched)
             }
-            Op::Array(array) => self.array_step(alloc, array, code, place),
+            Op::Array(array) => self.array_step(array, code, place),
             Op::Branch(branch) => {
                 let fetched = self.fetch_branch(branch, code, place)?;
                 self.branch_on(branch, fetched)
@@ -125,23 +127,18 @@ impl<'i> Machine<'i> {
 
     // A read of an array, or a write.
     #[inline(never)]
-    fn array_step(
-        &mut self,
-        alloc: Global,
-        array: Array,
-        code: &[u8],
-        place: u32,
-    ) -> Result<Went, Trap>
+    fn array_step(&mut self, array: Array, code: &[u8], place: u32) -> Result<Went, Trap>
         requires { IsAtHand self.old (op.Array array) place code.now }
         ensures does { GoesBy self.old self.new result }
         ensures fit { IsFit self.old → IfOk result (λ went. StaysOn self.new went) }
     {
-        let fetched = self.fetch_array(array, code, place);
-        self.go_by(alloc, Op::Array(array), fetched)
+        let fetched = self.fetch_array(array, code, place)?;
+        self.array_on(array, fetched)
     }
 
     // A call or a return.
     #[inline(never)]
+    #[tactic(auto, unfolding(crate::specs::Rows::Function::flow_work))]
     fn flow_step(
         &mut self,
         alloc: Global,
@@ -154,69 +151,56 @@ impl<'i> Machine<'i> {
         ensures does { GoesBy self.old self.new result }
         ensures fit { IsFit self.old → IfOk result (λ went. StaysOn self.new went) }
     {
-        // an arm for each, so that each has the code of its own row alone
+        // an arm for each, so that each has the code of its own rule alone
+        let op = Op::Flow(flow);
         match flow {
             Flow::Return => {
-                let fetched = self.one(Op::Flow(flow), code, place);
-                self.go_by(alloc, Op::Flow(Flow::Return), fetched)
+                let fetched = self.one(op, code, place)?;
+                self.give_back_on(fetched.first)
             }
             Flow::Throw => {
-                let fetched = self.two(Op::Flow(flow), code, place);
-                self.go_by(alloc, Op::Flow(Flow::Throw), fetched)
+                let fetched = self.two(op, code, place)?;
+                self.throw_on(fetched.first, fetched.second)
             }
             Flow::Tailcall => {
-                let fetched = self.two(Op::Flow(flow), code, place);
-                self.go_by(alloc, Op::Flow(Flow::Tailcall), fetched)
+                let fetched = self.two(op, code, place)?;
+                self.tailcall_on(alloc, fetched.first, fetched.second)
             }
             Flow::Call => {
-                let fetched = self.two_and_store(Op::Flow(flow), code, place);
-                self.go_by(alloc, Op::Flow(Flow::Call), fetched)
+                let fetched = self.two_and_store(op, code, place)?;
+                self.call_with_on(alloc, fetched.first, fetched.second, fetched.to)
             }
             Flow::Callf => {
-                let fetched = self.one_and_store(Op::Flow(flow), code, place);
-                self.go_by(alloc, Op::Flow(Flow::Callf), fetched)
+                let fetched = self.one_and_store(op, code, place)?;
+                self.call_on(alloc, fetched.first, &[], fetched.to)
             }
             Flow::Callfi => {
-                let fetched = self.two_and_store(Op::Flow(flow), code, place);
-                self.go_by(alloc, Op::Flow(Flow::Callfi), fetched)
+                let fetched = self.two_and_store(op, code, place)?;
+                self.call_on(alloc, fetched.first, &[fetched.second], fetched.to)
             }
             Flow::Callfii => {
-                let fetched = self.three_and_store(Op::Flow(flow), code, place);
-                self.go_by(alloc, Op::Flow(Flow::Callfii), fetched)
+                let fetched = self.three_and_store(op, code, place)?;
+                let args = [fetched.second, fetched.third];
+                self.call_on(alloc, fetched.first, &args, fetched.to)
             }
             Flow::Callfiii => {
-                let fetched = self.four_and_store(Op::Flow(flow), code, place);
-                self.go_by(alloc, Op::Flow(Flow::Callfiii), fetched)
+                let fetched = self.four_and_store(op, code, place)?;
+                let args = [fetched.second, fetched.third, fetched.fourth];
+                self.call_on(alloc, fetched.first, &args, fetched.to)
             }
             Flow::Catch => unreachable!(),
         }
     }
 
-    // What the row of an opcode says that was fetched, or the fault of the fetch.
+    // The array's row.
     #[inline(always)]
-    fn go_by(&mut self, alloc: Global, op: Op, fetched: Result<Fetched, Trap>) -> Result<Went, Trap>
-        requires quick { IsQuickOpcode op }
-        // the store tells where memory may be wanted
-        requires want { (q : Fetched) → StoreMayWant op q.to → MayWant op q }
-        ensures does { (m : Machine) (place : ℕ) → OpcodeAt m.memory m.pc op place
-            → Fetches m op self.old fetched → GoesBy m self.new result }
-        ensures fit { IfOk fetched (λ _. IsFit self.old)
-            → IfOk result (λ went. StaysOn self.new went) }
-    {
-        let fetched = fetched?;
-        self.work_on(alloc, op, fetched)
-    }
-
-    // What the row of such an opcode says.
-    #[inline(always)]
-    fn work_on(&mut self, alloc: Global, op: Op, fetched: Fetched) -> Result<Went, Trap>
-        requires { IsQuickOpcode op }
-        ensures does { WorkGives (work_for op self.old fetched) self.new result }
-        ensures want { result ≡ Err NoMemory → StoreMayWant op fetched.to }
+    fn array_on(&mut self, array: Array, fetched: Fetched) -> Result<Went, Trap>
+        ensures does { WorkGives (work_for (op.Array array) self.old fetched) self.new result }
+        ensures want { result ≡ Err NoMemory → ArrayMayWant array fetched.to }
         ensures fit { IsFit self.old → IfOk result (λ went. StaysOn self.new went) }
     {
         let args = fetched.args();
-        let done = self.perform(alloc, op, &args, &[fetched.to, Dest::Discard], 0)?;
+        let done = self.array_op(array, &args, &[fetched.to, Dest::Discard], 0)?;
         Ok(done.went())
     }
 
@@ -250,7 +234,7 @@ impl<'i> Machine<'i> {
     #[tactic(auto, unfolding(crate::specs::Rows::Branch::branch_work))]
     fn branch_on(&mut self, branch: Branch, fetched: Fetched) -> Result<Went, Trap>
         ensures does { WorkGives (work_for (op.Branch branch) self.old fetched) self.new result }
-        ensures want { result ≡ Err NoMemory → MayReturn branch fetched }
+        ensures want { result ≡ Err NoMemory → IsReturn branch fetched × ReturnMayWant self.old }
         ensures fit { IsFit self.old → IfOk result (λ went. StaysOn self.new went) }
     {
         let holds = branch.holds(fetched.first, fetched.second);
@@ -270,7 +254,7 @@ impl<'i> Machine<'i> {
     #[inline(always)]
     fn jump_on(&mut self, offset: u32) -> Result<Went, Trap>
         ensures does { WorkGives (Free (branches self.old offset)) self.new result }
-        ensures want { result ≡ Err NoMemory → offset < 2 }
+        ensures want { result ≡ Err NoMemory → (offset < 2) × ReturnMayWant self.old }
         ensures fit { IsFit self.old → IfOk result (λ went. StaysOn self.new went) }
     {
         if offset == 0 || offset == 1 {
@@ -280,13 +264,67 @@ impl<'i> Machine<'i> {
         Ok(Went::On)
     }
 
-    // The function returns.
+    // The function returns, by a branch.
     #[inline(never)]
     fn return_on(&mut self, value: u32) -> Result<Went, Trap>
         ensures does { WorkGives (Free (returns self.old value)) self.new result }
+        ensures want { result ≡ Err NoMemory → ReturnMayWant self.old }
+        ensures fit { IsFit self.old → IfOk result (λ went. StaysOn self.new went) }
+    {
+        self.give_back_on(value)
+    }
+
+    // The function returns.
+    #[inline(always)]
+    fn give_back_on(&mut self, value: u32) -> Result<Went, Trap>
+        ensures does { WorkGives (Free (returns self.old value)) self.new result }
+        ensures want { result ≡ Err NoMemory → ReturnMayWant self.old }
         ensures fit { IsFit self.old → IfOk result (λ went. StaysOn self.new went) }
     {
         let done = self.give_back(value)?;
+        Ok(done.went())
+    }
+
+    // The story goes on at the stub of the token.
+    #[inline(always)]
+    fn throw_on(&mut self, value: u32, token: u32) -> Result<Went, Trap>
+        ensures does { WorkGives (Free (throws self.old value token)) self.new result }
+        ensures fit { IsFit self.old → IfOk result (λ went. StaysOn self.new went) }
+    {
+        let done = self.throw(value, token)?;
+        Ok(done.went())
+    }
+
+    // The function begins, over a stub.
+    #[inline(always)]
+    fn call_on(&mut self, alloc: Global, at: u32, args: &[u32], to: Dest) -> Result<Went, Trap>
+        ensures does { WorkGives (Free (calls self.old at args.now to)) self.new result }
+        ensures want { IsInFront self.old.memory at → result ≢ Err NoMemory }
+        ensures fit { IsFit self.old → IfOk result (λ went. StaysOn self.new went) }
+    {
+        let done = self.call(alloc, at, args, to)?;
+        Ok(done.went())
+    }
+
+    // The same with arguments off the stack.
+    #[inline(always)]
+    fn call_with_on(&mut self, alloc: Global, at: u32, count: u32, to: Dest) -> Result<Went, Trap>
+        ensures does { WorkGives
+            (Free (with_arguments self.old count (λ n args. calls n at args to))) self.new result }
+        ensures fit { IsFit self.old → IfOk result (λ went. StaysOn self.new went) }
+    {
+        let done = self.call_with(alloc, at, count, to)?;
+        Ok(done.went())
+    }
+
+    // The function begins in place of the current one, with arguments off the stack.
+    #[inline(always)]
+    fn tailcall_on(&mut self, alloc: Global, at: u32, count: u32) -> Result<Went, Trap>
+        ensures does { WorkGives (Free (with_arguments self.old count (tailcalls at)))
+            self.new result }
+        ensures fit { IsFit self.old → IfOk result (λ went. StaysOn self.new went) }
+    {
+        let done = self.tailcall(alloc, at, count)?;
         Ok(done.went())
     }
 

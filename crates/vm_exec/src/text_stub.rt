@@ -1,9 +1,10 @@
 //! The call stubs of texts.
 
-ghost use Rattle.std.specs.Prelude.{◌≡◌, IfOk, OnOk};
+ghost use Rattle.std.specs.Prelude.{◌≡◌, ◌≢◌, IfOk, OnOk, Ok, Err};
 ghost use Rattle.vm_exec.specs.Answer.{Changes, Does};
 ghost use Rattle.vm_exec.specs.Machine.{IsFit, IsSoundMachine};
 ghost use Rattle.vm_exec.specs.TextStub as stubs;
+ghost use Rattle.vm_memory.specs.declared.fault.Trap.TheVariants.{NoMemory};
 ghost use Rattle.vm_stack.specs.Chain.{IsReady};
 
 use crate::Machine;
@@ -57,6 +58,7 @@ impl<'i> Machine<'i> {
     /// Takes the stub on top. Fault 13 where it is for another frame.
     pub(crate) fn pop_stub(&mut self) -> Result<Stub, Trap>
         ensures does { Does (stubs.unstubbed self.old) self.new result }
+        ensures refusal { result ≢ Err NoMemory }
         ensures fit { IsFit self.old → OnOk result (IsFit self.new) }
     {
         let frame = self.stack.frame();
@@ -70,6 +72,7 @@ impl<'i> Machine<'i> {
     /// The code goes on behind a number.
     pub(crate) fn end_number(&mut self, held: bool) -> Result<(), Trap>
         ensures does { Changes (stubs.number_over self.old held) self.new result }
+        ensures refusal { result ≢ Err NoMemory }
         ensures fit { IsFit self.old → OnOk result (IsFit self.new) }
     {
         if !held {
@@ -86,6 +89,7 @@ impl<'i> Machine<'i> {
     /// What is left of a number from a place on, or the code behind it.
     pub(crate) fn go_on_number(&mut self, value: u32, place: u32, held: bool) -> Result<(), Trap>
         ensures does { Changes (stubs.number_on self.old value place held) self.new result }
+        ensures refusal { result ≢ Err NoMemory }
         ensures fit { IsFit self.old → OnOk result (IsSoundMachine self.new) }
     {
         if place < places(value) {
@@ -98,6 +102,7 @@ impl<'i> Machine<'i> {
     // What is left of a string of this kind, at the place that a stub names.
     fn go_on_string(&mut self, kind: u32, stub: Stub) -> Result<(), Trap>
         ensures does { Changes (stubs.string_on self.old kind stub) self.new result }
+        ensures refusal { result ≢ Err NoMemory }
         ensures fit { IsFit self.old → OnOk result (IsSoundMachine self.new) }
     {
         let cursor = Cursor {
@@ -111,6 +116,7 @@ impl<'i> Machine<'i> {
 
     fn go_on_at(&mut self, pc: u32) -> Result<(), Trap>
         ensures does { Changes (Ok (record self.old { pc = pc })) self.new result }
+        ensures refusal { result ≢ Err NoMemory }
         ensures fit { IsFit self.old → OnOk result (IsSoundMachine self.new) }
     {
         self.pc = pc;
@@ -121,6 +127,7 @@ impl<'i> Machine<'i> {
     #[tactic(auto, unfolding(crate::specs::TextStub::text_on))]
     pub(crate) fn resume_text(&mut self, stub: Stub) -> Result<(), Trap>
         ensures does { Changes (stubs.text_on self.old stub) self.new result }
+        ensures refusal { result ≢ Err NoMemory }
         ensures fit { IsFit self.old → OnOk result (IsSoundMachine self.new) }
     {
         match stub.kind {

@@ -62,13 +62,13 @@ fn set_locals(stack: &mut Stack, format: &[u8], args: &[u32]) -> Result<(), Flow
     ensures there { HasFrame stack.old → OnOk result (HasFrame stack.new) }
     ensures room { result ≢ Err stop.NoMemory }
 {
+    if args.is_empty() {
+        return Ok(());
+    }
     let mut args = args;
     let mut at = 0;
     let mut read = 0;
     while format.len() - read >= 2 {
-        if args.is_empty() {
-            return Ok(());
-        }
         let size = format[read];
         if size == 0 {
             return Ok(());
@@ -80,6 +80,9 @@ fn set_locals(stack: &mut Stack, format: &[u8], args: &[u32]) -> Result<(), Flow
             Err(fault) => return Err(fault),
         }
         args = after(args, count);
+        if args.is_empty() {
+            return Ok(());
+        }
         at = pair_end(begin, size, count);
         read += 2;
     }

@@ -24,6 +24,7 @@ pub fn give_back(stack: &mut Stack) -> Result<Option<Stub>, FlowStop>
 }
 
 // Takes the stub on top, or gives None where nothing is left.
+#[inline(always)]
 fn take_top(stack: &mut Stack) -> Result<Option<Stub>, FlowStop>
     ensures ok { GivesOrStops (returns.stub_or_end stack.old) stack.new result }
     ensures ready { IsReady stack.old → IsOk result }

@@ -1,13 +1,18 @@
 -- What a stack keeps of its frame, as its bytes change.
 use Rattle.std.proofs.Common.{◌≡◌, ℕ, ◌+◌, ◌≤◌, ◌∙◌, List, ◌++◌, length, take, drop, refl}
 use Rattle.std.proofs.Common.{arith, sym, ap, length-append, nat_le, inl, inr, subst}
+use Rattle.std.proofs.Common.{append_assoc, replicate}
 use Rattle.std.proofs.Math.Seq.{take-length, drop-length}
 use Rattle.std.proofs.lemmas.Bool.{cases_Bool, leb-true}
-use Rattle.std.proofs.lemmas.List.{take-append-drop, length-take-le, append-nil, take-take}
+use Rattle.std.proofs.lemmas.List.{length-replicate, take-append-drop, length-take-le, append-nil, take-take}
+use Rattle.byteorder.specs.Endian.{big_bytes}
+use Rattle.byteorder.specs.Numbers.{length-bytes_high_first}
+use Rattle.vm_stack.specs.Frame.{fresh_frame, frame_len_of, locals_len, locals_pos_of, padding_len}
 use Rattle.vm_stack.specs.StackState.{number, replaced_within}
 use Rattle.vm_stack.specs.Head.{StandsWhole, IsHead}
 use Rattle.vm_stack.specs.declared.head.Head.{Head}
 use Rattle.vm_stack.proofs.NumberLemmas.{number_within}
+use Rattle.vm_stack.proofs.FrameLemmas.{aligned_up, first_word, second_word}
 use Rattle.vm_stack.proofs.ChainLemmas.{length_replaced}
 
 -- a frame that stands whole does so with more bytes on top
@@ -130,3 +135,62 @@ closed items old buf now n m frame head same room size within small e h =
         subst (λ (xs : List ℕ). IsHead xs frame head) (sym e) h,
       ),
     )
+
+fresh_seam : (low a b f z l : List ℕ)
+    → low ++ ((a ++ b ++ f) ++ z ++ l) ≡ low ++ (a ++ (b ++ (f ++ (z ++ l))))
+fresh_seam low a b f z l = simp append_assoc refl
+
+fresh_lengths : (low a b f z l : List ℕ)
+    → length (low ++ ((a ++ b ++ f) ++ z ++ l))
+    ≡ length low + (length a + length b + length f + length z + length l)
+fresh_lengths low a b f z l = simp length-append refl
+
+length_fresh : (low format : List ℕ)
+    → length (low ++ fresh_frame format) ≡ length low + frame_len_of format
+length_fresh low format =
+    let e = fresh_lengths low (big_bytes 4 (frame_len_of format)) (big_bytes 4 (locals_pos_of format))
+    format (replicate (padding_len format) 0) (replicate (locals_len format) 0) in
+    let a = length-bytes_high_first 4 (frame_len_of format) in
+    let b = length-bytes_high_first 4 (locals_pos_of format) in
+    let z = length-replicate {A = ℕ} (padding_len format) 0 in
+    let l = length-replicate {A = ℕ} (locals_len format) 0 in
+    let up = aligned_up (8 + length format) in
+    omega (arith, e, a, b, z, l, up)
+
+-- what is known of a new frame
+pub fresh_head : (low format : List ℕ) (head locals : ℕ)
+    → head ≡ locals_pos_of format → locals ≡ locals_len format
+    → length low + frame_len_of format ≤ 1048576
+    → IsHead (low ++ fresh_frame format) (length low) (record {
+      locals = length low + head;
+      span = locals;
+      values = length low + head + locals;
+    })
+fresh_head low format head locals at many fits =
+    let a = big_bytes 4 (frame_len_of format) in
+    let b = big_bytes 4 (locals_pos_of format) in
+    let z : List ℕ = replicate (padding_len format) 0 in
+    let l : List ℕ = replicate (locals_len format) 0 in
+    let bytes = fresh_seam low a b format z l in
+    let up = aligned_up (8 + length format) in
+    let size = length_fresh low format in
+    record {
+      whole = λ _. record {
+        above = omega (arith, up, at);
+        span = refl;
+        below = omega (arith, size, at, many);
+        locals = ap (λ (n : ℕ). length low + n)
+            (ap (λ (xs : List ℕ). number 4 xs (length low + 4)) bytes
+            ∙ (second_word low a b (format ++ (z ++ l)) (locals_pos_of format)
+            (length-bytes_high_first 4 (frame_len_of format)) refl (omega (arith, fits)) ∙ sym at));
+        values = omega (
+          arith,
+          at,
+          many,
+          ap (λ (xs : List ℕ). number 4 xs (length low)) bytes
+              ∙ first_word low a (b ++ (format ++ (z ++ l))) (frame_len_of format) refl
+              (omega (arith, fits)),
+        );
+      };
+      spans = λ _. omega (arith, fits, at, many);
+    }

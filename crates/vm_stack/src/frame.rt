@@ -10,6 +10,7 @@ ghost use Rattle.vm_stack.specs.Saved.{LinkedFrames};
 
 use crate::bytes::number;
 use crate::fault::StackFault;
+use crate::head::Head;
 use crate::stack::{MAX_STACK, Stack};
 
 impl Stack {
@@ -37,10 +38,11 @@ impl Stack {
     }
 
     // Puts a new frame on top.
+    #[inline(always)]
     fn add_frame(&mut self, format: &[u8], head: usize, locals: usize)
         requires head { head ≡ frames.locals_pos_of format.now }
         requires locals { locals ≡ frames.locals_len format.now }
-        requires size { frames.frame_len_of format.now ≤ MAX_STACK }
+        requires size { length self.old.bytes + frames.frame_len_of format.now ≤ MAX_STACK }
         requires room { length self.old.bytes + frames.frame_len_of format.now ≤ self.old.limit }
         ensures { self.new ≡ record self.old {
           bytes = self.old.bytes ++ frames.fresh_frame format.now;
@@ -48,12 +50,34 @@ impl Stack {
         } }
     {
         let start = self.length();
+        self.add_frame_bytes(format, head, locals);
+        let begin = start as usize + head;
+        self.set_whole_frame(
+            start,
+            Head {
+                locals: begin,
+                span: locals,
+                values: begin + locals,
+            },
+        );
+    }
+
+    // Puts the bytes of a new frame on top.
+    #[inline(always)]
+    fn add_frame_bytes(&mut self, format: &[u8], head: usize, locals: usize)
+        requires head { head ≡ frames.locals_pos_of format.now }
+        requires locals { locals ≡ frames.locals_len format.now }
+        requires size { frames.frame_len_of format.now ≤ MAX_STACK }
+        requires room { length self.old.bytes + frames.frame_len_of format.now ≤ self.old.limit }
+        ensures { self.new ≡ record self.old {
+          bytes = self.old.bytes ++ frames.fresh_frame format.now;
+        } }
+    {
         self.add(&((head + locals) as u32).to_be_bytes());
         self.add(&(head as u32).to_be_bytes());
         self.add(format);
         self.add_zeros(head - (8 + format.len()));
         self.add_zeros(locals);
-        self.set_frame(start);
     }
 
     /// Drops the current frame. The current one is then that which the FramePtr on top names.

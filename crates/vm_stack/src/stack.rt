@@ -4,6 +4,7 @@ ghost use Rattle.std.specs.Prelude.{IfOk};
 ghost use Rattle.std.specs.Prelude.{replicate, nat_le, true, ◌++◌};
 ghost use Rattle.vm_stack.specs.StackState as state;
 ghost use Rattle.vm_stack.specs.Values as values;
+ghost use Rattle.vm_stack.specs.Head.{IsHead};
 
 use crate::bytes::{append, append_zeros, number, put, put_held, rotate};
 use crate::head::{Head, head_of, no_head};
@@ -212,6 +213,16 @@ impl Stack {
         } }
     {
         put_held(&mut self.buf, self.len, at, new);
+    }
+
+    // Makes the frame that begins here the current one, of which this is known.
+    #[inline(always)]
+    pub(crate) fn set_whole_frame(&mut self, frame: u32, head: Head)
+        requires { IsHead self.old.bytes frame head }
+        ensures { self.new ≡ record self.old { frame = frame } }
+    {
+        self.frame = frame;
+        self.head = head;
     }
 
     // Makes the frame that begins here the current one.

@@ -76,7 +76,10 @@ impl Stack {
         ensures { self.new ≡ record (without_top self.old 16) { frame = frame } }
     {
         self.shrink(16);
-        self.set_frame(frame);
+        // it is the current one already where the frame above was left
+        if self.frame() != frame {
+            self.set_frame(frame);
+        }
     }
 
     /// Whether a stub for the current frame ends at this place, among the frame's values.
