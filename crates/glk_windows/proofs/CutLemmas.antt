@@ -61,7 +61,7 @@ unfolding found
 node_pair [] n x e = cc
 node_pair (w ∷ ws) n x e = grind (arith, common_steps, node_pair ws n x)
 
-none_of : (o : Option p.Pair) → option_map pair_without_key o ≡ None → o ≡ None
+pub none_of : (o : Option p.Pair) → option_map pair_without_key o ≡ None → o ≡ None
 none_of None e = refl
 none_of (Some p) e = cc
 

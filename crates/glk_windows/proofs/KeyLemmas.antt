@@ -24,7 +24,7 @@ use Rattle.glk_windows.proofs.CutLemmas.{spells_on, node_pair, node_closed}
 use Rattle.glk_windows.proofs.CutLemmas.{node_removed, both_nodes, size_length}
 use Rattle.glk_windows.proofs.LiftLemmas.{below_top, count_below}
 use Rattle.glk_windows.proofs.CloseLemmas.{size_below, spells_below}
-use Rattle.glk_windows.proofs.RectangleLemmas.{read_set_at}
+use Rattle.glk_windows.proofs.SameLemmas.{read_set_at}
 
 -- each pair's key is 0, or a window below it that is no pair
 abbrev pub Keyed : List Window → Shape → Type 0

@@ -21,7 +21,7 @@ use Rattle.glk_windows.proofs.CutLemmas.{node_lower, node_pair}
 use Rattle.glk_windows.proofs.CloseLemmas.{node_rest, pair_rest}
 use Rattle.glk_windows.proofs.OneTreeLemmas.{is_eq, isnt_eq, node_parent, spells_top}
 use Rattle.glk_windows.proofs.OrderLemmas.{ascends-closed, ascends-removed}
-use Rattle.glk_windows.proofs.RectangleLemmas.{read_set_at}
+use Rattle.glk_windows.proofs.SameLemmas.{read_set_at}
 use Rattle.glk_windows.proofs.TestLemmas.{tree_found}
 use Rattle.glk_windows.proofs.ValidLemmas.{node_live, node_nil, some_tree, SomeTree}
 
