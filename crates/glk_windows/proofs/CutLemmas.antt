@@ -6,7 +6,7 @@ use Rattle.std.proofs.lemmas.Grind.{common_steps}
 use Rattle.glk_windows.specs.declared.window.Window.{Window}
 use Rattle.glk_windows.specs.declared.window.Pair as p
 use Rattle.glk_windows.specs.declared.window.Content.{Content}
-use Rattle.glk_windows.specs.declared.window.Content.TheVariants.{Pair, Blank, Buffer, Grid}
+use Rattle.glk_windows.specs.declared.window.Content.TheVariants.{Pair}
 use Rattle.glk_windows.specs.Tree.{WindowTree, window_number, stream_of}
 use Rattle.glk_windows.specs.Tree.{pair_of, pair_content, parent_of}
 use Rattle.glk_windows.specs.Closing.{windows_without, forgotten}
@@ -22,9 +22,7 @@ content-unkeyed : (c : Content) (n : ℕ)
     → option_map pair_without_key (pair_content (content_unkeyed n c))
     ≡ option_map pair_without_key (pair_content c)
 content-unkeyed (Pair p) n = grind (arith, common_steps)
-content-unkeyed Blank n = refl
-content-unkeyed (Buffer x) n = refl
-content-unkeyed (Grid x) n = refl
+content-unkeyed c n = refl
 
 pub node_forgotten : (ws : List Window) (n s m : ℕ) → node_of (forgotten ws n s) m ≡ node_of ws m
 node_forgotten [] n s m = refl
@@ -157,7 +155,7 @@ tally_each (w ∷ vs) s h =
     let k : tally vs s ≡ length vs = tally_each vs s (λ m e. h m (grind (arith, common_steps))) in
     omega (arith, i, k)
 
-once_of : (o : Option (ℕ × Option p.Pair)) (n : ℕ)
+pub once_of : (o : Option (ℕ × Option p.Pair)) (n : ℕ)
     → n ≡ (if is_some o then 1 else 0) → is_some o ≡ true
     → n ≡ 1
 once_of None n h e = cc
