@@ -18,7 +18,7 @@ use Rattle.glk_windows.specs.Valid.{IsOrdered, IsValidTree, are_sound_windows}
 use Rattle.glk_windows.specs.Valid.{is_sound_window, is_sound_content}
 use Rattle.glk_windows.specs.declared.window.Area.{Area}
 use Rattle.glk_windows.specs.declared.window.Content.{Content}
-use Rattle.glk_windows.specs.declared.window.Content.TheVariants.{Pair, Blank, Buffer, Grid}
+use Rattle.glk_windows.specs.declared.window.Content.TheVariants.{Grid}
 use Rattle.glk_windows.specs.declared.window.Pair as p
 use Rattle.glk_windows.specs.declared.window.Window.{Window}
 use Rattle.glk_windows.proofs.SameLemmas.{node_in, node_read, read_map, read_set_at}
@@ -197,10 +197,8 @@ tree-given t cols rows o (Some s, h, k) = some-given t s cols rows o h
 -- ---- windows that have their rectangles stay as they are
 
 content-same : (c : Content) (a : Area) → is_sound_content c a ≡ true → content_sized c a ≡ c
-content-same (Pair q) a e = refl
-content-same Blank a e = refl
-content-same (Buffer b) a e = refl
 content-same (Grid g) a e = grind (arith, common_steps)
+content-same c a e = refl
 
 window-same : (w : Window) → is_sound_window w ≡ true → sized w.area w ≡ w
 window-same w e = ap (λ c. record w { content = c }) (content-same w.content w.area e)

@@ -11,7 +11,8 @@ use Rattle.glk_windows.specs.declared.window.Content.TheVariants.{Pair}
 use Rattle.glk_windows.specs.Tree.{WindowTree, set_at, pair_in, pair_content, content_arranged}
 use Rattle.glk_windows.specs.Arranging.{arrange}
 use Rattle.glk_windows.specs.OneTree.{Shape, Leaf, Fork, top, times_reached, pair_without_key}
-use Rattle.glk_windows.specs.OneTree.{node_of, SpellsTree, IsTree, below, key_in, pair_key, has_leaf}
+use Rattle.glk_windows.specs.OneTree.{node_of, SpellsTree, IsTree, below, key_in, pair_key}
+use Rattle.glk_windows.specs.OneTree.{has_leaf}
 use Rattle.glk_windows.specs.Valid.{IsOrdered}
 use Rattle.glk_windows.specs.Laws.{IsKeyOf}
 use Rattle.glk_windows.proofs.OneTreeLemmas.{node_set_at, once_le, once_mapped, is_eq, isnt_eq}

@@ -1,5 +1,5 @@
 -- A window below a pair, by the way up and by the tree.
-use Rattle.std.proofs.Common.{◌≡◌, ◌≢◌, ◌⊎◌, inl, inr, ℕ, zero, suc, ◌≤◌, ◌<◌}
+use Rattle.std.proofs.Common.{◌≡◌, ◌≢◌, ◌⊎◌, inl, inr, ⊎_elim, ℕ, zero, suc, ◌≤◌, ◌<◌}
 use Rattle.std.proofs.Common.{◌==◌, ◌||◌, ◌&&◌, List, [], ◌∷◌, length, refl, sym}
 use Rattle.std.proofs.Common.{ap, ◌∙◌, Option, Some, None, is_some, option_map}
 use Rattle.std.proofs.Common.{arith, Bool, true, false, not, if◌then◌else◌, nat_lt}
@@ -24,7 +24,7 @@ use Rattle.glk_windows.proofs.LiftLemmas.{count_below}
 use Rattle.glk_windows.proofs.CloseLemmas.{size_below, spells_below}
 use Rattle.glk_windows.proofs.KeyLemmas.{leaf_count}
 use Rattle.glk_windows.proofs.TestLemmas.{tree_found}
-use Rattle.glk_windows.proofs.SpreadLemmas.{part_of}
+use Rattle.glk_windows.proofs.SpreadLemmas.{not_in_parts, part_of}
 use Rattle.glk_windows.proofs.ValidLemmas.{node_live, node_nil, some_tree, SomeTree}
 
 pick : {A : Type 0} (b : Bool) → (b ≡ true → A) → (b ≡ false → A) → A
@@ -74,12 +74,6 @@ place-of : (m k : ℕ) (p : pairs.Pair) (a b : Shape)
     → 0 < times_reached (Fork m p a b) k → Place m a b k
 place-of m k p a b h = stands m k p a b (m == k) (nat_lt 0 (times_reached a k)) refl refl h
 
-own : (m : ℕ) (p : pairs.Pair) (a b : Shape) (k : ℕ)
-    → times_reached (Fork m p a b) m ≤ 1
-    → times_reached a k ≡ times_reached a k
-    → (times_reached a m ≡ 0) × (times_reached b m ≡ 0)
-own m p a b k h e = (grind (arith, common_steps), grind (arith, common_steps))
-
 -- the parent of a window of a tree is in the tree, or above it
 parent-in : (ws : List Window) (s : Shape) (up k : ℕ) → SpellsTree ws up s → 0 < times_reached s k
     → (parent_of ws k ≡ up) ⊎ (0 < times_reached s (parent_of ws k))
@@ -91,13 +85,11 @@ parent-in ws (Fork m p a b) up k t c =
     as (λ _. (parent_of ws k ≡ up) ⊎ (0 < times_reached (Fork m p a b) (parent_of ws k))) [
       | Here e ↦ inl (ap (parent_of ws) e ∙ sym (node_parent ws m _ t.0))
       | InA f ↦
-          (elim (parent-in ws a m k t.3 f)
-          as (λ _. (parent_of ws k ≡ up) ⊎ (0 < times_reached (Fork m p a b) (parent_of ws k)))
-          [ inl e ↦ inr (own-count m p a b (parent_of ws k) e) | inr g ↦ inr (omega (arith, g)) ])
+          ⊎_elim (λ e. inr (own-count m p a b (parent_of ws k) e)) (λ g. inr (omega (arith, g)))
+          (parent-in ws a m k t.3 f)
       | InB f ↦
-          (elim (parent-in ws b m k t.4 f)
-          as (λ _. (parent_of ws k ≡ up) ⊎ (0 < times_reached (Fork m p a b) (parent_of ws k)))
-          [ inl e ↦ inr (own-count m p a b (parent_of ws k) e) | inr g ↦ inr (omega (arith, g)) ])
+          ⊎_elim (λ e. inr (own-count m p a b (parent_of ws k) e)) (λ g. inr (omega (arith, g)))
+          (parent-in ws b m k t.4 f)
     ]
 
 -- what hangs below a window of a part is in the part
@@ -116,7 +108,7 @@ below-part ws n (Fork m p a b) up k t d z cn ck cu =
     let u : ℕ = parent_of ws k in
     let dm : times_reached (Fork m p a b) m ≤ 1 = d m in
     let du : times_reached (Fork m p a b) u ≤ 1 = d u in
-    let o : (times_reached a m ≡ 0) × (times_reached b m ≡ 0) = own m p a b k dm refl in
+    let o : (times_reached a m ≡ 0) × (times_reached b m ≡ 0) = not_in_parts m p a b dm in
     pick (m == n)
     (λ e. (let g : below n (Fork m p a b) ≡ Fork m p a b = rw e refl in rw g ck))
     (λ e. pick (nat_lt 0 (times_reached a n))

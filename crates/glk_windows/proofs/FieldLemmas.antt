@@ -48,6 +48,11 @@ shape_fork zero ws n q h e = absurd (omega arith)
 shape_fork (suc d) ws n q h e =
     simp unary_clauses (ap (λ o. shape_with (shape_of d ws) n (option_map pair_without_key o)) e)
 
+pub size_fork : (d : ℕ) (ws : List Window) (n : ℕ) (q : p.Pair) → 0 < d → pair_of ws n ≡ Some q
+    → tree_size (shape_of d ws n)
+    ≡ 1 + tree_size (shape_of (d - 1) ws q.first) + tree_size (shape_of (d - 1) ws q.second)
+size_fork d ws n q h e = ap tree_size (shape_fork d ws n q h e)
+
 -- ---- counting down
 
 size_some : (s : Shape) → 0 < tree_size s
@@ -152,7 +157,8 @@ met-leaf : (ws : List Window) (n up : ℕ) → is_under up (node_of ws n) ≡ tr
 met-leaf [] n up e = absurd cc
 met-leaf (w ∷ ws) n up e = grind (arith, common_steps, e, met-leaf ws n up)
 
-met-size : (ws : List Window) (up : ℕ) (s : Shape) → tested ws up s ≡ true → tree_size s ≤ tally ws s
+met-size : (ws : List Window) (up : ℕ) (s : Shape) → tested ws up s ≡ true
+    → tree_size s ≤ tally ws s
 met-size ws up (Leaf n) e = met-leaf ws n up (tested_top ws up (Leaf n) e)
 met-size ws up (Fork n q a b) e =
     let t = and_parts (tested ws n a) (tested ws n b)

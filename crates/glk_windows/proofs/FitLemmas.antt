@@ -48,7 +48,8 @@ fit_map f num k ws z h = record {
 pub fit_placed : (d : ℕ) (ws : List Window) (z n : ℕ) (r : Area)
     → Fit ws z → Fit (windows_placed d ws n r) z
 fit_placed d ws z n r h =
-    placed_keeps (λ v. Fit v z) (λ v m a k. fit_set_at (sized a) (λ w. refl) (sound_sized a) v z m k)
+    placed_keeps (λ v. Fit v z)
+    (λ v m a k. fit_set_at (sized a) (λ w. refl) (sound_sized a) v z m k)
     d ws n r h
 
 -- another window in a pair, and another pair above a window

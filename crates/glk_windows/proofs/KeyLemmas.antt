@@ -1,7 +1,7 @@
 -- The keys of pairs stay below them.
-use Rattle.std.proofs.Common.{◌≡◌, ◌≢◌, ℕ, zero, suc, ◌≤◌, ◌<◌, ◌==◌, ◌||◌, ◌&&◌, List, []}
+use Rattle.std.proofs.Common.{◌≡◌, ◌≢◌, ℕ, ◌≤◌, ◌<◌, ◌==◌, ◌||◌, ◌&&◌, List, []}
 use Rattle.std.proofs.Common.{◌∷◌, ◌++◌, length, refl, sym, ap, ◌∙◌, Option, Some, None}
-use Rattle.std.proofs.Common.{arith, Bool, true, false, if◌then◌else◌, nat_lt}
+use Rattle.std.proofs.Common.{arith, Bool, true, false, if◌then◌else◌}
 use Rattle.std.proofs.Common.{inl, inr, subst}
 use Rattle.std.proofs.lemmas.Bool.{and_from, and_parts, cases_eq, cond_both, or_left, or_right}
 use Rattle.std.proofs.lemmas.Grind.{common_steps}
@@ -14,16 +14,16 @@ use Rattle.glk_windows.specs.Tree.{WindowTree, window_number, set_at, pair_of, p
 use Rattle.glk_windows.specs.Tree.{pair_content, parent_of, stream_of, swapped}
 use Rattle.glk_windows.specs.Opening.{pair_joined}
 use Rattle.glk_windows.specs.Closing.{windows_without, forgotten, content_unkeyed}
-use Rattle.glk_windows.specs.Closing.{removed, both, sibling_lifted, close}
+use Rattle.glk_windows.specs.Closing.{removed, sibling_lifted, close}
 use Rattle.glk_windows.specs.Reading.{other_window as sibling}
 use Rattle.glk_windows.specs.OneTree.{Shape, Leaf, Fork, top, times_reached}
 use Rattle.glk_windows.specs.OneTree.{node_of, SpellsTree, IsTree, tree_size, below, tree_without}
 use Rattle.glk_windows.specs.OneTree.{tree_forked, key_in, pair_key, has_leaf, are_keyed}
 use Rattle.glk_windows.specs.Valid.{Ascends, IsOrdered}
-use Rattle.glk_windows.proofs.OrderLemmas.{ascends-closed, ascends-removed}
+use Rattle.glk_windows.proofs.OrderLemmas.{ascends-removed}
 use Rattle.glk_windows.proofs.OneTreeLemmas.{count_top, once_at, once_le}
-use Rattle.glk_windows.proofs.CutLemmas.{spells_on, node_pair, node_closed, none_of}
-use Rattle.glk_windows.proofs.CutLemmas.{node_removed, both_nodes, size_length}
+use Rattle.glk_windows.proofs.CutLemmas.{node_closed}
+use Rattle.glk_windows.proofs.CutLemmas.{removed_from, size_length}
 use Rattle.glk_windows.proofs.LiftLemmas.{First, InFirst, InSecond, Second, cut_at, count_below}
 use Rattle.glk_windows.proofs.LiftLemmas.{leaf_top}
 use Rattle.glk_windows.proofs.CloseLemmas.{size_below, spells_below}
@@ -200,35 +200,12 @@ left-removed : (d : ℕ) (s : Shape) (ws : List Window) (up a z : ℕ)
     → ((k : ℕ) → times_reached s k ≤ 1) → (m : ℕ)
     → pair_key (removed d ws (top s)) m ≢ 0
     → IsLeft (pair_key (removed d ws (top s)) m) (pair_key ws m) s
-unfolding removed
-left-removed zero (Leaf n) ws up a z h o t c m = absurd (omega (arith, h))
-left-removed zero (Fork n p x y) ws up a z h o t c m = absurd (omega (arith, h))
-left-removed (suc d) (Leaf n) ws up a z h o t c m =
-    at-list _ (windows_without ws n) m (pair_key ws m) (Leaf n)
-    (ap (λ o. both (removed d) (windows_without ws n) o) (none_of _ (node_pair ws n _ t)))
-    (left-closed ws a z n m o)
-left-removed (suc d) (Fork n p x y) ws up a z h o t c m =
-    let w1 : List Window = windows_without ws n in
-    let w2 : List Window = removed d w1 (top x) in
-    let o1 : Ascends a w1 z = ascends-closed a ws z n o in
-    let o2 : Ascends a w2 z = ascends-removed d a w1 z (top x) o1 in
-    let cn : times_reached (Fork n p x y) n ≤ 1 = c n in
-    let n1 : (k : ℕ) → node_of w1 k ≡ (if k == n then None else node_of ws k) =
-    λ k. node_closed a ws z n k o in
-    let t1 : SpellsTree w1 n x = spells_on ws w1 x n
-    (λ k l. n1 k ∙ (let ck : _ = c k in grind (arith, common_steps))) t.3 in
-    let n2 : (k : ℕ)
-    → node_of w2 k ≡ (if nat_lt 0 (times_reached x k) then None else node_of w1 k) =
-    λ k. node_removed d x w1 n a z (omega (arith, h)) o1 t1 (λ j. omega (arith, c j)) k in
-    let t2 : SpellsTree w2 n y = spells_on ws w2 y n
-    (λ k l. n2 k ∙ (let ck : _ = c k in let nk : _ = n1 k in grind (arith, common_steps))) t.4 in
-    at-list _ (removed d w2 (top y)) m (pair_key ws m) (Fork n p x y)
-    (both_nodes (pair_of ws n) d w1 p (node_pair ws n _ t.0)
-    ∙ ap (λ j. removed d (removed d w1 j) p.second) t.1 ∙ ap (λ j. removed d w2 j) t.2)
-    (fork-lost n p x y (pair_key ws m) (pair_key w1 m) (pair_key w2 m) _
-    (left-closed ws a z n m o)
-    (left-removed d x w1 n a z (omega (arith, h)) o1 t1 (λ j. omega (arith, c j)) m)
-    (left-removed d y w2 n a z (omega (arith, h)) o2 t2 (λ j. omega (arith, c j)) m))
+left-removed d s ws up a z h o t c =
+    (removed_from
+    (λ s ws vs. (m : ℕ) → pair_key vs m ≢ 0 → IsLeft (pair_key vs m) (pair_key ws m) s) a z
+    (λ ws n o m. left-closed ws a z n m o)
+    (λ ws us vs ts n p x y f g l m. fork-lost n p x y (pair_key ws m) (pair_key us m)
+    (pair_key vs m) (pair_key ts m) (f m) (g m) (l m)) d s ws up h o t c).1
 
 key-swapped : (c : Content) (old new : ℕ)
     → key_in (pair_content (swapped c old new)) ≡ key_in (pair_content c)
@@ -324,7 +301,8 @@ keyed_cut ws vs n (Fork m p a b) d h c f k =
       | Second j i l t ↦ subst (Keyed vs) (sym t) (keyed-kept ws vs sub a f k.1)
       | InFirst i ca l t ↦ subst (Keyed vs) (sym t) (
         λ j. or-more (has_leaf a v) (has_leaf b v) _ _ (was j)
-            (λ y. leaf-cut n a v (λ x. omega (arith, d x)) i ca y (stays (below n a) l m j)) (λ y. y),
+            (λ y. leaf-cut n a v (λ x. omega (arith, d x)) i ca y (stays (below n a) l m j))
+            (λ y. y),
         keyed_cut ws vs n a (λ x. omega (arith, d x)) i ca
             (λ j y. record { same = (f j y).same; stays = stays (below n a) l j y }) k.1,
         keyed-kept ws vs sub b f k.2,

@@ -121,7 +121,8 @@ spread-apart ws at (Fork n p a b) r m o x y t ne i e j f v w =
     (λ g. ⊎_elim (λ l. spread-apart ws at a _ m o x y t.5 ne g e l f v w)
     (λ l. k.apart x y (one m g e v) (two o l f w)) (part_of n o p a b (no-pair ws n o t.1 t.2 f) j))
     (λ g. ⊎_elim (λ l. k.apart x y (one o l f w) (two m g e v))
-    (λ l. spread-apart ws at b _ m o x y t.6 ne g e l f v w) (part_of n o p a b (no-pair ws n o t.1 t.2 f) j))
+    (λ l. spread-apart ws at b _ m o x y t.6 ne g e l f v w)
+    (part_of n o p a b (no-pair ws n o t.1 t.2 f) j))
     (part_of n m p a b (no-pair ws n m t.1 t.2 e) i)
 
 spread-filled : (ws : List Window) (at : ℕ → Area) (s : Shape) (r : Area) (x y : ℕ)

@@ -68,7 +68,8 @@ pair_sized a c = refl
 abbrev pub node_in : Window → Option (ℕ × Option p.Pair)
 node_in w = Some (w.parent, bare_in w)
 
-pub node_read : (ws : List Window) (m : ℕ) → node_of ws m ≡ read_window None node_in (window_at ws m)
+pub node_read : (ws : List Window) (m : ℕ)
+    → node_of ws m ≡ read_window None node_in (window_at ws m)
 unfolding found
 node_read [] m = refl
 node_read (w ∷ ws) m = let k : _ = node_read ws m in grind (arith, common_steps)

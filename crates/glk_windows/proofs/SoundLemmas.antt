@@ -11,7 +11,7 @@ use Rattle.glk_windows.specs.declared.window.Window.{Window}
 use Rattle.glk_windows.specs.declared.window.Area.{Area}
 use Rattle.glk_windows.specs.declared.window.Grid as g
 use Rattle.glk_windows.specs.declared.window.Content.{Content}
-use Rattle.glk_windows.specs.declared.window.Content.TheVariants.{Pair, Blank, Buffer, Grid}
+use Rattle.glk_windows.specs.declared.window.Content.TheVariants.{Pair, Grid}
 use Rattle.glk_windows.specs.Tree.{window_number, set_at, swapped}
 use Rattle.glk_windows.specs.Tree.{content_arranged, grid_cursor_moved}
 use Rattle.glk_windows.specs.Output.{content_put, content_cleared, content_kept}
@@ -110,20 +110,16 @@ whole-put x a code e =
 
 pub sound_put : (c : Content) (a : Area) (code style : ℕ) → is_sound_content c a ≡ true
     → is_sound_content (content_put c code style) a ≡ true
-sound_put (Pair q) a code style e = e
-sound_put Blank a code style e = e
-sound_put (Buffer b) a code style e = e
 sound_put (Grid x) a code style e = whole-put x a code e
+sound_put c a code style e = e
 
 pub sound_cleared : (c : Content) (a : Area)
     → is_sound_content c a ≡ true
     → is_sound_content (content_cleared c) a ≡ true
-sound_cleared (Pair q) a e = e
-sound_cleared Blank a e = e
-sound_cleared (Buffer b) a e = e
 sound_cleared (Grid x) a e =
     ap (λ n. x.w == a.w && (x.h == a.h && n == x.h * x.w)) (length-replicate (length x.cells) 32)
     ∙ e
+sound_cleared c a e = e
 
 pub sound_kept : (c : Content) (a : Area)
     → is_sound_content c a ≡ true
@@ -162,12 +158,10 @@ whole-same x a b c e f l =
 sized-content : (c : Content) (o a : Area)
     → is_sound_content c o ≡ true
     → is_sound_content (content_sized c a) a ≡ true
-sized-content (Pair q) o a e = e
-sized-content Blank o a e = e
-sized-content (Buffer b) o a e = e
 sized-content (Grid x) o a e =
     whole-same x a (x.w == a.w) (x.h == a.h) refl refl
     (and_parts (x.h == o.h) _ (and_parts (x.w == o.w) _ e).1).1
+sized-content c o a e = e
 
 pub sound_sized : (a : Area) → KeepsSound (sized a)
 sound_sized a w e = sized-content w.content w.area a e

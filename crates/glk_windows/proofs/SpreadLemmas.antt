@@ -170,9 +170,10 @@ spread-on ws vs at to p z (Fork n f a b) r h t =
           (spread-on ws vs at to p z b _ (λ m l. h m (omega (arith, l))) t.6),
     )
 
-own-count : (n : ℕ) (p : pairs.Pair) (a b : Shape) → times_reached (Fork n p a b) n ≤ 1
+-- a window is not below itself
+pub not_in_parts : (n : ℕ) (p : pairs.Pair) (a b : Shape) → times_reached (Fork n p a b) n ≤ 1
     → (times_reached a n ≡ 0) × (times_reached b n ≡ 0)
-own-count n p a b l = (grind (arith, common_steps), grind (arith, common_steps))
+not_in_parts n p a b l = (grind (arith, common_steps), grind (arith, common_steps))
 
 -- so have those of a tree that is placed
 spread : (d : ℕ) (s : Shape) (ws : List Window) (up : ℕ) (r : Area) → tree_size s ≤ d
@@ -193,7 +194,7 @@ spread (suc d) (Fork n p a b) ws up r h t c =
     let w3 : List Window = windows_placed d w2 (top b) two in
     let t1 : SpellsTree w1 n a = spells-with ws n r a n t.3 in
     let t2 : SpellsTree w2 n b = spells-placed d ws n (top a) r one b n t.4 in
-    let own : (times_reached a n ≡ 0) × (times_reached b n ≡ 0) = own-count n p a b (c n) in
+    let own : (times_reached a n ≡ 0) × (times_reached b n ≡ 0) = not_in_parts n p a b (c n) in
     let kept : (m : ℕ) → times_reached b m ≡ 0 → window_area w3 m ≡ window_area w2 m =
     λ m e. area-kept d b w2 n two m t2 e in
     subst (λ v. Spread ws (window_area v) (Fork n p a b) r) (sym k.is) (
