@@ -10,7 +10,7 @@ use Rattle.glk_windows.specs.Closing as closing
 use Rattle.glk_windows.specs.Reading as reading
 use Rattle.glk_windows.specs.Valid.{Ascends}
 use Rattle.glk_windows.specs.declared.window.Content.{Content}
-use Rattle.glk_windows.specs.declared.window.Content.TheVariants.{Pair, Blank, Buffer, Grid}
+use Rattle.glk_windows.specs.declared.window.Content.TheVariants.{Pair}
 use Rattle.glk_windows.specs.declared.window.Window.{Window}
 use Rattle.glk_streams.specs.Streams as streams
 use Rattle.glk_streams.specs.Opening as sopen
@@ -107,9 +107,7 @@ owned (s ∷ ss) low high n k a e = elim (cases_Bool (streams.is_of_window n s.t
 kind-unkeyed : (c : Content) (n : ℕ) → reading.kind_in (closing.content_unkeyed n c)
     ≡ reading.kind_in c
 kind-unkeyed (Pair p) n = refl
-kind-unkeyed Blank n = refl
-kind-unkeyed (Buffer b) n = refl
-kind-unkeyed (Grid g) n = refl
+kind-unkeyed c n = refl
 
 link-closed : (n str : ℕ) (b : Bool) (o : Option Window)
     → option_map window_link (option_map (closing.unlinked n str) (if b then None else o))

@@ -3,6 +3,7 @@ use Rattle.std.proofs.Common.{◌≡◌, ℕ, zero, suc, ◌+◌, ◌%◌, ◌^�
 use Rattle.std.proofs.Common.{not, nat_le, Bool, true, false, List, [], ◌∷◌, ◌++◌, length}
 use Rattle.std.proofs.Common.{length-append, refl, arith, ◌<◌, ◌≤◌, Option, Some, None, Result, Ok}
 use Rattle.std.proofs.Common.{Err, cond, ◌⊎◌, ◌∙◌, inl, inr, is_some}
+use Rattle.std.proofs.lemmas.Bool.{and_parts}
 use Rattle.std.specs.Prelude.{IfOk}
 use Rattle.std.proofs.lemmas.Bool.Decides.{nat_tests}
 use Rattle.std.proofs.lemmas.Grind.{common_steps}
@@ -36,11 +37,11 @@ use Rattle.glk_dispatch.specs.declared.events.EventCall.TheVariants as ev
 use Rattle.glk_dispatch.specs.declared.events.TheConstants.{INPUT, MAX_INITIAL, NEWLINE}
 use Rattle.glk_dispatch.specs.declared.glk.Glk.{Glk}
 use Rattle.glk_dispatch.proofs.AskLemmas.{asked-changed, with-live}
-use Rattle.glk_dispatch.proofs.KeptLemmas.{Kept, Keeps, Puts, Valid, begins-puts, between}
-use Rattle.glk_dispatch.proofs.KeptLemmas.{kept-alone, kept-bind, kept-if, kept-read}
-use Rattle.glk_dispatch.proofs.KeptLemmas.{kept-refers_all, kept-row, kept-step, kept-told, laws}
-use Rattle.glk_dispatch.proofs.KeptLemmas.{ok-coded, ok-written, on, puts, row, row-needs}
+use Rattle.glk_dispatch.proofs.KeptLemmas.{Keeps, Kept, Puts, Valid, begins-puts, between}
+use Rattle.glk_dispatch.proofs.KeptLemmas.{kept-alone, kept-bind, kept-if, kept-read, kept-row}
+use Rattle.glk_dispatch.proofs.KeptLemmas.{kept-step, laws, ok-coded, on, puts, row, row-needs}
 use Rattle.glk_dispatch.proofs.KeptLemmas.{same-parts, self, stands, told, with-requests}
+use Rattle.glk_dispatch.proofs.KeptStory.{kept-refers_all, kept-told, ok-written}
 use Rattle.glk_dispatch.proofs.KeptOutput.{kept-echo_put}
 use Rattle.glk_dispatch.proofs.KeptStreams.{prompted-valid}
 
@@ -87,14 +88,6 @@ begun-requests : (g : Glk) (win : ℕ) → AreValid g → has_window g win ≡ t
     → are_valid_inputs (request.with_window g.requests win) ≡ true
 begun-requests g win v live =
     let r = live-range g win v live in laws.requests.begun g.requests win r.0 r.1 v.requests
-
-and-first : (a b : Bool) → (a && b) ≡ true → a ≡ true
-and-first true b e = refl
-and-first false b e = e
-
-and-second : (a b : Bool) → (a && b) ≡ true → b ≡ true
-and-second true b e = e
-and-second false b e = absurd cc
 
 at-most : (a b : ℕ) → nat_le a b ≡ true → a ≤ b
 at-most a b e = grind (arith, nat_tests)
@@ -276,8 +269,8 @@ kept-event_work (ev.RequestLine u) s l =
     (λ f. row-needs s (told s) (nat_le (l 3) (l 2) && nat_le (l 3) MAX_INITIAL) 22 _
     (λ h. kept-asks s _ (λ v.
     laws.requests.line (l 1) (l 2) (l 3) u
-    (at-most (l 3) (l 2) (and-first (nat_le (l 3) (l 2)) (nat_le (l 3) MAX_INITIAL) h))
-    (at-most (l 3) 1024 (and-second (nat_le (l 3) (l 2)) (nat_le (l 3) MAX_INITIAL) h))
+    (at-most (l 3) (l 2) (and_parts (nat_le (l 3) (l 2)) (nat_le (l 3) MAX_INITIAL) h).0)
+    (at-most (l 3) 1024 (and_parts (nat_le (l 3) (l 2)) (nat_le (l 3) MAX_INITIAL) h).1)
     (request.with_window s.glk.requests (l 0)) (l 0) (begun-requests s.glk (l 0) v e))
     (asked-live s.glk (request.line_asked (l 1) (l 2) (l 3) u) (l 0) e (λ w. refl)
     (λ w i. inl f))))))
