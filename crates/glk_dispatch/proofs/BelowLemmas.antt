@@ -16,7 +16,7 @@ use Rattle.glk_windows.specs.OneTree.{times_reached, pair_without_key, below}
 use Rattle.glk_windows.specs.OneTree.{pair_above, node_of, SpellsTree, tree_size}
 use Rattle.glk_windows.specs.declared.window.Pair as p
 use Rattle.glk_windows.specs.declared.window.Window.{Window}
-use Rattle.glk_windows.proofs.CutLemmas.{both_nodes, node_closed, node_lower, node_pair}
+use Rattle.glk_windows.proofs.CutLemmas.{both_nodes, node_closed, node_lower, node_pair, none_of}
 use Rattle.glk_windows.proofs.CutLemmas.{node_removed, size_length, spells_on}
 use Rattle.glk_windows.proofs.LiftLemmas.{count_below, outside}
 use Rattle.glk_windows.proofs.CloseLemmas.{size_below, spells_below}
@@ -49,10 +49,6 @@ all_dropped-same of k (suc depth) g win =
 pub all_dropped-windows : (depth : ℕ) (g : Glk) (win : ℕ)
     → (rows.all_dropped depth g win).windows ≡ g.windows
 all_dropped-windows depth g win = all_dropped-same (λ h. h.windows) (λ h n. refl) depth g win
-
-none_of : (o : Option p.Pair) → option_map pair_without_key o ≡ None → o ≡ None
-none_of None e = refl
-none_of (Some q) e = cc
 
 live-node : (ws : List Window) (n : ℕ) (x : ℕ × Option p.Pair) → node_of ws n ≡ Some x
     → live_stream (links_in ws n) ≡ Some (tree.stream_of ws n)

@@ -5,7 +5,7 @@ use Rattle.std.proofs.Common.{◌==◌, ◌||◌, Bool, true, false, List, [], �
 use Rattle.std.proofs.Common.{◌∙◌}
 use Rattle.std.proofs.Common.{arith}
 use Rattle.std.proofs.lemmas.Grind.{common_steps}
-use Rattle.std.proofs.lemmas.Bool.{cases_Bool, or_cases, or_left, or_parts, or_right}
+use Rattle.std.proofs.lemmas.Bool.{cases_Bool, eqb-true, or_cases, or_left, or_parts, or_right}
 use Rattle.glk_dispatch.specs.Links.{echoes_end, ComesToAnEnd, HasNoLoop}
 
 -- a stream from which nothing goes on
@@ -171,9 +171,6 @@ pub record AreListed {X : Type 0} (f : ℕ → ℕ) (hit own : ℕ → Bool) (ec
 over-not : (f : ℕ → ℕ) (k n : ℕ) → echoes_end k f n ≡ false → n ≢ 0
 over-not f k n e z = let c : true ≡ false = sym (over-stop k f n z) ∙ e in absurd cc
 
-same-number : (m n : ℕ) → (m == n) ≡ true → m ≡ n
-same-number m n e = grind (arith, common_steps, e)
-
 -- where the echoes come to an end at one step more, so do those of a window more
 count-next : {X : Type 0} (f : ℕ → ℕ) (echo : X → ℕ) (ws : List X) (k n : ℕ)
     → echoes_end k f (f n) ≡ false → echoes_end (suc k) f (f n) ≡ true
@@ -183,8 +180,8 @@ count-next f echo ws k n before on there =
     count-some (λ x. echoes_end k f (echo x)) (λ x. echoes_end (suc k) f (echo x))
     (λ x. echo x == f n) (λ x h. over-more f k (echo x) h)
     (λ x h. (
-      ap (echoes_end k f) (same-number (echo x) (f n) h) ∙ before,
-      ap (echoes_end (suc k) f) (same-number (echo x) (f n) h) ∙ on,
+      ap (echoes_end k f) (eqb-true (echo x) (f n) h) ∙ before,
+      ap (echoes_end (suc k) f) (eqb-true (echo x) (f n) h) ∙ on,
     )) ws there
 
 -- a window is counted
@@ -194,12 +191,12 @@ count-one : {X : Type 0} (f : ℕ → ℕ) (echo : X → ℕ) (ws : List X) (k m
 count-one f echo ws k m i e =
     let l = count-some (λ x. false) (λ x. echoes_end k f (echo x)) (λ x. echo x == m)
     (λ x h. absurd cc)
-    (λ x h. (refl, ap (echoes_end k f) (same-number (echo x) m h) ∙ e)) ws i in
+    (λ x h. (refl, ap (echoes_end k f) (eqb-true (echo x) m h) ∙ e)) ws i in
     omega (arith, l)
 
 over-zero : (f : ℕ → ℕ) (n : ℕ) → echoes_end 0 f n ≡ true → n ≡ 0
 unfolding echoes_end
-over-zero f n e = same-number n 0 e
+over-zero f n e = eqb-true n 0 e
 
 over-on : (k : ℕ) (f : ℕ → ℕ) (n : ℕ) → echoes_end (suc k) f n ≡ true → echoes_end k f n ≡ false
     → echoes_end k f (f n) ≡ true
