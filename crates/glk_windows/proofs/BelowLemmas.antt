@@ -20,16 +20,12 @@ use Rattle.glk_windows.specs.Valid.{IsValidTree, IsOrdered}
 use Rattle.glk_windows.specs.Laws.{IsKeyOf, MayKeyHolds}
 use Rattle.glk_windows.proofs.OneTreeLemmas.{count_top, is_eq, once_at, once_le, node_parent}
 use Rattle.glk_windows.proofs.CutLemmas.{node_lower, node_pair, none_of, size_length}
-use Rattle.glk_windows.proofs.LiftLemmas.{count_below}
+use Rattle.glk_windows.proofs.LiftLemmas.{count_below, pick}
 use Rattle.glk_windows.proofs.CloseLemmas.{size_below, spells_below}
 use Rattle.glk_windows.proofs.KeyLemmas.{leaf_count}
 use Rattle.glk_windows.proofs.TestLemmas.{tree_found}
 use Rattle.glk_windows.proofs.SpreadLemmas.{not_in_parts, part_of}
 use Rattle.glk_windows.proofs.ValidLemmas.{node_live, node_nil, some_tree, SomeTree}
-
-pick : {A : Type 0} (b : Bool) → (b ≡ true → A) → (b ≡ false → A) → A
-pick true f g = f refl
-pick false f g = g refl
 
 or-false : (a b : Bool) → a ≡ false → (a || b) ≡ true → b ≡ true
 or-false true b e f = cc
@@ -37,9 +33,6 @@ or-false false b e f = f
 
 ap-lt : {x y : ℕ} → x ≡ y → 0 < x → 0 < y
 ap-lt e h = omega (arith, e, h)
-
-lt-ap : {x y : ℕ} → x ≡ y → 0 < y → 0 < x
-lt-ap e h = omega (arith, e, h)
 
 zero-at : (f : ℕ → ℕ) (u m : ℕ) → u ≡ m → f m ≡ 0 → 0 < f u → ⊥
 zero-at f u m e z c = absurd (omega (arith, ap f e, z, c))
@@ -116,7 +109,7 @@ below-part ws n (Fork m p a b) up k t d z cn ck cu =
     let ca : 0 < times_reached a n = grind (arith, common_steps) in
     let cv : 0 < times_reached (below n a) u = ap-lt (ap (λ x. times_reached x u) g) cu in
     let cau : 0 < times_reached a u = omega (arith, cv, count_below n a u) in
-    lt-ap (ap (λ x. times_reached x k) g)
+    ap-lt (ap (λ x. times_reached x k) (sym g))
     (elim (place-of m k p a b ck) as (λ _. 0 < times_reached (below n a) k) [
       | Here h ↦
           absurd (above ws m k u up p a b h refl (node_parent ws m _ t.0) z (omega (arith, cau)))
@@ -130,7 +123,7 @@ below-part ws n (Fork m p a b) up k t d z cn ck cu =
     let cb : 0 < times_reached b n = grind (arith, common_steps) in
     let cv : 0 < times_reached (below n b) u = ap-lt (ap (λ x. times_reached x u) g) cu in
     let cbu : 0 < times_reached b u = omega (arith, cv, count_below n b u) in
-    lt-ap (ap (λ x. times_reached x k) g)
+    ap-lt (ap (λ x. times_reached x k) (sym g))
     (elim (place-of m k p a b ck) as (λ _. 0 < times_reached (below n b) k) [
       | Here h ↦
           absurd (above ws m k u up p a b h refl (node_parent ws m _ t.0) z (omega (arith, cbu)))

@@ -40,7 +40,7 @@ pub below_top : (n : ℕ) (s : Shape) → top s ≡ n → below n s ≡ s
 below_top n (Leaf k) e = refl
 below_top n (Fork k p a b) e = grind (arith, common_steps)
 
-pick : {A : Type 0} (b : Bool) → (b ≡ true → A) → (b ≡ false → A) → A
+pub pick : {A : Type 0} (b : Bool) → (b ≡ true → A) → (b ≡ false → A) → A
 pick true f g = f refl
 pick false f g = g refl
 
@@ -307,8 +307,7 @@ pub outside : (ws : List Window) (n : ℕ) (s : Shape) (up : ℕ)
     → (times_reached (below n s) (parent_of ws n) ≡ 0)
     × (node_of ws (parent_of ws n) ≡ Some (parent_of ws (parent_of ws n), Some (pair_above n s)))
     × (0 < times_reached s (parent_of ws n))
-outside ws n (Leaf m) up t d h c =
-    absurd (let i : (m == n) ≡ false = grind (arith, common_steps) in grind (arith, common_steps))
+outside ws n (Leaf m) up t d h c = absurd (h (leaf_top n m c))
 outside ws n (Fork m p a b) up t d h c =
     let mn : (m == n) ≡ false = grind (arith, common_steps) in
     let dn : times_reached (Fork m p a b) n ≤ 1 = d n in
