@@ -246,8 +246,8 @@ module _ (g : Glk) (v : AreValid g) (k : AreLinked (links g) (stream_ends g)) (a
       and_from (is_named_by g s.number s.target) (is_plain_stream s && comes_to_an_end g s.number)
       (target-named g s.number s.target (λ win e. stream-named g win s.number
       (k.windows s.number win (ap owner here ∙ e))))
-      (and_from (is_plain_stream s) (comes_to_an_end g s.number) (k.plain s.number (stream_end s) here)
-      (ends-fit s.number))
+      (and_from (is_plain_stream s) (comes_to_an_end g s.number)
+      (k.plain s.number (stream_end s) here) (ends-fit s.number))
 
   entry-fits : (w : WindowInput) → found request.input_window_number g.requests w.win ≡ Some w
       → entry_fits g w ≡ true

@@ -133,7 +133,9 @@ removed_from Q a z one all (suc d) (Fork n p x y) ws up h o t c =
 
 pub node_removed : (d : ℕ) (s : Shape) (ws : List Window) (up a z : ℕ)
     → tree_size s ≤ d → Ascends a ws z → SpellsTree ws up s
-    → ((m : ℕ) → times_reached s m ≤ 1) → AreGone s ws (removed d ws (top s))
+    → ((m : ℕ) → times_reached s m ≤ 1) → (m : ℕ)
+    → node_of (removed d ws (top s)) m
+    ≡ (if nat_lt 0 (times_reached s m) then None else node_of ws m)
 node_removed d s ws up a z h o t c =
     (removed_from (λ s ws vs. Unit {0}) a z (λ ws n o. tt) (λ ws us vs ts n p x y f g h. tt)
     d s ws up h o t c).0

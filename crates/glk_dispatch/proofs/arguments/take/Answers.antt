@@ -14,7 +14,9 @@ loop-index-preserved c =
     omega arith in
     record {
       below = omega arith;
-      sofar = rw (← k, ← c.loop-index.invariant.sofar, taken-more (c.args.given - c.loop-index.index)) (search rules);
+      sofar = rw
+          (← k, ← c.loop-index.invariant.sofar, taken-more (c.args.given - c.loop-index.index))
+          (search rules);
     }
 
 pub returns : goal.returns

@@ -24,7 +24,9 @@ loop-count-preserved c =
     omega arith in
     record {
       below = omega arith;
-      sofar = rw (← k, ← c.loop-count.invariant.sofar, got_array-more (c.args.most - c.loop-count.count)) (search rules);
+      sofar = rw
+          (← k, ← c.loop-count.invariant.sofar, got_array-more (c.args.most - c.loop-count.count))
+          (search rules);
     }
 
 pub returns : goal.returns
