@@ -2,12 +2,13 @@
 use Rattle.std.proofs.Common.{◌≡◌, ◌≢◌, ℕ, zero, suc, ◌==◌, nat_lt, Bool, true, false, List, []}
 use Rattle.std.proofs.Common.{◌∷◌, length, subst, refl, sym, ap, ◌∙◌, arith, Option, Some, None}
 use Rattle.std.proofs.Common.{option_map, if◌then◌else◌, ◌≤◌, ◌<◌}
+use Rattle.std.proofs.lemmas.Bool.{cond_both}
 use Rattle.std.proofs.lemmas.Grind.{common_steps}
 use Rattle.glk_numbers.specs.Numbered.{ascends, found}
 use Rattle.glk_windows.specs.Tree as tree
 use Rattle.glk_windows.specs.Closing.{both, close, windows_without, sibling_lifted, raised, removed}
 use Rattle.glk_windows.specs.declared.window.Content.{Content}
-use Rattle.glk_windows.specs.declared.window.Content.TheVariants.{Pair, Blank, Buffer, Grid}
+use Rattle.glk_windows.specs.declared.window.Content.TheVariants.{Pair}
 use Rattle.glk_windows.specs.Reading as reading
 use Rattle.glk_windows.specs.Valid.{Ascends, IsOrdered}
 use Rattle.glk_windows.specs.OneTree.{Shape, Leaf, Fork, IsTree, top}
@@ -15,7 +16,7 @@ use Rattle.glk_windows.specs.OneTree.{times_reached, pair_without_key, below}
 use Rattle.glk_windows.specs.OneTree.{pair_above, node_of, SpellsTree, tree_size}
 use Rattle.glk_windows.specs.declared.window.Pair as p
 use Rattle.glk_windows.specs.declared.window.Window.{Window}
-use Rattle.glk_windows.proofs.CutLemmas.{both_nodes, node_closed, node_lower, node_pair}
+use Rattle.glk_windows.proofs.CutLemmas.{both_nodes, node_closed, node_lower, node_pair, none_of}
 use Rattle.glk_windows.proofs.CutLemmas.{node_removed, size_length, spells_on}
 use Rattle.glk_windows.proofs.LiftLemmas.{count_below, outside}
 use Rattle.glk_windows.proofs.CloseLemmas.{size_below, spells_below}
@@ -31,11 +32,6 @@ use Rattle.glk_dispatch.proofs.AskLemmas.{AskedBy, asked-less, asked-same}
 use Rattle.glk_dispatch.proofs.LinkLemmas.{linked-same, unechoed}
 use Rattle.glk_dispatch.proofs.CloseLemmas.{ends_in, linked-less, links-less, links_in}
 
-same-if : {A : Type 0} (of : Glk → A) (b : Bool) (x y : Glk) (v : A) → of x ≡ v → of y ≡ v
-    → of (if b then x else y) ≡ v
-same-if of true x y v e f = e
-same-if of false x y v e f = f
-
 -- what dropping one window keeps
 pub all_dropped-same : {A : Type 0} (of : Glk → A)
     → ((h : Glk) (n : ℕ) → of (rows.window_dropped h n) ≡ of h)
@@ -45,18 +41,14 @@ all_dropped-same of k zero g win = refl
 all_dropped-same of k (suc depth) g win =
     let h = rows.window_dropped g win in
     let q = reading.children_of g.windows.slots win in
-    same-if of (q.0 == 0) h (rows.all_dropped depth (rows.all_dropped depth h q.0) q.1) (of g)
-    (k g win)
-    (all_dropped-same of k depth (rows.all_dropped depth h q.0) q.1
+    cond_both (q.0 == 0) h (rows.all_dropped depth (rows.all_dropped depth h q.0) q.1)
+    (λ x. of x ≡ of g) (λ e. k g win)
+    (λ e. all_dropped-same of k depth (rows.all_dropped depth h q.0) q.1
     ∙ all_dropped-same of k depth h q.0 ∙ k g win)
 
 pub all_dropped-windows : (depth : ℕ) (g : Glk) (win : ℕ)
     → (rows.all_dropped depth g win).windows ≡ g.windows
 all_dropped-windows depth g win = all_dropped-same (λ h. h.windows) (λ h n. refl) depth g win
-
-none_of : (o : Option p.Pair) → option_map pair_without_key o ≡ None → o ≡ None
-none_of None e = refl
-none_of (Some q) e = cc
 
 live-node : (ws : List Window) (n : ℕ) (x : ℕ × Option p.Pair) → node_of ws n ≡ Some x
     → live_stream (links_in ws n) ≡ Some (tree.stream_of ws n)
@@ -164,9 +156,7 @@ removed-left (suc d) (Fork n q x y) ws g up z h o t c same v =
 pub kind-swapped : (c : Content) (old new : ℕ) → reading.kind_in (tree.swapped c old new)
     ≡ reading.kind_in c
 kind-swapped (Pair q) old new = refl
-kind-swapped Blank old new = refl
-kind-swapped (Buffer b) old new = refl
-kind-swapped (Grid g) old new = refl
+kind-swapped c old new = refl
 
 raised-links : (ws : List Window) (pair sibling above m : ℕ)
     → links_in (raised ws pair sibling above) m ≡ links_in (windows_without ws pair) m

@@ -3,14 +3,14 @@ use Rattle.std.proofs.Common.{◌≡◌, inl, inr, ℕ, ◌+◌, ◌==◌, Bool,
 use Rattle.std.proofs.Common.{sym, ap, ◌∙◌, arith, Option, Some, None, option_map, if◌then◌else◌}
 use Rattle.std.proofs.Common.{◌≤◌, ◌<◌}
 use Rattle.std.proofs.lemmas.Grind.{common_steps}
-use Rattle.std.proofs.lemmas.Bool.{cases_Bool}
+use Rattle.std.proofs.lemmas.Bool.{cases_Bool, eq-eqb, eqb-true}
 use Rattle.glk_numbers.specs.Numbered.{ascends, found, without}
 use Rattle.glk_windows.specs.Tree as tree
 use Rattle.glk_windows.specs.Closing as closing
 use Rattle.glk_windows.specs.Reading as reading
 use Rattle.glk_windows.specs.Valid.{Ascends}
 use Rattle.glk_windows.specs.declared.window.Content.{Content}
-use Rattle.glk_windows.specs.declared.window.Content.TheVariants.{Pair, Blank, Buffer, Grid}
+use Rattle.glk_windows.specs.declared.window.Content.TheVariants.{Pair}
 use Rattle.glk_windows.specs.declared.window.Window.{Window}
 use Rattle.glk_streams.specs.Streams as streams
 use Rattle.glk_streams.specs.Opening as sopen
@@ -107,9 +107,7 @@ owned (s ∷ ss) low high n k a e = elim (cases_Bool (streams.is_of_window n s.t
 kind-unkeyed : (c : Content) (n : ℕ) → reading.kind_in (closing.content_unkeyed n c)
     ≡ reading.kind_in c
 kind-unkeyed (Pair p) n = refl
-kind-unkeyed Blank n = refl
-kind-unkeyed (Buffer b) n = refl
-kind-unkeyed (Grid g) n = refl
+kind-unkeyed c n = refl
 
 link-closed : (n str : ℕ) (b : Bool) (o : Option Window)
     → option_map window_link (option_map (closing.unlinked n str) (if b then None else o))
@@ -143,12 +141,6 @@ both-or-none : (a b : Bool) → (a ≡ true → b ≡ true) → (b ≡ true → 
 both-or-none true b f g = sym (f refl)
 both-or-none false true f g = g refl
 both-or-none false false f g = refl
-
-same-number : (m n : ℕ) → (m == n) ≡ true → m ≡ n
-same-number m n e = grind (arith, common_steps, e)
-
-number-same : (m n : ℕ) → m ≡ n → (m == n) ≡ true
-number-same m n e = grind (arith, common_steps, e)
 
 -- the windows that stay
 pub links-less : (ws : List Window) (z n : ℕ) → Ascends 1 ws z → (m : ℕ)
@@ -191,8 +183,8 @@ linked-less ws t z n k o a live v =
           (found-without streams.stream_number t.streams 0 t.next k m a)
           ∙ end-closed (m == k) (streams.stream_at t m);
       together = λ m win e. both-or-none (m == k) (win == n)
-          (λ x. number-same win n (some-same win n (sym e
-          ∙ ap (λ j. owner (ends_in t j)) (same-number m k x) ∙ own)))
-          (λ x. number-same m k (some-same m k (sym (v.windows m win e)
-          ∙ ap (λ j. live_stream (links_in ws j)) (same-number win n x) ∙ live)));
+          (λ x. eq-eqb win n (some-same win n (sym e
+          ∙ ap (λ j. owner (ends_in t j)) (eqb-true m k x) ∙ own)))
+          (λ x. eq-eqb m k (some-same m k (sym (v.windows m win e)
+          ∙ ap (λ j. live_stream (links_in ws j)) (eqb-true win n x) ∙ live)));
     }) v

@@ -3,7 +3,7 @@ use Rattle.std.proofs.Common.{◌≡◌, ◌≢◌, inl, inr, ℕ, zero, suc, �
 use Rattle.std.proofs.Common.{not, Bool, true, false, List, [], ◌∷◌, length, refl, sym, ap, ◌∙◌}
 use Rattle.std.proofs.Common.{arith, Option, Some, None, option_map, is_some, if◌then◌else◌}
 use Rattle.std.proofs.lemmas.Grind.{common_steps}
-use Rattle.std.proofs.lemmas.Bool.{cases_Bool}
+use Rattle.std.proofs.lemmas.Bool.{cases_Bool, ne_eqb}
 use Rattle.glk_numbers.specs.Numbered.{ascends, found}
 use Rattle.glk_windows.specs.Tree as tree
 use Rattle.glk_windows.specs.Reading as reading
@@ -208,9 +208,6 @@ echo_set-links g win n m = part-echo g.windows.slots
 is-same : (n : ℕ) → (n == n) ≡ true
 is-same n = grind (arith, common_steps)
 
-is-other : (m n : ℕ) → m ≢ n → (m == n) ≡ false
-is-other m n h = grind (arith, common_steps, h)
-
 pub some-stream : (g : Glk) (n : ℕ) → is_some (stream_ends g n) ≡ is_stream g n
 some-stream g n = some-of (streams.stream_at g.streams n)
     ∙ sym (has-found streams.stream_number g.streams.streams n)
@@ -228,7 +225,7 @@ echo_set-linked g win n valid v live loop =
     { windows = arranging.echo_set g.windows win n })) win n (record {
       windows = λ m h. echo_set-links g win n m
           ∙ ap (λ b. if b then option_map (echoing n) (links g m) else links g m)
-          (is-other m win h);
+          (ne_eqb m win h);
       window = echo_set-links g win n win ∙ ap (λ b. if b then option_map (echoing n) (links g win)
           else links g win) (is-same win);
       live = λ z. some-stream g n ∙ live z;

@@ -2,7 +2,7 @@
 use Rattle.std.proofs.Common.{◌≡◌, ◌≢◌, ◌∙◌, inl, inr, ℕ, ◌+◌, ◌==◌, ◌&&◌}
 use Rattle.std.proofs.Common.{◌||◌, not, Bool, true, false, length, refl, sym, ap}
 use Rattle.std.proofs.Common.{arith, add-one, Option, Some, None, option_map, is_some}
-use Rattle.std.proofs.lemmas.Bool.{and_parts, cases_Bool}
+use Rattle.std.proofs.lemmas.Bool.{and_from, and_parts, cases_Bool}
 use Rattle.std.proofs.lemmas.Grind.{common_steps}
 use Rattle.glk_numbers.specs.Numbered.{ascends, found, has}
 use Rattle.glk_windows.specs.Areas.{HaveAreas}
@@ -31,7 +31,7 @@ use Rattle.glk_dispatch.proofs.EchoLemmas.{all-listed, comes, follows, some-stre
 use Rattle.glk_dispatch.proofs.EchoLemmas.{streams-ascend}
 use Rattle.glk_dispatch.proofs.FoundLemmas.{has-found, number-found}
 use Rattle.glk_dispatch.proofs.LoopLemmas.{is_in, over-same, over-within}
-use Rattle.glk_dispatch.proofs.NamedLemmas.{all-found, both, echo-next, found-all, named-stream}
+use Rattle.glk_dispatch.proofs.NamedLemmas.{all-found, echo-next, found-all, named-stream}
 use Rattle.glk_dispatch.proofs.NamedLemmas.{named-target, no-stream}
 use Rattle.glk_dispatch.proofs.NamedLemmas.{owned-owner, owner-owned, stream-named, stream-of-end}
 use Rattle.glk_dispatch.proofs.NamedLemmas.{stream-of-owner, target-named, window-of-link}
@@ -211,11 +211,11 @@ module _ (g : Glk) (v : AreValid g) (k : AreLinked (links g) (stream_ends g)) (a
   window-fits w h =
       let live : has_window g w.number ≡ true =
       has-found tree.window_number g.windows.slots w.number ∙ ap is_some h in
-      both (is_owned g w.number w.stream)
+      and_from (is_owned g w.number w.stream)
       ((w.echo == 0 || is_stream g w.echo) && has request.input_window_number g.requests w.number)
       (owner-owned (streams.stream_at g.streams w.stream) w.number
       (k.streams w.number (window_link w) (link-of w h)))
-      (both (w.echo == 0 || is_stream g w.echo)
+      (and_from (w.echo == 0 || is_stream g w.echo)
       (has request.input_window_number g.requests w.number)
       (echo-fits w h) (a.listed w.number ∙ live))
 
@@ -243,18 +243,18 @@ module _ (g : Glk) (v : AreValid g) (k : AreLinked (links g) (stream_ends g)) (a
       → stream_fits g s ≡ true
   stream-fits s h =
       let here : stream_ends g s.number ≡ Some (stream_end s) = ap (option_map stream_end) h in
-      both (is_named_by g s.number s.target) (is_plain_stream s && comes_to_an_end g s.number)
+      and_from (is_named_by g s.number s.target) (is_plain_stream s && comes_to_an_end g s.number)
       (target-named g s.number s.target (λ win e. stream-named g win s.number
       (k.windows s.number win (ap owner here ∙ e))))
-      (both (is_plain_stream s) (comes_to_an_end g s.number) (k.plain s.number (stream_end s) here)
-      (ends-fit s.number))
+      (and_from (is_plain_stream s) (comes_to_an_end g s.number)
+      (k.plain s.number (stream_end s) here) (ends-fit s.number))
 
   entry-fits : (w : WindowInput) → found request.input_window_number g.requests w.win ≡ Some w
       → entry_fits g w ≡ true
   entry-fits w h =
       let there : has request.input_window_number g.requests w.win ≡ true =
       has-found request.input_window_number g.requests w.win ∙ ap is_some h in
-      both (has_window g w.win) (not (is_some w.request) || may_ask g w.win)
+      and_from (has_window g w.win) (not (is_some w.request) || may_ask g w.win)
       (sym (a.listed w.win) ∙ there) (by-request (is_some w.request) refl)
     where
       by-request : (b : Bool) → is_some w.request ≡ b
@@ -269,10 +269,10 @@ module _ (g : Glk) (v : AreValid g) (k : AreLinked (links g) (stream_ends g)) (a
   parts-fit =
       let entries = and_parts (ascends request.input_window_number 0 4294967295 g.requests)
       (ivalid.are_windows g.requests) v.requests in
-      both (windows_fit g) (streams_fit g && entries_fit g)
+      and_from (windows_fit g) (streams_fit g && entries_fit g)
       (found-all tree.window_number (window_fits g) g.windows.slots 0 g.windows.next
       (to-ascends g.windows.slots 0 g.windows.next v.windows.ordered) window-fits)
-      (both (streams_fit g) (entries_fit g)
+      (and_from (streams_fit g) (entries_fit g)
       (found-all streams.stream_number (stream_fits g) g.streams.streams 0 g.streams.next
       (streams-ascend g v) stream-fits)
       (found-all request.input_window_number

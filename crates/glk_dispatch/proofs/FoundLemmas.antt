@@ -22,27 +22,15 @@ module _ {X : Type 0} (number : X → ℕ) where
       → found number xs m ≡ None
   unfolding found ascends
   found-low [] low high m a l = refl
-  found-low (x ∷ xs) low high m a l = grind (
-    arith,
-    common_steps,
-    a,
-    l,
-    found-low xs (number x) high
-        m,
-  )
+  found-low (x ∷ xs) low high m a l =
+      grind (arith, common_steps, a, l, found-low xs (number x) high m)
 
   pub found-high : (xs : List X) (low high m : ℕ) → ascends number low high xs ≡ true → high ≤ m
       → found number xs m ≡ None
   unfolding found ascends
   found-high [] low high m a l = refl
-  found-high (x ∷ xs) low high m a l = grind (
-    arith,
-    common_steps,
-    a,
-    l,
-    found-high xs (number x)
-        high m,
-  )
+  found-high (x ∷ xs) low high m a l =
+      grind (arith, common_steps, a, l, found-high xs (number x) high m)
 
   pub found-without : (xs : List X) (low high n m : ℕ) → ascends number low high xs ≡ true
       → found number (without number xs n) m ≡ (if m == n then None else found number xs m)
@@ -75,14 +63,8 @@ pub part-changed : {X A : Type 0} (number : X → ℕ) (of : X → A) (f : X →
     ≡ option_map of (found number xs m)
 unfolding found changed_at
 part-changed number of f k e [] n m = refl
-part-changed number of f k e (x ∷ xs) n m = grind (
-  arith,
-  common_steps,
-  k x,
-  e x,
-  part-changed
-      number of f k e xs n m,
-)
+part-changed number of f k e (x ∷ xs) n m =
+    grind (arith, common_steps, k x, e x, part-changed number of f k e xs n m)
 
 pub part-map : {X A : Type 0} (number : X → ℕ) (of : X → A) (f : X → X)
     → ((x : X) → number (f x) ≡ number x) → ((x : X) → of (f x) ≡ of x)
@@ -90,14 +72,8 @@ pub part-map : {X A : Type 0} (number : X → ℕ) (of : X → A) (f : X → X)
     ≡ option_map of (found number xs m)
 unfolding found
 part-map number of f k e [] m = refl
-part-map number of f k e (x ∷ xs) m = grind (
-  arith,
-  common_steps,
-  k x,
-  e x,
-  part-map number of f k e
-      xs m,
-)
+part-map number of f k e (x ∷ xs) m =
+    grind (arith, common_steps, k x, e x, part-map number of f k e xs m)
 
 -- the same of one value that takes the place of the one with its number
 pub part-replaced : {X A : Type 0} (number : X → ℕ) (of : X → A) (xs : List X) (n m : ℕ) (x y : X)

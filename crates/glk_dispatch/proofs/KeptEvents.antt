@@ -3,8 +3,8 @@ use Rattle.std.proofs.Common.{◌≡◌, ℕ, zero, suc, ◌+◌, ◌%◌, ◌^�
 use Rattle.std.proofs.Common.{not, nat_le, Bool, true, false, List, [], ◌∷◌, ◌++◌, length}
 use Rattle.std.proofs.Common.{length-append, refl, arith, ◌<◌, ◌≤◌, Option, Some, None, Result, Ok}
 use Rattle.std.proofs.Common.{Err, cond, ◌⊎◌, ◌∙◌, inl, inr, is_some}
+use Rattle.std.proofs.lemmas.Bool.{and_parts, eqb-true, leb-true}
 use Rattle.std.specs.Prelude.{IfOk}
-use Rattle.std.proofs.lemmas.Bool.Decides.{nat_tests}
 use Rattle.std.proofs.lemmas.Grind.{common_steps}
 use Rattle.vm_memory.specs.Chaining.{◌>>=◌}
 use Rattle.vm_memory.specs.Access.{read, written}
@@ -36,16 +36,13 @@ use Rattle.glk_dispatch.specs.declared.events.EventCall.TheVariants as ev
 use Rattle.glk_dispatch.specs.declared.events.TheConstants.{INPUT, MAX_INITIAL, NEWLINE}
 use Rattle.glk_dispatch.specs.declared.glk.Glk.{Glk}
 use Rattle.glk_dispatch.proofs.AskLemmas.{asked-changed, with-live}
-use Rattle.glk_dispatch.proofs.KeptLemmas.{Kept, Keeps, Puts, Valid, begins-puts, between}
-use Rattle.glk_dispatch.proofs.KeptLemmas.{kept-alone, kept-bind, kept-if, kept-read}
-use Rattle.glk_dispatch.proofs.KeptLemmas.{kept-refers_all, kept-row, kept-step, kept-told, laws}
-use Rattle.glk_dispatch.proofs.KeptLemmas.{ok-coded, ok-written, on, puts, row, row-needs}
+use Rattle.glk_dispatch.proofs.KeptLemmas.{Keeps, Kept, Puts, Valid, begins-puts, between}
+use Rattle.glk_dispatch.proofs.KeptLemmas.{kept-alone, kept-bind, kept-if, kept-read, kept-row}
+use Rattle.glk_dispatch.proofs.KeptLemmas.{kept-step, laws, ok-coded, on, puts, row, row-needs}
 use Rattle.glk_dispatch.proofs.KeptLemmas.{same-parts, self, stands, told, with-requests}
+use Rattle.glk_dispatch.proofs.KeptStory.{kept-refers_all, kept-told, ok-written}
 use Rattle.glk_dispatch.proofs.KeptOutput.{kept-echo_put}
 use Rattle.glk_dispatch.proofs.KeptStreams.{prompted-valid}
-
-same-number : (m n : ℕ) → (m == n) ≡ true → m ≡ n
-same-number m n e = grind (arith, nat_tests)
 
 -- a live window has a number from 1 on that is below the next one
 range-case : (t : Bool) (w : Win) (ws : List Win) (a z n : ℕ) → (w.number == n) ≡ t
@@ -54,7 +51,7 @@ range-case : (t : Bool) (w : Win) (ws : List Win) (a z n : ℕ) → (w.number ==
     → (has window_number ws n ≡ true → (w.number + 1 ≤ n) × (n < z))
     → (a ≤ n) × (n < z)
 range-case true w ws a z n e o h k =
-    let x : w.number ≡ n = same-number w.number n e in
+    let x : w.number ≡ n = eqb-true w.number n e in
     let l : a ≤ w.number = o.0 in
     let u : w.number < z = o.1 in
     (omega arith, omega arith)
@@ -87,17 +84,6 @@ begun-requests : (g : Glk) (win : ℕ) → AreValid g → has_window g win ≡ t
     → are_valid_inputs (request.with_window g.requests win) ≡ true
 begun-requests g win v live =
     let r = live-range g win v live in laws.requests.begun g.requests win r.0 r.1 v.requests
-
-and-first : (a b : Bool) → (a && b) ≡ true → a ≡ true
-and-first true b e = refl
-and-first false b e = e
-
-and-second : (a b : Bool) → (a && b) ≡ true → b ≡ true
-and-second true b e = e
-and-second false b e = absurd cc
-
-at-most : (a b : ℕ) → nat_le a b ≡ true → a ≤ b
-at-most a b e = grind (arith, nat_tests)
 
 words-more : (r : Result ℕ ℕ) (f : ℕ → Result (List ℕ) ℕ) (words xs : List ℕ) (n : ℕ)
     → (r >>= f) ≡ Ok xs
@@ -276,8 +262,8 @@ kept-event_work (ev.RequestLine u) s l =
     (λ f. row-needs s (told s) (nat_le (l 3) (l 2) && nat_le (l 3) MAX_INITIAL) 22 _
     (λ h. kept-asks s _ (λ v.
     laws.requests.line (l 1) (l 2) (l 3) u
-    (at-most (l 3) (l 2) (and-first (nat_le (l 3) (l 2)) (nat_le (l 3) MAX_INITIAL) h))
-    (at-most (l 3) 1024 (and-second (nat_le (l 3) (l 2)) (nat_le (l 3) MAX_INITIAL) h))
+    (leb-true (l 3) (l 2) (and_parts (nat_le (l 3) (l 2)) (nat_le (l 3) MAX_INITIAL) h).0)
+    (leb-true (l 3) 1024 (and_parts (nat_le (l 3) (l 2)) (nat_le (l 3) MAX_INITIAL) h).1)
     (request.with_window s.glk.requests (l 0)) (l 0) (begun-requests s.glk (l 0) v e))
     (asked-live s.glk (request.line_asked (l 1) (l 2) (l 3) u) (l 0) e (λ w. refl)
     (λ w i. inl f))))))
@@ -308,7 +294,7 @@ kept-event_work ev.SetTerminators s l =
     (events.array_words (l 2) s.memory (l 1) []) _ (λ v. v)
     (ok-words (l 2) s.memory (l 1) _ refl)
     (λ list k. kept-asks s _ (λ v.
-    (let few : l 2 ≤ 13 = at-most (l 2) 13 f in
+    (let few : l 2 ≤ 13 = leb-true (l 2) 13 f in
     laws.requests.keys list (omega (arith, k)) (request.with_window s.glk.requests (l 0)) (l 0)
     (begun-requests s.glk (l 0) v e)))
     (asked-live s.glk (request.with_keys list) (l 0) e (λ w. refl) (λ w i. inr i))))))

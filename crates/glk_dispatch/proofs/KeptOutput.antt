@@ -8,7 +8,7 @@ use Rattle.vm_memory.specs.Access.{written}
 use Rattle.vm_memory.specs.MemoryMap.{MemoryMap, KeepsMap}
 use Rattle.vm_memory.specs.declared.fault.MemFault.{MemFault}
 use Rattle.glk_windows.specs.Output as windows
-use Rattle.glk_windows.specs.declared.window.Content.TheVariants.{Pair, Blank, Buffer, Grid}
+use Rattle.glk_windows.specs.declared.window.Content.TheVariants.{Pair}
 use Rattle.glk_windows.proofs.AreaLemmas.{SamePlacement, areas-alike, content-placed}
 use Rattle.glk_windows.proofs.AreaLemmas.{placement-changed}
 use Rattle.glk_streams.specs.Answer as answer
@@ -36,8 +36,9 @@ use Rattle.glk_dispatch.specs.declared.output.OutputCall.TheVariants.{PutString,
 use Rattle.glk_dispatch.specs.declared.output.OutputCall.TheVariants.{PutBuffer, PutBufferStream}
 use Rattle.glk_dispatch.specs.declared.output.TheConstants.{MAX_PRINTED}
 use Rattle.glk_dispatch.proofs.KeptLemmas.{Kept, Puts, begins-puts, charged-valid, kept-bind}
-use Rattle.glk_dispatch.proofs.KeptLemmas.{kept-if, kept-puts, kept-read, laws, ok-written, row}
-use Rattle.glk_dispatch.proofs.KeptLemmas.{puts, ready-alike, row-needs, with-streams}
+use Rattle.glk_dispatch.proofs.KeptLemmas.{kept-if, kept-puts, kept-read, laws, puts, ready-alike}
+use Rattle.glk_dispatch.proofs.KeptLemmas.{row, row-needs, with-streams}
+use Rattle.glk_dispatch.proofs.KeptStory.{ok-written}
 use Rattle.glk_dispatch.proofs.PartLemmas.{LeavesEnds, put-ends, put-links}
 
 -- ---- a character in a stream: the array of a memory stream lies in the story's memory
@@ -129,9 +130,7 @@ kept-streamed b rs g m n code k =
 
 put-placement : (code style : ℕ) → SamePlacement (λ c. windows.content_put c code style)
 put-placement code style (Pair p) = (refl, refl)
-put-placement code style Blank = (refl, refl)
-put-placement code style (Buffer b) = (refl, refl)
-put-placement code style (Grid g) = (refl, refl)
+put-placement code style c = (refl, refl)
 
 shown-valid : (g : Glk) (win style code : ℕ)
     → IsReadyGlk g

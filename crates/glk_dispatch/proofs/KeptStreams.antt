@@ -2,6 +2,7 @@
 use Rattle.std.proofs.Common.{ℕ, zero, suc, ◌+◌, ◌-◌, ◌%◌, ◌^◌, ◌==◌, ◌||◌, ◌&&◌, not, Bool}
 use Rattle.std.proofs.Common.{true, false, List, [], ◌∷◌, ◌++◌, length, Option, Some, None, Ok}
 use Rattle.std.proofs.Common.{◌≡◌, ◌∙◌, ap, cond, Err, option_map, refl}
+use Rattle.std.proofs.lemmas.Bool.{cond_both}
 use Rattle.vm_memory.specs.Chaining.{◌>>=◌}
 use Rattle.vm_memory.specs.Access.{read}
 use Rattle.vm_memory.specs.Fault.{coded}
@@ -38,12 +39,12 @@ use Rattle.glk_dispatch.specs.declared.streams.StreamCall.{StreamCall}
 use Rattle.glk_dispatch.specs.declared.streams.StreamCall.TheVariants as str
 use Rattle.glk_dispatch.specs.declared.filerefs.FileRefCall.{FileRefCall}
 use Rattle.glk_dispatch.specs.declared.filerefs.FileRefCall.TheVariants as ref
-use Rattle.glk_dispatch.proofs.KeptLemmas.{Kept, Keeps, Valid, answers, beside, between}
+use Rattle.glk_dispatch.proofs.KeptLemmas.{Keeps, Kept, Valid, answers, beside, between}
 use Rattle.glk_dispatch.proofs.KeptLemmas.{charged-valid, keeps-map, kept-bind, kept-if}
-use Rattle.glk_dispatch.proofs.KeptLemmas.{kept-leaves, kept-left, kept-made, kept-makes, kept-one}
-use Rattle.glk_dispatch.proofs.KeptLemmas.{kept-read, kept-refers_all, kept-step, kept-told, laws}
-use Rattle.glk_dispatch.proofs.KeptLemmas.{ok-word, placed-on, row, row-needs, same-parts, self}
-use Rattle.glk_dispatch.proofs.KeptLemmas.{with-streams}
+use Rattle.glk_dispatch.proofs.KeptLemmas.{kept-leaves, kept-left, kept-made, kept-makes, kept-read}
+use Rattle.glk_dispatch.proofs.KeptLemmas.{kept-step, laws, placed-on, row, row-needs, same-parts}
+use Rattle.glk_dispatch.proofs.KeptLemmas.{self, with-streams}
+use Rattle.glk_dispatch.proofs.KeptStory.{kept-one, kept-refers_all, kept-told, ok-word}
 use Rattle.glk_dispatch.proofs.StreamLemmas.{alone-more, copied-more, current-more, file-more}
 use Rattle.glk_dispatch.proofs.StreamLemmas.{got-more, made_ref-more, memory-more, sought-more}
 use Rattle.glk_dispatch.proofs.PartLemmas.{asked-kinds, closed-kinds, closed-linked, stream_closed}
@@ -279,18 +280,16 @@ named-valid g usage name rock v =
     ((laws.streams g.streams v.valid.parts.streams).refer usage (cleaned name) rock)
     (made_ref-more g.streams usage (cleaned name) rock)
 
-valid-if : (b : Bool) (x y : Glk × ℕ) → IsReadyGlk x.0 → IsReadyGlk y.0 → IsReadyGlk (cond b x y).0
-valid-if true x y v w = v
-valid-if false x y v w = w
-
 prompted_for-valid : (g : Glk) (asked : Prompt) (name : List ℕ) → IsReadyGlk g
     → IsReadyGlk (names.prompted_for g asked name).0
 prompted_for-valid g asked name v =
     let made = names.reference_named g asked.usage name asked.rock in
     let misses = names.is_reading_mode asked.mode && not
     (has_file g.streams.files asked.usage (cleaned name)) in
-    valid-if (length name == 0) (g, 0) (cond misses (g, 0) made) v
-    (valid-if misses (g, 0) made v (named-valid g asked.usage name asked.rock v))
+    let Ready = λ (x : Glk × ℕ). IsReadyGlk x.0 in
+    cond_both (length name == 0) (g, 0) (cond misses (g, 0) made) Ready (λ e. v)
+    (λ e. cond_both misses (g, 0) made Ready (λ f. v)
+    (λ f. named-valid g asked.usage name asked.rock v))
 
 pub prompted-valid : (g : Glk) (name : List ℕ) → IsReadyGlk (wait_set_back g)
     → IsReadyGlk (names.prompted g name).0

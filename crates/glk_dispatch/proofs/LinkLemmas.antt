@@ -2,7 +2,7 @@
 use Rattle.std.proofs.Common.{◌≡◌, ◌≢◌, ◌⊎◌, inl, inr, ℕ, ◌==◌, Bool, true, false, refl, sym, ap}
 use Rattle.std.proofs.Common.{◌∙◌, arith, Option, Some, None, option_map, is_some, if◌then◌else◌}
 use Rattle.std.proofs.lemmas.Grind.{common_steps}
-use Rattle.std.proofs.lemmas.Bool.{cases_Bool}
+use Rattle.std.proofs.lemmas.Bool.{cases_Bool, cases_eq}
 use Rattle.glk_dispatch.specs.Links.{Link, End, Links, Ends, AreLinked, next_echo, echo_by, echo_in}
 use Rattle.glk_dispatch.specs.Links.{live_stream, owner}
 use Rattle.glk_dispatch.proofs.LoopLemmas.{no_loop-fewer, no_loop-turned, walk}
@@ -38,12 +38,6 @@ pub record Opens (w : Links) (s : Ends) (v : Links) (t : Ends) (a b kind : ℕ) 
   pub windows : (n : ℕ) → n ≢ a → v n ≡ w n
   pub streams : (n : ℕ) → n ≢ b → t n ≡ s n
 
-eq-cases : (m n : ℕ) → (m ≡ n) ⊎ (m ≢ n)
-eq-cases m n = elim (cases_Bool (m == n)) [
-  | inl e ↦ inl (grind (arith, common_steps, e))
-  | inr e ↦ inr (grind (arith, common_steps, e))
-]
-
 some-is : (l m : Link) → ◌≡◌ {A = Option Link} (Some l) (Some m) → l ≡ m
 some-is l m e = cc
 
@@ -51,7 +45,7 @@ pub linked-opened : (w : Links) (s : Ends) (v : Links) (t : Ends) (a b kind : �
     → Opens w s v t a b kind
     → AreLinked w s → AreLinked v t
 linked-opened w s v t a b kind h k = record {
-  streams = λ win l e. elim (eq-cases win a) [
+  streams = λ win l e. elim (cases_eq win a) [
     | inl x ↦
         let l_is = some-is _ l (sym h.window ∙ ap v (sym x) ∙ e) in
         ap (λ (m : Link). owner (t m.stream)) (sym l_is) ∙ ap owner h.stream ∙ ap Some (sym x)
@@ -60,7 +54,7 @@ linked-opened w s v t a b kind h k = record {
         ap owner (h.streams l.stream (λ y. let c : None
         ≡ Some win = sym (ap owner (ap s y ∙ h.new_stream)) ∙ old in cc)) ∙ old
   ];
-  windows = λ n win e. elim (eq-cases n b) [
+  windows = λ n win e. elim (cases_eq n b) [
     | inl x ↦
         let own : Some a ≡ Some win = sym (ap owner (ap t x ∙ h.stream)) ∙ e in
         let win_is : a ≡ win = cc in
@@ -70,14 +64,14 @@ linked-opened w s v t a b kind h k = record {
         ap live_stream (h.windows win (λ y. let c : None
         ≡ Some n = sym (ap live_stream (ap w y ∙ h.new_window)) ∙ old in cc)) ∙ old
   ];
-  plain = λ n e f. elim (eq-cases n b) [
+  plain = λ n e f. elim (cases_eq n b) [
     | inl x ↦
         let same : ◌≡◌ {A = Option End} (Some (record { owner = Some a; is_plain = true })) (Some e)
         = sym h.stream ∙ ap t (sym x) ∙ f in
         sym (end-plain a e same)
     | inr x ↦ k.plain n e (sym (h.streams n x) ∙ f)
   ];
-  echoes = λ win l e z. elim (eq-cases win a) [
+  echoes = λ win l e z. elim (cases_eq win a) [
     | inl x ↦
         let l_is = some-is _ l (sym h.window ∙ ap v (sym x) ∙ e) in
         absurd (z (ap (λ (m : Link). m.echo) (sym l_is)))
@@ -86,7 +80,7 @@ linked-opened w s v t a b kind h k = record {
         ap is_some (h.streams l.echo (λ y. let c : false
         ≡ true = sym (ap is_some (ap s y ∙ h.new_stream)) ∙ old in absurd cc)) ∙ old
   ];
-  no_loop = no_loop-fewer (next_echo w s) (next_echo v t) (λ n. elim (eq-cases n b) [
+  no_loop = no_loop-fewer (next_echo w s) (next_echo v t) (λ n. elim (cases_eq n b) [
     | inl x ↦ inr (ap (λ m. echo_by v (owner (t m))) x ∙ ap (λ o. echo_by v (owner o)) h.stream
         ∙ ap echo_in h.window)
     | inr x ↦ inl (ap (λ o. echo_by v (owner o)) (h.streams n x)
@@ -256,19 +250,19 @@ owns-is a (Some n) e = ap Some (grind (arith, common_steps, e))
 pub linked-echoed : (w : Links) (s : Ends) (v : Links) (a b : ℕ) → Echoes w s v a b → AreLinked w s
     → AreLinked v s
 linked-echoed w s v a b h k = record {
-  streams = λ win l e. elim (eq-cases win a) [
+  streams = λ win l e. elim (cases_eq win a) [
     | inl x ↦
         let m = was-echoing b (w a) l (sym h.window ∙ ap v (sym x) ∙ e) in
         ap (λ (i : Link). owner (s i.stream)) m.same ∙ k.streams a m.link m.there ∙ ap Some (sym x)
     | inr x ↦ k.streams win l (sym (h.windows win x) ∙ e)
   ];
-  windows = λ n win e. elim (eq-cases win a) [
+  windows = λ n win e. elim (cases_eq win a) [
     | inl x ↦ ap (λ i. live_stream (v i)) x ∙ ap live_stream h.window ∙ stream-echoing b (w a)
         ∙ ap (λ i. live_stream (w i)) (sym x) ∙ k.windows n win e
     | inr x ↦ ap live_stream (h.windows win x) ∙ k.windows n win e
   ];
   plain = k.plain;
-  echoes = λ win l e z. elim (eq-cases win a) [
+  echoes = λ win l e z. elim (cases_eq win a) [
     | inl x ↦
         let m = was-echoing b (w a) l (sym h.window ∙ ap v (sym x) ∙ e) in
         let echo_is : l.echo ≡ b = ap (λ (i : Link). i.echo) m.same in

@@ -1,12 +1,11 @@
 -- Echoes that come to an end.
-use native.Mathlib.Numerals.{unary_clauses}
-use Rattle.std.proofs.Common.{◌≡◌, ◌≢◌, if◌then◌else◌, ◌⊎◌, inl, inr, ℕ, zero, suc, ◌+◌, ◌-◌, ◌<◌}
+use Rattle.std.proofs.Common.{◌≡◌, ◌≢◌, if◌then◌else◌, ◌⊎◌, inl, inr, ℕ, zero, suc, ◌+◌}
 use Rattle.std.proofs.Common.{◌≤◌}
 use Rattle.std.proofs.Common.{◌==◌, ◌||◌, Bool, true, false, List, [], ◌∷◌, length, refl, sym, ap}
 use Rattle.std.proofs.Common.{◌∙◌}
 use Rattle.std.proofs.Common.{arith}
 use Rattle.std.proofs.lemmas.Grind.{common_steps}
-use Rattle.std.proofs.lemmas.Bool.{cases_Bool}
+use Rattle.std.proofs.lemmas.Bool.{cases_Bool, eqb-true, or_cases, or_left, or_parts, or_right}
 use Rattle.glk_dispatch.specs.Links.{echoes_end, ComesToAnEnd, HasNoLoop}
 
 -- a stream from which nothing goes on
@@ -24,16 +23,12 @@ over-go k f n e = elim (cases_Bool (n == 0)) [
   | inr h ↦ rw h e
 ]
 
-or-second : (a b : Bool) → a ≡ false → (a || b) ≡ true → b ≡ true
-or-second true b e h = absurd cc
-or-second false b e h = h
-
 pub over-cases : (k : ℕ) (f : ℕ → ℕ) (n : ℕ) → echoes_end (suc k) f n ≡ true
     → (n ≡ 0) ⊎ (echoes_end k f (f n) ≡ true)
 unfolding echoes_end
 over-cases k f n e = elim (cases_Bool (n == 0)) [
   | inl h ↦ inl (grind (arith, common_steps, h))
-  | inr h ↦ inr (or-second (n == 0) (echoes_end k f (f n)) h e)
+  | inr h ↦ inr (rw h at e)
 ]
 
 pub end-stop : (f : ℕ → ℕ) (n : ℕ) → n ≡ 0 → ComesToAnEnd f n
@@ -103,41 +98,21 @@ unfoldable pub passes : ℕ → (ℕ → ℕ) → (ℕ → Bool) → ℕ → Boo
 passes zero f hit n = false
 passes (suc k) f hit n = hit n || passes k f hit (f n)
 
-or-first : (a b : Bool) → (a || b) ≡ false → a ≡ false
-or-first true b e = e
-or-first false b e = refl
-
-or-rest : (a b : Bool) → (a || b) ≡ false → b ≡ false
-or-rest true b e = absurd cc
-or-rest false b e = e
-
-or-either : (a b : Bool) → (a || b) ≡ true → (a ≡ true) ⊎ (b ≡ true)
-or-either true b e = inl refl
-or-either false b e = inr e
-
-pub or-left : (a b : Bool) → a ≡ true → (a || b) ≡ true
-or-left true b e = refl
-or-left false b e = absurd cc
-
-pub or-right : (a b : Bool) → b ≡ true → (a || b) ≡ true
-or-right true b e = refl
-or-right false b e = e
-
 pub walk-passes : (f : ℕ → ℕ) (hit : ℕ → Bool) → (j n : ℕ) → passes (suc j) f hit n ≡ false
     → hit (walk j f n) ≡ false
 unfolding walk passes
-walk-passes f hit zero n e = or-first (hit n) false e
+walk-passes f hit zero n e = (or_parts (hit n) false e).0
 walk-passes f hit (suc j) n e = walk-passes f hit j (f n)
-    (or-rest (hit n) (passes (suc j) f hit (f n)) e)
+    (or_parts (hit n) (passes (suc j) f hit (f n)) e).1
 
 passes-more : (f : ℕ → ℕ) (hit : ℕ → Bool) → (j k n : ℕ) → j ≤ k → passes j f hit n ≡ true
     → passes k f hit n ≡ true
 unfolding passes
 passes-more f hit zero k n l e = absurd cc
 passes-more f hit (suc j) zero n l e = absurd (omega (arith, l))
-passes-more f hit (suc j) (suc k) n l e = elim (or-either (hit n) (passes j f hit (f n)) e) [
-  | inl h ↦ or-left (hit n) (passes k f hit (f n)) h
-  | inr h ↦ or-right (hit n) (passes k f hit (f n))
+passes-more f hit (suc j) (suc k) n l e = elim (or_cases (hit n) (passes j f hit (f n)) e) [
+  | inl h ↦ or_left (hit n) (passes k f hit (f n)) h
+  | inr h ↦ or_right (hit n) (passes k f hit (f n))
       (passes-more f hit j k (f n) (omega (arith, l)) h)
 ]
 
@@ -150,10 +125,10 @@ passes-none f hit h z (suc k) = rw (h, z) (passes-none f hit h z k)
 
 over-more : (f : ℕ → ℕ) → (k n : ℕ) → echoes_end k f n ≡ true → echoes_end (suc k) f n ≡ true
 unfolding echoes_end
-over-more f zero n e = or-left (n == 0) (echoes_end 0 f (f n)) e
-over-more f (suc k) n e = elim (or-either (n == 0) (echoes_end k f (f n)) e) [
-  | inl h ↦ or-left (n == 0) (echoes_end (suc k) f (f n)) h
-  | inr h ↦ or-right (n == 0) (echoes_end (suc k) f (f n)) (over-more f k (f n) h)
+over-more f zero n e = or_left (n == 0) (echoes_end 0 f (f n)) e
+over-more f (suc k) n e = elim (or_cases (n == 0) (echoes_end k f (f n)) e) [
+  | inl h ↦ or_left (n == 0) (echoes_end (suc k) f (f n)) h
+  | inr h ↦ or_right (n == 0) (echoes_end (suc k) f (f n)) (over-more f k (f n) h)
 ]
 
 -- how many of these are so
@@ -181,7 +156,7 @@ pub count-some : {X : Type 0} (p q r : X → Bool) → ((x : X) → p x ≡ true
     → count p xs + 1 ≤ count q xs
 unfolding count is_in
 count-some p q r h k [] e = absurd cc
-count-some p q r h k (x ∷ xs) e = elim (or-either (r x) (is_in r xs) e) [
+count-some p q r h k (x ∷ xs) e = elim (or_cases (r x) (is_in r xs) e) [
   | inl i ↦ let j = k x i in rw (j.0, j.1) (let l = count-less p q h xs in omega (arith, l))
   | inr i ↦ let l = count-some p q r h k xs i in let j = h x in grind (arith, common_steps, l, j)
 ]
@@ -196,8 +171,18 @@ pub record AreListed {X : Type 0} (f : ℕ → ℕ) (hit own : ℕ → Bool) (ec
 over-not : (f : ℕ → ℕ) (k n : ℕ) → echoes_end k f n ≡ false → n ≢ 0
 over-not f k n e z = let c : true ≡ false = sym (over-stop k f n z) ∙ e in absurd cc
 
-same-number : (m n : ℕ) → (m == n) ≡ true → m ≡ n
-same-number m n e = grind (arith, common_steps, e)
+-- where the echoes come to an end at one step more, so do those of a window more
+count-next : {X : Type 0} (f : ℕ → ℕ) (echo : X → ℕ) (ws : List X) (k n : ℕ)
+    → echoes_end k f (f n) ≡ false → echoes_end (suc k) f (f n) ≡ true
+    → is_in (λ x. echo x == f n) ws ≡ true
+    → count (λ x. echoes_end k f (echo x)) ws + 1 ≤ count (λ x. echoes_end (suc k) f (echo x)) ws
+count-next f echo ws k n before on there =
+    count-some (λ x. echoes_end k f (echo x)) (λ x. echoes_end (suc k) f (echo x))
+    (λ x. echo x == f n) (λ x h. over-more f k (echo x) h)
+    (λ x h. (
+      ap (echoes_end k f) (eqb-true (echo x) (f n) h) ∙ before,
+      ap (echoes_end (suc k) f) (eqb-true (echo x) (f n) h) ∙ on,
+    )) ws there
 
 -- a window is counted
 count-one : {X : Type 0} (f : ℕ → ℕ) (echo : X → ℕ) (ws : List X) (k m : ℕ)
@@ -206,12 +191,12 @@ count-one : {X : Type 0} (f : ℕ → ℕ) (echo : X → ℕ) (ws : List X) (k m
 count-one f echo ws k m i e =
     let l = count-some (λ x. false) (λ x. echoes_end k f (echo x)) (λ x. echo x == m)
     (λ x h. absurd cc)
-    (λ x h. (refl, ap (echoes_end k f) (same-number (echo x) m h) ∙ e)) ws i in
+    (λ x h. (refl, ap (echoes_end k f) (eqb-true (echo x) m h) ∙ e)) ws i in
     omega (arith, l)
 
 over-zero : (f : ℕ → ℕ) (n : ℕ) → echoes_end 0 f n ≡ true → n ≡ 0
 unfolding echoes_end
-over-zero f n e = same-number n 0 e
+over-zero f n e = eqb-true n 0 e
 
 over-on : (k : ℕ) (f : ℕ → ℕ) (n : ℕ) → echoes_end (suc k) f n ≡ true → echoes_end k f n ≡ false
     → echoes_end k f (f n) ≡ true
@@ -224,7 +209,7 @@ over-before : (k : ℕ) (f : ℕ → ℕ) (n : ℕ)
     → echoes_end (suc k) f n ≡ false
     → echoes_end k f (f n) ≡ false
 unfolding echoes_end
-over-before k f n e = or-rest (n == 0) (echoes_end k f (f n)) e
+over-before k f n e = (or_parts (n == 0) (echoes_end k f (f n)) e).1
 
 passes-nil : (f : ℕ → ℕ) (hit : ℕ → Bool) (n : ℕ) → passes 0 f hit n ≡ true → ⊥
 unfolding passes
@@ -233,18 +218,18 @@ passes-nil f hit n e = absurd cc
 passes-cases : (i : ℕ) (f : ℕ → ℕ) (hit : ℕ → Bool) (n : ℕ) → passes (suc i) f hit n ≡ true
     → (hit n ≡ true) ⊎ (passes i f hit (f n) ≡ true)
 unfolding passes
-passes-cases i f hit n e = or-either (hit n) (passes i f hit (f n)) e
+passes-cases i f hit n e = or_cases (hit n) (passes i f hit (f n)) e
 
 passes-go : (i : ℕ) (f : ℕ → ℕ) (hit : ℕ → Bool) (n : ℕ) → passes i f hit (f n) ≡ true
     → passes (suc i) f hit n ≡ true
 unfolding passes
-passes-go i f hit n e = or-right (hit n) (passes i f hit (f n)) e
+passes-go i f hit n e = or_right (hit n) (passes i f hit (f n)) e
 
 passes-hit : (i : ℕ) (f : ℕ → ℕ) (hit : ℕ → Bool) (n : ℕ) → 1 ≤ i → hit n ≡ true → passes i f hit n
     ≡ true
 unfolding passes
 passes-hit zero f hit n l e = absurd (omega (arith, l))
-passes-hit (suc i) f hit n l e = or-left (hit n) (passes i f hit (f n)) e
+passes-hit (suc i) f hit n l e = or_left (hit n) (passes i f hit (f n)) e
 
 module _ {X : Type 0} (f : ℕ → ℕ) (hit own : ℕ → Bool) (echo : X
     → ℕ) (ws : List X) (all : AreListed f hit own echo ws) where
@@ -289,15 +274,7 @@ module _ {X : Type 0} (f : ℕ → ℕ) (hit own : ℕ → Bool) (echo : X
   few (suc k) n j o not e = few-step (suc k) n j o not e (λ i p on.
       let own_n = is-own n (λ c. none-passed i (f n) (all.others n c).0 p) in
       let before = over-before k f n not in
-      let some = count-some (λ x. echoes_end k f (echo x)) (λ x. echoes_end (suc k) f (echo x))
-      (λ x. echo x == f n)
-      (λ x h. over-more f k (echo x) h)
-      (λ x h. (
-        ap (echoes_end k f) (same-number (echo x) (f n) h)
-            ∙ before,
-        ap (echoes_end (suc k) f) (same-number (echo x) (f n) h) ∙ on,
-      ))
-      ws (all.listed n own_n) in
+      let some = count-next f echo ws k n before on (all.listed n own_n) in
       passes-more f hit (suc (count (λ x. echoes_end k f (echo x)) ws))
       (count (λ x. echoes_end (suc k) f (echo x)) ws) n (omega (arith, some))
       (passes-go (count (λ x. echoes_end k f (echo x)) ws) f hit n (few k (f n) i on before p)))
@@ -321,14 +298,6 @@ module _ {X : Type 0} (f : ℕ → ℕ) (hit own : ℕ → Bool) (echo : X
   ]
 
 -- ---- echoes that end do so within as many steps as there are windows, and one
-
-pub over-step : (k : ℕ) (f : ℕ → ℕ) (n : ℕ) → 0 < k → n ≢ 0
-    → echoes_end k f n ≡ echoes_end (k - 1) f (f n)
-unfolding echoes_end
-over-step zero f n l h = absurd (omega arith)
-over-step (suc k) f n l h =
-    let other : (n == 0) ≡ false = grind (arith, common_steps, h) in
-    simp unary_clauses (ap (λ b. b || echoes_end k f (f n)) other)
 
 pub over-same : (f g : ℕ → ℕ)
     → ((n : ℕ) → f n ≡ g n) → (k n : ℕ)
@@ -355,15 +324,7 @@ module _ {X : Type 0} (f : ℕ → ℕ) (echo : X → ℕ) (ws : List X)
       let before = over-before k f n not in
       let on = over-on (suc k) f n o not in
       let less = steps-counted k (f n) on before in
-      let some = count-some (λ x. echoes_end k f (echo x)) (λ x. echoes_end (suc k) f (echo x))
-      (λ x. echo x == f n)
-      (λ x h. over-more f k (echo x) h)
-      (λ x h. (
-        ap (echoes_end k f) (same-number (echo x) (f n) h)
-            ∙ before,
-        ap (echoes_end (suc k) f) (same-number (echo x) (f n) h) ∙ on,
-      ))
-      ws (listed n (over-not f k (f n) before)) in
+      let some = count-next f echo ws k n before on (listed n (over-not f k (f n) before)) in
       omega (arith, less, some)
 
   pub over-within : (k n : ℕ) → echoes_end k f n ≡ true → echoes_end (suc (length ws)) f n ≡ true

@@ -4,7 +4,7 @@ use Rattle.std.proofs.Common.{Bool, true, false, List, [], ◌∷◌, refl, sym,
 use Rattle.std.proofs.Common.{arith, Option, Some, None, option_map, is_some}
 use Rattle.std.proofs.Common.{if◌then◌else◌, nat_lt}
 use Rattle.std.specs.List.{list_all}
-use Rattle.std.proofs.lemmas.Bool.{and_parts, cases_Bool}
+use Rattle.std.proofs.lemmas.Bool.{and_from, and_parts, cases_Bool}
 use Rattle.std.proofs.lemmas.Grind.{common_steps}
 use Rattle.glk_numbers.specs.Numbered.{ascends, found}
 use Rattle.glk_windows.specs.Tree as tree
@@ -26,10 +26,6 @@ use Rattle.glk_dispatch.proofs.EchoLemmas.{echo-link}
 use Rattle.glk_dispatch.proofs.EchoLemmas.{window-none, window-some}
 use Rattle.glk_dispatch.proofs.FoundLemmas.{found-low, has-found}
 use Rattle.glk_dispatch.proofs.LoopLemmas.{end-go, end-stop}
-
-pub both : (a b : Bool) → a ≡ true → b ≡ true → (a && b) ≡ true
-both true b e f = f
-both false b e f = e
 
 -- ---- what holds of each of a list by its number
 
@@ -72,7 +68,7 @@ module _ {X : Type 0} (number : X → ℕ) (p : X → Bool) where
   found-all (y ∷ ys) low high a h =
       let t = and_parts (nat_lt low (number y) && nat_lt (number y) high)
       (ascends number (number y) high ys) a in
-      both (p y) (list_all p ys) (h y (found-first y ys))
+      and_from (p y) (list_all p ys) (h y (found-first y ys))
       (found-all ys (number y) high t.1 (λ x e. h x (found-later y x ys high t.1 e)))
 
 -- ---- one window or stream, as it is named
@@ -164,7 +160,7 @@ pub stream-named : (g : Glk) (win n : ℕ) → live_stream (links g win) ≡ Som
 stream-named g win n e =
     let t = in-named (tree.window_at g.windows.slots win) n e in
     let is = t.1 in
-    both (has_window g win) (tree.stream_of g.windows.slots win == n)
+    and_from (has_window g win) (tree.stream_of g.windows.slots win == n)
     (has-found tree.window_number g.windows.slots win ∙ t.0) (grind (arith, common_steps, is))
 
 -- ---- the echoes, as the code follows them

@@ -1,10 +1,11 @@
--- A window that is opened, with its stream and its entry for input, and the pair above it.
-use Rattle.std.proofs.Common.{◌≡◌, ◌≢◌, ℕ, ◌+◌, ◌==◌, ◌||◌, not, nat_le, nat_lt, Bool}
+-- A window that is opened, with its stream and its entry for input.
+use Rattle.std.proofs.Common.{◌≡◌, ℕ, ◌+◌, ◌==◌, nat_lt, Bool}
 use Rattle.std.proofs.Common.{true, false, List, [], ◌∷◌, ◌++◌, length, refl, sym, ap, ◌∙◌, arith}
-use Rattle.std.proofs.Common.{append_assoc, subst, cond, Option, Some, None, option_map}
+use Rattle.std.proofs.Common.{subst, cond, Option, Some, None, option_map}
 use Rattle.std.proofs.Common.{◌≤◌, ◌<◌, if◌then◌else◌}
+use Rattle.std.proofs.lemmas.Bool.{cond_both, eq-eqb, ne_eqb}
 use Rattle.std.proofs.lemmas.Grind.{common_steps}
-use Rattle.glk_numbers.specs.Numbered.{changed_at, found}
+use Rattle.glk_numbers.specs.Numbered.{found}
 use Rattle.glk_numbers.specs.declared.numbered.TheConstants.{MAX_NUMBER}
 use Rattle.glk_windows.specs.Tree as tree
 use Rattle.glk_windows.specs.Arranging as arranging
@@ -14,7 +15,7 @@ use Rattle.glk_windows.specs.Resizing as resizing
 use Rattle.glk_windows.specs.Valid as wvalid
 use Rattle.glk_windows.specs.declared.window.Area.{Area}
 use Rattle.glk_windows.specs.declared.window.Content.{Content}
-use Rattle.glk_windows.specs.declared.window.Content.TheVariants.{Pair, Blank, Buffer, Grid}
+use Rattle.glk_windows.specs.declared.window.Content.TheVariants.{Pair}
 use Rattle.glk_windows.specs.declared.window.Window.{Window}
 use Rattle.glk_windows.proofs.AreaLemmas.{places_windows}
 use Rattle.glk_windows.proofs.RectangleLemmas.{read_placed}
@@ -33,9 +34,8 @@ use Rattle.glk_dispatch.specs.Windows as rows
 use Rattle.glk_dispatch.specs.declared.glk.Glk.{Glk}
 use Rattle.glk_dispatch.proofs.AskLemmas.{AskedBy, asked-by, asked-more, asked-of, asked-same}
 use Rattle.glk_dispatch.proofs.AskLemmas.{with_link}
-use Rattle.glk_dispatch.proofs.BelowLemmas.{kind-swapped}
 use Rattle.glk_dispatch.proofs.CloseLemmas.{ends_in, links_in}
-use Rattle.glk_dispatch.proofs.FoundLemmas.{found-added, found-changed, found-high, part-changed}
+use Rattle.glk_dispatch.proofs.FoundLemmas.{found-added, found-changed, found-high}
 use Rattle.glk_dispatch.proofs.LinkLemmas.{linked-opened, linked-same}
 use Rattle.glk_dispatch.proofs.PartLemmas.{Alike}
 use Rattle.glk_dispatch.proofs.EchoLemmas.{streams-ascend}
@@ -45,9 +45,7 @@ use Rattle.glk_dispatch.proofs.EchoLemmas.{streams-ascend}
 kind-sized : (c : Content) (a : Area)
     → reading.kind_in (resizing.content_sized c a) ≡ reading.kind_in c
 kind-sized (Pair p) a = refl
-kind-sized Blank a = refl
-kind-sized (Buffer b) a = refl
-kind-sized (Grid g) a = refl
+kind-sized c a = refl
 
 read-link : (o : Option Window)
     → option_map window_link o ≡ tree.read_window None (λ w. Some (window_link w)) o
@@ -108,12 +106,6 @@ no-later (w ∷ ws) a z m o l =
     ap (λ b. cond b (Some w) (found tree.window_number ws m)) not
     ∙ no-later ws (w.number + 1) z m o.2 l
 
-is-same : (n : ℕ) → (n == n) ≡ true
-is-same n = grind (arith, common_steps)
-
-is-other : (m n : ℕ) → m ≢ n → (m == n) ≡ false
-is-other m n h = grind (arith, common_steps, h)
-
 -- a window of this kind with its stream, that echoes nowhere
 abbrev pub new_link : ℕ → ℕ → Link
 new_link b kind = record { stream = b; echo = 0; kind = kind }
@@ -128,20 +120,20 @@ more-linked w s a b kind e f v =
     linked-opened w s (with_link w a (new_link b kind)) (with_end s b a) a b kind (record {
       new_window = e;
       new_stream = f;
-      window = ap (λ t. cond t (Some (new_link b kind)) (w a)) (is-same a);
+      window = ap (λ t. cond t (Some (new_link b kind)) (w a)) (eq-eqb a a refl);
       stream = ap (λ t. cond t (Some (record { owner = Some a; is_plain = true })) (s b))
-          (is-same b);
-      windows = λ m h. ap (λ t. cond t (Some (new_link b kind)) (w m)) (is-other m a h);
+          (eq-eqb b b refl);
+      windows = λ m h. ap (λ t. cond t (Some (new_link b kind)) (w m)) (ne_eqb m a h);
       streams = λ m h.
           ap (λ t. cond t (Some (record { owner = Some a; is_plain = true })) (s m))
-          (is-other m b h);
+          (ne_eqb m b h);
     }) v
 
 -- the streams with one more
 abbrev pub window_stream : ℕ → ℕ → Stream
 window_stream b a = sopen.fresh_stream b 0 1 false (to.Window a) 0
 
-ends-more : (t : streams.StreamTable) (a m : ℕ)
+pub ends-more : (t : streams.StreamTable) (a m : ℕ)
     → found streams.stream_number t.streams t.next ≡ None
     → ends_in (sopen.stream_added t (window_stream t.next a)) m ≡ with_end (ends_in t) t.next a m
 ends-more t a m e =
@@ -159,7 +151,7 @@ ends-more t a m e =
 abbrev pub streaming : ℕ → Window → Window
 streaming n w = record w { stream = n }
 
-links-more : (ws : List Window) (w : Window) (b m : ℕ) → w.echo ≡ 0
+pub links-more : (ws : List Window) (w : Window) (b m : ℕ) → w.echo ≡ 0
     → found tree.window_number ws w.number ≡ None
     → links_in (tree.set_at (streaming b) (ws ++ w ∷ []) w.number) m
     ≡ with_link (links_in ws) w.number (new_link b (reading.kind_in w.content)) m
@@ -180,7 +172,7 @@ links-more ws w b m echo e =
     if-both true o = refl
     if-both false o = refl
 
-more-beside : (w : Links) (s : Ends) (rs : List WindowInput) (a b kind : ℕ) → w a ≡ None
+pub more-beside : (w : Links) (s : Ends) (rs : List WindowInput) (a b kind : ℕ) → w a ≡ None
     → s b ≡ None → Beside w s rs
     → Beside (with_link w a (new_link b kind)) (with_end s b a) (with_window rs a)
 more-beside w s rs a b kind e f v = record {
@@ -198,16 +190,16 @@ begun_as g win = record g {
   requests = with_window g.requests win;
 }
 
-begun-is : (g : Glk) (win : ℕ) → nat_lt MAX_NUMBER g.streams.next ≡ false
+pub begun-is : (g : Glk) (win : ℕ) → nat_lt MAX_NUMBER g.streams.next ≡ false
     → rows.window_begun g win ≡ begun_as g win
 begun-is g win e = rw e refl
 
-no-window-yet : (g : Glk) (n : ℕ) → AreValid g → g.windows.next ≤ n
+pub no-window-yet : (g : Glk) (n : ℕ) → AreValid g → g.windows.next ≤ n
     → found tree.window_number g.windows.slots n ≡ None
 unfolding wvalid.IsOrdered
 no-window-yet g n v h = no-later g.windows.slots 1 g.windows.next n v.windows.ordered h
 
-no-stream-yet : (g : Glk) (n : ℕ) → AreValid g → g.streams.next ≤ n
+pub no-stream-yet : (g : Glk) (n : ℕ) → AreValid g → g.streams.next ≤ n
     → found streams.stream_number g.streams.streams n ≡ None
 no-stream-yet g n v h =
     found-high streams.stream_number g.streams.streams 0 g.streams.next n (streams-ascend g v) h
@@ -240,14 +232,14 @@ ascends-le (w ∷ ws) a z o =
     let y : w.number < z = o.1 in
     omega (arith, x, y)
 
-next-there : (g : Glk) → AreValid g → (g.windows.next == 0) ≡ false
+pub next-there : (g : Glk) → AreValid g → (g.windows.next == 0) ≡ false
 unfolding wvalid.IsOrdered
 next-there g v =
     let x : 1 ≤ g.windows.next = ascends-le g.windows.slots 1 g.windows.next v.windows.ordered in
     grind (arith, common_steps, x)
 
 -- a state with its number, where that isn't 0
-made-if : (b : Bool) (x y : Glk × ℕ) → b ≡ false → AreValid (cond b x y).0
+pub made-if : (b : Bool) (x y : Glk × ℕ) → b ≡ false → AreValid (cond b x y).0
     → (AreValid y.0 → IsReadyGlk y.0) → IsReadyGlk (cond b x y).0
 made-if true x y e p k = absurd cc
 made-if false x y e p k = k p
@@ -257,7 +249,14 @@ pub first-ready : (g : Glk) (kind rock : ℕ) → IsReadyGlk g
     → AreValid (rows.first_window_opened g kind rock).0
     → IsReadyGlk (rows.first_window_opened g kind rock).0
 first-ready g kind rock v windows parts =
-    by-number (nat_lt MAX_NUMBER g.streams.next) refl parts
+    cond_both (nat_lt MAX_NUMBER g.streams.next) (g, 0) _
+    (λ (x : Glk × ℕ). AreValid x.0 → IsReadyGlk x.0) (λ e p. v)
+    (λ e. cond_both _ (t, 0) (h.windows, t.next) (λ (x : tree.WindowTree × ℕ).
+    wvalid.IsValidTree x.0 → AreValid (rows.first_made g x).0 → IsReadyGlk (rows.first_made g x).0)
+    (λ f w_valid p. v)
+    (λ f w_valid p. made-if (t.next == 0) (h, 0)
+    (with_rectangles (rows.window_begun h t.next), t.next) (next-there g v.valid.parts) p
+    (begun-ready e w_valid)) windows) parts
   where
     t : tree.WindowTree
     t = g.windows
@@ -279,236 +278,3 @@ first-ready g kind rock v windows parts =
               (first-beside g w (t.next + 1) t.next v.valid refl refl);
           rests = record { event = v.rests.event; prompt = v.rests.prompt };
         })
-
-    by-room : (r : Bool) → nat_lt MAX_NUMBER g.streams.next ≡ false
-        → wvalid.IsValidTree (cond {A = tree.WindowTree × ℕ} r (t, 0) (h.windows, t.next)).0
-        → AreValid (rows.first_made g (cond r (t, 0) (h.windows, t.next))).0
-        → IsReadyGlk (rows.first_made g (cond r (t, 0) (h.windows, t.next))).0
-    by-room true e w_valid p = v
-    by-room false e w_valid p =
-        made-if (t.next == 0) (h, 0) (with_rectangles (rows.window_begun h t.next), t.next)
-        (next-there g v.valid.parts) p (begun-ready e w_valid)
-
-    by-number : (b : Bool) → nat_lt MAX_NUMBER g.streams.next ≡ b
-        → AreValid (cond b (g, 0) (rows.first_made g (opening.split t 0 0 0 kind rock))).0
-        → IsReadyGlk (cond b (g, 0) (rows.first_made g (opening.split t 0 0 0 kind rock))).0
-    by-number true e p = v
-    by-number false e p =
-        by-room
-        (not (t.root == 0) || not (opening.is_kind kind) || nat_lt 4294967294 t.next
-        || nat_lt 64 (length t.slots + 1)) e windows p
-
--- ---- a window and the pair above it
-
-changed-front : {X : Type 0} (number : X → ℕ) (f : X → X) (xs : List X) (x : X) (n : ℕ)
-    → (number x == n) ≡ false
-    → changed_at number f (xs ++ x ∷ []) n ≡ changed_at number f xs n ++ x ∷ []
-unfolding changed_at
-changed-front number f [] x n e = grind (arith, common_steps, e)
-changed-front number f (y ∷ ys) x n e =
-    grind (arith, common_steps, e, changed-front number f ys x n e)
-
-joined-links : (ws : List Window) (from pair m : ℕ)
-    → links_in (opening.pair_joined ws from pair) m ≡ links_in ws m
-joined-links ws from pair m =
-    part-changed tree.window_number window_link (λ w. record w { parent = pair })
-    (λ w. refl) (λ w. refl)
-    (tree.set_at (λ w. record w { content = tree.swapped w.content from pair }) ws
-    (tree.parent_of ws from)) from m
-    ∙ part-changed tree.window_number window_link
-    (λ w. record w { content = tree.swapped w.content from pair }) (λ w. refl)
-    (λ w. ap (λ k. record { stream = w.stream; echo = w.echo; kind = k })
-    (kind-swapped w.content from pair)) ws (tree.parent_of ws from) m
-
-unfound : (o : Option Window) → option_map window_link o ≡ None → o ≡ None
-unfound None e = refl
-unfound (Some w) e = cc
-
-pub beside-beside : (g : Glk) (js : List Window) (w x : Window) (next root : ℕ) → IsValidGlk g
-    → ((m : ℕ) → links_in js m ≡ links g m)
-    → w.number ≡ g.windows.next → x.number ≡ g.windows.next + 1 → w.echo ≡ 0 → x.echo ≡ 0
-    → Beside
-    (links (begun_as (begun_as (windows_with g (js ++ w ∷ x ∷ []) next root) w.number) x.number))
-    (stream_ends
-    (begun_as (begun_as (windows_with g (js ++ w ∷ x ∷ []) next root) w.number) x.number))
-    (with_window (with_window g.requests w.number) x.number)
-beside-beside g js w x next root v same wn xn we xe =
-    beside-same second (links h) second_ends (stream_ends h) second_asked second-links second-ends
-    (more-beside first first_ends (with_window g.requests a) x.number (b + 1)
-    (reading.kind_in x.content) first-none first_ends-none
-    (more-beside (links_in js) (stream_ends g) g.requests a b (reading.kind_in w.content)
-    (same a ∙ ap (option_map window_link) (no-window-yet g a v.parts (omega (arith, wn))))
-    (ap (option_map stream_end) free)
-    (beside-same (links g) (links_in js) (stream_ends g) (stream_ends g) g.requests same (λ m. refl)
-    (beside-of g v))))
-  where
-    a : ℕ
-    a = w.number
-
-    b : ℕ
-    b = g.streams.next
-
-    h : Glk
-    h = begun_as (begun_as (windows_with g (js ++ w ∷ x ∷ []) next root) w.number) x.number
-
-    ws : List Window
-    ws = tree.set_at (streaming b) (js ++ w ∷ []) a
-
-    first : Links
-    first = with_link (links_in js) a (new_link b (reading.kind_in w.content))
-
-    second : Links
-    second = with_link first x.number (new_link (b + 1) (reading.kind_in x.content))
-
-    first_ends : Ends
-    first_ends = with_end (stream_ends g) b a
-
-    second_ends : Ends
-    second_ends = with_end first_ends (b + 1) x.number
-
-    second_asked : List WindowInput
-    second_asked = with_window (with_window g.requests a) x.number
-
-    free : found streams.stream_number g.streams.streams b ≡ None
-    free = no-stream-yet g b v.parts (omega arith)
-
-    apart : (x.number == a) ≡ false
-    apart = is-other x.number a (λ e. absurd (omega (arith, e, wn, xn)))
-
-    after-apart : (b + 1 == b) ≡ false
-    after-apart = is-other (b + 1) b (λ e. absurd (omega (arith, e)))
-
-    first-links : (m : ℕ) → links_in ws m ≡ first m
-    first-links m = links-more js w b m we
-        (unfound (found tree.window_number js a)
-        (same a ∙ ap (option_map window_link) (no-window-yet g a v.parts (omega (arith, wn)))))
-
-    first-none : first x.number ≡ None
-    first-none =
-        ap (λ t. cond t (Some (new_link b (reading.kind_in w.content))) (links_in js x.number))
-        apart
-        ∙ same x.number
-        ∙ ap (option_map window_link) (no-window-yet g x.number v.parts (omega (arith, xn)))
-
-    first_ends-none : first_ends (b + 1) ≡ None
-    first_ends-none =
-        ap (λ t. cond t (Some (record { owner = Some a; is_plain = true })) (stream_ends g (b + 1)))
-        after-apart
-        ∙ ap (option_map stream_end) (no-stream-yet g (b + 1) v.parts (omega arith))
-
-    regrouped : (js ++ w ∷ []) ++ x ∷ [] ≡ js ++ w ∷ x ∷ []
-    regrouped = simp append_assoc
-
-    slots-are : tree.set_at (streaming b) (js ++ w ∷ x ∷ []) a ≡ ws ++ x ∷ []
-    slots-are =
-        ap (λ us. tree.set_at (streaming b) us a) (sym regrouped)
-        ∙ changed-front tree.window_number (streaming b) (js ++ w ∷ []) x a apart
-
-    second-links : (m : ℕ) → links h m ≡ second m
-    second-links m =
-        ap (λ us. links_in (tree.set_at (streaming (b + 1)) us x.number) m) slots-are
-        ∙ links-more ws x (b + 1) m xe
-        (unfound (found tree.window_number ws x.number) (first-links x.number ∙ first-none))
-        ∙ ap (λ o. cond (m == x.number)
-        (Some (new_link (b + 1) (reading.kind_in x.content))) o) (first-links m)
-
-    second-ends : (m : ℕ) → stream_ends h m ≡ second_ends m
-    second-ends m =
-        ends-more (sopen.stream_added g.streams (window_stream b a)) x.number m
-        (found-added streams.stream_number g.streams.streams (window_stream b a) (b + 1) free
-        ∙ ap (λ t. cond t (Some (window_stream b a))
-        (found streams.stream_number g.streams.streams (b + 1))) after-apart
-        ∙ no-stream-yet g (b + 1) v.parts (omega arith))
-        ∙ ap (λ o. cond (m == b + 1) (Some (record { owner = Some x.number; is_plain = true })) o)
-        (ends-more g.streams a m free)
-
-below-max : (n : ℕ) → nat_le MAX_NUMBER n ≡ false
-    → (nat_lt MAX_NUMBER n ≡ false) × (nat_lt MAX_NUMBER (n + 1) ≡ false)
-below-max n e = (grind (arith, common_steps, e), grind (arith, common_steps, e))
-
-pub beside-ready : (g : Glk) (split method size kind rock : ℕ) → (split == 0) ≡ false → IsReadyGlk g
-    → wvalid.IsValidTree (opening.split g.windows split method size kind rock).0
-    → AreValid (rows.window_beside g split method size kind rock).0
-    → IsReadyGlk (rows.window_beside g split method size kind rock).0
-beside-ready g split method size kind rock some v windows parts =
-    by-number (nat_le MAX_NUMBER g.streams.next) refl parts
-  where
-    t : tree.WindowTree
-    t = g.windows
-
-    js : List Window
-    js = opening.pair_joined t.slots split (t.next + 1)
-
-    w : Window
-    w = opening.unplaced_window t.next rock (t.next + 1) (opening.new_content kind)
-
-    x : Window
-    x = opening.unplaced_window (t.next + 1) 0 (tree.parent_of t.slots split)
-        (Pair (record {
-          method = method;
-          size = size;
-          key = t.next;
-          first = split;
-          second = t.next;
-        }))
-
-    root : ℕ
-    root = if t.root == split then t.next + 1 else t.root
-
-    h : Glk
-    h = windows_with g (js ++ w ∷ x ∷ []) (t.next + 2) root
-
-    both-are : nat_le MAX_NUMBER g.streams.next ≡ false
-        → rows.window_begun (rows.window_begun h t.next) (t.next + 1)
-        ≡ begun_as (begun_as h t.next) (t.next + 1)
-    both-are e =
-        let few = below-max g.streams.next e in
-        ap (λ y. rows.window_begun y (t.next + 1)) (begun-is h t.next few.0)
-        ∙ begun-is (begun_as h t.next) (t.next + 1) few.1
-
-    begun-ready : nat_le MAX_NUMBER g.streams.next ≡ false → wvalid.IsValidTree h.windows
-        → AreValid (with_rectangles (rows.window_begun (rows.window_begun h t.next) (t.next + 1)))
-        → IsReadyGlk (with_rectangles (rows.window_begun (rows.window_begun h t.next) (t.next + 1)))
-    begun-ready e w_valid p =
-        subst (λ y. IsReadyGlk (with_rectangles y)) (sym (both-are e)) (record {
-          valid = placed-valid (begun_as (begun_as h t.next) (t.next + 1))
-              (subst (λ y. AreValid (with_rectangles y)) (both-are e) p)
-              (keeps_valid.set_stream
-              (arranging.stream_set h.windows t.next g.streams.next) (t.next + 1)
-              (g.streams.next + 1)
-              (keeps_valid.set_stream h.windows t.next g.streams.next w_valid))
-              (beside-beside g js w x (t.next + 2) root v.valid
-              (joined-links t.slots split (t.next + 1)) refl refl refl refl);
-          rests = record { event = v.rests.event; prompt = v.rests.prompt };
-        })
-
-    by-room : (r : Bool) → nat_le MAX_NUMBER g.streams.next ≡ false
-        → wvalid.IsValidTree (cond {A = tree.WindowTree × ℕ} r (t, 0) (h.windows, t.next)).0
-        → AreValid (rows.beside_made g (cond r (t, 0) (h.windows, t.next))).0
-        → IsReadyGlk (rows.beside_made g (cond r (t, 0) (h.windows, t.next))).0
-    by-room true e w_valid p = v
-    by-room false e w_valid p =
-        made-if (t.next == 0) (h, 0)
-        (with_rectangles (rows.window_begun (rows.window_begun h t.next) (t.next + 1)), t.next)
-        (next-there g v.valid.parts) p (begun-ready e w_valid)
-
-    by-split : (b : Bool) → b ≡ false → nat_le MAX_NUMBER g.streams.next ≡ false
-        → wvalid.IsValidTree (cond b (opening.first_opened t kind rock)
-        (opening.beside_opened t split method size kind rock)).0
-        → AreValid (rows.beside_made g (cond b (opening.first_opened t kind rock)
-        (opening.beside_opened t split method size kind rock))).0
-        → IsReadyGlk (rows.beside_made g (cond b (opening.first_opened t kind rock)
-        (opening.beside_opened t split method size kind rock))).0
-    by-split true f e w_valid p = absurd cc
-    by-split false f e w_valid p =
-        by-room
-        (not (opening.is_kind kind) || nat_le 4294967294 t.next || nat_lt 64 (length t.slots + 2))
-        e w_valid p
-
-    by-number : (b : Bool) → nat_le MAX_NUMBER g.streams.next ≡ b
-        → AreValid (cond b (g, 0)
-        (rows.beside_made g (opening.split t split method size kind rock))).0
-        → IsReadyGlk (cond b (g, 0)
-        (rows.beside_made g (opening.split t split method size kind rock))).0
-    by-number true e p = v
-    by-number false e p = by-split (split == 0) some e windows p

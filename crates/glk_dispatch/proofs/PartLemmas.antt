@@ -15,7 +15,7 @@ use Rattle.glk_windows.specs.Closing as closing
 use Rattle.glk_windows.specs.Output as output
 use Rattle.glk_windows.specs.declared.window.Window.{Window}
 use Rattle.glk_windows.specs.declared.window.Content.{Content}
-use Rattle.glk_windows.specs.declared.window.Content.TheVariants.{Pair, Blank, Buffer, Grid}
+use Rattle.glk_windows.specs.declared.window.Content.TheVariants.{Pair}
 use Rattle.glk_streams.specs.Answer as answer
 use Rattle.glk_streams.specs.Streams as streams
 use Rattle.glk_streams.specs.Opening as sopen
@@ -119,21 +119,15 @@ valid-alike g h same e parts areas v = record {
 pub kind-put : (c : Content) (code style : ℕ) → reading.kind_in (output.content_put c code style)
     ≡ reading.kind_in c
 kind-put (Pair p) code style = refl
-kind-put Blank code style = refl
-kind-put (Buffer b) code style = refl
-kind-put (Grid g) code style = refl
+kind-put c code style = refl
 
 pub kind-cleared : (c : Content) → reading.kind_in (output.content_cleared c) ≡ reading.kind_in c
 kind-cleared (Pair p) = refl
-kind-cleared Blank = refl
-kind-cleared (Buffer b) = refl
-kind-cleared (Grid g) = refl
+kind-cleared c = refl
 
-kind-kept : (c : Content) → reading.kind_in (output.content_kept c) ≡ reading.kind_in c
+pub kind-kept : (c : Content) → reading.kind_in (output.content_kept c) ≡ reading.kind_in c
 kind-kept (Pair p) = refl
-kind-kept Blank = refl
-kind-kept (Buffer b) = refl
-kind-kept (Grid g) = refl
+kind-kept c = refl
 
 link-kind : (w v : Window) → v.stream ≡ w.stream → v.echo ≡ w.echo → reading.kind_in v.content
     ≡ reading.kind_in w.content → window_link v ≡ window_link w
@@ -160,21 +154,17 @@ end-place s p h = elim (cases_Bool (streams.is_window_target s.target)) [
 abbrev pub SamePlace : Bool → ℕ → List File × MemoryMap × ℕ → Type 0
 SamePlace w place p = w ≡ true → p.2 ≡ place
 
+if-any : (place : ℕ) (r : sout.Put) → IfOk r (SamePlace false place)
+if-any place (Ok p) = λ e. absurd cc
+if-any place (Err e) = tt
+
 put_in-place : (t : target.Target) (u : Bool) (fs : List File) (m : MemoryMap) (place code : ℕ)
     → IfOk (sout.put_in_target t u fs m place code) (SamePlace (streams.is_window_target t) place)
 put_in-place (to.Window win) u fs m place code = λ e. refl
-put_in-place (to.Memory buf len) u fs m place code = if-any
-    (sout.put_in_target (to.Memory buf len) u fs m place code)
-  where
-    if-any : (r : sout.Put) → IfOk r (SamePlace false place)
-    if-any (Ok p) = λ e. absurd cc
-    if-any (Err e) = tt
-put_in-place (to.File usage name) u fs m place code = if-any
-    (sout.put_in_target (to.File usage name) u fs m place code)
-  where
-    if-any : (r : sout.Put) → IfOk r (SamePlace false place)
-    if-any (Ok p) = λ e. absurd cc
-    if-any (Err e) = tt
+put_in-place (to.Memory buf len) u fs m place code =
+    if-any place (sout.put_in_target (to.Memory buf len) u fs m place code)
+put_in-place (to.File usage name) u fs m place code =
+    if-any place (sout.put_in_target (to.File usage name) u fs m place code)
 
 -- the streams that a call leaves are, as windows' streams, those that were there
 abbrev pub SameEnds : streams.StreamTable → streams.StreamTable → Type 0

@@ -29,7 +29,6 @@ use Rattle.glk_dispatch.specs.declared.glk.Glk.{Glk}
 use Rattle.glk_dispatch.proofs.CloseLemmas.{ends_in}
 use Rattle.glk_dispatch.proofs.FoundLemmas.{found-added, found-high, part-replaced}
 use Rattle.glk_dispatch.proofs.LoopLemmas.{no_loop-fewer}
-use Rattle.glk_dispatch.proofs.PartLemmas.{LeavesEnds}
 
 -- a stream that is no window's
 abbrev pub no_window : End
@@ -85,11 +84,6 @@ pub added-linked : (g : Glk) (t : StreamTable)
 added-linked g t more v = linked-more (links g) (stream_ends g) (ends_in t) more v
 
 -- ---- what each call does
-
-pub same-more : {A : Type 0} (t : StreamTable) (r : Result (StreamTable × A) StreamStop)
-    → LeavesEnds t r → LeavesMore t r
-same-more t (Ok p) h = λ m. inl (h m)
-same-more t (Err e) h = tt
 
 -- one stream more, with the next number
 joined-more : (t u : StreamTable) (s : Stream) → u.streams ≡ t.streams → s.number ≡ t.next

@@ -2,7 +2,7 @@
 use Rattle.std.proofs.Common.{◌≡◌, ◌∙◌, ℕ, ◌+◌, ◌≤◌, ◌==◌, ◌&&◌, ◌||◌, not, Bool, true, false}
 use Rattle.std.proofs.Common.{List, [], ◌∷◌, Option, Some, None, arith, refl, sym, ap, inl, inr}
 use Rattle.std.proofs.Common.{is_some, if◌then◌else◌}
-use Rattle.std.proofs.lemmas.Bool.{and_parts, cases_Bool}
+use Rattle.std.proofs.lemmas.Bool.{and_from, and_parts, cases_Bool}
 use Rattle.std.proofs.lemmas.Bool.Decides.{nat_tests}
 use Rattle.glk_numbers.specs.Numbered.{found}
 use Rattle.glk_windows.specs.Areas.{HaveAreas}
@@ -15,10 +15,6 @@ use Rattle.glk_windows.specs.Valid.{Ascends, IsOrdered, IsValidTree}
 use Rattle.glk_windows.specs.declared.window.Area.{Area}
 use Rattle.glk_windows.specs.declared.window.Pair as p
 use Rattle.glk_windows.specs.declared.window.Window.{Window}
-
-both : (a b : Bool) → a ≡ true → b ≡ true → (a && b) ≡ true
-both true b e f = f
-both false b e f = e
 
 -- ---- one rectangle
 
@@ -40,9 +36,9 @@ is-itself n = grind (arith, nat_tests)
 
 to-same : (a b : Area) → a ≡ b → is_same a b ≡ true
 to-same a b e = ap (λ v. is_same v b) e
-    ∙ both (b.x == b.x) (b.y == b.y && (b.w == b.w && b.h == b.h)) (is-itself b.x)
-    (both (b.y == b.y) (b.w == b.w && b.h == b.h) (is-itself b.y)
-    (both (b.w == b.w) (b.h == b.h) (is-itself b.w) (is-itself b.h)))
+    ∙ and_from (b.x == b.x) (b.y == b.y && (b.w == b.w && b.h == b.h)) (is-itself b.x)
+    (and_from (b.y == b.y) (b.w == b.w && b.h == b.h) (is-itself b.y)
+    (and_from (b.w == b.w) (b.h == b.h) (is-itself b.w) (is-itself b.h)))
 
 -- ---- each pair of the list
 
@@ -98,7 +94,7 @@ to-parts : (ws vs : List Window) (a z : ℕ) → Ascends a vs z
 unfolding have_parts
 to-parts ws [] a z o h = refl
 to-parts ws (v ∷ vs) a z o h =
-    both (has_parts ws (pair_in v) v.area) (have_parts ws vs)
+    and_from (has_parts ws (pair_in v) v.area) (have_parts ws vs)
     (h v.number v (found-first v vs))
     (to-parts ws vs (v.number + 1) z o.2 (λ m w e. h m w (found-later v vs a z m w o e)))
 
@@ -155,7 +151,7 @@ of-parts : (t : WindowTree) (o : Option p.Pair) (a : Area)
 of-parts t None a h = refl
 of-parts t (Some q) a h =
     let k = h q refl in
-    both (is_same (window_area t.slots q.first) (first_part q (has_size t.slots q.key) a))
+    and_from (is_same (window_area t.slots q.first) (first_part q (has_size t.slots q.key) a))
     (is_same (window_area t.slots q.second) (second_part q (has_size t.slots q.key) a))
     (to-same (window_area t.slots q.first) (first_part q (has_size t.slots q.key) a) k.0)
     (to-same (window_area t.slots q.second) (second_part q (has_size t.slots q.key) a) k.1)
@@ -178,7 +174,7 @@ pub of-areas : (t : WindowTree) (cols rows : ℕ) → IsValidTree t → HaveArea
 unfolding IsOrdered
 of-areas t cols rows v h =
     let screen : Area = record { x = 0; y = 0; w = cols; h = rows } in
-    both (has_screen t cols rows) (have_parts t.slots t.slots)
+    and_from (has_screen t cols rows) (have_parts t.slots t.slots)
     (to-screen (is_some (window_at t.slots t.root)) (is_same (window_area t.slots t.root) screen)
     (λ live. to-same (window_area t.slots t.root) screen (h.root live)))
     (to-parts t.slots t.slots 1 t.next v.ordered (λ m w e.

@@ -1,14 +1,15 @@
 -- A window below a pair, by the way up and by the tree.
-use Rattle.std.proofs.Common.{◌≡◌, ◌≢◌, ◌⊎◌, inl, inr, ℕ, zero, suc, ◌≤◌, ◌<◌}
+use Rattle.std.proofs.Common.{◌≡◌, ◌≢◌, ◌⊎◌, inl, inr, ⊎_elim, ℕ, zero, suc, ◌≤◌, ◌<◌}
 use Rattle.std.proofs.Common.{◌==◌, ◌||◌, ◌&&◌, List, [], ◌∷◌, length, refl, sym}
 use Rattle.std.proofs.Common.{ap, ◌∙◌, Option, Some, None, is_some, option_map}
 use Rattle.std.proofs.Common.{arith, Bool, true, false, not, if◌then◌else◌, nat_lt}
+use Rattle.std.proofs.lemmas.Bool.{and_parts, not-true, or_left, or_right}
 use Rattle.std.proofs.lemmas.Grind.{common_steps}
 use Rattle.glk_numbers.specs.Numbered.{found}
 use Rattle.glk_windows.specs.declared.window.Window.{Window}
 use Rattle.glk_windows.specs.declared.window.Pair as pairs
 use Rattle.glk_windows.specs.declared.window.Content.{Content}
-use Rattle.glk_windows.specs.declared.window.Content.TheVariants.{Pair, Blank, Buffer, Grid}
+use Rattle.glk_windows.specs.declared.window.Content.TheVariants.{Pair}
 use Rattle.glk_windows.specs.Tree.{WindowTree, IsLive, read_window, window_at}
 use Rattle.glk_windows.specs.Tree.{pair_of, pair_in, pair_content, parent_of}
 use Rattle.glk_windows.specs.Reading.{is_below, kind_in, window_kind, may_key}
@@ -18,29 +19,13 @@ use Rattle.glk_windows.specs.OneTree.{Once, below, has_leaf, tree_size, tree_of}
 use Rattle.glk_windows.specs.Valid.{IsValidTree, IsOrdered}
 use Rattle.glk_windows.specs.Laws.{IsKeyOf, MayKeyHolds}
 use Rattle.glk_windows.proofs.OneTreeLemmas.{count_top, is_eq, once_at, once_le, node_parent}
-use Rattle.glk_windows.proofs.CutLemmas.{node_lower, node_pair, size_length}
-use Rattle.glk_windows.proofs.LiftLemmas.{count_below}
+use Rattle.glk_windows.proofs.CutLemmas.{node_lower, node_pair, none_of, size_length}
+use Rattle.glk_windows.proofs.LiftLemmas.{count_below, pick}
 use Rattle.glk_windows.proofs.CloseLemmas.{size_below, spells_below}
 use Rattle.glk_windows.proofs.KeyLemmas.{leaf_count}
 use Rattle.glk_windows.proofs.TestLemmas.{tree_found}
-use Rattle.glk_windows.proofs.RectangleLemmas.{InFirst, InSecond, below_one}
+use Rattle.glk_windows.proofs.SpreadLemmas.{not_in_parts, part_of}
 use Rattle.glk_windows.proofs.ValidLemmas.{node_live, node_nil, some_tree, SomeTree}
-
-pick : {A : Type 0} (b : Bool) → (b ≡ true → A) → (b ≡ false → A) → A
-pick true f g = f refl
-pick false f g = g refl
-
-and-left : (a b : Bool) → (a && b) ≡ true → a ≡ true
-and-left true b e = refl
-and-left false b e = cc
-
-and-right : (a b : Bool) → (a && b) ≡ true → b ≡ true
-and-right true b e = e
-and-right false b e = cc
-
-not-false : (b : Bool) → not b ≡ true → b ≡ false
-not-false true e = cc
-not-false false e = refl
 
 or-false : (a b : Bool) → a ≡ false → (a || b) ≡ true → b ≡ true
 or-false true b e f = cc
@@ -48,9 +33,6 @@ or-false false b e f = f
 
 ap-lt : {x y : ℕ} → x ≡ y → 0 < x → 0 < y
 ap-lt e h = omega (arith, e, h)
-
-lt-ap : {x y : ℕ} → x ≡ y → 0 < y → 0 < x
-lt-ap e h = omega (arith, e, h)
 
 zero-at : (f : ℕ → ℕ) (u m : ℕ) → u ≡ m → f m ≡ 0 → 0 < f u → ⊥
 zero-at f u m e z c = absurd (omega (arith, ap f e, z, c))
@@ -85,12 +67,6 @@ place-of : (m k : ℕ) (p : pairs.Pair) (a b : Shape)
     → 0 < times_reached (Fork m p a b) k → Place m a b k
 place-of m k p a b h = stands m k p a b (m == k) (nat_lt 0 (times_reached a k)) refl refl h
 
-own : (m : ℕ) (p : pairs.Pair) (a b : Shape) (k : ℕ)
-    → times_reached (Fork m p a b) m ≤ 1
-    → times_reached a k ≡ times_reached a k
-    → (times_reached a m ≡ 0) × (times_reached b m ≡ 0)
-own m p a b k h e = (grind (arith, common_steps), grind (arith, common_steps))
-
 -- the parent of a window of a tree is in the tree, or above it
 parent-in : (ws : List Window) (s : Shape) (up k : ℕ) → SpellsTree ws up s → 0 < times_reached s k
     → (parent_of ws k ≡ up) ⊎ (0 < times_reached s (parent_of ws k))
@@ -102,13 +78,11 @@ parent-in ws (Fork m p a b) up k t c =
     as (λ _. (parent_of ws k ≡ up) ⊎ (0 < times_reached (Fork m p a b) (parent_of ws k))) [
       | Here e ↦ inl (ap (parent_of ws) e ∙ sym (node_parent ws m _ t.0))
       | InA f ↦
-          (elim (parent-in ws a m k t.3 f)
-          as (λ _. (parent_of ws k ≡ up) ⊎ (0 < times_reached (Fork m p a b) (parent_of ws k)))
-          [ inl e ↦ inr (own-count m p a b (parent_of ws k) e) | inr g ↦ inr (omega (arith, g)) ])
+          ⊎_elim (λ e. inr (own-count m p a b (parent_of ws k) e)) (λ g. inr (omega (arith, g)))
+          (parent-in ws a m k t.3 f)
       | InB f ↦
-          (elim (parent-in ws b m k t.4 f)
-          as (λ _. (parent_of ws k ≡ up) ⊎ (0 < times_reached (Fork m p a b) (parent_of ws k)))
-          [ inl e ↦ inr (own-count m p a b (parent_of ws k) e) | inr g ↦ inr (omega (arith, g)) ])
+          ⊎_elim (λ e. inr (own-count m p a b (parent_of ws k) e)) (λ g. inr (omega (arith, g)))
+          (parent-in ws b m k t.4 f)
     ]
 
 -- what hangs below a window of a part is in the part
@@ -127,7 +101,7 @@ below-part ws n (Fork m p a b) up k t d z cn ck cu =
     let u : ℕ = parent_of ws k in
     let dm : times_reached (Fork m p a b) m ≤ 1 = d m in
     let du : times_reached (Fork m p a b) u ≤ 1 = d u in
-    let o : (times_reached a m ≡ 0) × (times_reached b m ≡ 0) = own m p a b k dm refl in
+    let o : (times_reached a m ≡ 0) × (times_reached b m ≡ 0) = not_in_parts m p a b dm in
     pick (m == n)
     (λ e. (let g : below n (Fork m p a b) ≡ Fork m p a b = rw e refl in rw g ck))
     (λ e. pick (nat_lt 0 (times_reached a n))
@@ -135,7 +109,7 @@ below-part ws n (Fork m p a b) up k t d z cn ck cu =
     let ca : 0 < times_reached a n = grind (arith, common_steps) in
     let cv : 0 < times_reached (below n a) u = ap-lt (ap (λ x. times_reached x u) g) cu in
     let cau : 0 < times_reached a u = omega (arith, cv, count_below n a u) in
-    lt-ap (ap (λ x. times_reached x k) g)
+    ap-lt (ap (λ x. times_reached x k) (sym g))
     (elim (place-of m k p a b ck) as (λ _. 0 < times_reached (below n a) k) [
       | Here h ↦
           absurd (above ws m k u up p a b h refl (node_parent ws m _ t.0) z (omega (arith, cau)))
@@ -149,7 +123,7 @@ below-part ws n (Fork m p a b) up k t d z cn ck cu =
     let cb : 0 < times_reached b n = grind (arith, common_steps) in
     let cv : 0 < times_reached (below n b) u = ap-lt (ap (λ x. times_reached x u) g) cu in
     let cbu : 0 < times_reached b u = omega (arith, cv, count_below n b u) in
-    lt-ap (ap (λ x. times_reached x k) g)
+    ap-lt (ap (λ x. times_reached x k) (sym g))
     (elim (place-of m k p a b ck) as (λ _. 0 < times_reached (below n b) k) [
       | Here h ↦
           absurd (above ws m k u up p a b h refl (node_parent ws m _ t.0) z (omega (arith, cbu)))
@@ -192,26 +166,20 @@ way-up (suc j) ws n s k t d w z cn e =
     below-part ws n s 0 k t d z cn
     (live-count (node_of ws k) (times_reached s k) u (w k) (parent-none ws k) uz) cu
 
-leaf-of : (ws : List Window) (s : Shape) (up k : ℕ)
-    → SpellsTree ws up s → ((m : ℕ) → times_reached s m ≤ 1)
-    → 0 < times_reached s k → pair_of ws k ≡ None
-    → has_leaf s k ≡ true
-leaf-of ws (Leaf n) up k t d c e = grind (arith, common_steps)
-leaf-of ws (Fork n p a b) up k t d c e =
-    elim (below_one ws n k p a b up t.0 e c (d k)) as (λ _. (has_leaf a k || has_leaf b k) ≡ true) [
-      | InFirst f g ↦
-          (let h : has_leaf a k ≡ true = leaf-of ws a n k t.3 (λ x. omega (arith, d x)) f e in
-          grind (arith, common_steps))
-      | InSecond f g ↦
-          (let h : has_leaf b k ≡ true = leaf-of ws b n k t.4 (λ x. omega (arith, d x)) f e in
-          grind (arith, common_steps))
+leaf-of : (ws : List Window) (s : Shape) (up k : ℕ) → SpellsTree ws up s
+    → 0 < times_reached s k → pair_of ws k ≡ None → has_leaf s k ≡ true
+leaf-of ws (Leaf n) up k t c e = grind (arith, common_steps)
+leaf-of ws (Fork n p a b) up k t c e =
+    let other : n ≢ k = λ i. (let x : None ≡ Some p =
+    sym (ap (option_map pair_without_key) (ap (pair_of ws) i ∙ e)) ∙ node_pair ws n _ t.0 in cc) in
+    elim (part_of n k p a b other c) [
+      | inl f ↦ or_left (has_leaf a k) _ (leaf-of ws a n k t.3 f e)
+      | inr f ↦ or_right (has_leaf a k) _ (leaf-of ws b n k t.4 f e)
     ]
 
 kind-pair : (c : Content) → (kind_in c == 1) ≡ false → pair_content c ≡ None
 kind-pair (Pair q) e = absurd (grind (arith, e))
-kind-pair Blank e = refl
-kind-pair (Buffer b) e = refl
-kind-pair (Grid g) e = refl
+kind-pair c e = refl
 
 kind-found : (o : Option Window)
     → (read_window 0 (λ w. kind_in w.content) o == 1) ≡ false
@@ -233,8 +201,7 @@ key-tree t n key x (Some s, h, k) o l up pn =
     let ck : 0 < times_reached (below n s) key =
     way-up (length t.slots) t.slots n s key h.1 dd h.2 z cn up in
     let lf : has_leaf (below n s) key ≡ true =
-    leaf-of t.slots (below n s) (parent_of t.slots n) key tb.1
-    (λ m. omega (arith, count_below n s m, dd m)) ck pn in
+    leaf-of t.slots (below n s) (parent_of t.slots n) key tb.1 ck pn in
     inr (ap (λ x. has_leaf (below n x) key) (tree_found t s o h) ∙ lf)
 
 key-case : (t : WindowTree) (n key : ℕ) (b : Bool) → (key == 0) ≡ b → IsValidTree t → IsLive t n
@@ -243,22 +210,14 @@ key-case : (t : WindowTree) (n key : ℕ) (b : Bool) → (key == 0) ≡ b → Is
 key-case t n key true e v l h = inl (is_eq key 0 e)
 key-case t n key false e v l h =
     let up : is_below (length t.slots) t.slots key n ≡ true =
-    and-left (is_below (length t.slots) t.slots key n) _ h in
+    (and_parts _ _ h).0 in
     let kd : (window_kind t.slots key == 1) ≡ false =
-    not-false _ (and-right (is_below (length t.slots) t.slots key n) _ h) in
+    not-true _ (and_parts (is_below (length t.slots) t.slots key n) _ h).1 in
     let pn : pair_of t.slots key ≡ None = kind-found (window_at t.slots key) kd in
     let x : _ = node_live t.slots n l in
     key-tree t n key x.0 (some_tree t v) v.ordered x.1 up pn
 
 -- ---- and the other way: what stands below is found on the way up
-
-or-left : (a b : Bool) → a ≡ true → (a || b) ≡ true
-or-left true b e = refl
-or-left false b e = cc
-
-or-right : (a b : Bool) → b ≡ true → (a || b) ≡ true
-or-right true b e = refl
-or-right false b e = e
 
 same : (a b : ℕ) → a ≡ b → (a == b) ≡ true
 same a b e = grind (arith, common_steps)
@@ -269,8 +228,8 @@ unfolding is_below
 climbs-on zero ws k m up e f = cc
 climbs-on (suc d) ws k m up e f =
     let u : ℕ = parent_of ws k in
-    or-right (u == up) _ (pick (u == m)
-    (λ i. or-left (parent_of ws u == up) _
+    or_right (u == up) _ (pick (u == m)
+    (λ i. or_left (parent_of ws u == up) _
     (same _ up (ap (parent_of ws) (is_eq u m i) ∙ f)))
     (λ i. climbs-on d ws u m up (or-false (u == m) _ i e) f))
 
@@ -281,12 +240,12 @@ climbs zero ws (Leaf m) up k h t c = absurd (omega (arith, h))
 climbs zero ws (Fork m p a b) up k h t c = absurd (omega (arith, h))
 climbs (suc d) ws (Leaf m) up k h t c =
     let e : m ≡ k = grind (arith, common_steps) in
-    or-left (parent_of ws k == up) _
+    or_left (parent_of ws k == up) _
     (same _ up (ap (parent_of ws) (sym e) ∙ sym (node_parent ws m _ t)))
 climbs (suc d) ws (Fork m p a b) up k h t c =
     let f : parent_of ws m ≡ up = sym (node_parent ws m _ t.0) in
     elim (place-of m k p a b c) as (λ _. is_below (suc d) ws k up ≡ true) [
-      | Here e ↦ or-left (parent_of ws k == up) _ (same _ up (ap (parent_of ws) e ∙ f))
+      | Here e ↦ or_left (parent_of ws k == up) _ (same _ up (ap (parent_of ws) e ∙ f))
       | InA g ↦ climbs-on d ws k m up (climbs d ws a m k (omega (arith, h)) t.3 g) f
       | InB g ↦ climbs-on d ws k m up (climbs d ws b m k (omega (arith, h)) t.4 g) f
     ]
@@ -298,15 +257,9 @@ leaf-node ws (Fork n p a b) up k t e =
     pick (has_leaf a k) (λ f. leaf-node ws a n k t.3 f)
     (λ f. leaf-node ws b n k t.4 (or-false (has_leaf a k) _ f e))
 
-none-bare : (o : Option pairs.Pair) → option_map pair_without_key o ≡ None → o ≡ None
-none-bare None e = refl
-none-bare (Some q) e = cc
-
 kind-none : (c : Content) → pair_content c ≡ None → (kind_in c == 1) ≡ false
 kind-none (Pair q) e = cc
-kind-none Blank e = refl
-kind-none (Buffer b) e = refl
-kind-none (Grid g) e = refl
+kind-none c e = refl
 
 kind-single : (o : Option Window) → read_window None pair_in o ≡ None
     → (read_window 0 (λ w. kind_in w.content) o == 1) ≡ false
@@ -315,7 +268,7 @@ kind-single (Some w) e = kind-none w.content e
 
 single : (ws : List Window) (k u : ℕ) → node_of ws k ≡ Some (u, None)
     → (window_kind ws k == 1) ≡ false
-single ws k u e = kind-single (window_at ws k) (none-bare (pair_of ws k) (node_pair ws k _ e))
+single ws k u e = kind-single (window_at ws k) (none_of (pair_of ws k) (node_pair ws k _ e))
 
 climbs-part : (d : ℕ) (ws : List Window) (s : Shape) (up n k : ℕ) → top s ≡ n → tree_size s ≤ d
     → SpellsTree ws up s → window_kind ws n ≡ 1 → has_leaf s k ≡ true → is_below d ws k n ≡ true
@@ -346,13 +299,13 @@ key-below t n key x (Some s, h, k) o l p e =
     (omega (arith, sz, size_below n s)) tb.1 p f in
     let leaf : _ = leaf-node ws (below n s) (parent_of ws n) key tb.1 f in
     let kd : (window_kind ws key == 1) ≡ false = single ws key leaf.0 leaf.1 in
-    or-right (key == 0) _ (rw (up, kd) refl)
+    or_right (key == 0) _ (rw (up, kd) refl)
 
 pub may_key_holds : MayKeyHolds
 may_key_holds = record {
   only = λ t n key v l h. key-case t n key (key == 0) refl v l h;
   found = λ t n key v l p k. (elim k as (λ _. may_key t.slots n key ≡ true) [
-    | inl e ↦ or-left (key == 0) _ (same key 0 e)
+    | inl e ↦ or_left (key == 0) _ (same key 0 e)
     | inr e ↦ (let x : _ = node_live t.slots n l in
         key-below t n key x.0 (some_tree t v) v.ordered x.1 p e)
   ]);

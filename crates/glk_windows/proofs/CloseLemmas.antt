@@ -1,11 +1,12 @@
 -- Closing a window below the root keeps the windows one tree.
 use Rattle.std.proofs.Common.{◌≡◌, ℕ, ◌+◌, ◌<◌, ◌≤◌, ◌≢◌, List, length, refl, sym}
 use Rattle.std.proofs.Common.{ap, ◌∙◌, Option, Some, None, is_some, option_map, arith}
-use Rattle.std.proofs.Common.{Bool, true, false, cond, nat_lt, ◌==◌, if◌then◌else◌}
+use Rattle.std.proofs.Common.{false, nat_lt, ◌==◌, if◌then◌else◌}
+use Rattle.std.proofs.lemmas.Bool.{both_ways, cond_both}
 use Rattle.std.proofs.lemmas.Grind.{common_steps}
 use Rattle.glk_windows.specs.declared.window.Window.{Window}
 use Rattle.glk_windows.specs.declared.window.Pair as p
-use Rattle.glk_windows.specs.Tree.{WindowTree, set_at, pair_of, pair_swapped, swapped, parent_of}
+use Rattle.glk_windows.specs.Tree.{WindowTree, pair_of, parent_of}
 use Rattle.glk_windows.specs.Closing.{windows_without, removed, raised}
 use Rattle.glk_windows.specs.Closing.{lifted, close, sibling_lifted}
 use Rattle.glk_windows.specs.Reading.{other_window as sibling}
@@ -13,20 +14,13 @@ use Rattle.glk_windows.specs.Valid.{Ascends, IsOrdered}
 use Rattle.glk_windows.specs.OneTree.{Shape, Leaf, Fork, top, times_reached}
 use Rattle.glk_windows.specs.OneTree.{pair_without_key, node_of, SpellsTree, IsTree}
 use Rattle.glk_windows.specs.OneTree.{tree_size, below, tree_without, pair_above}
-use Rattle.glk_windows.proofs.OneTreeLemmas.{node_set_at, content-swapped, once_at, once_le}
+use Rattle.glk_windows.proofs.OneTreeLemmas.{node_relinked, once_at, once_le}
 use Rattle.glk_windows.proofs.OneTreeLemmas.{node_parent, is_eq}
 use Rattle.glk_windows.proofs.CutLemmas.{node_lower, node_removed}
 use Rattle.glk_windows.proofs.CutLemmas.{node_closed, node_pair, size_length}
 use Rattle.glk_windows.proofs.LiftLemmas.{Cuts, count_below, count_cut, outside, relift, spells_cut}
 use Rattle.glk_windows.proofs.LiftLemmas.{top_cut}
 use Rattle.glk_windows.proofs.OrderLemmas.{ascends-removed}
-
-below-if : (b : Bool) (ws : List Window) (n : ℕ) (x y : Shape)
-    → (b ≡ true → (top x ≡ n) × SpellsTree ws (parent_of ws n) x)
-    → (b ≡ false → (top y ≡ n) × SpellsTree ws (parent_of ws n) y)
-    → (top (cond b x y) ≡ n) × SpellsTree ws (parent_of ws n) (cond b x y)
-below-if true ws n x y h k = h refl
-below-if false ws n x y h k = k refl
 
 pub spells_below : (ws : List Window) (n : ℕ) (s : Shape) (up : ℕ)
     → SpellsTree ws up s → 0 < times_reached s n
@@ -35,18 +29,12 @@ spells_below ws n (Leaf m) up t c =
     let i : m ≡ n = grind (arith, common_steps) in
     (i, t ∙ ap (λ u. Some (u, None)) (node_parent ws m _ t ∙ ap (parent_of ws) i))
 spells_below ws n (Fork m p a b) up t c =
-    below-if (m == n) ws n _ _
-    (λ e. (
-      is_eq m n e,
-      (
-        t.0 ∙ ap (λ u. Some (u, Some p)) (node_parent ws m _ t.0 ∙ ap (parent_of ws) (is_eq m n e)),
-        t.1,
-        t.2,
-        t.3,
-        t.4,
-      ),
-    ))
-    (λ e. below-if (nat_lt 0 (times_reached a n)) ws n _ _
+    cond_both (m == n) _ _ (λ s. (top s ≡ n) × SpellsTree ws (parent_of ws n) s)
+    (λ e. (let i : up ≡ parent_of ws n =
+    node_parent ws m _ t.0 ∙ ap (parent_of ws) (is_eq m n e) in
+    (is_eq m n e, (t.0 ∙ ap (λ u. Some (u, Some p)) i, t.1, t.2, t.3, t.4))))
+    (λ e. cond_both (nat_lt 0 (times_reached a n)) _ _
+    (λ s. (top s ≡ n) × SpellsTree ws (parent_of ws n) s)
     (λ f. spells_below ws n a m t.3 (grind (arith, common_steps)))
     (λ f. spells_below ws n b m t.4 (grind (arith, common_steps))))
 
@@ -87,36 +75,13 @@ pair_rest t s n x o h live hn =
     let nq : _ = node_rest t s n x o h live (parent_of t.slots n) in
     grind (arith, common_steps)
 
-relifts : (o : Option (ℕ × Option p.Pair)) (pair other above m : ℕ)
-    → option_map (λ x. if m == other then (above, x.1) else x)
-    (option_map
-    (λ x. if m == above then (x.0, option_map (λ p. pair_swapped p pair other) x.1) else x) o)
-    ≡ option_map (relift pair other above m) o
-relifts None pair other above m = refl
-relifts (Some (u, None)) pair other above m = grind (arith, common_steps)
-relifts (Some (u, Some p)) pair other above m = grind (arith, common_steps)
-
 -- what a list says after the lifting
-pub node_raised : (ws : List Window) (z pair other above m : ℕ) → Ascends 1 ws z
+node-raised : (ws : List Window) (z pair other above m : ℕ) → Ascends 1 ws z
     → node_of (raised ws pair other above) m
     ≡ option_map (relift pair other above m) (if m == pair then None else node_of ws m)
-node_raised ws z pair other above m o =
-    let i : _ =
-    node_set_at (λ w. record w { parent = above }) (λ x. (above, x.1)) (λ w. refl) (λ w. refl)
-    (set_at (λ w. record w { content = swapped w.content pair other })
-    (windows_without ws pair) above) other m in
-    let j : _ = node_set_at (λ w. record w { content = swapped w.content pair other })
-    (λ x. (x.0, option_map (λ p. pair_swapped p pair other) x.1)) (λ w. refl)
-    (λ w. ap (λ o. (w.parent, o)) (content-swapped w.content pair other))
-    (windows_without ws pair) above m in
-    i ∙ ap (option_map (λ x. if m == other then (above, x.1) else x)) j
-    ∙ relifts (node_of (windows_without ws pair) m) pair other above m
+node-raised ws z pair other above m o =
+    node_relinked (windows_without ws pair) other above above pair other m
     ∙ ap (option_map (relift pair other above m)) (node_closed 1 ws z pair m o)
-
-tree-false : (b : Bool) (x y : WindowTree) (s : Option Shape)
-    → b ≡ false → IsTree y s → IsTree (cond b x y) s
-tree-false true x y s e h = cc
-tree-false false x y s e h = h
 
 lift-of : (o : Option p.Pair) (r : p.Pair)
     → option_map pair_without_key o ≡ Some r
@@ -170,7 +135,7 @@ tree_close t s n x o h live hn =
     let nv : (m : ℕ)
     → node_of vs m
     ≡ option_map (relift pair other above m) (if m == pair then None else node_of w2 m) =
-    λ m. node_raised w2 t.next pair other above m o2 in
+    λ m. node-raised w2 t.next pair other above m o2 in
     let k : Cuts ws vs n sub pair other above = record {
       kept = λ m y e a b. (let z : _ = n2 m in
           let v : (if m == pair then None else node_of w2 m) ≡ Some y =
@@ -188,9 +153,10 @@ tree_close t s n x o h live hn =
     let e0 : t.root ≡ top s = h.0 in
     let tc : top (tree_without n s) ≡ (if top s == pair then other else top s) =
     top_cut ws vs n sub pair other above k s 0 h.1 dd hn c0 in
-    tree-false (pair == 0) (record t { slots = w2; root = 0 })
-    (sibling_lifted (record t { slots = w2 }) pair (pair_of w2 pair) n) (Some (tree_without n s)) pz
-    (rw (lift-of (pair_of w2 pair) (pair_above n s) (node_pair w2 pair _ np2)
+    cond_both (pair == 0) (record t { slots = w2; root = 0 })
+    (sibling_lifted (record t { slots = w2 }) pair (pair_of w2 pair) n)
+    (λ u. IsTree u (Some (tree_without n s))) (λ e. absurd (both_ways _ pz e))
+    (λ e. rw (lift-of (pair_of w2 pair) (pair_above n s) (node_pair w2 pair _ np2)
     (record t { slots = w2 }) pair n) (
       grind (arith, common_steps),
       spells_cut ws vs n sub pair other above k s 0 h.1 dd hn c0 (λ j. refl),

@@ -1,12 +1,12 @@
 -- Closing keeps the windows one tree.
 use Rattle.std.proofs.Common.{◌≡◌, ℕ, zero, suc, ◌+◌, ◌<◌, ◌≤◌, List, [], ◌∷◌}
-use Rattle.std.proofs.Common.{length, refl, sym, ap, ◌∙◌, Option, Some, None, is_some}
+use Rattle.std.proofs.Common.{length, refl, sym, ap, ◌∙◌, subst, Option, Some, None, is_some}
 use Rattle.std.proofs.Common.{option_map, arith, true, nat_lt, ◌==◌, if◌then◌else◌}
 use Rattle.std.proofs.lemmas.Grind.{common_steps}
 use Rattle.glk_windows.specs.declared.window.Window.{Window}
 use Rattle.glk_windows.specs.declared.window.Pair as p
 use Rattle.glk_windows.specs.declared.window.Content.{Content}
-use Rattle.glk_windows.specs.declared.window.Content.TheVariants.{Pair, Blank, Buffer, Grid}
+use Rattle.glk_windows.specs.declared.window.Content.TheVariants.{Pair}
 use Rattle.glk_windows.specs.Tree.{WindowTree, window_number, stream_of}
 use Rattle.glk_windows.specs.Tree.{pair_of, pair_content, parent_of}
 use Rattle.glk_windows.specs.Closing.{windows_without, forgotten}
@@ -22,9 +22,7 @@ content-unkeyed : (c : Content) (n : ℕ)
     → option_map pair_without_key (pair_content (content_unkeyed n c))
     ≡ option_map pair_without_key (pair_content c)
 content-unkeyed (Pair p) n = grind (arith, common_steps)
-content-unkeyed Blank n = refl
-content-unkeyed (Buffer x) n = refl
-content-unkeyed (Grid x) n = refl
+content-unkeyed c n = refl
 
 pub node_forgotten : (ws : List Window) (n s m : ℕ) → node_of (forgotten ws n s) m ≡ node_of ws m
 node_forgotten [] n s m = refl
@@ -61,7 +59,7 @@ unfolding found
 node_pair [] n x e = cc
 node_pair (w ∷ ws) n x e = grind (arith, common_steps, node_pair ws n x)
 
-none_of : (o : Option p.Pair) → option_map pair_without_key o ≡ None → o ≡ None
+pub none_of : (o : Option p.Pair) → option_map pair_without_key o ≡ None → o ≡ None
 none_of None e = refl
 none_of (Some p) e = cc
 
@@ -88,20 +86,30 @@ both_nodes (Some r) d vs p e =
     ∙ ap (λ x. removed d (removed d vs p.first) x) (ap (λ y. y.second) i)
 
 -- a window and all below it are gone, and nothing else
-pub node_removed : (d : ℕ) (s : Shape) (ws : List Window) (up a z : ℕ)
+abbrev pub AreGone : Shape → List Window → List Window → Type 0
+AreGone s ws vs =
+    (m : ℕ) → node_of vs m ≡ (if nat_lt 0 (times_reached s m) then None else node_of ws m)
+
+-- so it is where they are removed, and what holds where one goes, and of three steps holds of all
+pub removed_from : (Q : Shape → List Window → List Window → Type 0) (a z : ℕ)
+    → ((ws : List Window) (n : ℕ) → Ascends a ws z → Q (Leaf n) ws (windows_without ws n))
+    → ((ws us vs ts : List Window) (n : ℕ) (p : p.Pair) (x y : Shape)
+    → Q (Leaf n) ws us → Q x us vs → Q y vs ts → Q (Fork n p x y) ws ts)
+    → (d : ℕ) (s : Shape) (ws : List Window) (up : ℕ)
     → tree_size s ≤ d → Ascends a ws z → SpellsTree ws up s
-    → ((m : ℕ) → times_reached s m ≤ 1) → (m : ℕ)
-    → node_of (removed d ws (top s)) m
-    ≡ (if nat_lt 0 (times_reached s m) then None else node_of ws m)
+    → ((m : ℕ) → times_reached s m ≤ 1)
+    → AreGone s ws (removed d ws (top s)) × Q s ws (removed d ws (top s))
 unfolding removed
-node_removed zero (Leaf n) ws up a z h o t c m = absurd (omega (arith, h))
-node_removed zero (Fork n p x y) ws up a z h o t c m = absurd (omega (arith, h))
-node_removed (suc d) (Leaf n) ws up a z h o t c m =
-    ap (λ o. node_of (both (removed d) (windows_without ws n) o) m) (none_of _ (node_pair ws n _ t))
-    ∙ node_closed a ws z n m o ∙ grind (arith, common_steps)
-node_removed (suc d) (Fork n p x y) ws up a z h o t c m =
+removed_from Q a z one all zero (Leaf n) ws up h o t c = absurd (omega (arith, h))
+removed_from Q a z one all zero (Fork n p x y) ws up h o t c = absurd (omega (arith, h))
+removed_from Q a z one all (suc d) (Leaf n) ws up h o t c =
+    subst (λ v. AreGone (Leaf n) ws v × Q (Leaf n) ws v)
+    (sym (ap (λ o. both (removed d) (windows_without ws n) o) (none_of _ (node_pair ws n _ t))))
+    (λ m. node_closed a ws z n m o ∙ grind (arith, common_steps), one ws n o)
+removed_from Q a z one all (suc d) (Fork n p x y) ws up h o t c =
     let w1 : List Window = windows_without ws n in
     let w2 : List Window = removed d w1 (top x) in
+    let w3 : List Window = removed d w2 (top y) in
     let o1 : Ascends a w1 z = ascends-closed a ws z n o in
     let o2 : Ascends a w2 z = ascends-removed d a w1 z (top x) o1 in
     let cn : times_reached (Fork n p x y) n ≤ 1 = c n in
@@ -109,17 +117,28 @@ node_removed (suc d) (Fork n p x y) ws up a z h o t c m =
     λ k. node_closed a ws z n k o in
     let t1 : SpellsTree w1 n x = spells_on ws w1 x n
     (λ k l. n1 k ∙ (let ck : _ = c k in grind (arith, common_steps))) t.3 in
-    let n2 : (k : ℕ)
-    → node_of w2 k ≡ (if nat_lt 0 (times_reached x k) then None else node_of w1 k) =
-    λ k. node_removed d x w1 n a z (omega (arith, h)) o1 t1 (λ j. omega (arith, c j)) k in
+    let k2 : AreGone x w1 w2 × Q x w1 w2 =
+    removed_from Q a z one all d x w1 n (omega (arith, h)) o1 t1 (λ j. omega (arith, c j)) in
+    let n2 : AreGone x w1 w2 = k2.0 in
     let t2 : SpellsTree w2 n y = spells_on ws w2 y n
     (λ k l. n2 k ∙ (let ck : _ = c k in let nk : _ = n1 k in grind (arith, common_steps))) t.4 in
-    let n3 : _ = node_removed d y w2 n a z (omega (arith, h)) o2 t2 (λ j. omega (arith, c j)) m in
-    let i2 : _ = n2 m in
-    let i1 : _ = n1 m in
-    ap (λ v. node_of v m) (both_nodes (pair_of ws n) d w1 p (node_pair ws n _ t.0)
-    ∙ ap (λ j. removed d (removed d w1 j) p.second) t.1 ∙ ap (λ j. removed d w2 j) t.2)
-    ∙ n3 ∙ grind (arith, common_steps)
+    let k3 : AreGone y w2 w3 × Q y w2 w3 =
+    removed_from Q a z one all d y w2 n (omega (arith, h)) o2 t2 (λ j. omega (arith, c j)) in
+    subst (λ v. AreGone (Fork n p x y) ws v × Q (Fork n p x y) ws v)
+    (sym (both_nodes (pair_of ws n) d w1 p (node_pair ws n _ t.0)
+    ∙ ap (λ j. removed d (removed d w1 j) p.second) t.1 ∙ ap (λ j. removed d w2 j) t.2)) (
+      λ m. (let i1 : _ = n1 m in let i2 : _ = n2 m in k3.0 m ∙ grind (arith, common_steps)),
+      all ws w1 w2 w3 n p x y (one ws n o) k2.1 k3.1,
+    )
+
+pub node_removed : (d : ℕ) (s : Shape) (ws : List Window) (up a z : ℕ)
+    → tree_size s ≤ d → Ascends a ws z → SpellsTree ws up s
+    → ((m : ℕ) → times_reached s m ≤ 1) → (m : ℕ)
+    → node_of (removed d ws (top s)) m
+    ≡ (if nat_lt 0 (times_reached s m) then None else node_of ws m)
+node_removed d s ws up a z h o t c =
+    (removed_from (λ s ws vs. Unit {0}) a z (λ ws n o. tt) (λ ws us vs ts n p x y f g h. tt)
+    d s ws up h o t c).0
 
 abbrev pub tally : List Window → Shape → ℕ
 tally [] s = 0
@@ -157,7 +176,7 @@ tally_each (w ∷ vs) s h =
     let k : tally vs s ≡ length vs = tally_each vs s (λ m e. h m (grind (arith, common_steps))) in
     omega (arith, i, k)
 
-once_of : (o : Option (ℕ × Option p.Pair)) (n : ℕ)
+pub once_of : (o : Option (ℕ × Option p.Pair)) (n : ℕ)
     → n ≡ (if is_some o then 1 else 0) → is_some o ≡ true
     → n ≡ 1
 once_of None n h e = cc

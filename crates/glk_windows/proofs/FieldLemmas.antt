@@ -4,7 +4,7 @@ use Rattle.std.proofs.Common.{◌≡◌, ◌∙◌, ℕ, zero, suc, ◌+◌, ◌
 use Rattle.std.proofs.Common.{nat_le, nat_lt, Bool, true, false, List, [], ◌∷◌, length, Option}
 use Rattle.std.proofs.Common.{Some, None}
 use Rattle.std.proofs.Common.{arith, refl, sym, ap, inl, inr, is_some, option_map}
-use Rattle.std.proofs.lemmas.Bool.{and_parts, cases_Bool}
+use Rattle.std.proofs.lemmas.Bool.{and_from, and_parts, cases_Bool}
 use Rattle.std.proofs.lemmas.Bool.Decides.{nat_tests}
 use Rattle.std.proofs.lemmas.Grind.{common_steps}
 use Rattle.glk_numbers.specs.Numbered.{ascends, found}
@@ -18,10 +18,8 @@ use Rattle.glk_windows.specs.Tree.{pair_of, read_window, window_at}
 use Rattle.glk_windows.specs.Valid.{Ascends, IsOrdered, IsValidTree, are_sound_windows, is_one_tree}
 use Rattle.glk_windows.specs.declared.window.Pair as p
 use Rattle.glk_windows.specs.declared.window.Window.{Window}
-
-both : (a b : Bool) → a ≡ true → b ≡ true → (a && b) ≡ true
-both true b e f = f
-both false b e f = e
+use Rattle.glk_windows.proofs.CutLemmas.{tally, tally_fork}
+use Rattle.glk_windows.proofs.TestLemmas.{top_shape}
 
 -- ---- what a list has at a number
 
@@ -50,6 +48,11 @@ shape_fork zero ws n q h e = absurd (omega arith)
 shape_fork (suc d) ws n q h e =
     simp unary_clauses (ap (λ o. shape_with (shape_of d ws) n (option_map pair_without_key o)) e)
 
+pub size_fork : (d : ℕ) (ws : List Window) (n : ℕ) (q : p.Pair) → 0 < d → pair_of ws n ≡ Some q
+    → tree_size (shape_of d ws n)
+    ≡ 1 + tree_size (shape_of (d - 1) ws q.first) + tree_size (shape_of (d - 1) ws q.second)
+size_fork d ws n q h e = ap tree_size (shape_fork d ws n q h e)
+
 -- ---- counting down
 
 size_some : (s : Shape) → 0 < tree_size s
@@ -63,15 +66,6 @@ tested_top ws up (Leaf n) e = (and_parts (is_under up (node_of ws n)) (no_pair (
 tested_top ws up (Fork n q a b) e =
     (and_parts (is_under up (node_of ws n)) (tested ws n a && tested ws n b) e).0
 
-top_of : (d : ℕ) (ws : List Window) (n : ℕ) → top (shape_of d ws n) ≡ n
-unfolding shape_of
-top_of zero ws n = refl
-top_of (suc d) ws n = top_with (shape_of d ws) n (option_map pair_without_key (pair_of ws n))
-  where
-    top_with : (f : ℕ → Shape) (n : ℕ) (o : Option p.Pair) → top (shape_with f n o) ≡ n
-    top_with f n None = refl
-    top_with f n (Some q) = refl
-
 pub rest-full : (ws : List Window) (up : ℕ) (s : Shape) (most : ℕ) → most ≡ 0
     → IsRest ws up s most None
 rest-full ws up s most e t = let h = size_some s in omega (arith, e, h)
@@ -80,7 +74,7 @@ pub rest-away : (ws : List Window) (up d n most : ℕ) → is_under up (node_of 
     → IsRest ws up (shape_of d ws n) most None
 rest-away ws up d n most e t =
     let h : is_under up (node_of ws n) ≡ true =
-    ap (λ m. is_under up (node_of ws m)) (sym (top_of d ws n))
+    ap (λ m. is_under up (node_of ws m)) (sym (top_shape d ws n))
     ∙ tested_top ws up (shape_of d ws n) t in
     let c : true ≡ false = sym h ∙ e in absurd cc
 
@@ -93,7 +87,7 @@ leaf-there None x up e u h =
 leaf-there (Some w) x up e u h =
     let none : x ≡ Some (w.parent, None) =
     e ∙ ap (λ q. Some (w.parent, option_map pair_without_key q)) h in
-    both (is_under up x) (no_pair x) u (ap no_pair none)
+    and_from (is_under up x) (no_pair x) u (ap no_pair none)
 
 pair-there : (o : Option Window) (x : Option (ℕ × Option p.Pair)) (q : p.Pair)
     → x ≡ option_map (λ w. (w.parent, bare_in w)) o → read_window None pair_in o ≡ Some q
@@ -134,8 +128,8 @@ rest-both ws up n most left q a b None m u f r = λ t.
 rest-both ws up n most left q a b (Some x) m u f r =
     let k = f.1 in
     let l = r.1 in (
-      both (is_under up (node_of ws n)) (tested ws n a && tested ws n b) u
-          (both (tested ws n a) (tested ws n b) f.0 r.0),
+      and_from (is_under up (node_of ws n)) (tested ws n a && tested ws n b) u
+          (and_from (tested ws n a) (tested ws n b) f.0 r.0),
       omega (arith, k, l),
     )
 
@@ -159,22 +153,12 @@ rest-fork ws up d n most left q o l m u h f r =
 
 -- ---- a tree whose windows are each met once has no more of them than there are
 
-met : List Window → Shape → ℕ
-met [] s = 0
-met (w ∷ ws) s = times_reached s w.number + met ws s
-
-met-leaf : (ws : List Window) (n up : ℕ) → is_under up (node_of ws n) ≡ true → 1 ≤ met ws (Leaf n)
-unfolding met
+met-leaf : (ws : List Window) (n up : ℕ) → is_under up (node_of ws n) ≡ true → 1 ≤ tally ws (Leaf n)
 met-leaf [] n up e = absurd cc
 met-leaf (w ∷ ws) n up e = grind (arith, common_steps, e, met-leaf ws n up)
 
-met-fork : (ws : List Window) (n : ℕ) (q : p.Pair) (a b : Shape)
-    → met ws (Fork n q a b) ≡ met ws (Leaf n) + met ws a + met ws b
-unfolding met
-met-fork [] n q a b = refl
-met-fork (w ∷ ws) n q a b = let i = met-fork ws n q a b in omega (arith, i)
-
-met-size : (ws : List Window) (up : ℕ) (s : Shape) → tested ws up s ≡ true → tree_size s ≤ met ws s
+met-size : (ws : List Window) (up : ℕ) (s : Shape) → tested ws up s ≡ true
+    → tree_size s ≤ tally ws s
 met-size ws up (Leaf n) e = met-leaf ws n up (tested_top ws up (Leaf n) e)
 met-size ws up (Fork n q a b) e =
     let t = and_parts (tested ws n a) (tested ws n b)
@@ -182,11 +166,10 @@ met-size ws up (Fork n q a b) e =
     let here = met-leaf ws n up (tested_top ws up (Fork n q a b) e) in
     let i = met-size ws n a t.0 in
     let j = met-size ws n b t.1 in
-    let k = met-fork ws n q a b in
+    let k = tally_fork ws n q a b in
     omega (arith, here, i, j, k)
 
-met-once : (ws : List Window) (s : Shape) → once ws s ≡ true → met ws s ≡ length ws
-unfolding met
+met-once : (ws : List Window) (s : Shape) → once ws s ≡ true → tally ws s ≡ length ws
 met-once [] s e = refl
 met-once (w ∷ ws) s e =
     let t = and_parts (times_reached s w.number == 1) (once ws s) e in
@@ -194,9 +177,9 @@ met-once (w ∷ ws) s e =
     let one : times_reached s w.number ≡ 1 = grind (arith, nat_tests, t.0) in
     omega (arith, i, one)
 
-pub once_size : (ws : List Window) (up : ℕ) (s : Shape) → tested ws up s ≡ true → once ws s ≡ true
+once-size : (ws : List Window) (up : ℕ) (s : Shape) → tested ws up s ≡ true → once ws s ≡ true
     → tree_size s ≤ length ws
-once_size ws up s t e =
+once-size ws up s t e =
     let a = met-size ws up s t in
     let b = met-once ws s e in
     omega (arith, a, b)
@@ -207,20 +190,12 @@ pub spelled-none : (ws : List Window) (s : Shape) (o : Option ℕ) → IsRest ws
 spelled-none ws s None r e = elim (cases_Bool (is_tree_spelled ws s)) [
   | inl h ↦
       let t = and_parts (tested ws 0 s) (once ws s) h in
-      let few = once_size ws 0 s t.0 t.1 in
+      let few = once-size ws 0 s t.0 t.1 in
       let more = r t.0 in
       absurd (omega (arith, few, more))
   | inr h ↦ h
 ]
 spelled-none ws s (Some x) r e = absurd cc
-
--- how often a window is met is no more than there are
-pub count_size : (s : Shape) (m : ℕ) → times_reached s m ≤ tree_size s
-count_size (Leaf n) m = grind (arith, common_steps)
-count_size (Fork n q a b) m =
-    let i = count_size a m in
-    let j = count_size b m in
-    grind (arith, common_steps, i, j)
 
 -- ---- the key of a pair
 
@@ -256,8 +231,8 @@ to-ascends (w ∷ ws) a z o =
     let h = o.1 in
     let low : nat_lt a w.number ≡ true = grind (arith, nat_tests, l) in
     let high : nat_lt w.number z ≡ true = grind (arith, nat_tests, h) in
-    both (nat_lt a w.number && nat_lt w.number z) (ascends window_number w.number z ws)
-    (both (nat_lt a w.number) (nat_lt w.number z) low high) (to-ascends ws w.number z o.2)
+    and_from (nat_lt a w.number && nat_lt w.number z) (ascends window_number w.number z ws)
+    (and_from (nat_lt a w.number) (nat_lt w.number z) low high) (to-ascends ws w.number z o.2)
 
 -- the last bound is above the first
 ascends-bounds : (a : ℕ) (ws : List Window) (z : ℕ) → Ascends a ws z → a ≤ z
@@ -279,7 +254,7 @@ unfolding IsOrdered
 to-ordered t o =
     let l = ascends-bounds 1 t.slots t.next o in
     let k : not (t.next == 0) ≡ true = grind (arith, nat_tests, l) in
-    both (not (t.next == 0)) (ascends window_number 0 t.next t.slots) k
+    and_from (not (t.next == 0)) (ascends window_number 0 t.next t.slots) k
     (to-ascends t.slots 0 t.next o)
 
 -- ---- the test tells what is valid
@@ -305,8 +280,8 @@ of-valid t v =
     let f : Bool = nat_le (length t.slots) 64 in
     let k : Bool = are_keyed t.slots (tree_of t) in
     let few = v.few in
-    both (is_ordered t) (f && (are_sound_windows t.slots && (is_one_tree t && k)))
+    and_from (is_ordered t) (f && (are_sound_windows t.slots && (is_one_tree t && k)))
     (to-ordered t v.ordered)
-    (both f (are_sound_windows t.slots && (is_one_tree t && k)) (grind (arith, nat_tests, few))
-    (both (are_sound_windows t.slots) (is_one_tree t && k) v.sound
-    (both (is_one_tree t) k v.one_tree v.keyed)))
+    (and_from f (are_sound_windows t.slots && (is_one_tree t && k)) (grind (arith, nat_tests, few))
+    (and_from (are_sound_windows t.slots) (is_one_tree t && k) v.sound
+    (and_from (is_one_tree t) k v.one_tree v.keyed)))

@@ -1,30 +1,33 @@
 -- The keys of pairs stay below them.
-use Rattle.std.proofs.Common.{◌≡◌, ◌≢◌, ℕ, zero, suc, ◌≤◌, ◌<◌, ◌==◌, ◌||◌, ◌&&◌, List, []}
+use Rattle.std.proofs.Common.{◌≡◌, ◌≢◌, ℕ, ◌≤◌, ◌<◌, ◌==◌, ◌||◌, ◌&&◌, List, []}
 use Rattle.std.proofs.Common.{◌∷◌, ◌++◌, length, refl, sym, ap, ◌∙◌, Option, Some, None}
-use Rattle.std.proofs.Common.{option_map, arith, Bool, true, false, cond, if◌then◌else◌, nat_lt}
+use Rattle.std.proofs.Common.{arith, Bool, true, false, if◌then◌else◌}
+use Rattle.std.proofs.Common.{inl, inr, subst}
+use Rattle.std.proofs.lemmas.Bool.{and_from, and_parts, cases_eq, cond_both, or_left, or_right}
 use Rattle.std.proofs.lemmas.Grind.{common_steps}
 use Rattle.glk_numbers.specs.Numbered.{found, without}
 use Rattle.glk_windows.specs.declared.window.Window.{Window}
 use Rattle.glk_windows.specs.declared.window.Pair as pairs
 use Rattle.glk_windows.specs.declared.window.Content.{Content}
-use Rattle.glk_windows.specs.declared.window.Content.TheVariants.{Pair, Blank, Buffer, Grid}
-use Rattle.glk_windows.specs.Tree.{WindowTree, window_number, pair_of, pair_in}
+use Rattle.glk_windows.specs.declared.window.Content.TheVariants.{Pair}
+use Rattle.glk_windows.specs.Tree.{WindowTree, window_number, set_at, pair_of, pair_in}
 use Rattle.glk_windows.specs.Tree.{pair_content, parent_of, stream_of, swapped}
 use Rattle.glk_windows.specs.Opening.{pair_joined}
 use Rattle.glk_windows.specs.Closing.{windows_without, forgotten, content_unkeyed}
-use Rattle.glk_windows.specs.Closing.{removed, both, raised, sibling_lifted, close}
+use Rattle.glk_windows.specs.Closing.{removed, sibling_lifted, close}
 use Rattle.glk_windows.specs.Reading.{other_window as sibling}
-use Rattle.glk_windows.specs.OneTree.{Shape, Leaf, Fork, top, times_reached, pair_without_key}
+use Rattle.glk_windows.specs.OneTree.{Shape, Leaf, Fork, top, times_reached}
 use Rattle.glk_windows.specs.OneTree.{node_of, SpellsTree, IsTree, tree_size, below, tree_without}
 use Rattle.glk_windows.specs.OneTree.{tree_forked, key_in, pair_key, has_leaf, are_keyed}
 use Rattle.glk_windows.specs.Valid.{Ascends, IsOrdered}
-use Rattle.glk_windows.proofs.OrderLemmas.{ascends-closed, ascends-removed}
-use Rattle.glk_windows.proofs.OneTreeLemmas.{count_top, is_eq, isnt_eq, once_at, once_le}
-use Rattle.glk_windows.proofs.CutLemmas.{spells_on, node_pair, node_closed}
-use Rattle.glk_windows.proofs.CutLemmas.{node_removed, both_nodes, size_length}
-use Rattle.glk_windows.proofs.LiftLemmas.{below_top, count_below}
+use Rattle.glk_windows.proofs.OrderLemmas.{ascends-removed}
+use Rattle.glk_windows.proofs.OneTreeLemmas.{count_top, once_at, once_le}
+use Rattle.glk_windows.proofs.CutLemmas.{node_closed}
+use Rattle.glk_windows.proofs.CutLemmas.{removed_from, size_length}
+use Rattle.glk_windows.proofs.LiftLemmas.{First, InFirst, InSecond, Second, cut_at, count_below}
+use Rattle.glk_windows.proofs.LiftLemmas.{leaf_top}
 use Rattle.glk_windows.proofs.CloseLemmas.{size_below, spells_below}
-use Rattle.glk_windows.proofs.RectangleLemmas.{read_set_at}
+use Rattle.glk_windows.proofs.SameLemmas.{read_set_at}
 
 -- each pair's key is 0, or a window below it that is no pair
 abbrev pub Keyed : List Window → Shape → Type 0
@@ -33,42 +36,27 @@ Keyed ws (Fork n q a b) =
     (pair_key ws n ≢ 0 → (has_leaf a (pair_key ws n) || has_leaf b (pair_key ws n)) ≡ true)
     × Keyed ws a × Keyed ws b
 
-and-left : (a b : Bool) → (a && b) ≡ true → a ≡ true
-and-left true b e = refl
-and-left false b e = cc
+keyed-in : (k : ℕ) (l : Bool) → (k == 0 || l) ≡ true → k ≢ 0 → l ≡ true
+keyed-in k l e h = grind (arith, common_steps)
 
-and-right : (a b : Bool) → (a && b) ≡ true → b ≡ true
-and-right true b e = e
-and-right false b e = cc
-
-and-both : (a b : Bool) → a ≡ true → b ≡ true → (a && b) ≡ true
-and-both true b e f = f
-and-both false b e f = e
-
-keyed-in : (k : ℕ) (z l : Bool) → (k == 0) ≡ z → (z || l) ≡ true → k ≢ 0 → l ≡ true
-keyed-in k true l e h i = absurd (i (is_eq k 0 e))
-keyed-in k false l e h i = h
-
-keyed-or : (k : ℕ) (z l : Bool) → (k == 0) ≡ z → (k ≢ 0 → l ≡ true) → (z || l) ≡ true
-keyed-or k true l e h = refl
-keyed-or k false l e h = h (isnt_eq k 0 e)
+keyed-or : (k : ℕ) (l : Bool) → (k ≢ 0 → l ≡ true) → (k == 0 || l) ≡ true
+keyed-or k true h = or_right (k == 0) true refl
+keyed-or k false h = grind (arith, common_steps)
 
 pub keyed_of : (ws : List Window) (s : Shape) → are_keyed ws s ≡ true → Keyed ws s
 keyed_of ws (Leaf n) e = tt
 keyed_of ws (Fork n q a b) e =
     let l : Bool = has_leaf a (pair_key ws n) || has_leaf b (pair_key ws n) in
-    let r : (are_keyed ws a && are_keyed ws b) ≡ true = and-right (pair_key ws n == 0 || l) _ e in (
-      keyed-in (pair_key ws n) (pair_key ws n == 0) l refl (and-left (pair_key ws n == 0 || l) _ e),
-      keyed_of ws a (and-left (are_keyed ws a) _ r),
-      keyed_of ws b (and-right (are_keyed ws a) _ r),
-    )
+    let h = and_parts (pair_key ws n == 0 || l) (are_keyed ws a && are_keyed ws b) e in
+    let r = and_parts (are_keyed ws a) (are_keyed ws b) h.1 in
+    (keyed-in (pair_key ws n) l h.0, keyed_of ws a r.0, keyed_of ws b r.1)
 
 pub are_keyed_of : (ws : List Window) (s : Shape) → Keyed ws s → are_keyed ws s ≡ true
 are_keyed_of ws (Leaf n) k = refl
 are_keyed_of ws (Fork n q a b) k =
     let l : Bool = has_leaf a (pair_key ws n) || has_leaf b (pair_key ws n) in
-    and-both (pair_key ws n == 0 || l) _ (keyed-or (pair_key ws n) (pair_key ws n == 0) l refl k.0)
-    (and-both (are_keyed ws a) _ (are_keyed_of ws a k.1) (are_keyed_of ws b k.2))
+    and_from (pair_key ws n == 0 || l) _ (keyed-or (pair_key ws n) l k.0)
+    (and_from (are_keyed ws a) _ (are_keyed_of ws a k.1) (are_keyed_of ws b k.2))
 
 -- the same keys, for the windows of a tree
 pub keyed_on : (ws vs : List Window) (s : Shape)
@@ -101,24 +89,14 @@ leaf_forked from pair new r (Fork n q a b) k e =
     leaf_forked from pair new r b k in
     grind (arith, common_steps)
 
-keyed-if : (b : Bool) (vs : List Window) (x y : Shape)
-    → (b ≡ true → Keyed vs x) → (b ≡ false → Keyed vs y)
-    → Keyed vs (cond b x y)
-keyed-if true vs x y h k = h refl
-keyed-if false vs x y h k = k refl
-
-or-true : (u v : Bool) → v ≡ true → (u || v) ≡ true
-or-true true v e = refl
-or-true false v e = e
-
 new-leaf : (new k : ℕ) → k ≡ new → (new == k) ≡ true
 new-leaf new k e = grind (arith, common_steps)
 
 or-more : (x y u v : Bool)
     → (x || y) ≡ true → (x ≡ true → u ≡ true)
     → (y ≡ true → v ≡ true) → (u || v) ≡ true
-or-more true y u v e f g = (let i : u ≡ true = f refl in grind (arith, common_steps))
-or-more false y u v e f g = (let i : v ≡ true = g e in or-true u v i)
+or-more true y u v e f g = or_left u v (f refl)
+or-more false y u v e f g = or_right u v (g e)
 
 pub keyed_forked : (ws vs : List Window) (from pair new : ℕ) (r : pairs.Pair)
     → pair_key vs pair ≡ new
@@ -126,17 +104,17 @@ pub keyed_forked : (ws vs : List Window) (from pair new : ℕ) (r : pairs.Pair)
     → ((m : ℕ) → 0 < times_reached s m → pair_key vs m ≡ pair_key ws m)
     → Keyed ws s → Keyed vs (tree_forked from pair r new s)
 keyed_forked ws vs from pair new r e (Leaf n) h k =
-    keyed-if (n == from) vs (Fork pair r (Leaf n) (Leaf new)) (Leaf n)
+    cond_both (n == from) (Fork pair r (Leaf n) (Leaf new)) (Leaf n) (Keyed vs)
     (λ i. (
-      λ j. or-true (has_leaf (Leaf n) (pair_key vs pair)) _ (new-leaf new (pair_key vs pair) e),
+      λ j. or_right (has_leaf (Leaf n) (pair_key vs pair)) _ (new-leaf new (pair_key vs pair) e),
       tt,
       tt,
     )) (λ i. tt)
 keyed_forked ws vs from pair new r e (Fork n q a b) h k =
     let z : pair_key vs n ≡ pair_key ws n = h n (count_top (Fork n q a b)) in
-    keyed-if (n == from) vs (Fork pair r (Fork n q a b) (Leaf new)) _
+    cond_both (n == from) (Fork pair r (Fork n q a b) (Leaf new)) _ (Keyed vs)
     (λ i. (
-      λ j. or-true (has_leaf (Fork n q a b) (pair_key vs pair)) _
+      λ j. or_right (has_leaf (Fork n q a b) (pair_key vs pair)) _
           (new-leaf new (pair_key vs pair) e),
       keyed_on ws vs (Fork n q a b) h k,
       tt,
@@ -155,9 +133,7 @@ key-unkeyed : (c : Content) (n : ℕ)
     → key_in (pair_content (content_unkeyed n c))
     ≡ (if key_in (pair_content c) == n then 0 else key_in (pair_content c))
 key-unkeyed (Pair q) n = grind (arith, common_steps)
-key-unkeyed Blank n = grind (arith, common_steps)
-key-unkeyed (Buffer b) n = grind (arith, common_steps)
-key-unkeyed (Grid g) n = grind (arith, common_steps)
+key-unkeyed c n = grind (arith, common_steps)
 
 key-forgotten : (ws : List Window) (n st m : ℕ)
     → pair_key (forgotten ws n st) m ≡ (if pair_key ws m == n then 0 else pair_key ws m)
@@ -186,28 +162,20 @@ pub record IsLeft (v k : ℕ) (gone : Shape) : Type 0 where
   pub same : v ≡ k
   pub stays : times_reached gone v ≡ 0
 
-left-closed : (b : Bool) (ws : List Window) (a z n m : ℕ) → (m == n) ≡ b → Ascends a ws z
+left-closed : (ws : List Window) (a z n m : ℕ) → Ascends a ws z
     → pair_key (windows_without ws n) m ≢ 0
     → IsLeft (pair_key (windows_without ws n) m) (pair_key ws m) (Leaf n)
-left-closed true ws a z n m e o h =
-    absurd (h (key_none (windows_without ws n) m
-    (node_closed a ws z n m o ∙ ap (λ b. if b then None else node_of ws m) e)))
-left-closed false ws a z n m e o h =
-    let k : pair_key (without window_number ws n) m ≡ pair_key ws m =
-    key-without ws n m (isnt_eq m n e) in
-    let f : _ = key-forgotten (without window_number ws n) n (stream_of ws n) m in
-    record { same = grind (arith, common_steps); stays = grind (arith, common_steps) }
-
-pub left_closed : (ws : List Window) (a z n m : ℕ) → Ascends a ws z
-    → pair_key (windows_without ws n) m ≢ 0
-    → IsLeft (pair_key (windows_without ws n) m) (pair_key ws m) (Leaf n)
-left_closed ws a z n m o h = left-closed (m == n) ws a z n m refl o h
-
-leaf-lost : (r : List Window) (ws : List Window) (n m : ℕ) → r ≡ windows_without ws n
-    → (pair_key (windows_without ws n) m ≢ 0
-    → IsLeft (pair_key (windows_without ws n) m) (pair_key ws m) (Leaf n))
-    → pair_key r m ≢ 0 → IsLeft (pair_key r m) (pair_key ws m) (Leaf n)
-leaf-lost r ws n m e k h = rw e (k (λ j. h (ap (λ v. pair_key v m) e ∙ j)))
+left-closed ws a z n m o h = elim (cases_eq m n) [
+  | inl e ↦
+      let i = node_closed a ws z n m o in
+      absurd (h (key_none (windows_without ws n) m (grind (arith, common_steps, i, e))))
+  | inr e ↦
+      let k = key-without ws n m e in
+      let f = key-forgotten (without window_number ws n) n (stream_of ws n) m in record {
+        same = grind (arith, common_steps, k, f, h);
+        stays = grind (arith, common_steps, k, f, h);
+      }
+]
 
 fork-lost : (n : ℕ) (q : pairs.Pair) (x y : Shape) (k0 k1 k2 k3 : ℕ)
     → (k1 ≢ 0 → IsLeft k1 k0 (Leaf n)) → (k2 ≢ 0 → IsLeft k2 k1 x) → (k3 ≢ 0 → IsLeft k3 k2 y)
@@ -221,66 +189,40 @@ fork-lost n q x y k0 k1 k2 k3 f g h i =
     let b1 : times_reached x k3 ≡ 0 = ap (times_reached x) c.same ∙ b.stays in
     record { same = c.same ∙ b.same ∙ a.same; stays = omega (arith, a1, b1, c.stays) }
 
-none-of : (o : Option pairs.Pair) → option_map pair_without_key o ≡ None → o ≡ None
-none-of None e = refl
-none-of (Some q) e = cc
-
 at-list : (r s : List Window) (m k : ℕ) (g : Shape)
     → r ≡ s → (pair_key s m ≢ 0 → IsLeft (pair_key s m) k g)
     → pair_key r m ≢ 0 → IsLeft (pair_key r m) k g
 at-list r s m k g e f h = rw e (f (λ j. h (ap (λ v. pair_key v m) e ∙ j)))
 
 -- the keys that are left once a window and all below it are gone
-pub left_removed : (d : ℕ) (s : Shape) (ws : List Window) (up a z : ℕ)
+left-removed : (d : ℕ) (s : Shape) (ws : List Window) (up a z : ℕ)
     → tree_size s ≤ d → Ascends a ws z → SpellsTree ws up s
     → ((k : ℕ) → times_reached s k ≤ 1) → (m : ℕ)
     → pair_key (removed d ws (top s)) m ≢ 0
     → IsLeft (pair_key (removed d ws (top s)) m) (pair_key ws m) s
-unfolding removed
-left_removed zero (Leaf n) ws up a z h o t c m = absurd (omega (arith, h))
-left_removed zero (Fork n p x y) ws up a z h o t c m = absurd (omega (arith, h))
-left_removed (suc d) (Leaf n) ws up a z h o t c m =
-    leaf-lost _ ws n m
-    (ap (λ o. both (removed d) (windows_without ws n) o) (none-of _ (node_pair ws n _ t)))
-    (left_closed ws a z n m o)
-left_removed (suc d) (Fork n p x y) ws up a z h o t c m =
-    let w1 : List Window = windows_without ws n in
-    let w2 : List Window = removed d w1 (top x) in
-    let o1 : Ascends a w1 z = ascends-closed a ws z n o in
-    let o2 : Ascends a w2 z = ascends-removed d a w1 z (top x) o1 in
-    let cn : times_reached (Fork n p x y) n ≤ 1 = c n in
-    let n1 : (k : ℕ) → node_of w1 k ≡ (if k == n then None else node_of ws k) =
-    λ k. node_closed a ws z n k o in
-    let t1 : SpellsTree w1 n x = spells_on ws w1 x n
-    (λ k l. n1 k ∙ (let ck : _ = c k in grind (arith, common_steps))) t.3 in
-    let n2 : (k : ℕ)
-    → node_of w2 k ≡ (if nat_lt 0 (times_reached x k) then None else node_of w1 k) =
-    λ k. node_removed d x w1 n a z (omega (arith, h)) o1 t1 (λ j. omega (arith, c j)) k in
-    let t2 : SpellsTree w2 n y = spells_on ws w2 y n
-    (λ k l. n2 k ∙ (let ck : _ = c k in let nk : _ = n1 k in grind (arith, common_steps))) t.4 in
-    at-list _ (removed d w2 (top y)) m (pair_key ws m) (Fork n p x y)
-    (both_nodes (pair_of ws n) d w1 p (node_pair ws n _ t.0)
-    ∙ ap (λ j. removed d (removed d w1 j) p.second) t.1 ∙ ap (λ j. removed d w2 j) t.2)
-    (fork-lost n p x y (pair_key ws m) (pair_key w1 m) (pair_key w2 m) _
-    (left_closed ws a z n m o)
-    (left_removed d x w1 n a z (omega (arith, h)) o1 t1 (λ j. omega (arith, c j)) m)
-    (left_removed d y w2 n a z (omega (arith, h)) o2 t2 (λ j. omega (arith, c j)) m))
+left-removed d s ws up a z h o t c =
+    (removed_from
+    (λ s ws vs. (m : ℕ) → pair_key vs m ≢ 0 → IsLeft (pair_key vs m) (pair_key ws m) s) a z
+    (λ ws n o m. left-closed ws a z n m o)
+    (λ ws us vs ts n p x y f g l m. fork-lost n p x y (pair_key ws m) (pair_key us m)
+    (pair_key vs m) (pair_key ts m) (f m) (g m) (l m)) d s ws up h o t c).1
 
 key-swapped : (c : Content) (old new : ℕ)
     → key_in (pair_content (swapped c old new)) ≡ key_in (pair_content c)
 key-swapped (Pair q) old new = grind (arith, common_steps)
-key-swapped Blank old new = refl
-key-swapped (Buffer b) old new = refl
-key-swapped (Grid g) old new = refl
+key-swapped c old new = refl
 
-pub key_raised : (ws : List Window) (pair other above m : ℕ)
-    → pair_key (raised ws pair other above) m ≡ pair_key (windows_without ws pair) m
-key_raised ws pair other above m =
-    read_set_at 0 (λ w. key_in (pair_in w)) (λ w. record w { parent = above }) (λ w. refl)
-    (λ w. refl) _ other m
+-- another window in a pair, and another pair above a window
+key-relinked : (ws : List Window) (old new at up n m : ℕ)
+    → pair_key (set_at (λ w. record w { parent = up })
+    (set_at (λ w. record w { content = swapped w.content old new }) ws at) n) m
+    ≡ pair_key ws m
+key-relinked ws old new at up n m =
+    read_set_at 0 (λ w. key_in (pair_in w)) (λ w. record w { parent = up }) (λ w. refl)
+    (λ w. refl) _ n m
     ∙ read_set_at 0 (λ w. key_in (pair_in w))
-    (λ w. record w { content = swapped w.content pair other }) (λ w. refl)
-    (λ w. key-swapped w.content pair other) (windows_without ws pair) above m
+    (λ w. record w { content = swapped w.content old new }) (λ w. refl)
+    (λ w. key-swapped w.content old new) ws at m
 
 -- without a pair that ends
 left-ended : (u : WindowTree) (pair : ℕ) (o : Option pairs.Pair) (n m : ℕ)
@@ -289,107 +231,46 @@ left-ended : (u : WindowTree) (pair : ℕ) (o : Option pairs.Pair) (n m : ℕ)
     → pair_key (sibling_lifted u pair o n).slots m ≡ pair_key u.slots m
 left-ended u pair None n m a h = refl
 left-ended u pair (Some q) n m a h =
-    let e : _ = key_raised u.slots pair (sibling q n) (parent_of u.slots pair) m in
-    let k : IsLeft (pair_key (windows_without u.slots pair) m) (pair_key u.slots m) (Leaf pair) =
-    left_closed u.slots 1 u.next pair m a (λ j. h (e ∙ j)) in
-    e ∙ k.same
-
-left-if : (b : Bool) (x y : WindowTree) (m k : ℕ)
-    → (pair_key x.slots m ≢ 0 → pair_key x.slots m ≡ k)
-    → (pair_key y.slots m ≢ 0 → pair_key y.slots m ≡ k)
-    → pair_key (cond b x y).slots m ≢ 0
-    → pair_key (cond b x y).slots m ≡ k
-left-if true x y m k f g h = f h
-left-if false x y m k f g h = g h
-
-pick : {A : Type 0} (b : Bool) → (b ≡ true → A) → (b ≡ false → A) → A
-pick true f g = f refl
-pick false f g = g refl
-
--- what `below` and `tree_without` are, by where the window stands
-sub-first : (n m : ℕ) (p : pairs.Pair) (a b : Shape)
-    → (m == n) ≡ false → nat_lt 0 (times_reached a n) ≡ true
-    → below n (Fork m p a b) ≡ below n a
-sub-first n m p a b e f = rw (e, f) refl
-
-sub-second : (n m : ℕ) (p : pairs.Pair) (a b : Shape)
-    → (m == n) ≡ false → nat_lt 0 (times_reached a n) ≡ false
-    → below n (Fork m p a b) ≡ below n b
-sub-second n m p a b e f = rw (e, f) refl
-
-cut-first : (n m : ℕ) (p : pairs.Pair) (a b : Shape)
-    → (top a == n) ≡ true → tree_without n (Fork m p a b) ≡ b
-cut-first n m p a b e = rw e refl
-
-cut-second : (n m : ℕ) (p : pairs.Pair) (a b : Shape)
-    → (top a == n) ≡ false → (top b == n) ≡ true
-    → tree_without n (Fork m p a b) ≡ a
-cut-second n m p a b e f = rw (e, f) refl
-
-cut-in-first : (n m : ℕ) (p : pairs.Pair) (a b : Shape)
-    → (top a == n) ≡ false → (top b == n) ≡ false
-    → nat_lt 0 (times_reached a n) ≡ true
-    → tree_without n (Fork m p a b)
-    ≡ Fork m (record p { first = top (tree_without n a) }) (tree_without n a) b
-cut-in-first n m p a b e f g = rw (e, f, g) refl
-
-cut-in-second : (n m : ℕ) (p : pairs.Pair) (a b : Shape)
-    → (top a == n) ≡ false → (top b == n) ≡ false
-    → nat_lt 0 (times_reached a n) ≡ false
-    → tree_without n (Fork m p a b)
-    ≡ Fork m (record p { second = top (tree_without n b) }) a (tree_without n b)
-cut-in-second n m p a b e f g = rw (e, f, g) refl
+    let e = key-relinked (windows_without u.slots pair) pair (sibling q n)
+    (parent_of u.slots pair) (parent_of u.slots pair) (sibling q n) m in
+    e ∙ (left-closed u.slots 1 u.next pair m a (λ j. h (e ∙ j))).same
 
 no-leaf : (s : Shape) (k : ℕ) → times_reached s k ≡ 0 → has_leaf s k ≡ true → ⊥
-no-leaf s k c e = absurd (omega (arith, c, leaf_count s k e))
+no-leaf s k c e = omega (arith, c, leaf_count s k e)
 
-or-second : (x y : Bool) → (x || y) ≡ true → (x ≡ true → ⊥) → y ≡ true
-or-second true y e f = absurd (f refl)
-or-second false y e f = e
+first-of : (x y : Bool) → (x || y) ≡ true → (y ≡ true → ⊥) → x ≡ true
+first-of true y e f = refl
+first-of false y e f = absurd (f e)
 
-or-first : (x y : Bool) → (x || y) ≡ true → (y ≡ true → ⊥) → x ≡ true
-or-first true y e f = refl
-or-first false y e f = absurd (f e)
+second-of : (x y : Bool) → (x || y) ≡ true → (x ≡ true → ⊥) → y ≡ true
+second-of true y e f = absurd (f refl)
+second-of false y e f = e
 
 -- the part of a tree that is cut has no window of the part that goes
-pub leaf_cut : (n : ℕ) (s : Shape) (k : ℕ)
+leaf-cut : (n : ℕ) (s : Shape) (k : ℕ)
     → ((m : ℕ) → times_reached s m ≤ 1) → top s ≢ n
     → 0 < times_reached s n → has_leaf s k ≡ true
     → times_reached (below n s) k ≡ 0 → has_leaf (tree_without n s) k ≡ true
-leaf_cut n (Leaf m) k d h c e z =
-    absurd (let i : (m == n) ≡ false = grind (arith, common_steps) in grind (arith, common_steps))
-leaf_cut n (Fork m p a b) k d h c e z =
-    let mn : (m == n) ≡ false = grind (arith, common_steps) in
-    let dn : times_reached (Fork m p a b) n ≤ 1 = d n in
-    let ta : 0 < times_reached a (top a) = count_top a in
-    let tb : 0 < times_reached b (top b) = count_top b in
-    pick (top a == n)
-    (λ i. (let an : nat_lt 0 (times_reached a n) ≡ true = grind (arith, common_steps) in
-    let za : times_reached a k ≡ 0 =
-    ap (λ x. times_reached x k) (sym (sub-first n m p a b mn an ∙ below_top n a (is_eq _ _ i)))
-    ∙ z in
-    ap (λ x. has_leaf x k) (cut-first n m p a b i)
-    ∙ or-second (has_leaf a k) (has_leaf b k) e (no-leaf a k za)))
-    (λ i. pick (top b == n)
-    (λ f. (let an : nat_lt 0 (times_reached a n) ≡ false = grind (arith, common_steps) in
-    let zb : times_reached b k ≡ 0 =
-    ap (λ x. times_reached x k) (sym (sub-second n m p a b mn an ∙ below_top n b (is_eq _ _ f)))
-    ∙ z in
-    ap (λ x. has_leaf x k) (cut-second n m p a b i f)
-    ∙ or-first (has_leaf a k) (has_leaf b k) e (no-leaf b k zb)))
-    (λ f. pick (nat_lt 0 (times_reached a n))
-    (λ g. (let za : times_reached (below n a) k ≡ 0 =
-    ap (λ x. times_reached x k) (sym (sub-first n m p a b mn g)) ∙ z in
-    let ca : 0 < times_reached a n = grind (arith, common_steps) in
-    ap (λ x. has_leaf x k) (cut-in-first n m p a b i f g)
-    ∙ or-more (has_leaf a k) (has_leaf b k) _ _ e
-    (λ l. leaf_cut n a k (λ x. omega (arith, d x)) (isnt_eq _ _ i) ca l za) (λ l. l)))
-    (λ g. (let zb : times_reached (below n b) k ≡ 0 =
-    ap (λ x. times_reached x k) (sym (sub-second n m p a b mn g)) ∙ z in
-    let cb : 0 < times_reached b n = grind (arith, common_steps) in
-    ap (λ x. has_leaf x k) (cut-in-second n m p a b i f g)
-    ∙ or-more (has_leaf a k) (has_leaf b k) _ _ e (λ l. l)
-    (λ l. leaf_cut n b k (λ x. omega (arith, d x)) (isnt_eq _ _ f) cb l zb)))))
+leaf-cut n (Leaf m) k d h c e z = absurd (h (leaf_top n m c))
+leaf-cut n (Fork m p a b) k d h c e z =
+    let less = λ (x : Shape) (l : below n (Fork m p a b) ≡ x).
+    ap (λ y. times_reached y k) (sym l) ∙ z in
+    elim (cut_at n m p a b (d n) h c) [
+      | First i l t ↦
+          ap (λ x. has_leaf x k) t
+          ∙ second-of (has_leaf a k) (has_leaf b k) e (no-leaf a k (less a l))
+      | Second j i l t ↦
+          ap (λ x. has_leaf x k) t
+          ∙ first-of (has_leaf a k) (has_leaf b k) e (no-leaf b k (less b l))
+      | InFirst i ca l t ↦
+          ap (λ x. has_leaf x k) t
+          ∙ or-more (has_leaf a k) (has_leaf b k) _ _ e
+          (λ y. leaf-cut n a k (λ x. omega (arith, d x)) i ca y (less (below n a) l)) (λ y. y)
+      | InSecond i cb l t ↦
+          ap (λ x. has_leaf x k) t
+          ∙ or-more (has_leaf a k) (has_leaf b k) _ _ e (λ y. y)
+          (λ y. leaf-cut n b k (λ x. omega (arith, d x)) i cb y (less (below n b) l))
+    ]
 
 -- a part of the tree that stays as it is
 keyed-kept : (ws vs : List Window) (sub s : Shape)
@@ -407,41 +288,33 @@ pub keyed_cut : (ws vs : List Window) (n : ℕ) (s : Shape)
     → 0 < times_reached s n
     → ((m : ℕ) → pair_key vs m ≢ 0 → IsLeft (pair_key vs m) (pair_key ws m) (below n s))
     → Keyed ws s → Keyed vs (tree_without n s)
-keyed_cut ws vs n (Leaf m) d h c f k =
-    absurd (let i : (m == n) ≡ false = grind (arith, common_steps) in grind (arith, common_steps))
+keyed_cut ws vs n (Leaf m) d h c f k = absurd (h (leaf_top n m c))
 keyed_cut ws vs n (Fork m p a b) d h c f k =
-    let mn : (m == n) ≡ false = grind (arith, common_steps) in
     let sub : Shape = below n (Fork m p a b) in
     let v : ℕ = pair_key vs m in
-    keyed-if (top a == n) vs b _ (λ e. keyed-kept ws vs sub b f k.2)
-    (λ e. keyed-if (top b == n) vs a _ (λ g. keyed-kept ws vs sub a f k.1)
-    (λ g. keyed-if (nat_lt 0 (times_reached a n)) vs
-    (Fork m (record p { first = top (tree_without n a) }) (tree_without n a) b)
-    (Fork m (record p { second = top (tree_without n b) }) a (tree_without n b))
-    (λ l. (let sa : (j : ℕ) → times_reached (below n a) j ≡ times_reached sub j =
-    λ j. grind (arith, common_steps) in
-    let ca : 0 < times_reached a n = grind (arith, common_steps) in (
-      λ i. or-more (has_leaf a v) (has_leaf b v) _ _
-          (ap (λ j. has_leaf a j || has_leaf b j) (f m i).same ∙ k.0 (λ j. i ((f m i).same ∙ j)))
-          (λ z.
-          leaf_cut n a v (λ x. omega (arith, d x)) (isnt_eq _ _ e) ca z (sa v ∙ (f m i).stays))
-          (λ z. z),
-      keyed_cut ws vs n a (λ x. omega (arith, d x)) (isnt_eq _ _ e) ca
-          (λ j i. record { same = (f j i).same; stays = sa (pair_key vs j) ∙ (f j i).stays }) k.1,
-      keyed-kept ws vs sub b f k.2,
-    )))
-    (λ l. (let sb : (j : ℕ) → times_reached (below n b) j ≡ times_reached sub j =
-    λ j. grind (arith, common_steps) in
-    let cb : 0 < times_reached b n = grind (arith, common_steps) in (
-      λ i. or-more (has_leaf a v) (has_leaf b v) _ _
-          (ap (λ j. has_leaf a j || has_leaf b j) (f m i).same ∙ k.0 (λ j. i ((f m i).same ∙ j)))
-          (λ z. z)
-          (λ z.
-          leaf_cut n b v (λ x. omega (arith, d x)) (isnt_eq _ _ g) cb z (sb v ∙ (f m i).stays)),
-      keyed-kept ws vs sub a f k.1,
-      keyed_cut ws vs n b (λ x. omega (arith, d x)) (isnt_eq _ _ g) cb
-          (λ j i. record { same = (f j i).same; stays = sb (pair_key vs j) ∙ (f j i).stays }) k.2,
-    )))))
+    let was : v ≢ 0 → (has_leaf a v || has_leaf b v) ≡ true = λ i.
+    ap (λ j. has_leaf a j || has_leaf b j) (f m i).same ∙ k.0 (λ j. i ((f m i).same ∙ j)) in
+    let stays = λ (x : Shape) (l : sub ≡ x) (j : ℕ) (i : pair_key vs j ≢ 0).
+    ap (λ y. times_reached y (pair_key vs j)) (sym l) ∙ (f j i).stays in
+    elim (cut_at n m p a b (d n) h c) [
+      | First i l t ↦ subst (Keyed vs) (sym t) (keyed-kept ws vs sub b f k.2)
+      | Second j i l t ↦ subst (Keyed vs) (sym t) (keyed-kept ws vs sub a f k.1)
+      | InFirst i ca l t ↦ subst (Keyed vs) (sym t) (
+        λ j. or-more (has_leaf a v) (has_leaf b v) _ _ (was j)
+            (λ y. leaf-cut n a v (λ x. omega (arith, d x)) i ca y (stays (below n a) l m j))
+            (λ y. y),
+        keyed_cut ws vs n a (λ x. omega (arith, d x)) i ca
+            (λ j y. record { same = (f j y).same; stays = stays (below n a) l j y }) k.1,
+        keyed-kept ws vs sub b f k.2,
+      )
+      | InSecond i cb l t ↦ subst (Keyed vs) (sym t) (
+        λ j. or-more (has_leaf a v) (has_leaf b v) _ _ (was j) (λ y. y)
+            (λ y. leaf-cut n b v (λ x. omega (arith, d x)) i cb y (stays (below n b) l m j)),
+        keyed-kept ws vs sub a f k.1,
+        keyed_cut ws vs n b (λ x. omega (arith, d x)) i cb
+            (λ j y. record { same = (f j y).same; stays = stays (below n b) l j y }) k.2,
+      )
+    ]
 
 -- the keys that are left once a window is closed
 pub left_close : (t : WindowTree) (s : Shape) (n : ℕ) (x : ℕ × Option pairs.Pair)
@@ -462,13 +335,13 @@ left_close t s n x o h live m i =
     let sz : tree_size s ≡ d = size_length 1 ws t.next 0 s o h.1 h.2 in
     let kr : pair_key w2 m ≢ 0 → IsLeft (pair_key w2 m) (pair_key ws m) sub =
     at-list w2 (removed d ws (top sub)) m (pair_key ws m) sub (ap (removed d ws) (sym sb.0))
-    (left_removed d sub ws pair 1 t.next (omega (arith, size_below n s, sz)) o sb.1
+    (left-removed d sub ws pair 1 t.next (omega (arith, size_below n s, sz)) o sb.1
     (λ j. omega (arith, count_below n s j, dd j)) m) in
     let o2 : Ascends 1 w2 t.next = ascends-removed d 1 ws t.next n o in
     let e : pair_key (close t n).slots m ≡ pair_key w2 m =
-    left-if (pair == 0) (record u { root = 0 }) (sibling_lifted u pair (pair_of w2 pair) n) m
-    (pair_key w2 m) (λ j. refl)
-    (left-ended u pair (pair_of w2 pair) n m o2) i in
+    cond_both (pair == 0) (record u { root = 0 }) (sibling_lifted u pair (pair_of w2 pair) n)
+    (λ (x : WindowTree). pair_key x.slots m ≢ 0 → pair_key x.slots m ≡ pair_key w2 m)
+    (λ e j. refl) (λ e. left-ended u pair (pair_of w2 pair) n m o2) i in
     let r : IsLeft (pair_key w2 m) (pair_key ws m) sub = kr (λ j. i (e ∙ j)) in
     record { same = e ∙ r.same; stays = ap (times_reached sub) e ∙ r.stays }
 
@@ -492,9 +365,4 @@ key_after (w ∷ ws) vs m e =
 
 pub key_joined : (ws : List Window) (from pair m : ℕ)
     → pair_key (pair_joined ws from pair) m ≡ pair_key ws m
-key_joined ws from pair m =
-    read_set_at 0 (λ w. key_in (pair_in w)) (λ w. record w { parent = pair }) (λ w. refl)
-    (λ w. refl) _ from m
-    ∙ read_set_at 0 (λ w. key_in (pair_in w))
-    (λ w. record w { content = swapped w.content from pair }) (λ w. refl)
-    (λ w. key-swapped w.content from pair) ws (parent_of ws from) m
+key_joined ws from pair m = key-relinked ws from pair (parent_of ws from) pair from m

@@ -3,6 +3,7 @@ pub mod PlacingLemmas
 pub mod RowLemmas
 pub mod RunLemmas
 pub mod ReadingLemmas
+pub mod KeepLemmas
 pub mod OrderLemmas
 pub mod OneTreeLemmas
 pub mod SameLemmas
@@ -10,9 +11,13 @@ pub mod CutLemmas
 pub mod LiftLemmas
 pub mod CloseLemmas
 pub mod TestLemmas
+pub mod SpreadLemmas
 pub mod RectangleLemmas
 pub mod SoundLemmas
 pub mod KeyLemmas
+pub mod FitLemmas
+pub mod OpeningLemmas
+pub mod ArrangeLemmas
 pub mod ValidLemmas
 pub mod BelowLemmas
 pub mod OwnLemmas

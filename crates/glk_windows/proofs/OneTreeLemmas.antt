@@ -1,20 +1,20 @@
 -- Calls keep the windows one tree.
-use Rattle.std.proofs.Common.{◌≡◌, ℕ, ◌+◌, ◌<◌, ◌≤◌, ◌≢◌, List, [], ◌∷◌, ◌++◌, length, refl}
+use Rattle.std.proofs.Common.{◌≡◌, ℕ, ◌+◌, ◌<◌, ◌≤◌, ◌≢◌, List, [], ◌∷◌, ◌++◌, refl}
 use Rattle.std.proofs.Common.{sym, ap, ◌∙◌, Option, Some, None, is_some, option_map, arith, Bool}
-use Rattle.std.proofs.Common.{true, false, cond, nat_lt, nat_le, not, ◌||◌, ◌==◌, if◌then◌else◌}
+use Rattle.std.proofs.Common.{true, false, ◌==◌, if◌then◌else◌}
+use Rattle.std.proofs.lemmas.Bool.{cond_both}
 use Rattle.std.proofs.lemmas.Grind.{common_steps}
 use Rattle.glk_windows.specs.declared.window.Window.{Window}
 use Rattle.glk_windows.specs.declared.window.Pair as p
 use Rattle.glk_numbers.specs.Numbered.{changed_at, found}
-use Rattle.glk_windows.specs.Tree.{WindowTree, set_at, pair_swapped}
+use Rattle.glk_windows.specs.Tree.{set_at, pair_swapped}
 use Rattle.glk_windows.specs.Tree.{swapped, parent_of, pair_content}
-use Rattle.glk_windows.specs.Opening.{pair_joined, first_opened, beside_opened}
-use Rattle.glk_windows.specs.Opening.{is_kind, unplaced_window, new_content}
+use Rattle.glk_windows.specs.Opening.{pair_joined}
 use Rattle.glk_windows.specs.OneTree.{Shape, Leaf, Fork, top, kids, times_reached, pair_without_key}
-use Rattle.glk_windows.specs.OneTree.{bare_in, node_of, SpellsTree, tree_forked, Once, IsTree}
+use Rattle.glk_windows.specs.OneTree.{bare_in, node_of, SpellsTree, tree_forked}
 use Rattle.glk_windows.specs.declared.window.Content.{Content}
-use Rattle.glk_windows.specs.declared.window.Content.TheVariants.{Pair, Blank, Buffer, Grid}
-use Rattle.glk_windows.specs.Valid.{Ascends, IsOrdered}
+use Rattle.glk_windows.specs.declared.window.Content.TheVariants.{Pair}
+use Rattle.glk_windows.specs.Valid.{Ascends}
 
 pub top_forked : (from pair new : ℕ) (p : p.Pair) (s : Shape)
     → top (tree_forked from pair p new s) ≡ (if top s == from then pair else top s)
@@ -25,7 +25,7 @@ pub count_top : (s : Shape) → 0 < times_reached s (top s)
 count_top (Leaf n) = grind (arith, common_steps)
 count_top (Fork n q a b) = grind (arith, common_steps)
 
-pub count_forked-none : (from pair new : ℕ) (p : p.Pair) (s : Shape) (m : ℕ)
+count_forked-none : (from pair new : ℕ) (p : p.Pair) (s : Shape) (m : ℕ)
     → times_reached s from ≡ 0
     → times_reached (tree_forked from pair p new s) m ≡ times_reached s m
 count_forked-none from pair new p (Leaf n) m h = grind (arith, common_steps)
@@ -52,18 +52,27 @@ count_forked from pair new p (Fork n q a b) m h =
       count_forked-none from pair new p b m,
     )
 
--- the parent and pair of a window where another got a pair above it
-abbrev pub renode : ℕ → ℕ → ℕ → ℕ → ℕ × Option p.Pair → ℕ × Option p.Pair
-renode from pair q m (u, None) = (if m == from then pair else u, None)
-renode from pair q m (u, Some p) =
-    (if m == from then pair else u, Some (if m == q then pair_swapped p from pair else p))
+-- the parent and pair of a window where a window gets another parent, and a pair has a new window
+-- in the place of an old one
+abbrev pub relinked : ℕ → ℕ → ℕ → ℕ → ℕ → ℕ → ℕ × Option p.Pair → ℕ × Option p.Pair
+relinked n up at old new m (u, None) = (if m == n then up else u, None)
+relinked n up at old new m (u, Some p) =
+    (if m == n then up else u, Some (if m == at then pair_swapped p old new else p))
 
-pub renode-same : (from pair q m u : ℕ) (p : p.Pair) → m ≢ from → p.first ≢ from → p.second ≢ from
-    → renode from pair q m (u, Some p) ≡ (u, Some p)
-renode-same from pair q m u p h f g = grind (arith, common_steps)
+pub relinked_same : (n up at old new m u : ℕ) (p : p.Pair) → m ≢ n → p.first ≢ old
+    → p.second ≢ old → relinked n up at old new m (u, Some p) ≡ (u, Some p)
+relinked_same n up at old new m u p h f g = grind (arith, common_steps)
+
+pub relinked_top : (n up at old new m u : ℕ) (p : p.Pair) → m ≡ n → p.first ≢ old
+    → p.second ≢ old → relinked n up at old new m (u, Some p) ≡ (up, Some p)
+relinked_top n up at old new m u p h f g = grind (arith, common_steps)
+
+-- the same where another window got a pair above it
+abbrev pub renode : ℕ → ℕ → ℕ → ℕ → ℕ × Option p.Pair → ℕ × Option p.Pair
+renode from pair q m = relinked from pair q from pair m
 
 -- a part of the tree without the window is spelled as before
-pub spells_apart : (ws vs : List Window) (from pair q : ℕ)
+spells_apart : (ws vs : List Window) (from pair q : ℕ)
     (h : (m : ℕ) (x : ℕ × Option p.Pair)
     → node_of ws m ≡ Some x
     → node_of vs m ≡ Some (renode from pair q m x))
@@ -75,20 +84,13 @@ spells_apart ws vs from pair q h (Fork n p a b) up c t =
     let cb : times_reached b from ≡ 0 = omega arith in
     let ta : 0 < times_reached a (top a) = count_top a in
     let tb : 0 < times_reached b (top b) = count_top b in (
-      h n _ t.0 ∙ ap Some (renode-same from pair q n up p (grind (arith, common_steps))
+      h n _ t.0 ∙ ap Some (relinked_same from pair q from pair n up p (grind (arith, common_steps))
           (λ e. grind (arith, common_steps)) (λ e. grind (arith, common_steps))),
       t.1,
       t.2,
       spells_apart ws vs from pair q h a n ca t.3,
       spells_apart ws vs from pair q h b n cb t.4,
     )
-
-pub spells-if : (b : Bool) (vs : List Window) (up : ℕ) (x y : Shape)
-    → (b ≡ true → SpellsTree vs up x)
-    → (b ≡ false → SpellsTree vs up y)
-    → SpellsTree vs up (cond b x y)
-spells-if true vs up x y h k = h refl
-spells-if false vs up x y h k = k refl
 
 pub is_eq : (a b : ℕ) → (a == b) ≡ true → a ≡ b
 is_eq a b e = grind (arith, common_steps)
@@ -102,11 +104,7 @@ pub spells_top : (ws : List Window) (s : Shape) (up : ℕ)
 spells_top ws (Leaf n) up t = t
 spells_top ws (Fork n p a b) up t = t.0
 
-pub renode-at : (from pair q m u : ℕ) (p : p.Pair) → m ≡ from → p.first ≢ from → p.second ≢ from
-    → renode from pair q m (u, Some p) ≡ (pair, Some p)
-renode-at from pair q m u p h f g = grind (arith, common_steps)
-
-pub renode-swap : (from pair q m u : ℕ) (p : p.Pair)
+renode-swap : (from pair q m u : ℕ) (p : p.Pair)
     → m ≢ from → (p.first ≡ from → m ≡ q)
     → (p.second ≡ from → m ≡ q)
     → renode from pair q m (u, Some p) ≡ (u, Some (pair_swapped p from pair))
@@ -116,12 +114,12 @@ pub not_top : (s : Shape) (m : ℕ) → times_reached s m ≡ 0 → top s ≢ m
 not_top s m c =
     λ e. (let t : 0 < times_reached s (top s) = count_top s in grind (arith, common_steps))
 
-pub swap-first : (from pair new : ℕ) (q p : p.Pair) (a : Shape) → p.first ≡ top a
+swap-first : (from pair new : ℕ) (q p : p.Pair) (a : Shape) → p.first ≡ top a
     → (pair_swapped p from pair).first ≡ top (tree_forked from pair q new a)
 swap-first from pair new q p a e =
     let t : _ = top_forked from pair new q a in grind (arith, common_steps)
 
-pub swap-second : (from pair new : ℕ) (q p : p.Pair) (a b : Shape)
+swap-second : (from pair new : ℕ) (q p : p.Pair) (a b : Shape)
     → p.first ≡ top a → p.second ≡ top b
     → times_reached a from + times_reached b from ≤ 1
     → (pair_swapped p from pair).second ≡ top (tree_forked from pair q new b)
@@ -143,7 +141,7 @@ pub spells_forked : (ws vs : List Window) (from pair new q : ℕ) (r : p.Pair)
     → SpellsTree ws up s
     → SpellsTree vs up (tree_forked from pair r new s)
 spells_forked ws vs from pair new q r h hq hp hn rf rn (Leaf n) up c t =
-    spells-if (n == from) vs up (Fork pair r (Leaf n) (Leaf new)) (Leaf n)
+    cond_both (n == from) (Fork pair r (Leaf n) (Leaf new)) (Leaf n) (SpellsTree vs up)
     (λ e. (
       hp ∙ ap (λ u. Some (u, Some r)) (sym (hq n _ (is_eq n from e) t)),
       rf ∙ sym (is_eq n from e),
@@ -154,9 +152,7 @@ spells_forked ws vs from pair new q r h hq hp hn rf rn (Leaf n) up c t =
     (λ e. h n _ t ∙ ap Some (grind (arith, common_steps)))
 spells_forked ws vs from pair new q r h hq hp hn rf rn (Fork n p a b) up c t =
     let ch : times_reached (Fork n p a b) from ≤ 1 = c from in
-    spells-if (n == from) vs up (Fork pair r (Fork n p a b) (Leaf new))
-    (Fork n (pair_swapped p from pair) (tree_forked from pair r new a)
-    (tree_forked from pair r new b))
+    cond_both (n == from) (Fork pair r (Fork n p a b) (Leaf new)) _ (SpellsTree vs up)
     (λ e. (let i : n ≡ from = is_eq n from e in
     let ca : times_reached a from ≡ 0 = grind (arith, common_steps) in
     let cb : times_reached b from ≡ 0 = grind (arith, common_steps) in (
@@ -164,7 +160,7 @@ spells_forked ws vs from pair new q r h hq hp hn rf rn (Fork n p a b) up c t =
       rf ∙ sym i,
       rn,
       (
-        h n _ t.0 ∙ ap Some (renode-at from pair q n up p i
+        h n _ t.0 ∙ ap Some (relinked_top from pair q from pair n up p i
             (λ k. not_top a from ca (sym t.1 ∙ k)) (λ k. not_top b from cb (sym t.2 ∙ k))),
         t.1,
         t.2,
@@ -197,13 +193,11 @@ node_set_at f g num nd (w ∷ ws) n m =
     let k : _ = node_set_at f g num nd ws n m in
     grind (arith, common_steps)
 
-pub content-swapped : (c : Content) (a b : ℕ)
+content-swapped : (c : Content) (a b : ℕ)
     → option_map pair_without_key (pair_content (swapped c a b))
     ≡ option_map (λ p. pair_swapped p a b) (option_map pair_without_key (pair_content c))
 content-swapped (Pair p) a b = grind (arith, common_steps)
-content-swapped Blank a b = refl
-content-swapped (Buffer x) a b = refl
-content-swapped (Grid x) a b = refl
+content-swapped c a b = refl
 
 pub node_append : (ws vs : List Window) (m : ℕ) (x : ℕ × Option p.Pair)
     → node_of ws m ≡ Some x → node_of (ws ++ vs) m ≡ Some x
@@ -229,199 +223,42 @@ unfolding found
 node_parent [] m x e = cc
 node_parent (w ∷ ws) m x e = grind (arith, common_steps, node_parent ws m x)
 
-renodes : (o : Option (ℕ × Option p.Pair)) (from pair q m : ℕ)
-    → option_map (λ x. if m == from then (pair, x.1) else x)
-    (option_map (λ x. if m == q then (x.0, option_map (λ p. pair_swapped p from pair) x.1) else x)
-    o)
-    ≡ option_map (renode from pair q m) o
-renodes None from pair q m = refl
-renodes (Some (u, None)) from pair q m = grind (arith, common_steps)
-renodes (Some (u, Some p)) from pair q m = grind (arith, common_steps)
+relinks : (o : Option (ℕ × Option p.Pair)) (n up at old new m : ℕ)
+    → option_map (λ x. if m == n then (up, x.1) else x)
+    (option_map (λ x. if m == at then (x.0, option_map (λ p. pair_swapped p old new) x.1) else x) o)
+    ≡ option_map (relinked n up at old new m) o
+relinks None n up at old new m = refl
+relinks (Some (u, None)) n up at old new m = grind (arith, common_steps)
+relinks (Some (u, Some p)) n up at old new m = grind (arith, common_steps)
+
+pub node_relinked : (ws : List Window) (n up at old new m : ℕ)
+    → node_of (set_at (λ w. record w { parent = up })
+    (set_at (λ w. record w { content = swapped w.content old new }) ws at) n) m
+    ≡ option_map (relinked n up at old new m) (node_of ws m)
+node_relinked ws n up at old new m =
+    node_set_at (λ w. record w { parent = up }) (λ x. (up, x.1)) (λ w. refl) (λ w. refl)
+    (set_at (λ w. record w { content = swapped w.content old new }) ws at) n m
+    ∙ ap (option_map (λ x. if m == n then (up, x.1) else x))
+    (node_set_at (λ w. record w { content = swapped w.content old new })
+    (λ x. (x.0, option_map (λ p. pair_swapped p old new) x.1)) (λ w. refl)
+    (λ w. ap (λ o. (w.parent, o)) (content-swapped w.content old new)) ws at m)
+    ∙ relinks (node_of ws m) n up at old new m
 
 pub node_joined : (ws : List Window) (from pair m : ℕ)
     → node_of (pair_joined ws from pair) m
     ≡ option_map (renode from pair (parent_of ws from) m) (node_of ws m)
-node_joined ws from pair m =
-    let i : _ =
-    node_set_at (λ w. record w { parent = pair }) (λ x. (pair, x.1)) (λ w. refl) (λ w. refl)
-    (set_at (λ w. record w { content = swapped w.content from pair }) ws (parent_of ws from))
-    from m in
-    let j : _ = node_set_at (λ w. record w { content = swapped w.content from pair })
-    (λ x. (x.0, option_map (λ p. pair_swapped p from pair) x.1)) (λ w. refl)
-    (λ w. ap (λ o. (w.parent, o)) (content-swapped w.content from pair)) ws (parent_of ws from) m in
-    i
-    ∙ ap (option_map (λ x. if m == from then (pair, x.1) else x)) j
-    ∙ renodes (node_of ws m) from pair (parent_of ws from) m
-
--- what a list with a pair in the place of a window holds
-abbrev pub Beside : List Window → ℕ → ℕ → List Window → ℕ → p.Pair → Type 0
-Beside ws z from vs q r = (m : ℕ) → node_of vs m ≡
-    (if m == z then Some (z + 1, None) else (if m == z + 1 then Some (q, Some r)
-    else option_map (renode from (z + 1) q m) (node_of ws m)))
-
-fresh-if : (b : Bool) (x y : Content)
-    → pair_content x ≡ None → pair_content y ≡ None
-    → pair_content (cond b x y) ≡ None
-fresh-if true x y e k = e
-fresh-if false x y e k = k
-
-pub pair_fresh : (kind : ℕ) → pair_content (new_content kind) ≡ None
-pair_fresh kind = fresh-if (kind == 3) _ _ refl (fresh-if (kind == 4) _ _ refl refl)
+node_joined ws from pair m = node_relinked ws from pair (parent_of ws from) from pair m
 
 pub once_le : (b : Bool) (n : ℕ) → n ≡ (if b then 1 else 0) → n ≤ 1
 once_le true n e = omega (arith, e)
 once_le false n e = omega (arith, e)
 
-once-mapped : (o : Option (ℕ × Option p.Pair)) (f : ℕ × Option p.Pair → ℕ × Option p.Pair)
+pub once_mapped : (o : Option (ℕ × Option p.Pair)) (f : ℕ × Option p.Pair → ℕ × Option p.Pair)
     → is_some (option_map f o) ≡ is_some o
-once-mapped None f = refl
-once-mapped (Some x) f = refl
-
-beside-case : (o : Option (ℕ × Option p.Pair)) (js ws : List Window) (z m : ℕ)
-    (v u : Window) (q : ℕ) (r : p.Pair)
-    (f : ℕ × Option p.Pair → ℕ × Option p.Pair)
-    → Ascends 1 ws z → v.number ≡ z → u.number ≡ z + 1 → v.parent ≡ z + 1 → u.parent ≡ q
-    → bare_in v ≡ None → bare_in u ≡ Some r
-    → node_of js m ≡ option_map f o → node_of ws m ≡ o
-    → node_of (js ++ v ∷ u ∷ []) m
-    ≡ (if m == z then Some (z + 1, None)
-    else (if m == z + 1 then Some (q, Some r) else option_map f o))
-beside-case None js ws z m v u q r f o a b c d e g h k =
-    node_new js (v ∷ u ∷ []) m h ∙ grind (arith, common_steps)
-beside-case (Some x) js ws z m v u q r f o a b c d e g h k =
-    let l : z ≤ m → node_of ws m ≡ None = node_later 1 ws z m o in
-    let i : m < z = grind (arith, common_steps) in
-    node_append js (v ∷ u ∷ []) m (f x) h ∙ grind (arith, common_steps)
-
-beside-node : (js ws : List Window) (z m : ℕ) (v u : Window) (q : ℕ) (r : p.Pair)
-    (f : ℕ × Option p.Pair → ℕ × Option p.Pair)
-    → Ascends 1 ws z → v.number ≡ z → u.number ≡ z + 1 → v.parent ≡ z + 1 → u.parent ≡ q
-    → bare_in v ≡ None → bare_in u ≡ Some r
-    → node_of js m ≡ option_map f (node_of ws m)
-    → node_of (js ++ v ∷ u ∷ []) m
-    ≡ (if m == z then Some (z + 1, None)
-    else (if m == z + 1 then Some (q, Some r) else option_map f (node_of ws m)))
-beside-node js ws z m v u q r f o a b c d e g h =
-    beside-case (node_of ws m) js ws z m v u q r f o a b c d e g h refl
-
--- the list that `split` leaves, as the lemmas on shapes want it
-pub beside_nodes : (t : WindowTree) (from method size kind rock : ℕ) → IsOrdered t
-    → Beside t.slots t.next from
-    (pair_joined t.slots from (t.next + 1)
-    ++ unplaced_window t.next rock (t.next + 1) (new_content kind)
-    ∷ unplaced_window (t.next + 1) 0 (parent_of t.slots from)
-    (Pair (record { method = method; size = size; key = t.next; first = from; second = t.next }))
-    ∷ [])
-    (parent_of t.slots from)
-    (record { method = method; size = size; key = 0; first = from; second = t.next })
-unfolding IsOrdered
-beside_nodes t from method size kind rock o m =
-    beside-node (pair_joined t.slots from (t.next + 1)) t.slots t.next m _ _
-    (parent_of t.slots from) _
-    (renode from (t.next + 1) (parent_of t.slots from) m) o refl refl refl refl
-    (ap (option_map pair_without_key) (pair_fresh kind)) refl
-    (node_joined t.slots from (t.next + 1) m)
-
-once-cases : (b c : Bool) (z m : ℕ) (o v : Option (ℕ × Option p.Pair)) (n : ℕ)
-    (x : ℕ × Option p.Pair)
-    (w : Option (ℕ × Option p.Pair)) (y : ℕ × Option p.Pair)
-    → (m == z) ≡ b → (m == z + 1) ≡ c → is_some w ≡ is_some o → (z ≤ m → o ≡ None)
-    → n ≡ (if is_some o then 1 else 0)
-    → v ≡ (if m == z then Some x else (if m == z + 1 then Some y else w))
-    → n + (if z + 1 == m then 1 else 0) + (if z == m then 1 else 0) ≡ (if is_some v then 1 else 0)
-once-cases b c z m None v n x w y e f k l j h = grind (arith, common_steps)
-once-cases b c z m (Some s) v n x w y e f k l j h = grind (arith, common_steps)
-
--- one more pair and window are in the tree once
-pub once_forked : (ws vs : List Window) (z from q : ℕ) (r : p.Pair) (s : Shape) → Ascends 1 ws z
-    → Beside ws z from vs q r → times_reached s from ≡ 1
-    → Once ws s → Once vs (tree_forked from (z + 1) r z s)
-once_forked ws vs z from q r s o h c w m =
-    let i : _ = count_forked from (z + 1) z r s m c in
-    let j : times_reached s m ≡ (if is_some (node_of ws m) then 1 else 0) = w m in
-    let k : is_some (option_map (renode from (z + 1) q m) (node_of ws m)) ≡ is_some (node_of ws m) =
-    once-mapped _ _ in
-    let lz : z ≤ m → node_of ws m ≡ None = node_later 1 ws z m o in
-    let hm : _ = h m in
-    i
-    ∙ once-cases (m == z) (m == z + 1) z m (node_of ws m) (node_of vs m)
-    (times_reached s m) _ _ _ refl refl k lz j hm
-
-tree-if : (b : Bool) (x y : WindowTree × ℕ) (s u : Shape)
-    → IsTree x.0 (Some s) → IsTree y.0 (Some u)
-    → IsTree (cond b x y).0 (Some (cond b s u))
-tree-if true x y s u h k = h
-tree-if false x y s u h k = k
+once_mapped None f = refl
+once_mapped (Some x) f = refl
 
 pub once_at : (o : Option (ℕ × Option p.Pair)) (n : ℕ) (x : ℕ × Option p.Pair) → o ≡ Some x
     → n ≡ (if is_some o then 1 else 0) → n ≡ 1
 once_at None n x e h = cc
 once_at (Some y) n x e h = h
-
--- the nodes of a split list, one by one
-beside-old : (ws vs : List Window) (z from q : ℕ) (r : p.Pair)
-    → Ascends 1 ws z → Beside ws z from vs q r
-    → (m : ℕ) (x : ℕ × Option p.Pair) → node_of ws m ≡ Some x
-    → node_of vs m ≡ Some (renode from (z + 1) q m x)
-beside-old ws vs z from q r o h m x e =
-    let l : z ≤ m → node_of ws m ≡ None = node_later 1 ws z m o in
-    let i : _ = h m in
-    let k : option_map (renode from (z + 1) q m) (node_of ws m) ≡ Some (renode from (z + 1) q m x) =
-    ap (option_map (renode from (z + 1) q m)) e in
-    let g : m < z = grind (arith, common_steps) in
-    grind (arith, common_steps)
-
--- a window beside a live one keeps the windows one tree
-pub tree_beside : (t : WindowTree) (from method size kind rock : ℕ) (s : Shape)
-    (x : ℕ × Option p.Pair)
-    → IsOrdered t → node_of t.slots from ≡ Some x → IsTree t (Some s)
-    → IsTree (beside_opened t from method size kind rock).0
-    (Some
-    (if not (is_kind kind) || nat_le 4294967294 t.next || nat_lt 64 (length t.slots + 2) then s
-    else tree_forked from (t.next + 1)
-    (record { method = method; size = size; key = 0; first = from; second = t.next }) t.next s))
-unfolding IsOrdered
-tree_beside t from method size kind rock s x o live h =
-    let r : p.Pair =
-    record { method = method; size = size; key = 0; first = from; second = t.next } in
-    let vs : List Window = pair_joined t.slots from (t.next + 1)
-    ++ unplaced_window t.next rock (t.next + 1) (new_content kind)
-    ∷ unplaced_window (t.next + 1) 0 (parent_of t.slots from) (Pair (record r { key = t.next }))
-    ∷ [] in
-    let q : ℕ = parent_of t.slots from in
-    let b : Beside t.slots t.next from vs q r = beside_nodes t from method size kind rock o in
-    let c1 : times_reached s from ≡ 1 = once_at _ _ x live (h.2 from) in
-    let bn : _ = b t.next in
-    let bp : _ = b (t.next + 1) in
-    tree-if (not (is_kind kind) || nat_le 4294967294 t.next || nat_lt 64 (length t.slots + 2))
-    _ _ _ _ h (
-      (let i : _ = top_forked from (t.next + 1) t.next r s in
-          let e : t.root ≡ top s = h.0 in grind (arith, common_steps)),
-      spells_forked t.slots vs from (t.next + 1) t.next q r
-          (beside-old t.slots vs t.next from q r o b)
-          (λ m y e k. node_parent t.slots m y k ∙ ap (parent_of t.slots) e)
-          (grind (arith, common_steps)) (grind (arith, common_steps)) refl refl
-          s 0 (λ m. once_le _ _ (h.2 m)) h.1,
-      once_forked t.slots vs t.next from q r s o b c1 h.2,
-    )
-
-first-if : (b : Bool) (x y : WindowTree × ℕ) (s u : Option Shape) → IsTree x.0 s → IsTree y.0 u
-    → IsTree (cond b x y).0 (cond b s u)
-first-if true x y s u h k = h
-first-if false x y s u h k = k
-
--- the first window is a tree
-pub tree_first : (t : WindowTree) (kind rock : ℕ) → IsTree t None
-    → IsTree (first_opened t kind rock).0
-    (if not (t.root == 0) || not (is_kind kind) || nat_lt 4294967294 t.next
-    || nat_lt 64 (length t.slots + 1)
-    then None else Some (Leaf t.next))
-tree_first t kind rock h =
-    first-if (not (t.root == 0) || not (is_kind kind) || nat_lt 4294967294 t.next
-    || nat_lt 64 (length t.slots + 1))
-    _ _ _ _ h
-    (rw h.1 (
-      refl,
-      (let i : _ = pair_fresh kind in grind (arith, common_steps)),
-      λ m. (let i : _ = pair_fresh kind in grind (arith, common_steps)),
-    ))

@@ -1,17 +1,18 @@
 -- Closing takes the windows that go with one, and leaves the others what is their own.
-use Rattle.std.proofs.Common.{◌≡◌, ◌≢◌, ◌⊎◌, inl, inr, ℕ, zero, suc, ◌+◌, ◌<◌, ◌==◌, ◌||◌, List}
+use Rattle.std.proofs.Common.{◌≡◌, ◌≢◌, ◌⊎◌, inl, inr, ℕ, ◌+◌, ◌<◌, ◌==◌, ◌||◌, List}
 use Rattle.std.proofs.Common.{[], ◌∷◌, length, refl, sym, ap, ◌∙◌, Option, Some, None, is_some}
-use Rattle.std.proofs.Common.{option_map, arith, Bool, true, false, cond, if◌then◌else◌, nat_lt}
+use Rattle.std.proofs.Common.{option_map, arith, Bool, true, false, if◌then◌else◌, nat_lt}
+use Rattle.std.proofs.lemmas.Bool.{cond_both}
 use Rattle.std.proofs.lemmas.Grind.{common_steps}
 use Rattle.glk_numbers.specs.Numbered.{found, without}
 use Rattle.glk_windows.specs.declared.window.Window.{Window}
 use Rattle.glk_windows.specs.declared.window.Pair as pairs
 use Rattle.glk_windows.specs.declared.window.Content.{Content}
-use Rattle.glk_windows.specs.declared.window.Content.TheVariants.{Pair, Blank, Buffer, Grid}
+use Rattle.glk_windows.specs.declared.window.Content.TheVariants.{Pair}
 use Rattle.glk_windows.specs.Tree.{WindowTree, window_number, pair_of}
 use Rattle.glk_windows.specs.Tree.{parent_of, stream_of, swapped}
-use Rattle.glk_windows.specs.Closing.{both, close, windows_without, content_unkeyed}
-use Rattle.glk_windows.specs.Closing.{sibling_lifted, forgotten, removed}
+use Rattle.glk_windows.specs.Closing.{close, windows_without, content_unkeyed}
+use Rattle.glk_windows.specs.Closing.{sibling_lifted, forgotten, removed, unlinked}
 use Rattle.glk_windows.specs.Reading.{other_window as sibling}
 use Rattle.glk_windows.specs.OneTree.{Shape, pair_without_key, below, times_reached}
 use Rattle.glk_windows.specs.OneTree.{pair_above, node_of, IsTree, top}
@@ -19,9 +20,10 @@ use Rattle.glk_windows.specs.Valid.{Ascends, IsOrdered}
 use Rattle.glk_windows.specs.Laws.{ClosesBelow, goes_with, own_fields, own_content, own_of}
 use Rattle.glk_windows.proofs.CutLemmas.{node_lower, node_pair}
 use Rattle.glk_windows.proofs.CloseLemmas.{node_rest, pair_rest}
+use Rattle.glk_windows.proofs.KeepLemmas.{removed_keeps}
 use Rattle.glk_windows.proofs.OneTreeLemmas.{is_eq, isnt_eq, node_parent, spells_top}
 use Rattle.glk_windows.proofs.OrderLemmas.{ascends-closed, ascends-removed}
-use Rattle.glk_windows.proofs.RectangleLemmas.{read_set_at}
+use Rattle.glk_windows.proofs.SameLemmas.{read_map, read_set_at}
 use Rattle.glk_windows.proofs.TestLemmas.{tree_found}
 use Rattle.glk_windows.proofs.ValidLemmas.{node_live, node_nil, some_tree, SomeTree}
 
@@ -40,23 +42,17 @@ own-none ws m e = none-of (own_of ws m) (own-node ws m ∙ ap is_some e)
 
 content-unkeyed : (c : Content) (n : ℕ) → own_content (content_unkeyed n c) ≡ own_content c
 content-unkeyed (Pair p) n = grind (arith, common_steps)
-content-unkeyed Blank n = refl
-content-unkeyed (Buffer b) n = refl
-content-unkeyed (Grid g) n = refl
+content-unkeyed c n = refl
 
 content-swapped : (c : Content) (a b : ℕ) → own_content (swapped c a b) ≡ own_content c
 content-swapped (Pair p) a b = grind (arith, common_steps)
-content-swapped Blank a b = refl
-content-swapped (Buffer x) a b = refl
-content-swapped (Grid g) a b = refl
+content-swapped c a b = refl
 
 own-forgotten : (ws : List Window) (n s m : ℕ) → own_of (forgotten ws n s) m ≡ own_of ws m
-unfolding found
-own-forgotten [] n s m = refl
-own-forgotten (w ∷ ws) n s m =
-    let i : _ = content-unkeyed w.content n in
-    let k : _ = own-forgotten ws n s m in
-    grind (arith, common_steps)
+own-forgotten ws n s m =
+    read_map None (λ w. Some (own_fields w)) (unlinked n s) (λ w. refl)
+    (λ w. ap (λ c. Some (record w { echo = 0; parent = 0; content = c }))
+    (content-unkeyed w.content n)) ws m
 
 own-without : (a : ℕ) (ws : List Window) (z n m : ℕ) → Ascends a ws z
     → own_of (without window_number ws n) m ≡ (if m == n then None else own_of ws m)
@@ -90,23 +86,15 @@ rests-closed : (a : ℕ) (ws : List Window) (z n m : ℕ)
     → Ascends a ws z → Rests ws (windows_without ws n) m
 rests-closed a ws z n m o = rests-if (m == n) (own_of ws m) _ (own-closed a ws z n m o)
 
-rests-both : (f : List Window → ℕ → List Window) (a z m : ℕ)
-    → ((ws : List Window) (n : ℕ) → Ascends a ws z → Ascends a (f ws n) z × Rests ws (f ws n) m)
-    → (ws : List Window) (o : Option pairs.Pair) → Ascends a ws z → Rests ws (both f ws o) m
-rests-both f a z m h ws None o = inl refl
-rests-both f a z m h ws (Some p) o =
-    let one : _ = h ws p.first o in
-    rests-on ws (f ws p.first) _ m one.1 (h (f ws p.first) p.second one.0).1
-
 rests-removed : (d a : ℕ) (ws : List Window) (z n m : ℕ) → Ascends a ws z
     → Rests ws (removed d ws n) m
-unfolding removed
-rests-removed zero a ws z n m o = inl refl
-rests-removed (suc d) a ws z n m o =
-    rests-on ws (windows_without ws n) _ m (rests-closed a ws z n m o)
-    (rests-both (removed d) a z m
-    (λ vs k l. (ascends-removed d a vs z k l, rests-removed d a vs z k m l))
-    (windows_without ws n) (pair_of ws n) (ascends-closed a ws z n o))
+rests-removed d a ws z n m o =
+    (removed_keeps (λ v. Ascends a v z × Rests ws v m)
+    (λ v k h. (
+      ascends-closed a v z k h.0,
+      rests-on ws v (windows_without v k) m h.1 (rests-closed a v z k m h.0),
+    ))
+    d ws n (o, inl refl)).1
 
 -- the windows that are gone have nothing, and the others what they had
 own-rest : (ws vs : List Window) (m : ℕ) (b : Bool)
@@ -132,12 +120,6 @@ own-ended u pair (Some q) r n m e a =
     (content-swapped w.content pair (sibling q n))) (windows_without u.slots pair)
     (parent_of u.slots pair) m
     ∙ own-closed 1 u.slots u.next pair m a
-
-own-if : (b : Bool) (x y : WindowTree) (m : ℕ) (o : Option Window)
-    → (b ≡ true → own_of x.slots m ≡ o) → (b ≡ false → own_of y.slots m ≡ o)
-    → own_of (cond b x y).slots m ≡ o
-own-if true x y m o h k = h refl
-own-if false x y m o h k = k refl
 
 -- both of two causes
 or-none : (a c : Bool) (o : Option Window) → (a ≡ true → o ≡ None)
@@ -174,8 +156,8 @@ own-close t s n x m o h live =
     let r : own_of w2 m ≡ (if gone then None else own_of ws m) =
     own-rest ws w2 m gone (node_rest t s n x o h live m)
     (rests-removed (length ws) 1 ws t.next n m o) in
-    own-if (pair == 0) (record u { root = 0 }) (sibling_lifted u pair (pair_of w2 pair) n) m
-    (if m == pair || gone then None else own_of ws m)
+    cond_both (pair == 0) (record u { root = 0 }) (sibling_lifted u pair (pair_of w2 pair) n)
+    (λ (v : WindowTree). own_of v.slots m ≡ (if m == pair || gone then None else own_of ws m))
     (λ e. r ∙ or-none (m == pair) gone (own_of ws m)
     (λ i. own-none ws m (node_lower 1 ws t.next m o
     (omega (arith, is_eq m pair i, is_eq pair 0 e)))))

@@ -1,18 +1,19 @@
 -- Output and placing leave the tree as it is.
-use Rattle.std.proofs.Common.{◌≡◌, ℕ, zero, suc, List, refl, sym, ap, ◌∙◌, Option, Some}
-use Rattle.std.proofs.Common.{None, is_some, option_map, arith, if◌then◌else◌, ◌==◌}
+use Rattle.std.proofs.Common.{◌≡◌, ℕ, List, [], ◌∷◌, map, refl, sym, ap, ◌∙◌, Option, Some, None}
+use Rattle.std.proofs.Common.{is_some, option_map, arith, if◌then◌else◌}
 use Rattle.std.proofs.lemmas.Grind.{common_steps}
+use Rattle.glk_numbers.specs.Numbered.{found, changed_at}
 use Rattle.glk_windows.specs.declared.window.Window.{Window}
 use Rattle.glk_windows.specs.declared.window.Area.{Area}
 use Rattle.glk_windows.specs.declared.window.Pair as p
 use Rattle.glk_windows.specs.declared.window.Content.{Content}
-use Rattle.glk_windows.specs.declared.window.Content.TheVariants.{Pair, Blank, Buffer, Grid}
-use Rattle.glk_windows.specs.Tree.{WindowTree, set_at, pair_of, pair_content}
-use Rattle.glk_windows.specs.Placing.{windows_placed, pair_divided, with_area}
+use Rattle.glk_windows.specs.declared.window.Content.TheVariants.{Pair}
+use Rattle.glk_windows.specs.Tree.{WindowTree, read_window, window_at, set_at, pair_content}
+use Rattle.glk_windows.specs.Placing.{windows_placed, with_area}
 use Rattle.glk_windows.specs.Resizing.{sized, content_sized}
 use Rattle.glk_windows.specs.OneTree.{Shape, node_of, pair_without_key, bare_in, IsTree}
-use Rattle.glk_windows.proofs.OneTreeLemmas.{node_set_at}
 use Rattle.glk_windows.proofs.CutLemmas.{spells_on}
+use Rattle.glk_windows.proofs.KeepLemmas.{placed_keeps}
 
 pub same_tree : (t u : WindowTree) (s : Shape)
     → ((m : ℕ) → node_of u.slots m ≡ node_of t.slots m)
@@ -24,44 +25,71 @@ same_tree t u s f e h = (
   λ m. h.2 m ∙ ap (λ o. if is_some o then 1 else 0) (sym (f m)),
 )
 
-same-mapped : (o : Option (ℕ × Option p.Pair)) (m n : ℕ)
-    → option_map (λ x. if m == n then x else x) o ≡ o
-same-mapped None m n = refl
-same-mapped (Some x) m n = grind (arith, common_steps)
+-- what is read of a window stays, where a change of it touches nothing that is read
+pub read_set_at : {A : Type 0} (none : A) (of : Window → A) (f : Window → Window)
+    → ((w : Window) → (f w).number ≡ w.number) → ((w : Window) → of (f w) ≡ of w)
+    → (ws : List Window) (n m : ℕ)
+    → read_window none of (window_at (set_at f ws n) m) ≡ read_window none of (window_at ws m)
+unfolding changed_at found
+read_set_at none of f num e [] n m = refl
+read_set_at none of f num e (w ∷ ws) n m =
+    let i : _ = num w in
+    let j : _ = e w in
+    let k : _ = read_set_at none of f num e ws n m in
+    grind (arith, common_steps)
 
-pub node_same : (f : Window → Window) (num : (w : Window) → (f w).number ≡ w.number)
-    (nd : (w : Window)
-    → ◌≡◌ {A = ℕ × Option p.Pair} ((f w).parent, bare_in (f w)) (w.parent, bare_in w))
-    → (ws : List Window) (n m : ℕ) → node_of (set_at f ws n) m ≡ node_of ws m
-node_same f num nd ws n m = node_set_at f (λ x. x) num nd ws n m ∙ same-mapped (node_of ws m) m n
+pub read_map : {A : Type 0} (none : A) (of : Window → A) (f : Window → Window)
+    → ((w : Window) → (f w).number ≡ w.number) → ((w : Window) → of (f w) ≡ of w)
+    → (ws : List Window) (m : ℕ)
+    → read_window none of (window_at (map f ws) m) ≡ read_window none of (window_at ws m)
+unfolding found
+read_map none of f num e [] m = refl
+read_map none of f num e (w ∷ ws) m =
+    let i : _ = num w in
+    let j : _ = e w in
+    let k : _ = read_map none of f num e ws m in
+    grind (arith, common_steps)
 
-sized-content : (c : Content) (a : Area)
-    → option_map pair_without_key (pair_content (content_sized c a))
-    ≡ option_map pair_without_key (pair_content c)
-sized-content (Pair p) a = refl
-sized-content Blank a = refl
-sized-content (Buffer b) a = refl
-sized-content (Grid g) a = refl
+pub read_placed : {A : Type 0} (none : A) (of : Window → A)
+    → ((a : Area) (w : Window) → of (sized a w) ≡ of w)
+    → (d : ℕ) (ws : List Window) (n : ℕ) (r : Area) (m : ℕ)
+    → read_window none of (window_at (windows_placed d ws n r) m)
+    ≡ read_window none of (window_at ws m)
+read_placed none of e d ws n r m =
+    placed_keeps
+    (λ vs. read_window none of (window_at vs m) ≡ read_window none of (window_at ws m))
+    (λ vs k a h. read_set_at none of (sized a) (λ w. refl) (e a) vs k m ∙ h) d ws n r refl
+
+pub pair_sized : (a : Area) (c : Content) → pair_content (content_sized c a) ≡ pair_content c
+pair_sized a (Pair p) = refl
+pair_sized a c = refl
+
+-- a window's parent and what it holds as a pair
+abbrev pub node_in : Window → Option (ℕ × Option p.Pair)
+node_in w = Some (w.parent, bare_in w)
+
+pub node_read : (ws : List Window) (m : ℕ)
+    → node_of ws m ≡ read_window None node_in (window_at ws m)
+unfolding found
+node_read [] m = refl
+node_read (w ∷ ws) m = let k : _ = node_read ws m in grind (arith, common_steps)
+
+-- windows that are read alike have the same place in the tree
+pub node_alike : (ws vs : List Window) (m : ℕ)
+    → read_window None node_in (window_at vs m) ≡ read_window None node_in (window_at ws m)
+    → node_of vs m ≡ node_of ws m
+node_alike ws vs m e = node_read vs m ∙ e ∙ sym (node_read ws m)
+
+sized-node : (a : Area) (w : Window) → node_in (sized a w) ≡ node_in w
+sized-node a w =
+    ap (λ o. Some (w.parent, option_map pair_without_key o)) (pair_sized a w.content)
 
 -- a rectangle leaves the tree as it is
 pub node_with : (ws : List Window) (n : ℕ) (r : Area) (m : ℕ)
     → node_of (with_area ws n r) m ≡ node_of ws m
 node_with ws n r m =
-    node_same (sized r) (λ w. refl)
-    (λ w. ap (λ o. (w.parent, o)) (sized-content w.content r)) ws n m
-
-node-divided : (f : List Window → ℕ → Area → List Window)
-    (h : (ws : List Window) (n : ℕ) (r : Area) (m : ℕ) → node_of (f ws n r) m ≡ node_of ws m)
-    → (ws : List Window) (o : Option p.Pair) (r : Area) (m : ℕ)
-    → node_of (pair_divided f ws o r) m ≡ node_of ws m
-node-divided f h ws None r m = refl
-node-divided f h ws (Some p) r m = h _ _ _ m ∙ h _ _ _ m
+    node_alike ws _ m (read_set_at None node_in (sized r) (λ w. refl) (sized-node r) ws n m)
 
 pub node_placed : (d : ℕ) (ws : List Window) (n : ℕ) (r : Area) (m : ℕ)
     → node_of (windows_placed d ws n r) m ≡ node_of ws m
-unfolding windows_placed
-node_placed zero ws n r m = refl
-node_placed (suc d) ws n r m =
-    node-divided (windows_placed d) (node_placed d) (with_area ws n r) (pair_of ws n) r m
-    ∙ node_same (sized r) (λ w. refl)
-    (λ w. ap (λ o. (w.parent, o)) (sized-content w.content r)) ws n m
+node_placed d ws n r m = node_alike ws _ m (read_placed None node_in sized-node d ws n r m)

@@ -1,6 +1,7 @@
 -- The tree is found from the list, so a test can look for it.
 use Rattle.std.proofs.Common.{◌≡◌, ℕ, zero, suc, ◌≤◌, List, [], ◌∷◌, length, refl, sym, ap, ◌∙◌}
-use Rattle.std.proofs.Common.{Option, Some, None, is_some, option_map, arith, Bool, true, false}
+use Rattle.std.proofs.Common.{Option, Some, None, is_some, option_map, arith, true}
+use Rattle.std.proofs.lemmas.Bool.{and_parts}
 use Rattle.std.proofs.lemmas.Grind.{common_steps}
 use Rattle.glk_windows.specs.declared.window.Window.{Window}
 use Rattle.glk_windows.specs.declared.window.Pair as p
@@ -9,7 +10,7 @@ use Rattle.glk_windows.specs.Valid.{IsOrdered}
 use Rattle.glk_windows.specs.OneTree.{Shape, Leaf, Fork, top, times_reached, pair_without_key}
 use Rattle.glk_windows.specs.OneTree.{node_of, SpellsTree, IsTree, tree_size, shape_of, shape_with}
 use Rattle.glk_windows.specs.OneTree.{tested, is_under, no_pair, once, is_tree_spelled, is_tree}
-use Rattle.glk_windows.proofs.CutLemmas.{node_pair, size_length}
+use Rattle.glk_windows.proofs.CutLemmas.{node_pair, once_of, size_length}
 use Rattle.std.proofs.Common.{◌&&◌, ◌==◌, if◌then◌else◌}
 
 -- what a list spells is what it has
@@ -46,14 +47,6 @@ spells_tested ws (Fork n p a b) up t =
     let j : tested ws n b ≡ true = spells_tested ws b n t.4 in
     rw (t.0, i, j) (grind (arith, common_steps))
 
-and_left : (a b : Bool) → (a && b) ≡ true → a ≡ true
-and_left true b e = refl
-and_left false b e = cc
-
-and_right : (a b : Bool) → (a && b) ≡ true → b ≡ true
-and_right true b e = e
-and_right false b e = cc
-
 leaf_node : (o : Option (ℕ × Option p.Pair)) (up : ℕ)
     → (is_under up o && no_pair o) ≡ true → o ≡ Some (up, None)
 leaf_node None up e = cc
@@ -73,7 +66,7 @@ top_with : (f : ℕ → Shape) (n : ℕ) (o : Option p.Pair) → top (shape_with
 top_with f n None = refl
 top_with f n (Some p) = refl
 
-top_shape : (d : ℕ) (ws : List Window) (n : ℕ) → top (shape_of d ws n) ≡ n
+pub top_shape : (d : ℕ) (ws : List Window) (n : ℕ) → top (shape_of d ws n) ≡ n
 unfolding shape_of
 top_shape zero ws n = refl
 top_shape (suc d) ws n = top_with (shape_of d ws) n (option_map pair_without_key (pair_of ws n))
@@ -86,13 +79,13 @@ with_spells : (ws : List Window) (f : ℕ → Shape) (n up : ℕ) (o : Option p.
     → SpellsTree ws up (shape_with f n o)
 with_spells ws f n up None g h k e = leaf_node (node_of ws n) up e
 with_spells ws f n up (Some p) g h k e =
-    let a : _ = and_left (is_under up (node_of ws n)) _ e in
-    let b : _ = and_right (is_under up (node_of ws n)) _ e in (
-      under_node (node_of ws n) up (Some p) (λ x l. sym k ∙ node_pair ws n x l) a,
+    let a = and_parts (is_under up (node_of ws n)) _ e in
+    let b = and_parts (tested ws n (f p.first)) (tested ws n (f p.second)) a.1 in (
+      under_node (node_of ws n) up (Some p) (λ x l. sym k ∙ node_pair ws n x l) a.0,
       g p.first,
       g p.second,
-      h p.first n (and_left (tested ws n (f p.first)) _ b),
-      h p.second n (and_right (tested ws n (f p.first)) _ b),
+      h p.first n b.0,
+      h p.second n b.1,
     )
 
 -- the tree that passes the test is spelled
@@ -121,10 +114,9 @@ once_some : (vs : List Window) (s : Shape) (m : ℕ)
     → times_reached s m ≡ 1
 once_some [] s m e h = cc
 once_some (w ∷ vs) s m e h =
-    let a : (times_reached s w.number == 1) ≡ true = and_left (times_reached s w.number == 1) _ e in
-    let b : once vs s ≡ true = and_right (times_reached s w.number == 1) _ e in
-    let k : is_some (node_of vs m) ≡ true → times_reached s m ≡ 1 = once_some vs s m b in
-    grind (arith, common_steps)
+    let a = and_parts (times_reached s w.number == 1) (once vs s) e in
+    let k : is_some (node_of vs m) ≡ true → times_reached s m ≡ 1 = once_some vs s m a.1 in
+    grind (arith, common_steps, a.0)
 
 once-either : (o : Option (ℕ × Option p.Pair)) (n : ℕ)
     → (o ≡ None → n ≡ 0) → (is_some o ≡ true → n ≡ 1)
@@ -141,30 +133,23 @@ once_is (w ∷ vs) s h =
     let k : once vs s ≡ true = once_is vs s (λ m e. h m (grind (arith, common_steps))) in
     grind (arith, common_steps)
 
-some-one : (o : Option (ℕ × Option p.Pair)) (n : ℕ)
-    → n ≡ (if is_some o then 1 else 0) → is_some o ≡ true
-    → n ≡ 1
-some-one None n e h = cc
-some-one (Some x) n e h = e
-
 -- windows that pass the test are one tree
 pub tree_of_test : (t : WindowTree)
     → is_tree t ≡ true
     → IsTree t (Some (shape_of (length t.slots) t.slots t.root))
 tree_of_test t e =
     let s : Shape = shape_of (length t.slots) t.slots t.root in
-    let a : tested t.slots 0 s ≡ true = and_left (tested t.slots 0 s) _ e in
-    let b : once t.slots s ≡ true = and_right (tested t.slots 0 s) _ e in
-    let k : SpellsTree t.slots 0 s = tested_spells (length t.slots) t.slots t.root 0 a in (
+    let a = and_parts (tested t.slots 0 s) (once t.slots s) e in
+    let k : SpellsTree t.slots 0 s = tested_spells (length t.slots) t.slots t.root 0 a.0 in (
       sym (top_shape (length t.slots) t.slots t.root),
       k,
       λ m. once-either (node_of t.slots m) (times_reached s m) (spells_none t.slots s 0 m k)
-          (once_some t.slots s m b),
+          (once_some t.slots s m a.1),
     )
 
 -- one tree passes the test
 pub test_of_tree : (t : WindowTree) (s : Shape) → IsOrdered t → IsTree t (Some s) → is_tree t ≡ true
 test_of_tree t s o h =
     let a : tested t.slots 0 s ≡ true = spells_tested t.slots s 0 h.1 in
-    let b : once t.slots s ≡ true = once_is t.slots s (λ m e. some-one _ _ (h.2 m) e) in
+    let b : once t.slots s ≡ true = once_is t.slots s (λ m e. once_of _ _ (h.2 m) e) in
     ap (is_tree_spelled t.slots) (tree_found t s o h) ∙ rw (a, b) refl

@@ -5,13 +5,7 @@ use Rattle.glk_dispatch.proofs.arguments.take.Goals as goal
 pub returns-in_err-value : goal.returns-in_err-value
 returns-in_err-value c =
     let h : 0 < c.args.given - c.loop-index.index = omega arith in
-    rw (
-      ← c.loop-index.invariant.sofar,
-      taken-more
-          (c.args.given - c.loop-index.index)
-          c.loop-index.stack c.loop-index.index c.loop-index.args h,
-    )
-    (search rules)
+    rw (← c.loop-index.invariant.sofar, taken-more) (search rules)
 
 pub loop-index-preserved : goal.loop-index-preserved
 loop-index-preserved c =
@@ -20,13 +14,8 @@ loop-index-preserved c =
     omega arith in
     record {
       below = omega arith;
-      sofar = rw (
-        ← k,
-        ← c.loop-index.invariant.sofar,
-        taken-more
-            (c.args.given - c.loop-index.index)
-            c.loop-index.stack c.loop-index.index c.loop-index.args h,
-      )
+      sofar = rw
+          (← k, ← c.loop-index.invariant.sofar, taken-more (c.args.given - c.loop-index.index))
           (search rules);
     }
 

@@ -5,20 +5,12 @@ use Rattle.glk_dispatch.proofs.case.change_words.Goals as goal
 pub returns-in_err-change_word : goal.returns-in_err-change_word
 returns-in_err-change_word c =
     let h : 0 < c.loop-left.left = omega arith in
-    rw (
-      ← c.loop-left.invariant,
-      words_cased-more c.loop-left.left c.args.case c.loop-left.glk
-          c.loop-left.memory c.loop-left.at h,
-    ) (search rules)
+    rw (← c.loop-left.invariant, words_cased-more) (search rules)
 
 pub loop-left-preserved : goal.loop-left-preserved
 loop-left-preserved c =
     let h : 0 < c.loop-left.left = omega arith in
-    rw (
-      ← c.loop-left.invariant,
-      words_cased-more c.loop-left.left c.args.case c.loop-left.glk
-          c.loop-left.memory c.loop-left.at h,
-    ) (search rules)
+    rw (← c.loop-left.invariant, words_cased-more c.loop-left.left) (search rules)
 
 pub returns : goal.returns
 returns c =

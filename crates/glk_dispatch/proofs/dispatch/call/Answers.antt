@@ -1,5 +1,5 @@
 use Rattle.glk_dispatch.specs.Answer.{glk_call}
-use Rattle.glk_dispatch.proofs.KeptCalls.{call_keeps, call_stands}
+use Rattle.glk_dispatch.proofs.CalledLemmas.{call_keeps, call_stands}
 use Rattle.glk_dispatch.proofs.dispatch.call.Goals as goal
 
 pub returns-in_ok-values-in-Some-clause-kept : goal.returns-in_ok-values-in-Some-clause-kept

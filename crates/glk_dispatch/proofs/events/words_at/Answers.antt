@@ -5,22 +5,14 @@ use Rattle.glk_dispatch.proofs.events.words_at.Goals as goal
 pub returns-in_err-word-clause-value : goal.returns-in_err-word-clause-value
 returns-in_err-word-clause-value c =
     let h : 0 < c.loop-left.left = omega arith in
-    rw (
-      ← c.loop-left.invariant.sofar,
-      words_at-more c.loop-left.left c.args.memory.now
-          c.loop-left.at c.loop-left.words.items h,
-    ) (search rules)
+    rw (← c.loop-left.invariant.sofar, words_at-more) (search rules)
 
 pub loop-left-preserved : goal.loop-left-preserved
 loop-left-preserved c =
     let h : 0 < c.loop-left.left = omega arith in
     record {
       counted = search (rules, arith);
-      sofar = rw (
-        ← c.loop-left.invariant.sofar,
-        words_at-more c.loop-left.left c.args.memory.now
-            c.loop-left.at c.loop-left.words.items h,
-      ) (search rules);
+      sofar = rw (← c.loop-left.invariant.sofar, words_at-more c.loop-left.left) (search rules);
     }
 
 pub returns-clause-value : goal.returns-clause-value

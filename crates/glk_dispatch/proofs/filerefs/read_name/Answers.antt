@@ -5,29 +5,17 @@ use Rattle.glk_dispatch.proofs.filerefs.read_name.Goals as goal
 pub returns-in_err-code : goal.returns-in_err-code
 returns-in_err-code c =
     let h : 0 < c.loop-left.left = omega arith in
-    rw (
-      ← c.loop-left.invariant,
-      name_read-more c.loop-left.left c.loop-left.glk c.args.memory.now
-          c.loop-left.at c.loop-left.name.items h,
-    ) (search rules)
+    rw (← c.loop-left.invariant, name_read-more) (search rules)
 
 pub returns-then-code-eq0 : goal.returns-then-code-eq0
 returns-then-code-eq0 c =
     let h : 0 < c.loop-left.left = omega arith in
-    rw (
-      ← c.loop-left.invariant,
-      name_read-more c.loop-left.left c.loop-left.glk c.args.memory.now
-          c.loop-left.at c.loop-left.name.items h,
-    ) (search rules)
+    rw (← c.loop-left.invariant, name_read-more) (search rules)
 
 pub loop-left-preserved : goal.loop-left-preserved
 loop-left-preserved c =
     let h : 0 < c.loop-left.left = omega arith in
-    rw (
-      ← c.loop-left.invariant,
-      name_read-more c.loop-left.left c.loop-left.glk c.args.memory.now
-          c.loop-left.at c.loop-left.name.items h,
-    ) (search rules)
+    rw (← c.loop-left.invariant, name_read-more c.loop-left.left) (search rules)
 
 pub returns : goal.returns
 returns c =

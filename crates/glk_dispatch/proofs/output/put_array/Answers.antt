@@ -5,20 +5,12 @@ use Rattle.glk_dispatch.proofs.output.put_array.Goals as goal
 pub returns-in_err-put_item : goal.returns-in_err-put_item
 returns-in_err-put_item c =
     let h : 0 < c.loop-left.left = omega arith in
-    rw (
-      ← c.loop-left.invariant,
-      put_array-more c.loop-left.left c.args.unicode c.loop-left.glk
-          c.loop-left.memory c.args.stream c.loop-left.at h,
-    ) (search rules)
+    rw (← c.loop-left.invariant, put_array-more) (search rules)
 
 pub loop-left-preserved : goal.loop-left-preserved
 loop-left-preserved c =
     let h : 0 < c.loop-left.left = omega arith in
-    rw (
-      ← c.loop-left.invariant,
-      put_array-more c.loop-left.left c.args.unicode c.loop-left.glk
-          c.loop-left.memory c.args.stream c.loop-left.at h,
-    ) (search rules)
+    rw (← c.loop-left.invariant, put_array-more c.loop-left.left) (search rules)
 
 pub returns : goal.returns
 returns c =

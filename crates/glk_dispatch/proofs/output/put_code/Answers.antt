@@ -1,6 +1,6 @@
 use Rattle.std.proofs.Common.{[]}
 use Rattle.glk_dispatch.specs.Answer.{glk_call}
-use Rattle.glk_dispatch.proofs.KeptCalls.{put_keeps, put_readies}
+use Rattle.glk_dispatch.proofs.CalledLemmas.{put_keeps, put_readies}
 use Rattle.glk_dispatch.proofs.output.put_code.Goals as goal
 
 -- no stack is at hand, and none is reached

@@ -5,20 +5,12 @@ use Rattle.glk_dispatch.proofs.output.spread.Goals as goal
 pub returns-in_err-put_once : goal.returns-in_err-put_once
 returns-in_err-put_once c =
     let h : 0 < c.loop-left.left = omega arith in
-    rw (
-      ← c.loop-left.invariant,
-      spread-more c.loop-left.left c.loop-left.glk c.loop-left.memory
-          c.loop-left.stream c.args.code h,
-    ) (search rules)
+    rw (← c.loop-left.invariant, spread-more) (search rules)
 
 pub loop-left-preserved : goal.loop-left-preserved
 loop-left-preserved c =
     let h : 0 < c.loop-left.left = omega arith in
-    rw (
-      ← c.loop-left.invariant,
-      spread-more c.loop-left.left c.loop-left.glk c.loop-left.memory
-          c.loop-left.stream c.args.code h,
-    ) (search rules)
+    rw (← c.loop-left.invariant, spread-more c.loop-left.left) (search rules)
 
 pub returns-else-stream-ne0 : goal.returns-else-stream-ne0
 returns-else-stream-ne0 c =

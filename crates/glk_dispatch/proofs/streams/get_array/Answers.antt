@@ -5,32 +5,17 @@ use Rattle.glk_dispatch.proofs.streams.get_array.Goals as goal
 pub returns-in_err-code : goal.returns-in_err-code
 returns-in_err-code c =
     let h : 0 < c.args.most - c.loop-count.count = omega arith in
-    rw (
-      ← c.loop-count.invariant.sofar,
-      got_array-more
-          (c.args.most - c.loop-count.count) c.args.line c.args.unicode c.loop-count.glk
-          c.loop-count.memory c.args.stream c.loop-count.at c.loop-count.count h,
-    ) (search rules)
+    rw (← c.loop-count.invariant.sofar, got_array-more) (search rules)
 
 pub returns-in_default : goal.returns-in_default
 returns-in_default c =
     let h : 0 < c.args.most - c.loop-count.count = omega arith in
-    rw (
-      ← c.loop-count.invariant.sofar,
-      got_array-more
-          (c.args.most - c.loop-count.count) c.args.line c.args.unicode c.loop-count.glk
-          c.loop-count.memory c.args.stream c.loop-count.at c.loop-count.count h,
-    ) (search rules)
+    rw (← c.loop-count.invariant.sofar, got_array-more) (search rules)
 
 pub returns-then-ends : goal.returns-then-ends
 returns-then-ends c =
     let h : 0 < c.args.most - c.loop-count.count = omega arith in
-    rw (
-      ← c.loop-count.invariant.sofar,
-      got_array-more
-          (c.args.most - c.loop-count.count) c.args.line c.args.unicode c.loop-count.glk
-          c.loop-count.memory c.args.stream c.loop-count.at c.loop-count.count h,
-    ) (search rules)
+    rw (← c.loop-count.invariant.sofar, got_array-more) (search rules)
 
 pub loop-count-preserved : goal.loop-count-preserved
 loop-count-preserved c =
@@ -39,13 +24,9 @@ loop-count-preserved c =
     omega arith in
     record {
       below = omega arith;
-      sofar = rw (
-        ← k,
-        ← c.loop-count.invariant.sofar,
-        got_array-more
-            (c.args.most - c.loop-count.count) c.args.line c.args.unicode c.loop-count.glk
-            c.loop-count.memory c.args.stream c.loop-count.at c.loop-count.count h,
-      ) (search rules);
+      sofar = rw
+          (← k, ← c.loop-count.invariant.sofar, got_array-more (c.args.most - c.loop-count.count))
+          (search rules);
     }
 
 pub returns : goal.returns

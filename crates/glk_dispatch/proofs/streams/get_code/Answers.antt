@@ -1,5 +1,5 @@
 use Rattle.std.proofs.Common.{Ok, rules}
-use Rattle.glk_dispatch.proofs.KeptCalls.{got_readies}
+use Rattle.glk_dispatch.proofs.CalledLemmas.{got_readies}
 use Rattle.glk_dispatch.proofs.streams.get_code.Goals as goal
 
 pub returns-then-is_some-clause-valid : goal.returns-then-is_some-clause-valid

@@ -1,7 +1,7 @@
 use Rattle.std.proofs.Common.{ap, ◌∙◌}
 use Rattle.glk_input.specs.Delivery as delivery
 use Rattle.glk_dispatch.specs.Answer.{glk_call}
-use Rattle.glk_dispatch.proofs.KeptCalls.{echo_asks}
+use Rattle.glk_dispatch.proofs.CalledLemmas.{echo_asks}
 use Rattle.glk_dispatch.proofs.waiting.answer_event.Goals as goal
 
 pub deliver-requires : goal.deliver-requires

@@ -1,9 +1,8 @@
-use Rattle.std.proofs.Common.{arith, ℕ, ◌<◌, ◌≤◌, ◌≡◌, ◌-◌, ◌==◌, inl, inr, sym}
+use Rattle.std.proofs.Common.{arith, ℕ, ◌<◌, ◌≤◌, ◌≡◌, ◌==◌, inl, inr, sym}
 use Rattle.std.proofs.lemmas.Grind.{common_steps}
 use Rattle.std.proofs.lemmas.Bool.{cases_Bool}
 use mir.Val.{bool_byte}
-use Rattle.glk_windows.specs.OneTree.{Fork, pair_without_key, shape_of, tree_size}
-use Rattle.glk_windows.proofs.FieldLemmas.{shape_end, shape_fork, shape_leaf}
+use Rattle.glk_windows.proofs.FieldLemmas.{shape_end, shape_fork, shape_leaf, size_fork}
 use Rattle.glk_windows.proofs.valid.+count_at.Goals as goal
 
 -- whether it is this one, counted
@@ -26,21 +25,15 @@ returns-then-depth-eq0-clause-within t c =
 pub count_at-requires : goal.count_at-requires
 count_at-requires t c =
     let h : 0 < c.args.depth = omega arith in
-    let r : tree_size (Fork c.args.win (pair_without_key c.in-Some.pair)
-    (shape_of (c.args.depth - 1) c.args.slots.now c.in-Some.pair.first)
-    (shape_of (c.args.depth - 1) c.args.slots.now c.in-Some.pair.second)) ≤ 64 =
-    rw (shape_fork c.args.depth c.args.slots.now c.args.win c.in-Some.pair h
-    (sym c.in-Some.ensures)) at c.requires in
+    let r = size_fork c.args.depth c.args.slots.now c.args.win c.in-Some.pair h
+    (sym c.in-Some.ensures) in
     (omega arith, omega (arith, r))
 
 pub overflow_add-result : goal.overflow_add-result
 overflow_add-result t c =
     let h : 0 < c.args.depth = omega arith in
-    let r : tree_size (Fork c.args.win (pair_without_key c.in-Some.pair)
-    (shape_of (c.args.depth - 1) c.args.slots.now c.in-Some.pair.first)
-    (shape_of (c.args.depth - 1) c.args.slots.now c.in-Some.pair.second)) ≤ 64 =
-    rw (shape_fork c.args.depth c.args.slots.now c.args.win c.in-Some.pair h
-    (sym c.in-Some.ensures)) at c.requires in
+    let r = size_fork c.args.depth c.args.slots.now c.args.win c.in-Some.pair h
+    (sym c.in-Some.ensures) in
     let l = c.count_at.ensures.within in
     let k : c.from-here.result ≤ 1 =
     here-one c.args.win c.args.sought c.from-here.result c.from-here.ensures in
@@ -49,21 +42,15 @@ overflow_add-result t c =
 pub count_at-requires-in-Some : goal.count_at-requires-in-Some
 count_at-requires-in-Some t c =
     let h : 0 < c.args.depth = omega arith in
-    let r : tree_size (Fork c.args.win (pair_without_key c.in-Some.pair)
-    (shape_of (c.args.depth - 1) c.args.slots.now c.in-Some.pair.first)
-    (shape_of (c.args.depth - 1) c.args.slots.now c.in-Some.pair.second)) ≤ 64 =
-    rw (shape_fork c.args.depth c.args.slots.now c.args.win c.in-Some.pair h
-    (sym c.in-Some.ensures)) at c.requires in
+    let r = size_fork c.args.depth c.args.slots.now c.args.win c.in-Some.pair h
+    (sym c.in-Some.ensures) in
     (omega arith, omega (arith, r))
 
 pub overflow_add-result-in-Some : goal.overflow_add-result-in-Some
 overflow_add-result-in-Some t c =
     let h : 0 < c.args.depth = omega arith in
-    let r : tree_size (Fork c.args.win (pair_without_key c.in-Some.pair)
-    (shape_of (c.args.depth - 1) c.args.slots.now c.in-Some.pair.first)
-    (shape_of (c.args.depth - 1) c.args.slots.now c.in-Some.pair.second)) ≤ 64 =
-    rw (shape_fork c.args.depth c.args.slots.now c.args.win c.in-Some.pair h
-    (sym c.in-Some.ensures)) at c.requires in
+    let r = size_fork c.args.depth c.args.slots.now c.args.win c.in-Some.pair h
+    (sym c.in-Some.ensures) in
     let l = c.count_at.ensures.within in
     let j = c.count_at-in-Some.ensures.within in
     let k : c.from-here.result ≤ 1 =
