@@ -34,22 +34,16 @@ module _
       → log.disk ≡ disk
       → EachImage tells may_leave disk (MaySpell (rows_of old.entries) old.uncertain)
   images_spell disk same =
-      subst (λ (d : D). EachImage tells may_leave d (MaySpell (rows_of old.entries) old.uncertain))
-      same
-      (subst
-      (λ (l : Log D). EachImage tells may_leave log.disk (MaySpell (rows_of l.entries) l.uncertain))
-      is
-      (λ told c now. stands_well (rows_of log.entries) log.uncertain c sound.journal sound.next
-      (sound.images told c now)))
+      rw (← same, ← is) (λ told c now.
+      stands_well (rows_of log.entries) log.uncertain c sound.journal sound.next
+      (sound.images told c now))
 
   pub images_open : (disk : D)
       → log.disk ≡ disk
       → EachImage tells may_leave disk (MayOpen (rows_of old.entries))
   images_open disk same =
-      subst (λ (d : D). EachImage tells may_leave d (MayOpen (rows_of old.entries))) same
-      (subst (λ (l : Log D). EachImage tells may_leave log.disk (MayOpen (rows_of l.entries))) is
-      (λ told c now.
-      stands_closed (rows_of log.entries) log.uncertain c sound.next (sound.images told c now)))
+      rw (← same, ← is) (λ told c now.
+      stands_closed (rows_of log.entries) log.uncertain c sound.next (sound.images told c now))
 
 -- the row at this end
 abbrev row_at : ℕ → ℕ → Command → Row
@@ -71,7 +65,7 @@ module _
   next = record {
     place = refl;
     by = refl;
-    stands = subst (λ (l : Log D). MayStand (rows_of l.entries) session command) (sym is) stands;
+    stands = rw is stands;
   }
 
   row_is : {q : Row} → q ≡ row_at end session command → q ≡ r
@@ -105,9 +99,7 @@ module _
       (Meanwhile (rows_of old.entries) old.uncertain
       (next_row (rows_of old.entries) session command))
   crash_repair {moment = moment} {left_since = left_since} {mid = mid} crash =
-      subst (λ (l : Log D). IsTrue (tells l.disk) → LeavesOnly moment left_since l.disk mid
-      (Meanwhile (rows_of l.entries) l.uncertain (next_row (rows_of l.entries) session command))) is
-      (λ told.
+      rw (← is) (λ told.
       settled moment left_since rows log.uncertain r sound.journal next sound.next log.disk mid
       ((crash rows sound.ends).meanwhile told (sound.images told)))
 
@@ -132,9 +124,7 @@ module _
       (next_row (rows_of old.entries) session command))
   crash_row {moment = moment} {left_since = left_since} {mid = mid} {new = new}
       {past = past} made bytes repairs same writes =
-      subst (λ (l : Log D). IsTrue (tells l.disk) → LeavesOnly moment left_since l.disk new
-      (Meanwhile (rows_of l.entries) l.uncertain (next_row (rows_of l.entries) session command))) is
-      (λ told. let told_then = subst (λ (b : Bool). IsTrue b) (sym same) told in
+      rw (← is) (λ told. let told_then = subst (λ (b : Bool). IsTrue b) (sym same) told in
       appended moment left_since rows log.uncertain r sound.journal next sound.next log.disk
       mid new past
       (bytes ∙ ap (λ (x : Row). row_body x ++ 0 ∷ []) (row_is made))
@@ -148,10 +138,8 @@ module _
       → q ≡ row_at end session command
       → rows_of entries ≡ rows_of old.entries ++ next_row (rows_of old.entries) session command ∷ []
   kept_rows {q = q} pushed made =
-      ap rows_of pushed ∙ rows_of-kept log.entries q
-      ∙ ap (λ (x : Row). rows ++ x ∷ []) (row_is made)
-      ∙ ap (λ (l : Log D). rows_of l.entries ++ next_row (rows_of l.entries) session command ∷ [])
-      is
+      rw (← is) (ap rows_of pushed ∙ rows_of-kept log.entries q
+      ∙ ap (λ (x : Row). rows ++ x ∷ []) (row_is made))
 
   -- the journal is sound with a fault more, which came after this much was done
   abbrev Faults : D → D → List Entry → Option Row → ℕ → ℕ → ℕ → Bool → Type 0
@@ -160,13 +148,7 @@ module _
       → from ≡ faults log.disk → to ≡ faults new → faults mid ≡ faults log.disk
       → (faults mid ≤ faults new) × Rose (faults mid) (faults new)
       → IsSoundJournal tells may_leave room faults
-      (record {
-        disk = new;
-        entries = entries;
-        uncertain = uncertain;
-        opening = log.opening;
-        ready = ready;
-      }) end
+      (record log { disk = new; entries = entries; uncertain = uncertain; ready = ready }) end
 
   -- a fault, after which the gate is known so
   faulted :
@@ -175,16 +157,11 @@ module _
       → uncertain ≡ known → IfSome known (IsNext rows)
       → EachImage tells may_leave new (StandsInImage rows known)
       → Faults mid new entries uncertain by from to ready
-  faulted {mid = mid} {new = new}
-      {entries = entries} {uncertain = uncertain} {from = from} {to = to}
-      {ready = ready} by known so next_one images pushed size is_from is_to none_yet counts =
-      sound_faulted tells may_leave room faults log end new entries uncertain by from to
-      ready sound pushed size is_from is_to
-      (omega (arith, is_from, is_to, none_yet, counts.0))
-      (omega (arith, is_from, is_to, none_yet, counts.1))
-      (subst (λ (u : Option Row). IfSome u (IsNext rows)) (sym so) next_one)
-      (subst (λ (u : Option Row). EachImage tells may_leave new (StandsInImage rows u))
-      (sym so) images)
+  faulted {new = new} {entries = entries} {from = from} {to = to} {ready = ready} by known so
+      next_one images pushed size is_from is_to none_yet counts =
+      rw so (sound_faulted tells may_leave room faults log end new entries known by from to ready
+      sound pushed size is_from is_to (omega (arith, is_from, is_to, none_yet, counts.0))
+      (omega (arith, is_from, is_to, none_yet, counts.1)) next_one images)
 
   -- of the repair: the gate stays as it was
   pub sound_unrepaired :
@@ -237,23 +214,10 @@ module _
       → entries ≡ log.entries ++ Kept q ∷ [] → room new ≡ room log.disk
       → faults log.disk ≤ faults new → later ≡ end + length past → later < room new
       → IsSoundJournal tells may_leave room faults
-      (record {
-        disk = new;
-        entries = entries;
-        uncertain = uncertain;
-        opening = log.opening;
-        ready = ready;
-      }) later
+      (record log { disk = new; entries = entries; uncertain = uncertain; ready = ready }) later
   sound_row {new = new} {entries = entries} {ready = ready} {q = q} {past = past}
       {later = later} made bytes none repairs same writes same_then pushed size le is_later within =
-      subst (λ (u : Option Row). IsSoundJournal tells may_leave room faults
-      (record {
-        disk = new;
-        entries = entries;
-        uncertain = u;
-        opening = log.opening;
-        ready = ready;
-      }) later) (sym none)
+      rw none
       (sound_kept tells may_leave room faults log end later new entries q ready sound pushed size le
       (is_later ∙ ap (λ (l : List ℕ). end + length l) bytes) within
       (subst (λ (x : Row). IsNext rows x) (sym (row_is made)) next)

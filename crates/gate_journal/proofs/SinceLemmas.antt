@@ -44,14 +44,7 @@ pub spelled_grows :
     (first last more : List Row) → last ≡ first ++ more
     → length (journal_bytes first) ≤ length (journal_bytes last)
 spelled_grows first last more grows =
-    subst (λ (rows : List Row). length (journal_bytes first) ≤ length (journal_bytes rows))
-    (sym grows)
-    (omega (
-      arith,
-      opened_grows first more,
-      length-append journal_header (rows_behind_open_gates first),
-      length-append journal_header (rows_behind_open_gates (first ++ more)),
-    ))
+    rw grows (omega (arith, opened_grows first more))
 
 -- an image of the time up to a row is one of the time up to a later one
 pub between_later :
@@ -81,8 +74,8 @@ between_meanwhile first since rows last more uncertain r c is grows (spells, ope
       after = more;
       grows = grows ∙ ap (λ (x : List Row). x ++ more) is;
       one_more = one_more;
-      spells = subst (λ (x : List Row). MaySpell x one_more c) is spelled_so;
-      opens = subst (λ (x : List Row). MayOpen x c) is opens;
+      spells = rw is at spelled_so;
+      opens = rw is at opens;
     }
 
     of : MaySpell rows uncertain c ⊎ MaySpell rows (Some r) c → IsBetween first last c
@@ -134,13 +127,8 @@ module _
       (Meanwhile (rows_of old.entries) old.uncertain
       (next_row (rows_of old.entries) session command)))
       → reach disk ≤ max (reach log.disk) (length (journal_bytes (rows_of log.entries)) + 4110)
-      → IsSinceOpened tells may_leave room label reach moment left_since (record {
-        disk = disk;
-        entries = entries;
-        uncertain = uncertain;
-        opening = log.opening;
-        ready = ready;
-      })
+      → IsSinceOpened tells may_leave room label reach moment left_since
+      (record log { disk = disk; entries = entries; uncertain = uncertain; ready = ready })
   since_more {disk = disk} {entries = entries} uncertain e pushed numbered same leaves asked =
       record {
         same = same_then since.same same;
@@ -164,9 +152,7 @@ module _
       here :
           IsTrue (tells log.disk) → LeavesOnly moment left_since log.disk disk
           (Meanwhile rows log.uncertain (next_row rows session command))
-      here = subst (λ (l : Log D). IsTrue (tells l.disk)
-          → LeavesOnly moment left_since l.disk disk (Meanwhile (rows_of l.entries) l.uncertain
-          (next_row (rows_of l.entries) session command))) (sym is) leaves
+      here = rw is leaves
 
       images :
           (start : List Row) → IsJournal start
@@ -278,25 +264,4 @@ pub reserved :
     (record log { entries = entries; ready = ready }) end
     × IsSinceOpened tells may_leave room label reach moment left_since
     (record log { entries = entries; ready = ready })
-reserved {D} {tells} {may_leave} {room} {faults} {label} {reach} {moment} {left_since} {log}
-    {end = end} {ready = ready} same (sound, since) =
-    subst (λ (es : List Entry).
-    IsSoundJournal tells may_leave room faults (record log { entries = es; ready = ready }) end
-    × IsSinceOpened tells may_leave room label reach moment left_since
-    (record log { entries = es; ready = ready })) (sym same) (
-      record {
-        journal = sound.journal;
-        ends = sound.ends;
-        within = sound.within;
-        next = sound.next;
-        images = sound.images;
-        counts = sound.counts;
-      },
-      record {
-        same = since.same;
-        many = since.many;
-        numbers = since.numbers;
-        meanwhile = since.meanwhile;
-        reaches = since.reaches;
-      },
-    )
+reserved same (sound, since) = rw same assumption
