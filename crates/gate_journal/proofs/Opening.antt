@@ -1,8 +1,9 @@
--- What the write of an opening leaves.
+-- What the device calls of an opening leave.
 use Rattle.std.proofs.Common.{◌≡◌, ◌≢◌, inl, inr, ℕ, List, [], ◌∷◌, ◌++◌}
 use Rattle.std.proofs.Common.{length, get_or, sym, ◌∙◌, ap, arith, length-append}
 use Rattle.std.proofs.lemmas.Bool.{cases_eq}
-use Rattle.disk_model.specs.Disk.{Holds, Torn, file_written}
+use Rattle.disk_model.specs.Disk.{Elapses, Holds, LeavesOnly, Torn, file_written}
+use Rattle.disk_model.proofs.Moments.{started, goes_on, weaker, and_then}
 use Rattle.disk_model.proofs.Torn.{holds_kept, holds_rest, holds_both, torn_written, holds_written}
 use Rattle.gate_journal.specs.declared.row.Row.{Row}
 use Rattle.gate_journal.specs.Gate.{IsShut}
@@ -12,18 +13,36 @@ use Rattle.gate_journal.proofs.RowLemmas.{one_list, spells_shut}
 use Rattle.gate_journal.proofs.RowLemmas.{spells_not_open, opens, journal_push}
 use Rattle.gate_journal.proofs.Steps.{unsure_torn}
 
+module _ {D : Type 0} {moment : D → ℕ} {left_since : D → ℕ → List ℕ → Type 0} where
+  -- one call, before and after which a stop leaves what has the fact
+  pub one_call :
+      {old new : D} {P may_leave : List ℕ → Type 0}
+      → ((c : List ℕ) → left_since old (moment old) c → P c)
+      → Elapses (moment old) (moment new) (left_since old) (left_since new) may_leave
+      → ((c : List ℕ) → may_leave c → P c)
+      → LeavesOnly moment left_since old new P
+  one_call {old} {new} {P} {may_leave} first time =
+      goes_on moment left_since old old new P may_leave (started moment left_since old P first) time
+
+  -- and more calls, with a fact from which it follows
+  pub and_more :
+      {old mid new : D} {P Q : List ℕ → Type 0}
+      → LeavesOnly moment left_since old mid P
+      → LeavesOnly moment left_since mid new Q
+      → ((c : List ℕ) → Q c → P c)
+      → LeavesOnly moment left_since old new P
+  and_more {old} {mid} {new} {P} {Q} first second so =
+      and_then moment left_since old mid new P first
+      (weaker moment left_since mid new Q P second so)
+
 -- a closed gate is 0
 gate_zero : (rows : List Row) (s : List ℕ)
     → IsShut (journal_bytes rows) s
     → get_or s (length (journal_bytes rows)) 0 ≡ 0
-gate_zero rows s shut = (closed_gate_is (closed_gate shut))
-  where
-    closed_gate : IsShut (journal_bytes rows) s → Holds s (length (journal_bytes rows)) (0 ∷ [])
-    closed_gate shut = holds_rest {p = 0} (journal_bytes rows) (0 ∷ []) (omega arith) shut
-
-    closed_gate_is : Holds s (length (journal_bytes rows)) (0 ∷ [])
-        → get_or s (length (journal_bytes rows)) 0 ≡ 0
-    closed_gate_is holds = ap (λ (k : ℕ). get_or s k 0) (omega arith) ∙ holds.each 0 (omega arith)
+gate_zero rows s shut =
+    let gate = holds_rest {p = 0} {q = length (journal_bytes rows)} (journal_bytes rows) (0 ∷ [])
+    (omega arith) shut in
+    ap (λ (k : ℕ). get_or s k 0) (omega arith) ∙ gate.each 0 (omega arith)
 
 -- Where the rows that stand end at a gate that isn't 0, a write of that gate leaves what may be met
 -- again.

@@ -13,10 +13,7 @@ use Rattle.gate_journal.proofs.history.History.note_row.Goals as goal
 
 pub invariant_of-self : goal.invariant_of-self
 invariant_of-self c =
-    let room : (nat_lt (vec_len c.self.inside.rows) (vec_capacity c.self.inside.rows)
-    && nat_lt (vec_len c.self.inside.marks) (vec_capacity c.self.inside.marks))
-    ≡ true =
-    ap (λ (e : Entries). e.room) c.self.view_is ∙ c.requires in
+    let room = ap (λ (e : Entries). e.room) c.self.view_is ∙ c.requires in
     let free : vec_len c.self.inside.marks < vec_capacity c.self.inside.marks =
     grind (arith, nat_tests, room) in
     let fine = c.push.ensures.succeeds free in
@@ -33,10 +30,7 @@ invariant_of-self c =
 
 pub returns : goal.returns
 returns c =
-    let room : (nat_lt (vec_len c.self.inside.rows) (vec_capacity c.self.inside.rows)
-    && nat_lt (vec_len c.self.inside.marks) (vec_capacity c.self.inside.marks))
-    ≡ true =
-    ap (λ (e : Entries). e.room) c.self.view_is ∙ c.requires in
+    let room = ap (λ (e : Entries). e.room) c.self.view_is ∙ c.requires in
     let free : vec_len c.self.inside.marks < vec_capacity c.self.inside.marks =
     grind (arith, nat_tests, room) in
     let fine = c.push.ensures.succeeds free in
