@@ -35,22 +35,20 @@ pub woven-row : (l : List Mark) (rows : List Row) (r : Row)
     → count_rows l ≡ length rows
     → rows_woven (l ++ marks.Row ∷ []) (rows ++ r ∷ []) ≡ rows_woven l rows ++ Kept r ∷ []
 woven-row [] [] r is = refl
-woven-row [] (x ∷ rows) r is = absurd (omega (arith, is))
-woven-row (marks.Row ∷ l) [] r is = absurd (omega (arith, is))
 woven-row (marks.Row ∷ l) (x ∷ rows) r is =
     ap (λ (m : List Entry). Kept x ∷ m) (woven-row l rows r (omega (arith, is)))
 woven-row (marks.Fault b f t ∷ l) rows r is =
     ap (λ (m : List Entry). Faulted b f t ∷ m) (woven-row l rows r is)
+woven-row l rows r is = absurd (omega (arith, is))
 
 pub rows_of-woven : (l : List Mark) (rows : List Row)
     → count_rows l ≡ length rows
     → rows_of (rows_woven l rows) ≡ rows
 rows_of-woven [] [] is = refl
-rows_of-woven [] (x ∷ rows) is = absurd (omega (arith, is))
-rows_of-woven (marks.Row ∷ l) [] is = absurd (omega (arith, is))
 rows_of-woven (marks.Row ∷ l) (x ∷ rows) is =
     ap (λ (m : List Row). x ∷ m) (rows_of-woven l rows (omega (arith, is)))
 rows_of-woven (marks.Fault b f t ∷ l) rows is = rows_of-woven l rows is
+rows_of-woven l rows is = absurd (omega (arith, is))
 
 pub length-woven : (l : List Mark) (rows : List Row)
     → count_rows l ≡ length rows

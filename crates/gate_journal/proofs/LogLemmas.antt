@@ -13,7 +13,7 @@ use Rattle.gate_journal.specs.Gate.{IsShut, IsUnsure}
 use Rattle.gate_journal.specs.Rows.{row_body, journal_bytes, IsJournal, IsNext}
 use Rattle.gate_journal.specs.Log.{rows_of, rows_kept, Rises, StandsInImage}
 use Rattle.gate_journal.specs.Log.{IsClosedWell, MaySpell, MayOpen}
-use Rattle.gate_journal.proofs.RowLemmas.{spells_shut, spells_not_open}
+use Rattle.gate_journal.proofs.RowLemmas.{shut_zero, spells_shut, spells_not_open}
 use Rattle.gate_journal.proofs.RowLemmas.{opens, journal_push, spelled-push}
 
 pub rows_of-kept : (entries : List Entry) (r : Row)
@@ -49,13 +49,10 @@ rises-faulted (Faulted b f t ∷ entries) by from to low rises le rose =
 pub closed_shut : (rows : List Row) (c : List ℕ)
     → IsJournal rows → IsShut (journal_bytes rows) c
     → IsClosedWell rows c
-closed_shut rows c all shut =
-    let gate : Holds c (length (journal_bytes rows)) (0 ∷ []) =
-    holds_rest {p = 0} (journal_bytes rows) (0 ∷ []) (omega arith) shut in
-    record {
-      spells = spells_shut rows c all shut;
-      gate = inl (ap (λ (k : ℕ). get_or c k 0) (omega arith) ∙ gate.each 0 (omega arith));
-    }
+closed_shut rows c all shut = record {
+  spells = spells_shut rows c all shut;
+  gate = inl (shut_zero (journal_bytes rows) c shut);
+}
 
 -- both, exactly where the gate is open
 pub closed_unsure : (rows : List Row) (r : Row) (c : List ℕ)
@@ -70,7 +67,7 @@ closed_unsure rows r c all next unsure =
       | inr shut ↦ inl (record {
         spells =
             spells_not_open rows (row_body r ++ 0 ∷ []) c all unsure shut
-            (omega (arith, unsure.behind.within, length-append (row_body r) (0 ∷ [])));
+            (omega (arith, unsure.behind.within));
         gate = inr (r, next, unsure.behind);
       })
     ]

@@ -9,7 +9,7 @@ use Rattle.gate_journal.specs.declared.row.Row.{Row}
 use Rattle.gate_journal.specs.Gate.{IsShut}
 use Rattle.gate_journal.specs.Rows.{SpellsRows, row_body, journal_bytes, IsJournal}
 use Rattle.gate_journal.specs.Log.{MayOpen}
-use Rattle.gate_journal.proofs.RowLemmas.{one_list, spells_shut}
+use Rattle.gate_journal.proofs.RowLemmas.{one_list, shut_zero, spells_shut}
 use Rattle.gate_journal.proofs.RowLemmas.{spells_not_open, opens, journal_push}
 use Rattle.gate_journal.proofs.Steps.{unsure_torn}
 
@@ -35,15 +35,6 @@ module _ {D : Type 0} {moment : D → ℕ} {left_since : D → ℕ → List ℕ 
       and_then moment left_since old mid new P first
       (weaker moment left_since mid new Q P second so)
 
--- a closed gate is 0
-gate_zero : (rows : List Row) (s : List ℕ)
-    → IsShut (journal_bytes rows) s
-    → get_or s (length (journal_bytes rows)) 0 ≡ 0
-gate_zero rows s shut =
-    let gate = holds_rest {p = 0} {q = length (journal_bytes rows)} (journal_bytes rows) (0 ∷ [])
-    (omega arith) shut in
-    ap (λ (k : ℕ). get_or s k 0) (omega arith) ∙ gate.each 0 (omega arith)
-
 -- Where the rows that stand end at a gate that isn't 0, a write of that gate leaves what may be met
 -- again.
 pub reclosed : (rows found : List Row) (s f : List ℕ) (end : ℕ)
@@ -54,7 +45,7 @@ reclosed rows found s f end all (inl shut) stands open_gate is torn =
     let same : found ≡ rows = one_list s found rows stands (spells_shut rows s all shut) in
     absurd (open_gate
     (ap (λ (k : ℕ). get_or s k 0) (is ∙ ap (λ (l : List Row). length (journal_bytes l)) same)
-    ∙ gate_zero rows s shut))
+    ∙ shut_zero (journal_bytes rows) s shut))
 reclosed rows found s f end all (inr one) stands open_gate is torn =
     elim (cases_eq (get_or s (length (journal_bytes rows)) 0) 1) [
       | inl is_open ↦
@@ -64,11 +55,11 @@ reclosed rows found s f end all (inr one) stands open_gate is torn =
           (spells_shut (rows ++ one.0 ∷ []) s (journal_push rows one.0 all one.1) shut) in
           absurd (open_gate
           (ap (λ (k : ℕ). get_or s k 0) (is ∙ ap (λ (l : List Row). length (journal_bytes l)) same)
-          ∙ gate_zero (rows ++ one.0 ∷ []) s shut))
+          ∙ shut_zero (journal_bytes (rows ++ one.0 ∷ [])) s shut))
       | inr not_open ↦
           let same : found ≡ rows =
           one_list s found rows stands (spells_not_open rows (row_body one.0 ++ 0 ∷ []) s all one.2
-          not_open (omega (arith, one.2.behind.within, length-append (row_body one.0) (0 ∷ [])))) in
+          not_open (omega (arith, one.2.behind.within))) in
           inr (
             one.0,
             one.1,

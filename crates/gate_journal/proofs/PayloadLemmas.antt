@@ -272,17 +272,17 @@ file_text p c is = absurd (omega (arith, is.number))
 
 -- a reader that checks the one candidate
 pub checked_is :
-    (kind : ℕ) (p : List ℕ) (x : Command) (r : Option Command)
+    (kind : ℕ) (p : List ℕ) (x y : Command) (r : Option Command)
     → command_kind x ≡ kind → payload_of x ≡ p
     → ((c : Command) → IsPayload kind p c → c ≡ x)
-    → MatchOption r (IsCommand x → ⊥) (λ c. (c ≡ x) × IsCommand c)
+    → y ≡ x → MatchOption r (IsCommand y → ⊥) (λ c. (c ≡ y) × IsCommand c)
     → MatchOption r (IsNoPayload kind p) (IsPayload kind p)
-checked_is kind p x None number bytes only said =
-    λ c is. said (subst (λ (k : Command). IsCommand k) (only c is) is.ranges)
-checked_is kind p x (Some c) number bytes only said = record {
+checked_is kind p x y None number bytes only same said =
+    λ c is. said (subst (λ (k : Command). IsCommand k) (only c is ∙ sym same) is.ranges)
+checked_is kind p x y (Some c) number bytes only same said = record {
   ranges = said.1;
-  number = ap command_kind said.0 ∙ number;
-  bytes = ap payload_of said.0 ∙ bytes;
+  number = ap command_kind (said.0 ∙ same) ∙ number;
+  bytes = ap payload_of (said.0 ∙ same) ∙ bytes;
 }
 
 pub spells_whole : (p : List ℕ)

@@ -33,8 +33,8 @@ use Rattle.gate_journal.proofs.PayloadLemmas.{spells_line, spells_char, spells_f
 use Rattle.gate_journal.proofs.PayloadLemmas.{text_missing, line_text, file_text, same_command}
 use Rattle.gate_journal.proofs.PayloadLemmas.{bytes_drop, bytes_take, seam}
 use Rattle.gate_journal.proofs.RowLemmas.{length-body, body_parts, behind_rows, spells_split}
-use Rattle.gate_journal.proofs.RowLemmas.{corrupt_end, corrupt_row, no_header}
-use Rattle.gate_journal.proofs.RowLemmas.{parse_step, one_list, one_place, never_both}
+use Rattle.gate_journal.proofs.RowLemmas.{parse_step, one_list, never_both}
+use Rattle.gate_journal.proofs.CorruptLemmas.{corrupt_end, corrupt_row, no_header, one_place}
 
 -- it holds, or it doesn't
 abbrev Decided : Type 0 → Type 0

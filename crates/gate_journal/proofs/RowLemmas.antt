@@ -41,12 +41,9 @@ spelled-push rows r =
 each_push : (more rows : List Row) (r : Row)
     → EachNext rows more → IsNext (rows ++ more) r
     → EachNext rows (more ++ r ∷ [])
-each_push [] rows r each next = (subst (λ (l : List Row). IsNext l r) (append-nil rows) next, tt)
-each_push (x ∷ more) rows r each next = (
-  each.0,
-  each_push more (rows ++ x ∷ []) r each.1
-      (subst (λ (l : List Row). IsNext l r) (sym (append_assoc rows (x ∷ []) more)) next),
-)
+each_push [] rows r each next = (rw append-nil at next, tt)
+each_push (x ∷ more) rows r each next =
+    (each.0, each_push more (rows ++ x ∷ []) r each.1 (rw (append_assoc rows (x ∷ []) more) next))
 
 -- one row more that may stand there
 pub journal_push : (rows : List Row) (r : Row)
@@ -72,7 +69,7 @@ holds_all c = record {
 }
 
 -- and so has what stands from a place on
-holds_past : {k : ℕ} {c bytes : List ℕ} → Holds c k bytes → Holds (drop k c) 0 bytes
+pub holds_past : {k : ℕ} {c bytes : List ℕ} → Holds c k bytes → Holds (drop k c) 0 bytes
 holds_past {k = k} {c = c} holds = record {
   within = omega (arith, holds.within, length-drop k c);
   each = λ i lt.
@@ -157,10 +154,8 @@ same_rows (r ∷ a) (s ∷ b) front x y first second ends others is =
     let same : s ≡ r = sym (same_row front r s first.0 second.0 parts.0 parts.1) in
     let later : a ≡ b =
     same_rows a b (front ++ r ∷ []) x y first.1
-    (subst (λ (q : Row). EachNext (front ++ q ∷ []) b) same second.1)
-    (subst (λ (l : List Row). Ends l x) (sym (append_assoc front (r ∷ []) a)) ends)
-    (subst (λ (l : List Row). Ends l y) (ap (λ (q : Row). front ++ q ∷ b) same
-    ∙ sym (append_assoc front (r ∷ []) b)) others) parts.2 in
+    (rw same at second.1) (rw (append_assoc front (r ∷ []) a) ends)
+    (rw (append_assoc front (r ∷ []) b) (rw same at others)) parts.2 in
     cc
 
 -- the rows that a file begins with end in it
@@ -168,7 +163,7 @@ abbrev EndsIn : List ℕ → List Row → Type 0
 EndsIn c rows = Ends rows (drop (length (journal_bytes rows)) c)
 
 -- such rows are told by the file
-same_front :
+pub same_front :
     (c : List ℕ) (a b : List Row) → IsJournal a → IsJournal b
     → Holds c 0 (journal_bytes a) → Holds c 0 (journal_bytes b)
     → EndsIn c a → EndsIn c b → a ≡ b
@@ -187,7 +182,7 @@ spelled_ends c rows spells r rest next is =
     spells.closed (sym (first_behind c (length (journal_bytes rows)))
     ∙ ap (λ (l : List ℕ). get_or l 0 0) is)
 
-corrupt_ends : (c : List ℕ) (place : ℕ) (corrupt : IsCorrupt c place) → EndsIn c corrupt.rows
+pub corrupt_ends : (c : List ℕ) (place : ℕ) (corrupt : IsCorrupt c place) → EndsIn c corrupt.rows
 corrupt_ends c place corrupt r rest next is = stops corrupt.gate
   where
     front : List ℕ
@@ -214,16 +209,7 @@ one_list c a b first second =
     same_front c a b first.journal second.journal first.front second.front
     (spelled_ends c a first) (spelled_ends c b second)
 
--- a corrupt file has one place
-pub one_place : (c : List ℕ) (p q : ℕ) → IsCorrupt c p → IsCorrupt c q → p ≡ q
-one_place c p q first second =
-    first.behind
-    ∙ ap (λ (l : List Row). length (journal_bytes l))
-    (same_front c first.rows second.rows first.journal second.journal first.front second.front
-    (corrupt_ends c p first) (corrupt_ends c q second))
-    ∙ sym second.behind
-
--- and spells no rows
+-- and then it has no corrupt place
 pub never_both : (c : List ℕ) (a : List Row) (p : ℕ) → SpellsRows c a → IsCorrupt c p → ⊥
 never_both c a p first second = meets second.gate
   where
@@ -238,21 +224,22 @@ never_both c a p first second = meets second.gate
     meets (inl past) = absurd (omega (arith, past, at, first.within))
     meets (inr gate) = first.closed (ap (λ (k : ℕ). get_or c k 0) at ∙ gate.0)
 
--- a closed gate behind rows
+-- a closed gate is 0
+pub shut_zero : (front c : List ℕ) → IsShut front c → get_or c (length front) 0 ≡ 0
+shut_zero front c shut =
+    let gate = holds_rest {p = 0} {q = length front} front (0 ∷ []) (omega arith) shut in
+    ap (λ (k : ℕ). get_or c k 0) (omega arith) ∙ gate.each 0 (omega arith)
+
+-- such a gate behind rows
 pub spells_shut : (rows : List Row) (c : List ℕ)
     → IsJournal rows → IsShut (journal_bytes rows) c
     → SpellsRows c rows
-spells_shut rows c all shut =
-    let gate : Holds c (length (journal_bytes rows)) (0 ∷ []) =
-    holds_rest {p = 0} (journal_bytes rows) (0 ∷ []) (omega arith) shut in
-    let is_zero : get_or c (length (journal_bytes rows)) 0 ≡ 0 =
-    ap (λ (k : ℕ). get_or c k 0) (omega arith) ∙ gate.each 0 (omega arith) in
-    record {
-      journal = all;
-      front = holds_front (journal_bytes rows) (0 ∷ []) shut;
-      within = omega (arith, gate.within);
-      closed = λ is_open. absurd (omega (arith, is_zero, is_open));
-    }
+spells_shut rows c all shut = record {
+  journal = all;
+  front = holds_front (journal_bytes rows) (0 ∷ []) shut;
+  within = omega (arith, shut.within, length-append (journal_bytes rows) (0 ∷ []));
+  closed = λ is_open. absurd (omega (arith, shut_zero (journal_bytes rows) c shut, is_open));
+}
 
 -- a row and a closed gate, behind an open one
 pub shut_behind : (rows : List Row) (r : Row) (c : List ℕ)
@@ -302,14 +289,14 @@ behind_rows rows bytes rest split =
     ap (λ (l : List ℕ). drop (length (journal_bytes rows)) l) split
     ∙ drop_at (journal_bytes rows) rest (length (journal_bytes rows)) refl
 
-gate_at : (rows : List Row) (bytes rest : List ℕ)
+pub gate_at : (rows : List Row) (bytes rest : List ℕ)
     → bytes ≡ journal_bytes rows ++ rest
     → get_or bytes (length (journal_bytes rows)) 0 ≡ get_or rest 0 0
 gate_at rows bytes rest split =
     sym (first_behind bytes (length (journal_bytes rows)))
     ∙ ap (λ (l : List ℕ). get_or l 0 0) (behind_rows rows bytes rest split)
 
-front_of : (rows : List Row) (bytes rest : List ℕ)
+pub front_of : (rows : List Row) (bytes rest : List ℕ)
     → bytes ≡ journal_bytes rows ++ rest
     → Holds bytes 0 (journal_bytes rows)
 front_of rows bytes rest split =
@@ -327,53 +314,6 @@ spells_split rows bytes rest journal split some shut = record {
   within = omega (arith, some, ap length split, length-append (journal_bytes rows) rest);
   closed = λ is_open. shut (sym (gate_at rows bytes rest split) ∙ is_open);
 }
-
--- the file ends before a gate
-pub corrupt_end : (rows : List Row) (bytes : List ℕ) (place : ℕ)
-    → IsJournal rows → bytes ≡ journal_bytes rows ++ []
-    → place ≡ length (journal_bytes rows)
-    → IsCorrupt bytes place
-corrupt_end rows bytes place journal split at = record {
-  rows = rows;
-  journal = journal;
-  front = front_of rows bytes [] split;
-  behind = at;
-  gate = inl (omega (arith, at, ap length split, length-append (journal_bytes rows) []));
-}
-
--- behind an open gate is no row that may stand there
-pub corrupt_row :
-    (rows : List Row) (bytes rest : List ℕ) (place : ℕ)
-    → IsJournal rows → bytes ≡ journal_bytes rows ++ rest
-    → place ≡ length (journal_bytes rows)
-    → get_or rest 0 0 ≡ 1 → IsNoNext rows (drop 1 rest) → IsCorrupt bytes place
-corrupt_row rows bytes rest place journal split at is_open none = record {
-  rows = rows;
-  journal = journal;
-  front = front_of rows bytes rest split;
-  behind = at;
-  gate =
-      inr (ap (λ (k : ℕ). get_or bytes k 0) at ∙ gate_at rows bytes rest split ∙ is_open, no_row);
-}
-  where
-    no_row : (r : Row) → IsNext rows r → Holds bytes (place + 1) (row_body r) → ⊥
-    no_row r next holds =
-        let past : drop (place + 1) bytes ≡ drop 1 rest =
-        sym (drop-drop 1 place bytes) ∙ ap (λ (k : ℕ). drop 1 (drop k bytes)) at
-        ∙ ap (λ (l : List ℕ). drop 1 l) (behind_rows rows bytes rest split) in
-        none r _ next
-        (holds_split (drop 1 rest) (row_body r)
-        (subst (λ (l : List ℕ). Holds l 0 (row_body r)) past (holds_past holds)))
-
--- the file doesn't begin with the header
-pub no_header : (bytes : List ℕ)
-    → starts_with nat_eq bytes journal_header ≡ false
-    → Holds bytes 0 journal_header → ⊥
-no_header bytes other holds =
-    let begins =
-    ap (λ (l : List ℕ). starts_with nat_eq l journal_header)
-    (holds_split bytes journal_header holds) in
-    cc
 
 -- one row more
 pub parse_step :

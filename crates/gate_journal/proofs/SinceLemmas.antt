@@ -12,9 +12,9 @@ use Rattle.gate_journal.specs.declared.command.Command.{Command}
 use Rattle.gate_journal.specs.declared.row.Row.{Row}
 use Rattle.gate_journal.specs.declared.entry.Entry.{Entry}
 use Rattle.gate_journal.specs.declared.entry.Entry.TheVariants.{Kept, Faulted}
-use Rattle.gate_journal.specs.Rows.{row_body, journal_header, rows_behind_open_gates}
+use Rattle.gate_journal.specs.Rows.{row_body, payload_of, rows_behind_open_gates}
 use Rattle.gate_journal.specs.Rows.{journal_bytes, EachNext, IsJournal, MayStand}
-use Rattle.gate_journal.specs.Log.{Log, IsBetween, IsOfSession, IsSinceOpened}
+use Rattle.gate_journal.specs.Log.{Log, IsBetween, IsOfSession, IsSinceOpened, entry_number}
 use Rattle.gate_journal.specs.Log.{IsSoundJournal, rows_kept, MayOpen, MaySpell}
 use Rattle.gate_journal.specs.Log.{Meanwhile, next_row, rows_found, rows_of}
 use Rattle.gate_journal.specs.Command.{IsCommand}
@@ -90,12 +90,6 @@ rows_after found entries =
     sym (ap rows_of (take-append-drop found entries))
     ∙ rows_of-append (take found entries) (drop found entries)
 
--- the longest row
-row_most :
-    (rows : List Row) (session : ℕ) (command : Command) → IsCommand command
-    → length (row_body (next_row rows session command)) ≤ 4108
-row_most rows session command is = omega (arith, payload_most command is)
-
 -- one piece of work on a disk after another
 pub same_then :
     {D : Type 0} {tells : D → Bool} {room label : D → ℕ} {a b c : D}
@@ -122,7 +116,8 @@ module _
   -- one entry more, of this session, after the calls of an append
   pub since_more :
       {disk : D} {entries : List Entry} {ready : Bool} (uncertain : Option Row) (e : Entry)
-      → entries ≡ log.entries ++ e ∷ [] → IsOfSession e → SameDisk tells room label log.disk disk
+      → entries ≡ log.entries ++ e ∷ [] → entry_number e ≡ session + 1
+      → SameDisk tells room label log.disk disk
       → (IsTrue (tells old.disk) → LeavesOnly moment left_since old.disk disk
       (Meanwhile (rows_of old.entries) old.uncertain
       (next_row (rows_of old.entries) session command)))
@@ -133,8 +128,10 @@ module _
       record {
         same = same_then since.same same;
         many = omega (arith, since.many, ap length pushed, length-append log.entries (e ∷ []));
-        numbers = subst (λ (es : List Entry). Each IsOfSession es) (sym pushed)
-            (each_append IsOfSession log.entries (e ∷ []) since.numbers (numbered, tt));
+        numbers = rw pushed (each_append IsOfSession log.entries (e ∷ []) since.numbers (
+          (omega (arith, numbered), omega (arith, numbered, stands.below)),
+          tt,
+        ));
         meanwhile = λ start journal may told. images start journal may told;
         reaches = omega (arith, since.reaches, asked, longer);
       }
@@ -180,13 +177,7 @@ module _
           rows (rows_of entries) (rows_of (e ∷ [])) log.uncertain
           (next_row rows session command) c (rows_after log.opening.found log.entries) grows m))))
 
-  -- how far a repair writes, and then a row
-  pub asked_gate :
-      (before now end : ℕ) → end ≡ length (journal_bytes (rows_of log.entries))
-      → now ≤ max before (end + 1)
-      → now ≤ max before (length (journal_bytes (rows_of log.entries)) + 4110)
-  asked_gate before now end ends asked = omega (arith, ends, asked)
-
+  -- how far a row is written behind a repair
   pub asked_row :
       (before mid now end : ℕ) {q : Row} {past : List ℕ}
       → end ≡ length (journal_bytes (rows_of log.entries))
@@ -195,24 +186,16 @@ module _
       → now ≤ max mid (end + 1 + length past)
       → now ≤ max before (length (journal_bytes (rows_of log.entries)) + 4110)
   asked_row before mid now end {q} {past} ends made bytes first second =
-      let same : length (row_body q)
-      ≡ length (row_body (next_row (rows_of log.entries) session command))
-      = ap (λ (r : Row). length (row_body r)) made
-      in
       omega (
         arith,
         ends,
         first,
         second,
-        same,
         ap length bytes,
-        length-append (row_body q) (0 ∷ []),
-        row_most (rows_of log.entries) session command stands.ranges,
+        length-append (payload_of q.command) (0 ∷ []),
+        ap (λ (r : Row). length (payload_of r.command)) made,
+        payload_most command stands.ranges,
       )
-
-  -- the number of an entry of this session
-  pub numbered : (n : ℕ) → n ≡ session + 1 → (0 < n) × (n ≤ 64)
-  numbered n same = (omega (arith, same), omega (arith, same, stands.below))
 
 -- of a journal that was just opened
 pub since_begun :
@@ -235,8 +218,7 @@ since_begun {D} {tells} {may_leave} {room} {label} {reach} {moment} {left_since}
     {entries} found many fresh journal same crash asked = record {
       same = same;
       many = omega (arith, many);
-      numbers = subst (λ (es : List Entry). Each IsOfSession es) (sym fresh)
-          (numbers_of [] (rows_of entries) journal);
+      numbers = rw fresh (numbers_of [] (rows_of entries) journal);
       meanwhile = λ start is_journal may told.
           weaker moment left_since given now (MayOpen start)
           (λ c. MayOpen start c ⊎ IsBetween (rows_of (take found entries)) (rows_of entries) c)

@@ -35,8 +35,5 @@ returns c =
     c.in_ok-command.ensures
     ∙ ap (λ (l : List ℕ). open_in l c.split_at.result.1.now) key
     ∙ ap (λ (l : List ℕ). open_in (key_in p) l) after in
-    checked_is 1 p (open_in (key_in p) (after_in p)) c.checked.result refl (spells_whole p are size)
-    (λ d is. (only_open p d is).1)
-    (subst
-    (λ (x : Command). MatchOption c.checked.result (IsCommand x → ⊥) (λ d. (d ≡ x) × IsCommand d))
-    same c.checked.ensures)
+    checked_is 1 p (open_in (key_in p) (after_in p)) _ _ refl (spells_whole p are size)
+    (λ d is. (only_open p d is).1) same c.checked.ensures

@@ -13,6 +13,4 @@ returns c =
     c.deref.ensures.value
     ∙ sym (rows_of-woven c.self.inside.marks.items c.self.inside.rows.items c.self.invariant)
     ∙ ap (λ (e : Entries). rows_of e.list) c.self.view_is in
-    subst
-    (λ (l : List Row). IsTrue c.may_stand.result ↔ MayStand l c.args.session c.args.command.now)
-    same c.may_stand.ensures
+    rw same at c.may_stand.ensures

@@ -7,7 +7,7 @@ use Rattle.disk_model.proofs.Moments.{holds_now}
 use Rattle.gate_journal.proofs.AppendLemmas.{faulted_rows, kept_rows, crash_repair}
 use Rattle.gate_journal.proofs.AppendLemmas.{crash_row, sound_unrepaired}
 use Rattle.gate_journal.proofs.AppendLemmas.{sound_before, sound_at_gate, sound_row}
-use Rattle.gate_journal.proofs.SinceLemmas.{since_more, asked_gate, asked_row, numbered, same_then}
+use Rattle.gate_journal.proofs.SinceLemmas.{since_more, asked_row, same_then}
 use Rattle.gate_journal.proofs.journal.Journal.append.Goals as goal
 
 -- the repair failed
@@ -23,12 +23,10 @@ invariant_of-self g c =
           c.note_fault.ensures.entry c.settle.ensures.ran.same.size c.faults-from.ensures.value
           c.faults-to.ensures.value refl c.in_default.ensures.ran.counts,
       since_more c.self.view_is c.self.invariant.1 c.requires.stands _ _ c.note_fault.ensures.entry
-          (numbered c.self.view_is c.self.invariant.1 c.requires.stands _
-          (omega (arith, c.from-by.ensures)))
+          (omega (arith, c.from-by.ensures))
           c.settle.ensures.ran.same
           (crash_repair c.self.view_is sound c.requires.stands c.settle.ensures.triple)
-          (asked_gate c.self.view_is c.self.invariant.1 c.requires.stands _ _ _ sound.ends
-          c.settle.ensures.ran.asked),
+          (omega (arith, sound.ends, c.settle.ensures.ran.asked)),
     )
 
 pub returns-in_default-clause-rows : goal.returns-in_default-clause-rows
@@ -53,8 +51,7 @@ invariant_of-self-in-Ok-write_row g c =
           (ap (λ (k : ℕ). c.self.inside.end + k) size)
           (omega (arith, c.in-Ok-write_row.ensures.fits, c.write_row.ensures.ran.same.size, size)),
       since_more c.self.view_is c.self.invariant.1 c.requires.stands _ _ c.note_row.ensures
-          (numbered c.self.view_is c.self.invariant.1 c.requires.stands _
-          (ap (λ (q : Row). q.by) c.fill-row.ensures.row))
+          (ap (λ (q : Row). q.by) c.fill-row.ensures.row)
           (same_then c.settle.ensures.ran.same c.write_row.ensures.ran.same)
           (crash_row c.self.view_is c.self.invariant.0 c.requires.stands c.fill-row.ensures.row
           (c.deref.ensures.value ∙ c.fill-row.ensures.bytes)
@@ -89,8 +86,7 @@ invariant_of-self-in-Err-Before g c = (
       c.in-Err-Before.ensures.ran.counts,
   since_more c.self.view_is c.self.invariant.1 c.requires.stands _ _
       c.note_fault-in-Err-Before.ensures.entry
-      (numbered c.self.view_is c.self.invariant.1 c.requires.stands _
-      (omega (arith, c.from-by.ensures)))
+      (omega (arith, c.from-by.ensures))
       (same_then c.settle.ensures.ran.same c.write_row.ensures.ran.same)
       (crash_row c.self.view_is c.self.invariant.0 c.requires.stands c.fill-row.ensures.row
       (c.deref.ensures.value ∙ c.fill-row.ensures.bytes)
@@ -125,8 +121,7 @@ invariant_of-self-in-Err-AtGate g c = (
       c.in-Err-AtGate.ensures.ran.counts,
   since_more c.self.view_is c.self.invariant.1 c.requires.stands _ _
       c.note_fault-in-Err-AtGate.ensures.entry
-      (numbered c.self.view_is c.self.invariant.1 c.requires.stands _
-      (omega (arith, c.from-by.ensures)))
+      (omega (arith, c.from-by.ensures))
       (same_then c.settle.ensures.ran.same c.write_row.ensures.ran.same)
       (crash_row c.self.view_is c.self.invariant.0 c.requires.stands c.fill-row.ensures.row
       (c.deref.ensures.value ∙ c.fill-row.ensures.bytes)
