@@ -17,15 +17,7 @@ use Rattle.snap_store.specs.File.{is_whole, area_on_side, whole_area}
 use Rattle.snap_store.proofs.FileLemmas.{big_from_same}
 
 pub length-head : (place count many : ℕ) → length (head_bytes place count many) ≡ 16
-length-head place count many =
-    omega (
-      arith,
-      length-append (big_bytes 8 place) (big_bytes 4 count ++ big_bytes 4 many),
-      length-append (big_bytes 4 count) (big_bytes 4 many),
-      length-bytes_high_first 8 place,
-      length-bytes_high_first 4 count,
-      length-bytes_high_first 4 many,
-    )
+length-head place count many = refl
 
 -- a number behind other bytes
 big_from_behind :

@@ -19,9 +19,7 @@ returns-in_default-clause-err g c area beside_area beside spares each =
     (c.close_gate.ensures.triple area beside_area beside) each in (
       area,
       inl (c.loosened.ensures, refl),
-      subst (λ (s : Slot). EachImage g.D.Disk.tells
-          g.D.Disk.may_leave c.close_gate.new.disk (IsLaid c.args.side s area beside beside_area))
-          (sym c.loosened.ensures) now,
+      rw c.loosened.ensures now,
     )
 
 -- the area wasn't written
