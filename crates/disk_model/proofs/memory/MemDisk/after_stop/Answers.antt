@@ -1,6 +1,5 @@
-use Rattle.std.proofs.Common.{arith, rules, sym, ◌∙◌, subst, length, ◌≤◌, ◌≡◌, ◌^◌, List, ℕ, []}
-use Rattle.disk_model.specs.declared.call.Call.{Call}
-use Rattle.disk_model.specs.DiskState.{DiskState, greatest_end, IsWell}
+use Rattle.std.proofs.Common.{arith, rules, ◌∙◌, length, ◌≤◌, ◌≡◌, ◌^◌, []}
+use Rattle.disk_model.specs.DiskState.{greatest_end, IsWell}
 use Rattle.disk_model.specs.Calls.{state_after}
 use Rattle.disk_model.proofs.StateLaws.{well_settled}
 use Rattle.disk_model.proofs.memory.MemDisk.after_stop.Goals as goal

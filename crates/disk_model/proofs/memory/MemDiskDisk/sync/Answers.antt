@@ -1,6 +1,4 @@
-use Rattle.std.proofs.Common.{subst, Bool}
 use Rattle.std.specs.Prelude.{not}
-use Rattle.disk_model.specs.DiskState.{DiskState, IsDiskImage, after_sync}
 use Rattle.disk_model.specs.Calls.{state_after}
 use Rattle.disk_model.proofs.StateLaws.{crash_sync, only_settled}
 use Rattle.disk_model.proofs.memory.MemDiskDisk.sync.Goals as goal
