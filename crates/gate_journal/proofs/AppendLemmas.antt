@@ -103,35 +103,6 @@ module _
       settled moment left_since rows log.uncertain r sound.journal next sound.next log.disk mid
       ((crash rows sound.ends).meanwhile told (sound.images told)))
 
-  -- a repair that ended Ok leaves a closed gate
-  shut :
-      {T E : Type 0} {value : T} {moment : D → ℕ} {left_since : D → ℕ → List ℕ → Type 0} {mid : D}
-      → Repairs {E = E} moment left_since (Ok value) mid → tells mid ≡ tells log.disk
-      → EachImage tells may_leave mid (IsShut (journal_bytes rows))
-  shut repairs same told =
-      let told_then = subst (λ (b : Bool). IsTrue b) same told in
-      (repairs rows sound.ends).ended told_then (sound.images told_then)
-
-  -- and until the row's writing ends
-  pub crash_row :
-      {T E S F : Type 0} {value : T} {result : Result S F} {moment : D → ℕ}
-      {left_since : D → ℕ → List ℕ → Type 0} {mid new : D} {q : Row} {past : List ℕ}
-      → q ≡ row_at end session command → past ≡ row_body q ++ 0 ∷ []
-      → Repairs {E = E} moment left_since (Ok value) mid → tells mid ≡ tells log.disk
-      → Writes moment left_since past result mid new → IsTrue (tells old.disk)
-      → LeavesOnly moment left_since old.disk new
-      (Meanwhile (rows_of old.entries) old.uncertain
-      (next_row (rows_of old.entries) session command))
-  crash_row {moment = moment} {left_since = left_since} {mid = mid} {new = new}
-      {past = past} made bytes repairs same writes =
-      rw (← is) (λ told. let told_then = subst (λ (b : Bool). IsTrue b) (sym same) told in
-      appended moment left_since rows log.uncertain r sound.journal next sound.next log.disk
-      mid new past
-      (bytes ∙ ap (λ (x : Row). row_body x ++ 0 ∷ []) (row_is made))
-      ((repairs rows sound.ends).meanwhile told (sound.images told))
-      ((writes (journal_bytes rows) (sym sound.ends)).meanwhile told_then
-      (shut repairs same told_then)))
-
   -- the rows with one more
   pub kept_rows :
       {entries : List Entry} {q : Row} → entries ≡ log.entries ++ Kept q ∷ []
@@ -171,57 +142,70 @@ module _
       → Faults log.disk new entries uncertain by from to ready
   sound_unrepaired by so images = faulted {mid = log.disk} by log.uncertain so sound.next images
 
-  -- before the gate's write: it is closed
-  pub sound_before :
-      {T E : Type 0} {value : T} {moment : D → ℕ} {left_since : D → ℕ → List ℕ → Type 0}
-      {mid new : D} {entries : List Entry} {uncertain : Option Row} {from to : ℕ}
-      {ready : Bool} (by : ℕ)
-      → uncertain ≡ None
-      → Repairs {E = E} moment left_since (Ok value) mid
-      → tells mid ≡ tells log.disk
-      → After mid new IsShut
-      → Faults mid new entries uncertain by from to ready
-  sound_before {mid = mid} by none repairs same after =
-      faulted {mid = mid} by None none tt
-      (after (journal_bytes rows) (sym sound.ends) (shut repairs same))
+  -- where the repair ended Ok
+  module _
+      {T E : Type 0} {value : T} {moment : D → ℕ} {left_since : D → ℕ → List ℕ → Type 0} {mid : D}
+      (repairs : Repairs {E = E} moment left_since (Ok value) mid)
+      (same : tells mid ≡ tells log.disk) where
+    -- it leaves a closed gate
+    shut : EachImage tells may_leave mid (IsShut (journal_bytes rows))
+    shut told =
+        let told_then = rw same at told in
+        (repairs rows sound.ends).ended told_then (sound.images told_then)
 
-  -- in the gate's write: it is uncertain, before the row
-  pub sound_at_gate :
-      {T E : Type 0} {value : T} {moment : D → ℕ} {left_since : D → ℕ → List ℕ → Type 0}
-      {mid new : D} {entries : List Entry} {uncertain : Option Row} {from to : ℕ} {ready : Bool}
-      {q : Row} {past : List ℕ} (by : ℕ)
-      → q ≡ row_at end session command → past ≡ row_body q ++ 0 ∷ [] → uncertain ≡ Some q
-      → Repairs {E = E} moment left_since (Ok value) mid → tells mid ≡ tells log.disk
-      → After mid new (λ front. IsUnsure front past)
-      → Faults mid new entries uncertain by from to ready
-  sound_at_gate {mid = mid} {new = new} {q = q} by made bytes so repairs same after =
-      faulted {mid = mid} by (Some q) so
-      (subst (λ (x : Row). IsNext rows x) (sym (row_is made)) next)
-      (subst (λ (l : List ℕ). EachImage tells may_leave new (IsUnsure (journal_bytes rows) l)) bytes
-      (after (journal_bytes rows) (sym sound.ends) (shut repairs same)))
+    -- before the gate's write: it is closed
+    pub sound_before :
+        {new : D} {entries : List Entry} {uncertain : Option Row} {from to : ℕ}
+        {ready : Bool} (by : ℕ)
+        → uncertain ≡ None → After mid new IsShut
+        → Faults mid new entries uncertain by from to ready
+    sound_before by none after =
+        faulted {mid = mid} by None none tt (after (journal_bytes rows) (sym sound.ends) shut)
 
-  -- the row is there
-  pub sound_row :
-      {T E S F : Type 0} {value : T} {wrote : S} {moment : D → ℕ}
-      {left_since : D → ℕ → List ℕ → Type 0}
-      {mid new : D} {entries : List Entry} {uncertain : Option Row} {ready : Bool} {q : Row}
-      {past : List ℕ} {later : ℕ}
-      → q ≡ row_at end session command → past ≡ row_body q ++ 0 ∷ []
-      → uncertain ≡ None
-      → Repairs {E = E} moment left_since (Ok value) mid
-      → tells mid ≡ tells log.disk
-      → Writes {E = F} moment left_since past (Ok wrote) mid new → tells new ≡ tells mid
-      → entries ≡ log.entries ++ Kept q ∷ [] → room new ≡ room log.disk
-      → faults log.disk ≤ faults new → later ≡ end + length past → later < room new
-      → IsSoundJournal tells may_leave room faults
-      (record log { disk = new; entries = entries; uncertain = uncertain; ready = ready }) later
-  sound_row {new = new} {entries = entries} {ready = ready} {q = q} {past = past}
-      {later = later} made bytes none repairs same writes same_then pushed size le is_later within =
-      rw none
-      (sound_kept tells may_leave room faults log end later new entries q ready sound pushed size le
-      (is_later ∙ ap (λ (l : List ℕ). end + length l) bytes) within
-      (subst (λ (x : Row). IsNext rows x) (sym (row_is made)) next)
-      (λ told c now. let told_then = subst (λ (b : Bool). IsTrue b) same_then told in
-      opened_shut rows q past c bytes
-      ((writes (journal_bytes rows) (sym sound.ends)).ended told_then
-      (shut repairs same told_then) c now)))
+    module _
+        {q : Row} {past : List ℕ} (made : q ≡ row_at end session command)
+        (bytes : past ≡ row_body q ++ 0 ∷ []) where
+      -- meanwhile, until the row's writing ends
+      pub crash_row :
+          {S F : Type 0} {result : Result S F} {new : D}
+          → Writes moment left_since past result mid new → IsTrue (tells old.disk)
+          → LeavesOnly moment left_since old.disk new
+          (Meanwhile (rows_of old.entries) old.uncertain
+          (next_row (rows_of old.entries) session command))
+      crash_row {new = new} writes =
+          rw (← is) (λ told.
+          let told_then = rw (← same) at told in
+          appended moment left_since rows log.uncertain r sound.journal next sound.next log.disk
+          mid new past
+          (bytes ∙ ap (λ (x : Row). row_body x ++ 0 ∷ []) (row_is made))
+          ((repairs rows sound.ends).meanwhile told (sound.images told))
+          ((writes (journal_bytes rows) (sym sound.ends)).meanwhile told_then (shut told_then)))
+
+      -- in the gate's write: it is uncertain, before the row
+      pub sound_at_gate :
+          {new : D} {entries : List Entry} {uncertain : Option Row} {from to : ℕ}
+          {ready : Bool} (by : ℕ)
+          → uncertain ≡ Some q → After mid new (λ front. IsUnsure front past)
+          → Faults mid new entries uncertain by from to ready
+      sound_at_gate by so after =
+          faulted {mid = mid} by (Some q) so (rw (row_is made) next)
+          (rw bytes at (after (journal_bytes rows) (sym sound.ends) shut))
+
+      -- the row is there
+      pub sound_row :
+          {S F : Type 0} {wrote : S} {new : D} {entries : List Entry} {uncertain : Option Row}
+          {ready : Bool} {later : ℕ}
+          → uncertain ≡ None → Writes {E = F} moment left_since past (Ok wrote) mid new
+          → tells new ≡ tells mid
+          → entries ≡ log.entries ++ Kept q ∷ [] → room new ≡ room log.disk
+          → faults log.disk ≤ faults new → later ≡ end + length past → later < room new
+          → IsSoundJournal tells may_leave room faults
+          (record log { disk = new; entries = entries; uncertain = uncertain; ready = ready }) later
+      sound_row {new = new} {entries = entries} {ready = ready} {later = later} none writes
+          same_then pushed size le is_later within =
+          rw none
+          (sound_kept tells may_leave room faults log end later new entries q ready sound pushed size
+          le (is_later ∙ ap (λ (l : List ℕ). end + length l) bytes) within (rw (row_is made) next)
+          (λ told c now. let told_then = rw same_then at told in
+          opened_shut rows q past c bytes
+          ((writes (journal_bytes rows) (sym sound.ends)).ended told_then (shut told_then) c now)))

@@ -51,10 +51,8 @@ closing may_leave {rows = rows} {found = found} {s = s} {items = items} {end = e
 pub returns-in_default-write_through-clause-crash :
     goal.returns-in_default-write_through-clause-crash
 returns-in_default-write_through-clause-crash g c rows all each told =
-    let told_then : IsTrue (g.D.Disk.tells c.sync.new.self) =
-    subst (λ (b : Bool). IsTrue b) (sym c.sync.ensures.kept.telling) told in
-    let told_last : IsTrue (g.D.Disk.tells c.read_all.new.disk) =
-    subst (λ (b : Bool). IsTrue b) (sym c.read_all.ensures.kept.same.telling) told_then in
+    let told_then = rw (← c.sync.ensures.kept.telling) at told in
+    let told_last = rw (← c.read_all.ensures.kept.same.telling) at told_then in
     closing g.D.Disk.may_leave
     (looked g.D.Disk.may_leave (each told) (g.met.D.Disk.only_now _) c.sync.ensures.time (c.sync.ensures.crash told)
     (c.read_all.ensures.kept.moments told_then))
@@ -67,15 +65,12 @@ returns-in_default-write_through-clause-crash g c rows all each told =
 pub returns-then-index-eq0-clause-crash : goal.returns-then-index-eq0-clause-crash
 returns-then-index-eq0-clause-crash g c rows all each told =
     looked g.D.Disk.may_leave (each told) (g.met.D.Disk.only_now _) c.sync.ensures.time (c.sync.ensures.crash told)
-    (c.read_all.ensures.kept.moments
-    (subst (λ (b : Bool). IsTrue b) (sym c.sync.ensures.kept.telling) told))
+    (c.read_all.ensures.kept.moments (rw c.sync.ensures.kept.telling told))
 
 pub returns-clause-crash : goal.returns-clause-crash
 returns-clause-crash g c rows all each told =
-    let told_then : IsTrue (g.D.Disk.tells c.sync.new.self) =
-    subst (λ (b : Bool). IsTrue b) (sym c.sync.ensures.kept.telling) told in
-    let told_last : IsTrue (g.D.Disk.tells c.read_all.new.disk) =
-    subst (λ (b : Bool). IsTrue b) (sym c.read_all.ensures.kept.same.telling) told_then in
+    let told_then = rw (← c.sync.ensures.kept.telling) at told in
+    let told_last = rw (← c.read_all.ensures.kept.same.telling) at told_then in
     closing g.D.Disk.may_leave
     (looked g.D.Disk.may_leave (each told) (g.met.D.Disk.only_now _) c.sync.ensures.time (c.sync.ensures.crash told)
     (c.read_all.ensures.kept.moments told_then))
@@ -87,21 +82,15 @@ returns-clause-crash g c rows all each told =
 
 pub returns-clause-shut : goal.returns-clause-shut
 returns-clause-shut g c told_end f now =
-    let d = c.args.disk.now in
-    let told_last = subst (λ (b : Bool). IsTrue b) c.write_through.ensures.kept.telling told_end in
-    let told_then = subst (λ (b : Bool). IsTrue b) c.read_all.ensures.kept.same.telling told_last in
-    let told = subst (λ (b : Bool). IsTrue b) c.sync.ensures.kept.telling told_then in
+    let told_last = rw c.write_through.ensures.kept.telling at told_end in
+    let told_then = rw c.read_all.ensures.kept.same.telling at told_last in
+    let told = rw c.sync.ensures.kept.telling at told_then in
     let p = c.in_ok-parsed.parsed in
-    let s = g.D.Disk.seen d in
+    let s = g.D.Disk.seen c.args.disk.now in
     let bytes_are : c.deref.result.now ≡ s =
     c.deref.ensures.value ∙ c.in_ok-bytes.ensures.ok told_then ∙ c.in-Ok.ensures.seen told in
-    let stands : SpellsRows s (rows_of p.history.list) =
-    subst (λ (l : List ℕ). SpellsRows l (rows_of p.history.list))
-    bytes_are c.in_ok-parsed.ensures.ok.0 in
     let seen_is : g.D.Disk.seen c.read_all.new.disk ≡ s =
     c.in_ok-bytes.ensures.seen told_then ∙ c.in-Ok.ensures.seen told in
-    let now_is : f ≡ file_written s p.end (0 ∷ []) =
-    c.in-Ok-write_through.ensures.ok told_last f now
-    ∙ ap (λ (l : List ℕ). file_written l p.end (0 ∷ [])) seen_is in
-    subst (λ (l : List ℕ). IsShut (journal_bytes (rows_of p.history.list)) l) (sym now_is)
-    (reshut (rows_of p.history.list) s p.end stands c.in_ok-parsed.ensures.ok.1)
+    rw (c.in-Ok-write_through.ensures.ok told_last f now, seen_is)
+    (reshut (rows_of p.history.list) s p.end (rw bytes_are at c.in_ok-parsed.ensures.ok.0)
+    c.in_ok-parsed.ensures.ok.1)

@@ -11,9 +11,7 @@ returns-clause-ok c =
     let spells : SpellsRows c.args.bytes.now c.list.inside.list.items = search rules in
     let same : rows ≡ rows_of c.in_ok-history.history.list =
     sym (ap rows_of c.in_ok-history.ensures ∙ rows_of-all rows) in
-    subst (λ (l : List Row).
-    SpellsRows c.args.bytes.now l × (c.list.inside.end ≡ length (journal_bytes l))) same
-    (spells, c.list.invariant.1)
+    rw (← same) (spells, c.list.invariant.1)
 
 pub returns-clause-fresh : goal.returns-clause-fresh
 returns-clause-fresh c =
