@@ -1,7 +1,7 @@
 -- What an append leaves, over plain variables: `log` is the journal by its parts, `old` the same as
 -- contracts see it.
 use Rattle.std.proofs.Common.{◌≡◌, ◌⊎◌, ℕ, ◌+◌, ◌<◌, ◌≤◌, Bool, List, [], ◌∷◌, ◌++◌, length}
-use Rattle.std.proofs.Common.{refl, sym, ◌∙◌, ap, subst, arith}
+use Rattle.std.proofs.Common.{refl, sym, ◌∙◌, ap, arith}
 use Rattle.std.specs.Prelude.{IsTrue, Option, Some, None, IfSome, Result, Ok}
 use Rattle.disk_model.specs.Work.{Triple}
 use Rattle.disk_model.specs.Disk.{LeavesOnly, EachImage, Rose, Holds}

@@ -1,11 +1,10 @@
 -- One entry more, and what the images of a journal spell.
 use Rattle.std.proofs.Common.{◌≡◌, ◌⊎◌, inl, inr, ℕ, ◌+◌, ◌≤◌, List, [], ◌∷◌, ◌++◌}
-use Rattle.std.proofs.Common.{length, get_or, refl, sym, ◌∙◌, ap, arith, length-append}
+use Rattle.std.proofs.Common.{length, get_or, refl, sym, ap, arith, length-append}
 use Rattle.std.specs.Prelude.{Bool, false, Option, Some, None, IfSome, is_none, Result}
 use Rattle.disk_model.specs.Work.{Triple}
 use Rattle.std.proofs.lemmas.Bool.{cases_eq}
-use Rattle.disk_model.specs.Disk.{Holds, Rose}
-use Rattle.disk_model.proofs.Torn.{holds_rest}
+use Rattle.disk_model.specs.Disk.{Rose}
 use Rattle.gate_journal.specs.declared.row.Row.{Row}
 use Rattle.gate_journal.specs.declared.entry.Entry.{Entry}
 use Rattle.gate_journal.specs.declared.entry.Entry.TheVariants.{Kept, Faulted}

@@ -1,10 +1,10 @@
 -- What the device calls of an opening leave.
 use Rattle.std.proofs.Common.{◌≡◌, ◌≢◌, inl, inr, ℕ, List, [], ◌∷◌, ◌++◌}
-use Rattle.std.proofs.Common.{length, get_or, sym, ◌∙◌, ap, arith, length-append}
+use Rattle.std.proofs.Common.{length, get_or, sym, ◌∙◌, ap, arith}
 use Rattle.std.proofs.lemmas.Bool.{cases_eq}
-use Rattle.disk_model.specs.Disk.{Elapses, Holds, LeavesOnly, Torn, file_written}
+use Rattle.disk_model.specs.Disk.{Elapses, LeavesOnly, Torn, file_written}
 use Rattle.disk_model.proofs.Moments.{started, goes_on, weaker, and_then}
-use Rattle.disk_model.proofs.Torn.{holds_kept, holds_rest, holds_both, torn_written, holds_written}
+use Rattle.disk_model.proofs.Torn.{holds_kept, holds_both, torn_written, holds_written}
 use Rattle.gate_journal.specs.declared.row.Row.{Row}
 use Rattle.gate_journal.specs.Gate.{IsShut}
 use Rattle.gate_journal.specs.Rows.{SpellsRows, row_body, journal_bytes, IsJournal}

@@ -8,9 +8,8 @@ use Rattle.std.specs.Int.{w16, to_be_bytes}
 use Rattle.std.proofs.lemmas.Bool.{cases_lt, cases_eq, cases_Bool}
 use Rattle.std.proofs.lemmas.Bool.Decides.{Decides-eqb}
 use Rattle.std.proofs.lemmas.Slice.Eq.{starts_is}
-use Rattle.std.proofs.lemmas.Nat.{be_bytes_2}
-use Rattle.std.proofs.lemmas.List.{length-take, length-drop, get_or-append_right, get_or-drop}
-use Rattle.std.proofs.lemmas.List.{get_or-take, get_or_past, take-append-drop, drop-drop, drop_more}
+use Rattle.std.proofs.lemmas.List.{length-take, length-drop}
+use Rattle.std.proofs.lemmas.List.{drop_more}
 use Rattle.byteorder.specs.Endian.{big_number}
 use Rattle.line_words.specs.Field.{is_key}
 use Rattle.line_words.specs.Keycode.{is_code}
@@ -18,7 +17,7 @@ use Rattle.story_text.specs.Text.{IsText}
 use Rattle.story_text.specs.Reading.{text_of_bytes}
 use Rattle.disk_model.proofs.Torn.{holds_front}
 use Rattle.gate_journal.specs.declared.command.Command.{Command}
-use Rattle.gate_journal.specs.declared.command.Command.TheVariants.{Open, Line, Char, File, Close}
+use Rattle.gate_journal.specs.declared.command.Command.TheVariants.{Close}
 use Rattle.gate_journal.specs.declared.row.Row.{Row}
 use Rattle.gate_journal.specs.Command.{IsCommand}
 use Rattle.gate_journal.specs.Rows.{journal_header, command_kind, payload_of}

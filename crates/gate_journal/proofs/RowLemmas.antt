@@ -1,23 +1,19 @@
 -- What files of rows spell.
-use Rattle.std.proofs.Common.{◌≡◌, ◌≢◌, ◌⊎◌, inl, inr, ℕ, zero, suc, ◌+◌, ◌-◌, ◌*◌, ◌/◌, ◌%◌}
-use Rattle.std.proofs.Common.{◌<◌, ◌≤◌, true, false, List, [], ◌∷◌, ◌++◌, length, get_or, take}
+use Rattle.std.proofs.Common.{◌≡◌, ◌≢◌, ◌⊎◌, inl, inr, ℕ, zero, suc, ◌+◌, ◌*◌, ◌/◌, ◌%◌}
+use Rattle.std.proofs.Common.{◌<◌, ◌≤◌, List, [], ◌∷◌, ◌++◌, length, get_or, take}
 use Rattle.std.proofs.Common.{drop, refl, sym, ◌∙◌, ap, subst, arith, length-append, append_assoc}
-use Rattle.std.specs.Prelude.{nat_eq}
-use Rattle.std.specs.List.{starts_with}
-use Rattle.std.specs.Int.{w16, to_be_bytes}
 use Rattle.std.proofs.lemmas.List.{append-nil, take_at, drop_at, get_or-take, get_or-drop}
 use Rattle.std.proofs.lemmas.List.{length-take, length-drop, ext_get_or, drop_more, drop-drop}
 use Rattle.std.proofs.lemmas.List.{take-append-drop}
 use Rattle.disk_model.specs.Disk.{Holds}
 use Rattle.disk_model.proofs.Torn.{holds_front, holds_rest, holds_both}
-use Rattle.gate_journal.specs.declared.command.Command.{Command}
 use Rattle.gate_journal.specs.declared.row.Row.{Row}
 use Rattle.gate_journal.specs.Command.{IsCommand}
 use Rattle.gate_journal.specs.Gate.{IsShut, IsUnsure}
 use Rattle.gate_journal.specs.Rows.{journal_header, command_kind, payload_of, row_body}
 use Rattle.gate_journal.specs.Rows.{rows_behind_open_gates, journal_bytes, IsNext}
 use Rattle.gate_journal.specs.Rows.{EachNext, IsJournal, SpellsRows, IsCorrupt, NoRowBehind}
-use Rattle.gate_journal.specs.Parsing.{BeginsWithRow, IsNoNext}
+use Rattle.gate_journal.specs.Parsing.{BeginsWithRow}
 use Rattle.gate_journal.proofs.PayloadLemmas.{same_command}
 use Rattle.gate_journal.proofs.LimitLemmas.{payload_most}
 

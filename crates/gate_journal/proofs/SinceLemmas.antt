@@ -1,5 +1,5 @@
 -- What holds of a journal since it was opened, with one entry more.
-use Rattle.std.proofs.Common.{◌≡◌, ◌⊎◌, inl, inr, ⊎_elim, ℕ, ◌+◌, ◌<◌, ◌≤◌, max, Bool}
+use Rattle.std.proofs.Common.{◌≡◌, ◌⊎◌, inl, inr, ⊎_elim, ℕ, ◌+◌, ◌≤◌, max, Bool}
 use Rattle.std.proofs.Common.{List, [], ◌∷◌, ◌++◌, length, take, drop, refl, sym, ◌∙◌, ap, subst}
 use Rattle.std.proofs.Common.{arith, append_assoc, length-append, Option, Some, None}
 use Rattle.std.specs.Prelude.{IsTrue}
@@ -16,10 +16,8 @@ use Rattle.gate_journal.specs.Rows.{row_body, payload_of, rows_behind_open_gates
 use Rattle.gate_journal.specs.Rows.{journal_bytes, EachNext, IsJournal, MayStand}
 use Rattle.gate_journal.specs.Log.{Log, IsBetween, IsOfSession, IsSinceOpened, entry_number}
 use Rattle.gate_journal.specs.Log.{IsSoundJournal, rows_kept, MayOpen, MaySpell}
-use Rattle.gate_journal.specs.Log.{Meanwhile, next_row, rows_found, rows_of}
-use Rattle.gate_journal.specs.Command.{IsCommand}
+use Rattle.gate_journal.specs.Log.{Meanwhile, next_row, rows_of}
 use Rattle.gate_journal.proofs.LimitLemmas.{payload_most}
-use Rattle.gate_journal.proofs.LogLemmas.{rows_of-all}
 
 pub rows_of-append : (xs ys : List Entry) → rows_of (xs ++ ys) ≡ rows_of xs ++ rows_of ys
 rows_of-append [] ys = refl

@@ -1,6 +1,6 @@
 -- How a journal stays sound.
 use Rattle.std.proofs.Common.{◌≡◌, ◌⊎◌, inl, inr, ℕ, ◌+◌, ◌<◌, ◌≤◌, Bool, List, [], ◌∷◌}
-use Rattle.std.proofs.Common.{◌++◌, length, sym, ◌∙◌, ap, subst, arith, append_assoc}
+use Rattle.std.proofs.Common.{◌++◌, length, sym, ◌∙◌, ap, arith}
 use Rattle.std.specs.Prelude.{Option, None, IfSome}
 use Rattle.disk_model.specs.Disk.{LeavesOnly, Rose, Holds, EachImage}
 use Rattle.disk_model.proofs.Moments.{weaker, and_then}
@@ -9,7 +9,7 @@ use Rattle.gate_journal.specs.declared.entry.Entry.{Entry}
 use Rattle.gate_journal.specs.declared.entry.Entry.TheVariants.{Kept, Faulted}
 use Rattle.gate_journal.specs.Gate.{IsShut, IsUnsure}
 use Rattle.gate_journal.specs.Rows.{row_body, journal_bytes, IsJournal, IsNext}
-use Rattle.gate_journal.specs.Log.{Log, IsSoundJournal, rows_of, Rises, StandsInImage, Meanwhile}
+use Rattle.gate_journal.specs.Log.{Log, IsSoundJournal, rows_of, StandsInImage, Meanwhile}
 use Rattle.gate_journal.proofs.RowLemmas.{journal_push, shut_behind}
 use Rattle.gate_journal.proofs.LogLemmas.{rows_of-kept, rows_of-faulted, rises-kept}
 use Rattle.gate_journal.proofs.LogLemmas.{rises-faulted, closed_shut, closed_unsure}

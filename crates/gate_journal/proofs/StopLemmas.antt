@@ -1,7 +1,5 @@
 -- What is found after a stop.
 use Rattle.std.proofs.Common.{inl, inr, ⊎_elim, ℕ, List, [], ◌∷◌, ◌++◌}
-use Rattle.std.proofs.Common.{length, get_or, arith, length-append}
-use Rattle.std.proofs.lemmas.Bool.{cases_eq}
 use Rattle.std.specs.Prelude.{Option, Some, None}
 use Rattle.disk_model.proofs.Torn.{holds_front}
 use Rattle.gate_journal.specs.declared.row.Row.{Row}
@@ -10,8 +8,8 @@ use Rattle.gate_journal.specs.declared.fault.JournalFault.TheVariants.{NotJourna
 use Rattle.gate_journal.specs.declared.fault.JournalFault.TheVariants.{Corrupt, NoMemory}
 use Rattle.gate_journal.specs.declared.fault.JournalFault.TheVariants.{DiskFault as on_disk}
 use Rattle.gate_journal.specs.Faults.{Explains, IsOfDisk}
-use Rattle.gate_journal.specs.Rows.{journal_header, row_body, rows_behind_open_gates}
-use Rattle.gate_journal.specs.Rows.{journal_bytes, SpellsRows, IsJournal}
+use Rattle.gate_journal.specs.Rows.{journal_header, rows_behind_open_gates}
+use Rattle.gate_journal.specs.Rows.{SpellsRows, IsJournal}
 use Rattle.gate_journal.specs.Log.{MaySpell, MayFind, MayOpen}
 use Rattle.gate_journal.specs.Laws.{FindsRows, FindsThese}
 use Rattle.gate_journal.proofs.RowLemmas.{one_list, never_both, spells_shut}

@@ -1,5 +1,4 @@
-use Rattle.std.proofs.Common.{List, ℕ, Bool, sym, subst}
-use Rattle.std.specs.Prelude.{IsTrue}
+use Rattle.std.proofs.Common.{List, ℕ}
 use Rattle.disk_model.specs.Disk.{AfterWrite, Elapses, LeavesOnly, NoneNew}
 use Rattle.disk_model.proofs.Torn.{torn_same}
 use Rattle.gate_journal.proofs.Opening.{one_call, and_more}

@@ -1,10 +1,8 @@
-use Rattle.std.proofs.Common.{◌≡◌, ◌≢◌, ◌<◌, [], ◌∷◌, ℕ, List, Bool}
-use Rattle.std.proofs.Common.{sym, ◌∙◌, ap, subst, arith, length, get_or}
-use Rattle.std.specs.Prelude.{IsTrue}
+use Rattle.std.proofs.Common.{◌≡◌, ◌≢◌, ℕ, List}
+use Rattle.std.proofs.Common.{◌∙◌, ap, subst, arith, length, get_or}
 use Rattle.std.proofs.lemmas.List.{get_or_read}
-use Rattle.disk_model.specs.Disk.{file_written, AfterWrite, Elapses, LeavesOnly, NoneNew}
+use Rattle.disk_model.specs.Disk.{AfterWrite, Elapses, LeavesOnly, NoneNew}
 use Rattle.disk_model.specs.Disk.{Only, Torn}
-use Rattle.gate_journal.specs.Gate.{IsShut}
 use Rattle.gate_journal.specs.declared.row.Row.{Row}
 use Rattle.gate_journal.specs.Rows.{journal_bytes, IsJournal, SpellsRows}
 use Rattle.gate_journal.specs.Log.{MayOpen, rows_of}

@@ -1,7 +1,7 @@
-use Rattle.std.proofs.Common.{◌≡◌, ◌∙◌, ap, length, List, rules, subst, sym}
+use Rattle.std.proofs.Common.{◌≡◌, ◌∙◌, ap, List, rules, sym}
 use Rattle.gate_journal.specs.declared.row.Row.{Row}
 use Rattle.gate_journal.specs.Log.{rows_kept, rows_of}
-use Rattle.gate_journal.specs.Rows.{journal_bytes, SpellsRows}
+use Rattle.gate_journal.specs.Rows.{SpellsRows}
 use Rattle.gate_journal.proofs.LogLemmas.{rows_of-all}
 use Rattle.gate_journal.proofs.parse.parse.Goals as goal
 

@@ -1,12 +1,10 @@
 use Rattle.std.proofs.Common.{◌≡◌, ◌≢◌, ◌++◌, ◌∷◌, [], ◌+◌, ◌-◌, ℕ, List, length, get_or}
-use Rattle.std.proofs.Common.{take, drop, false, refl, sym, ◌∙◌, ap, subst, arith, rules}
+use Rattle.std.proofs.Common.{take, drop, false, refl, ◌∙◌, ap, subst, arith, rules}
 use Rattle.std.specs.Prelude.{nat_eq}
 use Rattle.std.specs.List.{starts_with}
 use Rattle.std.proofs.lemmas.List.{take_rest, nil_from_length}
-use Rattle.gate_journal.specs.declared.row.Row.{Row}
 use Rattle.gate_journal.specs.Parsing.{BeginsWithRow, IsNoNext}
-use Rattle.gate_journal.specs.Rows.{journal_header, journal_bytes, payload_of, SpellsRows}
-use Rattle.gate_journal.specs.Seats.{CountsRows}
+use Rattle.gate_journal.specs.Rows.{journal_header, journal_bytes, payload_of}
 use Rattle.gate_journal.proofs.RowLemmas.{spells_split, parse_step}
 use Rattle.gate_journal.proofs.CorruptLemmas.{corrupt_end, corrupt_row, no_header}
 use Rattle.gate_journal.proofs.parse.read_rows.Goals as goal

@@ -1,10 +1,7 @@
-use Rattle.std.proofs.Common.{◌≡◌, ℕ, List, length, drop, refl, ◌∙◌, ap, subst, arith, rules}
-use Rattle.std.specs.Prelude.{MatchOption}
+use Rattle.std.proofs.Common.{◌≡◌, ℕ, List, length, drop, refl, ◌∙◌, ap, arith, rules}
 use Rattle.std.proofs.lemmas.List.{take_rest}
 use Rattle.byteorder.specs.Endian.{big_number}
-use Rattle.gate_journal.specs.declared.command.Command.{Command}
 use Rattle.gate_journal.specs.declared.command.Command.TheVariants.{Char}
-use Rattle.gate_journal.specs.Command.{IsCommand}
 use Rattle.gate_journal.specs.Payload.{char_in}
 use Rattle.gate_journal.proofs.PayloadLemmas.{AreBytes, only_char, spells_char, checked_is}
 use Rattle.gate_journal.proofs.payload.read_char.Goals as goal

@@ -1,12 +1,10 @@
 use Rattle.std.proofs.Common.{◌≡◌, ◌-◌, ◌≤◌, ℕ, List, length, take, drop}
-use Rattle.std.proofs.Common.{refl, sym, ◌∙◌, ap, subst, arith, rules}
-use Rattle.std.specs.Prelude.{Some, None, MatchOption}
+use Rattle.std.proofs.Common.{refl, sym, ◌∙◌, ap, arith, rules}
+use Rattle.std.specs.Prelude.{Some, None}
 use Rattle.std.proofs.lemmas.List.{take_rest}
 use Rattle.byteorder.specs.Endian.{big_number}
 use Rattle.story_text.specs.Reading.{text_of_bytes}
-use Rattle.gate_journal.specs.declared.command.Command.{Command}
 use Rattle.gate_journal.specs.declared.command.Command.TheVariants.{Line}
-use Rattle.gate_journal.specs.Command.{IsCommand}
 use Rattle.gate_journal.specs.Payload.{line_in}
 use Rattle.gate_journal.proofs.PayloadLemmas.{AreBytes, only_line, spells_line, checked_is}
 use Rattle.gate_journal.proofs.PayloadLemmas.{text_found, text_missing, line_text}

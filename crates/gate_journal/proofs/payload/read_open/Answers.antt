@@ -1,9 +1,6 @@
 use Rattle.std.proofs.Common.{◌≡◌, ◌+◌, ◌-◌, ◌≤◌, ℕ, List, length, get_or}
-use Rattle.std.proofs.Common.{take, drop, refl, ◌∙◌, ap, subst, arith}
-use Rattle.std.specs.Prelude.{MatchOption}
+use Rattle.std.proofs.Common.{take, drop, refl, ◌∙◌, ap, arith}
 use Rattle.std.proofs.lemmas.List.{take_rest, length-take, length-drop}
-use Rattle.gate_journal.specs.declared.command.Command.{Command}
-use Rattle.gate_journal.specs.Command.{IsCommand}
 use Rattle.gate_journal.specs.Payload.{open_in}
 use Rattle.gate_journal.proofs.PayloadLemmas.{AreBytes, only_open, spells_whole}
 use Rattle.gate_journal.proofs.PayloadLemmas.{checked_is, key_in, after_in}

@@ -1,9 +1,6 @@
-use Rattle.std.proofs.Common.{◌≡◌, ◌↔◌, List, sym, ◌∙◌, ap, subst}
-use Rattle.std.specs.Prelude.{IsTrue}
-use Rattle.gate_journal.specs.declared.row.Row.{Row}
+use Rattle.std.proofs.Common.{◌≡◌, sym, ◌∙◌, ap}
 use Rattle.gate_journal.specs.History.{Entries}
 use Rattle.gate_journal.specs.Log.{rows_of}
-use Rattle.gate_journal.specs.Rows.{MayStand}
 use Rattle.gate_journal.proofs.HistoryLemmas.{rows_of-woven}
 use Rattle.gate_journal.proofs.history.History.may_stand.Goals as goal
 

@@ -1,6 +1,4 @@
-use Rattle.std.proofs.Common.{◌≡◌, sym, ◌∙◌, ap, subst, List}
-use Rattle.std.specs.Prelude.{MatchOption, slice_get, Some, None}
-use Rattle.gate_journal.specs.declared.row.Row.{Row}
+use Rattle.std.proofs.Common.{◌≡◌, sym, ◌∙◌, ap}
 use Rattle.gate_journal.specs.History.{Entries}
 use Rattle.gate_journal.specs.Log.{rows_of}
 use Rattle.gate_journal.proofs.HistoryLemmas.{rows_of-woven}

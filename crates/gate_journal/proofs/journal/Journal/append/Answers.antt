@@ -1,6 +1,5 @@
-use Rattle.std.proofs.Common.{◌≡◌, ◌+◌, ◌++◌, ◌∷◌, [], ◌∙◌, ℕ, Bool}
-use Rattle.std.proofs.Common.{refl, ap, subst, arith, length, rules}
-use Rattle.std.specs.Prelude.{IsTrue}
+use Rattle.std.proofs.Common.{◌≡◌, ◌+◌, ◌++◌, ◌∷◌, [], ◌∙◌, ℕ}
+use Rattle.std.proofs.Common.{refl, ap, arith, length, rules}
 use Rattle.gate_journal.specs.Rows.{row_body}
 use Rattle.gate_journal.specs.declared.row.Row.{Row}
 use Rattle.disk_model.proofs.Moments.{holds_now}

@@ -1,8 +1,6 @@
-use Rattle.std.proofs.Common.{List, ℕ, ◌∙◌, ap, subst, sym, arith}
+use Rattle.std.proofs.Common.{ℕ, ◌∙◌, ap, arith}
 use Rattle.std.specs.Prelude.{slice_index}
-use Rattle.gate_journal.specs.declared.entry.Entry.{Entry}
-use Rattle.std.specs.Prelude.{None, false}
-use Rattle.gate_journal.specs.Log.{rows_of, Rises, IsSinceOpened}
+use Rattle.gate_journal.specs.Log.{rows_of}
 use Rattle.gate_journal.proofs.LogLemmas.{rises-all}
 use Rattle.gate_journal.proofs.SinceLemmas.{since_begun}
 use Rattle.gate_journal.proofs.journal.Journal.open.Goals as goal

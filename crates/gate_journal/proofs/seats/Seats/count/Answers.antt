@@ -1,8 +1,7 @@
-use Rattle.std.proofs.Common.{◌++◌, ◌∷◌, [], ◌≡◌, ◌+◌, min, sym, ◌∙◌, ap, length, arith, rules}
+use Rattle.std.proofs.Common.{◌++◌, ◌∷◌, [], ◌≡◌, min, ◌∙◌, length, arith, rules}
 use Rattle.std.specs.Prelude.{slice_index, if◌then◌else◌}
 use Rattle.std.proofs.lemmas.List.{length_push}
 use Rattle.gate_journal.specs.Seats.{use_of}
-use Rattle.gate_journal.specs.declared.command.Command.{Command}
 use Rattle.gate_journal.specs.Rows.{commands_of, is_close}
 use Rattle.gate_journal.proofs.SeatLemmas.{counted, is_free-push}
 use Rattle.gate_journal.proofs.seats.Seats.count.Goals as goal

@@ -1,8 +1,6 @@
-use Rattle.std.proofs.Common.{◌≡◌, ◌++◌, ◌∷◌, [], ◌+◌, List, take, refl, sym, ◌∙◌, ap, subst}
+use Rattle.std.proofs.Common.{◌≡◌, ◌++◌, ◌∷◌, [], ◌+◌, take, refl, sym, ◌∙◌, ap}
 use Rattle.std.proofs.lemmas.List.{take_all, take_more}
-use Rattle.gate_journal.specs.Seats.{CountsRows}
 use Rattle.gate_journal.specs.declared.row.Row.{Row}
-use Rattle.gate_journal.specs.declared.seats.Seats.{Seats}
 use Rattle.gate_journal.proofs.SeatLemmas.{counted_other}
 use Rattle.gate_journal.proofs.seats.Seats.of.Goals as goal
 use Rattle.gate_journal.proofs.seats.Seats.of.Goals.{then-row-lt64, else-row-lt64}
