@@ -4,7 +4,7 @@ use Rattle.std.specs.Prelude.{if◌then◌else◌, Option, Some, None}
 use Rattle.snap_store.specs.declared.side.Side.{Side}
 use Rattle.snap_store.specs.declared.side.Side.TheVariants.{A, B}
 use Rattle.snap_store.specs.declared.slot.Slot.{Slot}
-use Rattle.snap_store.specs.declared.slot.Slot.TheVariants.{Closed, Open, Unsure}
+use Rattle.snap_store.specs.declared.slot.Slot.TheVariants.{Open}
 use Rattle.snap_store.specs.declared.slot.Slots.{Slots}
 use Rattle.snap_store.specs.Slots.{opposite_side, slot_of, is_before, newest_side}
 use Rattle.snap_store.specs.Slots.{beside, taken_side}

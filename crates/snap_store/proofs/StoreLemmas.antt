@@ -12,7 +12,7 @@ use Rattle.snap_store.specs.declared.slot.Slot.{Slot}
 use Rattle.snap_store.specs.declared.slot.Slot.TheVariants.{Closed, Open, Unsure}
 use Rattle.snap_store.specs.declared.slot.Slots.{Slots}
 use Rattle.snap_store.specs.File.{Stored, has_header, gate_byte, is_whole, area_on_side, whole_area}
-use Rattle.snap_store.specs.File.{is_open_area, open_area, openable_area, area_place, count_at}
+use Rattle.snap_store.specs.File.{open_area, openable_area, area_place, count_at}
 use Rattle.snap_store.specs.Slots.{opposite_side, slot_of, slot_in, newest_side}
 use Rattle.snap_store.specs.Images.{IsAreaOf, StandsOnSide, IsLaid}
 use Rattle.snap_store.specs.Store.{Snapshots, store_area, area_held, IsOpenIn, IsImageOf}

@@ -1,8 +1,5 @@
-use Rattle.std.proofs.Common.{◌∙◌, ◌∷◌, [], sym, subst, ℕ}
-use Rattle.disk_model.specs.Disk.{Torn, file_written}
+use Rattle.std.proofs.Common.{◌∙◌, ◌∷◌, [], sym}
 use Rattle.disk_model.proofs.WorkLaws.{through}
-use Rattle.snap_store.specs.declared.slot.Slot.TheVariants.{Closed}
-use Rattle.snap_store.specs.Images.{IsLaid}
 use Rattle.snap_store.proofs.LaidLemmas.{laid_loosened, laid_closing, laid_shut}
 use Rattle.snap_store.proofs.steps.close_gate.Goals as goal
 

@@ -1,10 +1,7 @@
 use Rattle.std.proofs.Common.{◌≡◌, ◌∙◌, ◌+◌, ap, subst, sym, arith, rules, length, Bool, List, ℕ}
-use Rattle.std.specs.Prelude.{IsTrue, Some}
-use Rattle.disk_model.specs.Disk.{file_written}
+use Rattle.std.specs.Prelude.{IsTrue}
 use Rattle.disk_model.proofs.WorkLaws.{on_ok, then_, through}
-use Rattle.snap_store.specs.declared.slot.Slot.TheVariants.{Unsure}
-use Rattle.snap_store.specs.File.{area_with, side_start, head_bytes}
-use Rattle.snap_store.specs.Images.{IsLaid}
+use Rattle.snap_store.specs.File.{head_bytes}
 use Rattle.snap_store.proofs.AreaWritten.{length-head}
 use Rattle.snap_store.proofs.LaidLemmas.{laid_area_torn, laid_filled}
 use Rattle.snap_store.proofs.PutLemmas.{area_begun}

@@ -1,9 +1,6 @@
-use Rattle.std.proofs.Common.{◌∷◌, [], sym, subst, ℕ}
+use Rattle.std.proofs.Common.{◌∷◌, []}
 use Rattle.std.specs.Prelude.{Some}
-use Rattle.disk_model.specs.Disk.{Torn, file_written}
 use Rattle.disk_model.proofs.WorkLaws.{through}
-use Rattle.snap_store.specs.declared.slot.Slot.TheVariants.{Open}
-use Rattle.snap_store.specs.Images.{IsLaid}
 use Rattle.snap_store.proofs.LaidLemmas.{laid_gate_torn, laid_opened}
 use Rattle.snap_store.proofs.steps.open_gate.Goals as goal
 

@@ -1,4 +1,4 @@
-use Rattle.std.proofs.Common.{◌≡◌, ◌∙◌, sym, ap, subst}
+use Rattle.std.proofs.Common.{◌≡◌, ◌∙◌, ap, subst}
 use Rattle.disk_model.specs.Disk.{EachImage}
 use Rattle.disk_model.proofs.WorkLaws.{done, failed}
 use Rattle.snap_store.specs.declared.side.Side.{Side}

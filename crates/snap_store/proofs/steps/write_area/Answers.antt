@@ -1,10 +1,7 @@
-use Rattle.std.proofs.Common.{inl, inr, sym, subst, refl}
+use Rattle.std.proofs.Common.{inl, inr, refl}
 use Rattle.std.specs.Prelude.{Some}
-use Rattle.disk_model.specs.Disk.{EachImage}
 use Rattle.disk_model.proofs.WorkLaws.{done, failed, images_after, images_meanwhile, looser, then_}
-use Rattle.snap_store.specs.declared.slot.Slot.{Slot}
 use Rattle.snap_store.specs.File.{area_with}
-use Rattle.snap_store.specs.Images.{IsLaid}
 use Rattle.snap_store.proofs.steps.write_area.Goals as goal
 
 -- the gate wasn't closed

@@ -1,8 +1,4 @@
-use Rattle.std.proofs.Common.{refl, sym, subst}
-use Rattle.std.specs.Prelude.{IsTrue, IfSome, Option}
-use Rattle.snap_store.specs.declared.area.Area.{Area}
-use Rattle.snap_store.specs.File.{newest_area}
-use Rattle.snap_store.specs.Store.{Snapshots, IsGiven}
+use Rattle.std.proofs.Common.{refl}
 use Rattle.snap_store.proofs.StoreLemmas.{sound_looked, sound_images, given_is}
 use Rattle.snap_store.proofs.store.Store.newest.Goals as goal
 
