@@ -13,7 +13,9 @@ use Rattle.gate_journal.specs.Gate.{IsShut, IsUnsure}
 use Rattle.gate_journal.specs.Rows.{row_body, journal_bytes, IsNext, MayStand}
 use Rattle.gate_journal.specs.Log.{Log, IsSoundJournal, rows_of, next_row}
 use Rattle.gate_journal.specs.Log.{StandsInImage, Meanwhile, MaySpell, MayOpen}
-use Rattle.gate_journal.proofs.LogLemmas.{rows_of-kept, rows_of-faulted, stands_well, stands_closed}
+use Rattle.std.proofs.lemmas.List.{append-nil}
+use Rattle.gate_journal.proofs.SinceLemmas.{rows_of-append}
+use Rattle.gate_journal.proofs.LogLemmas.{stands_well, stands_closed}
 use Rattle.gate_journal.proofs.Sound.{sound_faulted, sound_kept, settled, appended, opened_shut}
 
 -- what a row or a fault adds to the rows
@@ -22,7 +24,8 @@ pub faulted_rows :
     → log ≡ old → entries ≡ log.entries ++ Faulted by from to ∷ []
     → rows_of entries ≡ rows_of old.entries
 faulted_rows {D = D} {log = log} by from to is pushed =
-    ap rows_of pushed ∙ rows_of-faulted log.entries by from to
+    ap rows_of pushed ∙ rows_of-append log.entries (Faulted by from to ∷ [])
+    ∙ append-nil (rows_of log.entries)
     ∙ ap (λ (l : Log D). rows_of l.entries) is
 
 module _
@@ -109,7 +112,7 @@ module _
       → q ≡ row_at end session command
       → rows_of entries ≡ rows_of old.entries ++ next_row (rows_of old.entries) session command ∷ []
   kept_rows {q = q} pushed made =
-      rw (← is) (ap rows_of pushed ∙ rows_of-kept log.entries q
+      rw (← is) (ap rows_of pushed ∙ rows_of-append log.entries (Kept q ∷ [])
       ∙ ap (λ (x : Row). rows ++ x ∷ []) (row_is made))
 
   -- the journal is sound with a fault more, which came after this much was done

@@ -1,6 +1,8 @@
 -- Rows and marks as one list.
 use Rattle.std.proofs.Common.{◌≡◌, ℕ, zero, suc, List, [], ◌∷◌, ◌++◌}
-use Rattle.std.proofs.Common.{length, replicate, refl, ap, arith}
+use Rattle.std.proofs.Common.{length, replicate, refl, ap, arith, true, ◌<◌}
+use Rattle.std.specs.Prelude.{nat_lt, ◌&&◌}
+use Rattle.std.proofs.lemmas.Bool.Decides.{nat_tests}
 use Rattle.gate_journal.specs.declared.row.Row.{Row}
 use Rattle.gate_journal.specs.declared.mark.Mark.{Mark}
 use Rattle.gate_journal.specs.declared.mark.Mark.TheVariants as marks
@@ -8,6 +10,10 @@ use Rattle.gate_journal.specs.declared.entry.Entry.{Entry}
 use Rattle.gate_journal.specs.declared.entry.Entry.TheVariants.{Kept, Faulted}
 use Rattle.gate_journal.specs.History.{rows_woven, count_rows}
 use Rattle.gate_journal.specs.Log.{rows_of, rows_kept}
+
+-- there is room for a row and for a mark
+pub rooms : (a b c d : ℕ) → (nat_lt a b && nat_lt c d) ≡ true → (a < b) × (c < d)
+rooms a b c d is = grind (arith, nat_tests)
 
 pub count-fault : (l : List Mark) (by from to : ℕ)
     → count_rows (l ++ marks.Fault by from to ∷ []) ≡ count_rows l

@@ -15,19 +15,6 @@ use Rattle.gate_journal.specs.Log.{IsClosedWell, MaySpell, MayOpen}
 use Rattle.gate_journal.proofs.RowLemmas.{shut_zero, spells_shut, spells_not_open}
 use Rattle.gate_journal.proofs.RowLemmas.{opens, journal_push, spelled-push}
 
-pub rows_of-kept : (entries : List Entry) (r : Row)
-    → rows_of (entries ++ Kept r ∷ []) ≡ rows_of entries ++ r ∷ []
-rows_of-kept [] r = refl
-rows_of-kept (Kept x ∷ entries) r = ap (λ (l : List Row). x ∷ l) (rows_of-kept entries r)
-rows_of-kept (Faulted by from to ∷ entries) r = rows_of-kept entries r
-
-pub rows_of-faulted : (entries : List Entry) (by from to : ℕ)
-    → rows_of (entries ++ Faulted by from to ∷ []) ≡ rows_of entries
-rows_of-faulted [] by from to = refl
-rows_of-faulted (Kept x ∷ entries) by from to =
-    ap (λ (l : List Row). x ∷ l) (rows_of-faulted entries by from to)
-rows_of-faulted (Faulted b f t ∷ entries) by from to = rows_of-faulted entries by from to
-
 pub rises-kept : (entries : List Entry) (r : Row) (low high now : ℕ)
     → Rises low entries high → high ≤ now
     → Rises low (entries ++ Kept r ∷ []) now

@@ -251,8 +251,7 @@ has_row rows past are = elim (cases_lt (length past) (4 + size_in past)) [
           (sym parts.2 ∙ sym is.bytes) in
           let session : r.session ≡ get_or past 0 0 =
           sym (ap (λ (l : List ℕ). get_or l 0 0) bytes) in
-          out (subst (λ (k : Command). MayStand rows (get_or past 0 0) k) same_one
-          (subst (λ (k : ℕ). MayStand rows k r.command) session next.stands)))
+          out (rw (← session, ← same_one) next.stands))
     ]
 
 -- of bytes that begin with these rows

@@ -5,7 +5,8 @@ use Rattle.std.proofs.Common.{arith, append_assoc, length-append, Option, Some, 
 use Rattle.std.specs.Prelude.{IsTrue}
 use Rattle.std.proofs.lemmas.List.{take-append-le, take-append-drop}
 use Rattle.disk_model.specs.Disk.{EachImage, LeavesOnly, SameDisk}
-use Rattle.disk_model.proofs.Moments.{weaker, and_then}
+use Rattle.disk_model.proofs.Moments.{weaker}
+use Rattle.gate_journal.proofs.Opening.{and_more}
 use Rattle.turn_cell.specs.History.{Each}
 use Rattle.turn_cell.proofs.HistoryLemmas.{each_append}
 use Rattle.gate_journal.specs.declared.command.Command.{Command}
@@ -159,21 +160,19 @@ module _
           let P : List ℕ → Type 0
           = λ c. MayOpen start c ⊎ IsBetween (found_in entries) (rows_of entries) c
           in
-          let told_now = subst (λ (b : Bool). IsTrue b) (sym since.same.telling) told in
-          and_then moment left_since log.opening.disk log.disk disk P
+          let told_now = rw (← since.same.telling) at told in
+          and_more
           (weaker moment left_since log.opening.disk log.disk
           (λ c. MayOpen start c ⊎ IsBetween (found_in log.entries) rows c) P
           (since.meanwhile start journal may told)
           (λ c. ⊎_elim (λ opens. inl opens)
-          (λ b. inr (subst (λ (x : List Row). IsBetween x (rows_of entries) c) same_found
-          (between_later (found_in log.entries) rows (rows_of entries)
+          (λ b. inr (rw (← same_found) (between_later (found_in log.entries) rows (rows_of entries)
           (rows_of (e ∷ [])) c grows b)))))
-          (weaker moment left_since log.disk disk
-          (Meanwhile rows log.uncertain (next_row rows session command)) P (here told_now)
-          (λ c m. inr (subst (λ (x : List Row). IsBetween x (rows_of entries) c) same_found
-          (between_meanwhile (found_in log.entries) (rows_of (drop log.opening.found log.entries))
-          rows (rows_of entries) (rows_of (e ∷ [])) log.uncertain
-          (next_row rows session command) c (rows_after log.opening.found log.entries) grows m))))
+          (here told_now)
+          (λ c m. inr (rw (← same_found) (between_meanwhile (found_in log.entries)
+          (rows_of (drop log.opening.found log.entries)) rows (rows_of entries) (rows_of (e ∷ []))
+          log.uncertain (next_row rows session command) c
+          (rows_after log.opening.found log.entries) grows m)))
 
   -- how far a row is written behind a repair
   pub asked_row :

@@ -11,7 +11,9 @@ use Rattle.gate_journal.specs.Gate.{IsShut, IsUnsure}
 use Rattle.gate_journal.specs.Rows.{row_body, journal_bytes, IsJournal, IsNext}
 use Rattle.gate_journal.specs.Log.{Log, IsSoundJournal, rows_of, StandsInImage, Meanwhile}
 use Rattle.gate_journal.proofs.RowLemmas.{journal_push, shut_behind}
-use Rattle.gate_journal.proofs.LogLemmas.{rows_of-kept, rows_of-faulted, rises-kept}
+use Rattle.std.proofs.lemmas.List.{append-nil}
+use Rattle.gate_journal.proofs.SinceLemmas.{rows_of-append}
+use Rattle.gate_journal.proofs.LogLemmas.{rises-kept}
 use Rattle.gate_journal.proofs.LogLemmas.{rises-faulted, closed_shut, closed_unsure}
 use Rattle.gate_journal.proofs.LogLemmas.{stands_well, stands_closed, end_push}
 
@@ -31,7 +33,7 @@ module _ {D : Type 0} (tells : D → Bool) (may_leave : D → List ℕ → Type 
   sound_faulted log end disk entries uncertain by from to ready sound pushed same_room
       is_from is_to le rose next images =
       let same : rows_of log.entries ≡ rows_of entries =
-      sym (ap rows_of pushed ∙ rows_of-faulted log.entries by from to) in
+      sym (ap rows_of pushed ∙ rows_of-append log.entries _ ∙ append-nil _) in
       record {
         journal = rw (← same) sound.journal;
         ends = rw (← same) sound.ends;
@@ -58,7 +60,7 @@ module _ {D : Type 0} (tells : D → Bool) (may_leave : D → List ℕ → Type 
   sound_kept log end later disk entries r ready sound pushed same_room le is_later within
       next images =
       let same : rows_of log.entries ++ r ∷ [] ≡ rows_of entries =
-      sym (ap rows_of pushed ∙ rows_of-kept log.entries r) in
+      sym (ap rows_of pushed ∙ rows_of-append log.entries (Kept r ∷ [])) in
       record {
         journal = rw (← same) (journal_push (rows_of log.entries) r sound.journal next);
         ends = rw (← same) (is_later ∙ end_push (rows_of log.entries) r end sound.ends);

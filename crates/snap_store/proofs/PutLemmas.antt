@@ -140,8 +140,7 @@ module _
   put_image_of c header stands own = record {
     header = header;
     newest = λ side' is. open_at seen store c side' header is
-        (subst (λ (s : Side). StandsOnSide s (slot_of store.slots s)
-        (whole_area s (seen store.disk)) c) (newest_is_beside store.slots side' is) stands);
+        (rw (newest_is_beside store.slots side' is) at stands);
     taken = own;
     beside = λ x is. stands_openable (opposite_side side) beside (seen store.disk) c x stands is;
   }
@@ -218,7 +217,7 @@ module _
     put_there is is_left told =
         here_after
         ∙ ap (λ (s : Slot). area_held side s (seen new)) is
-        ∙ (subst (λ (s : Slot). StandsOnSide side s left (seen new)) is (shows told).here).1
+        ∙ (rw is at (shows told).here).1
         ∙ is_left
 
     left_there :

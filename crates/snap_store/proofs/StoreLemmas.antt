@@ -127,8 +127,7 @@ module _ {D : Type 0} (seen : D → List ℕ) (store : Snapshots D) (c : List �
   open_at side header is stands =
       let slot = newest_open store.slots side is in
       let file = seen store.disk in
-      let found = stands_open side slot.0 slot.1 file c header
-      (subst (λ (s : Slot). StandsOnSide side s (whole_area side file) c) slot.2 stands) in
+      let found = stands_open side slot.0 slot.1 file c header (rw slot.2 at stands) in
       record {
         area = found.0;
         kept = ap (λ (s : Slot). area_held side s file) slot.2 ∙ found.1;
@@ -144,9 +143,9 @@ module _ {D : Type 0} (seen : D → List ℕ) (store : Snapshots D) (c : List �
       × (open_area side c ≡ Some area) × (area.place ≡ place) × (area.count ≡ count)
   synced_at side place count header is stands =
       let file = seen store.disk in
-      let there = subst (λ (s : Slot). StandsOnSide side s (whole_area side file) c) is stands in
+      let there = rw is at stands in
       let found = stands_open side place count file c header there in
-      let head = subst (λ (o : Option Stored). IsAreaOf place count o) found.1 there.2 in
+      let head = rw found.1 at there.2 in
       (found.0, ap (λ (s : Slot). area_held side s file) is ∙ found.1, found.2, head.0, head.1)
 
   -- where both sides stand as they are seen
@@ -234,9 +233,8 @@ module _ (side : Side) (file : List ℕ) where
       has_header file ≡ true
       → StandsOnSide side (slot_in side file) (whole_area side file) file
   stands_in header =
-      subst (λ (h : Bool). StandsOnSide side (slot_by h (gate_byte side file == 0)
-      (gate_byte side file == 1) (is_whole side file)) (whole_area side file) file) (sym header)
-      (stands_by _ _ _ refl refl refl)
+      rw header (stands_by (gate_byte side file == 0) (gate_byte side file == 1)
+      (is_whole side file) refl refl refl)
 
   -- what is held of it is what may open
   held_by :
@@ -343,10 +341,9 @@ module _
   pub sound_looked : IsSoundStore tells may_leave seen looked
   sound_looked = record {
     header = λ told_new c now.
-        let told = subst (λ (b : Bool). IsTrue b) telling told_new in
-        sound.header told c (none_new told c now);
+        let told = rw telling at told_new in sound.header told c (none_new told c now);
     laid = λ made told_new c now.
-        let told = subst (λ (b : Bool). IsTrue b) telling told_new in
+        let told = rw telling at told_new in
         laid_seen A store.slots.a (whole_area A (seen store.disk)) store.slots.b
         (whole_area B (seen store.disk)) (seen new) c
         (sound.laid made told (seen new) (none_new told (seen new) (stays new)))
