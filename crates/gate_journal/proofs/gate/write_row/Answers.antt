@@ -1,5 +1,4 @@
-use Rattle.std.proofs.Common.{◌⊎◌, inl, inr, [], ◌∷◌, ◌+◌, ◌++◌, List, ℕ, Bool, subst, sym, arith}
-use Rattle.std.specs.Prelude.{IsTrue}
+use Rattle.std.proofs.Common.{◌⊎◌, inl, inr, [], ◌∷◌, ◌+◌, ◌++◌, List, ℕ, subst, sym, arith}
 use Rattle.disk_model.specs.Disk.{Holds}
 use Rattle.disk_model.proofs.Moments.{holds_now, weaker}
 use Rattle.disk_model.proofs.WorkLaws.{through, then_, looser, failed}

@@ -1,6 +1,6 @@
-use Rattle.std.proofs.Common.{◌≡◌, ◌+◌, ◌∙◌, sym, ap, subst, arith}
-use Rattle.std.proofs.Common.{length, List, ℕ, Bool, true, take, drop}
-use Rattle.std.specs.Prelude.{IsTrue, Some, Option}
+use Rattle.std.proofs.Common.{◌≡◌, ◌+◌, ◌∙◌, ap, arith}
+use Rattle.std.proofs.Common.{length, List, ℕ, true, take, drop}
+use Rattle.std.specs.Prelude.{Some, Option}
 use Rattle.snap_store.specs.declared.outline.Head.{Head}
 use Rattle.snap_store.specs.File.{Stored, area_on_side, count_at, length_at}
 use Rattle.snap_store.specs.File.{side_start, is_whole, newest_area, area_given}

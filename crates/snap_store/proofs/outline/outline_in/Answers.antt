@@ -1,5 +1,5 @@
-use Rattle.std.proofs.Common.{◌≡◌, ◌∙◌, sym, ap, subst, refl, arith, length, List, ℕ, Bool}
-use Rattle.std.specs.Prelude.{IsTrue, slice_index}
+use Rattle.std.proofs.Common.{◌≡◌, ◌∙◌, sym, ap, refl, arith, length, List, ℕ}
+use Rattle.std.specs.Prelude.{slice_index}
 use Rattle.disk_model.specs.Disk.{ReadsFile}
 use Rattle.snap_store.specs.declared.side.Side.TheVariants.{A, B}
 use Rattle.snap_store.specs.File.{has_header, gate_byte, area_head}

@@ -1,4 +1,4 @@
-use Rattle.std.proofs.Common.{◌≡◌, ◌∙◌, ap, subst, arith, ℕ, ◌+◌}
+use Rattle.std.proofs.Common.{◌≡◌, ◌∙◌, arith, ◌+◌}
 use Rattle.byteorder.specs.Endian.{big_from}
 use Rattle.disk_model.specs.Disk.{ReadsFile}
 use Rattle.snap_store.specs.File.{side_start, area_place, count_at, length_at}
