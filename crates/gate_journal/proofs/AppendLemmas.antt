@@ -207,8 +207,9 @@ module _
       sound_row {new = new} {entries = entries} {ready = ready} {later = later} none writes
           same_then pushed size le is_later within =
           rw none
-          (sound_kept tells may_leave room faults log end later new entries q ready sound pushed size
-          le (is_later ∙ ap (λ (l : List ℕ). end + length l) bytes) within (rw (row_is made) next)
+          (sound_kept tells may_leave room faults log end later new entries q ready sound pushed
+          size le (is_later ∙ ap (λ (l : List ℕ). end + length l) bytes) within
+          (rw (row_is made) next)
           (λ told c now. let told_then = rw same_then at told in
           opened_shut rows q past c bytes
           ((writes (journal_bytes rows) (sym sound.ends)).ended told_then (shut told_then) c now)))

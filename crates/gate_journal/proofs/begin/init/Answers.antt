@@ -23,9 +23,11 @@ pub returns-in_default-write_through-clause-crash :
     goal.returns-in_default-write_through-clause-crash
 returns-in_default-write_through-clause-crash g c told =
     begun g.D.Disk.may_leave (g.met.D.Disk.only_now _) c.size.ensures.time
-    (c.size.ensures.crash told) (c.write_through.ensures.crash (rw c.size.ensures.kept.telling told))
+    (c.size.ensures.crash told)
+    (c.write_through.ensures.crash (rw c.size.ensures.kept.telling told))
 
 pub returns-clause-crash : goal.returns-clause-crash
 returns-clause-crash g c told =
     begun g.D.Disk.may_leave (g.met.D.Disk.only_now _) c.size.ensures.time
-    (c.size.ensures.crash told) (c.write_through.ensures.crash (rw c.size.ensures.kept.telling told))
+    (c.size.ensures.crash told)
+    (c.write_through.ensures.crash (rw c.size.ensures.kept.telling told))

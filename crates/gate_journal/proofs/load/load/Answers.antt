@@ -36,8 +36,8 @@ closing :
     → SpellsRows bytes found × (end ≡ length (journal_bytes found))
     → gate ≡ get_or items end gate → gate ≢ 0
     → LeavesOnly moment left_since old new (MayOpen rows)
-closing may_leave {rows = rows} {found = found} {s = s} {items = items} {end = end} {gate = gate} so_far
-    wrote only all met value seen (stands, is) read set_gate =
+closing may_leave {rows = rows} {found = found} {s = s} {items = items} {end = end} {gate = gate}
+    so_far wrote only all met value seen (stands, is) read set_gate =
     let here : gate ≡ get_or s end 0 =
     get_or_read items end gate (omega (arith, stands.within, is, ap length value)) read 0
     ∙ ap (λ (l : List ℕ). get_or l end 0) seen in
@@ -52,8 +52,8 @@ returns-in_default-write_through-clause-crash g c rows all each told =
     let told_then = rw (← c.sync.ensures.kept.telling) at told in
     let told_last = rw (← c.read_all.ensures.kept.same.telling) at told_then in
     closing g.D.Disk.may_leave
-    (looked g.D.Disk.may_leave (each told) (g.met.D.Disk.only_now _) c.sync.ensures.time (c.sync.ensures.crash told)
-    (c.read_all.ensures.kept.moments told_then))
+    (looked g.D.Disk.may_leave (each told) (g.met.D.Disk.only_now _) c.sync.ensures.time
+    (c.sync.ensures.crash told) (c.read_all.ensures.kept.moments told_then))
     (c.write_through.ensures.crash told_last)
     (λ f now. c.in-Ok.ensures.ok told f (c.read_all.ensures.kept.images told_then f now)) all
     (each told _ (g.met.D.Disk.seen_may_stay _)) c.deref.ensures.value
@@ -62,7 +62,8 @@ returns-in_default-write_through-clause-crash g c rows all each told =
 
 pub returns-then-index-eq0-clause-crash : goal.returns-then-index-eq0-clause-crash
 returns-then-index-eq0-clause-crash g c rows all each told =
-    looked g.D.Disk.may_leave (each told) (g.met.D.Disk.only_now _) c.sync.ensures.time (c.sync.ensures.crash told)
+    looked g.D.Disk.may_leave (each told) (g.met.D.Disk.only_now _) c.sync.ensures.time
+    (c.sync.ensures.crash told)
     (c.read_all.ensures.kept.moments (rw c.sync.ensures.kept.telling told))
 
 pub returns-clause-crash : goal.returns-clause-crash
@@ -70,8 +71,8 @@ returns-clause-crash g c rows all each told =
     let told_then = rw (← c.sync.ensures.kept.telling) at told in
     let told_last = rw (← c.read_all.ensures.kept.same.telling) at told_then in
     closing g.D.Disk.may_leave
-    (looked g.D.Disk.may_leave (each told) (g.met.D.Disk.only_now _) c.sync.ensures.time (c.sync.ensures.crash told)
-    (c.read_all.ensures.kept.moments told_then))
+    (looked g.D.Disk.may_leave (each told) (g.met.D.Disk.only_now _) c.sync.ensures.time
+    (c.sync.ensures.crash told) (c.read_all.ensures.kept.moments told_then))
     (c.write_through.ensures.crash told_last)
     (λ f now. c.in-Ok.ensures.ok told f (c.read_all.ensures.kept.images told_then f now)) all
     (each told _ (g.met.D.Disk.seen_may_stay _)) c.deref.ensures.value
