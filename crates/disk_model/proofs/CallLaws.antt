@@ -1,7 +1,7 @@
 -- Laws of a disk after its calls, and of the images of all moments since one of them (own).
 use Rattle.std.proofs.Common.{◌≡◌, inl, inr, ℕ, suc, ◌≤◌, true, false, List}
 use Rattle.std.proofs.Common.{[], ◌∷◌}
-use Rattle.std.proofs.Common.{◌++◌, length, take, refl, sym, ◌∙◌, ap, subst, arith}
+use Rattle.std.proofs.Common.{◌++◌, length, take, refl, ◌∙◌, ap, arith}
 use Rattle.std.proofs.Common.{length-append}
 use Rattle.std.proofs.lemmas.List.{take_all, take-append-le}
 use Rattle.std.proofs.lemmas.Bool.{cases_lt}
@@ -31,9 +31,8 @@ pub well_push :
     → later ≡ calls ++ call ∷ [] → IsWell (state_after start calls)
     → IsWell (state_after start later)
 well_push start calls later call is well =
-    subst (λ (l : List Call). IsWell (state_after start l)) (sym is)
-    (subst (λ (p : DiskState). IsWell p) (sym (after_calls-push calls (settled start) call))
-    (well_call (state_after start calls) call well))
+    rw (is, after_calls-push calls (settled start) call)
+    (well_call (state_after start calls) call well)
 
 module _ (start : List ℕ) (calls : List Call) where
   -- no call was made
@@ -55,22 +54,11 @@ module _ (start : List ℕ) (calls : List Call) where
   elapses_push call later_calls is = record {
     later = omega (arith, longer);
     nothing_else = λ t c le left. elim (cases_lt (length calls) left.0) [
-      | inl new ↦ inr (subst (λ (l : List Call). IsDiskImage (state_after start l) c)
-          (take_all left.0 later_calls (omega (arith, longer))) left.3)
-      | inr old ↦ inl (
-        left.0,
-        left.1,
-        old,
-        subst (λ (l : List Call). IsDiskImage (state_after start l) c) (same left.0 old) left.3,
-      )
+      | inl new ↦ inr (rw (take_all left.0 later_calls (omega (arith, longer))) at left.3)
+      | inr old ↦ inl (left.0, left.1, old, rw (same left.0 old) at left.3)
     ];
-    keeps = λ t c le left. (
-      left.0,
-      left.1,
-      omega (arith, left.2, longer),
-      subst (λ (l : List Call). IsDiskImage (state_after start l) c)
-          (sym (same left.0 left.2)) left.3,
-    );
+    keeps = λ t c le left.
+        (left.0, left.1, omega (arith, left.2, longer), rw (same left.0 left.2) left.3);
   }
     where
       longer : length later_calls ≡ suc (length calls)

@@ -1,6 +1,6 @@
 -- The test of an image says what an image is; what a write makes; one place more (own).
 use Rattle.std.proofs.Common.{Bool, List, [], ap, arith, false, inl, inr, length}
-use Rattle.std.proofs.Common.{refl, subst, suc, sym, true, zero, ℕ}
+use Rattle.std.proofs.Common.{refl, suc, sym, true, zero, ℕ}
 use Rattle.std.proofs.Common.{◌+◌, ◌<◌, ◌^◌, ◌∙◌, ◌∷◌, ◌≡◌, ◌≤◌, ◌⊎◌}
 use Rattle.std.proofs.lemmas.Bool.{and_from, and_parts, cases_eq, cases_lt}
 use Rattle.std.proofs.lemmas.Bool.Decides.{nat_tests}
@@ -9,10 +9,10 @@ use Rattle.disk_model.specs.Disk.{file_written}
 use Rattle.disk_model.specs.DiskState.{DiskState, IsDiskImage, Ranges, Untouched, after_write}
 use Rattle.disk_model.specs.DiskState.{greatest_end, with_range}
 use Rattle.disk_model.specs.Plain.{agree, is_image, is_touched}
-use Rattle.disk_model.proofs.StateLaws.{if_fits}
+use Rattle.disk_model.proofs.StateLaws.{fits_test, if_fits}
 
-false_true : false ≡ true → ⊥
-false_true is = cc
+same_byte : (x y : ℕ) → nat_eq x y ≡ true → x ≡ y
+same_byte x y is = grind (arith, nat_tests)
 
 -- a place that no range has
 untouched_test : (i : ℕ) (ranges : List (ℕ × ℕ)) → Untouched i ranges → is_touched i ranges ≡ false
@@ -30,20 +30,11 @@ agree_at (suc n) i p c is lt untouched =
     and_parts (is_touched n p.ranges || nat_eq (slice_index c n) (slice_index p.synced n))
     (agree n p.synced p.ranges c) is in
     elim (cases_eq i n) [
-      | inl same ↦ here both.0 same
+      | inl same ↦
+          let test = rw (untouched_test n p.ranges (rw same at untouched)) at both.0 in
+          rw same (same_byte (slice_index c n) (slice_index p.synced n) test)
       | inr other ↦ agree_at n i p c both.1 (omega (arith, lt, other)) untouched
     ]
-  where
-    here : (is_touched n p.ranges || nat_eq (slice_index c n) (slice_index p.synced n)) ≡ true
-        → i ≡ n → slice_index c i ≡ slice_index p.synced i
-    here test same =
-        let quiet : is_touched n p.ranges ≡ false =
-        untouched_test n p.ranges (subst (λ (k : ℕ). Untouched k p.ranges) same untouched) in
-        let eq : nat_eq (slice_index c n) (slice_index p.synced n) ≡ true =
-        sym (ap (λ (b : Bool). b || nat_eq (slice_index c n) (slice_index p.synced n)) quiet)
-        ∙ test in
-        let there : slice_index c n ≡ slice_index p.synced n = grind (arith, nat_tests) in
-        subst (λ (k : ℕ). slice_index c k ≡ slice_index p.synced k) (sym same) there
 
 -- what the test of an image says, it is
 pub image_is : (p : DiskState) (c : List ℕ) → is_image p c ≡ true → IsDiskImage p c
@@ -64,7 +55,7 @@ image_is p c is =
     }
 
 or_none : (a b : Bool) → (a || b) ≡ false → (a ≡ false) × (b ≡ false)
-or_none true b is = absurd (false_true (sym is))
+or_none true b is = absurd (cc)
 or_none false b is = (refl, is)
 
 out_of : (i : ℕ) (r : ℕ × ℕ) → (nat_le r.0 i && nat_lt i r.1) ≡ false → (i < r.0) ⊎ (r.1 ≤ i)
@@ -136,10 +127,8 @@ pub write_fits : (good : Bool) (at : ℕ) (piece : List ℕ) (p : DiskState)
     → at + length piece ≤ 2 ^ 40
     → after_write good at piece p
     ≡ with_range p (if good then file_written p.seen at piece else p.seen) (at, at + length piece)
-write_fits good at piece p fits = ap (λ (b : Bool). if_fits b good at piece p) yes
-  where
-    yes : nat_le (at + length piece) (2 ^ 40) ≡ true
-    yes = grind (arith, nat_tests)
+write_fits good at piece p fits =
+    ap (λ (b : Bool). if_fits b good at piece p) (fits_test (at + length piece) fits)
 
 pub write_past : (good : Bool) (at : ℕ) (piece : List ℕ) (p : DiskState)
     → 2 ^ 40 < at + length piece → after_write good at piece p ≡ p

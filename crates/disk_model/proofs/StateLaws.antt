@@ -3,7 +3,7 @@ use Rattle.std.proofs.Common.{◌≡◌, ◌⊎◌, inl, inr, ⊎_elim, ℕ, ◌
 use Rattle.std.proofs.Common.{◌<◌, ◌≤◌, min, max, Bool}
 use Rattle.std.proofs.Common.{true, false, List, [], ◌∷◌, ◌++◌, length, get_or, map, refl}
 use Rattle.std.proofs.Common.{sym}
-use Rattle.std.proofs.Common.{◌∙◌, ap, subst, arith}
+use Rattle.std.proofs.Common.{◌∙◌, ap, arith}
 use Rattle.std.specs.Prelude.{nat_le, nat_lt, if◌then◌else◌, ◌&&◌}
 use Rattle.std.specs.List.{range_with_len}
 use Rattle.std.proofs.lemmas.List.{ext_get_or}
@@ -154,13 +154,15 @@ if_fits fits good at piece p =
     (at, at + length piece)
     else p
 
+pub fits_test : (n : ℕ) → n ≤ 2 ^ 40 → nat_le n (2 ^ 40) ≡ true
+fits_test n le = grind (arith, nat_tests)
+
 pub well_write :
     (good : Bool) (at : ℕ) (piece : List ℕ) (p : DiskState)
     → IsWell p → IsWell (after_write good at piece p)
 well_write good at piece p well = elim (cases_Bool (nat_le (at + length piece) (2 ^ 40))) [
-  | inl fits ↦ subst (λ (b : Bool). IsWell (if_fits b good at piece p)) (sym fits)
-      (both good fits)
-  | inr past ↦ subst (λ (b : Bool). IsWell (if_fits b good at piece p)) (sym past) well
+  | inl fits ↦ rw fits (both good fits)
+  | inr past ↦ rw past well
 ]
   where
     end :
@@ -195,24 +197,18 @@ pub crash_write :
     → AfterWrite at (length piece) (IsDiskImage p) c
 crash_write good at piece p fits c image =
     image_torn p (if good then file_written p.seen at piece else p.seen) at (length piece) c
-    (subst (λ (b : Bool). IsDiskImage (if_fits b good at piece p) c) yes image)
-  where
-    yes : nat_le (at + length piece) (2 ^ 40) ≡ true
-    yes = grind (arith, nat_tests)
+    (rw (fits_test (at + length piece) fits) at image)
 
 -- and what it reads as
 pub seen_write :
     (at : ℕ) (piece : List ℕ) (p : DiskState) → at + length piece ≤ 2 ^ 40
     → (after_write true at piece p).seen ≡ file_written p.seen at piece
-seen_write at piece p fits = ap (λ (b : Bool). (if_fits b true at piece p).seen) yes
-  where
-    yes : nat_le (at + length piece) (2 ^ 40) ≡ true
-    yes = grind (arith, nat_tests)
+seen_write at piece p fits =
+    ap (λ (b : Bool). (if_fits b true at piece p).seen) (fits_test (at + length piece) fits)
 
 -- a sync makes no image
 pub crash_sync :
     (good : Bool) (p : DiskState) → IsWell p → (c : List ℕ) → IsDiskImage (after_sync good p) c
     → IsDiskImage p c
-crash_sync true p well c image =
-    subst (λ (l : List ℕ). IsDiskImage p l) (sym (only_settled p.seen c image)) well.stays
+crash_sync true p well c image = rw (only_settled p.seen c image) well.stays
 crash_sync false p well c image = image

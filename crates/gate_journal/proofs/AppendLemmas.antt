@@ -1,7 +1,7 @@
 -- What an append leaves, over plain variables: `log` is the journal by its parts, `old` the same as
 -- contracts see it.
 use Rattle.std.proofs.Common.{◌≡◌, ◌⊎◌, ℕ, ◌+◌, ◌<◌, ◌≤◌, Bool, List, [], ◌∷◌, ◌++◌, length}
-use Rattle.std.proofs.Common.{refl, sym, ◌∙◌, ap, subst, arith}
+use Rattle.std.proofs.Common.{refl, sym, ◌∙◌, ap, arith}
 use Rattle.std.specs.Prelude.{IsTrue, Option, Some, None, IfSome, Result, Ok}
 use Rattle.disk_model.specs.Work.{Triple}
 use Rattle.disk_model.specs.Disk.{LeavesOnly, EachImage, Rose, Holds}
@@ -13,7 +13,9 @@ use Rattle.gate_journal.specs.Gate.{IsShut, IsUnsure}
 use Rattle.gate_journal.specs.Rows.{row_body, journal_bytes, IsNext, MayStand}
 use Rattle.gate_journal.specs.Log.{Log, IsSoundJournal, rows_of, next_row}
 use Rattle.gate_journal.specs.Log.{StandsInImage, Meanwhile, MaySpell, MayOpen}
-use Rattle.gate_journal.proofs.LogLemmas.{rows_of-kept, rows_of-faulted, stands_well, stands_closed}
+use Rattle.std.proofs.lemmas.List.{append-nil}
+use Rattle.gate_journal.proofs.SinceLemmas.{rows_of-append}
+use Rattle.gate_journal.proofs.LogLemmas.{stands_well, stands_closed}
 use Rattle.gate_journal.proofs.Sound.{sound_faulted, sound_kept, settled, appended, opened_shut}
 
 -- what a row or a fault adds to the rows
@@ -22,7 +24,8 @@ pub faulted_rows :
     → log ≡ old → entries ≡ log.entries ++ Faulted by from to ∷ []
     → rows_of entries ≡ rows_of old.entries
 faulted_rows {D = D} {log = log} by from to is pushed =
-    ap rows_of pushed ∙ rows_of-faulted log.entries by from to
+    ap rows_of pushed ∙ rows_of-append log.entries (Faulted by from to ∷ [])
+    ∙ append-nil (rows_of log.entries)
     ∙ ap (λ (l : Log D). rows_of l.entries) is
 
 module _
@@ -34,22 +37,16 @@ module _
       → log.disk ≡ disk
       → EachImage tells may_leave disk (MaySpell (rows_of old.entries) old.uncertain)
   images_spell disk same =
-      subst (λ (d : D). EachImage tells may_leave d (MaySpell (rows_of old.entries) old.uncertain))
-      same
-      (subst
-      (λ (l : Log D). EachImage tells may_leave log.disk (MaySpell (rows_of l.entries) l.uncertain))
-      is
-      (λ told c now. stands_well (rows_of log.entries) log.uncertain c sound.journal sound.next
-      (sound.images told c now)))
+      rw (← same, ← is) (λ told c now.
+      stands_well (rows_of log.entries) log.uncertain c sound.journal sound.next
+      (sound.images told c now))
 
   pub images_open : (disk : D)
       → log.disk ≡ disk
       → EachImage tells may_leave disk (MayOpen (rows_of old.entries))
   images_open disk same =
-      subst (λ (d : D). EachImage tells may_leave d (MayOpen (rows_of old.entries))) same
-      (subst (λ (l : Log D). EachImage tells may_leave log.disk (MayOpen (rows_of l.entries))) is
-      (λ told c now.
-      stands_closed (rows_of log.entries) log.uncertain c sound.next (sound.images told c now)))
+      rw (← same, ← is) (λ told c now.
+      stands_closed (rows_of log.entries) log.uncertain c sound.next (sound.images told c now))
 
 -- the row at this end
 abbrev row_at : ℕ → ℕ → Command → Row
@@ -71,7 +68,7 @@ module _
   next = record {
     place = refl;
     by = refl;
-    stands = subst (λ (l : Log D). MayStand (rows_of l.entries) session command) (sym is) stands;
+    stands = rw is stands;
   }
 
   row_is : {q : Row} → q ≡ row_at end session command → q ≡ r
@@ -105,42 +102,9 @@ module _
       (Meanwhile (rows_of old.entries) old.uncertain
       (next_row (rows_of old.entries) session command))
   crash_repair {moment = moment} {left_since = left_since} {mid = mid} crash =
-      subst (λ (l : Log D). IsTrue (tells l.disk) → LeavesOnly moment left_since l.disk mid
-      (Meanwhile (rows_of l.entries) l.uncertain (next_row (rows_of l.entries) session command))) is
-      (λ told.
+      rw (← is) (λ told.
       settled moment left_since rows log.uncertain r sound.journal next sound.next log.disk mid
       ((crash rows sound.ends).meanwhile told (sound.images told)))
-
-  -- a repair that ended Ok leaves a closed gate
-  shut :
-      {T E : Type 0} {value : T} {moment : D → ℕ} {left_since : D → ℕ → List ℕ → Type 0} {mid : D}
-      → Repairs {E = E} moment left_since (Ok value) mid → tells mid ≡ tells log.disk
-      → EachImage tells may_leave mid (IsShut (journal_bytes rows))
-  shut repairs same told =
-      let told_then = subst (λ (b : Bool). IsTrue b) same told in
-      (repairs rows sound.ends).ended told_then (sound.images told_then)
-
-  -- and until the row's writing ends
-  pub crash_row :
-      {T E S F : Type 0} {value : T} {result : Result S F} {moment : D → ℕ}
-      {left_since : D → ℕ → List ℕ → Type 0} {mid new : D} {q : Row} {past : List ℕ}
-      → q ≡ row_at end session command → past ≡ row_body q ++ 0 ∷ []
-      → Repairs {E = E} moment left_since (Ok value) mid → tells mid ≡ tells log.disk
-      → Writes moment left_since past result mid new → IsTrue (tells old.disk)
-      → LeavesOnly moment left_since old.disk new
-      (Meanwhile (rows_of old.entries) old.uncertain
-      (next_row (rows_of old.entries) session command))
-  crash_row {moment = moment} {left_since = left_since} {mid = mid} {new = new}
-      {past = past} made bytes repairs same writes =
-      subst (λ (l : Log D). IsTrue (tells l.disk) → LeavesOnly moment left_since l.disk new
-      (Meanwhile (rows_of l.entries) l.uncertain (next_row (rows_of l.entries) session command))) is
-      (λ told. let told_then = subst (λ (b : Bool). IsTrue b) (sym same) told in
-      appended moment left_since rows log.uncertain r sound.journal next sound.next log.disk
-      mid new past
-      (bytes ∙ ap (λ (x : Row). row_body x ++ 0 ∷ []) (row_is made))
-      ((repairs rows sound.ends).meanwhile told (sound.images told))
-      ((writes (journal_bytes rows) (sym sound.ends)).meanwhile told_then
-      (shut repairs same told_then)))
 
   -- the rows with one more
   pub kept_rows :
@@ -148,10 +112,8 @@ module _
       → q ≡ row_at end session command
       → rows_of entries ≡ rows_of old.entries ++ next_row (rows_of old.entries) session command ∷ []
   kept_rows {q = q} pushed made =
-      ap rows_of pushed ∙ rows_of-kept log.entries q
-      ∙ ap (λ (x : Row). rows ++ x ∷ []) (row_is made)
-      ∙ ap (λ (l : Log D). rows_of l.entries ++ next_row (rows_of l.entries) session command ∷ [])
-      is
+      rw (← is) (ap rows_of pushed ∙ rows_of-append log.entries (Kept q ∷ [])
+      ∙ ap (λ (x : Row). rows ++ x ∷ []) (row_is made))
 
   -- the journal is sound with a fault more, which came after this much was done
   abbrev Faults : D → D → List Entry → Option Row → ℕ → ℕ → ℕ → Bool → Type 0
@@ -160,13 +122,7 @@ module _
       → from ≡ faults log.disk → to ≡ faults new → faults mid ≡ faults log.disk
       → (faults mid ≤ faults new) × Rose (faults mid) (faults new)
       → IsSoundJournal tells may_leave room faults
-      (record {
-        disk = new;
-        entries = entries;
-        uncertain = uncertain;
-        opening = log.opening;
-        ready = ready;
-      }) end
+      (record log { disk = new; entries = entries; uncertain = uncertain; ready = ready }) end
 
   -- a fault, after which the gate is known so
   faulted :
@@ -175,16 +131,11 @@ module _
       → uncertain ≡ known → IfSome known (IsNext rows)
       → EachImage tells may_leave new (StandsInImage rows known)
       → Faults mid new entries uncertain by from to ready
-  faulted {mid = mid} {new = new}
-      {entries = entries} {uncertain = uncertain} {from = from} {to = to}
-      {ready = ready} by known so next_one images pushed size is_from is_to none_yet counts =
-      sound_faulted tells may_leave room faults log end new entries uncertain by from to
-      ready sound pushed size is_from is_to
-      (omega (arith, is_from, is_to, none_yet, counts.0))
-      (omega (arith, is_from, is_to, none_yet, counts.1))
-      (subst (λ (u : Option Row). IfSome u (IsNext rows)) (sym so) next_one)
-      (subst (λ (u : Option Row). EachImage tells may_leave new (StandsInImage rows u))
-      (sym so) images)
+  faulted {new = new} {entries = entries} {from = from} {to = to} {ready = ready} by known so
+      next_one images pushed size is_from is_to none_yet counts =
+      rw so (sound_faulted tells may_leave room faults log end new entries known by from to ready
+      sound pushed size is_from is_to (omega (arith, is_from, is_to, none_yet, counts.0))
+      (omega (arith, is_from, is_to, none_yet, counts.1)) next_one images)
 
   -- of the repair: the gate stays as it was
   pub sound_unrepaired :
@@ -194,70 +145,71 @@ module _
       → Faults log.disk new entries uncertain by from to ready
   sound_unrepaired by so images = faulted {mid = log.disk} by log.uncertain so sound.next images
 
-  -- before the gate's write: it is closed
-  pub sound_before :
-      {T E : Type 0} {value : T} {moment : D → ℕ} {left_since : D → ℕ → List ℕ → Type 0}
-      {mid new : D} {entries : List Entry} {uncertain : Option Row} {from to : ℕ}
-      {ready : Bool} (by : ℕ)
-      → uncertain ≡ None
-      → Repairs {E = E} moment left_since (Ok value) mid
-      → tells mid ≡ tells log.disk
-      → After mid new IsShut
-      → Faults mid new entries uncertain by from to ready
-  sound_before {mid = mid} by none repairs same after =
-      faulted {mid = mid} by None none tt
-      (after (journal_bytes rows) (sym sound.ends) (shut repairs same))
+  -- where the repair ended Ok
+  module _
+      {T E : Type 0} {value : T} {moment : D → ℕ} {left_since : D → ℕ → List ℕ → Type 0} {mid : D}
+      (repairs : Repairs {E = E} moment left_since (Ok value) mid)
+      (same : tells mid ≡ tells log.disk) where
+    -- it leaves a closed gate
+    shut : EachImage tells may_leave mid (IsShut (journal_bytes rows))
+    shut told =
+        let told_then = rw same at told in
+        (repairs rows sound.ends).ended told_then (sound.images told_then)
 
-  -- in the gate's write: it is uncertain, before the row
-  pub sound_at_gate :
-      {T E : Type 0} {value : T} {moment : D → ℕ} {left_since : D → ℕ → List ℕ → Type 0}
-      {mid new : D} {entries : List Entry} {uncertain : Option Row} {from to : ℕ} {ready : Bool}
-      {q : Row} {past : List ℕ} (by : ℕ)
-      → q ≡ row_at end session command → past ≡ row_body q ++ 0 ∷ [] → uncertain ≡ Some q
-      → Repairs {E = E} moment left_since (Ok value) mid → tells mid ≡ tells log.disk
-      → After mid new (λ front. IsUnsure front past)
-      → Faults mid new entries uncertain by from to ready
-  sound_at_gate {mid = mid} {new = new} {q = q} by made bytes so repairs same after =
-      faulted {mid = mid} by (Some q) so
-      (subst (λ (x : Row). IsNext rows x) (sym (row_is made)) next)
-      (subst (λ (l : List ℕ). EachImage tells may_leave new (IsUnsure (journal_bytes rows) l)) bytes
-      (after (journal_bytes rows) (sym sound.ends) (shut repairs same)))
+    -- before the gate's write: it is closed
+    pub sound_before :
+        {new : D} {entries : List Entry} {uncertain : Option Row} {from to : ℕ}
+        {ready : Bool} (by : ℕ)
+        → uncertain ≡ None → After mid new IsShut
+        → Faults mid new entries uncertain by from to ready
+    sound_before by none after =
+        faulted {mid = mid} by None none tt (after (journal_bytes rows) (sym sound.ends) shut)
 
-  -- the row is there
-  pub sound_row :
-      {T E S F : Type 0} {value : T} {wrote : S} {moment : D → ℕ}
-      {left_since : D → ℕ → List ℕ → Type 0}
-      {mid new : D} {entries : List Entry} {uncertain : Option Row} {ready : Bool} {q : Row}
-      {past : List ℕ} {later : ℕ}
-      → q ≡ row_at end session command → past ≡ row_body q ++ 0 ∷ []
-      → uncertain ≡ None
-      → Repairs {E = E} moment left_since (Ok value) mid
-      → tells mid ≡ tells log.disk
-      → Writes {E = F} moment left_since past (Ok wrote) mid new → tells new ≡ tells mid
-      → entries ≡ log.entries ++ Kept q ∷ [] → room new ≡ room log.disk
-      → faults log.disk ≤ faults new → later ≡ end + length past → later < room new
-      → IsSoundJournal tells may_leave room faults
-      (record {
-        disk = new;
-        entries = entries;
-        uncertain = uncertain;
-        opening = log.opening;
-        ready = ready;
-      }) later
-  sound_row {new = new} {entries = entries} {ready = ready} {q = q} {past = past}
-      {later = later} made bytes none repairs same writes same_then pushed size le is_later within =
-      subst (λ (u : Option Row). IsSoundJournal tells may_leave room faults
-      (record {
-        disk = new;
-        entries = entries;
-        uncertain = u;
-        opening = log.opening;
-        ready = ready;
-      }) later) (sym none)
-      (sound_kept tells may_leave room faults log end later new entries q ready sound pushed size le
-      (is_later ∙ ap (λ (l : List ℕ). end + length l) bytes) within
-      (subst (λ (x : Row). IsNext rows x) (sym (row_is made)) next)
-      (λ told c now. let told_then = subst (λ (b : Bool). IsTrue b) same_then told in
-      opened_shut rows q past c bytes
-      ((writes (journal_bytes rows) (sym sound.ends)).ended told_then
-      (shut repairs same told_then) c now)))
+    module _
+        {q : Row} {past : List ℕ} (made : q ≡ row_at end session command)
+        (bytes : past ≡ row_body q ++ 0 ∷ []) where
+      -- meanwhile, until the row's writing ends
+      pub crash_row :
+          {S F : Type 0} {result : Result S F} {new : D}
+          → Writes moment left_since past result mid new → IsTrue (tells old.disk)
+          → LeavesOnly moment left_since old.disk new
+          (Meanwhile (rows_of old.entries) old.uncertain
+          (next_row (rows_of old.entries) session command))
+      crash_row {new = new} writes =
+          rw (← is) (λ told.
+          let told_then = rw (← same) at told in
+          appended moment left_since rows log.uncertain r sound.journal next sound.next log.disk
+          mid new past
+          (bytes ∙ ap (λ (x : Row). row_body x ++ 0 ∷ []) (row_is made))
+          ((repairs rows sound.ends).meanwhile told (sound.images told))
+          ((writes (journal_bytes rows) (sym sound.ends)).meanwhile told_then (shut told_then)))
+
+      -- in the gate's write: it is uncertain, before the row
+      pub sound_at_gate :
+          {new : D} {entries : List Entry} {uncertain : Option Row} {from to : ℕ}
+          {ready : Bool} (by : ℕ)
+          → uncertain ≡ Some q → After mid new (λ front. IsUnsure front past)
+          → Faults mid new entries uncertain by from to ready
+      sound_at_gate by so after =
+          faulted {mid = mid} by (Some q) so (rw (row_is made) next)
+          (rw bytes at (after (journal_bytes rows) (sym sound.ends) shut))
+
+      -- the row is there
+      pub sound_row :
+          {S F : Type 0} {wrote : S} {new : D} {entries : List Entry} {uncertain : Option Row}
+          {ready : Bool} {later : ℕ}
+          → uncertain ≡ None → Writes {E = F} moment left_since past (Ok wrote) mid new
+          → tells new ≡ tells mid
+          → entries ≡ log.entries ++ Kept q ∷ [] → room new ≡ room log.disk
+          → faults log.disk ≤ faults new → later ≡ end + length past → later < room new
+          → IsSoundJournal tells may_leave room faults
+          (record log { disk = new; entries = entries; uncertain = uncertain; ready = ready }) later
+      sound_row {new = new} {entries = entries} {ready = ready} {later = later} none writes
+          same_then pushed size le is_later within =
+          rw none
+          (sound_kept tells may_leave room faults log end later new entries q ready sound pushed
+          size le (is_later ∙ ap (λ (l : List ℕ). end + length l) bytes) within
+          (rw (row_is made) next)
+          (λ told c now. let told_then = rw same_then at told in
+          opened_shut rows q past c bytes
+          ((writes (journal_bytes rows) (sym sound.ends)).ended told_then (shut told_then) c now)))

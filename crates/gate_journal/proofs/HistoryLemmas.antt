@@ -1,6 +1,8 @@
 -- Rows and marks as one list.
 use Rattle.std.proofs.Common.{◌≡◌, ℕ, zero, suc, List, [], ◌∷◌, ◌++◌}
-use Rattle.std.proofs.Common.{length, replicate, refl, ap, arith}
+use Rattle.std.proofs.Common.{length, replicate, refl, ap, arith, true, ◌<◌}
+use Rattle.std.specs.Prelude.{nat_lt, ◌&&◌}
+use Rattle.std.proofs.lemmas.Bool.Decides.{nat_tests}
 use Rattle.gate_journal.specs.declared.row.Row.{Row}
 use Rattle.gate_journal.specs.declared.mark.Mark.{Mark}
 use Rattle.gate_journal.specs.declared.mark.Mark.TheVariants as marks
@@ -8,6 +10,10 @@ use Rattle.gate_journal.specs.declared.entry.Entry.{Entry}
 use Rattle.gate_journal.specs.declared.entry.Entry.TheVariants.{Kept, Faulted}
 use Rattle.gate_journal.specs.History.{rows_woven, count_rows}
 use Rattle.gate_journal.specs.Log.{rows_of, rows_kept}
+
+-- there is room for a row and for a mark
+pub rooms : (a b c d : ℕ) → (nat_lt a b && nat_lt c d) ≡ true → (a < b) × (c < d)
+rooms a b c d is = grind (arith, nat_tests)
 
 pub count-fault : (l : List Mark) (by from to : ℕ)
     → count_rows (l ++ marks.Fault by from to ∷ []) ≡ count_rows l
@@ -35,22 +41,20 @@ pub woven-row : (l : List Mark) (rows : List Row) (r : Row)
     → count_rows l ≡ length rows
     → rows_woven (l ++ marks.Row ∷ []) (rows ++ r ∷ []) ≡ rows_woven l rows ++ Kept r ∷ []
 woven-row [] [] r is = refl
-woven-row [] (x ∷ rows) r is = absurd (omega (arith, is))
-woven-row (marks.Row ∷ l) [] r is = absurd (omega (arith, is))
 woven-row (marks.Row ∷ l) (x ∷ rows) r is =
     ap (λ (m : List Entry). Kept x ∷ m) (woven-row l rows r (omega (arith, is)))
 woven-row (marks.Fault b f t ∷ l) rows r is =
     ap (λ (m : List Entry). Faulted b f t ∷ m) (woven-row l rows r is)
+woven-row l rows r is = absurd (omega (arith, is))
 
 pub rows_of-woven : (l : List Mark) (rows : List Row)
     → count_rows l ≡ length rows
     → rows_of (rows_woven l rows) ≡ rows
 rows_of-woven [] [] is = refl
-rows_of-woven [] (x ∷ rows) is = absurd (omega (arith, is))
-rows_of-woven (marks.Row ∷ l) [] is = absurd (omega (arith, is))
 rows_of-woven (marks.Row ∷ l) (x ∷ rows) is =
     ap (λ (m : List Row). x ∷ m) (rows_of-woven l rows (omega (arith, is)))
 rows_of-woven (marks.Fault b f t ∷ l) rows is = rows_of-woven l rows is
+rows_of-woven l rows is = absurd (omega (arith, is))
 
 pub length-woven : (l : List Mark) (rows : List Row)
     → count_rows l ≡ length rows

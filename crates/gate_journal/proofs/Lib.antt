@@ -2,6 +2,7 @@ pub mod LimitLemmas
 pub mod PayloadLemmas
 pub mod Steps
 pub mod RowLemmas
+pub mod CorruptLemmas
 pub mod LogLemmas
 pub mod Sound
 pub mod Opening

@@ -1,16 +1,15 @@
 -- How long a row may be.
 use Rattle.std.proofs.Common.{◌≡◌, ℕ, ◌*◌, ◌≤◌, List, [], ◌∷◌, ◌++◌}
 use Rattle.std.proofs.Common.{length, true, arith, length-append}
-use Rattle.std.specs.Int.{w16, w32, w64, to_be_bytes}
+use Rattle.std.specs.Int.{w16, w64, to_be_bytes}
 use Rattle.std.specs.Str.{encode_utf8_all}
 use Rattle.std.proofs.Math.Utf8.{encode}
 use Rattle.std.proofs.lemmas.Str.{length-encode, len_utf8_bounds}
 use Rattle.std.proofs.lemmas.Bool.Decides.{nat_tests}
-use Rattle.byteorder.specs.Numbers.{length-bytes_high_first}
 use Rattle.line_words.specs.Field.{is_key}
 use Rattle.story_text.specs.Text.{IsText}
 use Rattle.gate_journal.specs.declared.command.Command.{Command}
-use Rattle.gate_journal.specs.declared.command.Command.TheVariants.{Open, Line, Char, File, Close}
+use Rattle.gate_journal.specs.declared.command.Command.TheVariants.{Open, Line, File}
 use Rattle.gate_journal.specs.Command.{IsCommand}
 use Rattle.gate_journal.specs.Rows.{payload_of}
 
@@ -36,35 +35,14 @@ key_most key is = grind (arith, nat_tests)
 
 pub payload_most : (c : Command) → IsCommand c → length (payload_of c) ≤ 4104
 payload_most (Open key story digest seed cols rows budget) is =
-    let d = cols ∷ rows ∷ to_be_bytes w64 budget in
-    let b = to_be_bytes w64 seed ++ d in
+    let past = to_be_bytes w64 seed ++ (cols ∷ rows ∷ to_be_bytes w64 budget) in
     omega (
       arith,
-      length-append key (to_be_bytes w16 story ++ (digest ++ b)),
-      length-append (to_be_bytes w16 story) (digest ++ b),
-      length-append digest b,
-      length-append (to_be_bytes w64 seed) d,
-      length-bytes_high_first 2 story,
-      length-bytes_high_first 8 seed,
-      length-bytes_high_first 8 budget,
+      length-append key (to_be_bytes w16 story ++ (digest ++ past)),
+      length-append digest past,
       is.2,
       key_most key is.0,
     )
-payload_most (Line win term text) is =
-    omega (
-      arith,
-      length-append (to_be_bytes w32 win) (to_be_bytes w32 term ++ encode_utf8_all text),
-      length-append (to_be_bytes w32 term) (encode_utf8_all text),
-      length-bytes_high_first 4 win,
-      length-bytes_high_first 4 term,
-      text_most text is.2,
-    )
-payload_most (Char win code) is =
-    omega (
-      arith,
-      length-append (to_be_bytes w32 win) (to_be_bytes w32 code),
-      length-bytes_high_first 4 win,
-      length-bytes_high_first 4 code,
-    )
+payload_most (Line win term text) is = omega (arith, text_most text is.2)
 payload_most (File name) is = omega (arith, text_most name is)
-payload_most Close is = omega arith
+payload_most c is = omega arith

@@ -1,11 +1,10 @@
 -- One entry more, and what the images of a journal spell.
 use Rattle.std.proofs.Common.{◌≡◌, ◌⊎◌, inl, inr, ℕ, ◌+◌, ◌≤◌, List, [], ◌∷◌, ◌++◌}
-use Rattle.std.proofs.Common.{length, get_or, refl, sym, ◌∙◌, ap, arith, length-append}
+use Rattle.std.proofs.Common.{length, get_or, refl, sym, ap, arith, length-append}
 use Rattle.std.specs.Prelude.{Bool, false, Option, Some, None, IfSome, is_none, Result}
 use Rattle.disk_model.specs.Work.{Triple}
 use Rattle.std.proofs.lemmas.Bool.{cases_eq}
-use Rattle.disk_model.specs.Disk.{Holds, Rose}
-use Rattle.disk_model.proofs.Torn.{holds_rest}
+use Rattle.disk_model.specs.Disk.{Rose}
 use Rattle.gate_journal.specs.declared.row.Row.{Row}
 use Rattle.gate_journal.specs.declared.entry.Entry.{Entry}
 use Rattle.gate_journal.specs.declared.entry.Entry.TheVariants.{Kept, Faulted}
@@ -13,21 +12,8 @@ use Rattle.gate_journal.specs.Gate.{IsShut, IsUnsure}
 use Rattle.gate_journal.specs.Rows.{row_body, journal_bytes, IsJournal, IsNext}
 use Rattle.gate_journal.specs.Log.{rows_of, rows_kept, Rises, StandsInImage}
 use Rattle.gate_journal.specs.Log.{IsClosedWell, MaySpell, MayOpen}
-use Rattle.gate_journal.proofs.RowLemmas.{spells_shut, spells_not_open}
+use Rattle.gate_journal.proofs.RowLemmas.{shut_zero, spells_shut, spells_not_open}
 use Rattle.gate_journal.proofs.RowLemmas.{opens, journal_push, spelled-push}
-
-pub rows_of-kept : (entries : List Entry) (r : Row)
-    → rows_of (entries ++ Kept r ∷ []) ≡ rows_of entries ++ r ∷ []
-rows_of-kept [] r = refl
-rows_of-kept (Kept x ∷ entries) r = ap (λ (l : List Row). x ∷ l) (rows_of-kept entries r)
-rows_of-kept (Faulted by from to ∷ entries) r = rows_of-kept entries r
-
-pub rows_of-faulted : (entries : List Entry) (by from to : ℕ)
-    → rows_of (entries ++ Faulted by from to ∷ []) ≡ rows_of entries
-rows_of-faulted [] by from to = refl
-rows_of-faulted (Kept x ∷ entries) by from to =
-    ap (λ (l : List Row). x ∷ l) (rows_of-faulted entries by from to)
-rows_of-faulted (Faulted b f t ∷ entries) by from to = rows_of-faulted entries by from to
 
 pub rises-kept : (entries : List Entry) (r : Row) (low high now : ℕ)
     → Rises low entries high → high ≤ now
@@ -49,13 +35,10 @@ rises-faulted (Faulted b f t ∷ entries) by from to low rises le rose =
 pub closed_shut : (rows : List Row) (c : List ℕ)
     → IsJournal rows → IsShut (journal_bytes rows) c
     → IsClosedWell rows c
-closed_shut rows c all shut =
-    let gate : Holds c (length (journal_bytes rows)) (0 ∷ []) =
-    holds_rest {p = 0} (journal_bytes rows) (0 ∷ []) (omega arith) shut in
-    record {
-      spells = spells_shut rows c all shut;
-      gate = inl (ap (λ (k : ℕ). get_or c k 0) (omega arith) ∙ gate.each 0 (omega arith));
-    }
+closed_shut rows c all shut = record {
+  spells = spells_shut rows c all shut;
+  gate = inl (shut_zero (journal_bytes rows) c shut);
+}
 
 -- both, exactly where the gate is open
 pub closed_unsure : (rows : List Row) (r : Row) (c : List ℕ)
@@ -70,7 +53,7 @@ closed_unsure rows r c all next unsure =
       | inr shut ↦ inl (record {
         spells =
             spells_not_open rows (row_body r ++ 0 ∷ []) c all unsure shut
-            (omega (arith, unsure.behind.within, length-append (row_body r) (0 ∷ [])));
+            (omega (arith, unsure.behind.within));
         gate = inr (r, next, unsure.behind);
       })
     ]

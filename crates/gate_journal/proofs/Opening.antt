@@ -1,29 +1,39 @@
--- What the write of an opening leaves.
+-- What the device calls of an opening leave.
 use Rattle.std.proofs.Common.{◌≡◌, ◌≢◌, inl, inr, ℕ, List, [], ◌∷◌, ◌++◌}
-use Rattle.std.proofs.Common.{length, get_or, sym, ◌∙◌, ap, arith, length-append}
+use Rattle.std.proofs.Common.{length, get_or, sym, ◌∙◌, ap, arith}
 use Rattle.std.proofs.lemmas.Bool.{cases_eq}
-use Rattle.disk_model.specs.Disk.{Holds, Torn, file_written}
-use Rattle.disk_model.proofs.Torn.{holds_kept, holds_rest, holds_both, torn_written, holds_written}
+use Rattle.disk_model.specs.Disk.{Elapses, LeavesOnly, Torn, file_written}
+use Rattle.disk_model.proofs.Moments.{started, goes_on, weaker, and_then}
+use Rattle.disk_model.proofs.Torn.{holds_kept, holds_both, torn_written, holds_written}
 use Rattle.gate_journal.specs.declared.row.Row.{Row}
 use Rattle.gate_journal.specs.Gate.{IsShut}
 use Rattle.gate_journal.specs.Rows.{SpellsRows, row_body, journal_bytes, IsJournal}
 use Rattle.gate_journal.specs.Log.{MayOpen}
-use Rattle.gate_journal.proofs.RowLemmas.{one_list, spells_shut}
+use Rattle.gate_journal.proofs.RowLemmas.{one_list, shut_zero, spells_shut}
 use Rattle.gate_journal.proofs.RowLemmas.{spells_not_open, opens, journal_push}
 use Rattle.gate_journal.proofs.Steps.{unsure_torn}
 
--- a closed gate is 0
-gate_zero : (rows : List Row) (s : List ℕ)
-    → IsShut (journal_bytes rows) s
-    → get_or s (length (journal_bytes rows)) 0 ≡ 0
-gate_zero rows s shut = (closed_gate_is (closed_gate shut))
-  where
-    closed_gate : IsShut (journal_bytes rows) s → Holds s (length (journal_bytes rows)) (0 ∷ [])
-    closed_gate shut = holds_rest {p = 0} (journal_bytes rows) (0 ∷ []) (omega arith) shut
+module _ {D : Type 0} {moment : D → ℕ} {left_since : D → ℕ → List ℕ → Type 0} where
+  -- one call, before and after which a stop leaves what has the fact
+  pub one_call :
+      {old new : D} {P may_leave : List ℕ → Type 0}
+      → ((c : List ℕ) → left_since old (moment old) c → P c)
+      → Elapses (moment old) (moment new) (left_since old) (left_since new) may_leave
+      → ((c : List ℕ) → may_leave c → P c)
+      → LeavesOnly moment left_since old new P
+  one_call {old} {new} {P} {may_leave} first time =
+      goes_on moment left_since old old new P may_leave (started moment left_since old P first) time
 
-    closed_gate_is : Holds s (length (journal_bytes rows)) (0 ∷ [])
-        → get_or s (length (journal_bytes rows)) 0 ≡ 0
-    closed_gate_is holds = ap (λ (k : ℕ). get_or s k 0) (omega arith) ∙ holds.each 0 (omega arith)
+  -- and more calls, with a fact from which it follows
+  pub and_more :
+      {old mid new : D} {P Q : List ℕ → Type 0}
+      → LeavesOnly moment left_since old mid P
+      → LeavesOnly moment left_since mid new Q
+      → ((c : List ℕ) → Q c → P c)
+      → LeavesOnly moment left_since old new P
+  and_more {old} {mid} {new} {P} {Q} first second so =
+      and_then moment left_since old mid new P first
+      (weaker moment left_since mid new Q P second so)
 
 -- Where the rows that stand end at a gate that isn't 0, a write of that gate leaves what may be met
 -- again.
@@ -35,7 +45,7 @@ reclosed rows found s f end all (inl shut) stands open_gate is torn =
     let same : found ≡ rows = one_list s found rows stands (spells_shut rows s all shut) in
     absurd (open_gate
     (ap (λ (k : ℕ). get_or s k 0) (is ∙ ap (λ (l : List Row). length (journal_bytes l)) same)
-    ∙ gate_zero rows s shut))
+    ∙ shut_zero (journal_bytes rows) s shut))
 reclosed rows found s f end all (inr one) stands open_gate is torn =
     elim (cases_eq (get_or s (length (journal_bytes rows)) 0) 1) [
       | inl is_open ↦
@@ -45,11 +55,11 @@ reclosed rows found s f end all (inr one) stands open_gate is torn =
           (spells_shut (rows ++ one.0 ∷ []) s (journal_push rows one.0 all one.1) shut) in
           absurd (open_gate
           (ap (λ (k : ℕ). get_or s k 0) (is ∙ ap (λ (l : List Row). length (journal_bytes l)) same)
-          ∙ gate_zero (rows ++ one.0 ∷ []) s shut))
+          ∙ shut_zero (journal_bytes (rows ++ one.0 ∷ [])) s shut))
       | inr not_open ↦
           let same : found ≡ rows =
           one_list s found rows stands (spells_not_open rows (row_body one.0 ++ 0 ∷ []) s all one.2
-          not_open (omega (arith, one.2.behind.within, length-append (row_body one.0) (0 ∷ [])))) in
+          not_open (omega (arith, one.2.behind.within))) in
           inr (
             one.0,
             one.1,

@@ -1,5 +1,5 @@
 -- Any bytes have one reading: rows, a corrupt place, or no header.
-use Rattle.std.proofs.Common.{◌≡◌, ◌≢◌, ◌⊎◌, inl, inr, ⊎_elim, ℕ, zero, suc, ◌+◌, ◌-◌, ◌*◌}
+use Rattle.std.proofs.Common.{◌≡◌, ◌⊎◌, inl, inr, ⊎_elim, ℕ, zero, suc, ◌+◌, ◌*◌, ◌/◌, ◌%◌}
 use Rattle.std.proofs.Common.{◌<◌, ◌≤◌, Bool, true, false, List, [], ◌∷◌, ◌++◌, length, get_or}
 use Rattle.std.proofs.Common.{take, drop, refl, sym, ◌∙◌, ap, subst, arith, length-append}
 use Rattle.std.specs.Prelude.{Option, Some, None, nat_eq}
@@ -8,9 +8,8 @@ use Rattle.std.specs.Int.{w16, to_be_bytes}
 use Rattle.std.proofs.lemmas.Bool.{cases_lt, cases_eq, cases_Bool}
 use Rattle.std.proofs.lemmas.Bool.Decides.{Decides-eqb}
 use Rattle.std.proofs.lemmas.Slice.Eq.{starts_is}
-use Rattle.std.proofs.lemmas.Nat.{be_bytes_2}
-use Rattle.std.proofs.lemmas.List.{length-take, length-drop, get_or-append_right, get_or-drop}
-use Rattle.std.proofs.lemmas.List.{get_or-take, get_or_past, take-append-drop, drop-drop, drop_more}
+use Rattle.std.proofs.lemmas.List.{length-take, length-drop}
+use Rattle.std.proofs.lemmas.List.{drop_more}
 use Rattle.byteorder.specs.Endian.{big_number}
 use Rattle.line_words.specs.Field.{is_key}
 use Rattle.line_words.specs.Keycode.{is_code}
@@ -18,7 +17,7 @@ use Rattle.story_text.specs.Text.{IsText}
 use Rattle.story_text.specs.Reading.{text_of_bytes}
 use Rattle.disk_model.proofs.Torn.{holds_front}
 use Rattle.gate_journal.specs.declared.command.Command.{Command}
-use Rattle.gate_journal.specs.declared.command.Command.TheVariants.{Open, Line, Char, File, Close}
+use Rattle.gate_journal.specs.declared.command.Command.TheVariants.{Close}
 use Rattle.gate_journal.specs.declared.row.Row.{Row}
 use Rattle.gate_journal.specs.Command.{IsCommand}
 use Rattle.gate_journal.specs.Rows.{journal_header, command_kind, payload_of}
@@ -31,9 +30,10 @@ use Rattle.gate_journal.proofs.PayloadLemmas.{AreBytes, key_in, after_in, only_o
 use Rattle.gate_journal.proofs.PayloadLemmas.{only_char, only_file, only_close, spells_whole}
 use Rattle.gate_journal.proofs.PayloadLemmas.{spells_line, spells_char, spells_file, text_found}
 use Rattle.gate_journal.proofs.PayloadLemmas.{text_missing, line_text, file_text, same_command}
-use Rattle.gate_journal.proofs.RowLemmas.{length-body, body_parts, spells_split}
-use Rattle.gate_journal.proofs.RowLemmas.{corrupt_end, corrupt_row, no_header}
-use Rattle.gate_journal.proofs.RowLemmas.{parse_step, one_list, one_place, never_both}
+use Rattle.gate_journal.proofs.PayloadLemmas.{bytes_drop, bytes_take, seam}
+use Rattle.gate_journal.proofs.RowLemmas.{length-body, body_parts, behind_rows, spells_split}
+use Rattle.gate_journal.proofs.RowLemmas.{parse_step, one_list, never_both}
+use Rattle.gate_journal.proofs.CorruptLemmas.{corrupt_end, corrupt_row, no_header, one_place}
 
 -- it holds, or it doesn't
 abbrev Decided : Type 0 → Type 0
@@ -84,18 +84,7 @@ an_open p are = elim (cases_eq (length p) (get_or p 0 0 + 53)) [
       let key = key_in p in
       let after = after_in p in
       checked 1 p (open_in key after) refl (spells_whole p are size) (λ c is. (only_open p c is).1)
-      (again (λ n. (
-        n.0,
-        n.1.0,
-        n.1.1.0,
-        n.1.1.1.0,
-        n.1.1.1.1.0,
-        n.1.1.1.1.1.0,
-        n.1.1.1.1.1.1.0,
-        n.1.1.1.1.1.1.1.0,
-        n.1.1.1.1.1.1.1.1,
-      ))
-      (λ r. (r.0, (r.1, (r.2, (r.3, (r.4, (r.5, (r.6, (r.7, r.8)))))))))
+      (again (λ n. assumption) (λ r. assumption)
       (both (said (is_key key))
       (both (at_most (big_number 2 after) 65535) (both (same (length (take 32 (drop 2 after))) 32)
       (both (at_most (big_number 8 (drop 34 after)) 18446744073709551615)
@@ -148,42 +137,20 @@ a_close (x ∷ p) = inr (λ c is. not_empty (only_close (x ∷ p) c is).0)
     not_empty : x ∷ p ≡ [] → ⊥
     not_empty is = cc
 
--- no other kind has one
-no_kind :
-    (kind : ℕ) → kind ≢ 1 → kind ≢ 2 → kind ≢ 3 → kind ≢ 4 → kind ≢ 5
-    → (c : Command) → command_kind c ≡ kind → ⊥
-no_kind kind a b c d e (Open key story digest seed cols rows budget) is = a (sym is)
-no_kind kind a b c d e (Line win term text) is = b (sym is)
-no_kind kind a b c d e (Char win code) is = c (sym is)
-no_kind kind a b c d e (File name) is = d (sym is)
-no_kind kind a b c d e Close is = e (sym is)
+-- the numbers of kinds
+kinds : (c : Command) → (1 ≤ command_kind c) × (command_kind c ≤ 5)
+kinds Close = omega arith
+kinds c = omega arith
 
 has_command : (kind : ℕ) (p : List ℕ) → AreBytes p → HasCommand kind p
-has_command kind p are = elim (cases_eq kind 1) [
-  | inl is ↦ subst (λ (k : ℕ). HasCommand k p) (sym is) (an_open p are)
-  | inr a ↦ elim (cases_eq kind 2) [
-    | inl is ↦ subst (λ (k : ℕ). HasCommand k p) (sym is) (a_line p are)
-    | inr b ↦ elim (cases_eq kind 3) [
-      | inl is ↦ subst (λ (k : ℕ). HasCommand k p) (sym is) (a_char p are)
-      | inr c ↦ elim (cases_eq kind 4) [
-        | inl is ↦ subst (λ (k : ℕ). HasCommand k p) (sym is) (a_file p)
-        | inr d ↦ elim (cases_eq kind 5) [
-          | inl is ↦ subst (λ (k : ℕ). HasCommand k p) (sym is) (a_close p)
-          | inr e ↦ inr (λ x is. no_kind kind a b c d e x is.number)
-        ]
-      ]
-    ]
-  ]
-]
-
-bytes_past : (k : ℕ) (p : List ℕ) → AreBytes p → AreBytes (drop k p)
-bytes_past k p are i = omega (arith, get_or-drop k p i 0, are (k + i))
-
-bytes_front : (k : ℕ) (p : List ℕ) → AreBytes p → AreBytes (take k p)
-bytes_front k p are i = elim (cases_lt i k) [
-  | inl lt ↦ omega (arith, get_or-take k p i 0 lt, are i)
-  | inr past ↦ omega (arith, get_or_past (take k p) i 0 (omega (arith, length-take k p)))
-]
+has_command zero p are = inr (λ c is. absurd (omega (arith, is.number, kinds c)))
+has_command (suc zero) p are = an_open p are
+has_command (suc (suc zero)) p are = a_line p are
+has_command (suc (suc (suc zero))) p are = a_char p are
+has_command (suc (suc (suc (suc zero)))) p are = a_file p
+has_command (suc (suc (suc (suc (suc zero))))) p are = a_close p
+has_command (suc (suc (suc (suc (suc (suc n)))))) p are =
+    inr (λ c is. absurd (omega (arith, is.number, kinds c)))
 
 -- what stands past an open gate: its payload's length, and its payload
 abbrev size_in : List ℕ → ℕ
@@ -200,39 +167,26 @@ whole_row :
     ++ payload_of c)
     ++ drop (4 + size_in past) past
 whole_row past c are long kind payload =
-    drop_more past 0 0 (omega (arith, long))
-    ∙ ap (λ (l : List ℕ). get_or past 0 0 ∷ l) (drop_more past 1 0 (omega (arith, long)))
-    ∙ ap (λ (k : ℕ). get_or past 0 0 ∷ k ∷ drop 2 past) (sym kind)
-    ∙ ap (λ (l : List ℕ). get_or past 0 0 ∷ command_kind c ∷ l) rest
+    cc (
+      drop_more past 0 0 (omega arith),
+      drop_more past 1 0 (omega arith),
+      drop_more past 2 0 (omega arith),
+      drop_more past 3 0 (omega arith),
+      high,
+      low,
+      seam (size_in past) 4 past payload refl,
+    )
   where
     size : length (payload_of c) ≡ size_in past
     size =
         ap length payload
         ∙ (omega (arith, long, length-take (size_in past) (drop 4 past), length-drop 4 past))
 
-    two : to_be_bytes w16 (length (payload_of c)) ≡ take 2 (drop 2 past)
-    two =
-        be_bytes_2 (take 2 (drop 2 past)) (length (payload_of c))
-        (omega (arith, long, length-take 2 (drop 2 past), length-drop 2 past))
-        (bytes_front 2 (drop 2 past) (bytes_past 2 past are))
-        (size
-        ∙ (omega (
-          arith,
-          get_or-take 2 (drop 2 past) 0 0 (omega arith),
-          get_or-take 2 (drop 2 past) 1 0 (omega arith),
-          get_or-drop 2 past 0 0,
-          get_or-drop 2 past 1 0,
-        )))
+    high : length (payload_of c) / 256 % 256 ≡ get_or past 2 0
+    high = omega (arith, size, are 2, are 3)
 
-    rest : drop 2 past
-        ≡ to_be_bytes w16 (length (payload_of c)) ++ payload_of c ++ drop (4 + size_in past) past
-    rest =
-        sym (take-append-drop 2 (drop 2 past))
-        ∙ ap (λ (l : List ℕ). l ++ drop 2 (drop 2 past)) (sym two)
-        ∙ ap (λ (l : List ℕ). to_be_bytes w16 (length (payload_of c)) ++ l)
-        (drop-drop 2 2 past ∙ sym (take-append-drop (size_in past) (drop 4 past))
-        ∙ ap (λ (l : List ℕ). l ++ drop (size_in past) (drop 4 past)) (sym payload)
-        ∙ ap (λ (l : List ℕ). payload_of c ++ l) (drop-drop (size_in past) 4 past))
+    low : length (payload_of c) % 256 ≡ get_or past 3 0
+    low = omega (arith, size, are 2, are 3)
 
 -- the row past an open gate
 abbrev HasRow : List Row → List ℕ → Type 0
@@ -255,7 +209,7 @@ has_row rows past are = elim (cases_lt (length past) (4 + size_in past)) [
       (omega (arith, short, parts.1, ap length is, length-append (row_body r) rest, length-body r)))
   | inr long ↦
       with_command long (has_command (get_or past 1 0) (payload_in past)
-      (bytes_front (size_in past) (drop 4 past) (bytes_past 4 past are)))
+      (bytes_take (size_in past) (drop 4 past) (bytes_drop 4 past are)))
 ]
   where
     with_command : 4 + size_in past ≤ length past
@@ -297,8 +251,7 @@ has_row rows past are = elim (cases_lt (length past) (4 + size_in past)) [
           (sym parts.2 ∙ sym is.bytes) in
           let session : r.session ≡ get_or past 0 0 =
           sym (ap (λ (l : List ℕ). get_or l 0 0) bytes) in
-          out (subst (λ (k : Command). MayStand rows (get_or past 0 0) k) same_one
-          (subst (λ (k : ℕ). MayStand rows k r.command) session next.stands)))
+          out (rw (← session, ← same_one) next.stands))
     ]
 
 -- of bytes that begin with these rows
@@ -320,24 +273,9 @@ read_from (suc fuel) rows bytes (gate ∷ past) are split all le = elim (cases_e
 ]
   where
     past_are : AreBytes past
-    past_are i =
-        omega (
-          arith,
-          are (length (journal_bytes rows) + (1 + i)),
-          ap (λ (l : List ℕ). get_or l (length (journal_bytes rows) + (1 + i)) 0) split,
-          get_or-append_right (journal_bytes rows) (gate ∷ past) (length (journal_bytes rows))
-              (length (journal_bytes rows) + (1 + i)) 0 refl (omega arith),
-          behind i,
-        )
-      where
-        behind : (i : ℕ)
-            → get_or (gate ∷ past)
-            (length (journal_bytes rows) + (1 + i) - length (journal_bytes rows)) 0
-            ≡ get_or past i 0
-        behind i =
-            let at : length (journal_bytes rows) + (1 + i) - length (journal_bytes rows) ≡ suc i =
-            omega arith in
-            ap (λ (k : ℕ). get_or (gate ∷ past) k 0) at
+    past_are =
+        subst (λ (l : List ℕ). AreBytes (drop 1 l)) (behind_rows rows bytes (gate ∷ past) split)
+        (bytes_drop 1 _ (bytes_drop (length (journal_bytes rows)) bytes are))
 
     after_gate :
         ((later : List Row) (after : List ℕ)

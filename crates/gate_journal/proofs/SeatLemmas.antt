@@ -1,15 +1,15 @@
 -- What one row more changes for the sessions.
-use Rattle.std.proofs.Common.{◌≡◌, ◌≢◌, inl, inr, ℕ, ◌+◌, ◌<◌, ◌≤◌, Bool, true, false, List}
+use Rattle.std.proofs.Common.{◌≡◌, ◌≢◌, inl, inr, ℕ, ◌<◌, ◌≤◌, Bool, true, false, List}
 use Rattle.std.proofs.Common.{[], ◌∷◌, ◌++◌, length, get_or, refl, sym, ◌∙◌, ap, arith}
-use Rattle.std.specs.Prelude.{if◌then◌else◌, ◌==◌, slice_set, min}
-use Rattle.std.proofs.lemmas.List.{length_push, get_or-set_other}
+use Rattle.std.specs.Prelude.{if◌then◌else◌, ◌==◌, slice_set}
+use Rattle.std.proofs.lemmas.List.{get_or-set_other}
 use Rattle.std.proofs.lemmas.Grind.{get_or-set_at}
 use Rattle.std.proofs.lemmas.Bool.{cases_eq}
 use Rattle.std.proofs.lemmas.Bool.Decides.{nat_tests}
 use Rattle.gate_journal.specs.declared.command.Command.{Command}
 use Rattle.gate_journal.specs.declared.row.Row.{Row}
 use Rattle.gate_journal.specs.Rows.{commands_of, is_free, is_close}
-use Rattle.gate_journal.specs.Seats.{CountsRows, use_of}
+use Rattle.gate_journal.specs.Seats.{CountsRows}
 
 if_append : (b : Bool) (x : Command) (l m : List Command)
     → (if b then x ∷ (l ++ m) else l ++ m) ≡ (if b then x ∷ l else l) ++ m
@@ -44,40 +44,21 @@ is_free-push [] c = refl
 is_free-push (x ∷ []) c = refl
 is_free-push (x ∷ y ∷ l) c = is_free-push (y ∷ l) c
 
--- one more is counted at its session, and nowhere else
+-- what is counted of each session, with one row more
 pub counted :
-    (rows : List Row) (r : Row) (counts : List ℕ) (at n : ℕ)
-    → ((s : ℕ) → s < 64 → get_or counts s 0 ≡ min (length (commands_of rows s)) 8192)
-    → r.session ≡ at → length counts ≡ 64 → n ≡ min (length (commands_of rows at) + 1) 8192
+    (count : List Command → ℕ) (rows : List Row) (r : Row) (counts : List ℕ) (at n : ℕ)
+    → ((s : ℕ) → s < 64 → get_or counts s 0 ≡ count (commands_of rows s))
+    → r.session ≡ at → length counts ≡ 64 → n ≡ count (commands_of rows at ++ r.command ∷ [])
     → (s : ℕ) → s < 64
-    → get_or (slice_set counts at n) s 0 ≡ min (length (commands_of (rows ++ r ∷ []) s)) 8192
-counted rows r counts at n were is size one s lt = elim (cases_eq s at) [
+    → get_or (slice_set counts at n) s 0 ≡ count (commands_of (rows ++ r ∷ []) s)
+counted count rows r counts at n were is size one s lt = elim (cases_eq s at) [
   | inl same ↦
       get_or-set_at counts at s n 0 same (omega (arith, size, lt, same)) ∙ one
-      ∙ ap (λ (k : ℕ). min k 8192) (sym (length_push (commands_of rows at) r.command))
-      ∙ ap (λ (l : List Command). min (length l) 8192) (sym (commands_of-same rows r at is))
-      ∙ ap (λ (k : ℕ). min (length (commands_of (rows ++ r ∷ []) k)) 8192) (sym same)
+      ∙ ap count (sym (commands_of-same rows r at is))
+      ∙ ap (λ (k : ℕ). count (commands_of (rows ++ r ∷ []) k)) (sym same)
   | inr other ↦
       get_or-set_other counts at s n 0 other ∙ were s lt
-      ∙ ap (λ (l : List Command). min (length l) 8192)
-      (sym (commands_of-other rows r s (λ meets. other (sym meets ∙ is))))
-]
-
-pub used :
-    (rows : List Row) (r : Row) (uses : List ℕ) (at n : ℕ)
-    → ((s : ℕ) → s < 64 → get_or uses s 0 ≡ use_of (commands_of rows s))
-    → r.session ≡ at → length uses ≡ 64 → n ≡ (if is_close r.command then 0 else 1)
-    → (s : ℕ) → s < 64 → get_or (slice_set uses at n) s 0 ≡ use_of (commands_of (rows ++ r ∷ []) s)
-used rows r uses at n were is size one s lt = elim (cases_eq s at) [
-  | inl same ↦
-      get_or-set_at uses at s n 0 same (omega (arith, size, lt, same)) ∙ one
-      ∙ ap (λ (b : Bool). if b then 0 else 1) (sym (is_free-push (commands_of rows at) r.command))
-      ∙ ap (λ (l : List Command). use_of l) (sym (commands_of-same rows r at is))
-      ∙ ap (λ (k : ℕ). use_of (commands_of (rows ++ r ∷ []) k)) (sym same)
-  | inr other ↦
-      get_or-set_other uses at s n 0 other ∙ were s lt
-      ∙ ap (λ (l : List Command). use_of l)
-      (sym (commands_of-other rows r s (λ meets. other (sym meets ∙ is))))
+      ∙ ap count (sym (commands_of-other rows r s (λ meets. other (sym meets ∙ is))))
 ]
 
 -- a row of another session is counted nowhere
@@ -86,12 +67,9 @@ pub counted_other :
     → 64 ≤ r.session → CountsRows rows counts uses
     → CountsRows (rows ++ r ∷ []) counts uses
 counted_other rows r counts uses past were = record {
-  count = λ s lt.
-      were.count s lt
-      ∙ ap (λ (l : List Command). min (length l) 8192)
-      (sym (commands_of-other rows r s (λ meets. absurd (omega (arith, past, lt, meets)))));
-  used = λ s lt.
-      were.used s lt
-      ∙ ap (λ (l : List Command). use_of l)
-      (sym (commands_of-other rows r s (λ meets. absurd (omega (arith, past, lt, meets)))));
+  count = λ s lt. rw (same s lt) (were.count s lt);
+  used = λ s lt. rw (same s lt) (were.used s lt);
 }
+  where
+    same : (s : ℕ) → s < 64 → commands_of (rows ++ r ∷ []) s ≡ commands_of rows s
+    same s lt = commands_of-other rows r s (λ meets. absurd (omega (arith, past, lt, meets)))

@@ -1,25 +1,24 @@
 -- What holds of a journal since it was opened, with one entry more.
-use Rattle.std.proofs.Common.{◌≡◌, ◌⊎◌, inl, inr, ⊎_elim, ℕ, ◌+◌, ◌<◌, ◌≤◌, max, Bool}
-use Rattle.std.proofs.Common.{List, [], ◌∷◌, ◌++◌, length, take, drop, refl, sym, ◌∙◌, ap, subst}
+use Rattle.std.proofs.Common.{◌≡◌, ◌⊎◌, inl, inr, ⊎_elim, ℕ, ◌+◌, ◌≤◌, max, Bool}
+use Rattle.std.proofs.Common.{List, [], ◌∷◌, ◌++◌, length, take, drop, refl, sym, ◌∙◌, ap}
 use Rattle.std.proofs.Common.{arith, append_assoc, length-append, Option, Some, None}
 use Rattle.std.specs.Prelude.{IsTrue}
 use Rattle.std.proofs.lemmas.List.{take-append-le, take-append-drop}
 use Rattle.disk_model.specs.Disk.{EachImage, LeavesOnly, SameDisk}
-use Rattle.disk_model.proofs.Moments.{weaker, and_then}
+use Rattle.disk_model.proofs.Moments.{weaker}
+use Rattle.gate_journal.proofs.Opening.{and_more}
 use Rattle.turn_cell.specs.History.{Each}
 use Rattle.turn_cell.proofs.HistoryLemmas.{each_append}
 use Rattle.gate_journal.specs.declared.command.Command.{Command}
 use Rattle.gate_journal.specs.declared.row.Row.{Row}
 use Rattle.gate_journal.specs.declared.entry.Entry.{Entry}
 use Rattle.gate_journal.specs.declared.entry.Entry.TheVariants.{Kept, Faulted}
-use Rattle.gate_journal.specs.Rows.{row_body, journal_header, rows_behind_open_gates}
+use Rattle.gate_journal.specs.Rows.{row_body, payload_of, rows_behind_open_gates}
 use Rattle.gate_journal.specs.Rows.{journal_bytes, EachNext, IsJournal, MayStand}
-use Rattle.gate_journal.specs.Log.{Log, IsBetween, IsOfSession, IsSinceOpened}
+use Rattle.gate_journal.specs.Log.{Log, IsBetween, IsOfSession, IsSinceOpened, entry_number}
 use Rattle.gate_journal.specs.Log.{IsSoundJournal, rows_kept, MayOpen, MaySpell}
-use Rattle.gate_journal.specs.Log.{Meanwhile, next_row, rows_found, rows_of}
-use Rattle.gate_journal.specs.Command.{IsCommand}
+use Rattle.gate_journal.specs.Log.{Meanwhile, next_row, rows_of}
 use Rattle.gate_journal.proofs.LimitLemmas.{payload_most}
-use Rattle.gate_journal.proofs.LogLemmas.{rows_of-all}
 
 pub rows_of-append : (xs ys : List Entry) → rows_of (xs ++ ys) ≡ rows_of xs ++ rows_of ys
 rows_of-append [] ys = refl
@@ -44,14 +43,7 @@ pub spelled_grows :
     (first last more : List Row) → last ≡ first ++ more
     → length (journal_bytes first) ≤ length (journal_bytes last)
 spelled_grows first last more grows =
-    subst (λ (rows : List Row). length (journal_bytes first) ≤ length (journal_bytes rows))
-    (sym grows)
-    (omega (
-      arith,
-      opened_grows first more,
-      length-append journal_header (rows_behind_open_gates first),
-      length-append journal_header (rows_behind_open_gates (first ++ more)),
-    ))
+    rw grows (omega (arith, opened_grows first more))
 
 -- an image of the time up to a row is one of the time up to a later one
 pub between_later :
@@ -81,8 +73,8 @@ between_meanwhile first since rows last more uncertain r c is grows (spells, ope
       after = more;
       grows = grows ∙ ap (λ (x : List Row). x ++ more) is;
       one_more = one_more;
-      spells = subst (λ (x : List Row). MaySpell x one_more c) is spelled_so;
-      opens = subst (λ (x : List Row). MayOpen x c) is opens;
+      spells = rw is at spelled_so;
+      opens = rw is at opens;
     }
 
     of : MaySpell rows uncertain c ⊎ MaySpell rows (Some r) c → IsBetween first last c
@@ -96,12 +88,6 @@ rows_after :
 rows_after found entries =
     sym (ap rows_of (take-append-drop found entries))
     ∙ rows_of-append (take found entries) (drop found entries)
-
--- the longest row
-row_most :
-    (rows : List Row) (session : ℕ) (command : Command) → IsCommand command
-    → length (row_body (next_row rows session command)) ≤ 4108
-row_most rows session command is = omega (arith, payload_most command is)
 
 -- one piece of work on a disk after another
 pub same_then :
@@ -129,24 +115,22 @@ module _
   -- one entry more, of this session, after the calls of an append
   pub since_more :
       {disk : D} {entries : List Entry} {ready : Bool} (uncertain : Option Row) (e : Entry)
-      → entries ≡ log.entries ++ e ∷ [] → IsOfSession e → SameDisk tells room label log.disk disk
+      → entries ≡ log.entries ++ e ∷ [] → entry_number e ≡ session + 1
+      → SameDisk tells room label log.disk disk
       → (IsTrue (tells old.disk) → LeavesOnly moment left_since old.disk disk
       (Meanwhile (rows_of old.entries) old.uncertain
       (next_row (rows_of old.entries) session command)))
       → reach disk ≤ max (reach log.disk) (length (journal_bytes (rows_of log.entries)) + 4110)
-      → IsSinceOpened tells may_leave room label reach moment left_since (record {
-        disk = disk;
-        entries = entries;
-        uncertain = uncertain;
-        opening = log.opening;
-        ready = ready;
-      })
+      → IsSinceOpened tells may_leave room label reach moment left_since
+      (record log { disk = disk; entries = entries; uncertain = uncertain; ready = ready })
   since_more {disk = disk} {entries = entries} uncertain e pushed numbered same leaves asked =
       record {
         same = same_then since.same same;
         many = omega (arith, since.many, ap length pushed, length-append log.entries (e ∷ []));
-        numbers = subst (λ (es : List Entry). Each IsOfSession es) (sym pushed)
-            (each_append IsOfSession log.entries (e ∷ []) since.numbers (numbered, tt));
+        numbers = rw pushed (each_append IsOfSession log.entries (e ∷ []) since.numbers (
+          (omega (arith, numbered), omega (arith, numbered, stands.below)),
+          tt,
+        ));
         meanwhile = λ start journal may told. images start journal may told;
         reaches = omega (arith, since.reaches, asked, longer);
       }
@@ -164,9 +148,7 @@ module _
       here :
           IsTrue (tells log.disk) → LeavesOnly moment left_since log.disk disk
           (Meanwhile rows log.uncertain (next_row rows session command))
-      here = subst (λ (l : Log D). IsTrue (tells l.disk)
-          → LeavesOnly moment left_since l.disk disk (Meanwhile (rows_of l.entries) l.uncertain
-          (next_row (rows_of l.entries) session command))) (sym is) leaves
+      here = rw is leaves
 
       images :
           (start : List Row) → IsJournal start
@@ -178,29 +160,21 @@ module _
           let P : List ℕ → Type 0
           = λ c. MayOpen start c ⊎ IsBetween (found_in entries) (rows_of entries) c
           in
-          let told_now = subst (λ (b : Bool). IsTrue b) (sym since.same.telling) told in
-          and_then moment left_since log.opening.disk log.disk disk P
+          let told_now = rw (← since.same.telling) at told in
+          and_more
           (weaker moment left_since log.opening.disk log.disk
           (λ c. MayOpen start c ⊎ IsBetween (found_in log.entries) rows c) P
           (since.meanwhile start journal may told)
           (λ c. ⊎_elim (λ opens. inl opens)
-          (λ b. inr (subst (λ (x : List Row). IsBetween x (rows_of entries) c) same_found
-          (between_later (found_in log.entries) rows (rows_of entries)
+          (λ b. inr (rw (← same_found) (between_later (found_in log.entries) rows (rows_of entries)
           (rows_of (e ∷ [])) c grows b)))))
-          (weaker moment left_since log.disk disk
-          (Meanwhile rows log.uncertain (next_row rows session command)) P (here told_now)
-          (λ c m. inr (subst (λ (x : List Row). IsBetween x (rows_of entries) c) same_found
-          (between_meanwhile (found_in log.entries) (rows_of (drop log.opening.found log.entries))
-          rows (rows_of entries) (rows_of (e ∷ [])) log.uncertain
-          (next_row rows session command) c (rows_after log.opening.found log.entries) grows m))))
+          (here told_now)
+          (λ c m. inr (rw (← same_found) (between_meanwhile (found_in log.entries)
+          (rows_of (drop log.opening.found log.entries)) rows (rows_of entries) (rows_of (e ∷ []))
+          log.uncertain (next_row rows session command) c
+          (rows_after log.opening.found log.entries) grows m)))
 
-  -- how far a repair writes, and then a row
-  pub asked_gate :
-      (before now end : ℕ) → end ≡ length (journal_bytes (rows_of log.entries))
-      → now ≤ max before (end + 1)
-      → now ≤ max before (length (journal_bytes (rows_of log.entries)) + 4110)
-  asked_gate before now end ends asked = omega (arith, ends, asked)
-
+  -- how far a row is written behind a repair
   pub asked_row :
       (before mid now end : ℕ) {q : Row} {past : List ℕ}
       → end ≡ length (journal_bytes (rows_of log.entries))
@@ -209,24 +183,16 @@ module _
       → now ≤ max mid (end + 1 + length past)
       → now ≤ max before (length (journal_bytes (rows_of log.entries)) + 4110)
   asked_row before mid now end {q} {past} ends made bytes first second =
-      let same : length (row_body q)
-      ≡ length (row_body (next_row (rows_of log.entries) session command))
-      = ap (λ (r : Row). length (row_body r)) made
-      in
       omega (
         arith,
         ends,
         first,
         second,
-        same,
         ap length bytes,
-        length-append (row_body q) (0 ∷ []),
-        row_most (rows_of log.entries) session command stands.ranges,
+        length-append (payload_of q.command) (0 ∷ []),
+        ap (λ (r : Row). length (payload_of r.command)) made,
+        payload_most command stands.ranges,
       )
-
-  -- the number of an entry of this session
-  pub numbered : (n : ℕ) → n ≡ session + 1 → (0 < n) × (n ≤ 64)
-  numbered n same = (omega (arith, same), omega (arith, same, stands.below))
 
 -- of a journal that was just opened
 pub since_begun :
@@ -249,8 +215,7 @@ since_begun {D} {tells} {may_leave} {room} {label} {reach} {moment} {left_since}
     {entries} found many fresh journal same crash asked = record {
       same = same;
       many = omega (arith, many);
-      numbers = subst (λ (es : List Entry). Each IsOfSession es) (sym fresh)
-          (numbers_of [] (rows_of entries) journal);
+      numbers = rw fresh (numbers_of [] (rows_of entries) journal);
       meanwhile = λ start is_journal may told.
           weaker moment left_since given now (MayOpen start)
           (λ c. MayOpen start c ⊎ IsBetween (rows_of (take found entries)) (rows_of entries) c)
@@ -278,25 +243,4 @@ pub reserved :
     (record log { entries = entries; ready = ready }) end
     × IsSinceOpened tells may_leave room label reach moment left_since
     (record log { entries = entries; ready = ready })
-reserved {D} {tells} {may_leave} {room} {faults} {label} {reach} {moment} {left_since} {log}
-    {end = end} {ready = ready} same (sound, since) =
-    subst (λ (es : List Entry).
-    IsSoundJournal tells may_leave room faults (record log { entries = es; ready = ready }) end
-    × IsSinceOpened tells may_leave room label reach moment left_since
-    (record log { entries = es; ready = ready })) (sym same) (
-      record {
-        journal = sound.journal;
-        ends = sound.ends;
-        within = sound.within;
-        next = sound.next;
-        images = sound.images;
-        counts = sound.counts;
-      },
-      record {
-        same = since.same;
-        many = since.many;
-        numbers = since.numbers;
-        meanwhile = since.meanwhile;
-        reaches = since.reaches;
-      },
-    )
+reserved same (sound, since) = rw same assumption

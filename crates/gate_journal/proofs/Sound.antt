@@ -1,6 +1,6 @@
 -- How a journal stays sound.
 use Rattle.std.proofs.Common.{◌≡◌, ◌⊎◌, inl, inr, ℕ, ◌+◌, ◌<◌, ◌≤◌, Bool, List, [], ◌∷◌}
-use Rattle.std.proofs.Common.{◌++◌, length, sym, ◌∙◌, ap, subst, arith, append_assoc}
+use Rattle.std.proofs.Common.{◌++◌, length, sym, ◌∙◌, ap, arith}
 use Rattle.std.specs.Prelude.{Option, None, IfSome}
 use Rattle.disk_model.specs.Disk.{LeavesOnly, Rose, Holds, EachImage}
 use Rattle.disk_model.proofs.Moments.{weaker, and_then}
@@ -9,9 +9,11 @@ use Rattle.gate_journal.specs.declared.entry.Entry.{Entry}
 use Rattle.gate_journal.specs.declared.entry.Entry.TheVariants.{Kept, Faulted}
 use Rattle.gate_journal.specs.Gate.{IsShut, IsUnsure}
 use Rattle.gate_journal.specs.Rows.{row_body, journal_bytes, IsJournal, IsNext}
-use Rattle.gate_journal.specs.Log.{Log, IsSoundJournal, rows_of, Rises, StandsInImage, Meanwhile}
-use Rattle.gate_journal.proofs.RowLemmas.{journal_push, spelled-push}
-use Rattle.gate_journal.proofs.LogLemmas.{rows_of-kept, rows_of-faulted, rises-kept}
+use Rattle.gate_journal.specs.Log.{Log, IsSoundJournal, rows_of, StandsInImage, Meanwhile}
+use Rattle.gate_journal.proofs.RowLemmas.{journal_push, shut_behind}
+use Rattle.std.proofs.lemmas.List.{append-nil}
+use Rattle.gate_journal.proofs.SinceLemmas.{rows_of-append}
+use Rattle.gate_journal.proofs.LogLemmas.{rises-kept}
 use Rattle.gate_journal.proofs.LogLemmas.{rises-faulted, closed_shut, closed_unsure}
 use Rattle.gate_journal.proofs.LogLemmas.{stands_well, stands_closed, end_push}
 
@@ -26,33 +28,21 @@ module _ {D : Type 0} (tells : D → Bool) (may_leave : D → List ℕ → Type 
       → to ≡ faults disk → from ≤ to → Rose from to
       → IfSome uncertain (IsNext (rows_of log.entries))
       → EachImage tells may_leave disk (StandsInImage (rows_of log.entries) uncertain)
-      → IsSoundJournal tells may_leave room faults (record {
-        disk = disk;
-        entries = entries;
-        uncertain = uncertain;
-        opening = log.opening;
-        ready = ready;
-      }) end
+      → IsSoundJournal tells may_leave room faults
+      (record log { disk = disk; entries = entries; uncertain = uncertain; ready = ready }) end
   sound_faulted log end disk entries uncertain by from to ready sound pushed same_room
       is_from is_to le rose next images =
       let same : rows_of log.entries ≡ rows_of entries =
-      sym (ap rows_of pushed ∙ rows_of-faulted log.entries by from to) in
-      let counts : Rises (faults log.opening.disk) log.entries from =
-      subst (λ (n : ℕ). Rises (faults log.opening.disk) log.entries n) (sym is_from) sound.counts in
+      sym (ap rows_of pushed ∙ rows_of-append log.entries _ ∙ append-nil _) in
       record {
-        journal = subst (λ (rows : List Row). IsJournal rows) same sound.journal;
-        ends = sound.ends ∙ ap (λ (rows : List Row). length (journal_bytes rows)) same;
+        journal = rw (← same) sound.journal;
+        ends = rw (← same) sound.ends;
         within = omega (arith, sound.within, same_room);
-        next = subst (λ (rows : List Row). IfSome uncertain (IsNext rows)) same next;
-        images =
-            subst
-            (λ (rows : List Row). EachImage tells may_leave disk (StandsInImage rows uncertain))
-            same images;
+        next = rw (← same) next;
+        images = rw (← same) images;
         counts =
-            subst (λ (l : List Entry). Rises (faults log.opening.disk) l (faults disk)) (sym pushed)
-            (subst
-            (λ (n : ℕ). Rises (faults log.opening.disk) (log.entries ++ Faulted by from to ∷ []) n)
-            is_to (rises-faulted log.entries by from to (faults log.opening.disk) counts le rose));
+            rw (pushed, ← is_to) (rises-faulted log.entries by from to (faults log.opening.disk)
+            (rw is_from sound.counts) le rose);
       }
 
   -- after a row
@@ -65,32 +55,20 @@ module _ {D : Type 0} (tells : D → Bool) (may_leave : D → List ℕ → Type 
       → later < room disk
       → IsNext (rows_of log.entries) r
       → EachImage tells may_leave disk (IsShut (journal_bytes (rows_of log.entries ++ r ∷ [])))
-      → IsSoundJournal tells may_leave room faults (record {
-        disk = disk;
-        entries = entries;
-        uncertain = None;
-        opening = log.opening;
-        ready = ready;
-      }) later
+      → IsSoundJournal tells may_leave room faults
+      (record log { disk = disk; entries = entries; uncertain = None; ready = ready }) later
   sound_kept log end later disk entries r ready sound pushed same_room le is_later within
       next images =
       let same : rows_of log.entries ++ r ∷ [] ≡ rows_of entries =
-      sym (ap rows_of pushed ∙ rows_of-kept log.entries r) in
+      sym (ap rows_of pushed ∙ rows_of-append log.entries (Kept r ∷ [])) in
       record {
-        journal =
-            subst (λ (rows : List Row). IsJournal rows) same
-            (journal_push (rows_of log.entries) r sound.journal next);
-        ends =
-            is_later ∙ end_push (rows_of log.entries) r end sound.ends
-            ∙ ap (λ (rows : List Row). length (journal_bytes rows)) same;
+        journal = rw (← same) (journal_push (rows_of log.entries) r sound.journal next);
+        ends = rw (← same) (is_later ∙ end_push (rows_of log.entries) r end sound.ends);
         within = within;
         next = tt;
-        images =
-            subst (λ (rows : List Row). EachImage tells may_leave disk (StandsInImage rows None))
-            same images;
+        images = rw (← same) images;
         counts =
-            subst (λ (l : List Entry). Rises (faults log.opening.disk) l (faults disk)) (sym pushed)
-            (rises-kept log.entries r (faults log.opening.disk) (faults log.disk)
+            rw pushed (rises-kept log.entries r (faults log.opening.disk) (faults log.disk)
             (faults disk) sound.counts le);
       }
 
@@ -125,15 +103,11 @@ module _ {D : Type 0} (moment : D → ℕ) (left_since : D → ℕ → List ℕ 
           → Meanwhile rows uncertain r c
       each c (inl shut) = (inr (inl (closed_shut rows c all shut)), inl shut)
       each c (inr unsure) =
-          let stands : IsUnsure (journal_bytes rows) (row_body r ++ 0 ∷ []) c =
-          subst (λ (l : List ℕ). IsUnsure (journal_bytes rows) l c) is unsure in
+          let stands = rw is at unsure in
           (inr (closed_unsure rows r c all next stands), inr (r, next, stands))
 
 pub opened_shut : (rows : List Row) (r : Row) (past c : List ℕ)
     → past ≡ row_body r ++ 0 ∷ []
     → Holds c 0 (journal_bytes rows ++ 1 ∷ past)
     → IsShut (journal_bytes (rows ++ r ∷ [])) c
-opened_shut rows r past c is holds =
-    subst (λ (l : List ℕ). Holds c 0 l) (ap (λ (l : List ℕ). journal_bytes rows ++ 1 ∷ l) is
-    ∙ sym (append_assoc (journal_bytes rows) (1 ∷ row_body r) (0 ∷ []))
-    ∙ ap (λ (l : List ℕ). l ++ 0 ∷ []) (sym (spelled-push rows r))) holds
+opened_shut rows r past c is holds = shut_behind rows r c (rw is at holds)

@@ -1,7 +1,5 @@
 -- What is found after a stop.
-use Rattle.std.proofs.Common.{inl, inr, ℕ, List, [], ◌∷◌, ◌++◌}
-use Rattle.std.proofs.Common.{length, get_or, arith, length-append}
-use Rattle.std.proofs.lemmas.Bool.{cases_eq}
+use Rattle.std.proofs.Common.{inl, inr, ⊎_elim, ℕ, List, [], ◌∷◌, ◌++◌}
 use Rattle.std.specs.Prelude.{Option, Some, None}
 use Rattle.disk_model.proofs.Torn.{holds_front}
 use Rattle.gate_journal.specs.declared.row.Row.{Row}
@@ -10,12 +8,12 @@ use Rattle.gate_journal.specs.declared.fault.JournalFault.TheVariants.{NotJourna
 use Rattle.gate_journal.specs.declared.fault.JournalFault.TheVariants.{Corrupt, NoMemory}
 use Rattle.gate_journal.specs.declared.fault.JournalFault.TheVariants.{DiskFault as on_disk}
 use Rattle.gate_journal.specs.Faults.{Explains, IsOfDisk}
-use Rattle.gate_journal.specs.Rows.{journal_header, row_body, rows_behind_open_gates}
-use Rattle.gate_journal.specs.Rows.{journal_bytes, SpellsRows, IsJournal}
+use Rattle.gate_journal.specs.Rows.{journal_header, rows_behind_open_gates}
+use Rattle.gate_journal.specs.Rows.{SpellsRows, IsJournal}
 use Rattle.gate_journal.specs.Log.{MaySpell, MayFind, MayOpen}
 use Rattle.gate_journal.specs.Laws.{FindsRows, FindsThese}
 use Rattle.gate_journal.proofs.RowLemmas.{one_list, never_both, spells_shut}
-use Rattle.gate_journal.proofs.RowLemmas.{spells_not_open, opens, journal_push}
+use Rattle.gate_journal.proofs.LogLemmas.{closed_unsure}
 
 -- what an image spells is what is found in it
 pub found_in : (rows : List Row) (u : Option Row) (found : List Row) (c : List ℕ)
@@ -54,18 +52,8 @@ refused_of_disk rows u c e spells said =
 finds_these : (rows : List Row) (c : List ℕ) → IsJournal rows → MayOpen rows c → FindsThese rows c
 finds_these rows c all (inl shut) = inl (spells_shut rows c all shut)
 finds_these rows c all (inr (r, next, unsure)) =
-    elim (cases_eq (get_or c (length (journal_bytes rows)) 0) 1) [
-      | inl is_open ↦
-          inr (
-            r,
-            next,
-            spells_shut (rows ++ r ∷ []) c (journal_push rows r all next)
-                (opens rows r c unsure is_open),
-          )
-      | inr shut ↦
-          inl (spells_not_open rows (row_body r ++ 0 ∷ []) c all unsure shut
-          (omega (arith, unsure.behind.within, length-append (row_body r) (0 ∷ []))))
-    ]
+    ⊎_elim (λ well. inl well.spells) (λ well. inr (r, next, well.spells))
+    (closed_unsure rows r c all next unsure)
 
 pub finds_rows : FindsRows
 finds_rows rows c all met = (found, λ e said. refused found e said)

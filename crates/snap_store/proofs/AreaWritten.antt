@@ -1,7 +1,7 @@
 -- An area that is written by two writes, its head and then its bytes, is whole.
 use Rattle.std.proofs.Common.{◌≡◌, ℕ, ◌+◌, ◌^◌, ◌<◌, ◌≤◌, true}
 use Rattle.std.proofs.Common.{List, [], ◌++◌, length, get_or, take, drop}
-use Rattle.std.proofs.Common.{refl, ◌∙◌, ap, arith, length-append}
+use Rattle.std.proofs.Common.{refl, ◌∙◌, ap, arith}
 use Rattle.std.specs.Prelude.{Some}
 use Rattle.std.proofs.lemmas.List.{ext_get_or, length-take, length-drop, get_or-take, get_or-drop}
 use Rattle.std.proofs.lemmas.List.{get_or-append_right}
@@ -17,15 +17,7 @@ use Rattle.snap_store.specs.File.{is_whole, area_on_side, whole_area}
 use Rattle.snap_store.proofs.FileLemmas.{big_from_same}
 
 pub length-head : (place count many : ℕ) → length (head_bytes place count many) ≡ 16
-length-head place count many =
-    omega (
-      arith,
-      length-append (big_bytes 8 place) (big_bytes 4 count ++ big_bytes 4 many),
-      length-append (big_bytes 4 count) (big_bytes 4 many),
-      length-bytes_high_first 8 place,
-      length-bytes_high_first 4 count,
-      length-bytes_high_first 4 many,
-    )
+length-head place count many = refl
 
 -- a number behind other bytes
 big_from_behind :

@@ -47,19 +47,9 @@ laid_loosened side slot area beside beside_area c laid = record {
 }
 
 -- places of the two areas
-gate_small : (side : Side) → gate_of side + 1 ≤ side_start side
-gate_small A = omega arith
-gate_small B = omega arith
-
 gate_high : (side : Side) → 8 ≤ gate_of side
 gate_high A = omega arith
 gate_high B = omega arith
-
-gate_first : (side other_side : Side) → gate_of side + 1 ≤ side_start other_side
-gate_first A A = omega arith
-gate_first A B = omega arith
-gate_first B A = omega arith
-gate_first B B = omega arith
 
 start_high : (side : Side) → 4096 ≤ side_start side
 start_high A = omega arith
@@ -68,6 +58,9 @@ start_high B = omega arith
 gate_low : (side : Side) → gate_of side + 1 ≤ 4096
 gate_low A = omega arith
 gate_low B = omega arith
+
+gate_first : (side other_side : Side) → gate_of side + 1 ≤ side_start other_side
+gate_first side other_side = omega (arith, gate_low side, start_high other_side)
 
 gates_apart :
     (side : Side)
@@ -115,16 +108,14 @@ module _ (side : Side) (area : Option Stored) (beside : Slot) (beside_area : Opt
       → IsLaid side (loosened slot) area beside beside_area d
       → IsLaid side (loosened slot) area beside beside_area c
   laid_closing Closed c d open_gate torn laid = absurd (cc)
-  laid_closing Unsure c d open_gate torn laid = laid_gate_torn c d torn laid
-  laid_closing (Open place count) c d open_gate torn laid = laid_gate_torn c d torn laid
+  laid_closing slot c d open_gate torn laid = laid_gate_torn c d torn laid
 
   pub laid_shut :
       (slot : Slot) (d : List ℕ) → is_closed slot ≡ false
       → IsLaid side (loosened slot) area beside beside_area d
       → IsLaid side Closed area beside beside_area (file_written d (gate_of side) (0 ∷ []))
   laid_shut Closed d open_gate laid = absurd (cc)
-  laid_shut Unsure d open_gate laid = laid_closed d laid
-  laid_shut (Open place count) d open_gate laid = laid_closed d laid
+  laid_shut slot d open_gate laid = laid_closed d laid
 
   -- and where it was
   pub laid_was :
@@ -132,16 +123,14 @@ module _ (side : Side) (area : Option Stored) (beside : Slot) (beside_area : Opt
       → IsLaid side slot area beside beside_area d
       → IsLaid side Closed area beside beside_area d
   laid_was Closed d shut laid = laid
-  laid_was Unsure d shut laid = absurd (cc)
-  laid_was (Open place count) d shut laid = absurd (cc)
+  laid_was slot d shut laid = absurd (cc)
 
   pub laid_of_shut :
       (slot : Slot) (d : List ℕ) → is_closed slot ≡ true
       → IsLaid side Closed area beside beside_area d
       → IsLaid side (loosened slot) area beside beside_area d
   laid_of_shut Closed d shut laid = laid
-  laid_of_shut Unsure d shut laid = absurd (cc)
-  laid_of_shut (Open place count) d shut laid = absurd (cc)
+  laid_of_shut slot d shut laid = absurd (cc)
 
   -- the area beside it, through a write of this one
   spared :
@@ -178,7 +167,7 @@ module _ (side : Side) (area : Option Stored) (beside : Slot) (beside_area : Opt
       → IsLaid side Closed area beside beside_area c
   laid_area_torn c d at n spares from to torn laid = record {
     header = header_torn c d at n (omega (arith, start_high side)) torn laid.header;
-    here = gate_torn side c d at n (inl (omega (arith, gate_small side))) torn
+    here = gate_torn side c d at n (inl (omega (arith, gate_first side side))) torn
         (omega (arith, header_long d laid.header, gate_low side)) ∙ laid.here;
     there = spared side beside c d at n spares laid.there from to torn
         (gate_torn (opposite_side side) c d at n

@@ -60,16 +60,12 @@ found_among true true true false a b x is = inl (refl, refl, same_area a x is)
 found_among true true false wanted_b a b x is = inl (refl, refl, same_area a x is)
 found_among true false true true a b x is = inr (refl, refl, same_area b x is)
 found_among false wanted_a true true a b x is = inr (refl, refl, same_area b x is)
-found_among true false true false a b x is = absurd (none_some x is)
-found_among true false false wanted_b a b x is = absurd (none_some x is)
-found_among false wanted_a true false a b x is = absurd (none_some x is)
-found_among false wanted_a false wanted_b a b x is = absurd (none_some x is)
+found_among open_a wanted_a open_b wanted_b a b x is = absurd (none_some x is)
 
 both_parts : (p q : Bool) → (p && q) ≡ true → (p ≡ true) × (q ≡ true)
 both_parts true true is = (refl, refl)
 both_parts true false is = absurd (cc)
-both_parts false true is = absurd (cc)
-both_parts false false is = absurd (cc)
+both_parts false q is = absurd (cc)
 
 wanted_is :
     (place most : ℕ) (x : Stored) → is_wanted_area place most x ≡ true

@@ -1,5 +1,5 @@
 -- What a put leaves of a store.
-use Rattle.std.proofs.Common.{◌≡◌, ◌⊎◌, ◌≤◌, ◌+◌, inl, inr, ℕ, Bool, true, false, List, refl}
+use Rattle.std.proofs.Common.{◌≡◌, ◌⊎◌, ◌≤◌, ◌+◌, inl, inr, ℕ, Bool, true, List, refl}
 use Rattle.std.proofs.Common.{sym, ◌∙◌, ap, subst}
 use Rattle.std.specs.Prelude.{Option, Some, None, IsTrue, Result, Ok}
 use Rattle.disk_model.specs.Disk.{EachImage, Elapses, Follows, LeavesOnly, Torn}
@@ -18,7 +18,8 @@ use Rattle.snap_store.specs.Images.{StandsOnSide, IsLaid, Spares, loosened, Duri
 use Rattle.snap_store.specs.Store.{Snapshots, area_held, store_area, IsPutImage, IsSoundStore}
 use Rattle.snap_store.proofs.LaidLemmas.{laid_area_torn}
 use Rattle.snap_store.proofs.StoreLemmas.{openable_is, shut_closed, stands_openable}
-use Rattle.snap_store.proofs.StoreLemmas.{newest_is_beside, open_at, laid_turned, laid_seen}
+use Rattle.snap_store.proofs.SlotLemmas.{newest_is_beside}
+use Rattle.snap_store.proofs.StoreLemmas.{open_at, laid_turned, laid_seen}
 use Rattle.snap_store.proofs.StoreLemmas.{held_is, is_opened}
 
 -- what is known of each side, once something is known of one
@@ -43,30 +44,19 @@ laid_back A slots slot file c laid = laid
 laid_back B slots slot file c laid =
     record { header = laid.header; here = laid.there; there = laid.here }
 
-true_false : true ≡ false → ⊥
-true_false is = cc
-
-same_area : (x y : Stored) → Some x ≡ Some y → x ≡ y
-same_area x y is = cc
-
 -- behind a gate that is being closed stands the old area
 closing_openable :
     (side : Side) (slot : Slot) (file c : List ℕ) (area : Stored)
     → StandsOnSide side (loosened slot) (whole_area side file) c → openable_area side c ≡ Some area
     → area_held side slot file ≡ Some area
 closing_openable side Closed file c area stands is = absurd (shut_closed side c area stands is)
-closing_openable side Unsure file c area stands is = sym stands ∙ (openable_is side c area is).2
-closing_openable side (Open place count) file c area stands is =
-    sym stands ∙ (openable_is side c area is).2
+closing_openable side slot file c area stands is = sym stands ∙ (openable_is side c area is).2
 
 -- what is held after a step
 held_stands :
     (side : Side) (slot : Slot) (area : Option Stored) (file : List ℕ)
     → slot ≡ Unsure → StandsOnSide side slot area file → area_held side slot file ≡ area
-held_stands side Closed area file is stands = absurd (closed_unsure is)
-  where
-    closed_unsure : Closed ≡ Unsure → ⊥
-    closed_unsure is = cc
+held_stands side Closed area file is stands = absurd (cc)
 held_stands side Unsure area file is stands = stands
 held_stands side (Open place count) area file is stands = stands.1
 
@@ -75,8 +65,7 @@ held_loosened :
     → StandsOnSide side (loosened slot) (whole_area side file) file'
     → area_held side (loosened slot) file' ≡ area_held side slot file
 held_loosened side Closed file file' stands = refl
-held_loosened side Unsure file file' stands = stands
-held_loosened side (Open place count) file file' stands = stands
+held_loosened side slot file file' stands = stands
 
 -- a first write in an area behind its closed gate
 pub area_begun :
@@ -109,14 +98,7 @@ pub put_on_side :
     → Triple tells may_leave moment left_since result old new
     (IsLaid side' slot' area beside beside_area) (DuringPut side' slot' area put beside beside_area)
     (IsLaid side' now (Some put) beside beside_area)
-put_on_side {D} {T} {E} {tells} {may_leave} {moment} {left_since} {result} {old} {new}
-    {side} {side'} {slot} {slot'} {now} {area} {beside_area} {beside} {put} side_is slot_is triple =
-    subst (λ (k : Slot). Triple tells may_leave moment left_since result old new
-    (IsLaid side' k area beside beside_area) (DuringPut side' k area put beside beside_area)
-    (IsLaid side' now (Some put) beside beside_area)) slot_is
-    (subst (λ (s : Side). Triple tells may_leave moment left_since result old new
-    (IsLaid s slot area beside beside_area) (DuringPut s slot area put beside beside_area)
-    (IsLaid s now (Some put) beside beside_area)) side_is triple)
+put_on_side side_is slot_is triple = rw (side_is, slot_is) at triple
 
 module _
     {D : Type 0}
@@ -158,8 +140,7 @@ module _
   put_image_of c header stands own = record {
     header = header;
     newest = λ side' is. open_at seen store c side' header is
-        (subst (λ (s : Side). StandsOnSide s (slot_of store.slots s)
-        (whole_area s (seen store.disk)) c) (newest_is_beside store.slots side' is) stands);
+        (rw (newest_is_beside store.slots side' is) at stands);
     taken = own;
     beside = λ x is. stands_openable (opposite_side side) beside (seen store.disk) c x stands is;
   }
@@ -172,7 +153,7 @@ module _
   put_image c (inr (inl laid)) = put_image_of c laid.header laid.there (λ x is.
       absurd (shut_closed side c x laid.here is))
   put_image c (inr (inr laid)) = put_image_of c laid.header laid.there (λ x is.
-      inr (same_area x put (sym (openable_is side c x is).2 ∙ laid.here)))
+      inr (cc ((openable_is side c x is).2, laid.here)))
 
   pub crash_of :
       {T E : Type 0} {moment : D → ℕ} {left_since : D → ℕ → List ℕ → Type 0}
@@ -184,11 +165,9 @@ module _
       → view.made ≡ true → IsTrue (tells view.disk)
       → LeavesOnly moment left_since view.disk new (IsPutImage seen view put)
   crash_of {moment = moment} {left_since = left_since} {new = new} view_is triple =
-      subst (λ (s : Snapshots D). s.made ≡ true → IsTrue (tells s.disk)
-      → LeavesOnly moment left_since s.disk new (IsPutImage seen s put)) view_is
-      (λ is told. weaker moment left_since store.disk new
-      (DuringPut side slot area put beside beside_area) (IsPutImage seen store put)
-      (triple.meanwhile told (laid_before told)) put_image)
+      rw (← view_is) (λ is told.
+      weaker moment left_since store.disk new (DuringPut side slot area put beside beside_area)
+      (IsPutImage seen store put) (triple.meanwhile told (laid_before told)) put_image)
 
   module _ {new : D} (telling : tells new ≡ tells store.disk) {slots : Slots}
       {now : Slot} {left : Option Stored}
@@ -202,12 +181,10 @@ module _
     sound_after = record {
       header = λ told c at. (laid told c at).header ∙ sym made;
       laid = λ is_made told c at.
-          subst (λ (s : Slots). IsLaid A s.a (whole_area A (seen new)) s.b
-          (whole_area B (seen new)) c) (sym set)
-          (laid_back side store.slots now (seen new) c
+          rw set (laid_back side store.slots now (seen new) c
           (laid_seen side now left beside beside_area (seen new) c
           (laid told (seen new) (stays new)) (laid told c at)));
-      unmade = λ unmade. absurd (true_false (sym made ∙ unmade));
+      unmade = λ unmade. absurd (cc (made, unmade));
     }
 
     told_after : IsTrue (tells store.disk) → IsTrue (tells new)
@@ -240,7 +217,7 @@ module _
     put_there is is_left told =
         here_after
         ∙ ap (λ (s : Slot). area_held side s (seen new)) is
-        ∙ (subst (λ (s : Slot). StandsOnSide side s left (seen new)) is (shows told).here).1
+        ∙ (rw is at (shows told).here).1
         ∙ is_left
 
     left_there :
@@ -249,11 +226,9 @@ module _
         ⊎ (store_area seen after side ≡ None)
         ⊎ (store_area seen after side ≡ Some put)
     left_there (inl is) told =
-        let stands : StandsOnSide side (loosened slot) area (seen new) =
-        subst (λ (o : Option Stored). StandsOnSide side (loosened slot) o (seen new)) is.1
-        (subst (λ (s : Slot). StandsOnSide side s left (seen new)) is.0 (shows told).here) in
         inl (here_after ∙ ap (λ (s : Slot). area_held side s (seen new)) is.0
-        ∙ held_loosened side slot (seen store.disk) (seen new) stands)
+        ∙ held_loosened side slot (seen store.disk) (seen new)
+        (rw (is.0, is.1) at (shows told).here))
     left_there (inr (inl is)) told =
         inr (inl (here_after ∙ ap (λ (s : Slot). area_held side s (seen new)) is.0))
     left_there (inr (inr is)) told =
@@ -265,19 +240,13 @@ module _
           IsTrue (tells view.disk)
           → store_area seen after (opposite_side (taken_side view.slots))
           ≡ store_area seen view (opposite_side (taken_side view.slots))
-      beside_after =
-          subst (λ (s : Snapshots D). IsTrue (tells s.disk)
-          → store_area seen after (opposite_side (taken_side s.slots))
-          ≡ store_area seen s (opposite_side (taken_side s.slots))) view_is kept_beside
+      beside_after = rw (← view_is) kept_beside
 
       pub put_after :
           {place count : ℕ} → now ≡ Open place count → left ≡ Some put
           → view.made ≡ true → IsTrue (tells view.disk)
           → store_area seen after (taken_side view.slots) ≡ Some put
-      put_after is is_left =
-          subst (λ (s : Snapshots D). s.made ≡ true → IsTrue (tells s.disk)
-          → store_area seen after (taken_side s.slots) ≡ Some put) view_is
-          (λ made_then. put_there is is_left)
+      put_after is is_left = rw (← view_is) (λ made_then. put_there is is_left)
 
       pub left_after :
           IsLeft slot area put now left → view.made ≡ true → IsTrue (tells view.disk)
@@ -285,20 +254,13 @@ module _
           ≡ store_area seen view (taken_side view.slots))
           ⊎ (store_area seen after (taken_side view.slots) ≡ None)
           ⊎ (store_area seen after (taken_side view.slots) ≡ Some put)
-      left_after is =
-          subst (λ (s : Snapshots D). s.made ≡ true → IsTrue (tells s.disk)
-          → (store_area seen after (taken_side s.slots) ≡ store_area seen s (taken_side s.slots))
-          ⊎ (store_area seen after (taken_side s.slots) ≡ None)
-          ⊎ (store_area seen after (taken_side s.slots) ≡ Some put)) view_is
-          (λ made_then. left_there is)
+      left_after is = rw (← view_is) (λ made_then. left_there is)
 
       pub opened_after :
           {place count : ℕ} → now ≡ Open place count → left ≡ Some put → view.made ≡ true
           → EachImage tells may_leave new
           (λ (c : List ℕ). open_area (taken_side view.slots) c ≡ Some put)
       opened_after is is_left =
-          subst (λ (s : Snapshots D). s.made ≡ true → EachImage tells may_leave new
-          (λ (c : List ℕ). open_area (taken_side s.slots) c ≡ Some put)) view_is
-          (λ made_then told c at. let there = laid told c at in
-          let here = subst (λ (k : Slot). StandsOnSide side k left c) is there.here in
+          rw (← view_is) (λ made_then told c at. let there = laid told c at in
+          let here = rw is at there.here in
           is_opened side c put there.header here.0 (here.1 ∙ is_left))

@@ -12,9 +12,8 @@ use Rattle.snap_store.specs.declared.slot.Slot.{Slot}
 use Rattle.snap_store.specs.declared.slot.Slot.TheVariants.{Closed, Open, Unsure}
 use Rattle.snap_store.specs.declared.slot.Slots.{Slots}
 use Rattle.snap_store.specs.File.{Stored, has_header, gate_byte, is_whole, area_on_side, whole_area}
-use Rattle.snap_store.specs.File.{is_open_area, open_area, openable_area, area_place, count_at}
-use Rattle.snap_store.specs.Slots.{opposite_side, slot_of, slot_in, is_before, newest_side}
-use Rattle.snap_store.specs.Slots.{beside, taken_side}
+use Rattle.snap_store.specs.File.{open_area, openable_area, area_place, count_at}
+use Rattle.snap_store.specs.Slots.{opposite_side, slot_of, slot_in, newest_side}
 use Rattle.snap_store.specs.Images.{IsAreaOf, StandsOnSide, IsLaid}
 use Rattle.snap_store.specs.Store.{Snapshots, store_area, area_held, IsOpenIn, IsImageOf}
 use Rattle.snap_store.specs.Store.{IsSoundStore}
@@ -22,40 +21,17 @@ use Rattle.snap_store.specs.File.{newest_area, area_given}
 use Rattle.snap_store.specs.Store.{IsGiven}
 use Rattle.std.specs.Prelude.{IfSome}
 use Rattle.snap_store.proofs.Newest.{newest_found}
-use Rattle.snap_store.proofs.FileLemmas.{none_some, and-false}
+use Rattle.snap_store.proofs.FileLemmas.{none_some}
+use Rattle.snap_store.proofs.SlotLemmas.{newest_open, no_side}
 
--- parts of the tests of an area that is open, or may open
-openable_parts :
-    (header zero whole : Bool) (x y : Stored)
-    → (if header && not zero && whole then Some x else None) ≡ Some y
-    → (header ≡ true) × (zero ≡ false) × ((if whole then Some x else None) ≡ Some y)
-openable_parts true false true x y is = (refl, refl, is)
-openable_parts true false false x y is = absurd (none_some y is)
-openable_parts true true true x y is = absurd (none_some y is)
-openable_parts true true false x y is = absurd (none_some y is)
-openable_parts false true true x y is = absurd (none_some y is)
-openable_parts false true false x y is = absurd (none_some y is)
-openable_parts false false true x y is = absurd (none_some y is)
-openable_parts false false false x y is = absurd (none_some y is)
-
-open_parts :
-    (header one whole : Bool) (x y : Stored)
-    → (if header && one && whole then Some x else None) ≡ Some y
-    → (header ≡ true) × (one ≡ true) × ((if whole then Some x else None) ≡ Some y)
-open_parts true true true x y is = (refl, refl, is)
-open_parts true true false x y is = absurd (none_some y is)
-open_parts true false true x y is = absurd (none_some y is)
-open_parts true false false x y is = absurd (none_some y is)
-open_parts false true true x y is = absurd (none_some y is)
-open_parts false true false x y is = absurd (none_some y is)
-open_parts false false true x y is = absurd (none_some y is)
-open_parts false false false x y is = absurd (none_some y is)
-
-both_true :
-    (header test whole : Bool) (x y : Stored)
-    → header ≡ true → test ≡ true → (if whole then Some x else None) ≡ Some y
-    → (if header && test && whole then Some x else None) ≡ Some y
-both_true header test whole x y is_header is_test is = rw (is_header, is_test) is
+-- an area that is given passed each test
+passed :
+    (header gate whole : Bool) (x y : Stored)
+    → (if header && gate && whole then Some x else None) ≡ Some y
+    → (header ≡ true) × (gate ≡ true) × ((if whole then Some x else None) ≡ Some y)
+passed true true whole x y is = (refl, refl, is)
+passed true false whole x y is = absurd (none_some y is)
+passed false gate whole x y is = absurd (none_some y is)
 
 -- an area that may open is whole behind a gate that isn't 0
 pub openable_is :
@@ -63,8 +39,14 @@ pub openable_is :
     → (has_header c ≡ true) × ((gate_byte side c == 0) ≡ false)
     × (whole_area side c ≡ Some area)
 openable_is side c area is =
-    openable_parts (has_header c) (gate_byte side c == 0) (is_whole side c)
-    (area_on_side side c) area is
+    let parts =
+    passed (has_header c) (not (gate_byte side c == 0)) (is_whole side c) (area_on_side side c) area
+    is in
+    (parts.0, not_true (gate_byte side c == 0) parts.1, parts.2)
+  where
+    not_true : (b : Bool) → not b ≡ true → b ≡ false
+    not_true true is = cc
+    not_true false is = refl
 
 -- an open one may open
 pub open_openable :
@@ -72,11 +54,8 @@ pub open_openable :
     → openable_area side c ≡ Some area
 open_openable side c area is =
     let parts =
-    open_parts (has_header c) (gate_byte side c == 1) (is_whole side c)
-    (area_on_side side c) area is in
-    both_true (has_header c) (not (gate_byte side c == 0)) (is_whole side c)
-    (area_on_side side c) area
-    parts.0 (ap not (not_zero (gate_byte side c) parts.1)) parts.2
+    passed (has_header c) (gate_byte side c == 1) (is_whole side c) (area_on_side side c) area is in
+    rw (parts.0, not_zero (gate_byte side c) parts.1) parts.2
   where
     not_zero : (gate : ℕ) → (gate == 1) ≡ true → (gate == 0) ≡ false
     not_zero gate one = grind (arith, nat_tests)
@@ -86,20 +65,14 @@ pub is_opened :
     (side : Side) (c : List ℕ) (area : Stored)
     → has_header c ≡ true → gate_byte side c ≡ 1 → whole_area side c ≡ Some area
     → open_area side c ≡ Some area
-is_opened side c area header gate whole =
-    both_true (has_header c) (gate_byte side c == 1) (is_whole side c) (area_on_side side c) area
-    header (ap (λ (g : ℕ). g == 1) gate) whole
+is_opened side c area header gate whole = rw (header, gate) whole
 
 -- nothing may open behind a gate that is 0
 pub shut_closed :
     (side : Side) (c : List ℕ) (area : Stored) → gate_byte side c ≡ 0
     → openable_area side c ≡ Some area → ⊥
 shut_closed side c area gate is =
-    let parts = openable_is side c area is in
-    true_false (sym (ap (λ (g : ℕ). g == 0) gate) ∙ parts.1)
-  where
-    true_false : true ≡ false → ⊥
-    true_false is = cc
+    cc ((openable_is side c area is).1, ap (λ (g : ℕ). g == 0) gate)
 
 -- what may open is the area that stands there
 pub stands_openable :
@@ -126,73 +99,6 @@ stands_open side place count file c header stands =
     there None is of = absurd of
     there (Some area) is of =
         (area, is, is_opened side c area header stands.0 (stands.1 ∙ is))
-
--- the newest area is open
-same_side : (x y : Side) → Some x ≡ Some y → x ≡ y
-same_side x y is = cc
-
-no_side : (side : Side) → None ≡ Some side → ⊥
-no_side side is = grind arith
-
--- what is known of a side is that its gate is open
-abbrev pub IsOpenSlot : Slot → Type 0
-IsOpenSlot slot = (place : ℕ) × (count : ℕ) × (slot ≡ Open place count)
-
-newest_open_of :
-    (a b : Slot) (side : Side) → newest_side (record { a = a; b = b }) ≡ Some side
-    → IsOpenSlot (slot_of (record { a = a; b = b }) side)
-newest_open_of (Open place count) (Open place' count') side is =
-    elim (cases_Bool (is_before place count place' count')) [
-      | inl later ↦ subst (λ (s : Side). IsOpenSlot (slot_of slots s)) (same_side B side (by later))
-          (place', count', refl)
-      | inr not_later ↦ subst (λ (s : Side). IsOpenSlot (slot_of slots s))
-          (same_side A side (by not_later)) (place, count, refl)
-    ]
-  where
-    slots : Slots
-    slots = record { a = Open place count; b = Open place' count' }
-
-    by :
-        {t : Bool} → is_before place count place' count' ≡ t
-        → Some (if t then B else A) ≡ Some side
-    by test = ap (λ (b : Bool). Some (if b then B else A)) (sym test) ∙ is
-newest_open_of (Open place count) Closed side is =
-    subst (λ (s : Side). IsOpenSlot (slot_of (record { a = Open place count; b = Closed }) s))
-    (same_side A side is) (place, count, refl)
-newest_open_of (Open place count) Unsure side is =
-    subst (λ (s : Side). IsOpenSlot (slot_of (record { a = Open place count; b = Unsure }) s))
-    (same_side A side is) (place, count, refl)
-newest_open_of Closed (Open place count) side is =
-    subst (λ (s : Side). IsOpenSlot (slot_of (record { a = Closed; b = Open place count }) s))
-    (same_side B side is) (place, count, refl)
-newest_open_of Closed Closed side is = absurd (no_side side is)
-newest_open_of Closed Unsure side is = absurd (no_side side is)
-newest_open_of Unsure (Open place count) side is =
-    subst (λ (s : Side). IsOpenSlot (slot_of (record { a = Unsure; b = Open place count }) s))
-    (same_side B side is) (place, count, refl)
-newest_open_of Unsure Closed side is = absurd (no_side side is)
-newest_open_of Unsure Unsure side is = absurd (no_side side is)
-
-pub newest_open :
-    (slots : Slots) (side : Side) → newest_side slots ≡ Some side
-    → IsOpenSlot (slot_of slots side)
-newest_open slots side is = newest_open_of slots.a slots.b side is
-
--- the newest side isn't the one that is taken
-pub newest_is_beside :
-    (slots : Slots) (side : Side) → newest_side slots ≡ Some side
-    → opposite_side (taken_side slots) ≡ side
-newest_is_beside slots side is = beside_is (newest_side slots) side is
-  where
-    twice : (side : Side) → opposite_side (opposite_side side) ≡ side
-    twice A = refl
-    twice B = refl
-
-    beside_is :
-        (found : Option Side) (side : Side)
-        → found ≡ Some side → opposite_side (beside found) ≡ side
-    beside_is None side is = absurd (no_side side is)
-    beside_is (Some x) side is = twice x ∙ same_side x side is
 
 -- one side of both
 pub laid_side :
@@ -221,8 +127,7 @@ module _ {D : Type 0} (seen : D → List ℕ) (store : Snapshots D) (c : List �
   open_at side header is stands =
       let slot = newest_open store.slots side is in
       let file = seen store.disk in
-      let found = stands_open side slot.0 slot.1 file c header
-      (subst (λ (s : Slot). StandsOnSide side s (whole_area side file) c) slot.2 stands) in
+      let found = stands_open side slot.0 slot.1 file c header (rw slot.2 at stands) in
       record {
         area = found.0;
         kept = ap (λ (s : Slot). area_held side s file) slot.2 ∙ found.1;
@@ -238,9 +143,9 @@ module _ {D : Type 0} (seen : D → List ℕ) (store : Snapshots D) (c : List �
       × (open_area side c ≡ Some area) × (area.place ≡ place) × (area.count ≡ count)
   synced_at side place count header is stands =
       let file = seen store.disk in
-      let there = subst (λ (s : Slot). StandsOnSide side s (whole_area side file) c) is stands in
+      let there = rw is at stands in
       let found = stands_open side place count file c header there in
-      let head = subst (λ (o : Option Stored). IsAreaOf place count o) found.1 there.2 in
+      let head = rw found.1 at there.2 in
       (found.0, ap (λ (s : Slot). area_held side s file) is ∙ found.1, found.2, head.0, head.1)
 
   -- where both sides stand as they are seen
@@ -268,31 +173,16 @@ module _ {D : Type 0} (seen : D → List ℕ) (store : Snapshots D) (c : List �
     header = header ∙ sym made;
     openable = λ side area is. absurd (none_opens side area is);
     opened = λ side area is. absurd (none_opens side area (open_openable side c area is));
-    newest = λ side is. absurd (no_side side (sym (none_newest store.slots a b) ∙ is));
-    synced = λ side place count is.
-        absurd (closed_open place count (sym (slot_closed side store.slots a b) ∙ is));
+    newest = λ side is. absurd (no_side side (rw (a, b) at is));
+    synced = λ side place count is. absurd (cc (slot_closed side));
   }
     where
-      false_true : false ≡ true → ⊥
-      false_true is = cc
-
-      closed_open : (place count : ℕ) → Closed ≡ Open place count → ⊥
-      closed_open place count is = cc
-
-      slot_closed :
-          (side : Side) (slots : Slots) → slots.a ≡ Closed → slots.b ≡ Closed
-          → slot_of slots side ≡ Closed
-      slot_closed A slots a b = a
-      slot_closed B slots a b = b
+      slot_closed : (side : Side) → slot_of store.slots side ≡ Closed
+      slot_closed A = a
+      slot_closed B = b
 
       none_opens : (side : Side) (area : Stored) → openable_area side c ≡ Some area → ⊥
-      none_opens side area is = false_true (sym header ∙ (openable_is side c area is).0)
-
-      none_newest :
-          (slots : Slots) → slots.a ≡ Closed → slots.b ≡ Closed → newest_side slots ≡ None
-      none_newest slots is_a is_b =
-          ap (λ (s : Slot). newest_side (record { a = s; b = slots.b })) is_a
-          ∙ ap (λ (s : Slot). newest_side (record { a = Closed; b = s })) is_b
+      none_opens side area is = cc (openable_is side c area is).0
 
 module _
     {D : Type 0}
@@ -310,97 +200,52 @@ module _
         (sound.unmade unmade).0 (sound.unmade unmade).1
   ]
 
--- a file of which nothing is pending
-module _ (side : Side) (file : List ℕ) (header : has_header file ≡ true) where
-  abbrev by_tests : Bool → Bool → Bool → Slot
-  by_tests is_header zero one =
-      if is_header && not zero
-      then (if one then Open (area_place side file) (count_at side file) else Unsure)
-      else Closed
+gate_is : (gate n : ℕ) → (gate == n) ≡ true → gate ≡ n
+gate_is gate n is = grind (arith, nat_tests)
 
-  opened_head :
-      (whole : Bool) → is_whole side file ≡ whole → is_open_area side file ≡ true
-      → IsAreaOf (area_place side file) (count_at side file) (whole_area side file)
-  unfolding area_on_side
-  opened_head true is one =
-      subst (λ (b : Bool). IsAreaOf (area_place side file) (count_at side file)
-      (if b then Some (area_on_side side file) else None)) (sym is) (refl, refl)
-  opened_head false is one = absurd (false_true (sym (and_false is) ∙ one))
-    where
-      false_true : false ≡ true → ⊥
-      false_true is = cc
-
-      and_false : is_whole side file ≡ false → is_open_area side file ≡ false
-      and_false no_area = rw no_area (and-false (has_header file && (gate_byte side file == 1)))
-
-  pub stands_in : StandsOnSide side (slot_in side file) (whole_area side file) file
-  stands_in = elim (cases_Bool (gate_byte side file == 0)) [
-    | inl zero_gate ↦
-        subst (λ (s : Slot). StandsOnSide side s (whole_area side file) file)
-        (sym
-        (ap (λ (h : Bool). by_tests h (gate_byte side file == 0) (is_open_area side file)) header
-        ∙ ap (λ (z : Bool). by_tests true z (is_open_area side file)) zero_gate))
-        (is_zero (gate_byte side file) zero_gate)
-    | inr set_gate ↦ elim (cases_Bool (is_open_area side file)) [
-      | inl one ↦
-          subst (λ (s : Slot). StandsOnSide side s (whole_area side file) file)
-          (sym
-          (ap (λ (h : Bool). by_tests h (gate_byte side file == 0) (is_open_area side file)) header
-          ∙ ap (λ (z : Bool). by_tests true z (is_open_area side file)) set_gate
-          ∙ ap (λ (o : Bool). by_tests true false o) one))
-          (is_one one, refl, opened_head (is_whole side file) refl one)
-      | inr not_one ↦
-          subst (λ (s : Slot). StandsOnSide side s (whole_area side file) file)
-          (sym
-          (ap (λ (h : Bool). by_tests h (gate_byte side file == 0) (is_open_area side file)) header
-          ∙ ap (λ (z : Bool). by_tests true z (is_open_area side file)) set_gate
-          ∙ ap (λ (o : Bool). by_tests true false o) not_one))
-          refl
-    ]
-  ]
-    where
-      is_zero : (gate : ℕ) → (gate == 0) ≡ true → gate ≡ 0
-      is_zero gate is = grind (arith, nat_tests)
-
-      one_of : (gate : ℕ) → (gate == 1) ≡ true → gate ≡ 1
-      one_of gate is = grind (arith, nat_tests)
-
-      test_of : (h o w : Bool) → (h && o && w) ≡ true → o ≡ true
-      test_of true true true is = refl
-      test_of true true false is = cc
-      test_of true false true is = cc
-      test_of true false false is = cc
-      test_of false true true is = cc
-      test_of false true false is = cc
-      test_of false false true is = cc
-      test_of false false false is = cc
-
-      is_one : is_open_area side file ≡ true → gate_byte side file ≡ 1
-      is_one is =
-          one_of (gate_byte side file)
-          (test_of (has_header file) (gate_byte side file == 1) (is_whole side file) is)
-
--- what is held of it is what may open
 module _ (side : Side) (file : List ℕ) where
   whole_by :
       {whole : Bool} → is_whole side file ≡ whole
       → whole_area side file ≡ (if whole then Some (area_on_side side file) else None)
   whole_by is = ap (λ (b : Bool). if b then Some (area_on_side side file) else None) is
 
-  held_by :
-      (is_header zero one whole : Bool) → is_whole side file ≡ whole
-      → area_held side (if is_header && not zero
-      then (if is_header && one && whole
+  -- what is known of a gate, by the tests of the file
+  abbrev slot_by : Bool → Bool → Bool → Bool → Slot
+  slot_by header zero one whole =
+      if header && not zero
+      then (if header && one && whole
       then Open (area_place side file) (count_at side file) else Unsure)
-      else Closed) file
-      ≡ (if is_header && not zero && whole then Some (area_on_side side file) else None)
-  held_by false true one whole is = refl
-  held_by false false one whole is = refl
+      else Closed
+
+  stands_by :
+      (zero one whole : Bool) → (gate_byte side file == 0) ≡ zero
+      → (gate_byte side file == 1) ≡ one → is_whole side file ≡ whole
+      → StandsOnSide side (slot_by true zero one whole) (whole_area side file) file
+  unfolding area_on_side
+  stands_by true one whole at_zero at_one is = gate_is (gate_byte side file) 0 at_zero
+  stands_by false true true at_zero at_one is =
+      (gate_is (gate_byte side file) 1 at_one, refl, rw (whole_by is) (refl, refl))
+  stands_by false true false at_zero at_one is = refl
+  stands_by false false whole at_zero at_one is = refl
+
+  -- a file of which nothing is pending
+  pub stands_in :
+      has_header file ≡ true
+      → StandsOnSide side (slot_in side file) (whole_area side file) file
+  stands_in header =
+      rw header (stands_by (gate_byte side file == 0) (gate_byte side file == 1)
+      (is_whole side file) refl refl refl)
+
+  -- what is held of it is what may open
+  held_by :
+      (header zero one whole : Bool) → is_whole side file ≡ whole
+      → area_held side (slot_by header zero one whole) file
+      ≡ (if header && not zero && whole then Some (area_on_side side file) else None)
+  held_by false zero one whole is = refl
   held_by true true one whole is = refl
   held_by true false true true is = whole_by is
   held_by true false true false is = whole_by is
-  held_by true false false true is = whole_by is
-  held_by true false false false is = whole_by is
+  held_by true false false whole is = whole_by is
 
   pub held_in : area_held side (slot_in side file) file ≡ openable_area side file
   held_in =
@@ -436,20 +281,11 @@ module _
     laid = λ made told c now.
         let is = read told in
         let header = sym is.made ∙ made in
-        let laid : IsLaid A (slot_in A file) (whole_area A file) (slot_in B file)
-        (whole_area B file) file = record {
+        rw (is.a, is.b, is.sees, is.only c now) (record {
           header = header;
           here = stands_in A file header;
           there = stands_in B file header;
-        } in
-        subst (λ (s : Slot). IsLaid A s (whole_area A (seen store.disk)) store.slots.b
-        (whole_area B (seen store.disk)) c) (sym is.a)
-        (subst (λ (s : Slot). IsLaid A (slot_in A file) (whole_area A (seen store.disk)) s
-        (whole_area B (seen store.disk)) c) (sym is.b)
-        (subst (λ (l : List ℕ). IsLaid A (slot_in A file) (whole_area A l) (slot_in B file)
-        (whole_area B l) c) (sym is.sees)
-        (subst (λ (l : List ℕ). IsLaid A (slot_in A file) (whole_area A file) (slot_in B file)
-        (whole_area B file) l) (sym (is.only c now)) laid)));
+        });
     unmade = unmade;
   }
 
@@ -505,10 +341,9 @@ module _
   pub sound_looked : IsSoundStore tells may_leave seen looked
   sound_looked = record {
     header = λ told_new c now.
-        let told = subst (λ (b : Bool). IsTrue b) telling told_new in
-        sound.header told c (none_new told c now);
+        let told = rw telling at told_new in sound.header told c (none_new told c now);
     laid = λ made told_new c now.
-        let told = subst (λ (b : Bool). IsTrue b) telling told_new in
+        let told = rw telling at told_new in
         laid_seen A store.slots.a (whole_area A (seen store.disk)) store.slots.b
         (whole_area B (seen store.disk)) (seen new) c
         (sound.laid made told (seen new) (none_new told (seen new) (stays new)))

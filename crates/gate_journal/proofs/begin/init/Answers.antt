@@ -1,43 +1,33 @@
-use Rattle.std.proofs.Common.{List, ℕ, Bool, sym, subst}
-use Rattle.std.specs.Prelude.{IsTrue}
-use Rattle.disk_model.specs.Disk.{AfterWrite}
+use Rattle.std.proofs.Common.{List, ℕ}
+use Rattle.disk_model.specs.Disk.{AfterWrite, Elapses, LeavesOnly, NoneNew}
 use Rattle.disk_model.proofs.Torn.{torn_same}
-use Rattle.disk_model.proofs.Moments.{started, goes_on, weaker, and_then}
+use Rattle.gate_journal.proofs.Opening.{one_call, and_more}
 use Rattle.gate_journal.proofs.begin.init.Goals as goal
+
+-- a look, and then a write that a stop may cut short
+begun :
+    {D : Type 0} {moment : D → ℕ} {left_since : D → ℕ → List ℕ → Type 0}
+    (may_leave : D → List ℕ → Type 0) {old mid new : D} {n : ℕ}
+    → ((f : List ℕ) → left_since old (moment old) f → may_leave old f)
+    → Elapses (moment old) (moment mid) (left_since old) (left_since mid) (may_leave mid)
+    → NoneNew (may_leave old) (may_leave mid)
+    → LeavesOnly moment left_since mid new (AfterWrite 0 n (may_leave mid))
+    → LeavesOnly moment left_since old new (AfterWrite 0 n (may_leave old))
+begun may_leave {n = n} only time none_new wrote =
+    and_more
+    (one_call (λ f left. (f, only f left, torn_same 0 n f)) time
+    (λ f now. (f, none_new f now, torn_same 0 n f)))
+    wrote (λ f after. (after.0, none_new after.0 after.1, after.2))
 
 pub returns-in_default-write_through-clause-crash :
     goal.returns-in_default-write_through-clause-crash
 returns-in_default-write_through-clause-crash g c told =
-    let d = c.args.disk.now in
-    let P : List ℕ → Type 0 = AfterWrite 0 17 (g.D.Disk.may_leave d) in
-    let same : (f : List ℕ) → g.D.Disk.may_leave d f → P f = λ f now. (f, now, torn_same 0 17 f) in
-    let at_start =
-    started g.D.Disk.moment g.D.Disk.left_since d P
-    (λ f left. same f (g.met.D.Disk.only_now d f left)) in
-    let sized =
-    goes_on g.D.Disk.moment g.D.Disk.left_since d d c.size.new.self P _ at_start c.size.ensures.time
-    (λ f now. same f (c.size.ensures.crash told f now)) in
-    let told_then : IsTrue (g.D.Disk.tells c.size.new.self) =
-    subst (λ (b : Bool). IsTrue b) (sym c.size.ensures.kept.telling) told in
-    and_then g.D.Disk.moment g.D.Disk.left_since d c.size.new.self c.write_through.new.disk P sized
-    (weaker g.D.Disk.moment g.D.Disk.left_since c.size.new.self c.write_through.new.disk _ P
-    (c.write_through.ensures.crash told_then)
-    (λ f after. (after.0, c.size.ensures.crash told after.0 after.1, after.2)))
+    begun g.D.Disk.may_leave (g.met.D.Disk.only_now _) c.size.ensures.time
+    (c.size.ensures.crash told)
+    (c.write_through.ensures.crash (rw c.size.ensures.kept.telling told))
 
 pub returns-clause-crash : goal.returns-clause-crash
 returns-clause-crash g c told =
-    let d = c.args.disk.now in
-    let P : List ℕ → Type 0 = AfterWrite 0 17 (g.D.Disk.may_leave d) in
-    let same : (f : List ℕ) → g.D.Disk.may_leave d f → P f = λ f now. (f, now, torn_same 0 17 f) in
-    let at_start =
-    started g.D.Disk.moment g.D.Disk.left_since d P
-    (λ f left. same f (g.met.D.Disk.only_now d f left)) in
-    let sized =
-    goes_on g.D.Disk.moment g.D.Disk.left_since d d c.size.new.self P _ at_start c.size.ensures.time
-    (λ f now. same f (c.size.ensures.crash told f now)) in
-    let told_then : IsTrue (g.D.Disk.tells c.size.new.self) =
-    subst (λ (b : Bool). IsTrue b) (sym c.size.ensures.kept.telling) told in
-    and_then g.D.Disk.moment g.D.Disk.left_since d c.size.new.self c.write_through.new.disk P sized
-    (weaker g.D.Disk.moment g.D.Disk.left_since c.size.new.self c.write_through.new.disk _ P
-    (c.write_through.ensures.crash told_then)
-    (λ f after. (after.0, c.size.ensures.crash told after.0 after.1, after.2)))
+    begun g.D.Disk.may_leave (g.met.D.Disk.only_now _) c.size.ensures.time
+    (c.size.ensures.crash told)
+    (c.write_through.ensures.crash (rw c.size.ensures.kept.telling told))

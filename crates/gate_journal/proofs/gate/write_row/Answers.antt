@@ -1,5 +1,4 @@
-use Rattle.std.proofs.Common.{◌⊎◌, inl, inr, [], ◌∷◌, ◌+◌, ◌++◌, List, ℕ, Bool, subst, sym, arith}
-use Rattle.std.specs.Prelude.{IsTrue}
+use Rattle.std.proofs.Common.{◌⊎◌, inl, inr, [], ◌∷◌, ◌+◌, ◌++◌, List, ℕ, subst, sym, arith}
 use Rattle.disk_model.specs.Disk.{Holds}
 use Rattle.disk_model.proofs.Moments.{holds_now, weaker}
 use Rattle.disk_model.proofs.WorkLaws.{through, then_, looser, failed}
@@ -20,7 +19,7 @@ returns-in_default-clause-triple g c front is =
 
 pub returns-in_default-clause-before : goal.returns-in_default-clause-before
 returns-in_default-clause-before g c is_before front is each told_then =
-    let told = subst (λ (b : Bool). IsTrue b) c.write_through.ensures.kept.telling told_then in
+    let told = rw c.write_through.ensures.kept.telling at told_then in
     holds_now g.D.Disk.moment g.D.Disk.left_since g.D.Disk.may_leave c.args.disk.now
     c.write_through.new.disk (IsShut front)
     (g.met.D.Disk.counts_now c.write_through.new.disk)
@@ -49,9 +48,8 @@ returns-in_default-write_through-clause-triple g c front is =
 pub returns-in_default-write_through-clause-at_gate :
     goal.returns-in_default-write_through-clause-at_gate
 returns-in_default-write_through-clause-at_gate g c is_at front is each told_last =
-    let told_then =
-    subst (λ (b : Bool). IsTrue b) c.write_through-2.ensures.kept.telling told_last in
-    let told = subst (λ (b : Bool). IsTrue b) c.write_through.ensures.kept.telling told_then in
+    let told_then = rw c.write_through-2.ensures.kept.telling at told_last in
+    let told = rw c.write_through.ensures.kept.telling at told_then in
     let past = c.args.past.now in
     let seen = g.D.Disk.seen c.args.disk.now in
     let unsure : (f : List ℕ)

@@ -1,7 +1,7 @@
-use Rattle.std.proofs.Common.{◌≡◌, ◌∙◌, ap, length, List, rules, subst, sym}
+use Rattle.std.proofs.Common.{◌≡◌, ◌∙◌, ap, List, rules, sym}
 use Rattle.gate_journal.specs.declared.row.Row.{Row}
 use Rattle.gate_journal.specs.Log.{rows_kept, rows_of}
-use Rattle.gate_journal.specs.Rows.{journal_bytes, SpellsRows}
+use Rattle.gate_journal.specs.Rows.{SpellsRows}
 use Rattle.gate_journal.proofs.LogLemmas.{rows_of-all}
 use Rattle.gate_journal.proofs.parse.parse.Goals as goal
 
@@ -11,9 +11,7 @@ returns-clause-ok c =
     let spells : SpellsRows c.args.bytes.now c.list.inside.list.items = search rules in
     let same : rows ≡ rows_of c.in_ok-history.history.list =
     sym (ap rows_of c.in_ok-history.ensures ∙ rows_of-all rows) in
-    subst (λ (l : List Row).
-    SpellsRows c.args.bytes.now l × (c.list.inside.end ≡ length (journal_bytes l))) same
-    (spells, c.list.invariant.1)
+    rw (← same) (spells, c.list.invariant.1)
 
 pub returns-clause-fresh : goal.returns-clause-fresh
 returns-clause-fresh c =

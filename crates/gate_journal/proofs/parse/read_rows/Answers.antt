@@ -1,14 +1,12 @@
 use Rattle.std.proofs.Common.{◌≡◌, ◌≢◌, ◌++◌, ◌∷◌, [], ◌+◌, ◌-◌, ℕ, List, length, get_or}
-use Rattle.std.proofs.Common.{take, drop, false, refl, sym, ◌∙◌, ap, subst, arith, rules}
+use Rattle.std.proofs.Common.{take, drop, false, refl, ◌∙◌, ap, subst, arith, rules}
 use Rattle.std.specs.Prelude.{nat_eq}
 use Rattle.std.specs.List.{starts_with}
 use Rattle.std.proofs.lemmas.List.{take_rest, nil_from_length}
-use Rattle.gate_journal.specs.declared.row.Row.{Row}
 use Rattle.gate_journal.specs.Parsing.{BeginsWithRow, IsNoNext}
-use Rattle.gate_journal.specs.Rows.{journal_header, journal_bytes, payload_of, SpellsRows}
-use Rattle.gate_journal.specs.Seats.{CountsRows}
-use Rattle.gate_journal.proofs.RowLemmas.{spells_split, corrupt_end}
-use Rattle.gate_journal.proofs.RowLemmas.{corrupt_row, no_header, parse_step}
+use Rattle.gate_journal.specs.Rows.{journal_header, journal_bytes, payload_of}
+use Rattle.gate_journal.proofs.RowLemmas.{spells_split, parse_step}
+use Rattle.gate_journal.proofs.CorruptLemmas.{corrupt_end, corrupt_row, no_header}
 use Rattle.gate_journal.proofs.parse.read_rows.Goals as goal
 
 pub returns-then-not-starts_with-clause-exact : goal.returns-then-not-starts_with-clause-exact
@@ -55,8 +53,7 @@ loop-rest-preserved c =
     let said = c.in_ok-row.ensures rows I.counted I.place in
     let found : BeginsWithRow rows (take (length rest - 1) (drop 1 rest)) r =
     rw c.in-Some.is at said in
-    let first : BeginsWithRow rows (drop 1 rest) r =
-    subst (λ (l : List ℕ). BeginsWithRow rows l r) (take_rest rest 1) found in
+    let first : BeginsWithRow rows (drop 1 rest) r = rw (take_rest rest 1) at found in
     let later : c.push.new.self.items ≡ rows ++ r ∷ [] = c.in_ok-push.ensures.items in
     let size : n ≡ length (payload_of r.command) = c.payload_len-size.ensures.value in
     let step =
@@ -70,7 +67,5 @@ loop-rest-preserved c =
       split = step.0;
       journal = step.1;
       place = step.2;
-      counted =
-          subst (λ (l : List Row). CountsRows l c.count.new.self.counts c.count.new.self.uses)
-          (sym later) counted;
+      counted = rw later counted;
     }

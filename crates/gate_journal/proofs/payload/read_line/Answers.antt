@@ -1,12 +1,10 @@
 use Rattle.std.proofs.Common.{◌≡◌, ◌-◌, ◌≤◌, ℕ, List, length, take, drop}
-use Rattle.std.proofs.Common.{refl, sym, ◌∙◌, ap, subst, arith, rules}
-use Rattle.std.specs.Prelude.{Some, None, MatchOption}
+use Rattle.std.proofs.Common.{refl, sym, ◌∙◌, ap, arith, rules}
+use Rattle.std.specs.Prelude.{Some, None}
 use Rattle.std.proofs.lemmas.List.{take_rest}
 use Rattle.byteorder.specs.Endian.{big_number}
 use Rattle.story_text.specs.Reading.{text_of_bytes}
-use Rattle.gate_journal.specs.declared.command.Command.{Command}
 use Rattle.gate_journal.specs.declared.command.Command.TheVariants.{Line}
-use Rattle.gate_journal.specs.Command.{IsCommand}
 use Rattle.gate_journal.specs.Payload.{line_in}
 use Rattle.gate_journal.proofs.PayloadLemmas.{AreBytes, only_line, spells_line, checked_is}
 use Rattle.gate_journal.proofs.PayloadLemmas.{text_found, text_missing, line_text}
@@ -32,11 +30,6 @@ returns c =
     let second : c.read_u32-term.result ≡ big_number 4 (drop 4 p) =
     c.read_u32-term.ensures ∙ ap (λ (l : List ℕ). big_number 4 l) (take_rest p 4) in
     let same : Line c.read_u32-win.result c.read_u32-term.result c.in-Some.text ≡ line_in p =
-    ap (λ (k : ℕ). Line k c.read_u32-term.result c.in-Some.text) c.read_u32-win.ensures
-    ∙ ap (λ (k : ℕ). Line (big_number 4 p) k c.in-Some.text) second
-    ∙ ap (λ (t : List ℕ). Line (big_number 4 p) (big_number 4 (drop 4 p)) t) text.2 in
-    checked_is 2 p (line_in p) c.checked.result refl (spells_line p are size text.0)
-    (λ d is. (only_line p d is).1)
-    (subst
-    (λ (x : Command). MatchOption c.checked.result (IsCommand x → ⊥) (λ d. (d ≡ x) × IsCommand d))
-    same c.checked.ensures)
+    cc (c.read_u32-win.ensures, second, text.2) in
+    checked_is 2 p (line_in p) _ _ refl (spells_line p are size text.0)
+    (λ d is. (only_line p d is).1) same c.checked.ensures

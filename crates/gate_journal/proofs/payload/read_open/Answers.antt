@@ -1,9 +1,6 @@
 use Rattle.std.proofs.Common.{◌≡◌, ◌+◌, ◌-◌, ◌≤◌, ℕ, List, length, get_or}
-use Rattle.std.proofs.Common.{take, drop, refl, ◌∙◌, ap, subst, arith}
-use Rattle.std.specs.Prelude.{MatchOption}
+use Rattle.std.proofs.Common.{take, drop, refl, ◌∙◌, ap, arith}
 use Rattle.std.proofs.lemmas.List.{take_rest, length-take, length-drop}
-use Rattle.gate_journal.specs.declared.command.Command.{Command}
-use Rattle.gate_journal.specs.Command.{IsCommand}
 use Rattle.gate_journal.specs.Payload.{open_in}
 use Rattle.gate_journal.proofs.PayloadLemmas.{AreBytes, only_open, spells_whole}
 use Rattle.gate_journal.proofs.PayloadLemmas.{checked_is, key_in, after_in}
@@ -35,8 +32,5 @@ returns c =
     c.in_ok-command.ensures
     ∙ ap (λ (l : List ℕ). open_in l c.split_at.result.1.now) key
     ∙ ap (λ (l : List ℕ). open_in (key_in p) l) after in
-    checked_is 1 p (open_in (key_in p) (after_in p)) c.checked.result refl (spells_whole p are size)
-    (λ d is. (only_open p d is).1)
-    (subst
-    (λ (x : Command). MatchOption c.checked.result (IsCommand x → ⊥) (λ d. (d ≡ x) × IsCommand d))
-    same c.checked.ensures)
+    checked_is 1 p (open_in (key_in p) (after_in p)) _ _ refl (spells_whole p are size)
+    (λ d is. (only_open p d is).1) same c.checked.ensures

@@ -1,6 +1,6 @@
-use Rattle.std.proofs.Common.{◌≡◌, ◌+◌, ◌∙◌, sym, ap, subst, arith}
-use Rattle.std.proofs.Common.{length, List, ℕ, Bool, true, take, drop}
-use Rattle.std.specs.Prelude.{IsTrue, Some, Option}
+use Rattle.std.proofs.Common.{◌≡◌, ◌+◌, ◌∙◌, ap, arith}
+use Rattle.std.proofs.Common.{length, List, ℕ, true, take, drop}
+use Rattle.std.specs.Prelude.{Some, Option}
 use Rattle.snap_store.specs.declared.outline.Head.{Head}
 use Rattle.snap_store.specs.File.{Stored, area_on_side, count_at, length_at}
 use Rattle.snap_store.specs.File.{side_start, is_whole, newest_area, area_given}
@@ -13,8 +13,7 @@ unfolding area_on_side
 returns-clause-ok g c told =
     let file = g.D.Disk.seen c.args.disk.now in
     let side = c.in-Some.side in
-    let told_read =
-    subst (λ (b : Bool). IsTrue b) (sym c.outline_in.ensures.kept.same.telling) told in
+    let told_read = rw (← c.outline_in.ensures.kept.same.telling) at told in
     let is : c.in-Ok.outline ≡ outline_of file = c.in-Ok.ensures.ok told in
     let value : Some (area_on_side side file) ≡ newest_area c.args.place c.args.most file =
     c.in-Some.ensures.value file is in
@@ -31,6 +30,4 @@ returns-clause-ok g c told =
     ∙ ap (λ (l : List ℕ). take c.head-head.result.length (drop (c.start.result + 16) l)) same
     ∙ ap (λ (n : ℕ). take n (drop (c.start.result + 16) file)) many
     ∙ ap (λ (n : ℕ). take (length_at side file) (drop (n + 16) file)) c.start.ensures in
-    ap (λ (n : ℕ). Some (record { count = n; bytes = c.in_ok-bytes.bytes })) count
-    ∙ ap (λ (l : List ℕ). Some (record { count = count_at side file; bytes = l })) bytes
-    ∙ ap (λ (x : Option Stored). area_given x) value
+    rw (count, bytes) (ap (λ (x : Option Stored). area_given x) value)

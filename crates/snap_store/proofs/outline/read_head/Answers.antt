@@ -1,4 +1,4 @@
-use Rattle.std.proofs.Common.{◌≡◌, ◌∙◌, ap, subst, arith, ℕ, ◌+◌}
+use Rattle.std.proofs.Common.{◌≡◌, ◌∙◌, arith, ◌+◌}
 use Rattle.byteorder.specs.Endian.{big_from}
 use Rattle.disk_model.specs.Disk.{ReadsFile}
 use Rattle.snap_store.specs.File.{side_start, area_place, count_at, length_at}
@@ -12,17 +12,11 @@ returns-clause-ok g c told =
     let bytes = c.read_at.new.into in
     let at = side_start c.args.side in
     let reads : ReadsFile file at bytes =
-    subst (λ (k : ℕ). ReadsFile file k bytes) c.start.ensures (c.in_ok-read_at.ensures.ok told) in
+    rw c.start.ensures at (c.in_ok-read_at.ensures.ok told) in
     let place : c.read_u64.result ≡ big_from at 8 file =
     c.read_u64.ensures ∙ first_number_read 8 at file bytes reads (omega arith) in
     let count : c.read_u32.result ≡ big_from (at + 8) 4 file =
     c.read_u32.ensures ∙ number_read 4 8 8 at file bytes reads (omega arith) (omega arith) in
     let many : c.read_u32-2.result ≡ big_from (at + 12) 4 file =
     c.read_u32-2.ensures ∙ number_read 4 12 4 at file bytes reads (omega arith) (omega arith) in
-    ap (λ (p : ℕ). record { place = p; count = c.read_u32.result; length = c.read_u32-2.result })
-    place
-    ∙ ap (λ (n : ℕ). record { place = big_from at 8 file; count = n; length = c.read_u32-2.result })
-    count
-    ∙ ap
-    (λ (n : ℕ). record { place = big_from at 8 file; count = big_from (at + 8) 4 file; length = n })
-    many
+    cc

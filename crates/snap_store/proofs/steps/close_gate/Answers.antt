@@ -1,8 +1,5 @@
-use Rattle.std.proofs.Common.{◌∙◌, ◌∷◌, [], sym, subst, ℕ}
-use Rattle.disk_model.specs.Disk.{Torn, file_written}
+use Rattle.std.proofs.Common.{◌∙◌, ◌∷◌, [], sym}
 use Rattle.disk_model.proofs.WorkLaws.{through}
-use Rattle.snap_store.specs.declared.slot.Slot.TheVariants.{Closed}
-use Rattle.snap_store.specs.Images.{IsLaid}
 use Rattle.snap_store.proofs.LaidLemmas.{laid_loosened, laid_closing, laid_shut}
 use Rattle.snap_store.proofs.steps.close_gate.Goals as goal
 
@@ -14,10 +11,8 @@ returns-clause-triple g c area beside_area beside =
     through c.gate.result (0 ∷ []) _ (g.met.D.Disk.seen_may_stay c.args.disk.now)
     c.write_through.ensures.ok c.write_through.ensures.crash
     (λ f d laid torn. laid_closing side area beside beside_area slot f d open_gate
-    (subst (λ (k : ℕ). Torn k 1 d f) c.gate.ensures torn)
+    (rw c.gate.ensures at torn)
     (laid_loosened side slot area beside beside_area d laid))
-    (λ d laid.
-    subst (λ (k : ℕ). IsLaid side Closed area beside beside_area (file_written d k (0 ∷ [])))
-    (sym c.gate.ensures)
+    (λ d laid. rw c.gate.ensures
     (laid_shut side area beside beside_area slot d open_gate
     (laid_loosened side slot area beside beside_area d laid)))

@@ -1,10 +1,7 @@
 use Rattle.std.proofs.Common.{◌≡◌, ◌∙◌, ◌+◌, ap, subst, sym, arith, rules, length, Bool, List, ℕ}
-use Rattle.std.specs.Prelude.{IsTrue, Some}
-use Rattle.disk_model.specs.Disk.{file_written}
+use Rattle.std.specs.Prelude.{IsTrue}
 use Rattle.disk_model.proofs.WorkLaws.{on_ok, then_, through}
-use Rattle.snap_store.specs.declared.slot.Slot.TheVariants.{Unsure}
-use Rattle.snap_store.specs.File.{area_with, side_start, head_bytes}
-use Rattle.snap_store.specs.Images.{IsLaid}
+use Rattle.snap_store.specs.File.{head_bytes}
 use Rattle.snap_store.proofs.AreaWritten.{length-head}
 use Rattle.snap_store.proofs.LaidLemmas.{laid_area_torn, laid_filled}
 use Rattle.snap_store.proofs.PutLemmas.{area_begun}
@@ -51,19 +48,13 @@ returns-clause-triple g c area beside_area beside spares =
       ended = λ told each. on_ok c.write_through.result (λ wrote f now.
           let told_first =
           subst (λ (b : Bool). IsTrue b) (sym c.write_at.ensures.kept.telling) told in
-          let is : f
-          ≡ file_written (file_written file (side_start side) head) (side_start side + 16) bytes =
-          wrote told_first f now
-          ∙ ap (λ (l : List ℕ). file_written l (c.start-2.result + 16) bytes)
-          (c.in_ok-write_at.ensures.ok told)
-          ∙ ap (λ (l : List ℕ). file_written (file_written file c.start.result l)
-          (c.start-2.result + 16) bytes) c.head_bytes.ensures
-          ∙ ap (λ (k : ℕ). file_written (file_written file k head) (c.start-2.result + 16) bytes)
-          c.start.ensures
-          ∙ ap (λ (k : ℕ). file_written (file_written file (side_start side) head) (k + 16) bytes)
-          c.start-2.ensures in
-          subst (λ (l : List ℕ). IsLaid side Unsure
-          (Some (area_with c.args.place c.args.count bytes)) beside beside_area l) (sym is)
+          rw (
+            wrote told_first f now,
+            c.in_ok-write_at.ensures.ok told,
+            c.head_bytes.ensures,
+            c.start.ensures,
+            c.start-2.ensures,
+          )
           (laid_filled side beside beside_area area file c.args.place c.args.count bytes
           (omega (arith, c.ranges.place.fits))
           (omega (arith, c.ranges.count.fits)) c.requires spares

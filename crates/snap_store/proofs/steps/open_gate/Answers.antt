@@ -1,9 +1,6 @@
-use Rattle.std.proofs.Common.{◌∷◌, [], sym, subst, ℕ}
+use Rattle.std.proofs.Common.{◌∷◌, []}
 use Rattle.std.specs.Prelude.{Some}
-use Rattle.disk_model.specs.Disk.{Torn, file_written}
 use Rattle.disk_model.proofs.WorkLaws.{through}
-use Rattle.snap_store.specs.declared.slot.Slot.TheVariants.{Open}
-use Rattle.snap_store.specs.Images.{IsLaid}
 use Rattle.snap_store.proofs.LaidLemmas.{laid_gate_torn, laid_opened}
 use Rattle.snap_store.proofs.steps.open_gate.Goals as goal
 
@@ -12,9 +9,6 @@ returns-clause-triple g c area beside_area beside =
     let side = c.args.side in
     through c.gate.result (1 ∷ []) _ (g.met.D.Disk.seen_may_stay c.args.disk.now)
     c.write_through.ensures.ok c.write_through.ensures.crash
-    (λ f d laid torn. laid_gate_torn side (Some area) beside beside_area f d
-    (subst (λ (k : ℕ). Torn k 1 d f) c.gate.ensures torn) laid)
-    (λ d laid.
-    subst (λ (k : ℕ). IsLaid side (Open area.place area.count) (Some area) beside beside_area
-    (file_written d k (1 ∷ [])))
-    (sym c.gate.ensures) (laid_opened side beside beside_area area d laid))
+    (λ f d laid torn.
+    laid_gate_torn side (Some area) beside beside_area f d (rw c.gate.ensures at torn) laid)
+    (λ d laid. rw c.gate.ensures (laid_opened side beside beside_area area d laid))

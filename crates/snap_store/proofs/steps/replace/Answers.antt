@@ -1,4 +1,4 @@
-use Rattle.std.proofs.Common.{◌≡◌, ◌∙◌, sym, ap, subst}
+use Rattle.std.proofs.Common.{◌≡◌, ◌∙◌, ap, subst}
 use Rattle.disk_model.specs.Disk.{EachImage}
 use Rattle.disk_model.proofs.WorkLaws.{done, failed}
 use Rattle.snap_store.specs.declared.side.Side.{Side}
@@ -14,19 +14,17 @@ pub returns-in-Ok-clause-triple : goal.returns-in-Ok-clause-triple
 returns-in-Ok-clause-triple g c area beside_area =
     let slots = c.args.slots.now in
     let is = c.taken-side.ensures in
-    let spares = subst (λ (s : Side). Spares s (slot_of slots (opposite_side (taken_side slots))))
-    (sym is) (spares_taken slots) in
+    let beside = slot_of slots (opposite_side (taken_side slots)) in
     put_on_side is (c.of-slot.ensures ∙ ap (λ (s : Side). slot_of slots s) is)
-    (done (c.in-Ok.ensures.triple area beside_area _ spares))
+    (done (c.in-Ok.ensures.triple area beside_area beside (rw is (spares_taken slots))))
 
 pub returns-in-Err-clause-triple : goal.returns-in-Err-clause-triple
 returns-in-Err-clause-triple g c area beside_area =
     let slots = c.args.slots.now in
     let is = c.taken-side.ensures in
-    let spares = subst (λ (s : Side). Spares s (slot_of slots (opposite_side (taken_side slots))))
-    (sym is) (spares_taken slots) in
+    let beside = slot_of slots (opposite_side (taken_side slots)) in
     put_on_side is (c.of-slot.ensures ∙ ap (λ (s : Side). slot_of slots s) is)
-    (failed (c.write_area.ensures.triple area beside_area _ spares))
+    (failed (c.write_area.ensures.triple area beside_area beside (rw is (spares_taken slots))))
 
 pub returns-in-Err-clause-err : goal.returns-in-Err-clause-err
 returns-in-Err-clause-err g c =
@@ -38,14 +36,12 @@ returns-in-Err-clause-err g c =
     let is : c.taken-side.result ≡ side = c.taken-side.ensures in
     let slot_is : c.of-slot.result ≡ slot_of slots side =
     c.of-slot.ensures ∙ ap (λ (s : Side). slot_of slots s) is in
-    let spares = subst (λ (s : Side). Spares s beside) (sym is) (spares_taken slots) in (
+    let spares : Spares c.taken-side.result beside = rw is (spares_taken slots) in (
       c.in-Err.now,
       c.set-in-Err.ensures ∙ ap (λ (s : Side). with_slot slots s c.in-Err.now) is,
       λ area beside_area each.
-          let found = c.in-Err.ensures.err area beside_area beside spares (λ told f now.
-          subst (λ (s : Side). IsLaid s c.of-slot.result area beside beside_area f) (sym is)
-          (subst (λ (k : Slot). IsLaid side k area beside beside_area f) (sym slot_is)
-          (each told f now))) in (
+          let found = c.in-Err.ensures.err area beside_area beside spares
+          (λ told f now. rw (is, slot_is) (each told f now)) in (
             found.0,
             subst (λ (k : Slot). IsLeft k area put c.in-Err.now found.0) slot_is found.1,
             subst (λ (s : Side). EachImage g.D.Disk.tells g.D.Disk.may_leave new

@@ -1,10 +1,7 @@
-use Rattle.std.proofs.Common.{inl, inr, sym, subst, refl}
+use Rattle.std.proofs.Common.{inl, inr, refl}
 use Rattle.std.specs.Prelude.{Some}
-use Rattle.disk_model.specs.Disk.{EachImage}
 use Rattle.disk_model.proofs.WorkLaws.{done, failed, images_after, images_meanwhile, looser, then_}
-use Rattle.snap_store.specs.declared.slot.Slot.{Slot}
 use Rattle.snap_store.specs.File.{area_with}
-use Rattle.snap_store.specs.Images.{IsLaid}
 use Rattle.snap_store.proofs.steps.write_area.Goals as goal
 
 -- the gate wasn't closed
@@ -19,9 +16,7 @@ returns-in_default-clause-err g c area beside_area beside spares each =
     (c.close_gate.ensures.triple area beside_area beside) each in (
       area,
       inl (c.loosened.ensures, refl),
-      subst (λ (s : Slot). EachImage g.D.Disk.tells
-          g.D.Disk.may_leave c.close_gate.new.disk (IsLaid c.args.side s area beside beside_area))
-          (sym c.loosened.ensures) now,
+      rw c.loosened.ensures now,
     )
 
 -- the area wasn't written

@@ -1,6 +1,5 @@
-use Rattle.std.proofs.Common.{arith, rules, sym, ◌∙◌, subst, length, ◌≤◌, ◌≡◌, ◌^◌, List, ℕ, []}
-use Rattle.disk_model.specs.declared.call.Call.{Call}
-use Rattle.disk_model.specs.DiskState.{DiskState, greatest_end, IsWell}
+use Rattle.std.proofs.Common.{arith, rules, ◌∙◌, length, ◌≤◌, ◌≡◌, ◌^◌, []}
+use Rattle.disk_model.specs.DiskState.{greatest_end, IsWell}
 use Rattle.disk_model.specs.Calls.{state_after}
 use Rattle.disk_model.proofs.StateLaws.{well_settled}
 use Rattle.disk_model.proofs.memory.MemDisk.after_stop.Goals as goal
@@ -8,15 +7,10 @@ use Rattle.disk_model.proofs.memory.MemDisk.after_stop.Goals as goal
 pub invariant_of-result : goal.invariant_of-result
 invariant_of-result c =
     let m = c.args.self.now in
-    let p : DiskState = state_after m.start.items m.calls.items in
-    let ranges_are : p.ranges ≡ c.deref-3.result.now = sym (c.deref-3.ensures.value ∙ m.writes) in
-    let synced_is : p.synced ≡ c.deref.result.now = sym (c.deref.ensures.value ∙ m.holds) in
     let ends : greatest_end c.deref-3.result.now (length c.deref.result.now) ≤ 2 ^ 40 =
-    subst (λ (r : List (ℕ × ℕ)). greatest_end r (length c.deref.result.now) ≤ 2 ^ 40) ranges_are
-    (subst (λ (l : List ℕ). greatest_end p.ranges (length l) ≤ 2 ^ 40) synced_is m.well.ends) in
+    rw (c.deref-3.ensures.value ∙ m.writes, c.deref.ensures.value ∙ m.holds) m.well.ends in
     let none : c.new.result.items ≡ [] = search rules in
     let start = c.in_ok-start.start.items in
     let well : IsWell (state_after start c.new.result.items) =
-    subst (λ (l : List Call). IsWell (state_after start l)) (sym none)
-    (well_settled start (omega (arith, c.in_ok-start.ensures.image.no_longer, ends))) in
+    rw none (well_settled start (omega (arith, c.in_ok-start.ensures.image.no_longer, ends))) in
     record { well = well; reads = search rules; holds = search rules; writes = search rules }

@@ -1,6 +1,4 @@
-use Rattle.std.proofs.Common.{subst, Bool}
 use Rattle.std.specs.Prelude.{not}
-use Rattle.disk_model.specs.DiskState.{DiskState, IsDiskImage, after_sync}
 use Rattle.disk_model.specs.Calls.{state_after}
 use Rattle.disk_model.proofs.StateLaws.{crash_sync, only_settled}
 use Rattle.disk_model.proofs.memory.MemDiskDisk.sync.Goals as goal
@@ -15,14 +13,11 @@ pub returns-clause-ok : goal.returns-clause-ok
 returns-clause-ok c told f now =
     let m = c.args.self.now in
     let p = state_after m.start.items m.calls.items in
-    let then_ : IsDiskImage (after_sync (not c.is_failing-good.result) p) f =
-    subst (λ (q : DiskState). IsDiskImage q f)
-    (c.in-Ok-note_sync.ensures.state m.start.items) now in
     only_settled p.seen f
-    (subst (λ (b : Bool). IsDiskImage (after_sync (not b) p) f) c.if-not-good.false then_)
+    (rw (c.in-Ok-note_sync.ensures.state m.start.items, c.if-not-good.false) at now)
 
 pub returns-clause-crash : goal.returns-clause-crash
 returns-clause-crash c told f now =
     let m = c.args.self.now in
     crash_sync (not c.is_failing-good.result) (state_after m.start.items m.calls.items) m.well f
-    (subst (λ (p : DiskState). IsDiskImage p f) (c.in-Ok-note_sync.ensures.state m.start.items) now)
+    (rw (c.in-Ok-note_sync.ensures.state m.start.items) at now)

@@ -1,9 +1,6 @@
-use Rattle.std.proofs.Common.{◌≡◌, ◌↔◌, List, sym, ◌∙◌, ap, subst}
-use Rattle.std.specs.Prelude.{IsTrue}
-use Rattle.gate_journal.specs.declared.row.Row.{Row}
+use Rattle.std.proofs.Common.{◌≡◌, sym, ◌∙◌, ap}
 use Rattle.gate_journal.specs.History.{Entries}
 use Rattle.gate_journal.specs.Log.{rows_of}
-use Rattle.gate_journal.specs.Rows.{MayStand}
 use Rattle.gate_journal.proofs.HistoryLemmas.{rows_of-woven}
 use Rattle.gate_journal.proofs.history.History.may_stand.Goals as goal
 
@@ -13,6 +10,4 @@ returns c =
     c.deref.ensures.value
     ∙ sym (rows_of-woven c.self.inside.marks.items c.self.inside.rows.items c.self.invariant)
     ∙ ap (λ (e : Entries). rows_of e.list) c.self.view_is in
-    subst
-    (λ (l : List Row). IsTrue c.may_stand.result ↔ MayStand l c.args.session c.args.command.now)
-    same c.may_stand.ensures
+    rw same at c.may_stand.ensures

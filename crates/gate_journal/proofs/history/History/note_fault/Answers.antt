@@ -1,23 +1,19 @@
-use Rattle.std.proofs.Common.{◌≡◌, ◌<◌, ◌++◌, ◌∷◌, [], true, ◌∙◌, ap}
-use Rattle.std.proofs.Common.{List, rules, vec_len, vec_capacity, arith}
-use Rattle.std.specs.Prelude.{nat_lt, ◌&&◌}
-use Rattle.std.proofs.lemmas.Bool.Decides.{nat_tests}
+use Rattle.std.proofs.Common.{◌≡◌, ◌++◌, ◌∷◌, [], ◌∙◌, ap}
+use Rattle.std.proofs.Common.{List, rules, vec_len, vec_capacity}
 use Rattle.gate_journal.specs.declared.mark.Mark.{Mark}
 use Rattle.gate_journal.specs.declared.mark.Mark.TheVariants as marks
 use Rattle.gate_journal.specs.declared.entry.Entry.TheVariants.{Faulted}
 use Rattle.gate_journal.specs.History.{Entries, rows_woven, count_rows}
-use Rattle.gate_journal.proofs.HistoryLemmas.{count-fault, woven-fault}
+use Rattle.gate_journal.proofs.HistoryLemmas.{rooms, count-fault, woven-fault}
 use Rattle.gate_journal.proofs.history.History.note_fault.Goals as goal
 
 pub invariant_of-self : goal.invariant_of-self
 invariant_of-self c =
-    let room : (nat_lt (vec_len c.self.inside.rows) (vec_capacity c.self.inside.rows)
-    && nat_lt (vec_len c.self.inside.marks) (vec_capacity c.self.inside.marks))
-    ≡ true =
-    ap (λ (e : Entries). e.room) c.self.view_is ∙ c.requires in
-    let free : vec_len c.self.inside.marks < vec_capacity c.self.inside.marks =
-    grind (arith, nat_tests, room) in
-    let fine = c.push.ensures.succeeds free in
+    let room =
+    rooms (vec_len c.self.inside.rows) (vec_capacity c.self.inside.rows)
+    (vec_len c.self.inside.marks) (vec_capacity c.self.inside.marks)
+    (ap (λ (e : Entries). e.room) c.self.view_is ∙ c.requires) in
+    let fine = c.push.ensures.succeeds room.1 in
     let pushed : c.push.new.self.items
     ≡ c.self.inside.marks.items ++ marks.Fault c.args.by c.args.from c.args.to ∷ [] =
     search rules in
@@ -27,13 +23,11 @@ invariant_of-self c =
 
 pub returns-clause-entry : goal.returns-clause-entry
 returns-clause-entry c =
-    let room : (nat_lt (vec_len c.self.inside.rows) (vec_capacity c.self.inside.rows)
-    && nat_lt (vec_len c.self.inside.marks) (vec_capacity c.self.inside.marks))
-    ≡ true =
-    ap (λ (e : Entries). e.room) c.self.view_is ∙ c.requires in
-    let free : vec_len c.self.inside.marks < vec_capacity c.self.inside.marks =
-    grind (arith, nat_tests, room) in
-    let fine = c.push.ensures.succeeds free in
+    let room =
+    rooms (vec_len c.self.inside.rows) (vec_capacity c.self.inside.rows)
+    (vec_len c.self.inside.marks) (vec_capacity c.self.inside.marks)
+    (ap (λ (e : Entries). e.room) c.self.view_is ∙ c.requires) in
+    let fine = c.push.ensures.succeeds room.1 in
     let pushed : c.push.new.self.items
     ≡ c.self.inside.marks.items ++ marks.Fault c.args.by c.args.from c.args.to ∷ [] =
     search rules in

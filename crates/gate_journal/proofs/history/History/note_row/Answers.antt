@@ -1,30 +1,24 @@
-use Rattle.std.proofs.Common.{◌≡◌, ◌<◌, ◌++◌, ◌∷◌, [], true, ◌∙◌, ap, length}
+use Rattle.std.proofs.Common.{◌≡◌, ◌++◌, ◌∷◌, [], ◌∙◌, ap, length}
 use Rattle.std.proofs.Common.{List, rules, vec_len, vec_capacity, arith}
-use Rattle.std.specs.Prelude.{nat_lt, ◌&&◌}
-use Rattle.std.proofs.lemmas.Bool.Decides.{nat_tests}
 use Rattle.std.proofs.lemmas.List.{length_push}
 use Rattle.gate_journal.specs.declared.row.Row.{Row}
 use Rattle.gate_journal.specs.declared.mark.Mark.{Mark}
 use Rattle.gate_journal.specs.declared.mark.Mark.TheVariants as marks
 use Rattle.gate_journal.specs.declared.entry.Entry.TheVariants.{Kept}
 use Rattle.gate_journal.specs.History.{Entries, rows_woven, count_rows}
-use Rattle.gate_journal.proofs.HistoryLemmas.{count-row, woven-row}
+use Rattle.gate_journal.proofs.HistoryLemmas.{rooms, count-row, woven-row}
 use Rattle.gate_journal.proofs.history.History.note_row.Goals as goal
 
 pub invariant_of-self : goal.invariant_of-self
 invariant_of-self c =
-    let room : (nat_lt (vec_len c.self.inside.rows) (vec_capacity c.self.inside.rows)
-    && nat_lt (vec_len c.self.inside.marks) (vec_capacity c.self.inside.marks))
-    ≡ true =
-    ap (λ (e : Entries). e.room) c.self.view_is ∙ c.requires in
-    let free : vec_len c.self.inside.marks < vec_capacity c.self.inside.marks =
-    grind (arith, nat_tests, room) in
-    let fine = c.push.ensures.succeeds free in
+    let room =
+    rooms (vec_len c.self.inside.rows) (vec_capacity c.self.inside.rows)
+    (vec_len c.self.inside.marks) (vec_capacity c.self.inside.marks)
+    (ap (λ (e : Entries). e.room) c.self.view_is ∙ c.requires) in
+    let fine = c.push.ensures.succeeds room.1 in
     let marked : c.push.new.self.items ≡ c.self.inside.marks.items ++ marks.Row ∷ [] =
     search rules in
-    let free_row : vec_len c.self.inside.rows < vec_capacity c.self.inside.rows =
-    grind (arith, nat_tests, room) in
-    let fine_row = c.push-2.ensures.succeeds free_row in
+    let fine_row = c.push-2.ensures.succeeds room.0 in
     let pushed : c.push-2.new.self.items ≡ c.self.inside.rows.items ++ c.args.row ∷ [] =
     search rules in
     ap count_rows marked ∙ count-row c.self.inside.marks.items
@@ -33,18 +27,14 @@ invariant_of-self c =
 
 pub returns : goal.returns
 returns c =
-    let room : (nat_lt (vec_len c.self.inside.rows) (vec_capacity c.self.inside.rows)
-    && nat_lt (vec_len c.self.inside.marks) (vec_capacity c.self.inside.marks))
-    ≡ true =
-    ap (λ (e : Entries). e.room) c.self.view_is ∙ c.requires in
-    let free : vec_len c.self.inside.marks < vec_capacity c.self.inside.marks =
-    grind (arith, nat_tests, room) in
-    let fine = c.push.ensures.succeeds free in
+    let room =
+    rooms (vec_len c.self.inside.rows) (vec_capacity c.self.inside.rows)
+    (vec_len c.self.inside.marks) (vec_capacity c.self.inside.marks)
+    (ap (λ (e : Entries). e.room) c.self.view_is ∙ c.requires) in
+    let fine = c.push.ensures.succeeds room.1 in
     let marked : c.push.new.self.items ≡ c.self.inside.marks.items ++ marks.Row ∷ [] =
     search rules in
-    let free_row : vec_len c.self.inside.rows < vec_capacity c.self.inside.rows =
-    grind (arith, nat_tests, room) in
-    let fine_row = c.push-2.ensures.succeeds free_row in
+    let fine_row = c.push-2.ensures.succeeds room.0 in
     let pushed : c.push-2.new.self.items ≡ c.self.inside.rows.items ++ c.args.row ∷ [] =
     search rules in
     ap (λ (l : List Mark). rows_woven l c.push-2.new.self.items) marked

@@ -1,6 +1,4 @@
-use Rattle.std.proofs.Common.{◌≡◌, sym, ◌∙◌, ap, subst, List}
-use Rattle.std.specs.Prelude.{MatchOption, slice_get, Some, None}
-use Rattle.gate_journal.specs.declared.row.Row.{Row}
+use Rattle.std.proofs.Common.{◌≡◌, sym, ◌∙◌, ap}
 use Rattle.gate_journal.specs.History.{Entries}
 use Rattle.gate_journal.specs.Log.{rows_of}
 use Rattle.gate_journal.proofs.HistoryLemmas.{rows_of-woven}
@@ -11,8 +9,4 @@ returns c =
     let same : c.self.inside.rows.items ≡ rows_of c.args.self.now.list =
     sym (rows_of-woven c.self.inside.marks.items c.self.inside.rows.items c.self.invariant)
     ∙ ap (λ (e : Entries). rows_of e.list) c.self.view_is in
-    subst (λ (l : List Row). MatchOption c.row_at.result (slice_get l c.args.index ≡ None)
-    (λ row. slice_get l c.args.index ≡ Some row.now)) same
-    (subst (λ (l : List Row). MatchOption c.row_at.result (slice_get l c.args.index ≡ None)
-    (λ row. slice_get l c.args.index ≡ Some row.now)) c.deref.ensures.value
-    c.row_at.ensures)
+    rw (c.deref.ensures.value, same) at c.row_at.ensures

@@ -1,36 +1,15 @@
-use Rattle.std.proofs.Common.{◌≡◌, ◌+◌, ◌++◌, ◌∷◌, [], ◌∙◌, ℕ, Bool}
-use Rattle.std.proofs.Common.{refl, ap, subst, arith, length, rules}
-use Rattle.std.specs.Prelude.{IsTrue}
+use Rattle.std.proofs.Common.{◌≡◌, ◌+◌, ◌++◌, ◌∷◌, [], ◌∙◌, ℕ}
+use Rattle.std.proofs.Common.{refl, ap, arith, length, rules}
 use Rattle.gate_journal.specs.Rows.{row_body}
 use Rattle.gate_journal.specs.declared.row.Row.{Row}
 use Rattle.disk_model.proofs.Moments.{holds_now}
 use Rattle.gate_journal.proofs.AppendLemmas.{faulted_rows, kept_rows, crash_repair}
 use Rattle.gate_journal.proofs.AppendLemmas.{crash_row, sound_unrepaired}
 use Rattle.gate_journal.proofs.AppendLemmas.{sound_before, sound_at_gate, sound_row}
-use Rattle.gate_journal.proofs.SinceLemmas.{since_more, asked_gate, asked_row, numbered, same_then}
+use Rattle.gate_journal.proofs.SinceLemmas.{since_more, asked_row, same_then}
 use Rattle.gate_journal.proofs.journal.Journal.append.Goals as goal
 
 -- the repair failed
-pub invariant_of-self : goal.invariant_of-self
-invariant_of-self g c =
-    let sound = c.self.invariant.0 in (
-      sound_unrepaired c.self.view_is sound c.requires.stands _ c.in_default.ensures.gate
-          (λ told. holds_now g.D.Disk.moment g.D.Disk.left_since g.D.Disk.may_leave
-          c.self.inside.disk c.settle.new.disk _
-          (g.met.D.Disk.counts_now c.settle.new.disk)
-          (let told_then = subst (λ (b : Bool). IsTrue b) c.settle.ensures.ran.same.telling told in
-          (c.settle.ensures.triple _ sound.ends).meanwhile told_then (sound.images told_then)))
-          c.note_fault.ensures.entry c.settle.ensures.ran.same.size c.faults-from.ensures.value
-          c.faults-to.ensures.value refl c.in_default.ensures.ran.counts,
-      since_more c.self.view_is c.self.invariant.1 c.requires.stands _ _ c.note_fault.ensures.entry
-          (numbered c.self.view_is c.self.invariant.1 c.requires.stands _
-          (omega (arith, c.from-by.ensures)))
-          c.settle.ensures.ran.same
-          (crash_repair c.self.view_is sound c.requires.stands c.settle.ensures.triple)
-          (asked_gate c.self.view_is c.self.invariant.1 c.requires.stands _ _ _ sound.ends
-          c.settle.ensures.ran.asked),
-    )
-
 pub returns-in_default-clause-rows : goal.returns-in_default-clause-rows
 returns-in_default-clause-rows g c = faulted_rows _ _ _ c.self.view_is c.note_fault.ensures.entry
 
@@ -38,33 +17,24 @@ pub returns-in_default-clause-crash : goal.returns-in_default-clause-crash
 returns-in_default-clause-crash g c =
     crash_repair c.self.view_is c.self.invariant.0 c.requires.stands c.settle.ensures.triple
 
--- the row was written
-pub invariant_of-self-in-Ok-write_row : goal.invariant_of-self-in-Ok-write_row
-invariant_of-self-in-Ok-write_row g c =
-    let past = c.deref.result.now in
-    let bytes : past ≡ row_body c.fill-row.result.0 ++ 0 ∷ [] =
-    c.deref.ensures.value ∙ c.fill-row.ensures.bytes in
-    let size : c.len.result ≡ length past = search rules in (
-      sound_row c.self.view_is c.self.invariant.0 c.requires.stands c.fill-row.ensures.row
-          bytes c.in-Ok.ensures.gate c.in-Ok.ensures.triple c.settle.ensures.ran.same.telling
-          c.in-Ok-write_row.ensures.triple c.write_row.ensures.ran.same.telling
-          c.note_row.ensures (c.write_row.ensures.ran.same.size ∙ c.settle.ensures.ran.same.size)
-          (omega (arith, c.in-Ok.ensures.ran.counts, c.in-Ok-write_row.ensures.ran.counts))
-          (ap (λ (k : ℕ). c.self.inside.end + k) size)
-          (omega (arith, c.in-Ok-write_row.ensures.fits, c.write_row.ensures.ran.same.size, size)),
-      since_more c.self.view_is c.self.invariant.1 c.requires.stands _ _ c.note_row.ensures
-          (numbered c.self.view_is c.self.invariant.1 c.requires.stands _
-          (ap (λ (q : Row). q.by) c.fill-row.ensures.row))
-          (same_then c.settle.ensures.ran.same c.write_row.ensures.ran.same)
-          (crash_row c.self.view_is c.self.invariant.0 c.requires.stands c.fill-row.ensures.row
-          (c.deref.ensures.value ∙ c.fill-row.ensures.bytes)
-          c.in-Ok.ensures.triple c.settle.ensures.ran.same.telling c.write_row.ensures.triple)
-          (asked_row c.self.view_is c.self.invariant.1 c.requires.stands _ _ _ _
-          c.self.invariant.0.ends c.fill-row.ensures.row
-          (c.deref.ensures.value ∙ c.fill-row.ensures.bytes)
-          c.settle.ensures.ran.asked c.write_row.ensures.ran.asked),
+pub invariant_of-self : goal.invariant_of-self
+invariant_of-self g c =
+    let sound = c.self.invariant.0 in (
+      sound_unrepaired c.self.view_is sound c.requires.stands _ c.in_default.ensures.gate
+          (λ told. holds_now g.D.Disk.moment g.D.Disk.left_since g.D.Disk.may_leave
+          c.self.inside.disk c.settle.new.disk _
+          (g.met.D.Disk.counts_now c.settle.new.disk)
+          (let told_then = rw c.settle.ensures.ran.same.telling at told in
+          (c.settle.ensures.triple _ sound.ends).meanwhile told_then (sound.images told_then)))
+          c.note_fault.ensures.entry c.settle.ensures.ran.same.size c.faults-from.ensures.value
+          c.faults-to.ensures.value refl c.in_default.ensures.ran.counts,
+      since_more c.self.view_is c.self.invariant.1 c.requires.stands _ _ c.note_fault.ensures.entry
+          (omega (arith, c.from-by.ensures)) c.settle.ensures.ran.same
+          (returns-in_default-clause-crash g c)
+          (omega (arith, sound.ends, c.settle.ensures.ran.asked)),
     )
 
+-- the row was written
 pub returns-in-Ok-write_row-clause-rows : goal.returns-in-Ok-write_row-clause-rows
 returns-in-Ok-write_row-clause-rows g c =
     kept_rows c.self.view_is c.self.invariant.0 c.requires.stands c.note_row.ensures
@@ -72,15 +42,47 @@ returns-in-Ok-write_row-clause-rows g c =
 
 pub returns-in-Ok-write_row-clause-crash : goal.returns-in-Ok-write_row-clause-crash
 returns-in-Ok-write_row-clause-crash g c =
-    crash_row c.self.view_is c.self.invariant.0 c.requires.stands c.fill-row.ensures.row
-    (c.deref.ensures.value ∙ c.fill-row.ensures.bytes)
-    c.in-Ok.ensures.triple c.settle.ensures.ran.same.telling c.write_row.ensures.triple
+    crash_row c.self.view_is c.self.invariant.0 c.requires.stands c.in-Ok.ensures.triple
+    c.settle.ensures.ran.same.telling c.fill-row.ensures.row
+    (c.deref.ensures.value ∙ c.fill-row.ensures.bytes) c.write_row.ensures.triple
+
+pub invariant_of-self-in-Ok-write_row : goal.invariant_of-self-in-Ok-write_row
+invariant_of-self-in-Ok-write_row g c =
+    let past = c.deref.result.now in
+    let bytes : past ≡ row_body c.fill-row.result.0 ++ 0 ∷ [] =
+    c.deref.ensures.value ∙ c.fill-row.ensures.bytes in
+    let size : c.len.result ≡ length past = search rules in (
+      sound_row c.self.view_is c.self.invariant.0 c.requires.stands c.in-Ok.ensures.triple
+          c.settle.ensures.ran.same.telling c.fill-row.ensures.row bytes c.in-Ok.ensures.gate
+          c.in-Ok-write_row.ensures.triple c.write_row.ensures.ran.same.telling
+          c.note_row.ensures (c.write_row.ensures.ran.same.size ∙ c.settle.ensures.ran.same.size)
+          (omega (arith, c.in-Ok.ensures.ran.counts, c.in-Ok-write_row.ensures.ran.counts))
+          (ap (λ (k : ℕ). c.self.inside.end + k) size)
+          (omega (arith, c.in-Ok-write_row.ensures.fits, c.write_row.ensures.ran.same.size, size)),
+      since_more c.self.view_is c.self.invariant.1 c.requires.stands _ _ c.note_row.ensures
+          (ap (λ (q : Row). q.by) c.fill-row.ensures.row)
+          (same_then c.settle.ensures.ran.same c.write_row.ensures.ran.same)
+          (returns-in-Ok-write_row-clause-crash g c)
+          (asked_row c.self.view_is c.self.invariant.1 c.requires.stands _ _ _ _
+          c.self.invariant.0.ends c.fill-row.ensures.row bytes c.settle.ensures.ran.asked
+          c.write_row.ensures.ran.asked),
+    )
 
 -- the row failed before its gate
+pub returns-in-Err-Before-clause-rows : goal.returns-in-Err-Before-clause-rows
+returns-in-Err-Before-clause-rows g c =
+    faulted_rows _ _ _ c.self.view_is c.note_fault-in-Err-Before.ensures.entry
+
+pub returns-in-Err-Before-clause-crash : goal.returns-in-Err-Before-clause-crash
+returns-in-Err-Before-clause-crash g c =
+    crash_row c.self.view_is c.self.invariant.0 c.requires.stands c.in-Ok.ensures.triple
+    c.settle.ensures.ran.same.telling c.fill-row.ensures.row
+    (c.deref.ensures.value ∙ c.fill-row.ensures.bytes) c.write_row.ensures.triple
+
 pub invariant_of-self-in-Err-Before : goal.invariant_of-self-in-Err-Before
 invariant_of-self-in-Err-Before g c = (
-  sound_before c.self.view_is c.self.invariant.0 c.requires.stands _ c.in-Ok.ensures.gate
-      c.in-Ok.ensures.triple c.settle.ensures.ran.same.telling
+  sound_before c.self.view_is c.self.invariant.0 c.requires.stands c.in-Ok.ensures.triple
+      c.settle.ensures.ran.same.telling _ c.in-Ok.ensures.gate
       (c.in-Err-Before.ensures.before (search rules))
       c.note_fault-in-Err-Before.ensures.entry
       (c.write_row.ensures.ran.same.size ∙ c.settle.ensures.ran.same.size)
@@ -88,35 +90,29 @@ invariant_of-self-in-Err-Before g c = (
       c.faults-to-in-Err-Before.ensures.value c.in-Ok.ensures.ran.counts
       c.in-Err-Before.ensures.ran.counts,
   since_more c.self.view_is c.self.invariant.1 c.requires.stands _ _
-      c.note_fault-in-Err-Before.ensures.entry
-      (numbered c.self.view_is c.self.invariant.1 c.requires.stands _
-      (omega (arith, c.from-by.ensures)))
+      c.note_fault-in-Err-Before.ensures.entry (omega (arith, c.from-by.ensures))
       (same_then c.settle.ensures.ran.same c.write_row.ensures.ran.same)
-      (crash_row c.self.view_is c.self.invariant.0 c.requires.stands c.fill-row.ensures.row
-      (c.deref.ensures.value ∙ c.fill-row.ensures.bytes)
-      c.in-Ok.ensures.triple c.settle.ensures.ran.same.telling c.write_row.ensures.triple)
+      (returns-in-Err-Before-clause-crash g c)
       (asked_row c.self.view_is c.self.invariant.1 c.requires.stands _ _ _ _ c.self.invariant.0.ends
-      c.fill-row.ensures.row
-      (c.deref.ensures.value ∙ c.fill-row.ensures.bytes)
+      c.fill-row.ensures.row (c.deref.ensures.value ∙ c.fill-row.ensures.bytes)
       c.settle.ensures.ran.asked c.write_row.ensures.ran.asked),
 )
 
-pub returns-in-Err-Before-clause-rows : goal.returns-in-Err-Before-clause-rows
-returns-in-Err-Before-clause-rows g c =
-    faulted_rows _ _ _ c.self.view_is c.note_fault-in-Err-Before.ensures.entry
-
-pub returns-in-Err-Before-clause-crash : goal.returns-in-Err-Before-clause-crash
-returns-in-Err-Before-clause-crash g c =
-    crash_row c.self.view_is c.self.invariant.0 c.requires.stands c.fill-row.ensures.row
-    (c.deref.ensures.value ∙ c.fill-row.ensures.bytes)
-    c.in-Ok.ensures.triple c.settle.ensures.ran.same.telling c.write_row.ensures.triple
-
 -- and at its gate
+pub returns-clause-rows : goal.returns-clause-rows
+returns-clause-rows g c = faulted_rows _ _ _ c.self.view_is c.note_fault-in-Err-AtGate.ensures.entry
+
+pub returns-clause-crash : goal.returns-clause-crash
+returns-clause-crash g c =
+    crash_row c.self.view_is c.self.invariant.0 c.requires.stands c.in-Ok.ensures.triple
+    c.settle.ensures.ran.same.telling c.fill-row.ensures.row
+    (c.deref.ensures.value ∙ c.fill-row.ensures.bytes) c.write_row.ensures.triple
+
 pub invariant_of-self-in-Err-AtGate : goal.invariant_of-self-in-Err-AtGate
 invariant_of-self-in-Err-AtGate g c = (
-  sound_at_gate c.self.view_is c.self.invariant.0 c.requires.stands _ c.fill-row.ensures.row
-      (c.deref.ensures.value ∙ c.fill-row.ensures.bytes)
-      c.note_uncertain.ensures c.in-Ok.ensures.triple c.settle.ensures.ran.same.telling
+  sound_at_gate c.self.view_is c.self.invariant.0 c.requires.stands c.in-Ok.ensures.triple
+      c.settle.ensures.ran.same.telling c.fill-row.ensures.row
+      (c.deref.ensures.value ∙ c.fill-row.ensures.bytes) _ c.note_uncertain.ensures
       (c.in-Err-AtGate.ensures.at_gate (search rules))
       c.note_fault-in-Err-AtGate.ensures.entry
       (c.write_row.ensures.ran.same.size ∙ c.settle.ensures.ran.same.size)
@@ -124,24 +120,12 @@ invariant_of-self-in-Err-AtGate g c = (
       c.faults-to-in-Err-AtGate.ensures.value c.in-Ok.ensures.ran.counts
       c.in-Err-AtGate.ensures.ran.counts,
   since_more c.self.view_is c.self.invariant.1 c.requires.stands _ _
-      c.note_fault-in-Err-AtGate.ensures.entry
-      (numbered c.self.view_is c.self.invariant.1 c.requires.stands _
-      (omega (arith, c.from-by.ensures)))
+      c.note_fault-in-Err-AtGate.ensures.entry (omega (arith, c.from-by.ensures))
       (same_then c.settle.ensures.ran.same c.write_row.ensures.ran.same)
-      (crash_row c.self.view_is c.self.invariant.0 c.requires.stands c.fill-row.ensures.row
-      (c.deref.ensures.value ∙ c.fill-row.ensures.bytes)
-      c.in-Ok.ensures.triple c.settle.ensures.ran.same.telling c.write_row.ensures.triple)
+      (crash_row c.self.view_is c.self.invariant.0 c.requires.stands c.in-Ok.ensures.triple
+      c.settle.ensures.ran.same.telling c.fill-row.ensures.row
+      (c.deref.ensures.value ∙ c.fill-row.ensures.bytes) c.write_row.ensures.triple)
       (asked_row c.self.view_is c.self.invariant.1 c.requires.stands _ _ _ _ c.self.invariant.0.ends
-      c.fill-row.ensures.row
-      (c.deref.ensures.value ∙ c.fill-row.ensures.bytes)
+      c.fill-row.ensures.row (c.deref.ensures.value ∙ c.fill-row.ensures.bytes)
       c.settle.ensures.ran.asked c.write_row.ensures.ran.asked),
 )
-
-pub returns-clause-rows : goal.returns-clause-rows
-returns-clause-rows g c = faulted_rows _ _ _ c.self.view_is c.note_fault-in-Err-AtGate.ensures.entry
-
-pub returns-clause-crash : goal.returns-clause-crash
-returns-clause-crash g c =
-    crash_row c.self.view_is c.self.invariant.0 c.requires.stands c.fill-row.ensures.row
-    (c.deref.ensures.value ∙ c.fill-row.ensures.bytes)
-    c.in-Ok.ensures.triple c.settle.ensures.ran.same.telling c.write_row.ensures.triple

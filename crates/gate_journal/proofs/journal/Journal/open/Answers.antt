@@ -1,8 +1,6 @@
-use Rattle.std.proofs.Common.{List, ℕ, ◌∙◌, ap, subst, sym, arith}
+use Rattle.std.proofs.Common.{ℕ, ◌∙◌, ap, arith}
 use Rattle.std.specs.Prelude.{slice_index}
-use Rattle.gate_journal.specs.declared.entry.Entry.{Entry}
-use Rattle.std.specs.Prelude.{None, false}
-use Rattle.gate_journal.specs.Log.{rows_of, Rises, IsSinceOpened}
+use Rattle.gate_journal.specs.Log.{rows_of}
 use Rattle.gate_journal.proofs.LogLemmas.{rises-all}
 use Rattle.gate_journal.proofs.SinceLemmas.{since_begun}
 use Rattle.gate_journal.proofs.journal.Journal.open.Goals as goal
@@ -18,24 +16,10 @@ invariant_of-result g c =
         next = tt;
         images = c.in-Ok.ensures.shut;
         counts =
-            subst (λ (d : g.row.D.Denot).
-            Rises (g.D.Disk.faults d) entries (g.D.Disk.faults c.load.new.disk))
-            (sym c.of-opened.ensures)
-            (subst (λ (l : List Entry).
-            Rises (g.D.Disk.faults c.args.disk) l (g.D.Disk.faults c.load.new.disk))
-            (sym c.in-Ok.ensures.fresh)
-            (rises-all (rows_of entries) _ _ (omega (arith, c.in-Ok.ensures.cause))));
+            rw (c.of-opened.ensures, c.in-Ok.ensures.fresh)
+            (rises-all (rows_of entries) _ _ (omega (arith, c.in-Ok.ensures.cause)));
       },
-      subst (λ (d : g.row.D.Denot). IsSinceOpened g.D.Disk.tells g.D.Disk.may_leave
-          g.D.Disk.room g.D.Disk.label g.D.Disk.reach g.D.Disk.moment g.D.Disk.left_since
-          (record {
-            disk = c.load.new.disk;
-            entries = entries;
-            uncertain = None;
-            opening = record { disk = d; found = c.len-found.result };
-            ready = false;
-          }))
-          (sym c.of-opened.ensures)
+      rw c.of-opened.ensures
           (since_begun c.len-found.result c.len-found.ensures c.in-Ok.ensures.fresh journal.0
           c.load.ensures.kept c.load.ensures.crash
           (omega (arith, journal.1, c.in-Ok.ensures.ends))),

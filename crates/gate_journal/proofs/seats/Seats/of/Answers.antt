@@ -1,8 +1,6 @@
-use Rattle.std.proofs.Common.{◌≡◌, ◌++◌, ◌∷◌, [], ◌+◌, List, take, refl, sym, ◌∙◌, ap, subst}
+use Rattle.std.proofs.Common.{◌≡◌, ◌++◌, ◌∷◌, [], ◌+◌, take, refl, sym, ◌∙◌, ap}
 use Rattle.std.proofs.lemmas.List.{take_all, take_more}
-use Rattle.gate_journal.specs.Seats.{CountsRows}
 use Rattle.gate_journal.specs.declared.row.Row.{Row}
-use Rattle.gate_journal.specs.declared.seats.Seats.{Seats}
 use Rattle.gate_journal.proofs.SeatLemmas.{counted_other}
 use Rattle.gate_journal.proofs.seats.Seats.of.Goals as goal
 use Rattle.gate_journal.proofs.seats.Seats.of.Goals.{then-row-lt64, else-row-lt64}
@@ -20,24 +18,13 @@ loop-row-preserved c =
     ∙ ap (λ (r : Row). take i rows ++ r ∷ []) (sym c.row-item.is) in
     elim c.if-row-lt64.branch [
       | then-row-lt64 w ↦
-          let pushed = w.count.ensures (take i rows) item refl refl c.loop-row.invariant in
-          subst (λ (l : List Row). CountsRows l c.if-row-lt64.seats.counts c.if-row-lt64.seats.uses)
-          (sym one)
-          (subst (λ (s : Seats). CountsRows (take i rows ++ item ∷ []) s.counts s.uses)
-          (sym w.seats-is) pushed)
+          rw (one, w.seats-is) (w.count.ensures (take i rows) item refl refl c.loop-row.invariant)
       | else-row-lt64 w ↦
-          let pushed =
-          counted_other (take i rows) item c.loop-row.seats.counts c.loop-row.seats.uses
-          w.if-row-lt64.false c.loop-row.invariant in
-          subst (λ (l : List Row). CountsRows l c.if-row-lt64.seats.counts c.if-row-lt64.seats.uses)
-          (sym one)
-          (subst (λ (s : Seats). CountsRows (take i rows ++ item ∷ []) s.counts s.uses)
-          (sym w.seats-is) pushed)
+          rw (one, w.seats-is) (counted_other (take i rows) item c.loop-row.seats.counts
+          c.loop-row.seats.uses w.if-row-lt64.false c.loop-row.invariant)
     ]
 
 pub returns : goal.returns
 returns c =
-    let all : take c.loop-row.row-index c.args.rows.now ≡ c.args.rows.now =
-    take_all c.loop-row.row-index c.args.rows.now c.loop-row-test.false in
-    subst (λ (l : List Row). CountsRows l c.loop-row.seats.counts c.loop-row.seats.uses)
-    all c.loop-row.invariant
+    rw (take_all c.loop-row.row-index c.args.rows.now c.loop-row-test.false)
+    at c.loop-row.invariant

@@ -30,13 +30,7 @@ invariant_of-result g c =
     (λ made. (c.slot.ensures.unmade made, c.slot-2.ensures.unmade made))
 
 pub returns-clause-images : goal.returns-clause-images
-returns-clause-images g c =
-    let S : Snapshots g.row.D.Denot = record {
-      disk = c.synced_outline.new.disk;
-      made = c.in-Ok.outline.made;
-      slots = record { a = c.slot.result; b = c.slot-2.result };
-    } in
-    sound_images g.D.Disk.tells g.D.Disk.may_leave g.D.Disk.seen S (invariant_of-result g c)
+returns-clause-images g c = sound_images _ _ _ _ (invariant_of-result g c)
 
 pub returns-clause-areas : goal.returns-clause-areas
 returns-clause-areas g c told side =

@@ -17,14 +17,7 @@ invariant_of-self g c =
     sound_after stays c.self.invariant made put c.replace.ensures.ran.same.telling step.1 found.2
 
 pub returns-in_default-clause-images : goal.returns-in_default-clause-images
-returns-in_default-clause-images g c =
-    let put = area_with c.args.place c.args.count c.args.bytes.now in
-    let stays = g.met.D.Disk.seen_may_stay in
-    let made = c.if-not-self.false in
-    let step = c.in_default.ensures.err in
-    let found = step.2 _ _ (laid_before stays c.self.invariant made put) in
-    sound_images _ _ _ _
-    (sound_after stays c.self.invariant made put c.replace.ensures.ran.same.telling step.1 found.2)
+returns-in_default-clause-images g c = sound_images _ _ _ _ (invariant_of-self g c)
 
 pub returns-in_default-clause-crash : goal.returns-in_default-clause-crash
 returns-in_default-clause-crash g c =
@@ -64,15 +57,7 @@ invariant_of-self-2 g c =
     sound_after stays c.self.invariant made put telling c.in-Ok.ensures.ok laid
 
 pub returns-clause-images : goal.returns-clause-images
-returns-clause-images g c =
-    let put = area_with c.args.place c.args.count c.args.bytes.now in
-    let stays = g.met.D.Disk.seen_may_stay in
-    let made = c.if-not-self.false in
-    let telling = c.replace.ensures.ran.same.telling in
-    let laid = images_after telling (c.in-Ok.ensures.triple _ _)
-    (laid_before stays c.self.invariant made put) in
-    sound_images _ _ _ _
-    (sound_after stays c.self.invariant made put telling c.in-Ok.ensures.ok laid)
+returns-clause-images g c = sound_images _ _ _ _ (invariant_of-self-2 g c)
 
 pub returns-clause-crash : goal.returns-clause-crash
 returns-clause-crash g c =
