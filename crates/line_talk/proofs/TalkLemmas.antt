@@ -255,8 +255,12 @@ module _ {A : Type 0} {turn : Turn A} {over : A → Bool} {start : A} {input : S
           which = (
             limit_lines (lines (t.read ++ p.front)) first.0 many
                 ∙ sym (talk_small (t.read ++ piece) small ∙ ap (take (2 ^ 20)) first.1),
-            inr (omega
-                (arith, ap length first.1, length-append (lines (t.read ++ p.front)) first.0, many)),
+            inr (omega (
+              arith,
+              ap length first.1,
+              length-append (lines (t.read ++ p.front)) first.0,
+              many,
+            )),
           );
           how = part_answered p.front p.holds.0;
         }

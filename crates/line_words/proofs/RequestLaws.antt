@@ -61,7 +61,8 @@ session_reads = then_reads u32_reads key_reads
 
 numbered_reads : IsReader (ℕ × (List ℕ × ℕ)) IsEnd Numbered numbered_at
 unfolding numbered_at
-numbered_reads = then_reads u32_reads (then_reads key_reads (number_reads 1 4294967295 (omega arith)))
+numbered_reads =
+    then_reads u32_reads (then_reads key_reads (number_reads 1 4294967295 (omega arith)))
 
 setup_reads : IsReader (ℕ × (ℕ × (ℕ × ℕ))) IsEnd Setup setup_fields_at
 unfolding setup_fields_at

@@ -118,20 +118,6 @@ module _ {A : Type 0} where
   longer_left (x ∷ xs) [] low = refl
   longer_left (x ∷ xs) (y ∷ ys) low = let t = longer_left xs ys (omega arith) in omega arith
 
-  pub longer_one : (P Q : A → Type 0) (a b : List A)
-      → Continues P (longer_list a b) a
-      → Continues Q (longer_list a b) b
-      → (longer_list a b ≡ a) ⊎ (longer_list a b ≡ b)
-  longer_one P Q a b s t = of a b s.0 t.0 (sym s.1 ∙ t.1)
-    where
-      of : (a b p q : List A) → a ++ p ≡ b ++ q → (longer_list a b ≡ a) ⊎ (longer_list a b ≡ b)
-      of [] b p q e = inr refl
-      of (x ∷ xs) [] p q e = inl refl
-      of (x ∷ xs) (y ∷ ys) p q e = let same = cons_same x y (xs ++ p) (ys ++ q) e in ⊎_elim
-          (λ (t : longer_list xs ys ≡ xs). inl (ap (λ (l : List A). x ∷ l) t))
-          (λ (t : longer_list xs ys ≡ ys). inr (λ i. same.0 i ∷ t i))
-          (of xs ys p q same.1)
-
 pub among_head : (n : ℕ) (xs : List ℕ) → 0 < length xs → get_or xs 0 0 ≡ n → IsAmong n xs
 among_head n [] low e = absurd (omega arith)
 among_head n (x ∷ xs) low e = inl e

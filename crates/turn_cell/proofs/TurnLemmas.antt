@@ -6,7 +6,7 @@ use mathlib.Core.Option.{none}
 use Rattle.std.specs.Option.{IsSome}
 use Rattle.atomic_table.specs.Table.{Me, State, rest, step, Allows}
 use Rattle.turn_cell.specs.declared.view.View.{View}
-use Rattle.turn_cell.specs.declared.view.Stage.TheVariants.{Idle, Waits}
+use Rattle.turn_cell.specs.declared.view.Stage.TheVariants.{Waits}
 use Rattle.turn_cell.specs.History.{IsAmong}
 use Rattle.turn_cell.specs.Views.{at_stage, HasValue, MayLeave, HasNumberFirst, tag_in}
 use Rattle.turn_cell.specs.Steps.{PassesOn, Raises, FindsValue, TakesValue}
@@ -127,12 +127,3 @@ module _ {T E G : Type 0} (entries : T → List E) (by : E → ℕ) (tag : T →
       is
       ∙ ap (λ (l : List E). let v : V = at_stage m0.0 m0.0.stage l in (v, (0, Some value) ∷ []))
       (sym same)
-
-  pub passed_to : (m0 m1 m2 : M) (value : T)
-      → m1 ≡ (at_stage m0.0 m0.0.stage (entries value), (0, Some value) ∷ [])
-      → PassesOn (step {S = Option T} 0 0 0 0 none) m1 0 m2
-      → m2 ≡ (at_stage m0.0 Idle (entries value), [])
-  passed_to m0 m1 m2 value is told =
-      told
-      ∙ ap (λ (z : M).
-      let v : V = at_stage z.0 Idle z.0.seen in let c : List (ℕ × Option T) = [] in (v, c)) is
