@@ -3,7 +3,7 @@ use Rattle.std.proofs.Common.{◌≡◌, ◌⊎◌, ℕ, zero, suc, ◌+◌, ◌
 use Rattle.std.proofs.Common.{◌∷◌, ◌++◌, length, get_or, set, sym, refl, ap}
 use Rattle.std.proofs.Common.{◌≢◌, ◌^◌, ◌%◌, length-set, get_or-set_other, get_or-set_same}
 use Rattle.std.proofs.Common.{mod-eq_of_lt}
-use Rattle.std.proofs.Common.{◌∙◌, subst, ⊎_elim, inl, inr, arith, append_assoc}
+use Rattle.std.proofs.Common.{◌∙◌, subst, inl, inr, arith, append_assoc, append-nil}
 use mathlib.Core.Option.{some, some-injective, some-ne-none}
 use lib.ListN.{get_elem?}
 use Rattle.turn_cell.specs.declared.view.View.{View}
@@ -14,8 +14,7 @@ use Rattle.turn_cell.specs.Views.{ticket_count, tickets_out}
 
 module _ {A : Type 0} where
   pub nil_right : (xs : List A) → xs ++ [] ≡ xs
-  nil_right [] = refl
-  nil_right (x ∷ xs) = ap (λ (l : List A). x ∷ l) (nil_right xs)
+  nil_right xs = append-nil xs
 
   -- one index has one item
   pub one_item : (l : List A) (i j : ℕ) (a b : A)
@@ -53,16 +52,8 @@ module _ {A : Type 0} where
       → Continues Q log seen
   continues_map P Q log seen f s = (s.0, s.1, each_map P Q s.0 f s.2)
 
-  abbrev head_or : A → List A → A
-  head_or d [] = d
-  head_or d (x ∷ xs) = x
-
-  abbrev tail_of : List A → List A
-  tail_of [] = []
-  tail_of (x ∷ xs) = xs
-
   cons_same : (x y : A) (xs ys : List A) → x ∷ xs ≡ y ∷ ys → (x ≡ y) × (xs ≡ ys)
-  cons_same x y xs ys e = (ap (head_or x) e, ap tail_of e)
+  cons_same x y xs ys e = (cc, cc)
 
   -- the longer of two beginnings goes on from each
   pub longer_first : (P : A → Type 0) (a b ra rb : List A)
@@ -135,8 +126,7 @@ pub among_either : (n : ℕ) (xs ys : List ℕ) → IsAmong n (xs ++ ys) → IsA
 among_either n [] ys h = inr h
 among_either n (x ∷ xs) ys (inl e) = inl (inl e)
 among_either n (x ∷ xs) ys (inr h) =
-    ⊎_elim (λ (t : IsAmong n xs). inl (inr t)) (λ (t : IsAmong n ys). inr t)
-    (among_either n xs ys h)
+    elim (among_either n xs ys h) [ inl t ↦ inl (inr t) | inr t ↦ inr t ]
 
 -- word i grew by one
 pub record Grows (words words' : List ℕ) (i : ℕ) : Type 0 where

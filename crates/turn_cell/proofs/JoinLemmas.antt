@@ -1,5 +1,5 @@
 -- A join of two passes keeps the rule, and what it tells.
-use Rattle.std.proofs.Common.{◌≡◌, ◌≢◌, ℕ, ◌<◌, List, [], ◌∷◌, ◌++◌, length, get_or, sym}
+use Rattle.std.proofs.Common.{◌≡◌, ◌≢◌, ℕ, ◌<◌, List, [], ◌∷◌, ◌++◌, length, sym}
 use Rattle.std.proofs.Common.{refl, ap, ◌∙◌, subst, ⊎_elim, arith, Option, length-append}
 use mathlib.Core.Option.{none}
 use Rattle.atomic_table.specs.Table.{Me, step}
@@ -22,6 +22,7 @@ use Rattle.turn_cell.specs.Rule.{Knows, Legal}
 use Rattle.turn_cell.proofs.HistoryLemmas.{continues_map, longer_first}
 use Rattle.turn_cell.proofs.HistoryLemmas.{longer_second, longer_whole, among_first}
 use Rattle.turn_cell.proofs.HistoryLemmas.{tickets_out_set, at_low, one_item}
+use Rattle.std.proofs.lemmas.List.{get_or_append_left}
 use Rattle.turn_cell.proofs.StepLemmas.{place_stays}
 
 -- what the pass is after a join
@@ -53,31 +54,24 @@ learn_end {T} {E} by m0 m1 m2 w is bare told =
           is' k.2,
     )
 
-get_or_first : (xs ys : List ℕ) → 0 < length xs → get_or (xs ++ ys) 0 0 ≡ get_or xs 0 0
-get_or_first [] ys low = absurd (omega arith)
-get_or_first (x ∷ xs) ys low = refl
-
 pub joined_numbered : {T E : Type 0} (v w u : View E T)
     → u ≡ at_stage (joined v w) Idle (longer_list v.seen w.seen)
     → HasNumberFirst v → HasNumberFirst w → w.number ≢ 0
     → HasNumberFirst u
 joined_numbered {T} {E} v w u is a b other = subst (λ (x : View E T). HasNumberFirst x) (sym is) (
   omega (arith, a.0, length-append v.holds w.holds),
-  get_or_first v.holds w.holds a.0 ∙ a.1,
+  get_or_append_left v.holds w.holds 0 0 a.0 ∙ a.1,
   λ h. ⊎_elim a.2 (λ t. absurd (other (b.2 t))) (among_either 0 v.holds w.holds h),
 )
 
 module _ {T E G : Type 0} (entries : T → List E) (by : E → ℕ) (tag : T → G) (first : T) where
-  abbrev PassView : Type 0
-  PassView = View E T
-
   abbrev CellState : Type 0
-  CellState = State (Option T) PassView
+  CellState = State (Option T) (View E T)
 
   abbrev Rule : CellState → Type 0
   Rule = Legal entries by tag first
 
-  abbrev ViewKnows : List ℕ → List E → ℕ → PassView → Type 0
+  abbrev ViewKnows : List ℕ → List E → ℕ → View E T → Type 0
   ViewKnows words log made v = Knows entries by tag words log made first v
 
   each_any : (xs : List E) → Each (IsForeign by []) xs
@@ -91,30 +85,30 @@ module _ {T E G : Type 0} (entries : T → List E) (by : E → ℕ) (tag : T →
   -- a view after a join, and where its numbers came from
   abbrev From : CellState → ℕ → ℕ → ℕ → ℕ → Type 0
   From s id other j n =
-      (u : PassView) × (k : ℕ) × (get_elem? s.views k ≡ some u)
+      (u : View E T) × (k : ℕ) × (get_elem? s.views k ≡ some u)
       × IsAmong n u.holds
       × (((k ≡ j) × (j ≢ other)) ⊎ ((k ≡ other) × (j ≡ id)))
 
-  module _ (s : CellState) (r : Rule s) (id : ℕ) (v : PassView)
-      (other : ℕ) (w : PassView) (at : get_elem? s.views id ≡ some v) (apart : other ≢ id)
+  module _ (s : CellState) (r : Rule s) (id : ℕ) (v : View E T)
+      (other : ℕ) (w : View E T) (at : get_elem? s.views id ≡ some v) (apart : other ≢ id)
       (at_other : get_elem? s.views other ≡ some w) (idle : v.stage ≡ Idle)
       (idle_other : w.stage ≡ Idle) where
-    abbrev middle : List PassView
+    abbrev middle : List (View E T)
     middle = set s.views id (joined v w)
 
-    abbrev after : List PassView
+    abbrev after : List (View E T)
     after = set middle other spent
 
-    views_after_join : (P : ℕ → PassView → Type 0)
+    views_after_join : (P : ℕ → View E T → Type 0)
         → P other spent → P id (joined v w)
-        → ((j : ℕ) (d : PassView) → j ≢ other → j ≢ id → get_elem? s.views j ≡ some d → P j d)
-        → (j : ℕ) (d : PassView) → get_elem? after j ≡ some d
+        → ((j : ℕ) (d : View E T) → j ≢ other → j ≢ id → get_elem? s.views j ≡ some d → P j d)
+        → (j : ℕ) (d : View E T) → get_elem? after j ≡ some d
         → P j d
     views_after_join P a b c j d e = elim (at_set middle other j spent d e) [
-      | inl t ↦ subst (λ (x : ℕ × PassView). P x.0 x.1) (λ i. (sym t.0 i, t.1 i)) a
+      | inl t ↦ subst (λ (x : ℕ × View E T). P x.0 x.1) (λ i. (sym t.0 i, t.1 i)) a
       | inr t ↦
           elim (at_set s.views id j (joined v w) d t.1) [
-            | inl x ↦ subst (λ (y : ℕ × PassView). P y.0 y.1) (λ i. (sym x.0 i, x.1 i)) b
+            | inl x ↦ subst (λ (y : ℕ × View E T). P y.0 y.1) (λ i. (sym x.0 i, x.1 i)) b
             | inr x ↦ c j d t.0 x.0 x.1
           ]
     ]
@@ -158,7 +152,7 @@ module _ {T E G : Type 0} (entries : T → List E) (by : E → ℕ) (tag : T →
       at = tt;
     }
 
-    came_from : (j : ℕ) (d : PassView)
+    came_from : (j : ℕ) (d : View E T)
         → get_elem? after j ≡ some d → (n : ℕ) → IsAmong n d.holds
         → From s id other j n
     came_from = views_after_join (λ j d. (n : ℕ) → IsAmong n d.holds → From s id other j n)
@@ -169,7 +163,7 @@ module _ {T E G : Type 0} (entries : T → List E) (by : E → ℕ) (tag : T →
         ])
         (λ j d no_other no_id e n h. (d, j, e, h, inl (refl, no_other)))
 
-    joins_apart : (i j : ℕ) (c d : PassView) (n : ℕ)
+    joins_apart : (i j : ℕ) (c d : View E T) (n : ℕ)
         → get_elem? after i ≡ some c → get_elem? after j ≡ some d
         → IsAmong n c.holds → IsAmong n d.holds → i ≡ j
     joins_apart i j c d n ei ej hc hd =
@@ -189,11 +183,11 @@ module _ {T E G : Type 0} (entries : T → List E) (by : E → ℕ) (tag : T →
               ]
         ]
 
-    joins_turns : (i j : ℕ) (c d : PassView) (t : ℕ)
+    joins_turns : (i j : ℕ) (c d : View E T) (t : ℕ)
         → get_elem? after i ≡ some c → get_elem? after j ≡ some d
         → HasTicket t c.stage → HasTicket t d.stage → i ≡ j
     joins_turns i j c d t ei ej oc od =
-        let old : (k : ℕ) (u : PassView)
+        let old : (k : ℕ) (u : View E T)
         → get_elem? after k ≡ some u → HasTicket t u.stage
         → get_elem? s.views k ≡ some u =
         views_after_join (λ k u. HasTicket t u.stage → get_elem? s.views k ≡ some u)
@@ -203,7 +197,7 @@ module _ {T E G : Type 0} (entries : T → List E) (by : E → ℕ) (tag : T →
     at_middle : get_elem? middle other ≡ some w
     at_middle = set_else s.views id other (joined v w) apart ∙ at_other
 
-    joins_with : (root : PassView)
+    joins_with : (root : View E T)
         → get_elem? after 0 ≡ some root → IsAmong 0 root.holds
         → root.made ≡ r.root.made
         → Continues (λ e. by e ≤ r.root.made) r.log root.seen
@@ -263,7 +257,7 @@ module _ {T E G : Type 0} (entries : T → List E) (by : E → ℕ) (tag : T →
         joins_with (joined v w)
         (rooted ∙ rw (← here) (set_here s.views id (joined v w) low_at))
         (among_first 0 v.holds w.holds (rw same r.zero_held))
-        (ap (λ (u : PassView). u.made) same)
+        (ap (λ (u : View E T). u.made) same)
         (subst (λ (l : List E). Continues (λ e. by e ≤ r.root.made) l (longer_list v.seen w.seen))
         (sym given.1)
         (continues_map (λ e. (by e ≤ r.root.made) × Unit {0}) (λ e. by e ≤ r.root.made)
@@ -275,7 +269,7 @@ module _ {T E G : Type 0} (entries : T → List E) (by : E → ℕ) (tag : T →
         (rooted ∙ (set_else s.views id 0 (joined v w) (λ z. elsewhere (sym z)) ∙ r.rooted))
         r.zero_held refl r.given r.alone)
 
-  pub joins : (id : ℕ) (v : PassView) (other : ℕ) (w : PassView)
+  pub joins : (id : ℕ) (v : View E T) (other : ℕ) (w : View E T)
       → v.stage ≡ Idle → w.stage ≡ Idle → (IsAmong 0 w.holds → ⊥)
       → Joins Rule id v other w (joined v w) spent
   joins id v other w idle idle_other no_root s r at apart at_other =

@@ -19,11 +19,8 @@ use Rattle.turn_cell.proofs.HistoryLemmas.{one_item, each_map, continues_all}
 use Rattle.turn_cell.proofs.HistoryLemmas.{continues_more, tickets_out_set, at_low}
 
 module _ {T E G : Type 0} (entries : T → List E) (by : E → ℕ) (tag : T → G) (first : T) where
-  abbrev PassView : Type 0
-  PassView = View E T
-
   abbrev CellState : Type 0
-  CellState = State (Option T) PassView
+  CellState = State (Option T) (View E T)
 
   abbrev Rule : CellState → Type 0
   Rule = Legal entries by tag first
@@ -31,15 +28,15 @@ module _ {T E G : Type 0} (entries : T → List E) (by : E → ℕ) (tag : T →
   abbrev Homes : Type 0
   Homes = List (maybe.Option (Option T))
 
-  abbrev StageKnows : List ℕ → List E → PassView → Stage E → Type 0
+  abbrev StageKnows : List ℕ → List E → View E T → Stage E → Type 0
   StageKnows = KnowsStage entries by tag
 
-  abbrev ViewKnows : List ℕ → List E → ℕ → PassView → Type 0
+  abbrev ViewKnows : List ℕ → List E → ℕ → View E T → Type 0
   ViewKnows words log made v = Knows entries by tag words log made first v
 
   -- no other seat's move, where the served number grows by at most one, and stays with the history
   -- where that seat is served
-  stage_kept : (words words' : List ℕ) (log log' : List E) (d : PassView) (stage : Stage E)
+  stage_kept : (words words' : List ℕ) (log log' : List E) (d : View E T) (stage : Stage E)
       → get_or words' 1 0 ≤ get_or words 1 0 + 1
       → get_or words 0 0 ≤ get_or words' 0 0
       → (HasTicket (get_or words 1 0) stage → (get_or words' 1 0 ≡ get_or words 1 0) × (log ≡ log'))
@@ -55,7 +52,7 @@ module _ {T E G : Type 0} (entries : T → List E) (by : E → ℕ) (tag : T →
   stage_kept words words' log log' d (Joined a an b bn) one two same k = k
 
   -- what a step of the seat id has to be, which leaves its numbers: the history is now `log`
-  pub record Moves (s : CellState) (r : Rule s) (id : ℕ) (v : PassView) (stage : Stage E)
+  pub record Moves (s : CellState) (r : Rule s) (id : ℕ) (v : View E T) (stage : Stage E)
       (seen log : List E) (words : List ℕ) (homes : Homes) : Type 0 where
     pub more : List E
     pub grown : log ≡ r.log ++ more
@@ -73,20 +70,20 @@ module _ {T E G : Type 0} (entries : T → List E) (by : E → ℕ) (tag : T →
     pub onward : (get_or s.words 0 0 ≤ get_or words 0 0)
         × (get_or words 1 0 ≤ get_or s.words 1 0 + 1)
     -- where another seat is served, its turn goes on
-    pub others : (j : ℕ) (d : PassView)
+    pub others : (j : ℕ) (d : View E T)
         → j ≢ id → get_elem? s.views j ≡ some d
         → HasTicket (get_or s.words 1 0) d.stage
         → (get_or words 1 0 ≡ get_or s.words 1 0) × (r.log ≡ log)
     pub differ : (t : ℕ)
-        → HasTicket t stage → (j : ℕ) (d : PassView) → j ≢ id
+        → HasTicket t stage → (j : ℕ) (d : View E T) → j ≢ id
         → get_elem? s.views j ≡ some d → HasTicket t d.stage → ⊥
     pub place : IsHome entries by tag homes log first
         ⊎ IsAway entries by tag (set s.views id (at_stage v stage seen))
 
-  module _ (s : CellState) (r : Rule s) (id : ℕ) (v : PassView) (at : get_elem? s.views id ≡ some v)
+  module _ (s : CellState) (r : Rule s) (id : ℕ) (v : View E T) (at : get_elem? s.views id ≡ some v)
       (stage : Stage E) (seen log : List E) (words : List ℕ) (homes : Homes)
       (m : Moves s r id v stage seen log words homes) where
-    abbrev w : PassView
+    abbrev w : View E T
     w = at_stage v stage seen
 
     -- what is known of the history, by a fact that each added entry meets
@@ -108,21 +105,21 @@ module _ {T E G : Type 0} (entries : T → List E) (by : E → ℕ) (tag : T →
         (λ e h. (r.each id v at).low (by e) h) m.own
 
     -- the views after the step: each has the numbers that it had
-    back : (j : ℕ) (d : PassView)
+    back : (j : ℕ) (d : View E T)
         → get_elem? (set s.views id w) j ≡ some d
-        → (u : PassView) × (get_elem? s.views j ≡ some u) × (d.holds ≡ u.holds)
+        → (u : View E T) × (get_elem? s.views j ≡ some u) × (d.holds ≡ u.holds)
     back j d e = elim (at_set s.views id j w d e) [
-      | inl t ↦ (v, rw t.0 at, ap (λ (u : PassView). u.holds) (sym t.1))
+      | inl t ↦ (v, rw t.0 at, ap (λ (u : View E T). u.holds) (sym t.1))
       | inr t ↦ (d, t.1, refl)
     ]
 
-    knows_each : (j : ℕ) (d : PassView)
+    knows_each : (j : ℕ) (d : View E T)
         → get_elem? (set s.views id w) j ≡ some d
         → ViewKnows words log r.root.made d
     knows_each j d e = elim (at_set s.views id j w d e) [
       | inl t ↦
           let k = r.each id v at in
-          subst (λ (u : PassView). ViewKnows words log r.root.made u) t.1 record {
+          subst (λ (u : View E T). ViewKnows words log r.root.made u) t.1 record {
             known = seen_on (IsForeign by v.holds) k.known;
             low = k.low;
             tagged = k.tagged;
@@ -143,7 +140,7 @@ module _ {T E G : Type 0} (entries : T → List E) (by : E → ℕ) (tag : T →
           }
     ]
 
-    turns_differ : (i j : ℕ) (c d : PassView) (t : ℕ)
+    turns_differ : (i j : ℕ) (c d : View E T) (t : ℕ)
         → get_elem? (set s.views id w) i ≡ some c
         → get_elem? (set s.views id w) j ≡ some d
         → HasTicket t c.stage → HasTicket t d.stage → i ≡ j
@@ -160,10 +157,10 @@ module _ {T E G : Type 0} (entries : T → List E) (by : E → ℕ) (tag : T →
                 | inr y ↦ r.turns i j c d t x.1 y.1 oc od
               ]
         ] where
-          stage_of : (u : PassView) → w ≡ u → HasTicket t u.stage → HasTicket t stage
-          stage_of u is o = subst (λ (x : PassView). HasTicket t x.stage) (sym is) o
+          stage_of : (u : View E T) → w ≡ u → HasTicket t u.stage → HasTicket t stage
+          stage_of u is o = subst (λ (x : View E T). HasTicket t x.stage) (sym is) o
 
-    with_root : (root : PassView)
+    with_root : (root : View E T)
         → get_elem? (set s.views id w) 0 ≡ some root
         → root.holds ≡ r.root.holds → root.made ≡ r.root.made
         → Continues (λ e. by e ≤ r.root.made) log root.seen
@@ -196,13 +193,13 @@ module _ {T E G : Type 0} (entries : T → List E) (by : E → ℕ) (tag : T →
     moved = dite (ℕ_discrete id 0)
         (λ (here : id ≡ 0).
         let same : v ≡ r.root = one_item s.views id 0 v r.root here at r.rooted in
-        let made : v.made ≡ r.root.made = ap (λ (u : PassView). u.made) same in
+        let made : v.made ≡ r.root.made = ap (λ (u : View E T). u.made) same in
         with_root w (rw (← here) (set_here s.views id w (at_low s.views id v at)))
-        (ap (λ (u : PassView). u.holds) same) made
+        (ap (λ (u : View E T). u.holds) same) made
         (seen_on (λ e. by e ≤ r.root.made) (rw same r.given))
         (λ z. elim m.new [
           | inl e ↦ e
-          | inr t ↦ t.0 ∙ (ap (λ (u : PassView). u.seen) same ∙ (r.alone z ∙ sym t.1))
+          | inr t ↦ t.0 ∙ (ap (λ (u : View E T). u.seen) same ∙ (r.alone z ∙ sym t.1))
         ]))
         (λ (elsewhere : id ≢ 0).
         with_root r.root (set_else s.views id 0 w (λ z. elsewhere (sym z)) ∙ r.rooted) refl refl

@@ -28,37 +28,34 @@ module _ {A : Type 0} where
       elim (at_end xs a b j e) [ inl t ↦ inl t | inr t ↦ inr (omega (arith, t.0), t.1) ]
 
 module _ {T E G : Type 0} (entries : T → List E) (by : E → ℕ) (tag : T → G) (first : T) where
-  abbrev PassView : Type 0
-  PassView = View E T
-
   abbrev CellState : Type 0
-  CellState = State (Option T) PassView
+  CellState = State (Option T) (View E T)
 
   abbrev Rule : CellState → Type 0
   Rule = Legal entries by tag first
 
-  abbrev ViewKnows : List ℕ → List E → ℕ → PassView → Type 0
+  abbrev ViewKnows : List ℕ → List E → ℕ → View E T → Type 0
   ViewKnows words log made v = Knows entries by tag words log made first v
 
   -- after a split: the view is that of a seat from before, with its numbers and its stage
-  record IsOld (s : CellState) (r : Rule s) (j : ℕ) (d : PassView) : Type 0 where
-    old : PassView
+  record IsOld (s : CellState) (r : Rule s) (j : ℕ) (d : View E T) : Type 0 where
+    old : View E T
     there : get_elem? s.views j ≡ some old
     holds : d.holds ≡ old.holds
     stage : d.stage ≡ old.stage
     known : ViewKnows s.words r.log (r.root.made + 1) d
 
   -- or that of the new pass
-  abbrev IsNew : CellState → PassView → ℕ → PassView → Type 0
+  abbrev IsNew : CellState → View E T → ℕ → View E T → Type 0
   IsNew s v j d = (d ≡ split_off v) × (j ≡ length s.views)
 
-  views_after_split : (s : CellState) (r : Rule s) (id : ℕ) (v : PassView)
+  views_after_split : (s : CellState) (r : Rule s) (id : ℕ) (v : View E T)
       → get_elem? s.views id ≡ some v → v.stage ≡ Idle
-      → (j : ℕ) (d : PassView)
+      → (j : ℕ) (d : View E T)
       → get_elem? (set s.views id (with_one_more v) ++ split_off v ∷ []) j ≡ some d
       → IsNew s v j d ⊎ IsOld s r j d
   views_after_split s r id v at idle j d e =
-      let low : (u : PassView) (k : ℕ)
+      let low : (u : View E T) (k : ℕ)
       → get_elem? s.views k ≡ some u → (n : ℕ) → IsAmong n u.holds
       → n ≤ r.root.made + 1 =
       λ u k at_k n h. omega (arith, (r.each k u at_k).low n h) in
@@ -66,7 +63,7 @@ module _ {T E G : Type 0} (entries : T → List E) (by : E → ℕ) (tag : T →
         | inl t ↦
             elim (at_set s.views id j (with_one_more v) d t) [
               | inl x ↦
-                  inr (subst (λ (y : ℕ × PassView). IsOld s r y.0 y.1) (λ i. (sym x.0 i, x.1 i))
+                  inr (subst (λ (y : ℕ × View E T). IsOld s r y.0 y.1) (λ i. (sym x.0 i, x.1 i))
                   record {
                     old = v;
                     there = at;
@@ -93,13 +90,13 @@ module _ {T E G : Type 0} (entries : T → List E) (by : E → ℕ) (tag : T →
         | inr t ↦ inl (sym t.1, t.0 ∙ length-set s.views id (with_one_more v))
       ]
 
-  pub splits : (id : ℕ) (v : PassView)
+  pub splits : (id : ℕ) (v : View E T)
       → v.stage ≡ Idle → IsAmong 0 v.holds → v.made < 2 ^ 32
       → Splits Rule id v (with_one_more v) (split_off v)
   splits id v idle zero_in room s r at =
       let root = is_root entries by tag first s r id v at zero_in in
-      let made : v.made ≡ r.root.made = ap (λ (u : PassView). u.made) root.1 in
-      let middle : List PassView = set s.views id (with_one_more v) in
+      let made : v.made ≡ r.root.made = ap (λ (u : View E T). u.made) root.1 in
+      let middle : List (View E T) = set s.views id (with_one_more v) in
       let given : Continues (λ e. by e ≤ v.made) r.log v.seen = rw root.1 r.given in
       let next : (n : ℕ) → IsAmong n (split_off v).holds → n ≡ v.made + 1 =
       λ n h. elim h [ inl x ↦ sym x | inr x ↦ absurd x ] in
@@ -113,15 +110,15 @@ module _ {T E G : Type 0} (entries : T → List E) (by : E → ℕ) (tag : T →
       } in
       let part = views_after_split s r id v at idle in
       -- no pass of before has the new pass's number, and the new one has no ticket
-      let fresh : (j : ℕ) (u d : PassView) (k n : ℕ)
+      let fresh : (j : ℕ) (u d : View E T) (k n : ℕ)
       → IsOld s r j u → IsAmong n u.holds → IsNew s v k d → IsAmong n d.holds → ⊥ =
       λ j u d k n o h is hd. omega (
         arith,
         (r.each j o.old o.there).low n (subst (IsAmong n) o.holds h),
-        next n (subst (λ (w : PassView). IsAmong n w.holds) is.0 hd),
+        next n (subst (λ (w : View E T). IsAmong n w.holds) is.0 hd),
       ) in
-      let no_ticket : (d : PassView) (k t : ℕ) → IsNew s v k d → HasTicket t d.stage → ⊥ =
-      λ d k t is o. subst (λ (u : PassView). HasTicket t u.stage) is.0 o in
+      let no_ticket : (d : View E T) (k t : ℕ) → IsNew s v k d → HasTicket t d.stage → ⊥ =
+      λ d k t is o. subst (λ (u : View E T). HasTicket t u.stage) is.0 o in
       record {
         log = r.log;
         root = with_one_more v;
@@ -193,8 +190,8 @@ module _ {T E G : Type 0} (entries : T → List E) (by : E → ℕ) (tag : T →
       → Rule
       (opening (0 ∷ 0 ∷ length (entries value) ∷ []) (Some value ∷ []) (starting entries value))
   starts value is =
-      let root : PassView = starting entries value in
-      let only : (j : ℕ) (d : PassView) → get_elem? (root ∷ []) j ≡ some d → (j ≡ 0) × (root ≡ d) =
+      let root : View E T = starting entries value in
+      let only : (j : ℕ) (d : View E T) → get_elem? (root ∷ []) j ≡ some d → (j ≡ 0) × (root ≡ d) =
       λ j d e. elim (at_end [] root d j e) [
         | inl x ↦ absurd (some-ne-none d (sym x))
         | inr x ↦ x
@@ -216,7 +213,7 @@ module _ {T E G : Type 0} (entries : T → List E) (by : E → ℕ) (tag : T →
         alone = (λ z. refl);
         each =
             (λ j d e. subst
-            (λ (u : PassView). ViewKnows (0 ∷ 0 ∷ length (entries value) ∷ []) (entries value) 0 u)
+            (λ (u : View E T). ViewKnows (0 ∷ 0 ∷ length (entries value) ∷ []) (entries value) 0 u)
             (only j d e).1 record {
               known = continues_all (IsForeign by (0 ∷ [])) (entries value);
               low = (λ n h. elim h [ inl x ↦ omega arith | inr x ↦ absurd x ]);

@@ -16,18 +16,15 @@ use Rattle.turn_cell.specs.declared.view.Stage.TheVariants.{Idle, Waits, Served,
 use Rattle.turn_cell.specs.History.{Continues, IsAmong, IsForeign}
 use Rattle.turn_cell.specs.Views.{HasTicket, ticket_count, at_stage}
 use Rattle.turn_cell.specs.Steps.{Draws, PassesOn, FindsValue, LooksAtServed, Raises, LearnsBoth}
-use Rattle.turn_cell.specs.Rule.{KnowsStage, Knows, IsHome, IsAway, Legal}
+use Rattle.turn_cell.specs.Rule.{KnowsStage, IsHome, IsAway, Legal}
 use Rattle.turn_cell.proofs.MoveLemmas.{moved}
 use Rattle.turn_cell.specs.Steps.{Learned}
 use Rattle.turn_cell.proofs.HistoryLemmas.{nil_right, one_item, tickets_out_le, at_low}
 use Rattle.turn_cell.proofs.HistoryLemmas.{Grows, grows}
 
 module _ {T E G : Type 0} (entries : T → List E) (by : E → ℕ) (tag : T → G) (first : T) where
-  abbrev PassView : Type 0
-  PassView = View E T
-
   abbrev CellState : Type 0
-  CellState = State (Option T) PassView
+  CellState = State (Option T) (View E T)
 
   abbrev Rule : CellState → Type 0
   Rule = Legal entries by tag first
@@ -35,19 +32,16 @@ module _ {T E G : Type 0} (entries : T → List E) (by : E → ℕ) (tag : T →
   abbrev Homes : Type 0
   Homes = List (maybe.Option (Option T))
 
-  abbrev StageKnows : List ℕ → List E → PassView → Stage E → Type 0
+  abbrev StageKnows : List ℕ → List E → View E T → Stage E → Type 0
   StageKnows = KnowsStage entries by tag
 
-  abbrev ViewKnows : List ℕ → List E → ℕ → PassView → Type 0
-  ViewKnows words log made v = Knows entries by tag words log made first v
-
-  away_here : (views : List PassView) (id : ℕ) (v w : PassView) (t : ℕ)
+  away_here : (views : List (View E T)) (id : ℕ) (v w : View E T) (t : ℕ)
       → get_elem? views id ≡ some v → w.stage ≡ Served t
       → IsAway entries by tag (set views id w)
   away_here views id v w t at is = (id, w, t, set_here views id w (at_low views id v at), is)
 
   -- the value stays where it is in a step of a seat that isn't served
-  pub place_stays : (views : List PassView) (id : ℕ) (v w : PassView) (homes : Homes) (log : List E)
+  pub place_stays : (views : List (View E T)) (id : ℕ) (v w : View E T) (homes : Homes) (log : List E)
       → get_elem? views id ≡ some v → ((t : ℕ) → v.stage ≡ Served t → ⊥)
       → IsHome entries by tag homes log first ⊎ IsAway entries by tag views
       → IsHome entries by tag homes log first ⊎ IsAway entries by tag (set views id w)
@@ -56,12 +50,12 @@ module _ {T E G : Type 0} (entries : T → List E) (by : E → ℕ) (tag : T →
     | inr (j, u, t, at_j, is) ↦
         let other : j ≢ id =
         λ e. let same : u ≡ v = one_item views j id u v e at_j at in
-        free t (ap (λ (x : PassView). x.stage) (sym same) ∙ is) in
+        free t (ap (λ (x : View E T). x.stage) (sym same) ∙ is) in
         inr (j, u, t, set_else views id j w other ∙ at_j, is)
   ]
 
   -- what a seat knows at its stage
-  knows_at : (s : CellState) (r : Rule s) (id : ℕ) (v : PassView) (stage : Stage E)
+  knows_at : (s : CellState) (r : Rule s) (id : ℕ) (v : View E T) (stage : Stage E)
       → get_elem? s.views id ≡ some v → v.stage ≡ stage
       → StageKnows s.words r.log v stage
   knows_at s r id v stage at is =
@@ -71,7 +65,7 @@ module _ {T E G : Type 0} (entries : T → List E) (by : E → ℕ) (tag : T →
   few_tickets s r =
       omega (arith, tickets_out_le s.views)
 
-  ticket_low : (words : List ℕ) (log : List E) (d : PassView) (stage : Stage E) (t : ℕ)
+  ticket_low : (words : List ℕ) (log : List E) (d : View E T) (stage : Stage E) (t : ℕ)
       → StageKnows words log d stage → HasTicket t stage
       → t < get_or words 0 0
   ticket_low words log d Idle t k o = absurd o
@@ -80,18 +74,18 @@ module _ {T E G : Type 0} (entries : T → List E) (by : E → ℕ) (tag : T →
   ticket_low words log d (Joined a an b bn) t k o = absurd o
 
   -- a word that is read stays
-  reads : (i : ℕ) (words : List ℕ) (homes : Homes) (views : List PassView)
+  reads : (i : ℕ) (words : List ℕ) (homes : Homes) (views : List (View E T))
       → Rule record { words = words; homes = homes; views = views }
       → Rule record { words = set words i (get_or words i 0); homes = homes; views = views }
   reads i words homes views h =
       subst (λ (ws : List ℕ). Rule record { words = ws; homes = homes; views = views })
       (sym (set-get_or words i 0)) h
 
-  pub draws : (slots id : ℕ) (st : Step (Option T)) (m : Me (Option T) PassView)
+  pub draws : (slots id : ℕ) (st : Step (Option T)) (m : Me (Option T) (View E T))
       → m.0.stage ≡ Idle
       → Allows Rule slots id m 0 (λ n. (n + 1) % 2 ^ 64) (Draws st m)
   draws slots id st m idle s r sized at low =
-      let v : PassView = m.0 in let n : ℕ = get_or s.words 0 0 in
+      let v : View E T = m.0 in let n : ℕ = get_or s.words 0 0 in
       let words : List ℕ = set s.words 0 ((n + 1) % 2 ^ 64) in
       let few = few_tickets s r in
       let g : Grows s.words words 0 = grows s.words 0 (omega arith) (omega arith) in
@@ -124,7 +118,7 @@ module _ {T E G : Type 0} (entries : T → List E) (by : E → ℕ) (tag : T →
         refl,
       )
 
-  looks_hit : (s : CellState) (r : Rule s) (id : ℕ) (v : PassView)
+  looks_hit : (s : CellState) (r : Rule s) (id : ℕ) (v : View E T)
       (at : get_elem? s.views id ≡ some v) (t : ℕ)
       → v.stage ≡ Waits t → get_or s.words 1 0 ≡ t → t < 2 ^ 62
       → (value : T) → entries value ≡ r.log
@@ -157,7 +151,7 @@ module _ {T E G : Type 0} (entries : T → List E) (by : E → ℕ) (tag : T →
             inr (away_here s.views id v (at_stage v (Served t) (entries value)) t at refl);
       }
 
-  pub is_root : (s : CellState) (r : Rule s) (id : ℕ) (v : PassView)
+  pub is_root : (s : CellState) (r : Rule s) (id : ℕ) (v : View E T)
       → get_elem? s.views id ≡ some v → IsAmong 0 v.holds
       → (id ≡ 0) × (v ≡ r.root)
   is_root s r id v at zero_in =
@@ -165,7 +159,7 @@ module _ {T E G : Type 0} (entries : T → List E) (by : E → ℕ) (tag : T →
       (here, one_item s.views id 0 v r.root here at r.rooted)
 
   -- what the seat learns of the value, as the value is at home
-  learned : (s : CellState) (r : Rule s) (id : ℕ) (v : PassView)
+  learned : (s : CellState) (r : Rule s) (id : ℕ) (v : View E T)
       → get_elem? s.views id ≡ some v
       → (h : IsHome entries by tag s.homes r.log first)
       → Learned entries by tag v h.0
@@ -174,13 +168,13 @@ module _ {T E G : Type 0} (entries : T → List E) (by : E → ℕ) (tag : T →
         (r.each id v at).known,
     (λ zero_in none_made. let z = is_root s r id v at zero_in in
         h.2
-        ∙ (sym (r.alone (ap (λ (u : PassView). u.made) (sym z.1) ∙ none_made))
-        ∙ ap (λ (u : PassView). u.seen) (sym z.1))),
+        ∙ (sym (r.alone (ap (λ (u : View E T). u.made) (sym z.1) ∙ none_made))
+        ∙ ap (λ (u : View E T). u.seen) (sym z.1))),
     (λ x tg. h.3 ∙ sym ((r.each id v at).tagged x tg)),
   )
 
   -- where the seat's ticket is the one served now, the value isn't away
-  not_away : (s : CellState) (r : Rule s) (id : ℕ) (v : PassView) (t : ℕ)
+  not_away : (s : CellState) (r : Rule s) (id : ℕ) (v : View E T) (t : ℕ)
       → get_elem? s.views id ≡ some v → v.stage ≡ Waits t
       → get_or s.words 1 0 ≡ t → IsAway entries by tag s.views
       → ⊥
@@ -193,17 +187,17 @@ module _ {T E G : Type 0} (entries : T → List E) (by : E → ℕ) (tag : T →
       let same = one_item s.views a.0 id u v here a.3 at in
       cc
 
-  pub looks : (slots id : ℕ) (st : Step (Option T)) (m : Me (Option T) PassView) (t : ℕ)
+  pub looks : (slots id : ℕ) (st : Step (Option T)) (m : Me (Option T) (View E T)) (t : ℕ)
       → m.0.stage ≡ Waits t
       → Allows Rule slots id m 1 (λ n. n) (LooksAtServed entries by tag st m)
   looks slots id st m t waits s r sized at low =
-      let v : PassView = m.0 in let n : ℕ = get_or s.words 1 0 in
+      let v : View E T = m.0 in let n : ℕ = get_or s.words 1 0 in
       let own : (k : ℕ) → v.stage ≡ Waits k → t ≡ k = λ k is. cc in
       elim (now_or_not n t) [
         | inl now ↦
             elim r.place [
               | inl h ↦
-                  let w : PassView = at_stage v (Served t) (entries h.0) in (
+                  let w : View E T = at_stage v (Served t) (entries h.0) in (
                     w,
                     takes 0 (Some h.0),
                     h.1,
@@ -224,7 +218,7 @@ module _ {T E G : Type 0} (entries : T → List E) (by : E → ℕ) (tag : T →
           keeps,
           tt,
           reads 1 s.words s.homes (set s.views id v)
-              (subst (λ (vs : List PassView).
+              (subst (λ (vs : List (View E T)).
               Rule record { words = s.words; homes = s.homes; views = vs })
               (sym (set_again s.views id v at)) r),
           (λ k is. let a = own k is in (
@@ -246,9 +240,9 @@ module _ {T E G : Type 0} (entries : T → List E) (by : E → ℕ) (tag : T →
       ]
 
   -- no other seat is served where this one is
-  alone_served : (s : CellState) (r : Rule s) (id : ℕ) (v : PassView) (t : ℕ)
+  alone_served : (s : CellState) (r : Rule s) (id : ℕ) (v : View E T) (t : ℕ)
       → get_elem? s.views id ≡ some v → v.stage ≡ Served t
-      → (j : ℕ) (d : PassView) → j ≢ id
+      → (j : ℕ) (d : View E T) → j ≢ id
       → get_elem? s.views j ≡ some d → (u : ℕ)
       → HasTicket u d.stage → u ≢ get_or s.words 1 0
   alone_served s r id v t at is j d other e u o now =
@@ -256,7 +250,7 @@ module _ {T E G : Type 0} (entries : T → List E) (by : E → ℕ) (tag : T →
       other
       (r.turns j id d v u e at o (rw is (kv.0 ∙ sym now)))
 
-  pub raises : (slots id : ℕ) (st : Step (Option T)) (m : Me (Option T) PassView) (t : ℕ)
+  pub raises : (slots id : ℕ) (st : Step (Option T)) (m : Me (Option T) (View E T)) (t : ℕ)
       (value : T) (e : E)
       → m.0.stage ≡ Served t → m.1 ≡ (0, Some value) ∷ []
       → entries value ≡ m.0.seen ++ e ∷ []
@@ -264,7 +258,7 @@ module _ {T E G : Type 0} (entries : T → List E) (by : E → ℕ) (tag : T →
       → length (entries value) < 2 ^ 64
       → Allows Rule slots id m 2 (λ n. (n + 1) % 2 ^ 64) (Raises entries st m)
   raises slots id st m t value e is held goes mine room s r sized at low =
-      let v : PassView = m.0 in let n : ℕ = get_or s.words 2 0 in
+      let v : View E T = m.0 in let n : ℕ = get_or s.words 2 0 in
       let words : List ℕ = set s.words 2 ((n + 1) % 2 ^ 64) in
       let kv = knows_at s r id v (Served t) at is in
       let whole : entries value ≡ r.log ++ e ∷ [] = goes ∙ ap (λ (l : List E). l ++ e ∷ []) kv.3 in
@@ -304,10 +298,10 @@ module _ {T E G : Type 0} (entries : T → List E) (by : E → ℕ) (tag : T →
             },
         (λ value' held'. let same : value ≡ value' =
             cc (ap (λ (l : List (ℕ × Option T)). (get_or l 0 (0, None)).1) (sym held ∙ held')) in
-            ap (λ (x : T). let w : PassView = at_stage v v.stage (entries x) in (w, m.1)) same),
+            ap (λ (x : T). let w : View E T = at_stage v v.stage (entries x) in (w, m.1)) same),
       )
 
-  passes_of : (s : CellState) (r : Rule s) (id : ℕ) (v : PassView)
+  passes_of : (s : CellState) (r : Rule s) (id : ℕ) (v : View E T)
       (at : get_elem? s.views id ≡ some v) (t : ℕ) (value : T)
       → v.stage ≡ Served t → entries value ≡ v.seen
       → tag value ≡ tag first
@@ -348,7 +342,7 @@ module _ {T E G : Type 0} (entries : T → List E) (by : E → ℕ) (tag : T →
             );
       }
 
-  pub passes : (slots id : ℕ) (st : Step (Option T)) (m : Me (Option T) PassView) (t : ℕ)
+  pub passes : (slots id : ℕ) (st : Step (Option T)) (m : Me (Option T) (View E T)) (t : ℕ)
       (value x : T)
       → m.0.stage ≡ Served t → m.1 ≡ (0, Some value) ∷ []
       → entries value ≡ m.0.seen → m.0.sample ≡ Some x
@@ -365,12 +359,12 @@ module _ {T E G : Type 0} (entries : T → List E) (by : E → ℕ) (tag : T →
         refl,
       ))
 
-  pub learns : (slots id : ℕ) (st : Step (Option T)) (m : Me (Option T) PassView)
+  pub learns : (slots id : ℕ) (st : Step (Option T)) (m : Me (Option T) (View E T))
       (a : List E) (an : List ℕ) (b : List E) (bn : List ℕ)
       → m.0.stage ≡ Joined a an b bn
       → Allows Rule slots id m 0 (λ n. n) (LearnsBoth by st m)
   learns slots id st m a an b bn is s r sized at low =
-      let v : PassView = m.0 in let w : PassView = at_stage v Idle v.seen in (
+      let v : View E T = m.0 in let w : View E T = at_stage v Idle v.seen in (
         w,
         keeps,
         tt,
