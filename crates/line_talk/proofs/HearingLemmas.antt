@@ -56,16 +56,16 @@ pub hears_then : {A : Type 0} {turn : Turn A} {over : A → Bool} {a b c : A}
     → HearsAll turn over a begun count xs b line n old mid
     → HearsAll turn over b line n ys c more m mid new
     → HearsAll turn over a begun count (xs ++ ys) c more m old new
-hears_then {A} {turn} {over} {a} {b} {c} {begun} {line} {more} {count} {n} {m} {xs}
-    {ys} {old} {mid} {new} p q = record {
+hears_then {turn = turn} {over} {a} {c = c} {begun} {line} {xs = xs} {ys} {old} {new = new} p q =
+    let behind = heard_behind begun line xs ys p.same_line in
+    record {
       answered =
-          subst (λ (ls : List Line). Answered turn over a ls c old new)
-          (heard_behind begun line xs ys p.same_line) (answered_then p.answered q.answered);
+          subst (λ (ls : List Line). Answered turn over a ls c old new) behind
+          (answered_then p.answered q.answered);
       same_line =
           q.same_line ∙ ap (λ l. begun_after l ys) p.same_line ∙ sym (begun_append begun xs ys);
-      counts = let x = p.counts in let y = q.counts in
-          let z = ap length (heard_behind begun line xs ys p.same_line) in
-          omega (arith, x, y, z, length-append (heard_from begun xs) (heard_from line ys));
+      counts =
+          omega (arith, ap length behind, length-append (heard_from begun xs) (heard_from line ys));
     }
 
 -- one byte that is no LF
@@ -81,7 +81,7 @@ hears_byte {A} turn over a line n b k ne =
           subst (λ (ls : List Line). Answered turn over a ls a k k) (sym none)
           (answered_none turn over a k);
       same_line = sym begun;
-      counts = let l = ap length none in omega (arith, l);
+      counts = omega (arith, ap length none);
     }
 
 heard_lf : (line : Line) (b : ℕ) → b ≡ 10 → heard_from line (b ∷ []) ≡ line ∷ []
@@ -101,7 +101,7 @@ hears_lf {A} turn over a c line n b old new lf going t =
           subst (λ (ls : List Line). Answered turn over a ls c old new) (sym one)
           (answered_one going t);
       same_line = sym begun;
-      counts = let l = ap length one in omega (arith, l);
+      counts = omega (arith, ap length one);
     }
 
 -- what was heard of a piece, and the rest of it

@@ -29,7 +29,7 @@ stopped_within {old} {mid} {new} {text} {rest} {a} {cause} u b e s = record {
   wrote =
       upto_more u s.wrote.part (s.rest ++ b)
       (grind (arith, common_steps, s.wrote.split, e)) s.wrote.wrote;
-  rose = λ o. let r = s.rose o in let l = u.wrote.later in omega (arith, r, l);
+  rose = λ o. omega (arith, s.rose o);
 }
 
 pub stopped_more : {old new : SinkState} {a : List ℕ} {cause : Stop} (b : List ℕ)
