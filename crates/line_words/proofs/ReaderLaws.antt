@@ -116,8 +116,8 @@ word_reads : {A : Type 0} {S : List ℕ → A → Type 0}
     → ((front rest : List ℕ) (x : A) → S front x
     → (word : List ℕ) × (front ≡ field word) × AreVisible word
     × (next word rest ≡ Some (x, rest)))
-    → ((word rest after : List ℕ) (x : A) → next word rest ≡ Some (x, after)
-    → (rest ≡ after) × S (field word) x)
+    → ((word rest : List ℕ) (r : A × List ℕ) → next word rest ≡ Some r
+    → (rest ≡ r.1) × S (field word) r.0)
     → IsReader A IsEnd S (λ bytes. word_at bytes >>= λ w. next w.0 w.1)
 word_reads {A} {S} next reads only = record {
   again = λ front rest x h end.
@@ -126,7 +126,7 @@ word_reads {A} {S} next reads only = record {
   only = λ bytes rest x e.
       let a = bind_some (word_at bytes) (λ w. next w.0 w.1) (x, rest) e in
       let t = word_at_only bytes a.0.0 a.0.1 a.1 in
-      let o = only a.0.0 a.0.1 rest x a.2 in
+      let o = only a.0.0 a.0.1 (x, rest) a.2 in
       (field a.0.0, t.parts ∙ ap (λ (r : List ℕ). field a.0.0 ++ r) o.0, o.1);
   ends = λ front rest x h end. rw (reads front rest x h).1 refl;
   clean = λ front x h.
@@ -198,20 +198,12 @@ number_reads low high small =
       digits_visible (decimal n) (digits-decimal n lt),
       rw (decimal_again high n h.2 small, above) refl,
     ))
-    (λ word rest after n e.
-    let b =
-    bind_some (number_spelled high word) (λ k. checked (nat_le low k) (k, rest)) (n, after) e in
-    let d = if_some (nat_le low b.0) (Some (b.0, rest)) (n, after) b.2 in
-    let same = some_is (b.0, rest) (n, after) d.1 in
+    (λ word rest r e.
+    let b = bind_some (number_spelled high word) (λ k. checked (nat_le low k) (k, rest)) r e in
+    let d = if_some (nat_le low b.0) (Some (b.0, rest)) r b.2 in
     let is = decimal_only high b.0 word small b.1 in
-    let n_is : b.0 ≡ n = ap (λ (p : ℕ × List ℕ). p.0) same in (
-      ap (λ (p : ℕ × List ℕ). p.1) same,
-      (
-        ap field (is.0 ∙ ap decimal n_is),
-        grind (arith, nat_tests, d.0, n_is),
-        omega (arith, is.1, n_is),
-      ),
-    ))
+    subst (λ (p : ℕ × List ℕ). (rest ≡ p.1) × NumberIs low high (field word) p.0)
+    (some_is (b.0, rest) r d.1) (refl, (ap field is.0, grind (arith, nat_tests, d.0), is.1)))
 
 letters : (key : List ℕ) → is_key key ≡ true → are_letters key ≡ true
 letters key h =
@@ -223,13 +215,10 @@ unfolding key_at
 key_reads =
     word_reads (λ word rest. checked (is_key word) (word, rest))
     (λ front rest key h. (key, h.0, letters_visible key (letters key h.1), rw h.1 refl))
-    (λ word rest after key e.
-    let h = if_some (is_key word) (Some (word, rest)) (key, after) e in
-    let same = some_is (word, rest) (key, after) h.1 in
-    let key_is : word ≡ key = ap (λ (p : List ℕ × List ℕ). p.0) same in (
-      ap (λ (p : List ℕ × List ℕ). p.1) same,
-      (ap field key_is, subst (λ (k : List ℕ). is_key k ≡ true) key_is h.0),
-    ))
+    (λ word rest r e.
+    let h = if_some (is_key word) (Some (word, rest)) r e in
+    subst (λ (p : List ℕ × List ℕ). (rest ≡ p.1) × KeyIs (field word) p.0)
+    (some_is (word, rest) r h.1) (refl, (refl, h.0)))
 
 pub text_reads : IsReader (List ℕ) IsEnd TextIs text_at
 unfolding text_at
@@ -238,13 +227,10 @@ text_reads =
     (λ front rest text h.
     let is = each_spelling h.0 text h.2 in
     (h.0, h.1, visible_only h.0 text is, rw is refl))
-    (λ word rest after text e.
-    let b = bind_some (text_of word) (λ t. Some (t, rest)) (text, after) e in
-    let same = some_is (b.0, rest) (text, after) b.2 in
-    let text_is : b.0 ≡ text = ap (λ (p : List ℕ × List ℕ). p.0) same in (
-      ap (λ (p : List ℕ × List ℕ). p.1) same,
-      (word, refl, spells_only word text (b.1 ∙ ap (λ (t : List ℕ). Some t) text_is)),
-    ))
+    (λ word rest r e.
+    let b = bind_some (text_of word) (λ t. Some (t, rest)) r e in
+    subst (λ (p : List ℕ × List ℕ). (rest ≡ p.1) × TextIs (field word) p.0)
+    (some_is (b.0, rest) r b.2) (refl, (word, refl, spells_only word b.0 b.1)))
 
 pub u32_reads : IsReader ℕ IsEnd (NumberIs 0 4294967295) (number_between 0 4294967295)
 u32_reads = number_reads 0 4294967295 (omega arith)
