@@ -41,7 +41,8 @@ module _ {T E G : Type 0} (entries : T → List E) (by : E → ℕ) (tag : T →
   away_here views id v w t at is = (id, w, t, set_here views id w (at_low views id v at), is)
 
   -- the value stays where it is in a step of a seat that isn't served
-  pub place_stays : (views : List (View E T)) (id : ℕ) (v w : View E T) (homes : Homes) (log : List E)
+  pub place_stays : (views : List (View E T)) (id : ℕ) (v w : View E T) (homes : Homes)
+      (log : List E)
       → get_elem? views id ≡ some v → ((t : ℕ) → v.stage ≡ Served t → ⊥)
       → IsHome entries by tag homes log first ⊎ IsAway entries by tag views
       → IsHome entries by tag homes log first ⊎ IsAway entries by tag (set views id w)
@@ -60,10 +61,6 @@ module _ {T E G : Type 0} (entries : T → List E) (by : E → ℕ) (tag : T →
       → StageKnows s.words r.log v stage
   knows_at s r id v stage at is =
       subst (λ (x : Stage E). StageKnows s.words r.log v x) is (r.each id v at).at
-
-  few_tickets : (s : CellState) → Rule s → get_or s.words 0 0 < 2 ^ 63
-  few_tickets s r =
-      omega (arith, tickets_out_le s.views)
 
   ticket_low : (words : List ℕ) (log : List E) (d : View E T) (stage : Stage E) (t : ℕ)
       → StageKnows words log d stage → HasTicket t stage
@@ -87,7 +84,7 @@ module _ {T E G : Type 0} (entries : T → List E) (by : E → ℕ) (tag : T →
   draws slots id st m idle s r sized at low =
       let v : View E T = m.0 in let n : ℕ = get_or s.words 0 0 in
       let words : List ℕ = set s.words 0 ((n + 1) % 2 ^ 64) in
-      let few = few_tickets s r in
+      let few : n < 2 ^ 63 = omega (arith, tickets_out_le s.views) in
       let g : Grows s.words words 0 = grows s.words 0 (omega arith) (omega arith) in
       let one_is = g.elsewhere 1 (λ e. omega arith) in
       let none_out : ticket_count v.stage ≡ 0 = ap ticket_count idle in (
